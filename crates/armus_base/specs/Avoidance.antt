@@ -1,0 +1,18 @@
+-- Avoided runs: deadlock is avoided by refusals.
+use Rattle.std.specs.Prelude.{◌≡◌, ℕ, List, [], ◌∷◌, Some}
+use Rattle.armus_base.specs.declared.event.Event.{Event}
+use Rattle.armus_base.specs.Plans.{Plan, Action, Blocks, Refuses}
+use Rattle.armus_base.specs.States.{State, Step, after, awaited}
+use Rattle.armus_base.specs.Runs.{state_after, IsNextStep}
+use Rattle.armus_base.specs.Deadlocks.{NobodyDead, WouldBeDead}
+
+-- a block leaves nobody dead, and a refusal comes only where its task would be dead
+abbrev pub Avoids : State → ℕ → Action → Type 0
+Avoids s t (Blocks p) = NobodyDead (after s t (Blocks p))
+Avoids s t (Refuses p) = (e : Event) × awaited (Some (Blocks p)) (s.phases t) ≡ Some e × WouldBeDead s t e
+Avoids s t x = Unit {0}
+
+-- an avoided run
+abbrev pub IsAvoidedRun : Plan → List Step → Type 0
+IsAvoidedRun plan [] = Unit {0}
+IsAvoidedRun plan (e ∷ h) = IsAvoidedRun plan h × IsNextStep plan h e × Avoids (state_after h) e.task e.action

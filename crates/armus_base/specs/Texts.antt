@@ -1,0 +1,104 @@
+-- Two tasks that wait for each other, as a plan, and a maximal run of it.
+use Rattle.std.specs.Prelude.{◌≡◌, ℕ, Bool, false, List, [], ◌∷◌, Option, Some, None}
+use Rattle.armus_base.specs.declared.op.Op.TheVariants.{Make, Reg, Fork, Adv, Drop, Await}
+use Rattle.armus_base.specs.Plans.{Plan, Action, Makes, Registers, Forks, Advances, Drops, Blocks, Passes, Refuses}
+use Rattle.armus_base.specs.declared.event.Event.{Event}
+use Rattle.armus_base.specs.States.{State, Step, event_at, IsLegal}
+use Rattle.armus_base.specs.Runs.{state_after, places}
+use Rattle.armus_base.specs.Places.{state_at, phases_at_place}
+use Rattle.armus_base.specs.CheckedPlans.{IsCheckedPlan}
+use Rattle.armus_base.specs.Deadlocks.{IsDeadlocked, IsPublishedOn, IsAtPhase}
+use Rattle.armus_base.specs.Boards.{Entry, steps_of, IsBoardRun}
+use Rattle.armus_base.specs.Seats.{IsLongestPrefix}
+
+-- two phasers a and b, of both of which both tasks are members; task 0 advances on a and awaits it, task 1 on b
+abbrev pub two_tasks : Plan
+two_tasks =
+    record {
+      parents = None ∷ Some (record { 0 = 0 }) ∷ [];
+      makers = record { 0 = 0 } ∷ record { 0 = 0 } ∷ [];
+      codes =
+          (Make (record { 0 = 0 }) ∷ Make (record { 0 = 1 }) ∷ Reg (record { 0 = 1 }) (record { 0 = 0 })
+          ∷ Reg (record { 0 = 1 }) (record { 0 = 1 }) ∷ Fork (record { 0 = 1 }) ∷ Adv (record { 0 = 0 }) ∷ Await (record { 0 = 0 }) ∷ [])
+          ∷ (Adv (record { 0 = 1 }) ∷ Await (record { 0 = 1 }) ∷ [])
+          ∷ [];
+    }
+
+abbrev pub does : ℕ → Action → Step
+does t x = record { task = t; action = x }
+
+-- its run, the last step first
+abbrev pub to_the_end : List Step
+to_the_end =
+    does 1 (Blocks 1) ∷ does 1 (Advances 1) ∷ does 0 (Blocks 0) ∷ does 0 (Advances 0) ∷ does 0 (Forks 1) ∷ does 0 (Registers 1 1)
+    ∷ does 0 (Registers 1 0) ∷ does 0 (Makes 1) ∷ does 0 (Makes 0) ∷ []
+
+abbrev pub on : ℕ → ℕ → Option Event
+on p n = Some ((event_at p n))
+
+-- at its end task 0 waits on a@1 and task 1 on b@1, and the state of these places says the same
+pub record TwoTasksEnd : Type 0 where
+  pub first_waits : (state_after to_the_end).published 0 ≡ on 0 1
+  pub second_waits : (state_after to_the_end).published 1 ≡ on 1 1
+  pub first_behind : (state_after to_the_end).phases 0 1 ≡ Some 0
+  pub second_behind : (state_after to_the_end).phases 1 0 ≡ Some 0
+  pub counted : (places to_the_end 0).done ≡ 7
+  pub same_first : (state_at two_tasks (places to_the_end)).published 0 ≡ on 0 1
+  pub same_second : (state_at two_tasks (places to_the_end)).phases 1 0 ≡ Some 0
+
+-- the steps of task 0 before it blocks
+abbrev pub before_block : List Step
+before_block =
+    does 0 (Advances 0) ∷ does 0 (Forks 1) ∷ does 0 (Registers 1 1) ∷ does 0 (Registers 1 0) ∷ does 0 (Makes 1) ∷ does 0 (Makes 0) ∷ []
+
+-- the serial run that avoids deadlock: task 0 blocks, task 1 is refused, and task 0 passes
+abbrev pub first_turn : List Step
+first_turn =
+    does 0 (Blocks 0) ∷ does 0 (Advances 0) ∷ does 0 (Forks 1) ∷ does 0 (Registers 1 1)
+    ∷ does 0 (Registers 1 0) ∷ does 0 (Makes 1) ∷ does 0 (Makes 0) ∷ []
+
+abbrev pub second_turn : List Step
+second_turn = does 1 (Drops 1) ∷ does 1 (Drops 0) ∷ does 1 (Refuses 1) ∷ does 1 (Advances 1) ∷ first_turn
+
+abbrev pub all_turns : List Step
+all_turns = does 0 (Passes 0) ∷ second_turn
+
+-- one phaser; task 1 advances on it, waits and drops it
+abbrev pub steady : Plan
+steady =
+    record {
+      parents = None ∷ Some (record { 0 = 0 }) ∷ [];
+      makers = record { 0 = 0 } ∷ [];
+      codes =
+          (Make (record { 0 = 0 }) ∷ Reg (record { 0 = 1 }) (record { 0 = 0 }) ∷ Fork (record { 0 = 1 }) ∷ [])
+          ∷ (Adv (record { 0 = 0 }) ∷ Await (record { 0 = 0 }) ∷ Drop (record { 0 = 0 }) ∷ [])
+          ∷ [];
+    }
+
+-- what no text unfolds to: task 0 makes its phasers in falling order, task 1 is never forked and has a code, and no task makes phaser 2
+abbrev pub odd : Plan
+odd =
+    record {
+      parents = None ∷ Some (record { 0 = 0 }) ∷ Some (record { 0 = 1 }) ∷ [];
+      makers = record { 0 = 0 } ∷ record { 0 = 0 } ∷ record { 0 = 77 } ∷ [];
+      codes =
+          (Make (record { 0 = 1 }) ∷ Make (record { 0 = 0 }) ∷ [])
+          ∷ (Fork (record { 0 = 2 }) ∷ [])
+          ∷ []
+          ∷ [];
+    }
+
+-- What the definitions exclude. A refusal of a task that would not be dead is made on no board; nobody registers a task or makes a phaser that the
+-- plan does not have; the empty set is not deadlocked; a refused task passes nothing; the odd plan is not checked. And on a board that detects
+-- deadlock a load that finds task 1 of the steady plan no member any more tells that it has done all its code.
+pub record Excludes : Type 0 where
+  pub early_refusal :
+      (avoids : Bool) (entries : List Entry) → steps_of entries ≡ does 0 (Refuses 0) ∷ before_block → IsBoardRun avoids two_tasks entries → ⊥
+  pub strange_child : (s : State) → IsLegal two_tasks s 0 (Registers 7 0) → ⊥
+  pub strange_phaser : (s : State) → IsLegal two_tasks s 0 (Makes 77) → ⊥
+  pub empty_set : (s : State) → IsDeadlocked (IsPublishedOn s) (IsAtPhase s) (λ _. false) → ⊥
+  pub refused_pass : (plan : Plan) (s : State) (t p : ℕ) (e : Event) → s.refused t ≡ Some e → IsLegal plan s t (Passes p) → ⊥
+  pub odd_plan : IsCheckedPlan odd → ⊥
+  pub dropped_is_done :
+      IsLongestPrefix false steady 1 (λ b. phases_at_place steady 1 b 0 ≡ None) (record { done = 1; dropped = None })
+      (record { done = 4; dropped = None })

@@ -1,0 +1,37 @@
+//! The types that every other crate names, the definitions of plans, runs and deadlock with the laws over them, and the outside of the program: sources, sinks and the gate.
+#![tactic(auto)]
+
+mod code;
+mod ending;
+mod errors;
+mod event;
+mod ids;
+mod laws;
+mod list;
+mod memory;
+mod op;
+mod outside;
+mod plan;
+mod read;
+mod standard;
+mod status;
+mod write;
+
+pub use code::Code;
+pub use ending::{Final, TaskEnd};
+pub use errors::{Failed, NoMemory, ReadEnd, WriteFault};
+pub use event::Event;
+pub use ids::{Phase, PhaserId, TaskId};
+pub use laws::{
+    avoidance, dead_stays, known_dead, lawful_places, next_is_legal, one_end, phases_fit,
+    places_fix_state, plan_grows, reached_stays, small_plans,
+};
+pub use list::List;
+pub use memory::{MemSink, MemSource, SafeSource};
+pub use op::Op;
+pub use outside::{Gate, Point, Sink, Source, Still};
+pub use plan::{MAX_OPS, MAX_PHASERS, MAX_TASKS, Plan};
+pub use read::read_all;
+pub use standard::{StdSink, StdSource};
+pub use status::{Dead, Member, Status};
+pub use write::write_text;

@@ -1,0 +1,105 @@
+// Plans: what runs.
+ghost use Rattle.std.specs.Prelude.{◌≡◌, ◌<◌, Some, length, slice_get, sum_by};
+ghost use Rattle.armus_base.specs.Plans.{code_of};
+ghost use Rattle.armus_base.specs.CheckedPlans.{IsCheckedPlan};
+
+use crate::{Code, List, Op, PhaserId, TaskId};
+use std::marker::Model;
+
+/// The most tasks that a plan may have, task 0 counted.
+pub const MAX_TASKS: u32 = 1024;
+
+/// The most phasers that a plan may have.
+pub const MAX_PHASERS: u32 = 256;
+
+/// The most ops that the codes of a plan may have together.
+pub const MAX_OPS: u32 = 262_144;
+
+/// A checked plan: the parent of each task, the maker of each phaser, and each task's code. Nothing in it depends on a schedule (this project's own).
+#[derive(Drop)]
+pub struct Plan {
+    parents: List<Option<TaskId>>,
+    makers: List<TaskId>,
+    codes: List<Code>,
+}
+
+impl Model for Plan {
+    ghost use Rattle.armus_base.specs.Plans.{Plan as PlanValue};
+    ghost use Rattle.armus_base.specs.CheckedPlans.{IsCheckedPlan};
+
+    ghost Value = { PlanValue };
+
+    ghost view = { λ p. record { parents = p.parents; makers = p.makers; codes = p.codes } };
+
+    ghost invariant = { λ p. IsCheckedPlan (record { parents = p.parents; makers = p.makers; codes = p.codes }) };
+}
+
+impl Plan {
+    /// The plan with these parts.
+    pub fn from_parts(
+        parents: List<Option<TaskId>>,
+        makers: List<TaskId>,
+        codes: List<Code>,
+    ) -> Plan
+        requires checked { IsCheckedPlan (record { parents = parents; makers = makers; codes = codes }) }
+        ensures parts { result ≡ record { parents = parents; makers = makers; codes = codes } }
+    {
+        Plan {
+            parents,
+            makers,
+            codes,
+        }
+    }
+
+    /// How many tasks it has, 1 to `MAX_TASKS`.
+    pub fn tasks(&self) -> u32
+        ensures counted { result ≡ length self.now.parents }
+        ensures checked { IsCheckedPlan self.now }
+    {
+        self.parents.as_slice().len() as u32
+    }
+
+    /// How many phasers it has, at most `MAX_PHASERS`.
+    pub fn phasers(&self) -> u32
+        ensures counted { result ≡ length self.now.makers }
+        ensures checked { IsCheckedPlan self.now }
+    {
+        self.makers.as_slice().len() as u32
+    }
+
+    /// How many ops its codes have together, at most `MAX_OPS`.
+    pub fn ops(&self) -> u32
+        ensures counted { result ≡ sum_by length self.now.codes }
+        ensures checked { IsCheckedPlan self.now }
+    {
+        let mut ops = 0;
+        for code in self.codes.as_slice() {
+            ops += code.as_slice().len();
+        }
+        ops as u32
+    }
+
+    /// The task that draws `t`; None for task 0 alone.
+    pub fn parent(&self, t: TaskId) -> Option<TaskId>
+        requires task { t.0 < length self.now.parents }
+        ensures parent { slice_get self.now.parents t.0 ≡ Some result }
+    {
+        self.parents.as_slice()[t.0 as usize]
+    }
+
+    /// The task whose code makes `p`.
+    pub fn maker(&self, p: PhaserId) -> TaskId
+        requires phaser { p.0 < length self.now.makers }
+        ensures maker { slice_get self.now.makers p.0 ≡ Some result }
+    {
+        self.makers.as_slice()[p.0 as usize]
+    }
+
+    /// The ops of `t`, in order.
+    pub fn code(&self, t: TaskId) -> &[Op]
+        requires task { t.0 < length self.now.parents }
+        ensures code { result.now ≡ code_of self.now t.0 }
+    {
+        self.codes.as_slice()[t.0 as usize].as_slice()
+    }
+}
