@@ -1,0 +1,105 @@
+-- The grammar of PL over tokens, and the first fault of a text that is not in it.
+use Rattle.std.specs.Prelude.{◌≡◌, ℕ, ◌+◌, ◌-◌, ◌≤◌, List, [], ◌∷◌, ◌++◌, length, Ok, Err}
+use Rattle.pl_syntax.specs.declared.limits.TheConstants.{MAX_OPEN_BRACES}
+use Rattle.pl_syntax.specs.declared.fault.TheConstants.{CANNOT_STAND, TOO_DEEP}
+use Rattle.pl_syntax.specs.declared.fault.SyntaxFault.{SyntaxFault}
+use Rattle.pl_syntax.specs.declared.token.Keyword.TheVariants as k
+use Rattle.pl_syntax.specs.declared.token.Sign.TheVariants.{Equals, OpenParen, CloseParen, Comma, Semicolon, OpenBrace, CloseBrace}
+use Rattle.pl_syntax.specs.Tokens.{Token, the_end, sign, word, name, number, front, place, Leads}
+use Rattle.pl_syntax.specs.Tree.{Tree, done, plain, fork, loop, Plain, new_task, new_phaser, reg, dereg, adv, await, skip, height}
+
+-- ---- the grammar: the tokens of each statement, before the tokens that follow it
+
+-- `( x )`
+abbrev pub with_name : List ℕ → List Token → List Token
+with_name x rest = sign OpenParen ∷ name x ∷ sign CloseParen ∷ rest
+
+-- `x = newTid ( ) ;`, or `x = newPhaser ( ) ;`
+abbrev pub drawn : List ℕ → Token → List Token → List Token
+drawn x maker rest = name x ∷ sign Equals ∷ maker ∷ sign OpenParen ∷ sign CloseParen ∷ sign Semicolon ∷ rest
+
+-- the tokens of a statement without a body
+abbrev pub plain_tokens : Plain → List Token → List Token
+plain_tokens (new_task x) rest = drawn x (word k.NewTid) rest
+plain_tokens (new_phaser x) rest = drawn x (word k.NewPhaser) rest
+plain_tokens (reg x y) rest = word k.Reg ∷ sign OpenParen ∷ name x ∷ sign Comma ∷ name y ∷ sign CloseParen ∷ sign Semicolon ∷ rest
+plain_tokens (dereg x) rest = word k.Dereg ∷ with_name x (sign Semicolon ∷ rest)
+plain_tokens (adv x) rest = word k.Adv ∷ with_name x (sign Semicolon ∷ rest)
+plain_tokens (await x) rest = word k.Await ∷ with_name x (sign Semicolon ∷ rest)
+plain_tokens skip rest = word k.Skip ∷ sign Semicolon ∷ rest
+
+-- the tokens of a list of statements
+abbrev pub tokens : Tree → List Token → List Token
+tokens done rest = rest
+tokens (plain s more) rest = plain_tokens s (tokens more rest)
+tokens (fork x body more) rest =
+    word k.Fork ∷ with_name x (sign OpenBrace ∷ tokens body (sign CloseBrace ∷ tokens more rest))
+tokens (loop n body more) rest =
+    word k.Loop ∷ number n ∷ sign OpenBrace ∷ tokens body (sign CloseBrace ∷ tokens more rest)
+
+-- the tokens of a whole text
+abbrev pub sentence : Tree → List Token
+sentence p = tokens p (the_end ∷ [])
+
+-- the text is this program: its tokens are those of the program, and no more braces are open than may be
+pub record IsText (text : List ℕ) (p : Tree) : Type 0 where
+  pub reads : Leads (length text) text (sentence p) []
+  pub shallow : height p ≤ MAX_OPEN_BRACES
+
+-- ---- the first fault
+
+-- some text of the grammar begins so, its limit on open braces left aside
+abbrev pub Begins : List Token → Type 0
+Begins ts = (p : Tree) × (more : List Token) × (ts ++ more ≡ sentence p)
+
+-- how many braces are open after a token, where n are before it
+abbrev pub opened : Token → ℕ → ℕ
+opened (sign OpenBrace) n = n + 1
+opened (sign CloseBrace) n = n - 1
+opened _ n = n
+
+-- how many are open after these tokens
+abbrev pub open_after : ℕ → List Token → ℕ
+open_after n [] = n
+open_after n (t ∷ ts) = open_after (opened t n) ts
+
+-- at no point are more open than may be
+abbrev pub StaysShallow : ℕ → List Token → Type 0
+StaysShallow n [] = n ≤ MAX_OPEN_BRACES
+StaysShallow n (t ∷ ts) = (n ≤ MAX_OPEN_BRACES) × StaysShallow (opened t n) ts
+
+-- a word or a byte that is no token: kinds 1, 3 and 5
+pub record IsNoToken (total : ℕ) (text : List ℕ) (fault : SyntaxFault) : Type 0 where
+  pub here : front total text ≡ Err fault
+
+-- a token that cannot stand after those before it: kind 2
+pub record CannotStand (before : List Token) (total : ℕ) (text : List ℕ) (fault : SyntaxFault) : Type 0 where
+  pub token : Token
+  pub rest : List ℕ
+  pub here : front total text ≡ Ok (token, rest)
+  pub stands_not : Begins (before ++ token ∷ []) → ⊥
+  pub fault_is : fault ≡ record { at = place total text; kind = CANNOT_STAND }
+
+-- a brace that could stand, if as many as may be were not open: kind 4
+pub record IsTooDeep (before : List Token) (total : ℕ) (text : List ℕ) (fault : SyntaxFault) : Type 0 where
+  pub rest : List ℕ
+  pub here : front total text ≡ Ok (sign OpenBrace, rest)
+  pub stands : Begins (before ++ sign OpenBrace ∷ [])
+  pub full : open_after 0 before ≡ MAX_OPEN_BRACES
+  pub fault_is : fault ≡ record { at = place total text; kind = TOO_DEEP }
+
+-- behind the tokens before, the text goes on with a fault
+pub data IsAtFault (before : List Token) (total : ℕ) (text : List ℕ) (fault : SyntaxFault) : Type 0 where
+  no_token : IsNoToken total text fault → IsAtFault before total text fault
+  cannot_stand : CannotStand before total text fault → IsAtFault before total text fault
+  too_deep : IsTooDeep before total text fault → IsAtFault before total text fault
+
+-- The first fault of a text, behind tokens that are all right. Some token has to be able to follow them:
+-- else an accepted text would have a fault behind its end.
+pub record HasFault (text : List ℕ) (fault : SyntaxFault) : Type 0 where
+  pub before : List Token
+  pub left : List ℕ
+  pub reads : Leads (length text) text before left
+  pub goes_on : (t : Token) × Begins (before ++ t ∷ [])
+  pub shallow : StaysShallow 0 before
+  pub here : IsAtFault before (length text) left fault

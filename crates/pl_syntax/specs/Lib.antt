@@ -1,0 +1,10 @@
+-- What a reader of the repository has to believe.
+pub mod Tree
+pub mod Words
+pub mod Tokens
+pub mod Grammar
+pub mod Printed
+-- How the types of the program show as those.
+pub mod Bodies
+pub mod Falls
+pub mod Seen

@@ -1,0 +1,108 @@
+-- From bytes to tokens.
+-- A text is passed on as what is left of it, beside the number `total` of all its bytes: a place is `total` less what is left there.
+use Rattle.std.specs.Prelude.{◌≡◌, ℕ, ◌-◌, ◌==◌, Bool, ◌&&◌, ◌||◌, if◌then◌else◌, List, [], ◌∷◌, length, Option, Some, None, Result, Ok, Err, take, drop, nat_le}
+use Rattle.std.specs.List.{prefix_len, list_any}
+use Rattle.pl_syntax.specs.declared.limits.TheConstants.{MAX_NAME_BYTES}
+use Rattle.pl_syntax.specs.declared.fault.TheConstants.{NO_TOKEN, NO_NUMBER, TOO_LONG}
+use Rattle.pl_syntax.specs.declared.fault.SyntaxFault.{SyntaxFault}
+use Rattle.pl_syntax.specs.declared.token.Keyword.{Keyword}
+use Rattle.pl_syntax.specs.declared.token.Sign.{Sign}
+use Rattle.pl_syntax.specs.declared.token.Sign.TheVariants.{Equals, OpenParen, CloseParen, Comma, Semicolon, OpenBrace, CloseBrace}
+use Rattle.pl_syntax.specs.Words.{is_word_byte, is_digit, keyword_of, has_name_form, number_of, begins_with}
+
+-- a token; the end of the text is the last one
+pub data Token : Type 0 where
+  the_end : Token
+  sign : Sign → Token
+  word : Keyword → Token
+  name : List ℕ → Token
+  number : ℕ → Token
+
+-- ---- blanks and comments
+
+-- a space, a tab, a carriage return or a line feed
+abbrev pub is_blank : ℕ → Bool
+is_blank b = b == 32 || (b == 9 || (b == 13 || b == 10))
+
+-- What follows the blanks and comments at the front. A comment is `//` and what follows up to the next line feed, or to the end.
+abbrev mutual
+  pub after_gap : List ℕ → List ℕ
+  after_gap [] = []
+  after_gap (b ∷ bs) = if is_blank b then after_gap bs else (if b == 47 && begins_with 47 bs then after_comment bs else b ∷ bs)
+
+  pub after_comment : List ℕ → List ℕ
+  after_comment [] = []
+  after_comment (b ∷ bs) = if b == 10 then after_gap bs else after_comment bs
+
+-- ---- one token
+
+-- the sign that is this byte
+abbrev pub sign_of : ℕ → Option Sign
+sign_of b =
+    if b == 61 then Some Equals else (if b == 40 then Some OpenParen else (if b == 41 then Some CloseParen
+    else (if b == 44 then Some Comma else (if b == 59 then Some Semicolon
+    else (if b == 123 then Some OpenBrace else (if b == 125 then Some CloseBrace else None))))))
+
+-- a sign, or the kind of the fault of a byte that is none
+abbrev pub sign_token : Option Sign → Result Token ℕ
+sign_token None = Err NO_TOKEN
+sign_token (Some s) = Ok (sign s)
+
+-- a word that is no number and no keyword: a name, or the kind of its fault
+abbrev pub name_token : List ℕ → Result Token ℕ
+name_token w = if has_name_form w then (if nat_le (length w) MAX_NAME_BYTES then Ok (name w) else Err TOO_LONG) else Err NO_TOKEN
+
+-- a word that begins with no digit: a keyword where it is one
+abbrev pub letters_token : List ℕ → Option Keyword → Result Token ℕ
+letters_token w None = name_token w
+letters_token w (Some k) = Ok (word k)
+
+-- a word that begins with a digit: a number where it is one
+abbrev pub digits_token : Option ℕ → Result Token ℕ
+digits_token None = Err NO_NUMBER
+digits_token (Some k) = Ok (number k)
+
+-- what a word is, or the kind of its fault
+abbrev pub word_token : List ℕ → Result Token ℕ
+word_token w =
+    if list_any is_digit (take 1 w) then digits_token (number_of w) else letters_token w (keyword_of w)
+
+-- ---- the next token
+
+-- the longest run of word bytes at the front
+abbrev pub word_of : List ℕ → List ℕ
+word_of text = take (prefix_len is_word_byte text) text
+
+-- what follows that run
+abbrev pub after_word : List ℕ → List ℕ
+after_word text = drop (prefix_len is_word_byte text) text
+
+-- a token and what is left behind it, or the fault there
+abbrev pub Front : Type 0
+Front = Result (Token × List ℕ) SyntaxFault
+
+-- the token with what is left behind it, or the fault of that kind at this place
+abbrev pub placed : ℕ → Result Token ℕ → List ℕ → Front
+placed at (Ok t) rest = Ok (t, rest)
+placed at (Err kind) rest = Err (record { at = at; kind = kind })
+
+-- the token that begins here, where neither a blank nor a comment does: the end, a word, or a sign
+abbrev pub token_here : ℕ → List ℕ → Front
+token_here total [] = Ok (the_end, [])
+token_here total (b ∷ bs) =
+    if is_word_byte b
+    then placed (total - length (b ∷ bs)) (word_token (word_of (b ∷ bs))) (after_word (b ∷ bs))
+    else placed (total - length (b ∷ bs)) (sign_token (sign_of b)) bs
+
+-- the next token of a text of which this is left
+unfoldable pub front : ℕ → List ℕ → Front
+front total text = token_here total (after_gap text)
+
+-- where that token begins
+abbrev pub place : ℕ → List ℕ → ℕ
+place total text = total - length (after_gap text)
+
+-- these tokens are the next ones, one after the other, and the rest is left
+abbrev pub Leads : ℕ → List ℕ → List Token → List ℕ → Type 0
+Leads total text [] rest = text ≡ rest
+Leads total text (t ∷ ts) rest = (mid : List ℕ) × (front total text ≡ Ok (t, mid)) × Leads total mid ts rest

@@ -1,0 +1,37 @@
+// Tokens: the words and signs of a text.
+
+/// A word that names a statement or what it makes.
+#[derive(Clone, Copy, Debug, PartialEq, Eq)]
+pub enum Keyword {
+    NewTid,
+    NewPhaser,
+    Fork,
+    Reg,
+    Dereg,
+    Adv,
+    Await,
+    Loop,
+    Skip,
+}
+
+/// One of the seven bytes that are tokens by themselves.
+#[derive(Clone, Copy, Debug, PartialEq, Eq)]
+pub enum Sign {
+    Equals,
+    OpenParen,
+    CloseParen,
+    Comma,
+    Semicolon,
+    OpenBrace,
+    CloseBrace,
+}
+
+/// A token. The end of the text is the last one.
+#[derive(Clone, Copy, Debug)]
+pub enum Token<'a> {
+    End,
+    Sign(Sign),
+    Word(Keyword),
+    Name(&'a [u8]),
+    Number(u16),
+}

@@ -1,0 +1,111 @@
+// Programs as trees.
+
+ghost use Rattle.std.specs.Prelude.{◌≡◌, ◌<◌, ◌^◌};
+ghost use Rattle.pl_syntax.specs.Tree.{count, done};
+ghost use Rattle.pl_syntax.specs.Bodies.{first, tree_of};
+
+use crate::name::Name;
+use std::marker::Model;
+
+/// A list of statements, seen as the tree of them: none, or the first one with those after it.
+#[cycle(tree)]
+#[derive(Debug, Drop)]
+pub struct Body {
+    items: Vec<Stmt>,
+    // How many statements the tree has, those inside of others included.
+    statements: u32,
+}
+
+/// A statement.
+#[cycle(tree)]
+#[derive(Debug, Drop)]
+pub enum Stmt {
+    /// `x = newTid();` draws a task.
+    NewTask { x: Name },
+    /// `x = newPhaser();` makes a phaser.
+    NewPhaser { x: Name },
+    /// `fork(x) { .. }` starts task x with this body.
+    Fork { x: Name, body: Body },
+    /// `reg(x, y);` makes task x a member of phaser y.
+    Reg { x: Name, y: Name },
+    /// `dereg(x);` leaves phaser x.
+    Dereg { x: Name },
+    /// `adv(x);` advances on phaser x.
+    Adv { x: Name },
+    /// `await(x);` waits for the other members of phaser x.
+    Await { x: Name },
+    /// `skip;` does nothing.
+    Skip,
+    /// `loop k { .. }` runs this body k times.
+    Loop { k: u16, body: Body },
+}
+
+impl Model for Body {
+    ghost use Rattle.std.specs.Prelude.{◌≡◌};
+    ghost use Rattle.pl_syntax.specs.Tree.{Tree, tree_code, count};
+
+    ghost Value = { Tree };
+
+    ghost coded = { tree_code };
+
+    ghost use Rattle.pl_syntax.specs.Bodies.{tree_of};
+
+    ghost view = { λ b. tree_of b.items.items };
+
+    ghost invariant = { λ b. b.statements ≡ count (tree_of b.items.items) };
+
+    ghost size = { count };
+
+    ghost use Rattle.std.proofs.Common.{arith};
+    ghost use Rattle.pl_syntax.specs.Falls.{falls};
+
+    ghost size_decreases = { λ a h. omega (arith, falls a.items.items) };
+}
+
+impl Body {
+    // The body of these statements.
+    pub(crate) fn new(items: Vec<Stmt>) -> Body
+        requires { count (tree_of items.items) < 2 ^ 32 }
+        ensures { result ≡ tree_of items.items }
+    {
+        let mut statements = 0;
+        for stmt in &items {
+            statements += stmt.statements();
+        }
+        Body { items, statements }
+    }
+
+    /// How many statements the body has, those inside of others included.
+    pub fn statements(&self) -> u32
+        ensures { result ≡ count self.now }
+    {
+        self.statements
+    }
+
+    /// The statements of the body itself, in order.
+    pub fn as_slice(&self) -> &[Stmt]
+        ensures { tree_of result.now ≡ self.now }
+    {
+        &self.items
+    }
+}
+
+/// A program: the body of task 0.
+#[derive(Debug, Drop)]
+pub struct Program {
+    pub body: Body,
+}
+
+impl Stmt {
+    // How many statements this one is, its body's included.
+    fn statements(&self) -> u32
+        requires { count (first self.now done) < 2 ^ 32 }
+        ensures { result ≡ count (first self.now done) }
+    {
+        match self {
+            Stmt::Fork { x: _, body } => body.statements() + 1,
+            Stmt::Loop { k: _, body } => body.statements() + 1,
+            _ => 1,
+        }
+    }
+}
