@@ -9,7 +9,7 @@ use Rattle.armus_base.specs.States.{IsReached, Step, event_at}
 use Rattle.armus_base.specs.Runs.{ArePrefixes, IsLegalRun, IsPrefix, Place, Precedes, places, state_after}
 use Rattle.armus_base.specs.Places.{IsConsistent, done_by, forked_at, kept, phases_after, phases_at, published_after, state_at}
 use Rattle.armus_base.specs.CheckedPlans.{IsCheckedPlan}
-use Rattle.armus_base.specs.Deadlocks.{HasPhase, IsAtPhase, IsDeadlocked, IsImpededWithin, IsListedAt, IsListedOn, IsPublishedOn, WaitsOn}
+use Rattle.armus_base.specs.Deadlocks.{HasPhase, IsAtPhase, IsDeadlockedSet, IsImpededWithin, IsListedAt, IsListedOn, IsPublishedOn, WaitsOn}
 use Rattle.armus_base.specs.Laws.{CollectedIsDead}
 use Rattle.armus_base.proofs.Fixed.{forked_at_is, forked_at_from, forked_later, root_forked, phases_forked}
 use Rattle.armus_base.proofs.Stepping.{places_fix}
@@ -20,7 +20,7 @@ use Rattle.armus_base.proofs.Published.{published_after_is, published_undropped,
 
 -- A deadlocked set, each of whose tasks was found waiting at a place, and its phases at that place or later: at the places of run g, which
 -- are at or after all of these, each task of the set still has_phase where it was found waiting.
-module _ (plan : Plan) (checked : IsCheckedPlan plan) (g : List Step) (run_g : IsLegalRun plan g) (waits_on : WaitsOn) (has_phase : HasPhase) (tasks : ℕ → Bool) (at : ℕ → ℕ) (found : ℕ → ℕ → ℕ) (deadlocked : IsDeadlocked waits_on has_phase tasks) (waiting : (u : ℕ) (e : Event) → tasks u ≡ true → waits_on u e → published_after plan u (at u) ≡ Some e) (phases : (u p m : ℕ) → tasks u ≡ true → has_phase u p m → at u ≤ found u p × found u p ≤ done_by (places g) u × phases_after plan u (found u p) p ≡ Some m) (reaches : (u : ℕ) → tasks u ≡ true → at u ≤ done_by (places g) u) where
+module _ (plan : Plan) (checked : IsCheckedPlan plan) (g : List Step) (run_g : IsLegalRun plan g) (waits_on : WaitsOn) (has_phase : HasPhase) (tasks : ℕ → Bool) (at : ℕ → ℕ) (found : ℕ → ℕ → ℕ) (deadlocked : IsDeadlockedSet waits_on has_phase tasks) (waiting : (u : ℕ) (e : Event) → tasks u ≡ true → waits_on u e → published_after plan u (at u) ≡ Some e) (phases : (u p m : ℕ) → tasks u ≡ true → has_phase u p m → at u ≤ found u p × found u p ≤ done_by (places g) u × phases_after plan u (found u p) p ≡ Some m) (reaches : (u : ℕ) → tasks u ≡ true → at u ≤ done_by (places g) u) where
   -- the places of h, but with those of g for the tasks below w, and w at place b
   abbrev mixed : (ℕ → Place) → ℕ → ℕ → ℕ → Place
   mixed c w b x = if nat_lt x w then places g x else (if x == w then record { done = b; dropped = None } else c x)
@@ -195,7 +195,7 @@ module _ (plan : Plan) (checked : IsCheckedPlan plan) (g : List Step) (run_g : I
       }
 
   -- and the set is deadlocked there
-  pub deadlocked_there : IsDeadlocked (IsPublishedOn (state_after g)) (IsAtPhase (state_after g)) tasks
+  pub deadlocked_there : IsDeadlockedSet (IsPublishedOn (state_after g)) (IsAtPhase (state_after g)) tasks
   deadlocked_there = record { some = deadlocked.some; each = impeded_there }
 
 pub collected_is_dead : CollectedIsDead

@@ -4,7 +4,7 @@ use Rattle.std.proofs.lemmas.Bool.{cases_eq}
 use Rattle.armus_base.specs.declared.event.Event.{Event}
 use Rattle.armus_base.specs.Plans.{Advances, Blocks, Drops, Forks, Makes, Passes, Refuses, Registers}
 use Rattle.armus_base.specs.States.{State, after, awaited, event_at}
-use Rattle.armus_base.specs.Seats.{Found, IsIdle, RefusedAt, StillAgrees, WaitsFor}
+use Rattle.armus_base.specs.Seats.{Found, FoundIdle, FoundRefused, StillAgrees, FoundWaiting}
 use Rattle.armus_base.specs.Laws.{FindsStay}
 use Rattle.armus_base.proofs.Steps.{updated_same, updated_other}
 
@@ -12,19 +12,19 @@ agrees_same :
     (s r : State) (w : ℕ) (find : Option Found) → r.published w ≡ s.published w → r.refused w ≡ s.refused w → StillAgrees s w find →
     StillAgrees r w find
 agrees_same s r w None p q agrees = tt
-agrees_same s r w (Some IsIdle) p q agrees = (p ∙ agrees.0, q ∙ agrees.1)
-agrees_same s r w (Some (WaitsFor e)) p q (inl waits) = inl (p ∙ waits)
-agrees_same s r w (Some (WaitsFor e)) p q (inr idle) = inr (p ∙ idle.0, q ∙ idle.1)
-agrees_same s r w (Some (RefusedAt e)) p q agrees = q ∙ agrees
+agrees_same s r w (Some FoundIdle) p q agrees = (p ∙ agrees.0, q ∙ agrees.1)
+agrees_same s r w (Some (FoundWaiting e)) p q (inl waits) = inl (p ∙ waits)
+agrees_same s r w (Some (FoundWaiting e)) p q (inr idle) = inr (p ∙ idle.0, q ∙ idle.1)
+agrees_same s r w (Some (FoundRefused e)) p q agrees = q ∙ agrees
 
 -- a task that passes was found waiting on its event, or not at all
 passed_agrees :
     (s : State) (w : ℕ) (find : Option Found) (e : Event) → s.published w ≡ Some e → s.refused w ≡ None → StillAgrees s w find → (p : ℕ) →
     StillAgrees (after s w (Passes p)) w find
 passed_agrees s w None e published unrefused agrees p = tt
-passed_agrees s w (Some IsIdle) e published unrefused agrees p = absurd (let none = agrees.0 in cc)
-passed_agrees s w (Some (WaitsFor f)) e published unrefused agrees p = inr (updated_same s.published w w None refl, unrefused)
-passed_agrees s w (Some (RefusedAt f)) e published unrefused agrees p = absurd (cc)
+passed_agrees s w (Some FoundIdle) e published unrefused agrees p = absurd (let none = agrees.0 in cc)
+passed_agrees s w (Some (FoundWaiting f)) e published unrefused agrees p = inr (updated_same s.published w w None refl, unrefused)
+passed_agrees s w (Some (FoundRefused f)) e published unrefused agrees p = absurd (cc)
 
 pub finds_stay : FindsStay
 finds_stay plan s t u w (Blocks p) find may legal other agrees =

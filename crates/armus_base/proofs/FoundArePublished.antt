@@ -9,7 +9,7 @@ use Rattle.armus_base.specs.Runs.{Place}
 use Rattle.armus_base.specs.Places.{IsConsistent, refused_at, state_at}
 use Rattle.armus_base.specs.CheckedPlans.{IsCheckedPlan}
 use Rattle.armus_base.specs.Deadlocks.{IsListedOn}
-use Rattle.armus_base.specs.Seats.{Found, IsIdle, RefusedAt, StillAgrees, WaitsFor}
+use Rattle.armus_base.specs.Seats.{Found, FoundIdle, FoundRefused, StillAgrees, FoundWaiting}
 use Rattle.armus_base.specs.Laws.{FoundArePublished}
 use Rattle.armus_base.proofs.Published.{published_after_is, published_undropped}
 use Rattle.armus_base.proofs.Tasks.{action_of_task}
@@ -33,16 +33,16 @@ published_within plan checked a u e published =
 
 module _ (plan : Plan) (a : ℕ → Place) (consistent : IsConsistent plan a) (list : List Status) (u : ℕ) (e : Event) (published : (state_at plan a).published u ≡ Some e) where
   by_find :
-      (o : Option Found) → ((f : Event) → o ≡ Some (WaitsFor f) → IsListedOn list u f) → IsSome o → StillAgrees (state_at plan a) u o →
+      (o : Option Found) → ((f : Event) → o ≡ Some (FoundWaiting f) → IsListedOn list u f) → IsSome o → StillAgrees (state_at plan a) u o →
       IsListedOn list u e
   by_find None listed some agrees = absurd (false≢true some)
-  by_find (Some IsIdle) listed some agrees = absurd (let none = agrees.0 in cc)
-  by_find (Some (WaitsFor f)) listed some agrees =
+  by_find (Some FoundIdle) listed some agrees = absurd (let none = agrees.0 in cc)
+  by_find (Some (FoundWaiting f)) listed some agrees =
       elim agrees [
         | inl waits ↦ subst (λ d. IsListedOn list u d) (let same : Some f ≡ Some e = sym waits ∙ published in cc) (listed f refl)
         | inr idle ↦ absurd (let none = idle.0 in cc)
       ]
-  by_find (Some (RefusedAt f)) listed some agrees = absurd (not_both plan a consistent u e f published agrees)
+  by_find (Some (FoundRefused f)) listed some agrees = absurd (not_both plan a consistent u e f published agrees)
 
 pub found_are_published : FoundArePublished
 found_are_published plan t a lock seen list checked lawful has unpublished finds = (

@@ -9,7 +9,7 @@ use Rattle.armus_base.specs.States.{State, Step, awaited, updated}
 use Rattle.armus_base.specs.Runs.{IsByCode, IsLegalRun, IsPrefix, Place, places, state_after}
 use Rattle.armus_base.specs.Places.{IsConsistent, done_by, kept, phases_at_place, published_after, state_at}
 use Rattle.armus_base.specs.CheckedPlans.{IsCheckedPlan}
-use Rattle.armus_base.specs.Deadlocks.{IsAtPhase, IsDeadBy, IsDeadIn, IsDeadlocked, IsListedAt, IsListedOn, IsPublishedOn, WouldBeDead}
+use Rattle.armus_base.specs.Deadlocks.{IsAtPhase, IsDeadBy, IsDeadIn, IsDeadlockedSet, IsListedAt, IsListedOn, IsPublishedOn, WouldBeDead}
 use Rattle.armus_base.specs.Decisions.{Decides, IsEnoughToDecide}
 use Rattle.armus_base.specs.Laws.{ListDecides, ListInHandDecides}
 use Rattle.std.specs.Prelude.{◌==◌, if◌then◌else◌}
@@ -136,8 +136,8 @@ module _ (plan : Plan) (checked : IsCheckedPlan plan) (h : List Step) (run : IsL
 
   -- a deadlocked set of the list is deadlocked once t is published, and its tasks stand where they were found
   collected :
-      (tasks : ℕ → Bool) → IsDeadlocked (IsListedOn list) (IsListedAt list) tasks →
-      ((u : ℕ) → tasks u ≡ true → places (blocked ∷ h) u ≡ at' u) × IsDeadlocked (IsPublishedOn (state_after (blocked ∷ h))) (IsAtPhase (state_after (blocked ∷ h))) tasks
+      (tasks : ℕ → Bool) → IsDeadlockedSet (IsListedOn list) (IsListedAt list) tasks →
+      ((u : ℕ) → tasks u ≡ true → places (blocked ∷ h) u ≡ at' u) × IsDeadlockedSet (IsPublishedOn (state_after (blocked ∷ h))) (IsAtPhase (state_after (blocked ∷ h))) tasks
   collected tasks deadlocked =
       collected_is_dead plan (blocked ∷ h) list tasks at' found' checked run' deadlocked
       (record {

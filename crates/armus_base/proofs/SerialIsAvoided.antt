@@ -9,7 +9,7 @@ use Rattle.armus_base.specs.Runs.{IsLegalRun, state_after}
 use Rattle.armus_base.specs.CheckedPlans.{IsCheckedPlan}
 use Rattle.armus_base.specs.Deadlocks.{IsDeadIn, NobodyDead, WouldBeDead}
 use Rattle.armus_base.specs.Avoidance.{Avoids, IsAvoidedRun}
-use Rattle.armus_base.specs.Serial.{GoesOn, IsDecided, IsSerialRun, IsTurn, RoundBelow, opens, rounds}
+use Rattle.armus_base.specs.Serial.{GoesOn, IsDecided, IsSerialAvoidedRun, IsTurn, RoundBelow, opens, rounds}
 use Rattle.armus_base.specs.Laws.{SerialIsAvoided}
 use Rattle.armus_base.proofs.Steps.{updated_other}
 use Rattle.armus_base.proofs.NobodyIsDead.{nobody_is_dead}
@@ -82,7 +82,7 @@ module _ (plan : Plan) (checked : IsCheckedPlan plan) where
   round_avoided (suc k) h g avoided round =
       last_turn k round.0 g (round_avoided k h round.0 avoided round.1) ((state_after h).forked k) round.2
 
-  serial_avoided : {h : List Step} → IsSerialRun plan h → IsAvoidedRun plan h
+  serial_avoided : {h : List Step} → IsSerialAvoidedRun plan h → IsAvoidedRun plan h
   serial_avoided opens = tt
   serial_avoided (rounds {h} {g} before round) = round_avoided (length plan.parents) h g (serial_avoided before) round
 

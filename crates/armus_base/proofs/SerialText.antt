@@ -8,7 +8,7 @@ use Rattle.armus_base.specs.Plans.{Advances, Drops, Passes, Refuses, action_at, 
 use Rattle.armus_base.specs.States.{IsReached, event_at, updated}
 use Rattle.armus_base.specs.Runs.{IsLegalRun, is_done, is_refused, is_waiting, state_after}
 use Rattle.armus_base.specs.Deadlocks.{IsAtPhase, IsImpededWithin, IsPublishedOn, WouldBeDead}
-use Rattle.armus_base.specs.Serial.{IsSerialEnd, IsTurn, RoundBelow, opens, rounds}
+use Rattle.armus_base.specs.Serial.{IsSerialAvoidedEnd, IsTurn, RoundBelow, opens, rounds}
 use Rattle.armus_base.specs.Texts.{all_turns, before_block, does, first_turn, second_turn, two_tasks}
 use Rattle.armus_base.proofs.Steps.{updated_is}
 
@@ -151,5 +151,5 @@ still_0' = record { own = []; there = refl; run = all_run; goes_on = tt; ended =
 round_3 : RoundBelow two_tasks 2 second_turn all_turns
 round_3 = (all_turns, (second_turn, refl, turn_0'), still_1)
 
-pub serial_end : IsSerialEnd two_tasks all_turns
+pub serial_end : IsSerialAvoidedEnd two_tasks all_turns
 serial_end = (rounds (rounds (rounds opens round_1) round_2) round_3, (all_turns, (all_turns, refl, still_0'), still_1))

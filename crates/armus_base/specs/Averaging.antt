@@ -24,6 +24,7 @@ worker =
 abbrev starts : ℕ → List Op
 starts t = Reg (task t) (phaser 0) ∷ Reg (task t) (phaser 1) ∷ Fork (task t) ∷ []
 
+-- the plan: task 0 makes p0 and p1 and starts three workers on both
 abbrev pub averaging : Plan
 averaging =
     record {
@@ -38,6 +39,7 @@ averaging =
 abbrev pub to_its_end : List ℕ
 to_its_end = 3 ∷ 3 ∷ 2 ∷ 2 ∷ 1 ∷ 1 ∷ replicate 13 0
 
+-- its end: task 0 waits on p1@1 and each worker on p0@1
 pub record AveragingEnds : Type 0 where
   pub parent : (state_after (scheduled averaging to_its_end)).published 0 ≡ on 1 1
   pub first : (state_after (scheduled averaging to_its_end)).published 1 ≡ on 0 1

@@ -4,10 +4,11 @@ use Rattle.armus_base.specs.declared.event.Event.{Event}
 use Rattle.armus_base.specs.declared.status.Status.{Status}
 use Rattle.armus_base.specs.States.{State, updated}
 
--- on which event a task waits, and at which phase it stands on a phaser
+-- a relation that says on which event a task waits
 abbrev pub WaitsOn : Type 1
 WaitsOn = ℕ → Event → Type 0
 
+-- a relation that says at which phase a task stands on a phaser
 abbrev pub HasPhase : Type 1
 HasPhase = ℕ → ℕ → ℕ → Type 0
 
@@ -22,7 +23,7 @@ pub record IsImpededWithin (waits_on : WaitsOn) (has_phase : HasPhase) (tasks : 
   pub below : phase < event.n
 
 -- a deadlocked set: it has a task, and each of its tasks is impeded within it
-pub record IsDeadlocked (waits_on : WaitsOn) (has_phase : HasPhase) (tasks : ℕ → Bool) : Type 0 where
+pub record IsDeadlockedSet (waits_on : WaitsOn) (has_phase : HasPhase) (tasks : ℕ → Bool) : Type 0 where
   pub some : (t : ℕ) × tasks t ≡ true
   pub each : (t : ℕ) → tasks t ≡ true → IsImpededWithin waits_on has_phase tasks t
 
@@ -30,23 +31,25 @@ pub record IsDeadlocked (waits_on : WaitsOn) (has_phase : HasPhase) (tasks : ℕ
 pub record IsDead (waits_on : WaitsOn) (has_phase : HasPhase) (t : ℕ) : Type 0 where
   pub tasks : ℕ → Bool
   pub inside : tasks t ≡ true
-  pub deadlocked : IsDeadlocked waits_on has_phase tasks
+  pub deadlocked : IsDeadlockedSet waits_on has_phase tasks
 
--- in a state
+-- in this state task t is published on the event
 abbrev pub IsPublishedOn : State → WaitsOn
 IsPublishedOn s t e = s.published t ≡ Some e
 
+-- in this state task t is a member of p with this phase
 abbrev pub IsAtPhase : State → HasPhase
 IsAtPhase s t p n = s.phases t p ≡ Some n
 
+-- task t is dead in this state
 abbrev pub IsDeadIn : State → ℕ → Type 0
 IsDeadIn s t = IsDead (IsPublishedOn s) (IsAtPhase s) t
 
--- nobody is dead
+-- nobody is dead in this state
 abbrev pub NobodyDead : State → Type 0
 NobodyDead s = (u : ℕ) → IsDeadIn s u → ⊥
 
--- published and not dead
+-- a held task: it is published and not dead
 abbrev pub IsHeld : State → ℕ → Type 0
 IsHeld s t = IsSome (s.published t) × (IsDeadIn s t → ⊥)
 
@@ -54,13 +57,15 @@ IsHeld s t = IsSome (s.published t) × (IsDeadIn s t → ⊥)
 abbrev pub WouldBeDead : State → ℕ → Event → Type 0
 WouldBeDead s t e = IsDeadIn (record s { published = updated s.published t (Some e) }) t
 
--- in a list of statuses
+-- the list has a status of task t with this event
 abbrev pub IsListedOn : List Status → WaitsOn
 IsListedOn list t e = (s : Status) × Contains list s × s.t.0 ≡ t × s.event ≡ e
 
+-- the list has a status of task t with this phase on p
 abbrev pub IsListedAt : List Status → HasPhase
 IsListedAt list t p n =
     (s : Status) × Contains list s × s.t.0 ≡ t × Contains s.phases (record { p = record { 0 = p }; n = n })
 
+-- task t is dead by these statuses, whatever moments they are of
 abbrev pub IsDeadBy : List Status → ℕ → Type 0
 IsDeadBy list t = IsDead (IsListedOn list) (IsListedAt list) t

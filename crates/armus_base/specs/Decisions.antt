@@ -6,7 +6,7 @@ use Rattle.armus_base.specs.Plans.{Plan, Blocks, action_at}
 use Rattle.armus_base.specs.States.{State, IsActive, awaited}
 use Rattle.armus_base.specs.Runs.{Place, IsPrefix}
 use Rattle.armus_base.specs.Places.{phases_at_place, published_after}
-use Rattle.armus_base.specs.Seats.{SeenBy, WaitsFor}
+use Rattle.armus_base.specs.Seats.{SeenBy, FoundWaiting}
 use Rattle.armus_base.specs.Deadlocks.{IsListedOn, IsListedAt, IsDeadBy, NobodyDead, WouldBeDead}
 
 -- Of these tasks of the list each was found waiting at a place, and each of its phases was found at that place or later. All these places are
@@ -60,4 +60,4 @@ pub record Decides (s : State) (t : ℕ) (event : Event) (list : List Status) : 
 -- the seat of task t has found all other tasks, and the list has each that was found waiting
 pub record HasAllFound (plan : Plan) (t : ℕ) (seen : SeenBy) (list : List Status) : Type 0 where
   pub all : (u : ℕ) → u < length plan.parents → u ≢ t → IsSome (seen.found u)
-  pub listed : (u : ℕ) (e : Event) → u ≢ t → seen.found u ≡ Some (WaitsFor e) → IsListedOn list u e
+  pub listed : (u : ℕ) (e : Event) → u ≢ t → seen.found u ≡ Some (FoundWaiting e) → IsListedOn list u e

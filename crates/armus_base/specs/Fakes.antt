@@ -3,6 +3,7 @@ use Rattle.std.specs.Prelude.{◌≡◌, ℕ, ◌-◌, ◌==◌, ◌&&◌, ◌||
 use Rattle.std.specs.List.{list_any}
 use Rattle.armus_base.specs.Causes.{counted}
 
+-- a source in memory: the bytes left, the most bytes of a call, the numbers of the calls that fail, and the calls and faults so far
 pub record MemRead : Type 0 where
   pub left : List ℕ
   pub cut : ℕ
@@ -10,6 +11,7 @@ pub record MemRead : Type 0 where
   pub calls : ℕ
   pub faults : ℕ
 
+-- a sink in memory: the bytes taken, its room, the most bytes of a call, the numbers of the calls that fail, and the calls and faults so far
 pub record MemWrite : Type 0 where
   pub taken : List ℕ
   pub room : ℕ

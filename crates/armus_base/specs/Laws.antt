@@ -7,11 +7,11 @@ use Rattle.armus_base.specs.States.{State, Step, after, IsLegal, IsActive, IsRea
 use Rattle.armus_base.specs.Runs.{first_place, IsAtAwait, Place, IsByCode, IsReachable, moved, IsLegalRun, IsPlainRun, IsMaximal, state_after, places, IsPrefix, ArePrefixes}
 use Rattle.armus_base.specs.Places.{IsConsistent, state_at, phases_after, phases_at_place, published_after}
 use Rattle.armus_base.specs.CheckedPlans.{IsCheckedPlan, HasTables, IsWithinLimits, Grows, IsSoundGrowth, first_plan}
-use Rattle.armus_base.specs.Deadlocks.{IsDeadIn, IsDeadlocked, IsPublishedOn, IsAtPhase, IsListedOn, IsListedAt, NobodyDead}
+use Rattle.armus_base.specs.Deadlocks.{IsDeadIn, IsDeadlockedSet, IsPublishedOn, IsAtPhase, IsListedOn, IsListedAt, NobodyDead}
 use Rattle.armus_base.specs.Avoidance.{Avoids, IsAvoidedRun}
 use Rattle.armus_base.specs.Boards.{IsLawful, MayDo}
 use Rattle.armus_base.specs.Seats.{SeenBy, IsAsFarOn, IsKnownDead, HasLockWith, IsLeast, Found, StillAgrees, IsPlaceOf, IsLongestPrefix, await_word, MayHold, IsExactOf, IsSeenAfterAwait}
-use Rattle.armus_base.specs.Serial.{IsSerialRun}
+use Rattle.armus_base.specs.Serial.{IsSerialAvoidedRun}
 use Rattle.armus_base.specs.Decisions.{HasFound, StandsBefore, HasOwnStatus, HasOtherStatuses, IsEnoughToDecide, Decides, HasAllFound}
 
 -- the places fix the state
@@ -68,9 +68,9 @@ DeadStays =
 abbrev pub CollectedIsDead : Type 0
 CollectedIsDead =
     (plan : Plan) (g : List Step) (list : List Status) (tasks : ℕ → Bool) (at : ℕ → Place) (found : ℕ → ℕ → Place) →
-    IsCheckedPlan plan → IsLegalRun plan g → IsDeadlocked (IsListedOn list) (IsListedAt list) tasks →
+    IsCheckedPlan plan → IsLegalRun plan g → IsDeadlockedSet (IsListedOn list) (IsListedAt list) tasks →
     HasFound plan (λ u. tasks u ≡ true) list at found (places g) →
-    ((u : ℕ) → tasks u ≡ true → places g u ≡ at u) × IsDeadlocked (IsPublishedOn (state_after g)) (IsAtPhase (state_after g)) tasks
+    ((u : ℕ) → tasks u ≡ true → places g u ≡ at u) × IsDeadlockedSet (IsPublishedOn (state_after g)) (IsAtPhase (state_after g)) tasks
 
 -- the shorter of the places of each task in two plain runs are the places of a plain run
 abbrev pub EarlierPlaces : Type 0
@@ -143,7 +143,7 @@ AllScannedIsReached =
 
 -- a serial run that avoids deadlock is an avoided run
 abbrev pub SerialIsAvoided : Type 0
-SerialIsAvoided = (plan : Plan) (h : List Step) → IsCheckedPlan plan → IsSerialRun plan h → IsAvoidedRun plan h
+SerialIsAvoided = (plan : Plan) (h : List Step) → IsCheckedPlan plan → IsSerialAvoidedRun plan h → IsAvoidedRun plan h
 
 -- the unfolding begins with a checked plan
 abbrev pub FirstPlanIsChecked : Type 0
@@ -184,9 +184,9 @@ DeadStaysAtReachable =
 abbrev pub CollectedIsDeadAtReachable : Type 0
 CollectedIsDeadAtReachable =
     (plan : Plan) (a : ℕ → Place) (list : List Status) (tasks : ℕ → Bool) (at : ℕ → Place) (found : ℕ → ℕ → Place) →
-    IsCheckedPlan plan → IsReachable plan a → IsDeadlocked (IsListedOn list) (IsListedAt list) tasks →
+    IsCheckedPlan plan → IsReachable plan a → IsDeadlockedSet (IsListedOn list) (IsListedAt list) tasks →
     HasFound plan (λ u. tasks u ≡ true) list at found a →
-    ((u : ℕ) → tasks u ≡ true → a u ≡ at u) × IsDeadlocked (IsPublishedOn (state_at plan a)) (IsAtPhase (state_at plan a)) tasks
+    ((u : ℕ) → tasks u ≡ true → a u ≡ at u) × IsDeadlockedSet (IsPublishedOn (state_at plan a)) (IsAtPhase (state_at plan a)) tasks
 
 -- lawful places are reachable
 abbrev pub LawfulIsReachable : Type 0

@@ -10,6 +10,11 @@ pub mod Boards
 pub mod Seats
 pub mod Decisions
 pub mod Serial
+pub mod Counts
+pub mod Relations
+pub mod Statuses
+pub mod Graphs
+pub mod Finals
 pub mod Laws
 pub mod Texts
 pub mod Averaging

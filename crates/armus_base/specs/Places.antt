@@ -52,10 +52,12 @@ registered_by plan u c k = registered (action_at plan u) (first_phases plan u) c
 unfoldable pub phases_at : Plan → (ℕ → ℕ) → ℕ → Phases
 phases_at plan a t = if a t == 0 then registered_by plan (parent_of plan t) t (a (parent_of plan t)) else phases_after plan t (a t)
 
+-- the action forks task c
 abbrev pub forks : Option Action → ℕ → Bool
 forks (Some (Forks d)) c = c == d
 forks o c = false
 
+-- the action makes phaser p
 abbrev pub makes : Option Action → ℕ → Bool
 makes (Some (Makes q)) p = p == q
 makes o p = false

@@ -35,6 +35,7 @@ abbrev pub places : List Step → ℕ → Place
 places [] = λ _. first_place
 places (e ∷ h) = moved (places h) e.task e.action
 
+-- the action drops a phaser
 abbrev pub IsDrop : Action → Type 0
 IsDrop (Drops p) = Unit {0}
 IsDrop x = ⊥

@@ -12,9 +12,9 @@ use Rattle.armus_base.specs.Boards.{IsLawful}
 
 -- what an await word means, and what a load of it finds
 pub data Found : Type 0 where
-  IsIdle : Found
-  WaitsFor : (event : Event) → Found
-  RefusedAt : (event : Event) → Found
+  FoundIdle : Found
+  FoundWaiting : (event : Event) → Found
+  FoundRefused : (event : Event) → Found
 
 -- what a seat has seen: for each task a place that it has reached, whether that place is the exact one, how many tasks it has scanned for the
 -- event on which its own task is published, and what it has found of a task since it took the lock
@@ -52,9 +52,9 @@ HasNoEvent s t = s.published t ≡ None × s.refused t ≡ None
 -- what a holder of the lock found of task t still agrees with the state
 abbrev pub StillAgrees : State → ℕ → Option Found → Type 0
 StillAgrees s t None = Unit {0}
-StillAgrees s t (Some IsIdle) = HasNoEvent s t
-StillAgrees s t (Some (WaitsFor e)) = (s.published t ≡ Some e) ⊎ (HasNoEvent s t)
-StillAgrees s t (Some (RefusedAt e)) = s.refused t ≡ Some e
+StillAgrees s t (Some FoundIdle) = HasNoEvent s t
+StillAgrees s t (Some (FoundWaiting e)) = (s.published t ≡ Some e) ⊎ (HasNoEvent s t)
+StillAgrees s t (Some (FoundRefused e)) = s.refused t ≡ Some e
 
 -- the board's state has the lock with the seat of task t
 pub record HasLockWith (plan : Plan) (t : ℕ) (a : ℕ → Place) (lock : Option ℕ) (seen : SeenBy) : Type 0 where
@@ -93,12 +93,13 @@ pub record IsLongestPrefix (avoids : Bool) (plan : Plan) (t : ℕ) (Means : Plac
   pub below : IsPrefixOfAll avoids plan t Means before now
   pub longest : (c : Place) → IsPlaceOf avoids plan t c → IsPrefixOfAll avoids plan t Means before c → IsPrefix c now
 
--- what the await word of task t means at its place
+-- what an await word means of a task that is published on the first event or refused at the second
 abbrev pub found_by : Option Event → Option Event → Found
-found_by (Some e) refused = WaitsFor e
-found_by None (Some e) = RefusedAt e
-found_by None None = IsIdle
+found_by (Some e) refused = FoundWaiting e
+found_by None (Some e) = FoundRefused e
+found_by None None = FoundIdle
 
+-- what the await word of task t means at its place
 abbrev pub await_word : Plan → ℕ → Place → Found
 await_word plan t place = found_by (published_after plan t place.done) (refused_at plan t place.done place.dropped)
 

@@ -33,13 +33,13 @@ RoundBelow plan (suc k) h h' =
     (g : List Step) × RoundBelow plan k h g × MatchBool ((state_after h).forked k) (IsTurn plan k g h') (h' ≡ g)
 
 -- whole rounds of all tasks
-pub data IsSerialRun (plan : Plan) : List Step → Type 0 where
-  opens : IsSerialRun plan []
-  rounds : {h g : List Step} → IsSerialRun plan h → RoundBelow plan (length plan.parents) h g → IsSerialRun plan g
+pub data IsSerialAvoidedRun (plan : Plan) : List Step → Type 0 where
+  opens : IsSerialAvoidedRun plan []
+  rounds : {h g : List Step} → IsSerialAvoidedRun plan h → RoundBelow plan (length plan.parents) h g → IsSerialAvoidedRun plan g
 
 -- the serial run has ended: one more round has no step
-abbrev pub IsSerialEnd : Plan → List Step → Type 0
-IsSerialEnd plan h = IsSerialRun plan h × RoundBelow plan (length plan.parents) h h
+abbrev pub IsSerialAvoidedEnd : Plan → List Step → Type 0
+IsSerialAvoidedEnd plan h = IsSerialAvoidedRun plan h × RoundBelow plan (length plan.parents) h h
 
 -- the step that task t makes next by its code
 abbrev pub next_step : ℕ → Option Action → List Step

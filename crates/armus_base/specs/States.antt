@@ -11,6 +11,7 @@ event_at p n = record { p = record { 0 = p }; n = n }
 abbrev pub Phases : Type 0
 Phases = ℕ → Option ℕ
 
+-- a state: who is forked, which phasers are made, each task's phases, and on which event it is published and at which it is refused
 pub record State : Type 0 where
   pub forked : ℕ → Bool
   pub made : ℕ → Bool
@@ -26,7 +27,7 @@ updated f n v k = if k == n then v else f k
 abbrev pub with_phase : (ℕ → Phases) → ℕ → ℕ → Option ℕ → ℕ → Phases
 with_phase phases t p v u q = if (u == t) && (q == p) then v else phases u q
 
--- one more
+-- the phase of a member after an advance
 abbrev pub next_phase : Option ℕ → Option ℕ
 next_phase None = None
 next_phase (Some n) = Some (n + 1)

@@ -7,7 +7,7 @@ use Rattle.armus_base.specs.States.{State, Step, event_at, IsLegal}
 use Rattle.armus_base.specs.Runs.{state_after, places}
 use Rattle.armus_base.specs.Places.{state_at, phases_at_place}
 use Rattle.armus_base.specs.CheckedPlans.{IsCheckedPlan}
-use Rattle.armus_base.specs.Deadlocks.{IsDeadlocked, IsPublishedOn, IsAtPhase}
+use Rattle.armus_base.specs.Deadlocks.{IsDeadlockedSet, IsPublishedOn, IsAtPhase}
 use Rattle.armus_base.specs.Boards.{Entry, steps_of, IsBoardRun}
 use Rattle.armus_base.specs.Seats.{IsLongestPrefix}
 
@@ -24,6 +24,7 @@ two_tasks =
           ∷ [];
     }
 
+-- a step of task t
 abbrev pub does : ℕ → Action → Step
 does t x = record { task = t; action = x }
 
@@ -33,6 +34,7 @@ to_the_end =
     does 1 (Blocks 1) ∷ does 1 (Advances 1) ∷ does 0 (Blocks 0) ∷ does 0 (Advances 0) ∷ does 0 (Forks 1) ∷ does 0 (Registers 1 1)
     ∷ does 0 (Registers 1 0) ∷ does 0 (Makes 1) ∷ does 0 (Makes 0) ∷ []
 
+-- published on p@n
 abbrev pub on : ℕ → ℕ → Option Event
 on p n = Some ((event_at p n))
 
@@ -57,9 +59,11 @@ first_turn =
     does 0 (Blocks 0) ∷ does 0 (Advances 0) ∷ does 0 (Forks 1) ∷ does 0 (Registers 1 1)
     ∷ does 0 (Registers 1 0) ∷ does 0 (Makes 1) ∷ does 0 (Makes 0) ∷ []
 
+-- after the turn of task 1, which is refused
 abbrev pub second_turn : List Step
 second_turn = does 1 (Drops 1) ∷ does 1 (Drops 0) ∷ does 1 (Refuses 1) ∷ does 1 (Advances 1) ∷ first_turn
 
+-- after all turns
 abbrev pub all_turns : List Step
 all_turns = does 0 (Passes 0) ∷ second_turn
 
@@ -96,7 +100,7 @@ pub record Excludes : Type 0 where
       (avoids : Bool) (entries : List Entry) → steps_of entries ≡ does 0 (Refuses 0) ∷ before_block → IsBoardRun avoids two_tasks entries → ⊥
   pub strange_child : (s : State) → IsLegal two_tasks s 0 (Registers 7 0) → ⊥
   pub strange_phaser : (s : State) → IsLegal two_tasks s 0 (Makes 77) → ⊥
-  pub empty_set : (s : State) → IsDeadlocked (IsPublishedOn s) (IsAtPhase s) (λ _. false) → ⊥
+  pub empty_set : (s : State) → IsDeadlockedSet (IsPublishedOn s) (IsAtPhase s) (λ _. false) → ⊥
   pub refused_pass : (plan : Plan) (s : State) (t p : ℕ) (e : Event) → s.refused t ≡ Some e → IsLegal plan s t (Passes p) → ⊥
   pub odd_plan : IsCheckedPlan odd → ⊥
   pub dropped_is_done :

@@ -2,7 +2,7 @@
 ghost use Rattle.armus_base.specs.Laws.{ReachedStays, ReachedStaysInRun, PlacesFixState, SamePlacesSameState, NextIsLegal, OneEnd, MaximalExists, OnlyBlocksKill, DeadStays, CollectedIsDead, EarlierPlaces, NobodyIsDead, NobodyIsKnownDead, ListDecides, FoundArePublished, FindsStay, ListInHandDecides, DeadStaysAtReachable, CollectedIsDeadAtReachable, ScannedStays, AllScannedIsReached, SerialIsAvoided, LeastExists, KnownAreLeastDead, PlanGrows, FirstPlanIsChecked, PhasesStayFixed, PhasesFit, AwaitedPhasesFit, MakersAreTasks, LawfulIsReachable, ReachableIsFixed, ReachableSteps, ReachedStaysAtReachable, PlainStepIsLawful, AvoidedStepIsLawful, LawfulPlacesAreOf, AwaitLoadIsBefore, PhaseLoadIsBefore, HolderMayHold, BusyIsBefore, AwaitLoadKeepsFar, OpeningIsLawful, TakingIsLawful, FreeingIsLawful};
 ghost use Rattle.armus_base.specs.CheckedPlans.{IsCheckedPlan};
 ghost use Rattle.armus_base.specs.Runs.{IsPlainRun};
-ghost use Rattle.armus_base.specs.Serial.{IsSerialEnd};
+ghost use Rattle.armus_base.specs.Serial.{IsSerialAvoidedEnd};
 ghost use Rattle.armus_base.specs.Texts.{TwoTasksEnd, two_tasks, to_the_end, all_turns, Excludes};
 ghost use Rattle.armus_base.specs.Averaging.{AveragingEnds};
 
@@ -97,6 +97,6 @@ pub fn small_plans()
     ensures run { IsPlainRun two_tasks to_the_end }
     ensures checked { IsCheckedPlan two_tasks }
     ensures averaging { AveragingEnds }
-    ensures serial { IsSerialEnd two_tasks all_turns }
+    ensures serial { IsSerialAvoidedEnd two_tasks all_turns }
     ensures excluded { Excludes }
 {}
