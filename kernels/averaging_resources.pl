@@ -1,0 +1,25 @@
+// The kernel of averaging.pl once more, analysed by the general resource
+// graph. Another graph shows the same deadlock: only the last line of the
+// report changes. Each of the four tasks has an edge to the event that it
+// awaits; pb@1 is impeded by the three workers, pc@1 by the parent: 8 edges.
+pc = newPhaser();
+pb = newPhaser();
+loop 3 {
+  t = newTid();
+  reg(t, pc);
+  reg(t, pb);
+  fork(t) {
+    loop 2 {
+      skip; // read the neighbours
+      adv(pc);
+      await(pc);
+      skip; // write the mean
+      adv(pc);
+      await(pc);
+    }
+    dereg(pc);
+    dereg(pb);
+  }
+}
+adv(pb);
+await(pb);

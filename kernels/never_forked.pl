@@ -1,0 +1,9 @@
+// A child that is never forked.
+//
+// The child was registered on p, so p counts it as a member, at phase 0.
+// But its fork was forgotten, so it never advances. The parent is held.
+p = newPhaser();
+t = newTid();
+reg(t, p);
+adv(p);
+await(p);
