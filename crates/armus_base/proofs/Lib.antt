@@ -38,3 +38,7 @@ pub mod Texts
 pub mod SerialText
 pub mod Excluded
 pub mod Fronts
+pub mod Elements
+pub mod Walks
+pub mod Counts
+pub mod WalkCycles
