@@ -10,7 +10,7 @@ use Rattle.armus_base.specs.Runs.{ArePrefixes, IsLegalRun, IsPrefix, Place, Prec
 use Rattle.armus_base.specs.Places.{IsConsistent, done_by, forked_at, kept, phases_after, phases_at, published_after, state_at}
 use Rattle.armus_base.specs.CheckedPlans.{IsCheckedPlan}
 use Rattle.armus_base.specs.Deadlocks.{HasPhase, IsAtPhase, IsDeadlockedSet, IsImpededWithin, IsListedAt, IsListedOn, IsPublishedOn, WaitsOn}
-use Rattle.armus_base.specs.Laws.{CollectedIsDead}
+use Rattle.armus_base.specs.DeadlockLaws.{CollectedIsDead}
 use Rattle.armus_base.proofs.Fixed.{forked_at_is, forked_at_from, forked_later, root_forked, phases_forked}
 use Rattle.armus_base.proofs.Stepping.{places_fix}
 use Rattle.armus_base.proofs.ReachedLater.{reached_later, later_done}

@@ -7,7 +7,7 @@ use Rattle.armus_base.specs.States.{IsReached, State, Step, after, event_at}
 use Rattle.armus_base.specs.Runs.{IsLegalRun, IsPlainRun, Precedes, places, state_after}
 use Rattle.armus_base.specs.Places.{IsConsistent, done_by, forked_at, kept, phases_after, phases_at, published_after, registered_by, state_at}
 use Rattle.armus_base.specs.CheckedPlans.{IsCheckedPlan}
-use Rattle.armus_base.specs.Laws.{EarlierPlaces}
+use Rattle.armus_base.specs.SeatLaws.{EarlierPlaces}
 use Rattle.armus_base.proofs.Steps.{updated_same, updated_other, reached_stays}
 use Rattle.armus_base.proofs.Fixed.{forked_at_is, forked_at_from, root_forked, registered_none, registered_steady, phases_idle, phases_begun}
 use Rattle.armus_base.proofs.Stepping.{places_fix, acting_forked}

@@ -11,7 +11,7 @@ use Rattle.armus_base.specs.Places.{IsConsistent, done_by, kept, phases_at_place
 use Rattle.armus_base.specs.CheckedPlans.{IsCheckedPlan}
 use Rattle.armus_base.specs.Deadlocks.{IsAtPhase, IsDeadBy, IsDeadIn, IsDeadlockedSet, IsListedAt, IsListedOn, IsPublishedOn, WouldBeDead}
 use Rattle.armus_base.specs.Decisions.{Decides, IsEnoughToDecide}
-use Rattle.armus_base.specs.Laws.{ListDecides, ListInHandDecides}
+use Rattle.armus_base.specs.DecisionLaws.{ListDecides, ListInHandDecides}
 use Rattle.std.specs.Prelude.{◌==◌, if◌then◌else◌}
 use Rattle.armus_base.proofs.Steps.{updated_is, updated_same, updated_other}
 use Rattle.armus_base.proofs.Places.{precedes_itself}

@@ -10,7 +10,7 @@ use Rattle.armus_base.specs.CheckedPlans.{IsCheckedPlan}
 use Rattle.armus_base.specs.Deadlocks.{IsDeadIn, NobodyDead, WouldBeDead}
 use Rattle.armus_base.specs.Avoidance.{Avoids, IsAvoidedRun}
 use Rattle.armus_base.specs.Serial.{GoesOn, IsDecided, IsSerialAvoidedRun, IsTurn, RoundBelow, opens, rounds}
-use Rattle.armus_base.specs.Laws.{SerialIsAvoided}
+use Rattle.armus_base.specs.RunLaws.{SerialIsAvoided}
 use Rattle.armus_base.proofs.Steps.{updated_other}
 use Rattle.armus_base.proofs.NobodyIsDead.{nobody_is_dead}
 

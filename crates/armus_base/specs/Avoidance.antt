@@ -6,9 +6,13 @@ use Rattle.armus_base.specs.States.{State, Step, after, awaited}
 use Rattle.armus_base.specs.Runs.{state_after, IsNextStep}
 use Rattle.armus_base.specs.Deadlocks.{NobodyDead, WouldBeDead}
 
+-- nobody is dead after task t has published its await of p
+abbrev pub LeavesNobodyDead : State → ℕ → ℕ → Type 0
+LeavesNobodyDead s t p = NobodyDead (after s t (Blocks p))
+
 -- a block leaves nobody dead, and a refusal comes only where its task would be dead
 abbrev pub Avoids : State → ℕ → Action → Type 0
-Avoids s t (Blocks p) = NobodyDead (after s t (Blocks p))
+Avoids s t (Blocks p) = LeavesNobodyDead s t p
 Avoids s t (Refuses p) = (e : Event) × awaited (Some (Blocks p)) (s.phases t) ≡ Some e × WouldBeDead s t e
 Avoids s t x = Unit {0}
 

@@ -15,7 +15,12 @@ pub mod Relations
 pub mod Statuses
 pub mod Graphs
 pub mod Finals
-pub mod Laws
+pub mod RunLaws
+pub mod DeadlockLaws
+pub mod PlaceLaws
+pub mod SeatLaws
+pub mod DecisionLaws
+pub mod PlanLaws
 pub mod Texts
 pub mod Averaging
 pub mod Causes

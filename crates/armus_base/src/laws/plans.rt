@@ -1,0 +1,16 @@
+// Laws of plans.
+ghost use Rattle.armus_base.specs.PlanLaws.{AwaitedPhasesFit, FirstPlanIsChecked, MakersAreTasks, PhasesFit, PhasesStayFixed, PlanGrows};
+
+/// A plan stays checked while it is unfolded: only what is new is to be looked at, and what it fixes of a task so far stays fixed.
+pub fn plan_grows()
+    ensures first { FirstPlanIsChecked }
+    ensures checked { PlanGrows }
+    ensures fixed { PhasesStayFixed }
+    ensures makers { MakersAreTasks }
+{}
+
+/// A phase is at most the number of all ops, and so is one that is awaited.
+pub fn phases_fit()
+    ensures phases { PhasesFit }
+    ensures awaited { AwaitedPhasesFit }
+{}
