@@ -42,3 +42,7 @@ pub mod Elements
 pub mod Walks
 pub mod Counts
 pub mod WalkCycles
+pub mod Below
+pub mod StatusesAre
+pub mod DeadByStatuses
+pub mod EndsTell

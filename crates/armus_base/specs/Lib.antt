@@ -21,6 +21,7 @@ pub mod PlaceLaws
 pub mod SeatLaws
 pub mod DecisionLaws
 pub mod PlanLaws
+pub mod FinalLaws
 pub mod Texts
 pub mod Averaging
 pub mod Causes

@@ -1,6 +1,7 @@
 // The laws over the definitions: each is the contract of a public function with an empty body.
 mod deadlocks;
 mod decisions;
+mod finals;
 mod places;
 mod plans;
 mod runs;
@@ -9,6 +10,7 @@ mod texts;
 
 pub use deadlocks::{collected_is_dead, dead_stays, nobody_is_dead, only_blocks_kill};
 pub use decisions::list_decides;
+pub use finals::{final_is_of_state, statuses_are_of_state};
 pub use places::{lawful_places, reachable_places};
 pub use plans::{phases_fit, plan_grows};
 pub use runs::{next_is_legal, one_end, places_fix_state, reached_stays, serial_is_avoided};
