@@ -1,0 +1,11 @@
+//! A directed graph to which edges are added, and the cycles that its nodes reach.
+#![tactic(auto)]
+
+mod cycle;
+mod graph;
+mod rows;
+mod search;
+#[cfg(test)]
+mod tests;
+
+pub use graph::Digraph;
