@@ -1,8 +1,10 @@
 //! Schedules: an interleaving of steps and loads, written line by line, and its replay.
 #![tactic(auto)]
 
+mod laws;
 mod lines;
 mod split;
 
+pub use laws::passes_name_the_dead;
 pub use lines::{Line, read_lines};
 pub use split::split_input;

@@ -1,0 +1,72 @@
+-- Passes: a collect of loads, each made in a state of its own, and the statuses that they find.
+use Rattle.std.specs.Prelude.{◌≡◌, ℕ, ◌+◌, ◌*◌, Bool, true, false, List, [], ◌∷◌, ◌++◌, Option, Some, None, length, slice_get, is_some, if◌then◌else◌, option_map}
+use Rattle.std.proofs.Common.{zero, suc}
+use Rattle.armus_base.specs.declared.event.Event.{Event}
+use Rattle.armus_base.specs.declared.status.Status.{Status}
+use Rattle.armus_base.specs.Plans.{Plan}
+use Rattle.armus_base.specs.States.{Step, Phases}
+use Rattle.armus_base.specs.Places.{some_before}
+use Rattle.armus_base.specs.Runs.{state_after}
+use Rattle.armus_base.specs.Finals.{given_below, listed_phase, is_event_of}
+
+-- a pass: for each of its loads, in order, the run that was made when it was loaded
+abbrev pub Loads : Type 0
+Loads = List (List Step)
+
+-- the event that a load of the await cell of task t finds, after this run
+abbrev pub event_after : ℕ → Option (List Step) → Option Event
+event_after t None = None
+event_after t (Some h) = (state_after h).published t
+
+-- the phase that a load of the phase cell of task t on p finds, after this run
+abbrev pub phase_after : ℕ → ℕ → Option (List Step) → Option ℕ
+phase_after t p None = None
+phase_after t p (Some h) = (state_after h).phases t p
+
+-- first come the await cells of all tasks, in order: the event on which task t was found waiting
+abbrev pub event_found : Loads → ℕ → Option Event
+event_found loads t = event_after t (slice_get loads t)
+
+-- some task was found waiting on an event of phaser p
+abbrev pub is_found_awaited : Plan → Loads → ℕ → Bool
+is_found_awaited plan loads p = some_before (λ t. is_event_of p (event_found loads t)) (length plan.parents)
+
+-- how many numbers below n pass the test
+abbrev pub count_below : (ℕ → Bool) → ℕ → ℕ
+count_below test zero = 0
+count_below test (suc n) = if test n then count_below test n + 1 else count_below test n
+
+-- how many tasks below t were found waiting, and how many phasers below p were found awaited
+abbrev pub waiting_below : Loads → ℕ → ℕ
+waiting_below loads t = count_below (λ u. is_some (event_found loads u)) t
+
+abbrev pub awaited_below : Plan → Loads → ℕ → ℕ
+awaited_below plan loads p = count_below (is_found_awaited plan loads) p
+
+-- then come, for each task found waiting, in order, its phase cells on each phaser found awaited, in order: which load finds the phase of task t on p
+abbrev pub phase_load : Plan → Loads → ℕ → ℕ → ℕ
+phase_load plan loads t p = length plan.parents + (waiting_below loads t * awaited_below plan loads (length plan.makers) + awaited_below plan loads p)
+
+-- the phases of task t that were found
+abbrev pub phases_found : Plan → Loads → ℕ → Phases
+phases_found plan loads t p = phase_after t p (slice_get loads (phase_load plan loads t p))
+
+-- how many loads a pass has: one for each task, and one for each task found waiting and each phaser found awaited
+abbrev pub loads_of : Plan → Loads → ℕ
+loads_of plan loads =
+    length plan.parents + waiting_below loads (length plan.parents) * awaited_below plan loads (length plan.makers)
+
+-- the status of task t, if it was found waiting: its event, and its phases that were found
+abbrev pub status_found : Plan → Loads → ℕ → Option Status
+status_found plan loads t =
+    option_map
+    (λ e. record {
+      t = record { 0 = t };
+      event = e;
+      phases = given_below (listed_phase (is_found_awaited plan loads) (phases_found plan loads t)) (length plan.makers);
+    })
+    (event_found loads t)
+
+-- the statuses that a pass finds, in order of number
+abbrev pub statuses_found : Plan → Loads → List Status
+statuses_found plan loads = given_below (status_found plan loads) (length plan.parents)

@@ -1,0 +1,75 @@
+-- Replays: the lines of a schedule act on a plain run and on at most one open pass.
+use Rattle.std.specs.Prelude.{◌≡◌, ℕ, ◌+◌, ◌≤◌, ◌<◌, ◌==◌, List, [], ◌∷◌, ◌++◌, Option, Some, None, length, if◌then◌else◌, IsSome}
+use Rattle.armus_base.specs.Plans.{Plan, Action, action_at}
+use Rattle.armus_base.specs.States.{Step, IsLegal}
+use Rattle.armus_base.specs.Runs.{state_after, places}
+use Rattle.schedule.specs.declared.lines.Line.{Line}
+use Rattle.schedule.specs.declared.lines.Line.TheVariants as line
+use Rattle.schedule.specs.Passes.{Loads, loads_of}
+
+-- how far a schedule has come: the plain run, the last step first; the open pass, if one is; and the closed passes, in order
+pub record Progress : Type 0 where
+  pub run : List Step
+  pub open_pass : Option Loads
+  pub passes : List Loads
+
+-- no line yet
+abbrev pub at_start : Progress
+at_start = record { run = []; open_pass = None; passes = [] }
+
+-- the step by which task t goes on by its code, if it has one
+pub record IsNext (plan : Plan) (h : List Step) (t : ℕ) (x : Action) : Type 0 where
+  pub by_code : action_at plan t (places h t).done ≡ Some x
+  pub legal : IsLegal plan (state_after h) t x
+
+-- one more load of the open pass; its last load closes it
+abbrev pub loaded : Plan → Progress → Loads → Progress
+loaded plan a loads =
+    if length loads == loads_of plan loads then record a { open_pass = None; passes = a.passes ++ loads ∷ [] } else record a { open_pass = Some loads }
+
+-- a line that is at no fault leads from one progress to the next
+abbrev pub Takes : Plan → Progress → Line → Progress → Type 0
+Takes plan a (line.Step t) b = (x : Action) × IsNext plan a.run t x × b ≡ record a { run = record { task = t; action = x } ∷ a.run }
+Takes plan a line.Pass b = a.open_pass ≡ None × b ≡ record a { open_pass = Some [] }
+Takes plan a line.Load b = (loads : Loads) × a.open_pass ≡ Some loads × b ≡ loaded plan a (loads ++ a.run ∷ [])
+Takes plan a line.Unreadable b = ⊥
+
+-- these lines, each at no fault, lead to this progress
+pub data Leads (plan : Plan) : List Line → Progress → Type 0 where
+  no_line : Leads plan [] at_start
+  one_more : (lines : List Line) (a : Progress) (next : Line) (b : Progress) → Leads plan lines a → Takes plan a next b → Leads plan (lines ++ next ∷ []) b
+
+-- the kinds of faults
+abbrev pub no_form : ℕ
+no_form = 1
+
+abbrev pub not_enabled : ℕ
+not_enabled = 2
+
+abbrev pub no_task : ℕ
+no_task = 3
+
+abbrev pub no_open_pass : ℕ
+no_open_pass = 4
+
+abbrev pub pass_is_open : ℕ
+pass_is_open = 5
+
+-- a line is at fault of this kind: it has no form; there is no such task; that task is not enabled; no pass is open; one is open already
+pub data IsFault (plan : Plan) (a : Progress) : Line → ℕ → Type 0 where
+  unreadable : IsFault plan a line.Unreadable no_form
+  strange_task : (t : ℕ) → length plan.parents ≤ t → IsFault plan a (line.Step t) no_task
+  stuck_task : (t : ℕ) → t < length plan.parents → ((x : Action) → IsNext plan a.run t x → ⊥) → IsFault plan a (line.Step t) not_enabled
+  load_without_pass : a.open_pass ≡ None → IsFault plan a line.Load no_open_pass
+  second_pass : IsSome a.open_pass → IsFault plan a line.Pass pass_is_open
+
+-- the first line at fault: its number, from 1, and its kind
+pub record IsFirstFault (plan : Plan) (lines : List Line) (number kind : ℕ) : Type 0 where
+  pub before : List Line
+  pub here : Line
+  pub rest : List Line
+  pub parts : lines ≡ before ++ here ∷ rest
+  pub progress : Progress
+  pub leads : Leads plan before progress
+  pub fault : IsFault plan progress here kind
+  pub counted : number ≡ length before + 1
