@@ -1,5 +1,5 @@
 pub mod Numbers
 pub mod Cuts
-pub mod Given
+pub mod Counts
 pub mod Moments
 pub mod PassesNameTheDead

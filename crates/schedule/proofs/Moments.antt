@@ -1,7 +1,6 @@
 -- The runs at the loads of a pass: each is legal, and no later one stands at earlier places.
-use Rattle.std.proofs.Common.{◌≡◌, ◌<◌, ◌≤◌, ◌+◌, ℕ, zero, suc, List, [], ◌∷◌, ◌++◌, Option, Some, None, length, arith, sym, subst, ap, inl, inr, refl, ◌∙◌, ◌⊎◌}
+use Rattle.std.proofs.Common.{◌≡◌, ◌<◌, ◌≤◌, ℕ, zero, suc, List, [], ◌∷◌, ◌++◌, Some, length, arith, sym, subst, inl, inr, refl, ◌⊎◌}
 use Rattle.std.specs.Prelude.{slice_get}
-use Rattle.std.proofs.lemmas.Option.{slice_get_within}
 use Rattle.armus_base.specs.Plans.{Plan}
 use Rattle.armus_base.specs.States.{Step}
 use Rattle.armus_base.specs.Runs.{ArePrefixes, IsLegalRun, places}

@@ -1,13 +1,13 @@
 -- Passes: a collect of loads, each made in a state of its own, and the statuses that they find.
-use Rattle.std.specs.Prelude.{◌≡◌, ℕ, ◌+◌, ◌*◌, Bool, true, false, List, [], ◌∷◌, ◌++◌, Option, Some, None, length, slice_get, is_some, if◌then◌else◌, option_map}
+use Rattle.std.specs.Prelude.{ℕ, ◌+◌, ◌*◌, Bool, List, Option, Some, None, length, slice_get, is_some, if◌then◌else◌}
 use Rattle.std.proofs.Common.{zero, suc}
 use Rattle.armus_base.specs.declared.event.Event.{Event}
 use Rattle.armus_base.specs.declared.status.Status.{Status}
 use Rattle.armus_base.specs.Plans.{Plan}
-use Rattle.armus_base.specs.States.{Step, Phases}
+use Rattle.armus_base.specs.States.{State, Step, Phases, opening}
 use Rattle.armus_base.specs.Places.{some_before}
 use Rattle.armus_base.specs.Runs.{state_after}
-use Rattle.armus_base.specs.Finals.{given_below, listed_phase, is_event_of}
+use Rattle.armus_base.specs.Finals.{is_event_of, statuses_on}
 
 -- a pass: for each of its loads, in order, the run that was made when it was loaded
 abbrev pub Loads : Type 0
@@ -56,17 +56,10 @@ abbrev pub loads_of : Plan → Loads → ℕ
 loads_of plan loads =
     length plan.parents + waiting_below loads (length plan.parents) * awaited_below plan loads (length plan.makers)
 
--- the status of task t, if it was found waiting: its event, and its phases that were found
-abbrev pub status_found : Plan → Loads → ℕ → Option Status
-status_found plan loads t =
-    option_map
-    (λ e. record {
-      t = record { 0 = t };
-      event = e;
-      phases = given_below (listed_phase (is_found_awaited plan loads) (phases_found plan loads t)) (length plan.makers);
-    })
-    (event_found loads t)
+-- what a pass has found of different moments, as if it were one state
+abbrev pub state_found : Plan → Loads → State
+state_found plan loads = record opening { published = event_found loads; phases = phases_found plan loads }
 
--- the statuses that a pass finds, in order of number
+-- the statuses that a pass finds, in order of number: the event of each task found waiting, and its phases on the phasers found awaited
 abbrev pub statuses_found : Plan → Loads → List Status
-statuses_found plan loads = given_below (status_found plan loads) (length plan.parents)
+statuses_found plan loads = statuses_on plan (state_found plan loads) (is_found_awaited plan loads)
