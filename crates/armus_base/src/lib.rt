@@ -37,3 +37,6 @@ pub use read::read_all;
 pub use standard::{StdSink, StdSource};
 pub use status::{Dead, Member, Status};
 pub use write::write_text;
+
+#[cfg(test)]
+mod outside_tests;

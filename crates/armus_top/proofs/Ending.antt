@@ -1,0 +1,115 @@
+-- From what `finish` leaves to what the call leaves.
+use Rattle.std.proofs.Common.{◌≡◌, ◌≤◌, ◌⊎◌, ◌∙◌, ◌++◌, Bool, true, false, List, [], ℕ, length, inl, inr, refl, ap, sym, subst, arith, append-nil, length-append}
+use Rattle.std.specs.Prelude.{Option, Some, None, ◌≢◌}
+use Rattle.std.specs.Io.KnownBytes.{Appends, Consumes, IsAtEnd}
+use Rattle.std.proofs.KnownBytes.{Appends-trans}
+use Rattle.armus_base.specs.ReadAll.{TookFront}
+use Rattle.armus_base.proofs.Fronts.{front_after}
+use Rattle.armus_base.specs.Causes.{Rose, counted}
+use Rattle.armus_top.specs.Commands.{limit_of, length_line, IsAnswered, IsRefused}
+use Rattle.armus_top.specs.Texts.{Text}
+use Rattle.armus_top.specs.Writing.{Finished}
+use Rattle.armus_top.specs.Headline.{Passage, Answers, Completes, Ends, GaveTooMuch, IsAccepted, HasFailed, HasInput, IsCalm, IsSound, Offers, OffersTooMuch, Permits, whole, read_fault, write_fault, no_memory}
+use Rattle.armus_top.specs.declared.words.Command.{Command}
+use Rattle.armus_top.specs.declared.words.Command.TheVariants.{Run}
+
+only : {d e : Command} → Some d ≡ Some e → d ≡ e
+only h = cc
+
+pub by_finish : (c : Option Command) (src out : Passage) (text : Text) (status number : ℕ)
+    → Finished out text status number → Permits c src status text → IsSound src → Ends c src out number
+by_finish c src out text status number (inl (same, took, sound)) permits still =
+    whole text (subst (λ n. Permits c src n text) (sym same) permits) took still sound
+by_finish c src out text status number (inr (five, failed, front)) permits still = write_fault five still failed (status, text, permits, front)
+
+-- a first piece was taken whole before `finish`
+pub by_pieces : (out mid : Passage) (first text : Text) (status number : ℕ)
+    → mid.faults_before ≡ out.faults_before → mid.faults_after ≡ out.faults_after → mid.after ≡ out.after
+    → Appends out.before mid.before first → Finished mid text status number → Finished out (first ++ text) status number
+by_pieces out mid first text status number faults faults_after same took (inl (is, rest, sound)) =
+    inl (is, subst (λ b. Appends out.before b (first ++ text)) same (Appends-trans out.before mid.before mid.after first text took rest), cc)
+by_pieces out mid first text status number faults faults_after same took (inr (five, failed, rest)) =
+    inr (five, sym faults_after ∙ failed ∙ ap counted faults, subst (λ b. TookFront out.before b (first ++ text)) same (front_after out.before mid.before mid.after first text took rest))
+
+-- an input is not both refused and answered
+never_both : (c : Command) (input text other : Text) (status : ℕ) → IsRefused c input text → IsAnswered c input status other → ⊥
+never_both Run input text other status refused answered = refused.0 answered.0
+
+answered_small : (c : Command) (input text : Text) (status : ℕ) → IsAnswered c input status text → status ≤ 1
+answered_small Run input text status answered = omega (arith, answered.1)
+
+known_whole : (a : Option Text) (b : Option Text) (xs input : Text) → a ≡ Some xs → Consumes a b input → IsAtEnd b → xs ≡ input
+known_whole None b xs input e p q = absurd (cc)
+known_whole (Some ys) None xs input e p q = absurd p
+known_whole (Some ys) (Some zs) xs input e p q =
+    let same : xs ≡ ys = cc in
+    same ∙ p ∙ ap (λ t. input ++ t) q ∙ append-nil input
+
+known_front : (a : Option Text) (b : Option Text) (xs front : Text) → a ≡ Some xs → Consumes a b front → length front ≤ length xs
+known_front None b xs front e p = absurd (cc)
+known_front (Some ys) None xs front e p = absurd p
+known_front (Some ys) (Some zs) xs front e p =
+    let same : xs ≡ ys = cc in
+    let joined : xs ≡ front ++ zs = same ∙ p in
+    rw joined (simp length-append (omega arith))
+
+same_input : (l : Option ℕ) (src : Passage) (input read : Text) → Offers l src input → HasInput l src read → input ≡ read
+same_input (Some limit) src input read offers has = known_whole src.before src.after input read offers.0 has.0 has.1
+same_input None src input read offers has = offers ∙ sym has
+
+not_more : (l : Option ℕ) (src : Passage) (input : Text) → Offers l src input → GaveTooMuch l src → ⊥
+not_more (Some limit) src input offers (front, gave, much) =
+    let more = known_front src.before src.after input front offers.0 gave in omega (arith, more, much, offers.1)
+not_more None src input offers much = much
+
+not_long : (l : Option ℕ) (src : Passage) (read : Text) → OffersTooMuch l src → HasInput l src read → ⊥
+not_long (Some limit) src read (bytes, known, more) has =
+    let same : bytes ≡ read = known_whole src.before src.after bytes read known has.0 has.1 in
+    omega (arith, ap length same, more, has.2)
+not_long None src read more has = more
+
+module _ (src : Passage) where
+  -- what the words and the source permit has the status that the words and the input fix
+  fixed : (c : Option Command) (number : ℕ) (text : Text) → Permits c src number text → Completes c src number
+  fixed None number text permits = record {
+    usage = λ _. permits.0;
+    accepted = λ command input is offers fine. absurd (cc);
+    refused = λ command input line is offers refused. absurd (cc);
+    long = λ command is more. absurd (cc);
+  }
+  fixed (Some d) number text (inl (read, has, inl answered)) = record {
+    usage = λ none. absurd (cc);
+    accepted = λ command input is offers fine. answered_small d read text number answered;
+    refused = λ command input line is offers refused.
+        let offers_too : Offers (limit_of d) src input = subst (λ x. Offers (limit_of x) src input) (sym (only is)) offers in
+        let refused_too : IsRefused d input line = subst (λ x. IsRefused x input line) (sym (only is)) refused in
+        let whole : input ≡ read = same_input (limit_of d) src input read offers_too has in
+        absurd (never_both d read line text number (subst (λ x. IsRefused d x line) whole refused_too) answered);
+    long = λ command is more. absurd (not_long (limit_of d) src read (subst (λ x. OffersTooMuch (limit_of x) src) (sym (only is)) more) has);
+  }
+  fixed (Some d) number text (inl (read, has, inr (three, refused))) = record {
+    usage = λ none. absurd (cc);
+    accepted = λ command input is offers fine.
+        let offers_too : Offers (limit_of d) src input = subst (λ x. Offers (limit_of x) src input) (sym (only is)) offers in
+        let fine_too : IsAccepted d input = subst (λ x. IsAccepted x input) (sym (only is)) fine in
+        let whole : input ≡ read = same_input (limit_of d) src input read offers_too has in
+        absurd (fine_too text (subst (λ x. IsRefused d x text) (sym whole) refused));
+    refused = λ command input line is offers other. three;
+    long = λ command is more. three;
+  }
+  fixed (Some d) number text (inr (much, three, line)) = record {
+    usage = λ none. absurd (cc);
+    accepted = λ command input is offers fine.
+        absurd (not_more (limit_of d) src input (subst (λ x. Offers (limit_of x) src input) (sym (only is)) offers) much);
+    refused = λ command input line is offers other. three;
+    long = λ command is more. three;
+  }
+
+rose_from : (before now : ℕ) → now ≡ counted before → Rose before now
+rose_from before now e = omega arith
+
+pub completes : (c : Option Command) (src out : Passage) (number : ℕ) → Ends c src out number → IsCalm src out number → Completes c src number
+completes c src out number (whole text permits took still sound) calm = fixed src c number text permits
+completes c src out number (read_fault four does failed sound kept) calm = absurd (calm.source (rose_from src.faults_before src.faults_after failed))
+completes c src out number (write_fault five still failed part) calm = absurd (calm.sink (rose_from out.faults_before out.faults_after failed))
+completes c src out number (no_memory six still sound part) calm = absurd (calm.memory six)

@@ -1,0 +1,107 @@
+-- What a call of the program leaves. The headline is `Serves`: what the words mean, and how the call may end.
+-- After it stands completeness: where nothing failed, the words and the input alone fix the status.
+use Rattle.std.specs.Prelude.{◌≡◌, ◌≢◌, ◌≤◌, ◌<◌, ◌⊎◌, ℕ, ◌+◌, Bool, true, false, List, [], length, Option, Some, None, is_some}
+use Rattle.std.specs.Io.KnownBytes.{Consumes, Appends, Keeps, IsAtEnd}
+use Rattle.armus_base.specs.Causes.{Rose, counted}
+use Rattle.armus_base.specs.ReadAll.{ReadFront, TookFront}
+use Rattle.armus_top.specs.Texts.{Text, usage_line}
+use Rattle.armus_top.specs.Words.{Means}
+use Rattle.armus_top.specs.Commands.{limit_of, length_line, IsRefused, IsAnswered}
+use Rattle.armus_top.specs.declared.words.Command.{Command}
+
+-- a source or a sink at the beginning and at the end of a call: the bytes left or taken, where it tells them, and its faults
+pub record Passage : Type 0 where
+  pub before : Option Text
+  pub after : Option Text
+  pub faults_before : ℕ
+  pub faults_after : ℕ
+
+-- the passage of an object of the outside, by its two meanings
+abbrev pub passage : {D : Type 0} → (D → Option Text) → (D → ℕ) → D → D → Passage
+passage bytes faults old new = record {
+  before = bytes old;
+  after = bytes new;
+  faults_before = faults old;
+  faults_after = faults new;
+}
+
+-- no fault was counted
+abbrev pub IsSound : Passage → Type 0
+IsSound d = d.faults_after ≡ d.faults_before
+
+-- one fault was counted
+abbrev pub HasFailed : Passage → Type 0
+HasFailed d = d.faults_after ≡ counted d.faults_before
+
+-- the input of a command: all that the source gave up to its end, not too long; or nothing, where the command does not read
+abbrev pub HasInput : Option ℕ → Passage → Text → Type 0
+HasInput (Some limit) src input = Consumes src.before src.after input × IsAtEnd src.after × (length input ≤ limit)
+HasInput None src input = input ≡ []
+
+-- the source gave one byte more than an input may have
+abbrev pub GaveTooMuch : Option ℕ → Passage → Type 0
+GaveTooMuch (Some limit) src = ReadFront src.before src.after (λ bytes. length bytes ≡ limit + 1)
+GaveTooMuch None src = ⊥
+
+-- a whole output for this input: 0 or 1 with an answer, or 3 with the line of a refusal
+abbrev pub Answers : Command → Text → ℕ → Text → Type 0
+Answers c input status text = IsAnswered c input status text ⊎ ((status ≡ 3) × IsRefused c input text)
+
+-- the whole outputs that the meaning of the words and the source permit, with their status
+abbrev pub Permits : Option Command → Passage → ℕ → Text → Type 0
+Permits None src status text = (status ≡ 2) × (text ≡ usage_line)
+Permits (Some c) src status text = ((input : Text) × HasInput (limit_of c) src input × Answers c input status text)
+    ⊎ (GaveTooMuch (limit_of c) src × (status ≡ 3) × (text ≡ length_line c))
+
+-- the words mean a command that reads its input
+abbrev pub reads_input : Option Command → Bool
+reads_input None = false
+reads_input (Some c) = is_some (limit_of c)
+
+-- the whole text was taken
+abbrev pub Took : Passage → Text → Type 0
+Took out text = Appends out.before out.after text
+
+-- some first bytes of a permitted output were taken
+abbrev pub TookPart : Option Command → Passage → Passage → Type 0
+TookPart c src out = (status : ℕ) × (text : Text) × Permits c src status text × TookFront out.before out.after text
+
+-- how a call may end, and with which number
+pub data Ends (c : Option Command) (src out : Passage) (number : ℕ) : Type 0 where
+  whole : (text : Text) → Permits c src number text → Took out text → IsSound src → IsSound out → Ends c src out number
+  read_fault : number ≡ 4 → reads_input c ≡ true → HasFailed src → IsSound out → Keeps out.before out.after → Ends c src out number
+  write_fault : number ≡ 5 → IsSound src → HasFailed out → TookPart c src out → Ends c src out number
+  no_memory : number ≡ 6 → IsSound src → IsSound out → Keeps out.before out.after ⊎ TookPart c src out → Ends c src out number
+
+-- the headline: the words mean one command or none, and the call ends as that one may
+pub record Serves (words : List Text) (src out : Passage) (number : ℕ) : Type 0 where
+  pub meaning : Option Command
+  pub means : Means words meaning
+  pub ends : Ends meaning src out number
+
+-- the source tells its bytes and has this input for the command
+abbrev pub Offers : Option ℕ → Passage → Text → Type 0
+Offers (Some limit) src input = (src.before ≡ Some input) × (length input ≤ limit)
+Offers None src input = input ≡ []
+
+-- the source tells its bytes and has more than an input may have
+abbrev pub OffersTooMuch : Option ℕ → Passage → Type 0
+OffersTooMuch (Some limit) src = (bytes : Text) × (src.before ≡ Some bytes) × (limit < length bytes)
+OffersTooMuch None src = ⊥
+
+-- no case of a refusal holds of the input
+abbrev pub IsAccepted : Command → Text → Type 0
+IsAccepted c input = (text : Text) → IsRefused c input text → ⊥
+
+-- neither count of faults rose, and memory sufficed
+pub record IsCalm (src out : Passage) (number : ℕ) : Type 0 where
+  pub source : Rose src.faults_before src.faults_after → ⊥
+  pub sink : Rose out.faults_before out.faults_after → ⊥
+  pub memory : number ≢ 6
+
+-- completeness: 2 for no command, 0 or 1 for an accepted input, and 3 for a refused or a too long one
+pub record Completes (c : Option Command) (src : Passage) (number : ℕ) : Type 0 where
+  pub usage : c ≡ None → number ≡ 2
+  pub accepted : (command : Command) (input : Text) → c ≡ Some command → Offers (limit_of command) src input → IsAccepted command input → number ≤ 1
+  pub refused : (command : Command) (input text : Text) → c ≡ Some command → Offers (limit_of command) src input → IsRefused command input text → number ≡ 3
+  pub long : (command : Command) → c ≡ Some command → OffersTooMuch (limit_of command) src → number ≡ 3

@@ -1,0 +1,79 @@
+// The top call.
+ghost use Rattle.std.specs.Prelude.{◌≡◌, Option, false, map, string_bytes};
+ghost use Rattle.armus_top.specs.Words.{Means};
+ghost use Rattle.armus_top.specs.Headline.{Completes, Ends, IsCalm, Serves, reads_input, passage};
+ghost use Rattle.armus_top.specs.Status.{code_of};
+ghost use Rattle.armus_top.specs.declared.words.Command.{Command};
+
+use crate::run::run;
+use crate::status::Status;
+use crate::words::{Command, command_in};
+use crate::writing::finish;
+use armus_base::{Gate, Sink, Source};
+use std::alloc::Global;
+use std::sync::Wait;
+use std::thread::Threads;
+
+const USAGE: &str = "usage: armus check|run|avoid|record|replay|gen\n";
+
+// Every arm returns by itself, so that each command is a goal of its own.
+fn serve<S: Source, K: Sink>(
+    alloc: Global,
+    meaning: Option<Command>,
+    src: &mut S,
+    out: &mut K,
+) -> Status
+    ensures ends { Ends meaning (passage S.left S.faults src.old src.new) (passage K.taken K.faults out.old out.new) (code_of result) }
+    ensures unread { reads_input meaning ≡ false → src.new ≡ src.old }
+    ensures silent { code_of result ≡ 4 → out.new ≡ out.old }
+{
+    match meaning {
+        Some(Command::Run) => run(alloc, src, out),
+        None => finish(out, USAGE.as_bytes(), Status::Usage),
+    }
+}
+
+/// The program for every command that waits for no thread.
+///
+/// It reads its input from `src` where the words are a command that reads, writes its output to `out`, and
+/// answers the status: 0 where no task is dead or refused, 1 where one is, 2 where the words are no command,
+/// 3 where the input is refused, 4 and 5 where the source or the sink failed, 6 for want of memory.
+pub fn armus_plain<R: Threads + Sync, S: Source, K: Sink, G: Gate>(
+    _rt: &R,
+    alloc: Global,
+    words: &[String],
+    src: &mut S,
+    out: &mut K,
+    _gate: &G,
+) -> u8
+    ensures serves { Serves (map string_bytes words.now)
+        (passage S.left S.faults src.old src.new) (passage K.taken K.faults out.old out.new) result }
+    ensures complete { (c : Option Command) → Means (map string_bytes words.now) c
+        → IsCalm (passage S.left S.faults src.old src.new) (passage K.taken K.faults out.old out.new) result
+        → Completes c (passage S.left S.faults src.old src.new) result }
+    ensures unread { (c : Option Command) → Means (map string_bytes words.now) c → reads_input c ≡ false → src.new ≡ src.old }
+    ensures silent { result ≡ 4 → out.new ≡ out.old }
+{
+    let meaning = command_in(words);
+    serve(alloc, meaning, src, out).code()
+}
+
+/// The program, as `armus_plain` says.
+pub fn armus<R: Threads + Wait + Sync, S: Source, K: Sink, G: Gate>(
+    rt: &R,
+    alloc: Global,
+    words: &[String],
+    src: &mut S,
+    out: &mut K,
+    gate: &G,
+) -> u8
+    ensures serves { Serves (map string_bytes words.now)
+        (passage S.left S.faults src.old src.new) (passage K.taken K.faults out.old out.new) result }
+    ensures complete { (c : Option Command) → Means (map string_bytes words.now) c
+        → IsCalm (passage S.left S.faults src.old src.new) (passage K.taken K.faults out.old out.new) result
+        → Completes c (passage S.left S.faults src.old src.new) result }
+    ensures unread { (c : Option Command) → Means (map string_bytes words.now) c → reads_input c ≡ false → src.new ≡ src.old }
+    ensures silent { result ≡ 4 → out.new ≡ out.old }
+{
+    armus_plain(rt, alloc, words, src, out, gate)
+}
