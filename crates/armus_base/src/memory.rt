@@ -52,6 +52,7 @@ impl Model for MemSource {
 }
 
 impl MemSource {
+    /// A source of these bytes, at most `cut` of them in a call, that fails at the calls listed in `fails`.
     pub fn new(bytes: List<u8>, cut: usize, fails: List<u64>) -> MemSource
         requires cut { 1 ≤ cut }
         ensures fresh { result ≡ record { left = bytes; cut = cut; fails = fails; calls = 0; faults = 0 } }
@@ -107,6 +108,7 @@ impl Model for SafeSource {
 }
 
 impl SafeSource {
+    /// A source of these bytes.
     pub fn new(bytes: List<u8>) -> SafeSource
         ensures fresh { result ≡ bytes }
     {
@@ -177,6 +179,7 @@ impl MemSink {
         })
     }
 
+    /// What it has taken.
     pub fn taken(&self) -> &[u8]
         ensures taken { result.now ≡ self.now.taken }
     {

@@ -1,15 +1,15 @@
 -- From what `finish` leaves to what the call leaves.
-use Rattle.std.proofs.Common.{◌≡◌, ◌≤◌, ◌⊎◌, ◌∙◌, ◌++◌, Bool, true, false, List, [], ℕ, length, inl, inr, refl, ap, sym, subst, arith, append-nil, length-append}
-use Rattle.std.specs.Prelude.{Option, Some, None, ◌≢◌}
+use Rattle.std.proofs.Common.{◌≡◌, ◌≤◌, ◌∙◌, ◌++◌, ℕ, length, inl, inr, ap, sym, subst, arith, append-nil, length-append}
+use Rattle.std.specs.Prelude.{Option, Some, None}
 use Rattle.std.specs.Io.KnownBytes.{Appends, Consumes, IsAtEnd}
 use Rattle.std.proofs.KnownBytes.{Appends-trans}
 use Rattle.armus_base.specs.ReadAll.{TookFront}
 use Rattle.armus_base.proofs.Fronts.{front_after}
 use Rattle.armus_base.specs.Causes.{Rose, counted}
-use Rattle.armus_top.specs.Commands.{limit_of, length_line, IsAnswered, IsRefused}
+use Rattle.armus_top.specs.Commands.{limit_of, IsAnswered, IsRefused}
 use Rattle.armus_top.specs.Texts.{Text}
 use Rattle.armus_top.specs.Writing.{Finished}
-use Rattle.armus_top.specs.Headline.{Passage, Answers, Completes, Ends, GaveTooMuch, IsAccepted, HasFailed, HasInput, IsCalm, IsSound, Offers, OffersTooMuch, Permits, whole, read_fault, write_fault, no_memory}
+use Rattle.armus_top.specs.Headline.{Passage, Completes, Ends, GaveTooMuch, IsAccepted, HasInput, IsCalm, IsSound, Offers, OffersTooMuch, Permits, whole, read_fault, write_fault, no_memory}
 use Rattle.armus_top.specs.declared.words.Command.{Command}
 use Rattle.armus_top.specs.declared.words.Command.TheVariants.{Run}
 

@@ -1,6 +1,6 @@
 -- The table of commands: how long an input may be, which inputs are refused and with which line, and what is answered.
 -- A command joins by a case of each definition; the headline does not change.
-use Rattle.std.specs.Prelude.{◌≡◌, ◌≢◌, ℕ, List, [], Option, Some}
+use Rattle.std.specs.Prelude.{◌≡◌, ◌≢◌, ℕ, [], Option, Some}
 use Rattle.armus_top.specs.Texts.{Text, unbuilt_line, empty_report}
 use Rattle.armus_top.specs.declared.run.TheConstants.{TEXT_LIMIT}
 use Rattle.armus_top.specs.declared.words.Command.{Command}

@@ -2,7 +2,7 @@ use Rattle.std.proofs.Common.{◌≡◌, sym, subst, false}
 use Rattle.std.specs.Prelude.{Option}
 use Rattle.armus_top.proofs.Ending.{completes}
 use Rattle.armus_top.proofs.Meaning.{one_meaning}
-use Rattle.armus_top.specs.Headline.{Completes, Ends, Passage, passage, reads_input}
+use Rattle.armus_top.specs.Headline.{Completes, Passage, reads_input}
 use Rattle.armus_top.specs.declared.words.Command.{Command}
 use Rattle.armus_top.proofs.top.armus_plain.Goals as goal
 

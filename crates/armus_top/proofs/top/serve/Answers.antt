@@ -1,4 +1,4 @@
-use Rattle.std.proofs.Common.{◌≡◌, ap, refl, sym}
+use Rattle.std.proofs.Common.{◌≡◌, refl}
 use Rattle.std.specs.Prelude.{None, Some}
 use Rattle.armus_top.proofs.Ending.{by_finish}
 use Rattle.armus_top.specs.declared.words.Command.{Command}

@@ -1,5 +1,4 @@
-use Rattle.std.proofs.Common.{map, string_bytes, ◌≡◌, ◌∙◌, ℕ, ◌<◌, ◌≤◌, length, List, [], ◌∷◌, get_or, ap, sym, arith, codes}
-use Rattle.std.specs.Str.{bytes_eq}
+use Rattle.std.proofs.Common.{map, string_bytes, ◌≡◌, ◌∙◌, ◌<◌, ◌≤◌, length, List, [], ◌∷◌, get_or, ap, sym, arith, codes}
 use Rattle.std.proofs.lemmas.Slice.Eq.{bytes_eq-Decides}
 use Rattle.armus_top.proofs.words.command_in.Goals as goal
 
