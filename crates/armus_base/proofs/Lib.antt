@@ -46,3 +46,8 @@ pub mod Below
 pub mod StatusesAre
 pub mod DeadByStatuses
 pub mod EndsTell
+pub mod ForkedTasks
+pub mod SerialFinalIsAvoided
+pub mod RunTests
+pub mod DeadTests
+pub mod WorkedTexts

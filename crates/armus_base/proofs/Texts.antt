@@ -1,46 +1,12 @@
--- The two tasks, computed.
+-- The plan of the two tasks is a checked plan.
 use Rattle.std.proofs.Common.{◌≡◌, ℕ, zero, suc, ◌<◌, ◌≤◌, Option, Some, None, arith, refl, subst}
 use Rattle.armus_base.specs.declared.ids.TaskId.{TaskId}
 use Rattle.armus_base.specs.Plans.{Action, Forks, Makes, Registers, action_at, actions, maker_of, parent_of}
-use Rattle.armus_base.specs.States.{event_at}
-use Rattle.armus_base.specs.Runs.{IsPlainRun, state_after}
-use Rattle.armus_base.specs.Places.{first_phases, forked_at, made_at, phases_after, phases_at, registered_by}
+use Rattle.armus_base.specs.Places.{first_phases, phases_after}
 use Rattle.armus_base.specs.CheckedPlans.{HasFork, IsCheckedPlan, IsWellFormed, NotBefore}
-use Rattle.armus_base.specs.Deadlocks.{IsAtPhase, IsDeadIn, IsImpededWithin, IsPublishedOn}
-use Rattle.armus_base.specs.Texts.{TwoTasksEnd, to_the_end, two_tasks}
-use Rattle.armus_base.specs.Averaging.{AveragingEnds}
-use Rattle.std.specs.Prelude.{nat_lt, slice_get}
-use Rattle.std.proofs.lemmas.Bool.{lt-ltb, ltb-true}
+use Rattle.armus_base.specs.Texts.{two_tasks}
+use Rattle.std.specs.Prelude.{slice_get}
 
-pub two_tasks_end : TwoTasksEnd
-unfolding parent_of maker_of actions action_at first_phases phases_after registered_by phases_at forked_at made_at
-two_tasks_end = record { first_waits = refl; second_waits = refl; first_behind = refl; second_behind = refl; counted = refl; same_first = refl; same_second = refl }
-
-pub is_run : IsPlainRun two_tasks to_the_end
-unfolding parent_of maker_of actions action_at
-is_run = ((((((((((tt, record { legal = (record { forked = refl; unpublished = refl; unrefused = refl }, (record { 0 = 0 }, refl, refl), refl); by_code = refl }), record { legal = (record { forked = refl; unpublished = refl; unrefused = refl }, (record { 0 = 0 }, refl, refl), refl); by_code = refl }), record { legal = (record { forked = refl; unpublished = refl; unrefused = refl }, (record { 0 = 0 }, refl, refl), refl, (0, refl), refl); by_code = refl }), record { legal = (record { forked = refl; unpublished = refl; unrefused = refl }, (record { 0 = 0 }, refl, refl), refl, (0, refl), refl); by_code = refl }), record { legal = (record { forked = refl; unpublished = refl; unrefused = refl }, (record { 0 = 0 }, refl, refl), refl); by_code = refl }), record { legal = (record { forked = refl; unpublished = refl; unrefused = refl }, (0, refl)); by_code = refl }), record { legal = (record { forked = refl; unpublished = refl; unrefused = refl }, (1, refl)); by_code = refl }), record { legal = (record { forked = refl; unpublished = refl; unrefused = refl }, (0, refl)); by_code = refl }), record { legal = (record { forked = refl; unpublished = refl; unrefused = refl }, (1, refl)); by_code = refl }), (((((((((tt, λ p e. absurd (cc)), λ p e. absurd (cc)), λ p e. absurd (cc)), λ p e. absurd (cc)), λ p e. absurd (cc)), λ p e. absurd (cc)), λ p e. absurd (cc)), λ p e. absurd (cc)), λ p e. absurd (cc)))
-
--- both are dead there
-pub both_dead : (t : ℕ) → t < 2 → IsDeadIn (state_after to_the_end) t
-both_dead t l =
-    record {
-      tasks = λ u. nat_lt u 2;
-      inside = lt-ltb t 2 l;
-      deadlocked = record { some = (t, lt-ltb t 2 l); each = λ u inside. held u (ltb-true u 2 inside) };
-    }
-  where
-    held : (u : ℕ) → u < 2 → IsImpededWithin (IsPublishedOn (state_after to_the_end)) (IsAtPhase (state_after to_the_end)) (λ w. nat_lt w 2) u
-    held zero l = record { event = (event_at 0 1); waits = refl; by = 1; inside = refl; phase = 0; impedes = refl; below = omega arith }
-    held (suc zero) l = record { event = (event_at 1 1); waits = refl; by = 0; inside = refl; phase = 0; impedes = refl; below = omega arith }
-    held (suc (suc u)) l = absurd (omega arith)
-
--- averaging, computed
-pub averaging_ends : AveragingEnds
-unfolding parent_of maker_of actions action_at first_phases phases_after registered_by phases_at forked_at made_at
-averaging_ends =
-    record { parent = refl; first = refl; last = refl; parent_behind = refl; worker_behind = refl; by_places = refl }
-
--- the plan of the two tasks is a checked plan
 make_first : NotBefore two_tasks 0 0 (Makes 0)
 unfolding parent_of maker_of actions action_at
 make_first j l e = absurd (omega arith)

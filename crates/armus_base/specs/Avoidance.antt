@@ -3,7 +3,7 @@ use Rattle.std.specs.Prelude.{◌≡◌, ℕ, List, [], ◌∷◌, Some}
 use Rattle.armus_base.specs.declared.event.Event.{Event}
 use Rattle.armus_base.specs.Plans.{Plan, Action, Blocks, Refuses}
 use Rattle.armus_base.specs.States.{State, Step, after, awaited}
-use Rattle.armus_base.specs.Runs.{state_after, IsNextStep}
+use Rattle.armus_base.specs.Runs.{state_after, IsNextStep, IsMaximal}
 use Rattle.armus_base.specs.Deadlocks.{NobodyDead, WouldBeDead}
 
 -- nobody is dead after task t has published its await of p
@@ -16,7 +16,15 @@ Avoids s t (Blocks p) = LeavesNobodyDead s t p
 Avoids s t (Refuses p) = (e : Event) × awaited (Some (Blocks p)) (s.phases t) ≡ Some e × WouldBeDead s t e
 Avoids s t x = Unit {0}
 
--- an avoided run
+-- an avoided run: each step is legal after those before it and next by its task's code, each block leaves nobody dead, and each refusal is of a task that
+-- would be dead
 abbrev pub IsAvoidedRun : Plan → List Step → Type 0
 IsAvoidedRun plan [] = Unit {0}
 IsAvoidedRun plan (e ∷ h) = IsAvoidedRun plan h × IsNextStep plan h e × Avoids (state_after h) e.task e.action
+
+-- a state in which a maximal avoided run ends
+pub record IsAvoidedFinal (plan : Plan) (s : State) : Type 0 where
+  pub steps : List Step
+  pub run : IsAvoidedRun plan steps
+  pub maximal : IsMaximal plan steps
+  pub there : state_after steps ≡ s

@@ -23,7 +23,7 @@ pub mod DecisionLaws
 pub mod PlanLaws
 pub mod FinalLaws
 pub mod Texts
-pub mod Averaging
+pub mod WorkedTexts
 pub mod Causes
 pub mod Outside
 pub mod ReadAll

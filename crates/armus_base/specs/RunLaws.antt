@@ -2,12 +2,12 @@
 use Rattle.std.specs.Prelude.{◌≡◌, ℕ, true, List, ◌++◌, Some}
 use Rattle.armus_base.specs.declared.event.Event.{Event}
 use Rattle.armus_base.specs.Plans.{Plan, Action, action_at}
-use Rattle.armus_base.specs.States.{Step, IsLegal, IsActive, IsReached}
+use Rattle.armus_base.specs.States.{State, Step, IsLegal, IsActive, IsReached}
 use Rattle.armus_base.specs.Runs.{IsLegalRun, IsPlainRun, IsMaximal, state_after, places, ArePrefixes}
 use Rattle.armus_base.specs.Places.{state_at}
 use Rattle.armus_base.specs.CheckedPlans.{IsCheckedPlan}
-use Rattle.armus_base.specs.Avoidance.{IsAvoidedRun}
-use Rattle.armus_base.specs.Serial.{IsSerialAvoidedRun}
+use Rattle.armus_base.specs.Avoidance.{IsAvoidedFinal, IsAvoidedRun}
+use Rattle.armus_base.specs.Serial.{IsSerialAvoidedFinal, IsSerialAvoidedRun}
 
 -- after a legal run of a checked plan, the state is the one that the places fix
 abbrev pub PlacesFixState : Type 0
@@ -50,3 +50,7 @@ OneEnd =
 -- the serial avoided run is an avoided run
 abbrev pub SerialIsAvoided : Type 0
 SerialIsAvoided = (plan : Plan) (h : List Step) → IsCheckedPlan plan → IsSerialAvoidedRun plan h → IsAvoidedRun plan h
+
+-- the end of the serial avoided run is the end of a maximal avoided run
+abbrev pub SerialFinalIsAvoided : Type 0
+SerialFinalIsAvoided = (plan : Plan) (s : State) → IsCheckedPlan plan → IsSerialAvoidedFinal plan s → IsAvoidedFinal plan s

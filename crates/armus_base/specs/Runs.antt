@@ -64,7 +64,7 @@ abbrev pub IsPlain : List Step → Type 0
 IsPlain [] = Unit {0}
 IsPlain (e ∷ h) = IsPlain h × ((p : ℕ) → e.action ≢ Refuses p)
 
--- a plain run
+-- a plain run: a legal run in which nobody is refused
 abbrev pub IsPlainRun : Plan → List Step → Type 0
 IsPlainRun plan h = IsLegalRun plan h × IsPlain h
 

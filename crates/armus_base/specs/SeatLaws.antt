@@ -73,4 +73,4 @@ abbrev pub AwaitLoadKeepsFar : Type 0
 AwaitLoadKeepsFar =
     (avoids : Bool) (plan : Plan) (own : Option ℕ) (a : ℕ → Place) (lock : Option ℕ) (holds : Bool) (t : ℕ) (before now : SeenBy) →
     IsCheckedPlan plan → IsLawful avoids plan a lock → t < length plan.parents → IsExactOf plan own before → IsAsFarOn plan own a before →
-    IsSeenAfterAwait avoids plan holds t (await_word plan t (a t)) before now → IsAsFarOn plan own a now
+    IsSeenAfterAwait avoids plan own holds t (await_word plan t (a t)) before now → IsAsFarOn plan own a now

@@ -129,11 +129,16 @@ pub record ChangesPlace (t : ℕ) (Changes : Place → Place → Type 0) (before
   pub others : (u : ℕ) → u ≢ t → now.places u ≡ before.places u
   pub exact : (u : ℕ) → now.exact u ≡ before.exact u
 
--- a load of the await word of t that answers, by a seat that holds the lock or does not
-pub record IsSeenAfterAwait (avoids : Bool) (plan : Plan) (holds : Bool) (t : ℕ) (answer : Found) (before now : SeenBy) : Type 0 where
+-- task t is not the seat's own
+abbrev pub is_other : Option ℕ → ℕ → Bool
+is_other None t = true
+is_other (Some own) t = if own == t then false else true
+
+-- a load of the await word of t that answers, by a seat that holds the lock or does not; a holder finds of each task but its own what it loads
+pub record IsSeenAfterAwait (avoids : Bool) (plan : Plan) (own : Option ℕ) (holds : Bool) (t : ℕ) (answer : Found) (before now : SeenBy) : Type 0 where
   pub place : ChangesPlace t (IsLongestPrefix avoids plan t (λ b. await_word plan t b ≡ answer)) before now
   pub scanned : now.scanned ≡ before.scanned
-  pub found : (u : ℕ) → now.found u ≡ (if holds && (u == t) then Some answer else before.found u)
+  pub found : (u : ℕ) → now.found u ≡ (if (holds && is_other own t) && (u == t) then Some answer else before.found u)
 
 -- the answer is no phase below that of the event
 abbrev pub is_not_behind : Option ℕ → Event → Bool

@@ -41,6 +41,12 @@ pub data IsSerialAvoidedRun (plan : Plan) : List Step → Type 0 where
 abbrev pub IsSerialAvoidedEnd : Plan → List Step → Type 0
 IsSerialAvoidedEnd plan h = IsSerialAvoidedRun plan h × RoundBelow plan (length plan.parents) h h
 
+-- the state in which the serial avoided run ends
+pub record IsSerialAvoidedFinal (plan : Plan) (s : State) : Type 0 where
+  pub steps : List Step
+  pub ended : IsSerialAvoidedEnd plan steps
+  pub there : state_after steps ≡ s
+
 -- the step that task t makes next by its code
 abbrev pub next_step : ℕ → Option Action → List Step
 next_step t None = []

@@ -1,11 +1,10 @@
--- Two tasks that wait for each other, as a plan, and a maximal run of it.
-use Rattle.std.specs.Prelude.{◌≡◌, ℕ, Bool, false, List, [], ◌∷◌, Option, Some, None}
+-- Two tasks that wait for each other, as a plan, the serial avoided run of it, and what the definitions exclude.
+use Rattle.std.specs.Prelude.{◌≡◌, ℕ, Bool, false, List, [], ◌∷◌, Some, None}
 use Rattle.armus_base.specs.declared.op.Op.TheVariants.{Make, Reg, Fork, Adv, Drop, Await}
 use Rattle.armus_base.specs.Plans.{Plan, Action, Makes, Registers, Forks, Advances, Drops, Blocks, Passes, Refuses}
 use Rattle.armus_base.specs.declared.event.Event.{Event}
-use Rattle.armus_base.specs.States.{State, Step, event_at, IsLegal}
-use Rattle.armus_base.specs.Runs.{state_after, places}
-use Rattle.armus_base.specs.Places.{state_at, phases_at_place}
+use Rattle.armus_base.specs.States.{State, Step, IsLegal}
+use Rattle.armus_base.specs.Places.{phases_at_place}
 use Rattle.armus_base.specs.CheckedPlans.{IsCheckedPlan}
 use Rattle.armus_base.specs.Deadlocks.{IsDeadlockedSet, IsPublishedOn, IsAtPhase}
 use Rattle.armus_base.specs.Boards.{Entry, steps_of, IsBoardRun}
@@ -27,26 +26,6 @@ two_tasks =
 -- a step of task t
 abbrev pub does : ℕ → Action → Step
 does t x = record { task = t; action = x }
-
--- its run, the last step first
-abbrev pub to_the_end : List Step
-to_the_end =
-    does 1 (Blocks 1) ∷ does 1 (Advances 1) ∷ does 0 (Blocks 0) ∷ does 0 (Advances 0) ∷ does 0 (Forks 1) ∷ does 0 (Registers 1 1)
-    ∷ does 0 (Registers 1 0) ∷ does 0 (Makes 1) ∷ does 0 (Makes 0) ∷ []
-
--- published on p@n
-abbrev pub on : ℕ → ℕ → Option Event
-on p n = Some ((event_at p n))
-
--- at its end task 0 waits on a@1 and task 1 on b@1, and the state of these places says the same
-pub record TwoTasksEnd : Type 0 where
-  pub first_waits : (state_after to_the_end).published 0 ≡ on 0 1
-  pub second_waits : (state_after to_the_end).published 1 ≡ on 1 1
-  pub first_behind : (state_after to_the_end).phases 0 1 ≡ Some 0
-  pub second_behind : (state_after to_the_end).phases 1 0 ≡ Some 0
-  pub counted : (places to_the_end 0).done ≡ 7
-  pub same_first : (state_at two_tasks (places to_the_end)).published 0 ≡ on 0 1
-  pub same_second : (state_at two_tasks (places to_the_end)).phases 1 0 ≡ Some 0
 
 -- the steps of task 0 before it blocks
 abbrev pub before_block : List Step

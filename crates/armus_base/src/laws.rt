@@ -15,4 +15,4 @@ pub use places::{lawful_places, reachable_places};
 pub use plans::{phases_fit, plan_grows};
 pub use runs::{next_is_legal, one_end, places_fix_state, reached_stays, serial_is_avoided};
 pub use seats::{least_state, scanned_stays, seen_is_before};
-pub use texts::small_plans;
+pub use texts::{exclusions, worked_avoided_run, worked_texts};

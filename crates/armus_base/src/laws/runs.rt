@@ -1,5 +1,5 @@
 // Laws of runs.
-ghost use Rattle.armus_base.specs.RunLaws.{MaximalExists, NextIsLegal, OneEnd, PlacesFixState, ReachedStays, ReachedStaysInRun, SamePlacesSameState, SerialIsAvoided};
+ghost use Rattle.armus_base.specs.RunLaws.{MaximalExists, NextIsLegal, OneEnd, PlacesFixState, ReachedStays, ReachedStaysInRun, SamePlacesSameState, SerialFinalIsAvoided, SerialIsAvoided};
 
 /// The places fix the state: after each legal run of a checked plan the state is the one that its places fix, and two runs to the same places end in the same state.
 pub fn places_fix_state()
@@ -24,7 +24,8 @@ pub fn one_end()
     ensures same { OneEnd }
 {}
 
-/// The serial avoided run is an avoided run.
+/// The serial avoided run is an avoided run, and where it has ended it is a maximal one.
 pub fn serial_is_avoided()
-    ensures { SerialIsAvoided }
+    ensures run { SerialIsAvoided }
+    ensures end { SerialFinalIsAvoided }
 {}

@@ -1,16 +1,30 @@
-// Small plans, computed by the definitions.
+// Small kernels, worked out by the definitions.
+ghost use Rattle.std.specs.Prelude.{◌≡◌, ◌∷◌, []};
 ghost use Rattle.armus_base.specs.CheckedPlans.{IsCheckedPlan};
-ghost use Rattle.armus_base.specs.Runs.{IsPlainRun};
+ghost use Rattle.armus_base.specs.Finals.{final_of};
+ghost use Rattle.armus_base.specs.Runs.{state_after};
 ghost use Rattle.armus_base.specs.Serial.{IsSerialAvoidedEnd};
-ghost use Rattle.armus_base.specs.Texts.{TwoTasksEnd, two_tasks, to_the_end, all_turns, Excludes};
-ghost use Rattle.armus_base.specs.Averaging.{AveragingEnds};
+ghost use Rattle.armus_base.specs.Texts.{Excludes, all_turns, two_tasks};
+ghost use Rattle.armus_base.specs.WorkedTexts.{EndsIn, averaging, averaging_end, averaging_schedule, behind_a_cycle, behind_a_cycle_end, behind_a_cycle_schedule, ended_member, ended_member_end, ended_member_schedule, three_tasks, three_tasks_end, three_tasks_schedule, two_tasks_avoided, two_tasks_end, two_tasks_schedule, unforked_member, unforked_member_end, unforked_member_schedule};
 
-/// Two tasks that wait for each other, and three workers that average, computed; and what the definitions exclude.
-pub fn small_plans()
-    ensures end { TwoTasksEnd }
-    ensures run { IsPlainRun two_tasks to_the_end }
-    ensures checked { IsCheckedPlan two_tasks }
-    ensures averaging { AveragingEnds }
-    ensures serial { IsSerialAvoidedEnd two_tasks all_turns }
-    ensures excluded { Excludes }
+/// The final states of six small kernels and their dead tasks, by the definitions: workers that average under a barrier that their parent never leaves; two tasks that wait for each other; three that each wait for the two others; a task that waits behind a cycle; one that waits for a member that has ended; and one that waits for a member that is never forked.
+pub fn worked_texts()
+    ensures averaging { EndsIn averaging averaging_schedule averaging_end (0 ∷ 1 ∷ 2 ∷ 3 ∷ []) }
+    ensures two_tasks { EndsIn two_tasks two_tasks_schedule two_tasks_end (0 ∷ 1 ∷ []) }
+    ensures three_tasks { EndsIn three_tasks three_tasks_schedule three_tasks_end (1 ∷ 2 ∷ 3 ∷ []) }
+    ensures behind_a_cycle { EndsIn behind_a_cycle behind_a_cycle_schedule behind_a_cycle_end (0 ∷ 1 ∷ 2 ∷ []) }
+    ensures ended_member { EndsIn ended_member ended_member_schedule ended_member_end [] }
+    ensures unforked_member { EndsIn unforked_member unforked_member_schedule unforked_member_end [] }
+{}
+
+/// The serial avoided run of two tasks that would wait for each other, step by step: the second one's await is refused, and the first is done.
+pub fn worked_avoided_run()
+    ensures plan { IsCheckedPlan two_tasks }
+    ensures run { IsSerialAvoidedEnd two_tasks all_turns }
+    ensures value { final_of two_tasks (state_after all_turns) ≡ two_tasks_avoided }
+{}
+
+/// What the definitions exclude: refusals of tasks that would not be dead, steps with tasks or phasers that the plan does not have, an empty deadlocked set, passes of refused tasks, and plans to which no text unfolds.
+pub fn exclusions()
+    ensures { Excludes }
 {}

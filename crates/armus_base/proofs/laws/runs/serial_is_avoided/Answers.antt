@@ -1,5 +1,6 @@
 use Rattle.armus_base.proofs.laws.runs.serial_is_avoided.Goals as goal
+use Rattle.armus_base.proofs.SerialFinalIsAvoided.{serial_final_is_avoided}
 use Rattle.armus_base.proofs.SerialIsAvoided.{serial_is_avoided}
 
 pub returns : goal.returns
-returns c = serial_is_avoided
+returns c = record { run = serial_is_avoided; end = serial_final_is_avoided }
