@@ -5,6 +5,7 @@ pub mod Runs
 pub mod Places
 pub mod CheckedPlans
 pub mod Deadlocks
+pub mod DeadLists
 pub mod Avoidance
 pub mod Boards
 pub mod Seats

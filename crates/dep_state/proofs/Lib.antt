@@ -1,0 +1,12 @@
+pub mod DeadSets
+pub mod Transfer
+pub mod TaskPlaces
+pub mod EventPlaces
+pub mod DistinctEvents
+pub mod Made
+pub mod ImpederRows
+pub mod PhasePlaces
+pub mod PickedTasks
+pub mod TaskSearch
+pub mod NamedTasks
+pub mod SameDeadLists

@@ -1,0 +1,3 @@
+pub mod Deps
+pub mod Made
+pub mod Picks

@@ -1,0 +1,13 @@
+//! The relations of a list of statuses: which event each task awaits, and which tasks impede each event.
+#![tactic(auto)]
+
+mod dep_state;
+mod events;
+mod impeders;
+mod names;
+mod picks;
+mod search;
+
+pub use dep_state::DepState;
+pub use picks::picked;
+pub use search::task_place;
