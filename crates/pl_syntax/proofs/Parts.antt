@@ -1,5 +1,5 @@
 -- The part of a body from a statement on.
-use Rattle.std.proofs.Common.{◌≡◌, ℕ, ◌+◌, ◌<◌, ◌≤◌, List, length, drop, get_or, sym, ap, ◌∙◌, arith}
+use Rattle.std.proofs.Common.{◌≡◌, ℕ, ◌+◌, ◌<◌, ◌≤◌, List, [], ◌∷◌, ◌++◌, length, drop, get_or, sym, ap, ◌∙◌, arith}
 use Rattle.std.proofs.lemmas.List.{drop_more, drop_all}
 use Rattle.pl_syntax.specs.declared.tree.Stmt.{Stmt}
 use Rattle.pl_syntax.specs.declared.tree.Stmt.TheVariants as s
@@ -23,3 +23,12 @@ counts items i q lt is =
 
 pub nothing : (items : List Stmt) (i : ℕ) → length items ≤ i → count (tree_of (drop i items)) ≡ 0
 nothing items i le = ap (λ (x : List Stmt). count (tree_of x)) (drop_all i items le)
+
+-- one statement more
+pub count_push : (items : List Stmt) (q : Stmt) → count (tree_of (items ++ q ∷ [])) ≡ count (tree_of items) + count (first q done)
+count_push [] q = omega arith
+count_push (s ∷ ss) q =
+    let h = count_push ss q in
+    let a = count_first s (tree_of (ss ++ q ∷ [])) in
+    let b = count_first s (tree_of ss) in
+    omega arith

@@ -8,3 +8,7 @@ pub mod Printed
 pub mod Bodies
 pub mod Falls
 pub mod Seen
+pub mod Reading
+-- What is promised.
+pub mod Parsing
+pub mod Laws

@@ -1,0 +1,204 @@
+-- What tokens are.
+use Rattle.std.proofs.Common.{◌≡◌, ℕ, ◌≤◌, Bool, true, false, cond, List, [], ◌∷◌, length, take, drop, Option, Some, None, Result, Ok, Err, refl, sym, ap, subst, ◌∙◌, arith, nat_le, ◌<◌, ◌+◌, ◌==◌, ◌&&◌, ◌⊎◌, inl, inr}
+use Rattle.std.specs.List.{list_any, prefix_len}
+use Rattle.std.proofs.lemmas.Bool.Decides.{nat_tests}
+use Rattle.std.specs.Prelude.{IfOk}
+use Rattle.std.specs.Borrow.{Bor}
+use Rattle.std.proofs.lemmas.List.{length-drop}
+use Rattle.pl_syntax.specs.declared.limits.TheConstants.{MAX_NAME_BYTES}
+use Rattle.pl_syntax.specs.declared.fault.TheConstants.{NO_TOKEN, NO_NUMBER, TOO_LONG}
+use Rattle.pl_syntax.specs.Reading.{ends_list}
+use Rattle.pl_syntax.specs.declared.token.Token as token
+use Rattle.pl_syntax.specs.declared.token.Token.TheVariants as t
+use Rattle.pl_syntax.specs.declared.fault.SyntaxFault.{SyntaxFault}
+use Rattle.pl_syntax.specs.declared.token.Keyword.{Keyword}
+use Rattle.pl_syntax.specs.declared.token.Sign.{Sign}
+use Rattle.pl_syntax.specs.Words.{IsName, begins_with, keyword_of, has_name_form, number_of, is_digit, is_word_byte}
+use Rattle.pl_syntax.specs.Seen.{front_seen, token_of, HasForm}
+use Rattle.pl_syntax.specs.Tokens.{Token, the_end, sign, word, name, number, front, token_here, after_gap, placed, word_token, letters_token, digits_token, name_token, sign_token, sign_of, after_comment, is_blank}
+
+-- which way a test went
+pub chosen : {A : Type 0} (b : Bool) (x y z : A) → cond b x y ≡ z → ((b ≡ true) × (x ≡ z)) ⊎ ((b ≡ false) × (y ≡ z))
+chosen true x y z e = inl (refl, e)
+chosen false x y z e = inr (refl, e)
+
+abbrev Found : Token → Result Token ℕ
+Found t = Ok t
+
+name_of_form : (w v : List ℕ) → keyword_of w ≡ None → name_token w ≡ Found (name v) → IsName v
+name_of_form w v free e =
+    elim (chosen (has_name_form w) _ _ (Found (name v)) e) [
+      | inr p ↦ absurd (let q : Err NO_TOKEN ≡ Found (name v) = p.1 in cc)
+      | inl p ↦ elim (chosen (nat_le (length w) MAX_NAME_BYTES) _ _ (Found (name v)) p.1) [
+        | inr q ↦ absurd (let r : Err TOO_LONG ≡ Found (name v) = q.1 in cc)
+        | inl q ↦
+            let r : Found (name w) ≡ Found (name v) = q.1 in
+            let same : w ≡ v = cc in
+            let short : length w ≤ MAX_NAME_BYTES = (let t = q.0 in grind (arith, nat_tests)) in
+            subst (λ (x : List ℕ). IsName x) same (record { form = p.0; short = short; free = free })
+      ]
+    ]
+
+name_of_letters : (w v : List ℕ) (o : Option Keyword) → keyword_of w ≡ o → letters_token w o ≡ Found (name v) → IsName v
+name_of_letters w v None free e = name_of_form w v free e
+name_of_letters w v (Some k) free e = absurd (let q : Found (word k) ≡ Found (name v) = e in cc)
+
+no_name : (o : Option ℕ) (v : List ℕ) → digits_token o ≡ Found (name v) → ⊥
+no_name None v e = let q : Err NO_NUMBER ≡ Found (name v) = e in cc
+no_name (Some k) v e = let q : Found (number k) ≡ Found (name v) = e in cc
+
+name_of_word : (w v : List ℕ) → word_token w ≡ Found (name v) → IsName v
+name_of_word w v e =
+    elim (chosen (list_any is_digit (take 1 w)) _ _ (Found (name v)) e) [
+      | inl p ↦ absurd (no_name (number_of w) v p.1)
+      | inr p ↦ name_of_letters w v (keyword_of w) refl p.1
+    ]
+
+no_sign : (o : Option Sign) (v : List ℕ) → sign_token o ≡ Found (name v) → ⊥
+no_sign None v e = let q : Err NO_TOKEN ≡ Found (name v) = e in cc
+no_sign (Some k) v e = let q : Found (sign k) ≡ Found (name v) = e in cc
+
+-- ×'s parts: `cc` does not look into a tuple
+pub ok_pair : {A B : Type 0} (p q : A × B) → ◌≡◌ {A = Result (A × B) SyntaxFault} (Ok p) (Ok q) → (p.0 ≡ q.0) × (p.1 ≡ q.1)
+ok_pair p q e = let h : p ≡ q = cc in (ap (λ x. x.0) h, ap (λ x. x.1) h)
+
+-- what was placed was found
+pub was_found : (at : ℕ) (r : Result Token ℕ) (rest : List ℕ) (t : Token) (left : List ℕ) → placed at r rest ≡ Ok (t, left) → (r ≡ Found t) × (rest ≡ left)
+was_found at (Ok x) rest t left e = let h = ok_pair (x, rest) (t, left) e in (ap Found h.0, h.1)
+was_found at (Err kind) rest t left e = absurd cc
+
+name_here : (total : ℕ) (text w rest : List ℕ) → token_here total text ≡ Ok (name w, rest) → IsName w
+name_here total [] w rest e = let h : the_end ≡ name w = (ok_pair (the_end, []) (name w, rest) e).0 in absurd cc
+name_here total (b ∷ bs) w rest e =
+    elim (chosen (is_word_byte b) _ _ _ e) [
+      | inl p ↦ name_of_word (take (prefix_len is_word_byte (b ∷ bs)) (b ∷ bs)) w (was_found _ _ _ (name w) rest p.1).0
+      | inr p ↦ absurd (no_sign (sign_of b) w (was_found _ _ _ (name w) rest p.1).0)
+    ]
+
+-- a token that is a name has its form
+pub name_in_front : (total : ℕ) (text w rest : List ℕ) → front total text ≡ Ok (name w, rest) → IsName w
+unfolding front
+name_in_front total text w rest e = name_here total (after_gap text) w rest e
+
+cond_le : (b : Bool) (x y : List ℕ) (n : ℕ) → length x ≤ n → length y ≤ n → length (cond b x y) ≤ n
+cond_le true x y n p q = p
+cond_le false x y n p q = q
+
+mutual
+  gap_le : (text : List ℕ) → length (after_gap text) ≤ length text
+  gap_le [] = omega arith
+  gap_le (b ∷ bs) =
+      let p : length (after_gap bs) ≤ length (b ∷ bs) = (let h = gap_le bs in omega arith) in
+      let q : length (after_comment bs) ≤ length (b ∷ bs) = (let h = comment_le bs in omega arith) in
+      cond_le (is_blank b) _ _ _ p (cond_le (b == 47 && begins_with 47 bs) _ _ _ q (omega arith))
+
+  comment_le : (text : List ℕ) → length (after_comment text) ≤ length text
+  comment_le [] = omega arith
+  comment_le (b ∷ bs) =
+      let p : length (after_gap bs) ≤ length (b ∷ bs) = (let h = gap_le bs in omega arith) in
+      let q : length (after_comment bs) ≤ length (b ∷ bs) = (let h = comment_le bs in omega arith) in
+      cond_le (b == 10) _ _ _ p q
+
+progress_here : (total : ℕ) (text : List ℕ) (t : Token) (rest : List ℕ) → token_here total text ≡ Ok (t, rest) → ends_list t ≡ false → length rest < length text
+progress_here total [] t rest e f =
+    let h : the_end ≡ t = (ok_pair (the_end, []) (t, rest) e).0 in
+    let g : true ≡ false = ap ends_list h ∙ f in absurd cc
+progress_here total (b ∷ bs) t rest e f =
+    elim (chosen (is_word_byte b) _ _ _ e) [
+      | inl p ↦
+          let h : drop (prefix_len is_word_byte (b ∷ bs)) (b ∷ bs) ≡ rest = (was_found _ (word_token (take (prefix_len is_word_byte (b ∷ bs)) (b ∷ bs))) _ t rest p.1).1 in
+          let k : prefix_len is_word_byte (b ∷ bs) ≡ 1 + prefix_len is_word_byte bs = rw p.0 refl in
+          let l = length-drop (prefix_len is_word_byte (b ∷ bs)) (b ∷ bs) in
+          let m = ap (λ (x : List ℕ). length x) h in
+          omega arith
+      | inr p ↦
+          let h : bs ≡ rest = (was_found _ (sign_token (sign_of b)) bs t rest p.1).1 in
+          let m = ap (λ (x : List ℕ). length x) h in
+          omega arith
+    ]
+
+-- a token before which a list of statements does not end takes a byte
+pub progress : (total : ℕ) (text : List ℕ) (t : Token) (rest : List ℕ) → front total text ≡ Ok (t, rest) → ends_list t ≡ false → length rest < length text
+unfolding front
+progress total text t rest e f =
+    let h = progress_here total (after_gap text) t rest e f in
+    let g = gap_le text in
+    omega arith
+
+form_of : (total : ℕ) (text : List ℕ) (x : token.Token) (rest : List ℕ) → front total text ≡ Ok (token_of x, rest) → HasForm x
+form_of total text t.End rest e = tt
+form_of total text (t.Sign s) rest e = tt
+form_of total text (t.Word k) rest e = tt
+form_of total text (t.Name w) rest e = name_in_front total text w.now rest e
+form_of total text (t.Number k) rest e = tt
+
+-- what was found has its form
+pub form_seen : (total : ℕ) (text : List ℕ) (r : Result (token.Token × Bor (List ℕ)) SyntaxFault) → front_seen r ≡ front total text → IfOk r (λ x. HasForm x.0)
+form_seen total text (Ok x) e = form_of total text x.0 x.1.now (sym e)
+form_seen total text (Err f) e = tt
+
+here_le : (total : ℕ) (text : List ℕ) (t : Token) (rest : List ℕ) → token_here total text ≡ Ok (t, rest) → length rest ≤ length text
+here_le total [] t rest e =
+    let h : [] ≡ rest = (ok_pair (the_end, []) (t, rest) e).1 in
+    let m = ap (λ (x : List ℕ). length x) h in
+    omega arith
+here_le total (b ∷ bs) t rest e =
+    elim (chosen (is_word_byte b) _ _ _ e) [
+      | inl p ↦
+          let h : drop (prefix_len is_word_byte (b ∷ bs)) (b ∷ bs) ≡ rest = (was_found _ (word_token (take (prefix_len is_word_byte (b ∷ bs)) (b ∷ bs))) _ t rest p.1).1 in
+          let l = length-drop (prefix_len is_word_byte (b ∷ bs)) (b ∷ bs) in
+          let m = ap (λ (x : List ℕ). length x) h in
+          omega arith
+      | inr p ↦
+          let h : bs ≡ rest = (was_found _ (sign_token (sign_of b)) bs t rest p.1).1 in
+          let m = ap (λ (x : List ℕ). length x) h in
+          omega arith
+    ]
+
+pub front_le : (total : ℕ) (text : List ℕ) (t : Token) (rest : List ℕ) → front total text ≡ Ok (t, rest) → length rest ≤ length text
+unfolding front
+front_le total text t rest e =
+    let h = here_le total (after_gap text) t rest e in
+    let g = gap_le text in
+    omega arith
+
+-- ---- the end
+
+no_end_letters : (w : List ℕ) (o : Option Keyword) → letters_token w o ≡ Found the_end → ⊥
+no_end_letters w (Some k) e = let q : Found (word k) ≡ Found the_end = e in cc
+no_end_letters w None e =
+    elim (chosen (has_name_form w) _ _ (Found the_end) e) [
+      | inr p ↦ (let q : Err NO_TOKEN ≡ Found the_end = p.1 in cc)
+      | inl p ↦ elim (chosen (nat_le (length w) MAX_NAME_BYTES) _ _ (Found the_end) p.1) [
+        | inr q ↦ (let r : Err TOO_LONG ≡ Found the_end = q.1 in cc)
+        | inl q ↦ (let r : Found (name w) ≡ Found the_end = q.1 in cc)
+      ]
+    ]
+
+no_end_digits : (o : Option ℕ) → digits_token o ≡ Found the_end → ⊥
+no_end_digits None e = let q : Err NO_NUMBER ≡ Found the_end = e in cc
+no_end_digits (Some k) e = let q : Found (number k) ≡ Found the_end = e in cc
+
+no_end_word : (w : List ℕ) → word_token w ≡ Found the_end → ⊥
+no_end_word w e =
+    elim (chosen (list_any is_digit (take 1 w)) _ _ (Found the_end) e) [
+      | inl p ↦ no_end_digits (number_of w) p.1
+      | inr p ↦ no_end_letters w (keyword_of w) p.1
+    ]
+
+no_end_sign : (o : Option Sign) → sign_token o ≡ Found the_end → ⊥
+no_end_sign None e = let q : Err NO_TOKEN ≡ Found the_end = e in cc
+no_end_sign (Some k) e = let q : Found (sign k) ≡ Found the_end = e in cc
+
+end_here : (total : ℕ) (text rest : List ℕ) → token_here total text ≡ Ok (the_end, rest) → rest ≡ []
+end_here total [] rest e = sym (ok_pair (the_end, []) (the_end, rest) e).1
+end_here total (b ∷ bs) rest e =
+    elim (chosen (is_word_byte b) _ _ _ e) [
+      | inl p ↦ absurd (no_end_word (take (prefix_len is_word_byte (b ∷ bs)) (b ∷ bs)) (was_found _ _ _ the_end rest p.1).0)
+      | inr p ↦ absurd (no_end_sign (sign_of b) (was_found _ _ _ the_end rest p.1).0)
+    ]
+
+-- nothing is left behind the end
+pub end_in_front : (total : ℕ) (text rest : List ℕ) → front total text ≡ Ok (the_end, rest) → rest ≡ []
+unfolding front
+end_in_front total text rest e = end_here total (after_gap text) rest e

@@ -1,0 +1,27 @@
+-- What holds of the grammar, the first fault and the printed form.
+use Rattle.std.specs.Prelude.{◌≡◌, ℕ, ◌⊎◌, List}
+use Rattle.pl_syntax.specs.declared.fault.SyntaxFault.{SyntaxFault}
+use Rattle.pl_syntax.specs.declared.tree.Stmt.{Stmt}
+use Rattle.pl_syntax.specs.Tree.{Tree}
+use Rattle.pl_syntax.specs.Bodies.{tree_of}
+use Rattle.pl_syntax.specs.Grammar.{IsText, HasFault}
+
+-- the grammar is unambiguous: a text has at most one tree
+abbrev pub HasOneTree : Type 0
+HasOneTree = (text : List ℕ) (p q : Tree) → IsText text p → IsText text q → p ≡ q
+
+-- a text has at most one first fault
+abbrev pub HasOneFault : Type 0
+HasOneFault = (text : List ℕ) (f g : SyntaxFault) → HasFault text f → HasFault text g → f ≡ g
+
+-- no text has both a tree and a fault
+abbrev pub HasNotBoth : Type 0
+HasNotBoth = (text : List ℕ) (p : Tree) (f : SyntaxFault) → IsText text p → HasFault text f → ⊥
+
+-- each text has a tree or a fault
+abbrev pub HasOneOfBoth : Type 0
+HasOneOfBoth = (text : List ℕ) → ((p : Tree) × IsText text p) ⊎ ((f : SyntaxFault) × HasFault text f)
+
+-- a list of statements and its tree fix each other
+abbrev pub TreesFixBodies : Type 0
+TreesFixBodies = (xs ys : List Stmt) → tree_of xs ≡ tree_of ys → xs ≡ ys

@@ -1,0 +1,273 @@
+// From tokens to statements.
+
+ghost use Rattle.std.specs.Prelude.{◌≡◌, ℕ, ◌+◌, ◌<◌, ◌≤◌, ◌^◌, length, IfOk, IfErr};
+ghost use Rattle.pl_syntax.specs.Words.{IsName};
+ghost use Rattle.pl_syntax.specs.Tree.{Tree, count, done};
+ghost use Rattle.pl_syntax.specs.Bodies.{first, tree_of};
+ghost use Rattle.pl_syntax.specs.Seen.{token_of, HasForm};
+ghost use Rattle.pl_syntax.specs.declared.fault.SyntaxFault.{SyntaxFault};
+ghost use Rattle.pl_syntax.specs.Grammar.{IsText, HasFault};
+ghost use Rattle.pl_syntax.specs.Parsing.{GivesProgram, GivesFault, Explains};
+ghost use Rattle.pl_syntax.specs.Reading.{Gives, drawing_at, reg_at, dereg_at, adv_at, await_at, skip_at, statement_in, statements_at, block_at, fork_at, loop_at, ends_list, program_at};
+
+use crate::expect::{
+    drawn_at, in_parens_at, named_at, number_at, opened_at, pair_at, sign_at, unexpected,
+};
+use crate::fault::ParseEnd;
+use crate::lexer::next;
+use crate::limits::{MAX_OPEN_BRACES, MAX_PARSED_BYTES};
+use crate::name::Name;
+use crate::token::{Keyword, Sign, Token};
+use crate::tree::{Body, Program, Stmt};
+use std::alloc::Global;
+
+// `x = newTid();` or `x = newPhaser();`, behind its name.
+#[tactic(auto, unfolding(crate::specs::Reading::drawing_at))]
+fn drawing_at<'a>(
+    alloc: Global,
+    total: usize,
+    x: &[u8],
+    text: &'a [u8],
+) -> Result<(Stmt, &'a [u8]), ParseEnd>
+    requires within { length text.now ≤ total }
+    requires small { total < 2 ^ 32 }
+    requires name { IsName x.now }
+    ensures exact { Gives (λ x. (x.0, x.1.now)) result (drawing_at total x.now text.now) }
+    ensures no_longer { IfOk result (λ x. length x.1.now ≤ length text.now) }
+    ensures counted { IfOk result (λ x. count (first x.0 done) + length x.1.now ≤ length text.now + 1) }
+{
+    let (is_task, rest) = drawn_at(total, text)?;
+    let x = Name::new(alloc, x)?;
+    if is_task {
+        Ok((Stmt::NewTask { x }, rest))
+    } else {
+        Ok((Stmt::NewPhaser { x }, rest))
+    }
+}
+
+// `reg(x, y);`, behind its first word.
+#[tactic(auto, unfolding(crate::specs::Reading::reg_at))]
+fn reg_at(alloc: Global, total: usize, text: &[u8]) -> Result<(Stmt, &[u8]), ParseEnd>
+    requires within { length text.now ≤ total }
+    requires small { total < 2 ^ 32 }
+    ensures exact { Gives (λ x. (x.0, x.1.now)) result (reg_at total text.now) }
+    ensures no_longer { IfOk result (λ x. length x.1.now ≤ length text.now) }
+    ensures counted { IfOk result (λ x. count (first x.0 done) + length x.1.now ≤ length text.now + 1) }
+{
+    let (x, y, rest) = pair_at(total, text)?;
+    let x = Name::new(alloc, x)?;
+    let y = Name::new(alloc, y)?;
+    Ok((Stmt::Reg { x, y }, rest))
+}
+
+// `dereg(x);`, behind its first word.
+#[tactic(auto, unfolding(crate::specs::Reading::dereg_at))]
+fn dereg_at(alloc: Global, total: usize, text: &[u8]) -> Result<(Stmt, &[u8]), ParseEnd>
+    requires within { length text.now ≤ total }
+    requires small { total < 2 ^ 32 }
+    ensures exact { Gives (λ x. (x.0, x.1.now)) result (dereg_at total text.now) }
+    ensures no_longer { IfOk result (λ x. length x.1.now ≤ length text.now) }
+    ensures counted { IfOk result (λ x. count (first x.0 done) + length x.1.now ≤ length text.now + 1) }
+{
+    let (x, rest) = named_at(total, text)?;
+    let x = Name::new(alloc, x)?;
+    Ok((Stmt::Dereg { x }, rest))
+}
+
+// `adv(x);`, behind its first word.
+#[tactic(auto, unfolding(crate::specs::Reading::adv_at))]
+fn adv_at(alloc: Global, total: usize, text: &[u8]) -> Result<(Stmt, &[u8]), ParseEnd>
+    requires within { length text.now ≤ total }
+    requires small { total < 2 ^ 32 }
+    ensures exact { Gives (λ x. (x.0, x.1.now)) result (adv_at total text.now) }
+    ensures no_longer { IfOk result (λ x. length x.1.now ≤ length text.now) }
+    ensures counted { IfOk result (λ x. count (first x.0 done) + length x.1.now ≤ length text.now + 1) }
+{
+    let (x, rest) = named_at(total, text)?;
+    let x = Name::new(alloc, x)?;
+    Ok((Stmt::Adv { x }, rest))
+}
+
+// `await(x);`, behind its first word.
+#[tactic(auto, unfolding(crate::specs::Reading::await_at))]
+fn await_at(alloc: Global, total: usize, text: &[u8]) -> Result<(Stmt, &[u8]), ParseEnd>
+    requires within { length text.now ≤ total }
+    requires small { total < 2 ^ 32 }
+    ensures exact { Gives (λ x. (x.0, x.1.now)) result (await_at total text.now) }
+    ensures no_longer { IfOk result (λ x. length x.1.now ≤ length text.now) }
+    ensures counted { IfOk result (λ x. count (first x.0 done) + length x.1.now ≤ length text.now + 1) }
+{
+    let (x, rest) = named_at(total, text)?;
+    let x = Name::new(alloc, x)?;
+    Ok((Stmt::Await { x }, rest))
+}
+
+// `skip;`, behind its first word.
+#[tactic(auto, unfolding(crate::specs::Reading::skip_at))]
+fn skip_at(total: usize, text: &[u8]) -> Result<(Stmt, &[u8]), ParseEnd>
+    requires within { length text.now ≤ total }
+    requires small { total < 2 ^ 32 }
+    ensures exact { Gives (λ x. (x.0, x.1.now)) result (skip_at total text.now) }
+    ensures no_longer { IfOk result (λ x. length x.1.now ≤ length text.now) }
+    ensures counted { IfOk result (λ x. count (first x.0 done) + length x.1.now ≤ length text.now + 1) }
+{
+    let rest = sign_at(total, Sign::Semicolon, text)?;
+    Ok((Stmt::Skip, rest))
+}
+
+// Whether a list of statements ends before this token.
+fn ends_list(token: &Token) -> bool
+    ensures { result ≡ ends_list (token_of token.now) }
+{
+    match token {
+        Token::End => true,
+        Token::Sign(Sign::CloseBrace) => true,
+        _ => false,
+    }
+}
+
+// `{`, statements, `}`
+#[cycle(read)]
+#[tactic(auto, unfolding(crate::specs::Reading::block_at))]
+fn block_at(alloc: Global, total: usize, depth: u32, text: &[u8]) -> Result<(Body, &[u8]), ParseEnd>
+    requires within { length text.now ≤ total }
+    requires small { total < 2 ^ 32 }
+    requires shallow { depth ≤ MAX_OPEN_BRACES }
+    ensures exact { (n : ℕ) → length text.now < n → Gives (λ x. (x.0, x.1.now)) result (block_at (statements_at n total) total depth text.now) }
+    ensures counted { IfOk result (λ x. count x.0 + length x.1.now ≤ length text.now) }
+{
+    let open = opened_at(total, depth, text)?;
+    let (items, end) = statements_at(alloc, total, depth + 1, open)?;
+    let rest = sign_at(total, Sign::CloseBrace, end)?;
+    Ok((Body::new(items), rest))
+}
+
+// `fork(x) { .. }`, behind its first word.
+#[cycle(read)]
+#[tactic(auto, unfolding(crate::specs::Reading::fork_at))]
+fn fork_at(alloc: Global, total: usize, depth: u32, text: &[u8]) -> Result<(Stmt, &[u8]), ParseEnd>
+    requires within { length text.now ≤ total }
+    requires small { total < 2 ^ 32 }
+    requires shallow { depth ≤ MAX_OPEN_BRACES }
+    ensures exact { (n : ℕ) → length text.now < n → Gives (λ x. (x.0, x.1.now)) result (fork_at (statements_at n total) total depth text.now) }
+    ensures no_longer { IfOk result (λ x. length x.1.now ≤ length text.now) }
+    ensures counted { IfOk result (λ x. count (first x.0 done) + length x.1.now ≤ length text.now + 1) }
+{
+    let (x, after) = in_parens_at(total, text)?;
+    let x = Name::new(alloc, x)?;
+    let (body, rest) = block_at(alloc, total, depth, after)?;
+    Ok((Stmt::Fork { x, body }, rest))
+}
+
+// `loop k { .. }`, behind its first word.
+#[cycle(read)]
+#[tactic(auto, unfolding(crate::specs::Reading::loop_at))]
+fn loop_at(alloc: Global, total: usize, depth: u32, text: &[u8]) -> Result<(Stmt, &[u8]), ParseEnd>
+    requires within { length text.now ≤ total }
+    requires small { total < 2 ^ 32 }
+    requires shallow { depth ≤ MAX_OPEN_BRACES }
+    ensures exact { (n : ℕ) → length text.now < n → Gives (λ x. (x.0, x.1.now)) result (loop_at (statements_at n total) total depth text.now) }
+    ensures no_longer { IfOk result (λ x. length x.1.now ≤ length text.now) }
+    ensures counted { IfOk result (λ x. count (first x.0 done) + length x.1.now ≤ length text.now + 1) }
+{
+    let (k, after) = number_at(total, text)?;
+    let (body, rest) = block_at(alloc, total, depth, after)?;
+    Ok((Stmt::Loop { k, body }, rest))
+}
+
+// The statement that this token begins. The text before it is that from the token on.
+#[cycle(read)]
+fn statement_in<'a>(
+    alloc: Global,
+    total: usize,
+    depth: u32,
+    token: Token,
+    before: &[u8],
+    text: &'a [u8],
+) -> Result<(Stmt, &'a [u8]), ParseEnd>
+    requires within { length text.now ≤ total }
+    requires before_within { length before.now ≤ total }
+    requires small { total < 2 ^ 32 }
+    requires shallow { depth ≤ MAX_OPEN_BRACES }
+    requires name { HasForm token }
+    ensures exact { (n : ℕ) → length text.now < n → Gives (λ x. (x.0, x.1.now)) result (statement_in (statements_at n total) total depth (token_of token.entry) before.now text.now) }
+    ensures no_longer { IfOk result (λ x. length x.1.now ≤ length text.now) }
+    ensures counted { IfOk result (λ x. count (first x.0 done) + length x.1.now ≤ length text.now + 1) }
+{
+    match token {
+        Token::Name(x) => drawing_at(alloc, total, x, text),
+        Token::Word(Keyword::Reg) => reg_at(alloc, total, text),
+        Token::Word(Keyword::Dereg) => dereg_at(alloc, total, text),
+        Token::Word(Keyword::Adv) => adv_at(alloc, total, text),
+        Token::Word(Keyword::Await) => await_at(alloc, total, text),
+        Token::Word(Keyword::Skip) => skip_at(total, text),
+        Token::Word(Keyword::Fork) => fork_at(alloc, total, depth, text),
+        Token::Word(Keyword::Loop) => loop_at(alloc, total, depth, text),
+        _ => Err(ParseEnd::Syntax(unexpected(total, before))),
+    }
+}
+
+// The statements up to the end of a body or of the text.
+#[cycle(read)]
+fn statements_at(
+    alloc: Global,
+    total: usize,
+    depth: u32,
+    text: &[u8],
+) -> Result<(Vec<Stmt>, &[u8]), ParseEnd>
+    requires within { length text.now ≤ total }
+    requires small { total < 2 ^ 32 }
+    requires shallow { depth ≤ MAX_OPEN_BRACES }
+    ensures exact { (n : ℕ) → length text.now < n → Gives (λ x. (x.0.items, x.1.now)) result (statements_at n total depth text.now) }
+    ensures counted { IfOk result (λ x. count (tree_of x.0.items) + length x.1.now ≤ length text.now) }
+{
+    let mut items = Vec::new(alloc);
+    let mut rest = text;
+    loop {
+        let (token, after) = next(total, rest)?;
+        if ends_list(&token) {
+            return Ok((items, rest));
+        }
+        let (stmt, left) = statement_in(alloc, total, depth, token, rest, after)?;
+        items.push(stmt)?;
+        rest = left;
+    }
+}
+
+// The program of a whole text, as a body.
+#[tactic(auto, unfolding(crate::specs::Reading::program_at))]
+fn program_at(alloc: Global, text: &[u8]) -> Result<Body, ParseEnd>
+    requires { length text.now < 2 ^ 32 }
+    ensures exact { Gives (λ x. x) result (program_at text.now) }
+    ensures counted { IfOk result (λ body. count body ≤ length text.now) }
+{
+    let total = text.len();
+    let (items, rest) = statements_at(alloc, total, 0, text)?;
+    match next(total, rest)? {
+        (Token::End, _) => Ok(Body::new(items)),
+        _ => Err(ParseEnd::Syntax(unexpected(total, rest))),
+    }
+}
+
+/// The program of a text, or its first fault. The text has at most 8,388,608 bytes.
+///
+/// `Syntax` comes exactly where the text is not in the grammar. Memory may run out at any text.
+pub fn parse(alloc: Global, text: &[u8]) -> Result<Program, ParseEnd>
+    requires short { length text.now ≤ MAX_PARSED_BYTES }
+
+    // What is answered is the program of the text, or its first fault, or that memory ran out.
+    ensures program { IfOk result (λ p. IsText text.now p.body) }
+    ensures fault { IfErr result (Explains text.now) }
+
+    // Where the text has a program, or a first fault, that is answered, unless memory ran out.
+    ensures only_program { (p : Tree) → IsText text.now p → GivesProgram result p }
+    ensures only_fault { (f : SyntaxFault) → HasFault text.now f → GivesFault result f }
+
+    // Each statement takes a byte or more.
+    ensures few { IfOk result (λ p. count p.body ≤ length text.now) }
+{
+    match program_at(alloc, text) {
+        Ok(body) => Ok(Program { body }),
+        Err(end) => Err(end),
+    }
+}
