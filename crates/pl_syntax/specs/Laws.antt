@@ -1,10 +1,12 @@
 -- What holds of the grammar, the first fault and the printed form.
-use Rattle.std.specs.Prelude.{◌≡◌, ℕ, ◌⊎◌, List}
+use Rattle.std.specs.Prelude.{◌≡◌, ℕ, ◌≤◌, ◌⊎◌, List}
+use Rattle.pl_syntax.specs.declared.limits.TheConstants.{MAX_OPEN_BRACES}
 use Rattle.pl_syntax.specs.declared.fault.SyntaxFault.{SyntaxFault}
 use Rattle.pl_syntax.specs.declared.tree.Stmt.{Stmt}
-use Rattle.pl_syntax.specs.Tree.{Tree}
+use Rattle.pl_syntax.specs.Tree.{Tree, height}
 use Rattle.pl_syntax.specs.Bodies.{tree_of}
 use Rattle.pl_syntax.specs.Grammar.{IsText, HasFault}
+use Rattle.pl_syntax.specs.Printed.{printed_of, IsWritable}
 
 -- the grammar is unambiguous: a text has at most one tree
 abbrev pub HasOneTree : Type 0
@@ -25,3 +27,11 @@ HasOneOfBoth = (text : List ℕ) → ((p : Tree) × IsText text p) ⊎ ((f : Syn
 -- a list of statements and its tree fix each other
 abbrev pub TreesFixBodies : Type 0
 TreesFixBodies = (xs ys : List Stmt) → tree_of xs ≡ tree_of ys → xs ≡ ys
+
+-- the printed form of a program is a text of that very program
+abbrev pub PrintedIsText : Type 0
+PrintedIsText = (p : Tree) → IsWritable p → height p ≤ MAX_OPEN_BRACES → IsText (printed_of p) p
+
+-- the program of a text can be printed
+abbrev pub TextsAreWritable : Type 0
+TextsAreWritable = (text : List ℕ) (p : Tree) → IsText text p → IsWritable p

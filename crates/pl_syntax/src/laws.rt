@@ -1,16 +1,31 @@
-//! What holds of the definitions of this crate. These functions do nothing; their contracts are the laws.
+// What holds of the definitions of this crate: each law is the contract of a public function with an empty body.
 
-ghost use Rattle.pl_syntax.specs.Laws.{HasOneTree, HasOneFault, HasNotBoth, HasOneOfBoth, TreesFixBodies};
+ghost use Rattle.pl_syntax.specs.Laws.{HasOneTree, HasOneFault, HasNotBoth, HasOneOfBoth, TreesFixBodies, PrintedIsText, TextsAreWritable};
 
-/// The grammar is unambiguous; a text has at most one first fault; and it has either a tree or a first fault.
-pub fn texts_have_a_tree_or_a_fault()
-    ensures one_tree { HasOneTree }
-    ensures one_fault { HasOneFault }
+/// The grammar is unambiguous: a text has at most one tree.
+pub fn text_has_one_tree()
+    ensures { HasOneTree }
+{}
+
+/// A text has at most one first fault.
+pub fn text_has_one_fault()
+    ensures { HasOneFault }
+{}
+
+/// Each text has a tree or a first fault, and none has both.
+pub fn text_has_tree_or_fault()
     ensures not_both { HasNotBoth }
     ensures one_of_both { HasOneOfBoth }
 {}
 
 /// A body's list of statements and the tree that contracts see in its place fix each other.
-pub fn trees_fix_bodies()
+pub fn tree_fixes_body()
     ensures { TreesFixBodies }
+{}
+
+/// The printed form of a program within the limits is a text of that very program; and the program of a text can
+/// be printed.
+pub fn printed_is_text()
+    ensures is_text { PrintedIsText }
+    ensures writable { TextsAreWritable }
 {}

@@ -3,17 +3,26 @@
 
 mod expect;
 mod fault;
-pub mod laws;
+mod laws;
 mod lexer;
 mod limits;
 mod name;
+mod printer;
 mod reader;
+mod round_trip;
+#[cfg(test)]
+mod tests;
 mod token;
 mod tree;
 mod word;
 
 pub use fault::{CANNOT_STAND, NO_NUMBER, NO_TOKEN, ParseEnd, SyntaxFault, TOO_DEEP, TOO_LONG};
+pub use laws::{
+    printed_is_text, text_has_one_fault, text_has_one_tree, text_has_tree_or_fault, tree_fixes_body,
+};
 pub use limits::{MAX_DIGITS, MAX_NAME_BYTES, MAX_NUMBER, MAX_OPEN_BRACES, MAX_PARSED_BYTES};
 pub use name::Name;
+pub use printer::print;
 pub use reader::parse;
+pub use round_trip::print_and_parse;
 pub use tree::{Body, Program, Stmt};

@@ -1,5 +1,5 @@
 use Rattle.pl_syntax.proofs.Injective.{tree_of-injective}
-use Rattle.pl_syntax.proofs.laws.trees_fix_bodies.Goals as goal
+use Rattle.pl_syntax.proofs.laws.tree_fixes_body.Goals as goal
 
 pub returns : goal.returns
 returns c = tree_of-injective

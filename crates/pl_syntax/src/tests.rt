@@ -1,0 +1,180 @@
+ghost use Rattle.std.specs.Prelude.{◌≤◌, length};
+
+use super::*;
+use armus_base::List;
+use std::alloc::Global;
+use std::process::Abort;
+use std::test::*;
+
+const AVERAGING: &[u8] =
+    b"pc = newPhaser();\npb = newPhaser();\nloop 3 {\n  t = newTid();\n  reg(t, pc);\n  reg(t, pb);\n  fork(t) {\n    loop 2 {\n      skip; // read the neighbours\n      adv(pc);\n      await(pc);\n      skip; // write the mean\n      adv(pc);\n      await(pc);\n    }\n    dereg(pc);\n    dereg(pb);\n  }\n}\nadv(pb);\nawait(pb);\n";
+
+const BEHIND_A_CYCLE: &[u8] =
+    b"a = newPhaser();\nb = newPhaser();\nc = newPhaser();\nt = newTid(); reg(t, a); reg(t, b); reg(t, c);\nfork(t) { adv(a); await(a); }\nt = newTid(); reg(t, a); reg(t, b);\nfork(t) { adv(b); await(b); }\ndereg(a); dereg(b);\nadv(c);\nawait(c);\n";
+
+const GRANDCHILDREN: &[u8] =
+    b"a = newPhaser();\nb = newPhaser();\nt = newTid(); reg(t, a); reg(t, b);\nfork(t) { adv(a); await(a); }\nt = newTid(); reg(t, a); reg(t, b);\nfork(t) { adv(b); await(b); }\nt = newTid();\nfork(t) { u = newTid(); fork(u) { c = newPhaser(); } }\ndereg(a); dereg(b);\n";
+
+// The fault of a text as its place and kind, or none where it is a program.
+fn fault(rt: &impl Abort, alloc: Global, text: &[u8]) -> Option<(u32, u8)> {
+    assert!(rt; text.len() <= MAX_PARSED_BYTES);
+    match parse(alloc, text) {
+        Ok(_) => None,
+        Err(ParseEnd::Syntax(fault)) => Some((fault.at, fault.kind)),
+        Err(ParseEnd::NoMemory) => panic!(rt; "memory is ample"),
+    }
+}
+
+// Some text, that many times.
+fn times(alloc: Global, n: u32, text: &[u8]) -> Result<Vec<u8>, Fail> {
+    let mut all = Vec::new(alloc);
+    for _ in 0..n {
+        all.extend_from_slice(text)?;
+    }
+    Ok(all)
+}
+
+#[test]
+fn first_faults(rt: HostRuntime) {
+    let rows: [(&[u8], Option<(u32, u8)>); 24] = [
+        (b"", None),
+        (b"p = newPhaser();\nadv(p", Some((22, CANNOT_STAND))),
+        (b"adv(P);", Some((4, NO_TOKEN))),
+        (b"adv(pQ);", Some((4, NO_TOKEN))),
+        (b"adv(_p);", Some((4, NO_TOKEN))),
+        (b"adv P;", Some((4, NO_TOKEN))),
+        (b"}P", Some((0, CANNOT_STAND))),
+        (b"loop 65535 { }", None),
+        (b"loop 65536 { }", Some((5, NO_NUMBER))),
+        (b"loop 0 { }", None),
+        (b"loop 00 { }", Some((5, NO_NUMBER))),
+        (b"loop 100000 { }", Some((5, NO_NUMBER))),
+        (b"adv(3x);", Some((4, NO_NUMBER))),
+        (b"loop3{", Some((5, CANNOT_STAND))),
+        (b"fork = newTid();", Some((5, CANNOT_STAND))),
+        (b"newtid = newTid();", None),
+        (b"/", Some((0, NO_TOKEN))),
+        (b"skip;/", Some((5, NO_TOKEN))),
+        (b"}", Some((0, CANNOT_STAND))),
+        (b"fork(x) {", Some((9, CANNOT_STAND))),
+        (b"//\xff", None),
+        (b"skip; \xff", Some((6, NO_TOKEN))),
+        (b"//x\r}\nskip;", None),
+        (b"skip;skip", Some((9, CANNOT_STAND))),
+    ];
+    for (i, (text, wanted)) in rows.iter().enumerate() {
+        assert_eq!(rt; fault(&rt, rt.alloc(), text), *wanted, "row {i}");
+    }
+}
+
+#[test]
+fn limits_of_a_text(rt: HostRuntime) -> Result<(), Fail> {
+    // 64 braces may be open, and a `{` that cannot stand is so before it is one too many.
+    let mut deep = times(rt.alloc(), 64, b"loop 1{")?;
+    deep.extend_from_slice(b"{")?;
+    assert_eq!(rt; fault(&rt, rt.alloc(), &deep), Some((448, CANNOT_STAND)));
+    let deep = times(rt.alloc(), 65, b"loop 1{")?;
+    assert_eq!(rt; fault(&rt, rt.alloc(), &deep), Some((454, TOO_DEEP)));
+    let mut closed = times(rt.alloc(), 64, b"loop 1{")?;
+    closed.extend_from_slice(&times(rt.alloc(), 64, b"}")?)?;
+    assert_eq!(rt; fault(&rt, rt.alloc(), &closed), None);
+
+    // A name has 32 bytes at most, and a capital letter comes before its length.
+    for (letters, last, wanted) in [
+        (32, b"".as_slice(), None),
+        (33, b"".as_slice(), Some((4, TOO_LONG))),
+        (33, b"P".as_slice(), Some((4, NO_TOKEN))),
+    ] {
+        let mut text = times(rt.alloc(), 1, b"adv(")?;
+        text.extend_from_slice(&times(rt.alloc(), letters, b"a")?)?;
+        text.extend_from_slice(last)?;
+        text.extend_from_slice(b");")?;
+        assert_eq!(rt; fault(&rt, rt.alloc(), &text), wanted);
+    }
+
+    // One statement, cut to its first bytes.
+    let text = b"p = newPhaser();";
+    for (from, to, wanted) in [
+        (0, 0, None),
+        (1, 4, Some((0, CANNOT_STAND))),
+        (5, 7, Some((4, CANNOT_STAND))),
+        (8, 12, Some((4, NO_TOKEN))),
+        (13, 15, Some((0, CANNOT_STAND))),
+        (16, 16, None),
+    ] {
+        for length in from..=to {
+            // A place of 0 stands for the end of what is left.
+            let wanted = wanted.map(|(at, kind)| (if at == 0 { length } else { at }, kind));
+            assert_eq!(rt;
+                fault(&rt, rt.alloc(), &text[..length as usize]),
+                wanted,
+                "{length} bytes"
+            );
+        }
+    }
+    Ok(())
+}
+
+// A text, printed. What is printed is read again, and printed alike.
+fn printed(rt: &impl Abort, alloc: Global, text: &[u8]) -> Result<List<u8>, Fail> {
+    assert!(rt; text.len() <= MAX_PARSED_BYTES);
+    let program = parse(alloc, text)?;
+    let once = print(alloc, &program)?;
+    assert!(rt; once.as_slice().len() <= MAX_PARSED_BYTES);
+    let again = print_and_parse(alloc, &program)?;
+    let twice = print(alloc, &again)?;
+    assert_eq!(rt; twice.as_slice(), once.as_slice());
+    Ok(once)
+}
+
+#[test]
+fn printed_forms(rt: HostRuntime) -> Result<(), Fail> {
+    let rows: [(&[u8], &[u8]); 5] = [
+        (b"", b""),
+        (b"loop 2{skip;}//x", b"loop 2 {\n  skip;\n}\n"),
+        (b"loop 3{}", b"loop 3 {\n}\n"),
+        (
+            b"loop 65535 { loop 0 { } }",
+            b"loop 65535 {\n  loop 0 {\n  }\n}\n",
+        ),
+        (
+            b"p=newPhaser();t=newTid();reg(t,p);fork(t){adv(p);await(p);}dereg(p);",
+            b"p = newPhaser();\nt = newTid();\nreg(t, p);\nfork(t) {\n  adv(p);\n  await(p);\n}\ndereg(p);\n",
+        ),
+    ];
+    for (i, (text, wanted)) in rows.iter().enumerate() {
+        let found = printed(&rt, rt.alloc(), text)?;
+        assert_eq!(rt; found.as_slice(), *wanted, "row {i}");
+    }
+    Ok(())
+}
+
+#[test]
+fn kernels(rt: HostRuntime) -> Result<(), Fail> {
+    // Each text, and how many statements it has in all and at its own level.
+    let rows: [(&[u8], u32, usize); 4] = [
+        (AVERAGING, 18, 5),
+        (BEHIND_A_CYCLE, 20, 16),
+        (GRANDCHILDREN, 21, 14),
+        (b"skip;", 1, 1),
+    ];
+    for (i, (text, statements, own)) in rows.iter().enumerate() {
+        assert!(rt; text.len() <= MAX_PARSED_BYTES);
+        let program = parse(rt.alloc(), text)?;
+        assert_eq!(rt; program.body.statements(), *statements, "row {i}");
+        assert_eq!(rt; program.body.as_slice().len(), *own, "row {i}");
+        let lines = printed(&rt, rt.alloc(), text)?;
+        assert!(rt; !lines.as_slice().is_empty());
+    }
+    Ok(())
+}
+
+#[test]
+fn names(rt: HostRuntime) -> Result<(), Fail> {
+    let program = parse(rt.alloc(), b"adv(pc_2);")?;
+    match program.body.as_slice() {
+        [Stmt::Adv { x }] => assert_eq!(rt; x.as_bytes(), b"pc_2".as_slice()),
+        _ => panic!(rt; "it is one statement"),
+    }
+    Ok(())
+}
