@@ -16,15 +16,17 @@ use Rattle.pl_syntax.specs.Bodies.{tree_of}
 use Rattle.pl_syntax.specs.Tokens.{Token, the_end, sign, word, name, number, front, place}
 
 infixl 10 ◌>>=◌
+-- the next step of reading, where the one before found no fault
 abbrev pub ◌>>=◌ : {A B : Type 0} → Result A SyntaxFault → (A → Result B SyntaxFault) → Result B SyntaxFault
 (Ok x) >>= f = f x
 (Err e) >>= f = Err e
 
--- What a function returned, seen by view, is what reading gives, unless memory ran out.
+-- an error that a function returned is the fault that reading gives, or that memory ran out
 abbrev pub Fails : {Y : Type 0} → ParseEnd → Result Y SyntaxFault → Type 0
 Fails ends.NoMemory read = Unit {0}
 Fails (ends.Syntax f) read = read ≡ Err f
 
+-- what a function that takes memory returned, seen by view, is what reading gives, unless memory ran out
 abbrev pub Gives : {X Y : Type 0} → (X → Y) → Result X ParseEnd → Result Y SyntaxFault → Type 0
 Gives view (Ok x) read = read ≡ Ok (view x)
 Gives view (Err e) read = Fails e read
@@ -34,6 +36,7 @@ abbrev pub seen : {X Y : Type 0} → (X → Y) → Result X SyntaxFault → Resu
 seen view (Ok x) = Ok (view x)
 seen view (Err e) = Err e
 
+-- a number for each sign, by which signs are told apart
 abbrev pub sign_number : Sign → ℕ
 sign_number Equals = 0
 sign_number OpenParen = 1
@@ -43,9 +46,11 @@ sign_number Semicolon = 4
 sign_number OpenBrace = 5
 sign_number CloseBrace = 6
 
+-- the fault of the next token, which cannot stand here
 abbrev pub unexpected : ℕ → List ℕ → SyntaxFault
 unexpected total text = record { at = place total text; kind = CANNOT_STAND }
 
+-- what is left behind this token, where it is this sign
 abbrev pub sign_in : ℕ → Sign → List ℕ → Token → List ℕ → Result (List ℕ) SyntaxFault
 sign_in total s text (sign found) rest = if sign_number found == sign_number s then Ok rest else Err (unexpected total text)
 sign_in total s text the_end rest = Err (unexpected total text)
@@ -57,6 +62,7 @@ sign_in total s text (number _) rest = Err (unexpected total text)
 unfoldable pub sign_at : ℕ → Sign → List ℕ → Result (List ℕ) SyntaxFault
 sign_at total s text = front total text >>= λ x. sign_in total s text x.0 x.1
 
+-- this token as a name
 abbrev pub name_in : ℕ → List ℕ → Token → List ℕ → Result (List ℕ × List ℕ) SyntaxFault
 name_in total text (name x) rest = Ok (x, rest)
 name_in total text the_end rest = Err (unexpected total text)
@@ -68,6 +74,7 @@ name_in total text (number _) rest = Err (unexpected total text)
 unfoldable pub name_at : ℕ → List ℕ → Result (List ℕ × List ℕ) SyntaxFault
 name_at total text = front total text >>= λ x. name_in total text x.0 x.1
 
+-- this token as a number
 abbrev pub number_in : ℕ → List ℕ → Token → List ℕ → Result (ℕ × List ℕ) SyntaxFault
 number_in total text (number n) rest = Ok (n, rest)
 number_in total text the_end rest = Err (unexpected total text)
@@ -75,6 +82,7 @@ number_in total text (sign _) rest = Err (unexpected total text)
 number_in total text (word _) rest = Err (unexpected total text)
 number_in total text (name _) rest = Err (unexpected total text)
 
+-- a number, and what is left behind it
 unfoldable pub number_at : ℕ → List ℕ → Result (ℕ × List ℕ) SyntaxFault
 number_at total text = front total text >>= λ x. number_in total text x.0 x.1
 
@@ -84,6 +92,7 @@ maker_in total text (word k.NewTid) rest = Ok (true, rest)
 maker_in total text (word k.NewPhaser) rest = Ok (false, rest)
 maker_in total text _ rest = Err (unexpected total text)
 
+-- the same of the next token
 unfoldable pub maker_at : ℕ → List ℕ → Result (Bool × List ℕ) SyntaxFault
 maker_at total text = front total text >>= λ x. maker_in total text x.0 x.1
 
@@ -141,26 +150,31 @@ drawing_at total x text = do
   made ← drawn_at total text
   Ok (drawn_stmt x made.0, made.1)
 
+-- `reg(x, y);`, behind its first word
 unfoldable pub reg_at : ℕ → List ℕ → Result (Stmt × List ℕ) SyntaxFault
 reg_at total text = do
   p ← pair_at total text
   Ok (s.Reg p.0 p.1, p.2)
 
+-- `dereg(x);`, behind its first word
 unfoldable pub dereg_at : ℕ → List ℕ → Result (Stmt × List ℕ) SyntaxFault
 dereg_at total text = do
   x ← named_at total text
   Ok (s.Dereg x.0, x.1)
 
+-- `adv(x);`, behind its first word
 unfoldable pub adv_at : ℕ → List ℕ → Result (Stmt × List ℕ) SyntaxFault
 adv_at total text = do
   x ← named_at total text
   Ok (s.Adv x.0, x.1)
 
+-- `await(x);`, behind its first word
 unfoldable pub await_at : ℕ → List ℕ → Result (Stmt × List ℕ) SyntaxFault
 await_at total text = do
   x ← named_at total text
   Ok (s.Await x.0, x.1)
 
+-- `skip;`, behind its first word
 unfoldable pub skip_at : ℕ → List ℕ → Result (Stmt × List ℕ) SyntaxFault
 skip_at total text = do
   rest ← sign_at total Semicolon text
@@ -178,12 +192,14 @@ block_at body total depth text = do
   close ← sign_at total CloseBrace inner.1
   Ok (tree_of inner.0, close)
 
+-- `fork(x) { .. }`, behind its first word
 unfoldable pub fork_at : Block → ℕ → ℕ → List ℕ → Result (Stmt × List ℕ) SyntaxFault
 fork_at body total depth text = do
   x ← in_parens_at total text
   b ← block_at body total depth x.1
   Ok (s.Fork x.0 b.0, b.1)
 
+-- `loop k { .. }`, behind its first word
 unfoldable pub loop_at : Block → ℕ → ℕ → List ℕ → Result (Stmt × List ℕ) SyntaxFault
 loop_at body total depth text = do
   n ← number_at total text
@@ -217,6 +233,7 @@ statements_at (suc n) total depth text =
     else (statement_in (statements_at n total) total depth x.0 text x.1 >>= λ one.
     statements_at n total depth one.1 >>= λ more. Ok (one.0 ∷ more.0, more.1))
 
+-- the tree of what was read, where this token is the end
 abbrev pub ended : ℕ → List Stmt → List ℕ → Token → Result Tree SyntaxFault
 ended total items text the_end = Ok (tree_of items)
 ended total items text (sign _) = Err (unexpected total text)
