@@ -32,10 +32,11 @@ pub mod ListDecides
 pub mod LeastExists
 pub mod MaximalExists
 pub mod KnownAreLeastDead
+pub mod LeastLawful
 pub mod PlanGrows
 pub mod PhasesFit
-pub mod Texts
-pub mod SerialText
+pub mod TwoTasksChecked
+pub mod TwoTasksAvoided
 pub mod Excluded
 pub mod Fronts
 pub mod Elements

@@ -23,7 +23,8 @@ pub mod SeatLaws
 pub mod DecisionLaws
 pub mod PlanLaws
 pub mod FinalLaws
-pub mod Texts
+pub mod TwoTasks
+pub mod Exclusions
 pub mod WorkedTexts
 pub mod Causes
 pub mod Outside

@@ -8,7 +8,7 @@ use Rattle.armus_base.specs.Places.{state_at, phases_at_place, published_after}
 use Rattle.armus_base.specs.CheckedPlans.{IsCheckedPlan}
 use Rattle.armus_base.specs.Deadlocks.{IsDeadIn}
 use Rattle.armus_base.specs.Boards.{IsLawful}
-use Rattle.armus_base.specs.Seats.{SeenBy, IsAsFarOn, IsKnownDead, IsLeast, Found, IsLongestPrefix, await_word, MayHold, IsExactOf, IsSeenAfterAwait}
+use Rattle.armus_base.specs.Seats.{SeenBy, IsAsFarOn, IsKnownDead, IsLeast, IsLeastLawful, Found, IsLongestPrefix, await_word, MayHold, IsExactOf, IsSeenAfterAwait}
 
 -- the shorter of the places of each task after two plain runs are the places of a plain run
 abbrev pub EarlierPlaces : Type 0
@@ -29,6 +29,21 @@ abbrev pub KnownAreLeastDead : Type 0
 KnownAreLeastDead =
     (plan : Plan) (seen : SeenBy) (m : List Step) (t : ℕ) → IsCheckedPlan plan → IsLeast plan seen m →
     IsKnownDead false plan None seen t ↔ IsDeadIn (state_after m) t
+
+-- on a board that detects deadlock, the shorter of the places of each task in two lawful states are lawful
+abbrev pub EarlierIsLawful : Type 0
+EarlierIsLawful =
+    (plan : Plan) (a b : ℕ → Place) → IsCheckedPlan plan → IsLawful false plan a None → IsLawful false plan b None →
+    (c : ℕ → Place) × IsLawful false plan c None × ((t : ℕ) →
+    IsPrefix (c t) (a t) × IsPrefix (c t) (b t) × ((d : Place) → IsPrefix d (a t) → IsPrefix d (b t) → IsPrefix d (c t)))
+
+-- on a board that detects deadlock, where some lawful state is as far on as what a viewer has seen, there is a least one, and the known dead are
+-- the dead of that state
+abbrev pub LeastLawfulExists : Type 0
+LeastLawfulExists =
+    (plan : Plan) (seen : SeenBy) (a : ℕ → Place) (lock : Option ℕ) → IsCheckedPlan plan → IsLawful false plan a lock →
+    IsAsFarOn plan None a seen →
+    (c : ℕ → Place) × IsLeastLawful plan seen c × ((t : ℕ) → IsKnownDead false plan None seen t ↔ IsDeadIn (state_at plan c) t)
 
 -- what is reached by the tasks below k stays so, whatever step comes
 abbrev pub ScannedStays : Type 0
@@ -73,4 +88,4 @@ abbrev pub AwaitLoadKeepsFar : Type 0
 AwaitLoadKeepsFar =
     (avoids : Bool) (plan : Plan) (own : Option ℕ) (a : ℕ → Place) (lock : Option ℕ) (holds : Bool) (t : ℕ) (before now : SeenBy) →
     IsCheckedPlan plan → IsLawful avoids plan a lock → t < length plan.parents → IsExactOf plan own before → IsAsFarOn plan own a before →
-    IsSeenAfterAwait avoids plan own holds t (await_word plan t (a t)) before now → IsAsFarOn plan own a now
+    IsSeenAfterAwait avoids plan holds t (await_word plan t (a t)) before now → IsAsFarOn plan own a now

@@ -41,6 +41,12 @@ pub record IsLeast (plan : Plan) (seen : SeenBy) (m : List Step) : Type 0 where
   pub far : IsAsFarOn plan None (places m) seen
   pub least : (g : List Step) → IsPlainRun plan g → IsAsFarOn plan None (places g) seen → ArePrefixes (places m) (places g)
 
+-- the least lawful places, on a board that detects deadlock, that are as far on as what a viewer has seen
+pub record IsLeastLawful (plan : Plan) (seen : SeenBy) (c : ℕ → Place) : Type 0 where
+  pub lawful : IsLawful false plan c None
+  pub far : IsAsFarOn plan None c seen
+  pub least : (a : ℕ → Place) (lock : Option ℕ) → IsLawful false plan a lock → IsAsFarOn plan None a seen → ArePrefixes c a
+
 -- a seat of a task has its own task among the exact ones
 abbrev pub IsExactOf : Plan → Option ℕ → SeenBy → Type 0
 IsExactOf plan own seen = (t : ℕ) → own ≡ Some t → t < length plan.parents × seen.exact t ≡ true
@@ -129,16 +135,11 @@ pub record ChangesPlace (t : ℕ) (Changes : Place → Place → Type 0) (before
   pub others : (u : ℕ) → u ≢ t → now.places u ≡ before.places u
   pub exact : (u : ℕ) → now.exact u ≡ before.exact u
 
--- task t is not the seat's own
-abbrev pub is_other : Option ℕ → ℕ → Bool
-is_other None t = true
-is_other (Some own) t = if own == t then false else true
-
--- a load of the await word of t that answers, by a seat that holds the lock or does not; a holder finds of each task but its own what it loads
-pub record IsSeenAfterAwait (avoids : Bool) (plan : Plan) (own : Option ℕ) (holds : Bool) (t : ℕ) (answer : Found) (before now : SeenBy) : Type 0 where
+-- a load of the await word of t that answers, by a seat that holds the lock or does not; a holder finds what it loads
+pub record IsSeenAfterAwait (avoids : Bool) (plan : Plan) (holds : Bool) (t : ℕ) (answer : Found) (before now : SeenBy) : Type 0 where
   pub place : ChangesPlace t (IsLongestPrefix avoids plan t (λ b. await_word plan t b ≡ answer)) before now
   pub scanned : now.scanned ≡ before.scanned
-  pub found : (u : ℕ) → now.found u ≡ (if (holds && is_other own t) && (u == t) then Some answer else before.found u)
+  pub found : (u : ℕ) → now.found u ≡ (if holds && (u == t) then Some answer else before.found u)
 
 -- the answer is no phase below that of the event
 abbrev pub is_not_behind : Option ℕ → Event → Bool

@@ -1,11 +1,13 @@
 // Laws of what a seat has seen.
-ghost use Rattle.armus_base.specs.SeatLaws.{AllScannedIsReached, AwaitLoadIsBefore, AwaitLoadKeepsFar, BusyIsBefore, EarlierPlaces, HolderMayHold, KnownAreLeastDead, LeastExists, PhaseLoadIsBefore, ScannedStays};
+ghost use Rattle.armus_base.specs.SeatLaws.{AllScannedIsReached, AwaitLoadIsBefore, AwaitLoadKeepsFar, BusyIsBefore, EarlierIsLawful, EarlierPlaces, HolderMayHold, KnownAreLeastDead, LeastExists, LeastLawfulExists, PhaseLoadIsBefore, ScannedStays};
 
-/// The least lawful state: the shorter places after two plain runs are those of a plain run, so there is a least plain run as far on as what is seen, and the known dead are the dead after it.
+/// The least lawful state, on a board that detects deadlock: the shorter places of two lawful states are lawful, so there is a least lawful state as far on as what a viewer has seen, and the known dead are the dead in it. The same of plain runs.
 pub fn least_state()
-    ensures earlier { EarlierPlaces }
-    ensures least { LeastExists }
-    ensures dead { KnownAreLeastDead }
+    ensures earlier { EarlierIsLawful }
+    ensures least { LeastLawfulExists }
+    ensures earlier_run { EarlierPlaces }
+    ensures least_run { LeastExists }
+    ensures dead_after_it { KnownAreLeastDead }
 {}
 
 /// What was scanned stays scanned, and where all tasks are scanned the awaited event is reached.

@@ -4,7 +4,8 @@ ghost use Rattle.armus_base.specs.CheckedPlans.{IsCheckedPlan};
 ghost use Rattle.armus_base.specs.Finals.{final_of};
 ghost use Rattle.armus_base.specs.Runs.{state_after};
 ghost use Rattle.armus_base.specs.Serial.{IsSerialAvoidedEnd};
-ghost use Rattle.armus_base.specs.Texts.{Excludes, all_turns, two_tasks};
+ghost use Rattle.armus_base.specs.Exclusions.{Excludes};
+ghost use Rattle.armus_base.specs.TwoTasks.{all_turns, two_tasks};
 ghost use Rattle.armus_base.specs.WorkedTexts.{EndsIn, averaging, averaging_end, averaging_schedule, behind_a_cycle, behind_a_cycle_end, behind_a_cycle_schedule, ended_member, ended_member_end, ended_member_schedule, three_tasks, three_tasks_end, three_tasks_schedule, two_tasks_avoided, two_tasks_end, two_tasks_schedule, unforked_member, unforked_member_end, unforked_member_schedule};
 
 /// The final states of six small kernels and their dead tasks, by the definitions: workers that average under a barrier that their parent never leaves; two tasks that wait for each other; three that each wait for the two others; a task that waits behind a cycle; one that waits for a member that has ended; and one that waits for a member that is never forked.

@@ -9,7 +9,7 @@ use Rattle.armus_base.specs.States.{IsReached, event_at, updated}
 use Rattle.armus_base.specs.Runs.{IsLegalRun, is_done, is_refused, is_waiting, state_after}
 use Rattle.armus_base.specs.Deadlocks.{IsAtPhase, IsImpededWithin, IsPublishedOn, WouldBeDead}
 use Rattle.armus_base.specs.Serial.{IsSerialAvoidedEnd, IsTurn, RoundBelow, opens, rounds}
-use Rattle.armus_base.specs.Texts.{all_turns, before_block, does, first_turn, second_turn, two_tasks}
+use Rattle.armus_base.specs.TwoTasks.{all_turns, before_block, does, first_turn, second_turn, two_tasks}
 use Rattle.armus_base.proofs.Steps.{updated_is}
 
 of_some_phaser : (n : ℕ) (e : Event) → Some (event_at 0 n) ≡ Some e → 0 ≡ e.p.0

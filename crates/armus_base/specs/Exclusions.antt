@@ -1,50 +1,15 @@
--- Two tasks that wait for each other, as a plan, the serial avoided run of it, and what the definitions exclude.
+-- What the definitions exclude.
 use Rattle.std.specs.Prelude.{◌≡◌, ℕ, Bool, false, List, [], ◌∷◌, Some, None}
 use Rattle.armus_base.specs.declared.op.Op.TheVariants.{Make, Reg, Fork, Adv, Drop, Await}
-use Rattle.armus_base.specs.Plans.{Plan, Action, Makes, Registers, Forks, Advances, Drops, Blocks, Passes, Refuses}
+use Rattle.armus_base.specs.Plans.{Plan, Makes, Registers, Passes, Refuses}
 use Rattle.armus_base.specs.declared.event.Event.{Event}
-use Rattle.armus_base.specs.States.{State, Step, IsLegal}
+use Rattle.armus_base.specs.States.{State, IsLegal}
 use Rattle.armus_base.specs.Places.{phases_at_place}
 use Rattle.armus_base.specs.CheckedPlans.{IsCheckedPlan}
 use Rattle.armus_base.specs.Deadlocks.{IsDeadlockedSet, IsPublishedOn, IsAtPhase}
 use Rattle.armus_base.specs.Boards.{Entry, steps_of, IsBoardRun}
 use Rattle.armus_base.specs.Seats.{IsLongestPrefix}
-
--- two phasers a and b, of both of which both tasks are members; task 0 advances on a and awaits it, task 1 on b
-abbrev pub two_tasks : Plan
-two_tasks =
-    record {
-      parents = None ∷ Some (record { 0 = 0 }) ∷ [];
-      makers = record { 0 = 0 } ∷ record { 0 = 0 } ∷ [];
-      codes =
-          (Make (record { 0 = 0 }) ∷ Make (record { 0 = 1 }) ∷ Reg (record { 0 = 1 }) (record { 0 = 0 })
-          ∷ Reg (record { 0 = 1 }) (record { 0 = 1 }) ∷ Fork (record { 0 = 1 }) ∷ Adv (record { 0 = 0 }) ∷ Await (record { 0 = 0 }) ∷ [])
-          ∷ (Adv (record { 0 = 1 }) ∷ Await (record { 0 = 1 }) ∷ [])
-          ∷ [];
-    }
-
--- a step of task t
-abbrev pub does : ℕ → Action → Step
-does t x = record { task = t; action = x }
-
--- the steps of task 0 before it blocks
-abbrev pub before_block : List Step
-before_block =
-    does 0 (Advances 0) ∷ does 0 (Forks 1) ∷ does 0 (Registers 1 1) ∷ does 0 (Registers 1 0) ∷ does 0 (Makes 1) ∷ does 0 (Makes 0) ∷ []
-
--- the serial run that avoids deadlock: task 0 blocks, task 1 is refused, and task 0 passes
-abbrev pub first_turn : List Step
-first_turn =
-    does 0 (Blocks 0) ∷ does 0 (Advances 0) ∷ does 0 (Forks 1) ∷ does 0 (Registers 1 1)
-    ∷ does 0 (Registers 1 0) ∷ does 0 (Makes 1) ∷ does 0 (Makes 0) ∷ []
-
--- after the turn of task 1, which is refused
-abbrev pub second_turn : List Step
-second_turn = does 1 (Drops 1) ∷ does 1 (Drops 0) ∷ does 1 (Refuses 1) ∷ does 1 (Advances 1) ∷ first_turn
-
--- after all turns
-abbrev pub all_turns : List Step
-all_turns = does 0 (Passes 0) ∷ second_turn
+use Rattle.armus_base.specs.TwoTasks.{two_tasks, does, before_block}
 
 -- one phaser; task 1 advances on it, waits and drops it
 abbrev pub steady : Plan
