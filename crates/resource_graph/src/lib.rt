@@ -1,0 +1,6 @@
+//! The general resource graph of a list of statuses.
+#![tactic(auto)]
+
+mod graph;
+
+pub use graph::ResourceGraph;

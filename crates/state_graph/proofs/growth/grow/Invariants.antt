@@ -1,0 +1,10 @@
+use Rattle.std.proofs.Common.{◌+◌}
+use Rattle.digraph.specs.Graph.{graph_of}
+use Rattle.state_graph.specs.StateEdges.{IsGrown, StaysSmallBelow}
+use Rattle.state_graph.proofs.growth.grow.Given as goal
+
+abbrev pub invariant-loop-k : goal.invariant-loop-k
+invariant-loop-k l = record {
+  grown : IsGrown l.deps l.k l.graph l.seen.items (graph_of l.impeded);
+  small : StaysSmallBelow l.deps (l.k + 1);
+}
