@@ -49,6 +49,7 @@ pub mod DeadByStatuses
 pub mod EndsTell
 pub mod ForkedTasks
 pub mod SerialFinalIsAvoided
+pub mod OneSerialEnd
 pub mod RunTests
 pub mod DeadTests
 pub mod WorkedTexts

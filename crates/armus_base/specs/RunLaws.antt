@@ -7,7 +7,7 @@ use Rattle.armus_base.specs.Runs.{IsLegalRun, IsPlainRun, IsMaximal, state_after
 use Rattle.armus_base.specs.Places.{state_at}
 use Rattle.armus_base.specs.CheckedPlans.{IsCheckedPlan}
 use Rattle.armus_base.specs.Avoidance.{IsAvoidedFinal, IsAvoidedRun}
-use Rattle.armus_base.specs.Serial.{IsSerialAvoidedFinal, IsSerialAvoidedRun}
+use Rattle.armus_base.specs.Serial.{IsSerialAvoidedEnd, IsSerialAvoidedFinal, IsSerialAvoidedRun}
 
 -- after a legal run of a checked plan, the state is the one that the places fix
 abbrev pub PlacesFixState : Type 0
@@ -54,3 +54,7 @@ SerialIsAvoided = (plan : Plan) (h : List Step) → IsCheckedPlan plan → IsSer
 -- the end of the serial avoided run is the end of a maximal avoided run
 abbrev pub SerialFinalIsAvoided : Type 0
 SerialFinalIsAvoided = (plan : Plan) (s : State) → IsCheckedPlan plan → IsSerialAvoidedFinal plan s → IsAvoidedFinal plan s
+
+-- the serial avoided run has one end: all that have ended are the same run
+abbrev pub OneSerialEnd : Type 0
+OneSerialEnd = (plan : Plan) (h g : List Step) → IsCheckedPlan plan → IsSerialAvoidedEnd plan h → IsSerialAvoidedEnd plan g → h ≡ g

@@ -1,5 +1,5 @@
 // Laws of runs.
-ghost use Rattle.armus_base.specs.RunLaws.{MaximalExists, NextIsLegal, OneEnd, PlacesFixState, ReachedStays, ReachedStaysInRun, SamePlacesSameState, SerialFinalIsAvoided, SerialIsAvoided};
+ghost use Rattle.armus_base.specs.RunLaws.{MaximalExists, NextIsLegal, OneEnd, OneSerialEnd, PlacesFixState, ReachedStays, ReachedStaysInRun, SamePlacesSameState, SerialFinalIsAvoided, SerialIsAvoided};
 
 /// The places fix the state: after each legal run of a checked plan the state is the one that its places fix, and two runs to the same places end in the same state.
 pub fn places_fix_state()
@@ -24,8 +24,9 @@ pub fn one_end()
     ensures same { OneEnd }
 {}
 
-/// The serial avoided run is an avoided run, and where it has ended it is a maximal one.
+/// The serial avoided run is an avoided run; where it has ended it is a maximal one; and there is one end.
 pub fn serial_is_avoided()
     ensures run { SerialIsAvoided }
     ensures end { SerialFinalIsAvoided }
+    ensures same { OneSerialEnd }
 {}
