@@ -1,0 +1,111 @@
+-- Lists of what a function gives for the numbers below a bound: one number more, and two functions that agree.
+use Rattle.std.proofs.Common.{◌≡◌, ℕ, zero, suc, ◌<◌, ◌+◌, Bool, true, false, List, [], ◌∷◌, ◌++◌, Option, Some, None, length, set, replicate, add-one, arith, sym, ◌∙◌, ap, subst, refl, inl, inr}
+use Rattle.std.specs.Prelude.{option_map, option_to_list, unwrap_or, ◌==◌, ◌||◌, if◌then◌else◌}
+use Rattle.std.proofs.lemmas.Bool.{cases_eq}
+use Rattle.std.proofs.lemmas.Bool.Decides.{nat_tests}
+use Rattle.std.proofs.lemmas.List.{append-nil}
+use Rattle.armus_base.specs.declared.event.Event.{Event}
+use Rattle.armus_base.specs.declared.status.Member.{Member}
+use Rattle.armus_base.specs.Finals.{given_below, is_event_of, list_below, listed_phase, status_of, statuses_on}
+use Rattle.armus_base.specs.Places.{some_before}
+use Rattle.armus_base.specs.Plans.{Plan}
+use Rattle.armus_base.specs.States.{Phases, State}
+use Rattle.pl_core.specs.Reading.{is_asked}
+use Rattle.pl_core.proofs.Cells.{slice_get-set_same, slice_get-set_other}
+
+pub list_below_more : {A : Type 0} (f : ℕ → A) (n : ℕ) (x : A) (xs : List A) → xs ≡ list_below f n → x ≡ f n → xs ++ x ∷ [] ≡ list_below f (n + 1)
+list_below_more f n x xs e h = ap (λ ys. ys ++ x ∷ []) e ∙ ap (λ y. list_below f n ++ y ∷ []) h ∙ ap (list_below f) (sym (add-one n))
+
+pub given_below_more : {A : Type 0} (f : ℕ → Option A) (n : ℕ) (x : A) (xs : List A) → xs ≡ given_below f n → f n ≡ Some x → xs ++ x ∷ [] ≡ given_below f (n + 1)
+given_below_more f n x xs e h = ap (λ ys. ys ++ x ∷ []) e ∙ ap (λ o. given_below f n ++ option_to_list o) (sym h) ∙ ap (given_below f) (sym (add-one n))
+
+pub given_below_none : {A : Type 0} (f : ℕ → Option A) (n : ℕ) (xs : List A) → xs ≡ given_below f n → f n ≡ None → xs ≡ given_below f (n + 1)
+given_below_none f n xs e h =
+    e ∙ sym (append-nil (given_below f n)) ∙ ap (λ o. given_below f n ++ option_to_list o) (sym h) ∙ ap (given_below f) (sym (add-one n))
+
+pub given_below_same : {A : Type 0} (f g : ℕ → Option A) (n : ℕ) → ((k : ℕ) → k < n → f k ≡ g k) → given_below f n ≡ given_below g n
+given_below_same f g zero same = refl
+given_below_same f g (suc n) same =
+    ap (λ xs. xs ++ option_to_list (f n)) (given_below_same f g n (λ k l. same k (omega arith)))
+    ∙ ap (λ o. given_below g n ++ option_to_list o) (same n (omega arith))
+
+-- the status of a published task, and of one that is not
+pub status_some :
+    (plan : Plan) (s : State) (asked : ℕ → Bool) (t : ℕ) (e : Event) (phases : List Member) → s.published t ≡ Some e →
+    phases ≡ given_below (listed_phase asked (s.phases t)) (length plan.makers) →
+    status_of plan s asked t ≡ Some (record { t = record { 0 = t }; event = e; phases = phases })
+status_some plan s asked t e phases p same =
+    ap (option_map (λ f. record { t = record { 0 = t }; event = f; phases = given_below (listed_phase asked (s.phases t)) (length plan.makers) })) p
+    ∙ ap (λ ms. Some (record { t = record { 0 = t }; event = e; phases = ms })) (sym same)
+
+pub status_none : (plan : Plan) (s : State) (asked : ℕ → Bool) (t : ℕ) → s.published t ≡ None → status_of plan s asked t ≡ None
+status_none plan s asked t p =
+    ap (option_map (λ f. record { t = record { 0 = t }; event = f; phases = given_below (listed_phase asked (s.phases t)) (length plan.makers) })) p
+
+-- a listed phase
+pub listed_some : (asked : ℕ → Bool) (m : Phases) (p n : ℕ) → asked p ≡ true → m p ≡ Some n → listed_phase asked m p ≡ Some (record { p = record { 0 = p }; n = n })
+listed_some asked m p n a e =
+    ap (λ b. if b then option_map (λ k. record { p = record { 0 = p }; n = k }) (m p) else None) a
+    ∙ ap (option_map (λ k. record { p = record { 0 = p }; n = k })) e
+
+pub listed_none : (asked : ℕ → Bool) (m : Phases) (p : ℕ) → m p ≡ None → listed_phase asked m p ≡ None
+listed_none asked m p e =
+    ap (λ o. if asked p then option_map (λ k. record { p = record { 0 = p }; n = k }) o else None) e ∙ both (asked p) None
+  where
+    both : (b : Bool) (n : Option Member) → (if b then n else n) ≡ n
+    both true n = refl
+    both false n = refl
+
+pub listed_unasked : (asked : ℕ → Bool) (m : Phases) (p : ℕ) → asked p ≡ false → listed_phase asked m p ≡ None
+listed_unasked asked m p a = ap (λ b. if b then option_map (λ k. record { p = record { 0 = p }; n = k }) (m p) else None) a
+
+-- what is asked beyond the phasers does not matter
+pub statuses_same :
+    (plan : Plan) (s : State) (asked asked' : ℕ → Bool) → ((p : ℕ) → p < length plan.makers → asked p ≡ asked' p) →
+    statuses_on plan s asked ≡ statuses_on plan s asked'
+statuses_same plan s asked asked' same =
+    given_below_same (status_of plan s asked) (status_of plan s asked') (length plan.parents)
+    (λ t l. ap (λ ms. option_map (λ f. record { t = record { 0 = t }; event = f; phases = ms }) (s.published t)) (phases_same t))
+  where
+    phases_same : (t : ℕ) → given_below (listed_phase asked (s.phases t)) (length plan.makers) ≡ given_below (listed_phase asked' (s.phases t)) (length plan.makers)
+    phases_same t =
+        given_below_same (listed_phase asked (s.phases t)) (listed_phase asked' (s.phases t)) (length plan.makers)
+        (λ p l. ap (λ b. if b then option_map (λ k. record { p = record { 0 = p }; n = k }) (s.phases t p) else None) (same p l))
+
+-- the phasers of a list of copies
+pub asked_of_copies : (n p : ℕ) (b : Bool) → p < n → is_asked (replicate n b) p ≡ b
+asked_of_copies zero p b l = absurd (omega arith)
+asked_of_copies (suc n) zero b l = refl
+asked_of_copies (suc n) (suc p) b l = asked_of_copies n p b (omega arith)
+
+-- the awaited phasers among the first tasks, with one task more
+module _ (s : State) (asked : List Bool) (t : ℕ) (before : (p : ℕ) → p < length asked → is_asked asked p ≡ some_before (λ u. is_event_of p (s.published u)) t) where
+  pub awaited_more :
+      (e : Event) → s.published t ≡ Some e → (p : ℕ) → p < length asked →
+      is_asked (set asked e.p.0 true) p ≡ some_before (λ u. is_event_of p (s.published u)) (t + 1)
+  awaited_more e is p l =
+      elim (cases_eq p e.p.0) [
+        | inl same ↦
+            subst (λ v. is_asked (set asked e.p.0 true) v ≡ some_before (λ u. is_event_of v (s.published u)) (t + 1)) (sym same)
+            (ap (λ o. unwrap_or o false) (slice_get-set_same asked e.p.0 true (omega arith))
+            ∙ ap (λ b. b || some_before (λ u. is_event_of e.p.0 (s.published u)) t) (sym (ap (is_event_of e.p.0) is ∙ itself e.p.0))
+            ∙ ap (some_before (λ u. is_event_of e.p.0 (s.published u))) (sym (add-one t)))
+        | inr other ↦
+            ap (λ o. unwrap_or o false) (slice_get-set_other asked e.p.0 p true other)
+            ∙ before p l
+            ∙ ap (λ b. b || some_before (λ u. is_event_of p (s.published u)) t) (sym (ap (is_event_of p) is ∙ apart p e.p.0 other))
+            ∙ ap (some_before (λ u. is_event_of p (s.published u))) (sym (add-one t))
+      ]
+    where
+      itself : (p : ℕ) → (p == p) ≡ true
+      itself p = grind (arith, nat_tests)
+
+      apart : (p q : ℕ) → (p ≡ q → ⊥) → (q == p) ≡ false
+      apart p q n = grind (arith, nat_tests)
+
+  pub awaited_none :
+      s.published t ≡ None → (p : ℕ) → p < length asked → is_asked asked p ≡ some_before (λ u. is_event_of p (s.published u)) (t + 1)
+  awaited_none is p l =
+      before p l
+      ∙ ap (λ b. b || some_before (λ u. is_event_of p (s.published u)) t) (sym (ap (is_event_of p) is))
+      ∙ ap (some_before (λ u. is_event_of p (s.published u))) (sym (add-one t))

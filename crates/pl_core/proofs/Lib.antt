@@ -1,0 +1,11 @@
+pub mod Cells
+pub mod OpCounts
+pub mod Standing
+pub mod OneStep
+pub mod StepKinds
+pub mod Bounds
+pub mod ChangeKinds
+pub mod GoingOn
+pub mod Opening
+pub mod Below
+pub mod AtOp

@@ -1,0 +1,12 @@
+pub mod Cells
+pub mod PhaseTables
+pub mod Worlds
+pub mod Stands
+pub mod Moves
+pub mod Tasks
+pub mod Changes
+pub mod Tables
+pub mod Views
+pub mod Ops
+pub mod Effects
+pub mod Reading

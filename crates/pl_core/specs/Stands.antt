@@ -1,0 +1,51 @@
+-- How a task stands in a world, and whether it may go on.
+use Rattle.std.specs.Prelude.{◌≡◌, ◌≢◌, ℕ, ◌<◌, ◌≤◌, true, false, Some, None, length}
+use Rattle.armus_base.specs.declared.event.Event.{Event}
+use Rattle.armus_base.specs.Plans.{Action, Blocks}
+use Rattle.armus_base.specs.States.{State, IsActive, IsLegal, IsReached, awaited}
+use Rattle.pl_core.specs.declared.stand.Stand.{Stand}
+use Rattle.pl_core.specs.declared.stand.Stand.TheVariants.{Unforked, Done, Refused, Ready, Await, Waits}
+use Rattle.pl_core.specs.Worlds.{WorldValue, state_of, next_action}
+
+-- task t is active, and its code goes on with something else than an await
+abbrev pub IsReady : WorldValue → ℕ → Type 0
+IsReady w t = IsActive (state_of w) t × (x : Action) × (next_action w t ≡ Some x) × ((p : ℕ) → x ≢ Blocks p)
+
+-- task t is active, and its code goes on with an await of the event
+abbrev pub IsAtAwaitOf : WorldValue → ℕ → Event → Type 0
+IsAtAwaitOf w t e = IsActive (state_of w) t × awaited (next_action w t) ((state_of w).phases t) ≡ Some e
+
+-- this is how task t stands
+abbrev pub StandsSo : WorldValue → ℕ → Stand → Type 0
+StandsSo w t Unforked = (state_of w).forked t ≡ false
+StandsSo w t Done = (state_of w).forked t ≡ true × next_action w t ≡ None
+StandsSo w t (Refused e) = (state_of w).refused t ≡ Some e
+StandsSo w t Ready = IsReady w t
+StandsSo w t (Await e) = IsAtAwaitOf w t e
+StandsSo w t (Waits e) = (state_of w).published t ≡ Some e
+
+-- the next action of task t by its code is legal
+abbrev pub IsEnabled : WorldValue → ℕ → Type 0
+IsEnabled w t = (x : Action) × (next_action w t ≡ Some x) × IsLegal w.plan (state_of w) t x
+
+-- a task that stands so may go on
+abbrev pub MayGoOn : State → Stand → Type 0
+MayGoOn s Ready = Unit {0}
+MayGoOn s (Await e) = Unit {0}
+MayGoOn s (Waits e) = IsReached s e
+MayGoOn s stand = ⊥
+
+-- task u keeps the event from being reached: it is a member of its phaser with a phase below
+abbrev pub IsBehind : State → Event → ℕ → Type 0
+IsBehind s e u = (m : ℕ) × (s.phases u e.p.0 ≡ Some m) × (m < e.n)
+
+-- none of the tasks from number k on and below number j does
+abbrev pub AreAhead : State → Event → ℕ → ℕ → Type 0
+AreAhead s e k j = (u m : ℕ) → k ≤ u → u < j → s.phases u e.p.0 ≡ Some m → e.n ≤ m
+
+-- task t is the first one from number k on that keeps the event from being reached
+pub record IsFirstBehind (w : WorldValue) (e : Event) (k t : ℕ) : Type 0 where
+  pub from : k ≤ t
+  pub task : t < length w.plan.parents
+  pub behind : IsBehind (state_of w) e t
+  pub ahead : AreAhead (state_of w) e k t

@@ -1,0 +1,13 @@
+//! The plain machine: a plan, how far each task has come in it, and the state that these places fix.
+#![tactic(auto)]
+
+mod effect;
+mod phase_table;
+mod place;
+mod stand;
+mod task;
+mod world;
+
+pub use place::Place;
+pub use stand::Stand;
+pub use world::World;

@@ -1,0 +1,399 @@
+// A state of the plain machine.
+ghost use Rattle.std.specs.Prelude.{◌≡◌, ℕ, ◌<◌, ◌≤◌, ◌↔◌, Some, IsTrue, IfOk, IfSome, MatchOption, length, option_map};
+ghost use Rattle.armus_base.specs.Plans.{Forks, code_of};
+ghost use Rattle.armus_base.specs.CheckedPlans.{IsCheckedPlan};
+ghost use Rattle.armus_base.specs.Runs.{IsReachable};
+ghost use Rattle.armus_base.specs.States.{IsActive, IsMember, IsReached, event_on};
+ghost use Rattle.pl_core.specs.Worlds.{state_of, places_of, next_action, IsOpening};
+ghost use Rattle.pl_core.specs.Stands.{StandsSo, IsAtAwaitOf, IsReady, IsEnabled, MayGoOn, AreAhead, IsFirstBehind};
+ghost use Rattle.pl_core.specs.Moves.{MakesStep};
+ghost use Rattle.armus_base.specs.Finals.{end_of, final_of, given_below, is_awaited, list_below, listed_phase, statuses_of, statuses_on};
+ghost use Rattle.pl_core.specs.Ops.{action_of, ChangesPhases};
+ghost use Rattle.pl_core.specs.Reading.{is_asked};
+ghost use Rattle.pl_core.specs.Tasks.{IsAtOp};
+
+use crate::effect::move_phases;
+use crate::phase_table::PhaseTable;
+use crate::task::{Task, first_tasks, op_at, task_at};
+use crate::{Place, Stand};
+use armus_base::{
+    Event, Final, List, Member, NoMemory, Op, Phase, PhaserId, Plan, Status, TaskEnd, TaskId,
+};
+use std::alloc::Global;
+use std::marker::Model;
+
+/// A state of a plan: contracts see it as the plan and the place of each task, which fix the state.
+#[derive(Drop)]
+pub struct World<'p> {
+    plan: &'p Plan,
+    tasks: Vec<Task>,
+    phases: PhaseTable,
+}
+
+impl<'p> Model for World<'p> {
+    ghost use Rattle.pl_core.specs.Worlds.{WorldValue};
+
+    ghost Value = { WorldValue };
+
+    ghost use Rattle.pl_core.specs.Views.{world_of, IsWorld};
+
+    ghost view = { world_of };
+
+    ghost invariant = { IsWorld };
+}
+
+impl<'p> World<'p> {
+    /// The opening state: only task 0 is forked, and no task has made an event.
+    pub fn start(alloc: Global, plan: &'p Plan) -> Result<World<'p>, NoMemory>
+        ensures opening { IfOk result (λ world. IsOpening plan.now world) }
+    {
+        let count = plan.tasks() as usize;
+        let phases = PhaseTable::new(alloc, count, plan.phasers() as usize)?;
+        let tasks = first_tasks(alloc, count)?;
+        Ok(World {
+            plan,
+            tasks,
+            phases,
+        })
+    }
+
+    /// How task `t` stands.
+    pub fn stand(&self, t: TaskId) -> Stand
+        requires task { t.0 < length self.now.plan.parents }
+        ensures stand { StandsSo self.now t.0 result }
+        ensures goes_on { IsEnabled self.now t.0 ↔ MayGoOn (state_of self.now) result }
+        ensures checked { IsCheckedPlan self.now.plan }
+        ensures reachable { IsReachable self.now.plan (places_of self.now) }
+    {
+        self.stand_kept(t)
+    }
+
+    // How a task stands by what is kept of it.
+    fn stand_kept(&self, t: TaskId) -> Stand
+        requires task { t.0 < length self.now.plan.parents }
+        ensures stand { StandsSo self.now t.0 result }
+        ensures checked { IsCheckedPlan self.now.plan }
+        ensures reachable { IsReachable self.now.plan (places_of self.now) }
+    {
+        let task = task_at(&self.tasks, t.0 as usize);
+        if !task.forked {
+            return Stand::Unforked;
+        }
+        match task.event {
+            Some(event) => {
+                if task.place.refused {
+                    Stand::Refused(event)
+                } else {
+                    Stand::Waits(event)
+                }
+            }
+            None => self.stand_before_op(t),
+        }
+    }
+
+    // How an active task stands.
+    fn stand_before_op(&self, t: TaskId) -> Stand
+        requires task { t.0 < length self.now.plan.parents }
+        requires active { IsActive (state_of self.now) t.0 }
+        ensures { StandsSo self.now t.0 result }
+    {
+        match self.next_op(t) {
+            None => Stand::Done,
+            Some(Op::Await { p }) => Stand::Await(self.own_event(p, t)),
+            Some(_) => Stand::Ready,
+        }
+    }
+
+    // The op with which the code of a task goes on.
+    fn next_op(&self, t: TaskId) -> Option<Op>
+        requires task { t.0 < length self.now.plan.parents }
+        requires active { IsActive (state_of self.now) t.0 }
+        ensures next { next_action self.now t.0 ≡ option_map action_of result }
+        ensures checked { IsCheckedPlan self.now.plan }
+        ensures reachable { IsReachable self.now.plan (places_of self.now) }
+    {
+        let task = task_at(&self.tasks, t.0 as usize);
+        op_at(self.plan.code(t), task.op as usize)
+    }
+
+    // The event of a phaser at the phase of its member.
+    fn own_event(&self, p: PhaserId, t: TaskId) -> Event
+        requires task { t.0 < length self.now.plan.parents }
+        requires phaser { p.0 < length self.now.plan.makers }
+        requires member { IsMember (state_of self.now) t.0 p.0 }
+        ensures { event_on p.0 ((state_of self.now).phases t.0 p.0) ≡ Some result }
+    {
+        match self.phase(p, t) {
+            Some(n) => Event { p, n },
+            None => unreachable!(),
+        }
+    }
+
+    /// The index in the code of task `t` of its next op, or of the await that it has begun; where its code is done, the length of that.
+    pub fn op(&self, t: TaskId) -> u32
+        requires task { t.0 < length self.now.plan.parents }
+        ensures op { IsAtOp (code_of self.now.plan t.0) (places_of self.now t.0).done result }
+    {
+        task_at(&self.tasks, t.0 as usize).op
+    }
+
+    /// The phase of task `t` on phaser `p`; None exactly where it is no member.
+    pub fn phase(&self, p: PhaserId, t: TaskId) -> Option<Phase>
+        requires task { t.0 < length self.now.plan.parents }
+        requires phaser { p.0 < length self.now.plan.makers }
+        ensures phase { result ≡ (state_of self.now).phases t.0 p.0 }
+    {
+        self.phases.get(t.0 as usize, p.0 as usize)
+    }
+
+    /// The first task from number `from` on that keeps the event from being reached: it is a member of the event's phaser with a phase below.
+    pub fn first_behind(&self, event: Event, from: u32) -> Option<TaskId>
+        requires phaser { event.p.0 < length self.now.plan.makers }
+        ensures first { MatchOption result (AreAhead (state_of self.now) event from (length self.now.plan.parents)) (λ t. IsFirstBehind self.now event from t.0) }
+    {
+        for t in from..self.plan.tasks() {
+            if let Some(n) = self.phase(event.p, TaskId(t)) {
+                if n < event.n {
+                    return Some(TaskId(t));
+                }
+            }
+        }
+        None
+    }
+
+    // Whether the event is reached.
+    fn is_reached(&self, event: Event) -> bool
+        requires phaser { event.p.0 < length self.now.plan.makers }
+        requires checked { IsCheckedPlan self.now.plan }
+        requires reachable { IsReachable self.now.plan (places_of self.now) }
+        ensures { IsTrue result ↔ IsReached (state_of self.now) event }
+    {
+        match self.first_behind(event, 0) {
+            None => true,
+            Some(_) => false,
+        }
+    }
+
+    /// Whether task `t` may go on: it stands before an op, or at an await, or waits on an event that is reached.
+    pub fn enabled(&self, t: TaskId) -> bool
+        requires task { t.0 < length self.now.plan.parents }
+        ensures enabled { IsTrue result ↔ IsEnabled self.now t.0 }
+    {
+        match self.stand(t) {
+            Stand::Ready | Stand::Await(_) => true,
+            Stand::Waits(event) => self.is_reached(event),
+            Stand::Unforked | Stand::Done | Stand::Refused(_) => false,
+        }
+    }
+
+    /// Makes the next event of task `t`: Block where it stands at an await, Pass where it waits, and the op's own event otherwise. It takes no memory.
+    pub fn step(&mut self, t: TaskId)
+        requires task { t.0 < length self.old.plan.parents }
+        requires enabled { IsEnabled self.old t.0 }
+        ensures { MakesStep self.old self.new t.0 }
+    {
+        match self.stand(t) {
+            Stand::Waits(event) => self.pass(t, event),
+            Stand::Await(event) => self.block(t, event),
+            _ => self.act(t),
+        }
+    }
+
+    // Publishes the event at which the task stands.
+    fn block(&mut self, t: TaskId, event: Event)
+        requires task { t.0 < length self.old.plan.parents }
+        requires before { IsAtAwaitOf self.old t.0 event }
+        ensures { MakesStep self.old self.new t.0 }
+    {
+        let at = t.0 as usize;
+        self.tasks[at] = task_at(&self.tasks, at).after_block(event);
+    }
+
+    // Withdraws the event, which is reached.
+    fn pass(&mut self, t: TaskId, event: Event)
+        requires task { t.0 < length self.old.plan.parents }
+        requires waits { (state_of self.old).published t.0 ≡ Some event }
+        requires reached { IsReached (state_of self.old) event }
+        ensures { MakesStep self.old self.new t.0 }
+    {
+        let at = t.0 as usize;
+        self.tasks[at] = task_at(&self.tasks, at).after_op();
+    }
+
+    // Makes the op's own event.
+    fn act(&mut self, t: TaskId)
+        requires task { t.0 < length self.old.plan.parents }
+        requires ready { IsReady self.old t.0 }
+        ensures { MakesStep self.old self.new t.0 }
+    {
+        match self.next_op(t) {
+            Some(Op::Fork { c }) => self.fork(t, c),
+            Some(op) => self.change(t, op),
+            None => unreachable!(),
+        }
+    }
+
+    // Starts the child.
+    fn fork(&mut self, t: TaskId, c: TaskId)
+        requires task { t.0 < length self.old.plan.parents }
+        requires active { IsActive (state_of self.old) t.0 }
+        requires next { next_action self.old t.0 ≡ Some (Forks c.0) }
+        ensures { MakesStep self.old self.new t.0 }
+    {
+        let child = task_at(&self.tasks, c.0 as usize);
+        let task = task_at(&self.tasks, t.0 as usize);
+        self.tasks[c.0 as usize] = child.after_fork();
+        self.tasks[t.0 as usize] = task.after_op();
+    }
+
+    // Makes an op that changes phases alone.
+    fn change(&mut self, t: TaskId, op: Op)
+        requires task { t.0 < length self.old.plan.parents }
+        requires active { IsActive (state_of self.old) t.0 }
+        requires next { next_action self.old t.0 ≡ Some (action_of op) }
+        requires kind { ChangesPhases op }
+        ensures { MakesStep self.old self.new t.0 }
+    {
+        let task = task_at(&self.tasks, t.0 as usize);
+        move_phases(&mut self.phases, t.0 as usize, op);
+        self.tasks[t.0 as usize] = task.after_op();
+    }
+
+    /// The status of each published task, in order of number: its event, and its phase on each phaser of which it is a member.
+    pub fn statuses(&self, alloc: Global) -> Result<List<Status>, NoMemory>
+        ensures statuses { IfOk result (λ list. list ≡ statuses_of self.now.plan (state_of self.now)) }
+    {
+        let asked = vec![in alloc; true; self.plan.phasers() as usize]?;
+        let statuses = self.statuses_on(alloc, &asked)?;
+        Ok(List::from_vec(statuses))
+    }
+
+    /// The state as a final one: how each task has ended, and the status of each blocked task with its phases on the phasers that some blocked task awaits.
+    pub fn finish(&self, alloc: Global) -> Result<Final, NoMemory>
+        requires quiet { (t : ℕ) → t < length self.now.plan.parents → IsEnabled self.now t → ⊥ }
+        ensures end { IfOk result (λ end. end ≡ final_of self.now.plan (state_of self.now)) }
+    {
+        let asked = self.awaited_phasers(alloc)?;
+        let blocked = self.statuses_on(alloc, &asked)?;
+        let ends = self.ends(alloc)?;
+        Ok(Final {
+            ends: List::from_vec(ends),
+            blocked: List::from_vec(blocked),
+        })
+    }
+
+    // The event on which a task is published.
+    fn published(&self, t: TaskId) -> Option<Event>
+        requires task { t.0 < length self.now.plan.parents }
+        ensures event { result ≡ (state_of self.now).published t.0 }
+        ensures phaser { IfSome result (λ event. event.p.0 < length self.now.plan.makers) }
+    {
+        let task = task_at(&self.tasks, t.0 as usize);
+        if task.place.refused { None } else { task.event }
+    }
+
+    // How a task has ended.
+    fn end(&self, t: TaskId) -> TaskEnd
+        requires task { t.0 < length self.now.plan.parents }
+        ensures { result ≡ end_of (state_of self.now) t.0 }
+    {
+        let task = task_at(&self.tasks, t.0 as usize);
+        match task.event {
+            Some(event) => {
+                if task.place.refused {
+                    TaskEnd::Refused(event)
+                } else {
+                    TaskEnd::Blocked(event)
+                }
+            }
+            None => {
+                if task.forked {
+                    TaskEnd::Done
+                } else {
+                    TaskEnd::Unforked
+                }
+            }
+        }
+    }
+
+    // How each task has ended.
+    fn ends(&self, alloc: Global) -> Result<Vec<TaskEnd>, NoMemory>
+        ensures { IfOk result (λ list. list.items ≡ list_below (end_of (state_of self.now)) (length self.now.plan.parents)) }
+    {
+        let mut ends = Vec::new(alloc);
+        for t in 0..self.plan.tasks() {
+            ends.push(self.end(TaskId(t)))?;
+        }
+        Ok(ends)
+    }
+
+    // Which phasers some published task awaits.
+    fn awaited_phasers(&self, alloc: Global) -> Result<Vec<bool>, NoMemory>
+        ensures len { IfOk result (λ asked. length asked.items ≡ length self.now.plan.makers) }
+        ensures asked { IfOk result (λ asked. (p : ℕ) → p < length self.now.plan.makers → is_asked asked.items p ≡ is_awaited self.now.plan (state_of self.now) p) }
+    {
+        let mut asked = vec![in alloc; false; self.plan.phasers() as usize]?;
+        for t in 0..self.plan.tasks() {
+            match self.published(TaskId(t)) {
+                Some(event) => asked[event.p.0 as usize] = true,
+                None => {}
+            }
+        }
+        Ok(asked)
+    }
+
+    // The statuses with the phases on the asked phasers.
+    fn statuses_on(&self, alloc: Global, asked: &[bool]) -> Result<Vec<Status>, NoMemory>
+        requires len { length asked.now ≡ length self.now.plan.makers }
+        ensures { IfOk result (λ list. list.items ≡ statuses_on self.now.plan (state_of self.now) (is_asked asked.now)) }
+    {
+        let mut statuses = Vec::new(alloc);
+        for t in 0..self.plan.tasks() {
+            match self.published(TaskId(t)) {
+                Some(event) => {
+                    let phases = self.phases_on(alloc, TaskId(t), asked)?;
+                    statuses.push(Status {
+                        t: TaskId(t),
+                        event,
+                        phases: List::from_vec(phases),
+                    })?;
+                }
+                None => {}
+            }
+        }
+        Ok(statuses)
+    }
+
+    // The phase of a task on one phaser, if that is asked.
+    fn listed(&self, p: PhaserId, t: TaskId, asked: &[bool]) -> Option<Member>
+        requires task { t.0 < length self.now.plan.parents }
+        requires phaser { p.0 < length self.now.plan.makers }
+        requires len { length asked.now ≡ length self.now.plan.makers }
+        ensures { result ≡ listed_phase (is_asked asked.now) ((state_of self.now).phases t.0) p.0 }
+    {
+        if asked[p.0 as usize] {
+            match self.phase(p, t) {
+                Some(n) => Some(Member { p, n }),
+                None => None,
+            }
+        } else {
+            None
+        }
+    }
+
+    // The phases of a task on the asked phasers.
+    fn phases_on(&self, alloc: Global, t: TaskId, asked: &[bool]) -> Result<Vec<Member>, NoMemory>
+        requires task { t.0 < length self.now.plan.parents }
+        requires len { length asked.now ≡ length self.now.plan.makers }
+        ensures { IfOk result (λ list. list.items ≡ given_below (listed_phase (is_asked asked.now) ((state_of self.now).phases t.0)) (length self.now.plan.makers)) }
+    {
+        let mut phases = Vec::new(alloc);
+        for p in 0..self.plan.phasers() {
+            match self.listed(PhaserId(p), t, asked) {
+                Some(member) => phases.push(member)?,
+                None => {}
+            }
+        }
+        Ok(phases)
+    }
+}
