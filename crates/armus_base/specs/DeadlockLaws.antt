@@ -51,6 +51,11 @@ CollectedIsDeadAtReachable =
 abbrev pub NobodyIsDead : Type 0
 NobodyIsDead = (plan : Plan) (h : List Step) → IsCheckedPlan plan → IsAvoidedRun plan h → NobodyDead (state_after h)
 
+-- on a board that avoids deadlock nobody is dead in any lawful state
+abbrev pub NobodyIsDeadAtLawful : Type 0
+NobodyIsDeadAtLawful =
+    (plan : Plan) (a : ℕ → Place) (lock : Option ℕ) → IsCheckedPlan plan → IsLawful true plan a lock → NobodyDead (state_at plan a)
+
 -- on a board that avoids deadlock nobody is known to be dead, where some lawful state is as far on as what is seen
 abbrev pub NobodyIsKnownDead : Type 0
 NobodyIsKnownDead =

@@ -82,7 +82,7 @@ IsPrefix a b = Precedes a.done a.dropped b.done b.dropped
 abbrev pub ArePrefixes : (ℕ → Place) → (ℕ → Place) → Type 0
 ArePrefixes a b = (t : ℕ) → IsPrefix (a t) (b t)
 
--- places to which a legal run leads; on no board are they all lawful
+-- places to which a legal run leads; since such a run may refuse anywhere, no board has them all lawful
 pub record IsReachable (plan : Plan) (a : ℕ → Place) : Type 0 where
   pub steps : List Step
   pub run : IsLegalRun plan steps

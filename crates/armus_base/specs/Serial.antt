@@ -32,7 +32,7 @@ RoundBelow plan zero h h' = h' ≡ h
 RoundBelow plan (suc k) h h' =
     (g : List Step) × RoundBelow plan k h g × MatchBool ((state_after h).forked k) (IsTurn plan k g h') (h' ≡ g)
 
--- whole rounds of all tasks
+-- the serial avoided run so far: whole rounds, in each of which the tasks take turns in order of number
 pub data IsSerialAvoidedRun (plan : Plan) : List Step → Type 0 where
   opens : IsSerialAvoidedRun plan []
   rounds : {h g : List Step} → IsSerialAvoidedRun plan h → RoundBelow plan (length plan.parents) h g → IsSerialAvoidedRun plan g
@@ -52,7 +52,7 @@ abbrev pub next_step : ℕ → Option Action → List Step
 next_step t None = []
 next_step t (Some x) = record { task = t; action = x } ∷ []
 
--- the steps of a schedule of tasks, the last one first
+-- the steps of a schedule of tasks, the last one first, each the next by its task's code, legal or not (a means to write small runs)
 abbrev pub scheduled : Plan → List ℕ → List Step
 scheduled plan [] = []
 scheduled plan (t ∷ ts) = let h = scheduled plan ts in next_step t (action_at plan t (places h t).done) ++ h

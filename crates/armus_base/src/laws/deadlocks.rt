@@ -1,5 +1,5 @@
 // Laws of deadlock.
-ghost use Rattle.armus_base.specs.DeadlockLaws.{CollectedIsDead, CollectedIsDeadAtReachable, DeadStays, DeadStaysAtReachable, NobodyIsDead, NobodyIsKnownDead, OnlyBlocksKill};
+ghost use Rattle.armus_base.specs.DeadlockLaws.{CollectedIsDead, CollectedIsDeadAtReachable, DeadStays, DeadStaysAtReachable, NobodyIsDead, NobodyIsDeadAtLawful, NobodyIsKnownDead, OnlyBlocksKill};
 
 /// Only a block kills: a legal step of any other kind makes no task dead that was not dead before.
 pub fn only_blocks_kill()
@@ -18,8 +18,9 @@ pub fn collected_is_dead()
     ensures places { CollectedIsDeadAtReachable }
 {}
 
-/// Where deadlock is avoided nobody is dead after any avoided run, and nobody is known to be dead.
+/// Where deadlock is avoided nobody is dead: after no avoided run, in no lawful state of a board that avoids it, and nobody is known to be dead there.
 pub fn nobody_is_dead()
-    ensures dead { NobodyIsDead }
+    ensures runs { NobodyIsDead }
+    ensures lawful { NobodyIsDeadAtLawful }
     ensures known { NobodyIsKnownDead }
 {}
