@@ -1,19 +1,12 @@
 ghost use Rattle.std.specs.Prelude.{◌≤◌, length};
 
+mod texts;
+
 use super::*;
 use armus_base::List;
 use std::alloc::Global;
 use std::process::Abort;
 use std::test::*;
-
-const AVERAGING: &[u8] =
-    b"pc = newPhaser();\npb = newPhaser();\nloop 3 {\n  t = newTid();\n  reg(t, pc);\n  reg(t, pb);\n  fork(t) {\n    loop 2 {\n      skip; // read the neighbours\n      adv(pc);\n      await(pc);\n      skip; // write the mean\n      adv(pc);\n      await(pc);\n    }\n    dereg(pc);\n    dereg(pb);\n  }\n}\nadv(pb);\nawait(pb);\n";
-
-const BEHIND_A_CYCLE: &[u8] =
-    b"a = newPhaser();\nb = newPhaser();\nc = newPhaser();\nt = newTid(); reg(t, a); reg(t, b); reg(t, c);\nfork(t) { adv(a); await(a); }\nt = newTid(); reg(t, a); reg(t, b);\nfork(t) { adv(b); await(b); }\ndereg(a); dereg(b);\nadv(c);\nawait(c);\n";
-
-const GRANDCHILDREN: &[u8] =
-    b"a = newPhaser();\nb = newPhaser();\nt = newTid(); reg(t, a); reg(t, b);\nfork(t) { adv(a); await(a); }\nt = newTid(); reg(t, a); reg(t, b);\nfork(t) { adv(b); await(b); }\nt = newTid();\nfork(t) { u = newTid(); fork(u) { c = newPhaser(); } }\ndereg(a); dereg(b);\n";
 
 // The fault of a text as its place and kind, or none where it is a program.
 fn fault(rt: &impl Abort, alloc: Global, text: &[u8]) -> Option<(u32, u8)> {
@@ -152,11 +145,19 @@ fn printed_forms(rt: HostRuntime) -> Result<(), Fail> {
 #[test]
 fn kernels(rt: HostRuntime) -> Result<(), Fail> {
     // Each text, and how many statements it has in all and at its own level.
-    let rows: [(&[u8], u32, usize); 4] = [
-        (AVERAGING, 18, 5),
-        (BEHIND_A_CYCLE, 20, 16),
-        (GRANDCHILDREN, 21, 14),
-        (b"skip;", 1, 1),
+    let rows: [(&[u8], u32, usize); 12] = [
+        (texts::AVERAGING, 18, 5),
+        (texts::AVERAGING_REPAIRED, 19, 6),
+        (texts::FOUR_PHASERS, 40, 32),
+        (texts::THREE_PHASERS, 27, 21),
+        (texts::BEHIND_A_CYCLE, 20, 16),
+        (texts::ENDS_WITHOUT_LEAVING, 7, 6),
+        (texts::NEVER_FORKED, 5, 5),
+        (texts::TWO_ROUNDS, 10, 5),
+        (texts::TWO_ADVANCES, 12, 9),
+        (texts::OPPOSITE_ORDER, 10, 8),
+        (texts::GRANDCHILD, 21, 14),
+        (texts::TWO_MAKERS, 6, 4),
     ];
     for (i, (text, statements, own)) in rows.iter().enumerate() {
         assert!(rt; text.len() <= MAX_PARSED_BYTES);
