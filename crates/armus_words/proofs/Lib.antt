@@ -1,0 +1,9 @@
+pub mod Meaning
+pub mod FormLemmas
+pub mod Rows
+pub mod Steps
+pub mod Passes
+pub mod Walks
+pub mod Matches
+pub mod Generated
+pub mod AllWords

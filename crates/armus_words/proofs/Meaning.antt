@@ -1,0 +1,186 @@
+-- The words mean one command at most.
+use Rattle.std.proofs.Common.{◌≡◌, ◌∙◌, ◌++◌, ℕ, List, [], ◌∷◌, Bool, true, false, ap, sym, refl, subst, arith}
+use Rattle.std.specs.Prelude.{Option, Some, None, ◌==◌, ◌&&◌, option_to_list}
+use Rattle.std.specs.List.{list_all}
+use Rattle.std.specs.Str.{bytes_eq}
+use Rattle.std.proofs.lemmas.Slice.Eq.{bytes_eq-Decides}
+use Rattle.std.proofs.lemmas.Grind.{common_steps}
+use Rattle.armus_words.specs.Words.{Text, Use, valued, flag, AreUses, AreWords, IsValue, StandsAlone, all_words, dashed, first_word, has_value_alone, is_value_byte, use_words, wants_value, without}
+use Rattle.armus_words.specs.Commands.{AreWorkers, Given, IsCommand, IsGenerated, IsGraph, IsNumber, OneMeaning, Reads, first_of, given_by, graph_name}
+use Rattle.armus_words.specs.declared.table.FirstWord.{FirstWord}
+use Rattle.armus_words.specs.declared.table.FirstWord.TheVariants as first
+use Rattle.armus_words.specs.declared.table.OptionWord.{OptionWord}
+use Rattle.armus_words.specs.declared.table.OptionWord.TheVariants.{Print, Workers, Graph as GraphOption}
+use Rattle.armus_words.specs.declared.command.Graph.{Graph}
+use Rattle.armus_words.specs.declared.command.Graph.TheVariants.{Auto, Wfg, Sg, Grg}
+use Rattle.armus_words.specs.declared.command.Command.{Command}
+use Rattle.armus_words.specs.declared.command.Command.TheVariants.{Check, Run, Gen}
+
+differ : (x y : Text) → bytes_eq x y ≡ false → x ≡ y → ⊥
+differ x y unlike e = let yes : bytes_eq x y ≡ true = (bytes_eq-Decides x y).1 e in absurd (cc)
+
+one_first : (a b : FirstWord) → first_word a ≡ first_word b → a ≡ b
+one_first first.Check first.Check e = refl
+one_first first.Check first.Run e = absurd (differ (first_word first.Check) (first_word first.Run) refl e)
+one_first first.Check first.Gen e = absurd (differ (first_word first.Check) (first_word first.Gen) refl e)
+one_first first.Run first.Check e = absurd (differ (first_word first.Run) (first_word first.Check) refl e)
+one_first first.Run first.Run e = refl
+one_first first.Run first.Gen e = absurd (differ (first_word first.Run) (first_word first.Gen) refl e)
+one_first first.Gen first.Check e = absurd (differ (first_word first.Gen) (first_word first.Check) refl e)
+one_first first.Gen first.Run e = absurd (differ (first_word first.Gen) (first_word first.Run) refl e)
+one_first first.Gen first.Gen e = refl
+
+one_option : (a b : OptionWord) → dashed a ≡ dashed b → a ≡ b
+one_option Print Print e = refl
+one_option Print Workers e = absurd (differ (dashed Print) (dashed Workers) refl e)
+one_option Print GraphOption e = absurd (differ (dashed Print) (dashed GraphOption) refl e)
+one_option Workers Print e = absurd (differ (dashed Workers) (dashed Print) refl e)
+one_option Workers Workers e = refl
+one_option Workers GraphOption e = absurd (differ (dashed Workers) (dashed GraphOption) refl e)
+one_option GraphOption Print e = absurd (differ (dashed GraphOption) (dashed Print) refl e)
+one_option GraphOption Workers e = absurd (differ (dashed GraphOption) (dashed Workers) refl e)
+one_option GraphOption GraphOption e = refl
+
+head_is : {x y : Text} {xs ys : List Text} → x ∷ xs ≡ y ∷ ys → x ≡ y
+head_is e = cc
+
+tail_is : {x y : Text} {xs ys : List Text} → x ∷ xs ≡ y ∷ ys → xs ≡ ys
+tail_is e = cc
+
+pub and_first : (a b : Bool) → (a && b) ≡ true → a ≡ true
+and_first true b e = refl
+and_first false b e = absurd (cc)
+
+no_hyphen : (x : ℕ) → is_value_byte x ≡ true → (x == 45) ≡ false
+no_hyphen x e = grind (arith, common_steps)
+
+-- a value begins with no hyphen
+pub no_option : (o : OptionWord) (v : Text) → IsValue v → dashed o ≡ v → ⊥
+no_option o [] is e = absurd (cc)
+no_option o (x ∷ xs) is e =
+    let begins : 45 ≡ x = cc in
+    let plain : (x == 45) ≡ false = no_hyphen x (and_first (is_value_byte x) (list_all is_value_byte xs) is.plain) in
+    let same : (45 == 45) ≡ false = subst (λ y. (y == 45) ≡ false) (sym begins) plain in absurd (cc)
+
+-- no use and then more is the value that stands by itself
+use_or_alone : (n : Bool) (u : Use) (us : List Use) (more : List Text) (alone : Option Text) → StandsAlone n alone
+    → use_words u ++ more ≡ option_to_list alone → ⊥
+use_or_alone true (valued o v) us more (Some w) stands e = no_option o w stands (head_is e)
+use_or_alone true (flag o) us more (Some w) stands e = no_option o w stands (head_is e)
+use_or_alone true u us more None stands e = absurd stands
+use_or_alone false u us more (Some w) stands e = absurd stands
+use_or_alone false (valued o v) us more None stands e = absurd (cc)
+use_or_alone false (flag o) us more None stands e = absurd (cc)
+
+-- what the same words stand for is the same
+pub record SameUses (us vs : List Use) (a b : Option Text) : Type 0 where
+  pub uses : us ≡ vs
+  pub alone : a ≡ b
+
+same_alone : (n : Bool) (a b : Option Text) → StandsAlone n a → StandsAlone n b → option_to_list a ≡ option_to_list b → a ≡ b
+same_alone true (Some v) (Some w) p q e = ap Some (head_is e)
+same_alone true (Some v) None p q e = absurd q
+same_alone true None b p q e = absurd p
+same_alone false (Some v) b p q e = absurd p
+same_alone false None (Some w) p q e = absurd q
+same_alone false None None p q e = refl
+
+mixed : (o p : OptionWord) → o ≡ p → wants_value o ≡ true → wants_value p ≡ false → ⊥
+mixed o p e f g = absurd (cc (ap wants_value e))
+
+same_uses : (n : Bool) (free fresh : OptionWord → Bool) (us vs : List Use) (a b : Option Text) → AreUses free us → AreUses fresh vs
+    → StandsAlone n a → StandsAlone n b → all_words us ++ option_to_list a ≡ all_words vs ++ option_to_list b → SameUses us vs a b
+same_uses n free fresh [] [] a b p q s t e = record { uses = refl; alone = same_alone n a b s t e }
+same_uses n free fresh [] (valued o v ∷ vs) a b p q s t e = absurd (use_or_alone n (valued o v) vs (all_words vs ++ option_to_list b) a s (sym e))
+same_uses n free fresh [] (flag o ∷ vs) a b p q s t e = absurd (use_or_alone n (flag o) vs (all_words vs ++ option_to_list b) a s (sym e))
+same_uses n free fresh (valued o v ∷ us) [] a b p q s t e = absurd (use_or_alone n (valued o v) us (all_words us ++ option_to_list a) b t e)
+same_uses n free fresh (flag o ∷ us) [] a b p q s t e = absurd (use_or_alone n (flag o) us (all_words us ++ option_to_list a) b t e)
+same_uses n free fresh (valued o v ∷ us) (valued o' w ∷ vs) a b p q s t e =
+    let option_is : o ≡ o' = one_option o o' (head_is e) in
+    let value_is : v ≡ w = head_is (tail_is e) in
+    let more = same_uses n (without o free) (without o' fresh) us vs a b p.2 q.2 s t (tail_is (tail_is e)) in
+    let uses_are : us ≡ vs = more.uses in
+    record { uses = cc; alone = more.alone }
+same_uses n free fresh (flag o ∷ us) (flag o' ∷ vs) a b p q s t e =
+    let option_is : o ≡ o' = one_option o o' (head_is e) in
+    let more = same_uses n (without o free) (without o' fresh) us vs a b p.2 q.2 s t (tail_is e) in
+    let uses_are : us ≡ vs = more.uses in
+    record { uses = cc; alone = more.alone }
+same_uses n free fresh (valued o v ∷ us) (flag o' ∷ vs) a b p q s t e = absurd (mixed o o' (one_option o o' (head_is e)) p.1.0 q.1)
+same_uses n free fresh (flag o ∷ us) (valued o' w ∷ vs) a b p q s t e = absurd (mixed o' o (sym (one_option o o' (head_is e))) q.1.0 p.1)
+
+same_graph : (g h : Graph) → graph_name g ≡ graph_name h → g ≡ h
+same_graph Auto Auto e = refl
+same_graph Auto Wfg e = absurd (differ (graph_name Auto) (graph_name Wfg) refl e)
+same_graph Auto Sg e = absurd (differ (graph_name Auto) (graph_name Sg) refl e)
+same_graph Auto Grg e = absurd (differ (graph_name Auto) (graph_name Grg) refl e)
+same_graph Wfg Auto e = absurd (differ (graph_name Wfg) (graph_name Auto) refl e)
+same_graph Wfg Wfg e = refl
+same_graph Wfg Sg e = absurd (differ (graph_name Wfg) (graph_name Sg) refl e)
+same_graph Wfg Grg e = absurd (differ (graph_name Wfg) (graph_name Grg) refl e)
+same_graph Sg Auto e = absurd (differ (graph_name Sg) (graph_name Auto) refl e)
+same_graph Sg Wfg e = absurd (differ (graph_name Sg) (graph_name Wfg) refl e)
+same_graph Sg Sg e = refl
+same_graph Sg Grg e = absurd (differ (graph_name Sg) (graph_name Grg) refl e)
+same_graph Grg Auto e = absurd (differ (graph_name Grg) (graph_name Auto) refl e)
+same_graph Grg Wfg e = absurd (differ (graph_name Grg) (graph_name Wfg) refl e)
+same_graph Grg Sg e = absurd (differ (graph_name Grg) (graph_name Sg) refl e)
+same_graph Grg Grg e = refl
+
+one_number : (text : Text) (most a b : ℕ) → IsNumber text most a → IsNumber text most b → a ≡ b
+one_number text most a b p q = sym p.value ∙ q.value
+
+one_workers : (o : Option Text) (a b : ℕ) → AreWorkers o a → AreWorkers o b → a ≡ b
+one_workers (Some text) a b p q = one_number text _ a b p q
+one_workers None a b p q = p ∙ sym q
+
+one_graph : (o : Option Text) (g h : Graph) → IsGraph o g → IsGraph o h → g ≡ h
+one_graph (Some text) g h p q = same_graph g h (sym p ∙ q)
+one_graph None g h p q = p ∙ sym q
+
+one_generated : (o : Option Text) (a b : ℕ) → IsGenerated o a → IsGenerated o b → a ≡ b
+one_generated (Some text) a b p q = one_number text _ a b p q
+one_generated None a b p q = absurd p
+
+-- what is given is that of one command with this first word
+one_reading : (c d : Command) (given : Given) → first_of c ≡ first_of d → Reads c given → Reads d given → c ≡ d
+one_reading (Check a) (Check b) given f p q = ap Check (p ∙ sym q)
+one_reading (Check a) (Run w g) given f p q = absurd (cc)
+one_reading (Check a) (Gen n) given f p q = absurd (cc)
+one_reading (Run w g) (Check b) given f p q = absurd (cc)
+one_reading (Run w g) (Run v h) given f p q =
+    let workers_are : w ≡ v = one_workers given.workers w v p.0 q.0 in
+    let graph_is : g ≡ h = one_graph given.graph g h p.1 q.1 in cc
+one_reading (Run w g) (Gen n) given f p q = absurd (cc)
+one_reading (Gen n) (Check b) given f p q = absurd (cc)
+one_reading (Gen n) (Run w g) given f p q = absurd (cc)
+one_reading (Gen n) (Gen m) given f p q = ap Gen (one_generated given.alone n m p q)
+
+-- words have the form of one first word alone
+pub record SameForm (a b : FirstWord) (us vs : List Use) (x y : Option Text) : Type 0 where
+  pub first : a ≡ b
+  pub same : SameUses us vs x y
+
+pub same_form : (words : List Text) (a b : FirstWord) (us vs : List Use) (x y : Option Text) → AreWords words a us x → AreWords words b vs y → SameForm a b us vs x y
+same_form words a b us vs x y p q =
+    let both : first_word a ∷ (all_words us ++ option_to_list x) ≡ first_word b ∷ (all_words vs ++ option_to_list y) = sym p.words_are ∙ q.words_are in
+    let firsts : a ≡ b = one_first a b (head_is both) in
+    record {
+      first = firsts;
+      same = same_uses (has_value_alone a) _ _ us vs x y p.uses_fit q.uses_fit p.alone_fits
+          (subst (λ f. StandsAlone (has_value_alone f) y) (sym firsts) q.alone_fits) (tail_is both);
+    }
+
+one_command : (words : List Text) (c d : Command) → IsCommand words c → IsCommand words d → c ≡ d
+one_command words c d p q =
+    let form = same_form words (first_of c) (first_of d) p.uses q.uses p.alone q.alone p.form q.form in
+    let uses_are : p.uses ≡ q.uses = form.same.uses in
+    let alone_is : p.alone ≡ q.alone = form.same.alone in
+    let given_is : given_by q.uses q.alone ≡ given_by p.uses p.alone = cc in
+    one_reading c d (given_by p.uses p.alone) form.first p.values (subst (Reads d) given_is q.values)
+
+pub one_meaning : OneMeaning
+one_meaning words (Some c) (Some d) p q = ap Some (one_command words c d p q)
+one_meaning words (Some c) None p q = absurd (q c p)
+one_meaning words None (Some d) p q = absurd (p d q)
+one_meaning words None None p q = refl

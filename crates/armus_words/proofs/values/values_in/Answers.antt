@@ -1,0 +1,39 @@
+use Rattle.std.proofs.Common.{◌≡◌, ◌∙◌, ℕ, refl, List, ap, sym, subst, codes, map, string_bytes, Bool, true, false}
+use Rattle.std.specs.Prelude.{Some, None, Option}
+use Rattle.clap.specs.Words.{App, app_of, first_of, found_of, is_simple, matches_of, one_text, takes}
+use Rattle.clap.specs.Walk.{one_of}
+use Rattle.clap.proofs.WalkLemmas.{first_value-rows, one_text-rows}
+use Rattle.armus_words.specs.Commands.{Given, given_by}
+use Rattle.armus_words.specs.Rules.{app_for}
+use Rattle.armus_words.proofs.AllWords.{all_read}
+use Rattle.armus_words.proofs.Matches.{FlagFound, on, off, missing, simple}
+use Rattle.armus_words.proofs.values.values_in.Goals as goal
+
+flag_is : (found : Option (List ℕ)) (r b : Bool) → (found ≡ None → r ≡ false) → (found ≡ Some (codes "true") → r ≡ true) → (found ≡ Some (codes "false") → r ≡ false)
+    → FlagFound found b → r ≡ b
+flag_is found r b is_missing is_on is_off (on e) = is_on e
+flag_is found r b is_missing is_on is_off (off e) = is_off e
+flag_is found r b is_missing is_on is_off (missing e) = is_missing e
+
+same_given : (print : Bool) (workers graph alone : Option (List ℕ)) (g : Given) → print ≡ g.print → workers ≡ g.workers → graph ≡ g.graph → alone ≡ g.alone
+    → record { print = print; workers = workers; graph = graph; alone = alone } ≡ g
+same_given print workers graph alone g p q r s = rw (p, q, r, s) refl
+
+pub returns-in-Err-try_get_matches_from-clause-err : goal.returns-in-Err-try_get_matches_from-clause-err
+returns-in-Err-try_get_matches_from-clause-err c uses alone form =
+    let app_is : app_of c.in-Ok.command ≡ app_for c.args.first = c.in-Ok.ensures.app in
+    c.in-Err-try_get_matches_from.ensures.passes (ap (λ (a : App). takes a (map string_bytes c.args.words.now)) app_is ∙ (all_read c.args.first _ uses alone form).taken)
+
+pub returns-in-Ok-try_get_matches_from-clause-ok : goal.returns-in-Ok-try_get_matches_from-clause-ok
+returns-in-Ok-try_get_matches_from-clause-ok c uses alone form =
+    let f = c.args.first in
+    let app_is : app_of c.in-Ok.command ≡ app_for f = c.in-Ok.ensures.app in
+    let given = (all_read f _ uses alone form).given in
+    let found = found_of c.in-Ok-try_get_matches_from.matches in
+    let same = (c.in-Ok-try_get_matches_from.ensures.matches (ap is_simple app_is ∙ simple f)).0 ∙ ap (λ (a : App). matches_of a (map string_bytes c.args.words.now)) app_is in
+    same_given _ _ _ _ (given_by uses alone)
+    (flag_is (one_text found (codes "print")) c.get_flag.result _ c.get_flag.ensures.none c.get_flag.ensures.value c.get_flag.ensures.other
+    (subst (λ t. FlagFound t (given_by uses alone).print) (sym (one_text-rows found (codes "print") ∙ ap (one_of (codes "print")) same)) given.print))
+    (c.get_str.ensures ∙ first_value-rows found (codes "workers") ∙ ap (first_of (codes "workers")) same ∙ given.workers)
+    (c.get_str-in-Ok-try_get_matches_from.ensures ∙ first_value-rows found (codes "graph") ∙ ap (first_of (codes "graph")) same ∙ given.graph)
+    (c.get_str-in-Ok-try_get_matches_from-2.ensures ∙ first_value-rows found (codes "count") ∙ ap (first_of (codes "count")) same ∙ given.alone)

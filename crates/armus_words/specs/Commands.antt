@@ -1,0 +1,85 @@
+-- The command that words mean.
+use Rattle.std.specs.Prelude.{◌≡◌, ◌≤◌, ℕ, Bool, List, Option, Some, None, codes}
+use Rattle.std.specs.Str.Parse.{IsNumeral, digits_value}
+use Rattle.armus_words.specs.Words.{Text, Use, AreWords, is_used, value_of}
+use Rattle.armus_words.specs.declared.table.FirstWord.{FirstWord}
+use Rattle.armus_words.specs.declared.table.FirstWord.TheVariants as first
+use Rattle.armus_words.specs.declared.table.OptionWord.TheVariants as option
+use Rattle.armus_words.specs.declared.command.Graph.{Graph}
+use Rattle.armus_words.specs.declared.command.Graph.TheVariants.{Auto, Wfg, Sg, Grg}
+use Rattle.armus_words.specs.declared.command.Command.{Command}
+use Rattle.armus_words.specs.declared.command.Command.TheVariants.{Check, Run, Gen}
+use Rattle.armus_words.specs.declared.table.TheConstants.{MAX_WORKERS, DEFAULT_WORKERS, MAX_GENERATED}
+
+-- the first word of a command
+abbrev pub first_of : Command → FirstWord
+first_of (Check print) = first.Check
+first_of (Run workers graph) = first.Run
+first_of (Gen count) = first.Gen
+
+-- the text writes this number in decimal digits, which is at least 1 and at most the given one
+pub record IsNumber (text : Text) (most number : ℕ) : Type 0 where
+  pub digits : IsNumeral 10 text
+  pub value : digits_value 10 text ≡ number
+  pub from_one : 1 ≤ number
+  pub to_most : number ≤ most
+
+-- the word for a graph
+abbrev pub graph_name : Graph → Text
+graph_name Auto = codes "auto"
+graph_name Wfg = codes "wfg"
+graph_name Sg = codes "sg"
+graph_name Grg = codes "grg"
+
+-- what the words give: the flags, and the values as they are written
+pub record Given : Type 0 where
+  pub print : Bool
+  pub workers : Option Text
+  pub graph : Option Text
+  pub alone : Option Text
+
+-- what uses and a value that stands by itself give
+abbrev pub given_by : List Use → Option Text → Given
+given_by uses alone = record {
+  print = is_used option.Print uses;
+  workers = value_of option.Workers uses;
+  graph = value_of option.Graph uses;
+  alone = alone;
+}
+
+-- the number of workers: the one that is written, or the default
+abbrev pub AreWorkers : Option Text → ℕ → Type 0
+AreWorkers (Some text) workers = IsNumber text MAX_WORKERS workers
+AreWorkers None workers = workers ≡ DEFAULT_WORKERS
+
+-- the wanted graph: the one that is written, or the choice of the program
+abbrev pub IsGraph : Option Text → Graph → Type 0
+IsGraph (Some text) graph = text ≡ graph_name graph
+IsGraph None graph = graph ≡ Auto
+
+-- the number of workers in a generated text
+abbrev pub IsGenerated : Option Text → ℕ → Type 0
+IsGenerated (Some text) count = IsNumber text MAX_GENERATED count
+IsGenerated None count = ⊥
+
+-- what is given is what the command says
+abbrev pub Reads : Command → Given → Type 0
+Reads (Check print) given = print ≡ given.print
+Reads (Run workers graph) given = AreWorkers given.workers workers × IsGraph given.graph graph
+Reads (Gen count) given = IsGenerated given.alone count
+
+-- the words are this command
+pub record IsCommand (words : List Text) (c : Command) : Type 0 where
+  pub uses : List Use
+  pub alone : Option Text
+  pub form : AreWords words (first_of c) uses alone
+  pub values : Reads c (given_by uses alone)
+
+-- what the words mean: this command, or none
+abbrev pub Means : List Text → Option Command → Type 0
+Means words (Some c) = IsCommand words c
+Means words None = (c : Command) → IsCommand words c → ⊥
+
+-- the law: words mean one command at most
+abbrev pub OneMeaning : Type 0
+OneMeaning = (words : List Text) (c d : Option Command) → Means words c → Means words d → c ≡ d

@@ -1,0 +1,173 @@
+// The form of the words: a first word, uses of its options, each at most once, and a value where the command has one.
+ghost use Rattle.std.specs.Prelude.{◌≡◌, List, Option, Some, IfSome, map, string_bytes};
+ghost use Rattle.std.specs.List.{list_all};
+ghost use Rattle.armus_words.specs.Words.{AreWords, Text, Use, is_value_byte};
+ghost use Rattle.armus_words.specs.Form.{first_named, fits, free_at, is_free, is_value, option_named, taken_off};
+ghost use Rattle.armus_words.specs.declared.table.FirstWord.{FirstWord};
+
+use crate::table::{FirstWord, OptionWord};
+
+/// The options that may still be used.
+#[derive(Clone, Copy, Debug, PartialEq, Eq)]
+pub struct Free {
+    pub print: bool,
+    pub workers: bool,
+    pub graph: bool,
+}
+
+// The option may still be used.
+fn has(free: Free, option: OptionWord) -> bool
+    ensures { result ≡ is_free free option }
+{
+    match option {
+        OptionWord::Print => free.print,
+        OptionWord::Workers => free.workers,
+        OptionWord::Graph => free.graph,
+    }
+}
+
+// The free options without one.
+fn take_off(free: Free, option: OptionWord) -> Free
+    ensures { result ≡ taken_off free option }
+{
+    let Free {
+        print,
+        workers,
+        graph,
+    } = free;
+    match option {
+        OptionWord::Print => Free {
+            print: false,
+            workers,
+            graph,
+        },
+        OptionWord::Workers => Free {
+            print,
+            workers: false,
+            graph,
+        },
+        OptionWord::Graph => Free {
+            print,
+            workers,
+            graph: false,
+        },
+    }
+}
+
+// Lower-case letters and digits alone.
+fn is_plain(text: &str) -> bool
+    ensures { result ≡ list_all is_value_byte text.now }
+{
+    text.as_bytes()
+        .iter()
+        .all(|b| (97 <= *b && *b <= 122) || (48 <= *b && *b <= 57))
+}
+
+// One to 16 lower-case letters or digits.
+fn is_value_text(text: &str) -> bool
+    ensures { result ≡ is_value text.now }
+{
+    let len = text.len();
+    if len < 1 {
+        return false;
+    }
+    if 16 < len {
+        return false;
+    }
+    is_plain(text)
+}
+
+// The option of a word.
+fn option_in(word: &str) -> Option<OptionWord>
+    ensures { result ≡ option_named word.now }
+{
+    if word == "--print" {
+        return Some(OptionWord::Print);
+    }
+    if word == "--workers" {
+        return Some(OptionWord::Workers);
+    }
+    if word == "--graph" {
+        return Some(OptionWord::Graph);
+    }
+    None
+}
+
+// The command of a word.
+fn first_in(word: &str) -> Option<FirstWord>
+    ensures { result ≡ first_named word.now }
+{
+    if word == "check" {
+        return Some(FirstWord::Check);
+    }
+    if word == "run" {
+        return Some(FirstWord::Run);
+    }
+    if word == "gen" {
+        return Some(FirstWord::Gen);
+    }
+    None
+}
+
+// The words after the first: `waits` says that the option before them wants a value, `alone` that a value stands by itself.
+fn fit(words: &[String], waits: bool, free: Free, alone: bool) -> bool
+    ensures { result ≡ fits waits free alone (map string_bytes words.now) }
+{
+    match words {
+        [] => !waits && !alone,
+        [word, rest @ ..] => {
+            if waits {
+                return is_value_text(word.as_str()) && fit(rest, false, free, alone);
+            }
+            match option_in(word.as_str()) {
+                Some(option) => {
+                    has(free, option)
+                        && fit(rest, option.wants_value(), take_off(free, option), alone)
+                }
+                None => alone && rest.is_empty() && is_value_text(word.as_str()),
+            }
+        }
+    }
+}
+
+// The options of a command.
+fn options_at(first: FirstWord) -> Free
+    ensures { result ≡ free_at first }
+{
+    match first {
+        FirstWord::Check => Free {
+            print: true,
+            workers: false,
+            graph: false,
+        },
+        FirstWord::Run => Free {
+            print: false,
+            workers: true,
+            graph: true,
+        },
+        FirstWord::Gen => Free {
+            print: false,
+            workers: false,
+            graph: false,
+        },
+    }
+}
+
+/// The first word of words that have the form of a command.
+pub fn first_word_in(words: &[String]) -> Option<FirstWord>
+    ensures sound { IfSome result (λ first. (uses : List Use) × (alone : Option Text) × AreWords (map string_bytes words.now) first uses alone) }
+    ensures whole { (first : FirstWord) (uses : List Use) (alone : Option Text) → AreWords (map string_bytes words.now) first uses alone
+        → result ≡ Some first }
+{
+    match words {
+        [] => None,
+        [word, rest @ ..] => {
+            let first = first_in(word.as_str())?;
+            if fit(rest, false, options_at(first), first.has_value_alone()) {
+                Some(first)
+            } else {
+                None
+            }
+        }
+    }
+}

@@ -1,0 +1,16 @@
+//! The words of the command line: their form, the values of their options by `clap`, and the command that they mean.
+#![tactic(auto)]
+
+mod command;
+mod forms;
+mod numbers;
+mod reading;
+mod table;
+mod values;
+
+pub use command::{Command, Graph};
+pub use reading::{command_in, words_mean_one_command};
+pub use table::{DEFAULT_WORKERS, MAX_GENERATED, MAX_WORKERS};
+
+#[cfg(test)]
+mod tests;

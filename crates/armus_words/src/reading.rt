@@ -1,0 +1,93 @@
+// The command that the words mean.
+ghost use Rattle.std.specs.Prelude.{◌≡◌, ℕ, IfOk, IfSome, IfNone, map, option_map, string_bytes};
+ghost use Rattle.armus_words.specs.Commands.{AreWorkers, IsGenerated, IsGraph, Means, OneMeaning, Reads, first_of};
+ghost use Rattle.armus_words.specs.Rules.{given_of};
+ghost use Rattle.armus_words.specs.declared.command.Command.{Command};
+ghost use Rattle.armus_words.specs.declared.command.Graph.{Graph};
+
+use crate::command::{Command, Graph};
+use crate::forms::first_word_in;
+use crate::numbers::{graph_in, number_in};
+use crate::table::{DEFAULT_WORKERS, FirstWord, MAX_GENERATED, MAX_WORKERS};
+use crate::values::{Values, values_in};
+use clap::error::ErrorKind;
+use std::alloc::{AllocError, Global};
+
+// The number of workers.
+fn workers_in(text: Option<&str>) -> Option<u8>
+    ensures some { IfSome result (λ workers. AreWorkers (option_map (λ s. s.now) text.entry) workers) }
+    ensures none { IfNone result ((workers : ℕ) → AreWorkers (option_map (λ s. s.now) text.entry) workers → ⊥) }
+{
+    match text {
+        Some(text) => Some(number_in(text, u64::from(MAX_WORKERS))? as u8),
+        None => Some(DEFAULT_WORKERS),
+    }
+}
+
+// The wanted graph.
+fn wanted_in(text: Option<&str>) -> Option<Graph>
+    ensures some { IfSome result (λ graph. IsGraph (option_map (λ s. s.now) text.entry) graph) }
+    ensures none { IfNone result ((graph : Graph) → IsGraph (option_map (λ s. s.now) text.entry) graph → ⊥) }
+{
+    match text {
+        Some(text) => graph_in(text),
+        None => Some(Graph::Auto),
+    }
+}
+
+// The number of workers in a generated text.
+fn generated_in(text: Option<&str>) -> Option<u16>
+    ensures some { IfSome result (λ count. IsGenerated (option_map (λ s. s.now) text.entry) count) }
+    ensures none { IfNone result ((count : ℕ) → IsGenerated (option_map (λ s. s.now) text.entry) count → ⊥) }
+{
+    match text {
+        Some(text) => Some(number_in(text, u64::from(MAX_GENERATED))? as u16),
+        None => None,
+    }
+}
+
+// The command of this first word with these values.
+fn command_of(first: FirstWord, values: &Values<'_>) -> Option<Command>
+    ensures some { IfSome result (λ c. (first_of c ≡ first) × Reads c (given_of values.now)) }
+    ensures none { IfNone result ((c : Command) → first_of c ≡ first → Reads c (given_of values.now) → ⊥) }
+{
+    match first {
+        FirstWord::Check => Some(Command::Check {
+            print: values.print,
+        }),
+        FirstWord::Run => {
+            let workers = workers_in(values.workers)?;
+            let graph = wanted_in(values.graph)?;
+            Some(Command::Run { workers, graph })
+        }
+        FirstWord::Gen => {
+            let count = generated_in(values.alone)?;
+            Some(Command::Gen { count })
+        }
+    }
+}
+
+/// The command that the words mean, if they mean one. The words are the command line without the program's name.
+pub fn command_in(alloc: Global, words: &[String]) -> Result<Option<Command>, AllocError>
+    ensures means { IfOk result (Means (map string_bytes words.now)) }
+{
+    let first = match first_word_in(words) {
+        Some(first) => first,
+        None => return Ok(None),
+    };
+    match values_in(alloc, first, words) {
+        Ok(values) => Ok(command_of(first, &values)),
+        Err(error) => {
+            if error.kind() == ErrorKind::OutOfMemory {
+                Err(AllocError)
+            } else {
+                Ok(None)
+            }
+        }
+    }
+}
+
+/// The law that words mean one command at most.
+pub fn words_mean_one_command()
+    ensures { OneMeaning }
+{}

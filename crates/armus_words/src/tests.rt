@@ -1,0 +1,88 @@
+// Words that are commands, and words that are none.
+use crate::{Command, Graph, command_in};
+use std::alloc::{AllocError, Global};
+use std::test::Fail;
+
+fn words(alloc: Global, texts: &[&str]) -> Result<Vec<String>, AllocError> {
+    let mut all = Vec::new(alloc);
+    for text in texts {
+        all.push(String::from_str(alloc, text)?)?;
+    }
+    Ok(all)
+}
+
+fn run(workers: u8, graph: Graph) -> Option<Command> {
+    Some(Command::Run { workers, graph })
+}
+
+fn check(print: bool) -> Option<Command> {
+    Some(Command::Check { print })
+}
+
+fn generate(count: u16) -> Option<Command> {
+    Some(Command::Gen { count })
+}
+
+#[test]
+fn words_and_their_commands(rt: HostRuntime) -> Result<(), Fail> {
+    let alloc = rt.alloc();
+    let rows: [(&[&str], Option<Command>); 40] = [
+        (&["check"], check(false)),
+        (&["check", "--print"], check(true)),
+        (&["run"], run(4, Graph::Auto)),
+        (&["run", "--workers", "1"], run(1, Graph::Auto)),
+        (&["run", "--workers", "64"], run(64, Graph::Auto)),
+        (
+            &["run", "--workers", "0000000000000064"],
+            run(64, Graph::Auto),
+        ),
+        (&["run", "--graph", "auto"], run(4, Graph::Auto)),
+        (&["run", "--graph", "wfg"], run(4, Graph::Wfg)),
+        (&["run", "--graph", "sg"], run(4, Graph::Sg)),
+        (
+            &["run", "--graph", "grg", "--workers", "3"],
+            run(3, Graph::Grg),
+        ),
+        (
+            &["run", "--workers", "3", "--graph", "grg"],
+            run(3, Graph::Grg),
+        ),
+        (&["gen", "1"], generate(1)),
+        (&["gen", "1000"], generate(1000)),
+        (&["gen", "0000000000000999"], generate(999)),
+        (&[], None),
+        (&["run", "--workers", "0"], None),
+        (&["run", "--workers", "65"], None),
+        (&["run", "--workers", "00000000000000064"], None),
+        (&["run", "--workers", "-1"], None),
+        (&["run", "--workers", "+3"], None),
+        (&["run", "--workers", "3x"], None),
+        (&["run", "--workers", "A"], None),
+        (&["run", "--workers", ""], None),
+        (&["run", "--workers"], None),
+        (&["run", "--workers=3"], None),
+        (&["run", "--work", "3"], None),
+        (&["run", "-w", "3"], None),
+        (&["run", "--"], None),
+        (&["run", "--help"], None),
+        (&["run", "3"], None),
+        (&["run", "run"], None),
+        (&["run", "--print"], None),
+        (&["run", "--live"], None),
+        (&["run", "--graph", "sga"], None),
+        (&["run", "--workers", "3", "--workers", "3"], None),
+        (&["check", "--print", "--print"], None),
+        (&["gen"], None),
+        (&["gen", "0"], None),
+        (&["gen", "1001"], None),
+        (&["avoid"], None),
+    ];
+    for (texts, command) in rows {
+        let all = words(alloc, texts)?;
+        let found = command_in(alloc, all.as_slice())?;
+        let count = texts.len();
+        let last = texts.last().copied().unwrap_or("");
+        assert_eq!(rt; found, command, "{count} words, the last {last}");
+    }
+    Ok(())
+}

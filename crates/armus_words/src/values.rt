@@ -1,0 +1,73 @@
+// The values of the options, read by `clap`.
+ghost use Rattle.std.specs.Prelude.{◌≡◌, IfOk, IfErr, List, Option, false, map, string_bytes};
+ghost use Rattle.clap.specs.Words.{app_of, kind_of, rule_of};
+ghost use Rattle.armus_words.specs.Words.{AreWords, Text, Use};
+ghost use Rattle.armus_words.specs.Commands.{given_by};
+ghost use Rattle.armus_words.specs.Rules.{app_for, given_of, rule_for};
+
+use crate::table::{FirstWord, OptionWord};
+use clap::error::ErrorKind;
+use clap::{Arg, ArgAction, Command, Error};
+use std::alloc::{AllocError, Global};
+
+/// The flags that are used, and the values as they are written.
+#[derive(Drop)]
+pub struct Values<'a> {
+    pub print: bool,
+    pub workers: Option<&'a str>,
+    pub graph: Option<&'a str>,
+    pub alone: Option<&'a str>,
+}
+
+// The argument of an option.
+fn arg_for<'a>(alloc: Global, option: OptionWord) -> Arg<'a>
+    ensures rule { rule_of result ≡ rule_for option }
+    ensures local { result.global ≡ false }
+{
+    match option {
+        OptionWord::Print => Arg::new(alloc, "print")
+            .long("print")
+            .action(ArgAction::SetTrue),
+        OptionWord::Workers => Arg::new(alloc, "workers").long("workers"),
+        OptionWord::Graph => Arg::new(alloc, "graph").long("graph"),
+    }
+}
+
+// The simple command of a first word.
+fn command_for<'a>(alloc: Global, first: FirstWord) -> Result<Command<'a>, AllocError>
+    ensures app { IfOk result (λ command. app_of command ≡ app_for first) }
+{
+    match first {
+        FirstWord::Check => { Command::new(alloc, "check").arg(arg_for(alloc, OptionWord::Print)) }
+        FirstWord::Run => Command::new(alloc, "run")
+            .arg(arg_for(alloc, OptionWord::Workers))?
+            .arg(arg_for(alloc, OptionWord::Graph)),
+        FirstWord::Gen => Command::new(alloc, "gen").arg(Arg::new(alloc, "count")),
+    }
+}
+
+/// The values in words that have the form of this command. Where they have it, an error is want of memory.
+pub fn values_in<'a>(
+    alloc: Global,
+    first: FirstWord,
+    words: &'a [String],
+) -> Result<Values<'a>, Error>
+    ensures ok { IfOk result (λ values. (uses : List Use) (alone : Option Text) → AreWords (map string_bytes words.entry.now) first uses alone
+        → given_of values ≡ given_by uses alone) }
+    ensures err { IfErr result (λ error. (uses : List Use) (alone : Option Text) → AreWords (map string_bytes words.entry.now) first uses alone
+        → kind_of error ≡ ErrorKind.OutOfMemory) }
+{
+    let command = match command_for(alloc, first) {
+        Ok(command) => command,
+        Err(error) => return Err(Error::from(error)),
+    };
+    match command.try_get_matches_from(words) {
+        Ok(matches) => Ok(Values {
+            print: matches.get_flag("print"),
+            workers: matches.get_str("workers"),
+            graph: matches.get_str("graph"),
+            alone: matches.get_str("count"),
+        }),
+        Err(error) => Err(error),
+    }
+}
