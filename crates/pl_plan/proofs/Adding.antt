@@ -1,0 +1,157 @@
+-- How the steps of statements come one behind the other.
+use Rattle.std.proofs.Common.{◌≡◌, ℕ, ◌+◌, ◌<◌, ◌≤◌, List, [], ◌∷◌, ◌++◌, length, take, drop, get_or, arith, sym, ◌∙◌, ap, subst, refl, append_assoc}
+use Rattle.std.proofs.lemmas.List.{length-append, append-nil}
+use Rattle.std.proofs.lemmas.List.{take_more, take_all}
+use Rattle.std.proofs.Math.Seq.{get_or-append_seam}
+use Rattle.pl_syntax.proofs.Parts.{counts}
+use Rattle.std.specs.Borrow.{Bor}
+use Rattle.pl_syntax.specs.declared.tree.Stmt.{Stmt}
+use Rattle.pl_syntax.specs.Tree.{Tree, done, plain, fork, loop, Plain, count}
+use Rattle.pl_syntax.specs.Bodies.{first, tree_of}
+use Rattle.pl_plan.specs.declared.step.NameId.{NameId}
+use Rattle.pl_plan.specs.declared.step.Step.{Step}
+use Rattle.pl_plan.specs.declared.step.Step.TheVariants as a_step
+use Rattle.pl_plan.specs.Steps.{IsName, IsStep, IsSpelled, step_at}
+use Rattle.pl_plan.specs.Shows.{IsNumbering}
+use Rattle.pl_plan.specs.Numbers.{spelling, IsMore}
+use Rattle.pl_plan.specs.Flattening.{AddsSteps}
+use Rattle.pl_plan.proofs.Spelled.{NamesAgree, spelled_more, spelled_count, name_more}
+use Rattle.pl_plan.proofs.Bodies.{spelled_push}
+
+pub same_names : (keys : List (Bor (List ℕ))) → IsMore keys keys
+same_names keys = (omega arith, λ i l. refl)
+
+pub more_names : (a b c : List (Bor (List ℕ))) → IsMore a b → IsMore b c → IsMore a c
+more_names a b c h k = (omega (arith, h.0, k.0), λ i l. k.1 i (omega (arith, h.0)) ∙ h.1 i l)
+
+agrees : (a b : List (Bor (List ℕ))) → IsMore a b → NamesAgree (length a) (spelling a) (length b) (spelling b)
+agrees a b h = record { more = h.0; same = h.1 }
+
+-- a name that was numbered before
+pub earlier_name : (a b : List (Bor (List ℕ))) (i : NameId) (x : List ℕ) → IsMore a b → IsName (length a) (spelling a) i x → IsName (length b) (spelling b) i x
+earlier_name a b i x h n = name_more (length a) (spelling a) (length b) (spelling b) i x (agrees a b h) n
+
+-- one step that is a statement
+pub adds_step :
+    (a b : List (Bor (List ℕ))) (steps new : List Step) (step : Step) (s : Plain) → IsMore a b → IsNumbering (length b) (spelling b) → new ≡ steps ++ step ∷ [] →
+    IsStep (length b) (spelling b) step s → AddsSteps a b steps new (plain s done)
+adds_step a b steps new step s more distinct is h =
+    record {
+      names = more;
+      distinct = distinct;
+      added = (step ∷ [], is);
+      spelled =
+          subst (λ xs. IsSpelled (length b) (spelling b) xs (length steps) (plain s done) (length xs)) (sym is) (
+            subst (λ z. IsStep (length b) (spelling b) z s) (sym (get_or-append_seam steps step [] a_step.Skip)) h,
+            sym (length-append steps (step ∷ [])),
+          );
+    }
+
+-- where a body's steps end, behind one step
+body_end :
+    (c : List (Bor (List ℕ))) (steps mid new : List Step) (step : Step) (after : ℕ) (body : Tree) → mid ≡ steps ++ step ∷ [] →
+    after ≡ length steps + 1 + count body → IsSpelled (length c) (spelling c) new (length mid) body (length new) → after ≡ length new
+body_end c steps mid new step after body is at h =
+    omega (arith, spelled_count (length c) (spelling c) new (length mid) body (length new) h, ap length is ∙ length-append steps (step ∷ []))
+
+-- the step before a body
+step_before : (steps mid new : List Step) (step : Step) → mid ≡ steps ++ step ∷ [] → (more : List Step) × (new ≡ mid ++ more) → step_at new (length steps) ≡ step
+step_before steps mid new step is more =
+    ap (λ xs. step_at xs (length steps)) (more.1 ∙ ap (λ xs. xs ++ more.0) is ∙ append_assoc steps (step ∷ []) more.0)
+    ∙ get_or-append_seam steps step more.0 a_step.Skip
+
+-- a body's steps begin behind the one step
+body_steps :
+    (c : List (Bor (List ℕ))) (steps mid new : List Step) (step : Step) (after : ℕ) (body : Tree) → mid ≡ steps ++ step ∷ [] → after ≡ length new →
+    IsSpelled (length c) (spelling c) new (length mid) body (length new) → IsSpelled (length c) (spelling c) new (length steps + 1) body after
+body_steps c steps mid new step after body is ends h =
+    subst (λ z. IsSpelled (length c) (spelling c) new (length steps + 1) body z) (sym ends)
+    (subst (λ z. IsSpelled (length c) (spelling c) new z body (length new)) (ap length is ∙ length-append steps (step ∷ [])) h)
+
+added_behind : (steps mid new : List Step) (step : Step) → mid ≡ steps ++ step ∷ [] → (more : List Step) × (new ≡ mid ++ more) → (more : List Step) × (new ≡ steps ++ more)
+added_behind steps mid new step is more = (step ∷ [] ++ more.0, more.1 ∙ ap (λ xs. xs ++ more.0) is ∙ append_assoc steps (step ∷ []) more.0)
+
+-- a fork, and the steps of its body
+pub adds_fork :
+    (a b c : List (Bor (List ℕ))) (steps mid new : List Step) (i : NameId) (x : List ℕ) (after : ℕ) (body : Tree) → IsMore a b →
+    mid ≡ steps ++ a_step.Fork i after ∷ [] → after ≡ length steps + 1 + count body → IsName (length b) (spelling b) i x →
+    AddsSteps b c mid new body → AddsSteps a c steps new (fork x body done)
+adds_fork a b c steps mid new i x after body more is at named adds =
+    let ends = body_end c steps mid new (a_step.Fork i after) after body is at adds.spelled in
+    record {
+      names = more_names a b c more adds.names;
+      distinct = adds.distinct;
+      added = added_behind steps mid new (a_step.Fork i after) is adds.added;
+      spelled = (
+        i,
+        after,
+        step_before steps mid new (a_step.Fork i after) is adds.added,
+        earlier_name b c i x adds.names named,
+        body_steps c steps mid new (a_step.Fork i after) after body is ends adds.spelled,
+        ends,
+      );
+    }
+
+-- a loop, and the steps of its body
+pub adds_loop :
+    (a c : List (Bor (List ℕ))) (steps mid new : List Step) (k after : ℕ) (body : Tree) → mid ≡ steps ++ a_step.Loop k after ∷ [] →
+    after ≡ length steps + 1 + count body → AddsSteps a c mid new body → AddsSteps a c steps new (loop k body done)
+adds_loop a c steps mid new k after body is at adds =
+    let ends = body_end c steps mid new (a_step.Loop k after) after body is at adds.spelled in
+    record {
+      names = adds.names;
+      distinct = adds.distinct;
+      added = added_behind steps mid new (a_step.Loop k after) is adds.added;
+      spelled = (
+        after,
+        step_before steps mid new (a_step.Loop k after) is adds.added,
+        body_steps c steps mid new (a_step.Loop k after) after body is ends adds.spelled,
+        ends,
+      );
+    }
+
+-- no statement
+pub adds_nothing : (a : List (Bor (List ℕ))) (steps : List Step) → IsNumbering (length a) (spelling a) → AddsSteps a a steps steps done
+adds_nothing a steps distinct = record { names = same_names a; distinct = distinct; added = ([], sym (append-nil steps)); spelled = refl }
+
+-- one statement more
+pub adds_more :
+    (a b c : List (Bor (List ℕ))) (steps mid new : List Step) (xs : List Stmt) (q : Stmt) → AddsSteps a b steps mid (tree_of xs) →
+    AddsSteps b c mid new (first q done) → AddsSteps a c steps new (tree_of (xs ++ q ∷ []))
+adds_more a b c steps mid new xs q h k =
+    record {
+      names = more_names a b c h.names k.names;
+      distinct = k.distinct;
+      added = (h.added.0 ++ k.added.0, k.added.1 ∙ ap (λ zs. zs ++ k.added.0) h.added.1 ∙ append_assoc steps h.added.0 k.added.0);
+      spelled =
+          spelled_push (length c) (spelling c) new (length steps) xs q (length mid) (length new)
+          (subst (λ zs. IsSpelled (length c) (spelling c) zs (length steps) (tree_of xs) (length mid)) (sym k.added.1)
+          (spelled_more (length b) (spelling b) (length c) (spelling c) (agrees b c k.names) mid k.added.0 (length steps) (tree_of xs) (length mid) (omega arith) h.spelled))
+          k.spelled;
+    }
+
+-- So many statements of a body are flattened, and the rest has room.
+pub record Flattened (old_names names : List (Bor (List ℕ))) (old steps : List Step) (items : List Stmt) (i : ℕ) : Type 0 where
+  pub so_far : AddsSteps old_names names old steps (tree_of (take i items))
+  pub room : length steps + count (tree_of (drop i items)) ≡ length old + count (tree_of items)
+
+pub flattened_first : (a : List (Bor (List ℕ))) (old : List Step) (items : List Stmt) → IsNumbering (length a) (spelling a) → Flattened a a old old items 0
+flattened_first a old items distinct = record { so_far = adds_nothing a old distinct; room = refl }
+
+pub flattened_more :
+    (a b c : List (Bor (List ℕ))) (old mid new : List Step) (items : List Stmt) (i : ℕ) (q : Stmt) → i < length items → q ≡ get_or items i q →
+    Flattened a b old mid items i → AddsSteps b c mid new (first q done) → Flattened a c old new items (i + 1)
+flattened_more a b c old mid new items i q l is h k =
+    record {
+      so_far =
+          subst (λ zs. AddsSteps a c old new (tree_of zs)) (sym (take_more items i q l ∙ ap (λ z. take i items ++ z ∷ []) (sym is)))
+          (adds_more a b c old mid new (take i items) q h.so_far k);
+      room =
+          omega
+          (arith, h.room, counts items i q l is, spelled_count (length c) (spelling c) new (length mid) (first q done) (length new) k.spelled);
+    }
+
+pub flattened_all :
+    (a b : List (Bor (List ℕ))) (old new : List Step) (items : List Stmt) (i : ℕ) → length items ≤ i → Flattened a b old new items i →
+    AddsSteps a b old new (tree_of items)
+flattened_all a b old new items i l h = subst (λ zs. AddsSteps a b old new (tree_of zs)) (take_all i items l) h.so_far

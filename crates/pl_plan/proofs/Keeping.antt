@@ -1,0 +1,180 @@
+-- What the checker keeps goes on to fit.
+use Rattle.std.proofs.Common.{◌≡◌, ℕ, ◌+◌, ◌*◌, ◌<◌, ◌≤◌, Bool, true, false, List, [], ◌∷◌, ◌++◌, length, sym, ◌∙◌, subst, refl, arith, Some, None, Option}
+use Rattle.std.specs.Prelude.{slice_set, slice_index_or, nat_lt, if◌then◌else◌}
+use Rattle.std.proofs.lemmas.List.{length-set, length-append, get_or-set_same, get_or-set_other}
+use Rattle.armus_base.specs.Limits.{max_tasks, max_phasers}
+use Rattle.armus_base.specs.declared.op.Op.{Op}
+use Rattle.pl_plan.specs.declared.step.Step.{Step}
+use Rattle.pl_plan.specs.declared.step.Thing.{Thing}
+use Rattle.pl_plan.specs.declared.step.Thing.TheVariants.{Nothing, Task, Phaser}
+use Rattle.pl_plan.specs.Steps.{IsList}
+use Rattle.pl_plan.specs.Checker.{Checker, CheckerStart, IsThings, IsInside, StartFits, Fits, slot_of, slotted, with_thing, with_task, with_maker, pushed, marked, started}
+use Rattle.pl_plan.specs.CheckerSteps.{with_binding}
+use Rattle.pl_plan.proofs.Places.{at_set, at_more}
+
+-- ---- things stay inside where there are more
+
+inside_more : (a b a' b' : ℕ) (v : Thing) → a ≤ a' → b ≤ b' → IsInside a b v → IsInside a' b' v
+inside_more a b a' b' Nothing p q h = tt
+inside_more a b a' b' (Task c) p q h = omega arith
+inside_more a b a' b' (Phaser c) p q h = omega arith
+
+pub things_more : (a b n a' b' n' : ℕ) (vs : List Thing) → a ≤ a' → b ≤ b' → n ≤ n' → IsThings a b n vs → IsThings a' b' n' vs
+things_more a b n a' b' n' vs p q r h = record {
+  long = h.long;
+  none = h.none;
+  free = λ k le. h.free k (omega arith);
+  inside = λ k. inside_more a b a' b' (slice_index_or vs k Nothing) p q (h.inside k);
+}
+
+pub start_more : (a b n a' b' n' m m' : ℕ) (steps : List Step) (o : Option CheckerStart) → a ≤ a' → b ≤ b' → n ≤ n' → m ≡ m' → StartFits a b n m steps o → StartFits a' b' n' m' steps o
+start_more a b n a' b' n' m m' steps None p q r e h = tt
+start_more a b n a' b' n' m m' steps (Some s) p q r e h = record {
+  things = things_more a b n a' b' n' s.things p q r h.things;
+  within = h.within;
+  list = subst (λ i. IsList i steps s.first s.after) e h.list;
+}
+
+-- ---- changes
+
+pub fits_pushed : (k : Checker) (t : ℕ) (o : Op) → Fits k → Fits (pushed t o k)
+fits_pushed k t o f = record {
+  starts_many = f.starts_many;
+  codes_many = length-set k.codes t (slice_index_or k.codes t [] ++ o ∷ []) ∙ f.codes_many;
+  few = f.few;
+  few_makers = f.few_makers;
+  all = f.all;
+  below = f.below;
+  apart = f.apart;
+  room = f.room;
+  now = f.now;
+  later = f.later;
+}
+
+pub fits_marked : (k : Checker) (t p : ℕ) (v : Bool) → Fits k → Fits (marked t p v k)
+fits_marked k t p v f = record {
+  starts_many = f.starts_many;
+  codes_many = f.codes_many;
+  few = f.few;
+  few_makers = f.few_makers;
+  all = length-set k.members (max_phasers * t + p) v ∙ f.all;
+  below = f.below;
+  apart = f.apart;
+  room = f.room;
+  now = f.now;
+  later = f.later;
+}
+
+pub fits_started : (k : Checker) (c first after : ℕ) → after ≤ length k.steps → IsList (length k.slots) k.steps first after → Fits k → Fits (started c first after k)
+fits_started k c first after within list f = record {
+  starts_many = length-set k.starts c (Some start) ∙ f.starts_many;
+  codes_many = f.codes_many;
+  few = f.few;
+  few_makers = f.few_makers;
+  all = f.all;
+  below = f.below;
+  apart = f.apart;
+  room = f.room;
+  now = f.now;
+  later = λ d. at_set (StartFits (length k.parents) (length k.makers) k.slot_count (length k.slots) k.steps) k.starts c (Some start) None d (λ e lt. record { things = f.now; within = within; list = list }) (λ ne. f.later d) (λ le. tt);
+}
+  where
+    start : CheckerStart
+    start = record { first = first; after = after; things = k.things }
+
+pub fits_task : (k : Checker) (t : ℕ) → length k.parents < max_tasks → Fits k → Fits (with_task t k)
+fits_task k t lt f = record {
+  starts_many = omega (arith, length-append k.starts (None ∷ []), length-append k.parents (Some (record { 0 = t }) ∷ []), f.starts_many);
+  codes_many = omega (arith, length-append k.codes ([] ∷ []), length-append k.parents (Some (record { 0 = t }) ∷ []), f.codes_many);
+  few = omega (arith, length-append k.parents (Some (record { 0 = t }) ∷ []));
+  few_makers = f.few_makers;
+  all = f.all;
+  below = f.below;
+  apart = f.apart;
+  room = omega (arith, length-append k.parents (Some (record { 0 = t }) ∷ []), f.room);
+  now = things_more (length k.parents) (length k.makers) k.slot_count (length (with_task t k).parents) (length k.makers) k.slot_count k.things (omega (arith, length-append k.parents (Some (record { 0 = t }) ∷ []))) (omega arith) (omega arith) f.now;
+  later = λ c. subst (StartFits (length (with_task t k).parents) (length k.makers) k.slot_count (length k.slots) k.steps) (sym (at_more k.starts None c))
+      (start_more (length k.parents) (length k.makers) k.slot_count (length (with_task t k).parents) (length k.makers) k.slot_count (length k.slots) (length k.slots) k.steps (slice_index_or k.starts c None) (omega (arith, length-append k.parents (Some (record { 0 = t }) ∷ []))) (omega arith) (omega arith) refl (f.later c));
+}
+
+pub fits_maker : (k : Checker) (t : ℕ) → length k.makers < max_phasers → Fits k → Fits (with_maker t k)
+fits_maker k t lt f = record {
+  starts_many = f.starts_many;
+  codes_many = f.codes_many;
+  few = f.few;
+  few_makers = omega (arith, length-append k.makers (record { 0 = t } ∷ []));
+  all = f.all;
+  below = f.below;
+  apart = f.apart;
+  room = omega (arith, length-append k.makers (record { 0 = t } ∷ []), f.room);
+  now = things_more (length k.parents) (length k.makers) k.slot_count (length k.parents) (length (with_maker t k).makers) k.slot_count k.things (omega arith) (omega (arith, length-append k.makers (record { 0 = t } ∷ []))) (omega arith) f.now;
+  later = λ c. start_more (length k.parents) (length k.makers) k.slot_count (length k.parents) (length (with_maker t k).makers) k.slot_count (length k.slots) (length k.slots) k.steps (slice_index_or k.starts c None) (omega arith) (omega (arith, length-append k.makers (record { 0 = t } ∷ []))) (omega arith) refl (f.later c);
+}
+
+-- ---- a slot
+
+abbrev new_slot : ℕ → Checker → Checker
+new_slot x k = record k { slots = slice_set k.slots x k.slot_count; slot_count = k.slot_count + 1 }
+
+fits_new_slot : (k : Checker) (x : ℕ) → k.slot_count < length k.parents + length k.makers → Fits k → Fits (new_slot x k)
+fits_new_slot k x room f = record {
+  starts_many = f.starts_many;
+  codes_many = f.codes_many;
+  few = f.few;
+  few_makers = f.few_makers;
+  all = f.all;
+  below = λ y. at_set (λ v. v < k.slot_count + 1) k.slots x k.slot_count 0 y (λ e lt. omega arith) (λ ne. omega (arith, f.below y)) (λ le. omega arith);
+  apart = λ y z. at_set (λ v. v ≡ slice_index_or (slice_set k.slots x k.slot_count) z 0 → 0 < v → y ≡ z) k.slots x k.slot_count 0 y
+      (λ e lt. at_set (λ w. k.slot_count ≡ w → 0 < k.slot_count → y ≡ z) k.slots x k.slot_count 0 z (λ e' _ _ _. omega arith) (λ ne q _. absurd (omega (arith, f.below z))) (λ le q r. absurd (omega arith)))
+      (λ ne. at_set (λ w. slot_of k y ≡ w → 0 < slot_of k y → y ≡ z) k.slots x k.slot_count 0 z (λ e' _ q _. absurd (omega (arith, f.below y))) (λ ne' q r. f.apart y z q r) (λ le q r. absurd (omega arith)))
+      (λ le q r. absurd (omega arith));
+  room = omega arith;
+  now = things_more (length k.parents) (length k.makers) k.slot_count (length k.parents) (length k.makers) (k.slot_count + 1) k.things (omega arith) (omega arith) (omega arith) f.now;
+  later = λ c. start_more (length k.parents) (length k.makers) k.slot_count (length k.parents) (length k.makers) (k.slot_count + 1) (length k.slots) (length (slice_set k.slots x k.slot_count)) k.steps (slice_index_or k.starts c None) (omega arith) (omega arith) (omega arith) (sym (length-set k.slots x k.slot_count)) (f.later c);
+}
+
+-- what a slotted name has
+pub record Slotted (x : ℕ) (k new : Checker) : Type 0 where
+  pub fits : Fits new
+  pub has : 0 < slot_of new x
+  pub slots : length new.slots ≡ length k.slots
+  pub same : new ≡ record k { slots = new.slots; slot_count = new.slot_count }
+
+slotted_by : (x : ℕ) (k : Checker) → x < length k.slots → k.slot_count < length k.parents + length k.makers → Fits k →
+    (b : Bool) → nat_lt 0 (slot_of k x) ≡ b → Slotted x k (if b then k else new_slot x k)
+slotted_by x k here room f true e = record { fits = f; has = grind (arith, e); slots = refl; same = refl }
+slotted_by x k here room f false e = record {
+  fits = fits_new_slot k x room f;
+  has = subst (λ v. 0 < v) (sym (get_or-set_same k.slots x k.slot_count 0 here)) (omega (arith, f.below x));
+  slots = length-set k.slots x k.slot_count;
+  same = refl;
+}
+
+pub slotted_fits : (x : ℕ) (k : Checker) → x < length k.slots → k.slot_count < length k.parents + length k.makers → Fits k → Slotted x k (slotted x k)
+slotted_fits x k here room f = slotted_by x k here room f (nat_lt 0 (slot_of k x)) refl
+
+-- ---- a thing
+
+pub fits_thing : (x : ℕ) (v : Thing) (k : Checker) → 0 < slot_of k x → IsInside (length k.parents) (length k.makers) v → Fits k → Fits (with_thing x v k)
+fits_thing x v k has inside f = record {
+  starts_many = f.starts_many;
+  codes_many = f.codes_many;
+  few = f.few;
+  few_makers = f.few_makers;
+  all = f.all;
+  below = f.below;
+  apart = f.apart;
+  room = f.room;
+  now = record {
+    long = length-set k.things (slot_of k x) v ∙ f.now.long;
+    none = get_or-set_other k.things (slot_of k x) 0 v Nothing (λ e. absurd (omega arith)) ∙ f.now.none;
+    free = λ n le. get_or-set_other k.things (slot_of k x) n v Nothing (λ e. absurd (omega (arith, f.below x))) ∙ f.now.free n le;
+    inside = λ n. at_set (IsInside (length k.parents) (length k.makers)) k.things (slot_of k x) v Nothing n (λ e lt. inside) (λ ne. f.now.inside n) (λ le. tt);
+  };
+  later = f.later;
+}
+
+pub fits_binding : (x : ℕ) (v : Thing) (k : Checker) → x < length k.slots → k.slot_count < length k.parents + length k.makers → IsInside (length k.parents) (length k.makers) v → Fits k → Fits (with_binding x v k)
+fits_binding x v k here room inside f =
+    let s = slotted_fits x k here room f in
+    fits_thing x v (slotted x k) s.has (subst (λ n. IsInside (length n.parents) (length n.makers) v) (sym s.same) inside) s.fits

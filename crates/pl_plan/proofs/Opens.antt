@@ -1,0 +1,64 @@
+-- Before the first meeting, and the plan at the end.
+use Rattle.std.proofs.Common.{◌≡◌, ℕ, ◌+◌, ◌*◌, ◌<◌, ◌≤◌, ◌⊎◌, inl, inr, List, [], ◌∷◌, length, Ok, Err, Result, Option, Some, None, arith, sym, ◌∙◌, ap, subst, refl}
+use Rattle.std.specs.Prelude.{slice_index_or}
+use Rattle.std.proofs.lemmas.Bool.{cases_lt}
+use Rattle.std.proofs.lemmas.List.{get_or_past}
+use Rattle.armus_base.specs.Limits.{max_tasks, max_phasers}
+use Rattle.armus_base.specs.declared.ids.TaskId.{TaskId}
+use Rattle.armus_base.specs.declared.op.Op.{Op}
+use Rattle.armus_base.specs.Plans.{Plan}
+use Rattle.pl_syntax.specs.Tree.{Tree}
+use Rattle.pl_plan.specs.declared.step.Step.{Step}
+use Rattle.pl_plan.specs.declared.fault.PlanEnd.{PlanEnd}
+use Rattle.pl_plan.specs.declared.fault.PlanEnd.TheVariants as ends
+use Rattle.pl_plan.specs.Steps.{IsSpelled}
+use Rattle.pl_plan.specs.Checker.{Checker, CheckerStart}
+use Rattle.pl_plan.specs.CheckerSteps.{thing_of}
+use Rattle.pl_plan.specs.Opening.{IsOpening, Answers}
+use Rattle.pl_plan.specs.Unfolding.{State, Start, ◌>>=◌, opening_state, unfold_tasks, plan_of}
+use Rattle.pl_plan.specs.Shows.{Shows, MaybeStartShows, StartShows, IsNumbering, Follows}
+
+pub opens : (spelling : ℕ → List ℕ) (steps : List Step) (names : ℕ) (k : Checker) (tree : Tree) → IsOpening steps names k → IsNumbering names spelling → IsSpelled names spelling steps 0 tree (length steps) → Shows spelling k (opening_state tree)
+opens spelling steps names k tree o distinct spelled = record {
+  distinct = subst (λ n. IsNumbering n spelling) (sym o.slots_many) distinct;
+  parents = sym o.parents;
+  makers = sym o.makers;
+  codes = sym o.codes;
+  starts_many = ap (λ xs. length xs) (sym o.starts);
+  starts = λ c. subst (λ xs. MaybeStartShows spelling k.slots k.steps (slice_index_or (Some start ∷ []) c None) (slice_index_or xs c None)) (sym o.starts) (by c (cases_lt c 1));
+  members = λ v q lt. sym (o.members (max_phasers * v + q));
+  named = λ x lt. ap thing_of (sym (o.things (slice_index_or k.slots x 0)));
+  ops = sym o.ops;
+  meetings = sym o.meetings;
+}
+  where
+    start : Start
+    start = record { body = tree; first = 1; names = λ _. None }
+
+    kept : CheckerStart
+    kept = record { first = 0; after = length steps; things = k.things }
+
+    first_ : StartShows spelling k.slots k.steps start kept
+    first_ = record {
+      first = refl;
+      spelled = subst (λ n. IsSpelled n spelling k.steps 0 tree (length steps)) (sym o.slots_many) (subst (λ z. IsSpelled names spelling z 0 tree (length steps)) (sym o.steps_are) spelled);
+      named = λ x lt. ap thing_of (sym (o.things (slice_index_or k.slots x 0)));
+    }
+
+    by : (c : ℕ) → (c < 1) ⊎ (1 ≤ c) → MaybeStartShows spelling k.slots k.steps (slice_index_or (Some start ∷ []) c None) (slice_index_or (Some kept ∷ []) c None)
+    by c (inl lt) = (let e : c ≡ 0 = omega arith in subst (λ i. MaybeStartShows spelling k.slots k.steps (slice_index_or (Some start ∷ []) i None) (slice_index_or (Some kept ∷ []) i None)) (sym e) first_)
+    by c (inr le) = subst (λ a. MaybeStartShows spelling k.slots k.steps a (slice_index_or (Some kept ∷ []) c None)) (sym (get_or_past (Some start ∷ []) c None le)) (subst (MaybeStartShows spelling k.slots k.steps None) (sym (get_or_past (Some kept ∷ []) c None le)) tt)
+
+plan_is : (p : Plan) (parents : List (Option TaskId)) (makers : List TaskId) (codes : List (List Op)) → p.parents ≡ parents → p.makers ≡ makers → p.codes ≡ codes → p ≡ record { parents = parents; makers = makers; codes = codes }
+plan_is p parents makers codes a b c =
+    ap (λ x. record p { parents = x }) a ∙ ap (λ x. record p { parents = parents; makers = x }) b ∙ ap (λ x. record p { parents = parents; makers = makers; codes = x }) c
+
+pub plan_found : (spelling : ℕ → List ℕ) (k : Checker) (tree : Tree) (plan : Plan) → ((s : State) × (unfold_tasks max_tasks 0 (opening_state tree) ≡ Ok s) × Shows spelling k s) → plan ≡ record { parents = k.parents; makers = k.makers; codes = k.codes } → plan_of tree ≡ Ok plan
+unfolding plan_of
+plan_found spelling k tree plan w is =
+    ap (λ o. o >>= λ s. Ok s.plan) w.1 ∙ ap Ok (plan_is w.0.plan k.parents k.makers k.codes w.2.parents w.2.makers w.2.codes ∙ sym is)
+
+pub plan_fault : (tree : Tree) (e : PlanEnd) (shows : State → Type 0) → Follows {A = Unit {0}} (Err e) (unfold_tasks max_tasks 0 (opening_state tree)) shows → (r : Result Plan PlanEnd) → r ≡ Err e → Answers r (plan_of tree)
+unfolding plan_of
+plan_fault tree ends.NoMemory shows g r is = subst (λ z. Answers z (plan_of tree)) (sym is) tt
+plan_fault tree (ends.Check f) shows g r is = subst (λ z. Answers z (plan_of tree)) (sym is) (ap (λ o. o >>= λ s. Ok s.plan) g)

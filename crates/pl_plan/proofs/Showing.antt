@@ -1,0 +1,204 @@
+-- What the checker keeps shows the unfolding's state at each change.
+use Rattle.std.proofs.Common.{◌≡◌, ℕ, ◌+◌, ◌*◌, ◌<◌, ◌⊎◌, inl, inr, Bool, true, false, List, [], ◌∷◌, ◌++◌, length, sym, ap, ◌∙◌, subst, refl, arith, Some, None, Option}
+use Rattle.std.specs.Prelude.{slice_set, slice_index_or, nat_lt, if◌then◌else◌, ◌==◌, ◌&&◌}
+use Rattle.std.proofs.lemmas.Slice.Eq.{bytes_eq-Decides}
+use Rattle.std.proofs.lemmas.Bool.Decides.{nat_tests}
+use Rattle.std.proofs.lemmas.List.{length-set, length-append, get_or-set_same, get_or-set_other}
+use Rattle.std.proofs.lemmas.List.Sums.{sum_by-set, sum_by-append}
+use Rattle.armus_base.specs.Limits.{max_tasks, max_phasers}
+use Rattle.armus_base.specs.declared.op.Op.{Op}
+use Rattle.pl_syntax.specs.Tree.{Tree}
+use Rattle.pl_plan.specs.declared.step.Step.{Step}
+use Rattle.pl_plan.specs.declared.step.Thing as code
+use Rattle.pl_plan.specs.declared.step.Thing.TheVariants as a_thing
+use Rattle.pl_plan.specs.Steps.{IsSpelled}
+use Rattle.pl_plan.specs.Checker.{Checker, CheckerStart, StartFits, Fits, slot_of, slotted, with_thing, with_task, with_maker, pushed, marked, started}
+use Rattle.pl_plan.specs.CheckerSteps.{with_binding, thing_of}
+use Rattle.pl_plan.specs.Unfolding.{State, Start, Names, Thing, with_name, with_op, with_member, with_members, with_start}
+use Rattle.pl_plan.specs.Shows.{Shows, MaybeStartShows, AreNamed, IsNumbering}
+use Rattle.pl_plan.proofs.Places.{same_or, at_set, at_more}
+use Rattle.pl_plan.proofs.Keeping.{slotted_fits}
+
+-- ---- ops
+
+pub shows_pushed : (names : ℕ → List ℕ) (k : Checker) (s : State) (t : ℕ) (o : Op) → t < length k.codes → Shows names k s → Shows names (pushed t o k) (record s { plan = with_op t o s.plan })
+shows_pushed names k s t o here h = record {
+  distinct = h.distinct;
+  parents = h.parents;
+  makers = h.makers;
+  codes = ap (λ xs. slice_set xs t (slice_index_or xs t [] ++ o ∷ [])) h.codes;
+  starts_many = h.starts_many;
+  starts = h.starts;
+  members = h.members;
+  named = h.named;
+  ops = (let a = sum_by-set length s.plan.codes t (slice_index_or s.plan.codes t [] ++ o ∷ []) [] (subst (λ xs. t < length xs) (sym h.codes) here) in
+      let b = length-append (slice_index_or s.plan.codes t []) (o ∷ []) in
+      let c = h.ops in
+      omega arith);
+  meetings = h.meetings;
+}
+
+-- ---- members
+
+is_it : (v t q p : ℕ) → v ≡ t → q ≡ p → ((v == t) && (q == p)) ≡ true
+is_it v t q p a b = grind (arith, nat_tests)
+
+is_other : (v t q p : ℕ) → (v ≡ t → q ≡ p → ⊥) → ((v == t) && (q == p)) ≡ false
+is_other v t q p h = by (same_or v t) (same_or q p)
+  where
+    by : (v ≡ t) ⊎ (v ≡ t → ⊥) → (q ≡ p) ⊎ (q ≡ p → ⊥) → ((v == t) && (q == p)) ≡ false
+    by (inl a) (inl b) = absurd (h a b)
+    by (inl a) (inr b) = grind (arith, nat_tests)
+    by (inr a) (inl b) = grind (arith, nat_tests)
+    by (inr a) (inr b) = grind (arith, nat_tests)
+
+pub shows_marked : (names : ℕ → List ℕ) (k : Checker) (s : State) (t p : ℕ) (m : Bool) → t < max_tasks → p < max_phasers → length k.members ≡ max_tasks * max_phasers → Shows names k s → Shows names (marked t p m k) (with_members (with_member t p m s.members) s)
+shows_marked names k s t p m tl pl all h = record {
+  distinct = h.distinct;
+  parents = h.parents;
+  makers = h.makers;
+  codes = h.codes;
+  starts_many = h.starts_many;
+  starts = h.starts;
+  members = λ v q lt. at_set (λ z. (if (v == t) && (q == p) then m else s.members v q) ≡ z) k.members (max_phasers * t + p) m false (max_phasers * v + q)
+      (λ e _. ap (λ b. if b then m else s.members v q) (is_it v t q p (omega arith) (omega arith)))
+      (λ ne. ap (λ b. if b then m else s.members v q) (is_other v t q p (λ a b. ne (omega arith))) ∙ h.members v q lt)
+      (λ le. absurd (omega arith));
+  named = h.named;
+  ops = h.ops;
+  meetings = h.meetings;
+}
+
+-- ---- tasks and phasers
+
+pub shows_task : (names : ℕ → List ℕ) (k : Checker) (s : State) (t : ℕ) → Shows names k s →
+    Shows names (with_task t k) (record s { plan = record s.plan { parents = s.plan.parents ++ Some (record { 0 = t }) ∷ []; codes = s.plan.codes ++ [] ∷ [] }; starts = s.starts ++ None ∷ [] })
+shows_task names k s t h = record {
+  distinct = h.distinct;
+  parents = ap (λ xs. xs ++ Some (record { 0 = t }) ∷ []) h.parents;
+  makers = h.makers;
+  codes = ap (λ xs. xs ++ [] ∷ []) h.codes;
+  starts_many = omega (arith, length-append s.starts (None ∷ []), length-append k.starts (None ∷ []), h.starts_many);
+  starts = λ c. subst (λ o. MaybeStartShows names k.slots k.steps o (slice_index_or (k.starts ++ None ∷ []) c None)) (sym (at_more s.starts None c))
+      (subst (MaybeStartShows names k.slots k.steps (slice_index_or s.starts c None)) (sym (at_more k.starts None c)) (h.starts c));
+  members = h.members;
+  named = h.named;
+  ops = omega (arith, sum_by-append length s.plan.codes ([] ∷ []), h.ops);
+  meetings = h.meetings;
+}
+
+pub shows_maker : (names : ℕ → List ℕ) (k : Checker) (s : State) (t : ℕ) → Shows names k s →
+    Shows names (with_maker t k) (record s { plan = record s.plan { makers = s.plan.makers ++ record { 0 = t } ∷ [] } })
+shows_maker names k s t h = record {
+  distinct = h.distinct;
+  parents = h.parents;
+  makers = ap (λ xs. xs ++ record { 0 = t } ∷ []) h.makers;
+  codes = h.codes;
+  starts_many = h.starts_many;
+  starts = h.starts;
+  members = h.members;
+  named = h.named;
+  ops = h.ops;
+  meetings = h.meetings;
+}
+
+-- ---- slots
+
+named_new : (names : ℕ → List ℕ) (slots : List ℕ) (things : List code.Thing) (env : Names) (x n : ℕ) →
+    x < length slots → slice_index_or slots x 0 ≡ 0 → slice_index_or things 0 a_thing.Nothing ≡ a_thing.Nothing → slice_index_or things n a_thing.Nothing ≡ a_thing.Nothing →
+    AreNamed names slots things env → AreNamed names (slice_set slots x n) things env
+named_new names slots things env x n in_ zero_ none free h = λ y lt.
+    let here : y < length slots = omega (arith, length-set slots x n) in
+    at_set (λ w. env (names y) ≡ thing_of (slice_index_or things w a_thing.Nothing)) slots x n 0 y
+    (λ e _. h y here ∙ ap (λ w. thing_of (slice_index_or things w a_thing.Nothing)) (ap (λ i. slice_index_or slots i 0) e ∙ zero_) ∙ ap thing_of (none ∙ sym free))
+    (λ ne. h y here)
+    (λ le. absurd (omega arith))
+
+starts_new : (names : ℕ → List ℕ) (a b n m : ℕ) (slots : List ℕ) (steps : List Step) (x : ℕ) (o : Option Start) (o' : Option CheckerStart) →
+    x < length slots → slice_index_or slots x 0 ≡ 0 → StartFits a b n m steps o' → MaybeStartShows names slots steps o o' → MaybeStartShows names (slice_set slots x n) steps o o'
+starts_new names a b n m slots steps x None None i z f h = tt
+starts_new names a b n m slots steps x None (Some s) i z f h = h
+starts_new names a b n m slots steps x (Some s) None i z f h = h
+starts_new names a b n m slots steps x (Some s) (Some s') i z f h = record {
+  first = h.first;
+  spelled = subst (λ n'. IsSpelled n' names steps s'.first s.body s'.after) (sym (length-set slots x n)) h.spelled;
+  named = named_new names slots s'.things s.names x n i z f.things.none (f.things.free n (omega arith)) h.named;
+}
+
+shows_slotted_by : (names : ℕ → List ℕ) (x : ℕ) (k : Checker) (s : State) → x < length k.slots → Fits k → Shows names k s →
+    (b : Bool) → nat_lt 0 (slot_of k x) ≡ b → Shows names (if b then k else record k { slots = slice_set k.slots x k.slot_count; slot_count = k.slot_count + 1 }) s
+shows_slotted_by names x k s i f h true e = h
+shows_slotted_by names x k s i f h false e =
+    let z : slot_of k x ≡ 0 = grind (arith, e) in
+    record {
+      distinct = subst (λ n. IsNumbering n names) (sym (length-set k.slots x k.slot_count)) h.distinct;
+      parents = h.parents;
+      makers = h.makers;
+      codes = h.codes;
+      starts_many = h.starts_many;
+      starts = λ c. starts_new names (length k.parents) (length k.makers) k.slot_count (length k.slots) k.slots k.steps x (slice_index_or s.starts c None) (slice_index_or k.starts c None) i z (f.later c) (h.starts c);
+      members = h.members;
+      named = named_new names k.slots k.things s.names x k.slot_count i z f.now.none (f.now.free k.slot_count (omega arith)) h.named;
+      ops = h.ops;
+      meetings = h.meetings;
+    }
+
+shows_thing : (names : ℕ → List ℕ) (x : ℕ) (v : code.Thing) (w : Thing) (k : Checker) (s : State) → thing_of v ≡ Some w → x < length k.slots → 0 < slot_of k x → Fits k → Shows names k s →
+    Shows names (with_thing x v k) (record s { names = with_name (names x) w s.names })
+shows_thing names x v w k s is here has f h = record {
+  distinct = h.distinct;
+  parents = h.parents;
+  makers = h.makers;
+  codes = h.codes;
+  starts_many = h.starts_many;
+  starts = h.starts;
+  members = h.members;
+  named = λ y lt. by y lt (same_or y x);
+  ops = h.ops;
+  meetings = h.meetings;
+}
+  where
+    by : (y : ℕ) → y < length k.slots → (y ≡ x) ⊎ (y ≡ x → ⊥) → with_name (names x) w s.names (names y) ≡ thing_of (slice_index_or (slice_set k.things (slot_of k x) v) (slot_of k y) a_thing.Nothing)
+    by y lt (inl e) =
+        ap (λ i. with_name (names x) w s.names (names i)) e
+        ∙ ap (λ b. if b then Some w else s.names (names x)) ((bytes_eq-Decides (names x) (names x)).1 refl)
+        ∙ sym is
+        ∙ ap thing_of (sym (get_or-set_same k.things (slot_of k x) v a_thing.Nothing (omega (arith, f.below x, f.room, f.few, f.few_makers, f.now.long))))
+        ∙ ap (λ i. thing_of (slice_index_or (slice_set k.things (slot_of k x) v) (slot_of k i) a_thing.Nothing)) (sym e)
+    by y lt (inr ne) =
+        ap (λ b. if b then Some w else s.names (names y)) (h.distinct x y here lt (λ e. ne (sym e)))
+        ∙ h.named y lt
+        ∙ ap thing_of (sym (get_or-set_other k.things (slot_of k x) (slot_of k y) v a_thing.Nothing (λ e. ne (sym (f.apart x y (sym e) has)))))
+
+pub shows_binding : (names : ℕ → List ℕ) (x : ℕ) (v : code.Thing) (w : Thing) (k : Checker) (s : State) → thing_of v ≡ Some w → x < length k.slots → k.slot_count < length k.parents + length k.makers → Fits k → Shows names k s →
+    Shows names (with_binding x v k) (record s { names = with_name (names x) w s.names })
+shows_binding names x v w k s is here room f h =
+    let sl = slotted_fits x k here room f in
+    shows_thing names x v w (slotted x k) s is (omega (arith, sl.slots)) sl.has sl.fits (shows_slotted_by names x k s here f h (nat_lt 0 (slot_of k x)) refl)
+
+-- ---- forks
+
+pub shows_started : (names : ℕ → List ℕ) (k : Checker) (s : State) (c first after : ℕ) (body : Tree) → c < length k.starts → IsSpelled (length k.slots) names k.steps first body after → Shows names k s →
+    Shows names (started c first after k) (with_start c (record { body = body; first = first + 1; names = s.names }) s)
+shows_started names k s c first after body here spelled h = record {
+  distinct = h.distinct;
+  parents = h.parents;
+  makers = h.makers;
+  codes = h.codes;
+  starts_many = length-set s.starts c (Some start) ∙ h.starts_many ∙ sym (length-set k.starts c (Some kept));
+  starts = λ d. at_set (λ o. MaybeStartShows names k.slots k.steps o (slice_index_or (slice_set k.starts c (Some kept)) d None)) s.starts c (Some start) None d
+      (λ e _. subst (λ i. MaybeStartShows names k.slots k.steps (Some start) (slice_index_or (slice_set k.starts c (Some kept)) i None)) (sym e)
+      (subst (MaybeStartShows names k.slots k.steps (Some start)) (sym (get_or-set_same k.starts c (Some kept) None here)) (record { first = refl; spelled = spelled; named = h.named })))
+      (λ ne. subst (MaybeStartShows names k.slots k.steps (slice_index_or s.starts d None)) (sym (get_or-set_other k.starts c d (Some kept) None ne)) (h.starts d))
+      (λ le. absurd (omega (arith, h.starts_many)));
+  members = h.members;
+  named = h.named;
+  ops = h.ops;
+  meetings = h.meetings;
+}
+  where
+    start : Start
+    start = record { body = body; first = first + 1; names = s.names }
+
+    kept : CheckerStart
+    kept = record { first = first; after = after; things = k.things }

@@ -1,0 +1,114 @@
+-- The plan to which a program unfolds is checked.
+use Rattle.std.proofs.Common.{◌≡◌, ℕ, zero, suc, ◌+◌, ◌<◌, ◌≤◌, true, false, Some, None, Ok, Err, Option, [], length, arith, sym, ◌∙◌, ap, subst, refl, inl, inr}
+use Rattle.std.specs.Prelude.{slice_get, slice_index_or, is_some}
+use Rattle.std.proofs.lemmas.Bool.{cases_lt, false≢true}
+use Rattle.std.proofs.lemmas.List.{get_or_past}
+use Rattle.armus_base.specs.Limits.{max_tasks}
+use Rattle.armus_base.specs.Plans.{Plan, action_at, actions, parent_of, maker_of}
+use Rattle.armus_base.specs.Places.{first_phases, phases_after}
+use Rattle.armus_base.specs.CheckedPlans.{IsCheckedPlan, first_plan}
+use Rattle.armus_base.proofs.PlanGrows.{first_plan_is_checked}
+use Rattle.pl_syntax.specs.Tree.{Tree}
+use Rattle.pl_plan.specs.Unfolding.{State, Start, Outcome, ◌>>=◌, unfold_task, unfold_tasks, opening_state, plan_of, meetings_of, with_names}
+use Rattle.pl_plan.specs.Laws.{UnfoldedIsChecked}
+use Rattle.pl_plan.proofs.Growth.{last_phases}
+use Rattle.pl_plan.proofs.Sound.{IsSound, IsActing, is_begun}
+use Rattle.pl_plan.proofs.SoundSteps.{OnState, same_acts, meets_keep}
+
+-- the next task
+next_sound : (t : ℕ) (s : State) → IsSound t s → IsSound (t + 1) s
+next_sound t s h =
+    record {
+      checked = h.checked;
+      at =
+          record {
+            later = λ u l. h.at.later u (omega arith);
+            parents = λ c. omega (arith, h.at.parents c);
+            makers = λ p. omega (arith, h.at.makers p);
+          };
+      starts = h.starts;
+      forked = h.forked;
+      unforked = h.unforked;
+      members = λ u p le l. h.members u p (omega arith) l;
+      outside = h.outside;
+    }
+
+on_more : (t : ℕ) (o : Outcome State) (f : State → Outcome State) → OnState (IsActing t) o → ((s : State) → IsSound (t + 1) s → OnState (λ r. IsCheckedPlan r.plan) (f s)) → OnState (λ r. IsCheckedPlan r.plan) (o >>= f)
+on_more t (Ok s) f h k = k s (next_sound t s h.sound)
+on_more t (Err e) f h k = tt
+
+begun_inside : (t : ℕ) (s : State) → IsSound t s → is_begun s t ≡ true → t < length s.plan.parents
+begun_inside t s h e =
+    elim (cases_lt t (length s.starts)) [
+      | inl l ↦ omega (arith, h.starts)
+      | inr l ↦ absurd (false≢true (sym (ap is_some (get_or_past s.starts t None l)) ∙ e))
+    ]
+
+task_keeps :
+    (t : ℕ) (s : State) (rest : State → Outcome State) → IsSound t s →
+    ((s' : State) → IsSound (t + 1) s' → OnState (λ r. IsCheckedPlan r.plan) (rest s')) → (o : Option Start) → slice_index_or s.starts t None ≡ o →
+    OnState (λ r. IsCheckedPlan r.plan) (unfold_task t o s >>= rest)
+task_keeps t s rest h then None e = then s (next_sound t s h)
+task_keeps t s rest h then (Some start) e =
+    let begun : is_begun s t ≡ true = ap is_some e in
+    on_more t (unfold_task t (Some start) s) rest
+    (meets_keep t (meetings_of start.first start.body) (with_names start.names s)
+    (same_acts t s start.names s.meetings (record { sound = h; here = begun_inside t s h begun; begun = begun })))
+    then
+
+tasks_keep : (n t : ℕ) (s : State) → IsSound t s → OnState (λ r. IsCheckedPlan r.plan) (unfold_tasks n t s)
+unfolding unfold_tasks
+tasks_keep zero t s h = h.checked
+tasks_keep (suc n) t s h = task_keeps t s (unfold_tasks n (t + 1)) h (tasks_keep n (t + 1)) (slice_index_or s.starts t None) refl
+
+no_first_actions : (t : ℕ) → actions first_plan t ≡ []
+unfolding actions
+no_first_actions zero = refl
+no_first_actions (suc t) = refl
+
+no_first_action : (t j : ℕ) → action_at first_plan t j ≡ None
+unfolding action_at
+no_first_action t j = ap (λ xs. slice_get xs j) (no_first_actions t)
+
+first_parent : (c : ℕ) → parent_of first_plan c ≡ 0
+unfolding parent_of
+first_parent zero = refl
+first_parent (suc c) = refl
+
+first_maker : (p : ℕ) → maker_of first_plan p ≡ 0
+unfolding maker_of
+first_maker p = refl
+
+first_members : (u p : ℕ) → 0 ≤ u → u < 1 → false ≡ is_some (last_phases first_plan u p)
+unfolding phases_after first_phases actions
+first_members zero p le l = refl
+first_members (suc u) p le l = absurd (omega arith)
+
+first_starts : (program : Tree) (c : ℕ) → 0 < c → is_begun (opening_state program) c ≡ false
+first_starts program zero l = absurd (omega arith)
+first_starts program (suc c) l = refl
+
+sound_opening : (program : Tree) → IsSound 0 (opening_state program)
+sound_opening program =
+    record {
+      checked = first_plan_is_checked;
+      at =
+          record {
+            later = λ u l. no_first_actions u;
+            parents = λ c. omega (arith, first_parent c);
+            makers = λ p. omega (arith, first_maker p);
+          };
+      starts = refl;
+      forked = λ c pos e. absurd (false≢true (sym (first_starts program c pos) ∙ e));
+      unforked = λ c j e f. absurd (let none = no_first_action (parent_of first_plan c) j in cc);
+      members = first_members;
+      outside = λ u p l. refl;
+    }
+
+plan_is : (o : Outcome State) (plan : Plan) → OnState (λ r. IsCheckedPlan r.plan) o → (o >>= λ s. Ok s.plan) ≡ Ok plan → IsCheckedPlan plan
+plan_is (Ok s) plan h e = subst IsCheckedPlan (let q : s.plan ≡ plan = cc in q) h
+plan_is (Err f) plan h e = absurd cc
+
+pub unfolded_is_checked : UnfoldedIsChecked
+unfolding plan_of
+unfolded_is_checked program plan e = plan_is (unfold_tasks max_tasks 0 (opening_state program)) plan (tasks_keep max_tasks 0 (opening_state program) (sound_opening program)) e

@@ -1,0 +1,121 @@
+-- What the checker keeps.
+use Rattle.std.specs.Prelude.{◌≡◌, ℕ, ◌+◌, ◌*◌, ◌<◌, ◌≤◌, Bool, List, [], ◌∷◌, ◌++◌, length, slice_set, slice_index_or, Option, Some, None, if◌then◌else◌, nat_lt}
+use Rattle.armus_base.specs.Limits.{max_tasks, max_phasers}
+use Rattle.armus_base.specs.declared.ids.TaskId.{TaskId}
+use Rattle.armus_base.specs.declared.op.Op.{Op}
+use Rattle.pl_plan.specs.declared.step.Step.{Step}
+use Rattle.pl_plan.specs.Steps.{IsList}
+use Rattle.pl_plan.specs.declared.step.Thing.{Thing}
+use Rattle.pl_plan.specs.declared.step.Thing.TheVariants.{Nothing, Task, Phaser}
+
+-- with what a task was forked: where its steps begin and end, and its names' things by slot
+pub record CheckerStart : Type 0 where
+  pub first : ℕ
+  pub after : ℕ
+  pub things : List Thing
+
+-- Each name has a slot from its first assignment on, and slot 0 before. Slot 0 has nothing.
+pub record Checker : Type 0 where
+  pub steps : List Step
+  pub parents : List (Option TaskId)
+  pub makers : List TaskId
+  pub codes : List (List Op)
+  pub starts : List (Option CheckerStart)
+  pub members : List Bool
+  pub slots : List ℕ
+  pub slot_count : ℕ
+  pub things : List Thing
+  pub ops : ℕ
+  pub meetings : ℕ
+
+-- the slot of the name with number x, or 0
+abbrev pub slot_of : Checker → ℕ → ℕ
+slot_of k x = slice_index_or k.slots x 0
+
+-- what name x stands for
+abbrev pub thing_at : Checker → ℕ → Thing
+thing_at k x = slice_index_or k.things (slot_of k x) Nothing
+
+-- the number of a task or phaser is one of so many
+abbrev pub IsInside : ℕ → ℕ → Thing → Type 0
+IsInside tasks phasers Nothing = Unit {0}
+IsInside tasks phasers (Task c) = c.0 < tasks
+IsInside tasks phasers (Phaser p) = p.0 < phasers
+
+-- a list of things by slot
+pub record IsThings (tasks phasers slot_count : ℕ) (things : List Thing) : Type 0 where
+  pub long : length things ≡ max_tasks + max_phasers
+  pub none : slice_index_or things 0 Nothing ≡ Nothing
+  pub free : (k : ℕ) → slot_count ≤ k → slice_index_or things k Nothing ≡ Nothing
+  pub inside : (k : ℕ) → IsInside tasks phasers (slice_index_or things k Nothing)
+
+-- a start's steps are a list of statements
+pub record IsStart (tasks phasers slot_count names : ℕ) (steps : List Step) (start : CheckerStart) : Type 0 where
+  pub things : IsThings tasks phasers slot_count start.things
+  pub within : start.after ≤ length steps
+  pub list : IsList names steps start.first start.after
+
+-- the same of a task that may have no start
+abbrev pub StartFits : ℕ → ℕ → ℕ → ℕ → List Step → Option CheckerStart → Type 0
+StartFits tasks phasers slot_count names steps None = Unit {0}
+StartFits tasks phasers slot_count names steps (Some start) = IsStart tasks phasers slot_count names steps start
+
+-- what holds of all that the checker keeps
+pub record Fits (k : Checker) : Type 0 where
+  pub starts_many : length k.starts ≡ length k.parents
+  pub codes_many : length k.codes ≡ length k.parents
+  pub few : length k.parents ≤ max_tasks
+  pub few_makers : length k.makers ≤ max_phasers
+  pub all : length k.members ≡ max_tasks * max_phasers
+  pub below : (x : ℕ) → slot_of k x < k.slot_count
+  pub apart : (x y : ℕ) → slot_of k x ≡ slot_of k y → 0 < slot_of k x → x ≡ y
+  pub room : k.slot_count ≤ length k.parents + length k.makers
+  pub now : IsThings (length k.parents) (length k.makers) k.slot_count k.things
+  pub later : (c : ℕ) → StartFits (length k.parents) (length k.makers) k.slot_count (length k.slots) k.steps (slice_index_or k.starts c None)
+
+-- what stays and grows
+pub record Keeps (old new : Checker) : Type 0 where
+  pub fits : Fits new
+  pub more : length old.parents ≤ length new.parents
+  pub steps : new.steps ≡ old.steps
+  pub slots : length new.slots ≡ length old.slots
+
+-- ---- changes
+
+-- the slot of name x, if need be a new one
+abbrev pub slotted : ℕ → Checker → Checker
+slotted x k = if nat_lt 0 (slot_of k x) then k else record k { slots = slice_set k.slots x k.slot_count; slot_count = k.slot_count + 1 }
+
+-- name x stands for this
+abbrev pub with_thing : ℕ → Thing → Checker → Checker
+with_thing x v k = record k { things = slice_set k.things (slot_of k x) v }
+
+-- task t draws a task
+abbrev pub with_task : ℕ → Checker → Checker
+with_task t k = record k { parents = k.parents ++ Some (record { 0 = t }) ∷ []; codes = k.codes ++ [] ∷ []; starts = k.starts ++ None ∷ [] }
+
+-- task t makes a phaser
+abbrev pub with_maker : ℕ → Checker → Checker
+with_maker t k = record k { makers = k.makers ++ record { 0 = t } ∷ [] }
+
+-- task t's code goes on with this op
+abbrev pub pushed : ℕ → Op → Checker → Checker
+pushed t o k = record k { codes = slice_set k.codes t (slice_index_or k.codes t [] ++ o ∷ []); ops = k.ops + 1 }
+
+-- whether task t is a member of phaser p
+abbrev pub marked : ℕ → ℕ → Bool → Checker → Checker
+marked t p v k = record k { members = slice_set k.members (max_phasers * t + p) v }
+
+-- task c is forked with these steps and the things as they are
+abbrev pub started : ℕ → ℕ → ℕ → Checker → Checker
+started c first after k = record k { starts = slice_set k.starts c (Some (record { first = first; after = after; things = k.things })) }
+
+-- a task begins with the things of its start
+abbrev pub begun : Option CheckerStart → Checker → Checker
+begun None k = k
+begun (Some start) k = record k { things = start.things }
+
+-- where a start's steps begin and end
+abbrev pub range_of : Option CheckerStart → Option (ℕ × ℕ)
+range_of None = None
+range_of (Some start) = Some (start.first, start.after)

@@ -1,0 +1,13 @@
+-- What a reader of the repository has to believe.
+pub mod Limits
+pub mod Unfolding
+pub mod Laws
+-- How the program does it: flat steps, what the checker keeps, what it shows of the unfolding.
+pub mod Steps
+pub mod Numbers
+pub mod Checker
+pub mod CheckerSteps
+pub mod Shows
+pub mod Simulates
+pub mod Opening
+pub mod Flattening

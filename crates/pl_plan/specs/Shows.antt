@@ -1,0 +1,53 @@
+-- What is kept shows a state of the unfolding.
+use Rattle.std.specs.Prelude.{◌≡◌, ℕ, ◌+◌, ◌*◌, ◌<◌, false, List, length, slice_index_or, sum_by, Option, Some, None, Result, Ok, Err}
+use Rattle.std.specs.Str.{bytes_eq}
+use Rattle.armus_base.specs.Limits.{max_phasers}
+use Rattle.pl_plan.specs.declared.step.Step.{Step}
+use Rattle.pl_plan.specs.declared.step.Thing as code
+use Rattle.pl_plan.specs.declared.step.Thing.TheVariants as a_thing
+use Rattle.pl_plan.specs.declared.fault.PlanEnd.{PlanEnd}
+use Rattle.pl_plan.specs.declared.fault.PlanEnd.TheVariants as ends
+use Rattle.pl_plan.specs.Steps.{IsSpelled}
+use Rattle.pl_plan.specs.Checker.{Checker, CheckerStart}
+use Rattle.pl_plan.specs.CheckerSteps.{thing_of}
+use Rattle.pl_plan.specs.Unfolding.{State, Start, Names, Outcome}
+
+-- two numbers below n have two names
+abbrev pub IsNumbering : ℕ → (ℕ → List ℕ) → Type 0
+IsNumbering n names = (x y : ℕ) → x < n → y < n → (x ≡ y → ⊥) → bytes_eq (names x) (names y) ≡ false
+
+-- names stand for the things in their slots
+abbrev pub AreNamed : (ℕ → List ℕ) → List ℕ → List code.Thing → Names → Type 0
+AreNamed names slots things env = (x : ℕ) → x < length slots → env (names x) ≡ thing_of (slice_index_or things (slice_index_or slots x 0) a_thing.Nothing)
+
+-- a start that is kept shows one of the unfolding
+pub record StartShows (names : ℕ → List ℕ) (slots : List ℕ) (steps : List Step) (start : Start) (kept : CheckerStart) : Type 0 where
+  pub first : start.first ≡ kept.first + 1
+  pub spelled : IsSpelled (length slots) names steps kept.first start.body kept.after
+  pub named : AreNamed names slots kept.things start.names
+
+-- the same tasks have a start, and each shows its own
+abbrev pub MaybeStartShows : (ℕ → List ℕ) → List ℕ → List Step → Option Start → Option CheckerStart → Type 0
+MaybeStartShows names slots steps None None = Unit {0}
+MaybeStartShows names slots steps (Some start) (Some kept) = StartShows names slots steps start kept
+MaybeStartShows names slots steps None (Some kept) = ⊥
+MaybeStartShows names slots steps (Some start) None = ⊥
+
+-- what is kept shows this state: the same plan, starts, members and meetings, and each name of the text stands for the same thing
+pub record Shows (names : ℕ → List ℕ) (k : Checker) (s : State) : Type 0 where
+  pub distinct : IsNumbering (length k.slots) names
+  pub parents : s.plan.parents ≡ k.parents
+  pub makers : s.plan.makers ≡ k.makers
+  pub codes : s.plan.codes ≡ k.codes
+  pub starts_many : length s.starts ≡ length k.starts
+  pub starts : (c : ℕ) → MaybeStartShows names k.slots k.steps (slice_index_or s.starts c None) (slice_index_or k.starts c None)
+  pub members : (v q : ℕ) → q < max_phasers → s.members v q ≡ slice_index_or k.members (max_phasers * v + q) false
+  pub named : AreNamed names k.slots k.things s.names
+  pub ops : sum_by length s.plan.codes ≡ k.ops
+  pub meetings : s.meetings ≡ k.meetings
+
+-- where this is what the unfolding gives
+abbrev pub Follows : {A : Type 0} → Result A PlanEnd → Outcome State → (State → Type 0) → Type 0
+Follows (Ok r) outcome shows = (s : State) × (outcome ≡ Ok s) × shows s
+Follows (Err (ends.Check f)) outcome shows = outcome ≡ Err f
+Follows (Err ends.NoMemory) outcome shows = Unit {0}

@@ -1,0 +1,336 @@
+// What the checker keeps, and its changes.
+
+ghost use Rattle.std.specs.Prelude.{◌≡◌, ◌+◌, ◌*◌, ◌<◌, ◌≤◌, ◌^◌, ◌++◌, ◌∷◌, [], length, slice_index_or, OnOk, IfOk, None, false, is_some, ℕ};
+ghost use Rattle.pl_plan.specs.Steps.{step_at};
+ghost use Rattle.pl_plan.specs.Opening.{IsOpening};
+ghost use Rattle.pl_plan.specs.declared.step.Thing.TheVariants.{Nothing};
+ghost use Rattle.pl_plan.specs.Checker.{Checker as CheckerValue, Fits, IsThings, slot_of, thing_at, slotted, with_thing, with_task, with_maker, pushed, marked, started, begun, range_of};
+
+use crate::step::{NameId, Step, Thing};
+use armus_base::{List, MAX_PHASERS, MAX_TASKS, NoMemory, Op, PhaserId, TaskId};
+use std::alloc::{AllocError, AllocFailed, Global};
+use std::marker::Model;
+
+// With what a task was forked: where its steps begin and end, and its names' things by slot.
+#[derive(Drop)]
+pub(crate) struct Start {
+    pub first: u32,
+    pub after: u32,
+    pub things: Vec<Thing>,
+}
+
+impl Model for Start {
+    ghost use Rattle.pl_plan.specs.Checker.{CheckerStart};
+
+    ghost Value = { CheckerStart };
+
+    ghost view = { λ s. record { first = s.first; after = s.after; things = s.things.items } };
+}
+
+// What the checker keeps: the flat steps; the three lists of the plan so far; the starts of the tasks; one bit for each task and phaser, whether the
+// task is a member; a slot for each name, and the current task's things by slot; the counts of ops and meetings. A meeting reads one step and a few
+// entries, and compares no names; a fork copies the things, of which there are as many as tasks and phasers at most.
+#[derive(Drop)]
+pub(crate) struct Checker {
+    steps: Vec<Step>,
+    parents: Vec<Option<TaskId>>,
+    makers: Vec<TaskId>,
+    codes: Vec<List<Op>>,
+    starts: Vec<Option<Start>>,
+    members: Vec<bool>,
+    slots: Vec<u32>,
+    slot_count: u32,
+    things: Vec<Thing>,
+    ops: u32,
+    meetings: u32,
+}
+
+impl Model for Checker {
+    ghost use Rattle.pl_plan.specs.Steps.{step_at};
+    ghost use Rattle.pl_plan.specs.Opening.{IsOpening};
+    ghost use Rattle.pl_plan.specs.declared.step.Thing.TheVariants.{Nothing};
+    ghost use Rattle.pl_plan.specs.Checker.{Checker as CheckerRecord};
+
+    ghost Value = { CheckerRecord };
+
+    ghost view = { λ k. record {
+      steps = k.steps.items;
+      parents = k.parents.items;
+      makers = k.makers.items;
+      codes = k.codes.items;
+      starts = k.starts.items;
+      members = k.members.items;
+      slots = k.slots.items;
+      slot_count = k.slot_count;
+      things = k.things.items;
+      ops = k.ops;
+      meetings = k.meetings;
+    } };
+}
+
+impl Checker {
+    // How many tasks are drawn.
+    pub(crate) fn tasks(&self) -> u32
+        requires { Fits self.now }
+        ensures { result ≡ length self.now.parents }
+    {
+        self.parents.len() as u32
+    }
+
+    // How many phasers are made.
+    pub(crate) fn phasers(&self) -> u32
+        requires { Fits self.now }
+        ensures { result ≡ length self.now.makers }
+    {
+        self.makers.len() as u32
+    }
+
+    // How many ops there are.
+    pub(crate) fn ops(&self) -> u32
+        ensures { result ≡ self.now.ops }
+    {
+        self.ops
+    }
+
+    // How many meetings there were.
+    pub(crate) fn meetings(&self) -> u32
+        ensures { result ≡ self.now.meetings }
+    {
+        self.meetings
+    }
+
+    // The step with this index.
+    pub(crate) fn step(&self, i: u32) -> Step
+        requires { i < length self.now.steps }
+        ensures { result ≡ step_at self.now.steps i }
+    {
+        self.steps[i as usize]
+    }
+
+    // The task that drew `c`.
+    pub(crate) fn parent(&self, c: TaskId) -> Option<TaskId>
+        requires { c.0 < length self.now.parents }
+        ensures { result ≡ slice_index_or self.now.parents c.0 None }
+    {
+        self.parents[c.0 as usize]
+    }
+
+    // Whether `t` is a member of `p`.
+    pub(crate) fn is_member(&self, t: TaskId, p: PhaserId) -> bool
+        requires all { length self.now.members ≡ MAX_TASKS * MAX_PHASERS }
+        requires task { t.0 < MAX_TASKS }
+        requires phaser { p.0 < MAX_PHASERS }
+        ensures { result ≡ slice_index_or self.now.members (MAX_PHASERS * t.0 + p.0) false }
+    {
+        self.members[(MAX_PHASERS * t.0 + p.0) as usize]
+    }
+
+    // What the name stands for.
+    pub(crate) fn thing(&self, x: NameId) -> Thing
+        requires fits { Fits self.now }
+        requires here { x.0 < length self.now.slots }
+        ensures { result ≡ thing_at self.now x.0 }
+    {
+        self.things[self.slots[x.0 as usize] as usize]
+    }
+
+    // One meeting more.
+    pub(crate) fn count_meeting(&mut self)
+        requires { self.old.meetings < 2 ^ 31 }
+        ensures { self.new ≡ record self.old { meetings = self.old.meetings + 1 } }
+    {
+        self.meetings += 1;
+    }
+
+    // Says whether `t` is a member of `p`.
+    pub(crate) fn mark(&mut self, t: TaskId, p: PhaserId, member: bool)
+        requires all { length self.old.members ≡ MAX_TASKS * MAX_PHASERS }
+        requires task { t.0 < MAX_TASKS }
+        requires phaser { p.0 < MAX_PHASERS }
+        ensures { self.new ≡ marked t.0 p.0 member self.old }
+    {
+        self.members[(MAX_PHASERS * t.0 + p.0) as usize] = member;
+    }
+
+    // The code of `t` goes on with this op.
+    pub(crate) fn push_op(&mut self, t: TaskId, op: Op) -> Result<(), NoMemory>
+        requires here { t.0 < length self.old.codes }
+        requires few { self.old.ops < 2 ^ 31 }
+        ensures { OnOk result (self.new ≡ pushed t.0 op self.old) }
+    {
+        self.codes[t.0 as usize].push(op)?;
+        self.ops += 1;
+        Ok(())
+    }
+
+    // `t` makes a phaser.
+    pub(crate) fn push_maker(&mut self, t: TaskId) -> Result<(), AllocFailed<TaskId>>
+        ensures { OnOk result (self.new ≡ with_maker t.0 self.old) }
+    {
+        self.makers.push(t)
+    }
+
+    // `t` draws a task.
+    pub(crate) fn push_task(&mut self, alloc: Global, t: TaskId) -> Result<(), AllocError>
+        ensures { OnOk result (self.new ≡ with_task t.0 self.old) }
+    {
+        if self.parents.push(Some(t)).is_err() || self.codes.push(List::new(alloc)).is_err() {
+            return Err(AllocError);
+        }
+        match self.starts.push(None) {
+            Ok(_) => Ok(()),
+            Err(_e) => Err(AllocError),
+        }
+    }
+
+    // The name's slot, if need be a new one. Slot 0 is no name's.
+    pub(crate) fn give_slot(&mut self, x: NameId)
+        requires here { x.0 < length self.old.slots }
+        requires few { self.old.slot_count < 2 ^ 31 }
+        ensures { self.new ≡ slotted x.0 self.old }
+    {
+        if self.slots[x.0 as usize] == 0 {
+            self.slots[x.0 as usize] = self.slot_count;
+            self.slot_count += 1;
+        }
+    }
+
+    // The name stands for this.
+    pub(crate) fn set_thing(&mut self, x: NameId, thing: Thing)
+        requires here { x.0 < length self.old.slots }
+        requires within { slot_of self.old x.0 < length self.old.things }
+        ensures { self.new ≡ with_thing x.0 thing self.old }
+    {
+        self.things[self.slots[x.0 as usize] as usize] = thing;
+    }
+
+    // `c` is forked with the steps from `first` on, before `after`, and with the things as they are now.
+    pub(crate) fn set_start(
+        &mut self,
+        alloc: Global,
+        c: TaskId,
+        first: u32,
+        after: u32,
+    ) -> Result<(), AllocError>
+        requires { c.0 < length self.old.starts }
+        ensures { OnOk result (self.new ≡ started c.0 first after self.old) }
+    {
+        let things = Vec::from_slice(alloc, &self.things)?;
+        self.starts[c.0 as usize] = Some(Start {
+            first,
+            after,
+            things,
+        });
+        Ok(())
+    }
+
+    // Whether `c` is forked.
+    pub(crate) fn is_forked(&self, c: TaskId) -> bool
+        requires { c.0 < length self.now.starts }
+        ensures { result ≡ is_some (slice_index_or self.now.starts c.0 None) }
+    {
+        self.starts[c.0 as usize].is_some()
+    }
+
+    // The task begins with the things of its start; where its steps begin and end, if it is forked.
+    pub(crate) fn begin(
+        &mut self,
+        alloc: Global,
+        t: TaskId,
+    ) -> Result<Option<(u32, u32)>, AllocError>
+        requires { t.0 < length self.old.starts }
+        ensures range { IfOk result (λ r. r ≡ range_of (slice_index_or self.old.starts t.0 None)) }
+        ensures begun { OnOk result (self.new ≡ begun (slice_index_or self.old.starts t.0 None) self.old) }
+    {
+        match &self.starts[t.0 as usize] {
+            None => Ok(None),
+            Some(start) => {
+                let things = Vec::from_slice(alloc, &start.things)?;
+                let range = (start.first, start.after);
+                self.things = things;
+                Ok(Some(range))
+            }
+        }
+    }
+
+    // What is kept before the first meeting.
+    pub(crate) fn new(alloc: Global, steps: Vec<Step>, names: usize) -> Result<Checker, AllocError>
+        requires { length steps.items < 2 ^ 32 }
+        ensures { IfOk result (λ k. IsOpening steps.items names k) }
+    {
+        let after = steps.len() as u32;
+        let things = no_things(alloc, (MAX_TASKS + MAX_PHASERS) as usize)?;
+        let start = Start {
+            first: 0,
+            after,
+            things: Vec::from_slice(alloc, &things)?,
+        };
+        let mut parents = Vec::new(alloc);
+        let mut codes = Vec::new(alloc);
+        let mut starts = Vec::new(alloc);
+        if parents.push(None).is_err()
+            || codes.push(List::new(alloc)).is_err()
+            || starts.push(Some(start)).is_err()
+        {
+            return Err(AllocError);
+        }
+        Ok(Checker {
+            steps,
+            parents,
+            makers: Vec::new(alloc),
+            codes,
+            starts,
+            members: no_members(alloc, (MAX_TASKS * MAX_PHASERS) as usize)?,
+            slots: no_slots(alloc, names)?,
+            slot_count: 1,
+            things,
+            ops: 0,
+            meetings: 0,
+        })
+    }
+
+    // The three lists of the plan.
+    pub(crate) fn into_parts(self) -> Parts
+        ensures parents { result.parents.items ≡ self.parents }
+        ensures makers { result.makers.items ≡ self.makers }
+        ensures codes { result.codes.items ≡ self.codes }
+    {
+        Parts {
+            parents: self.parents,
+            makers: self.makers,
+            codes: self.codes,
+        }
+    }
+}
+
+// Slots with nothing in them.
+fn no_things(alloc: Global, n: usize) -> Result<Vec<Thing>, AllocError>
+    ensures many { IfOk result (λ v. length v.items ≡ n) }
+    ensures all { IfOk result (λ v. (i : ℕ) → slice_index_or v.items i Nothing ≡ Nothing) }
+{
+    vec![in alloc; Thing::Nothing; n]
+}
+
+// Names without a slot.
+fn no_slots(alloc: Global, n: usize) -> Result<Vec<u32>, AllocError>
+    ensures many { IfOk result (λ v. length v.items ≡ n) }
+    ensures all { IfOk result (λ v. (i : ℕ) → slice_index_or v.items i 0 ≡ 0) }
+{
+    vec![in alloc; 0; n]
+}
+
+// Nobody is a member.
+fn no_members(alloc: Global, n: usize) -> Result<Vec<bool>, AllocError>
+    ensures many { IfOk result (λ v. length v.items ≡ n) }
+    ensures all { IfOk result (λ v. (i : ℕ) → slice_index_or v.items i false ≡ false) }
+{
+    vec![in alloc; false; n]
+}
+
+// The three lists of a plan.
+#[derive(Drop)]
+pub(crate) struct Parts {
+    pub parents: Vec<Option<TaskId>>,
+    pub makers: Vec<TaskId>,
+    pub codes: Vec<List<Op>>,
+}

@@ -1,0 +1,104 @@
+// Programs as flat steps.
+
+ghost use Rattle.std.specs.Prelude.{◌≡◌, ◌+◌, ◌<◌, ◌^◌, ◌++◌, ◌∷◌, [], length, OnOk, IfOk};
+ghost use Rattle.pl_syntax.specs.Tree.{count, done};
+ghost use Rattle.pl_syntax.specs.Bodies.{first};
+ghost use Rattle.pl_plan.specs.Shows.{IsNumbering};
+ghost use Rattle.pl_plan.specs.Numbers.{spelling, IsMore};
+ghost use Rattle.pl_plan.specs.Flattening.{AddsSteps};
+
+use crate::step::{NameId, Step};
+use armus_base::NoMemory;
+use indexmap::IndexSet;
+use pl_syntax::{Body, Stmt};
+
+// The number of a name, in the order of first sight.
+pub(crate) fn number<'p>(names: &mut IndexSet<&'p [u8]>, name: &'p [u8]) -> Result<NameId, NoMemory>
+    ensures found { IfOk result (λ i. i.0 < length names.new.keys) }
+    ensures spelled { IfOk result (λ i. spelling names.new.keys i.0 ≡ name.now) }
+    ensures more { OnOk result (IsMore names.old.keys names.new.keys) }
+    ensures distinct { OnOk result (IsNumbering (length names.new.keys) (spelling names.new.keys)) }
+{
+    let (i, _) = names.insert_full(name)?;
+    if i >= 1 << 32 {
+        return Err(NoMemory);
+    }
+    Ok(NameId(i as u32))
+}
+
+// One step more.
+fn push(steps: &mut Vec<Step>, step: Step) -> Result<(), NoMemory>
+    ensures { OnOk result (steps.new.items ≡ steps.old.items ++ step ∷ []) }
+{
+    steps.push(step)?;
+    Ok(())
+}
+
+// A statement, and its body's statements behind it.
+#[cycle(flatten)]
+pub(crate) fn flatten_statement<'p>(
+    names: &mut IndexSet<&'p [u8]>,
+    steps: &mut Vec<Step>,
+    stmt: &'p Stmt,
+) -> Result<(), NoMemory>
+    requires small { length steps.old.items + count (first stmt.now done) < 2 ^ 32 }
+    requires distinct { IsNumbering (length names.old.keys) (spelling names.old.keys) }
+    ensures { OnOk result (AddsSteps names.old.keys names.new.keys steps.old.items steps.new.items (first stmt.now done)) }
+{
+    match stmt {
+        Stmt::NewTask { x } => {
+            let x = number(names, x.as_bytes())?;
+            push(steps, Step::NewTask { x })
+        }
+        Stmt::NewPhaser { x } => {
+            let x = number(names, x.as_bytes())?;
+            push(steps, Step::NewPhaser { x })
+        }
+        Stmt::Reg { x, y } => {
+            let x = number(names, x.as_bytes())?;
+            let y = number(names, y.as_bytes())?;
+            push(steps, Step::Reg { x, y })
+        }
+        Stmt::Dereg { x } => {
+            let x = number(names, x.as_bytes())?;
+            push(steps, Step::Dereg { x })
+        }
+        Stmt::Adv { x } => {
+            let x = number(names, x.as_bytes())?;
+            push(steps, Step::Adv { x })
+        }
+        Stmt::Await { x } => {
+            let x = number(names, x.as_bytes())?;
+            push(steps, Step::Await { x })
+        }
+        Stmt::Skip => push(steps, Step::Skip),
+        Stmt::Fork { x, body } => {
+            let x = number(names, x.as_bytes())?;
+            let after = steps.len() as u32 + 1 + body.statements();
+            push(steps, Step::Fork { x, after })?;
+            flatten_body(names, steps, body)
+        }
+        Stmt::Loop { k, body } => {
+            let after = steps.len() as u32 + 1 + body.statements();
+            push(steps, Step::Loop { k: *k, after })?;
+            flatten_body(names, steps, body)
+        }
+    }
+}
+
+// The statements of a body, one after the other.
+#[cycle(flatten)]
+pub(crate) fn flatten_body<'p>(
+    names: &mut IndexSet<&'p [u8]>,
+    steps: &mut Vec<Step>,
+    body: &'p Body,
+) -> Result<(), NoMemory>
+    requires small { length steps.old.items + count body.now < 2 ^ 32 }
+    requires distinct { IsNumbering (length names.old.keys) (spelling names.old.keys) }
+    ensures { OnOk result (AddsSteps names.old.keys names.new.keys steps.old.items steps.new.items body.now) }
+{
+    for stmt in body.as_slice() {
+        flatten_statement(names, steps, stmt)?;
+    }
+    Ok(())
+}

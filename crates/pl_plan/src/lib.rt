@@ -1,0 +1,24 @@
+//! The plan of a program: what its statements come to, task by task, or the first check fault.
+#![tactic(auto)]
+
+mod checker;
+mod fault;
+mod flatten;
+mod laws;
+mod limits;
+mod planning;
+mod statements;
+mod step;
+mod tasks;
+mod walk;
+
+pub use fault::{
+    ALREADY_FORKED, ALREADY_MEMBER, CheckFault, NOT_DRAWN_HERE, NOT_MEMBER, OTHER_KIND, PlanEnd,
+    TOO_MANY_MEETINGS, TOO_MANY_OPS, TOO_MANY_PHASERS, TOO_MANY_TASKS, UNKNOWN_NAME,
+};
+pub use laws::unfolded_is_checked;
+pub use limits::MAX_MEETINGS;
+pub use planning::plan;
+
+#[cfg(test)]
+mod tests;

@@ -1,0 +1,276 @@
+// What the checker does at a step.
+
+ghost use Rattle.std.specs.Prelude.{◌≡◌, ◌+◌, ◌*◌, ◌<◌, ◌≤◌, ◌^◌, ◌++◌, ◌∷◌, [], length, slice_index_or, OnOk, IfOk, None, false, is_some};
+ghost use Rattle.pl_plan.specs.Checker.{Fits, slot_of};
+ghost use Rattle.pl_plan.specs.Unfolding.{as_task, as_phaser, fault_unless, is_parent};
+ghost use Rattle.pl_plan.specs.CheckerSteps.{Gives, viewed, thing_named, member, with_binding, checker_add, checker_new_task, checker_new_phaser, checker_unforked_child, checker_reg, checker_member, checker_dereg, checker_adv, checker_await, checker_fork, checker_count, checker_act, HasNames};
+
+use crate::checker::Checker;
+use crate::fault::{
+    ALREADY_FORKED, ALREADY_MEMBER, CheckFault, NOT_DRAWN_HERE, NOT_MEMBER, OTHER_KIND, PlanEnd,
+    TOO_MANY_MEETINGS, TOO_MANY_OPS, TOO_MANY_PHASERS, TOO_MANY_TASKS, UNKNOWN_NAME,
+};
+use crate::limits::MAX_MEETINGS;
+use crate::step::{NameId, Step, Thing};
+use armus_base::{MAX_OPS, MAX_PHASERS, MAX_TASKS, Op, PhaserId, TaskId};
+use std::alloc::Global;
+
+// The fault of this kind, unless the test holds.
+fn fault_unless(holds: bool, kind: u8, n: u32) -> Result<(), CheckFault>
+    ensures { result ≡ fault_unless holds kind n }
+{
+    if holds {
+        Ok(())
+    } else {
+        Err(CheckFault { kind, statement: n })
+    }
+}
+
+// A meeting, or its fault.
+#[tactic(auto, unfolding(crate::specs::CheckerSteps::checker_count))]
+pub(crate) fn count_meeting(checker: &mut Checker, n: u32) -> Result<(), PlanEnd>
+    ensures { Gives result (checker_count n checker.old) checker.new }
+{
+    fault_unless(checker.meetings() < MAX_MEETINGS, TOO_MANY_MEETINGS, n)?;
+    checker.count_meeting();
+    Ok(())
+}
+
+// The task of this name.
+fn task_named(checker: &Checker, n: u32, x: NameId) -> Result<TaskId, CheckFault>
+    requires fits { Fits checker.now }
+    requires here { x.0 < length checker.now.slots }
+    ensures exact { viewed (λ c. c.0) result ≡ as_task n (thing_named checker.now x.0) }
+    ensures inside { IfOk result (λ c. c.0 < length checker.now.parents) }
+{
+    match checker.thing(x) {
+        Thing::Task(c) => Ok(c),
+        Thing::Phaser(_) => Err(CheckFault {
+            kind: OTHER_KIND,
+            statement: n,
+        }),
+        Thing::Nothing => Err(CheckFault {
+            kind: UNKNOWN_NAME,
+            statement: n,
+        }),
+    }
+}
+
+// The phaser of this name.
+fn phaser_named(checker: &Checker, n: u32, x: NameId) -> Result<PhaserId, CheckFault>
+    requires fits { Fits checker.now }
+    requires here { x.0 < length checker.now.slots }
+    ensures exact { viewed (λ p. p.0) result ≡ as_phaser n (thing_named checker.now x.0) }
+    ensures inside { IfOk result (λ p. p.0 < length checker.now.makers) }
+{
+    match checker.thing(x) {
+        Thing::Phaser(p) => Ok(p),
+        Thing::Task(_) => Err(CheckFault {
+            kind: OTHER_KIND,
+            statement: n,
+        }),
+        Thing::Nothing => Err(CheckFault {
+            kind: UNKNOWN_NAME,
+            statement: n,
+        }),
+    }
+}
+
+// Whether `parent` is task `t`.
+fn is_parent(t: TaskId, parent: Option<TaskId>) -> bool
+    ensures { result ≡ is_parent t.0 parent }
+{
+    match parent {
+        None => false,
+        Some(u) => t.0 == u.0,
+    }
+}
+
+// `t` drew `c`, and `c` is not forked.
+fn unforked_child(checker: &Checker, t: TaskId, n: u32, c: TaskId) -> Result<(), CheckFault>
+    requires fits { Fits checker.now }
+    requires inside { c.0 < length checker.now.parents }
+    ensures { result ≡ checker_unforked_child t.0 n c.0 checker.now }
+{
+    fault_unless(is_parent(t, checker.parent(c)), NOT_DRAWN_HERE, n)?;
+    fault_unless(!checker.is_forked(c), ALREADY_FORKED, n)
+}
+
+// The name stands for this.
+fn bind(checker: &mut Checker, x: NameId, thing: Thing)
+    requires here { x.0 < length checker.old.slots }
+    requires few { checker.old.slot_count < MAX_TASKS + MAX_PHASERS }
+    requires below { slot_of checker.old x.0 < MAX_TASKS + MAX_PHASERS }
+    requires long { length checker.old.things ≡ MAX_TASKS + MAX_PHASERS }
+    ensures { checker.new ≡ with_binding x.0 thing checker.old }
+{
+    checker.give_slot(x);
+    checker.set_thing(x, thing);
+}
+
+// An op, or the fault that there are too many.
+#[tactic(auto, unfolding(crate::specs::CheckerSteps::checker_add))]
+fn add(checker: &mut Checker, t: TaskId, n: u32, op: Op) -> Result<(), PlanEnd>
+    requires { t.0 < length checker.old.codes }
+    ensures { Gives result (checker_add t.0 n op checker.old) checker.new }
+{
+    fault_unless(checker.ops() < MAX_OPS, TOO_MANY_OPS, n)?;
+    checker.push_op(t, op)?;
+    Ok(())
+}
+
+// `x = newTid();`
+#[tactic(auto, unfolding(crate::specs::CheckerSteps::checker_new_task))]
+pub(crate) fn new_task(
+    alloc: Global,
+    checker: &mut Checker,
+    t: TaskId,
+    n: u32,
+    x: NameId,
+) -> Result<(), PlanEnd>
+    requires fits { Fits checker.old }
+    requires here { x.0 < length checker.old.slots }
+    ensures { Gives result (checker_new_task t.0 n x.0 checker.old) checker.new }
+{
+    let c = checker.tasks();
+    fault_unless(c < MAX_TASKS, TOO_MANY_TASKS, n)?;
+    checker.push_task(alloc, t)?;
+    bind(checker, x, Thing::Task(TaskId(c)));
+    Ok(())
+}
+
+// `x = newPhaser();`
+#[tactic(auto, unfolding(crate::specs::CheckerSteps::checker_new_phaser))]
+pub(crate) fn new_phaser(checker: &mut Checker, t: TaskId, n: u32, x: NameId) -> Result<(), PlanEnd>
+    requires fits { Fits checker.old }
+    requires task { t.0 < length checker.old.parents }
+    requires here { x.0 < length checker.old.slots }
+    ensures { Gives result (checker_new_phaser t.0 n x.0 checker.old) checker.new }
+{
+    let p = PhaserId(checker.phasers());
+    fault_unless(p.0 < MAX_PHASERS, TOO_MANY_PHASERS, n)?;
+    checker.push_maker(t)?;
+    bind(checker, x, Thing::Phaser(p));
+    checker.mark(t, p, true);
+    add(checker, t, n, Op::Make { p })
+}
+
+// `reg(x, y);`
+#[tactic(auto, unfolding(crate::specs::CheckerSteps::checker_reg))]
+pub(crate) fn register(
+    checker: &mut Checker,
+    t: TaskId,
+    n: u32,
+    x: NameId,
+    y: NameId,
+) -> Result<(), PlanEnd>
+    requires fits { Fits checker.old }
+    requires task { t.0 < length checker.old.parents }
+    requires x_here { x.0 < length checker.old.slots }
+    requires y_here { y.0 < length checker.old.slots }
+    ensures { Gives result (checker_reg t.0 n x.0 y.0 checker.old) checker.new }
+{
+    let c = task_named(checker, n, x)?;
+    let p = phaser_named(checker, n, y)?;
+    unforked_child(checker, t, n, c)?;
+    fault_unless(checker.is_member(t, p), NOT_MEMBER, n)?;
+    fault_unless(!checker.is_member(c, p), ALREADY_MEMBER, n)?;
+    checker.mark(c, p, true);
+    add(checker, t, n, Op::Reg { c, p })
+}
+
+// The phaser of this name, of which `t` is a member.
+#[tactic(auto, unfolding(crate::specs::CheckerSteps::checker_member))]
+fn member_named(checker: &Checker, t: TaskId, n: u32, x: NameId) -> Result<PhaserId, CheckFault>
+    requires fits { Fits checker.now }
+    requires task { t.0 < length checker.now.parents }
+    requires here { x.0 < length checker.now.slots }
+    ensures exact { viewed (λ p. p.0) result ≡ checker_member t.0 n x.0 checker.now }
+    ensures inside { IfOk result (λ p. p.0 < length checker.now.makers) }
+{
+    let p = phaser_named(checker, n, x)?;
+    fault_unless(checker.is_member(t, p), NOT_MEMBER, n)?;
+    Ok(p)
+}
+
+// `dereg(x);`
+#[tactic(auto, unfolding(crate::specs::CheckerSteps::checker_dereg))]
+pub(crate) fn leave(checker: &mut Checker, t: TaskId, n: u32, x: NameId) -> Result<(), PlanEnd>
+    requires fits { Fits checker.old }
+    requires task { t.0 < length checker.old.parents }
+    requires here { x.0 < length checker.old.slots }
+    ensures { Gives result (checker_dereg t.0 n x.0 checker.old) checker.new }
+{
+    let p = member_named(checker, t, n, x)?;
+    checker.mark(t, p, false);
+    add(checker, t, n, Op::Drop { p })
+}
+
+// `adv(x);`
+#[tactic(auto, unfolding(crate::specs::CheckerSteps::checker_adv))]
+pub(crate) fn advance(checker: &mut Checker, t: TaskId, n: u32, x: NameId) -> Result<(), PlanEnd>
+    requires fits { Fits checker.old }
+    requires task { t.0 < length checker.old.parents }
+    requires here { x.0 < length checker.old.slots }
+    ensures { Gives result (checker_adv t.0 n x.0 checker.old) checker.new }
+{
+    let p = member_named(checker, t, n, x)?;
+    add(checker, t, n, Op::Adv { p })
+}
+
+// `await(x);`
+#[tactic(auto, unfolding(crate::specs::CheckerSteps::checker_await))]
+pub(crate) fn wait(checker: &mut Checker, t: TaskId, n: u32, x: NameId) -> Result<(), PlanEnd>
+    requires fits { Fits checker.old }
+    requires task { t.0 < length checker.old.parents }
+    requires here { x.0 < length checker.old.slots }
+    ensures { Gives result (checker_await t.0 n x.0 checker.old) checker.new }
+{
+    let p = member_named(checker, t, n, x)?;
+    add(checker, t, n, Op::Await { p })
+}
+
+// `fork(x) { .. }`, whose body's steps stand before `after`.
+#[tactic(auto, unfolding(crate::specs::CheckerSteps::checker_fork))]
+pub(crate) fn fork(
+    alloc: Global,
+    checker: &mut Checker,
+    t: TaskId,
+    n: u32,
+    x: NameId,
+    after: u32,
+) -> Result<(), PlanEnd>
+    requires fits { Fits checker.old }
+    requires task { t.0 < length checker.old.parents }
+    requires here { x.0 < length checker.old.slots }
+    ensures { Gives result (checker_fork t.0 n x.0 after checker.old) checker.new }
+{
+    let c = task_named(checker, n, x)?;
+    unforked_child(checker, t, n, c)?;
+    checker.set_start(alloc, c, n, after)?;
+    add(checker, t, n, Op::Fork { c })
+}
+
+// A statement without a body.
+pub(crate) fn act(
+    alloc: Global,
+    checker: &mut Checker,
+    t: TaskId,
+    n: u32,
+    step: Step,
+) -> Result<(), PlanEnd>
+    requires fits { Fits checker.old }
+    requires task { t.0 < length checker.old.parents }
+    requires here { HasNames (length checker.old.slots) step }
+    ensures { Gives result (checker_act t.0 n step checker.old) checker.new }
+{
+    match step {
+        Step::NewTask { x } => new_task(alloc, checker, t, n, x),
+        Step::NewPhaser { x } => new_phaser(checker, t, n, x),
+        Step::Reg { x, y } => register(checker, t, n, x, y),
+        Step::Dereg { x } => leave(checker, t, n, x),
+        Step::Adv { x } => advance(checker, t, n, x),
+        Step::Await { x } => wait(checker, t, n, x),
+        _ => Ok(()),
+    }
+}

@@ -1,0 +1,29 @@
+// Programs as flat steps.
+
+use armus_base::{PhaserId, TaskId};
+
+// The number of a name, in the order of first sight.
+#[derive(Clone, Copy, Debug)]
+pub(crate) struct NameId(pub u32);
+
+// A statement: the step with index i is that with number i + 1. What stands after a body begins at `after`.
+#[derive(Clone, Copy, Debug)]
+pub(crate) enum Step {
+    NewTask { x: NameId },
+    NewPhaser { x: NameId },
+    Fork { x: NameId, after: u32 },
+    Reg { x: NameId, y: NameId },
+    Dereg { x: NameId },
+    Adv { x: NameId },
+    Await { x: NameId },
+    Skip,
+    Loop { k: u16, after: u32 },
+}
+
+// What a name stands for.
+#[derive(Clone, Copy, Debug)]
+pub(crate) enum Thing {
+    Nothing,
+    Task(TaskId),
+    Phaser(PhaserId),
+}

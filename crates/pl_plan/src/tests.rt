@@ -1,0 +1,112 @@
+ghost use Rattle.std.specs.Prelude.{◌≤◌, length};
+
+use super::*;
+use armus_base::TaskId;
+use pl_syntax::{MAX_PARSED_BYTES, parse};
+use std::alloc::Global;
+use std::process::Abort;
+use std::test::*;
+
+const AVERAGING: &[u8] =
+    b"pc = newPhaser();\npb = newPhaser();\nloop 3 {\n  t = newTid();\n  reg(t, pc);\n  reg(t, pb);\n  fork(t) {\n    loop 2 {\n      skip; // read the neighbours\n      adv(pc);\n      await(pc);\n      skip; // write the mean\n      adv(pc);\n      await(pc);\n    }\n    dereg(pc);\n    dereg(pb);\n  }\n}\nadv(pb);\nawait(pb);\n";
+
+const MOST_OPS: &[u8] =
+    b"p = newPhaser(); loop 65535 { adv(p); adv(p); adv(p); adv(p); } adv(p); adv(p); adv(p);";
+
+const ONE_OP_TOO_MANY: &[u8] =
+    b"p = newPhaser(); loop 65535 { adv(p); adv(p); adv(p); adv(p); } adv(p); adv(p); adv(p); adv(p);";
+
+#[derive(Debug, PartialEq, Eq, Drop)]
+enum Checked {
+    Counts { tasks: u32, phasers: u32, ops: u32 },
+    Fault { kind: u8, statement: u32 },
+    NoProgram,
+}
+
+fn counts(tasks: u32, phasers: u32, ops: u32) -> Checked {
+    Checked::Counts {
+        tasks,
+        phasers,
+        ops,
+    }
+}
+
+fn fault(kind: u8, statement: u32) -> Checked {
+    Checked::Fault { kind, statement }
+}
+
+// What the check of a text answers.
+fn check_text(rt: &impl Abort, alloc: Global, text: &[u8]) -> Checked {
+    assert!(rt; text.len() <= MAX_PARSED_BYTES);
+    let Ok(program) = parse(alloc, text) else {
+        return Checked::NoProgram;
+    };
+    match plan(alloc, &program) {
+        Ok(plan) => counts(plan.tasks(), plan.phasers(), plan.ops()),
+        Err(PlanEnd::Check(first)) => fault(first.kind, first.statement),
+        Err(PlanEnd::NoMemory) => panic!(rt; "memory is ample"),
+    }
+}
+
+#[test]
+fn plans_and_first_faults(rt: HostRuntime) {
+    let rows: [(&[u8], Checked); 20] = [
+        (b"", counts(1, 0, 0)),
+        (AVERAGING, counts(4, 2, 43)),
+        (b"loop 0 { adv(zz); }", counts(1, 0, 0)),
+        (b"loop 1023 { t = newTid(); }", counts(1024, 0, 0)),
+        (b"loop 1024 { t = newTid(); }", fault(7, 2)),
+        (b"loop 65535 { loop 65535 { } }", fault(10, 2)),
+        (b"adv(q);", fault(1, 1)),
+        (b"t = newTid(); adv(t);", fault(2, 2)),
+        (b"p = newPhaser(); dereg(p); adv(p);", fault(3, 3)),
+        (
+            b"p = newPhaser(); t = newTid(); reg(t, p); reg(t, p);",
+            fault(4, 4),
+        ),
+        (
+            b"p = newPhaser(); s = newTid(); t = newTid(); fork(t) { fork(s) { } }",
+            fault(5, 5),
+        ),
+        (
+            b"p = newPhaser(); t = newTid(); fork(t) { } reg(t, p);",
+            fault(6, 4),
+        ),
+        (b"loop 256 { p = newPhaser(); }", counts(1, 256, 256)),
+        (b"loop 257 { p = newPhaser(); }", fault(8, 2)),
+        (MOST_OPS, counts(1, 1, 262_144)),
+        (ONE_OP_TOO_MANY, fault(9, 10)),
+        // A child has the names as they are at its fork, and a later assignment in its parent does not change them.
+        (
+            b"p = newPhaser(); t = newTid(); reg(t, p); fork(t) { adv(p); } p = newTid();",
+            counts(3, 1, 4),
+        ),
+        // A task may not fork the child of another, even one that is forked already.
+        (
+            b"s = newTid(); t = newTid(); fork(s) { } fork(t) { fork(s) { } }",
+            fault(5, 5),
+        ),
+        // The first fault is the one of the first task, wherever it stands.
+        (b"t = newTid(); fork(t) { adv(q); } adv(t);", fault(2, 4)),
+        // A number is taken at `newTid`, so an assignment in a turn is a task more.
+        (b"loop 2 { t = newTid(); fork(t) { } }", counts(3, 0, 2)),
+    ];
+    for (i, (text, wanted)) in rows.iter().enumerate() {
+        assert_eq!(rt; check_text(&rt, rt.alloc(), text), *wanted, "row {i}");
+    }
+}
+
+#[test]
+fn ops_of_each_task(rt: HostRuntime) -> Result<(), Fail> {
+    assert!(rt; AVERAGING.len() <= MAX_PARSED_BYTES);
+    let program = parse(rt.alloc(), AVERAGING)?;
+    let plan = plan(rt.alloc(), &program)?;
+    assert_eq!(rt; plan.tasks(), 4);
+    for (t, wanted) in [13, 10, 10, 10].iter().enumerate() {
+        let t = t as u32;
+        assert!(rt; t < plan.tasks());
+        assert_eq!(rt; plan.code(TaskId(t)).len(), *wanted, "task {t}");
+    }
+    unfolded_is_checked();
+    Ok(())
+}

@@ -1,0 +1,83 @@
+// The walk over steps, with loops and their turns.
+
+ghost use Rattle.std.specs.Prelude.{◌≡◌, ◌+◌, ◌<◌, ◌≤◌, ◌^◌, ◌∷◌, length, OnOk, ℕ, List};
+ghost use Rattle.pl_syntax.specs.Tree.{Tree};
+ghost use Rattle.pl_plan.specs.Checker.{Fits, Keeps};
+ghost use Rattle.pl_plan.specs.Steps.{IsSpelled, IsList};
+ghost use Rattle.pl_plan.specs.Shows.{Shows, Follows};
+ghost use Rattle.pl_plan.specs.Unfolding.{State, meet_all, meetings_of, times, meeting, a_turn};
+
+use crate::checker::Checker;
+use crate::fault::PlanEnd;
+use crate::statements::{act, count_meeting, fork};
+use crate::step::Step;
+use armus_base::TaskId;
+use std::alloc::Global;
+
+// The turns of the loop with index at.
+#[cycle(walk)]
+fn walk_turns(
+    alloc: Global,
+    checker: &mut Checker,
+    t: TaskId,
+    at: u32,
+    turns: u16,
+    after: u32,
+) -> Result<(), PlanEnd>
+    requires fits { Fits checker.old }
+    requires small { length checker.old.steps < 2 ^ 32 }
+    requires task { t.0 < length checker.old.parents }
+    requires here { at < after }
+    requires within { after ≤ length checker.old.steps }
+    requires list { IsList (length checker.old.slots) checker.old.steps (at + 1) after }
+    ensures follows { (names : ℕ → List ℕ) (s : State) (tree : Tree) → IsSpelled (length checker.old.slots) names checker.old.steps (at + 1) tree after → Shows names checker.old s →
+        Follows result (meet_all t.0 (times turns (meeting (at + 1) a_turn ∷ meetings_of (at + 1 + 1) tree)) s) (Shows names checker.new) }
+    ensures keeps { OnOk result (Keeps checker.old checker.new) }
+{
+    let number = at + 1;
+    for _ in 0..turns {
+        count_meeting(checker, number)?;
+        walk(alloc, checker, t, at + 1, after)?;
+    }
+    Ok(())
+}
+
+// The steps from one index on, before another.
+#[cycle(walk)]
+pub(crate) fn walk(
+    alloc: Global,
+    checker: &mut Checker,
+    t: TaskId,
+    from: u32,
+    to: u32,
+) -> Result<(), PlanEnd>
+    requires fits { Fits checker.old }
+    requires small { length checker.old.steps < 2 ^ 32 }
+    requires task { t.0 < length checker.old.parents }
+    requires within { to ≤ length checker.old.steps }
+    requires list { IsList (length checker.old.slots) checker.old.steps from to }
+    ensures follows { (names : ℕ → List ℕ) (s : State) (tree : Tree) → IsSpelled (length checker.old.slots) names checker.old.steps from tree to → Shows names checker.old s →
+        Follows result (meet_all t.0 (meetings_of (from + 1) tree) s) (Shows names checker.new) }
+    ensures keeps { OnOk result (Keeps checker.old checker.new) }
+{
+    let mut at = from;
+    while at < to {
+        let step = checker.step(at);
+        count_meeting(checker, at + 1)?;
+        match step {
+            Step::Loop { k, after } => {
+                walk_turns(alloc, checker, t, at, k, after)?;
+                at = after;
+            }
+            Step::Fork { x, after } => {
+                fork(alloc, checker, t, at + 1, x, after)?;
+                at = after;
+            }
+            _ => {
+                act(alloc, checker, t, at + 1, step)?;
+                at += 1;
+            }
+        }
+    }
+    Ok(())
+}
