@@ -1,0 +1,3 @@
+pub mod DeadPlaces
+pub mod Verdicts
+pub mod Passes
