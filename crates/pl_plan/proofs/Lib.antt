@@ -19,3 +19,4 @@ pub mod Bodies
 pub mod Adding
 pub mod WorkedPrograms
 pub mod Planned
+pub mod FaultIsOfProgram

@@ -108,5 +108,6 @@ fn ops_of_each_task(rt: HostRuntime) -> Result<(), Fail> {
         assert_eq!(rt; plan.code(TaskId(t)).len(), *wanted, "task {t}");
     }
     unfolded_is_checked();
+    fault_is_of_program();
     Ok(())
 }
