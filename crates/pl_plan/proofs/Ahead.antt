@@ -11,20 +11,15 @@ use Rattle.pl_plan.specs.Steps.{step_at, IsSpelled, IsList}
 use Rattle.pl_plan.specs.Checker.{Checker, Fits, Keeps}
 use Rattle.pl_plan.specs.CheckerSteps.{checker_act, HasNames, checker_count, checker_fork, Gives}
 use Rattle.pl_plan.specs.Unfolding.{State, Outcome, ◌>>=◌, times, meetings_of, meet_all, count_meeting}
-use Rattle.pl_plan.specs.Shows.{Shows, Follows}
+use Rattle.pl_plan.specs.Shows.{Shows, Follows, FollowsFrom}
 use Rattle.pl_plan.proofs.Simulating as simulating
 use Rattle.pl_plan.proofs.Walks.{meet_all-append, On, Failed, on_through, on_failed, simulates_ok, simulates_err, IsPlain}
 use Rattle.pl_plan.proofs.Turns.{turn, Turned}
 use Rattle.pl_plan.proofs.Onward.{respell, count_keeps, count_fails, plain_on, plain_fails, plain_names, fork_on, fork_fails, fork_bounds, loop_on, loop_fails, loop_bounds, loop_list, on_same, failed_same}
 
--- the walk goes as the unfolding from here on
-abbrev pub FollowsFrom : ℕ → ℕ → ℕ → Checker → Result (Unit {0}) PlanEnd → Checker → Type 0
-FollowsFrom from to t old r kk =
-    (names : ℕ → List ℕ) (s : State) (tree : Tree) → IsSpelled (length old.slots) names old.steps from tree to → Shows names old s → Follows r (meet_all t (meetings_of (from + 1) tree) s) (Shows names kk)
-
-end_goes : (from to t : ℕ) (old kk : Checker) (e : PlanEnd) (fails : (f : CheckFault) → e ≡ ends.Check f → Failed (length old.slots) to t old.steps from old f) (r : Result (Unit {0}) PlanEnd) → r ≡ Err e → FollowsFrom from to t old r kk
-end_goes from to t old kk ends.NoMemory fails r is names s tree sp h = subst (λ z. Follows z (meet_all t (meetings_of (from + 1) tree) s) (Shows names kk)) (sym is) tt
-end_goes from to t old kk (ends.Check f) fails r is names s tree sp h = subst (λ z. Follows z (meet_all t (meetings_of (from + 1) tree) s) (Shows names kk)) (sym is) (fails f refl names s tree sp h)
+end_follows : (from to t : ℕ) (old kk : Checker) (e : PlanEnd) (fails : (f : CheckFault) → e ≡ ends.Check f → Failed (length old.slots) to t old.steps from old f) (r : Result (Unit {0}) PlanEnd) → r ≡ Err e → FollowsFrom from to t old r kk
+end_follows from to t old kk ends.NoMemory fails r is names s tree sp h = subst (λ z. Follows z (meet_all t (meetings_of (from + 1) tree) s) (Shows names kk)) (sym is) tt
+end_follows from to t old kk (ends.Check f) fails r is names s tree sp h = subst (λ z. Follows z (meet_all t (meetings_of (from + 1) tree) s) (Shows names kk)) (sym is) (fails f refl names s tree sp h)
 
 gave : (e : PlanEnd) (o : Outcome Checker) (k : Checker) (f : CheckFault) → Gives {A = Unit {0}} (Err e) o k → e ≡ ends.Check f → o ≡ Err f
 gave e o k f g is = subst (λ z. Gives {A = Unit {0}} (Err z) o k) is g
@@ -52,7 +47,7 @@ module _ (from to t : ℕ) (old : Checker) (at : ℕ) (k : Checker) (old_runs : 
   at_in w = (let e = ap (λ z. length z) inv.keeps.steps in omega arith)
 
   pub ahead_count_fails : (e : PlanEnd) (k1 kk : Checker) → Gives {A = Unit {0}} (Err e) (checker_count (at + 1) k) k1 → (r : Result (Unit {0}) PlanEnd) → r ≡ Err e → FollowsFrom from to t old r kk
-  ahead_count_fails e k1 kk g = end_goes from to t old kk e (λ f is. failed_from f (count_fails to t at k here_fits run lt list f (gave e (checker_count (at + 1) k) k1 f g is)))
+  ahead_count_fails e k1 kk g = end_follows from to t old kk e (λ f is. failed_from f (count_fails to t at k here_fits run lt list f (gave e (checker_count (at + 1) k) k1 f g is)))
 
   module _ (k1 : Checker) (met : checker_count (at + 1) k ≡ Ok k1) where
     pub kept1 : Keeps k k1
@@ -74,7 +69,7 @@ module _ (from to t : ℕ) (old : Checker) (at : ℕ) (k : Checker) (old_runs : 
     ahead_plain step is p k2 did = next_on (at + 1) k2 (plain_on to t at k here_fits run lt list k1 met (subst IsPlain is p) k2 (ap (λ z. checker_act t (at + 1) z k1) (sym is) ∙ did))
 
     pub ahead_plain_fails : (step : Step) → step ≡ step_at k.steps at → IsPlain step → (e : PlanEnd) (k2 kk : Checker) → Gives {A = Unit {0}} (Err e) (checker_act t (at + 1) step k1) k2 → (r : Result (Unit {0}) PlanEnd) → r ≡ Err e → FollowsFrom from to t old r kk
-    ahead_plain_fails step is p e k2 kk g = end_goes from to t old kk e (λ f ef. failed_from f (plain_fails to t at k here_fits run lt list k1 met (subst IsPlain is p) f (ap (λ z. checker_act t (at + 1) z k1) (sym is) ∙ gave e (checker_act t (at + 1) step k1) k2 f g ef)))
+    ahead_plain_fails step is p e k2 kk g = end_follows from to t old kk e (λ f ef. failed_from f (plain_fails to t at k here_fits run lt list k1 met (subst IsPlain is p) f (ap (λ z. checker_act t (at + 1) z k1) (sym is) ∙ gave e (checker_act t (at + 1) step k1) k2 f g ef)))
 
     module _ (x : NameId) (after : ℕ) (is : a_step.Fork x after ≡ step_at k.steps at) (whole : to ≤ length old.steps) where
       whole_k : to ≤ length k.steps
@@ -87,7 +82,7 @@ module _ (from to t : ℕ) (old : Checker) (at : ℕ) (k : Checker) (old_runs : 
       ahead_fork k2 did = next_on after k2 (fork_on to t at k here_fits run lt list k1 met x after (sym is) whole_k k2 did)
 
       pub ahead_fork_fails : (e : PlanEnd) (k2 kk : Checker) → Gives {A = Unit {0}} (Err e) (checker_fork t (at + 1) x.0 after k1) k2 → (r : Result (Unit {0}) PlanEnd) → r ≡ Err e → FollowsFrom from to t old r kk
-      ahead_fork_fails e k2 kk g = end_goes from to t old kk e (λ f ef. failed_from f (fork_fails to t at k here_fits run lt list k1 met x after (sym is) whole_k f (gave e (checker_fork t (at + 1) x.0 after k1) k2 f g ef)))
+      ahead_fork_fails e k2 kk g = end_follows from to t old kk e (λ f ef. failed_from f (fork_fails to t at k here_fits run lt list k1 met x after (sym is) whole_k f (gave e (checker_fork t (at + 1) x.0 after k1) k2 f g ef)))
 
     module _ (i after : ℕ) (is : a_step.Loop i after ≡ step_at k.steps at) where
       pub ahead_loop_bounds : (at < after) × (after ≤ to)
@@ -104,7 +99,7 @@ module _ (from to t : ℕ) (old : Checker) (at : ℕ) (k : Checker) (old_runs : 
       pub ahead_loop_fails : (e : PlanEnd) (k2 kk : Checker) →
           ((names : ℕ → List ℕ) (s : State) (tree : Tree) → IsSpelled (length k1.slots) names k1.steps (at + 1) tree after → Shows names k1 s → Follows {A = Unit {0}} (Err e) (meet_all t (times i (turn at tree)) s) (Shows names k2)) →
           (r : Result (Unit {0}) PlanEnd) → r ≡ Err e → FollowsFrom from to t old r kk
-      ahead_loop_fails e k2 kk went = end_goes from to t old kk e (λ f ef. failed_from f (loop_fails to t at k here_fits run lt list k1 met i after (sym is) f
+      ahead_loop_fails e k2 kk went = end_follows from to t old kk e (λ f ef. failed_from f (loop_fails to t at k here_fits run lt list k1 met i after (sym is) f
           (λ names s tree sp h. went_err e (meet_all t (times i (turn at tree)) s) (Shows names k2) f (went names s tree sp h) ef)))
 
 -- ---- turns

@@ -53,13 +53,12 @@ meetings_in many n done pos le = tt
 meetings_in many n (plain s rest) pos le = ((pos, omega arith, tt), meetings_in many (n + 1) rest (omega arith) (omega arith))
 meetings_in many n (fork x body rest) pos le =
     ((pos, omega arith, omega arith), meetings_in many (n + 1 + count body) rest (omega arith) (omega arith))
-meetings_in many n (loop k body rest) pos le =
-    (
-      (pos, omega arith, tt),
-      in-append many (times k (meeting n a_turn ∷ meetings_of (n + 1) body)) (meetings_of (n + 1 + count body) rest)
+meetings_in many n (loop k body rest) pos le = (
+  (pos, omega arith, tt),
+  in-append many (times k (meeting n a_turn ∷ meetings_of (n + 1) body)) (meetings_of (n + 1 + count body) rest)
       (in-times many k (meeting n a_turn ∷ meetings_of (n + 1) body) ((pos, omega arith, tt), meetings_in many (n + 1) body (omega arith) (omega arith)))
       (meetings_in many (n + 1 + count body) rest (omega arith) (omega arith)),
-    )
+)
 
 -- ---- tests
 

@@ -14,7 +14,8 @@ use Rattle.pl_plan.specs.declared.fault.PlanEnd.TheVariants as ends
 use Rattle.pl_plan.specs.Steps.{IsSpelled}
 use Rattle.pl_plan.specs.Checker.{Checker, CheckerStart}
 use Rattle.pl_plan.specs.CheckerSteps.{thing_of}
-use Rattle.pl_plan.specs.Opening.{IsOpening, Answers}
+use Rattle.pl_plan.specs.Opening.{IsOpening}
+use Rattle.pl_plan.specs.Planning.{Answers}
 use Rattle.pl_plan.specs.Unfolding.{State, Start, ◌>>=◌, opening_state, unfold_tasks, plan_of}
 use Rattle.pl_plan.specs.Shows.{Shows, MaybeStartShows, StartShows, IsNumbering, Follows}
 

@@ -1,6 +1,7 @@
 -- What a reader of the repository has to believe.
 pub mod Limits
 pub mod Unfolding
+pub mod Planning
 pub mod Laws
 -- How the program does it: flat steps, what the checker keeps, what it shows of the unfolding.
 pub mod Steps

@@ -1,13 +1,9 @@
--- What is kept before the first meeting, and what is answered.
-use Rattle.std.specs.Prelude.{◌≡◌, ℕ, ◌+◌, ◌*◌, false, List, [], ◌∷◌, length, slice_index_or, Some, None, Result, Ok, Err}
+-- What is kept before the first meeting.
+use Rattle.std.specs.Prelude.{◌≡◌, ℕ, ◌+◌, ◌*◌, false, List, [], ◌∷◌, length, slice_index_or, Some, None}
 use Rattle.armus_base.specs.Limits.{max_tasks, max_phasers}
-use Rattle.armus_base.specs.Plans.{Plan}
 use Rattle.pl_plan.specs.declared.step.Step.{Step}
 use Rattle.pl_plan.specs.declared.step.Thing.TheVariants as a_thing
-use Rattle.pl_plan.specs.declared.fault.PlanEnd.{PlanEnd}
-use Rattle.pl_plan.specs.declared.fault.PlanEnd.TheVariants as ends
 use Rattle.pl_plan.specs.Checker.{Checker}
-use Rattle.pl_plan.specs.Unfolding.{Outcome}
 
 -- what is kept before the first meeting: task 0 alone, forked with all steps; no name stands for anything, nobody is a member
 pub record IsOpening (steps : List Step) (names : ℕ) (k : Checker) : Type 0 where
@@ -25,9 +21,3 @@ pub record IsOpening (steps : List Step) (names : ℕ) (k : Checker) : Type 0 wh
   pub things : (i : ℕ) → slice_index_or k.things i a_thing.Nothing ≡ a_thing.Nothing
   pub ops : k.ops ≡ 0
   pub meetings : k.meetings ≡ 0
-
--- the plan, or the first fault, unless memory ran out
-abbrev pub Answers : Result Plan PlanEnd → Outcome Plan → Type 0
-Answers (Ok p) o = o ≡ Ok p
-Answers (Err (ends.Check f)) o = o ≡ Err f
-Answers (Err ends.NoMemory) o = Unit {0}

@@ -1,5 +1,5 @@
 -- What is kept shows a state of the unfolding.
-use Rattle.std.specs.Prelude.{◌≡◌, ℕ, ◌+◌, ◌*◌, ◌<◌, false, List, length, slice_index_or, sum_by, Option, Some, None, Result, Ok, Err}
+use Rattle.std.specs.Prelude.{◌≡◌, ℕ, ◌+◌, ◌*◌, ◌<◌, false, List, ◌∷◌, length, slice_index_or, sum_by, Option, Some, None, Result, Ok, Err}
 use Rattle.std.specs.Str.{bytes_eq}
 use Rattle.armus_base.specs.Limits.{max_phasers}
 use Rattle.pl_plan.specs.declared.step.Step.{Step}
@@ -7,10 +7,11 @@ use Rattle.pl_plan.specs.declared.step.Thing as code
 use Rattle.pl_plan.specs.declared.step.Thing.TheVariants as a_thing
 use Rattle.pl_plan.specs.declared.fault.PlanEnd.{PlanEnd}
 use Rattle.pl_plan.specs.declared.fault.PlanEnd.TheVariants as ends
+use Rattle.pl_syntax.specs.Tree.{Tree}
 use Rattle.pl_plan.specs.Steps.{IsSpelled}
 use Rattle.pl_plan.specs.Checker.{Checker, CheckerStart}
 use Rattle.pl_plan.specs.CheckerSteps.{thing_of}
-use Rattle.pl_plan.specs.Unfolding.{State, Start, Names, Outcome}
+use Rattle.pl_plan.specs.Unfolding.{State, Start, Names, Outcome, meeting, times, a_turn, meetings_of, meet_all}
 
 -- two numbers below n have two names
 abbrev pub IsNumbering : ℕ → (ℕ → List ℕ) → Type 0
@@ -18,7 +19,8 @@ IsNumbering n names = (x y : ℕ) → x < n → y < n → (x ≡ y → ⊥) → 
 
 -- names stand for the things in their slots
 abbrev pub AreNamed : (ℕ → List ℕ) → List ℕ → List code.Thing → Names → Type 0
-AreNamed names slots things env = (x : ℕ) → x < length slots → env (names x) ≡ thing_of (slice_index_or things (slice_index_or slots x 0) a_thing.Nothing)
+AreNamed names slots things env =
+    (x : ℕ) → x < length slots → env (names x) ≡ thing_of (slice_index_or things (slice_index_or slots x 0) a_thing.Nothing)
 
 -- a start that is kept shows one of the unfolding
 pub record StartShows (names : ℕ → List ℕ) (slots : List ℕ) (steps : List Step) (start : Start) (kept : CheckerStart) : Type 0 where
@@ -51,3 +53,15 @@ abbrev pub Follows : {A : Type 0} → Result A PlanEnd → Outcome State → (St
 Follows (Ok r) outcome shows = (s : State) × (outcome ≡ Ok s) × shows s
 Follows (Err (ends.Check f)) outcome shows = outcome ≡ Err f
 Follows (Err ends.NoMemory) outcome shows = Unit {0}
+
+-- the steps from one index on, before another, follow the meetings of the tree that they spell
+abbrev pub FollowsFrom : ℕ → ℕ → ℕ → Checker → Result (Unit {0}) PlanEnd → Checker → Type 0
+FollowsFrom from to t old r new =
+    (names : ℕ → List ℕ) (s : State) (tree : Tree) → IsSpelled (length old.slots) names old.steps from tree to → Shows names old s →
+    Follows r (meet_all t (meetings_of (from + 1) tree) s) (Shows names new)
+
+-- the turns of the loop with this index follow the meetings of its turns
+abbrev pub FollowsTurns : ℕ → ℕ → ℕ → ℕ → Checker → Result (Unit {0}) PlanEnd → Checker → Type 0
+FollowsTurns at after t turns old r new =
+    (names : ℕ → List ℕ) (s : State) (tree : Tree) → IsSpelled (length old.slots) names old.steps (at + 1) tree after → Shows names old s →
+    Follows r (meet_all t (times turns (meeting (at + 1) a_turn ∷ meetings_of (at + 1 + 1) tree)) s) (Shows names new)

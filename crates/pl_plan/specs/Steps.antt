@@ -28,7 +28,8 @@ abbrev pub IsSpelled : ℕ → (ℕ → List ℕ) → List Step → ℕ → Tree
 IsSpelled n names steps i done to = i ≡ to
 IsSpelled n names steps i (plain s rest) to = IsStep n names (step_at steps i) s × IsSpelled n names steps (i + 1) rest to
 IsSpelled n names steps i (fork x body rest) to =
-    (id : NameId) × (after : ℕ) × (step_at steps i ≡ a_step.Fork id after) × IsName n names id x × IsSpelled n names steps (i + 1) body after × IsSpelled n names steps after rest to
+    (id : NameId) × (after : ℕ) × (step_at steps i ≡ a_step.Fork id after) × IsName n names id x
+    × IsSpelled n names steps (i + 1) body after × IsSpelled n names steps after rest to
 IsSpelled n names steps i (loop k body rest) to =
     (after : ℕ) × (step_at steps i ≡ a_step.Loop k after) × IsSpelled n names steps (i + 1) body after × IsSpelled n names steps after rest to
 

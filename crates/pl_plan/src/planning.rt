@@ -3,7 +3,7 @@
 ghost use Rattle.std.specs.Prelude.{◌≡◌, ◌<◌, ◌^◌, IfOk};
 ghost use Rattle.pl_syntax.specs.Tree.{count};
 ghost use Rattle.pl_plan.specs.Unfolding.{plan_of};
-ghost use Rattle.pl_plan.specs.Opening.{Answers};
+ghost use Rattle.pl_plan.specs.Planning.{Answers};
 
 use crate::checker::Checker;
 use crate::fault::PlanEnd;

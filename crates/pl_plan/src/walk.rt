@@ -1,11 +1,9 @@
 // The walk over steps, with loops and their turns.
 
-ghost use Rattle.std.specs.Prelude.{◌≡◌, ◌+◌, ◌<◌, ◌≤◌, ◌^◌, ◌∷◌, length, OnOk, ℕ, List};
-ghost use Rattle.pl_syntax.specs.Tree.{Tree};
+ghost use Rattle.std.specs.Prelude.{◌+◌, ◌<◌, ◌≤◌, ◌^◌, length, OnOk};
 ghost use Rattle.pl_plan.specs.Checker.{Fits, Keeps};
-ghost use Rattle.pl_plan.specs.Steps.{IsSpelled, IsList};
-ghost use Rattle.pl_plan.specs.Shows.{Shows, Follows};
-ghost use Rattle.pl_plan.specs.Unfolding.{State, meet_all, meetings_of, times, meeting, a_turn};
+ghost use Rattle.pl_plan.specs.Steps.{IsList};
+ghost use Rattle.pl_plan.specs.Shows.{FollowsFrom, FollowsTurns};
 
 use crate::checker::Checker;
 use crate::fault::PlanEnd;
@@ -30,8 +28,7 @@ fn walk_turns(
     requires here { at < after }
     requires within { after ≤ length checker.old.steps }
     requires list { IsList (length checker.old.slots) checker.old.steps (at + 1) after }
-    ensures follows { (names : ℕ → List ℕ) (s : State) (tree : Tree) → IsSpelled (length checker.old.slots) names checker.old.steps (at + 1) tree after → Shows names checker.old s →
-        Follows result (meet_all t.0 (times turns (meeting (at + 1) a_turn ∷ meetings_of (at + 1 + 1) tree)) s) (Shows names checker.new) }
+    ensures follows { FollowsTurns at after t.0 turns checker.old result checker.new }
     ensures keeps { OnOk result (Keeps checker.old checker.new) }
 {
     let number = at + 1;
@@ -56,8 +53,7 @@ pub(crate) fn walk(
     requires task { t.0 < length checker.old.parents }
     requires within { to ≤ length checker.old.steps }
     requires list { IsList (length checker.old.slots) checker.old.steps from to }
-    ensures follows { (names : ℕ → List ℕ) (s : State) (tree : Tree) → IsSpelled (length checker.old.slots) names checker.old.steps from tree to → Shows names checker.old s →
-        Follows result (meet_all t.0 (meetings_of (from + 1) tree) s) (Shows names checker.new) }
+    ensures follows { FollowsFrom from to t.0 checker.old result checker.new }
     ensures keeps { OnOk result (Keeps checker.old checker.new) }
 {
     let mut at = from;
