@@ -1,0 +1,7 @@
+pub mod Words
+pub mod Live
+pub mod Refusals
+pub mod Standings
+pub mod Counts
+pub mod Lines
+pub mod Reports

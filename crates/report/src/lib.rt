@@ -1,0 +1,16 @@
+//! The texts of results: the report of a final state, the lines of live verdicts, and the line of a refusal.
+#![tactic(auto)]
+
+mod counts;
+mod laws;
+mod lines;
+mod live;
+mod refusal;
+mod reports;
+mod standing;
+
+pub use laws::{counts_add_up, one_report};
+pub use live::live_lines;
+pub use refusal::{Refusal, ScheduleFault, refusal_line};
+pub use reports::{any_dead, report};
+pub use standing::Standing;
