@@ -1,5 +1,5 @@
 // A state of the plain machine.
-ghost use Rattle.std.specs.Prelude.{◌≡◌, ℕ, ◌<◌, ◌≤◌, ◌↔◌, Some, IsTrue, IfOk, IfSome, MatchOption, length, option_map};
+ghost use Rattle.std.specs.Prelude.{◌≡◌, ℕ, ◌<◌, ◌≤◌, ◌↔◌, Some, IsTrue, IfOk, IfSome, MatchOption, OnOk, length, option_map};
 ghost use Rattle.armus_base.specs.Plans.{Forks, code_of};
 ghost use Rattle.armus_base.specs.CheckedPlans.{IsCheckedPlan};
 ghost use Rattle.armus_base.specs.Runs.{IsReachable};
@@ -55,6 +55,15 @@ impl<'p> World<'p> {
             tasks,
             phases,
         })
+    }
+
+    /// Its plan.
+    pub fn plan(&self) -> &'p Plan
+        ensures plan { result.now ≡ self.now.plan }
+        ensures checked { IsCheckedPlan self.now.plan }
+        ensures reachable { IsReachable self.now.plan (places_of self.now) }
+    {
+        self.plan
     }
 
     /// How task `t` stands.
@@ -272,6 +281,8 @@ impl<'p> World<'p> {
     pub fn finish(&self, alloc: Global) -> Result<Final, NoMemory>
         requires quiet { (t : ℕ) → t < length self.now.plan.parents → IsEnabled self.now t → ⊥ }
         ensures end { IfOk result (λ end. end ≡ final_of self.now.plan (state_of self.now)) }
+        ensures checked { OnOk result (IsCheckedPlan self.now.plan) }
+        ensures reachable { OnOk result (IsReachable self.now.plan (places_of self.now)) }
     {
         let asked = self.awaited_phasers(alloc)?;
         let blocked = self.statuses_on(alloc, &asked)?;
@@ -318,7 +329,9 @@ impl<'p> World<'p> {
 
     // How each task has ended.
     fn ends(&self, alloc: Global) -> Result<Vec<TaskEnd>, NoMemory>
-        ensures { IfOk result (λ list. list.items ≡ list_below (end_of (state_of self.now)) (length self.now.plan.parents)) }
+        ensures ends { IfOk result (λ list. list.items ≡ list_below (end_of (state_of self.now)) (length self.now.plan.parents)) }
+        ensures checked { IsCheckedPlan self.now.plan }
+        ensures reachable { IsReachable self.now.plan (places_of self.now) }
     {
         let mut ends = Vec::new(alloc);
         for t in 0..self.plan.tasks() {

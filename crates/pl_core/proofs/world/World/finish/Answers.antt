@@ -5,12 +5,12 @@ use Rattle.pl_core.specs.Worlds.{state_of}
 use Rattle.pl_core.proofs.Below.{statuses_same}
 use Rattle.pl_core.proofs.world.World.finish.Goals as goal
 
-pub returns : goal.returns
-returns c =
+pub returns-clause-end : goal.returns-clause-end
+returns-clause-end c =
     let plan = c.args.self.now.plan in
     let s = state_of c.args.self.now in
-    let ends = c.from_vec.ensures.items ∙ c.in_ok-ends.ensures in
+    let ends = c.from_vec.ensures.items ∙ c.in_ok-ends.ensures.ends in
     let blocked = c.from_vec-2.ensures.items ∙ c.in_ok-blocked.ensures
     ∙ ap (λ xs. statuses_on plan s (is_asked xs)) c.deref.ensures.value
     ∙ statuses_same plan s (is_asked c.in_ok-asked.asked.items) (is_awaited plan s) c.in_ok-asked.ensures.asked in
-    record { end = ap (λ e. record { ends = e; blocked = c.from_vec-2.result }) ends ∙ ap (λ b. record { ends = list_below (end_of s) (length plan.parents); blocked = b }) blocked }
+    ap (λ e. record { ends = e; blocked = c.from_vec-2.result }) ends ∙ ap (λ b. record { ends = list_below (end_of s) (length plan.parents); blocked = b }) blocked
