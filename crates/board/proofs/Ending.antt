@@ -1,0 +1,290 @@
+-- A viewer takes in the seat of a task.
+use Rattle.std.proofs.Common.{◌≡◌, ◌≢◌, ℕ, zero, suc, ◌<◌, ◌≤◌, Bool, true, false, List, [], ◌∷◌, ◌++◌, Option, Some, None, length, set, sym, refl, ap, ap₂, ◌∙◌, subst, arith, inl, inr, ◌⊎◌, eq-eqb, eqb-true}
+use Rattle.std.specs.Prelude.{◌==◌, ◌||◌, ◌&&◌, if◌then◌else◌, nat_le, unwrap_or}
+use Rattle.std.proofs.lemmas.Bool.{cases_eq, cases_lt, false≢true, le-leb, leb-true}
+use mathlib.Core.Option.{some, none}
+use lib.ListN.{get_elem?}
+use Rattle.atomic_table.specs.Table.{Allows, Joins, Me, State as TableState, keeps, step}
+use Rattle.atomic_table.proofs.Lists.{at_set}
+use Rattle.armus_base.specs.Plans.{Plan}
+use Rattle.armus_base.specs.States.{updated}
+use Rattle.armus_base.specs.Runs.{IsPrefix, Place, Precedes}
+use Rattle.armus_base.specs.Places.{done_by, forked_at}
+use Rattle.armus_base.specs.Seats.{IsLonger}
+use Rattle.armus_base.proofs.Steps.{updated_other, updated_same}
+use Rattle.armus_base.proofs.AwaitLoadKeepsFar.{prefixes_both}
+use Rattle.board.specs.declared.mode.Mode.{Mode}
+use Rattle.board.specs.declared.view.View.{View}
+use Rattle.board.specs.Views.{is_among, place_in, task_of}
+use Rattle.board.specs.Rule.{Fits, IsKeptBy, Owns, Stepper, by_seat, no_more, not_yet}
+use Rattle.board.specs.Steps.{Counted, are_of_one_run, both, is_prefix, longer, longer_places, precedes, spent_view, with_seat}
+use Rattle.board.proofs.Fitting.{seats_same}
+use Rattle.board.proofs.Acting.{sits}
+use Rattle.board.proofs.Loading.{looks_kept}
+
+abbrev T : Type 0
+T = TableState (Unit {0}) View
+
+-- the test of prefixes says whether a place is a prefix
+precedes_from : (k : ℕ) (o : Option ℕ) (j : ℕ) (r : Option ℕ) → precedes k o j r ≡ true → Precedes k o j r
+precedes_from k None j r e = leb-true k j e
+precedes_from k (Some p) j None e = absurd (false≢true e)
+precedes_from k (Some p) j (Some q) e = by_test (k == j) refl (nat_le p q) refl e
+  where
+    by_test : (x : Bool) → (k == j) ≡ x → (y : Bool) → nat_le p q ≡ y → (x && y) ≡ true → k ≡ j × p ≤ q
+    by_test true a true b h = (eqb-true k j a, leb-true p q b)
+    by_test true a false b h = absurd (false≢true h)
+    by_test false a y b h = absurd (false≢true h)
+
+precedes_to : (k : ℕ) (o : Option ℕ) (j : ℕ) (r : Option ℕ) → Precedes k o j r → precedes k o j r ≡ true
+precedes_to k None j r l = le-leb k j l
+precedes_to k (Some p) j None l = absurd l
+precedes_to k (Some p) j (Some q) l = ap₂ (λ x y. x && y) (eq-eqb k j l.0) (le-leb p q l.1)
+
+-- two prefixes of one place
+one_of : (k : ℕ) (o : Option ℕ) (j : ℕ) (r : Option ℕ) (i : ℕ) (q : Option ℕ) → Precedes k o i q → Precedes j r i q → Precedes k o j r ⊎ Precedes j r k o
+one_of k None j None i q x y = elim (cases_lt j k) [ inl l ↦ inr (omega arith) | inr l ↦ inl l ]
+one_of k None j (Some p) i None x y = absurd y
+one_of k None j (Some p) i (Some q) x y = inl (let e = y.0 in omega arith)
+one_of k (Some p) j None i None x y = absurd x
+one_of k (Some p) j None i (Some q) x y = inr (let e = x.0 in omega arith)
+one_of k (Some p) j (Some r) i None x y = absurd x
+one_of k (Some p) j (Some r) i (Some q) x y = elim (cases_lt r p) [
+  | inl l ↦ inr (y.0 ∙ sym x.0, omega arith)
+  | inr l ↦ inl (x.0 ∙ sym y.0, l)
+]
+
+-- the longer of two places of one run
+longer_is : (a b : Place) → (is_prefix a b || is_prefix b a) ≡ true → IsLonger a b (longer a b)
+longer_is a b e = by_test (is_prefix a b) refl (is_prefix b a) refl e
+  where
+    by_test : (x : Bool) → is_prefix a b ≡ x → (y : Bool) → is_prefix b a ≡ y → (x || y) ≡ true → IsLonger a b (if x then b else a)
+    by_test true is y js h = inr (refl, precedes_from a.done a.dropped b.done b.dropped is)
+    by_test false is true js h = inl (refl, precedes_from b.done b.dropped a.done a.dropped js)
+    by_test false is false js h = absurd (false≢true h)
+
+-- lists of places
+pub longer_count : (xs ys : List Place) → length xs ≡ length ys → length (longer_places xs ys) ≡ length xs
+longer_count [] ys e = refl
+longer_count (x ∷ xs) [] e = absurd (omega arith)
+longer_count (x ∷ xs) (y ∷ ys) e = (let r = longer_count xs ys (omega arith) in omega arith)
+
+both_true : (x y : Bool) → (x && y) ≡ true → (x ≡ true) × (y ≡ true)
+both_true true true e = (refl, refl)
+both_true true false e = absurd (false≢true e)
+both_true false y e = absurd (false≢true e)
+
+pub longer_at :
+    (xs ys : List Place) → length xs ≡ length ys → are_of_one_run xs ys ≡ true → (u : ℕ) → IsLonger (place_in xs u) (place_in ys u) (place_in (longer_places xs ys) u)
+longer_at [] [] e h u = inl (refl, (let z : 0 ≤ 0 = omega arith in z))
+longer_at [] (y ∷ ys) e h u = absurd (omega arith)
+longer_at (x ∷ xs) [] e h u = absurd (omega arith)
+longer_at (x ∷ xs) (y ∷ ys) e h zero = longer_is x y (both_true (is_prefix x y || is_prefix y x) (are_of_one_run xs ys) h).0
+longer_at (x ∷ xs) (y ∷ ys) e h (suc u) = longer_at xs ys (omega arith) (both_true (is_prefix x y || is_prefix y x) (are_of_one_run xs ys) h).1 u
+
+one_run :
+    (xs ys : List Place) → length xs ≡ length ys →
+    ((u : ℕ) → u < length xs → (is_prefix (place_in xs u) (place_in ys u) || is_prefix (place_in ys u) (place_in xs u)) ≡ true) → are_of_one_run xs ys ≡ true
+one_run [] ys e each = refl
+one_run (x ∷ xs) [] e each = absurd (omega arith)
+one_run (x ∷ xs) (y ∷ ys) e each =
+    ap₂ (λ a b. a && b) (each 0 (omega arith)) (one_run xs ys (omega arith) (λ u l. each (suc u) (omega arith)))
+
+-- one of two lists
+pub among_either : (xs ys : List ℕ) (u : ℕ) → is_among (xs ++ ys) u ≡ (is_among xs u || is_among ys u)
+among_either [] ys u = refl
+among_either (x ∷ xs) ys u = ap (λ b. (u == x) || b) (among_either xs ys u) ∙ or_joins (u == x) (is_among xs u) (is_among ys u)
+  where
+    or_joins : (a b c : Bool) → (a || (b || c)) ≡ ((a || b) || c)
+    or_joins true b c = refl
+    or_joins false b c = refl
+
+pub among_last : (xs ys : List ℕ) (t u : ℕ) → is_among ((xs ++ ys) ++ t ∷ []) u ≡ ((is_among xs u || is_among ys u) || (u == t))
+among_last xs ys t u = among_either (xs ++ ys) (t ∷ []) u ∙ ap₂ (λ a b. a || b) (among_either xs ys u) (or_none (u == t))
+  where
+    or_none : (b : Bool) → (b || false) ≡ b
+    or_none true = refl
+    or_none false = refl
+
+or_cases : (a b : Bool) → (a || b) ≡ true → (a ≡ true) ⊎ (b ≡ true)
+or_cases true b e = inl refl
+or_cases false b e = inr e
+
+none_some : (o : Option ℕ) (u : ℕ) → o ≡ None → o ≡ Some u → ⊥
+none_some o u a b = cc
+
+some_same : (u w : ℕ) → Some u ≡ Some w → u ≡ w
+some_same u w e = cc
+
+seat_ends : (i : ℕ) → by_seat i ≡ no_more → ⊥
+seat_ends i e = cc
+
+ended_steps : no_more ≡ not_yet → ⊥
+ended_steps e = cc
+
+seat_steps : (j : ℕ) → by_seat j ≡ not_yet → ⊥
+seat_steps j e = cc
+
+-- the seat j of task t ends: no other seat's claim changes
+ended_fits :
+    (plan : Plan) (mode : Mode) (a : ℕ → Place) (lock : Option ℕ) (steppers : ℕ → Stepper) (t k : ℕ) → steppers t ≡ by_seat k → (j : ℕ) (v : View) → j ≢ k →
+    Fits plan mode a lock steppers j v → Fits plan mode a lock (updated steppers t no_more) j v
+ended_fits plan mode a lock steppers t k owner j v apart f =
+    record {
+      plan_is = f.plan_is;
+      mode_is = f.mode_is;
+      count = f.count;
+      far = f.far;
+      own = λ u own. let o = f.own u own in record {
+        within = o.within;
+        exact = o.exact;
+        alone = updated_other steppers t u no_more (λ same. apart (seats_same j k (sym o.alone ∙ ap steppers same ∙ owner))) ∙ o.alone;
+      };
+      exact = λ u is. elim (f.exact u is) [
+        | inl own ↦ inl own
+        | inr ended ↦ elim (cases_eq u t) [
+          | inl e ↦ inr (updated_same steppers t u no_more e)
+          | inr n ↦ inr (updated_other steppers t u no_more n ∙ ended)
+        ]
+      ];
+      holding = f.holding;
+    }
+
+-- the longer of two prefixes of a place is one, and is that place where one of them is
+longer_near : (a b c x : Place) → IsLonger a b c → IsPrefix a x → IsPrefix b x → IsPrefix c x
+longer_near a b c x l p q = elim l [ inl e ↦ subst (λ (y : Place). IsPrefix y x) (sym e.0) p | inr e ↦ subst (λ (y : Place). IsPrefix y x) (sym e.0) q ]
+
+longer_left : (a b c x : Place) → IsLonger a b c → IsPrefix b x → x ≡ a → x ≡ c
+longer_left a b c x l q is = elim l [
+  | inl e ↦ is ∙ sym e.0
+  | inr e ↦ prefixes_both x b (subst (λ (y : Place). IsPrefix y b) (sym is) e.1) q ∙ sym e.0
+]
+
+longer_right : (a b c x : Place) → IsLonger a b c → IsPrefix a x → x ≡ b → x ≡ c
+longer_right a b c x l p is = elim l [
+  | inl e ↦ prefixes_both x a (subst (λ (y : Place). IsPrefix y a) (sym is) e.1) p ∙ sym e.0
+  | inr e ↦ is ∙ sym e.0
+]
+
+-- the viewer's view after
+module _ (plan : Plan) (mode : Mode) (s : T) (l : IsKeptBy plan mode s) (id other : ℕ) (v w : View) (t : ℕ) (alone : v.own ≡ None) (mine : Fits plan mode l.places l.lock l.steppers id v) (theirs : Fits plan mode l.places l.lock l.steppers other w) (own : w.own ≡ Some t) where
+  o : Owns plan l.steppers other w t
+  o = theirs.own t own
+
+  task : task_of w ≡ t
+  task = ap (λ x. unwrap_or x 0) own
+
+  same_count : length v.sight.places ≡ length w.sight.places
+  same_count = mine.count ∙ sym theirs.count
+
+  pub of_one_run : are_of_one_run v.sight.places w.sight.places ≡ true
+  of_one_run = one_run v.sight.places w.sight.places same_count (λ u less.
+      let small : u < length plan.parents = (let c = mine.count in omega arith) in
+      let a : Place = place_in v.sight.places u in
+      let b : Place = place_in w.sight.places u in
+      elim (one_of a.done a.dropped b.done b.dropped (l.places u).done (l.places u).dropped (mine.far.later u small) (theirs.far.later u small)) [
+        | inl x ↦ ap (λ y. y || is_prefix b a) (precedes_to a.done a.dropped b.done b.dropped x)
+        | inr y ↦ or_right (is_prefix a b) (is_prefix b a) (precedes_to b.done b.dropped a.done a.dropped y)
+      ])
+    where
+      or_right : (x y : Bool) → y ≡ true → (x || y) ≡ true
+      or_right true y e = refl
+      or_right false y e = e
+
+  long : (u : ℕ) → IsLonger (place_in v.sight.places u) (place_in w.sight.places u) (place_in (longer_places v.sight.places w.sight.places) u)
+  long = longer_at v.sight.places w.sight.places same_count of_one_run
+
+  pub with_fits : Fits plan mode l.places l.lock (updated l.steppers t no_more) id (with_seat v w)
+  with_fits =
+      record {
+        plan_is = mine.plan_is;
+        mode_is = mine.mode_is;
+        count = longer_count v.sight.places w.sight.places same_count ∙ mine.count;
+        far = record {
+          later = λ u small. longer_near (place_in v.sight.places u) (place_in w.sight.places u) (place_in (longer_places v.sight.places w.sight.places) u) (l.places u) (long u) (mine.far.later u small) (theirs.far.later u small);
+          equal = λ u small is. elim (which u is) [
+            | inl in_view ↦ longer_left (place_in v.sight.places u) (place_in w.sight.places u) (place_in (longer_places v.sight.places w.sight.places) u) (l.places u) (long u) (theirs.far.later u small) (mine.far.equal u small in_view)
+            | inr in_seat ↦ longer_right (place_in v.sight.places u) (place_in w.sight.places u) (place_in (longer_places v.sight.places w.sight.places) u) (l.places u) (long u) (mine.far.later u small) (theirs.far.equal u small in_seat)
+          ];
+          scanned = λ u e. absurd (none_some v.own u alone e);
+        };
+        own = λ u e. absurd (none_some v.own u alone e);
+        exact = λ u is. elim (cases_eq u t) [
+          | inl e ↦ inr (updated_same l.steppers t u no_more e)
+          | inr n ↦ inr (updated_other l.steppers t u no_more n ∙ (elim (which u is) [
+            | inl in_view ↦ elim (mine.exact u in_view) [ inl e ↦ absurd (none_some v.own u alone e) | inr e ↦ e ]
+            | inr in_seat ↦ elim (theirs.exact u in_seat) [ inl e ↦ absurd (n (some_same u t (sym e ∙ own))) | inr e ↦ e ]
+          ]))
+        ];
+        holding = λ u e. absurd (none_some v.own u alone e);
+      }
+    where
+      which : (u : ℕ) → is_among ((v.sight.exact ++ w.sight.exact) ++ task_of w ∷ []) u ≡ true → (is_among v.sight.exact u ≡ true) ⊎ (is_among w.sight.exact u ≡ true)
+      which u is = elim (or_cases (is_among v.sight.exact u || is_among w.sight.exact u) (u == task_of w) (sym (among_last v.sight.exact w.sight.exact (task_of w) u) ∙ is)) [
+        | inl e ↦ or_cases (is_among v.sight.exact u) (is_among w.sight.exact u) e
+        | inr e ↦ inr (subst (λ x. is_among w.sight.exact x ≡ true) (sym (eqb-true u (task_of w) e ∙ task)) o.exact)
+      ]
+
+pub takes_in :
+    (plan : Plan) (mode : Mode) (id : ℕ) (v : View) (other : ℕ) (w : View) (t : ℕ) → v.own ≡ None → v.spent ≡ false → w.own ≡ Some t → w.spent ≡ false →
+    Joins (IsKeptBy plan mode) id v other w (both v w) spent_view
+takes_in plan mode id v other w t alone live own live_too s l found apart there =
+    let there_too : get_elem? s.views other ≡ some w = elim (at_set s.views id other (both v w) w there) [ inl x ↦ absurd (apart x.0) | inr x ↦ x.1 ] in
+    let si = sits plan mode s l other w t own live_too there_too in
+    let mine = l.views id v found live in
+    let steppers' = updated l.steppers t no_more in
+    let fits = with_fits plan mode s l id other v w t alone mine si.fits own in
+    let joined : with_seat v w ≡ both v w = ap (λ b. if b then with_seat v w else record v { sight = record { places = []; exact = []; scanned = 0; found = [] } }) (sym (of_one_run plan mode s l id other v w t alone mine si.fits own)) in
+    record {
+      places = l.places;
+      lock = l.lock;
+      steppers = steppers';
+      checked = l.checked;
+      lawful = l.lawful;
+      shown = l.shown;
+      forks = λ u. elim (cases_eq u t) [
+        | inl e ↦ (
+          λ no. absurd (false≢true (sym no ∙ ap (forked_at plan (done_by l.places)) e ∙ si.forked)),
+          λ idle. absurd (ended_steps (sym (updated_same l.steppers t u no_more e) ∙ idle)),
+        )
+        | inr n ↦ (
+          λ no. updated_other l.steppers t u no_more n ∙ (l.forks u).0 no,
+          λ idle. (l.forks u).1 (sym (updated_other l.steppers t u no_more n) ∙ idle),
+        )
+      ];
+      views = λ j u e unspent. elim (at_set (set s.views id (both v w)) other j spent_view u e) [
+        | inl x ↦ absurd (false≢true (sym unspent ∙ sym (ap (λ (z : View). z.spent) x.1)))
+        | inr x ↦ elim (at_set s.views id j (both v w) u x.1) [
+          | inl y ↦
+              subst (λ (z : ℕ × View). Fits plan mode l.places l.lock steppers' z.0 z.1) (λ i. (sym y.0 i, y.1 i))
+              (subst (Fits plan mode l.places l.lock steppers' id) joined fits)
+          | inr y ↦ ended_fits plan mode l.places l.lock l.steppers t other si.alone j u x.0 (l.views j u y.1 unspent)
+        ]
+      ];
+    }
+
+-- the view has a place for each task
+pub counts :
+    (plan : Plan) (mode : Mode) (slots id : ℕ) (me : Me (Unit {0}) View) → me.0.spent ≡ false →
+    Allows (IsKeptBy plan mode) slots id me 0 (λ n. n) (Counted (step slots 0 0 0 none) me)
+counts plan mode slots id me live s l _ at _ =
+    let f = l.views id me.0 at live in
+    (me.0, keeps, tt, looks_kept plan mode s l id 0 me.1 me.0 f, (refl, refl, f.count ∙ ap (λ (p : Plan). length p.parents) (sym f.plan_is)))
+
+-- so who has the view after two became one knows that they were of one run
+pub was_of_one_run : (v w : View) → 0 < length v.plan.parents → length (both v w).sight.places ≡ length (both v w).plan.parents → both v w ≡ with_seat v w × are_of_one_run v.sight.places w.sight.places ≡ true
+was_of_one_run v w some_task e = by_test (are_of_one_run v.sight.places w.sight.places) refl
+  where
+    either : Bool → View
+    either b = if b then with_seat v w else record v { sight = record { places = []; exact = []; scanned = 0; found = [] } }
+
+    by_test : (b : Bool) → are_of_one_run v.sight.places w.sight.places ≡ b → both v w ≡ with_seat v w × are_of_one_run v.sight.places w.sight.places ≡ true
+    by_test true is = (ap either is, is)
+    by_test false is = absurd (let z : 0 ≡ length v.plan.parents = sym (ap (λ b. length (either b).sight.places) is) ∙ e ∙ ap (λ b. length (either b).plan.parents) is in omega arith)
+
+pub both_spent : (v w : View) → (both v w).spent ≡ v.spent
+both_spent v w = by_test (are_of_one_run v.sight.places w.sight.places)
+  where
+    by_test : (b : Bool) → (if b then with_seat v w else record v { sight = record { places = []; exact = []; scanned = 0; found = [] } }).spent ≡ v.spent
+    by_test true = refl
+    by_test false = refl

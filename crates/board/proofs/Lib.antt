@@ -1,0 +1,16 @@
+pub mod Showing
+pub mod Sights
+pub mod Fitting
+pub mod Acting
+pub mod Stores
+pub mod Longest
+pub mod Ranges
+pub mod Loading
+pub mod Forking
+pub mod Ending
+pub mod Closing
+pub mod Seated
+pub mod Reading
+pub mod Loaded
+pub mod Beginning
+pub mod Taking

@@ -1,0 +1,146 @@
+-- The phases and events of a checked plan are small.
+use Rattle.std.proofs.Common.{◌≡◌, ℕ, zero, suc, ◌<◌, ◌≤◌, Bool, true, false, Option, Some, None, length, sym, refl, ap, ◌∙◌, subst, arith, inl, inr}
+use Rattle.std.specs.Prelude.{if◌then◌else◌, ◌==◌, sum_by}
+use Rattle.std.proofs.lemmas.Bool.{cases_eq}
+use Rattle.armus_base.specs.Limits.{max_ops, max_phasers}
+use Rattle.armus_base.specs.declared.event.Event.{Event}
+use Rattle.armus_base.specs.Plans.{Action, Advances, Blocks, Drops, Forks, Makes, Passes, Plan, Refuses, Registers, action_at, actions, parent_of}
+use Rattle.armus_base.specs.States.{Phases, awaited, next_phase, updated}
+use Rattle.armus_base.specs.Runs.{Place}
+use Rattle.armus_base.specs.Places.{done_by, first_phases, own_phases, own_step, phases_after, phases_at, published_after, refused_at, register_step, registered, registered_by, state_at}
+use Rattle.armus_base.specs.CheckedPlans.{IsCheckedPlan}
+use Rattle.armus_base.specs.Seats.{found_by}
+use Rattle.armus_base.proofs.Steps.{next_phase_is, updated_is}
+use Rattle.armus_base.proofs.Codes.{event_on_is, phaser_within}
+use Rattle.armus_base.proofs.Fixed.{first_phases_is, phases_begun, phases_idle}
+use Rattle.armus_base.proofs.Published.{kept_is}
+use Rattle.armus_base.proofs.PhasesFit.{phases_fit}
+use Rattle.board.specs.Words.{IsInRange, found_in}
+
+-- what is said of each phase that a task has after its actions holds of those with which it registers a child
+registered_keep :
+    (P : ℕ → ℕ → Type 0) (act : ℕ → Option Action) (m : Phases) → ((k p n : ℕ) → own_phases act m k p ≡ Some n → P p n) →
+    (c k p n : ℕ) → registered act m c k p ≡ Some n → P p n
+registered_keep P act m own c zero p n e = absurd (cc)
+registered_keep P act m own c (suc k) p n e = by_action (act k) (registered act m c k) (registered_keep P act m own c k) e
+  where
+    by_test : (r : Phases) → ((p n : ℕ) → r p ≡ Some n → P p n) → (q : ℕ) (b : Bool) → (if b then updated r q (own_phases act m k q) else r) p ≡ Some n → P p n
+    by_test r before q false e = before p n e
+    by_test r before q true e = elim (updated_is r q p (own_phases act m k q) (Some n) e) [
+      | inl w ↦ own k p n (ap (own_phases act m k) w.0 ∙ w.1)
+      | inr w ↦ before p n w.1
+    ]
+
+    by_action : (o : Option Action) (r : Phases) → ((p n : ℕ) → r p ≡ Some n → P p n) → register_step o c (own_phases act m k) r p ≡ Some n → P p n
+    by_action (Some (Registers d q)) r before e = by_test r before q (d == c) e
+    by_action None r before e = before p n e
+    by_action (Some (Makes q)) r before e = before p n e
+    by_action (Some (Forks d)) r before e = before p n e
+    by_action (Some (Advances q)) r before e = before p n e
+    by_action (Some (Drops q)) r before e = before p n e
+    by_action (Some (Blocks q)) r before e = before p n e
+    by_action (Some (Passes q)) r before e = before p n e
+    by_action (Some (Refuses q)) r before e = before p n e
+
+module _ (plan : Plan) (checked : IsCheckedPlan plan) where
+  own_within :
+      (t : ℕ) → ((p n : ℕ) → first_phases plan t p ≡ Some n → p < length plan.makers) → (k p n : ℕ) → phases_after plan t k p ≡ Some n → p < length plan.makers
+  unfolding phases_after
+  own_within t first zero p n e = first p n e
+  own_within t first (suc k) p n e = by_action (action_at plan t k) refl (own_within t first k) e
+    where
+      by_action : (o : Option Action) → action_at plan t k ≡ o → ((p n : ℕ) → phases_after plan t k p ≡ Some n → p < length plan.makers) → own_step o (phases_after plan t k) p ≡ Some n → p < length plan.makers
+      by_action None is before e = before p n e
+      by_action (Some (Makes q)) is before e = elim (updated_is (phases_after plan t k) q p (Some 0) (Some n) e) [
+        | inl w ↦ subst (λ v. v < length plan.makers) (sym w.0) (phaser_within plan t q (checked.codes.well_formed t k (Makes q) is).0)
+        | inr w ↦ before p n w.1
+      ]
+      by_action (Some (Advances q)) is before e = elim (updated_is (phases_after plan t k) q p (next_phase (phases_after plan t k q)) (Some n) e) [
+        | inl w ↦ (let j = next_phase_is (phases_after plan t k q) n w.1 in subst (λ v. v < length plan.makers) (sym w.0) (before q j.0 j.1))
+        | inr w ↦ before p n w.1
+      ]
+      by_action (Some (Drops q)) is before e = elim (updated_is (phases_after plan t k) q p None (Some n) e) [
+        | inl w ↦ absurd (let none = w.1 in cc)
+        | inr w ↦ before p n w.1
+      ]
+      by_action (Some (Registers c q)) is before e = before p n e
+      by_action (Some (Forks c)) is before e = before p n e
+      by_action (Some (Blocks q)) is before e = before p n e
+      by_action (Some (Passes q)) is before e = before p n e
+      by_action (Some (Refuses q)) is before e = before p n e
+
+  root_none : (t : ℕ) → t ≡ 0 → (q : ℕ) → first_phases plan t q ≡ None
+  unfolding first_phases
+  root_none t z q = ap (λ u. first_phases plan u q) z
+
+  child_within_so :
+      (u : ℕ) → ((k p n : ℕ) → phases_after plan u k p ≡ Some n → p < length plan.makers) → (t q m : ℕ) → registered_by plan u t (length (actions plan u)) q ≡ Some m →
+      q < length plan.makers
+  unfolding registered_by phases_after
+  child_within_so u before t q m f =
+      registered_keep (λ p n. p < length plan.makers) (action_at plan u) (first_phases plan u) before t (length (actions plan u)) q m f
+
+  -- a phaser of which a task is a member is one of the plan
+  within_by : (d t k p n : ℕ) → t ≤ d → phases_after plan t k p ≡ Some n → p < length plan.makers
+  within_by zero t k p n l e = own_within t (λ q m f. absurd (let none = root_none t (omega arith) q in cc)) k p n e
+  within_by (suc d) t k p n l e = elim (cases_eq t 0) [
+    | inl z ↦ within_by d t k p n (omega arith) e
+    | inr ne ↦
+        let less = checked.tables.parents_first t (omega arith) in
+        own_within t
+        (λ q m f. child_within_so (parent_of plan t) (λ j r i g. within_by d (parent_of plan t) j r i (omega arith) g) t q m
+        (ap (λ g. g q) (sym (first_phases_is plan checked t (omega arith))) ∙ f)) k p n e
+  ]
+
+  pub phaser_of_member : (t k p n : ℕ) → phases_after plan t k p ≡ Some n → p < length plan.makers
+  phaser_of_member t k p n e = within_by t t k p n (omega arith) e
+
+  few_ops : (n : ℕ) → n ≤ sum_by length plan.codes → n ≤ max_ops
+  few_ops n l = (let m = checked.limits.few_ops in omega arith)
+
+  registered_fit : (u c k p n : ℕ) → registered_by plan u c k p ≡ Some n → n ≤ max_ops
+  unfolding registered_by phases_after
+  registered_fit u c k p n e =
+      registered_keep (λ p n. n ≤ max_ops) (action_at plan u) (first_phases plan u) (λ j q m f. few_ops m (phases_fit plan u j q m checked f)) c k p n e
+
+  -- every phase in a state is small
+  pub phases_small : (a : ℕ → Place) (t p n : ℕ) → (state_at plan a).phases t p ≡ Some n → n ≤ max_ops
+  phases_small a t p n e =
+      let was : phases_at plan (done_by a) t p ≡ Some n = kept_is (a t).dropped (phases_at plan (done_by a) t) p n e in
+      elim (cases_eq (done_by a t) 0) [
+        | inl z ↦ registered_fit (parent_of plan t) t (done_by a (parent_of plan t)) p n (ap (λ g. g p) (sym (phases_idle plan checked (done_by a) t z)) ∙ was)
+        | inr ne ↦ few_ops n (phases_fit plan t (done_by a t) p n checked (ap (λ g. g p) (sym (phases_begun plan checked (done_by a) t ne)) ∙ was))
+      ]
+
+  -- an event that a code awaits is one of the plan, and small
+  awaited_small : (t k : ℕ) (o : Option Action) (e : Event) → awaited o (phases_after plan t k) ≡ Some e → (e.p.0 < max_phasers) × (e.n ≤ max_ops)
+  awaited_small t k (Some (Blocks p)) e is =
+      let on = event_on_is p (phases_after plan t k p) e is in
+      let within = phaser_of_member t k p e.n on.1 in
+      let few = checked.limits.few_phasers in
+      let same = on.0 in (omega arith, few_ops e.n (phases_fit plan t k p e.n checked on.1))
+  awaited_small t k None e is = absurd (cc)
+  awaited_small t k (Some (Makes p)) e is = absurd (cc)
+  awaited_small t k (Some (Registers c p)) e is = absurd (cc)
+  awaited_small t k (Some (Forks c)) e is = absurd (cc)
+  awaited_small t k (Some (Advances p)) e is = absurd (cc)
+  awaited_small t k (Some (Drops p)) e is = absurd (cc)
+  awaited_small t k (Some (Passes p)) e is = absurd (cc)
+  awaited_small t k (Some (Refuses p)) e is = absurd (cc)
+
+  published_small : (t k : ℕ) (e : Event) → published_after plan t k ≡ Some e → (e.p.0 < max_phasers) × (e.n ≤ max_ops)
+  published_small t zero e is = absurd (cc)
+  published_small t (suc k) e is = awaited_small t k (action_at plan t k) e is
+
+  refused_small : (t k : ℕ) (o : Option ℕ) (e : Event) → refused_at plan t k o ≡ Some e → (e.p.0 < max_phasers) × (e.n ≤ max_ops)
+  refused_small t k None e is = absurd (cc)
+  refused_small t k (Some d) e is = awaited_small t k (action_at plan t k) e is
+
+  -- so an await word says no other
+  pub found_small : (a : ℕ → Place) (t : ℕ) → IsInRange (found_in (state_at plan a) t)
+  found_small a t = by_case (published_after plan t (a t).done) refl (refused_at plan t (a t).done (a t).dropped) refl
+    where
+      by_case : (o : Option Event) → published_after plan t (a t).done ≡ o → (r : Option Event) → refused_at plan t (a t).done (a t).dropped ≡ r → IsInRange (found_by o r)
+      by_case (Some e) is r ris = published_small t (a t).done e is
+      by_case None is (Some e) ris = refused_small t (a t).done (a t).dropped e ris
+      by_case None is None ris = tt

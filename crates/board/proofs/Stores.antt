@@ -1,0 +1,250 @@
+-- The stores: each says in its word what the action changes.
+use Rattle.std.proofs.Common.{◌≡◌, ◌≢◌, ℕ, ◌+◌, ◌<◌, true, false, Some, None, length, set, sym, refl, ap, ◌∙◌, subst, arith}
+use Rattle.std.specs.Prelude.{unwrap_or}
+use mathlib.Core.Option.{some, none}
+use lib.ListN.{get_elem?}
+use Rattle.atomic_table.specs.Table.{Allows, Me, State as TableState, keeps, step, stepped}
+use Rattle.armus_base.specs.declared.event.Event.{Event}
+use Rattle.armus_base.specs.Plans.{Action, Advances, Blocks, Drops, Makes, Passes, Plan, Refuses, Registers, action_at}
+use Rattle.armus_base.specs.States.{State, after, awaited, event_at, event_on, next_phase}
+use Rattle.armus_base.specs.Runs.{IsByCode, Place, next_place}
+use Rattle.armus_base.specs.Places.{phases_at_place, published_after, refused_at, state_at}
+use Rattle.armus_base.specs.Boards.{IsLawful, MayDo}
+use Rattle.armus_base.specs.Avoidance.{Avoids}
+use Rattle.armus_base.specs.Seats.{AvoidsByWhatIsSeen, IsAsFarOn, found_by, own_event}
+use Rattle.armus_base.proofs.Steps.{updated_other, updated_same, with_phase_other, with_phase_same}
+use Rattle.armus_base.proofs.Codes.{passes_next}
+use Rattle.armus_base.proofs.Published.{published_after_is, published_undropped}
+use Rattle.armus_base.proofs.Reachable.{reachable_is_fixed}
+use Rattle.armus_base.proofs.BoardRuns.{lawful_is_reachable}
+use Rattle.armus_base.proofs.AllScannedIsReached.{all_scanned_is_reached}
+use Rattle.board.specs.declared.mode.Mode.{Mode}
+use Rattle.board.specs.declared.view.View.{View}
+use Rattle.board.specs.Words.{IsShown, await_index, await_number, event_number, found_in, phase_index, phase_number}
+use Rattle.board.specs.Views.{action_after, avoids, next_action, own_place, place_in, seen, task_of}
+use Rattle.board.specs.Rule.{IsKeptBy}
+use Rattle.board.specs.Steps.{Acted, Withdrawn, after_action, next_view, own_phase}
+use Rattle.board.proofs.Showing.{shows_await, shows_phase}
+use Rattle.board.proofs.Fitting.{IsStep}
+use Rattle.board.proofs.Acting.{Sits, acts_kept, avoids_else, by_code_so, comes_so, may_do, nothing_published, next_view_is, not_held, own_phases_so, sits, steps_by_code}
+
+abbrev T : Type 0
+T = TableState (Unit {0}) View
+
+-- one phase is another one, and nothing else of what the words say
+pub record ChangesPhase (st st' : State) (u p n : ℕ) : Type 0 where
+  pub here : n ≡ phase_number (st'.phases u p)
+  pub others : (w q : ℕ) → (w ≡ u → q ≢ p) → st'.phases w q ≡ st.phases w q
+  pub same : (w : ℕ) → found_in st' w ≡ found_in st w
+  pub forked : (w : ℕ) → st'.forked w ≡ st.forked w
+
+-- the action is none that needs the lock, and no pass
+pub record IsPhaseAction (x : Action) : Type 0 where
+  pub no_pass : (p : ℕ) → x ≢ Passes p
+  pub no_block : (p : ℕ) → x ≢ Blocks p
+  pub no_refusal : (p : ℕ) → x ≢ Refuses p
+
+-- a store to a phase word
+stores_phase :
+    (plan : Plan) (mode : Mode) (slots id : ℕ) (me : Me (Unit {0}) View) (t : ℕ) (x : Action) (u p n : ℕ) → me.0.own ≡ Some t → me.0.spent ≡ false →
+    me.0.holds ≡ false → next_action me.0 ≡ Some x → IsPhaseAction x → u < length plan.parents → p < length plan.makers →
+    ((s : T) (l : IsKeptBy plan mode s) → Sits plan mode s l id me.0 t → ChangesPhase (state_at plan l.places) (after (state_at plan l.places) t x) u p n) →
+    Allows (IsKeptBy plan mode) slots id me (phase_index plan u p) (λ _. n) (λ _. Acted (step slots (phase_index plan u p) n 0 none) me n)
+stores_phase plan mode slots id me t x u p n own live free next kind a b change s l _ found _ =
+    let si = sits plan mode s l id me.0 t own live found in
+    let st : State = state_at plan l.places in
+    let is_step = steps_by_code plan mode s l id me.0 t x si next kind.no_pass
+    (λ _. (avoids_else st t x kind.no_block kind.no_refusal, may_do l.lock t x (not_held plan mode s l id me.0 t si own free) kind.no_block kind.no_refusal)) in
+    let ch = change s l si in (
+      after_action x me.0,
+      keeps,
+      tt,
+      acts_kept plan mode s l id (phase_index plan u p) n me.1 me.0 t x own live found is_step ch.forked
+          (subst (λ (k : ℕ). IsShown plan (after st t x) l.lock (set s.words (phase_index plan u p) k)) (sym ch.here)
+          (shows_phase plan st (after st t x) l.lock s.words u p ((after st t x).phases u p) l.shown a b refl ch.others ch.same)),
+      (next_view_is me.0 x next, refl),
+    )
+
+-- a phaser is made
+pub makes_phaser :
+    (plan : Plan) (mode : Mode) (slots id : ℕ) (me : Me (Unit {0}) View) (t p : ℕ) → me.0.own ≡ Some t → me.0.spent ≡ false → me.0.holds ≡ false →
+    next_action me.0 ≡ Some (Makes p) → t < length plan.parents → p < length plan.makers →
+    Allows (IsKeptBy plan mode) slots id me (phase_index plan t p) (λ _. 1) (λ _. Acted (step slots (phase_index plan t p) 1 0 none) me 1)
+makes_phaser plan mode slots id me t p own live free next a b =
+    stores_phase plan mode slots id me t (Makes p) t p 1 own live free next (record { no_pass = λ q e. cc; no_block = λ q e. cc; no_refusal = λ q e. cc }) a b
+    (λ s l si. record {
+      here = ap phase_number (sym (with_phase_same (state_at plan l.places).phases t p (Some 0)));
+      others = λ w q n. with_phase_other (state_at plan l.places).phases t p (Some 0) w q n;
+      same = λ w. refl;
+      forked = λ w. refl;
+    })
+
+-- a child is registered at the own phase
+pub registers_child :
+    (plan : Plan) (mode : Mode) (slots id : ℕ) (me : Me (Unit {0}) View) (t c p n m : ℕ) → me.0.own ≡ Some t → me.0.spent ≡ false → me.0.holds ≡ false →
+    next_action me.0 ≡ Some (Registers c p) → c < length plan.parents → p < length plan.makers → phases_at_place me.0.plan (task_of me.0) (own_place me.0) p ≡ Some m →
+    n ≡ m + 1 → Allows (IsKeptBy plan mode) slots id me (phase_index plan c p) (λ _. n) (λ _. Acted (step slots (phase_index plan c p) n 0 none) me n)
+registers_child plan mode slots id me t c p n m own live free next a b phase is =
+    stores_phase plan mode slots id me t (Registers c p) c p n own live free next (record { no_pass = λ q e. cc; no_block = λ q e. cc; no_refusal = λ q e. cc }) a b
+    (λ s l si. record {
+      here = is ∙ ap phase_number (sym phase ∙ sym (own_phases_so plan mode s l id me.0 t p si) ∙ sym (with_phase_same (state_at plan l.places).phases c p ((state_at plan l.places).phases t p)));
+      others = λ w q n. with_phase_other (state_at plan l.places).phases c p ((state_at plan l.places).phases t p) w q n;
+      same = λ w. refl;
+      forked = λ w. refl;
+    })
+
+-- one phase more
+pub advances :
+    (plan : Plan) (mode : Mode) (slots id : ℕ) (me : Me (Unit {0}) View) (t p n m : ℕ) → me.0.own ≡ Some t → me.0.spent ≡ false → me.0.holds ≡ false →
+    next_action me.0 ≡ Some (Advances p) → t < length plan.parents → p < length plan.makers → phases_at_place me.0.plan (task_of me.0) (own_place me.0) p ≡ Some m →
+    n ≡ m + 2 → Allows (IsKeptBy plan mode) slots id me (phase_index plan t p) (λ _. n) (λ _. Acted (step slots (phase_index plan t p) n 0 none) me n)
+advances plan mode slots id me t p n m own live free next a b phase is =
+    stores_phase plan mode slots id me t (Advances p) t p n own live free next (record { no_pass = λ q e. cc; no_block = λ q e. cc; no_refusal = λ q e. cc }) a b
+    (λ s l si. let here : (state_at plan l.places).phases t p ≡ Some m = own_phases_so plan mode s l id me.0 t p si ∙ phase in record {
+      here = is ∙ two m ∙ ap phase_number (ap next_phase (sym here) ∙ sym (with_phase_same (state_at plan l.places).phases t p (next_phase ((state_at plan l.places).phases t p))));
+      others = λ w q n. with_phase_other (state_at plan l.places).phases t p (next_phase ((state_at plan l.places).phases t p)) w q n;
+      same = λ w. refl;
+      forked = λ w. refl;
+    })
+  where
+    two : (m : ℕ) → m + 2 ≡ phase_number (next_phase (Some m))
+    two m = omega arith
+
+-- a phaser is left
+pub drops :
+    (plan : Plan) (mode : Mode) (slots id : ℕ) (me : Me (Unit {0}) View) (t p : ℕ) → me.0.own ≡ Some t → me.0.spent ≡ false → me.0.holds ≡ false →
+    next_action me.0 ≡ Some (Drops p) → t < length plan.parents → p < length plan.makers →
+    Allows (IsKeptBy plan mode) slots id me (phase_index plan t p) (λ _. 0) (λ _. Acted (step slots (phase_index plan t p) 0 0 none) me 0)
+drops plan mode slots id me t p own live free next a b =
+    stores_phase plan mode slots id me t (Drops p) t p 0 own live free next (record { no_pass = λ q e. cc; no_block = λ q e. cc; no_refusal = λ q e. cc }) a b
+    (λ s l si. record {
+      here = ap phase_number (sym (with_phase_same (state_at plan l.places).phases t p None));
+      others = λ w q n. with_phase_other (state_at plan l.places).phases t p None w q n;
+      same = λ w. refl;
+      forked = λ w. refl;
+    })
+
+-- what a task awaits changes
+stores_await :
+    (plan : Plan) (mode : Mode) (slots id : ℕ) (me : Me (Unit {0}) View) (t : ℕ) (x : Action) (n : ℕ) (s : T) (l : IsKeptBy plan mode s) → me.0.own ≡ Some t → me.0.spent ≡ false →
+    get_elem? s.views id ≡ some me.0 → next_action me.0 ≡ Some x → IsStep plan mode l.places l.lock t x →
+    ((w : ℕ) → (after (state_at plan l.places) t x).forked w ≡ (state_at plan l.places).forked w) →
+    ((u q : ℕ) → (after (state_at plan l.places) t x).phases u q ≡ (state_at plan l.places).phases u q) →
+    ((u : ℕ) → u ≢ t → found_in (after (state_at plan l.places) t x) u ≡ found_in (state_at plan l.places) u) →
+    n ≡ await_number (found_in (after (state_at plan l.places) t x) t) →
+    IsKeptBy plan mode (stepped s (await_index t) n id me.1 (after_action x me.0) keeps)
+stores_await plan mode slots id me t x n s l own live found next is_step forked phases others is =
+    let si = sits plan mode s l id me.0 t own live found in
+    let st : State = state_at plan l.places in
+    acts_kept plan mode s l id (await_index t) n me.1 me.0 t x own live found is_step forked
+    (subst (λ (k : ℕ). IsShown plan (after st t x) l.lock (set s.words (await_index t) k)) (sym is)
+    (shows_await plan st (after st t x) l.lock s.words t l.shown si.within phases others))
+
+-- an await is published
+pub publishes :
+    (plan : Plan) (mode : Mode) (slots id : ℕ) (me : Me (Unit {0}) View) (t p n : ℕ) (e : Event) → me.0.own ≡ Some t → me.0.spent ≡ false →
+    (avoids mode ≡ true → (me.0.holds ≡ true) × AvoidsByWhatIsSeen plan t (seen me.0) (Blocks p)) →
+    next_action me.0 ≡ Some (Blocks p) → phases_at_place me.0.plan (task_of me.0) (own_place me.0) p ≡ Some e.n → e.p.0 ≡ p → n ≡ event_number e →
+    Allows (IsKeptBy plan mode) slots id me (await_index t) (λ _. n) (λ _. Acted (step slots (await_index t) n 0 none) me n)
+publishes plan mode slots id me t p n e own live avoiding next phase here is s l _ found _ =
+    let si = sits plan mode s l id me.0 t own live found in
+    let st : State = state_at plan l.places in
+    let is_step = steps_by_code plan mode s l id me.0 t (Blocks p) si next (λ q e. cc) (by_mode mode refl si) in
+    let event : awaited (Some (Blocks p)) (st.phases t) ≡ Some e =
+    ap (event_on p) (own_phases_so plan mode s l id me.0 t p si ∙ phase) ∙ ap (λ q. Some (event_at q e.n)) (sym here) in (
+      after_action (Blocks p) me.0,
+      keeps,
+      tt,
+      stores_await plan mode slots id me t (Blocks p) n s l own live found next is_step (λ w. refl) (λ u q. refl)
+          (λ u ne. ap (λ o. found_by o (st.refused u)) (updated_other st.published t u (awaited (Some (Blocks p)) (st.phases t)) ne))
+          (is ∙ ap (λ o. await_number (found_by o (st.refused t))) (sym (updated_same st.published t t (awaited (Some (Blocks p)) (st.phases t)) refl ∙ event))),
+      (next_view_is me.0 (Blocks p) next, refl),
+    )
+  where
+    by_mode : (m : Mode) → m ≡ mode → Sits plan mode s l id me.0 t → avoids mode ≡ true → Avoids (state_at plan l.places) t (Blocks p) × MayDo l.lock t (Blocks p)
+    by_mode m same si is_avoiding =
+        let c = avoiding is_avoiding in
+        let lock = (si.fits.holding t own).holds c.0 in (
+          c.1 l.places l.lock (subst (λ b. IsLawful b plan l.places l.lock) is_avoiding l.lawful) lock (subst (λ o. IsAsFarOn plan o l.places (seen me.0)) own si.fits.far),
+          lock.holds,
+        )
+
+-- the event is reached, and the task goes on
+pub passes :
+    (plan : Plan) (mode : Mode) (slots id : ℕ) (me : Me (Unit {0}) View) (t : ℕ) (e : Event) → me.0.own ≡ Some t → me.0.spent ≡ false → me.0.holds ≡ false → me.0.plan ≡ plan →
+    own_event me.0.plan me.0.own (seen me.0) ≡ Some e → me.0.sight.scanned ≡ length plan.parents →
+    Allows (IsKeptBy plan mode) slots id me (await_index t) (λ _. 0) (λ _. Withdrawn (step slots (await_index t) 0 0 none) me 0)
+passes plan mode slots id me t e own live free same event all s l _ found _ =
+    let si = sits plan mode s l id me.0 t own live found in
+    let st : State = state_at plan l.places in
+    let far : IsAsFarOn plan (Some t) l.places (seen me.0) = subst (λ o. IsAsFarOn plan o l.places (seen me.0)) own si.fits.far in
+    let seen_event : published_after plan t ((seen me.0).places t).done ≡ Some e =
+    subst (λ o. own_event plan o (seen me.0) ≡ Some e) own (subst (λ q. own_event q me.0.own (seen me.0) ≡ Some e) same event) in
+    let published : published_after plan t (l.places t).done ≡ Some e =
+    ap (λ (b : Place). published_after plan t b.done) (sym (sym (ap (place_in me.0.sight.places) si.task) ∙ si.place)) ∙ seen_event in
+    let w = published_after_is plan t (l.places t).done e published in
+    let next : action_at plan t (l.places t).done ≡ Some (Passes e.p.0) = ap (action_at plan t) w.1 ∙ passes_next plan t w.0 e.p.0 w.2 in
+    let reached = all_scanned_is_reached plan t (seen me.0) l.places e l.checked (lawful_is_reachable (avoids mode) plan l.places l.lock l.lawful) far seen_event all in
+    let dropped : (l.places t).dropped ≡ None = published_undropped plan l.places (reachable_is_fixed plan l.places l.checked (lawful_is_reachable (avoids mode) plan l.places l.lock l.lawful)).1 t e published in
+    let is_step : IsStep plan mode l.places l.lock t (Passes e.p.0) = record {
+      code = by_code_so plan t (l.places t).done (l.places t).dropped (Passes e.p.0) dropped next;
+      legal = (si.forked, e.n, published, reached, ap (refused_at plan t (l.places t).done) dropped);
+      plain = λ _ p is. cc;
+      avoided = λ _. (tt, not_held plan mode s l id me.0 t si own free);
+    } in
+    let next_is : next_action me.0 ≡ Some (Passes e.p.0) = comes_so plan mode s l id me.0 t (Passes e.p.0) si dropped next in (
+      after_action (Passes e.p.0) me.0,
+      keeps,
+      tt,
+      stores_await plan mode slots id me t (Passes e.p.0) 0 s l own live found next_is is_step (λ w. refl) (λ u q. refl)
+          (λ u ne. ap (λ o. found_by o (st.refused u)) (updated_other st.published t u None ne))
+          (ap await_number (sym (ap (λ o. found_by o (st.refused t)) (updated_same st.published t t None refl) ∙ ap (found_by None) (ap (refused_at plan t (l.places t).done) dropped)))),
+      (
+        refl,
+        λ f is. (
+          next_view_is me.0 (Passes e.p.0) next_is,
+          next_is ∙ ap (λ (g : Event). Some (Passes g.p.0)) (events_same e f (sym event ∙ is)),
+        ),
+      ),
+    )
+  where
+    events_same : (e f : Event) → Some e ≡ Some f → e ≡ f
+    events_same e f h = cc
+
+-- the view after a refused task's drop
+pub drop_view : (v : View) (p d : ℕ) → (own_place v).dropped ≡ Some d → after_action (Drops p) v ≡ next_view v
+drop_view v p d e = sym (ap (λ o. after_action (unwrap_or (action_after v.plan (task_of v) (own_place v).done o) (Drops 0)) v) e ∙ ap (λ o. with_dropped (next_place (own_place v).done o (Drops 0))) e ∙ sym (ap (λ o. with_dropped (next_place (own_place v).done o (Drops p))) e))
+  where
+    with_dropped : Place → View
+    with_dropped c = record v { sight = record v.sight { places = set v.sight.places (task_of v) c } }
+
+-- a refused task leaves the least phaser of which it is a member
+pub drops_refused :
+    (plan : Plan) (mode : Mode) (slots id : ℕ) (me : Me (Unit {0}) View) (t p d n : ℕ) → me.0.own ≡ Some t → me.0.spent ≡ false → me.0.holds ≡ false →
+    (own_place me.0).dropped ≡ Some d → own_phase me.0 p ≡ Some n → ((q : ℕ) → q < p → own_phase me.0 q ≡ None) → t < length plan.parents → p < length plan.makers →
+    Allows (IsKeptBy plan mode) slots id me (phase_index plan t p) (λ _. 0) (λ _. Acted (step slots (phase_index plan t p) 0 0 none) me 0)
+drops_refused plan mode slots id me t p d n own live free dropped member least a b s l _ found _ =
+    let si = sits plan mode s l id me.0 t own live found in
+    let st : State = state_at plan l.places in
+    let there : (l.places t).dropped ≡ Some d = ap (λ (x : Place). x.dropped) (sym si.place) ∙ dropped in
+    let stands = (reachable_is_fixed plan l.places l.checked (lawful_is_reachable (avoids mode) plan l.places l.lock l.lawful)).1.refused t d there in
+    let idle : published_after plan t (l.places t).done ≡ None = nothing_published plan t (l.places t).done (Blocks stands.1.0) stands.1.1 (λ q e. cc) in
+    let is_step : IsStep plan mode l.places l.lock t (Drops p) = record {
+      code = subst (λ o. IsByCode plan t (l.places t).done o (Drops p)) (sym there) tt;
+      legal = (
+        si.forked,
+        idle,
+        (n, own_phases_so plan mode s l id me.0 t p si ∙ member),
+        λ _ q less. own_phases_so plan mode s l id me.0 t q si ∙ least q less,
+      );
+      plain = λ _ q is. cc;
+      avoided = λ _. (tt, not_held plan mode s l id me.0 t si own free);
+    } in (
+      after_action (Drops p) me.0,
+      keeps,
+      tt,
+      acts_kept plan mode s l id (phase_index plan t p) 0 me.1 me.0 t (Drops p) own live found is_step (λ _. refl)
+          (subst (λ (k : ℕ). IsShown plan (after st t (Drops p)) l.lock (set s.words (phase_index plan t p) k)) (ap phase_number (with_phase_same st.phases t p None))
+          (shows_phase plan st (after st t (Drops p)) l.lock s.words t p ((after st t (Drops p)).phases t p) l.shown a b refl (λ w q m. with_phase_other st.phases t p None w q m) (λ _. refl))),
+      (drop_view me.0 p d dropped, refl),
+    )

@@ -1,0 +1,65 @@
+use Rattle.std.proofs.Common.{ℕ, ◌<◌, sym, refl, ap, ◌∙◌, subst, subst₂}
+use mathlib.Core.Option.{none}
+use Rattle.atomic_table.specs.Table.{Allows, step}
+use Rattle.armus_base.specs.declared.event.Event.{Event}
+use Rattle.armus_base.specs.Plans.{Blocks}
+use Rattle.board.specs.Rule.{IsKept}
+use Rattle.board.specs.Views.{next_action}
+use Rattle.board.specs.Seats.{Frame, IsOf, Known, MakesStep, MayPublish}
+use Rattle.board.specs.Steps.{Acted, own_phase}
+use Rattle.board.proofs.Stores.{publishes}
+use Rattle.board.proofs.Seated.{blocks_sitting, makes_step, may_publish_here, own_small, task_inside}
+use Rattle.board.proofs.task_seat.TaskSeat.publish.Goals as goal
+
+pub member_phase-n-requires-clause-member : goal.member_phase-n-requires-clause-member
+member_phase-n-requires-clause-member c = record { action = Blocks c.args.p.0; next = c.requires.next; by_member = refl }
+
+pub await_index-index-requires : goal.await_index-index-requires
+await_index-index-requires c =
+    let i = c.self.invariant.sitting in
+    own_small _ _ _ i.seat (subst (λ k. IsOf k c.args.board.now) (sym (c.self.view_is ∙ c.member_phase-n.ensures.seat)) c.requires.made) i.task
+
+pub store-requires : goal.store-requires
+store-requires c =
+    let b = c.board.view_is in
+    let s = c.self.view_is ∙ c.member_phase-n.ensures.seat in
+    let i = c.self.invariant.sitting in
+    let o = subst₂ IsOf (sym s) (sym b) c.requires.made in
+    let key = c.board.inside.cells.shared.key in
+    let slots = c.board.inside.cells.shared.table_id.slots in
+    let id = c.self.inside.place.id in
+    let me = c.self.inside.place.me in
+    let t = c.self.inside.task.0 in
+    let p = c.args.p.0 in
+    let w = c.event_number-word.result in
+    let e : Event = record { p = c.args.p; n = c.member_phase-n.result } in (
+      o.table,
+      subst (λ (f : Frame). c.await_index-index.result < f.table.words) (sym b) c.await_index-index.ensures.inside,
+      subst (λ (n : ℕ). Allows (IsKept key) slots id me n (λ _. w) (λ _. Acted (step slots n w 0 none) me w)) (sym c.await_index-index.ensures.index)
+          (publishes key.plan.value key.mode slots id me t p w e i.task i.seat.live
+          (may_publish_here _ _ t p o i.task (subst (λ (k : Known). MayPublish k p) (sym s) c.requires.avoids))
+          (ap (λ (k : Known). next_action k.view) s ∙ c.requires.next)
+          (ap (λ (k : Known). own_phase k.view p) s ∙ c.member_phase-n.ensures.phase) refl c.event_number-word.ensures),
+    )
+
+pub invariant_of-self : goal.invariant_of-self
+invariant_of-self c =
+    let s = c.self.view_is ∙ c.member_phase-n.ensures.seat in record {
+      no_slot = c.store.ensures.2.1 ∙ c.self.invariant.no_slot;
+      sitting = blocks_sitting c.self.inside.place.table_id c.store.new.seat.table_id c.self.inside.place.me.0 c.store.new.seat.me.0 _ _ _ c.args.p.0 _ c.self.invariant.sitting
+          (ap (λ (k : Known). next_action k.view) s ∙ c.requires.next) (ap (λ (k : Known). own_phase k.view c.args.p.0) s ∙ c.member_phase-n.ensures.phase) refl c.store.ensures.2.0;
+    }
+
+pub returns-clause-event : goal.returns-clause-event
+returns-clause-event c =
+    let s = c.self.view_is ∙ c.member_phase-n.ensures.seat in
+    sym (blocks_sitting c.self.inside.place.table_id c.store.new.seat.table_id c.self.inside.place.me.0 c.store.new.seat.me.0 _ _ _ c.args.p.0 (record { p = c.args.p; n = c.member_phase-n.result }) c.self.invariant.sitting
+    (ap (λ (k : Known). next_action k.view) s ∙ c.requires.next) (ap (λ (k : Known). own_phase k.view c.args.p.0) s ∙ c.member_phase-n.ensures.phase) refl c.store.ensures.2.0).event
+
+pub returns-clause-step : goal.returns-clause-step
+returns-clause-step c =
+    let i = c.self.invariant.sitting in
+    let s = c.self.view_is ∙ c.member_phase-n.ensures.seat in
+    subst (λ (k : Known). MakesStep (Blocks c.args.p.0) k (record { table = c.store.new.seat.table_id; view = c.store.new.seat.me.0 })) s
+    (makes_step c.self.inside.place.table_id c.store.new.seat.table_id c.self.inside.place.me.0 c.store.new.seat.me.0 (Blocks c.args.p.0) (task_inside _ _ i.seat i.task)
+    (ap (λ (k : Known). next_action k.view) s ∙ c.requires.next) c.store.ensures.2.0 c.store.ensures.0 i.seat)

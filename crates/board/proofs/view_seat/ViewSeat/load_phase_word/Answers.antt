@@ -1,0 +1,49 @@
+use Rattle.std.proofs.Common.{ℕ, ◌<◌, length, sym, ap, ◌∙◌, subst, subst₂}
+use mathlib.Core.Option.{none}
+use Rattle.atomic_table.specs.Table.{Allows, step}
+use Rattle.board.specs.Rule.{IsKept}
+use Rattle.board.specs.Words.{phase_index}
+use Rattle.board.specs.Seats.{AnswersPhase, Frame, IsOf, Known}
+use Rattle.board.specs.Steps.{Looked}
+use Rattle.board.proofs.Loading.{looks}
+use Rattle.board.proofs.Loaded.{answers_phase, loaded_seat, looked_told}
+use Rattle.board.proofs.view_seat.ViewSeat.load_phase_word.Goals as goal
+
+pub load-word-requires : goal.load-word-requires
+load-word-requires c =
+    let b = c.board.view_is in
+    let i = c.self.invariant in
+    let o = subst₂ IsOf (sym c.self.view_is) (sym b) c.requires.made in
+    let key = c.board.inside.cells.shared.key in
+    let slots = c.board.inside.cells.shared.table_id.slots in
+    let id = c.self.inside.place.id in
+    let me = c.self.inside.place.me in
+    let t = c.args.t.0 in
+    let p = c.args.p.0 in
+    let small = subst (λ (f : Frame). t < length f.plan.parents) (sym b) c.requires.task in
+    let few = subst (λ (f : Frame). p < length f.plan.makers) (sym b) c.requires.phaser in (
+      o.table,
+      subst (λ (f : Frame). c.phase_index-index.result < f.table.words) (sym b) c.phase_index-index.ensures.inside,
+      subst (λ (n : ℕ). Allows (IsKept key) slots id me n (λ n. n) (Looked (step slots n 0 0 none) me)) (sym (c.phase_index-index.ensures.index ∙ ap (λ (f : Frame). phase_index f.plan t p) (sym b)))
+          (looks key.plan.value key.mode slots id me t p i.seat.live o.plan small few),
+    )
+
+pub phase_of-requires : goal.phase_of-requires
+phase_of-requires c = (looked_told 0 _ _ _ _ c.args.t.0 c.args.p.0 c.args.board.now c.self.inside.place.table_id c.load-word.ensures.2 (subst (λ k. IsOf k c.args.board.now) (sym c.self.view_is) c.requires.made) c.requires.task c.requires.phaser c.phase_index-index.ensures.index).2
+
+pub returns : goal.returns
+returns c =
+    let t = looked_told 0 _ _ _ _ c.args.t.0 c.args.p.0 c.args.board.now c.self.inside.place.table_id c.load-word.ensures.2 (subst (λ k. IsOf k c.args.board.now) (sym c.self.view_is) c.requires.made) c.requires.task c.requires.phaser c.phase_index-index.ensures.index in
+    record {
+      answer = subst (λ (k : Known). AnswersPhase c.args.t.0 c.args.p.0 c.phase_of.result k (record { table = c.load-word.new.seat.table_id; view = c.load-word.new.seat.me.0 })) c.self.view_is
+          (answers_phase c.self.inside.place.table_id c.load-word.new.seat.table_id c.self.inside.place.me.0 c.load-word.new.seat.me.0 c.args.t.0 c.args.p.0 t.0 c.phase_of.result c.self.invariant.seat t.3 c.load-word.ensures.0 (c.phase_of.ensures t.0 t.1));
+    }
+
+pub invariant_of-self : goal.invariant_of-self
+invariant_of-self c =
+    let t = looked_told 0 _ _ _ _ c.args.t.0 c.args.p.0 c.args.board.now c.self.inside.place.table_id c.load-word.ensures.2 (subst (λ k. IsOf k c.args.board.now) (sym c.self.view_is) c.requires.made) c.requires.task c.requires.phaser c.phase_index-index.ensures.index in record {
+      no_slot = c.load-word.ensures.2.0 ∙ c.self.invariant.no_slot;
+      alone = t.3.same.own ∙ c.self.invariant.alone;
+      free = t.3.same.holds ∙ c.self.invariant.free;
+      seat = loaded_seat c.self.inside.place.table_id c.load-word.new.seat.table_id c.self.inside.place.me.0 c.load-word.new.seat.me.0 c.self.invariant.seat t.3.same t.3.seen_now.exact;
+    }

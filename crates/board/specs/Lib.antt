@@ -1,0 +1,10 @@
+pub mod Words
+pub mod Views
+pub mod Rule
+pub mod Steps
+pub mod Closing
+pub mod Seats
+pub mod Sitting
+pub mod Viewing
+pub mod Ended
+pub mod Boarding

@@ -1,0 +1,22 @@
+//! The words that running tasks share without a lock, and what each seat has seen of them.
+#![tactic(auto)]
+
+mod board;
+mod loads;
+mod mode;
+mod numbers;
+mod plays;
+mod rule;
+mod seen;
+mod task_seat;
+mod view;
+mod view_seat;
+mod words;
+
+pub use board::Board;
+pub use loads::Loads;
+pub use mode::Mode;
+pub use seen::Seen;
+pub use task_seat::TaskSeat;
+pub use view_seat::ViewSeat;
+pub use words::Words;

@@ -1,0 +1,110 @@
+// What each step on the table tells.
+use crate::view::View;
+use atomic_table::{Join, Play, Split};
+
+/// An action of one's own.
+pub(crate) struct Acts;
+
+impl Play<(), View> for Acts {
+    ghost use Rattle.board.specs.Steps.{Acted};
+
+    ghost then = { Acted };
+}
+
+/// The withdrawal of the published event.
+pub(crate) struct Withdraws;
+
+impl Play<(), View> for Withdraws {
+    ghost use Rattle.board.specs.Steps.{Withdrawn};
+
+    ghost then = { Withdrawn };
+}
+
+/// A load of one's own phase word.
+pub(crate) struct Recalls;
+
+impl Play<(), View> for Recalls {
+    ghost use Rattle.board.specs.Steps.{Recalled};
+
+    ghost then = { Recalled };
+}
+
+/// A load of a phase word.
+pub(crate) struct Looks;
+
+impl Play<(), View> for Looks {
+    ghost use Rattle.board.specs.Steps.{Looked};
+
+    ghost then = { Looked };
+}
+
+/// A load of an await word.
+pub(crate) struct Watches;
+
+impl Play<(), View> for Watches {
+    ghost use Rattle.board.specs.Steps.{Watched};
+
+    ghost then = { Watched };
+}
+
+/// A load that tells only that the view is one of the board's.
+pub(crate) struct Counts;
+
+impl Play<(), View> for Counts {
+    ghost use Rattle.board.specs.Steps.{Counted};
+
+    ghost then = { Counted };
+}
+
+/// A load that tells only that the child which comes to be forked next has made no step.
+pub(crate) struct SeesUnforked;
+
+impl Play<(), View> for SeesUnforked {
+    ghost use Rattle.board.specs.Steps.{Unforked};
+
+    ghost then = { Unforked };
+}
+
+/// A task is forked.
+pub(crate) struct SplitsChild;
+
+impl Split<View> for SplitsChild {
+    ghost use Rattle.board.specs.Steps.{next_view, child};
+
+    ghost left = { next_view };
+
+    ghost right = { child };
+}
+
+/// A second viewer.
+pub(crate) struct Copies;
+
+impl Split<View> for Copies {
+    ghost use Rattle.board.specs.Steps.{another};
+
+    ghost left = { λ v. v };
+
+    ghost right = { another };
+}
+
+/// The first viewer, beside the seat of task 0.
+pub(crate) struct Opens;
+
+impl Split<View> for Opens {
+    ghost use Rattle.board.specs.Steps.{viewer};
+
+    ghost left = { λ v. v };
+
+    ghost right = { viewer };
+}
+
+/// A task's seat is taken in.
+pub(crate) struct JoinsSeat;
+
+impl Join<View> for JoinsSeat {
+    ghost use Rattle.board.specs.Steps.{both, spent_view};
+
+    ghost both = { both };
+
+    ghost spent = { spent_view };
+}

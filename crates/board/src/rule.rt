@@ -1,0 +1,20 @@
+// The rule of the table.
+use crate::mode::Setting;
+use crate::view::View;
+use atomic_table::{Seat, Table, TableRule};
+use std::alloc::Global;
+
+/// The rule of a board.
+pub struct Law;
+
+impl TableRule<(), View, Setting> for Law {
+    ghost use Rattle.board.specs.Rule.{IsKept, first};
+
+    ghost holds = { IsKept };
+
+    ghost first = { first };
+}
+
+pub type Cells = Table<(), View, Setting, Law, Global>;
+
+pub type Place = Seat<(), View>;

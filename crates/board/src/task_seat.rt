@@ -1,0 +1,294 @@
+// The seat of a task.
+ghost use Rattle.std.specs.Prelude.{◌≡◌, ◌+◌, ◌<◌, ◌≤◌, [], Some, None, length, IfOk, OnOk, OnErr, IsSome, false};
+ghost use Rattle.armus_base.specs.Limits.{max_tasks, max_ops};
+ghost use Rattle.armus_base.specs.Plans.{Makes, Registers, Forks, Advances, Drops, Blocks};
+ghost use Rattle.armus_base.specs.Seats.{seen_by_child, scanned_after};
+ghost use Rattle.board.specs.Views.{found_of, next_action, seen};
+ghost use Rattle.board.specs.Rule.{first};
+ghost use Rattle.board.specs.Steps.{own_phase, viewer};
+ghost use Rattle.board.specs.Seats.{Known, IsOf, IsSeat, IsNewSeat, MakesStep, MayPublish, MayDrop, MakesPass, NeedsMember, AnswersAwait, AnswersPhase, IsFirst, event_of, nothing_seen};
+
+use crate::board::Board;
+use crate::numbers::{event_number, phase_of, seen_of};
+use crate::plays::{Acts, Looks, Opens, Recalls, SeesUnforked, SplitsChild, Watches, Withdraws};
+use crate::rule::Place;
+use crate::seen::Seen;
+use armus_base::{Event, NoMemory, Phase, PhaserId, TaskId};
+use std::alloc::Global;
+use std::marker::Model;
+
+/// The seat of a task: who has it makes the task's steps on the board. Contracts see of which board it is, and what it has seen.
+#[derive(Drop)]
+pub struct TaskSeat {
+    place: Place,
+    task: TaskId,
+    scanned: u32,
+    awaited: Option<Event>,
+}
+
+impl Model for TaskSeat {
+    ghost use Rattle.board.specs.Seats.{Known};
+
+    ghost Value = { Known };
+
+    ghost use Rattle.board.specs.Sitting.{known_of, Sits};
+
+    ghost view = { known_of };
+
+    ghost invariant = { Sits };
+}
+
+// How many tasks are scanned after a load of the phase of `t` on `p`.
+fn scanned_next(
+    awaited: Option<Event>,
+    scanned: u32,
+    t: TaskId,
+    p: PhaserId,
+    found: Option<Phase>,
+) -> u32
+    requires { t.0 < max_tasks }
+    ensures { result ≡ scanned_after awaited scanned t.0 p.0 found }
+{
+    let Some(event) = awaited else {
+        return scanned;
+    };
+    let behind = match found {
+        Some(phase) => phase < event.n,
+        None => false,
+    };
+    if event.p == p && t.0 == scanned && !behind {
+        t.0 + 1
+    } else {
+        scanned
+    }
+}
+
+impl TaskSeat {
+    // The seat of task 0, and the first viewer's place.
+    pub(crate) fn begin(board: &Board, mut place: Place) -> (TaskSeat, Place)
+        requires place { (place.table_id ≡ board.now.table) × (place.me.1 ≡ []) }
+        requires first { IsFirst board.now place.me.0 }
+        ensures seat { IsNewSeat board.now (Some 0) (seen_by_child 0 nothing_seen) result.0 }
+        ensures other { (result.1.table_id ≡ board.now.table) × (result.1.me ≡ (viewer place.me.0, [])) }
+    {
+        let other = board.cells.shared.split_seat::<Opens>(&mut place);
+        let seat = TaskSeat {
+            place,
+            task: TaskId(0),
+            scanned: 0,
+            awaited: None,
+        };
+        (seat, other)
+    }
+
+    pub(crate) fn into_place(self) -> Place
+        ensures place { (result.table_id ≡ self.table) × (result.me ≡ (self.view, [])) }
+        ensures seat { IsSeat self × IsSome self.view.own }
+    {
+        let TaskSeat {
+            place,
+            task: _,
+            scanned: _,
+            awaited: _,
+        } = self;
+        place
+    }
+
+    /// Its task.
+    pub fn id(&self) -> TaskId
+        ensures task { self.now.view.own ≡ Some result.0 }
+        ensures seat { IsSeat self.now }
+    {
+        self.task
+    }
+
+    /// The published event, and None exactly where nothing is published. It makes no step.
+    pub fn event(&self) -> Option<Event>
+        ensures { result ≡ event_of self.now }
+    {
+        self.awaited
+    }
+
+    /// 0 where nothing is published. Else each member of the awaited phaser with a number below it is known to stand at the awaited phase or above.
+    pub fn scanned(&self) -> u32
+        ensures number { result ≡ (seen self.now.view).scanned }
+        ensures idle { event_of self.now ≡ None → result ≡ 0 }
+    {
+        self.scanned
+    }
+
+    /// One load of its own word: its exact phase on `p`, or None where it is no member.
+    pub fn phase(&mut self, board: &Board, p: PhaserId) -> Option<Phase>
+        requires made { IsOf self.old board.now }
+        requires phaser { p.0 < length board.now.plan.makers }
+        ensures seat { self.new ≡ self.old }
+        ensures phase { result ≡ own_phase self.old.view p.0 }
+    {
+        let index = board.phase_index(self.task, p);
+        let word = board.cells.shared.load::<Recalls>(&mut self.place, index);
+        phase_of(word)
+    }
+
+    /// The next op is Make: one store makes the phaser, of which the task is the one member, at phase 0.
+    pub fn make(&mut self, board: &Board, p: PhaserId)
+        requires made { IsOf self.old board.now }
+        requires phaser { p.0 < length board.now.plan.makers }
+        requires unlocked { self.old.view.holds ≡ false }
+        requires next { next_action self.old.view ≡ Some (Makes p.0) }
+        ensures step { MakesStep (Makes p.0) self.old self.new }
+    {
+        let index = board.phase_index(self.task, p);
+        board.cells.shared.store::<Acts>(&mut self.place, index, 1);
+    }
+
+    /// The next op is Reg: one load of its own word and one store to the child's, which then is a member at the task's phase.
+    pub fn reg(&mut self, board: &Board, c: TaskId, p: PhaserId)
+        requires made { IsOf self.old board.now }
+        requires child { c.0 < length board.now.plan.parents }
+        requires phaser { p.0 < length board.now.plan.makers }
+        requires unlocked { self.old.view.holds ≡ false }
+        requires next { next_action self.old.view ≡ Some (Registers c.0 p.0) }
+        ensures step { MakesStep (Registers c.0 p.0) self.old self.new }
+    {
+        let phase = self.member_phase(board, p);
+        let index = board.phase_index(c, p);
+        let word = u64::from(phase) + 1;
+        board
+            .cells
+            .shared
+            .store::<Acts>(&mut self.place, index, word);
+    }
+
+    /// The next op is Adv: one load and one store. It answers the new phase.
+    pub fn adv(&mut self, board: &Board, p: PhaserId) -> Phase
+        requires made { IsOf self.old board.now }
+        requires phaser { p.0 < length board.now.plan.makers }
+        requires unlocked { self.old.view.holds ≡ false }
+        requires next { next_action self.old.view ≡ Some (Advances p.0) }
+        ensures step { MakesStep (Advances p.0) self.old self.new }
+        ensures phase { own_phase self.new.view p.0 ≡ Some result }
+    {
+        let phase = self.member_phase(board, p);
+        let index = board.phase_index(self.task, p);
+        let word = u64::from(phase) + 2;
+        board
+            .cells
+            .shared
+            .store::<Acts>(&mut self.place, index, word);
+        phase + 1
+    }
+
+    /// The next op is Drop, or the seat is refused and `p` is the least phaser of which its task is a member: one store.
+    pub fn drop_phaser(&mut self, board: &Board, p: PhaserId)
+        requires made { IsOf self.old board.now }
+        requires phaser { p.0 < length board.now.plan.makers }
+        requires unlocked { self.old.view.holds ≡ false }
+        requires next { MayDrop self.old p.0 }
+        ensures step { MakesStep (Drops p.0) self.old self.new }
+    {
+        let index = board.phase_index(self.task, p);
+        board.cells.shared.store::<Acts>(&mut self.place, index, 0);
+    }
+
+    /// The next op is Fork: the child's seat is split off, which has seen what this one has seen. It takes no memory, so it never answers `NoMemory`.
+    pub fn fork(&mut self, alloc: Global, board: &Board, c: TaskId) -> Result<TaskSeat, NoMemory>
+        requires made { IsOf self.old board.now }
+        requires unlocked { self.old.view.holds ≡ false }
+        requires next { next_action self.old.view ≡ Some (Forks c.0) }
+        ensures step { OnOk result (MakesStep (Forks c.0) self.old self.new) }
+        ensures child { IfOk result (λ child. IsNewSeat board.now (Some c.0) (seen_by_child c.0 (seen self.new.view)) child) }
+        ensures unchanged { OnErr result (self.new ≡ self.old) }
+    {
+        let _ = alloc;
+        board.cells.shared.load::<SeesUnforked>(&mut self.place, 0);
+        let place = board
+            .cells
+            .shared
+            .split_seat::<SplitsChild>(&mut self.place);
+        Ok(TaskSeat {
+            place,
+            task: c,
+            scanned: 0,
+            awaited: None,
+        })
+    }
+
+    /// The next op is an Await that is not published: one load, and one store of the event, which it answers. On a board that avoids deadlock the seat also has the lock word, and its publication deadlocks nobody in any lawful state that has the lock with this seat and is as far on as what it has seen.
+    pub fn publish(&mut self, board: &Board, p: PhaserId) -> Event
+        requires made { IsOf self.old board.now }
+        requires phaser { p.0 < length board.now.plan.makers }
+        requires next { next_action self.old.view ≡ Some (Blocks p.0) }
+        requires avoids { MayPublish self.old p.0 }
+        ensures step { MakesStep (Blocks p.0) self.old self.new }
+        ensures event { event_of self.new ≡ Some result }
+        ensures phase { (result.p ≡ p) × (own_phase self.old.view p.0 ≡ Some result.n) }
+    {
+        let n = self.member_phase(board, p);
+        let event = Event { p, n };
+        let index = board.await_index(self.task);
+        let word = event_number(event);
+        board
+            .cells
+            .shared
+            .store::<Acts>(&mut self.place, index, word);
+        self.scanned = 0;
+        self.awaited = Some(event);
+        event
+    }
+
+    /// An event is published and all tasks are scanned: one store withdraws it. This is Pass.
+    pub fn withdraw(&mut self, board: &Board)
+        requires made { IsOf self.old board.now }
+        requires unlocked { self.old.view.holds ≡ false }
+        requires event { IsSome (event_of self.old) }
+        requires scanned { (seen self.old.view).scanned ≡ length board.now.plan.parents }
+        ensures step { MakesPass self.old self.new }
+        ensures event { event_of self.new ≡ None }
+    {
+        let index = board.await_index(self.task);
+        board
+            .cells
+            .shared
+            .store::<Withdraws>(&mut self.place, index, 0);
+        self.scanned = 0;
+        self.awaited = None;
+    }
+
+    // One load of its own word: its phase on a phaser of which its task is a member.
+    fn member_phase(&mut self, board: &Board, p: PhaserId) -> Phase
+        requires made { IsOf self.old board.now }
+        requires phaser { p.0 < length board.now.plan.makers }
+        requires member { NeedsMember self.old p.0 }
+        ensures seat { self.new ≡ self.old }
+        ensures phase { own_phase self.old.view p.0 ≡ Some result }
+        ensures small { result ≤ max_ops }
+    {
+        let _ = &self.task;
+        self.phase(board, p).unwrap()
+    }
+
+    // One load of an await word.
+    pub(crate) fn load_await_word(&mut self, board: &Board, t: TaskId) -> Seen
+        requires made { IsOf self.old board.now }
+        requires task { t.0 < length board.now.plan.parents }
+        ensures answer { AnswersAwait t.0 (found_of result) self.old self.new }
+    {
+        let index = board.await_index(t);
+        let word = board.cells.shared.load::<Watches>(&mut self.place, index);
+        seen_of(word)
+    }
+
+    // One load of a phase word.
+    pub(crate) fn load_phase_word(&mut self, board: &Board, t: TaskId, p: PhaserId) -> Option<Phase>
+        requires made { IsOf self.old board.now }
+        requires task { t.0 < length board.now.plan.parents }
+        requires phaser { p.0 < length board.now.plan.makers }
+        ensures answer { AnswersPhase t.0 p.0 result self.old self.new }
+    {
+        let index = board.phase_index(t, p);
+        let word = board.cells.shared.load::<Looks>(&mut self.place, index);
+        let found = phase_of(word);
+        self.scanned = scanned_next(self.awaited, self.scanned, t, p, found);
+        found
+    }
+}
