@@ -3,6 +3,8 @@
 
 mod analysis;
 mod choice;
+#[cfg(test)]
+mod tests;
 
 pub use analysis::{Analysis, Used, Wanted};
 pub use choice::analyse;

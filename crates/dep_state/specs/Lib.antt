@@ -1,3 +1,4 @@
 pub mod Deps
 pub mod Made
 pub mod Picks
+pub mod Order

@@ -5,9 +5,13 @@ mod dep_state;
 mod events;
 mod impeders;
 mod names;
+mod order;
 mod picks;
 mod search;
+#[cfg(test)]
+mod tests;
 
 pub use dep_state::DepState;
+pub use order::is_in_order;
 pub use picks::picked;
 pub use search::task_place;

@@ -5,6 +5,8 @@ mod end;
 mod graph;
 mod growth;
 mod reversed;
+#[cfg(test)]
+mod tests;
 mod whole;
 
 pub use end::SgEnd;

@@ -3,6 +3,8 @@
 
 mod check;
 mod found;
+#[cfg(test)]
+mod tests;
 mod walk;
 
 pub use check::check_cycle;

@@ -2,5 +2,7 @@
 #![tactic(auto)]
 
 mod graph;
+#[cfg(test)]
+mod tests;
 
 pub use graph::WaitGraph;

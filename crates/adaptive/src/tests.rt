@@ -1,0 +1,137 @@
+// Statuses small enough to see.
+use crate::{Used, Wanted, analyse};
+use armus_base::{Event, List, Member, NoMemory, PhaserId, Status, TaskId};
+use dep_state::is_in_order;
+use std::alloc::Global;
+use std::process::Abort;
+use std::test::Fail;
+
+fn status(
+    alloc: Global,
+    t: u32,
+    event: (u32, u32),
+    phases: &[(u32, u32)],
+) -> Result<Status, NoMemory> {
+    let mut members = List::new(alloc);
+    for (p, n) in phases {
+        members.push(Member {
+            p: PhaserId(*p),
+            n: *n,
+        })?;
+    }
+    Ok(Status {
+        t: TaskId(t),
+        event: Event {
+            p: PhaserId(event.0),
+            n: event.1,
+        },
+        phases: members,
+    })
+}
+
+// Three workers wait for each other and for their parent, which waits for them.
+fn averaging(alloc: Global) -> Result<Vec<Status>, NoMemory> {
+    let mut list: Vec<Status> = Vec::new(alloc);
+    list.push(status(alloc, 0, (1, 1), [(0, 0), (1, 1)].as_slice())?)?;
+    list.push(status(alloc, 1, (0, 1), [(0, 1), (1, 0)].as_slice())?)?;
+    list.push(status(alloc, 2, (0, 1), [(0, 1), (1, 0)].as_slice())?)?;
+    list.push(status(alloc, 3, (0, 1), [(0, 1), (1, 0)].as_slice())?)?;
+    Ok(list)
+}
+
+// Three tasks each of which waits for the two others.
+fn three_in_turn(alloc: Global) -> Result<Vec<Status>, NoMemory> {
+    let mut list: Vec<Status> = Vec::new(alloc);
+    list.push(status(alloc, 1, (0, 1), [(0, 1), (1, 0), (2, 0)].as_slice())?)?;
+    list.push(status(alloc, 2, (1, 1), [(0, 0), (1, 1), (2, 0)].as_slice())?)?;
+    list.push(status(alloc, 3, (2, 1), [(0, 0), (1, 0), (2, 1)].as_slice())?)?;
+    Ok(list)
+}
+
+// Four tasks each of which waits for the three others.
+fn four_in_turn(alloc: Global) -> Result<Vec<Status>, NoMemory> {
+    let mut list: Vec<Status> = Vec::new(alloc);
+    list.push(status(
+        alloc,
+        1,
+        (0, 1),
+        [(0, 1), (1, 0), (2, 0), (3, 0)].as_slice(),
+    )?)?;
+    list.push(status(
+        alloc,
+        2,
+        (1, 1),
+        [(0, 0), (1, 1), (2, 0), (3, 0)].as_slice(),
+    )?)?;
+    list.push(status(
+        alloc,
+        3,
+        (2, 1),
+        [(0, 0), (1, 0), (2, 1), (3, 0)].as_slice(),
+    )?)?;
+    list.push(status(
+        alloc,
+        4,
+        (3, 1),
+        [(0, 0), (1, 0), (2, 0), (3, 1)].as_slice(),
+    )?)?;
+    Ok(list)
+}
+
+// A task waits behind a cycle of two.
+fn behind_a_cycle(alloc: Global) -> Result<Vec<Status>, NoMemory> {
+    let mut list: Vec<Status> = Vec::new(alloc);
+    list.push(status(alloc, 0, (2, 1), [(2, 1)].as_slice())?)?;
+    list.push(status(alloc, 1, (0, 1), [(0, 1), (1, 0), (2, 0)].as_slice())?)?;
+    list.push(status(alloc, 2, (1, 1), [(0, 0), (1, 1)].as_slice())?)?;
+    Ok(list)
+}
+
+fn check(
+    rt: &impl Abort,
+    alloc: Global,
+    list: &[Status],
+    wanted: Wanted,
+    used: Used,
+    edges: u64,
+) -> Result<(), Fail> {
+    assert!(rt; is_in_order(list));
+    let analysis = analyse(alloc, list, wanted)?;
+    assert_eq!(rt; analysis.dead.as_slice().len(), list.len());
+    assert_eq!(rt; analysis.used, used);
+    assert_eq!(rt; analysis.edges, edges);
+    Ok(())
+}
+
+#[test]
+fn uses_the_graph_of_the_choice(rt: HostRuntime) -> Result<(), Fail> {
+    let alloc = rt.alloc();
+    check(&rt, alloc, &averaging(alloc)?, Wanted::Auto, Used::Sg, 2)?;
+    check(&rt, alloc, &averaging(alloc)?, Wanted::Wfg, Used::Wfg, 6)?;
+    check(&rt, alloc, &averaging(alloc)?, Wanted::Sg, Used::Sg, 2)?;
+    check(&rt, alloc, &averaging(alloc)?, Wanted::Grg, Used::Grg, 8)?;
+    check(
+        &rt,
+        alloc,
+        &four_in_turn(alloc)?,
+        Wanted::Auto,
+        Used::Wfg,
+        12,
+    )?;
+    check(
+        &rt,
+        alloc,
+        &three_in_turn(alloc)?,
+        Wanted::Auto,
+        Used::Sg,
+        6,
+    )?;
+    check(
+        &rt,
+        alloc,
+        &behind_a_cycle(alloc)?,
+        Wanted::Auto,
+        Used::Sg,
+        3,
+    )
+}
