@@ -1,6 +1,6 @@
 -- The first seats.
 use mathlib.Core.Path.{fun_ext}
-use Rattle.std.proofs.Common.{◌≡◌, ℕ, ◌<◌, Bool, true, false, [], ◌∷◌, Some, None, length, replicate, sym, refl, ap, subst}
+use Rattle.std.proofs.Common.{◌≡◌, ℕ, ◌<◌, Bool, true, false, [], ◌∷◌, Some, None, length, replicate, sym, refl, ap, subst, ◌≤◌, arith}
 use Rattle.std.specs.Prelude.{◌==◌, ◌||◌}
 use Rattle.std.proofs.lemmas.List.{length-replicate}
 use Rattle.atomic_table.specs.Seated.{TableId}
@@ -33,6 +33,7 @@ module _ (k : Setting) (f : Frame) (table : TableId) (plan_is : k.plan.value ≡
     live = refl;
     checked = checked;
     count = length-replicate {A = Place} (length k.plan.value.parents) first_place;
+    few = omega arith;
     own = λ t e. let z : 0 ≡ t = some_same 0 t e in (
       subst (λ x. x < length k.plan.value.parents) z (some_task k.plan.value checked),
       subst (λ x. is_among (0 ∷ []) x ≡ true) z refl,
@@ -66,6 +67,7 @@ module _ (k : Setting) (f : Frame) (table : TableId) (plan_is : k.plan.value ≡
     live = refl;
     checked = checked;
     count = length-replicate {A = Place} (length k.plan.value.parents) first_place;
+    few = omega arith;
     own = λ t e. absurd (none_some t e);
   }
     where

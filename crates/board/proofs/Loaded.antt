@@ -1,5 +1,6 @@
 -- What the loads make of a seat's own facts.
-use Rattle.std.proofs.Common.{◌≡◌, ℕ, ◌^◌, ◌<◌, Option, Some, None, length, sym, ap, ◌∙◌, subst}
+use Rattle.std.proofs.Common.{◌≡◌, ℕ, suc, ◌^◌, ◌<◌, ◌≤◌, Bool, true, false, Option, Some, None, length, sym, refl, ap, ◌∙◌, subst, arith, eqb-true}
+use Rattle.std.specs.Prelude.{if◌then◌else◌, ◌==◌, ◌&&◌}
 use mathlib.Core.Option.{none}
 use Rattle.atomic_table.specs.Table.{Me, step}
 use Rattle.atomic_table.specs.Seated.{TableId}
@@ -9,7 +10,7 @@ use Rattle.armus_base.specs.States.{State}
 use Rattle.armus_base.specs.Runs.{Place}
 use Rattle.armus_base.specs.Places.{published_after}
 use Rattle.armus_base.specs.CheckedPlans.{IsCheckedPlan}
-use Rattle.armus_base.specs.Seats.{Found, own_event}
+use Rattle.armus_base.specs.Seats.{Found, is_not_behind, own_event, scanned_after}
 use Rattle.board.specs.declared.mode.Mode.{Mode}
 use Rattle.board.specs.declared.view.View.{View}
 use Rattle.board.specs.Words.{IsInRange, await_index, await_number, phase_index, phase_number}
@@ -21,16 +22,40 @@ use Rattle.board.specs.Sitting.{IsSitting}
 -- a seat stays one after a load
 pub loaded_seat :
     (table table' : TableId) (v w : View) → IsSeat (record { table = table; view = v }) → IsSameSeat v w → ((u : ℕ) → (seen w).exact u ≡ (seen v).exact u) →
-    IsSeat (record { table = table'; view = w })
-loaded_seat table table' v w seat same exact =
+    (seen w).scanned ≤ length v.plan.parents → IsSeat (record { table = table'; view = w })
+loaded_seat table table' v w seat same exact few =
     record {
       live = same.spent ∙ seat.live;
       checked = subst IsCheckedPlan (sym same.plan) seat.checked;
       count = same.count ∙ seat.count ∙ ap (λ (q : Plan). length q.parents) (sym same.plan);
+      few = subst (λ (q : Plan). (seen w).scanned ≤ length q.parents) (sym same.plan) few;
       own = λ u e.
           let o = seat.own u (sym same.own ∙ e) in
           (subst (λ (q : Plan). u < length q.parents) (sym same.plan) o.0, exact u ∙ o.1);
     }
+
+-- a load scans no more than the tasks of the plan
+few_after : (o : Option Event) (k t p n : ℕ) (answer : Option ℕ) → k ≤ n → t < n → scanned_after o k t p answer ≤ n
+few_after None k t p n answer l small = l
+few_after (Some e) k t p n answer l small = by_test (e.p.0 == p) (t == k) refl (is_not_behind answer e)
+  where
+    by_test : (x y : Bool) → (t == k) ≡ y → (z : Bool) → (if x && y && z then suc k else k) ≤ n
+    by_test false y is z = l
+    by_test true false is z = l
+    by_test true true is false = l
+    by_test true true is true = (let same = eqb-true t k is in omega arith)
+
+pub few_await :
+    (table : TableId) (v w : View) (plan : Plan) (mode : Mode) (t : ℕ) (answer : Found) → IsSeat (record { table = table; view = v }) → LoadsAwait plan mode t answer v w →
+    (seen w).scanned ≤ length v.plan.parents
+few_await table v w plan mode t answer seat load = subst (λ k. k ≤ length v.plan.parents) (sym load.seen_now.scanned) seat.few
+
+pub few_phase :
+    (table : TableId) (v w : View) (mode : Mode) (t p : ℕ) (answer : Option ℕ) → IsSeat (record { table = table; view = v }) → t < length v.plan.parents → LoadsPhase v.plan mode t p answer v w →
+    (seen w).scanned ≤ length v.plan.parents
+few_phase table v w mode t p answer seat small load =
+    subst (λ k. k ≤ length v.plan.parents) (sym load.seen_now.scanned)
+    (few_after (own_event v.plan v.own (seen v)) (seen v).scanned t p (length v.plan.parents) answer seat.few small)
 
 -- and its own place stays
 own_stays :
@@ -51,13 +76,13 @@ event_stays table table' v w t mode Holds seat own same exact was =
 
 pub loads_sitting :
     (table table' : TableId) (v w : View) (t n m : ℕ) (o : Option Event) (mode : Mode) (Holds : State → Type 0) → IsSitting t n o (record { table = table; view = v }) → IsSameSeat v w →
-    ((u : ℕ) → (seen w).exact u ≡ (seen v).exact u) → WasSo v.plan mode Holds v w → m ≡ (seen w).scanned → (event_of (record { table = table; view = v }) ≡ None → m ≡ 0) →
+    ((u : ℕ) → (seen w).exact u ≡ (seen v).exact u) → WasSo v.plan mode Holds v w → (seen w).scanned ≤ length v.plan.parents → m ≡ (seen w).scanned → (event_of (record { table = table; view = v }) ≡ None → m ≡ 0) →
     IsSitting t m o (record { table = table'; view = w })
-loads_sitting table table' v w t n m o mode Holds s same exact was scanned idle =
+loads_sitting table table' v w t n m o mode Holds s same exact was few scanned idle =
     let event = event_stays table table' v w t mode Holds s.seat s.task same exact was in
     record {
       task = same.own ∙ s.task;
-      seat = loaded_seat table table' v w s.seat same exact;
+      seat = loaded_seat table table' v w s.seat same exact few;
       scanned_is = scanned;
       event = s.event ∙ sym event;
       idle = λ e. idle (sym event ∙ e);
@@ -85,15 +110,15 @@ answers_await table table' v w t answer given seat load same is =
     record {
       load = subst (λ f. LoadsAwait v.plan v.mode t f v w) (sym is) load;
       table = same;
-      kept = loaded_seat table table' v w seat load.same load.seen_now.place.exact;
+      kept = loaded_seat table table' v w seat load.same load.seen_now.place.exact (few_await table v w v.plan v.mode t answer seat load);
     }
 
 pub answers_phase :
-    (table table' : TableId) (v w : View) (t p : ℕ) (answer given : Option ℕ) → IsSeat (record { table = table; view = v }) → LoadsPhase v.plan v.mode t p answer v w → table' ≡ table → given ≡ answer →
+    (table table' : TableId) (v w : View) (t p : ℕ) (answer given : Option ℕ) → IsSeat (record { table = table; view = v }) → t < length v.plan.parents → LoadsPhase v.plan v.mode t p answer v w → table' ≡ table → given ≡ answer →
     AnswersPhase t p given (record { table = table; view = v }) (record { table = table'; view = w })
-answers_phase table table' v w t p answer given seat load same is =
+answers_phase table table' v w t p answer given seat small load same is =
     record {
       load = subst (λ f. LoadsPhase v.plan v.mode t p f v w) (sym is) load;
       table = same;
-      kept = loaded_seat table table' v w seat load.same load.seen_now.exact;
+      kept = loaded_seat table table' v w seat load.same load.seen_now.exact (few_phase table v w v.mode t p answer seat small load);
     }

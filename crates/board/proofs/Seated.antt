@@ -19,7 +19,7 @@ use Rattle.armus_base.proofs.Codes.{child_later, child_within}
 use Rattle.board.specs.declared.view.View.{View}
 use Rattle.board.specs.Views.{avoids, is_among, next_action, own_place, place_in, seen, task_of}
 use Rattle.board.specs.Words.{phase_index}
-use Rattle.board.specs.Steps.{after_action, child, forked_by, next_view, own_phase}
+use Rattle.board.specs.Steps.{after_action, child, forked_by, next_view, own_phase, scanned_next}
 use Rattle.board.specs.Seats.{Frame, IsNewSeat, IsByMember, IsOf, IsSeat, Known, MakesStep, MayPublish, NeedsMember, event_of}
 use Rattle.board.specs.Sitting.{IsSitting}
 use Rattle.board.proofs.Sights.{seen_stepped, set_place}
@@ -32,12 +32,24 @@ some_same u w e = cc
 pub task_inside : (k : Known) (t : ℕ) → IsSeat k → k.view.own ≡ Some t → task_of k.view < length k.view.sight.places
 task_inside k t seat own = (let o = seat.own t own in let small = o.0 in let c = seat.count in let e : task_of k.view ≡ t = ap (λ x. unwrap_or x 0) own in omega arith)
 
+-- no more is scanned after an own action
+scanned_less : (x : Action) (k : ℕ) → scanned_next x k ≤ k
+scanned_less (Makes p) k = omega arith
+scanned_less (Registers c p) k = omega arith
+scanned_less (Forks c) k = omega arith
+scanned_less (Advances p) k = omega arith
+scanned_less (Drops p) k = omega arith
+scanned_less (Blocks p) k = omega arith
+scanned_less (Passes p) k = omega arith
+scanned_less (Refuses p) k = omega arith
+
 -- a seat stays one
 pub seat_next : (table table' : TableId) (v w : View) → IsSeat (record { table = table; view = v }) → w ≡ next_view v → IsSeat (record { table = table'; view = w })
 seat_next table table' v w seat is = subst (λ (u : View). IsSeat (record { table = table'; view = u })) (sym is) (record {
   live = seat.live;
   checked = seat.checked;
   count = length-set v.sight.places (task_of v) (next_place (own_place v).done (own_place v).dropped (unwrap_or (next_action v) (Drops 0))) ∙ seat.count;
+  few = (let l = scanned_less (unwrap_or (next_action v) (Drops 0)) v.sight.scanned in let f = seat.few in omega arith);
   own = λ t e. seat.own t e;
 })
 
@@ -363,6 +375,7 @@ child_sitting table table' v w t n c o s next unseen apart is =
       live = s.seat.live;
       checked = s.seat.checked;
       count = (seat_next table table' v (next_view v) s.seat refl).count;
+      few = omega arith;
       own = λ u e.
           let same : c ≡ u = some_same c u (sym (ap (λ o. Some (forked_by o)) next) ∙ e) in (
             subst (λ x. x < length v.plan.parents) same small,

@@ -1,5 +1,5 @@
 -- What a viewer has seen after it took in a seat.
-use Rattle.std.proofs.Common.{◌≡◌, ℕ, true, Option, Some, None, length, sym, refl, ap, ◌∙◌, subst}
+use Rattle.std.proofs.Common.{◌≡◌, ℕ, true, Option, Some, None, length, sym, refl, ap, ◌∙◌, subst, ◌≤◌, arith}
 use Rattle.atomic_table.specs.Seated.{TableId}
 use Rattle.armus_base.specs.Plans.{Plan}
 use Rattle.armus_base.specs.Seats.{IsSeenAfterTakingIn}
@@ -36,6 +36,7 @@ module _ (table : TableId) (v w x : View) (alone : v.own ≡ None) (mine : IsSea
     live = mine.live;
     checked = mine.checked;
     count = longer_count v.sight.places w.sight.places same_count ∙ mine.count;
+    few = omega arith;
     own = λ u e. absurd (none_some v.own u alone e);
   })
 

@@ -1,5 +1,5 @@
 -- What contracts see of a board and of its seats, and what the calls make of a seat.
-use Rattle.std.specs.Prelude.{◌≡◌, ℕ, ◌<◌, true, false, Option, Some, None, length, IsSome}
+use Rattle.std.specs.Prelude.{◌≡◌, ℕ, ◌<◌, ◌≤◌, true, false, Option, Some, None, length, IsSome}
 use Rattle.atomic_table.specs.Seated.{TableId}
 use Rattle.armus_base.specs.declared.event.Event.{Event}
 use Rattle.armus_base.specs.Plans.{Plan, Action, Registers, Advances, Blocks, Drops, Passes}
@@ -30,11 +30,12 @@ pub record IsOf (seat : Known) (board : Frame) : Type 0 where
   pub plan : seat.view.plan ≡ board.plan
   pub mode : seat.view.mode ≡ board.mode
 
--- what every seat keeps: it is not taken in, its plan is checked, it knows a place of each task, and that of its own task exactly
+-- what every seat keeps: it is not taken in, its plan is checked, it knows a place of each task, and that of its own task exactly, and has scanned tasks of the plan alone
 pub record IsSeat (seat : Known) : Type 0 where
   pub live : seat.view.spent ≡ false
   pub checked : IsCheckedPlan seat.view.plan
   pub count : length seat.view.sight.places ≡ length seat.view.plan.parents
+  pub few : (seen seat.view).scanned ≤ length seat.view.plan.parents
   pub own : (t : ℕ) → seat.view.own ≡ Some t → (t < length seat.view.plan.parents) × ((seen seat.view).exact t ≡ true)
 
 -- the event on which the seat's own task is published

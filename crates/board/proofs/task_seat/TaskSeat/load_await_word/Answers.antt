@@ -6,7 +6,7 @@ use Rattle.board.specs.Views.{found_of}
 use Rattle.board.specs.Seats.{AnswersAwait, Frame, IsOf, Known}
 use Rattle.board.specs.Steps.{Watched}
 use Rattle.board.proofs.Loading.{watches}
-use Rattle.board.proofs.Loaded.{answers_await, loads_sitting, watched_told}
+use Rattle.board.proofs.Loaded.{answers_await, few_await, loads_sitting, watched_told}
 use Rattle.board.proofs.task_seat.TaskSeat.load_await_word.Goals as goal
 
 pub load-word-requires : goal.load-word-requires
@@ -42,6 +42,6 @@ invariant_of-self c =
     let t = watched_told 0 _ _ _ _ c.args.t.0 c.args.board.now c.self.inside.place.table_id c.load-word.ensures.2 (subst (λ k. IsOf k c.args.board.now) (sym c.self.view_is) c.requires.made) c.requires.task c.await_index-index.ensures.index in
     let i = c.self.invariant.sitting in record {
       no_slot = c.load-word.ensures.2.0 ∙ c.self.invariant.no_slot;
-      sitting = loads_sitting c.self.inside.place.table_id c.load-word.new.seat.table_id c.self.inside.place.me.0 c.load-word.new.seat.me.0 _ _ _ _ _ _ i t.3.same t.3.seen_now.place.exact t.3.was
+      sitting = loads_sitting c.self.inside.place.table_id c.load-word.new.seat.table_id c.self.inside.place.me.0 c.load-word.new.seat.me.0 _ _ _ _ _ _ i t.3.same t.3.seen_now.place.exact t.3.was (few_await c.self.inside.place.table_id c.self.inside.place.me.0 c.load-word.new.seat.me.0 c.self.inside.place.me.0.plan c.self.inside.place.me.0.mode c.args.t.0 t.0 c.self.invariant.sitting.seat t.3)
           (i.scanned_is ∙ sym t.3.seen_now.scanned) i.idle;
     }

@@ -8,7 +8,7 @@ use Rattle.board.specs.Words.{phase_index}
 use Rattle.board.specs.Seats.{AnswersPhase, Frame, IsOf, Known}
 use Rattle.board.specs.Steps.{Looked}
 use Rattle.board.proofs.Loading.{looks}
-use Rattle.board.proofs.Loaded.{answers_phase, loads_sitting, looked_told}
+use Rattle.board.proofs.Loaded.{answers_phase, few_phase, loads_sitting, looked_told}
 use Rattle.board.proofs.task_seat.TaskSeat.load_phase_word.Goals as goal
 
 pub load-word-requires : goal.load-word-requires
@@ -38,7 +38,7 @@ returns c =
     let t = looked_told 0 _ _ _ _ c.args.t.0 c.args.p.0 c.args.board.now c.self.inside.place.table_id c.load-word.ensures.2 (subst (λ k. IsOf k c.args.board.now) (sym c.self.view_is) c.requires.made) c.requires.task c.requires.phaser c.phase_index-index.ensures.index in
     record {
       answer = subst (λ (k : Known). AnswersPhase c.args.t.0 c.args.p.0 c.phase_of-found.result k (record { table = c.load-word.new.seat.table_id; view = c.load-word.new.seat.me.0 })) c.self.view_is
-          (answers_phase c.self.inside.place.table_id c.load-word.new.seat.table_id c.self.inside.place.me.0 c.load-word.new.seat.me.0 c.args.t.0 c.args.p.0 t.0 c.phase_of-found.result c.self.invariant.sitting.seat t.3 c.load-word.ensures.0 (c.phase_of-found.ensures t.0 t.1));
+          (answers_phase c.self.inside.place.table_id c.load-word.new.seat.table_id c.self.inside.place.me.0 c.load-word.new.seat.me.0 c.args.t.0 c.args.p.0 t.0 c.phase_of-found.result c.self.invariant.sitting.seat (subst (λ (q : Plan). c.args.t.0 < length q.parents) (sym (subst (λ k. IsOf k c.args.board.now) (sym c.self.view_is) c.requires.made).plan) c.requires.task) t.3 c.load-word.ensures.0 (c.phase_of-found.ensures t.0 t.1));
     }
 
 pub scanned_next-self-inside-requires : goal.scanned_next-self-inside-requires
@@ -55,7 +55,7 @@ invariant_of-self c =
     let found = c.phase_of-found.ensures t.0 t.1 in
     let scanned = c.scanned_next-self-inside.ensures in record {
       no_slot = c.load-word.ensures.2.0 ∙ c.self.invariant.no_slot;
-      sitting = loads_sitting c.self.inside.place.table_id c.load-word.new.seat.table_id c.self.inside.place.me.0 c.load-word.new.seat.me.0 _ _ _ _ _ _ i t.3.same t.3.seen_now.exact t.3.was
+      sitting = loads_sitting c.self.inside.place.table_id c.load-word.new.seat.table_id c.self.inside.place.me.0 c.load-word.new.seat.me.0 _ _ _ _ _ _ i t.3.same t.3.seen_now.exact t.3.was (few_phase c.self.inside.place.table_id c.self.inside.place.me.0 c.load-word.new.seat.me.0 c.self.inside.place.me.0.mode c.args.t.0 c.args.p.0 t.0 c.self.invariant.sitting.seat (subst (λ (q : Plan). c.args.t.0 < length q.parents) (sym (subst (λ k. IsOf k c.args.board.now) (sym c.self.view_is) c.requires.made).plan) c.requires.task) t.3)
           (scanned ∙ (λ j. scanned_after (i.event j) (i.scanned_is j) c.args.t.0 c.args.p.0 (found j)) ∙ sym t.3.seen_now.scanned)
           (λ idle. scanned ∙ ap (λ o. scanned_after o c.self.inside.scanned c.args.t.0 c.args.p.0 c.phase_of-found.result) (i.event ∙ idle) ∙ i.idle idle);
     }

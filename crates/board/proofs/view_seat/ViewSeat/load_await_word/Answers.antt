@@ -6,7 +6,7 @@ use Rattle.board.specs.Views.{found_of}
 use Rattle.board.specs.Seats.{AnswersAwait, Frame, IsOf, Known}
 use Rattle.board.specs.Steps.{Watched}
 use Rattle.board.proofs.Loading.{watches}
-use Rattle.board.proofs.Loaded.{answers_await, loaded_seat, watched_told}
+use Rattle.board.proofs.Loaded.{answers_await, few_await, loaded_seat, watched_told}
 use Rattle.board.proofs.view_seat.ViewSeat.load_await_word.Goals as goal
 
 pub load-word-requires : goal.load-word-requires
@@ -43,5 +43,5 @@ invariant_of-self c =
       no_slot = c.load-word.ensures.2.0 ∙ c.self.invariant.no_slot;
       alone = t.3.same.own ∙ c.self.invariant.alone;
       free = t.3.same.holds ∙ c.self.invariant.free;
-      seat = loaded_seat c.self.inside.place.table_id c.load-word.new.seat.table_id c.self.inside.place.me.0 c.load-word.new.seat.me.0 c.self.invariant.seat t.3.same t.3.seen_now.place.exact;
+      seat = loaded_seat c.self.inside.place.table_id c.load-word.new.seat.table_id c.self.inside.place.me.0 c.load-word.new.seat.me.0 c.self.invariant.seat t.3.same t.3.seen_now.place.exact (few_await c.self.inside.place.table_id c.self.inside.place.me.0 c.load-word.new.seat.me.0 c.self.inside.place.me.0.plan c.self.inside.place.me.0.mode c.args.t.0 t.0 c.self.invariant.seat t.3);
     }

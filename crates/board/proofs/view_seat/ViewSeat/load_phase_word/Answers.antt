@@ -1,12 +1,13 @@
 use Rattle.std.proofs.Common.{ℕ, ◌<◌, length, sym, ap, ◌∙◌, subst, subst₂}
 use mathlib.Core.Option.{none}
 use Rattle.atomic_table.specs.Table.{Allows, step}
+use Rattle.armus_base.specs.Plans.{Plan}
 use Rattle.board.specs.Rule.{IsKept}
 use Rattle.board.specs.Words.{phase_index}
 use Rattle.board.specs.Seats.{AnswersPhase, Frame, IsOf, Known}
 use Rattle.board.specs.Steps.{Looked}
 use Rattle.board.proofs.Loading.{looks}
-use Rattle.board.proofs.Loaded.{answers_phase, loaded_seat, looked_told}
+use Rattle.board.proofs.Loaded.{answers_phase, few_phase, loaded_seat, looked_told}
 use Rattle.board.proofs.view_seat.ViewSeat.load_phase_word.Goals as goal
 
 pub load-word-requires : goal.load-word-requires
@@ -36,7 +37,7 @@ returns c =
     let t = looked_told 0 _ _ _ _ c.args.t.0 c.args.p.0 c.args.board.now c.self.inside.place.table_id c.load-word.ensures.2 (subst (λ k. IsOf k c.args.board.now) (sym c.self.view_is) c.requires.made) c.requires.task c.requires.phaser c.phase_index-index.ensures.index in
     record {
       answer = subst (λ (k : Known). AnswersPhase c.args.t.0 c.args.p.0 c.phase_of.result k (record { table = c.load-word.new.seat.table_id; view = c.load-word.new.seat.me.0 })) c.self.view_is
-          (answers_phase c.self.inside.place.table_id c.load-word.new.seat.table_id c.self.inside.place.me.0 c.load-word.new.seat.me.0 c.args.t.0 c.args.p.0 t.0 c.phase_of.result c.self.invariant.seat t.3 c.load-word.ensures.0 (c.phase_of.ensures t.0 t.1));
+          (answers_phase c.self.inside.place.table_id c.load-word.new.seat.table_id c.self.inside.place.me.0 c.load-word.new.seat.me.0 c.args.t.0 c.args.p.0 t.0 c.phase_of.result c.self.invariant.seat (subst (λ (q : Plan). c.args.t.0 < length q.parents) (sym (subst (λ k. IsOf k c.args.board.now) (sym c.self.view_is) c.requires.made).plan) c.requires.task) t.3 c.load-word.ensures.0 (c.phase_of.ensures t.0 t.1));
     }
 
 pub invariant_of-self : goal.invariant_of-self
@@ -45,5 +46,5 @@ invariant_of-self c =
       no_slot = c.load-word.ensures.2.0 ∙ c.self.invariant.no_slot;
       alone = t.3.same.own ∙ c.self.invariant.alone;
       free = t.3.same.holds ∙ c.self.invariant.free;
-      seat = loaded_seat c.self.inside.place.table_id c.load-word.new.seat.table_id c.self.inside.place.me.0 c.load-word.new.seat.me.0 c.self.invariant.seat t.3.same t.3.seen_now.exact;
+      seat = loaded_seat c.self.inside.place.table_id c.load-word.new.seat.table_id c.self.inside.place.me.0 c.load-word.new.seat.me.0 c.self.invariant.seat t.3.same t.3.seen_now.exact (few_phase c.self.inside.place.table_id c.self.inside.place.me.0 c.load-word.new.seat.me.0 c.self.inside.place.me.0.mode c.args.t.0 c.args.p.0 t.0 c.self.invariant.seat (subst (λ (q : Plan). c.args.t.0 < length q.parents) (sym (subst (λ k. IsOf k c.args.board.now) (sym c.self.view_is) c.requires.made).plan) c.requires.task) t.3);
     }
