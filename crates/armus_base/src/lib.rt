@@ -39,4 +39,6 @@ pub use status::{Dead, Member, Status};
 pub use write::write_text;
 
 #[cfg(test)]
+mod list_tests;
+#[cfg(test)]
 mod outside_tests;
