@@ -27,3 +27,9 @@ pub cell_within : (i j w a : ℕ) → i < w → j < a → i * a + j < w * a
 cell_within i j w a row column =
     let rows : (i + 1) * a ≤ w * a = mul-le-mul_right a (omega arith) in
     grind (arith, rows)
+
+-- counts by equal tests
+pub count_same : (test is : ℕ → Bool) (n : ℕ) → ((k : ℕ) → test k ≡ is k) → count_below test n ≡ count_below is n
+count_same test is zero same = refl
+count_same test is (suc n) same =
+    ap (λ b. if b then count_below test n + 1 else count_below test n) (same n) ∙ ap (λ c. if is n then c + 1 else c) (count_same test is n same)

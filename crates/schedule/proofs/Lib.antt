@@ -3,3 +3,10 @@ pub mod Cuts
 pub mod Counts
 pub mod Moments
 pub mod PassesNameTheDead
+pub mod Marks
+pub mod Rows
+pub mod Passing
+pub mod Awaiting
+pub mod Phasing
+pub mod Following
+pub mod Replaying

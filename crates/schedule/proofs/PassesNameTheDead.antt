@@ -79,12 +79,12 @@ module _ (plan : Plan) (checked : IsCheckedPlan plan) where
         let began_g : 0 < done_by (places g) t = (let same = ap (λ a. a.done) same_there in omega arith) in
         phases_fixed g run_g t began_g p ∙ ap (λ a. phases_at_place plan t a p) same_there ∙ sym (phases_fixed h run_h t began p)
 
-  published_task : (h : List Step) → IsLegalRun plan h → (t : ℕ) (e : Event) → (state_after h).published t ≡ Some e → t < length plan.parents
+  pub published_task : (h : List Step) → IsLegalRun plan h → (t : ℕ) (e : Event) → (state_after h).published t ≡ Some e → t < length plan.parents
   published_task h run t e p =
       published_within plan checked (places h) t e (ap (λ s. s.published t) (sym (places_fix plan checked h run).0) ∙ p)
 
   -- the phaser of an event on which a task is published is one of the plan
-  published_phaser : (h : List Step) → IsLegalRun plan h → (t : ℕ) (e : Event) → (state_after h).published t ≡ Some e → e.p.0 < length plan.makers
+  pub published_phaser : (h : List Step) → IsLegalRun plan h → (t : ℕ) (e : Event) → (state_after h).published t ≡ Some e → e.p.0 < length plan.makers
   published_phaser h run t e p =
       let (n, member) = published_member plan h run t e p in
       made_one (places h) e.p.0 (ap (λ s. s.made e.p.0) (sym (places_fix plan checked h run).0) ∙ member_made plan h run t e.p.0 n member)
@@ -270,20 +270,24 @@ module _ (plan : Plan) (checked : IsCheckedPlan plan) where
   loaded_kept a kept loads moments false full =
       record { run = kept.run; opened = λ other e. (let same : loads ≡ other = cc in subst (λ l. AreMoments plan l a.run) same moments); closed = kept.closed }
 
+  -- the next step of a plain run
+  pub plain_next : (h : List Step) → IsPlainRun plan h → (t : ℕ) (x : Action) → IsNext plan h t x → IsPlainRun plan (record { task = t; action = x } ∷ h)
+  plain_next h run t x next = ((run.0, record { legal = next.legal; by_code = by_code }), (run.1, other))
+    where
+      other : (p : ℕ) → x ≢ Refuses p
+      other p same = no_refusal plan t (places h t).done p (subst (λ y. action_at plan t (places h t).done ≡ Some y) same next.by_code)
+
+      by_code : IsByCode plan t (places h t).done (places h t).dropped x
+      by_code = subst (λ o. IsByCode plan t (places h t).done o x) (sym (plain_undropped plan h run t)) (next.by_code ∙ ap Some (sym (in_code_plain x other)))
+
   -- one more step
   stepped_kept : (a : Progress) → IsKept a → (t : ℕ) (x : Action) → IsNext plan a.run t x → IsKept (record a { run = record { task = t; action = x } ∷ a.run })
   stepped_kept a kept t x next =
       record {
-        run = ((kept.run.0, record { legal = next.legal; by_code = by_code }), (kept.run.1, other));
+        run = plain_next a.run kept.run t x next;
         opened = λ loads e. moments_stay plan loads a.run (record { task = t; action = x }) (kept.opened loads e);
         closed = kept.closed;
       }
-    where
-      other : (p : ℕ) → x ≢ Refuses p
-      other p same = no_refusal plan t (places a.run t).done p (subst (λ y. action_at plan t (places a.run t).done ≡ Some y) same next.by_code)
-
-      by_code : IsByCode plan t (places a.run t).done (places a.run t).dropped x
-      by_code = subst (λ o. IsByCode plan t (places a.run t).done o x) (sym (plain_undropped plan a.run kept.run t)) (next.by_code ∙ ap Some (sym (in_code_plain x other)))
 
   takes_kept : (a : Progress) (next : Line) (b : Progress) → IsKept a → Takes plan a next b → IsKept b
   takes_kept a (line.Step t) b kept (x, next, is) = subst IsKept (sym is) (stepped_kept a kept t x next)

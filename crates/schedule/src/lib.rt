@@ -3,8 +3,12 @@
 
 mod laws;
 mod lines;
+mod pass;
+mod replay;
 mod split;
+mod verdict;
 
 pub use laws::passes_name_the_dead;
 pub use lines::{Line, read_lines};
+pub use verdict::{PassVerdict, ReplayEnd, Replayed, ScheduleFault};
 pub use split::split_input;
