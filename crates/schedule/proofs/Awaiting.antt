@@ -1,21 +1,18 @@
 -- An open pass, one await cell further.
-use Rattle.std.proofs.Common.{◌≡◌, ◌<◌, ◌≤◌, ◌+◌, ◌*◌, ◌∙◌, ◌||◌, ◌⊎◌, ℕ, zero, suc, Bool, true, false, List, [], ◌∷◌, ◌++◌, Option, Some, None, length, take, arith, sym, subst, ap, inl, inr, refl, append-nil, append_assoc, length-append}
-use Rattle.std.specs.Prelude.{All, slice_get, is_some, if◌then◌else◌, option_to_list, option_map, map, min, ◌==◌}
-use Rattle.std.specs.List.{flat_map, list_any}
-use Rattle.std.proofs.lemmas.Bool.{cases_eq, cases_lt}
+use Rattle.std.proofs.Common.{◌≡◌, ◌<◌, ◌+◌, ◌*◌, ◌∙◌, ◌||◌, ℕ, zero, suc, Bool, true, false, List, [], ◌∷◌, ◌++◌, Option, Some, None, length, take, arith, sym, subst, ap, refl, append_assoc, length-append}
+use Rattle.std.specs.Prelude.{All, slice_get, if◌then◌else◌, option_to_list, option_map, map, min, ◌==◌}
+use Rattle.std.specs.List.{list_any}
 use Rattle.std.proofs.lemmas.List.Elements.{All-append}
 use Rattle.armus_base.specs.declared.event.Event.{Event}
-use Rattle.armus_base.specs.declared.ids.PhaserId.{PhaserId}
 use Rattle.armus_base.specs.CheckedPlans.{Extends, IsCheckedPlan}
 use Rattle.armus_base.specs.Finals.{given_below, is_event_of}
-use Rattle.armus_base.specs.Places.{some_before}
 use Rattle.armus_base.specs.Plans.{Plan}
 use Rattle.armus_base.specs.Runs.{IsPlainRun, state_after}
 use Rattle.armus_base.specs.States.{Step}
 use Rattle.schedule.specs.declared.pass.OpenPass.{OpenPass}
 use Rattle.schedule.specs.declared.pass.Waiting.{Waiting}
-use Rattle.schedule.specs.Passes.{Loads, event_found, event_after, is_found_awaited}
-use Rattle.schedule.specs.OpenPasses.{IsPassOf, HasAwaits, HasPhases, HasPlace, KeepsEvent, phaser_of, waiting_found, awaited_found, status_with, row_found}
+use Rattle.schedule.specs.Passes.{Loads, event_found, event_after}
+use Rattle.schedule.specs.OpenPasses.{IsPassOf, HasPhases, KeepsEvent, phaser_of, waiting_found, awaited_found, status_with, row_found}
 use Rattle.std.proofs.Common.{eq-eqb, get_or}
 use Rattle.armus_base.proofs.Below.{given_from}
 use Rattle.schedule.proofs.Marks.{given_more, given_same}
@@ -54,7 +51,7 @@ some_awaited phasers [] l all = absurd (omega arith)
 some_awaited phasers (w ∷ ws) l all =
     let p = w.event.p.0 in
     let (k, within, is) = given_from (phaser_of (w ∷ ws)) phasers p (record { 0 = p }) (all 0 w (omega arith))
-        (ap (λ b. if (b || list_any (λ (v : Waiting). v.event.p.0 == p) ws) then Some (record { 0 = p }) else None) (eq-eqb p p refl)) in
+    (ap (λ b. if (b || list_any (λ (v : Waiting). v.event.p.0 == p) ws) then Some (record { 0 = p }) else None) (eq-eqb p p refl)) in
     omega arith
 
 module _ (plan : Plan) (checked : IsCheckedPlan plan) (loads : Loads) (h : List Step) (run : IsPlainRun plan h) (pass new : OpenPass) (of : IsPassOf plan loads pass) (few : length loads < length plan.parents) (loads_one : LoadsAwait plan pass new ((state_after h).published pass.loaded)) where
@@ -67,7 +64,7 @@ module _ (plan : Plan) (checked : IsCheckedPlan plan) (loads : Loads) (h : List 
   waiting_more : (all : Loads) → Extends all (loads ++ h ∷ []) → new.waiting.items ≡ given_below (waiting_found all) new.loaded
   waiting_more all ext =
       let found : event_found all pass.loaded ≡ (state_after h).published pass.loaded =
-          ap (λ t. event_after pass.loaded (slice_get all t)) here ∙ ap (event_after pass.loaded) (has_next all loads h ext) in
+      ap (λ t. event_after pass.loaded (slice_get all t)) here ∙ ap (event_after pass.loaded) (has_next all loads h ext) in
       loads_one.kept.waiting
       ∙ ap (λ l. l ++ option_to_list (option_map (λ e. record { t = record { 0 = pass.loaded }; event = e }) ((state_after h).published pass.loaded))) (of.awaits.waiting all (extends_less all loads h ext))
       ∙ ap (λ o. given_below (waiting_found all) pass.loaded ++ option_to_list (option_map (λ e. record { t = record { 0 = pass.loaded }; event = e }) o)) (sym found)
@@ -78,9 +75,9 @@ module _ (plan : Plan) (checked : IsCheckedPlan plan) (loads : Loads) (h : List 
   awaited_more all ext full =
       loads_one.awaited full
       ∙ given_same (phaser_of new.waiting.items) (awaited_found plan all) (length plan.makers) (λ p l.
-        ap (λ b. if b then Some (record { 0 = p }) else None)
-          (ap (list_any (λ (w : Waiting). w.event.p.0 == p)) (waiting_more all ext ∙ ap (given_below (waiting_found all)) full)
-            ∙ any_given (λ (w : Waiting). w.event.p.0 == p) (waiting_found all) (λ t. is_event_of p (event_found all t)) (length plan.parents) (λ t m. one_event p (event_found all t) t)))
+      ap (λ b. if b then Some (record { 0 = p }) else None)
+      (ap (list_any (λ (w : Waiting). w.event.p.0 == p)) (waiting_more all ext ∙ ap (given_below (waiting_found all)) full)
+      ∙ any_given (λ (w : Waiting). w.event.p.0 == p) (waiting_found all) (λ t. is_event_of p (event_found all t)) (length plan.parents) (λ t m. one_event p (event_found all t) t)))
 
   phasers_more : All (λ (w : Waiting). w.event.p.0 < length plan.makers) new.waiting.items
   phasers_more =
@@ -107,8 +104,8 @@ module _ (plan : Plan) (checked : IsCheckedPlan plan) (loads : Loads) (h : List 
           cells = cells full;
           row = (let z = no_row.0 in let s = loads_one.kept.row in omega arith);
           column = λ less. (let z = no_row.1 in let s = loads_one.kept.column in let w = no_row.0 in let r = loads_one.kept.row in
-            let some = some_awaited (length plan.makers) new.waiting.items (omega arith) phasers_more in
-            let l = ap length (loads_one.awaited full) in omega arith);
+              let some = some_awaited (length plan.makers) new.waiting.items (omega arith) phasers_more in
+              let l = ap length (loads_one.awaited full) in omega arith);
           last = λ _. loads_one.kept.column ∙ no_row.1;
         };
         first = λ _. (loads_one.kept.row ∙ no_row.0, loads_one.kept.column ∙ no_row.1);

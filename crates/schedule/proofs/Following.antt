@@ -1,11 +1,11 @@
 -- Worlds that follow a run: their states, and who is published in them.
-use Rattle.std.proofs.Common.{◌≡◌, ◌≢◌, ◌<◌, ◌∙◌, ℕ, Bool, true, false, List, Option, Some, None, sym, ap, subst, refl, arith, true≢false}
+use Rattle.std.proofs.Common.{◌≡◌, ◌≢◌, ◌∙◌, ℕ, true, List, Option, Some, None, sym, ap, refl, arith}
 use Rattle.armus_base.specs.declared.event.Event.{Event}
 use Rattle.armus_base.specs.CheckedPlans.{IsCheckedPlan}
-use Rattle.armus_base.specs.Plans.{Plan, Passes, action_at}
-use Rattle.armus_base.specs.Places.{state_at, published_after, forked_at, done_by}
-use Rattle.armus_base.specs.Runs.{IsReachable, places, state_after}
-use Rattle.armus_base.specs.States.{State, Step}
+use Rattle.armus_base.specs.Plans.{action_at}
+use Rattle.armus_base.specs.Places.{state_at, published_after}
+use Rattle.armus_base.specs.Runs.{IsReachable, state_after}
+use Rattle.armus_base.specs.States.{Step}
 use Rattle.armus_base.proofs.Codes.{passes_next}
 use Rattle.armus_base.proofs.FoundArePublished.{not_both}
 use Rattle.armus_base.proofs.Published.{published_after_is}

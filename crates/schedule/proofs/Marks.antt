@@ -1,14 +1,12 @@
 -- Phasers that are marked, and the marks of tasks found waiting.
-use Rattle.std.proofs.Common.{◌≡◌, ◌≢◌, ◌<◌, ◌≤◌, ◌+◌, ◌∙◌, ◌||◌, ℕ, zero, suc, Bool, true, false, List, [], ◌∷◌, ◌++◌, Option, Some, None, length, take, set, get_or, arith, sym, subst, ap, inl, inr, refl, append-nil, add-one, ◌==◌}
+use Rattle.std.proofs.Common.{◌≡◌, ◌<◌, ◌≤◌, ◌+◌, ◌∙◌, ◌||◌, ℕ, zero, suc, Bool, true, false, List, [], ◌∷◌, ◌++◌, Option, Some, None, length, take, set, get_or, arith, sym, subst, ap, inl, inr, refl, append-nil, add-one, ◌==◌}
 use Rattle.std.specs.Prelude.{slice_get, unwrap_or, if◌then◌else◌, option_to_list}
 use Rattle.std.specs.List.{list_any}
 use Rattle.std.proofs.lemmas.Bool.{cases_eq, eq-eqb, ne_eqb}
-use Rattle.std.proofs.lemmas.Bool.Decides.{nat_tests}
 use Rattle.std.proofs.lemmas.List.{take_more, take_all}
 use Rattle.std.proofs.lemmas.List.Folds.{list_any-append}
 use Rattle.std.proofs.lemmas.Option.{slice_get-get_or}
 use Rattle.std.proofs.Math.ListN.{length-set}
-use Rattle.armus_base.specs.declared.ids.PhaserId.{PhaserId}
 use Rattle.armus_base.specs.Finals.{given_below}
 use Rattle.pl_core.proofs.Cells.{slice_get-set_same, slice_get-set_other}
 use Rattle.schedule.specs.declared.pass.Waiting.{Waiting}
@@ -83,5 +81,5 @@ pub marks_are : (marks : List Bool) (waiting : List Waiting) (phasers : ℕ) →
 marks_are marks waiting phasers are =
     ap (given_below (marked marks)) are.all
     ∙ given_same (marked marks) (phaser_of waiting) phasers
-      (λ p l. ap (λ o. if unwrap_or o false then Some (record { 0 = p }) else None) (are.each p l)
-        ∙ ap (λ t. if list_any (λ w. w.event.p.0 == p) t then Some (record { 0 = p }) else None) (take_all (length waiting) waiting (omega arith)))
+    (λ p l. ap (λ o. if unwrap_or o false then Some (record { 0 = p }) else None) (are.each p l)
+    ∙ ap (λ t. if list_any (λ w. w.event.p.0 == p) t then Some (record { 0 = p }) else None) (take_all (length waiting) waiting (omega arith)))

@@ -1,20 +1,16 @@
 -- An open pass: how many loads it has, and what it makes of them when it is full.
-use Rattle.std.proofs.Common.{◌≡◌, ◌≢◌, ◌<◌, ◌≤◌, ◌+◌, ◌*◌, ◌∙◌, ◌||◌, ◌⊎◌, ℕ, zero, suc, Bool, true, false, List, [], ◌∷◌, ◌++◌, Option, Some, None, length, take, arith, sym, subst, ap, inl, inr, refl, append-nil}
-use Rattle.std.specs.Prelude.{slice_get, is_some, if◌then◌else◌, option_to_list, option_map, map, min}
-use Rattle.std.specs.List.{flat_map, list_any}
-use Rattle.std.proofs.lemmas.Bool.{cases_eq, cases_lt}
+use Rattle.std.proofs.Common.{◌≡◌, ◌≢◌, ◌<◌, ◌≤◌, ◌+◌, ◌*◌, ◌∙◌, ℕ, Bool, true, false, List, [], Option, Some, None, length, take, arith, sym, ap, inl, inr, refl, append-nil}
+use Rattle.std.specs.Prelude.{is_some, if◌then◌else◌, option_map, map, min}
+use Rattle.std.proofs.lemmas.Bool.{cases_lt}
 use Rattle.std.proofs.lemmas.List.{take_all}
 use Rattle.armus_base.specs.declared.event.Event.{Event}
 use Rattle.armus_base.specs.declared.ids.PhaserId.{PhaserId}
-use Rattle.armus_base.specs.declared.status.Status.{Status}
 use Rattle.armus_base.specs.CheckedPlans.{Extends}
-use Rattle.armus_base.specs.Finals.{given_below, status_of, listed_phase, is_event_of}
-use Rattle.armus_base.specs.Places.{some_before}
+use Rattle.armus_base.specs.Finals.{given_below, listed_phase}
 use Rattle.armus_base.specs.Plans.{Plan}
 use Rattle.schedule.specs.declared.pass.OpenPass.{OpenPass}
-use Rattle.schedule.specs.declared.pass.Waiting.{Waiting}
-use Rattle.schedule.specs.Passes.{Loads, count_below, event_found, is_found_awaited, waiting_below, awaited_below, phases_found, loads_of, state_found, statuses_found}
-use Rattle.schedule.specs.OpenPasses.{IsPassOf, HasPlace, waiting_found, awaited_found, status_with}
+use Rattle.schedule.specs.Passes.{Loads, event_found, is_found_awaited, waiting_below, awaited_below, phases_found, loads_of, statuses_found}
+use Rattle.schedule.specs.OpenPasses.{IsPassOf, waiting_found, awaited_found, status_with}
 use Rattle.schedule.proofs.Counts.{cell_within, count_same}
 use Rattle.schedule.proofs.Rows.{length_given, map_given}
 use Rattle.schedule.proofs.Marks.{given_same}
@@ -73,7 +69,7 @@ full_rows plan loads pass of full =
     let r = rows_are plan loads pass of all in
     let c = columns_are plan loads pass of all in
     let same : loads_of plan loads ≡ length plan.parents + length pass.waiting.items * length pass.awaited.items =
-        ap (λ x. length plan.parents + x * awaited_below plan loads (length plan.makers)) (sym r) ∙ ap (λ x. length plan.parents + length pass.waiting.items * x) (sym c) in
+    ap (λ x. length plan.parents + x * awaited_below plan loads (length plan.makers)) (sym r) ∙ ap (λ x. length plan.parents + length pass.waiting.items * x) (sym c) in
     elim (cases_lt pass.row (length pass.waiting.items)) [
       | inl less ↦ absurd (let cell = cell_within pass.row pass.column (length pass.waiting.items) (length pass.awaited.items) less (place.column less) in let cells = place.cells in omega arith)
       | inr more ↦ (let within = place.row in omega arith)
@@ -86,7 +82,7 @@ loads_left plan loads pass of all other =
     let r = rows_are plan loads pass of all in
     let c = columns_are plan loads pass of all in
     let same : loads_of plan loads ≡ length plan.parents + length pass.waiting.items * length pass.awaited.items =
-        ap (λ x. length plan.parents + x * awaited_below plan loads (length plan.makers)) (sym r) ∙ ap (λ x. length plan.parents + length pass.waiting.items * x) (sym c) in
+    ap (λ x. length plan.parents + x * awaited_below plan loads (length plan.makers)) (sym r) ∙ ap (λ x. length plan.parents + length pass.waiting.items * x) (sym c) in
     elim (cases_lt pass.row (length pass.waiting.items)) [
       | inl less ↦ (let cell = cell_within pass.row pass.column (length pass.waiting.items) (length pass.awaited.items) less (place.column less) in let cells = place.cells in omega arith)
       | inr more ↦ absurd (other (full_is plan loads pass of all (let within = place.row in omega arith)))
@@ -104,6 +100,6 @@ statuses_are_found plan loads pass of full =
   where
     one : (k : ℕ) (o : Option Event)
         → option_map (status_with plan loads) (option_map (λ e. record { t = record { 0 = k }; event = e }) o)
-          ≡ option_map (λ e. record { t = record { 0 = k }; event = e; phases = given_below (listed_phase (is_found_awaited plan loads) (phases_found plan loads k)) (length plan.makers) }) o
+        ≡ option_map (λ e. record { t = record { 0 = k }; event = e; phases = given_below (listed_phase (is_found_awaited plan loads) (phases_found plan loads k)) (length plan.makers) }) o
     one k None = refl
     one k (Some e) = refl

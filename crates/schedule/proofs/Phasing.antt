@@ -1,13 +1,12 @@
 -- An open pass, one phase cell further.
-use Rattle.std.proofs.Common.{◌≡◌, ◌≢◌, ◌<◌, ◌≤◌, ◌+◌, ◌*◌, ◌∙◌, ℕ, zero, suc, Bool, true, false, List, [], ◌∷◌, ◌++◌, Option, Some, None, length, take, get_or, arith, sym, subst, ap, inl, inr, refl, append-nil, append_assoc, length-append}
+use Rattle.std.proofs.Common.{◌≡◌, ◌≢◌, ◌<◌, ◌≤◌, ◌+◌, ◌*◌, ◌∙◌, ℕ, Bool, true, false, List, [], ◌∷◌, ◌++◌, Option, Some, None, length, take, arith, sym, subst, ap, inl, inr, refl, append-nil, length-append}
 use Rattle.std.specs.Prelude.{All, slice_get, is_some, if◌then◌else◌, option_to_list, option_map, map, min}
 use Rattle.std.specs.List.{flat_map}
-use Rattle.std.proofs.lemmas.Bool.{cases_eq, cases_lt}
+use Rattle.std.proofs.lemmas.Bool.{cases_lt}
 use Rattle.std.proofs.lemmas.Grind.{flat_map-append}
 use Rattle.std.proofs.lemmas.List.{map-append, take_all, take_more}
-use Rattle.std.proofs.lemmas.Option.{slice_get-get_or, get_or_from_slice_get}
+use Rattle.std.proofs.lemmas.Option.{get_or_from_slice_get}
 use Rattle.armus_base.specs.declared.ids.PhaserId.{PhaserId}
-use Rattle.armus_base.specs.declared.status.Member.{Member}
 use Rattle.armus_base.specs.declared.event.Event.{Event}
 use Rattle.armus_base.specs.CheckedPlans.{Extends}
 use Rattle.armus_base.specs.Finals.{given_below, listed_phase}
@@ -16,11 +15,11 @@ use Rattle.armus_base.specs.Runs.{state_after}
 use Rattle.armus_base.specs.States.{Step}
 use Rattle.schedule.specs.declared.pass.OpenPass.{OpenPass}
 use Rattle.schedule.specs.declared.pass.Waiting.{Waiting}
-use Rattle.schedule.specs.Passes.{Loads, event_found, is_found_awaited, waiting_below, awaited_below, phase_after, phase_load, phases_found, loads_of}
+use Rattle.schedule.specs.Passes.{Loads, event_found, is_found_awaited, waiting_below, awaited_below, phase_after, phase_load, phases_found}
 use Rattle.schedule.specs.OpenPasses.{IsPassOf, IsMidPass, HasPlace, KeepsPhase, EndsRow, waiting_found, awaited_found, member_found, row_found, status_with}
 use Rattle.schedule.proofs.Awaiting.{extends_less, has_next}
 use Rattle.schedule.proofs.Counts.{count_same}
-use Rattle.schedule.proofs.Passing.{itself, full_is, rows_are, columns_are, some_map, some_if}
+use Rattle.schedule.proofs.Passing.{itself, full_is, some_map, some_if}
 use Rattle.schedule.proofs.Rows.{at_place, flat_given, length_given}
 
 min_above : (a b : ℕ) → b ≤ a → min a b ≡ b
@@ -131,7 +130,7 @@ module _ (plan : Plan) (pass : OpenPass) (mid : IsMidPass plan pass) (loads : Lo
         let d = get_or_from_slice_get pass.awaited.items pass.column p p there in
         kept.members
         ∙ ap (λ l. l ++ option_to_list (option_map (λ n. record { p = p; n = n }) ((state_after h).phases w.t.0 p.0)))
-            (of.phases.members all before ∙ ap (λ o. row_found plan all o (take pass.column pass.awaited.items)) here)
+        (of.phases.members all before ∙ ap (λ o. row_found plan all o (take pass.column pass.awaited.items)) here)
         ∙ ap (λ o. flat_map (member_found plan all w.t.0) (take pass.column pass.awaited.items) ++ option_to_list (option_map (λ n. record { p = p; n = n }) o)) (sym phase_is)
         ∙ ap (λ l. flat_map (member_found plan all w.t.0) (take pass.column pass.awaited.items) ++ l) (sym (append-nil (member_found plan all w.t.0 p)))
         ∙ sym (flat_map-append (member_found plan all w.t.0) (take pass.column pass.awaited.items) (p ∷ []))
@@ -143,7 +142,7 @@ module _ (plan : Plan) (pass : OpenPass) (mid : IsMidPass plan pass) (loads : Lo
     row_status =
         ap (flat_map (member_found plan all w.t.0)) (of.awaits.awaited all before full)
         ∙ flat_given (λ q. option_map (λ n. record { p = q; n = n }) (phases_found plan all w.t.0 q.0)) (awaited_found plan all) (listed_phase (is_found_awaited plan all) (phases_found plan all w.t.0)) (length plan.makers)
-            (λ k l. one k (is_found_awaited plan all k))
+        (λ k l. one k (is_found_awaited plan all k))
       where
         one : (k : ℕ) (b : Bool) → flat_map (member_found plan all w.t.0) (option_to_list (if b then Some (record { 0 = k }) else None))
             ≡ option_to_list (if b then option_map (λ n. record { p = record { 0 = k }; n = n }) (phases_found plan all w.t.0 k) else None)
@@ -156,7 +155,7 @@ module _ (plan : Plan) (pass : OpenPass) (mid : IsMidPass plan pass) (loads : Lo
         let within = row_within plan pass mid in
         let whole : pass.column + 1 ≡ length pass.awaited.items = sym kept.column ∙ last ∙ ap length kept.awaited in
         let row = members_more middle kept ∙ ap (λ k. flat_map (member_found plan all w.t.0) (take k pass.awaited.items)) whole
-            ∙ ap (flat_map (member_found plan all w.t.0)) (take_all (length pass.awaited.items) pass.awaited.items (omega arith)) ∙ row_status in
+        ∙ ap (flat_map (member_found plan all w.t.0)) (take_all (length pass.awaited.items) pass.awaited.items (omega arith)) ∙ row_status in
         ended.statuses
         ∙ ap (λ l. l ++ record { t = w.t; event = w.event; phases = middle.members } ∷ []) (kept.statuses ∙ of.phases.statuses all before)
         ∙ ap (λ m. map (status_with plan all) (take pass.row pass.waiting.items) ++ record { t = w.t; event = w.event; phases = m } ∷ []) row

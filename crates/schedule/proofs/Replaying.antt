@@ -1,8 +1,9 @@
 -- The replay, line by line.
 use Rattle.std.proofs.Common.{◌≡◌, ◌≢◌, ◌<◌, ◌≤◌, ◌+◌, ◌∙◌, ◌⊎◌, ℕ, zero, suc, Bool, true, false, List, [], ◌∷◌, ◌++◌, Option, Some, None, length, arith, sym, subst, ap, inl, inr, refl}
 use mathlib.Core.Path.{fun_ext}
-use Rattle.std.specs.Prelude.{slice_get, is_some, if◌then◌else◌, IsSome, ◌↔◌, replicate}
+use Rattle.std.specs.Prelude.{Result, Ok, Err, IfOk, slice_get, is_some, if◌then◌else◌, IsSome, replicate}
 use Rattle.armus_base.specs.declared.ids.TaskId.{TaskId}
+use Rattle.armus_base.specs.declared.errors.NoMemory.{NoMemory}
 use Rattle.armus_base.specs.CheckedPlans.{IsCheckedPlan}
 use Rattle.armus_base.specs.DeadLists.{IsDeadList}
 use Rattle.armus_base.specs.Finals.{statuses_of}
@@ -25,8 +26,12 @@ use Rattle.schedule.specs.declared.verdict.PassVerdict.{PassVerdict}
 use Rattle.schedule.specs.Following.{IsAt}
 use Rattle.schedule.specs.OpenPasses.{IsPassOf, IsMidPass}
 use Rattle.schedule.specs.Passes.{Loads, loads_of, is_found_awaited, state_found, statuses_found}
-use Rattle.schedule.specs.Replays.{Progress, at_start, loaded, IsNext, Takes, IsFault, strange_task, stuck_task, load_without_pass, second_pass, unreadable}
-use Rattle.schedule.specs.Replaying.{AreDeadIn, AreVerdicts, no_pass, one_pass, IsOpenPass, HasOpenPass, IsReplayOf}
+use Rattle.std.proofs.Common.{get_or, take, drop, take-append-drop, ◌==◌}
+use Rattle.std.proofs.lemmas.List.{take_more, drop_more, length-take-le}
+use Rattle.schedule.specs.declared.replay.LineEnd.{LineEnd}
+use Rattle.schedule.specs.declared.replay.LineEnd.TheVariants.{Fault, NoMemory as LineWantsMemory}
+use Rattle.schedule.specs.Replays.{Leads, one_more, Progress, loaded, IsNext, Takes}
+use Rattle.schedule.specs.Replaying.{AreDeadIn, AreVerdicts, one_pass, IsOpenPass, HasOpenPass, IsReplayOf, Replays, TakesLine, end_of}
 use Rattle.schedule.proofs.Following.{state_is}
 use Rattle.std.proofs.lemmas.Option.{slice_get_within}
 use Rattle.std.proofs.lemmas.Bool.{eq-eqb, ne_eqb}
@@ -53,23 +58,23 @@ opening_is plan w checked opens =
     at t =
         ap (λ l. place_from w.plan t (slice_get l t)) opens.places
         ∙ elim (replicated (record { events = 0; refused = false }) (length plan.parents) t) [
-            | inl e ↦ ap (place_from w.plan t) e
-            | inr e ↦ ap (place_from w.plan t) e
-          ]
+          | inl e ↦ ap (place_from w.plan t) e
+          | inr e ↦ ap (place_from w.plan t) e
+        ]
 
 -- a task is enabled exactly where it has a next step
 pub next_is : (plan : Plan) (w : WorldValue) (h : List Step) (t : ℕ) (x : Action) → w.plan ≡ plan → IsAt w h → next_action w t ≡ Some x → IsLegal w.plan (state_of w) t x → IsNext plan h t x
 next_is plan w h t x same at next legal = record {
-      by_code = ap (λ q. action_at q t (places h t).done) (sym same) ∙ ap (λ a. action_at w.plan t (a t).done) (sym at.there) ∙ next;
-      legal = subst (λ q. IsLegal q (state_after h) t x) same (subst (λ s. IsLegal w.plan s t x) (state_is w h at) legal);
-    }
+  by_code = ap (λ q. action_at q t (places h t).done) (sym same) ∙ ap (λ a. action_at w.plan t (a t).done) (sym at.there) ∙ next;
+  legal = subst (λ q. IsLegal q (state_after h) t x) same (subst (λ s. IsLegal w.plan s t x) (state_is w h at) legal);
+}
 
 pub enabled_from : (plan : Plan) (w : WorldValue) (h : List Step) (t : ℕ) (x : Action) → w.plan ≡ plan → IsAt w h → IsNext plan h t x → IsEnabled w t
 enabled_from plan w h t x same at next = (
-      x,
-      ap (λ a. action_at w.plan t (a t).done) at.there ∙ ap (λ q. action_at q t (places h t).done) same ∙ next.by_code,
-      subst (λ s. IsLegal w.plan s t x) (sym (state_is w h at)) (subst (λ q. IsLegal q (state_after h) t x) (sym same) next.legal),
-    )
+  x,
+  ap (λ a. action_at w.plan t (a t).done) at.there ∙ ap (λ q. action_at q t (places h t).done) same ∙ next.by_code,
+  subst (λ s. IsLegal w.plan s t x) (sym (state_is w h at)) (subst (λ q. IsLegal q (state_after h) t x) (sym same) next.legal),
+)
 
 -- a step of the world is one more step of the run
 pub step_follows : (plan : Plan) (old new : WorldValue) (h : List Step) (t : ℕ) → old.plan ≡ plan → IsAt old h → MakesStep old new t
@@ -145,14 +150,14 @@ pub closes : (plan : Plan) (a : Progress) (old : Replaying) (l : Loads) (verdict
 closes plan a old l verdicts v of full dead same =
     let more = l ++ a.run ∷ [] in
     subst (λ b. IsReplayOf plan (if b then record a { open_pass = None; passes = a.passes ++ more ∷ [] } else record a { open_pass = Some more }) (record { world = old.world; pass = None; verdicts = verdicts; steps = old.steps }))
-      (sym (eq-eqb (length more) (loads_of plan more) full))
-      record {
-        plan_is = of.plan_is;
-        at = of.at;
-        open_pass = tt;
-        verdicts = subst (AreVerdicts plan (a.passes ++ more ∷ [])) (sym same) (one_pass a.passes old.verdicts more v of.verdicts dead);
-        steps = of.steps;
-      }
+    (sym (eq-eqb (length more) (loads_of plan more) full))
+    record {
+      plan_is = of.plan_is;
+      at = of.at;
+      open_pass = tt;
+      verdicts = subst (AreVerdicts plan (a.passes ++ more ∷ [])) (sym same) (one_pass a.passes old.verdicts more v of.verdicts dead);
+      steps = of.steps;
+    }
 
 -- another load leaves it open
 pub stays_open : (plan : Plan) (a : Progress) (old : Replaying) (l : Loads) (p : OpenPass) → IsReplayOf plan a old
@@ -161,5 +166,43 @@ pub stays_open : (plan : Plan) (a : Progress) (old : Replaying) (l : Loads) (p :
 stays_open plan a old l p of other is =
     let more = l ++ a.run ∷ [] in
     subst (λ b. IsReplayOf plan (if b then record a { open_pass = None; passes = a.passes ++ more ∷ [] } else record a { open_pass = Some more }) (record { world = old.world; pass = Some p; verdicts = old.verdicts; steps = old.steps }))
-      (sym (ne_eqb (length more) (loads_of plan more) other))
-      record { plan_is = of.plan_is; at = of.at; open_pass = (is, other); verdicts = of.verdicts; steps = of.steps }
+    (sym (ne_eqb (length more) (loads_of plan more) other))
+    record { plan_is = of.plan_is; at = of.at; open_pass = (is, other); verdicts = of.verdicts; steps = of.steps }
+
+pub dead_are_if : (w : WorldValue) (result : Result (List TaskId) NoMemory) → IfOk result (IsDeadList (statuses_of w.plan (state_of w)))
+    → IfOk result (λ dead. (h : List Step) → IsAt w h → AreDeadIn (state_after h) dead)
+dead_are_if w (Ok dead) are = λ h at. dead_are w h dead at are
+dead_are_if w (Err e) are = tt
+
+-- a line makes one step at most
+run_of_load : (b : Bool) (a : Progress) (loads : Loads) → length (if b then record a { open_pass = None; passes = a.passes ++ loads ∷ [] } else record a { open_pass = Some loads }).run ≡ length a.run
+run_of_load true a loads = refl
+run_of_load false a loads = refl
+
+pub run_grows : (plan : Plan) (a : Progress) (next : Line) (b : Progress) → Takes plan a next b → length b.run ≤ length a.run + 1
+run_grows plan a (line.Step t) b (x, next, is) = (let l = ap (λ p. length p.run) is in omega arith)
+run_grows plan a line.Pass b (none, is) = (let l = ap (λ p. length p.run) is in omega arith)
+run_grows plan a line.Load b (loads, opened, is) =
+    let more = loads ++ a.run ∷ [] in
+    (let l = ap (λ p. length p.run) is ∙ run_of_load (length more == loads_of plan more) a more in omega arith)
+run_grows plan a line.Unreadable b takes = absurd takes
+
+-- one line more
+pub leads_more : (plan : Plan) (lines : List Line) (i : ℕ) (d : Line) (a b : Progress) → i < length lines → Leads plan (take i lines) a → Takes plan a (get_or lines i d) b → Leads plan (take (i + 1) lines) b
+leads_more plan lines i d a b l leads takes = subst (λ v. Leads plan v b) (sym (take_more lines i d l)) (one_more (take i lines) a (get_or lines i d) b leads takes)
+
+-- an end at a line
+pub ends_at : (plan : Plan) (lines : List Line) (i : ℕ) (d : Line) (a : Progress) (new : Replaying) (end : LineEnd) → i < length lines → Leads plan (take i lines) a
+    → TakesLine plan a (get_or lines i d) new (Err end) → Replays plan lines (Err (end_of end (i + 1)))
+ends_at plan lines i d a new (Fault kind) l leads takes =
+    record {
+      before = take i lines;
+      here = get_or lines i d;
+      rest = drop (i + 1) lines;
+      parts = sym (take-append-drop i lines) ∙ ap (λ v. take i lines ++ v) (drop_more lines i d l);
+      progress = a;
+      leads = leads;
+      fault = takes;
+      counted = (let n = length-take-le i lines (omega arith) in omega arith);
+    }
+ends_at plan lines i d a new LineWantsMemory l leads takes = tt

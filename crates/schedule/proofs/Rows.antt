@@ -1,12 +1,12 @@
 -- Lists given below a bound: their lengths, their elements by place, and maps of them.
-use Rattle.std.proofs.Common.{◌≡◌, ◌<◌, ◌≤◌, ◌+◌, ◌∙◌, ◌||◌, ℕ, zero, suc, Bool, true, false, List, [], ◌∷◌, ◌++◌, Option, Some, None, length, take, arith, sym, subst, ap, inl, inr, refl, append-nil, length-append, add-one, zero-add}
+use Rattle.std.proofs.Common.{◌≡◌, ◌<◌, ◌≤◌, ◌+◌, ◌∙◌, ◌||◌, ℕ, zero, suc, Bool, true, false, List, [], ◌∷◌, ◌++◌, Option, Some, None, length, arith, sym, ap, inl, inr, refl, length-append, zero-add}
 use Rattle.std.specs.Prelude.{slice_get, is_some, if◌then◌else◌, option_to_list, option_map, map}
 use Rattle.std.specs.List.{flat_map, list_any}
-use Rattle.std.proofs.lemmas.Bool.{cases_eq, cases_lt}
+use Rattle.std.proofs.lemmas.Bool.{cases_lt}
 use Rattle.std.proofs.lemmas.Grind.{flat_map-append}
 use Rattle.std.proofs.lemmas.List.{map-append}
 use Rattle.std.proofs.lemmas.List.Folds.{list_any-append}
-use Rattle.std.proofs.lemmas.Option.{slice_get_within, slice_get_past}
+use Rattle.std.proofs.lemmas.Option.{slice_get_within}
 use Rattle.armus_base.specs.Finals.{given_below}
 use Rattle.armus_base.specs.Places.{some_before}
 use Rattle.schedule.specs.Passes.{count_below}

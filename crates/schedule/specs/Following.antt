@@ -1,5 +1,5 @@
 -- Worlds that follow a run.
-use Rattle.std.specs.Prelude.{◌≡◌, ℕ, List}
+use Rattle.std.specs.Prelude.{◌≡◌, List}
 use Rattle.armus_base.specs.CheckedPlans.{IsCheckedPlan}
 use Rattle.armus_base.specs.Runs.{IsPlainRun, places}
 use Rattle.armus_base.specs.States.{Step}

@@ -70,3 +70,8 @@ pub record HasOpenPass (plan : Plan) (pass : OpenPass) : Type 0 where
   pub loads : Loads
   pub of : IsPassOf plan loads pass
   pub not_full : length loads ≢ loads_of plan loads
+
+-- the end of a replay at the line with this number
+abbrev pub end_of : LineEnd → ℕ → ReplayEnd
+end_of (Fault kind) number = Schedule (record { line = number; kind = kind })
+end_of LineWantsMemory number = NoMemory

@@ -10,5 +10,5 @@ mod verdict;
 
 pub use laws::passes_name_the_dead;
 pub use lines::{Line, read_lines};
-pub use verdict::{PassVerdict, ReplayEnd, Replayed, ScheduleFault};
 pub use split::split_input;
+pub use verdict::{PassVerdict, ReplayEnd, Replayed, ScheduleFault};

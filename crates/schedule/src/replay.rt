@@ -9,11 +9,12 @@ ghost use Rattle.schedule.specs.Following.{IsAt};
 ghost use Rattle.schedule.specs.OpenPasses.{IsPassOf};
 ghost use Rattle.schedule.specs.Passes.{Loads, loads_of};
 ghost use Rattle.schedule.specs.Replays.{Progress, at_start};
-ghost use Rattle.schedule.specs.Replaying.{AreDeadIn, HasOpenPass, IsReplayOf, Replays, TakesLine};
+ghost use Rattle.schedule.specs.Replaying.{AreDeadIn, HasOpenPass, IsReplayOf, Replays, TakesLine, end_of};
 
 use crate::Line;
 use crate::pass::OpenPass;
 use crate::verdict::{PassVerdict, ReplayEnd, Replayed, ScheduleFault};
+use adaptive::{Wanted, analyse};
 use armus_base::{List, NoMemory, Plan, Status, TaskId};
 use pl_core::World;
 use std::alloc::Global;
@@ -49,11 +50,16 @@ fn dead_by(alloc: Global, list: &[Status]) -> Result<List<TaskId>, NoMemory>
     requires in_order { IsInOrder list.now }
     ensures dead { IfOk result (IsDeadList list.now) }
 {
-    Ok(List::new(alloc))
+    Ok(analyse(alloc, list, Wanted::Auto)?.dead)
 }
 
 // Makes the next load of a pass.
-fn load_next(alloc: Global, world: &World<'_>, plan: &Plan, pass: &mut OpenPass) -> Result<(), NoMemory>
+fn load_next(
+    alloc: Global,
+    world: &World<'_>,
+    plan: &Plan,
+    pass: &mut OpenPass,
+) -> Result<(), NoMemory>
     requires plan { plan.now ≡ world.now.plan }
     requires open { HasOpenPass plan.now pass.old }
     ensures loaded { OnOk result ((loads : Loads) (h : Seq Step) → IsAt world.now h → IsPassOf plan.now loads pass.old → IsPassOf plan.now (loads ++ h ∷ []) pass.new) }
@@ -159,6 +165,16 @@ fn dead_in(alloc: Global, world: &World<'_>) -> Result<List<TaskId>, NoMemory>
     dead_by(alloc, list.as_slice())
 }
 
+// The end of a replay at the line with this number.
+fn end_at(end: LineEnd, line: u32) -> ReplayEnd
+    ensures { result ≡ end_of end line }
+{
+    match end {
+        LineEnd::Fault(kind) => ReplayEnd::Schedule(ScheduleFault { line, kind }),
+        LineEnd::NoMemory => ReplayEnd::NoMemory,
+    }
+}
+
 /// Replays a schedule: its lines act, in order, on a plain run of the plan and on at most one open pass, which judges by the cells that it loaded alone. Schedule comes exactly where a line is at fault, with the first such line; a pass that is still open at the end gives no verdict.
 pub fn replay(alloc: Global, plan: &Plan, lines: &[Line]) -> Result<Replayed, ReplayEnd>
     requires few { length lines.now < 2 ^ 32 }
@@ -169,11 +185,7 @@ pub fn replay(alloc: Global, plan: &Plan, lines: &[Line]) -> Result<Replayed, Re
     for (at, line) in lines.iter().enumerate() {
         match replay.take(alloc, plan, *line) {
             Ok(()) => {}
-            Err(LineEnd::Fault(kind)) => {
-                let line = at as u32 + 1;
-                return Err(ReplayEnd::Schedule(ScheduleFault { line, kind }));
-            }
-            Err(LineEnd::NoMemory) => return Err(ReplayEnd::NoMemory),
+            Err(end) => return Err(end_at(end, at as u32 + 1)),
         }
     }
     let dead = dead_in(alloc, &replay.world)?;

@@ -1,4 +1,4 @@
-use Rattle.std.proofs.Common.{◌≡◌, ◌+◌, ◌≤◌, ◌<◌, ◌∙◌, subst, sym, ap, arith, length, get_or, IfOk}
+use Rattle.std.proofs.Common.{◌≡◌, ◌+◌, ◌≤◌, ◌∙◌, subst, sym, ap, arith, length, get_or, IfOk}
 use Rattle.schedule.specs.declared.pass.Waiting.{Waiting}
 use Rattle.armus_base.specs.Finals.{given_below}
 use Rattle.schedule.specs.OpenPasses.{marked}

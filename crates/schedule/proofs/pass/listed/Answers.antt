@@ -1,4 +1,4 @@
-use Rattle.std.proofs.Common.{◌≡◌, ◌∙◌, ◌++◌, ◌∷◌, [], sym, ap}
+use Rattle.std.proofs.Common.{◌∙◌, ◌++◌, ◌∷◌, [], sym, ap}
 use Rattle.schedule.proofs.Marks.{marked_more, unmarked_more}
 use Rattle.schedule.proofs.pass.listed.Goals as goal
 use Rattle.schedule.proofs.pass.listed.Goals.{then-mark+in_ok-push, else-mark}

@@ -1,6 +1,6 @@
 use Rattle.std.proofs.Common.{subst, arith}
 use Rattle.schedule.specs.OpenPasses.{IsMidPass}
-use Rattle.schedule.proofs.Replaying.{mid_pass, closes, stays_open}
+use Rattle.schedule.proofs.Replaying.{mid_pass}
 use Rattle.schedule.proofs.replay.load_next.Goals as goal
 
 pub load_phase-requires : goal.load_phase-requires

@@ -1,5 +1,4 @@
-use Rattle.std.proofs.Common.{◌≡◌, ◌∙◌, Some, arith, sym, ap, subst, length}
-use Rattle.std.specs.Prelude.{slice_get}
+use Rattle.std.proofs.Common.{◌∙◌, Some, arith, sym, ap, subst}
 use Rattle.std.proofs.lemmas.Option.{slice_get-get_or}
 use Rattle.schedule.specs.OpenPasses.{KeepsPhase}
 use Rattle.schedule.proofs.Following.{state_is}
@@ -32,13 +31,15 @@ returns-in_ok-end_row c =
     let world = c.args.world.now in
     let w = c.index-waiting.result.now in
     let p = c.index-p.result.now in
-    record { loaded = λ loads h at of. row_ends world.plan pass c.requires.open loads h of w
-      (slice_get-get_or pass.waiting.items pass.row w (row_within world.plan pass c.requires.open) ∙ ap Some (sym c.index-waiting.ensures))
-      p (slice_get-get_or pass.awaited.items pass.column p (column_within world.plan pass c.requires.open) ∙ ap Some (sym c.index-p.ensures))
-      c.keep_phase.new.self c.end_row.new.self
-      (subst (KeepsPhase pass c.keep_phase.new.self p) (c.phase-found.ensures.phase ∙ ap (λ s. s.phases w.t.0 p.0) (state_is world h at)) c.in_ok-keep_phase.ensures.kept)
-      (let e = c.if-self-len.true in omega arith)
-      c.in_ok-end_row.ensures.ended }
+    record {
+      loaded = λ loads h at of. row_ends world.plan pass c.requires.open loads h of w
+          (slice_get-get_or pass.waiting.items pass.row w (row_within world.plan pass c.requires.open) ∙ ap Some (sym c.index-waiting.ensures))
+          p (slice_get-get_or pass.awaited.items pass.column p (column_within world.plan pass c.requires.open) ∙ ap Some (sym c.index-p.ensures))
+          c.keep_phase.new.self c.end_row.new.self
+          (subst (KeepsPhase pass c.keep_phase.new.self p) (c.phase-found.ensures.phase ∙ ap (λ s. s.phases w.t.0 p.0) (state_is world h at)) c.in_ok-keep_phase.ensures.kept)
+          (let e = c.if-self-len.true in omega arith)
+          c.in_ok-end_row.ensures.ended;
+    }
 
 pub returns-else-self-len : goal.returns-else-self-len
 returns-else-self-len c =
@@ -46,9 +47,11 @@ returns-else-self-len c =
     let world = c.args.world.now in
     let w = c.index-waiting.result.now in
     let p = c.index-p.result.now in
-    record { loaded = λ loads h at of. row_more world.plan pass c.requires.open loads h of w
-      (slice_get-get_or pass.waiting.items pass.row w (row_within world.plan pass c.requires.open) ∙ ap Some (sym c.index-waiting.ensures))
-      p (slice_get-get_or pass.awaited.items pass.column p (column_within world.plan pass c.requires.open) ∙ ap Some (sym c.index-p.ensures))
-      c.keep_phase.new.self
-      (subst (KeepsPhase pass c.keep_phase.new.self p) (c.phase-found.ensures.phase ∙ ap (λ s. s.phases w.t.0 p.0) (state_is world h at)) c.in_ok-keep_phase.ensures.kept)
-      (λ e. c.if-self-len.false (omega arith)) }
+    record {
+      loaded = λ loads h at of. row_more world.plan pass c.requires.open loads h of w
+          (slice_get-get_or pass.waiting.items pass.row w (row_within world.plan pass c.requires.open) ∙ ap Some (sym c.index-waiting.ensures))
+          p (slice_get-get_or pass.awaited.items pass.column p (column_within world.plan pass c.requires.open) ∙ ap Some (sym c.index-p.ensures))
+          c.keep_phase.new.self
+          (subst (KeepsPhase pass c.keep_phase.new.self p) (c.phase-found.ensures.phase ∙ ap (λ s. s.phases w.t.0 p.0) (state_is world h at)) c.in_ok-keep_phase.ensures.kept)
+          (λ e. c.if-self-len.false (omega arith));
+    }
