@@ -14,3 +14,6 @@ pub use live::live_lines;
 pub use refusal::{Refusal, ScheduleFault, refusal_line};
 pub use reports::{any_dead, report};
 pub use standing::Standing;
+
+#[cfg(test)]
+mod tests;
