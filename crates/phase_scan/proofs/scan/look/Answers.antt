@@ -1,0 +1,40 @@
+use Rattle.std.proofs.Common.{◌≡◌, suc, ◌<◌, length, sym, ap, ◌∙◌, subst, arith}
+use Rattle.armus_base.specs.Plans.{Plan}
+use Rattle.board.specs.Views.{seen}
+use Rattle.phase_scan.proofs.Loads.{event_phaser, goes_next, reached_all, scans_on}
+use Rattle.phase_scan.proofs.scan.look.Goals as goal
+
+pub load_phase-found-requires-clause-phaser : goal.load_phase-found-requires-clause-phaser
+load_phase-found-requires-clause-phaser c =
+    let i = c.loop-number.invariant in
+    subst (λ (q : Plan). c.unwrap-event.result.p.0 < length q.makers) i.made.plan (event_phaser c.loop-number.seat c.unwrap-event.result i.goes_on.kept i.event)
+
+pub returns-in-Some-clause-goes_on : goal.returns-in-Some-clause-goes_on
+returns-in-Some-clause-goes_on c =
+    let i = c.loop-number.invariant in
+    let count = c.tasks-tasks.ensures.counted ∙ ap (λ (q : Plan). length q.parents) (sym i.made.plan) in
+    goes_next _ c.loop-number.seat _ _ _ _ _ i.goes_on i.event (subst (λ n. c.loop-number.number < n) count c.loop-number-test.true) c.load_phase-found.ensures.answer
+
+pub loop-number-preserved : goal.loop-number-preserved
+loop-number-preserved c =
+    let i = c.loop-number.invariant in
+    let count = c.tasks-tasks.ensures.counted ∙ ap (λ (q : Plan). length q.parents) (sym i.made.plan) in
+    let load = c.load_phase-found.ensures.answer in
+    let goes = goes_next _ c.loop-number.seat c.load_phase-found.new.self _ _ _ _ i.goes_on i.event (subst (λ n. c.loop-number.number < n) count c.loop-number-test.true) load in
+    let on : c.load_phase-found.new.self.view.sight.scanned ≡ suc c.loop-number.number =
+    scans_on c.loop-number.seat c.load_phase-found.new.self c.unwrap-event.result c.loop-number.number c.load_phase-found.result i.event i.scanned load c.in_default.ensures in record {
+      made = record { table = load.table ∙ i.made.table; plan = load.load.same.plan ∙ i.made.plan; mode = load.load.same.mode ∙ i.made.mode };
+      goes_on = goes;
+      event = goes.event ∙ sym i.goes_on.event ∙ i.event;
+      scanned = on ∙ omega arith;
+    }
+
+pub returns-clause-answer : goal.returns-clause-answer
+returns-clause-answer c =
+    let i = c.loop-number.invariant in
+    let seat = c.loop-number.seat in
+    let count : c.tasks-tasks.result ≡ length seat.view.plan.parents = c.tasks-tasks.ensures.counted ∙ ap (λ (q : Plan). length q.parents) (sym i.made.plan) in
+    let all : (seen seat.view).scanned ≡ length seat.view.plan.parents = (let at = i.scanned in let few = i.goes_on.kept.few in let ended = c.loop-number-test.false in omega arith) in record {
+      scanned = all;
+      reached = λ e is. reached_all seat e i.goes_on.kept (i.goes_on.event ∙ is) all;
+    }

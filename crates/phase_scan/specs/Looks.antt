@@ -1,0 +1,49 @@
+-- What a look tells.
+use Rattle.std.specs.Prelude.{◌≡◌, ℕ, ◌<◌, ◌≤◌, Option, Some, length}
+use Rattle.armus_base.specs.declared.event.Event.{Event}
+use Rattle.armus_base.specs.States.{State, IsReached}
+use Rattle.armus_base.specs.Runs.{Place, IsPrefix}
+use Rattle.armus_base.specs.Places.{state_at}
+use Rattle.armus_base.specs.Boards.{IsLawful}
+use Rattle.armus_base.specs.Seats.{IsAsFarOn}
+use Rattle.board.specs.Views.{avoids, seen}
+use Rattle.board.specs.Steps.{IsSameSeat}
+use Rattle.board.specs.Seats.{Known, IsSeat, AnswersPhase, event_of}
+use Rattle.phase_scan.specs.declared.answer.Look as answers
+use Rattle.phase_scan.specs.declared.answer.Look.TheVariants as cases
+
+-- the seat has made loads alone: no place that it has seen gets shorter, none is lost, and it has published what it had
+pub record GoesOn (before now : Known) : Type 0 where
+  pub table : now.table ≡ before.table
+  pub same : IsSameSeat before.view now.view
+  pub later : (u : ℕ) → IsPrefix ((seen before.view).places u) ((seen now.view).places u)
+  pub exact : (u : ℕ) → (seen now.view).exact u ≡ (seen before.view).exact u
+  pub loads : before.view.loads ≤ now.view.loads
+  pub event : event_of now ≡ event_of before
+  pub kept : IsSeat now
+
+-- this holds in every lawful state as far on as what the seat has seen
+abbrev pub InEachLawful : Known → (State → Type 0) → Type 0
+InEachLawful seat Holds =
+    (a : ℕ → Place) (lock : Option ℕ) → IsLawful (avoids seat.view.mode) seat.view.plan a lock →
+    IsAsFarOn seat.view.plan seat.view.own a (seen seat.view) → Holds (state_at seat.view.plan a)
+
+-- all tasks are scanned, and the awaited event is reached wherever the run goes
+pub record FindsReached (before now : Known) : Type 0 where
+  pub scanned : (seen now.view).scanned ≡ length now.view.plan.parents
+  pub reached : (e : Event) → event_of before ≡ Some e → InEachLawful now (λ s. IsReached s e)
+
+-- the last load of this call found task t a member of the awaited phaser at phase n, below the awaited one, and t is scanned next
+pub record FindsBehind (t n : ℕ) (before now : Known) : Type 0 where
+  pub between : Known
+  pub goes_on : GoesOn before between
+  pub event : Event
+  pub published : event_of before ≡ Some event
+  pub load : AnswersPhase t event.p.0 (Some n) between now
+  pub below : n < event.n
+  pub scanned : (seen now.view).scanned ≡ t
+
+-- what the answer says
+abbrev pub IsLook : answers.Look → Known → Known → Type 0
+IsLook cases.Reached before now = FindsReached before now
+IsLook (cases.Behind t n) before now = FindsBehind t.0 n before now
