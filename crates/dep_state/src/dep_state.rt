@@ -29,7 +29,9 @@ impl Model for DepState {
 
     ghost view = { λ d. record { tasks = d.tasks.items; awaits = d.awaits.items; events = d.events.items; impeders = rows_of d.impeders.items } };
 
-    ghost invariant = { λ d. IsWellFormed (record { tasks = d.tasks.items; awaits = d.awaits.items; events = d.events.items; impeders = rows_of d.impeders.items }) × IsNamed d.tasks.items (rows_of d.impeders.items) (rows_of d.impeding.items) × Ascend d.tasks.items };
+    ghost invariant = { λ d.
+        IsWellFormed (record { tasks = d.tasks.items; awaits = d.awaits.items; events = d.events.items; impeders = rows_of d.impeders.items }) ×
+        IsNamed d.tasks.items (rows_of d.impeders.items) (rows_of d.impeding.items) × Ascend d.tasks.items };
 }
 
 impl DepState {

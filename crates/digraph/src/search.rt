@@ -24,7 +24,8 @@ fn mark_cyclic(marks: &mut Vec<Mark>, stack: &mut Vec<u32>)
     ensures empty { stack.new.items ≡ [] }
     ensures fewer { count_by is_unvisited marks.new.items ≤ count_by is_unvisited marks.old.items }
     ensures stays { KeepsMarked marks.old.items marks.new.items }
-    ensures search { (g : List (List ℕ)) (left : List ℕ) → IsSearch g marks.old.items left stack.old.items → All (ReachesCycle (HasEdge g)) stack.old.items → IsSearch g marks.new.items left [] }
+    ensures search { (g : List (List ℕ)) (left : List ℕ) → IsSearch g marks.old.items left stack.old.items →
+        All (ReachesCycle (HasEdge g)) stack.old.items → IsSearch g marks.new.items left [] }
 {
     while let Some(v) = stack.pop() {
         marks[v as usize] = Mark::Cyclic;

@@ -39,7 +39,8 @@ fn add_awaits(graph: &mut Digraph, deps: &DepState) -> Result<(), NoMemory>
     requires nodes { length graph.old ≡ length deps.now.tasks + length deps.now.events }
     requires none { (x y : ℕ) → HasEdge graph.old x y → ⊥ }
     ensures nodes { length graph.new ≡ length graph.old }
-    ensures edges { OnOk result ((x y : ℕ) → HasEdge graph.new x y ↔ ((x < length deps.now.tasks) × (y ≡ length deps.now.tasks + slice_index deps.now.awaits x))) }
+    ensures edges { OnOk result ((x y : ℕ) → HasEdge graph.new x y ↔
+        ((x < length deps.now.tasks) × (y ≡ length deps.now.tasks + slice_index deps.now.awaits x))) }
 {
     let count = deps.tasks().len() as u32;
     let events = deps.events().len() as u32;
@@ -53,7 +54,8 @@ fn add_awaits(graph: &mut Digraph, deps: &DepState) -> Result<(), NoMemory>
 // Adds the edges from each event to the tasks that impede it.
 fn add_impeders(graph: &mut Digraph, deps: &DepState) -> Result<(), NoMemory>
     requires nodes { length graph.old ≡ length deps.now.tasks + length deps.now.events }
-    requires awaits { (x y : ℕ) → HasEdge graph.old x y ↔ ((x < length deps.now.tasks) × (y ≡ length deps.now.tasks + slice_index deps.now.awaits x)) }
+    requires awaits { (x y : ℕ) → HasEdge graph.old x y ↔
+        ((x < length deps.now.tasks) × (y ≡ length deps.now.tasks + slice_index deps.now.awaits x)) }
     ensures nodes { length graph.new ≡ length graph.old }
     ensures edges { OnOk result ((x y : ℕ) → HasEdge graph.new x y ↔ IsResourcePair deps.now x y) }
 {
@@ -81,7 +83,8 @@ impl ResourceGraph {
 
     /// The dead tasks of the statuses, in order of number: those that reach a cycle.
     pub fn dead(&self, alloc: Global) -> Result<List<TaskId>, NoMemory>
-        ensures { (ss : List Status) (d : Deps) → IsInOrder ss → IsDepsOf ss d → IsResourceGraphOf d self.now → IfOk result (IsDeadList ss) }
+        ensures { (ss : List Status) (d : Deps) → IsInOrder ss → IsDepsOf ss d → IsResourceGraphOf d self.now →
+            IfOk result (IsDeadList ss) }
     {
         let answers = self.graph.reaching(alloc)?;
         let dead = picked(alloc, &self.tasks, answers.as_slice())?;
@@ -90,7 +93,8 @@ impl ResourceGraph {
 
     /// The number of distinct edges.
     pub fn edges(&self) -> u64
-        ensures { (ss : List Status) (d : Deps) → IsInOrder ss → IsDepsOf ss d → IsResourceGraphOf d self.now → IsCount (λ (p : Resource × Resource). ResourceEdge ss p.0 p.1) result }
+        ensures { (ss : List Status) (d : Deps) → IsInOrder ss → IsDepsOf ss d → IsResourceGraphOf d self.now →
+            IsCount (λ (p : Resource × Resource). ResourceEdge ss p.0 p.1) result }
     {
         self.graph.edges()
     }

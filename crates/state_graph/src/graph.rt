@@ -80,7 +80,8 @@ impl StateGraph {
     /// The graph of these relations, task by task in order of number. `Left` comes exactly where over some first k tasks it has more than 2 k
     /// edges, with the first such k; then no more is built than that needs.
     pub fn build_bounded(alloc: Global, deps: &DepState) -> Result<StateGraph, SgEnd>
-        ensures { (ss : List Status) → IsInOrder ss → IsDepsOf ss deps.now → MatchResult result (λ g. IsStateGraphOf deps.now g × StaysSmall ss) (IsBoundedEnd ss) }
+        ensures { (ss : List Status) → IsInOrder ss → IsDepsOf ss deps.now →
+            MatchResult result (λ g. IsStateGraphOf deps.now g × StaysSmall ss) (IsBoundedEnd ss) }
     {
         let (mut graph, mut seen, impeded) = match start(alloc, deps) {
             Ok(made) => made,
@@ -98,7 +99,8 @@ impl StateGraph {
 
     /// The dead tasks of the statuses, in order of number: those whose event reaches a cycle.
     pub fn dead(&self, alloc: Global) -> Result<List<TaskId>, NoMemory>
-        ensures { (ss : List Status) (d : Deps) → IsInOrder ss → IsDepsOf ss d → IsStateGraphOf d self.now → IfOk result (IsDeadList ss) }
+        ensures { (ss : List Status) (d : Deps) → IsInOrder ss → IsDepsOf ss d → IsStateGraphOf d self.now →
+            IfOk result (IsDeadList ss) }
     {
         let answers = self.graph.reaching(alloc)?;
         let ats = at_places(alloc, answers.as_slice(), &self.awaits)?;
@@ -108,7 +110,8 @@ impl StateGraph {
 
     /// The number of distinct edges.
     pub fn edges(&self) -> u64
-        ensures { (ss : List Status) (d : Deps) → IsInOrder ss → IsDepsOf ss d → IsStateGraphOf d self.now → IsCount (λ (r : Event × Event). StateEdge ss r.0 r.1) result }
+        ensures { (ss : List Status) (d : Deps) → IsInOrder ss → IsDepsOf ss d → IsStateGraphOf d self.now →
+            IsCount (λ (r : Event × Event). StateEdge ss r.0 r.1) result }
     {
         self.graph.edges()
     }

@@ -17,7 +17,8 @@ fn add_impeders(graph: &mut Digraph, deps: &DepState, k: u32, event: u32) -> Res
     requires sized { length graph.old ≡ length deps.now.events }
     requires event { event < length deps.now.events }
     ensures nodes { length graph.new ≡ length graph.old }
-    ensures edges { OnOk result ((i j : ℕ) → HasEdge graph.new i j ↔ (HasEdge graph.old i j ⊎ ((u : ℕ) × Contains (impeders_of deps.now event) u × ((u ≤ k) × (i ≡ event) × (j ≡ slice_index deps.now.awaits u))))) }
+    ensures edges { OnOk result ((i j : ℕ) → HasEdge graph.new i j ↔
+        (HasEdge graph.old i j ⊎ ((u : ℕ) × Contains (impeders_of deps.now event) u × ((u ≤ k) × (i ≡ event) × (j ≡ slice_index deps.now.awaits u))))) }
 {
     for u in deps.impeders_at(event) {
         if *u <= k {
@@ -38,7 +39,8 @@ fn add_impeded(
     requires event { event < length graph.old }
     requires inside { All (λ e. e < length graph.old) impeded.now }
     ensures nodes { length graph.new ≡ length graph.old }
-    ensures edges { OnOk result ((i j : ℕ) → HasEdge graph.new i j ↔ (HasEdge graph.old i j ⊎ ((e : ℕ) × Contains impeded.now e × ((slice_index_or seen.now e false ≡ true) × (i ≡ e) × (j ≡ event))))) }
+    ensures edges { OnOk result ((i j : ℕ) → HasEdge graph.new i j ↔
+        (HasEdge graph.old i j ⊎ ((e : ℕ) × Contains impeded.now e × ((slice_index_or seen.now e false ≡ true) × (i ≡ e) × (j ≡ event))))) }
 {
     for e in impeded {
         if seen[*e as usize] {
@@ -74,7 +76,10 @@ pub fn grow(
     deps: &DepState,
 ) -> Result<(), SgEnd>
     requires grown { IsGrown deps.now 0 graph.old seen.old.items (graph_of impeded.now) }
-    ensures { MatchResult result (λ _. IsGrown deps.now (length deps.now.tasks) graph.new seen.new.items (graph_of impeded.now) × StaysSmallBelow deps.now (length deps.now.tasks + 1)) (IsEndAt deps.now) }
+    ensures { MatchResult result
+        (λ _. IsGrown deps.now (length deps.now.tasks) graph.new seen.new.items (graph_of impeded.now) ×
+        StaysSmallBelow deps.now (length deps.now.tasks + 1))
+        (IsEndAt deps.now) }
 {
     let count = deps.tasks().len() as u32;
     for k in 0..count {

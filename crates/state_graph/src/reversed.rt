@@ -31,7 +31,8 @@ fn push_to(rows: &mut Vec<Vec<u32>>, a: u32, b: u32) -> Result<(), AllocError>
 fn add_event(rows: &mut Vec<Vec<u32>>, tasks: &[u32], event: u32) -> Result<(), AllocError>
     requires { All (λ t. t < length rows.old.items) tasks.now }
     ensures sized { length rows.new.items ≡ length rows.old.items }
-    ensures edges { OnOk result ((i j : ℕ) → HasEdge (graph_of rows.new.items) i j ↔ (HasEdge (graph_of rows.old.items) i j ⊎ ((u : ℕ) × Contains tasks.now u × ((i ≡ u) × (j ≡ event))))) }
+    ensures edges { OnOk result ((i j : ℕ) → HasEdge (graph_of rows.new.items) i j ↔
+        (HasEdge (graph_of rows.old.items) i j ⊎ ((u : ℕ) × Contains tasks.now u × ((i ≡ u) × (j ≡ event))))) }
 {
     for t in tasks {
         push_to(rows, *t, event)?;

@@ -14,7 +14,8 @@ fn add_awaits(graph: &mut Digraph, deps: &DepState, event: u32) -> Result<(), No
     requires sized { length graph.old ≡ length deps.now.events }
     requires event { event < length deps.now.events }
     ensures nodes { length graph.new ≡ length graph.old }
-    ensures edges { OnOk result ((i j : ℕ) → HasEdge graph.new i j ↔ (HasEdge graph.old i j ⊎ ((u : ℕ) × Contains (impeders_of deps.now event) u × ((i ≡ event) × (j ≡ slice_index deps.now.awaits u))))) }
+    ensures edges { OnOk result ((i j : ℕ) → HasEdge graph.new i j ↔
+        (HasEdge graph.old i j ⊎ ((u : ℕ) × Contains (impeders_of deps.now event) u × ((i ≡ event) × (j ≡ slice_index deps.now.awaits u))))) }
 {
     for u in deps.impeders_at(event) {
         let _ = graph.add(event, deps.awaits_at(*u))?;

@@ -51,7 +51,8 @@ impl WaitGraph {
 
     /// The dead tasks of the statuses, in order of number: those that reach a cycle.
     pub fn dead(&self, alloc: Global) -> Result<List<TaskId>, NoMemory>
-        ensures { (ss : List Status) (d : Deps) → IsInOrder ss → IsDepsOf ss d → IsWaitGraphOf d self.now → IfOk result (IsDeadList ss) }
+        ensures { (ss : List Status) (d : Deps) → IsInOrder ss → IsDepsOf ss d → IsWaitGraphOf d self.now →
+            IfOk result (IsDeadList ss) }
     {
         let answers = self.graph.reaching(alloc)?;
         let dead = picked(alloc, &self.tasks, answers.as_slice())?;
@@ -60,7 +61,8 @@ impl WaitGraph {
 
     /// The number of distinct edges.
     pub fn edges(&self) -> u64
-        ensures { (ss : List Status) (d : Deps) → IsInOrder ss → IsDepsOf ss d → IsWaitGraphOf d self.now → IsCount (λ (p : TaskId × TaskId). WaitsFor ss p.0 p.1) result }
+        ensures { (ss : List Status) (d : Deps) → IsInOrder ss → IsDepsOf ss d → IsWaitGraphOf d self.now →
+            IsCount (λ (p : TaskId × TaskId). WaitsFor ss p.0 p.1) result }
     {
         self.graph.edges()
     }
