@@ -9,3 +9,5 @@ pub mod GoingOn
 pub mod Opening
 pub mod Below
 pub mod AtOp
+pub mod Refusing
+pub mod RefusalKept

@@ -22,3 +22,7 @@ after_op task = record task { place = record task.place { events = task.place.ev
 -- it is forked
 abbrev pub after_fork : Task → Task
 after_fork task = record task { forked = true }
+
+-- its await of the event is refused
+abbrev pub after_refusal : Task → Event → Task
+after_refusal task e = record task { place = record task.place { refused = true }; event = Some e }

@@ -34,7 +34,7 @@ pub(crate) struct PhaseTable {
 }
 
 impl PhaseTable {
-    ghost use Rattle.armus_base.specs.States.{with_phase};
+    ghost use Rattle.armus_base.specs.States.{updated, with_phase};
     ghost use Rattle.pl_core.specs.PhaseTables.{phases_in};
 
     /// No task is a member of anything.
@@ -72,5 +72,17 @@ impl PhaseTable {
         ensures set { phases_in self.new ≡ with_phase (phases_in self.old) t p phase }
     {
         self.cells[t * self.phasers + p] = cell_of(phase);
+    }
+
+    /// Takes task `t` off all phasers.
+    pub(crate) fn clear(&mut self, t: usize)
+        requires task { t < self.old.tasks }
+        ensures tasks { self.new.tasks ≡ self.old.tasks }
+        ensures phasers { self.new.phasers ≡ self.old.phasers }
+        ensures cleared { phases_in self.new ≡ updated (phases_in self.old) t (λ _. None) }
+    {
+        for p in 0..self.phasers {
+            self.set(t, p, None);
+        }
     }
 }

@@ -1,6 +1,6 @@
 // What a world keeps of each task.
 ghost use Rattle.std.specs.Prelude.{◌≡◌, ◌<◌, ◌+◌, ◌^◌, Some, IfOk, length, slice_get};
-ghost use Rattle.pl_core.specs.Changes.{after_block, after_op, after_fork, opening_tasks};
+ghost use Rattle.pl_core.specs.Changes.{after_block, after_op, after_fork, after_refusal, opening_tasks};
 
 use crate::Place;
 use armus_base::{Event, NoMemory, Op};
@@ -45,6 +45,20 @@ impl Task {
             },
             op: self.op + 1,
             event: None,
+            ..self
+        }
+    }
+
+    /// Its await of the event is refused.
+    pub(crate) fn after_refusal(self, event: Event) -> Task
+        ensures { result ≡ after_refusal self event }
+    {
+        Task {
+            place: Place {
+                refused: true,
+                ..self.place
+            },
+            event: Some(event),
             ..self
         }
     }

@@ -1,12 +1,13 @@
 // A state of the plain machine.
 ghost use Rattle.std.specs.Prelude.{◌≡◌, ℕ, ◌<◌, ◌≤◌, ◌↔◌, Some, IsTrue, IfOk, IfSome, MatchOption, OnOk, length, option_map};
+ghost use Rattle.armus_base.specs.declared.event.Event.{Event};
 ghost use Rattle.armus_base.specs.Plans.{Forks, code_of};
 ghost use Rattle.armus_base.specs.CheckedPlans.{IsCheckedPlan};
 ghost use Rattle.armus_base.specs.Runs.{IsReachable};
 ghost use Rattle.armus_base.specs.States.{IsActive, IsMember, IsReached, event_on};
 ghost use Rattle.pl_core.specs.Worlds.{state_of, places_of, next_action, IsOpening};
 ghost use Rattle.pl_core.specs.Stands.{StandsSo, IsAtAwaitOf, IsReady, IsEnabled, MayGoOn, AreAhead, IsFirstBehind};
-ghost use Rattle.pl_core.specs.Moves.{MakesStep};
+ghost use Rattle.pl_core.specs.Moves.{MakesRefusal, MakesStep};
 ghost use Rattle.armus_base.specs.Finals.{end_of, final_of, given_below, is_awaited, list_below, listed_phase, statuses_of, statuses_on};
 ghost use Rattle.pl_core.specs.Ops.{action_of, ChangesPhases};
 ghost use Rattle.pl_core.specs.Reading.{is_asked};
@@ -206,6 +207,30 @@ impl<'p> World<'p> {
             Stand::Await(event) => self.block(t, event),
             _ => self.act(t),
         }
+    }
+
+    /// Refuses the await before which task `t` stands: makes Refuse, and then a Drop for each phaser of `t` in order of number. It takes no memory.
+    pub fn refuse(&mut self, t: TaskId)
+        requires task { t.0 < length self.old.plan.parents }
+        requires before { (e : Event) × IsAtAwaitOf self.old t.0 e }
+        ensures { MakesRefusal self.old self.new t.0 }
+    {
+        if let Stand::Await(event) = self.stand(t) {
+            self.drop_all(t, event);
+        } else {
+            unreachable!();
+        }
+    }
+
+    // Marks the task as refused at the event, and takes it off all phasers.
+    fn drop_all(&mut self, t: TaskId, event: Event)
+        requires task { t.0 < length self.old.plan.parents }
+        requires before { IsAtAwaitOf self.old t.0 event }
+        ensures { MakesRefusal self.old self.new t.0 }
+    {
+        let task = task_at(&self.tasks, t.0 as usize);
+        self.phases.clear(t.0 as usize);
+        self.tasks[t.0 as usize] = task.after_refusal(event);
     }
 
     // Publishes the event at which the task stands.
