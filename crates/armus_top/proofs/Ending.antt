@@ -7,11 +7,11 @@ use Rattle.armus_base.specs.ReadAll.{TookFront}
 use Rattle.armus_base.proofs.Fronts.{front_after}
 use Rattle.armus_base.specs.Causes.{Rose, counted}
 use Rattle.armus_top.specs.Commands.{limit_of, IsAnswered, IsRefused}
+use Rattle.armus_top.proofs.Inputs.{answered_small, never_both}
 use Rattle.armus_top.specs.Texts.{Text}
 use Rattle.armus_top.specs.Writing.{Finished}
 use Rattle.armus_top.specs.Headline.{Passage, Completes, Ends, GaveTooMuch, IsAccepted, HasInput, IsCalm, IsSound, Offers, OffersTooMuch, Permits, whole, read_fault, write_fault, no_memory}
-use Rattle.armus_top.specs.declared.words.Command.{Command}
-use Rattle.armus_top.specs.declared.words.Command.TheVariants.{Run}
+use Rattle.armus_words.specs.declared.command.Command.{Command}
 
 only : {d e : Command} → Some d ≡ Some e → d ≡ e
 only h = cc
@@ -22,6 +22,10 @@ by_finish c src out text status number (inl (same, took, sound)) permits still =
     whole text (subst (λ n. Permits c src n text) (sym same) permits) took still sound
 by_finish c src out text status number (inr (five, failed, front)) permits still = write_fault five still failed (status, text, permits, front)
 
+-- another name of the same text
+pub finished_as : (out : Passage) (text shown : Text) (status number : ℕ) → shown ≡ text → Finished out shown status number → Finished out text status number
+finished_as out text shown status number same done = subst (λ (t : Text). Finished out t status number) same done
+
 -- a first piece was taken whole before `finish`
 pub by_pieces : (out mid : Passage) (first text : Text) (status number : ℕ)
     → mid.faults_before ≡ out.faults_before → mid.faults_after ≡ out.faults_after → mid.after ≡ out.after
@@ -30,13 +34,6 @@ by_pieces out mid first text status number faults faults_after same took (inl (i
     inl (is, subst (λ b. Appends out.before b (first ++ text)) same (Appends-trans out.before mid.before mid.after first text took rest), cc)
 by_pieces out mid first text status number faults faults_after same took (inr (five, failed, rest)) =
     inr (five, sym faults_after ∙ failed ∙ ap counted faults, subst (λ b. TookFront out.before b (first ++ text)) same (front_after out.before mid.before mid.after first text took rest))
-
--- an input is not both refused and answered
-never_both : (c : Command) (input text other : Text) (status : ℕ) → IsRefused c input text → IsAnswered c input status other → ⊥
-never_both Run input text other status refused answered = refused.0 answered.0
-
-answered_small : (c : Command) (input text : Text) (status : ℕ) → IsAnswered c input status text → status ≤ 1
-answered_small Run input text status answered = omega (arith, answered.1)
 
 known_whole : (a : Option Text) (b : Option Text) (xs input : Text) → a ≡ Some xs → Consumes a b input → IsAtEnd b → xs ≡ input
 known_whole None b xs input e p q = absurd (cc)

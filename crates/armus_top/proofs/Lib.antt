@@ -1,2 +1,5 @@
 pub mod Ending
+pub mod Inputs
 pub mod Meaning
+pub mod Answering
+pub mod Reporting

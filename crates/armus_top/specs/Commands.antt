@@ -1,23 +1,59 @@
 -- The table of commands: how long an input may be, which inputs are refused and with which line, and what is answered.
 -- A command joins by a case of each definition; the headline does not change.
-use Rattle.std.specs.Prelude.{◌≡◌, ◌≢◌, ℕ, [], Option, Some}
-use Rattle.armus_top.specs.Texts.{Text, unbuilt_line, empty_report}
-use Rattle.armus_top.specs.declared.run.TheConstants.{TEXT_LIMIT}
-use Rattle.armus_top.specs.declared.words.Command.{Command}
-use Rattle.armus_top.specs.declared.words.Command.TheVariants.{Run}
+use Rattle.std.specs.Prelude.{◌≡◌, ℕ, Bool, true, false, List, [], Option, Some, None}
+use Rattle.armus_base.specs.Plans.{Plan}
+use Rattle.armus_base.specs.States.{State}
+use Rattle.armus_base.specs.Runs.{IsFinal}
+use Rattle.armus_base.specs.Finals.{final_of}
+use Rattle.pl_syntax.specs.Tree.{Tree}
+use Rattle.pl_syntax.specs.Printed.{printed_of}
+use Rattle.adaptive.specs.declared.analysis.Wanted.{Wanted}
+use Rattle.adaptive.specs.declared.analysis.Wanted.TheVariants as wanted
+use Rattle.report.specs.Reports.{IsReport}
+use Rattle.report.specs.Refusals.{refusal_text}
+use Rattle.report.specs.declared.refusal.Refusal.{Refusal}
+use Rattle.report.specs.declared.refusal.Refusal.TheVariants as refusal
+use Rattle.armus_words.specs.declared.command.Graph.{Graph}
+use Rattle.armus_words.specs.declared.command.Graph.TheVariants as graph
+use Rattle.armus_words.specs.declared.command.Command.{Command}
+use Rattle.armus_words.specs.declared.command.Command.TheVariants.{Check, Run, Gen}
+use Rattle.armus_top.specs.Texts.{Text, plan_line}
+use Rattle.armus_top.specs.Programs.{IsChecked, IsFaultOf, IsPlanOf, TellsDead}
+use Rattle.armus_top.specs.declared.texts.TheConstants.{MAX_TEXT_BYTES}
 
 -- the most bytes of an input, where the command reads one
 abbrev pub limit_of : Command → Option ℕ
-limit_of Run = Some TEXT_LIMIT
+limit_of (Check print) = Some MAX_TEXT_BYTES
+limit_of (Run workers g) = Some MAX_TEXT_BYTES
+limit_of (Gen count) = None
 
 -- the line with which a longer input is refused
 abbrev pub length_line : Command → Text
-length_line Run = unbuilt_line
+length_line c = refusal_text refusal.Length
 
 -- the command refuses this input, with this line
 abbrev pub IsRefused : Command → Text → Text → Type 0
-IsRefused Run input text = (input ≢ []) × (text ≡ unbuilt_line)
+IsRefused c input text = (why : Refusal) × IsFaultOf input why × (text ≡ refusal_text why)
+
+-- the graph that the words want, for the report
+abbrev pub wanted_of : Graph → Wanted
+wanted_of graph.Auto = wanted.Auto
+wanted_of graph.Wfg = wanted.Wfg
+wanted_of graph.Sg = wanted.Sg
+wanted_of graph.Grg = wanted.Grg
+
+-- the report of the one state in which every maximal run of the text's plan ends, and the status that tells whether a task is dead in it
+pub record IsRunOf (text : Text) (g : Wanted) (status : ℕ) (report : Text) : Type 0 where
+  pub plan : Plan
+  pub plan_is : IsPlanOf text plan
+  pub state : State
+  pub final : IsFinal plan state
+  pub status_is : TellsDead state status
+  pub report_is : IsReport (final_of plan state) g report
 
 -- the command accepts this input, and may end with this status, 0 or 1, and this whole output
 abbrev pub IsAnswered : Command → Text → ℕ → Text → Type 0
-IsAnswered Run input status text = (input ≡ []) × (status ≡ 0) × (text ≡ empty_report)
+IsAnswered (Check false) input status text = (plan : Plan) × IsPlanOf input plan × (status ≡ 0) × (text ≡ plan_line plan)
+IsAnswered (Check true) input status text = (plan : Plan) × (program : Tree) × IsChecked input program plan × (status ≡ 0) × (text ≡ printed_of program)
+IsAnswered (Run workers g) input status text = IsRunOf input (wanted_of g) status text
+IsAnswered (Gen count) input status text = ⊥

@@ -5,9 +5,9 @@ use Rattle.std.specs.Io.KnownBytes.{Consumes, Appends, Keeps, IsAtEnd}
 use Rattle.armus_base.specs.Causes.{Rose, counted}
 use Rattle.armus_base.specs.ReadAll.{ReadFront, TookFront}
 use Rattle.armus_top.specs.Texts.{Text, usage_line}
-use Rattle.armus_top.specs.Words.{Means}
+use Rattle.armus_top.specs.Meanings.{Means}
 use Rattle.armus_top.specs.Commands.{limit_of, length_line, IsRefused, IsAnswered}
-use Rattle.armus_top.specs.declared.words.Command.{Command}
+use Rattle.armus_words.specs.declared.command.Command.{Command}
 
 -- a source or a sink at the beginning and at the end of a call: the bytes left or taken, where it tells them, and its faults
 pub record Passage : Type 0 where
@@ -73,11 +73,9 @@ pub data Ends (c : Option Command) (src out : Passage) (number : ℕ) : Type 0 w
   write_fault : number ≡ 5 → IsSound src → HasFailed out → TookPart c src out → Ends c src out number
   no_memory : number ≡ 6 → IsSound src → IsSound out → Keeps out.before out.after ⊎ TookPart c src out → Ends c src out number
 
--- the headline: the words mean one command or none, and the call ends as that one may
-pub record Serves (words : List Text) (src out : Passage) (number : ℕ) : Type 0 where
-  pub meaning : Option Command
-  pub means : Means words meaning
-  pub ends : Ends meaning src out number
+-- the headline: the call ends as the command may that the words mean, or as where they mean none
+abbrev pub Serves : List Text → Passage → Passage → ℕ → Type 0
+Serves words src out number = (meaning : Option Command) → Means words meaning → Ends meaning src out number
 
 -- the source tells its bytes and has this input for the command
 abbrev pub Offers : Option ℕ → Passage → Text → Type 0

@@ -1,5 +1,6 @@
 pub mod Texts
-pub mod Words
+pub mod Programs
+pub mod Meanings
 pub mod Commands
 pub mod Headline
 pub mod Status

@@ -1,5 +1,7 @@
--- The fixed lines of the program.
-use Rattle.std.specs.Prelude.{ℕ, List, [], ◌∷◌, ◌++◌, codes}
+-- The lines that the top call writes beside reports, refusals and printed programs.
+use Rattle.std.specs.Prelude.{◌≡◌, ℕ, List, [], ◌∷◌, ◌++◌, length, codes, decimal, sum_by}
+use Rattle.std.specs.List.{list_any}
+use Rattle.armus_base.specs.Plans.{Plan}
 
 -- a text is the list of its bytes
 abbrev pub Text : Type 0
@@ -13,10 +15,8 @@ line text = text ++ 10 ∷ []
 abbrev pub usage_line : Text
 usage_line = line (codes "usage: armus check|run|avoid|record|replay|gen")
 
--- what is written for an input that the program does not run yet
-abbrev pub unbuilt_line : Text
-unbuilt_line = line (codes "refused unbuilt")
-
--- the report of a run of the empty text: task 0 alone, which is done
-abbrev pub empty_report : Text
-empty_report = line (codes "tasks 1 done 1 dead 0 held 0 refused 0 unforked 0")
+-- the counts of a plan
+abbrev pub plan_line : Plan → Text
+plan_line plan =
+    line (codes "tasks " ++ decimal (length plan.parents) ++ codes " phasers " ++ decimal (length plan.makers) ++ codes " ops "
+    ++ decimal (sum_by length plan.codes))

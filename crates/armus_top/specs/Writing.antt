@@ -1,10 +1,30 @@
--- What `finish` leaves.
+-- What is left where an output is written.
 use Rattle.std.specs.Prelude.{◌≡◌, ◌⊎◌, ℕ}
 use Rattle.armus_base.specs.ReadAll.{TookFront}
 use Rattle.armus_top.specs.Texts.{Text}
-use Rattle.armus_top.specs.Headline.{Passage, HasFailed, IsSound, Took}
+use Rattle.std.specs.Io.KnownBytes.{Keeps}
+use Rattle.report.specs.Refusals.{refusal_text}
+use Rattle.report.specs.declared.refusal.Refusal.{Refusal}
+use Rattle.armus_top.specs.declared.texts.TextEnd.{TextEnd}
+use Rattle.armus_top.specs.declared.texts.TextEnd.TheVariants.{Refused, NoMemory}
+use Rattle.armus_words.specs.declared.command.Command.{Command}
+use Rattle.armus_top.specs.Headline.{Answers, Passage, HasFailed, IsSound, Took}
 
 -- the status after a whole output, or a write that failed
 abbrev pub Finished : Passage → Text → ℕ → ℕ → Type 0
 Finished out text status number = ((number ≡ status) × Took out text × IsSound out)
     ⊎ ((number ≡ 5) × HasFailed out × TookFront out.before out.after text)
+
+-- the line of a refusal was written, or memory was wanting and nothing was
+abbrev pub Refuses : Refusal → Passage → ℕ → Type 0
+Refuses why out number = Finished out (refusal_text why) 3 number ⊎ ((number ≡ 6) × IsSound out × Keeps out.before out.after)
+
+-- why a text has no plan was told: the line of the refusal, or nothing for want of memory
+abbrev pub TellsEnd : TextEnd → Passage → ℕ → Type 0
+TellsEnd (Refused why) out number = Refuses why out number
+TellsEnd NoMemory out number = (number ≡ 6) × IsSound out × Keeps out.before out.after
+
+-- what a command leaves that works on this input: one of its outputs was written, or memory was wanting and nothing was
+pub data Answered (c : Command) (input : Text) (out : Passage) (number : ℕ) : Type 0 where
+  wrote : (status : ℕ) (text : Text) → Answers c input status text → Finished out text status number → Answered c input out number
+  nothing : number ≡ 6 → IsSound out → Keeps out.before out.after → Answered c input out number

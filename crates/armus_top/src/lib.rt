@@ -1,14 +1,15 @@
 //! The top call: from words, a source and a sink to a status.
 #![tactic(auto)]
 
-mod run;
+mod answers;
+mod serving;
 mod status;
+mod texts;
 mod top;
-mod words;
 mod writing;
 
-pub use top::{armus, armus_plain};
-pub use words::words_mean_one_command;
+pub use texts::MAX_TEXT_BYTES;
+pub use top::{armus, armus_plain, words_mean_one_command};
 
 #[cfg(test)]
 mod tests;

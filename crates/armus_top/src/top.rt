@@ -1,35 +1,34 @@
 // The top call.
 ghost use Rattle.std.specs.Prelude.{◌≡◌, Option, false, map, string_bytes};
-ghost use Rattle.armus_top.specs.Words.{Means};
-ghost use Rattle.armus_top.specs.Headline.{Completes, Ends, IsCalm, Serves, reads_input, passage};
+ghost use Rattle.armus_top.specs.Meanings.{Means, OneMeaning};
 ghost use Rattle.armus_top.specs.Status.{code_of};
-ghost use Rattle.armus_top.specs.declared.words.Command.{Command};
+ghost use Rattle.armus_top.specs.Headline.{Completes, IsCalm, Serves, reads_input, passage};
+ghost use Rattle.armus_words.specs.declared.command.Command.{Command};
 
-use crate::run::run;
+use crate::serving::serve;
 use crate::status::Status;
-use crate::words::{Command, command_in};
-use crate::writing::finish;
 use armus_base::{Gate, Sink, Source};
+use armus_words::command_in;
 use std::alloc::Global;
 use std::sync::Wait;
 use std::thread::Threads;
 
-const USAGE: &str = "usage: armus check|run|avoid|record|replay|gen\n";
-
-// Every arm returns by itself, so that each command is a goal of its own.
-fn serve<S: Source, K: Sink>(
+// The status of a call, by its words.
+fn status_for<S: Source, K: Sink, G: Gate>(
     alloc: Global,
-    meaning: Option<Command>,
+    words: &[String],
     src: &mut S,
     out: &mut K,
+    gate: &G,
 ) -> Status
-    ensures ends { Ends meaning (passage S.left S.faults src.old src.new) (passage K.taken K.faults out.old out.new) (code_of result) }
-    ensures unread { reads_input meaning ≡ false → src.new ≡ src.old }
+    ensures serves { Serves (map string_bytes words.now)
+        (passage S.left S.faults src.old src.new) (passage K.taken K.faults out.old out.new) (code_of result) }
+    ensures unread { (c : Option Command) → Means (map string_bytes words.now) c → reads_input c ≡ false → src.new ≡ src.old }
     ensures silent { code_of result ≡ 4 → out.new ≡ out.old }
 {
-    match meaning {
-        Some(Command::Run) => run(alloc, src, out),
-        None => finish(out, USAGE.as_bytes(), Status::Usage),
+    match command_in(alloc, words) {
+        Ok(meaning) => serve(alloc, meaning, src, out, gate),
+        Err(_) => Status::OutOfMemory,
     }
 }
 
@@ -44,7 +43,7 @@ pub fn armus_plain<R: Threads + Sync, S: Source, K: Sink, G: Gate>(
     words: &[String],
     src: &mut S,
     out: &mut K,
-    _gate: &G,
+    gate: &G,
 ) -> u8
     ensures serves { Serves (map string_bytes words.now)
         (passage S.left S.faults src.old src.new) (passage K.taken K.faults out.old out.new) result }
@@ -54,8 +53,7 @@ pub fn armus_plain<R: Threads + Sync, S: Source, K: Sink, G: Gate>(
     ensures unread { (c : Option Command) → Means (map string_bytes words.now) c → reads_input c ≡ false → src.new ≡ src.old }
     ensures silent { result ≡ 4 → out.new ≡ out.old }
 {
-    let meaning = command_in(words);
-    serve(alloc, meaning, src, out).code()
+    status_for(alloc, words, src, out, gate).code()
 }
 
 /// The program, as `armus_plain` says.
@@ -77,3 +75,8 @@ pub fn armus<R: Threads + Wait + Sync, S: Source, K: Sink, G: Gate>(
 {
     armus_plain(rt, alloc, words, src, out, gate)
 }
+
+/// The law that words mean one command at most.
+pub fn words_mean_one_command()
+    ensures { OneMeaning }
+{}

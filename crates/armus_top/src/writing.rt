@@ -1,17 +1,45 @@
 // Writing a whole output.
-ghost use Rattle.armus_top.specs.Headline.{passage};
+ghost use Rattle.std.specs.Prelude.{◌≡◌, ◌⊎◌};
+ghost use Rattle.std.specs.Io.KnownBytes.{Keeps};
+ghost use Rattle.armus_top.specs.Headline.{IsSound, passage};
 ghost use Rattle.armus_top.specs.Status.{code_of};
-ghost use Rattle.armus_top.specs.Writing.{Finished};
+ghost use Rattle.armus_top.specs.Writing.{Finished, Refuses, TellsEnd};
 
 use crate::status::Status;
+use crate::texts::TextEnd;
 use armus_base::{Sink, write_text};
+use report::{Refusal, refusal_line};
+use std::alloc::Global;
 
 /// Writes the text and answers the status, or `WriteFailed` where a write failed.
 pub fn finish<K: Sink>(out: &mut K, text: &[u8], status: Status) -> Status
     ensures done { Finished (passage K.taken K.faults out.old out.new) text.now (code_of status) (code_of result) }
+    ensures status { code_of result ≡ 4 → code_of status ≡ 4 }
 {
     match write_text(out, text) {
         Ok(()) => status,
         Err(_) => Status::WriteFailed,
+    }
+}
+
+/// Writes the line that says why an input is refused.
+pub fn refuse<K: Sink>(alloc: Global, why: &Refusal, out: &mut K) -> Status
+    ensures done { Refuses why.now (passage K.taken K.faults out.old out.new) (code_of result) }
+    ensures silent { code_of result ≡ 4 → out.new ≡ out.old }
+{
+    match refusal_line(alloc, why) {
+        Ok(line) => finish(out, line.as_slice(), Status::Refused),
+        Err(_) => Status::OutOfMemory,
+    }
+}
+
+/// Tells why a text has no plan.
+pub fn answer_end<K: Sink>(alloc: Global, end: TextEnd, out: &mut K) -> Status
+    ensures done { TellsEnd end (passage K.taken K.faults out.old out.new) (code_of result) }
+    ensures silent { code_of result ≡ 4 → out.new ≡ out.old }
+{
+    match end {
+        TextEnd::Refused(why) => refuse(alloc, &why, out),
+        TextEnd::NoMemory => Status::OutOfMemory,
     }
 }

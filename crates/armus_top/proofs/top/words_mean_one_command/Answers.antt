@@ -1,5 +1,5 @@
 use Rattle.armus_top.proofs.Meaning.{one_meaning}
-use Rattle.armus_top.proofs.words.words_mean_one_command.Goals as goal
+use Rattle.armus_top.proofs.top.words_mean_one_command.Goals as goal
 
 pub returns : goal.returns
 returns c = one_meaning

@@ -1,0 +1,59 @@
+-- From what a command leaves on its input to what the call leaves.
+use Rattle.std.proofs.Common.{◌≡◌, ◌≤◌, ◌⊎◌, ℕ, inl, inr, refl, length, sym, subst, Bool, if◌then◌else◌}
+use Rattle.std.specs.Prelude.{Option, Some, None}
+use Rattle.std.specs.Io.KnownBytes.{Keeps}
+use Rattle.report.specs.Refusals.{refusal_text}
+use Rattle.report.specs.declared.refusal.Refusal.{Refusal}
+use Rattle.report.specs.declared.refusal.Refusal.TheVariants as refusal
+use Rattle.adaptive.specs.declared.analysis.Wanted.{Wanted}
+use Rattle.armus_words.specs.declared.command.Command.{Command}
+use Rattle.armus_words.specs.declared.command.Command.TheVariants.{Run}
+use Rattle.armus_words.specs.declared.command.Graph.{Graph}
+use Rattle.armus_top.specs.Texts.{Text}
+use Rattle.armus_top.specs.declared.texts.TextEnd.{TextEnd}
+use Rattle.armus_top.specs.declared.texts.TextEnd.TheVariants.{Refused, NoMemory}
+use Rattle.armus_top.specs.Programs.{IsFaultOf, IsTextEnd}
+use Rattle.armus_top.specs.Commands.{IsAnswered, IsRefused, IsRunOf, limit_of, length_line, wanted_of}
+use Rattle.armus_top.specs.Headline.{Answers, Ends, GaveTooMuch, HasInput, IsSound, Passage, no_memory}
+use Rattle.armus_top.specs.Writing.{Answered, Finished, Refuses, TellsEnd, wrote, nothing}
+use Rattle.armus_top.proofs.Ending.{by_finish}
+
+-- an answer with this status and text was written
+pub by_answer : (c : Command) (input text : Text) (out : Passage) (status number : ℕ) → IsAnswered c input status text → Finished out text status number → Answered c input out number
+by_answer c input text out status number is done = wrote status text (inl is) done
+
+-- memory was wanting before anything was written
+pub by_want : (c : Command) (input : Text) (out : Passage) (number : ℕ) → number ≡ 6 → IsSound out → Keeps out.before out.after → Answered c input out number
+by_want c input out number six sound kept = nothing six sound kept
+
+ends_with_input : (c : Command) (src out : Passage) (input : Text) (number : ℕ) → HasInput (limit_of c) src input → Answered c input out number → IsSound src
+    → Ends (Some c) src out number
+ends_with_input c src out input number has (wrote status text answers done) still = by_finish (Some c) src out text status number done (inl (input, has, answers)) still
+ends_with_input c src out input number has (nothing six sound kept) still = no_memory six still sound (inl kept)
+
+-- a command that had this input
+pub ends_by_answer : (c : Command) (src out : Passage) (input shown : Text) (number : ℕ) → shown ≡ input → HasInput (limit_of c) src input
+    → Answered c shown out number → IsSound src → Ends (Some c) src out number
+ends_by_answer c src out input shown number same has answered still =
+    ends_with_input c src out input number has (subst (λ (t : Text). Answered c t out number) same answered) still
+
+-- a command whose input was too long
+pub ends_too_long : (c : Command) (src out : Passage) (number : ℕ) → GaveTooMuch (limit_of c) src → Refuses refusal.Length out number → IsSound src → Ends (Some c) src out number
+ends_too_long c src out number much (inl done) still = by_finish (Some c) src out (length_line c) 3 number done (inr (much, refl, refl)) still
+ends_too_long c src out number much (inr (six, sound, kept)) still = no_memory six still sound (inl kept)
+
+-- the report of a run was written
+pub by_run : (workers : ℕ) (g : Graph) (input : Text) (wanted : Wanted) (dead : Bool) (report shown : Text) (out : Passage) (status number : ℕ)
+    → wanted ≡ wanted_of g → status ≡ (if dead then 1 else 0) → shown ≡ report → IsRunOf input wanted (if dead then 1 else 0) report → Finished out shown status number
+    → Answered (Run workers g) input out number
+by_run workers g input wanted dead report shown out status number wanted_is status_is shown_is run done =
+    let by_graph : IsRunOf input (wanted_of g) (if dead then 1 else 0) report = subst (λ w. IsRunOf input w (if dead then 1 else 0) report) wanted_is run in
+    let by_status : IsRunOf input (wanted_of g) status report = subst (λ (s : ℕ). IsRunOf input (wanted_of g) s report) (sym status_is) by_graph in
+    wrote status shown (inl (subst (λ (t : Text). IsRunOf input (wanted_of g) status t) (sym shown_is) by_status)) done
+
+-- why a text has no plan was told
+pub by_end : (c : Command) (input : Text) (end : TextEnd) (out : Passage) (number : ℕ) → ((why : Refusal) → IsFaultOf input why → IsRefused c input (refusal_text why))
+    → IsTextEnd input end → TellsEnd end out number → Answered c input out number
+by_end c input (Refused why) out number refused is (inl done) = wrote 3 (refusal_text why) (inr (refl, refused why is)) done
+by_end c input (Refused why) out number refused is (inr (six, sound, kept)) = nothing six sound kept
+by_end c input NoMemory out number refused is (six, sound, kept) = nothing six sound kept

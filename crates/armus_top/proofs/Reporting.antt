@@ -1,0 +1,45 @@
+-- The report of the end of a plain run is that of the one state in which every maximal plain run ends.
+use Rattle.std.proofs.Common.{◌≡◌, ◌∙◌, ◌⊎◌, ℕ, List, inl, inr, refl, ap, sym, subst, Bool, true, false, if◌then◌else◌}
+use Rattle.std.specs.Prelude.{Option, Some, None, Ok, Err, ◌↔◌, IsTrue}
+use Rattle.armus_base.specs.declared.ending.Final.{Final}
+use Rattle.armus_base.specs.CheckedPlans.{IsCheckedPlan}
+use Rattle.armus_base.specs.Deadlocks.{IsDeadBy, IsDeadIn}
+use Rattle.armus_base.specs.Finals.{final_of, is_awaited}
+use Rattle.armus_base.specs.FinalLaws.{IsOfPlan}
+use Rattle.armus_base.specs.Plans.{Plan}
+use Rattle.armus_base.specs.States.{State}
+use Rattle.armus_base.specs.Statuses.{IsInOrder}
+use Rattle.armus_base.proofs.DeadByStatuses.{dead_by_final, run_is_of_plan}
+use Rattle.armus_base.proofs.StatusesAre.{statuses_are}
+use Rattle.pl_plan.proofs.UnfoldedIsChecked.{unfolded_is_checked}
+use Rattle.adaptive.specs.declared.analysis.Wanted.{Wanted}
+use Rattle.report.specs.Reports.{IsReport, IsSomeDead}
+use Rattle.task_runner.specs.PlainRuns.{IsPlainEnd}
+use Rattle.armus_top.specs.Texts.{Text}
+use Rattle.armus_top.specs.Programs.{IsPlanOf, TellsDead}
+use Rattle.armus_top.specs.Commands.{IsRunOf}
+
+pub plain_end_in_order : (plan : Plan) (end : Final) → IsCheckedPlan plan → IsPlainEnd plan end → IsInOrder end.blocked
+plain_end_in_order plan end checked is =
+    subst (λ (e : Final). IsInOrder e.blocked) (sym is.is_it) (statuses_are plan is.state (is_awaited plan is.state) checked).in_order
+
+tells : (state : State) (final : Final) (dead : Bool) → ((t : ℕ) → IsDeadBy final.blocked t ↔ IsDeadIn state t) → (IsTrue dead ↔ IsSomeDead final.blocked)
+    → TellsDead state (if dead then 1 else 0)
+tells state final true same is = let some = is.0 refl in inl (refl, (some.0, (same some.0).0 some.1))
+tells state final false same is = inr (refl, λ t dead. let yes = is.1 (t, (same t).1 dead) in absurd (cc))
+
+pub run_of : (input : Text) (plan : Plan) (g : Wanted) (end : Final) (dead : Bool) (text : Text) → IsPlanOf input plan → IsPlainEnd plan end
+    → (IsTrue dead ↔ IsSomeDead end.blocked) → IsReport end g text → IsRunOf input g (if dead then 1 else 0) text
+run_of input plan g end dead text plan_is is is_dead reports =
+    let checked : IsCheckedPlan plan = unfolded_is_checked plan_is.0 plan plan_is.1.unfolds in
+    let state = is.state in
+    let of_plan : IsOfPlan plan state = subst (λ (s : State). IsOfPlan plan s) is.final.there (run_is_of_plan plan is.final.steps checked is.final.run.0) in
+    record {
+      plan = plan;
+      plan_is = plan_is;
+      state = state;
+      final = is.final;
+      status_is = tells state (final_of plan state) dead (λ t. dead_by_final plan state t of_plan)
+          (subst (λ (e : Final). IsTrue dead ↔ IsSomeDead e.blocked) is.is_it is_dead);
+      report_is = subst (λ (e : Final). IsReport e g text) is.is_it reports;
+    }

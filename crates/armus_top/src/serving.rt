@@ -1,0 +1,97 @@
+// Serving a command.
+ghost use Rattle.std.specs.Prelude.{◌≡◌, ◌≢◌, Some, false};
+ghost use Rattle.armus_top.specs.Meanings.{built_of};
+ghost use Rattle.armus_top.specs.Headline.{Ends, passage, reads_input};
+ghost use Rattle.armus_top.specs.Status.{code_of};
+ghost use Rattle.armus_top.specs.Texts.{usage_line};
+ghost use Rattle.armus_top.specs.Writing.{Finished};
+ghost use Rattle.armus_words.specs.declared.command.Command.TheVariants.{Check, Run};
+
+use crate::answers::{check_text, run_text};
+use crate::status::Status;
+use crate::texts::MAX_TEXT_BYTES;
+use crate::writing::{finish, refuse};
+use armus_base::{Gate, ReadEnd, Sink, Source, read_all};
+use armus_words::{Command, Graph};
+use report::Refusal;
+use std::alloc::Global;
+
+const USAGE: &str = "usage: armus check|run|avoid|record|replay|gen\n";
+
+// `check`.
+fn check<S: Source, K: Sink>(alloc: Global, print: bool, src: &mut S, out: &mut K) -> Status
+    ensures ends { Ends (Some (Check print)) (passage S.left S.faults src.old src.new) (passage K.taken K.faults out.old out.new) (code_of result) }
+    ensures silent { code_of result ≡ 4 → out.new ≡ out.old }
+{
+    match read_all(alloc, src, MAX_TEXT_BYTES) {
+        Ok(input) => check_text(alloc, print, input.as_slice(), out),
+        Err(ReadEnd::Fault) => Status::ReadFailed,
+        Err(ReadEnd::TooLong) => refuse(alloc, &Refusal::Length, out),
+        Err(ReadEnd::NoMemory) => Status::OutOfMemory,
+    }
+}
+
+// `run`.
+fn run<S: Source, K: Sink, G: Gate>(
+    alloc: Global,
+    workers: u8,
+    graph: Graph,
+    src: &mut S,
+    out: &mut K,
+    gate: &G,
+) -> Status
+    ensures ends { Ends (Some (Run workers graph)) (passage S.left S.faults src.old src.new) (passage K.taken K.faults out.old out.new) (code_of result) }
+    ensures silent { code_of result ≡ 4 → out.new ≡ out.old }
+{
+    match read_all(alloc, src, MAX_TEXT_BYTES) {
+        Ok(input) => run_text(alloc, workers, graph, input.as_slice(), out, gate),
+        Err(ReadEnd::Fault) => Status::ReadFailed,
+        Err(ReadEnd::TooLong) => refuse(alloc, &Refusal::Length, out),
+        Err(ReadEnd::NoMemory) => Status::OutOfMemory,
+    }
+}
+
+// No command, or one that is not built.
+fn usage<K: Sink>(out: &mut K) -> Status
+    ensures done { Finished (passage K.taken K.faults out.old out.new) usage_line 2 (code_of result) }
+    ensures silent { code_of result ≢ 4 }
+{
+    finish(out, USAGE.as_bytes(), Status::Usage)
+}
+
+// Serves a command, or writes the usage line where it is not built.
+fn serve_command<S: Source, K: Sink, G: Gate>(
+    alloc: Global,
+    command: Command,
+    src: &mut S,
+    out: &mut K,
+    gate: &G,
+) -> Status
+    ensures ends { Ends (built_of (Some command)) (passage S.left S.faults src.old src.new) (passage K.taken K.faults out.old out.new) (code_of result) }
+    ensures unread { reads_input (built_of (Some command)) ≡ false → src.new ≡ src.old }
+    ensures silent { code_of result ≡ 4 → out.new ≡ out.old }
+{
+    match command {
+        Command::Check { print } => check(alloc, print, src, out),
+        Command::Run { workers, graph } => run(alloc, workers, graph, src, out, gate),
+        Command::Gen { .. } => usage(out),
+    }
+}
+
+/// Serves the command that the words mean, or writes the usage line where they mean none that is built.
+pub fn serve<S: Source, K: Sink, G: Gate>(
+    alloc: Global,
+    meaning: Option<Command>,
+    src: &mut S,
+    out: &mut K,
+    gate: &G,
+) -> Status
+    ensures ends { Ends (built_of meaning) (passage S.left S.faults src.old src.new) (passage K.taken K.faults out.old out.new) (code_of result) }
+    ensures unread { reads_input (built_of meaning) ≡ false → src.new ≡ src.old }
+    ensures silent { code_of result ≡ 4 → out.new ≡ out.old }
+{
+    match meaning {
+        Some(command) => serve_command(alloc, command, src, out, gate),
+        None => usage(out),
+    }
+}

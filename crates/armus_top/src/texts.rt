@@ -1,0 +1,46 @@
+// From a text to its program and its plan.
+ghost use Rattle.std.specs.Prelude.{◌≤◌, length, IfOk, IfErr};
+ghost use Rattle.armus_top.specs.Programs.{IsChecked, IsTextEnd};
+
+use armus_base::Plan;
+use pl_plan::{PlanEnd, plan};
+use pl_syntax::{ParseEnd, Program, parse};
+use report::Refusal;
+use std::alloc::Global;
+
+/// The most bytes of a text.
+pub const MAX_TEXT_BYTES: usize = 1_048_576;
+
+/// Why a text has no plan.
+#[derive(Clone, Copy, Debug, PartialEq, Eq)]
+pub enum TextEnd {
+    /// It is refused.
+    Refused(Refusal),
+    /// Memory ran out.
+    NoMemory,
+}
+
+/// The program of a text, and the plan to which it unfolds.
+#[derive(Drop)]
+pub struct Checked {
+    pub program: Program,
+    pub plan: Plan,
+}
+
+/// The program of a text and its plan, or why there is none.
+pub fn checked_in(alloc: Global, text: &[u8]) -> Result<Checked, TextEnd>
+    requires short { length text.now ≤ MAX_TEXT_BYTES }
+    ensures plan { IfOk result (λ c. IsChecked text.now c.program.body c.plan) }
+    ensures refused { IfErr result (IsTextEnd text.now) }
+{
+    let program = match parse(alloc, text) {
+        Ok(program) => program,
+        Err(ParseEnd::Syntax(fault)) => return Err(TextEnd::Refused(Refusal::Syntax(fault))),
+        Err(ParseEnd::NoMemory) => return Err(TextEnd::NoMemory),
+    };
+    match plan(alloc, &program) {
+        Ok(plan) => Ok(Checked { program, plan }),
+        Err(PlanEnd::Check(fault)) => Err(TextEnd::Refused(Refusal::Check(fault))),
+        Err(PlanEnd::NoMemory) => Err(TextEnd::NoMemory),
+    }
+}
