@@ -9,4 +9,5 @@ pub mod Passing
 pub mod Awaiting
 pub mod Phasing
 pub mod Following
-pub mod Replaying
+pub mod PassLines
+pub mod LineByLine

@@ -5,4 +5,5 @@ pub mod Replays
 pub mod OpenPasses
 pub mod Following
 pub mod Replaying
+pub mod Texts
 pub mod Laws

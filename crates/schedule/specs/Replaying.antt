@@ -8,9 +8,9 @@ use Rattle.armus_base.specs.Runs.{state_after}
 use Rattle.armus_base.specs.States.{State}
 use Rattle.schedule.specs.declared.lines.Line.{Line}
 use Rattle.schedule.specs.declared.pass.OpenPass.{OpenPass}
-use Rattle.schedule.specs.declared.replay.Replaying.{Replaying}
-use Rattle.schedule.specs.declared.replay.LineEnd.{LineEnd}
-use Rattle.schedule.specs.declared.replay.LineEnd.TheVariants.{Fault, NoMemory as LineWantsMemory}
+use Rattle.schedule.specs.declared.replaying.Replaying.{Replaying}
+use Rattle.schedule.specs.declared.replaying.LineEnd.{LineEnd}
+use Rattle.schedule.specs.declared.replaying.LineEnd.TheVariants.{Fault, NoMemory as LineWantsMemory}
 use Rattle.schedule.specs.declared.verdict.PassVerdict.{PassVerdict}
 use Rattle.schedule.specs.declared.verdict.Replayed.{Replayed}
 use Rattle.schedule.specs.declared.verdict.ReplayEnd.{ReplayEnd}

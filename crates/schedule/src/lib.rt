@@ -4,11 +4,17 @@
 mod laws;
 mod lines;
 mod pass;
-mod replay;
+mod replaying;
 mod split;
+mod text;
 mod verdict;
 
 pub use laws::passes_name_the_dead;
 pub use lines::{Line, read_lines};
+pub use replaying::replay;
 pub use split::split_input;
+pub use text::replay_text;
 pub use verdict::{PassVerdict, ReplayEnd, Replayed, ScheduleFault};
+
+#[cfg(test)]
+mod tests;

@@ -1,0 +1,127 @@
+// Schedules over the empty text's plan, and over that of two tasks that wait for each other.
+use crate::{ReplayEnd, read_lines, replay, replay_text, split_input};
+use armus_base::{Code, List, NoMemory, Op, PhaserId, Plan, TaskId};
+use std::alloc::Global;
+use std::test::Fail;
+
+const A: PhaserId = PhaserId(0);
+
+const B: PhaserId = PhaserId(1);
+
+const ROOT: TaskId = TaskId(0);
+
+const CHILD: TaskId = TaskId(1);
+
+// The plan of the empty text.
+fn empty_plan(alloc: Global) -> Result<Plan, NoMemory> {
+    let parents = vec![in alloc; None]?;
+    let codes = vec![in alloc; Code::from_ops(List::new(alloc))]?;
+    Ok(Plan::from_parts(
+        List::from_vec(parents),
+        List::new(alloc),
+        List::from_vec(codes),
+    ))
+}
+
+// Task 0 makes two phasers, registers its child on both and forks it; it waits on the first, and the child on the second.
+fn two_tasks(alloc: Global) -> Result<Plan, NoMemory> {
+    let parents = vec![in alloc; None, Some(ROOT)]?;
+    let makers = vec![in alloc; ROOT, ROOT]?;
+    let first = vec![in alloc;
+        Op::Make { p: A },
+        Op::Make { p: B },
+        Op::Reg { c: CHILD, p: A },
+        Op::Reg { c: CHILD, p: B },
+        Op::Fork { c: CHILD },
+        Op::Adv { p: A },
+        Op::Await { p: A },
+    ]?;
+    let second = vec![in alloc; Op::Adv { p: B }, Op::Await { p: B }]?;
+    let codes = vec![in alloc;
+        Code::from_ops(List::from_vec(first)),
+        Code::from_ops(List::from_vec(second)),
+    ]?;
+    Ok(Plan::from_parts(
+        List::from_vec(parents),
+        List::from_vec(makers),
+        List::from_vec(codes),
+    ))
+}
+
+// The text of the replay, or the line of its fault.
+fn outcome(alloc: Global, plan: &Plan, schedule: &str) -> Result<Vec<u8>, Fail> {
+    if schedule.len() > 1000 {
+        return Ok(Vec::new(alloc));
+    }
+    let lines = read_lines(alloc, schedule.as_bytes())?;
+    if lines.as_slice().len() > 1000 {
+        return Ok(Vec::new(alloc));
+    }
+    match replay(alloc, plan, lines.as_slice()) {
+        Ok(done) => Ok(replay_text(alloc, &done)?.into_vec()),
+        Err(ReplayEnd::Schedule(fault)) => {
+            let kind = fault.kind;
+            let line = fault.line;
+            Ok(format!(in alloc; "kind {kind} line {line}")?.into_bytes())
+        }
+        Err(ReplayEnd::NoMemory) => Ok(Vec::new(alloc)),
+    }
+}
+
+#[test]
+fn faults_and_ends(rt: HostRuntime) -> Result<(), Fail> {
+    let alloc = rt.alloc();
+    let plan = empty_plan(alloc)?;
+    for (schedule, want) in [
+        ("t 0", "kind 2 line 1"),
+        ("t 1", "kind 3 line 1"),
+        ("t 999999999", "kind 3 line 1"),
+        ("t 00", "kind 1 line 1"),
+        ("t  0", "kind 1 line 1"),
+        ("T 0", "kind 1 line 1"),
+        ("t 1000000000", "kind 1 line 1"),
+        ("\n", "kind 1 line 1"),
+        ("l\r", "kind 1 line 1"),
+        ("pass\npass", "kind 5 line 2"),
+        ("pass\nl\nl", "kind 4 line 3"),
+        ("pass", "end steps 0 passes 0 dead none\n"),
+        (
+            "pass\nl\n",
+            "pass 1 dead none\nend steps 0 passes 1 dead none\n",
+        ),
+    ] {
+        let found = outcome(alloc, &plan, schedule)?;
+        assert!(rt; found.as_slice() == want.as_bytes(), "at {schedule}");
+    }
+    Ok(())
+}
+
+#[test]
+fn both_tasks_are_named(rt: HostRuntime) -> Result<(), Fail> {
+    let alloc = rt.alloc();
+    let plan = two_tasks(alloc)?;
+    let schedule =
+        "t 0\nt 0\nt 0\nt 0\nt 0\npass\nl\nt 0\nt 0\nt 1\nt 1\nl\nl\npass\nl\nl\nl\nl\nl\nl\n";
+    let want = "pass 1 dead none\npass 2 dead t0 t1\nend steps 9 passes 2 dead t0 t1\n";
+    let found = outcome(alloc, &plan, schedule)?;
+    assert!(rt; found.as_slice() == want.as_bytes());
+    Ok(())
+}
+
+#[test]
+fn texts_are_split(rt: HostRuntime) {
+    for (input, text, schedule) in [
+        ("", "", ""),
+        ("%%\nl\n", "", "l\n"),
+        ("skip;\n%%\nt 0\n", "skip;\n", "t 0\n"),
+        ("skip;\n%%", "skip;\n", ""),
+        ("skip; %%\n%%%\n", "skip; %%\n%%%\n", ""),
+        ("a\n%%\nb\n%%\n", "a\n", "b\n%%\n"),
+    ] {
+        let found = split_input(input.as_bytes());
+        assert!(rt;
+            found.0 == text.as_bytes() && found.1 == schedule.as_bytes(),
+            "at {input}"
+        );
+    }
+}
