@@ -1,5 +1,5 @@
 -- The text of a replay.
-use Rattle.std.specs.Prelude.{ℕ, ◌+◌, List, [], ◌∷◌, ◌++◌, codes, decimal, flat_map, length}
+use Rattle.std.specs.Prelude.{ℕ, List, [], ◌∷◌, ◌++◌, codes, decimal, flat_map, length}
 use Rattle.std.specs.List.{enumerate_from}
 use Rattle.armus_base.specs.declared.ids.TaskId.{TaskId}
 use Rattle.schedule.specs.declared.verdict.PassVerdict.{PassVerdict}
