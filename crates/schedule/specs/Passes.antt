@@ -36,10 +36,11 @@ abbrev pub count_below : (ℕ → Bool) → ℕ → ℕ
 count_below test zero = 0
 count_below test (suc n) = if test n then count_below test n + 1 else count_below test n
 
--- how many tasks below t were found waiting, and how many phasers below p were found awaited
+-- how many tasks below t were found waiting
 abbrev pub waiting_below : Loads → ℕ → ℕ
 waiting_below loads t = count_below (λ u. is_some (event_found loads u)) t
 
+-- how many phasers below p were found awaited
 abbrev pub awaited_below : Plan → Loads → ℕ → ℕ
 awaited_below plan loads p = count_below (is_found_awaited plan loads) p
 

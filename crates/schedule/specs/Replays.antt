@@ -39,19 +39,23 @@ pub data Leads (plan : Plan) : List Line → Progress → Type 0 where
   no_line : Leads plan [] at_start
   one_more : (lines : List Line) (a : Progress) (next : Line) (b : Progress) → Leads plan lines a → Takes plan a next b → Leads plan (lines ++ next ∷ []) b
 
--- the kinds of faults
+-- the kind of a line that has no form
 abbrev pub no_form : ℕ
 no_form = 1
 
+-- of a step whose task is not enabled
 abbrev pub not_enabled : ℕ
 not_enabled = 2
 
+-- of a step of a task that the plan does not have
 abbrev pub no_task : ℕ
 no_task = 3
 
+-- of a load while no pass is open
 abbrev pub no_open_pass : ℕ
 no_open_pass = 4
 
+-- of a pass that starts while one is open
 abbrev pub pass_is_open : ℕ
 pass_is_open = 5
 
