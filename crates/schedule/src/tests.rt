@@ -100,6 +100,10 @@ fn faults_and_ends(rt: HostRuntime) -> Result<(), Fail> {
 fn both_tasks_are_named(rt: HostRuntime) -> Result<(), Fail> {
     let alloc = rt.alloc();
     let plan = two_tasks(alloc)?;
+    assert_eq!(rt; plan.tasks(), 2);
+    assert_eq!(rt; plan.phasers(), 2);
+    assert!(rt; plan.parent(ROOT).is_none() && plan.parent(CHILD) == Some(ROOT));
+    assert_eq!(rt; plan.maker(B), ROOT);
     let schedule =
         "t 0\nt 0\nt 0\nt 0\nt 0\npass\nl\nt 0\nt 0\nt 1\nt 1\nl\nl\npass\nl\nl\nl\nl\nl\nl\n";
     let want = "pass 1 dead none\npass 2 dead t0 t1\nend steps 9 passes 2 dead t0 t1\n";
