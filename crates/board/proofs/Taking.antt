@@ -1,5 +1,5 @@
 -- What a viewer has seen after it took in a seat.
-use Rattle.std.proofs.Common.{◌≡◌, ℕ, true, Option, Some, None, length, sym, refl, ap, ◌∙◌, subst, ◌≤◌, arith}
+use Rattle.std.proofs.Common.{◌≡◌, ℕ, true, Option, Some, None, length, sym, refl, ap, ◌∙◌, subst, arith}
 use Rattle.atomic_table.specs.Seated.{TableId}
 use Rattle.armus_base.specs.Plans.{Plan}
 use Rattle.armus_base.specs.Seats.{IsSeenAfterTakingIn}

@@ -1,5 +1,5 @@
 // The seat of a task.
-ghost use Rattle.std.specs.Prelude.{◌≡◌, ◌+◌, ◌<◌, ◌≤◌, [], Some, None, length, IfOk, OnOk, OnErr, IsSome, false};
+ghost use Rattle.std.specs.Prelude.{◌≡◌, ◌+◌, ◌<◌, ◌≤◌, [], Some, None, length, IfOk, IsOk, OnOk, IsSome, false};
 ghost use Rattle.armus_base.specs.Limits.{max_tasks, max_ops};
 ghost use Rattle.armus_base.specs.Plans.{Makes, Registers, Forks, Advances, Drops, Blocks};
 ghost use Rattle.armus_base.specs.Seats.{seen_by_child, scanned_after};
@@ -197,7 +197,7 @@ impl TaskSeat {
         requires next { next_action self.old.view ≡ Some (Forks c.0) }
         ensures step { OnOk result (MakesStep (Forks c.0) self.old self.new) }
         ensures child { IfOk result (λ child. IsNewSeat board.now (Some c.0) (seen_by_child c.0 (seen self.new.view)) child) }
-        ensures unchanged { OnErr result (self.new ≡ self.old) }
+        ensures always { IsOk result }
     {
         let _ = alloc;
         board.cells.shared.load::<SeesUnforked>(&mut self.place, 0);

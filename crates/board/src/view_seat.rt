@@ -1,5 +1,5 @@
 // The seat of a viewer.
-ghost use Rattle.std.specs.Prelude.{◌≡◌, ◌<◌, [], None, false, length, IfOk};
+ghost use Rattle.std.specs.Prelude.{◌≡◌, ◌<◌, [], None, false, length, IfOk, IsOk};
 ghost use Rattle.board.specs.Views.{found_of, seen};
 ghost use Rattle.board.specs.Seats.{Known, IsOf, IsSeat, IsNewSeat, AnswersAwait, AnswersPhase, TakesIn};
 
@@ -89,6 +89,7 @@ impl ViewSeat {
         requires made { IsOf self.old board.now }
         ensures seat { self.new ≡ self.old }
         ensures other { IfOk result (λ other. IsNewSeat board.now None (seen self.old.view) other) }
+        ensures always { IsOk result }
     {
         let _ = alloc;
         let place = board.cells.shared.split_seat::<Copies>(&mut self.place);

@@ -66,7 +66,7 @@ fn may_be_number(bytes: &[u8]) -> bool
 // The number whose decimal these bytes are, where it has at most 9 digits.
 #[tactic(auto, using(crate::proofs::Numbers::not_number, crate::proofs::Numbers::not_text))]
 fn number(bytes: &[u8]) -> Option<u32>
-    ensures { MatchOption result ((n : ℕ) → n < 10 ^ 9 → bytes.now ≡ decimal n → ⊥) (λ n. n < 10 ^ 9 × bytes.now ≡ decimal n) }
+    ensures { MatchOption result ((n : ℕ) → n < 10 ^ MOST_DIGITS → bytes.now ≡ decimal n → ⊥) (λ n. n < 10 ^ MOST_DIGITS × bytes.now ≡ decimal n) }
 {
     if !may_be_number(bytes) {
         return None;

@@ -1,5 +1,5 @@
-use Rattle.std.proofs.Common.{◌≡◌, List, [], ◌∷◌, ◌++◌, None, sym, ap, ap₂, ◌∙◌, subst}
-use Rattle.armus_base.specs.CheckedPlans.{IsCheckedPlan, first_plan}
+use Rattle.std.proofs.Common.{[], ◌∷◌, ◌++◌, None, sym, ap, ap₂, ◌∙◌, subst}
+use Rattle.armus_base.specs.CheckedPlans.{IsCheckedPlan}
 use Rattle.armus_base.proofs.PlanGrows.{first_plan_is_checked}
 use Rattle.board.proofs.tests.one_task.Goals as goal
 
