@@ -30,7 +30,7 @@ pub enum Used {
 pub struct Analysis {
     /// the dead tasks of the statuses, in order of number
     pub dead: List<TaskId>,
-    /// the graph by which they were found
+    /// the graph that was used, by the rule for what was wanted
     pub used: Used,
     /// the number of distinct edges of that whole graph
     pub edges: u64,

@@ -57,7 +57,7 @@ fn by_resources(alloc: Global, deps: &DepState) -> Result<Analysis, NoMemory>
     })
 }
 
-/// The dead tasks of the statuses, by the graph that is wanted, and that whole graph's number of distinct edges. `Auto` takes the state graph
+/// The dead tasks of the statuses, the graph that is used, and that whole graph's number of distinct edges. `Auto` takes the state graph
 /// exactly where over the first k statuses it has at most 2 k edges for every k, and the wait-for graph otherwise (the adaptive idea is of
 /// PPoPP 2015, this rule is the project's own).
 pub fn analyse(alloc: Global, list: &[Status], wanted: Wanted) -> Result<Analysis, NoMemory>

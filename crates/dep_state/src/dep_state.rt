@@ -35,7 +35,8 @@ impl Model for DepState {
 }
 
 impl DepState {
-    /// The relations of the statuses, in near linear time in their size and that of the relation between events and tasks.
+    /// The relations of the statuses. Each event looks at each status once, so the time grows with statuses times events, and with the size
+    /// of the relation between events and tasks.
     pub fn of(alloc: Global, list: &[Status]) -> Result<DepState, NoMemory>
         requires { IsInOrder list.now }
         ensures { IfOk result (IsDepsOf list.now) }

@@ -78,7 +78,7 @@ impl StateGraph {
     }
 
     /// The graph of these relations, task by task in order of number. `Left` comes exactly where over some first k tasks it has more than 2 k
-    /// edges, with the first such k; then no more is built than that needs.
+    /// edges, with the first such k.
     pub fn build_bounded(alloc: Global, deps: &DepState) -> Result<StateGraph, SgEnd>
         ensures { (ss : List Status) → IsInOrder ss → IsDepsOf ss deps.now →
             MatchResult result (λ g. IsStateGraphOf deps.now g × StaysSmall ss) (IsBoundedEnd ss) }

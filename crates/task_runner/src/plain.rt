@@ -7,7 +7,8 @@ use armus_base::{Final, Gate, NoMemory, Plan};
 use pl_core::World;
 use std::alloc::Global;
 
-/// Runs the plan by rounds: in a round each task that was forked before it has one turn, in order of number, and acts until it is done or waits on an event that is not reached. The gate is called before each op. It answers the state in which every maximal plain run ends.
+/// The state in which every maximal plain run of the plan ends; no order of turns changes it. The run goes by rounds (in a round each task that
+/// was forked before it has one turn, in order of number) and calls the gate before each op; no clause speaks of rounds and gate.
 pub fn run_plain<G: Gate>(alloc: Global, plan: &Plan, gate: &G) -> Result<Final, NoMemory>
     ensures end { IfOk result (λ end. IsPlainEnd plan.now end) }
 {
