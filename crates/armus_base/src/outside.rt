@@ -8,7 +8,7 @@ ghost use Rattle.armus_base.specs.Outside.{TakesSome};
 
 use crate::{Failed, TaskId};
 
-/// A point of a run at which the gate is called.
+/// A point of a run at which the program calls the gate. That it does so is tested and not proved.
 #[derive(Clone, Copy, Debug, PartialEq, Eq)]
 pub enum Point {
     /// Before op `k` of the code of task `t`.
@@ -47,9 +47,9 @@ pub trait Sink: Send {
         ensures cause { HasCause (faults self.old) (faults self.new) result };
 }
 
-/// A gate at which the tasks of a run pass: a test may hold them there. It returns, and changes nothing that a contract sees.
+/// A gate at which the tasks of a run pass: a test may hold them there. No contract of the product depends on what it does.
 pub trait Gate: Sync {
-    /// Is called by a task before each op, and by the collector after the lines of each verdict were written.
+    /// Passes the point. A run calls it before each op of each task.
     fn at(&self, point: Point);
 }
 
