@@ -5,7 +5,9 @@ mod effect;
 mod phase_table;
 mod place;
 mod stand;
+mod stop;
 mod task;
+mod walk;
 mod world;
 
 pub use place::Place;

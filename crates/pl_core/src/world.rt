@@ -5,7 +5,8 @@ ghost use Rattle.armus_base.specs.Plans.{Forks, code_of};
 ghost use Rattle.armus_base.specs.CheckedPlans.{IsCheckedPlan};
 ghost use Rattle.armus_base.specs.Runs.{IsReachable};
 ghost use Rattle.armus_base.specs.States.{IsActive, IsMember, IsReached, event_on};
-ghost use Rattle.pl_core.specs.Worlds.{state_of, places_of, next_action, IsOpening};
+ghost use Rattle.pl_core.specs.GivenPlaces.{IsAtPlaces};
+ghost use Rattle.pl_core.specs.Worlds.{state_of, places_at, places_of, next_action, IsOpening};
 ghost use Rattle.pl_core.specs.Stands.{StandsSo, IsAtAwaitOf, IsReady, IsEnabled, MayGoOn, AreAhead, IsFirstBehind};
 ghost use Rattle.pl_core.specs.Moves.{MakesRefusal, MakesStep};
 ghost use Rattle.armus_base.specs.Finals.{end_of, final_of, given_below, is_awaited, list_below, listed_phase, statuses_of, statuses_on};
@@ -16,6 +17,7 @@ ghost use Rattle.pl_core.specs.Tasks.{IsAtOp};
 use crate::effect::move_phases;
 use crate::phase_table::PhaseTable;
 use crate::task::{Task, first_tasks, op_at, task_at};
+use crate::walk::Walk;
 use crate::{Place, Stand};
 use armus_base::{
     Event, Final, List, Member, NoMemory, Op, Phase, PhaserId, Plan, Status, TaskEnd, TaskId,
@@ -55,6 +57,20 @@ impl<'p> World<'p> {
             plan,
             tasks,
             phases,
+        })
+    }
+
+    /// The state in which each task stands at its place of `places`: one place for each task, and a legal run has to lead to them.
+    pub fn at(alloc: Global, plan: &'p Plan, places: &[Place]) -> Result<World<'p>, NoMemory>
+        requires one_each { length places.now ≡ length plan.now.parents }
+        requires reachable { IsReachable plan.now (places_at plan.now places.now) }
+        ensures at { IfOk result (λ world. IsAtPlaces plan.now places.now world) }
+    {
+        let walk = Walk::to_places(alloc, plan, places)?;
+        Ok(World {
+            plan,
+            tasks: walk.tasks,
+            phases: walk.phases,
         })
     }
 
