@@ -10,3 +10,4 @@ pub mod Views
 pub mod Ops
 pub mod Effects
 pub mod Reading
+pub mod Supposed
