@@ -1,5 +1,5 @@
 -- Steps that publish nothing make nobody dead, and a decision makes nobody dead.
-use Rattle.std.proofs.Common.{◌≡◌, ◌≢◌, ℕ, List, [], ◌∷◌, ◌++◌, Some, sym, ◌∙◌, ap, subst}
+use Rattle.std.proofs.Common.{◌≡◌, ◌≢◌, ℕ, List, [], ◌∷◌, ◌++◌, Some, sym, ◌∙◌, ap, subst, refl}
 use Rattle.armus_base.specs.declared.event.Event.{Event}
 use Rattle.armus_base.specs.CheckedPlans.{IsCheckedPlan}
 use Rattle.armus_base.specs.Deadlocks.{IsDeadIn, NobodyDead, WouldBeDead}
@@ -11,8 +11,10 @@ use Rattle.armus_base.proofs.OnlyBlocksKill.{only_blocks_kill}
 use Rattle.armus_base.proofs.Reachable.{reachable_is_fixed, reachable_steps}
 use Rattle.armus_base.proofs.SerialIsAvoided.{block_leaves_nobody_dead}
 use Rattle.pl_core.specs.Moves.{LeadsOn, MakesRefusal, MakesStep, drops_from}
-use Rattle.pl_core.specs.Stands.{IsAtAwaitOf}
-use Rattle.pl_core.specs.Worlds.{WorldValue, places_of, state_of}
+use Rattle.pl_core.specs.declared.stand.Stand.{Stand}
+use Rattle.pl_core.specs.declared.stand.Stand.TheVariants.{Unforked, Done, Refused, Ready, Await, Waits}
+use Rattle.pl_core.specs.Stands.{IsAtAwaitOf, StandsSo}
+use Rattle.pl_core.specs.Worlds.{IsOpening, WorldValue, next_action, places_of, state_of}
 use Rattle.pl_core.proofs.Refusing.{leads_reachable}
 use Rattle.avoider.proofs.Supposing.{awaits_event, blocks_next}
 
@@ -65,3 +67,23 @@ module _ (old new : WorldValue) (checked : IsCheckedPlan old.plan) (reach : IsRe
       let is : s.action ≡ Blocks e.p.0 = (let both : Some s.action ≡ Some (Blocks e.p.0) = sym s.next ∙ blocks_next old t e before in cc) in
       subst NobodyDead (sym (s.state ∙ ap (after (state_of old) t) is))
       (block_leaves_nobody_dead (state_of old) t e.p.0 e nobody (awaits_event old t e before) alive)
+
+-- only who stands at an await blocks
+pub no_block_else :
+    (w : WorldValue) (t : ℕ) (stand : Stand) → StandsSo w t stand → ((e : Event) → stand ≡ Await e → ⊥) →
+    (x : Action) → next_action w t ≡ Some x → IsLegal w.plan (state_of w) t x → (p : ℕ) → x ≢ Blocks p
+no_block_else w t stand so other x next legal p is = by_stand stand so other (subst (λ y. IsLegal w.plan (state_of w) t y) is legal)
+  where
+    by_stand : (stand : Stand) → StandsSo w t stand → ((e : Event) → stand ≡ Await e → ⊥) → IsLegal w.plan (state_of w) t (Blocks p) → ⊥
+    by_stand Unforked so other legal = absurd (let f = legal.0.forked in cc)
+    by_stand Done so other legal = absurd (let none = so.1 in cc)
+    by_stand (Refused e) so other legal = absurd (let none = legal.0.unrefused in cc)
+    by_stand Ready so other legal = so.3 p (let both : Some so.1 ≡ Some (Blocks p) = sym so.2 ∙ next ∙ ap Some is in cc)
+    by_stand (Await e) so other legal = other e refl
+    by_stand (Waits e) so other legal = absurd (let none = legal.0.unpublished in cc)
+
+-- nobody is dead at first
+pub opening_alive : (plan : Plan) (w : WorldValue) → IsOpening plan w → NobodyDead (state_of w)
+opening_alive plan w opens u dead =
+    let held = (subst (λ s. IsDeadIn s u) opens.state dead).deadlocked.each u dead.inside in
+    let waits = held.waits in absurd (cc)

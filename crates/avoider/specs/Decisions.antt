@@ -1,5 +1,5 @@
 -- Decisions on an await: what they make of a world, and the cycle of a refusal.
-use Rattle.std.specs.Prelude.{ℕ, List}
+use Rattle.std.specs.Prelude.{◌≢◌, ℕ, ◌⊎◌, List}
 use Rattle.armus_base.specs.declared.event.Event.{Event}
 use Rattle.armus_base.specs.declared.ids.TaskId.{TaskId}
 use Rattle.armus_base.specs.declared.status.Status.{Status}
@@ -45,3 +45,12 @@ pub record IsRefused (old new : WorldValue) (t : ℕ) (c : Cycle) : Type 0 where
 abbrev pub IsDecision : WorldValue → WorldValue → ℕ → Decision → Type 0
 IsDecision old new t (Published e) = IsPublished old new t e
 IsDecision old new t (Refused c) = IsRefused old new t c
+
+-- task t has made its next event, which is no block
+pub record MakesOtherEvent (old new : WorldValue) (t : ℕ) : Type 0 where
+  pub step : MakesStep old new t
+  pub other : (p : ℕ) → step.action ≢ Blocks p
+
+-- task t has gone on as a run does that avoids deadlock: by a decision at an await, and else by the next event of its code
+abbrev pub HasGoneOn : WorldValue → WorldValue → ℕ → Type 0
+HasGoneOn old new t = ((d : Decision) × IsDecision old new t d) ⊎ MakesOtherEvent old new t

@@ -2,7 +2,11 @@
 #![tactic(auto)]
 
 mod decision;
+mod event;
 mod step;
+#[cfg(test)]
+mod tests;
 
 pub use decision::Decision;
+pub use event::go_on;
 pub use step::avoid_step;
