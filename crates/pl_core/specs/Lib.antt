@@ -13,3 +13,4 @@ pub mod Reading
 pub mod GivenPlaces
 pub mod Stops
 pub mod Walks
+pub mod Supposed

@@ -1,0 +1,2 @@
+pub mod Supposing
+pub mod NobodyDies
