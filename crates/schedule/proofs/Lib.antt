@@ -13,3 +13,4 @@ pub mod PassLines
 pub mod LineByLine
 pub mod OneSchedule
 pub mod OneReplay
+pub mod Within

@@ -97,12 +97,16 @@ one_progress plan lines a b p q = go lines a b p q
 
 -- ---- a progress or a fault
 
+some_or_none : (loads : Option Loads) → IsSome loads → loads ≡ None → ⊥
+some_or_none None some none = absurd (cc)
+some_or_none (Some l) some none = absurd (cc)
+
 fault_or_taken : (plan : Plan) → IsCheckedPlan plan → (a : Progress) (next : Line) (kind : ℕ) (b : Progress) → IsFault plan a next kind → Takes plan a next b → ⊥
 fault_or_taken plan checked a _ _ b unreadable takes = takes
 fault_or_taken plan checked a _ _ b (strange_task t beyond) (x, next, is) = absurd (let within = action_of_task plan checked t _ x next.by_code in omega arith)
 fault_or_taken plan checked a _ _ b (stuck_task t within stuck) (x, next, is) = stuck x next
 fault_or_taken plan checked a _ _ b (load_without_pass none) (loads, opened, is) = absurd (cc)
-fault_or_taken plan checked a _ _ b (second_pass some) (none, is) = absurd (let yes : IsSome (None {A = Loads}) = subst (λ o. IsSome o) none some in cc)
+fault_or_taken plan checked a _ _ b (second_pass some) (none, is) = some_or_none a.open_pass some none
 
 -- lines that lead to a progress have no line at fault
 no_fault_inside : (plan : Plan) → IsCheckedPlan plan → (all : List Line) (b : Progress) (before : List Line) (here : Line) (rest : List Line) (a : Progress) (kind : ℕ)

@@ -45,7 +45,7 @@ one_line : (bytes line other rest behind : List ℕ) → IsFirstLine bytes line 
 one_line bytes line other rest behind (ended p e) (ended q f) = both_ended line other rest behind p q (sym e ∙ f)
 one_line bytes line other rest behind (ended p e) (unended q some f nothing) = absurd (no_end_inside line rest (subst HasNoEnd (sym f ∙ e) q))
 one_line bytes line other rest behind (unended p some e nothing) (ended q f) = absurd (no_end_inside other behind (subst HasNoEnd (sym e ∙ f) p))
-one_line bytes line other rest behind (unended p some e nothing) (unended q more f nil) = record { line_is = sym e ∙ f; rest_is = nothing ∙ sym nil }
+one_line bytes line other rest behind (unended p some e nothing) (unended q filled f nil) = record { line_is = sym e ∙ f; rest_is = nothing ∙ sym nil }
 
 -- no bytes have no first line
 no_bytes : (line rest : List ℕ) → IsFirstLine [] line rest → ⊥
