@@ -10,9 +10,9 @@ use Rattle.armus_words.specs.declared.command.Command.{Command}
 use Rattle.armus_words.specs.declared.command.Command.TheVariants.{Run}
 use Rattle.armus_words.specs.declared.command.Graph.{Graph}
 use Rattle.armus_top.specs.Texts.{Text}
-use Rattle.armus_top.specs.declared.texts.TextEnd.{TextEnd}
-use Rattle.armus_top.specs.declared.texts.TextEnd.TheVariants.{Refused, NoMemory}
-use Rattle.armus_top.specs.Programs.{IsFaultOf, IsTextEnd}
+use Rattle.armus_top.specs.declared.texts.InputEnd.{InputEnd}
+use Rattle.armus_top.specs.declared.texts.InputEnd.TheVariants.{Refused, NoMemory}
+use Rattle.armus_top.specs.Programs.{IsEnd}
 use Rattle.armus_top.specs.Commands.{IsAnswered, IsRefused, IsRunOf, limit_of, length_line, wanted_of}
 use Rattle.armus_top.specs.Headline.{Answers, Ends, GaveTooMuch, HasInput, IsSound, Passage, no_memory}
 use Rattle.armus_top.specs.Writing.{Answered, Finished, Refuses, TellsEnd, wrote, nothing}
@@ -51,9 +51,9 @@ by_run workers g input wanted dead report shown out status number wanted_is stat
     let by_status : IsRunOf input (wanted_of g) status report = subst (λ (s : ℕ). IsRunOf input (wanted_of g) s report) (sym status_is) by_graph in
     wrote status shown (inl (subst (λ (t : Text). IsRunOf input (wanted_of g) status t) (sym shown_is) by_status)) done
 
--- why a text has no plan was told
-pub by_end : (c : Command) (input : Text) (end : TextEnd) (out : Passage) (number : ℕ) → ((why : Refusal) → IsFaultOf input why → IsRefused c input (refusal_text why))
-    → IsTextEnd input end → TellsEnd end out number → Answered c input out number
-by_end c input (Refused why) out number refused is (inl done) = wrote 3 (refusal_text why) (inr (refl, refused why is)) done
-by_end c input (Refused why) out number refused is (inr (six, sound, kept)) = nothing six sound kept
-by_end c input NoMemory out number refused is (six, sound, kept) = nothing six sound kept
+-- why there is no answer was told
+pub by_end : (c : Command) (input : Text) (IsWhy : Refusal → Type 0) (end : InputEnd) (out : Passage) (number : ℕ) → ((why : Refusal) → IsWhy why → IsRefused c input (refusal_text why))
+    → IsEnd IsWhy end → TellsEnd end out number → Answered c input out number
+by_end c input IsWhy (Refused why) out number refused is (inl done) = wrote 3 (refusal_text why) (inr (refl, refused why is)) done
+by_end c input IsWhy (Refused why) out number refused is (inr (six, sound, kept)) = nothing six sound kept
+by_end c input IsWhy NoMemory out number refused is (six, sound, kept) = nothing six sound kept

@@ -2,29 +2,18 @@
 use Rattle.std.proofs.Common.{◌≡◌, ◌≤◌, ◌∙◌, ◌⊎◌, ℕ, List, inl, inr, refl, ap, sym, subst, arith, Bool, true, false}
 use Rattle.std.specs.Prelude.{Option, Some, None, Ok, Err}
 use Rattle.armus_base.specs.Plans.{Plan}
+use Rattle.armus_base.specs.Runs.{state_after}
 use Rattle.armus_base.specs.States.{State}
 use Rattle.pl_syntax.specs.Tree.{Tree}
-use Rattle.pl_syntax.specs.Grammar.{IsText}
-use Rattle.pl_syntax.proofs.Unique.{one_tree, text_or_fault}
-use Rattle.pl_plan.specs.Unfolding.{plan_of}
 use Rattle.adaptive.specs.declared.analysis.Wanted.{Wanted}
 use Rattle.report.specs.declared.refusal.Refusal.{Refusal}
-use Rattle.report.specs.declared.refusal.Refusal.TheVariants as refusal
 use Rattle.armus_words.specs.declared.command.Command.{Command}
-use Rattle.armus_words.specs.declared.command.Command.TheVariants.{Check, Run, Gen}
+use Rattle.armus_words.specs.declared.command.Command.TheVariants.{Check, Run, Avoid, Record, Replay, Gen}
 use Rattle.armus_top.specs.Texts.{Text}
 use Rattle.armus_top.specs.Programs.{IsChecked, IsFaultOf, IsPlanOf, TellsDead}
 use Rattle.armus_top.specs.Commands.{IsAnswered, IsRefused, IsRunOf}
-
--- a text with a plan is not refused
-pub plan_or_fault : (text : Text) (why : Refusal) (program : Tree) (plan : Plan) → IsFaultOf text why → IsChecked text program plan → ⊥
-plan_or_fault text (refusal.Syntax fault) program plan has is = text_or_fault text program fault is.reads has
-plan_or_fault text (refusal.Check fault) program plan (other, reads, unfolds) is =
-    let same : other ≡ program = one_tree text other program reads is.reads in
-    let both : plan_of program ≡ Err fault = subst (λ p. plan_of p ≡ Err fault) same unfolds in
-    let unfolded : plan_of program ≡ Ok plan = is.unfolds in absurd (cc)
-plan_or_fault text refusal.Length program plan has is = absurd has
-plan_or_fault text (refusal.Schedule fault) program plan has is = absurd has
+use Rattle.armus_top.proofs.OnePlan.{plan_or_fault}
+use Rattle.armus_top.proofs.ReplayInputs.{refused_or_replayed}
 
 run_has_plan : (text : Text) (g : Wanted) (status : ℕ) (report : Text) (why : Refusal) → IsRunOf text g status report → IsFaultOf text why → ⊥
 run_has_plan text g status report why run has = plan_or_fault text why run.plan_is.0 run.plan has run.plan_is.1
@@ -34,6 +23,9 @@ pub never_both : (c : Command) (input text other : Text) (status : ℕ) → IsRe
 never_both (Check false) input text other status (why, has, line) (plan, (program, is), is_zero, text_is) = plan_or_fault input why program plan has is
 never_both (Check true) input text other status (why, has, line) (plan, program, is, is_zero, text_is) = plan_or_fault input why program plan has is
 never_both (Run workers g) input text other status (why, has, line) run = run_has_plan input _ status other why run has
+never_both (Avoid workers g) input text other status refused answered = absurd answered
+never_both (Record workers) input text other status refused answered = absurd answered
+never_both Replay input text other status (why, is, line) r = refused_or_replayed input why status other is r
 never_both (Gen count) input text other status refused answered = absurd answered
 
 dead_small : (state : State) (status : ℕ) → TellsDead state status → status ≤ 1
@@ -45,4 +37,7 @@ pub answered_small : (c : Command) (input text : Text) (status : ℕ) → IsAnsw
 answered_small (Check false) input text status (plan, is, is_none, text_is) = omega (arith, is_none)
 answered_small (Check true) input text status (plan, program, is, is_none, text_is) = omega (arith, is_none)
 answered_small (Run workers g) input text status run = dead_small run.state status run.status_is
+answered_small (Avoid workers g) input text status answered = absurd answered
+answered_small (Record workers) input text status answered = absurd answered
+answered_small Replay input text status r = dead_small (state_after r.by.replayed.progress.run) status r.status_is
 answered_small (Gen count) input text status answered = absurd answered

@@ -1,3 +1,5 @@
+pub mod OnePlan
+pub mod ReplayInputs
 pub mod Ending
 pub mod Inputs
 pub mod Meaning

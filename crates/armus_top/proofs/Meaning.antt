@@ -4,7 +4,7 @@ use Rattle.std.specs.Prelude.{Option, Some, None}
 use Rattle.armus_words.specs.Commands.{IsCommand, Means as WordsMean}
 use Rattle.armus_words.proofs.Meaning.{one_meaning as one_command}
 use Rattle.armus_words.specs.declared.command.Command.{Command}
-use Rattle.armus_words.specs.declared.command.Command.TheVariants.{Check, Run, Gen}
+use Rattle.armus_words.specs.declared.command.Command.TheVariants.{Check, Run, Avoid, Record, Replay, Gen}
 use Rattle.armus_top.specs.Texts.{Text}
 use Rattle.armus_top.specs.Meanings.{Means, OneMeaning, built_of, is_built}
 use Rattle.armus_top.specs.Headline.{Ends, Passage, Serves}
@@ -18,13 +18,16 @@ one_meaning words (Some c) None p q = absurd (q c p.0 p.1)
 one_meaning words None (Some d) p q = absurd (p d q.0 q.1)
 one_meaning words None None p q = refl
 
-unbuilt : (words : List Text) (n : ℕ) → IsCommand words (Gen n) → (c : Command) → IsCommand words c → is_built c ≡ true → ⊥
-unbuilt words n is c other built = let equal : is_built c ≡ false = ap is_built (same words c (Gen n) other is) in absurd (cc)
+unbuilt : (words : List Text) (d : Command) → is_built d ≡ false → IsCommand words d → (c : Command) → IsCommand words c → is_built c ≡ true → ⊥
+unbuilt words d off is c other on = let equal : is_built c ≡ is_built d = ap is_built (same words c d other is) in absurd (cc)
 
 pub means_built : (words : List Text) (meaning : Option Command) → WordsMean words meaning → Means words (built_of meaning)
 means_built words (Some (Check print)) is = (is, refl)
 means_built words (Some (Run workers graph)) is = (is, refl)
-means_built words (Some (Gen count)) is = unbuilt words count is
+means_built words (Some (Avoid workers graph)) is = unbuilt words (Avoid workers graph) refl is
+means_built words (Some (Record workers)) is = unbuilt words (Record workers) refl is
+means_built words (Some Replay) is = (is, refl)
+means_built words (Some (Gen count)) is = unbuilt words (Gen count) refl is
 means_built words None is = λ c other built. is c other
 
 pub serves_by : (words : List Text) (src out : Passage) (number : ℕ) (meaning : Option Command) → WordsMean words meaning → Ends (built_of meaning) src out number

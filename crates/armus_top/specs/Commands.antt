@@ -7,6 +7,7 @@ use Rattle.armus_base.specs.Runs.{IsFinal}
 use Rattle.armus_base.specs.Finals.{final_of}
 use Rattle.pl_syntax.specs.Tree.{Tree}
 use Rattle.pl_syntax.specs.Printed.{printed_of}
+use Rattle.pl_syntax.specs.declared.limits.TheConstants.{MAX_PARSED_BYTES}
 use Rattle.adaptive.specs.declared.analysis.Wanted.{Wanted}
 use Rattle.adaptive.specs.declared.analysis.Wanted.TheVariants as wanted
 use Rattle.report.specs.Reports.{IsReport}
@@ -16,24 +17,33 @@ use Rattle.report.specs.declared.refusal.Refusal.TheVariants as refusal
 use Rattle.armus_words.specs.declared.command.Graph.{Graph}
 use Rattle.armus_words.specs.declared.command.Graph.TheVariants as graph
 use Rattle.armus_words.specs.declared.command.Command.{Command}
-use Rattle.armus_words.specs.declared.command.Command.TheVariants.{Check, Run, Gen}
+use Rattle.armus_words.specs.declared.command.Command.TheVariants.{Check, Run, Avoid, Record, Replay, Gen}
 use Rattle.armus_top.specs.Texts.{Text, plan_line}
 use Rattle.armus_top.specs.Programs.{IsChecked, IsFaultOf, IsPlanOf, TellsDead}
+use Rattle.armus_top.specs.Replays.{IsReplayOf, IsReplayRefused}
 use Rattle.armus_top.specs.declared.texts.TheConstants.{MAX_TEXT_BYTES}
 
 -- the most bytes of an input, where the command reads one
 abbrev pub limit_of : Command → Option ℕ
 limit_of (Check print) = Some MAX_TEXT_BYTES
 limit_of (Run workers g) = Some MAX_TEXT_BYTES
+limit_of (Avoid workers g) = Some MAX_TEXT_BYTES
+limit_of (Record workers) = Some MAX_TEXT_BYTES
+limit_of Replay = Some MAX_PARSED_BYTES
 limit_of (Gen count) = None
 
 -- the line with which a longer input is refused
 abbrev pub length_line : Command → Text
 length_line c = refusal_text refusal.Length
 
+-- why the command refuses this input
+abbrev pub IsCause : Command → Text → Refusal → Type 0
+IsCause Replay input why = IsReplayRefused input why
+IsCause _ input why = IsFaultOf input why
+
 -- the command refuses this input, with this line
 abbrev pub IsRefused : Command → Text → Text → Type 0
-IsRefused c input text = (why : Refusal) × IsFaultOf input why × (text ≡ refusal_text why)
+IsRefused c input text = (why : Refusal) × IsCause c input why × (text ≡ refusal_text why)
 
 -- the graph that the words want, for the report
 abbrev pub wanted_of : Graph → Wanted
@@ -56,4 +66,7 @@ abbrev pub IsAnswered : Command → Text → ℕ → Text → Type 0
 IsAnswered (Check false) input status text = (plan : Plan) × IsPlanOf input plan × (status ≡ 0) × (text ≡ plan_line plan)
 IsAnswered (Check true) input status text = (plan : Plan) × (program : Tree) × IsChecked input program plan × (status ≡ 0) × (text ≡ printed_of program)
 IsAnswered (Run workers g) input status text = IsRunOf input (wanted_of g) status text
+IsAnswered (Avoid workers g) input status text = ⊥
+IsAnswered (Record workers) input status text = ⊥
+IsAnswered Replay input status text = IsReplayOf input status text
 IsAnswered (Gen count) input status text = ⊥

@@ -1,5 +1,6 @@
 pub mod Texts
 pub mod Programs
+pub mod Replays
 pub mod Meanings
 pub mod Commands
 pub mod Headline

@@ -2,17 +2,22 @@
 use Rattle.std.specs.Prelude.{◌≡◌, Bool, true, false, List, Option, Some, None}
 use Rattle.armus_words.specs.Commands.{IsCommand}
 use Rattle.armus_words.specs.declared.command.Command.{Command}
-use Rattle.armus_words.specs.declared.command.Command.TheVariants.{Check, Run, Gen}
+use Rattle.armus_words.specs.declared.command.Command.TheVariants.{Check, Run, Avoid, Record, Replay, Gen}
 use Rattle.armus_top.specs.Texts.{Text}
 
 -- the commands that are built; the words of another are no command yet
 abbrev pub is_built : Command → Bool
 is_built (Check print) = true
 is_built (Run workers graph) = true
+is_built (Avoid workers graph) = false
+is_built (Record workers) = false
+is_built Replay = true
 is_built (Gen count) = false
 
 -- the command, if it is built
 abbrev pub built_of : Option Command → Option Command
+built_of (Some (Avoid workers graph)) = None
+built_of (Some (Record workers)) = None
 built_of (Some (Gen count)) = None
 built_of meaning = meaning
 

@@ -9,8 +9,8 @@ use Rattle.pl_plan.specs.Unfolding.{plan_of}
 use Rattle.report.specs.declared.refusal.Refusal.{Refusal}
 use Rattle.report.specs.declared.refusal.Refusal.TheVariants.{Length, Syntax, Check, Schedule}
 use Rattle.armus_top.specs.Texts.{Text}
-use Rattle.armus_top.specs.declared.texts.TextEnd.{TextEnd}
-use Rattle.armus_top.specs.declared.texts.TextEnd.TheVariants.{Refused, NoMemory}
+use Rattle.armus_top.specs.declared.texts.InputEnd.{InputEnd}
+use Rattle.armus_top.specs.declared.texts.InputEnd.TheVariants.{Refused, NoMemory}
 
 -- the text is this program, which unfolds to this plan
 pub record IsChecked (text : Text) (program : Tree) (plan : Plan) : Type 0 where
@@ -27,10 +27,10 @@ IsFaultOf text (Syntax fault) = HasFault text fault
 IsFaultOf text (Check fault) = (program : Tree) × IsText text program × (plan_of program ≡ Err fault)
 IsFaultOf text _ = ⊥
 
--- why a text has no plan: it is refused, or memory ran out
-abbrev pub IsTextEnd : Text → TextEnd → Type 0
-IsTextEnd text (Refused why) = IsFaultOf text why
-IsTextEnd text NoMemory = Unit {0}
+-- why there is no answer: the input is refused for one of these causes, or memory ran out
+abbrev pub IsEnd : (Refusal → Type 0) → InputEnd → Type 0
+IsEnd IsWhy (Refused why) = IsWhy why
+IsEnd IsWhy NoMemory = Unit {0}
 
 -- the status tells whether a task is dead in the state
 abbrev pub TellsDead : State → ℕ → Type 0

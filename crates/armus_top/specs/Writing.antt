@@ -5,8 +5,8 @@ use Rattle.armus_top.specs.Texts.{Text}
 use Rattle.std.specs.Io.KnownBytes.{Keeps}
 use Rattle.report.specs.Refusals.{refusal_text}
 use Rattle.report.specs.declared.refusal.Refusal.{Refusal}
-use Rattle.armus_top.specs.declared.texts.TextEnd.{TextEnd}
-use Rattle.armus_top.specs.declared.texts.TextEnd.TheVariants.{Refused, NoMemory}
+use Rattle.armus_top.specs.declared.texts.InputEnd.{InputEnd}
+use Rattle.armus_top.specs.declared.texts.InputEnd.TheVariants.{Refused, NoMemory}
 use Rattle.armus_words.specs.declared.command.Command.{Command}
 use Rattle.armus_top.specs.Headline.{Answers, Passage, HasFailed, IsSound, Took}
 
@@ -19,8 +19,8 @@ Finished out text status number = ((number ≡ status) × Took out text × IsSou
 abbrev pub Refuses : Refusal → Passage → ℕ → Type 0
 Refuses why out number = Finished out (refusal_text why) 3 number ⊎ ((number ≡ 6) × IsSound out × Keeps out.before out.after)
 
--- why a text has no plan was told: the line of the refusal, or nothing for want of memory
-abbrev pub TellsEnd : TextEnd → Passage → ℕ → Type 0
+-- why there is no answer was told: the line of the refusal, or nothing for want of memory
+abbrev pub TellsEnd : InputEnd → Passage → ℕ → Type 0
 TellsEnd (Refused why) out number = Refuses why out number
 TellsEnd NoMemory out number = (number ≡ 6) × IsSound out × Keeps out.before out.after
 

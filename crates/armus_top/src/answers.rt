@@ -12,7 +12,7 @@ ghost use Rattle.armus_top.specs.Status.{code_of};
 ghost use Rattle.armus_top.specs.Writing.{Answered};
 ghost use Rattle.armus_words.specs.declared.command.Command.TheVariants.{Check, Run};
 
-use crate::status::Status;
+use crate::status::ExitStatus;
 use crate::texts::{Checked, checked_in};
 use crate::writing::{answer_end, finish};
 use adaptive::Wanted;
@@ -35,32 +35,32 @@ fn plan_words(alloc: Global, plan: &Plan) -> Result<String, AllocError>
 }
 
 // `check` without `--print`.
-fn answer_counts<K: Sink>(alloc: Global, checked: &Checked, out: &mut K) -> Status
+fn answer_counts<K: Sink>(alloc: Global, checked: &Checked, out: &mut K) -> ExitStatus
     ensures done { (input : List ℕ) → IsChecked input checked.now.program.body checked.now.plan
         → Answered (Check false) input (passage K.taken K.faults out.old out.new) (code_of result) }
     ensures silent { code_of result ≢ 4 }
 {
     match plan_words(alloc, &checked.plan) {
-        Ok(words) => finish(out, words.as_bytes(), Status::NoDeadlock),
-        Err(_) => Status::OutOfMemory,
+        Ok(words) => finish(out, words.as_bytes(), ExitStatus::NoDeadlock),
+        Err(_) => ExitStatus::OutOfMemory,
     }
 }
 
 // `check` with `--print`.
-fn answer_printed<K: Sink>(alloc: Global, checked: &Checked, out: &mut K) -> Status
+fn answer_printed<K: Sink>(alloc: Global, checked: &Checked, out: &mut K) -> ExitStatus
     requires shallow { height checked.now.program.body ≤ MAX_OPEN_BRACES }
     ensures done { (input : List ℕ) → IsChecked input checked.now.program.body checked.now.plan
         → Answered (Check true) input (passage K.taken K.faults out.old out.new) (code_of result) }
     ensures silent { code_of result ≢ 4 }
 {
     match print(alloc, &checked.program) {
-        Ok(text) => finish(out, text.as_slice(), Status::NoDeadlock),
-        Err(_) => Status::OutOfMemory,
+        Ok(text) => finish(out, text.as_slice(), ExitStatus::NoDeadlock),
+        Err(_) => ExitStatus::OutOfMemory,
     }
 }
 
 // `check`.
-fn answer_check<K: Sink>(alloc: Global, print: bool, checked: &Checked, out: &mut K) -> Status
+fn answer_check<K: Sink>(alloc: Global, print: bool, checked: &Checked, out: &mut K) -> ExitStatus
     requires shallow { height checked.now.program.body ≤ MAX_OPEN_BRACES }
     ensures done { (input : List ℕ) → IsChecked input checked.now.program.body checked.now.plan
         → Answered (Check print) input (passage K.taken K.faults out.old out.new) (code_of result) }
@@ -96,14 +96,14 @@ fn run_and_report<G: Gate>(
     Ok(Reported { text, is_dead })
 }
 
-// The status that tells whether a task is dead.
-fn status_of(is_dead: bool) -> Status
+/// The status that tells whether a task is dead.
+pub fn status_of(is_dead: bool) -> ExitStatus
     ensures { code_of result ≡ (if is_dead then 1 else 0) }
 {
     if is_dead {
-        Status::Deadlock
+        ExitStatus::Deadlock
     } else {
-        Status::NoDeadlock
+        ExitStatus::NoDeadlock
     }
 }
 
@@ -127,7 +127,7 @@ fn answer_run<K: Sink, G: Gate>(
     plan: &Plan,
     out: &mut K,
     gate: &G,
-) -> Status
+) -> ExitStatus
     requires checked { IsCheckedPlan plan.now }
     ensures done { (input : List ℕ) → IsPlanOf input plan.now
         → Answered (Run workers graph) input (passage K.taken K.faults out.old out.new) (code_of result) }
@@ -136,12 +136,12 @@ fn answer_run<K: Sink, G: Gate>(
     let _serial = workers;
     match run_and_report(alloc, plan, wanted_in(graph), gate) {
         Ok(reported) => finish(out, reported.text.as_slice(), status_of(reported.is_dead)),
-        Err(_) => Status::OutOfMemory,
+        Err(_) => ExitStatus::OutOfMemory,
     }
 }
 
 /// What `check` answers on a text.
-pub fn check_text<K: Sink>(alloc: Global, print: bool, text: &[u8], out: &mut K) -> Status
+pub fn check_text<K: Sink>(alloc: Global, print: bool, text: &[u8], out: &mut K) -> ExitStatus
     requires short { length text.now ≤ MAX_TEXT_BYTES }
     ensures done { Answered (Check print) text.now (passage K.taken K.faults out.old out.new) (code_of result) }
     ensures silent { code_of result ≡ 4 → out.new ≡ out.old }
@@ -160,7 +160,7 @@ pub fn run_text<K: Sink, G: Gate>(
     text: &[u8],
     out: &mut K,
     gate: &G,
-) -> Status
+) -> ExitStatus
     requires short { length text.now ≤ MAX_TEXT_BYTES }
     ensures done { Answered (Run workers graph) text.now (passage K.taken K.faults out.old out.new) (code_of result) }
     ensures silent { code_of result ≡ 4 → out.new ≡ out.old }

@@ -2,6 +2,7 @@
 #![tactic(auto)]
 
 mod answers;
+mod replaying;
 mod serving;
 mod status;
 mod texts;

@@ -5,29 +5,31 @@ ghost use Rattle.armus_top.specs.Headline.{Ends, passage, reads_input};
 ghost use Rattle.armus_top.specs.Status.{code_of};
 ghost use Rattle.armus_top.specs.Texts.{usage_line};
 ghost use Rattle.armus_top.specs.Writing.{Finished};
-ghost use Rattle.armus_words.specs.declared.command.Command.TheVariants.{Check, Run};
+ghost use Rattle.armus_words.specs.declared.command.Command.TheVariants.{Check, Run, Replay};
 
 use crate::answers::{check_text, run_text};
-use crate::status::Status;
+use crate::replaying::replay_input;
+use crate::status::ExitStatus;
 use crate::texts::MAX_TEXT_BYTES;
 use crate::writing::{finish, refuse};
 use armus_base::{Gate, ReadEnd, Sink, Source, read_all};
 use armus_words::{Command, Graph};
+use pl_syntax::MAX_PARSED_BYTES;
 use report::Refusal;
 use std::alloc::Global;
 
 const USAGE: &str = "usage: armus check|run|avoid|record|replay|gen\n";
 
 // `check`.
-fn check<S: Source, K: Sink>(alloc: Global, print: bool, src: &mut S, out: &mut K) -> Status
+fn check<S: Source, K: Sink>(alloc: Global, print: bool, src: &mut S, out: &mut K) -> ExitStatus
     ensures ends { Ends (Some (Check print)) (passage S.left S.faults src.old src.new) (passage K.taken K.faults out.old out.new) (code_of result) }
     ensures silent { code_of result ≡ 4 → out.new ≡ out.old }
 {
     match read_all(alloc, src, MAX_TEXT_BYTES) {
         Ok(input) => check_text(alloc, print, input.as_slice(), out),
-        Err(ReadEnd::Fault) => Status::ReadFailed,
+        Err(ReadEnd::Fault) => ExitStatus::ReadFailed,
         Err(ReadEnd::TooLong) => refuse(alloc, &Refusal::Length, out),
-        Err(ReadEnd::NoMemory) => Status::OutOfMemory,
+        Err(ReadEnd::NoMemory) => ExitStatus::OutOfMemory,
     }
 }
 
@@ -39,24 +41,37 @@ fn run<S: Source, K: Sink, G: Gate>(
     src: &mut S,
     out: &mut K,
     gate: &G,
-) -> Status
+) -> ExitStatus
     ensures ends { Ends (Some (Run workers graph)) (passage S.left S.faults src.old src.new) (passage K.taken K.faults out.old out.new) (code_of result) }
     ensures silent { code_of result ≡ 4 → out.new ≡ out.old }
 {
     match read_all(alloc, src, MAX_TEXT_BYTES) {
         Ok(input) => run_text(alloc, workers, graph, input.as_slice(), out, gate),
-        Err(ReadEnd::Fault) => Status::ReadFailed,
+        Err(ReadEnd::Fault) => ExitStatus::ReadFailed,
         Err(ReadEnd::TooLong) => refuse(alloc, &Refusal::Length, out),
-        Err(ReadEnd::NoMemory) => Status::OutOfMemory,
+        Err(ReadEnd::NoMemory) => ExitStatus::OutOfMemory,
+    }
+}
+
+// `replay`.
+fn replay<S: Source, K: Sink>(alloc: Global, src: &mut S, out: &mut K) -> ExitStatus
+    ensures ends { Ends (Some Replay) (passage S.left S.faults src.old src.new) (passage K.taken K.faults out.old out.new) (code_of result) }
+    ensures silent { code_of result ≡ 4 → out.new ≡ out.old }
+{
+    match read_all(alloc, src, MAX_PARSED_BYTES) {
+        Ok(input) => replay_input(alloc, input.as_slice(), out),
+        Err(ReadEnd::Fault) => ExitStatus::ReadFailed,
+        Err(ReadEnd::TooLong) => refuse(alloc, &Refusal::Length, out),
+        Err(ReadEnd::NoMemory) => ExitStatus::OutOfMemory,
     }
 }
 
 // No command, or one that is not built.
-fn usage<K: Sink>(out: &mut K) -> Status
+fn usage<K: Sink>(out: &mut K) -> ExitStatus
     ensures done { Finished (passage K.taken K.faults out.old out.new) usage_line 2 (code_of result) }
     ensures silent { code_of result ≢ 4 }
 {
-    finish(out, USAGE.as_bytes(), Status::Usage)
+    finish(out, USAGE.as_bytes(), ExitStatus::Usage)
 }
 
 // Serves a command, or writes the usage line where it is not built.
@@ -66,7 +81,7 @@ fn serve_command<S: Source, K: Sink, G: Gate>(
     src: &mut S,
     out: &mut K,
     gate: &G,
-) -> Status
+) -> ExitStatus
     ensures ends { Ends (built_of (Some command)) (passage S.left S.faults src.old src.new) (passage K.taken K.faults out.old out.new) (code_of result) }
     ensures unread { reads_input (built_of (Some command)) ≡ false → src.new ≡ src.old }
     ensures silent { code_of result ≡ 4 → out.new ≡ out.old }
@@ -74,6 +89,9 @@ fn serve_command<S: Source, K: Sink, G: Gate>(
     match command {
         Command::Check { print } => check(alloc, print, src, out),
         Command::Run { workers, graph } => run(alloc, workers, graph, src, out, gate),
+        Command::Replay => replay(alloc, src, out),
+        Command::Avoid { .. } => usage(out),
+        Command::Record { .. } => usage(out),
         Command::Gen { .. } => usage(out),
     }
 }
@@ -85,7 +103,7 @@ pub fn serve<S: Source, K: Sink, G: Gate>(
     src: &mut S,
     out: &mut K,
     gate: &G,
-) -> Status
+) -> ExitStatus
     ensures ends { Ends (built_of meaning) (passage S.left S.faults src.old src.new) (passage K.taken K.faults out.old out.new) (code_of result) }
     ensures unread { reads_input (built_of meaning) ≡ false → src.new ≡ src.old }
     ensures silent { code_of result ≡ 4 → out.new ≡ out.old }

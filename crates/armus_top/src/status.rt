@@ -4,7 +4,7 @@ ghost use Rattle.armus_top.specs.Status.{code_of};
 
 /// How a call of the program ends.
 #[derive(Clone, Copy, Debug, PartialEq, Eq)]
-pub enum Status {
+pub enum ExitStatus {
     /// The whole output was written, and no task is dead or refused.
     NoDeadlock,
     /// The whole output was written, and a task is dead or refused.
@@ -21,19 +21,19 @@ pub enum Status {
     OutOfMemory,
 }
 
-impl Status {
+impl ExitStatus {
     /// The number with which the program ends, 0 to 6.
     pub fn code(self) -> u8
         ensures { result ≡ code_of self }
     {
         match self {
-            Status::NoDeadlock => 0,
-            Status::Deadlock => 1,
-            Status::Usage => 2,
-            Status::Refused => 3,
-            Status::ReadFailed => 4,
-            Status::WriteFailed => 5,
-            Status::OutOfMemory => 6,
+            ExitStatus::NoDeadlock => 0,
+            ExitStatus::Deadlock => 1,
+            ExitStatus::Usage => 2,
+            ExitStatus::Refused => 3,
+            ExitStatus::ReadFailed => 4,
+            ExitStatus::WriteFailed => 5,
+            ExitStatus::OutOfMemory => 6,
         }
     }
 }

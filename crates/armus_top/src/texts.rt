@@ -1,6 +1,7 @@
 // From a text to its program and its plan.
 ghost use Rattle.std.specs.Prelude.{◌≤◌, length, IfOk, IfErr};
-ghost use Rattle.armus_top.specs.Programs.{IsChecked, IsTextEnd};
+ghost use Rattle.pl_syntax.specs.declared.limits.TheConstants.{MAX_PARSED_BYTES};
+ghost use Rattle.armus_top.specs.Programs.{IsChecked, IsEnd, IsFaultOf};
 
 use armus_base::Plan;
 use pl_plan::{PlanEnd, plan};
@@ -11,9 +12,9 @@ use std::alloc::Global;
 /// The most bytes of a text.
 pub const MAX_TEXT_BYTES: usize = 1_048_576;
 
-/// Why a text has no plan.
+/// Why there is no answer to an input.
 #[derive(Clone, Copy, Debug, PartialEq, Eq)]
-pub enum TextEnd {
+pub enum InputEnd {
     /// It is refused.
     Refused(Refusal),
     /// Memory ran out.
@@ -28,19 +29,19 @@ pub struct Checked {
 }
 
 /// The program of a text and its plan, or why there is none.
-pub fn checked_in(alloc: Global, text: &[u8]) -> Result<Checked, TextEnd>
-    requires short { length text.now ≤ MAX_TEXT_BYTES }
+pub fn checked_in(alloc: Global, text: &[u8]) -> Result<Checked, InputEnd>
+    requires short { length text.now ≤ MAX_PARSED_BYTES }
     ensures plan { IfOk result (λ c. IsChecked text.now c.program.body c.plan) }
-    ensures refused { IfErr result (IsTextEnd text.now) }
+    ensures refused { IfErr result (IsEnd (IsFaultOf text.now)) }
 {
     let program = match parse(alloc, text) {
         Ok(program) => program,
-        Err(ParseEnd::Syntax(fault)) => return Err(TextEnd::Refused(Refusal::Syntax(fault))),
-        Err(ParseEnd::NoMemory) => return Err(TextEnd::NoMemory),
+        Err(ParseEnd::Syntax(fault)) => return Err(InputEnd::Refused(Refusal::Syntax(fault))),
+        Err(ParseEnd::NoMemory) => return Err(InputEnd::NoMemory),
     };
     match plan(alloc, &program) {
         Ok(plan) => Ok(Checked { program, plan }),
-        Err(PlanEnd::Check(fault)) => Err(TextEnd::Refused(Refusal::Check(fault))),
-        Err(PlanEnd::NoMemory) => Err(TextEnd::NoMemory),
+        Err(PlanEnd::Check(fault)) => Err(InputEnd::Refused(Refusal::Check(fault))),
+        Err(PlanEnd::NoMemory) => Err(InputEnd::NoMemory),
     }
 }

@@ -6,7 +6,7 @@ ghost use Rattle.armus_top.specs.Headline.{Completes, IsCalm, Serves, reads_inpu
 ghost use Rattle.armus_words.specs.declared.command.Command.{Command};
 
 use crate::serving::serve;
-use crate::status::Status;
+use crate::status::ExitStatus;
 use armus_base::{Gate, Sink, Source};
 use armus_words::command_in;
 use std::alloc::Global;
@@ -20,7 +20,7 @@ fn status_for<S: Source, K: Sink, G: Gate>(
     src: &mut S,
     out: &mut K,
     gate: &G,
-) -> Status
+) -> ExitStatus
     ensures serves { Serves (map string_bytes words.now)
         (passage S.left S.faults src.old src.new) (passage K.taken K.faults out.old out.new) (code_of result) }
     ensures unread { (c : Option Command) → Means (map string_bytes words.now) c → reads_input c ≡ false → src.new ≡ src.old }
@@ -28,7 +28,7 @@ fn status_for<S: Source, K: Sink, G: Gate>(
 {
     match command_in(alloc, words) {
         Ok(meaning) => serve(alloc, meaning, src, out, gate),
-        Err(_) => Status::OutOfMemory,
+        Err(_) => ExitStatus::OutOfMemory,
     }
 }
 

@@ -5,41 +5,41 @@ ghost use Rattle.armus_top.specs.Headline.{IsSound, passage};
 ghost use Rattle.armus_top.specs.Status.{code_of};
 ghost use Rattle.armus_top.specs.Writing.{Finished, Refuses, TellsEnd};
 
-use crate::status::Status;
-use crate::texts::TextEnd;
+use crate::status::ExitStatus;
+use crate::texts::InputEnd;
 use armus_base::{Sink, write_text};
 use report::{Refusal, refusal_line};
 use std::alloc::Global;
 
 /// Writes the text and answers the status, or `WriteFailed` where a write failed.
-pub fn finish<K: Sink>(out: &mut K, text: &[u8], status: Status) -> Status
+pub fn finish<K: Sink>(out: &mut K, text: &[u8], status: ExitStatus) -> ExitStatus
     ensures done { Finished (passage K.taken K.faults out.old out.new) text.now (code_of status) (code_of result) }
     ensures status { code_of result ≡ 4 → code_of status ≡ 4 }
 {
     match write_text(out, text) {
         Ok(()) => status,
-        Err(_) => Status::WriteFailed,
+        Err(_) => ExitStatus::WriteFailed,
     }
 }
 
 /// Writes the line that says why an input is refused.
-pub fn refuse<K: Sink>(alloc: Global, why: &Refusal, out: &mut K) -> Status
+pub fn refuse<K: Sink>(alloc: Global, why: &Refusal, out: &mut K) -> ExitStatus
     ensures done { Refuses why.now (passage K.taken K.faults out.old out.new) (code_of result) }
     ensures silent { code_of result ≡ 4 → out.new ≡ out.old }
 {
     match refusal_line(alloc, why) {
-        Ok(line) => finish(out, line.as_slice(), Status::Refused),
-        Err(_) => Status::OutOfMemory,
+        Ok(line) => finish(out, line.as_slice(), ExitStatus::Refused),
+        Err(_) => ExitStatus::OutOfMemory,
     }
 }
 
-/// Tells why a text has no plan.
-pub fn answer_end<K: Sink>(alloc: Global, end: TextEnd, out: &mut K) -> Status
+/// Tells why there is no answer.
+pub fn answer_end<K: Sink>(alloc: Global, end: InputEnd, out: &mut K) -> ExitStatus
     ensures done { TellsEnd end (passage K.taken K.faults out.old out.new) (code_of result) }
     ensures silent { code_of result ≡ 4 → out.new ≡ out.old }
 {
     match end {
-        TextEnd::Refused(why) => refuse(alloc, &why, out),
-        TextEnd::NoMemory => Status::OutOfMemory,
+        InputEnd::Refused(why) => refuse(alloc, &why, out),
+        InputEnd::NoMemory => ExitStatus::OutOfMemory,
     }
 }

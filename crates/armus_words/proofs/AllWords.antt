@@ -6,7 +6,7 @@ use Rattle.armus_words.specs.Words.{Text, AreUses, AreWords, Use, StandsAlone, a
 use Rattle.armus_words.specs.Commands.{given_by}
 use Rattle.armus_words.specs.Rules.{app_for}
 use Rattle.armus_words.specs.declared.table.FirstWord.{FirstWord}
-use Rattle.armus_words.specs.declared.table.FirstWord.TheVariants.{Check, Run, Gen}
+use Rattle.armus_words.specs.declared.table.FirstWord.TheVariants.{Check, Run, Avoid, Record, Replay, Gen}
 use Rattle.armus_words.proofs.Matches.{HoldsGiven, uses_given, uses_taken}
 use Rattle.armus_words.proofs.Generated.{gen_given, gen_taken}
 
@@ -29,6 +29,12 @@ form_reads Check words uses None form = rw form.words_are (with_options Check us
 form_reads Check words uses (Some v) form = absurd form.alone_fits
 form_reads Run words uses None form = rw form.words_are (with_options Run uses refl form.uses_fit)
 form_reads Run words uses (Some v) form = absurd form.alone_fits
+form_reads Avoid words uses None form = rw form.words_are (with_options Avoid uses refl form.uses_fit)
+form_reads Avoid words uses (Some v) form = absurd form.alone_fits
+form_reads Record words uses None form = rw form.words_are (with_options Record uses refl form.uses_fit)
+form_reads Record words uses (Some v) form = absurd form.alone_fits
+form_reads Replay words uses None form = rw form.words_are (with_options Replay uses refl form.uses_fit)
+form_reads Replay words uses (Some v) form = absurd form.alone_fits
 form_reads Gen words uses None form = absurd form.alone_fits
 form_reads Gen words uses (Some v) form = rw form.words_are (with_value uses v form.uses_fit form.alone_fits)
 

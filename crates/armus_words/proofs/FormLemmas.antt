@@ -1,19 +1,19 @@
 -- The words that fit are those of uses and of a value that stands by itself, and the other way round.
-use Rattle.std.proofs.Common.{◌≡◌, ◌∙◌, ◌++◌, ◌≤◌, List, [], ◌∷◌, Bool, true, false, ap, sym, refl, subst, arith, codes, length, if◌then◌else◌}
-use Rattle.std.specs.Prelude.{Option, Some, None, ◌&&◌, nat_le, option_to_list}
+use Rattle.std.proofs.Common.{◌≡◌, ◌∙◌, ◌++◌, ◌≤◌, List, [], ◌∷◌, Bool, true, false, ap, sym, refl, subst, arith, length, cond}
+use Rattle.std.specs.Prelude.{Option, Some, None, ◌&&◌, nat_le, option_to_list, find}
 use Rattle.std.specs.Option.{option_map_or}
 use Rattle.std.specs.List.{list_all}
 use Rattle.std.specs.Str.{bytes_eq}
 use Rattle.std.proofs.lemmas.Slice.Eq.{bytes_eq-Decides}
 use Rattle.std.proofs.lemmas.Grind.{common_steps}
-use Rattle.armus_words.proofs.Meaning.{no_option}
+use Rattle.armus_words.proofs.Meaning.{first_is, named_is, no_option}
 use Rattle.armus_words.specs.Words.{Text, Use, valued, flag, AreUses, AreWords, IsValue, StandsAlone, all_words, dashed, first_word, has_option, has_value_alone, is_value_byte, option_of, options_of, wants_value, without}
 use Rattle.armus_words.specs.Form.{first_named, fits, free_at, is_free, is_value, option_named, taken_off}
 use Rattle.armus_words.specs.declared.forms.Free.{Free}
 use Rattle.armus_words.specs.declared.table.FirstWord.{FirstWord}
-use Rattle.armus_words.specs.declared.table.FirstWord.TheVariants as first
 use Rattle.armus_words.specs.declared.table.OptionWord.{OptionWord}
 use Rattle.armus_words.specs.declared.table.OptionWord.TheVariants.{Print, Workers, Graph}
+use Rattle.armus_words.specs.declared.table.TheConstants.{FIRST_WORDS, MAX_VALUE_BYTES, OPTION_WORDS}
 
 head_is : {x y : Text} {xs ys : List Text} → x ∷ xs ≡ y ∷ ys → x ≡ y
 head_is e = cc
@@ -35,37 +35,32 @@ same_text x y e = (bytes_eq-Decides x y).0 e
 
 pub value_from : (v : Text) → is_value v ≡ true → IsValue v
 value_from v e =
-    let some = and_true (nat_le 1 (length v)) (nat_le (length v) 16 && list_all is_value_byte v) e in
-    let rest = and_true (nat_le (length v) 16) (list_all is_value_byte v) some.1 in
+    let some = and_true (nat_le 1 (length v)) (nat_le (length v) MAX_VALUE_BYTES && list_all is_value_byte v) e in
+    let rest = and_true (nat_le (length v) MAX_VALUE_BYTES) (list_all is_value_byte v) some.1 in
     let first : nat_le 1 (length v) ≡ true = some.0 in
-    let second : nat_le (length v) 16 ≡ true = rest.0 in
+    let second : nat_le (length v) MAX_VALUE_BYTES ≡ true = rest.0 in
     record { some = grind (arith, common_steps); short = grind (arith, common_steps); plain = rest.1 }
 
 pub value_test : (v : Text) → IsValue v → is_value v ≡ true
 value_test v is =
     let some : 1 ≤ length v = is.some in
-    let short : length v ≤ 16 = is.short in
+    let short : length v ≤ MAX_VALUE_BYTES = is.short in
     both_true (nat_le 1 (length v)) _ (grind (arith, common_steps))
-    (both_true (nat_le (length v) 16) (list_all is_value_byte v) (grind (arith, common_steps)) is.plain)
+    (both_true (nat_le (length v) MAX_VALUE_BYTES) (list_all is_value_byte v) (grind (arith, common_steps)) is.plain)
 
 -- ---- an option word
 
-named_is : (o : OptionWord) → option_named (dashed o) ≡ Some o
-named_is Print = refl
-named_is Workers = refl
-named_is Graph = refl
+-- what is found passes the test
+here_or_later : {X : Type 0} (test : X → Bool) (y x : X) (later : Option X) (b : Bool) → test y ≡ b → (later ≡ Some x → test x ≡ true) → cond b (Some y) later ≡ Some x → test x ≡ true
+here_or_later test y x later true is more e = let same : y ≡ x = cc in subst (λ z. test z ≡ true) same is
+here_or_later test y x later false is more e = more e
 
-three : (b c d : Bool) (o : OptionWord) (word : Text) → (b ≡ true → word ≡ dashed Print) → (c ≡ true → word ≡ dashed Workers) → (d ≡ true → word ≡ dashed Graph)
-    → (if b then Some Print else (if c then Some Workers else (if d then Some Graph else None))) ≡ Some o → word ≡ dashed o
-three true c d o word p q r e = let is : Print ≡ o = cc in subst (λ x. word ≡ dashed x) is (p refl)
-three false true d o word p q r e = let is : Workers ≡ o = cc in subst (λ x. word ≡ dashed x) is (q refl)
-three false false true o word p q r e = let is : Graph ≡ o = cc in subst (λ x. word ≡ dashed x) is (r refl)
-three false false false o word p q r e = absurd (cc)
+found_passes : {X : Type 0} (test : X → Bool) (xs : List X) (x : X) → find test xs ≡ Some x → test x ≡ true
+found_passes test [] x e = absurd (cc)
+found_passes test (y ∷ ys) x e = here_or_later test y x (find test ys) (test y) refl (found_passes test ys x) e
 
 pub named_word : (word : Text) (o : OptionWord) → option_named word ≡ Some o → word ≡ dashed o
-named_word word o e =
-    three (bytes_eq word (codes "--print")) (bytes_eq word (codes "--workers")) (bytes_eq word (codes "--graph")) o word
-    (same_text word (dashed Print)) (same_text word (dashed Workers)) (same_text word (dashed Graph)) e
+named_word word o e = sym (same_text (dashed o) word (found_passes (λ p. bytes_eq (dashed p) word) OPTION_WORDS o e))
 
 not_some : (word : Text) (found : Option OptionWord) → option_named word ≡ found → IsValue word → found ≡ None
 not_some word (Some o) e is = absurd (no_option o word is (sym (named_word word o e)))
@@ -89,15 +84,9 @@ free_after free Graph Workers = refl
 free_after free Graph Graph = refl
 
 free_first : (f : FirstWord) (o : OptionWord) → is_free (free_at f) o ≡ has_option o (options_of f)
-free_first first.Check Print = refl
-free_first first.Check Workers = refl
-free_first first.Check Graph = refl
-free_first first.Run Print = refl
-free_first first.Run Workers = refl
-free_first first.Run Graph = refl
-free_first first.Gen Print = refl
-free_first first.Gen Workers = refl
-free_first first.Gen Graph = refl
+free_first f Print = refl
+free_first f Workers = refl
+free_first f Graph = refl
 
 without_same : (o : OptionWord) (f g : OptionWord → Bool) → ((p : OptionWord) → f p ≡ g p) → (p : OptionWord) → without o f p ≡ without o g p
 without_same o f g e p = rw (e p) refl
@@ -197,22 +186,8 @@ uses_do_fit free alone (flag o ∷ us) value uses is =
 
 -- ---- the first word
 
-first_is : (f : FirstWord) → first_named (first_word f) ≡ Some f
-first_is first.Check = refl
-first_is first.Run = refl
-first_is first.Gen = refl
-
-three_first : (b c d : Bool) (f : FirstWord) (word : Text) → (b ≡ true → word ≡ first_word first.Check) → (c ≡ true → word ≡ first_word first.Run) → (d ≡ true → word ≡ first_word first.Gen)
-    → (if b then Some first.Check else (if c then Some first.Run else (if d then Some first.Gen else None))) ≡ Some f → word ≡ first_word f
-three_first true c d f word p q r e = let is : first.Check ≡ f = cc in subst (λ x. word ≡ first_word x) is (p refl)
-three_first false true d f word p q r e = let is : first.Run ≡ f = cc in subst (λ x. word ≡ first_word x) is (q refl)
-three_first false false true f word p q r e = let is : first.Gen ≡ f = cc in subst (λ x. word ≡ first_word x) is (r refl)
-three_first false false false f word p q r e = absurd (cc)
-
 pub first_named_word : (word : Text) (f : FirstWord) → first_named word ≡ Some f → word ≡ first_word f
-first_named_word word f e =
-    three_first (bytes_eq word (codes "check")) (bytes_eq word (codes "run")) (bytes_eq word (codes "gen")) f word
-    (same_text word (first_word first.Check)) (same_text word (first_word first.Run)) (same_text word (first_word first.Gen)) e
+first_named_word word f e = sym (same_text (first_word f) word (found_passes (λ g. bytes_eq (first_word g) word) FIRST_WORDS f e))
 
 -- the words have the form of the command that the first word names
 pub form_from : (word : Text) (rest : List Text) (f : FirstWord) → first_named word ≡ Some f → fits false (free_at f) (has_value_alone f) rest ≡ true

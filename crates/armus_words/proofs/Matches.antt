@@ -230,6 +230,9 @@ matches_are : (f : FirstWord) (ws : List Text) → has_value_alone f ≡ false
     → matches_of (app_for f) (first_word f ∷ ws) ≡ finished (rules_for (options_of f)) (walk (rules_for (options_of f)) [] nothing_held ws).held
 matches_are first.Check ws e = refl
 matches_are first.Run ws e = refl
+matches_are first.Avoid ws e = refl
+matches_are first.Record ws e = refl
+matches_are first.Replay ws e = refl
 matches_are first.Gen ws e = absurd (cc)
 
 -- what clap asks of the words, by the walk over them
@@ -245,6 +248,9 @@ takes_are : (f : FirstWord) (ws : List Text) → has_value_alone f ≡ false
     → takes (app_for f) (first_word f ∷ ws) ≡ passes_by f ws (walk (rules_for (options_of f)) [] nothing_held ws)
 takes_are first.Check ws e = refl
 takes_are first.Run ws e = refl
+takes_are first.Avoid ws e = refl
+takes_are first.Record ws e = refl
+takes_are first.Replay ws e = refl
 takes_are first.Gen ws e = absurd (cc)
 
 at_end : (f : FirstWord) (h : Held) (a b : Bool) → has_value_alone f ≡ false → a ≡ true → b ≡ true
@@ -253,6 +259,9 @@ at_end : (f : FirstWord) (h : Held) (a b : Bool) → has_value_alone f ≡ false
     && is_valid (shape_with (first_word f) (rules_for (options_of f))) (finished (rules_for (options_of f)) h) (is_some (entered (built (app_for f)) None)))))) ≡ true
 at_end first.Check h a b e p q = rw (p, q) refl
 at_end first.Run h a b e p q = rw (p, q) refl
+at_end first.Avoid h a b e p q = rw (p, q) refl
+at_end first.Record h a b e p q = rw (p, q) refl
+at_end first.Replay h a b e p q = rw (p, q) refl
 at_end first.Gen h a b e p q = absurd (cc)
 
 pub uses_taken : (f : FirstWord) (us : List Use) → has_value_alone f ≡ false → AreUses (λ o. has_option o (options_of f)) us
@@ -272,4 +281,7 @@ uses_given f us e uses =
 pub simple : (f : FirstWord) → is_simple (app_for f) ≡ true
 simple first.Check = refl
 simple first.Run = refl
+simple first.Avoid = refl
+simple first.Record = refl
+simple first.Replay = refl
 simple first.Gen = refl

@@ -6,6 +6,7 @@ use Rattle.std.specs.Str.{bytes_eq}
 use Rattle.std.proofs.lemmas.Slice.Eq.{bytes_eq-Decides}
 use Rattle.std.proofs.lemmas.Grind.{common_steps}
 use Rattle.armus_words.specs.Words.{Text, Use, valued, flag, AreUses, AreWords, IsValue, StandsAlone, all_words, dashed, first_word, has_value_alone, is_value_byte, use_words, wants_value, without}
+use Rattle.armus_words.specs.Form.{first_named, option_named}
 use Rattle.armus_words.specs.Commands.{AreWorkers, Given, IsCommand, IsGenerated, IsGraph, IsNumber, OneMeaning, Reads, first_of, given_by, graph_name}
 use Rattle.armus_words.specs.declared.table.FirstWord.{FirstWord}
 use Rattle.armus_words.specs.declared.table.FirstWord.TheVariants as first
@@ -14,32 +15,30 @@ use Rattle.armus_words.specs.declared.table.OptionWord.TheVariants.{Print, Worke
 use Rattle.armus_words.specs.declared.command.Graph.{Graph}
 use Rattle.armus_words.specs.declared.command.Graph.TheVariants.{Auto, Wfg, Sg, Grg}
 use Rattle.armus_words.specs.declared.command.Command.{Command}
-use Rattle.armus_words.specs.declared.command.Command.TheVariants.{Check, Run, Gen}
+use Rattle.armus_words.specs.declared.command.Command.TheVariants.{Check, Run, Avoid, Record, Replay, Gen}
 
 differ : (x y : Text) → bytes_eq x y ≡ false → x ≡ y → ⊥
 differ x y unlike e = let yes : bytes_eq x y ≡ true = (bytes_eq-Decides x y).1 e in absurd (cc)
 
+-- a word names the command whose word it is, and the option whose word it is
+pub first_is : (f : FirstWord) → first_named (first_word f) ≡ Some f
+first_is first.Check = refl
+first_is first.Run = refl
+first_is first.Avoid = refl
+first_is first.Record = refl
+first_is first.Replay = refl
+first_is first.Gen = refl
+
+pub named_is : (o : OptionWord) → option_named (dashed o) ≡ Some o
+named_is Print = refl
+named_is Workers = refl
+named_is GraphOption = refl
+
 one_first : (a b : FirstWord) → first_word a ≡ first_word b → a ≡ b
-one_first first.Check first.Check e = refl
-one_first first.Check first.Run e = absurd (differ (first_word first.Check) (first_word first.Run) refl e)
-one_first first.Check first.Gen e = absurd (differ (first_word first.Check) (first_word first.Gen) refl e)
-one_first first.Run first.Check e = absurd (differ (first_word first.Run) (first_word first.Check) refl e)
-one_first first.Run first.Run e = refl
-one_first first.Run first.Gen e = absurd (differ (first_word first.Run) (first_word first.Gen) refl e)
-one_first first.Gen first.Check e = absurd (differ (first_word first.Gen) (first_word first.Check) refl e)
-one_first first.Gen first.Run e = absurd (differ (first_word first.Gen) (first_word first.Run) refl e)
-one_first first.Gen first.Gen e = refl
+one_first a b e = let both : Some a ≡ Some b = sym (first_is a) ∙ ap first_named e ∙ first_is b in cc
 
 one_option : (a b : OptionWord) → dashed a ≡ dashed b → a ≡ b
-one_option Print Print e = refl
-one_option Print Workers e = absurd (differ (dashed Print) (dashed Workers) refl e)
-one_option Print GraphOption e = absurd (differ (dashed Print) (dashed GraphOption) refl e)
-one_option Workers Print e = absurd (differ (dashed Workers) (dashed Print) refl e)
-one_option Workers Workers e = refl
-one_option Workers GraphOption e = absurd (differ (dashed Workers) (dashed GraphOption) refl e)
-one_option GraphOption Print e = absurd (differ (dashed GraphOption) (dashed Print) refl e)
-one_option GraphOption Workers e = absurd (differ (dashed GraphOption) (dashed Workers) refl e)
-one_option GraphOption GraphOption e = refl
+one_option a b e = let both : Some a ≡ Some b = sym (named_is a) ∙ ap option_named e ∙ named_is b in cc
 
 head_is : {x y : Text} {xs ys : List Text} → x ∷ xs ≡ y ∷ ys → x ≡ y
 head_is e = cc
@@ -143,17 +142,48 @@ one_generated (Some text) a b p q = one_number text _ a b p q
 one_generated None a b p q = absurd p
 
 -- what is given is that of one command with this first word
-one_reading : (c d : Command) (given : Given) → first_of c ≡ first_of d → Reads c given → Reads d given → c ≡ d
-one_reading (Check a) (Check b) given f p q = ap Check (p ∙ sym q)
-one_reading (Check a) (Run w g) given f p q = absurd (cc)
-one_reading (Check a) (Gen n) given f p q = absurd (cc)
-one_reading (Run w g) (Check b) given f p q = absurd (cc)
-one_reading (Run w g) (Run v h) given f p q =
+both_same : (make : ℕ → Graph → Command) (w v : ℕ) (g h : Graph) (given : Given) → AreWorkers given.workers w × IsGraph given.graph g
+    → AreWorkers given.workers v × IsGraph given.graph h → make w g ≡ make v h
+both_same make w v g h given p q =
     let workers_are : w ≡ v = one_workers given.workers w v p.0 q.0 in
     let graph_is : g ≡ h = one_graph given.graph g h p.1 q.1 in cc
-one_reading (Run w g) (Gen n) given f p q = absurd (cc)
+
+one_reading : (c d : Command) (given : Given) → first_of c ≡ first_of d → Reads c given → Reads d given → c ≡ d
+one_reading (Check a) (Check b) given f p q = ap Check (p ∙ sym q)
+one_reading (Check a) (Run v h) given f p q = absurd (cc)
+one_reading (Check a) (Avoid v h) given f p q = absurd (cc)
+one_reading (Check a) (Record v) given f p q = absurd (cc)
+one_reading (Check a) Replay given f p q = absurd (cc)
+one_reading (Check a) (Gen m) given f p q = absurd (cc)
+one_reading (Run w g) (Check b) given f p q = absurd (cc)
+one_reading (Run w g) (Run v h) given f p q = both_same Run w v g h given p q
+one_reading (Run w g) (Avoid v h) given f p q = absurd (cc)
+one_reading (Run w g) (Record v) given f p q = absurd (cc)
+one_reading (Run w g) Replay given f p q = absurd (cc)
+one_reading (Run w g) (Gen m) given f p q = absurd (cc)
+one_reading (Avoid w g) (Check b) given f p q = absurd (cc)
+one_reading (Avoid w g) (Run v h) given f p q = absurd (cc)
+one_reading (Avoid w g) (Avoid v h) given f p q = both_same Avoid w v g h given p q
+one_reading (Avoid w g) (Record v) given f p q = absurd (cc)
+one_reading (Avoid w g) Replay given f p q = absurd (cc)
+one_reading (Avoid w g) (Gen m) given f p q = absurd (cc)
+one_reading (Record w) (Check b) given f p q = absurd (cc)
+one_reading (Record w) (Run v h) given f p q = absurd (cc)
+one_reading (Record w) (Avoid v h) given f p q = absurd (cc)
+one_reading (Record w) (Record v) given f p q = ap Record (one_workers given.workers w v p q)
+one_reading (Record w) Replay given f p q = absurd (cc)
+one_reading (Record w) (Gen m) given f p q = absurd (cc)
+one_reading Replay (Check b) given f p q = absurd (cc)
+one_reading Replay (Run v h) given f p q = absurd (cc)
+one_reading Replay (Avoid v h) given f p q = absurd (cc)
+one_reading Replay (Record v) given f p q = absurd (cc)
+one_reading Replay Replay given f p q = refl
+one_reading Replay (Gen m) given f p q = absurd (cc)
 one_reading (Gen n) (Check b) given f p q = absurd (cc)
-one_reading (Gen n) (Run w g) given f p q = absurd (cc)
+one_reading (Gen n) (Run v h) given f p q = absurd (cc)
+one_reading (Gen n) (Avoid v h) given f p q = absurd (cc)
+one_reading (Gen n) (Record v) given f p q = absurd (cc)
+one_reading (Gen n) Replay given f p q = absurd (cc)
 one_reading (Gen n) (Gen m) given f p q = ap Gen (one_generated given.alone n m p q)
 
 -- words have the form of one first word alone

@@ -8,13 +8,16 @@ use Rattle.armus_words.specs.declared.table.OptionWord.TheVariants as option
 use Rattle.armus_words.specs.declared.command.Graph.{Graph}
 use Rattle.armus_words.specs.declared.command.Graph.TheVariants.{Auto, Wfg, Sg, Grg}
 use Rattle.armus_words.specs.declared.command.Command.{Command}
-use Rattle.armus_words.specs.declared.command.Command.TheVariants.{Check, Run, Gen}
+use Rattle.armus_words.specs.declared.command.Command.TheVariants.{Check, Run, Avoid, Record, Replay, Gen}
 use Rattle.armus_words.specs.declared.table.TheConstants.{MAX_WORKERS, DEFAULT_WORKERS, MAX_GENERATED}
 
 -- the first word of a command
 abbrev pub first_of : Command → FirstWord
 first_of (Check print) = first.Check
 first_of (Run workers graph) = first.Run
+first_of (Avoid workers graph) = first.Avoid
+first_of (Record workers) = first.Record
+first_of Replay = first.Replay
 first_of (Gen count) = first.Gen
 
 -- the text writes this number in decimal digits, which is at least 1 and at most the given one
@@ -66,6 +69,9 @@ IsGenerated None count = ⊥
 abbrev pub Reads : Command → Given → Type 0
 Reads (Check print) given = print ≡ given.print
 Reads (Run workers graph) given = AreWorkers given.workers workers × IsGraph given.graph graph
+Reads (Avoid workers graph) given = AreWorkers given.workers workers × IsGraph given.graph graph
+Reads (Record workers) given = AreWorkers given.workers workers
+Reads Replay given = Unit {0}
 Reads (Gen count) given = IsGenerated given.alone count
 
 -- the words are this command

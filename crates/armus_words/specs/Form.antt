@@ -1,32 +1,26 @@
 -- The test of the form, word by word, as the program makes it. What it stands for is `AreWords`.
-use Rattle.std.specs.Prelude.{Bool, true, false, not, ◌&&◌, nat_le, if◌then◌else◌, List, [], ◌∷◌, length, Option, Some, None, codes}
+use Rattle.std.specs.Prelude.{Bool, true, false, not, ◌&&◌, nat_le, List, [], ◌∷◌, length, Option, Some, None, find}
 use Rattle.std.specs.List.{list_all}
 use Rattle.std.specs.Option.{option_map_or}
 use Rattle.std.specs.Str.{bytes_eq}
-use Rattle.armus_words.specs.Words.{Text, is_value_byte, wants_value}
+use Rattle.armus_words.specs.Words.{Text, dashed, first_word, has_option, is_value_byte, options_of, wants_value}
 use Rattle.armus_words.specs.declared.forms.Free.{Free}
 use Rattle.armus_words.specs.declared.table.FirstWord.{FirstWord}
-use Rattle.armus_words.specs.declared.table.FirstWord.TheVariants.{Check, Run, Gen}
 use Rattle.armus_words.specs.declared.table.OptionWord.{OptionWord}
 use Rattle.armus_words.specs.declared.table.OptionWord.TheVariants.{Print, Workers, Graph}
+use Rattle.armus_words.specs.declared.table.TheConstants.{FIRST_WORDS, MAX_VALUE_BYTES, OPTION_WORDS}
 
 -- the test of a value
 abbrev pub is_value : Text → Bool
-is_value text = nat_le 1 (length text) && (nat_le (length text) 16 && list_all is_value_byte text)
+is_value text = nat_le 1 (length text) && (nat_le (length text) MAX_VALUE_BYTES && list_all is_value_byte text)
 
 -- the option of this word
 abbrev pub option_named : Text → Option OptionWord
-option_named word =
-    if bytes_eq word (codes "--print") then Some Print
-    else (if bytes_eq word (codes "--workers") then Some Workers
-    else (if bytes_eq word (codes "--graph") then Some Graph else None))
+option_named word = find (λ o. bytes_eq (dashed o) word) OPTION_WORDS
 
 -- the command of this word
 abbrev pub first_named : Text → Option FirstWord
-first_named word =
-    if bytes_eq word (codes "check") then Some Check
-    else (if bytes_eq word (codes "run") then Some Run
-    else (if bytes_eq word (codes "gen") then Some Gen else None))
+first_named word = find (λ f. bytes_eq (first_word f) word) FIRST_WORDS
 
 -- the option is free
 abbrev pub is_free : Free → OptionWord → Bool
@@ -42,9 +36,11 @@ taken_off f Graph = record f { graph = false }
 
 -- the options of a command
 abbrev pub free_at : FirstWord → Free
-free_at Check = record { print = true; workers = false; graph = false }
-free_at Run = record { print = false; workers = true; graph = true }
-free_at Gen = record { print = false; workers = false; graph = false }
+free_at f = record {
+  print = has_option Print (options_of f);
+  workers = has_option Workers (options_of f);
+  graph = has_option Graph (options_of f);
+}
 
 -- the words are values that are waited for, uses of free options, and the value that stands by itself
 abbrev pub fits : Bool → Free → Bool → List Text → Bool

@@ -1,11 +1,12 @@
 -- The command that is handed to clap for a first word, and what its matches give.
-use Rattle.std.specs.Prelude.{Bool, true, false, if◌then◌else◌, List, [], ◌∷◌, ◌++◌, map, fold, Some, None, option_map, codes}
+use Rattle.std.specs.Prelude.{Bool, true, false, if◌then◌else◌, List, [], ◌∷◌, ◌++◌, map, fold, Some, None, option_map}
 use Rattle.clap.specs.Words.{App, Rule, new_app, new_rule, with_rule}
 use Rattle.clap.specs.declared.builder.ArgAction.TheVariants.{SetTrue}
 use Rattle.armus_words.specs.Words.{first_word, name_of, options_of, wants_value, has_value_alone}
 use Rattle.armus_words.specs.Commands.{Given}
 use Rattle.armus_words.specs.declared.table.FirstWord.{FirstWord}
 use Rattle.armus_words.specs.declared.table.OptionWord.{OptionWord}
+use Rattle.armus_words.specs.declared.table.TheConstants.{ALONE}
 use Rattle.armus_words.specs.declared.values.Values.{Values}
 
 -- the rule of an option
@@ -14,7 +15,7 @@ rule_for o = record (new_rule (name_of o)) { long = Some (name_of o); action = i
 
 -- the rule of a value that stands by itself
 abbrev pub alone_rules : Bool → List Rule
-alone_rules true = new_rule (codes "count") ∷ []
+alone_rules true = new_rule ALONE.now ∷ []
 alone_rules false = []
 
 -- the simple command of a first word

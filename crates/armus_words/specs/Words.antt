@@ -1,11 +1,12 @@
 -- The words of a command: a table of first words and options, and then one rule for all.
-use Rattle.std.specs.Prelude.{◌≡◌, ◌≤◌, ℕ, Bool, true, false, ◌&&◌, ◌||◌, nat_le, if◌then◌else◌, List, [], ◌∷◌, ◌++◌, map, length, Option, Some, None, option_to_list, codes}
+use Rattle.std.specs.Prelude.{◌≡◌, ◌≤◌, ℕ, Bool, true, false, ◌&&◌, ◌||◌, nat_le, if◌then◌else◌, List, [], ◌∷◌, ◌++◌, map, length, Option, Some, None, option_to_list}
 use Rattle.std.specs.List.{list_all, list_any}
 use Rattle.std.specs.Str.{bytes_eq}
 use Rattle.armus_words.specs.declared.table.FirstWord.{FirstWord}
-use Rattle.armus_words.specs.declared.table.FirstWord.TheVariants.{Check, Run, Gen}
+use Rattle.armus_words.specs.declared.table.FirstWord.TheVariants.{Check, Run, Avoid, Record, Replay, Gen}
 use Rattle.armus_words.specs.declared.table.OptionWord.{OptionWord}
 use Rattle.armus_words.specs.declared.table.OptionWord.TheVariants.{Print, Workers, Graph}
+use Rattle.armus_words.specs.declared.table.TheConstants.{CHECK, RUN, AVOID, RECORD, REPLAY, GEN, PRINT, WORKERS, GRAPH, MAX_VALUE_BYTES}
 
 -- a text is the list of its bytes
 abbrev pub Text : Type 0
@@ -15,14 +16,20 @@ Text = List ℕ
 
 -- the word with which a command begins
 abbrev pub first_word : FirstWord → Text
-first_word Check = codes "check"
-first_word Run = codes "run"
-first_word Gen = codes "gen"
+first_word Check = CHECK.now
+first_word Run = RUN.now
+first_word Avoid = AVOID.now
+first_word Record = RECORD.now
+first_word Replay = REPLAY.now
+first_word Gen = GEN.now
 
 -- the options of a command
 abbrev pub options_of : FirstWord → List OptionWord
 options_of Check = Print ∷ []
 options_of Run = Workers ∷ Graph ∷ []
+options_of Avoid = Workers ∷ Graph ∷ []
+options_of Record = Workers ∷ []
+options_of Replay = []
 options_of Gen = []
 
 -- a value stands by itself after the command's options
@@ -32,9 +39,9 @@ has_value_alone _ = false
 
 -- the name of an option, without its two hyphens
 abbrev pub name_of : OptionWord → Text
-name_of Print = codes "print"
-name_of Workers = codes "workers"
-name_of Graph = codes "graph"
+name_of Print = PRINT.now
+name_of Workers = WORKERS.now
+name_of Graph = GRAPH.now
 
 -- the option wants a value
 abbrev pub wants_value : OptionWord → Bool
@@ -47,10 +54,10 @@ wants_value _ = true
 abbrev pub is_value_byte : ℕ → Bool
 is_value_byte x = (nat_le 97 x && nat_le x 122) || (nat_le 48 x && nat_le x 57)
 
--- one to 16 lower-case letters or digits
+-- lower-case letters or digits, at least one and no more than a value has
 pub record IsValue (text : Text) : Type 0 where
   pub some : 1 ≤ length text
-  pub short : length text ≤ 16
+  pub short : length text ≤ MAX_VALUE_BYTES
   pub plain : list_all is_value_byte text ≡ true
 
 -- the use of an option, with a value or as a flag

@@ -20,6 +20,12 @@ pub enum Command {
     Check { print: bool },
     /// Runs a text and reports its final state.
     Run { workers: u8, graph: Graph },
+    /// Runs a text without deadlock, where awaits are refused instead, and reports its final state.
+    Avoid { workers: u8, graph: Graph },
+    /// Runs a text and writes it with the schedule of the run.
+    Record { workers: u8 },
+    /// Replays a text with a schedule.
+    Replay,
     /// Runs a generated text with this many workers in it, and reports its final state in short.
     Gen { count: u16 },
 }

@@ -1,11 +1,12 @@
 // The form of the words: a first word, uses of its options, each at most once, and a value where the command has one.
 ghost use Rattle.std.specs.Prelude.{◌≡◌, List, Option, Some, IfSome, map, string_bytes};
 ghost use Rattle.std.specs.List.{list_all};
-ghost use Rattle.armus_words.specs.Words.{AreWords, Text, Use, is_value_byte};
+ghost use Rattle.std.specs.Str.{bytes_eq};
+ghost use Rattle.armus_words.specs.Words.{AreWords, Text, Use, dashed, is_value_byte};
 ghost use Rattle.armus_words.specs.Form.{first_named, fits, free_at, is_free, is_value, option_named, taken_off};
 ghost use Rattle.armus_words.specs.declared.table.FirstWord.{FirstWord};
 
-use crate::table::{FirstWord, OptionWord};
+use crate::table::{FIRST_WORDS, FirstWord, MAX_VALUE_BYTES, OPTION_WORDS, OptionWord};
 
 /// The options that may still be used.
 #[derive(Clone, Copy, Debug, PartialEq, Eq)]
@@ -63,7 +64,7 @@ fn is_plain(text: &str) -> bool
         .all(|b| (97 <= *b && *b <= 122) || (48 <= *b && *b <= 57))
 }
 
-// One to 16 lower-case letters or digits.
+// Lower-case letters or digits, at least one and no more than a value has.
 fn is_value_text(text: &str) -> bool
     ensures { result ≡ is_value text.now }
 {
@@ -71,42 +72,40 @@ fn is_value_text(text: &str) -> bool
     if len < 1 {
         return false;
     }
-    if 16 < len {
+    if MAX_VALUE_BYTES < len {
         return false;
     }
     is_plain(text)
+}
+
+// Whether the word is that of the option.
+fn is_word_of(option: OptionWord, word: &str) -> bool
+    ensures { result ≡ bytes_eq (dashed option) word.now }
+{
+    match word.as_bytes().strip_prefix(b"--".as_slice()) {
+        Some(name) => option.name().as_bytes() == name,
+        None => false,
+    }
 }
 
 // The option of a word.
 fn option_in(word: &str) -> Option<OptionWord>
     ensures { result ≡ option_named word.now }
 {
-    if word == "--print" {
-        return Some(OptionWord::Print);
-    }
-    if word == "--workers" {
-        return Some(OptionWord::Workers);
-    }
-    if word == "--graph" {
-        return Some(OptionWord::Graph);
-    }
-    None
+    OPTION_WORDS
+        .iter()
+        .copied()
+        .find(|option| is_word_of(*option, word))
 }
 
 // The command of a word.
 fn first_in(word: &str) -> Option<FirstWord>
     ensures { result ≡ first_named word.now }
 {
-    if word == "check" {
-        return Some(FirstWord::Check);
-    }
-    if word == "run" {
-        return Some(FirstWord::Run);
-    }
-    if word == "gen" {
-        return Some(FirstWord::Gen);
-    }
-    None
+    FIRST_WORDS
+        .iter()
+        .copied()
+        .find(|first| first.word() == word)
 }
 
 // The words after the first: `waits` says that the option before them wants a value, `alone` that a value stands by itself.
@@ -140,12 +139,17 @@ fn options_at(first: FirstWord) -> Free
             workers: false,
             graph: false,
         },
-        FirstWord::Run => Free {
+        FirstWord::Run | FirstWord::Avoid => Free {
             print: false,
             workers: true,
             graph: true,
         },
-        FirstWord::Gen => Free {
+        FirstWord::Record => Free {
+            print: false,
+            workers: true,
+            graph: false,
+        },
+        FirstWord::Replay | FirstWord::Gen => Free {
             print: false,
             workers: false,
             graph: false,

@@ -60,6 +60,16 @@ fn command_of(first: FirstWord, values: &Values<'_>) -> Option<Command>
             let graph = wanted_in(values.graph)?;
             Some(Command::Run { workers, graph })
         }
+        FirstWord::Avoid => {
+            let workers = workers_in(values.workers)?;
+            let graph = wanted_in(values.graph)?;
+            Some(Command::Avoid { workers, graph })
+        }
+        FirstWord::Record => {
+            let workers = workers_in(values.workers)?;
+            Some(Command::Record { workers })
+        }
+        FirstWord::Replay => Some(Command::Replay),
         FirstWord::Gen => {
             let count = generated_in(values.alone)?;
             Some(Command::Gen { count })

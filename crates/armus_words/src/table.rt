@@ -1,4 +1,4 @@
-// The first words of commands, and their options.
+// The first words of commands, and their options. Each word stands here once.
 ghost use Rattle.std.specs.Prelude.{◌≡◌};
 ghost use Rattle.armus_words.specs.Words.{first_word, has_value_alone, name_of, wants_value};
 
@@ -11,11 +11,61 @@ pub const DEFAULT_WORKERS: u8 = 4;
 /// The most workers in a generated text.
 pub const MAX_GENERATED: u16 = 1000;
 
+/// The most bytes of a value.
+pub const MAX_VALUE_BYTES: usize = 16;
+
+/// The word of `check`.
+pub const CHECK: &str = "check";
+
+/// The word of `run`.
+pub const RUN: &str = "run";
+
+/// The word of `avoid`.
+pub const AVOID: &str = "avoid";
+
+/// The word of `record`.
+pub const RECORD: &str = "record";
+
+/// The word of `replay`.
+pub const REPLAY: &str = "replay";
+
+/// The word of `gen`.
+pub const GEN: &str = "gen";
+
+/// The name of the option that prints.
+pub const PRINT: &str = "print";
+
+/// The name of the option for the number of workers.
+pub const WORKERS: &str = "workers";
+
+/// The name of the option for the graph.
+pub const GRAPH: &str = "graph";
+
+/// The name under which `clap` keeps a value that stands by itself.
+pub const ALONE: &str = "count";
+
+/// All first words.
+pub const FIRST_WORDS: [FirstWord; 6] = [
+    FirstWord::Check,
+    FirstWord::Run,
+    FirstWord::Avoid,
+    FirstWord::Record,
+    FirstWord::Replay,
+    FirstWord::Gen,
+];
+
+/// All options.
+pub const OPTION_WORDS: [OptionWord; 3] =
+    [OptionWord::Print, OptionWord::Workers, OptionWord::Graph];
+
 /// The first word of a command.
 #[derive(Clone, Copy, Debug, PartialEq, Eq)]
 pub enum FirstWord {
     Check,
     Run,
+    Avoid,
+    Record,
+    Replay,
     Gen,
 }
 
@@ -25,9 +75,12 @@ impl FirstWord {
         ensures { result.now ≡ first_word self }
     {
         match self {
-            FirstWord::Check => "check",
-            FirstWord::Run => "run",
-            FirstWord::Gen => "gen",
+            FirstWord::Check => CHECK,
+            FirstWord::Run => RUN,
+            FirstWord::Avoid => AVOID,
+            FirstWord::Record => RECORD,
+            FirstWord::Replay => REPLAY,
+            FirstWord::Gen => GEN,
         }
     }
 
@@ -36,8 +89,12 @@ impl FirstWord {
         ensures { result ≡ has_value_alone self }
     {
         match self {
-            FirstWord::Check | FirstWord::Run => false,
             FirstWord::Gen => true,
+            FirstWord::Check
+            | FirstWord::Run
+            | FirstWord::Avoid
+            | FirstWord::Record
+            | FirstWord::Replay => false,
         }
     }
 }
@@ -56,9 +113,9 @@ impl OptionWord {
         ensures { result.now ≡ name_of self }
     {
         match self {
-            OptionWord::Print => "print",
-            OptionWord::Workers => "workers",
-            OptionWord::Graph => "graph",
+            OptionWord::Print => PRINT,
+            OptionWord::Workers => WORKERS,
+            OptionWord::Graph => GRAPH,
         }
     }
 

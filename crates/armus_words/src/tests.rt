@@ -15,6 +15,14 @@ fn run(workers: u8, graph: Graph) -> Option<Command> {
     Some(Command::Run { workers, graph })
 }
 
+fn avoid(workers: u8, graph: Graph) -> Option<Command> {
+    Some(Command::Avoid { workers, graph })
+}
+
+fn record(workers: u8) -> Option<Command> {
+    Some(Command::Record { workers })
+}
+
 fn check(print: bool) -> Option<Command> {
     Some(Command::Check { print })
 }
@@ -26,7 +34,7 @@ fn generate(count: u16) -> Option<Command> {
 #[test]
 fn words_and_their_commands(rt: HostRuntime) -> Result<(), Fail> {
     let alloc = rt.alloc();
-    let rows: [(&[&str], Option<Command>); 40] = [
+    let rows: [(&[&str], Option<Command>); 49] = [
         (&["check"], check(false)),
         (&["check", "--print"], check(true)),
         (&["run"], run(4, Graph::Auto)),
@@ -75,7 +83,19 @@ fn words_and_their_commands(rt: HostRuntime) -> Result<(), Fail> {
         (&["gen"], None),
         (&["gen", "0"], None),
         (&["gen", "1001"], None),
-        (&["avoid"], None),
+        (&["gen", "--workers", "3"], None),
+        (&["avoid"], avoid(4, Graph::Auto)),
+        (
+            &["avoid", "--graph", "wfg", "--workers", "2"],
+            avoid(2, Graph::Wfg),
+        ),
+        (&["avoid", "--print"], None),
+        (&["record"], record(4)),
+        (&["record", "--workers", "2"], record(2)),
+        (&["record", "--graph", "sg"], None),
+        (&["replay"], Some(Command::Replay)),
+        (&["replay", "3"], None),
+        (&["replay", "--workers", "3"], None),
     ];
     for (texts, command) in rows {
         let all = words(alloc, texts)?;

@@ -5,7 +5,7 @@ ghost use Rattle.armus_words.specs.Words.{AreWords, Text, Use};
 ghost use Rattle.armus_words.specs.Commands.{given_by};
 ghost use Rattle.armus_words.specs.Rules.{app_for, given_of, rule_for};
 
-use crate::table::{FirstWord, OptionWord};
+use crate::table::{ALONE, FirstWord, GRAPH, OptionWord, PRINT, WORKERS};
 use clap::error::ErrorKind;
 use clap::{Arg, ArgAction, Command, Error};
 use std::alloc::{AllocError, Global};
@@ -24,12 +24,12 @@ fn arg_for<'a>(alloc: Global, option: OptionWord) -> Arg<'a>
     ensures rule { rule_of result ≡ rule_for option }
     ensures local { result.global ≡ false }
 {
-    match option {
-        OptionWord::Print => Arg::new(alloc, "print")
-            .long("print")
-            .action(ArgAction::SetTrue),
-        OptionWord::Workers => Arg::new(alloc, "workers").long("workers"),
-        OptionWord::Graph => Arg::new(alloc, "graph").long("graph"),
+    let name: &'a str = option.name();
+    let arg = Arg::new(alloc, name).long(name);
+    if option.wants_value() {
+        arg
+    } else {
+        arg.action(ArgAction::SetTrue)
     }
 }
 
@@ -37,12 +37,16 @@ fn arg_for<'a>(alloc: Global, option: OptionWord) -> Arg<'a>
 fn command_for<'a>(alloc: Global, first: FirstWord) -> Result<Command<'a>, AllocError>
     ensures app { IfOk result (λ command. app_of command ≡ app_for first) }
 {
+    let word: &'a str = first.word();
+    let command = Command::new(alloc, word);
     match first {
-        FirstWord::Check => { Command::new(alloc, "check").arg(arg_for(alloc, OptionWord::Print)) }
-        FirstWord::Run => Command::new(alloc, "run")
+        FirstWord::Check => command.arg(arg_for(alloc, OptionWord::Print)),
+        FirstWord::Run | FirstWord::Avoid => command
             .arg(arg_for(alloc, OptionWord::Workers))?
             .arg(arg_for(alloc, OptionWord::Graph)),
-        FirstWord::Gen => Command::new(alloc, "gen").arg(Arg::new(alloc, "count")),
+        FirstWord::Record => command.arg(arg_for(alloc, OptionWord::Workers)),
+        FirstWord::Replay => Ok(command),
+        FirstWord::Gen => command.arg(Arg::new(alloc, ALONE)),
     }
 }
 
@@ -63,10 +67,10 @@ pub fn values_in<'a>(
     };
     match command.try_get_matches_from(words) {
         Ok(matches) => Ok(Values {
-            print: matches.get_flag("print"),
-            workers: matches.get_str("workers"),
-            graph: matches.get_str("graph"),
-            alone: matches.get_str("count"),
+            print: matches.get_flag(PRINT),
+            workers: matches.get_str(WORKERS),
+            graph: matches.get_str(GRAPH),
+            alone: matches.get_str(ALONE),
         }),
         Err(error) => Err(error),
     }

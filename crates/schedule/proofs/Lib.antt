@@ -11,3 +11,6 @@ pub mod Phasing
 pub mod Following
 pub mod PassLines
 pub mod LineByLine
+pub mod OneSchedule
+pub mod OneReplay
+pub mod Within

@@ -7,7 +7,9 @@ use Rattle.armus_base.specs.States.{Step}
 use Rattle.armus_base.specs.Runs.{state_after}
 use Rattle.schedule.specs.declared.lines.Line.{Line}
 use Rattle.schedule.specs.Passes.{Loads, statuses_found}
-use Rattle.schedule.specs.Replays.{Progress, Leads}
+use Rattle.schedule.specs.Lines.{IsSchedule}
+use Rattle.schedule.specs.Replays.{Progress, IsFirstFault, Leads}
+use Rattle.schedule.specs.Split.{IsSplit}
 
 -- a closed pass names every task that is dead at its first load, and only tasks that are dead at its last
 pub record NamesTheDead (plan : Plan) (loads : Loads) : Type 0 where
@@ -19,3 +21,26 @@ abbrev pub PassesNameTheDead : Type 0
 PassesNameTheDead =
     (plan : Plan) (lines : List Line) (a : Progress) (loads : Loads) → IsCheckedPlan plan → Leads plan lines a → Contains a.passes loads →
     NamesTheDead plan loads
+
+-- an input has one text and one schedule
+abbrev pub OneSplit : Type 0
+OneSplit = (input text schedule other rest : List ℕ) → IsSplit input text schedule → IsSplit input other rest → (text ≡ other) × (schedule ≡ rest)
+
+-- bytes are one list of lines
+abbrev pub OneReading : Type 0
+OneReading = (bytes : List ℕ) (lines others : List Line) → IsSchedule bytes lines → IsSchedule bytes others → lines ≡ others
+
+-- lines lead to one progress
+abbrev pub OneProgress : Type 0
+OneProgress = (plan : Plan) (lines : List Line) (a b : Progress) → Leads plan lines a → Leads plan lines b → a ≡ b
+
+-- no lines both lead to a progress and have a first fault
+abbrev pub LeadsOrFaults : Type 0
+LeadsOrFaults =
+    (plan : Plan) (lines : List Line) (a : Progress) (number kind : ℕ) → IsCheckedPlan plan → Leads plan lines a → IsFirstFault plan lines number kind → ⊥
+
+-- lines have one first fault
+abbrev pub OneFirstFault : Type 0
+OneFirstFault =
+    (plan : Plan) (lines : List Line) (number kind other another : ℕ) → IsCheckedPlan plan → IsFirstFault plan lines number kind →
+    IsFirstFault plan lines other another → (number ≡ other) × (kind ≡ another)

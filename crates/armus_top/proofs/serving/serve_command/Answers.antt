@@ -5,4 +5,10 @@ use Rattle.armus_top.proofs.Ending.{by_finish}
 use Rattle.armus_top.proofs.serving.serve_command.Goals as goal
 
 pub returns-in-Gen-clause-ends : goal.returns-in-Gen-clause-ends
-returns-in-Gen-clause-ends g c = rw c.in-Gen.is (by_finish None _ _ usage_line 2 _ c.usage.ensures.done (refl, refl) refl)
+returns-in-Gen-clause-ends g c = rw c.in-Gen.is (by_finish None _ _ usage_line 2 _ c.usage-in-Gen.ensures.done (refl, refl) refl)
+
+pub returns-in-Avoid-clause-ends : goal.returns-in-Avoid-clause-ends
+returns-in-Avoid-clause-ends g c = rw c.in-Avoid.is (by_finish None _ _ usage_line 2 _ c.usage.ensures.done (refl, refl) refl)
+
+pub returns-in-Record-clause-ends : goal.returns-in-Record-clause-ends
+returns-in-Record-clause-ends g c = rw c.in-Record.is (by_finish None _ _ usage_line 2 _ c.usage-in-Record.ensures.done (refl, refl) refl)

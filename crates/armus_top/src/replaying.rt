@@ -1,0 +1,102 @@
+// What `replay` answers.
+ghost use Rattle.std.specs.Prelude.{◌≡◌, ◌≢◌, ◌≤◌, ◌<◌, ◌+◌, ◌↔◌, IfErr, IfOk, IsTrue, length};
+ghost use Rattle.pl_syntax.specs.declared.limits.TheConstants.{MAX_PARSED_BYTES};
+ghost use Rattle.schedule.specs.Split.{IsSplit};
+ghost use Rattle.armus_top.specs.Texts.{Text};
+ghost use Rattle.armus_top.specs.Programs.{IsEnd};
+ghost use Rattle.armus_top.specs.Replays.{IsReplayFault, IsReplayedBy, IsShort};
+ghost use Rattle.armus_top.specs.Headline.{passage};
+ghost use Rattle.armus_top.specs.Status.{code_of};
+ghost use Rattle.armus_top.specs.Writing.{Answered};
+ghost use Rattle.armus_words.specs.declared.command.Command.TheVariants.{Replay};
+
+use crate::answers::status_of;
+use crate::status::ExitStatus;
+use crate::texts::{InputEnd, MAX_TEXT_BYTES, checked_in};
+use crate::writing::{answer_end, finish};
+use armus_base::Sink;
+use report::Refusal;
+use schedule::{
+    ReplayEnd, Replayed, ScheduleFault, read_lines, replay, replay_text, split_input,
+};
+use std::alloc::Global;
+
+// Whether the text is no longer than a text may be, where one last LF is not counted.
+fn is_short(text: &[u8]) -> bool
+    ensures { IsTrue result ↔ IsShort text.now }
+{
+    match text.split_last() {
+        Some((last, front)) => {
+            if *last == b'\n' {
+                front.len() <= MAX_TEXT_BYTES
+            } else {
+                text.len() <= MAX_TEXT_BYTES
+            }
+        }
+        None => true,
+    }
+}
+
+// The refusal of a line at fault.
+fn line_refused(fault: ScheduleFault) -> Refusal
+    ensures { result ≡ Refusal.Schedule (record { line = fault.line; kind = fault.kind }) }
+{
+    let ScheduleFault { line, kind } = fault;
+    Refusal::Schedule(report::ScheduleFault { line, kind })
+}
+
+// What the schedule leads to over the text's plan, or why there is no answer.
+fn replayed_in(alloc: Global, text: &[u8], schedule: &[u8]) -> Result<Replayed, InputEnd>
+    requires short { length text.now + length schedule.now ≤ MAX_PARSED_BYTES }
+    ensures done { IfOk result (IsReplayedBy text.now schedule.now) }
+    ensures refused { IfErr result (IsEnd (IsReplayFault text.now schedule.now)) }
+{
+    if !is_short(text) {
+        return Err(InputEnd::Refused(Refusal::Length));
+    }
+    let checked = match checked_in(alloc, text) {
+        Ok(checked) => checked,
+        Err(end) => return Err(end),
+    };
+    let lines = match read_lines(alloc, schedule) {
+        Ok(lines) => lines,
+        Err(_) => return Err(InputEnd::NoMemory),
+    };
+    match replay(alloc, &checked.plan, lines.as_slice()) {
+        Ok(done) => Ok(done),
+        Err(ReplayEnd::Schedule(fault)) => Err(InputEnd::Refused(line_refused(fault))),
+        Err(ReplayEnd::NoMemory) => Err(InputEnd::NoMemory),
+    }
+}
+
+// Whether a task is dead in the state at the end.
+fn has_dead(done: &Replayed) -> bool
+    ensures { IsTrue result ↔ (0 < length done.now.dead) }
+{
+    !done.dead.as_slice().is_empty()
+}
+
+// The text of a replay.
+fn answer_replayed<K: Sink>(alloc: Global, done: &Replayed, out: &mut K) -> ExitStatus
+    ensures done { (input text schedule : Text) → IsSplit input text schedule → IsReplayedBy text schedule done.now
+        → Answered Replay input (passage K.taken K.faults out.old out.new) (code_of result) }
+    ensures silent { code_of result ≢ 4 }
+{
+    match replay_text(alloc, done) {
+        Ok(text) => finish(out, text.as_slice(), status_of(has_dead(done))),
+        Err(_) => ExitStatus::OutOfMemory,
+    }
+}
+
+/// What `replay` answers on an input.
+pub fn replay_input<K: Sink>(alloc: Global, input: &[u8], out: &mut K) -> ExitStatus
+    requires short { length input.now ≤ MAX_PARSED_BYTES }
+    ensures done { Answered Replay input.now (passage K.taken K.faults out.old out.new) (code_of result) }
+    ensures silent { code_of result ≡ 4 → out.new ≡ out.old }
+{
+    let (text, schedule) = split_input(input);
+    match replayed_in(alloc, text, schedule) {
+        Ok(done) => answer_replayed(alloc, &done, out),
+        Err(end) => answer_end(alloc, end, out),
+    }
+}

@@ -1,0 +1,22 @@
+// Words that are no command.
+use super::expect;
+use std::test::Fail;
+
+const USAGE: &str = "usage: armus check|run|avoid|record|replay|gen\n";
+
+#[test]
+fn words_that_are_no_command(rt: HostRuntime) -> Result<(), Fail> {
+    let rows: [(&[&str], &str, &str, u8); 7] = [
+        (&[], "", USAGE, 2),
+        (&["run", "--workers", "0"], "", USAGE, 2),
+        (&["run", "--workers=2"], "", USAGE, 2),
+        (&["gen", "3"], "", USAGE, 2),
+        (&["avoid"], "", USAGE, 2),
+        (&["record"], "", USAGE, 2),
+        (&["replay", "--workers", "2"], "", USAGE, 2),
+    ];
+    for (given, input, output, status) in rows {
+        expect(&rt, given, input, output, status)?;
+    }
+    Ok(())
+}
