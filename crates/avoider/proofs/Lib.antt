@@ -1,2 +1,3 @@
 pub mod Supposing
 pub mod NobodyDies
+pub mod SamePlan

@@ -19,6 +19,10 @@ const ROOT: TaskId = TaskId(0);
 
 const CHILD: TaskId = TaskId(1);
 
+const FIRST: Event = Event { p: A, n: 1 };
+
+const SECOND: Event = Event { p: B, n: 1 };
+
 // Task 0 makes two phasers, registers its child on both and forks it; it waits on the first, and the child on the second.
 fn two_tasks(alloc: Global) -> Result<Plan, NoMemory> {
     let parents = vec![in alloc; None, Some(ROOT)]?;
@@ -67,39 +71,62 @@ fn events(
 // The final state, which it has to be.
 fn finished(rt: &impl Abort, alloc: Global, world: &World) -> Result<Final, NoMemory> {
     for t in 0..world.plan().tasks() {
-        assert!(rt; !world.enabled(TaskId(t)));
+        if world.enabled(TaskId(t)) {
+            panic!(rt; "a task may go on");
+        }
     }
     world.finish(alloc)
+}
+
+// The world in which task 0 waits and the child stands at its await.
+fn before_the_second_await<'p>(
+    rt: &impl Abort,
+    alloc: Global,
+    plan: &'p Plan,
+) -> Result<World<'p>, Fail>
+    requires { length plan.now.parents ≡ 2 }
+    ensures plan { IfOk result (λ world. world.plan ≡ plan.now) }
+    ensures nobody { IfOk result (λ world. NobodyDead (state_of world)) }
+{
+    let mut world = World::start(alloc, plan)?;
+    events(rt, alloc, &mut world, ROOT, 7)?;
+    events(rt, alloc, &mut world, CHILD, 1)?;
+    Ok(world)
+}
+
+// The decision has to be a refusal with both tasks.
+fn check_cycle(rt: &impl Abort, decision: Decision) {
+    match decision {
+        Decision::Refused(cycle) => {
+            assert!(rt; cycle.tasks.as_slice() == [ROOT, CHILD].as_slice());
+            assert!(rt; cycle.events.as_slice() == [FIRST, SECOND].as_slice());
+        }
+        Decision::Published(_) => panic!(rt; "it is published"),
+    }
+}
+
+// Task 0 has to be done, and the child refused.
+fn check_end(rt: &impl Abort, alloc: Global, world: &World) -> Result<(), NoMemory> {
+    let end = finished(rt, alloc, world)?;
+    assert!(rt; end.ends.as_slice() == [TaskEnd::Done, TaskEnd::Refused(SECOND)].as_slice());
+    assert!(rt; end.blocked.as_slice().is_empty());
+    Ok(())
 }
 
 #[test]
 fn refuses_the_second_await(rt: HostRuntime) -> Result<(), Fail> {
     let alloc = rt.alloc();
     let plan = two_tasks(alloc)?;
-    assert_eq!(rt; plan.tasks(), 2);
-    let first = Event { p: A, n: 1 };
-    let second = Event { p: B, n: 1 };
-    let mut world = World::start(alloc, &plan)?;
-    events(&rt, alloc, &mut world, ROOT, 7)?;
-    assert_eq!(rt; world.stand(ROOT), Stand::Waits(first));
-    events(&rt, alloc, &mut world, CHILD, 1)?;
-    if let Stand::Await(event) = world.stand(CHILD) {
-        assert_eq!(rt; event, second);
-        match avoid_step(alloc, &mut world, CHILD, Wanted::Auto)? {
-            Decision::Refused(cycle) => {
-                assert_eq!(rt; cycle.tasks.as_slice(), [ROOT, CHILD].as_slice());
-                assert_eq!(rt; cycle.events.as_slice(), [first, second].as_slice());
-            }
-            Decision::Published(_) => panic!(rt; "it is published"),
-        }
-        events(&rt, alloc, &mut world, ROOT, 1)?;
-        let end = finished(&rt, alloc, &world)?;
-        assert_eq!(rt;
-            end.ends.as_slice(),
-            [TaskEnd::Done, TaskEnd::Refused(second)].as_slice()
-        );
-        assert!(rt; end.blocked.as_slice().is_empty());
-        return Ok(());
+    assert!(rt; plan.tasks() == 2);
+    let mut world = before_the_second_await(&rt, alloc, &plan)?;
+    assert!(rt; world.stand(ROOT) == Stand::Waits(FIRST));
+    match world.stand(CHILD) {
+        Stand::Await(event) => assert!(rt; event == SECOND),
+        _ => panic!(rt; "it does not stand at its await"),
     }
-    panic!(rt; "it does not stand at its await")
+    let decision = avoid_step(alloc, &mut world, CHILD, Wanted::Auto)?;
+    check_cycle(&rt, decision);
+    events(&rt, alloc, &mut world, ROOT, 1)?;
+    check_end(&rt, alloc, &world)?;
+    Ok(())
 }
