@@ -56,7 +56,7 @@ prefix_place b plan t a c place before = by_parts c.dropped refl a.dropped refl 
     }
 
 -- the phaser on which a task is published is one of the plan
-published_phaser : (plan : Plan) → IsCheckedPlan plan → (t k : ℕ) (e : Event) → published_after plan t k ≡ Some e → e.p.0 < length plan.makers
+pub published_phaser : (plan : Plan) → IsCheckedPlan plan → (t k : ℕ) (e : Event) → published_after plan t k ≡ Some e → e.p.0 < length plan.makers
 published_phaser plan checked t k e published =
     let is = published_after_is plan t k e published in
     let now : published_after plan t (suc is.0) ≡ Some e = ap (published_after plan t) (sym is.1) ∙ published in
