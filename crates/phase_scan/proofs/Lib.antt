@@ -1,3 +1,5 @@
 pub mod Loads
 pub mod Chains
 pub mod Standing
+pub mod Farther
+pub mod Telling

@@ -32,13 +32,13 @@ IsKnownDeadBy seat t = IsKnownDead (avoids seat.view.mode) seat.view.plan seat.v
 pub record IsCollected (list : List Status) (before now : Known) : Type 0 where
   pub at : ℕ → Place
   pub found : ℕ → ℕ → Place
-  pub places : HasFound now.view.plan (λ t. Unit {0}) list at found (seen now.view).places
+  pub places : HasFound before.view.plan (λ t. Unit {0}) list at found (seen now.view).places
   pub since :
       (t : ℕ) (e : Event) → IsListedOn list t e →
-      IsPlaceOf (avoids now.view.mode) now.view.plan t (at t) × IsPrefix ((seen before.view).places t) (at t)
+      IsPlaceOf (avoids before.view.mode) before.view.plan t (at t) × IsPrefix ((seen before.view).places t) (at t)
   pub exact :
-      (a : ℕ → Place) (lock : Option ℕ) → IsLawful (avoids now.view.mode) now.view.plan a lock →
-      IsAsFarOn now.view.plan now.view.own a (seen now.view) → (t : ℕ) (e : Event) → IsListedOn list t e → a t ≡ at t →
-      HasItsPhases list (state_at now.view.plan a) t
+      (a : ℕ → Place) (lock : Option ℕ) → IsLawful (avoids before.view.mode) before.view.plan a lock →
+      IsAsFarOn before.view.plan before.view.own a (seen now.view) → (t : ℕ) (e : Event) → IsListedOn list t e → a t ≡ at t →
+      HasItsPhases list (state_at before.view.plan a) t
   pub dead : (t : ℕ) → IsKnownDeadBy before t → InEachLawful before (λ s. IsListedAsIn list s t)
-  pub others : (t : ℕ) → ((e : Event) → IsListedOn list t e → ⊥) → published_after now.view.plan t ((seen now.view).places t).done ≡ None
+  pub others : (t : ℕ) → ((e : Event) → IsListedOn list t e → ⊥) → published_after before.view.plan t ((seen now.view).places t).done ≡ None
