@@ -15,12 +15,13 @@ use Rattle.armus_base.specs.Decisions.{HasFound}
 use Rattle.armus_base.specs.FinalLaws.{AreStatuses}
 use Rattle.armus_base.specs.Finals.{is_awaited, is_event_of, statuses_on}
 use Rattle.armus_base.specs.Statuses.{IsAwaited}
-use Rattle.armus_base.specs.Seats.{Found, FoundWaiting, IsAsFarOn, IsPlaceOf, await_word}
+use Rattle.armus_base.specs.Seats.{Found, FoundWaiting, IsAsFarOn, IsLongestPrefix, IsPlaceOf, await_word}
 use Rattle.armus_base.proofs.AwaitLoadKeepsFar.{prefixes_both}
 use Rattle.armus_base.proofs.Fixed.{some_before_from, some_before_is}
 use Rattle.armus_base.proofs.FoundArePublished.{published_within}
 use Rattle.armus_base.proofs.Places.{precedes_trans}
 use Rattle.armus_base.proofs.Published.{published_after_is}
+use Rattle.armus_base.proofs.ReachedLater.{later_done}
 use Rattle.armus_base.proofs.StatusesAre.{statuses_are}
 use Rattle.armus_base.proofs.Tasks.{action_of_task}
 use Rattle.board.specs.declared.mode.Mode.{Mode}
@@ -37,6 +38,16 @@ use Rattle.phase_scan.proofs.Standing.{dead_place, means_there, phases_begun_at,
 
 prefix_both : (a b c : Place) → IsPrefix a b → IsPrefix b c → IsPrefix a c
 prefix_both a b c x y = precedes_trans a.done b.done c.done a.dropped b.dropped c.dropped x y
+
+-- the phases at the place seen after a load of a phase word, where the task is published there, are what was found
+found_there :
+    (q : Plan) → IsCheckedPlan q → (b : Bool) (t p : ℕ) (answer : Option ℕ) (before now : Place) (e : Event) →
+    IsLongestPrefix b q t (λ v. phases_at_place q t v p ≡ answer) before now → published_after q t now.done ≡ Some e → phases_at_place q t now p ≡ answer
+found_there q checked b t p answer before now e longest published =
+    elim (same_or_not (phases_at_place q t now p) answer) [
+      | inl same ↦ same
+      | inr other ↦ absurd (means_there q checked b t (λ v. phases_at_place q t v p ≡ answer) before now e longest published other)
+    ]
 
 module _ (before now : Known) (list : List Status) (checked : IsCheckedPlan before.view.plan) (some : 0 < length before.view.plan.parents) (c : IsCollect before.view.plan list before now) where
   abbrev plan : Plan
@@ -146,3 +157,111 @@ module _ (before now : Known) (list : List Status) (checked : IsCheckedPlan befo
       by_cases : (d : IsLoaded t p ⊎ (IsLoaded t p → ⊥)) → (y : Phase t p) × found_by t p d ≡ (seen y.to.view).places t
       by_cases (inl l) = (phase t p l, refl)
       by_cases (inr none) = absurd (none is)
+
+  -- a task of the list
+  listed : (t : ℕ) (e : Event) → IsListedOn list t e → t < tasks × c.found.published t ≡ Some e
+  listed t e is = (are.events t e).0 is
+
+  -- a phaser that is awaited in the list
+  awaited_is : (e : Event) → IsAwaited list e → (u : ℕ) × u < tasks × c.found.published u ≡ Some e
+  awaited_is e (s, inside, same) = (let l = listed s.t.0 e (s, inside, refl, same) in (s.t.0, l.0, l.1))
+
+  -- where a task was found waiting it is published
+  published_at : (t : ℕ) (e : Event) → IsListedOn list t e → published_after plan t (at t).done ≡ Some e
+  published_at t e is =
+      let (task, waits) = listed t e is in
+      let (x, here) = await_at t task in
+      let b = (seen x.to.view).places t in
+      let answer : waiting_on x.finds.answer ≡ Some e = sym x.finds.waits ∙ waits in
+      let word : await_word x.from.view.plan t b ≡ x.finds.answer = x.finds.load.load.there (waits_unrefused x.finds.answer e answer) in
+      let on : published_after x.from.view.plan t b.done ≡ Some e =
+      word_published (published_after x.from.view.plan t b.done) (refused_at x.from.view.plan t b.done b.dropped) e (ap waiting_on word ∙ answer) in
+      ap (λ (v : Place). published_after plan t v.done) here
+      ∙ subst (λ (q : Plan). published_after q t b.done ≡ Some e) x.goes_from.same.plan on
+
+  at_before : (t : ℕ) → t < tasks → IsPrefix (at t) ((seen c.between.view).places t)
+  at_before t task =
+      let (x, here) = await_at t task in
+      subst (λ v. IsPrefix v ((seen c.between.view).places t)) (sym here) (x.goes_to.later t)
+
+  found_after : (t p : ℕ) (is : IsLoaded t p) → IsPrefix (at t) (found t p) × IsPrefix (found t p) ((seen now.view).places t)
+  found_after t p is =
+      let (y, there) = phase_at t p is in
+      let load = phase_load y.from y.to t p (c.found.phases t p) y.small y.load in
+      let first = at_before t is.0 in
+      let from : IsPrefix (at t) ((seen y.from.view).places t) =
+      prefix_both (at t) ((seen c.between.view).places t) ((seen y.from.view).places t) first (y.goes_from.later t) in
+      let here : IsPrefix (at t) ((seen y.to.view).places t) =
+      prefix_both (at t) ((seen y.from.view).places t) ((seen y.to.view).places t) from (load.later t) in (
+        subst (IsPrefix (at t)) (sym there) here,
+        subst (λ v. IsPrefix v ((seen now.view).places t)) (sym there) (y.goes_to.later t),
+      )
+
+  begun_later : (t : ℕ) (e : Event) (b : Place) → IsListedOn list t e → IsPrefix (at t) b → 0 < b.done
+  begun_later t e b is later =
+      let first = published_begun plan checked t (at t).done e (published_at t e is) in
+      let more = later_done (at t).done b.done (at t).dropped b.dropped later in
+      omega arith
+
+  not_first : (b : Place) → 0 < b.done → b ≢ first_place
+  not_first b begun same = (let none : b.done ≡ 0 = ap (λ (v : Place). v.done) same in omega arith)
+
+  -- a phase that was found is the task's phase at the place seen right after
+  phase_found :
+      (t p n : ℕ) (e : Event) → IsListedOn list t e → (is : IsLoaded t p) → c.found.phases t p ≡ Some n → phases_at_place plan t (found t p) p ≡ Some n
+  phase_found t p n e is loaded found_it =
+      let (y, there) = phase_at t p loaded in
+      let b = (seen y.to.view).places t in
+      let later : IsPrefix (at t) b = subst (IsPrefix (at t)) there (found_after t p loaded).0 in
+      let at_plan : y.from.view.plan ≡ plan = y.goes_from.same.plan ∙ between_plan in
+      let means = y.load.load.there n found_it (not_first b (begun_later t e b is later)) in
+      ap (λ v. phases_at_place plan t v p) there
+      ∙ subst (λ (q : Plan). phases_at_place q t b p ≡ c.found.phases t p) at_plan means ∙ found_it
+
+  -- where a task still stands where it was found waiting, what was found of its phases is so there
+  phase_exact :
+      (t p : ℕ) (e : Event) → IsListedOn list t e → (is : IsLoaded t p) → found t p ≡ at t → phases_at_place plan t (at t) p ≡ c.found.phases t p
+  phase_exact t p e is loaded same =
+      let (y, there) = phase_at t p loaded in
+      let b = (seen y.to.view).places t in
+      let here : b ≡ at t = sym there ∙ same in
+      let at_plan : y.from.view.plan ≡ plan = y.goes_from.same.plan ∙ between_plan in
+      let q = y.from.view.plan in
+      let from : IsPrefix (at t) ((seen y.from.view).places t) =
+      prefix_both (at t) ((seen c.between.view).places t) ((seen y.from.view).places t) (at_before t loaded.0) (y.goes_from.later t) in
+      let longest = (y.load.load.seen_now.place (not_first ((seen y.from.view).places t) (begun_later t e ((seen y.from.view).places t) is from))).here in
+      let on : published_after q t b.done ≡ Some e =
+      ap (λ (v : Place). published_after q t v.done) here
+      ∙ subst (λ (r : Plan). published_after r t (at t).done ≡ Some e) (sym at_plan) (published_at t e is) in
+      let means = found_there q (subst IsCheckedPlan (sym at_plan) checked) (avoids y.from.view.mode) t p (c.found.phases t p) ((seen y.from.view).places t) b e longest on in
+      ap (λ v. phases_at_place plan t v p) (sym here)
+      ∙ subst (λ (r : Plan). phases_at_place r t b p ≡ c.found.phases t p) at_plan means
+
+  -- what the list says of phases on awaited phasers
+  loaded_of : (t : ℕ) (e : Event) → IsListedOn list t e → (f : Event) → IsAwaited list f → IsLoaded t f.p.0
+  loaded_of t e is f awaited =
+      let (task, waits) = listed t e is in
+      let (u, other, on) = awaited_is f awaited in
+      let (s, inside, same) = awaited in
+      let l : IsListedOn list s.t.0 f = (s, inside, refl, same) in (
+        task,
+        ap is_some waits,
+        published_phaser plan checked s.t.0 (at s.t.0).done f (published_at s.t.0 f l),
+        some_before_from (λ v. is_event_of f.p.0 (c.found.published v)) tasks u other (ap (is_event_of f.p.0) on ∙ eq-eqb f.p.0 f.p.0 refl),
+      )
+
+  phases_listed :
+      (t : ℕ) (e : Event) → IsListedOn list t e → (s : State) → ((f : Event) → IsAwaited list f → s.phases t f.p.0 ≡ c.found.phases t f.p.0) → HasItsPhases list s t
+  phases_listed t e is s same f n awaited = (
+    λ has.
+        let loaded = loaded_of t e is f awaited in
+        (are.phases t f.p.0 n).1 record {
+          task = loaded.0;
+          event = e;
+          published = (listed t e is).1;
+          phaser = loaded.2;
+          asked_for = loaded.3;
+          phase = sym (same f awaited) ∙ has;
+        },
+    λ has. same f awaited ∙ ((are.phases t f.p.0 n).0 has).phase,
+  )
