@@ -265,3 +265,125 @@ module _ (before now : Known) (list : List Status) (checked : IsCheckedPlan befo
         },
     λ has. same f awaited ∙ ((are.phases t f.p.0 n).0 has).phase,
   )
+
+  -- each task was found waiting at a place, and its phases from there on
+  all_found : HasFound plan (λ t. Unit {0}) list at found (seen now.view).places
+  all_found =
+      record {
+        waiting = λ u e one is. published_at u e is;
+        before = λ u e one is.
+            let task = (listed u e is).0 in
+            prefix_both (at u) ((seen c.between.view).places u) ((seen now.view).places u) (at_before u task) (rows.goes.later u);
+        phases = λ u p n one is.
+            let has = (are.phases u p n).0 is in
+            let loaded : IsLoaded u p = (has.task, ap is_some has.published, has.phaser, has.asked_for) in
+            let l : IsListedOn list u has.event = (are.events u has.event).1 (has.task, has.published) in (
+              (found_after u p loaded).0,
+              phase_found u p n has.event l loaded has.phase,
+            );
+        phases_before = λ u p n one is.
+            let has = (are.phases u p n).0 is in
+            let loaded : IsLoaded u p = (has.task, ap is_some has.published, has.phaser, has.asked_for) in
+            (found_after u p loaded).1;
+      }
+
+  since : (t : ℕ) (e : Event) → IsListedOn list t e → IsPlaceOf (avoids before.view.mode) plan t (at t) × IsPrefix ((seen before.view).places t) (at t)
+  since t e is =
+      let task = (listed t e is).0 in
+      let (x, here) = await_at t task in
+      let b = (seen x.to.view).places t in
+      let load = await_load x.from x.to t x.finds.answer x.small x.finds.load in
+      let place = x.finds.load.load.seen_now.place.here.place in
+      let near : IsPrefix ((seen before.view).places t) b =
+      prefix_both ((seen before.view).places t) ((seen x.from.view).places t) b (x.goes_from.later t) (load.later t) in (
+        subst (IsPlaceOf (avoids before.view.mode) plan t) (sym here)
+            (subst (λ (d : Mode). IsPlaceOf (avoids d) plan t b) x.goes_from.same.mode
+            (subst (λ (q : Plan). IsPlaceOf (avoids x.from.view.mode) q t b) x.goes_from.same.plan place)),
+        subst (IsPrefix ((seen before.view).places t)) (sym here) near,
+      )
+
+  exact :
+      (a : ℕ → Place) (lock : Option ℕ) → IsLawful (avoids before.view.mode) plan a lock → IsAsFarOn plan before.view.own a (seen now.view) →
+      (t : ℕ) (e : Event) → IsListedOn list t e → a t ≡ at t → HasItsPhases list (state_at plan a) t
+  exact a lock lawful far t e is stands =
+      phases_listed t e is (state_at plan a) (λ f awaited.
+      let loaded = loaded_of t e is f awaited in
+      let after = found_after t f.p.0 loaded in
+      let last : IsPrefix (found t f.p.0) (at t) =
+      prefix_both (found t f.p.0) ((seen now.view).places t) (at t) after.1 (subst (IsPrefix ((seen now.view).places t)) stands (far.later t loaded.0)) in
+      let same : found t f.p.0 ≡ at t = prefixes_both (found t f.p.0) (at t) last after.0 in
+      let begun : 0 < (a t).done = subst (λ (v : Place). 0 < v.done) (sym stands) (published_begun plan checked t (at t).done e (published_at t e is)) in
+      ap (λ m. m f.p.0) (phases_begun_at plan checked (avoids before.view.mode) a lock lawful t begun)
+      ∙ ap (λ v. phases_at_place plan t v f.p.0) stands
+      ∙ phase_exact t f.p.0 e is loaded same)
+
+  -- a task that was known to be dead was found waiting on its event
+  dead_listed :
+      (t : ℕ) → IsKnownDeadBy before t → (a : ℕ → Place) (lock : Option ℕ) → IsLawful (avoids before.view.mode) plan a lock →
+      IsAsFarOn plan before.view.own a (seen before.view) → (e : Event) → (state_at plan a).published t ≡ Some e → IsListedOn list t e
+  dead_listed t known a lock lawful far e on =
+      let task = published_within plan checked a t e on in
+      let x = await t task in
+      let was = possible_before before x.from x.to (λ s. found_in s t ≡ x.finds.answer) seat x.goes_from x.finds.load.load.was in
+      let same = dead_place plan checked (avoids before.view.mode) t a was.places lock was.lock lawful was.lawful (known a lock lawful far) (known was.places was.lock was.lawful was.far) in
+      let there : (state_at plan was.places).published t ≡ Some e = ap (λ (v : Place). published_after plan t v.done) (sym same) ∙ on in
+      let waits : waiting_on x.finds.answer ≡ Some e =
+      ap waiting_on (sym was.holds) ∙ word_waits ((state_at plan was.places).published t) ((state_at plan was.places).refused t) e there in
+      (are.events t e).1 (task, x.finds.waits ∙ waits)
+
+  dead : (t : ℕ) → IsKnownDeadBy before t → InEachLawful before (λ s. IsListedAsIn list s t)
+  dead t known a lock lawful far =
+      let is_dead = known a lock lawful far in
+      let held = is_dead.deadlocked.each t is_dead.inside in
+      let e = held.event in
+      let is = dead_listed t known a lock lawful far e held.waits in (
+        e,
+        held.waits,
+        is,
+        phases_listed t e is (state_at plan a) (λ f awaited.
+            let loaded = loaded_of t e is f awaited in
+            let y = phase t f.p.0 loaded in
+            let goes = goes_both before c.between y.from awaits.goes y.goes_from in
+            let was = possible_before before y.from y.to (λ s. s.phases t f.p.0 ≡ c.found.phases t f.p.0) seat goes y.load.load.was in
+            let same = dead_place plan checked (avoids before.view.mode) t a was.places lock was.lock lawful was.lawful is_dead (known was.places was.lock was.lawful was.far) in
+            let begun : 0 < (a t).done = published_begun plan checked t (a t).done e held.waits in
+            let begun_then : 0 < (was.places t).done = subst (λ (v : Place). 0 < v.done) same begun in
+            ap (λ m. m f.p.0) (phases_begun_at plan checked (avoids before.view.mode) a lock lawful t begun)
+            ∙ ap (λ v. phases_at_place plan t v f.p.0) same
+            ∙ ap (λ m. m f.p.0) (sym (phases_begun_at plan checked (avoids before.view.mode) was.places was.lock was.lawful t begun_then))
+            ∙ was.holds),
+      )
+
+  -- a task that was not found waiting is not published at the place that is seen of it
+  idle : (t : ℕ) (f : Event) → t < tasks → ((e : Event) → IsListedOn list t e → ⊥) → published_after plan t ((seen now.view).places t).done ≡ Some f → ⊥
+  idle t f task unlisted on = by_event (c.found.published t) refl
+    where
+      by_event : (o : Option Event) → c.found.published t ≡ o → ⊥
+      by_event (Some e) is = unlisted e ((are.events t e).1 (task, is))
+      by_event None is =
+          let x = await t task in
+          let q = x.from.view.plan in
+          let b = (seen x.to.view).places t in
+          let same : (seen now.view).places t ≡ b = rows.others t (λ (l, waits). (let none : is_some (c.found.published t) ≡ false = ap is_some is in absurd (cc))) ∙ x.stays in
+          let at_plan : q ≡ plan = x.goes_from.same.plan in
+          let here : published_after q t b.done ≡ Some f =
+          subst (λ (r : Plan). published_after r t b.done ≡ Some f) (sym at_plan) (ap (λ (v : Place). published_after plan t v.done) (sym same) ∙ on) in
+          let answer : waiting_on x.finds.answer ≡ None = sym x.finds.waits ∙ is in
+          means_there q (subst IsCheckedPlan (sym at_plan) checked) (avoids x.from.view.mode) t (λ v. await_word q t v ≡ x.finds.answer) ((seen x.from.view).places t) b f
+          x.finds.load.load.seen_now.place.here here
+          (λ means.
+          let waits = word_waits (published_after q t b.done) (refused_at q t b.done b.dropped) f here in
+          let none : waiting_on (await_word q t b) ≡ None = ap waiting_on means ∙ answer in
+          absurd (cc))
+
+  others : (t : ℕ) → ((e : Event) → IsListedOn list t e → ⊥) → published_after plan t ((seen now.view).places t).done ≡ None
+  others t unlisted = by_event (published_after plan t ((seen now.view).places t).done) refl
+    where
+      by_event : (o : Option Event) → published_after plan t ((seen now.view).places t).done ≡ o → o ≡ None
+      by_event None is = refl
+      by_event (Some f) is =
+          let by = published_after_is plan t ((seen now.view).places t).done f is in
+          absurd (idle t f (action_of_task plan checked t by.0 (Blocks f.p.0) by.2) unlisted is)
+
+  pub collected : IsCollected list before now
+  collected = record { at = at; found = found; places = all_found; since = since; exact = exact; dead = dead; others = others }
