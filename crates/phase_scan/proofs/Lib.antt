@@ -3,3 +3,4 @@ pub mod Chains
 pub mod Standing
 pub mod Farther
 pub mod Telling
+pub mod Counting

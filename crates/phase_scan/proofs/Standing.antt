@@ -101,6 +101,16 @@ module _ (plan : Plan) (checked : IsCheckedPlan plan) where
       ap (kept (a t).dropped)
       (phases_forked plan checked (done_by a) t ((reachable_is_fixed plan a checked (lawful_is_reachable b plan a lock lawful)).1.begun t begun))
 
+  -- where it stands at the same place in two lawful states it has the same phases
+  pub same_phases :
+      (b : Bool) (a c : ℕ → Place) (lock lock' : Option ℕ) → IsLawful b plan a lock → IsLawful b plan c lock' → (t p : ℕ) (o : Option ℕ) → 0 < (a t).done →
+      a t ≡ c t → (state_at plan c).phases t p ≡ o → (state_at plan a).phases t p ≡ o
+  same_phases b a c lock lock' at_a at_c t p o begun same is =
+      let there : 0 < (c t).done = subst (λ (v : Place). 0 < v.done) same begun in
+      let here = ap (λ m. m p) (phases_begun_at b a lock at_a t begun) in
+      let then = ap (λ m. m p) (phases_begun_at b c lock' at_c t there) in
+      here ∙ ap (λ v. phases_at_place plan t v p) same ∙ sym then ∙ is
+
   -- a dead task stands where it stands after each maximal run
   ends_at :
       (t : ℕ) (a : ℕ → Place) (lock : Option ℕ) → IsLawful false plan a lock → IsDeadIn (state_at plan a) t →

@@ -34,7 +34,7 @@ use Rattle.phase_scan.specs.Collected.{HasItsPhases, IsCollected, IsKnownDeadBy,
 use Rattle.phase_scan.proofs.Loads.{await_load, goes_both, phase_load, published_phaser}
 use Rattle.phase_scan.proofs.Chains.{AwaitLoad, GoesAt, PhaseLoad, Row, WaitsBelow, await_of, awaits_go, awaits_seat, phase_of, row_of, rows_go}
 use Rattle.phase_scan.proofs.Farther.{far_before, possible_before}
-use Rattle.phase_scan.proofs.Standing.{dead_place, means_there, phases_begun_at, published_begun, same_or_not, waits_unrefused, word_published, word_waits}
+use Rattle.phase_scan.proofs.Standing.{dead_place, means_there, phases_begun_at, published_begun, same_or_not, same_phases, waits_unrefused, word_published, word_waits}
 
 prefix_both : (a b c : Place) → IsPrefix a b → IsPrefix b c → IsPrefix a c
 prefix_both a b c x y = precedes_trans a.done b.done c.done a.dropped b.dropped c.dropped x y
@@ -50,13 +50,13 @@ found_there q checked b t p answer before now e longest published =
     ]
 
 module _ (before now : Known) (list : List Status) (checked : IsCheckedPlan before.view.plan) (some : 0 < length before.view.plan.parents) (c : IsCollect before.view.plan list before now) where
-  abbrev plan : Plan
+  abbrev pub plan : Plan
   plan = before.view.plan
 
-  abbrev tasks : ℕ
+  abbrev pub tasks : ℕ
   tasks = length plan.parents
 
-  abbrev asked : ℕ → Bool
+  abbrev pub asked : ℕ → Bool
   asked = is_awaited plan c.found
 
   seat : IsSeat before
@@ -75,7 +75,7 @@ module _ (before now : Known) (list : List Status) (checked : IsCheckedPlan befo
   pub collect_goes : GoesOn before now
   collect_goes = goes_both before c.between now awaits.goes rows.goes
 
-  are : AreStatuses plan c.found asked list
+  pub are : AreStatuses plan c.found asked list
   are = subst (AreStatuses plan c.found asked) (sym c.statuses) (statuses_are plan c.found asked checked)
 
   -- the load of each await word
@@ -110,7 +110,7 @@ module _ (before now : Known) (list : List Status) (checked : IsCheckedPlan befo
     small : t < length from.view.plan.parents
     goes_to : GoesOn to now
 
-  abbrev IsLoaded : ℕ → ℕ → Type 0
+  abbrev pub IsLoaded : ℕ → ℕ → Type 0
   IsLoaded t p = t < tasks × is_some (c.found.published t) ≡ true × p < length plan.makers × asked p ≡ true
 
   phase : (t p : ℕ) → IsLoaded t p → Phase t p
@@ -163,7 +163,7 @@ module _ (before now : Known) (list : List Status) (checked : IsCheckedPlan befo
   listed t e is = (are.events t e).0 is
 
   -- a phaser that is awaited in the list
-  awaited_is : (e : Event) → IsAwaited list e → (u : ℕ) × u < tasks × c.found.published u ≡ Some e
+  pub awaited_is : (e : Event) → IsAwaited list e → (u : ℕ) × u < tasks × c.found.published u ≡ Some e
   awaited_is e (s, inside, same) = (let l = listed s.t.0 e (s, inside, refl, same) in (s.t.0, l.0, l.1))
 
   -- where a task was found waiting it is published
@@ -238,7 +238,7 @@ module _ (before now : Known) (list : List Status) (checked : IsCheckedPlan befo
       ∙ subst (λ (r : Plan). phases_at_place r t b p ≡ c.found.phases t p) at_plan means
 
   -- what the list says of phases on awaited phasers
-  loaded_of : (t : ℕ) (e : Event) → IsListedOn list t e → (f : Event) → IsAwaited list f → IsLoaded t f.p.0
+  pub loaded_of : (t : ℕ) (e : Event) → IsListedOn list t e → (f : Event) → IsAwaited list f → IsLoaded t f.p.0
   loaded_of t e is f awaited =
       let (task, waits) = listed t e is in
       let (u, other, on) = awaited_is f awaited in
@@ -347,11 +347,7 @@ module _ (before now : Known) (list : List Status) (checked : IsCheckedPlan befo
             let was = possible_before before y.from y.to (λ s. s.phases t f.p.0 ≡ c.found.phases t f.p.0) seat goes y.load.load.was in
             let same = dead_place plan checked (avoids before.view.mode) t a was.places lock was.lock lawful was.lawful is_dead (known was.places was.lock was.lawful was.far) in
             let begun : 0 < (a t).done = published_begun plan checked t (a t).done e held.waits in
-            let begun_then : 0 < (was.places t).done = subst (λ (v : Place). 0 < v.done) same begun in
-            ap (λ m. m f.p.0) (phases_begun_at plan checked (avoids before.view.mode) a lock lawful t begun)
-            ∙ ap (λ v. phases_at_place plan t v f.p.0) same
-            ∙ ap (λ m. m f.p.0) (sym (phases_begun_at plan checked (avoids before.view.mode) was.places was.lock was.lawful t begun_then))
-            ∙ was.holds),
+            same_phases plan checked (avoids before.view.mode) a was.places lock was.lock lawful was.lawful t f.p.0 (c.found.phases t f.p.0) begun same was.holds),
       )
 
   -- a task that was not found waiting is not published at the place that is seen of it
