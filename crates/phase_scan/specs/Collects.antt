@@ -64,3 +64,9 @@ pub record CountsLoads (plan : Plan) (list : List Status) (before now : Known) :
   pub phasers : ℕ
   pub distinct : IsCount (IsAwaitedPhaser list) phasers
   pub loads : now.view.loads ≡ before.view.loads + (length plan.parents + length list * phasers)
+
+-- for how many tasks and phasers cells are, and the statuses that the last collect found
+pub record Collection : Type 0 where
+  pub tasks : ℕ
+  pub phasers : ℕ
+  pub statuses : List Status
