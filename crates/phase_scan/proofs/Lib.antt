@@ -4,3 +4,6 @@ pub mod Standing
 pub mod Farther
 pub mod Telling
 pub mod Counting
+pub mod Tables
+pub mod Keeping
+pub mod Collecting
