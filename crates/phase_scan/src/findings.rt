@@ -1,5 +1,6 @@
 // What the loads of a collect found.
 ghost use Rattle.std.specs.Prelude.{◌≡◌, ◌≢◌, ℕ, ◌<◌, ◌≤◌, ◌*◌, ◌^◌, Some, None, false, ◌||◌, IfOk, IfSome, length, vec_len};
+ghost use Rattle.armus_base.specs.CheckedPlans.{IsCheckedPlan};
 ghost use Rattle.armus_base.specs.Finals.{given_below, is_event_of, listed_phase};
 ghost use Rattle.armus_base.specs.Places.{some_before};
 ghost use Rattle.armus_base.specs.States.{updated, with_phase};
@@ -88,13 +89,14 @@ impl Findings {
         requires tasks { self.old.tasks ≡ length board.now.plan.parents }
         requires phasers { self.old.phasers ≡ length board.now.plan.makers }
         requires unmarked { (p : ℕ) → awaited_found self.old p ≡ false }
+        ensures checked { IsCheckedPlan board.now.plan }
         ensures made { IsOf (L.known by.new) board.now }
         ensures tasks { self.new.tasks ≡ self.old.tasks }
         ensures phasers { self.new.phasers ≡ self.old.phasers }
         ensures loads { LoadsAwaits (event_at self.new.events.items) self.old.tasks (L.known by.old) (L.known by.new) }
         ensures awaited { (p : ℕ) → awaited_found self.new p ≡ some_before (λ t. is_event_of p (event_at self.new.events.items t)) self.old.tasks }
     {
-        for number in 0..self.tasks {
+        for number in 0..board.tasks() {
             let t = TaskId(number);
             let seen = by.load_await(board, t);
             self.keep_event(t, waiting(seen));
