@@ -1,24 +1,21 @@
 -- The loads of a collect that its tables keep.
-use Rattle.std.proofs.Common.{◌≡◌, ℕ, ◌<◌, ◌≤◌, Bool, Option, Some, None, List, length, sym, refl, ap, ◌∙◌, subst, arith}
-use Rattle.std.specs.Prelude.{slice_get}
+use Rattle.std.proofs.Common.{◌≡◌, ℕ, ◌<◌, Option, None, List, length, sym, ap, ◌∙◌, subst}
 use Rattle.std.proofs.lemmas.Option.{slice_get_within}
 use mathlib.Core.Path.{fun_ext}
 use Rattle.armus_base.specs.declared.event.Event.{Event}
 use Rattle.armus_base.specs.declared.status.Status.{Status}
 use Rattle.armus_base.specs.Plans.{Plan}
-use Rattle.armus_base.specs.States.{State}
 use Rattle.armus_base.specs.Places.{some_before}
 use Rattle.armus_base.specs.CheckedPlans.{IsCheckedPlan}
 use Rattle.armus_base.specs.Finals.{given_below, is_awaited, is_event_of, statuses_on}
 use Rattle.armus_base.specs.Statuses.{IsInOrder}
 use Rattle.armus_base.proofs.StatusesAre.{statuses_are}
-use Rattle.board.specs.Seats.{Frame, IsOf, IsSeat, Known}
+use Rattle.board.specs.Seats.{Frame, IsOf, Known}
 use Rattle.phase_scan.specs.Looks.{GoesOn}
 use Rattle.phase_scan.specs.Collects.{CountsLoads, IsCollect, LoadsAwaits, LoadsRows}
 use Rattle.phase_scan.specs.Collected.{IsCollected}
 use Rattle.phase_scan.specs.declared.findings.Findings.{Findings}
 use Rattle.phase_scan.specs.Tables.{awaited_found, event_at, is_marked, state_found, status_found, statuses_found}
-use Rattle.phase_scan.proofs.Chains.{awaits_seat}
 use Rattle.phase_scan.proofs.Counting.{counts_loads}
 use Rattle.phase_scan.proofs.Telling.{collect_goes, collected}
 

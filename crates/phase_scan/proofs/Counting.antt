@@ -1,15 +1,14 @@
 -- How many loads a collect makes.
-use Rattle.std.proofs.Common.{◌≡◌, ℕ, zero, suc, ◌<◌, ◌≤◌, ◌+◌, ◌*◌, ◌++◌, Bool, true, false, List, Option, Some, None, length, sym, refl, ap, ◌∙◌, subst, arith, inl, inr, ◌⊎◌, length-append, eqb-true, eq-eqb}
-use Rattle.std.specs.Prelude.{◌↔◌, ◌==◌, is_some, if◌then◌else◌, option_map, option_to_list}
-use Rattle.std.proofs.lemmas.Bool.{cases_Bool, cases_eq}
+use Rattle.std.proofs.Common.{◌≡◌, ℕ, zero, suc, ◌<◌, ◌+◌, ◌*◌, Bool, true, false, List, Option, Some, None, length, sym, refl, ap, ◌∙◌, subst, arith, inl, inr, length-append, eqb-true}
+use Rattle.std.specs.Prelude.{is_some, if◌then◌else◌, option_map, option_to_list}
+use Rattle.std.proofs.lemmas.Bool.{cases_eq}
 use Rattle.armus_base.specs.declared.event.Event.{Event}
 use Rattle.armus_base.specs.declared.status.Status.{Status}
 use Rattle.armus_base.specs.Plans.{Plan}
 use Rattle.armus_base.specs.States.{Phases, State}
 use Rattle.armus_base.specs.Counts.{IsCount}
 use Rattle.armus_base.specs.CheckedPlans.{IsCheckedPlan}
-use Rattle.armus_base.specs.Finals.{given_below, is_awaited, is_event_of, listed_phase, status_of, statuses_on}
-use Rattle.armus_base.specs.Statuses.{IsAwaited}
+use Rattle.armus_base.specs.Finals.{given_below, is_awaited, is_event_of, listed_phase, status_of}
 use Rattle.armus_base.proofs.Counts.{count_more, count_none, count_same}
 use Rattle.armus_base.proofs.Fixed.{some_before_is}
 use Rattle.board.specs.Seats.{AnswersPhase, Known}

@@ -1,7 +1,6 @@
 -- One load more: what is kept of it.
-use Rattle.std.proofs.Common.{◌≡◌, ◌≢◌, ℕ, zero, suc, ◌<◌, ◌≤◌, ◌+◌, Bool, true, false, Option, Some, None, length, sym, refl, ap, ◌∙◌, subst, arith, inl, inr, add-one}
+use Rattle.std.proofs.Common.{◌≡◌, ◌≢◌, ℕ, zero, suc, ◌<◌, ◌+◌, Bool, true, false, Option, Some, length, sym, refl, ap, ◌∙◌, subst, arith, add-one}
 use Rattle.std.specs.Prelude.{◌||◌, is_some}
-use Rattle.std.proofs.lemmas.Bool.{cases_eq}
 use Rattle.armus_base.specs.declared.event.Event.{Event}
 use Rattle.armus_base.specs.Plans.{Plan}
 use Rattle.armus_base.specs.States.{Phases, State, updated, with_phase}

@@ -1,15 +1,14 @@
 -- A task that is published where it is seen: what a load found is what its word means there, and where it is dead it stands in all lawful states.
-use Rattle.std.proofs.Common.{◌≡◌, ◌≢◌, ℕ, zero, suc, ◌<◌, ◌≤◌, Bool, true, false, Option, Some, None, length, sym, refl, ap, ◌∙◌, subst, arith, inl, inr, ◌⊎◌}
+use Rattle.std.proofs.Common.{◌≡◌, ◌≢◌, ℕ, suc, ◌<◌, ◌≤◌, Bool, true, false, Option, Some, None, sym, refl, ap, ◌∙◌, subst, arith, inl, inr, ◌⊎◌}
 use Rattle.std.proofs.lemmas.Bool.{cases_eq}
 use Rattle.armus_base.specs.declared.event.Event.{Event}
 use Rattle.armus_base.specs.Plans.{Passes, Plan, action_at}
-use Rattle.armus_base.specs.States.{State}
-use Rattle.armus_base.specs.Runs.{ArePrefixes, IsPrefix, Place, Precedes, first_place, places}
-use Rattle.armus_base.specs.Places.{done_by, kept, phases_after, phases_at, phases_at_place, published_after, refused_at, state_at}
+use Rattle.armus_base.specs.Runs.{ArePrefixes, IsPrefix, Place, Precedes, places}
+use Rattle.armus_base.specs.Places.{done_by, kept, phases_at_place, published_after, state_at}
 use Rattle.armus_base.specs.CheckedPlans.{IsCheckedPlan}
 use Rattle.armus_base.specs.Boards.{IsLawful, steps_of}
 use Rattle.armus_base.specs.Deadlocks.{IsDeadIn}
-use Rattle.armus_base.specs.Seats.{Found, FoundIdle, FoundRefused, FoundWaiting, IsLongestPrefix, IsPlaceOf, await_word, found_by}
+use Rattle.armus_base.specs.Seats.{Found, FoundRefused, IsLongestPrefix, IsPlaceOf, found_by}
 use Rattle.armus_base.proofs.Codes.{passes_next}
 use Rattle.armus_base.proofs.Fixed.{action_within, phases_forked}
 use Rattle.armus_base.proofs.Published.{published_after_is}

@@ -1,7 +1,7 @@
 -- The tables of a collect: what a read and a write say, and the lists of statuses that they give.
 use mathlib.Core.Path.{fun_ext}
 use Rattle.std.proofs.Common.{◌≡◌, ◌≢◌, ℕ, zero, suc, ◌<◌, ◌≤◌, ◌+◌, ◌*◌, Bool, true, false, List, [], ◌∷◌, ◌++◌, Option, Some, None, length, set, add-one, arith, sym, ◌∙◌, ap, subst, refl, inl, inr}
-use Rattle.std.specs.Prelude.{◌^◌, nat_lt, slice_get, unwrap_or, if◌then◌else◌, option_map, option_to_list}
+use Rattle.std.specs.Prelude.{nat_lt, slice_get, unwrap_or, if◌then◌else◌, option_map, option_to_list}
 use Rattle.std.proofs.lemmas.Bool.{cases_eq, cases_lt}
 use Rattle.std.proofs.lemmas.Nat.{same_from_place}
 use Rattle.std.proofs.lemmas.List.{append-nil}
@@ -9,7 +9,7 @@ use Rattle.armus_base.specs.declared.event.Event.{Event}
 use Rattle.armus_base.specs.declared.status.Member.{Member}
 use Rattle.armus_base.specs.declared.status.Status.{Status}
 use Rattle.armus_base.specs.Finals.{given_below, listed_phase}
-use Rattle.armus_base.specs.States.{Phases, State, with_phase}
+use Rattle.armus_base.specs.States.{State, with_phase}
 use Rattle.armus_base.specs.Statuses.{IsInOrder}
 use Rattle.armus_base.proofs.Steps.{with_phase_same, with_phase_other}
 use Rattle.phase_scan.specs.Tables.{phases_of_cells, status_found}

@@ -1,6 +1,6 @@
 -- What the statuses of a collect tell.
-use Rattle.std.proofs.Common.{◌≡◌, ◌≢◌, ℕ, zero, suc, ◌<◌, ◌≤◌, Bool, true, false, List, Option, Some, None, length, sym, refl, ap, ◌∙◌, subst, arith, inl, inr, ◌⊎◌, eq-eqb}
-use Rattle.std.specs.Prelude.{◌↔◌, is_some}
+use Rattle.std.proofs.Common.{◌≡◌, ◌≢◌, ℕ, ◌<◌, ◌≤◌, Bool, true, false, List, Option, Some, None, length, sym, refl, ap, ◌∙◌, subst, arith, inl, inr, ◌⊎◌, eq-eqb}
+use Rattle.std.specs.Prelude.{is_some}
 use Rattle.std.proofs.lemmas.Bool.{cases_Bool, cases_lt}
 use Rattle.armus_base.specs.declared.event.Event.{Event}
 use Rattle.armus_base.specs.declared.status.Status.{Status}
@@ -10,14 +10,14 @@ use Rattle.armus_base.specs.Runs.{IsPrefix, Place, first_place}
 use Rattle.armus_base.specs.Places.{phases_at_place, published_after, refused_at, state_at}
 use Rattle.armus_base.specs.CheckedPlans.{IsCheckedPlan}
 use Rattle.armus_base.specs.Boards.{IsLawful}
-use Rattle.armus_base.specs.Deadlocks.{IsDeadIn, IsListedAt, IsListedOn}
+use Rattle.armus_base.specs.Deadlocks.{IsListedOn}
 use Rattle.armus_base.specs.Decisions.{HasFound}
 use Rattle.armus_base.specs.FinalLaws.{AreStatuses}
-use Rattle.armus_base.specs.Finals.{is_awaited, is_event_of, statuses_on}
+use Rattle.armus_base.specs.Finals.{is_awaited, is_event_of}
 use Rattle.armus_base.specs.Statuses.{IsAwaited}
-use Rattle.armus_base.specs.Seats.{Found, FoundWaiting, IsAsFarOn, IsLongestPrefix, IsPlaceOf, await_word}
+use Rattle.armus_base.specs.Seats.{IsAsFarOn, IsLongestPrefix, IsPlaceOf, await_word}
 use Rattle.armus_base.proofs.AwaitLoadKeepsFar.{prefixes_both}
-use Rattle.armus_base.proofs.Fixed.{some_before_from, some_before_is}
+use Rattle.armus_base.proofs.Fixed.{some_before_from}
 use Rattle.armus_base.proofs.FoundArePublished.{published_within}
 use Rattle.armus_base.proofs.Places.{precedes_trans}
 use Rattle.armus_base.proofs.Published.{published_after_is}
@@ -32,8 +32,8 @@ use Rattle.phase_scan.specs.Looks.{GoesOn, InEachLawful}
 use Rattle.phase_scan.specs.Collects.{IsCollect, waiting_on}
 use Rattle.phase_scan.specs.Collected.{HasItsPhases, IsCollected, IsKnownDeadBy, IsListedAsIn}
 use Rattle.phase_scan.proofs.Loads.{await_load, goes_both, phase_load, published_phaser}
-use Rattle.phase_scan.proofs.Chains.{AwaitLoad, GoesAt, PhaseLoad, Row, WaitsBelow, await_of, awaits_go, awaits_seat, phase_of, row_of, rows_go}
-use Rattle.phase_scan.proofs.Farther.{far_before, possible_before}
+use Rattle.phase_scan.proofs.Chains.{AwaitLoad, GoesAt, WaitsBelow, await_of, awaits_go, awaits_seat, phase_of, row_of, rows_go}
+use Rattle.phase_scan.proofs.Farther.{possible_before}
 use Rattle.phase_scan.proofs.Standing.{dead_place, means_there, phases_begun_at, published_begun, same_or_not, same_phases, waits_unrefused, word_published, word_waits}
 
 prefix_both : (a b c : Place) → IsPrefix a b → IsPrefix b c → IsPrefix a c

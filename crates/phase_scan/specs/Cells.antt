@@ -1,6 +1,4 @@
 -- How contracts see the cells of a collect.
-use Rattle.std.specs.Prelude.{ℕ, List}
-use Rattle.armus_base.specs.declared.status.Status.{Status}
 use Rattle.armus_base.specs.Statuses.{IsInOrder}
 use Rattle.phase_scan.specs.declared.cells.Cells.TheInside.{Inside}
 use Rattle.phase_scan.specs.Collects.{Collection}

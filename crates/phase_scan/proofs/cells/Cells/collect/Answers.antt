@@ -1,4 +1,4 @@
-use Rattle.std.proofs.Common.{◌≡◌, ◌∙◌, ap, length}
+use Rattle.std.proofs.Common.{◌∙◌, ap}
 use Rattle.phase_scan.specs.Collects.{Collection, IsCollect}
 use Rattle.phase_scan.specs.Tables.{statuses_found}
 use Rattle.phase_scan.proofs.Collecting.{cells_count, cells_go, cells_in_order, cells_tell, tables_collect}

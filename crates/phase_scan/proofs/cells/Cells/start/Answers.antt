@@ -1,4 +1,3 @@
-use Rattle.std.proofs.Common.{◌≡◌, []}
 use Rattle.phase_scan.specs.Tables.{awaited_found, state_found, status_found, statuses_found}
 use Rattle.phase_scan.proofs.Tables.{given_below_nothing, nothing_in_order, status_none}
 use Rattle.phase_scan.proofs.cells.Cells.start.Goals as goal
