@@ -1,6 +1,6 @@
 -- From what a command leaves on its input to what the call leaves.
-use Rattle.std.proofs.Common.{◌≡◌, ◌≤◌, ◌⊎◌, ℕ, inl, inr, refl, length, sym, subst, Bool, if◌then◌else◌}
-use Rattle.std.specs.Prelude.{Option, Some, None}
+use Rattle.std.proofs.Common.{◌≡◌, ℕ, inl, inr, refl, sym, subst, Bool, if◌then◌else◌}
+use Rattle.std.specs.Prelude.{Some}
 use Rattle.std.specs.Io.KnownBytes.{Keeps}
 use Rattle.report.specs.Refusals.{refusal_text}
 use Rattle.report.specs.declared.refusal.Refusal.{Refusal}
@@ -14,7 +14,7 @@ use Rattle.armus_top.specs.declared.texts.InputEnd.{InputEnd}
 use Rattle.armus_top.specs.declared.texts.InputEnd.TheVariants.{Refused, NoMemory}
 use Rattle.armus_top.specs.Programs.{IsEnd}
 use Rattle.armus_top.specs.Commands.{IsAnswered, IsRefused, IsRunOf, limit_of, length_line, wanted_of}
-use Rattle.armus_top.specs.Headline.{Answers, Ends, GaveTooMuch, HasInput, IsSound, Passage, no_memory}
+use Rattle.armus_top.specs.Headline.{Ends, GaveTooMuch, HasInput, IsSound, Passage, no_memory}
 use Rattle.armus_top.specs.Writing.{Answered, Finished, Refuses, TellsEnd, wrote, nothing}
 use Rattle.armus_top.proofs.Ending.{by_finish}
 

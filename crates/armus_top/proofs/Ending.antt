@@ -6,7 +6,7 @@ use Rattle.std.proofs.KnownBytes.{Appends-trans}
 use Rattle.armus_base.specs.ReadAll.{TookFront}
 use Rattle.armus_base.proofs.Fronts.{front_after}
 use Rattle.armus_base.specs.Causes.{Rose, counted}
-use Rattle.armus_top.specs.Commands.{limit_of, IsAnswered, IsRefused}
+use Rattle.armus_top.specs.Commands.{limit_of, IsRefused}
 use Rattle.armus_top.proofs.Inputs.{answered_small, never_both}
 use Rattle.armus_top.specs.Texts.{Text}
 use Rattle.armus_top.specs.Writing.{Finished}

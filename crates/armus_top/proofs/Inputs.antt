@@ -1,16 +1,13 @@
 -- Of each command: an input is not both refused and answered, and the status of an answer is 0 or 1.
-use Rattle.std.proofs.Common.{◌≡◌, ◌≤◌, ◌∙◌, ◌⊎◌, ℕ, List, inl, inr, refl, ap, sym, subst, arith, Bool, true, false}
-use Rattle.std.specs.Prelude.{Option, Some, None, Ok, Err}
-use Rattle.armus_base.specs.Plans.{Plan}
+use Rattle.std.proofs.Common.{◌≤◌, ℕ, inl, inr, arith, true, false}
 use Rattle.armus_base.specs.Runs.{state_after}
 use Rattle.armus_base.specs.States.{State}
-use Rattle.pl_syntax.specs.Tree.{Tree}
 use Rattle.adaptive.specs.declared.analysis.Wanted.{Wanted}
 use Rattle.report.specs.declared.refusal.Refusal.{Refusal}
 use Rattle.armus_words.specs.declared.command.Command.{Command}
 use Rattle.armus_words.specs.declared.command.Command.TheVariants.{Check, Run, Avoid, Record, Replay, Gen}
 use Rattle.armus_top.specs.Texts.{Text}
-use Rattle.armus_top.specs.Programs.{IsChecked, IsFaultOf, IsPlanOf, TellsDead}
+use Rattle.armus_top.specs.Programs.{IsFaultOf, TellsDead}
 use Rattle.armus_top.specs.Commands.{IsAnswered, IsRefused, IsRunOf}
 use Rattle.armus_top.proofs.OnePlan.{plan_or_fault}
 use Rattle.armus_top.proofs.ReplayInputs.{refused_or_replayed}

@@ -1,5 +1,5 @@
 -- What the words mean to the program is one command at most, and it is found by what they mean as words.
-use Rattle.std.proofs.Common.{◌≡◌, List, ℕ, ap, refl, sym, subst, true, false}
+use Rattle.std.proofs.Common.{◌≡◌, List, ℕ, ap, refl, subst, true, false}
 use Rattle.std.specs.Prelude.{Option, Some, None}
 use Rattle.armus_words.specs.Commands.{IsCommand, Means as WordsMean}
 use Rattle.armus_words.proofs.Meaning.{one_meaning as one_command}

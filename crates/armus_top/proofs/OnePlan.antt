@@ -1,5 +1,5 @@
 -- A text has one plan, and a text with a plan is not refused.
-use Rattle.std.proofs.Common.{◌≡◌, sym, subst}
+use Rattle.std.proofs.Common.{◌≡◌, subst}
 use Rattle.std.specs.Prelude.{Ok, Err}
 use Rattle.armus_base.specs.Plans.{Plan}
 use Rattle.pl_syntax.specs.Tree.{Tree}

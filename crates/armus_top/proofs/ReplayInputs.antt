@@ -9,7 +9,6 @@ use Rattle.armus_base.proofs.Elements.{Contains-head, nothing_in_nil}
 use Rattle.pl_plan.proofs.UnfoldedIsChecked.{unfolded_is_checked}
 use Rattle.report.specs.declared.refusal.Refusal.{Refusal}
 use Rattle.report.specs.declared.refusal.Refusal.TheVariants.{Length, Syntax, Check, Schedule}
-use Rattle.schedule.specs.declared.lines.Line.{Line}
 use Rattle.schedule.specs.declared.verdict.Replayed.{Replayed}
 use Rattle.schedule.specs.Replays.{IsFirstFault}
 use Rattle.schedule.specs.Replaying.{AreDeadIn}

@@ -1,6 +1,6 @@
 -- The report of the end of a plain run is that of the one state in which every maximal plain run ends.
-use Rattle.std.proofs.Common.{◌≡◌, ◌∙◌, ◌⊎◌, ℕ, List, inl, inr, refl, ap, sym, subst, Bool, true, false, if◌then◌else◌}
-use Rattle.std.specs.Prelude.{Option, Some, None, Ok, Err, ◌↔◌, IsTrue}
+use Rattle.std.proofs.Common.{ℕ, inl, inr, refl, sym, subst, Bool, true, false, if◌then◌else◌}
+use Rattle.std.specs.Prelude.{◌↔◌, IsTrue}
 use Rattle.armus_base.specs.declared.ending.Final.{Final}
 use Rattle.armus_base.specs.CheckedPlans.{IsCheckedPlan}
 use Rattle.armus_base.specs.Deadlocks.{IsDeadBy, IsDeadIn}

@@ -1,6 +1,6 @@
 -- The table of commands: how long an input may be, which inputs are refused and with which line, and what is answered.
 -- A command joins by a case of each definition; the headline does not change.
-use Rattle.std.specs.Prelude.{◌≡◌, ℕ, Bool, true, false, List, [], Option, Some, None}
+use Rattle.std.specs.Prelude.{◌≡◌, ℕ, true, false, Option, Some, None}
 use Rattle.armus_base.specs.Plans.{Plan}
 use Rattle.armus_base.specs.States.{State}
 use Rattle.armus_base.specs.Runs.{IsFinal}

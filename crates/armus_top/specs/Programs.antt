@@ -1,5 +1,5 @@
 -- What a text comes to: its plan, or why it is refused.
-use Rattle.std.specs.Prelude.{◌≡◌, ◌⊎◌, ℕ, List, Option, Some, None, Ok, Err}
+use Rattle.std.specs.Prelude.{◌≡◌, ◌⊎◌, ℕ, Ok, Err}
 use Rattle.armus_base.specs.Plans.{Plan}
 use Rattle.armus_base.specs.States.{State}
 use Rattle.armus_base.specs.Deadlocks.{IsDeadIn, NobodyDead}
@@ -7,7 +7,7 @@ use Rattle.pl_syntax.specs.Tree.{Tree}
 use Rattle.pl_syntax.specs.Grammar.{IsText, HasFault}
 use Rattle.pl_plan.specs.Unfolding.{plan_of}
 use Rattle.report.specs.declared.refusal.Refusal.{Refusal}
-use Rattle.report.specs.declared.refusal.Refusal.TheVariants.{Length, Syntax, Check, Schedule}
+use Rattle.report.specs.declared.refusal.Refusal.TheVariants.{Syntax, Check}
 use Rattle.armus_top.specs.Texts.{Text}
 use Rattle.armus_top.specs.declared.texts.InputEnd.{InputEnd}
 use Rattle.armus_top.specs.declared.texts.InputEnd.TheVariants.{Refused, NoMemory}

@@ -1,6 +1,5 @@
 -- The lines that the top call writes beside reports, refusals and printed programs.
-use Rattle.std.specs.Prelude.{◌≡◌, ℕ, List, [], ◌∷◌, ◌++◌, length, codes, decimal, sum_by}
-use Rattle.std.specs.List.{list_any}
+use Rattle.std.specs.Prelude.{ℕ, List, [], ◌∷◌, ◌++◌, length, codes, decimal, sum_by}
 use Rattle.armus_base.specs.Plans.{Plan}
 
 -- a text is the list of its bytes

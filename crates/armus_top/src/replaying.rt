@@ -16,9 +16,7 @@ use crate::texts::{InputEnd, MAX_TEXT_BYTES, checked_in};
 use crate::writing::{answer_end, finish};
 use armus_base::Sink;
 use report::Refusal;
-use schedule::{
-    ReplayEnd, Replayed, ScheduleFault, read_lines, replay, replay_text, split_input,
-};
+use schedule::{ReplayEnd, Replayed, ScheduleFault, read_lines, replay, replay_text, split_input};
 use std::alloc::Global;
 
 // Whether the text is no longer than a text may be, where one last LF is not counted.

@@ -8,7 +8,10 @@ mod words;
 use crate::armus;
 use armus_base::{List, MemSink, MemSource, Still};
 use std::alloc::{AllocError, Global};
+use std::process::Abort;
+use std::sync::Wait;
 use std::test::Fail;
+use std::thread::Threads;
 
 pub(crate) const AVERAGING: &str =
     "pc = newPhaser();\npb = newPhaser();\nloop 3 {\n  t = newTid();\n  reg(t, pc);\n  reg(t, pb);\n  fork(t) {\n    loop 2 {\n      skip; // read the neighbours\n      adv(pc);\n      await(pc);\n      skip; // write the mean\n      adv(pc);\n      await(pc);\n    }\n    dereg(pc);\n    dereg(pb);\n  }\n}\nadv(pb);\nawait(pb);\n";
@@ -32,14 +35,14 @@ fn words_of(alloc: Global, texts: &[&str]) -> Result<Vec<String>, AllocError> {
 }
 
 // The words on this input end with this output and this status.
-fn expect(
-    rt: &HostRuntime,
+fn expect<R: Abort + Threads + Wait + Sync>(
+    rt: &R,
+    alloc: Global,
     given: &[&str],
     input: &str,
     output: &str,
     status: u8,
 ) -> Result<(), Fail> {
-    let alloc = rt.alloc();
     let mut src = MemSource::new(bytes(alloc, input)?, 7, calls(alloc, &[])?);
     let mut out = MemSink::new(alloc, 1000, 16, calls(alloc, &[])?)?;
     let all = words_of(alloc, given)?;

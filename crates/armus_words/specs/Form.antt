@@ -1,5 +1,5 @@
 -- The test of the form, word by word, as the program makes it. What it stands for is `AreWords`.
-use Rattle.std.specs.Prelude.{Bool, true, false, not, ◌&&◌, nat_le, List, [], ◌∷◌, length, Option, Some, None, find}
+use Rattle.std.specs.Prelude.{Bool, true, false, not, ◌&&◌, nat_le, List, [], ◌∷◌, length, Option, find}
 use Rattle.std.specs.List.{list_all}
 use Rattle.std.specs.Option.{option_map_or}
 use Rattle.std.specs.Str.{bytes_eq}

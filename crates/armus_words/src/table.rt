@@ -55,8 +55,11 @@ pub const FIRST_WORDS: [FirstWord; 6] = [
 ];
 
 /// All options.
-pub const OPTION_WORDS: [OptionWord; 3] =
-    [OptionWord::Print, OptionWord::Workers, OptionWord::Graph];
+pub const OPTION_WORDS: [OptionWord; 3] = [
+    OptionWord::Print,
+    OptionWord::Workers,
+    OptionWord::Graph,
+];
 
 /// The first word of a command.
 #[derive(Clone, Copy, Debug, PartialEq, Eq)]

@@ -84,7 +84,7 @@ fn rows_of_check(rt: HostRuntime) -> Result<(), Fail> {
         ),
     ];
     for (given, input, output, status) in rows {
-        expect(&rt, given, input, output, status)?;
+        expect(&rt, rt.alloc(), given, input, output, status)?;
     }
     Ok(())
 }

@@ -1,6 +1,10 @@
 // The rows of `replay`.
 use super::{NEVER_FORKED, expect};
+use std::alloc::Global;
+use std::process::Abort;
+use std::sync::Wait;
 use std::test::Fail;
+use std::thread::Threads;
 
 // Two tasks on one phaser, which wait for each other in turn.
 const IN_TURN: &str =
@@ -15,15 +19,16 @@ const CROSSED: &str =
     "a = newPhaser();\nb = newPhaser();\nt = newTid();\nreg(t, a);\nreg(t, b);\nfork(t) { adv(b); await(b); }\nadv(a);\nawait(a);\n";
 
 // What `replay` answers on this text with this schedule.
-fn expect_replay(
-    rt: &HostRuntime,
+fn expect_replay<R: Abort + Threads + Wait + Sync>(
+    rt: &R,
+    alloc: Global,
     text: &str,
     schedule: &str,
     output: &str,
     status: u8,
 ) -> Result<(), Fail> {
-    let input = format!(in rt.alloc(); "{text}%%\n{schedule}")?;
-    expect(rt, &["replay"], input.as_str(), output, status)
+    let input = format!(in alloc; "{text}%%\n{schedule}")?;
+    expect(rt, alloc, &["replay"], input.as_str(), output, status)
 }
 
 #[test]
@@ -68,7 +73,7 @@ fn rows_of_texts_and_schedules(rt: HostRuntime) -> Result<(), Fail> {
         ),
     ];
     for (text, schedule, output, status) in rows {
-        expect_replay(&rt, text, schedule, output, status)?;
+        expect_replay(&rt, rt.alloc(), text, schedule, output, status)?;
     }
     Ok(())
 }
@@ -96,7 +101,7 @@ fn schedules_of_the_empty_text(rt: HostRuntime) -> Result<(), Fail> {
         ),
     ];
     for (schedule, output, status) in rows {
-        expect_replay(&rt, "", schedule, output, status)?;
+        expect_replay(&rt, rt.alloc(), "", schedule, output, status)?;
     }
     Ok(())
 }
@@ -110,7 +115,7 @@ fn inputs_without_a_schedule(rt: HostRuntime) -> Result<(), Fail> {
         ("%", "refused syntax 1 at 0\n", 3),
     ];
     for (input, output, status) in rows {
-        expect(&rt, &["replay"], input, output, status)?;
+        expect(&rt, rt.alloc(), &["replay"], input, output, status)?;
     }
     Ok(())
 }

@@ -86,7 +86,7 @@ fn rows_of_run(rt: HostRuntime) -> Result<(), Fail> {
         (&["run"], "adv(q);", "refused check 1 statement 1\n", 3),
     ];
     for (given, input, output, status) in rows {
-        expect(&rt, given, input, output, status)?;
+        expect(&rt, rt.alloc(), given, input, output, status)?;
     }
     Ok(())
 }

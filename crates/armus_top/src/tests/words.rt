@@ -16,7 +16,7 @@ fn words_that_are_no_command(rt: HostRuntime) -> Result<(), Fail> {
         (&["replay", "--workers", "2"], "", USAGE, 2),
     ];
     for (given, input, output, status) in rows {
-        expect(&rt, given, input, output, status)?;
+        expect(&rt, rt.alloc(), given, input, output, status)?;
     }
     Ok(())
 }

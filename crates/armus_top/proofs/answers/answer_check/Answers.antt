@@ -1,4 +1,3 @@
-use Rattle.std.proofs.Common.{◌≡◌}
 use Rattle.armus_top.proofs.answers.answer_check.Goals as goal
 
 pub returns-then-print-clause-done : goal.returns-then-print-clause-done

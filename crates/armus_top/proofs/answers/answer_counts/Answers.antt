@@ -1,4 +1,4 @@
-use Rattle.std.proofs.Common.{◌≡◌, ◌∙◌, refl, false}
+use Rattle.std.proofs.Common.{◌∙◌, refl, false}
 use Rattle.armus_words.specs.declared.command.Command.TheVariants.{Check}
 use Rattle.armus_top.proofs.Answering.{by_answer}
 use Rattle.armus_top.proofs.answers.answer_counts.Goals as goal

@@ -1,4 +1,4 @@
-use Rattle.std.proofs.Common.{◌≡◌, ◌∙◌, refl, true}
+use Rattle.std.proofs.Common.{◌∙◌, refl, true}
 use Rattle.armus_words.specs.declared.command.Command.TheVariants.{Check}
 use Rattle.armus_top.proofs.Answering.{by_answer}
 use Rattle.armus_top.proofs.answers.answer_printed.Goals as goal

@@ -1,4 +1,4 @@
-use Rattle.std.proofs.Common.{◌≡◌, refl, rules}
+use Rattle.std.proofs.Common.{refl, rules}
 use Rattle.armus_words.specs.declared.command.Command.TheVariants.{Check}
 use Rattle.armus_top.specs.Programs.{IsFaultOf}
 use Rattle.armus_top.proofs.Answering.{by_end}

@@ -1,4 +1,4 @@
-use Rattle.std.proofs.Common.{◌≡◌, refl, rules}
+use Rattle.std.proofs.Common.{refl, rules}
 use Rattle.pl_plan.proofs.UnfoldedIsChecked.{unfolded_is_checked}
 use Rattle.armus_words.specs.declared.command.Command.TheVariants.{Run}
 use Rattle.armus_top.specs.Programs.{IsFaultOf}

@@ -1,4 +1,3 @@
-use Rattle.std.proofs.Common.{◌≡◌, sym, subst}
 use Rattle.armus_words.specs.declared.command.Command.TheVariants.{Replay}
 use Rattle.armus_top.proofs.Answering.{ends_by_answer, ends_too_long}
 use Rattle.armus_top.proofs.serving.replay.Goals as goal

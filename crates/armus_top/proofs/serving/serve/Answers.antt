@@ -1,4 +1,4 @@
-use Rattle.std.proofs.Common.{◌≡◌, refl}
+use Rattle.std.proofs.Common.{refl}
 use Rattle.std.specs.Prelude.{None}
 use Rattle.armus_top.specs.Texts.{usage_line}
 use Rattle.armus_top.proofs.Ending.{by_finish}

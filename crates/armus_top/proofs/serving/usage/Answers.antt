@@ -1,4 +1,3 @@
-use Rattle.std.proofs.Common.{◌≡◌}
 use Rattle.armus_top.specs.Texts.{usage_line}
 use Rattle.armus_top.specs.Headline.{passage}
 use Rattle.armus_top.specs.Status.{code_of}

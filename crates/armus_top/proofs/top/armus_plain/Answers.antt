@@ -1,4 +1,3 @@
-use Rattle.std.proofs.Common.{◌≡◌}
 use Rattle.armus_top.proofs.Ending.{completes}
 use Rattle.armus_top.proofs.top.armus_plain.Goals as goal
 
