@@ -62,19 +62,19 @@ serial_ended plan old new moved is unmoved serial round =
     }
 
 -- there nobody may go on
-pub nobody_goes_on :
-    (plan : Plan) (w : WorldValue) → HasSerialEnd plan w → IsCheckedPlan w.plan → IsReachable w.plan (places_of w) → (t : ℕ) → t < length w.plan.parents →
-    IsEnabled w t → ⊥
-nobody_goes_on plan w end checked reach t l enabled =
+pub nobody_goes_on : (plan : Plan) (w : WorldValue) → IsCheckedPlan plan → HasSerialEnd plan w → (t : ℕ) → t < length w.plan.parents → IsEnabled w t → ⊥
+nobody_goes_on plan w checked end t l enabled =
     let is = end.leads.plan_is in
-    let state = leads_state plan (subst IsCheckedPlan is checked) end.steps w end.leads in
+    let reach : IsReachable plan (places_of w) = record { steps = end.steps; run = end.leads.run; there = λ u. ap (λ a. a u) end.leads.there } in
+    let state = leads_state plan checked end.steps w end.leads in
     let forked = acting_forked w.plan (state_of w) t enabled.0 enabled.2 in
     let ended = round_ended plan (length plan.parents) end.steps end.steps end.ended.1 (omega arith) t (subst (λ q. t < length q.parents) is l)
     (ap (λ s. s.forked t) state ∙ forked) in
     let here : HasEnded plan (state_of w) (places_of w t) t =
     subst (λ s. HasEnded plan s (places_of w t) t) state
     (subst (λ (a : ℕ → Place). HasEnded plan (state_after end.steps) (a t) t) end.leads.there ended) in
-    ended_stops w checked reach t (subst (λ q. HasEnded q (state_of w) (places_of w t) t) (sym is) here) enabled
+    ended_stops w (subst IsCheckedPlan (sym is) checked) (subst (λ q. IsReachable q (places_of w)) (sym is) reach) t
+    (subst (λ q. HasEnded q (state_of w) (places_of w t) t) (sym is) here) enabled
 
 -- the value of the end
 pub serial_end_if_ok :

@@ -32,7 +32,7 @@ pub fn run_avoid<R: Threads + Sync, G: Gate>(
     let count = plan.tasks() as usize;
     let mut forked = vec![in alloc; false; count]?;
     let mut behind = vec![in alloc; 0u32; count]?;
-    while avoided_round(
+    'rounds: while avoided_round(
         alloc,
         &mut world,
         &mut forked,
@@ -143,7 +143,7 @@ fn avoided_turn<G: Gate>(
     ensures part { IfOk result (λ moved. HasPart world.old world.new t.0 true moved) }
 {
     let mut moved = false;
-    while may_go_on(world, t, behind, gate) {
+    'turn: while may_go_on(world, t, behind, gate) {
         go_on(alloc, world, t, wanted)?;
         moved = true;
     }

@@ -4,8 +4,8 @@ use Rattle.pl_core.specs.Worlds.{state_of}
 use Rattle.task_runner.specs.AvoidedRuns.{GoesOnTo, left_in}
 use Rattle.task_runner.proofs.avoided.avoided_turn.Given as goal
 
-abbrev pub invariant-loop-moved : goal.invariant-loop-moved
-invariant-loop-moved g l =
+abbrev pub invariant-turn : goal.invariant-turn
+invariant-turn g l =
     record {
       plan : l.world.plan ≡ l.initial.world.plan;
       nobody : NobodyDead (state_of l.world);
@@ -14,5 +14,5 @@ invariant-loop-moved g l =
       goes : GoesOnTo l.initial.world l.world l.t.0 l.moved;
     }
 
-abbrev pub decreases-loop-moved : goal.decreases-loop-moved
-decreases-loop-moved g l = left_in l.world
+abbrev pub decreases-turn : goal.decreases-turn
+decreases-turn g l = left_in l.world

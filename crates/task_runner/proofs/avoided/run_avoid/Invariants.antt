@@ -5,8 +5,8 @@ use Rattle.task_runner.specs.AvoidedRuns.{left_in}
 use Rattle.task_runner.proofs.SerialEnds.{HasSerialRun}
 use Rattle.task_runner.proofs.avoided.run_avoid.Given as goal
 
-abbrev pub invariant-loop : goal.invariant-loop
-invariant-loop g l =
+abbrev pub invariant-rounds : goal.invariant-rounds
+invariant-rounds g l =
     record {
       plan : l.world.plan ≡ l.plan;
       nobody : NobodyDead (state_of l.world);
@@ -15,5 +15,5 @@ invariant-loop g l =
       serial : HasSerialRun l.plan l.world;
     }
 
-abbrev pub decreases-loop : goal.decreases-loop
-decreases-loop g l = left_in l.world
+abbrev pub decreases-rounds : goal.decreases-rounds
+decreases-rounds g l = left_in l.world
