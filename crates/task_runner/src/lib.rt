@@ -2,6 +2,8 @@
 #![tactic(auto)]
 
 mod avoided;
+#[cfg(test)]
+mod avoided_tests;
 mod options;
 mod plain;
 mod round;
