@@ -1,2 +1,3 @@
 pub mod PlainRuns
 pub mod Turns
+pub mod AvoidedRuns
