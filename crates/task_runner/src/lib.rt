@@ -1,7 +1,17 @@
 //! Runs of a plan: the tasks take turns by rounds until none of them can go on.
 #![tactic(auto)]
 
+mod finishing;
+mod journal;
+mod live_task;
+mod options;
 mod plain;
 mod round;
+mod turns;
 
+pub use journal::run_journal;
+pub use options::RunOptions;
 pub use plain::run_plain;
+
+#[cfg(test)]
+mod tests;
