@@ -2,12 +2,21 @@
 #![tactic(auto)]
 
 mod avoided;
-#[cfg(test)]
-mod avoided_tests;
+mod finishing;
+mod journal;
+mod live_task;
 mod options;
 mod plain;
 mod round;
+mod turns;
 
 pub use avoided::run_avoid;
+pub use journal::run_journal;
 pub use options::RunOptions;
 pub use plain::run_plain;
+
+#[cfg(test)]
+mod avoided_tests;
+
+#[cfg(test)]
+mod tests;
