@@ -13,3 +13,6 @@ mod world;
 pub use place::Place;
 pub use stand::Stand;
 pub use world::World;
+
+#[cfg(test)]
+mod tests;

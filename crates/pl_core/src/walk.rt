@@ -20,8 +20,8 @@ use crate::task::{Task, first_tasks, op_at, task_at};
 use armus_base::{Event, NoMemory, Op, Plan, TaskId};
 use std::alloc::Global;
 
-// The place at this index.
-fn place_within(places: &[Place], at: usize) -> Place
+/// The place at this index.
+pub(crate) fn place_within(places: &[Place], at: usize) -> Place
     requires { at < length places.now }
     ensures { slice_get places.now at ≡ Some result }
 {
