@@ -6,7 +6,7 @@ use std::test::Fail;
 
 const USAGE: &str = "usage: armus check|run|avoid|record|replay|gen\n";
 
-const AVERAGING: &str =
+pub(crate) const AVERAGING: &str =
     "pc = newPhaser();\npb = newPhaser();\nloop 3 {\n  t = newTid();\n  reg(t, pc);\n  reg(t, pb);\n  fork(t) {\n    loop 2 {\n      skip; // read the neighbours\n      adv(pc);\n      await(pc);\n      skip; // write the mean\n      adv(pc);\n      await(pc);\n    }\n    dereg(pc);\n    dereg(pb);\n  }\n}\nadv(pb);\nawait(pb);\n";
 
 const LEAVES_FOUR: &str =
