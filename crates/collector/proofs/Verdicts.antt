@@ -1,0 +1,151 @@
+-- The dead of the statuses of a collect: all that were known to be dead before it are among them, and only such as are known to be after it.
+use Rattle.std.proofs.Common.{◌≡◌, ℕ, ◌<◌, ◌≤◌, Bool, true, false, List, Option, Some, None, length, sym, refl, ap, ◌∙◌, subst, inl, inr, ◌⊎◌, arith}
+use Rattle.std.specs.Prelude.{Contains}
+use Rattle.armus_base.specs.declared.event.Event.{Event}
+use Rattle.armus_base.specs.declared.status.Status.{Status}
+use Rattle.armus_base.specs.Plans.{Plan}
+use Rattle.armus_base.specs.States.{State}
+use Rattle.armus_base.specs.Runs.{IsPrefix, Place}
+use Rattle.armus_base.specs.Places.{published_after, state_at}
+use Rattle.armus_base.specs.CheckedPlans.{IsCheckedPlan}
+use Rattle.armus_base.specs.Boards.{IsLawful}
+use Rattle.armus_base.specs.Deadlocks.{IsAtPhase, IsDeadBy, IsDeadIn, IsDeadlockedSet, IsImpededWithin, IsListedAt, IsListedOn, IsPublishedOn}
+use Rattle.armus_base.specs.Decisions.{HasFound}
+use Rattle.armus_base.specs.Seats.{IsAsFarOn, IsKnownDead, SeenBy}
+use Rattle.armus_base.proofs.BoardRuns.{lawful_is_reachable, nobody_is_known_dead}
+use Rattle.armus_base.proofs.LeastLawful.{least_lawful_exists}
+use Rattle.armus_base.proofs.Places.{precedes_trans}
+use Rattle.armus_base.proofs.Reachable.{collected_is_dead_at_reachable}
+use Rattle.board.specs.declared.mode.Mode.{Mode}
+use Rattle.board.specs.Views.{avoids, seen}
+use Rattle.board.specs.Seats.{Known}
+use Rattle.phase_scan.specs.Looks.{GoesOn}
+use Rattle.phase_scan.specs.Collected.{IsCollected, IsListedAsIn}
+use Rattle.phase_scan.proofs.Farther.{IsPossible}
+use Rattle.phase_scan.proofs.Standing.{dead_place, published_begun, same_phases}
+use Rattle.collector.specs.Passes.{InEachState, IsKnownDeadTo}
+
+-- what is as far on as what the seat of a task has seen is as far on as what a viewer has that has seen the same
+far_of_viewer : (plan : Plan) (own : Option ℕ) (a : ℕ → Place) (s : SeenBy) → IsAsFarOn plan own a s → IsAsFarOn plan None a s
+far_of_viewer plan own a s far = record { later = far.later; equal = far.equal; scanned = λ t is. absurd (cc) }
+
+module _ (before now : Known) (list : List Status) (checked : IsCheckedPlan before.view.plan) (goes : GoesOn before now) (listed : (t : ℕ) (e : Event) → IsListedOn list t e → t < length before.view.plan.parents) (possible : IsPossible before (λ s. Unit {0})) (c : IsCollected list before now) where
+  abbrev plan : Plan
+  plan = before.view.plan
+
+  known_of : (t : ℕ) → IsKnownDeadTo before t → IsKnownDead (avoids before.view.mode) plan before.view.own (seen before.view) t
+  known_of t known a lock lawful far = known a lock lawful (far_of_viewer plan before.view.own a (seen before.view) far)
+
+  -- a task that is known to be dead is listed as in each lawful state in which it is dead
+  listed_as : (t : ℕ) → IsKnownDeadTo before t → (a : ℕ → Place) (lock : Option ℕ) → IsLawful (avoids before.view.mode) plan a lock → IsDeadIn (state_at plan a) t → IsListedAsIn list (state_at plan a) t
+  listed_as t known a lock lawful dead =
+      let w = possible.places in
+      let known_own = known_of t known in
+      let dead_then = known_own w possible.lock possible.lawful possible.far in
+      let same = dead_place plan checked (avoids before.view.mode) t a w lock possible.lock lawful possible.lawful dead dead_then in
+      let (e, on, is, phases) = c.dead t known_own w possible.lock possible.lawful possible.far in
+      let here : (state_at plan a).published t ≡ Some e = ap (λ (v : Place). published_after plan t v.done) same ∙ on in
+      let begun : 0 < (a t).done = published_begun plan checked t (a t).done e here in
+      let begun_then : 0 < (w t).done = subst (λ (v : Place). 0 < v.done) same begun in (
+        e,
+        here,
+        is,
+        λ f n awaited. (
+          λ has. (phases f n awaited).0 (same_phases plan checked (avoids before.view.mode) w a possible.lock lock possible.lawful lawful t f.p.0 (Some n) begun_then (sym same) has),
+          λ has. same_phases plan checked (avoids before.view.mode) a w lock possible.lock lawful possible.lawful t f.p.0 (Some n) begun same ((phases f n awaited).1 has),
+        ),
+      )
+
+  -- a set that is deadlocked in a lawful state, and each of whose tasks is known to be dead, is deadlocked in the list
+  deadlocked_listed :
+      (tasks : ℕ → Bool) (a : ℕ → Place) (lock : Option ℕ) → IsLawful (avoids before.view.mode) plan a lock →
+      IsDeadlockedSet (IsPublishedOn (state_at plan a)) (IsAtPhase (state_at plan a)) tasks → ((u : ℕ) → tasks u ≡ true → IsKnownDeadTo before u) →
+      IsDeadlockedSet (IsListedOn list) (IsListedAt list) tasks
+  deadlocked_listed tasks a lock lawful deadlocked known = record { some = deadlocked.some; each = each }
+    where
+      as_in : (u : ℕ) → tasks u ≡ true → IsListedAsIn list (state_at plan a) u
+      as_in u inside = listed_as u (known u inside) a lock lawful (record { tasks = tasks; inside = inside; deadlocked = deadlocked })
+
+      each : (u : ℕ) → tasks u ≡ true → IsImpededWithin (IsListedOn list) (IsListedAt list) tasks u
+      each u inside =
+          let held = deadlocked.each u inside in
+          let (e, on, is, phases) = as_in u inside in
+          let same : e ≡ held.event = (let here = held.waits in cc) in
+          let waits : IsListedOn list u held.event = subst (IsListedOn list u) same is in
+          let (s, there, task, event) = waits in
+          let other = as_in held.by held.inside in
+          record {
+            event = held.event;
+            waits = waits;
+            by = held.by;
+            inside = held.inside;
+            phase = held.phase;
+            impedes = (other.3 held.event held.phase (s, there, event)).0 held.impedes;
+            below = held.below;
+          }
+
+  -- all that were known to be dead before are dead by the list
+  pub known_named : (t : ℕ) → IsKnownDeadTo before t → IsDeadBy list t
+  known_named t known = by_mode (avoids before.view.mode) refl
+    where
+      by_mode : (b : Bool) → avoids before.view.mode ≡ b → IsDeadBy list t
+      by_mode true is =
+          absurd (nobody_is_known_dead plan None (seen before.view) possible.places possible.lock t checked
+          (subst (λ b. IsLawful b plan possible.places possible.lock) is possible.lawful)
+          (far_of_viewer plan before.view.own possible.places (seen before.view) possible.far)
+          (subst (λ b. IsKnownDead b plan None (seen before.view) t) is known))
+      by_mode false is =
+          let least = least_lawful_exists plan (seen before.view) possible.places possible.lock checked
+          (subst (λ b. IsLawful b plan possible.places possible.lock) is possible.lawful)
+          (far_of_viewer plan before.view.own possible.places (seen before.view) possible.far) in
+          let a = least.0 in
+          let dead : IsDeadIn (state_at plan a) t = (least.2 t).0 (subst (λ b. IsKnownDead b plan None (seen before.view) t) is known) in
+          record {
+            tasks = dead.tasks;
+            inside = dead.inside;
+            deadlocked = deadlocked_listed dead.tasks a None (subst (λ b. IsLawful b plan a None) (sym is) least.1.lawful) dead.deadlocked
+                (λ u inside. subst (λ b. IsKnownDead b plan None (seen before.view) u) (sym is)
+                ((least.2 u).1 (record { tasks = dead.tasks; inside = inside; deadlocked = dead.deadlocked })));
+          }
+
+  -- the tasks of a set that is deadlocked in the list stand where they were found, in each state that is possible after
+  stand_there :
+      (t : ℕ) → IsDeadBy list t → (a : ℕ → Place) (lock : Option ℕ) → IsLawful (avoids before.view.mode) plan a lock → IsAsFarOn plan None a (seen now.view) →
+      a t ≡ c.at t × IsDeadIn (state_at plan a) t
+  stand_there t dead a lock lawful far =
+      let there = collected_is_dead_at_reachable plan a list dead.tasks c.at c.found checked (lawful_is_reachable (avoids before.view.mode) plan a lock lawful) dead.deadlocked found in
+      (there.0 t dead.inside, record { tasks = dead.tasks; inside = dead.inside; deadlocked = there.1 })
+    where
+      later : (u : ℕ) (b : Place) (e : Event) → IsListedOn list u e → IsPrefix b ((seen now.view).places u) → IsPrefix b (a u)
+      later u b e is near =
+          let s : Place = (seen now.view).places u in
+          precedes_trans b.done s.done (a u).done b.dropped s.dropped (a u).dropped near (far.later u (listed u e is))
+
+      found : HasFound plan (λ u. dead.tasks u ≡ true) list c.at c.found a
+      found =
+          record {
+            waiting = λ u e inside is. c.places.waiting u e tt is;
+            before = λ u e inside is. later u (c.at u) e is (c.places.before u e tt is);
+            phases = λ u p n inside is. c.places.phases u p n tt is;
+            phases_before = λ u p n inside is.
+                let (s, there, task, phase) = is in
+                later u (c.found u p) s.event (s, there, task, refl) (c.places.phases_before u p n tt is);
+          }
+
+  -- in each state that is possible after, as a fact about the seat's own plan then
+  after_of : (Holds : State → Type 0) → ((a : ℕ → Place) (lock : Option ℕ) → IsLawful (avoids before.view.mode) plan a lock → IsAsFarOn plan None a (seen now.view) → Holds (state_at plan a)) → InEachState now Holds
+  after_of Holds holds a lock lawful far =
+      subst (λ (q : Plan). Holds (state_at q a)) (sym goes.same.plan)
+      (holds a lock
+      (subst (λ (d : Mode). IsLawful (avoids d) plan a lock) goes.same.mode (subst (λ (q : Plan). IsLawful (avoids now.view.mode) q a lock) goes.same.plan lawful))
+      (subst (λ (q : Plan). IsAsFarOn q None a (seen now.view)) goes.same.plan far))
+
+  -- only such as are known to be dead after are dead by the list
+  pub named_known : (t : ℕ) → IsDeadBy list t → IsKnownDeadTo now t
+  named_known t dead = after_of (λ s. IsDeadIn s t) (λ a lock lawful far. (stand_there t dead a lock lawful far).1)
+
+  -- each on its event in every state
+  pub named_event : (t : ℕ) (e : Event) → IsDeadBy list t → IsListedOn list t e → InEachState now (λ s. s.published t ≡ Some e)
+  named_event t e dead is =
+      after_of (λ s. s.published t ≡ Some e)
+      (λ a lock lawful far. ap (λ (v : Place). published_after plan t v.done) (stand_there t dead a lock lawful far).0 ∙ c.places.waiting t e tt is)
