@@ -2,11 +2,10 @@
 use Rattle.std.specs.Prelude.{◌≡◌, vec_len}
 use Rattle.collector.specs.declared.collector.Collector.TheInside.{Inside}
 use Rattle.collector.specs.Passes.{Watch}
-use Rattle.collector.specs.Names.{is_named}
 
 -- its cells, and its names
 abbrev pub watch_of : Inside → Watch
-watch_of c = record { tasks = c.cells.tasks; phasers = c.cells.phasers; named = is_named c.names.items; statuses = c.cells.statuses }
+watch_of c = record { tasks = c.cells.tasks; phasers = c.cells.phasers; names = c.names.items; statuses = c.cells.statuses }
 
 -- there is a name for each task
 abbrev pub IsCollector : Inside → Type 0

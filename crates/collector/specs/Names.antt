@@ -1,14 +1,11 @@
--- Whom a table of names says to be named, and which dead tasks are fresh by it.
-use Rattle.std.specs.Prelude.{◌≡◌, ℕ, Bool, false, List, All, map, not, slice_get, unwrap_or}
+-- Which dead tasks are fresh.
+use Rattle.std.specs.Prelude.{◌≡◌, Bool, List, All, map, not}
 use Rattle.std.specs.List.{filter}
 use Rattle.armus_base.specs.declared.ids.TaskId.{TaskId}
 use Rattle.armus_base.specs.declared.status.Dead.{Dead}
 use Rattle.armus_base.specs.declared.status.Status.{Status}
 use Rattle.armus_base.specs.Deadlocks.{IsListedOn}
-
--- the table says so of task t
-abbrev pub is_named : List Bool → ℕ → Bool
-is_named names t = unwrap_or (slice_get names t) false
+use Rattle.collector.specs.Passes.{is_named}
 
 -- the dead tasks that are not named, in order, each with its event in the list
 pub record AreFresh (names : List Bool) (list : List Status) (dead : List TaskId) (fresh : List Dead) : Type 0 where

@@ -5,7 +5,7 @@ ghost use Rattle.board.specs.Seats.{IsOf};
 ghost use Rattle.phase_scan.specs.Looks.{GoesOn};
 ghost use Rattle.phase_scan.specs.Collects.{CountsLoads, IsCollect};
 ghost use Rattle.phase_scan.specs.Collected.{IsCollected};
-ghost use Rattle.collector.specs.Passes.{IsVerdict, ListsPublished, NamesToo};
+ghost use Rattle.collector.specs.Passes.{IsVerdict, ListsPublished, NamesToo, is_named};
 
 use crate::naming::{fresh, name};
 use crate::verdict::Verdict;
@@ -40,7 +40,7 @@ impl Collector {
     pub fn start(alloc: Global, board: &Board) -> Result<Collector, NoMemory>
         ensures tasks { IfOk result (λ c. c.tasks ≡ length board.now.plan.parents) }
         ensures phasers { IfOk result (λ c. c.phasers ≡ length board.now.plan.makers) }
-        ensures nobody { IfOk result (λ c. (t : ℕ) → c.named t ≡ false) }
+        ensures nobody { IfOk result (λ c. (t : ℕ) → is_named c.names t ≡ false) }
         ensures nothing { IfOk result (λ c. c.statuses ≡ []) }
     {
         let tasks = board.tasks();
@@ -68,9 +68,9 @@ impl Collector {
         ensures loads { CountsLoads board.now.plan self.new.statuses view.old view.new }
         ensures collected { IsCollected self.new.statuses view.old view.new }
         ensures published { ListsPublished self.new.statuses view.new }
-        ensures verdict { IfOk result (IsVerdict self.old.named self.new.statuses view.old view.new) }
-        ensures named { IfOk result (λ v. NamesToo v.dead self.old.named self.new.named) }
-        ensures err { OnErr result ((t : ℕ) → self.new.named t ≡ self.old.named t) }
+        ensures verdict { IfOk result (IsVerdict self.old.names self.new.statuses view.old view.new) }
+        ensures named { IfOk result (λ v. NamesToo v.dead self.old.names self.new.names) }
+        ensures err { OnErr result (self.new.names ≡ self.old.names) }
     {
         self.cells.collect(view, board);
         let list = self.cells.statuses(alloc)?;

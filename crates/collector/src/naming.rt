@@ -3,7 +3,7 @@ ghost use Rattle.std.specs.Prelude.{◌≡◌, ℕ, ◌<◌, ◌⊎◌, ◌↔�
 ghost use Rattle.armus_base.specs.declared.event.Event.{Event as EventValue};
 ghost use Rattle.armus_base.specs.declared.ids.TaskId.{TaskId as TaskValue};
 ghost use Rattle.armus_base.specs.Deadlocks.{IsListedOn};
-ghost use Rattle.collector.specs.Names.{AreFresh, is_named};
+ghost use Rattle.collector.specs.Names.{AreFresh};
 ghost use Rattle.collector.specs.Passes.{NamesToo};
 
 use armus_base::{Dead, Event, List, NoMemory, Status, TaskId};
@@ -48,7 +48,7 @@ pub(crate) fn fresh(
 pub(crate) fn name(names: &mut Vec<bool>, dead: &[TaskId])
     requires tasks { All (λ t. t.0 < vec_len names.old) dead.now }
     ensures count { vec_len names.new ≡ vec_len names.old }
-    ensures named { NamesToo dead.now (is_named names.old.items) (is_named names.new.items) }
+    ensures named { NamesToo dead.now names.old.items names.new.items }
 {
     for t in dead {
         names[t.0 as usize] = true;
