@@ -1,6 +1,11 @@
 -- The dead of the statuses of a collect: all that were known to be dead before it are among them, and only such as are known to be after it.
-use Rattle.std.proofs.Common.{◌≡◌, ℕ, ◌<◌, ◌≤◌, Bool, true, false, List, Option, Some, None, length, sym, refl, ap, ◌∙◌, subst, inl, inr, ◌⊎◌, arith}
-use Rattle.std.specs.Prelude.{Contains}
+use Rattle.std.proofs.Common.{◌≡◌, ℕ, ◌<◌, ◌≤◌, Bool, true, false, List, Option, Some, None, length, get_or, sym, refl, ap, ◌∙◌, subst, inl, inr, ◌⊎◌, arith}
+use Rattle.std.specs.Prelude.{All, Contains, map, not}
+use Rattle.std.specs.List.{filter}
+use Rattle.std.proofs.lemmas.List.Elements.{All-contains, Contains-get_or}
+use Rattle.armus_base.specs.declared.ids.TaskId.{TaskId}
+use Rattle.armus_base.specs.declared.status.Dead.{Dead}
+use Rattle.armus_base.specs.DeadLists.{IsDeadList}
 use Rattle.armus_base.specs.declared.event.Event.{Event}
 use Rattle.armus_base.specs.declared.status.Status.{Status}
 use Rattle.armus_base.specs.Plans.{Plan}
@@ -18,12 +23,17 @@ use Rattle.armus_base.proofs.Places.{precedes_trans}
 use Rattle.armus_base.proofs.Reachable.{collected_is_dead_at_reachable}
 use Rattle.board.specs.declared.mode.Mode.{Mode}
 use Rattle.board.specs.Views.{avoids, seen}
-use Rattle.board.specs.Seats.{Known}
+use Rattle.board.specs.Seats.{Frame, IsOf, Known}
 use Rattle.phase_scan.specs.Looks.{GoesOn}
+use Rattle.phase_scan.specs.Collects.{IsCollect}
 use Rattle.phase_scan.specs.Collected.{IsCollected, IsListedAsIn}
+use Rattle.phase_scan.proofs.Collecting.{cells_listed, cells_possible}
 use Rattle.phase_scan.proofs.Farther.{IsPossible}
 use Rattle.phase_scan.proofs.Standing.{dead_place, published_begun, same_phases}
-use Rattle.collector.specs.Passes.{InEachState, IsKnownDeadTo}
+use Rattle.collector.specs.declared.verdict.Verdict.{Verdict}
+use Rattle.collector.specs.Names.{AreFresh}
+use Rattle.collector.specs.Passes.{InEachState, IsKnownDeadTo, IsVerdict, ListsPublished, is_named}
+use Rattle.collector.proofs.Fresh.{Contains-map, filter_inside, listed_or_not}
 
 -- what is as far on as what the seat of a task has seen is as far on as what a viewer has that has seen the same
 far_of_viewer : (plan : Plan) (own : Option ℕ) (a : ℕ → Place) (s : SeenBy) → IsAsFarOn plan own a s → IsAsFarOn plan None a s
@@ -149,3 +159,66 @@ module _ (before now : Known) (list : List Status) (checked : IsCheckedPlan befo
   named_event t e dead is =
       after_of (λ s. s.published t ≡ Some e)
       (λ a lock lawful far. ap (λ (v : Place). published_after plan t v.done) (stand_there t dead a lock lawful far).0 ∙ c.places.waiting t e tt is)
+
+  -- whoever is published at the place seen after is in the list
+  pub lists_published : ListsPublished list now
+  lists_published t e on =
+      elim (listed_or_not list t) [
+        | inl is ↦ is
+        | inr none ↦
+            let idle = c.others t none in
+            let here : published_after plan t ((seen now.view).places t).done ≡ Some e =
+            subst (λ (q : Plan). published_after q t ((seen now.view).places t).done ≡ Some e) goes.same.plan on in
+            absurd (cc)
+      ]
+
+  -- the verdict on the statuses
+  pub is_verdict :
+      (names : List Bool) (verdict : Verdict) → IsDeadList list verdict.dead → AreFresh names list verdict.dead verdict.fresh →
+      IsVerdict names list before now verdict
+  is_verdict names verdict dead fresh =
+      record {
+        dead = dead;
+        all = λ t known. (dead.exact t).1 (known_named t.0 known);
+        only = λ t inside. named_known t.0 ((dead.exact t).0 inside);
+        fresh = fresh.tasks;
+        events = λ d inside.
+            let on = All-contains (λ (v : Dead). IsListedOn list v.t.0 v.event) verdict.fresh d fresh.events inside in
+            let named : Contains (map (λ (v : Dead). v.t) verdict.fresh) d.t = Contains-map (λ (v : Dead). v.t) verdict.fresh d inside in
+            let one : Contains verdict.dead d.t = filter_inside (λ t. not (is_named names t.0)) verdict.dead d.t (subst (λ xs. Contains xs d.t) fresh.tasks named) in
+            named_event d.t.0 d.event ((dead.exact d.t).0 one) on;
+      }
+
+-- a pass of a collector of this board
+module _ (f : Frame) (before now : Known) (list : List Status) (of : IsOf before f) (goes : GoesOn before now) (collect : IsCollect f.plan list before now) (c : IsCollected list before now) where
+  own : IsCheckedPlan before.view.plan
+  own = subst IsCheckedPlan goes.same.plan goes.kept.checked
+
+  checked : IsCheckedPlan f.plan
+  checked = subst IsCheckedPlan of.plan own
+
+  within : (t : ℕ) (e : Event) → IsListedOn list t e → t < length f.plan.parents
+  within = cells_listed f list before now of checked collect
+
+  within_own : (t : ℕ) (e : Event) → IsListedOn list t e → t < length before.view.plan.parents
+  within_own t e is = subst (λ (q : Plan). t < length q.parents) (sym of.plan) (within t e is)
+
+  possible : IsPossible before (λ s. Unit {0})
+  possible = cells_possible f list before now of checked collect
+
+  pub pass_published : ListsPublished list now
+  pass_published = lists_published before now list own goes within_own possible c
+
+  pub pass_verdict :
+      (names : List Bool) (verdict : Verdict) → IsDeadList list verdict.dead → AreFresh names list verdict.dead verdict.fresh → IsVerdict names list before now verdict
+  pass_verdict = is_verdict before now list own goes within_own possible c
+
+  pub pass_listed : (dead : List TaskId) → IsDeadList list dead → All (λ t. (e : Event) × IsListedOn list t.0 e) dead
+  pass_listed dead are k d l =
+      let x = get_or dead k d in
+      let held = (are.exact x).0 (Contains-get_or dead k d l) in
+      let one = held.deadlocked.each x.0 held.inside in
+      (one.event, one.waits)
+
+  pub pass_within : (dead : List TaskId) → IsDeadList list dead → All (λ t. t.0 < length f.plan.parents) dead
+  pass_within dead are k d l = (let (e, is) = pass_listed dead are k d l in within (get_or dead k d).0 e is)
