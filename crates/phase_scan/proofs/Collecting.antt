@@ -7,6 +7,7 @@ use Rattle.armus_base.specs.declared.status.Status.{Status}
 use Rattle.armus_base.specs.Plans.{Plan}
 use Rattle.armus_base.specs.Places.{some_before}
 use Rattle.armus_base.specs.CheckedPlans.{IsCheckedPlan}
+use Rattle.armus_base.specs.Deadlocks.{IsListedOn}
 use Rattle.armus_base.specs.Finals.{given_below, is_awaited, is_event_of, statuses_on}
 use Rattle.armus_base.specs.Statuses.{IsInOrder}
 use Rattle.armus_base.proofs.StatusesAre.{statuses_are}
@@ -17,7 +18,8 @@ use Rattle.phase_scan.specs.Collected.{IsCollected}
 use Rattle.phase_scan.specs.declared.findings.Findings.{Findings}
 use Rattle.phase_scan.specs.Tables.{awaited_found, event_at, is_marked, state_found, status_found, statuses_found}
 use Rattle.phase_scan.proofs.Counting.{counts_loads}
-use Rattle.phase_scan.proofs.Telling.{collect_goes, collected}
+use Rattle.phase_scan.proofs.Farther.{IsPossible}
+use Rattle.phase_scan.proofs.Telling.{are, collect_goes, collected, some_possible}
 
 -- a checked plan has a task
 some_task : (plan : Plan) → IsCheckedPlan plan → 0 < length plan.parents
@@ -73,3 +75,11 @@ module _ (f : Frame) (list : List Status) (before now : Known) (of : IsOf before
 
   pub cells_in_order : IsInOrder list
   cells_in_order = subst IsInOrder (sym c.statuses) (statuses_are f.plan c.found (is_awaited f.plan c.found) checked).in_order
+
+  pub cells_listed : (t : ℕ) (e : Event) → IsListedOn list t e → t < length f.plan.parents
+  cells_listed t e is =
+      subst (λ (q : Plan). t < length q.parents) of.plan
+      (((are before now list here (some_task before.view.plan here) own).events t e).0 is).0
+
+  pub cells_possible : IsPossible before (λ s. Unit {0})
+  cells_possible = some_possible before now list here (some_task before.view.plan here) own

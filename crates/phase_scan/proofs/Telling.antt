@@ -33,7 +33,7 @@ use Rattle.phase_scan.specs.Collects.{IsCollect, waiting_on}
 use Rattle.phase_scan.specs.Collected.{HasItsPhases, IsCollected, IsKnownDeadBy, IsListedAsIn}
 use Rattle.phase_scan.proofs.Loads.{await_load, goes_both, phase_load, published_phaser}
 use Rattle.phase_scan.proofs.Chains.{AwaitLoad, GoesAt, WaitsBelow, await_of, awaits_go, awaits_seat, phase_of, row_of, rows_go}
-use Rattle.phase_scan.proofs.Farther.{possible_before}
+use Rattle.phase_scan.proofs.Farther.{IsPossible, possible_before}
 use Rattle.phase_scan.proofs.Standing.{dead_place, means_there, phases_begun_at, published_begun, same_or_not, same_phases, waits_unrefused, word_published, word_waits}
 
 prefix_both : (a b c : Place) → IsPrefix a b → IsPrefix b c → IsPrefix a c
@@ -84,6 +84,13 @@ module _ (before now : Known) (list : List Status) (checked : IsCheckedPlan befo
 
   await : (t : ℕ) → t < tasks → Await t
   await t l = await_of plan c.found.published tasks before c.between refl (omega arith) seat c.awaits t l
+
+  -- some lawful state was possible before
+  pub some_possible : IsPossible before (λ s. Unit {0})
+  some_possible =
+      let x = await 0 some in
+      let was = possible_before before x.from x.to (λ s. found_in s 0 ≡ x.finds.answer) seat x.goes_from x.finds.load.load.was in
+      record { places = was.places; lock = was.lock; lawful = was.lawful; far = was.far; holds = tt }
 
   at_by : (t : ℕ) → ((t < tasks) ⊎ (tasks ≤ t)) → Place
   at_by t (inl l) = (seen (await t l).to.view).places t
