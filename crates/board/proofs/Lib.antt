@@ -14,3 +14,4 @@ pub mod Reading
 pub mod Loaded
 pub mod Beginning
 pub mod Taking
+pub mod Sending
