@@ -15,3 +15,4 @@ pub mod Loaded
 pub mod Beginning
 pub mod Taking
 pub mod Sending
+pub mod Walking

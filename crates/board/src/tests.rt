@@ -4,6 +4,9 @@ ghost use Rattle.armus_base.specs.CheckedPlans.{first_plan};
 ghost use Rattle.board.specs.Seats.{IsOf};
 
 mod halves;
+mod plans;
+mod walker;
+mod walks;
 
 use crate::{Board, Loads, Mode, Seen, TaskSeat, ViewSeat};
 use armus_base::{Code, List, NoMemory, Plan, TaskId};
