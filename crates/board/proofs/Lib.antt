@@ -16,3 +16,5 @@ pub mod Beginning
 pub mod Taking
 pub mod Sending
 pub mod Walking
+pub mod PlanTests
+pub mod SmallPlans
