@@ -1,8 +1,7 @@
 -- The small plans of the tests are checked plans.
-use Rattle.std.proofs.Common.{List, [], ◌∷◌, Some, None, arith, refl}
+use Rattle.std.proofs.Common.{[], ◌∷◌, Some, None, arith, refl}
 use Rattle.armus_base.specs.declared.ids.PhaserId.{PhaserId}
 use Rattle.armus_base.specs.declared.ids.TaskId.{TaskId}
-use Rattle.armus_base.specs.declared.op.Op.{Op}
 use Rattle.armus_base.specs.declared.op.Op.TheVariants.{Adv, Await, Drop, Fork, Make, Reg}
 use Rattle.armus_base.specs.Plans.{Plan, action_at, actions, maker_of, parent_of}
 use Rattle.armus_base.specs.Places.{first_phases, phases_after}

@@ -18,12 +18,7 @@ fn look_all(board: &Board, seats: &mut [TaskSeat], t: TaskId)
 }
 
 /// Each seat loads one word, half of the seats beside the other half.
-pub fn look_in_halves<R: Threads + Sync>(
-    rt: &R,
-    board: &Board,
-    seats: &mut [TaskSeat],
-    t: TaskId,
-)
+pub fn look_in_halves<R: Threads + Sync>(rt: &R, board: &Board, seats: &mut [TaskSeat], t: TaskId)
     requires of { All (λ s. IsOf s board.now) seats.old }
     requires task { t.0 < length board.now.plan.parents }
     ensures of { All (λ s. IsOf s board.now) seats.new }

@@ -77,7 +77,10 @@ pub fn late_registration(alloc: Global) -> Result<Plan, NoMemory>
         Op::Await { p: P },
     ]?;
     let child = vec![in alloc;
-        Op::Reg { c: GRANDCHILD, p: P },
+        Op::Reg {
+            c: GRANDCHILD,
+            p: P
+        },
         Op::Adv { p: P },
         Op::Fork { c: GRANDCHILD },
     ]?;

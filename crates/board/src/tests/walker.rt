@@ -99,12 +99,7 @@ impl Walker {
     }
 
     /// Makes the task's next step. It answers the child that it forks, and an error where it makes no step.
-    pub fn go(
-        &mut self,
-        alloc: Global,
-        board: &Board,
-        plan: &Plan,
-    ) -> Result<Option<Walker>, Halt>
+    pub fn go(&mut self, alloc: Global, board: &Board, plan: &Plan) -> Result<Option<Walker>, Halt>
         requires made { IsOf self.old board.now }
         requires plan { board.now.plan ≡ plan.now }
         requires detects { board.now.mode ≡ Detect }

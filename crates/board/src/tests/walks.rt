@@ -84,13 +84,7 @@ fn words_stay(alloc: Global) -> Result<bool, NoMemory> {
 }
 
 // Whether the phase of a task is found to be this, and so many tasks are scanned then.
-fn scans(
-    walker: &mut Walker,
-    board: &Board,
-    t: TaskId,
-    phase: Phase,
-    scanned: u32,
-) -> bool
+fn scans(walker: &mut Walker, board: &Board, t: TaskId, phase: Phase, scanned: u32) -> bool
     requires made { IsOf walker.old board.now }
     requires task { t.0 < length board.now.plan.parents }
     requires phaser { 0 < length board.now.plan.makers }

@@ -1,4 +1,4 @@
-use Rattle.std.proofs.Common.{◌≡◌, ◌∙◌, ◌<◌, Result, Ok, Err, OnOk, Some, add-one, length, sym, ap, subst}
+use Rattle.std.proofs.Common.{◌∙◌, ◌<◌, Result, Ok, Err, OnOk, add-one, length, sym, ap, subst}
 use Rattle.armus_base.specs.Plans.{Plan}
 use Rattle.board.specs.Seats.{Known, MakesStep}
 use Rattle.board.specs.Views.{next_action}
@@ -39,7 +39,8 @@ pub returns-clause-step : goal.returns-clause-step
 returns-clause-step c =
     let b = is_before c.self.inside.seat c.args.self.now c.args.board.now c.args.plan.now c.id.result.0 c.self.inside.begun _ _ _ c.in-Some.op c.self.view_is c.requires.made c.requires.plan
     c.self.invariant c.id.ensures.task c.id.ensures.seat (sym c.is_some.ensures ∙ c.if-is_some.false) c.event.ensures c.code.ensures.code c.op_at.ensures.op c.in-Some.is in
-    whatever c.match-make_step.result _
-    (begins c.in-Some.op,
-    ap (λ (k : Known). next_action k.view) (sym c.self.view_is) ∙ before_next c.self.inside.begun c.in-Some.op c.self.inside.seat b,
-    subst (λ k. MakesStep (begins c.in-Some.op) k c.make_step.new.seat) c.self.view_is c.make_step.ensures.step)
+    whatever c.match-make_step.result _ (
+      begins c.in-Some.op,
+      ap (λ (k : Known). next_action k.view) (sym c.self.view_is) ∙ before_next c.self.inside.begun c.in-Some.op c.self.inside.seat b,
+      subst (λ k. MakesStep (begins c.in-Some.op) k c.make_step.new.seat) c.self.view_is c.make_step.ensures.step,
+    )

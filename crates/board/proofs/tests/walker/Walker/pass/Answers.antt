@@ -1,4 +1,4 @@
-use Rattle.std.proofs.Common.{◌∙◌, Some, length, sym, ap, subst, arith}
+use Rattle.std.proofs.Common.{◌∙◌, length, sym, ap, subst, arith}
 use Rattle.armus_base.specs.Plans.{Passes, Plan}
 use Rattle.board.specs.Seats.{Known, MakesStep, event_of}
 use Rattle.board.specs.Views.{next_action}
