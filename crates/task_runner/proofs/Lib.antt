@@ -6,3 +6,7 @@ pub mod Left
 pub mod AvoidedSteps
 pub mod AvoidedEnds
 pub mod SerialEnds
+pub mod DeadOrNot
+pub mod NextWorlds
+pub mod SerialExists
+pub mod SerialEndTells

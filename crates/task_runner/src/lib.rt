@@ -4,10 +4,12 @@
 mod avoided;
 #[cfg(test)]
 mod avoided_tests;
+mod laws;
 mod options;
 mod plain;
 mod round;
 
 pub use avoided::run_avoid;
+pub use laws::serial_run_ends;
 pub use options::RunOptions;
 pub use plain::run_plain;
