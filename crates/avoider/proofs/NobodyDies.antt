@@ -4,7 +4,7 @@ use Rattle.armus_base.specs.declared.event.Event.{Event}
 use Rattle.armus_base.specs.CheckedPlans.{IsCheckedPlan}
 use Rattle.armus_base.specs.Deadlocks.{IsDeadIn, NobodyDead, WouldBeDead}
 use Rattle.armus_base.specs.Places.{state_at}
-use Rattle.armus_base.specs.Plans.{Action, Blocks, Drops, Plan, Refuses}
+use Rattle.armus_base.specs.Plans.{Action, Blocks, Plan, Refuses}
 use Rattle.armus_base.specs.Runs.{IsReachable, Place}
 use Rattle.armus_base.specs.States.{IsLegal, Step, after}
 use Rattle.armus_base.proofs.OnlyBlocksKill.{only_blocks_kill}

@@ -6,9 +6,9 @@ use Rattle.armus_base.specs.CheckedPlans.{IsCheckedPlan}
 use Rattle.armus_base.specs.Deadlocks.{IsDeadBy, WouldBeDead}
 use Rattle.armus_base.specs.FinalLaws.{IsOfPlan}
 use Rattle.armus_base.specs.Finals.{statuses_of}
-use Rattle.armus_base.specs.Plans.{Blocks, Plan}
+use Rattle.armus_base.specs.Plans.{Blocks}
 use Rattle.armus_base.specs.Runs.{IsReachable}
-use Rattle.armus_base.specs.States.{State, after, awaited, updated}
+use Rattle.armus_base.specs.States.{after, awaited, updated}
 use Rattle.armus_base.specs.Statuses.{IsInOrder}
 use Rattle.armus_base.proofs.Codes.{event_on_is}
 use Rattle.armus_base.proofs.DeadByStatuses.{dead_by_statuses, run_is_of_plan}
@@ -39,7 +39,7 @@ module _ (w : WorldValue) (checked : IsCheckedPlan w.plan) (reach : IsReachable 
   unfolding state_of
   of_plan = subst (IsOfPlan w.plan) (reachable_is_fixed w.plan (places_of w) checked reach).0 (run_is_of_plan w.plan reach.steps checked reach.run)
 
-  supposed_of_plan : IsOfPlan w.plan (if_published (state_of w) t e)
+  pub supposed_of_plan : IsOfPlan w.plan (if_published (state_of w) t e)
   supposed_of_plan = record {
     published = λ u f p.
         elim (updated_is (state_of w).published t u (Some e) (Some f) p) [

@@ -28,7 +28,7 @@ leads_state plan checked h w leads =
 
 module _ (plan : Plan) (checked : IsCheckedPlan plan) where
   -- steps that lead on from places go on with each run that leads there
-  leads_run :
+  pub leads_run :
       (a : ℕ → Place) (own : List Step) (b : ℕ → Place) (h : List Step) → IsLegalRun plan h → places h ≡ a → LeadsOn plan a own b →
       IsLegalRun plan (own ++ h) × places (own ++ h) ≡ b
   leads_run a [] b h run there leads = (run, there ∙ leads)
@@ -69,7 +69,7 @@ decided_else s t (Drops p) b r = tt
 decided_else s t (Passes p) b r = tt
 
 -- a refusal that was decided, and the drops after it
-refusal_goes_on :
+pub refusal_goes_on :
     (plan : Plan) (t p : ℕ) (drops : List ℕ) (h : List Step) → IsDecided (state_after h) t (Refuses p) →
     GoesOn plan t h (drops_from t drops ++ record { task = t; action = Refuses p } ∷ [])
 refusal_goes_on plan t p [] h decided = (tt, refl, decided)
@@ -85,14 +85,14 @@ goes_append plan t h own (e ∷ more) first later = (
 )
 
 module _ (old new : WorldValue) (checked : IsCheckedPlan old.plan) (t : ℕ) where
-  abbrev Adds : List Step → Type 0
+  abbrev pub Adds : List Step → Type 0
   Adds h = (own : List Step) × LeadsTo old.plan (own ++ h) new × GoesOn old.plan t h own
 
   same_state : (h : List Step) → LeadsTo old.plan h old → state_after h ≡ state_of old
   same_state h leads = leads_state old.plan checked h old leads
 
   -- a step that is decided
-  step_adds : (s : MakesStep old new t) (h : List Step) → LeadsTo old.plan h old → IsDecided (state_of old) t s.action → Adds h
+  pub step_adds : (s : MakesStep old new t) (h : List Step) → LeadsTo old.plan h old → IsDecided (state_of old) t s.action → Adds h
   step_adds s h leads decided =
       let own = record { task = t; action = s.action } ∷ [] in
       let run = leads_run old.plan checked (places_of old) own (places_of new) h leads.run leads.there s.run in (
@@ -134,13 +134,14 @@ module _ (old new : WorldValue) (checked : IsCheckedPlan old.plan) (t : ℕ) whe
 pub goes_none : (w : WorldValue) (t : ℕ) → GoesOnTo w w t false
 goes_none w t h leads = ([], leads, tt, λ e. refl)
 
--- and one event more
+-- and more steps
 pub goes_more :
-    (old mid new : WorldValue) (t : ℕ) (moved : Bool) → IsCheckedPlan mid.plan → mid.plan ≡ old.plan → GoesOnTo old mid t moved → HasGoneOn mid new t → GoesOnTo old new t true
-goes_more old mid new t moved checked plan before gone h leads =
+    (old mid new : WorldValue) (t : ℕ) (moved : Bool) → IsCheckedPlan mid.plan → mid.plan ≡ old.plan → GoesOnTo old mid t moved →
+    ((h : List Step) → LeadsTo mid.plan h mid → (own : List Step) × LeadsTo mid.plan (own ++ h) new × GoesOn mid.plan t h own) → GoesOnTo old new t true
+goes_more old mid new t moved checked plan before adds h leads =
     let first = before h leads in
     let there : LeadsTo mid.plan (first.0 ++ h) mid = subst (λ q. LeadsTo q (first.0 ++ h) mid) (sym plan) first.1 in
-    let later = gone_on_adds mid new checked t gone (first.0 ++ h) there in
+    let later = adds (first.0 ++ h) there in
     let leads' : LeadsTo old.plan (later.0 ++ (first.0 ++ h)) new = subst (λ q. LeadsTo q (later.0 ++ (first.0 ++ h)) new) plan later.1 in
     let goes' : GoesOn old.plan t (first.0 ++ h) later.0 = subst (λ q. GoesOn q t (first.0 ++ h) later.0) plan later.2 in (
       later.0 ++ first.0,

@@ -51,7 +51,7 @@ less_in_all old new t place next plan there places l =
     (subst (λ n. left_at old.plan n next < left_at old.plan n place) (let z : t ≡ 0 + t = omega arith in z) l)))
 
 -- an event more
-step_leaves_less_left : (old new : WorldValue) (t : ℕ) → MakesStep old new t → left_in new < left_in old
+pub step_leaves_less_left : (old new : WorldValue) (t : ℕ) → MakesStep old new t → left_in new < left_in old
 step_leaves_less_left old new t step =
     let at : places_of old t ≡ place_from old.plan t (Some step.place) = place_is old.plan old.places t step.place step.there in
     let left = has_left old.plan t (places_of old t).done step.action step.next in
@@ -63,12 +63,9 @@ step_leaves_less_left old new t step =
     fewer n k true l = omega arith
     fewer n k false l = omega arith
 
--- a task that stands before its await is not refused
-unrefused_flag : (w : WorldValue) → IsCheckedPlan w.plan → IsReachable w.plan (places_of w) → (t : ℕ) (place : Place) → slice_get w.places t ≡ Some place → (state_of w).refused t ≡ None → place.refused ≡ false
-unfolding state_of
-unrefused_flag w checked reach t place there none =
-    let consistent = (reachable_is_fixed w.plan (places_of w) checked reach).1 in
-    let undropped = unrefused_undropped w.plan checked (places_of w) consistent t none in
+-- who has dropped nothing is not refused
+pub undropped_flag : (w : WorldValue) (t : ℕ) (place : Place) → slice_get w.places t ≡ Some place → (places_of w t).dropped ≡ None → place.refused ≡ false
+undropped_flag w t place there undropped =
     let at : places_of w t ≡ place_from w.plan t (Some place) = place_is w.plan w.places t place there in
     by_flag place.refused (sym (ap (λ p. p.dropped) at) ∙ undropped)
   where
@@ -76,10 +73,16 @@ unrefused_flag w checked reach t place there none =
     by_flag false e = refl
     by_flag true e = absurd (cc)
 
+pub unrefused_is_undropped : (w : WorldValue) → IsCheckedPlan w.plan → IsReachable w.plan (places_of w) → (t : ℕ) → (state_of w).refused t ≡ None → (places_of w t).dropped ≡ None
+unfolding state_of
+unrefused_is_undropped w checked reach t none = unrefused_undropped w.plan checked (places_of w) (reachable_is_fixed w.plan (places_of w) checked reach).1 t none
+
 -- a refusal
-refusal_leaves_less : (old new : WorldValue) (t : ℕ) (r : MakesRefusal old new t) → r.place.refused ≡ false → left_in new < left_in old
-refusal_leaves_less old new t r flag =
-    less_in_all old new t r.place (refused_there r.place) r.plan r.there r.places (fewer (length (actions old.plan t)) r.place.events r.place.refused flag)
+pub refused_leaves_less :
+    (old new : WorldValue) (t : ℕ) (place : Place) → new.plan ≡ old.plan → slice_get old.places t ≡ Some place → new.places ≡ set old.places t (refused_there place) →
+    place.refused ≡ false → left_in new < left_in old
+refused_leaves_less old new t place plan there places flag =
+    less_in_all old new t place (refused_there place) plan there places (fewer (length (actions old.plan t)) place.events place.refused flag)
   where
     fewer : (n k : ℕ) (b : Bool) → b ≡ false → (n - k) + 0 < (n - k) + (if b then 0 else 1)
     fewer n k false e = omega arith
@@ -89,8 +92,9 @@ module _ (old new : WorldValue) (checked : IsCheckedPlan old.plan) (reach : IsRe
   decision_leaves_less : (d : Decision) → IsDecision old new t d → left_in new < left_in old
   decision_leaves_less (Published e) is = step_leaves_less_left old new t is.step
   decision_leaves_less (Refused c) is =
-      refusal_leaves_less old new t is.refusal
-      (unrefused_flag old checked reach t is.refusal.place is.refusal.there is.before.0.unrefused)
+      let r = is.refusal in
+      refused_leaves_less old new t r.place r.plan r.there r.places
+      (undropped_flag old t r.place r.there (unrefused_is_undropped old checked reach t is.before.0.unrefused))
 
   pub gone_on_leaves_less : HasGoneOn old new t → left_in new < left_in old
   gone_on_leaves_less gone = elim gone [ inl d ↦ decision_leaves_less d.0 d.1 | inr e ↦ step_leaves_less_left old new t e.step ]

@@ -9,3 +9,7 @@ pub mod AvoidedSteps
 pub mod AvoidedEnds
 pub mod SerialEnds
 pub mod TwoMakersChecked
+pub mod DeadOrNot
+pub mod NextWorlds
+pub mod SerialExists
+pub mod SerialEndTells

@@ -2,6 +2,7 @@
 use Rattle.std.specs.Prelude.{◌≡◌, ℕ, ◌+◌, ◌-◌, Bool, false, List, [], ◌∷◌, ◌++◌, if◌then◌else◌, length, MatchBool}
 use Rattle.std.proofs.Common.{suc}
 use Rattle.armus_base.specs.declared.ending.Final.{Final}
+use Rattle.armus_base.specs.CheckedPlans.{IsCheckedPlan}
 use Rattle.armus_base.specs.Deadlocks.{NobodyDead}
 use Rattle.armus_base.specs.Finals.{final_of}
 use Rattle.armus_base.specs.Plans.{Plan, actions}
@@ -18,6 +19,10 @@ pub record IsSerialEnd (plan : Plan) (end : Final) : Type 0 where
   pub every : (h : List Step) → IsSerialAvoidedEnd plan h → state_after h ≡ state
   pub nobody : NobodyDead state
   pub is_it : end ≡ final_of plan state
+
+-- the serial avoided run of each checked plan ends
+abbrev pub SerialRunEnds : Type 0
+SerialRunEnds = (plan : Plan) → IsCheckedPlan plan → (s : State) × IsSerialAvoidedFinal plan s
 
 -- the run leads to the world: it is legal, and its places are those of the world
 pub record LeadsTo (plan : Plan) (h : List Step) (w : WorldValue) : Type 0 where

@@ -5,6 +5,9 @@ mod avoided;
 mod finishing;
 mod journal;
 mod live_task;
+#[cfg(test)]
+mod avoided_tests;
+mod laws;
 mod options;
 mod plain;
 mod round;
@@ -12,6 +15,7 @@ mod turns;
 
 pub use avoided::run_avoid;
 pub use journal::run_journal;
+pub use laws::serial_run_ends;
 pub use options::RunOptions;
 pub use plain::run_plain;
 

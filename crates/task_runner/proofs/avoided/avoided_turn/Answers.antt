@@ -2,7 +2,7 @@ use Rattle.std.proofs.Common.{◌∙◌, arith, sym}
 use Rattle.std.proofs.lemmas.Bool.{false≢true}
 use Rattle.avoider.proofs.SamePlan.{gone_on_plan}
 use Rattle.task_runner.proofs.AvoidedEnds.{turn_taken}
-use Rattle.task_runner.proofs.AvoidedSteps.{goes_more}
+use Rattle.task_runner.proofs.AvoidedSteps.{goes_more, gone_on_adds}
 use Rattle.task_runner.proofs.Left.{gone_on_leaves_less, left_at_most}
 use Rattle.task_runner.proofs.avoided.avoided_turn.Goals as goal
 
@@ -23,7 +23,8 @@ turn-preserved g c =
       nobody = c.go_on.ensures.nobody;
       moved = λ _. omega arith;
       still = λ e. absurd (false≢true (sym e));
-      goes = goes_more c.args.world.now c.turn.world c.go_on.new.world c.args.t.0 c.turn.moved at.checked inv.plan inv.goes gone;
+      goes = goes_more c.args.world.now c.turn.world c.go_on.new.world c.args.t.0 c.turn.moved at.checked inv.plan inv.goes
+          (gone_on_adds c.turn.world c.go_on.new.world at.checked c.args.t.0 gone);
     }
 
 pub returns-clause-part : goal.returns-clause-part
