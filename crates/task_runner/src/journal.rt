@@ -22,7 +22,7 @@ pub fn run_journal<R: Threads + Wait + Sync, G: Gate>(
     gate: &G,
 ) -> Result<(Final, List<TaskId>), NoMemory>
     requires workers { 1 ≤ options.now.workers × options.now.workers ≤ 64 }
-    requires quiet { options.now.live ≡ false }
+    requires not_live { options.now.live ≡ false }
     ensures recorded { IfOk result (λ run. IsRecordedRun plan.now run.0 run.1) }
 {
     run_named::<Brand, R, G>(rt, alloc, plan, options.workers, gate)
