@@ -13,8 +13,8 @@ use std::test::Fail;
 // The first event after the phaser was made.
 const FIRST: Event = Event { p: P, n: 1 };
 
-// Whether the walker makes so many steps.
-fn steps(walker: &mut Walker, alloc: Global, board: &Board, plan: &Plan, count: u32) -> bool
+/// Whether the walker makes so many steps.
+pub fn steps(walker: &mut Walker, alloc: Global, board: &Board, plan: &Plan, count: u32) -> bool
     requires made { IsOf walker.old board.now }
     requires plan { board.now.plan ≡ plan.now }
     requires detects { board.now.mode ≡ Detect }
@@ -27,8 +27,8 @@ fn steps(walker: &mut Walker, alloc: Global, board: &Board, plan: &Plan, count: 
     all
 }
 
-// The child that the walker forks next.
-fn forks(walker: &mut Walker, alloc: Global, board: &Board, plan: &Plan) -> Option<Walker>
+/// The child that the walker forks next.
+pub fn forks(walker: &mut Walker, alloc: Global, board: &Board, plan: &Plan) -> Option<Walker>
     requires made { IsOf walker.old board.now }
     requires plan { board.now.plan ≡ plan.now }
     requires detects { board.now.mode ≡ Detect }
