@@ -13,7 +13,8 @@ use Rattle.armus_top.specs.Texts.{Text}
 use Rattle.armus_top.specs.declared.texts.InputEnd.{InputEnd}
 use Rattle.armus_top.specs.declared.texts.InputEnd.TheVariants.{Refused, NoMemory}
 use Rattle.armus_top.specs.Programs.{IsEnd}
-use Rattle.armus_top.specs.Commands.{IsAnswered, IsRefused, IsRunOf, limit_of, length_line, wanted_of}
+use Rattle.armus_top.specs.Commands.{IsAnswered, IsRefused, limit_of, length_line, wanted_of}
+use Rattle.armus_top.specs.Runs.{IsRunOf}
 use Rattle.armus_top.specs.Headline.{Ends, GaveTooMuch, HasInput, IsSound, Passage, no_memory}
 use Rattle.armus_top.specs.Writing.{Answered, Finished, Refuses, TellsEnd, wrote, nothing}
 use Rattle.armus_top.proofs.Ending.{by_finish}

@@ -8,7 +8,8 @@ use Rattle.armus_words.specs.declared.command.Command.{Command}
 use Rattle.armus_words.specs.declared.command.Command.TheVariants.{Check, Run, Avoid, Record, Replay, Gen}
 use Rattle.armus_top.specs.Texts.{Text}
 use Rattle.armus_top.specs.Programs.{IsFaultOf, TellsDead}
-use Rattle.armus_top.specs.Commands.{IsAnswered, IsRefused, IsRunOf}
+use Rattle.armus_top.specs.Commands.{IsAnswered, IsRefused}
+use Rattle.armus_top.specs.Runs.{IsRunOf}
 use Rattle.armus_top.proofs.OnePlan.{plan_or_fault}
 use Rattle.armus_top.proofs.ReplayInputs.{refused_or_replayed}
 
@@ -23,7 +24,7 @@ never_both (Run workers g) input text other status (why, has, line) run = run_ha
 never_both (Avoid workers g) input text other status refused answered = absurd answered
 never_both (Record workers) input text other status refused answered = absurd answered
 never_both Replay input text other status (why, is, line) r = refused_or_replayed input why status other is r
-never_both (Gen count) input text other status refused answered = absurd answered
+never_both (Gen count) input text other status (why, is, line) answered = absurd is
 
 dead_small : (state : State) (status : ℕ) → TellsDead state status → status ≤ 1
 dead_small state status (inl (is_one, found)) = omega (arith, is_one)
@@ -37,4 +38,4 @@ answered_small (Run workers g) input text status run = dead_small run.state stat
 answered_small (Avoid workers g) input text status answered = absurd answered
 answered_small (Record workers) input text status answered = absurd answered
 answered_small Replay input text status r = dead_small (state_after r.by.replayed.progress.run) status r.status_is
-answered_small (Gen count) input text status answered = absurd answered
+answered_small (Gen count) input text status g = dead_small g.run.state status g.run.status_is

@@ -1,5 +1,6 @@
 pub mod OnePlan
 pub mod ReplayInputs
+pub mod TwoLines
 pub mod Ending
 pub mod Inputs
 pub mod Meaning

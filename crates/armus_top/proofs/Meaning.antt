@@ -27,7 +27,7 @@ means_built words (Some (Run workers graph)) is = (is, refl)
 means_built words (Some (Avoid workers graph)) is = unbuilt words (Avoid workers graph) refl is
 means_built words (Some (Record workers)) is = unbuilt words (Record workers) refl is
 means_built words (Some Replay) is = (is, refl)
-means_built words (Some (Gen count)) is = unbuilt words (Gen count) refl is
+means_built words (Some (Gen count)) is = (is, refl)
 means_built words None is = λ c other built. is c other
 
 pub serves_by : (words : List Text) (src out : Passage) (number : ℕ) (meaning : Option Command) → WordsMean words meaning → Ends (built_of meaning) src out number

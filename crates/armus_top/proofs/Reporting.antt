@@ -17,7 +17,7 @@ use Rattle.report.specs.Reports.{IsReport, IsSomeDead}
 use Rattle.task_runner.specs.PlainRuns.{IsPlainEnd}
 use Rattle.armus_top.specs.Texts.{Text}
 use Rattle.armus_top.specs.Programs.{IsPlanOf, TellsDead}
-use Rattle.armus_top.specs.Commands.{IsRunOf}
+use Rattle.armus_top.specs.Runs.{IsRunOf}
 
 pub plain_end_in_order : (plan : Plan) (end : Final) → IsCheckedPlan plan → IsPlainEnd plan end → IsInOrder end.blocked
 plain_end_in_order plan end checked is =

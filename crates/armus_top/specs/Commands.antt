@@ -2,15 +2,11 @@
 -- A command joins by a case of each definition; the headline does not change.
 use Rattle.std.specs.Prelude.{◌≡◌, ℕ, true, false, Option, Some, None}
 use Rattle.armus_base.specs.Plans.{Plan}
-use Rattle.armus_base.specs.States.{State}
-use Rattle.armus_base.specs.Runs.{IsFinal}
-use Rattle.armus_base.specs.Finals.{final_of}
 use Rattle.pl_syntax.specs.Tree.{Tree}
 use Rattle.pl_syntax.specs.Printed.{printed_of}
 use Rattle.pl_syntax.specs.declared.limits.TheConstants.{MAX_PARSED_BYTES}
 use Rattle.adaptive.specs.declared.analysis.Wanted.{Wanted}
 use Rattle.adaptive.specs.declared.analysis.Wanted.TheVariants as wanted
-use Rattle.report.specs.Reports.{IsReport}
 use Rattle.report.specs.Refusals.{refusal_text}
 use Rattle.report.specs.declared.refusal.Refusal.{Refusal}
 use Rattle.report.specs.declared.refusal.Refusal.TheVariants as refusal
@@ -20,7 +16,9 @@ use Rattle.armus_words.specs.declared.command.Command.{Command}
 use Rattle.armus_words.specs.declared.command.Command.TheVariants.{Check, Run, Avoid, Record, Replay, Gen}
 use Rattle.armus_top.specs.Texts.{Text, plan_line}
 use Rattle.armus_top.specs.Programs.{IsChecked, IsFaultOf, IsPlanOf, TellsDead}
+use Rattle.armus_top.specs.Generated.{IsGenOf}
 use Rattle.armus_top.specs.Replays.{IsReplayOf, IsReplayRefused}
+use Rattle.armus_top.specs.Runs.{IsRunOf}
 use Rattle.armus_top.specs.declared.texts.TheConstants.{MAX_TEXT_BYTES}
 
 -- the most bytes of an input, where the command reads one
@@ -36,9 +34,10 @@ limit_of (Gen count) = None
 abbrev pub length_line : Command → Text
 length_line c = refusal_text refusal.Length
 
--- why the command refuses this input
+-- why the command refuses this input; one that reads nothing refuses nothing
 abbrev pub IsCause : Command → Text → Refusal → Type 0
 IsCause Replay input why = IsReplayRefused input why
+IsCause (Gen count) input why = ⊥
 IsCause _ input why = IsFaultOf input why
 
 -- the command refuses this input, with this line
@@ -52,15 +51,6 @@ wanted_of graph.Wfg = wanted.Wfg
 wanted_of graph.Sg = wanted.Sg
 wanted_of graph.Grg = wanted.Grg
 
--- the report of the one state in which every maximal run of the text's plan ends, and the status that tells whether a task is dead in it
-pub record IsRunOf (text : Text) (g : Wanted) (status : ℕ) (report : Text) : Type 0 where
-  pub plan : Plan
-  pub plan_is : IsPlanOf text plan
-  pub state : State
-  pub final : IsFinal plan state
-  pub status_is : TellsDead state status
-  pub report_is : IsReport (final_of plan state) g report
-
 -- the command accepts this input, and may end with this status, 0 or 1, and this whole output
 abbrev pub IsAnswered : Command → Text → ℕ → Text → Type 0
 IsAnswered (Check false) input status text = (plan : Plan) × IsPlanOf input plan × (status ≡ 0) × (text ≡ plan_line plan)
@@ -69,4 +59,4 @@ IsAnswered (Run workers g) input status text = IsRunOf input (wanted_of g) statu
 IsAnswered (Avoid workers g) input status text = ⊥
 IsAnswered (Record workers) input status text = ⊥
 IsAnswered Replay input status text = IsReplayOf input status text
-IsAnswered (Gen count) input status text = ⊥
+IsAnswered (Gen count) input status text = IsGenOf count status text

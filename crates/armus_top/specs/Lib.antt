@@ -1,6 +1,8 @@
 pub mod Texts
 pub mod Programs
 pub mod Replays
+pub mod Runs
+pub mod Generated
 pub mod Meanings
 pub mod Commands
 pub mod Headline

@@ -12,13 +12,12 @@ is_built (Run workers graph) = true
 is_built (Avoid workers graph) = false
 is_built (Record workers) = false
 is_built Replay = true
-is_built (Gen count) = false
+is_built (Gen count) = true
 
 -- the command, if it is built
 abbrev pub built_of : Option Command → Option Command
 built_of (Some (Avoid workers graph)) = None
 built_of (Some (Record workers)) = None
-built_of (Some (Gen count)) = None
 built_of meaning = meaning
 
 -- what the words mean: this command, or none

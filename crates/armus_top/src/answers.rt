@@ -6,7 +6,8 @@ ghost use Rattle.pl_syntax.specs.Tree.{height};
 ghost use Rattle.pl_syntax.specs.declared.limits.TheConstants.{MAX_OPEN_BRACES};
 ghost use Rattle.armus_top.specs.Programs.{IsChecked, IsPlanOf};
 ghost use Rattle.armus_top.specs.declared.texts.TheConstants.{MAX_TEXT_BYTES};
-ghost use Rattle.armus_top.specs.Commands.{IsRunOf, wanted_of};
+ghost use Rattle.armus_top.specs.Commands.{wanted_of};
+ghost use Rattle.armus_top.specs.Runs.{IsRunOf};
 ghost use Rattle.armus_top.specs.Headline.{passage};
 ghost use Rattle.armus_top.specs.Status.{code_of};
 ghost use Rattle.armus_top.specs.Writing.{Answered};
@@ -75,13 +76,13 @@ fn answer_check<K: Sink>(alloc: Global, print: bool, checked: &Checked, out: &mu
 
 /// A report, and whether a task is dead.
 #[derive(Drop)]
-struct Reported {
-    text: List<u8>,
-    is_dead: bool,
+pub struct Reported {
+    pub text: List<u8>,
+    pub is_dead: bool,
 }
 
-// Runs the plan and reports its final state.
-fn run_and_report<G: Gate>(
+/// Runs the plan and reports its final state.
+pub fn run_and_report<G: Gate>(
     alloc: Global,
     plan: &Plan,
     wanted: Wanted,

@@ -2,6 +2,7 @@
 #![tactic(auto)]
 
 mod answers;
+mod generating;
 mod replaying;
 mod serving;
 mod status;

@@ -8,6 +8,7 @@ ghost use Rattle.armus_top.specs.Writing.{Finished};
 ghost use Rattle.armus_words.specs.declared.command.Command.TheVariants.{Check, Run, Replay};
 
 use crate::answers::{check_text, run_text};
+use crate::generating::generate;
 use crate::replaying::replay_input;
 use crate::status::ExitStatus;
 use crate::texts::MAX_TEXT_BYTES;
@@ -92,7 +93,7 @@ fn serve_command<S: Source, K: Sink, G: Gate>(
         Command::Replay => replay(alloc, src, out),
         Command::Avoid { .. } => usage(out),
         Command::Record { .. } => usage(out),
-        Command::Gen { .. } => usage(out),
+        Command::Gen { count } => generate(alloc, count, out, gate),
     }
 }
 

@@ -1,9 +1,9 @@
 // From a text to its program and its plan.
-ghost use Rattle.std.specs.Prelude.{◌≤◌, length, IfOk, IfErr};
+ghost use Rattle.std.specs.Prelude.{◌≡◌, ◌≤◌, length, IfOk, IfErr};
 ghost use Rattle.pl_syntax.specs.declared.limits.TheConstants.{MAX_PARSED_BYTES};
 ghost use Rattle.armus_top.specs.Programs.{IsChecked, IsEnd, IsFaultOf};
 
-use armus_base::Plan;
+use armus_base::{NoMemory, Plan};
 use pl_plan::{PlanEnd, plan};
 use pl_syntax::{ParseEnd, Program, parse};
 use report::Refusal;
@@ -19,6 +19,16 @@ pub enum InputEnd {
     Refused(Refusal),
     /// Memory ran out.
     NoMemory,
+}
+
+impl From<NoMemory> for InputEnd {
+    ghost use Rattle.armus_top.specs.declared.texts.InputEnd.TheVariants as ends;
+
+    ghost from_gives = { λ _ e. e ≡ ends.NoMemory };
+
+    fn from(_: NoMemory) -> Self {
+        InputEnd::NoMemory
+    }
 }
 
 /// The program of a text, and the plan to which it unfolds.

@@ -22,7 +22,7 @@ no_end_first x xs free = free 0 x (omega arith)
 no_end_later : (x : ℕ) (xs : List ℕ) → HasNoEnd (x ∷ xs) → HasNoEnd xs
 no_end_later x xs free = λ k d l. free (suc k) d (omega arith)
 
-no_end_inside : (line rest : List ℕ) → HasNoEnd (line ++ 10 ∷ rest) → ⊥
+pub no_end_inside : (line rest : List ℕ) → HasNoEnd (line ++ 10 ∷ rest) → ⊥
 no_end_inside [] rest free = no_end_first 10 rest free refl
 no_end_inside (x ∷ xs) rest free = no_end_inside xs rest (no_end_later x (xs ++ 10 ∷ rest) free)
 

@@ -10,7 +10,7 @@ mod text;
 mod verdict;
 
 pub use laws::{one_replay, one_schedule, passes_name_the_dead};
-pub use lines::{Line, read_lines};
+pub use lines::{Line, first_line, read_lines};
 pub use replaying::replay;
 pub use split::split_input;
 pub use text::replay_text;

@@ -37,8 +37,8 @@ fn line_length(bytes: &[u8]) -> usize
     bytes.len()
 }
 
-// The first line, and what stands behind its end.
-pub(crate) fn first_line(bytes: &[u8]) -> (&[u8], &[u8])
+/// The first line, and what stands behind its end.
+pub fn first_line(bytes: &[u8]) -> (&[u8], &[u8])
     requires some { 0 < length bytes.now }
     ensures cut { IsFirstLine bytes.now result.0.now result.1.now }
     ensures shorter { length result.1.now < length bytes.now }

@@ -1,0 +1,25 @@
+-- What `gen` writes.
+use Rattle.std.specs.Prelude.{◌≡◌, ℕ, List, [], ◌∷◌, ◌++◌}
+use Rattle.adaptive.specs.declared.analysis.Wanted.TheVariants as wanted
+use Rattle.gen_text.specs.Generated.{generated_text}
+use Rattle.schedule.specs.Lines.{IsCut}
+use Rattle.armus_top.specs.Texts.{Text, line}
+use Rattle.armus_top.specs.Runs.{IsRunOf}
+
+-- the text has an LF, and more behind it, which ends with LF
+abbrev pub HasTwoLines : Text → Type 0
+HasTwoLines text = (front : Text) × (back : Text) × (text ≡ line (front ++ 10 ∷ back))
+
+-- the text is the first and the last line of the report
+pub record IsFirstAndLast (report text : Text) : Type 0 where
+  pub first : Text
+  pub between : List Text
+  pub last : Text
+  pub cut : IsCut report (first ∷ between ++ last ∷ [])
+  pub text_is : text ≡ line first ++ line last
+
+-- the first and the last line of the report of the run of the generated text with this many workers in it, and the status of that run
+pub record IsGenOf (count status : ℕ) (text : Text) : Type 0 where
+  pub report : Text
+  pub run : IsRunOf (generated_text count) wanted.Auto status report
+  pub short : IsFirstAndLast report text

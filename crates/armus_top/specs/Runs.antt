@@ -1,0 +1,19 @@
+-- What `run` reports.
+use Rattle.std.specs.Prelude.{ℕ}
+use Rattle.armus_base.specs.Finals.{final_of}
+use Rattle.armus_base.specs.Plans.{Plan}
+use Rattle.armus_base.specs.Runs.{IsFinal}
+use Rattle.armus_base.specs.States.{State}
+use Rattle.adaptive.specs.declared.analysis.Wanted.{Wanted}
+use Rattle.report.specs.Reports.{IsReport}
+use Rattle.armus_top.specs.Texts.{Text}
+use Rattle.armus_top.specs.Programs.{IsPlanOf, TellsDead}
+
+-- the report of the one state in which every maximal run of the text's plan ends, and the status that tells whether a task is dead in it
+pub record IsRunOf (text : Text) (g : Wanted) (status : ℕ) (report : Text) : Type 0 where
+  pub plan : Plan
+  pub plan_is : IsPlanOf text plan
+  pub state : State
+  pub final : IsFinal plan state
+  pub status_is : TellsDead state status
+  pub report_is : IsReport (final_of plan state) g report

@@ -1,0 +1,89 @@
+// What `gen` answers.
+ghost use Rattle.std.specs.Prelude.{◌≡◌, ◌≢◌, ◌<◌, ◌∷◌, ◌++◌, [], IfOk, OnOk, List as Seq, ℕ, if◌then◌else◌, length};
+ghost use Rattle.adaptive.specs.declared.analysis.Wanted.{Wanted};
+ghost use Rattle.gen_text.specs.Generated.{generated_text};
+ghost use Rattle.schedule.specs.Lines.{IsCut};
+ghost use Rattle.armus_top.specs.Texts.{line};
+ghost use Rattle.armus_top.specs.Runs.{IsRunOf};
+ghost use Rattle.armus_top.specs.Generated.{HasTwoLines, IsFirstAndLast};
+ghost use Rattle.armus_top.specs.Headline.{passage};
+ghost use Rattle.armus_top.specs.Status.{code_of};
+ghost use Rattle.armus_top.specs.Writing.{Answered};
+ghost use Rattle.armus_words.specs.declared.command.Command.TheVariants.{Gen};
+
+use crate::answers::{Reported, run_and_report, status_of};
+use crate::status::ExitStatus;
+use crate::texts::{InputEnd, checked_in};
+use crate::writing::finish;
+use adaptive::Wanted;
+use armus_base::{Gate, List, NoMemory, Sink};
+use gen_text::gen_text;
+use schedule::first_line;
+use std::alloc::{AllocError, Global};
+
+// The last line.
+fn last_line(bytes: &[u8]) -> &[u8]
+    requires some { 0 < length bytes.now }
+    ensures last { (before : Seq (Seq ℕ)) × IsCut bytes.now (before ++ result.now ∷ []) }
+{
+    let (mut line, mut rest) = first_line(bytes);
+    while !rest.is_empty() {
+        let (next, more) = first_line(rest);
+        line = next;
+        rest = more;
+    }
+    line
+}
+
+// Puts a line behind others.
+fn put_line(out: &mut Vec<u8>, words: &[u8]) -> Result<(), AllocError>
+    ensures { OnOk result (out.new.items ≡ out.old.items ++ line words.now) }
+{
+    out.extend_from_slice(words)?;
+    out.extend_from_slice(b"\n")
+}
+
+// Two lines.
+fn two_lines(alloc: Global, first: &[u8], last: &[u8]) -> Result<List<u8>, NoMemory>
+    ensures { IfOk result (λ text. text ≡ line first.now ++ line last.now) }
+{
+    let mut text = Vec::new(alloc);
+    put_line(&mut text, first)?;
+    put_line(&mut text, last)?;
+    Ok(List::from_vec(text))
+}
+
+// The first and the last line of a report.
+fn first_and_last(alloc: Global, report: &[u8]) -> Result<List<u8>, NoMemory>
+    requires lines { HasTwoLines report.now }
+    ensures text { IfOk result (IsFirstAndLast report.now) }
+{
+    let (first, more) = first_line(report);
+    let last = last_line(more);
+    two_lines(alloc, first, last)
+}
+
+// The run of the generated text.
+fn run_generated<G: Gate>(alloc: Global, count: u16, gate: &G) -> Result<Reported, InputEnd>
+    ensures run { IfOk result (λ r. IsRunOf (generated_text count) Wanted.Auto (if r.is_dead then 1 else 0) r.text) }
+{
+    let text = gen_text(alloc, count)?;
+    let checked = checked_in(alloc, text.as_slice())?;
+    let reported = run_and_report(alloc, &checked.plan, Wanted::Auto, gate)?;
+    Ok(reported)
+}
+
+/// What `gen` answers. The generated text is read, checked and run as one that a user gives; that it is never refused is the law `gen_is_accepted` of the crate gen_text, so the one end without an answer is want of memory.
+pub fn generate<K: Sink, G: Gate>(alloc: Global, count: u16, out: &mut K, gate: &G) -> ExitStatus
+    ensures done { Answered (Gen count) [] (passage K.taken K.faults out.old out.new) (code_of result) }
+    ensures silent { code_of result ≢ 4 }
+{
+    let reported = match run_generated(alloc, count, gate) {
+        Ok(reported) => reported,
+        Err(_) => return ExitStatus::OutOfMemory,
+    };
+    match first_and_last(alloc, reported.text.as_slice()) {
+        Ok(text) => finish(out, text.as_slice(), status_of(reported.is_dead)),
+        Err(_) => ExitStatus::OutOfMemory,
+    }
+}
