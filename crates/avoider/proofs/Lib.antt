@@ -1,3 +1,4 @@
 pub mod Supposing
 pub mod NobodyDies
 pub mod SamePlan
+pub mod RefusedInCycle

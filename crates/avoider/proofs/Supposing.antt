@@ -34,20 +34,21 @@ pub supposed_is_after : (w : WorldValue) (t : ℕ) (e : Event) → IsAtAwaitOf w
 supposed_is_after w t e before =
     ap (λ o. record (state_of w) { published = updated (state_of w).published t o }) (sym (awaits_event w t e before))
 
-module _ (w : WorldValue) (checked : IsCheckedPlan w.plan) (reach : IsReachable w.plan (places_of w)) (t : ℕ) (task : t < length w.plan.parents) (e : Event) where
-  of_plan : IsOfPlan w.plan (state_of w)
-  unfolding state_of
-  of_plan = subst (IsOfPlan w.plan) (reachable_is_fixed w.plan (places_of w) checked reach).0 (run_is_of_plan w.plan reach.steps checked reach.run)
+-- the state of a world is one of its plan
+pub of_plan : (w : WorldValue) → IsCheckedPlan w.plan → IsReachable w.plan (places_of w) → IsOfPlan w.plan (state_of w)
+unfolding state_of
+of_plan w checked reach = subst (IsOfPlan w.plan) (reachable_is_fixed w.plan (places_of w) checked reach).0 (run_is_of_plan w.plan reach.steps checked reach.run)
 
+module _ (w : WorldValue) (checked : IsCheckedPlan w.plan) (reach : IsReachable w.plan (places_of w)) (t : ℕ) (task : t < length w.plan.parents) (e : Event) where
   pub supposed_of_plan : IsOfPlan w.plan (if_published (state_of w) t e)
   supposed_of_plan = record {
     published = λ u f p.
         elim (updated_is (state_of w).published t u (Some e) (Some f) p) [
           | inl own ↦ subst (λ v. v < length w.plan.parents) (sym own.0) task
-          | inr other ↦ of_plan.published u f other.1
+          | inr other ↦ (of_plan w checked reach).published u f other.1
         ];
-    member = of_plan.member;
-    phaser = of_plan.phaser;
+    member = (of_plan w checked reach).member;
+    phaser = (of_plan w checked reach).phaser;
   }
 
   -- the statuses tell whether the task would be dead

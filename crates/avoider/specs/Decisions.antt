@@ -1,5 +1,5 @@
 -- Decisions on an await: what they make of a world, and the cycle of a refusal.
-use Rattle.std.specs.Prelude.{◌≢◌, ℕ, ◌⊎◌, List}
+use Rattle.std.specs.Prelude.{◌≢◌, ℕ, ◌⊎◌, List, Contains}
 use Rattle.armus_base.specs.declared.event.Event.{Event}
 use Rattle.armus_base.specs.declared.ids.TaskId.{TaskId}
 use Rattle.armus_base.specs.declared.status.Status.{Status}
@@ -11,17 +11,19 @@ use Rattle.armus_base.specs.States.{after}
 use Rattle.pl_core.specs.Moves.{MakesRefusal, MakesStep}
 use Rattle.pl_core.specs.Stands.{IsAtAwaitOf}
 use Rattle.pl_core.specs.Worlds.{WorldValue, state_of}
-use Rattle.verdict.specs.Cycles.{IsCycleOf}
+use Rattle.verdict.specs.Cycles.{IsCycle, IsCycleOf}
 use Rattle.verdict.specs.declared.found.Cycle.{Cycle}
 use Rattle.avoider.specs.declared.decision.Decision.{Decision}
 use Rattle.avoider.specs.declared.decision.Decision.TheVariants.{Published, Refused}
 
--- the task is dead by the statuses, and the cycle is that of the walk from the least of those that are
+-- The task is dead by the statuses, and the cycle is that of the walk from the least of those that are: each of its tasks awaits its event, which
+-- the next one impedes.
 pub record ExplainsDeath (list : List Status) (t : ℕ) (c : Cycle) : Type 0 where
   pub dead : List TaskId
   pub are_dead : IsDeadList list dead
   pub among : IsDeadBy list t
   pub cycle : IsCycleOf list dead c
+  pub links : IsCycle list c.tasks c.events
 
 -- the statuses as they would be if task t had published the event of the await at which it stands
 abbrev pub supposed_statuses : WorldValue → ℕ → Event → List Status
@@ -33,13 +35,14 @@ pub record IsPublished (old new : WorldValue) (t : ℕ) (e : Event) : Type 0 whe
   pub alive : WouldBeDead (state_of old) t e → ⊥
   pub step : MakesStep old new t
 
--- task t stood at an await where it would be dead, as the cycle explains, and has been refused and has left all its phasers
+-- task t stood at an await where it would be dead, as the cycle explains, in which it stands, and has been refused and has left all its phasers
 pub record IsRefused (old new : WorldValue) (t : ℕ) (c : Cycle) : Type 0 where
   pub event : Event
   pub before : IsAtAwaitOf old t event
   pub dead : WouldBeDead (state_of old) t event
   pub refusal : MakesRefusal old new t
   pub cycle : ExplainsDeath (supposed_statuses old t event) t c
+  pub stands : Contains c.tasks (record { 0 = t })
 
 -- what was decided on the await of task t, and what it made of the world
 abbrev pub IsDecision : WorldValue → WorldValue → ℕ → Decision → Type 0

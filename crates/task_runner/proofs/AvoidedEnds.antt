@@ -1,18 +1,17 @@
 -- Who may not go on has come to an end, and what a round adds to a run.
 use mathlib.Core.Path.{fun_ext}
-use Rattle.std.proofs.Common.{◌≡◌, ℕ, zero, suc, ◌+◌, ◌<◌, Bool, true, false, List, [], ◌++◌, Option, Some, None, length, add-one, sym, ◌∙◌, ap, subst, refl, inl, inr}
+use Rattle.std.proofs.Common.{◌≡◌, ℕ, suc, ◌+◌, Bool, true, false, ◌++◌, Option, Some, None, length, add-one, sym, ◌∙◌, ap, subst, refl}
 use Rattle.std.specs.Prelude.{IsSome, MatchBool, slice_get}
-use Rattle.std.proofs.lemmas.Bool.{cases_Bool}
 use Rattle.armus_base.specs.declared.event.Event.{Event}
 use Rattle.armus_base.specs.CheckedPlans.{IsCheckedPlan}
-use Rattle.armus_base.specs.Places.{done_by, kept, members_below, phases_after, phases_at, refused_at}
-use Rattle.armus_base.specs.Plans.{Action, Passes, Plan}
-use Rattle.armus_base.specs.Runs.{HasEnded, IsLegalRun, IsReachable, Place, is_done, is_refused, is_waiting, places, state_after}
-use Rattle.armus_base.specs.Serial.{GoesOn, IsTurn, RoundBelow}
-use Rattle.armus_base.specs.States.{IsActive, Step}
+use Rattle.armus_base.specs.Places.{done_by, kept, phases_after, phases_at, refused_at}
+use Rattle.armus_base.specs.Plans.{Action, Passes}
+use Rattle.armus_base.specs.Runs.{HasEnded, IsReachable, Place, is_done, is_refused, is_waiting, places, state_after}
+use Rattle.armus_base.specs.Serial.{IsTurn, RoundBelow}
+use Rattle.armus_base.specs.States.{IsActive}
 use Rattle.armus_base.proofs.Fixed.{phases_forked}
 use Rattle.pl_core.specs.declared.place.Place.{Place as Standing}
-use Rattle.pl_core.specs.declared.stand.Stand.TheVariants.{Unforked, Refused, Waits}
+use Rattle.pl_core.specs.declared.stand.Stand.TheVariants.{Refused, Waits}
 use Rattle.pl_core.specs.Stands.{IsEnabled}
 use Rattle.pl_core.specs.Worlds.{WorldValue, dropped_at, memberships, next_action, place_from, places_at, places_of, state_of}
 use Rattle.pl_core.proofs.Bounds.{phaser_of_member}

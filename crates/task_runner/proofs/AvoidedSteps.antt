@@ -1,19 +1,16 @@
 -- What a task that goes on adds to a run that leads to the world.
 use Rattle.std.proofs.Common.{◌≡◌, ◌≢◌, ℕ, Bool, true, false, List, [], ◌∷◌, ◌++◌, Option, Some, None, append_assoc, sym, ◌∙◌, ap, subst, refl, inl, inr}
 use Rattle.std.proofs.lemmas.Bool.{false≢true}
-use Rattle.armus_base.specs.declared.event.Event.{Event}
 use Rattle.armus_base.specs.CheckedPlans.{IsCheckedPlan}
-use Rattle.armus_base.specs.Deadlocks.{WouldBeDead}
 use Rattle.armus_base.specs.Places.{state_at}
-use Rattle.armus_base.specs.Plans.{Action, Advances, Blocks, Drops, Forks, Makes, Passes, Plan, Refuses, Registers, action_at, in_code}
-use Rattle.armus_base.specs.Runs.{IsByCode, IsLegalRun, IsReachable, Place, moved, places, state_after}
+use Rattle.armus_base.specs.Plans.{Action, Advances, Blocks, Drops, Forks, Makes, Passes, Plan, Refuses, Registers, action_at}
+use Rattle.armus_base.specs.Runs.{IsByCode, IsLegalRun, Place, moved, places, state_after}
 use Rattle.armus_base.specs.Serial.{GoesOn, IsDecided}
-use Rattle.armus_base.specs.States.{IsLegal, State, Step, awaited}
+use Rattle.armus_base.specs.States.{IsLegal, State, Step}
 use Rattle.armus_base.proofs.Codes.{no_refusal}
 use Rattle.armus_base.proofs.Stepping.{places_fix}
-use Rattle.pl_core.specs.Moves.{LeadsOn, MakesRefusal, MakesStep, drops_from}
-use Rattle.pl_core.specs.Stands.{IsAtAwaitOf}
-use Rattle.pl_core.specs.Worlds.{WorldValue, next_action, places_of, state_of}
+use Rattle.pl_core.specs.Moves.{LeadsOn, MakesStep, drops_from}
+use Rattle.pl_core.specs.Worlds.{WorldValue, places_of, state_of}
 use Rattle.avoider.specs.declared.decision.Decision.{Decision}
 use Rattle.avoider.specs.declared.decision.Decision.TheVariants.{Published, Refused}
 use Rattle.avoider.specs.Decisions.{HasGoneOn, IsDecision, MakesOtherEvent}

@@ -1,16 +1,13 @@
 -- Each event and each refusal leaves less.
-use Rattle.std.proofs.Common.{◌≡◌, ℕ, zero, suc, ◌<◌, ◌≤◌, ◌+◌, ◌-◌, Bool, true, false, List, [], ◌∷◌, Option, Some, None, length, set, arith, sym, ◌∙◌, ap, subst, refl, inl, inr}
+use Rattle.std.proofs.Common.{◌≡◌, ℕ, zero, suc, ◌<◌, ◌≤◌, ◌+◌, ◌-◌, Bool, true, false, List, [], ◌∷◌, Some, None, length, set, arith, sym, ◌∙◌, ap, subst, refl, inl, inr}
 use Rattle.std.specs.Prelude.{if◌then◌else◌, slice_get}
-use Rattle.armus_base.specs.declared.event.Event.{Event}
 use Rattle.armus_base.specs.CheckedPlans.{IsCheckedPlan}
-use Rattle.armus_base.specs.Places.{IsConsistent}
-use Rattle.armus_base.specs.Plans.{Plan, action_at, actions}
+use Rattle.armus_base.specs.Plans.{Plan, actions}
 use Rattle.armus_base.specs.Runs.{IsReachable}
 use Rattle.armus_base.proofs.NextIsLegal.{unrefused_undropped}
 use Rattle.armus_base.proofs.Reachable.{reachable_is_fixed}
 use Rattle.pl_core.specs.declared.place.Place.{Place}
-use Rattle.pl_core.specs.Moves.{MakesRefusal, MakesStep, further, refused_there}
-use Rattle.pl_core.specs.Stands.{IsAtAwaitOf}
+use Rattle.pl_core.specs.Moves.{MakesStep, further, refused_there}
 use Rattle.pl_core.specs.Worlds.{WorldValue, dropped_at, place_from, places_of, state_of}
 use Rattle.pl_core.proofs.Standing.{place_is}
 use Rattle.avoider.specs.declared.decision.Decision.{Decision}

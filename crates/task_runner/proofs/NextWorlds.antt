@@ -1,6 +1,6 @@
 -- A task either may not go on, or there is a world to which it leads.
 use mathlib.Core.Path.{fun_ext}
-use Rattle.std.proofs.Common.{◌≡◌, ◌≢◌, ℕ, zero, suc, ◌<◌, ◌+◌, Bool, true, false, List, [], ◌∷◌, ◌++◌, Option, Some, None, length, set, get_or, add-one, arith, sym, ◌∙◌, ap, subst, refl, ◌⊎◌, inl, inr}
+use Rattle.std.proofs.Common.{◌≡◌, ◌≢◌, ℕ, suc, ◌<◌, ◌+◌, false, List, [], ◌∷◌, ◌++◌, Option, Some, None, length, set, get_or, add-one, arith, sym, ◌∙◌, ap, subst, refl, ◌⊎◌, inl, inr}
 use Rattle.std.specs.Prelude.{slice_get}
 use Rattle.std.proofs.Math.ListN.{length-set}
 use Rattle.std.proofs.lemmas.Bool.{cases_Bool, cases_eq}
@@ -9,7 +9,7 @@ use Rattle.armus_base.specs.declared.event.Event.{Event}
 use Rattle.armus_base.specs.CheckedPlans.{IsCheckedPlan}
 use Rattle.armus_base.specs.Deadlocks.{WouldBeDead}
 use Rattle.armus_base.specs.Places.{members_below, phases_after, state_at}
-use Rattle.armus_base.specs.Plans.{Action, Blocks, Passes, Plan, Refuses, action_at, in_code}
+use Rattle.armus_base.specs.Plans.{Action, Blocks, Passes, Refuses}
 use Rattle.armus_base.specs.Runs.{IsByCode, IsReachable, Place, moved, next_place}
 use Rattle.armus_base.specs.Serial.{GoesOn, IsDecided}
 use Rattle.armus_base.specs.States.{IsActive, IsLegal, IsReached, Step, after, awaited}

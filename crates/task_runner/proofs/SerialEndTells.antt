@@ -1,15 +1,14 @@
 -- What the value of the end of the serial avoided run tells: nobody is dead, and who is refused.
 use Rattle.std.proofs.Common.{◌≡◌, ℕ, ◌<◌, Bool, true, false, Option, Some, None, List, length, sym, ◌∙◌, ap, subst, refl}
 use Rattle.std.specs.Prelude.{◌↔◌, slice_get}
-use Rattle.std.proofs.lemmas.Option.{slice_get_within}
 use Rattle.armus_base.specs.declared.ending.Final.{Final}
 use Rattle.armus_base.specs.declared.ending.TaskEnd.TheVariants.{Refused}
 use Rattle.armus_base.specs.declared.event.Event.{Event}
 use Rattle.armus_base.specs.CheckedPlans.{IsCheckedPlan}
 use Rattle.armus_base.specs.Deadlocks.{IsDeadBy}
 use Rattle.armus_base.specs.FinalLaws.{IsOfPlan}
-use Rattle.armus_base.specs.Finals.{end_by, end_of, final_of}
-use Rattle.armus_base.specs.Places.{published_after, refused_at}
+use Rattle.armus_base.specs.Finals.{end_by, end_of}
+use Rattle.armus_base.specs.Places.{refused_at}
 use Rattle.armus_base.specs.Plans.{Plan}
 use Rattle.armus_base.specs.Runs.{IsLegalRun, places, state_after}
 use Rattle.armus_base.specs.States.{Step}

@@ -1,7 +1,6 @@
 -- The run that avoids deadlock has ended where a round makes no event.
-use Rattle.std.proofs.Common.{◌≡◌, ℕ, ◌<◌, Bool, true, false, List, [], length, arith, sym, ◌∙◌, ap, subst, refl, inl, inr}
+use Rattle.std.proofs.Common.{◌≡◌, ℕ, ◌<◌, Bool, false, List, [], length, arith, sym, ◌∙◌, ap, subst}
 use Rattle.std.specs.Prelude.{Result, Ok, Err, IfOk, OnOk}
-use Rattle.std.proofs.lemmas.Bool.{cases_Bool}
 use Rattle.armus_base.specs.declared.ending.Final.{Final}
 use Rattle.armus_base.specs.declared.errors.NoMemory.{NoMemory}
 use Rattle.armus_base.specs.CheckedPlans.{IsCheckedPlan}
@@ -10,7 +9,7 @@ use Rattle.armus_base.specs.Finals.{final_of}
 use Rattle.armus_base.specs.Plans.{Plan}
 use Rattle.armus_base.specs.Runs.{HasEnded, IsReachable, Place, places, state_after}
 use Rattle.armus_base.specs.Serial.{IsSerialAvoidedEnd, IsSerialAvoidedRun, RoundBelow, opens, rounds}
-use Rattle.armus_base.specs.States.{State, Step}
+use Rattle.armus_base.specs.States.{Step}
 use Rattle.armus_base.proofs.OneSerialEnd.{one_serial_end}
 use Rattle.armus_base.proofs.SerialFinalIsAvoided.{round_ended}
 use Rattle.armus_base.proofs.Stepping.{acting_forked}

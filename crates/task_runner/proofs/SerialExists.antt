@@ -7,7 +7,6 @@ use Rattle.armus_base.specs.CheckedPlans.{IsCheckedPlan}
 use Rattle.armus_base.specs.Plans.{Plan}
 use Rattle.armus_base.specs.Runs.{IsReachable, state_after}
 use Rattle.armus_base.specs.States.{Step}
-use Rattle.pl_core.specs.declared.place.Place.{Place as Standing}
 use Rattle.pl_core.specs.Stands.{IsEnabled}
 use Rattle.pl_core.specs.Worlds.{WorldValue, places_of, state_of}
 use Rattle.pl_core.proofs.Opening.{opening_is}

@@ -6,6 +6,7 @@ use Rattle.pl_core.specs.Supposed.{if_published}
 use Rattle.pl_core.specs.Worlds.{state_of}
 use Rattle.avoider.specs.Decisions.{ExplainsDeath}
 use Rattle.avoider.proofs.NobodyDies.{block_kills_nobody, refusal_kills_nobody}
+use Rattle.avoider.proofs.RefusedInCycle.{refused_in_cycle}
 use Rattle.avoider.proofs.Supposing.{supposed_in_order, supposed_is_after, told_by_statuses}
 use Rattle.avoider.proofs.step.avoid_step.Goals as goal
 
@@ -30,6 +31,8 @@ returns-in-Some-clause-decision c =
       refusal = c.refuse.ensures;
       cycle =
           subst (λ s. ExplainsDeath (statuses_of w.plan s) c.args.t.0 c.in-Some.cycle) (supposed_is_after w c.args.t.0 event at.before) there;
+      stands =
+          refused_in_cycle w at.checked at.reachable c.args.t.0 event c.requires.nobody c.in-Some.cycle.tasks c.in-Some.cycle.events there.links;
     }
 
 pub returns-in-Some-clause-nobody : goal.returns-in-Some-clause-nobody

@@ -1,0 +1,93 @@
+-- The refused task stands in the cycle: nobody else was dead without it.
+use Rattle.std.proofs.Common.{◌≡◌, ◌≢◌, ℕ, ◌+◌, ◌<◌, true, Some, List, [], ◌∷◌, length, get_or, arith, sym, ◌∙◌, ap, subst, refl, ◌⊎◌, inl, inr}
+use Rattle.std.specs.Prelude.{Contains}
+use Rattle.std.proofs.lemmas.Bool.{cases_eq}
+use Rattle.std.proofs.lemmas.List.{get_or_default}
+use Rattle.armus_base.specs.declared.event.Event.{Event}
+use Rattle.armus_base.specs.declared.ids.TaskId.{TaskId}
+use Rattle.armus_base.specs.declared.status.Status.{Status}
+use Rattle.armus_base.specs.CheckedPlans.{IsCheckedPlan}
+use Rattle.armus_base.specs.Deadlocks.{NobodyDead}
+use Rattle.armus_base.specs.Finals.{statuses_of}
+use Rattle.armus_base.specs.Runs.{IsReachable}
+use Rattle.armus_base.specs.Statuses.{Impedes}
+use Rattle.armus_base.proofs.DeadByStatuses.{dead_by_statuses}
+use Rattle.armus_base.proofs.Elements.{Contains-cons_cases, Contains-head, Contains-tail, nothing_in_nil}
+use Rattle.armus_base.proofs.StatusesAre.{listed_from, listed_is}
+use Rattle.armus_base.proofs.Steps.{updated_other}
+use Rattle.dep_state.proofs.DeadSets.{IsDeadlockedList, dead_by_list}
+use Rattle.pl_core.specs.Supposed.{if_published}
+use Rattle.pl_core.specs.Worlds.{WorldValue, places_of, state_of}
+use Rattle.verdict.specs.Cycles.{IsCycle, IsNext}
+use Rattle.avoider.proofs.Supposing.{of_plan}
+
+-- a task stands in a list, or it does not
+among_or_not : (ts : List TaskId) (t : TaskId) → Contains ts t ⊎ (Contains ts t → ⊥)
+among_or_not [] t = inr (λ m. nothing_in_nil t m)
+among_or_not (u ∷ ts) t =
+    elim (cases_eq u.0 t.0) [
+      | inl same ↦ inl (subst (λ v. Contains (u ∷ ts) v) (ap (λ k. record { 0 = k }) same) (Contains-head u ts))
+      | inr other ↦ elim (among_or_not ts t) [
+        | inl m ↦ inl (Contains-tail u ts t m)
+        | inr none ↦ inr (λ m. elim (Contains-cons_cases u ts t m) [ inl e ↦ other (ap (λ v. v.0) e) | inr later ↦ none later ])
+      ]
+    ]
+
+-- among n there is a place after each
+next_place_of : (n k : ℕ) → k < n → (j : ℕ) × (j < n) × IsNext n k j
+next_place_of n k l =
+    elim (cases_eq (k + 1) n) [
+      | inl last ↦ (0, omega arith, inl (last, refl))
+      | inr more ↦ (k + 1, omega arith, inr (omega arith, refl))
+    ]
+
+module _ (w : WorldValue) (checked : IsCheckedPlan w.plan) (reach : IsReachable w.plan (places_of w)) (t : ℕ) (e : Event) (nobody : NobodyDead (state_of w)) (tasks : List TaskId) (events : List Event) where
+  abbrev now : List Status
+  now = statuses_of w.plan (state_of w)
+
+  abbrev supposed : List Status
+  supposed = statuses_of w.plan (if_published (state_of w) t e)
+
+  -- a status of another task is there already
+  there_already : (s : Status) → Contains supposed s → s.t.0 ≢ t → Contains now s
+  there_already s m other =
+      let at = listed_is w.plan (if_published (state_of w) t e) (λ p. true) s m in
+      let own : at.0 ≢ t = λ same. other (ap (λ v. v.t.0) at.4 ∙ same) in
+      let was : (state_of w).published at.0 ≡ Some at.2 = sym (updated_other (state_of w).published t at.0 (Some e) own) ∙ at.3 in
+      subst (λ v. Contains now v) (sym at.4) (listed_from w.plan (state_of w) (λ p. true) at.0 at.2 at.1 was)
+
+  module _ (cycle : IsCycle supposed tasks events) (absent : Contains tasks (record { 0 = t }) → ⊥) where
+    other_task : (u : TaskId) → Contains tasks u → u.0 ≢ t
+    other_task u m same = absent (subst (λ v. Contains tasks v) (ap (λ k. record { 0 = k }) same) m)
+
+    there : (s : Status) (u : TaskId) → Contains supposed s → s.t ≡ u → Contains tasks u → Contains now s
+    there s u m same among = there_already s m (λ own. other_task u among (ap (λ v. v.0) (sym same) ∙ own))
+
+    -- each task of the cycle is impeded by one of it already
+    keeps : IsDeadlockedList now tasks
+    keeps u m =
+        let link = cycle.each m.0 m.1 in
+        let waits = link.awaits u e in
+        let next = next_place_of (length tasks) m.0 m.1 in
+        let by = link.impeded next.0 u e next.2 in
+        let behind : Contains tasks (get_or tasks next.0 u) = (next.0, next.1, get_or_default tasks next.0 (get_or tasks next.0 u) u next.1) in (
+          waits.1,
+          there waits.1 u (waits.0, waits.2, waits.3) (waits.4.0 ∙ m.2) m,
+          waits.4.0 ∙ m.2,
+          (
+            by.1,
+            there by.1 (get_or tasks next.0 u) (by.0, by.2, by.3) by.4.0 behind,
+            subst (λ v. Contains tasks v) (sym by.4.0) behind,
+            subst (λ v. Impedes by.1 v) (sym waits.4.1) by.4.1,
+          ),
+        )
+
+    dead_already : ⊥
+    dead_already =
+        let first = get_or tasks 0 (record { 0 = t }) in
+        let m : Contains tasks first = (0, cycle.some, get_or_default tasks 0 first (record { 0 = t }) cycle.some) in
+        nobody first.0 ((dead_by_statuses w.plan (state_of w) first.0 (of_plan w checked reach)).0 (dead_by_list now first (tasks, m, keeps)))
+
+  pub refused_in_cycle : IsCycle supposed tasks events → Contains tasks (record { 0 = t })
+  refused_in_cycle cycle =
+      elim (among_or_not tasks (record { 0 = t })) [ inl m ↦ m | inr absent ↦ absurd (dead_already cycle absent) ]
