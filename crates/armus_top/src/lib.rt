@@ -14,4 +14,7 @@ pub use texts::MAX_TEXT_BYTES;
 pub use top::{armus, armus_plain, words_mean_one_command};
 
 #[cfg(test)]
+mod averaging_tests;
+
+#[cfg(test)]
 mod tests;

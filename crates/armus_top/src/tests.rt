@@ -13,7 +13,7 @@ use std::sync::Wait;
 use std::test::Fail;
 use std::thread::Threads;
 
-const AVERAGING: &str =
+pub(crate) const AVERAGING: &str =
     "pc = newPhaser();\npb = newPhaser();\nloop 3 {\n  t = newTid();\n  reg(t, pc);\n  reg(t, pb);\n  fork(t) {\n    loop 2 {\n      skip; // read the neighbours\n      adv(pc);\n      await(pc);\n      skip; // write the mean\n      adv(pc);\n      await(pc);\n    }\n    dereg(pc);\n    dereg(pb);\n  }\n}\nadv(pb);\nawait(pb);\n";
 
 const NEVER_FORKED: &str = "p = newPhaser();\nt = newTid();\nreg(t, p);\nadv(p);\nawait(p);\n";

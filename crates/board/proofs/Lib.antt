@@ -14,3 +14,7 @@ pub mod Reading
 pub mod Loaded
 pub mod Beginning
 pub mod Taking
+pub mod Sending
+pub mod Walking
+pub mod PlanTests
+pub mod SmallPlans

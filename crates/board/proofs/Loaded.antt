@@ -58,7 +58,7 @@ few_phase table v w mode t p answer seat small load =
     (few_after (own_event v.plan v.own (seen v)) (seen v).scanned t p (length v.plan.parents) answer seat.few small)
 
 -- and its own place stays
-own_stays :
+pub own_stays :
     (table : TableId) (v w : View) (t : ℕ) (mode : Mode) (Holds : State → Type 0) → IsSeat (record { table = table; view = v }) → v.own ≡ Some t → ((u : ℕ) → (seen w).exact u ≡ (seen v).exact u) →
     WasSo v.plan mode Holds v w → (seen w).places t ≡ (seen v).places t
 own_stays table v w t mode Holds seat own exact was =

@@ -96,7 +96,7 @@ event_before k t x own next n =
     let there = next_there k.view x next in
     event_here k t own ∙ nothing_published k.view.plan (task_of k.view) (own_place k.view).done x there.1 n
 
-place_made : (k : ℕ) (o : Option ℕ) (x : Action) → o ≡ None → ((p : ℕ) → x ≢ Refuses p) → (next_place k o x).done ≡ suc k
+pub place_made : (k : ℕ) (o : Option ℕ) (x : Action) → o ≡ None → ((p : ℕ) → x ≢ Refuses p) → (next_place k o x).done ≡ suc k
 place_made k None (Makes p) e n = refl
 place_made k None (Registers c p) e n = refl
 place_made k None (Forks c) e n = refl
@@ -346,6 +346,17 @@ child_apart k t c seat own next same =
     let less = child_later k.view.plan seat.checked.tables (task_of k.view) c formed.0 in
     omega arith
 
+-- it stands where no step of it is seen
+child_place : (v : View) (c : ℕ) → task_of v < length v.sight.places → next_action v ≡ Some (Forks c) → c ≢ task_of v → place_in (next_view v).sight.places c ≡ place_in v.sight.places c
+child_place v c within next apart =
+    ap (λ (u : View). place_in u.sight.places c) (sym (next_view_is v (Forks c) next))
+    ∙ ap (λ g. g c) (set_place v.sight.places (task_of v) (next_place (own_place v).done (own_place v).dropped (Forks c)) within)
+    ∙ updated_other (place_in v.sight.places) (task_of v) c (next_place (own_place v).done (own_place v).dropped (Forks c)) apart
+
+pub child_first : (v w : View) (c : ℕ) → task_of v < length v.sight.places → next_action v ≡ Some (Forks c) → place_in v.sight.places c ≡ first_place → c ≢ task_of v → w ≡ child v → own_place w ≡ first_place
+child_first v w c within next unseen apart is =
+    ap own_place is ∙ ap (λ o. place_in (next_view v).sight.places (forked_by o)) next ∙ child_place v c within next apart ∙ unseen
+
 pub child_sitting : (table table' : TableId) (v w : View) (t n c : ℕ) (o : Option Event) → IsSitting t n o (record { table = table; view = v }) → next_action v ≡ Some (Forks c) → place_in v.sight.places c ≡ first_place → c ≢ task_of v →
     w ≡ child v → IsSitting c 0 None (record { table = table'; view = w })
 child_sitting table table' v w t n c o s next unseen apart is =
@@ -383,16 +394,10 @@ child_sitting table table' v w t n c o s next unseen apart is =
           );
     }
 
-    still : place_in (next_view v).sight.places c ≡ place_in v.sight.places c
-    still =
-        ap (λ (u : View). place_in u.sight.places c) (sym (next_view_is v (Forks c) next))
-        ∙ ap (λ g. g c) (set_place v.sight.places (task_of v) (next_place (own_place v).done (own_place v).dropped (Forks c)) within)
-        ∙ updated_other (place_in v.sight.places) (task_of v) c (next_place (own_place v).done (own_place v).dropped (Forks c)) apart
-
     no_event : event_of (record { table = table'; view = child v }) ≡ None
     no_event =
         ap (λ o. published_after v.plan (forked_by o) (place_in (next_view v).sight.places (forked_by o)).done) next
-        ∙ ap (λ (b : Place). published_after v.plan c b.done) (still ∙ unseen)
+        ∙ ap (λ (b : Place). published_after v.plan c b.done) (child_place v c within next apart ∙ unseen)
 
 -- the event that is published
 pub event_is : (k : Known) → IsSome (event_of k) → (e : Event) × (event_of k ≡ Some e)

@@ -8,3 +8,4 @@ pub mod Sitting
 pub mod Viewing
 pub mod Ended
 pub mod Boarding
+pub mod Walking

@@ -3,7 +3,8 @@ ghost use Rattle.std.specs.Prelude.{◌≡◌, ◌+◌, ◌<◌, ◌≤◌, [], 
 ghost use Rattle.armus_base.specs.Limits.{max_tasks, max_ops};
 ghost use Rattle.armus_base.specs.Plans.{Makes, Registers, Forks, Advances, Drops, Blocks};
 ghost use Rattle.armus_base.specs.Seats.{seen_by_child, scanned_after};
-ghost use Rattle.board.specs.Views.{found_of, next_action, seen};
+ghost use Rattle.armus_base.specs.Runs.{first_place};
+ghost use Rattle.board.specs.Views.{found_of, next_action, own_place, seen};
 ghost use Rattle.board.specs.Rule.{first};
 ghost use Rattle.board.specs.Steps.{own_phase, viewer};
 ghost use Rattle.board.specs.Seats.{Known, IsOf, IsSeat, IsNewSeat, MakesStep, MayPublish, MayDrop, MakesPass, NeedsMember, AnswersAwait, AnswersPhase, IsFirst, event_of, nothing_seen};
@@ -197,6 +198,7 @@ impl TaskSeat {
         requires next { next_action self.old.view ≡ Some (Forks c.0) }
         ensures step { OnOk result (MakesStep (Forks c.0) self.old self.new) }
         ensures child { IfOk result (λ child. IsNewSeat board.now (Some c.0) (seen_by_child c.0 (seen self.new.view)) child) }
+        ensures first { IfOk result (λ child. own_place child.view ≡ first_place) }
         ensures always { IsOk result }
     {
         let _ = alloc;

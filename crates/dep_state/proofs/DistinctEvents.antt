@@ -21,6 +21,12 @@ not_after_then a b c (inl l) (inr m) = inl (omega (arith, m.0))
 not_after_then a b c (inr l) (inl m) = inl (omega (arith, l.0))
 not_after_then a b c (inr l) (inr m) = inr (l.0 ∙ m.0, omega (arith, l.1, m.1))
 
+pub before_then : (a b c : Event) → IsBefore a b → NotAfter b c → IsBefore a c
+before_then a b c (inl l) (inl m) = inl (omega arith)
+before_then a b c (inl l) (inr m) = inl (omega (arith, m.0))
+before_then a b c (inr l) (inl m) = inl (omega (arith, l.0))
+before_then a b c (inr l) (inr m) = inr (l.0 ∙ m.0, omega (arith, l.1, m.1))
+
 pub before_not_after : (a b : Event) → IsBefore a b → NotAfter a b
 before_not_after a b (inl l) = inl l
 before_not_after a b (inr l) = inr (l.0, omega (arith, l.1))

@@ -5,7 +5,7 @@ pub mod EventPlaces
 pub mod DistinctEvents
 pub mod Made
 pub mod ImpederRows
-pub mod PhasePlaces
+pub mod AddedRows
 pub mod PickedTasks
 pub mod TaskSearch
 pub mod NamedTasks

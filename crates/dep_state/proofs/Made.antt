@@ -1,14 +1,12 @@
 -- What a loop over the statuses or over the events has made.
-use Rattle.std.proofs.Common.{◌≡◌, ℕ, zero, suc, ◌+◌, ◌<◌, List, [], ◌∷◌, ◌++◌, length, refl, sym, ap, ◌∙◌, subst, arith, get_or, inl, inr}
-use Rattle.std.specs.Prelude.{All, Vec, map}
-use Rattle.std.specs.Global.{Global}
+use Rattle.std.proofs.Common.{◌≡◌, ℕ, zero, suc, ◌+◌, ◌<◌, List, [], ◌∷◌, ◌++◌, length, refl, sym, ap, ◌∙◌, arith, get_or, inl, inr}
+use Rattle.std.specs.Prelude.{All, map}
 use Rattle.std.proofs.lemmas.Bool.{cases_eq, cases_lt}
-use Rattle.std.proofs.lemmas.List.{get_or_default, length-append, get_or_push, map-append, length-map, get_or_past}
+use Rattle.std.proofs.lemmas.List.{get_or_default, length-append, get_or_push, length-map, get_or_past}
 use Rattle.std.proofs.lemmas.List.Elements.{All-push}
-use Rattle.dep_state.specs.Deps.{rows_of}
 use Rattle.armus_base.specs.declared.event.Event.{Event}
 use Rattle.armus_base.specs.declared.status.Status.{Status}
-use Rattle.dep_state.specs.Made.{IsEventsOf, IsPlacesOf, IsImpedersOf, IsImpederRow}
+use Rattle.dep_state.specs.Made.{IsEventsOf, IsPlacesOf, IsImpedersOf}
 use Rattle.armus_base.specs.Statuses.{IsInOrder}
 use Rattle.dep_state.proofs.TaskPlaces.{element}
 use Rattle.dep_state.proofs.EventPlaces.{one_place_of_event}
@@ -35,22 +33,6 @@ module _ (ss : List Status) (es : List Event) (n : ℕ) where
           | inr ne ↦ ap (λ i. get_or es i e) (left_of places (at ∷ []) k 0 (omega (arith, h.sized))) ∙ h.there k v e (omega arith)
         ];
       }
-
-  pub impeders_more :
-      (rows : List (Vec ℕ Global)) (row : Vec ℕ Global) → IsImpedersOf ss es n (rows_of rows) → n < length es →
-      (o : Event) → IsImpederRow ss (get_or es n o) (length ss) row.items → IsImpedersOf ss es (n + 1) (rows_of (rows ++ row ∷ []))
-  impeders_more rows row h lt o r =
-      let e : rows_of (rows ++ row ∷ []) ≡ rows_of rows ++ row.items ∷ [] = map-append (λ v. v.items) rows (row ∷ []) in
-      rw e (record {
-        sized = omega (arith, length-append (rows_of rows) (row.items ∷ []), h.sized);
-        each = λ k d in'. elim (cases_eq k n) [
-          | inl same ↦
-              let p : get_or (rows_of rows ++ row.items ∷ []) k [] ≡ row.items = get_or_push (rows_of rows) row.items [] k (h.sized ∙ sym same) in
-              let q : get_or es n o ≡ get_or es k d = get_or_default es n o d lt ∙ ap (λ i. get_or es i d) (sym same) in
-              rw p (subst (λ x. IsImpederRow ss x (length ss) row.items) q r)
-          | inr ne ↦ rw (left_of (rows_of rows) (row.items ∷ []) k [] (omega (arith, h.sized))) (h.each k d (omega arith))
-        ];
-      })
 
 some_event : (es : List Event) (i : ℕ) → i < length es → Event
 some_event [] i lt = absurd (omega arith)
@@ -102,6 +84,3 @@ deps_of ss d ok tasks events places rows =
       awaits = λ k s e lt. places.there k s e lt;
       impeders = λ i k e s lt lt'. (rows.each i e lt).exact k s lt';
     }
-
-pub impeders_none : (ss : List Status) (es : List Event) → IsImpedersOf ss es 0 []
-impeders_none ss es = record { sized = refl; each = λ i e lt. absurd (omega arith) }

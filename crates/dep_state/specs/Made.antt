@@ -1,5 +1,5 @@
 -- What is made of a list of statuses.
-use Rattle.std.specs.Prelude.{◌≡◌, ◌↔◌, ◌⊎◌, ℕ, ◌+◌, ◌-◌, ◌<◌, ◌≤◌, List, [], length, All, AllPairs, Contains, slice_index, slice_index_or}
+use Rattle.std.specs.Prelude.{◌≡◌, ◌↔◌, ◌⊎◌, ℕ, ◌+◌, ◌-◌, ◌<◌, ◌≤◌, List, [], ◌∷◌, ◌++◌, length, All, AllPairs, Contains, slice_index, slice_index_or}
 use Rattle.armus_base.specs.declared.event.Event.{Event}
 use Rattle.armus_base.specs.declared.status.Member.{Member}
 use Rattle.armus_base.specs.declared.status.Status.{Status}
@@ -30,19 +30,26 @@ pub record IsDistinctOf (all es : List Event) : Type 0 where
   pub exact : (e : Event) → Contains es e ↔ Contains all e
   pub few : length es ≤ length all
 
--- there are n phases at least, and the first n are of phasers below the event's
-pub record AreBelow (ms : List Member) (n : ℕ) (e : Event) : Type 0 where
-  pub inside : n ≤ length ms
-  pub below : (j : ℕ) (m : Member) → j < n → (slice_index_or ms j m).p.0 < e.p.0
+-- the event is of the phase's phaser, and at a later phase
+abbrev pub IsPhaseBelow : Member → Event → Type 0
+IsPhaseBelow m e = (m.p ≡ e.p) × (m.n < e.n)
 
--- the phase at n, if there is one, is of a phaser that is not below the event's
-abbrev pub IsReached : List Member → ℕ → Event → Type 0
-IsReached ms n e = (m : Member) → n < length ms → e.p.0 ≤ (slice_index_or ms n m).p.0
+-- the event at a place
+abbrev pub event_at : List Event → ℕ → Event
+event_at es i = slice_index_or es i (record { p = record { 0 = 0 }; n = 0 })
 
--- for each status a place among its phases, with only phasers below the event's ahead of it
-pub record AreBehind (ss : List Status) (ats : List ℕ) (e : Event) : Type 0 where
-  pub sized : length ats ≡ length ss
-  pub each : (k : ℕ) (s : Status) → k < length ss → AreBelow (slice_index_or ss k s).phases (slice_index ats k) e
+-- the first n events are not after the given one, and the others are
+pub record IsFirstAfter (es : List Event) (e : Event) (n : ℕ) : Type 0 where
+  pub inside : n ≤ length es
+  pub ahead : (j : ℕ) → j < n → NotAfter (event_at es j) e
+  pub from : (j : ℕ) → n ≤ j → j < length es → NotAfter (event_at es j) e → ⊥
+
+-- each row at an index of which P is true has k as one more element at its end, and each other row is as it was
+pub record IsAdded (P : ℕ → Type 0) (k : ℕ) (old new : List (List ℕ)) : Type 0 where
+  pub sized : length new ≡ length old
+  pub each :
+      (i : ℕ) → i < length old →
+      (P i × (slice_index_or new i [] ≡ slice_index_or old i [] ++ k ∷ [])) ⊎ ((P i → ⊥) × (slice_index_or new i [] ≡ slice_index_or old i []))
 
 -- the events that the statuses await, ascending without repeats
 pub record IsEventsOf (ss : List Status) (es : List Event) : Type 0 where

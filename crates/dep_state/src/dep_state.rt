@@ -35,8 +35,7 @@ impl Model for DepState {
 }
 
 impl DepState {
-    /// The relations of the statuses. Each event looks at each status once, so the time grows with statuses times events, and with the size
-    /// of the relation between events and tasks.
+    /// The relations of the statuses. The time is near linear in the size of the statuses and of the relation between events and tasks.
     pub fn of(alloc: Global, list: &[Status]) -> Result<DepState, NoMemory>
         requires { IsInOrder list.now }
         ensures { IfOk result (IsDepsOf list.now) }

@@ -1,71 +1,90 @@
-// Which tasks impede an event: each status keeps a place among its phases, which goes on from event to event.
-ghost use Rattle.std.specs.Prelude.{◌≡◌, ◌↔◌, ◌<◌, length, IsTrue, IfOk, AllPairs};
+// Which tasks impede each event: each task in turn is put into the rows of the events that it impedes, so the rows ascend.
+ghost use Rattle.std.specs.Prelude.{◌≡◌, ◌<◌, ◌^◌, [], length, replicate, IfOk, OnOk, AllPairs, MatchBool};
 ghost use Rattle.armus_base.specs.Statuses.{Impedes, IsInOrder};
 ghost use Rattle.dep_state.specs.Deps.{IsBefore, rows_of};
-ghost use Rattle.dep_state.specs.Made.{AreBelow, AreBehind, IsReached, IsImpederRow, IsImpedersOf};
+ghost use Rattle.dep_state.specs.Made.{NotAfter, IsFirstAfter, IsPhaseBelow, IsAdded, IsImpedersOf, event_at};
 
 use armus_base::{Event, Member, Status};
 use std::alloc::{AllocError, Global};
 
-// Goes on from a place among phases, past those of phasers below the event's.
-fn past(phases: &[Member], from: usize, event: Event) -> usize
-    requires { AreBelow phases.now from event }
-    ensures below { AreBelow phases.now result event }
-    ensures reached { IsReached phases.now result event }
+// Whether an event is before another, or equal to it.
+fn is_not_after(a: Event, b: Event) -> bool
+    ensures { MatchBool result (NotAfter a b) (¬ NotAfter a b) }
 {
-    let mut at = from;
-    'walk: while at < phases.len() && phases[at].p.0 < event.p.0 {
-        at += 1;
+    a.p.0 < b.p.0 || (a.p.0 == b.p.0 && a.n <= b.n)
+}
+
+// The place of the first event after a given one, which need not stand there.
+fn first_after(events: &[Event], event: Event) -> usize
+    requires { AllPairs IsBefore events.now }
+    ensures { IsFirstAfter events.now event result }
+{
+    events.partition_point(|other| is_not_after(*other, event))
+}
+
+// Puts a number at the end of a row.
+fn push_to(rows: &mut Vec<Vec<u32>>, i: usize, k: u32) -> Result<(), AllocError>
+    requires { i < length rows.old.items }
+    ensures { OnOk result (IsAdded (λ j. j ≡ i) k (rows_of rows.old.items) (rows_of rows.new.items)) }
+{
+    rows[i].push(k)?;
+    Ok(())
+}
+
+// Puts a task into the row of each event that one of its phases impedes: the events of its phaser from the first later one on.
+fn add_phase(
+    rows: &mut Vec<Vec<u32>>,
+    events: &[Event],
+    member: Member,
+    k: u32,
+) -> Result<(), AllocError>
+    requires ordered { AllPairs IsBefore events.now }
+    requires sized { length rows.old.items ≡ length events.now }
+    ensures { OnOk result (IsAdded (λ i. IsPhaseBelow member (event_at events.now i)) k (rows_of rows.old.items) (rows_of rows.new.items)) }
+{
+    let phase = Event {
+        p: member.p,
+        n: member.n,
+    };
+    let mut i = first_after(events, phase);
+    'run: while i < events.len() && events[i].p.0 == member.p.0 {
+        push_to(rows, i, k)?;
+        i += 1;
     }
-    at
+    Ok(())
 }
 
-// Whether a phase is one of the event's phaser and below the event.
-fn lies_below(member: Member, event: Event) -> bool
-    ensures { IsTrue result ↔ ((member.p ≡ event.p) × (member.n < event.n)) }
-{
-    member.p == event.p && member.n < event.n
-}
-
-// Whether the task of the status impedes the event, by the first phase of a phaser not below the event's.
-fn impedes_at(status: &Status, at: usize, event: Event) -> bool
+// Puts a task into the row of each event that it impedes.
+fn add_task(
+    rows: &mut Vec<Vec<u32>>,
+    events: &[Event],
+    status: &Status,
+    k: u32,
+) -> Result<(), AllocError>
     requires ascends { AllPairs (λ c d. c.p.0 < d.p.0) status.now.phases }
-    requires below { AreBelow status.now.phases at event }
-    requires reached { IsReached status.now.phases at event }
-    ensures { IsTrue result ↔ Impedes status.now event }
+    requires ordered { AllPairs IsBefore events.now }
+    requires sized { length rows.old.items ≡ length events.now }
+    ensures { OnOk result (IsAdded (λ i. Impedes status.now (event_at events.now i)) k (rows_of rows.old.items) (rows_of rows.new.items)) }
 {
-    let phases = status.phases.as_slice();
-    if at == phases.len() {
-        return false;
+    for member in status.phases.as_slice() {
+        add_phase(rows, events, *member, k)?;
     }
-    lies_below(phases[at], event)
+    Ok(())
 }
 
-// The places of the tasks that impede an event, ascending; the places among their phases go on to the event's phaser.
-fn impeders(
-    alloc: Global,
-    list: &[Status],
-    ats: &mut Vec<usize>,
-    event: Event,
-) -> Result<Vec<u32>, AllocError>
-    requires order { IsInOrder list.now }
-    requires behind { AreBehind list.now ats.old.items event }
-    ensures row { IfOk result (λ row. IsImpederRow list.now event (length list.now) row.items) }
-    ensures behind { AreBehind list.now ats.new.items event }
+// Rows with nothing in them.
+fn empty_rows(alloc: Global, count: usize) -> Result<Vec<Vec<u32>>, AllocError>
+    ensures { IfOk result (λ rows. rows_of rows.items ≡ replicate count []) }
 {
-    let mut row = Vec::new(alloc);
-    for k in 0..list.len() {
-        let status = &list[k];
-        let at = past(status.phases.as_slice(), ats[k], event);
-        ats[k] = at;
-        if impedes_at(status, at, event) {
-            row.push(k as u32)?;
-        }
+    let mut rows = Vec::with_capacity(alloc, count)?;
+    for _ in 0..count {
+        rows.push(Vec::new(alloc))?;
     }
-    Ok(row)
+    Ok(rows)
 }
 
-/// The places of the tasks that impede each event: one walk over the phases of each status, in statuses times events and phases steps.
+/// The places of the tasks that impede each event: a binary search among the events for each phase, and a step for each event that a task
+/// impedes.
 pub fn all_impeders(
     alloc: Global,
     list: &[Status],
@@ -75,11 +94,9 @@ pub fn all_impeders(
     requires ordered { AllPairs IsBefore events.now }
     ensures { IfOk result (λ rows. IsImpedersOf list.now events.now (length events.now) (rows_of rows.items)) }
 {
-    let mut ats = vec![in alloc; 0usize; list.len()]?;
-    let mut rows = Vec::new(alloc);
-    for i in 0..events.len() {
-        let row = impeders(alloc, list, &mut ats, events[i])?;
-        rows.push(row)?;
+    let mut rows = empty_rows(alloc, events.len())?;
+    for k in 0..list.len() {
+        add_task(&mut rows, events, &list[k], k as u32)?;
     }
     Ok(rows)
 }

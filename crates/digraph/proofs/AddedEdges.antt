@@ -1,10 +1,10 @@
 -- Edges that are added one after another.
-use Rattle.std.proofs.Common.{◌≡◌, ℕ, ◌+◌, ◌<◌, List, [], ◌∷◌, ◌++◌, length, refl, sym, subst, replicate, ◌⊎◌, inl, inr, arith, get_or, take}
+use Rattle.std.proofs.Common.{◌≡◌, ℕ, ◌+◌, ◌<◌, List, [], ◌∷◌, ◌++◌, length, refl, sym, subst, replicate, ◌⊎◌, inl, inr, arith, get_or, take, drop}
 use Rattle.std.specs.Prelude.{Contains, ◌↔◌}
 use Rattle.std.proofs.lemmas.Bool.{cases_eq, cases_lt}
-use Rattle.std.proofs.lemmas.List.{take_more, get_or-replicate, get_or_past, length-replicate}
+use Rattle.std.proofs.lemmas.List.{take_more, get_or-replicate, get_or_past, length-replicate, take-append-drop}
 use Rattle.std.proofs.lemmas.List.Elements.{Contains-append_left, Contains-push, Contains-push_cases}
-use Rattle.digraph.specs.Graph.{HasEdge, AddsEdge}
+use Rattle.digraph.specs.Graph.{HasEdge, AddsEdge, AddsSomeEdges}
 use Rattle.armus_base.proofs.Elements.{nothing_in_nil}
 
 module _ (old mid now : List (List ℕ)) (from : ℕ) (to : List ℕ) (n : ℕ) (lt : n < length to) where
@@ -121,3 +121,16 @@ later_more Old mid now row m n inv adds x y = (
     ]
   ]),
 )
+
+-- what was added by a loop that was cut off
+pub some_more :
+    (old now : List (List ℕ)) (from : ℕ) (to : List ℕ) (n : ℕ) → ((i j : ℕ) → HasEdge now i j ↔ (HasEdge old i j ⊎ ((i ≡ from) × Contains (take n to) j))) →
+    AddsSomeEdges old now from to
+some_more old now from to n inv =
+    record {
+      kept = λ i j h. (inv i j).1 (inl h);
+      within = λ i j h. elim ((inv i j).0 h) [
+        | inl l ↦ inl l
+        | inr r ↦ inr (r.0, subst (λ xs. Contains xs j) (take-append-drop n to) (Contains-append_left (take n to) (drop n to) j r.1))
+      ];
+    }

@@ -52,3 +52,8 @@ pub record AddsEdge (old now : List (List ℕ)) (a b : ℕ) : Type 0 where
 pub record AddsEdges (old now : List (List ℕ)) (a : ℕ) (list : List ℕ) : Type 0 where
   pub nodes : length now ≡ length old
   pub edges : (x y : ℕ) → HasEdge now x y ↔ (HasEdge old x y ⊎ ((x ≡ a) × Contains list y))
+
+-- the graph now has the edges that it had, and no others but some from a to nodes of a list
+pub record AddsSomeEdges (old now : List (List ℕ)) (a : ℕ) (list : List ℕ) : Type 0 where
+  pub kept : (x y : ℕ) → HasEdge old x y → HasEdge now x y
+  pub within : (x y : ℕ) → HasEdge now x y → HasEdge old x y ⊎ ((x ≡ a) × Contains list y)

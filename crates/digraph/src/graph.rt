@@ -2,7 +2,7 @@
 ghost use Rattle.std.specs.Prelude.{◌≡◌, ◌<◌, ℕ, [], length, replicate, All, IfOk, OnOk, OnErr, MatchBool, MatchOption};
 ghost use Rattle.armus_base.specs.Counts.{IsCount};
 ghost use Rattle.armus_base.specs.Relations.{ReachesCycle, IsWalkCycle};
-ghost use Rattle.digraph.specs.Graph.{TellsCycles, HasEdge, AddsEdge, AddsEdges};
+ghost use Rattle.digraph.specs.Graph.{TellsCycles, HasEdge, AddsEdge, AddsEdges, AddsSomeEdges};
 ghost use Rattle.digraph.specs.Cycle.{IsStep};
 
 use crate::cycle::walk_cycle;
@@ -58,12 +58,13 @@ impl Digraph {
         Ok(fresh)
     }
 
-    /// Adds an edge from `a` to each node of a list. After `NoMemory` some of them may have been added.
+    /// Adds an edge from `a` to each node of a list. After `NoMemory` some of them may have been added, and the edges that were there still are.
     pub fn add_all(&mut self, a: u32, list: &[u32]) -> Result<(), NoMemory>
         requires from { a < length self.old }
         requires to { All (λ b. b < length self.old) list.now }
         ensures nodes { length self.new ≡ length self.old }
         ensures edges { OnOk result (AddsEdges self.old self.new a list.now) }
+        ensures err { OnErr result (AddsSomeEdges self.old self.new a list.now) }
     {
         for b in list {
             let _ = self.add(a, *b)?;

@@ -1,1 +1,9 @@
 pub mod Loads
+pub mod Chains
+pub mod Standing
+pub mod Farther
+pub mod Telling
+pub mod Counting
+pub mod Tables
+pub mod Keeping
+pub mod Collecting

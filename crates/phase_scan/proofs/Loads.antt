@@ -1,14 +1,15 @@
 -- What loads leave as it was, and what they make longer.
-use Rattle.std.proofs.Common.{◌≡◌, ◌≢◌, ℕ, zero, suc, ◌<◌, ◌≤◌, Bool, true, Option, Some, None, length, sym, refl, ap, ◌∙◌, subst, arith, inl, inr, ◌⊎◌, eq-eqb}
-use Rattle.std.specs.Prelude.{if◌then◌else◌, ◌&&◌}
+use Rattle.std.proofs.Common.{◌≡◌, ◌≢◌, ℕ, zero, suc, ◌<◌, ◌≤◌, ◌+◌, Bool, true, false, Option, Some, None, length, sym, refl, ap, ◌∙◌, subst, arith, inl, inr, ◌⊎◌, eq-eqb}
+use Rattle.std.specs.Prelude.{if◌then◌else◌, ◌&&◌, ◌==◌}
 use Rattle.std.proofs.lemmas.Bool.{cases_eq}
 use Rattle.armus_base.specs.declared.event.Event.{Event}
 use Rattle.armus_base.specs.Plans.{Plan, action_at}
-use Rattle.armus_base.specs.States.{IsReached, awaited, event_on}
+use Rattle.armus_base.specs.States.{IsReached, State, awaited, event_on}
 use Rattle.armus_base.specs.Runs.{IsPrefix, Place, Precedes, first_place}
-use Rattle.armus_base.specs.Places.{members_below, phases_after, published_after}
+use Rattle.armus_base.specs.Places.{members_below, phases_after, phases_at_place, published_after}
 use Rattle.armus_base.specs.CheckedPlans.{IsCheckedPlan}
-use Rattle.armus_base.specs.Seats.{IsAsFarOn, IsPlaceOf, is_not_behind, own_event, scanned_after}
+use Rattle.armus_base.specs.Boards.{IsLawful}
+use Rattle.armus_base.specs.Seats.{Found, IsAsFarOn, IsLongestPrefix, IsPlaceOf, await_word, is_not_behind, own_event, scanned_after}
 use Rattle.armus_base.proofs.Codes.{event_on_is}
 use Rattle.armus_base.proofs.Published.{published_after_is}
 use Rattle.armus_base.proofs.Places.{precedes_itself, precedes_trans}
@@ -16,7 +17,9 @@ use Rattle.armus_base.proofs.LawfulPlaces.{lawful_places_are_of}
 use Rattle.armus_base.proofs.AllScannedIsReached.{all_scanned_is_reached}
 use Rattle.armus_base.proofs.BoardRuns.{lawful_is_reachable}
 use Rattle.board.specs.Views.{avoids, seen}
-use Rattle.board.specs.Seats.{AnswersPhase, IsSeat, Known, event_of}
+use Rattle.board.specs.Words.{found_in}
+use Rattle.board.specs.Steps.{IsSameSeat, WasSo}
+use Rattle.board.specs.Seats.{AnswersAwait, AnswersPhase, IsSeat, Known, event_of}
 use Rattle.board.proofs.Ranges.{phaser_of_member}
 use Rattle.board.proofs.Loaded.{event_stays}
 use Rattle.phase_scan.specs.Looks.{GoesOn, InEachLawful}
@@ -53,7 +56,7 @@ prefix_place b plan t a c place before = by_parts c.dropped refl a.dropped refl 
     }
 
 -- the phaser on which a task is published is one of the plan
-published_phaser : (plan : Plan) → IsCheckedPlan plan → (t k : ℕ) (e : Event) → published_after plan t k ≡ Some e → e.p.0 < length plan.makers
+pub published_phaser : (plan : Plan) → IsCheckedPlan plan → (t k : ℕ) (e : Event) → published_after plan t k ≡ Some e → e.p.0 < length plan.makers
 published_phaser plan checked t k e published =
     let is = published_after_is plan t k e published in
     let now : published_after plan t (suc is.0) ≡ Some e = ap (published_after plan t) (sym is.1) ∙ published in
@@ -76,35 +79,149 @@ event_phaser k e seat is =
     let t = own_of_event k e is in
     published_phaser k.view.plan seat.checked t.0 ((seen k.view).places t.0).done e (published_here k e t.0 t.1 is)
 
--- no place gets shorter by a load of a phase word
-load_later :
-    (k m : Known) (t p : ℕ) (answer : Option ℕ) → IsSeat k → t < length k.view.plan.parents → AnswersPhase t p answer k m → (u : ℕ) →
-    IsPrefix ((seen k.view).places u) ((seen m.view).places u)
-load_later k m t p answer seat small load u = elim (first_or_not ((seen k.view).places t)) [
-  | inl first ↦ stays u (load.load.seen_now.empty first u)
-  | inr n ↦ elim (cases_eq u t) [
-    | inl e ↦
-        subst (λ x. IsPrefix ((seen k.view).places x) ((seen m.view).places x)) (sym e)
-        ((load.load.seen_now.place n).here.longest ((seen k.view).places t)
-        (prefix_place (avoids k.view.mode) k.view.plan t (load.load.was.places t) ((seen k.view).places t)
-        (lawful_places_are_of (avoids k.view.mode) k.view.plan load.load.was.places load.load.was.lock t seat.checked load.load.was.lawful)
-        (load.load.was.before_far.later t small))
-        (λ b place earlier means. earlier))
-    | inr ne ↦ stays u ((load.load.seen_now.place n).others u ne)
-  ]
-]
-  where
-    stays : (u : ℕ) → (seen m.view).places u ≡ (seen k.view).places u → IsPrefix ((seen k.view).places u) ((seen m.view).places u)
-    stays u same = subst (IsPrefix ((seen k.view).places u)) (sym same) (precedes_itself ((seen k.view).places u).done ((seen k.view).places u).dropped)
+-- the longest place that all places with a meaning have in common, from one on, is at or after that one
+pub longest_later :
+    (b : Bool) (plan : Plan) → IsCheckedPlan plan → (t : ℕ) (Means : Place → Type 0) (before now : Place) (a : ℕ → Place) (lock : Option ℕ) →
+    IsLawful b plan a lock → IsPrefix before (a t) → IsLongestPrefix b plan t Means before now → IsPrefix before now
+longest_later b plan checked t Means before now a lock lawful earlier longest =
+    longest.longest before (prefix_place b plan t (a t) before (lawful_places_are_of b plan a lock t checked lawful) earlier)
+    (λ c place later means. later)
 
--- a seat that has published goes on by a load of a phase word
-pub goes_next :
-    (a k m : Known) (e : Event) (t p : ℕ) (answer : Option ℕ) → GoesOn a k → event_of k ≡ Some e → t < length k.view.plan.parents → AnswersPhase t p answer k m → GoesOn a m
-goes_next a k m e t p answer goes is small load =
-    let own = own_of_event k e is in
-    let s = load.load.same in
+-- one load of a word of task t
+pub record IsLoadOf (t : ℕ) (k m : Known) : Type 0 where
+  pub table : m.table ≡ k.table
+  pub same : IsSameSeat k.view m.view
+  pub later : (u : ℕ) → IsPrefix ((seen k.view).places u) ((seen m.view).places u)
+  pub others : (u : ℕ) → u ≢ t → (seen m.view).places u ≡ (seen k.view).places u
+  pub exact : (u : ℕ) → (seen m.view).exact u ≡ (seen k.view).exact u
+  pub here : (u : ℕ) → (seen k.view).exact u ≡ true → (seen m.view).places u ≡ (seen k.view).places u
+  pub scanned : (seen k.view).scanned ≤ (seen m.view).scanned
+  pub loads : m.view.loads ≡ k.view.loads + 1
+  pub event : event_of m ≡ event_of k
+  pub first : IsSeat k
+  pub kept : IsSeat m
+
+-- what is a seat after a load was one before it
+seat_before :
+    (k m : Known) → IsSeat m → IsSameSeat k.view m.view → ((u : ℕ) → (seen m.view).exact u ≡ (seen k.view).exact u) →
+    (seen k.view).scanned ≤ (seen m.view).scanned → IsSeat k
+seat_before k m seat same exact scanned =
     record {
-      table = load.table ∙ goes.table;
+      live = sym same.spent ∙ seat.live;
+      checked = subst IsCheckedPlan same.plan seat.checked;
+      count = sym same.count ∙ seat.count ∙ ap (λ (q : Plan). length q.parents) same.plan;
+      few = (let few = seat.few in let count = ap (λ (q : Plan). length q.parents) same.plan in omega arith);
+      own = λ u e.
+          let o = seat.own u (same.own ∙ e) in
+          (subst (λ (q : Plan). u < length q.parents) same.plan o.0, sym (exact u) ∙ o.1);
+    }
+
+-- what each load leaves as it was
+module _ (t : ℕ) (k m : Known) (small : t < length k.view.plan.parents) (Holds : State → Type 0) (table : m.table ≡ k.table) (same : IsSameSeat k.view m.view) (exact : (u : ℕ) → (seen m.view).exact u ≡ (seen k.view).exact u) (was : WasSo k.view.plan k.view.mode Holds k.view m.view) (scanned : (seen k.view).scanned ≤ (seen m.view).scanned) (loads : m.view.loads ≡ k.view.loads + 1) (kept : IsSeat m) where
+  first : IsSeat k
+  first = seat_before k m kept same exact scanned
+
+  here_same : (others : (u : ℕ) → u ≢ t → (seen m.view).places u ≡ (seen k.view).places u) (u : ℕ) → (seen k.view).exact u ≡ true → (seen m.view).places u ≡ (seen k.view).places u
+  here_same others u is = elim (cases_eq u t) [
+    | inl e ↦
+        let within : u < length k.view.plan.parents = omega arith in
+        sym (was.now_far.equal u within (exact u ∙ is)) ∙ was.before_far.equal u within is
+    | inr n ↦ others u n
+  ]
+
+  event_same : event_of m ≡ event_of k
+  event_same = by_own k.view.own refl
+    where
+      by_own : (o : Option ℕ) → k.view.own ≡ o → event_of m ≡ event_of k
+      by_own None own =
+          ap (λ o. own_event m.view.plan o (seen m.view)) (same.own ∙ own) ∙ sym (ap (λ o. own_event k.view.plan o (seen k.view)) own)
+      by_own (Some u) own = event_stays k.table m.table k.view m.view u k.view.mode Holds first own same exact was
+
+  -- where all places but that of t stay, and that gets no shorter
+  pub changes_load :
+      ((u : ℕ) → u ≢ t → (seen m.view).places u ≡ (seen k.view).places u) → IsPrefix ((seen k.view).places t) ((seen m.view).places t) →
+      IsLoadOf t k m
+  changes_load others grows =
+      record {
+        table = table;
+        same = same;
+        later = λ u. elim (cases_eq u t) [
+          | inl e ↦ subst (λ x. IsPrefix ((seen k.view).places x) ((seen m.view).places x)) (sym e) grows
+          | inr n ↦
+              subst (IsPrefix ((seen k.view).places u)) (sym (others u n)) (precedes_itself ((seen k.view).places u).done ((seen k.view).places u).dropped)
+        ];
+        others = others;
+        exact = exact;
+        here = here_same others;
+        scanned = scanned;
+        loads = loads;
+        event = event_same;
+        first = first;
+        kept = kept;
+      }
+
+-- a load of an await word
+pub await_load :
+    (k m : Known) (t : ℕ) (answer : Found) → t < length k.view.plan.parents → AnswersAwait t answer k m → IsLoadOf t k m
+await_load k m t answer small answers =
+    let load = answers.load in
+    let scanned : (seen k.view).scanned ≤ (seen m.view).scanned = (let s = load.seen_now.scanned in omega arith) in
+    let exact = load.seen_now.place.exact in
+    let seat = seat_before k m answers.kept load.same exact scanned in
+    changes_load t k m small (λ s. found_in s t ≡ answer) answers.table load.same exact load.was scanned load.loads answers.kept load.seen_now.place.others
+    (longest_later (avoids k.view.mode) k.view.plan seat.checked t (λ b. await_word k.view.plan t b ≡ answer) ((seen k.view).places t) ((seen m.view).places t) load.was.places load.was.lock load.was.lawful
+    (load.was.before_far.later t small) load.seen_now.place.here)
+
+-- no scanned task is lost by a load of a phase word
+more_after : (o : Option Event) (k t p : ℕ) (answer : Option ℕ) → k ≤ scanned_after o k t p answer
+more_after None k t p answer = omega arith
+more_after (Some e) k t p answer = by_test ((e.p.0 == p) && (t == k) && is_not_behind answer e)
+  where
+    by_test : (b : Bool) → k ≤ (if b then suc k else k)
+    by_test true = omega arith
+    by_test false = omega arith
+
+-- a load of a phase word
+pub phase_load :
+    (k m : Known) (t p : ℕ) (answer : Option ℕ) → t < length k.view.plan.parents → AnswersPhase t p answer k m → IsLoadOf t k m
+phase_load k m t p answer small answers =
+    let load = answers.load in
+    let scanned : (seen k.view).scanned ≤ (seen m.view).scanned =
+    subst (λ n. (seen k.view).scanned ≤ n) (sym load.seen_now.scanned) (more_after (own_event k.view.plan k.view.own (seen k.view)) (seen k.view).scanned t p answer) in
+    let exact = load.seen_now.exact in
+    let seat = seat_before k m answers.kept load.same exact scanned in
+    let make = changes_load t k m small (λ s. s.phases t p ≡ answer) answers.table load.same exact load.was scanned load.loads answers.kept in
+    elim (first_or_not ((seen k.view).places t)) [
+      | inl empty ↦
+          make (λ u n. load.seen_now.empty empty u)
+          (subst (IsPrefix ((seen k.view).places t)) (sym (load.seen_now.empty empty t)) (precedes_itself ((seen k.view).places t).done ((seen k.view).places t).dropped))
+      | inr begun ↦
+          make (load.seen_now.place begun).others
+          (longest_later (avoids k.view.mode) k.view.plan seat.checked t (λ b. phases_at_place k.view.plan t b p ≡ answer) ((seen k.view).places t) ((seen m.view).places t) load.was.places load.was.lock load.was.lawful
+          (load.was.before_far.later t small) (load.seen_now.place begun).here)
+    ]
+
+-- a seat that has made no load
+pub goes_itself : (k : Known) → IsSeat k → GoesOn k k
+goes_itself k seat =
+    record {
+      table = refl;
+      same = record { plan = refl; mode = refl; own = refl; holds = refl; spent = refl; count = refl };
+      later = λ u. precedes_itself ((seen k.view).places u).done ((seen k.view).places u).dropped;
+      exact = λ u. refl;
+      here = λ u is. refl;
+      scanned = omega arith;
+      loads = omega arith;
+      event = refl;
+      kept = seat;
+    }
+
+-- a seat goes on, and on
+pub goes_both : (a k m : Known) → GoesOn a k → GoesOn k m → GoesOn a m
+goes_both a k m goes more =
+    let s = more.same in
+    record {
+      table = more.table ∙ goes.table;
       same = record {
         plan = s.plan ∙ goes.same.plan;
         mode = s.mode ∙ goes.same.mode;
@@ -117,12 +234,33 @@ goes_next a k m e t p answer goes is small load =
           let x : Place = (seen a.view).places u in
           let y : Place = (seen k.view).places u in
           let z : Place = (seen m.view).places u in
-          precedes_trans x.done y.done z.done x.dropped y.dropped z.dropped (goes.later u) (load_later k m t p answer goes.kept small load u);
-      exact = λ u. load.load.seen_now.exact u ∙ goes.exact u;
-      loads = (let l = load.load.loads in let g = goes.loads in omega arith);
-      event = event_stays k.table m.table k.view m.view own.0 k.view.mode (λ st. st.phases t p ≡ answer) goes.kept own.1 s load.load.seen_now.exact load.load.was ∙ goes.event;
+          precedes_trans x.done y.done z.done x.dropped y.dropped z.dropped (goes.later u) (more.later u);
+      exact = λ u. more.exact u ∙ goes.exact u;
+      here = λ u is. more.here u (goes.exact u ∙ is) ∙ goes.here u is;
+      scanned = (let x = goes.scanned in let y = more.scanned in omega arith);
+      loads = (let x = goes.loads in let y = more.loads in omega arith);
+      event = more.event ∙ goes.event;
+      kept = more.kept;
+    }
+
+-- by a load
+pub load_goes : (t : ℕ) (k m : Known) → IsLoadOf t k m → GoesOn k m
+load_goes t k m load =
+    record {
+      table = load.table;
+      same = load.same;
+      later = load.later;
+      exact = load.exact;
+      here = load.here;
+      scanned = load.scanned;
+      loads = (let l = load.loads in omega arith);
+      event = load.event;
       kept = load.kept;
     }
+
+pub goes_next :
+    (a k m : Known) (t p : ℕ) (answer : Option ℕ) → GoesOn a k → t < length k.view.plan.parents → AnswersPhase t p answer k m → GoesOn a m
+goes_next a k m t p answer goes small load = goes_both a k m goes (load_goes t k m (phase_load k m t p answer small load))
 
 -- a load of the awaited phaser's word of the task that is scanned next
 pub scans_on :

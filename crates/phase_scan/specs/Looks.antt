@@ -1,5 +1,5 @@
 -- What a look tells.
-use Rattle.std.specs.Prelude.{◌≡◌, ℕ, ◌<◌, ◌≤◌, Option, Some, length}
+use Rattle.std.specs.Prelude.{◌≡◌, ℕ, ◌<◌, ◌≤◌, true, Option, Some, length}
 use Rattle.armus_base.specs.declared.event.Event.{Event}
 use Rattle.armus_base.specs.States.{State, IsReached}
 use Rattle.armus_base.specs.Runs.{Place, IsPrefix}
@@ -12,12 +12,14 @@ use Rattle.board.specs.Seats.{Known, IsSeat, AnswersPhase, event_of}
 use Rattle.phase_scan.specs.declared.answer.Look as answers
 use Rattle.phase_scan.specs.declared.answer.Look.TheVariants as cases
 
--- the seat has made loads alone: no place that it has seen gets shorter, none is lost, and it has published what it had
+-- the seat has made loads alone: no place that it has seen gets shorter, none is lost, no scanned task is, and it has published what it had
 pub record GoesOn (before now : Known) : Type 0 where
   pub table : now.table ≡ before.table
   pub same : IsSameSeat before.view now.view
   pub later : (u : ℕ) → IsPrefix ((seen before.view).places u) ((seen now.view).places u)
   pub exact : (u : ℕ) → (seen now.view).exact u ≡ (seen before.view).exact u
+  pub here : (u : ℕ) → (seen before.view).exact u ≡ true → (seen now.view).places u ≡ (seen before.view).places u
+  pub scanned : (seen before.view).scanned ≤ (seen now.view).scanned
   pub loads : before.view.loads ≤ now.view.loads
   pub event : event_of now ≡ event_of before
   pub kept : IsSeat now

@@ -1,8 +1,12 @@
-//! The ascending scan by which a task passes exactly when its event is reached.
+//! The ascending scan by which a task passes exactly when its event is reached, and the collect of what all tasks await.
 #![tactic(auto)]
 
 mod answer;
+mod cells;
+mod findings;
+mod phase_table;
 mod scan;
 
 pub use answer::Look;
+pub use cells::{Cells, MAX_CELL_TASKS, MAX_CELLS};
 pub use scan::look;

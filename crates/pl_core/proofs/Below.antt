@@ -10,7 +10,9 @@ use Rattle.armus_base.specs.Finals.{given_below, is_event_of, list_below, listed
 use Rattle.armus_base.specs.Places.{some_before}
 use Rattle.armus_base.specs.Plans.{Plan}
 use Rattle.armus_base.specs.States.{Phases, State}
+use Rattle.armus_base.specs.declared.ids.TaskId.{TaskId}
 use Rattle.pl_core.specs.Reading.{is_asked}
+use Rattle.pl_core.specs.Supposed.{with_also}
 use Rattle.pl_core.proofs.Cells.{slice_get-set_same, slice_get-set_other}
 
 pub list_below_more : {A : Type 0} (f : ℕ → A) (n : ℕ) (x : A) (xs : List A) → xs ≡ list_below f n → x ≡ f n → xs ++ x ∷ [] ≡ list_below f (n + 1)
@@ -58,6 +60,11 @@ listed_none asked m p e =
 
 pub listed_unasked : (asked : ℕ → Bool) (m : Phases) (p : ℕ) → asked p ≡ false → listed_phase asked m p ≡ None
 listed_unasked asked m p a = ap (λ b. if b then option_map (λ k. record { p = record { 0 = p }; n = k }) (m p) else None) a
+
+-- to suppose that a task is published changes no phases
+pub phases_also : (s : State) (also : Option (TaskId × Event)) → (with_also s also).phases ≡ s.phases
+phases_also s None = refl
+phases_also s (Some a) = refl
 
 -- what is asked beyond the phasers does not matter
 pub statuses_same :

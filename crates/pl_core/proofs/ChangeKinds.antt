@@ -64,7 +64,7 @@ same_published s t (Drop q) c = refl
 same_published s t (Fork d) c = absurd c
 same_published s t (Await q) c = absurd c
 
-phases_of_state : (s : State) (t : ℕ) (x : Action) → phases_moved s.phases t x ≡ (after s t x).phases
+pub phases_of_state : (s : State) (t : ℕ) (x : Action) → phases_moved s.phases t x ≡ (after s t x).phases
 phases_of_state s t (Makes p) = refl
 phases_of_state s t (Registers c p) = refl
 phases_of_state s t (Forks c) = refl

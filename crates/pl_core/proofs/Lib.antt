@@ -11,3 +11,11 @@ pub mod Below
 pub mod AtOp
 pub mod Refusing
 pub mod RefusalKept
+pub mod Ranges
+pub mod Walking
+pub mod WalkSteps
+pub mod WalkOps
+pub mod Stopping
+pub mod WalkEnds
+pub mod WalkBounds
+pub mod WalkDone

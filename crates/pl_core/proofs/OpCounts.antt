@@ -79,3 +79,13 @@ at_least_one (Fork c) = omega arith
 at_least_one (Adv p) = omega arith
 at_least_one (Drop p) = omega arith
 at_least_one (Await p) = omega arith
+
+-- how many actions an op is, as a code of its own
+pub actions_in_is : (op : Op) → length (actions_of (op ∷ [])) ≡ actions_in op
+unfolding actions_in
+actions_in_is (Make p) = refl
+actions_in_is (Reg c p) = refl
+actions_in_is (Fork c) = refl
+actions_in_is (Adv p) = refl
+actions_in_is (Drop p) = refl
+actions_in_is (Await p) = refl

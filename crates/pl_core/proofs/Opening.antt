@@ -77,7 +77,7 @@ module _ (plan : Plan) (checked : IsCheckedPlan plan) where
   zero_is : (t : ℕ) → t ≡ 0 → true ≡ (t == 0)
   zero_is t e = grind (arith, nat_tests)
 
-  kept_first : (n t : ℕ) (task : Task) → slice_get (opening_tasks n) t ≡ Some task → IsKeptOf plan opening t task
+  pub kept_first : (n t : ℕ) (task : Task) → slice_get (opening_tasks n) t ≡ Some task → IsKeptOf plan opening t task
   kept_first n t task e =
       elim (cases_eq t 0) [
         | inl z ↦

@@ -10,3 +10,7 @@ pub mod Views
 pub mod Ops
 pub mod Effects
 pub mod Reading
+pub mod GivenPlaces
+pub mod Stops
+pub mod Walks
+pub mod Supposed

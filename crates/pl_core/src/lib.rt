@@ -5,9 +5,14 @@ mod effect;
 mod phase_table;
 mod place;
 mod stand;
+mod stop;
 mod task;
+mod walk;
 mod world;
 
 pub use place::Place;
 pub use stand::Stand;
 pub use world::World;
+
+#[cfg(test)]
+mod tests;

@@ -5,17 +5,20 @@ ghost use Rattle.armus_base.specs.Plans.{Forks, code_of};
 ghost use Rattle.armus_base.specs.CheckedPlans.{IsCheckedPlan};
 ghost use Rattle.armus_base.specs.Runs.{IsReachable};
 ghost use Rattle.armus_base.specs.States.{IsActive, IsMember, IsReached, event_on};
-ghost use Rattle.pl_core.specs.Worlds.{state_of, places_of, next_action, IsOpening};
+ghost use Rattle.pl_core.specs.GivenPlaces.{IsAtPlaces};
+ghost use Rattle.pl_core.specs.Worlds.{state_of, places_at, places_of, next_action, IsOpening};
 ghost use Rattle.pl_core.specs.Stands.{StandsSo, IsAtAwaitOf, IsReady, IsEnabled, MayGoOn, AreAhead, IsFirstBehind};
 ghost use Rattle.pl_core.specs.Moves.{MakesRefusal, MakesStep};
 ghost use Rattle.armus_base.specs.Finals.{end_of, final_of, given_below, is_awaited, list_below, listed_phase, statuses_of, statuses_on};
 ghost use Rattle.pl_core.specs.Ops.{action_of, ChangesPhases};
 ghost use Rattle.pl_core.specs.Reading.{is_asked};
+ghost use Rattle.pl_core.specs.Supposed.{if_published, with_also};
 ghost use Rattle.pl_core.specs.Tasks.{IsAtOp};
 
 use crate::effect::move_phases;
 use crate::phase_table::PhaseTable;
 use crate::task::{Task, first_tasks, op_at, task_at};
+use crate::walk::Walk;
 use crate::{Place, Stand};
 use armus_base::{
     Event, Final, List, Member, NoMemory, Op, Phase, PhaserId, Plan, Status, TaskEnd, TaskId,
@@ -55,6 +58,20 @@ impl<'p> World<'p> {
             plan,
             tasks,
             phases,
+        })
+    }
+
+    /// The state in which each task stands at its place of `places`: one place for each task, and a legal run has to lead to them.
+    pub fn at(alloc: Global, plan: &'p Plan, places: &[Place]) -> Result<World<'p>, NoMemory>
+        requires one_each { length places.now ≡ length plan.now.parents }
+        requires reachable { IsReachable plan.now (places_at plan.now places.now) }
+        ensures at { IfOk result (λ world. IsAtPlaces plan.now places.now world) }
+    {
+        let walk = Walk::to_places(alloc, plan, places)?;
+        Ok(World {
+            plan,
+            tasks: walk.tasks,
+            phases: walk.phases,
         })
     }
 
@@ -297,8 +314,31 @@ impl<'p> World<'p> {
     pub fn statuses(&self, alloc: Global) -> Result<List<Status>, NoMemory>
         ensures statuses { IfOk result (λ list. list ≡ statuses_of self.now.plan (state_of self.now)) }
     {
+        self.all_statuses(alloc, None)
+    }
+
+    /// The statuses as they would be if task `t` were published on the event, in order of number.
+    pub fn statuses_if(
+        &self,
+        alloc: Global,
+        t: TaskId,
+        event: Event,
+    ) -> Result<List<Status>, NoMemory>
+        ensures statuses { IfOk result (λ list. list ≡ statuses_of self.now.plan (if_published (state_of self.now) t.0 event)) }
+    {
+        self.all_statuses(alloc, Some((t, event)))
+    }
+
+    // The statuses with all phases, where the pair counts as published too.
+    fn all_statuses(
+        &self,
+        alloc: Global,
+        also: Option<(TaskId, Event)>,
+    ) -> Result<List<Status>, NoMemory>
+        ensures { IfOk result (λ list. list ≡ statuses_of self.now.plan (with_also (state_of self.now) also)) }
+    {
         let asked = vec![in alloc; true; self.plan.phasers() as usize]?;
-        let statuses = self.statuses_on(alloc, &asked)?;
+        let statuses = self.statuses_on(alloc, &asked, also)?;
         Ok(List::from_vec(statuses))
     }
 
@@ -310,7 +350,7 @@ impl<'p> World<'p> {
         ensures reachable { OnOk result (IsReachable self.now.plan (places_of self.now)) }
     {
         let asked = self.awaited_phasers(alloc)?;
-        let blocked = self.statuses_on(alloc, &asked)?;
+        let blocked = self.statuses_on(alloc, &asked, None)?;
         let ends = self.ends(alloc)?;
         Ok(Final {
             ends: List::from_vec(ends),
@@ -326,6 +366,23 @@ impl<'p> World<'p> {
     {
         let task = task_at(&self.tasks, t.0 as usize);
         if task.place.refused { None } else { task.event }
+    }
+
+    // The event on which a task is published, where the pair counts too.
+    fn published_or(&self, u: TaskId, also: Option<(TaskId, Event)>) -> Option<Event>
+        requires task { u.0 < length self.now.plan.parents }
+        ensures { result ≡ (with_also (state_of self.now) also).published u.0 }
+    {
+        match also {
+            Some((t, event)) => {
+                if u.0 == t.0 {
+                    Some(event)
+                } else {
+                    self.published(u)
+                }
+            }
+            None => self.published(u),
+        }
     }
 
     // How a task has ended.
@@ -380,14 +437,19 @@ impl<'p> World<'p> {
         Ok(asked)
     }
 
-    // The statuses with the phases on the asked phasers.
-    fn statuses_on(&self, alloc: Global, asked: &[bool]) -> Result<Vec<Status>, NoMemory>
+    // The statuses with the phases on the asked phasers, where the pair counts as published too.
+    fn statuses_on(
+        &self,
+        alloc: Global,
+        asked: &[bool],
+        also: Option<(TaskId, Event)>,
+    ) -> Result<Vec<Status>, NoMemory>
         requires len { length asked.now ≡ length self.now.plan.makers }
-        ensures { IfOk result (λ list. list.items ≡ statuses_on self.now.plan (state_of self.now) (is_asked asked.now)) }
+        ensures { IfOk result (λ list. list.items ≡ statuses_on self.now.plan (with_also (state_of self.now) also) (is_asked asked.now)) }
     {
         let mut statuses = Vec::new(alloc);
         for t in 0..self.plan.tasks() {
-            match self.published(TaskId(t)) {
+            match self.published_or(TaskId(t), also) {
                 Some(event) => {
                     let phases = self.phases_on(alloc, TaskId(t), asked)?;
                     statuses.push(Status {

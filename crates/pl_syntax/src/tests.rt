@@ -62,10 +62,13 @@ fn first_faults(rt: HostRuntime) {
 
 #[test]
 fn limits_of_a_text(rt: HostRuntime) -> Result<(), Fail> {
-    // 64 braces may be open, and a `{` that cannot stand is so before it is one too many.
+    // 64 braces may be open; a token that cannot stand there is so before a brace is one too many.
     let mut deep = times(rt.alloc(), 64, b"loop 1{")?;
     deep.extend_from_slice(b"{")?;
     assert_eq!(rt; fault(&rt, rt.alloc(), &deep), Some((448, CANNOT_STAND)));
+    let mut deep = times(rt.alloc(), 64, b"loop 1{")?;
+    deep.extend_from_slice(b"loop 1;")?;
+    assert_eq!(rt; fault(&rt, rt.alloc(), &deep), Some((454, CANNOT_STAND)));
     let deep = times(rt.alloc(), 65, b"loop 1{")?;
     assert_eq!(rt; fault(&rt, rt.alloc(), &deep), Some((454, TOO_DEEP)));
     let mut closed = times(rt.alloc(), 64, b"loop 1{")?;

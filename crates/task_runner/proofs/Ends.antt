@@ -8,7 +8,7 @@ use Rattle.armus_base.specs.declared.ending.Final.{Final}
 use Rattle.armus_base.specs.Finals.{final_of}
 use Rattle.armus_base.specs.Plans.{Action, Passes, Plan, Refuses, Drops}
 use Rattle.armus_base.specs.States.{IsActive, Step}
-use Rattle.armus_base.specs.Runs.{HasEnded, IsFinal, IsLegalRun, IsPlain, IsReachable, is_done, is_waiting, next_place, places, state_after}
+use Rattle.armus_base.specs.Runs.{HasEnded, IsFinal, IsLegalRun, IsMaximal, IsPlain, IsReachable, is_done, is_waiting, next_place, places, state_after}
 use Rattle.armus_base.specs.Places.{refused_at}
 use Rattle.armus_base.specs.CheckedPlans.{IsCheckedPlan}
 use Rattle.armus_base.proofs.OneEnd.{one_end}
@@ -87,18 +87,22 @@ module _ (w : WorldValue) (checked : IsCheckedPlan w.plan) (reach : IsReachable 
         | inr l ↦ is_done (no_action w.plan checked t (places_of w t).done l)
       ]
 
-  same_state : state_after reach.steps ≡ state_of w
+  pub same_state : state_after reach.steps ≡ state_of w
   unfolding state_of
   same_state = (reachable_is_fixed w.plan (places_of w) checked reach).0
+
+  -- so the run that leads there is maximal
+  pub maximal_there : IsMaximal w.plan reach.steps
+  maximal_there t forked =
+      subst (λ s. HasEnded w.plan s (places reach.steps t) t) (sym same_state)
+      (subst (λ p. HasEnded w.plan (state_of w) p t) (sym (reach.there t)) (ended t (ap (λ s. s.forked t) (sym same_state) ∙ forked)))
 
   pub is_final : IsFinal w.plan (state_of w)
   is_final =
       record {
         steps = reach.steps;
         run = (reach.run, unrefused_plain w.plan reach.steps reach.run (λ t. ap (λ p. p.dropped) (reach.there t) ∙ undropped_all w plain t));
-        maximal = λ t forked.
-            subst (λ s. HasEnded w.plan s (places reach.steps t) t) (sym same_state)
-            (subst (λ p. HasEnded w.plan (state_of w) p t) (sym (reach.there t)) (ended t (ap (λ s. s.forked t) (sym same_state) ∙ forked)));
+        maximal = maximal_there;
         there = same_state;
       }
 

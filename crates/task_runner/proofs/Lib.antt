@@ -1,3 +1,15 @@
-pub mod Remaining
+pub mod Codes
 pub mod Ends
+pub mod RecordedEnds
+pub mod Remaining
 pub mod Rounds
+pub mod ForkedTasks
+pub mod Left
+pub mod AvoidedSteps
+pub mod AvoidedEnds
+pub mod SerialEnds
+pub mod TwoMakersChecked
+pub mod DeadOrNot
+pub mod NextWorlds
+pub mod SerialExists
+pub mod SerialEndTells

@@ -27,7 +27,7 @@ less_after plan t (p ∷ rest) (suc k) place e l =
     omega arith
 
 -- a task that has a next action has made fewer than it has
-has_left : (plan : Plan) (t k : ℕ) (x : Action) → action_at plan t k ≡ Some x → k < length (actions plan t)
+pub has_left : (plan : Plan) (t k : ℕ) (x : Action) → action_at plan t k ≡ Some x → k < length (actions plan t)
 unfolding action_at
 has_left plan t k x e = slice_get_within (actions plan t) k x e
 

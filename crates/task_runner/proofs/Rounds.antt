@@ -8,14 +8,14 @@ use Rattle.armus_base.proofs.Stepping.{acting_forked}
 use Rattle.pl_core.specs.Stands.{IsEnabled}
 use Rattle.pl_core.specs.Worlds.{IsOpening, WorldValue, state_of}
 use Rattle.pl_core.proofs.Opening.{copy_is}
-use Rattle.task_runner.specs.Turns.{KnowsUnforked, NobodyRefused}
+use Rattle.task_runner.specs.Turns.{TellsForked, NobodyRefused}
 
 -- who may go on is forked
 unforked_stays : (w : WorldValue) (t : ℕ) → (state_of w).forked t ≡ false → IsEnabled w t → ⊥
 unforked_stays w t unforked enabled = absurd (false≢true (sym unforked ∙ acting_forked w.plan (state_of w) t enabled.0 enabled.2))
 
 pub quiet_more :
-    (old new : WorldValue) (forked : List Bool) (t : ℕ) → t < length forked → new ≡ old → KnowsUnforked old forked →
+    (old new : WorldValue) (forked : List Bool) (t : ℕ) → t < length forked → new ≡ old → TellsForked old forked →
     (get_or forked t false ≡ true → IsEnabled new t → ⊥) → ((u : ℕ) → u < t → IsEnabled old u → ⊥) →
     (u : ℕ) → u < t + 1 → IsEnabled old u → ⊥
 quiet_more old new forked t here same knows ended before u l =
@@ -26,7 +26,7 @@ quiet_more old new forked t here same knows ended before u l =
   where
     by_note : (b : Bool) → slice_get forked t ≡ Some b → (b ≡ true → IsEnabled new t → ⊥) → IsEnabled old t → ⊥
     by_note true noted end = subst (λ v. IsEnabled v t → ⊥) same (end refl)
-    by_note false noted end = unforked_stays old t (knows t noted)
+    by_note false noted end = unforked_stays old t (knows t false noted)
 
 -- nobody is refused at first
 pub opening_plain : (plan : Plan) (w : WorldValue) → IsOpening plan w → NobodyRefused w

@@ -1,2 +1,4 @@
 pub mod PlainRuns
+pub mod RecordedRuns
 pub mod Turns
+pub mod AvoidedRuns

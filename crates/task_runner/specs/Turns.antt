@@ -9,9 +9,9 @@ use Rattle.pl_core.specs.Worlds.{WorldValue, state_of}
 abbrev pub NobodyRefused : WorldValue → Type 0
 NobodyRefused w = (t : ℕ) (place : Place) → slice_get w.places t ≡ Some place → place.refused ≡ false
 
--- whoever is not noted is not forked
-abbrev pub KnowsUnforked : WorldValue → List Bool → Type 0
-KnowsUnforked w forked = (t : ℕ) → slice_get forked t ≡ Some false → (state_of w).forked t ≡ false
+-- what is noted of a task says whether it is forked
+abbrev pub TellsForked : WorldValue → List Bool → Type 0
+TellsForked w forked = (t : ℕ) (noted : Bool) → slice_get forked t ≡ Some noted → (state_of w).forked t ≡ noted
 
 -- how many actions the tasks from t on have left
 abbrev pub remaining_from : Plan → ℕ → List Place → ℕ

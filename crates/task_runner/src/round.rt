@@ -1,8 +1,10 @@
 // Rounds of turns in a world.
 ghost use Rattle.std.specs.Prelude.{◌≡◌, ℕ, ◌<◌, ◌≤◌, ◌↔◌, IsTrue, true, false, length};
-ghost use Rattle.pl_core.specs.Worlds.{state_of};
+ghost use Rattle.armus_base.specs.CheckedPlans.{IsCheckedPlan};
+ghost use Rattle.armus_base.specs.Runs.{IsReachable};
+ghost use Rattle.pl_core.specs.Worlds.{places_of, state_of};
 ghost use Rattle.pl_core.specs.Stands.{IsEnabled};
-ghost use Rattle.task_runner.specs.Turns.{NobodyRefused, KnowsUnforked, remaining};
+ghost use Rattle.task_runner.specs.Turns.{NobodyRefused, TellsForked, remaining};
 
 use armus_base::{Gate, Point, TaskId};
 use pl_core::{Stand, World};
@@ -26,10 +28,10 @@ pub(crate) fn round<G: Gate>(
     turns(world, forked, behind, gate)
 }
 
-// Notes which tasks are forked.
-fn mark_forked(world: &World, forked: &mut [bool])
+/// Notes which tasks are forked.
+pub(crate) fn mark_forked(world: &World, forked: &mut [bool])
     requires len { length forked.old ≡ length world.now.plan.parents }
-    ensures forked { KnowsUnforked world.now forked.new }
+    ensures forked { TellsForked world.now forked.new }
 {
     for t in 0..world.plan().tasks() {
         forked[t as usize] = is_forked(world, TaskId(t));
@@ -39,7 +41,7 @@ fn mark_forked(world: &World, forked: &mut [bool])
 // Whether a task is forked.
 fn is_forked(world: &World, t: TaskId) -> bool
     requires task { t.0 < length world.now.plan.parents }
-    ensures { result ≡ false → (state_of world.now).forked t.0 ≡ false }
+    ensures { (state_of world.now).forked t.0 ≡ result }
 {
     match world.stand(t) {
         Stand::Unforked => false,
@@ -49,7 +51,7 @@ fn is_forked(world: &World, t: TaskId) -> bool
 
 // One turn of each noted task, in order of number; answers whether an event happened.
 fn turns<G: Gate>(world: &mut World, forked: &[bool], behind: &mut [u32], gate: &G) -> bool
-    requires forked { KnowsUnforked world.old forked.now }
+    requires forked { TellsForked world.old forked.now }
     requires forked_len { length forked.now ≡ length world.old.plan.parents }
     requires behind_len { length behind.old ≡ length world.old.plan.parents }
     requires plain { NobodyRefused world.old }
@@ -108,10 +110,12 @@ fn turn<G: Gate>(world: &mut World, t: TaskId, behind: &mut u32, gate: &G) -> bo
     moved
 }
 
-// Whether the task may go on; before an op it calls the gate.
-fn may_go_on<G: Gate>(world: &World, t: TaskId, behind: &mut u32, gate: &G) -> bool
+/// Whether the task may go on; before an op it calls the gate.
+pub(crate) fn may_go_on<G: Gate>(world: &World, t: TaskId, behind: &mut u32, gate: &G) -> bool
     requires task { t.0 < length world.now.plan.parents }
     ensures enabled { IsTrue result ↔ IsEnabled world.now t.0 }
+    ensures checked { IsCheckedPlan world.now.plan }
+    ensures reachable { IsReachable world.now.plan (places_of world.now) }
 {
     match world.stand(t) {
         Stand::Ready | Stand::Await(_) => {

@@ -13,14 +13,14 @@ pub returns-in-Some-clause-goes_on : goal.returns-in-Some-clause-goes_on
 returns-in-Some-clause-goes_on c =
     let i = c.loop-number.invariant in
     let count = c.tasks-tasks.ensures.counted ∙ ap (λ (q : Plan). length q.parents) (sym i.made.plan) in
-    goes_next _ c.loop-number.seat _ _ _ _ _ i.goes_on i.event (subst (λ n. c.loop-number.number < n) count c.loop-number-test.true) c.load_phase-found.ensures.answer
+    goes_next _ c.loop-number.seat _ _ _ _ i.goes_on (subst (λ n. c.loop-number.number < n) count c.loop-number-test.true) c.load_phase-found.ensures.answer
 
 pub loop-number-preserved : goal.loop-number-preserved
 loop-number-preserved c =
     let i = c.loop-number.invariant in
     let count = c.tasks-tasks.ensures.counted ∙ ap (λ (q : Plan). length q.parents) (sym i.made.plan) in
     let load = c.load_phase-found.ensures.answer in
-    let goes = goes_next _ c.loop-number.seat c.load_phase-found.new.self _ _ _ _ i.goes_on i.event (subst (λ n. c.loop-number.number < n) count c.loop-number-test.true) load in
+    let goes = goes_next _ c.loop-number.seat c.load_phase-found.new.self _ _ _ i.goes_on (subst (λ n. c.loop-number.number < n) count c.loop-number-test.true) load in
     let on : c.load_phase-found.new.self.view.sight.scanned ≡ suc c.loop-number.number =
     scans_on c.loop-number.seat c.load_phase-found.new.self c.unwrap-event.result c.loop-number.number c.load_phase-found.result i.event i.scanned load c.in_default.ensures in record {
       made = record { table = load.table ∙ i.made.table; plan = load.load.same.plan ∙ i.made.plan; mode = load.load.same.mode ∙ i.made.mode };

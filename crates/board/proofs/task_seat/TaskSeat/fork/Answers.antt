@@ -9,7 +9,7 @@ use Rattle.board.specs.Views.{next_action, place_in, seen}
 use Rattle.board.specs.Seats.{IsNewSeat, IsOf, Known, MakesStep}
 use Rattle.board.specs.Steps.{child, next_view}
 use Rattle.board.proofs.Forking.{forks, unforked}
-use Rattle.board.proofs.Seated.{acts_sitting, child_apart, child_new, child_sitting, makes_step, task_inside}
+use Rattle.board.proofs.Seated.{acts_sitting, child_apart, child_first, child_new, child_sitting, makes_step, task_inside}
 use Rattle.board.proofs.task_seat.TaskSeat.fork.Goals as goal
 use Rattle.board.proofs.task_seat.TaskSeat.fork.Goals.{After-split_seat-place}
 
@@ -94,3 +94,9 @@ returns-clause-child c =
     (child_new _ _ c.split_seat-place.result.table_id c.split_seat-place.result.me.0 c.args.c.0 of t.child_table t.next t.child_is
     (child_sitting c.self.inside.place.table_id c.split_seat-place.result.table_id c.self.inside.place.me.0 c.split_seat-place.result.me.0 _ _ c.args.c.0 _ i t.next t.unseen
     (child_apart _ _ c.args.c.0 i.seat i.task t.next) t.child_is).seat)
+
+pub returns-clause-first : goal.returns-clause-first
+returns-clause-first c =
+    let t = told c in
+    let i = c.self.invariant.sitting in
+    child_first c.self.inside.place.me.0 c.split_seat-place.result.me.0 c.args.c.0 (task_inside _ _ i.seat i.task) t.next t.unseen (child_apart _ _ c.args.c.0 i.seat i.task t.next) t.child_is

@@ -1,6 +1,7 @@
-use Rattle.std.proofs.Common.{arith, ◌∙◌}
+use Rattle.std.proofs.Common.{arith, ◌∙◌, Result, Ok, Err}
 use Rattle.std.proofs.lemmas.List.{take_all}
-use Rattle.digraph.proofs.AddedEdges.{one_more}
+use Rattle.std.specs.Result.{OnErr}
+use Rattle.digraph.proofs.AddedEdges.{one_more, some_more}
 use Rattle.digraph.proofs.graph.Digraph.add_all.Goals as goal
 
 pub loop-b-preserved : goal.loop-b-preserved
@@ -15,3 +16,11 @@ pub returns-clause-edges : goal.returns-clause-edges
 returns-clause-edges c =
     let t = take_all c.loop-b.b-index c.args.list.now (omega arith) in
     record { nodes = c.loop-b.invariant.nodes; edges = rw t at c.loop-b.invariant.edges }
+
+on_err : {E P : Type 0} (r : Result (Unit {0}) E) → P → OnErr r P
+on_err (Ok x) p = tt
+on_err (Err y) p = p
+
+pub returns-in_err-add-clause-err : goal.returns-in_err-add-clause-err
+returns-in_err-add-clause-err c =
+    on_err c.from_residual.result (rw c.in_err-add.ensures.err (some_more c.args.self.now c.loop-b.self c.args.a c.args.list.now c.loop-b.b-index c.loop-b.invariant.edges))

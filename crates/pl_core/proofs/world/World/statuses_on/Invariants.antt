@@ -1,8 +1,9 @@
 use Rattle.std.proofs.Common.{◌≡◌}
 use Rattle.armus_base.specs.Finals.{given_below, status_of}
 use Rattle.pl_core.specs.Reading.{is_asked}
+use Rattle.pl_core.specs.Supposed.{with_also}
 use Rattle.pl_core.specs.Worlds.{state_of}
 use Rattle.pl_core.proofs.world.World.statuses_on.Given as goal
 
 abbrev pub invariant-loop-t : goal.invariant-loop-t
-invariant-loop-t l = l.statuses.items ≡ given_below (status_of l.self.plan (state_of l.self) (is_asked l.asked)) l.t
+invariant-loop-t l = l.statuses.items ≡ given_below (status_of l.self.plan (with_also (state_of l.self) l.also) (is_asked l.asked)) l.t

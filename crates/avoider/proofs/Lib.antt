@@ -1,0 +1,3 @@
+pub mod Supposing
+pub mod NobodyDies
+pub mod SamePlan

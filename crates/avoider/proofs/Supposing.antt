@@ -1,0 +1,58 @@
+-- The state in which a task has published its await, and who is dead by its statuses.
+use Rattle.std.proofs.Common.{◌≡◌, ℕ, ◌<◌, true, Some, length, sym, ◌∙◌, ap, subst, inl, inr}
+use Rattle.std.specs.Prelude.{◌↔◌}
+use Rattle.armus_base.specs.declared.event.Event.{Event}
+use Rattle.armus_base.specs.CheckedPlans.{IsCheckedPlan}
+use Rattle.armus_base.specs.Deadlocks.{IsDeadBy, WouldBeDead}
+use Rattle.armus_base.specs.FinalLaws.{IsOfPlan}
+use Rattle.armus_base.specs.Finals.{statuses_of}
+use Rattle.armus_base.specs.Plans.{Blocks}
+use Rattle.armus_base.specs.Runs.{IsReachable}
+use Rattle.armus_base.specs.States.{after, awaited, updated}
+use Rattle.armus_base.specs.Statuses.{IsInOrder}
+use Rattle.armus_base.proofs.Codes.{event_on_is}
+use Rattle.armus_base.proofs.DeadByStatuses.{dead_by_statuses, run_is_of_plan}
+use Rattle.armus_base.proofs.Reachable.{reachable_is_fixed}
+use Rattle.armus_base.proofs.StatusesAre.{statuses_are}
+use Rattle.armus_base.proofs.Steps.{updated_is}
+use Rattle.pl_core.specs.Stands.{IsAtAwaitOf}
+use Rattle.pl_core.specs.Supposed.{if_published}
+use Rattle.pl_core.specs.Worlds.{WorldValue, next_action, places_of, state_of}
+use Rattle.pl_core.proofs.StepKinds.{awaits_block}
+
+-- who stands at an await of an event goes on with a block of its phaser, which publishes the event
+pub blocks_next : (w : WorldValue) (t : ℕ) (e : Event) → IsAtAwaitOf w t e → next_action w t ≡ Some (Blocks e.p.0)
+blocks_next w t e before =
+    let block = awaits_block (next_action w t) ((state_of w).phases t) e before.1 in
+    let is = event_on_is block.0 ((state_of w).phases t block.0) e block.2 in
+    block.1 ∙ ap (λ p. Some (Blocks p)) (sym is.0)
+
+pub awaits_event : (w : WorldValue) (t : ℕ) (e : Event) → IsAtAwaitOf w t e → awaited (Some (Blocks e.p.0)) ((state_of w).phases t) ≡ Some e
+awaits_event w t e before = ap (λ o. awaited o ((state_of w).phases t)) (sym (blocks_next w t e before)) ∙ before.1
+
+pub supposed_is_after : (w : WorldValue) (t : ℕ) (e : Event) → IsAtAwaitOf w t e → if_published (state_of w) t e ≡ after (state_of w) t (Blocks e.p.0)
+supposed_is_after w t e before =
+    ap (λ o. record (state_of w) { published = updated (state_of w).published t o }) (sym (awaits_event w t e before))
+
+module _ (w : WorldValue) (checked : IsCheckedPlan w.plan) (reach : IsReachable w.plan (places_of w)) (t : ℕ) (task : t < length w.plan.parents) (e : Event) where
+  of_plan : IsOfPlan w.plan (state_of w)
+  unfolding state_of
+  of_plan = subst (IsOfPlan w.plan) (reachable_is_fixed w.plan (places_of w) checked reach).0 (run_is_of_plan w.plan reach.steps checked reach.run)
+
+  pub supposed_of_plan : IsOfPlan w.plan (if_published (state_of w) t e)
+  supposed_of_plan = record {
+    published = λ u f p.
+        elim (updated_is (state_of w).published t u (Some e) (Some f) p) [
+          | inl own ↦ subst (λ v. v < length w.plan.parents) (sym own.0) task
+          | inr other ↦ of_plan.published u f other.1
+        ];
+    member = of_plan.member;
+    phaser = of_plan.phaser;
+  }
+
+  -- the statuses tell whether the task would be dead
+  pub told_by_statuses : IsDeadBy (statuses_of w.plan (if_published (state_of w) t e)) t ↔ WouldBeDead (state_of w) t e
+  told_by_statuses = dead_by_statuses w.plan (if_published (state_of w) t e) t supposed_of_plan
+
+pub supposed_in_order : (w : WorldValue) → IsCheckedPlan w.plan → (t : ℕ) (e : Event) → IsInOrder (statuses_of w.plan (if_published (state_of w) t e))
+supposed_in_order w checked t e = (statuses_are w.plan (if_published (state_of w) t e) (λ p. true) checked).in_order

@@ -1,0 +1,16 @@
+use Rattle.std.proofs.Common.{◌≢◌, ℕ, inr}
+use Rattle.armus_base.specs.Plans.{Blocks}
+use Rattle.avoider.proofs.NobodyDies.{no_block_else, step_kills_nobody}
+use Rattle.avoider.proofs.event.go_on.Goals as goal
+
+pub returns-in_default : goal.returns-in_default
+returns-in_default c =
+    let step = c.step.ensures in
+    let other : (p : ℕ) → step.action ≢ Blocks p =
+    no_block_else c.args.world.now c.args.t.0 c.stand.result c.stand.ensures.stand c.in_default.not-Await step.action step.next step.legal in
+    record {
+      goes_on = inr (record { step = step; other = other });
+      nobody =
+          step_kills_nobody c.args.world.now c.step.new.self c.stand.ensures.checked c.stand.ensures.reachable c.args.t.0 c.requires.nobody step other;
+      same = tt;
+    }

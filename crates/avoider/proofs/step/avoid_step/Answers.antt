@@ -1,0 +1,68 @@
+use Rattle.std.proofs.Common.{◌∙◌, subst, sym}
+use Rattle.armus_base.specs.Deadlocks.{IsDeadBy, WouldBeDead}
+use Rattle.armus_base.specs.Finals.{statuses_of}
+use Rattle.armus_base.specs.Statuses.{IsInOrder}
+use Rattle.pl_core.specs.Supposed.{if_published}
+use Rattle.pl_core.specs.Worlds.{state_of}
+use Rattle.avoider.specs.Decisions.{ExplainsDeath}
+use Rattle.avoider.proofs.NobodyDies.{block_kills_nobody, refusal_kills_nobody}
+use Rattle.avoider.proofs.Supposing.{supposed_in_order, supposed_is_after, told_by_statuses}
+use Rattle.avoider.proofs.step.avoid_step.Goals as goal
+
+pub death_of-requires : goal.death_of-requires
+death_of-requires c =
+    subst IsInOrder (sym (c.as_slice.ensures.items ∙ c.in_ok-list.ensures.statuses))
+    (supposed_in_order c.args.world.now c.event_before-event.ensures.checked c.args.t.0 c.event_before-event.result)
+
+pub returns-in-Some-clause-decision : goal.returns-in-Some-clause-decision
+returns-in-Some-clause-decision c =
+    let w = c.args.world.now in
+    let at = c.event_before-event.ensures in
+    let event = c.event_before-event.result in
+    let list = c.as_slice.ensures.items ∙ c.in_ok-list.ensures.statuses in
+    let death = rw c.in-Some.is at c.in_ok-cycle.ensures in
+    let there : ExplainsDeath (statuses_of w.plan (if_published (state_of w) c.args.t.0 event)) c.args.t.0 c.in-Some.cycle =
+    subst (λ ss. ExplainsDeath ss c.args.t.0 c.in-Some.cycle) list death in
+    record {
+      event = event;
+      before = at.before;
+      dead = (told_by_statuses w at.checked at.reachable c.args.t.0 c.requires.task event).0 there.among;
+      refusal = c.refuse.ensures;
+      cycle =
+          subst (λ s. ExplainsDeath (statuses_of w.plan s) c.args.t.0 c.in-Some.cycle) (supposed_is_after w c.args.t.0 event at.before) there;
+    }
+
+pub returns-in-Some-clause-nobody : goal.returns-in-Some-clause-nobody
+returns-in-Some-clause-nobody c =
+    let at = c.event_before-event.ensures in
+    refusal_kills_nobody c.args.world.now c.refuse.new.self at.checked at.reachable c.args.t.0 c.requires.nobody c.refuse.ensures
+
+pub returns-clause-decision : goal.returns-clause-decision
+returns-clause-decision c =
+    let w = c.args.world.now in
+    let at = c.event_before-event.ensures in
+    let event = c.event_before-event.result in
+    let list = c.as_slice.ensures.items ∙ c.in_ok-list.ensures.statuses in
+    let none = rw c.in-None.is at c.in_ok-cycle.ensures in
+    record {
+      before = at.before;
+      alive = λ would.
+          none
+          (subst (λ ss. IsDeadBy ss c.args.t.0) (sym list)
+          ((told_by_statuses w at.checked at.reachable c.args.t.0 c.requires.task event).1 would));
+      step = c.step.ensures;
+    }
+
+pub returns-clause-nobody : goal.returns-clause-nobody
+returns-clause-nobody c =
+    let w = c.args.world.now in
+    let at = c.event_before-event.ensures in
+    let event = c.event_before-event.result in
+    let list = c.as_slice.ensures.items ∙ c.in_ok-list.ensures.statuses in
+    let none = rw c.in-None.is at c.in_ok-cycle.ensures in
+    let alive : WouldBeDead (state_of w) c.args.t.0 event → ⊥ =
+    λ would.
+    none
+    (subst (λ ss. IsDeadBy ss c.args.t.0) (sym list)
+    ((told_by_statuses w at.checked at.reachable c.args.t.0 c.requires.task event).1 would)) in
+    block_kills_nobody w c.step.new.self at.checked at.reachable c.args.t.0 c.requires.nobody event at.before alive c.step.ensures

@@ -1,0 +1,56 @@
+-- Decisions on an await: what they make of a world, and the cycle of a refusal.
+use Rattle.std.specs.Prelude.{◌≢◌, ℕ, ◌⊎◌, List}
+use Rattle.armus_base.specs.declared.event.Event.{Event}
+use Rattle.armus_base.specs.declared.ids.TaskId.{TaskId}
+use Rattle.armus_base.specs.declared.status.Status.{Status}
+use Rattle.armus_base.specs.DeadLists.{IsDeadList}
+use Rattle.armus_base.specs.Deadlocks.{IsDeadBy, WouldBeDead}
+use Rattle.armus_base.specs.Finals.{statuses_of}
+use Rattle.armus_base.specs.Plans.{Blocks}
+use Rattle.armus_base.specs.States.{after}
+use Rattle.pl_core.specs.Moves.{MakesRefusal, MakesStep}
+use Rattle.pl_core.specs.Stands.{IsAtAwaitOf}
+use Rattle.pl_core.specs.Worlds.{WorldValue, state_of}
+use Rattle.verdict.specs.Cycles.{IsCycleOf}
+use Rattle.verdict.specs.declared.found.Cycle.{Cycle}
+use Rattle.avoider.specs.declared.decision.Decision.{Decision}
+use Rattle.avoider.specs.declared.decision.Decision.TheVariants.{Published, Refused}
+
+-- the task is dead by the statuses, and the cycle is that of the walk from the least of those that are
+pub record ExplainsDeath (list : List Status) (t : ℕ) (c : Cycle) : Type 0 where
+  pub dead : List TaskId
+  pub are_dead : IsDeadList list dead
+  pub among : IsDeadBy list t
+  pub cycle : IsCycleOf list dead c
+
+-- the statuses as they would be if task t had published the event of the await at which it stands
+abbrev pub supposed_statuses : WorldValue → ℕ → Event → List Status
+supposed_statuses w t e = statuses_of w.plan (after (state_of w) t (Blocks e.p.0))
+
+-- task t stood at its await of the event, where it would not be dead, and has published it
+pub record IsPublished (old new : WorldValue) (t : ℕ) (e : Event) : Type 0 where
+  pub before : IsAtAwaitOf old t e
+  pub alive : WouldBeDead (state_of old) t e → ⊥
+  pub step : MakesStep old new t
+
+-- task t stood at an await where it would be dead, as the cycle explains, and has been refused and has left all its phasers
+pub record IsRefused (old new : WorldValue) (t : ℕ) (c : Cycle) : Type 0 where
+  pub event : Event
+  pub before : IsAtAwaitOf old t event
+  pub dead : WouldBeDead (state_of old) t event
+  pub refusal : MakesRefusal old new t
+  pub cycle : ExplainsDeath (supposed_statuses old t event) t c
+
+-- what was decided on the await of task t, and what it made of the world
+abbrev pub IsDecision : WorldValue → WorldValue → ℕ → Decision → Type 0
+IsDecision old new t (Published e) = IsPublished old new t e
+IsDecision old new t (Refused c) = IsRefused old new t c
+
+-- task t has made its next event, which is no block
+pub record MakesOtherEvent (old new : WorldValue) (t : ℕ) : Type 0 where
+  pub step : MakesStep old new t
+  pub other : (p : ℕ) → step.action ≢ Blocks p
+
+-- task t has gone on as a run does that avoids deadlock: by a decision at an await, and else by the next event of its code
+abbrev pub HasGoneOn : WorldValue → WorldValue → ℕ → Type 0
+HasGoneOn old new t = ((d : Decision) × IsDecision old new t d) ⊎ MakesOtherEvent old new t

@@ -1,0 +1,81 @@
+// The step of a task that stands at an await, in a world where nobody is dead.
+ghost use Rattle.std.specs.Prelude.{◌≡◌, ◌<◌, length, IfOk, OnErr, MatchOption};
+ghost use Rattle.armus_base.specs.CheckedPlans.{IsCheckedPlan};
+ghost use Rattle.armus_base.specs.Deadlocks.{IsDeadBy, NobodyDead};
+ghost use Rattle.armus_base.specs.Runs.{IsReachable};
+ghost use Rattle.armus_base.specs.Statuses.{IsInOrder};
+ghost use Rattle.armus_base.specs.declared.event.Event.{Event};
+ghost use Rattle.pl_core.specs.Stands.{IsAtAwaitOf};
+ghost use Rattle.pl_core.specs.Worlds.{places_of, state_of};
+ghost use Rattle.avoider.specs.Decisions.{ExplainsDeath, IsDecision};
+
+use crate::Decision;
+use adaptive::{Wanted, analyse};
+use armus_base::{Event, NoMemory, Status, TaskId};
+use dep_state::task_place;
+use pl_core::{Stand, World};
+use std::alloc::Global;
+use verdict::{Cycle, cycle};
+
+/// Decides on the await at which task `t` stands, in a world where nobody is dead: it is refused exactly where the task would be dead if it were
+/// published, and published otherwise, and nobody is dead after. A refusal has the cycle that a report would show with the task published. No
+/// clause depends on `wanted`, which is the graph that is asked. After `NoMemory` the world is as before.
+pub fn avoid_step(
+    alloc: Global,
+    world: &mut World,
+    t: TaskId,
+    wanted: Wanted,
+) -> Result<Decision, NoMemory>
+    requires task { t.0 < length world.old.plan.parents }
+    requires before { (e : Event) × IsAtAwaitOf world.old t.0 e }
+    requires nobody { NobodyDead (state_of world.old) }
+    ensures decision { IfOk result (IsDecision world.old world.new t.0) }
+    ensures nobody { NobodyDead (state_of world.new) }
+    ensures same { OnErr result (world.new ≡ world.old) }
+{
+    let event = event_before(world, t);
+    let list = world.statuses_if(alloc, t, event)?;
+    match death_of(alloc, list.as_slice(), t, wanted)? {
+        Some(cycle) => {
+            world.refuse(t);
+            Ok(Decision::Refused(cycle))
+        }
+        None => {
+            world.step(t);
+            Ok(Decision::Published(event))
+        }
+    }
+}
+
+// The event of the await at which a task stands.
+fn event_before(world: &World, t: TaskId) -> Event
+    requires task { t.0 < length world.now.plan.parents }
+    requires before { (e : Event) × IsAtAwaitOf world.now t.0 e }
+    ensures before { IsAtAwaitOf world.now t.0 result }
+    ensures checked { IsCheckedPlan world.now.plan }
+    ensures reachable { IsReachable world.now.plan (places_of world.now) }
+{
+    if let Stand::Await(event) = world.stand(t) {
+        event
+    } else {
+        unreachable!()
+    }
+}
+
+// The cycle of the statuses, where the task is dead by them.
+fn death_of(
+    alloc: Global,
+    list: &[Status],
+    t: TaskId,
+    wanted: Wanted,
+) -> Result<Option<Cycle>, NoMemory>
+    requires { IsInOrder list.now }
+    ensures { IfOk result (λ found. MatchOption found (IsDeadBy list.now t.0 → ⊥) (ExplainsDeath list.now t.0)) }
+{
+    let analysis = analyse(alloc, list, wanted)?;
+    let dead = analysis.dead.as_slice();
+    match task_place(dead, t) {
+        Some(_) => cycle(alloc, list, dead),
+        None => Ok(None),
+    }
+}

@@ -1,0 +1,290 @@
+-- What the steps of a task's seat make of what is left of the task's code.
+use Rattle.std.proofs.Common.{◌≡◌, ◌≢◌, ℕ, zero, suc, List, [], ◌∷◌, Option, Some, None, drop, sym, refl, ap, ◌∙◌, subst, false}
+use Rattle.std.specs.Prelude.{IsSome, is_some, slice_get, unwrap_or}
+use Rattle.std.proofs.lemmas.Bool.{false≢true}
+use Rattle.armus_base.specs.declared.event.Event.{Event}
+use Rattle.armus_base.specs.declared.op.Op.{Op}
+use Rattle.armus_base.specs.Plans.{Action, Advances, Blocks, Drops, Forks, Makes, Passes, Plan, Refuses, Registers, action_at, actions, actions_of, code_of}
+use Rattle.armus_base.specs.declared.op.Op.TheVariants.{Adv, Await, Drop, Fork, Make, Reg}
+use Rattle.armus_base.specs.States.{State, awaited, event_at, event_on}
+use Rattle.armus_base.specs.Runs.{Place, first_place, next_place}
+use Rattle.armus_base.specs.Places.{phases_after, published_after}
+use Rattle.armus_base.specs.CheckedPlans.{IsCheckedPlan, IsWellFormed}
+use Rattle.armus_base.specs.Seats.{SeenBy, own_event, seen_after_step, seen_by_child}
+use Rattle.armus_base.proofs.Codes.{child_within, phaser_within}
+use Rattle.armus_base.proofs.Steps.{updated_same}
+use Rattle.board.specs.Views.{action_after, next_action, own_place, seen, task_of}
+use Rattle.board.specs.Seats.{Frame, IsNewSeat, IsOf, IsSeat, Known, MakesStep, event_of, nothing_seen}
+use Rattle.board.specs.Walking.{HasBegun, IsOfPlan, begins, left_of}
+use Rattle.board.specs.Steps.{IsSameSeat, WasSo}
+use Rattle.board.proofs.Ranges.{phaser_of_member}
+use Rattle.board.proofs.Loaded.{event_stays, own_stays}
+use Rattle.board.proofs.Seated.{event_here, next_there, not_awaited, place_made}
+
+of_plan : (plan : Plan) → IsCheckedPlan plan → (t k : ℕ) (x : Action) → IsWellFormed plan t k x → IsOfPlan plan x
+of_plan plan checked t k (Makes p) f = phaser_within plan t p f.0
+of_plan plan checked t k (Registers c p) f = (child_within plan t c f.0, phaser_of_member plan checked t k p f.3.0 f.3.1)
+of_plan plan checked t k (Forks c) f = child_within plan t c f.0
+of_plan plan checked t k (Advances p) f = phaser_of_member plan checked t k p f.0 f.1
+of_plan plan checked t k (Drops p) f = phaser_of_member plan checked t k p f.0 f.1
+of_plan plan checked t k (Blocks p) f = phaser_of_member plan checked t k p f.0 f.1
+of_plan plan checked t k (Passes p) f = tt
+of_plan plan checked t k (Refuses p) f = tt
+
+pub next_of_plan : (k : Known) (x : Action) → IsSeat k → next_action k.view ≡ Some x → IsOfPlan k.view.plan x
+next_of_plan k x seat next =
+    let there = next_there k.view x next in
+    of_plan k.view.plan seat.checked (task_of k.view) (own_place k.view).done x
+    (seat.checked.codes.well_formed (task_of k.view) (own_place k.view).done x there.1)
+
+-- the first of what is left of a list, and what is left then
+first_left : {A : Type 0} (xs : List A) (k : ℕ) (x : A) (ys : List A) → drop k xs ≡ x ∷ ys → slice_get xs k ≡ Some x
+first_left [] zero x ys e = absurd (cc)
+first_left [] (suc k) x ys e = absurd (cc)
+first_left (z ∷ zs) zero x ys e = cc
+first_left (z ∷ zs) (suc k) x ys e = first_left zs k x ys e
+
+rest_left : {A : Type 0} (xs : List A) (k : ℕ) (x : A) (ys : List A) → drop k xs ≡ x ∷ ys → drop (suc k) xs ≡ ys
+rest_left [] zero x ys e = absurd (cc)
+rest_left [] (suc k) x ys e = absurd (cc)
+rest_left (z ∷ zs) zero x ys e = cc
+rest_left (z ∷ zs) (suc k) x ys e = rest_left zs k x ys e
+
+pub op_left : (ops : List Op) (k : ℕ) (op : Op) → slice_get ops k ≡ Some op → drop k ops ≡ op ∷ drop (suc k) ops
+op_left [] k op e = absurd (cc)
+op_left (z ∷ zs) zero op e = cc
+op_left (z ∷ zs) (suc k) op e = op_left zs k op e
+
+-- it is the next action of the seat
+pub next_is :
+    (k : Known) (x : Action) (xs : List Action) → (own_place k.view).dropped ≡ None →
+    drop (own_place k.view).done (actions k.view.plan (task_of k.view)) ≡ x ∷ xs → next_action k.view ≡ Some x
+unfolding action_at
+next_is k x xs unrefused left =
+    ap (action_after k.view.plan (task_of k.view) (own_place k.view).done) unrefused
+    ∙ first_left (actions k.view.plan (task_of k.view)) (own_place k.view).done x xs left
+
+-- the seat k has made the step x and is m then, and these actions are left
+pub record HasStepped (k m : Known) (x : Action) (xs : List Action) : Type 0 where
+  pub free : m.view.holds ≡ false
+  pub unrefused : (own_place m.view).dropped ≡ None
+  pub left : drop (own_place m.view).done (actions m.view.plan (task_of m.view)) ≡ xs
+  pub plan : m.view.plan ≡ k.view.plan
+  pub task : task_of m.view ≡ task_of k.view
+  pub event : event_of m ≡ awaited (Some x) (phases_after k.view.plan (task_of k.view) (own_place k.view).done)
+
+moved_here : (t : ℕ) (x : Action) (s : SeenBy) → (seen_after_step t x s).places t ≡ next_place (s.places t).done (s.places t).dropped x
+moved_here t (Makes p) s = updated_same s.places t t (next_place (s.places t).done (s.places t).dropped (Makes p)) refl
+moved_here t (Registers c p) s = updated_same s.places t t (next_place (s.places t).done (s.places t).dropped (Registers c p)) refl
+moved_here t (Forks c) s = updated_same s.places t t (next_place (s.places t).done (s.places t).dropped (Forks c)) refl
+moved_here t (Advances p) s = updated_same s.places t t (next_place (s.places t).done (s.places t).dropped (Advances p)) refl
+moved_here t (Drops p) s = updated_same s.places t t (next_place (s.places t).done (s.places t).dropped (Drops p)) refl
+moved_here t (Blocks p) s = updated_same s.places t t (next_place (s.places t).done (s.places t).dropped (Blocks p)) refl
+moved_here t (Passes p) s = updated_same s.places t t (next_place (s.places t).done (s.places t).dropped (Passes p)) refl
+moved_here t (Refuses p) s = updated_same s.places t t (next_place (s.places t).done (s.places t).dropped (Refuses p)) refl
+
+place_undropped : (k : ℕ) (o : Option ℕ) (x : Action) → o ≡ None → ((p : ℕ) → x ≢ Refuses p) → (next_place k o x).dropped ≡ None
+place_undropped k None (Makes p) e n = refl
+place_undropped k None (Registers c p) e n = refl
+place_undropped k None (Forks c) e n = refl
+place_undropped k None (Advances p) e n = refl
+place_undropped k None (Drops p) e n = refl
+place_undropped k None (Blocks p) e n = refl
+place_undropped k None (Passes p) e n = refl
+place_undropped k None (Refuses p) e n = absurd (n p refl)
+place_undropped k (Some d) x e n = absurd (cc)
+
+pub has_stepped :
+    (k m : Known) (t : ℕ) (x : Action) (xs : List Action) → k.view.own ≡ Some t → k.view.holds ≡ false → (own_place k.view).dropped ≡ None →
+    drop (own_place k.view).done (actions k.view.plan (task_of k.view)) ≡ x ∷ xs → ((p : ℕ) → x ≢ Refuses p) → MakesStep x k m → HasStepped k m x xs
+has_stepped k m t x xs own free unrefused left n step =
+    record {
+      free = step.same.holds ∙ free;
+      unrefused = ap (λ (b : Place). b.dropped) place ∙ place_undropped (own_place k.view).done (own_place k.view).dropped x unrefused n;
+      left = (λ i. drop (done i) (actions (step.same.plan i) (task i))) ∙ rest_left (actions k.view.plan (task_of k.view)) (own_place k.view).done x xs left;
+      plan = step.same.plan;
+      task = task;
+      event = event_here m t (step.same.own ∙ own) ∙ (λ i. published_after (step.same.plan i) (task i) (done i))
+          ∙ ap (λ o. awaited o (phases_after k.view.plan (task_of k.view) (own_place k.view).done)) (next_there k.view x (next_is k x xs unrefused left)).1;
+    }
+  where
+    task : task_of m.view ≡ task_of k.view
+    task = ap (λ o. unwrap_or o 0) step.same.own
+
+    place : own_place m.view ≡ next_place (own_place k.view).done (own_place k.view).dropped x
+    place = ap (seen m.view).places task ∙ ap (λ (s : SeenBy). s.places (task_of k.view)) step.seen_now ∙ moved_here (task_of k.view) x (seen k.view)
+
+    done : (own_place m.view).done ≡ suc (own_place k.view).done
+    done = ap (λ (b : Place). b.done) place ∙ place_made (own_place k.view).done (own_place k.view).dropped x unrefused n
+
+-- so many ops are begun then, after all steps but a block
+pub begun_then :
+    (k m : Known) (x : Action) (begun : ℕ) → HasStepped k m x (actions_of (drop begun (code_of k.view.plan (task_of k.view)))) → ((p : ℕ) → x ≢ Blocks p) → HasBegun begun m
+begun_then k m x begun s n =
+    record {
+      free = s.free;
+      unrefused = s.unrefused;
+      left = s.left ∙ sym (λ i. left_of (none i) (drop begun (code_of (s.plan i) (s.task i))));
+    }
+  where
+    none : event_of m ≡ None
+    none = s.event ∙ not_awaited x (phases_after k.view.plan (task_of k.view) (own_place k.view).done) n
+
+-- and after a block, whose pass is left
+pub begun_published :
+    (k m : Known) (p begun : ℕ) (e : Event) → HasStepped k m (Blocks p) (Passes p ∷ actions_of (drop begun (code_of k.view.plan (task_of k.view)))) → event_of m ≡ Some e → e.p.0 ≡ p → HasBegun begun m
+begun_published k m p begun e s is here =
+    record {
+      free = s.free;
+      unrefused = s.unrefused;
+      left = s.left ∙ sym ((λ i. left_of (is i) (drop begun (code_of (s.plan i) (s.task i)))) ∙ ap (λ q. Passes q ∷ actions_of (drop begun (code_of k.view.plan (task_of k.view)))) here);
+    }
+
+-- and before the first step
+pub begun_none : (k : Known) → own_place k.view ≡ first_place → k.view.holds ≡ false → HasBegun 0 k
+unfolding actions
+begun_none k first free =
+    record {
+      free = free;
+      unrefused = ap (λ (b : Place). b.dropped) first;
+      left = ap (λ (b : Place). drop b.done (actions k.view.plan (task_of k.view))) first ∙ ap (λ o. left_of o (code_of k.view.plan (task_of k.view))) (sym (none k.view.own refl));
+    }
+  where
+    none : (o : Option ℕ) → k.view.own ≡ o → event_of k ≡ None
+    none None own = ap (λ o. own_event k.view.plan o (seen k.view)) own
+    none (Some t) own = event_here k t own ∙ ap (λ (b : Place). published_after k.view.plan (task_of k.view) b.done) first
+
+-- the seat of a task that has published nothing, and whose code goes on with this op
+pub record IsBefore (begun : ℕ) (op : Op) (k : Known) : Type 0 where
+  pub seat : IsSeat k
+  pub own : k.view.own ≡ Some (task_of k.view)
+  pub begun_so : HasBegun begun k
+  pub idle : event_of k ≡ None
+  pub op_is : slice_get (code_of k.view.plan (task_of k.view)) begun ≡ Some op
+
+pub is_before :
+    (k now : Known) (f : Frame) (plan : Plan) (t begun : ℕ) (code : List Op) (o : Option Event) (r : Option Op) (op : Op) → k ≡ now → IsOf now f → f.plan ≡ plan →
+    HasBegun begun k → k.view.own ≡ Some t → IsSeat k → is_some o ≡ false → o ≡ event_of now → code ≡ code_of plan t → r ≡ slice_get code begun → r ≡ Some op → IsBefore begun op k
+is_before k now f plan t begun code o r op same of plan_is begun_so own seat idle event code_is read is =
+    record {
+      seat = seat;
+      own = own ∙ ap Some (sym task);
+      begun_so = begun_so;
+      idle = ap event_of same ∙ sym event ∙ none o idle;
+      op_is = (λ i. slice_get (code_of (plan_same i) (task i)) begun) ∙ ap (λ ops. slice_get ops begun) (sym code_is) ∙ sym read ∙ is;
+    }
+  where
+    none : (o : Option Event) → is_some o ≡ false → o ≡ None
+    none None e = refl
+    none (Some e) h = absurd (false≢true (sym h))
+
+    task : task_of k.view ≡ t
+    task = ap (λ o. unwrap_or o 0) own
+
+    plan_same : k.view.plan ≡ plan
+    plan_same = ap (λ (m : Known). m.view.plan) same ∙ of.plan ∙ plan_is
+
+-- the actions that an op has after its first
+abbrev goes_on : Op → List Action → List Action
+goes_on (Await p) xs = Passes p.0 ∷ xs
+goes_on op xs = xs
+
+first_of : (op : Op) (ops : List Op) → actions_of (op ∷ ops) ≡ begins op ∷ goes_on op (actions_of ops)
+first_of (Make p) ops = refl
+first_of (Reg c p) ops = refl
+first_of (Fork c) ops = refl
+first_of (Adv p) ops = refl
+first_of (Drop p) ops = refl
+first_of (Await p) ops = refl
+
+module _ (begun : ℕ) (op : Op) (k : Known) (b : IsBefore begun op k) where
+  left_now :
+      drop (own_place k.view).done (actions k.view.plan (task_of k.view))
+      ≡ begins op ∷ goes_on op (actions_of (drop (suc begun) (code_of k.view.plan (task_of k.view))))
+  left_now =
+      b.begun_so.left ∙ ap (λ o. left_of o (drop begun (code_of k.view.plan (task_of k.view)))) b.idle
+      ∙ ap actions_of (op_left (code_of k.view.plan (task_of k.view)) begun op b.op_is)
+      ∙ first_of op (drop (suc begun) (code_of k.view.plan (task_of k.view)))
+
+  pub before_next : next_action k.view ≡ Some (begins op)
+  before_next = next_is k (begins op) (goes_on op (actions_of (drop (suc begun) (code_of k.view.plan (task_of k.view))))) b.begun_so.unrefused left_now
+
+  pub before_of_plan : (plan : Plan) → k.view.plan ≡ plan → IsOfPlan plan (begins op)
+  before_of_plan plan same = subst (λ q. IsOfPlan q (begins op)) same (next_of_plan k (begins op) b.seat before_next)
+
+-- after that step the op is begun
+pub begins_next : (begun : ℕ) (op : Op) (k m : Known) → IsBefore begun op k → MakesStep (begins op) k m → HasBegun (suc begun) m
+begins_next begun op k m b step = by_op op refl (has_stepped k m (task_of k.view) (begins op) _ b.own b.begun_so.free b.begun_so.unrefused (left_now begun op k b) (no_refuse op) step)
+  where
+    no_refuse : (op : Op) (p : ℕ) → begins op ≢ Refuses p
+    no_refuse (Make q) p e = cc
+    no_refuse (Reg c q) p e = cc
+    no_refuse (Fork c) p e = cc
+    no_refuse (Adv q) p e = cc
+    no_refuse (Drop q) p e = cc
+    no_refuse (Await q) p e = cc
+
+    member : (p : ℕ) → next_action k.view ≡ Some (Blocks p) → (n : ℕ) × (phases_after k.view.plan (task_of k.view) (own_place k.view).done p ≡ Some n)
+    member p next = b.seat.checked.codes.well_formed (task_of k.view) (own_place k.view).done (Blocks p) (next_there k.view (Blocks p) next).1
+
+    by_op : (o : Op) → op ≡ o → HasStepped k m (begins op) (goes_on op (actions_of (drop (suc begun) (code_of k.view.plan (task_of k.view))))) → HasBegun (suc begun) m
+    by_op (Make p) is s = begun_then k m (Makes p.0) (suc begun) (subst (λ o. HasStepped k m (begins o) (goes_on o (actions_of (drop (suc begun) (code_of k.view.plan (task_of k.view)))))) is s) (λ q e. cc)
+    by_op (Reg c p) is s = begun_then k m (Registers c.0 p.0) (suc begun) (subst (λ o. HasStepped k m (begins o) (goes_on o (actions_of (drop (suc begun) (code_of k.view.plan (task_of k.view)))))) is s) (λ q e. cc)
+    by_op (Fork c) is s = begun_then k m (Forks c.0) (suc begun) (subst (λ o. HasStepped k m (begins o) (goes_on o (actions_of (drop (suc begun) (code_of k.view.plan (task_of k.view)))))) is s) (λ q e. cc)
+    by_op (Adv p) is s = begun_then k m (Advances p.0) (suc begun) (subst (λ o. HasStepped k m (begins o) (goes_on o (actions_of (drop (suc begun) (code_of k.view.plan (task_of k.view)))))) is s) (λ q e. cc)
+    by_op (Drop p) is s = begun_then k m (Drops p.0) (suc begun) (subst (λ o. HasStepped k m (begins o) (goes_on o (actions_of (drop (suc begun) (code_of k.view.plan (task_of k.view)))))) is s) (λ q e. cc)
+    by_op (Await p) is s =
+        let one = member p.0 (before_next begun op k b ∙ ap (λ o. Some (begins o)) is) in
+        let t : HasStepped k m (Blocks p.0) (Passes p.0 ∷ actions_of (drop (suc begun) (code_of k.view.plan (task_of k.view)))) =
+        subst (λ o. HasStepped k m (begins o) (goes_on o (actions_of (drop (suc begun) (code_of k.view.plan (task_of k.view)))))) is s in
+        begun_published k m p.0 (suc begun) (event_at p.0 one.0) t (t.event ∙ ap (event_on p.0) one.1) refl
+
+-- the seat is of its board after a step
+pub of_then : (x : Action) (k m : Known) (f : Frame) → IsOf k f → MakesStep x k m → IsOf m f
+of_then x k m f of step = record { table = step.table ∙ of.table; plan = step.same.plan ∙ of.plan; mode = step.same.mode ∙ of.mode }
+
+-- a task that is published passes next
+pub passes_next : (begun : ℕ) (k : Known) (e : Event) → HasBegun begun k → event_of k ≡ Some e → next_action k.view ≡ Some (Passes e.p.0)
+passes_next begun k e b is =
+    next_is k (Passes e.p.0) (actions_of (drop begun (code_of k.view.plan (task_of k.view)))) b.unrefused (b.left ∙ ap (λ o. left_of o (drop begun (code_of k.view.plan (task_of k.view)))) is)
+
+pub begun_passed : (begun : ℕ) (k m : Known) (e : Event) (t : ℕ) → k.view.own ≡ Some t → HasBegun begun k → event_of k ≡ Some e → MakesStep (Passes e.p.0) k m → HasBegun begun m
+begun_passed begun k m e t own b is step =
+    begun_then k m (Passes e.p.0) begun
+    (has_stepped k m t (Passes e.p.0) (actions_of (drop begun (code_of k.view.plan (task_of k.view)))) own b.free b.unrefused
+    (b.left ∙ ap (λ o. left_of o (drop begun (code_of k.view.plan (task_of k.view)))) is) (λ p h. cc) step) (λ p h. cc)
+
+-- the event of a published task
+pub published_is : (o : Option Event) → IsSome o → (e : Event) × (o ≡ Some e)
+published_is None h = absurd (false≢true h)
+published_is (Some e) h = (e, refl)
+
+-- no own step, and so nothing begun, by a load
+pub begun_loaded :
+    (begun : ℕ) (k m : Known) (t : ℕ) (Holds : State → Type 0) → HasBegun begun k → k.view.own ≡ Some t → IsSeat k → IsSameSeat k.view m.view →
+    ((u : ℕ) → (seen m.view).exact u ≡ (seen k.view).exact u) → WasSo k.view.plan k.view.mode Holds k.view m.view → HasBegun begun m
+begun_loaded begun k m t Holds b own seat same exact was =
+    record {
+      free = same.holds ∙ b.free;
+      unrefused = ap (λ (x : Place). x.dropped) place ∙ b.unrefused;
+      left = (λ i. drop (place i).done (actions (same.plan i) (task i))) ∙ b.left ∙ sym (λ i. left_of (event i) (drop begun (code_of (same.plan i) (task i))));
+    }
+  where
+    task : task_of m.view ≡ task_of k.view
+    task = ap (λ o. unwrap_or o 0) same.own
+
+    here : task_of k.view ≡ t
+    here = ap (λ o. unwrap_or o 0) own
+
+    place : own_place m.view ≡ own_place k.view
+    place =
+        ap (seen m.view).places (task ∙ here)
+        ∙ own_stays k.table k.view m.view t k.view.mode Holds seat own exact was
+        ∙ ap (seen k.view).places (sym here)
+
+    event : event_of m ≡ event_of k
+    event = event_stays k.table m.table k.view m.view t k.view.mode Holds seat own same exact was
+
+-- a new seat of task 0 stands where no step of it is seen
+pub new_first : (f : Frame) (k : Known) → IsNewSeat f (Some 0) (seen_by_child 0 nothing_seen) k → own_place k.view ≡ first_place
+new_first f k new = ap (λ (s : SeenBy). s.places (task_of k.view)) new.seen_is

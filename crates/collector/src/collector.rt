@@ -1,0 +1,90 @@
+// The passes of a detector beside running tasks.
+ghost use Rattle.std.specs.Prelude.{◌≡◌, ℕ, false, [], IfOk, OnErr, length};
+ghost use Rattle.armus_base.specs.Statuses.{IsInOrder};
+ghost use Rattle.board.specs.Seats.{IsOf};
+ghost use Rattle.phase_scan.specs.Looks.{GoesOn};
+ghost use Rattle.phase_scan.specs.Collects.{CountsLoads, IsCollect};
+ghost use Rattle.phase_scan.specs.Collected.{IsCollected};
+ghost use Rattle.collector.specs.Passes.{IsVerdict, ListsPublished, NamesToo, is_named};
+
+use crate::naming::{fresh, name};
+use crate::verdict::Verdict;
+use adaptive::{Wanted, analyse};
+use armus_base::{List, NoMemory, Status};
+use board::{Board, ViewSeat};
+use phase_scan::Cells;
+use std::alloc::Global;
+use std::marker::Model;
+
+/// A detector of one board. Contracts see for how many tasks and phasers it is, which tasks it has named, and the statuses that its last pass found.
+#[derive(Drop)]
+pub struct Collector {
+    cells: Cells,
+    names: Vec<bool>,
+}
+
+impl Model for Collector {
+    ghost use Rattle.collector.specs.Passes.{Watch};
+
+    ghost Value = { Watch };
+
+    ghost use Rattle.collector.specs.Collectors.{watch_of, IsCollector};
+
+    ghost view = { watch_of };
+
+    ghost invariant = { IsCollector };
+}
+
+impl Collector {
+    /// A detector of this board, which has named nobody.
+    pub fn start(alloc: Global, board: &Board) -> Result<Collector, NoMemory>
+        ensures tasks { IfOk result (λ c. c.tasks ≡ length board.now.plan.parents) }
+        ensures phasers { IfOk result (λ c. c.phasers ≡ length board.now.plan.makers) }
+        ensures nobody { IfOk result (λ c. (t : ℕ) → is_named c.names t ≡ false) }
+        ensures nothing { IfOk result (λ c. c.statuses ≡ []) }
+    {
+        let tasks = board.tasks();
+        Ok(Collector {
+            cells: Cells::start(alloc, tasks, board.phasers())?,
+            names: vec![in alloc; false; tasks as usize]?,
+        })
+    }
+
+    /// Makes one collect, and names the dead tasks of its statuses: each task that is dead in all states in which the board may have been before, and only tasks that are dead in all in which it may be after. It takes no lock. After `NoMemory` nobody else is named.
+    pub fn pass(
+        &mut self,
+        alloc: Global,
+        view: &mut ViewSeat,
+        board: &Board,
+        wanted: Wanted,
+    ) -> Result<Verdict, NoMemory>
+        requires made { IsOf view.old board.now }
+        requires tasks { self.old.tasks ≡ length board.now.plan.parents }
+        requires phasers { self.old.phasers ≡ length board.now.plan.makers }
+        ensures tasks { self.new.tasks ≡ self.old.tasks }
+        ensures phasers { self.new.phasers ≡ self.old.phasers }
+        ensures goes_on { GoesOn view.old view.new }
+        ensures collect { IsCollect board.now.plan self.new.statuses view.old view.new }
+        ensures loads { CountsLoads board.now.plan self.new.statuses view.old view.new }
+        ensures collected { IsCollected self.new.statuses view.old view.new }
+        ensures published { ListsPublished self.new.statuses view.new }
+        ensures verdict { IfOk result (IsVerdict self.old.names self.new.statuses view.old view.new) }
+        ensures named { IfOk result (λ v. NamesToo v.dead self.old.names self.new.names) }
+        ensures err { OnErr result (self.new.names ≡ self.old.names) }
+    {
+        self.cells.collect(view, board);
+        let list = self.cells.statuses(alloc)?;
+        let dead = analyse(alloc, list.as_slice(), wanted)?.dead;
+        let fresh = fresh(alloc, &self.names, list.as_slice(), dead.as_slice())?;
+        name(&mut self.names, dead.as_slice());
+        Ok(Verdict { dead, fresh })
+    }
+
+    /// The statuses that the last pass found, in order.
+    pub fn statuses(&self, alloc: Global) -> Result<List<Status>, NoMemory>
+        ensures statuses { IfOk result (λ list. list ≡ self.now.statuses) }
+        ensures in_order { IsInOrder self.now.statuses }
+    {
+        self.cells.statuses(alloc)
+    }
+}

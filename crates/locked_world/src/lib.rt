@@ -1,0 +1,15 @@
+//! A recorded run: a world beside the journal of its steps, which threads share under a lock.
+#![tactic(auto)]
+
+mod laws;
+mod locked;
+mod logged;
+mod name;
+
+pub use laws::{journal_fixes_run, journal_leads};
+pub use locked::LockedWorld;
+pub use logged::Logged;
+pub use name::PlanName;
+
+#[cfg(test)]
+mod tests;

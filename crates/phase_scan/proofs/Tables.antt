@@ -1,0 +1,124 @@
+-- The tables of a collect: what a read and a write say, and the lists of statuses that they give.
+use mathlib.Core.Path.{fun_ext}
+use Rattle.std.proofs.Common.{◌≡◌, ◌≢◌, ℕ, zero, suc, ◌<◌, ◌≤◌, ◌+◌, ◌*◌, Bool, true, false, List, [], ◌∷◌, ◌++◌, Option, Some, None, length, set, add-one, arith, sym, ◌∙◌, ap, subst, refl, inl, inr}
+use Rattle.std.specs.Prelude.{nat_lt, slice_get, unwrap_or, if◌then◌else◌, option_map, option_to_list}
+use Rattle.std.proofs.lemmas.Bool.{cases_eq, cases_lt}
+use Rattle.std.proofs.lemmas.Nat.{same_from_place}
+use Rattle.std.proofs.lemmas.List.{append-nil}
+use Rattle.armus_base.specs.declared.event.Event.{Event}
+use Rattle.armus_base.specs.declared.status.Member.{Member}
+use Rattle.armus_base.specs.declared.status.Status.{Status}
+use Rattle.armus_base.specs.Finals.{given_below, listed_phase}
+use Rattle.armus_base.specs.States.{State, with_phase}
+use Rattle.armus_base.specs.Statuses.{IsInOrder}
+use Rattle.armus_base.proofs.Steps.{with_phase_same, with_phase_other}
+use Rattle.phase_scan.specs.Tables.{phases_of_cells, status_found}
+
+pub slice_get-set_same : {A : Type 0} (xs : List A) (k : ℕ) (v : A) → k < length xs → slice_get (set xs k v) k ≡ Some v
+slice_get-set_same [] k v l = absurd (omega arith)
+slice_get-set_same (x ∷ xs) zero v l = refl
+slice_get-set_same (x ∷ xs) (suc k) v l = slice_get-set_same xs k v (omega arith)
+
+pub slice_get-set_other : {A : Type 0} (xs : List A) (k j : ℕ) (v : A) → j ≢ k → slice_get (set xs k v) j ≡ slice_get xs j
+slice_get-set_other [] k j v n = refl
+slice_get-set_other (x ∷ xs) zero zero v n = absurd (n refl)
+slice_get-set_other (x ∷ xs) zero (suc j) v n = refl
+slice_get-set_other (x ∷ xs) (suc k) zero v n = refl
+slice_get-set_other (x ∷ xs) (suc k) (suc j) v n = slice_get-set_other xs k j v (λ e. n (ap suc e))
+
+-- inside the table
+pub cell_is : (w : ℕ) (cells : List (Option ℕ)) (t p : ℕ) → p < w → phases_of_cells w cells t p ≡ unwrap_or (slice_get cells (t * w + p)) None
+unfolding phases_of_cells
+cell_is w cells t p l = ap (λ b. if b then unwrap_or (slice_get cells (t * w + p)) None else None) (is_lt p w l)
+  where
+    is_lt : (a b : ℕ) → a < b → nat_lt a b ≡ true
+    is_lt a b h = grind arith
+
+-- outside no phaser has members
+pub cell_past : (w : ℕ) (cells : List (Option ℕ)) (t p : ℕ) → w ≤ p → phases_of_cells w cells t p ≡ None
+unfolding phases_of_cells
+cell_past w cells t p l = ap (λ b. if b then unwrap_or (slice_get cells (t * w + p)) None else None) (is_not p w l)
+  where
+    is_not : (a b : ℕ) → b ≤ a → nat_lt a b ≡ false
+    is_not a b h = grind arith
+
+-- a write sets the phase of one task on one phaser
+pub cell_set :
+    (w : ℕ) (cells : List (Option ℕ)) (t p : ℕ) (c : Option ℕ) → p < w → t * w + p < length cells →
+    phases_of_cells w (set cells (t * w + p) c) ≡ with_phase (phases_of_cells w cells) t p c
+cell_set w cells t p c l within =
+    fun_ext (λ u. fun_ext (λ q. elim (cases_lt q w) [
+      | inl inside ↦ elim (cases_eq u t) [
+        | inl same ↦ elim (cases_eq q p) [
+          | inl here ↦
+              subst (λ v. phases_of_cells w (set cells (t * w + p) c) v q ≡ with_phase (phases_of_cells w cells) t p c v q) (sym same)
+              (subst (λ v. phases_of_cells w (set cells (t * w + p) c) t v ≡ with_phase (phases_of_cells w cells) t p c t v) (sym here)
+              (cell_is w (set cells (t * w + p) c) t p l
+              ∙ ap (λ o. unwrap_or o None) (slice_get-set_same cells (t * w + p) c within)
+              ∙ sym (with_phase_same (phases_of_cells w cells) t p c)))
+          | inr other ↦ elsewhere u q inside (λ e. λ f. other f)
+        ]
+        | inr other ↦ elsewhere u q inside (λ e. absurd (other e))
+      ]
+      | inr past ↦
+          cell_past w (set cells (t * w + p) c) u q past
+          ∙ sym (cell_past w cells u q past)
+          ∙ sym (with_phase_other (phases_of_cells w cells) t p c u q (λ e f. absurd (omega arith)))
+    ]))
+  where
+    elsewhere :
+        (u q : ℕ) → q < w → (u ≡ t → q ≢ p) →
+        phases_of_cells w (set cells (t * w + p) c) u q ≡ with_phase (phases_of_cells w cells) t p c u q
+    elsewhere u q inside n =
+        cell_is w (set cells (t * w + p) c) u q inside
+        ∙ ap (λ o. unwrap_or o None) (slice_get-set_other cells (t * w + p) (u * w + q) c (λ e. let s = same_from_place u q t p w inside l e in n s.0 s.1))
+        ∙ sym (cell_is w cells u q inside)
+        ∙ sym (with_phase_other (phases_of_cells w cells) t p c u q n)
+
+-- what a function gives for the numbers below a bound: one number more, and two functions that agree
+pub given_below_more : {A : Type 0} (f : ℕ → Option A) (n : ℕ) (x : A) (xs : List A) → xs ≡ given_below f n → f n ≡ Some x → xs ++ x ∷ [] ≡ given_below f (n + 1)
+given_below_more f n x xs e h = ap (λ ys. ys ++ x ∷ []) e ∙ ap (λ o. given_below f n ++ option_to_list o) (sym h) ∙ ap (given_below f) (sym (add-one n))
+
+pub given_below_none : {A : Type 0} (f : ℕ → Option A) (n : ℕ) (xs : List A) → xs ≡ given_below f n → f n ≡ None → xs ≡ given_below f (n + 1)
+given_below_none f n xs e h =
+    e ∙ sym (append-nil (given_below f n)) ∙ ap (λ o. given_below f n ++ option_to_list o) (sym h) ∙ ap (given_below f) (sym (add-one n))
+
+pub given_below_same : {A : Type 0} (f g : ℕ → Option A) (n : ℕ) → ((k : ℕ) → k < n → f k ≡ g k) → given_below f n ≡ given_below g n
+given_below_same f g zero same = refl
+given_below_same f g (suc n) same =
+    ap (λ xs. xs ++ option_to_list (f n)) (given_below_same f g n (λ k l. same k (omega arith)))
+    ∙ ap (λ o. given_below g n ++ option_to_list o) (same n (omega arith))
+
+pub given_below_nothing : {A : Type 0} (f : ℕ → Option A) (n : ℕ) → ((k : ℕ) → f k ≡ None) → given_below f n ≡ []
+given_below_nothing f zero none = refl
+given_below_nothing f (suc n) none =
+    ap (λ xs. xs ++ option_to_list (f n)) (given_below_nothing f n none) ∙ ap (λ o. [] ++ option_to_list o) (none n)
+
+-- the status of a task found waiting, and of one that was not
+pub status_some :
+    (phasers : ℕ) (s : State) (asked : ℕ → Bool) (t : ℕ) (e : Event) (phases : List Member) → s.published t ≡ Some e →
+    phases ≡ given_below (listed_phase asked (s.phases t)) phasers →
+    status_found phasers s asked t ≡ Some (record { t = record { 0 = t }; event = e; phases = phases })
+status_some phasers s asked t e phases p same =
+    ap (option_map (λ f. record { t = record { 0 = t }; event = f; phases = given_below (listed_phase asked (s.phases t)) phasers })) p
+    ∙ ap (λ ms. Some (record { t = record { 0 = t }; event = e; phases = ms })) (sym same)
+
+pub status_none : (phasers : ℕ) (s : State) (asked : ℕ → Bool) (t : ℕ) → s.published t ≡ None → status_found phasers s asked t ≡ None
+status_none phasers s asked t p =
+    ap (option_map (λ f. record { t = record { 0 = t }; event = f; phases = given_below (listed_phase asked (s.phases t)) phasers })) p
+
+-- what is asked beyond the phasers does not matter
+pub statuses_same :
+    (phasers : ℕ) (s : State) (asked asked' : ℕ → Bool) (n : ℕ) → ((p : ℕ) → asked p ≡ asked' p) →
+    given_below (status_found phasers s asked) n ≡ given_below (status_found phasers s asked') n
+statuses_same phasers s asked asked' n same = ap (λ a. given_below (status_found phasers s a) n) (fun_ext same)
+
+-- the empty list is in order
+pub nothing_in_order : (list : List Status) → list ≡ [] → IsInOrder list
+nothing_in_order list none =
+    subst IsInOrder (sym none) (record {
+      tasks = λ j k c d before l. absurd (omega arith);
+      phasers = λ k s l. absurd (omega arith);
+      few = omega arith;
+      few_phases = λ k s l. absurd (omega arith);
+    })

@@ -1,0 +1,38 @@
+use Rattle.std.proofs.Common.{◌∙◌, ap}
+use Rattle.phase_scan.specs.Collects.{Collection, IsCollect}
+use Rattle.phase_scan.specs.Tables.{statuses_found}
+use Rattle.phase_scan.proofs.Collecting.{cells_count, cells_go, cells_in_order, cells_tell, tables_collect}
+use Rattle.phase_scan.proofs.cells.Cells.collect.Goals as goal
+
+the_collect : (g : _) (c : goal.After-load_rows g) → IsCollect c.args.board.now.plan (statuses_found c.load_rows.new.self) (g.L.Loads.known c.args.by.now) (g.L.Loads.known c.load_rows.new.by)
+the_collect g c =
+    let awaits = c.load_awaits.ensures in
+    let rows = c.load_rows.ensures in
+    tables_collect c.args.board.now (g.L.Loads.known c.args.by.now) (g.L.Loads.known c.load_awaits.new.by) (g.L.Loads.known c.load_rows.new.by)
+    c.unmark.new.self c.load_awaits.new.self c.load_rows.new.self
+    (c.unmark.ensures.tasks ∙ ap (λ (v : Collection). v.tasks) c.self.view_is ∙ c.requires.tasks)
+    (c.unmark.ensures.phasers ∙ ap (λ (v : Collection). v.phasers) c.self.view_is ∙ c.requires.phasers)
+    awaits.tasks awaits.phasers rows.tasks rows.phasers rows.events rows.awaited awaits.loads rows.loads awaits.awaited
+
+pub invariant_of-self : goal.invariant_of-self
+invariant_of-self g c =
+    cells_in_order c.args.board.now (statuses_found c.load_rows.new.self) (g.L.Loads.known c.args.by.now) (g.L.Loads.known c.load_rows.new.by)
+    c.requires.made c.load_awaits.ensures.checked (the_collect g c)
+
+pub returns-clause-goes_on : goal.returns-clause-goes_on
+returns-clause-goes_on g c =
+    cells_go c.args.board.now (statuses_found c.load_rows.new.self) (g.L.Loads.known c.args.by.now) (g.L.Loads.known c.load_rows.new.by)
+    c.requires.made c.load_awaits.ensures.checked (the_collect g c)
+
+pub returns-clause-collect : goal.returns-clause-collect
+returns-clause-collect g c = the_collect g c
+
+pub returns-clause-loads : goal.returns-clause-loads
+returns-clause-loads g c =
+    cells_count c.args.board.now (statuses_found c.load_rows.new.self) (g.L.Loads.known c.args.by.now) (g.L.Loads.known c.load_rows.new.by)
+    c.requires.made c.load_awaits.ensures.checked (the_collect g c)
+
+pub returns-clause-collected : goal.returns-clause-collected
+returns-clause-collected g c =
+    cells_tell c.args.board.now (statuses_found c.load_rows.new.self) (g.L.Loads.known c.args.by.now) (g.L.Loads.known c.load_rows.new.by)
+    c.requires.made c.load_awaits.ensures.checked (the_collect g c)

@@ -1,0 +1,16 @@
+use Rattle.phase_scan.specs.Tables.{awaited_found, state_found, status_found, statuses_found}
+use Rattle.phase_scan.proofs.Tables.{given_below_nothing, nothing_in_order, status_none}
+use Rattle.phase_scan.proofs.cells.Cells.start.Goals as goal
+
+pub invariant_of-result : goal.invariant_of-result
+invariant_of-result c =
+    let f = c.in_ok-new.field-0 in
+    nothing_in_order (statuses_found f)
+    (given_below_nothing (status_found f.phasers (state_found f) (awaited_found f)) f.tasks
+    (λ t. status_none f.phasers (state_found f) (awaited_found f) t (c.in_ok-new.ensures.nothing t)))
+
+pub returns-clause-nothing : goal.returns-clause-nothing
+returns-clause-nothing c =
+    let f = c.in_ok-new.field-0 in
+    given_below_nothing (status_found f.phasers (state_found f) (awaited_found f)) f.tasks
+    (λ t. status_none f.phasers (state_found f) (awaited_found f) t (c.in_ok-new.ensures.nothing t))

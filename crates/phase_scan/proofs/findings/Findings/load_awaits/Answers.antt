@@ -1,0 +1,34 @@
+use Rattle.std.proofs.Common.{◌≡◌, ◌<◌, ℕ, sym, ◌∙◌, subst, refl, Option, None, Some}
+use Rattle.std.specs.Prelude.{IfSome}
+use Rattle.armus_base.specs.declared.event.Event.{Event}
+use Rattle.board.specs.Views.{found_of}
+use Rattle.phase_scan.specs.Tables.{awaited_found, event_at}
+use Rattle.phase_scan.proofs.Keeping.{awaited_more, awaits_more, still_of, waits_within}
+use Rattle.phase_scan.proofs.findings.Findings.load_awaits.Goals as goal
+
+if_some : (o : Option Event) (n : ℕ) → ((e : Event) → o ≡ Some e → e.p.0 < n) → IfSome o (λ e. e.p.0 < n)
+if_some None n small = tt
+if_some (Some e) n small = small e refl
+
+pub keep_event-requires-clause-phaser : goal.keep_event-requires-clause-phaser
+keep_event-requires-clause-phaser g c =
+    let i = c.loop-number.invariant in
+    if_some c.waiting.result c.loop-number.self.phasers
+    (λ e is. subst (λ n. e.p.0 < n) (sym (i.phasers ∙ c.requires.phasers))
+    (waits_within (g.L.Loads.known c.loop-number.by) (g.L.Loads.known c.load_await-seen.new.self) c.args.board.now c.loop-number.number (found_of c.load_await-seen.result) e
+    i.made c.load_await-seen.ensures.answer (sym c.waiting.ensures ∙ is)))
+
+pub loop-number-preserved : goal.loop-number-preserved
+loop-number-preserved g c =
+    let i = c.loop-number.invariant in
+    let load = c.load_await-seen.ensures.answer in
+    let kept = c.keep_event.ensures in
+    record {
+      made = still_of (g.L.Loads.known c.loop-number.by) (g.L.Loads.known c.load_await-seen.new.self) c.args.board.now i.made load.table load.load.same;
+      tasks = kept.tasks ∙ i.tasks;
+      phasers = kept.phasers ∙ i.phasers;
+      loads = awaits_more (event_at c.loop-number.self.events.items) (event_at c.keep_event.new.self.events.items) c.loop-number.number c.waiting.result (found_of c.load_await-seen.result)
+          (g.L.Loads.known c.args.by.now) (g.L.Loads.known c.loop-number.by) (g.L.Loads.known c.load_await-seen.new.self) i.loads load c.waiting.ensures kept.events;
+      awaited = λ p. awaited_more (event_at c.loop-number.self.events.items) (event_at c.keep_event.new.self.events.items) c.loop-number.number p c.waiting.result
+          (awaited_found c.loop-number.self p) (awaited_found c.keep_event.new.self p) (i.awaited p) (kept.awaited p) kept.events;
+    }

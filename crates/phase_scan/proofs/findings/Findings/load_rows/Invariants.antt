@@ -1,0 +1,15 @@
+use Rattle.std.proofs.Common.{◌≡◌}
+use Rattle.board.specs.Seats.{IsOf}
+use Rattle.phase_scan.specs.Collects.{LoadsRows}
+use Rattle.phase_scan.specs.Tables.{awaited_found, state_found}
+use Rattle.phase_scan.proofs.findings.Findings.load_rows.Given as goal
+
+abbrev pub invariant-loop-number : goal.invariant-loop-number
+invariant-loop-number g l = record {
+  made : IsOf (g.L.Loads.known l.by) l.board;
+  tasks : l.self.tasks ≡ l.initial.self.tasks;
+  phasers : l.self.phasers ≡ l.initial.self.phasers;
+  events : l.self.events.items ≡ l.initial.self.events.items;
+  awaited : l.self.awaited.items ≡ l.initial.self.awaited.items;
+  loads : LoadsRows l.initial.self.phasers (awaited_found l.initial.self) (state_found l.self) l.number (g.L.Loads.known l.initial.by) (g.L.Loads.known l.by);
+}

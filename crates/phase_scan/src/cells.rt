@@ -1,0 +1,77 @@
+// The cells of a collect.
+ghost use Rattle.std.specs.Prelude.{◌≡◌, ◌≤◌, ◌*◌, [], IfOk, length};
+ghost use Rattle.armus_base.specs.Statuses.{IsInOrder};
+ghost use Rattle.board.specs.Seats.{IsOf};
+ghost use Rattle.phase_scan.specs.Looks.{GoesOn};
+ghost use Rattle.phase_scan.specs.Collects.{CountsLoads, IsCollect};
+ghost use Rattle.phase_scan.specs.Collected.{IsCollected};
+
+use crate::findings::Findings;
+use armus_base::{List, NoMemory, Status};
+use board::{Board, Loads};
+use std::alloc::Global;
+use std::marker::Model;
+
+/// The most tasks of which cells can be collected.
+pub const MAX_CELL_TASKS: u32 = 4096;
+
+/// The most cells for phases, one for each task and phaser.
+pub const MAX_CELLS: u32 = 1_048_576;
+
+/// Room for what a collect finds. Contracts see for how many tasks and phasers it is, and the statuses that the last collect found.
+#[derive(Drop)]
+pub struct Cells {
+    found: Findings,
+}
+
+impl Model for Cells {
+    ghost use Rattle.phase_scan.specs.Collects.{Collection};
+
+    ghost Value = { Collection };
+
+    ghost use Rattle.phase_scan.specs.Cells.{collection_of, AreCells};
+
+    ghost view = { collection_of };
+
+    ghost invariant = { AreCells };
+}
+
+impl Cells {
+    /// Room for a collect of a board with so many tasks and phasers. Nothing is found yet.
+    pub fn start(alloc: Global, tasks: u32, phasers: u32) -> Result<Cells, NoMemory>
+        requires tasks { tasks ≤ MAX_CELL_TASKS }
+        requires cells { tasks * phasers ≤ MAX_CELLS }
+        ensures tasks { IfOk result (λ cells. cells.tasks ≡ tasks) }
+        ensures phasers { IfOk result (λ cells. cells.phasers ≡ phasers) }
+        ensures nothing { IfOk result (λ cells. cells.statuses ≡ []) }
+    {
+        Ok(Cells {
+            found: Findings::new(alloc, tasks, phasers)?,
+        })
+    }
+
+    /// Loads the await words of all tasks, in order, and then, for each task found waiting, its phase word on each of the distinct phasers found awaited, both in order.
+    pub fn collect<L: Loads>(&mut self, by: &mut L, board: &Board)
+        requires made { IsOf (L.known by.old) board.now }
+        requires tasks { self.old.tasks ≡ length board.now.plan.parents }
+        requires phasers { self.old.phasers ≡ length board.now.plan.makers }
+        ensures tasks { self.new.tasks ≡ self.old.tasks }
+        ensures phasers { self.new.phasers ≡ self.old.phasers }
+        ensures goes_on { GoesOn (L.known by.old) (L.known by.new) }
+        ensures collect { IsCollect board.now.plan self.new.statuses (L.known by.old) (L.known by.new) }
+        ensures loads { CountsLoads board.now.plan self.new.statuses (L.known by.old) (L.known by.new) }
+        ensures collected { IsCollected self.new.statuses (L.known by.old) (L.known by.new) }
+    {
+        self.found.unmark();
+        self.found.load_awaits(by, board);
+        self.found.load_rows(by, board);
+    }
+
+    /// The statuses that the last collect found, in order: of each task found waiting, with its phases on the phasers found awaited.
+    pub fn statuses(&self, alloc: Global) -> Result<List<Status>, NoMemory>
+        ensures statuses { IfOk result (λ list. list ≡ self.now.statuses) }
+        ensures in_order { IsInOrder self.now.statuses }
+    {
+        self.found.statuses(alloc)
+    }
+}

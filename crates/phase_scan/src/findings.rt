@@ -1,0 +1,197 @@
+// What the loads of a collect found.
+ghost use Rattle.std.specs.Prelude.{◌≡◌, ◌≢◌, ℕ, ◌<◌, ◌≤◌, ◌*◌, ◌^◌, Some, None, false, ◌||◌, IfOk, IfSome, length, vec_len};
+ghost use Rattle.armus_base.specs.CheckedPlans.{IsCheckedPlan};
+ghost use Rattle.armus_base.specs.Finals.{given_below, is_event_of, listed_phase};
+ghost use Rattle.armus_base.specs.Places.{some_before};
+ghost use Rattle.armus_base.specs.States.{updated, with_phase};
+ghost use Rattle.board.specs.Seats.{IsOf};
+ghost use Rattle.board.specs.Views.{found_of};
+ghost use Rattle.phase_scan.specs.Collects.{LoadsAwaits, LoadsRow, LoadsRows, waiting_on};
+
+use crate::phase_table::PhaseTable;
+use armus_base::{Event, List, Member, NoMemory, Phase, PhaserId, Status, TaskId};
+use board::{Board, Loads, Seen};
+use std::alloc::Global;
+
+#[derive(Drop)]
+pub(crate) struct Findings {
+    pub(crate) tasks: u32,
+    pub(crate) phasers: u32,
+    // the event on which each task was found waiting, if it was
+    events: Vec<Option<Event>>,
+    // whether a task was found waiting on an event of each phaser
+    awaited: Vec<bool>,
+    phases: PhaseTable,
+    ghost task_count: { vec_len events ≡ tasks },
+    ghost phaser_count: { vec_len awaited ≡ phasers },
+    ghost rows: { phases.tasks ≡ tasks },
+    ghost columns: { phases.phasers ≡ phasers },
+}
+
+// The event on which a task was found waiting.
+fn waiting(seen: Seen) -> Option<Event>
+    ensures { result ≡ waiting_on (found_of seen) }
+{
+    match seen {
+        Seen::Waits(event) => Some(event),
+        Seen::Idle | Seen::Refused(_) => None,
+    }
+}
+
+impl Findings {
+    ghost use Rattle.phase_scan.specs.Tables.{awaited_found, event_at, phases_in, state_found, statuses_found};
+
+    /// No task was found waiting.
+    pub(crate) fn new(alloc: Global, tasks: u32, phasers: u32) -> Result<Findings, NoMemory>
+        requires fits { tasks * phasers < 2 ^ 32 }
+        ensures tasks { IfOk result (λ f. f.tasks ≡ tasks) }
+        ensures phasers { IfOk result (λ f. f.phasers ≡ phasers) }
+        ensures nothing { IfOk result (λ f. (t : ℕ) → (state_found f).published t ≡ None) }
+    {
+        Ok(Findings {
+            tasks,
+            phasers,
+            events: vec![in alloc; None; tasks as usize]?,
+            awaited: vec![in alloc; false; phasers as usize]?,
+            phases: PhaseTable::new(alloc, tasks as usize, phasers as usize)?,
+        })
+    }
+
+    /// No phaser is marked as awaited.
+    pub(crate) fn unmark(&mut self)
+        ensures unmarked { (p : ℕ) → awaited_found self.new p ≡ false }
+        ensures tasks { self.new.tasks ≡ self.old.tasks }
+        ensures phasers { self.new.phasers ≡ self.old.phasers }
+    {
+        for p in 0..self.awaited.len() {
+            self.awaited[p] = false;
+        }
+    }
+
+    // Keeps what the await word of a task was found to say.
+    fn keep_event(&mut self, t: TaskId, event: Option<Event>)
+        requires task { t.0 < self.old.tasks }
+        requires phaser { IfSome event (λ e. e.p.0 < self.old.phasers) }
+        ensures tasks { self.new.tasks ≡ self.old.tasks }
+        ensures phasers { self.new.phasers ≡ self.old.phasers }
+        ensures events { event_at self.new.events.items ≡ updated (event_at self.old.events.items) t.0 event }
+        ensures awaited { (p : ℕ) → awaited_found self.new p ≡ (is_event_of p event || awaited_found self.old p) }
+    {
+        self.events[t.0 as usize] = event;
+        if let Some(event) = event {
+            self.awaited[event.p.0 as usize] = true;
+        }
+    }
+
+    /// Loads the await words of all tasks, in order.
+    pub(crate) fn load_awaits<L: Loads>(&mut self, by: &mut L, board: &Board)
+        requires made { IsOf (L.known by.old) board.now }
+        requires tasks { self.old.tasks ≡ length board.now.plan.parents }
+        requires phasers { self.old.phasers ≡ length board.now.plan.makers }
+        requires unmarked { (p : ℕ) → awaited_found self.old p ≡ false }
+        ensures checked { IsCheckedPlan board.now.plan }
+        ensures made { IsOf (L.known by.new) board.now }
+        ensures tasks { self.new.tasks ≡ self.old.tasks }
+        ensures phasers { self.new.phasers ≡ self.old.phasers }
+        ensures loads { LoadsAwaits (event_at self.new.events.items) self.old.tasks (L.known by.old) (L.known by.new) }
+        ensures awaited { (p : ℕ) → awaited_found self.new p ≡ some_before (λ t. is_event_of p (event_at self.new.events.items t)) self.old.tasks }
+    {
+        for number in 0..board.tasks() {
+            let t = TaskId(number);
+            let seen = by.load_await(board, t);
+            self.keep_event(t, waiting(seen));
+        }
+    }
+
+    // Loads the phase words of a task on the phasers found awaited, in order.
+    fn load_row<L: Loads>(&mut self, by: &mut L, board: &Board, t: TaskId)
+        requires made { IsOf (L.known by.old) board.now }
+        requires tasks { self.old.tasks ≡ length board.now.plan.parents }
+        requires phasers { self.old.phasers ≡ length board.now.plan.makers }
+        requires task { t.0 < self.old.tasks }
+        ensures made { IsOf (L.known by.new) board.now }
+        ensures tasks { self.new.tasks ≡ self.old.tasks }
+        ensures phasers { self.new.phasers ≡ self.old.phasers }
+        ensures events { self.new.events.items ≡ self.old.events.items }
+        ensures awaited { self.new.awaited.items ≡ self.old.awaited.items }
+        ensures others { (u : ℕ) → u ≢ t.0 → phases_in self.new.phases u ≡ phases_in self.old.phases u }
+        ensures loads { LoadsRow (awaited_found self.old) t.0 (phases_in self.new.phases t.0) self.old.phasers (L.known by.old) (L.known by.new) }
+    {
+        for number in 0..self.phasers {
+            if self.awaited[number as usize] {
+                let found = by.load_phase(board, t, PhaserId(number));
+                self.phases.set(t.0 as usize, number as usize, found);
+            }
+        }
+    }
+
+    /// Loads the phase words of each task found waiting on the phasers found awaited, in order.
+    pub(crate) fn load_rows<L: Loads>(&mut self, by: &mut L, board: &Board)
+        requires made { IsOf (L.known by.old) board.now }
+        requires tasks { self.old.tasks ≡ length board.now.plan.parents }
+        requires phasers { self.old.phasers ≡ length board.now.plan.makers }
+        ensures tasks { self.new.tasks ≡ self.old.tasks }
+        ensures phasers { self.new.phasers ≡ self.old.phasers }
+        ensures events { self.new.events.items ≡ self.old.events.items }
+        ensures awaited { self.new.awaited.items ≡ self.old.awaited.items }
+        ensures loads { LoadsRows self.old.phasers (awaited_found self.old) (state_found self.new) self.old.tasks (L.known by.old) (L.known by.new) }
+    {
+        for number in 0..self.tasks {
+            if self.events[number as usize].is_some() {
+                self.load_row(by, board, TaskId(number));
+            }
+        }
+    }
+
+    // The phase of a task that was found on a phaser found awaited.
+    fn listed(&self, t: TaskId, p: PhaserId) -> Option<Member>
+        requires task { t.0 < self.now.tasks }
+        requires phaser { p.0 < self.now.phasers }
+        ensures { result ≡ listed_phase (awaited_found self.now) ((state_found self.now).phases t.0) p.0 }
+    {
+        if !self.awaited[p.0 as usize] {
+            return None;
+        }
+        match self.phases.get(t.0 as usize, p.0 as usize) {
+            Some(n) => Some(Member { p, n }),
+            None => None,
+        }
+    }
+
+    // The phases of a task that were found on the phasers found awaited.
+    fn members(&self, alloc: Global, t: TaskId) -> Result<Vec<Member>, NoMemory>
+        requires task { t.0 < self.now.tasks }
+        ensures { IfOk result (λ list. list.items ≡ given_below (listed_phase (awaited_found self.now) ((state_found self.now).phases t.0)) self.now.phasers) }
+    {
+        let mut members = Vec::new(alloc);
+        for p in 0..self.phasers {
+            match self.listed(t, PhaserId(p)) {
+                Some(member) => members.push(member)?,
+                None => {}
+            }
+        }
+        Ok(members)
+    }
+
+    /// The statuses of what was found.
+    pub(crate) fn statuses(&self, alloc: Global) -> Result<List<Status>, NoMemory>
+        ensures { IfOk result (λ list. list ≡ statuses_found self.now) }
+    {
+        let mut statuses = Vec::new(alloc);
+        for number in 0..self.tasks {
+            let t = TaskId(number);
+            match self.events[number as usize] {
+                Some(event) => {
+                    let phases = self.members(alloc, t)?;
+                    statuses.push(Status {
+                        t,
+                        event,
+                        phases: List::from_vec(phases),
+                    })?;
+                }
+                None => {}
+            }
+        }
+        Ok(List::from_vec(statuses))
+    }
+}

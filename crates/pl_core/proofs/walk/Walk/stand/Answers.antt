@@ -1,0 +1,30 @@
+use Rattle.std.proofs.Common.{◌≡◌, ◌∙◌, Some, None, add-one, ap, set, subst, suc, sym}
+use Rattle.std.specs.Prelude.{slice_get, ◌||◌, if◌then◌else◌}
+use Rattle.pl_core.specs.PhaseTables.{phases_in}
+use Rattle.pl_core.specs.Walks.{AwaitsBelow, IsWalk, event_of_op, walked}
+use Rattle.pl_core.specs.Worlds.{places_at}
+use Rattle.pl_core.proofs.WalkEnds.{awaits_below, walk_stands}
+use Rattle.pl_core.proofs.walk.Walk.stand.Goals as goal
+
+pub event-event-requires-clause-phaser : goal.event-event-requires-clause-phaser
+event-event-requires-clause-phaser c =
+    let op_is = c.op_at-op.ensures ∙ ap (λ xs. slice_get xs c.args.stop.op) c.code.ensures.code in
+    subst (AwaitsBelow c.args.self.now.phases.phasers) (sym op_is)
+    (awaits_below c.args.plan.now c.requires.walking.checked c.args.places.now c.requires.given c.args.t.0 c.place_within-place.result c.place_within-place.ensures
+    c.args.stop c.requires.stop c.args.self.now.tasks.items c.args.self.now.phases c.requires.walking)
+
+pub returns : goal.returns
+returns c =
+    let plan = c.args.plan.now in
+    let places = c.args.places.now in
+    let t = c.args.t.0 in
+    let place = c.place_within-place.result in
+    let was = c.task_at-forked.result in
+    let op_is = c.op_at-op.ensures ∙ ap (λ xs. slice_get xs c.args.stop.op) c.code.ensures.code in
+    let event_is = c.event-event.ensures ∙ ap (λ o. if c.args.stop.begun || place.refused then event_of_op o (phases_in c.args.self.now.phases t) else None) op_is in
+    let read = subst (λ xs. slice_get xs t ≡ Some was) c.deref.ensures.value c.task_at-forked.ensures in
+    let stood = walk_stands plan c.requires.walking.checked places c.requires.given t place c.place_within-place.ensures c.args.stop c.requires.stop c.args.self.now.tasks.items c.args.self.now.phases c.requires.walking was read
+    c.clear_refused.new.phases c.clear_refused.ensures.tasks c.clear_refused.ensures.phasers c.clear_refused.ensures.cleared in
+    subst (λ n. IsWalk plan places (walked (places_at plan places) n) n (set c.args.self.now.tasks.items t (record { place = place; op = c.args.stop.op; event = c.event-event.result; forked = was.forked })) c.clear_refused.new.phases) (sym (add-one t))
+    (subst (λ e. IsWalk plan places (walked (places_at plan places) (suc t)) (suc t) (set c.args.self.now.tasks.items t (record { place = place; op = c.args.stop.op; event = e; forked = was.forked })) c.clear_refused.new.phases) (sym event_is)
+    stood)

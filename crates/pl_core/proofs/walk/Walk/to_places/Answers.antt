@@ -1,0 +1,28 @@
+use Rattle.std.proofs.Common.{◌≡◌, ◌∙◌, ap, arith, length, subst}
+use Rattle.pl_core.specs.Changes.{opening_tasks}
+use Rattle.pl_core.specs.Walks.{IsWalk, walked}
+use Rattle.pl_core.specs.Worlds.{places_at}
+use Rattle.pl_core.proofs.WalkDone.{same_places, walk_done, walk_start}
+use Rattle.pl_core.proofs.walk.Walk.to_places.Goals as goal
+
+pub loop-t-init : goal.loop-t-init
+loop-t-init c =
+    walk_start c.args.plan.now c.tasks-count.ensures.checked c.args.places.now c.in_ok-tasks.tasks.items c.in_ok-phases.phases
+    (c.in_ok-tasks.ensures ∙ ap opening_tasks c.tasks-count.ensures.counted)
+    (c.in_ok-phases.ensures.tasks ∙ c.tasks-count.ensures.counted) (c.in_ok-phases.ensures.phasers ∙ c.phasers.ensures.counted) c.in_ok-phases.ensures.empty
+
+pub returns-clause-kept : goal.returns-clause-kept
+returns-clause-kept c =
+    let plan = c.args.plan.now in
+    let places = c.args.places.now in
+    let last : c.loop-t.t ≡ length plan.parents = omega arith in
+    walk_done plan places c.requires.given c.loop-t.walk.tasks.items c.loop-t.walk.phases
+    (subst (λ n. IsWalk plan places (walked (places_at plan places) n) n c.loop-t.walk.tasks.items c.loop-t.walk.phases) last c.loop-t.invariant)
+
+pub returns-clause-places : goal.returns-clause-places
+returns-clause-places c =
+    let plan = c.args.plan.now in
+    let places = c.args.places.now in
+    let last : c.loop-t.t ≡ length plan.parents = omega arith in
+    same_places plan places c.requires.given c.loop-t.walk.tasks.items c.loop-t.walk.phases
+    (subst (λ n. IsWalk plan places (walked (places_at plan places) n) n c.loop-t.walk.tasks.items c.loop-t.walk.phases) last c.loop-t.invariant)

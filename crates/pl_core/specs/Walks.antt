@@ -1,0 +1,67 @@
+-- A walk along the codes of the tasks, in order of number, to given places.
+use Rattle.std.specs.Prelude.{◌≡◌, ℕ, ◌+◌, ◌<◌, ◌≤◌, List, Option, Some, None, length, slice_get, slice_set, nat_lt, option_map, if◌then◌else◌}
+use Rattle.armus_base.specs.declared.event.Event.{Event}
+use Rattle.armus_base.specs.declared.op.Op.{Op}
+use Rattle.armus_base.specs.declared.op.Op.TheVariants.{Await, Fork}
+use Rattle.armus_base.specs.Plans.{Plan, code_of}
+use Rattle.armus_base.specs.States.{Phases, awaited, updated}
+use Rattle.armus_base.specs.Runs.{Place, first_place}
+use Rattle.armus_base.specs.Places.{done_by, forked_at, state_at}
+use Rattle.armus_base.specs.CheckedPlans.{IsCheckedPlan}
+use Rattle.pl_core.specs.declared.place.Place.{Place as Standing}
+use Rattle.pl_core.specs.declared.task.Task.{Task}
+use Rattle.pl_core.specs.declared.phase_table.PhaseTable.{PhaseTable}
+use Rattle.pl_core.specs.Changes.{after_fork}
+use Rattle.pl_core.specs.Ops.{action_of}
+use Rattle.pl_core.specs.PhaseTables.{phases_in}
+use Rattle.pl_core.specs.Tasks.{actions_before, begun, event_in}
+use Rattle.pl_core.specs.Worlds.{places_at}
+
+-- of the places a: those of the tasks below t, and no other task has made a step
+abbrev pub walked : (ℕ → Place) → ℕ → ℕ → Place
+walked a t u = if nat_lt u t then a u else first_place
+
+-- the same, but that task t has made its first k actions
+abbrev pub walking : (ℕ → Place) → ℕ → ℕ → ℕ → Place
+walking a t k = updated (walked a t) t (record { done = k; dropped = None })
+
+-- what is kept of task u is its given place, and where it stands there
+pub record IsSettled (plan : Plan) (places : List Standing) (u : ℕ) (task : Task) : Type 0 where
+  pub place : slice_get places u ≡ Some task.place
+  pub event : task.event ≡ event_in (state_at plan (places_at plan places)) u task.place.refused
+  pub within : task.op ≤ length (code_of plan u)
+  pub events : task.place.events ≡ actions_before (code_of plan u) task.op + begun task
+
+-- the phases, and who is forked, are those at the places b, and the tasks below t are settled
+pub record IsWalk (plan : Plan) (places : List Standing) (b : ℕ → Place) (t : ℕ) (tasks : List Task) (table : PhaseTable) : Type 0 where
+  pub checked : IsCheckedPlan plan
+  pub one_each : length tasks ≡ length plan.parents
+  pub rows : table.tasks ≡ length plan.parents
+  pub columns : table.phasers ≡ length plan.makers
+  pub phases : phases_in table ≡ (state_at plan b).phases
+  pub forked : (u : ℕ) (task : Task) → slice_get tasks u ≡ Some task → task.forked ≡ forked_at plan (done_by b) u
+  pub settled : (u : ℕ) (task : Task) → u < t → slice_get tasks u ≡ Some task → IsSettled plan places u task
+
+-- what is kept when task c, if there is one, is forked
+abbrev pub with_forked : List Task → ℕ → Option Task → List Task
+with_forked tasks c None = tasks
+with_forked tasks c (Some child) = slice_set tasks c (after_fork child)
+
+-- what is kept of the tasks after the op
+abbrev pub marked_by : List Task → Op → List Task
+marked_by tasks (Fork c) = with_forked tasks c.0 (slice_get tasks c.0)
+marked_by tasks op = tasks
+
+-- whom the op forks has a number below n
+abbrev pub ForksBelow : ℕ → Op → Type 0
+ForksBelow n (Fork c) = c.0 < n
+ForksBelow n op = Unit {0}
+
+-- what the op awaits has a number below n
+abbrev pub AwaitsBelow : ℕ → Option Op → Type 0
+AwaitsBelow n (Some (Await p)) = p.0 < n
+AwaitsBelow n op = Unit {0}
+
+-- the event of an await at these phases
+abbrev pub event_of_op : Option Op → Phases → Option Event
+event_of_op op = awaited (option_map action_of op)

@@ -1,0 +1,171 @@
+// A walk along the codes of the tasks, in order of number, to given places.
+ghost use Rattle.std.specs.Prelude.{◌≡◌, ◌+◌, ◌<◌, ◌^◌, None, Some, IfOk, length, slice_get, ◌||◌, if◌then◌else◌};
+ghost use Rattle.armus_base.specs.Plans.{code_of};
+ghost use Rattle.armus_base.specs.States.{updated};
+ghost use Rattle.pl_core.specs.Effects.{HasRoomFor};
+ghost use Rattle.pl_core.specs.GivenPlaces.{AreReachable};
+ghost use Rattle.pl_core.specs.Ops.{action_of, phases_moved};
+ghost use Rattle.pl_core.specs.PhaseTables.{phases_in};
+ghost use Rattle.pl_core.specs.Stops.{IsStopOf};
+ghost use Rattle.pl_core.specs.Tables.{IsKept, standings};
+ghost use Rattle.pl_core.specs.Tasks.{actions_before};
+ghost use Rattle.pl_core.specs.Walks.{AwaitsBelow, ForksBelow, IsWalk, event_of_op, marked_by, walked, walking};
+ghost use Rattle.pl_core.specs.Worlds.{places_at};
+
+use crate::Place;
+use crate::effect::move_phases;
+use crate::phase_table::PhaseTable;
+use crate::stop::{Stop, op_within, stop_of};
+use crate::task::{Task, first_tasks, op_at, task_at};
+use armus_base::{Event, NoMemory, Op, Plan, TaskId};
+use std::alloc::Global;
+
+/// The place at this index.
+pub(crate) fn place_within(places: &[Place], at: usize) -> Place
+    requires { at < length places.now }
+    ensures { slice_get places.now at ≡ Some result }
+{
+    places[at]
+}
+
+// Marks the child that the op forks.
+fn mark_forked(tasks: &mut Vec<Task>, op: Op)
+    requires child { ForksBelow (length tasks.old.items) op }
+    ensures { tasks.new.items ≡ marked_by tasks.old.items op }
+{
+    match op {
+        Op::Fork { c } => {
+            let at = c.0 as usize;
+            tasks[at] = task_at(tasks, at).after_fork();
+        }
+        _ => {}
+    }
+}
+
+// The event of the await before which a task stands.
+fn event_of(phases: &PhaseTable, t: usize, op: Option<Op>) -> Option<Event>
+    requires task { t < phases.now.tasks }
+    requires phaser { AwaitsBelow phases.now.phasers op }
+    ensures { result ≡ event_of_op op (phases_in phases.now t) }
+{
+    match op {
+        Some(Op::Await { p }) => match phases.get(t, p.0 as usize) {
+            Some(n) => Some(Event { p, n }),
+            None => None,
+        },
+        _ => None,
+    }
+}
+
+// Takes a refused task off all phasers.
+fn clear_refused(phases: &mut PhaseTable, t: usize, refused: bool)
+    requires task { t < phases.old.tasks }
+    ensures tasks { phases.new.tasks ≡ phases.old.tasks }
+    ensures phasers { phases.new.phasers ≡ phases.old.phasers }
+    ensures cleared { phases_in phases.new ≡ (if refused then updated (phases_in phases.old) t (λ _. None) else phases_in phases.old) }
+{
+    if refused {
+        phases.clear(t);
+    }
+}
+
+// What is kept of the tasks, and their phases, so far.
+#[derive(Drop)]
+pub(crate) struct Walk {
+    pub(crate) tasks: Vec<Task>,
+    pub(crate) phases: PhaseTable,
+}
+
+impl Walk {
+    /// What is kept at these places.
+    pub(crate) fn to_places(alloc: Global, plan: &Plan, places: &[Place]) -> Result<Walk, NoMemory>
+        requires given { AreReachable plan.now places.now }
+        ensures kept { IfOk result (λ walk. IsKept plan.now walk.tasks.items walk.phases) }
+        ensures places { IfOk result (λ walk. standings walk.tasks.items ≡ places.now) }
+    {
+        let count = plan.tasks() as usize;
+        let phases = PhaseTable::new(alloc, count, plan.phasers() as usize)?;
+        let tasks = first_tasks(alloc, count)?;
+        let mut walk = Walk { tasks, phases };
+        for t in 0..plan.tasks() {
+            walk.settle(plan, places, TaskId(t));
+        }
+        Ok(walk)
+    }
+
+    // Walks the code of one task to its place.
+    fn settle(&mut self, plan: &Plan, places: &[Place], t: TaskId)
+        requires task { t.0 < length plan.now.parents }
+        requires given { AreReachable plan.now places.now }
+        requires walked { IsWalk plan.now places.now (walked (places_at plan.now places.now) t.0) t.0 self.old.tasks.items self.old.phases }
+        ensures { IsWalk plan.now places.now (walked (places_at plan.now places.now) (t.0 + 1)) (t.0 + 1) self.new.tasks.items self.new.phases }
+    {
+        let stop = self.make_ops(plan, places, t);
+        self.stand(plan, places, t, stop);
+    }
+
+    // Makes the ops of one task that its place has behind it, and answers where it stands then.
+    fn make_ops(&mut self, plan: &Plan, places: &[Place], t: TaskId) -> Stop
+        requires task { t.0 < length plan.now.parents }
+        requires given { AreReachable plan.now places.now }
+        requires walked { IsWalk plan.now places.now (walked (places_at plan.now places.now) t.0) t.0 self.old.tasks.items self.old.phases }
+        ensures stop { IsStopOf (code_of plan.now t.0) (places_at plan.now places.now t.0).done result }
+        ensures walking { IsWalk plan.now places.now (walking (places_at plan.now places.now) t.0 (actions_before (code_of plan.now t.0) result.op)) t.0 self.new.tasks.items self.new.phases }
+    {
+        let ops = plan.code(t);
+        let stop = stop_of(ops, place_within(places, t.0 as usize).events);
+        for k in 0..stop.op {
+            self.make_op(t, op_within(ops, k as usize));
+        }
+        stop
+    }
+
+    // Makes one op of a task.
+    fn make_op(&mut self, t: TaskId, op: Op)
+        requires task { t.0 < self.old.phases.tasks }
+        requires child { ForksBelow (length self.old.tasks.items) op }
+        requires room { HasRoomFor self.old.phases t.0 op }
+        ensures tasks { self.new.tasks.items ≡ marked_by self.old.tasks.items op }
+        ensures rows { self.new.phases.tasks ≡ self.old.phases.tasks }
+        ensures columns { self.new.phases.phasers ≡ self.old.phases.phasers }
+        ensures moved { phases_in self.new.phases ≡ phases_moved (phases_in self.old.phases) t.0 (action_of op) }
+    {
+        mark_forked(&mut self.tasks, op);
+        move_phases(&mut self.phases, t.0 as usize, op);
+    }
+
+    // Puts a task at its place, before which it has made all its ops.
+    fn stand(&mut self, plan: &Plan, places: &[Place], t: TaskId, stop: Stop)
+        requires task { t.0 < length plan.now.parents }
+        requires given { AreReachable plan.now places.now }
+        requires stop { IsStopOf (code_of plan.now t.0) (places_at plan.now places.now t.0).done stop }
+        requires walking { IsWalk plan.now places.now (walking (places_at plan.now places.now) t.0 (actions_before (code_of plan.now t.0) stop.op)) t.0 self.old.tasks.items self.old.phases }
+        ensures { IsWalk plan.now places.now (walked (places_at plan.now places.now) (t.0 + 1)) (t.0 + 1) self.new.tasks.items self.new.phases }
+    {
+        let at = t.0 as usize;
+        let place = place_within(places, at);
+        let op = op_at(plan.code(t), stop.op as usize);
+        let event = self.event(t, op, stop.begun, place.refused);
+        clear_refused(&mut self.phases, at, place.refused);
+        let forked = task_at(&self.tasks, at).forked;
+        self.tasks[at] = Task {
+            place,
+            op: stop.op,
+            event,
+            forked,
+        };
+    }
+
+    // The event of a task's op, if the task is published or refused there.
+    fn event(&self, t: TaskId, op: Option<Op>, begun: bool, refused: bool) -> Option<Event>
+        requires task { t.0 < self.now.phases.tasks }
+        requires phaser { AwaitsBelow self.now.phases.phasers op }
+        ensures { result ≡ (if begun || refused then event_of_op op (phases_in self.now.phases t.0) else None) }
+    {
+        if begun || refused {
+            event_of(&self.phases, t.0 as usize, op)
+        } else {
+            None
+        }
+    }
+}

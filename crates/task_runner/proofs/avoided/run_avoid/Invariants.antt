@@ -1,0 +1,19 @@
+use Rattle.std.proofs.Common.{◌≡◌, length}
+use Rattle.armus_base.specs.Deadlocks.{NobodyDead}
+use Rattle.pl_core.specs.Worlds.{state_of}
+use Rattle.task_runner.specs.AvoidedRuns.{left_in}
+use Rattle.task_runner.proofs.SerialEnds.{HasSerialRun}
+use Rattle.task_runner.proofs.avoided.run_avoid.Given as goal
+
+abbrev pub invariant-rounds : goal.invariant-rounds
+invariant-rounds g l =
+    record {
+      plan : l.world.plan ≡ l.plan;
+      nobody : NobodyDead (state_of l.world);
+      forked : length l.forked.items ≡ length l.plan.parents;
+      behind : length l.behind.items ≡ length l.plan.parents;
+      serial : HasSerialRun l.plan l.world;
+    }
+
+abbrev pub decreases-rounds : goal.decreases-rounds
+decreases-rounds g l = left_in l.world

@@ -1,0 +1,151 @@
+// The run that avoids deadlock with one worker.
+ghost use Rattle.std.specs.Prelude.{◌≡◌, ◌<◌, Bool, true, false, length, IfOk, OnOk};
+ghost use Rattle.armus_base.specs.Deadlocks.{NobodyDead};
+ghost use Rattle.pl_core.specs.Worlds.{state_of};
+ghost use Rattle.task_runner.specs.AvoidedRuns.{HasPart, HasRoundBelow, IsSerialEnd, left_in};
+ghost use Rattle.task_runner.specs.Turns.{TellsForked};
+
+use crate::RunOptions;
+use crate::round::{mark_forked, may_go_on};
+use adaptive::Wanted;
+use armus_base::{Final, Gate, NoMemory, Plan, TaskId};
+use avoider::go_on;
+use pl_core::World;
+use std::alloc::Global;
+use std::thread::Threads;
+
+/// The state in which the serial avoided run of the plan ends; nobody is dead in it. The run goes by rounds: in a round each task that was forked
+/// before it acts, in order of number, until it is done, or waits on an event that is not reached, or is refused, which it is exactly where it
+/// would be dead. It calls the gate before each op, of which no clause speaks, and the number of workers has no effect.
+pub fn run_avoid<R: Threads + Sync, G: Gate>(
+    rt: &R,
+    alloc: Global,
+    plan: &Plan,
+    options: &RunOptions,
+    gate: &G,
+) -> Result<Final, NoMemory>
+    requires { options.now.live ≡ false }
+    ensures end { IfOk result (λ end. IsSerialEnd plan.now end) }
+{
+    let _ = rt;
+    let mut world = World::start(alloc, plan)?;
+    let count = plan.tasks() as usize;
+    let mut forked = vec![in alloc; false; count]?;
+    let mut behind = vec![in alloc; 0u32; count]?;
+    'rounds: while avoided_round(
+        alloc,
+        &mut world,
+        &mut forked,
+        &mut behind,
+        options.wanted,
+        gate,
+    )? {}
+    world.finish(alloc)
+}
+
+// One turn of each task that is forked now, in order of number; answers whether an event happened.
+fn avoided_round<G: Gate>(
+    alloc: Global,
+    world: &mut World,
+    forked: &mut [bool],
+    behind: &mut [u32],
+    wanted: Wanted,
+    gate: &G,
+) -> Result<bool, NoMemory>
+    requires forked_len { length forked.old ≡ length world.old.plan.parents }
+    requires behind_len { length behind.old ≡ length world.old.plan.parents }
+    requires nobody { NobodyDead (state_of world.old) }
+    ensures plan { OnOk result (world.new.plan ≡ world.old.plan) }
+    ensures nobody { OnOk result (NobodyDead (state_of world.new)) }
+    ensures moved { IfOk result (λ moved. moved ≡ true → left_in world.new < left_in world.old) }
+    ensures round { IfOk result (λ moved. HasRoundBelow world.old world.new (length world.old.plan.parents) moved) }
+{
+    mark_forked(world, forked);
+    avoided_turns(alloc, world, forked, behind, wanted, gate)
+}
+
+// One turn of each noted task, in order of number; answers whether an event happened.
+fn avoided_turns<G: Gate>(
+    alloc: Global,
+    world: &mut World,
+    forked: &[bool],
+    behind: &mut [u32],
+    wanted: Wanted,
+    gate: &G,
+) -> Result<bool, NoMemory>
+    requires forked { TellsForked world.old forked.now }
+    requires forked_len { length forked.now ≡ length world.old.plan.parents }
+    requires behind_len { length behind.old ≡ length world.old.plan.parents }
+    requires nobody { NobodyDead (state_of world.old) }
+    ensures plan { OnOk result (world.new.plan ≡ world.old.plan) }
+    ensures nobody { OnOk result (NobodyDead (state_of world.new)) }
+    ensures moved { IfOk result (λ moved. moved ≡ true → left_in world.new < left_in world.old) }
+    ensures round { IfOk result (λ moved. HasRoundBelow world.old world.new (length world.old.plan.parents) moved) }
+{
+    let mut moved = false;
+    for t in 0..world.plan().tasks() {
+        let acted = avoided_turn_if(
+            forked[t as usize],
+            alloc,
+            world,
+            TaskId(t),
+            &mut behind[t as usize],
+            wanted,
+            gate,
+        )?;
+        moved = moved || acted;
+    }
+    Ok(moved)
+}
+
+// The turn of a task, if it was forked before the round.
+fn avoided_turn_if<G: Gate>(
+    forked: bool,
+    alloc: Global,
+    world: &mut World,
+    t: TaskId,
+    behind: &mut u32,
+    wanted: Wanted,
+    gate: &G,
+) -> Result<bool, NoMemory>
+    requires task { t.0 < length world.old.plan.parents }
+    requires nobody { NobodyDead (state_of world.old) }
+    requires forked { forked ≡ true → (state_of world.old).forked t.0 ≡ true }
+    ensures plan { OnOk result (world.new.plan ≡ world.old.plan) }
+    ensures nobody { OnOk result (NobodyDead (state_of world.new)) }
+    ensures moved { IfOk result (λ moved. moved ≡ true → left_in world.new < left_in world.old) }
+    ensures still { IfOk result (λ moved. moved ≡ false → world.new ≡ world.old) }
+    ensures part { IfOk result (λ moved. HasPart world.old world.new t.0 forked moved) }
+{
+    if forked {
+        avoided_turn(alloc, world, t, behind, wanted, gate)
+    } else {
+        Ok(false)
+    }
+}
+
+// The turn of a task: it acts until it is done, or waits on an event that is not reached, or is refused.
+fn avoided_turn<G: Gate>(
+    alloc: Global,
+    world: &mut World,
+    t: TaskId,
+    behind: &mut u32,
+    wanted: Wanted,
+    gate: &G,
+) -> Result<bool, NoMemory>
+    requires task { t.0 < length world.old.plan.parents }
+    requires nobody { NobodyDead (state_of world.old) }
+    requires forked { (state_of world.old).forked t.0 ≡ true }
+    ensures plan { OnOk result (world.new.plan ≡ world.old.plan) }
+    ensures nobody { OnOk result (NobodyDead (state_of world.new)) }
+    ensures moved { IfOk result (λ moved. moved ≡ true → left_in world.new < left_in world.old) }
+    ensures still { IfOk result (λ moved. moved ≡ false → world.new ≡ world.old) }
+    ensures part { IfOk result (λ moved. HasPart world.old world.new t.0 true moved) }
+{
+    let mut moved = false;
+    'turn: while may_go_on(world, t, behind, gate) {
+        go_on(alloc, world, t, wanted)?;
+        moved = true;
+    }
+    Ok(moved)
+}

@@ -1,0 +1,146 @@
+// Recorded runs of two tasks that wait for each other, and of two tasks that a gate makes act side by side.
+use crate::{RunOptions, run_journal, run_plain};
+use adaptive::Wanted;
+use armus_base::{Code, Gate, List, NoMemory, Op, PhaserId, Plan, Point, Still, TaskId};
+use std::alloc::Global;
+use std::sync::atomic::{AtomicBool, Ordering};
+use std::test::Fail;
+use std::thread::yield_now;
+
+const A: PhaserId = PhaserId(0);
+
+const B: PhaserId = PhaserId(1);
+
+const ROOT: TaskId = TaskId(0);
+
+const FIRST: TaskId = TaskId(1);
+
+const SECOND: TaskId = TaskId(2);
+
+// How often a task looks for another at the gate before it gives up.
+const MAX_LOOKS: u32 = 200_000_000;
+
+// Task 0 makes two phasers, registers its child on both and forks it; it waits on the first, and the child on the second.
+fn two_tasks(alloc: Global) -> Result<Plan, NoMemory> {
+    let parents = vec![in alloc; None, Some(ROOT)]?;
+    let makers = vec![in alloc; ROOT, ROOT]?;
+    let first = vec![in alloc;
+        Op::Make { p: A },
+        Op::Make { p: B },
+        Op::Reg { c: FIRST, p: A },
+        Op::Reg { c: FIRST, p: B },
+        Op::Fork { c: FIRST },
+        Op::Adv { p: A },
+        Op::Await { p: A },
+    ]?;
+    let second = vec![in alloc; Op::Adv { p: B }, Op::Await { p: B }]?;
+    let codes = vec![in alloc;
+        Code::from_ops(List::from_vec(first)),
+        Code::from_ops(List::from_vec(second)),
+    ]?;
+    Ok(Plan::from_parts(
+        List::from_vec(parents),
+        List::from_vec(makers),
+        List::from_vec(codes),
+    ))
+}
+
+// Task 0 forks two children, each of which makes a phaser.
+fn two_makers(alloc: Global) -> Result<Plan, NoMemory> {
+    let parents = vec![in alloc; None, Some(ROOT), Some(ROOT)]?;
+    let makers = vec![in alloc; FIRST, SECOND]?;
+    let root = vec![in alloc; Op::Fork { c: FIRST }, Op::Fork { c: SECOND }]?;
+    let first = vec![in alloc; Op::Make { p: A }]?;
+    let second = vec![in alloc; Op::Make { p: B }]?;
+    let codes = vec![in alloc;
+        Code::from_ops(List::from_vec(root)),
+        Code::from_ops(List::from_vec(first)),
+        Code::from_ops(List::from_vec(second)),
+    ]?;
+    Ok(Plan::from_parts(
+        List::from_vec(parents),
+        List::from_vec(makers),
+        List::from_vec(codes),
+    ))
+}
+
+// A gate that holds tasks 1 and 2 before their first op until both are there.
+#[derive(Drop)]
+struct Meeting {
+    first_came: AtomicBool,
+    second_came: AtomicBool,
+    gave_up: AtomicBool,
+}
+
+impl Meeting {
+    fn new() -> Meeting {
+        Meeting {
+            first_came: AtomicBool::new(false),
+            second_came: AtomicBool::new(false),
+            gave_up: AtomicBool::new(false),
+        }
+    }
+
+    fn wait_for(&self, other: &AtomicBool) {
+        for _ in 0..MAX_LOOKS {
+            if other.load(Ordering::SeqCst) {
+                return;
+            }
+            yield_now();
+        }
+        self.gave_up.store(true, Ordering::SeqCst);
+    }
+}
+
+impl Gate for Meeting {
+    fn at(&self, point: Point) {
+        match point {
+            Point::Op { t: FIRST, k: 0 } => {
+                self.first_came.store(true, Ordering::SeqCst);
+                self.wait_for(&self.second_came);
+            }
+            Point::Op { t: SECOND, k: 0 } => {
+                self.second_came.store(true, Ordering::SeqCst);
+                self.wait_for(&self.first_came);
+            }
+            _ => {}
+        }
+    }
+}
+
+#[test]
+fn both_wait(rt: HostRuntime) -> Result<(), Fail> {
+    let alloc = rt.alloc();
+    let plan = two_tasks(alloc)?;
+    let plain = run_plain(alloc, &plan, &Still)?;
+    for workers in [1, 3] {
+        let options = RunOptions {
+            workers,
+            wanted: Wanted::Auto,
+            live: false,
+        };
+        let (end, journal) = run_journal(&rt, alloc, &plan, &options, &Still)?;
+        assert!(rt; end.ends.as_slice() == plain.ends.as_slice());
+        assert_eq!(rt; end.blocked.as_slice().len(), 2);
+        let journal = journal.as_slice();
+        assert_eq!(rt; journal.len(), 9);
+        assert!(rt; journal[..5] == [ROOT, ROOT, ROOT, ROOT, ROOT]);
+    }
+    Ok(())
+}
+
+#[test]
+fn two_act_side_by_side(rt: HostRuntime) -> Result<(), Fail> {
+    let alloc = rt.alloc();
+    let plan = two_makers(alloc)?;
+    let gate = Meeting::new();
+    let options = RunOptions {
+        workers: 2,
+        wanted: Wanted::Auto,
+        live: false,
+    };
+    let (_end, journal) = run_journal(&rt, alloc, &plan, &options, &gate)?;
+    assert!(rt; !gate.gave_up.load(Ordering::SeqCst));
+    assert_eq!(rt; journal.as_slice().len(), 4);
+    Ok(())
+}

@@ -1,0 +1,1 @@
+../ends_without_leaving.pl

@@ -1,0 +1,1 @@
+../fork_join.pl

@@ -1,0 +1,1 @@
+../leaves_the_state_graph.pl

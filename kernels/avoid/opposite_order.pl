@@ -1,0 +1,1 @@
+../opposite_order.pl

@@ -1,0 +1,1 @@
+../split_phase_barrier.pl

@@ -1,0 +1,1 @@
+../waits_behind_a_cycle.pl
