@@ -1,6 +1,7 @@
 -- A report has at least two lines.
 use Rattle.std.proofs.Common.{◌≡◌, ◌≢◌, ◌∙◌, ◌<◌, ◌+◌, ◌++◌, [], ◌∷◌, ℕ, List, length, sym, subst, ap, refl, arith, append_assoc, codes}
-use Rattle.std.specs.Prelude.{decimal}
+use Rattle.std.specs.Prelude.{decimal, IfOk, Result, Ok, Err}
+use Rattle.armus_base.specs.declared.errors.NoMemory.{NoMemory}
 use Rattle.std.proofs.lemmas.List.{append_cancel_right}
 use Rattle.armus_base.specs.declared.ending.Final.{Final}
 use Rattle.adaptive.specs.declared.analysis.Wanted.{Wanted}
@@ -8,10 +9,10 @@ use Rattle.report.specs.Counts.{counts_of}
 use Rattle.report.specs.Lines.{counts_line, graph_name, task_lines}
 use Rattle.report.specs.Reports.{IsReport}
 use Rattle.adaptive.specs.declared.analysis.Used.{Used}
-use Rattle.schedule.specs.Lines.{HasNoEnd, IsFirstLine, ended, unended}
+use Rattle.schedule.specs.Lines.{HasNoEnd, IsCut, IsFirstLine, a_line, ended, unended}
 use Rattle.schedule.proofs.OneSchedule.{no_end_inside}
 use Rattle.armus_top.specs.Texts.{Text, line}
-use Rattle.armus_top.specs.Generated.{HasTwoLines}
+use Rattle.armus_top.specs.Generated.{HasTwoLines, IsFirstAndLast}
 
 -- what is put together of a line, more bytes and a line has two lines
 joined : (a b y g : Text) → line a ++ b ++ y ++ line g ≡ line (a ++ 10 ∷ (b ++ y ++ g))
@@ -47,3 +48,10 @@ more_lines text first [] (front, back, e) (ended free is) =
 more_lines text first (x ∷ xs) two (ended free is) = omega arith
 more_lines text first rest (front, back, e) (unended free some is nothing) =
     absurd (no_end_inside (front ++ 10 ∷ back) [] (subst HasNoEnd (sym is ∙ e) free))
+
+-- the first and the last line of the text, one behind the other
+pub both_lines : (text first more last : Text) (result : Result Text NoMemory) → IsFirstLine text first more → (before : List Text) × IsCut more (before ++ last ∷ [])
+    → IfOk result (λ shown. shown ≡ line first ++ line last) → IfOk result (IsFirstAndLast text)
+both_lines text first more last (Ok shown) here (before, cut) is =
+    record { first = first; between = before; last = last; cut = a_line text first more (before ++ last ∷ []) here cut; text_is = is }
+both_lines text first more last (Err e) here cut is = tt

@@ -1,9 +1,9 @@
 // What `gen` answers.
-ghost use Rattle.std.specs.Prelude.{◌≡◌, ◌≢◌, ◌<◌, ◌∷◌, ◌++◌, [], IfOk, List as Seq, ℕ, if◌then◌else◌, length};
+ghost use Rattle.std.specs.Prelude.{◌≡◌, ◌≢◌, ◌<◌, ◌∷◌, ◌++◌, [], IfOk, OnOk, List as Seq, ℕ, if◌then◌else◌, length};
 ghost use Rattle.adaptive.specs.declared.analysis.Wanted.{Wanted};
 ghost use Rattle.gen_text.specs.Generated.{generated_text};
 ghost use Rattle.schedule.specs.Lines.{IsCut};
-ghost use Rattle.armus_top.specs.Texts.{Text};
+ghost use Rattle.armus_top.specs.Texts.{line};
 ghost use Rattle.armus_top.specs.Runs.{IsRunOf};
 ghost use Rattle.armus_top.specs.Generated.{HasTwoLines, IsFirstAndLast};
 ghost use Rattle.armus_top.specs.Headline.{passage};
@@ -19,7 +19,7 @@ use adaptive::Wanted;
 use armus_base::{Gate, List, NoMemory, Sink};
 use gen_text::gen_text;
 use schedule::first_line;
-use std::alloc::Global;
+use std::alloc::{AllocError, Global};
 
 // The last line.
 fn last_line(bytes: &[u8]) -> &[u8]
@@ -35,6 +35,24 @@ fn last_line(bytes: &[u8]) -> &[u8]
     line
 }
 
+// Puts a line behind others.
+fn put_line(out: &mut Vec<u8>, words: &[u8]) -> Result<(), AllocError>
+    ensures { OnOk result (out.new.items ≡ out.old.items ++ line words.now) }
+{
+    out.extend_from_slice(words)?;
+    out.extend_from_slice(b"\n")
+}
+
+// Two lines.
+fn two_lines(alloc: Global, first: &[u8], last: &[u8]) -> Result<List<u8>, NoMemory>
+    ensures { IfOk result (λ text. text ≡ line first.now ++ line last.now) }
+{
+    let mut text = Vec::new(alloc);
+    put_line(&mut text, first)?;
+    put_line(&mut text, last)?;
+    Ok(List::from_vec(text))
+}
+
 // The first and the last line of a report.
 fn first_and_last(alloc: Global, report: &[u8]) -> Result<List<u8>, NoMemory>
     requires lines { HasTwoLines report.now }
@@ -42,12 +60,7 @@ fn first_and_last(alloc: Global, report: &[u8]) -> Result<List<u8>, NoMemory>
 {
     let (first, more) = first_line(report);
     let last = last_line(more);
-    let mut text = Vec::new(alloc);
-    text.extend_from_slice(first)?;
-    text.extend_from_slice(b"\n")?;
-    text.extend_from_slice(last)?;
-    text.extend_from_slice(b"\n")?;
-    Ok(List::from_vec(text))
+    two_lines(alloc, first, last)
 }
 
 // The run of the generated text.

@@ -1,5 +1,6 @@
 // The worked rows of the program, as tables: a file for each command, one for words that are none, and one for sources and sinks that fail.
 mod check;
+mod generated;
 mod outside;
 mod replay;
 mod run;

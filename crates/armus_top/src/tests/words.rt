@@ -10,7 +10,7 @@ fn words_that_are_no_command(rt: HostRuntime) -> Result<(), Fail> {
         (&[], "", USAGE, 2),
         (&["run", "--workers", "0"], "", USAGE, 2),
         (&["run", "--workers=2"], "", USAGE, 2),
-        (&["gen", "3"], "", USAGE, 2),
+        (&["gen"], "", USAGE, 2),
         (&["avoid"], "", USAGE, 2),
         (&["record"], "", USAGE, 2),
         (&["replay", "--workers", "2"], "", USAGE, 2),
