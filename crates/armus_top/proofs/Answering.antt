@@ -7,14 +7,12 @@ use Rattle.report.specs.declared.refusal.Refusal.{Refusal}
 use Rattle.report.specs.declared.refusal.Refusal.TheVariants as refusal
 use Rattle.adaptive.specs.declared.analysis.Wanted.{Wanted}
 use Rattle.armus_words.specs.declared.command.Command.{Command}
-use Rattle.armus_words.specs.declared.command.Command.TheVariants.{Run}
 use Rattle.armus_words.specs.declared.command.Graph.{Graph}
 use Rattle.armus_top.specs.Texts.{Text}
 use Rattle.armus_top.specs.declared.texts.InputEnd.{InputEnd}
 use Rattle.armus_top.specs.declared.texts.InputEnd.TheVariants.{Refused, NoMemory}
 use Rattle.armus_top.specs.Programs.{IsEnd}
 use Rattle.armus_top.specs.Commands.{IsAnswered, IsRefused, limit_of, length_line, wanted_of}
-use Rattle.armus_top.specs.Runs.{IsRunOf}
 use Rattle.armus_top.specs.Headline.{Ends, GaveTooMuch, HasInput, IsSound, Passage, no_memory}
 use Rattle.armus_top.specs.Writing.{Answered, Finished, Refuses, TellsEnd, wrote, nothing}
 use Rattle.armus_top.proofs.Ending.{by_finish}
@@ -43,14 +41,15 @@ pub ends_too_long : (c : Command) (src out : Passage) (number : ℕ) → GaveToo
 ends_too_long c src out number much (inl done) still = by_finish (Some c) src out (length_line c) 3 number done (inr (much, refl, refl)) still
 ends_too_long c src out number much (inr (six, sound, kept)) still = no_memory six still sound (inl kept)
 
--- the report of a run was written
-pub by_run : (workers : ℕ) (g : Graph) (input : Text) (wanted : Wanted) (dead : Bool) (report shown : Text) (out : Passage) (status number : ℕ)
-    → wanted ≡ wanted_of g → status ≡ (if dead then 1 else 0) → shown ≡ report → IsRunOf input wanted (if dead then 1 else 0) report → Finished out shown status number
-    → Answered (Run workers g) input out number
-by_run workers g input wanted dead report shown out status number wanted_is status_is shown_is run done =
-    let by_graph : IsRunOf input (wanted_of g) (if dead then 1 else 0) report = subst (λ w. IsRunOf input w (if dead then 1 else 0) report) wanted_is run in
-    let by_status : IsRunOf input (wanted_of g) status report = subst (λ (s : ℕ). IsRunOf input (wanted_of g) s report) (sym status_is) by_graph in
-    wrote status shown (inl (subst (λ (t : Text). IsRunOf input (wanted_of g) status t) (sym shown_is) by_status)) done
+-- a report was written, with the status that says what it tells
+pub by_report : (c : Command) (input : Text) (g : Graph) (IsIt : Wanted → ℕ → Text → Type 0) → ((status : ℕ) (text : Text) → IsIt (wanted_of g) status text → IsAnswered c input status text)
+    → (wanted : Wanted) (some : Bool) (report shown : Text) (out : Passage) (status number : ℕ)
+    → wanted ≡ wanted_of g → status ≡ (if some then 1 else 0) → shown ≡ report → IsIt wanted (if some then 1 else 0) report → Finished out shown status number
+    → Answered c input out number
+by_report c input g IsIt answers wanted some report shown out status number wanted_is status_is shown_is it done =
+    let by_graph : IsIt (wanted_of g) (if some then 1 else 0) report = subst (λ w. IsIt w (if some then 1 else 0) report) wanted_is it in
+    let by_status : IsIt (wanted_of g) status report = subst (λ (s : ℕ). IsIt (wanted_of g) s report) (sym status_is) by_graph in
+    wrote status shown (inl (answers status shown (subst (λ (t : Text). IsIt (wanted_of g) status t) (sym shown_is) by_status))) done
 
 -- why there is no answer was told
 pub by_end : (c : Command) (input : Text) (IsWhy : Refusal → Type 0) (end : InputEnd) (out : Passage) (number : ℕ) → ((why : Refusal) → IsWhy why → IsRefused c input (refusal_text why))

@@ -6,3 +6,4 @@ pub mod Inputs
 pub mod Meaning
 pub mod Answering
 pub mod Reporting
+pub mod SerialEnds

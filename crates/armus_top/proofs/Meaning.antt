@@ -24,7 +24,7 @@ unbuilt words d off is c other on = let equal : is_built c ≡ is_built d = ap i
 pub means_built : (words : List Text) (meaning : Option Command) → WordsMean words meaning → Means words (built_of meaning)
 means_built words (Some (Check print)) is = (is, refl)
 means_built words (Some (Run workers graph)) is = (is, refl)
-means_built words (Some (Avoid workers graph)) is = unbuilt words (Avoid workers graph) refl is
+means_built words (Some (Avoid workers graph)) is = (is, refl)
 means_built words (Some (Record workers)) is = unbuilt words (Record workers) refl is
 means_built words (Some Replay) is = (is, refl)
 means_built words (Some (Gen count)) is = (is, refl)

@@ -9,14 +9,13 @@ use Rattle.armus_top.specs.Texts.{Text}
 abbrev pub is_built : Command → Bool
 is_built (Check print) = true
 is_built (Run workers graph) = true
-is_built (Avoid workers graph) = false
+is_built (Avoid workers graph) = true
 is_built (Record workers) = false
 is_built Replay = true
 is_built (Gen count) = true
 
 -- the command, if it is built
 abbrev pub built_of : Option Command → Option Command
-built_of (Some (Avoid workers graph)) = None
 built_of (Some (Record workers)) = None
 built_of meaning = meaning
 

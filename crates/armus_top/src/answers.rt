@@ -74,11 +74,11 @@ fn answer_check<K: Sink>(alloc: Global, print: bool, checked: &Checked, out: &mu
     }
 }
 
-/// A report, and whether a task is dead.
+/// A report, and whether a task is dead, or refused.
 #[derive(Drop)]
 pub struct Reported {
     pub text: List<u8>,
-    pub is_dead: bool,
+    pub has_deadlock: bool,
 }
 
 /// Runs the plan and reports its final state.
@@ -89,27 +89,27 @@ pub fn run_and_report<G: Gate>(
     gate: &G,
 ) -> Result<Reported, NoMemory>
     requires checked { IsCheckedPlan plan.now }
-    ensures run { IfOk result (λ r. (input : List ℕ) → IsPlanOf input plan.now → IsRunOf input wanted (if r.is_dead then 1 else 0) r.text) }
+    ensures run { IfOk result (λ r. (input : List ℕ) → IsPlanOf input plan.now → IsRunOf input wanted (if r.has_deadlock then 1 else 0) r.text) }
 {
     let end = run_plain(alloc, plan, gate)?;
-    let is_dead = any_dead(alloc, &end)?;
+    let has_deadlock = any_dead(alloc, &end)?;
     let text = report(alloc, &end, wanted)?;
-    Ok(Reported { text, is_dead })
+    Ok(Reported { text, has_deadlock })
 }
 
-/// The status that tells whether a task is dead.
-pub fn status_of(is_dead: bool) -> ExitStatus
-    ensures { code_of result ≡ (if is_dead then 1 else 0) }
+/// The status that tells whether a task is dead, or refused.
+pub fn status_of(has_deadlock: bool) -> ExitStatus
+    ensures { code_of result ≡ (if has_deadlock then 1 else 0) }
 {
-    if is_dead {
+    if has_deadlock {
         ExitStatus::Deadlock
     } else {
         ExitStatus::NoDeadlock
     }
 }
 
-// The graph that is wanted of a report.
-fn wanted_in(graph: Graph) -> Wanted
+/// The graph that is wanted of a report.
+pub fn wanted_in(graph: Graph) -> Wanted
     ensures { result ≡ wanted_of graph }
 {
     match graph {
@@ -136,7 +136,11 @@ fn answer_run<K: Sink, G: Gate>(
 {
     let _serial = workers;
     match run_and_report(alloc, plan, wanted_in(graph), gate) {
-        Ok(reported) => finish(out, reported.text.as_slice(), status_of(reported.is_dead)),
+        Ok(reported) => finish(
+            out,
+            reported.text.as_slice(),
+            status_of(reported.has_deadlock),
+        ),
         Err(_) => ExitStatus::OutOfMemory,
     }
 }

@@ -65,7 +65,7 @@ fn first_and_last(alloc: Global, report: &[u8]) -> Result<List<u8>, NoMemory>
 
 // The run of the generated text.
 fn run_generated<G: Gate>(alloc: Global, count: u16, gate: &G) -> Result<Reported, InputEnd>
-    ensures run { IfOk result (λ r. IsRunOf (generated_text count) Wanted.Auto (if r.is_dead then 1 else 0) r.text) }
+    ensures run { IfOk result (λ r. IsRunOf (generated_text count) Wanted.Auto (if r.has_deadlock then 1 else 0) r.text) }
 {
     let text = gen_text(alloc, count)?;
     let checked = checked_in(alloc, text.as_slice())?;
@@ -83,7 +83,7 @@ pub fn generate<K: Sink, G: Gate>(alloc: Global, count: u16, out: &mut K, gate: 
         Err(_) => return ExitStatus::OutOfMemory,
     };
     match first_and_last(alloc, reported.text.as_slice()) {
-        Ok(text) => finish(out, text.as_slice(), status_of(reported.is_dead)),
+        Ok(text) => finish(out, text.as_slice(), status_of(reported.has_deadlock)),
         Err(_) => ExitStatus::OutOfMemory,
     }
 }

@@ -2,6 +2,7 @@
 #![tactic(auto)]
 
 mod answers;
+mod avoiding;
 mod generating;
 mod replaying;
 mod serving;
@@ -15,6 +16,5 @@ pub use top::{armus, armus_plain, words_mean_one_command};
 
 #[cfg(test)]
 mod averaging_tests;
-
 #[cfg(test)]
 mod tests;

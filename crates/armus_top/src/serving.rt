@@ -5,9 +5,10 @@ ghost use Rattle.armus_top.specs.Headline.{Ends, passage, reads_input};
 ghost use Rattle.armus_top.specs.Status.{code_of};
 ghost use Rattle.armus_top.specs.Texts.{usage_line};
 ghost use Rattle.armus_top.specs.Writing.{Finished};
-ghost use Rattle.armus_words.specs.declared.command.Command.TheVariants.{Check, Run, Replay};
+ghost use Rattle.armus_words.specs.declared.command.Command.TheVariants.{Avoid, Check, Run, Replay};
 
 use crate::answers::{check_text, run_text};
+use crate::avoiding::avoid_text;
 use crate::generating::generate;
 use crate::replaying::replay_input;
 use crate::status::ExitStatus;
@@ -18,6 +19,7 @@ use armus_words::{Command, Graph};
 use pl_syntax::MAX_PARSED_BYTES;
 use report::Refusal;
 use std::alloc::Global;
+use std::thread::Threads;
 
 const USAGE: &str = "usage: armus check|run|avoid|record|replay|gen\n";
 
@@ -54,6 +56,27 @@ fn run<S: Source, K: Sink, G: Gate>(
     }
 }
 
+// `avoid`.
+fn avoid<R: Threads + Sync, S: Source, K: Sink, G: Gate>(
+    rt: &R,
+    alloc: Global,
+    workers: u8,
+    graph: Graph,
+    src: &mut S,
+    out: &mut K,
+    gate: &G,
+) -> ExitStatus
+    ensures ends { Ends (Some (Avoid workers graph)) (passage S.left S.faults src.old src.new) (passage K.taken K.faults out.old out.new) (code_of result) }
+    ensures silent { code_of result ≡ 4 → out.new ≡ out.old }
+{
+    match read_all(alloc, src, MAX_TEXT_BYTES) {
+        Ok(input) => avoid_text(rt, alloc, workers, graph, input.as_slice(), out, gate),
+        Err(ReadEnd::Fault) => ExitStatus::ReadFailed,
+        Err(ReadEnd::TooLong) => refuse(alloc, &Refusal::Length, out),
+        Err(ReadEnd::NoMemory) => ExitStatus::OutOfMemory,
+    }
+}
+
 // `replay`.
 fn replay<S: Source, K: Sink>(alloc: Global, src: &mut S, out: &mut K) -> ExitStatus
     ensures ends { Ends (Some Replay) (passage S.left S.faults src.old src.new) (passage K.taken K.faults out.old out.new) (code_of result) }
@@ -76,7 +99,8 @@ fn usage<K: Sink>(out: &mut K) -> ExitStatus
 }
 
 // Serves a command, or writes the usage line where it is not built.
-fn serve_command<S: Source, K: Sink, G: Gate>(
+fn serve_command<R: Threads + Sync, S: Source, K: Sink, G: Gate>(
+    rt: &R,
     alloc: Global,
     command: Command,
     src: &mut S,
@@ -91,14 +115,15 @@ fn serve_command<S: Source, K: Sink, G: Gate>(
         Command::Check { print } => check(alloc, print, src, out),
         Command::Run { workers, graph } => run(alloc, workers, graph, src, out, gate),
         Command::Replay => replay(alloc, src, out),
-        Command::Avoid { .. } => usage(out),
+        Command::Avoid { workers, graph } => avoid(rt, alloc, workers, graph, src, out, gate),
         Command::Record { .. } => usage(out),
         Command::Gen { count } => generate(alloc, count, out, gate),
     }
 }
 
 /// Serves the command that the words mean, or writes the usage line where they mean none that is built.
-pub fn serve<S: Source, K: Sink, G: Gate>(
+pub fn serve<R: Threads + Sync, S: Source, K: Sink, G: Gate>(
+    rt: &R,
     alloc: Global,
     meaning: Option<Command>,
     src: &mut S,
@@ -110,7 +135,7 @@ pub fn serve<S: Source, K: Sink, G: Gate>(
     ensures silent { code_of result ≡ 4 → out.new ≡ out.old }
 {
     match meaning {
-        Some(command) => serve_command(alloc, command, src, out, gate),
+        Some(command) => serve_command(rt, alloc, command, src, out, gate),
         None => usage(out),
     }
 }

@@ -1,4 +1,5 @@
 // The worked rows of the program, as tables: a file for each command, one for words that are none, and one for sources and sinks that fail.
+mod avoid;
 mod check;
 mod generated;
 mod outside;
@@ -18,6 +19,10 @@ pub(crate) const AVERAGING: &str =
     "pc = newPhaser();\npb = newPhaser();\nloop 3 {\n  t = newTid();\n  reg(t, pc);\n  reg(t, pb);\n  fork(t) {\n    loop 2 {\n      skip; // read the neighbours\n      adv(pc);\n      await(pc);\n      skip; // write the mean\n      adv(pc);\n      await(pc);\n    }\n    dereg(pc);\n    dereg(pb);\n  }\n}\nadv(pb);\nawait(pb);\n";
 
 const NEVER_FORKED: &str = "p = newPhaser();\nt = newTid();\nreg(t, p);\nadv(p);\nawait(p);\n";
+
+// Two tasks that wait for each other.
+const CROSSED: &str =
+    "a = newPhaser();\nb = newPhaser();\nt = newTid();\nreg(t, a);\nreg(t, b);\nfork(t) { adv(b); await(b); }\nadv(a);\nawait(a);\n";
 
 fn bytes(alloc: Global, text: &str) -> Result<List<u8>, AllocError> {
     Ok(List::from_vec(text.as_bytes().to_vec(alloc)?))

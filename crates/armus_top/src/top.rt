@@ -14,7 +14,8 @@ use std::sync::Wait;
 use std::thread::Threads;
 
 // The status of a call, by its words.
-fn status_for<S: Source, K: Sink, G: Gate>(
+fn status_for<R: Threads + Sync, S: Source, K: Sink, G: Gate>(
+    rt: &R,
     alloc: Global,
     words: &[String],
     src: &mut S,
@@ -27,7 +28,7 @@ fn status_for<S: Source, K: Sink, G: Gate>(
     ensures silent { code_of result ≡ 4 → out.new ≡ out.old }
 {
     match command_in(alloc, words) {
-        Ok(meaning) => serve(alloc, meaning, src, out, gate),
+        Ok(meaning) => serve(rt, alloc, meaning, src, out, gate),
         Err(_) => ExitStatus::OutOfMemory,
     }
 }
@@ -38,7 +39,7 @@ fn status_for<S: Source, K: Sink, G: Gate>(
 /// answers the status: 0 where no task is dead or refused, 1 where one is, 2 where the words are no command,
 /// 3 where the input is refused, 4 and 5 where the source or the sink failed, 6 for want of memory.
 pub fn armus_plain<R: Threads + Sync, S: Source, K: Sink, G: Gate>(
-    _rt: &R,
+    rt: &R,
     alloc: Global,
     words: &[String],
     src: &mut S,
@@ -53,7 +54,7 @@ pub fn armus_plain<R: Threads + Sync, S: Source, K: Sink, G: Gate>(
     ensures unread { (c : Option Command) → Means (map string_bytes words.now) c → reads_input c ≡ false → src.new ≡ src.old }
     ensures silent { result ≡ 4 → out.new ≡ out.old }
 {
-    status_for(alloc, words, src, out, gate).code()
+    status_for(rt, alloc, words, src, out, gate).code()
 }
 
 /// The program, as `armus_plain` says.

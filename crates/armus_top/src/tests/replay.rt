@@ -1,5 +1,5 @@
 // The rows of `replay`.
-use super::{NEVER_FORKED, expect};
+use super::{CROSSED, NEVER_FORKED, expect};
 use std::alloc::Global;
 use std::process::Abort;
 use std::sync::Wait;
@@ -13,10 +13,6 @@ const IN_TURN: &str =
 // A task that goes on where the other one waits.
 const GOES_ON: &str =
     "a = newPhaser();\nb = newPhaser();\nt = newTid(); reg(t, a); reg(t, b);\nfork(t) { adv(a); adv(b); await(b); }\nadv(a);\nawait(a);\nadv(b);\n";
-
-// Two tasks that wait for each other.
-const CROSSED: &str =
-    "a = newPhaser();\nb = newPhaser();\nt = newTid();\nreg(t, a);\nreg(t, b);\nfork(t) { adv(b); await(b); }\nadv(a);\nawait(a);\n";
 
 // What `replay` answers on this text with this schedule.
 fn expect_replay<R: Abort + Threads + Wait + Sync>(

@@ -11,7 +11,7 @@ fn words_that_are_no_command(rt: HostRuntime) -> Result<(), Fail> {
         (&["run", "--workers", "0"], "", USAGE, 2),
         (&["run", "--workers=2"], "", USAGE, 2),
         (&["gen"], "", USAGE, 2),
-        (&["avoid"], "", USAGE, 2),
+        (&["avoid", "--live"], "", USAGE, 2),
         (&["record"], "", USAGE, 2),
         (&["replay", "--workers", "2"], "", USAGE, 2),
     ];

@@ -1,0 +1,102 @@
+// What `avoid` answers.
+ghost use Rattle.std.specs.Prelude.{◌≡◌, ◌≢◌, ◌≤◌, IfOk, false, if◌then◌else◌, length};
+ghost use Rattle.std.specs.List.{list_any};
+ghost use Rattle.armus_base.specs.CheckedPlans.{IsCheckedPlan};
+ghost use Rattle.armus_top.specs.Texts.{Text};
+ghost use Rattle.armus_top.specs.Programs.{IsPlanOf};
+ghost use Rattle.armus_top.specs.Runs.{IsAvoidOf, is_refused};
+ghost use Rattle.armus_top.specs.declared.texts.TheConstants.{MAX_TEXT_BYTES};
+ghost use Rattle.armus_top.specs.Headline.{passage};
+ghost use Rattle.armus_top.specs.Status.{code_of};
+ghost use Rattle.armus_top.specs.Writing.{Answered};
+ghost use Rattle.armus_words.specs.declared.command.Command.TheVariants.{Avoid};
+
+use crate::answers::{Reported, status_of, wanted_in};
+use crate::status::ExitStatus;
+use crate::texts::checked_in;
+use crate::writing::{answer_end, finish};
+use armus_base::{Final, Gate, NoMemory, Plan, Sink, TaskEnd};
+use armus_words::Graph;
+use report::report;
+use std::alloc::Global;
+use std::thread::Threads;
+use task_runner::{RunOptions, run_avoid};
+
+// Whether a task has ended so that its await was refused.
+fn any_refused(end: &Final) -> bool
+    ensures { result ≡ list_any is_refused end.now.ends }
+{
+    end.ends
+        .as_slice()
+        .iter()
+        .any(|end| matches!(end, TaskEnd::Refused(_)))
+}
+
+// Runs the plan, with awaits refused that would be dead, and reports its final state.
+fn avoid_and_report<R: Threads + Sync, G: Gate>(
+    rt: &R,
+    alloc: Global,
+    plan: &Plan,
+    options: &RunOptions,
+    gate: &G,
+) -> Result<Reported, NoMemory>
+    requires checked { IsCheckedPlan plan.now }
+    requires quiet { options.now.live ≡ false }
+    ensures run { IfOk result (λ r. (input : Text) → IsPlanOf input plan.now
+        → IsAvoidOf input options.now.wanted (if r.has_deadlock then 1 else 0) r.text) }
+{
+    let end = run_avoid(rt, alloc, plan, options, gate)?;
+    let has_deadlock = any_refused(&end);
+    let text = report(alloc, &end, options.wanted)?;
+    Ok(Reported { text, has_deadlock })
+}
+
+// `avoid`. Every number of workers makes the run of one worker.
+fn answer_avoid<R: Threads + Sync, K: Sink, G: Gate>(
+    rt: &R,
+    alloc: Global,
+    workers: u8,
+    graph: Graph,
+    plan: &Plan,
+    out: &mut K,
+    gate: &G,
+) -> ExitStatus
+    requires checked { IsCheckedPlan plan.now }
+    ensures done { (input : Text) → IsPlanOf input plan.now
+        → Answered (Avoid workers graph) input (passage K.taken K.faults out.old out.new) (code_of result) }
+    ensures silent { code_of result ≢ 4 }
+{
+    let options = RunOptions {
+        workers,
+        wanted: wanted_in(graph),
+        live: false,
+    };
+    match avoid_and_report(rt, alloc, plan, &options, gate) {
+        Ok(reported) => finish(
+            out,
+            reported.text.as_slice(),
+            status_of(reported.has_deadlock),
+        ),
+        Err(_) => ExitStatus::OutOfMemory,
+    }
+}
+
+/// What `avoid` answers on a text.
+pub fn avoid_text<R: Threads + Sync, K: Sink, G: Gate>(
+    rt: &R,
+    alloc: Global,
+    workers: u8,
+    graph: Graph,
+    text: &[u8],
+    out: &mut K,
+    gate: &G,
+) -> ExitStatus
+    requires short { length text.now ≤ MAX_TEXT_BYTES }
+    ensures done { Answered (Avoid workers graph) text.now (passage K.taken K.faults out.old out.new) (code_of result) }
+    ensures silent { code_of result ≡ 4 → out.new ≡ out.old }
+{
+    match checked_in(alloc, text) {
+        Ok(checked) => answer_avoid(rt, alloc, workers, graph, &checked.plan, out, gate),
+        Err(end) => answer_end(alloc, end, out),
+    }
+}
