@@ -19,6 +19,5 @@ pub use plain::run_plain;
 
 #[cfg(test)]
 mod avoided_tests;
-
 #[cfg(test)]
 mod tests;
