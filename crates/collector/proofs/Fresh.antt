@@ -1,6 +1,6 @@
 -- One task more is named, or fresh.
-use Rattle.std.proofs.Common.{◌≡◌, ◌≢◌, ℕ, zero, suc, ◌<◌, ◌≤◌, ◌+◌, ◌++◌, Bool, true, false, List, [], ◌∷◌, Option, Some, None, length, get_or, replicate, set, take, sym, refl, ap, ◌∙◌, subst, inl, inr, ◌⊎◌, arith}
-use Rattle.std.specs.Prelude.{All, Contains, map, not, slice_get, unwrap_or}
+use Rattle.std.proofs.Common.{◌≡◌, ◌≢◌, ℕ, zero, suc, ◌<◌, ◌+◌, ◌++◌, Bool, true, false, List, [], ◌∷◌, length, get_or, replicate, set, take, sym, refl, ap, ◌∙◌, subst, inl, inr, ◌⊎◌}
+use Rattle.std.specs.Prelude.{Contains, map, not, unwrap_or}
 use Rattle.std.specs.List.{filter}
 use Rattle.std.proofs.lemmas.Bool.{cases_eq}
 use Rattle.std.proofs.lemmas.List.{append-nil, map-append, take_more}

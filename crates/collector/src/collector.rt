@@ -50,7 +50,7 @@ impl Collector {
         })
     }
 
-    /// Makes one collect, and names the dead tasks of its statuses: each task that is dead in all states in which the board may have been before, and only tasks that are dead in all in which it may be after. It takes no lock. After `NoMemory` nobody else is named.
+    /// Makes one collect, and names the dead tasks of its statuses. Each task that is dead in every lawful state as far on as what the viewer had seen before is among them, and only tasks that are dead in every one as far on as what it has seen after. After `NoMemory` the named tasks are as before, and the viewer may have seen more.
     pub fn pass(
         &mut self,
         alloc: Global,

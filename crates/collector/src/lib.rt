@@ -7,3 +7,6 @@ mod verdict;
 
 pub use collector::Collector;
 pub use verdict::Verdict;
+
+#[cfg(test)]
+mod tests;

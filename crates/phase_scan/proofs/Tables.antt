@@ -107,11 +107,21 @@ pub status_none : (phasers : ℕ) (s : State) (asked : ℕ → Bool) (t : ℕ) �
 status_none phasers s asked t p =
     ap (option_map (λ f. record { t = record { 0 = t }; event = f; phases = given_below (listed_phase asked (s.phases t)) phasers })) p
 
--- what is asked beyond the phasers does not matter
-pub statuses_same :
-    (phasers : ℕ) (s : State) (asked asked' : ℕ → Bool) (n : ℕ) → ((p : ℕ) → asked p ≡ asked' p) →
-    given_below (status_found phasers s asked) n ≡ given_below (status_found phasers s asked') n
-statuses_same phasers s asked asked' n same = ap (λ a. given_below (status_found phasers s a) n) (fun_ext same)
+-- one task more in the list, which was found waiting or was not
+pub one_status :
+    (phasers : ℕ) (s : State) (asked : ℕ → Bool) (t : ℕ) (e : Event) (phases : List Member) (before now : List Status) →
+    now ≡ before ++ record { t = record { 0 = t }; event = e; phases = phases } ∷ [] → before ≡ given_below (status_found phasers s asked) t →
+    s.published t ≡ Some e → phases ≡ given_below (listed_phase asked (s.phases t)) phasers → now ≡ given_below (status_found phasers s asked) (t + 1)
+one_status phasers s asked t e phases before now pushed is on same =
+    pushed
+    ∙ given_below_more (status_found phasers s asked) t (record { t = record { 0 = t }; event = e; phases = phases }) before is
+    (status_some phasers s asked t e phases on same)
+
+pub no_status :
+    (phasers : ℕ) (s : State) (asked : ℕ → Bool) (t : ℕ) (before now : List Status) → now ≡ before → before ≡ given_below (status_found phasers s asked) t →
+    s.published t ≡ None → now ≡ given_below (status_found phasers s asked) (t + 1)
+no_status phasers s asked t before now same is none =
+    same ∙ given_below_none (status_found phasers s asked) t before is (status_none phasers s asked t none)
 
 -- the empty list is in order
 pub nothing_in_order : (list : List Status) → list ≡ [] → IsInOrder list

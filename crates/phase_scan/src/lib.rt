@@ -10,3 +10,6 @@ mod scan;
 pub use answer::Look;
 pub use cells::{Cells, MAX_CELL_TASKS, MAX_CELLS};
 pub use scan::look;
+
+#[cfg(test)]
+mod tests;

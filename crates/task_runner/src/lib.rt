@@ -4,10 +4,8 @@
 mod avoided;
 mod finishing;
 mod journal;
-mod live_task;
-#[cfg(test)]
-mod avoided_tests;
 mod laws;
+mod live_task;
 mod options;
 mod plain;
 mod round;

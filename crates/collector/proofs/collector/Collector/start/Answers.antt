@@ -1,4 +1,4 @@
-use Rattle.std.proofs.Common.{◌≡◌, ◌∙◌, List, Bool, ap}
+use Rattle.std.proofs.Common.{◌∙◌, List, Bool, ap}
 use Rattle.collector.specs.Passes.{is_named}
 use Rattle.collector.proofs.Fresh.{nobody_named}
 use Rattle.collector.proofs.collector.Collector.start.Goals as goal

@@ -1,0 +1,4 @@
+// Passes and collects on boards of small plans.
+mod deadlock;
+mod plans;
+mod walker;

@@ -1,0 +1,154 @@
+// A task that walks along its code on a board that detects deadlock.
+ghost use Rattle.std.specs.Prelude.{◌≡◌, ◌+◌, ◌^◌, ◌<◌, Some, IfOk, IfSome, IsSome, IsNone, OnOk, OnErr, false, length, slice_get};
+ghost use Rattle.armus_base.specs.Plans.{Action};
+ghost use Rattle.armus_base.specs.Runs.{first_place};
+ghost use Rattle.board.specs.declared.mode.Mode.TheVariants.{Detect};
+ghost use Rattle.board.specs.Views.{next_action, own_place, seen};
+ghost use Rattle.board.specs.Steps.{own_phase};
+ghost use Rattle.board.specs.Seats.{IsOf, MakesStep, event_of};
+ghost use Rattle.board.specs.Walking.{IsOfPlan, begins};
+
+use armus_base::{Event, NoMemory, Op, Plan};
+use board::{Board, Mode, TaskSeat, ViewSeat};
+use std::alloc::Global;
+use std::marker::Model;
+
+/// Why a walker makes no step.
+#[derive(Clone, Copy, Debug, PartialEq, Eq)]
+pub enum Halt {
+    /// It is published, and not all tasks are scanned.
+    Waits,
+    /// Its code is done.
+    Ended,
+}
+
+/// A task's seat, with the number of ops of the task's code that it has begun. Contracts see it as the seat.
+#[derive(Drop)]
+pub struct Walker {
+    seat: TaskSeat,
+    begun: usize,
+}
+
+impl Model for Walker {
+    ghost use Rattle.board.specs.Seats.{Known};
+
+    ghost Value = { Known };
+
+    ghost use Rattle.board.specs.Walking.{HasBegun};
+
+    ghost view = { λ w. w.seat };
+
+    ghost invariant = { λ w. HasBegun w.begun w.seat };
+}
+
+/// A board that detects deadlock, task 0 at its opening, and a viewer.
+pub fn begin(alloc: Global, plan: &Plan) -> Result<(Board, Walker, ViewSeat), NoMemory>
+    ensures board { IfOk result (λ r. (r.0.plan ≡ plan.now) × (r.0.mode ≡ Detect)) }
+    ensures seats { IfOk result (λ r. IsOf r.1 r.0 × IsOf r.2 r.0) }
+{
+    let (board, seat, view) = Board::start(alloc, plan, Mode::Detect)?;
+    Ok((board, Walker::of(seat), view))
+}
+
+// The op at an index of a code.
+fn op_at(code: &[Op], index: usize) -> Option<Op>
+    ensures op { result ≡ slice_get code.now index }
+    ensures room { IfSome result (λ op. index + 1 < 2 ^ 64) }
+{
+    if index < code.len() {
+        Some(code[index])
+    } else {
+        None
+    }
+}
+
+// Makes the step with which an op begins. It answers the seat of the child that it forks.
+fn make_step(seat: &mut TaskSeat, alloc: Global, board: &Board, op: Op) -> Option<TaskSeat>
+    requires made { IsOf seat.old board.now }
+    requires detects { board.now.mode ≡ Detect }
+    requires unlocked { seat.old.view.holds ≡ false }
+    requires next { next_action seat.old.view ≡ Some (begins op) }
+    requires plan { IsOfPlan board.now.plan (begins op) }
+    ensures step { MakesStep (begins op) seat.old seat.new }
+    ensures made { IfSome result (λ child. IsOf child board.now) }
+    ensures child { IfSome result (λ child. (own_place child.view ≡ first_place) × (child.view.holds ≡ false)) }
+{
+    match op {
+        Op::Make { p } => seat.make(board, p),
+        Op::Reg { c, p } => seat.reg(board, c, p),
+        Op::Adv { p } => {
+            seat.adv(board, p);
+        }
+        Op::Drop { p } => seat.drop_phaser(board, p),
+        Op::Await { p } => {
+            seat.publish(board, p);
+        }
+        Op::Fork { c } => return seat.fork(alloc, board, c).ok(),
+    }
+    None
+}
+
+impl Walker {
+    // A task that has made no step.
+    fn of(seat: TaskSeat) -> Walker
+        requires first { own_place seat.view ≡ first_place }
+        requires free { seat.view.holds ≡ false }
+        ensures seat { result ≡ seat }
+    {
+        Walker { seat, begun: 0 }
+    }
+
+    /// Makes the task's next step. It answers the child that it forks, and an error where it makes no step.
+    pub fn go(&mut self, alloc: Global, board: &Board, plan: &Plan) -> Result<Option<Walker>, Halt>
+        requires made { IsOf self.old board.now }
+        requires plan { board.now.plan ≡ plan.now }
+        requires detects { board.now.mode ≡ Detect }
+        ensures made { IsOf self.new board.now }
+        ensures step { OnOk result ((x : Action) × next_action self.old.view ≡ Some x × MakesStep x self.old self.new) }
+        ensures child { IfOk result (λ o. IfSome o (λ child. IsOf child board.now)) }
+        ensures err { OnErr result (self.new ≡ self.old) }
+    {
+        if self.event().is_some() {
+            return self.pass(board);
+        }
+        let Some(op) = op_at(plan.code(self.seat.id()), self.begun) else {
+            return Err(Halt::Ended);
+        };
+        self.begun += 1;
+        match make_step(&mut self.seat, alloc, board, op) {
+            Some(child) => Ok(Some(Walker::of(child))),
+            None => Ok(None),
+        }
+    }
+
+    // Withdraws the event, if all tasks are scanned.
+    fn pass(&mut self, board: &Board) -> Result<Option<Walker>, Halt>
+        requires made { IsOf self.old board.now }
+        requires event { IsSome (event_of self.old) }
+        ensures made { IsOf self.new board.now }
+        ensures step { OnOk result ((x : Action) × next_action self.old.view ≡ Some x × MakesStep x self.old self.new) }
+        ensures child { IfOk result (λ o. IsNone o) }
+        ensures err { OnErr result (self.new ≡ self.old) }
+    {
+        let _ = self.seat.id();
+        if self.seat.scanned() < board.tasks() {
+            return Err(Halt::Waits);
+        }
+        self.seat.withdraw(board);
+        Ok(None)
+    }
+
+    /// Its published event.
+    pub fn event(&self) -> Option<Event>
+        ensures { result ≡ event_of self.now }
+    {
+        self.seat.event()
+    }
+
+    /// Ends the walk.
+    pub fn into_seat(self) -> TaskSeat
+        ensures { result ≡ self }
+    {
+        self.seat
+    }
+}
