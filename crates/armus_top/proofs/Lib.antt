@@ -6,4 +6,5 @@ pub mod Inputs
 pub mod Meaning
 pub mod Answering
 pub mod Reporting
-pub mod Avoiding
+pub mod SerialEnds
+pub mod RecordedTexts

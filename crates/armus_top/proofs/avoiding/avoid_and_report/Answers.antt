@@ -1,4 +1,4 @@
-use Rattle.armus_top.proofs.Avoiding.{avoid_of, serial_end_in_order}
+use Rattle.armus_top.proofs.SerialEnds.{avoid_of, serial_end_in_order}
 use Rattle.armus_top.proofs.avoiding.avoid_and_report.Goals as goal
 
 pub report-requires : goal.report-requires

@@ -1,0 +1,5 @@
+use Rattle.armus_top.proofs.Meaning.{other_command}
+use Rattle.armus_top.proofs.serving.serve_any.Goals as goal
+
+pub serve_command-requires : goal.serve_command-requires
+serve_command-requires g c = record { plain = other_command c.args.command c.in_default.not-Record }
