@@ -1,5 +1,6 @@
 -- Of each command: an input is not both refused and answered, and the status of an answer is 0 or 1.
 use Rattle.std.proofs.Common.{◌≤◌, ℕ, inl, inr, arith, true, false}
+use Rattle.armus_base.specs.Plans.{Plan}
 use Rattle.armus_base.specs.Runs.{state_after}
 use Rattle.armus_base.specs.States.{State}
 use Rattle.adaptive.specs.declared.analysis.Wanted.{Wanted}

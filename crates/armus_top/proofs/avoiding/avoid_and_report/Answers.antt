@@ -5,4 +5,4 @@ pub report-requires : goal.report-requires
 report-requires g c = serial_end_in_order c.args.plan.now _ c.requires.checked c.in_ok-end.ensures.end
 
 pub returns : goal.returns
-returns g c = record { run = λ input plan_is. avoid_of input c.args.plan.now c.args.options.now.wanted _ _ _ plan_is c.in_ok-end.ensures.end c.any_refused.ensures c.in_ok-text.ensures }
+returns g c = record { run = λ input plan_is. avoid_of input c.args.plan.now c.args.options.now.wanted _ _ _ plan_is c.in_ok-end.ensures.end c.any_refused-has_deadlock.ensures c.in_ok-text.ensures }
