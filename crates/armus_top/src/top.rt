@@ -1,5 +1,7 @@
 // The top call.
 ghost use Rattle.std.specs.Prelude.{◌≡◌, ◌↔◌, IsTrue, Option, false, map, string_bytes};
+ghost use Rattle.std.specs.Str.{bytes_eq};
+ghost use Rattle.armus_words.specs.declared.table.TheConstants.{RECORD};
 ghost use Rattle.armus_top.specs.Meanings.{BeginsRecord, Means, OneMeaning};
 ghost use Rattle.armus_top.specs.Status.{code_of};
 ghost use Rattle.armus_top.specs.Headline.{Completes, IsCalm, Serves, reads_input, passage};
@@ -100,13 +102,20 @@ pub fn armus_journal<R: Threads + Wait + Sync, S: Source, K: Sink, G: Gate>(
     status_waiting(rt, alloc, words, src, out, gate).code()
 }
 
+// Whether the word is `record`.
+fn is_record_word(word: &str) -> bool
+    ensures { result ≡ bytes_eq word.now RECORD.now }
+{
+    word == RECORD
+}
+
 // Whether the first word is `record`.
 fn begins_record(words: &[String]) -> bool
     ensures { IsTrue result ↔ BeginsRecord (map string_bytes words.now) }
 {
     match words {
         [] => false,
-        [word, ..] => word.as_str() == RECORD,
+        [word, ..] => is_record_word(word.as_str()),
     }
 }
 

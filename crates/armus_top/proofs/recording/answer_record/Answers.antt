@@ -1,4 +1,4 @@
-use Rattle.std.proofs.Common.{◌≡◌, sym, subst}
+use Rattle.std.proofs.Common.{◌≡◌, sym, subst, rules}
 use Rattle.armus_words.specs.declared.command.Command.TheVariants.{Record}
 use Rattle.armus_top.specs.Records.{IsRecordOf}
 use Rattle.armus_top.specs.Status.{code_of}
@@ -7,7 +7,7 @@ use Rattle.armus_top.proofs.OnePlan.{checked_plan}
 use Rattle.armus_top.proofs.recording.answer_record.Goals as goal
 
 pub run_and_record-requires : goal.run_and_record-requires
-run_and_record-requires g c = record { workers = c.requires.workers; checked = checked_plan c.args.text.now c.args.plan.now c.requires.plan }
+run_and_record-requires g c = (search rules, (search rules, (c.requires.workers, checked_plan c.args.text.now c.args.plan.now c.requires.plan)))
 
 pub returns-in-Ok-clause-done : goal.returns-in-Ok-clause-done
 returns-in-Ok-clause-done g c =

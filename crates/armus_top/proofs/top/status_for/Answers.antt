@@ -1,4 +1,4 @@
-use Rattle.std.proofs.Common.{◌≡◌, inl, refl, sym, subst, false, map, string_bytes}
+use Rattle.std.proofs.Common.{◌≡◌, inl, refl, sym, subst, false, map, string_bytes, rules}
 use Rattle.std.specs.Prelude.{Option}
 use Rattle.std.proofs.KnownBytes.{Keeps-refl}
 use Rattle.armus_words.proofs.Meaning.{one_meaning}
@@ -8,7 +8,7 @@ use Rattle.armus_top.proofs.Meaning.{means_other, serves_by}
 use Rattle.armus_top.proofs.top.status_for.Goals as goal
 
 pub serve-requires : goal.serve-requires
-serve-requires g c = record { plain = means_other (map string_bytes c.args.words.now) c.in-Ok.meaning c.in-Ok.ensures.means c.requires.plain }
+serve-requires g c = (search rules, (search rules, (search rules, means_other (map string_bytes c.args.words.now) c.in-Ok.meaning c.in-Ok.ensures.means c.requires.plain)))
 
 pub returns-in-Ok-clause-serves : goal.returns-in-Ok-clause-serves
 returns-in-Ok-clause-serves g c = serves_by (map string_bytes c.args.words.now) _ _ _ c.in-Ok.meaning c.in-Ok.ensures.means c.serve.ensures.ends

@@ -1,4 +1,4 @@
-use Rattle.std.proofs.Common.{◌≡◌, inl, refl, sym, subst, false, map, string_bytes}
+use Rattle.std.proofs.Common.{◌≡◌, inl, refl, sym, subst, false, map, string_bytes, rules}
 use Rattle.std.specs.Prelude.{Option}
 use Rattle.std.proofs.KnownBytes.{Keeps-refl}
 use Rattle.armus_words.proofs.Meaning.{one_meaning}
@@ -8,7 +8,7 @@ use Rattle.armus_top.proofs.Meaning.{means_may_record, serves_by}
 use Rattle.armus_top.proofs.top.status_waiting.Goals as goal
 
 pub serve_waiting-requires : goal.serve_waiting-requires
-serve_waiting-requires g c = record { workers = means_may_record (map string_bytes c.args.words.now) c.in-Ok.meaning c.in-Ok.ensures.means }
+serve_waiting-requires g c = (search rules, (search rules, (search rules, means_may_record (map string_bytes c.args.words.now) c.in-Ok.meaning c.in-Ok.ensures.means)))
 
 pub returns-in-Ok-clause-serves : goal.returns-in-Ok-clause-serves
 returns-in-Ok-clause-serves g c = serves_by (map string_bytes c.args.words.now) _ _ _ c.in-Ok.meaning c.in-Ok.ensures.means c.serve_waiting.ensures.ends
