@@ -7,3 +7,4 @@ pub mod Meaning
 pub mod Answering
 pub mod Reporting
 pub mod SerialEnds
+pub mod RecordedTexts

@@ -1,7 +1,9 @@
 -- A text has one plan, and a text with a plan is not refused.
 use Rattle.std.proofs.Common.{◌≡◌, subst}
 use Rattle.std.specs.Prelude.{Ok, Err}
+use Rattle.armus_base.specs.CheckedPlans.{IsCheckedPlan}
 use Rattle.armus_base.specs.Plans.{Plan}
+use Rattle.pl_plan.proofs.UnfoldedIsChecked.{unfolded_is_checked}
 use Rattle.pl_syntax.specs.Tree.{Tree}
 use Rattle.pl_syntax.proofs.Unique.{one_tree, text_or_fault}
 use Rattle.pl_plan.specs.Unfolding.{plan_of}
@@ -26,3 +28,7 @@ one_plan text plan other (program, is) (second, are) =
     let same : program ≡ second = one_tree text program second is.reads are.reads in
     let unfolds : plan_of second ≡ Ok plan = subst (λ p. plan_of p ≡ Ok plan) same is.unfolds in
     let unfolded : plan_of second ≡ Ok other = are.unfolds in cc
+
+-- the plan of a text is checked
+pub checked_plan : (text : Text) (plan : Plan) → IsPlanOf text plan → IsCheckedPlan plan
+checked_plan text plan (program, is) = unfolded_is_checked program plan is.unfolds

@@ -19,12 +19,9 @@ use Rattle.armus_top.specs.Programs.{IsEnd, IsFaultOf, IsPlanOf, TellsDead}
 use Rattle.armus_top.specs.Replays.{IsReplayedBy, IsReplayFault, IsReplayOf, IsReplayRefused, IsShort}
 use Rattle.armus_top.specs.declared.texts.InputEnd.{InputEnd}
 use Rattle.armus_top.specs.declared.texts.InputEnd.TheVariants.{Refused, NoMemory}
-use Rattle.armus_top.proofs.OnePlan.{one_plan, plan_or_fault}
+use Rattle.armus_top.proofs.OnePlan.{checked_plan, one_plan, plan_or_fault}
 
 -- ---- no input is both refused and replayed
-
-checked_plan : (text : Text) (plan : Plan) → IsPlanOf text plan → IsCheckedPlan plan
-checked_plan text plan (program, is) = unfolded_is_checked program plan is.unfolds
 
 fault_or_replayed : (text schedule : Text) (done : Replayed) (why : Refusal) → IsReplayFault text schedule why → IsReplayedBy text schedule done → ⊥
 fault_or_replayed text schedule done Length long by = long by.reads.short

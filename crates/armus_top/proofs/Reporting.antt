@@ -23,7 +23,7 @@ pub plain_end_in_order : (plan : Plan) (end : Final) → IsCheckedPlan plan → 
 plain_end_in_order plan end checked is =
     subst (λ (e : Final). IsInOrder e.blocked) (sym is.is_it) (statuses_are plan is.state (is_awaited plan is.state) checked).in_order
 
-tells : (state : State) (final : Final) (dead : Bool) → ((t : ℕ) → IsDeadBy final.blocked t ↔ IsDeadIn state t) → (IsTrue dead ↔ IsSomeDead final.blocked)
+pub tells : (state : State) (final : Final) (dead : Bool) → ((t : ℕ) → IsDeadBy final.blocked t ↔ IsDeadIn state t) → (IsTrue dead ↔ IsSomeDead final.blocked)
     → TellsDead state (if dead then 1 else 0)
 tells state final true same is = let some = is.0 refl in inl (refl, (some.0, (same some.0).0 some.1))
 tells state final false same is = inr (refl, λ t dead. let yes = is.1 (t, (same t).1 dead) in absurd (cc))

@@ -17,6 +17,7 @@ use Rattle.armus_words.specs.declared.command.Command.TheVariants.{Check, Run, A
 use Rattle.armus_top.specs.Texts.{Text, plan_line}
 use Rattle.armus_top.specs.Programs.{IsChecked, IsFaultOf, IsPlanOf, TellsDead}
 use Rattle.armus_top.specs.Generated.{IsGenOf}
+use Rattle.armus_top.specs.Records.{IsRecordOf}
 use Rattle.armus_top.specs.Replays.{IsReplayOf, IsReplayRefused}
 use Rattle.armus_top.specs.Runs.{IsAvoidOf, IsRunOf}
 use Rattle.armus_top.specs.declared.texts.TheConstants.{MAX_TEXT_BYTES}
@@ -57,6 +58,6 @@ IsAnswered (Check false) input status text = (plan : Plan) × IsPlanOf input pla
 IsAnswered (Check true) input status text = (plan : Plan) × (program : Tree) × IsChecked input program plan × (status ≡ 0) × (text ≡ printed_of program)
 IsAnswered (Run workers g) input status text = IsRunOf input (wanted_of g) status text
 IsAnswered (Avoid workers g) input status text = IsAvoidOf input (wanted_of g) status text
-IsAnswered (Record workers) input status text = ⊥
+IsAnswered (Record workers) input status text = IsRecordOf input status text
 IsAnswered Replay input status text = IsReplayOf input status text
 IsAnswered (Gen count) input status text = IsGenOf count status text

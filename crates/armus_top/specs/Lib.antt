@@ -2,6 +2,7 @@ pub mod Texts
 pub mod Programs
 pub mod Replays
 pub mod Runs
+pub mod Records
 pub mod Generated
 pub mod Meanings
 pub mod Commands

@@ -1,29 +1,31 @@
--- What the words mean to the program: a command that it serves, or none.
-use Rattle.std.specs.Prelude.{◌≡◌, Bool, true, false, List, Option, Some, None}
-use Rattle.armus_words.specs.Commands.{IsCommand}
+-- What the words mean to the program: a command, or none; and which commands wait for threads.
+use Rattle.std.specs.Prelude.{◌≡◌, ◌≤◌, ◌∷◌, Bool, true, false, List, Option, Some, None}
 use Rattle.armus_words.specs.declared.command.Command.{Command}
 use Rattle.armus_words.specs.declared.command.Command.TheVariants.{Check, Run, Avoid, Record, Replay, Gen}
+use Rattle.armus_words.specs.declared.table.TheConstants.{MAX_WORKERS, RECORD}
 use Rattle.armus_top.specs.Texts.{Text}
+pub use Rattle.armus_words.specs.Commands.{Means, OneMeaning}
 
--- the commands that are built; the words of another are no command yet
-abbrev pub is_built : Command → Bool
-is_built (Check print) = true
-is_built (Run workers graph) = true
-is_built (Avoid workers graph) = true
-is_built (Record workers) = false
-is_built Replay = true
-is_built (Gen count) = true
+-- the first word is `record`
+abbrev pub BeginsRecord : List Text → Type 0
+BeginsRecord words = (rest : List Text) × (words ≡ RECORD.now ∷ rest)
 
--- the command, if it is built
-abbrev pub built_of : Option Command → Option Command
-built_of (Some (Record workers)) = None
-built_of meaning = meaning
+-- the command is `record`, the one that waits for threads
+abbrev pub is_record : Command → Bool
+is_record (Record workers) = true
+is_record _ = false
 
--- what the words mean: this command, or none
-abbrev pub Means : List Text → Option Command → Type 0
-Means words (Some c) = IsCommand words c × (is_built c ≡ true)
-Means words None = (c : Command) → IsCommand words c → is_built c ≡ true → ⊥
+-- the words mean that command
+abbrev pub means_record : Option Command → Bool
+means_record (Some c) = is_record c
+means_record None = false
 
--- the law: words mean one command at most
-abbrev pub OneMeaning : Type 0
-OneMeaning = (words : List Text) (c d : Option Command) → Means words c → Means words d → c ≡ d
+-- a number of workers that may record a run
+abbrev pub MayRecord : Command → Type 0
+MayRecord (Record workers) = (1 ≤ workers) × (workers ≤ MAX_WORKERS)
+MayRecord _ = Unit {0}
+
+-- the same of what the words mean
+abbrev pub MeansMayRecord : Option Command → Type 0
+MeansMayRecord (Some c) = MayRecord c
+MeansMayRecord None = Unit {0}

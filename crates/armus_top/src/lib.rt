@@ -4,6 +4,7 @@
 mod answers;
 mod avoiding;
 mod generating;
+mod recording;
 mod replaying;
 mod serving;
 mod status;
@@ -12,7 +13,7 @@ mod top;
 mod writing;
 
 pub use texts::MAX_TEXT_BYTES;
-pub use top::{armus, armus_plain, words_mean_one_command};
+pub use top::{armus, armus_journal, armus_plain, words_mean_one_command};
 
 #[cfg(test)]
 mod averaging_tests;

@@ -3,6 +3,7 @@ mod avoid;
 mod check;
 mod generated;
 mod outside;
+mod record;
 mod replay;
 mod run;
 mod words;

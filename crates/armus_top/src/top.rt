@@ -1,20 +1,68 @@
 // The top call.
-ghost use Rattle.std.specs.Prelude.{◌≡◌, Option, false, map, string_bytes};
-ghost use Rattle.armus_top.specs.Meanings.{Means, OneMeaning};
+ghost use Rattle.std.specs.Prelude.{◌≡◌, ◌↔◌, IsTrue, Option, false, map, string_bytes};
+ghost use Rattle.std.specs.Str.{bytes_eq};
+ghost use Rattle.armus_words.specs.declared.table.TheConstants.{RECORD};
+ghost use Rattle.armus_top.specs.Meanings.{BeginsRecord, Means, OneMeaning};
 ghost use Rattle.armus_top.specs.Status.{code_of};
 ghost use Rattle.armus_top.specs.Headline.{Completes, IsCalm, Serves, reads_input, passage};
 ghost use Rattle.armus_words.specs.declared.command.Command.{Command};
 
-use crate::serving::serve;
+use crate::serving::{serve, serve_waiting};
 use crate::status::ExitStatus;
 use armus_base::{Gate, Sink, Source};
-use armus_words::command_in;
+use armus_words::{RECORD, command_in};
 use std::alloc::Global;
 use std::sync::Wait;
 use std::thread::Threads;
 
-// The status of a call, by its words.
+// The status of a call whose first word is not `record`, by its words.
 fn status_for<R: Threads + Sync, S: Source, K: Sink, G: Gate>(
+    rt: &R,
+    alloc: Global,
+    words: &[String],
+    src: &mut S,
+    out: &mut K,
+    gate: &G,
+) -> ExitStatus
+    requires plain { BeginsRecord (map string_bytes words.now) → ⊥ }
+    ensures serves { Serves (map string_bytes words.now)
+        (passage S.left S.faults src.old src.new) (passage K.taken K.faults out.old out.new) (code_of result) }
+    ensures unread { (c : Option Command) → Means (map string_bytes words.now) c → reads_input c ≡ false → src.new ≡ src.old }
+    ensures silent { code_of result ≡ 4 → out.new ≡ out.old }
+{
+    match command_in(alloc, words) {
+        Ok(meaning) => serve(rt, alloc, meaning, src, out, gate),
+        Err(_) => ExitStatus::OutOfMemory,
+    }
+}
+
+/// The program where the first word is not `record`: every command that waits for no thread.
+///
+/// It reads its input from `src` where the words are a command that reads, writes its output to `out`, and
+/// answers the status: 0 where no task is dead or refused, 1 where one is, 2 where the words are no command,
+/// 3 where the input is refused, 4 and 5 where the source or the sink failed, 6 for want of memory.
+pub fn armus_plain<R: Threads + Sync, S: Source, K: Sink, G: Gate>(
+    rt: &R,
+    alloc: Global,
+    words: &[String],
+    src: &mut S,
+    out: &mut K,
+    gate: &G,
+) -> u8
+    requires plain { BeginsRecord (map string_bytes words.now) → ⊥ }
+    ensures serves { Serves (map string_bytes words.now)
+        (passage S.left S.faults src.old src.new) (passage K.taken K.faults out.old out.new) result }
+    ensures complete { (c : Option Command) → Means (map string_bytes words.now) c
+        → IsCalm (passage S.left S.faults src.old src.new) (passage K.taken K.faults out.old out.new) result
+        → Completes c (passage S.left S.faults src.old src.new) result }
+    ensures unread { (c : Option Command) → Means (map string_bytes words.now) c → reads_input c ≡ false → src.new ≡ src.old }
+    ensures silent { result ≡ 4 → out.new ≡ out.old }
+{
+    status_for(rt, alloc, words, src, out, gate).code()
+}
+
+// The status of a call, by its words.
+fn status_waiting<R: Threads + Wait + Sync, S: Source, K: Sink, G: Gate>(
     rt: &R,
     alloc: Global,
     words: &[String],
@@ -28,17 +76,13 @@ fn status_for<R: Threads + Sync, S: Source, K: Sink, G: Gate>(
     ensures silent { code_of result ≡ 4 → out.new ≡ out.old }
 {
     match command_in(alloc, words) {
-        Ok(meaning) => serve(rt, alloc, meaning, src, out, gate),
+        Ok(meaning) => serve_waiting(rt, alloc, meaning, src, out, gate),
         Err(_) => ExitStatus::OutOfMemory,
     }
 }
 
-/// The program for every command that waits for no thread.
-///
-/// It reads its input from `src` where the words are a command that reads, writes its output to `out`, and
-/// answers the status: 0 where no task is dead or refused, 1 where one is, 2 where the words are no command,
-/// 3 where the input is refused, 4 and 5 where the source or the sink failed, 6 for want of memory.
-pub fn armus_plain<R: Threads + Sync, S: Source, K: Sink, G: Gate>(
+/// The program where the first word is `record`, which waits for threads: as `armus_plain` says, if it returns.
+pub fn armus_journal<R: Threads + Wait + Sync, S: Source, K: Sink, G: Gate>(
     rt: &R,
     alloc: Global,
     words: &[String],
@@ -46,6 +90,7 @@ pub fn armus_plain<R: Threads + Sync, S: Source, K: Sink, G: Gate>(
     out: &mut K,
     gate: &G,
 ) -> u8
+    requires journal { BeginsRecord (map string_bytes words.now) }
     ensures serves { Serves (map string_bytes words.now)
         (passage S.left S.faults src.old src.new) (passage K.taken K.faults out.old out.new) result }
     ensures complete { (c : Option Command) → Means (map string_bytes words.now) c
@@ -54,10 +99,27 @@ pub fn armus_plain<R: Threads + Sync, S: Source, K: Sink, G: Gate>(
     ensures unread { (c : Option Command) → Means (map string_bytes words.now) c → reads_input c ≡ false → src.new ≡ src.old }
     ensures silent { result ≡ 4 → out.new ≡ out.old }
 {
-    status_for(rt, alloc, words, src, out, gate).code()
+    status_waiting(rt, alloc, words, src, out, gate).code()
 }
 
-/// The program, as `armus_plain` says.
+// Whether the word is `record`.
+fn is_record_word(word: &str) -> bool
+    ensures { result ≡ bytes_eq word.now RECORD.now }
+{
+    word == RECORD
+}
+
+// Whether the first word is `record`.
+fn begins_record(words: &[String]) -> bool
+    ensures { IsTrue result ↔ BeginsRecord (map string_bytes words.now) }
+{
+    match words {
+        [] => false,
+        [word, ..] => is_record_word(word.as_str()),
+    }
+}
+
+/// The program: `armus_journal` where the first word is `record`, and `armus_plain` otherwise.
 pub fn armus<R: Threads + Wait + Sync, S: Source, K: Sink, G: Gate>(
     rt: &R,
     alloc: Global,
@@ -74,7 +136,11 @@ pub fn armus<R: Threads + Wait + Sync, S: Source, K: Sink, G: Gate>(
     ensures unread { (c : Option Command) → Means (map string_bytes words.now) c → reads_input c ≡ false → src.new ≡ src.old }
     ensures silent { result ≡ 4 → out.new ≡ out.old }
 {
-    armus_plain(rt, alloc, words, src, out, gate)
+    if begins_record(words) {
+        armus_journal(rt, alloc, words, src, out, gate)
+    } else {
+        armus_plain(rt, alloc, words, src, out, gate)
+    }
 }
 
 /// The law that words mean one command at most.

@@ -10,7 +10,7 @@ mod values;
 
 pub use command::{Command, Graph};
 pub use reading::{command_in, words_mean_one_command};
-pub use table::{DEFAULT_WORKERS, MAX_GENERATED, MAX_WORKERS};
+pub use table::{DEFAULT_WORKERS, MAX_GENERATED, MAX_WORKERS, RECORD};
 
 #[cfg(test)]
 mod tests;

@@ -1,6 +1,6 @@
 // Sources and sinks that fail, and inputs that are too long.
 use super::{AVERAGING, bytes, calls, words_of};
-use crate::armus_plain;
+use crate::armus;
 use armus_base::{List, MemSink, MemSource, Still};
 use std::test::Fail;
 
@@ -16,7 +16,7 @@ fn a_failed_write_or_read_ends_the_call(rt: HostRuntime) -> Result<(), Fail> {
     for (reads, writes, input, output, status) in rows {
         let mut src = MemSource::new(bytes(alloc, input)?, 7, calls(alloc, reads)?);
         let mut out = MemSink::new(alloc, 1000, 16, calls(alloc, writes)?)?;
-        let ended = armus_plain(&rt, alloc, run.as_slice(), &mut src, &mut out, &Still);
+        let ended = armus(&rt, alloc, run.as_slice(), &mut src, &mut out, &Still);
         assert_eq!(rt; ended, status);
         assert_eq!(rt; out.taken(), output.as_bytes());
     }
@@ -45,7 +45,7 @@ fn a_long_input_is_refused(rt: HostRuntime) -> Result<(), Fail> {
         let mut src = MemSource::new(List::from_vec(input), 5000, calls(alloc, &[])?);
         let mut out = MemSink::new(alloc, 100, 16, calls(alloc, &[])?)?;
         let all = words_of(alloc, &[command])?;
-        let ended = armus_plain(&rt, alloc, all.as_slice(), &mut src, &mut out, &Still);
+        let ended = armus(&rt, alloc, all.as_slice(), &mut src, &mut out, &Still);
         assert_eq!(rt; ended, status);
         assert_eq!(rt; out.taken(), output.as_bytes());
     }

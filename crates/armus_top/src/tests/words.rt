@@ -12,7 +12,7 @@ fn words_that_are_no_command(rt: HostRuntime) -> Result<(), Fail> {
         (&["run", "--workers=2"], "", USAGE, 2),
         (&["gen"], "", USAGE, 2),
         (&["avoid", "--live"], "", USAGE, 2),
-        (&["record"], "", USAGE, 2),
+        (&["record", "--graph", "sg"], "", USAGE, 2),
         (&["replay", "--workers", "2"], "", USAGE, 2),
     ];
     for (given, input, output, status) in rows {
