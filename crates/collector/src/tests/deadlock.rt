@@ -93,7 +93,10 @@ fn collects(alloc: Global, board: &Board, mut view: ViewSeat) -> Result<bool, No
     let other = view.split(alloc, board)?;
     let mut cells = Cells::start(alloc, board.tasks(), board.phasers())?;
     let mut first = Counting { view, loads: 0 };
-    let mut second = Counting { view: other, loads: 0 };
+    let mut second = Counting {
+        view: other,
+        loads: 0,
+    };
     cells.collect(&mut first, board);
     let found = are_both(&cells.statuses(alloc)?);
     cells.collect(&mut second, board);
