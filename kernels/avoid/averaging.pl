@@ -1,1 +1,0 @@
-../averaging.pl

@@ -1,1 +1,0 @@
-../averaging_repaired.pl

@@ -1,1 +1,0 @@
-../ends_without_leaving.pl

@@ -1,1 +1,0 @@
-../fork_join.pl

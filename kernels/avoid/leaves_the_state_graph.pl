@@ -1,1 +1,0 @@
-../leaves_the_state_graph.pl

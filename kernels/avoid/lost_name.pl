@@ -1,1 +1,0 @@
-../lost_name.pl

@@ -1,1 +1,0 @@
-../never_forked.pl

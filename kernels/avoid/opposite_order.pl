@@ -1,1 +1,0 @@
-../opposite_order.pl

@@ -1,1 +1,0 @@
-../shared_names.pl

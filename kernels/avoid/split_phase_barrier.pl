@@ -1,1 +1,0 @@
-../split_phase_barrier.pl

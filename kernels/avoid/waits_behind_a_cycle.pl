@@ -1,1 +1,0 @@
-../waits_behind_a_cycle.pl
