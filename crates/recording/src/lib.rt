@@ -1,0 +1,11 @@
+//! What the journal of a recorded run is to a replay: one step line for each task, in order, and no line at fault.
+#![tactic(auto)]
+
+mod laws;
+mod lines;
+
+pub use laws::journals_replay;
+pub use lines::journal_lines;
+
+#[cfg(test)]
+mod tests;
