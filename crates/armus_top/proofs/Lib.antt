@@ -8,3 +8,5 @@ pub mod Answering
 pub mod Reporting
 pub mod SerialEnds
 pub mod RecordedTexts
+pub mod RecordsReplay
+pub mod InputsMet

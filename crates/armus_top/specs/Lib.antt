@@ -7,5 +7,7 @@ pub mod Generated
 pub mod Meanings
 pub mod Commands
 pub mod Headline
+pub mod Replayable
+pub mod Inputs
 pub mod Status
 pub mod Writing

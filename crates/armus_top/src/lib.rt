@@ -4,7 +4,8 @@
 mod answers;
 mod avoiding;
 mod generating;
-mod recording;
+mod laws;
+mod recorder;
 mod replaying;
 mod serving;
 mod status;
@@ -12,6 +13,7 @@ mod texts;
 mod top;
 mod writing;
 
+pub use laws::{each_input_is_met, records_replay};
 pub use texts::MAX_TEXT_BYTES;
 pub use top::{armus, armus_journal, armus_plain, words_mean_one_command};
 

@@ -11,7 +11,7 @@ ghost use Rattle.armus_words.specs.declared.table.TheConstants.{MAX_WORKERS};
 use crate::answers::{check_text, run_text};
 use crate::avoiding::avoid_text;
 use crate::generating::generate;
-use crate::recording::record_text;
+use crate::recorder::record_text;
 use crate::replaying::replay_input;
 use crate::status::ExitStatus;
 use crate::texts::MAX_TEXT_BYTES;

@@ -3,6 +3,7 @@ ghost use Rattle.std.specs.Prelude.{◌≡◌, ◌↔◌, IsTrue, Option, false,
 ghost use Rattle.std.specs.Str.{bytes_eq};
 ghost use Rattle.armus_words.specs.declared.table.TheConstants.{RECORD};
 ghost use Rattle.armus_top.specs.Meanings.{BeginsRecord, Means, OneMeaning};
+ghost use Rattle.armus_top.specs.Replayable.{WritesReplayable};
 ghost use Rattle.armus_top.specs.Status.{code_of};
 ghost use Rattle.armus_top.specs.Headline.{Completes, IsCalm, Serves, reads_input, passage};
 ghost use Rattle.armus_words.specs.declared.command.Command.{Command};
@@ -98,6 +99,8 @@ pub fn armus_journal<R: Threads + Wait + Sync, S: Source, K: Sink, G: Gate>(
         → Completes c (passage S.left S.faults src.old src.new) result }
     ensures unread { (c : Option Command) → Means (map string_bytes words.now) c → reads_input c ≡ false → src.new ≡ src.old }
     ensures silent { result ≡ 4 → out.new ≡ out.old }
+    ensures replays { WritesReplayable (map string_bytes words.now)
+        (passage S.left S.faults src.old src.new) (passage K.taken K.faults out.old out.new) result }
 {
     status_waiting(rt, alloc, words, src, out, gate).code()
 }
@@ -135,6 +138,8 @@ pub fn armus<R: Threads + Wait + Sync, S: Source, K: Sink, G: Gate>(
         → Completes c (passage S.left S.faults src.old src.new) result }
     ensures unread { (c : Option Command) → Means (map string_bytes words.now) c → reads_input c ≡ false → src.new ≡ src.old }
     ensures silent { result ≡ 4 → out.new ≡ out.old }
+    ensures replays { WritesReplayable (map string_bytes words.now)
+        (passage S.left S.faults src.old src.new) (passage K.taken K.faults out.old out.new) result }
 {
     if begins_record(words) {
         armus_journal(rt, alloc, words, src, out, gate)

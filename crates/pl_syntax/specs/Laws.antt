@@ -1,5 +1,5 @@
 -- What holds of the grammar, the first fault and the printed form.
-use Rattle.std.specs.Prelude.{◌≡◌, ℕ, ◌≤◌, ◌⊎◌, List}
+use Rattle.std.specs.Prelude.{◌≡◌, ℕ, ◌≤◌, ◌⊎◌, List, [], ◌∷◌, ◌++◌}
 use Rattle.pl_syntax.specs.declared.limits.TheConstants.{MAX_OPEN_BRACES}
 use Rattle.pl_syntax.specs.declared.fault.SyntaxFault.{SyntaxFault}
 use Rattle.pl_syntax.specs.declared.tree.Stmt.{Stmt}
@@ -35,3 +35,11 @@ PrintedIsText = (p : Tree) → IsWritable p → height p ≤ MAX_OPEN_BRACES →
 -- the program of a text can be printed
 abbrev pub TextsAreWritable : Type 0
 TextsAreWritable = (text : List ℕ) (p : Tree) → IsText text p → IsWritable p
+
+-- a text with one more LF at its end is the same program
+abbrev pub LineFeedChangesNothing : Type 0
+LineFeedChangesNothing = (text : List ℕ) (p : Tree) → IsText text p → IsText (text ++ 10 ∷ []) p
+
+-- no line of a text begins with `%`, neither the first one nor one behind an LF; so none is exactly `%%`
+abbrev pub NoLineIsAMark : Type 0
+NoLineIsAMark = (p : Tree) (rest : List ℕ) → (IsText (37 ∷ rest) p → ⊥) × ((ahead : List ℕ) → IsText (ahead ++ 10 ∷ 37 ∷ rest) p → ⊥)

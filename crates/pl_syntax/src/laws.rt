@@ -1,6 +1,6 @@
 // What holds of the definitions of this crate: each law is the contract of a public function with an empty body.
 
-ghost use Rattle.pl_syntax.specs.Laws.{HasOneTree, HasOneFault, HasNotBoth, HasOneOfBoth, TreesFixBodies, PrintedIsText, TextsAreWritable};
+ghost use Rattle.pl_syntax.specs.Laws.{HasOneTree, HasOneFault, HasNotBoth, HasOneOfBoth, TreesFixBodies, PrintedIsText, TextsAreWritable, LineFeedChangesNothing, NoLineIsAMark};
 
 /// The grammar is unambiguous: a text has at most one tree.
 pub fn text_has_one_tree()
@@ -28,4 +28,10 @@ pub fn tree_fixes_body()
 pub fn printed_is_text()
     ensures is_text { PrintedIsText }
     ensures writable { TextsAreWritable }
+{}
+
+/// One more LF at the end of a text changes nothing, and no line of a text is `%%`.
+pub fn text_has_free_lines()
+    ensures line_feed { LineFeedChangesNothing }
+    ensures no_mark { NoLineIsAMark }
 {}

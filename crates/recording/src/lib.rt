@@ -4,7 +4,7 @@
 mod laws;
 mod lines;
 
-pub use laws::journals_replay;
+pub use laws::{journals_replay, records_are_read};
 pub use lines::journal_lines;
 
 #[cfg(test)]

@@ -1,4 +1,9 @@
 pub mod Passing
+pub mod Deciding
+pub mod DeadOrNot
+pub mod CycleExists
+pub mod ReportExists
+pub mod DeadExtend
 pub mod TaskLines
 pub mod OneCycle
 pub mod OneReport

@@ -5,3 +5,4 @@ pub mod Standings
 pub mod Counts
 pub mod Lines
 pub mod Reports
+pub mod NamedDead

@@ -9,7 +9,7 @@ mod refusal;
 mod reports;
 mod standing;
 
-pub use laws::{counts_add_up, one_report};
+pub use laws::{counts_add_up, one_report, report_exists, some_dead_extend};
 pub use live::live_lines;
 pub use refusal::{Refusal, ScheduleFault, refusal_line};
 pub use reports::{any_dead, report};

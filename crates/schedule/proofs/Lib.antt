@@ -13,4 +13,6 @@ pub mod PassLines
 pub mod LineByLine
 pub mod OneSchedule
 pub mod OneReplay
+pub mod LinesExist
+pub mod LinesMet
 pub mod Within

@@ -1,14 +1,14 @@
 -- The laws of replays.
-use Rattle.std.specs.Prelude.{◌≡◌, ℕ, ◌+◌, List, Some, Contains, length, slice_get}
+use Rattle.std.specs.Prelude.{◌≡◌, ℕ, ◌+◌, ◌⊎◌, List, Some, Contains, length, slice_get}
 use Rattle.armus_base.specs.CheckedPlans.{IsCheckedPlan}
 use Rattle.armus_base.specs.Deadlocks.{IsDeadIn, IsDeadBy}
 use Rattle.armus_base.specs.Plans.{Plan}
 use Rattle.armus_base.specs.States.{Step}
-use Rattle.armus_base.specs.Runs.{state_after}
+use Rattle.armus_base.specs.Runs.{IsPlainRun, state_after}
 use Rattle.schedule.specs.declared.lines.Line.{Line}
 use Rattle.schedule.specs.Passes.{Loads, statuses_found}
 use Rattle.schedule.specs.Lines.{IsSchedule}
-use Rattle.schedule.specs.Replays.{Progress, IsFirstFault, Leads}
+use Rattle.schedule.specs.Replays.{Progress, IsFault, IsFirstFault, Leads, Takes}
 use Rattle.schedule.specs.Split.{IsSplit}
 
 -- a closed pass names every task that is dead at its first load, and only tasks that are dead at its last
@@ -44,3 +44,25 @@ abbrev pub OneFirstFault : Type 0
 OneFirstFault =
     (plan : Plan) (lines : List Line) (number kind other another : ℕ) → IsCheckedPlan plan → IsFirstFault plan lines number kind →
     IsFirstFault plan lines other another → (number ≡ other) × (kind ≡ another)
+
+-- after a plain run each line is taken, or at fault
+abbrev pub LineIsMet : Type 0
+LineIsMet =
+    (plan : Plan) (a : Progress) (next : Line) → IsCheckedPlan plan → IsPlainRun plan a.run →
+    ((b : Progress) × Takes plan a next b) ⊎ ((kind : ℕ) × IsFault plan a next kind)
+
+-- the lines lead to a progress, or have a first fault
+abbrev pub IsMet : Plan → List Line → Type 0
+IsMet plan lines = ((a : Progress) × Leads plan lines a) ⊎ ((number : ℕ) × (kind : ℕ) × IsFirstFault plan lines number kind)
+
+-- so is each list of lines
+abbrev pub LinesAreMet : Type 0
+LinesAreMet = (plan : Plan) (lines : List Line) → IsCheckedPlan plan → IsMet plan lines
+
+-- bytes have lines
+abbrev pub BytesHaveLines : Type 0
+BytesHaveLines = (bytes : List ℕ) → (lines : List Line) × IsSchedule bytes lines
+
+-- an input has a text and a schedule
+abbrev pub InputIsSplit : Type 0
+InputIsSplit = (input : List ℕ) → (text : List ℕ) × (schedule : List ℕ) × IsSplit input text schedule

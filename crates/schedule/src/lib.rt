@@ -9,7 +9,7 @@ mod split;
 mod text;
 mod verdict;
 
-pub use laws::{one_replay, one_schedule, passes_name_the_dead};
+pub use laws::{each_replay, each_schedule, one_replay, one_schedule, passes_name_the_dead};
 pub use lines::{Line, first_line, read_lines};
 pub use replaying::replay;
 pub use split::split_input;

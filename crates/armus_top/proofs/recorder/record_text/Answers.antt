@@ -2,7 +2,7 @@ use Rattle.std.proofs.Common.{◌≡◌, refl, rules}
 use Rattle.armus_words.specs.declared.command.Command.TheVariants.{Record}
 use Rattle.armus_top.specs.Programs.{IsFaultOf}
 use Rattle.armus_top.proofs.Answering.{by_end}
-use Rattle.armus_top.proofs.recording.record_text.Goals as goal
+use Rattle.armus_top.proofs.recorder.record_text.Goals as goal
 
 pub answer_record-requires : goal.answer_record-requires
 answer_record-requires g c = (search rules, (search rules, (search rules, (c.requires.workers, (_, c.in-Ok.ensures.plan)))))

@@ -4,7 +4,7 @@ use Rattle.armus_top.specs.Records.{IsRecordOf}
 use Rattle.armus_top.specs.Status.{code_of}
 use Rattle.armus_top.proofs.Answering.{by_answer}
 use Rattle.armus_top.proofs.OnePlan.{checked_plan}
-use Rattle.armus_top.proofs.recording.answer_record.Goals as goal
+use Rattle.armus_top.proofs.recorder.answer_record.Goals as goal
 
 pub run_and_record-requires : goal.run_and_record-requires
 run_and_record-requires g c = (search rules, (search rules, (c.requires.workers, checked_plan c.args.text.now c.args.plan.now c.requires.plan)))

@@ -1,6 +1,6 @@
 use Rattle.armus_top.proofs.Reporting.{plain_end_in_order}
 use Rattle.armus_top.proofs.RecordedTexts.{record_of}
-use Rattle.armus_top.proofs.recording.run_and_record.Goals as goal
+use Rattle.armus_top.proofs.recorder.run_and_record.Goals as goal
 
 pub any_dead-requires : goal.any_dead-requires
 any_dead-requires g c = plain_end_in_order c.args.plan.now _ c.requires.checked c.in_ok-end.ensures.recorded.end
