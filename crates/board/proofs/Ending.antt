@@ -8,7 +8,7 @@ use Rattle.atomic_table.specs.Table.{Allows, Joins, Me, State as TableState, kee
 use Rattle.atomic_table.proofs.Lists.{at_set}
 use Rattle.armus_base.specs.Plans.{Plan}
 use Rattle.armus_base.specs.States.{updated}
-use Rattle.armus_base.specs.Runs.{IsPrefix, Place, Precedes}
+use Rattle.armus_base.specs.Runs.{IsPrefix, Place, Precedes, first_place}
 use Rattle.armus_base.specs.Places.{done_by, forked_at}
 use Rattle.armus_base.specs.Seats.{IsLonger}
 use Rattle.armus_base.proofs.Steps.{updated_other, updated_same}
@@ -17,7 +17,7 @@ use Rattle.board.specs.declared.mode.Mode.{Mode}
 use Rattle.board.specs.declared.view.View.{View}
 use Rattle.board.specs.Views.{is_among, place_in, task_of}
 use Rattle.board.specs.Rule.{Fits, IsKeptBy, Owns, Stepper, by_seat, no_more, not_yet}
-use Rattle.board.specs.Steps.{Counted, are_of_one_run, both, is_prefix, longer, longer_places, precedes, spent_view, with_seat}
+use Rattle.board.specs.Steps.{Counted, are_ahead, are_of_one_run, both, is_prefix, longer, longer_places, may_join, precedes, spent_view, with_seat}
 use Rattle.board.proofs.Fitting.{seats_same}
 use Rattle.board.proofs.Acting.{sits}
 use Rattle.board.proofs.Loading.{looks_kept}
@@ -69,7 +69,7 @@ longer_count [] ys e = refl
 longer_count (x ∷ xs) [] e = absurd (omega arith)
 longer_count (x ∷ xs) (y ∷ ys) e = (let r = longer_count xs ys (omega arith) in omega arith)
 
-both_true : (x y : Bool) → (x && y) ≡ true → (x ≡ true) × (y ≡ true)
+pub both_true : (x y : Bool) → (x && y) ≡ true → (x ≡ true) × (y ≡ true)
 both_true true true e = (refl, refl)
 both_true true false e = absurd (false≢true e)
 both_true false y e = absurd (false≢true e)
@@ -109,6 +109,35 @@ among_last xs ys t u = among_either (xs ++ ys) (t ∷ []) u ∙ ap₂ (λ a b. a
 or_cases : (a b : Bool) → (a || b) ≡ true → (a ≡ true) ⊎ (b ≡ true)
 or_cases true b e = inl refl
 or_cases false b e = inr e
+
+or_right : (x y : Bool) → y ≡ true → (x || y) ≡ true
+or_right true y e = refl
+or_right false y e = e
+
+-- the tests that of each of some tasks one view's place is further on, and what they tell
+ahead_each : (us : List ℕ) (xs ys : List Place) → ((u : ℕ) → is_among us u ≡ true → IsPrefix (place_in ys u) (place_in xs u)) → are_ahead us xs ys ≡ true
+ahead_each [] xs ys each = refl
+ahead_each (t ∷ us) xs ys each =
+    ap₂ (λ a b. a && b)
+    (precedes_to (place_in ys t).done (place_in ys t).dropped (place_in xs t).done (place_in xs t).dropped
+    (each t (ap (λ b. b || is_among us t) (eq-eqb t t refl))))
+    (ahead_each us xs ys (λ u is. each u (or_right (u == t) (is_among us u) is)))
+
+pub ahead_at : (us : List ℕ) (xs ys : List Place) → are_ahead us xs ys ≡ true → (u : ℕ) → is_among us u ≡ true → IsPrefix (place_in ys u) (place_in xs u)
+ahead_at [] xs ys e u is = absurd (false≢true is)
+ahead_at (t ∷ us) xs ys e u is =
+    let two = both_true (is_prefix (place_in ys t) (place_in xs t)) (are_ahead us xs ys) e in
+    elim (or_cases (u == t) (is_among us u) is) [
+      | inl h ↦ subst (λ (z : ℕ). IsPrefix (place_in ys z) (place_in xs z)) (sym (eqb-true u t h))
+          (precedes_from (place_in ys t).done (place_in ys t).dropped (place_in xs t).done (place_in xs t).dropped two.0)
+      | inr h ↦ ahead_at us xs ys two.1 u h
+    ]
+
+-- no place is known of what is no task
+place_beyond : (xs : List Place) (u : ℕ) → length xs ≤ u → place_in xs u ≡ first_place
+place_beyond [] u l = refl
+place_beyond (x ∷ xs) zero l = absurd (omega arith)
+place_beyond (x ∷ xs) (suc u) l = place_beyond xs u (omega arith)
 
 none_some : (o : Option ℕ) (u : ℕ) → o ≡ None → o ≡ Some u → ⊥
 none_some o u a b = cc
@@ -154,13 +183,13 @@ ended_fits plan mode a lock steppers t k owner j v apart f =
 longer_near : (a b c x : Place) → IsLonger a b c → IsPrefix a x → IsPrefix b x → IsPrefix c x
 longer_near a b c x l p q = elim l [ inl e ↦ subst (λ (y : Place). IsPrefix y x) (sym e.0) p | inr e ↦ subst (λ (y : Place). IsPrefix y x) (sym e.0) q ]
 
-longer_left : (a b c x : Place) → IsLonger a b c → IsPrefix b x → x ≡ a → x ≡ c
+pub longer_left : (a b c x : Place) → IsLonger a b c → IsPrefix b x → x ≡ a → x ≡ c
 longer_left a b c x l q is = elim l [
   | inl e ↦ is ∙ sym e.0
   | inr e ↦ prefixes_both x b (subst (λ (y : Place). IsPrefix y b) (sym is) e.1) q ∙ sym e.0
 ]
 
-longer_right : (a b c x : Place) → IsLonger a b c → IsPrefix a x → x ≡ b → x ≡ c
+pub longer_right : (a b c x : Place) → IsLonger a b c → IsPrefix a x → x ≡ b → x ≡ c
 longer_right a b c x l p is = elim l [
   | inl e ↦ prefixes_both x a (subst (λ (y : Place). IsPrefix y a) (sym is) e.1) p ∙ sym e.0
   | inr e ↦ is ∙ sym e.0
@@ -186,10 +215,24 @@ module _ (plan : Plan) (mode : Mode) (s : T) (l : IsKeptBy plan mode s) (id othe
         | inl x ↦ ap (λ y. y || is_prefix b a) (precedes_to a.done a.dropped b.done b.dropped x)
         | inr y ↦ or_right (is_prefix a b) (is_prefix b a) (precedes_to b.done b.dropped a.done a.dropped y)
       ])
-    where
-      or_right : (x y : Bool) → y ≡ true → (x || y) ≡ true
-      or_right true y e = refl
-      or_right false y e = e
+
+  own_ahead : are_ahead (task_of w ∷ []) w.sight.places v.sight.places ≡ true
+  own_ahead = ahead_each (task_of w ∷ []) w.sight.places v.sight.places (λ u is.
+      let same : u ≡ t = elim (or_cases (u == task_of w) false is) [ inl e ↦ eqb-true u (task_of w) e ∙ task | inr e ↦ absurd (false≢true e) ] in
+      subst (λ (z : ℕ). IsPrefix (place_in v.sight.places z) (place_in w.sight.places z)) (sym same)
+      (subst (λ (x : Place). IsPrefix (place_in v.sight.places t) x) (theirs.far.equal t o.within o.exact) (mine.far.later t o.within)))
+
+  exact_ahead : are_ahead v.sight.exact v.sight.places w.sight.places ≡ true
+  exact_ahead = ahead_each v.sight.exact v.sight.places w.sight.places (λ u is. elim (cases_lt u (length plan.parents)) [
+    | inl small ↦ subst (λ (x : Place). IsPrefix (place_in w.sight.places u) x) (mine.far.equal u small is) (theirs.far.later u small)
+    | inr large ↦
+        let a : place_in v.sight.places u ≡ first_place = place_beyond v.sight.places u (let c = mine.count in omega arith) in
+        let b : place_in w.sight.places u ≡ first_place = place_beyond w.sight.places u (let c = theirs.count in omega arith) in
+        subst (λ (x : Place). IsPrefix x (place_in v.sight.places u)) (sym b) (subst (λ (x : Place). IsPrefix first_place x) (sym a) (let z : 0 ≤ 0 = omega arith in z))
+  ])
+
+  pub joins : may_join v w ≡ true
+  joins = ap₂ (λ a b. a && b) of_one_run (ap₂ (λ a b. a && b) own_ahead exact_ahead)
 
   long : (u : ℕ) → IsLonger (place_in v.sight.places u) (place_in w.sight.places u) (place_in (longer_places v.sight.places w.sight.places) u)
   long = longer_at v.sight.places w.sight.places same_count of_one_run
@@ -234,7 +277,7 @@ takes_in plan mode id v other w t alone live own live_too s l found apart there 
     let mine = l.views id v found live in
     let steppers' = updated l.steppers t no_more in
     let fits = with_fits plan mode s l id other v w t alone mine si.fits own in
-    let joined : with_seat v w ≡ both v w = ap (λ b. if b then with_seat v w else record v { sight = record { places = []; exact = []; scanned = 0; found = [] } }) (sym (of_one_run plan mode s l id other v w t alone mine si.fits own)) in
+    let joined : with_seat v w ≡ both v w = ap (λ b. if b then with_seat v w else record v { sight = record { places = []; exact = []; scanned = 0; found = [] } }) (sym (joins plan mode s l id other v w t alone mine si.fits own)) in
     record {
       places = l.places;
       lock = l.lock;
@@ -271,19 +314,19 @@ counts plan mode slots id me live s l _ at _ =
     let f = l.views id me.0 at live in
     (me.0, keeps, tt, looks_kept plan mode s l id 0 me.1 me.0 f, (refl, refl, f.count ∙ ap (λ (p : Plan). length p.parents) (sym f.plan_is)))
 
--- so who has the view after two became one knows that they were of one run
-pub was_of_one_run : (v w : View) → 0 < length v.plan.parents → length (both v w).sight.places ≡ length (both v w).plan.parents → both v w ≡ with_seat v w × are_of_one_run v.sight.places w.sight.places ≡ true
-was_of_one_run v w some_task e = by_test (are_of_one_run v.sight.places w.sight.places) refl
+-- so who has the view after two became one knows that they might be joined
+pub was_joined : (v w : View) → 0 < length v.plan.parents → length (both v w).sight.places ≡ length (both v w).plan.parents → both v w ≡ with_seat v w × may_join v w ≡ true
+was_joined v w some_task e = by_test (may_join v w) refl
   where
     either : Bool → View
     either b = if b then with_seat v w else record v { sight = record { places = []; exact = []; scanned = 0; found = [] } }
 
-    by_test : (b : Bool) → are_of_one_run v.sight.places w.sight.places ≡ b → both v w ≡ with_seat v w × are_of_one_run v.sight.places w.sight.places ≡ true
+    by_test : (b : Bool) → may_join v w ≡ b → both v w ≡ with_seat v w × may_join v w ≡ true
     by_test true is = (ap either is, is)
     by_test false is = absurd (let z : 0 ≡ length v.plan.parents = sym (ap (λ b. length (either b).sight.places) is) ∙ e ∙ ap (λ b. length (either b).plan.parents) is in omega arith)
 
 pub both_spent : (v w : View) → (both v w).spent ≡ v.spent
-both_spent v w = by_test (are_of_one_run v.sight.places w.sight.places)
+both_spent v w = by_test (may_join v w)
   where
     by_test : (b : Bool) → (if b then with_seat v w else record v { sight = record { places = []; exact = []; scanned = 0; found = [] } }).spent ≡ v.spent
     by_test true = refl

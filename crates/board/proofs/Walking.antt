@@ -73,7 +73,7 @@ pub record HasStepped (k m : Known) (x : Action) (xs : List Action) : Type 0 whe
   pub task : task_of m.view ≡ task_of k.view
   pub event : event_of m ≡ awaited (Some x) (phases_after k.view.plan (task_of k.view) (own_place k.view).done)
 
-moved_here : (t : ℕ) (x : Action) (s : SeenBy) → (seen_after_step t x s).places t ≡ next_place (s.places t).done (s.places t).dropped x
+pub moved_here : (t : ℕ) (x : Action) (s : SeenBy) → (seen_after_step t x s).places t ≡ next_place (s.places t).done (s.places t).dropped x
 moved_here t (Makes p) s = updated_same s.places t t (next_place (s.places t).done (s.places t).dropped (Makes p)) refl
 moved_here t (Registers c p) s = updated_same s.places t t (next_place (s.places t).done (s.places t).dropped (Registers c p)) refl
 moved_here t (Forks c) s = updated_same s.places t t (next_place (s.places t).done (s.places t).dropped (Forks c)) refl

@@ -107,9 +107,11 @@ pub record AnswersPhase (t p : ℕ) (answer : Option ℕ) (before now : Known) :
   pub table : now.table ≡ before.table
   pub kept : IsSeat now
 
--- a viewer takes in the seat of a task
+-- a viewer takes in the seat of a task: it sees that task where its seat has it, and each task that it knew exactly where it saw it before
 pub record TakesIn (seat before now : Known) : Type 0 where
   pub seen_now : IsSeenAfterTakingIn (task_of seat.view) (seen before.view) (seen seat.view) (seen now.view)
+  pub own : (seen now.view).places (task_of seat.view) ≡ (seen seat.view).places (task_of seat.view)
+  pub stays : (u : ℕ) → (seen before.view).exact u ≡ true → (seen now.view).places u ≡ (seen before.view).places u
   pub same : IsSameSeat before.view now.view
   pub loads : now.view.loads ≡ before.view.loads
   pub table : now.table ≡ before.table

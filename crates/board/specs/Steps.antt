@@ -128,11 +128,23 @@ with_seat v w =
       };
     }
 
--- What it has after the two views become one. They always are of one run; what is said of others is true of no viewer, so that who has this view knows
--- that they were.
+-- of each of these tasks the first view's place is the second one's or further on
+abbrev pub are_ahead : List ℕ → List Place → List Place → Bool
+are_ahead [] xs ys = true
+are_ahead (u ∷ us) xs ys = is_prefix (place_in ys u) (place_in xs u) && are_ahead us xs ys
+
+-- the places are of one run; the viewer has not seen the seat's task further on than the seat, nor the seat a task that the viewer knows exactly further
+-- on than the viewer
+abbrev pub may_join : View → View → Bool
+may_join v w =
+    are_of_one_run v.sight.places w.sight.places
+    && (are_ahead (task_of w ∷ []) w.sight.places v.sight.places && are_ahead v.sight.exact v.sight.places w.sight.places)
+
+-- What it has after the two views become one. They always may be joined; what is said of others is true of no viewer, so that who has this view knows
+-- that they might.
 abbrev pub both : View → View → View
 both v w =
-    if are_of_one_run v.sight.places w.sight.places then with_seat v w
+    if may_join v w then with_seat v w
     else record v { sight = record { places = []; exact = []; scanned = 0; found = [] } }
 
 -- the view of a seat that was taken in, of which nothing is said
