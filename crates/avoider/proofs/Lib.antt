@@ -1,3 +1,8 @@
+pub mod InHand
+pub mod Judging
+pub mod Dropping
+pub mod CycleDead
+pub mod Decided
 pub mod Supposing
 pub mod NobodyDies
 pub mod SamePlan

@@ -34,7 +34,7 @@ among_or_not (u ∷ ts) t =
     ]
 
 -- among n there is a place after each
-next_place_of : (n k : ℕ) → k < n → (j : ℕ) × (j < n) × IsNext n k j
+pub next_place_of : (n k : ℕ) → k < n → (j : ℕ) × (j < n) × IsNext n k j
 next_place_of n k l =
     elim (cases_eq (k + 1) n) [
       | inl last ↦ (0, omega arith, inl (last, refl))

@@ -1,12 +1,16 @@
-//! Decisions of the runs that avoid deadlock: whether an await is published or refused.
+//! Decisions of the runs that avoid deadlock: whether an await is published or refused, in a world and on a board.
 #![tactic(auto)]
 
+mod deciding;
 mod decision;
 mod event;
+mod lock;
 mod step;
 #[cfg(test)]
 mod tests;
 
+pub use deciding::decide;
 pub use decision::Decision;
 pub use event::go_on;
+pub use lock::{release, try_take};
 pub use step::avoid_step;

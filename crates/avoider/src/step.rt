@@ -63,7 +63,7 @@ fn event_before(world: &World, t: TaskId) -> Event
 }
 
 // The cycle of the statuses, where the task is dead by them.
-fn death_of(
+pub(crate) fn death_of(
     alloc: Global,
     list: &[Status],
     t: TaskId,

@@ -109,6 +109,7 @@ opens_kept k words homes checked is =
       };
       exact = λ u is. inl (ap Some (sym (only_first u is)));
       holding = λ u e. record { holds = λ has. absurd (false≢true has); held = λ lock. absurd (none_some u lock) };
+      viewer = λ _. refl;
     }
 
     each : (j : ℕ) (v : View) → get_elem? (first k ∷ []) j ≡ some v → v.spent ≡ false → Fits plan k.mode at_first None one j v

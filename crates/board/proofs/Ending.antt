@@ -177,6 +177,7 @@ ended_fits plan mode a lock steppers t k owner j v apart f =
         ]
       ];
       holding = f.holding;
+      viewer = f.viewer;
     }
 
 -- the longer of two prefixes of a place is one, and is that place where one of them is
@@ -260,6 +261,7 @@ module _ (plan : Plan) (mode : Mode) (s : T) (l : IsKeptBy plan mode s) (id othe
           ]))
         ];
         holding = λ u e. absurd (none_some v.own u alone e);
+        viewer = mine.viewer;
       }
     where
       which : (u : ℕ) → is_among ((v.sight.exact ++ w.sight.exact) ++ task_of w ∷ []) u ≡ true → (is_among v.sight.exact u ≡ true) ⊎ (is_among w.sight.exact u ≡ true)

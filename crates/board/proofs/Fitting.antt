@@ -161,6 +161,7 @@ module _ (plan : Plan) (mode : Mode) (a : ℕ → Place) (lock : Option ℕ) (t 
           holds = λ has. lock_stays u (seen v) (seen v) refl ((f.holding u own).holds has);
           held = (f.holding u own).held;
         };
+        viewer = f.viewer;
       }
     where
       not_mine : (u : ℕ) → is_among v.sight.exact u ≡ true → u ≢ t
@@ -196,6 +197,7 @@ module _ (plan : Plan) (mode : Mode) (a : ℕ → Place) (lock : Option ℕ) (t 
           holds = λ has. lock_stays u (seen v) (seen (after_action x v)) refl ((f.holding u own).holds has);
           held = (f.holding u own).held;
         };
+        viewer = f.viewer;
       }
     where
       some_same : (u w : ℕ) → Some u ≡ Some w → u ≡ w

@@ -109,6 +109,7 @@ born_fits plan mode a lock steppers c k free j v f =
         | inr ended ↦ inr (updated_other steppers c u (by_seat k) (λ same. ended_steps (sym ended ∙ ap steppers same ∙ free)) ∙ ended)
       ];
       holding = f.holding;
+      viewer = f.viewer;
     }
 
 among_one : (c : ℕ) → is_among (c ∷ []) c ≡ true
@@ -172,6 +173,7 @@ forks plan mode id v t c own live free next s l found =
         holds = λ has. absurd (false≢true has);
         held = λ lock. absurd (false≢true (sym is_step.legal.2 ∙ lock_forked plan mode l.places l.lock l.checked l.lawful c (lock ∙ ap Some same)));
       };
+      viewer = λ _. refl;
     } in record {
       places = a';
       lock = l.lock;
@@ -262,6 +264,7 @@ copies plan mode id v alone live = splits_off plan mode id v (another v) live (�
   own = λ u e. absurd (none_some v.own u alone e);
   exact = λ u is. elim (f.exact u is) [ inl e ↦ absurd (none_some v.own u alone e) | inr e ↦ inr e ];
   holding = λ u e. absurd (none_some v.own u alone e);
+  viewer = f.viewer;
 })
 
 -- the first viewer, beside the first task
@@ -274,4 +277,5 @@ watches_opening plan mode id v live = splits_off plan mode id v (viewer v) live 
   own = λ u e. absurd (none_some None u refl e);
   exact = λ u is. absurd (false≢true is);
   holding = λ u e. absurd (none_some None u refl e);
+  viewer = λ _. refl;
 })

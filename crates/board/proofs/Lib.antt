@@ -6,12 +6,14 @@ pub mod Stores
 pub mod Longest
 pub mod Ranges
 pub mod Loading
+pub mod Locking
 pub mod Forking
 pub mod Ending
 pub mod Closing
 pub mod Seated
 pub mod Reading
 pub mod Loaded
+pub mod Holding
 pub mod Beginning
 pub mod Taking
 pub mod Sending

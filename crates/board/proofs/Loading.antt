@@ -38,7 +38,7 @@ abbrev T : Type 0
 T = TableState (Unit {0}) View
 
 -- the view after a load, with this place of t, so many tasks scanned, and these finds
-abbrev after_load : ℕ → Place → ℕ → List (ℕ × Seen) → View → View
+abbrev pub after_load : ℕ → Place → ℕ → List (ℕ × Seen) → View → View
 after_load t c k found v =
     record v {
       sight = record { places = set v.sight.places t c; exact = v.sight.exact; scanned = k; found = found };
@@ -47,10 +47,10 @@ after_load t c k found v =
 
 -- what is seen of the places after it
 module _ (t : ℕ) (c : Place) (k : ℕ) (found : List (ℕ × Seen)) (v : View) (within : t < length v.sight.places) where
-  loaded_here : (seen (after_load t c k found v)).places t ≡ c
+  pub loaded_here : (seen (after_load t c k found v)).places t ≡ c
   loaded_here = ap (λ g. g t) (set_place v.sight.places t c within) ∙ updated_same (place_in v.sight.places) t t c refl
 
-  loaded_there : (u : ℕ) → u ≢ t → (seen (after_load t c k found v)).places u ≡ (seen v).places u
+  pub loaded_there : (u : ℕ) → u ≢ t → (seen (after_load t c k found v)).places u ≡ (seen v).places u
   loaded_there u n = ap (λ g. g u) (set_place v.sight.places t c within) ∙ updated_other (place_in v.sight.places) t u c n
 
 -- a view keeps fitting where its new place of t is a prefix of the actual one, and this one where t is exact
@@ -84,6 +84,7 @@ module _ (plan : Plan) (mode : Mode) (s : T) (l : IsKeptBy plan mode s) (j : ℕ
           holds = λ has. let h = (f.holding u own).holds has in record { holds = h.holds; agrees = λ w n. agree u own has w n };
           held = (f.holding u own).held;
         };
+        viewer = f.viewer;
       }
     where
       exact_now : (u : ℕ) → u < length plan.parents → is_among v.sight.exact u ≡ true → l.places u ≡ (seen (after_load t c k found v)).places u
@@ -93,7 +94,7 @@ module _ (plan : Plan) (mode : Mode) (s : T) (l : IsKeptBy plan mode s) (j : ℕ
       ]
 
 -- where t is exact, the longest place is the actual one
-longest_is :
+pub longest_is :
     (plan : Plan) (mode : Mode) (s : T) (l : IsKeptBy plan mode s) (t : ℕ) (Means : Place → Type 0) (before c : Place) → IsLongestPrefix (avoids mode) plan t Means before c →
     IsPrefix before (l.places t) → Means (l.places t) → IsPrefix c (l.places t) × (before ≡ l.places t → c ≡ l.places t)
 longest_is plan mode s l t Means before c longest earlier means =

@@ -147,7 +147,7 @@ precedes_or_not k (Some p) j (Some q) = elim (cases_eq k j) [
 ]
 
 -- whether the code goes on with an await
-await_or_not : (plan : Plan) (t k : ℕ) → ((p : ℕ) × action_at plan t k ≡ Some (Blocks p)) ⊎ (((p : ℕ) × action_at plan t k ≡ Some (Blocks p)) → ⊥)
+pub await_or_not : (plan : Plan) (t k : ℕ) → ((p : ℕ) × action_at plan t k ≡ Some (Blocks p)) ⊎ (((p : ℕ) × action_at plan t k ≡ Some (Blocks p)) → ⊥)
 await_or_not plan t k = by_case (action_at plan t k) refl
   where
     by_case : (o : Option Action) → action_at plan t k ≡ o → ((p : ℕ) × action_at plan t k ≡ Some (Blocks p)) ⊎ (((p : ℕ) × action_at plan t k ≡ Some (Blocks p)) → ⊥)

@@ -48,6 +48,14 @@ late_registration =
           ∷ [];
     }
 
+abbrev pub two_await : Plan
+two_await =
+    record {
+      parents = None ∷ Some root ∷ [];
+      makers = root ∷ [];
+      codes = (Make phaser ∷ Reg child phaser ∷ Fork child ∷ Await phaser ∷ []) ∷ (Await phaser ∷ []) ∷ [];
+    }
+
 pub never_forked_checked : IsCheckedPlan never_forked
 unfolding parent_of maker_of actions action_at first_phases phases_after
 never_forked_checked = tests_pass never_forked (record {
@@ -89,6 +97,25 @@ never_left_checked = tests_pass never_left (record {
 pub late_registration_checked : IsCheckedPlan late_registration
 unfolding parent_of maker_of actions action_at first_phases phases_after
 late_registration_checked = tests_pass late_registration (record {
+  root = refl;
+  drawn = refl;
+  parents_first = refl;
+  parents_rise = refl;
+  makers_rise = refl;
+  one_code_each = refl;
+  well_formed = refl;
+  made = refl;
+  makes_rise = refl;
+  works = refl;
+  draws = refl;
+  few_tasks = omega arith;
+  few_phasers = omega arith;
+  few_ops = omega arith;
+})
+
+pub two_await_checked : IsCheckedPlan two_await
+unfolding parent_of maker_of actions action_at first_phases phases_after
+two_await_checked = tests_pass two_await (record {
   root = refl;
   drawn = refl;
   parents_first = refl;

@@ -1,17 +1,18 @@
 -- The stores: each says in its word what the action changes.
-use Rattle.std.proofs.Common.{◌≡◌, ◌≢◌, ℕ, ◌+◌, ◌<◌, true, false, Some, None, length, set, sym, refl, ap, ◌∙◌, subst, arith}
+use Rattle.std.proofs.Common.{◌≡◌, ◌≢◌, ℕ, ◌+◌, ◌<◌, true, false, Option, Some, None, length, set, sym, refl, ap, ◌∙◌, subst, arith}
 use Rattle.std.specs.Prelude.{unwrap_or}
+use Rattle.std.proofs.lemmas.Bool.{false≢true}
 use mathlib.Core.Option.{some, none}
 use lib.ListN.{get_elem?}
 use Rattle.atomic_table.specs.Table.{Allows, Me, State as TableState, keeps, step, stepped}
 use Rattle.armus_base.specs.declared.event.Event.{Event}
 use Rattle.armus_base.specs.Plans.{Action, Advances, Blocks, Drops, Makes, Passes, Plan, Refuses, Registers, action_at}
-use Rattle.armus_base.specs.States.{State, after, awaited, event_at, event_on, next_phase}
+use Rattle.armus_base.specs.States.{State, after, awaited, event_at, event_on, next_phase, updated}
 use Rattle.armus_base.specs.Runs.{IsByCode, Place, next_place}
 use Rattle.armus_base.specs.Places.{phases_at_place, published_after, refused_at, state_at}
 use Rattle.armus_base.specs.Boards.{IsLawful, MayDo}
 use Rattle.armus_base.specs.Avoidance.{Avoids}
-use Rattle.armus_base.specs.Seats.{AvoidsByWhatIsSeen, IsAsFarOn, found_by, own_event}
+use Rattle.armus_base.specs.Seats.{AvoidsByWhatIsSeen, FoundRefused, IsAsFarOn, found_by, own_event}
 use Rattle.armus_base.proofs.Steps.{updated_other, updated_same, with_phase_other, with_phase_same}
 use Rattle.armus_base.proofs.Codes.{passes_next}
 use Rattle.armus_base.proofs.Published.{published_after_is, published_undropped}
@@ -23,10 +24,11 @@ use Rattle.board.specs.declared.view.View.{View}
 use Rattle.board.specs.Words.{IsShown, await_index, await_number, event_number, found_in, phase_index, phase_number}
 use Rattle.board.specs.Views.{action_after, avoids, next_action, own_place, place_in, seen, task_of}
 use Rattle.board.specs.Rule.{IsKeptBy}
+use Rattle.board.specs.Locking.{IsWithLock, Published, Refused}
 use Rattle.board.specs.Steps.{Acted, Withdrawn, after_action, next_view, own_phase}
 use Rattle.board.proofs.Showing.{shows_await, shows_phase}
 use Rattle.board.proofs.Fitting.{IsStep}
-use Rattle.board.proofs.Acting.{Sits, acts_kept, avoids_else, by_code_so, comes_so, may_do, nothing_published, next_view_is, not_held, own_phases_so, sits, steps_by_code}
+use Rattle.board.proofs.Acting.{Sits, acts_kept, avoids_else, by_code_so, comes_next, comes_so, may_do, nothing_published, next_view_is, not_held, own_phases_so, sits, steps_by_code}
 
 abbrev T : Type 0
 T = TableState (Unit {0}) View
@@ -127,25 +129,48 @@ drops plan mode slots id me t p own live free next a b =
 -- what a task awaits changes
 stores_await :
     (plan : Plan) (mode : Mode) (slots id : ℕ) (me : Me (Unit {0}) View) (t : ℕ) (x : Action) (n : ℕ) (s : T) (l : IsKeptBy plan mode s) → me.0.own ≡ Some t → me.0.spent ≡ false →
-    get_elem? s.views id ≡ some me.0 → next_action me.0 ≡ Some x → IsStep plan mode l.places l.lock t x →
+    get_elem? s.views id ≡ some me.0 → IsStep plan mode l.places l.lock t x →
     ((w : ℕ) → (after (state_at plan l.places) t x).forked w ≡ (state_at plan l.places).forked w) →
     ((u q : ℕ) → (after (state_at plan l.places) t x).phases u q ≡ (state_at plan l.places).phases u q) →
     ((u : ℕ) → u ≢ t → found_in (after (state_at plan l.places) t x) u ≡ found_in (state_at plan l.places) u) →
     n ≡ await_number (found_in (after (state_at plan l.places) t x) t) →
     IsKeptBy plan mode (stepped s (await_index t) n id me.1 (after_action x me.0) keeps)
-stores_await plan mode slots id me t x n s l own live found next is_step forked phases others is =
+stores_await plan mode slots id me t x n s l own live found is_step forked phases others is =
     let si = sits plan mode s l id me.0 t own live found in
     let st : State = state_at plan l.places in
     acts_kept plan mode s l id (await_index t) n me.1 me.0 t x own live found is_step forked
     (subst (λ (k : ℕ). IsShown plan (after st t x) l.lock (set s.words (await_index t) k)) (sym is)
     (shows_await plan st (after st t x) l.lock s.words t l.shown si.within phases others))
 
+actions_same : (p q : ℕ) → Some (Blocks p) ≡ Some (Blocks q) → p ≡ q
+actions_same p q e = cc
+
+-- a state that has the lock with a seat that holds it
+with_lock_now :
+    (plan : Plan) (mode : Mode) (s : T) (l : IsKeptBy plan mode s) (id : ℕ) (v : View) (t : ℕ) → Sits plan mode s l id v t → v.own ≡ Some t → v.holds ≡ true →
+    avoids mode ≡ true → IsWithLock plan t (seen v)
+with_lock_now plan mode s l id v t si own has avoiding =
+    record {
+      places = l.places;
+      lock = l.lock;
+      lawful = subst (λ b. IsLawful b plan l.places l.lock) avoiding l.lawful;
+      with_seat = (si.fits.holding t own).holds has;
+      far = subst (λ o. IsAsFarOn plan o l.places (seen v)) own si.fits.far;
+    }
+
+-- as the seat itself says it
+with_lock_so :
+    (plan : Plan) (mode : Mode) (s : T) (l : IsKeptBy plan mode s) (id : ℕ) (v : View) (t : ℕ) → Sits plan mode s l id v t → IsWithLock plan t (seen v) →
+    IsWithLock v.plan (task_of v) (seen v)
+with_lock_so plan mode s l id v t si w =
+    subst (λ (q : Plan). IsWithLock q (task_of v) (seen v)) (sym si.fits.plan_is) (subst (λ u. IsWithLock plan u (seen v)) (sym si.task) w)
+
 -- an await is published
 pub publishes :
     (plan : Plan) (mode : Mode) (slots id : ℕ) (me : Me (Unit {0}) View) (t p n : ℕ) (e : Event) → me.0.own ≡ Some t → me.0.spent ≡ false →
     (avoids mode ≡ true → (me.0.holds ≡ true) × AvoidsByWhatIsSeen plan t (seen me.0) (Blocks p)) →
     next_action me.0 ≡ Some (Blocks p) → phases_at_place me.0.plan (task_of me.0) (own_place me.0) p ≡ Some e.n → e.p.0 ≡ p → n ≡ event_number e →
-    Allows (IsKeptBy plan mode) slots id me (await_index t) (λ _. n) (λ _. Acted (step slots (await_index t) n 0 none) me n)
+    Allows (IsKeptBy plan mode) slots id me (await_index t) (λ _. n) (λ _. Published (step slots (await_index t) n 0 none) me n)
 publishes plan mode slots id me t p n e own live avoiding next phase here is s l _ found _ =
     let si = sits plan mode s l id me.0 t own live found in
     let st : State = state_at plan l.places in
@@ -155,10 +180,16 @@ publishes plan mode slots id me t p n e own live avoiding next phase here is s l
       after_action (Blocks p) me.0,
       keeps,
       tt,
-      stores_await plan mode slots id me t (Blocks p) n s l own live found next is_step (λ w. refl) (λ u q. refl)
+      stores_await plan mode slots id me t (Blocks p) n s l own live found is_step (λ w. refl) (λ u q. refl)
           (λ u ne. ap (λ o. found_by o (st.refused u)) (updated_other st.published t u (awaited (Some (Blocks p)) (st.phases t)) ne))
           (is ∙ ap (λ o. await_number (found_by o (st.refused t))) (sym (updated_same st.published t t (awaited (Some (Blocks p)) (st.phases t)) refl ∙ event))),
-      (next_view_is me.0 (Blocks p) next, refl),
+      (
+        refl,
+        (λ q next_too. ap (λ r. after_action (Blocks r) me.0) (actions_same p q (sym next ∙ next_too))),
+        (λ is_avoiding.
+            let avoids_too = ap avoids (sym si.fits.mode_is) ∙ is_avoiding in
+            with_lock_so plan mode s l id me.0 t si (with_lock_now plan mode s l id me.0 t si own (avoiding avoids_too).0 avoids_too)),
+      ),
     )
   where
     by_mode : (m : Mode) → m ≡ mode → Sits plan mode s l id me.0 t → avoids mode ≡ true → Avoids (state_at plan l.places) t (Blocks p) × MayDo l.lock t (Blocks p)
@@ -168,6 +199,48 @@ publishes plan mode slots id me t p n e own live avoiding next phase here is s l
           c.1 l.places l.lock (subst (λ b. IsLawful b plan l.places l.lock) is_avoiding l.lawful) lock (subst (λ o. IsAsFarOn plan o l.places (seen me.0)) own si.fits.far),
           lock.holds,
         )
+
+-- an await is refused
+pub refuses :
+    (plan : Plan) (mode : Mode) (slots id : ℕ) (me : Me (Unit {0}) View) (t p n : ℕ) (e : Event) → me.0.own ≡ Some t → me.0.spent ≡ false → me.0.holds ≡ true → avoids mode ≡ true →
+    AvoidsByWhatIsSeen plan t (seen me.0) (Refuses p) → next_action me.0 ≡ Some (Blocks p) → phases_at_place me.0.plan (task_of me.0) (own_place me.0) p ≡ Some e.n → e.p.0 ≡ p →
+    n ≡ await_number (FoundRefused e) → Allows (IsKeptBy plan mode) slots id me (await_index t) (λ _. n) (λ _. Refused (step slots (await_index t) n 0 none) me n)
+unfolding with_lock_now
+refuses plan mode slots id me t p n e own live has avoiding dead next phase here is s l _ found _ =
+    let si = sits plan mode s l id me.0 t own live found in
+    let st : State = state_at plan l.places in
+    let there = comes_next plan mode s l id me.0 t (Blocks p) si next in
+    let w = with_lock_now plan mode s l id me.0 t si own has avoiding in
+    let idle : st.published t ≡ None = nothing_published plan t (l.places t).done (Blocks p) there.1 (λ q f. cc) in
+    let member : st.phases t p ≡ Some e.n = own_phases_so plan mode s l id me.0 t p si ∙ phase in
+    let event : awaited (Some (Blocks p)) (st.phases t) ≡ Some e = ap (event_on p) member ∙ ap (λ q. Some (event_at q e.n)) (sym here) in
+    let is_step : IsStep plan mode l.places l.lock t (Refuses p) = record {
+      code = refused_so plan t (l.places t).done (l.places t).dropped p there.0 there.1;
+      legal = (
+        record { forked = si.forked; unpublished = idle; unrefused = ap (refused_at plan t (l.places t).done) there.0 },
+        (e.n, member),
+      );
+      plain = λ detects q f. absurd (false≢true (sym detects ∙ avoiding));
+      avoided = λ _. (dead w.places w.lock w.lawful w.with_seat w.far, w.with_seat.holds);
+    } in (
+      after_action (Refuses p) me.0,
+      keeps,
+      tt,
+      stores_await plan mode slots id me t (Refuses p) n s l own live found is_step (λ w. refl) (λ u q. refl)
+          (λ u ne. ap (found_by (st.published u)) (updated_other st.refused t u (awaited (Some (Blocks p)) (st.phases t)) ne))
+          (is
+          ∙ ap await_number (sym (ap (λ o. found_by o (updated st.refused t (awaited (Some (Blocks p)) (st.phases t)) t)) idle
+          ∙ ap (found_by None) (updated_same st.refused t t (awaited (Some (Blocks p)) (st.phases t)) refl ∙ event)))),
+      (
+        refl,
+        (λ q next_too. ap (λ r. after_action (Refuses r) me.0) (actions_same p q (sym next ∙ next_too))),
+        with_lock_so plan mode s l id me.0 t si w,
+      ),
+    )
+  where
+    refused_so : (plan : Plan) (t k : ℕ) (o : Option ℕ) (p : ℕ) → o ≡ None → action_at plan t k ≡ Some (Blocks p) → IsByCode plan t k o (Refuses p)
+    refused_so plan t k None p e next = next
+    refused_so plan t k (Some d) p e next = absurd (cc)
 
 -- the event is reached, and the task goes on
 pub passes :
@@ -196,7 +269,7 @@ passes plan mode slots id me t e own live free same event all s l _ found _ =
       after_action (Passes e.p.0) me.0,
       keeps,
       tt,
-      stores_await plan mode slots id me t (Passes e.p.0) 0 s l own live found next_is is_step (λ w. refl) (λ u q. refl)
+      stores_await plan mode slots id me t (Passes e.p.0) 0 s l own live found is_step (λ w. refl) (λ u q. refl)
           (λ u ne. ap (λ o. found_by o (st.refused u)) (updated_other st.published t u None ne))
           (ap await_number (sym (ap (λ o. found_by o (st.refused t)) (updated_same st.published t t None refl) ∙ ap (found_by None) (ap (refused_at plan t (l.places t).done) dropped)))),
       (

@@ -4,6 +4,7 @@ pub mod Rule
 pub mod Steps
 pub mod Closing
 pub mod Seats
+pub mod Locking
 pub mod Sitting
 pub mod Viewing
 pub mod Ended

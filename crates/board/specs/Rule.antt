@@ -1,5 +1,5 @@
 -- The rule of the board, which holds between any two steps of any seats.
-use Rattle.std.specs.Prelude.{◌≡◌, ℕ, ◌<◌, true, false, [], ◌∷◌, Option, Some, length, replicate, ◌⊎◌}
+use Rattle.std.specs.Prelude.{◌≡◌, ℕ, ◌<◌, true, false, [], ◌∷◌, Option, Some, None, length, replicate, ◌⊎◌}
 use mathlib.Core.Option.{some}
 use lib.ListN.{get_elem?}
 use Rattle.atomic_table.specs.Table.{State}
@@ -41,6 +41,7 @@ pub record Fits (plan : Plan) (mode : Mode) (a : ℕ → Place) (lock : Option �
   pub own : (t : ℕ) → v.own ≡ Some t → Owns plan steppers j v t
   pub exact : (u : ℕ) → is_among v.sight.exact u ≡ true → (v.own ≡ Some u) ⊎ (steppers u ≡ no_more)
   pub holding : (t : ℕ) → v.own ≡ Some t → HoldsAsSeen plan a lock v t
+  pub viewer : v.own ≡ None → v.holds ≡ false
 
 -- there are lawful places and a holder of the lock that the words show, each forked task has its seat or has ended, and every view fits
 pub record IsKeptBy (plan : Plan) (mode : Mode) (s : State (Unit {0}) View) : Type 0 where

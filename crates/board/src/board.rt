@@ -3,7 +3,6 @@ ghost use Rattle.std.specs.Prelude.{◌≡◌, ◌+◌, ◌*◌, ◌<◌, ◌≤
 ghost use Rattle.armus_base.specs.CheckedPlans.{IsCheckedPlan};
 ghost use Rattle.armus_base.specs.Limits.{max_tasks, max_phasers};
 ghost use Rattle.armus_base.specs.Seats.{seen_by_child};
-ghost use Rattle.board.specs.declared.mode.Mode.TheVariants.{Detect};
 ghost use Rattle.board.specs.Words.{await_index, phase_index, word_count};
 ghost use Rattle.board.specs.Views.{seen};
 ghost use Rattle.board.specs.Closing.{AreLastOf};
@@ -56,7 +55,6 @@ impl Board {
         plan: &Plan,
         mode: Mode,
     ) -> Result<(Board, TaskSeat, ViewSeat), NoMemory>
-        requires detects { mode ≡ Detect }
         ensures board { IfOk result (λ r. (r.0.plan ≡ plan.now) × (r.0.mode ≡ mode)) }
         ensures seat { IfOk result (λ r. IsNewSeat r.0 (Some 0) (seen_by_child 0 nothing_seen) r.1) }
         ensures viewer { IfOk result (λ r. IsNewSeat r.0 None nothing_seen r.2) }

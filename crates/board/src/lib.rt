@@ -2,6 +2,7 @@
 #![tactic(auto)]
 
 mod board;
+mod busy;
 mod loads;
 mod mode;
 mod numbers;
@@ -14,6 +15,7 @@ mod view_seat;
 mod words;
 
 pub use board::Board;
+pub use busy::Busy;
 pub use loads::Loads;
 pub use mode::Mode;
 pub use seen::Seen;

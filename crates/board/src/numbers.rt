@@ -1,7 +1,7 @@
 // Events and phases as numbers in words.
 ghost use Rattle.std.specs.Prelude.{◌≡◌, ◌<◌, ◌≤◌, ◌^◌, ℕ, Option};
 ghost use Rattle.armus_base.specs.declared.event.Event.{Event as EventValue};
-ghost use Rattle.armus_base.specs.Seats.{Found};
+ghost use Rattle.armus_base.specs.Seats.{Found, FoundRefused};
 ghost use Rattle.armus_base.specs.Limits.{max_phasers, max_ops};
 ghost use Rattle.board.specs.Words.{event_number, await_number, phase_number, IsInRange};
 ghost use Rattle.board.specs.Views.{found_of};
@@ -21,6 +21,14 @@ pub(crate) fn event_number(event: Event) -> u64
     ensures { result ≡ event_number event }
 {
     (u64::from(event.p.0) + 1) * PHASES + u64::from(event.n)
+}
+
+/// The number of an event at which a task is refused.
+pub(crate) fn refused_number(event: Event) -> u64
+    requires { (event.p.0 < max_phasers) × (event.n ≤ max_ops) }
+    ensures { result ≡ await_number (FoundRefused event) }
+{
+    event_number(event) + REFUSED
 }
 
 /// The event with this number.

@@ -20,6 +20,42 @@ impl Play<(), View> for Withdraws {
     ghost then = { Withdrawn };
 }
 
+/// A try for the lock.
+pub(crate) struct Tries;
+
+impl Play<(), View> for Tries {
+    ghost use Rattle.board.specs.Locking.{Tried};
+
+    ghost then = { Tried };
+}
+
+/// The freeing of the lock.
+pub(crate) struct Frees;
+
+impl Play<(), View> for Frees {
+    ghost use Rattle.board.specs.Locking.{Freed};
+
+    ghost then = { Freed };
+}
+
+/// The publication of an await.
+pub(crate) struct Publishes;
+
+impl Play<(), View> for Publishes {
+    ghost use Rattle.board.specs.Locking.{Published};
+
+    ghost then = { Published };
+}
+
+/// The refusal of an await.
+pub(crate) struct Refuses;
+
+impl Play<(), View> for Refuses {
+    ghost use Rattle.board.specs.Locking.{Refused};
+
+    ghost then = { Refused };
+}
+
 /// A load of one's own phase word.
 pub(crate) struct Recalls;
 

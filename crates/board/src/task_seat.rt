@@ -1,17 +1,22 @@
 // The seat of a task.
-ghost use Rattle.std.specs.Prelude.{◌≡◌, ◌+◌, ◌<◌, ◌≤◌, [], Some, None, length, IfOk, IsOk, OnOk, IsSome, false};
+ghost use Rattle.std.specs.Prelude.{◌≡◌, ◌+◌, ◌<◌, ◌≤◌, [], Some, None, length, IfOk, IsOk, IfErr, OnOk, IsSome, true, false};
 ghost use Rattle.armus_base.specs.Limits.{max_tasks, max_ops};
-ghost use Rattle.armus_base.specs.Plans.{Makes, Registers, Forks, Advances, Drops, Blocks};
+ghost use Rattle.armus_base.specs.Plans.{Makes, Registers, Forks, Advances, Drops, Blocks, Refuses as RefusesAction};
 ghost use Rattle.armus_base.specs.Seats.{seen_by_child, scanned_after};
 ghost use Rattle.armus_base.specs.Runs.{first_place};
-ghost use Rattle.board.specs.Views.{found_of, next_action, own_place, seen};
+ghost use Rattle.board.specs.Views.{avoids, found_of, next_action, own_place, seen, task_of};
 ghost use Rattle.board.specs.Rule.{first};
 ghost use Rattle.board.specs.Steps.{own_phase, viewer};
 ghost use Rattle.board.specs.Seats.{Known, IsOf, IsSeat, IsNewSeat, MakesStep, MayPublish, MayDrop, MakesPass, NeedsMember, AnswersAwait, AnswersPhase, IsFirst, event_of, nothing_seen};
+ghost use Rattle.board.specs.Locking.{FindsHeld, FreesLock, IsWithLock, MayRefuse, StandsBeforeAwait, TakesLock};
 
 use crate::board::Board;
-use crate::numbers::{event_number, phase_of, seen_of};
-use crate::plays::{Acts, Looks, Opens, Recalls, SeesUnforked, SplitsChild, Watches, Withdraws};
+use crate::busy::Busy;
+use crate::numbers::{event_number, phase_of, refused_number, seen_of};
+use crate::plays::{
+    Acts, Frees, Looks, Opens, Publishes, Recalls, Refuses, SeesUnforked, SplitsChild, Tries,
+    Watches, Withdraws,
+};
 use crate::rule::Place;
 use crate::seen::Seen;
 use armus_base::{Event, NoMemory, Phase, PhaserId, TaskId};
@@ -224,6 +229,7 @@ impl TaskSeat {
         ensures step { MakesStep (Blocks p.0) self.old self.new }
         ensures event { event_of self.new ≡ Some result }
         ensures phase { (result.p ≡ p) × (own_phase self.old.view p.0 ≡ Some result.n) }
+        ensures was { avoids self.old.view.mode ≡ true → IsWithLock self.old.view.plan (task_of self.old.view) (seen self.old.view) }
     {
         let n = self.member_phase(board, p);
         let event = Event { p, n };
@@ -232,7 +238,7 @@ impl TaskSeat {
         board
             .cells
             .shared
-            .store::<Acts>(&mut self.place, index, word);
+            .store::<Publishes>(&mut self.place, index, word);
         self.scanned = 0;
         self.awaited = Some(event);
         event
@@ -254,6 +260,61 @@ impl TaskSeat {
             .store::<Withdraws>(&mut self.place, index, 0);
         self.scanned = 0;
         self.awaited = None;
+    }
+
+    /// The board avoids deadlock, the next op is an Await that is not published, and the seat does not hold the lock: one compare-and-exchange takes it. Busy exactly where another task held it, whose place is then seen as far as a holder of the lock must have come.
+    pub fn try_lock(&mut self, board: &Board) -> Result<(), Busy>
+        requires made { IsOf self.old board.now }
+        requires avoids { avoids self.old.view.mode ≡ true }
+        requires next { StandsBeforeAwait self.old }
+        requires unlocked { self.old.view.holds ≡ false }
+        ensures taken { OnOk result (TakesLock self.old self.new) }
+        ensures busy { IfErr result (λ busy. FindsHeld busy.holder.0 self.old self.new) }
+    {
+        let mine = u64::from(self.task.0) + 1;
+        let found = board
+            .cells
+            .shared
+            .compare_exchange::<Tries>(&mut self.place, 0, 0, mine);
+        if found == 0 {
+            Ok(())
+        } else {
+            Err(Busy {
+                holder: TaskId((found - 1) as u32),
+            })
+        }
+    }
+
+    /// The seat holds the lock: one store frees it.
+    pub fn unlock(&mut self, board: &Board)
+        requires made { IsOf self.old board.now }
+        requires locked { self.old.view.holds ≡ true }
+        ensures freed { FreesLock self.old self.new }
+    {
+        board.cells.shared.store::<Frees>(&mut self.place, 0, 0);
+    }
+
+    /// The board avoids deadlock, the seat holds the lock, and the next op is an Await that is not published, and that would deadlock its task in any lawful state that has the lock with this seat and is as far on as what it has seen: one load, and one store of the refusal, whose event it answers.
+    pub fn refuse(&mut self, board: &Board, p: PhaserId) -> Event
+        requires made { IsOf self.old board.now }
+        requires phaser { p.0 < length board.now.plan.makers }
+        requires avoids { avoids self.old.view.mode ≡ true }
+        requires locked { self.old.view.holds ≡ true }
+        requires next { next_action self.old.view ≡ Some (Blocks p.0) }
+        requires dead { MayRefuse self.old p.0 }
+        ensures step { MakesStep (RefusesAction p.0) self.old self.new }
+        ensures phase { (result.p ≡ p) × (own_phase self.old.view p.0 ≡ Some result.n) }
+        ensures was { IsWithLock self.old.view.plan (task_of self.old.view) (seen self.old.view) }
+    {
+        let phase = self.member_phase(board, p);
+        let index = board.await_index(self.task);
+        let event = Event { p, n: phase };
+        let word = refused_number(event);
+        board
+            .cells
+            .shared
+            .store::<Refuses>(&mut self.place, index, word);
+        event
     }
 
     // One load of its own word: its phase on a phaser of which its task is a member.

@@ -4,6 +4,7 @@ ghost use Rattle.armus_base.specs.CheckedPlans.{first_plan};
 ghost use Rattle.board.specs.Seats.{IsOf};
 
 mod halves;
+mod locks;
 mod plans;
 mod walker;
 mod walks;

@@ -1,5 +1,5 @@
 -- The loads of a collect that its tables keep.
-use Rattle.std.proofs.Common.{◌≡◌, ℕ, ◌<◌, Option, None, List, length, sym, ap, ◌∙◌, subst}
+use Rattle.std.proofs.Common.{◌≡◌, ℕ, ◌<◌, Bool, true, Option, None, List, length, sym, ap, ◌∙◌, subst}
 use Rattle.std.proofs.lemmas.Option.{slice_get_within}
 use mathlib.Core.Path.{fun_ext}
 use Rattle.armus_base.specs.declared.event.Event.{Event}
@@ -14,11 +14,12 @@ use Rattle.armus_base.proofs.StatusesAre.{statuses_are}
 use Rattle.board.specs.Seats.{Frame, IsOf, Known}
 use Rattle.phase_scan.specs.Looks.{GoesOn}
 use Rattle.phase_scan.specs.Collects.{CountsLoads, IsCollect, LoadsAwaits, LoadsRows}
-use Rattle.phase_scan.specs.Collected.{IsCollected}
+use Rattle.phase_scan.specs.Collected.{HasFinds, IsCollected}
 use Rattle.phase_scan.specs.declared.findings.Findings.{Findings}
 use Rattle.phase_scan.specs.Tables.{awaited_found, event_at, is_marked, state_found, status_found, statuses_found}
 use Rattle.phase_scan.proofs.Counting.{counts_loads}
 use Rattle.phase_scan.proofs.Farther.{IsPossible}
+use Rattle.phase_scan.proofs.Finds.{collect_finds}
 use Rattle.phase_scan.proofs.Telling.{are, collect_goes, collected, some_possible}
 
 -- a checked plan has a task
@@ -56,6 +57,16 @@ tables_collect f before between now a b c tasks_a phasers_a tasks_b phasers_b ta
           ∙ ap (statuses_on plan s) (ap is_marked marks ∙ asked);
     }
 
+-- and they keep the marks
+pub marks_stay :
+    (a b c : Findings) → b.tasks ≡ a.tasks → c.tasks ≡ b.tasks → c.events.items ≡ b.events.items → c.awaited.items ≡ b.awaited.items →
+    ((p : ℕ) → awaited_found b p ≡ some_before (λ t. is_event_of p (event_at b.events.items t)) a.tasks) →
+    (p : ℕ) → awaited_found c p ≡ some_before (λ t. is_event_of p (event_at c.events.items t)) c.tasks
+marks_stay a b c tasks_b tasks_c events marks awaited p =
+    ap (λ (xs : List Bool). is_marked xs p) marks ∙ awaited p
+    ∙ ap (λ n. some_before (λ t. is_event_of p (event_at b.events.items t)) n) (sym (tasks_c ∙ tasks_b))
+    ∙ ap (λ (xs : List (Option Event)). some_before (λ t. is_event_of p (event_at xs t)) c.tasks) (sym events)
+
 -- and what it means
 module _ (f : Frame) (list : List Status) (before now : Known) (of : IsOf before f) (checked : IsCheckedPlan f.plan) (c : IsCollect f.plan list before now) where
   here : IsCheckedPlan before.view.plan
@@ -72,6 +83,9 @@ module _ (f : Frame) (list : List Status) (before now : Known) (of : IsOf before
 
   pub cells_tell : IsCollected list before now
   cells_tell = collected before now list here (some_task before.view.plan here) own
+
+  pub cells_find : before.view.holds ≡ true → HasFinds list now
+  cells_find = collect_finds before now list here (some_task before.view.plan here) own
 
   pub cells_in_order : IsInOrder list
   cells_in_order = subst IsInOrder (sym c.statuses) (statuses_are f.plan c.found (is_awaited f.plan c.found) checked).in_order

@@ -3,7 +3,11 @@ pub mod Chains
 pub mod Standing
 pub mod Farther
 pub mod Telling
+pub mod Finds
 pub mod Counting
 pub mod Tables
+pub mod Columns
+pub mod WithOwn
+pub mod Supposes
 pub mod Keeping
 pub mod Collecting

@@ -1,7 +1,7 @@
 -- The tables of a collect: what a read and a write say, and the lists of statuses that they give.
 use mathlib.Core.Path.{fun_ext}
 use Rattle.std.proofs.Common.{◌≡◌, ◌≢◌, ℕ, zero, suc, ◌<◌, ◌≤◌, ◌+◌, ◌*◌, Bool, true, false, List, [], ◌∷◌, ◌++◌, Option, Some, None, length, set, add-one, arith, sym, ◌∙◌, ap, subst, refl, inl, inr}
-use Rattle.std.specs.Prelude.{nat_lt, slice_get, unwrap_or, if◌then◌else◌, option_map, option_to_list}
+use Rattle.std.specs.Prelude.{nat_lt, slice_get, unwrap_or, if◌then◌else◌, option_map, option_to_list, ◌||◌}
 use Rattle.std.proofs.lemmas.Bool.{cases_eq, cases_lt}
 use Rattle.std.proofs.lemmas.Nat.{same_from_place}
 use Rattle.std.proofs.lemmas.List.{append-nil}
@@ -9,6 +9,7 @@ use Rattle.armus_base.specs.declared.event.Event.{Event}
 use Rattle.armus_base.specs.declared.status.Member.{Member}
 use Rattle.armus_base.specs.declared.status.Status.{Status}
 use Rattle.armus_base.specs.Finals.{given_below, listed_phase}
+use Rattle.armus_base.specs.Places.{some_before}
 use Rattle.armus_base.specs.States.{State, with_phase}
 use Rattle.armus_base.specs.Statuses.{IsInOrder}
 use Rattle.armus_base.proofs.Steps.{with_phase_same, with_phase_other}
@@ -132,3 +133,8 @@ nothing_in_order list none =
       few = omega arith;
       few_phases = λ k s l. absurd (omega arith);
     })
+
+-- where no number passes the test none does before
+pub none_before : (f : ℕ → Bool) (n : ℕ) → ((t : ℕ) → f t ≡ false) → some_before f n ≡ false
+none_before f zero none = refl
+none_before f (suc n) none = ap (λ b. b || some_before f n) (none n) ∙ none_before f n none

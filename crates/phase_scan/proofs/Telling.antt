@@ -36,11 +36,11 @@ use Rattle.phase_scan.proofs.Chains.{AwaitLoad, GoesAt, WaitsBelow, await_of, aw
 use Rattle.phase_scan.proofs.Farther.{IsPossible, possible_before}
 use Rattle.phase_scan.proofs.Standing.{dead_place, means_there, phases_begun_at, published_begun, same_or_not, same_phases, waits_unrefused, word_published, word_waits}
 
-prefix_both : (a b c : Place) → IsPrefix a b → IsPrefix b c → IsPrefix a c
+pub prefix_both : (a b c : Place) → IsPrefix a b → IsPrefix b c → IsPrefix a c
 prefix_both a b c x y = precedes_trans a.done b.done c.done a.dropped b.dropped c.dropped x y
 
 -- the phases at the place seen after a load of a phase word, where the task is published there, are what was found
-found_there :
+pub found_there :
     (q : Plan) → IsCheckedPlan q → (b : Bool) (t p : ℕ) (answer : Option ℕ) (before now : Place) (e : Event) →
     IsLongestPrefix b q t (λ v. phases_at_place q t v p ≡ answer) before now → published_after q t now.done ≡ Some e → phases_at_place q t now p ≡ answer
 found_there q checked b t p answer before now e longest published =

@@ -1,12 +1,12 @@
 -- What the statuses of a collect tell, by what its seat had seen before it and what it has seen after it.
-use Rattle.std.specs.Prelude.{◌≡◌, ℕ, ◌↔◌, List, Option, Some, None}
+use Rattle.std.specs.Prelude.{◌≡◌, ℕ, ◌<◌, ◌↔◌, List, Option, Some, None, length}
 use Rattle.armus_base.specs.declared.event.Event.{Event}
 use Rattle.armus_base.specs.declared.status.Status.{Status}
 use Rattle.armus_base.specs.States.{State}
 use Rattle.armus_base.specs.Runs.{IsPrefix, Place}
 use Rattle.armus_base.specs.Places.{published_after, state_at}
 use Rattle.armus_base.specs.Boards.{IsLawful}
-use Rattle.armus_base.specs.Seats.{IsAsFarOn, IsKnownDead, IsPlaceOf}
+use Rattle.armus_base.specs.Seats.{Found, FoundWaiting, IsAsFarOn, IsKnownDead, IsPlaceOf}
 use Rattle.armus_base.specs.Statuses.{IsAwaited}
 use Rattle.armus_base.specs.Decisions.{HasFound}
 use Rattle.armus_base.specs.Deadlocks.{IsListedAt, IsListedOn}
@@ -42,3 +42,9 @@ pub record IsCollected (list : List Status) (before now : Known) : Type 0 where
       HasItsPhases list (state_at before.view.plan a) t
   pub dead : (t : ℕ) → IsKnownDeadBy before t → InEachLawful before (λ s. IsListedAsIn list s t)
   pub others : (t : ℕ) → ((e : Event) → IsListedOn list t e → ⊥) → published_after before.view.plan t ((seen now.view).places t).done ≡ None
+
+-- the seat has found each task, and just those on an event whose statuses the list has
+abbrev pub HasFinds : List Status → Known → Type 0
+HasFinds list seat =
+    (u : ℕ) → u < length seat.view.plan.parents →
+    (f : Found) × (seen seat.view).found u ≡ Some f × ((e : Event) → f ≡ FoundWaiting e ↔ IsListedOn list u e)

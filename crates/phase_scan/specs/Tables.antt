@@ -1,9 +1,9 @@
 -- What the tables of a collect say.
-use Rattle.std.specs.Prelude.{ℕ, ◌+◌, ◌*◌, Bool, false, List, Option, None, nat_lt, slice_get, unwrap_or, if◌then◌else◌, option_map}
+use Rattle.std.specs.Prelude.{ℕ, ◌+◌, ◌*◌, Bool, false, List, Option, None, nat_lt, slice_get, slice_index_or, unwrap_or, if◌then◌else◌, option_map, Some}
 use Rattle.armus_base.specs.declared.event.Event.{Event}
 use Rattle.armus_base.specs.declared.status.Status.{Status}
 use Rattle.armus_base.specs.Finals.{given_below, listed_phase}
-use Rattle.armus_base.specs.States.{Phases, State, opening}
+use Rattle.armus_base.specs.States.{Phases, State, opening, updated}
 use Rattle.phase_scan.specs.declared.findings.Findings.{Findings}
 use Rattle.phase_scan.specs.declared.phase_table.PhaseTable.{PhaseTable}
 
@@ -41,3 +41,15 @@ status_found phasers s asked t =
 -- the statuses of what was found
 abbrev pub statuses_found : Findings → List Status
 statuses_found f = given_below (status_found f.phasers (state_found f) (awaited_found f)) f.tasks
+
+-- the phase that a column has for task t
+abbrev pub phase_in : List (Option ℕ) → ℕ → Option ℕ
+phase_in column t = slice_index_or column t None
+
+-- what was found, where task t has published the event and has these phases, with a column of phases of the others on the event's phaser
+abbrev pub state_supposed : State → ℕ → Event → Phases → (ℕ → Option ℕ) → State
+state_supposed s t event own column =
+    record opening {
+      phases = updated (λ u. updated (s.phases u) event.p.0 (column u)) t own;
+      published = updated s.published t (Some event);
+    }

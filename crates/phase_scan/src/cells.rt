@@ -1,14 +1,15 @@
 // The cells of a collect.
-ghost use Rattle.std.specs.Prelude.{◌≡◌, ◌≤◌, ◌*◌, [], IfOk, length};
+ghost use Rattle.std.specs.Prelude.{◌≡◌, ◌<◌, ◌≤◌, ◌*◌, [], true, IfOk, length};
 ghost use Rattle.armus_base.specs.Statuses.{IsInOrder};
 ghost use Rattle.board.specs.Seats.{IsOf};
 ghost use Rattle.phase_scan.specs.Looks.{GoesOn};
 ghost use Rattle.phase_scan.specs.Collects.{CountsLoads, IsCollect};
-ghost use Rattle.phase_scan.specs.Collected.{IsCollected};
+ghost use Rattle.phase_scan.specs.Supposed.{IsSupposed};
+ghost use Rattle.phase_scan.specs.Collected.{HasFinds, IsCollected};
 
 use crate::findings::Findings;
-use armus_base::{List, NoMemory, Status};
-use board::{Board, Loads};
+use armus_base::{Event, List, NoMemory, Status};
+use board::{Board, Loads, TaskSeat};
 use std::alloc::Global;
 use std::marker::Model;
 
@@ -61,6 +62,7 @@ impl Cells {
         ensures collect { IsCollect board.now.plan self.new.statuses (L.known by.old) (L.known by.new) }
         ensures loads { CountsLoads board.now.plan self.new.statuses (L.known by.old) (L.known by.new) }
         ensures collected { IsCollected self.new.statuses (L.known by.old) (L.known by.new) }
+        ensures finds { (L.known by.old).view.holds ≡ true → HasFinds self.new.statuses (L.known by.new) }
     {
         self.found.unmark();
         self.found.load_awaits(by, board);
@@ -73,5 +75,28 @@ impl Cells {
         ensures in_order { IsInOrder self.now.statuses }
     {
         self.found.statuses(alloc)
+    }
+
+    /// The statuses that the last collect found, and that of the seat's own task as if it had published the event, with phases on the event's phaser too. First it loads the phase on that phaser of each task found waiting, in order, and then the own ones.
+    pub fn supposed(
+        &self,
+        alloc: Global,
+        seat: &mut TaskSeat,
+        board: &Board,
+        event: Event,
+    ) -> Result<List<Status>, NoMemory>
+        requires made { IsOf seat.old board.now }
+        requires tasks { self.now.tasks ≡ length board.now.plan.parents }
+        requires phasers { self.now.phasers ≡ length board.now.plan.makers }
+        requires event { event.p.0 < length board.now.plan.makers }
+        ensures goes_on { GoesOn seat.old seat.new }
+        ensures supposed { IfOk result (λ list. IsSupposed board.now.plan self.now.statuses event list seat.old seat.new) }
+    {
+        let t = seat.id();
+        let column = self.found.load_column(alloc, seat, board, event.p)?;
+        let list = self
+            .found
+            .supposed(alloc, seat, board, t, event, column.as_slice())?;
+        Ok(list)
     }
 }

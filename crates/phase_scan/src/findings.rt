@@ -18,9 +18,9 @@ pub(crate) struct Findings {
     pub(crate) tasks: u32,
     pub(crate) phasers: u32,
     // the event on which each task was found waiting, if it was
-    events: Vec<Option<Event>>,
+    pub(crate) events: Vec<Option<Event>>,
     // whether a task was found waiting on an event of each phaser
-    awaited: Vec<bool>,
+    pub(crate) awaited: Vec<bool>,
     phases: PhaseTable,
     ghost task_count: { vec_len events ≡ tasks },
     ghost phaser_count: { vec_len awaited ≡ phasers },
@@ -47,6 +47,7 @@ impl Findings {
         ensures tasks { IfOk result (λ f. f.tasks ≡ tasks) }
         ensures phasers { IfOk result (λ f. f.phasers ≡ phasers) }
         ensures nothing { IfOk result (λ f. (t : ℕ) → (state_found f).published t ≡ None) }
+        ensures unmarked { IfOk result (λ f. (p : ℕ) → awaited_found f p ≡ false) }
     {
         Ok(Findings {
             tasks,
@@ -144,7 +145,7 @@ impl Findings {
     }
 
     // The phase of a task that was found on a phaser found awaited.
-    fn listed(&self, t: TaskId, p: PhaserId) -> Option<Member>
+    pub(crate) fn listed(&self, t: TaskId, p: PhaserId) -> Option<Member>
         requires task { t.0 < self.now.tasks }
         requires phaser { p.0 < self.now.phasers }
         ensures { result ≡ listed_phase (awaited_found self.now) ((state_found self.now).phases t.0) p.0 }

@@ -6,6 +6,7 @@ mod cells;
 mod findings;
 mod phase_table;
 mod scan;
+mod supposing;
 
 pub use answer::Look;
 pub use cells::{Cells, MAX_CELL_TASKS, MAX_CELLS};

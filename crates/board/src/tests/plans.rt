@@ -96,3 +96,27 @@ pub fn late_registration(alloc: Global) -> Result<Plan, NoMemory>
         List::from_vec(codes),
     ))
 }
+
+/// Task 0 makes a phaser, registers a child on it and forks it; both await it.
+pub fn two_await(alloc: Global) -> Result<Plan, NoMemory>
+    ensures { IfOk result (λ plan. (length plan.parents ≡ 2) × (length plan.makers ≡ 1)) }
+{
+    let parents = vec![in alloc; None, Some(ROOT)]?;
+    let makers = vec![in alloc; ROOT]?;
+    let root = vec![in alloc;
+        Op::Make { p: P },
+        Op::Reg { c: CHILD, p: P },
+        Op::Fork { c: CHILD },
+        Op::Await { p: P },
+    ]?;
+    let child = vec![in alloc; Op::Await { p: P }]?;
+    let codes = vec![in alloc;
+        Code::from_ops(List::from_vec(root)),
+        Code::from_ops(List::from_vec(child)),
+    ]?;
+    Ok(Plan::from_parts(
+        List::from_vec(parents),
+        List::from_vec(makers),
+        List::from_vec(codes),
+    ))
+}

@@ -1,11 +1,12 @@
 // A task that walks along its code on a board that detects deadlock.
-ghost use Rattle.std.specs.Prelude.{◌≡◌, ◌+◌, ◌^◌, ◌<◌, Some, IfOk, IfSome, IsSome, IsNone, OnOk, OnErr, false, length, slice_get};
-ghost use Rattle.armus_base.specs.Plans.{Action};
+ghost use Rattle.std.specs.Prelude.{◌≡◌, ◌≢◌, ℕ, ◌+◌, ◌^◌, ◌<◌, Some, IfOk, IfSome, IsSome, IsNone, OnOk, OnErr, true, false, length, slice_get};
+ghost use Rattle.armus_base.specs.Plans.{Action, Blocks};
 ghost use Rattle.armus_base.specs.Runs.{first_place};
-ghost use Rattle.board.specs.declared.mode.Mode.TheVariants.{Detect};
+ghost use Rattle.board.specs.declared.mode.Mode.TheVariants.{Avoid, Detect};
 ghost use Rattle.board.specs.Views.{next_action, own_place, seen};
 ghost use Rattle.board.specs.Steps.{own_phase};
 ghost use Rattle.board.specs.Seats.{IsOf, MakesStep, event_of};
+ghost use Rattle.board.specs.Locking.{StandsBeforeAwait};
 ghost use Rattle.board.specs.Walking.{IsOfPlan, begins};
 
 use crate::{Board, Loads, Mode, Seen, TaskSeat, ViewSeat};
@@ -39,6 +40,15 @@ impl Model for Walker {
     ghost view = { λ w. w.seat };
 
     ghost invariant = { λ w. HasBegun w.begun w.seat };
+}
+
+/// A board that avoids deadlock, task 0 at its opening, and a viewer.
+pub fn begin_avoiding(alloc: Global, plan: &Plan) -> Result<(Board, Walker, ViewSeat), NoMemory>
+    ensures board { IfOk result (λ r. (r.0.plan ≡ plan.now) × (r.0.mode ≡ Avoid)) }
+    ensures seats { IfOk result (λ r. IsOf r.1 r.0 × IsOf r.2 r.0) }
+{
+    let (board, seat, view) = Board::start(alloc, plan, Mode::Avoid)?;
+    Ok((board, Walker::of(seat), view))
 }
 
 /// A board that detects deadlock, task 0 at its opening, and a viewer.
@@ -88,6 +98,38 @@ fn make_step(seat: &mut TaskSeat, alloc: Global, board: &Board, op: Op) -> Optio
     None
 }
 
+// The op awaits a phaser.
+fn is_await(op: Op) -> bool
+    ensures yes { result ≡ true → (p : ℕ) × begins op ≡ Blocks p }
+    ensures no { result ≡ false → (p : ℕ) → begins op ≢ Blocks p }
+{
+    matches!(op, Op::Await { .. })
+}
+
+// The same of an op that awaits nothing, on any board.
+fn make_plain_step(seat: &mut TaskSeat, alloc: Global, board: &Board, op: Op) -> Option<TaskSeat>
+    requires made { IsOf seat.old board.now }
+    requires plain { (p : ℕ) → begins op ≢ Blocks p }
+    requires unlocked { seat.old.view.holds ≡ false }
+    requires next { next_action seat.old.view ≡ Some (begins op) }
+    requires plan { IsOfPlan board.now.plan (begins op) }
+    ensures step { MakesStep (begins op) seat.old seat.new }
+    ensures made { IfSome result (λ child. IsOf child board.now) }
+    ensures child { IfSome result (λ child. (own_place child.view ≡ first_place) × (child.view.holds ≡ false)) }
+{
+    match op {
+        Op::Make { p } => seat.make(board, p),
+        Op::Reg { c, p } => seat.reg(board, c, p),
+        Op::Adv { p } => {
+            seat.adv(board, p);
+        }
+        Op::Drop { p } => seat.drop_phaser(board, p),
+        Op::Await { .. } => unreachable!(),
+        Op::Fork { c } => return seat.fork(alloc, board, c).ok(),
+    }
+    None
+}
+
 impl Walker {
     // A task that has made no step.
     fn of(seat: TaskSeat) -> Walker
@@ -119,6 +161,47 @@ impl Walker {
             Some(child) => Ok(Some(Walker::of(child))),
             None => Ok(None),
         }
+    }
+
+    /// Makes the task's next step, if it is none of an await. It answers the child that it forks.
+    pub fn go_before(
+        &mut self,
+        alloc: Global,
+        board: &Board,
+        plan: &Plan,
+    ) -> Result<Option<Walker>, Halt>
+        requires made { IsOf self.old board.now }
+        requires plan { board.now.plan ≡ plan.now }
+        ensures made { IsOf self.new board.now }
+        ensures child { IfOk result (λ o. IfSome o (λ child. IsOf child board.now)) }
+    {
+        if self.event().is_some() {
+            return Err(Halt::Waits);
+        }
+        let Some(op) = op_at(plan.code(self.seat.id()), self.begun) else {
+            return Err(Halt::Ended);
+        };
+        if is_await(op) {
+            return Err(Halt::Waits);
+        }
+        self.begun += 1;
+        match make_plain_step(&mut self.seat, alloc, board, op) {
+            Some(child) => Ok(Some(Walker::of(child))),
+            None => Ok(None),
+        }
+    }
+
+    /// The seat of a task that stands before an await that is not published.
+    pub fn into_awaiting(self, board: &Board, plan: &Plan) -> Option<TaskSeat>
+        requires made { IsOf self board.now }
+        requires plan { board.now.plan ≡ plan.now }
+        ensures { IfSome result (λ s. (s ≡ self) × StandsBeforeAwait s × (s.view.holds ≡ false)) }
+    {
+        if self.event().is_some() {
+            return None;
+        }
+        let op = op_at(plan.code(self.seat.id()), self.begun)?;
+        if is_await(op) { Some(self.seat) } else { None }
     }
 
     // Withdraws the event, if all tasks are scanned.

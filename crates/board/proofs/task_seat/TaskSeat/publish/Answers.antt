@@ -4,9 +4,11 @@ use Rattle.atomic_table.specs.Table.{Allows, step}
 use Rattle.armus_base.specs.declared.event.Event.{Event}
 use Rattle.armus_base.specs.Plans.{Blocks}
 use Rattle.board.specs.Rule.{IsKept}
-use Rattle.board.specs.Views.{next_action}
+use Rattle.board.specs.Views.{avoids, next_action, seen, task_of}
 use Rattle.board.specs.Seats.{Frame, IsOf, Known, MakesStep, MayPublish}
-use Rattle.board.specs.Steps.{Acted, own_phase}
+use Rattle.board.specs.Steps.{own_phase}
+use Rattle.board.specs.Locking.{IsWithLock, Published}
+use Rattle.board.proofs.Acting.{next_view_is}
 use Rattle.board.proofs.Stores.{publishes}
 use Rattle.board.proofs.Seated.{blocks_sitting, makes_step, may_publish_here, own_small, task_inside}
 use Rattle.board.proofs.task_seat.TaskSeat.publish.Goals as goal
@@ -35,7 +37,7 @@ store-requires c =
     let e : Event = record { p = c.args.p; n = c.member_phase-n.result } in (
       o.table,
       subst (λ (f : Frame). c.await_index-index.result < f.table.words) (sym b) c.await_index-index.ensures.inside,
-      subst (λ (n : ℕ). Allows (IsKept key) slots id me n (λ _. w) (λ _. Acted (step slots n w 0 none) me w)) (sym c.await_index-index.ensures.index)
+      subst (λ (n : ℕ). Allows (IsKept key) slots id me n (λ _. w) (λ _. Published (step slots n w 0 none) me w)) (sym c.await_index-index.ensures.index)
           (publishes key.plan.value key.mode slots id me t p w e i.task i.seat.live
           (may_publish_here _ _ t p o i.task (subst (λ (k : Known). MayPublish k p) (sym s) c.requires.avoids))
           (ap (λ (k : Known). next_action k.view) s ∙ c.requires.next)
@@ -45,16 +47,16 @@ store-requires c =
 pub invariant_of-self : goal.invariant_of-self
 invariant_of-self c =
     let s = c.self.view_is ∙ c.member_phase-n.ensures.seat in record {
-      no_slot = c.store.ensures.2.1 ∙ c.self.invariant.no_slot;
+      no_slot = c.store.ensures.2.0 ∙ c.self.invariant.no_slot;
       sitting = blocks_sitting c.self.inside.place.table_id c.store.new.seat.table_id c.self.inside.place.me.0 c.store.new.seat.me.0 _ _ _ c.args.p.0 _ c.self.invariant.sitting
-          (ap (λ (k : Known). next_action k.view) s ∙ c.requires.next) (ap (λ (k : Known). own_phase k.view c.args.p.0) s ∙ c.member_phase-n.ensures.phase) refl c.store.ensures.2.0;
+          (ap (λ (k : Known). next_action k.view) s ∙ c.requires.next) (ap (λ (k : Known). own_phase k.view c.args.p.0) s ∙ c.member_phase-n.ensures.phase) refl (c.store.ensures.2.1 c.args.p.0 (ap (λ (k : Known). next_action k.view) s ∙ c.requires.next) ∙ next_view_is c.self.inside.place.me.0 (Blocks c.args.p.0) (ap (λ (k : Known). next_action k.view) s ∙ c.requires.next));
     }
 
 pub returns-clause-event : goal.returns-clause-event
 returns-clause-event c =
     let s = c.self.view_is ∙ c.member_phase-n.ensures.seat in
     sym (blocks_sitting c.self.inside.place.table_id c.store.new.seat.table_id c.self.inside.place.me.0 c.store.new.seat.me.0 _ _ _ c.args.p.0 (record { p = c.args.p; n = c.member_phase-n.result }) c.self.invariant.sitting
-    (ap (λ (k : Known). next_action k.view) s ∙ c.requires.next) (ap (λ (k : Known). own_phase k.view c.args.p.0) s ∙ c.member_phase-n.ensures.phase) refl c.store.ensures.2.0).event
+    (ap (λ (k : Known). next_action k.view) s ∙ c.requires.next) (ap (λ (k : Known). own_phase k.view c.args.p.0) s ∙ c.member_phase-n.ensures.phase) refl (c.store.ensures.2.1 c.args.p.0 (ap (λ (k : Known). next_action k.view) s ∙ c.requires.next) ∙ next_view_is c.self.inside.place.me.0 (Blocks c.args.p.0) (ap (λ (k : Known). next_action k.view) s ∙ c.requires.next))).event
 
 pub returns-clause-step : goal.returns-clause-step
 returns-clause-step c =
@@ -62,4 +64,10 @@ returns-clause-step c =
     let s = c.self.view_is ∙ c.member_phase-n.ensures.seat in
     subst (λ (k : Known). MakesStep (Blocks c.args.p.0) k (record { table = c.store.new.seat.table_id; view = c.store.new.seat.me.0 })) s
     (makes_step c.self.inside.place.table_id c.store.new.seat.table_id c.self.inside.place.me.0 c.store.new.seat.me.0 (Blocks c.args.p.0) (task_inside _ _ i.seat i.task)
-    (ap (λ (k : Known). next_action k.view) s ∙ c.requires.next) c.store.ensures.2.0 c.store.ensures.0 i.seat)
+    (ap (λ (k : Known). next_action k.view) s ∙ c.requires.next) (c.store.ensures.2.1 c.args.p.0 (ap (λ (k : Known). next_action k.view) s ∙ c.requires.next) ∙ next_view_is c.self.inside.place.me.0 (Blocks c.args.p.0) (ap (λ (k : Known). next_action k.view) s ∙ c.requires.next)) c.store.ensures.0 i.seat)
+
+pub returns-clause-was : goal.returns-clause-was
+returns-clause-was c =
+    λ avoiding.
+    let s = c.self.view_is ∙ c.member_phase-n.ensures.seat in
+    subst (λ (k : Known). IsWithLock k.view.plan (task_of k.view) (seen k.view)) s (c.store.ensures.2.2 (ap (λ (k : Known). avoids k.view.mode) s ∙ avoiding))

@@ -1,7 +1,7 @@
 use Rattle.std.proofs.Common.{◌∙◌, ap}
 use Rattle.phase_scan.specs.Collects.{Collection, IsCollect}
 use Rattle.phase_scan.specs.Tables.{statuses_found}
-use Rattle.phase_scan.proofs.Collecting.{cells_count, cells_go, cells_in_order, cells_tell, tables_collect}
+use Rattle.phase_scan.proofs.Collecting.{cells_count, cells_find, cells_go, cells_in_order, cells_tell, marks_stay, tables_collect}
 use Rattle.phase_scan.proofs.cells.Cells.collect.Goals as goal
 
 the_collect : (g : _) (c : goal.After-load_rows g) → IsCollect c.args.board.now.plan (statuses_found c.load_rows.new.self) (g.L.Loads.known c.args.by.now) (g.L.Loads.known c.load_rows.new.by)
@@ -16,8 +16,14 @@ the_collect g c =
 
 pub invariant_of-self : goal.invariant_of-self
 invariant_of-self g c =
-    cells_in_order c.args.board.now (statuses_found c.load_rows.new.self) (g.L.Loads.known c.args.by.now) (g.L.Loads.known c.load_rows.new.by)
-    c.requires.made c.load_awaits.ensures.checked (the_collect g c)
+    let awaits = c.load_awaits.ensures in
+    let rows = c.load_rows.ensures in
+    record {
+      in_order =
+          cells_in_order c.args.board.now (statuses_found c.load_rows.new.self) (g.L.Loads.known c.args.by.now) (g.L.Loads.known c.load_rows.new.by)
+          c.requires.made c.load_awaits.ensures.checked (the_collect g c);
+      marked = marks_stay c.unmark.new.self c.load_awaits.new.self c.load_rows.new.self awaits.tasks rows.tasks rows.events rows.awaited awaits.awaited;
+    }
 
 pub returns-clause-goes_on : goal.returns-clause-goes_on
 returns-clause-goes_on g c =
@@ -35,4 +41,9 @@ returns-clause-loads g c =
 pub returns-clause-collected : goal.returns-clause-collected
 returns-clause-collected g c =
     cells_tell c.args.board.now (statuses_found c.load_rows.new.self) (g.L.Loads.known c.args.by.now) (g.L.Loads.known c.load_rows.new.by)
+    c.requires.made c.load_awaits.ensures.checked (the_collect g c)
+
+pub returns-clause-finds : goal.returns-clause-finds
+returns-clause-finds g c =
+    cells_find c.args.board.now (statuses_found c.load_rows.new.self) (g.L.Loads.known c.args.by.now) (g.L.Loads.known c.load_rows.new.by)
     c.requires.made c.load_awaits.ensures.checked (the_collect g c)

@@ -1,0 +1,190 @@
+-- A decision meets what the board asks of a publication and of a refusal.
+use Rattle.std.proofs.Common.{◌≡◌, ◌≢◌, ℕ, true, List, Option, Some, None, length, sym, ap, ◌∙◌, subst}
+use Rattle.std.specs.Prelude.{MatchOption, unwrap_or}
+use Rattle.armus_base.specs.declared.event.Event.{Event}
+use Rattle.armus_base.specs.declared.status.Status.{Status}
+use Rattle.armus_base.specs.Avoidance.{Avoids, LeavesNobodyDead}
+use Rattle.armus_base.specs.Boards.{IsLawful}
+use Rattle.armus_base.specs.Deadlocks.{IsDeadBy, IsListedOn, WouldBeDead}
+use Rattle.armus_base.specs.Decisions.{Decides}
+use Rattle.armus_base.specs.Places.{kept, phases_after, phases_at_place, state_at}
+use Rattle.armus_base.specs.Plans.{Blocks, Plan, Refuses}
+use Rattle.armus_base.specs.Runs.{Place, next_place}
+use Rattle.armus_base.specs.Seats.{HasLockWith, InEachWithLock, IsAsFarOn, SeenBy}
+use Rattle.armus_base.specs.States.{State, awaited}
+use Rattle.armus_base.proofs.BoardRuns.{nobody_dead_at}
+use Rattle.armus_base.proofs.SerialIsAvoided.{block_leaves_nobody_dead}
+use Rattle.board.specs.declared.view.View.{View}
+use Rattle.board.specs.Views.{avoids, action_after, next_action, own_place, place_in, seen, task_of}
+use Rattle.board.specs.Steps.{own_phase}
+use Rattle.board.specs.Locking.{FreesLock, IsWithLock, MayRefuse}
+use Rattle.board.specs.Seats.{Frame, IsOf, IsSeat, Known, MakesStep, MayPublish}
+use Rattle.board.proofs.Fitting.{moved_same}
+use Rattle.board.proofs.Seated.{next_there}
+use Rattle.phase_scan.specs.Looks.{GoesOn}
+use Rattle.phase_scan.proofs.Supposes.{own_phase_stays}
+use Rattle.verdict.specs.declared.found.Cycle.{Cycle}
+use Rattle.avoider.specs.Decisions.{ExplainsDeath}
+use Rattle.avoider.specs.OnBoard.{DropsBelow, HasPublished, HasRefused, InEachByLock, IsJudged, Judges}
+use Rattle.avoider.proofs.CycleDead.{cycle_dead}
+use Rattle.avoider.proofs.Dropping.{kept_all, own_place_next, place_at}
+use Rattle.avoider.proofs.InHand.{decides, stands}
+
+-- what comes next stays so while a seat makes loads alone
+pub next_stays : (k m : Known) (t : ℕ) → IsSeat k → k.view.own ≡ Some t → GoesOn k m → next_action m.view ≡ next_action k.view
+next_stays k m t seat own goes =
+    let task : task_of m.view ≡ task_of k.view = ap (λ o. unwrap_or o 0) goes.same.own in
+    let is_t : task_of k.view ≡ t = ap (λ o. unwrap_or o 0) own in
+    let here : own_place m.view ≡ own_place k.view =
+    ap (place_in m.view.sight.places) (task ∙ is_t) ∙ goes.here t (seat.own t own).1 ∙ ap (place_in k.view.sight.places) (sym is_t) in
+    λ i. action_after (goes.same.plan i) (task i) (here i).done (here i).dropped
+
+module _ (list : List Status) (p : ℕ) (before now : Known) (found : Option Cycle) (t : ℕ) (seat : IsSeat before) (own : before.view.own ≡ Some t) (avoiding : avoids before.view.mode ≡ true) (holds : before.view.holds ≡ true) (next : next_action before.view ≡ Some (Blocks p)) (goes : GoesOn before now) (j : IsJudged list p before now found) where
+  abbrev plan : Plan
+  plan = before.view.plan
+
+  is_t : task_of before.view ≡ t
+  is_t = ap (λ o. unwrap_or o 0) own
+
+  task : task_of now.view ≡ t
+  task = ap (λ o. unwrap_or o 0) goes.same.own ∙ is_t
+
+  next_event : next_action before.view ≡ Some (Blocks j.event.p.0)
+  next_event = next ∙ ap (λ q. Some (Blocks q)) (sym j.of_phaser)
+
+  pub holds_now : now.view.holds ≡ true
+  holds_now = goes.same.holds ∙ holds
+
+  pub avoids_now : avoids now.view.mode ≡ true
+  avoids_now = ap avoids goes.same.mode ∙ avoiding
+
+  pub next_now : next_action now.view ≡ Some (Blocks p)
+  next_now = next_stays before now t seat own goes ∙ next
+
+  -- in each state that it may be in
+  module _ (a : ℕ → Place) (lock : Option ℕ) (lawful : IsLawful true plan a lock) (has : HasLockWith plan t a lock (seen now.view)) (far : IsAsFarOn plan (Some t) a (seen now.view)) where
+    told : Decides (state_at plan a) t j.event j.supposed
+    told = decides list j.supposed j.event before j.judges.between now t seat own next_event j.judges.own j.judges.goes_on j.judges.collected j.judges.finds j.judges.adds a lock avoiding lawful has far
+
+    awaits : awaited (Some (Blocks p)) ((state_at plan a).phases t) ≡ Some j.event
+    awaits =
+        ap (λ q. awaited (Some (Blocks q)) ((state_at plan a).phases t)) (sym j.of_phaser)
+        ∙ (stands list j.supposed j.event before j.judges.between now t seat own next_event j.judges.own j.judges.goes_on j.judges.collected j.judges.finds j.judges.adds a lock avoiding lawful has far).awaits
+
+    alive_here : (IsDeadBy j.supposed t → ⊥) → LeavesNobodyDead (state_at plan a) t p
+    alive_here none =
+        block_leaves_nobody_dead (state_at plan a) t p j.event (nobody_dead_at plan a lock seat.checked lawful) awaits
+        (λ would. none (told.misses_none would))
+
+  each : (Holds : State → Type 0) → InEachWithLock plan t (seen now.view) Holds → InEachByLock now Holds
+  each Holds all = subst (λ (q : Plan). InEachWithLock q (task_of now.view) (seen now.view) Holds) (sym goes.same.plan) (subst (λ u. InEachWithLock plan u (seen now.view) Holds) (sym task) all)
+
+  -- a publication leaves nobody dead
+  pub all_alive : (IsDeadBy j.supposed t → ⊥) → InEachByLock now (λ s. LeavesNobodyDead s (task_of now.view) p)
+  all_alive none =
+      each (λ s. LeavesNobodyDead s (task_of now.view) p)
+      (subst (λ u. InEachWithLock plan t (seen now.view) (λ s. LeavesNobodyDead s u p)) (sym task)
+      (λ a lock lawful has far. alive_here a lock lawful has far none))
+
+  pub may_publish_now : (IsDeadBy j.supposed t → ⊥) → MayPublish now p
+  may_publish_now none = λ _. (holds_now, all_alive none)
+
+  -- a refused task would be dead
+  pub all_dead : IsDeadBy j.supposed t → InEachByLock now (λ s. WouldBeDead s (task_of now.view) j.event)
+  all_dead by =
+      each (λ s. WouldBeDead s (task_of now.view) j.event)
+      (subst (λ u. InEachWithLock plan t (seen now.view) (λ s. WouldBeDead s u j.event)) (sym task)
+      (λ a lock lawful has far. (told a lock lawful has far).refuses by))
+
+  pub may_refuse_now : IsDeadBy j.supposed t → MayRefuse now p
+  may_refuse_now by =
+      each (λ s. Avoids s (task_of now.view) (Refuses p))
+      (subst (λ u. InEachWithLock plan t (seen now.view) (λ s. Avoids s u (Refuses p))) (sym task)
+      (λ a lock lawful has far. (j.event, awaits a lock lawful has far, (told a lock lawful has far).refuses by)))
+
+  -- each other task that is dead by the statuses is published
+  pub all_published : (u : ℕ) (e : Event) → u ≢ t → IsDeadBy j.supposed u → IsListedOn j.supposed u e → InEachByLock now (λ s. s.published u ≡ Some e)
+  all_published u e other by on = each (λ s. s.published u ≡ Some e) (λ a lock lawful has far. (told a lock lawful has far).others u e other by on)
+
+  -- the event that is published is the one that was judged
+  event_same : (e : Event) → e.p.0 ≡ p → own_phase now.view p ≡ Some e.n → e ≡ j.event
+  event_same e phaser phase =
+      let same : own_phase now.view p ≡ Some j.event.n = ap (λ m. m p) (own_phase_stays before now t seat own goes) ∙ ap (own_phase before.view) (sym j.of_phaser) ∙ j.judges.own in
+      let n : e.n ≡ j.event.n = some_same e.n j.event.n (sym phase ∙ same) in
+      let q : e.p.0 ≡ j.event.p.0 = phaser ∙ sym j.of_phaser in
+      λ i. record { p = record { 0 = q i }; n = n i }
+    where
+      some_same : (u w : ℕ) → Some u ≡ Some w → u ≡ w
+      some_same u w e = cc
+
+  -- where no cycle was found
+  pub not_dead : found ≡ None → IsDeadBy j.supposed t → ⊥
+  not_dead none by =
+      let alive : IsDeadBy j.supposed (task_of before.view) → ⊥ = subst (λ o. MatchOption o (IsDeadBy j.supposed (task_of before.view) → ⊥) (ExplainsDeath j.supposed (task_of before.view))) none j.told in
+      alive (subst (IsDeadBy j.supposed) (sym is_t) by)
+
+  pub publishes_on :
+      (e : Event) (stored last : Known) → found ≡ None →
+      e.p.0 ≡ p → own_phase now.view p ≡ Some e.n → IsWithLock now.view.plan (task_of now.view) (seen now.view) → MakesStep (Blocks p) now stored → FreesLock stored last →
+      e.p.0 ≡ p × HasPublished list e before last
+  publishes_on e stored last none phaser phase possible step freed = (
+    phaser,
+    record {
+      supposed = j.supposed;
+      store = now;
+      judges = subst (λ f. Judges list f j.supposed before now) (sym (event_same e phaser phase)) j.judges;
+      alive = subst (λ q. InEachByLock now (λ s. LeavesNobodyDead s (task_of now.view) q)) (sym phaser) (all_alive (not_dead none));
+      possible = possible;
+      stored = stored;
+      step = subst (λ q. MakesStep (Blocks q) now stored) (sym phaser) step;
+      freed = freed;
+    },
+  )
+
+  -- the place of a refused task
+  refused_place : (stored : Known) → MakesStep (Refuses p) now stored → own_place stored.view ≡ place_at (own_place now.view).done 0
+  refused_place stored step =
+      own_place_next (Refuses p) now stored (ap (λ (s : SeenBy). s.places (task_of now.view)) step.seen_now ∙ moved_same (seen now.view).places (task_of now.view) (Refuses p)) step.same.own
+      ∙ ap (λ o. next_place (own_place now.view).done o (Refuses p)) (next_there now.view (Blocks p) next_now).0
+
+  free_place : (stored free : Known) → MakesStep (Refuses p) now stored → FreesLock stored free → own_place free.view ≡ place_at (own_place now.view).done 0
+  free_place stored free step freed = ap own_place freed.view ∙ refused_place stored step
+
+  pub free_refused : (stored free : Known) → MakesStep (Refuses p) now stored → FreesLock stored free → (own_place free.view).dropped ≡ Some 0
+  free_refused stored free step freed = ap (λ (v : Place). v.dropped) (free_place stored free step freed)
+
+  free_phases : (stored free : Known) → MakesStep (Refuses p) now stored → FreesLock stored free → own_phase free.view ≡ own_phase now.view
+  free_phases stored free step freed =
+      let same_plan : free.view.plan ≡ now.view.plan = ap (λ (v : View). v.plan) freed.view ∙ step.same.plan in
+      let same_task : task_of free.view ≡ task_of now.view = ap task_of freed.view ∙ ap (λ o. unwrap_or o 0) step.same.own in
+      (λ i. phases_at_place (same_plan i) (same_task i) (free_place stored free step freed i))
+      ∙ kept_all (phases_after now.view.plan (task_of now.view) (own_place now.view).done)
+      ∙ ap (λ o. kept o (phases_after now.view.plan (task_of now.view) (own_place now.view).done)) (sym (next_there now.view (Blocks p) next_now).0)
+
+  pub explained : (cycle : Cycle) → found ≡ Some cycle → ExplainsDeath j.supposed t cycle
+  explained cycle is =
+      subst (λ u. ExplainsDeath j.supposed u cycle) is_t
+      (subst (λ o. MatchOption o (IsDeadBy j.supposed (task_of before.view) → ⊥) (ExplainsDeath j.supposed (task_of before.view))) is j.told)
+
+  pub refuses_on :
+      (f : Frame) (cycle : Cycle) (stored free last : Known) → IsOf before f → found ≡ Some cycle → IsWithLock now.view.plan (task_of now.view) (seen now.view) →
+      MakesStep (Refuses p) now stored → FreesLock stored free → DropsBelow (own_phase free.view) (length f.plan.makers) free last → HasRefused list p cycle before last
+  refuses_on f cycle stored free last of is possible step freed drops =
+      let why = explained cycle is in
+      record {
+        event = j.event;
+        of_phaser = j.of_phaser;
+        supposed = j.supposed;
+        store = now;
+        judges = j.judges;
+        dead = all_dead why.among;
+        possible = possible;
+        explains = subst (λ u. ExplainsDeath j.supposed u cycle) (sym task) why;
+        others = λ u e m apart on. all_published u.0 e (λ same. apart (same ∙ sym task)) (cycle_dead j.supposed cycle.tasks cycle.events j.event why.links u m) on;
+        stored = stored;
+        step = step;
+        free = free;
+        freed = freed;
+        drops = subst (λ (q : Plan). DropsBelow (own_phase now.view) (length q.makers) free last) (sym of.plan ∙ sym goes.same.plan)
+            (subst (λ m. DropsBelow m (length f.plan.makers) free last) (free_phases stored free step freed) drops);
+      }

@@ -1,0 +1,476 @@
+-- The statuses of a collect, with that of the holder's own task, decide on its await in each state that it may be in.
+use Rattle.std.proofs.Common.{◌≡◌, ◌≢◌, ℕ, ◌<◌, ◌≤◌, Bool, true, false, List, Option, Some, None, length, sym, refl, ap, ◌∙◌, subst, arith, inl, inr, ◌⊎◌}
+use Rattle.std.specs.Prelude.{is_some, nat_lt, unwrap_or, if◌then◌else◌, IsSome}
+use Rattle.std.proofs.lemmas.Bool.{cases_Bool, cases_eq, cases_lt, false≢true}
+use Rattle.armus_base.specs.declared.event.Event.{Event}
+use Rattle.armus_base.specs.declared.status.Status.{Status}
+use Rattle.armus_base.specs.Plans.{Blocks, Plan, action_at}
+use Rattle.armus_base.specs.States.{State, event_at, event_on, updated}
+use Rattle.armus_base.specs.Runs.{IsPrefix, Place, first_place}
+use Rattle.armus_base.specs.Places.{done_by, forked_at, kept, phases_at_place, published_after, refused_at, state_at}
+use Rattle.armus_base.specs.CheckedPlans.{IsCheckedPlan}
+use Rattle.armus_base.specs.Boards.{IsLawful}
+use Rattle.armus_base.specs.Seats.{Found, FoundWaiting, HasLockWith, IsAsFarOn, SeenBy, StillAgrees}
+use Rattle.armus_base.specs.Deadlocks.{IsListedAt, IsListedOn}
+use Rattle.armus_base.specs.Decisions.{Decides, HasAllFound, HasFound, HasOtherStatuses, HasOwnStatus, StandsBefore}
+use Rattle.armus_base.specs.FinalLaws.{AreStatuses}
+use Rattle.armus_base.specs.Finals.{is_awaited, is_event_of}
+use Rattle.armus_base.specs.Statuses.{IsAwaited}
+use Rattle.armus_base.proofs.AwaitLoadKeepsFar.{prefixes_both}
+use Rattle.armus_base.proofs.Fixed.{phases_forked, some_before_from}
+use Rattle.armus_base.proofs.ListDecides.{list_in_hand_decides}
+use Rattle.armus_base.proofs.ReachedLater.{later_done}
+use Rattle.armus_base.proofs.StatusesAre.{statuses_are}
+use Rattle.armus_base.proofs.Steps.{updated_other, updated_same}
+use Rattle.board.specs.declared.mode.Mode.TheVariants.{Avoid}
+use Rattle.board.specs.Views.{avoids, next_action, own_place, place_in, seen, task_of}
+use Rattle.board.specs.Steps.{own_phase}
+use Rattle.board.specs.Seats.{IsSeat, Known}
+use Rattle.board.proofs.Acting.{nothing_published}
+use Rattle.board.proofs.Forking.{lock_forked}
+use Rattle.board.proofs.Ranges.{phaser_of_member}
+use Rattle.board.proofs.Seated.{next_there, phase_here}
+use Rattle.phase_scan.specs.Looks.{GoesOn}
+use Rattle.phase_scan.specs.Collected.{HasFinds, IsCollected}
+use Rattle.phase_scan.specs.Supposed.{IsSupposed}
+use Rattle.phase_scan.specs.Tables.{state_supposed}
+use Rattle.phase_scan.proofs.Columns.{ColumnLoad, column_goes, column_of}
+use Rattle.phase_scan.proofs.Farther.{far_before}
+use Rattle.phase_scan.proofs.Loads.{phase_load}
+use Rattle.phase_scan.proofs.Standing.{phases_begun_at, published_begun}
+use Rattle.phase_scan.proofs.Supposes.{own_phase_stays}
+use Rattle.phase_scan.proofs.Telling.{found_there, prefix_both}
+
+is_lt : (a b : ℕ) → a < b → nat_lt a b ≡ true
+is_lt a b h = grind arith
+
+some_is_some : (o : Option Event) (e : Event) → o ≡ Some e → is_some o ≡ true
+some_is_some o e is = ap is_some is
+
+not_first : (b : Place) → 0 < b.done → b ≢ first_place
+not_first b begun same = (let none : b.done ≡ 0 = ap (λ (v : Place). v.done) same in omega arith)
+
+-- what the seat knew before the collect, after it, and after the loads of the column
+module _ (list supposed : List Status) (event : Event) (before mid store : Known) (t : ℕ) (seat : IsSeat before) (own : before.view.own ≡ Some t) (next : next_action before.view ≡ Some (Blocks event.p.0)) (phase : own_phase before.view event.p.0 ≡ Some event.n) (goes : GoesOn before mid) (collected : IsCollected list before mid) (finds : HasFinds list mid) (sup : IsSupposed before.view.plan list event supposed mid store) where
+  abbrev plan : Plan
+  plan = before.view.plan
+
+  abbrev p : ℕ
+  p = event.p.0
+
+  abbrev tasks : ℕ
+  tasks = length plan.parents
+
+  checked : IsCheckedPlan plan
+  checked = seat.checked
+
+  small : t < tasks
+  small = (seat.own t own).0
+
+  task : task_of before.view ≡ t
+  task = ap (λ o. unwrap_or o 0) own
+
+  own_mid : mid.view.own ≡ Some t
+  own_mid = goes.same.own ∙ own
+
+  task_mid : t ≡ task_of mid.view
+  task_mid = sym (ap (λ o. unwrap_or o 0) own_mid)
+
+  down : GoesOn mid store
+  down = (column_goes sup.found.published p plan sup.column tasks mid store goes.same.plan (omega arith) goes.kept sup.loads).goes
+
+  finds_stay : (u : ℕ) → (seen store.view).found u ≡ (seen mid.view).found u
+  finds_stay = (column_goes sup.found.published p plan sup.column tasks mid store goes.same.plan (omega arith) goes.kept sup.loads).finds
+
+  abbrev asked : ℕ → Bool
+  asked = is_awaited plan sup.found
+
+  abbrev asked_too : ℕ → Bool
+  asked_too = updated asked p true
+
+  abbrev found_too : State
+  found_too = state_supposed sup.found (task_of mid.view) event (own_phase mid.view) sup.column
+
+  are : AreStatuses plan sup.found asked list
+  are = subst (AreStatuses plan sup.found asked) (sym sup.statuses) (statuses_are plan sup.found asked checked)
+
+  are_too : AreStatuses plan found_too asked_too supposed
+  are_too = subst (AreStatuses plan found_too asked_too) (sym sup.supposed_are) (statuses_are plan found_too asked_too checked)
+
+  pub supposed_in_order : AreStatuses plan found_too asked_too supposed
+  supposed_in_order = are_too
+
+  apart_mid : (u : ℕ) → u ≢ t → u ≢ task_of mid.view
+  apart_mid u n e = n (e ∙ sym task_mid)
+
+  -- the own phases are on phasers of the plan
+  own_within : (q n : ℕ) → own_phase before.view q ≡ Some n → q < length plan.makers
+  own_within q n is =
+      phaser_of_member plan checked (task_of before.view) (own_place before.view).done q n
+      (sym (phase_here before.view q (next_there before.view (Blocks p) next).0) ∙ is)
+
+  -- who is listed
+  pub own_listed : IsListedOn supposed t event
+  own_listed = (are_too.events t event).1 (small, updated_same sup.found.published (task_of mid.view) t (Some event) task_mid)
+
+  own_only : (e : Event) → IsListedOn supposed t e → e ≡ event
+  own_only e is = some_same event e (sym (updated_same sup.found.published (task_of mid.view) t (Some event) task_mid) ∙ ((are_too.events t e).0 is).1)
+    where
+      some_same : (x y : Event) → Some x ≡ Some y → y ≡ x
+      some_same x y h = cc
+
+  on_other : (u : ℕ) (e : Event) → u ≢ t → IsListedOn supposed u e → IsListedOn list u e
+  on_other u e n is =
+      let at = (are_too.events u e).0 is in
+      (are.events u e).1 (at.0, sym (updated_other sup.found.published (task_of mid.view) u (Some event) (apart_mid u n)) ∙ at.1)
+
+  other_on : (u : ℕ) (e : Event) → u ≢ t → IsListedOn list u e → IsListedOn supposed u e
+  other_on u e n is =
+      let at = (are.events u e).0 is in
+      (are_too.events u e).1 (at.0, updated_other sup.found.published (task_of mid.view) u (Some event) (apart_mid u n) ∙ at.1)
+
+  -- which phases of whom
+  phases_own : (q : ℕ) → found_too.phases t q ≡ own_phase before.view q
+  phases_own q =
+      ap (λ m. m q) (updated_same (λ w. updated (sup.found.phases w) p (sup.column w)) (task_of mid.view) t (own_phase mid.view) task_mid)
+      ∙ ap (λ m. m q) (own_phase_stays before mid t seat own goes)
+
+  phases_other : (u q : ℕ) → u ≢ t → found_too.phases u q ≡ updated (sup.found.phases u) p (sup.column u) q
+  phases_other u q n = ap (λ m. m q) (updated_other (λ w. updated (sup.found.phases w) p (sup.column w)) (task_of mid.view) u (own_phase mid.view) (apart_mid u n))
+
+  on_waits : (u : ℕ) (e : Event) → u ≢ t → IsListedOn supposed u e → (u < tasks) × (sup.found.published u ≡ Some e)
+  on_waits u e n is = (are.events u e).0 (on_other u e n is)
+
+  -- the place seen of a task after the load of the column
+  Waits : ℕ → Type 0
+  Waits u = (u < tasks) × (is_some (sup.found.published u) ≡ true)
+
+  waits_or_not : (u : ℕ) → Waits u ⊎ (Waits u → ⊥)
+  unfolding Waits
+  waits_or_not u = elim (cases_lt u tasks) [
+    | inr l ↦ inr (λ w. absurd (let a = w.0 in omega arith))
+    | inl l ↦ elim (cases_Bool (is_some (sup.found.published u))) [
+      | inl w ↦ inl (l, w)
+      | inr idle ↦ inr (λ w. false≢true (sym idle ∙ w.1))
+    ]
+  ]
+
+  column : (u : ℕ) → Waits u → ColumnLoad sup.found.published p plan sup.column u mid store
+  unfolding Waits
+  column u w = column_of sup.found.published p plan sup.column tasks mid store goes.same.plan (omega arith) goes.kept sup.loads u w.0 w.1
+
+  place_by : (u : ℕ) → (Waits u ⊎ (Waits u → ⊥)) → Place
+  place_by u (inl w) = (seen (column u w).to.view).places u
+  place_by u (inr none) = first_place
+
+  place_down : ℕ → Place
+  place_down u = place_by u (waits_or_not u)
+
+  down_at : (u : ℕ) → Waits u → (y : ColumnLoad sup.found.published p plan sup.column u mid store) × place_down u ≡ (seen y.to.view).places u
+  unfolding place_down place_by
+  down_at u w = by_cases (waits_or_not u)
+    where
+      by_cases : (d : Waits u ⊎ (Waits u → ⊥)) → (y : ColumnLoad sup.found.published p plan sup.column u mid store) × place_by u d ≡ (seen y.to.view).places u
+      by_cases (inl v) = (column u v, refl)
+      by_cases (inr none) = absurd (none w)
+
+  abbrev at : ℕ → Place
+  at = collected.at
+
+  waiting_at : (u : ℕ) (e : Event) → IsListedOn list u e → published_after plan u (at u).done ≡ Some e
+  waiting_at u e is = collected.places.waiting u e tt is
+
+  at_mid : (u : ℕ) (e : Event) → IsListedOn list u e → IsPrefix (at u) ((seen mid.view).places u)
+  at_mid u e is = collected.places.before u e tt is
+
+  -- the place of the load in the column lies between
+  between : (u : ℕ) (e : Event) → IsListedOn list u e → (y : ColumnLoad sup.found.published p plan sup.column u mid store) → IsPrefix (at u) ((seen y.from.view).places u) × IsPrefix (at u) ((seen y.to.view).places u)
+  between u e is y =
+      let load = phase_load y.from y.to u p (sup.column u) y.small y.load in
+      let first : IsPrefix (at u) ((seen y.from.view).places u) = prefix_both (at u) ((seen mid.view).places u) ((seen y.from.view).places u) (at_mid u e is) (y.goes_from.later u) in
+      (first, prefix_both (at u) ((seen y.from.view).places u) ((seen y.to.view).places u) first (load.later u))
+
+  begun : (u : ℕ) (e : Event) (b : Place) → IsListedOn list u e → IsPrefix (at u) b → 0 < b.done
+  begun u e b is later =
+      let first = published_begun plan checked u (at u).done e (waiting_at u e is) in
+      let more = later_done (at u).done b.done (at u).dropped b.dropped later in
+      omega arith
+
+  plan_at : (u : ℕ) (y : ColumnLoad sup.found.published p plan sup.column u mid store) → y.from.view.plan ≡ plan
+  plan_at u y = y.goes_from.same.plan ∙ goes.same.plan
+
+  -- a phase that the column has is the task's at the place seen then
+  column_found : (u n : ℕ) (e : Event) → IsListedOn list u e → (y : ColumnLoad sup.found.published p plan sup.column u mid store) → sup.column u ≡ Some n → phases_at_place plan u ((seen y.to.view).places u) p ≡ Some n
+  column_found u n e is y has =
+      let b = (seen y.to.view).places u in
+      subst (λ (q : Plan). phases_at_place q u b p ≡ sup.column u) (plan_at u y) (y.load.load.there n has (not_first b (begun u e b is (between u e is y).1))) ∙ has
+
+  -- where the task still stands where it was found waiting, what the column has is so there
+  column_exact : (u : ℕ) (e : Event) → IsListedOn list u e → (y : ColumnLoad sup.found.published p plan sup.column u mid store) → (seen y.to.view).places u ≡ at u → phases_at_place plan u (at u) p ≡ sup.column u
+  column_exact u e is y here =
+      let b = (seen y.to.view).places u in
+      let q = y.from.view.plan in
+      let a = (seen y.from.view).places u in
+      let longest = (y.load.load.seen_now.place (not_first a (begun u e a is (between u e is y).0))).here in
+      let on : published_after q u b.done ≡ Some e =
+      ap (λ (v : Place). published_after q u v.done) here
+      ∙ subst (λ (r : Plan). published_after r u (at u).done ≡ Some e) (sym (plan_at u y)) (waiting_at u e is) in
+      let means = found_there q (subst IsCheckedPlan (sym (plan_at u y)) checked) (avoids y.from.view.mode) u p (sup.column u) a b e longest on in
+      ap (λ v. phases_at_place plan u v p) (sym here) ∙ subst (λ (r : Plan). phases_at_place r u b p ≡ sup.column u) (plan_at u y) means
+
+  -- a state that has the lock with the seat
+  module _ (a : ℕ → Place) (lock : Option ℕ) (avoiding : avoids before.view.mode ≡ true) (lawful : IsLawful true plan a lock) (has : HasLockWith plan t a lock (seen store.view)) (far : IsAsFarOn plan (Some t) a (seen store.view)) where
+    abbrev s : State
+    s = state_at plan a
+
+    exact_store : (seen store.view).exact t ≡ true
+    exact_store = down.exact t ∙ goes.exact t ∙ (seat.own t own).1
+
+    here : a t ≡ own_place before.view
+    here =
+        far.equal t small exact_store
+        ∙ down.here t (goes.exact t ∙ (seat.own t own).1)
+        ∙ goes.here t (seat.own t own).1
+        ∙ ap (place_in before.view.sight.places) (sym task)
+
+    dropped : (a t).dropped ≡ None
+    dropped = ap (λ (v : Place). v.dropped) here ∙ (next_there before.view (Blocks p) next).0
+
+    code : action_at plan t (a t).done ≡ Some (Blocks p)
+    code =
+        ap (λ (v : Place). action_at plan t v.done) here
+        ∙ ap (λ u. action_at plan u (own_place before.view).done) (sym task)
+        ∙ (next_there before.view (Blocks p) next).1
+
+    forked : forked_at plan (done_by a) t ≡ true
+    forked = lock_forked plan Avoid a lock checked lawful t has.holds
+
+    phases_now : (q : ℕ) → s.phases t q ≡ own_phase before.view q
+    phases_now q =
+        ap (λ m. kept (a t).dropped m q) (phases_forked plan checked (done_by a) t forked)
+        ∙ ap (λ (v : Place). phases_at_place plan t v q) here
+        ∙ ap (λ u. phases_at_place plan u (own_place before.view) q) (sym task)
+
+    pub stands : StandsBefore plan s a t event
+    stands = record {
+      active = record {
+        forked = forked;
+        unpublished = nothing_published plan t (a t).done (Blocks p) code (λ q e. cc);
+        unrefused = ap (refused_at plan t (a t).done) dropped;
+      };
+      next = code;
+      awaits = ap (event_on p) (phases_now p ∙ phase);
+    }
+
+    -- an awaited phaser of which a task is a member is one of the plan, and asked for
+    asked_for : (v : ℕ) (e : Event) → IsListedOn supposed v e → asked_too e.p.0 ≡ true
+    asked_for v e is = elim (cases_eq e.p.0 p) [
+      | inl same ↦ updated_same asked p e.p.0 true same
+      | inr other ↦
+          updated_other asked p e.p.0 true other
+          ∙ asked_before v e (λ own_too. other (ap (λ (x : Event). x.p.0) (own_only e (subst (λ w. IsListedOn supposed w e) own_too is)))) is
+    ]
+      where
+        asked_before : (v : ℕ) (e : Event) → v ≢ t → IsListedOn supposed v e → asked e.p.0 ≡ true
+        asked_before v e n is =
+            let w = on_waits v e n is in
+            some_before_from (λ x. is_event_of e.p.0 (sup.found.published x)) tasks v w.0 (ap (is_event_of e.p.0) w.1 ∙ same_phaser e.p.0)
+          where
+            same_phaser : (k : ℕ) → is_event_of k (Some (event_at k 0)) ≡ true
+            same_phaser k = grind (arith)
+
+    own_status : HasOwnStatus s t event supposed
+    own_status = record {
+      listed = own_listed;
+      only = own_only;
+      phases = λ q n is. phases_now q ∙ sym (phases_own q) ∙ ((are_too.phases t q n).0 is).phase;
+      all = λ v n e is phase_is.
+          let at_own : own_phase before.view e.p.0 ≡ Some n = sym (phases_now e.p.0) ∙ phase_is in
+          (are_too.phases t e.p.0 n).1 (record {
+            task = small;
+            event = event;
+            published = updated_same sup.found.published (task_of mid.view) t (Some event) task_mid;
+            phaser = own_within e.p.0 n at_own;
+            asked_for = asked_for v e is;
+            phase = phases_own e.p.0 ∙ at_own;
+          });
+    }
+
+    found' : ℕ → ℕ → Place
+    found' u = updated (collected.found u) p (place_down u)
+
+    later_mid : (u : ℕ) → u < tasks → IsPrefix ((seen mid.view).places u) (a u)
+    later_mid u l = prefix_both ((seen mid.view).places u) ((seen store.view).places u) (a u) (down.later u) (far.later u l)
+
+    -- a phase listed of another task
+    other_at : (u q n : ℕ) → u ≢ t → q ≢ p → IsListedAt supposed u q n → IsListedAt list u q n
+    other_at u q n apart other is =
+        let h = (are_too.phases u q n).0 is in
+        (are.phases u q n).1 (record {
+          task = h.task;
+          event = h.event;
+          published = sym (updated_other sup.found.published (task_of mid.view) u (Some event) (apart_mid u apart)) ∙ h.published;
+          phaser = h.phaser;
+          asked_for = sym (updated_other asked p q true other) ∙ h.asked_for;
+          phase = sym (phases_other u q apart ∙ updated_other (sup.found.phases u) p q (sup.column u) other) ∙ h.phase;
+        })
+
+    at_other : (u q n : ℕ) → u ≢ t → q ≢ p → IsListedAt list u q n → IsListedAt supposed u q n
+    at_other u q n apart other is =
+        let h = (are.phases u q n).0 is in
+        (are_too.phases u q n).1 (record {
+          task = h.task;
+          event = h.event;
+          published = updated_other sup.found.published (task_of mid.view) u (Some event) (apart_mid u apart) ∙ h.published;
+          phaser = h.phaser;
+          asked_for = updated_other asked p q true other ∙ h.asked_for;
+          phase = phases_other u q apart ∙ updated_other (sup.found.phases u) p q (sup.column u) other ∙ h.phase;
+        })
+
+    -- one on the event's phaser
+    at_event : (u n : ℕ) → u ≢ t → IsListedAt supposed u p n → (Waits u) × (sup.column u ≡ Some n) × ((e : Event) × IsListedOn list u e)
+    unfolding Waits
+    at_event u n apart is =
+        let h = (are_too.phases u p n).0 is in
+        let on : sup.found.published u ≡ Some h.event = sym (updated_other sup.found.published (task_of mid.view) u (Some event) (apart_mid u apart)) ∙ h.published in (
+          (h.task, ap is_some on),
+          sym (phases_other u p apart ∙ updated_same (sup.found.phases u) p p (sup.column u) refl) ∙ h.phase,
+          (h.event, (are.events u h.event).1 (h.task, on)),
+        )
+
+    all_found : HasFound plan (λ u. u ≢ t) supposed at found' a
+    unfolding found'
+    all_found = record {
+      waiting = λ u e n is. waiting_at u e (on_other u e n is);
+      before = λ u e n is.
+          let l = on_other u e n is in
+          prefix_both (at u) ((seen mid.view).places u) (a u) (at_mid u e l) (later_mid u (on_waits u e n is).0);
+      phases = λ u q m n is. elim (cases_eq q p) [
+        | inl same ↦
+            let w = at_event u m n (subst (λ r. IsListedAt supposed u r m) same is) in
+            let y = down_at u w.0 in
+            let place : found' u q ≡ (seen y.0.to.view).places u = updated_same (collected.found u) p q (place_down u) same ∙ y.1 in (
+              subst (IsPrefix (at u)) (sym place) (between u w.2.0 w.2.1 y.0).1,
+              ap (λ v. phases_at_place plan u v q) place ∙ ap (phases_at_place plan u ((seen y.0.to.view).places u)) same ∙ column_found u m w.2.0 w.2.1 y.0 w.1,
+            )
+        | inr other ↦
+            let old = collected.places.phases u q m tt (other_at u q m n other is) in
+            let place : found' u q ≡ collected.found u q = updated_other (collected.found u) p q (place_down u) other in (
+              subst (IsPrefix (at u)) (sym place) old.0,
+              ap (λ v. phases_at_place plan u v q) place ∙ old.1,
+            )
+      ];
+      phases_before = λ u q m n is. elim (cases_eq q p) [
+        | inl same ↦
+            let w = at_event u m n (subst (λ r. IsListedAt supposed u r m) same is) in
+            let y = down_at u w.0 in
+            let place : found' u q ≡ (seen y.0.to.view).places u = updated_same (collected.found u) p q (place_down u) same ∙ y.1 in
+            let small_u : u < tasks = ((are.events u w.2.0).0 w.2.1).0 in
+            subst (λ v. IsPrefix v (a u)) (sym place)
+            (prefix_both ((seen y.0.to.view).places u) ((seen store.view).places u) (a u) (y.0.goes_to.later u) (far.later u small_u))
+        | inr other ↦
+            let l = other_at u q m n other is in
+            let small_u : u < tasks = ((are.phases u q m).0 l).task in
+            subst (λ v. IsPrefix v (a u)) (sym (updated_other (collected.found u) p q (place_down u) other))
+            (prefix_both (collected.found u q) ((seen mid.view).places u) (a u) (collected.places.phases_before u q m tt l) (later_mid u small_u))
+      ];
+    }
+
+    far_mid : IsAsFarOn plan before.view.own a (seen mid.view)
+    far_mid =
+        let at_store : IsAsFarOn store.view.plan store.view.own a (seen store.view) =
+        subst (λ (q : Plan). IsAsFarOn q store.view.own a (seen store.view)) (sym (down.same.plan ∙ goes.same.plan))
+        (subst (λ o. IsAsFarOn plan o a (seen store.view)) (sym (down.same.own ∙ own_mid)) far) in
+        subst (λ (q : Plan). IsAsFarOn q before.view.own a (seen mid.view)) goes.same.plan
+        (subst (λ o. IsAsFarOn mid.view.plan o a (seen mid.view)) goes.same.own (far_before mid store a goes.kept down at_store))
+
+    -- where another task still stands where it was found waiting, the column has its phase
+    column_now : (u : ℕ) (e : Event) → u ≢ t → IsListedOn list u e → a u ≡ at u → s.phases u p ≡ sup.column u
+    unfolding Waits
+    column_now u e n is still =
+        let w = (are.events u e).0 is in
+        let y = column u (w.0, ap is_some w.1) in
+        let b = (seen y.to.view).places u in
+        let last : IsPrefix b (at u) = subst (IsPrefix b) still (prefix_both b ((seen store.view).places u) (a u) (y.goes_to.later u) (far.later u w.0)) in
+        let here : b ≡ at u = prefixes_both b (at u) last (between u e is y).1 in
+        let begun_now : 0 < (a u).done = subst (λ (v : Place). 0 < v.done) (sym still) (published_begun plan checked u (at u).done e (waiting_at u e is)) in
+        ap (λ m. m p) (phases_begun_at plan checked true a lock lawful u begun_now)
+        ∙ ap (λ v. phases_at_place plan u v p) still
+        ∙ column_exact u e is y here
+
+    others : HasOtherStatuses plan s a t supposed
+    others = record {
+      at = at;
+      found = found';
+      found_there = all_found;
+      all = λ u v n e f apart is still on has_phase. elim (cases_eq e.p.0 p) [
+        | inl same ↦
+            let l = on_other u f apart is in
+            let w = (are.events u f).0 l in
+            let column_is : sup.column u ≡ Some n = sym (column_now u f apart l still) ∙ ap (s.phases u) (sym same) ∙ has_phase in
+            subst (λ r. IsListedAt supposed u r n) (sym same)
+            ((are_too.phases u p n).1 (record {
+              task = w.0;
+              event = f;
+              published = updated_other sup.found.published (task_of mid.view) u (Some event) (apart_mid u apart) ∙ w.1;
+              phaser = own_within p event.n phase;
+              asked_for = updated_same asked p p true refl;
+              phase = phases_other u p apart ∙ updated_same (sup.found.phases u) p p (sup.column u) refl ∙ column_is;
+            }))
+        | inr other ↦
+            let l = on_other u f apart is in
+            let not_own : v ≢ t = λ own_too. other (ap (λ (x : Event). x.p.0) (own_only e (subst (λ w. IsListedOn supposed w e) own_too on))) in
+            let lv = on_other v e not_own on in
+            let awaited : IsAwaited list e = (lv.0, lv.1, lv.3) in
+            at_other u e.p.0 n apart other
+            (((collected.exact a lock (subst (λ b. IsLawful b plan a lock) (sym avoiding) lawful) far_mid u f l still) e n awaited).0 has_phase)
+      ];
+    }
+
+    -- the finds of the tasks of the plan
+    abbrev seen_within : SeenBy
+    seen_within = record (seen store.view) { found = λ u. if nat_lt u tasks then (seen store.view).found u else None }
+
+    pub decides : Decides s t event supposed
+    decides = list_in_hand_decides plan t event seen_within supposed a lock checked has_all lawful has_within stands own_status others
+      where
+        found_of : (u : ℕ) → u < tasks → (f : Found) × ((seen store.view).found u ≡ Some f) × ((e : Event) → f ≡ FoundWaiting e → IsListedOn list u e)
+        found_of u l =
+            let f = finds u (subst (λ (q : Plan). u < length q.parents) (sym goes.same.plan) l) in
+            (f.0, finds_stay u ∙ f.1, λ e. (f.2 e).0)
+
+        within_is : (u : ℕ) → u < tasks → seen_within.found u ≡ (seen store.view).found u
+        within_is u l = ap (λ b. if b then (seen store.view).found u else None) (is_lt u tasks l)
+
+        past_is : (u : ℕ) → tasks ≤ u → seen_within.found u ≡ None
+        past_is u l = ap (λ b. if b then (seen store.view).found u else None) (is_not u tasks l)
+          where
+            is_not : (a b : ℕ) → b ≤ a → nat_lt a b ≡ false
+            is_not a b h = grind arith
+
+        has_all : HasAllFound plan t seen_within supposed
+        has_all = record {
+          all = λ u l n. let f = found_of u l in subst IsSome (sym (within_is u l ∙ f.1)) refl;
+          listed = λ u e n is. elim (cases_lt u tasks) [
+            | inl l ↦
+                let f = found_of u l in
+                let same : f.0 ≡ FoundWaiting e = some_same f.0 (FoundWaiting e) (sym f.1 ∙ sym (within_is u l) ∙ is) in
+                other_on u e n (f.2 e same)
+            | inr l ↦ absurd (none_some (sym (past_is u l) ∙ is))
+          ];
+        }
+          where
+            some_same : (x y : Found) → Some x ≡ Some y → x ≡ y
+            some_same x y h = cc
+
+            none_some : {x : Found} → None ≡ Some x → ⊥
+            none_some h = cc
+
+        has_within : HasLockWith plan t a lock seen_within
+        has_within = record {
+          holds = has.holds;
+          agrees = λ u n. elim (cases_lt u tasks) [
+            | inl l ↦ subst (StillAgrees s u) (sym (within_is u l)) (has.agrees u n)
+            | inr l ↦ subst (StillAgrees s u) (sym (past_is u l)) tt
+          ];
+        }

@@ -1,0 +1,99 @@
+-- Decisions on a board: what they rest on, and what they make of a seat.
+use Rattle.std.specs.Prelude.{◌≡◌, ◌≢◌, ℕ, List, Option, Some, length, is_some, Contains, MatchOption}
+use Rattle.std.proofs.Common.{zero, suc}
+use Rattle.armus_base.specs.declared.event.Event.{Event}
+use Rattle.armus_base.specs.declared.ids.TaskId.{TaskId}
+use Rattle.armus_base.specs.declared.status.Status.{Status}
+use Rattle.armus_base.specs.Avoidance.{LeavesNobodyDead}
+use Rattle.armus_base.specs.Deadlocks.{IsDeadBy, IsListedOn, WouldBeDead}
+use Rattle.armus_base.specs.Plans.{Blocks, Drops, Refuses}
+use Rattle.armus_base.specs.Seats.{InEachWithLock}
+use Rattle.armus_base.specs.States.{Phases, State}
+use Rattle.board.specs.Locking.{FreesLock, IsWithLock}
+use Rattle.board.specs.Seats.{Known, MakesStep}
+use Rattle.board.specs.Steps.{own_phase}
+use Rattle.board.specs.Views.{seen, task_of}
+use Rattle.phase_scan.specs.Collected.{HasFinds, IsCollected}
+use Rattle.phase_scan.specs.Collects.{IfAsked, IsCollect}
+use Rattle.phase_scan.specs.Looks.{GoesOn}
+use Rattle.phase_scan.specs.Supposed.{IsSupposed}
+use Rattle.verdict.specs.declared.found.Cycle.{Cycle}
+use Rattle.avoider.specs.Decisions.{ExplainsDeath}
+use Rattle.avoider.specs.declared.decision.Decision.{Decision}
+use Rattle.avoider.specs.declared.decision.Decision.TheVariants.{Published, Refused}
+
+-- The loads of a decision on the own await of an event: a collect, which found the statuses of this list, and then the further loads by which the own
+-- status and the phases on the event's phaser are added.
+pub record Judges (list : List Status) (event : Event) (supposed : List Status) (before now : Known) : Type 0 where
+  pub between : Known
+  pub goes_on : GoesOn before between
+  pub collect : IsCollect before.view.plan list before between
+  pub collected : IsCollected list before between
+  pub finds : HasFinds list between
+  pub adds : IsSupposed before.view.plan list event supposed between now
+  pub own : own_phase before.view event.p.0 ≡ Some event.n
+
+-- what the loads of a decision on the own await of p tell: the cycle that explains the death of the own task, where it is dead by the statuses
+pub record IsJudged (list : List Status) (p : ℕ) (before now : Known) (found : Option Cycle) : Type 0 where
+  pub event : Event
+  pub of_phaser : event.p.0 ≡ p
+  pub supposed : List Status
+  pub judges : Judges list event supposed before now
+  pub told : MatchOption found (IsDeadBy supposed (task_of before.view) → ⊥) (ExplainsDeath supposed (task_of before.view))
+
+-- this holds in each state that has the lock with the seat and is as far on as what it has seen
+abbrev pub InEachByLock : Known → (State → Type 0) → Type 0
+InEachByLock seat Holds = InEachWithLock seat.view.plan (task_of seat.view) (seen seat.view) Holds
+
+-- one of these states there is
+abbrev pub IsPossibleByLock : Known → Type 0
+IsPossibleByLock seat = IsWithLock seat.view.plan (task_of seat.view) (seen seat.view)
+
+-- a refused task drops those of the first phasers of which it is a member, in order of number
+abbrev pub DropsBelow : Phases → ℕ → Known → Known → Type 0
+DropsBelow phases zero before now = now ≡ before
+DropsBelow phases (suc q) before now =
+    (between : Known) × DropsBelow phases q before between × IfAsked (is_some (phases q)) (MakesStep (Drops q)) between now
+
+-- The task has published the event. At the store this left nobody dead in any state that it might be in. After it the lock was freed.
+pub record HasPublished (list : List Status) (event : Event) (before now : Known) : Type 0 where
+  pub supposed : List Status
+  pub store : Known
+  pub judges : Judges list event supposed before store
+  pub alive : InEachByLock store (λ s. LeavesNobodyDead s (task_of store.view) event.p.0)
+  pub possible : IsPossibleByLock store
+  pub stored : Known
+  pub step : MakesStep (Blocks event.p.0) store stored
+  pub freed : FreesLock stored now
+
+-- The task was refused at its await of p. At the store it would have been dead with its event in every state that it might be in, as the cycle of the
+-- statuses explains, each of whose other tasks is published on its event in every such state. After it the lock was freed, and then the task has
+-- dropped all its phasers, in order of number.
+pub record HasRefused (list : List Status) (p : ℕ) (cycle : Cycle) (before now : Known) : Type 0 where
+  pub event : Event
+  pub of_phaser : event.p.0 ≡ p
+  pub supposed : List Status
+  pub store : Known
+  pub judges : Judges list event supposed before store
+  pub dead : InEachByLock store (λ s. WouldBeDead s (task_of store.view) event)
+  pub possible : IsPossibleByLock store
+  pub explains : ExplainsDeath supposed (task_of store.view) cycle
+  pub others :
+      (u : TaskId) (e : Event) → Contains cycle.tasks u → u.0 ≢ task_of store.view → IsListedOn supposed u.0 e →
+      InEachByLock store (λ s. s.published u.0 ≡ Some e)
+  pub stored : Known
+  pub step : MakesStep (Refuses p) store stored
+  pub free : Known
+  pub freed : FreesLock stored free
+  pub drops : DropsBelow (own_phase store.view) (length store.view.plan.makers) free now
+
+-- what was decided on the own await of p
+abbrev pub IsDecided : List Status → ℕ → Known → Known → Decision → Type 0
+IsDecided list p before now (Published e) = e.p.0 ≡ p × HasPublished list e before now
+IsDecided list p before now (Refused c) = HasRefused list p c before now
+
+-- nothing was decided: loads were made, and the lock was freed
+pub record IsUndecided (before now : Known) : Type 0 where
+  pub between : Known
+  pub goes_on : GoesOn before between
+  pub freed : FreesLock between now

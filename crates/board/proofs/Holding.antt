@@ -1,0 +1,138 @@
+-- What a taking, a freeing, a try for the lock and a refusal make of a seat's own facts.
+use Rattle.std.proofs.Common.{◌≡◌, ℕ, ◌+◌, ◌<◌, ◌≤◌, Bool, true, false, Option, Some, None, length, sym, refl, ap, ◌∙◌, subst, arith, length-set}
+use Rattle.std.specs.Prelude.{unwrap_or}
+use Rattle.atomic_table.specs.Seated.{TableId}
+use Rattle.armus_base.specs.declared.event.Event.{Event}
+use Rattle.armus_base.specs.Limits.{max_tasks}
+use Rattle.armus_base.specs.Plans.{Plan, Refuses}
+use Rattle.armus_base.specs.Runs.{Place, next_place}
+use Rattle.armus_base.specs.Places.{published_after}
+use Rattle.armus_base.specs.Seats.{AvoidsByWhatIsSeen}
+use Rattle.board.specs.declared.mode.Mode.{Mode}
+use Rattle.board.specs.declared.view.View.{View}
+use Rattle.board.specs.Views.{action_after, next_action, own_place, place_in, seen, task_of}
+use Rattle.board.specs.Steps.{after_action}
+use Rattle.board.specs.Seats.{Frame, IsOf, IsSeat, Known, MakesStep, event_of}
+use Rattle.board.specs.Sitting.{IsSitting}
+use Rattle.board.specs.Locking.{FindsHeld, FreesLock, IsWithLock, MayRefuse, MeetsHolder, TakesLock, with_lock}
+use Rattle.board.proofs.Sights.{seen_stepped}
+use Rattle.board.proofs.Loaded.{loaded_seat, loads_sitting}
+use Rattle.board.proofs.Seated.{event_here, place_next}
+
+-- a seat stays one with the lock or without it
+pub locked_seat : (table table' : TableId) (v w : View) (held : Bool) → IsSeat (record { table = table; view = v }) → w ≡ with_lock held v → IsSeat (record { table = table'; view = w })
+locked_seat table table' v w held seat is =
+    subst (λ (u : View). IsSeat (record { table = table'; view = u })) (sym is)
+    (record { live = seat.live; checked = seat.checked; count = seat.count; few = seat.few; own = seat.own })
+
+pub locked_sitting :
+    (table table' : TableId) (v w : View) (t n : ℕ) (o : Option Event) (held : Bool) → IsSitting t n o (record { table = table; view = v }) → w ≡ with_lock held v →
+    IsSitting t n o (record { table = table'; view = w })
+locked_sitting table table' v w t n o held s is =
+    let same : event_of (record { table = table'; view = with_lock held v }) ≡ event_of (record { table = table; view = v }) =
+    event_here (record { table = table'; view = with_lock held v }) t s.task ∙ sym (event_here (record { table = table; view = v }) t s.task) in
+    subst (λ (u : View). IsSitting t n o (record { table = table'; view = u })) (sym is)
+    (record {
+      task = s.task;
+      seat = locked_seat table table' v (with_lock held v) held s.seat refl;
+      scanned_is = s.scanned_is;
+      event = s.event ∙ sym same;
+      idle = λ e. s.idle (sym same ∙ e);
+    })
+
+pub takes_lock :
+    (table table' : TableId) (v w : View) → IsSeat (record { table = table; view = v }) → w ≡ with_lock true v → IsWithLock v.plan (task_of v) (seen w) → table' ≡ table →
+    TakesLock (record { table = table; view = v }) (record { table = table'; view = w })
+takes_lock table table' v w seat is was same = record { view = is; was = was; table = same; kept = locked_seat table table' v w true seat is }
+
+pub frees_lock :
+    (table table' : TableId) (v w : View) → IsSeat (record { table = table; view = v }) → w ≡ with_lock false v → table' ≡ table →
+    FreesLock (record { table = table; view = v }) (record { table = table'; view = w })
+frees_lock table table' v w seat is same = record { view = is; table = same; kept = locked_seat table table' v w false seat is }
+
+few_met : (table : TableId) (v w : View) (mode : Mode) (h : ℕ) → IsSeat (record { table = table; view = v }) → MeetsHolder v.plan mode h v w → (seen w).scanned ≤ length v.plan.parents
+few_met table v w mode h seat m = subst (λ k. k ≤ length v.plan.parents) (sym m.seen_now.scanned) seat.few
+
+pub finds_held :
+    (table table' : TableId) (v w : View) (h : ℕ) → IsSeat (record { table = table; view = v }) → MeetsHolder v.plan v.mode h v w → table' ≡ table →
+    FindsHeld h (record { table = table; view = v }) (record { table = table'; view = w })
+finds_held table table' v w h seat m same =
+    record { meets = m; table = same; kept = loaded_seat table table' v w seat m.same m.seen_now.place.exact (few_met table v w v.mode h seat m) }
+
+pub met_sitting :
+    (table table' : TableId) (v w : View) (t n h : ℕ) (o : Option Event) → IsSitting t n o (record { table = table; view = v }) → MeetsHolder v.plan v.mode h v w →
+    IsSitting t n o (record { table = table'; view = w })
+met_sitting table table' v w t n h o s m =
+    loads_sitting table table' v w t n n o v.mode (λ s. Unit {0}) s m.same m.seen_now.place.exact m.was.was (few_met table v w v.mode h s.seat m) (s.scanned_is ∙ sym m.seen_now.scanned) s.idle
+
+-- the number of a holder is small
+pub holder_small : (table : TableId) (v w : View) (mode : Mode) (h : ℕ) → IsSeat (record { table = table; view = v }) → MeetsHolder v.plan mode h v w → h < max_tasks + 1
+holder_small table v w mode h seat m = (let a = m.within in let b = seat.checked.limits.few_tasks in omega arith)
+
+-- the place after a refusal
+refused_done : (k : ℕ) (o : Option ℕ) (p : ℕ) → (next_place k o (Refuses p)).done ≡ k
+refused_done k None p = refl
+refused_done k (Some d) p = refl
+
+module _ (table table' : TableId) (v w : View) (p : ℕ) (seat : IsSeat (record { table = table; view = v })) (within : task_of v < length v.sight.places) (is : w ≡ after_action (Refuses p) v) where
+  pub refused_seat : IsSeat (record { table = table'; view = w })
+  refused_seat =
+      subst (λ (u : View). IsSeat (record { table = table'; view = u })) (sym is)
+      (record {
+        live = seat.live;
+        checked = seat.checked;
+        count = length-set v.sight.places (task_of v) (next_place (own_place v).done (own_place v).dropped (Refuses p)) ∙ seat.count;
+        few = seat.few;
+        own = seat.own;
+      })
+
+  pub refuses_step : table' ≡ table → MakesStep (Refuses p) (record { table = table; view = v }) (record { table = table'; view = w })
+  refuses_step same =
+      record {
+        seen_now = ap seen is ∙ seen_stepped (Refuses p) v within;
+        same = record {
+          plan = ap (λ (u : View). u.plan) is;
+          mode = ap (λ (u : View). u.mode) is;
+          own = ap (λ (u : View). u.own) is;
+          holds = ap (λ (u : View). u.holds) is;
+          spent = ap (λ (u : View). u.spent) is;
+          count = ap (λ (u : View). length u.sight.places) is ∙ length-set v.sight.places (task_of v) (next_place (own_place v).done (own_place v).dropped (Refuses p));
+        };
+        loads = ap (λ (u : View). u.loads) is;
+        table = same;
+        kept = refused_seat;
+      }
+
+  pub refuses_sitting : (t n : ℕ) (o : Option Event) → IsSitting t n o (record { table = table; view = v }) → IsSitting t n o (record { table = table'; view = w })
+  refuses_sitting t n o s =
+      let k : Known = record { table = table; view = v } in
+      let same : event_of (record { table = table'; view = w }) ≡ event_of k =
+      ap (λ (u : View). event_of (record { table = table'; view = u })) is
+      ∙ event_here (record { table = table'; view = after_action (Refuses p) v }) t s.task
+      ∙ ap (λ (b : Place). published_after v.plan (task_of v) b.done) (place_next v (Refuses p) within)
+      ∙ ap (published_after v.plan (task_of v)) (refused_done (own_place v).done (own_place v).dropped p)
+      ∙ sym (event_here k t s.task) in
+      record {
+        task = ap (λ (u : View). u.own) is ∙ s.task;
+        seat = refused_seat;
+        scanned_is = s.scanned_is ∙ sym (ap (λ (u : View). u.sight.scanned) is);
+        event = s.event ∙ sym same;
+        idle = λ e. s.idle (sym same ∙ e);
+      }
+
+-- what is asked of who refuses, by the board's own plan
+pub may_refuse_here :
+    (k : Known) (f : Frame) (t p : ℕ) → IsOf k f → k.view.own ≡ Some t → MayRefuse k p → AvoidsByWhatIsSeen f.plan t (seen k.view) (Refuses p)
+may_refuse_here k f t p of own may =
+    subst (λ (q : Plan). AvoidsByWhatIsSeen q t (seen k.view) (Refuses p)) of.plan
+    (subst (λ u. AvoidsByWhatIsSeen k.view.plan u (seen k.view) (Refuses p)) (ap (λ o. unwrap_or o 0) own) may)
+
+-- what comes next stays so where the lock was found taken
+pub busy_next : (k m : Known) (h t : ℕ) → k.view.own ≡ Some t → FindsHeld h k m → next_action m.view ≡ next_action k.view
+busy_next k m h t own busy =
+    let same = busy.meets.same in
+    let task : task_of m.view ≡ task_of k.view = ap (λ o. unwrap_or o 0) same.own in
+    let is_t : task_of k.view ≡ t = ap (λ o. unwrap_or o 0) own in
+    let here : own_place m.view ≡ own_place k.view =
+    ap (place_in m.view.sight.places) (task ∙ is_t) ∙ busy.meets.seen_now.place.others t (λ e. busy.meets.other (own ∙ ap Some e)) ∙ ap (place_in k.view.sight.places) (sym is_t) in
+    λ i. action_after (same.plan i) (task i) (here i).done (here i).dropped

@@ -1,0 +1,67 @@
+use Rattle.std.proofs.Common.{ℕ, ◌<◌, sym, refl, ap, ◌∙◌, subst, subst₂}
+use mathlib.Core.Option.{none}
+use Rattle.atomic_table.specs.Table.{Allows, step}
+use Rattle.armus_base.specs.declared.event.Event.{Event}
+use Rattle.armus_base.specs.Plans.{Blocks, Refuses}
+use Rattle.board.specs.Rule.{IsKept}
+use Rattle.board.specs.Views.{avoids, next_action, seen, task_of}
+use Rattle.board.specs.Seats.{Frame, IsOf, Known, MakesStep}
+use Rattle.board.specs.Locking.{IsWithLock, MayRefuse, Refused}
+use Rattle.board.specs.Steps.{own_phase}
+use Rattle.board.proofs.Stores.{refuses}
+use Rattle.board.proofs.Seated.{own_small, task_inside}
+use Rattle.board.proofs.Holding.{may_refuse_here, refuses_sitting, refuses_step}
+use Rattle.board.proofs.task_seat.TaskSeat.refuse.Goals as goal
+
+pub member_phase-phase-requires-clause-member : goal.member_phase-phase-requires-clause-member
+member_phase-phase-requires-clause-member c = record { action = Blocks c.args.p.0; next = c.requires.next; by_member = refl }
+
+pub await_index-index-requires : goal.await_index-index-requires
+await_index-index-requires c =
+    let i = c.self.invariant.sitting in
+    own_small _ _ _ i.seat (subst (λ k. IsOf k c.args.board.now) (sym (c.self.view_is ∙ c.member_phase-phase.ensures.seat)) c.requires.made) i.task
+
+pub store-requires : goal.store-requires
+store-requires c =
+    let b = c.board.view_is in
+    let s = c.self.view_is ∙ c.member_phase-phase.ensures.seat in
+    let i = c.self.invariant.sitting in
+    let o = subst₂ IsOf (sym s) (sym b) c.requires.made in
+    let key = c.board.inside.cells.shared.key in
+    let slots = c.board.inside.cells.shared.table_id.slots in
+    let id = c.self.inside.place.id in
+    let me = c.self.inside.place.me in
+    let t = c.self.inside.task.0 in
+    let p = c.args.p.0 in
+    let w = c.refused_number-word.result in
+    let e : Event = record { p = c.args.p; n = c.member_phase-phase.result } in (
+      o.table,
+      subst (λ (f : Frame). c.await_index-index.result < f.table.words) (sym b) c.await_index-index.ensures.inside,
+      subst (λ (n : ℕ). Allows (IsKept key) slots id me n (λ _. w) (λ _. Refused (step slots n w 0 none) me w)) (sym c.await_index-index.ensures.index)
+          (refuses key.plan.value key.mode slots id me t p w e i.task i.seat.live (ap (λ (k : Known). k.view.holds) s ∙ c.requires.locked)
+          (ap avoids (sym o.mode) ∙ ap (λ (k : Known). avoids k.view.mode) s ∙ c.requires.avoids)
+          (may_refuse_here _ _ t p o i.task (subst (λ (k : Known). MayRefuse k p) (sym s) c.requires.dead))
+          (ap (λ (k : Known). next_action k.view) s ∙ c.requires.next)
+          (ap (λ (k : Known). own_phase k.view p) s ∙ c.member_phase-phase.ensures.phase) refl c.refused_number-word.ensures),
+    )
+
+pub invariant_of-self : goal.invariant_of-self
+invariant_of-self c =
+    let i = c.self.invariant.sitting in
+    let s = c.self.view_is ∙ c.member_phase-phase.ensures.seat in record {
+      no_slot = c.store.ensures.2.0 ∙ c.self.invariant.no_slot;
+      sitting = refuses_sitting c.self.inside.place.table_id c.store.new.seat.table_id c.self.inside.place.me.0 c.store.new.seat.me.0 c.args.p.0 i.seat (task_inside _ _ i.seat i.task)
+          (c.store.ensures.2.1 c.args.p.0 (ap (λ (k : Known). next_action k.view) s ∙ c.requires.next)) _ _ _ i;
+    }
+
+pub returns-clause-step : goal.returns-clause-step
+returns-clause-step c =
+    let i = c.self.invariant.sitting in
+    let s = c.self.view_is ∙ c.member_phase-phase.ensures.seat in
+    subst (λ (k : Known). MakesStep (Refuses c.args.p.0) k (record { table = c.store.new.seat.table_id; view = c.store.new.seat.me.0 })) s
+    (refuses_step c.self.inside.place.table_id c.store.new.seat.table_id c.self.inside.place.me.0 c.store.new.seat.me.0 c.args.p.0 i.seat (task_inside _ _ i.seat i.task)
+    (c.store.ensures.2.1 c.args.p.0 (ap (λ (k : Known). next_action k.view) s ∙ c.requires.next)) c.store.ensures.0)
+
+pub returns-clause-was : goal.returns-clause-was
+returns-clause-was c =
+    subst (λ (k : Known). IsWithLock k.view.plan (task_of k.view) (seen k.view)) (c.self.view_is ∙ c.member_phase-phase.ensures.seat) c.store.ensures.2.2

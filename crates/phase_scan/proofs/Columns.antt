@@ -1,0 +1,114 @@
+-- Columns of phases, one load more, and what they leave as it was.
+use mathlib.Core.Path.{fun_ext}
+use Rattle.std.proofs.Common.{◌≡◌, ℕ, zero, suc, ◌<◌, ◌≤◌, ◌+◌, Bool, true, false, List, Option, None, length, set, sym, refl, ap, ◌∙◌, subst, arith, add-one, get_or-set_same, get_or-set_other, inl, inr}
+use Rattle.std.specs.Prelude.{is_some}
+use Rattle.std.proofs.lemmas.Bool.{cases_eq}
+use Rattle.armus_base.specs.declared.event.Event.{Event}
+use Rattle.armus_base.specs.Plans.{Plan}
+use Rattle.armus_base.specs.States.{updated}
+use Rattle.armus_base.proofs.Steps.{updated_other, updated_same}
+use Rattle.board.specs.Views.{seen}
+use Rattle.board.specs.Seats.{AnswersPhase, IsSeat, Known}
+use Rattle.phase_scan.specs.Looks.{GoesOn}
+use Rattle.phase_scan.specs.Collects.{IfAsked}
+use Rattle.phase_scan.specs.Supposed.{LoadsColumn}
+use Rattle.phase_scan.specs.Tables.{phase_in}
+use Rattle.phase_scan.proofs.Loads.{goes_both, goes_itself, load_goes, phase_load}
+
+-- a write sets one phase of a column
+pub column_set : (column : List (Option ℕ)) (t : ℕ) (c : Option ℕ) → t < length column → phase_in (set column t c) ≡ updated (phase_in column) t c
+column_set column t c within = fun_ext (λ u. elim (cases_eq u t) [
+  | inl e ↦
+      ap (phase_in (set column t c)) e ∙ get_or-set_same column t c None within
+      ∙ sym (updated_same (phase_in column) t u c e)
+  | inr n ↦ get_or-set_other column t u c None n ∙ sym (updated_other (phase_in column) t u c n)
+])
+
+module _ (events : ℕ → Option Event) (p : ℕ) where
+  column_same : (f g : ℕ → Option ℕ) (n : ℕ) (k m : Known) → ((t : ℕ) → t < n → f t ≡ g t) → LoadsColumn events p f n k m → LoadsColumn events p g n k m
+  column_same f g zero k m same loads = loads
+  column_same f g (suc n) k m same (between, before, made) = (
+    between,
+    column_same f g n k between (λ t l. same t (omega arith)) before,
+    subst (λ o. IfAsked (is_some (events n)) (AnswersPhase n p o) between m) (same n (omega arith)) made,
+  )
+
+  -- with one load more, and without one
+  pub column_more :
+      (f g : ℕ → Option ℕ) (t : ℕ) (answer : Option ℕ) (k j m : Known) → LoadsColumn events p f t k j → is_some (events t) ≡ true →
+      AnswersPhase t p answer j m → g ≡ updated f t answer → LoadsColumn events p g (t + 1) k m
+  column_more f g t answer k j m before waits answers is =
+      subst (λ n. LoadsColumn events p g n k m) (sym (add-one t)) (
+        j,
+        column_same f g t k j (λ u l. sym (updated_other f t u answer (λ e. absurd (omega arith))) ∙ ap (λ h. h u) (sym is)) before,
+        subst (λ b. IfAsked b (AnswersPhase t p (g t)) j m) (sym waits)
+            (subst (λ o. AnswersPhase t p o j m) (sym (ap (λ h. h t) is ∙ updated_same f t t answer refl)) answers),
+      )
+
+  pub column_skip :
+      (f : ℕ → Option ℕ) (t : ℕ) (k m : Known) → LoadsColumn events p f t k m → is_some (events t) ≡ false → LoadsColumn events p f (t + 1) k m
+  column_skip f t k m before idle =
+      subst (λ n. LoadsColumn events p f n k m) (sym (add-one t)) (m, before, subst (λ b. IfAsked b (AnswersPhase t p (f t)) m m) (sym idle) refl)
+
+  -- a column is loads alone, which leave the finds
+  pub record GoesDown (k m : Known) : Type 0 where
+    pub goes : GoesOn k m
+    pub finds : (u : ℕ) → (seen m.view).found u ≡ (seen k.view).found u
+
+  down_itself : (k m : Known) → IsSeat k → m ≡ k → GoesDown k m
+  down_itself k m seat same = subst (GoesDown k) (sym same) (record { goes = goes_itself k seat; finds = λ u. refl })
+
+  down_if :
+      (b : Bool) (t : ℕ) (answer : Option ℕ) (k m : Known) → IsSeat k → t < length k.view.plan.parents → IfAsked b (AnswersPhase t p answer) k m → GoesDown k m
+  down_if true t answer k m seat small made =
+      record { goes = load_goes t k m (phase_load k m t p answer small made); finds = made.load.seen_now.found }
+  down_if false t answer k m seat small made = down_itself k m seat made
+
+  module _ (plan : Plan) (column : ℕ → Option ℕ) where
+    small_of : (k m : Known) (t : ℕ) → k.view.plan ≡ plan → GoesOn k m → t < length plan.parents → t < length m.view.plan.parents
+    small_of k m t of goes small = subst (λ (q : Plan). t < length q.parents) (sym (goes.same.plan ∙ of)) small
+
+    pub column_goes : (n : ℕ) (k m : Known) → k.view.plan ≡ plan → n ≤ length plan.parents → IsSeat k → LoadsColumn events p column n k m → GoesDown k m
+    column_goes zero k m of few seat same = down_itself k m seat same
+    column_goes (suc t) k m of few seat (between, before, made) =
+        let x = column_goes t k between of (omega arith) seat before in
+        let y = down_if (is_some (events t)) t (column t) between m x.goes.kept (small_of k between t of x.goes (omega arith)) made in
+        record { goes = goes_both k between m x.goes y.goes; finds = λ u. y.finds u ∙ x.finds u }
+
+    -- the load of one of them
+    pub record ColumnLoad (t : ℕ) (k m : Known) : Type 0 where
+      pub from : Known
+      pub to : Known
+      pub goes_from : GoesOn k from
+      pub load : AnswersPhase t p (column t) from to
+      pub small : t < length from.view.plan.parents
+      pub goes_to : GoesOn to m
+
+    pub column_of :
+        (n : ℕ) (k m : Known) → k.view.plan ≡ plan → n ≤ length plan.parents → IsSeat k → LoadsColumn events p column n k m → (t : ℕ) → t < n →
+        is_some (events t) ≡ true → ColumnLoad t k m
+    column_of zero k m of few seat loads t l is = absurd (omega arith)
+    column_of (suc n) k m of few seat (between, before, made) t l is =
+        let goes = (column_goes n k between of (omega arith) seat before).goes in
+        let within = small_of k between n of goes (omega arith) in
+        let last = (down_if (is_some (events n)) n (column n) between m goes.kept within made).goes in
+        elim (cases_eq t n) [
+          | inl e ↦ record {
+            from = between;
+            to = m;
+            goes_from = goes;
+            load = subst (λ x. AnswersPhase x p (column x) between m) (sym e)
+                (subst (λ b. IfAsked b (AnswersPhase n p (column n)) between m) (ap (λ x. is_some (events x)) (sym e) ∙ is) made);
+            small = subst (λ x. x < length between.view.plan.parents) (sym e) within;
+            goes_to = goes_itself m last.kept;
+          }
+          | inr ne ↦
+              let one = column_of n k between of (omega arith) seat before t (omega arith) is in record {
+                from = one.from;
+                to = one.to;
+                goes_from = one.goes_from;
+                load = one.load;
+                small = one.small;
+                goes_to = goes_both one.to between m one.goes_to last;
+              }
+        ]

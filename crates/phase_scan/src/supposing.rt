@@ -1,0 +1,206 @@
+// What was found, with the status that a task would have.
+ghost use Rattle.std.specs.Prelude.{◌≡◌, ◌≢◌, ℕ, ◌<◌, ◌≤◌, Some, None, true, false, IfOk, OnErr, length, vec_len};
+ghost use Rattle.armus_base.specs.Finals.{given_below, listed_phase};
+ghost use Rattle.armus_base.specs.States.{updated};
+ghost use Rattle.board.specs.Seats.{IsOf};
+ghost use Rattle.board.specs.Steps.{own_phase};
+ghost use Rattle.phase_scan.specs.Supposed.{LoadsColumn};
+ghost use Rattle.phase_scan.specs.Tables.{awaited_found, event_at, phase_in, state_found, state_supposed, status_found};
+
+use crate::findings::Findings;
+use armus_base::{Event, List, Member, NoMemory, Phase, PhaserId, Status, TaskId};
+use board::{Board, Loads, TaskSeat};
+use std::alloc::Global;
+
+// Keeps the phase of a task in a column.
+fn keep(column: &mut Vec<Option<Phase>>, t: TaskId, phase: Option<Phase>)
+    requires task { t.0 < length column.old.items }
+    ensures count { length column.new.items ≡ length column.old.items }
+    ensures set { phase_in column.new.items ≡ updated (phase_in column.old.items) t.0 phase }
+{
+    column[t.0 as usize] = phase;
+}
+
+impl Findings {
+    /// Loads the phase on `p` of each task found waiting, in order.
+    pub(crate) fn load_column(
+        &self,
+        alloc: Global,
+        seat: &mut TaskSeat,
+        board: &Board,
+        p: PhaserId,
+    ) -> Result<Vec<Option<Phase>>, NoMemory>
+        requires made { IsOf seat.old board.now }
+        requires tasks { self.now.tasks ≡ length board.now.plan.parents }
+        requires phaser { p.0 < length board.now.plan.makers }
+        ensures made { IsOf seat.new board.now }
+        ensures err { OnErr result (seat.new ≡ seat.old) }
+        ensures count { IfOk result (λ column. length column.items ≡ self.now.tasks) }
+        ensures loads { IfOk result (λ column. LoadsColumn (event_at self.now.events.items) p.0 (phase_in column.items) self.now.tasks seat.old seat.new) }
+    {
+        let mut column = vec![in alloc; None; self.tasks as usize]?;
+        for number in 0..self.tasks {
+            if self.events[number as usize].is_some() {
+                let found = seat.load_phase(board, TaskId(number), p);
+                keep(&mut column, TaskId(number), found);
+            }
+        }
+        Ok(column)
+    }
+
+    // The phase of a task on `q` that was found, where `q` was found awaited or is `p`, on which this was found.
+    fn listed_with(
+        &self,
+        t: TaskId,
+        q: PhaserId,
+        p: PhaserId,
+        found: Option<Phase>,
+    ) -> Option<Member>
+        requires task { t.0 < self.now.tasks }
+        requires phaser { q.0 < self.now.phasers }
+        ensures { result ≡ listed_phase (updated (awaited_found self.now) p.0 true) (updated ((state_found self.now).phases t.0) p.0 found) q.0 }
+    {
+        if q.0 != p.0 {
+            return self.listed(t, q);
+        }
+        match found {
+            Some(n) => Some(Member { p: q, n }),
+            None => None,
+        }
+    }
+
+    // The phases of a task that were found, with that on `p`.
+    fn members_with(
+        &self,
+        alloc: Global,
+        t: TaskId,
+        p: PhaserId,
+        found: Option<Phase>,
+    ) -> Result<Vec<Member>, NoMemory>
+        requires task { t.0 < self.now.tasks }
+        ensures { IfOk result (λ list. list.items ≡ given_below (listed_phase (updated (awaited_found self.now) p.0 true) (updated ((state_found self.now).phases t.0) p.0 found)) self.now.phasers) }
+    {
+        let mut members = Vec::new(alloc);
+        for q in 0..self.phasers {
+            match self.listed_with(t, PhaserId(q), p, found) {
+                Some(member) => members.push(member)?,
+                None => {}
+            }
+        }
+        Ok(members)
+    }
+
+    // The own phase on `q`, where `q` was found awaited or is `p`.
+    fn own_listed(
+        &self,
+        seat: &mut TaskSeat,
+        board: &Board,
+        q: PhaserId,
+        p: PhaserId,
+    ) -> Option<Member>
+        requires made { IsOf seat.old board.now }
+        requires phasers { self.now.phasers ≡ length board.now.plan.makers }
+        requires phaser { q.0 < self.now.phasers }
+        ensures seat { seat.new ≡ seat.old }
+        ensures listed { result ≡ listed_phase (updated (awaited_found self.now) p.0 true) (own_phase seat.old.view) q.0 }
+    {
+        if q.0 != p.0 {
+            if !self.awaited[q.0 as usize] {
+                return None;
+            }
+        }
+        match seat.phase(board, q) {
+            Some(n) => Some(Member { p: q, n }),
+            None => None,
+        }
+    }
+
+    // The own phases, on the phasers found awaited and on `p`.
+    fn own_members(
+        &self,
+        alloc: Global,
+        seat: &mut TaskSeat,
+        board: &Board,
+        p: PhaserId,
+    ) -> Result<Vec<Member>, NoMemory>
+        requires made { IsOf seat.old board.now }
+        requires phasers { self.now.phasers ≡ length board.now.plan.makers }
+        ensures seat { seat.new ≡ seat.old }
+        ensures members { IfOk result (λ list. list.items ≡ given_below (listed_phase (updated (awaited_found self.now) p.0 true) (own_phase seat.old.view)) self.now.phasers) }
+    {
+        let mut members = Vec::new(alloc);
+        for q in 0..self.phasers {
+            match self.own_listed(seat, board, PhaserId(q), p) {
+                Some(member) => members.push(member)?,
+                None => {}
+            }
+        }
+        Ok(members)
+    }
+
+    // The status of task `u`, where task `t` has published the event.
+    fn status_with(
+        &self,
+        alloc: Global,
+        seat: &mut TaskSeat,
+        board: &Board,
+        t: TaskId,
+        event: Event,
+        column: &[Option<Phase>],
+        u: TaskId,
+    ) -> Result<Option<Status>, NoMemory>
+        requires made { IsOf seat.old board.now }
+        requires phasers { self.now.phasers ≡ length board.now.plan.makers }
+        requires task { u.0 < self.now.tasks }
+        requires count { length column.now ≡ self.now.tasks }
+        ensures seat { seat.new ≡ seat.old }
+        ensures status { IfOk result (λ o. o ≡ status_found self.now.phasers (state_supposed (state_found self.now) t.0 event (own_phase seat.old.view) (phase_in column.now)) (updated (awaited_found self.now) event.p.0 true) u.0) }
+    {
+        if u.0 == t.0 {
+            let phases = self.own_members(alloc, seat, board, event.p)?;
+            return Ok(Some(Status {
+                t: u,
+                event,
+                phases: List::from_vec(phases),
+            }));
+        }
+        match self.events[u.0 as usize] {
+            Some(waits) => {
+                let found = column[u.0 as usize];
+                let phases = self.members_with(alloc, u, event.p, found)?;
+                Ok(Some(Status {
+                    t: u,
+                    event: waits,
+                    phases: List::from_vec(phases),
+                }))
+            }
+            None => Ok(None),
+        }
+    }
+
+    /// The statuses of what was found, where task `t` has published the event, with this column of phases on the event's phaser.
+    pub(crate) fn supposed(
+        &self,
+        alloc: Global,
+        seat: &mut TaskSeat,
+        board: &Board,
+        t: TaskId,
+        event: Event,
+        column: &[Option<Phase>],
+    ) -> Result<List<Status>, NoMemory>
+        requires made { IsOf seat.old board.now }
+        requires phasers { self.now.phasers ≡ length board.now.plan.makers }
+        requires count { length column.now ≡ self.now.tasks }
+        ensures seat { seat.new ≡ seat.old }
+        ensures statuses { IfOk result (λ list. list ≡ given_below (status_found self.now.phasers (state_supposed (state_found self.now) t.0 event (own_phase seat.old.view) (phase_in column.now)) (updated (awaited_found self.now) event.p.0 true)) self.now.tasks) }
+    {
+        let mut statuses = Vec::new(alloc);
+        for number in 0..self.tasks {
+            match self.status_with(alloc, seat, board, t, event, column, TaskId(number))? {
+                Some(status) => statuses.push(status)?,
+                None => {}
+            }
+        }
+        Ok(List::from_vec(statuses))
+    }
+}
