@@ -22,7 +22,7 @@ use Rattle.board.specs.Steps.{IsSameSeat, WasSo}
 use Rattle.board.specs.Seats.{AnswersAwait, AnswersPhase, IsSeat, Known, event_of}
 use Rattle.board.proofs.Ranges.{phaser_of_member}
 use Rattle.board.proofs.Loaded.{event_stays}
-use Rattle.phase_scan.specs.Looks.{GoesOn, InEachLawful}
+use Rattle.phase_scan.specs.Looks.{GoesOn, InEachLawful, ScansTo}
 
 some_same : (u w : ℕ) → Some u ≡ Some w → u ≡ w
 some_same u w e = cc
@@ -270,6 +270,24 @@ scans_on k m e t answer is at load not_behind =
     load.load.seen_now.scanned
     ∙ (λ i. scanned_after (is i) (at i) t e.p.0 answer)
     ∙ (λ i. if eq-eqb e.p.0 e.p.0 refl i && eq-eqb t t refl i && not_behind i then suc t else t)
+
+-- a seat that has made no load yet
+pub scans_none : (e : Event) (k : Known) → ScansTo e (seen k.view).scanned k k
+scans_none e k = record { count = 0; up_to = omega arith; loads = refl }
+
+pub scans_to : {e : Event} {t u : ℕ} {a k : Known} → ScansTo e t a k → t ≡ u → ScansTo e u a k
+scans_to s same = record { count = s.count; up_to = s.up_to ∙ same; loads = s.loads }
+
+-- one load more, of the word of the next task
+pub scans_next :
+    (e : Event) (t : ℕ) (a k m : Known) (answer : Option ℕ) → ScansTo e t a k → is_not_behind answer e ≡ true → AnswersPhase t e.p.0 answer k m →
+    ScansTo e (t + 1) a m
+scans_next e t a k m answer s not_behind load =
+    record {
+      count = suc s.count;
+      up_to = (let at = s.up_to in omega arith);
+      loads = (k, s.loads, answer, not_behind, subst (λ u. AnswersPhase u e.p.0 answer k m) (sym s.up_to) load);
+    }
 
 -- where all are scanned the event is reached, wherever the run goes
 pub reached_all : (k : Known) (e : Event) → IsSeat k → event_of k ≡ Some e → (seen k.view).scanned ≡ length k.view.plan.parents → InEachLawful k (λ s. IsReached s e)

@@ -1,11 +1,12 @@
 -- What a look tells.
-use Rattle.std.specs.Prelude.{◌≡◌, ℕ, ◌<◌, ◌≤◌, true, Option, Some, length}
+use Rattle.std.specs.Prelude.{◌≡◌, ℕ, ◌+◌, ◌<◌, ◌≤◌, true, Option, Some, length}
+use Rattle.std.proofs.Common.{zero, suc}
 use Rattle.armus_base.specs.declared.event.Event.{Event}
 use Rattle.armus_base.specs.States.{State, IsReached}
 use Rattle.armus_base.specs.Runs.{Place, IsPrefix}
 use Rattle.armus_base.specs.Places.{state_at}
 use Rattle.armus_base.specs.Boards.{IsLawful}
-use Rattle.armus_base.specs.Seats.{IsAsFarOn}
+use Rattle.armus_base.specs.Seats.{IsAsFarOn, is_not_behind}
 use Rattle.board.specs.Views.{avoids, seen}
 use Rattle.board.specs.Steps.{IsSameSeat}
 use Rattle.board.specs.Seats.{Known, IsSeat, AnswersPhase, event_of}
@@ -30,17 +31,35 @@ InEachLawful seat Holds =
     (a : ℕ → Place) (lock : Option ℕ) → IsLawful (avoids seat.view.mode) seat.view.plan a lock →
     IsAsFarOn seat.view.plan seat.view.own a (seen seat.view) → Holds (state_at seat.view.plan a)
 
--- all tasks are scanned, and the awaited event is reached wherever the run goes
+-- the loads of the words of the event's phaser of n tasks, from task k upward, in order: each was found no member, or not behind
+abbrev pub LoadsAhead : Event → ℕ → ℕ → Known → Known → Type 0
+LoadsAhead e k zero before now = now ≡ before
+LoadsAhead e k (suc n) before now =
+    (between : Known) × LoadsAhead e k n before between
+    × (found : Option ℕ) × is_not_behind found e ≡ true × AnswersPhase (k + n) e.p.0 found between now
+
+-- the seat has made the loads from the task that is scanned next up to the one before task t, and no others
+pub record ScansTo (e : Event) (t : ℕ) (before now : Known) : Type 0 where
+  pub count : ℕ
+  pub up_to : (seen before.view).scanned + count ≡ t
+  pub loads : LoadsAhead e (seen before.view).scanned count before now
+
+-- the words of all further tasks were loaded, all tasks are scanned, and the awaited event is reached wherever the run goes
 pub record FindsReached (before now : Known) : Type 0 where
+  pub event : Event
+  pub published : event_of before ≡ Some event
+  pub scans : ScansTo event (length before.view.plan.parents) before now
   pub scanned : (seen now.view).scanned ≡ length now.view.plan.parents
   pub reached : (e : Event) → event_of before ≡ Some e → InEachLawful now (λ s. IsReached s e)
 
--- the last load of this call found task t a member of the awaited phaser at phase n, below the awaited one, and t is scanned next
+-- the words up to that of task t were loaded; the last of these loads found it a member of the awaited phaser at phase n, below the awaited one, and it
+-- is scanned next
 pub record FindsBehind (t n : ℕ) (before now : Known) : Type 0 where
   pub between : Known
-  pub goes_on : GoesOn before between
   pub event : Event
   pub published : event_of before ≡ Some event
+  pub scans : ScansTo event t before between
+  pub goes_on : GoesOn before between
   pub load : AnswersPhase t event.p.0 (Some n) between now
   pub below : n < event.n
   pub scanned : (seen now.view).scanned ≡ t

@@ -1,7 +1,7 @@
 use Rattle.std.proofs.Common.{◌≡◌, suc, ◌<◌, length, sym, ap, ◌∙◌, subst, arith}
 use Rattle.armus_base.specs.Plans.{Plan}
 use Rattle.board.specs.Views.{seen}
-use Rattle.phase_scan.proofs.Loads.{event_phaser, goes_next, reached_all, scans_on}
+use Rattle.phase_scan.proofs.Loads.{event_phaser, goes_next, reached_all, scans_next, scans_on, scans_to}
 use Rattle.phase_scan.proofs.scan.look.Goals as goal
 
 pub load_phase-found-requires-clause-phaser : goal.load_phase-found-requires-clause-phaser
@@ -27,6 +27,7 @@ loop-number-preserved c =
       goes_on = goes;
       event = goes.event ∙ sym i.goes_on.event ∙ i.event;
       scanned = on ∙ omega arith;
+      scans = scans_next _ _ _ _ _ _ i.scans c.in_default.ensures load;
     }
 
 pub returns-clause-answer : goal.returns-clause-answer
@@ -35,6 +36,9 @@ returns-clause-answer c =
     let seat = c.loop-number.seat in
     let count : c.tasks-tasks.result ≡ length seat.view.plan.parents = c.tasks-tasks.ensures.counted ∙ ap (λ (q : Plan). length q.parents) (sym i.made.plan) in
     let all : (seen seat.view).scanned ≡ length seat.view.plan.parents = (let at = i.scanned in let few = i.goes_on.kept.few in let ended = c.loop-number-test.false in omega arith) in record {
+      event = c.unwrap-event.result;
+      published = sym i.goes_on.event ∙ i.event;
+      scans = scans_to i.scans (sym i.scanned ∙ all ∙ ap (λ (q : Plan). length q.parents) i.goes_on.same.plan);
       scanned = all;
       reached = λ e is. reached_all seat e i.goes_on.kept (i.goes_on.event ∙ is) all;
     }

@@ -1,7 +1,7 @@
 use Rattle.std.proofs.Common.{◌≡◌, Some}
 use Rattle.board.specs.Views.{seen}
 use Rattle.board.specs.Seats.{IsOf, event_of}
-use Rattle.phase_scan.specs.Looks.{GoesOn}
+use Rattle.phase_scan.specs.Looks.{GoesOn, ScansTo}
 use Rattle.phase_scan.proofs.scan.look.Given as goal
 
 abbrev pub invariant-loop-number : goal.invariant-loop-number
@@ -10,4 +10,5 @@ invariant-loop-number l = record {
   goes_on : GoesOn l.initial.seat l.seat;
   event : event_of l.seat ≡ Some l.event;
   scanned : (seen l.seat.view).scanned ≡ l.number;
+  scans : ScansTo l.event l.number l.initial.seat l.seat;
 }
