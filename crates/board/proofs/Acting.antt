@@ -23,6 +23,7 @@ use Rattle.board.specs.Words.{IsShown}
 use Rattle.board.specs.Views.{action_after, avoids, next_action, own_place, place_in, task_of}
 use Rattle.board.specs.Rule.{Fits, IsKeptBy, by_seat, not_yet}
 use Rattle.board.specs.Steps.{after_action, next_view}
+use Rattle.board.proofs.Seating.{one_goes_on, seated_stays}
 use Rattle.board.proofs.Fitting.{IsStep, other_fits, own_fits, state_next, step_lawful}
 
 abbrev T : Type 0
@@ -55,7 +56,7 @@ sits plan mode s l id v t own live found =
       alone = o.alone;
       task = task;
       place = ap (place_in v.sight.places) task ∙ sym (f.far.equal t o.within o.exact);
-      forked = true_unless (forked_at plan (done_by l.places) t) (λ e. seat_steps id (sym o.alone ∙ (l.forks t).0 e));
+      forked = true_unless (forked_at plan (done_by l.places) t) (λ e. seat_steps id (sym o.alone ∙ (l.seated.forks t).0 e));
     }
 
 -- what comes next by the code, at the place of the seat's task
@@ -186,8 +187,8 @@ acts_kept plan mode s l id i n c v t x own live found is_step forked shown =
       checked = l.checked;
       lawful = step_lawful plan mode l.places l.lock t x l.checked l.lawful is_step;
       shown = subst (λ st. IsShown plan st l.lock (set s.words i n)) next shown;
-      forks = λ u. let same : (state_at plan a').forked u ≡ (state_at plan l.places).forked u = sym (ap (λ st. st.forked u) next) ∙ forked u in
-          ((λ e. (l.forks u).0 (sym same ∙ e)), (λ e. same ∙ (l.forks u).1 e));
+      seated = seated_stays plan l.places a' l.steppers s.views (set s.views id (after_action x v)) (one_goes_on s.views id v (after_action x v) found (record { own = refl; spent = refl; exact = λ u is. is }))
+          (λ u. sym (ap (λ st. st.forked u) next) ∙ forked u) l.seated;
       views = λ j u e unspent. elim (at_set s.views id j (after_action x v) u e) [
         | inl w ↦
             subst (λ (z : ℕ × View). Fits plan mode a' l.lock l.steppers z.0 z.1) (λ k. (sym w.0 k, w.1 k))

@@ -27,10 +27,10 @@ use Rattle.board.specs.declared.mode.Setting.{Setting}
 use Rattle.board.specs.declared.view.View.{View}
 use Rattle.board.specs.Words.{IsShown, word_count}
 use Rattle.board.specs.Views.{avoids, is_among, place_in, seen}
-use Rattle.board.specs.Rule.{Fits, IsKept, IsKeptBy, Stepper, by_seat, first, not_yet}
+use Rattle.board.specs.Rule.{Fits, IsKept, IsKeptBy, IsThere, Stepper, by_seat, first, no_more, not_yet}
 use Rattle.board.specs.Closing.{AreAllExact, AreLastOf}
 use Rattle.board.proofs.Showing.{shows_opening}
-use Rattle.board.proofs.Fitting.{none_scanned}
+use Rattle.board.proofs.Fitting.{none_scanned, seat_ends, seats_same}
 use Rattle.board.proofs.Forking.{first_before}
 
 seat_steps : (j : ℕ) → by_seat j ≡ not_yet → ⊥
@@ -56,20 +56,35 @@ opens_kept k words homes checked is =
       lawful = opening_is_lawful (avoids k.mode) plan;
       shown = subst (λ (ws : List ℕ). IsShown plan (state_at plan at_first) None ws) (sym is)
           (subst (λ st. IsShown plan st None (replicate (word_count plan) 0)) (opening_fixed plan checked) (shows_opening plan));
-      forks = λ t. let forked : (t == 0) ≡ forked_at plan (done_by at_first) t = ap (λ st. st.forked t) (opening_fixed plan checked) in
-          elim (cases_eq t 0) [
-            | inl e ↦ (
-              λ no. absurd (false≢true (sym no ∙ sym forked ∙ eq-eqb t 0 e)),
-              λ idle. absurd (seat_steps 0 (sym (updated_same (λ _. not_yet) 0 t (by_seat 0) e) ∙ idle)),
-            )
-            | inr n ↦ (
-              λ no. updated_other (λ _. not_yet) 0 t (by_seat 0) n,
-              λ idle. sym forked ∙ ne_eqb t 0 n,
-            )
-          ];
+      seated = record {
+        forks = λ t. let forked : (t == 0) ≡ forked_at plan (done_by at_first) t = ap (λ st. st.forked t) (opening_fixed plan checked) in
+            elim (cases_eq t 0) [
+              | inl e ↦ (
+                λ no. absurd (false≢true (sym no ∙ sym forked ∙ eq-eqb t 0 e)),
+                λ idle. absurd (seat_steps 0 (sym (updated_same (λ _. not_yet) 0 t (by_seat 0) e) ∙ idle)),
+              )
+              | inr n ↦ (
+                λ no. updated_other (λ _. not_yet) 0 t (by_seat 0) n,
+                λ idle. sym forked ∙ ne_eqb t 0 n,
+              )
+            ];
+        seats = λ t j is. elim (cases_eq t 0) [
+          | inl e ↦
+              let same : 0 ≡ j = seats_same 0 j (sym (updated_same (λ _. not_yet) 0 t (by_seat 0) e) ∙ is) in
+              (first k, subst (λ i. IsThere (first k ∷ []) i (first k)) same (record { found = refl; live = refl }), ap Some (sym e))
+          | inr n ↦ absurd (seat_steps j (sym is ∙ updated_other (λ _. not_yet) 0 t (by_seat 0) n))
+        ];
+        ended = λ t is. elim (cases_eq t 0) [
+          | inl e ↦ absurd (seat_ends 0 (sym (updated_same (λ _. not_yet) 0 t (by_seat 0) e) ∙ is))
+          | inr n ↦ absurd (none_ended (sym (updated_other (λ _. not_yet) 0 t (by_seat 0) n) ∙ is))
+        ];
+      };
       views = each;
     }
   where
+    none_ended : not_yet ≡ no_more → ⊥
+    none_ended e = cc
+
     or_none : (b : Bool) → b ≡ (b || false)
     or_none true = refl
     or_none false = refl

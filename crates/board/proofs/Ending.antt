@@ -9,7 +9,6 @@ use Rattle.atomic_table.proofs.Lists.{at_set}
 use Rattle.armus_base.specs.Plans.{Plan}
 use Rattle.armus_base.specs.States.{updated}
 use Rattle.armus_base.specs.Runs.{IsPrefix, Place, Precedes, first_place}
-use Rattle.armus_base.specs.Places.{done_by, forked_at}
 use Rattle.armus_base.specs.Seats.{IsLonger}
 use Rattle.armus_base.proofs.Steps.{updated_other, updated_same}
 use Rattle.armus_base.proofs.AwaitLoadKeepsFar.{prefixes_both}
@@ -18,6 +17,7 @@ use Rattle.board.specs.declared.view.View.{View}
 use Rattle.board.specs.Views.{is_among, place_in, task_of}
 use Rattle.board.specs.Rule.{Fits, IsKeptBy, Owns, Stepper, by_seat, no_more, not_yet}
 use Rattle.board.specs.Steps.{Counted, are_ahead, are_of_one_run, both, is_prefix, longer, longer_places, may_join, precedes, spent_view, with_seat}
+use Rattle.board.proofs.Seating.{GoesOnAs, as_before, seated_ends}
 use Rattle.board.proofs.Fitting.{seats_same}
 use Rattle.board.proofs.Acting.{sits}
 use Rattle.board.proofs.Loading.{looks_kept}
@@ -287,16 +287,12 @@ takes_in plan mode id v other w t alone live own live_too s l found apart there 
       checked = l.checked;
       lawful = l.lawful;
       shown = l.shown;
-      forks = λ u. elim (cases_eq u t) [
-        | inl e ↦ (
-          λ no. absurd (false≢true (sym no ∙ ap (forked_at plan (done_by l.places)) e ∙ si.forked)),
-          λ idle. absurd (ended_steps (sym (updated_same l.steppers t u no_more e) ∙ idle)),
-        )
-        | inr n ↦ (
-          λ no. updated_other l.steppers t u no_more n ∙ (l.forks u).0 no,
-          λ idle. (l.forks u).1 (sym (updated_other l.steppers t u no_more n) ∙ idle),
-        )
-      ];
+      seated =
+          let goes : GoesOnAs v (with_seat v w) = record { own = refl; spent = refl; exact = λ u is. among_last v.sight.exact w.sight.exact (task_of w) u ∙ ap (λ b. (b || is_among w.sight.exact u) || (u == task_of w)) is } in
+          seated_ends plan l.places l.steppers s.views id other t v w (both v w) spent_view found there_too apart live (subst (GoesOnAs v) joined goes) si.forked own
+          (λ u is. subst (λ (x : View). is_among x.sight.exact u ≡ true) joined (among_last v.sight.exact w.sight.exact (task_of w) u ∙ ap (λ b. b || (u == task_of w)) (or_right (is_among v.sight.exact u) (is_among w.sight.exact u) is)))
+          (subst (λ (x : View). is_among x.sight.exact t ≡ true) joined (among_last v.sight.exact w.sight.exact (task_of w) t ∙ or_right (is_among v.sight.exact t || is_among w.sight.exact t) (t == task_of w) (eq-eqb t (task_of w) (sym si.task))))
+          l.seated;
       views = λ j u e unspent. elim (at_set (set s.views id (both v w)) other j spent_view u e) [
         | inl x ↦ absurd (false≢true (sym unspent ∙ sym (ap (λ (z : View). z.spent) x.1)))
         | inr x ↦ elim (at_set s.views id j (both v w) u x.1) [
@@ -314,7 +310,7 @@ pub counts :
     Allows (IsKeptBy plan mode) slots id me 0 (λ n. n) (Counted (step slots 0 0 0 none) me)
 counts plan mode slots id me live s l _ at _ =
     let f = l.views id me.0 at live in
-    (me.0, keeps, tt, looks_kept plan mode s l id 0 me.1 me.0 f, (refl, refl, f.count ∙ ap (λ (p : Plan). length p.parents) (sym f.plan_is)))
+    (me.0, keeps, tt, looks_kept plan mode s l id 0 me.1 me.0 me.0 at (as_before me.0) f, (refl, refl, f.count ∙ ap (λ (p : Plan). length p.parents) (sym f.plan_is)))
 
 -- so who has the view after two became one knows that they might be joined
 pub was_joined : (v w : View) → 0 < length v.plan.parents → length (both v w).sight.places ≡ length (both v w).plan.parents → both v w ≡ with_seat v w × may_join v w ≡ true

@@ -5,7 +5,7 @@ use Rattle.std.proofs.lemmas.Bool.{cases_eq, false≢true}
 use mathlib.Core.Option.{some, none, some-injective, some-ne-none}
 use lib.ListN.{get_elem?}
 use Rattle.atomic_table.specs.Table.{Allows, Me, Splits, State as TableState, keeps, step}
-use Rattle.atomic_table.proofs.Lists.{at_set}
+use Rattle.atomic_table.proofs.Lists.{at_last, at_set}
 use Rattle.armus_base.specs.Plans.{Action, Advances, Blocks, Drops, Forks, Makes, Passes, Plan, Refuses, Registers}
 use Rattle.armus_base.specs.States.{State, after, updated}
 use Rattle.armus_base.specs.Runs.{IsPrefix, Place, Precedes, first_place, moved, state_after}
@@ -24,6 +24,7 @@ use Rattle.board.specs.Words.{IsShown}
 use Rattle.board.specs.Views.{avoids, is_among, next_action, place_in}
 use Rattle.board.specs.Rule.{Fits, IsKeptBy, Stepper, by_seat, no_more, not_yet}
 use Rattle.board.specs.Steps.{Unforked, another, child, forked_by, next_view, viewer}
+use Rattle.board.proofs.Seating.{as_before, both_go_on, one_comes, one_goes_on, seated_born, seated_stays}
 use Rattle.board.proofs.Showing.{shows_same}
 use Rattle.board.proofs.Fitting.{moved_other, none_scanned, other_fits, own_fits, state_next, step_lawful, unheld}
 use Rattle.board.proofs.Loading.{looks_kept}
@@ -140,7 +141,7 @@ forks plan mode id v t c own live free next s l found =
     let after_is = state_next plan mode l.places l.lock t (Forks c) l.checked l.lawful is_step in
     let small : c < length plan.parents = child_within plan t c is_step.legal.1 in
     let later : t < c = child_later plan l.checked.tables t c is_step.legal.1 in
-    let none_yet : l.steppers c ≡ not_yet = (l.forks c).0 is_step.legal.2 in
+    let none_yet : l.steppers c ≡ not_yet = (l.seated.forks c).0 is_step.legal.2 in
     let k : ℕ = length s.views in
     let steppers' : ℕ → Stepper = updated l.steppers c (by_seat k) in
     let mine : Fits plan mode a' l.lock l.steppers id (next_view v) =
@@ -181,17 +182,12 @@ forks plan mode id v t c own live free next s l found =
       checked = l.checked;
       lawful = step_lawful plan mode l.places l.lock t (Forks c) l.checked l.lawful is_step;
       shown = subst (λ z. IsShown plan z l.lock s.words) after_is (shows_same plan st (after st t (Forks c)) l.lock s.words l.shown (λ _ _. refl) (λ _. refl));
-      forks = λ u. let forked : updated st.forked c true u ≡ forked_at plan (done_by a') u = ap (λ z. z.forked u) after_is in
-          elim (cases_eq u c) [
-            | inl e ↦ (
-              λ no. absurd (false≢true (sym no ∙ sym forked ∙ updated_same st.forked c u true e)),
-              λ idle_yet. absurd (seat_steps k (sym (updated_same l.steppers c u (by_seat k) e) ∙ idle_yet)),
-            )
-            | inr n ↦ (
-              λ no. updated_other l.steppers c u (by_seat k) n ∙ (l.forks u).0 (sym (updated_other st.forked c u true n) ∙ forked ∙ no),
-              λ idle_yet. sym forked ∙ updated_other st.forked c u true n ∙ (l.forks u).1 (sym (updated_other l.steppers c u (by_seat k) n) ∙ idle_yet),
-            )
-          ];
+      seated =
+          let parents : List View = set s.views id (next_view v) in
+          seated_born plan l.places a' l.steppers s.views (parents ++ child v ∷ []) c k (child v)
+          (both_go_on s.views parents (parents ++ child v ∷ []) (one_goes_on s.views id v (next_view v) found (record { own = refl; spent = refl; exact = λ u is. is })) (one_comes parents (child v)))
+          (record { found = at_last parents (child v) k (length-set s.views id (next_view v)); live = live }) (ap Some is_c)
+          (λ u e. sym (ap (λ z. z.forked u) after_is) ∙ updated_same st.forked c u true e) (λ u n. sym (ap (λ z. z.forked u) after_is) ∙ updated_other st.forked c u true n) l.seated;
       views = λ j u e unspent. elim (at_end (set s.views id (next_view v)) (child v) u j e) [
         | inl old ↦ elim (at_set s.views id j (next_view v) u old) [
           | inl x ↦
@@ -212,7 +208,7 @@ pub unforked :
     Allows (IsKeptBy plan mode) slots id me 0 (λ n. n) (Unforked (step slots 0 0 0 none) me)
 unforked plan mode slots id me t own live free s l _ found _ =
     let si = sits plan mode s l id me.0 t own live found in
-    (me.0, keeps, tt, looks_kept plan mode s l id 0 me.1 me.0 si.fits, (refl, refl, λ c next. unseen si c next))
+    (me.0, keeps, tt, looks_kept plan mode s l id 0 me.1 me.0 me.0 found (as_before me.0) si.fits, (refl, refl, λ c next. unseen si c next))
   where
     unseen : Sits plan mode s l id me.0 t → (c : ℕ) → next_action me.0 ≡ Some (Forks c) → place_in me.0.sight.places c ≡ first_place
     unseen si c next =
@@ -239,7 +235,9 @@ splits_off plan mode id v w live fits s l found =
       checked = l.checked;
       lawful = l.lawful;
       shown = l.shown;
-      forks = l.forks;
+      seated =
+          seated_stays plan l.places l.places l.steppers s.views (set s.views id v ++ w ∷ [])
+          (both_go_on s.views (set s.views id v) (set s.views id v ++ w ∷ []) (one_goes_on s.views id v v found (as_before v)) (one_comes (set s.views id v) w)) (λ u. refl) l.seated;
       views = λ j u e unspent. elim (at_end (set s.views id v) w u j e) [
         | inl old ↦ elim (at_set s.views id j v u old) [
           | inl x ↦ subst (λ (z : ℕ × View). Fits plan mode l.places l.lock l.steppers z.0 z.1) (λ i. (sym x.0 i, x.1 i)) (l.views id v found live)

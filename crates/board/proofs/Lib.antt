@@ -1,5 +1,6 @@
 pub mod Showing
 pub mod Sights
+pub mod Seating
 pub mod Fitting
 pub mod Acting
 pub mod Stores

@@ -3,7 +3,8 @@ use Rattle.std.proofs.Common.{◌≡◌, ◌≢◌, ℕ, zero, suc, ◌+◌, ◌
 use Rattle.std.specs.Prelude.{if◌then◌else◌, ◌==◌, ◌&&◌}
 use Rattle.std.proofs.lemmas.Bool.{cases_eq, cases_lt, false≢true}
 use Rattle.std.proofs.lemmas.List.{set-get_or}
-use mathlib.Core.Option.{none}
+use mathlib.Core.Option.{none, some}
+use lib.ListN.{get_elem?}
 use Rattle.atomic_table.specs.Table.{Allows, Me, State as TableState, keeps, step, stepped}
 use Rattle.atomic_table.proofs.Lists.{at_set}
 use Rattle.armus_base.specs.Limits.{max_ops}
@@ -28,6 +29,7 @@ use Rattle.board.specs.Words.{IsInRange, IsShown, await_index, await_number, fou
 use Rattle.board.specs.Views.{avoids, found_of, is_among, last_found, place_in, seen, task_of}
 use Rattle.board.specs.Rule.{Fits, IsKeptBy}
 use Rattle.board.specs.Steps.{LoadsAwait, LoadsPhase, Looked, Recalled, Watched}
+use Rattle.board.proofs.Seating.{GoesOnAs, as_before, one_goes_on, seated_stays}
 use Rattle.board.proofs.Showing.{phases_apart}
 use Rattle.board.proofs.Sights.{set_place}
 use Rattle.board.proofs.Ranges.{found_small, phases_small}
@@ -106,9 +108,9 @@ longest_is plan mode s l t Means before c longest earlier means =
 
 -- a load changes no word
 pub looks_kept :
-    (plan : Plan) (mode : Mode) (s : T) (l : IsKeptBy plan mode s) (id i : ℕ) (c : List (ℕ × Unit {0})) (w : View) →
+    (plan : Plan) (mode : Mode) (s : T) (l : IsKeptBy plan mode s) (id i : ℕ) (c : List (ℕ × Unit {0})) (v w : View) → get_elem? s.views id ≡ some v → GoesOnAs v w →
     Fits plan mode l.places l.lock l.steppers id w → IsKeptBy plan mode (stepped s i (get_or s.words i 0) id c w keeps)
-looks_kept plan mode s l id i c w fits =
+looks_kept plan mode s l id i c v w found goes fits =
     record {
       places = l.places;
       lock = l.lock;
@@ -116,7 +118,7 @@ looks_kept plan mode s l id i c w fits =
       checked = l.checked;
       lawful = l.lawful;
       shown = subst (λ (ws : List ℕ). IsShown plan (state_at plan l.places) l.lock ws) (sym (set-get_or s.words i 0)) l.shown;
-      forks = l.forks;
+      seated = seated_stays plan l.places l.places l.steppers s.views (set s.views id w) (one_goes_on s.views id v w found goes) (λ u. refl) l.seated;
       views = λ j u e unspent. elim (at_set s.views id j w u e) [
         | inl x ↦ subst (λ (z : ℕ × View). Fits plan mode l.places l.lock l.steppers z.0 z.1) (λ k. (sym x.0 k, x.1 k)) fits
         | inr x ↦ l.views j u x.1 unspent
@@ -236,7 +238,7 @@ watches plan mode slots id me t live same small s l _ at _ =
       w,
       keeps,
       tt,
-      looks_kept plan mode s l id (await_index t) me.1 w fits,
+      looks_kept plan mode s l id (await_index t) me.1 v w at (record { own = refl; spent = refl; exact = λ u is. is }) fits,
       (
         refl,
         λ u _ at_word.
@@ -393,7 +395,7 @@ looks plan mode slots id me t p live same small few s l _ at _ =
       w,
       keeps,
       tt,
-      looks_kept plan mode s l id (phase_index plan t p) me.1 w fits,
+      looks_kept plan mode s l id (phase_index plan t p) me.1 v w at (record { own = refl; spent = refl; exact = λ u is. is }) fits,
       (
         refl,
         λ u q a b at_word.
@@ -442,7 +444,7 @@ recalls plan mode slots id me t p own live same few s l _ at _ =
       me.0,
       keeps,
       tt,
-      looks_kept plan mode s l id (phase_index plan t p) me.1 me.0 si.fits,
+      looks_kept plan mode s l id (phase_index plan t p) me.1 me.0 me.0 at (as_before me.0) si.fits,
       (
         refl,
         refl,

@@ -25,6 +25,7 @@ use Rattle.board.specs.Words.{IsShown, await_index, holder_number, phase_index}
 use Rattle.board.specs.Views.{avoids, next_action, seen, task_of}
 use Rattle.board.specs.Rule.{Fits, IsKeptBy, Stepper, by_seat}
 use Rattle.board.specs.Locking.{Freed, IsWithLock, MeetsHolder, Tried, with_lock}
+use Rattle.board.proofs.Seating.{one_goes_on, seated_stays}
 use Rattle.board.proofs.Fitting.{seats_same, unheld}
 use Rattle.board.proofs.Acting.{comes_next, not_held, nothing_published, sits}
 use Rattle.board.proofs.Longest.{await_or_not, longest_exists, undropped}
@@ -114,7 +115,7 @@ lock_kept plan mode s l id c v t lock' held own live found before now to from la
       checked = l.checked;
       lawful = lawful;
       shown = shows_lock plan (state_at plan l.places) l.lock lock' s.words l.shown;
-      forks = l.forks;
+      seated = seated_stays plan l.places l.places l.steppers s.views (set s.views id (with_lock held v)) (one_goes_on s.views id v (with_lock held v) found (record { own = refl; spent = refl; exact = λ u is. is })) (λ u. refl) l.seated;
       views = λ j u e unspent. elim (at_set s.views id j (with_lock held v) u e) [
         | inl w ↦
             subst (λ (z : ℕ × View). Fits plan mode l.places lock' l.steppers z.0 z.1) (λ k. (sym w.0 k, w.1 k))
@@ -287,7 +288,7 @@ module _ (plan : Plan) (mode : Mode) (slots id : ℕ) (me : Me (Unit {0}) View) 
         m.0,
         keeps,
         tt,
-        looks_kept plan mode s l id 0 me.1 m.0 m.1,
+        looks_kept plan mode s l id 0 me.1 v m.0 found (record { own = m.2.same.own; spent = m.2.same.spent; exact = λ u is. m.2.seen_now.place.exact u ∙ is }) m.1,
         (refl, (λ hit. absurd (miss hit)), (λ _. (h.0, h.1, m.2))),
       ))
     where

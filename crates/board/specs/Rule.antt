@@ -1,5 +1,5 @@
 -- The rule of the board, which holds between any two steps of any seats.
-use Rattle.std.specs.Prelude.{◌≡◌, ℕ, ◌<◌, true, false, [], ◌∷◌, Option, Some, None, length, replicate, ◌⊎◌}
+use Rattle.std.specs.Prelude.{◌≡◌, ℕ, ◌<◌, true, false, List, [], ◌∷◌, Option, Some, None, length, replicate, ◌⊎◌}
 use mathlib.Core.Option.{some}
 use lib.ListN.{get_elem?}
 use Rattle.atomic_table.specs.Table.{State}
@@ -43,7 +43,19 @@ pub record Fits (plan : Plan) (mode : Mode) (a : ℕ → Place) (lock : Option �
   pub holding : (t : ℕ) → v.own ≡ Some t → HoldsAsSeen plan a lock v t
   pub viewer : v.own ≡ None → v.holds ≡ false
 
--- there are lawful places and a holder of the lock that the words show, each forked task has its seat or has ended, and every view fits
+-- the view v is that of the seat j, which was not taken in
+pub record IsThere (views : List View) (j : ℕ) (v : View) : Type 0 where
+  pub found : get_elem? views j ≡ some v
+  pub live : v.spent ≡ false
+
+-- nobody steps yet for a task exactly where it is not forked; the seat that steps for a task is there, and is that task's own; and a task for which nobody
+-- steps any more stands among the exact ones of a seat that is there
+pub record AreSeated (plan : Plan) (a : ℕ → Place) (steppers : ℕ → Stepper) (views : List View) : Type 0 where
+  pub forks : (t : ℕ) → (forked_at plan (done_by a) t ≡ false → steppers t ≡ not_yet) × (steppers t ≡ not_yet → forked_at plan (done_by a) t ≡ false)
+  pub seats : (t j : ℕ) → steppers t ≡ by_seat j → (v : View) × IsThere views j v × v.own ≡ Some t
+  pub ended : (t : ℕ) → steppers t ≡ no_more → (j : ℕ) × (v : View) × IsThere views j v × is_among v.sight.exact t ≡ true
+
+-- there are lawful places and a holder of the lock that the words show, each forked task is the own task of one seat or has ended, and every view fits
 pub record IsKeptBy (plan : Plan) (mode : Mode) (s : State (Unit {0}) View) : Type 0 where
   pub places : ℕ → Place
   pub lock : Option ℕ
@@ -51,7 +63,7 @@ pub record IsKeptBy (plan : Plan) (mode : Mode) (s : State (Unit {0}) View) : Ty
   pub checked : IsCheckedPlan plan
   pub lawful : IsLawful (avoids mode) plan places lock
   pub shown : IsShown plan (state_at plan places) lock s.words
-  pub forks : (t : ℕ) → (forked_at plan (done_by places) t ≡ false → steppers t ≡ not_yet) × (steppers t ≡ not_yet → forked_at plan (done_by places) t ≡ false)
+  pub seated : AreSeated plan places steppers s.views
   pub views : (j : ℕ) (v : View) → get_elem? s.views j ≡ some v → v.spent ≡ false → Fits plan mode places lock steppers j v
 
 -- the rule, of what the table was told
