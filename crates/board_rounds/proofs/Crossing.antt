@@ -1,0 +1,35 @@
+-- What is handed to a thread that takes turns.
+use mir.Syntax.{Sym}
+use denote.RattleType.{RattleType}
+use denote.Builtin.{One}
+use denote.Ref.{NamedLft}
+use denote.Struct.Field.{mut_slice_field, shr_ref_field, u8-field}
+use denote.Struct.Tuple.{TupleAt}
+use denote.Param.Send.{IsSend, IsSync, sendable}
+use Rattle.std.proofs.Common.{[], ◌∷◌}
+use Rattle.std.proofs.Crossing.{crosses}
+use Rattle.std.proofs.alloc.Global.TheSendSync as heap
+use Rattle.std.specs.contracts.alloc.Global as global
+use Rattle.armus_base.specs.contracts.plan.Plan as plans
+use Rattle.board.specs.contracts.board.Board as boards
+use Rattle.board.proofs.Sending.{board_sync, task_seat_send}
+use Rattle.armus_base.proofs.plan.Plan.TheSendSync as plan_crosses
+use Rattle.board_rounds.specs.contracts.task.Task as tasks
+
+-- a task may be handed to a thread
+pub task_send : IsSend tasks.the_row
+task_send = search (sendable, crosses, task_seat_send, heap.the_send, heap.the_sync) depth 30
+
+-- threads may share a plan
+pub plan_sync : IsSync plans.the_row
+plan_sync = search (sendable, crosses, plan_crosses.the_sync) depth 30
+
+pub global_sync : IsSync global.the_row
+global_sync = search (sendable, crosses, heap.the_send, heap.the_sync) depth 30
+
+pub turns_send :
+    (ν : Sym) (a b c d e h i : NamedLft) (X Y : RattleType) (one : One X.mir) (other : One Y.mir) → IsSync X → IsSync Y →
+    IsSend (TupleAt ν
+    ((shr_ref_field a X one).row ∷ (shr_ref_field b global.the_row tt).row ∷ (shr_ref_field c boards.the_row tt).row ∷ (shr_ref_field d plans.the_row tt).row
+    ∷ (shr_ref_field e Y other).row ∷ (shr_ref_field h u8-field.row tt).row ∷ (mut_slice_field i tasks.the_row tt).row ∷ []))
+turns_send ν a b c d e h i X Y one other x y = search (sendable, global_sync, board_sync, plan_sync, task_send) depth 30

@@ -1,0 +1,234 @@
+-- What steps and loads make of a task, one after the other.
+use Rattle.std.proofs.Common.{◌≡◌, ◌≢◌, ℕ, suc, ◌≤◌, List, [], ◌∷◌, ◌++◌, Option, Some, None, length, sym, refl, ap, ◌∙◌, subst, arith, append-nil, append_assoc, length-append, inl, inr, ◌+◌}
+use Rattle.std.specs.Prelude.{IsSome, unwrap_or}
+use Rattle.std.proofs.lemmas.Bool.{cases_eq, false≢true}
+use Rattle.armus_base.specs.Plans.{Action, Advances, Blocks, Drops, Forks, Makes, Passes, Plan, Refuses, Registers, action_at, actions}
+use Rattle.armus_base.specs.Runs.{IsByCode, IsPrefix, Place, moved, next_place}
+use Rattle.armus_base.specs.Seats.{SeenBy, seen_after_step}
+use Rattle.armus_base.proofs.Fixed.{action_within}
+use Rattle.armus_base.proofs.Places.{next_later, precedes_itself, precedes_trans}
+use Rattle.armus_base.proofs.Steps.{updated_other, updated_same}
+use Rattle.board.specs.Views.{next_action, own_place, seen, task_of}
+use Rattle.board.specs.Steps.{IsSameSeat}
+use Rattle.board.specs.Seats.{Frame, IsOf, IsSeat, Known, MakesStep}
+use Rattle.board.proofs.Seated.{next_there, place_made}
+use Rattle.board.proofs.Walking.{moved_here}
+use Rattle.phase_scan.specs.Looks.{GoesOn}
+use Rattle.board_rounds.specs.Turns.{Acts, AreChildSeats, Goes, LeadsTo, MakesOne, Working, forks_of, no_child, one_child}
+
+-- steps after steps
+pub leads_on : (plan : Plan) (t : ℕ) (a : Place) (xs : List Action) (b : Place) (ys : List Action) (c : Place) → LeadsTo plan t a xs b → LeadsTo plan t b ys c → LeadsTo plan t a (xs ++ ys) c
+leads_on plan t a [] b ys c e q = subst (λ (z : Place). LeadsTo plan t z ys c) e q
+leads_on plan t a (x ∷ xs) b ys c p q = (p.0, leads_on plan t (next_place a.done a.dropped x) xs b ys c p.1 q)
+
+pub forks_on : (xs ys : List Action) → forks_of (xs ++ ys) ≡ forks_of xs ++ forks_of ys
+forks_on [] ys = refl
+forks_on (Makes p ∷ xs) ys = forks_on xs ys
+forks_on (Registers c p ∷ xs) ys = forks_on xs ys
+forks_on (Forks c ∷ xs) ys = ap (λ cs. c ∷ cs) (forks_on xs ys)
+forks_on (Advances p ∷ xs) ys = forks_on xs ys
+forks_on (Drops p ∷ xs) ys = forks_on xs ys
+forks_on (Blocks p ∷ xs) ys = forks_on xs ys
+forks_on (Passes p ∷ xs) ys = forks_on xs ys
+forks_on (Refuses p ∷ xs) ys = forks_on xs ys
+
+pub children_on : {f : Frame} {cs : List ℕ} {ks : List Known} (ds : List ℕ) (js : List Known) → AreChildSeats f cs ks → AreChildSeats f ds js → AreChildSeats f (cs ++ ds) (ks ++ js)
+children_on ds js no_child q = q
+children_on ds js (one_child c p) q = one_child c (children_on ds js p q)
+
+same_itself : (k : Known) → IsSameSeat k.view k.view
+same_itself k = record { plan = refl; mode = refl; own = refl; holds = refl; spent = refl; count = refl }
+
+same_on : (k m n : Known) → IsSameSeat k.view m.view → IsSameSeat m.view n.view → IsSameSeat k.view n.view
+same_on k m n p q = record { plan = q.plan ∙ p.plan; mode = q.mode ∙ p.mode; own = q.own ∙ p.own; holds = q.holds ∙ p.holds; spent = q.spent ∙ p.spent; count = q.count ∙ p.count }
+
+pub same_task : (k m : Known) → IsSameSeat k.view m.view → task_of m.view ≡ task_of k.view
+same_task k m same = ap (λ o. unwrap_or o 0) same.own
+
+pub task_is : (k : Known) (t : ℕ) → k.view.own ≡ Some t → task_of k.view ≡ t
+task_is k t own = ap (λ o. unwrap_or o 0) own
+
+-- nothing at all
+pub goes_itself : (k : Known) → IsSeat k → Goes [] k k
+goes_itself k seat =
+    record {
+      table = refl;
+      same = same_itself k;
+      place = refl;
+      later = λ u. let x : Place = (seen k.view).places u in precedes_itself x.done x.dropped;
+      exact = λ u. refl;
+      kept = seat;
+    }
+
+pub own_stays : (k m : Known) (t : ℕ) → k.view.own ≡ Some t → IsSeat k → GoesOn k m → own_place m.view ≡ own_place k.view
+own_stays k m t own seat goes =
+    ap (seen m.view).places (same_task k m goes.same ∙ task_is k t own) ∙ goes.here t (seat.own t own).1 ∙ ap (seen k.view).places (sym (task_is k t own))
+
+-- loads alone
+pub goes_loads : (k m : Known) (t : ℕ) → k.view.own ≡ Some t → IsSeat k → GoesOn k m → Goes [] k m
+goes_loads k m t own seat goes =
+    record {
+      table = goes.table;
+      same = goes.same;
+      place = own_stays k m t own seat goes;
+      later = goes.later;
+      exact = goes.exact;
+      kept = goes.kept;
+    }
+
+-- one step
+by_code : (plan : Plan) (t k : ℕ) (o : Option ℕ) (x : Action) → o ≡ None → action_at plan t k ≡ Some x → ((p : ℕ) → x ≢ Refuses p) → IsByCode plan t k o x
+by_code plan t k None (Makes p) e is n = is
+by_code plan t k None (Registers c p) e is n = is
+by_code plan t k None (Forks c) e is n = is
+by_code plan t k None (Advances p) e is n = is
+by_code plan t k None (Drops p) e is n = is
+by_code plan t k None (Blocks p) e is n = is
+by_code plan t k None (Passes p) e is n = is
+by_code plan t k None (Refuses p) e is n = absurd (n p refl)
+by_code plan t k (Some d) x e is n = absurd (cc)
+
+moved_later : (a : ℕ → Place) (t : ℕ) (x : Action) (u : ℕ) → IsPrefix (a u) (moved a t x u)
+moved_later a t x u = elim (cases_eq u t) [
+  | inl same ↦
+      subst (λ (v : ℕ). IsPrefix (a v) (moved a t x v)) (sym same)
+      (subst (λ (b : Place). IsPrefix (a t) b) (sym (updated_same a t t (next_place (a t).done (a t).dropped x) refl)) (next_later (a t).done (a t).dropped x))
+  | inr other ↦
+      subst (λ (b : Place). IsPrefix (a u) b) (sym (updated_other a t u (next_place (a t).done (a t).dropped x) other)) (precedes_itself (a u).done (a u).dropped)
+]
+
+step_later : (t : ℕ) (x : Action) (s : SeenBy) (u : ℕ) → IsPrefix (s.places u) ((seen_after_step t x s).places u)
+step_later t (Makes p) s u = moved_later s.places t (Makes p) u
+step_later t (Registers c p) s u = moved_later s.places t (Registers c p) u
+step_later t (Forks c) s u = moved_later s.places t (Forks c) u
+step_later t (Advances p) s u = moved_later s.places t (Advances p) u
+step_later t (Drops p) s u = moved_later s.places t (Drops p) u
+step_later t (Blocks p) s u = moved_later s.places t (Blocks p) u
+step_later t (Passes p) s u = moved_later s.places t (Passes p) u
+step_later t (Refuses p) s u = moved_later s.places t (Refuses p) u
+
+step_exact : (t : ℕ) (x : Action) (s : SeenBy) (u : ℕ) → (seen_after_step t x s).exact u ≡ s.exact u
+step_exact t (Makes p) s u = refl
+step_exact t (Registers c p) s u = refl
+step_exact t (Forks c) s u = refl
+step_exact t (Advances p) s u = refl
+step_exact t (Drops p) s u = refl
+step_exact t (Blocks p) s u = refl
+step_exact t (Passes p) s u = refl
+step_exact t (Refuses p) s u = refl
+
+pub stepped_place : (k m : Known) (x : Action) → MakesStep x k m → own_place m.view ≡ next_place (own_place k.view).done (own_place k.view).dropped x
+stepped_place k m x step =
+    ap (seen m.view).places (same_task k m step.same) ∙ ap (λ (s : SeenBy). s.places (task_of k.view)) step.seen_now ∙ moved_here (task_of k.view) x (seen k.view)
+
+pub goes_step : (k m : Known) (x : Action) → next_action k.view ≡ Some x → ((p : ℕ) → x ≢ Refuses p) → MakesStep x k m → Goes (x ∷ []) k m
+goes_step k m x next n step =
+    let there = next_there k.view x next in
+    record {
+      table = step.table;
+      same = step.same;
+      place = (by_code k.view.plan (task_of k.view) (own_place k.view).done (own_place k.view).dropped x there.0 there.1 n, stepped_place k m x step);
+      later = λ u. subst (λ (s : SeenBy). IsPrefix ((seen k.view).places u) (s.places u)) (sym step.seen_now) (step_later (task_of k.view) x (seen k.view) u);
+      exact = λ u. ap (λ (s : SeenBy). s.exact u) step.seen_now ∙ step_exact (task_of k.view) x (seen k.view) u;
+      kept = step.kept;
+    }
+
+-- one after the other
+pub goes_on : (k m n : Known) (xs ys : List Action) → Goes xs k m → Goes ys m n → Goes (xs ++ ys) k n
+goes_on k m n xs ys p q =
+    record {
+      table = q.table ∙ p.table;
+      same = same_on k m n p.same q.same;
+      place =
+          leads_on k.view.plan (task_of k.view) (own_place k.view) xs (own_place m.view) ys (own_place n.view) p.place
+          (subst (λ (t : ℕ). LeadsTo k.view.plan t (own_place m.view) ys (own_place n.view)) (same_task k m p.same)
+          (subst (λ (z : Plan). LeadsTo z (task_of m.view) (own_place m.view) ys (own_place n.view)) p.same.plan q.place));
+      later = λ u.
+          let x : Place = (seen k.view).places u in
+          let y : Place = (seen m.view).places u in
+          let z : Place = (seen n.view).places u in
+          precedes_trans x.done y.done z.done x.dropped y.dropped z.dropped (p.later u) (q.later u);
+      exact = λ u. q.exact u ∙ p.exact u;
+      kept = q.kept;
+    }
+
+-- without a step nobody goes anywhere
+nowhere : (plan : Plan) (t : ℕ) (a : Place) (xs : List Action) (b : Place) → xs ≡ [] → LeadsTo plan t a xs b → b ≡ a
+nowhere plan t a xs b none steps = subst (λ ys. LeadsTo plan t a ys b) none steps
+
+-- who goes on by its code is not refused
+unrefused_next : (plan : Plan) (t k : ℕ) (o : Option ℕ) (xs : List Action) → o ≡ None → IsSome o → xs ≡ []
+unrefused_next plan t k None xs e some = absurd (false≢true some)
+unrefused_next plan t k (Some d) xs e some = absurd (cc)
+
+-- and the children with them
+pub acts_alone : (f : Frame) (own : List Action) (k m : Known) (cs : List Known) → forks_of own ≡ [] → Goes own k m → (IsSome (own_place k.view).dropped → own ≡ []) → Acts f own (record { seat = k; children = cs }) (record { seat = m; children = cs })
+acts_alone f own k m cs none goes refused =
+    record { goes = goes; refused = refused; new = []; children = sym (append-nil cs); seats = subst (λ ds. AreChildSeats f ds []) (sym none) no_child }
+
+pub acts_itself : (f : Frame) (w : Working) → IsSeat w.seat → Acts f [] w w
+acts_itself f w seat = acts_alone f [] w.seat w.seat w.children refl (goes_itself w.seat seat) (λ _. refl)
+
+pub acts_on : (f : Frame) (a b c : Working) (xs ys : List Action) → Acts f xs a b → Acts f ys b c → Acts f (xs ++ ys) a c
+acts_on f a b c xs ys p q =
+    record {
+      refused = λ was.
+          let none = p.refused was in
+          let here : own_place b.seat.view ≡ own_place a.seat.view = nowhere a.seat.view.plan (task_of a.seat.view) (own_place a.seat.view) xs (own_place b.seat.view) none p.goes.place in
+          (λ i. none i ++ q.refused (subst (λ (x : Place). IsSome x.dropped) (sym here) was) i);
+      goes = goes_on a.seat b.seat c.seat xs ys p.goes q.goes;
+      new = p.new ++ q.new;
+      children = q.children ∙ ap (λ ks. ks ++ q.new) p.children ∙ append_assoc a.children p.new q.new;
+      seats = subst (λ ds. AreChildSeats f ds (p.new ++ q.new)) (sym (forks_on xs ys)) (children_on (forks_of ys) q.new p.seats q.seats);
+    }
+
+-- one step, and the seat of the child that it forks
+pub one_step :
+    (f : Frame) (k m : Known) (cs ds new : List Known) (x : Action) → IsSeat k → next_action k.view ≡ Some x → ((p : ℕ) → x ≢ Refuses p) → MakesStep x k m →
+    ds ≡ cs ++ new → AreChildSeats f (forks_of (x ∷ [])) new → MakesOne f (record { seat = k; children = cs }) (record { seat = m; children = ds })
+one_step f k m cs ds new x seat next n step grown seats =
+    let there = next_there k.view x next in
+    record {
+      action = x;
+      acts = record { goes = goes_step k m x next n step; refused = unrefused_next k.view.plan (task_of k.view) (own_place k.view).done (own_place k.view).dropped (x ∷ []) there.0; new = new; children = grown; seats = seats };
+      on = ap (λ (b : Place). b.done) (stepped_place k m x step) ∙ place_made (own_place k.view).done (own_place k.view).dropped x there.0 n;
+      within = action_within k.view.plan seat.checked (task_of k.view) (own_place k.view).done x there.1;
+    }
+
+-- loads, and then one step that forks nobody
+pub loads_step :
+    (f : Frame) (k m n : Known) (cs : List Known) (t : ℕ) (x : Action) → k.view.own ≡ Some t → IsSeat k → GoesOn k m → next_action m.view ≡ Some x → ((p : ℕ) → x ≢ Refuses p) → forks_of (x ∷ []) ≡ [] →
+    MakesStep x m n → MakesOne f (record { seat = k; children = cs }) (record { seat = n; children = cs })
+loads_step f k m n cs t x own seat goes next plain none step =
+    let there = next_there m.view x next in
+    let place = own_stays k m t own seat goes in
+    let at : action_at k.view.plan (task_of k.view) (own_place k.view).done ≡ Some x =
+    (λ i. action_at (sym goes.same.plan i) (sym (same_task k m goes.same) i) (sym place i).done) ∙ there.1 in
+    record {
+      action = x;
+      acts = acts_alone f (x ∷ []) k n cs none (goes_on k m n [] (x ∷ []) (goes_loads k m t own seat goes) (goes_step m n x next plain step))
+          (unrefused_next k.view.plan (task_of k.view) (own_place k.view).done (own_place k.view).dropped (x ∷ []) (ap (λ (b : Place). b.dropped) (sym place) ∙ there.0));
+      on = ap (λ (b : Place). b.done) (stepped_place m n x step) ∙ place_made (own_place m.view).done (own_place m.view).dropped x there.0 plain ∙ ap (λ (b : Place). suc b.done) place;
+      within = action_within k.view.plan seat.checked (task_of k.view) (own_place k.view).done x at;
+    }
+
+-- a seat is of its board after its steps
+pub of_on : (f : Frame) (own : List Action) (k m : Known) → IsOf k f → Goes own k m → IsOf m f
+of_on f own k m of goes = record { table = goes.table ∙ of.table; plan = goes.same.plan ∙ of.plan; mode = goes.same.mode ∙ of.mode }
+
+-- one step more is counted
+pub counts_on :
+    (f : Frame) (a b c : Working) (own : List Action) → (own_place b.seat.view).done ≡ (own_place a.seat.view).done + length own → (m : MakesOne f b c) →
+    ((own_place c.seat.view).done ≡ (own_place a.seat.view).done + length (own ++ m.action ∷ []))
+    × (length (own ++ m.action ∷ []) ≡ length own + 1)
+    × (length (own ++ m.action ∷ []) ≤ length (actions c.seat.view.plan (task_of c.seat.view)))
+counts_on f a b c own on m =
+    let more = length-append own (m.action ∷ []) in
+    let next = m.on in
+    let within = m.within in
+    let same : length (actions c.seat.view.plan (task_of c.seat.view)) ≡ length (actions b.seat.view.plan (task_of b.seat.view)) =
+    (λ i. length (actions (m.acts.goes.same.plan i) (same_task b.seat c.seat m.acts.goes.same i))) in (
+      omega arith,
+      omega arith,
+      omega arith,
+    )

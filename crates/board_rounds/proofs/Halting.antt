@@ -1,0 +1,120 @@
+-- What is true of a seat whose task's turn is over, and what its task has begun.
+use Rattle.std.proofs.Common.{◌≡◌, ◌≢◌, ℕ, zero, suc, ◌<◌, ◌+◌, ◌^◌, List, [], ◌∷◌, Option, Some, None, length, drop, sym, refl, ap, ◌∙◌, subst, arith, inl, inr, ◌⊎◌}
+use Rattle.std.specs.Prelude.{slice_get, is_some, false}
+use Rattle.std.proofs.lemmas.Bool.{false≢true}
+use Rattle.std.proofs.lemmas.Option.{slice_get_within}
+use Rattle.armus_base.specs.declared.event.Event.{Event}
+use Rattle.armus_base.specs.declared.op.Op.{Op}
+use Rattle.armus_base.specs.declared.op.Op.TheVariants.{Adv, Await, Drop, Fork, Make, Reg}
+use Rattle.armus_base.specs.CheckedPlans.{IsCheckedPlan}
+use Rattle.pl_core.proofs.StepKinds.{few_actions, few_own_ops}
+use Rattle.armus_base.specs.Plans.{Plan, Refuses, action_at, actions, actions_of, code_of}
+use Rattle.armus_base.specs.Runs.{Place, first_place}
+use Rattle.armus_base.specs.Places.{phases_at_place}
+use Rattle.armus_base.specs.Seats.{own_event}
+use Rattle.armus_base.proofs.BoardRuns.{lawful_is_reachable}
+use Rattle.armus_base.proofs.Reachable.{reachable_is_fixed}
+use Rattle.armus_base.proofs.Tasks.{member_within}
+use Rattle.board.specs.Views.{avoids, own_place, seen, task_of}
+use Rattle.board.specs.Seats.{IsSeat, Known, event_of}
+use Rattle.board.specs.Steps.{WasSo}
+use Rattle.board.specs.Walking.{HasBegun, begins, left_of}
+use Rattle.phase_scan.specs.Looks.{FindsBehind, GoesOn}
+use Rattle.board_rounds.specs.Turns.{EndsTurn, IsDone, IsSeenBehind, is_behind}
+use Rattle.board_rounds.proofs.Goings.{own_stays, same_task}
+
+-- loads begin no op
+pub begun_loads : (begun : ℕ) (k m : Known) (t : ℕ) → k.view.own ≡ Some t → IsSeat k → HasBegun begun k → GoesOn k m → HasBegun begun m
+begun_loads begun k m t own seat b goes =
+    let place = own_stays k m t own seat goes in
+    let task = same_task k m goes.same in
+    record {
+      free = goes.same.holds ∙ b.free;
+      unrefused = ap (λ (x : Place). x.dropped) place ∙ b.unrefused;
+      left = (λ i. drop (place i).done (actions (goes.same.plan i) (task i))) ∙ b.left ∙ sym (λ i. left_of (goes.event i) (drop begun (code_of (goes.same.plan i) (task i))));
+    }
+
+-- whose event is published
+pub owned : (k : Known) (e : Event) → event_of k ≡ Some e → (t : ℕ) × (k.view.own ≡ Some t)
+owned k e is = by_own k.view.own refl
+  where
+    by_own : (o : Option ℕ) → k.view.own ≡ o → (t : ℕ) × (k.view.own ≡ Some t)
+    by_own None own = absurd (let n : None ≡ Some e = sym (ap (λ o. own_event k.view.plan o (seen k.view)) own) ∙ is in cc)
+    by_own (Some t) own = (t, own)
+
+first_or_not : (b : Place) → (b ≡ first_place) ⊎ (b ≢ first_place)
+first_or_not b = by_parts b.done b.dropped refl refl
+  where
+    by_parts : (k : ℕ) (o : Option ℕ) → b.done ≡ k → b.dropped ≡ o → (b ≡ first_place) ⊎ (b ≢ first_place)
+    by_parts zero None a e = inl (λ i. record { done = a i; dropped = e i })
+    by_parts zero (Some d) a e = inr (λ h. let f = ap (λ (x : Place). x.dropped) h in cc)
+    by_parts (suc k) o a e = inr (λ h. let f : b.done ≡ 0 = ap (λ (x : Place). x.done) h in omega arith)
+
+-- who was found to be a member is a task of the plan
+found_within : (k m : Known) (t p n : ℕ) → IsSeat k → WasSo k.view.plan k.view.mode (λ s. s.phases t p ≡ Some n) k.view m.view → t < length k.view.plan.parents
+found_within k m t p n seat was =
+    let reachable = lawful_is_reachable (avoids k.view.mode) k.view.plan was.places was.lock was.lawful in
+    let same = (reachable_is_fixed k.view.plan was.places seat.checked reachable).0 in
+    member_within k.view.plan seat.checked reachable.steps reachable.run t p n (ap (λ s. s.phases t p) same ∙ was.holds)
+
+-- a member that was found behind ends the turn
+pub ends_behind : (k m : Known) (t n : ℕ) → IsSeat k → GoesOn k m → FindsBehind t n k m → EndsTurn m
+ends_behind k m t n seat goes f =
+    let load = f.load.load in
+    let within : t < length m.view.plan.parents =
+    subst (λ (q : Plan). t < length q.parents) (sym load.same.plan) (found_within f.between m t f.event.p.0 n f.goes_on.kept load.was) in
+    is_behind f.event (goes.event ∙ f.published) (subst (λ u. u < length m.view.plan.parents) (sym f.scanned) within)
+    (subst (λ u. IsSeenBehind m f.event u) (sym f.scanned)
+    (elim (first_or_not ((seen m.view).places t)) [
+      | inl first ↦ inl first
+      | inr far ↦ inr (n, (λ i. phases_at_place (load.same.plan i) t ((seen m.view).places t) f.event.p.0) ∙ load.there n refl far, f.below)
+    ]))
+
+-- nothing is left of a list behind its end
+none_left : {A : Type 0} (xs : List A) (k : ℕ) → slice_get xs k ≡ None → drop k xs ≡ []
+none_left [] zero e = refl
+none_left [] (suc k) e = refl
+none_left (x ∷ xs) zero e = absurd (cc)
+none_left (x ∷ xs) (suc k) e = none_left xs k e
+
+none_there : {A : Type 0} (xs : List A) (k : ℕ) → drop k xs ≡ [] → slice_get xs k ≡ None
+none_there [] zero e = refl
+none_there [] (suc k) e = refl
+none_there (x ∷ xs) zero e = absurd (cc)
+none_there (x ∷ xs) (suc k) e = none_there xs k e
+
+-- a task that has begun all its ops, and waits for nothing, is done
+pub ends_done : (begun : ℕ) (k : Known) → HasBegun begun k → event_of k ≡ None → slice_get (code_of k.view.plan (task_of k.view)) begun ≡ None → IsDone k
+unfolding action_at
+ends_done begun k b idle past =
+    let ops = code_of k.view.plan (task_of k.view) in
+    let none : drop (own_place k.view).done (actions k.view.plan (task_of k.view)) ≡ [] =
+    b.left ∙ ap (λ o. left_of o (drop begun ops)) idle ∙ ap actions_of (none_left ops begun past) in
+    record { idle = idle; unrefused = b.unrefused; past = none_there (actions k.view.plan (task_of k.view)) (own_place k.view).done none }
+
+-- where there is not some, there is none
+pub no_one : {A : Type 0} (o : Option A) → is_some o ≡ false → o ≡ None
+no_one None e = refl
+no_one (Some x) h = absurd (false≢true (sym h))
+
+-- what an op begins with is no refusal
+pub no_refusal : (op : Op) (p : ℕ) → begins op ≢ Refuses p
+no_refusal (Make q) p e = cc
+no_refusal (Reg c q) p e = cc
+no_refusal (Fork c) p e = cc
+no_refusal (Adv q) p e = cc
+no_refusal (Drop q) p e = cc
+no_refusal (Await q) p e = cc
+
+pub no_event : (o : Option Event) → is_some o ≡ false → o ≡ None
+no_event None e = refl
+no_event (Some e) h = absurd (false≢true (sym h))
+
+-- a task makes few events
+pub events_fit : (plan : Plan) (t k : ℕ) → IsCheckedPlan plan → k < length (actions plan t) → k + 1 < 2 ^ 32
+events_fit plan t k checked l = (let few = few_actions plan t checked in omega arith)
+
+-- a task has few ops
+pub op_fits : (plan : Plan) (t begun : ℕ) (op : Op) → IsCheckedPlan plan → slice_get (code_of plan t) begun ≡ Some op → begun < 524288
+op_fits plan t begun op checked is =
+    (let within = slice_get_within (code_of plan t) begun op is in let few = few_own_ops plan t checked in omega arith)

@@ -1,0 +1,10 @@
+pub mod Goings
+pub mod Halting
+pub mod Rounding
+pub mod Crossing
+pub mod Closed
+pub mod Crewing
+pub mod Settling
+pub mod Emptying
+pub mod Between
+pub mod Apart

@@ -1,0 +1,119 @@
+-- Turns one after the other, and side by side.
+use Rattle.std.proofs.Common.{◌≡◌, ℕ, zero, suc, ◌+◌, ◌<◌, List, [], ◌∷◌, ◌++◌, Result, Ok, Err, IfOk, All, length, length-append, map, set, get_or, subst, arith}
+use Rattle.std.proofs.lemmas.List.Elements.{All-append}
+use Rattle.std.proofs.lemmas.List.Sums.{sum_by-append}
+use Rattle.armus_base.specs.Plans.{Action}
+use Rattle.board.specs.Seats.{Frame}
+use Rattle.board_rounds.specs.Turns.{Acts, EachActs, EndsTurn, IsReady, TakesTurns, Working, no_task, one_task}
+use Rattle.board_rounds.proofs.Goings.{acts_itself}
+
+-- the first n tasks have made their own steps and ended their turns, and the others have made none
+pub data IsSoFar (f : Frame) : ℕ → List (List Action) → List Working → List Working → Type 0 where
+  at_rest : {rest : List Working} → IsSoFar f 0 [] rest rest
+  one_done :
+      {n : ℕ} {own : List Action} {owns : List (List Action)} {a b : Working} {olds news : List Working} → Acts f own a b → EndsTurn b.seat → IsSoFar f n owns olds news →
+      IsSoFar f (suc n) (own ∷ owns) (a ∷ olds) (b ∷ news)
+
+-- what is true of each of a list is true of the first, and of each of the others
+all_first : (P : Working → Type 0) (w : Working) (rest : List Working) → All P (w ∷ rest) → P w
+all_first P w rest all = all 0 w (omega arith)
+
+all_rest : (P : Working → Type 0) (w : Working) (rest : List Working) → All P (w ∷ rest) → All P rest
+all_rest P w rest all = λ k d l. all (suc k) d (omega arith)
+
+all_none : (P : Working → Type 0) → All P []
+all_none P = λ k d l. absurd (omega arith)
+
+all_more : (P : Working → Type 0) (w : Working) (rest : List Working) → P w → All P rest → All P (w ∷ rest)
+all_more P w rest p all zero d l = p
+all_more P w rest p all (suc k) d l = all k d (omega arith)
+
+first_is : (P : Working → Type 0) (d : Working) (rest : List Working) → All P rest → 0 < length rest → P (get_or rest 0 d)
+first_is P d [] all l = absurd (omega arith)
+first_is P d (w ∷ rest) all l = all_first P w rest all
+
+-- what was true of all is true of the next
+pub next_is :
+    {f : Frame} {n : ℕ} {owns : List (List Action)} {olds news : List Working} (P : Working → Type 0) (d : Working) → IsSoFar f n owns olds news → All P olds → n < length news → P (get_or news n d)
+next_is P d at_rest all l = first_is P d _ all l
+next_is P d (one_done acts ends p) all l = next_is P d p (all_rest P _ _ all) (omega arith)
+
+first_done :
+    (f : Frame) (own : List Action) (d w : Working) (rest : List Working) → 0 < length rest → Acts f own (get_or rest 0 d) w → EndsTurn w.seat → IsSoFar f 1 (own ∷ []) rest (set rest 0 w)
+first_done f own d w [] l acts ends = absurd (omega arith)
+first_done f own d w (b ∷ rest) l acts ends = one_done acts ends at_rest
+
+-- the next has had its turn
+pub next_done :
+    {f : Frame} {n : ℕ} {owns : List (List Action)} {olds news : List Working} (own : List Action) (d w : Working) → IsSoFar f n owns olds news → n < length news →
+    Acts f own (get_or news n d) w → EndsTurn w.seat → IsSoFar f (suc n) (owns ++ own ∷ []) olds (set news n w)
+next_done own d w at_rest l acts ends = first_done _ own d w _ l acts ends
+next_done own d w (one_done acts' ends' p) l acts ends = one_done acts' ends' (next_done own d w p (omega arith) acts ends)
+
+rest_each : (f : Frame) (rest : List Working) → All (IsReady f) rest → EachActs f (map (λ w. []) rest) rest rest
+rest_each f [] all = no_task
+rest_each f (w ∷ rest) all = one_task (acts_itself f w (all_first (IsReady f) w rest all).kept) (rest_each f rest (all_rest (IsReady f) w rest all))
+
+first_stops :
+    (f : Frame) (own : List Action) (d w : Working) (rest : List Working) → All (IsReady f) rest → 0 < length rest → Acts f own (get_or rest 0 d) w →
+    (owns : List (List Action)) × EachActs f owns rest (set rest 0 w)
+first_stops f own d w [] all l acts = absurd (omega arith)
+first_stops f own d w (b ∷ rest) all l acts = (own ∷ map (λ w. []) rest, one_task acts (rest_each f rest (all_rest (IsReady f) b rest all)))
+
+-- the next has made some steps, and no other acts then
+pub next_stops :
+    {f : Frame} {n : ℕ} {owns : List (List Action)} {olds news : List Working} (own : List Action) (d w : Working) → IsSoFar f n owns olds news → All (IsReady f) olds → n < length news →
+    Acts f own (get_or news n d) w → (owns' : List (List Action)) × EachActs f owns' olds (set news n w)
+next_stops own d w at_rest all l acts = first_stops _ own d w _ all l acts
+next_stops own d w (one_done {own = own'} acts' ends' p) all l acts =
+    let r = next_stops own d w p (all_rest (IsReady _) _ _ all) (omega arith) acts in
+    (own' ∷ r.0, one_task acts' r.1)
+
+none_each : (f : Frame) (rest : List Working) → 0 ≡ length rest → EachActs f [] rest rest
+none_each f [] e = no_task
+none_each f (w ∷ rest) e = absurd (omega arith)
+
+none_end : (rest : List Working) → 0 ≡ length rest → All (λ (w : Working). EndsTurn w.seat) rest
+none_end [] e = all_none (λ (w : Working). EndsTurn w.seat)
+none_end (w ∷ rest) e = absurd (omega arith)
+
+-- all have had their turns
+pub all_each : {f : Frame} {n : ℕ} {owns : List (List Action)} {olds news : List Working} → IsSoFar f n owns olds news → n ≡ length news → EachActs f owns olds news
+all_each at_rest e = none_each _ _ e
+all_each (one_done acts ends p) e = one_task acts (all_each p (omega arith))
+
+pub all_end : {f : Frame} {n : ℕ} {owns : List (List Action)} {olds news : List Working} → IsSoFar f n owns olds news → n ≡ length news → All (λ (w : Working). EndsTurn w.seat) news
+all_end at_rest e = none_end _ e
+all_end (one_done acts ends p) e = all_more (λ (w : Working). EndsTurn w.seat) _ _ ends (all_end p (omega arith))
+
+-- memory ran out
+pub stopped :
+    {E : Type 0} (f : Frame) (olds news : List Working) (r : Result ℕ E) → IfOk r (λ n. ⊥) → (owns : List (List Action)) × EachActs f owns olds news → TakesTurns f olds news r
+stopped f olds news (Ok n) bad p = absurd bad
+stopped f olds news (Err e) bad p = record { owns = p.0; each = p.1; events = tt; few = tt; ends = tt }
+
+-- side by side
+pub each_on :
+    {f : Frame} {owns : List (List Action)} {olds news : List Working} (owns' : List (List Action)) (olds' news' : List Working) → EachActs f owns olds news → EachActs f owns' olds' news' →
+    EachActs f (owns ++ owns') (olds ++ olds') (news ++ news')
+each_on owns' olds' news' no_task q = q
+each_on owns' olds' news' (one_task acts p) q = one_task acts (each_on owns' olds' news' p q)
+
+pub turns_on :
+    {E : Type 0} (f : Frame) (olds news olds' news' : List Working) (x y : Result ℕ E) (m n : ℕ) → x ≡ Ok m → y ≡ Ok n → TakesTurns f olds news x → TakesTurns f olds' news' y →
+    TakesTurns {E = E} f (olds ++ olds') (news ++ news') (Ok (m + n))
+turns_on f olds news olds' news' x y m n xs ys p' q' =
+    let p = subst (TakesTurns f olds news) xs p' in
+    let q = subst (TakesTurns f olds' news') ys q' in
+    record {
+      owns = p.owns ++ q.owns;
+      each = each_on q.owns olds' news' p.each q.each;
+      events = (let s = sum_by-append length p.owns q.owns in let a = p.events in let b = q.events in omega arith);
+      few = (let s = length-append olds olds' in let a = p.few in let b = q.few in omega arith);
+      ends = All-append (λ (w : Working). EndsTurn w.seat) news news' p.ends q.ends;
+    }
+
+pub both_each :
+    {E : Type 0} (f : Frame) (olds news olds' news' : List Working) (x y : Result ℕ E) → TakesTurns f olds news x → TakesTurns f olds' news' y →
+    (owns : List (List Action)) × EachActs f owns (olds ++ olds') (news ++ news')
+both_each f olds news olds' news' x y p q = (p.owns ++ q.owns, each_on q.owns olds' news' p.each q.each)

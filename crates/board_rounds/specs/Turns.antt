@@ -1,0 +1,116 @@
+-- What the turns of tasks make of their seats and of their children's.
+use Rattle.std.specs.Prelude.{true, ◌≡◌, ◌≢◌, ℕ, ◌<◌, ◌≤◌, ◌⊎◌, false, List, [], ◌∷◌, ◌++◌, Some, None, length, IsSome, is_some, Result, IfOk, OnOk, All, sum_by, ◌*◌}
+use Rattle.std.proofs.Common.{suc}
+use Rattle.armus_base.specs.declared.event.Event.{Event}
+use Rattle.armus_base.specs.Plans.{Plan, Action, Forks, action_at, actions}
+use Rattle.armus_base.specs.Runs.{Place, IsByCode, IsPrefix, first_place, next_place}
+use Rattle.armus_base.specs.Places.{phases_at_place}
+use Rattle.armus_base.specs.Seats.{MayHold}
+use Rattle.pl_core.specs.declared.place.Place.{Place as Standing}
+use Rattle.board.specs.Views.{avoids, own_place, seen, task_of}
+use Rattle.board.specs.Steps.{IsSameSeat, own_phase}
+use Rattle.board.specs.Locking.{StandsBeforeAwait}
+use Rattle.board.specs.Seats.{Frame, IsOf, IsSeat, Known, event_of}
+
+-- a task: its own seat, and the seats of the children that it has forked
+pub record Working : Type 0 where
+  pub seat : Known
+  pub children : List Known
+
+-- from place a these steps of task t lead to place b, each the next one by its code
+abbrev pub LeadsTo : Plan → ℕ → Place → List Action → Place → Type 0
+LeadsTo plan t a [] b = b ≡ a
+LeadsTo plan t a (x ∷ xs) b = IsByCode plan t a.done a.dropped x × LeadsTo plan t (next_place a.done a.dropped x) xs b
+
+-- the tasks that these steps fork, in order
+abbrev pub forks_of : List Action → List ℕ
+forks_of [] = []
+forks_of (Forks c ∷ xs) = c ∷ forks_of xs
+forks_of (x ∷ xs) = forks_of xs
+
+-- a seat of task c, which has made no step and is the only exact one
+pub record IsChildSeat (board : Frame) (c : ℕ) (seat : Known) : Type 0 where
+  pub of_board : IsOf seat board
+  pub own : seat.view.own ≡ Some c
+  pub alone : (u : ℕ) → (seen seat.view).exact u ≡ true → u ≡ c
+  pub first : own_place seat.view ≡ first_place
+  pub free : seat.view.holds ≡ false
+  pub kept : IsSeat seat
+
+-- one such seat for each of these tasks, in order
+pub data AreChildSeats (board : Frame) : List ℕ → List Known → Type 0 where
+  no_child : AreChildSeats board [] []
+  one_child : {c : ℕ} {cs : List ℕ} {seat : Known} {seats : List Known} → IsChildSeat board c seat → AreChildSeats board cs seats → AreChildSeats board (c ∷ cs) (seat ∷ seats)
+
+-- the seat's task has made these steps, and it has made loads besides
+pub record Goes (own : List Action) (before now : Known) : Type 0 where
+  pub table : now.table ≡ before.table
+  pub same : IsSameSeat before.view now.view
+  pub place : LeadsTo before.view.plan (task_of before.view) (own_place before.view) own (own_place now.view)
+  pub later : (u : ℕ) → IsPrefix ((seen before.view).places u) ((seen now.view).places u)
+  pub exact : (u : ℕ) → (seen now.view).exact u ≡ (seen before.view).exact u
+  pub kept : IsSeat now
+
+-- a task has made these steps, of which a refused one makes none, and has the seats of the children that it forked by them
+pub record Acts (board : Frame) (own : List Action) (before now : Working) : Type 0 where
+  pub goes : Goes own before.seat now.seat
+  pub refused : IsSome (own_place before.seat.view).dropped → own ≡ []
+  pub new : List Known
+  pub children : now.children ≡ before.children ++ new
+  pub seats : AreChildSeats board (forks_of own) new
+
+-- a task has made one step
+pub record MakesOne (board : Frame) (before now : Working) : Type 0 where
+  pub action : Action
+  pub acts : Acts board (action ∷ []) before now
+  pub on : (own_place now.seat.view).done ≡ suc (own_place before.seat.view).done
+  pub within : (own_place before.seat.view).done < length (actions before.seat.view.plan (task_of before.seat.view))
+
+-- task u is seen where nothing is seen of it, or as a member of the event's phaser below its phase
+abbrev pub IsSeenBehind : Known → Event → ℕ → Type 0
+IsSeenBehind seat e u =
+    ((seen seat.view).places u ≡ first_place)
+    ⊎ ((n : ℕ) × phases_at_place seat.view.plan u ((seen seat.view).places u) e.p.0 ≡ Some n × n < e.n)
+
+-- the seat's task has done its code
+pub record IsDone (seat : Known) : Type 0 where
+  pub idle : event_of seat ≡ None
+  pub unrefused : (own_place seat.view).dropped ≡ None
+  pub past : action_at seat.view.plan (task_of seat.view) (own_place seat.view).done ≡ None
+
+-- how far the seat's task has come
+abbrev pub standing_of : Known → Standing
+standing_of seat = record { events = (own_place seat.view).done; refused = is_some (own_place seat.view).dropped }
+
+-- How a turn ends, by what the seat has seen: its task is done; or it is refused and a member of nothing; or it is published, and the task that is
+-- scanned next is seen behind; or, where deadlock is avoided, it stands before an await that it has not published, and another task is seen at a place
+-- at which it may hold the lock.
+pub data EndsTurn (seat : Known) : Type 0 where
+  is_done : IsDone seat → EndsTurn seat
+  is_refused : IsSome (own_place seat.view).dropped → ((p : ℕ) → own_phase seat.view p ≡ None) → EndsTurn seat
+  is_behind :
+      (e : Event) → event_of seat ≡ Some e → (seen seat.view).scanned < length seat.view.plan.parents →
+      IsSeenBehind seat e (seen seat.view).scanned → EndsTurn seat
+  is_locked_out :
+      (u : ℕ) → avoids seat.view.mode ≡ true → StandsBeforeAwait seat → u ≢ task_of seat.view →
+      MayHold seat.view.plan u ((seen seat.view).places u) → EndsTurn seat
+
+-- a task of this board whose turn may come
+pub record IsReady (board : Frame) (task : Working) : Type 0 where
+  pub of_board : IsOf task.seat board
+  pub kept : IsSeat task.seat
+
+-- each task has made its own steps
+pub data EachActs (board : Frame) : List (List Action) → List Working → List Working → Type 0 where
+  no_task : EachActs board [] [] []
+  one_task :
+      {own : List Action} {owns : List (List Action)} {before now : Working} {befores nows : List Working} →
+      Acts board own before now → EachActs board owns befores nows → EachActs board (own ∷ owns) (before ∷ befores) (now ∷ nows)
+
+-- Each task has made its own steps. Where memory lasted, each has come to the end of its turn, and all their steps are counted.
+pub record TakesTurns {E : Type 0} (board : Frame) (befores nows : List Working) (counted : Result ℕ E) : Type 0 where
+  pub owns : List (List Action)
+  pub each : EachActs board owns befores nows
+  pub events : IfOk counted (λ n. n ≡ sum_by length owns)
+  pub few : IfOk counted (λ n. n ≤ length befores * 524288)
+  pub ends : OnOk counted (All (λ task. EndsTurn task.seat) nows)
