@@ -19,19 +19,22 @@ use Rattle.armus_base.specs.Seats.{IsAsFarOn, IsKnownDead, SeenBy}
 use Rattle.armus_base.proofs.BoardRuns.{lawful_is_reachable, nobody_is_known_dead}
 use Rattle.armus_base.proofs.LeastLawful.{least_lawful_exists}
 use Rattle.armus_base.proofs.Places.{precedes_trans}
-use Rattle.armus_base.proofs.Reachable.{collected_is_dead_at_reachable}
+use Rattle.armus_base.specs.FinalLaws.{IsOfPlan}
+use Rattle.armus_base.proofs.DeadByStatuses.{dead_by_final, run_is_of_plan}
+use Rattle.armus_base.proofs.Reachable.{collected_is_dead_at_reachable, reachable_is_fixed}
 use Rattle.board.specs.declared.mode.Mode.{Mode}
 use Rattle.board.specs.Views.{avoids, seen}
 use Rattle.board.specs.Seats.{Frame, IsOf, Known}
 use Rattle.phase_scan.specs.Looks.{GoesOn}
 use Rattle.phase_scan.specs.Collects.{IsCollect}
 use Rattle.phase_scan.specs.Collected.{IsCollected, IsListedAsIn}
+use Rattle.phase_scan.specs.Settled.{TellsState, seen_state}
 use Rattle.phase_scan.proofs.Collecting.{cells_listed, cells_possible}
 use Rattle.phase_scan.proofs.Farther.{IsPossible}
 use Rattle.phase_scan.proofs.Standing.{dead_place, published_begun, same_phases}
 use Rattle.collector.specs.declared.verdict.Verdict.{Verdict}
 use Rattle.collector.specs.Names.{AreFresh}
-use Rattle.collector.specs.Passes.{InEachState, IsKnownDeadTo, IsVerdict, ListsPublished, is_named}
+use Rattle.collector.specs.Passes.{HasDeadOf, InEachState, IsKnownDeadTo, IsVerdict, ListsPublished, is_named}
 use Rattle.collector.proofs.Fresh.{Contains-map, filter_inside, listed_or_not}
 
 -- what is as far on as what the seat of a task has seen is as far on as what a viewer has that has seen the same
@@ -221,3 +224,15 @@ module _ (f : Frame) (before now : Known) (list : List Status) (of : IsOf before
 
   pub pass_within : (dead : List TaskId) → IsDeadList list dead → All (λ t. t.0 < length f.plan.parents) dead
   pass_within dead are k d l = (let (e, is) = pass_listed dead are k d l in within (get_or dead k d).0 e is)
+
+-- where the list has the statuses of a state, its dead are those of the state
+pub dead_of_state : (before : Known) (list : List Status) (dead : List TaskId) → IsCheckedPlan before.view.plan → TellsState list before → IsDeadList list dead → HasDeadOf (seen_state before) dead
+dead_of_state before list dead checked tells are t =
+    let plan = before.view.plan in
+    let s = seen_state before in
+    let reach = lawful_is_reachable (avoids before.view.mode) plan (seen before.view).places tells.lawful.0 tells.lawful.1 in
+    let of_plan : IsOfPlan plan s = subst (IsOfPlan plan) (reachable_is_fixed plan (seen before.view).places checked reach).0 (run_is_of_plan plan reach.steps checked reach.run) in
+    let same = dead_by_final plan s t.0 of_plan in (
+      λ inside. same.0 (subst (λ (xs : List Status). IsDeadBy xs t.0) tells.statuses ((are.exact t).0 inside)),
+      λ is. (are.exact t).1 (subst (λ (xs : List Status). IsDeadBy xs t.0) (sym tells.statuses) (same.1 is)),
+    )

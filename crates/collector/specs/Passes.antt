@@ -10,7 +10,7 @@ use Rattle.armus_base.specs.Runs.{Place}
 use Rattle.armus_base.specs.Places.{published_after, state_at}
 use Rattle.armus_base.specs.Boards.{IsLawful}
 use Rattle.armus_base.specs.Seats.{IsAsFarOn, IsKnownDead}
-use Rattle.armus_base.specs.Deadlocks.{IsListedOn}
+use Rattle.armus_base.specs.Deadlocks.{IsDeadIn, IsListedOn}
 use Rattle.armus_base.specs.DeadLists.{IsDeadList}
 use Rattle.board.specs.Views.{avoids, seen}
 use Rattle.board.specs.Seats.{Known}
@@ -50,6 +50,10 @@ pub record IsVerdict (names : List Bool) (list : List Status) (before now : Know
   pub only : (t : TaskId) → Contains verdict.dead t → IsKnownDeadTo now t.0
   pub fresh : map (λ d. d.t) verdict.fresh ≡ filter (λ t. not (is_named names t.0)) verdict.dead
   pub events : (d : Dead) → Contains verdict.fresh d → InEachState now (λ s. s.published d.t.0 ≡ Some d.event)
+
+-- these are the tasks that are dead in the state
+abbrev pub HasDeadOf : State → List TaskId → Type 0
+HasDeadOf s dead = (t : TaskId) → Contains dead t ↔ IsDeadIn s t.0
 
 -- named now are these tasks, and those that were named before
 abbrev pub NamesToo : List TaskId → List Bool → List Bool → Type 0

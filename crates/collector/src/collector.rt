@@ -5,7 +5,8 @@ ghost use Rattle.board.specs.Seats.{IsOf};
 ghost use Rattle.phase_scan.specs.Looks.{GoesOn};
 ghost use Rattle.phase_scan.specs.Collects.{CountsLoads, IsCollect};
 ghost use Rattle.phase_scan.specs.Collected.{IsCollected};
-ghost use Rattle.collector.specs.Passes.{IsVerdict, ListsPublished, NamesToo, is_named};
+ghost use Rattle.phase_scan.specs.Settled.{KnowsAll, TellsState, seen_state};
+ghost use Rattle.collector.specs.Passes.{HasDeadOf, IsVerdict, ListsPublished, NamesToo, is_named};
 
 use crate::naming::{fresh, name};
 use crate::verdict::Verdict;
@@ -50,7 +51,7 @@ impl Collector {
         })
     }
 
-    /// Makes one collect, and names the dead tasks of its statuses. Each task that is dead in every lawful state as far on as what the viewer had seen before is among them, and only tasks that are dead in every one as far on as what it has seen after. After `NoMemory` the named tasks are as before, and the viewer may have seen more.
+    /// Makes one collect, and names the dead tasks of its statuses. Each task that is dead in every lawful state as far on as what the viewer had seen before is among them, and only tasks that are dead in every one as far on as what it has seen after. Where the viewer has taken in every seat, they are just the tasks that are dead in the state that the board is in. After `NoMemory` the named tasks are as before, and the viewer may have seen more.
     pub fn pass(
         &mut self,
         alloc: Global,
@@ -70,6 +71,8 @@ impl Collector {
         ensures published { ListsPublished self.new.statuses view.new }
         ensures verdict { IfOk result (IsVerdict self.old.names self.new.statuses view.old view.new) }
         ensures named { IfOk result (λ v. NamesToo v.dead self.old.names self.new.names) }
+        ensures settled { KnowsAll view.old → TellsState self.new.statuses view.old }
+        ensures settled_dead { KnowsAll view.old → IfOk result (λ v. HasDeadOf (seen_state view.old) v.dead) }
         ensures err { OnErr result (self.new.names ≡ self.old.names) }
     {
         self.cells.collect(view, board);

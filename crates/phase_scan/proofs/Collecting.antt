@@ -15,11 +15,13 @@ use Rattle.board.specs.Seats.{Frame, IsOf, Known}
 use Rattle.phase_scan.specs.Looks.{GoesOn}
 use Rattle.phase_scan.specs.Collects.{CountsLoads, IsCollect, LoadsAwaits, LoadsRows}
 use Rattle.phase_scan.specs.Collected.{HasFinds, IsCollected}
+use Rattle.phase_scan.specs.Settled.{KnowsAll, TellsState}
 use Rattle.phase_scan.specs.declared.findings.Findings.{Findings}
 use Rattle.phase_scan.specs.Tables.{awaited_found, event_at, is_marked, state_found, status_found, statuses_found}
 use Rattle.phase_scan.proofs.Counting.{counts_loads}
 use Rattle.phase_scan.proofs.Farther.{IsPossible}
 use Rattle.phase_scan.proofs.Finds.{collect_finds}
+use Rattle.phase_scan.proofs.Settling.{tells_state}
 use Rattle.phase_scan.proofs.Telling.{are, collect_goes, collected, some_possible}
 
 -- a checked plan has a task
@@ -86,6 +88,9 @@ module _ (f : Frame) (list : List Status) (before now : Known) (of : IsOf before
 
   pub cells_find : before.view.holds ≡ true → HasFinds list now
   cells_find = collect_finds before now list here (some_task before.view.plan here) own
+
+  pub cells_settle : KnowsAll before → TellsState list before
+  cells_settle = tells_state before now list here (some_task before.view.plan here) own
 
   pub cells_in_order : IsInOrder list
   cells_in_order = subst IsInOrder (sym c.statuses) (statuses_are f.plan c.found (is_awaited f.plan c.found) checked).in_order

@@ -3,6 +3,7 @@ pub mod Chains
 pub mod Standing
 pub mod Farther
 pub mod Telling
+pub mod Settling
 pub mod Finds
 pub mod Counting
 pub mod Tables
@@ -11,3 +12,4 @@ pub mod WithOwn
 pub mod Supposes
 pub mod Keeping
 pub mod Collecting
+pub mod Sending

@@ -59,10 +59,10 @@ module _ (before now : Known) (list : List Status) (checked : IsCheckedPlan befo
   abbrev pub asked : ℕ → Bool
   asked = is_awaited plan c.found
 
-  seat : IsSeat before
+  pub seat : IsSeat before
   seat = awaits_seat plan c.found.published before c.between refl some c.awaits
 
-  awaits : GoesAt (λ u. u < tasks) before c.between
+  pub awaits : GoesAt (λ u. u < tasks) before c.between
   awaits = awaits_go plan c.found.published tasks before c.between refl (omega arith) seat c.awaits
 
   between_plan : c.between.view.plan ≡ plan
@@ -79,10 +79,10 @@ module _ (before now : Known) (list : List Status) (checked : IsCheckedPlan befo
   are = subst (AreStatuses plan c.found asked) (sym c.statuses) (statuses_are plan c.found asked checked)
 
   -- the load of each await word
-  abbrev Await : ℕ → Type 0
+  abbrev pub Await : ℕ → Type 0
   Await t = AwaitLoad plan c.found.published t before c.between
 
-  await : (t : ℕ) → t < tasks → Await t
+  pub await : (t : ℕ) → t < tasks → Await t
   await t l = await_of plan c.found.published tasks before c.between refl (omega arith) seat c.awaits t l
 
   -- some lawful state was possible before
@@ -109,18 +109,18 @@ module _ (before now : Known) (list : List Status) (checked : IsCheckedPlan befo
       by_cases (inr l) = absurd (omega arith)
 
   -- the load of each phase word
-  record Phase (t p : ℕ) : Type 0 where
-    from : Known
-    to : Known
-    goes_from : GoesOn c.between from
-    load : AnswersPhase t p (c.found.phases t p) from to
-    small : t < length from.view.plan.parents
-    goes_to : GoesOn to now
+  pub record Phase (t p : ℕ) : Type 0 where
+    pub from : Known
+    pub to : Known
+    pub goes_from : GoesOn c.between from
+    pub load : AnswersPhase t p (c.found.phases t p) from to
+    pub small : t < length from.view.plan.parents
+    pub goes_to : GoesOn to now
 
   abbrev pub IsLoaded : ℕ → ℕ → Type 0
   IsLoaded t p = t < tasks × is_some (c.found.published t) ≡ true × p < length plan.makers × asked p ≡ true
 
-  phase : (t p : ℕ) → IsLoaded t p → Phase t p
+  pub phase : (t p : ℕ) → IsLoaded t p → Phase t p
   phase t p (task, waits, phaser, on) =
       let r = row_of plan (length plan.makers) asked c.found tasks c.between now between_plan (omega arith) awaits.goes.kept c.rows t task waits in
       let l = phase_of plan asked t task (c.found.phases t) (length plan.makers) r.from r.to r.of r.goes_from.kept r.row p phaser on in

@@ -6,6 +6,7 @@ ghost use Rattle.phase_scan.specs.Looks.{GoesOn};
 ghost use Rattle.phase_scan.specs.Collects.{CountsLoads, IsCollect};
 ghost use Rattle.phase_scan.specs.Supposed.{IsSupposed};
 ghost use Rattle.phase_scan.specs.Collected.{HasFinds, IsCollected};
+ghost use Rattle.phase_scan.specs.Settled.{KnowsAll, TellsState};
 
 use crate::findings::Findings;
 use armus_base::{Event, List, NoMemory, Status};
@@ -51,7 +52,7 @@ impl Cells {
         })
     }
 
-    /// Loads the await words of all tasks, in order, and then, for each task found waiting, its phase word on each of the distinct phasers found awaited, both in order.
+    /// Loads the await words of all tasks, in order, and then, for each task found waiting, its phase word on each of the distinct phasers found awaited, both in order. A seat that knows all tasks exactly, as a viewer that has taken in every seat, finds the statuses of the state that the board is in.
     pub fn collect<L: Loads>(&mut self, by: &mut L, board: &Board)
         requires made { IsOf (L.known by.old) board.now }
         requires tasks { self.old.tasks ≡ length board.now.plan.parents }
@@ -63,6 +64,7 @@ impl Cells {
         ensures loads { CountsLoads board.now.plan self.new.statuses (L.known by.old) (L.known by.new) }
         ensures collected { IsCollected self.new.statuses (L.known by.old) (L.known by.new) }
         ensures finds { (L.known by.old).view.holds ≡ true → HasFinds self.new.statuses (L.known by.new) }
+        ensures settled { KnowsAll (L.known by.old) → TellsState self.new.statuses (L.known by.old) }
     {
         self.found.unmark();
         self.found.load_awaits(by, board);

@@ -3,11 +3,12 @@ use Rattle.std.specs.Prelude.{All}
 use Rattle.armus_base.specs.declared.ids.TaskId.{TaskId}
 use Rattle.armus_base.specs.declared.event.Event.{Event}
 use Rattle.armus_base.specs.declared.status.Status.{Status}
+use Rattle.armus_base.specs.CheckedPlans.{IsCheckedPlan}
 use Rattle.armus_base.specs.DeadLists.{IsDeadList}
 use Rattle.armus_base.specs.Deadlocks.{IsListedOn}
 use Rattle.collector.specs.Names.{AreFresh}
 use Rattle.collector.specs.Passes.{Watch}
-use Rattle.collector.proofs.Verdicts.{pass_listed, pass_published, pass_verdict, pass_within}
+use Rattle.collector.proofs.Verdicts.{dead_of_state, pass_listed, pass_published, pass_verdict, pass_within}
 use Rattle.collector.proofs.collector.Collector.pass.Goals as goal
 
 pub returns-in_err-list-clause-published : goal.returns-in_err-list-clause-published
@@ -77,3 +78,11 @@ returns-clause-verdict c =
     (subst (λ (ts : List TaskId). AreFresh c.deref.result.now c.as_slice-2.result.now ts fresh) c.as_slice-3.ensures.items c.in_ok-fresh.ensures)) in
     pass_verdict c.args.board.now c.args.view.now c.collect.new.by list c.requires.made c.collect.ensures.goes_on c.collect.ensures.collect c.collect.ensures.collected
     c.args.self.now.names (record { dead = dead; fresh = fresh }) are new
+
+pub returns-clause-settled_dead : goal.returns-clause-settled_dead
+returns-clause-settled_dead c all =
+    let dead = c.in_ok-dead.field-0.dead in
+    let first = c.as_slice.ensures.items ∙ c.in_ok-list.ensures.statuses in
+    let are = subst (λ (xs : List Status). IsDeadList xs dead) first c.in_ok-dead.ensures.dead in
+    let goes = c.collect.ensures.goes_on in
+    dead_of_state c.args.view.now c.collect.new.self.statuses dead (subst IsCheckedPlan goes.same.plan goes.kept.checked) (c.collect.ensures.settled all) are

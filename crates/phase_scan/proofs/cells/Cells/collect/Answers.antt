@@ -1,7 +1,7 @@
 use Rattle.std.proofs.Common.{◌∙◌, ap}
 use Rattle.phase_scan.specs.Collects.{Collection, IsCollect}
 use Rattle.phase_scan.specs.Tables.{statuses_found}
-use Rattle.phase_scan.proofs.Collecting.{cells_count, cells_find, cells_go, cells_in_order, cells_tell, marks_stay, tables_collect}
+use Rattle.phase_scan.proofs.Collecting.{cells_count, cells_find, cells_go, cells_in_order, cells_settle, cells_tell, marks_stay, tables_collect}
 use Rattle.phase_scan.proofs.cells.Cells.collect.Goals as goal
 
 the_collect : (g : _) (c : goal.After-load_rows g) → IsCollect c.args.board.now.plan (statuses_found c.load_rows.new.self) (g.L.Loads.known c.args.by.now) (g.L.Loads.known c.load_rows.new.by)
@@ -46,4 +46,9 @@ returns-clause-collected g c =
 pub returns-clause-finds : goal.returns-clause-finds
 returns-clause-finds g c =
     cells_find c.args.board.now (statuses_found c.load_rows.new.self) (g.L.Loads.known c.args.by.now) (g.L.Loads.known c.load_rows.new.by)
+    c.requires.made c.load_awaits.ensures.checked (the_collect g c)
+
+pub returns-clause-settled : goal.returns-clause-settled
+returns-clause-settled g c =
+    cells_settle c.args.board.now (statuses_found c.load_rows.new.self) (g.L.Loads.known c.args.by.now) (g.L.Loads.known c.load_rows.new.by)
     c.requires.made c.load_awaits.ensures.checked (the_collect g c)
