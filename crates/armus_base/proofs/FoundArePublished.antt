@@ -53,7 +53,8 @@ found_are_published plan t a lock seen list checked lawful has unpublished finds
         | inl same ↦
             absurd (let none : (state_at plan a).published u ≡ None = ap (state_at plan a).published same ∙ unpublished in cc)
         | inr other ↦
-            by_find plan a consistent list u e published (seen.found u) (λ f is. finds.listed u f other is)
-            (finds.all u (published_within plan checked a u e published) other) (has.agrees u other)
+            let within = published_within plan checked a u e published in
+            by_find plan a consistent list u e published (seen.found u) (λ f is. finds.listed u f within other is)
+            (finds.all u within other) (has.agrees u other)
       ],
 )

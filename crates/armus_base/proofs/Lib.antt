@@ -22,13 +22,16 @@ pub mod NobodyIsDead
 pub mod SerialIsAvoided
 pub mod BoardRuns
 pub mod LawfulPlaces
-pub mod AwaitLoadKeepsFar
 pub mod HolderMayHold
 pub mod Reachable
+pub mod KeepsFar
+pub mod LockExcludes
+pub mod RefusedHasDropped
 pub mod AllScannedIsReached
 pub mod FindsStay
 pub mod FoundArePublished
 pub mod ListDecides
+pub mod ListAvoids
 pub mod LeastExists
 pub mod MaximalExists
 pub mod KnownAreLeastDead
@@ -53,3 +56,5 @@ pub mod OneSerialEnd
 pub mod RunTests
 pub mod DeadTests
 pub mod WorkedTexts
+pub mod WorkedDecisions
+pub mod WorkedLoads

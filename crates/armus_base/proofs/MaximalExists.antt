@@ -132,11 +132,13 @@ module _ (plan : Plan) (checked : IsCheckedPlan plan) where
     pub ends_or_goes : Ends ⊎ GoesOn
     ends_or_goes = by_next (action_at plan t (places h t).done) refl
 
-  done_within : (h : List Step) → IsPlainRun plan h → all_done plan h ≤ all_actions plan
+  -- what a plain run has done is at most all actions
+  pub done_within : (h : List Step) → IsPlainRun plan h → all_done plan h ≤ all_actions plan
   unfolding all_done all_actions
   done_within h run = sum_at_most (done_by (places h)) (λ t. length (actions plan t)) (done_within_code plan checked h run) (length plan.parents)
 
-  done_more : (e : Step) (h : List Step) → IsPlainRun plan (e ∷ h) → e.task < length plan.parents → all_done plan (e ∷ h) ≡ suc (all_done plan h)
+  -- a step of a task of the plan is one action more
+  pub done_more : (e : Step) (h : List Step) → IsPlainRun plan (e ∷ h) → e.task < length plan.parents → all_done plan (e ∷ h) ≡ suc (all_done plan h)
   unfolding all_done
   done_more e h run l =
       sum_more (done_by (places h)) (done_by (places (e ∷ h))) e.task (ap (λ v. v.done) (plain_step plan e h run))

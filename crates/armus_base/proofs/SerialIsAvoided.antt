@@ -7,23 +7,18 @@ use Rattle.armus_base.specs.Plans.{Action, Advances, Blocks, Drops, Forks, Makes
 use Rattle.armus_base.specs.States.{State, Step, after, awaited, updated}
 use Rattle.armus_base.specs.Runs.{IsLegalRun, state_after}
 use Rattle.armus_base.specs.CheckedPlans.{IsCheckedPlan}
-use Rattle.armus_base.specs.Deadlocks.{IsDeadIn, NobodyDead, WouldBeDead}
-use Rattle.armus_base.specs.Avoidance.{Avoids, IsAvoidedRun}
+use Rattle.armus_base.specs.Deadlocks.{NobodyDead, WouldBeDead}
+use Rattle.armus_base.specs.Avoidance.{Avoids, IsAvoidedRun, LeavesNobodyDead}
 use Rattle.armus_base.specs.Serial.{GoesOn, IsDecided, IsSerialAvoidedRun, IsTurn, RoundBelow, opens, rounds}
 use Rattle.armus_base.specs.RunLaws.{SerialIsAvoided}
 use Rattle.armus_base.proofs.Steps.{updated_other}
 use Rattle.armus_base.proofs.NobodyIsDead.{nobody_is_dead}
 
--- a block of a task that would not be dead leaves nobody dead
-pub block_leaves_nobody_dead :
-    (s : State) (t p : ℕ) (e : Event) → NobodyDead s → awaited (Some (Blocks p)) (s.phases t) ≡ Some e → (WouldBeDead s t e → ⊥) →
-    NobodyDead (after s t (Blocks p))
-block_leaves_nobody_dead s t p e nobody awaits alive u dead =
+-- where a task would not be dead if it were published on an event, nobody would be
+pub publishing_leaves_nobody_dead : (s : State) (t : ℕ) (e : Event) → NobodyDead s → (WouldBeDead s t e → ⊥) → LeavesNobodyDead s t e
+publishing_leaves_nobody_dead s t e nobody alive u dead =
     elim (cases_Bool (dead.tasks t)) [
-      | inl inside ↦
-          alive
-          (subst (λ o. IsDeadIn (record s { published = updated s.published t o }) t) awaits
-          (record { tasks = dead.tasks; inside = inside; deadlocked = dead.deadlocked }))
+      | inl inside ↦ alive (record { tasks = dead.tasks; inside = inside; deadlocked = dead.deadlocked })
       | inr outside ↦
           nobody u (record {
             tasks = dead.tasks;
@@ -36,7 +31,7 @@ block_leaves_nobody_dead s t p e nobody awaits alive u dead =
                       let other : v ≢ t = λ i. absurd (let b : dead.tasks v ≡ false = ap dead.tasks i ∙ outside in cc) in
                       record {
                         event = held.event;
-                        waits = sym (updated_other s.published t v (awaited (Some (Blocks p)) (s.phases t)) other) ∙ held.waits;
+                        waits = sym (updated_other s.published t v (Some e) other) ∙ held.waits;
                         by = held.by;
                         inside = held.inside;
                         phase = held.phase;
@@ -47,8 +42,15 @@ block_leaves_nobody_dead s t p e nobody awaits alive u dead =
           })
     ]
 
+-- a block of a task that would not be dead leaves nobody dead
+pub block_leaves_nobody_dead :
+    (s : State) (t p : ℕ) (e : Event) → NobodyDead s → awaited (Some (Blocks p)) (s.phases t) ≡ Some e → (WouldBeDead s t e → ⊥) →
+    NobodyDead (after s t (Blocks p))
+block_leaves_nobody_dead s t p e nobody awaits alive =
+    subst (λ o. NobodyDead (record s { published = updated s.published t o })) (sym awaits) (publishing_leaves_nobody_dead s t e nobody alive)
+
 decided_avoids : (s : State) (t : ℕ) (x : Action) → NobodyDead s → IsDecided s t x → Avoids s t x
-decided_avoids s t (Blocks p) nobody decided = block_leaves_nobody_dead s t p decided.0 nobody decided.1 decided.2
+decided_avoids s t (Blocks p) nobody decided = (decided.0, decided.1, publishing_leaves_nobody_dead s t decided.0 nobody decided.2)
 decided_avoids s t (Refuses p) nobody decided = decided
 decided_avoids s t (Makes p) nobody decided = tt
 decided_avoids s t (Registers c p) nobody decided = tt

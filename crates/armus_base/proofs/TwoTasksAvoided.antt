@@ -26,7 +26,7 @@ of_some_phase n e h = ap (λ o. phase_of o) h
     phase_of None = 0
     phase_of (Some d) = d.n
 
-some_is : (m n : ℕ) → Some m ≡ Some n → m ≡ n
+pub some_is : (m n : ℕ) → Some m ≡ Some n → m ≡ n
 some_is m n h = cc
 
 -- where task 0 blocks nobody else is published
@@ -48,7 +48,7 @@ alone dead =
       | inr other ↦ absurd (let none = other.1 in cc)
     ]
 
-second_dead : WouldBeDead (state_after (does 1 (Advances 1) ∷ first_turn)) 1 ((event_at 1 1))
+pub second_dead : WouldBeDead (state_after (does 1 (Advances 1) ∷ first_turn)) 1 ((event_at 1 1))
 second_dead =
     record { tasks = λ u. nat_lt u 2; inside = refl; deadlocked = record { some = (1, refl); each = λ u inside. held u (ltb-true u 2 inside) } }
   where

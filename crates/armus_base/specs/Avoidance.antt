@@ -2,17 +2,17 @@
 use Rattle.std.specs.Prelude.{◌≡◌, ℕ, List, [], ◌∷◌, Some}
 use Rattle.armus_base.specs.declared.event.Event.{Event}
 use Rattle.armus_base.specs.Plans.{Plan, Action, Blocks, Refuses}
-use Rattle.armus_base.specs.States.{State, Step, after, awaited}
+use Rattle.armus_base.specs.States.{State, Step, awaited, if_published}
 use Rattle.armus_base.specs.Runs.{state_after, IsNextStep, IsMaximal}
 use Rattle.armus_base.specs.Deadlocks.{NobodyDead, WouldBeDead}
 
--- nobody is dead after task t has published its await of p
-abbrev pub LeavesNobodyDead : State → ℕ → ℕ → Type 0
-LeavesNobodyDead s t p = NobodyDead (after s t (Blocks p))
+-- nobody would be dead, were task t published on the event
+abbrev pub LeavesNobodyDead : State → ℕ → Event → Type 0
+LeavesNobodyDead s t e = NobodyDead (if_published s t e)
 
--- a block leaves nobody dead, and a refusal comes only where its task would be dead
+-- a block publishes an event that leaves nobody dead, and a refusal comes only where its task would be dead
 abbrev pub Avoids : State → ℕ → Action → Type 0
-Avoids s t (Blocks p) = LeavesNobodyDead s t p
+Avoids s t (Blocks p) = (e : Event) × awaited (Some (Blocks p)) (s.phases t) ≡ Some e × LeavesNobodyDead s t e
 Avoids s t (Refuses p) = (e : Event) × awaited (Some (Blocks p)) (s.phases t) ≡ Some e × WouldBeDead s t e
 Avoids s t x = Unit {0}
 

@@ -1,4 +1,4 @@
--- Checked plans: the plans to which texts unfold.
+-- Checked plans: what every plan is to which a text unfolds. (There are more: forks in one another, 70 deep, are a checked plan of no text.)
 use Rattle.std.specs.Prelude.{◌≡◌, ◌≢◌, ℕ, ◌<◌, ◌≤◌, List, [], ◌∷◌, ◌++◌, Some, None, length, slice_get, sum_by}
 use Rattle.armus_base.specs.declared.ids.TaskId.{TaskId}
 use Rattle.armus_base.specs.Limits.{max_tasks, max_phasers, max_ops}

@@ -2,7 +2,7 @@
 use Rattle.std.specs.Prelude.{◌≡◌, ℕ, ◌<◌, Bool, true, Some, List, Contains, IsSome}
 use Rattle.armus_base.specs.declared.event.Event.{Event}
 use Rattle.armus_base.specs.declared.status.Status.{Status}
-use Rattle.armus_base.specs.States.{State, updated}
+use Rattle.armus_base.specs.States.{State, if_published}
 
 -- a relation that says on which event a task waits
 abbrev pub WaitsOn : Type 1
@@ -55,7 +55,7 @@ IsHeld s t = IsSome (s.published t) × (IsDeadIn s t → ⊥)
 
 -- task t would be dead, were it published on the event
 abbrev pub WouldBeDead : State → ℕ → Event → Type 0
-WouldBeDead s t e = IsDeadIn (record s { published = updated s.published t (Some e) }) t
+WouldBeDead s t e = IsDeadIn (if_published s t e) t
 
 -- the list has a status of task t with this event
 abbrev pub IsListedOn : List Status → WaitsOn

@@ -2,15 +2,15 @@
 use Rattle.std.specs.Prelude.{◌≡◌, ◌≢◌, ℕ, true, List, Option, Some, None}
 use Rattle.armus_base.specs.declared.event.Event.{Event}
 use Rattle.armus_base.specs.declared.status.Status.{Status}
-use Rattle.armus_base.specs.Plans.{Plan, Action}
+use Rattle.armus_base.specs.Plans.{Plan, Action, Blocks, Refuses}
 use Rattle.armus_base.specs.States.{State, after, IsLegal}
 use Rattle.armus_base.specs.Runs.{Place, IsReachable}
 use Rattle.armus_base.specs.Places.{state_at}
 use Rattle.armus_base.specs.CheckedPlans.{IsCheckedPlan}
-use Rattle.armus_base.specs.Deadlocks.{IsListedOn, NobodyDead}
+use Rattle.armus_base.specs.Deadlocks.{IsDeadBy, IsListedOn, NobodyDead}
 use Rattle.armus_base.specs.Boards.{IsLawful, MayDo}
-use Rattle.armus_base.specs.Seats.{SeenBy, HasLockWith, Found, StillAgrees}
-use Rattle.armus_base.specs.Decisions.{StandsBefore, HasOwnStatus, HasOtherStatuses, IsEnoughToDecide, Decides, HasAllFound}
+use Rattle.armus_base.specs.Seats.{SeenBy, HasLockWith, IsAsFarOn, Found, StillAgrees, await_word, IsSeenAfterAwait, AvoidsByWhatIsSeen}
+use Rattle.armus_base.specs.Decisions.{StandsBefore, HasOwnStatus, HasOtherStatuses, IsEnoughToDecide, IsInHand, Decides, HasAllFound}
 
 -- a list of statuses that is enough decides on an await
 abbrev pub ListDecides : Type 0
@@ -37,3 +37,19 @@ abbrev pub FindsStay : Type 0
 FindsStay =
     (plan : Plan) (s : State) (t u w : ℕ) (x : Action) (find : Option Found) → MayDo (Some t) u x → IsLegal plan s u x → w ≢ t →
     StillAgrees s w find → StillAgrees (after s u x) w find
+
+-- a find agrees with the state in which a holder of the lock loads it, and the state has the lock with its seat as before
+abbrev pub LoadKeepsLock : Type 0
+LoadKeepsLock =
+    (plan : Plan) (t u : ℕ) (a : ℕ → Place) (lock : Option ℕ) (before now : SeenBy) → HasLockWith plan t a lock before →
+    IsSeenAfterAwait true plan true u (await_word plan u (a u)) before now → StillAgrees (state_at plan a) u (now.found u) × HasLockWith plan t a lock now
+
+-- Where the list is in hand in each lawful state that has the lock with the seat and is as far on as what it has seen, it decides on the await: the
+-- task may publish it where it is not dead by the list, and refuse it where it is.
+abbrev pub ListInHandAvoids : Type 0
+ListInHandAvoids =
+    (plan : Plan) (t : ℕ) (event : Event) (seen : SeenBy) (list : List Status) → IsCheckedPlan plan → HasAllFound plan t seen list →
+    ((a : ℕ → Place) (lock : Option ℕ) → IsLawful true plan a lock → HasLockWith plan t a lock seen → IsAsFarOn plan (Some t) a seen →
+    IsInHand plan a t event list) →
+    ((IsDeadBy list t → ⊥) → AvoidsByWhatIsSeen plan t seen (Blocks event.p.0))
+    × (IsDeadBy list t → AvoidsByWhatIsSeen plan t seen (Refuses event.p.0))

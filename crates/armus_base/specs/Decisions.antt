@@ -5,7 +5,7 @@ use Rattle.armus_base.specs.declared.status.Status.{Status}
 use Rattle.armus_base.specs.Plans.{Plan, Blocks, action_at}
 use Rattle.armus_base.specs.States.{State, IsActive, awaited}
 use Rattle.armus_base.specs.Runs.{Place, IsPrefix}
-use Rattle.armus_base.specs.Places.{phases_at_place, published_after}
+use Rattle.armus_base.specs.Places.{phases_at_place, published_after, state_at}
 use Rattle.armus_base.specs.Seats.{SeenBy, FoundWaiting}
 use Rattle.armus_base.specs.Deadlocks.{IsListedOn, IsListedAt, IsDeadBy, NobodyDead, WouldBeDead}
 
@@ -50,6 +50,12 @@ pub record IsEnoughToDecide (plan : Plan) (s : State) (now : ℕ → Place) (t :
   pub all_published : (u : ℕ) (e : Event) → s.published u ≡ Some e → IsListedOn list u e
   pub others : HasOtherStatuses plan s now t list
 
+-- task t stands before an await of the event, and the list has its status and of each other what was found
+pub record IsInHand (plan : Plan) (now : ℕ → Place) (t : ℕ) (event : Event) (list : List Status) : Type 0 where
+  pub stands : StandsBefore plan (state_at plan now) now t event
+  pub own : HasOwnStatus (state_at plan now) t event list
+  pub others : HasOtherStatuses plan (state_at plan now) now t list
+
 -- the list tells whether t would be dead; where t is not dead by it, nobody is; and each other task that is dead by it is published
 pub record Decides (s : State) (t : ℕ) (event : Event) (list : List Status) : Type 0 where
   pub refuses : IsDeadBy list t → WouldBeDead s t event
@@ -60,4 +66,4 @@ pub record Decides (s : State) (t : ℕ) (event : Event) (list : List Status) : 
 -- the seat of task t has found all other tasks, and the list has each that was found waiting
 pub record HasAllFound (plan : Plan) (t : ℕ) (seen : SeenBy) (list : List Status) : Type 0 where
   pub all : (u : ℕ) → u < length plan.parents → u ≢ t → IsSome (seen.found u)
-  pub listed : (u : ℕ) (e : Event) → u ≢ t → seen.found u ≡ Some (FoundWaiting e) → IsListedOn list u e
+  pub listed : (u : ℕ) (e : Event) → u < length plan.parents → u ≢ t → seen.found u ≡ Some (FoundWaiting e) → IsListedOn list u e

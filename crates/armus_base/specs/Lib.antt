@@ -26,6 +26,7 @@ pub mod FinalLaws
 pub mod TwoTasks
 pub mod Exclusions
 pub mod WorkedTexts
+pub mod WorkedDecisions
 pub mod Causes
 pub mod Outside
 pub mod ReadAll

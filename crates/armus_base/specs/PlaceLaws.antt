@@ -1,13 +1,13 @@
 -- Laws of places: those to which legal runs lead, and the lawful ones of both boards.
-use Rattle.std.specs.Prelude.{◌≡◌, ◌≢◌, ℕ, Bool, true, false, Option, Some, None}
+use Rattle.std.specs.Prelude.{◌≡◌, ◌≢◌, ℕ, ◌<◌, Bool, true, false, List, ◌∷◌, ◌++◌, Option, Some, None, Contains, length}
 use Rattle.armus_base.specs.declared.event.Event.{Event}
 use Rattle.armus_base.specs.Plans.{Plan, Action, Refuses}
 use Rattle.armus_base.specs.States.{after, IsLegal, IsActive, IsReached}
 use Rattle.armus_base.specs.Runs.{first_place, IsAtAwait, Place, IsByCode, IsReachable, moved, state_after, ArePrefixes}
-use Rattle.armus_base.specs.Places.{IsConsistent, state_at}
+use Rattle.armus_base.specs.Places.{IsConsistent, members_below, phases_after, state_at}
 use Rattle.armus_base.specs.CheckedPlans.{IsCheckedPlan}
 use Rattle.armus_base.specs.Avoidance.{Avoids}
-use Rattle.armus_base.specs.Boards.{IsLawful, MayDo}
+use Rattle.armus_base.specs.Boards.{Entry, Frees, IsBoardRun, IsLawful, MayDo, Takes}
 use Rattle.armus_base.specs.Seats.{IsPlaceOf}
 
 -- the state of reachable places is the state after each run that leads there, and only forked tasks have begun in it
@@ -26,6 +26,12 @@ abbrev pub ReachedStaysAtReachable : Type 0
 ReachedStaysAtReachable =
     (plan : Plan) (a b : ℕ → Place) (e : Event) → IsCheckedPlan plan → IsReachable plan a → IsReachable plan b → ArePrefixes a b →
     (state_at plan a).made e.p.0 ≡ true → IsReached (state_at plan a) e → IsReached (state_at plan b) e
+
+-- a refused task that is a member of nothing has dropped each phaser of which it was a member
+abbrev pub RefusedHasDropped : Type 0
+RefusedHasDropped =
+    (plan : Plan) (a : ℕ → Place) (t d : ℕ) → IsCheckedPlan plan → IsReachable plan a → (a t).dropped ≡ Some d →
+    ((p : ℕ) → (state_at plan a).phases t p ≡ None) → d ≡ members_below (phases_after plan t (a t).done) (length plan.makers)
 
 -- lawful places are reachable
 abbrev pub LawfulIsReachable : Type 0
@@ -64,3 +70,13 @@ TakingIsLawful =
 -- the holder of the lock may free it
 abbrev pub FreeingIsLawful : Type 0
 FreeingIsLawful = (plan : Plan) (a : ℕ → Place) (t : ℕ) → IsLawful true plan a (Some t) → IsLawful true plan a None
+
+-- between two takings of the lock whoever took it first frees it
+abbrev pub TakersFree : Type 0
+TakersFree =
+    (plan : Plan) (t u : ℕ) (between earlier : List Entry) → IsBoardRun true plan (Takes u ∷ (between ++ (Takes t ∷ earlier))) →
+    Contains between (Frees t)
+
+-- the holder of the lock is a task of the plan
+abbrev pub HolderIsTask : Type 0
+HolderIsTask = (plan : Plan) (a : ℕ → Place) (t : ℕ) → IsCheckedPlan plan → IsLawful true plan a (Some t) → t < length plan.parents

@@ -8,7 +8,7 @@ use Rattle.armus_base.specs.Places.{state_at, phases_at_place, published_after}
 use Rattle.armus_base.specs.CheckedPlans.{IsCheckedPlan}
 use Rattle.armus_base.specs.Deadlocks.{IsDeadIn}
 use Rattle.armus_base.specs.Boards.{IsLawful}
-use Rattle.armus_base.specs.Seats.{SeenBy, IsAsFarOn, IsKnownDead, IsLeast, IsLeastLawful, Found, IsLongestPrefix, await_word, MayHold, IsExactOf, IsSeenAfterAwait}
+use Rattle.armus_base.specs.Seats.{SeenBy, IsAsFarOn, IsKnownDead, IsLeast, IsLeastLawful, Found, IsLongestPrefix, await_word, MayHold, IsExactOf, IsSeenAfterAwait, IsSeenAfterBusy, IsSeenAfterPhase}
 
 -- the shorter of the places of each task after two plain runs are the places of a plain run
 abbrev pub EarlierPlaces : Type 0
@@ -89,3 +89,16 @@ AwaitLoadKeepsFar =
     (avoids : Bool) (plan : Plan) (own : Option ℕ) (a : ℕ → Place) (lock : Option ℕ) (holds : Bool) (t : ℕ) (before now : SeenBy) →
     IsCheckedPlan plan → IsLawful avoids plan a lock → t < length plan.parents → IsExactOf plan own before → IsAsFarOn plan own a before →
     IsSeenAfterAwait avoids plan holds t (await_word plan t (a t)) before now → IsAsFarOn plan own a now
+
+-- the same after a load of a phase that tells the task's phase in that state
+abbrev pub PhaseLoadKeepsFar : Type 0
+PhaseLoadKeepsFar =
+    (avoids : Bool) (plan : Plan) (own : Option ℕ) (a : ℕ → Place) (lock : Option ℕ) (t p : ℕ) (before now : SeenBy) →
+    IsCheckedPlan plan → IsLawful avoids plan a lock → t < length plan.parents → IsExactOf plan own before → IsAsFarOn plan own a before →
+    IsSeenAfterPhase avoids plan own t p ((state_at plan a).phases t p) before now → IsAsFarOn plan own a now
+
+-- the same after a try for the lock that finds it held by its holder
+abbrev pub BusyKeepsFar : Type 0
+BusyKeepsFar =
+    (plan : Plan) (own : Option ℕ) (a : ℕ → Place) (h : ℕ) (before now : SeenBy) → IsCheckedPlan plan → IsLawful true plan a (Some h) →
+    IsExactOf plan own before → IsAsFarOn plan own a before → IsSeenAfterBusy plan h before now → IsAsFarOn plan own a now

@@ -62,6 +62,10 @@ pub record Step : Type 0 where
   pub task : ℕ
   pub action : Action
 
+-- the state as it would be if task t were published on the event
+abbrev pub if_published : State → ℕ → Event → State
+if_published s t e = record s { published = updated s.published t (Some e) }
+
 -- every member of the event's phaser has its phase at least
 abbrev pub IsReached : State → Event → Type 0
 IsReached s e = (u m : ℕ) → s.phases u e.p.0 ≡ Some m → e.n ≤ m

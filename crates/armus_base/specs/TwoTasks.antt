@@ -3,6 +3,7 @@ use Rattle.std.specs.Prelude.{ℕ, List, [], ◌∷◌, Some, None}
 use Rattle.armus_base.specs.declared.op.Op.TheVariants.{Make, Reg, Fork, Adv, Await}
 use Rattle.armus_base.specs.Plans.{Plan, Action, Makes, Registers, Forks, Advances, Drops, Blocks, Passes, Refuses}
 use Rattle.armus_base.specs.States.{Step}
+use Rattle.armus_base.specs.Boards.{Entry, Does, Takes, Frees, without_lock}
 
 -- two phasers a and b, of both of which both tasks are members; task 0 advances on a and awaits it, task 1 on b
 abbrev pub two_tasks : Plan
@@ -39,3 +40,15 @@ second_turn = does 1 (Drops 1) ∷ does 1 (Drops 0) ∷ does 1 (Refuses 1) ∷ d
 -- after all turns
 abbrev pub all_turns : List Step
 all_turns = does 0 (Passes 0) ∷ second_turn
+
+-- on a board that avoids deadlock task 0 holds the lock before its await
+abbrev pub first_holds : List Entry
+first_holds = Takes 0 ∷ without_lock before_block
+
+-- it has blocked and freed the lock, and task 1 stands before its await
+abbrev pub second_stands : List Entry
+second_stands = Does (does 1 (Advances 1)) ∷ Frees 0 ∷ Does (does 0 (Blocks 0)) ∷ first_holds
+
+-- and task 1 holds the lock
+abbrev pub second_holds : List Entry
+second_holds = Takes 1 ∷ second_stands

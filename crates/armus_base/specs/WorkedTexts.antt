@@ -34,7 +34,7 @@ abbrev reg : ℕ → ℕ → Op
 reg c p = Reg (task c) (phaser p)
 
 -- phase n on p
-abbrev at : ℕ → ℕ → Member
+abbrev pub at : ℕ → ℕ → Member
 at p n = record { p = phaser p; n = n }
 
 -- a task that waits on p@n
@@ -42,7 +42,7 @@ abbrev waits : ℕ → ℕ → TaskEnd
 waits p n = Blocked (event_at p n)
 
 -- the status of task t that waits on p@n with these phases
-abbrev status : ℕ → ℕ → ℕ → List Member → Status
+abbrev pub status : ℕ → ℕ → ℕ → List Member → Status
 status t p n phases = record { t = task t; event = event_at p n; phases = phases }
 
 abbrev worker : List Op

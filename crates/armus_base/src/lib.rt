@@ -24,9 +24,10 @@ pub use event::Event;
 pub use ids::{Phase, PhaserId, TaskId};
 pub use laws::{
     collected_is_dead, dead_stays, exclusions, final_is_of_state, lawful_places, least_state,
-    list_decides, next_is_legal, nobody_is_dead, one_end, only_blocks_kill, phases_fit,
-    places_fix_state, plan_grows, reachable_places, reached_stays, scanned_stays, seen_is_before,
-    serial_is_avoided, statuses_are_of_state, worked_avoided_run, worked_texts,
+    list_decides, lock_excludes, next_is_legal, nobody_is_dead, one_end, only_blocks_kill,
+    phases_fit, places_fix_state, plan_grows, reachable_places, reached_stays, scanned_stays,
+    seen_is_before, seen_keeps_far, serial_is_avoided, statuses_are_of_state, worked_avoided_run,
+    worked_decisions, worked_loads, worked_texts,
 };
 pub use list::List;
 pub use memory::{MemSink, MemSource, SafeSource};

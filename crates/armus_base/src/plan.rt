@@ -1,5 +1,5 @@
 // Plans: what runs.
-ghost use Rattle.std.specs.Prelude.{◌≡◌, ◌<◌, Some, length, slice_get, sum_by};
+ghost use Rattle.std.specs.Prelude.{◌≡◌, ◌<◌, ◌↔◌, None, Some, length, slice_get, sum_by};
 ghost use Rattle.armus_base.specs.Plans.{code_of};
 ghost use Rattle.armus_base.specs.CheckedPlans.{IsCheckedPlan};
 
@@ -79,10 +79,11 @@ impl Plan {
         ops as u32
     }
 
-    /// The task that draws `t`; None for task 0 alone.
+    /// The task that draws `t`; None exactly for task 0.
     pub fn parent(&self, t: TaskId) -> Option<TaskId>
         requires task { t.0 < length self.now.parents }
         ensures parent { slice_get self.now.parents t.0 ≡ Some result }
+        ensures root { result ≡ None ↔ t.0 ≡ 0 }
     {
         self.parents.as_slice()[t.0 as usize]
     }

@@ -13,7 +13,7 @@ use Rattle.armus_base.specs.Runs.{Place, next_place}
 use Rattle.armus_base.specs.Seats.{HasLockWith, InEachWithLock, IsAsFarOn, SeenBy}
 use Rattle.armus_base.specs.States.{State, awaited}
 use Rattle.armus_base.proofs.BoardRuns.{nobody_dead_at}
-use Rattle.armus_base.proofs.SerialIsAvoided.{block_leaves_nobody_dead}
+use Rattle.armus_base.proofs.SerialIsAvoided.{publishing_leaves_nobody_dead}
 use Rattle.board.specs.declared.view.View.{View}
 use Rattle.board.specs.Views.{avoids, action_after, next_action, own_place, place_in, seen, task_of}
 use Rattle.board.specs.Steps.{own_phase}
@@ -71,23 +71,29 @@ module _ (list : List Status) (p : ℕ) (before now : Known) (found : Option Cyc
         ap (λ q. awaited (Some (Blocks q)) ((state_at plan a).phases t)) (sym j.of_phaser)
         ∙ (stands list j.supposed j.event before j.judges.between now t seat own next_event j.judges.own j.judges.goes_on j.judges.collected j.judges.finds j.judges.adds a lock avoiding lawful has far).awaits
 
-    alive_here : (IsDeadBy j.supposed t → ⊥) → LeavesNobodyDead (state_at plan a) t p
+    alive_here : (IsDeadBy j.supposed t → ⊥) → LeavesNobodyDead (state_at plan a) t j.event
     alive_here none =
-        block_leaves_nobody_dead (state_at plan a) t p j.event (nobody_dead_at plan a lock seat.checked lawful) awaits
+        publishing_leaves_nobody_dead (state_at plan a) t j.event (nobody_dead_at plan a lock seat.checked lawful)
         (λ would. none (told.misses_none would))
 
   each : (Holds : State → Type 0) → InEachWithLock plan t (seen now.view) Holds → InEachByLock now Holds
   each Holds all = subst (λ (q : Plan). InEachWithLock q (task_of now.view) (seen now.view) Holds) (sym goes.same.plan) (subst (λ u. InEachWithLock plan u (seen now.view) Holds) (sym task) all)
 
   -- a publication leaves nobody dead
-  pub all_alive : (IsDeadBy j.supposed t → ⊥) → InEachByLock now (λ s. LeavesNobodyDead s (task_of now.view) p)
+  pub all_alive : (IsDeadBy j.supposed t → ⊥) → InEachByLock now (λ s. LeavesNobodyDead s (task_of now.view) j.event)
   all_alive none =
-      each (λ s. LeavesNobodyDead s (task_of now.view) p)
-      (subst (λ u. InEachWithLock plan t (seen now.view) (λ s. LeavesNobodyDead s u p)) (sym task)
+      each (λ s. LeavesNobodyDead s (task_of now.view) j.event)
+      (subst (λ u. InEachWithLock plan t (seen now.view) (λ s. LeavesNobodyDead s u j.event)) (sym task)
       (λ a lock lawful has far. alive_here a lock lawful has far none))
 
+  all_avoid : (IsDeadBy j.supposed t → ⊥) → InEachByLock now (λ s. Avoids s (task_of now.view) (Blocks p))
+  all_avoid none =
+      each (λ s. Avoids s (task_of now.view) (Blocks p))
+      (subst (λ u. InEachWithLock plan t (seen now.view) (λ s. Avoids s u (Blocks p))) (sym task)
+      (λ a lock lawful has far. (j.event, awaits a lock lawful has far, alive_here a lock lawful has far none)))
+
   pub may_publish_now : (IsDeadBy j.supposed t → ⊥) → MayPublish now p
-  may_publish_now none = λ _. (holds_now, all_alive none)
+  may_publish_now none = λ _. (holds_now, all_avoid none)
 
   -- a refused task would be dead
   pub all_dead : IsDeadBy j.supposed t → InEachByLock now (λ s. WouldBeDead s (task_of now.view) j.event)
@@ -133,7 +139,7 @@ module _ (list : List Status) (p : ℕ) (before now : Known) (found : Option Cyc
       supposed = j.supposed;
       store = now;
       judges = subst (λ f. Judges list f j.supposed before now) (sym (event_same e phaser phase)) j.judges;
-      alive = subst (λ q. InEachByLock now (λ s. LeavesNobodyDead s (task_of now.view) q)) (sym phaser) (all_alive (not_dead none));
+      alive = subst (λ f. InEachByLock now (λ s. LeavesNobodyDead s (task_of now.view) f)) (sym (event_same e phaser phase)) (all_alive (not_dead none));
       possible = possible;
       stored = stored;
       step = subst (λ q. MakesStep (Blocks q) now stored) (sym phaser) step;

@@ -1,6 +1,6 @@
 -- The statuses of a collect, with that of the holder's own task, decide on its await in each state that it may be in.
-use Rattle.std.proofs.Common.{◌≡◌, ◌≢◌, ℕ, ◌<◌, ◌≤◌, Bool, true, false, List, Option, Some, None, length, sym, refl, ap, ◌∙◌, subst, arith, inl, inr, ◌⊎◌}
-use Rattle.std.specs.Prelude.{is_some, nat_lt, unwrap_or, if◌then◌else◌, IsSome}
+use Rattle.std.proofs.Common.{◌≡◌, ◌≢◌, ℕ, ◌<◌, Bool, true, List, Option, Some, None, length, sym, refl, ap, ◌∙◌, subst, arith, inl, inr, ◌⊎◌}
+use Rattle.std.specs.Prelude.{is_some, nat_lt, unwrap_or, IsSome}
 use Rattle.std.proofs.lemmas.Bool.{cases_Bool, cases_eq, cases_lt, false≢true}
 use Rattle.armus_base.specs.declared.event.Event.{Event}
 use Rattle.armus_base.specs.declared.status.Status.{Status}
@@ -10,13 +10,13 @@ use Rattle.armus_base.specs.Runs.{IsPrefix, Place, first_place}
 use Rattle.armus_base.specs.Places.{done_by, forked_at, kept, phases_at_place, published_after, refused_at, state_at}
 use Rattle.armus_base.specs.CheckedPlans.{IsCheckedPlan}
 use Rattle.armus_base.specs.Boards.{IsLawful}
-use Rattle.armus_base.specs.Seats.{Found, FoundWaiting, HasLockWith, IsAsFarOn, SeenBy, StillAgrees}
+use Rattle.armus_base.specs.Seats.{Found, FoundWaiting, HasLockWith, IsAsFarOn}
 use Rattle.armus_base.specs.Deadlocks.{IsListedAt, IsListedOn}
 use Rattle.armus_base.specs.Decisions.{Decides, HasAllFound, HasFound, HasOtherStatuses, HasOwnStatus, StandsBefore}
 use Rattle.armus_base.specs.FinalLaws.{AreStatuses}
 use Rattle.armus_base.specs.Finals.{is_awaited, is_event_of}
 use Rattle.armus_base.specs.Statuses.{IsAwaited}
-use Rattle.armus_base.proofs.AwaitLoadKeepsFar.{prefixes_both}
+use Rattle.armus_base.proofs.KeepsFar.{prefixes_both}
 use Rattle.armus_base.proofs.Fixed.{phases_forked, some_before_from}
 use Rattle.armus_base.proofs.ListDecides.{list_in_hand_decides}
 use Rattle.armus_base.proofs.ReachedLater.{later_done}
@@ -427,50 +427,22 @@ module _ (list supposed : List Status) (event : Event) (before mid store : Known
       ];
     }
 
-    -- the finds of the tasks of the plan
-    abbrev seen_within : SeenBy
-    seen_within = record (seen store.view) { found = λ u. if nat_lt u tasks then (seen store.view).found u else None }
-
     pub decides : Decides s t event supposed
-    decides = list_in_hand_decides plan t event seen_within supposed a lock checked has_all lawful has_within stands own_status others
+    decides = list_in_hand_decides plan t event (seen store.view) supposed a lock checked has_all lawful has stands own_status others
       where
         found_of : (u : ℕ) → u < tasks → (f : Found) × ((seen store.view).found u ≡ Some f) × ((e : Event) → f ≡ FoundWaiting e → IsListedOn list u e)
         found_of u l =
             let f = finds u (subst (λ (q : Plan). u < length q.parents) (sym goes.same.plan) l) in
             (f.0, finds_stay u ∙ f.1, λ e. (f.2 e).0)
 
-        within_is : (u : ℕ) → u < tasks → seen_within.found u ≡ (seen store.view).found u
-        within_is u l = ap (λ b. if b then (seen store.view).found u else None) (is_lt u tasks l)
-
-        past_is : (u : ℕ) → tasks ≤ u → seen_within.found u ≡ None
-        past_is u l = ap (λ b. if b then (seen store.view).found u else None) (is_not u tasks l)
-          where
-            is_not : (a b : ℕ) → b ≤ a → nat_lt a b ≡ false
-            is_not a b h = grind arith
-
-        has_all : HasAllFound plan t seen_within supposed
+        has_all : HasAllFound plan t (seen store.view) supposed
         has_all = record {
-          all = λ u l n. let f = found_of u l in subst IsSome (sym (within_is u l ∙ f.1)) refl;
-          listed = λ u e n is. elim (cases_lt u tasks) [
-            | inl l ↦
-                let f = found_of u l in
-                let same : f.0 ≡ FoundWaiting e = some_same f.0 (FoundWaiting e) (sym f.1 ∙ sym (within_is u l) ∙ is) in
-                other_on u e n (f.2 e same)
-            | inr l ↦ absurd (none_some (sym (past_is u l) ∙ is))
-          ];
+          all = λ u l n. let f = found_of u l in subst IsSome (sym f.1) refl;
+          listed = λ u e l n is.
+              let f = found_of u l in
+              let same : f.0 ≡ FoundWaiting e = some_same f.0 (FoundWaiting e) (sym f.1 ∙ is) in
+              other_on u e n (f.2 e same);
         }
           where
             some_same : (x y : Found) → Some x ≡ Some y → x ≡ y
             some_same x y h = cc
-
-            none_some : {x : Found} → None ≡ Some x → ⊥
-            none_some h = cc
-
-        has_within : HasLockWith plan t a lock seen_within
-        has_within = record {
-          holds = has.holds;
-          agrees = λ u n. elim (cases_lt u tasks) [
-            | inl l ↦ subst (StillAgrees s u) (sym (within_is u l)) (has.agrees u n)
-            | inr l ↦ subst (StillAgrees s u) (sym (past_is u l)) tt
-          ];
-        }

@@ -4,6 +4,7 @@ use Rattle.std.specs.Prelude.{Contains}
 use Rattle.std.proofs.lemmas.Bool.{cases_eq}
 use Rattle.std.proofs.lemmas.List.{get_or_default}
 use Rattle.armus_base.specs.declared.event.Event.{Event}
+use Rattle.armus_base.specs.States.{if_published}
 use Rattle.armus_base.specs.declared.ids.TaskId.{TaskId}
 use Rattle.armus_base.specs.declared.status.Status.{Status}
 use Rattle.armus_base.specs.CheckedPlans.{IsCheckedPlan}
@@ -16,7 +17,6 @@ use Rattle.armus_base.proofs.Elements.{Contains-cons_cases, Contains-head, Conta
 use Rattle.armus_base.proofs.StatusesAre.{listed_from, listed_is}
 use Rattle.armus_base.proofs.Steps.{updated_other}
 use Rattle.dep_state.proofs.DeadSets.{IsDeadlockedList, dead_by_list}
-use Rattle.pl_core.specs.Supposed.{if_published}
 use Rattle.pl_core.specs.Worlds.{WorldValue, places_of, state_of}
 use Rattle.verdict.specs.Cycles.{IsCycle, IsNext}
 use Rattle.avoider.proofs.Supposing.{of_plan}

@@ -8,7 +8,7 @@ use Rattle.armus_base.specs.FinalLaws.{IsOfPlan}
 use Rattle.armus_base.specs.Finals.{statuses_of}
 use Rattle.armus_base.specs.Plans.{Blocks}
 use Rattle.armus_base.specs.Runs.{IsReachable}
-use Rattle.armus_base.specs.States.{after, awaited, updated}
+use Rattle.armus_base.specs.States.{awaited, if_published}
 use Rattle.armus_base.specs.Statuses.{IsInOrder}
 use Rattle.armus_base.proofs.Codes.{event_on_is}
 use Rattle.armus_base.proofs.DeadByStatuses.{dead_by_statuses, run_is_of_plan}
@@ -16,7 +16,6 @@ use Rattle.armus_base.proofs.Reachable.{reachable_is_fixed}
 use Rattle.armus_base.proofs.StatusesAre.{statuses_are}
 use Rattle.armus_base.proofs.Steps.{updated_is}
 use Rattle.pl_core.specs.Stands.{IsAtAwaitOf}
-use Rattle.pl_core.specs.Supposed.{if_published}
 use Rattle.pl_core.specs.Worlds.{WorldValue, next_action, places_of, state_of}
 use Rattle.pl_core.proofs.StepKinds.{awaits_block}
 
@@ -29,10 +28,6 @@ blocks_next w t e before =
 
 pub awaits_event : (w : WorldValue) (t : ℕ) (e : Event) → IsAtAwaitOf w t e → awaited (Some (Blocks e.p.0)) ((state_of w).phases t) ≡ Some e
 awaits_event w t e before = ap (λ o. awaited o ((state_of w).phases t)) (sym (blocks_next w t e before)) ∙ before.1
-
-pub supposed_is_after : (w : WorldValue) (t : ℕ) (e : Event) → IsAtAwaitOf w t e → if_published (state_of w) t e ≡ after (state_of w) t (Blocks e.p.0)
-supposed_is_after w t e before =
-    ap (λ o. record (state_of w) { published = updated (state_of w).published t o }) (sym (awaits_event w t e before))
 
 -- the state of a world is one of its plan
 pub of_plan : (w : WorldValue) → IsCheckedPlan w.plan → IsReachable w.plan (places_of w) → IsOfPlan w.plan (state_of w)

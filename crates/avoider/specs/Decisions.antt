@@ -7,7 +7,7 @@ use Rattle.armus_base.specs.DeadLists.{IsDeadList}
 use Rattle.armus_base.specs.Deadlocks.{IsDeadBy, WouldBeDead}
 use Rattle.armus_base.specs.Finals.{statuses_of}
 use Rattle.armus_base.specs.Plans.{Blocks}
-use Rattle.armus_base.specs.States.{after}
+use Rattle.armus_base.specs.States.{if_published}
 use Rattle.pl_core.specs.Moves.{MakesRefusal, MakesStep}
 use Rattle.pl_core.specs.Stands.{IsAtAwaitOf}
 use Rattle.pl_core.specs.Worlds.{WorldValue, state_of}
@@ -27,7 +27,7 @@ pub record ExplainsDeath (list : List Status) (t : ℕ) (c : Cycle) : Type 0 whe
 
 -- the statuses as they would be if task t had published the event of the await at which it stands
 abbrev pub supposed_statuses : WorldValue → ℕ → Event → List Status
-supposed_statuses w t e = statuses_of w.plan (after (state_of w) t (Blocks e.p.0))
+supposed_statuses w t e = statuses_of w.plan (if_published (state_of w) t e)
 
 -- task t stood at its await of the event, where it would not be dead, and has published it
 pub record IsPublished (old new : WorldValue) (t : ℕ) (e : Event) : Type 0 where

@@ -60,7 +60,7 @@ pub record HasPublished (list : List Status) (event : Event) (before now : Known
   pub supposed : List Status
   pub store : Known
   pub judges : Judges list event supposed before store
-  pub alive : InEachByLock store (λ s. LeavesNobodyDead s (task_of store.view) event.p.0)
+  pub alive : InEachByLock store (λ s. LeavesNobodyDead s (task_of store.view) event)
   pub possible : IsPossibleByLock store
   pub stored : Known
   pub step : MakesStep (Blocks event.p.0) store stored

@@ -11,7 +11,7 @@ use Rattle.armus_base.specs.States.{updated}
 use Rattle.armus_base.specs.Runs.{IsPrefix, Place, Precedes, first_place}
 use Rattle.armus_base.specs.Seats.{IsLonger}
 use Rattle.armus_base.proofs.Steps.{updated_other, updated_same}
-use Rattle.armus_base.proofs.AwaitLoadKeepsFar.{prefixes_both}
+use Rattle.armus_base.proofs.KeepsFar.{prefixes_both}
 use Rattle.board.specs.declared.mode.Mode.{Mode}
 use Rattle.board.specs.declared.view.View.{View}
 use Rattle.board.specs.Views.{is_among, place_in, task_of}

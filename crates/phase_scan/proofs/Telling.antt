@@ -16,7 +16,7 @@ use Rattle.armus_base.specs.FinalLaws.{AreStatuses}
 use Rattle.armus_base.specs.Finals.{is_awaited, is_event_of}
 use Rattle.armus_base.specs.Statuses.{IsAwaited}
 use Rattle.armus_base.specs.Seats.{IsAsFarOn, IsLongestPrefix, IsPlaceOf, await_word}
-use Rattle.armus_base.proofs.AwaitLoadKeepsFar.{prefixes_both}
+use Rattle.armus_base.proofs.KeepsFar.{prefixes_both}
 use Rattle.armus_base.proofs.Fixed.{some_before_from}
 use Rattle.armus_base.proofs.FoundArePublished.{published_within}
 use Rattle.armus_base.proofs.Places.{precedes_trans}

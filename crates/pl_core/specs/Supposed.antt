@@ -2,11 +2,7 @@
 use Rattle.std.specs.Prelude.{ℕ, Option, Some, None}
 use Rattle.armus_base.specs.declared.event.Event.{Event}
 use Rattle.armus_base.specs.declared.ids.TaskId.{TaskId}
-use Rattle.armus_base.specs.States.{State, updated}
-
--- the state as it would be if task t were published on the event
-abbrev pub if_published : State → ℕ → Event → State
-if_published s t e = record s { published = updated s.published t (Some e) }
+use Rattle.armus_base.specs.States.{State, if_published}
 
 -- the state as it would be if a task were published on an event, if such a pair is given
 abbrev pub with_also : State → Option (TaskId × Event) → State

@@ -4,7 +4,7 @@ ghost use Rattle.armus_base.specs.declared.event.Event.{Event};
 ghost use Rattle.armus_base.specs.Plans.{Forks, code_of};
 ghost use Rattle.armus_base.specs.CheckedPlans.{IsCheckedPlan};
 ghost use Rattle.armus_base.specs.Runs.{IsReachable};
-ghost use Rattle.armus_base.specs.States.{IsActive, IsMember, IsReached, event_on};
+ghost use Rattle.armus_base.specs.States.{event_on, if_published, IsActive, IsMember, IsReached};
 ghost use Rattle.pl_core.specs.GivenPlaces.{IsAtPlaces};
 ghost use Rattle.pl_core.specs.Worlds.{state_of, places_at, places_of, next_action, IsOpening};
 ghost use Rattle.pl_core.specs.Stands.{StandsSo, IsAtAwaitOf, IsReady, IsEnabled, MayGoOn, AreAhead, IsFirstBehind};
@@ -12,7 +12,7 @@ ghost use Rattle.pl_core.specs.Moves.{MakesRefusal, MakesStep};
 ghost use Rattle.armus_base.specs.Finals.{end_of, final_of, given_below, is_awaited, list_below, listed_phase, statuses_of, statuses_on};
 ghost use Rattle.pl_core.specs.Ops.{action_of, ChangesPhases};
 ghost use Rattle.pl_core.specs.Reading.{is_asked};
-ghost use Rattle.pl_core.specs.Supposed.{if_published, with_also};
+ghost use Rattle.pl_core.specs.Supposed.{with_also};
 ghost use Rattle.pl_core.specs.Tasks.{IsAtOp};
 
 use crate::effect::move_phases;

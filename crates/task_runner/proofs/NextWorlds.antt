@@ -12,7 +12,7 @@ use Rattle.armus_base.specs.Places.{members_below, phases_after, state_at}
 use Rattle.armus_base.specs.Plans.{Action, Blocks, Passes, Refuses}
 use Rattle.armus_base.specs.Runs.{IsByCode, IsReachable, Place, moved, next_place}
 use Rattle.armus_base.specs.Serial.{GoesOn, IsDecided}
-use Rattle.armus_base.specs.States.{IsActive, IsLegal, IsReached, Step, after, awaited}
+use Rattle.armus_base.specs.States.{IsActive, IsLegal, IsReached, Step, after, awaited, if_published}
 use Rattle.armus_base.proofs.Again.{in_code_plain}
 use Rattle.armus_base.proofs.Codes.{awaited_some, no_refusal}
 use Rattle.armus_base.proofs.Reachable.{reachable_is_fixed, reachable_steps}
@@ -22,7 +22,6 @@ use Rattle.pl_core.specs.declared.place.Place.{Place as Standing}
 use Rattle.pl_core.specs.declared.stand.Stand.TheVariants.{Unforked, Refused, Waits}
 use Rattle.pl_core.specs.Moves.{LeadsOn, MakesStep, drops_from, further, refused_there}
 use Rattle.pl_core.specs.Stands.{IsAtAwaitOf, IsEnabled}
-use Rattle.pl_core.specs.Supposed.{if_published}
 use Rattle.pl_core.specs.Worlds.{WorldValue, dropped_at, memberships, next_action, places_of, state_of}
 use Rattle.pl_core.proofs.GoingOn.{goes_on, legal_when_active, legal_when_reached, passes_when_waiting}
 use Rattle.pl_core.proofs.OneStep.{places_set_other, places_set_same, regular}

@@ -1,5 +1,5 @@
 // Laws of what a seat has seen.
-ghost use Rattle.armus_base.specs.SeatLaws.{AllScannedIsReached, AwaitLoadIsBefore, AwaitLoadKeepsFar, BusyIsBefore, EarlierIsLawful, EarlierPlaces, HolderMayHold, KnownAreLeastDead, LeastExists, LeastLawfulExists, PhaseLoadIsBefore, ScannedStays};
+ghost use Rattle.armus_base.specs.SeatLaws.{AllScannedIsReached, AwaitLoadIsBefore, AwaitLoadKeepsFar, BusyIsBefore, BusyKeepsFar, EarlierIsLawful, EarlierPlaces, HolderMayHold, KnownAreLeastDead, LeastExists, LeastLawfulExists, PhaseLoadIsBefore, PhaseLoadKeepsFar, ScannedStays};
 
 /// The least lawful state, on a board that detects deadlock: the shorter places of two lawful states are lawful, so there is a least lawful state as far on as what a viewer has seen, and the known dead are the dead in it. The same of plain runs.
 pub fn least_state()
@@ -20,7 +20,13 @@ pub fn scanned_stays()
 pub fn seen_is_before()
     ensures await_load { AwaitLoadIsBefore }
     ensures phase_load { PhaseLoadIsBefore }
-    ensures keeps_far { AwaitLoadKeepsFar }
     ensures holder { HolderMayHold }
     ensures busy { BusyIsBefore }
+{}
+
+/// Lawful places as far on as what a seat has seen stay so after each load that tells what stands there, and after a try for the lock that finds it held.
+pub fn seen_keeps_far()
+    ensures await_load { AwaitLoadKeepsFar }
+    ensures phase_load { PhaseLoadKeepsFar }
+    ensures busy { BusyKeepsFar }
 {}

@@ -4,8 +4,9 @@ ghost use Rattle.armus_base.specs.CheckedPlans.{IsCheckedPlan};
 ghost use Rattle.armus_base.specs.Finals.{final_of};
 ghost use Rattle.armus_base.specs.Runs.{state_after};
 ghost use Rattle.armus_base.specs.Serial.{IsSerialAvoidedEnd};
-ghost use Rattle.armus_base.specs.Exclusions.{Excludes};
+ghost use Rattle.armus_base.specs.Exclusions.{Excludes, ExcludesPlans, ExcludesUnlocked};
 ghost use Rattle.armus_base.specs.TwoTasks.{all_turns, two_tasks};
+ghost use Rattle.armus_base.specs.WorkedDecisions.{DecidesAlive, DecidesDead, WorkedLoads};
 ghost use Rattle.armus_base.specs.WorkedTexts.{EndsIn, averaging, averaging_end, averaging_schedule, behind_a_cycle, behind_a_cycle_end, behind_a_cycle_schedule, ended_member, ended_member_end, ended_member_schedule, three_tasks, three_tasks_end, three_tasks_schedule, two_tasks_avoided, two_tasks_end, two_tasks_schedule, unforked_member, unforked_member_end, unforked_member_schedule};
 
 /// The final states of six small kernels and their dead tasks, by the definitions: workers that average under a barrier that their parent never leaves; two tasks that wait for each other; three that each wait for the two others; a task that waits behind a cycle; one that waits for a member that has ended; and one that waits for a member that is never forked.
@@ -25,7 +26,20 @@ pub fn worked_avoided_run()
     ensures value { final_of two_tasks (state_after all_turns) ≡ two_tasks_avoided }
 {}
 
-/// What the definitions exclude: refusals of tasks that would not be dead, steps with tasks or phasers that the plan does not have, an empty deadlocked set, passes of refused tasks, and plans to which no text unfolds.
+/// What the definitions exclude: refusals of tasks that would not be dead, steps with tasks or phasers that the plan does not have, an empty deadlocked set, passes of refused tasks; six plans and five runs of a board that avoids deadlock, each of which breaks one rule.
 pub fn exclusions()
-    ensures { Excludes }
+    ensures steps { Excludes }
+    ensures plans { ExcludesPlans }
+    ensures lock { ExcludesUnlocked }
+{}
+
+/// Two decisions on a board that avoids deadlock, with all that the law on the list in hand asks for: one task would be dead, and one leaves nobody dead.
+pub fn worked_decisions()
+    ensures dead { DecidesDead }
+    ensures alive { DecidesAlive }
+{}
+
+/// What single loads show of a task: that it was refused, that it stands before its await, that it has passed.
+pub fn worked_loads()
+    ensures { WorkedLoads }
 {}

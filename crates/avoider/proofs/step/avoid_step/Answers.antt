@@ -1,13 +1,13 @@
 use Rattle.std.proofs.Common.{◌∙◌, subst, sym}
 use Rattle.armus_base.specs.Deadlocks.{IsDeadBy, WouldBeDead}
+use Rattle.armus_base.specs.States.{if_published}
 use Rattle.armus_base.specs.Finals.{statuses_of}
 use Rattle.armus_base.specs.Statuses.{IsInOrder}
-use Rattle.pl_core.specs.Supposed.{if_published}
 use Rattle.pl_core.specs.Worlds.{state_of}
 use Rattle.avoider.specs.Decisions.{ExplainsDeath}
 use Rattle.avoider.proofs.NobodyDies.{block_kills_nobody, refusal_kills_nobody}
 use Rattle.avoider.proofs.RefusedInCycle.{refused_in_cycle}
-use Rattle.avoider.proofs.Supposing.{supposed_in_order, supposed_is_after, told_by_statuses}
+use Rattle.avoider.proofs.Supposing.{supposed_in_order, told_by_statuses}
 use Rattle.avoider.proofs.step.avoid_step.Goals as goal
 
 pub death_of-requires : goal.death_of-requires
@@ -29,8 +29,7 @@ returns-in-Some-clause-decision c =
       before = at.before;
       dead = (told_by_statuses w at.checked at.reachable c.args.t.0 c.requires.task event).0 there.among;
       refusal = c.refuse.ensures;
-      cycle =
-          subst (λ s. ExplainsDeath (statuses_of w.plan s) c.args.t.0 c.in-Some.cycle) (supposed_is_after w c.args.t.0 event at.before) there;
+      cycle = there;
       stands =
           refused_in_cycle w at.checked at.reachable c.args.t.0 event c.requires.nobody c.in-Some.cycle.tasks c.in-Some.cycle.events there.links;
     }

@@ -1,5 +1,4 @@
 use Rattle.armus_base.proofs.laws.seats.seen_is_before.Goals as goal
-use Rattle.armus_base.proofs.AwaitLoadKeepsFar.{await_load_keeps_far}
 use Rattle.armus_base.proofs.HolderMayHold.{holder_may_hold, busy_is_before}
 use Rattle.armus_base.proofs.LawfulPlaces.{await_load_is_before, phase_load_is_before}
 
@@ -7,7 +6,6 @@ pub returns : goal.returns
 returns c = record {
   await_load = await_load_is_before;
   phase_load = phase_load_is_before;
-  keeps_far = await_load_keeps_far;
   holder = holder_may_hold;
   busy = busy_is_before;
 }
