@@ -4,7 +4,7 @@ ghost use Rattle.armus_base.specs.Deadlocks.{IsDeadBy};
 ghost use Rattle.armus_base.specs.Plans.{Blocks};
 ghost use Rattle.board.specs.Seats.{IsOf};
 ghost use Rattle.board.specs.Steps.{own_phase};
-ghost use Rattle.board.specs.Views.{avoids, next_action, own_place, task_of};
+ghost use Rattle.board.specs.Views.{next_action, own_place, task_of};
 ghost use Rattle.phase_scan.specs.Looks.{GoesOn};
 ghost use Rattle.avoider.specs.OnBoard.{DropsBelow, IsDecided, IsJudged, IsUndecided};
 
@@ -17,7 +17,7 @@ use phase_scan::Cells;
 use std::alloc::Global;
 use verdict::Cycle;
 
-/// The board avoids deadlock, and the seat holds the lock and stands before an unpublished await of `p`. It is refused exactly where its task would
+/// The seat holds the lock, which only one of a board that avoids deadlock does, and stands before an unpublished await of `p`. It is refused exactly where its task would
 /// be dead with the event published, and published otherwise. The lock is free after it. A refused task has then dropped all its phasers, in order
 /// of number. After `NoMemory` nothing is published or refused. The cells have the statuses of the collect.
 pub fn decide(
@@ -30,7 +30,6 @@ pub fn decide(
 ) -> Result<Decision, NoMemory>
     requires made { IsOf seat.old board.now }
     requires phaser { p.0 < length board.now.plan.makers }
-    requires avoids { avoids seat.old.view.mode ≡ true }
     requires locked { seat.old.view.holds ≡ true }
     requires next { next_action seat.old.view ≡ Some (Blocks p.0) }
     requires tasks { cells.old.tasks ≡ length board.now.plan.parents }

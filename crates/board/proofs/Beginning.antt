@@ -2,6 +2,7 @@
 use mathlib.Core.Path.{fun_ext}
 use Rattle.std.proofs.Common.{◌≡◌, ℕ, ◌<◌, Bool, true, false, [], ◌∷◌, Some, None, length, replicate, sym, refl, ap, subst, arith}
 use Rattle.std.specs.Prelude.{◌==◌, ◌||◌}
+use Rattle.std.proofs.lemmas.Bool.{false≢true}
 use Rattle.std.proofs.lemmas.List.{length-replicate}
 use Rattle.atomic_table.specs.Seated.{TableId}
 use Rattle.armus_base.specs.Runs.{Place, first_place}
@@ -38,6 +39,7 @@ module _ (k : Setting) (f : Frame) (table : TableId) (plan_is : k.plan.value ≡
       subst (λ x. x < length k.plan.value.parents) z (some_task k.plan.value checked),
       subst (λ x. is_among (0 ∷ []) x ≡ true) z refl,
     );
+    lock = λ has. absurd (false≢true has);
   }
     where
       some_same : (u w : ℕ) → Some u ≡ Some w → u ≡ w
@@ -69,6 +71,7 @@ module _ (k : Setting) (f : Frame) (table : TableId) (plan_is : k.plan.value ≡
     count = length-replicate {A = Place} (length k.plan.value.parents) first_place;
     few = omega arith;
     own = λ t e. absurd (none_some t e);
+    lock = λ has. absurd (false≢true has);
   }
     where
       none_some : (t : ℕ) → None ≡ Some t → ⊥

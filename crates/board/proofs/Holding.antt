@@ -1,6 +1,7 @@
 -- What a taking, a freeing, a try for the lock and a refusal make of a seat's own facts.
 use Rattle.std.proofs.Common.{◌≡◌, ℕ, ◌+◌, ◌<◌, ◌≤◌, Bool, true, false, Option, Some, None, length, sym, refl, ap, ◌∙◌, subst, arith, length-set}
 use Rattle.std.specs.Prelude.{unwrap_or}
+use Rattle.std.proofs.lemmas.Bool.{false≢true}
 use Rattle.atomic_table.specs.Seated.{TableId}
 use Rattle.armus_base.specs.declared.event.Event.{Event}
 use Rattle.armus_base.specs.Limits.{max_tasks}
@@ -10,7 +11,7 @@ use Rattle.armus_base.specs.Places.{published_after}
 use Rattle.armus_base.specs.Seats.{AvoidsByWhatIsSeen}
 use Rattle.board.specs.declared.mode.Mode.{Mode}
 use Rattle.board.specs.declared.view.View.{View}
-use Rattle.board.specs.Views.{action_after, next_action, own_place, place_in, seen, task_of}
+use Rattle.board.specs.Views.{action_after, avoids, next_action, own_place, place_in, seen, task_of}
 use Rattle.board.specs.Steps.{after_action}
 use Rattle.board.specs.Seats.{Frame, IsOf, IsSeat, Known, MakesStep, event_of}
 use Rattle.board.specs.Sitting.{IsSitting}
@@ -20,35 +21,37 @@ use Rattle.board.proofs.Loaded.{loaded_seat, loads_sitting}
 use Rattle.board.proofs.Seated.{event_here, place_next}
 
 -- a seat stays one with the lock or without it
-pub locked_seat : (table table' : TableId) (v w : View) (held : Bool) → IsSeat (record { table = table; view = v }) → w ≡ with_lock held v → IsSeat (record { table = table'; view = w })
-locked_seat table table' v w held seat is =
+pub locked_seat :
+    (table table' : TableId) (v w : View) (held : Bool) → (held ≡ true → avoids v.mode ≡ true) → IsSeat (record { table = table; view = v }) → w ≡ with_lock held v →
+    IsSeat (record { table = table'; view = w })
+locked_seat table table' v w held avoiding seat is =
     subst (λ (u : View). IsSeat (record { table = table'; view = u })) (sym is)
-    (record { live = seat.live; checked = seat.checked; count = seat.count; few = seat.few; own = seat.own })
+    (record { live = seat.live; checked = seat.checked; count = seat.count; few = seat.few; own = seat.own; lock = avoiding })
 
 pub locked_sitting :
-    (table table' : TableId) (v w : View) (t n : ℕ) (o : Option Event) (held : Bool) → IsSitting t n o (record { table = table; view = v }) → w ≡ with_lock held v →
+    (table table' : TableId) (v w : View) (t n : ℕ) (o : Option Event) (held : Bool) → (held ≡ true → avoids v.mode ≡ true) → IsSitting t n o (record { table = table; view = v }) → w ≡ with_lock held v →
     IsSitting t n o (record { table = table'; view = w })
-locked_sitting table table' v w t n o held s is =
+locked_sitting table table' v w t n o held avoiding s is =
     let same : event_of (record { table = table'; view = with_lock held v }) ≡ event_of (record { table = table; view = v }) =
     event_here (record { table = table'; view = with_lock held v }) t s.task ∙ sym (event_here (record { table = table; view = v }) t s.task) in
     subst (λ (u : View). IsSitting t n o (record { table = table'; view = u })) (sym is)
     (record {
       task = s.task;
-      seat = locked_seat table table' v (with_lock held v) held s.seat refl;
+      seat = locked_seat table table' v (with_lock held v) held avoiding s.seat refl;
       scanned_is = s.scanned_is;
       event = s.event ∙ sym same;
       idle = λ e. s.idle (sym same ∙ e);
     })
 
 pub takes_lock :
-    (table table' : TableId) (v w : View) → IsSeat (record { table = table; view = v }) → w ≡ with_lock true v → IsWithLock v.plan (task_of v) (seen w) → table' ≡ table →
+    (table table' : TableId) (v w : View) → avoids v.mode ≡ true → IsSeat (record { table = table; view = v }) → w ≡ with_lock true v → IsWithLock v.plan (task_of v) (seen w) → table' ≡ table →
     TakesLock (record { table = table; view = v }) (record { table = table'; view = w })
-takes_lock table table' v w seat is was same = record { view = is; was = was; table = same; kept = locked_seat table table' v w true seat is }
+takes_lock table table' v w avoiding seat is was same = record { view = is; was = was; table = same; kept = locked_seat table table' v w true (λ _. avoiding) seat is }
 
 pub frees_lock :
     (table table' : TableId) (v w : View) → IsSeat (record { table = table; view = v }) → w ≡ with_lock false v → table' ≡ table →
     FreesLock (record { table = table; view = v }) (record { table = table'; view = w })
-frees_lock table table' v w seat is same = record { view = is; table = same; kept = locked_seat table table' v w false seat is }
+frees_lock table table' v w seat is same = record { view = is; table = same; kept = locked_seat table table' v w false (λ has. absurd (false≢true has)) seat is }
 
 few_met : (table : TableId) (v w : View) (mode : Mode) (h : ℕ) → IsSeat (record { table = table; view = v }) → MeetsHolder v.plan mode h v w → (seen w).scanned ≤ length v.plan.parents
 few_met table v w mode h seat m = subst (λ k. k ≤ length v.plan.parents) (sym m.seen_now.scanned) seat.few
@@ -84,6 +87,7 @@ module _ (table table' : TableId) (v w : View) (p : ℕ) (seat : IsSeat (record 
         count = length-set v.sight.places (task_of v) (next_place (own_place v).done (own_place v).dropped (Refuses p)) ∙ seat.count;
         few = seat.few;
         own = seat.own;
+        lock = seat.lock;
       })
 
   pub refuses_step : table' ≡ table → MakesStep (Refuses p) (record { table = table; view = v }) (record { table = table'; view = w })

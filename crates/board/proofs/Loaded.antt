@@ -14,7 +14,7 @@ use Rattle.armus_base.specs.Seats.{Found, is_not_behind, own_event, scanned_afte
 use Rattle.board.specs.declared.mode.Mode.{Mode}
 use Rattle.board.specs.declared.view.View.{View}
 use Rattle.board.specs.Words.{IsInRange, await_index, await_number, phase_index, phase_number}
-use Rattle.board.specs.Views.{seen}
+use Rattle.board.specs.Views.{avoids, seen}
 use Rattle.board.specs.Steps.{IsSameSeat, LoadsAwait, LoadsPhase, Looked, WasSo, Watched}
 use Rattle.board.specs.Seats.{AnswersAwait, AnswersPhase, Frame, IsOf, IsSeat, event_of}
 use Rattle.board.specs.Sitting.{IsSitting}
@@ -32,6 +32,7 @@ loaded_seat table table' v w seat same exact few =
       own = λ u e.
           let o = seat.own u (sym same.own ∙ e) in
           (subst (λ (q : Plan). u < length q.parents) (sym same.plan) o.0, exact u ∙ o.1);
+      lock = λ has. ap avoids same.mode ∙ seat.lock (sym same.holds ∙ has);
     }
 
 -- a load scans no more than the tasks of the plan

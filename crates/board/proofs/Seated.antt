@@ -51,6 +51,7 @@ seat_next table table' v w seat is = subst (λ (u : View). IsSeat (record { tabl
   count = length-set v.sight.places (task_of v) (next_place (own_place v).done (own_place v).dropped (unwrap_or (next_action v) (Drops 0))) ∙ seat.count;
   few = (let l = scanned_less (unwrap_or (next_action v) (Drops 0)) v.sight.scanned in let f = seat.few in omega arith);
   own = λ t e. seat.own t e;
+  lock = seat.lock;
 })
 
 -- an own step
@@ -392,6 +393,7 @@ child_sitting table table' v w t n c o s next unseen apart is =
             subst (λ x. x < length v.plan.parents) same small,
             subst (λ x. is_among (forked_by (next_action v) ∷ []) x ≡ true) (ap forked_by next ∙ same) (among_one (forked_by (next_action v))),
           );
+      lock = λ has. absurd (false≢true has);
     }
 
     no_event : event_of (record { table = table'; view = child v }) ≡ None

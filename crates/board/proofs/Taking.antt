@@ -57,6 +57,7 @@ module _ (table : TableId) (v w x : View) (alone : v.own ≡ None) (mine : IsSea
     count = longer_count v.sight.places w.sight.places same_count ∙ mine.count;
     few = omega arith;
     own = λ u e. absurd (none_some v.own u alone e);
+    lock = mine.lock;
   })
 
   pub taken : (table' seat_table : TableId) → table' ≡ table → TakesIn (record { table = seat_table; view = w }) (record { table = table; view = v }) (record { table = table'; view = x })

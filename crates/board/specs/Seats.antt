@@ -30,13 +30,14 @@ pub record IsOf (seat : Known) (board : Frame) : Type 0 where
   pub plan : seat.view.plan ≡ board.plan
   pub mode : seat.view.mode ≡ board.mode
 
--- what every seat keeps: it is not taken in, its plan is checked, it knows a place of each task, and that of its own task exactly, and has scanned tasks of the plan alone
+-- what every seat keeps: it is not taken in, its plan is checked, it knows a place of each task, and that of its own task exactly, has scanned tasks of the plan alone, and has the lock only on a board that avoids deadlock
 pub record IsSeat (seat : Known) : Type 0 where
   pub live : seat.view.spent ≡ false
   pub checked : IsCheckedPlan seat.view.plan
   pub count : length seat.view.sight.places ≡ length seat.view.plan.parents
   pub few : (seen seat.view).scanned ≤ length seat.view.plan.parents
   pub own : (t : ℕ) → seat.view.own ≡ Some t → (t < length seat.view.plan.parents) × ((seen seat.view).exact t ≡ true)
+  pub lock : seat.view.holds ≡ true → avoids seat.view.mode ≡ true
 
 -- the event on which the seat's own task is published
 abbrev pub event_of : Known → Option Event

@@ -294,11 +294,10 @@ impl TaskSeat {
         board.cells.shared.store::<Frees>(&mut self.place, 0, 0);
     }
 
-    /// The board avoids deadlock, the seat holds the lock, and the next op is an Await that is not published, and that would deadlock its task in any lawful state that has the lock with this seat and is as far on as what it has seen: one load, and one store of the refusal, whose event it answers.
+    /// The seat holds the lock, and the next op is an Await that is not published, and that would deadlock its task in any lawful state that has the lock with this seat and is as far on as what it has seen: one load, and one store of the refusal, whose event it answers.
     pub fn refuse(&mut self, board: &Board, p: PhaserId) -> Event
         requires made { IsOf self.old board.now }
         requires phaser { p.0 < length board.now.plan.makers }
-        requires avoids { avoids self.old.view.mode ≡ true }
         requires locked { self.old.view.holds ≡ true }
         requires next { next_action self.old.view ≡ Some (Blocks p.0) }
         requires dead { MayRefuse self.old p.0 }

@@ -114,6 +114,7 @@ seat_before k m seat same exact scanned =
       own = λ u e.
           let o = seat.own u (same.own ∙ e) in
           (subst (λ (q : Plan). u < length q.parents) same.plan o.0, sym (exact u) ∙ o.1);
+      lock = λ has. ap avoids (sym same.mode) ∙ seat.lock (same.holds ∙ has);
     }
 
 -- what each load leaves as it was

@@ -39,7 +39,7 @@ store-requires c =
       subst (λ (f : Frame). c.await_index-index.result < f.table.words) (sym b) c.await_index-index.ensures.inside,
       subst (λ (n : ℕ). Allows (IsKept key) slots id me n (λ _. w) (λ _. Refused (step slots n w 0 none) me w)) (sym c.await_index-index.ensures.index)
           (refuses key.plan.value key.mode slots id me t p w e i.task i.seat.live (ap (λ (k : Known). k.view.holds) s ∙ c.requires.locked)
-          (ap avoids (sym o.mode) ∙ ap (λ (k : Known). avoids k.view.mode) s ∙ c.requires.avoids)
+          (ap avoids (sym o.mode) ∙ i.seat.lock (ap (λ (k : Known). k.view.holds) s ∙ c.requires.locked))
           (may_refuse_here _ _ t p o i.task (subst (λ (k : Known). MayRefuse k p) (sym s) c.requires.dead))
           (ap (λ (k : Known). next_action k.view) s ∙ c.requires.next)
           (ap (λ (k : Known). own_phase k.view p) s ∙ c.member_phase-phase.ensures.phase) refl c.refused_number-word.ensures),

@@ -1,4 +1,5 @@
-use Rattle.std.proofs.Common.{sym, ap, ◌∙◌, subst, subst₂, arith}
+use Rattle.std.proofs.Common.{false, sym, ap, ◌∙◌, subst, subst₂, arith}
+use Rattle.std.proofs.lemmas.Bool.{false≢true}
 use Rattle.board.specs.Seats.{IsOf, Known}
 use Rattle.board.specs.Locking.{FreesLock}
 use Rattle.board.proofs.Locking.{frees}
@@ -20,7 +21,7 @@ store-requires c =
 pub invariant_of-self : goal.invariant_of-self
 invariant_of-self c = record {
   no_slot = c.store.ensures.2.1 ∙ c.self.invariant.no_slot;
-  sitting = locked_sitting c.self.inside.place.table_id c.store.new.seat.table_id c.self.inside.place.me.0 c.store.new.seat.me.0 _ _ _ _ c.self.invariant.sitting c.store.ensures.2.0;
+  sitting = locked_sitting c.self.inside.place.table_id c.store.new.seat.table_id c.self.inside.place.me.0 c.store.new.seat.me.0 _ _ _ false (λ has. absurd (false≢true has)) c.self.invariant.sitting c.store.ensures.2.0;
 }
 
 pub returns : goal.returns
