@@ -9,8 +9,8 @@ use Rattle.adaptive.specs.declared.analysis.Wanted.{Wanted}
 use Rattle.armus_words.specs.declared.command.Command.{Command}
 use Rattle.armus_words.specs.declared.command.Graph.{Graph}
 use Rattle.armus_top.specs.Texts.{Text}
-use Rattle.armus_top.specs.declared.texts.InputEnd.{InputEnd}
-use Rattle.armus_top.specs.declared.texts.InputEnd.TheVariants.{Refused, NoMemory}
+use Rattle.armus_top.specs.declared.programs.InputEnd.{InputEnd}
+use Rattle.armus_top.specs.declared.programs.InputEnd.TheVariants.{Refused, NoMemory}
 use Rattle.armus_top.specs.Programs.{IsEnd}
 use Rattle.armus_top.specs.Commands.{IsAnswered, IsRefused, limit_of, length_line, wanted_of}
 use Rattle.armus_top.specs.Headline.{Ends, GaveTooMuch, HasInput, IsSound, Passage, no_memory}

@@ -1,5 +1,5 @@
 -- From what `finish` leaves to what the call leaves.
-use Rattle.std.proofs.Common.{◌≡◌, ◌≤◌, ◌∙◌, ◌++◌, ℕ, length, inl, inr, ap, sym, subst, arith, append-nil, length-append}
+use Rattle.std.proofs.Common.{◌≡◌, ◌≤◌, ◌∙◌, ◌++◌, ℕ, List, length, inl, inr, ap, sym, subst, arith, append-nil, length-append}
 use Rattle.std.specs.Prelude.{Option, Some, None}
 use Rattle.std.specs.Io.KnownBytes.{Appends, Consumes, IsAtEnd}
 use Rattle.std.proofs.KnownBytes.{Appends-trans}
@@ -10,7 +10,7 @@ use Rattle.armus_top.specs.Commands.{limit_of, IsRefused}
 use Rattle.armus_top.proofs.Inputs.{answered_small, never_both}
 use Rattle.armus_top.specs.Texts.{Text}
 use Rattle.armus_top.specs.Writing.{Finished}
-use Rattle.armus_top.specs.Headline.{Passage, Completes, Ends, GaveTooMuch, IsAccepted, HasInput, IsCalm, IsSound, Offers, OffersTooMuch, Permits, whole, read_fault, write_fault, no_memory}
+use Rattle.armus_top.specs.Headline.{Passage, Completes, Ends, GaveTooMuch, IsAccepted, HasInput, IsCall, IsCalm, IsServed, IsSound, Offers, OffersTooMuch, Permits, whole, read_fault, write_fault, no_memory}
 use Rattle.armus_words.specs.declared.command.Command.{Command}
 
 only : {d e : Command} → Some d ≡ Some e → d ≡ e
@@ -110,3 +110,10 @@ completes c src out number (whole text permits took still sound) calm = fixed sr
 completes c src out number (read_fault four does failed sound kept) calm = absurd (calm.source (rose_from src.faults_before src.faults_after failed))
 completes c src out number (write_fault five still failed part) calm = absurd (calm.sink (rose_from out.faults_before out.faults_after failed))
 completes c src out number (no_memory six still sound part) calm = absurd (calm.memory six)
+
+pub served_by : {words : List Text} {src out : Passage} {unread unwritten : Type 0} {number : ℕ} → IsCall words src out unread unwritten number
+    → IsServed words src out unread unwritten number
+served_by {src = src} {out = out} {number = number} call = record {
+  call = call;
+  complete = λ c means calm. completes c src out number (call.serves c means) calm;
+}

@@ -8,9 +8,10 @@ use Rattle.report.specs.declared.refusal.Refusal.{Refusal}
 use Rattle.armus_words.specs.declared.command.Command.{Command}
 use Rattle.armus_words.specs.declared.command.Command.TheVariants.{Check, Run, Avoid, Record, Replay, Gen}
 use Rattle.armus_top.specs.Texts.{Text}
+use Rattle.armus_top.specs.Avoids.{TellsRefused}
 use Rattle.armus_top.specs.Programs.{IsFaultOf, TellsDead}
 use Rattle.armus_top.specs.Commands.{IsAnswered, IsRefused}
-use Rattle.armus_top.specs.Runs.{IsRunOf, TellsRefused}
+use Rattle.armus_top.specs.Runs.{IsRunOf}
 use Rattle.armus_top.proofs.OnePlan.{plan_or_fault}
 use Rattle.armus_top.proofs.ReplayInputs.{refused_or_replayed}
 

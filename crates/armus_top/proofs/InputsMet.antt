@@ -13,7 +13,7 @@ use Rattle.armus_base.specs.Runs.{state_after}
 use Rattle.armus_base.specs.States.{State}
 use Rattle.armus_base.proofs.DeadByStatuses.{dead_by_final, dead_by_statuses, run_is_of_plan}
 use Rattle.armus_base.proofs.MaximalExists.{maximal_exists}
-use Rattle.armus_base.proofs.NobodyIsDead.{nobody_is_dead}
+use Rattle.armus_base.proofs.OneEnd.{one_end}
 use Rattle.armus_base.proofs.SerialFinalIsAvoided.{serial_final_is_avoided}
 use Rattle.armus_base.proofs.Elements.{Contains-head, nothing_in_nil}
 use Rattle.armus_base.proofs.Tasks.{all_or_one}
@@ -39,6 +39,7 @@ use Rattle.report.proofs.ReportExists.{report_exists}
 use Rattle.schedule.specs.declared.lines.Line.{Line}
 use Rattle.schedule.specs.declared.verdict.PassVerdict.{PassVerdict}
 use Rattle.schedule.specs.declared.verdict.Replayed.{Replayed}
+use Rattle.schedule.specs.Records.{IsClosed, IsEnded, recorded}
 use Rattle.schedule.specs.Lines.{IsCut, IsFirstLine, a_line, no_line}
 use Rattle.schedule.specs.Passes.{Loads, statuses_found}
 use Rattle.schedule.specs.Replays.{Leads, Progress}
@@ -46,19 +47,22 @@ use Rattle.schedule.specs.Replaying.{AreDeadIn, AreVerdicts, IsReplayed, no_pass
 use Rattle.schedule.specs.Split.{IsSplit}
 use Rattle.schedule.specs.Texts.{text_of}
 use Rattle.schedule.proofs.LinesExist.{bytes_have_lines, first_exists, input_is_split}
+use Rattle.schedule.proofs.PassesNameTheDead.{passes_name_the_dead}
 use Rattle.schedule.proofs.LinesMet.{leads_run, lines_are_met}
 use Rattle.task_runner.proofs.SerialExists.{serial_run_ends}
 use Rattle.armus_top.specs.Texts.{Text, line, plan_line}
+use Rattle.armus_top.specs.Avoids.{IsAvoidOf, TellsRefused, is_refused}
 use Rattle.armus_top.specs.Commands.{IsCause, limit_of, wanted_of}
 use Rattle.armus_top.specs.Generated.{IsFirstAndLast}
 use Rattle.armus_top.specs.Headline.{Answers}
 use Rattle.armus_top.specs.Inputs.{EachInputIsMet, Fits, MayGenerate}
 use Rattle.armus_top.specs.Programs.{IsFaultOf, IsPlanOf, TellsDead}
-use Rattle.armus_top.specs.Records.{IsClosed, IsRecordOf, recorded}
+use Rattle.armus_top.specs.Records.{IsRecordOf}
 use Rattle.armus_top.specs.Replays.{IsShort, ReadsAs}
-use Rattle.armus_top.specs.Runs.{IsAvoidOf, IsRunOf, TellsRefused, is_refused}
-use Rattle.armus_top.specs.declared.texts.TheConstants.{MAX_TEXT_BYTES}
+use Rattle.armus_top.specs.Runs.{IsRunOf}
+use Rattle.armus_top.specs.declared.programs.TheConstants.{MAX_TEXT_BYTES}
 use Rattle.armus_top.proofs.OnePlan.{checked_plan}
+use Rattle.armus_top.proofs.SerialEnds.{never_dead}
 use Rattle.armus_top.proofs.TwoLines.{more_lines, report_has_two}
 
 -- a whole output of the command for the input
@@ -121,6 +125,7 @@ module _ (input : Text) (plan : Plan) (plan_is : IsPlanOf input plan) where
           plan_is = plan_is;
           state = state;
           final = record { steps = h; run = run; maximal = maximal; there = refl };
+          every = λ other is ends. (one_end plan other h checked is run ends maximal).1;
           status_is = tells;
           report_is = reports;
         },
@@ -138,8 +143,9 @@ module _ (input : Text) (plan : Plan) (plan_is : IsPlanOf input plan) where
           plan = plan;
           plan_is = plan_is;
           state = state;
-          final = final;
-          nobody = subst NobodyDead avoided.there (nobody_is_dead plan avoided.steps checked avoided.run);
+          avoided = avoided;
+          never = never_dead plan checked avoided.steps avoided.run;
+          serial = final;
           status_is = tells;
           report_is = reports;
         },
@@ -174,13 +180,16 @@ ends_or_not (x ∷ []) =
     last other (b ∷ (c ∷ bs)) e = absurd (cc)
 ends_or_not (x ∷ (y ∷ ys)) = by_rest x y ys (ends_or_not (y ∷ ys))
 
-closed_exists : (text : Text) → (closed : Text) × IsClosed text closed
-closed_exists [] = ([], inl (refl, inl refl))
-closed_exists (b ∷ bs) =
+ended_or_not : (text : Text) → IsEnded text ⊎ (IsEnded text → ⊥)
+ended_or_not [] = inl (inl refl)
+ended_or_not (b ∷ bs) =
     elim (ends_or_not (b ∷ bs)) [
-      | inl ends ↦ (b ∷ bs, inl (refl, inr ends))
-      | inr unclosed ↦ (line (b ∷ bs), inr (refl, (λ e. absurd (cc), unclosed)))
+      | inl ends ↦ inl (inr ends)
+      | inr unclosed ↦ inr (λ is. elim is [ inl e ↦ absurd (cc) | inr ends ↦ unclosed ends.0 ends.1 ])
     ]
+
+closed_exists : (text : Text) → (closed : Text) × IsClosed text closed
+closed_exists text = elim (ended_or_not text) [ inl ends ↦ (text, inl (refl, ends)) | inr unclosed ↦ (line text, inr (refl, unclosed)) ]
 
 record_met : (input : Text) (plan : Plan) (plan_is : IsPlanOf input plan) → (status : ℕ) × (text : Text) × IsRecordOf input status text
 record_met input plan plan_is =
@@ -201,9 +210,7 @@ record_met input plan plan_is =
         run = record { run = run; tasks = refl };
         maximal = maximal;
         status_is = tells;
-        closed = closed;
-        closed_is = closed_is;
-        text_is = refl;
+        record_is = record { closed = closed; closed_is = closed_is; bytes_are = refl };
       },
     )
 
@@ -308,6 +315,7 @@ replay_met input =
                       split = split;
                       done = done;
                       by = record { plan = plan; lines = lines; reads = reads; replayed = replayed };
+                      names = λ loads closed. passes_name_the_dead plan lines replayed.progress loads is_checked replayed.leads closed;
                       status_is = tells;
                       report_is = refl;
                     }),

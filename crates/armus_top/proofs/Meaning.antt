@@ -1,47 +1,52 @@
 -- What the words mean to the program is one command at most, and it tells whether the first word is `record`.
-use Rattle.std.proofs.Common.{◌≡◌, ◌≤◌, ℕ, List, refl, subst, arith, Bool, true, false}
-use Rattle.std.specs.Prelude.{Option, Some, None}
-use Rattle.armus_words.specs.Commands.{AreWorkers, IsCommand}
+use Rattle.std.proofs.Common.{◌≡◌, List, subst, arith, false}
+use Rattle.std.specs.Prelude.{ℕ, ◌∷◌, Option, Some, None}
+use Rattle.armus_words.specs.Commands.{AreWorkers}
 use Rattle.armus_words.proofs.Meaning.{one_meaning}
 use Rattle.armus_words.specs.declared.command.Command.{Command}
 use Rattle.armus_words.specs.declared.command.Command.TheVariants.{Check, Run, Avoid, Record, Replay, Gen}
-use Rattle.armus_words.specs.declared.table.TheConstants.{MAX_WORKERS}
+use Rattle.armus_words.specs.declared.table.TheConstants.{AVOID, CHECK, GEN, RECORD, REPLAY, RUN}
 use Rattle.armus_top.specs.Texts.{Text}
-use Rattle.armus_top.specs.Meanings.{BeginsRecord, MayRecord, Means, MeansMayRecord, is_record, means_record}
-use Rattle.armus_top.specs.Headline.{Ends, Passage, Serves}
+use Rattle.armus_top.specs.Meanings.{BeginsRecord, MayWork, Means, MeansJournal, MeansPlain}
+use Rattle.armus_top.specs.Headline.{Ends, IsCall, Passage, Serves, reads_input}
 
 pub serves_by : (words : List Text) (src out : Passage) (number : ℕ) (meaning : Option Command) → Means words meaning → Ends meaning src out number
     → Serves words src out number
 serves_by words src out number meaning is ends = λ c means.
     subst (λ (m : Option Command). Ends m src out number) (one_meaning words meaning c is means) ends
 
--- words that do not begin with `record` do not mean it
-pub means_other : (words : List Text) (meaning : Option Command) → Means words meaning → (BeginsRecord words → ⊥) → means_record meaning ≡ false
-means_other words (Some (Check print)) is other = refl
-means_other words (Some (Run workers graph)) is other = refl
-means_other words (Some (Avoid workers graph)) is other = refl
-means_other words (Some (Record workers)) is other = absurd (other (_, is.form.words_are))
-means_other words (Some Replay) is other = refl
-means_other words (Some (Gen count)) is other = refl
-means_other words None is other = refl
+-- a call that ended as the command may that the words mean
+pub call_by : (words : List Text) (src out : Passage) (unread unwritten : Type 0) (number : ℕ) (meaning : Option Command) → Means words meaning
+    → Ends meaning src out number → (reads_input meaning ≡ false → unread) → (number ≡ 4 → unwritten) → IsCall words src out unread unwritten number
+call_by words src out unread unwritten number meaning is ends same silent = record {
+  serves = serves_by words src out number meaning is ends;
+  unread = λ c means no. same (subst (λ (m : Option Command). reads_input m ≡ false) (one_meaning words c meaning means is) no);
+  silent = silent;
+}
 
-workers_may : (given : Option Text) (workers : ℕ) → AreWorkers given workers → (1 ≤ workers) × (workers ≤ MAX_WORKERS)
+workers_may : (given : Option Text) (workers : ℕ) → AreWorkers given workers → MayWork workers
 workers_may (Some text) workers is = (is.from_one, is.to_most)
 workers_may None workers is = (omega (arith, is), omega (arith, is))
 
-pub means_may_record : (words : List Text) (meaning : Option Command) → Means words meaning → MeansMayRecord meaning
-means_may_record words (Some (Check print)) is = tt
-means_may_record words (Some (Run workers graph)) is = tt
-means_may_record words (Some (Avoid workers graph)) is = tt
-means_may_record words (Some (Record workers)) is = workers_may _ workers is.values
-means_may_record words (Some Replay) is = tt
-means_may_record words (Some (Gen count)) is = tt
-means_may_record words None is = tt
+-- words that do not begin with `record` mean a command that waits for no thread, or none
+pub means_plain : (words : List Text) (meaning : Option Command) → Means words meaning → (BeginsRecord words → ⊥) → MeansPlain meaning
+means_plain words (Some (Check print)) is other = tt
+means_plain words (Some (Run workers graph)) is other = workers_may _ workers is.values.0
+means_plain words (Some (Avoid workers graph)) is other = workers_may _ workers is.values.0
+means_plain words (Some (Record workers)) is other = absurd (other (_, is.form.words_are))
+means_plain words (Some Replay) is other = tt
+means_plain words (Some (Gen count)) is other = tt
+means_plain words None is other = tt
 
-pub other_command : (c : Command) → ((workers : ℕ) → c ≡ Record workers → ⊥) → is_record c ≡ false
-other_command (Check print) other = refl
-other_command (Run workers graph) other = refl
-other_command (Avoid workers graph) other = refl
-other_command (Record workers) other = absurd (other workers refl)
-other_command Replay other = refl
-other_command (Gen count) other = refl
+unlike : {x : Text} {xs : List Text} {words : List Text} (y : Text) (ys : List Text) → words ≡ x ∷ xs → words ≡ y ∷ ys → x ≡ y
+unlike y ys a b = cc
+
+-- words that begin with `record` mean it, or no command
+pub means_journal : (words : List Text) (meaning : Option Command) → Means words meaning → BeginsRecord words → MeansJournal meaning
+means_journal words (Some (Check print)) is begins = absurd (let e : CHECK.now ≡ RECORD.now = unlike RECORD.now begins.0 is.form.words_are begins.1 in cc)
+means_journal words (Some (Run workers graph)) is begins = absurd (let e : RUN.now ≡ RECORD.now = unlike RECORD.now begins.0 is.form.words_are begins.1 in cc)
+means_journal words (Some (Avoid workers graph)) is begins = absurd (let e : AVOID.now ≡ RECORD.now = unlike RECORD.now begins.0 is.form.words_are begins.1 in cc)
+means_journal words (Some (Record workers)) is begins = workers_may _ workers is.values
+means_journal words (Some Replay) is begins = absurd (let e : REPLAY.now ≡ RECORD.now = unlike RECORD.now begins.0 is.form.words_are begins.1 in cc)
+means_journal words (Some (Gen count)) is begins = absurd (let e : GEN.now ≡ RECORD.now = unlike RECORD.now begins.0 is.form.words_are begins.1 in cc)
+means_journal words None is begins = tt

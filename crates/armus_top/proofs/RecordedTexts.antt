@@ -10,16 +10,17 @@ use Rattle.armus_base.specs.Plans.{Plan}
 use Rattle.armus_base.specs.Runs.{state_after}
 use Rattle.armus_base.proofs.DeadByStatuses.{dead_by_final, run_is_of_plan}
 use Rattle.report.specs.Reports.{IsSomeDead}
+use Rattle.schedule.specs.Records.{IsRecord}
 use Rattle.task_runner.specs.RecordedRuns.{IsRecordedRun}
 use Rattle.armus_top.specs.Texts.{Text}
 use Rattle.armus_top.specs.Programs.{IsPlanOf}
-use Rattle.armus_top.specs.Records.{IsClosed, IsRecordOf, recorded}
+use Rattle.armus_top.specs.Records.{IsRecordOf}
 use Rattle.armus_top.proofs.Reporting.{tells}
 
 pub record_of : (input : Text) (plan : Plan) (end : Final) (journal shown : List TaskId) (dead : Bool) (text : Text) → IsCheckedPlan plan → IsRecordedRun plan end journal
-    → shown ≡ journal → (IsTrue dead ↔ IsSomeDead end.blocked) → (closed : Text) × IsClosed input closed × (text ≡ recorded closed shown)
+    → shown ≡ journal → (IsTrue dead ↔ IsSomeDead end.blocked) → IsRecord input shown text
     → IsPlanOf input plan → IsRecordOf input (if dead then 1 else 0) text
-record_of input plan end journal shown dead text checked run shown_is is_dead (closed, closed_is, text_is) plan_is =
+record_of input plan end journal shown dead text checked run shown_is is_dead recorded plan_is =
     let state = state_after run.steps in
     let of_plan : IsOfPlan plan state = run_is_of_plan plan run.steps checked run.journal.run.0 in
     record {
@@ -31,7 +32,5 @@ record_of input plan end journal shown dead text checked run shown_is is_dead (c
       maximal = run.maximal;
       status_is = tells state (final_of plan state) dead (λ t. dead_by_final plan state t of_plan)
           (subst (λ (e : Final). IsTrue dead ↔ IsSomeDead e.blocked) run.is_it is_dead);
-      closed = closed;
-      closed_is = closed_is;
-      text_is = text_is ∙ ap (recorded closed) shown_is;
+      record_is = subst (λ j. IsRecord input j text) shown_is recorded;
     }

@@ -9,13 +9,7 @@ use Rattle.armus_base.specs.Runs.{state_after}
 use Rattle.armus_base.specs.States.{State}
 use Rattle.pl_syntax.specs.Grammar.{IsText}
 use Rattle.pl_syntax.specs.Tree.{Tree}
-use Rattle.pl_syntax.specs.declared.limits.TheConstants.{MAX_PARSED_BYTES}
 use Rattle.pl_syntax.proofs.LineFeeds.{line_feed_changes_nothing, no_line_is_a_mark}
-use Rattle.recording.specs.Recording.{line_of}
-use Rattle.recording.specs.Records.{FitsPlan, HasNoMark, IsEnded, steps_text}
-use Rattle.recording.proofs.JournalFits.{journal_fits_plan}
-use Rattle.recording.proofs.RecordBytes.{record_is_split, steps_are_lines}
-use Rattle.recording.proofs.Recording.{journal_replays}
 use Rattle.report.specs.declared.refusal.Refusal.{Refusal}
 use Rattle.report.specs.declared.refusal.Refusal.TheVariants.{Length, Syntax, Check, Schedule}
 use Rattle.schedule.specs.declared.lines.Line.{Line}
@@ -24,10 +18,14 @@ use Rattle.schedule.specs.Lines.{IsSchedule}
 use Rattle.schedule.specs.Replays.{IsFirstFault}
 use Rattle.schedule.specs.Replaying.{AreDeadIn, IsReplayed}
 use Rattle.schedule.specs.Split.{IsSplit, mark}
+use Rattle.schedule.specs.Records.{FitsPlan, HasNoMark, IsClosed, step_lines, step_of}
+use Rattle.schedule.proofs.JournalFits.{journal_fits_plan}
+use Rattle.schedule.proofs.JournalReplays.{journal_replays}
 use Rattle.schedule.proofs.OneSchedule.{one_reading, one_split}
+use Rattle.schedule.proofs.RecordIsRead.{record_is_read}
 use Rattle.armus_top.specs.Texts.{Text}
 use Rattle.armus_top.specs.Programs.{IsPlanOf, TellsDead}
-use Rattle.armus_top.specs.Records.{IsClosed, IsRecordOf}
+use Rattle.armus_top.specs.Records.{IsRecordOf}
 use Rattle.armus_top.specs.Replayable.{IsReplayable, RecordsReplay, WritesReplayable}
 use Rattle.armus_top.specs.Commands.{limit_of}
 use Rattle.armus_top.specs.Headline.{Ends, HasInput, Passage, Permits, Serves, no_memory, read_fault, whole, write_fault}
@@ -35,7 +33,8 @@ use Rattle.armus_words.specs.declared.command.Command.TheVariants.{Record}
 use Rattle.std.specs.Io.KnownBytes.{Appends}
 use Rattle.std.proofs.lemmas.List.{append_cancel_left}
 use Rattle.armus_top.specs.Replays.{IsReplayFault, IsReplayOf, IsReplayRefused, IsShort}
-use Rattle.armus_top.specs.declared.texts.TheConstants.{MAX_TEXT_BYTES}
+use Rattle.armus_top.specs.declared.programs.TheConstants.{MAX_TEXT_BYTES}
+use Rattle.armus_top.specs.declared.replaying.TheConstants.{MAX_REPLAY_BYTES}
 use Rattle.armus_top.proofs.OnePlan.{checked_plan, one_plan, plan_or_fault}
 
 -- ---- the closed text
@@ -43,11 +42,6 @@ use Rattle.armus_top.proofs.OnePlan.{checked_plan, one_plan, plan_or_fault}
 closed_text : (input closed : Text) (p : Tree) → IsClosed input closed → IsText input p → IsText closed p
 closed_text input closed p (inl (same, ends)) is = subst (λ t. IsText t p) (sym same) is
 closed_text input closed p (inr (longer, unclosed)) is = subst (λ t. IsText t p) (sym longer) (line_feed_changes_nothing input p is)
-
-closed_ended : (input closed : Text) → IsClosed input closed → IsEnded closed
-closed_ended input closed (inl (same, inl empty)) = inl (same ∙ empty)
-closed_ended input closed (inl (same, inr (front, ends))) = inr (front, same ∙ ends)
-closed_ended input closed (inr (longer, unclosed)) = inr (input, longer)
 
 closed_short : (input closed : Text) → IsClosed input closed → length input ≤ MAX_TEXT_BYTES → IsShort closed
 closed_short input closed (inl (same, ends)) le = inl (subst (λ t. length t ≤ MAX_TEXT_BYTES) (sym same) le)
@@ -74,10 +68,10 @@ task : ℕ → TaskId
 task n = record { 0 = n }
 
 module _ (input : Text) (status : ℕ) (text : Text) (r : IsRecordOf input status text) (short : length input ≤ MAX_TEXT_BYTES) where
-  reads : IsText r.closed r.plan_is.0
-  reads = closed_text input r.closed r.plan_is.0 r.closed_is r.plan_is.1.reads
+  reads : IsText r.record_is.closed r.plan_is.0
+  reads = closed_text input r.record_is.closed r.plan_is.0 r.record_is.closed_is r.plan_is.1.reads
 
-  closed_plan : IsPlanOf r.closed r.plan
+  closed_plan : IsPlanOf r.record_is.closed r.plan
   closed_plan = (r.plan_is.0, record { reads = reads; unfolds = r.plan_is.1.unfolds })
 
   checked : IsCheckedPlan r.plan
@@ -86,20 +80,17 @@ module _ (input : Text) (status : ℕ) (text : Text) (r : IsRecordOf input statu
   journal_fits : FitsPlan r.plan r.journal
   journal_fits = journal_fits_plan r.plan r.journal r.steps checked r.run
 
-  split : IsSplit text r.closed (steps_text r.journal)
-  split =
-      subst (λ t. IsSplit t r.closed (steps_text r.journal)) (sym r.text_is)
-      (record_is_split r.closed r.journal (closed_ended input r.closed r.closed_is) (unmarked r.closed r.plan_is.0 reads))
+  read : (schedule : Text) × IsSplit text r.record_is.closed schedule × IsSchedule schedule (map step_of r.journal)
+  read =
+      record_is_read input text r.journal r.record_is (unmarked r.record_is.closed r.plan_is.0 reads)
+      (λ t m. let lt = journal_fits.tasks t m in omega arith)
 
-  lines_are : IsSchedule (steps_text r.journal) (map line_of r.journal)
-  lines_are = steps_are_lines r.journal (λ t m. let lt = journal_fits.tasks t m in omega arith)
-
-  fits : length text ≤ MAX_PARSED_BYTES
+  fits : length text ≤ MAX_REPLAY_BYTES
   fits =
-      let a = ap length r.text_is in
-      let b = length-append (r.closed ++ (mark ++ 10 ∷ [])) (steps_text r.journal) in
-      let c = length-append r.closed (mark ++ 10 ∷ []) in
-      let d = closed_length input r.closed r.closed_is in
+      let a = ap length r.record_is.bytes_are in
+      let b = length-append (r.record_is.closed ++ (mark ++ 10 ∷ [])) (step_lines r.journal) in
+      let c = length-append r.record_is.closed (mark ++ 10 ∷ []) in
+      let d = closed_length input r.record_is.closed r.record_is.closed_is in
       let few = journal_fits.few in
       let each = journal_fits.short in
       omega arith
@@ -107,30 +98,30 @@ module _ (input : Text) (status : ℕ) (text : Text) (r : IsRecordOf input statu
   -- whatever replay reads in the text is what was recorded
   module _ (other schedule : Text) (plan : Plan) (lines : List Line) (parts : IsSplit text other schedule) (plan_is : IsPlanOf other plan) (are : IsSchedule schedule lines) where
     same_plan : plan ≡ r.plan
-    same_plan = one_plan r.closed plan r.plan (subst (λ t. IsPlanOf t plan) (one_split text other schedule r.closed (steps_text r.journal) parts split).0 plan_is) closed_plan
+    same_plan = one_plan r.record_is.closed plan r.plan (subst (λ t. IsPlanOf t plan) (one_split text other schedule r.record_is.closed read.0 parts read.1).0 plan_is) closed_plan
 
-    same_lines : lines ≡ map line_of r.journal
+    same_lines : lines ≡ map step_of r.journal
     same_lines =
-        one_reading (steps_text r.journal) lines (map line_of r.journal)
-        (subst (λ s. IsSchedule s lines) (one_split text other schedule r.closed (steps_text r.journal) parts split).1 are) lines_are
+        one_reading read.0 lines (map step_of r.journal)
+        (subst (λ s. IsSchedule s lines) (one_split text other schedule r.record_is.closed read.0 parts read.1).1 are) read.2
 
   not_refused : (why : Refusal) → IsReplayRefused text why → ⊥
   not_refused why (other, schedule, parts, fault) =
-      let same = (one_split text other schedule r.closed (steps_text r.journal) parts split).0 in
+      let same = (one_split text other schedule r.record_is.closed read.0 parts read.1).0 in
       by_cause why (subst (λ t. IsReplayFault t schedule why) same fault) (subst (λ t. IsSplit text t schedule) same parts)
     where
-      by_cause : (why : Refusal) → IsReplayFault r.closed schedule why → IsSplit text r.closed schedule → ⊥
-      by_cause Length fault parts = fault (closed_short input r.closed r.closed_is short)
-      by_cause (Syntax f) fault parts = plan_or_fault r.closed (Syntax f) closed_plan.0 r.plan fault.1 closed_plan.1
-      by_cause (Check f) fault parts = plan_or_fault r.closed (Check f) closed_plan.0 r.plan fault.1 closed_plan.1
+      by_cause : (why : Refusal) → IsReplayFault r.record_is.closed schedule why → IsSplit text r.record_is.closed schedule → ⊥
+      by_cause Length fault parts = fault (closed_short input r.record_is.closed r.record_is.closed_is short)
+      by_cause (Syntax f) fault parts = plan_or_fault r.record_is.closed (Syntax f) closed_plan.0 r.plan fault.1 closed_plan.1
+      by_cause (Check f) fault parts = plan_or_fault r.record_is.closed (Check f) closed_plan.0 r.plan fault.1 closed_plan.1
       by_cause (Schedule f) (plan, lines, reads_as, first) parts =
-          let plans = same_plan r.closed schedule plan lines parts reads_as.plan_is reads_as.lines_are in
-          let all = same_lines r.closed schedule plan lines parts reads_as.plan_is reads_as.lines_are in
+          let plans = same_plan r.record_is.closed schedule plan lines parts reads_as.plan_is reads_as.lines_are in
+          let all = same_lines r.record_is.closed schedule plan lines parts reads_as.plan_is reads_as.lines_are in
           journal_replays r.plan r.journal r.steps (Err (AtFault (record { line = f.line; kind = f.kind }))) checked r.run
           (subst (λ l. IsFirstFault r.plan l f.line f.kind) all (subst (λ p. IsFirstFault p lines f.line f.kind) plans first))
 
   module _ (number : ℕ) (report : Text) (is : IsReplayOf text number report) where
-    replayed : IsReplayed r.plan (map line_of r.journal) is.done
+    replayed : IsReplayed r.plan (map step_of r.journal) is.done
     replayed =
         let plans = same_plan is.text is.schedule is.by.plan is.by.lines is.split is.by.reads.plan_is is.by.reads.lines_are in
         let all = same_lines is.text is.schedule is.by.plan is.by.lines is.split is.by.reads.plan_is is.by.reads.lines_are in

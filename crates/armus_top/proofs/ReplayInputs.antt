@@ -13,12 +13,12 @@ use Rattle.schedule.specs.declared.verdict.Replayed.{Replayed}
 use Rattle.schedule.specs.Replays.{IsFirstFault}
 use Rattle.schedule.specs.Replaying.{AreDeadIn}
 use Rattle.schedule.proofs.OneSchedule.{one_reading, one_split}
-use Rattle.schedule.proofs.OneReplay.{leads_or_faults}
+use Rattle.schedule.proofs.OneReplay.{never_both}
 use Rattle.armus_top.specs.Texts.{Text}
 use Rattle.armus_top.specs.Programs.{IsEnd, IsFaultOf, IsPlanOf, TellsDead}
 use Rattle.armus_top.specs.Replays.{IsReplayedBy, IsReplayFault, IsReplayOf, IsReplayRefused, IsShort}
-use Rattle.armus_top.specs.declared.texts.InputEnd.{InputEnd}
-use Rattle.armus_top.specs.declared.texts.InputEnd.TheVariants.{Refused, NoMemory}
+use Rattle.armus_top.specs.declared.programs.InputEnd.{InputEnd}
+use Rattle.armus_top.specs.declared.programs.InputEnd.TheVariants.{Refused, NoMemory}
 use Rattle.armus_top.proofs.OnePlan.{checked_plan, one_plan, plan_or_fault}
 
 -- ---- no input is both refused and replayed
@@ -30,7 +30,7 @@ fault_or_replayed text schedule done (Check f) (short, has) by = plan_or_fault t
 fault_or_replayed text schedule done (Schedule f) (plan, lines, reads, first) by =
     let plans : plan ≡ by.plan = one_plan text plan by.plan reads.plan_is by.reads.plan_is in
     let all : lines ≡ by.lines = one_reading schedule lines by.lines reads.lines_are by.reads.lines_are in
-    leads_or_faults by.plan by.lines by.replayed.progress f.line f.kind (checked_plan text by.plan by.reads.plan_is) by.replayed.leads
+    never_both by.plan by.lines by.replayed.progress f.line f.kind (checked_plan text by.plan by.reads.plan_is) by.replayed.leads
     (subst (λ l. IsFirstFault by.plan l f.line f.kind) all (subst (λ p. IsFirstFault p lines f.line f.kind) plans first))
 
 pub refused_or_replayed : (input : Text) (why : Refusal) (status : ℕ) (report : Text) → IsReplayRefused input why → IsReplayOf input status report → ⊥

@@ -39,6 +39,7 @@ run_of input plan g end dead text plan_is is is_dead reports =
       plan_is = plan_is;
       state = state;
       final = is.final;
+      every = is.every;
       status_is = tells state (final_of plan state) dead (λ t. dead_by_final plan state t of_plan)
           (subst (λ (e : Final). IsTrue dead ↔ IsSomeDead e.blocked) is.is_it is_dead);
       report_is = subst (λ (e : Final). IsReport e g text) is.is_it reports;

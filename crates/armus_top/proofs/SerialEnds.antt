@@ -4,10 +4,14 @@ use Rattle.std.proofs.lemmas.Bool.{cases_lt}
 use Rattle.std.specs.List.{list_any}
 use Rattle.armus_base.specs.declared.ending.Final.{Final}
 use Rattle.armus_base.specs.declared.ending.TaskEnd.{TaskEnd}
+use Rattle.armus_base.specs.Avoidance.{IsAvoidedRun}
 use Rattle.armus_base.specs.CheckedPlans.{IsCheckedPlan}
 use Rattle.armus_base.specs.Finals.{end_of, final_of, is_awaited, list_below}
 use Rattle.armus_base.specs.Plans.{Plan}
-use Rattle.armus_base.specs.States.{State}
+use Rattle.armus_base.specs.States.{State, Step}
+use Rattle.armus_base.proofs.NobodyIsDead.{nobody_is_dead}
+use Rattle.armus_base.proofs.SerialFinalIsAvoided.{serial_final_is_avoided}
+use Rattle.pl_plan.proofs.UnfoldedIsChecked.{unfolded_is_checked}
 use Rattle.armus_base.specs.Statuses.{IsInOrder}
 use Rattle.armus_base.proofs.StatusesAre.{statuses_are}
 use Rattle.adaptive.specs.declared.analysis.Wanted.{Wanted}
@@ -15,7 +19,7 @@ use Rattle.report.specs.Reports.{IsReport}
 use Rattle.task_runner.specs.AvoidedRuns.{IsSerialEnd}
 use Rattle.armus_top.specs.Texts.{Text}
 use Rattle.armus_top.specs.Programs.{IsPlanOf}
-use Rattle.armus_top.specs.Runs.{IsAvoidOf, TellsRefused, is_refused}
+use Rattle.armus_top.specs.Avoids.{IsAvoidOf, IsNeverDead, TellsRefused, is_refused}
 
 pub serial_end_in_order : (plan : Plan) (end : Final) → IsCheckedPlan plan → IsSerialEnd plan end → IsInOrder end.blocked
 serial_end_in_order plan end checked is =
@@ -62,14 +66,24 @@ tells : (plan : Plan) (state : State) (some : Bool) → list_any is_refused (fin
 tells plan state true e = inl (refl, some_refused (end_of state) (length plan.parents) e)
 tells plan state false e = inr (refl, none_refused (end_of state) (length plan.parents) e)
 
+-- the first steps of an avoided run are an avoided run
+first_steps : (plan : Plan) (more before : List Step) → IsAvoidedRun plan (more ++ before) → IsAvoidedRun plan before
+first_steps plan [] before run = run
+first_steps plan (e ∷ more) before run = first_steps plan more before run.0
+
+-- in an avoided run nobody is ever dead
+pub never_dead : (plan : Plan) → IsCheckedPlan plan → (steps : List Step) → IsAvoidedRun plan steps → IsNeverDead steps
+never_dead plan checked steps run more before same = nobody_is_dead plan before checked (first_steps plan more before (subst (IsAvoidedRun plan) same run))
+
 pub avoid_of : (input : Text) (plan : Plan) (g : Wanted) (end : Final) (some : Bool) (text : Text) → IsPlanOf input plan → IsSerialEnd plan end
     → some ≡ list_any is_refused end.ends → IsReport end g text → IsAvoidOf input g (if some then 1 else 0) text
-avoid_of input plan g end some text plan_is is some_is reports = record {
+avoid_of input plan g end some text plan_is is some_is reports = let avoided = serial_final_is_avoided plan is.state (unfolded_is_checked plan_is.0 plan plan_is.1.unfolds) is.final in record {
   plan = plan;
   plan_is = plan_is;
   state = is.state;
-  final = is.final;
-  nobody = is.nobody;
+  avoided = avoided;
+  never = never_dead plan (unfolded_is_checked plan_is.0 plan plan_is.1.unfolds) avoided.steps avoided.run;
+  serial = is.final;
   status_is = tells plan is.state some (sym (some_is ∙ ap (λ (e : Final). list_any is_refused e.ends) is.is_it));
   report_is = subst (λ (e : Final). IsReport e g text) is.is_it reports;
 }

@@ -4,7 +4,6 @@ use Rattle.std.specs.Prelude.{◌≡◌, ℕ, true, false, Option, Some, None}
 use Rattle.armus_base.specs.Plans.{Plan}
 use Rattle.pl_syntax.specs.Tree.{Tree}
 use Rattle.pl_syntax.specs.Printed.{printed_of}
-use Rattle.pl_syntax.specs.declared.limits.TheConstants.{MAX_PARSED_BYTES}
 use Rattle.adaptive.specs.declared.analysis.Wanted.{Wanted}
 use Rattle.adaptive.specs.declared.analysis.Wanted.TheVariants as wanted
 use Rattle.report.specs.Refusals.{refusal_text}
@@ -16,11 +15,13 @@ use Rattle.armus_words.specs.declared.command.Command.{Command}
 use Rattle.armus_words.specs.declared.command.Command.TheVariants.{Check, Run, Avoid, Record, Replay, Gen}
 use Rattle.armus_top.specs.Texts.{Text, plan_line}
 use Rattle.armus_top.specs.Programs.{IsChecked, IsFaultOf, IsPlanOf, TellsDead}
+use Rattle.armus_top.specs.Avoids.{IsAvoidOf}
 use Rattle.armus_top.specs.Generated.{IsGenOf}
 use Rattle.armus_top.specs.Records.{IsRecordOf}
 use Rattle.armus_top.specs.Replays.{IsReplayOf, IsReplayRefused}
-use Rattle.armus_top.specs.Runs.{IsAvoidOf, IsRunOf}
-use Rattle.armus_top.specs.declared.texts.TheConstants.{MAX_TEXT_BYTES}
+use Rattle.armus_top.specs.Runs.{IsRunOf}
+use Rattle.armus_top.specs.declared.programs.TheConstants.{MAX_TEXT_BYTES}
+use Rattle.armus_top.specs.declared.replaying.TheConstants.{MAX_REPLAY_BYTES}
 
 -- the most bytes of an input, where the command reads one
 abbrev pub limit_of : Command → Option ℕ
@@ -28,7 +29,7 @@ limit_of (Check print) = Some MAX_TEXT_BYTES
 limit_of (Run workers g) = Some MAX_TEXT_BYTES
 limit_of (Avoid workers g) = Some MAX_TEXT_BYTES
 limit_of (Record workers) = Some MAX_TEXT_BYTES
-limit_of Replay = Some MAX_PARSED_BYTES
+limit_of Replay = Some MAX_REPLAY_BYTES
 limit_of (Gen count) = None
 
 -- the line with which a longer input is refused

@@ -77,6 +77,12 @@ pub data Ends (c : Option Command) (src out : Passage) (number : ℕ) : Type 0 w
 abbrev pub Serves : List Text → Passage → Passage → ℕ → Type 0
 Serves words src out number = (meaning : Option Command) → Means words meaning → Ends meaning src out number
 
+-- the headline, and what the two objects are left as: a source that is not read stays the value that it was, and so does the sink after a fault of the source
+pub record IsCall (words : List Text) (src out : Passage) (unread unwritten : Type 0) (number : ℕ) : Type 0 where
+  pub serves : Serves words src out number
+  pub unread : (c : Option Command) → Means words c → reads_input c ≡ false → unread
+  pub silent : number ≡ 4 → unwritten
+
 -- the source tells its bytes and has this input for the command
 abbrev pub Offers : Option ℕ → Passage → Text → Type 0
 Offers (Some limit) src input = (src.before ≡ Some input) × (length input ≤ limit)
@@ -103,3 +109,8 @@ pub record Completes (c : Option Command) (src : Passage) (number : ℕ) : Type 
   pub accepted : (command : Command) (input : Text) → c ≡ Some command → Offers (limit_of command) src input → IsAccepted command input → number ≤ 1
   pub refused : (command : Command) (input text : Text) → c ≡ Some command → Offers (limit_of command) src input → IsRefused command input text → number ≡ 3
   pub long : (command : Command) → c ≡ Some command → OffersTooMuch (limit_of command) src → number ≡ 3
+
+-- all that is said of a call: what it leaves, and completeness
+pub record IsServed (words : List Text) (src out : Passage) (unread unwritten : Type 0) (number : ℕ) : Type 0 where
+  pub call : IsCall words src out unread unwritten number
+  pub complete : (c : Option Command) → Means words c → IsCalm src out number → Completes c src number

@@ -2,6 +2,7 @@ pub mod Texts
 pub mod Programs
 pub mod Replays
 pub mod Runs
+pub mod Avoids
 pub mod Records
 pub mod Generated
 pub mod Meanings
@@ -9,5 +10,6 @@ pub mod Commands
 pub mod Headline
 pub mod Replayable
 pub mod Inputs
+pub mod Reading
 pub mod Status
 pub mod Writing

@@ -9,8 +9,8 @@ use Rattle.pl_plan.specs.Unfolding.{plan_of}
 use Rattle.report.specs.declared.refusal.Refusal.{Refusal}
 use Rattle.report.specs.declared.refusal.Refusal.TheVariants.{Syntax, Check}
 use Rattle.armus_top.specs.Texts.{Text}
-use Rattle.armus_top.specs.declared.texts.InputEnd.{InputEnd}
-use Rattle.armus_top.specs.declared.texts.InputEnd.TheVariants.{Refused, NoMemory}
+use Rattle.armus_top.specs.declared.programs.InputEnd.{InputEnd}
+use Rattle.armus_top.specs.declared.programs.InputEnd.TheVariants.{Refused, NoMemory}
 
 -- the text is this program, which unfolds to this plan
 pub record IsChecked (text : Text) (program : Tree) (plan : Plan) : Type 0 where

@@ -4,18 +4,18 @@ use Rattle.armus_base.specs.declared.ids.TaskId.{TaskId}
 use Rattle.armus_base.specs.Deadlocks.{IsDeadIn}
 use Rattle.armus_base.specs.Runs.{state_after}
 use Rattle.armus_words.specs.declared.command.Command.TheVariants.{Record, Replay}
-use Rattle.pl_syntax.specs.declared.limits.TheConstants.{MAX_PARSED_BYTES}
 use Rattle.armus_top.specs.Texts.{Text}
 use Rattle.armus_top.specs.Headline.{HasInput, IsAccepted, Passage}
 use Rattle.armus_top.specs.Commands.{limit_of}
 use Rattle.armus_top.specs.Meanings.{Means}
 use Rattle.armus_top.specs.Records.{IsRecordOf}
 use Rattle.armus_top.specs.Replays.{IsReplayOf}
-use Rattle.armus_top.specs.declared.texts.TheConstants.{MAX_TEXT_BYTES}
+use Rattle.armus_top.specs.declared.programs.TheConstants.{MAX_TEXT_BYTES}
+use Rattle.armus_top.specs.declared.replaying.TheConstants.{MAX_REPLAY_BYTES}
 
 -- the bytes are an input of `replay`: not too long and not refused, and whatever it is answered has this status and names just these dead tasks
 pub record IsReplayable (bytes : Text) (status : ℕ) (dead : ℕ → Type 0) : Type 0 where
-  pub fits : length bytes ≤ MAX_PARSED_BYTES
+  pub fits : length bytes ≤ MAX_REPLAY_BYTES
   pub accepted : IsAccepted Replay bytes
   pub status_same : (other : ℕ) (report : Text) → IsReplayOf bytes other report → other ≡ status
   pub dead_same : (other : ℕ) (report : Text) (r : IsReplayOf bytes other report) (t : TaskId) → Contains r.done.dead t ↔ dead t.0

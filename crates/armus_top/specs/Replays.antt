@@ -1,5 +1,5 @@
 -- The inputs of `replay`: why one is refused, and what one is answered.
-use Rattle.std.specs.Prelude.{◌≡◌, ◌≤◌, ◌⊎◌, ℕ, List, length}
+use Rattle.std.specs.Prelude.{◌≡◌, ◌≤◌, ◌⊎◌, ℕ, List, Contains, length}
 use Rattle.armus_base.specs.Plans.{Plan}
 use Rattle.armus_base.specs.Runs.{state_after}
 use Rattle.report.specs.declared.refusal.Refusal.{Refusal}
@@ -8,12 +8,14 @@ use Rattle.schedule.specs.declared.lines.Line.{Line}
 use Rattle.schedule.specs.declared.verdict.Replayed.{Replayed}
 use Rattle.schedule.specs.Lines.{IsSchedule}
 use Rattle.schedule.specs.Split.{IsSplit}
+use Rattle.schedule.specs.Laws.{NamesTheDead}
+use Rattle.schedule.specs.Passes.{Loads}
 use Rattle.schedule.specs.Replays.{IsFirstFault}
 use Rattle.schedule.specs.Replaying.{IsReplayed}
 use Rattle.schedule.specs.Texts.{text_of}
 use Rattle.armus_top.specs.Texts.{Text, line}
 use Rattle.armus_top.specs.Programs.{IsFaultOf, IsPlanOf, TellsDead}
-use Rattle.armus_top.specs.declared.texts.TheConstants.{MAX_TEXT_BYTES}
+use Rattle.armus_top.specs.declared.programs.TheConstants.{MAX_TEXT_BYTES}
 
 -- the text is no longer than a text may be, where one last LF is not counted
 abbrev pub IsShort : Text → Type 0
@@ -45,14 +47,14 @@ pub record IsReplayedBy (text schedule : Text) (done : Replayed) : Type 0 where
   pub reads : ReadsAs text schedule plan lines
   pub replayed : IsReplayed plan lines done
 
--- the text of the replay of the input, and the status that tells whether a task is dead in the state at its end.
--- Which tasks a pass in it names, at any interleaving, is said by the law `PassesNameTheDead` of the crate schedule: every task that is dead at the pass's first load, and only
--- tasks that are dead at its last
+-- the text of the replay of the input, in which each closed pass names every task that is dead at its first load and only tasks that are dead at its last, and the
+-- status that tells whether a task is dead in the state at its end
 pub record IsReplayOf (input : Text) (status : ℕ) (report : Text) : Type 0 where
   pub text : Text
   pub schedule : Text
   pub split : IsSplit input text schedule
   pub done : Replayed
   pub by : IsReplayedBy text schedule done
+  pub names : (loads : Loads) → Contains by.replayed.progress.passes loads → NamesTheDead by.plan loads
   pub status_is : TellsDead (state_after by.replayed.progress.run) status
   pub report_is : report ≡ text_of done

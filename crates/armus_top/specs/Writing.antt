@@ -5,8 +5,8 @@ use Rattle.armus_top.specs.Texts.{Text}
 use Rattle.std.specs.Io.KnownBytes.{Keeps}
 use Rattle.report.specs.Refusals.{refusal_text}
 use Rattle.report.specs.declared.refusal.Refusal.{Refusal}
-use Rattle.armus_top.specs.declared.texts.InputEnd.{InputEnd}
-use Rattle.armus_top.specs.declared.texts.InputEnd.TheVariants.{Refused, NoMemory}
+use Rattle.armus_top.specs.declared.programs.InputEnd.{InputEnd}
+use Rattle.armus_top.specs.declared.programs.InputEnd.TheVariants.{Refused, NoMemory}
 use Rattle.armus_words.specs.declared.command.Command.{Command}
 use Rattle.armus_top.specs.Headline.{Answers, Passage, HasFailed, IsSound, Took}
 

@@ -1,21 +1,22 @@
-// What `avoid` answers.
-ghost use Rattle.std.specs.Prelude.{◌≡◌, ◌≢◌, ◌≤◌, IfOk, false, if◌then◌else◌, length};
+// The command `avoid`.
+ghost use Rattle.std.specs.Prelude.{◌≡◌, ◌≢◌, ◌≤◌, Some, IfOk, false, if◌then◌else◌, length};
 ghost use Rattle.std.specs.List.{list_any};
 ghost use Rattle.armus_base.specs.CheckedPlans.{IsCheckedPlan};
 ghost use Rattle.armus_top.specs.Texts.{Text};
 ghost use Rattle.armus_top.specs.Programs.{IsPlanOf};
-ghost use Rattle.armus_top.specs.Runs.{IsAvoidOf, is_refused};
-ghost use Rattle.armus_top.specs.declared.texts.TheConstants.{MAX_TEXT_BYTES};
-ghost use Rattle.armus_top.specs.Headline.{passage};
+ghost use Rattle.armus_top.specs.Avoids.{IsAvoidOf, is_refused};
+ghost use Rattle.armus_top.specs.declared.programs.TheConstants.{MAX_TEXT_BYTES};
+ghost use Rattle.armus_top.specs.Headline.{Ends, passage};
 ghost use Rattle.armus_top.specs.Status.{code_of};
 ghost use Rattle.armus_top.specs.Writing.{Answered};
 ghost use Rattle.armus_words.specs.declared.command.Command.TheVariants.{Avoid};
 
-use crate::answers::{Reported, status_of, wanted_in};
+use crate::input::input_of;
+use crate::programs::{MAX_TEXT_BYTES, checked_in};
+use crate::reported::{Reported, status_of, wanted_in};
 use crate::status::ExitStatus;
-use crate::texts::checked_in;
 use crate::writing::{answer_end, finish};
-use armus_base::{Final, Gate, NoMemory, Plan, Sink, TaskEnd};
+use armus_base::{Final, Gate, NoMemory, Plan, Sink, Source, TaskEnd};
 use armus_words::Graph;
 use report::report;
 use std::alloc::Global;
@@ -51,7 +52,7 @@ fn avoid_and_report<R: Threads + Sync, G: Gate>(
     Ok(Reported { text, has_deadlock })
 }
 
-// `avoid`. Every number of workers makes the run of one worker.
+// Writes the report of the run. Every number of workers makes the run of one worker.
 fn answer_avoid<R: Threads + Sync, K: Sink, G: Gate>(
     rt: &R,
     alloc: Global,
@@ -81,8 +82,8 @@ fn answer_avoid<R: Threads + Sync, K: Sink, G: Gate>(
     }
 }
 
-/// What `avoid` answers on a text.
-pub fn avoid_text<R: Threads + Sync, K: Sink, G: Gate>(
+// What `avoid` answers on a text.
+fn avoid_text<R: Threads + Sync, K: Sink, G: Gate>(
     rt: &R,
     alloc: Global,
     workers: u8,
@@ -98,5 +99,24 @@ pub fn avoid_text<R: Threads + Sync, K: Sink, G: Gate>(
     match checked_in(alloc, text) {
         Ok(checked) => answer_avoid(rt, alloc, workers, graph, &checked.plan, out, gate),
         Err(end) => answer_end(alloc, end, out),
+    }
+}
+
+/// Reads a text and writes the report of its run without deadlock.
+pub fn avoid<R: Threads + Sync, S: Source, K: Sink, G: Gate>(
+    rt: &R,
+    alloc: Global,
+    workers: u8,
+    graph: Graph,
+    src: &mut S,
+    out: &mut K,
+    gate: &G,
+) -> ExitStatus
+    ensures ends { Ends (Some (Avoid workers graph)) (passage S.left S.faults src.old src.new) (passage K.taken K.faults out.old out.new) (code_of result) }
+    ensures silent { code_of result ≡ 4 → out.new ≡ out.old }
+{
+    match input_of(alloc, MAX_TEXT_BYTES, src, out) {
+        Ok(input) => avoid_text(rt, alloc, workers, graph, input.as_slice(), out, gate),
+        Err(status) => status,
     }
 }

@@ -1,4 +1,4 @@
-// What `gen` answers.
+// The command `gen`.
 ghost use Rattle.std.specs.Prelude.{◌≡◌, ◌≢◌, ◌<◌, ◌∷◌, ◌++◌, [], IfOk, OnOk, List as Seq, ℕ, if◌then◌else◌, length};
 ghost use Rattle.adaptive.specs.declared.analysis.Wanted.{Wanted};
 ghost use Rattle.gen_text.specs.Generated.{generated_text};
@@ -11,9 +11,10 @@ ghost use Rattle.armus_top.specs.Status.{code_of};
 ghost use Rattle.armus_top.specs.Writing.{Answered};
 ghost use Rattle.armus_words.specs.declared.command.Command.TheVariants.{Gen};
 
-use crate::answers::{Reported, run_and_report, status_of};
+use crate::programs::{InputEnd, checked_in};
+use crate::reported::{Reported, status_of};
+use crate::running::run_and_report;
 use crate::status::ExitStatus;
-use crate::texts::{InputEnd, checked_in};
 use crate::writing::finish;
 use adaptive::Wanted;
 use armus_base::{Gate, List, NoMemory, Sink};
@@ -73,7 +74,8 @@ fn run_generated<G: Gate>(alloc: Global, count: u16, gate: &G) -> Result<Reporte
     Ok(reported)
 }
 
-/// What `gen` answers. The generated text is read, checked and run as one that a user gives; that it is never refused is the law `gen_is_accepted` of the crate gen_text, so the one end without an answer is want of memory.
+/// Writes the first and the last line of the report of the run of a generated text. That text is read, checked and run as one that a user gives.
+// That text is never refused, by the law `gen_is_accepted`, so the one end without an answer is want of memory.
 pub fn generate<K: Sink, G: Gate>(alloc: Global, count: u16, out: &mut K, gate: &G) -> ExitStatus
     ensures done { Answered (Gen count) [] (passage K.taken K.faults out.old out.new) (code_of result) }
     ensures silent { code_of result ≢ 4 }

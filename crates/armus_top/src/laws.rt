@@ -1,5 +1,6 @@
 // Laws of inputs and answers, as contracts of functions with an empty body.
 ghost use Rattle.armus_top.specs.Inputs.{EachInputIsMet};
+ghost use Rattle.armus_top.specs.Meanings.{OneMeaning};
 ghost use Rattle.armus_top.specs.Replayable.{RecordsReplay};
 
 /// Each input that is not too long has a whole output of the command, with its status: it is answered, or refused.
@@ -10,4 +11,9 @@ pub fn each_input_is_met()
 /// What `record` writes of a text that is not too long is an input of `replay`: it is not too long and not refused, and its answer has the status of the record and names at its end the tasks that are dead in the recorded state.
 pub fn records_replay()
     ensures { RecordsReplay }
+{}
+
+/// Words mean one command at most.
+pub fn words_mean_one_command()
+    ensures { OneMeaning }
 {}

@@ -1,23 +1,30 @@
-// What `replay` answers.
-ghost use Rattle.std.specs.Prelude.{◌≡◌, ◌≢◌, ◌≤◌, ◌<◌, ◌+◌, ◌↔◌, IfErr, IfOk, IsTrue, length};
-ghost use Rattle.pl_syntax.specs.declared.limits.TheConstants.{MAX_PARSED_BYTES};
+// The command `replay`.
+ghost use Rattle.std.specs.Prelude.{◌≡◌, ◌≢◌, ◌≤◌, ◌<◌, ◌+◌, ◌↔◌, Some, IfErr, IfOk, IsTrue, length};
 ghost use Rattle.schedule.specs.Split.{IsSplit};
 ghost use Rattle.armus_top.specs.Texts.{Text};
 ghost use Rattle.armus_top.specs.Programs.{IsEnd};
 ghost use Rattle.armus_top.specs.Replays.{IsReplayFault, IsReplayedBy, IsShort};
-ghost use Rattle.armus_top.specs.Headline.{passage};
+ghost use Rattle.armus_top.specs.declared.replaying.TheConstants.{MAX_REPLAY_BYTES};
+ghost use Rattle.armus_top.specs.Headline.{Ends, passage};
 ghost use Rattle.armus_top.specs.Status.{code_of};
 ghost use Rattle.armus_top.specs.Writing.{Answered};
 ghost use Rattle.armus_words.specs.declared.command.Command.TheVariants.{Replay};
 
-use crate::answers::status_of;
+use crate::input::input_of;
+use crate::programs::{InputEnd, MAX_TEXT_BYTES, checked_in};
+use crate::reported::status_of;
 use crate::status::ExitStatus;
-use crate::texts::{InputEnd, MAX_TEXT_BYTES, checked_in};
 use crate::writing::{answer_end, finish};
-use armus_base::Sink;
+use armus_base::{Sink, Source};
+use pl_syntax::MAX_PARSED_BYTES;
 use report::Refusal;
-use schedule::{ReplayEnd, Replayed, ScheduleFault, read_lines, replay, replay_text, split_input};
+use schedule::{ReplayEnd, Replayed, ScheduleFault, read_lines, replay_text, split_input};
 use std::alloc::Global;
+
+/// The most bytes of the input of `replay`: a text and a schedule.
+pub const MAX_REPLAY_BYTES: usize = 8_388_608;
+
+const _: () = prove!(MAX_REPLAY_BYTES <= MAX_PARSED_BYTES);
 
 // Whether the text is no longer than a text may be, where one last LF is not counted.
 fn is_short(text: &[u8]) -> bool
@@ -45,7 +52,7 @@ fn line_refused(fault: ScheduleFault) -> Refusal
 
 // What the schedule leads to over the text's plan, or why there is no answer.
 fn replayed_in(alloc: Global, text: &[u8], schedule: &[u8]) -> Result<Replayed, InputEnd>
-    requires short { length text.now + length schedule.now ≤ MAX_PARSED_BYTES }
+    requires short { length text.now + length schedule.now ≤ MAX_REPLAY_BYTES }
     ensures done { IfOk result (IsReplayedBy text.now schedule.now) }
     ensures refused { IfErr result (IsEnd (IsReplayFault text.now schedule.now)) }
 {
@@ -60,7 +67,7 @@ fn replayed_in(alloc: Global, text: &[u8], schedule: &[u8]) -> Result<Replayed, 
         Ok(lines) => lines,
         Err(_) => return Err(InputEnd::NoMemory),
     };
-    match replay(alloc, &checked.plan, lines.as_slice()) {
+    match schedule::replay(alloc, &checked.plan, lines.as_slice()) {
         Ok(done) => Ok(done),
         Err(ReplayEnd::Schedule(fault)) => Err(InputEnd::Refused(line_refused(fault))),
         Err(ReplayEnd::NoMemory) => Err(InputEnd::NoMemory),
@@ -86,9 +93,9 @@ fn answer_replayed<K: Sink>(alloc: Global, done: &Replayed, out: &mut K) -> Exit
     }
 }
 
-/// What `replay` answers on an input.
-pub fn replay_input<K: Sink>(alloc: Global, input: &[u8], out: &mut K) -> ExitStatus
-    requires short { length input.now ≤ MAX_PARSED_BYTES }
+// What `replay` answers on an input.
+fn replay_input<K: Sink>(alloc: Global, input: &[u8], out: &mut K) -> ExitStatus
+    requires short { length input.now ≤ MAX_REPLAY_BYTES }
     ensures done { Answered Replay input.now (passage K.taken K.faults out.old out.new) (code_of result) }
     ensures silent { code_of result ≡ 4 → out.new ≡ out.old }
 {
@@ -96,5 +103,16 @@ pub fn replay_input<K: Sink>(alloc: Global, input: &[u8], out: &mut K) -> ExitSt
     match replayed_in(alloc, text, schedule) {
         Ok(done) => answer_replayed(alloc, &done, out),
         Err(end) => answer_end(alloc, end, out),
+    }
+}
+
+/// Reads a text with a schedule and writes what its passes and its end say.
+pub fn replay<S: Source, K: Sink>(alloc: Global, src: &mut S, out: &mut K) -> ExitStatus
+    ensures ends { Ends (Some Replay) (passage S.left S.faults src.old src.new) (passage K.taken K.faults out.old out.new) (code_of result) }
+    ensures silent { code_of result ≡ 4 → out.new ≡ out.old }
+{
+    match input_of(alloc, MAX_REPLAY_BYTES, src, out) {
+        Ok(input) => replay_input(alloc, input.as_slice(), out),
+        Err(status) => status,
     }
 }

@@ -2,13 +2,12 @@
 ghost use Rattle.std.specs.Prelude.{◌≡◌, ◌↔◌, IsTrue, Option, false, map, string_bytes};
 ghost use Rattle.std.specs.Str.{bytes_eq};
 ghost use Rattle.armus_words.specs.declared.table.TheConstants.{RECORD};
-ghost use Rattle.armus_top.specs.Meanings.{BeginsRecord, Means, OneMeaning};
+ghost use Rattle.armus_top.specs.Meanings.{BeginsRecord};
 ghost use Rattle.armus_top.specs.Replayable.{WritesReplayable};
 ghost use Rattle.armus_top.specs.Status.{code_of};
-ghost use Rattle.armus_top.specs.Headline.{Completes, IsCalm, Serves, reads_input, passage};
-ghost use Rattle.armus_words.specs.declared.command.Command.{Command};
+ghost use Rattle.armus_top.specs.Headline.{IsCall, IsServed, passage};
 
-use crate::serving::{serve, serve_waiting};
+use crate::serving::{serve, serve_journal};
 use crate::status::ExitStatus;
 use armus_base::{Gate, Sink, Source};
 use armus_words::{RECORD, command_in};
@@ -26,10 +25,7 @@ fn status_for<R: Threads + Sync, S: Source, K: Sink, G: Gate>(
     gate: &G,
 ) -> ExitStatus
     requires plain { BeginsRecord (map string_bytes words.now) → ⊥ }
-    ensures serves { Serves (map string_bytes words.now)
-        (passage S.left S.faults src.old src.new) (passage K.taken K.faults out.old out.new) (code_of result) }
-    ensures unread { (c : Option Command) → Means (map string_bytes words.now) c → reads_input c ≡ false → src.new ≡ src.old }
-    ensures silent { code_of result ≡ 4 → out.new ≡ out.old }
+    ensures call { IsCall (map string_bytes words.now) (passage S.left S.faults src.old src.new) (passage K.taken K.faults out.old out.new) (src.new ≡ src.old) (out.new ≡ out.old) (code_of result) }
 {
     match command_in(alloc, words) {
         Ok(meaning) => serve(rt, alloc, meaning, src, out, gate),
@@ -51,19 +47,13 @@ pub fn armus_plain<R: Threads + Sync, S: Source, K: Sink, G: Gate>(
     gate: &G,
 ) -> u8
     requires plain { BeginsRecord (map string_bytes words.now) → ⊥ }
-    ensures serves { Serves (map string_bytes words.now)
-        (passage S.left S.faults src.old src.new) (passage K.taken K.faults out.old out.new) result }
-    ensures complete { (c : Option Command) → Means (map string_bytes words.now) c
-        → IsCalm (passage S.left S.faults src.old src.new) (passage K.taken K.faults out.old out.new) result
-        → Completes c (passage S.left S.faults src.old src.new) result }
-    ensures unread { (c : Option Command) → Means (map string_bytes words.now) c → reads_input c ≡ false → src.new ≡ src.old }
-    ensures silent { result ≡ 4 → out.new ≡ out.old }
+    ensures served { IsServed (map string_bytes words.now) (passage S.left S.faults src.old src.new) (passage K.taken K.faults out.old out.new) (src.new ≡ src.old) (out.new ≡ out.old) result }
 {
     status_for(rt, alloc, words, src, out, gate).code()
 }
 
-// The status of a call, by its words.
-fn status_waiting<R: Threads + Wait + Sync, S: Source, K: Sink, G: Gate>(
+// The status of a call whose first word is `record`, by its words.
+fn status_journal<R: Threads + Wait + Sync, S: Source, K: Sink, G: Gate>(
     rt: &R,
     alloc: Global,
     words: &[String],
@@ -71,18 +61,16 @@ fn status_waiting<R: Threads + Wait + Sync, S: Source, K: Sink, G: Gate>(
     out: &mut K,
     gate: &G,
 ) -> ExitStatus
-    ensures serves { Serves (map string_bytes words.now)
-        (passage S.left S.faults src.old src.new) (passage K.taken K.faults out.old out.new) (code_of result) }
-    ensures unread { (c : Option Command) → Means (map string_bytes words.now) c → reads_input c ≡ false → src.new ≡ src.old }
-    ensures silent { code_of result ≡ 4 → out.new ≡ out.old }
+    requires journal { BeginsRecord (map string_bytes words.now) }
+    ensures call { IsCall (map string_bytes words.now) (passage S.left S.faults src.old src.new) (passage K.taken K.faults out.old out.new) (src.new ≡ src.old) (out.new ≡ out.old) (code_of result) }
 {
     match command_in(alloc, words) {
-        Ok(meaning) => serve_waiting(rt, alloc, meaning, src, out, gate),
+        Ok(meaning) => serve_journal(rt, alloc, meaning, src, out, gate),
         Err(_) => ExitStatus::OutOfMemory,
     }
 }
 
-/// The program where the first word is `record`, which waits for threads: as `armus_plain` says, if it returns.
+/// The program where the first word is `record`, which waits for threads: as `armus_plain` says, if it returns. What it writes is an input of `replay`.
 pub fn armus_journal<R: Threads + Wait + Sync, S: Source, K: Sink, G: Gate>(
     rt: &R,
     alloc: Global,
@@ -92,17 +80,10 @@ pub fn armus_journal<R: Threads + Wait + Sync, S: Source, K: Sink, G: Gate>(
     gate: &G,
 ) -> u8
     requires journal { BeginsRecord (map string_bytes words.now) }
-    ensures serves { Serves (map string_bytes words.now)
-        (passage S.left S.faults src.old src.new) (passage K.taken K.faults out.old out.new) result }
-    ensures complete { (c : Option Command) → Means (map string_bytes words.now) c
-        → IsCalm (passage S.left S.faults src.old src.new) (passage K.taken K.faults out.old out.new) result
-        → Completes c (passage S.left S.faults src.old src.new) result }
-    ensures unread { (c : Option Command) → Means (map string_bytes words.now) c → reads_input c ≡ false → src.new ≡ src.old }
-    ensures silent { result ≡ 4 → out.new ≡ out.old }
-    ensures replays { WritesReplayable (map string_bytes words.now)
-        (passage S.left S.faults src.old src.new) (passage K.taken K.faults out.old out.new) result }
+    ensures served { IsServed (map string_bytes words.now) (passage S.left S.faults src.old src.new) (passage K.taken K.faults out.old out.new) (src.new ≡ src.old) (out.new ≡ out.old) result }
+    ensures replays { WritesReplayable (map string_bytes words.now) (passage S.left S.faults src.old src.new) (passage K.taken K.faults out.old out.new) result }
 {
-    status_waiting(rt, alloc, words, src, out, gate).code()
+    status_journal(rt, alloc, words, src, out, gate).code()
 }
 
 // Whether the word is `record`.
@@ -131,15 +112,8 @@ pub fn armus<R: Threads + Wait + Sync, S: Source, K: Sink, G: Gate>(
     out: &mut K,
     gate: &G,
 ) -> u8
-    ensures serves { Serves (map string_bytes words.now)
-        (passage S.left S.faults src.old src.new) (passage K.taken K.faults out.old out.new) result }
-    ensures complete { (c : Option Command) → Means (map string_bytes words.now) c
-        → IsCalm (passage S.left S.faults src.old src.new) (passage K.taken K.faults out.old out.new) result
-        → Completes c (passage S.left S.faults src.old src.new) result }
-    ensures unread { (c : Option Command) → Means (map string_bytes words.now) c → reads_input c ≡ false → src.new ≡ src.old }
-    ensures silent { result ≡ 4 → out.new ≡ out.old }
-    ensures replays { WritesReplayable (map string_bytes words.now)
-        (passage S.left S.faults src.old src.new) (passage K.taken K.faults out.old out.new) result }
+    ensures served { IsServed (map string_bytes words.now) (passage S.left S.faults src.old src.new) (passage K.taken K.faults out.old out.new) (src.new ≡ src.old) (out.new ≡ out.old) result }
+    ensures replays { WritesReplayable (map string_bytes words.now) (passage S.left S.faults src.old src.new) (passage K.taken K.faults out.old out.new) result }
 {
     if begins_record(words) {
         armus_journal(rt, alloc, words, src, out, gate)
@@ -147,8 +121,3 @@ pub fn armus<R: Threads + Wait + Sync, S: Source, K: Sink, G: Gate>(
         armus_plain(rt, alloc, words, src, out, gate)
     }
 }
-
-/// The law that words mean one command at most.
-pub fn words_mean_one_command()
-    ensures { OneMeaning }
-{}

@@ -16,3 +16,6 @@ pub mod OneReplay
 pub mod LinesExist
 pub mod LinesMet
 pub mod Within
+pub mod RecordIsRead
+pub mod JournalFits
+pub mod JournalReplays

@@ -8,7 +8,7 @@ use Rattle.schedule.specs.declared.lines.Line.{Line}
 use Rattle.schedule.specs.declared.lines.Line.TheVariants as line
 use Rattle.schedule.specs.Passes.{Loads}
 use Rattle.schedule.specs.Replays.{IsFault, IsFirstFault, Leads, Progress, Takes, at_start, load_without_pass, loaded, no_line, one_more, second_pass, strange_task, stuck_task, unreadable}
-use Rattle.schedule.specs.Laws.{LeadsOrFaults, OneFirstFault, OneProgress}
+use Rattle.schedule.specs.Laws.{NeverBoth, OneFirstFault, OneProgress}
 
 -- ---- lists with a last line
 
@@ -124,8 +124,8 @@ no_fault_inside plan checked _ _ before here rest a kind e leads fault (one_more
           no_fault_inside plan checked front c before here more.0 a kind (same_ends front (before ++ here ∷ more.0) next more.1 whole).0 leads fault leads_on
     ]
 
-pub leads_or_faults : LeadsOrFaults
-leads_or_faults plan lines a number kind checked leads f = no_fault_inside plan checked lines a f.before f.here f.rest f.progress kind f.parts f.leads f.fault leads
+pub never_both : NeverBoth
+never_both plan lines a number kind checked leads f = no_fault_inside plan checked lines a f.before f.here f.rest f.progress kind f.parts f.leads f.fault leads
 
 -- ---- one first fault
 

@@ -35,8 +35,8 @@ abbrev pub OneProgress : Type 0
 OneProgress = (plan : Plan) (lines : List Line) (a b : Progress) → Leads plan lines a → Leads plan lines b → a ≡ b
 
 -- no lines both lead to a progress and have a first fault
-abbrev pub LeadsOrFaults : Type 0
-LeadsOrFaults =
+abbrev pub NeverBoth : Type 0
+NeverBoth =
     (plan : Plan) (lines : List Line) (a : Progress) (number kind : ℕ) → IsCheckedPlan plan → Leads plan lines a → IsFirstFault plan lines number kind → ⊥
 
 -- lines have one first fault

@@ -6,4 +6,5 @@ pub mod OpenPasses
 pub mod Following
 pub mod Replaying
 pub mod Texts
+pub mod Records
 pub mod Laws

@@ -1,8 +1,5 @@
-use Rattle.armus_top.proofs.Ending.{completes}
+use Rattle.armus_top.proofs.Ending.{served_by}
 use Rattle.armus_top.proofs.top.armus_plain.Goals as goal
 
-pub returns-clause-complete : goal.returns-clause-complete
-returns-clause-complete g c meaning means calm = completes meaning _ _ c.code.result (rw c.code.ensures (c.status_for.ensures.serves meaning means)) calm
-
-pub returns-clause-serves : goal.returns-clause-serves
-returns-clause-serves g c = rw c.code.ensures c.status_for.ensures.serves
+pub returns : goal.returns
+returns g c = record { served = rw c.code.ensures (served_by c.status_for.ensures.call) }

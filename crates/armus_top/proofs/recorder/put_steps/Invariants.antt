@@ -1,7 +1,0 @@
-use Rattle.std.proofs.Common.{◌≡◌, ◌++◌, take}
-use Rattle.std.specs.List.{flat_map}
-use Rattle.armus_top.specs.Records.{step_line}
-use Rattle.armus_top.proofs.recorder.put_steps.Given as goal
-
-abbrev pub invariant-loop-task : goal.invariant-loop-task
-invariant-loop-task l = l.out.items ≡ l.initial.out.items ++ flat_map step_line (take l.task-index l.journal)

@@ -1,0 +1,39 @@
+// Reports, and the status that they give.
+ghost use Rattle.std.specs.Prelude.{◌≡◌, if◌then◌else◌};
+ghost use Rattle.armus_top.specs.Commands.{wanted_of};
+ghost use Rattle.armus_top.specs.Status.{code_of};
+
+use crate::status::ExitStatus;
+use adaptive::Wanted;
+use armus_base::List;
+use armus_words::Graph;
+
+/// A whole output, and whether a task is dead, or refused.
+#[derive(Drop)]
+pub struct Reported {
+    pub text: List<u8>,
+    pub has_deadlock: bool,
+}
+
+/// The status that tells whether a task is dead, or refused.
+pub fn status_of(has_deadlock: bool) -> ExitStatus
+    ensures { code_of result ≡ (if has_deadlock then 1 else 0) }
+{
+    if has_deadlock {
+        ExitStatus::Deadlock
+    } else {
+        ExitStatus::NoDeadlock
+    }
+}
+
+/// The graph that is wanted of a report.
+pub fn wanted_in(graph: Graph) -> Wanted
+    ensures { result ≡ wanted_of graph }
+{
+    match graph {
+        Graph::Auto => Wanted::Auto,
+        Graph::Wfg => Wanted::Wfg,
+        Graph::Sg => Wanted::Sg,
+        Graph::Grg => Wanted::Grg,
+    }
+}
