@@ -111,8 +111,8 @@ completes c src out number (read_fault four does failed sound kept) calm = absur
 completes c src out number (write_fault five still failed part) calm = absurd (calm.sink (rose_from out.faults_before out.faults_after failed))
 completes c src out number (no_memory six still sound part) calm = absurd (calm.memory six)
 
-pub served_by : {words : List Text} {src out : Passage} {unread unwritten : Type 0} {number : ℕ} → IsCall words src out unread unwritten number
-    → IsServed words src out unread unwritten number
+pub served_by : {words : List Text} {src out : Passage} {same_source same_sink : Type 0} {number : ℕ} → IsCall words src out same_source same_sink number
+    → IsServed words src out same_source same_sink number
 served_by {src = src} {out = out} {number = number} call = record {
   call = call;
   complete = λ c means calm. completes c src out number (call.serves c means) calm;

@@ -1,11 +1,12 @@
 -- What the words mean to the program is one command at most, and it tells whether the first word is `record`.
-use Rattle.std.proofs.Common.{◌≡◌, List, subst, arith, false}
+use Rattle.std.proofs.Common.{◌≡◌, ◌∙◌, List, ap, sym, subst, arith, false}
 use Rattle.std.specs.Prelude.{ℕ, ◌∷◌, Option, Some, None}
-use Rattle.armus_words.specs.Commands.{AreWorkers}
-use Rattle.armus_words.proofs.Meaning.{one_meaning}
+use Rattle.armus_words.specs.Commands.{AreWorkers, IsCommand, first_of}
+use Rattle.armus_words.specs.Form.{first_named}
+use Rattle.armus_words.proofs.Meaning.{first_is, one_meaning}
 use Rattle.armus_words.specs.declared.command.Command.{Command}
 use Rattle.armus_words.specs.declared.command.Command.TheVariants.{Check, Run, Avoid, Record, Replay, Gen}
-use Rattle.armus_words.specs.declared.table.TheConstants.{AVOID, CHECK, GEN, RECORD, REPLAY, RUN}
+use Rattle.armus_words.specs.declared.table.FirstWord.TheVariants as first
 use Rattle.armus_top.specs.Texts.{Text}
 use Rattle.armus_top.specs.Meanings.{BeginsRecord, MayWork, Means, MeansJournal, MeansPlain}
 use Rattle.armus_top.specs.Headline.{Ends, IsCall, Passage, Serves, reads_input}
@@ -16,9 +17,9 @@ serves_by words src out number meaning is ends = λ c means.
     subst (λ (m : Option Command). Ends m src out number) (one_meaning words meaning c is means) ends
 
 -- a call that ended as the command may that the words mean
-pub call_by : (words : List Text) (src out : Passage) (unread unwritten : Type 0) (number : ℕ) (meaning : Option Command) → Means words meaning
-    → Ends meaning src out number → (reads_input meaning ≡ false → unread) → (number ≡ 4 → unwritten) → IsCall words src out unread unwritten number
-call_by words src out unread unwritten number meaning is ends same silent = record {
+pub call_by : (words : List Text) (src out : Passage) (same_source same_sink : Type 0) (number : ℕ) (meaning : Option Command) → Means words meaning
+    → Ends meaning src out number → (reads_input meaning ≡ false → same_source) → (number ≡ 4 → same_sink) → IsCall words src out same_source same_sink number
+call_by words src out same_source same_sink number meaning is ends same silent = record {
   serves = serves_by words src out number meaning is ends;
   unread = λ c means no. same (subst (λ (m : Option Command). reads_input m ≡ false) (one_meaning words c meaning means is) no);
   silent = silent;
@@ -38,15 +39,20 @@ means_plain words (Some Replay) is other = tt
 means_plain words (Some (Gen count)) is other = tt
 means_plain words None is other = tt
 
-unlike : {x : Text} {xs : List Text} {words : List Text} (y : Text) (ys : List Text) → words ≡ x ∷ xs → words ≡ y ∷ ys → x ≡ y
-unlike y ys a b = cc
+head_is : {x y : Text} {xs ys : List Text} → x ∷ xs ≡ y ∷ ys → x ≡ y
+head_is e = cc
+
+-- a command whose words begin with `record` is this one
+first_is_record : (c : Command) (words : List Text) → IsCommand words c → BeginsRecord words → Some (first_of c) ≡ Some first.Record
+first_is_record c words is begins =
+    sym (first_is (first_of c)) ∙ ap first_named (head_is (sym is.form.words_are ∙ begins.1)) ∙ first_is first.Record
 
 -- words that begin with `record` mean it, or no command
 pub means_journal : (words : List Text) (meaning : Option Command) → Means words meaning → BeginsRecord words → MeansJournal meaning
-means_journal words (Some (Check print)) is begins = absurd (let e : CHECK.now ≡ RECORD.now = unlike RECORD.now begins.0 is.form.words_are begins.1 in cc)
-means_journal words (Some (Run workers graph)) is begins = absurd (let e : RUN.now ≡ RECORD.now = unlike RECORD.now begins.0 is.form.words_are begins.1 in cc)
-means_journal words (Some (Avoid workers graph)) is begins = absurd (let e : AVOID.now ≡ RECORD.now = unlike RECORD.now begins.0 is.form.words_are begins.1 in cc)
+means_journal words (Some (Check print)) is begins = absurd (let e = first_is_record (Check print) words is begins in cc)
+means_journal words (Some (Run workers graph)) is begins = absurd (let e = first_is_record (Run workers graph) words is begins in cc)
+means_journal words (Some (Avoid workers graph)) is begins = absurd (let e = first_is_record (Avoid workers graph) words is begins in cc)
 means_journal words (Some (Record workers)) is begins = workers_may _ workers is.values
-means_journal words (Some Replay) is begins = absurd (let e : REPLAY.now ≡ RECORD.now = unlike RECORD.now begins.0 is.form.words_are begins.1 in cc)
-means_journal words (Some (Gen count)) is begins = absurd (let e : GEN.now ≡ RECORD.now = unlike RECORD.now begins.0 is.form.words_are begins.1 in cc)
+means_journal words (Some Replay) is begins = absurd (let e = first_is_record Replay words is begins in cc)
+means_journal words (Some (Gen count)) is begins = absurd (let e = first_is_record (Gen count) words is begins in cc)
 means_journal words None is begins = tt

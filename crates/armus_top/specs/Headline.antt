@@ -78,10 +78,10 @@ abbrev pub Serves : List Text → Passage → Passage → ℕ → Type 0
 Serves words src out number = (meaning : Option Command) → Means words meaning → Ends meaning src out number
 
 -- the headline, and what the two objects are left as: a source that is not read stays the value that it was, and so does the sink after a fault of the source
-pub record IsCall (words : List Text) (src out : Passage) (unread unwritten : Type 0) (number : ℕ) : Type 0 where
+pub record IsCall (words : List Text) (src out : Passage) (same_source same_sink : Type 0) (number : ℕ) : Type 0 where
   pub serves : Serves words src out number
-  pub unread : (c : Option Command) → Means words c → reads_input c ≡ false → unread
-  pub silent : number ≡ 4 → unwritten
+  pub unread : (c : Option Command) → Means words c → reads_input c ≡ false → same_source
+  pub silent : number ≡ 4 → same_sink
 
 -- the source tells its bytes and has this input for the command
 abbrev pub Offers : Option ℕ → Passage → Text → Type 0
@@ -111,6 +111,6 @@ pub record Completes (c : Option Command) (src : Passage) (number : ℕ) : Type 
   pub long : (command : Command) → c ≡ Some command → OffersTooMuch (limit_of command) src → number ≡ 3
 
 -- all that is said of a call: what it leaves, and completeness
-pub record IsServed (words : List Text) (src out : Passage) (unread unwritten : Type 0) (number : ℕ) : Type 0 where
-  pub call : IsCall words src out unread unwritten number
+pub record IsServed (words : List Text) (src out : Passage) (same_source same_sink : Type 0) (number : ℕ) : Type 0 where
+  pub call : IsCall words src out same_source same_sink number
   pub complete : (c : Option Command) → Means words c → IsCalm src out number → Completes c src number

@@ -81,12 +81,7 @@ fn check_text<K: Sink>(alloc: Global, print: bool, text: &[u8], out: &mut K) -> 
 }
 
 /// Reads a text and writes the counts of its plan, or its printed form.
-pub fn check<S: Source, K: Sink>(
-    alloc: Global,
-    print: bool,
-    src: &mut S,
-    out: &mut K,
-) -> ExitStatus
+pub fn check<S: Source, K: Sink>(alloc: Global, print: bool, src: &mut S, out: &mut K) -> ExitStatus
     ensures ends { Ends (Some (Check print)) (passage S.left S.faults src.old src.new) (passage K.taken K.faults out.old out.new) (code_of result) }
     ensures silent { code_of result ≡ 4 → out.new ≡ out.old }
 {

@@ -5,8 +5,8 @@ ghost use Rattle.armus_top.specs.Headline.{IsSound, passage};
 ghost use Rattle.armus_top.specs.Status.{code_of};
 ghost use Rattle.armus_top.specs.Writing.{Finished, Refuses, TellsEnd};
 
+use crate::programs::InputEnd;
 use crate::status::ExitStatus;
-use crate::texts::InputEnd;
 use armus_base::{Sink, write_text};
 use report::{Refusal, refusal_line};
 use std::alloc::Global;

@@ -7,3 +7,4 @@ pub mod Walks
 pub mod Matches
 pub mod Generated
 pub mod AllWords
+pub mod EachMeaning

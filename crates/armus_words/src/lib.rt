@@ -3,13 +3,15 @@
 
 mod command;
 mod forms;
+mod laws;
 mod numbers;
 mod reading;
 mod table;
 mod values;
 
 pub use command::{Command, Graph};
-pub use reading::{command_in, words_mean_one_command};
+pub use laws::{words_have_a_meaning, words_mean_one_command};
+pub use reading::command_in;
 pub use table::{DEFAULT_WORKERS, MAX_GENERATED, MAX_WORKERS, RECORD};
 
 #[cfg(test)]

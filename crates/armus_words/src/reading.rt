@@ -1,6 +1,6 @@
 // The command that the words mean.
 ghost use Rattle.std.specs.Prelude.{◌≡◌, ℕ, IfOk, IfSome, IfNone, map, option_map, string_bytes};
-ghost use Rattle.armus_words.specs.Commands.{AreWorkers, IsGenerated, IsGraph, Means, OneMeaning, Reads, first_of};
+ghost use Rattle.armus_words.specs.Commands.{AreWorkers, IsGenerated, IsGraph, Means, Reads, first_of};
 ghost use Rattle.armus_words.specs.Rules.{given_of};
 ghost use Rattle.armus_words.specs.declared.command.Command.{Command};
 ghost use Rattle.armus_words.specs.declared.command.Graph.{Graph};
@@ -96,8 +96,3 @@ pub fn command_in(alloc: Global, words: &[String]) -> Result<Option<Command>, Al
         }
     }
 }
-
-/// The law that words mean one command at most.
-pub fn words_mean_one_command()
-    ensures { OneMeaning }
-{}

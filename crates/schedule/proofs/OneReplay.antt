@@ -1,5 +1,5 @@
 -- Lines lead to one progress or have one first fault, and never both.
-use Rattle.std.proofs.Common.{◌≡◌, ◌≤◌, ◌+◌, ◌∙◌, ◌⊎◌, ℕ, List, [], ◌∷◌, ◌++◌, length, arith, sym, subst, ap, inl, inr, refl, append_assoc, false, true}
+use Rattle.std.proofs.Common.{◌≡◌, ◌+◌, ◌∙◌, ◌⊎◌, ℕ, List, [], ◌∷◌, ◌++◌, length, arith, sym, subst, ap, inl, inr, refl, append_assoc}
 use Rattle.std.specs.Prelude.{Option, Some, None, IsSome}
 use Rattle.armus_base.specs.CheckedPlans.{IsCheckedPlan}
 use Rattle.armus_base.specs.Plans.{Plan, Action}
@@ -7,7 +7,7 @@ use Rattle.armus_base.proofs.Tasks.{action_of_task}
 use Rattle.schedule.specs.declared.lines.Line.{Line}
 use Rattle.schedule.specs.declared.lines.Line.TheVariants as line
 use Rattle.schedule.specs.Passes.{Loads}
-use Rattle.schedule.specs.Replays.{IsFault, IsFirstFault, Leads, Progress, Takes, at_start, load_without_pass, loaded, no_line, one_more, second_pass, strange_task, stuck_task, unreadable}
+use Rattle.schedule.specs.Replays.{IsFault, Leads, Progress, Takes, at_start, load_without_pass, loaded, no_line, one_more, second_pass, strange_task, stuck_task, unreadable}
 use Rattle.schedule.specs.Laws.{NeverBoth, OneFirstFault, OneProgress}
 
 -- ---- lists with a last line

@@ -1,10 +1,10 @@
 -- Bytes are cut into lines in one way, a line says one thing, and an input has one text and one schedule.
-use Rattle.std.proofs.Common.{◌≡◌, ◌≢◌, ◌<◌, ◌^◌, ◌∙◌, ℕ, suc, List, [], ◌∷◌, ◌++◌, length, arith, sym, subst, ap, refl, codes}
+use Rattle.std.proofs.Common.{◌≡◌, ◌≢◌, ◌∙◌, ℕ, suc, List, [], ◌∷◌, ◌++◌, arith, sym, subst, ap, refl, codes}
 use Rattle.std.proofs.lemmas.Fmt.{decimal_injective}
 use Rattle.std.proofs.lemmas.List.{append_cancel_left, append_cancel_right}
 use Rattle.schedule.specs.declared.lines.Line.{Line}
 use Rattle.schedule.specs.declared.lines.Line.TheVariants.{Step, Pass, Load, Unreadable}
-use Rattle.schedule.specs.Lines.{AllSay, HasNoEnd, IsCut, IsFirstLine, IsSchedule, Says, a_line, ended, more, no_line, none, unended}
+use Rattle.schedule.specs.Lines.{AllSay, HasNoEnd, IsCut, IsFirstLine, Says, a_line, ended, more, no_line, none, unended}
 use Rattle.schedule.specs.Split.{IsSplit, at_mark, mark, more_text, no_text}
 use Rattle.schedule.specs.Laws.{OneReading, OneSplit}
 

@@ -1,5 +1,5 @@
 -- A schedule has no more lines than bytes, and a split no more bytes than its input.
-use Rattle.std.proofs.Common.{◌≡◌, ◌+◌, ◌<◌, ◌≤◌, ◌∙◌, ℕ, List, [], ◌∷◌, ◌++◌, length, arith, ap, refl, length-append}
+use Rattle.std.proofs.Common.{◌≡◌, ◌+◌, ◌<◌, ◌≤◌, ℕ, List, [], ◌∷◌, length, arith, ap, refl, length-append}
 use Rattle.schedule.specs.declared.lines.Line.{Line}
 use Rattle.schedule.specs.Lines.{AllSay, IsCut, IsFirstLine, IsSchedule, a_line, ended, more, no_line, none, unended}
 use Rattle.schedule.specs.Split.{IsSplit, at_mark, mark, more_text, no_text}

@@ -10,7 +10,10 @@ mod split;
 mod text;
 mod verdict;
 
-pub use laws::{each_replay, each_schedule, journals_replay, one_replay, one_schedule, passes_name_the_dead, records_are_read};
+pub use laws::{
+    each_replay, each_schedule, journals_replay, one_replay, one_schedule, passes_name_the_dead,
+    records_are_read,
+};
 pub use lines::{Line, first_line, read_lines};
 pub use records::recorded_text;
 pub use replaying::replay;
