@@ -7,3 +7,4 @@ pub mod Supposing
 pub mod NobodyDies
 pub mod SamePlan
 pub mod RefusedInCycle
+pub mod OneOutcome

@@ -1,5 +1,5 @@
 -- Decisions on an await: what they make of a world, and the cycle of a refusal.
-use Rattle.std.specs.Prelude.{◌≢◌, ℕ, ◌⊎◌, List, Contains}
+use Rattle.std.specs.Prelude.{◌≡◌, ◌≢◌, ℕ, ◌⊎◌, List, Option, Contains, MatchOption}
 use Rattle.armus_base.specs.declared.event.Event.{Event}
 use Rattle.armus_base.specs.declared.ids.TaskId.{TaskId}
 use Rattle.armus_base.specs.declared.status.Status.{Status}
@@ -8,6 +8,7 @@ use Rattle.armus_base.specs.Deadlocks.{IsDeadBy, WouldBeDead}
 use Rattle.armus_base.specs.Finals.{statuses_of}
 use Rattle.armus_base.specs.Plans.{Blocks}
 use Rattle.armus_base.specs.States.{if_published}
+use Rattle.armus_base.specs.Statuses.{IsInOrder}
 use Rattle.pl_core.specs.Moves.{MakesRefusal, MakesStep}
 use Rattle.pl_core.specs.Stands.{IsAtAwaitOf}
 use Rattle.pl_core.specs.Worlds.{WorldValue, state_of}
@@ -24,6 +25,14 @@ pub record ExplainsDeath (list : List Status) (t : ℕ) (c : Cycle) : Type 0 whe
   pub among : IsDeadBy list t
   pub cycle : IsCycleOf list dead c
   pub links : IsCycle list c.tasks c.events
+
+-- what the statuses tell of task t: the cycle that explains its death, where it is dead by them
+abbrev pub IsOutcome : List Status → ℕ → Option Cycle → Type 0
+IsOutcome list t found = MatchOption found (IsDeadBy list t → ⊥) (ExplainsDeath list t)
+
+-- of a task the statuses tell one thing, whichever graph of them is asked
+abbrev pub OneOutcome : Type 0
+OneOutcome = (list : List Status) (t : ℕ) (a b : Option Cycle) → IsInOrder list → IsOutcome list t a → IsOutcome list t b → a ≡ b
 
 -- the statuses as they would be if task t had published the event of the await at which it stands
 abbrev pub supposed_statuses : WorldValue → ℕ → Event → List Status

@@ -1,11 +1,11 @@
 -- Decisions on a board: what they rest on, and what they make of a seat.
-use Rattle.std.specs.Prelude.{◌≡◌, ◌≢◌, ℕ, List, Option, Some, length, is_some, Contains, MatchOption}
+use Rattle.std.specs.Prelude.{◌≡◌, ◌≢◌, ℕ, List, Option, Some, length, is_some, Contains}
 use Rattle.std.proofs.Common.{zero, suc}
 use Rattle.armus_base.specs.declared.event.Event.{Event}
 use Rattle.armus_base.specs.declared.ids.TaskId.{TaskId}
 use Rattle.armus_base.specs.declared.status.Status.{Status}
 use Rattle.armus_base.specs.Avoidance.{LeavesNobodyDead}
-use Rattle.armus_base.specs.Deadlocks.{IsDeadBy, IsListedOn, WouldBeDead}
+use Rattle.armus_base.specs.Deadlocks.{IsListedOn, WouldBeDead}
 use Rattle.armus_base.specs.Plans.{Blocks, Drops, Refuses}
 use Rattle.armus_base.specs.Seats.{InEachWithLock}
 use Rattle.armus_base.specs.States.{Phases, State}
@@ -18,7 +18,7 @@ use Rattle.phase_scan.specs.Collects.{IfAsked, IsCollect}
 use Rattle.phase_scan.specs.Looks.{GoesOn}
 use Rattle.phase_scan.specs.Supposed.{IsSupposed}
 use Rattle.verdict.specs.declared.found.Cycle.{Cycle}
-use Rattle.avoider.specs.Decisions.{ExplainsDeath}
+use Rattle.avoider.specs.Decisions.{ExplainsDeath, IsOutcome}
 use Rattle.avoider.specs.declared.decision.Decision.{Decision}
 use Rattle.avoider.specs.declared.decision.Decision.TheVariants.{Published, Refused}
 
@@ -39,7 +39,7 @@ pub record IsJudged (list : List Status) (p : ℕ) (before now : Known) (found :
   pub of_phaser : event.p.0 ≡ p
   pub supposed : List Status
   pub judges : Judges list event supposed before now
-  pub told : MatchOption found (IsDeadBy supposed (task_of before.view) → ⊥) (ExplainsDeath supposed (task_of before.view))
+  pub told : IsOutcome supposed (task_of before.view) found
 
 -- this holds in each state that has the lock with the seat and is as far on as what it has seen
 abbrev pub InEachByLock : Known → (State → Type 0) → Type 0

@@ -4,6 +4,7 @@
 mod deciding;
 mod decision;
 mod event;
+pub mod laws;
 mod lock;
 mod step;
 #[cfg(test)]

@@ -1,13 +1,13 @@
 // The step of a task that stands at an await, in a world where nobody is dead.
-ghost use Rattle.std.specs.Prelude.{◌≡◌, ◌<◌, length, IfOk, OnErr, MatchOption};
+ghost use Rattle.std.specs.Prelude.{◌≡◌, ◌<◌, length, IfOk, OnErr};
 ghost use Rattle.armus_base.specs.CheckedPlans.{IsCheckedPlan};
-ghost use Rattle.armus_base.specs.Deadlocks.{IsDeadBy, NobodyDead};
+ghost use Rattle.armus_base.specs.Deadlocks.{NobodyDead};
 ghost use Rattle.armus_base.specs.Runs.{IsReachable};
 ghost use Rattle.armus_base.specs.Statuses.{IsInOrder};
 ghost use Rattle.armus_base.specs.declared.event.Event.{Event};
 ghost use Rattle.pl_core.specs.Stands.{IsAtAwaitOf};
 ghost use Rattle.pl_core.specs.Worlds.{places_of, state_of};
-ghost use Rattle.avoider.specs.Decisions.{ExplainsDeath, IsDecision};
+ghost use Rattle.avoider.specs.Decisions.{IsDecision, IsOutcome};
 
 use crate::Decision;
 use adaptive::{Wanted, analyse};
@@ -70,7 +70,7 @@ pub(crate) fn death_of(
     wanted: Wanted,
 ) -> Result<Option<Cycle>, NoMemory>
     requires { IsInOrder list.now }
-    ensures { IfOk result (λ found. MatchOption found (IsDeadBy list.now t.0 → ⊥) (ExplainsDeath list.now t.0)) }
+    ensures { IfOk result (IsOutcome list.now t.0) }
 {
     let analysis = analyse(alloc, list, wanted)?;
     let dead = analysis.dead.as_slice();

@@ -5,7 +5,6 @@ pub mod CycleExists
 pub mod ReportExists
 pub mod DeadExtend
 pub mod TaskLines
-pub mod OneCycle
 pub mod OneReport
 pub mod CountsAddUp
 pub mod DeadTasks

@@ -18,7 +18,7 @@ use Rattle.adaptive.specs.declared.analysis.Used.TheVariants.{Wfg, Sg, Grg}
 use Rattle.adaptive.specs.declared.analysis.Wanted.{Wanted}
 use Rattle.adaptive.specs.declared.analysis.Wanted.TheVariants.{Auto, Wfg as WantWfg, Sg as WantSg, Grg as WantGrg}
 use Rattle.report.specs.declared.standing.Standing.{Standing}
-use Rattle.report.proofs.OneCycle.{one_cycle}
+use Rattle.verdict.proofs.OneCycle.{one_cycle}
 
 -- a task stands in one way
 one_standing : (P : Type 0) (e : TaskEnd) (s u : Standing) → Stands P e s → Stands P e u → s ≡ u

@@ -1,3 +1,4 @@
 pub mod DeadPlaces
 pub mod Verdicts
 pub mod Passes
+pub mod OneCycle
