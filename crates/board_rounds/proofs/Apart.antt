@@ -13,7 +13,7 @@ use Rattle.armus_base.proofs.Codes.{child_later, parent_is}
 use Rattle.board.specs.Views.{own_place, task_of}
 use Rattle.board.specs.Seats.{Frame, Known}
 use Rattle.board_rounds.specs.Turns.{Acts, AreChildSeats, EachActs, LeadsTo, Working, forks_of, no_child, no_task, one_child, one_task}
-use Rattle.board_rounds.specs.Crews.{emptied, fresh, fresh_of}
+use Rattle.board_rounds.specs.Crews.{IsForkedWithin, done_of, emptied, fresh, fresh_of, number, sum_below}
 use Rattle.board_rounds.proofs.Goings.{same_task}
 use Rattle.board_rounds.proofs.Between.{from_fresh, from_map, in_map}
 use Rattle.board_rounds.proofs.Crewing.{became, step_done, was}
@@ -31,10 +31,6 @@ differ_on (x ∷ xs) ys p q apart = (
   differ_on xs ys p.1 q (λ t i j. apart t (Contains-tail x xs t i) j),
 )
 
--- a task that is forked by one of these steps, and where its fork stands
-abbrev Stands : Plan → ℕ → ℕ → ℕ → ℕ → Type 0
-Stands plan t from to c = (j : ℕ) × from ≤ j × j < to × action_at plan t j ≡ Some (Forks c)
-
 go_less : (plan : Plan) (t : ℕ) (a : Place) (xs : List Action) (b : Place) → LeadsTo plan t a xs b → a.done ≤ b.done
 go_less plan t a [] b same = (let e : b.done ≡ a.done = ap (λ (x : Place). x.done) same in omega arith)
 go_less plan t a (x ∷ xs) b steps =
@@ -45,13 +41,13 @@ fork_step : (k : ℕ) (o : Option ℕ) (plan : Plan) (t c : ℕ) → IsByCode pl
 fork_step k None plan t c is = (is, refl)
 fork_step k (Some d) plan t c is = absurd is
 
-wider : (plan : Plan) (t from from' to c : ℕ) → from ≤ from' → Stands plan t from' to c → Stands plan t from to c
+wider : (plan : Plan) (t from from' to c : ℕ) → from ≤ from' → IsForkedWithin plan t from' to c → IsForkedWithin plan t from to c
 wider plan t from from' to c l s = (s.0, (let m = s.1 in omega arith), s.2, s.3)
 
 next_more : (k : ℕ) (o : Option ℕ) (x : Action) → k ≤ (next_place k o x).done
 next_more k o x = elim (step_done k o x) [ inl s ↦ omega arith | inr s ↦ (let e = s.0 in omega arith) ]
 
-pub fork_stands : (plan : Plan) (t : ℕ) (a : Place) (own : List Action) (b : Place) (c : ℕ) → LeadsTo plan t a own b → Contains (forks_of own) c → Stands plan t a.done b.done c
+pub fork_stands : (plan : Plan) (t : ℕ) (a : Place) (own : List Action) (b : Place) (c : ℕ) → LeadsTo plan t a own b → Contains (forks_of own) c → IsForkedWithin plan t a.done b.done c
 fork_stands plan t a [] b c steps i = absurd (nothing_in_nil c i)
 fork_stands plan t a (Forks d ∷ own) b c steps i =
     let f = fork_step a.done a.dropped plan t d steps.0 in
@@ -90,12 +86,6 @@ fork_differ plan checked t a (Blocks p ∷ own) b steps = fork_differ plan check
 fork_differ plan checked t a (Passes p ∷ own) b steps = fork_differ plan checked t (next_place a.done a.dropped (Passes p)) own b steps.1
 fork_differ plan checked t a (Refuses p ∷ own) b steps = fork_differ plan checked t (next_place a.done a.dropped (Refuses p)) own b steps.1
 
-abbrev pub number : Working → ℕ
-number w = task_of w.seat.view
-
-abbrev pub done_of : Working → ℕ
-done_of w = (own_place w.seat.view).done
-
 abbrev pub all_forks : List (List Action) → List ℕ
 all_forks [] = []
 all_forks (own ∷ owns) = forks_of own ++ all_forks owns
@@ -114,10 +104,10 @@ same_number (w ∷ ws) m v d i j e = elim (Contains-cons_cases w ws m i) [
 ]
 
 module _ (f : Frame) (checked : IsCheckedPlan f.plan) where
-  parent_here : (t from to c : ℕ) → Stands f.plan t from to c → parent_of f.plan c ≡ t
+  parent_here : (t from to c : ℕ) → IsForkedWithin f.plan t from to c → parent_of f.plan c ≡ t
   parent_here t from to c s = parent_is f.plan t c (checked.codes.well_formed t s.0 (Forks c) s.3).0
 
-  not_root : (t from to c : ℕ) → Stands f.plan t from to c → 0 < c
+  not_root : (t from to c : ℕ) → IsForkedWithin f.plan t from to c → 0 < c
   not_root t from to c s = (let l = child_later f.plan checked.tables t c (checked.codes.well_formed t s.0 (Forks c) s.3).0 in omega arith)
 
   leads_here : (own : List Action) (w v : Working) → w.seat.view.plan ≡ f.plan → Acts f own w v → LeadsTo f.plan (number w) (own_place w.seat.view) own (own_place v.seat.view)
@@ -125,7 +115,7 @@ module _ (f : Frame) (checked : IsCheckedPlan f.plan) where
 
   forker :
       {owns : List (List Action)} {olds news : List Working} (c : ℕ) → EachActs f owns olds news → ((w : Working) → Contains olds w → w.seat.view.plan ≡ f.plan) → Contains (all_forks owns) c →
-      (w : Working) × (v : Working) × Contains olds w × Stands f.plan (number w) (done_of w) (done_of v) c
+      (w : Working) × (v : Working) × Contains olds w × IsForkedWithin f.plan (number w) (done_of w) (done_of v) c
   forker c no_task planned i = absurd (nothing_in_nil c i)
   forker c (one_task {own = own} {owns = owns} {before = a} {now = b} {befores = olds} {nows = news} acts p) planned i = elim (Contains-append_cases (forks_of own) (all_forks owns) c i) [
     | inl here ↦ (a, b, Contains-head a olds, fork_stands f.plan (number a) (own_place a.seat.view) own (own_place b.seat.view) c (leads_here own a b (planned a (Contains-head a olds)) acts) here)
@@ -148,7 +138,7 @@ module _ (f : Frame) (checked : IsCheckedPlan f.plan) where
 -- no two are one, and each but task 0 was forked by one of them
 pub record IsFamily (f : Frame) (tasks : List Working) : Type 0 where
   pub differ : Differ (map number tasks)
-  pub origin : (w : Working) → Contains tasks w → (number w ≡ 0) ⊎ ((m : Working) × Contains tasks m × Stands f.plan (number m) 0 (done_of m) (number w))
+  pub origin : (w : Working) → Contains tasks w → (number w ≡ 0) ⊎ ((m : Working) × Contains tasks m × IsForkedWithin f.plan (number m) 0 (done_of m) (number w))
 
 module _ (f : Frame) (checked : IsCheckedPlan f.plan) (owns : List (List Action)) (olds news : List Working) (each : EachActs f owns olds news) (planned : (w : Working) → Contains olds w → w.seat.view.plan ≡ f.plan) (family : IsFamily f olds) where
   -- whoever is forked had no seat
@@ -159,7 +149,7 @@ module _ (f : Frame) (checked : IsCheckedPlan f.plan) (owns : List (List Action)
       elim (family.origin w.0 w.1) [
         | inl root ↦ (let l = not_root f checked (number v.0) (done_of v.0) (done_of v.1) c v.3 in let e = w.2 in absurd (omega arith))
         | inr o ↦
-            let s = subst (λ z. Stands f.plan (number o.0) 0 (done_of o.0) z) w.2 o.2 in
+            let s = subst (λ z. IsForkedWithin f.plan (number o.0) 0 (done_of o.0) z) w.2 o.2 in
             let same : o.0 ≡ v.0 = same_number olds o.0 v.0 family.differ o.1 v.2
             (sym (parent_here f checked (number o.0) 0 (done_of o.0) c s) ∙ parent_here f checked (number v.0) (done_of v.0) (done_of v.1) c v.3) in
             let first : s.0 < done_of v.0 = subst (λ (x : Working). s.0 < done_of x) same s.2 in
@@ -210,12 +200,12 @@ module _ (f : Frame) (checked : IsCheckedPlan f.plan) (owns : List (List Action)
   farther : (own : List Action) (w v : Working) → Contains olds w → Acts f own w v → done_of w ≤ done_of v
   farther own w v i acts = go_less f.plan (number w) (own_place w.seat.view) own (own_place v.seat.view) (leads_here f checked own w v (planned w i) acts)
 
-  stands_now : (own : List Action) (w v : Working) (from c : ℕ) → Contains olds w → Acts f own w v → Stands f.plan (number w) from (done_of w) c → Stands f.plan (number v) from (done_of v) c
+  stands_now : (own : List Action) (w v : Working) (from c : ℕ) → Contains olds w → Acts f own w v → IsForkedWithin f.plan (number w) from (done_of w) c → IsForkedWithin f.plan (number v) from (done_of v) c
   stands_now own w v from c i acts s =
       let l = farther own w v i acts in
       (s.0, s.1, (let m = s.2 in omega arith), ap (λ t. action_at f.plan t s.0) (same_task w.seat v.seat acts.goes.same) ∙ s.3)
 
-  origin_after : (x : Working) → Contains then_all x → (number x ≡ 0) ⊎ ((m : Working) × Contains then_all m × Stands f.plan (number m) 0 (done_of m) (number x))
+  origin_after : (x : Working) → Contains then_all x → (number x ≡ 0) ⊎ ((m : Working) × Contains then_all m × IsForkedWithin f.plan (number m) 0 (done_of m) (number x))
   origin_after x i = elim (Contains-append_cases (map emptied news) (flat_map fresh_of news) x i) [
     | inl old ↦
         let v = from_map emptied news x old in
@@ -228,7 +218,7 @@ module _ (f : Frame) (checked : IsCheckedPlan f.plan) (owns : List (List Action)
               inr (
                 emptied b.0,
                 Contains-append_left (map emptied news) (flat_map fresh_of news) (emptied b.0) (in_map emptied news b.0 b.2),
-                subst (λ z. Stands f.plan (number b.0) 0 (done_of b.0) z) (sym same) (stands_now b.1 o.0 b.0 0 (number r.0) o.1 b.3 o.2),
+                subst (λ z. IsForkedWithin f.plan (number b.0) 0 (done_of b.0) z) (sym same) (stands_now b.1 o.0 b.0 0 (number r.0) o.1 b.3 o.2),
               )
         ]
     | inr new ↦
@@ -241,7 +231,7 @@ module _ (f : Frame) (checked : IsCheckedPlan f.plan) (owns : List (List Action)
         inr (
           emptied k.0,
           Contains-append_left (map emptied news) (flat_map fresh_of news) (emptied k.0) (in_map emptied news k.0 k.2),
-          subst (λ z. Stands f.plan (number k.0) 0 (done_of k.0) z) (sym same)
+          subst (λ z. IsForkedWithin f.plan (number k.0) 0 (done_of k.0) z) (sym same)
               (s.0, omega arith, s.2, ap (λ t. action_at f.plan t s.0) (same_task r.0.seat k.0.seat r.3.goes.same) ∙ s.3),
         )
   ]
@@ -261,15 +251,11 @@ abbrev pub sum_over : (ℕ → ℕ) → List ℕ → ℕ
 sum_over g [] = 0
 sum_over g (t ∷ ts) = g t + sum_over g ts
 
-abbrev pub sum_to : (ℕ → ℕ) → ℕ → ℕ
-sum_to g zero = 0
-sum_to g (suc n) = sum_to g n + g n
-
-same_sum : (g h : ℕ → ℕ) (n : ℕ) → ((k : ℕ) → k < n → g k ≡ h k) → sum_to g n ≡ sum_to h n
+same_sum : (g h : ℕ → ℕ) (n : ℕ) → ((k : ℕ) → k < n → g k ≡ h k) → sum_below g n ≡ sum_below h n
 same_sum g h zero e = refl
 same_sum g h (suc n) e = (let r = same_sum g h n (λ k l. e k (omega arith)) in let m = e n (omega arith) in omega arith)
 
-zeroed : (g : ℕ → ℕ) (t n : ℕ) → t < n → sum_to (updated g t 0) n + g t ≡ sum_to g n
+zeroed : (g : ℕ → ℕ) (t n : ℕ) → t < n → sum_below (updated g t 0) n + g t ≡ sum_below g n
 zeroed g t zero l = absurd (omega arith)
 zeroed g t (suc n) l = elim (cases_eq n t) [
   | inl here ↦
@@ -290,7 +276,7 @@ same_over g t (s ∷ ts) apart =
     let m = updated_other g t s 0 (λ e. apart (subst (λ z. Contains (s ∷ ts) z) e (Contains-head s ts))) in
     omega arith)
 
-pub differ_sum : (ts : List ℕ) (g : ℕ → ℕ) (n : ℕ) → Differ ts → ((t : ℕ) → Contains ts t → t < n) → sum_over g ts ≤ sum_to g n
+pub differ_sum : (ts : List ℕ) (g : ℕ → ℕ) (n : ℕ) → Differ ts → ((t : ℕ) → Contains ts t → t < n) → sum_over g ts ≤ sum_below g n
 differ_sum [] g n d small = omega arith
 differ_sum (t ∷ ts) g n d small =
     (let r = differ_sum ts (updated g t 0) n d.1 (λ s i. small s (Contains-tail t ts s i)) in

@@ -95,7 +95,7 @@ quiet {f = f} (one_task {own = own} {owns = owns} {before = a} {now = b} {before
       | inr there ↦ quiet p (omega arith) (λ w at. none w (Contains-tail a olds w at)) v there
     ]
 
-all_from : (P : Working → Type 0) (ws : List Working) → ((w : Working) → Contains ws w → P w) → All P ws
+pub all_from : (P : Working → Type 0) (ws : List Working) → ((w : Working) → Contains ws w → P w) → All P ws
 all_from P ws each k d l = each (get_or ws k d) (contains_at ws k d l)
 
 pub to_each : (P : Working → Type 0) (ws : List Working) → All P ws → (w : Working) → Contains ws w → P w
@@ -149,6 +149,7 @@ first_crew f w new =
         task = 0;
         own = new.own_is;
         alone = λ u is. eqb-true u 0 (sym (ap (λ (s : SeenBy). s.exact u) new.seen_is) ∙ is);
+        within = (let z : (own_place w.seat.view).done ≡ 0 = ap (λ (b : Place). b.done) (new_first f w.seat new) in omega arith);
       });
       root = (w.seat, (w, Contains-head w [], refl), new.own_is);
       forked = λ k at j c l is. absurd (let z : (own_place k.view).done ≡ 0 = ap (λ (m : Known). (own_place m.view).done) (only k at) ∙ ap (λ (b : Place). b.done) (new_first f w.seat new) in omega arith);

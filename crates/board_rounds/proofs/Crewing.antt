@@ -1,8 +1,9 @@
 -- A round keeps the crew: whoever is forked in it has a seat after it.
-use Rattle.std.proofs.Common.{◌≡◌, ℕ, suc, ◌<◌, ◌≤◌, List, [], ◌∷◌, ◌++◌, Option, Some, None, sym, refl, ap, ◌∙◌, subst, arith, inl, inr, ◌⊎◌}
+use Rattle.std.proofs.Common.{◌≡◌, ℕ, suc, ◌<◌, ◌≤◌, List, [], ◌∷◌, ◌++◌, Option, Some, None, length, sym, refl, ap, ◌∙◌, subst, arith, inl, inr, ◌⊎◌}
 use Rattle.std.specs.Prelude.{Contains}
 use Rattle.std.proofs.lemmas.Bool.{cases_lt, cases_eq}
-use Rattle.armus_base.specs.Plans.{Action, Advances, Blocks, Drops, Forks, Makes, Passes, Plan, Refuses, Registers, action_at, in_code}
+use Rattle.std.proofs.lemmas.Option.{slice_get_within}
+use Rattle.armus_base.specs.Plans.{Action, Advances, Blocks, Drops, Forks, Makes, Passes, Plan, Refuses, Registers, action_at, actions, in_code}
 use Rattle.armus_base.specs.Runs.{IsByCode, Place, next_place}
 use Rattle.armus_base.proofs.Elements.{Contains-cons_cases, Contains-head, Contains-tail, nothing_in_nil}
 use Rattle.board.specs.Views.{own_place, task_of}
@@ -34,6 +35,11 @@ some_same (Drops p) c e = absurd (cc)
 some_same (Blocks p) c e = absurd (cc)
 some_same (Passes p) c e = absurd (cc)
 some_same (Refuses p) c e = absurd (cc)
+
+-- a task that has a next action has done fewer than it has
+has_left : (plan : Plan) (t k : ℕ) (x : Action) → action_at plan t k ≡ Some x → k < length (actions plan t)
+unfolding action_at
+has_left plan t k x e = slice_get_within (actions plan t) k x e
 
 -- the place after a step: one further, or no further
 pub step_done : (k : ℕ) (o : Option ℕ) (x : Action) → ((next_place k o x).done ≡ k) ⊎ (((next_place k o x).done ≡ suc k) × (o ≡ None))
@@ -102,9 +108,31 @@ was {f = f} v (one_task {own = own} {before = a} {now = b} {befores = olds} {now
   | inr there ↦ (let r = was v p there in (r.0, r.1, Contains-tail a olds r.0 r.2, r.3))
 ]
 
+-- no step is made that the code has not
+within_next : (plan : Plan) (t k : ℕ) (o : Option ℕ) (x : Action) → IsByCode plan t k o x → k ≤ length (actions plan t) → (next_place k o x).done ≤ length (actions plan t)
+within_next plan t k o x is l = elim (step_done k o x) [
+  | inl stays ↦ omega arith
+  | inr goes ↦ (let e = goes.0 in let w = has_left plan t k (in_code x) (by_code_is plan t k o x goes.1 is) in omega arith)
+]
+
+still_within : (plan : Plan) (t : ℕ) (a : Place) (own : List Action) (b : Place) → LeadsTo plan t a own b → a.done ≤ length (actions plan t) → b.done ≤ length (actions plan t)
+still_within plan t a [] b same l = (let e : b.done ≡ a.done = ap (λ (x : Place). x.done) same in omega arith)
+still_within plan t a (x ∷ own) b steps l =
+    still_within plan t (next_place a.done a.dropped x) own b steps.1 (within_next plan t a.done a.dropped x steps.0 l)
+
 goes_crew : (f : Frame) (own : List Action) (k m : Known) → IsCrewSeat f k → Goes own k m → IsCrewSeat f m
 goes_crew f own k m s goes =
-    record { of_board = of_on f own k m s.of_board goes; kept = goes.kept; task = s.task; own = goes.same.own ∙ s.own; alone = λ u is. s.alone u (sym (goes.exact u) ∙ is) }
+    record {
+      of_board = of_on f own k m s.of_board goes;
+      kept = goes.kept;
+      task = s.task;
+      own = goes.same.own ∙ s.own;
+      alone = λ u is. s.alone u (sym (goes.exact u) ∙ is);
+      within =
+          subst (λ t. (own_place m.view).done ≤ length (actions f.plan t)) (sym (same_task k m goes.same))
+          (still_within f.plan (task_of k.view) (own_place k.view) own (own_place m.view)
+          (subst (λ (q : Plan). LeadsTo q (task_of k.view) (own_place k.view) own (own_place m.view)) s.of_board.plan goes.place) s.within);
+    }
 
 -- the seats before a round, and those after it
 module _ (f : Frame) (owns : List (List Action)) (olds news : List Working) (Others : Known → Type 0) (each : EachActs f owns olds news) (none : (w : Working) → Contains olds w → w.children ≡ []) (crew : IsCrew f (λ k. IsSeatIn olds k ⊎ Others k)) where
@@ -132,7 +160,14 @@ module _ (f : Frame) (owns : List (List Action)) (olds news : List Working) (Oth
       | inr child ↦
           (let r = was child.0 each child.1 in
           let s = child_is k (new_children r.0 child.0 r.1 r.2 r.3) child.2 in
-          record { of_board = s.1.of_board; kept = s.1.kept; task = s.0; own = s.1.own; alone = s.1.alone })
+          record {
+            of_board = s.1.of_board;
+            kept = s.1.kept;
+            task = s.0;
+            own = s.1.own;
+            alone = s.1.alone;
+            within = (let z : (own_place k.view).done ≡ 0 = ap (λ (x : Place). x.done) s.1.first in omega arith);
+          })
     ]
     | inr other ↦ crew.each k (inr other)
   ]

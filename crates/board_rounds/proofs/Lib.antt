@@ -8,3 +8,7 @@ pub mod Settling
 pub mod Emptying
 pub mod Between
 pub mod Apart
+pub mod Shuffling
+pub mod Advancing
+pub mod Rejoining
+pub mod Noting

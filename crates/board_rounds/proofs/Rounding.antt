@@ -50,7 +50,7 @@ pub next_done :
 next_done own d w at_rest l acts ends = first_done _ own d w _ l acts ends
 next_done own d w (one_done acts' ends' p) l acts ends = one_done acts' ends' (next_done own d w p (omega arith) acts ends)
 
-rest_each : (f : Frame) (rest : List Working) → All (IsReady f) rest → EachActs f (map (λ w. []) rest) rest rest
+pub rest_each : (f : Frame) (rest : List Working) → All (IsReady f) rest → EachActs f (map (λ w. []) rest) rest rest
 rest_each f [] all = no_task
 rest_each f (w ∷ rest) all = one_task (acts_itself f w (all_first (IsReady f) w rest all).kept) (rest_each f rest (all_rest (IsReady f) w rest all))
 

@@ -87,7 +87,7 @@ exact_from (s ∷ seats) a b u takes is = elim (exact_from seats takes.0 b u tak
 
 module _ (f : Frame) (seats : List Known) (before now : Known) (crew : IsCrew f (λ k. Contains seats k)) (takes : TakesAll seats before now) (unknown : (u : ℕ) → (seen before.view).exact u ≡ false) where
   -- whose seat it is that made a task exact
-  whose : (u : ℕ) → (seen now.view).exact u ≡ true → (k : Known) × Contains seats k × (task_of k.view ≡ u)
+  pub whose : (u : ℕ) → (seen now.view).exact u ≡ true → (k : Known) × Contains seats k × (task_of k.view ≡ u)
   whose u is = elim (exact_from seats before now u takes is) [
     | inl old ↦ absurd (false≢true (sym (unknown u) ∙ old))
     | inr r ↦ (

@@ -1,3 +1,4 @@
 pub mod Turns
 pub mod Crews
 pub mod Tasks
+pub mod Crewed

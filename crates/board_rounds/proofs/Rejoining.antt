@@ -1,0 +1,253 @@
+-- What a round makes of all tasks of a run, the ended ones among them.
+use Rattle.std.proofs.Common.{◌≡◌, ℕ, suc, ◌<◌, ◌≤◌, List, [], ◌∷◌, ◌++◌, Some, length, map, get_or, sym, refl, ap, ◌∙◌, subst, arith, inl, inr, append-nil, append_assoc, length-append}
+use Rattle.std.specs.Prelude.{All, Contains, sum_by}
+use Rattle.std.specs.List.{flat_map}
+use Rattle.std.specs.List.Sorted.{IsPermutation}
+use Rattle.std.proofs.lemmas.List.Elements.{All-append, Contains-append_left, Contains-append_right}
+use Rattle.std.proofs.lemmas.List.Sorted.{All-permutation, Contains-permutation, IsPermutation-append_comm, IsPermutation-append_left, IsPermutation-append_right, IsPermutation-middle, IsPermutation-push_more, IsPermutation-refl, IsPermutation-sym, IsPermutation-to_front, IsPermutation-trans, sum_by-IsPermutation}
+use Rattle.std.proofs.lemmas.List.Sums.{sum_by-append, sum_by-cons}
+use Rattle.armus_base.specs.Plans.{Action, Plan}
+use Rattle.armus_base.specs.CheckedPlans.{IsCheckedPlan}
+use Rattle.armus_base.specs.Limits.{max_tasks}
+use Rattle.armus_base.specs.Seats.{seen_by_child}
+use Rattle.armus_base.proofs.Elements.{Contains-cons_cases, nothing_in_nil}
+use Rattle.board.specs.Seats.{Frame, IsNewSeat, IsOf, Known, nothing_seen}
+use Rattle.board_rounds.specs.Turns.{EachActs, EndsTurn, IsDone, IsReady, Working, is_done}
+use Rattle.board_rounds.specs.Crews.{AreTasksOf, IsCrewOf, MakesRound, Tasks, all_of, all_steps, emptied, left_to, fresh_of, number, steps_of}
+use Rattle.board_rounds.proofs.Advancing.{all_further, emptied_steps, few_tasks, within_all}
+use Rattle.board_rounds.proofs.Apart.{IsFamily, family_after}
+use Rattle.board_rounds.proofs.Between.{all_from, crew_ready, first_crew, then_crew, then_ends, then_none, to_each}
+use Rattle.board_rounds.proofs.Goings.{task_is}
+use Rattle.board_rounds.proofs.Rounding.{each_on, rest_each}
+use Rattle.board_rounds.proofs.Shuffling.{differ_once, once_differ, shuffled}
+
+pub all_push : (P : Working → Type 0) (ws : List Working) (w : Working) → All P ws → P w → All P (ws ++ w ∷ [])
+all_push P ws w all p = All-append P ws (w ∷ []) all (λ k d l. subst (λ n. P (get_or (w ∷ []) n d)) (let z : 0 ≡ k = omega arith in z) p)
+
+-- one more of them lives, or has ended
+pub one_lives : (E Y L D : List Working) (x : Working) → IsPermutation (E ++ Y) (L ++ D) → IsPermutation (E ++ (Y ++ x ∷ [])) ((L ++ x ∷ []) ++ D)
+one_lives E Y L D x p =
+    subst (λ zs. IsPermutation zs ((L ++ x ∷ []) ++ D)) (append_assoc E Y (x ∷ []))
+    (IsPermutation-push_more (E ++ Y) (L ++ D) ((L ++ x ∷ []) ++ D) x p
+    (subst (λ zs. IsPermutation (x ∷ (L ++ D)) zs) (sym (append_assoc L (x ∷ []) D)) (IsPermutation-sym (L ++ x ∷ D) (x ∷ (L ++ D)) (IsPermutation-middle L x D))))
+
+pub one_ends : (E Y L D : List Working) (x : Working) → IsPermutation (E ++ Y) (L ++ D) → IsPermutation (E ++ (Y ++ x ∷ [])) (L ++ (D ++ x ∷ []))
+one_ends E Y L D x p =
+    subst (λ zs. IsPermutation zs (L ++ (D ++ x ∷ []))) (append_assoc E Y (x ∷ []))
+    (IsPermutation-push_more (E ++ Y) (L ++ D) (L ++ (D ++ x ∷ [])) x p
+    (subst (λ zs. IsPermutation (x ∷ (L ++ D)) zs) (append_assoc L D (x ∷ [])) (IsPermutation-sym ((L ++ D) ++ x ∷ []) (x ∷ (L ++ D)) (IsPermutation-to_front (L ++ D) x))))
+
+pub none_moved : (E : List Working) → IsPermutation (E ++ []) ([] ++ E)
+none_moved E = subst (λ zs. IsPermutation zs E) (sym (append-nil E)) (IsPermutation-refl E)
+
+pub all_moved : (E A zs : List Working) → IsPermutation (E ++ A) zs → IsPermutation (A ++ E) zs
+all_moved E A zs p = IsPermutation-trans (A ++ E) (E ++ A) zs (IsPermutation-append_comm A E) p
+
+swap_last : (A B C : List Working) → IsPermutation ((A ++ B) ++ C) ((A ++ C) ++ B)
+swap_last A B C =
+    subst (λ zs. IsPermutation zs ((A ++ C) ++ B)) (sym (append_assoc A B C))
+    (subst (λ zs. IsPermutation (A ++ (B ++ C)) zs) (sym (append_assoc A C B)) (IsPermutation-append_right A (B ++ C) (C ++ B) (IsPermutation-append_comm B C)))
+
+-- who has no children is no other without them
+map_more : (xs ys : List Working) → map emptied (xs ++ ys) ≡ map emptied xs ++ map emptied ys
+map_more [] ys = refl
+map_more (x ∷ xs) ys = ap (λ ws. emptied x ∷ ws) (map_more xs ys)
+
+fresh_more : (xs ys : List Working) → flat_map fresh_of (xs ++ ys) ≡ flat_map fresh_of xs ++ flat_map fresh_of ys
+fresh_more [] ys = refl
+fresh_more (x ∷ xs) ys = ap (λ ws. fresh_of x ++ ws) (fresh_more xs ys) ∙ sym (append_assoc (fresh_of x) (flat_map fresh_of xs) (flat_map fresh_of ys))
+
+rest_none : (w : Working) (ws : List Working) → All (λ (v : Working). v.children ≡ []) (w ∷ ws) → All (λ (v : Working). v.children ≡ []) ws
+rest_none w ws all = λ k d l. all (suc k) d (omega arith)
+
+none_emptied : (ws : List Working) → All (λ (w : Working). w.children ≡ []) ws → map emptied ws ≡ ws
+none_emptied [] all = refl
+none_emptied (w ∷ ws) all =
+    (let here : w.children ≡ [] = all 0 w (omega arith) in
+    let same : emptied w ≡ w = (λ i. record { seat = w.seat; children = sym here i }) in
+    (λ i. same i ∷ none_emptied ws (rest_none w ws all) i))
+
+none_fresh : (ws : List Working) → All (λ (w : Working). w.children ≡ []) ws → flat_map fresh_of ws ≡ []
+none_fresh [] all = refl
+none_fresh (w ∷ ws) all =
+    (let here : w.children ≡ [] = all 0 w (omega arith) in
+    ap (λ (ks : List Known). map (λ (k : Known). record { seat = k; children = [] }) ks ++ flat_map fresh_of ws) here ∙ none_fresh ws (rest_none w ws all))
+
+abbrev no_steps : Working → List Action
+no_steps w = []
+
+zeros : (ws : List Working) → sum_by length (map no_steps ws) ≡ 0
+zeros [] = refl
+zeros (w ∷ ws) = (let r = zeros ws in let s = sum_by-cons (length {A = Action}) (no_steps w) (map no_steps ws) in omega arith)
+
+module _ (f : Frame) (live ended new : List Working) (made : ℕ) (tasks : AreTasksOf f (record { live = live; ended = ended })) (round : MakesRound f live new made) where
+  abbrev olds : List Working
+  olds = live ++ ended
+
+  abbrev turned : List Working
+  turned = round.turned ++ ended
+
+  whole : IsCrewOf f olds
+  whole = tasks.all
+
+  ready : (w : Working) → Contains olds w → IsReady f w
+  ready w i = to_each (IsReady f) olds (crew_ready f olds whole.crew) w i
+
+  abbrev owns : List (List Action)
+  owns = round.owns ++ map no_steps ended
+
+  each : EachActs f owns olds turned
+  each = each_on (map no_steps ended) ended ended round.each (rest_each f ended (all_from (IsReady f) ended (λ w i. ready w (Contains-append_right live ended w i))))
+
+  events : made ≡ sum_by length owns
+  events = (let s = sum_by-append (length {A = Action}) round.owns (map no_steps ended) in let z = zeros ended in let e = round.events in omega arith)
+
+  none : (w : Working) → Contains olds w → w.children ≡ []
+  none w i = to_each (λ (v : Working). v.children ≡ []) olds whole.no_child w i
+
+  ended_none : All (λ (w : Working). w.children ≡ []) ended
+  ended_none = all_from (λ (w : Working). w.children ≡ []) ended (λ w i. none w (Contains-append_right live ended w i))
+
+  planned : (w : Working) → Contains olds w → w.seat.view.plan ≡ f.plan
+  planned w i = (whole.crew.each w.seat (w, i, refl)).of_board.plan
+
+  pub is_checked : IsCheckedPlan f.plan
+  is_checked = (let root = whole.crew.each whole.crew.root.0 whole.crew.root.1 in subst IsCheckedPlan root.of_board.plan root.kept.checked)
+
+  family : IsFamily f olds
+  family = record { differ = once_differ olds whole.once; origin = whole.origin }
+
+  abbrev next : List Working
+  next = map emptied turned ++ flat_map fresh_of turned
+
+  after : IsFamily f next
+  after = family_after f is_checked owns olds turned each planned none family
+
+  next_whole : IsCrewOf f next
+  next_whole = record {
+    crew = then_crew f owns olds turned each whole.crew whole.no_child;
+    no_child = then_none f owns olds turned each whole.crew whole.no_child;
+    once = differ_once next after.differ;
+    origin = after.origin;
+  }
+
+  abbrev joined : List Working
+  joined = map emptied round.turned ++ flat_map fresh_of round.turned
+
+  next_is : next ≡ (map emptied round.turned ++ ended) ++ flat_map fresh_of round.turned
+  next_is =
+      ap (λ ws. ws ++ flat_map fresh_of turned) (map_more round.turned ended ∙ ap (λ ws. map emptied round.turned ++ ws) (none_emptied ended ended_none))
+      ∙ ap (λ ws. (map emptied round.turned ++ ended) ++ ws)
+      (fresh_more round.turned ended ∙ ap (λ ws. flat_map fresh_of round.turned ++ ws) (none_fresh ended ended_none) ∙ append-nil (flat_map fresh_of round.turned))
+
+  moved : IsPermutation next (new ++ ended)
+  moved =
+      subst (λ zs. IsPermutation zs (new ++ ended)) (sym next_is)
+      (IsPermutation-trans ((map emptied round.turned ++ ended) ++ flat_map fresh_of round.turned) (joined ++ ended) (new ++ ended)
+      (swap_last (map emptied round.turned) ended (flat_map fresh_of round.turned))
+      (IsPermutation-append_left ended joined new round.joined))
+
+  pub after_round : IsCrewOf f (new ++ ended)
+  after_round = shuffled f next (new ++ ended) moved next_whole
+
+  next_steps : sum_by steps_of turned ≤ sum_by steps_of (new ++ ended)
+  next_steps =
+      (let p = sum_by-IsPermutation steps_of next (new ++ ended) moved in
+      let s = sum_by-append steps_of (map emptied turned) (flat_map fresh_of turned) in
+      let e = emptied_steps turned in
+      omega arith)
+
+  pub round_further : 0 < made → sum_by steps_of olds < sum_by steps_of (new ++ ended)
+  round_further l = (let e = events in let m = all_further each (omega arith) in let n = next_steps in omega arith)
+
+  pub round_quiet : made ≡ 0 → All (λ (w : Working). EndsTurn w.seat) (new ++ ended)
+  round_quiet z =
+      let ends : All (λ (w : Working). EndsTurn w.seat) turned =
+      All-append (λ (w : Working). EndsTurn w.seat) round.turned ended round.ends
+      (all_from (λ (w : Working). EndsTurn w.seat) ended (λ w i. is_done (to_each (λ (v : Working). IsDone v.seat) ended tasks.ended w i))) in
+      all_from (λ (w : Working). EndsTurn w.seat) (new ++ ended)
+      (λ w i.
+      then_ends f owns olds turned each whole.crew whole.no_child (sym z ∙ events) ends w.seat
+      (w, Contains-permutation (new ++ ended) next w (IsPermutation-sym next (new ++ ended) moved) i, refl))
+
+-- what a round asks of the tasks that live
+module _ (f : Frame) (tasks : Tasks) (are : AreTasksOf f tasks) where
+  lives : (P : Working → Type 0) → ((w : Working) → Contains (all_of tasks) w → P w) → All P tasks.live
+  lives P each = all_from P tasks.live (λ w i. each w (Contains-append_left tasks.live tasks.ended w i))
+
+  pub live_ready : All (IsReady f) tasks.live
+  live_ready = lives (IsReady f) (to_each (IsReady f) (all_of tasks) (crew_ready f (all_of tasks) are.all.crew))
+
+  pub live_none : All (λ (w : Working). w.children ≡ []) tasks.live
+  live_none = lives (λ (w : Working). w.children ≡ []) (to_each (λ (w : Working). w.children ≡ []) (all_of tasks) are.all.no_child)
+
+  pub live_few : length tasks.live ≤ max_tasks
+  live_few =
+      (let root = are.all.crew.each are.all.crew.root.0 are.all.crew.root.1 in
+      let few = few_tasks f (subst IsCheckedPlan root.of_board.plan root.kept.checked) (all_of tasks) are.all in
+      let s = length-append tasks.live tasks.ended in
+      omega arith)
+
+-- what is true of each is true of those that live, and of those that have ended
+module _ (f : Frame) (tasks : Tasks) (are : AreTasksOf f tasks) where
+  of_both : (P : Working → Type 0) → ((w : Working) → Contains (all_of tasks) w → P w) → All P tasks.live × All P tasks.ended
+  of_both P each = (
+    all_from P tasks.live (λ w i. each w (Contains-append_left tasks.live tasks.ended w i)),
+    all_from P tasks.ended (λ w i. each w (Contains-append_right tasks.live tasks.ended w i)),
+  )
+
+  pub both_of : All (λ (w : Working). IsOf w.seat f) tasks.live × All (λ (w : Working). IsOf w.seat f) tasks.ended
+  both_of = of_both (λ (w : Working). IsOf w.seat f) (λ w i. (are.all.crew.each w.seat (w, i, refl)).of_board)
+
+  pub both_none : All (λ (w : Working). w.children ≡ []) tasks.live × All (λ (w : Working). w.children ≡ []) tasks.ended
+  both_none = of_both (λ (w : Working). w.children ≡ []) (to_each (λ (w : Working). w.children ≡ []) (all_of tasks) are.all.no_child)
+
+  pub both_within : (n : ℕ) → length f.plan.parents ≡ n → All (λ (w : Working). number w < n) tasks.live × All (λ (w : Working). number w < n) tasks.ended
+  both_within n e =
+      of_both (λ (w : Working). number w < n)
+      (λ w i.
+      let s = are.all.crew.each w.seat (w, i, refl) in
+      let l : s.task < length f.plan.parents = subst (λ (q : Plan). s.task < length q.parents) s.of_board.plan (s.kept.own s.task s.own).0 in
+      let t = task_is w.seat s.task s.own in
+      omega arith)
+
+pub new_planned :
+    (f : Frame) (plan : Plan) (before : Tasks) (new : List Working) (made : ℕ) → f.plan ≡ plan → AreTasksOf f before → MakesRound f before.live new made →
+    All (λ (w : Working). w.seat.view.plan ≡ plan) new
+new_planned f plan before new made same tasks round =
+    let whole = after_round f before.live before.ended new made tasks round in
+    all_from (λ (w : Working). w.seat.view.plan ≡ plan) new
+    (λ w i. (whole.crew.each w.seat (w, Contains-append_left new before.ended w i, refl)).of_board.plan ∙ same)
+
+-- and once the tasks that have done their code are among the ended ones
+pub whole_round :
+    (f : Frame) (plan : Plan) (before now : Tasks) (new : List Working) (made : ℕ) → f.plan ≡ plan → AreTasksOf f before → MakesRound f before.live new made →
+    IsPermutation (new ++ before.ended) (all_of now) → All (λ (w : Working). IsDone w.seat) now.ended →
+    AreTasksOf f now × (0 < made → left_to plan now < left_to plan before) × (made ≡ 0 → All (λ (w : Working). EndsTurn w.seat) (all_of now))
+whole_round f plan before now new made same tasks round moved done =
+    let middle = new ++ before.ended in
+    let whole = shuffled f middle (all_of now) moved (after_round f before.live before.ended new made tasks round) in (
+      record { all = whole; ended = done },
+      (λ l.
+          let more = round_further f before.live before.ended new made tasks round l in
+          let e = sum_by-IsPermutation steps_of middle (all_of now) moved in
+          let bound = within_all f (is_checked f before.live before.ended new made tasks round) (all_of now) whole in
+          let s : all_steps f.plan ≡ all_steps plan = ap all_steps same in
+          omega arith),
+      (λ z. All-permutation (λ (w : Working). EndsTurn w.seat) middle (all_of now) moved (round_quiet f before.live before.ended new made tasks round z)),
+    )
+
+-- task 0 alone
+pub first_tasks : (f : Frame) (w : Working) → IsNewSeat f (Some 0) (seen_by_child 0 nothing_seen) w.seat → w.children ≡ [] → AreTasksOf f (record { live = w ∷ []; ended = [] })
+first_tasks f w new none = record {
+  all = record {
+    crew = first_crew f w new;
+    no_child = all_from (λ (v : Working). v.children ≡ []) (w ∷ []) (λ v i. ap (λ (x : Working). x.children) (sym (only v i)) ∙ none);
+    once = differ_once (w ∷ []) ((λ i. nothing_in_nil (number w) i), tt);
+    origin = λ v i. inl (ap number (sym (only v i)) ∙ task_is w.seat 0 new.own_is);
+  };
+  ended = λ k d l. absurd (omega arith);
+}
+  where
+    only : (v : Working) → Contains (w ∷ []) v → w ≡ v
+    only v i = elim (Contains-cons_cases w [] v i) [ inl here ↦ here | inr there ↦ absurd (nothing_in_nil v there) ]

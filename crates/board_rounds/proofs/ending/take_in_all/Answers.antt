@@ -1,0 +1,14 @@
+use Rattle.std.proofs.Common.{◌∙◌, subst}
+use Rattle.board.specs.Seats.{Known, TakesIn}
+use Rattle.board_rounds.proofs.Noting.{task_taken}
+use Rattle.board_rounds.proofs.ending.take_in_all.Goals as goal
+
+pub loop-task-preserved : goal.loop-task-preserved
+loop-task-preserved c =
+    let i = c.loop-task.invariant in
+    let t = c.take_in.ensures.taken in record {
+      made = record { table = t.table ∙ i.made.table; plan = t.same.plan ∙ i.made.plan; mode = t.same.mode ∙ i.made.mode };
+      taken =
+          task_taken c.loop-task.yielded c.in-Some.task c.args.view.now c.loop-task.view c.take_in.new.self i.taken
+          (subst (λ (k : Known). TakesIn k c.loop-task.view c.take_in.new.self) c.into_seat.ensures.seat t);
+    }

@@ -1,0 +1,11 @@
+use Rattle.std.proofs.Common.{map}
+use Rattle.board.specs.Seats.{IsOf}
+use Rattle.board_rounds.specs.Turns.{Working}
+use Rattle.board_rounds.specs.Crews.{TakesAll}
+use Rattle.board_rounds.proofs.ending.take_in_all.Given as goal
+
+abbrev pub invariant-loop-task : goal.invariant-loop-task
+invariant-loop-task l = record {
+  made : IsOf l.view l.board;
+  taken : TakesAll (map (λ (task : Working). task.seat) l.yielded) l.initial.view l.view;
+}

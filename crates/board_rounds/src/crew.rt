@@ -1,0 +1,251 @@
+// The tasks of a run on a board, from round to round.
+ghost use Rattle.std.specs.Prelude.{◌≡◌, ℕ, ◌++◌, ◌<◌, ◌≤◌, Some, [], false, map, flat_map, length, OnOk, IfOk, All};
+ghost use Rattle.std.specs.List.Sorted.{IsPermutation};
+ghost use Rattle.armus_base.specs.Limits.{max_tasks};
+ghost use Rattle.armus_base.specs.Runs.{first_place};
+ghost use Rattle.armus_base.specs.Seats.{seen_by_child};
+ghost use Rattle.board.specs.declared.mode.Mode.TheVariants.{Detect};
+ghost use Rattle.board.specs.Seats.{IsNewSeat, IsOf, IsSeat, Known, nothing_seen};
+ghost use Rattle.board.specs.Views.{own_place, seen};
+ghost use Rattle.board_rounds.specs.Turns.{EndsTurn, IsDone, IsReady, Working};
+ghost use Rattle.board_rounds.specs.Crews.{ArePlacesOf, AreTasksOf, IsAtStart, IsChildIn, KnowsTasks, MakesRound, all_of, emptied, fresh, fresh_of, left_to};
+
+use crate::ending::{note_places, take_in_all};
+use crate::{Task, round};
+use adaptive::Wanted;
+use armus_base::{Gate, List, NoMemory, Plan};
+use board::{Board, TaskSeat, ViewSeat};
+use pl_core::Place;
+use std::alloc::Global;
+use std::marker::Model;
+use std::thread::Threads;
+
+/// The tasks of a run on a board: those that live, in order of number, and those that have done their code.
+#[derive(Drop)]
+pub struct Crew {
+    pub(crate) live: Vec<Task>,
+    pub(crate) ended: Vec<Task>,
+}
+
+impl Model for Crew {
+    ghost use Rattle.board_rounds.specs.Crews.{Tasks};
+
+    ghost Value = { Tasks };
+
+    ghost use Rattle.board_rounds.specs.Crewed.{tasks_of};
+
+    ghost view = { tasks_of };
+}
+
+impl Crew {
+    /// Task 0 alone, whose seat this is, before its first step.
+    pub fn start(alloc: Global, board: &Board, seat: TaskSeat) -> Result<Crew, NoMemory>
+        requires new { IsNewSeat board.now (Some 0) (seen_by_child 0 nothing_seen) seat }
+        ensures tasks { IfOk result (AreTasksOf board.now) }
+    {
+        let _ = board;
+        let mut live = Vec::new(alloc);
+        live.push(Task::new(alloc, seat))?;
+        Ok(Crew {
+            live,
+            ended: Vec::new(alloc),
+        })
+    }
+
+    /// How many tasks live.
+    pub fn len(&self) -> usize
+        ensures { result ≡ length self.now.live }
+    {
+        self.live.len()
+    }
+
+    /// One round: each task that lives has one turn, by so many workers. After it the children whom they forked live too. It answers how many events
+    /// happened.
+    pub fn round<R: Threads + Sync, G: Gate>(
+        &mut self,
+        rt: &R,
+        alloc: Global,
+        board: &Board,
+        plan: &Plan,
+        wanted: Wanted,
+        workers: u8,
+        gate: &G,
+    ) -> Result<u32, NoMemory>
+        requires plan { board.now.plan ≡ plan.now }
+        requires detects { board.now.mode ≡ Detect }
+        requires tasks { AreTasksOf board.now self.old }
+        ensures tasks { OnOk result (AreTasksOf board.now self.new) }
+        ensures further { IfOk result (λ made. 0 < made → left_to plan.now self.new < left_to plan.now self.old) }
+        ensures quiet { IfOk result (λ made. made ≡ 0 → All (λ task. EndsTurn task.seat) (all_of self.new)) }
+    {
+        let made = go_round(
+            rt,
+            alloc,
+            board,
+            plan,
+            wanted,
+            workers,
+            gate,
+            &mut self.live,
+        )?;
+        retire(alloc, plan, &mut self.live, &mut self.ended)?;
+        Ok(made)
+    }
+
+    /// The place of each task of the plan.
+    pub fn places(&self, alloc: Global, board: &Board, plan: &Plan) -> Result<List<Place>, NoMemory>
+        requires plan { board.now.plan ≡ plan.now }
+        requires tasks { AreTasksOf board.now self.now }
+        ensures places { IfOk result (ArePlacesOf plan.now (all_of self.now)) }
+    {
+        let _ = board;
+        let opening = Place {
+            events: 0,
+            refused: false,
+        };
+        let mut places = vec![in alloc; opening; plan.tasks() as usize]?;
+        note_places(self.live.as_slice(), &mut places);
+        note_places(self.ended.as_slice(), &mut places);
+        Ok(List::from_vec(places))
+    }
+
+    /// A viewer that knows no task exactly takes the seats of these tasks in: it knows each of them exactly then, where its seat stood.
+    pub fn take_in(self, board: &Board, view: &mut ViewSeat)
+        requires made { IsOf view.old board.now }
+        requires tasks { AreTasksOf board.now self }
+        requires unknown { (u : ℕ) → (seen view.old.view).exact u ≡ false }
+        ensures made { IsOf view.new board.now }
+        ensures known { KnowsTasks board.now (all_of self) view.new }
+        ensures kept { IsSeat view.old → IsSeat view.new }
+    {
+        take_in_all(board, view, self.live);
+        take_in_all(board, view, self.ended);
+    }
+}
+
+// One turn of each of these tasks, after which the children whom they forked are tasks among them, in order of number.
+fn go_round<R: Threads + Sync, G: Gate>(
+    rt: &R,
+    alloc: Global,
+    board: &Board,
+    plan: &Plan,
+    wanted: Wanted,
+    workers: u8,
+    gate: &G,
+    tasks: &mut Vec<Task>,
+) -> Result<u32, NoMemory>
+    requires plan { board.now.plan ≡ plan.now }
+    requires detects { board.now.mode ≡ Detect }
+    requires ready { All (IsReady board.now) tasks.old.items }
+    requires no_child { All (λ task. task.children ≡ []) tasks.old.items }
+    requires few { length tasks.old.items ≤ max_tasks }
+    ensures round { IfOk result (MakesRound board.now tasks.old.items tasks.new.items) }
+{
+    let made = round(
+        rt,
+        alloc,
+        tasks.as_mut_slice(),
+        board,
+        plan,
+        wanted,
+        workers,
+        gate,
+    )?;
+    take_on(alloc, tasks)?;
+    Ok(made)
+}
+
+// Makes tasks of the children's seats that these tasks have, and puts them among them, in order of number.
+fn take_on(alloc: Global, tasks: &mut Vec<Task>) -> Result<(), NoMemory>
+    requires start { (seat : Known) → IsChildIn tasks.old.items seat → IsAtStart seat }
+    ensures joined { OnOk result (IsPermutation (map emptied tasks.old.items ++ flat_map fresh_of tasks.old.items) tasks.new.items) }
+{
+    let mut children = new_tasks(alloc, tasks.as_mut_slice())?;
+    if children.is_empty() {
+        return Ok(());
+    }
+    tasks.append(&mut children)?;
+    tasks.sort_by_key(|task| task.id().0)?;
+    Ok(())
+}
+
+// Makes tasks of the children's seats that these tasks have, in order.
+fn new_tasks(alloc: Global, tasks: &mut [Task]) -> Result<Vec<Task>, NoMemory>
+    requires start { (seat : Known) → IsChildIn tasks.old seat → IsAtStart seat }
+    ensures tasks { OnOk result (tasks.new ≡ map emptied tasks.old) }
+    ensures children { IfOk result (λ v. v.items ≡ flat_map fresh_of tasks.old) }
+{
+    let mut children = Vec::new(alloc);
+    for task in tasks.iter_mut() {
+        add_children(alloc, task, &mut children)?;
+    }
+    Ok(children)
+}
+
+// Makes tasks of the children's seats that a task has.
+fn add_children(alloc: Global, task: &mut Task, children: &mut Vec<Task>) -> Result<(), NoMemory>
+    requires first { All (λ seat. own_place seat.view ≡ first_place) task.old.children }
+    requires free { All (λ seat. seat.view.holds ≡ false) task.old.children }
+    ensures task { OnOk result (task.new ≡ emptied task.old) }
+    ensures children { OnOk result (children.new.items ≡ children.old.items ++ fresh_of task.old) }
+{
+    let seats = task.take_children(alloc).into_vec();
+    for seat in seats {
+        children.push(Task::new(alloc, seat))?;
+    }
+    Ok(())
+}
+
+// Takes the tasks that have done their code out of those that live.
+fn retire(
+    alloc: Global,
+    plan: &Plan,
+    live: &mut Vec<Task>,
+    ended: &mut Vec<Task>,
+) -> Result<(), NoMemory>
+    requires plan { All (λ task. task.seat.view.plan ≡ plan.now) live.old.items }
+    requires ended { All (λ task. IsDone task.seat) ended.old.items }
+    ensures same { OnOk result (IsPermutation (live.old.items ++ ended.old.items) (live.new.items ++ ended.new.items)) }
+    ensures ended { OnOk result (All (λ task. IsDone task.seat) ended.new.items) }
+{
+    if !has_done(plan, live.as_slice()) {
+        return Ok(());
+    }
+    let tasks = std::mem::replace(live, Vec::new(alloc));
+    sort_out(plan, tasks, live, ended)
+}
+
+// Puts each of these tasks among those that live or, if it has done its code, among the ended ones.
+fn sort_out(
+    plan: &Plan,
+    tasks: Vec<Task>,
+    live: &mut Vec<Task>,
+    ended: &mut Vec<Task>,
+) -> Result<(), NoMemory>
+    requires plan { All (λ task. task.seat.view.plan ≡ plan.now) tasks.items }
+    requires none { live.old.items ≡ [] }
+    requires ended { All (λ task. IsDone task.seat) ended.old.items }
+    ensures same { OnOk result (IsPermutation (ended.old.items ++ tasks.items) (live.new.items ++ ended.new.items)) }
+    ensures ended { OnOk result (All (λ task. IsDone task.seat) ended.new.items) }
+{
+    for task in tasks {
+        if task.is_done(plan) {
+            ended.push(task)?;
+        } else {
+            live.push(task)?;
+        }
+    }
+    Ok(())
+}
+
+// Whether one of these tasks has done its code.
+fn has_done(plan: &Plan, tasks: &[Task]) -> bool
+    requires { All (λ task. task.seat.view.plan ≡ plan.now) tasks.now }
+{
+    for task in tasks {
+        if task.is_done(plan) {
+            return true;
+        }
+    }
+    false
+}
