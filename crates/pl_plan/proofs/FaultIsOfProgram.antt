@@ -1,13 +1,13 @@
 -- A fault has one of the ten kinds, and the number of a statement of the program.
-use Rattle.std.proofs.Common.{◌≡◌, ℕ, zero, suc, ◌+◌, ◌<◌, ◌≤◌, Bool, true, false, not, Some, None, Ok, Err, Option, List, [], ◌∷◌, ◌++◌, arith, sym, ◌∙◌, subst, refl}
-use Rattle.std.specs.Prelude.{slice_set, slice_index_or, is_some, nat_lt, length, sum_by}
+use Rattle.std.proofs.Common.{◌≡◌, ℕ, zero, suc, ◌+◌, ◌≤◌, Bool, true, false, not, Some, None, Ok, Err, Option, List, [], ◌∷◌, ◌++◌, arith, sym, subst}
+use Rattle.std.specs.Prelude.{slice_index_or, is_some, nat_lt, length, sum_by}
 use Rattle.armus_base.specs.Limits.{max_tasks, max_phasers, max_ops}
 use Rattle.armus_base.specs.declared.op.Op.{Op}
 use Rattle.armus_base.specs.declared.op.Op.TheVariants as op
 use Rattle.pl_syntax.specs.Tree.{Tree, done, plain, fork, loop, Plain, new_task, new_phaser, reg, dereg, adv, await, skip, count}
 use Rattle.pl_plan.specs.Limits.{max_meetings}
 use Rattle.pl_plan.specs.declared.fault.CheckFault.{CheckFault}
-use Rattle.pl_plan.specs.Unfolding.{Coming, a_plain, a_fork, a_loop, a_turn, Meeting, meeting, times, meetings_of, State, Start, Thing, a_task, a_phaser, Outcome, ◌>>=◌, fault_unless, as_task, as_phaser, is_parent, unforked_child, member_of, task, phaser, add_op, act, act_fork, come_to, count_meeting, meet, meet_all, with_names, with_op, with_member, with_members, with_new_task, with_new_phaser, with_start, unfold_task, unfold_tasks, opening_state, plan_of, unknown_name, other_kind, not_member, already_member, not_drawn_here, already_forked, too_many_tasks, too_many_phasers, too_many_ops, too_many_meetings}
+use Rattle.pl_plan.specs.Unfolding.{Coming, a_plain, a_fork, a_loop, a_turn, Meeting, meeting, times, meetings_of, State, Start, Thing, a_task, a_phaser, Outcome, ◌>>=◌, fault_unless, as_task, as_phaser, is_parent, unforked_child, member_of, task, phaser, add_op, act, act_fork, come_to, count_meeting, meet, meet_all, with_names, with_op, with_member, with_members, with_new_task, with_new_phaser, with_start, unfold_task, unfold_tasks, opening_state, plan_of, not_member, already_member, not_drawn_here, already_forked, too_many_tasks, too_many_phasers, too_many_ops, too_many_meetings}
 use Rattle.pl_plan.specs.Laws.{FaultIsOfProgram}
 use Rattle.pl_plan.proofs.Places.{at_set, at_more}
 

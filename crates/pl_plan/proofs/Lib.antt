@@ -20,3 +20,5 @@ pub mod Adding
 pub mod WorkedPrograms
 pub mod Planned
 pub mod FaultIsOfProgram
+pub mod ByTable
+pub mod Unfolds

@@ -1,10 +1,11 @@
 -- Laws of the unfolding.
-use Rattle.std.specs.Prelude.{◌≡◌, ◌≤◌, Ok, Err}
+use Rattle.std.specs.Prelude.{◌≡◌, ◌≤◌, ◌↔◌, Ok, Err}
 use Rattle.pl_syntax.specs.Tree.{Tree, count}
 use Rattle.armus_base.specs.Plans.{Plan}
 use Rattle.armus_base.specs.CheckedPlans.{IsCheckedPlan}
 use Rattle.pl_plan.specs.declared.fault.CheckFault.{CheckFault}
 use Rattle.pl_plan.specs.Unfolding.{plan_of}
+use Rattle.pl_plan.specs.Visits.{Unfolds, IsFirstFault}
 
 -- the plan to which a program unfolds is checked
 abbrev pub UnfoldedIsChecked : Type 0
@@ -15,3 +16,11 @@ abbrev pub FaultIsOfProgram : Type 0
 FaultIsOfProgram =
     (program : Tree) (fault : CheckFault) → plan_of program ≡ Err fault →
     (1 ≤ fault.kind) × (fault.kind ≤ 10) × (1 ≤ fault.statement) × (fault.statement ≤ count program)
+
+-- the plan of a program is the one to which it unfolds, by the relation
+abbrev pub PlanIsUnfolded : Type 0
+PlanIsUnfolded = (program : Tree) (plan : Plan) → (plan_of program ≡ Ok plan) ↔ Unfolds program plan
+
+-- the fault of a program is its first one, by the relation
+abbrev pub FaultIsFirst : Type 0
+FaultIsFirst = (program : Tree) (fault : CheckFault) → (plan_of program ≡ Err fault) ↔ IsFirstFault program fault

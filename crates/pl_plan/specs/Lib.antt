@@ -1,8 +1,11 @@
 -- What a reader of the repository has to believe.
 pub mod Limits
 pub mod Unfolding
+pub mod Tests
+pub mod Visits
 pub mod Planning
 pub mod Laws
+pub mod WorkedPrograms
 -- How the program does it: flat steps, what the checker keeps, what it shows of the unfolding.
 pub mod Steps
 pub mod Numbers

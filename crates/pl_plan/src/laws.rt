@@ -1,5 +1,6 @@
 // The laws over the definition of the unfolding: each is the contract of a function with an empty body.
-ghost use Rattle.pl_plan.specs.Laws.{UnfoldedIsChecked, FaultIsOfProgram};
+ghost use Rattle.pl_plan.specs.Laws.{UnfoldedIsChecked, FaultIsOfProgram, PlanIsUnfolded, FaultIsFirst};
+ghost use Rattle.pl_plan.specs.WorkedPrograms.{AreWorked, worked_faults, worked_plans};
 
 /// The plan to which a program unfolds is a checked plan.
 pub fn unfolded_is_checked()
@@ -9,4 +10,16 @@ pub fn unfolded_is_checked()
 /// A check fault has one of the ten kinds, and the number of a statement of the program.
 pub fn fault_is_of_program()
     ensures { FaultIsOfProgram }
+{}
+
+/// What the unfolding means, in other words than its computation: the visits of the tasks come one after the other, in order of the tasks and each task's as its statements stand; each passes the tests of the table in the state after those before it; and the first fault is the first failing row of the table at the first visit that fails one.
+pub fn unfolding_by_visits()
+    ensures plan { PlanIsUnfolded }
+    ensures fault { FaultIsFirst }
+{}
+
+/// Small programs with their plans, and with first faults that tell the orders of the tests.
+pub fn worked_programs()
+    ensures plans { AreWorked worked_plans }
+    ensures faults { AreWorked worked_faults }
 {}

@@ -1,7 +1,7 @@
 // The plan of a program.
 
-ghost use Rattle.std.specs.Prelude.{◌≡◌, ◌<◌, ◌^◌, IfOk};
-ghost use Rattle.pl_syntax.specs.Tree.{count};
+ghost use Rattle.std.specs.Prelude.{◌≡◌, ◌<◌, ◌≤◌, ◌^◌, IfOk};
+ghost use Rattle.pl_syntax.specs.Tree.{count, height};
 ghost use Rattle.pl_plan.specs.Unfolding.{plan_of};
 ghost use Rattle.pl_plan.specs.Planning.{Answers};
 
@@ -11,7 +11,7 @@ use crate::flatten::flatten_body;
 use crate::tasks::unfold_tasks;
 use armus_base::{Code, List, NoMemory, Op, Plan};
 use indexmap::IndexSet;
-use pl_syntax::Program;
+use pl_syntax::{MAX_OPEN_BRACES, Program};
 use std::alloc::Global;
 
 // Each list of ops as a code.
@@ -32,6 +32,7 @@ fn codes_of(alloc: Global, lists: Vec<List<Op>>) -> Result<List<Code>, NoMemory>
 /// it follows the rules of PL and the limits of `Plan`.
 pub fn plan(alloc: Global, program: &Program) -> Result<Plan, PlanEnd>
     requires few { count program.now.body < 2 ^ 32 }
+    requires shallow { height program.now.body ≤ MAX_OPEN_BRACES }
     ensures unfolded { Answers result (plan_of program.now.body) }
 {
     let mut names = IndexSet::new(alloc);

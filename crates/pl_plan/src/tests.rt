@@ -109,5 +109,7 @@ fn ops_of_each_task(rt: HostRuntime) -> Result<(), Fail> {
     }
     unfolded_is_checked();
     fault_is_of_program();
+    unfolding_by_visits();
+    worked_programs();
     Ok(())
 }

@@ -1,11 +1,10 @@
 -- The grammar of PL over tokens, and the first fault of a text that is not in it.
 use Rattle.std.specs.Prelude.{◌≡◌, ℕ, ◌+◌, ◌-◌, ◌≤◌, List, [], ◌∷◌, ◌++◌, length, Ok, Err}
 use Rattle.pl_syntax.specs.declared.limits.TheConstants.{MAX_OPEN_BRACES}
-use Rattle.pl_syntax.specs.declared.fault.TheConstants.{CANNOT_STAND, TOO_DEEP}
 use Rattle.pl_syntax.specs.declared.fault.SyntaxFault.{SyntaxFault}
 use Rattle.pl_syntax.specs.declared.token.Keyword.TheVariants as k
 use Rattle.pl_syntax.specs.declared.token.Sign.TheVariants.{Equals, OpenParen, CloseParen, Comma, Semicolon, OpenBrace, CloseBrace}
-use Rattle.pl_syntax.specs.Tokens.{Token, the_end, sign, word, name, number, front, place, Leads}
+use Rattle.pl_syntax.specs.Tokens.{Token, the_end, sign, word, name, number, kind_cannot_stand, kind_too_deep, front, place, Leads}
 use Rattle.pl_syntax.specs.Tree.{Tree, done, plain, fork, loop, Plain, new_task, new_phaser, reg, dereg, adv, await, skip, height}
 
 -- ---- the grammar: the tokens of each statement, before the tokens that follow it
@@ -78,7 +77,7 @@ pub record CannotStand (before : List Token) (total : ℕ) (text : List ℕ) (fa
   pub rest : List ℕ
   pub here : front total text ≡ Ok (token, rest)
   pub stands_not : Begins (before ++ token ∷ []) → ⊥
-  pub fault_is : fault ≡ record { at = place total text; kind = CANNOT_STAND }
+  pub fault_is : fault ≡ record { at = place total text; kind = kind_cannot_stand }
 
 -- a brace that could stand, if as many as may be were not open: kind 4
 pub record IsTooDeep (before : List Token) (total : ℕ) (text : List ℕ) (fault : SyntaxFault) : Type 0 where
@@ -86,7 +85,7 @@ pub record IsTooDeep (before : List Token) (total : ℕ) (text : List ℕ) (faul
   pub here : front total text ≡ Ok (sign OpenBrace, rest)
   pub stands : Begins (before ++ sign OpenBrace ∷ [])
   pub full : open_after 0 before ≡ MAX_OPEN_BRACES
-  pub fault_is : fault ≡ record { at = place total text; kind = TOO_DEEP }
+  pub fault_is : fault ≡ record { at = place total text; kind = kind_too_deep }
 
 -- behind the tokens before, the text goes on with a fault
 pub data IsAtFault (before : List Token) (total : ℕ) (text : List ℕ) (fault : SyntaxFault) : Type 0 where

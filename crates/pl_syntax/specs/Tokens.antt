@@ -3,7 +3,6 @@
 use Rattle.std.specs.Prelude.{◌≡◌, ℕ, ◌-◌, ◌==◌, Bool, ◌&&◌, ◌||◌, if◌then◌else◌, List, [], ◌∷◌, length, Option, Some, None, Result, Ok, Err, take, drop, nat_le}
 use Rattle.std.specs.List.{prefix_len, list_any}
 use Rattle.pl_syntax.specs.declared.limits.TheConstants.{MAX_NAME_BYTES}
-use Rattle.pl_syntax.specs.declared.fault.TheConstants.{NO_TOKEN, NO_NUMBER, TOO_LONG}
 use Rattle.pl_syntax.specs.declared.fault.SyntaxFault.{SyntaxFault}
 use Rattle.pl_syntax.specs.declared.token.Keyword.{Keyword}
 use Rattle.pl_syntax.specs.declared.token.Sign.{Sign}
@@ -17,6 +16,28 @@ pub data Token : Type 0 where
   word : Keyword → Token
   name : List ℕ → Token
   number : ℕ → Token
+
+-- ---- the kinds of faults
+
+-- a byte that begins no token, or a word with a capital letter or a first `_` that is no keyword
+abbrev pub kind_no_token : ℕ
+kind_no_token = 1
+
+-- a token that cannot stand where it stands
+abbrev pub kind_cannot_stand : ℕ
+kind_cannot_stand = 2
+
+-- a word that begins with a digit and is no number
+abbrev pub kind_no_number : ℕ
+kind_no_number = 3
+
+-- a `{` that would be one open brace too many
+abbrev pub kind_too_deep : ℕ
+kind_too_deep = 4
+
+-- a name with too many bytes
+abbrev pub kind_too_long : ℕ
+kind_too_long = 5
 
 -- ---- blanks and comments
 
@@ -45,12 +66,12 @@ sign_of b =
 
 -- a sign, or the kind of the fault of a byte that is none
 abbrev pub sign_token : Option Sign → Result Token ℕ
-sign_token None = Err NO_TOKEN
+sign_token None = Err kind_no_token
 sign_token (Some s) = Ok (sign s)
 
 -- a word that is no number and no keyword: a name, or the kind of its fault
 abbrev pub name_token : List ℕ → Result Token ℕ
-name_token w = if has_name_form w then (if nat_le (length w) MAX_NAME_BYTES then Ok (name w) else Err TOO_LONG) else Err NO_TOKEN
+name_token w = if has_name_form w then (if nat_le (length w) MAX_NAME_BYTES then Ok (name w) else Err kind_too_long) else Err kind_no_token
 
 -- a word that begins with no digit: a keyword where it is one
 abbrev pub letters_token : List ℕ → Option Keyword → Result Token ℕ
@@ -59,7 +80,7 @@ letters_token w (Some k) = Ok (word k)
 
 -- a word that begins with a digit: a number where it is one
 abbrev pub digits_token : Option ℕ → Result Token ℕ
-digits_token None = Err NO_NUMBER
+digits_token None = Err kind_no_number
 digits_token (Some k) = Ok (number k)
 
 -- what a word is, or the kind of its fault

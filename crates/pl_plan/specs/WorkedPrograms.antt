@@ -1,0 +1,113 @@
+-- Small programs with the plans to which they unfold, and with their first faults.
+use Rattle.std.specs.Prelude.{◌≡◌, ℕ, codes, List, [], ◌∷◌, Ok, Err, Some, None}
+use Rattle.pl_syntax.specs.Tree.{Tree, done, plain, fork, loop, new_task, new_phaser, reg, dereg, adv, await, skip}
+use Rattle.armus_base.specs.declared.op.Op.TheVariants as op
+use Rattle.armus_base.specs.Plans.{Plan}
+use Rattle.pl_plan.specs.Unfolding.{Outcome, plan_of, task, phaser}
+
+-- a program and what its unfolding answers
+pub record Example : Type 0 where
+  pub program : Tree
+  pub answer : Outcome Plan
+
+-- ---- programs, written backwards from what follows a statement
+
+abbrev p : List ℕ
+p = codes "p"
+
+abbrev q : List ℕ
+q = codes "q"
+
+abbrev s : List ℕ
+s = codes "s"
+
+abbrev t : List ℕ
+t = codes "t"
+
+-- this program has the plan with these parts
+abbrev unfolds : Tree → Plan → Example
+unfolds program plan = record { program = program; answer = Ok plan }
+
+-- this program's first fault is of this kind at this statement
+abbrev faults : Tree → ℕ → ℕ → Example
+faults program kind statement = record { program = program; answer = Err (record { kind = kind; statement = statement }) }
+
+-- each turn draws a task, with the names that the turn before left:
+-- p = newPhaser(); loop 2 { t = newTid(); reg(t, p); fork(t) { adv(p); } } await(p);
+abbrev turns : Example
+turns =
+    unfolds
+    (plain (new_phaser p) (loop 2 (plain (new_task t) (plain (reg t p) (fork t (plain (adv p) done) done))) (plain (await p) done)))
+    (record {
+      parents = None ∷ Some (task 0) ∷ Some (task 0) ∷ [];
+      makers = task 0 ∷ [];
+      codes =
+          (op.Make (phaser 0) ∷ op.Reg (task 1) (phaser 0) ∷ op.Fork (task 1) ∷ op.Reg (task 2) (phaser 0) ∷ op.Fork (task 2) ∷ op.Await (phaser 0) ∷ [])
+          ∷ (op.Adv (phaser 0) ∷ []) ∷ (op.Adv (phaser 0) ∷ []) ∷ [];
+    })
+
+-- a child has the names as they were at its fork:
+-- p = newPhaser(); t = newTid(); reg(t, p); fork(t) { adv(p); } p = newTid();
+abbrev names_at_the_fork : Example
+names_at_the_fork =
+    unfolds
+    (plain (new_phaser p) (plain (new_task t) (plain (reg t p) (fork t (plain (adv p) done) (plain (new_task p) done)))))
+    (record {
+      parents = None ∷ Some (task 0) ∷ Some (task 0) ∷ [];
+      makers = task 0 ∷ [];
+      codes = (op.Make (phaser 0) ∷ op.Reg (task 1) (phaser 0) ∷ op.Fork (task 1) ∷ []) ∷ (op.Adv (phaser 0) ∷ []) ∷ [] ∷ [];
+    })
+
+-- a task that no fork names has no code, and a body that is never unfolded is not checked:
+-- t = newTid(); loop 0 { adv(q); }
+abbrev never_unfolded : Example
+never_unfolded =
+    unfolds
+    (plain (new_task t) (loop 0 (plain (adv q) done) done))
+    (record { parents = None ∷ Some (task 0) ∷ []; makers = []; codes = [] ∷ [] ∷ [] })
+
+-- some programs with their plans
+abbrev pub worked_plans : List Example
+worked_plans = turns ∷ names_at_the_fork ∷ never_unfolded ∷ []
+
+-- some programs with their first faults, which tell the orders of the tests
+abbrev pub worked_faults : List Example
+worked_faults =
+    -- adv(q);
+    faults (plain (adv q) done) 1 1
+    -- loop 3 { skip; loop 0 { skip; skip; } skip; } adv(q);
+    ∷ faults (loop 3 (plain skip (loop 0 (plain skip (plain skip done)) (plain skip done))) (plain (adv q) done)) 1 7
+    -- p = newPhaser(); reg(p, q);
+    ∷ faults (plain (new_phaser p) (plain (reg p q) done)) 2 2
+    -- t = newTid(); fork(t) { reg(t, q); }
+    ∷ faults (plain (new_task t) (fork t (plain (reg t q) done) done)) 1 3
+    -- s = newTid(); t = newTid(); fork(t) { reg(t, s); }
+    ∷ faults (plain (new_task s) (plain (new_task t) (fork t (plain (reg t s) done) done))) 2 4
+    -- t = newTid(); fork(t) { } reg(t, q);
+    ∷ faults (plain (new_task t) (fork t done (plain (reg t q) done))) 1 3
+    -- p = newPhaser(); t = newTid(); s = newTid(); fork(t) { reg(s, p); }
+    ∷ faults (plain (new_phaser p) (plain (new_task t) (plain (new_task s) (fork t (plain (reg s p) done) done)))) 5 5
+    -- p = newPhaser(); t = newTid(); fork(t) { reg(t, p); }
+    ∷ faults (plain (new_phaser p) (plain (new_task t) (fork t (plain (reg t p) done) done))) 5 4
+    -- s = newTid(); t = newTid(); fork(s) { } fork(t) { fork(s) { } }
+    ∷ faults (plain (new_task s) (plain (new_task t) (fork s done (fork t (fork s done done) done)))) 5 5
+    -- p = newPhaser(); t = newTid(); dereg(p); fork(t) { } reg(t, p);
+    ∷ faults (plain (new_phaser p) (plain (new_task t) (plain (dereg p) (fork t done (plain (reg t p) done))))) 6 5
+    -- p = newPhaser(); dereg(p); adv(p);
+    ∷ faults (plain (new_phaser p) (plain (dereg p) (plain (adv p) done))) 3 3
+    -- p = newPhaser(); t = newTid(); reg(t, p); dereg(p); reg(t, p);
+    ∷ faults (plain (new_phaser p) (plain (new_task t) (plain (reg t p) (plain (dereg p) (plain (reg t p) done))))) 3 5
+    -- p = newPhaser(); t = newTid(); loop 2 { reg(t, p); }
+    ∷ faults (plain (new_phaser p) (plain (new_task t) (loop 2 (plain (reg t p) done) done))) 4 4
+    -- t = newTid(); fork(t) { adv(q); } adv(t);
+    ∷ faults (plain (new_task t) (fork t (plain (adv q) done) (plain (adv t) done))) 2 4
+    -- loop 1024 { t = newTid(); }
+    ∷ faults (loop 1024 (plain (new_task t) done) done) 7 2
+    -- loop 257 { p = newPhaser(); }
+    ∷ faults (loop 257 (plain (new_phaser p) done) done) 8 2
+    ∷ []
+
+-- each example's program unfolds to its answer
+abbrev pub AreWorked : List Example → Type 0
+AreWorked [] = Unit {0}
+AreWorked (e ∷ examples) = (plan_of e.program ≡ e.answer) × AreWorked examples
