@@ -19,3 +19,4 @@ pub mod Stopping
 pub mod WalkEnds
 pub mod WalkBounds
 pub mod WalkDone
+pub mod LeastMembers

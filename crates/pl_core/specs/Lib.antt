@@ -14,3 +14,4 @@ pub mod GivenPlaces
 pub mod Stops
 pub mod Walks
 pub mod Supposed
+pub mod LeastPhases

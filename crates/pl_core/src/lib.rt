@@ -1,7 +1,9 @@
 //! The plain machine: a plan, how far each task has come in it, and the state that these places fix.
 #![tactic(auto)]
 
+mod cell;
 mod effect;
+mod least;
 mod phase_table;
 mod place;
 mod stand;

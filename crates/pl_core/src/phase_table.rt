@@ -1,36 +1,23 @@
-// The phases of all tasks in one flat table.
-ghost use Rattle.std.specs.Prelude.{◌≡◌, ◌<◌, ◌+◌, ◌*◌, ◌^◌, None, IfOk, length, vec_len};
-ghost use Rattle.pl_core.specs.Cells.{phase_of_cell, FitsCell};
+// The phases of all tasks in one flat table, and the least phase of each phaser's members.
+ghost use Rattle.std.specs.Prelude.{◌≡◌, ◌↔◌, ℕ, ◌<◌, ◌≤◌, ◌*◌, ◌^◌, None, Some, IfOk, IsTrue, vec_len};
+ghost use Rattle.pl_core.specs.Cells.{FitsCell, phases_of_cells};
+ghost use Rattle.pl_core.specs.LeastPhases.{AreLeast};
 
+use crate::cell::{cell_of, phase_in};
+use crate::least::{Least, least_after, no_members};
 use armus_base::NoMemory;
 use std::alloc::Global;
 
-// What a cell says.
-fn phase_of(cell: u32) -> Option<u32>
-    ensures phase { result ≡ phase_of_cell cell }
-    ensures fits { FitsCell result }
-{
-    if cell == 0 { None } else { Some(cell - 1) }
-}
-
-// The cell that says this.
-fn cell_of(phase: Option<u32>) -> u32
-    requires { FitsCell phase }
-    ensures { phase_of_cell result ≡ phase }
-{
-    match phase {
-        Some(n) => n + 1,
-        None => 0,
-    }
-}
-
-// A cell is 0 where the task is no member, and else one more than its phase.
+// A cell is 0 where the task is no member, and else one more than its phase. Each phaser's member with the least phase is found anew only when
+// that one goes on, so that whether an event is reached is one comparison.
 #[derive(Drop)]
 pub(crate) struct PhaseTable {
     tasks: usize,
     phasers: usize,
     cells: Vec<u32>,
+    least: Vec<Option<Least>>,
     ghost sized: { vec_len cells ≡ tasks * phasers },
+    ghost least_kept: { AreLeast (phases_of_cells phasers cells.items) tasks phasers least.items },
 }
 
 impl PhaseTable {
@@ -45,10 +32,12 @@ impl PhaseTable {
         ensures empty { IfOk result (λ table. phases_in table ≡ (λ _ _. None)) }
     {
         let cells = vec![in alloc; 0u32; tasks * phasers]?;
+        let least = no_members(alloc, phasers)?;
         Ok(PhaseTable {
             tasks,
             phasers,
             cells,
+            least,
         })
     }
 
@@ -59,7 +48,7 @@ impl PhaseTable {
         ensures phase { result ≡ phases_in self.now t p }
         ensures fits { FitsCell result }
     {
-        phase_of(self.cells[t * self.phasers + p])
+        phase_in(&self.cells, self.tasks, self.phasers, t, p)
     }
 
     /// Sets the phase of task `t` on phaser `p`.
@@ -71,7 +60,9 @@ impl PhaseTable {
         ensures phasers { self.new.phasers ≡ self.old.phasers }
         ensures set { phases_in self.new ≡ with_phase (phases_in self.old) t p phase }
     {
+        let before = self.least[p];
         self.cells[t * self.phasers + p] = cell_of(phase);
+        self.least[p] = least_after(&self.cells, self.tasks, self.phasers, t, p, before);
     }
 
     /// Takes task `t` off all phasers.
@@ -83,6 +74,17 @@ impl PhaseTable {
     {
         for p in 0..self.phasers {
             self.set(t, p, None);
+        }
+    }
+
+    /// Whether each member of phaser `p` has phase `n` at least.
+    pub(crate) fn is_reached(&self, p: usize, n: u32) -> bool
+        requires phaser { p < self.now.phasers }
+        ensures { IsTrue result ↔ ((u m : ℕ) → u < self.now.tasks → phases_in self.now u p ≡ Some m → n ≤ m) }
+    {
+        match self.least[p] {
+            None => true,
+            Some(member) => n <= member.phase,
         }
     }
 }

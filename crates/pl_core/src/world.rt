@@ -195,10 +195,7 @@ impl<'p> World<'p> {
         requires reachable { IsReachable self.now.plan (places_of self.now) }
         ensures { IsTrue result ↔ IsReached (state_of self.now) event }
     {
-        match self.first_behind(event, 0) {
-            None => true,
-            Some(_) => false,
-        }
+        self.phases.is_reached(event.p.0 as usize, event.n)
     }
 
     /// Whether task `t` may go on: it stands before an op, or at an await, or waits on an event that is reached.

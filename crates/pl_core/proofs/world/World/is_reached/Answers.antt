@@ -1,14 +1,17 @@
-use Rattle.std.proofs.Common.{refl}
-use Rattle.std.proofs.lemmas.Bool.{false≢true}
-use Rattle.pl_core.proofs.GoingOn.{reached_if_ahead, unreached_if_behind}
+use Rattle.std.proofs.Common.{◌≡◌, ◌<◌, ◌∙◌, Some, arith, length, sym, ap}
+use Rattle.pl_core.specs.PhaseTables.{phases_in}
+use Rattle.pl_core.specs.Worlds.{state_of}
+use Rattle.pl_core.proofs.Bounds.{task_of_member}
 use Rattle.pl_core.proofs.world.World.is_reached.Goals as goal
 
-pub returns-in-None : goal.returns-in-None
-returns-in-None c =
-    (λ _. reached_if_ahead c.args.self.now c.requires.checked c.requires.reachable c.args.event c.in-None.ensures.first, λ _. refl)
-
-pub returns-in-Some : goal.returns-in-Some
-returns-in-Some c = (
-  λ h. absurd (false≢true h),
-  λ reached. absurd (unreached_if_behind c.args.self.now c.requires.checked c.requires.reachable c.args.event c.in-Some.field-0.0 c.in-Some.ensures.first.behind reached),
-)
+pub returns : goal.returns
+returns c =
+    let table = c.self.inside.phases in
+    let p = c.args.event.p.0 in
+    let same : phases_in table ≡ (state_of c.args.self.now).phases = c.self.invariant.phases ∙ ap (λ w. (state_of w).phases) c.self.view_is in
+    let rows : table.tasks ≡ length c.args.self.now.plan.parents = c.self.invariant.rows ∙ ap (λ w. length w.plan.parents) c.self.view_is in (
+      λ yes u m e.
+        let inside = task_of_member c.args.self.now c.requires.checked c.requires.reachable u p m e in
+        c.is_reached.ensures.0 yes u m (omega arith) (ap (λ f. f u p) same ∙ e),
+      λ reached. c.is_reached.ensures.1 (λ u m l e. reached u m (sym (ap (λ f. f u p) same) ∙ e)),
+    )

@@ -1,0 +1,6 @@
+use Rattle.pl_core.specs.Cells.{phases_of_cells}
+use Rattle.pl_core.specs.LeastPhases.{IsLeastBelow}
+use Rattle.pl_core.proofs.least.least_of_all.Given as goal
+
+abbrev pub invariant-loop-t : goal.invariant-loop-t
+invariant-loop-t l = IsLeastBelow (phases_of_cells l.phasers l.cells) l.p l.t l.least
