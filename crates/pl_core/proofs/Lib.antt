@@ -20,3 +20,4 @@ pub mod WalkEnds
 pub mod WalkBounds
 pub mod WalkDone
 pub mod LeastMembers
+pub mod HighestKept

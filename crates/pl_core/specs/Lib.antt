@@ -15,3 +15,4 @@ pub mod Stops
 pub mod Walks
 pub mod Supposed
 pub mod LeastPhases
+pub mod HighestPhases

@@ -3,6 +3,7 @@
 
 mod cell;
 mod effect;
+mod highest;
 mod least;
 mod phase_table;
 mod place;

@@ -15,7 +15,10 @@ ghost use Rattle.pl_core.specs.Reading.{is_asked};
 ghost use Rattle.pl_core.specs.Supposed.{with_also};
 ghost use Rattle.pl_core.specs.Tasks.{IsAtOp};
 
+mod impeding;
+
 use crate::effect::move_phases;
+use crate::highest::{highest_of, raise};
 use crate::phase_table::PhaseTable;
 use crate::task::{Task, first_tasks, op_at, task_at};
 use crate::walk::Walk;
@@ -32,6 +35,7 @@ pub struct World<'p> {
     plan: &'p Plan,
     tasks: Vec<Task>,
     phases: PhaseTable,
+    highest: Vec<u32>,
 }
 
 impl<'p> Model for World<'p> {
@@ -54,10 +58,12 @@ impl<'p> World<'p> {
         let count = plan.tasks() as usize;
         let phases = PhaseTable::new(alloc, count, plan.phasers() as usize)?;
         let tasks = first_tasks(alloc, count)?;
+        let highest = highest_of(alloc, &tasks, plan.phasers() as usize)?;
         Ok(World {
             plan,
             tasks,
             phases,
+            highest,
         })
     }
 
@@ -68,10 +74,12 @@ impl<'p> World<'p> {
         ensures at { IfOk result (λ world. IsAtPlaces plan.now places.now world) }
     {
         let walk = Walk::to_places(alloc, plan, places)?;
+        let highest = highest_of(alloc, &walk.tasks, plan.phasers() as usize)?;
         Ok(World {
             plan,
             tasks: walk.tasks,
             phases: walk.phases,
+            highest,
         })
     }
 
@@ -188,11 +196,9 @@ impl<'p> World<'p> {
         None
     }
 
-    // Whether the event is reached.
-    fn is_reached(&self, event: Event) -> bool
+    /// Whether the event is reached: each member of its phaser has its phase at least. It is one comparison.
+    pub fn is_reached(&self, event: Event) -> bool
         requires phaser { event.p.0 < length self.now.plan.makers }
-        requires checked { IsCheckedPlan self.now.plan }
-        requires reachable { IsReachable self.now.plan (places_of self.now) }
         ensures { IsTrue result ↔ IsReached (state_of self.now) event }
     {
         self.phases.is_reached(event.p.0 as usize, event.n)
@@ -255,6 +261,7 @@ impl<'p> World<'p> {
     {
         let at = t.0 as usize;
         self.tasks[at] = task_at(&self.tasks, at).after_block(event);
+        raise(&mut self.highest, event);
     }
 
     // Withdraws the event, which is reached.

@@ -12,8 +12,8 @@ returns-clause-next c =
     let read = subst (λ xs. slice_get xs c.args.t.0 ≡ Some task) c.deref.ensures.value c.task_at-task.ensures in
     let active = subst (λ (w : WorldValue). IsActive (state_of w) c.args.t.0) (sym c.self.view_is) c.requires.active in
     let plan = c.self.inside.plan.now in
-    let none = idle plan c.self.inside.tasks.items c.self.inside.phases c.self.invariant c.args.t.0 task read active.unpublished active.unrefused in
+    let none = idle plan c.self.inside.tasks.items c.self.inside.phases c.self.invariant.kept c.args.t.0 task read active.unpublished active.unrefused in
     subst (λ w. next_action w c.args.t.0 ≡ option_map action_of c.op_at.result) c.self.view_is
-    (next_of_idle plan c.self.inside.tasks.items c.self.inside.phases c.self.invariant c.args.t.0 task read none
+    (next_of_idle plan c.self.inside.tasks.items c.self.inside.phases c.self.invariant.kept c.args.t.0 task read none
     ∙ ap (λ ops. option_map action_of (slice_get ops task.op)) (sym c.code.ensures.code)
     ∙ ap (option_map action_of) (sym c.op_at.ensures))

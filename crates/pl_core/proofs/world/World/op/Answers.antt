@@ -11,5 +11,5 @@ returns c =
     let read = subst (λ xs. slice_get xs c.args.t.0 ≡ Some c.task_at.result) c.deref.ensures.value c.task_at.ensures in
     record {
       op = subst (λ (w : WorldValue). IsAtOp (code_of w.plan c.args.t.0) (places_of w c.args.t.0).done c.task_at.result.op) c.self.view_is
-          (at_op c.self.inside.plan.now c.self.inside.tasks.items c.self.inside.phases c.self.invariant c.args.t.0 c.task_at.result read);
+          (at_op c.self.inside.plan.now c.self.inside.tasks.items c.self.inside.phases c.self.invariant.kept c.args.t.0 c.task_at.result read);
     }

@@ -16,21 +16,21 @@ returns-then-task-clause-event c =
     let task = c.task_at-task.result in
     let read = subst (λ xs. slice_get xs c.args.t.0 ≡ Some task) c.deref.ensures.value c.task_at-task.ensures in
     subst (λ (w : WorldValue). None ≡ (state_of w).published c.args.t.0) c.self.view_is
-    (sym (published_none c.self.inside.plan.now c.self.inside.tasks.items c.self.inside.phases c.self.invariant c.args.t.0 task read c.if-task.true))
+    (sym (published_none c.self.inside.plan.now c.self.inside.tasks.items c.self.inside.phases c.self.invariant.kept c.args.t.0 task read c.if-task.true))
 
 pub returns-else-task-clause-event : goal.returns-else-task-clause-event
 returns-else-task-clause-event c =
     let task = c.task_at-task.result in
     let read = subst (λ xs. slice_get xs c.args.t.0 ≡ Some task) c.deref.ensures.value c.task_at-task.ensures in
     subst (λ (w : WorldValue). task.event ≡ (state_of w).published c.args.t.0) c.self.view_is
-    (sym (published_kept c.self.inside.plan.now c.self.inside.tasks.items c.self.inside.phases c.self.invariant c.args.t.0 task read c.if-task.false))
+    (sym (published_kept c.self.inside.plan.now c.self.inside.tasks.items c.self.inside.phases c.self.invariant.kept c.args.t.0 task read c.if-task.false))
 
 pub returns-else-task-clause-phaser : goal.returns-else-task-clause-phaser
 returns-else-task-clause-phaser c =
     let task = c.task_at-task.result in
     let read = subst (λ xs. slice_get xs c.args.t.0 ≡ Some task) c.deref.ensures.value c.task_at-task.ensures in
-    let kept = published_kept c.self.inside.plan.now c.self.inside.tasks.items c.self.inside.phases c.self.invariant c.args.t.0 task read c.if-task.false in
-    let bound = phaser_of_waiting (world_from c.self.inside.plan.now c.self.inside.tasks.items) c.self.invariant.checked c.self.invariant.reachable c.args.t.0 in
+    let kept = published_kept c.self.inside.plan.now c.self.inside.tasks.items c.self.inside.phases c.self.invariant.kept c.args.t.0 task read c.if-task.false in
+    let bound = phaser_of_waiting (world_from c.self.inside.plan.now c.self.inside.tasks.items) c.self.invariant.kept.checked c.self.invariant.kept.reachable c.args.t.0 in
     subst (λ (w : WorldValue). IfSome task.event (λ e. e.p.0 < length w.plan.makers)) c.self.view_is
     (subst (λ o. IfSome o (λ e. e.p.0 < length c.self.inside.plan.now.makers)) kept
     (if_some ((state_of (world_from c.self.inside.plan.now c.self.inside.tasks.items)).published c.args.t.0) (length c.self.inside.plan.now.makers) bound))
