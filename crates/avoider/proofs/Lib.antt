@@ -8,3 +8,4 @@ pub mod NobodyDies
 pub mod SamePlan
 pub mod RefusedInCycle
 pub mod OneOutcome
+pub mod OnNoCycle

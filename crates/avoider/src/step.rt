@@ -1,7 +1,7 @@
 // The step of a task that stands at an await, in a world where nobody is dead.
-ghost use Rattle.std.specs.Prelude.{◌≡◌, ◌<◌, length, IfOk, OnErr};
+ghost use Rattle.std.specs.Prelude.{◌≡◌, ◌<◌, length, IfOk, IsTrue, OnErr};
 ghost use Rattle.armus_base.specs.CheckedPlans.{IsCheckedPlan};
-ghost use Rattle.armus_base.specs.Deadlocks.{NobodyDead};
+ghost use Rattle.armus_base.specs.Deadlocks.{NobodyDead, WouldBeDead};
 ghost use Rattle.armus_base.specs.Runs.{IsReachable};
 ghost use Rattle.armus_base.specs.Statuses.{IsInOrder};
 ghost use Rattle.armus_base.specs.declared.event.Event.{Event};
@@ -20,6 +20,8 @@ use verdict::{Cycle, cycle};
 /// Decides on the await at which task `t` stands, in a world where nobody is dead: it is refused exactly where the task would be dead if it were
 /// published, and published otherwise, and nobody is dead after. A refusal has the cycle that a report would show with the task published. No
 /// clause depends on `wanted`, which is the graph that is asked. After `NoMemory` the world is as before.
+///
+/// Statuses are made and searched only where the task may lie on a cycle, which no look at the phasers alone excludes.
 pub fn avoid_step(
     alloc: Global,
     world: &mut World,
@@ -34,6 +36,10 @@ pub fn avoid_step(
     ensures same { OnErr result (world.new ≡ world.old) }
 {
     let event = event_before(world, t);
+    if is_on_no_cycle(world, t, event) {
+        world.step(t);
+        return Ok(Decision::Published(event));
+    }
     let list = world.statuses_if(alloc, t, event)?;
     match death_of(alloc, list.as_slice(), t, wanted)? {
         Some(cycle) => {
@@ -44,6 +50,26 @@ pub fn avoid_step(
             world.step(t);
             Ok(Decision::Published(event))
         }
+    }
+}
+
+// Whether a look at the phasers shows that the task, were it published on the event, would lie on no cycle: its event is reached, or it impedes
+// no event that a task awaits, or no published task impedes its event. Where nobody is dead, a dead task would lie on a cycle through itself.
+fn is_on_no_cycle(world: &World, t: TaskId, event: Event) -> bool
+    requires task { t.0 < length world.now.plan.parents }
+    requires phaser { event.p.0 < length world.now.plan.makers }
+    requires nobody { NobodyDead (state_of world.now) }
+    ensures { IsTrue result → WouldBeDead (state_of world.now) t.0 event → ⊥ }
+{
+    if world.is_reached(event) {
+        return true;
+    }
+    if world.impedes_nobody(t, event) {
+        return true;
+    }
+    match world.published_impeder(t, event) {
+        None => true,
+        Some(_) => false,
     }
 }
 

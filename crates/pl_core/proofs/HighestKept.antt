@@ -26,12 +26,15 @@ IsCovered task phasers highest = (e : Event) → task.place.refused ≡ false �
 -- a read of a changed list: at the place, or elsewhere
 set_read : {A : Type 0} (xs : List A) (k j : ℕ) (v x : A) → slice_get (set xs k v) j ≡ Some x → (j ≡ k × v ≡ x) ⊎ (j ≢ k × slice_get xs j ≡ Some x)
 set_read xs k j v x e = elim (cases_eq j k) [
-  | inl same ↦ inl (same, elim (cases_lt k (length xs)) [
-    | inl l ↦ (let here : slice_get (set xs k v) k ≡ Some x = subst (λ i. slice_get (set xs k v) i ≡ Some x) same e in let both : Some v ≡ Some x = sym (slice_get-set_same xs k v l) ∙ here in cc)
-    | inr past ↦
-        let long : length (set xs k v) ≤ j = (let n = length-set xs k v in omega arith) in
-        absurd (let none : None ≡ Some x = sym (slice_get_past (set xs k v) j long) ∙ e in cc)
-  ])
+  | inl same ↦ inl (
+    same,
+    elim (cases_lt k (length xs)) [
+      | inl l ↦ (let here : slice_get (set xs k v) k ≡ Some x = subst (λ i. slice_get (set xs k v) i ≡ Some x) same e in let both : Some v ≡ Some x = sym (slice_get-set_same xs k v l) ∙ here in cc)
+      | inr past ↦
+          let long : length (set xs k v) ≤ j = (let n = length-set xs k v in omega arith) in
+          absurd (let none : None ≡ Some x = sym (slice_get_past (set xs k v) j long) ∙ e in cc)
+    ],
+  )
   | inr other ↦ inr (other, sym (slice_get-set_other xs k j v other) ∙ e)
 ]
 

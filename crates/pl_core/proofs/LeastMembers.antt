@@ -42,37 +42,37 @@ least_at f tasks phasers least kept p (Some x) e = (kept.within p x e, kept.ther
 
 -- one phaser's column changed, and what is kept of it
 module _
-  (f g : ℕ → Phases) (tasks phasers : ℕ) (least : List (Option Least)) (kept : AreLeast f tasks phasers least) (p : ℕ) (o : Option Least) (inside : p < phasers)
-  (here : IsLeastBelow g p tasks o) (others : (u q : ℕ) → q ≢ p → g u q ≡ f u q)
+    (f g : ℕ → Phases) (tasks phasers : ℕ) (least : List (Option Least)) (kept : AreLeast f tasks phasers least) (p : ℕ) (o : Option Least) (inside : p < phasers)
+    (here : IsLeastBelow g p tasks o) (others : (u q : ℕ) → q ≢ p → g u q ≡ f u q)
   where
-  read_other : (q : ℕ) (x : Option Least) → slice_get (set least p o) q ≡ Some x → q ≢ p → slice_get least q ≡ Some x
-  read_other q x e n = sym (slice_get-set_other least p q o n) ∙ e
+    read_other : (q : ℕ) (x : Option Least) → slice_get (set least p o) q ≡ Some x → q ≢ p → slice_get least q ≡ Some x
+    read_other q x e n = sym (slice_get-set_other least p q o n) ∙ e
 
-  -- what is read at the changed place is what was written
-  written : (q : ℕ) (x : Option Least) → slice_get (set least p o) q ≡ Some x → q ≡ p → o ≡ x
-  written q x e same =
-      let within : p < length least = (let sized = kept.one_each in omega arith) in
-      let read : slice_get (set least p o) p ≡ Some x = subst (λ v. slice_get (set least p o) v ≡ Some x) same e in
-      (let both : Some o ≡ Some x = sym (slice_get-set_same least p o within) ∙ read in cc)
+    -- what is read at the changed place is what was written
+    written : (q : ℕ) (x : Option Least) → slice_get (set least p o) q ≡ Some x → q ≡ p → o ≡ x
+    written q x e same =
+        let within : p < length least = (let sized = kept.one_each in omega arith) in
+        let read : slice_get (set least p o) p ≡ Some x = subst (λ v. slice_get (set least p o) v ≡ Some x) same e in
+        (let both : Some o ≡ Some x = sym (slice_get-set_same least p o within) ∙ read in cc)
 
-  told : (q : ℕ) (x : Option Least) → slice_get (set least p o) q ≡ Some x → IsLeastBelow g q tasks x
-  told q x e = elim (cases_eq q p) [
-    | inl same ↦ subst (λ v. IsLeastBelow g v tasks x) (sym same) (subst (λ y. IsLeastBelow g p tasks y) (written q x e same) here)
-    | inr other ↦ carried x (least_at f tasks phasers least kept q x (read_other q x e other)) other
-  ]
-    where
-      carried : (y : Option Least) → IsLeastBelow f q tasks y → q ≢ p → IsLeastBelow g q tasks y
-      carried None h n = λ u l. others u q n ∙ h u l
-      carried (Some l) h n = (h.0, others l.task q n ∙ h.1, λ u m i a. h.2 u m i (sym (others u q n) ∙ a))
+    told : (q : ℕ) (x : Option Least) → slice_get (set least p o) q ≡ Some x → IsLeastBelow g q tasks x
+    told q x e = elim (cases_eq q p) [
+      | inl same ↦ subst (λ v. IsLeastBelow g v tasks x) (sym same) (subst (λ y. IsLeastBelow g p tasks y) (written q x e same) here)
+      | inr other ↦ carried x (least_at f tasks phasers least kept q x (read_other q x e other)) other
+    ]
+      where
+        carried : (y : Option Least) → IsLeastBelow f q tasks y → q ≢ p → IsLeastBelow g q tasks y
+        carried None h n = λ u l. others u q n ∙ h u l
+        carried (Some l) h n = (h.0, others l.task q n ∙ h.1, λ u m i a. h.2 u m i (sym (others u q n) ∙ a))
 
-  pub least_set : AreLeast g tasks phasers (set least p o)
-  least_set = record {
-    one_each = length-set least p o ∙ kept.one_each;
-    within = λ q l e. (told q (Some l) e).0;
-    there = λ q l e. (told q (Some l) e).1;
-    bound = λ q u m l e i h. (told q (Some l) e).2 u m i h;
-    none = λ q u e l. told q None e u l;
-  }
+    pub least_set : AreLeast g tasks phasers (set least p o)
+    least_set = record {
+      one_each = length-set least p o ∙ kept.one_each;
+      within = λ q l e. (told q (Some l) e).0;
+      there = λ q l e. (told q (Some l) e).1;
+      bound = λ q u m l e i h. (told q (Some l) e).2 u m i h;
+      none = λ q u e l. told q None e u l;
+    }
 
 -- no member of a new table
 pub least_new : (f : ℕ → Phases) (tasks phasers : ℕ) (least : List (Option Least)) → length least ≡ phasers → ((u p : ℕ) → f u p ≡ None) →

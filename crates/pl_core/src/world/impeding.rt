@@ -1,7 +1,7 @@
 // Whom a task impedes, and who impedes an event.
 ghost use Rattle.std.specs.Prelude.{◌≡◌, ℕ, ◌<◌, ◌≤◌, IsTrue, MatchBool, MatchOption, length};
 ghost use Rattle.pl_core.specs.HighestPhases.{ImpedesNobody, IsPublishedImpeder, highest_at};
-ghost use Rattle.pl_core.specs.Supposed.{if_published};
+ghost use Rattle.armus_base.specs.States.{if_published};
 ghost use Rattle.pl_core.specs.Worlds.{state_of};
 
 use super::World;
@@ -62,7 +62,10 @@ impl<'p> World<'p> {
         ensures { MatchBool result (IsPublishedImpeder (if_published (state_of self.now) t.0 event) event u.0)
             (IsPublishedImpeder (if_published (state_of self.now) t.0 event) event u.0 → ⊥) }
     {
-        match (self.published_or(u, Some((t, event))), self.phase(event.p, u)) {
+        match (
+            self.published_or(u, Some((t, event))),
+            self.phase(event.p, u),
+        ) {
             (Some(_), Some(n)) => n < event.n,
             _ => false,
         }

@@ -7,7 +7,7 @@ use Rattle.pl_core.specs.Worlds.{state_of}
 use Rattle.avoider.specs.Decisions.{ExplainsDeath}
 use Rattle.avoider.proofs.NobodyDies.{block_kills_nobody, refusal_kills_nobody}
 use Rattle.avoider.proofs.RefusedInCycle.{refused_in_cycle}
-use Rattle.avoider.proofs.Supposing.{supposed_in_order, told_by_statuses}
+use Rattle.avoider.proofs.Supposing.{phaser_of_await, supposed_in_order, told_by_statuses}
 use Rattle.avoider.proofs.step.avoid_step.Goals as goal
 
 pub death_of-requires : goal.death_of-requires
@@ -52,7 +52,7 @@ returns-clause-decision c =
           none
           (subst (λ ss. IsDeadBy ss c.args.t.0) (sym list)
           ((told_by_statuses w at.checked at.reachable c.args.t.0 c.requires.task event).1 would));
-      step = c.step.ensures;
+      step = c.step-in-None.ensures;
     }
 
 pub returns-clause-nobody : goal.returns-clause-nobody
@@ -67,4 +67,15 @@ returns-clause-nobody c =
     none
     (subst (λ ss. IsDeadBy ss c.args.t.0) (sym list)
     ((told_by_statuses w at.checked at.reachable c.args.t.0 c.requires.task event).1 would)) in
-    block_kills_nobody w c.step.new.self at.checked at.reachable c.args.t.0 c.requires.nobody event at.before alive c.step.ensures
+    block_kills_nobody w c.step-in-None.new.self at.checked at.reachable c.args.t.0 c.requires.nobody event at.before alive c.step-in-None.ensures
+
+pub is_on_no_cycle-requires-clause-phaser : goal.is_on_no_cycle-requires-clause-phaser
+is_on_no_cycle-requires-clause-phaser c =
+    let at = c.event_before-event.ensures in
+    phaser_of_await c.args.world.now at.checked at.reachable c.args.t.0 c.event_before-event.result at.before
+
+pub returns-then-is_on_no_cycle-clause-nobody : goal.returns-then-is_on_no_cycle-clause-nobody
+returns-then-is_on_no_cycle-clause-nobody c =
+    let at = c.event_before-event.ensures in
+    block_kills_nobody c.args.world.now c.step.new.self at.checked at.reachable c.args.t.0 c.requires.nobody c.event_before-event.result at.before
+    (c.is_on_no_cycle.ensures c.if-is_on_no_cycle.true) c.step.ensures

@@ -10,5 +10,5 @@ invariant-loop-k l =
     record {
       len : length l.highest.items ≡ l.phasers;
       bound : (t : ℕ) (task : Task) (e : Event) → t < l.k → slice_get l.tasks t ≡ Some task → task.place.refused ≡ false → task.event ≡ Some e → e.p.0 < l.phasers →
-      e.n ≤ highest_at l.highest.items e.p.0;
+          e.n ≤ highest_at l.highest.items e.p.0;
     }

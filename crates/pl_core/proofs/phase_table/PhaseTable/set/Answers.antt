@@ -19,7 +19,7 @@ least_after-requires-clause-before c =
     let kept = table.least_kept in
     let inside : c.args.p < length table.least.items = (let sized = kept.one_each in let phaser = c.requires.phaser in omega arith) in
     let read : slice_get table.least.items c.args.p ≡ Some c.index-before.result.now =
-        slice_get_read table.least.items (length table.least.items) c.args.p c.index-before.result.now refl inside c.index-before.ensures in
+    slice_get_read table.least.items (length table.least.items) c.args.p c.index-before.result.now refl inside c.index-before.ensures in
     let changed = ap (phases_of_cells table.phasers) c.deref.ensures.value ∙ cell_set table.phasers table.cells.items c.args.t c.args.p c.cell_of.result c.requires.phaser within in (
       f,
       least_at f table.tasks table.phasers table.least.items kept c.args.p c.index-before.result.now read,

@@ -26,10 +26,10 @@ invariant_of-self c =
           highest_set c.self.inside.tasks.items (length c.self.inside.plan.now.makers) c.self.inside.highest.items c.raise.new.highest.items c.args.t.0 c.after_block.result c.self.invariant.highest
           c.raise.ensures.len c.raise.ensures.keeps
           (λ e unrefused is inside.
-            let same : e ≡ c.args.event = (let both : Some c.args.event ≡ Some e = sym (ap (λ v. v.event) c.after_block.ensures) ∙ is in cc) in
-            let sized = c.self.invariant.highest.one_each in
-            let within : c.args.event.p.0 < length c.self.inside.highest.items = (let at = ap (λ v. v.p.0) same in omega arith) in
-            subst (λ v. v.n ≤ highest_at c.raise.new.highest.items v.p.0) (sym same) (c.raise.ensures.reaches within));
+          let same : e ≡ c.args.event = (let both : Some c.args.event ≡ Some e = sym (ap (λ v. v.event) c.after_block.ensures) ∙ is in cc) in
+          let sized = c.self.invariant.highest.one_each in
+          let within : c.args.event.p.0 < length c.self.inside.highest.items = (let at = ap (λ v. v.p.0) same in omega arith) in
+          subst (λ v. v.n ≤ highest_at c.raise.new.highest.items v.p.0) (sym same) (c.raise.ensures.reaches within));
     }
 
 pub returns : goal.returns

@@ -15,7 +15,7 @@ returns c =
     let reachable = subst (λ w. IsReachable w.plan (places_of w)) c.self.view_is c.self.invariant.kept.reachable in
     let rows : table.tasks ≡ length c.args.self.now.plan.parents = c.self.invariant.kept.rows ∙ ap (λ w. length w.plan.parents) c.self.view_is in (
       λ yes u m e.
-        let inside = task_of_member c.args.self.now checked reachable u p m e in
-        c.is_reached.ensures.0 yes u m (omega arith) (ap (λ f. f u p) same ∙ e),
+          let inside = task_of_member c.args.self.now checked reachable u p m e in
+          c.is_reached.ensures.0 yes u m (omega arith) (ap (λ f. f u p) same ∙ e),
       λ reached. c.is_reached.ensures.1 (λ u m l e. reached u m (sym (ap (λ f. f u p) same) ∙ e)),
     )

@@ -1,7 +1,7 @@
 use Rattle.std.proofs.Common.{◌≡◌, ◌∙◌, ap, arith, inl, inr, length, subst}
 use Rattle.std.proofs.lemmas.Bool.{cases_eq}
 use Rattle.pl_core.specs.HighestPhases.{IsPublishedImpeder}
-use Rattle.pl_core.specs.Supposed.{if_published}
+use Rattle.armus_base.specs.States.{if_published}
 use Rattle.pl_core.specs.Worlds.{WorldValue, state_of}
 use Rattle.pl_core.proofs.Bounds.{task_of_member}
 use Rattle.pl_core.proofs.HighestKept.{checked_there, reachable_there}

@@ -1,0 +1,14 @@
+use Rattle.std.proofs.Common.{refl, sym}
+use Rattle.pl_core.specs.Worlds.{state_of}
+use Rattle.avoider.proofs.OnNoCycle.{lives_impeding_nobody, lives_reached, lives_unimpeded}
+use Rattle.avoider.proofs.step.is_on_no_cycle.Goals as goal
+
+pub returns-then-is_reached : goal.returns-then-is_reached
+returns-then-is_reached c = λ _. lives_reached (state_of c.args.world.now) c.args.t.0 c.args.event (c.is_reached.ensures.0 c.if-is_reached.true)
+
+pub returns-then-impedes_nobody : goal.returns-then-impedes_nobody
+returns-then-impedes_nobody c = λ _. λ would.
+    lives_impeding_nobody (state_of c.args.world.now) c.args.t.0 c.args.event c.requires.nobody (c.impedes_nobody.ensures c.if-impedes_nobody.true) would
+
+pub returns-in-None : goal.returns-in-None
+returns-in-None c = λ _. lives_unimpeded (state_of c.args.world.now) c.args.t.0 c.args.event c.in-None.ensures
