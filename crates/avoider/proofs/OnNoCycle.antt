@@ -1,9 +1,9 @@
 -- When a task would not be dead: its event is impeded by no published task, or it impedes no event on which one is published.
-use Rattle.std.proofs.Common.{◌≡◌, ◌≢◌, ℕ, ◌<◌, ◌≤◌, Bool, true, false, ◌==◌, if◌then◌else◌, Some, arith, ap, sym, ◌∙◌, subst, refl}
+use Rattle.std.proofs.Common.{◌≡◌, ◌≢◌, ℕ, ◌<◌, Bool, true, false, ◌==◌, if◌then◌else◌, Some, arith, sym, ◌∙◌, subst, refl}
 use Rattle.std.proofs.lemmas.Bool.Decides.{nat_tests}
 use Rattle.armus_base.specs.declared.event.Event.{Event}
-use Rattle.armus_base.specs.Deadlocks.{IsAtPhase, IsDead, IsDeadIn, IsImpededWithin, IsPublishedOn, NobodyDead, WouldBeDead}
-use Rattle.armus_base.specs.States.{IsReached, State, if_published, updated}
+use Rattle.armus_base.specs.Deadlocks.{IsAtPhase, IsImpededWithin, IsPublishedOn, NobodyDead, WouldBeDead}
+use Rattle.armus_base.specs.States.{IsReached, State, if_published}
 use Rattle.armus_base.proofs.Steps.{updated_other, updated_same}
 use Rattle.pl_core.specs.HighestPhases.{ImpedesNobody, IsPublishedImpeder}
 

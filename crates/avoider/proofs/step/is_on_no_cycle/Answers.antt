@@ -1,4 +1,3 @@
-use Rattle.std.proofs.Common.{refl, sym}
 use Rattle.pl_core.specs.Worlds.{state_of}
 use Rattle.avoider.proofs.OnNoCycle.{lives_impeding_nobody, lives_reached, lives_unimpeded}
 use Rattle.avoider.proofs.step.is_on_no_cycle.Goals as goal

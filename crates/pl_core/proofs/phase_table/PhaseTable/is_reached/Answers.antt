@@ -1,8 +1,7 @@
-use Rattle.std.proofs.Common.{◌≡◌, ◌<◌, ◌≤◌, ◌∙◌, Some, arith, length, sym, vec_len, ap, refl, rules}
+use Rattle.std.proofs.Common.{◌≡◌, ◌<◌, ◌∙◌, Some, arith, length, ap, refl}
 use Rattle.std.proofs.lemmas.Bool.{le-leb, leb-true}
 use Rattle.std.specs.Prelude.{slice_get}
 use Rattle.std.proofs.lemmas.Option.{slice_get_read}
-use Rattle.pl_core.specs.PhaseTables.{phases_in}
 use Rattle.pl_core.proofs.phase_table.PhaseTable.is_reached.Goals as goal
 
 pub returns-in-Some : goal.returns-in-Some

@@ -1,4 +1,4 @@
-use Rattle.std.proofs.Common.{Some, ap, arith, length, set, subst, sym, ◌<◌, ◌∙◌, ◌≡◌, ◌≤◌}
+use Rattle.std.proofs.Common.{Some, ap, length, set, subst, sym, ◌≡◌}
 use Rattle.std.specs.Prelude.{slice_get}
 use Rattle.armus_base.specs.States.{IsActive}
 use Rattle.pl_core.specs.Moves.{MakesStep}

@@ -1,4 +1,4 @@
-use Rattle.std.proofs.Common.{Some, ap, arith, length, set, subst, sym, vec_len, ◌<◌, ◌∙◌, ◌≡◌, ◌≤◌}
+use Rattle.std.proofs.Common.{Some, ap, arith, length, set, subst, sym, vec_len, ◌<◌, ◌≡◌}
 use Rattle.std.specs.Prelude.{slice_get}
 use Rattle.armus_base.specs.Plans.{Forks}
 use Rattle.armus_base.specs.States.{IsActive}

@@ -1,4 +1,4 @@
-use Rattle.std.proofs.Common.{◌≡◌, ◌<◌, ◌∙◌, Some, arith, length, subst, sym, ap}
+use Rattle.std.proofs.Common.{◌≡◌, ◌∙◌, arith, length, subst, sym, ap}
 use Rattle.pl_core.specs.PhaseTables.{phases_in}
 use Rattle.armus_base.specs.CheckedPlans.{IsCheckedPlan}
 use Rattle.armus_base.specs.Runs.{IsReachable}
