@@ -10,3 +10,4 @@ pub mod SerialEnds
 pub mod RecordedTexts
 pub mod RecordsReplay
 pub mod InputsMet
+pub mod CallsMet

@@ -1,11 +1,12 @@
--- Each input of a command has an answer.
-use Rattle.std.specs.Prelude.{◌≤◌, ℕ, Option, Some, None, [], ◌≡◌, length}
+-- Each call has an answer: words have a meaning, and each input of a command has a whole output.
+use Rattle.std.specs.Prelude.{◌≤◌, ◌⊎◌, ℕ, List, Option, Some, None, [], ◌≡◌, length}
 use Rattle.armus_words.specs.declared.command.Command.{Command}
 use Rattle.armus_words.specs.declared.command.Command.TheVariants.{Gen}
 use Rattle.armus_words.specs.declared.table.TheConstants.{MAX_GENERATED}
 use Rattle.armus_top.specs.Texts.{Text}
 use Rattle.armus_top.specs.Commands.{limit_of}
-use Rattle.armus_top.specs.Headline.{Answers}
+use Rattle.armus_top.specs.Headline.{Answers, GaveTooMuch, HasInput, Passage, Permits}
+use Rattle.armus_top.specs.Meanings.{Means}
 
 -- the input is no longer than the command takes, or empty where it takes none
 abbrev pub Fits : Option ℕ → Text → Type 0
@@ -21,3 +22,14 @@ MayGenerate _ = Unit {0}
 abbrev pub EachInputIsMet : Type 0
 EachInputIsMet =
     (c : Command) (input : Text) → Fits (limit_of c) input → MayGenerate c → (status : ℕ) × (text : Text) × Answers c input status text
+
+-- the source has given all that the command reads: its whole input, or more than it takes
+abbrev pub HasGiven : Option Command → Passage → Type 0
+HasGiven None src = Unit {0}
+HasGiven (Some c) src = ((input : Text) × HasInput (limit_of c) src input) ⊎ GaveTooMuch (limit_of c) src
+
+-- words mean a command or none, and then some whole output with its status is permitted, whatever the source has given
+abbrev pub EachCallIsMet : Type 0
+EachCallIsMet =
+    (words : List Text) → (meaning : Option Command) × Means words meaning
+    × ((src : Passage) → HasGiven meaning src → (status : ℕ) × (text : Text) × Permits meaning src status text)

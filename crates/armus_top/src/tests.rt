@@ -41,7 +41,36 @@ fn words_of(alloc: Global, texts: &[&str]) -> Result<Vec<String>, AllocError> {
     Ok(all)
 }
 
+// Pieces, each as often as it says, one behind the other.
+fn repeated(alloc: Global, pieces: &[(&[u8], usize)]) -> Result<List<u8>, AllocError> {
+    let mut all = Vec::new(alloc);
+    for (piece, count) in pieces {
+        for _ in 0..*count {
+            all.extend_from_slice(piece)?;
+        }
+    }
+    Ok(List::from_vec(all))
+}
+
 // The words on this input end with this output and this status.
+fn expect_on<R: Abort + Threads + Wait + Sync>(
+    rt: &R,
+    alloc: Global,
+    given: &[&str],
+    input: List<u8>,
+    output: &str,
+    status: u8,
+) -> Result<(), Fail> {
+    let mut src = MemSource::new(input, 4000, calls(alloc, &[])?);
+    let mut out = MemSink::new(alloc, 1000, 16, calls(alloc, &[])?)?;
+    let all = words_of(alloc, given)?;
+    let ended = armus(rt, alloc, all.as_slice(), &mut src, &mut out, &Still);
+    assert_eq!(rt; ended, status, "with {output}");
+    assert_eq!(rt; out.taken(), output.as_bytes(), "with {output}");
+    Ok(())
+}
+
+// The same on a text.
 fn expect<R: Abort + Threads + Wait + Sync>(
     rt: &R,
     alloc: Global,
@@ -50,11 +79,5 @@ fn expect<R: Abort + Threads + Wait + Sync>(
     output: &str,
     status: u8,
 ) -> Result<(), Fail> {
-    let mut src = MemSource::new(bytes(alloc, input)?, 7, calls(alloc, &[])?);
-    let mut out = MemSink::new(alloc, 1000, 16, calls(alloc, &[])?)?;
-    let all = words_of(alloc, given)?;
-    let ended = armus(rt, alloc, all.as_slice(), &mut src, &mut out, &Still);
-    assert_eq!(rt; ended, status, "on {input}");
-    assert_eq!(rt; out.taken(), output.as_bytes(), "on {input}");
-    Ok(())
+    expect_on(rt, alloc, given, bytes(alloc, input)?, output, status)
 }

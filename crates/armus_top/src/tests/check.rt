@@ -1,90 +1,157 @@
 // The rows of `check`.
-use super::{AVERAGING, expect};
+use super::{AVERAGING, expect, expect_on, repeated};
 use std::test::Fail;
+
+// Programs that are accepted, and the counts of their plans.
+const ACCEPTED: [(&str, &str); 6] = [
+    ("", "tasks 1 phasers 0 ops 0\n"),
+    (AVERAGING, "tasks 4 phasers 2 ops 43\n"),
+    ("loop 1023 { t = newTid(); }", "tasks 1024 phasers 0 ops 0\n"),
+    ("loop 256 { p = newPhaser(); }", "tasks 1 phasers 256 ops 256\n"),
+    ("p = newPhaser();", "tasks 1 phasers 1 ops 1\n"),
+    ("skip\t;\r\nskip;", "tasks 1 phasers 0 ops 0\n"),
+];
+
+// Texts with a fault, and what is told of it: kind and place in the syntax, kind and statement in the check.
+const REFUSED: [(&str, &str); 37] = [
+    ("adv(P);", "refused syntax 1 at 4\n"),
+    ("/", "refused syntax 1 at 0\n"),
+    ("skip;\u{b}", "refused syntax 1 at 5\n"),
+    ("p = newPhaser();\nadv(p", "refused syntax 2 at 22\n"),
+    ("fork = newTid();", "refused syntax 2 at 5\n"),
+    ("}", "refused syntax 2 at 0\n"),
+    ("fork(x) {", "refused syntax 2 at 9\n"),
+    ("loop 65536 { }", "refused syntax 3 at 5\n"),
+    ("loop 00 { }", "refused syntax 3 at 5\n"),
+    // the first bytes of `p = newPhaser();`
+    ("p", "refused syntax 2 at 1\n"),
+    ("p =", "refused syntax 2 at 3\n"),
+    ("p = ", "refused syntax 2 at 4\n"),
+    ("p = n", "refused syntax 2 at 4\n"),
+    ("p = new", "refused syntax 2 at 4\n"),
+    ("p = newP", "refused syntax 1 at 4\n"),
+    ("p = newPhase", "refused syntax 1 at 4\n"),
+    ("p = newPhaser", "refused syntax 2 at 13\n"),
+    ("p = newPhaser()", "refused syntax 2 at 15\n"),
+    // each kind of the check
+    ("adv(q);", "refused check 1 statement 1\n"),
+    ("t = newTid(); adv(t);", "refused check 2 statement 2\n"),
+    ("p = newPhaser(); dereg(p); adv(p);", "refused check 3 statement 3\n"),
+    (
+        "p = newPhaser(); t = newTid(); reg(t, p); reg(t, p);",
+        "refused check 4 statement 4\n",
+    ),
+    (
+        "p = newPhaser(); s = newTid(); t = newTid(); fork(t) { fork(s) { } }",
+        "refused check 5 statement 5\n",
+    ),
+    (
+        "p = newPhaser(); t = newTid(); fork(t) { } reg(t, p);",
+        "refused check 6 statement 4\n",
+    ),
+    ("loop 1024 { t = newTid(); }", "refused check 7 statement 2\n"),
+    ("loop 257 { p = newPhaser(); }", "refused check 8 statement 2\n"),
+    (
+        "loop 65535 { loop 65535 { } }",
+        "refused check 10 statement 2\n",
+    ),
+    // the order of the tests of one statement
+    (
+        "p = newPhaser(); t = newTid(); reg(t, p); dereg(p); reg(t, p);",
+        "refused check 3 statement 5\n",
+    ),
+    (
+        "t = newTid(); fork(t) { reg(t, q); }",
+        "refused check 1 statement 3\n",
+    ),
+    (
+        "s = newTid(); t = newTid(); fork(t) { reg(t, s); }",
+        "refused check 2 statement 4\n",
+    ),
+    (
+        "t = newTid(); fork(t) { } reg(t, q);",
+        "refused check 1 statement 3\n",
+    ),
+    (
+        "p = newPhaser(); t = newTid(); s = newTid(); fork(t) { reg(s, p); }",
+        "refused check 5 statement 5\n",
+    ),
+    (
+        "loop 256 { p = newPhaser(); } loop 65472 { adv(p); adv(p); adv(p); adv(p); } p = newPhaser();",
+        "refused check 8 statement 8\n",
+    ),
+    ("t = newTid(); reg(q, t);", "refused check 1 statement 2\n"),
+    (
+        "p = newPhaser(); reg(p, q);",
+        "refused check 2 statement 2\n",
+    ),
+    (
+        "p = newPhaser(); t = newTid(); dereg(p); fork(t) { } reg(t, p);",
+        "refused check 6 statement 5\n",
+    ),
+    (
+        "p = newPhaser(); loop 2 { dereg(p); }",
+        "refused check 3 statement 3\n",
+    ),
+];
+
+// Programs, and how they are printed.
+const PRINTED: [(&str, &str); 2] = [("loop 2{skip;}//x", "loop 2 {\n  skip;\n}\n"), ("", "")];
 
 #[test]
 fn rows_of_check(rt: HostRuntime) -> Result<(), Fail> {
-    let rows: [(&[&str], &str, &str, u8); 17] = [
+    for (input, output) in ACCEPTED {
+        expect(&rt, rt.alloc(), &["check"], input, output, 0)?;
+    }
+    for (input, output) in REFUSED {
+        expect(&rt, rt.alloc(), &["check"], input, output, 3)?;
+        expect(&rt, rt.alloc(), &["check", "--print"], input, output, 3)?;
+    }
+    for (input, output) in PRINTED {
+        expect(&rt, rt.alloc(), &["check", "--print"], input, output, 0)?;
+    }
+    Ok(())
+}
+
+// Texts of repeated pieces at a limit, and one more: meetings, ops, open braces, bytes of a name, bytes that are no text.
+#[test]
+fn rows_at_limits(rt: HostRuntime) -> Result<(), Fail> {
+    let rows: [(&[(&[u8], usize)], &str, u8); 11] = [
         (
-            &["check"],
-            "loop 1023 { t = newTid(); }",
-            "tasks 1024 phasers 0 ops 0\n",
+            &[(b"loop 65535 { ", 1), (b"skip;", 15), (b" }", 1), (b"skip;", 15)],
+            "tasks 1 phasers 0 ops 0\n",
             0,
         ),
         (
-            &["check"],
-            "loop 1024 { t = newTid(); }",
-            "refused check 7 statement 2\n",
+            &[(b"loop 65535 { ", 1), (b"skip;", 15), (b" }", 1), (b"skip;", 16)],
+            "refused check 10 statement 32\n",
             3,
         ),
         (
-            &["check"],
-            "p = newPhaser();\nadv(p",
-            "refused syntax 2 at 22\n",
+            &[(b"loop 65535 { ", 1), (b"skip;", 15), (b" }", 1), (b"skip;", 15), (b"adv(z);", 1)],
+            "refused check 10 statement 32\n",
             3,
         ),
-        (&["check"], AVERAGING, "tasks 4 phasers 2 ops 43\n", 0),
         (
-            &["check", "--print"],
-            "loop 2{skip;}//x",
-            "loop 2 {\n  skip;\n}\n",
+            &[(b"p = newPhaser(); loop 65535 { ", 1), (b"adv(p); ", 4), (b"} ", 1), (b"adv(p); ", 4)],
+            "refused check 9 statement 10\n",
+            3,
+        ),
+        (
+            &[(b"p = newPhaser(); loop 65535 { ", 1), (b"adv(p); ", 4), (b"} ", 1), (b"adv(p); ", 3)],
+            "tasks 1 phasers 1 ops 262144\n",
             0,
         ),
-        (&["check", "--print"], "", "", 0),
-        (
-            &["check", "--print"],
-            "adv(q);",
-            "refused check 1 statement 1\n",
-            3,
-        ),
-        (&["check"], "adv(P);", "refused syntax 1 at 4\n", 3),
-        (&["check"], "loop 65536 { }", "refused syntax 3 at 5\n", 3),
-        (&["check"], "fork = newTid();", "refused syntax 2 at 5\n", 3),
-        (
-            &["check"],
-            "loop 65535 { loop 65535 { } }",
-            "refused check 10 statement 2\n",
-            3,
-        ),
-        (
-            &["check"],
-            "t = newTid(); adv(t);",
-            "refused check 2 statement 2\n",
-            3,
-        ),
-        (
-            &["check"],
-            "p = newPhaser(); dereg(p); adv(p);",
-            "refused check 3 statement 3\n",
-            3,
-        ),
-        (
-            &["check"],
-            "p = newPhaser(); t = newTid(); reg(t, p); reg(t, p);",
-            "refused check 4 statement 4\n",
-            3,
-        ),
-        (
-            &["check"],
-            "p = newPhaser(); s = newTid(); t = newTid(); fork(t) { fork(s) { } }",
-            "refused check 5 statement 5\n",
-            3,
-        ),
-        (
-            &["check"],
-            "p = newPhaser(); t = newTid(); fork(t) { } reg(t, p);",
-            "refused check 6 statement 4\n",
-            3,
-        ),
-        (
-            &["check"],
-            "loop 257 { p = newPhaser(); }",
-            "refused check 8 statement 2\n",
-            3,
-        ),
+        (&[(b"loop 1{", 65)], "refused syntax 4 at 454\n", 3),
+        (&[(b"loop 1{", 64), (b"}", 64)], "tasks 1 phasers 0 ops 0\n", 0),
+        (&[(b"adv(", 1), (b"a", 33), (b");", 1)], "refused syntax 5 at 4\n", 3),
+        (&[(b"adv(", 1), (b"a", 32), (b");", 1)], "refused check 1 statement 1\n", 3),
+        (&[(b"//\xff", 1)], "tasks 1 phasers 0 ops 0\n", 0),
+        (&[(b" ", 1_048_577)], "refused length\n", 3),
     ];
-    for (given, input, output, status) in rows {
-        expect(&rt, rt.alloc(), given, input, output, status)?;
+    for (pieces, output, status) in rows {
+        let input = repeated(rt.alloc(), pieces)?;
+        expect_on(&rt, rt.alloc(), &["check"], input, output, status)?;
     }
     Ok(())
 }
