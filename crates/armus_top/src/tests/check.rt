@@ -6,8 +6,14 @@ use std::test::Fail;
 const ACCEPTED: [(&str, &str); 6] = [
     ("", "tasks 1 phasers 0 ops 0\n"),
     (AVERAGING, "tasks 4 phasers 2 ops 43\n"),
-    ("loop 1023 { t = newTid(); }", "tasks 1024 phasers 0 ops 0\n"),
-    ("loop 256 { p = newPhaser(); }", "tasks 1 phasers 256 ops 256\n"),
+    (
+        "loop 1023 { t = newTid(); }",
+        "tasks 1024 phasers 0 ops 0\n",
+    ),
+    (
+        "loop 256 { p = newPhaser(); }",
+        "tasks 1 phasers 256 ops 256\n",
+    ),
     ("p = newPhaser();", "tasks 1 phasers 1 ops 1\n"),
     ("skip\t;\r\nskip;", "tasks 1 phasers 0 ops 0\n"),
 ];
@@ -36,7 +42,10 @@ const REFUSED: [(&str, &str); 37] = [
     // each kind of the check
     ("adv(q);", "refused check 1 statement 1\n"),
     ("t = newTid(); adv(t);", "refused check 2 statement 2\n"),
-    ("p = newPhaser(); dereg(p); adv(p);", "refused check 3 statement 3\n"),
+    (
+        "p = newPhaser(); dereg(p); adv(p);",
+        "refused check 3 statement 3\n",
+    ),
     (
         "p = newPhaser(); t = newTid(); reg(t, p); reg(t, p);",
         "refused check 4 statement 4\n",
@@ -49,8 +58,14 @@ const REFUSED: [(&str, &str); 37] = [
         "p = newPhaser(); t = newTid(); fork(t) { } reg(t, p);",
         "refused check 6 statement 4\n",
     ),
-    ("loop 1024 { t = newTid(); }", "refused check 7 statement 2\n"),
-    ("loop 257 { p = newPhaser(); }", "refused check 8 statement 2\n"),
+    (
+        "loop 1024 { t = newTid(); }",
+        "refused check 7 statement 2\n",
+    ),
+    (
+        "loop 257 { p = newPhaser(); }",
+        "refused check 8 statement 2\n",
+    ),
     (
         "loop 65535 { loop 65535 { } }",
         "refused check 10 statement 2\n",
@@ -118,34 +133,72 @@ fn rows_of_check(rt: HostRuntime) -> Result<(), Fail> {
 fn rows_at_limits(rt: HostRuntime) -> Result<(), Fail> {
     let rows: [(&[(&[u8], usize)], &str, u8); 11] = [
         (
-            &[(b"loop 65535 { ", 1), (b"skip;", 15), (b" }", 1), (b"skip;", 15)],
+            &[
+                (b"loop 65535 { ", 1),
+                (b"skip;", 15),
+                (b" }", 1),
+                (b"skip;", 15),
+            ],
             "tasks 1 phasers 0 ops 0\n",
             0,
         ),
         (
-            &[(b"loop 65535 { ", 1), (b"skip;", 15), (b" }", 1), (b"skip;", 16)],
+            &[
+                (b"loop 65535 { ", 1),
+                (b"skip;", 15),
+                (b" }", 1),
+                (b"skip;", 16),
+            ],
             "refused check 10 statement 32\n",
             3,
         ),
         (
-            &[(b"loop 65535 { ", 1), (b"skip;", 15), (b" }", 1), (b"skip;", 15), (b"adv(z);", 1)],
+            &[
+                (b"loop 65535 { ", 1),
+                (b"skip;", 15),
+                (b" }", 1),
+                (b"skip;", 15),
+                (b"adv(z);", 1),
+            ],
             "refused check 10 statement 32\n",
             3,
         ),
         (
-            &[(b"p = newPhaser(); loop 65535 { ", 1), (b"adv(p); ", 4), (b"} ", 1), (b"adv(p); ", 4)],
+            &[
+                (b"p = newPhaser(); loop 65535 { ", 1),
+                (b"adv(p); ", 4),
+                (b"} ", 1),
+                (b"adv(p); ", 4),
+            ],
             "refused check 9 statement 10\n",
             3,
         ),
         (
-            &[(b"p = newPhaser(); loop 65535 { ", 1), (b"adv(p); ", 4), (b"} ", 1), (b"adv(p); ", 3)],
+            &[
+                (b"p = newPhaser(); loop 65535 { ", 1),
+                (b"adv(p); ", 4),
+                (b"} ", 1),
+                (b"adv(p); ", 3),
+            ],
             "tasks 1 phasers 1 ops 262144\n",
             0,
         ),
         (&[(b"loop 1{", 65)], "refused syntax 4 at 454\n", 3),
-        (&[(b"loop 1{", 64), (b"}", 64)], "tasks 1 phasers 0 ops 0\n", 0),
-        (&[(b"adv(", 1), (b"a", 33), (b");", 1)], "refused syntax 5 at 4\n", 3),
-        (&[(b"adv(", 1), (b"a", 32), (b");", 1)], "refused check 1 statement 1\n", 3),
+        (
+            &[(b"loop 1{", 64), (b"}", 64)],
+            "tasks 1 phasers 0 ops 0\n",
+            0,
+        ),
+        (
+            &[(b"adv(", 1), (b"a", 33), (b");", 1)],
+            "refused syntax 5 at 4\n",
+            3,
+        ),
+        (
+            &[(b"adv(", 1), (b"a", 32), (b");", 1)],
+            "refused check 1 statement 1\n",
+            3,
+        ),
         (&[(b"//\xff", 1)], "tasks 1 phasers 0 ops 0\n", 0),
         (&[(b" ", 1_048_577)], "refused length\n", 3),
     ];

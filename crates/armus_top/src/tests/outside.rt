@@ -40,7 +40,15 @@ fn each_read_that_fails_ends_the_call(rt: HostRuntime) -> Result<(), Fail> {
     for call in 1..=last {
         expect_failing(&rt, alloc, run.as_slice(), CROSSED, (call, 0), b"", 4)?;
     }
-    expect_failing(&rt, alloc, run.as_slice(), CROSSED, (last + 1, 0), BOTH_DEAD.as_bytes(), 1)
+    expect_failing(
+        &rt,
+        alloc,
+        run.as_slice(),
+        CROSSED,
+        (last + 1, 0),
+        BOTH_DEAD.as_bytes(),
+        1,
+    )
 }
 
 // A sink that fails at any of its calls has taken what stands before; one call later it has taken all.
@@ -51,7 +59,15 @@ fn each_write_that_fails_ends_the_call(rt: HostRuntime) -> Result<(), Fail> {
     let whole = BOTH_DEAD.as_bytes();
     for taken in 0..whole.len() {
         let call = taken as u64 + 1;
-        expect_failing(&rt, alloc, run.as_slice(), CROSSED, (0, call), &whole[..taken], 5)?;
+        expect_failing(
+            &rt,
+            alloc,
+            run.as_slice(),
+            CROSSED,
+            (0, call),
+            &whole[..taken],
+            5,
+        )?;
     }
     let last = whole.len() as u64 + 1;
     expect_failing(&rt, alloc, run.as_slice(), CROSSED, (0, last), whole, 1)?;
@@ -83,7 +99,12 @@ fn a_long_input_is_refused(rt: HostRuntime) -> Result<(), Fail> {
     let rows: [(&str, &[(&[u8], usize)], &str, u8); 7] = [
         ("run", &[(b" ", 1_048_577)], "refused length\n", 3),
         ("record", &[(b" ", 1_048_577)], "refused length\n", 3),
-        ("replay", &[(b" ", 1_048_577), (b"\n%%\n", 1)], "refused length\n", 3),
+        (
+            "replay",
+            &[(b" ", 1_048_577), (b"\n%%\n", 1)],
+            "refused length\n",
+            3,
+        ),
         (
             "replay",
             &[(b" ", 1_048_576), (b"\n%%\n", 1)],
@@ -97,7 +118,12 @@ fn a_long_input_is_refused(rt: HostRuntime) -> Result<(), Fail> {
             "refused schedule 1 line 1\n",
             3,
         ),
-        ("replay", &[(b"%%\n", 1), (b"x", 8_388_606)], "refused length\n", 3),
+        (
+            "replay",
+            &[(b"%%\n", 1), (b"x", 8_388_606)],
+            "refused length\n",
+            3,
+        ),
     ];
     for (command, pieces, output, status) in rows {
         let input = repeated(rt.alloc(), pieces)?;

@@ -32,7 +32,14 @@ fn a_record_of_one_worker_is_replayed(rt: HostRuntime) -> Result<(), Fail> {
     let alloc = rt.alloc();
     let steps = "%%\nt 0\nt 0\nt 0\nt 0\nt 0\nt 0\nt 0\nt 1\nt 1\n";
     let record = format!(in alloc; "{CROSSED}{steps}")?;
-    expect(&rt, alloc, &["record", "--workers", "1"], CROSSED, record.as_str(), 1)?;
+    expect(
+        &rt,
+        alloc,
+        &["record", "--workers", "1"],
+        CROSSED,
+        record.as_str(),
+        1,
+    )?;
     let replayed = "end steps 9 passes 0 dead t0 t1\n";
     expect(&rt, alloc, &["replay"], record.as_str(), replayed, 1)
 }
