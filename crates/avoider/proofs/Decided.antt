@@ -71,28 +71,36 @@ module _ (list : List Status) (p : ℕ) (before now : Known) (found : Option Cyc
         ap (λ q. awaited (Some (Blocks q)) ((state_at plan a).phases t)) (sym j.of_phaser)
         ∙ (stands list j.supposed j.event before j.judges.between now t seat own next_event j.judges.own j.judges.goes_on j.judges.collected j.judges.finds j.judges.adds a lock avoiding lawful has far).awaits
 
-    alive_here : (IsDeadBy j.supposed t → ⊥) → LeavesNobodyDead (state_at plan a) t j.event
-    alive_here none =
-        publishing_leaves_nobody_dead (state_at plan a) t j.event (nobody_dead_at plan a lock seat.checked lawful)
-        (λ would. none (told.misses_none would))
+    alive_here : (WouldBeDead (state_at plan a) t j.event → ⊥) → LeavesNobodyDead (state_at plan a) t j.event
+    alive_here lives = publishing_leaves_nobody_dead (state_at plan a) t j.event (nobody_dead_at plan a lock seat.checked lawful) lives
 
   each : (Holds : State → Type 0) → InEachWithLock plan t (seen now.view) Holds → InEachByLock now Holds
   each Holds all = subst (λ (q : Plan). InEachWithLock q (task_of now.view) (seen now.view) Holds) (sym goes.same.plan) (subst (λ u. InEachWithLock plan u (seen now.view) Holds) (sym task) all)
 
+  -- where no cycle was found the task would be dead in no state
+  lives : found ≡ None → InEachWithLock plan t (seen now.view) (λ s. WouldBeDead s t j.event → ⊥)
+  lives none a lock lawful has far =
+      let all : InEachByLock now (λ s. WouldBeDead s (task_of now.view) j.event → ⊥) =
+      subst (λ o. MatchOption o (InEachByLock now (λ s. WouldBeDead s (task_of now.view) j.event → ⊥)) (ExplainsDeath j.supposed (task_of before.view))) none j.told in
+      let here : InEachWithLock plan t (seen now.view) (λ s. WouldBeDead s (task_of now.view) j.event → ⊥) =
+      subst (λ u. InEachWithLock plan u (seen now.view) (λ s. WouldBeDead s (task_of now.view) j.event → ⊥)) task
+      (subst (λ (q : Plan). InEachWithLock q (task_of now.view) (seen now.view) (λ s. WouldBeDead s (task_of now.view) j.event → ⊥)) goes.same.plan all) in
+      subst (λ u. WouldBeDead (state_at plan a) u j.event → ⊥) task (here a lock lawful has far)
+
   -- a publication leaves nobody dead
-  pub all_alive : (IsDeadBy j.supposed t → ⊥) → InEachByLock now (λ s. LeavesNobodyDead s (task_of now.view) j.event)
+  pub all_alive : found ≡ None → InEachByLock now (λ s. LeavesNobodyDead s (task_of now.view) j.event)
   all_alive none =
       each (λ s. LeavesNobodyDead s (task_of now.view) j.event)
       (subst (λ u. InEachWithLock plan t (seen now.view) (λ s. LeavesNobodyDead s u j.event)) (sym task)
-      (λ a lock lawful has far. alive_here a lock lawful has far none))
+      (λ a lock lawful has far. alive_here a lock lawful has far (lives none a lock lawful has far)))
 
-  all_avoid : (IsDeadBy j.supposed t → ⊥) → InEachByLock now (λ s. Avoids s (task_of now.view) (Blocks p))
+  all_avoid : found ≡ None → InEachByLock now (λ s. Avoids s (task_of now.view) (Blocks p))
   all_avoid none =
       each (λ s. Avoids s (task_of now.view) (Blocks p))
       (subst (λ u. InEachWithLock plan t (seen now.view) (λ s. Avoids s u (Blocks p))) (sym task)
-      (λ a lock lawful has far. (j.event, awaits a lock lawful has far, alive_here a lock lawful has far none)))
+      (λ a lock lawful has far. (j.event, awaits a lock lawful has far, alive_here a lock lawful has far (lives none a lock lawful has far))))
 
-  pub may_publish_now : (IsDeadBy j.supposed t → ⊥) → MayPublish now p
+  pub may_publish_now : found ≡ None → MayPublish now p
   may_publish_now none = λ _. (holds_now, all_avoid none)
 
   -- a refused task would be dead
@@ -123,12 +131,6 @@ module _ (list : List Status) (p : ℕ) (before now : Known) (found : Option Cyc
       some_same : (u w : ℕ) → Some u ≡ Some w → u ≡ w
       some_same u w e = cc
 
-  -- where no cycle was found
-  pub not_dead : found ≡ None → IsDeadBy j.supposed t → ⊥
-  not_dead none by =
-      let alive : IsDeadBy j.supposed (task_of before.view) → ⊥ = subst (λ o. MatchOption o (IsDeadBy j.supposed (task_of before.view) → ⊥) (ExplainsDeath j.supposed (task_of before.view))) none j.told in
-      alive (subst (IsDeadBy j.supposed) (sym is_t) by)
-
   pub publishes_on :
       (e : Event) (stored last : Known) → found ≡ None →
       e.p.0 ≡ p → own_phase now.view p ≡ Some e.n → IsWithLock now.view.plan (task_of now.view) (seen now.view) → MakesStep (Blocks p) now stored → FreesLock stored last →
@@ -139,7 +141,7 @@ module _ (list : List Status) (p : ℕ) (before now : Known) (found : Option Cyc
       supposed = j.supposed;
       store = now;
       judges = subst (λ f. Judges list f j.supposed before now) (sym (event_same e phaser phase)) j.judges;
-      alive = subst (λ f. InEachByLock now (λ s. LeavesNobodyDead s (task_of now.view) f)) (sym (event_same e phaser phase)) (all_alive (not_dead none));
+      alive = subst (λ f. InEachByLock now (λ s. LeavesNobodyDead s (task_of now.view) f)) (sym (event_same e phaser phase)) (all_alive none);
       possible = possible;
       stored = stored;
       step = subst (λ q. MakesStep (Blocks q) now stored) (sym phaser) step;
@@ -170,7 +172,7 @@ module _ (list : List Status) (p : ℕ) (before now : Known) (found : Option Cyc
   pub explained : (cycle : Cycle) → found ≡ Some cycle → ExplainsDeath j.supposed t cycle
   explained cycle is =
       subst (λ u. ExplainsDeath j.supposed u cycle) is_t
-      (subst (λ o. MatchOption o (IsDeadBy j.supposed (task_of before.view) → ⊥) (ExplainsDeath j.supposed (task_of before.view))) is j.told)
+      (subst (λ o. MatchOption o (InEachByLock now (λ s. WouldBeDead s (task_of now.view) j.event → ⊥)) (ExplainsDeath j.supposed (task_of before.view))) is j.told)
 
   pub refuses_on :
       (f : Frame) (cycle : Cycle) (stored free last : Known) → IsOf before f → found ≡ Some cycle → IsWithLock now.view.plan (task_of now.view) (seen now.view) →

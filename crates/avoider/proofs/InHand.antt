@@ -5,7 +5,7 @@ use Rattle.std.proofs.lemmas.Bool.{cases_Bool, cases_eq, cases_lt, false≢true}
 use Rattle.armus_base.specs.declared.event.Event.{Event}
 use Rattle.armus_base.specs.declared.status.Status.{Status}
 use Rattle.armus_base.specs.Plans.{Blocks, Plan, action_at}
-use Rattle.armus_base.specs.States.{State, event_at, event_on, updated}
+use Rattle.armus_base.specs.States.{State, event_at, event_on, if_published, updated}
 use Rattle.armus_base.specs.Runs.{IsPrefix, Place, first_place}
 use Rattle.armus_base.specs.Places.{done_by, forked_at, kept, phases_at_place, published_after, refused_at, state_at}
 use Rattle.armus_base.specs.CheckedPlans.{IsCheckedPlan}
@@ -15,13 +15,15 @@ use Rattle.armus_base.specs.Deadlocks.{IsListedAt, IsListedOn}
 use Rattle.armus_base.specs.Decisions.{Decides, HasAllFound, HasFound, HasOtherStatuses, HasOwnStatus, StandsBefore}
 use Rattle.armus_base.specs.FinalLaws.{AreStatuses}
 use Rattle.armus_base.specs.Finals.{is_awaited, is_event_of}
-use Rattle.armus_base.specs.Statuses.{IsAwaited}
+use Rattle.armus_base.specs.Statuses.{Impedes, IsAwaited}
 use Rattle.armus_base.proofs.KeepsFar.{prefixes_both}
+use Rattle.armus_base.proofs.FoundArePublished.{found_are_published}
 use Rattle.armus_base.proofs.Fixed.{phases_forked, some_before_from}
 use Rattle.armus_base.proofs.ListDecides.{list_in_hand_decides}
 use Rattle.armus_base.proofs.ReachedLater.{later_done}
 use Rattle.armus_base.proofs.StatusesAre.{statuses_are}
 use Rattle.armus_base.proofs.Steps.{updated_other, updated_same}
+use Rattle.pl_core.specs.HighestPhases.{ImpedesNobody}
 use Rattle.board.specs.declared.mode.Mode.TheVariants.{Avoid}
 use Rattle.board.specs.Views.{avoids, next_action, own_place, place_in, seen, task_of}
 use Rattle.board.specs.Steps.{own_phase}
@@ -40,6 +42,7 @@ use Rattle.phase_scan.proofs.Loads.{phase_load}
 use Rattle.phase_scan.proofs.Standing.{phases_begun_at, published_begun}
 use Rattle.phase_scan.proofs.Supposes.{own_phase_stays}
 use Rattle.phase_scan.proofs.Telling.{found_there, prefix_both}
+use Rattle.avoider.specs.OffCycle.{ImpedesSome}
 
 is_lt : (a b : ℕ) → a < b → nat_lt a b ≡ true
 is_lt a b h = grind arith
@@ -113,7 +116,7 @@ module _ (list supposed : List Status) (event : Event) (before mid store : Known
   pub own_listed : IsListedOn supposed t event
   own_listed = (are_too.events t event).1 (small, updated_same sup.found.published (task_of mid.view) t (Some event) task_mid)
 
-  own_only : (e : Event) → IsListedOn supposed t e → e ≡ event
+  pub own_only : (e : Event) → IsListedOn supposed t e → e ≡ event
   own_only e is = some_same event e (sym (updated_same sup.found.published (task_of mid.view) t (Some event) task_mid) ∙ ((are_too.events t e).0 is).1)
     where
       some_same : (x y : Event) → Some x ≡ Some y → y ≡ x
@@ -427,22 +430,51 @@ module _ (list supposed : List Status) (event : Event) (before mid store : Known
       ];
     }
 
+    found_of : (u : ℕ) → u < tasks → (f : Found) × ((seen store.view).found u ≡ Some f) × ((e : Event) → f ≡ FoundWaiting e → IsListedOn list u e)
+    found_of u l =
+        let f = finds u (subst (λ (q : Plan). u < length q.parents) (sym goes.same.plan) l) in
+        (f.0, finds_stay u ∙ f.1, λ e. (f.2 e).0)
+
+    has_all : HasAllFound plan t (seen store.view) supposed
+    has_all = record {
+      all = λ u l n. let f = found_of u l in subst IsSome (sym f.1) refl;
+      listed = λ u e l n is.
+          let f = found_of u l in
+          let same : f.0 ≡ FoundWaiting e = some_same f.0 (FoundWaiting e) (sym f.1 ∙ is) in
+          other_on u e n (f.2 e same);
+    }
+      where
+        some_same : (x y : Found) → Some x ≡ Some y → x ≡ y
+        some_same x y h = cc
+
     pub decides : Decides s t event supposed
     decides = list_in_hand_decides plan t event (seen store.view) supposed a lock checked has_all lawful has stands own_status others
-      where
-        found_of : (u : ℕ) → u < tasks → (f : Found) × ((seen store.view).found u ≡ Some f) × ((e : Event) → f ≡ FoundWaiting e → IsListedOn list u e)
-        found_of u l =
-            let f = finds u (subst (λ (q : Plan). u < length q.parents) (sym goes.same.plan) l) in
-            (f.0, finds_stay u ∙ f.1, λ e. (f.2 e).0)
 
-        has_all : HasAllFound plan t (seen store.view) supposed
-        has_all = record {
-          all = λ u l n. let f = found_of u l in subst IsSome (sym f.1) refl;
-          listed = λ u e l n is.
-              let f = found_of u l in
-              let same : f.0 ≡ FoundWaiting e = some_same f.0 (FoundWaiting e) (sym f.1 ∙ is) in
-              other_on u e n (f.2 e same);
-        }
-          where
-            some_same : (x y : Found) → Some x ≡ Some y → x ≡ y
-            some_same x y h = cc
+    -- whoever would be published is listed
+    would_be_listed : (u : ℕ) (e : Event) → (if_published s t event).published u ≡ Some e → IsListedOn supposed u e
+    would_be_listed u e is = elim (cases_eq u t) [
+      | inl same ↦
+          let own_event : event ≡ e = some_event event e (sym (updated_same s.published t u (Some event) same) ∙ is) in
+          subst (λ v. IsListedOn supposed v e) (sym same) (subst (IsListedOn supposed t) own_event own_listed)
+      | inr other ↦
+          (found_are_published plan t a lock (seen store.view) supposed checked lawful has stands.active.unpublished has_all).1 u e
+          (sym (updated_other s.published t u (Some event) other) ∙ is)
+    ]
+      where
+        some_event : (x y : Event) → Some x ≡ Some y → x ≡ y
+        some_event x y h = cc
+
+    -- a task that by the statuses impedes no awaited event would impede none
+    pub would_impede_nobody : (ImpedesSome supposed (record { 0 = t }) → ⊥) → ImpedesNobody (if_published s t event) t
+    would_impede_nobody none u m e on phase_is =
+        let listed = would_be_listed u e on in
+        let (own, own_in, own_is, (k, few, member)) = own_status.all u m e listed phase_is in
+        let (other, (j, within, here), task_of_other, event_is) = listed in
+        elim (cases_lt m e.n) [
+          | inl low ↦
+              let same : e.p ≡ other.event.p = ap (λ (x : Event). x.p) (sym event_is) in
+              let below : m < other.event.n = (let n = ap (λ (x : Event). x.n) event_is in omega arith) in
+              let impedes : Impedes own other.event = (k, record { p = record { 0 = e.p.0 }; n = m }, few, member, (same, below)) in
+              absurd (none (own_in.0, own, own_in.1, own_in.2, ((λ i. record { 0 = own_is i }), (j, other, within, here, impedes))))
+          | inr high ↦ high
+        ]

@@ -5,14 +5,14 @@ use Rattle.armus_base.specs.declared.event.Event.{Event}
 use Rattle.armus_base.specs.declared.status.Status.{Status}
 use Rattle.armus_base.specs.Plans.{Plan}
 use Rattle.armus_base.specs.CheckedPlans.{IsCheckedPlan}
-use Rattle.armus_base.specs.Deadlocks.{IsDeadBy}
+use Rattle.armus_base.specs.Deadlocks.{WouldBeDead}
 use Rattle.armus_base.specs.Finals.{is_awaited}
 use Rattle.armus_base.specs.States.{updated}
 use Rattle.armus_base.specs.Statuses.{IsInOrder}
 use Rattle.armus_base.proofs.StatusesAre.{statuses_are}
 use Rattle.board.specs.Views.{task_of}
 use Rattle.board.specs.Steps.{own_phase}
-use Rattle.board.specs.Seats.{Frame, IsOf, IsSeat, Known}
+use Rattle.board.specs.Seats.{Frame, IsOf, Known}
 use Rattle.phase_scan.specs.Collected.{HasFinds, IsCollected}
 use Rattle.phase_scan.specs.Collects.{IsCollect}
 use Rattle.phase_scan.specs.Looks.{GoesOn}
@@ -20,31 +20,38 @@ use Rattle.phase_scan.specs.Supposed.{IsSupposed}
 use Rattle.phase_scan.specs.Tables.{state_supposed}
 use Rattle.verdict.specs.declared.found.Cycle.{Cycle}
 use Rattle.avoider.specs.Decisions.{ExplainsDeath}
-use Rattle.avoider.specs.OnBoard.{IsJudged}
+use Rattle.avoider.specs.OnBoard.{InEachByLock, IsJudged, Judges}
 
 pub supposed_ordered : (plan : Plan) (list : List Status) (event : Event) (supposed : List Status) (before now : Known) → IsCheckedPlan plan → IsSupposed plan list event supposed before now → IsInOrder supposed
 supposed_ordered plan list event supposed before now checked sup =
     subst IsInOrder (sym sup.supposed_are)
     (statuses_are plan (state_supposed sup.found (task_of before.view) event (own_phase before.view) sup.column) (updated (is_awaited plan sup.found) event.p.0 true) checked).in_order
 
-pub judged :
-    (f : Frame) (list supposed : List Status) (event : Event) (before first between now : Known) (t : ℕ) (found : Option Cycle) → IsOf before f → IsSeat before → before.view.own ≡ Some t →
+-- the loads of a decision
+pub judges_so :
+    (f : Frame) (list supposed : List Status) (event : Event) (before first between now : Known) → IsOf before f →
     first ≡ before → GoesOn first between → IsCollect f.plan list first between → IsCollected list first between → HasFinds list between →
-    IsSupposed f.plan list event supposed between now → own_phase before.view event.p.0 ≡ Some event.n →
-    MatchOption found (IsDeadBy supposed t → ⊥) (ExplainsDeath supposed t) → IsJudged list event.p.0 before now found
-judged f list supposed event before first between now t found of seat own same goes collect collected finds adds phase told =
+    IsSupposed f.plan list event supposed between now → own_phase before.view event.p.0 ≡ Some event.n → Judges list event supposed before now
+judges_so f list supposed event before first between now of same goes collect collected finds adds phase =
+    record {
+      between = between;
+      goes_on = subst (λ k. GoesOn k between) same goes;
+      collect = subst (λ (q : Plan). IsCollect q list before between) (sym of.plan) (subst (λ k. IsCollect f.plan list k between) same collect);
+      collected = subst (λ k. IsCollected list k between) same collected;
+      finds = finds;
+      adds = subst (λ (q : Plan). IsSupposed q list event supposed between now) (sym of.plan) adds;
+      own = phase;
+    }
+
+-- and what they tell
+pub judged :
+    (list supposed : List Status) (event : Event) (before now : Known) (t : ℕ) (found : Option Cycle) → before.view.own ≡ Some t → Judges list event supposed before now →
+    MatchOption found (InEachByLock now (λ s. WouldBeDead s (task_of now.view) event → ⊥)) (ExplainsDeath supposed t) → IsJudged list event.p.0 before now found
+judged list supposed event before now t found own judges told =
     record {
       event = event;
       of_phaser = refl;
       supposed = supposed;
-      judges = record {
-        between = between;
-        goes_on = subst (λ k. GoesOn k between) same goes;
-        collect = subst (λ (q : Plan). IsCollect q list before between) (sym of.plan) (subst (λ k. IsCollect f.plan list k between) same collect);
-        collected = subst (λ k. IsCollected list k between) same collected;
-        finds = finds;
-        adds = subst (λ (q : Plan). IsSupposed q list event supposed between now) (sym of.plan) adds;
-        own = phase;
-      };
-      told = subst (λ u. MatchOption found (IsDeadBy supposed u → ⊥) (ExplainsDeath supposed u)) (sym (ap (λ o. unwrap_or o 0) own)) told;
+      judges = judges;
+      told = subst (λ u. MatchOption found (InEachByLock now (λ s. WouldBeDead s (task_of now.view) event → ⊥)) (ExplainsDeath supposed u)) (sym (ap (λ o. unwrap_or o 0) own)) told;
     }

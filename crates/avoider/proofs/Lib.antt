@@ -9,3 +9,5 @@ pub mod SamePlan
 pub mod RefusedInCycle
 pub mod OneOutcome
 pub mod OnNoCycle
+pub mod LivesByLoads
+pub mod ToldByLoads

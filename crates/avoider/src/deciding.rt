@@ -9,6 +9,7 @@ ghost use Rattle.phase_scan.specs.Looks.{GoesOn};
 ghost use Rattle.avoider.specs.OnBoard.{DropsBelow, IsDecided, IsJudged, IsUndecided};
 
 use crate::Decision;
+use crate::off_cycle::is_off_cycle;
 use crate::step::death_of;
 use adaptive::Wanted;
 use armus_base::{Event, NoMemory, Phase, PhaserId};
@@ -85,6 +86,9 @@ fn judge(
     cells.collect(seat, board);
     let event = Event { p, n };
     let list = cells.supposed(alloc, seat, board, event)?;
+    if is_off_cycle(list.as_slice(), t, event) {
+        return Ok(None);
+    }
     let found = death_of(alloc, list.as_slice(), t, wanted)?;
     Ok(found)
 }

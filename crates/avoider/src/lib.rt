@@ -6,6 +6,7 @@ mod decision;
 mod event;
 pub mod laws;
 mod lock;
+mod off_cycle;
 mod step;
 #[cfg(test)]
 mod tests;

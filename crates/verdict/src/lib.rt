@@ -7,6 +7,6 @@ mod found;
 mod tests;
 mod walk;
 
-pub use check::check_cycle;
+pub use check::{check_cycle, impedes};
 pub use found::Cycle;
 pub use walk::cycle;

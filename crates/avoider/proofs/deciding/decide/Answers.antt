@@ -1,5 +1,5 @@
 use Rattle.std.proofs.Common.{ap}
-use Rattle.avoider.proofs.Decided.{avoids_now, explained, free_refused, may_publish_now, may_refuse_now, next_now, not_dead, publishes_on, refuses_on}
+use Rattle.avoider.proofs.Decided.{avoids_now, explained, free_refused, may_publish_now, may_refuse_now, next_now, publishes_on, refuses_on}
 use Rattle.avoider.proofs.deciding.decide.Goals as goal
 
 pub publish-event-requires-clause-next : goal.publish-event-requires-clause-next
@@ -11,7 +11,7 @@ pub publish-event-requires-clause-avoids : goal.publish-event-requires-clause-av
 publish-event-requires-clause-avoids c =
     let r = c.requires in
     may_publish_now c.judge.new.cells.statuses c.args.p.0 c.args.seat.now c.judge.new.seat c.in-Ok-None.field-0 c.id.result.0 c.id.ensures.seat c.id.ensures.task (c.id.ensures.seat.lock r.locked) r.locked r.next c.in-Ok-None.ensures.goes_on c.in-Ok-None.ensures.judged
-    (not_dead c.judge.new.cells.statuses c.args.p.0 c.args.seat.now c.judge.new.seat c.in-Ok-None.field-0 c.id.result.0 c.id.ensures.seat c.id.ensures.task (c.id.ensures.seat.lock r.locked) r.locked r.next c.in-Ok-None.ensures.goes_on c.in-Ok-None.ensures.judged c.in-Ok-None.field-0-is)
+    c.in-Ok-None.field-0-is
 
 pub refuse-requires-clause-next : goal.refuse-requires-clause-next
 refuse-requires-clause-next c =

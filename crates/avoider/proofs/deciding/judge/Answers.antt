@@ -1,25 +1,32 @@
-use Rattle.std.proofs.Common.{◌≡◌, ◌∙◌, ap, sym, subst}
-use Rattle.std.specs.Prelude.{List, MatchOption}
+use Rattle.std.proofs.Common.{◌∙◌, ap, sym, subst, ◌⊎◌}
+use Rattle.std.specs.Prelude.{List}
 use Rattle.armus_base.specs.declared.status.Status.{Status}
-use Rattle.armus_base.specs.Deadlocks.{IsDeadBy}
-use Rattle.avoider.specs.Decisions.{ExplainsDeath}
 use Rattle.armus_base.specs.CheckedPlans.{IsCheckedPlan}
 use Rattle.armus_base.specs.Statuses.{IsInOrder}
 use Rattle.board.specs.Seats.{Known}
-use Rattle.avoider.proofs.Judging.{judged, supposed_ordered}
+use Rattle.avoider.specs.Decisions.{IsOutcome}
+use Rattle.avoider.specs.OffCycle.{ImpedesSome, IsImpeded}
+use Rattle.avoider.proofs.Judging.{supposed_ordered}
+use Rattle.avoider.proofs.ToldByLoads.{judged_by, judged_off}
 use Rattle.avoider.proofs.deciding.judge.Goals as goal
 
 pub death_of-requires : goal.death_of-requires
 death_of-requires c =
-    subst IsInOrder (sym c.as_slice.ensures.items)
+    subst IsInOrder (sym c.as_slice-2.ensures.items)
     (supposed_ordered c.args.board.now.plan c.collect.new.self.statuses _ c.in_ok-list.list c.collect.new.by c.supposed.new.seat (subst IsCheckedPlan c.requires.made.plan c.id-t.ensures.seat.checked) c.in_ok-list.ensures.supposed)
+
+pub returns-then-is_off_cycle-clause-judged : goal.returns-then-is_off_cycle-clause-judged
+returns-then-is_off_cycle-clause-judged c =
+    let same = c.own_member_phase-n.ensures.seat in
+    let off = subst (λ (ss : List Status). (IsImpeded ss (record { p = c.args.p; n = c.own_member_phase-n.result }) → ⊥) ⊎ (ImpedesSome ss c.id-t.result → ⊥)) c.as_slice.ensures.items (c.is_off_cycle.ensures c.if-is_off_cycle.true) in
+    judged_off c.args.board.now c.collect.new.self.statuses c.in_ok-list.list (record { p = c.args.p; n = c.own_member_phase-n.result }) c.args.seat.now c.own_member_phase-n.new.seat c.collect.new.by c.supposed.new.seat c.id-t.result.0
+    c.requires.made c.id-t.ensures.seat c.id-t.ensures.task c.requires.locked c.requires.next same c.collect.ensures.goes_on c.collect.ensures.collect c.collect.ensures.collected
+    (c.collect.ensures.finds (ap (λ (k : Known). k.view.holds) same ∙ c.requires.locked)) c.in_ok-list.ensures.supposed c.in_ok-list.ensures.goes_on c.own_member_phase-n.ensures.phase off
 
 pub returns-clause-judged : goal.returns-clause-judged
 returns-clause-judged c =
-    let list : c.as_slice.result.now ≡ c.in_ok-list.list = c.as_slice.ensures.items in
     let same = c.own_member_phase-n.ensures.seat in
-    let told : MatchOption c.in_ok-found.found (IsDeadBy c.in_ok-list.list c.id-t.result.0 → ⊥) (ExplainsDeath c.in_ok-list.list c.id-t.result.0) =
-    subst (λ (ss : List Status). MatchOption c.in_ok-found.found (IsDeadBy ss c.id-t.result.0 → ⊥) (ExplainsDeath ss c.id-t.result.0)) list c.in_ok-found.ensures in
-    judged c.args.board.now c.collect.new.self.statuses c.in_ok-list.list (record { p = c.args.p; n = c.own_member_phase-n.result }) c.args.seat.now c.own_member_phase-n.new.seat c.collect.new.by c.supposed.new.seat c.id-t.result.0 c.in_ok-found.found
-    c.requires.made c.id-t.ensures.seat c.id-t.ensures.task same c.collect.ensures.goes_on c.collect.ensures.collect c.collect.ensures.collected
-    (c.collect.ensures.finds (ap (λ (k : Known). k.view.holds) same ∙ c.requires.locked)) c.in_ok-list.ensures.supposed c.own_member_phase-n.ensures.phase told
+    let told = subst (λ (ss : List Status). IsOutcome ss c.id-t.result.0 c.in_ok-found.found) c.as_slice-2.ensures.items c.in_ok-found.ensures in
+    judged_by c.args.board.now c.collect.new.self.statuses c.in_ok-list.list (record { p = c.args.p; n = c.own_member_phase-n.result }) c.args.seat.now c.own_member_phase-n.new.seat c.collect.new.by c.supposed.new.seat c.id-t.result.0
+    c.requires.made c.id-t.ensures.seat c.id-t.ensures.task c.requires.locked c.requires.next same c.collect.ensures.goes_on c.collect.ensures.collect c.collect.ensures.collected
+    (c.collect.ensures.finds (ap (λ (k : Known). k.view.holds) same ∙ c.requires.locked)) c.in_ok-list.ensures.supposed c.in_ok-list.ensures.goes_on c.own_member_phase-n.ensures.phase c.in_ok-found.found told
