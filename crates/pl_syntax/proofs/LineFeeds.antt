@@ -146,7 +146,7 @@ plain_append (adv x) us vs = refl
 plain_append (await x) us vs = refl
 plain_append skip us vs = refl
 
-tokens_append : (p : Tree) (us vs : List Token) → tokens p (us ++ vs) ≡ tokens p us ++ vs
+pub tokens_append : (p : Tree) (us vs : List Token) → tokens p (us ++ vs) ≡ tokens p us ++ vs
 tokens_append done us vs = refl
 tokens_append (plain s more) us vs = ap (plain_tokens s) (tokens_append more us vs) ∙ plain_append s (tokens more us) vs
 tokens_append (fork x body more) us vs =

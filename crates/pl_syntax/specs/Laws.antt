@@ -1,11 +1,12 @@
 -- What holds of the grammar, the first fault and the printed form.
-use Rattle.std.specs.Prelude.{◌≡◌, ℕ, ◌≤◌, ◌⊎◌, List, [], ◌∷◌, ◌++◌}
+use Rattle.std.specs.Prelude.{◌≡◌, ℕ, ◌≤◌, ◌⊎◌, ◌↔◌, false, List, [], ◌∷◌, ◌++◌, codes}
 use Rattle.pl_syntax.specs.declared.limits.TheConstants.{MAX_OPEN_BRACES}
 use Rattle.pl_syntax.specs.declared.fault.SyntaxFault.{SyntaxFault}
 use Rattle.pl_syntax.specs.declared.tree.Stmt.{Stmt}
-use Rattle.pl_syntax.specs.Tree.{Tree, height}
+use Rattle.pl_syntax.specs.Tree.{Tree, done, plain, fork, loop, new_task, skip, height}
 use Rattle.pl_syntax.specs.Bodies.{tree_of}
-use Rattle.pl_syntax.specs.Grammar.{IsText, HasFault}
+use Rattle.pl_syntax.specs.Grammar.{IsText, HasFault, tokens}
+use Rattle.pl_syntax.specs.Spacing.{IsSpaced}
 use Rattle.pl_syntax.specs.Printed.{printed_of, IsWritable}
 
 -- the grammar is unambiguous: a text has at most one tree
@@ -43,3 +44,16 @@ LineFeedChangesNothing = (text : List ℕ) (p : Tree) → IsText text p → IsTe
 -- no line of a text begins with `%`, neither the first one nor one behind an LF; so none is exactly `%%`
 abbrev pub NoLineIsAMark : Type 0
 NoLineIsAMark = (p : Tree) (rest : List ℕ) → (IsText (37 ∷ rest) p → ⊥) × ((ahead : List ℕ) → IsText (ahead ++ 10 ∷ 37 ∷ rest) p → ⊥)
+
+-- the texts of a program are its tokens, spaced in any way: no other blanks are needed, and no others are wrong
+abbrev pub TextsAreSpaced : Type 0
+TextsAreSpaced = (text : List ℕ) (p : Tree) → IsText text p ↔ (IsSpaced false (tokens p []) text × height p ≤ MAX_OPEN_BRACES)
+
+-- Texts read by the definitions: every kind of blank, and comments, of which the last is left open; no blank where none is needed.
+pub record ReadsTexts : Type 0 where
+  -- skip, tab, a semicolon, CR, LF, skip, space, a semicolon
+  pub blanks :
+      IsText (codes "skip" ++ (9 ∷ 59 ∷ 13 ∷ 10 ∷ (codes "skip ;"))) (plain skip (plain skip done))
+  -- a comment up to its LF, and one up to the end
+  pub comments : IsText (codes "skip//;" ++ (10 ∷ (codes "; // skip;"))) (plain skip done)
+  pub dense : IsText (codes "loop 0{t=newTid();fork(t){}}") (loop 0 (plain (new_task (codes "t")) (fork (codes "t") done done)) done)

@@ -4,6 +4,7 @@ pub mod Words
 pub mod Tokens
 pub mod Grammar
 pub mod Printed
+pub mod Spacing
 -- How the types of the program show as those.
 pub mod Bodies
 pub mod Falls

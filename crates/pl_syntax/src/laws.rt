@@ -1,6 +1,6 @@
 // What holds of the definitions of this crate: each law is the contract of a public function with an empty body.
 
-ghost use Rattle.pl_syntax.specs.Laws.{HasOneTree, HasOneFault, HasNotBoth, HasOneOfBoth, TreesFixBodies, PrintedIsText, TextsAreWritable, LineFeedChangesNothing, NoLineIsAMark};
+ghost use Rattle.pl_syntax.specs.Laws.{HasOneTree, HasOneFault, HasNotBoth, HasOneOfBoth, TreesFixBodies, PrintedIsText, TextsAreWritable, LineFeedChangesNothing, NoLineIsAMark, ReadsTexts, TextsAreSpaced};
 
 /// The grammar is unambiguous: a text has at most one tree.
 pub fn text_has_one_tree()
@@ -34,4 +34,10 @@ pub fn printed_is_text()
 pub fn text_has_free_lines()
     ensures line_feed { LineFeedChangesNothing }
     ensures no_mark { NoLineIsAMark }
+{}
+
+/// The texts of a program are its tokens, spaced in any way by blanks and comments: between two words there is one, no others are needed, and no others are wrong.
+pub fn texts_are_spaced()
+    ensures spaced { TextsAreSpaced }
+    ensures worked { ReadsTexts }
 {}

@@ -19,7 +19,7 @@ mod word;
 pub use fault::{CANNOT_STAND, NO_NUMBER, NO_TOKEN, ParseEnd, SyntaxFault, TOO_DEEP, TOO_LONG};
 pub use laws::{
     printed_is_text, text_has_free_lines, text_has_one_fault, text_has_one_tree,
-    text_has_tree_or_fault, tree_fixes_body,
+    text_has_tree_or_fault, texts_are_spaced, tree_fixes_body,
 };
 pub use limits::{MAX_DIGITS, MAX_NAME_BYTES, MAX_NUMBER, MAX_OPEN_BRACES, MAX_PARSED_BYTES};
 pub use name::Name;
