@@ -8,8 +8,6 @@ pub mod laws;
 mod lock;
 mod off_cycle;
 mod step;
-#[cfg(test)]
-mod tests;
 
 pub use deciding::decide;
 pub use decision::Decision;

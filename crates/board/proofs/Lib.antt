@@ -19,5 +19,3 @@ pub mod Beginning
 pub mod Taking
 pub mod Sending
 pub mod Walking
-pub mod PlanTests
-pub mod SmallPlans

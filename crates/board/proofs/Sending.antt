@@ -1,12 +1,5 @@
 -- What threads share, and what is handed to one: a board, and the seats of tasks.
-use mir.Syntax.{Sym}
-use denote.RattleType.{RattleType}
-use denote.Builtin.{One}
-use denote.Ref.{NamedLft}
-use denote.Struct.Field.{mut_slice_field, shr_ref_field}
-use denote.Struct.Tuple.{TupleAt}
 use denote.Param.Send.{IsSend, IsSync, sendable}
-use Rattle.std.proofs.Common.{[], ◌∷◌}
 use Rattle.std.proofs.Crossing.{crosses}
 use Rattle.std.proofs.alloc.Global.TheSendSync as heap
 use Rattle.atomic_table.proofs.shared.Seat.TheSendSync.{the_send as place_send}
@@ -27,9 +20,3 @@ task_seat_send = search (sendable, place_send) depth 30
 -- and so may the seat of a viewer
 pub view_seat_send : IsSend view_seats.the_row
 view_seat_send = search (sendable, place_send) depth 30
-
--- what one half of the seats is handed to a thread with: the board, and something more that threads may share
-pub half_send :
-    (ν : Sym) (a b c : NamedLft) (X : RattleType) (one : One X.mir) → IsSync X →
-    IsSend (TupleAt ν ((shr_ref_field a boards.the_row tt).row ∷ (mut_slice_field b task_seats.the_row tt).row ∷ (shr_ref_field c X one).row ∷ []))
-half_send ν a b c X one x = search (sendable, board_sync, task_seat_send) depth 30

@@ -3,12 +3,6 @@ ghost use Rattle.std.specs.Prelude.{◌≡◌, ◌<◌, length, IfOk};
 ghost use Rattle.armus_base.specs.CheckedPlans.{first_plan};
 ghost use Rattle.board.specs.Seats.{IsOf};
 
-mod halves;
-mod locks;
-mod plans;
-mod walker;
-mod walks;
-
 use crate::{Board, Loads, Mode, Seen, TaskSeat, ViewSeat};
 use armus_base::{Code, List, NoMemory, Plan, TaskId};
 use std::alloc::Global;

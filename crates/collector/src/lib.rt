@@ -7,6 +7,3 @@ mod verdict;
 
 pub use collector::Collector;
 pub use verdict::Verdict;
-
-#[cfg(test)]
-mod tests;

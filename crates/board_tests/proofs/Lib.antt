@@ -1,0 +1,3 @@
+mod PlanTests
+mod SmallPlans
+mod HandedOver

@@ -1,0 +1,19 @@
+//! Tests of the board, of the collects and passes by its seats, and of decisions: tasks walk along small plans.
+#![tactic(auto)]
+
+#[cfg(test)]
+mod decisions;
+#[cfg(test)]
+mod halves;
+#[cfg(test)]
+mod locks;
+#[cfg(test)]
+mod passes;
+#[cfg(test)]
+mod plans;
+#[cfg(test)]
+mod walker;
+#[cfg(test)]
+mod walks;
+#[cfg(test)]
+mod worlds;

@@ -1,5 +1,0 @@
-use Rattle.board.proofs.Walking.{begun_none}
-use Rattle.collector.proofs.tests.walker.Walker.«of».Goals as goal
-
-pub invariant_of-result : goal.invariant_of-result
-invariant_of-result c = begun_none c.args.seat c.requires.first c.requires.free
