@@ -12,7 +12,7 @@ mod standing;
 pub use laws::{counts_add_up, one_report, report_exists, some_dead_extend};
 pub use live::live_lines;
 pub use refusal::{Refusal, ScheduleFault, refusal_line};
-pub use reports::{any_dead, report};
+pub use reports::{FinalReport, any_dead, report, report_of};
 pub use standing::Standing;
 
 #[cfg(test)]

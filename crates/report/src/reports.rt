@@ -32,10 +32,20 @@ fn put_found_cycle(
     }
 }
 
-/// The report of a final state. The graph is the wanted one, or for `Auto` the one that is chosen.
-pub fn report(alloc: Global, end: &Final, wanted: Wanted) -> Result<List<u8>, NoMemory>
+/// The report of a final state, and whether a task is dead in it.
+#[derive(Drop)]
+pub struct FinalReport {
+    /// The lines of the report.
+    pub text: List<u8>,
+    /// Whether a task is dead.
+    pub has_dead: bool,
+}
+
+/// The report of a final state, and whether a task is dead in it, by one analysis. The graph is the wanted one, or for `Auto` the one that is chosen.
+pub fn report_of(alloc: Global, end: &Final, wanted: Wanted) -> Result<FinalReport, NoMemory>
     requires { IsInOrder end.now.blocked }
-    ensures { IfOk result (IsReport end.now wanted) }
+    ensures text { IfOk result (λ r. IsReport end.now wanted r.text) }
+    ensures dead { IfOk result (λ r. IsTrue r.has_dead ↔ IsSomeDead end.now.blocked) }
 {
     let blocked = end.blocked.as_slice();
     let analysis = analyse(alloc, blocked, wanted)?;
@@ -46,7 +56,19 @@ pub fn report(alloc: Global, end: &Final, wanted: Wanted) -> Result<List<u8>, No
     put_tasks(alloc, &mut out, &standings)?;
     put_found_cycle(alloc, &mut out, blocked, dead)?;
     put_graph(alloc, &mut out, analysis.used, analysis.edges)?;
-    Ok(List::from_vec(out))
+    Ok(FinalReport {
+        text: List::from_vec(out),
+        has_dead: !dead.is_empty(),
+    })
+}
+
+/// The report of a final state.
+pub fn report(alloc: Global, end: &Final, wanted: Wanted) -> Result<List<u8>, NoMemory>
+    requires { IsInOrder end.now.blocked }
+    ensures { IfOk result (IsReport end.now wanted) }
+{
+    let FinalReport { text, .. } = report_of(alloc, end, wanted)?;
+    Ok(text)
 }
 
 /// Whether some task of a final state is dead.

@@ -1,16 +1,18 @@
-use Rattle.std.proofs.Common.{◌∙◌, ◌++◌, ap, subst, refl}
+use Rattle.std.proofs.Common.{◌∙◌, ◌++◌, ap, subst, refl, length}
+use Rattle.std.specs.Prelude.{◌==◌}
+use Rattle.armus_base.specs.DeadLists.{IsDeadList}
 use Rattle.armus_base.specs.Deadlocks.{IsDeadBy}
 use Rattle.adaptive.specs.Choice.{IsAnalysis}
 use Rattle.report.specs.Counts.{counts_of}
 use Rattle.report.specs.Lines.{counts_line, task_lines, graph_line}
 use Rattle.report.specs.Reports.{AppendsCycle}
 use Rattle.report.specs.Standings.{AreStandings, IsIn}
-use Rattle.report.proofs.DeadTasks.{dead_in, four_pieces}
+use Rattle.report.proofs.DeadTasks.{dead_in, four_pieces, some_dead}
 use Rattle.report.proofs.Passing.{standings_same}
-use Rattle.report.proofs.reports.report.Goals as goal
+use Rattle.report.proofs.reports.report_of.Goals as goal
 
-pub returns : goal.returns
-returns c =
+pub returns-clause-text : goal.returns-clause-text
+returns-clause-text c =
     let blocked = c.args.end.now.blocked in
     let found = c.in_ok-analysis.analysis in
     let all = c.in_ok-standings.standings.items in
@@ -37,3 +39,9 @@ returns c =
           cycle.2
           c.in_ok-put_graph.ensures;
     }
+
+pub returns-clause-dead : goal.returns-clause-dead
+returns-clause-dead c =
+    let dead = c.in_ok-analysis.analysis.dead in
+    let h : IsDeadList c.args.end.now.blocked dead = subst (λ ss. IsDeadList ss dead) c.as_slice-blocked.ensures.items c.in_ok-analysis.ensures.dead in
+    some_dead c.args.end.now.blocked dead c.is_empty.result h (c.is_empty.ensures ∙ ap (λ ts. length ts == 0) c.as_slice-dead.ensures.items)
