@@ -50,7 +50,8 @@ awaits_more f g t event answer k j m before answers waits is =
       record { answer = answer; load = answers; waits = ap (λ h. h t) is ∙ updated_same f t t event refl ∙ waits },
     )
 
-some_same : (f g : ℕ → Bool) (n : ℕ) → ((t : ℕ) → t < n → f t ≡ g t) → some_before f n ≡ some_before g n
+-- two tests that agree below a number
+pub some_same : (f g : ℕ → Bool) (n : ℕ) → ((t : ℕ) → t < n → f t ≡ g t) → some_before f n ≡ some_before g n
 some_same f g zero same = refl
 some_same f g (suc n) same =
     ap (λ b. b || some_before f n) (same n (omega arith)) ∙ ap (λ b. g n || b) (some_same f g n (λ t l. same t (omega arith)))

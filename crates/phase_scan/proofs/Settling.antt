@@ -1,7 +1,7 @@
 -- Where only one state is possible, a collect finds its statuses.
 use mathlib.Core.Path.{fun_ext}
-use Rattle.std.proofs.Common.{◌≡◌, ℕ, zero, suc, ◌<◌, ◌++◌, Bool, true, false, List, Option, Some, None, length, sym, refl, ap, ap₂, ◌∙◌, subst, arith}
-use Rattle.std.specs.Prelude.{is_some, if◌then◌else◌, ◌||◌, option_map, option_to_list}
+use Rattle.std.proofs.Common.{◌≡◌, ℕ, ◌<◌, Bool, true, false, List, Option, Some, None, length, sym, refl, ap, ◌∙◌, subst, arith}
+use Rattle.std.specs.Prelude.{is_some, if◌then◌else◌, option_map}
 use Rattle.std.proofs.lemmas.List.{get_or_past}
 use Rattle.armus_base.specs.declared.event.Event.{Event}
 use Rattle.armus_base.specs.declared.status.Member.{Member}
@@ -9,7 +9,7 @@ use Rattle.armus_base.specs.declared.status.Status.{Status}
 use Rattle.armus_base.specs.Plans.{Plan}
 use Rattle.armus_base.specs.States.{Phases, State}
 use Rattle.armus_base.specs.Runs.{Place, first_place}
-use Rattle.armus_base.specs.Places.{some_before, state_at}
+use Rattle.armus_base.specs.Places.{state_at}
 use Rattle.armus_base.specs.CheckedPlans.{IsCheckedPlan}
 use Rattle.armus_base.specs.Boards.{IsLawful}
 use Rattle.armus_base.specs.Deadlocks.{IsDeadIn}
@@ -23,17 +23,9 @@ use Rattle.phase_scan.specs.Collects.{IsCollect, waiting_on}
 use Rattle.phase_scan.specs.Settled.{KnowsAll, TellsState}
 use Rattle.phase_scan.proofs.Loads.{goes_both}
 use Rattle.phase_scan.proofs.Farther.{possible_before}
+use Rattle.phase_scan.proofs.Keeping.{some_same}
+use Rattle.phase_scan.proofs.Tables.{given_below_same}
 use Rattle.phase_scan.proofs.Telling.{IsLoaded, await, awaits, phase, seat, some_possible}
-
--- two tests that agree below a number
-before_same : (f g : ℕ → Bool) (n : ℕ) → ((t : ℕ) → t < n → f t ≡ g t) → some_before f n ≡ some_before g n
-before_same f g zero same = refl
-before_same f g (suc n) same = ap₂ (λ a b. a || b) (same n (omega arith)) (before_same f g n (λ t l. same t (omega arith)))
-
--- two functions that agree below a number
-below_same : {A : Type 0} (f g : ℕ → Option A) (n : ℕ) → ((t : ℕ) → t < n → f t ≡ g t) → given_below f n ≡ given_below g n
-below_same f g zero same = refl
-below_same f g (suc n) same = ap₂ (λ xs o. xs ++ option_to_list o) (below_same f g n (λ t l. same t (omega arith))) (same n (omega arith))
 
 -- what an await word says is waiting just where its task is published
 waiting_is : (o r : Option Event) → waiting_on (found_by o r) ≡ o
@@ -63,7 +55,7 @@ statuses_same :
     ((t p : ℕ) → t < length plan.parents → is_some (s.published t) ≡ true → p < length plan.makers → asked p ≡ true → s.phases t p ≡ r.phases t p) →
     statuses_on plan s asked ≡ statuses_on plan r asked
 statuses_same plan s r asked events phases =
-    below_same (status_of plan s asked) (status_of plan r asked) (length plan.parents) (λ t l. by_event t (s.published t) (events t l) (phases t) l)
+    given_below_same (status_of plan s asked) (status_of plan r asked) (length plan.parents) (λ t l. by_event t (s.published t) (events t l) (phases t) l)
   where
     by_event :
         (t : ℕ) (o : Option Event) → o ≡ r.published t →
@@ -72,7 +64,7 @@ statuses_same plan s r asked events phases =
     by_event t None is same l = ap (with_phases t (members plan asked r t)) is
     by_event t (Some e) is same l =
         ap (λ ps. with_phases t ps (Some e))
-        (below_same (listed_phase asked (s.phases t)) (listed_phase asked (r.phases t)) (length plan.makers)
+        (given_below_same (listed_phase asked (s.phases t)) (listed_phase asked (r.phases t)) (length plan.makers)
         (λ p few. listed_same asked (s.phases t) (r.phases t) p (same p l refl few)))
         ∙ ap (with_phases t (members plan asked r t)) is
 
@@ -105,7 +97,7 @@ module _ (before now : Known) (list : List Status) (checked : IsCheckedPlan befo
   asked_same : is_awaited before.view.plan c.found ≡ is_awaited before.view.plan (state_at before.view.plan a)
   asked_same =
       fun_ext (λ p.
-      before_same (λ t. is_event_of p (c.found.published t)) (λ t. is_event_of p ((state_at before.view.plan a).published t)) (length before.view.plan.parents)
+      some_same (λ t. is_event_of p (c.found.published t)) (λ t. is_event_of p ((state_at before.view.plan a).published t)) (length before.view.plan.parents)
       (λ t l. ap (is_event_of p) (event_so t l)))
 
   pub finds_state : list ≡ statuses_on before.view.plan (state_at before.view.plan a) (is_awaited before.view.plan (state_at before.view.plan a))
