@@ -1,6 +1,7 @@
 -- One load more: what is kept of it.
-use Rattle.std.proofs.Common.{◌≡◌, ◌≢◌, ℕ, zero, suc, ◌<◌, ◌+◌, Bool, true, false, Option, Some, length, sym, refl, ap, ◌∙◌, subst, arith, add-one}
+use Rattle.std.proofs.Common.{◌≡◌, ◌≢◌, ℕ, zero, suc, ◌<◌, ◌≤◌, ◌+◌, ◌-◌, Bool, true, false, List, Option, Some, length, get_or, sym, refl, ap, ◌∙◌, subst, arith, add-one}
 use Rattle.std.specs.Prelude.{◌||◌, is_some}
+use Rattle.std.proofs.lemmas.List.{get_or_default}
 use Rattle.armus_base.specs.declared.event.Event.{Event}
 use Rattle.armus_base.specs.Plans.{Plan}
 use Rattle.armus_base.specs.States.{Phases, State, updated, with_phase}
@@ -13,6 +14,7 @@ use Rattle.board.specs.Views.{seen}
 use Rattle.board.specs.Steps.{IsSameSeat}
 use Rattle.board.specs.Seats.{AnswersAwait, AnswersPhase, Frame, IsOf, Known}
 use Rattle.phase_scan.specs.Collects.{FindsEvent, IfAsked, LoadsAwaits, LoadsRow, LoadsRows, waiting_on}
+use Rattle.phase_scan.specs.Nexts.{AreNexts, IsNext}
 use Rattle.phase_scan.proofs.Loads.{published_phaser}
 use Rattle.phase_scan.proofs.Standing.{waits_unrefused, word_published}
 
@@ -94,6 +96,28 @@ pub row_skip :
     (asked : ℕ → Bool) (t : ℕ) (f : Phases) (p : ℕ) (k m : Known) → LoadsRow asked t f p k m → asked p ≡ false → LoadsRow asked t f (p + 1) k m
 row_skip asked t f p k m before off =
     subst (λ n. LoadsRow asked t f n k m) (sym (add-one p)) (m, before, subst (λ b. IfAsked b (AnswersPhase t p (f p)) m m) (sym off) refl)
+
+-- up to a number before which nobody else is asked for
+pub row_up_to :
+    (asked : ℕ → Bool) (t : ℕ) (f : Phases) (d p : ℕ) (k m : Known) → LoadsRow asked t f p k m → ((q : ℕ) → p ≤ q → q < p + d → asked q ≡ false) →
+    LoadsRow asked t f (p + d) k m
+row_up_to asked t f zero p k m before none = (let same : p ≡ p + 0 = omega arith in subst (λ n. LoadsRow asked t f n k m) same before)
+row_up_to asked t f (suc d) p k m before none =
+    let same : p + 1 + d ≡ p + suc d = omega arith in
+    subst (λ n. LoadsRow asked t f n k m) same
+    (row_up_to asked t f d (p + 1) k m (row_skip asked t f p k m before (none p (omega arith) (omega arith))) (λ q a b. none q (omega arith) (omega arith)))
+
+-- what is read of the list of next ones
+pub next_read : (asked : ℕ → Bool) (n : ℕ) (nexts : List ℕ) (p r : ℕ) → AreNexts asked n nexts → length nexts ≡ n + 1 → p ≤ n → r ≡ get_or nexts p r → IsNext asked n p r
+next_read asked n nexts p r are room few read =
+    subst (λ v. IsNext asked n p v) (sym (read ∙ get_or_default nexts p r 0 (omega arith))) (are p few)
+
+-- and to the next one that is
+pub row_to_next : (asked : ℕ → Bool) (t : ℕ) (f : Phases) (n p g : ℕ) (k m : Known) → LoadsRow asked t f p k m → IsNext asked n p g → LoadsRow asked t f g k m
+row_to_next asked t f n p g k m before next =
+    let from = next.from in
+    let same : p + (g - p) ≡ g = omega arith in
+    subst (λ z. LoadsRow asked t f z k m) same (row_up_to asked t f (g - p) p k m before (λ q a b. next.none q a (omega arith)))
 
 -- a write of a phase of one task leaves those of others
 pub others_stay :

@@ -1,6 +1,6 @@
 -- The tables of a collect: what a read and a write say, and the lists of statuses that they give.
 use mathlib.Core.Path.{fun_ext}
-use Rattle.std.proofs.Common.{◌≡◌, ◌≢◌, ℕ, zero, suc, ◌<◌, ◌≤◌, ◌+◌, ◌*◌, Bool, true, false, List, [], ◌∷◌, ◌++◌, Option, Some, None, length, set, add-one, arith, sym, ◌∙◌, ap, subst, refl, inl, inr}
+use Rattle.std.proofs.Common.{◌≡◌, ◌≢◌, ℕ, zero, suc, ◌<◌, ◌≤◌, ◌+◌, ◌-◌, ◌*◌, Bool, true, false, List, [], ◌∷◌, ◌++◌, Option, Some, None, length, set, add-one, arith, sym, ◌∙◌, ap, subst, refl, inl, inr}
 use Rattle.std.specs.Prelude.{nat_lt, slice_get, unwrap_or, if◌then◌else◌, option_map, option_to_list, ◌||◌}
 use Rattle.std.proofs.lemmas.Bool.{cases_eq, cases_lt}
 use Rattle.std.proofs.lemmas.Nat.{same_from_place}
@@ -10,9 +10,10 @@ use Rattle.armus_base.specs.declared.status.Member.{Member}
 use Rattle.armus_base.specs.declared.status.Status.{Status}
 use Rattle.armus_base.specs.Finals.{given_below, listed_phase}
 use Rattle.armus_base.specs.Places.{some_before}
-use Rattle.armus_base.specs.States.{State, with_phase}
+use Rattle.armus_base.specs.States.{Phases, State, with_phase}
 use Rattle.armus_base.specs.Statuses.{IsInOrder}
 use Rattle.armus_base.proofs.Steps.{with_phase_same, with_phase_other}
+use Rattle.phase_scan.specs.Nexts.{IsNext}
 use Rattle.phase_scan.specs.Tables.{phases_of_cells, status_found}
 
 pub slice_get-set_same : {A : Type 0} (xs : List A) (k : ℕ) (v : A) → k < length xs → slice_get (set xs k v) k ≡ Some v
@@ -83,6 +84,21 @@ given_below_more f n x xs e h = ap (λ ys. ys ++ x ∷ []) e ∙ ap (λ o. given
 pub given_below_none : {A : Type 0} (f : ℕ → Option A) (n : ℕ) (xs : List A) → xs ≡ given_below f n → f n ≡ None → xs ≡ given_below f (n + 1)
 given_below_none f n xs e h =
     e ∙ sym (append-nil (given_below f n)) ∙ ap (λ o. given_below f n ++ option_to_list o) (sym h) ∙ ap (given_below f) (sym (add-one n))
+
+-- up to the next asked number nothing is listed
+pub listed_up_to : (asked : ℕ → Bool) (m : Phases) (d p : ℕ) → ((q : ℕ) → p ≤ q → q < p + d → asked q ≡ false) → given_below (listed_phase asked m) p ≡ given_below (listed_phase asked m) (p + d)
+listed_up_to asked m zero p none = (let same : p ≡ p + 0 = omega arith in ap (given_below (listed_phase asked m)) same)
+listed_up_to asked m (suc d) p none =
+    given_below_none (listed_phase asked m) p (given_below (listed_phase asked m) p) refl
+    (ap (λ b. if b then option_map (λ n. record { p = record { 0 = p }; n = n }) (m p) else None) (none p (omega arith) (omega arith)))
+    ∙ listed_up_to asked m d (p + 1) (λ q a b. none q (omega arith) (omega arith))
+    ∙ (let same : p + 1 + d ≡ p + suc d = omega arith in ap (given_below (listed_phase asked m)) same)
+
+pub listed_to_next : (asked : ℕ → Bool) (m : Phases) (n p g : ℕ) (xs : List Member) → xs ≡ given_below (listed_phase asked m) p → IsNext asked n p g → xs ≡ given_below (listed_phase asked m) g
+listed_to_next asked m n p g xs is next =
+    let from = next.from in
+    let same : p + (g - p) ≡ g = omega arith in
+    is ∙ listed_up_to asked m (g - p) p (λ q a b. next.none q a (omega arith)) ∙ ap (given_below (listed_phase asked m)) same
 
 pub given_below_same : {A : Type 0} (f g : ℕ → Option A) (n : ℕ) → ((k : ℕ) → k < n → f k ≡ g k) → given_below f n ≡ given_below g n
 given_below_same f g zero same = refl

@@ -1,5 +1,5 @@
 // What the loads of a collect found.
-ghost use Rattle.std.specs.Prelude.{◌≡◌, ◌≢◌, ℕ, ◌<◌, ◌≤◌, ◌*◌, ◌^◌, Some, None, false, ◌||◌, IfOk, IfSome, length, vec_len};
+ghost use Rattle.std.specs.Prelude.{◌≡◌, ◌≢◌, ℕ, ◌+◌, ◌<◌, ◌≤◌, ◌*◌, ◌^◌, Some, None, false, ◌||◌, IfOk, IfSome, length, vec_len};
 ghost use Rattle.armus_base.specs.CheckedPlans.{IsCheckedPlan};
 ghost use Rattle.armus_base.specs.Finals.{given_below, is_event_of, listed_phase};
 ghost use Rattle.armus_base.specs.Places.{some_before};
@@ -7,7 +7,9 @@ ghost use Rattle.armus_base.specs.States.{updated, with_phase};
 ghost use Rattle.board.specs.Seats.{IsOf};
 ghost use Rattle.board.specs.Views.{found_of};
 ghost use Rattle.phase_scan.specs.Collects.{LoadsAwaits, LoadsRow, LoadsRows, waiting_on};
+ghost use Rattle.phase_scan.specs.Nexts.{AreNexts};
 
+use crate::nexts::{fill_nexts, nexts_of};
 use crate::phase_table::PhaseTable;
 use armus_base::{Event, List, Member, NoMemory, Phase, PhaserId, Status, TaskId};
 use board::{Board, Loads, Seen};
@@ -21,9 +23,12 @@ pub(crate) struct Findings {
     pub(crate) events: Vec<Option<Event>>,
     // whether a task was found waiting on an event of each phaser
     pub(crate) awaited: Vec<bool>,
+    // from each phaser on the first one found awaited
+    nexts: Vec<u32>,
     phases: PhaseTable,
     ghost task_count: { vec_len events ≡ tasks },
     ghost phaser_count: { vec_len awaited ≡ phasers },
+    ghost next_count: { vec_len nexts ≡ phasers + 1 },
     ghost rows: { phases.tasks ≡ tasks },
     ghost columns: { phases.phasers ≡ phasers },
 }
@@ -54,6 +59,7 @@ impl Findings {
             phasers,
             events: vec![in alloc; None; tasks as usize]?,
             awaited: vec![in alloc; false; phasers as usize]?,
+            nexts: vec![in alloc; 0; phasers as usize + 1]?,
             phases: PhaseTable::new(alloc, tasks as usize, phasers as usize)?,
         })
     }
@@ -84,7 +90,7 @@ impl Findings {
         }
     }
 
-    /// Loads the await words of all tasks, in order.
+    /// Loads the await words of all tasks, in order, and notes which phasers come next among those found awaited.
     pub(crate) fn load_awaits<L: Loads>(&mut self, by: &mut L, board: &Board)
         requires made { IsOf (L.known by.old) board.now }
         requires tasks { self.old.tasks ≡ length board.now.plan.parents }
@@ -96,12 +102,14 @@ impl Findings {
         ensures phasers { self.new.phasers ≡ self.old.phasers }
         ensures loads { LoadsAwaits (event_at self.new.events.items) self.old.tasks (L.known by.old) (L.known by.new) }
         ensures awaited { (p : ℕ) → awaited_found self.new p ≡ some_before (λ t. is_event_of p (event_at self.new.events.items t)) self.old.tasks }
+        ensures nexts { AreNexts (awaited_found self.new) self.new.phasers self.new.nexts.items }
     {
         for number in 0..board.tasks() {
             let t = TaskId(number);
             let seen = by.load_await(board, t);
             self.keep_event(t, waiting(seen));
         }
+        fill_nexts(self.nexts.as_mut_slice(), self.awaited.as_slice(), None);
     }
 
     // Loads the phase words of a task on the phasers found awaited, in order.
@@ -110,19 +118,21 @@ impl Findings {
         requires tasks { self.old.tasks ≡ length board.now.plan.parents }
         requires phasers { self.old.phasers ≡ length board.now.plan.makers }
         requires task { t.0 < self.old.tasks }
+        requires nexts { AreNexts (awaited_found self.old) self.old.phasers self.old.nexts.items }
         ensures made { IsOf (L.known by.new) board.now }
         ensures tasks { self.new.tasks ≡ self.old.tasks }
         ensures phasers { self.new.phasers ≡ self.old.phasers }
         ensures events { self.new.events.items ≡ self.old.events.items }
         ensures awaited { self.new.awaited.items ≡ self.old.awaited.items }
+        ensures nexts { self.new.nexts.items ≡ self.old.nexts.items }
         ensures others { (u : ℕ) → u ≢ t.0 → phases_in self.new.phases u ≡ phases_in self.old.phases u }
         ensures loads { LoadsRow (awaited_found self.old) t.0 (phases_in self.new.phases t.0) self.old.phasers (L.known by.old) (L.known by.new) }
     {
-        for number in 0..self.phasers {
-            if self.awaited[number as usize] {
-                let found = by.load_phase(board, t, PhaserId(number));
-                self.phases.set(t.0 as usize, number as usize, found);
-            }
+        let mut p = self.nexts[0];
+        'row: while p < self.phasers {
+            let found = by.load_phase(board, t, PhaserId(p));
+            self.phases.set(t.0 as usize, p as usize, found);
+            p = self.nexts[p as usize + 1];
         }
     }
 
@@ -131,6 +141,7 @@ impl Findings {
         requires made { IsOf (L.known by.old) board.now }
         requires tasks { self.old.tasks ≡ length board.now.plan.parents }
         requires phasers { self.old.phasers ≡ length board.now.plan.makers }
+        requires nexts { AreNexts (awaited_found self.old) self.old.phasers self.old.nexts.items }
         ensures tasks { self.new.tasks ≡ self.old.tasks }
         ensures phasers { self.new.phasers ≡ self.old.phasers }
         ensures events { self.new.events.items ≡ self.old.events.items }
@@ -160,16 +171,20 @@ impl Findings {
     }
 
     // The phases of a task that were found on the phasers found awaited.
-    fn members(&self, alloc: Global, t: TaskId) -> Result<Vec<Member>, NoMemory>
+    fn members(&self, alloc: Global, t: TaskId, nexts: &[u32]) -> Result<Vec<Member>, NoMemory>
         requires task { t.0 < self.now.tasks }
+        requires room { length nexts.now ≡ self.now.phasers + 1 }
+        requires nexts { AreNexts (awaited_found self.now) self.now.phasers nexts.now }
         ensures { IfOk result (λ list. list.items ≡ given_below (listed_phase (awaited_found self.now) ((state_found self.now).phases t.0)) self.now.phasers) }
     {
         let mut members = Vec::new(alloc);
-        for p in 0..self.phasers {
+        let mut p = nexts[0];
+        'row: while p < self.phasers {
             match self.listed(t, PhaserId(p)) {
                 Some(member) => members.push(member)?,
                 None => {}
             }
+            p = nexts[p as usize + 1];
         }
         Ok(members)
     }
@@ -178,12 +193,13 @@ impl Findings {
     pub(crate) fn statuses(&self, alloc: Global) -> Result<List<Status>, NoMemory>
         ensures { IfOk result (λ list. list ≡ statuses_found self.now) }
     {
+        let nexts = nexts_of(alloc, self.awaited.as_slice(), None)?;
         let mut statuses = Vec::new(alloc);
         for number in 0..self.tasks {
             let t = TaskId(number);
             match self.events[number as usize] {
                 Some(event) => {
-                    let phases = self.members(alloc, t)?;
+                    let phases = self.members(alloc, t, nexts.as_slice())?;
                     statuses.push(Status {
                         t,
                         event,

@@ -4,6 +4,7 @@
 mod answer;
 mod cells;
 mod findings;
+mod nexts;
 mod phase_table;
 mod scan;
 mod supposing;

@@ -1,13 +1,15 @@
 // What was found, with the status that a task would have.
-ghost use Rattle.std.specs.Prelude.{◌≡◌, ◌≢◌, ℕ, ◌<◌, ◌≤◌, Some, None, true, false, IfOk, OnErr, length, vec_len};
+ghost use Rattle.std.specs.Prelude.{◌≡◌, ◌≢◌, ℕ, ◌+◌, ◌<◌, ◌≤◌, Some, None, true, false, IfOk, OnErr, length, vec_len};
 ghost use Rattle.armus_base.specs.Finals.{given_below, listed_phase};
 ghost use Rattle.armus_base.specs.States.{updated};
 ghost use Rattle.board.specs.Seats.{IsOf};
 ghost use Rattle.board.specs.Steps.{own_phase};
+ghost use Rattle.phase_scan.specs.Nexts.{AreNexts};
 ghost use Rattle.phase_scan.specs.Supposed.{LoadsColumn};
 ghost use Rattle.phase_scan.specs.Tables.{awaited_found, event_at, phase_in, state_found, state_supposed, status_found};
 
 use crate::findings::Findings;
+use crate::nexts::nexts_of;
 use armus_base::{Event, List, Member, NoMemory, Phase, PhaserId, Status, TaskId};
 use board::{Board, Loads, TaskSeat};
 use std::alloc::Global;
@@ -76,16 +78,21 @@ impl Findings {
         t: TaskId,
         p: PhaserId,
         found: Option<Phase>,
+        nexts: &[u32],
     ) -> Result<Vec<Member>, NoMemory>
         requires task { t.0 < self.now.tasks }
+        requires room { length nexts.now ≡ self.now.phasers + 1 }
+        requires nexts { AreNexts (updated (awaited_found self.now) p.0 true) self.now.phasers nexts.now }
         ensures { IfOk result (λ list. list.items ≡ given_below (listed_phase (updated (awaited_found self.now) p.0 true) (updated ((state_found self.now).phases t.0) p.0 found)) self.now.phasers) }
     {
         let mut members = Vec::new(alloc);
-        for q in 0..self.phasers {
+        let mut q = nexts[0];
+        'row: while q < self.phasers {
             match self.listed_with(t, PhaserId(q), p, found) {
                 Some(member) => members.push(member)?,
                 None => {}
             }
+            q = nexts[q as usize + 1];
         }
         Ok(members)
     }
@@ -122,18 +129,23 @@ impl Findings {
         seat: &mut TaskSeat,
         board: &Board,
         p: PhaserId,
+        nexts: &[u32],
     ) -> Result<Vec<Member>, NoMemory>
         requires made { IsOf seat.old board.now }
         requires phasers { self.now.phasers ≡ length board.now.plan.makers }
+        requires room { length nexts.now ≡ self.now.phasers + 1 }
+        requires nexts { AreNexts (updated (awaited_found self.now) p.0 true) self.now.phasers nexts.now }
         ensures seat { seat.new ≡ seat.old }
         ensures members { IfOk result (λ list. list.items ≡ given_below (listed_phase (updated (awaited_found self.now) p.0 true) (own_phase seat.old.view)) self.now.phasers) }
     {
         let mut members = Vec::new(alloc);
-        for q in 0..self.phasers {
+        let mut q = nexts[0];
+        'row: while q < self.phasers {
             match self.own_listed(seat, board, PhaserId(q), p) {
                 Some(member) => members.push(member)?,
                 None => {}
             }
+            q = nexts[q as usize + 1];
         }
         Ok(members)
     }
@@ -147,17 +159,20 @@ impl Findings {
         t: TaskId,
         event: Event,
         column: &[Option<Phase>],
+        nexts: &[u32],
         u: TaskId,
     ) -> Result<Option<Status>, NoMemory>
         requires made { IsOf seat.old board.now }
         requires phasers { self.now.phasers ≡ length board.now.plan.makers }
         requires task { u.0 < self.now.tasks }
         requires count { length column.now ≡ self.now.tasks }
+        requires room { length nexts.now ≡ self.now.phasers + 1 }
+        requires nexts { AreNexts (updated (awaited_found self.now) event.p.0 true) self.now.phasers nexts.now }
         ensures seat { seat.new ≡ seat.old }
         ensures status { IfOk result (λ o. o ≡ status_found self.now.phasers (state_supposed (state_found self.now) t.0 event (own_phase seat.old.view) (phase_in column.now)) (updated (awaited_found self.now) event.p.0 true) u.0) }
     {
         if u.0 == t.0 {
-            let phases = self.own_members(alloc, seat, board, event.p)?;
+            let phases = self.own_members(alloc, seat, board, event.p, nexts)?;
             return Ok(Some(Status {
                 t: u,
                 event,
@@ -167,7 +182,7 @@ impl Findings {
         match self.events[u.0 as usize] {
             Some(waits) => {
                 let found = column[u.0 as usize];
-                let phases = self.members_with(alloc, u, event.p, found)?;
+                let phases = self.members_with(alloc, u, event.p, found, nexts)?;
                 Ok(Some(Status {
                     t: u,
                     event: waits,
@@ -194,9 +209,11 @@ impl Findings {
         ensures seat { seat.new ≡ seat.old }
         ensures statuses { IfOk result (λ list. list ≡ given_below (status_found self.now.phasers (state_supposed (state_found self.now) t.0 event (own_phase seat.old.view) (phase_in column.now)) (updated (awaited_found self.now) event.p.0 true)) self.now.tasks) }
     {
+        let nexts = nexts_of(alloc, self.awaited.as_slice(), Some(event.p))?;
         let mut statuses = Vec::new(alloc);
         for number in 0..self.tasks {
-            match self.status_with(alloc, seat, board, t, event, column, TaskId(number))? {
+            let u = TaskId(number);
+            match self.status_with(alloc, seat, board, t, event, column, nexts.as_slice(), u)? {
                 Some(status) => statuses.push(status)?,
                 None => {}
             }

@@ -1,9 +1,10 @@
-use Rattle.std.proofs.Common.{◌≡◌, ◌<◌, ◌+◌, ◌∙◌, ap, arith, length, refl, sym, subst, vec_len, false, true, List, Bool, None}
+use Rattle.std.proofs.Common.{◌≡◌, ◌<◌, ◌+◌, ◌∙◌, ap, arith, length, refl, sym, subst, vec_len, false, true, List, Bool, ℕ, None}
 use Rattle.std.specs.Prelude.{unwrap_or, is_some}
 use Rattle.std.proofs.lemmas.Option.{slice_get_read}
 use Rattle.board.specs.Seats.{IsOf}
 use Rattle.phase_scan.specs.declared.findings.Findings.{Findings}
 use Rattle.phase_scan.specs.Collects.{LoadsRow, LoadsRows}
+use Rattle.phase_scan.specs.Nexts.{AreNexts}
 use Rattle.phase_scan.specs.Tables.{awaited_found, event_at, is_marked, phases_in, state_found}
 use Rattle.phase_scan.proofs.Keeping.{rows_more, rows_skip}
 use Rattle.phase_scan.proofs.findings.Findings.load_rows.Goals.{then-is_some, else-is_some}
@@ -37,6 +38,7 @@ loop-number-preserved g c =
             phasers = ap (λ (f : Findings). f.phasers) w.self-is ∙ row.phasers ∙ i.phasers;
             events = ap (λ (f : Findings). f.events.items) w.self-is ∙ row.events ∙ i.events;
             awaited = ap (λ (f : Findings). f.awaited.items) w.self-is ∙ row.awaited ∙ i.awaited;
+            nexts = ap (λ (f : Findings). f.nexts.items) w.self-is ∙ row.nexts ∙ i.nexts;
             loads =
                 subst (λ (f : Findings). LoadsRows first.phasers (awaited_found first) (state_found f) (t + 1) before (g.L.Loads.known c.if-is_some.by)) (sym w.self-is)
                 (subst (λ k. LoadsRows first.phasers (awaited_found first) (state_found last) (t + 1) before k) told more);
@@ -51,8 +53,18 @@ loop-number-preserved g c =
             phasers = ap (λ (f : Findings). f.phasers) w.self-is ∙ i.phasers;
             events = ap (λ (f : Findings). f.events.items) w.self-is ∙ i.events;
             awaited = ap (λ (f : Findings). f.awaited.items) w.self-is ∙ i.awaited;
+            nexts = ap (λ (f : Findings). f.nexts.items) w.self-is ∙ i.nexts;
             loads =
                 subst (λ (f : Findings). LoadsRows first.phasers (awaited_found first) (state_found f) (t + 1) before (g.L.Loads.known c.if-is_some.by)) (sym w.self-is)
                 (subst (λ k. LoadsRows first.phasers (awaited_found first) (state_found self) (t + 1) before k) told skip);
           }
     ]
+
+pub load_row-requires-clause-nexts : goal.load_row-requires-clause-nexts
+load_row-requires-clause-nexts g c =
+    let i = c.loop-number.invariant in
+    let first = c.args.self.now in
+    let self = c.loop-number.self in
+    subst (λ (xs : List ℕ). AreNexts (awaited_found self) self.phasers xs) (sym i.nexts)
+    (subst (λ n. AreNexts (awaited_found self) n first.nexts.items) (sym i.phasers)
+    (subst (λ (xs : List Bool). AreNexts (is_marked xs) first.phasers first.nexts.items) (sym i.awaited) c.requires.nexts))

@@ -11,5 +11,6 @@ invariant-loop-number g l = record {
   phasers : l.self.phasers ≡ l.initial.self.phasers;
   events : l.self.events.items ≡ l.initial.self.events.items;
   awaited : l.self.awaited.items ≡ l.initial.self.awaited.items;
+  nexts : l.self.nexts.items ≡ l.initial.self.nexts.items;
   loads : LoadsRows l.initial.self.phasers (awaited_found l.initial.self) (state_found l.self) l.number (g.L.Loads.known l.initial.by) (g.L.Loads.known l.by);
 }

@@ -16,12 +16,12 @@ loop-number-preserved c =
     let is = c.in_ok-status.ensures.status ∙ ap (λ (k : Known). status_found self.phasers (state_supposed (state_found self) c.args.t.0 c.args.event (own_phase k.view) (phase_in c.args.column.now)) asked c.loop-number.number) i.seat in
     record {
       seat = c.in_ok-status.ensures.seat ∙ i.seat;
-      listed = elim c.match-branch-2.branch [
+      listed = elim c.match-branch-3.branch [
         | in-Some+in_ok-push-in-Some w ↦
-            some_more f c.loop-number.number c.in_ok-status.field-0 w.in-Some.status c.loop-number.statuses.items c.match-branch-2.statuses.items is w.in-Some.is
+            some_more f c.loop-number.number c.in_ok-status.field-0 w.in-Some.status c.loop-number.statuses.items c.match-branch-3.statuses.items is w.in-Some.is
             (ap (λ v. v.items) w.statuses-is ∙ w.in_ok-push-in-Some.ensures.items) i.listed
         | in-None w ↦
-            none_more f c.loop-number.number c.in_ok-status.field-0 c.loop-number.statuses.items c.match-branch-2.statuses.items is w.in-None.is
+            none_more f c.loop-number.number c.in_ok-status.field-0 c.loop-number.statuses.items c.match-branch-3.statuses.items is w.in-None.is
             (ap (λ v. v.items) w.statuses-is) i.listed
       ];
     }
