@@ -12,13 +12,13 @@ use Rattle.armus_base.specs.States.{Step}
 use Rattle.schedule.specs.declared.pass.OpenPass.{OpenPass}
 use Rattle.schedule.specs.declared.pass.Waiting.{Waiting}
 use Rattle.schedule.specs.Passes.{Loads, event_found, event_after}
-use Rattle.schedule.specs.OpenPasses.{IsPassOf, HasPhases, KeepsEvent, phaser_of, waiting_found, awaited_found, status_with, row_found}
+use Rattle.schedule.specs.inside.OpenPasses.{IsPassOf, HasPhases, KeepsEvent, phaser_of, waiting_found, awaited_found, status_with, row_found}
 use Rattle.std.proofs.Common.{eq-eqb, get_or}
 use Rattle.armus_base.proofs.Below.{given_from}
 use Rattle.schedule.proofs.Marks.{given_more, given_same}
 use Rattle.schedule.proofs.Rows.{any_given, slice_get_last}
 use Rattle.pl_core.specs.Worlds.{WorldValue, state_of}
-use Rattle.schedule.specs.Following.{IsAt}
+use Rattle.schedule.specs.inside.Following.{IsAt}
 use Rattle.schedule.proofs.Following.{state_is}
 use Rattle.schedule.proofs.PassesNameTheDead.{published_phaser}
 

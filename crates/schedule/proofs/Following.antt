@@ -15,7 +15,7 @@ use Rattle.pl_core.specs.declared.stand.Stand.{Stand}
 use Rattle.pl_core.specs.declared.stand.Stand.TheVariants.{Unforked, Done, Refused, Ready, Await, Waits}
 use Rattle.pl_core.specs.Stands.{StandsSo}
 use Rattle.pl_core.specs.Worlds.{WorldValue, places_of, state_of, next_action}
-use Rattle.schedule.specs.Following.{IsAt}
+use Rattle.schedule.specs.inside.Following.{IsAt}
 
 -- the state of a world that follows a run
 pub state_is : (w : WorldValue) (h : List Step) → IsAt w h → state_of w ≡ state_after h

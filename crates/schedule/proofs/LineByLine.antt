@@ -23,15 +23,16 @@ use Rattle.schedule.specs.declared.lines.Line.TheVariants as line
 use Rattle.schedule.specs.declared.pass.OpenPass.{OpenPass}
 use Rattle.schedule.specs.declared.replaying.Replaying.{Replaying}
 use Rattle.schedule.specs.declared.verdict.PassVerdict.{PassVerdict}
-use Rattle.schedule.specs.Following.{IsAt}
-use Rattle.schedule.specs.OpenPasses.{IsPassOf, IsMidPass}
+use Rattle.schedule.specs.inside.Following.{IsAt}
+use Rattle.schedule.specs.inside.OpenPasses.{IsPassOf, IsMidPass}
 use Rattle.schedule.specs.Passes.{Loads, loads_of, is_found_awaited, state_found, statuses_found}
 use Rattle.std.proofs.Common.{get_or, take, drop, take-append-drop, ◌==◌}
 use Rattle.std.proofs.lemmas.List.{take_more, drop_more, length-take-le}
 use Rattle.schedule.specs.declared.replaying.LineEnd.{LineEnd}
 use Rattle.schedule.specs.declared.replaying.LineEnd.TheVariants.{Fault, NoMemory as LineWantsMemory}
 use Rattle.schedule.specs.Replays.{Leads, one_more, Progress, loaded, IsNext, Takes}
-use Rattle.schedule.specs.Replaying.{AreDeadIn, AreVerdicts, one_pass, IsOpenPass, HasOpenPass, IsReplayOf, Replays, TakesLine, end_of}
+use Rattle.schedule.specs.Replaying.{AreDeadIn, AreVerdicts, one_pass, Replays}
+use Rattle.schedule.specs.inside.KeptReplays.{IsOpenPass, HasOpenPass, KeepsProgress, TakesLine, end_of}
 use Rattle.schedule.proofs.Following.{state_is}
 use Rattle.std.proofs.lemmas.Option.{slice_get_within}
 use Rattle.std.proofs.lemmas.Bool.{eq-eqb, ne_eqb}
@@ -144,12 +145,12 @@ pub nothing_loaded : (plan : Plan) → IsCheckedPlan plan → 0 ≢ loads_of pla
 nothing_loaded plan checked e = (let l = slice_get_within plan.parents 0 None checked.tables.root in absurd (omega arith))
 
 -- the last load of a pass closes it
-pub closes : (plan : Plan) (a : Progress) (old : Replaying) (l : Loads) (verdicts : List PassVerdict) (v : PassVerdict) → IsReplayOf plan a old
+pub closes : (plan : Plan) (a : Progress) (old : Replaying) (l : Loads) (verdicts : List PassVerdict) (v : PassVerdict) → KeepsProgress plan a old
     → length (l ++ a.run ∷ []) ≡ loads_of plan (l ++ a.run ∷ []) → IsDeadList (statuses_found plan (l ++ a.run ∷ [])) v.dead → verdicts ≡ old.verdicts ++ v ∷ []
-    → IsReplayOf plan (loaded plan a (l ++ a.run ∷ [])) (record { world = old.world; pass = None; verdicts = verdicts; steps = old.steps })
+    → KeepsProgress plan (loaded plan a (l ++ a.run ∷ [])) (record { world = old.world; pass = None; verdicts = verdicts; steps = old.steps })
 closes plan a old l verdicts v of full dead same =
     let more = l ++ a.run ∷ [] in
-    subst (λ b. IsReplayOf plan (if b then record a { open_pass = None; passes = a.passes ++ more ∷ [] } else record a { open_pass = Some more }) (record { world = old.world; pass = None; verdicts = verdicts; steps = old.steps }))
+    subst (λ b. KeepsProgress plan (if b then record a { open_pass = None; passes = a.passes ++ more ∷ [] } else record a { open_pass = Some more }) (record { world = old.world; pass = None; verdicts = verdicts; steps = old.steps }))
     (sym (eq-eqb (length more) (loads_of plan more) full))
     record {
       plan_is = of.plan_is;
@@ -160,12 +161,12 @@ closes plan a old l verdicts v of full dead same =
     }
 
 -- another load leaves it open
-pub stays_open : (plan : Plan) (a : Progress) (old : Replaying) (l : Loads) (p : OpenPass) → IsReplayOf plan a old
+pub stays_open : (plan : Plan) (a : Progress) (old : Replaying) (l : Loads) (p : OpenPass) → KeepsProgress plan a old
     → length (l ++ a.run ∷ []) ≢ loads_of plan (l ++ a.run ∷ []) → IsPassOf plan (l ++ a.run ∷ []) p
-    → IsReplayOf plan (loaded plan a (l ++ a.run ∷ [])) (record { world = old.world; pass = Some p; verdicts = old.verdicts; steps = old.steps })
+    → KeepsProgress plan (loaded plan a (l ++ a.run ∷ [])) (record { world = old.world; pass = Some p; verdicts = old.verdicts; steps = old.steps })
 stays_open plan a old l p of other is =
     let more = l ++ a.run ∷ [] in
-    subst (λ b. IsReplayOf plan (if b then record a { open_pass = None; passes = a.passes ++ more ∷ [] } else record a { open_pass = Some more }) (record { world = old.world; pass = Some p; verdicts = old.verdicts; steps = old.steps }))
+    subst (λ b. KeepsProgress plan (if b then record a { open_pass = None; passes = a.passes ++ more ∷ [] } else record a { open_pass = Some more }) (record { world = old.world; pass = Some p; verdicts = old.verdicts; steps = old.steps }))
     (sym (ne_eqb (length more) (loads_of plan more) other))
     record { plan_is = of.plan_is; at = of.at; open_pass = (is, other); verdicts = of.verdicts; steps = of.steps }
 

@@ -10,7 +10,7 @@ use Rattle.std.proofs.Math.ListN.{length-set}
 use Rattle.armus_base.specs.Finals.{given_below}
 use Rattle.pl_core.proofs.Cells.{slice_get-set_same, slice_get-set_other}
 use Rattle.schedule.specs.declared.pass.Waiting.{Waiting}
-use Rattle.schedule.specs.OpenPasses.{marked, phaser_of}
+use Rattle.schedule.specs.inside.OpenPasses.{marked, phaser_of}
 
 pub given_more : {A : Type 0} (f : ℕ → Option A) (n : ℕ) → given_below f (n + 1) ≡ given_below f n ++ option_to_list (f n)
 given_more f n = ap (given_below f) (add-one n)

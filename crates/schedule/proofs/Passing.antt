@@ -10,7 +10,7 @@ use Rattle.armus_base.specs.Finals.{given_below, listed_phase}
 use Rattle.armus_base.specs.Plans.{Plan}
 use Rattle.schedule.specs.declared.pass.OpenPass.{OpenPass}
 use Rattle.schedule.specs.Passes.{Loads, event_found, is_found_awaited, waiting_below, awaited_below, phases_found, loads_of, statuses_found}
-use Rattle.schedule.specs.OpenPasses.{IsPassOf, waiting_found, awaited_found, status_with}
+use Rattle.schedule.specs.inside.OpenPasses.{IsPassOf, waiting_found, awaited_found, status_with}
 use Rattle.schedule.proofs.Counts.{cell_within, count_same}
 use Rattle.schedule.proofs.Rows.{length_given, map_given}
 use Rattle.schedule.proofs.Marks.{given_same}

@@ -16,7 +16,7 @@ use Rattle.armus_base.specs.States.{Step}
 use Rattle.schedule.specs.declared.pass.OpenPass.{OpenPass}
 use Rattle.schedule.specs.declared.pass.Waiting.{Waiting}
 use Rattle.schedule.specs.Passes.{Loads, event_found, is_found_awaited, waiting_below, awaited_below, phase_after, phase_load, phases_found}
-use Rattle.schedule.specs.OpenPasses.{IsPassOf, IsMidPass, HasPlace, KeepsPhase, EndsRow, waiting_found, awaited_found, member_found, row_found, status_with}
+use Rattle.schedule.specs.inside.OpenPasses.{IsPassOf, IsMidPass, HasPlace, KeepsPhase, EndsRow, waiting_found, awaited_found, member_found, row_found, status_with}
 use Rattle.schedule.proofs.Awaiting.{extends_less, has_next}
 use Rattle.schedule.proofs.Counts.{count_same}
 use Rattle.schedule.proofs.Passing.{itself, full_is, some_map, some_if}

@@ -2,9 +2,8 @@ pub mod Lines
 pub mod Split
 pub mod Passes
 pub mod Replays
-pub mod OpenPasses
-pub mod Following
 pub mod Replaying
 pub mod Texts
 pub mod Records
+pub mod inside
 pub mod Laws

@@ -3,10 +3,10 @@ ghost use Rattle.std.specs.Prelude.{◌≡◌, ◌<◌, ◌≤◌, ◌+◌, ◌^
 ghost use Rattle.armus_base.specs.Finals.{given_below};
 ghost use Rattle.armus_base.specs.States.{Step};
 ghost use Rattle.schedule.specs.Passes.{Loads, loads_of, statuses_found};
-ghost use Rattle.schedule.specs.OpenPasses.{EndsRow, IsMidPass, IsPassOf, KeepsEvent, KeepsPhase, marked, phaser_of};
+ghost use Rattle.schedule.specs.inside.OpenPasses.{EndsRow, IsMidPass, IsPassOf, KeepsEvent, KeepsPhase, marked, phaser_of};
 ghost use Rattle.armus_base.specs.CheckedPlans.{IsCheckedPlan};
 ghost use Rattle.armus_base.specs.Plans.{Plan as PlanValue};
-ghost use Rattle.schedule.specs.Following.{IsAt};
+ghost use Rattle.schedule.specs.inside.Following.{IsAt};
 ghost use Rattle.pl_core.specs.Worlds.{state_of};
 
 use armus_base::{Event, List, Member, NoMemory, Phase, PhaserId, Plan, Status, TaskId};

@@ -5,15 +5,19 @@ ghost use Rattle.armus_base.specs.DeadLists.{IsDeadList};
 ghost use Rattle.armus_base.specs.Runs.{state_after};
 ghost use Rattle.armus_base.specs.States.{Step};
 ghost use Rattle.armus_base.specs.Statuses.{IsInOrder};
-ghost use Rattle.schedule.specs.Following.{IsAt};
-ghost use Rattle.schedule.specs.OpenPasses.{IsPassOf};
+ghost use Rattle.schedule.specs.inside.Following.{IsAt};
+ghost use Rattle.schedule.specs.inside.OpenPasses.{IsPassOf};
 ghost use Rattle.schedule.specs.Passes.{Loads, loads_of};
 ghost use Rattle.schedule.specs.Replays.{Progress, at_start};
-ghost use Rattle.schedule.specs.Replaying.{AreDeadIn, HasOpenPass, IsReplayOf, Replays, TakesLine, end_of};
+ghost use Rattle.schedule.specs.Replaying.{AreDeadIn, Replays};
+ghost use Rattle.schedule.specs.inside.KeptReplays.{HasOpenPass, KeepsProgress, TakesLine, end_of};
 
 use crate::Line;
 use crate::pass::OpenPass;
-use crate::verdict::{PassVerdict, ReplayEnd, Replayed, ScheduleFault};
+use crate::verdict::{
+    NO_FORM, NO_OPEN_PASS, NO_TASK, NOT_ENABLED, PASS_IS_OPEN, PassVerdict, ReplayEnd, Replayed,
+    ScheduleFault,
+};
 use adaptive::{Wanted, analyse};
 use armus_base::{List, NoMemory, Plan, Status, TaskId};
 use pl_core::World;
@@ -75,7 +79,7 @@ impl<'p> Replaying<'p> {
     // No line is taken.
     fn start(alloc: Global, plan: &'p Plan) -> Result<Replaying<'p>, NoMemory>
         requires checked { IsCheckedPlan plan.now }
-        ensures start { IfOk result (IsReplayOf plan.now at_start) }
+        ensures start { IfOk result (KeepsProgress plan.now at_start) }
     {
         Ok(Replaying {
             world: World::start(alloc, plan)?,
@@ -88,14 +92,14 @@ impl<'p> Replaying<'p> {
     // Makes the step of this task.
     fn step(&mut self, plan: &Plan, t: TaskId) -> Result<(), LineEnd>
         requires fits { self.old.steps + 1 < 2 ^ 32 }
-        requires kept { (a : Progress) × IsReplayOf plan.now a self.old }
-        ensures taken { (a : Progress) → IsReplayOf plan.now a self.old → TakesLine plan.now a (Line.Step t.0) self.new result }
+        requires kept { (a : Progress) × KeepsProgress plan.now a self.old }
+        ensures taken { (a : Progress) → KeepsProgress plan.now a self.old → TakesLine plan.now a (Line.Step t.0) self.new result }
     {
         if t.0 >= plan.tasks() {
-            return Err(LineEnd::Fault(3));
+            return Err(LineEnd::Fault(NO_TASK));
         }
         if !self.world.enabled(t) {
-            return Err(LineEnd::Fault(2));
+            return Err(LineEnd::Fault(NOT_ENABLED));
         }
         self.world.step(t);
         self.steps += 1;
@@ -104,10 +108,10 @@ impl<'p> Replaying<'p> {
 
     // Opens a pass.
     fn open(&mut self, alloc: Global, plan: &Plan) -> Result<(), LineEnd>
-        ensures taken { (a : Progress) → IsReplayOf plan.now a self.old → TakesLine plan.now a Line.Pass self.new result }
+        ensures taken { (a : Progress) → KeepsProgress plan.now a self.old → TakesLine plan.now a Line.Pass self.new result }
     {
         if self.pass.is_some() {
-            return Err(LineEnd::Fault(5));
+            return Err(LineEnd::Fault(PASS_IS_OPEN));
         }
         self.pass = Some(OpenPass::new(alloc));
         Ok(())
@@ -116,8 +120,8 @@ impl<'p> Replaying<'p> {
     // Makes the next load of the pass that is open; its last load closes it.
     fn load_of(&mut self, alloc: Global, plan: &Plan, mut pass: OpenPass) -> Result<(), LineEnd>
         requires closed { self.old.pass ≡ None }
-        requires kept { (a : Progress) × IsReplayOf plan.now a (record self.old { pass = Some pass }) }
-        ensures taken { (a : Progress) → IsReplayOf plan.now a (record self.old { pass = Some pass }) → TakesLine plan.now a Line.Load self.new result }
+        requires kept { (a : Progress) × KeepsProgress plan.now a (record self.old { pass = Some pass }) }
+        ensures taken { (a : Progress) → KeepsProgress plan.now a (record self.old { pass = Some pass }) → TakesLine plan.now a Line.Load self.new result }
     {
         load_next(alloc, &self.world, plan, &mut pass)?;
         if pass.is_full(plan.tasks()) {
@@ -132,26 +136,26 @@ impl<'p> Replaying<'p> {
 
     // Makes the next load of the open pass, if one is open.
     fn load(&mut self, alloc: Global, plan: &Plan) -> Result<(), LineEnd>
-        requires kept { (a : Progress) × IsReplayOf plan.now a self.old }
-        ensures taken { (a : Progress) → IsReplayOf plan.now a self.old → TakesLine plan.now a Line.Load self.new result }
+        requires kept { (a : Progress) × KeepsProgress plan.now a self.old }
+        ensures taken { (a : Progress) → KeepsProgress plan.now a self.old → TakesLine plan.now a Line.Load self.new result }
     {
         match self.pass.take() {
             Some(pass) => self.load_of(alloc, plan, pass),
-            None => Err(LineEnd::Fault(4)),
+            None => Err(LineEnd::Fault(NO_OPEN_PASS)),
         }
     }
 
     // Takes a line.
     fn take(&mut self, alloc: Global, plan: &Plan, line: Line) -> Result<(), LineEnd>
         requires fits { self.old.steps + 1 < 2 ^ 32 }
-        requires kept { (a : Progress) × IsReplayOf plan.now a self.old }
-        ensures taken { (a : Progress) → IsReplayOf plan.now a self.old → TakesLine plan.now a line self.new result }
+        requires kept { (a : Progress) × KeepsProgress plan.now a self.old }
+        ensures taken { (a : Progress) → KeepsProgress plan.now a self.old → TakesLine plan.now a line self.new result }
     {
         match line {
             Line::Step(t) => self.step(plan, TaskId(t)),
             Line::Pass => self.open(alloc, plan),
             Line::Load => self.load(alloc, plan),
-            Line::Unreadable => Err(LineEnd::Fault(1)),
+            Line::Unreadable => Err(LineEnd::Fault(NO_FORM)),
         }
     }
 }
@@ -180,6 +184,7 @@ pub fn replay(alloc: Global, plan: &Plan, lines: &[Line]) -> Result<Replayed, Re
     requires few { length lines.now < 2 ^ 32 }
     ensures replays { Replays plan.now lines.now result }
 {
+    // so that the proof knows of the plan that it is checked
     let _tasks = plan.tasks();
     let mut replay = Replaying::start(alloc, plan)?;
     for (at, line) in lines.iter().enumerate() {

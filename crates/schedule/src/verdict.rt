@@ -31,6 +31,21 @@ pub struct ScheduleFault {
     pub kind: u8,
 }
 
+/// The kind of a line that has no form.
+pub const NO_FORM: u8 = 1;
+
+/// Of a step whose task is not enabled.
+pub const NOT_ENABLED: u8 = 2;
+
+/// Of a step of a task that there is not.
+pub const NO_TASK: u8 = 3;
+
+/// Of a load while no pass is open.
+pub const NO_OPEN_PASS: u8 = 4;
+
+/// Of a pass that starts while one is open.
+pub const PASS_IS_OPEN: u8 = 5;
+
 /// Why a schedule was not replayed.
 #[derive(Debug, Drop, Error)]
 pub enum ReplayEnd {

@@ -1,7 +1,7 @@
 use Rattle.std.proofs.Common.{◌≡◌, ◌+◌, ◌≤◌, ◌∙◌, subst, sym, ap, arith, length, get_or, IfOk}
 use Rattle.schedule.specs.declared.pass.Waiting.{Waiting}
 use Rattle.armus_base.specs.Finals.{given_below}
-use Rattle.schedule.specs.OpenPasses.{marked}
+use Rattle.schedule.specs.inside.OpenPasses.{marked}
 use Rattle.schedule.proofs.Marks.{AreMarks, mark_one, mark_none, marks_are}
 use Rattle.schedule.proofs.pass.awaited_phasers.Goals as goal
 use Rattle.schedule.proofs.pass.awaited_phasers.Goals.{then-p-len, else-p-len}

@@ -1,6 +1,6 @@
 use Rattle.std.proofs.Common.{◌≡◌}
 use Rattle.armus_base.specs.Finals.{given_below}
-use Rattle.schedule.specs.OpenPasses.{marked}
+use Rattle.schedule.specs.inside.OpenPasses.{marked}
 use Rattle.schedule.proofs.pass.listed.Given as goal
 
 -- the phasers marked so far

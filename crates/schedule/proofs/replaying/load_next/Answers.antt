@@ -1,5 +1,5 @@
 use Rattle.std.proofs.Common.{subst, arith}
-use Rattle.schedule.specs.OpenPasses.{IsMidPass}
+use Rattle.schedule.specs.inside.OpenPasses.{IsMidPass}
 use Rattle.schedule.proofs.LineByLine.{mid_pass}
 use Rattle.schedule.proofs.replaying.load_next.Goals as goal
 

@@ -1,6 +1,6 @@
 use Rattle.std.proofs.Common.{◌∙◌, sym, ap}
 use Rattle.armus_base.specs.Finals.{given_below}
-use Rattle.schedule.specs.OpenPasses.{phaser_of}
+use Rattle.schedule.specs.inside.OpenPasses.{phaser_of}
 use Rattle.schedule.proofs.Awaiting.{await_loaded}
 use Rattle.schedule.proofs.pass.OpenPass.load_await.Goals as goal
 

@@ -1,6 +1,6 @@
 use Rattle.std.proofs.Common.{◌∙◌, Some, arith, sym, ap, subst}
 use Rattle.std.proofs.lemmas.Option.{slice_get-get_or}
-use Rattle.schedule.specs.OpenPasses.{KeepsPhase}
+use Rattle.schedule.specs.inside.OpenPasses.{KeepsPhase}
 use Rattle.schedule.proofs.Following.{state_is}
 use Rattle.schedule.proofs.Phasing.{row_within, column_within, task_within, phaser_within, row_more, row_ends}
 use Rattle.schedule.proofs.pass.OpenPass.load_phase.Goals as goal

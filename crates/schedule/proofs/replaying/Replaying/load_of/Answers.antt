@@ -1,10 +1,10 @@
 use Rattle.std.proofs.Common.{◌≡◌, ◌≢◌, ◌∙◌, ◌∷◌, ◌++◌, [], length, sym, subst, refl}
 use Rattle.armus_base.specs.DeadLists.{IsDeadList}
 use Rattle.armus_base.specs.Statuses.{IsInOrder}
-use Rattle.schedule.specs.OpenPasses.{IsPassOf}
+use Rattle.schedule.specs.inside.OpenPasses.{IsPassOf}
 use Rattle.schedule.specs.Passes.{loads_of}
 use Rattle.schedule.specs.Replays.{loaded}
-use Rattle.schedule.specs.Replaying.{IsReplayOf}
+use Rattle.schedule.specs.inside.KeptReplays.{KeepsProgress}
 use Rattle.schedule.proofs.LineByLine.{the_open, found_in_order, closes, stays_open}
 use Rattle.schedule.proofs.replaying.Replaying.load_of.Goals as goal
 
@@ -30,7 +30,7 @@ returns-in_ok-push c =
           let found = c.as_slice.ensures.items ∙ c.into_statuses-list.ensures.found plan more after full in (
             _,
             (l, same, refl),
-            subst (λ p. IsReplayOf plan (loaded plan a more) (record { world = c.args.self.now.world; pass = p; verdicts = c.push.new.self; steps = c.args.self.now.steps })) (sym c.requires.closed)
+            subst (λ p. KeepsProgress plan (loaded plan a more) (record { world = c.args.self.now.world; pass = p; verdicts = c.push.new.self; steps = c.args.self.now.steps })) (sym c.requires.closed)
                 (closes plan a _ l c.push.new.self (record { dead = c.in_ok-dead.dead }) of full (subst (λ s. IsDeadList s c.in_ok-dead.dead) found c.in_ok-dead.ensures.dead) c.in_ok-push.ensures.ok),
           );
     }
