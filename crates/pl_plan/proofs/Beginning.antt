@@ -7,15 +7,17 @@ use Rattle.pl_syntax.specs.Tree.{Tree}
 use Rattle.pl_plan.specs.declared.fault.PlanEnd.{PlanEnd}
 use Rattle.pl_plan.specs.declared.fault.PlanEnd.TheVariants as ends
 use Rattle.pl_plan.specs.Steps.{IsSpelled, IsList}
-use Rattle.pl_plan.specs.Checker.{Checker, CheckerStart, Fits, StartFits, Keeps, begun, range_of}
+use Rattle.pl_plan.specs.Checker.{Checker, CheckerStart, Fits, StartFits, Keeps, begun, padded, range_of}
 use Rattle.pl_plan.specs.Unfolding.{State, Start, Outcome, ◌>>=◌, meetings_of, meet_all, unfold_task, unfold_tasks, with_names}
 use Rattle.pl_plan.specs.Shows.{Shows, MaybeStartShows, Follows}
+use Rattle.pl_plan.specs.CheckerSteps.{thing_of}
+use Rattle.pl_plan.proofs.Keeping.{length_padded, padded_same, things_same}
 use Rattle.pl_plan.proofs.Simulating as simulating
 
 keeps_begun_by : (k : Checker) → Fits k → (o : Option CheckerStart) → StartFits (length k.parents) (length k.makers) k.slot_count (length k.slots) k.steps o → Keeps k (begun o k)
 keeps_begun_by k f None h = simulating.keeps_itself k f
 keeps_begun_by k f (Some s) h = record {
-  fits = record { starts_many = f.starts_many; codes_many = f.codes_many; few = f.few; few_makers = f.few_makers; all = f.all; below = f.below; apart = f.apart; room = f.room; now = h.things; later = f.later };
+  fits = record { starts_many = f.starts_many; codes_many = f.codes_many; few = f.few; few_makers = f.few_makers; all = f.all; below = f.below; apart = f.apart; room = f.room; long = length_padded s.things h.short; now = things_same (length k.parents) (length k.makers) k.slot_count s.things (padded s.things) (padded_same s.things) h.things; later = f.later };
   more = omega arith;
   steps = refl;
   slots = refl;
@@ -80,7 +82,7 @@ busy_by names k new s t first after r (Some a) (Some b) m e h w =
       starts_many = h.starts_many;
       starts = h.starts;
       members = h.members;
-      named = m.named;
+      named = λ x lt. m.named x lt ∙ ap thing_of (sym (padded_same b.things (slice_index_or k.slots x 0)));
       ops = h.ops;
       meetings = h.meetings;
     } in

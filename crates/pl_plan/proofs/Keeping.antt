@@ -1,14 +1,15 @@
 -- What the checker keeps goes on to fit.
-use Rattle.std.proofs.Common.{◌≡◌, ℕ, ◌+◌, ◌*◌, ◌<◌, ◌≤◌, Bool, true, false, List, [], ◌∷◌, ◌++◌, length, sym, ◌∙◌, subst, refl, arith, Some, None, Option}
+use Rattle.std.proofs.Common.{◌≡◌, ℕ, ◌+◌, ◌-◌, ◌*◌, ◌<◌, ◌≤◌, Bool, true, false, List, [], ◌∷◌, ◌++◌, length, replicate, take, inl, inr, sym, ◌∙◌, subst, refl, arith, Some, None, Option}
 use Rattle.std.specs.Prelude.{slice_set, slice_index_or, nat_lt, if◌then◌else◌}
-use Rattle.std.proofs.lemmas.List.{length-set, length-append, get_or-set_same, get_or-set_other}
+use Rattle.std.proofs.lemmas.Bool.{cases_lt}
+use Rattle.std.proofs.lemmas.List.{length-set, length-append, length-take, length-replicate, get_or-set_same, get_or-set_other, get_or-take, get_or-replicate, get_or_past, get_or_append_left, get_or-append_right}
 use Rattle.armus_base.specs.Limits.{max_tasks, max_phasers}
 use Rattle.armus_base.specs.declared.op.Op.{Op}
 use Rattle.pl_plan.specs.declared.step.Step.{Step}
 use Rattle.pl_plan.specs.declared.step.Thing.{Thing}
 use Rattle.pl_plan.specs.declared.step.Thing.TheVariants.{Nothing, Task, Phaser}
 use Rattle.pl_plan.specs.Steps.{IsList}
-use Rattle.pl_plan.specs.Checker.{Checker, CheckerStart, IsThings, IsInside, StartFits, Fits, slot_of, slotted, with_thing, with_task, with_maker, pushed, marked, started}
+use Rattle.pl_plan.specs.Checker.{Checker, CheckerStart, IsThings, IsInside, StartFits, Fits, slot_of, slotted, with_thing, with_task, with_maker, pushed, marked, started, padded}
 use Rattle.pl_plan.specs.CheckerSteps.{with_binding}
 use Rattle.pl_plan.proofs.Places.{at_set, at_more}
 
@@ -21,16 +22,49 @@ inside_more a b a' b' (Phaser c) p q h = omega arith
 
 pub things_more : (a b n a' b' n' : ℕ) (vs : List Thing) → a ≤ a' → b ≤ b' → n ≤ n' → IsThings a b n vs → IsThings a' b' n' vs
 things_more a b n a' b' n' vs p q r h = record {
-  long = h.long;
   none = h.none;
   free = λ k le. h.free k (omega arith);
   inside = λ k. inside_more a b a' b' (slice_index_or vs k Nothing) p q (h.inside k);
 }
 
+-- what has the same in each slot is one as well
+pub things_same : (a b n : ℕ) (vs ws : List Thing) → ((k : ℕ) → slice_index_or ws k Nothing ≡ slice_index_or vs k Nothing) → IsThings a b n vs → IsThings a b n ws
+things_same a b n vs ws same h = record {
+  none = same 0 ∙ h.none;
+  free = λ k le. same k ∙ h.free k le;
+  inside = λ k. subst (IsInside a b) (sym (same k)) (h.inside k);
+}
+
+-- the things in the first n slots, where behind them is nothing
+pub taken_same : (vs : List Thing) (n : ℕ) → ((k : ℕ) → n ≤ k → slice_index_or vs k Nothing ≡ Nothing) → (k : ℕ) → slice_index_or (take n vs) k Nothing ≡ slice_index_or vs k Nothing
+taken_same vs n free k = elim (cases_lt k n) [
+  | inl lt ↦ get_or-take n vs k Nothing lt
+  | inr le ↦ get_or_past (take n vs) k Nothing (omega (arith, length-take n vs)) ∙ sym (free k le)
+]
+
+-- and with nothing behind them
+pub padded_same : (vs : List Thing) (k : ℕ) → slice_index_or (padded vs) k Nothing ≡ slice_index_or vs k Nothing
+padded_same vs k = elim (cases_lt k (length vs)) [
+  | inl lt ↦ get_or_append_left vs (replicate (max_tasks + max_phasers - length vs) Nothing) Nothing k lt
+  | inr le ↦
+      get_or-append_right vs (replicate (max_tasks + max_phasers - length vs) Nothing) (length vs) k Nothing refl le
+      ∙ none_in (max_tasks + max_phasers - length vs) (k - length vs) ∙ sym (get_or_past vs k Nothing le)
+]
+  where
+    none_in : (n i : ℕ) → slice_index_or (replicate n Nothing) i Nothing ≡ Nothing
+    none_in n i = elim (cases_lt i n) [
+      | inl lt ↦ get_or-replicate n i Nothing Nothing lt
+      | inr le ↦ get_or_past (replicate n Nothing) i Nothing (omega (arith, length-replicate n Nothing))
+    ]
+
+pub length_padded : (vs : List Thing) → length vs ≤ max_tasks + max_phasers → length (padded vs) ≡ max_tasks + max_phasers
+length_padded vs le = omega (arith, length-append vs (replicate (max_tasks + max_phasers - length vs) Nothing), length-replicate (max_tasks + max_phasers - length vs) Nothing)
+
 pub start_more : (a b n a' b' n' m m' : ℕ) (steps : List Step) (o : Option CheckerStart) → a ≤ a' → b ≤ b' → n ≤ n' → m ≡ m' → StartFits a b n m steps o → StartFits a' b' n' m' steps o
 start_more a b n a' b' n' m m' steps None p q r e h = tt
 start_more a b n a' b' n' m m' steps (Some s) p q r e h = record {
   things = things_more a b n a' b' n' s.things p q r h.things;
+  short = h.short;
   within = h.within;
   list = subst (λ i. IsList i steps s.first s.after) e h.list;
 }
@@ -47,6 +81,7 @@ fits_pushed k t o f = record {
   below = f.below;
   apart = f.apart;
   room = f.room;
+  long = f.long;
   now = f.now;
   later = f.later;
 }
@@ -61,6 +96,7 @@ fits_marked k t p v f = record {
   below = f.below;
   apart = f.apart;
   room = f.room;
+  long = f.long;
   now = f.now;
   later = f.later;
 }
@@ -75,12 +111,13 @@ fits_started k c first after within list f = record {
   below = f.below;
   apart = f.apart;
   room = f.room;
+  long = f.long;
   now = f.now;
-  later = λ d. at_set (StartFits (length k.parents) (length k.makers) k.slot_count (length k.slots) k.steps) k.starts c (Some start) None d (λ e lt. record { things = f.now; within = within; list = list }) (λ ne. f.later d) (λ le. tt);
+  later = λ d. at_set (StartFits (length k.parents) (length k.makers) k.slot_count (length k.slots) k.steps) k.starts c (Some start) None d (λ e lt. record { things = things_same (length k.parents) (length k.makers) k.slot_count k.things (take k.slot_count k.things) (taken_same k.things k.slot_count f.now.free) f.now; short = omega (arith, length-take k.slot_count k.things, f.long); within = within; list = list }) (λ ne. f.later d) (λ le. tt);
 }
   where
     start : CheckerStart
-    start = record { first = first; after = after; things = k.things }
+    start = record { first = first; after = after; things = take k.slot_count k.things }
 
 pub fits_task : (k : Checker) (t : ℕ) → length k.parents < max_tasks → Fits k → Fits (with_task t k)
 fits_task k t lt f = record {
@@ -92,6 +129,7 @@ fits_task k t lt f = record {
   below = f.below;
   apart = f.apart;
   room = omega (arith, length-append k.parents (Some (record { 0 = t }) ∷ []), f.room);
+  long = f.long;
   now = things_more (length k.parents) (length k.makers) k.slot_count (length (with_task t k).parents) (length k.makers) k.slot_count k.things (omega (arith, length-append k.parents (Some (record { 0 = t }) ∷ []))) (omega arith) (omega arith) f.now;
   later = λ c. subst (StartFits (length (with_task t k).parents) (length k.makers) k.slot_count (length k.slots) k.steps) (sym (at_more k.starts None c))
       (start_more (length k.parents) (length k.makers) k.slot_count (length (with_task t k).parents) (length k.makers) k.slot_count (length k.slots) (length k.slots) k.steps (slice_index_or k.starts c None) (omega (arith, length-append k.parents (Some (record { 0 = t }) ∷ []))) (omega arith) (omega arith) refl (f.later c));
@@ -107,6 +145,7 @@ fits_maker k t lt f = record {
   below = f.below;
   apart = f.apart;
   room = omega (arith, length-append k.makers (record { 0 = t } ∷ []), f.room);
+  long = f.long;
   now = things_more (length k.parents) (length k.makers) k.slot_count (length k.parents) (length (with_maker t k).makers) k.slot_count k.things (omega arith) (omega (arith, length-append k.makers (record { 0 = t } ∷ []))) (omega arith) f.now;
   later = λ c. start_more (length k.parents) (length k.makers) k.slot_count (length k.parents) (length (with_maker t k).makers) k.slot_count (length k.slots) (length k.slots) k.steps (slice_index_or k.starts c None) (omega arith) (omega (arith, length-append k.makers (record { 0 = t } ∷ []))) (omega arith) refl (f.later c);
 }
@@ -129,6 +168,7 @@ fits_new_slot k x room f = record {
       (λ ne. at_set (λ w. slot_of k y ≡ w → 0 < slot_of k y → y ≡ z) k.slots x k.slot_count 0 z (λ e' _ q _. absurd (omega (arith, f.below y))) (λ ne' q r. f.apart y z q r) (λ le q r. absurd (omega arith)))
       (λ le q r. absurd (omega arith));
   room = omega arith;
+  long = f.long;
   now = things_more (length k.parents) (length k.makers) k.slot_count (length k.parents) (length k.makers) (k.slot_count + 1) k.things (omega arith) (omega arith) (omega arith) f.now;
   later = λ c. start_more (length k.parents) (length k.makers) k.slot_count (length k.parents) (length k.makers) (k.slot_count + 1) (length k.slots) (length (slice_set k.slots x k.slot_count)) k.steps (slice_index_or k.starts c None) (omega arith) (omega arith) (omega arith) (sym (length-set k.slots x k.slot_count)) (f.later c);
 }
@@ -165,8 +205,8 @@ fits_thing x v k has inside f = record {
   below = f.below;
   apart = f.apart;
   room = f.room;
+  long = length-set k.things (slot_of k x) v ∙ f.long;
   now = record {
-    long = length-set k.things (slot_of k x) v ∙ f.now.long;
     none = get_or-set_other k.things (slot_of k x) 0 v Nothing (λ e. absurd (omega arith)) ∙ f.now.none;
     free = λ n le. get_or-set_other k.things (slot_of k x) n v Nothing (λ e. absurd (omega (arith, f.below x))) ∙ f.now.free n le;
     inside = λ n. at_set (IsInside (length k.parents) (length k.makers)) k.things (slot_of k x) v Nothing n (λ e lt. inside) (λ ne. f.now.inside n) (λ le. tt);

@@ -1,5 +1,5 @@
 -- What the checker keeps shows the unfolding's state at each change.
-use Rattle.std.proofs.Common.{◌≡◌, ℕ, ◌+◌, ◌*◌, ◌<◌, ◌⊎◌, inl, inr, Bool, true, false, List, [], ◌∷◌, ◌++◌, length, sym, ap, ◌∙◌, subst, refl, arith, Some, None, Option}
+use Rattle.std.proofs.Common.{◌≡◌, ℕ, ◌+◌, ◌*◌, ◌<◌, ◌⊎◌, inl, inr, Bool, true, false, List, [], ◌∷◌, ◌++◌, length, take, sym, ap, ◌∙◌, subst, refl, arith, Some, None, Option}
 use Rattle.std.specs.Prelude.{slice_set, slice_index_or, nat_lt, if◌then◌else◌, ◌==◌, ◌&&◌}
 use Rattle.std.proofs.lemmas.Slice.Eq.{bytes_eq-Decides}
 use Rattle.std.proofs.lemmas.Bool.Decides.{nat_tests}
@@ -17,7 +17,7 @@ use Rattle.pl_plan.specs.CheckerSteps.{with_binding, thing_of}
 use Rattle.pl_plan.specs.Unfolding.{State, Start, Names, Thing, with_name, with_op, with_member, with_members, with_start}
 use Rattle.pl_plan.specs.Shows.{Shows, MaybeStartShows, AreNamed, IsNumbering}
 use Rattle.pl_plan.proofs.Places.{same_or, at_set, at_more}
-use Rattle.pl_plan.proofs.Keeping.{slotted_fits}
+use Rattle.pl_plan.proofs.Keeping.{slotted_fits, taken_same}
 
 -- ---- ops
 
@@ -163,7 +163,7 @@ shows_thing names x v w k s is here has f h = record {
         ap (λ i. with_name (names x) w s.names (names i)) e
         ∙ ap (λ b. if b then Some w else s.names (names x)) ((bytes_eq-Decides (names x) (names x)).1 refl)
         ∙ sym is
-        ∙ ap thing_of (sym (get_or-set_same k.things (slot_of k x) v a_thing.Nothing (omega (arith, f.below x, f.room, f.few, f.few_makers, f.now.long))))
+        ∙ ap thing_of (sym (get_or-set_same k.things (slot_of k x) v a_thing.Nothing (omega (arith, f.below x, f.room, f.few, f.few_makers, f.long))))
         ∙ ap (λ i. thing_of (slice_index_or (slice_set k.things (slot_of k x) v) (slot_of k i) a_thing.Nothing)) (sym e)
     by y lt (inr ne) =
         ap (λ b. if b then Some w else s.names (names y)) (h.distinct x y here lt (λ e. ne (sym e)))
@@ -178,9 +178,9 @@ shows_binding names x v w k s is here room f h =
 
 -- ---- forks
 
-pub shows_started : (names : ℕ → List ℕ) (k : Checker) (s : State) (c first after : ℕ) (body : Tree) → c < length k.starts → IsSpelled (length k.slots) names k.steps first body after → Shows names k s →
+pub shows_started : (names : ℕ → List ℕ) (k : Checker) (s : State) (c first after : ℕ) (body : Tree) → c < length k.starts → IsSpelled (length k.slots) names k.steps first body after → Fits k → Shows names k s →
     Shows names (started c first after k) (with_start c (record { body = body; first = first + 1; names = s.names }) s)
-shows_started names k s c first after body here spelled h = record {
+shows_started names k s c first after body here spelled f h = record {
   distinct = h.distinct;
   parents = h.parents;
   makers = h.makers;
@@ -188,7 +188,7 @@ shows_started names k s c first after body here spelled h = record {
   starts_many = length-set s.starts c (Some start) ∙ h.starts_many ∙ sym (length-set k.starts c (Some kept));
   starts = λ d. at_set (λ o. MaybeStartShows names k.slots k.steps o (slice_index_or (slice_set k.starts c (Some kept)) d None)) s.starts c (Some start) None d
       (λ e _. subst (λ i. MaybeStartShows names k.slots k.steps (Some start) (slice_index_or (slice_set k.starts c (Some kept)) i None)) (sym e)
-      (subst (MaybeStartShows names k.slots k.steps (Some start)) (sym (get_or-set_same k.starts c (Some kept) None here)) (record { first = refl; spelled = spelled; named = h.named })))
+      (subst (MaybeStartShows names k.slots k.steps (Some start)) (sym (get_or-set_same k.starts c (Some kept) None here)) (record { first = refl; spelled = spelled; named = λ x lt. h.named x lt ∙ ap thing_of (sym (taken_same k.things k.slot_count f.now.free (slice_index_or k.slots x 0))) })))
       (λ ne. subst (MaybeStartShows names k.slots k.steps (slice_index_or s.starts d None)) (sym (get_or-set_other k.starts c d (Some kept) None ne)) (h.starts d))
       (λ le. absurd (omega (arith, h.starts_many)));
   members = h.members;
@@ -201,4 +201,4 @@ shows_started names k s c first after body here spelled h = record {
     start = record { body = body; first = first + 1; names = s.names }
 
     kept : CheckerStart
-    kept = record { first = first; after = after; things = k.things }
+    kept = record { first = first; after = after; things = take k.slot_count k.things }

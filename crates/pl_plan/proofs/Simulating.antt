@@ -167,7 +167,7 @@ module _ (names : ℕ → List ℕ) (k : Checker) (s : State) (f : Fits k) (h : 
       simulates_task names n (thing_named k x) (s.names (names x)) _ _ (h.named x here) (λ c ec.
       let ci = task_inside (length k.parents) (length k.makers) (thing_at k x) c (f.now.inside (slot_of k x)) ec in
       simulates_unforked_child names k s f h t n c _ _
-      (simulates_add names (started c n after k) _ (fits_started k c n after within (names, body, spelled) f) (shows_started names k s c n after body (omega (arith, f.starts_many)) spelled h) t n (op.Fork (task c)) has_code))
+      (simulates_add names (started c n after k) _ (fits_started k c n after within (names, body, spelled) f) (shows_started names k s c n after body (omega (arith, f.starts_many)) spelled f h) t n (op.Fork (task c)) has_code))
 
 -- ---- what is kept
 
@@ -201,7 +201,7 @@ module _ (k : Checker) (f : Fits k) where
   pub keeps_count : (n : ℕ) → KeepsAll k (checker_count n k)
   unfolding checker_count
   keeps_count n = keeps_fault_unless k (nat_lt k.meetings max_meetings) too_many_meetings n _ (λ e. record {
-    fits = record { starts_many = f.starts_many; codes_many = f.codes_many; few = f.few; few_makers = f.few_makers; all = f.all; below = f.below; apart = f.apart; room = f.room; now = f.now; later = f.later };
+    fits = record { starts_many = f.starts_many; codes_many = f.codes_many; few = f.few; few_makers = f.few_makers; all = f.all; below = f.below; apart = f.apart; room = f.room; long = f.long; now = f.now; later = f.later };
     more = omega arith;
     steps = refl;
     slots = refl;

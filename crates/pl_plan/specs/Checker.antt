@@ -1,5 +1,5 @@
 -- What the checker keeps.
-use Rattle.std.specs.Prelude.{◌≡◌, ℕ, ◌+◌, ◌*◌, ◌<◌, ◌≤◌, Bool, List, [], ◌∷◌, ◌++◌, length, slice_set, slice_index_or, Option, Some, None, if◌then◌else◌, nat_lt}
+use Rattle.std.specs.Prelude.{◌≡◌, ℕ, ◌+◌, ◌-◌, ◌*◌, ◌<◌, ◌≤◌, Bool, List, [], ◌∷◌, ◌++◌, length, replicate, take, slice_set, slice_index_or, Option, Some, None, if◌then◌else◌, nat_lt}
 use Rattle.armus_base.specs.Limits.{max_tasks, max_phasers}
 use Rattle.armus_base.specs.declared.ids.TaskId.{TaskId}
 use Rattle.armus_base.specs.declared.op.Op.{Op}
@@ -42,9 +42,8 @@ IsInside tasks phasers Nothing = Unit {0}
 IsInside tasks phasers (Task c) = c.0 < tasks
 IsInside tasks phasers (Phaser p) = p.0 < phasers
 
--- a list of things by slot
+-- a list of things by slot; behind its end is nothing
 pub record IsThings (tasks phasers slot_count : ℕ) (things : List Thing) : Type 0 where
-  pub long : length things ≡ max_tasks + max_phasers
   pub none : slice_index_or things 0 Nothing ≡ Nothing
   pub free : (k : ℕ) → slot_count ≤ k → slice_index_or things k Nothing ≡ Nothing
   pub inside : (k : ℕ) → IsInside tasks phasers (slice_index_or things k Nothing)
@@ -52,6 +51,7 @@ pub record IsThings (tasks phasers slot_count : ℕ) (things : List Thing) : Typ
 -- a start's steps are a list of statements
 pub record IsStart (tasks phasers slot_count names : ℕ) (steps : List Step) (start : CheckerStart) : Type 0 where
   pub things : IsThings tasks phasers slot_count start.things
+  pub short : length start.things ≤ max_tasks + max_phasers
   pub within : start.after ≤ length steps
   pub list : IsList names steps start.first start.after
 
@@ -70,6 +70,7 @@ pub record Fits (k : Checker) : Type 0 where
   pub below : (x : ℕ) → slot_of k x < k.slot_count
   pub apart : (x y : ℕ) → slot_of k x ≡ slot_of k y → 0 < slot_of k x → x ≡ y
   pub room : k.slot_count ≤ length k.parents + length k.makers
+  pub long : length k.things ≡ max_tasks + max_phasers
   pub now : IsThings (length k.parents) (length k.makers) k.slot_count k.things
   pub later : (c : ℕ) → StartFits (length k.parents) (length k.makers) k.slot_count (length k.slots) k.steps (slice_index_or k.starts c None)
 
@@ -106,14 +107,19 @@ pushed t o k = record k { codes = slice_set k.codes t (slice_index_or k.codes t 
 abbrev pub marked : ℕ → ℕ → Bool → Checker → Checker
 marked t p v k = record k { members = slice_set k.members (max_phasers * t + p) v }
 
--- task c is forked with these steps and the things as they are
+-- task c is forked with these steps and the things in the slots that there are
 abbrev pub started : ℕ → ℕ → ℕ → Checker → Checker
-started c first after k = record k { starts = slice_set k.starts c (Some (record { first = first; after = after; things = k.things })) }
+started c first after k =
+    record k { starts = slice_set k.starts c (Some (record { first = first; after = after; things = take k.slot_count k.things })) }
+
+-- as many things as there may be slots
+abbrev pub padded : List Thing → List Thing
+padded things = things ++ replicate (max_tasks + max_phasers - length things) Nothing
 
 -- a task begins with the things of its start
 abbrev pub begun : Option CheckerStart → Checker → Checker
 begun None k = k
-begun (Some start) k = record k { things = start.things }
+begun (Some start) k = record k { things = padded start.things }
 
 -- where a start's steps begin and end
 abbrev pub range_of : Option CheckerStart → Option (ℕ × ℕ)

@@ -1,6 +1,6 @@
 // What the checker keeps, and its changes.
 
-ghost use Rattle.std.specs.Prelude.{◌≡◌, ◌+◌, ◌*◌, ◌<◌, ◌≤◌, ◌^◌, ◌++◌, ◌∷◌, [], length, slice_index_or, OnOk, IfOk, None, false, is_some, ℕ};
+ghost use Rattle.std.specs.Prelude.{◌≡◌, ◌+◌, ◌*◌, ◌<◌, ◌≤◌, ◌^◌, ◌++◌, ◌∷◌, [], length, replicate, slice_index_or, OnOk, IfOk, None, false, is_some, ℕ};
 ghost use Rattle.pl_plan.specs.Steps.{step_at};
 ghost use Rattle.pl_plan.specs.Opening.{IsOpening};
 ghost use Rattle.pl_plan.specs.declared.step.Thing.TheVariants.{Nothing};
@@ -10,6 +10,9 @@ use crate::step::{NameId, Step, Thing};
 use armus_base::{List, MAX_PHASERS, MAX_TASKS, NoMemory, Op, PhaserId, TaskId};
 use std::alloc::{AllocError, AllocFailed, Global};
 use std::marker::Model;
+
+// How many slots there may be: each assignment draws a task or makes a phaser.
+const MAX_SLOTS: usize = (MAX_TASKS + MAX_PHASERS) as usize;
 
 // With what a task was forked: where its steps begin and end, and its names' things by slot.
 #[derive(Drop)]
@@ -29,7 +32,7 @@ impl Model for Start {
 
 // What the checker keeps: the flat steps; the three lists of the plan so far; the starts of the tasks; one bit for each task and phaser, whether the
 // task is a member; a slot for each name, and the current task's things by slot; the counts of ops and meetings. A meeting reads one step and a few
-// entries, and compares no names; a fork copies the things, of which there are as many as tasks and phasers at most.
+// entries, and compares no names; a fork copies the things in the slots that there are.
 #[derive(Drop)]
 pub(crate) struct Checker {
     steps: Vec<Step>,
@@ -204,7 +207,7 @@ impl Checker {
         self.things[self.slots[x.0 as usize] as usize] = thing;
     }
 
-    // `c` is forked with the steps from `first` on, before `after`, and with the things as they are now.
+    // `c` is forked with the steps from `first` on, before `after`, and with the things in the slots that there are now.
     pub(crate) fn set_start(
         &mut self,
         alloc: Global,
@@ -212,10 +215,11 @@ impl Checker {
         first: u32,
         after: u32,
     ) -> Result<(), AllocError>
-        requires { c.0 < length self.old.starts }
+        requires here { c.0 < length self.old.starts }
+        requires slots { self.old.slot_count ≤ length self.old.things }
         ensures { OnOk result (self.new ≡ started c.0 first after self.old) }
     {
-        let things = Vec::from_slice(alloc, &self.things)?;
+        let things = Vec::from_slice(alloc, &self.things[..self.slot_count as usize])?;
         self.starts[c.0 as usize] = Some(Start {
             first,
             after,
@@ -238,14 +242,19 @@ impl Checker {
         alloc: Global,
         t: TaskId,
     ) -> Result<Option<(u32, u32)>, AllocError>
-        requires { t.0 < length self.old.starts }
+        requires fits { Fits self.old }
+        requires here { t.0 < length self.old.starts }
         ensures range { IfOk result (λ r. r ≡ range_of (slice_index_or self.old.starts t.0 None)) }
         ensures begun { OnOk result (self.new ≡ begun (slice_index_or self.old.starts t.0 None) self.old) }
     {
         match &self.starts[t.0 as usize] {
             None => Ok(None),
             Some(start) => {
-                let things = Vec::from_slice(alloc, &start.things)?;
+                let mut things = Vec::from_slice(alloc, &start.things)?;
+                let left = MAX_SLOTS - things.len();
+                if things.extend_from_slice(&no_things(alloc, left)?).is_err() {
+                    return Err(AllocError);
+                }
                 let range = (start.first, start.after);
                 self.things = things;
                 Ok(Some(range))
@@ -259,7 +268,7 @@ impl Checker {
         ensures { IfOk result (λ k. IsOpening steps.items names k) }
     {
         let after = steps.len() as u32;
-        let things = no_things(alloc, (MAX_TASKS + MAX_PHASERS) as usize)?;
+        let things = no_things(alloc, MAX_SLOTS)?;
         let start = Start {
             first: 0,
             after,
@@ -305,6 +314,7 @@ impl Checker {
 
 // Slots with nothing in them.
 fn no_things(alloc: Global, n: usize) -> Result<Vec<Thing>, AllocError>
+    ensures items { IfOk result (λ v. v.items ≡ replicate n Nothing) }
     ensures many { IfOk result (λ v. length v.items ≡ n) }
     ensures all { IfOk result (λ v. (i : ℕ) → slice_index_or v.items i Nothing ≡ Nothing) }
 {
