@@ -18,9 +18,9 @@ use phase_scan::Cells;
 use std::alloc::Global;
 use verdict::Cycle;
 
-/// The seat holds the lock, which only one of a board that avoids deadlock does, and stands before an unpublished await of `p`. It is refused exactly where its task would
-/// be dead with the event published, and published otherwise. The lock is free after it. A refused task has then dropped all its phasers, in order
-/// of number. After `NoMemory` nothing is published or refused. The cells have the statuses of the collect.
+/// The seat holds the lock, which only one of a board that avoids deadlock does, and stands before an unpublished await of `p`. It is refused exactly
+/// where its task would be dead with the event published, and published otherwise. The lock is free after it. A refused task has then dropped all its
+/// phasers, in order of number. After `NoMemory` nothing is published or refused. The cells have the statuses of the collect.
 pub fn decide(
     alloc: Global,
     seat: &mut TaskSeat,

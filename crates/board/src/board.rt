@@ -18,7 +18,8 @@ use std::alloc::Global;
 use std::marker::Model;
 use std::snapshot::Snapshot;
 
-/// The words of a plan that runs: one lock word, what each task awaits, and its phase on each phaser. Threads share it without a lock (this project's own).
+/// The words of a plan that runs: one lock word, what each task awaits, and its phase on each phaser. Threads share it without a lock (this project's
+/// own).
 #[derive(Drop)]
 pub struct Board {
     pub(crate) cells: Cells,
@@ -128,7 +129,8 @@ impl Board {
         1 + self.tasks as usize + t.0 as usize * self.phasers as usize + p.0 as usize
     }
 
-    /// Ends the board. Its words are those of a lawful state as far on as what the viewer has seen. Where each task that is forked at the viewer's seen places was taken in, they are those of exactly these places.
+    /// Ends the board. Its words are those of a lawful state as far on as what the viewer has seen. Where each task that is forked at the viewer's
+    /// seen places was taken in, they are those of exactly these places.
     pub fn close(self, view: ViewSeat) -> Words
         requires made { IsOf view self }
         ensures board { (result.plan ≡ self.plan) × (result.mode ≡ self.mode) }

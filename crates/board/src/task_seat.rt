@@ -220,7 +220,9 @@ impl TaskSeat {
         })
     }
 
-    /// The next op is an Await that is not published: one load, and one store of the event, which it answers. On a board that avoids deadlock the seat also has the lock word, and its publication deadlocks nobody in any lawful state that has the lock with this seat and is as far on as what it has seen.
+    /// The next op is an Await that is not published: one load, and one store of the event, which it answers. On a board that avoids deadlock the
+    /// seat also has the lock word, and its publication deadlocks nobody in any lawful state that has the lock with this seat and is as far on as
+    /// what it has seen.
     pub fn publish(&mut self, board: &Board, p: PhaserId) -> Event
         requires made { IsOf self.old board.now }
         requires phaser { p.0 < length board.now.plan.makers }
@@ -262,7 +264,8 @@ impl TaskSeat {
         self.awaited = None;
     }
 
-    /// The board avoids deadlock, the next op is an Await that is not published, and the seat does not hold the lock: one compare-and-exchange takes it. Busy exactly where another task held it, whose place is then seen as far as a holder of the lock must have come.
+    /// The board avoids deadlock, the next op is an Await that is not published, and the seat does not hold the lock: one compare-and-exchange takes
+    /// it. Busy exactly where another task held it, whose place is then seen as far as a holder of the lock must have come.
     pub fn try_lock(&mut self, board: &Board) -> Result<(), Busy>
         requires made { IsOf self.old board.now }
         requires avoids { avoids self.old.view.mode ≡ true }
@@ -294,7 +297,8 @@ impl TaskSeat {
         board.cells.shared.store::<Frees>(&mut self.place, 0, 0);
     }
 
-    /// The seat holds the lock, and the next op is an Await that is not published, and that would deadlock its task in any lawful state that has the lock with this seat and is as far on as what it has seen: one load, and one store of the refusal, whose event it answers.
+    /// The seat holds the lock, and the next op is an Await that is not published, and that would deadlock its task in any lawful state that has the
+    /// lock with this seat and is as far on as what it has seen: one load, and one store of the refusal, whose event it answers.
     pub fn refuse(&mut self, board: &Board, p: PhaserId) -> Event
         requires made { IsOf self.old board.now }
         requires phaser { p.0 < length board.now.plan.makers }

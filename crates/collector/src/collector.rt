@@ -51,7 +51,10 @@ impl Collector {
         })
     }
 
-    /// Makes one collect, and names the dead tasks of its statuses. Each task that is dead in every lawful state as far on as what the viewer had seen before is among them, and only tasks that are dead in every one as far on as what it has seen after. Where the viewer has taken in every seat, they are just the tasks that are dead in the state that the board is in. After `NoMemory` the named tasks are as before, and the viewer may have seen more.
+    /// Makes one collect, and names the dead tasks of its statuses. Each task that is dead in every lawful state as far on as what the viewer had
+    /// seen before is among them, and only tasks that are dead in every one as far on as what it has seen after. Where the viewer has taken in every
+    /// seat, they are just the tasks that are dead in the state that the board is in. After `NoMemory` the named tasks are as before, and the viewer
+    /// may have seen more.
     pub fn pass(
         &mut self,
         alloc: Global,

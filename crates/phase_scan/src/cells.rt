@@ -52,7 +52,9 @@ impl Cells {
         })
     }
 
-    /// Loads the await words of all tasks, in order, and then, for each task found waiting, its phase word on each of the distinct phasers found awaited, both in order. A seat that knows all tasks exactly, as a viewer that has taken in every seat, finds the statuses of the state that the board is in.
+    /// Loads the await words of all tasks, in order, and then, for each task found waiting, its phase word on each of the distinct phasers found
+    /// awaited, both in order. A seat that knows all tasks exactly, as a viewer that has taken in every seat, finds the statuses of the state that
+    /// the board is in.
     pub fn collect<L: Loads>(&mut self, by: &mut L, board: &Board)
         requires made { IsOf (L.known by.old) board.now }
         requires tasks { self.old.tasks ≡ length board.now.plan.parents }
@@ -79,7 +81,8 @@ impl Cells {
         self.found.statuses(alloc)
     }
 
-    /// The statuses that the last collect found, and that of the seat's own task as if it had published the event, with phases on the event's phaser too. First it loads the phase on that phaser of each task found waiting, in order, and then the own ones.
+    /// The statuses that the last collect found, and that of the seat's own task as if it had published the event, with phases on the event's phaser
+    /// too. First it loads the phase on that phaser of each task found waiting, in order, and then the own ones.
     pub fn supposed(
         &self,
         alloc: Global,

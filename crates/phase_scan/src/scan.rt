@@ -16,7 +16,8 @@ fn behind(found: Option<Phase>, event: Event) -> Option<Phase>
     if phase < event.n { Some(phase) } else { None }
 }
 
-/// An event is published. Loads the phase words of its phaser from the task that is scanned next upward, until a member below its phase is found or all tasks are scanned.
+/// An event is published. Loads the phase words of its phaser from the task that is scanned next upward, until a member below its phase is found or
+/// all tasks are scanned.
 pub fn look(seat: &mut TaskSeat, board: &Board) -> Look
     requires made { IsOf seat.old board.now }
     requires event { IsSome (event_of seat.old) }
