@@ -1,1 +1,5 @@
 pub mod Choices
+pub mod StandingLists
+pub mod Fronts
+pub mod TakenAway
+pub mod RemainingDead

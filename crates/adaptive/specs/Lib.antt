@@ -1,1 +1,3 @@
 pub mod Choice
+pub mod Standings
+pub mod Remaining

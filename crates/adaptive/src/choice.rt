@@ -1,5 +1,6 @@
 // Which graph is used, and what it says.
 ghost use Rattle.std.specs.Prelude.{List, IfOk};
+ghost use Rattle.armus_base.specs.DeadLists.{IsDeadList};
 ghost use Rattle.armus_base.specs.Statuses.{IsInOrder};
 ghost use Rattle.armus_base.specs.declared.status.Status.{Status};
 ghost use Rattle.dep_state.specs.Deps.{IsDepsOf};
@@ -8,7 +9,8 @@ ghost use Rattle.adaptive.specs.Choice.{IsAnalysisBy, IsAnalysis};
 ghost use Rattle.adaptive.specs.declared.analysis.Used.TheVariants.{Wfg, Sg, Grg};
 
 use crate::analysis::{Analysis, Used, Wanted};
-use armus_base::{NoMemory, Status};
+use crate::dead::dead_of;
+use armus_base::{List, NoMemory, Status, TaskId};
 use dep_state::DepState;
 use resource_graph::ResourceGraph;
 use state_graph::{SgEnd, StateGraph};
@@ -77,5 +79,19 @@ pub fn analyse(alloc: Global, list: &[Status], wanted: Wanted) -> Result<Analysi
             Err(SgEnd::Left { .. }) => by_waits(alloc, &deps),
             Err(SgEnd::NoMemory) => Err(NoMemory),
         },
+    }
+}
+
+/// The dead tasks of the statuses, in order of number, where nothing else is asked: without a graph for `Auto`, and by the graph that is wanted by name.
+pub fn dead_by(alloc: Global, list: &[Status], wanted: Wanted) -> Result<List<TaskId>, NoMemory>
+    requires { IsInOrder list.now }
+    ensures { IfOk result (IsDeadList list.now) }
+{
+    match wanted {
+        Wanted::Auto => dead_of(alloc, list),
+        _ => {
+            let analysis = analyse(alloc, list, wanted)?;
+            Ok(analysis.dead)
+        }
     }
 }

@@ -3,8 +3,14 @@
 
 mod analysis;
 mod choice;
+mod columns;
+mod dead;
+mod front;
+mod remaining;
+mod standings;
 #[cfg(test)]
 mod tests;
 
 pub use analysis::{Analysis, Used, Wanted};
-pub use choice::analyse;
+pub use choice::{analyse, dead_by};
+pub use dead::dead_of;

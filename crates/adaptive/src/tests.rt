@@ -1,5 +1,5 @@
 // Statuses small enough to see.
-use crate::{Used, Wanted, analyse};
+use crate::{Used, Wanted, analyse, dead_by, dead_of};
 use armus_base::{Event, List, Member, NoMemory, PhaserId, Status, TaskId};
 use dep_state::is_in_order;
 use std::alloc::Global;
@@ -134,4 +134,45 @@ fn uses_the_graph_of_the_choice(rt: HostRuntime) -> Result<(), Fail> {
         Used::Sg,
         3,
     )
+}
+
+// A chain: task 1 is impeded by the two others, task 2 by task 3, and that one by nobody.
+fn chain_of_held(alloc: Global) -> Result<Vec<Status>, NoMemory> {
+    let mut list: Vec<Status> = Vec::new(alloc);
+    list.push(status(alloc, 1, (0, 3), [(0, 3)].as_slice())?)?;
+    list.push(status(alloc, 2, (0, 2), [(0, 2)].as_slice())?)?;
+    list.push(status(alloc, 3, (1, 1), [(0, 1), (1, 1)].as_slice())?)?;
+    Ok(list)
+}
+
+// Task 1 impedes its own event, task 2 waits for it and task 3 for nobody.
+fn impedes_itself(alloc: Global) -> Result<Vec<Status>, NoMemory> {
+    let mut list: Vec<Status> = Vec::new(alloc);
+    list.push(status(alloc, 1, (0, 2), [(0, 1)].as_slice())?)?;
+    list.push(status(alloc, 2, (0, 2), [(0, 2)].as_slice())?)?;
+    list.push(status(alloc, 3, (0, 1), [(0, 3)].as_slice())?)?;
+    Ok(list)
+}
+
+fn check_dead(rt: &impl Abort, alloc: Global, list: &[Status], want: &[u32]) -> Result<(), Fail> {
+    assert!(rt; is_in_order(list));
+    let dead = dead_of(alloc, list)?;
+    let same = dead_by(alloc, list, Wanted::Grg)?;
+    assert_eq!(rt; dead.as_slice().len(), want.len());
+    for k in 0..want.len() {
+        assert!(rt; dead.as_slice().get(k) == Some(&TaskId(want[k])));
+        assert!(rt; same.as_slice().get(k) == Some(&TaskId(want[k])));
+    }
+    Ok(())
+}
+
+#[test]
+fn names_the_dead_without_a_graph(rt: HostRuntime) -> Result<(), Fail> {
+    let alloc = rt.alloc();
+    check_dead(&rt, alloc, &Vec::new(alloc), &[])?;
+    check_dead(&rt, alloc, &averaging(alloc)?, &[0, 1, 2, 3])?;
+    check_dead(&rt, alloc, &three_in_turn(alloc)?, &[1, 2, 3])?;
+    check_dead(&rt, alloc, &behind_a_cycle(alloc)?, &[0, 1, 2])?;
+    check_dead(&rt, alloc, &chain_of_held(alloc)?, &[])?;
+    check_dead(&rt, alloc, &impedes_itself(alloc)?, &[1, 2])
 }

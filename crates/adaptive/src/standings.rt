@@ -1,0 +1,65 @@
+// Who stands at which phase, phaser by phaser.
+ghost use Rattle.std.specs.Prelude.{◌≡◌, ◌++◌, ◌<◌, ◌^◌, IfOk, OnOk, length, map};
+ghost use Rattle.armus_base.specs.declared.status.Status.{Status};
+ghost use Rattle.armus_base.specs.Statuses.{IsInOrder};
+ghost use Rattle.adaptive.specs.Standings.{AreStandings, NeverFalls, standing_of};
+
+use armus_base::{Event, Member, Status};
+use std::alloc::{AllocError, Global};
+
+/// A phase on a phaser, and the index of the status whose task stands there.
+#[derive(Clone, Copy, Debug, PartialEq, Eq, PartialOrd, Ord)]
+pub(crate) struct Standing {
+    pub(crate) at: Event,
+    pub(crate) status: u32,
+}
+
+// The standing of a task at one of its phases.
+fn standing_at(member: Member, status: u32) -> Standing
+    ensures { result ≡ standing_of status member }
+{
+    Standing {
+        at: Event {
+            p: member.p,
+            n: member.n,
+        },
+        status,
+    }
+}
+
+// Adds the standings of one task.
+fn add_phases(
+    standings: &mut Vec<Standing>,
+    phases: &[Member],
+    status: u32,
+) -> Result<(), AllocError>
+    ensures { OnOk result (standings.new.items ≡ standings.old.items ++ map (standing_of status) phases.now) }
+{
+    for member in phases {
+        standings.push(standing_at(*member, status))?;
+    }
+    Ok(())
+}
+
+// The standings of all tasks, status by status.
+fn collected(alloc: Global, list: &[Status]) -> Result<Vec<Standing>, AllocError>
+    requires few { length list.now < 2 ^ 31 }
+    ensures { IfOk result (λ standings. AreStandings list.now standings.items) }
+{
+    let mut standings = Vec::new(alloc);
+    for k in 0..list.len() {
+        add_phases(&mut standings, list[k].phases.as_slice(), k as u32)?;
+    }
+    Ok(standings)
+}
+
+/// The standings of all tasks of the list, by phaser and then by phase.
+pub(crate) fn standings_of(alloc: Global, list: &[Status]) -> Result<Vec<Standing>, AllocError>
+    requires { IsInOrder list.now }
+    ensures are { IfOk result (λ standings. AreStandings list.now standings.items) }
+    ensures ordered { IfOk result (λ standings. NeverFalls standings.items) }
+{
+    let mut standings = collected(alloc, list)?;
+    standings.sort_unstable();
+    Ok(standings)
+}
