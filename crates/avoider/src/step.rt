@@ -10,7 +10,7 @@ ghost use Rattle.pl_core.specs.Worlds.{places_of, state_of};
 ghost use Rattle.avoider.specs.Decisions.{IsDecision, IsOutcome};
 
 use crate::Decision;
-use adaptive::{Wanted, analyse};
+use adaptive::{Wanted, dead_by};
 use armus_base::{Event, NoMemory, Status, TaskId};
 use dep_state::task_place;
 use pl_core::{Stand, World};
@@ -98,8 +98,8 @@ pub(crate) fn death_of(
     requires { IsInOrder list.now }
     ensures { IfOk result (IsOutcome list.now t.0) }
 {
-    let analysis = analyse(alloc, list, wanted)?;
-    let dead = analysis.dead.as_slice();
+    let dead = dead_by(alloc, list, wanted)?;
+    let dead = dead.as_slice();
     match task_place(dead, t) {
         Some(_) => cycle(alloc, list, dead),
         None => Ok(None),

@@ -10,7 +10,7 @@ ghost use Rattle.collector.specs.Passes.{HasDeadOf, IsVerdict, ListsPublished, N
 
 use crate::naming::{fresh, name};
 use crate::verdict::Verdict;
-use adaptive::{Wanted, analyse};
+use adaptive::{Wanted, dead_by};
 use armus_base::{List, NoMemory, Status};
 use board::{Board, ViewSeat};
 use phase_scan::Cells;
@@ -80,7 +80,7 @@ impl Collector {
     {
         self.cells.collect(view, board);
         let list = self.cells.statuses(alloc)?;
-        let dead = analyse(alloc, list.as_slice(), wanted)?.dead;
+        let dead = dead_by(alloc, list.as_slice(), wanted)?;
         let fresh = fresh(alloc, &self.names, list.as_slice(), dead.as_slice())?;
         name(&mut self.names, dead.as_slice());
         Ok(Verdict { dead, fresh })

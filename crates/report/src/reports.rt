@@ -7,7 +7,7 @@ ghost use Rattle.report.specs.Reports.{IsReport, IsSomeDead, AppendsCycle};
 use crate::counts::counts_of;
 use crate::lines::{put_counts, put_cycle, put_graph, put_tasks};
 use crate::standing::standings;
-use adaptive::{Wanted, analyse};
+use adaptive::{Wanted, analyse, dead_of};
 use armus_base::{Final, List, NoMemory, Status, TaskId};
 use std::alloc::Global;
 use verdict::cycle;
@@ -76,6 +76,6 @@ pub fn any_dead(alloc: Global, end: &Final) -> Result<bool, NoMemory>
     requires { IsInOrder end.now.blocked }
     ensures { IfOk result (λ some. IsTrue some ↔ IsSomeDead end.now.blocked) }
 {
-    let analysis = analyse(alloc, end.blocked.as_slice(), Wanted::Auto)?;
-    Ok(!analysis.dead.as_slice().is_empty())
+    let dead = dead_of(alloc, end.blocked.as_slice())?;
+    Ok(!dead.as_slice().is_empty())
 }

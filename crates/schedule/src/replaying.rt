@@ -18,7 +18,7 @@ use crate::verdict::{
     NO_FORM, NO_OPEN_PASS, NO_TASK, NOT_ENABLED, PASS_IS_OPEN, PassVerdict, ReplayEnd, Replayed,
     ScheduleFault,
 };
-use adaptive::{Wanted, analyse};
+use adaptive::dead_of;
 use armus_base::{List, NoMemory, Plan, Status, TaskId};
 use pl_core::World;
 use std::alloc::Global;
@@ -47,14 +47,6 @@ pub(crate) struct Replaying<'p> {
     pub(crate) pass: Option<OpenPass>,
     pub(crate) verdicts: List<PassVerdict>,
     pub(crate) steps: u32,
-}
-
-// The tasks that are dead by these statuses.
-fn dead_by(alloc: Global, list: &[Status]) -> Result<List<TaskId>, NoMemory>
-    requires in_order { IsInOrder list.now }
-    ensures dead { IfOk result (IsDeadList list.now) }
-{
-    Ok(analyse(alloc, list, Wanted::Auto)?.dead)
 }
 
 // Makes the next load of a pass.
@@ -126,7 +118,7 @@ impl<'p> Replaying<'p> {
         load_next(alloc, &self.world, plan, &mut pass)?;
         if pass.is_full(plan.tasks()) {
             let list = pass.into_statuses();
-            let dead = dead_by(alloc, list.as_slice())?;
+            let dead = dead_of(alloc, list.as_slice())?;
             self.verdicts.push(PassVerdict { dead })?;
         } else {
             self.pass = Some(pass);
@@ -166,7 +158,7 @@ fn dead_in(alloc: Global, world: &World<'_>) -> Result<List<TaskId>, NoMemory>
     ensures dead { IfOk result (λ dead. (h : Seq Step) → IsAt world.now h → AreDeadIn (state_after h) dead) }
 {
     let list = world.statuses(alloc)?;
-    dead_by(alloc, list.as_slice())
+    dead_of(alloc, list.as_slice())
 }
 
 // The end of a replay at the line with this number.

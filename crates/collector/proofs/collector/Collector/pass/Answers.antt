@@ -30,10 +30,10 @@ returns-clause-published c =
 pub fresh-requires-clause-listed : goal.fresh-requires-clause-listed
 fresh-requires-clause-listed c =
     let list = c.collect.new.self.statuses in
-    let dead = c.in_ok-dead.field-0.dead in
+    let dead = c.in_ok-dead.dead in
     let first = c.as_slice.ensures.items ∙ c.in_ok-list.ensures.statuses in
     let second = c.as_slice-2.ensures.items ∙ c.in_ok-list.ensures.statuses in
-    let are = subst (λ (xs : List Status). IsDeadList xs dead) first c.in_ok-dead.ensures.dead in
+    let are = subst (λ (xs : List Status). IsDeadList xs dead) first c.in_ok-dead.ensures in
     let all = pass_listed c.args.board.now c.args.view.now c.collect.new.by list c.requires.made c.collect.ensures.goes_on c.collect.ensures.collect c.collect.ensures.collected dead are in
     subst (λ (xs : List TaskId). All (λ t. (e : Event) × IsListedOn c.as_slice-2.result.now t.0 e) xs) (sym c.as_slice-3.ensures.items)
     (subst (λ (xs : List Status). All (λ t. (e : Event) × IsListedOn xs t.0 e) dead) (sym second) all)
@@ -41,9 +41,9 @@ fresh-requires-clause-listed c =
 pub fresh-requires-clause-tasks : goal.fresh-requires-clause-tasks
 fresh-requires-clause-tasks c =
     let list = c.collect.new.self.statuses in
-    let dead = c.in_ok-dead.field-0.dead in
+    let dead = c.in_ok-dead.dead in
     let first = c.as_slice.ensures.items ∙ c.in_ok-list.ensures.statuses in
-    let are = subst (λ (xs : List Status). IsDeadList xs dead) first c.in_ok-dead.ensures.dead in
+    let are = subst (λ (xs : List Status). IsDeadList xs dead) first c.in_ok-dead.ensures in
     let all = pass_within c.args.board.now c.args.view.now c.collect.new.by list c.requires.made c.collect.ensures.goes_on c.collect.ensures.collect c.collect.ensures.collected dead are in
     let tasks = ap (λ (w : Watch). w.tasks) c.self.view_is ∙ c.requires.tasks in
     let count : length c.deref.result.now ≡ length c.args.board.now.plan.parents =
@@ -54,9 +54,9 @@ fresh-requires-clause-tasks c =
 pub name-requires : goal.name-requires
 name-requires c =
     let list = c.collect.new.self.statuses in
-    let dead = c.in_ok-dead.field-0.dead in
+    let dead = c.in_ok-dead.dead in
     let first = c.as_slice.ensures.items ∙ c.in_ok-list.ensures.statuses in
-    let are = subst (λ (xs : List Status). IsDeadList xs dead) first c.in_ok-dead.ensures.dead in
+    let are = subst (λ (xs : List Status). IsDeadList xs dead) first c.in_ok-dead.ensures in
     let all = pass_within c.args.board.now c.args.view.now c.collect.new.by list c.requires.made c.collect.ensures.goes_on c.collect.ensures.collect c.collect.ensures.collected dead are in
     let count : vec_len c.self.inside.names ≡ length c.args.board.now.plan.parents = c.self.invariant ∙ ap (λ (w : Watch). w.tasks) c.self.view_is ∙ c.requires.tasks in
     record {
@@ -67,12 +67,12 @@ name-requires c =
 pub returns-clause-verdict : goal.returns-clause-verdict
 returns-clause-verdict c =
     let list = c.collect.new.self.statuses in
-    let dead = c.in_ok-dead.field-0.dead in
+    let dead = c.in_ok-dead.dead in
     let fresh = c.in_ok-fresh.fresh in
     let first = c.as_slice.ensures.items ∙ c.in_ok-list.ensures.statuses in
     let second = c.as_slice-2.ensures.items ∙ c.in_ok-list.ensures.statuses in
     let names = c.deref.ensures.value ∙ ap (λ (w : Watch). w.names) c.self.view_is in
-    let are = subst (λ (xs : List Status). IsDeadList xs dead) first c.in_ok-dead.ensures.dead in
+    let are = subst (λ (xs : List Status). IsDeadList xs dead) first c.in_ok-dead.ensures in
     let new = subst (λ (ns : List Bool). AreFresh ns list dead fresh) names
     (subst (λ (xs : List Status). AreFresh c.deref.result.now xs dead fresh) second
     (subst (λ (ts : List TaskId). AreFresh c.deref.result.now c.as_slice-2.result.now ts fresh) c.as_slice-3.ensures.items c.in_ok-fresh.ensures)) in
@@ -81,8 +81,8 @@ returns-clause-verdict c =
 
 pub returns-clause-settled_dead : goal.returns-clause-settled_dead
 returns-clause-settled_dead c all =
-    let dead = c.in_ok-dead.field-0.dead in
+    let dead = c.in_ok-dead.dead in
     let first = c.as_slice.ensures.items ∙ c.in_ok-list.ensures.statuses in
-    let are = subst (λ (xs : List Status). IsDeadList xs dead) first c.in_ok-dead.ensures.dead in
+    let are = subst (λ (xs : List Status). IsDeadList xs dead) first c.in_ok-dead.ensures in
     let goes = c.collect.ensures.goes_on in
     dead_of_state c.args.view.now c.collect.new.self.statuses dead (subst IsCheckedPlan goes.same.plan goes.kept.checked) (c.collect.ensures.settled all) are
