@@ -1,5 +1,5 @@
 -- What the front of a phaser says: whether a task whose status remains impedes an event.
-use Rattle.std.proofs.Common.{◌≡◌, ℕ, ◌-◌, ◌<◌, ◌≤◌, Bool, true, false, List, length, refl, sym, ap, ◌∙◌, subst, inl, inr, arith, get_or}
+use Rattle.std.proofs.Common.{◌≡◌, ℕ, ◌-◌, ◌<◌, Bool, true, false, List, length, sym, ap, ◌∙◌, subst, inl, inr, arith, get_or}
 use Rattle.std.specs.Prelude.{Contains, MatchBool}
 use Rattle.std.proofs.lemmas.Bool.{cases_Bool, cases_lt}
 use Rattle.std.proofs.lemmas.List.{get_or_default}
@@ -7,7 +7,7 @@ use Rattle.armus_base.specs.declared.event.Event.{Event}
 use Rattle.armus_base.specs.declared.ids.PhaserId.{PhaserId}
 use Rattle.armus_base.specs.declared.status.Status.{Status}
 use Rattle.adaptive.specs.declared.standings.Standing.{Standing}
-use Rattle.adaptive.specs.Standings.{AreStandings, IsBelow, IsFirst, IsFront, IsPassed, IsRemainingImpeder, IsStop, IsUnimpeded, NeverFalls, remains_at}
+use Rattle.adaptive.specs.Standings.{AreStandings, IsBelow, IsFirst, IsFront, IsRemainingImpeder, IsStop, IsUnimpeded, NeverFalls, remains_at}
 
 -- a standing as its parts
 standing : ℕ → ℕ → ℕ → Standing

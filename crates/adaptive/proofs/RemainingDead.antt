@@ -1,5 +1,5 @@
 -- At first all statuses remain, and those that remain at the end are the dead ones.
-use Rattle.std.proofs.Common.{◌≡◌, ℕ, zero, suc, ◌<◌, Bool, true, false, List, [], ◌∷◌, length, replicate, refl, sym, ap, ◌∙◌, subst, inl, inr, arith, get_or}
+use Rattle.std.proofs.Common.{◌≡◌, ℕ, zero, suc, ◌<◌, Bool, true, false, List, length, replicate, refl, sym, ap, ◌∙◌, subst, inl, inr, arith, get_or}
 use Rattle.std.specs.Prelude.{All, Contains, map}
 use Rattle.std.proofs.lemmas.Bool.{cases_Bool}
 use Rattle.std.proofs.lemmas.List.{get_or_default, get_or-map, length-map, length-replicate}
@@ -10,7 +10,7 @@ use Rattle.armus_base.specs.declared.status.Member.{Member}
 use Rattle.armus_base.specs.declared.status.Status.{Status}
 use Rattle.armus_base.specs.Statuses.{Impedes, IsInOrder}
 use Rattle.dep_state.specs.Picks.{Ascend, IsPick}
-use Rattle.dep_state.proofs.DeadSets.{IsDead, IsDeadlockedList, dead_by_list, dead_in_list}
+use Rattle.dep_state.proofs.DeadSets.{IsDeadlockedList, dead_by_list, dead_in_list}
 use Rattle.dep_state.proofs.TaskPlaces.{element}
 use Rattle.adaptive.specs.declared.standings.Standing.{Standing}
 use Rattle.adaptive.specs.Remaining.{AllImpeded}

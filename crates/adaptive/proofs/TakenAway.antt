@@ -9,7 +9,7 @@ use Rattle.armus_base.specs.Statuses.{IsInOrder}
 use Rattle.adaptive.specs.declared.columns.Column.{Column}
 use Rattle.adaptive.specs.declared.standings.Standing.{Standing}
 use Rattle.adaptive.specs.Remaining.{AreFronts, how_many}
-use Rattle.adaptive.specs.Standings.{IsFront, IsRemaining, IsRemainingImpeder, IsUnimpeded, StandsAt, remains_at}
+use Rattle.adaptive.specs.Standings.{IsRemaining, IsRemainingImpeder, IsUnimpeded, StandsAt, remains_at}
 
 -- a flag of a changed list: false where one was put to false, and as before elsewhere
 pub set_other : (xs : List Bool) (k j : ℕ) → j ≢ k → remains_at (set xs k false) j ≡ remains_at xs j

@@ -1,7 +1,7 @@
 -- What one more task adds to the state graph.
 use Rattle.std.proofs.Common.{◌≡◌, ℕ, ◌+◌, ◌*◌, ◌<◌, ◌≤◌, Bool, true, false, List, [], length, refl, sym, ap, ◌∙◌, subst, ◌⊎◌, inl, inr, arith, get_or, set, get_or-set_same, get_or-set_other, length-set, replicate}
 use Rattle.std.specs.Prelude.{Contains, ◌↔◌, All}
-use Rattle.std.proofs.lemmas.Bool.{cases_eq, cases_lt}
+use Rattle.std.proofs.lemmas.Bool.{cases_Bool, cases_eq, cases_lt}
 use Rattle.std.proofs.lemmas.List.{get_or_past, get_or-replicate, length-replicate}
 use Rattle.std.proofs.lemmas.List.Elements.{Contains-get_or}
 use Rattle.digraph.specs.Graph.{HasEdge}
@@ -37,14 +37,14 @@ module _ (d : Deps) (k event : ℕ) (edges mid now : List (List ℕ)) (seen : Li
         )
 
     module _
-        (a : (i j : ℕ) → HasEdge mid i j ↔ (HasEdge edges i j ⊎ ((u : ℕ) × Contains (impeders_of d event) u × ((u ≤ k) × (i ≡ event) × (j ≡ get_or d.awaits u 0)))))
+        (a : (i j : ℕ) → HasEdge mid i j ↔ (HasEdge edges i j ⊎ ((get_or seen event false ≡ false) × ((u : ℕ) × Contains (impeders_of d event) u × ((u ≤ k) × (i ≡ event) × (j ≡ get_or d.awaits u 0))))))
         (b : (i j : ℕ) → HasEdge now i j ↔ (HasEdge mid i j ⊎ ((e : ℕ) × Contains (get_or impeded k []) e × ((get_or (set seen event true) e false ≡ true) × (i ≡ e) × (j ≡ event))))) where
       to_pair : (i j : ℕ) → HasEdge now i j → IsStatePair d (k + 1) i j
       to_pair i j x =
           elim ((b i j).0 x) [
             | inl y ↦ elim ((a i j).0 y) [
               | inl z ↦ let ((m, lt, w), (u, lu, c, v)) = (h.pairs i j).0 z in ((m, omega arith, w), (u, omega arith, c, v))
-              | inr (z) ↦ let (u, c, (le, ie, ju)) = z in ((k, omega arith, sym is ∙ sym ie), (u, omega arith, subst (λ e. Contains (impeders_of d e) u) (sym ie) c, sym ju))
+              | inr (z) ↦ let (off, (u, c, (le, ie, ju))) = z in ((k, omega arith, sym is ∙ sym ie), (u, omega arith, subst (λ e. Contains (impeders_of d e) u) (sym ie) c, sym ju))
             ]
             | inr z ↦ let (e, c, (s, ie, je)) = z in (
               (awaited_more i).0 (subst (λ o. get_or (set seen event true) o false ≡ true) (sym ie) s),
@@ -59,7 +59,13 @@ module _ (d : Deps) (k event : ℕ) (edges mid now : List (List ℕ)) (seen : Li
             | inr ne ↦ elim (cases_eq m k) [
               | inl f ↦
                   let ie : i ≡ event = sym w ∙ ap (λ o. get_or d.awaits o 0) f ∙ sym is in
-                  (b i j).1 (inl ((a i j).1 (inr (u, subst (λ o. Contains (impeders_of d o) u) ie c, (omega arith, ie, sym v)))))
+                  let there = subst (λ o. Contains (impeders_of d o) u) ie c in
+                  elim (cases_Bool (get_or seen event false)) [
+                    | inl on ↦
+                        let before = (h.awaited event).0 on in
+                        (b i j).1 (inl ((a i j).1 (inl (subst (λ o. HasEdge edges o j) (sym ie) ((h.pairs event j).1 (before, (u, omega arith, there, v)))))))
+                    | inr off ↦ (b i j).1 (inl ((a i j).1 (inr (off, (u, there, (omega arith, ie, sym v))))))
+                  ]
               | inr nf ↦ (b i j).1 (inl ((a i j).1 (inl ((h.pairs i j).1 ((m, omega arith, w), (u, omega arith, c, v))))))
             ]
           ]

@@ -28,6 +28,28 @@ fn add_impeders(graph: &mut Digraph, deps: &DepState, k: u32, event: u32) -> Res
     Ok(())
 }
 
+// Adds the edges from an event to what the tasks up to k that impede it await, where no task before k awaits the event: else they are there, but for
+// that of task k itself. So the tasks that impede an event are visited once.
+fn add_new_event(
+    graph: &mut Digraph,
+    deps: &DepState,
+    seen: &[bool],
+    k: u32,
+    event: u32,
+) -> Result<(), NoMemory>
+    requires sized { length graph.old ≡ length deps.now.events }
+    requires seen { length seen.now ≡ length deps.now.events }
+    requires event { event < length deps.now.events }
+    ensures nodes { length graph.new ≡ length graph.old }
+    ensures edges { OnOk result ((i j : ℕ) → HasEdge graph.new i j ↔
+        (HasEdge graph.old i j ⊎ ((slice_index_or seen.now event false ≡ false) × ((u : ℕ) × Contains (impeders_of deps.now event) u × ((u ≤ k) × (i ≡ event) × (j ≡ slice_index deps.now.awaits u)))))) }
+{
+    if seen[event as usize] {
+        return Ok(());
+    }
+    add_impeders(graph, deps, k, event)
+}
+
 // Adds the edges to an event from those of a list that were awaited before.
 fn add_impeded(
     graph: &mut Digraph,
@@ -63,7 +85,7 @@ fn add_task(
     ensures { OnOk result (IsGrown deps.now (k + 1) graph.new seen.new.items (graph_of impeded.now)) }
 {
     let event = deps.awaits_at(k);
-    add_impeders(graph, deps, k, event)?;
+    add_new_event(graph, deps, seen, k, event)?;
     seen[event as usize] = true;
     add_impeded(graph, &impeded[k as usize], seen, event)
 }

@@ -1,4 +1,4 @@
-use Rattle.std.proofs.Common.{◌≡◌, ◌∙◌, Bool, List, length, replicate, subst, true, ap}
+use Rattle.std.proofs.Common.{◌∙◌, List, length, subst, true, ap}
 use Rattle.std.proofs.lemmas.List.{length-replicate}
 use Rattle.adaptive.specs.declared.standings.Standing.{Standing}
 use Rattle.adaptive.specs.Remaining.{AreFronts}

@@ -1,4 +1,4 @@
-use Rattle.std.proofs.Common.{Bool, List, map, refl, subst, sym, ◌∙◌}
+use Rattle.std.proofs.Common.{Bool, List, refl, subst, sym}
 use Rattle.armus_base.specs.declared.ids.TaskId.{TaskId}
 use Rattle.armus_base.specs.DeadLists.{IsDeadList}
 use Rattle.dep_state.specs.Picks.{IsPick}

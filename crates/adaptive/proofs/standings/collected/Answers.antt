@@ -1,4 +1,4 @@
-use Rattle.std.proofs.Common.{◌≡◌, ◌++◌, ◌+◌, ◌<◌, ◌≤◌, ◌∙◌, arith, ap, get_or, length, subst, sym}
+use Rattle.std.proofs.Common.{◌++◌, ◌+◌, ◌∙◌, arith, ap, get_or, subst, sym}
 use Rattle.std.specs.Prelude.{map}
 use Rattle.std.proofs.lemmas.List.{get_or_default}
 use Rattle.adaptive.specs.Standings.{standing_of}

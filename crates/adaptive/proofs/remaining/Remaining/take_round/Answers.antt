@@ -1,4 +1,4 @@
-use Rattle.std.proofs.Common.{◌≡◌, ◌+◌, ◌<◌, ◌∙◌, Bool, List, ap, arith, false, inl, inr, subst, sym, true}
+use Rattle.std.proofs.Common.{◌≡◌, ◌∙◌, Bool, List, ap, arith, false, inl, inr, subst, sym, true}
 use Rattle.std.proofs.lemmas.Bool.{cases_Bool}
 use Rattle.adaptive.specs.Remaining.{how_many}
 use Rattle.adaptive.proofs.TakenAway.{AreImpededBelow, one_more_impeded}

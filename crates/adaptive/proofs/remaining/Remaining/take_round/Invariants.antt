@@ -1,4 +1,4 @@
-use Rattle.std.proofs.Common.{◌≡◌, ◌<◌, ◌≤◌, ℕ, false, true, length}
+use Rattle.std.proofs.Common.{◌≡◌, ◌<◌, ℕ, false, true}
 use Rattle.std.specs.Prelude.{slice_index_or}
 use Rattle.armus_base.specs.declared.status.Status.{Status}
 use Rattle.adaptive.specs.Remaining.{IsKeptOf, how_many}

@@ -1,4 +1,4 @@
-use Rattle.std.proofs.Common.{◌≡◌, ◌∙◌, ◌+◌, ◌<◌, Bool, true, false, ap, arith, length, set, sym}
+use Rattle.std.proofs.Common.{◌≡◌, ◌∙◌, ◌+◌, ◌<◌, true, false, ap, arith, length, set, sym}
 use Rattle.std.proofs.lemmas.List.{get_or_default}
 use Rattle.adaptive.specs.Remaining.{how_many}
 use Rattle.adaptive.specs.Standings.{remains_at}
