@@ -11,10 +11,10 @@ use Rattle.pl_syntax.specs.Bodies.{first, tree_of}
 use Rattle.pl_plan.specs.declared.step.NameId.{NameId}
 use Rattle.pl_plan.specs.declared.step.Step.{Step}
 use Rattle.pl_plan.specs.declared.step.Step.TheVariants as a_step
-use Rattle.pl_plan.specs.Steps.{IsName, IsStep, IsSpelled, step_at}
-use Rattle.pl_plan.specs.Shows.{IsNumbering}
-use Rattle.pl_plan.specs.Numbers.{spelling, IsMore}
-use Rattle.pl_plan.specs.Flattening.{AddsSteps}
+use Rattle.pl_plan.specs.inside.Steps.{IsName, IsStep, IsSpelled, step_at}
+use Rattle.pl_plan.specs.inside.Shows.{IsNumbering}
+use Rattle.pl_plan.specs.inside.Numbers.{spelling, IsMore}
+use Rattle.pl_plan.specs.inside.Flattening.{AddsSteps}
 use Rattle.pl_plan.proofs.Spelled.{NamesAgree, spelled_more, spelled_count, name_more}
 use Rattle.pl_plan.proofs.Bodies.{spelled_push}
 

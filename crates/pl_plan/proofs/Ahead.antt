@@ -7,11 +7,11 @@ use Rattle.pl_plan.specs.declared.step.Step.TheVariants as a_step
 use Rattle.pl_plan.specs.declared.fault.CheckFault.{CheckFault}
 use Rattle.pl_plan.specs.declared.fault.PlanEnd.{PlanEnd}
 use Rattle.pl_plan.specs.declared.fault.PlanEnd.TheVariants as ends
-use Rattle.pl_plan.specs.Steps.{step_at, IsSpelled, IsList}
-use Rattle.pl_plan.specs.Checker.{Checker, Fits, Keeps}
-use Rattle.pl_plan.specs.CheckerSteps.{checker_act, HasNames, checker_count, checker_fork, Gives}
+use Rattle.pl_plan.specs.inside.Steps.{step_at, IsSpelled, IsList}
+use Rattle.pl_plan.specs.inside.Checker.{Checker, Fits, Keeps}
+use Rattle.pl_plan.specs.inside.CheckerSteps.{checker_act, HasNames, checker_count, checker_fork, Gives}
 use Rattle.pl_plan.specs.Unfolding.{State, Outcome, ◌>>=◌, times, meetings_of, meet_all, count_meeting}
-use Rattle.pl_plan.specs.Shows.{Shows, Follows, FollowsFrom}
+use Rattle.pl_plan.specs.inside.Shows.{Shows, Follows, FollowsFrom}
 use Rattle.pl_plan.proofs.Simulating as simulating
 use Rattle.pl_plan.proofs.Walks.{meet_all-append, On, Failed, on_through, on_failed, simulates_ok, simulates_err, IsPlain}
 use Rattle.pl_plan.proofs.Turns.{turn, Turned}

@@ -6,11 +6,11 @@ use Rattle.armus_base.specs.Limits.{max_tasks}
 use Rattle.pl_syntax.specs.Tree.{Tree}
 use Rattle.pl_plan.specs.declared.fault.PlanEnd.{PlanEnd}
 use Rattle.pl_plan.specs.declared.fault.PlanEnd.TheVariants as ends
-use Rattle.pl_plan.specs.Steps.{IsSpelled, IsList}
-use Rattle.pl_plan.specs.Checker.{Checker, CheckerStart, Fits, StartFits, Keeps, begun, padded, range_of}
+use Rattle.pl_plan.specs.inside.Steps.{IsSpelled, IsList}
+use Rattle.pl_plan.specs.inside.Checker.{Checker, CheckerStart, Fits, StartFits, Keeps, begun, padded, range_of}
 use Rattle.pl_plan.specs.Unfolding.{State, Start, Outcome, ◌>>=◌, meetings_of, meet_all, unfold_task, unfold_tasks, with_names}
-use Rattle.pl_plan.specs.Shows.{Shows, MaybeStartShows, Follows}
-use Rattle.pl_plan.specs.CheckerSteps.{thing_of}
+use Rattle.pl_plan.specs.inside.Shows.{Shows, MaybeStartShows, Follows}
+use Rattle.pl_plan.specs.inside.CheckerSteps.{thing_of}
 use Rattle.pl_plan.proofs.Keeping.{length_padded, padded_same, things_same}
 use Rattle.pl_plan.proofs.Simulating as simulating
 

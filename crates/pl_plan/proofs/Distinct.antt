@@ -8,8 +8,8 @@ use Rattle.std.proofs.lemmas.Slice.Eq.{bytes_eq-Decides}
 use Rattle.std.proofs.lemmas.Bool.{false≢true}
 use Rattle.std.proofs.lemmas.Option.{get_or_from_slice_get}
 use Rattle.std.proofs.lemmas.List.{get_or-map}
-use Rattle.pl_plan.specs.Shows.{IsNumbering}
-use Rattle.pl_plan.specs.Numbers.{spelling}
+use Rattle.pl_plan.specs.inside.Shows.{IsNumbering}
+use Rattle.pl_plan.specs.inside.Numbers.{spelling}
 
 pub spelling_at : (keys : List (Bor (List ℕ))) (i : ℕ) (k : Bor (List ℕ)) (name : List ℕ) → i < length keys → slice_get keys i ≡ Some k → bytes_eq name k.now ≡ true → spelling keys i ≡ name
 spelling_at keys i k name lt e same =

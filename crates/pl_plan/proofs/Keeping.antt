@@ -8,9 +8,9 @@ use Rattle.armus_base.specs.declared.op.Op.{Op}
 use Rattle.pl_plan.specs.declared.step.Step.{Step}
 use Rattle.pl_plan.specs.declared.step.Thing.{Thing}
 use Rattle.pl_plan.specs.declared.step.Thing.TheVariants.{Nothing, Task, Phaser}
-use Rattle.pl_plan.specs.Steps.{IsList}
-use Rattle.pl_plan.specs.Checker.{Checker, CheckerStart, IsThings, IsInside, StartFits, Fits, slot_of, slotted, with_thing, with_task, with_maker, pushed, marked, started, padded}
-use Rattle.pl_plan.specs.CheckerSteps.{with_binding}
+use Rattle.pl_plan.specs.inside.Steps.{IsList}
+use Rattle.pl_plan.specs.inside.Checker.{Checker, CheckerStart, IsThings, IsInside, StartFits, Fits, slot_of, slotted, with_thing, with_task, with_maker, pushed, marked, started, padded}
+use Rattle.pl_plan.specs.inside.CheckerSteps.{with_binding}
 use Rattle.pl_plan.proofs.Places.{at_set, at_more}
 
 -- ---- things stay inside where there are more

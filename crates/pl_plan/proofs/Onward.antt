@@ -5,12 +5,12 @@ use Rattle.pl_plan.specs.declared.step.NameId.{NameId}
 use Rattle.pl_plan.specs.declared.step.Step.{Step}
 use Rattle.pl_plan.specs.declared.step.Step.TheVariants as a_step
 use Rattle.pl_plan.specs.declared.fault.CheckFault.{CheckFault}
-use Rattle.pl_plan.specs.Steps.{IsStep, step_at, IsSpelled, IsList}
-use Rattle.pl_plan.specs.Checker.{Checker, Fits, Keeps}
-use Rattle.pl_plan.specs.CheckerSteps.{checker_act, HasNames, checker_count, checker_fork}
+use Rattle.pl_plan.specs.inside.Steps.{IsStep, step_at, IsSpelled, IsList}
+use Rattle.pl_plan.specs.inside.Checker.{Checker, Fits, Keeps}
+use Rattle.pl_plan.specs.inside.CheckerSteps.{checker_act, HasNames, checker_count, checker_fork}
 use Rattle.pl_plan.specs.Unfolding.{State, ◌>>=◌, times, meeting, a_fork, a_turn, meetings_of, meet_all, count_meeting, act, act_fork}
-use Rattle.pl_plan.specs.Shows.{Shows}
-use Rattle.pl_plan.specs.Simulates.{Simulates, KeepsAll}
+use Rattle.pl_plan.specs.inside.Shows.{Shows}
+use Rattle.pl_plan.specs.inside.Simulates.{Simulates, KeepsAll}
 use Rattle.pl_plan.proofs.Simulating as simulating
 use Rattle.pl_plan.proofs.Spelled.{spelled_count}
 use Rattle.pl_plan.proofs.Walks.{meet_all-append, simulates_acting, keeps_acting, names_of, On, Failed, simulates_ok, simulates_err, keeps_ok, IsPlain, plain_at, fork_at, loop_at, ForkAt, LoopAt}

@@ -11,13 +11,13 @@ use Rattle.pl_syntax.specs.Tree.{Tree}
 use Rattle.pl_plan.specs.declared.step.Step.{Step}
 use Rattle.pl_plan.specs.declared.fault.PlanEnd.{PlanEnd}
 use Rattle.pl_plan.specs.declared.fault.PlanEnd.TheVariants as ends
-use Rattle.pl_plan.specs.Steps.{IsSpelled}
-use Rattle.pl_plan.specs.Checker.{Checker, CheckerStart}
-use Rattle.pl_plan.specs.CheckerSteps.{thing_of}
-use Rattle.pl_plan.specs.Opening.{IsOpening}
+use Rattle.pl_plan.specs.inside.Steps.{IsSpelled}
+use Rattle.pl_plan.specs.inside.Checker.{Checker, CheckerStart}
+use Rattle.pl_plan.specs.inside.CheckerSteps.{thing_of}
+use Rattle.pl_plan.specs.inside.Opening.{IsOpening}
 use Rattle.pl_plan.specs.Planning.{Answers}
 use Rattle.pl_plan.specs.Unfolding.{State, Start, ◌>>=◌, opening_state, unfold_tasks, plan_of}
-use Rattle.pl_plan.specs.Shows.{Shows, MaybeStartShows, StartShows, IsNumbering, Follows}
+use Rattle.pl_plan.specs.inside.Shows.{Shows, MaybeStartShows, StartShows, IsNumbering, Follows}
 
 pub opens : (spelling : ℕ → List ℕ) (steps : List Step) (names : ℕ) (k : Checker) (tree : Tree) → IsOpening steps names k → IsNumbering names spelling → IsSpelled names spelling steps 0 tree (length steps) → Shows spelling k (opening_state tree)
 opens spelling steps names k tree o distinct spelled = record {

@@ -8,12 +8,12 @@ use Rattle.armus_base.specs.Plans.{Plan}
 use Rattle.armus_base.specs.CheckedPlans.{IsCheckedPlan}
 use Rattle.pl_syntax.specs.Tree.{Tree, count}
 use Rattle.pl_plan.specs.declared.step.Step.{Step}
-use Rattle.pl_plan.specs.Steps.{IsSpelled}
-use Rattle.pl_plan.specs.Numbers.{spelling}
-use Rattle.pl_plan.specs.Flattening.{AddsSteps}
-use Rattle.pl_plan.specs.Checker.{Checker}
-use Rattle.pl_plan.specs.Opening.{IsOpening}
-use Rattle.pl_plan.specs.Shows.{Shows, IsNumbering}
+use Rattle.pl_plan.specs.inside.Steps.{IsSpelled}
+use Rattle.pl_plan.specs.inside.Numbers.{spelling}
+use Rattle.pl_plan.specs.inside.Flattening.{AddsSteps}
+use Rattle.pl_plan.specs.inside.Checker.{Checker}
+use Rattle.pl_plan.specs.inside.Opening.{IsOpening}
+use Rattle.pl_plan.specs.inside.Shows.{Shows, IsNumbering}
 use Rattle.pl_plan.specs.Unfolding.{State, opening_state, unfold_tasks}
 use Rattle.pl_plan.proofs.Spelled.{spelled_count}
 use Rattle.pl_plan.proofs.Opens.{opens, plan_found}

@@ -11,11 +11,11 @@ use Rattle.pl_syntax.specs.Tree.{Tree}
 use Rattle.pl_plan.specs.declared.step.Step.{Step}
 use Rattle.pl_plan.specs.declared.step.Thing as code
 use Rattle.pl_plan.specs.declared.step.Thing.TheVariants as a_thing
-use Rattle.pl_plan.specs.Steps.{IsSpelled}
-use Rattle.pl_plan.specs.Checker.{Checker, CheckerStart, StartFits, Fits, slot_of, slotted, with_thing, with_task, with_maker, pushed, marked, started}
-use Rattle.pl_plan.specs.CheckerSteps.{with_binding, thing_of}
+use Rattle.pl_plan.specs.inside.Steps.{IsSpelled}
+use Rattle.pl_plan.specs.inside.Checker.{Checker, CheckerStart, StartFits, Fits, slot_of, slotted, with_thing, with_task, with_maker, pushed, marked, started}
+use Rattle.pl_plan.specs.inside.CheckerSteps.{with_binding, thing_of}
 use Rattle.pl_plan.specs.Unfolding.{State, Start, Names, Thing, with_name, with_op, with_member, with_members, with_start}
-use Rattle.pl_plan.specs.Shows.{Shows, MaybeStartShows, AreNamed, IsNumbering}
+use Rattle.pl_plan.specs.inside.Shows.{Shows, MaybeStartShows, AreNamed, IsNumbering}
 use Rattle.pl_plan.proofs.Places.{same_or, at_set, at_more}
 use Rattle.pl_plan.proofs.Keeping.{slotted_fits, taken_same}
 

@@ -10,12 +10,12 @@ use Rattle.pl_syntax.specs.Tree.{Tree, new_task, new_phaser, reg, dereg, adv, aw
 use Rattle.pl_plan.specs.declared.step.Step.{Step}
 use Rattle.pl_plan.specs.declared.step.Thing as code
 use Rattle.pl_plan.specs.declared.step.Thing.TheVariants as a_thing
-use Rattle.pl_plan.specs.Steps.{IsSpelled, IsList}
-use Rattle.pl_plan.specs.Checker.{Checker, CheckerStart, IsInside, Fits, Keeps, slot_of, thing_at, with_task, with_maker, marked, started}
-use Rattle.pl_plan.specs.CheckerSteps.{with_binding, thing_of, thing_named, member, checker_add, checker_new_task, checker_new_phaser, checker_unforked_child, checker_reg, checker_member, checker_dereg, checker_adv, checker_await, checker_fork, checker_count}
+use Rattle.pl_plan.specs.inside.Steps.{IsSpelled, IsList}
+use Rattle.pl_plan.specs.inside.Checker.{Checker, CheckerStart, IsInside, Fits, Keeps, slot_of, thing_at, with_task, with_maker, marked, started}
+use Rattle.pl_plan.specs.inside.CheckerSteps.{with_binding, thing_of, thing_named, member, checker_add, checker_new_task, checker_new_phaser, checker_unforked_child, checker_reg, checker_member, checker_dereg, checker_adv, checker_await, checker_fork, checker_count}
 use Rattle.pl_plan.specs.Unfolding.{State, Start, Thing, a_task, a_phaser, Outcome, ◌>>=◌, fault_unless, as_task, as_phaser, is_parent, unforked_child, member_of, task, phaser, add_op, act, act_fork, count_meeting, with_member, with_name, not_member, already_member, not_drawn_here, already_forked, too_many_tasks, too_many_phasers, too_many_ops, too_many_meetings}
-use Rattle.pl_plan.specs.Shows.{Shows, MaybeStartShows}
-use Rattle.pl_plan.specs.Simulates.{Simulates, KeepsAll}
+use Rattle.pl_plan.specs.inside.Shows.{Shows, MaybeStartShows}
+use Rattle.pl_plan.specs.inside.Simulates.{Simulates, KeepsAll}
 use Rattle.pl_plan.proofs.Keeping.{fits_pushed, fits_marked, fits_started, fits_task, fits_maker, fits_binding, slotted_fits}
 use Rattle.pl_plan.proofs.Showing.{shows_pushed, shows_marked, shows_task, shows_maker, shows_binding, shows_started}
 

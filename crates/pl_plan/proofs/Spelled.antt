@@ -5,7 +5,7 @@ use Rattle.pl_syntax.specs.Tree.{Tree, done, plain, fork, loop, Plain, new_task,
 use Rattle.pl_plan.specs.declared.step.NameId.{NameId}
 use Rattle.pl_plan.specs.declared.step.Step.{Step}
 use Rattle.pl_plan.specs.declared.step.Step.TheVariants as a_step
-use Rattle.pl_plan.specs.Steps.{IsName, IsStep, step_at, IsSpelled}
+use Rattle.pl_plan.specs.inside.Steps.{IsName, IsStep, step_at, IsSpelled}
 
 -- the names below n are the same
 pub record NamesAgree (n : ℕ) (names : ℕ → List ℕ) (n' : ℕ) (names' : ℕ → List ℕ) : Type 0 where

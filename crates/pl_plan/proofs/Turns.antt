@@ -1,10 +1,10 @@
 -- The turns of a loop.
 use Rattle.std.proofs.Common.{◌≡◌, ℕ, ◌+◌, ◌-◌, List, ◌∷◌, length}
 use Rattle.pl_syntax.specs.Tree.{Tree}
-use Rattle.pl_plan.specs.Steps.{IsSpelled}
-use Rattle.pl_plan.specs.Checker.{Checker, Keeps}
+use Rattle.pl_plan.specs.inside.Steps.{IsSpelled}
+use Rattle.pl_plan.specs.inside.Checker.{Checker, Keeps}
 use Rattle.pl_plan.specs.Unfolding.{State, Outcome, times, meeting, Meeting, a_turn, meetings_of, meet_all}
-use Rattle.pl_plan.specs.Shows.{Shows}
+use Rattle.pl_plan.specs.inside.Shows.{Shows}
 
 -- a turn of the loop with index at
 abbrev pub turn : ℕ → Tree → List Meeting

@@ -5,12 +5,12 @@ use Rattle.pl_plan.specs.declared.step.NameId.{NameId}
 use Rattle.pl_plan.specs.declared.step.Step.{Step}
 use Rattle.pl_plan.specs.declared.step.Step.TheVariants as a_step
 use Rattle.pl_plan.specs.declared.fault.CheckFault.{CheckFault}
-use Rattle.pl_plan.specs.Steps.{IsName, IsStep, step_at, IsSpelled, IsList}
-use Rattle.pl_plan.specs.Checker.{Checker, Fits, Keeps}
-use Rattle.pl_plan.specs.CheckerSteps.{checker_act, HasNames}
+use Rattle.pl_plan.specs.inside.Steps.{IsName, IsStep, step_at, IsSpelled, IsList}
+use Rattle.pl_plan.specs.inside.Checker.{Checker, Fits, Keeps}
+use Rattle.pl_plan.specs.inside.CheckerSteps.{checker_act, HasNames}
 use Rattle.pl_plan.specs.Unfolding.{State, Outcome, ◌>>=◌, Meeting, meetings_of, meet, meet_all, act}
-use Rattle.pl_plan.specs.Shows.{Shows}
-use Rattle.pl_plan.specs.Simulates.{Simulates, KeepsAll}
+use Rattle.pl_plan.specs.inside.Shows.{Shows}
+use Rattle.pl_plan.specs.inside.Simulates.{Simulates, KeepsAll}
 use Rattle.pl_plan.proofs.Spelled.{spelled_count}
 use Rattle.pl_plan.proofs.Simulating as simulating
 

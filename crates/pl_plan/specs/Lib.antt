@@ -4,14 +4,8 @@ pub mod Unfolding
 pub mod Tests
 pub mod Visits
 pub mod Planning
+-- What is proved of it.
 pub mod Laws
 pub mod WorkedPrograms
 -- How the program does it: flat steps, what the checker keeps, what it shows of the unfolding.
-pub mod Steps
-pub mod Numbers
-pub mod Checker
-pub mod CheckerSteps
-pub mod Shows
-pub mod Simulates
-pub mod Opening
-pub mod Flattening
+pub mod inside

@@ -1,10 +1,10 @@
 // What the checker keeps, and its changes.
 
 ghost use Rattle.std.specs.Prelude.{◌≡◌, ◌+◌, ◌*◌, ◌<◌, ◌≤◌, ◌^◌, ◌++◌, ◌∷◌, [], length, replicate, slice_index_or, OnOk, IfOk, None, false, is_some, ℕ};
-ghost use Rattle.pl_plan.specs.Steps.{step_at};
-ghost use Rattle.pl_plan.specs.Opening.{IsOpening};
+ghost use Rattle.pl_plan.specs.inside.Steps.{step_at};
+ghost use Rattle.pl_plan.specs.inside.Opening.{IsOpening};
 ghost use Rattle.pl_plan.specs.declared.step.Thing.TheVariants.{Nothing};
-ghost use Rattle.pl_plan.specs.Checker.{Checker as CheckerValue, Fits, IsThings, slot_of, thing_at, slotted, with_thing, with_task, with_maker, pushed, marked, started, begun, range_of};
+ghost use Rattle.pl_plan.specs.inside.Checker.{Checker as CheckerValue, Fits, IsThings, slot_of, thing_at, slotted, with_thing, with_task, with_maker, pushed, marked, started, begun, range_of};
 
 use crate::step::{NameId, Step, Thing};
 use armus_base::{List, MAX_PHASERS, MAX_TASKS, NoMemory, Op, PhaserId, TaskId};
@@ -23,7 +23,7 @@ pub(crate) struct Start {
 }
 
 impl Model for Start {
-    ghost use Rattle.pl_plan.specs.Checker.{CheckerStart};
+    ghost use Rattle.pl_plan.specs.inside.Checker.{CheckerStart};
 
     ghost Value = { CheckerStart };
 
@@ -49,10 +49,10 @@ pub(crate) struct Checker {
 }
 
 impl Model for Checker {
-    ghost use Rattle.pl_plan.specs.Steps.{step_at};
-    ghost use Rattle.pl_plan.specs.Opening.{IsOpening};
+    ghost use Rattle.pl_plan.specs.inside.Steps.{step_at};
+    ghost use Rattle.pl_plan.specs.inside.Opening.{IsOpening};
     ghost use Rattle.pl_plan.specs.declared.step.Thing.TheVariants.{Nothing};
-    ghost use Rattle.pl_plan.specs.Checker.{Checker as CheckerRecord};
+    ghost use Rattle.pl_plan.specs.inside.Checker.{Checker as CheckerRecord};
 
     ghost Value = { CheckerRecord };
 

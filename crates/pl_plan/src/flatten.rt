@@ -3,9 +3,9 @@
 ghost use Rattle.std.specs.Prelude.{◌≡◌, ◌+◌, ◌<◌, ◌^◌, ◌++◌, ◌∷◌, [], length, OnOk, IfOk};
 ghost use Rattle.pl_syntax.specs.Tree.{count, done};
 ghost use Rattle.pl_syntax.specs.Bodies.{first};
-ghost use Rattle.pl_plan.specs.Shows.{IsNumbering};
-ghost use Rattle.pl_plan.specs.Numbers.{spelling, IsMore};
-ghost use Rattle.pl_plan.specs.Flattening.{AddsSteps};
+ghost use Rattle.pl_plan.specs.inside.Shows.{IsNumbering};
+ghost use Rattle.pl_plan.specs.inside.Numbers.{spelling, IsMore};
+ghost use Rattle.pl_plan.specs.inside.Flattening.{AddsSteps};
 
 use crate::step::{NameId, Step};
 use armus_base::NoMemory;

@@ -1,9 +1,9 @@
 // What the checker does at a step.
 
 ghost use Rattle.std.specs.Prelude.{◌≡◌, ◌+◌, ◌*◌, ◌<◌, ◌≤◌, ◌^◌, ◌++◌, ◌∷◌, [], length, slice_index_or, OnOk, IfOk, None, false, is_some};
-ghost use Rattle.pl_plan.specs.Checker.{Fits, slot_of};
+ghost use Rattle.pl_plan.specs.inside.Checker.{Fits, slot_of};
 ghost use Rattle.pl_plan.specs.Unfolding.{as_task, as_phaser, fault_unless, is_parent};
-ghost use Rattle.pl_plan.specs.CheckerSteps.{Gives, viewed, thing_named, member, with_binding, checker_add, checker_new_task, checker_new_phaser, checker_unforked_child, checker_reg, checker_member, checker_dereg, checker_adv, checker_await, checker_fork, checker_count, checker_act, HasNames};
+ghost use Rattle.pl_plan.specs.inside.CheckerSteps.{Gives, viewed, thing_named, member, with_binding, checker_add, checker_new_task, checker_new_phaser, checker_unforked_child, checker_reg, checker_member, checker_dereg, checker_adv, checker_await, checker_fork, checker_count, checker_act, HasNames};
 
 use crate::checker::Checker;
 use crate::fault::{
@@ -27,7 +27,7 @@ fn fault_unless(holds: bool, kind: u8, n: u32) -> Result<(), CheckFault>
 }
 
 // A meeting, or its fault.
-#[tactic(auto, unfolding(crate::specs::CheckerSteps::checker_count))]
+#[tactic(auto, unfolding(crate::specs::inside::CheckerSteps::checker_count))]
 pub(crate) fn count_meeting(checker: &mut Checker, n: u32) -> Result<(), PlanEnd>
     ensures { Gives result (checker_count n checker.old) checker.new }
 {
@@ -109,7 +109,7 @@ fn bind(checker: &mut Checker, x: NameId, thing: Thing)
 }
 
 // An op, or the fault that there are too many.
-#[tactic(auto, unfolding(crate::specs::CheckerSteps::checker_add))]
+#[tactic(auto, unfolding(crate::specs::inside::CheckerSteps::checker_add))]
 fn add(checker: &mut Checker, t: TaskId, n: u32, op: Op) -> Result<(), PlanEnd>
     requires { t.0 < length checker.old.codes }
     ensures { Gives result (checker_add t.0 n op checker.old) checker.new }
@@ -120,7 +120,7 @@ fn add(checker: &mut Checker, t: TaskId, n: u32, op: Op) -> Result<(), PlanEnd>
 }
 
 // `x = newTid();`
-#[tactic(auto, unfolding(crate::specs::CheckerSteps::checker_new_task))]
+#[tactic(auto, unfolding(crate::specs::inside::CheckerSteps::checker_new_task))]
 pub(crate) fn new_task(
     alloc: Global,
     checker: &mut Checker,
@@ -140,7 +140,7 @@ pub(crate) fn new_task(
 }
 
 // `x = newPhaser();`
-#[tactic(auto, unfolding(crate::specs::CheckerSteps::checker_new_phaser))]
+#[tactic(auto, unfolding(crate::specs::inside::CheckerSteps::checker_new_phaser))]
 pub(crate) fn new_phaser(checker: &mut Checker, t: TaskId, n: u32, x: NameId) -> Result<(), PlanEnd>
     requires fits { Fits checker.old }
     requires task { t.0 < length checker.old.parents }
@@ -156,7 +156,7 @@ pub(crate) fn new_phaser(checker: &mut Checker, t: TaskId, n: u32, x: NameId) ->
 }
 
 // `reg(x, y);`
-#[tactic(auto, unfolding(crate::specs::CheckerSteps::checker_reg))]
+#[tactic(auto, unfolding(crate::specs::inside::CheckerSteps::checker_reg))]
 pub(crate) fn register(
     checker: &mut Checker,
     t: TaskId,
@@ -180,7 +180,7 @@ pub(crate) fn register(
 }
 
 // The phaser of this name, of which `t` is a member.
-#[tactic(auto, unfolding(crate::specs::CheckerSteps::checker_member))]
+#[tactic(auto, unfolding(crate::specs::inside::CheckerSteps::checker_member))]
 fn member_named(checker: &Checker, t: TaskId, n: u32, x: NameId) -> Result<PhaserId, CheckFault>
     requires fits { Fits checker.now }
     requires task { t.0 < length checker.now.parents }
@@ -194,7 +194,7 @@ fn member_named(checker: &Checker, t: TaskId, n: u32, x: NameId) -> Result<Phase
 }
 
 // `dereg(x);`
-#[tactic(auto, unfolding(crate::specs::CheckerSteps::checker_dereg))]
+#[tactic(auto, unfolding(crate::specs::inside::CheckerSteps::checker_dereg))]
 pub(crate) fn leave(checker: &mut Checker, t: TaskId, n: u32, x: NameId) -> Result<(), PlanEnd>
     requires fits { Fits checker.old }
     requires task { t.0 < length checker.old.parents }
@@ -207,7 +207,7 @@ pub(crate) fn leave(checker: &mut Checker, t: TaskId, n: u32, x: NameId) -> Resu
 }
 
 // `adv(x);`
-#[tactic(auto, unfolding(crate::specs::CheckerSteps::checker_adv))]
+#[tactic(auto, unfolding(crate::specs::inside::CheckerSteps::checker_adv))]
 pub(crate) fn advance(checker: &mut Checker, t: TaskId, n: u32, x: NameId) -> Result<(), PlanEnd>
     requires fits { Fits checker.old }
     requires task { t.0 < length checker.old.parents }
@@ -219,7 +219,7 @@ pub(crate) fn advance(checker: &mut Checker, t: TaskId, n: u32, x: NameId) -> Re
 }
 
 // `await(x);`
-#[tactic(auto, unfolding(crate::specs::CheckerSteps::checker_await))]
+#[tactic(auto, unfolding(crate::specs::inside::CheckerSteps::checker_await))]
 pub(crate) fn wait(checker: &mut Checker, t: TaskId, n: u32, x: NameId) -> Result<(), PlanEnd>
     requires fits { Fits checker.old }
     requires task { t.0 < length checker.old.parents }
@@ -231,7 +231,7 @@ pub(crate) fn wait(checker: &mut Checker, t: TaskId, n: u32, x: NameId) -> Resul
 }
 
 // `fork(x) { .. }`, whose body's steps stand before `after`.
-#[tactic(auto, unfolding(crate::specs::CheckerSteps::checker_fork))]
+#[tactic(auto, unfolding(crate::specs::inside::CheckerSteps::checker_fork))]
 pub(crate) fn fork(
     alloc: Global,
     checker: &mut Checker,

@@ -1,8 +1,8 @@
 // The tasks, in order of number.
 
 ghost use Rattle.std.specs.Prelude.{◌≡◌, ◌+◌, ◌<◌, ◌≤◌, ◌^◌, length, slice_index_or, OnOk, None, ℕ, List};
-ghost use Rattle.pl_plan.specs.Checker.{Fits, Keeps};
-ghost use Rattle.pl_plan.specs.Shows.{Shows, Follows};
+ghost use Rattle.pl_plan.specs.inside.Checker.{Fits, Keeps};
+ghost use Rattle.pl_plan.specs.inside.Shows.{Shows, Follows};
 ghost use Rattle.pl_plan.specs.Unfolding.{State, unfold_task, unfold_tasks};
 
 use crate::checker::Checker;

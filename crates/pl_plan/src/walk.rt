@@ -1,9 +1,9 @@
 // The walk over steps, with loops and their turns.
 
 ghost use Rattle.std.specs.Prelude.{◌+◌, ◌<◌, ◌≤◌, ◌^◌, length, OnOk};
-ghost use Rattle.pl_plan.specs.Checker.{Fits, Keeps};
-ghost use Rattle.pl_plan.specs.Steps.{IsList};
-ghost use Rattle.pl_plan.specs.Shows.{FollowsFrom, FollowsTurns};
+ghost use Rattle.pl_plan.specs.inside.Checker.{Fits, Keeps};
+ghost use Rattle.pl_plan.specs.inside.Steps.{IsList};
+ghost use Rattle.pl_plan.specs.inside.Shows.{FollowsFrom, FollowsTurns};
 
 use crate::checker::Checker;
 use crate::fault::PlanEnd;

@@ -1,6 +1,6 @@
 use Rattle.std.proofs.Common.{Err, length, arith, ◌∙◌, ap}
 use Rattle.std.proofs.lemmas.Result.{err_from_is_err_and}
-use Rattle.pl_plan.specs.Numbers.{spelling}
+use Rattle.pl_plan.specs.inside.Numbers.{spelling}
 use Rattle.pl_plan.specs.Unfolding.{opening_state}
 use Rattle.pl_plan.proofs.Opens.{plan_found, plan_fault}
 use Rattle.pl_plan.proofs.Planned.{as_many_steps, opens_flat, same_plan, plan_checked}

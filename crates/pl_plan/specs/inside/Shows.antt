@@ -8,9 +8,9 @@ use Rattle.pl_plan.specs.declared.step.Thing.TheVariants as a_thing
 use Rattle.pl_plan.specs.declared.fault.PlanEnd.{PlanEnd}
 use Rattle.pl_plan.specs.declared.fault.PlanEnd.TheVariants as ends
 use Rattle.pl_syntax.specs.Tree.{Tree}
-use Rattle.pl_plan.specs.Steps.{IsSpelled}
-use Rattle.pl_plan.specs.Checker.{Checker, CheckerStart}
-use Rattle.pl_plan.specs.CheckerSteps.{thing_of}
+use Rattle.pl_plan.specs.inside.Steps.{IsSpelled}
+use Rattle.pl_plan.specs.inside.Checker.{Checker, CheckerStart}
+use Rattle.pl_plan.specs.inside.CheckerSteps.{thing_of}
 use Rattle.pl_plan.specs.Unfolding.{State, Start, Names, Outcome, meeting, times, a_turn, meetings_of, meet_all}
 
 -- two numbers below n have two names

@@ -4,7 +4,7 @@ use Rattle.armus_base.specs.Limits.{max_tasks, max_phasers}
 use Rattle.armus_base.specs.declared.ids.TaskId.{TaskId}
 use Rattle.armus_base.specs.declared.op.Op.{Op}
 use Rattle.pl_plan.specs.declared.step.Step.{Step}
-use Rattle.pl_plan.specs.Steps.{IsList}
+use Rattle.pl_plan.specs.inside.Steps.{IsList}
 use Rattle.pl_plan.specs.declared.step.Thing.{Thing}
 use Rattle.pl_plan.specs.declared.step.Thing.TheVariants.{Nothing, Task, Phaser}
 

@@ -1,7 +1,7 @@
 -- An outcome on what is kept shows an outcome of the unfolding.
 use Rattle.std.specs.Prelude.{◌≡◌, ℕ, List, Ok, Err}
-use Rattle.pl_plan.specs.Checker.{Checker, Keeps}
-use Rattle.pl_plan.specs.Shows.{Shows}
+use Rattle.pl_plan.specs.inside.Checker.{Checker, Keeps}
+use Rattle.pl_plan.specs.inside.Shows.{Shows}
 use Rattle.pl_plan.specs.Unfolding.{State, Outcome}
 
 -- the same fault, or what is kept shows the state

@@ -11,7 +11,7 @@ use Rattle.pl_plan.specs.declared.step.Thing.TheVariants as a_thing
 use Rattle.pl_plan.specs.declared.fault.PlanEnd.{PlanEnd}
 use Rattle.pl_plan.specs.declared.fault.PlanEnd.TheVariants as ends
 use Rattle.pl_plan.specs.declared.fault.CheckFault.{CheckFault}
-use Rattle.pl_plan.specs.Checker.{Checker, thing_at, slotted, with_thing, with_task, with_maker, pushed, marked, started}
+use Rattle.pl_plan.specs.inside.Checker.{Checker, thing_at, slotted, with_thing, with_task, with_maker, pushed, marked, started}
 use Rattle.pl_plan.specs.Unfolding.{Outcome, ◌>>=◌, fault_unless, as_task, as_phaser, unforked_child_by, task, phaser, Thing, a_task, a_phaser, not_member, already_member, too_many_tasks, too_many_phasers, too_many_ops, too_many_meetings}
 
 -- what a thing is in the unfolding

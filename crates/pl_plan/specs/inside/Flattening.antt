@@ -3,9 +3,9 @@ use Rattle.std.specs.Prelude.{◌≡◌, ℕ, List, ◌++◌, length}
 use Rattle.std.specs.Borrow.{Bor}
 use Rattle.pl_syntax.specs.Tree.{Tree}
 use Rattle.pl_plan.specs.declared.step.Step.{Step}
-use Rattle.pl_plan.specs.Steps.{IsSpelled}
-use Rattle.pl_plan.specs.Shows.{IsNumbering}
-use Rattle.pl_plan.specs.Numbers.{spelling, IsMore}
+use Rattle.pl_plan.specs.inside.Steps.{IsSpelled}
+use Rattle.pl_plan.specs.inside.Shows.{IsNumbering}
+use Rattle.pl_plan.specs.inside.Numbers.{spelling, IsMore}
 
 -- The new steps spell the tree, behind those that there were. The names keep their numbers, and two numbers have two names.
 pub record AddsSteps (old_names new_names : List (Bor (List ℕ))) (old new : List Step) (tree : Tree) : Type 0 where

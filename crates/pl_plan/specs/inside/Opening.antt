@@ -3,7 +3,7 @@ use Rattle.std.specs.Prelude.{◌≡◌, ℕ, ◌+◌, ◌*◌, false, List, [],
 use Rattle.armus_base.specs.Limits.{max_tasks, max_phasers}
 use Rattle.pl_plan.specs.declared.step.Step.{Step}
 use Rattle.pl_plan.specs.declared.step.Thing.TheVariants as a_thing
-use Rattle.pl_plan.specs.Checker.{Checker}
+use Rattle.pl_plan.specs.inside.Checker.{Checker}
 
 -- what is kept before the first meeting: task 0 alone, forked with all steps; no name stands for anything, nobody is a member
 pub record IsOpening (steps : List Step) (names : ℕ) (k : Checker) : Type 0 where
