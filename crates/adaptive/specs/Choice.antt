@@ -18,7 +18,7 @@ IsEdgeCount ss Wfg n = IsCount (λ (p : TaskId × TaskId). WaitsFor ss p.0 p.1) 
 IsEdgeCount ss Sg n = IsCount (λ (p : Event × Event). StateEdge ss p.0 p.1) n
 IsEdgeCount ss Grg n = IsCount (λ (p : Resource × Resource). ResourceEdge ss p.0 p.1) n
 
--- the state graph exactly where it stays small, and the waits-for graph otherwise
+-- the state graph exactly where it stays small, and the wait-for graph otherwise
 abbrev pub IsChoice : List Status → Used → Type 0
 IsChoice ss Wfg = StaysSmall ss → ⊥
 IsChoice ss Sg = StaysSmall ss

@@ -1,16 +1,22 @@
 -- Tasks picked from an ascending list.
-use Rattle.std.specs.Prelude.{◌≡◌, ◌↔◌, ◌<◌, ◌≤◌, ℕ, Bool, true, false, List, length, Contains, AllPairs, slice_index_or}
+use Rattle.std.specs.Prelude.{◌≡◌, ◌↔◌, ◌<◌, ◌≤◌, ℕ, Bool, true, false, List, length, Contains, AllPairs, Option, None, slice_get, slice_index_or, if◌then◌else◌}
 use Rattle.armus_base.specs.declared.event.Event.{Event}
 use Rattle.armus_base.specs.declared.ids.TaskId.{TaskId}
 use Rattle.armus_base.specs.declared.status.Status.{Status}
+use Rattle.armus_base.specs.Finals.{given_below}
 use Rattle.armus_base.specs.Statuses.{Impedes}
 
 -- the tasks ascend without repeats
 abbrev pub Ascend : List TaskId → Type 0
 Ascend ts = AllPairs (λ t u. t.0 < u.0) ts
 
--- these are the tasks whose answer is true, in their order
+-- the task at index k, if its answer is true
+abbrev pub picked_at : List TaskId → List Bool → ℕ → Option TaskId
+picked_at tasks answers k = if slice_index_or answers k false then slice_get tasks k else None
+
+-- these are the tasks whose answer is true, in their order: which stand in the list, and that they ascend where the tasks do, follows
 pub record IsPick (tasks : List TaskId) (answers : List Bool) (picked : List TaskId) : Type 0 where
+  pub list : picked ≡ given_below (picked_at tasks answers) (length tasks)
   pub ascends : Ascend tasks → Ascend picked
   pub exact : (t : TaskId) → Contains picked t ↔ ((k : ℕ) × (k < length tasks) × (slice_index_or answers k false ≡ true) × (slice_index_or tasks k t ≡ t))
 

@@ -3,7 +3,7 @@ ghost use Rattle.std.specs.Prelude.{◌≡◌, ◌^◌, ◌<◌, ◌≤◌, ℕ,
 ghost use Rattle.armus_base.specs.Relations.{IsWalkCycle};
 ghost use Rattle.digraph.specs.Graph.{Ascends, IsGraph, TellsCycles, graph_of};
 ghost use Rattle.digraph.specs.Search.{row_of};
-ghost use Rattle.digraph.specs.Cycle.{IsLeast, IsStep};
+ghost use Rattle.digraph.specs.Cycle.{IsLeast, IsLeastSuccessor};
 
 use std::alloc::{AllocError, Global};
 
@@ -28,7 +28,7 @@ fn successor(rows: &[Vec<u32>], answers: &[bool], node: u32) -> u32
     requires tells { TellsCycles (graph_of rows.now) answers.now }
     requires node { node < length rows.now }
     requires reaches { slice_index_or answers.now node false ≡ true }
-    ensures step { IsStep (graph_of rows.now) node result }
+    ensures step { IsLeastSuccessor (graph_of rows.now) node result }
     ensures reaches { slice_index_or answers.now result false ≡ true }
     ensures inside { result < length rows.now }
 {
@@ -49,7 +49,7 @@ pub fn walk_cycle(
     requires tells { TellsCycles (graph_of rows.now) answers.now }
     requires start { start < length rows.now }
     requires reaches { slice_index_or answers.now start false ≡ true }
-    ensures { IfOk result (λ cycle. IsWalkCycle (IsStep (graph_of rows.now)) start cycle.items) }
+    ensures { IfOk result (λ cycle. IsWalkCycle (IsLeastSuccessor (graph_of rows.now)) start cycle.items) }
 {
     let mut seen = vec![in alloc; false; rows.len()]?;
     let mut path: Vec<u32> = Vec::new(alloc);

@@ -3,7 +3,7 @@ ghost use Rattle.std.specs.Prelude.{◌≡◌, ◌<◌, ℕ, [], length, replica
 ghost use Rattle.armus_base.specs.Counts.{IsCount};
 ghost use Rattle.armus_base.specs.Relations.{ReachesCycle, IsWalkCycle};
 ghost use Rattle.digraph.specs.Graph.{TellsCycles, HasEdge, AddsEdge, AddsEdges, AddsSomeEdges};
-ghost use Rattle.digraph.specs.Cycle.{IsStep};
+ghost use Rattle.digraph.specs.Cycle.{IsLeastSuccessor};
 
 use crate::cycle::walk_cycle;
 use crate::rows::add_edge;
@@ -91,7 +91,7 @@ impl Digraph {
     /// None exactly where `v` reaches no cycle.
     pub fn cycle_from(&self, alloc: Global, v: u32) -> Result<Option<List<u32>>, NoMemory>
         requires { v < length self.now }
-        ensures { IfOk result (λ found. MatchOption found (¬ ReachesCycle (HasEdge self.now) v) (λ cycle. IsWalkCycle (IsStep self.now) v cycle)) }
+        ensures { IfOk result (λ found. MatchOption found (¬ ReachesCycle (HasEdge self.now) v) (λ cycle. IsWalkCycle (IsLeastSuccessor self.now) v cycle)) }
     {
         let answers = reaching(alloc, &self.rows)?;
         if !answers[v as usize] {

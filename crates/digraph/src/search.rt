@@ -139,7 +139,7 @@ fn answers(alloc: Global, marks: &[Mark]) -> Result<Vec<bool>, AllocError>
         .collect(alloc)
 }
 
-/// Which nodes reach a cycle: each node is pushed once, and each edge looked at once.
+/// Which nodes reach a cycle: each node is pushed once, and each edge is looked at at most twice.
 pub fn reaching(alloc: Global, rows: &[Vec<u32>]) -> Result<Vec<bool>, AllocError>
     requires graph { IsGraph (graph_of rows.now) }
     requires few { length rows.now < 2 ^ 32 }

@@ -1,7 +1,7 @@
 use Rattle.std.proofs.Common.{◌≡◌, length, arith, ◌∙◌, get_or, ap}
 use Rattle.std.proofs.lemmas.List.{get_or_default}
 use Rattle.armus_base.specs.declared.ids.TaskId.{TaskId}
-use Rattle.dep_state.proofs.PickedTasks.{skip, pick, pick_ascends}
+use Rattle.dep_state.proofs.PickedTasks.{skip, skip_list, pick, pick_ascends, pick_list}
 use Rattle.dep_state.proofs.picks.picked.Goals as goal
 use Rattle.dep_state.proofs.picks.picked.Goals.{then-answers-i+in_ok-push, else-answers-i}
 
@@ -14,15 +14,16 @@ loop-i-preserved c =
           let at = get_or_default c.args.tasks.now c.loop-i.i x (record { 0 = 0 }) (omega arith) in
           let e = ap (λ v. v.items) w.picked-is ∙ w.in_ok-push.ensures.items in
           record {
+            list = e ∙ pick_list c.args.tasks.now c.args.answers.now c.loop-i.picked.items c.loop-i.i _ at (omega arith) w.if-answers-i.true inv.list;
             ascends = rw e (pick_ascends _ _ _ _ inv.exact x at (omega arith) inv.ascends);
             exact = rw e (pick _ _ _ _ inv.exact x at (omega arith) w.if-answers-i.true);
           }
       | else-answers-i w ↦
           let e = ap (λ v. v.items) w.picked-is in
-          record { ascends = rw e inv.ascends; exact = rw e (skip _ _ _ _ inv.exact w.if-answers-i.false) }
+          record { list = e ∙ skip_list c.args.tasks.now c.args.answers.now c.loop-i.picked.items c.loop-i.i w.if-answers-i.false inv.list; ascends = rw e inv.ascends; exact = rw e (skip _ _ _ _ inv.exact w.if-answers-i.false) }
     ]
 
 pub returns : goal.returns
 returns c =
     let n : c.loop-i.i ≡ length c.args.tasks.now = omega arith in
-    record { ascends = c.loop-i.invariant.ascends; exact = rw n at c.loop-i.invariant.exact }
+    record { list = rw n at c.loop-i.invariant.list; ascends = c.loop-i.invariant.ascends; exact = rw n at c.loop-i.invariant.exact }

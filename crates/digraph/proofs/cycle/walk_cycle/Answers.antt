@@ -4,7 +4,7 @@ use Rattle.std.proofs.lemmas.Result.{IfOk-weaker}
 use Rattle.armus_base.specs.Relations.{IsWalkCycle}
 use Rattle.armus_base.proofs.WalkCycles.{walk_more, walk_done, set_flags}
 use Rattle.digraph.specs.Graph.{graph_of}
-use Rattle.digraph.specs.Cycle.{IsStep}
+use Rattle.digraph.specs.Cycle.{IsLeastSuccessor}
 use Rattle.digraph.proofs.SearchSteps.{read_at}
 use Rattle.digraph.proofs.cycle.walk_cycle.Goals as goal
 
@@ -29,6 +29,6 @@ returns c =
     let there = rw c.deref.ensures.value at c.place-at.ensures.there in
     let all : take (length path - at) (drop at path) ≡ drop at path = take_all (length path - at) (drop at path) (omega (arith, length-drop at path)) in
     IfOk-weaker c.from_slice.result (λ v. v.items ≡ take (length c.deref-2.result.now - at) (drop at c.deref-2.result.now))
-    (λ v. IsWalkCycle (IsStep (graph_of c.args.rows.now)) c.args.start v.items)
+    (λ v. IsWalkCycle (IsLeastSuccessor (graph_of c.args.rows.now)) c.args.start v.items)
     (λ v e. rw (e, c.deref-2.ensures.value, all) (walk_done _ _ _ _ c.walk.invariant.walk at inside (λ d. get_or_default path at d 0 inside ∙ there)))
     c.from_slice.ensures.items
