@@ -25,7 +25,8 @@ use Rattle.phase_scan.specs.Looks.{GoesOn}
 use Rattle.phase_scan.proofs.Supposes.{own_phase_stays}
 use Rattle.verdict.specs.declared.found.Cycle.{Cycle}
 use Rattle.avoider.specs.Decisions.{ExplainsDeath}
-use Rattle.avoider.specs.OnBoard.{DropsBelow, HasPublished, HasRefused, InEachByLock, IsJudged, Judges}
+use Rattle.avoider.specs.OnBoard.{DropsBelow, HasPublished, HasRefused, InEachByLock, Judges}
+use Rattle.avoider.specs.inside.Judged.{IsJudged}
 use Rattle.avoider.proofs.CycleDead.{cycle_dead}
 use Rattle.avoider.proofs.Dropping.{kept_all, own_place_next, place_at}
 use Rattle.avoider.proofs.InHand.{decides, stands}

@@ -42,7 +42,7 @@ use Rattle.phase_scan.proofs.Loads.{phase_load}
 use Rattle.phase_scan.proofs.Standing.{phases_begun_at, published_begun}
 use Rattle.phase_scan.proofs.Supposes.{own_phase_stays}
 use Rattle.phase_scan.proofs.Telling.{found_there, prefix_both}
-use Rattle.avoider.specs.OffCycle.{ImpedesSome}
+use Rattle.avoider.specs.inside.OffCycle.{ImpedesSome}
 
 is_lt : (a b : ℕ) → a < b → nat_lt a b ≡ true
 is_lt a b h = grind arith

@@ -20,7 +20,8 @@ use Rattle.phase_scan.specs.Supposed.{IsSupposed}
 use Rattle.phase_scan.specs.Tables.{state_supposed}
 use Rattle.verdict.specs.declared.found.Cycle.{Cycle}
 use Rattle.avoider.specs.Decisions.{ExplainsDeath}
-use Rattle.avoider.specs.OnBoard.{InEachByLock, IsJudged, Judges}
+use Rattle.avoider.specs.OnBoard.{InEachByLock, Judges}
+use Rattle.avoider.specs.inside.Judged.{IsJudged}
 
 pub supposed_ordered : (plan : Plan) (list : List Status) (event : Event) (supposed : List Status) (before now : Known) → IsCheckedPlan plan → IsSupposed plan list event supposed before now → IsInOrder supposed
 supposed_ordered plan list event supposed before now checked sup =

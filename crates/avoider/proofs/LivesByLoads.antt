@@ -15,7 +15,7 @@ use Rattle.armus_base.proofs.BoardRuns.{nobody_dead_at}
 use Rattle.board.specs.Views.{avoids, next_action, seen, task_of}
 use Rattle.board.specs.Seats.{IsSeat, Known}
 use Rattle.phase_scan.specs.Looks.{GoesOn}
-use Rattle.avoider.specs.OffCycle.{ImpedesSome, IsImpeded}
+use Rattle.avoider.specs.inside.OffCycle.{ImpedesSome, IsImpeded}
 use Rattle.avoider.specs.OnBoard.{InEachByLock, Judges}
 use Rattle.avoider.proofs.InHand.{decides, own_only, would_impede_nobody}
 use Rattle.avoider.proofs.OnNoCycle.{lives_impeding_nobody}

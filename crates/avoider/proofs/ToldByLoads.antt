@@ -15,8 +15,9 @@ use Rattle.phase_scan.specs.Supposed.{IsSupposed}
 use Rattle.phase_scan.proofs.Loads.{goes_both}
 use Rattle.verdict.specs.declared.found.Cycle.{Cycle}
 use Rattle.avoider.specs.Decisions.{ExplainsDeath, IsOutcome}
-use Rattle.avoider.specs.OffCycle.{ImpedesSome, IsImpeded}
-use Rattle.avoider.specs.OnBoard.{InEachByLock, IsJudged, Judges}
+use Rattle.avoider.specs.inside.OffCycle.{ImpedesSome, IsImpeded}
+use Rattle.avoider.specs.OnBoard.{InEachByLock, Judges}
+use Rattle.avoider.specs.inside.Judged.{IsJudged}
 use Rattle.avoider.proofs.LivesByLoads.{lives_by_statuses, lives_harmless, lives_unimpeded}
 use Rattle.avoider.proofs.Judging.{judged, judges_so}
 

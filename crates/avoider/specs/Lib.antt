@@ -1,3 +1,3 @@
 pub mod Decisions
 pub mod OnBoard
-pub mod OffCycle
+pub mod inside

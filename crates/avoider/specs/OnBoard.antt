@@ -1,5 +1,5 @@
 -- Decisions on a board: what they rest on, and what they make of a seat.
-use Rattle.std.specs.Prelude.{◌≡◌, ◌≢◌, ℕ, List, Option, Some, length, is_some, Contains, MatchOption}
+use Rattle.std.specs.Prelude.{◌≡◌, ◌≢◌, ℕ, List, Some, length, is_some, Contains}
 use Rattle.std.proofs.Common.{zero, suc}
 use Rattle.armus_base.specs.declared.event.Event.{Event}
 use Rattle.armus_base.specs.declared.ids.TaskId.{TaskId}
@@ -40,16 +40,6 @@ InEachByLock seat Holds = InEachWithLock seat.view.plan (task_of seat.view) (see
 -- one of these states there is
 abbrev pub IsPossibleByLock : Known → Type 0
 IsPossibleByLock seat = IsWithLock seat.view.plan (task_of seat.view) (seen seat.view)
-
--- What the loads of a decision on the own await of p tell: the cycle that explains the death of the own task, where it is dead by the statuses, and else
--- that it would be dead in no state that the seat may be in with the lock.
-pub record IsJudged (list : List Status) (p : ℕ) (before now : Known) (found : Option Cycle) : Type 0 where
-  pub event : Event
-  pub of_phaser : event.p.0 ≡ p
-  pub supposed : List Status
-  pub judges : Judges list event supposed before now
-  pub told :
-      MatchOption found (InEachByLock now (λ s. WouldBeDead s (task_of now.view) event → ⊥)) (ExplainsDeath supposed (task_of before.view))
 
 -- a refused task drops those of the first phasers of which it is a member, in order of number
 abbrev pub DropsBelow : Phases → ℕ → Known → Known → Type 0

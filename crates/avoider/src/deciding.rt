@@ -6,7 +6,8 @@ ghost use Rattle.board.specs.Seats.{IsOf};
 ghost use Rattle.board.specs.Steps.{own_phase};
 ghost use Rattle.board.specs.Views.{next_action, own_place, task_of};
 ghost use Rattle.phase_scan.specs.Looks.{GoesOn};
-ghost use Rattle.avoider.specs.OnBoard.{DropsBelow, IsDecided, IsJudged, IsUndecided};
+ghost use Rattle.avoider.specs.OnBoard.{DropsBelow, IsDecided, IsUndecided};
+ghost use Rattle.avoider.specs.inside.Judged.{IsJudged};
 
 use crate::Decision;
 use crate::off_cycle::is_off_cycle;

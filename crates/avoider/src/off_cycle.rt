@@ -1,7 +1,7 @@
 // What excludes, without an analysis, that a task lies on a cycle of statuses.
 ghost use Rattle.std.specs.Prelude.{◌↔◌, ◌⊎◌, Any, IsTrue};
 ghost use Rattle.armus_base.specs.Statuses.{Impedes};
-ghost use Rattle.avoider.specs.OffCycle.{ImpedesSome, IsImpeded};
+ghost use Rattle.avoider.specs.inside.OffCycle.{ImpedesSome, IsImpeded};
 
 use armus_base::{Event, Status, TaskId};
 use verdict::impedes;

@@ -14,7 +14,7 @@ use Rattle.board.specs.Views.{seen}
 use Rattle.board.specs.Steps.{IsSameSeat}
 use Rattle.board.specs.Seats.{AnswersAwait, AnswersPhase, Frame, IsOf, Known}
 use Rattle.phase_scan.specs.Collects.{FindsEvent, IfAsked, LoadsAwaits, LoadsRow, LoadsRows, waiting_on}
-use Rattle.phase_scan.specs.Nexts.{AreNexts, IsNext}
+use Rattle.phase_scan.specs.inside.Nexts.{AreNexts, IsNext}
 use Rattle.phase_scan.proofs.Loads.{published_phaser}
 use Rattle.phase_scan.proofs.Standing.{waits_unrefused, word_published}
 

@@ -31,7 +31,7 @@ impl Model for Cells {
 
     ghost Value = { Collection };
 
-    ghost use Rattle.phase_scan.specs.Cells.{collection_of, AreCells};
+    ghost use Rattle.phase_scan.specs.inside.Cells.{collection_of, AreCells};
 
     ghost view = { collection_of };
 

@@ -7,7 +7,7 @@ ghost use Rattle.armus_base.specs.States.{updated, with_phase};
 ghost use Rattle.board.specs.Seats.{IsOf};
 ghost use Rattle.board.specs.Views.{found_of};
 ghost use Rattle.phase_scan.specs.Collects.{LoadsAwaits, LoadsRow, LoadsRows, waiting_on};
-ghost use Rattle.phase_scan.specs.Nexts.{AreNexts};
+ghost use Rattle.phase_scan.specs.inside.Nexts.{AreNexts};
 
 use crate::nexts::{fill_nexts, nexts_of};
 use crate::phase_table::PhaseTable;

@@ -4,7 +4,7 @@ ghost use Rattle.armus_base.specs.Finals.{given_below, listed_phase};
 ghost use Rattle.armus_base.specs.States.{updated};
 ghost use Rattle.board.specs.Seats.{IsOf};
 ghost use Rattle.board.specs.Steps.{own_phase};
-ghost use Rattle.phase_scan.specs.Nexts.{AreNexts};
+ghost use Rattle.phase_scan.specs.inside.Nexts.{AreNexts};
 ghost use Rattle.phase_scan.specs.Supposed.{LoadsColumn};
 ghost use Rattle.phase_scan.specs.Tables.{awaited_found, event_at, phase_in, state_found, state_supposed, status_found};
 

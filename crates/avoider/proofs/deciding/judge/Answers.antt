@@ -5,7 +5,7 @@ use Rattle.armus_base.specs.CheckedPlans.{IsCheckedPlan}
 use Rattle.armus_base.specs.Statuses.{IsInOrder}
 use Rattle.board.specs.Seats.{Known}
 use Rattle.avoider.specs.Decisions.{IsOutcome}
-use Rattle.avoider.specs.OffCycle.{ImpedesSome, IsImpeded}
+use Rattle.avoider.specs.inside.OffCycle.{ImpedesSome, IsImpeded}
 use Rattle.avoider.proofs.Judging.{supposed_ordered}
 use Rattle.avoider.proofs.ToldByLoads.{judged_by, judged_off}
 use Rattle.avoider.proofs.deciding.judge.Goals as goal

@@ -1,6 +1,6 @@
 use Rattle.std.proofs.Common.{◌≡◌, ℕ, ◌+◌, ◌≤◌, length, get_or}
 use Rattle.phase_scan.specs.Tables.{is_marked}
-use Rattle.phase_scan.specs.Nexts.{IsNext, asked_with}
+use Rattle.phase_scan.specs.inside.Nexts.{IsNext, asked_with}
 use Rattle.phase_scan.proofs.nexts.fill_nexts.Given as goal
 
 abbrev pub invariant-loop-k : goal.invariant-loop-k

@@ -1,5 +1,5 @@
 use Rattle.std.proofs.Common.{◌≡◌, ◌+◌, ◌<◌, arith, length, get_or, refl, subst, vec_len, List, ℕ}
-use Rattle.phase_scan.specs.Nexts.{IsNext}
+use Rattle.phase_scan.specs.inside.Nexts.{IsNext}
 use Rattle.phase_scan.specs.Tables.{awaited_found, phases_in}
 use Rattle.phase_scan.proofs.Keeping.{next_read, others_stay, row_more, row_to_next, still_of}
 use Rattle.phase_scan.proofs.findings.Findings.load_row.Goals as goal

@@ -4,7 +4,7 @@ use Rattle.std.proofs.lemmas.Option.{slice_get_read}
 use Rattle.board.specs.Seats.{IsOf}
 use Rattle.phase_scan.specs.declared.findings.Findings.{Findings}
 use Rattle.phase_scan.specs.Collects.{LoadsRow, LoadsRows}
-use Rattle.phase_scan.specs.Nexts.{AreNexts}
+use Rattle.phase_scan.specs.inside.Nexts.{AreNexts}
 use Rattle.phase_scan.specs.Tables.{awaited_found, event_at, is_marked, phases_in, state_found}
 use Rattle.phase_scan.proofs.Keeping.{rows_more, rows_skip}
 use Rattle.phase_scan.proofs.findings.Findings.load_rows.Goals.{then-is_some, else-is_some}

@@ -1,0 +1,2 @@
+pub mod OffCycle
+pub mod Judged
