@@ -36,10 +36,10 @@ pub children_on : {f : Frame} {cs : List ℕ} {ks : List Known} (ds : List ℕ) 
 children_on ds js no_child q = q
 children_on ds js (one_child c p) q = one_child c (children_on ds js p q)
 
-same_itself : (k : Known) → IsSameSeat k.view k.view
+pub same_itself : (k : Known) → IsSameSeat k.view k.view
 same_itself k = record { plan = refl; mode = refl; own = refl; holds = refl; spent = refl; count = refl }
 
-same_on : (k m n : Known) → IsSameSeat k.view m.view → IsSameSeat m.view n.view → IsSameSeat k.view n.view
+pub same_on : (k m n : Known) → IsSameSeat k.view m.view → IsSameSeat m.view n.view → IsSameSeat k.view n.view
 same_on k m n p q = record { plan = q.plan ∙ p.plan; mode = q.mode ∙ p.mode; own = q.own ∙ p.own; holds = q.holds ∙ p.holds; spent = q.spent ∙ p.spent; count = q.count ∙ p.count }
 
 pub same_task : (k m : Known) → IsSameSeat k.view m.view → task_of m.view ≡ task_of k.view

@@ -125,6 +125,10 @@ pub record AreTasksOf (board : Frame) (tasks : Tasks) : Type 0 where
   pub all : IsCrewOf board (all_of tasks)
   pub ended : All (λ task. IsDone task.seat) tasks.ended
 
+-- each of these tasks has come to the end of its turn
+pub record HaveEnded (tasks : List Working) : Type 0 where
+  pub each : All (λ task. EndsTurn task.seat) tasks
+
 -- how much is left to these tasks of a plan
 abbrev pub left_to : Plan → Tasks → ℕ
 left_to plan tasks = all_steps plan - sum_by steps_of (all_of tasks)

@@ -6,9 +6,10 @@ ghost use Rattle.armus_base.specs.Runs.{first_place};
 ghost use Rattle.armus_base.specs.Seats.{seen_by_child};
 ghost use Rattle.board.specs.declared.mode.Mode.TheVariants.{Detect};
 ghost use Rattle.board.specs.Seats.{IsNewSeat, IsOf, IsSeat, Known, nothing_seen};
+ghost use Rattle.board.specs.Steps.{IsSameSeat};
 ghost use Rattle.board.specs.Views.{own_place, seen};
-ghost use Rattle.board_rounds.specs.Turns.{EndsTurn, IsDone, IsReady, Working};
-ghost use Rattle.board_rounds.specs.Crews.{ArePlacesOf, AreTasksOf, IsAtStart, IsChildIn, KnowsTasks, MakesRound, all_of, emptied, fresh, fresh_of, left_to};
+ghost use Rattle.board_rounds.specs.Turns.{IsDone, IsReady, Working};
+ghost use Rattle.board_rounds.specs.Crews.{ArePlacesOf, AreTasksOf, HaveEnded, IsAtStart, IsChildIn, KnowsTasks, MakesRound, all_of, emptied, fresh, fresh_of, left_to};
 
 use crate::ending::{note_places, take_in_all};
 use crate::{Task, round};
@@ -76,7 +77,7 @@ impl Crew {
         requires tasks { AreTasksOf board.now self.old }
         ensures tasks { OnOk result (AreTasksOf board.now self.new) }
         ensures further { IfOk result (λ made. 0 < made → left_to plan.now self.new < left_to plan.now self.old) }
-        ensures quiet { IfOk result (λ made. made ≡ 0 → All (λ task. EndsTurn task.seat) (all_of self.new)) }
+        ensures quiet { IfOk result (λ made. made ≡ 0 → HaveEnded (all_of self.new)) }
     {
         let made = go_round(
             rt,
@@ -116,6 +117,7 @@ impl Crew {
         requires unknown { (u : ℕ) → (seen view.old.view).exact u ≡ false }
         ensures made { IsOf view.new board.now }
         ensures known { KnowsTasks board.now (all_of self) view.new }
+        ensures same { IsSameSeat view.old.view view.new.view }
         ensures kept { IsSeat view.old → IsSeat view.new }
     {
         take_in_all(board, view, self.live);

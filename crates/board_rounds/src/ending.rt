@@ -1,6 +1,7 @@
 // The end of a run on a board: where its tasks stand, and their seats.
 ghost use Rattle.std.specs.Prelude.{◌≡◌, ◌<◌, ℕ, [], All, length, map};
 ghost use Rattle.board.specs.Seats.{IsOf};
+ghost use Rattle.board.specs.Steps.{IsSameSeat};
 ghost use Rattle.board_rounds.specs.Turns.{Working};
 ghost use Rattle.board_rounds.specs.Crews.{NotesPlaces, TakesAll, number};
 
@@ -24,6 +25,7 @@ pub(crate) fn take_in_all(board: &Board, view: &mut ViewSeat, tasks: Vec<Task>)
     requires seats { All (λ task. IsOf task.seat board.now) tasks.items }
     requires no_child { All (λ task. task.children ≡ []) tasks.items }
     ensures made { IsOf view.new board.now }
+    ensures same { IsSameSeat view.old.view view.new.view }
     ensures taken { TakesAll (map (λ (task : Working). task.seat) tasks.items) view.old view.new }
 {
     for task in tasks {

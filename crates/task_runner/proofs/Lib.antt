@@ -13,3 +13,10 @@ pub mod DeadOrNot
 pub mod NextWorlds
 pub mod SerialExists
 pub mod SerialEndTells
+pub mod DeadAtEnd
+pub mod Possible
+pub mod TellingMore
+pub mod Resting
+pub mod Crossing
+pub mod BoardEnds
+pub mod TellingAll

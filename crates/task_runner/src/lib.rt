@@ -2,20 +2,29 @@
 #![tactic(auto)]
 
 mod avoided;
+mod detect;
+mod detect_rounds;
+mod ending;
 mod finishing;
 mod journal;
 mod laws;
 mod live_task;
 mod options;
+mod pace;
 mod plain;
+mod ran;
+mod rest;
 mod round;
+mod teller;
 mod turns;
 
 pub use avoided::run_avoid;
+pub use detect::run_detect;
 pub use journal::run_journal;
 pub use laws::serial_run_ends;
 pub use options::RunOptions;
 pub use plain::run_plain;
+pub use ran::{Ran, RunEnd};
 
 #[cfg(test)]
 mod avoided_tests;

@@ -1,5 +1,6 @@
 use Rattle.std.proofs.Common.{map}
 use Rattle.board.specs.Seats.{IsOf}
+use Rattle.board.specs.Steps.{IsSameSeat}
 use Rattle.board_rounds.specs.Turns.{Working}
 use Rattle.board_rounds.specs.Crews.{TakesAll}
 use Rattle.board_rounds.proofs.ending.take_in_all.Given as goal
@@ -7,5 +8,6 @@ use Rattle.board_rounds.proofs.ending.take_in_all.Given as goal
 abbrev pub invariant-loop-task : goal.invariant-loop-task
 invariant-loop-task l = record {
   made : IsOf l.view l.board;
+  same : IsSameSeat l.initial.view.view l.view.view;
   taken : TakesAll (map (λ (task : Working). task.seat) l.yielded) l.initial.view l.view;
 }

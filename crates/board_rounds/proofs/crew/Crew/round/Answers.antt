@@ -11,7 +11,7 @@ returns g c =
     let r =
     whole_round c.args.board.now c.args.plan.now before now c.go_round.new.tasks.items c.in_ok-made.made c.requires.plan tasks c.in_ok-made.ensures.round c.in_ok-retire.ensures.same
     c.in_ok-retire.ensures.ended in
-    record { tasks = r.0; further = λ l. subst (λ (w : Tasks). left_to c.args.plan.now now < left_to c.args.plan.now w) c.self.view_is (r.1 l); quiet = r.2 }
+    record { tasks = r.0; further = λ l. subst (λ (w : Tasks). left_to c.args.plan.now now < left_to c.args.plan.now w) c.self.view_is (r.1 l); quiet = λ z. record { each = r.2 z } }
 
 pub go_round-requires-clause-ready : goal.go_round-requires-clause-ready
 go_round-requires-clause-ready g c κs within = live_ready c.args.board.now (record { live = c.self.inside.live.items; ended = c.self.inside.ended.items }) (subst (AreTasksOf c.args.board.now) (sym c.self.view_is) c.requires.tasks)

@@ -1,6 +1,7 @@
 use Rattle.std.proofs.Common.{sym, subst, map}
 use Rattle.board_rounds.specs.Turns.{Working}
 use Rattle.board_rounds.specs.Crews.{AreTasksOf, KnowsTasks, Tasks, all_of}
+use Rattle.board_rounds.proofs.Goings.{same_on}
 use Rattle.board_rounds.proofs.Noting.{knows, tasks_taken}
 use Rattle.board_rounds.proofs.Rejoining.{both_none, both_of}
 use Rattle.board_rounds.proofs.Settling.{kept_all}
@@ -30,3 +31,6 @@ pub returns-clause-kept : goal.returns-clause-kept
 returns-clause-kept c = λ kept.
     kept_all (map (λ (w : Working). w.seat) c.self.inside.ended.items) c.take_in_all.new.view c.take_in_all-2.new.view c.take_in_all-2.ensures.taken
     (kept_all (map (λ (w : Working). w.seat) c.self.inside.live.items) c.args.view.now c.take_in_all.new.view c.take_in_all.ensures.taken kept)
+
+pub returns-clause-same : goal.returns-clause-same
+returns-clause-same c = same_on c.args.view.now c.take_in_all.new.view c.take_in_all-2.new.view c.take_in_all.ensures.same c.take_in_all-2.ensures.same

@@ -1,0 +1,15 @@
+use Rattle.std.proofs.Common.{◌≡◌, length}
+use Rattle.task_runner.specs.Turns.{NobodyRefused, remaining}
+use Rattle.task_runner.proofs.ending.end_from.Given as goal
+
+abbrev pub invariant-loop : goal.invariant-loop
+invariant-loop g l =
+    record {
+      plan : l.world.plan ≡ l.plan;
+      plain : NobodyRefused l.world;
+      forked : length l.forked.items ≡ length l.plan.parents;
+      behind : length l.behind.items ≡ length l.plan.parents;
+    }
+
+abbrev pub decreases-loop : goal.decreases-loop
+decreases-loop g l = remaining l.world

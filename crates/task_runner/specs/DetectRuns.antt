@@ -1,0 +1,71 @@
+-- Runs on a board that detects deadlock: what one answers, and what it writes while it goes on.
+use Rattle.std.specs.Prelude.{◌≡◌, ℕ, ◌⊎◌, true, false, List, ◌++◌, Option, None, IsSome, Result, Ok, Err, length}
+use Rattle.std.specs.Io.KnownBytes.{Appends}
+use Rattle.armus_base.specs.declared.ending.Final.{Final}
+use Rattle.armus_base.specs.declared.status.Dead.{Dead}
+use Rattle.armus_base.specs.declared.status.Status.{Status}
+use Rattle.armus_base.specs.Causes.{counted}
+use Rattle.armus_base.specs.ReadAll.{TookFront}
+use Rattle.armus_base.specs.Plans.{Plan, action_at}
+use Rattle.armus_base.specs.Runs.{Place}
+use Rattle.armus_base.specs.Places.{done_by, forked_at, published_after, state_at}
+use Rattle.armus_base.specs.Boards.{IsLawful}
+use Rattle.board.specs.Words.{IsShown}
+use Rattle.pl_core.specs.Worlds.{places_at}
+use Rattle.report.specs.Live.{live_text}
+use Rattle.report.specs.NamedDead.{AreSomeDead, AreTheDead}
+use Rattle.task_runner.specs.PlainRuns.{IsPlainEnd}
+use Rattle.task_runner.specs.declared.ran.Ran.{Ran}
+use Rattle.task_runner.specs.declared.ran.RunEnd.{RunEnd}
+use Rattle.task_runner.specs.declared.ran.RunEnd.TheVariants.{Write, NoMemory}
+
+-- at these places each forked task is done or published
+abbrev pub AreSettledPlaces : Plan → (ℕ → Place) → Type 0
+AreSettledPlaces plan a =
+    (t : ℕ) → forked_at plan (done_by a) t ≡ true → (action_at plan t (a t).done ≡ None) ⊎ IsSome (published_after plan t (a t).done)
+
+-- The value is that of the one final state. The places, one for each task, are those of a lawful state of the board in which each forked task is done or
+-- published, and the words are those of that state.
+pub record IsDetectRun (plan : Plan) (ran : Ran) : Type 0 where
+  pub end : IsPlainEnd plan ran.end
+  pub one_each : length ran.places ≡ length plan.parents
+  pub lawful : IsLawful false plan (places_at plan ran.places) None
+  pub settled : AreSettledPlaces plan (places_at plan ran.places)
+  pub of_plan : ran.words.plan ≡ plan
+  pub words : IsShown plan (state_at plan (places_at plan ran.places)) None ran.words.words
+
+-- what a sink tells: the bytes that it has taken, and its count of faults
+pub record Told : Type 0 where
+  pub taken : Option (List ℕ)
+  pub faults : ℕ
+
+abbrev pub told : {K : Type 0} → (K → Option (List ℕ)) → (K → ℕ) → K → Told
+told taken faults k = record { taken = taken k; faults = faults k }
+
+-- these tasks are dead in the state in which every plain run of the plan ends, each with its event, none twice
+abbrev pub AreDeadAtTheEnd : Plan → List Dead → Type 0
+AreDeadAtTheEnd plan named = (end : Final) → IsPlainEnd plan end → AreSomeDead end.blocked named
+
+-- a line for each of these tasks was written, in order
+pub record HasWritten (named : List Dead) (before now : Told) : Type 0 where
+  pub lines : Appends before.taken now.taken (live_text named)
+  pub sound : now.faults ≡ before.faults
+
+-- the sink counted a fault, and took some first bytes of these lines
+pub record HasFailed (named : List Dead) (before now : Told) : Type 0 where
+  pub front : TookFront before.taken now.taken (live_text named)
+  pub failed : now.faults ≡ counted before.faults
+
+-- What a run writes while it goes on: a line for each task that is dead in its final state, each once. After a fault of the sink some first bytes of such
+-- lines were taken, and where memory was wanting the lines of some of these tasks.
+abbrev pub TellsRun : Plan → Told → Told → Result Ran RunEnd → Type 0
+TellsRun plan before now (Ok ran) = (named : List Dead) × AreTheDead ran.end.blocked named × HasWritten named before now
+TellsRun plan before now (Err Write) = (named : List Dead) × AreDeadAtTheEnd plan named × HasFailed named before now
+TellsRun plan before now (Err NoMemory) = (named : List Dead) × AreDeadAtTheEnd plan named × HasWritten named before now
+
+-- The lines of all dead tasks of the statuses that were not told before were written; or the sink counted a fault in them; or memory was wanting, and
+-- nothing was written.
+abbrev pub TellsRest : List Status → List Dead → Told → Told → Result (Unit {0}) RunEnd → Type 0
+TellsRest blocked dead before now (Ok x) = (rest : List Dead) × AreTheDead blocked (dead ++ rest) × HasWritten rest before now
+TellsRest blocked dead before now (Err Write) = (rest : List Dead) × AreTheDead blocked (dead ++ rest) × HasFailed rest before now
+TellsRest blocked dead before now (Err NoMemory) = now ≡ before

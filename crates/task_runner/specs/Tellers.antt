@@ -1,0 +1,51 @@
+-- Who tells of the dead tasks of a run on a board, while it goes on.
+use Rattle.std.specs.Prelude.{◌≡◌, ◌↔◌, ℕ, ◌++◌, true, List, Contains, None, Result, Ok, Err, length, map}
+use Rattle.armus_base.specs.declared.ids.TaskId.{TaskId}
+use Rattle.armus_base.specs.declared.status.Dead.{Dead}
+use Rattle.armus_base.specs.Plans.{Plan}
+use Rattle.board.specs.Views.{seen}
+use Rattle.board.specs.Seats.{Frame, IsOf, IsSeat, Known}
+use Rattle.collector.specs.Passes.{Watch, is_named}
+use Rattle.task_runner.specs.DetectRuns.{AreDeadAtTheEnd, HasFailed, HasWritten, Told}
+use Rattle.report.specs.NamedDead.{AreTheDead}
+use Rattle.task_runner.specs.declared.ran.Ran.{Ran}
+use Rattle.task_runner.specs.declared.ran.RunEnd.{RunEnd}
+use Rattle.task_runner.specs.declared.ran.RunEnd.TheVariants.{Write, NoMemory}
+
+-- a collector, its viewer, and the tasks that it has named
+pub record Telling : Type 0 where
+  pub collector : Watch
+  pub view : Known
+  pub dead : List Dead
+
+-- it watches this board; the tasks of its list are those that its collector has named, each once, and dead at the end of every plain run
+pub record Watches (board : Frame) (teller : Telling) : Type 0 where
+  pub made : IsOf teller.view board
+  pub kept : IsSeat teller.view
+  pub viewer : teller.view.view.own ≡ None
+  pub tasks : teller.collector.tasks ≡ length board.plan.parents
+  pub phasers : teller.collector.phasers ≡ length board.plan.makers
+  pub named : (t : TaskId) → is_named teller.collector.names t.0 ≡ true ↔ Contains (map (λ d. d.t) teller.dead) t
+  pub dead : AreDeadAtTheEnd board.plan teller.dead
+
+-- Further tasks were told, and their lines written; or the sink counted a fault in them; or memory was wanting, after the lines of some of them. All are
+-- dead at the end, and none was told before.
+abbrev pub TellsMore : {A : Type 0} → Plan → List Dead → List Dead → Told → Told → Result A RunEnd → Type 0
+TellsMore plan before now b n (Ok x) = (fresh : List Dead) × now ≡ before ++ fresh × HasWritten fresh b n
+TellsMore plan before now b n (Err Write) = (fresh : List Dead) × AreDeadAtTheEnd plan (before ++ fresh) × HasFailed fresh b n
+TellsMore plan before now b n (Err NoMemory) = (fresh : List Dead) × AreDeadAtTheEnd plan (before ++ fresh) × HasWritten fresh b n
+
+-- no fault of the sink ended it
+abbrev pub IsNoWrite : {A : Type 0} → Result A RunEnd → Type 0
+IsNoWrite (Err Write) = ⊥
+IsNoWrite result = Unit {0}
+
+-- the viewer knows the same tasks exactly as before
+abbrev pub SeesOn : Known → Known → Type 0
+SeesOn before now = (u : ℕ) → (seen now.view).exact u ≡ (seen before.view).exact u
+
+-- what a run tells from here on, in which the dead ones of this list were told before
+abbrev pub TellsOn : Plan → List Dead → Told → Told → Result Ran RunEnd → Type 0
+TellsOn plan dead before now (Ok ran) = (rest : List Dead) × AreTheDead ran.end.blocked (dead ++ rest) × HasWritten rest before now
+TellsOn plan dead before now (Err Write) = (rest : List Dead) × AreDeadAtTheEnd plan (dead ++ rest) × HasFailed rest before now
+TellsOn plan dead before now (Err NoMemory) = (rest : List Dead) × AreDeadAtTheEnd plan (dead ++ rest) × HasWritten rest before now

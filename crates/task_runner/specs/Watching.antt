@@ -1,0 +1,7 @@
+-- How contracts see a teller.
+use Rattle.task_runner.specs.declared.teller.Teller.TheInside.{Inside}
+use Rattle.task_runner.specs.Tellers.{Telling}
+
+-- its collector, its viewer, and whom it told
+abbrev pub telling_of : Inside → Telling
+telling_of t = record { collector = t.collector; view = t.view; dead = t.dead.items }

@@ -1,0 +1,119 @@
+// A run on a board that detects deadlock.
+ghost use Rattle.std.specs.Prelude.{◌≡◌, ◌≤◌, ℕ, false, true, IfOk, OnOk};
+ghost use Rattle.board.specs.declared.mode.Mode.TheVariants.{Detect};
+ghost use Rattle.board.specs.Views.{seen};
+ghost use Rattle.phase_scan.specs.Looks.{GoesOn};
+ghost use Rattle.board_rounds.specs.Crews.{AreTasksOf, HaveEnded, all_of};
+ghost use Rattle.task_runner.specs.DetectRuns.{IsDetectRun, TellsRun, told};
+ghost use Rattle.task_runner.specs.Tellers.{IsNoWrite, TellsMore, TellsOn, Watches};
+
+use crate::detect_rounds::go_by_rounds;
+use crate::ending::end_from;
+use crate::rest::tell_rest;
+use crate::teller::Teller;
+use crate::{Ran, RunEnd, RunOptions};
+use armus_base::{Gate, NoMemory, Plan, Sink};
+use board::{Board, Mode};
+use board_rounds::Crew;
+use std::alloc::Global;
+use std::thread::Threads;
+
+/// Runs the plan on a board that detects deadlock. Its tasks take turns by rounds, with the given number of workers, until a round without an event; with
+/// `live` a detector makes one pass beside each round, and each task that it is the first to name has its line. Then one viewer takes all seats in, the
+/// detector makes one more pass, and the board is closed; from the places at which its tasks stood the run goes on in one thread until no task may go on,
+/// and with `live` whoever is dead then and was not named has a line. The gate is called before each op and after each pass. `Write` comes only where the
+/// sink counted a fault. No call waits.
+pub fn run_detect<R: Threads + Sync, G: Gate, K: Sink>(
+    rt: &R,
+    alloc: Global,
+    plan: &Plan,
+    options: &RunOptions,
+    gate: &G,
+    out: &mut K,
+) -> Result<Ran, RunEnd>
+    requires workers { 1 ≤ options.now.workers × options.now.workers ≤ 64 }
+    ensures ran { IfOk result (IsDetectRun plan.now) }
+    ensures told { options.now.live ≡ true → TellsRun plan.now (told K.taken K.faults out.old) (told K.taken K.faults out.new) result }
+    ensures silent { options.now.live ≡ false → (out.new ≡ out.old) × IsNoWrite result }
+{
+    let Ok((board, seat, view)) = Board::start(alloc, plan, Mode::Detect) else {
+        return Err(RunEnd::NoMemory);
+    };
+    let Ok(mut crew) = Crew::start(alloc, &board, seat) else {
+        return Err(RunEnd::NoMemory);
+    };
+    let Ok(mut teller) = Teller::start(alloc, &board, view) else {
+        return Err(RunEnd::NoMemory);
+    };
+    go_by_rounds(
+        rt,
+        alloc,
+        &board,
+        plan,
+        options,
+        gate,
+        &mut crew,
+        &mut teller,
+        out,
+    )?;
+    end_run(alloc, board, plan, options, gate, crew, teller, out)
+}
+
+// Ends the run of these tasks, which have all come to the end of their turns.
+fn end_run<G: Gate, K: Sink>(
+    alloc: Global,
+    board: Board,
+    plan: &Plan,
+    options: &RunOptions,
+    gate: &G,
+    crew: Crew,
+    mut teller: Teller,
+    out: &mut K,
+) -> Result<Ran, RunEnd>
+    requires plan { board.plan ≡ plan.now }
+    requires detects { board.mode ≡ Detect }
+    requires tasks { AreTasksOf board crew }
+    requires ends { HaveEnded (all_of crew) }
+    requires watches { Watches board teller }
+    requires unknown { (u : ℕ) → (seen teller.view.view).exact u ≡ false }
+    ensures ran { IfOk result (IsDetectRun plan.now) }
+    ensures told { options.now.live ≡ true → TellsOn plan.now teller.dead (told K.taken K.faults out.old) (told K.taken K.faults out.new) result }
+    ensures silent { options.now.live ≡ false → (out.new ≡ out.old) × IsNoWrite result }
+{
+    let Ok(places) = crew.places(alloc, &board, plan) else {
+        return Err(RunEnd::NoMemory);
+    };
+    teller.take_in(&board, crew);
+    last_pass(alloc, &board, options, gate, &mut teller, out)?;
+    let (words, dead) = teller.close(board);
+    let Ok(end) = end_from(alloc, plan, places.as_slice(), gate) else {
+        return Err(RunEnd::NoMemory);
+    };
+    tell_rest(alloc, end.blocked.as_slice(), dead.as_slice(), options, out)?;
+    Ok(Ran { end, places, words })
+}
+
+// The pass after the rounds; with `live` its lines are written.
+fn last_pass<G: Gate, K: Sink>(
+    alloc: Global,
+    board: &Board,
+    options: &RunOptions,
+    gate: &G,
+    teller: &mut Teller,
+    out: &mut K,
+) -> Result<(), RunEnd>
+    requires watches { Watches board.now teller.old }
+    requires detects { board.now.mode ≡ Detect }
+    ensures watches { OnOk result (Watches board.now teller.new) }
+    ensures goes_on { GoesOn teller.old.view teller.new.view }
+    ensures told { options.now.live ≡ true → TellsMore board.now.plan teller.old.dead teller.new.dead (told K.taken K.faults out.old) (told K.taken K.faults out.new) result }
+    ensures silent { options.now.live ≡ false → (out.new ≡ out.old) × IsNoWrite result }
+{
+    if options.live {
+        return teller.tell(alloc, board, options.wanted, gate, out);
+    }
+    match teller.name(alloc, board, options.wanted) {
+        Ok(_) => Ok(()),
+        Err(NoMemory) => Err(RunEnd::NoMemory),
+    }
+}

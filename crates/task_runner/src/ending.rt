@@ -1,0 +1,32 @@
+// The end of a run, from where its tasks stand.
+ghost use Rattle.std.specs.Prelude.{◌≡◌, ℕ, Some, false, IfOk, length, slice_get};
+ghost use Rattle.armus_base.specs.Runs.{IsReachable};
+ghost use Rattle.pl_core.specs.declared.place.Place.{Place as Standing};
+ghost use Rattle.pl_core.specs.Worlds.{places_at};
+ghost use Rattle.task_runner.specs.PlainRuns.{IsPlainEnd};
+
+use crate::round::round;
+use armus_base::{Final, Gate, NoMemory, Plan};
+use pl_core::{Place, World};
+use std::alloc::Global;
+
+/// The end of the run whose tasks stand at these places, none refused: turns go on by rounds in order of number until no task may go on. The gate is
+/// called before each op.
+pub(crate) fn end_from<G: Gate>(
+    alloc: Global,
+    plan: &Plan,
+    places: &[Place],
+    gate: &G,
+) -> Result<Final, NoMemory>
+    requires one_each { length places.now ≡ length plan.now.parents }
+    requires reachable { IsReachable plan.now (places_at plan.now places.now) }
+    requires plain { (t : ℕ) (place : Standing) → slice_get places.now t ≡ Some place → place.refused ≡ false }
+    ensures end { IfOk result (λ end. IsPlainEnd plan.now end) }
+{
+    let mut world = World::at(alloc, plan, places)?;
+    let count = plan.tasks() as usize;
+    let mut forked = vec![in alloc; false; count]?;
+    let mut behind = vec![in alloc; 0u32; count]?;
+    while round(&mut world, &mut forked, &mut behind, gate) {}
+    world.finish(alloc)
+}

@@ -1,0 +1,45 @@
+// How many workers a round has.
+use crate::RunOptions;
+
+// how many rounds in a row with little work are tried by several workers
+const PATIENCE: u32 = 1_000;
+
+// a round of fewer events than this has little work
+const LITTLE: u32 = 64;
+
+/// How many rounds in a row had little work. To start threads takes longer than such a round, so after many of them rounds go by one worker, until one has
+/// more to do.
+#[derive(Drop)]
+pub(crate) struct Pace {
+    little: u32,
+}
+
+impl Pace {
+    /// Before the first round.
+    pub(crate) fn new() -> Pace {
+        Pace { little: 0 }
+    }
+
+    /// Whether the next round is to start threads.
+    pub(crate) fn wants_threads(&self) -> bool {
+        self.little < PATIENCE
+    }
+
+    /// How many workers the next round has.
+    pub(crate) fn workers(&self, options: &RunOptions) -> u8 {
+        if self.wants_threads() {
+            options.workers
+        } else {
+            1
+        }
+    }
+
+    /// Notes how many events a round had.
+    pub(crate) fn note(&mut self, events: u32) {
+        self.little = if events < LITTLE {
+            self.little.saturating_add(1)
+        } else {
+            0
+        };
+    }
+}

@@ -1,0 +1,127 @@
+// Who tells of the dead tasks of a run, while it goes on.
+ghost use Rattle.std.specs.Prelude.{◌≡◌, ◌++◌, ℕ, List, [], None, false, IfOk, OnOk};
+ghost use Rattle.armus_base.specs.declared.status.Dead.{Dead};
+ghost use Rattle.report.specs.Live.{live_text};
+ghost use Rattle.board.specs.declared.mode.Mode.TheVariants.{Detect};
+ghost use Rattle.board.specs.Closing.{AreLastOf};
+ghost use Rattle.board.specs.Seats.{IsNewSeat, IsOf, nothing_seen};
+ghost use Rattle.board.specs.Views.{seen};
+ghost use Rattle.phase_scan.specs.Looks.{GoesOn};
+ghost use Rattle.board_rounds.specs.Crews.{AreTasksOf, KnowsTasks, all_of};
+ghost use Rattle.task_runner.specs.DetectRuns.{told};
+ghost use Rattle.task_runner.specs.Tellers.{TellsMore, Watches};
+
+use crate::RunEnd;
+use adaptive::Wanted;
+use armus_base::{Dead, Gate, List, NoMemory, Point, Sink, write_text};
+use board::{Board, ViewSeat, Words};
+use board_rounds::Crew;
+use collector::Collector;
+use report::live_lines;
+use std::alloc::Global;
+use std::marker::Model;
+
+/// Tells of the dead tasks of a run on a board, while it goes on.
+#[derive(Drop)]
+pub(crate) struct Teller {
+    collector: Collector,
+    view: ViewSeat,
+    // the tasks that were named, with their events
+    dead: Vec<Dead>,
+}
+
+impl Model for Teller {
+    ghost use Rattle.task_runner.specs.Tellers.{Telling};
+
+    ghost Value = { Telling };
+
+    ghost use Rattle.task_runner.specs.Watching.{telling_of};
+
+    ghost view = { telling_of };
+}
+
+impl Teller {
+    /// Before the first pass.
+    pub(crate) fn start(alloc: Global, board: &Board, view: ViewSeat) -> Result<Teller, NoMemory>
+        requires new { IsNewSeat board.now None nothing_seen view }
+        ensures watches { IfOk result (Watches board.now) }
+        ensures nobody { IfOk result (λ teller. teller.dead ≡ []) }
+        ensures view { IfOk result (λ teller. teller.view ≡ view) }
+    {
+        Ok(Teller {
+            collector: Collector::start(alloc, board)?,
+            view,
+            dead: Vec::new(alloc),
+        })
+    }
+
+    /// One pass, and a line for each task that it is the first to name. After the lines it calls the gate.
+    pub(crate) fn tell<G: Gate, K: Sink>(
+        &mut self,
+        alloc: Global,
+        board: &Board,
+        wanted: Wanted,
+        gate: &G,
+        out: &mut K,
+    ) -> Result<(), RunEnd>
+        requires watches { Watches board.now self.old }
+        requires detects { board.now.mode ≡ Detect }
+        ensures watches { OnOk result (Watches board.now self.new) }
+        ensures goes_on { GoesOn self.old.view self.new.view }
+        ensures told { TellsMore board.now.plan self.old.dead self.new.dead (told K.taken K.faults out.old) (told K.taken K.faults out.new) result }
+    {
+        let Ok(lines) = self.name(alloc, board, wanted) else {
+            return Err(RunEnd::NoMemory);
+        };
+        let Ok(()) = write_text(out, lines.as_slice()) else {
+            return Err(RunEnd::Write);
+        };
+        let count = u32::try_from(self.dead.len()).unwrap_or(u32::MAX);
+        gate.at(Point::Named { count });
+        Ok(())
+    }
+
+    /// One pass; answers the lines of the tasks that it is the first to name.
+    pub(crate) fn name(
+        &mut self,
+        alloc: Global,
+        board: &Board,
+        wanted: Wanted,
+    ) -> Result<List<u8>, NoMemory>
+        requires watches { Watches board.now self.old }
+        requires detects { board.now.mode ≡ Detect }
+        ensures watches { OnOk result (Watches board.now self.new) }
+        ensures named { IfOk result (λ lines. (fresh : List Dead) × (self.new.dead ≡ self.old.dead ++ fresh) × (lines ≡ live_text fresh)) }
+        ensures goes_on { GoesOn self.old.view self.new.view }
+    {
+        let fresh = self
+            .collector
+            .pass(alloc, &mut self.view, board, wanted)?
+            .fresh;
+        let lines = live_lines(alloc, fresh.as_slice())?;
+        self.dead.append(&mut fresh.into_vec())?;
+        Ok(lines)
+    }
+
+    /// The tasks end their turns: the viewer knows each of them exactly then.
+    pub(crate) fn take_in(&mut self, board: &Board, crew: Crew)
+        requires watches { Watches board.now self.old }
+        requires tasks { AreTasksOf board.now crew }
+        requires unknown { (u : ℕ) → (seen self.old.view.view).exact u ≡ false }
+        ensures watches { Watches board.now self.new }
+        ensures known { KnowsTasks board.now (all_of crew) self.new.view }
+        ensures same { self.new.dead ≡ self.old.dead }
+    {
+        crew.take_in(board, &mut self.view);
+    }
+
+    /// Ends the board; answers its words, and the tasks that were named.
+    pub(crate) fn close(self, board: Board) -> (Words, Vec<Dead>)
+        requires watches { Watches board self }
+        ensures board { (result.0.plan ≡ board.plan) × (result.0.mode ≡ board.mode) }
+        ensures words { AreLastOf board.plan board.mode (seen self.view.view) result.0.words }
+        ensures dead { result.1.items ≡ self.dead }
+    {
+        (board.close(self.view), self.dead)
+    }
+}
