@@ -109,7 +109,7 @@ fn take_round<R: Threads + Sync, G: Gate, K: Sink>(
     ensures told { TellsMore board.now.plan teller.old.dead teller.new.dead (told K.taken K.faults out.old) (told K.taken K.faults out.new) result.1 }
     ensures silent { options.now.live ≡ false → (out.new ≡ out.old) × IsNoWrite result.1 }
 {
-    let workers = pace.workers(options);
+    let workers = pace.workers(options.workers);
     if !options.live {
         let made = crew.round(rt, alloc, board, plan, options.wanted, workers, gate);
         return (made, Ok(()));

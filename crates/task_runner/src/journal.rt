@@ -5,6 +5,7 @@ ghost use Rattle.task_runner.specs.RecordedRuns.{IsRecordedRun};
 use crate::RunOptions;
 use crate::finishing::finish;
 use crate::live_task::LiveTask;
+use crate::pace::Pace;
 use crate::turns::take_turns;
 use armus_base::{Final, Gate, List, NoMemory, Plan, TaskId};
 use locked_world::{LockedWorld, PlanName};
@@ -13,7 +14,9 @@ use std::marker::Brand;
 use std::sync::Wait;
 use std::thread::Threads;
 
-/// Runs the plan by rounds of turns over a world under a lock, and answers the final state and the journal: the journal is that of a maximal plain run of the plan, and the final state is the end of that run. The workers call the gate before each op, outside the lock; no clause speaks of rounds, workers and gate. The run may wait for the lock; what it answers holds if it returns.
+/// Runs the plan by rounds of turns over a world under a lock, and answers the final state and the journal: the journal is that of a maximal plain run
+/// of the plan, and the final state is the end of that run. The workers call the gate before each op, outside the lock; no clause speaks of rounds,
+/// workers and gate. The run may wait for the lock; what it answers holds if it returns.
 pub fn run_journal<R: Threads + Wait + Sync, G: Gate>(
     rt: &R,
     alloc: Global,
@@ -57,11 +60,21 @@ fn go_by_rounds<N: PlanName, R: Threads + Wait + Sync, G: Gate>(
 {
     let mut tasks = Vec::new(alloc);
     tasks.push(first_task(plan))?;
+    let mut pace = Pace::new();
     for _ in 0..=u64::from(plan.ops()) * 2 {
-        take_turns(rt, shared, plan, gate, workers, tasks.as_mut_slice())?;
-        if !has_moved(tasks.as_slice()) {
+        take_turns(
+            rt,
+            shared,
+            plan,
+            gate,
+            pace.workers(workers),
+            tasks.as_mut_slice(),
+        )?;
+        let made = steps_of(tasks.as_slice());
+        if made == 0 {
             break;
         }
+        pace.note(made);
         let children = forked_by(alloc, plan, tasks.as_slice())?;
         tasks.retain(|task| !task.is_done());
         for child in children {
@@ -79,9 +92,13 @@ fn first_task<N: PlanName>(plan: &Plan) -> LiveTask<N>
     LiveTask::new(TaskId(0))
 }
 
-// Whether one of these tasks made a step in its last turn.
-fn has_moved<N: PlanName>(tasks: &[LiveTask<N>]) -> bool {
-    tasks.iter().any(|task| task.has_moved())
+// How many ops these tasks went on in their last turns, a begun await counted as one.
+fn steps_of<N: PlanName>(tasks: &[LiveTask<N>]) -> u32 {
+    let mut made = 0u32;
+    for task in tasks {
+        made = made.saturating_add(task.steps());
+    }
+    made
 }
 
 // The tasks that these forked in their last turns.

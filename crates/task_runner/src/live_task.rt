@@ -68,9 +68,13 @@ impl<N: PlanName> LiveTask<N> {
         self.t
     }
 
-    /// Whether it made a step in its last turn.
-    pub(crate) fn has_moved(&self) -> bool {
-        self.moved
+    /// How many ops it went on in its last turn, where one that it began or made counts as one.
+    pub(crate) fn steps(&self) -> u32 {
+        if self.moved {
+            self.op.saturating_sub(self.turn_from).max(1)
+        } else {
+            0
+        }
     }
 
     /// Whether its code is done.

@@ -1,5 +1,4 @@
 // How many workers a round has.
-use crate::RunOptions;
 
 // how many rounds in a row with little work are tried by several workers
 const PATIENCE: u32 = 1_000;
@@ -25,13 +24,9 @@ impl Pace {
         self.little < PATIENCE
     }
 
-    /// How many workers the next round has.
-    pub(crate) fn workers(&self, options: &RunOptions) -> u8 {
-        if self.wants_threads() {
-            options.workers
-        } else {
-            1
-        }
+    /// How many workers the next round has, where a run has so many.
+    pub(crate) fn workers(&self, most: u8) -> u8 {
+        if self.wants_threads() { most } else { 1 }
     }
 
     /// Notes how many events a round had.
