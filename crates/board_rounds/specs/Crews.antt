@@ -39,10 +39,11 @@ pub record IsCrew (board : Frame) (Seats : Known → Type 0) : Type 0 where
       (seat : Known) → Seats seat → (j c : ℕ) → j < (own_place seat.view).done → action_at board.plan (task_of seat.view) j ≡ Some (Forks c) →
       HasSeatOf Seats c
 
--- the seat of one of these tasks, and that of a child which one of them forked
+-- the seat of one of these tasks
 abbrev pub IsSeatIn : List Working → Known → Type 0
 IsSeatIn tasks seat = (task : Working) × Contains tasks task × seat ≡ task.seat
 
+-- the seat of a child which one of these tasks forked
 abbrev pub IsChildIn : List Working → Known → Type 0
 IsChildIn tasks seat = (task : Working) × Contains tasks task × Contains task.children seat
 
@@ -66,17 +67,19 @@ IsAtStart seat = (own_place seat.view ≡ first_place) × (seat.view.holds ≡ f
 abbrev pub emptied : Working → Working
 emptied task = record { seat = task.seat; children = [] }
 
--- the task of a child's seat, and those of all children's seats of a task
+-- the task of a child's seat
 abbrev pub fresh : Known → Working
 fresh seat = record { seat = seat; children = [] }
 
+-- the tasks of all children's seats of a task
 abbrev pub fresh_of : Working → List Working
 fresh_of task = map fresh task.children
 
--- the number of a task, and how many actions of its code it has done
+-- the number of a task
 abbrev pub number : Working → ℕ
 number task = task_of task.seat.view
 
+-- how many actions of its code a task has done
 abbrev pub done_of : Working → ℕ
 done_of task = (own_place task.seat.view).done
 
@@ -117,6 +120,7 @@ pub record Tasks : Type 0 where
   pub live : List Working
   pub ended : List Working
 
+-- all of them
 abbrev pub all_of : Tasks → List Working
 all_of tasks = tasks.live ++ tasks.ended
 

@@ -39,6 +39,7 @@ pub record Told : Type 0 where
   pub taken : Option (List ℕ)
   pub faults : ℕ
 
+-- what this sink tells
 abbrev pub told : {K : Type 0} → (K → Option (List ℕ)) → (K → ℕ) → K → Told
 told taken faults k = record { taken = taken k; faults = faults k }
 
