@@ -4,7 +4,7 @@ use Rattle.std.specs.Prelude.{Option, Some, None}
 use Rattle.clap.specs.Words.{matches_of, takes}
 use Rattle.armus_words.specs.Words.{Text, AreUses, AreWords, Use, StandsAlone, all_words, first_word, has_option, has_value_alone, options_of}
 use Rattle.armus_words.specs.Commands.{given_by}
-use Rattle.armus_words.specs.Rules.{app_for}
+use Rattle.armus_words.specs.inside.Rules.{app_for}
 use Rattle.armus_words.specs.declared.table.FirstWord.{FirstWord}
 use Rattle.armus_words.specs.declared.table.FirstWord.TheVariants.{Check, Run, Avoid, Record, Replay, Gen}
 use Rattle.armus_words.proofs.Matches.{HoldsGiven, uses_given, uses_taken}

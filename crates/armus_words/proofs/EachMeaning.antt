@@ -8,7 +8,7 @@ use Rattle.std.proofs.lemmas.Bool.{cases_lt}
 use Rattle.std.proofs.lemmas.Slice.Eq.{bytes_eq-Decides}
 use Rattle.armus_words.specs.Words.{Text, Use, AreWords, has_value_alone}
 use Rattle.armus_words.specs.Commands.{AreWorkers, EachMeaning, Given, IsCommand, IsGenerated, IsGraph, IsNumber, Means, Reads, first_of, given_by, graph_name}
-use Rattle.armus_words.specs.Form.{first_named, fits, free_at}
+use Rattle.armus_words.specs.inside.Form.{first_named, fits, free_at}
 use Rattle.armus_words.specs.declared.table.FirstWord.{FirstWord}
 use Rattle.armus_words.specs.declared.table.FirstWord.TheVariants as first
 use Rattle.armus_words.specs.declared.command.Graph.{Graph}
@@ -128,7 +128,7 @@ ReadsOrNot f given = ((c : Command) × (first_of c ≡ f) × Reads c given) ⊎ 
 
 no_run : (given : Given) → ((w : ℕ) (g : Graph) → AreWorkers given.workers w × IsGraph given.graph g → ⊥) → (c : Command) → first_of c ≡ first.Run → Reads c given → ⊥
 no_run given none (Check p) e is = absurd (cc)
-no_run given none (Run w g) e is = none w g is
+no_run given none (Run w g l) e is = none w g (is.0, is.1)
 no_run given none (Avoid w g) e is = absurd (cc)
 no_run given none (Record w) e is = absurd (cc)
 no_run given none Replay e is = absurd (cc)
@@ -136,7 +136,7 @@ no_run given none (Gen n) e is = absurd (cc)
 
 no_avoid : (given : Given) → ((w : ℕ) (g : Graph) → AreWorkers given.workers w × IsGraph given.graph g → ⊥) → (c : Command) → first_of c ≡ first.Avoid → Reads c given → ⊥
 no_avoid given none (Check p) e is = absurd (cc)
-no_avoid given none (Run w g) e is = absurd (cc)
+no_avoid given none (Run w g l) e is = absurd (cc)
 no_avoid given none (Avoid w g) e is = none w g is
 no_avoid given none (Record w) e is = absurd (cc)
 no_avoid given none Replay e is = absurd (cc)
@@ -144,7 +144,7 @@ no_avoid given none (Gen n) e is = absurd (cc)
 
 no_record : (given : Given) → ((w : ℕ) → AreWorkers given.workers w → ⊥) → (c : Command) → first_of c ≡ first.Record → Reads c given → ⊥
 no_record given none (Check p) e is = absurd (cc)
-no_record given none (Run w g) e is = absurd (cc)
+no_record given none (Run w g l) e is = absurd (cc)
 no_record given none (Avoid w g) e is = absurd (cc)
 no_record given none (Record w) e is = none w is
 no_record given none Replay e is = absurd (cc)
@@ -152,7 +152,7 @@ no_record given none (Gen n) e is = absurd (cc)
 
 no_gen : (given : Given) → ((n : ℕ) → IsGenerated given.alone n → ⊥) → (c : Command) → first_of c ≡ first.Gen → Reads c given → ⊥
 no_gen given none (Check p) e is = absurd (cc)
-no_gen given none (Run w g) e is = absurd (cc)
+no_gen given none (Run w g l) e is = absurd (cc)
 no_gen given none (Avoid w g) e is = absurd (cc)
 no_gen given none (Record w) e is = absurd (cc)
 no_gen given none Replay e is = absurd (cc)
@@ -177,7 +177,7 @@ works_or_not given =
 reads_or_not : (f : FirstWord) (given : Given) → ReadsOrNot f given
 reads_or_not first.Check given = inl (Check given.print, refl, refl)
 reads_or_not first.Run given =
-    elim (works_or_not given) [ inl is ↦ inl (Run is.0 is.1, refl, is.2) | inr none ↦ inr (no_run given none) ]
+    elim (works_or_not given) [ inl is ↦ inl (Run is.0 is.1 given.live, refl, (is.2.0, is.2.1, refl)) | inr none ↦ inr (no_run given none) ]
 reads_or_not first.Avoid given =
     elim (works_or_not given) [ inl is ↦ inl (Avoid is.0 is.1, refl, is.2) | inr none ↦ inr (no_avoid given none) ]
 reads_or_not first.Record given =

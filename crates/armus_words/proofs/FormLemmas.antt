@@ -8,11 +8,11 @@ use Rattle.std.proofs.lemmas.Slice.Eq.{bytes_eq-Decides}
 use Rattle.std.proofs.lemmas.Grind.{common_steps}
 use Rattle.armus_words.proofs.Meaning.{first_is, named_is, no_option}
 use Rattle.armus_words.specs.Words.{Text, Use, valued, flag, AreUses, AreWords, IsValue, StandsAlone, all_words, dashed, first_word, has_option, has_value_alone, is_value_byte, option_of, options_of, wants_value, without}
-use Rattle.armus_words.specs.Form.{first_named, fits, free_at, is_free, is_value, option_named, taken_off}
+use Rattle.armus_words.specs.inside.Form.{first_named, fits, free_at, is_free, is_value, option_named, taken_off}
 use Rattle.armus_words.specs.declared.forms.Free.{Free}
 use Rattle.armus_words.specs.declared.table.FirstWord.{FirstWord}
 use Rattle.armus_words.specs.declared.table.OptionWord.{OptionWord}
-use Rattle.armus_words.specs.declared.table.OptionWord.TheVariants.{Print, Workers, Graph}
+use Rattle.armus_words.specs.declared.table.OptionWord.TheVariants.{Print, Workers, Graph, Live}
 use Rattle.armus_words.specs.declared.table.TheConstants.{FIRST_WORDS, MAX_VALUE_BYTES, OPTION_WORDS}
 
 head_is : {x y : Text} {xs ys : List Text} → x ∷ xs ≡ y ∷ ys → x ≡ y
@@ -76,17 +76,25 @@ free_after : (free : Free) (o p : OptionWord) → is_free (taken_off free o) p �
 free_after free Print Print = refl
 free_after free Print Workers = refl
 free_after free Print Graph = refl
+free_after free Print Live = refl
 free_after free Workers Print = refl
 free_after free Workers Workers = refl
 free_after free Workers Graph = refl
+free_after free Workers Live = refl
 free_after free Graph Print = refl
 free_after free Graph Workers = refl
 free_after free Graph Graph = refl
+free_after free Graph Live = refl
+free_after free Live Print = refl
+free_after free Live Workers = refl
+free_after free Live Graph = refl
+free_after free Live Live = refl
 
 free_first : (f : FirstWord) (o : OptionWord) → is_free (free_at f) o ≡ has_option o (options_of f)
 free_first f Print = refl
 free_first f Workers = refl
 free_first f Graph = refl
+free_first f Live = refl
 
 without_same : (o : OptionWord) (f g : OptionWord → Bool) → ((p : OptionWord) → f p ≡ g p) → (p : OptionWord) → without o f p ≡ without o g p
 without_same o f g e p = rw (e p) refl

@@ -10,7 +10,7 @@ use Rattle.clap.specs.Takes.{bundle_passes, default_passes, entered_passes, flag
 use Rattle.clap.specs.Walk.{Held, Step, Walk, after_step, finished, idle, long_or_other, nothing_held, one_of, short_or_plain, trailing, value, walk, walk_from, walked, word_met}
 use Rattle.armus_words.specs.Words.{Text, IsValue, first_word}
 use Rattle.armus_words.specs.Commands.{given_by}
-use Rattle.armus_words.specs.Rules.{app_for}
+use Rattle.armus_words.specs.inside.Rules.{app_for}
 use Rattle.armus_words.specs.declared.table.FirstWord.TheVariants.{Gen}
 use Rattle.armus_words.proofs.Steps.{no_dashes, no_long, no_short, starts_as_value, starts_plain}
 use Rattle.armus_words.proofs.Matches.{HoldsGiven, missing}
@@ -47,6 +47,7 @@ gen_given v is =
       print = missing (ap (λ (w : Walk). one_of (codes "print") (finished gen_rules w.held)) there);
       workers = ap (λ (w : Walk). first_of (codes "workers") (finished gen_rules w.held)) there;
       graph = ap (λ (w : Walk). first_of (codes "graph") (finished gen_rules w.held)) there;
+      live = missing (ap (λ (w : Walk). one_of (codes "live") (finished gen_rules w.held)) there);
       alone = ap (λ (w : Walk). first_of (codes "count") (finished gen_rules w.held)) there;
     }
 

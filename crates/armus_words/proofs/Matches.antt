@@ -1,5 +1,5 @@
 -- What clap finds in the words of a command.
-use Rattle.std.proofs.Common.{◌≡◌, ◌∙◌, ◌++◌, List, [], ◌∷◌, ap, sym, refl, subst, Bool, true, false, ◌&&◌, ◌||◌, codes, map, if◌then◌else◌}
+use Rattle.std.proofs.Common.{◌≡◌, ◌∙◌, ◌++◌, List, [], ◌∷◌, ap, sym, refl, subst, Bool, true, false, inl, inr, ◌&&◌, ◌||◌, codes, map, if◌then◌else◌}
 use Rattle.std.specs.Prelude.{Option, Some, None, find, is_some, option_and_then, slice_get}
 use Rattle.std.specs.Str.{bytes_eq}
 use Rattle.std.specs.List.{list_all}
@@ -8,13 +8,17 @@ use Rattle.clap.specs.Simple.{built, entered}
 use Rattle.clap.specs.Takes.{default_passes, entered_passes, is_valid, settle_passes, walk_passes}
 use Rattle.clap.specs.Walk.{Held, Walk, finished, has_row, nothing_held, one_of, row_text, walk, walk_from}
 use Rattle.armus_words.specs.Words.{Text, AreUses, Use, valued, flag, all_words, first_word, has_option, has_value_alone, is_used, name_of, options_of, same_option, value_of, wants_value, without}
-use Rattle.armus_words.specs.Rules.{app_for}
+use Rattle.armus_words.specs.inside.Rules.{app_for}
 use Rattle.armus_words.specs.Commands.{Given, given_by}
 use Rattle.armus_words.specs.declared.table.FirstWord.{FirstWord}
 use Rattle.armus_words.specs.declared.table.FirstWord.TheVariants as first
 use Rattle.armus_words.specs.declared.table.OptionWord.{OptionWord}
-use Rattle.armus_words.specs.declared.table.OptionWord.TheVariants.{Print, Workers, Graph}
-use Rattle.armus_words.proofs.Rows.{or_false}
+use Rattle.armus_words.specs.declared.table.OptionWord.TheVariants.{Print, Workers, Graph, Live}
+use Rattle.std.proofs.lemmas.Bool.{cases_Bool}
+use Rattle.std.proofs.lemmas.Slice.Eq.{bytes_eq-Decides}
+use Rattle.armus_words.specs.inside.Form.{option_named}
+use Rattle.armus_words.proofs.Meaning.{named_is}
+use Rattle.armus_words.proofs.Rows.{has_row_pushed, or_false}
 use Rattle.armus_words.proofs.Steps.{ended, finished_is, knows_all, rules_for, unused_row, use_row, with_unused}
 use Rattle.armus_words.proofs.Passes.{shape_with}
 use Rattle.armus_words.proofs.Walks.{Before, after_all, passes_all, rows_all, settles_all, walked_all}
@@ -52,6 +56,9 @@ flags_differ Workers Graph w e = absurd (cc)
 flags_differ Graph Print w e = refl
 flags_differ Graph Workers w e = absurd (cc)
 flags_differ Graph Graph w e = absurd (cc)
+flags_differ Workers Live w e = refl
+flags_differ Graph Live w e = refl
+flags_differ Live o w e = absurd (cc)
 
 -- ---- the values of options
 
@@ -105,8 +112,13 @@ valued_differ : (o p : OptionWord) → wants_value o ≡ false → wants_value p
 valued_differ Print Print w e = absurd (cc)
 valued_differ Print Workers w e = refl
 valued_differ Print Graph w e = refl
+valued_differ Print Live w e = absurd (cc)
 valued_differ Workers p w e = absurd (cc)
 valued_differ Graph p w e = absurd (cc)
+valued_differ Live Print w e = absurd (cc)
+valued_differ Live Workers w e = refl
+valued_differ Live Graph w e = refl
+valued_differ Live Live w e = absurd (cc)
 
 flag_text : (rules : List Rule) (p : OptionWord) → wants_value p ≡ false → text_in (Some (use_row rules (flag p))) ≡ Some (codes "true")
 flag_text rules p e = refl
@@ -157,20 +169,42 @@ find_last id (x ∷ xs) r e is =
     let parts = or_false (bytes_eq x.id id) (has_row id xs) e in
     rw parts.0 (find_last id xs r parts.1 is)
 
--- a flag that is not used is off, or the command does not have it
-unused_flag : (os : List OptionWord) (rows : List Row) → has_row (codes "print") rows ≡ false → FlagFound (text_in (find_row (codes "print") (ended os rows))) false
-unused_flag [] rows none = missing (ap text_in (find_none (codes "print") rows none))
-unused_flag (Print ∷ os) rows none =
-    let added : with_unused Print rows ≡ rows ++ unused_row Print ∷ [] = rw none refl in
-    off (ap (λ more. text_in (find_row (codes "print") (ended os more))) added
-    ∙ text_stays (codes "print") os (rows ++ unused_row Print ∷ []) (Some (unused_row Print)) (codes "false") (find_last (codes "print") rows (unused_row Print) none refl) refl)
-unused_flag (Workers ∷ os) rows none = unused_flag os rows none
-unused_flag (Graph ∷ os) rows none = unused_flag os rows none
+-- options of one name are one
+one_name : (a b : OptionWord) → bytes_eq (name_of a) (name_of b) ≡ true → a ≡ b
+one_name a b e =
+    let names : name_of a ≡ name_of b = (bytes_eq-Decides (name_of a) (name_of b)).0 e in
+    let both : Some a ≡ Some b = sym (named_is a) ∙ ap (λ (n : Text). option_named (45 ∷ 45 ∷ n)) names ∙ named_is b in cc
 
-by_use : (rules : List Rule) (free : OptionWord → Bool) (os : List OptionWord) (us : List Use) (b : Bool) → is_used Print us ≡ b → AreUses free us
-    → FlagFound (text_in (find_row (codes "print") (ended os (map (use_row rules) us)))) b
-by_use rules free os us true is uses = on (text_stays (codes "print") os (map (use_row rules) us) _ (codes "true") refl (used_flag rules free Print us refl uses is))
-by_use rules free os us false is uses = unused_flag os (map (use_row rules) us) (has_use rules Print us ∙ is)
+-- the row of another flag that is not used does not make a row under this name
+pushed_either : (id : Text) (w h : Bool) (rows : List Row) (r : Row) → has_row id rows ≡ false → bytes_eq r.id id ≡ false
+    → has_row id (if w then rows else (if h then rows else rows ++ r ∷ [])) ≡ false
+pushed_either id true h rows r none other = none
+pushed_either id false true rows r none other = none
+pushed_either id false false rows r none other = has_row_pushed id rows r none other
+
+-- the flag's own row, where it is not used
+own_unused : (p : OptionWord) (os : List OptionWord) (rows : List Row) → wants_value p ≡ false → has_row (name_of p) rows ≡ false
+    → FlagFound (text_in (find_row (name_of p) (ended os (with_unused p rows)))) false
+own_unused p os rows w none =
+    let added : with_unused p rows ≡ rows ++ unused_row p ∷ [] = rw (w, none) refl in
+    let same : bytes_eq (name_of p) (name_of p) ≡ true = (bytes_eq-Decides (name_of p) (name_of p)).1 refl in
+    off (ap (λ more. text_in (find_row (name_of p) (ended os more))) added
+    ∙ text_stays (name_of p) os (rows ++ unused_row p ∷ []) (Some (unused_row p)) (codes "false") (find_last (name_of p) rows (unused_row p) none same) refl)
+
+-- a flag that is not used is off, or the command does not have it
+unused_flag : (p : OptionWord) (os : List OptionWord) (rows : List Row) → wants_value p ≡ false → has_row (name_of p) rows ≡ false
+    → FlagFound (text_in (find_row (name_of p) (ended os rows))) false
+unused_flag p [] rows w none = missing (ap text_in (find_none (name_of p) rows none))
+unused_flag p (o ∷ os) rows w none =
+    elim (cases_Bool (bytes_eq (name_of o) (name_of p))) [
+      | inl same ↦ subst (λ q. FlagFound (text_in (find_row (name_of p) (ended os (with_unused q rows)))) false) (sym (one_name o p same)) (own_unused p os rows w none)
+      | inr other ↦ unused_flag p os (with_unused o rows) w (pushed_either (name_of p) (wants_value o) (has_row (name_of o) rows) rows (unused_row o) none other)
+    ]
+
+by_use : (p : OptionWord) → wants_value p ≡ false → (rules : List Rule) (free : OptionWord → Bool) (os : List OptionWord) (us : List Use) (b : Bool) → is_used p us ≡ b
+    → AreUses free us → FlagFound (text_in (find_row (name_of p) (ended os (map (use_row rules) us)))) b
+by_use p w rules free os us true is uses = on (text_stays (name_of p) os (map (use_row rules) us) _ (codes "true") refl (used_flag rules free p us w uses is))
+by_use p w rules free os us false is uses = unused_flag p os (map (use_row rules) us) w (has_use rules p us ∙ is)
 
 -- ---- a value that stands by itself
 
@@ -178,6 +212,7 @@ not_alone : (o : OptionWord) → bytes_eq (name_of o) (codes "count") ≡ false
 not_alone Print = refl
 not_alone Workers = refl
 not_alone Graph = refl
+not_alone Live = refl
 
 none_alone : (rules : List Rule) (us : List Use) → find_row (codes "count") (map (use_row rules) us) ≡ None
 none_alone rules [] = refl
@@ -191,6 +226,7 @@ pub record HoldsGiven (rows : List Row) (given : Given) : Type 0 where
   pub print : FlagFound (one_of (codes "print") rows) given.print
   pub workers : first_of (codes "workers") rows ≡ given.workers
   pub graph : first_of (codes "graph") rows ≡ given.graph
+  pub live : FlagFound (one_of (codes "live") rows) given.live
   pub alone : first_of (codes "count") rows ≡ given.alone
 
 module _ (f : FirstWord) where
@@ -220,7 +256,8 @@ module _ (f : FirstWord) where
       let rules = rules_for os in
       let rows = map (use_row rules) us in
       record {
-        print = by_use rules free os us (is_used Print us) refl uses;
+        print = by_use Print refl rules free os us (is_used Print us) refl uses;
+        live = by_use Live refl rules free os us (is_used Live us) refl uses;
         workers = ap value_in (ended_stays (codes "workers") os rows (λ o w. flags_differ Workers o refl w)) ∙ value_found rules free Workers us refl uses;
         graph = ap value_in (ended_stays (codes "graph") os rows (λ o w. flags_differ Graph o refl w)) ∙ value_found rules free Graph us refl uses;
         alone = ap value_in (ended_stays (codes "count") os rows (λ o w. not_alone o) ∙ none_alone rules us);

@@ -6,12 +6,12 @@ use Rattle.std.specs.Str.{bytes_eq}
 use Rattle.std.proofs.lemmas.Slice.Eq.{bytes_eq-Decides}
 use Rattle.std.proofs.lemmas.Grind.{common_steps}
 use Rattle.armus_words.specs.Words.{Text, Use, valued, flag, AreUses, AreWords, IsValue, StandsAlone, all_words, dashed, first_word, has_value_alone, is_value_byte, use_words, wants_value, without}
-use Rattle.armus_words.specs.Form.{first_named, option_named}
+use Rattle.armus_words.specs.inside.Form.{first_named, option_named}
 use Rattle.armus_words.specs.Commands.{AreWorkers, Given, IsCommand, IsGenerated, IsGraph, IsNumber, OneMeaning, Reads, first_of, given_by, graph_name}
 use Rattle.armus_words.specs.declared.table.FirstWord.{FirstWord}
 use Rattle.armus_words.specs.declared.table.FirstWord.TheVariants as first
 use Rattle.armus_words.specs.declared.table.OptionWord.{OptionWord}
-use Rattle.armus_words.specs.declared.table.OptionWord.TheVariants.{Print, Workers, Graph as GraphOption}
+use Rattle.armus_words.specs.declared.table.OptionWord.TheVariants.{Print, Workers, Graph as GraphOption, Live}
 use Rattle.armus_words.specs.declared.command.Graph.{Graph}
 use Rattle.armus_words.specs.declared.command.Graph.TheVariants.{Auto, Wfg, Sg, Grg}
 use Rattle.armus_words.specs.declared.command.Command.{Command}
@@ -33,6 +33,7 @@ pub named_is : (o : OptionWord) → option_named (dashed o) ≡ Some o
 named_is Print = refl
 named_is Workers = refl
 named_is GraphOption = refl
+named_is Live = refl
 
 one_first : (a b : FirstWord) → first_word a ≡ first_word b → a ≡ b
 one_first a b e = let both : Some a ≡ Some b = sym (first_is a) ∙ ap first_named e ∙ first_is b in cc
@@ -142,49 +143,54 @@ one_generated (Some text) a b p q = one_number text _ a b p q
 one_generated None a b p q = absurd p
 
 -- what is given is that of one command with this first word
-both_same : (make : ℕ → Graph → Command) (w v : ℕ) (g h : Graph) (given : Given) → AreWorkers given.workers w × IsGraph given.graph g
-    → AreWorkers given.workers v × IsGraph given.graph h → make w g ≡ make v h
-both_same make w v g h given p q =
+same_run : (w v : ℕ) (g h : Graph) (l m : Bool) (given : Given) → Reads (Run w g l) given → Reads (Run v h m) given → Run w g l ≡ Run v h m
+same_run w v g h l m given p q =
+    let workers_are : w ≡ v = one_workers given.workers w v p.0 q.0 in
+    let graph_is : g ≡ h = one_graph given.graph g h p.1 q.1 in
+    let live_is : l ≡ m = p.2 ∙ sym q.2 in cc
+
+same_avoid : (w v : ℕ) (g h : Graph) (given : Given) → Reads (Avoid w g) given → Reads (Avoid v h) given → Avoid w g ≡ Avoid v h
+same_avoid w v g h given p q =
     let workers_are : w ≡ v = one_workers given.workers w v p.0 q.0 in
     let graph_is : g ≡ h = one_graph given.graph g h p.1 q.1 in cc
 
 one_reading : (c d : Command) (given : Given) → first_of c ≡ first_of d → Reads c given → Reads d given → c ≡ d
 one_reading (Check a) (Check b) given f p q = ap Check (p ∙ sym q)
-one_reading (Check a) (Run v h) given f p q = absurd (cc)
+one_reading (Check a) (Run v h m) given f p q = absurd (cc)
 one_reading (Check a) (Avoid v h) given f p q = absurd (cc)
 one_reading (Check a) (Record v) given f p q = absurd (cc)
 one_reading (Check a) Replay given f p q = absurd (cc)
-one_reading (Check a) (Gen m) given f p q = absurd (cc)
-one_reading (Run w g) (Check b) given f p q = absurd (cc)
-one_reading (Run w g) (Run v h) given f p q = both_same Run w v g h given p q
-one_reading (Run w g) (Avoid v h) given f p q = absurd (cc)
-one_reading (Run w g) (Record v) given f p q = absurd (cc)
-one_reading (Run w g) Replay given f p q = absurd (cc)
-one_reading (Run w g) (Gen m) given f p q = absurd (cc)
+one_reading (Check a) (Gen k) given f p q = absurd (cc)
+one_reading (Run w g l) (Check b) given f p q = absurd (cc)
+one_reading (Run w g l) (Run v h m) given f p q = same_run w v g h l m given p q
+one_reading (Run w g l) (Avoid v h) given f p q = absurd (cc)
+one_reading (Run w g l) (Record v) given f p q = absurd (cc)
+one_reading (Run w g l) Replay given f p q = absurd (cc)
+one_reading (Run w g l) (Gen k) given f p q = absurd (cc)
 one_reading (Avoid w g) (Check b) given f p q = absurd (cc)
-one_reading (Avoid w g) (Run v h) given f p q = absurd (cc)
-one_reading (Avoid w g) (Avoid v h) given f p q = both_same Avoid w v g h given p q
+one_reading (Avoid w g) (Run v h m) given f p q = absurd (cc)
+one_reading (Avoid w g) (Avoid v h) given f p q = same_avoid w v g h given p q
 one_reading (Avoid w g) (Record v) given f p q = absurd (cc)
 one_reading (Avoid w g) Replay given f p q = absurd (cc)
-one_reading (Avoid w g) (Gen m) given f p q = absurd (cc)
+one_reading (Avoid w g) (Gen k) given f p q = absurd (cc)
 one_reading (Record w) (Check b) given f p q = absurd (cc)
-one_reading (Record w) (Run v h) given f p q = absurd (cc)
+one_reading (Record w) (Run v h m) given f p q = absurd (cc)
 one_reading (Record w) (Avoid v h) given f p q = absurd (cc)
 one_reading (Record w) (Record v) given f p q = ap Record (one_workers given.workers w v p q)
 one_reading (Record w) Replay given f p q = absurd (cc)
-one_reading (Record w) (Gen m) given f p q = absurd (cc)
+one_reading (Record w) (Gen k) given f p q = absurd (cc)
 one_reading Replay (Check b) given f p q = absurd (cc)
-one_reading Replay (Run v h) given f p q = absurd (cc)
+one_reading Replay (Run v h m) given f p q = absurd (cc)
 one_reading Replay (Avoid v h) given f p q = absurd (cc)
 one_reading Replay (Record v) given f p q = absurd (cc)
 one_reading Replay Replay given f p q = refl
-one_reading Replay (Gen m) given f p q = absurd (cc)
+one_reading Replay (Gen k) given f p q = absurd (cc)
 one_reading (Gen n) (Check b) given f p q = absurd (cc)
-one_reading (Gen n) (Run v h) given f p q = absurd (cc)
+one_reading (Gen n) (Run v h m) given f p q = absurd (cc)
 one_reading (Gen n) (Avoid v h) given f p q = absurd (cc)
 one_reading (Gen n) (Record v) given f p q = absurd (cc)
 one_reading (Gen n) Replay given f p q = absurd (cc)
-one_reading (Gen n) (Gen m) given f p q = ap Gen (one_generated given.alone n m p q)
+one_reading (Gen n) (Gen k) given f p q = ap Gen (one_generated given.alone n k p q)
 
 -- words have the form of one first word alone
 pub record SameForm (a b : FirstWord) (us vs : List Use) (x y : Option Text) : Type 0 where

@@ -14,10 +14,10 @@ use Rattle.clap.specs.declared.parser.matches.ValueSource.TheVariants.{CommandLi
 use Rattle.clap.specs.declared.builder.value_parser.Reading.TheVariants.{AsWritten}
 use Rattle.armus_words.proofs.Rows.{at_row_missing, fresh_row}
 use Rattle.armus_words.proofs.Meaning.{and_first}
-use Rattle.armus_words.specs.Rules.{rule_for}
+use Rattle.armus_words.specs.inside.Rules.{rule_for}
 use Rattle.armus_words.specs.Words.{Text, dashed, has_option, Use, Fits, valued, flag, option_of, use_words, is_value_byte, name_of, wants_value, IsValue}
 use Rattle.armus_words.specs.declared.table.OptionWord.{OptionWord}
-use Rattle.armus_words.specs.declared.table.OptionWord.TheVariants.{Print, Workers, Graph}
+use Rattle.armus_words.specs.declared.table.OptionWord.TheVariants.{Print, Workers, Graph, Live}
 
 -- the rule of an option, as clap fills it
 abbrev pub made : OptionWord → Rule
@@ -60,16 +60,19 @@ module _ (rules : List Rule) where
   word_is Print h = refl
   word_is Workers h = refl
   word_is Graph h = refl
+  word_is Live h = refl
 
   made_waits : (o : OptionWord) (h : Held) → wants_value o ≡ true → by_long (dashed o) h (Some (made o)) ≡ waits o h
   made_waits Print h e = absurd (cc)
   made_waits Workers h e = refl
   made_waits Graph h e = refl
+  made_waits Live h e = absurd (cc)
 
   made_flag : (o : OptionWord) (h : Held) → wants_value o ≡ false → by_long (dashed o) h (Some (made o)) ≡ at (reacted rules (made o) [] h)
   made_flag Print h e = refl
   made_flag Workers h e = absurd (cc)
   made_flag Graph h e = absurd (cc)
+  made_flag Live h e = refl
 
   -- the word of an option that wants_value a value, and of one that wants_value none
   pub option_walked : (o : OptionWord) (h : Held) → Knows rules o → wants_value o ≡ true → walked rules [] (at h) (dashed o) ≡ waits o h
@@ -107,6 +110,7 @@ module _ (rules : List Rule) where
   made_value Print v h e = absurd (cc)
   made_value Workers v h e = refl
   made_value Graph v h e = refl
+  made_value Live v h e = absurd (cc)
 
   pub value_walked : (o : OptionWord) (v : Text) (h : Held) → Knows rules o → wants_value o ≡ true → starts_plain v → walked rules [] (waits o h) v ≡ at (with_pending o (v ∷ []) h)
   unfolding walked
@@ -141,11 +145,13 @@ module _ (rules : List Rule) where
   row_valued Print v rows w e = absurd (cc)
   row_valued Workers v rows w e = fresh_row (codes "workers") AsWritten CommandLine (v ∷ []) rows e
   row_valued Graph v rows w e = fresh_row (codes "graph") AsWritten CommandLine (v ∷ []) rows e
+  row_valued Live v rows w e = absurd (cc)
 
   row_flag : (o : OptionWord) (rows : List Row) → wants_value o ≡ false → has_row (name_of o) rows ≡ false → used (made o) [] rows ≡ rows ++ use_row (flag o) ∷ []
   row_flag Print rows w e = fresh_row (codes "print") AsWritten CommandLine (codes "true" ∷ []) rows e
   row_flag Workers rows w e = absurd (cc)
   row_flag Graph rows w e = absurd (cc)
+  row_flag Live rows w e = fresh_row (codes "live") AsWritten CommandLine (codes "true" ∷ []) rows e
 
   pub use_settled : (u : Use) (h : Held) → Knows rules (option_of u) → Fits u → has_row (name_of (option_of u)) (rows_at h) ≡ false
       → rows_at (held_after u h) ≡ rows_at h ++ use_row u ∷ []
@@ -165,6 +171,7 @@ rules_made [] = refl
 rules_made (Print ∷ os) = ap (λ t. made Print ∷ t) (rules_made os)
 rules_made (Workers ∷ os) = ap (λ t. made Workers ∷ t) (rules_made os)
 rules_made (Graph ∷ os) = ap (λ t. made Graph ∷ t) (rules_made os)
+rules_made (Live ∷ os) = ap (λ t. made Live ∷ t) (rules_made os)
 
 -- a command that has the option knows it
 knows_made : (o : OptionWord) (os : List OptionWord) → has_option o os ≡ true → Knows (map made os ++ made_help ∷ []) o
@@ -172,12 +179,19 @@ knows_made o [] e = absurd (cc)
 knows_made Print (Print ∷ os) e = record { long = refl; id = refl }
 knows_made Print (Workers ∷ os) e = let k = knows_made Print os e in record { long = k.long; id = k.id }
 knows_made Print (Graph ∷ os) e = let k = knows_made Print os e in record { long = k.long; id = k.id }
+knows_made Print (Live ∷ os) e = let k = knows_made Print os e in record { long = k.long; id = k.id }
 knows_made Workers (Print ∷ os) e = let k = knows_made Workers os e in record { long = k.long; id = k.id }
 knows_made Workers (Workers ∷ os) e = record { long = refl; id = refl }
 knows_made Workers (Graph ∷ os) e = let k = knows_made Workers os e in record { long = k.long; id = k.id }
+knows_made Workers (Live ∷ os) e = let k = knows_made Workers os e in record { long = k.long; id = k.id }
 knows_made Graph (Print ∷ os) e = let k = knows_made Graph os e in record { long = k.long; id = k.id }
 knows_made Graph (Workers ∷ os) e = let k = knows_made Graph os e in record { long = k.long; id = k.id }
 knows_made Graph (Graph ∷ os) e = record { long = refl; id = refl }
+knows_made Graph (Live ∷ os) e = let k = knows_made Graph os e in record { long = k.long; id = k.id }
+knows_made Live (Print ∷ os) e = let k = knows_made Live os e in record { long = k.long; id = k.id }
+knows_made Live (Workers ∷ os) e = let k = knows_made Live os e in record { long = k.long; id = k.id }
+knows_made Live (Graph ∷ os) e = let k = knows_made Live os e in record { long = k.long; id = k.id }
+knows_made Live (Live ∷ os) e = record { long = refl; id = refl }
 
 pub knows_all : (o : OptionWord) (os : List OptionWord) → has_option o os ≡ true → Knows (rules_for os) o
 knows_all o os e = subst (λ rules. Knows rules o) (sym (rules_made os)) (knows_made o os e)
@@ -207,6 +221,7 @@ one_ended : (o : OptionWord) (rows : List Row) → with_default rows (made o) �
 one_ended Print rows = missing_added Print rows (has_row (codes "print") rows) refl
 one_ended Workers rows = same_both (has_row (codes "workers") rows) rows
 one_ended Graph rows = same_both (has_row (codes "graph") rows) rows
+one_ended Live rows = missing_added Live rows (has_row (codes "live") rows) refl
 
 all_ended : (os : List OptionWord) (rows : List Row) → fold with_default rows (map made os ++ made_help ∷ []) ≡ ended os rows
 all_ended [] rows = same_both (has_row (codes "help") rows) rows

@@ -14,7 +14,7 @@ use Rattle.armus_words.specs.declared.table.TheConstants.{MAX_WORKERS, DEFAULT_W
 -- the first word of a command
 abbrev pub first_of : Command → FirstWord
 first_of (Check print) = first.Check
-first_of (Run workers graph) = first.Run
+first_of (Run workers graph live) = first.Run
 first_of (Avoid workers graph) = first.Avoid
 first_of (Record workers) = first.Record
 first_of Replay = first.Replay
@@ -39,6 +39,7 @@ pub record Given : Type 0 where
   pub print : Bool
   pub workers : Option Text
   pub graph : Option Text
+  pub live : Bool
   pub alone : Option Text
 
 -- what uses and a value that stands by itself give
@@ -47,6 +48,7 @@ given_by uses alone = record {
   print = is_used option.Print uses;
   workers = value_of option.Workers uses;
   graph = value_of option.Graph uses;
+  live = is_used option.Live uses;
   alone = alone;
 }
 
@@ -68,7 +70,7 @@ IsGenerated None count = ⊥
 -- what is given is what the command says
 abbrev pub Reads : Command → Given → Type 0
 Reads (Check print) given = print ≡ given.print
-Reads (Run workers graph) given = AreWorkers given.workers workers × IsGraph given.graph graph
+Reads (Run workers graph live) given = AreWorkers given.workers workers × IsGraph given.graph graph × (live ≡ given.live)
 Reads (Avoid workers graph) given = AreWorkers given.workers workers × IsGraph given.graph graph
 Reads (Record workers) given = AreWorkers given.workers workers
 Reads Replay given = Unit {0}

@@ -1,4 +1,3 @@
 pub mod Words
 pub mod Commands
-pub mod Form
-pub mod Rules
+pub mod inside

@@ -5,8 +5,8 @@ use Rattle.std.specs.Str.{bytes_eq}
 use Rattle.armus_words.specs.declared.table.FirstWord.{FirstWord}
 use Rattle.armus_words.specs.declared.table.FirstWord.TheVariants.{Check, Run, Avoid, Record, Replay, Gen}
 use Rattle.armus_words.specs.declared.table.OptionWord.{OptionWord}
-use Rattle.armus_words.specs.declared.table.OptionWord.TheVariants.{Print, Workers, Graph}
-use Rattle.armus_words.specs.declared.table.TheConstants.{CHECK, RUN, AVOID, RECORD, REPLAY, GEN, PRINT, WORKERS, GRAPH, MAX_VALUE_BYTES}
+use Rattle.armus_words.specs.declared.table.OptionWord.TheVariants.{Print, Workers, Graph, Live}
+use Rattle.armus_words.specs.declared.table.TheConstants.{CHECK, RUN, AVOID, RECORD, REPLAY, GEN, PRINT, WORKERS, GRAPH, LIVE, MAX_VALUE_BYTES}
 
 -- a text is the list of its bytes
 abbrev pub Text : Type 0
@@ -26,7 +26,7 @@ first_word Gen = GEN.now
 -- the options of a command
 abbrev pub options_of : FirstWord → List OptionWord
 options_of Check = Print ∷ []
-options_of Run = Workers ∷ Graph ∷ []
+options_of Run = Workers ∷ Graph ∷ Live ∷ []
 options_of Avoid = Workers ∷ Graph ∷ []
 options_of Record = Workers ∷ []
 options_of Replay = []
@@ -34,19 +34,26 @@ options_of Gen = []
 
 -- a value stands by itself after the command's options
 abbrev pub has_value_alone : FirstWord → Bool
+has_value_alone Check = false
+has_value_alone Run = false
+has_value_alone Avoid = false
+has_value_alone Record = false
+has_value_alone Replay = false
 has_value_alone Gen = true
-has_value_alone _ = false
 
 -- the name of an option, without its two hyphens
 abbrev pub name_of : OptionWord → Text
 name_of Print = PRINT.now
 name_of Workers = WORKERS.now
 name_of Graph = GRAPH.now
+name_of Live = LIVE.now
 
 -- the option wants a value
 abbrev pub wants_value : OptionWord → Bool
 wants_value Print = false
-wants_value _ = true
+wants_value Workers = true
+wants_value Graph = true
+wants_value Live = false
 
 -- ---- the rule
 

@@ -18,8 +18,12 @@ pub enum Graph {
 pub enum Command {
     /// Checks a text and counts its tasks, phasers and ops, or prints it.
     Check { print: bool },
-    /// Runs a text and reports its final state.
-    Run { workers: u8, graph: Graph },
+    /// Runs a text and reports its final state; live, with a line for each dead task as soon as it is found.
+    Run {
+        workers: u8,
+        graph: Graph,
+        live: bool,
+    },
     /// Runs a text without deadlock, where awaits are refused instead, and reports its final state.
     Avoid { workers: u8, graph: Graph },
     /// Runs a text and writes it with the schedule of the run.

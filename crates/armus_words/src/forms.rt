@@ -3,7 +3,7 @@ ghost use Rattle.std.specs.Prelude.{◌≡◌, List, Option, Some, IfSome, map, 
 ghost use Rattle.std.specs.List.{list_all};
 ghost use Rattle.std.specs.Str.{bytes_eq};
 ghost use Rattle.armus_words.specs.Words.{AreWords, Text, Use, dashed, is_value_byte};
-ghost use Rattle.armus_words.specs.Form.{first_named, fits, free_at, is_free, is_value, option_named, taken_off};
+ghost use Rattle.armus_words.specs.inside.Form.{first_named, fits, free_at, is_free, is_value, option_named, taken_off};
 ghost use Rattle.armus_words.specs.declared.table.FirstWord.{FirstWord};
 
 use crate::table::{FIRST_WORDS, FirstWord, MAX_VALUE_BYTES, OPTION_WORDS, OptionWord};
@@ -14,6 +14,7 @@ pub struct Free {
     pub print: bool,
     pub workers: bool,
     pub graph: bool,
+    pub live: bool,
 }
 
 // The option may still be used.
@@ -24,6 +25,7 @@ fn has(free: Free, option: OptionWord) -> bool
         OptionWord::Print => free.print,
         OptionWord::Workers => free.workers,
         OptionWord::Graph => free.graph,
+        OptionWord::Live => free.live,
     }
 }
 
@@ -35,22 +37,32 @@ fn take_off(free: Free, option: OptionWord) -> Free
         print,
         workers,
         graph,
+        live,
     } = free;
     match option {
         OptionWord::Print => Free {
             print: false,
             workers,
             graph,
+            live,
         },
         OptionWord::Workers => Free {
             print,
             workers: false,
             graph,
+            live,
         },
         OptionWord::Graph => Free {
             print,
             workers,
             graph: false,
+            live,
+        },
+        OptionWord::Live => Free {
+            print,
+            workers,
+            graph,
+            live: false,
         },
     }
 }
@@ -61,7 +73,7 @@ fn is_plain(text: &str) -> bool
 {
     text.as_bytes()
         .iter()
-        .all(|b| (97 <= *b && *b <= 122) || (48 <= *b && *b <= 57))
+        .all(|b| (b'a' <= *b && *b <= b'z') || (b'0' <= *b && *b <= b'9'))
 }
 
 // Lower-case letters or digits, at least one and no more than a value has.
@@ -133,27 +145,18 @@ fn fit(words: &[String], waits: bool, free: Free, alone: bool) -> bool
 fn options_at(first: FirstWord) -> Free
     ensures { result ≡ free_at first }
 {
-    match first {
-        FirstWord::Check => Free {
-            print: true,
-            workers: false,
-            graph: false,
-        },
-        FirstWord::Run | FirstWord::Avoid => Free {
-            print: false,
-            workers: true,
-            graph: true,
-        },
-        FirstWord::Record => Free {
-            print: false,
-            workers: true,
-            graph: false,
-        },
-        FirstWord::Replay | FirstWord::Gen => Free {
-            print: false,
-            workers: false,
-            graph: false,
-        },
+    let (print, workers, graph, live) = match first {
+        FirstWord::Check => (true, false, false, false),
+        FirstWord::Run => (false, true, true, true),
+        FirstWord::Avoid => (false, true, true, false),
+        FirstWord::Record => (false, true, false, false),
+        FirstWord::Replay | FirstWord::Gen => (false, false, false, false),
+    };
+    Free {
+        print,
+        workers,
+        graph,
+        live,
     }
 }
 

@@ -1,7 +1,7 @@
 // The command that the words mean.
 ghost use Rattle.std.specs.Prelude.{◌≡◌, ℕ, IfOk, IfSome, IfNone, map, option_map, string_bytes};
 ghost use Rattle.armus_words.specs.Commands.{AreWorkers, IsGenerated, IsGraph, Means, Reads, first_of};
-ghost use Rattle.armus_words.specs.Rules.{given_of};
+ghost use Rattle.armus_words.specs.inside.Rules.{given_of};
 ghost use Rattle.armus_words.specs.declared.command.Command.{Command};
 ghost use Rattle.armus_words.specs.declared.command.Graph.{Graph};
 
@@ -58,7 +58,11 @@ fn command_of(first: FirstWord, values: &Values<'_>) -> Option<Command>
         FirstWord::Run => {
             let workers = workers_in(values.workers)?;
             let graph = wanted_in(values.graph)?;
-            Some(Command::Run { workers, graph })
+            Some(Command::Run {
+                workers,
+                graph,
+                live: values.live,
+            })
         }
         FirstWord::Avoid => {
             let workers = workers_in(values.workers)?;

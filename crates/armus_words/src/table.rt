@@ -41,6 +41,9 @@ pub const WORKERS: &str = "workers";
 /// The name of the option for the graph.
 pub const GRAPH: &str = "graph";
 
+/// The name of the option that tells of dead tasks while others go on.
+pub const LIVE: &str = "live";
+
 /// The name under which `clap` keeps a value that stands by itself.
 pub const ALONE: &str = "count";
 
@@ -55,10 +58,11 @@ pub const FIRST_WORDS: [FirstWord; 6] = [
 ];
 
 /// All options.
-pub const OPTION_WORDS: [OptionWord; 3] = [
+pub const OPTION_WORDS: [OptionWord; 4] = [
     OptionWord::Print,
     OptionWord::Workers,
     OptionWord::Graph,
+    OptionWord::Live,
 ];
 
 /// The first word of a command.
@@ -108,6 +112,7 @@ pub enum OptionWord {
     Print,
     Workers,
     Graph,
+    Live,
 }
 
 impl OptionWord {
@@ -119,6 +124,7 @@ impl OptionWord {
             OptionWord::Print => PRINT,
             OptionWord::Workers => WORKERS,
             OptionWord::Graph => GRAPH,
+            OptionWord::Live => LIVE,
         }
     }
 
@@ -127,7 +133,7 @@ impl OptionWord {
         ensures { result ≡ wants_value self }
     {
         match self {
-            OptionWord::Print => false,
+            OptionWord::Print | OptionWord::Live => false,
             OptionWord::Workers | OptionWord::Graph => true,
         }
     }

@@ -12,7 +12,19 @@ fn words(alloc: Global, texts: &[&str]) -> Result<Vec<String>, AllocError> {
 }
 
 fn run(workers: u8, graph: Graph) -> Option<Command> {
-    Some(Command::Run { workers, graph })
+    Some(Command::Run {
+        workers,
+        graph,
+        live: false,
+    })
+}
+
+fn live(workers: u8, graph: Graph) -> Option<Command> {
+    Some(Command::Run {
+        workers,
+        graph,
+        live: true,
+    })
 }
 
 fn avoid(workers: u8, graph: Graph) -> Option<Command> {
@@ -34,7 +46,7 @@ fn generate(count: u16) -> Option<Command> {
 #[test]
 fn words_and_their_commands(rt: HostRuntime) -> Result<(), Fail> {
     let alloc = rt.alloc();
-    let rows: [(&[&str], Option<Command>); 49] = [
+    let rows: [(&[&str], Option<Command>); 55] = [
         (&["check"], check(false)),
         (&["check", "--print"], check(true)),
         (&["run"], run(4, Graph::Auto)),
@@ -76,7 +88,16 @@ fn words_and_their_commands(rt: HostRuntime) -> Result<(), Fail> {
         (&["run", "3"], None),
         (&["run", "run"], None),
         (&["run", "--print"], None),
-        (&["run", "--live"], None),
+        (&["run", "--live"], live(4, Graph::Auto)),
+        (
+            &["run", "--graph", "sg", "--live", "--workers", "2"],
+            live(2, Graph::Sg),
+        ),
+        (&["run", "--live", "--live"], None),
+        (&["run", "--live", "2"], None),
+        (&["run", "--live=2"], None),
+        (&["avoid", "--live"], None),
+        (&["record", "--live"], None),
         (&["run", "--graph", "sga"], None),
         (&["run", "--workers", "3", "--workers", "3"], None),
         (&["check", "--print", "--print"], None),

@@ -3,9 +3,9 @@ ghost use Rattle.std.specs.Prelude.{◌≡◌, IfOk, IfErr, List, Option, false,
 ghost use Rattle.clap.specs.Words.{app_of, kind_of, rule_of};
 ghost use Rattle.armus_words.specs.Words.{AreWords, Text, Use};
 ghost use Rattle.armus_words.specs.Commands.{given_by};
-ghost use Rattle.armus_words.specs.Rules.{app_for, given_of, rule_for};
+ghost use Rattle.armus_words.specs.inside.Rules.{app_for, given_of, rule_for};
 
-use crate::table::{ALONE, FirstWord, GRAPH, OptionWord, PRINT, WORKERS};
+use crate::table::{ALONE, FirstWord, GRAPH, LIVE, OptionWord, PRINT, WORKERS};
 use clap::error::ErrorKind;
 use clap::{Arg, ArgAction, Command, Error};
 use std::alloc::{AllocError, Global};
@@ -16,6 +16,7 @@ pub struct Values<'a> {
     pub print: bool,
     pub workers: Option<&'a str>,
     pub graph: Option<&'a str>,
+    pub live: bool,
     pub alone: Option<&'a str>,
 }
 
@@ -41,7 +42,11 @@ fn command_for<'a>(alloc: Global, first: FirstWord) -> Result<Command<'a>, Alloc
     let command = Command::new(alloc, word);
     match first {
         FirstWord::Check => command.arg(arg_for(alloc, OptionWord::Print)),
-        FirstWord::Run | FirstWord::Avoid => command
+        FirstWord::Run => command
+            .arg(arg_for(alloc, OptionWord::Workers))?
+            .arg(arg_for(alloc, OptionWord::Graph))?
+            .arg(arg_for(alloc, OptionWord::Live)),
+        FirstWord::Avoid => command
             .arg(arg_for(alloc, OptionWord::Workers))?
             .arg(arg_for(alloc, OptionWord::Graph)),
         FirstWord::Record => command.arg(arg_for(alloc, OptionWord::Workers)),
@@ -70,6 +75,7 @@ pub fn values_in<'a>(
             print: matches.get_flag(PRINT),
             workers: matches.get_str(WORKERS),
             graph: matches.get_str(GRAPH),
+            live: matches.get_flag(LIVE),
             alone: matches.get_str(ALONE),
         }),
         Err(error) => Err(error),

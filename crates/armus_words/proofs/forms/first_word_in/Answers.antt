@@ -2,7 +2,7 @@ use Rattle.std.proofs.Common.{◌≡◌, ◌∙◌, ◌≤◌, length, Bool, tru
 use Rattle.std.specs.Prelude.{Option, Some}
 use Rattle.std.proofs.lemmas.List.{take_rest}
 use Rattle.armus_words.specs.Words.{Text, Use, AreWords, has_value_alone}
-use Rattle.armus_words.specs.Form.{first_named, fits, free_at}
+use Rattle.armus_words.specs.inside.Form.{first_named, fits, free_at}
 use Rattle.armus_words.specs.declared.forms.Free.{Free}
 use Rattle.armus_words.specs.declared.table.FirstWord.{FirstWord}
 use Rattle.armus_words.proofs.FormLemmas.{form_fits, form_from}

@@ -7,7 +7,7 @@ use Rattle.armus_words.specs.Words.{Text, dashed, first_word, has_option, is_val
 use Rattle.armus_words.specs.declared.forms.Free.{Free}
 use Rattle.armus_words.specs.declared.table.FirstWord.{FirstWord}
 use Rattle.armus_words.specs.declared.table.OptionWord.{OptionWord}
-use Rattle.armus_words.specs.declared.table.OptionWord.TheVariants.{Print, Workers, Graph}
+use Rattle.armus_words.specs.declared.table.OptionWord.TheVariants.{Print, Workers, Graph, Live}
 use Rattle.armus_words.specs.declared.table.TheConstants.{FIRST_WORDS, MAX_VALUE_BYTES, OPTION_WORDS}
 
 -- the test of a value
@@ -27,12 +27,14 @@ abbrev pub is_free : Free → OptionWord → Bool
 is_free f Print = f.print
 is_free f Workers = f.workers
 is_free f Graph = f.graph
+is_free f Live = f.live
 
 -- the free options without this one
 abbrev pub taken_off : Free → OptionWord → Free
 taken_off f Print = record f { print = false }
 taken_off f Workers = record f { workers = false }
 taken_off f Graph = record f { graph = false }
+taken_off f Live = record f { live = false }
 
 -- the options of a command
 abbrev pub free_at : FirstWord → Free
@@ -40,6 +42,7 @@ free_at f = record {
   print = has_option Print (options_of f);
   workers = has_option Workers (options_of f);
   graph = has_option Graph (options_of f);
+  live = has_option Live (options_of f);
 }
 
 -- the words are values that are waited for, uses of free options, and the value that stands by itself

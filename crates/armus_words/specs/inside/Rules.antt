@@ -28,5 +28,6 @@ given_of v = record {
   print = v.print;
   workers = option_map (λ s. s.now) v.workers;
   graph = option_map (λ s. s.now) v.graph;
+  live = v.live;
   alone = option_map (λ s. s.now) v.alone;
 }
