@@ -14,7 +14,7 @@ use Rattle.armus_top.specs.declared.programs.InputEnd.TheVariants.{Refused, NoMe
 use Rattle.armus_top.specs.Programs.{IsEnd}
 use Rattle.armus_top.specs.Commands.{IsAnswered, IsRefused, limit_of, length_line, wanted_of}
 use Rattle.armus_top.specs.Headline.{Ends, GaveTooMuch, HasInput, IsSound, Passage, no_memory}
-use Rattle.armus_top.specs.Writing.{Answered, Finished, Refuses, TellsEnd, wrote, nothing}
+use Rattle.armus_top.specs.inside.Writing.{Answered, Finished, Refuses, TellsEnd, nothing, part, wrote}
 use Rattle.armus_top.proofs.Ending.{by_finish}
 
 -- an answer with this status and text was written
@@ -29,6 +29,7 @@ ends_with_input : (c : Command) (src out : Passage) (input : Text) (number : ℕ
     → Ends (Some c) src out number
 ends_with_input c src out input number has (wrote status text answers done) still = by_finish (Some c) src out text status number done (inl (input, has, answers)) still
 ends_with_input c src out input number has (nothing six sound kept) still = no_memory six still sound (inl kept)
+ends_with_input c src out input number has (part status text answers six sound front) still = no_memory six still sound (inr (status, text, inl (input, has, answers), front))
 
 -- a command that had this input
 pub ends_by_answer : (c : Command) (src out : Passage) (input shown : Text) (number : ℕ) → shown ≡ input → HasInput (limit_of c) src input

@@ -9,7 +9,7 @@ use Rattle.armus_base.specs.Causes.{Rose, counted}
 use Rattle.armus_top.specs.Commands.{limit_of, IsRefused}
 use Rattle.armus_top.proofs.Inputs.{answered_small, never_both}
 use Rattle.armus_top.specs.Texts.{Text}
-use Rattle.armus_top.specs.Writing.{Finished}
+use Rattle.armus_top.specs.inside.Writing.{Finished}
 use Rattle.armus_top.specs.Headline.{Passage, Completes, Ends, GaveTooMuch, IsAccepted, HasInput, IsCall, IsCalm, IsServed, IsSound, Offers, OffersTooMuch, Permits, whole, read_fault, write_fault, no_memory}
 use Rattle.armus_words.specs.declared.command.Command.{Command}
 

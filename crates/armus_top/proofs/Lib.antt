@@ -9,5 +9,11 @@ pub mod Reporting
 pub mod SerialEnds
 pub mod RecordedTexts
 pub mod RecordsReplay
+pub mod WholeOutputs
+pub mod RunsMet
+pub mod RecordsMet
+pub mod ReplaysMet
+pub mod GeneratedMet
 pub mod InputsMet
 pub mod CallsMet
+pub mod LiveRuns

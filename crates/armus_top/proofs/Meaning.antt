@@ -2,13 +2,14 @@
 use Rattle.std.proofs.Common.{◌≡◌, ◌∙◌, List, ap, sym, subst, arith, false}
 use Rattle.std.specs.Prelude.{ℕ, ◌∷◌, Option, Some, None}
 use Rattle.armus_words.specs.Commands.{AreWorkers, IsCommand, first_of}
-use Rattle.armus_words.specs.Form.{first_named}
+use Rattle.armus_words.specs.inside.Form.{first_named}
 use Rattle.armus_words.proofs.Meaning.{first_is, one_meaning}
 use Rattle.armus_words.specs.declared.command.Command.{Command}
 use Rattle.armus_words.specs.declared.command.Command.TheVariants.{Check, Run, Avoid, Record, Replay, Gen}
 use Rattle.armus_words.specs.declared.table.FirstWord.TheVariants as first
 use Rattle.armus_top.specs.Texts.{Text}
-use Rattle.armus_top.specs.Meanings.{BeginsRecord, MayWork, Means, MeansJournal, MeansPlain}
+use Rattle.armus_top.specs.Meanings.{BeginsRecord, Means}
+use Rattle.armus_top.specs.inside.Serving.{MayWork, MeansJournal, MeansPlain}
 use Rattle.armus_top.specs.Headline.{Ends, IsCall, Passage, Serves, reads_input}
 
 pub serves_by : (words : List Text) (src out : Passage) (number : ℕ) (meaning : Option Command) → Means words meaning → Ends meaning src out number
@@ -32,7 +33,7 @@ workers_may None workers is = (omega (arith, is), omega (arith, is))
 -- words that do not begin with `record` mean a command that waits for no thread, or none
 pub means_plain : (words : List Text) (meaning : Option Command) → Means words meaning → (BeginsRecord words → ⊥) → MeansPlain meaning
 means_plain words (Some (Check print)) is other = tt
-means_plain words (Some (Run workers graph)) is other = workers_may _ workers is.values.0
+means_plain words (Some (Run workers graph live)) is other = workers_may _ workers is.values.0
 means_plain words (Some (Avoid workers graph)) is other = workers_may _ workers is.values.0
 means_plain words (Some (Record workers)) is other = absurd (other (_, is.form.words_are))
 means_plain words (Some Replay) is other = tt
@@ -50,7 +51,7 @@ first_is_record c words is begins =
 -- words that begin with `record` mean it, or no command
 pub means_journal : (words : List Text) (meaning : Option Command) → Means words meaning → BeginsRecord words → MeansJournal meaning
 means_journal words (Some (Check print)) is begins = absurd (let e = first_is_record (Check print) words is begins in cc)
-means_journal words (Some (Run workers graph)) is begins = absurd (let e = first_is_record (Run workers graph) words is begins in cc)
+means_journal words (Some (Run workers graph live)) is begins = absurd (let e = first_is_record (Run workers graph live) words is begins in cc)
 means_journal words (Some (Avoid workers graph)) is begins = absurd (let e = first_is_record (Avoid workers graph) words is begins in cc)
 means_journal words (Some (Record workers)) is begins = workers_may _ workers is.values
 means_journal words (Some Replay) is begins = absurd (let e = first_is_record Replay words is begins in cc)

@@ -12,7 +12,8 @@ use Rattle.adaptive.specs.declared.analysis.Used.{Used}
 use Rattle.schedule.specs.Lines.{HasNoEnd, IsCut, IsFirstLine, a_line, ended, unended}
 use Rattle.schedule.proofs.OneSchedule.{no_end_inside}
 use Rattle.armus_top.specs.Texts.{Text, line}
-use Rattle.armus_top.specs.Generated.{HasTwoLines, IsFirstAndLast}
+use Rattle.armus_top.specs.Generated.{IsFirstAndLast}
+use Rattle.armus_top.specs.inside.TwoLines.{HasTwoLines}
 
 -- what is put together of a line, more bytes and a line has two lines
 joined : (a b y g : Text) → line a ++ b ++ y ++ line g ≡ line (a ++ 10 ∷ (b ++ y ++ g))

@@ -19,14 +19,14 @@ use Rattle.armus_top.specs.Avoids.{IsAvoidOf}
 use Rattle.armus_top.specs.Generated.{IsGenOf}
 use Rattle.armus_top.specs.Records.{IsRecordOf}
 use Rattle.armus_top.specs.Replays.{IsReplayOf, IsReplayRefused}
-use Rattle.armus_top.specs.Runs.{IsRunOf}
+use Rattle.armus_top.specs.Runs.{IsLiveRunOf, IsRunOf}
 use Rattle.armus_top.specs.declared.programs.TheConstants.{MAX_TEXT_BYTES}
 use Rattle.armus_top.specs.declared.replaying.TheConstants.{MAX_REPLAY_BYTES}
 
 -- the most bytes of an input, where the command reads one
 abbrev pub limit_of : Command → Option ℕ
 limit_of (Check print) = Some MAX_TEXT_BYTES
-limit_of (Run workers g) = Some MAX_TEXT_BYTES
+limit_of (Run workers g live) = Some MAX_TEXT_BYTES
 limit_of (Avoid workers g) = Some MAX_TEXT_BYTES
 limit_of (Record workers) = Some MAX_TEXT_BYTES
 limit_of Replay = Some MAX_REPLAY_BYTES
@@ -38,9 +38,12 @@ length_line c = refusal_text refusal.Length
 
 -- why the command refuses this input; one that reads nothing refuses nothing
 abbrev pub IsCause : Command → Text → Refusal → Type 0
+IsCause (Check print) input why = IsFaultOf input why
+IsCause (Run workers g live) input why = IsFaultOf input why
+IsCause (Avoid workers g) input why = IsFaultOf input why
+IsCause (Record workers) input why = IsFaultOf input why
 IsCause Replay input why = IsReplayRefused input why
 IsCause (Gen count) input why = ⊥
-IsCause _ input why = IsFaultOf input why
 
 -- the command refuses this input, with this line
 abbrev pub IsRefused : Command → Text → Text → Type 0
@@ -57,7 +60,8 @@ wanted_of graph.Grg = wanted.Grg
 abbrev pub IsAnswered : Command → Text → ℕ → Text → Type 0
 IsAnswered (Check false) input status text = (plan : Plan) × IsPlanOf input plan × (status ≡ 0) × (text ≡ plan_line plan)
 IsAnswered (Check true) input status text = (plan : Plan) × (program : Tree) × IsChecked input program plan × (status ≡ 0) × (text ≡ printed_of program)
-IsAnswered (Run workers g) input status text = IsRunOf input (wanted_of g) status text
+IsAnswered (Run workers g false) input status text = IsRunOf input (wanted_of g) status text
+IsAnswered (Run workers g true) input status text = IsLiveRunOf input (wanted_of g) status text
 IsAnswered (Avoid workers g) input status text = IsAvoidOf input (wanted_of g) status text
 IsAnswered (Record workers) input status text = IsRecordOf input status text
 IsAnswered Replay input status text = IsReplayOf input status text

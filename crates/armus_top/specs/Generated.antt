@@ -6,10 +6,6 @@ use Rattle.schedule.specs.Lines.{IsCut}
 use Rattle.armus_top.specs.Texts.{Text, line}
 use Rattle.armus_top.specs.Runs.{IsRunOf}
 
--- the text has an LF, and more behind it, which ends with LF
-abbrev pub HasTwoLines : Text → Type 0
-HasTwoLines text = (front : Text) × (back : Text) × (text ≡ line (front ++ 10 ∷ back))
-
 -- the text is the first and the last line of the report
 pub record IsFirstAndLast (report text : Text) : Type 0 where
   pub first : Text

@@ -10,6 +10,4 @@ pub mod Commands
 pub mod Headline
 pub mod Replayable
 pub mod Inputs
-pub mod Reading
-pub mod Status
-pub mod Writing
+pub mod inside

@@ -1,39 +1,9 @@
--- What the words mean to the program: a command, or none; and which commands wait for threads.
-use Rattle.std.specs.Prelude.{◌≡◌, ◌≤◌, ◌∷◌, ℕ, List, Option, Some, None}
-use Rattle.armus_words.specs.declared.command.Command.{Command}
-use Rattle.armus_words.specs.declared.command.Command.TheVariants.{Check, Run, Avoid, Record, Replay, Gen}
-use Rattle.armus_words.specs.declared.table.TheConstants.{MAX_WORKERS, RECORD}
+-- What the words mean to the program: a command, or none; and which one waits for threads.
+use Rattle.std.specs.Prelude.{◌≡◌, ◌∷◌, List}
+use Rattle.armus_words.specs.declared.table.TheConstants.{RECORD}
 use Rattle.armus_top.specs.Texts.{Text}
 pub use Rattle.armus_words.specs.Commands.{Means, OneMeaning}
 
 -- the first word is `record`
 abbrev pub BeginsRecord : List Text → Type 0
 BeginsRecord words = (rest : List Text) × (words ≡ RECORD.now ∷ rest)
-
--- a number of workers that a run may have
-abbrev pub MayWork : ℕ → Type 0
-MayWork workers = (1 ≤ workers) × (workers ≤ MAX_WORKERS)
-
--- the command waits for no thread, and a run of it may have its workers
-abbrev pub IsPlain : Command → Type 0
-IsPlain (Check print) = Unit {0}
-IsPlain (Run workers g) = MayWork workers
-IsPlain (Avoid workers g) = MayWork workers
-IsPlain (Record workers) = ⊥
-IsPlain Replay = Unit {0}
-IsPlain (Gen count) = Unit {0}
-
--- the command is `record`, the one that waits for threads, and a run of it may have its workers
-abbrev pub IsJournal : Command → Type 0
-IsJournal (Record workers) = MayWork workers
-IsJournal _ = ⊥
-
--- words mean such a command that waits for no thread, or none
-abbrev pub MeansPlain : Option Command → Type 0
-MeansPlain (Some c) = IsPlain c
-MeansPlain None = Unit {0}
-
--- words mean `record`, or no command
-abbrev pub MeansJournal : Option Command → Type 0
-MeansJournal (Some c) = IsJournal c
-MeansJournal None = Unit {0}

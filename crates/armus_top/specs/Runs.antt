@@ -1,10 +1,13 @@
--- What `run` reports.
-use Rattle.std.specs.Prelude.{◌≡◌, ℕ, List}
+-- What `run` writes.
+use Rattle.std.specs.Prelude.{◌≡◌, ◌++◌, ℕ, List}
+use Rattle.armus_base.specs.declared.status.Dead.{Dead}
 use Rattle.armus_base.specs.Finals.{final_of}
 use Rattle.armus_base.specs.Plans.{Plan}
 use Rattle.armus_base.specs.Runs.{IsFinal, IsMaximal, IsPlainRun, state_after}
 use Rattle.armus_base.specs.States.{State, Step}
 use Rattle.adaptive.specs.declared.analysis.Wanted.{Wanted}
+use Rattle.report.specs.Live.{live_text}
+use Rattle.report.specs.NamedDead.{AreTheDead}
 use Rattle.report.specs.Reports.{IsReport}
 use Rattle.armus_top.specs.Texts.{Text}
 use Rattle.armus_top.specs.Programs.{IsPlanOf, TellsDead}
@@ -18,3 +21,11 @@ pub record IsRunOf (text : Text) (g : Wanted) (status : ℕ) (report : Text) : T
   pub every : (h : List Step) → IsPlainRun plan h → IsMaximal plan h → state_after h ≡ state
   pub status_is : TellsDead state status
   pub report_is : IsReport (final_of plan state) g report
+
+-- that report behind live lines: one for each task that is dead in the state, each once, in any order, each with its event
+pub record IsLiveRunOf (text : Text) (g : Wanted) (status : ℕ) (output : Text) : Type 0 where
+  pub report : Text
+  pub run : IsRunOf text g status report
+  pub named : List Dead
+  pub named_are : AreTheDead (final_of run.plan run.state).blocked named
+  pub output_is : output ≡ live_text named ++ report

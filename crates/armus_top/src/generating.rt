@@ -5,22 +5,28 @@ ghost use Rattle.gen_text.specs.Generated.{generated_text};
 ghost use Rattle.schedule.specs.Lines.{IsCut};
 ghost use Rattle.armus_top.specs.Texts.{line};
 ghost use Rattle.armus_top.specs.Runs.{IsRunOf};
-ghost use Rattle.armus_top.specs.Generated.{HasTwoLines, IsFirstAndLast};
+ghost use Rattle.armus_top.specs.Generated.{IsFirstAndLast};
+ghost use Rattle.armus_top.specs.inside.TwoLines.{HasTwoLines};
 ghost use Rattle.armus_top.specs.Headline.{passage};
-ghost use Rattle.armus_top.specs.Status.{code_of};
-ghost use Rattle.armus_top.specs.Writing.{Answered};
+ghost use Rattle.armus_top.specs.inside.Status.{code_of};
+ghost use Rattle.armus_top.specs.inside.Writing.{Answered};
 ghost use Rattle.armus_words.specs.declared.command.Command.TheVariants.{Gen};
 
 use crate::programs::{InputEnd, checked_in};
-use crate::reported::{Reported, status_of};
-use crate::running::run_and_report;
+use crate::reported::status_of;
 use crate::status::ExitStatus;
 use crate::writing::finish;
 use adaptive::Wanted;
 use armus_base::{Gate, List, NoMemory, Sink};
 use gen_text::gen_text;
+use report::{FinalReport, report_of};
 use schedule::first_line;
 use std::alloc::{AllocError, Global};
+use std::thread::Threads;
+use task_runner::{RunOptions, run_detect};
+
+// How many workers run a generated text.
+const GENERATED_WORKERS: u8 = 8;
 
 // The last line.
 fn last_line(bytes: &[u8]) -> &[u8]
@@ -64,28 +70,48 @@ fn first_and_last(alloc: Global, report: &[u8]) -> Result<List<u8>, NoMemory>
     two_lines(alloc, first, last)
 }
 
-// The run of the generated text.
-fn run_generated<G: Gate>(alloc: Global, count: u16, gate: &G) -> Result<Reported, InputEnd>
-    ensures run { IfOk result (λ r. IsRunOf (generated_text count) Wanted.Auto (if r.has_deadlock then 1 else 0) r.text) }
+// The report of the run of the generated text.
+fn run_generated<R: Threads + Sync, K: Sink, G: Gate>(
+    rt: &R,
+    alloc: Global,
+    count: u16,
+    out: &mut K,
+    gate: &G,
+) -> Result<FinalReport, InputEnd>
+    ensures run { IfOk result (λ r. IsRunOf (generated_text count) Wanted.Auto (if r.has_dead then 1 else 0) r.text) }
+    ensures unwritten { out.new ≡ out.old }
 {
     let text = gen_text(alloc, count)?;
     let checked = checked_in(alloc, text.as_slice())?;
-    let reported = run_and_report(alloc, &checked.plan, Wanted::Auto, gate)?;
-    Ok(reported)
+    let options = RunOptions {
+        workers: GENERATED_WORKERS,
+        wanted: Wanted::Auto,
+        live: false,
+    };
+    match run_detect(rt, alloc, &checked.plan, &options, gate, out) {
+        Ok(ran) => Ok(report_of(alloc, &ran.end, Wanted::Auto)?),
+        Err(_) => Err(InputEnd::NoMemory),
+    }
 }
 
 /// Writes the first and the last line of the report of the run of a generated text. That text is read, checked and run as one that a user gives.
 // That text is never refused, by the law `gen_is_accepted`, so the one end without an answer is want of memory.
-pub fn generate<K: Sink, G: Gate>(alloc: Global, count: u16, out: &mut K, gate: &G) -> ExitStatus
+pub fn generate<R: Threads + Sync, K: Sink, G: Gate>(
+    rt: &R,
+    alloc: Global,
+    count: u16,
+    out: &mut K,
+    gate: &G,
+) -> ExitStatus
     ensures done { Answered (Gen count) [] (passage K.taken K.faults out.old out.new) (code_of result) }
     ensures silent { code_of result ≢ 4 }
 {
-    let reported = match run_generated(alloc, count, gate) {
-        Ok(reported) => reported,
+    let report = match run_generated(rt, alloc, count, out, gate) {
+        Ok(report) => report,
         Err(_) => return ExitStatus::OutOfMemory,
     };
-    match first_and_last(alloc, reported.text.as_slice()) {
-        Ok(text) => finish(out, text.as_slice(), status_of(reported.has_deadlock)),
+    match first_and_last(alloc, report.text.as_slice()) {
+        Ok(text) => finish(out, text.as_slice(), status_of(report.has_dead)),
         Err(_) => ExitStatus::OutOfMemory,
     }
 }

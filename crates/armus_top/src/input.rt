@@ -1,8 +1,8 @@
 // Reading the input of a command.
 ghost use Rattle.std.specs.Prelude.{◌≡◌, IfErr, IfOk};
 ghost use Rattle.armus_top.specs.Headline.{passage};
-ghost use Rattle.armus_top.specs.Reading.{EndsUnread, IsRead};
-ghost use Rattle.armus_top.specs.Status.{code_of};
+ghost use Rattle.armus_top.specs.inside.Reading.{EndsUnread, IsRead};
+ghost use Rattle.armus_top.specs.inside.Status.{code_of};
 
 use crate::status::ExitStatus;
 use crate::writing::refuse;

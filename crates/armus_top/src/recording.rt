@@ -2,12 +2,12 @@
 ghost use Rattle.std.specs.Prelude.{◌≡◌, ◌≢◌, ◌≤◌, Some, IfOk, if◌then◌else◌, length};
 ghost use Rattle.armus_base.specs.CheckedPlans.{IsCheckedPlan};
 ghost use Rattle.armus_top.specs.Programs.{IsPlanOf};
-ghost use Rattle.armus_top.specs.Meanings.{MayWork};
+ghost use Rattle.armus_top.specs.inside.Serving.{MayWork};
 ghost use Rattle.armus_top.specs.Records.{IsRecordOf};
 ghost use Rattle.armus_top.specs.declared.programs.TheConstants.{MAX_TEXT_BYTES};
 ghost use Rattle.armus_top.specs.Headline.{Ends, passage};
-ghost use Rattle.armus_top.specs.Status.{code_of};
-ghost use Rattle.armus_top.specs.Writing.{Answered};
+ghost use Rattle.armus_top.specs.inside.Status.{code_of};
+ghost use Rattle.armus_top.specs.inside.Writing.{Answered};
 ghost use Rattle.armus_words.specs.declared.command.Command.TheVariants.{Record};
 
 use crate::input::input_of;

@@ -6,8 +6,8 @@ ghost use Rattle.armus_top.specs.Programs.{IsEnd};
 ghost use Rattle.armus_top.specs.Replays.{IsReplayFault, IsReplayedBy, IsShort};
 ghost use Rattle.armus_top.specs.declared.replaying.TheConstants.{MAX_REPLAY_BYTES};
 ghost use Rattle.armus_top.specs.Headline.{Ends, passage};
-ghost use Rattle.armus_top.specs.Status.{code_of};
-ghost use Rattle.armus_top.specs.Writing.{Answered};
+ghost use Rattle.armus_top.specs.inside.Status.{code_of};
+ghost use Rattle.armus_top.specs.inside.Writing.{Answered};
 ghost use Rattle.armus_words.specs.declared.command.Command.TheVariants.{Replay};
 
 use crate::input::input_of;

@@ -1,7 +1,7 @@
 // Reports, and the status that they give.
 ghost use Rattle.std.specs.Prelude.{◌≡◌, if◌then◌else◌};
 ghost use Rattle.armus_top.specs.Commands.{wanted_of};
-ghost use Rattle.armus_top.specs.Status.{code_of};
+ghost use Rattle.armus_top.specs.inside.Status.{code_of};
 
 use crate::status::ExitStatus;
 use adaptive::Wanted;

@@ -1,10 +1,10 @@
 // Serving a command.
 ghost use Rattle.std.specs.Prelude.{◌≡◌, ◌≢◌, Some, false};
-ghost use Rattle.armus_top.specs.Meanings.{IsJournal, IsPlain, MeansJournal, MeansPlain};
+ghost use Rattle.armus_top.specs.inside.Serving.{IsJournal, IsPlain, MeansJournal, MeansPlain};
 ghost use Rattle.armus_top.specs.Headline.{Ends, passage, reads_input};
-ghost use Rattle.armus_top.specs.Status.{code_of};
+ghost use Rattle.armus_top.specs.inside.Status.{code_of};
 ghost use Rattle.armus_top.specs.Texts.{usage_line};
-ghost use Rattle.armus_top.specs.Writing.{Finished};
+ghost use Rattle.armus_top.specs.inside.Writing.{Finished};
 
 use crate::avoiding::avoid;
 use crate::checking::check;
@@ -46,11 +46,15 @@ fn serve_plain<R: Threads + Sync, S: Source, K: Sink, G: Gate>(
 {
     match command {
         Command::Check { print } => check(alloc, print, src, out),
-        Command::Run { workers, graph } => run(alloc, workers, graph, src, out, gate),
+        Command::Run {
+            workers,
+            graph,
+            live,
+        } => run(rt, alloc, workers, graph, live, src, out, gate),
         Command::Avoid { workers, graph } => avoid(rt, alloc, workers, graph, src, out, gate),
         Command::Record { .. } => unreachable!(),
         Command::Replay => replay(alloc, src, out),
-        Command::Gen { count } => generate(alloc, count, out, gate),
+        Command::Gen { count } => generate(rt, alloc, count, out, gate),
     }
 }
 

@@ -4,7 +4,7 @@ ghost use Rattle.std.specs.Str.{bytes_eq};
 ghost use Rattle.armus_words.specs.declared.table.TheConstants.{RECORD};
 ghost use Rattle.armus_top.specs.Meanings.{BeginsRecord};
 ghost use Rattle.armus_top.specs.Replayable.{WritesReplayable};
-ghost use Rattle.armus_top.specs.Status.{code_of};
+ghost use Rattle.armus_top.specs.inside.Status.{code_of};
 ghost use Rattle.armus_top.specs.Headline.{IsCall, IsServed, passage};
 
 use crate::serving::{serve, serve_journal};

@@ -2,8 +2,8 @@
 ghost use Rattle.std.specs.Prelude.{◌≡◌, ◌⊎◌};
 ghost use Rattle.std.specs.Io.KnownBytes.{Keeps};
 ghost use Rattle.armus_top.specs.Headline.{IsSound, passage};
-ghost use Rattle.armus_top.specs.Status.{code_of};
-ghost use Rattle.armus_top.specs.Writing.{Finished, Refuses, TellsEnd};
+ghost use Rattle.armus_top.specs.inside.Status.{code_of};
+ghost use Rattle.armus_top.specs.inside.Writing.{Finished, Refuses, TellsEnd};
 
 use crate::programs::InputEnd;
 use crate::status::ExitStatus;

@@ -51,12 +51,13 @@ fn each_read_that_fails_ends_the_call(rt: HostRuntime) -> Result<(), Fail> {
     )
 }
 
-// A sink that fails at any of its calls has taken what stands before; one call later it has taken all.
+// A sink that fails at any of its calls, within the live lines too, has taken what stands before; one call later it has taken all.
 #[test]
 fn each_write_that_fails_ends_the_call(rt: HostRuntime) -> Result<(), Fail> {
     let alloc = rt.alloc();
-    let run = words_of(alloc, &["run"])?;
-    let whole = BOTH_DEAD.as_bytes();
+    let run = words_of(alloc, &["run", "--live"])?;
+    let text = format!(in alloc; "dead t0 p0@1\ndead t1 p1@1\n{BOTH_DEAD}")?;
+    let whole = text.as_bytes();
     for taken in 0..whole.len() {
         let call = taken as u64 + 1;
         expect_failing(

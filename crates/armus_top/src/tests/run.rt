@@ -1,5 +1,5 @@
 // The rows of `run`.
-use super::{AVERAGING, NEVER_FORKED, expect};
+use super::{AVERAGING, CROSSED, NEVER_FORKED, expect};
 use std::test::Fail;
 
 const LEAVES_FOUR: &str =
@@ -16,7 +16,7 @@ const ENDS_MEMBER: &str =
 
 #[test]
 fn rows_of_run(rt: HostRuntime) -> Result<(), Fail> {
-    let rows: [(&[&str], &str, &str, u8); 12] = [
+    let rows: [(&[&str], &str, &str, u8); 16] = [
         (
             &["run"],
             "",
@@ -84,6 +84,25 @@ fn rows_of_run(rt: HostRuntime) -> Result<(), Fail> {
             0,
         ),
         (&["run"], "adv(q);", "refused check 1 statement 1\n", 3),
+        (
+            &["run", "--live"],
+            CROSSED,
+            "dead t0 p0@1\ndead t1 p1@1\ntasks 2 done 0 dead 2 held 0 refused 0 unforked 0\nt0 dead p0@1\nt1 dead p1@1\ncycle t0 t1\ngraph sg 2\n",
+            1,
+        ),
+        (
+            &["run", "--graph", "wfg", "--live", "--workers", "1"],
+            CROSSED,
+            "dead t0 p0@1\ndead t1 p1@1\ntasks 2 done 0 dead 2 held 0 refused 0 unforked 0\nt0 dead p0@1\nt1 dead p1@1\ncycle t0 t1\ngraph wfg 2\n",
+            1,
+        ),
+        (
+            &["run", "--live", "--workers", "64"],
+            ENDS_MEMBER,
+            "tasks 2 done 1 dead 0 held 1 refused 0 unforked 0\nt0 held p0@1\ngraph sg 0\n",
+            0,
+        ),
+        (&["run", "--live"], "adv(q);", "refused check 1 statement 1\n", 3),
     ];
     for (given, input, output, status) in rows {
         expect(&rt, rt.alloc(), given, input, output, status)?;

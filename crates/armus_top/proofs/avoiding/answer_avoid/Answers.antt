@@ -1,6 +1,6 @@
 use Rattle.armus_words.specs.declared.command.Command.TheVariants.{Avoid}
 use Rattle.armus_top.specs.Avoids.{IsAvoidOf}
-use Rattle.armus_top.specs.Status.{code_of}
+use Rattle.armus_top.specs.inside.Status.{code_of}
 use Rattle.armus_top.proofs.Answering.{by_report}
 use Rattle.armus_top.proofs.avoiding.answer_avoid.Goals as goal
 

@@ -1,12 +1,18 @@
 use Rattle.std.proofs.Common.{◌∙◌, subst}
 use Rattle.gen_text.specs.Generated.{generated_text}
+use Rattle.pl_plan.proofs.UnfoldedIsChecked.{unfolded_is_checked}
+use Rattle.adaptive.specs.declared.analysis.Wanted.TheVariants as wanted
 use Rattle.armus_top.specs.Programs.{IsPlanOf}
+use Rattle.armus_top.proofs.Reporting.{plain_end_in_order, run_of}
 use Rattle.armus_top.proofs.generating.run_generated.Goals as goal
 
-pub returns : goal.returns
-returns g c =
-    record {
-      run = c.in_ok-reported.ensures.run (generated_text c.args.count)
-          (subst (λ t. IsPlanOf t c.in_ok-checked.checked.plan) (c.as_slice.ensures.items ∙ c.in_ok-text.ensures.text)
-          (c.in_ok-checked.checked.program.body, c.in_ok-checked.ensures.plan));
-    }
+pub report_of-requires : goal.report_of-requires
+report_of-requires g c = plain_end_in_order _ _ (unfolded_is_checked _ _ c.in_ok-checked.ensures.plan.unfolds) c.in-Ok.ensures.ran.end
+
+pub returns-in-Ok-clause-run : goal.returns-in-Ok-clause-run
+returns-in-Ok-clause-run g c =
+    let plan = c.in_ok-checked.checked.plan in
+    let report = c.in_ok-report_of-in-Ok.field-0 in
+    run_of (generated_text c.args.count) plan wanted.Auto c.in-Ok.ran.end report.has_dead report.text
+    (subst (λ t. IsPlanOf t plan) (c.as_slice.ensures.items ∙ c.in_ok-text.ensures.text) (c.in_ok-checked.checked.program.body, c.in_ok-checked.ensures.plan))
+    c.in-Ok.ensures.ran.end c.in_ok-report_of-in-Ok.ensures.dead c.in_ok-report_of-in-Ok.ensures.text

@@ -1,7 +1,7 @@
 use Rattle.std.proofs.Common.{◌≡◌, sym, subst, rules}
 use Rattle.armus_words.specs.declared.command.Command.TheVariants.{Record}
 use Rattle.armus_top.specs.Records.{IsRecordOf}
-use Rattle.armus_top.specs.Status.{code_of}
+use Rattle.armus_top.specs.inside.Status.{code_of}
 use Rattle.armus_top.proofs.Answering.{by_answer}
 use Rattle.armus_top.proofs.OnePlan.{checked_plan}
 use Rattle.armus_top.proofs.recording.answer_record.Goals as goal

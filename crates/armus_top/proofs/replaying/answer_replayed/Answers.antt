@@ -2,7 +2,7 @@ use Rattle.std.proofs.Common.{◌∙◌, sym, subst}
 use Rattle.armus_base.specs.Runs.{state_after}
 use Rattle.armus_words.specs.declared.command.Command.TheVariants.{Replay}
 use Rattle.armus_top.specs.Programs.{TellsDead}
-use Rattle.armus_top.specs.Status.{code_of}
+use Rattle.armus_top.specs.inside.Status.{code_of}
 use Rattle.armus_top.proofs.Answering.{by_answer}
 use Rattle.schedule.proofs.PassesNameTheDead.{passes_name_the_dead}
 use Rattle.armus_top.proofs.OnePlan.{checked_plan}

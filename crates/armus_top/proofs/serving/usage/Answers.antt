@@ -1,6 +1,6 @@
 use Rattle.armus_top.specs.Texts.{usage_line}
 use Rattle.armus_top.specs.Headline.{passage}
-use Rattle.armus_top.specs.Status.{code_of}
+use Rattle.armus_top.specs.inside.Status.{code_of}
 use Rattle.armus_top.proofs.Ending.{finished_as}
 use Rattle.armus_top.proofs.serving.usage.Goals as goal
 

@@ -1,5 +1,8 @@
 -- What is left where an output is written.
-use Rattle.std.specs.Prelude.{◌≡◌, ◌⊎◌, ℕ}
+use Rattle.std.specs.Prelude.{◌≡◌, ◌⊎◌, ◌↔◌, ℕ, Bool, IsTrue, if◌then◌else◌}
+use Rattle.armus_base.specs.declared.ending.Final.{Final}
+use Rattle.adaptive.specs.declared.analysis.Wanted.{Wanted}
+use Rattle.report.specs.Reports.{IsReport, IsSomeDead}
 use Rattle.armus_base.specs.ReadAll.{TookFront}
 use Rattle.armus_top.specs.Texts.{Text}
 use Rattle.std.specs.Io.KnownBytes.{Keeps}
@@ -24,7 +27,14 @@ abbrev pub TellsEnd : InputEnd → Passage → ℕ → Type 0
 TellsEnd (Refused why) out number = Refuses why out number
 TellsEnd NoMemory out number = (number ≡ 6) × IsSound out × Keeps out.before out.after
 
--- what a command leaves that works on this input: one of its outputs was written, or memory was wanting and nothing was
+-- what a command leaves that works on this input: one of its outputs was written; or memory was wanting, and nothing was written, or some first bytes of an output
 pub data Answered (c : Command) (input : Text) (out : Passage) (number : ℕ) : Type 0 where
   wrote : (status : ℕ) (text : Text) → Answers c input status text → Finished out text status number → Answered c input out number
   nothing : number ≡ 6 → IsSound out → Keeps out.before out.after → Answered c input out number
+  part : (status : ℕ) (text : Text) → Answers c input status text → number ≡ 6 → IsSound out → TookFront out.before out.after text → Answered c input out number
+
+-- the report of the end and the status that tells whether a task is dead were written, or memory was wanting and nothing was
+abbrev pub WritesReport : Final → Wanted → Passage → ℕ → Type 0
+WritesReport end wanted out number =
+    ((dead : Bool) × (text : Text) × (IsTrue dead ↔ IsSomeDead end.blocked) × IsReport end wanted text × Finished out text (if dead then 1 else 0) number)
+    ⊎ ((number ≡ 6) × IsSound out × Keeps out.before out.after)

@@ -1,0 +1,135 @@
+-- From what a run tells before its report, and the report, to what the command leaves.
+use Rattle.std.proofs.Common.{◌≡◌, ◌∙◌, ◌≤◌, ◌++◌, [], ◌∷◌, ℕ, List, length, inl, inr, refl, sym, subst, ap, arith, append-nil, append_assoc, Bool, true, false, if◌then◌else◌}
+use Rattle.std.specs.Prelude.{◌↔◌, IsTrue, Option, Some, None, Ok, Err, Result}
+use Rattle.std.specs.Io.KnownBytes.{Appends, Keeps}
+use Rattle.std.proofs.KnownBytes.{Appends-nil, Keeps-refl}
+use Rattle.std.proofs.lemmas.Grind.{flat_map-append}
+use Rattle.armus_base.specs.declared.ending.Final.{Final}
+use Rattle.armus_base.specs.declared.status.Dead.{Dead}
+use Rattle.armus_base.specs.Finals.{final_of}
+use Rattle.armus_base.specs.Plans.{Plan}
+use Rattle.armus_base.specs.ReadAll.{TookFront}
+use Rattle.armus_base.specs.Runs.{IsMaximal, IsPlainRun, state_after}
+use Rattle.armus_base.proofs.Fronts.{front_after, front_of_more}
+use Rattle.adaptive.specs.declared.analysis.Wanted.{Wanted}
+use Rattle.report.specs.Live.{live_line, live_text}
+use Rattle.report.specs.NamedDead.{AreSomeDead, AreTheDead}
+use Rattle.report.specs.Reports.{IsReport, IsSomeDead}
+use Rattle.report.proofs.DeadExtend.{some_dead_extend}
+use Rattle.task_runner.specs.DetectRuns.{AreDeadAtTheEnd, HasWritten, IsNoWrite, TellsRun, Told}
+use Rattle.task_runner.specs.PlainRuns.{IsPlainEnd}
+use Rattle.task_runner.specs.declared.ran.Ran.{Ran}
+use Rattle.task_runner.specs.declared.ran.RunEnd.{RunEnd}
+use Rattle.task_runner.specs.declared.ran.RunEnd.TheVariants as ends
+use Rattle.armus_words.specs.declared.command.Command.TheVariants.{Run}
+use Rattle.armus_words.specs.declared.command.Graph.{Graph}
+use Rattle.armus_top.specs.Commands.{wanted_of}
+use Rattle.armus_top.specs.Headline.{Passage}
+use Rattle.armus_top.specs.Programs.{IsPlanOf}
+use Rattle.armus_top.specs.Runs.{IsLiveRunOf, IsRunOf}
+use Rattle.armus_top.specs.Texts.{Text}
+use Rattle.armus_top.specs.inside.Writing.{Answered, Finished, WritesReport, nothing, part, wrote}
+use Rattle.armus_top.proofs.Ending.{by_pieces}
+use Rattle.armus_top.proofs.RunsMet.{run_met}
+use Rattle.armus_top.proofs.OnePlan.{one_plan}
+use Rattle.armus_top.proofs.Reporting.{run_of}
+
+-- a sink between two moments
+abbrev pub between : Told → Told → Passage
+between before now = record { before = before.taken; after = now.taken; faults_before = before.faults; faults_after = now.faults }
+
+no_bytes : (a b : Option Text) → Keeps a b → Appends a b []
+no_bytes None b kept = tt
+no_bytes (Some xs) None kept = absurd kept
+no_bytes (Some xs) (Some ys) kept = kept ∙ sym (append-nil xs)
+
+no_front : (a b : Option Text) (text : Text) → Keeps a b → TookFront a b text
+no_front a b text kept = (0, omega arith, no_bytes a b kept)
+
+one_plain_end : (plan : Plan) (a b : Final) → IsPlainEnd plan a → IsPlainEnd plan b → a ≡ b
+one_plain_end plan a b p q =
+    let same : p.state ≡ q.state = sym p.final.there ∙ q.every p.final.steps p.final.run p.final.maximal in
+    p.is_it ∙ ap (final_of plan) same ∙ sym q.is_it
+
+module _ (input : Text) (plan : Plan) (plan_is : IsPlanOf input plan) (workers : ℕ) (g : Graph) where
+  end_of_run : (status : ℕ) (report : Text) (r : IsRunOf input (wanted_of g) status report) → IsPlainEnd plan (final_of r.plan r.state)
+  end_of_run status report r =
+      let here : IsPlainEnd r.plan (final_of r.plan r.state) = record { state = r.state; final = r.final; every = r.every; is_it = refl } in
+      subst (λ p. IsPlainEnd p (final_of r.plan r.state)) (one_plan input r.plan plan r.plan_is plan_is) here
+
+  -- lines of some dead tasks begin some whole output
+  begun : (named : List Dead) → AreDeadAtTheEnd plan named
+      → (status : ℕ) × (text : Text) × IsLiveRunOf input (wanted_of g) status text × ((rest : Text) × (text ≡ live_text named ++ rest))
+  begun named dead =
+      let (status, report, r) = run_met input plan plan_is (wanted_of g) in
+      let end = final_of r.plan r.state in
+      let (more, all) = some_dead_extend end.blocked named (dead end (end_of_run status report r)) in (
+        status,
+        live_text (named ++ more) ++ report,
+        record { report = report; run = r; named = named ++ more; named_are = all; output_is = refl },
+        (live_text more ++ report, ap (λ t. t ++ report) (flat_map-append live_line named more) ∙ append_assoc (live_text named) (live_text more) report),
+      )
+
+  module _ (before now after : Told) (number : ℕ) where
+    -- memory was wanting after the lines of some dead tasks
+    wanting : (named : List Dead) → AreDeadAtTheEnd plan named → number ≡ 6 → HasWritten named before now → Keeps now.taken after.taken → after.faults ≡ now.faults → Answered (Run workers g true) input (between before after) number
+    wanting named dead six written kept still =
+        let (status, text, live, (rest, is)) = begun named dead in
+        part status text (inl live) six (still ∙ written.sound)
+        (subst (TookFront before.taken after.taken) (sym is)
+        (front_after before.taken now.taken after.taken (live_text named) rest written.lines (no_front now.taken after.taken rest kept)))
+
+  plain_report : (end : Final) (dead : Bool) (report : Text) → IsPlainEnd plan end → (IsTrue dead ↔ IsSomeDead end.blocked) → IsReport end (wanted_of g) report
+      → IsRunOf input (wanted_of g) (if dead then 1 else 0) report
+  plain_report end dead report is same reports = run_of input plan (wanted_of g) end dead report plan_is is same reports
+
+  -- the report stands behind the lines of all dead tasks
+  behind_lines : (end : Final) (dead : Bool) (report : Text) (named : List Dead) → IsPlainEnd plan end → AreTheDead end.blocked named
+      → (IsTrue dead ↔ IsSomeDead end.blocked) → IsReport end (wanted_of g) report → IsLiveRunOf input (wanted_of g) (if dead then 1 else 0) (live_text named ++ report)
+  behind_lines end dead report named is are same reports =
+      let r = plain_report end dead report is same reports in
+      let ends : end ≡ final_of r.plan r.state = one_plain_end plan end (final_of r.plan r.state) is (end_of_run _ report r) in
+      record { report = report; run = r; named = named; named_are = subst (λ e. AreTheDead e.blocked named) ends are; output_is = refl }
+
+  some_of_all : (end : Final) (named : List Dead) → IsPlainEnd plan end → AreTheDead end.blocked named → AreDeadAtTheEnd plan named
+  some_of_all end named is are other ends = subst (λ e. AreSomeDead e.blocked named) (one_plain_end plan end other is ends) are.some
+
+  module _ (before now after : Told) (number : ℕ) (end : Final) (is : IsPlainEnd plan end) where
+    live_reported : (named : List Dead) → AreTheDead end.blocked named → HasWritten named before now → WritesReport end (wanted_of g) (between now after) number → Answered (Run workers g true) input (between before after) number
+    live_reported named are written (inl (dead, report, same, reports, done)) =
+        wrote (if dead then 1 else 0) (live_text named ++ report) (inl (behind_lines end dead report named is are same reports))
+        (by_pieces (between before after) (between now after) (live_text named) report (if dead then 1 else 0) number written.sound refl refl written.lines done)
+    live_reported named are written (inr (six, still, kept)) =
+        wanting before now after number named (some_of_all end named is are) six written kept still
+
+    plain_reported : now ≡ before → WritesReport end (wanted_of g) (between now after) number → Answered (Run workers g false) input (between before after) number
+    plain_reported same (inl (dead, report, tells, reports, done)) =
+        wrote (if dead then 1 else 0) report (inl (plain_report end dead report is tells reports))
+        (subst (λ (m : Told). Finished (between m after) report (if dead then 1 else 0) number) same done)
+    plain_reported same (inr (six, still, kept)) =
+        nothing six (still ∙ ap (λ (m : Told). m.faults) same) (subst (λ (m : Told). Keeps m.taken after.taken) same kept)
+
+  -- the run came to its end, and its report was written, or memory was wanting
+  pub reported : (live : Bool) (before now after : Told) (number : ℕ) (ran : Ran) → IsPlainEnd plan ran.end → (live ≡ true → TellsRun plan before now (Ok ran))
+      → (live ≡ false → now ≡ before) → WritesReport ran.end (wanted_of g) (between now after) number → Answered (Run workers g live) input (between before after) number
+  reported true before now after number ran is tells silent written =
+      let (named, are, lines) = tells refl in live_reported before now after number ran.end is named are lines written
+  reported false before now after number ran is tells silent written = plain_reported before now after number ran.end is (silent refl) written
+
+  -- the sink failed within the live lines
+  pub unwritten : (live : Bool) (before now : Told) → (live ≡ true → TellsRun plan before now (Err ends.Write)) → (live ≡ false → IsNoWrite {T = Ran} (Err ends.Write))
+      → Answered (Run workers g live) input (between before now) 5
+  unwritten true before now tells silent =
+      let (named, dead, part_of) = tells refl in
+      let (status, text, live, (rest, is)) = begun named dead in
+      wrote status text (inl live) (inr (refl, part_of.failed, subst (TookFront before.taken now.taken) (sym is) (front_of_more before.taken now.taken (live_text named) rest part_of.front)))
+  unwritten false before now tells silent = absurd (silent refl)
+
+  -- memory was wanting before the end of the run
+  pub wanted_memory : (live : Bool) (before now : Told) → (live ≡ true → TellsRun plan before now (Err ends.NoMemory)) → (live ≡ false → now ≡ before)
+      → Answered (Run workers g live) input (between before now) 6
+  wanted_memory true before now tells silent =
+      let (named, dead, written) = tells refl in wanting before now now 6 named dead refl written (Keeps-refl now.taken) refl
+  wanted_memory false before now tells silent =
+      let same = silent refl in
+      nothing refl (ap (λ (m : Told). m.faults) same) (subst (λ (m : Told). Keeps before.taken m.taken) (sym same) (Keeps-refl before.taken))

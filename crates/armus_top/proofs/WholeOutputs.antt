@@ -1,0 +1,61 @@
+-- Whole outputs: a text has a plan or is refused, and statuses that tell.
+use Rattle.std.proofs.Common.{ℕ, ◌≡◌, ◌⊎◌, length, inl, inr, refl, true, false}
+use Rattle.std.specs.Prelude.{◌↔◌, Result, Ok, Err}
+use Rattle.std.proofs.lemmas.Bool.{cases_Bool}
+use Rattle.armus_base.specs.declared.ending.Final.{Final}
+use Rattle.armus_base.specs.Deadlocks.{IsDeadBy, IsDeadIn}
+use Rattle.armus_base.specs.Finals.{end_of}
+use Rattle.armus_base.specs.Plans.{Plan}
+use Rattle.armus_base.specs.States.{State}
+use Rattle.armus_base.proofs.Tasks.{all_or_one}
+use Rattle.armus_words.specs.declared.command.Command.{Command}
+use Rattle.pl_plan.specs.declared.fault.CheckFault.{CheckFault}
+use Rattle.pl_plan.specs.Unfolding.{plan_of}
+use Rattle.pl_syntax.specs.Grammar.{IsText}
+use Rattle.pl_syntax.specs.Tree.{Tree}
+use Rattle.pl_syntax.proofs.Whole.{one_of_both}
+use Rattle.report.specs.declared.refusal.Refusal.{Refusal}
+use Rattle.report.specs.declared.refusal.Refusal.TheVariants.{Syntax, Check as Checked}
+use Rattle.report.specs.Refusals.{refusal_text}
+use Rattle.report.specs.Reports.{IsCycleText}
+use Rattle.armus_top.specs.Texts.{Text}
+use Rattle.armus_top.specs.Avoids.{TellsRefused, is_refused}
+use Rattle.armus_top.specs.Commands.{IsCause}
+use Rattle.armus_top.specs.Headline.{Answers}
+use Rattle.armus_top.specs.Programs.{IsFaultOf, IsPlanOf, TellsDead}
+
+-- a whole output of the command for the input
+abbrev pub IsMet : Command → Text → Type 0
+IsMet c input = (status : ℕ) × (text : Text) × Answers c input status text
+
+pub refused : (c : Command) (input : Text) (why : Refusal) → IsCause c input why → IsMet c input
+refused c input why is = (3, refusal_text why, inr (refl, (why, is, refl)))
+
+abbrev HasPlanOrFault : Text → Type 0
+HasPlanOrFault text = ((plan : Plan) × IsPlanOf text plan) ⊎ ((why : Refusal) × IsFaultOf text why)
+
+unfolds_or_not : (text : Text) (p : Tree) → IsText text p → (r : Result Plan CheckFault) → plan_of p ≡ r → HasPlanOrFault text
+unfolds_or_not text p reads (Ok plan) e = inl (plan, (p, record { reads = reads; unfolds = e }))
+unfolds_or_not text p reads (Err fault) e = inr (Checked fault, (p, reads, e))
+
+pub plan_or_refused : (text : Text) → HasPlanOrFault text
+plan_or_refused text =
+    elim (one_of_both text) [
+      | inl one ↦ let (p, reads) = one in unfolds_or_not text p reads (plan_of p) refl
+      | inr one ↦ let (fault, is) = one in inr (Syntax fault, is)
+    ]
+
+-- the cycle's text tells whether a task is dead
+pub status_by : (state : State) (end : Final) (text : Text) → ((t : ℕ) → IsDeadBy end.blocked t ↔ IsDeadIn state t) → IsCycleText end.blocked text → (status : ℕ) × TellsDead state status
+status_by state end text same (inl (none, is)) = (0, inr (refl, λ t d. none (t, (same t).1 d)))
+status_by state end text same (inr (cycle, (start, least, walk), is)) = (1, inl (refl, (start.0, (same start.0).0 least.dead)))
+
+pub status_refused : (plan : Plan) (state : State) → (status : ℕ) × TellsRefused plan state status
+status_refused plan state =
+    elim (all_or_one (λ t. is_refused (end_of state t) ≡ false) (λ t. is_refused (end_of state t) ≡ true) tell (length plan.parents)) [
+      | inl none ↦ (0, inr (refl, none))
+      | inr one ↦ (1, inl (refl, one))
+    ]
+  where
+    tell : (t : ℕ) → (is_refused (end_of state t) ≡ false) ⊎ (is_refused (end_of state t) ≡ true)
+    tell t = elim (cases_Bool (is_refused (end_of state t))) [ inl on ↦ inr on | inr off ↦ inl off ]

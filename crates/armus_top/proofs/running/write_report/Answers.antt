@@ -1,0 +1,20 @@
+use Rattle.std.proofs.Common.{◌≡◌, ℕ, inl, subst, if◌then◌else◌}
+use Rattle.armus_top.specs.Headline.{passage}
+use Rattle.armus_top.specs.inside.Status.{code_of}
+use Rattle.armus_top.specs.Texts.{Text}
+use Rattle.armus_top.specs.inside.Writing.{Finished}
+use Rattle.armus_top.proofs.Ending.{finished_as}
+use Rattle.armus_top.proofs.running.write_report.Goals as goal
+
+pub returns-in-Ok-clause-done : goal.returns-in-Ok-clause-done
+returns-in-Ok-clause-done g c =
+    let out = passage g.K.Sink.taken g.K.Sink.faults c.args.out.now c.finish.new.out in
+    let report = c.in-Ok.report in
+    inl (
+      report.has_dead,
+      report.text,
+      c.in-Ok.ensures.dead,
+      c.in-Ok.ensures.text,
+      subst (λ (s : ℕ). Finished out report.text s (code_of c.finish.result)) c.status_of.ensures
+          (finished_as out report.text c.as_slice.result.now (code_of c.status_of.result) (code_of c.finish.result) c.as_slice.ensures.items c.finish.ensures.done),
+    )

@@ -1,0 +1,33 @@
+-- Which commands are served where.
+use Rattle.std.specs.Prelude.{◌≤◌, ℕ, Option, Some, None}
+use Rattle.armus_words.specs.declared.command.Command.{Command}
+use Rattle.armus_words.specs.declared.command.Command.TheVariants.{Check, Run, Avoid, Record, Replay, Gen}
+use Rattle.armus_words.specs.declared.table.TheConstants.{MAX_WORKERS}
+
+-- a number of workers that a run may have
+abbrev pub MayWork : ℕ → Type 0
+MayWork workers = (1 ≤ workers) × (workers ≤ MAX_WORKERS)
+
+-- the command waits for no thread, and a run of it may have its workers
+abbrev pub IsPlain : Command → Type 0
+IsPlain (Check print) = Unit {0}
+IsPlain (Run workers g live) = MayWork workers
+IsPlain (Avoid workers g) = MayWork workers
+IsPlain (Record workers) = ⊥
+IsPlain Replay = Unit {0}
+IsPlain (Gen count) = Unit {0}
+
+-- the command is `record`, the one that waits for threads, and a run of it may have its workers
+abbrev pub IsJournal : Command → Type 0
+IsJournal (Record workers) = MayWork workers
+IsJournal _ = ⊥
+
+-- words mean such a command that waits for no thread, or none
+abbrev pub MeansPlain : Option Command → Type 0
+MeansPlain (Some c) = IsPlain c
+MeansPlain None = Unit {0}
+
+-- words mean `record`, or no command
+abbrev pub MeansJournal : Option Command → Type 0
+MeansJournal (Some c) = IsJournal c
+MeansJournal None = Unit {0}
