@@ -2,6 +2,6 @@
 #![tactic(auto)]
 
 #[cfg(test)]
-mod meeting;
+mod held;
 #[cfg(test)]
-mod side_by_side;
+mod holding;
