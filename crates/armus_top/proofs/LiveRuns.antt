@@ -16,7 +16,8 @@ use Rattle.report.specs.Live.{live_line, live_text}
 use Rattle.report.specs.NamedDead.{AreSomeDead, AreTheDead}
 use Rattle.report.specs.Reports.{IsReport, IsSomeDead}
 use Rattle.report.proofs.DeadExtend.{some_dead_extend}
-use Rattle.task_runner.specs.DetectRuns.{AreDeadAtTheEnd, HasWritten, IsNoWrite, TellsRun, Told}
+use Rattle.task_runner.specs.DetectRuns.{AreDeadAtTheEnd, HasWritten, TellsRun, Told}
+use Rattle.task_runner.specs.Tellers.{IsNoWrite}
 use Rattle.task_runner.specs.PlainRuns.{IsPlainEnd}
 use Rattle.task_runner.specs.declared.ran.Ran.{Ran}
 use Rattle.task_runner.specs.declared.ran.RunEnd.{RunEnd}
@@ -117,7 +118,7 @@ module _ (input : Text) (plan : Plan) (plan_is : IsPlanOf input plan) (workers :
   reported false before now after number ran is tells silent written = plain_reported before now after number ran.end is (silent refl) written
 
   -- the sink failed within the live lines
-  pub unwritten : (live : Bool) (before now : Told) → (live ≡ true → TellsRun plan before now (Err ends.Write)) → (live ≡ false → IsNoWrite {T = Ran} (Err ends.Write))
+  pub unwritten : (live : Bool) (before now : Told) → (live ≡ true → TellsRun plan before now (Err ends.Write)) → (live ≡ false → IsNoWrite {A = Ran} (Err ends.Write))
       → Answered (Run workers g live) input (between before now) 5
   unwritten true before now tells silent =
       let (named, dead, part_of) = tells refl in

@@ -17,7 +17,9 @@ pub enum Graph {
 #[derive(Clone, Copy, Debug, PartialEq, Eq)]
 pub enum Command {
     /// Checks a text and counts its tasks, phasers and ops, or prints it.
-    Check { print: bool },
+    Check {
+        print: bool,
+    },
     /// Runs a text and reports its final state; live, with a line for each dead task as soon as it is found.
     Run {
         workers: u8,
@@ -25,11 +27,18 @@ pub enum Command {
         live: bool,
     },
     /// Runs a text without deadlock, where awaits are refused instead, and reports its final state.
-    Avoid { workers: u8, graph: Graph },
+    Avoid {
+        workers: u8,
+        graph: Graph,
+    },
     /// Runs a text and writes it with the schedule of the run.
-    Record { workers: u8 },
+    Record {
+        workers: u8,
+    },
     /// Replays a text with a schedule.
     Replay,
     /// Runs a generated text with this many workers in it, and reports its final state in short.
-    Gen { count: u16 },
+    Gen {
+        count: u16,
+    },
 }

@@ -71,9 +71,7 @@ fn take_off(free: Free, option: OptionWord) -> Free
 fn is_plain(text: &str) -> bool
     ensures { result ≡ list_all is_value_byte text.now }
 {
-    text.as_bytes()
-        .iter()
-        .all(|b| (b'a' <= *b && *b <= b'z') || (b'0' <= *b && *b <= b'9'))
+    text.as_bytes().iter().all(|b| (b'a' <= *b && *b <= b'z') || (b'0' <= *b && *b <= b'9'))
 }
 
 // Lower-case letters or digits, at least one and no more than a value has.

@@ -102,7 +102,12 @@ fn rows_of_run(rt: HostRuntime) -> Result<(), Fail> {
             "tasks 2 done 1 dead 0 held 1 refused 0 unforked 0\nt0 held p0@1\ngraph sg 0\n",
             0,
         ),
-        (&["run", "--live"], "adv(q);", "refused check 1 statement 1\n", 3),
+        (
+            &["run", "--live"],
+            "adv(q);",
+            "refused check 1 statement 1\n",
+            3,
+        ),
     ];
     for (given, input, output, status) in rows {
         expect(&rt, rt.alloc(), given, input, output, status)?;
