@@ -9,4 +9,5 @@ pub mod AddedRows
 pub mod PickedTasks
 pub mod TaskSearch
 pub mod NamedTasks
+pub mod WaitRows
 pub mod SameDeadLists

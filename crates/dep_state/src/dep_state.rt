@@ -1,9 +1,11 @@
 // The relations of a list of statuses.
-ghost use Rattle.std.specs.Prelude.{◌≡◌, ◌<◌, ◌^◌, List, length, All, Contains, MatchOption, slice_index, slice_index_or, IfOk};
+ghost use Rattle.std.specs.Prelude.{◌≡◌, ◌↔◌, ◌<◌, ◌^◌, List, length, All, Contains, MatchOption, slice_index, slice_index_or, IfOk};
+ghost use Rattle.armus_base.specs.declared.ids.TaskId.{TaskId};
 ghost use Rattle.armus_base.specs.declared.status.Status.{Status};
+ghost use Rattle.armus_base.specs.Graphs.{WaitsFor};
 ghost use Rattle.armus_base.specs.Statuses.{IsInOrder};
 ghost use Rattle.dep_state.specs.Deps.{IsWellFormed, IsDepsOf, impeders_of};
-ghost use Rattle.dep_state.specs.Picks.{IsImpederList, HasNoStatus, HasEvent};
+ghost use Rattle.dep_state.specs.Picks.{Ascend, IsImpederList, HasNoStatus, HasEvent};
 
 use crate::{events, impeders, names, search};
 use armus_base::{Event, NoMemory, Status, TaskId};
@@ -22,6 +24,7 @@ pub struct DepState {
 }
 
 impl Model for DepState {
+    ghost use Rattle.std.specs.Prelude.{All};
     ghost use Rattle.dep_state.specs.Deps.{Deps, IsWellFormed, IsNamed, rows_of};
     ghost use Rattle.dep_state.specs.Picks.{Ascend};
 
@@ -31,7 +34,8 @@ impl Model for DepState {
 
     ghost invariant = { λ d.
         IsWellFormed (record { tasks = d.tasks.items; awaits = d.awaits.items; events = d.events.items; impeders = rows_of d.impeders.items }) ×
-        IsNamed d.tasks.items (rows_of d.impeders.items) (rows_of d.impeding.items) × Ascend d.tasks.items };
+        IsNamed d.tasks.items (rows_of d.impeders.items) (rows_of d.impeding.items) × Ascend d.tasks.items ×
+        All Ascend (rows_of d.impeding.items) };
 }
 
 impl DepState {
@@ -88,6 +92,19 @@ impl DepState {
     {
         let at = events::event_place(&self.events, e);
         &self.impeding[at]
+    }
+
+    /// The tasks that a task waits for, in order of number: those of the list that impede its event. There are none where the list has no status
+    /// of the task; any task may be asked for.
+    pub fn waits_for(&self, t: TaskId) -> &[TaskId]
+        ensures ascends { Ascend result.now }
+        ensures inside { All (Contains self.now.tasks) result.now }
+        ensures pairs { (ss : List Status) → IsInOrder ss → IsDepsOf ss self.now → (b : TaskId) → Contains result.now b ↔ WaitsFor ss t b }
+    {
+        match search::task_place(&self.tasks, t) {
+            None => &[],
+            Some(at) => &self.impeding[self.awaits[at] as usize],
+        }
     }
 
     /// The place among the events of what each task awaits, in the order of the tasks.

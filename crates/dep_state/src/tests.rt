@@ -52,6 +52,8 @@ fn tells_the_relations(rt: HostRuntime) -> Result<(), Fail> {
     assert_eq!(rt; deps.events(), [first, second, third].as_slice());
     assert_eq!(rt; deps.awaits(TaskId(0)), Some(third));
     assert_eq!(rt; deps.awaits(TaskId(3)), None);
+    assert_eq!(rt; deps.waits_for(TaskId(0)), [TaskId(1)].as_slice());
+    assert_eq!(rt; deps.waits_for(TaskId(3)).len(), 0);
     for k in 0..deps.events().len() {
         let wanted = [TaskId(2), TaskId(1), TaskId(1)];
         assert!(rt; k < 3);

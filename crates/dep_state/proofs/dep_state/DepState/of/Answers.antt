@@ -4,6 +4,7 @@ use Rattle.dep_state.specs.Deps.{rows_of}
 use Rattle.dep_state.specs.Deps.{IsDepsOf}
 use Rattle.dep_state.proofs.Made.{deps_of, impeders_inside}
 use Rattle.dep_state.proofs.TaskPlaces.{tasks_ascend}
+use Rattle.dep_state.proofs.WaitRows.{all_named_ascend}
 use Rattle.dep_state.proofs.dep_state.DepState.of.Goals as goal
 
 made :
@@ -15,7 +16,9 @@ made c =
 pub invariant_of-result : goal.invariant_of-result
 invariant_of-result c =
     let is = made c in
-    (is.formed, rw (c.deref-3.ensures.value, c.deref-4.ensures.value) at c.in_ok-impeding.ensures, tasks_ascend c.args.list.now c.requires _ is)
+    let named = rw (c.deref-3.ensures.value, c.deref-4.ensures.value) at c.in_ok-impeding.ensures in
+    let up = tasks_ascend c.args.list.now c.requires _ is in
+    (is.formed, named, up, all_named_ascend (record { tasks = c.in_ok-tasks.tasks.items; awaits = c.in_ok-awaits.awaits.items; events = c.in_ok-events.events.items; impeders = rows_of c.in_ok-impeders.impeders.items }) _ is.formed is.ascend up named)
 
 pub returns : goal.returns
 returns c = made c
