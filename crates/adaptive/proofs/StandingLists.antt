@@ -14,7 +14,8 @@ use Rattle.armus_base.specs.declared.status.Status.{Status}
 use Rattle.armus_base.proofs.Elements.{nothing_in_nil}
 use Rattle.dep_state.proofs.DeadSets.{Contains-from_map, Contains-map}
 use Rattle.adaptive.specs.declared.standings.Standing.{Standing}
-use Rattle.adaptive.specs.Standings.{AreStandings, NeverFalls, NotAfter, StandsAt, standing_of}
+use Rattle.adaptive.specs.inside.Standings.{AreStandingsOf, StandingsNeverFall, StandsAt, standing_at}
+use Rattle.dep_state.specs.inside.Made.{NotAfter}
 
 standing : ℕ → ℕ → ℕ → Standing
 standing k p n = record { at = record { p = record { 0 = p }; n = n }; status = k }
@@ -37,13 +38,13 @@ module _ (ss : List Status) (i : ℕ) (s : Status) (inside : i < length ss) (is 
   unfolding member
   same_member m p n e f = ap (λ q. member q m.n) e ∙ ap (λ j. member p j) f
 
-  pub one_more : AreBelow ss (i + 1) (xs ++ map (standing_of i) s.phases)
+  pub one_more : AreBelow ss (i + 1) (xs ++ map (standing_at i) s.phases)
   unfolding member standing
   one_more k p n = (
-    λ c. elim (Contains-append_cases xs (map (standing_of i) s.phases) _ c) [
+    λ c. elim (Contains-append_cases xs (map (standing_at i) s.phases) _ c) [
       | inl before ↦ let old = (below k p n).0 before in (omega (arith, old.0), old.1)
       | inr new ↦
-          let from = Contains-from_map (standing_of i) s.phases _ new in
+          let from = Contains-from_map (standing_at i) s.phases _ new in
           let same : i ≡ k = ap (λ x. x.status) from.2 in
           let is_member = same_member from.0 p n (ap (λ x. x.at.p.0) from.2) (ap (λ x. x.at.n) from.2) in
           let there : (d : Status) → Contains (get_or ss i d).phases (member p n) =
@@ -54,17 +55,17 @@ module _ (ss : List Status) (i : ℕ) (s : Status) (inside : i < length ss) (is 
       | inl same ↦
           let stands = h.1.1 s in
           let now : Contains s.phases (member p n) = subst (λ v. Contains v.phases (member p n)) (here s) (subst (λ j. Contains (get_or ss j s).phases (member p n)) same stands) in
-          let new = Contains-map (standing_of i) s.phases (member p n) now in
-          Contains-append_right xs (map (standing_of i) s.phases) _ (subst (λ j. Contains (map (standing_of i) s.phases) (standing j p n)) (sym same) new)
-      | inr other ↦ Contains-append_left xs (map (standing_of i) s.phases) _ ((below k p n).1 (let l = h.0 in omega arith, h.1))
+          let new = Contains-map (standing_at i) s.phases (member p n) now in
+          Contains-append_right xs (map (standing_at i) s.phases) _ (subst (λ j. Contains (map (standing_at i) s.phases) (standing j p n)) (sym same) new)
+      | inr other ↦ Contains-append_left xs (map (standing_at i) s.phases) _ ((below k p n).1 (let l = h.0 in omega arith, h.1))
     ],
   )
 
-pub all_below : (ss : List Status) (i : ℕ) (xs : List Standing) → i ≡ length ss → AreBelow ss i xs → AreStandings ss xs
+pub all_below : (ss : List Status) (i : ℕ) (xs : List Standing) → i ≡ length ss → AreBelow ss i xs → AreStandingsOf ss xs
 all_below ss i xs e below = record { exact = λ k p n. ((λ c. ((below k p n).0 c).1), λ h. (below k p n).1 (let l = h.0 in omega (arith, e), h)) }
 
 -- in another order they are the same
-pub same_standings : (ss : List Status) (xs ys : List Standing) → IsPermutation xs ys → AreStandings ss xs → AreStandings ss ys
+pub same_standings : (ss : List Status) (xs ys : List Standing) → IsPermutation xs ys → AreStandingsOf ss xs → AreStandingsOf ss ys
 same_standings ss xs ys moved are = record {
   exact = λ k p n. (
     λ c. (are.exact k p n).0 (Contains-permutation ys xs _ (IsPermutation-sym xs ys moved) c),
@@ -107,7 +108,7 @@ module _ (xs : List Standing) (sorted : IsSorted (λ a b. ordering_then (orderin
       (first_of (ordering_then (nat_cmp b.at.p.0 a.at.p.0) (nat_cmp b.at.n a.at.n)) (nat_cmp b.status a.status) (sorted k d (omega arith) lt))
 
   -- nor before any one ahead of it
-  pub sorted_never_falls : NeverFalls xs
+  pub sorted_never_falls : StandingsNeverFall xs
   sorted_never_falls i zero d le lt =
       let same : i ≡ 0 = omega arith in
       subst (λ k. NotAfter (get_or xs k d).at (get_or xs 0 d).at) (sym same) (not_after_same (get_or xs 0 d).at)

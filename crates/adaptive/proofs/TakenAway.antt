@@ -8,8 +8,8 @@ use Rattle.armus_base.specs.Deadlocks.{IsDeadBy}
 use Rattle.armus_base.specs.Statuses.{IsInOrder}
 use Rattle.adaptive.specs.declared.columns.Column.{Column}
 use Rattle.adaptive.specs.declared.standings.Standing.{Standing}
-use Rattle.adaptive.specs.Remaining.{AreFronts, how_many}
-use Rattle.adaptive.specs.Standings.{IsRemaining, IsRemainingImpeder, IsUnimpeded, StandsAt, remains_at}
+use Rattle.adaptive.specs.inside.Remaining.{AreFronts, count_remaining}
+use Rattle.adaptive.specs.inside.Standings.{IsRemaining, IsRemainingImpeder, IsUnimpeded, StandsAt, remains_at}
 
 -- a flag of a changed list: false where one was put to false, and as before elsewhere
 pub set_other : (xs : List Bool) (k j : ℕ) → j ≢ k → remains_at (set xs k false) j ≡ remains_at xs j
@@ -78,7 +78,7 @@ pub within_set : (standings : List Standing) (remains : List Bool) (k : ℕ) →
 within_set standings remains k all = subst (λ n. All (λ x. x.status < n) standings) (sym (length-set remains k false)) all
 
 -- one fewer remains
-pub one_fewer : (xs : List Bool) (k : ℕ) → remains_at xs k ≡ true → how_many (set xs k false) + 1 ≡ how_many xs
+pub one_fewer : (xs : List Bool) (k : ℕ) → remains_at xs k ≡ true → count_remaining (set xs k false) + 1 ≡ count_remaining xs
 one_fewer [] k e = absurd (cc)
 one_fewer (x ∷ xs) zero e = (let on : x ≡ true = e in rw on (omega arith))
 one_fewer (x ∷ xs) (suc k) e = (let rest = one_fewer xs k e in omega (arith, rest))

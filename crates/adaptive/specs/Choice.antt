@@ -31,12 +31,6 @@ IsUsed ss WantWfg used = used ≡ Wfg
 IsUsed ss WantSg used = used ≡ Sg
 IsUsed ss WantGrg used = used ≡ Grg
 
--- an analysis by one graph
-pub record IsAnalysisBy (ss : List Status) (used : Used) (a : Analysis) : Type 0 where
-  pub used_is : a.used ≡ used
-  pub dead : IsDeadList ss a.dead
-  pub edges : IsEdgeCount ss used a.edges
-
 -- the dead tasks, whatever graph is used; the graph that is used, and its number of edges
 pub record IsAnalysis (ss : List Status) (wanted : Wanted) (a : Analysis) : Type 0 where
   pub dead : IsDeadList ss a.dead

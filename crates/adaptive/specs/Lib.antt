@@ -1,3 +1,3 @@
 pub mod Choice
-pub mod Standings
-pub mod Remaining
+-- How the program does it: private contracts alone cite these.
+pub mod inside

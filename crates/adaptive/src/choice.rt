@@ -5,7 +5,8 @@ ghost use Rattle.armus_base.specs.Statuses.{IsInOrder};
 ghost use Rattle.armus_base.specs.declared.status.Status.{Status};
 ghost use Rattle.dep_state.specs.Deps.{IsDepsOf};
 ghost use Rattle.state_graph.specs.StateEdges.{IsStateGraphOf};
-ghost use Rattle.adaptive.specs.Choice.{IsAnalysisBy, IsAnalysis};
+ghost use Rattle.adaptive.specs.inside.ByGraph.{IsAnalysisBy};
+ghost use Rattle.adaptive.specs.Choice.{IsAnalysis};
 ghost use Rattle.adaptive.specs.declared.analysis.Used.TheVariants.{Wfg, Sg, Grg};
 
 use crate::analysis::{Analysis, Used, Wanted};

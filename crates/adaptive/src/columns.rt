@@ -1,7 +1,7 @@
 // What is kept of each awaited phaser while statuses are taken away.
 ghost use Rattle.std.specs.Prelude.{◌≡◌, ◌<◌, Bool, true, IfOk, IfSome, List, length};
-ghost use Rattle.adaptive.specs.Remaining.{AreFronts, IsColumnOf};
-ghost use Rattle.adaptive.specs.Standings.{IsFirst, IsFront, NeverFalls};
+ghost use Rattle.adaptive.specs.inside.Remaining.{AreFronts, IsColumnOf};
+ghost use Rattle.adaptive.specs.inside.Standings.{IsFirstOnPhaser, IsFront, StandingsNeverFall};
 ghost use Rattle.adaptive.specs.declared.standings.Standing.{Standing};
 
 use crate::standings::Standing;
@@ -52,7 +52,7 @@ pub(crate) fn keep_front(columns: &mut Vec<Column>, p: PhaserId, front: usize)
 // Whether a standing is the first on its phaser.
 fn is_first(standings: &[Standing], i: usize) -> bool
     requires { i < length standings.now }
-    ensures { result ≡ true → IsFirst standings.now i }
+    ensures { result ≡ true → IsFirstOnPhaser standings.now i }
 {
     i == 0 || standings[i - 1].at.p.0 < standings[i].at.p.0
 }
@@ -68,7 +68,7 @@ pub(crate) fn columns_of(
     standings: &[Standing],
     waiters: &[Standing],
 ) -> Result<Vec<Column>, AllocError>
-    requires { NeverFalls standings.now }
+    requires { StandingsNeverFall standings.now }
     ensures { IfOk result (λ columns. (remains : List Bool) → AreFronts standings.now remains columns.items) }
 {
     let mut columns = Vec::new(alloc);

@@ -3,7 +3,7 @@ ghost use Rattle.std.specs.Prelude.{◌≡◌, ◌<◌, ◌^◌, IfOk, length, m
 ghost use Rattle.armus_base.specs.DeadLists.{IsDeadList};
 ghost use Rattle.armus_base.specs.Statuses.{IsInOrder};
 ghost use Rattle.armus_base.specs.declared.status.Status.{Status};
-ghost use Rattle.adaptive.specs.Remaining.{IsKeptOf};
+ghost use Rattle.adaptive.specs.inside.Remaining.{IsRemainingOf};
 
 use crate::columns::{column_of, columns_of};
 use crate::remaining::Remaining;
@@ -32,7 +32,7 @@ fn waiters_of(alloc: Global, list: &[Status]) -> Result<Vec<Standing>, AllocErro
 // All statuses remain, and the waiters that are looked at column by column.
 fn begin(alloc: Global, list: &[Status], waiters: &[Standing]) -> Result<Remaining, NoMemory>
     requires { IsInOrder list.now }
-    ensures { IfOk result (IsKeptOf list.now) }
+    ensures { IfOk result (IsRemainingOf list.now) }
 {
     let standings = standings_of(alloc, list)?;
     let columns = columns_of(alloc, &standings, waiters)?;
@@ -76,8 +76,8 @@ fn take_due(
     due: &mut Vec<usize>,
 ) -> Result<bool, AllocError>
     requires order { IsInOrder list.now }
-    requires kept { IsKeptOf list.now remaining.old }
-    ensures kept { IsKeptOf list.now remaining.new }
+    requires kept { IsRemainingOf list.now remaining.old }
+    ensures kept { IsRemainingOf list.now remaining.new }
 {
     match due.pop() {
         None => Ok(false),
@@ -103,8 +103,8 @@ fn take_columns(
     waiters: &[Standing],
 ) -> Result<(), AllocError>
     requires order { IsInOrder list.now }
-    requires kept { IsKeptOf list.now remaining.old }
-    ensures kept { IsKeptOf list.now remaining.new }
+    requires kept { IsRemainingOf list.now remaining.old }
+    ensures kept { IsRemainingOf list.now remaining.new }
 {
     let mut due = all_due(alloc, remaining)?;
     for _ in 0..u64::MAX {

@@ -1,6 +1,6 @@
 // The first standing on a phaser whose task remains.
 ghost use Rattle.std.specs.Prelude.{◌<◌, All, MatchBool, length};
-ghost use Rattle.adaptive.specs.Standings.{IsBelow, IsFront, IsPassed, IsStop};
+ghost use Rattle.adaptive.specs.inside.Standings.{IsBelow, IsFront, IsPassed, IsStop};
 
 use crate::standings::Standing;
 use armus_base::{Event, PhaserId};

@@ -2,7 +2,7 @@
 ghost use Rattle.std.specs.Prelude.{◌≡◌, ℕ, ◌+◌, ◌<◌, true, false, MatchBool, length, slice_index_or, slice_set};
 ghost use Rattle.armus_base.specs.declared.status.Status.{Status};
 ghost use Rattle.armus_base.specs.Statuses.{IsInOrder};
-ghost use Rattle.adaptive.specs.Standings.{IsRemainingImpeder, IsUnimpeded, remains_at};
+ghost use Rattle.adaptive.specs.inside.Standings.{IsRemainingImpeder, IsUnimpeded, remains_at};
 
 use crate::columns::{Column, front_of, keep_front};
 use crate::front::{front_from, is_impeded_at};
@@ -23,13 +23,13 @@ fn index_of(standing: Standing) -> usize {
 }
 
 impl Remaining {
-    ghost use Rattle.adaptive.specs.Remaining.{AllImpeded, IsKeptOf, how_many};
+    ghost use Rattle.adaptive.specs.inside.Remaining.{AllImpeded, IsRemainingOf, count_remaining};
 
     /// Whether the event of status `k` is impeded by a task whose status remains.
     pub(crate) fn is_impeded(&mut self, list: &[Status], k: usize) -> bool
-        requires kept { IsKeptOf list.now self.old }
+        requires kept { IsRemainingOf list.now self.old }
         requires status { k < length list.now }
-        ensures kept { IsKeptOf list.now self.new }
+        ensures kept { IsRemainingOf list.now self.new }
         ensures same { self.new.remains ≡ self.old.remains }
         ensures told { MatchBool result
             ((s : Status) → (j : ℕ) × IsRemainingImpeder list.now self.new.remains.items (slice_index_or list.now k s).event j)
@@ -45,10 +45,10 @@ impl Remaining {
     /// Takes status `k` away, whose event no task impedes whose status remains.
     pub(crate) fn take_away(&mut self, list: &[Status], k: usize)
         requires order { IsInOrder list.now }
-        requires kept { IsKeptOf list.now self.old }
+        requires kept { IsRemainingOf list.now self.old }
         requires status { k < length list.now }
         requires unimpeded { (s : Status) → IsUnimpeded list.now self.old.remains.items (slice_index_or list.now k s).event }
-        ensures kept { IsKeptOf list.now self.new }
+        ensures kept { IsRemainingOf list.now self.new }
         ensures gone { self.new.remains.items ≡ slice_set self.old.remains.items k false }
     {
         let _ = list;
@@ -58,12 +58,12 @@ impl Remaining {
     // Takes status `k` away where it remains and its event is not impeded; whether it did.
     fn take_unimpeded(&mut self, list: &[Status], k: usize) -> bool
         requires order { IsInOrder list.now }
-        requires kept { IsKeptOf list.now self.old }
+        requires kept { IsRemainingOf list.now self.old }
         requires status { k < length list.now }
-        ensures kept { IsKeptOf list.now self.new }
+        ensures kept { IsRemainingOf list.now self.new }
         ensures stays { result ≡ false → (self.new.remains ≡ self.old.remains)
             × (remains_at self.new.remains.items k ≡ true → (s : Status) → (j : ℕ) × IsRemainingImpeder list.now self.new.remains.items (slice_index_or list.now k s).event j) }
-        ensures less { result ≡ true → how_many self.new.remains.items + 1 ≡ how_many self.old.remains.items }
+        ensures less { result ≡ true → count_remaining self.new.remains.items + 1 ≡ count_remaining self.old.remains.items }
     {
         if !self.remains[k] {
             return false;
@@ -78,10 +78,10 @@ impl Remaining {
     /// Takes each status away whose event is not impeded when its turn comes; whether there was one.
     pub(crate) fn take_round(&mut self, list: &[Status]) -> bool
         requires order { IsInOrder list.now }
-        requires kept { IsKeptOf list.now self.old }
-        ensures kept { IsKeptOf list.now self.new }
+        requires kept { IsRemainingOf list.now self.old }
+        ensures kept { IsRemainingOf list.now self.new }
         ensures quiet { result ≡ false → AllImpeded list.now self.new.remains.items }
-        ensures less { result ≡ true → how_many self.new.remains.items < how_many self.old.remains.items }
+        ensures less { result ≡ true → count_remaining self.new.remains.items < count_remaining self.old.remains.items }
     {
         let mut taken = false;
         for k in 0..list.len() {
@@ -100,8 +100,8 @@ impl Remaining {
         c: usize,
     ) -> Option<usize>
         requires order { IsInOrder list.now }
-        requires kept { IsKeptOf list.now self.old }
-        ensures kept { IsKeptOf list.now self.new }
+        requires kept { IsRemainingOf list.now self.old }
+        ensures kept { IsRemainingOf list.now self.new }
     {
         if c >= self.columns.len() || self.columns[c].next >= waiters.len() {
             return None;
@@ -120,8 +120,8 @@ impl Remaining {
 
     // The next waiter of the column is behind.
     fn pass_waiter(&mut self, list: &[Status], c: usize)
-        requires kept { IsKeptOf list.now self.old }
-        ensures kept { IsKeptOf list.now self.new }
+        requires kept { IsRemainingOf list.now self.old }
+        ensures kept { IsRemainingOf list.now self.new }
     {
         let _ = list;
         if c < self.columns.len() && self.columns[c].next < usize::MAX {

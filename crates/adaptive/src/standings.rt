@@ -2,7 +2,7 @@
 ghost use Rattle.std.specs.Prelude.{◌≡◌, ◌++◌, ◌<◌, ◌^◌, IfOk, OnOk, length, map};
 ghost use Rattle.armus_base.specs.declared.status.Status.{Status};
 ghost use Rattle.armus_base.specs.Statuses.{IsInOrder};
-ghost use Rattle.adaptive.specs.Standings.{AreStandings, NeverFalls, standing_of};
+ghost use Rattle.adaptive.specs.inside.Standings.{AreStandingsOf, StandingsNeverFall, standing_at};
 
 use armus_base::{Event, Member, Status};
 use std::alloc::{AllocError, Global};
@@ -16,7 +16,7 @@ pub(crate) struct Standing {
 
 // The standing of a task at one of its phases.
 fn standing_at(member: Member, status: u32) -> Standing
-    ensures { result ≡ standing_of status member }
+    ensures { result ≡ standing_at status member }
 {
     Standing {
         at: Event {
@@ -33,7 +33,7 @@ fn add_phases(
     phases: &[Member],
     status: u32,
 ) -> Result<(), AllocError>
-    ensures { OnOk result (standings.new.items ≡ standings.old.items ++ map (standing_of status) phases.now) }
+    ensures { OnOk result (standings.new.items ≡ standings.old.items ++ map (standing_at status) phases.now) }
 {
     for member in phases {
         standings.push(standing_at(*member, status))?;
@@ -44,7 +44,7 @@ fn add_phases(
 // The standings of all tasks, status by status.
 fn collected(alloc: Global, list: &[Status]) -> Result<Vec<Standing>, AllocError>
     requires few { length list.now < 2 ^ 31 }
-    ensures { IfOk result (λ standings. AreStandings list.now standings.items) }
+    ensures { IfOk result (λ standings. AreStandingsOf list.now standings.items) }
 {
     let mut standings = Vec::new(alloc);
     for k in 0..list.len() {
@@ -56,8 +56,8 @@ fn collected(alloc: Global, list: &[Status]) -> Result<Vec<Standing>, AllocError
 /// The standings of all tasks of the list, by phaser and then by phase.
 pub(crate) fn standings_of(alloc: Global, list: &[Status]) -> Result<Vec<Standing>, AllocError>
     requires { IsInOrder list.now }
-    ensures are { IfOk result (λ standings. AreStandings list.now standings.items) }
-    ensures ordered { IfOk result (λ standings. NeverFalls standings.items) }
+    ensures are { IfOk result (λ standings. AreStandingsOf list.now standings.items) }
+    ensures ordered { IfOk result (λ standings. StandingsNeverFall standings.items) }
 {
     let mut standings = collected(alloc, list)?;
     standings.sort_unstable();

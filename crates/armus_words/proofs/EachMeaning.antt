@@ -7,7 +7,7 @@ use Rattle.std.specs.Str.Parse.{AllDigits, IsNumeral, digits_value}
 use Rattle.std.proofs.lemmas.Bool.{cases_lt}
 use Rattle.std.proofs.lemmas.Slice.Eq.{bytes_eq-Decides}
 use Rattle.armus_words.specs.Words.{Text, Use, AreWords, has_value_alone}
-use Rattle.armus_words.specs.Commands.{AreWorkers, EachMeaning, Given, IsCommand, IsGenerated, IsGraph, IsNumber, Means, Reads, first_of, given_by, graph_name}
+use Rattle.armus_words.specs.Commands.{AreWorkers, EachMeaning, Given, IsCommand, IsGenerated, IsWantedGraph, IsNumber, Means, Reads, first_of, given_by, graph_word}
 use Rattle.armus_words.specs.inside.Form.{first_named, fits, free_at}
 use Rattle.armus_words.specs.declared.table.FirstWord.{FirstWord}
 use Rattle.armus_words.specs.declared.table.FirstWord.TheVariants as first
@@ -96,16 +96,16 @@ same_or_not : (x y : Text) (b : Bool) → bytes_eq x y ≡ b → (x ≡ y) ⊎ (
 same_or_not x y true is = inl ((bytes_eq-Decides x y).0 is)
 same_or_not x y false is = inr (λ e. let yes : bytes_eq x y ≡ true = (bytes_eq-Decides x y).1 e in absurd (cc))
 
-graph_or_not : (given : Option Text) → SomeOrNone (IsGraph given)
+graph_or_not : (given : Option Text) → SomeOrNone (IsWantedGraph given)
 graph_or_not None = inl (Auto, refl)
 graph_or_not (Some text) =
-    elim (same_or_not text (graph_name Auto) _ refl) [
+    elim (same_or_not text (graph_word Auto) _ refl) [
       | inl e ↦ inl (Auto, e)
-      | inr no_auto ↦ elim (same_or_not text (graph_name Wfg) _ refl) [
+      | inr no_auto ↦ elim (same_or_not text (graph_word Wfg) _ refl) [
         | inl e ↦ inl (Wfg, e)
-        | inr no_wfg ↦ elim (same_or_not text (graph_name Sg) _ refl) [
+        | inr no_wfg ↦ elim (same_or_not text (graph_word Sg) _ refl) [
           | inl e ↦ inl (Sg, e)
-          | inr no_sg ↦ elim (same_or_not text (graph_name Grg) _ refl) [
+          | inr no_sg ↦ elim (same_or_not text (graph_word Grg) _ refl) [
             | inl e ↦ inl (Grg, e)
             | inr no_grg ↦ inr (none no_auto no_wfg no_sg no_grg)
           ]
@@ -113,8 +113,8 @@ graph_or_not (Some text) =
       ]
     ]
   where
-    none : (text ≡ graph_name Auto → ⊥) → (text ≡ graph_name Wfg → ⊥) → (text ≡ graph_name Sg → ⊥) → (text ≡ graph_name Grg → ⊥)
-        → (g : Graph) → text ≡ graph_name g → ⊥
+    none : (text ≡ graph_word Auto → ⊥) → (text ≡ graph_word Wfg → ⊥) → (text ≡ graph_word Sg → ⊥) → (text ≡ graph_word Grg → ⊥)
+        → (g : Graph) → text ≡ graph_word g → ⊥
     none a w s r Auto e = a e
     none a w s r Wfg e = w e
     none a w s r Sg e = s e
@@ -126,7 +126,7 @@ graph_or_not (Some text) =
 abbrev ReadsOrNot : FirstWord → Given → Type 0
 ReadsOrNot f given = ((c : Command) × (first_of c ≡ f) × Reads c given) ⊎ ((c : Command) → first_of c ≡ f → Reads c given → ⊥)
 
-no_run : (given : Given) → ((w : ℕ) (g : Graph) → AreWorkers given.workers w × IsGraph given.graph g → ⊥) → (c : Command) → first_of c ≡ first.Run → Reads c given → ⊥
+no_run : (given : Given) → ((w : ℕ) (g : Graph) → AreWorkers given.workers w × IsWantedGraph given.graph g → ⊥) → (c : Command) → first_of c ≡ first.Run → Reads c given → ⊥
 no_run given none (Check p) e is = absurd (cc)
 no_run given none (Run w g l) e is = none w g (is.0, is.1)
 no_run given none (Avoid w g) e is = absurd (cc)
@@ -134,7 +134,7 @@ no_run given none (Record w) e is = absurd (cc)
 no_run given none Replay e is = absurd (cc)
 no_run given none (Gen n) e is = absurd (cc)
 
-no_avoid : (given : Given) → ((w : ℕ) (g : Graph) → AreWorkers given.workers w × IsGraph given.graph g → ⊥) → (c : Command) → first_of c ≡ first.Avoid → Reads c given → ⊥
+no_avoid : (given : Given) → ((w : ℕ) (g : Graph) → AreWorkers given.workers w × IsWantedGraph given.graph g → ⊥) → (c : Command) → first_of c ≡ first.Avoid → Reads c given → ⊥
 no_avoid given none (Check p) e is = absurd (cc)
 no_avoid given none (Run w g l) e is = absurd (cc)
 no_avoid given none (Avoid w g) e is = none w g is
@@ -161,8 +161,8 @@ no_gen given none (Gen n) e is = none n is
 -- a number of workers and a graph are given, or they are not
 abbrev WorksOrNot : Given → Type 0
 WorksOrNot given =
-    ((w : ℕ) × (g : Graph) × (AreWorkers given.workers w × IsGraph given.graph g))
-    ⊎ ((w : ℕ) (g : Graph) → AreWorkers given.workers w × IsGraph given.graph g → ⊥)
+    ((w : ℕ) × (g : Graph) × (AreWorkers given.workers w × IsWantedGraph given.graph g))
+    ⊎ ((w : ℕ) (g : Graph) → AreWorkers given.workers w × IsWantedGraph given.graph g → ⊥)
 
 works_or_not : (given : Given) → WorksOrNot given
 works_or_not given =

@@ -7,7 +7,7 @@ use Rattle.std.proofs.lemmas.Slice.Eq.{bytes_eq-Decides}
 use Rattle.std.proofs.lemmas.Grind.{common_steps}
 use Rattle.armus_words.specs.Words.{Text, Use, valued, flag, AreUses, AreWords, IsValue, StandsAlone, all_words, dashed, first_word, has_value_alone, is_value_byte, use_words, wants_value, without}
 use Rattle.armus_words.specs.inside.Form.{first_named, option_named}
-use Rattle.armus_words.specs.Commands.{AreWorkers, Given, IsCommand, IsGenerated, IsGraph, IsNumber, OneMeaning, Reads, first_of, given_by, graph_name}
+use Rattle.armus_words.specs.Commands.{AreWorkers, Given, IsCommand, IsGenerated, IsWantedGraph, IsNumber, OneMeaning, Reads, first_of, given_by, graph_word}
 use Rattle.armus_words.specs.declared.table.FirstWord.{FirstWord}
 use Rattle.armus_words.specs.declared.table.FirstWord.TheVariants as first
 use Rattle.armus_words.specs.declared.table.OptionWord.{OptionWord}
@@ -109,22 +109,22 @@ same_uses n free fresh (flag o ∷ us) (flag o' ∷ vs) a b p q s t e =
 same_uses n free fresh (valued o v ∷ us) (flag o' ∷ vs) a b p q s t e = absurd (mixed o o' (one_option o o' (head_is e)) p.1.0 q.1)
 same_uses n free fresh (flag o ∷ us) (valued o' w ∷ vs) a b p q s t e = absurd (mixed o' o (sym (one_option o o' (head_is e))) q.1.0 p.1)
 
-same_graph : (g h : Graph) → graph_name g ≡ graph_name h → g ≡ h
+same_graph : (g h : Graph) → graph_word g ≡ graph_word h → g ≡ h
 same_graph Auto Auto e = refl
-same_graph Auto Wfg e = absurd (differ (graph_name Auto) (graph_name Wfg) refl e)
-same_graph Auto Sg e = absurd (differ (graph_name Auto) (graph_name Sg) refl e)
-same_graph Auto Grg e = absurd (differ (graph_name Auto) (graph_name Grg) refl e)
-same_graph Wfg Auto e = absurd (differ (graph_name Wfg) (graph_name Auto) refl e)
+same_graph Auto Wfg e = absurd (differ (graph_word Auto) (graph_word Wfg) refl e)
+same_graph Auto Sg e = absurd (differ (graph_word Auto) (graph_word Sg) refl e)
+same_graph Auto Grg e = absurd (differ (graph_word Auto) (graph_word Grg) refl e)
+same_graph Wfg Auto e = absurd (differ (graph_word Wfg) (graph_word Auto) refl e)
 same_graph Wfg Wfg e = refl
-same_graph Wfg Sg e = absurd (differ (graph_name Wfg) (graph_name Sg) refl e)
-same_graph Wfg Grg e = absurd (differ (graph_name Wfg) (graph_name Grg) refl e)
-same_graph Sg Auto e = absurd (differ (graph_name Sg) (graph_name Auto) refl e)
-same_graph Sg Wfg e = absurd (differ (graph_name Sg) (graph_name Wfg) refl e)
+same_graph Wfg Sg e = absurd (differ (graph_word Wfg) (graph_word Sg) refl e)
+same_graph Wfg Grg e = absurd (differ (graph_word Wfg) (graph_word Grg) refl e)
+same_graph Sg Auto e = absurd (differ (graph_word Sg) (graph_word Auto) refl e)
+same_graph Sg Wfg e = absurd (differ (graph_word Sg) (graph_word Wfg) refl e)
 same_graph Sg Sg e = refl
-same_graph Sg Grg e = absurd (differ (graph_name Sg) (graph_name Grg) refl e)
-same_graph Grg Auto e = absurd (differ (graph_name Grg) (graph_name Auto) refl e)
-same_graph Grg Wfg e = absurd (differ (graph_name Grg) (graph_name Wfg) refl e)
-same_graph Grg Sg e = absurd (differ (graph_name Grg) (graph_name Sg) refl e)
+same_graph Sg Grg e = absurd (differ (graph_word Sg) (graph_word Grg) refl e)
+same_graph Grg Auto e = absurd (differ (graph_word Grg) (graph_word Auto) refl e)
+same_graph Grg Wfg e = absurd (differ (graph_word Grg) (graph_word Wfg) refl e)
+same_graph Grg Sg e = absurd (differ (graph_word Grg) (graph_word Sg) refl e)
 same_graph Grg Grg e = refl
 
 one_number : (text : Text) (most a b : ℕ) → IsNumber text most a → IsNumber text most b → a ≡ b
@@ -134,7 +134,7 @@ one_workers : (o : Option Text) (a b : ℕ) → AreWorkers o a → AreWorkers o 
 one_workers (Some text) a b p q = one_number text _ a b p q
 one_workers None a b p q = p ∙ sym q
 
-one_graph : (o : Option Text) (g h : Graph) → IsGraph o g → IsGraph o h → g ≡ h
+one_graph : (o : Option Text) (g h : Graph) → IsWantedGraph o g → IsWantedGraph o h → g ≡ h
 one_graph (Some text) g h p q = same_graph g h (sym p ∙ q)
 one_graph None g h p q = p ∙ sym q
 

@@ -28,11 +28,11 @@ pub record IsNumber (text : Text) (most number : ℕ) : Type 0 where
   pub to_most : number ≤ most
 
 -- the word for a graph
-abbrev pub graph_name : Graph → Text
-graph_name Auto = codes "auto"
-graph_name Wfg = codes "wfg"
-graph_name Sg = codes "sg"
-graph_name Grg = codes "grg"
+abbrev pub graph_word : Graph → Text
+graph_word Auto = codes "auto"
+graph_word Wfg = codes "wfg"
+graph_word Sg = codes "sg"
+graph_word Grg = codes "grg"
 
 -- what the words give: the flags, and the values as they are written
 pub record Given : Type 0 where
@@ -58,9 +58,9 @@ AreWorkers (Some text) workers = IsNumber text MAX_WORKERS workers
 AreWorkers None workers = workers ≡ DEFAULT_WORKERS
 
 -- the wanted graph: the one that is written, or the choice of the program
-abbrev pub IsGraph : Option Text → Graph → Type 0
-IsGraph (Some text) graph = text ≡ graph_name graph
-IsGraph None graph = graph ≡ Auto
+abbrev pub IsWantedGraph : Option Text → Graph → Type 0
+IsWantedGraph (Some text) graph = text ≡ graph_word graph
+IsWantedGraph None graph = graph ≡ Auto
 
 -- the number of workers in a generated text
 abbrev pub IsGenerated : Option Text → ℕ → Type 0
@@ -70,8 +70,8 @@ IsGenerated None count = ⊥
 -- what is given is what the command says
 abbrev pub Reads : Command → Given → Type 0
 Reads (Check print) given = print ≡ given.print
-Reads (Run workers graph live) given = AreWorkers given.workers workers × IsGraph given.graph graph × (live ≡ given.live)
-Reads (Avoid workers graph) given = AreWorkers given.workers workers × IsGraph given.graph graph
+Reads (Run workers graph live) given = AreWorkers given.workers workers × IsWantedGraph given.graph graph × (live ≡ given.live)
+Reads (Avoid workers graph) given = AreWorkers given.workers workers × IsWantedGraph given.graph graph
 Reads (Record workers) given = AreWorkers given.workers workers
 Reads Replay given = Unit {0}
 Reads (Gen count) given = IsGenerated given.alone count

@@ -1,6 +1,6 @@
 // Numbers and names among the values.
 ghost use Rattle.std.specs.Prelude.{◌≡◌, ◌≤◌, ℕ, Some, IfSome, IfNone};
-ghost use Rattle.armus_words.specs.Commands.{IsNumber, graph_name};
+ghost use Rattle.armus_words.specs.Commands.{IsNumber, graph_word};
 ghost use Rattle.armus_words.specs.declared.command.Graph.{Graph};
 
 use crate::command::Graph;
@@ -21,8 +21,8 @@ pub fn number_in(text: &str, most: u64) -> Option<u64>
 
 /// The graph that the text names.
 pub fn graph_in(text: &str) -> Option<Graph>
-    ensures some { IfSome result (λ graph. text.now ≡ graph_name graph) }
-    ensures none { IfNone result ((graph : Graph) → text.now ≡ graph_name graph → ⊥) }
+    ensures some { IfSome result (λ graph. text.now ≡ graph_word graph) }
+    ensures none { IfNone result ((graph : Graph) → text.now ≡ graph_word graph → ⊥) }
 {
     if text == "auto" {
         return Some(Graph::Auto);

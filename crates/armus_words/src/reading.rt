@@ -1,6 +1,6 @@
 // The command that the words mean.
 ghost use Rattle.std.specs.Prelude.{◌≡◌, ℕ, IfOk, IfSome, IfNone, map, option_map, string_bytes};
-ghost use Rattle.armus_words.specs.Commands.{AreWorkers, IsGenerated, IsGraph, Means, Reads, first_of};
+ghost use Rattle.armus_words.specs.Commands.{AreWorkers, IsGenerated, IsWantedGraph, Means, Reads, first_of};
 ghost use Rattle.armus_words.specs.inside.Rules.{given_of};
 ghost use Rattle.armus_words.specs.declared.command.Command.{Command};
 ghost use Rattle.armus_words.specs.declared.command.Graph.{Graph};
@@ -26,8 +26,8 @@ fn workers_in(text: Option<&str>) -> Option<u8>
 
 // The wanted graph.
 fn wanted_in(text: Option<&str>) -> Option<Graph>
-    ensures some { IfSome result (λ graph. IsGraph (option_map (λ s. s.now) text.entry) graph) }
-    ensures none { IfNone result ((graph : Graph) → IsGraph (option_map (λ s. s.now) text.entry) graph → ⊥) }
+    ensures some { IfSome result (λ graph. IsWantedGraph (option_map (λ s. s.now) text.entry) graph) }
+    ensures none { IfNone result ((graph : Graph) → IsWantedGraph (option_map (λ s. s.now) text.entry) graph → ⊥) }
 {
     match text {
         Some(text) => graph_in(text),

@@ -1,6 +1,6 @@
 -- A task is put into the rows of the events that it impedes.
-use Rattle.std.proofs.Common.{◌≡◌, ℕ, ◌+◌, ◌<◌, ◌≤◌, Bool, true, false, List, [], ◌∷◌, ◌++◌, length, refl, sym, ap, ◌∙◌, subst, ◌⊎◌, inl, inr, arith, get_or, set, take, replicate, get_or-set_same, get_or-set_other, length-set}
-use Rattle.std.specs.Prelude.{Any, AllPairs, MatchBool, Vec}
+use Rattle.std.proofs.Common.{◌≡◌, ℕ, ◌+◌, ◌-◌, ◌<◌, ◌≤◌, Bool, true, false, List, [], ◌∷◌, ◌++◌, length, refl, sym, ap, ◌∙◌, subst, ◌⊎◌, inl, inr, arith, get_or, set, take, replicate, get_or-set_same, get_or-set_other, length-set}
+use Rattle.std.specs.Prelude.{Any, AllPairs, Contains, MatchBool, Vec}
 use Rattle.std.specs.Global.{Global}
 use Rattle.std.specs.List.Sorted.{IsPartitionedBy, IsPartitionPoint}
 use Rattle.std.proofs.lemmas.Bool.{cases_eq, cases_lt, cases_Bool}
@@ -12,9 +12,9 @@ use Rattle.armus_base.specs.declared.status.Member.{Member}
 use Rattle.armus_base.specs.declared.status.Status.{Status}
 use Rattle.armus_base.specs.Statuses.{Impedes}
 use Rattle.dep_state.specs.Deps.{IsBefore, rows_of}
-use Rattle.dep_state.specs.Made.{NotAfter, IsFirstAfter, IsAdded, IsPhaseBelow, IsImpederRow, event_at}
+use Rattle.dep_state.specs.inside.Made.{NotAfter, IsFirstAfter, IsAdded, IsPhaseBelow, IsImpederRow, nth_event}
 use Rattle.dep_state.proofs.TaskPlaces.{row_at}
-use Rattle.dep_state.proofs.DistinctEvents.{before_not_after, before_then}
+use Rattle.dep_state.proofs.DistinctEvents.{before_not_after, before_then, not_before_itself}
 use Rattle.dep_state.proofs.ImpederRows.{row_more, row_same}
 
 -- the event that stands for none
@@ -116,9 +116,26 @@ module _ (es : List Event) (x : Event) (up : AllPairs IsBefore es) where
   first_after_at n le point =
       record {
         inside = le;
-        ahead = λ j lt. test_true (event_at es j) x (point.0 j none (omega arith) lt);
-        from = λ j le lt. test_false (event_at es j) x (point.1 j none le lt);
+        ahead = λ j lt. test_true (nth_event es j) x (point.0 j none (omega arith) lt);
+        from = λ j le lt. test_false (nth_event es j) x (point.1 j none le lt);
       }
+
+-- an event of the list stands ahead of the first one after it
+pub place_ahead : (es : List Event) (x : Event) (n : ℕ) → AllPairs IsBefore es → IsFirstAfter es x n → Contains es x → (0 < n) × (n - 1 < length es) × (get_or es (n - 1) x ≡ x)
+place_ahead es x n up point (p, lt, e) =
+    let here : nth_event es p ≡ x = get_or_default es p none x lt ∙ e in
+    let low : p < n = elim (cases_lt p n) [ inl l ↦ l | inr h ↦ absurd (point.from p h lt (subst (λ y. NotAfter y x) (sym here) (inr (refl, omega arith)))) ] in
+    let last : n - 1 < length es = omega (arith, point.inside) in (
+      omega arith,
+      last,
+      elim (cases_eq p (n - 1)) [
+        | inl same ↦ subst (λ i. get_or es i x ≡ x) same e
+        | inr ne ↦
+            let b : IsBefore (get_or es p x) (get_or es (n - 1) x) = up p (n - 1) x (omega arith) last in
+            let a : NotAfter (get_or es (n - 1) x) x = subst (λ y. NotAfter y x) (get_or_default es (n - 1) none x last) (point.ahead (n - 1) (omega arith)) in
+            absurd (not_before_itself (get_or es p x) x e (before_then (get_or es p x) (get_or es (n - 1) x) x b a))
+      ],
+    )
 
 phaser_of : ℕ → PhaserId
 phaser_of n = record { 0 = n }
@@ -160,15 +177,15 @@ module _ (es : List Event) (k : ℕ) where
   -- one more phase of a task
   pub phase_more :
       (ms : List Member) (n : ℕ) (m : Member) (old mid now : List (List ℕ)) → AllPairs (λ c d. c.p.0 < d.p.0) ms → n < length ms → get_or ms n m ≡ m →
-      IsAdded (λ i. Any (λ c. IsPhaseBelow c (event_at es i)) (take n ms)) k old mid → IsAdded (λ i. IsPhaseBelow m (event_at es i)) k mid now →
-      IsAdded (λ i. Any (λ c. IsPhaseBelow c (event_at es i)) (take (n + 1) ms)) k old now
+      IsAdded (λ i. Any (λ c. IsPhaseBelow c (nth_event es i)) (take n ms)) k old mid → IsAdded (λ i. IsPhaseBelow m (nth_event es i)) k mid now →
+      IsAdded (λ i. Any (λ c. IsPhaseBelow c (nth_event es i)) (take (n + 1) ms)) k old now
   phase_more ms n m old mid now up lt is g h =
-      let Has : List Member → ℕ → Type 0 = λ cs i. Any (λ c. IsPhaseBelow c (event_at es i)) cs in
+      let Has : List Member → ℕ → Type 0 = λ cs i. Any (λ c. IsPhaseBelow c (nth_event es i)) cs in
       let e : take (n + 1) ms ≡ take n ms ++ m ∷ [] = rw is at (take_more ms n m lt) in
-      rw e (added_more (Has (take n ms)) (λ i. IsPhaseBelow m (event_at es i)) (Has (take n ms ++ m ∷ [])) k old mid now g h
-      (λ i in' a. any_push_cases (take n ms) m (event_at es i) a)
-      (λ i in' a. (any_left (take n ms) m (event_at es i) a, λ b. apart ms n m up lt is (event_at es i) a b))
-      (λ i in' b. any_here (take n ms) m (event_at es i) b))
+      rw e (added_more (Has (take n ms)) (λ i. IsPhaseBelow m (nth_event es i)) (Has (take n ms ++ m ∷ [])) k old mid now g h
+      (λ i in' a. any_push_cases (take n ms) m (nth_event es i) a)
+      (λ i in' a. (any_left (take n ms) m (nth_event es i) a, λ b. apart ms n m up lt is (nth_event es i) a b))
+      (λ i in' b. any_here (take n ms) m (nth_event es i) b))
 
 -- the rows with the places below n of the statuses that impede each event
 pub record AreRowsTo (ss : List Status) (es : List Event) (n : ℕ) (rows : List (List ℕ)) : Type 0 where
@@ -191,12 +208,12 @@ rows_none ss es rows is =
 -- the rows with one more task
 pub rows_more :
     (ss : List Status) (es : List Event) (n : ℕ) (s : Status) (old now : List (List ℕ)) → AreRowsTo ss es n old → n < length ss → s ≡ get_or ss n s →
-    IsAdded (λ i. Impedes s (event_at es i)) n old now → AreRowsTo ss es (n + 1) now
+    IsAdded (λ i. Impedes s (nth_event es i)) n old now → AreRowsTo ss es (n + 1) now
 rows_more ss es n s old now h lt is added =
     record {
       sized = added.sized ∙ h.sized;
       each = λ i e in'.
-          let f : event_at es i ≡ get_or es i e = get_or_default es i none e in' in
+          let f : nth_event es i ≡ get_or es i e = get_or_default es i none e in' in
           let row = h.each i e in' in
           elim (added.each i (omega (arith, h.sized))) [
             | inl p ↦ rw p.1 (row_more ss (get_or es i e) n (get_or old i []) row s lt is (subst (λ x. Impedes s x) f p.0))

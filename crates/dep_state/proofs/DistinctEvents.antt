@@ -13,7 +13,7 @@ use Rattle.std.proofs.lemmas.List.Sorted.{Contains-permutation, IsPermutation-sy
 use Rattle.armus_base.specs.declared.status.Status.{Status}
 use Rattle.dep_state.proofs.DeadSets.{Contains-map, Contains-from_map}
 use Rattle.dep_state.specs.Deps.{IsBefore}
-use Rattle.dep_state.specs.Made.{NotAfter, NeverFalls, IsFresh, IsDistinctOf, IsEventsOf}
+use Rattle.dep_state.specs.inside.Made.{NotAfter, NeverFalls, IsFresh, IsDistinctOf, IsEventsOf}
 
 pub not_after_then : (a b c : Event) → NotAfter a b → IsBefore b c → IsBefore a c
 not_after_then a b c (inl l) (inl m) = inl (omega arith)
@@ -128,39 +128,6 @@ module _ (all es : List Event) (i : ℕ) (h : IsDistinctTo all i es) (x : Event)
 pub not_before_itself : (a b : Event) → a ≡ b → IsBefore a b → ⊥
 not_before_itself a b e (inl l) = omega (arith, ap (λ x. x.p.0) e)
 not_before_itself a b e (inr r) = omega (arith, ap (λ x. x.n) e, r.1)
-
-module _ (es : List Event) (x o : Event) (m : ℕ) (up : AllPairs IsBefore es) where
-  -- all up to one that is before the event are before it
-  pub before_middle : m < length es → IsBefore (get_or es m o) x → (j : ℕ) (d : Event) → j < m + 1 → IsBefore (get_or es j d) x
-  before_middle lt is' j d in' =
-      let is : IsBefore (get_or es m x) x = subst (λ y. IsBefore y x) (get_or_default es m o x lt) is' in
-      let e = get_or_default es j x d (omega arith) in
-      subst (λ y. IsBefore y x) e (elim (cases_eq j m) [
-        | inl same ↦ subst (λ i. IsBefore (get_or es i x) x) (sym same) is
-        | inr ne ↦ not_after_then (get_or es j x) (get_or es m x) x (before_not_after (get_or es j x) (get_or es m x) (up j m x (omega arith) lt)) is
-      ])
-
-  -- none from one on that is not before the event is before it
-  pub after_middle : (IsBefore (get_or es m o) x → ⊥) → (j : ℕ) (d : Event) → m ≤ j → j < length es → IsBefore (get_or es j d) x → ⊥
-  after_middle off' j d le in' is =
-      let off : IsBefore (get_or es m x) x → ⊥ = λ b. off' (subst (λ y. IsBefore y x) (get_or_default es m x o (omega arith)) b) in
-      let e = get_or_default es j d x in' in
-      let b : IsBefore (get_or es j x) x = subst (λ y. IsBefore y x) e is in
-      off (elim (cases_eq j m) [
-        | inl same ↦ subst (λ i. IsBefore (get_or es i x) x) same b
-        | inr ne ↦ not_after_then (get_or es m x) (get_or es j x) x (before_not_after (get_or es m x) (get_or es j x) (up m j x (omega arith) in')) b
-      ])
-
-  -- where the search ends the event stands
-  pub found : ((j : ℕ) (d : Event) → j < m → IsBefore (get_or es j d) x) → ((j : ℕ) (d : Event) → m ≤ j → j < length es → IsBefore (get_or es j d) x → ⊥) → Contains es x → get_or es m x ≡ x
-  found before after (p, lt, e) =
-      elim (cases_order p m) [
-        | inl same ↦ subst (λ i. get_or es i x ≡ x) same e
-        | inr apart ↦ elim apart [
-          | inl low ↦ absurd (not_before_itself (get_or es p x) x e (before p x low))
-          | inr high ↦ absurd (after m x (omega arith) (omega arith) (subst (λ y. IsBefore (get_or es m x) y) e (up m p x high lt)))
-        ]
-      ]
 
 -- the events that the statuses await
 pub events_of :

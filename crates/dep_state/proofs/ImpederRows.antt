@@ -8,7 +8,7 @@ use Rattle.std.proofs.lemmas.List.Quantifiers.{all_pairs_push}
 use Rattle.armus_base.specs.declared.event.Event.{Event}
 use Rattle.armus_base.specs.declared.status.Status.{Status}
 use Rattle.armus_base.specs.Statuses.{Impedes}
-use Rattle.dep_state.specs.Made.{IsImpederRow}
+use Rattle.dep_state.specs.inside.Made.{IsImpederRow}
 
 module _ (ss : List Status) (e : Event) (k : ℕ) (row : List ℕ) (h : IsImpederRow ss e k row) (s : Status) (lt : k < length ss) (at : s ≡ get_or ss k s) where
   same : (v : Status) → get_or ss k v ≡ s

@@ -6,7 +6,7 @@ use Rattle.std.proofs.lemmas.List.{get_or_default, length-append, get_or_push, l
 use Rattle.std.proofs.lemmas.List.Elements.{All-push}
 use Rattle.armus_base.specs.declared.event.Event.{Event}
 use Rattle.armus_base.specs.declared.status.Status.{Status}
-use Rattle.dep_state.specs.Made.{IsEventsOf, IsPlacesOf, IsImpedersOf}
+use Rattle.dep_state.specs.inside.Made.{IsEventsOf, IsPlacesOf, IsImpedersOf}
 use Rattle.armus_base.specs.Statuses.{IsInOrder}
 use Rattle.dep_state.proofs.TaskPlaces.{element}
 use Rattle.dep_state.proofs.EventPlaces.{one_place_of_event}

@@ -7,7 +7,8 @@ use Rattle.armus_base.specs.declared.ids.TaskId.{TaskId}
 use Rattle.armus_base.specs.declared.event.Event.{Event}
 use Rattle.armus_base.specs.declared.status.Status.{Status}
 use Rattle.armus_base.specs.Statuses.{IsInOrder}
-use Rattle.dep_state.specs.Deps.{Deps, IsDepsOf, impeders_of, named, rows_of}
+use Rattle.dep_state.specs.Deps.{Deps, IsDepsOf, impeders_of, rows_of}
+use Rattle.dep_state.specs.inside.Names.{named}
 use Rattle.dep_state.specs.Picks.{IsImpederList}
 use Rattle.dep_state.proofs.DeadSets.{Contains-map, Contains-from_map}
 use Rattle.dep_state.proofs.EventPlaces.{EventAt, impeded_at}

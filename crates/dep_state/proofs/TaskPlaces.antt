@@ -10,7 +10,7 @@ use Rattle.armus_base.specs.declared.status.Status.{Status}
 use Rattle.armus_base.specs.Statuses.{IsInOrder}
 use Rattle.armus_base.specs.DeadLists.{IsDeadList}
 use Rattle.armus_base.proofs.Elements.{nothing_in_nil}
-use Rattle.dep_state.specs.Deps.{Deps, IsDepsOf, IsWellFormed, impeders_of, rows_of}
+use Rattle.dep_state.specs.Deps.{Deps, IsDepsOf, AreRelations, impeders_of, rows_of}
 use Rattle.dep_state.specs.Picks.{Ascend, IsPick}
 use Rattle.dep_state.proofs.DeadSets.{IsDead, dead_by_list, dead_in_list}
 
@@ -34,7 +34,7 @@ element (x ∷ xs) zero lt = (x, refl)
 element (x ∷ xs) (suc k) lt = element xs k (omega arith)
 
 -- each task that impedes an event is one of the tasks
-pub impeder_inside : (d : Deps) → IsWellFormed d → (e t : ℕ) → Contains (impeders_of d e) t → t < length d.tasks
+pub impeder_inside : (d : Deps) → AreRelations d → (e t : ℕ) → Contains (impeders_of d e) t → t < length d.tasks
 impeder_inside d ok e t c = All-contains (λ x. x < length d.tasks) (impeders_of d e) t (ok.tasks_inside e [] (row_some d.impeders e t c)) c
 
 -- a status stands at a place, with its task

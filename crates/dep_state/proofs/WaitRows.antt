@@ -7,7 +7,8 @@ use Rattle.armus_base.specs.declared.ids.TaskId.{TaskId}
 use Rattle.armus_base.specs.declared.status.Status.{Status}
 use Rattle.armus_base.specs.Graphs.{WaitsFor}
 use Rattle.armus_base.specs.Statuses.{Impedes, IsInOrder}
-use Rattle.dep_state.specs.Deps.{Deps, IsDepsOf, IsNamed, IsWellFormed, impeders_of, named}
+use Rattle.dep_state.specs.Deps.{Deps, IsDepsOf, AreRelations, impeders_of}
+use Rattle.dep_state.specs.inside.Names.{IsNamed, named}
 use Rattle.dep_state.specs.Picks.{Ascend}
 use Rattle.dep_state.proofs.DeadSets.{one_status}
 use Rattle.dep_state.proofs.EventPlaces.{awaited_at}
@@ -24,7 +25,7 @@ named_ascends tasks row tasks_up row_up inside j k u below lt =
     omega (arith, up, ap (λ x. x.0) a, ap (λ x. x.0) b)
 
 -- so do all rows of names
-pub all_named_ascend : (d : Deps) (names : List (List TaskId)) → IsWellFormed d → ((i : ℕ) → AllPairs (λ j k. j < k) (impeders_of d i)) → Ascend d.tasks → IsNamed d.tasks d.impeders names → All Ascend names
+pub all_named_ascend : (d : Deps) (names : List (List TaskId)) → AreRelations d → ((i : ℕ) → AllPairs (λ j k. j < k) (impeders_of d i)) → Ascend d.tasks → IsNamed d.tasks d.impeders names → All Ascend names
 all_named_ascend d names ok rows_up up is =
     rw is (All-map Ascend (named d.tasks) d.impeders (λ k row lt.
     rw (get_or_default d.impeders k row [] lt) (named_ascends d.tasks (impeders_of d k) up (rows_up k) (ok.tasks_inside k [] lt))))

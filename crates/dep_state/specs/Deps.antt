@@ -30,7 +30,7 @@ abbrev pub IsBefore : Event → Event → Type 0
 IsBefore a b = (a.p.0 < b.p.0) ⊎ ((a.p.0 ≡ b.p.0) × (a.n < b.n))
 
 -- what the relations keep whatever the statuses: sizes, order, and places that are places
-pub record IsWellFormed (d : Deps) : Type 0 where
+pub record AreRelations (d : Deps) : Type 0 where
   pub awaits_sized : length d.awaits ≡ length d.tasks
   pub impeders_sized : length d.impeders ≡ length d.events
   pub few : length d.tasks < 2 ^ 31
@@ -40,17 +40,9 @@ pub record IsWellFormed (d : Deps) : Type 0 where
   pub each_awaited : (i : ℕ) → i < length d.events → IsAwaitedBy d (length d.tasks) i
   pub ordered : AllPairs IsBefore d.events
 
--- a task's name for each place
-abbrev pub named : List TaskId → List ℕ → List TaskId
-named tasks row = map (λ k. slice_index_or tasks k (record { 0 = 0 })) row
-
--- the tasks that impede each event, by name
-abbrev pub IsNamed : List TaskId → List (List ℕ) → List (List TaskId) → Type 0
-IsNamed tasks rows names = names ≡ map (named tasks) rows
-
 -- the relations are those of the statuses
 pub record IsDepsOf (ss : List Status) (d : Deps) : Type 0 where
-  pub formed : IsWellFormed d
+  pub formed : AreRelations d
   pub awaited : (e : Event) → Contains d.events e ↔ IsAwaited ss e
   pub ascend : (i : ℕ) → AllPairs (λ j k. j < k) (impeders_of d i)
   pub tasks : d.tasks ≡ map (λ s. s.t) ss

@@ -1,4 +1,4 @@
 pub mod Deps
-pub mod Made
 pub mod Picks
-pub mod Order
+-- How the program does it: private contracts alone cite these.
+pub mod inside

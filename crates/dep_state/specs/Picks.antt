@@ -1,5 +1,5 @@
 -- Tasks picked from an ascending list.
-use Rattle.std.specs.Prelude.{◌≡◌, ◌↔◌, ◌<◌, ◌≤◌, ℕ, Bool, true, false, List, length, Contains, AllPairs, Option, None, slice_get, slice_index_or, if◌then◌else◌}
+use Rattle.std.specs.Prelude.{◌≡◌, ◌↔◌, ◌<◌, ℕ, Bool, true, false, List, length, Contains, AllPairs, Option, None, slice_get, slice_index_or, if◌then◌else◌}
 use Rattle.armus_base.specs.declared.event.Event.{Event}
 use Rattle.armus_base.specs.declared.ids.TaskId.{TaskId}
 use Rattle.armus_base.specs.declared.status.Status.{Status}
@@ -23,12 +23,6 @@ pub record IsPick (tasks : List TaskId) (answers : List Bool) (picked : List Tas
 -- the task stands at this place
 abbrev pub IsTaskAt : List TaskId → TaskId → ℕ → Type 0
 IsTaskAt ts t k = (k < length ts) × ((u : TaskId) → slice_index_or ts k u ≡ t)
-
--- the tasks ahead of this place are below the task, and those from it on are not
-pub record IsCut (ts : List TaskId) (t : TaskId) (at : ℕ) : Type 0 where
-  pub inside : at ≤ length ts
-  pub ahead : (k : ℕ) (u : TaskId) → k < at → (slice_index_or ts k u).0 < t.0
-  pub from : (k : ℕ) (u : TaskId) → at ≤ k → k < length ts → t.0 ≤ (slice_index_or ts k u).0
 
 -- these are the tasks of the list that impede the event, in order of number
 pub record IsImpederList (list : List Status) (e : Event) (ts : List TaskId) : Type 0 where

@@ -4,7 +4,7 @@ ghost use Rattle.armus_base.specs.declared.ids.TaskId.{TaskId};
 ghost use Rattle.armus_base.specs.declared.status.Status.{Status};
 ghost use Rattle.armus_base.specs.Graphs.{WaitsFor};
 ghost use Rattle.armus_base.specs.Statuses.{IsInOrder};
-ghost use Rattle.dep_state.specs.Deps.{IsWellFormed, IsDepsOf, impeders_of};
+ghost use Rattle.dep_state.specs.Deps.{AreRelations, IsDepsOf, impeders_of};
 ghost use Rattle.dep_state.specs.Picks.{Ascend, IsImpederList, HasNoStatus, HasEvent};
 
 use crate::{events, impeders, names, search};
@@ -25,7 +25,8 @@ pub struct DepState {
 
 impl Model for DepState {
     ghost use Rattle.std.specs.Prelude.{All};
-    ghost use Rattle.dep_state.specs.Deps.{Deps, IsWellFormed, IsNamed, rows_of};
+    ghost use Rattle.dep_state.specs.Deps.{Deps, AreRelations, rows_of};
+    ghost use Rattle.dep_state.specs.inside.Names.{IsNamed};
     ghost use Rattle.dep_state.specs.Picks.{Ascend};
 
     ghost Value = { Deps };
@@ -33,7 +34,7 @@ impl Model for DepState {
     ghost view = { λ d. record { tasks = d.tasks.items; awaits = d.awaits.items; events = d.events.items; impeders = rows_of d.impeders.items } };
 
     ghost invariant = { λ d.
-        IsWellFormed (record { tasks = d.tasks.items; awaits = d.awaits.items; events = d.events.items; impeders = rows_of d.impeders.items }) ×
+        AreRelations (record { tasks = d.tasks.items; awaits = d.awaits.items; events = d.events.items; impeders = rows_of d.impeders.items }) ×
         IsNamed d.tasks.items (rows_of d.impeders.items) (rows_of d.impeding.items) × Ascend d.tasks.items ×
         All Ascend (rows_of d.impeding.items) };
 }
@@ -80,7 +81,7 @@ impl DepState {
     pub fn events(&self) -> &[Event]
         ensures events { result.now ≡ self.now.events }
         ensures few { length self.now.events < 2 ^ 31 }
-        ensures formed { IsWellFormed self.now }
+        ensures formed { AreRelations self.now }
     {
         &self.events
     }
@@ -110,7 +111,7 @@ impl DepState {
     /// The place among the events of what each task awaits, in the order of the tasks.
     pub fn places(&self) -> &[u32]
         ensures places { result.now ≡ self.now.awaits }
-        ensures formed { IsWellFormed self.now }
+        ensures formed { AreRelations self.now }
     {
         &self.awaits
     }
@@ -120,7 +121,7 @@ impl DepState {
         requires { task < length self.now.tasks }
         ensures event { result ≡ slice_index self.now.awaits task }
         ensures inside { result < length self.now.events }
-        ensures formed { IsWellFormed self.now }
+        ensures formed { AreRelations self.now }
     {
         self.awaits[task as usize]
     }

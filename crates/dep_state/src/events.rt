@@ -3,7 +3,7 @@ ghost use Rattle.std.specs.Prelude.{◌≡◌, ◌<◌, ◌^◌, length, map, If
 ghost use Rattle.armus_base.specs.Statuses.{IsAwaited, IsInOrder};
 ghost use Rattle.armus_base.specs.declared.status.Status.{Status};
 ghost use Rattle.dep_state.specs.Deps.{IsBefore};
-ghost use Rattle.dep_state.specs.Made.{NeverFalls, IsFresh, IsDistinctOf, IsEventsOf, IsPlacesOf};
+ghost use Rattle.dep_state.specs.inside.Made.{NeverFalls, NotAfter, IsFirstAfter, IsFresh, IsDistinctOf, IsEventsOf, IsPlacesOf};
 
 use armus_base::{Event, Status, TaskId};
 use std::alloc::{AllocError, Global};
@@ -60,24 +60,29 @@ pub fn awaited_events(alloc: Global, list: &[Status]) -> Result<Vec<Event>, Allo
     distinct(alloc, &all)
 }
 
-/// Where an event stands, by a binary search.
+// Whether an event is before another, or equal to it.
+fn is_not_after(a: Event, b: Event) -> bool
+    ensures { MatchBool result (NotAfter a b) (¬ NotAfter a b) }
+{
+    a.p.0 < b.p.0 || (a.p.0 == b.p.0 && a.n <= b.n)
+}
+
+/// The place of the first event after a given one, which need not stand there.
+pub fn first_after(events: &[Event], event: Event) -> usize
+    requires { AllPairs IsBefore events.now }
+    ensures { IsFirstAfter events.now event result }
+{
+    events.partition_point(|other| is_not_after(*other, event))
+}
+
+/// Where an event stands: ahead of the first one after it.
 pub fn event_place(events: &[Event], event: Event) -> usize
     requires ordered { AllPairs IsBefore events.now }
     requires there { Contains events.now event }
     ensures inside { result < length events.now }
     ensures there { slice_index_or events.now result event ≡ event }
 {
-    let mut low = 0;
-    let mut high = events.len();
-    'search: while low < high {
-        let middle = low + (high - low) / 2;
-        if is_before(events[middle], event) {
-            low = middle + 1;
-        } else {
-            high = middle;
-        }
-    }
-    low
+    first_after(events, event) - 1
 }
 
 /// The place of the event that each status awaits, by a search among the events.

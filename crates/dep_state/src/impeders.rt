@@ -1,26 +1,12 @@
 // Which tasks impede each event: each task in turn is put into the rows of the events that it impedes, so the rows ascend.
-ghost use Rattle.std.specs.Prelude.{◌≡◌, ◌<◌, ◌^◌, [], length, replicate, IfOk, OnOk, AllPairs, MatchBool};
+ghost use Rattle.std.specs.Prelude.{◌≡◌, ◌<◌, ◌^◌, [], length, replicate, IfOk, OnOk, AllPairs};
 ghost use Rattle.armus_base.specs.Statuses.{Impedes, IsInOrder};
 ghost use Rattle.dep_state.specs.Deps.{IsBefore, rows_of};
-ghost use Rattle.dep_state.specs.Made.{NotAfter, IsFirstAfter, IsPhaseBelow, IsAdded, IsImpedersOf, event_at};
+ghost use Rattle.dep_state.specs.inside.Made.{IsPhaseBelow, IsAdded, IsImpedersOf, nth_event};
 
+use crate::events::first_after;
 use armus_base::{Event, Member, Status};
 use std::alloc::{AllocError, Global};
-
-// Whether an event is before another, or equal to it.
-fn is_not_after(a: Event, b: Event) -> bool
-    ensures { MatchBool result (NotAfter a b) (¬ NotAfter a b) }
-{
-    a.p.0 < b.p.0 || (a.p.0 == b.p.0 && a.n <= b.n)
-}
-
-// The place of the first event after a given one, which need not stand there.
-fn first_after(events: &[Event], event: Event) -> usize
-    requires { AllPairs IsBefore events.now }
-    ensures { IsFirstAfter events.now event result }
-{
-    events.partition_point(|other| is_not_after(*other, event))
-}
 
 // Puts a number at the end of a row.
 fn push_to(rows: &mut Vec<Vec<u32>>, i: usize, k: u32) -> Result<(), AllocError>
@@ -40,7 +26,7 @@ fn add_phase(
 ) -> Result<(), AllocError>
     requires ordered { AllPairs IsBefore events.now }
     requires sized { length rows.old.items ≡ length events.now }
-    ensures { OnOk result (IsAdded (λ i. IsPhaseBelow member (event_at events.now i)) k (rows_of rows.old.items) (rows_of rows.new.items)) }
+    ensures { OnOk result (IsAdded (λ i. IsPhaseBelow member (nth_event events.now i)) k (rows_of rows.old.items) (rows_of rows.new.items)) }
 {
     let phase = Event {
         p: member.p,
@@ -64,7 +50,7 @@ fn add_task(
     requires ascends { AllPairs (λ c d. c.p.0 < d.p.0) status.now.phases }
     requires ordered { AllPairs IsBefore events.now }
     requires sized { length rows.old.items ≡ length events.now }
-    ensures { OnOk result (IsAdded (λ i. Impedes status.now (event_at events.now i)) k (rows_of rows.old.items) (rows_of rows.new.items)) }
+    ensures { OnOk result (IsAdded (λ i. Impedes status.now (nth_event events.now i)) k (rows_of rows.old.items) (rows_of rows.new.items)) }
 {
     for member in status.phases.as_slice() {
         add_phase(rows, events, *member, k)?;

@@ -1,7 +1,7 @@
 // The order that a list of statuses keeps.
 ghost use Rattle.std.specs.Prelude.{◌↔◌, ◌<◌, ◌^◌, length, All, AllPairs, IsTrue, MatchBool};
 ghost use Rattle.armus_base.specs.Statuses.{IsInOrder};
-ghost use Rattle.dep_state.specs.Order.{HasOrderedPhases, HaveOrderedTasks, IsOrderedPhases};
+ghost use Rattle.dep_state.specs.inside.Order.{HasOrderedPhases, HaveOrderedTasks, IsOrderedPhases};
 
 use armus_base::{Member, Status};
 

@@ -1,25 +1,16 @@
 // Where a task stands in an ascending list.
 ghost use Rattle.std.specs.Prelude.{Contains, MatchOption};
-ghost use Rattle.dep_state.specs.Picks.{Ascend, IsCut, IsTaskAt};
+ghost use Rattle.dep_state.specs.Picks.{Ascend, IsTaskAt};
+ghost use Rattle.dep_state.specs.inside.LowerBounds.{IsLowerBound};
 
 use armus_base::TaskId;
 
 // The place of the first task that is not below the given one.
 fn first_from(tasks: &[TaskId], t: TaskId) -> usize
     requires { Ascend tasks.now }
-    ensures { IsCut tasks.now t result }
+    ensures { IsLowerBound tasks.now t result }
 {
-    let mut low = 0;
-    let mut high = tasks.len();
-    'search: while low < high {
-        let middle = low + (high - low) / 2;
-        if tasks[middle].0 < t.0 {
-            low = middle + 1;
-        } else {
-            high = middle;
-        }
-    }
-    low
+    tasks.partition_point(|u| u.0 < t.0)
 }
 
 /// The place of a task in a list that ascends. None comes exactly where it does not stand there.

@@ -3,9 +3,11 @@ use Rattle.std.proofs.Common.{◌≡◌, ℕ, ◌<◌, Bool, true, false, List, 
 use Rattle.std.specs.Prelude.{◌↔◌, All}
 use Rattle.std.proofs.lemmas.Bool.{cases_eq}
 use Rattle.std.proofs.lemmas.List.Elements.{All-contains}
-use Rattle.digraph.specs.Graph.{HasEdge, IsGraph, TellsCycles}
-use Rattle.digraph.specs.Search.{row_of}
-use Rattle.digraph.specs.Cycle.{IsLeastSuccessor, IsLeast}
+use Rattle.digraph.specs.Graph.{HasEdge, TellsCycles}
+use Rattle.digraph.specs.inside.Rows.{IsGraph}
+use Rattle.digraph.specs.inside.Search.{row_of}
+use Rattle.digraph.specs.Cycle.{IsLeastSuccessor}
+use Rattle.digraph.specs.inside.Least.{IsLeastAnswered}
 
 -- a flag that is set
 pub set_flag : (xs : List Bool) (i j : ℕ) → i < length xs → (get_or (set xs i true) j false ≡ true) ↔ ((j ≡ i) ⊎ (get_or xs j false ≡ true))
@@ -32,7 +34,7 @@ module _ (g : List (List ℕ)) (answers : List Bool) (ok : IsGraph g) (tells : T
       let f = All-contains (λ x. get_or answers x false ≡ false) (row_of g node) b none edge in
       cc
 
-  pub step_from_least : (b : ℕ) → IsLeast (row_of g node) answers b → IsLeastSuccessor g node b
+  pub step_from_least : (b : ℕ) → IsLeastAnswered (row_of g node) answers b → IsLeastSuccessor g node b
   step_from_least b h =
       record {
         edge = h.there;

@@ -8,8 +8,9 @@ use Rattle.std.proofs.lemmas.List.Elements.{All-get_or}
 use Rattle.std.proofs.lemmas.List.Sums.{sum_by-set}
 use Rattle.std.proofs.lemmas.Bool.{cases_Bool, cases_lt}
 use Rattle.armus_base.specs.Relations.{ReachesCycle, IsInClosedSet}
-use Rattle.digraph.specs.Graph.{HasEdge, IsGraph, graph_of, TellsCycles}
-use Rattle.digraph.specs.Search.{IsSearch, IsAhead, mark_of, row_of, is_unvisited, is_cyclic, IsSettled}
+use Rattle.digraph.specs.Graph.{HasEdge, graph_of, TellsCycles}
+use Rattle.digraph.specs.inside.Rows.{IsGraph}
+use Rattle.digraph.specs.inside.Search.{IsSearch, IsAhead, mark_of, row_of, is_unvisited, is_cyclic, IsSettled}
 use Rattle.digraph.specs.declared.search.Mark.{Mark}
 use Rattle.digraph.specs.declared.search.Mark.TheVariants.{Unvisited, OnStack, Acyclic, Cyclic}
 use Rattle.digraph.proofs.SearchLemmas.{pop_step, push_step, look_step, nothing_left, back_edge, all_reach}

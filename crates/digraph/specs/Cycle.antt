@@ -1,5 +1,5 @@
 -- The walk to a cycle that goes to the least successor each time.
-use Rattle.std.specs.Prelude.{◌≡◌, ℕ, ◌≤◌, Bool, true, false, List, Contains, slice_index_or}
+use Rattle.std.specs.Prelude.{ℕ, ◌≤◌, List}
 use Rattle.armus_base.specs.Relations.{ReachesCycle}
 use Rattle.digraph.specs.Graph.{HasEdge}
 
@@ -8,9 +8,3 @@ pub record IsLeastSuccessor (g : List (List ℕ)) (a b : ℕ) : Type 0 where
   pub edge : HasEdge g a b
   pub reaches : ReachesCycle (HasEdge g) b
   pub least : (u : ℕ) → HasEdge g a u → ReachesCycle (HasEdge g) u → b ≤ u
-
--- the first element of an ascending row whose answer is true
-pub record IsLeast (row : List ℕ) (answers : List Bool) (b : ℕ) : Type 0 where
-  pub there : Contains row b
-  pub yes_there : slice_index_or answers b false ≡ true
-  pub least : (u : ℕ) → Contains row u → slice_index_or answers u false ≡ true → b ≤ u

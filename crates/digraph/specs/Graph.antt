@@ -1,26 +1,11 @@
 -- A directed graph on the nodes 0, 1, .. as the list of each node's successors, ascending.
-use Rattle.std.specs.Prelude.{◌≡◌, ◌↔◌, ◌⊎◌, ◌^◌, Bool, false, IsTrue, ℕ, ◌<◌, List, [], length, map, Contains, All, slice_index, slice_index_or}
-use Rattle.std.specs.Prelude.{Vec}
-use Rattle.std.specs.List.{sum_by}
+use Rattle.std.specs.Prelude.{◌≡◌, ◌↔◌, ◌⊎◌, Bool, false, IsTrue, ℕ, ◌<◌, List, [], length, map, Contains, slice_index_or, Vec}
 use Rattle.std.specs.Global.{Global}
-use Rattle.armus_base.specs.Counts.{IsCount}
 use Rattle.armus_base.specs.Relations.{ReachesCycle, IsInClosedSet}
 
 -- there is an edge from a to b
 abbrev pub HasEdge : List (List ℕ) → ℕ → ℕ → Type 0
 HasEdge g a b = Contains (slice_index_or g a []) b
-
--- each number is below those after it
-abbrev pub Ascends : List ℕ → Type 0
-Ascends xs = (j k : ℕ) → j < k → k < length xs → slice_index xs j < slice_index xs k
-
--- what is true of a node's successors among n nodes: they ascend, and each is a node
-abbrev pub IsRow : ℕ → List ℕ → Type 0
-IsRow n row = Ascends row × All (λ b. b < n) row
-
--- what is true of all rows
-abbrev pub IsGraph : List (List ℕ) → Type 0
-IsGraph g = All (IsRow (length g)) g
 
 -- the graph that rows of successors are
 abbrev pub graph_of : List (Vec ℕ Global) → List (List ℕ)
@@ -31,17 +16,6 @@ pub record TellsCycles (g : List (List ℕ)) (answers : List Bool) : Type 0 wher
   pub sized : length answers ≡ length g
   pub cycles : (v : ℕ) → v < length g → IsTrue (slice_index_or answers v false) ↔ ReachesCycle (HasEdge g) v
   pub sets : (v : ℕ) → v < length g → IsTrue (slice_index_or answers v false) ↔ IsInClosedSet (HasEdge g) v
-
--- how many edges there are: the lengths of the rows together
-abbrev pub edge_count : List (List ℕ) → ℕ
-edge_count g = sum_by length g
-
--- what a digraph keeps: each row ascends and has only nodes, and the edges are counted
-pub record IsDigraph (g : List (List ℕ)) (count : ℕ) : Type 0 where
-  pub rows : IsGraph g
-  pub counted : count ≡ edge_count g
-  pub exact : IsCount (λ (p : ℕ × ℕ). HasEdge g p.0 p.1) count
-  pub few : length g < 2 ^ 32
 
 -- the graph now has the edges that it had, and the one from a to b
 pub record AddsEdge (old now : List (List ℕ)) (a b : ℕ) : Type 0 where

@@ -1,3 +1,4 @@
 pub mod Graph
-pub mod Search
 pub mod Cycle
+-- How the program does it: private contracts alone cite these.
+pub mod inside

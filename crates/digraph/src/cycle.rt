@@ -1,9 +1,11 @@
 // The walk to a cycle.
 ghost use Rattle.std.specs.Prelude.{◌≡◌, ◌^◌, ◌<◌, ◌≤◌, ℕ, Bool, true, false, List, length, All, Contains, IfOk, IfSome, IfNone, slice_index, slice_index_or};
 ghost use Rattle.armus_base.specs.Relations.{IsWalkCycle};
-ghost use Rattle.digraph.specs.Graph.{Ascends, IsGraph, TellsCycles, graph_of};
-ghost use Rattle.digraph.specs.Search.{row_of};
-ghost use Rattle.digraph.specs.Cycle.{IsLeast, IsLeastSuccessor};
+ghost use Rattle.digraph.specs.inside.Rows.{Ascends, IsGraph};
+ghost use Rattle.digraph.specs.Graph.{TellsCycles, graph_of};
+ghost use Rattle.digraph.specs.inside.Search.{row_of};
+ghost use Rattle.digraph.specs.inside.Least.{IsLeastAnswered};
+ghost use Rattle.digraph.specs.Cycle.{IsLeastSuccessor};
 
 use std::alloc::{AllocError, Global};
 
@@ -12,7 +14,7 @@ fn least(row: &[u32], answers: &[bool]) -> Option<u32>
     requires inside { All (λ b. b < length answers.now) row.now }
     requires ascends { Ascends row.now }
     ensures none { IfNone result (All (λ b. slice_index_or answers.now b false ≡ false) row.now) }
-    ensures some { IfSome result (IsLeast row.now answers.now) }
+    ensures some { IfSome result (IsLeastAnswered row.now answers.now) }
 {
     for b in row {
         if answers[*b as usize] {

@@ -6,7 +6,7 @@ use Rattle.armus_base.specs.Limits.{max_tasks, max_ops}
 use Rattle.armus_base.specs.Plans.{Plan}
 use Rattle.pl_syntax.specs.Tree.{Tree, new_phaser}
 use Rattle.pl_syntax.proofs.Unique.{one_tree, text_or_fault}
-use Rattle.pl_plan.specs.Unfolding.{State, Start, Outcome, ◌>>=◌, a_phaser, a_plain, a_loop, a_turn, meeting, times, meetings_of, meet_all, count_meeting, act, add_op, with_name, with_names, with_member, unfold_task, unfold_tasks, opening_state, plan_of}
+use Rattle.pl_plan.specs.Unfolding.{UnfoldingState, Start, Outcome, ◌>>=◌, a_phaser, a_plain, a_loop, a_turn, visit, times, visits_of, make_visits, count_visit, act, add_op, assigned, with_names, with_member, unfold_task, unfold_tasks, opening_state, plan_of}
 use Rattle.gen_text.specs.Generated.{generated_text}
 use Rattle.gen_text.specs.Laws.{GeneratedIsAccepted, GeneratedHasNoSyntaxFault, GeneratedHasNoCheckFault}
 use Rattle.gen_text.proofs.GeneratedProgram.{pc, pb, draws, goes_on, generated_program, is_text}
@@ -23,7 +23,7 @@ opened n = record {
   parents = None ∷ [];
   starts = Some (record { body = generated_program n; first = 1; names = λ _. None }) ∷ [];
   members = with_member 0 1 true (with_member 0 0 true (λ _ _. false));
-  names = with_name pb (a_phaser 1) (with_name pc (a_phaser 0) (λ _. None));
+  names = assigned pb (a_phaser 1) (assigned pc (a_phaser 0) (λ _. None));
 }
 
 no_start : (n c : ℕ) → 1 ≤ c → slice_index_or (opened n).starts c None ≡ None
@@ -42,41 +42,41 @@ is_opened n = record {
 opens :
     (n : ℕ) →
     Succeeds (Drawing 3 0)
-    (meet_all 0 (meeting 1 (a_plain (new_phaser pc)) ∷ meeting 2 (a_plain (new_phaser pb)) ∷ meeting 3 a_loop ∷ []) (opening_state (generated_program n)))
-unfolding meet_all count_meeting act add_op
-opens n = (opened n, record { parts_are = refl; meetings = omega arith; ops = omega arith }, is_opened n)
+    (make_visits 0 (visit 1 (a_plain (new_phaser pc)) ∷ visit 2 (a_plain (new_phaser pb)) ∷ visit 3 a_loop ∷ []) (opening_state (generated_program n)))
+unfolding make_visits count_visit act add_op
+opens n = (opened n, record { parts_are = refl; visits = omega arith; ops = omega arith }, is_opened n)
 
--- behind task t: so many meetings, and the tasks after it can work
-abbrev Behind : ℕ → ℕ → State → Type 0
+-- behind task t: so many visits, and the tasks after it can work
+abbrev Behind : ℕ → ℕ → UnfoldingState → Type 0
 Behind k t s = (a : Parts) × Has k a s × CanGoOn t a
 
-first_task : (n : ℕ) → n < max_tasks → Succeeds (Behind (5 * n + 6) 1) (meet_all 0 (meetings_of 1 (generated_program n)) (opening_state (generated_program n)))
+first_task : (n : ℕ) → n < max_tasks → Succeeds (Behind (5 * n + 6) 1) (make_visits 0 (visits_of 1 (generated_program n)) (opening_state (generated_program n)))
 first_task n l =
     let p = generated_program n in
-    let Q : State → Type 0 = Behind (5 * n + 6) 1 in
-    both (Drawing 3 0) Q 0 (opening_state p) (meeting 1 (a_plain (new_phaser pc)) ∷ meeting 2 (a_plain (new_phaser pb)) ∷ meeting 3 a_loop ∷ []) _ (opens n)
-    (λ s1 d1. both (Drawing (3 + 5 * n) n) Q 0 s1 (times n (meeting 3 a_turn ∷ meetings_of 4 draws)) _ (draws_all n 3 s1 (omega arith) l d1)
-    (λ s2 d2. so (Behind (3 + 5 * n + 3) 1) Q (meet_all 0 (meetings_of 13 (goes_on (n % 3 == 0))) s2)
+    let Q : UnfoldingState → Type 0 = Behind (5 * n + 6) 1 in
+    both (Drawing 3 0) Q 0 (opening_state p) (visit 1 (a_plain (new_phaser pc)) ∷ visit 2 (a_plain (new_phaser pb)) ∷ visit 3 a_loop ∷ []) _ (opens n)
+    (λ s1 d1. both (Drawing (3 + 5 * n) n) Q 0 s1 (times n (visit 3 a_turn ∷ visits_of 4 draws)) _ (draws_all n 3 s1 (omega arith) l d1)
+    (λ s2 d2. so (Behind (3 + 5 * n + 3) 1) Q (make_visits 0 (visits_of 13 (goes_on (n % 3 == 0))) s2)
     (ends (3 + 5 * n) d2.0 s2 d2.1 d2.2.names d2.2.own (λ c le. d2.2.workers c (omega arith)) (omega arith) 13 (n % 3 == 0))
     (λ r e. (e.0, has_more (3 + 5 * n + 3) (5 * n + 6) e.0 r (omega arith) e.1, e.2))))
 
 -- ---- the other tasks
 
 next_task :
-    (t k : ℕ) (a : Parts) (s : State) (Q : State → Type 0) (rest : State → Outcome State) → Has k a s → CanGoOn t a → k + 27 < max_ops →
-    ((s' : State) → Behind (k + 27) (t + 1) s' → Succeeds Q (rest s')) → (o : Option Start) → slice_index_or s.starts t None ≡ o → Succeeds Q (unfold_task t o s >>= rest)
+    (t k : ℕ) (a : Parts) (s : UnfoldingState) (Q : UnfoldingState → Type 0) (rest : UnfoldingState → Outcome UnfoldingState) → Has k a s → CanGoOn t a → k + 27 < max_ops →
+    ((s' : UnfoldingState) → Behind (k + 27) (t + 1) s' → Succeeds Q (rest s')) → (o : Option Start) → slice_index_or s.starts t None ≡ o → Succeeds Q (unfold_task t o s >>= rest)
 next_task t k a s Q rest h later few then None e = then s (a, has_more k (k + 27) a s (omega arith) h, λ c l. later c (omega arith))
 next_task t k a s Q rest h later few then (Some start) e =
     let b : Parts = record a { names = start.names } in
-    let begun : Has k b (with_names start.names s) = record { parts_are = ap (λ (x : Parts). record x { names = start.names }) h.parts_are; meetings = h.meetings; ops = h.ops } in
+    let begun : Has k b (with_names start.names s) = record { parts_are = ap (λ (x : Parts). record x { names = start.names }) h.parts_are; visits = h.visits; ops = h.ops } in
     let w : CanWork (a.members t) (Some start) = subst (CanWork (a.members t)) (sym (ap (λ (x : Parts). slice_index_or x.starts t None) h.parts_are) ∙ e) (later t (omega arith)) in
-    let P : State → Type 0 = Has (k + 27) (left t 1 (left t 0 b)) in
+    let P : UnfoldingState → Type 0 = Has (k + 27) (left t 1 (left t 0 b)) in
     and_then P Q (unfold_task t (Some start) s) rest
-    (subst (λ (body : Tree). Succeeds P (meet_all t (meetings_of start.first body) (with_names start.names s))) (sym w.0)
+    (subst (λ (body : Tree). Succeeds P (make_visits t (visits_of start.first body) (with_names start.names s))) (sym w.0)
     (works t k b (with_names start.names s) begun w.1 w.2 start.first few))
     (λ s' h'. then s' (left t 1 (left t 0 b), h', left_behind t 1 (left t 0 b) (left_behind t 0 b (λ c l. later c (omega arith)))))
 
-other_tasks : (m t k : ℕ) (s : State) → Behind k t s → k + 27 * m < max_ops → Succeeds (λ _. Unit {0}) (unfold_tasks m t s)
+other_tasks : (m t k : ℕ) (s : UnfoldingState) → Behind k t s → k + 27 * m < max_ops → Succeeds (λ _. Unit {0}) (unfold_tasks m t s)
 unfolding unfold_tasks
 other_tasks zero t k s h few = tt
 other_tasks (suc m) t k s h few =
@@ -91,7 +91,7 @@ all_tasks m n few l =
     and_then (Behind (5 * n + 6) 1) (λ _. Unit {0}) (unfold_task 0 (Some (record { body = generated_program n; first = 1; names = λ _. None })) (opening_state (generated_program n))) (unfold_tasks m 1)
     (first_task n few) (λ s h. other_tasks m 1 (5 * n + 6) s h (omega arith))
 
-plan_from : (o : Outcome State) → Succeeds (λ _. Unit {0}) o → (plan : Plan) × ((o >>= λ s. Ok s.plan) ≡ Ok plan)
+plan_from : (o : Outcome UnfoldingState) → Succeeds (λ _. Unit {0}) o → (plan : Plan) × ((o >>= λ s. Ok s.plan) ≡ Ok plan)
 plan_from (Ok s) h = (s.plan, refl)
 plan_from (Err f) h = absurd h
 

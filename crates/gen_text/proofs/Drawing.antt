@@ -5,10 +5,10 @@ use Rattle.std.proofs.lemmas.Bool.Decides.{nat_tests}
 use Rattle.std.proofs.lemmas.List.{length-append, get_or-set_other}
 use Rattle.std.proofs.Math.Seq.{get_or-append_seam}
 use Rattle.armus_base.specs.Limits.{max_tasks, max_ops}
-use Rattle.pl_plan.specs.Unfolding.{Names, a_phaser, State, Start, task, with_member, meet_all, meetings_of, meeting, a_turn, times}
+use Rattle.pl_plan.specs.Unfolding.{Names, a_phaser, UnfoldingState, Start, task, with_member, make_visits, visits_of, visit, a_turn, times}
 use Rattle.pl_plan.proofs.Places.{at_set, at_more}
 use Rattle.gen_text.proofs.GeneratedProgram.{pc, pb, child, worker, draws}
-use Rattle.gen_text.proofs.Succeeding.{Succeeds, so, Parts, Has, has_more, meets, no_meeting, turns}
+use Rattle.gen_text.proofs.Succeeding.{Succeeds, so, Parts, Has, has_more, comes, no_visit, turns}
 use Rattle.gen_text.proofs.Statements.{drawn, registered, started, turn_fits, new_task_fits, reg_fits, fork_fits}
 
 -- ---- members
@@ -123,33 +123,33 @@ module _ (i : ℕ) (a : Parts) (h : IsDrawing i a) where
         (λ le. tt);
   }
 
--- some parts behind the first i workers, after so many meetings
-abbrev pub Drawing : ℕ → ℕ → State → Type 0
+-- some parts behind the first i workers, after so many visits
+abbrev pub Drawing : ℕ → ℕ → UnfoldingState → Type 0
 Drawing k i s = (a : Parts) × Has k a s × IsDrawing i a
 
 turn_draws :
-    (i k : ℕ) (a : Parts) (s : State) → Has k a s → IsDrawing i a → k + 5 < max_ops → i + 1 < max_tasks →
-    Succeeds (Drawing (k + 5) (i + 1)) (meet_all 0 (meeting 3 a_turn ∷ meetings_of 4 draws) s)
+    (i k : ℕ) (a : Parts) (s : UnfoldingState) → Has k a s → IsDrawing i a → k + 5 < max_ops → i + 1 < max_tasks →
+    Succeeds (Drawing (k + 5) (i + 1)) (make_visits 0 (visit 3 a_turn ∷ visits_of 4 draws) s)
 turn_draws i k a s h d few room =
-    let Q : State → Type 0 = Drawing (k + 5) (i + 1) in
+    let Q : UnfoldingState → Type 0 = Drawing (k + 5) (i + 1) in
     let c : ℕ = length a.parents in
-    meets (Has (k + 1) a) Q 0 s _ _ (turn_fits 3 k a s h (omega arith) 0)
-    (λ s1 h1. meets (Has (k + 1 + 1) (drawn child a)) Q 0 s1 _ _ (new_task_fits 4 (k + 1) a s1 h1 (omega arith) child (omega (arith, d.tasks)))
-    (λ s2 h2. meets (Has (k + 1 + 1 + 1) (registered c 0 (drawn child a))) Q 0 s2 _ _
+    comes (Has (k + 1) a) Q 0 s _ _ (turn_fits 3 k a s h (omega arith) 0)
+    (λ s1 h1. comes (Has (k + 1 + 1) (drawn child a)) Q 0 s1 _ _ (new_task_fits 4 (k + 1) a s1 h1 (omega arith) child (omega (arith, d.tasks)))
+    (λ s2 h2. comes (Has (k + 1 + 1 + 1) (registered c 0 (drawn child a))) Q 0 s2 _ _
     (reg_fits 5 (k + 1 + 1) (drawn child a) s2 h2 (omega arith) child c pc 0 refl d.names.first (new_parent i a d) (new_start i a d) d.own.first (new_first i a d))
-    (λ s3 h3. meets (Has (k + 1 + 1 + 1 + 1) (registered c 1 (registered c 0 (drawn child a)))) Q 0 s3 _ _
+    (λ s3 h3. comes (Has (k + 1 + 1 + 1 + 1) (registered c 1 (registered c 0 (drawn child a)))) Q 0 s3 _ _
     (reg_fits 6 (k + 1 + 1 + 1) (registered c 0 (drawn child a)) s3 h3 (omega arith) child c pb 1 refl d.names.second (new_parent i a d) (new_start i a d) (own_second i a d) (new_second i a d))
-    (λ s4 h4. meets (Has (k + 1 + 1 + 1 + 1 + 1) (turned i a d)) Q 0 s4 _ _
+    (λ s4 h4. comes (Has (k + 1 + 1 + 1 + 1 + 1) (turned i a d)) Q 0 s4 _ _
     (fork_fits 7 (k + 1 + 1 + 1 + 1) (registered c 1 (registered c 0 (drawn child a))) s4 h4 (omega arith) child c worker refl (new_parent i a d) (new_start i a d))
-    (λ s5 h5. no_meeting Q 0 s5 (turned i a d, has_more (k + 1 + 1 + 1 + 1 + 1) (k + 5) (turned i a d) s5 (omega arith) h5, draws_one i a d))))))
+    (λ s5 h5. no_visit Q 0 s5 (turned i a d, has_more (k + 1 + 1 + 1 + 1 + 1) (k + 5) (turned i a d) s5 (omega arith) h5, draws_one i a d))))))
 
 -- all turns
 pub draws_all :
-    (n k : ℕ) (s : State) → k + 5 * n < max_ops → n < max_tasks → Drawing k 0 s →
-    Succeeds (Drawing (k + 5 * n) n) (meet_all 0 (times n (meeting 3 a_turn ∷ meetings_of 4 draws)) s)
+    (n k : ℕ) (s : UnfoldingState) → k + 5 * n < max_ops → n < max_tasks → Drawing k 0 s →
+    Succeeds (Drawing (k + 5 * n) n) (make_visits 0 (times n (visit 3 a_turn ∷ visits_of 4 draws)) s)
 draws_all n k s few room h =
-    turns (λ i. Drawing (k + 5 * i) i) 0 n (meeting 3 a_turn ∷ meetings_of 4 draws)
-    (λ i s' l d. so (Drawing (k + 5 * i + 5) (i + 1)) (Drawing (k + 5 * (i + 1)) (i + 1)) (meet_all 0 (meeting 3 a_turn ∷ meetings_of 4 draws) s')
+    turns (λ i. Drawing (k + 5 * i) i) 0 n (visit 3 a_turn ∷ visits_of 4 draws)
+    (λ i s' l d. so (Drawing (k + 5 * i + 5) (i + 1)) (Drawing (k + 5 * (i + 1)) (i + 1)) (make_visits 0 (visit 3 a_turn ∷ visits_of 4 draws) s')
     (turn_draws i (k + 5 * i) d.0 s' d.1 d.2 (omega arith) (omega arith))
     (λ r e. (e.0, has_more (k + 5 * i + 5) (k + 5 * (i + 1)) e.0 r (omega arith) e.1, e.2)))
     n 0 (omega arith) s (h.0, has_more k (k + 5 * 0) h.0 s (omega arith) h.1, h.2)

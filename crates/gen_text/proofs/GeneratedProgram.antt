@@ -6,7 +6,7 @@ use Rattle.pl_syntax.specs.declared.limits.TheConstants.{MAX_NUMBER, MAX_OPEN_BR
 use Rattle.pl_syntax.specs.Words.{IsName, keyword_of}
 use Rattle.pl_syntax.specs.Tree.{Tree, done, plain, fork, loop, new_task, new_phaser, reg, dereg, adv, await, height}
 use Rattle.pl_syntax.specs.Grammar.{IsText}
-use Rattle.pl_syntax.specs.Printed.{line, plain_text, printed_at, printed_of, IsWritable}
+use Rattle.pl_syntax.specs.Printed.{indented_line, plain_text, printed_at, printed_of, IsWritable}
 use Rattle.pl_syntax.proofs.RoundTrip.{prints_text}
 use Rattle.gen_text.specs.Generated.{generated_text}
 
@@ -49,18 +49,18 @@ generated_program n = plain (new_phaser pc) (plain (new_phaser pb) (loop n draws
 
 -- the first lines up to the number of workers
 abbrev before_number : List ℕ
-before_number = line 0 (plain_text (new_phaser pc)) ++ line 0 (plain_text (new_phaser pb)) ++ codes "loop "
+before_number = indented_line 0 (plain_text (new_phaser pc)) ++ indented_line 0 (plain_text (new_phaser pb)) ++ codes "loop "
 
 -- the rest of that line
 abbrev number_line : ℕ → List ℕ
 number_line n = decimal n ++ codes " {" ++ 10 ∷ []
 
 grouped : (n : ℕ) (rest : List ℕ) →
-    before_number ++ (number_line n ++ (printed_at 1 draws ++ (line 0 (codes "}") ++ rest)))
-    ≡ before_number ++ (((number_line n ++ printed_at 1 draws) ++ line 0 (codes "}")) ++ rest)
+    before_number ++ (number_line n ++ (printed_at 1 draws ++ (indented_line 0 (codes "}") ++ rest)))
+    ≡ before_number ++ (((number_line n ++ printed_at 1 draws) ++ indented_line 0 (codes "}")) ++ rest)
 grouped n rest =
     ap (λ (xs : List ℕ). before_number ++ xs)
-    (sym (append_assoc (number_line n ++ printed_at 1 draws) (line 0 (codes "}")) rest ∙ append_assoc (number_line n) (printed_at 1 draws) (line 0 (codes "}") ++ rest)))
+    (sym (append_assoc (number_line n ++ printed_at 1 draws) (indented_line 0 (codes "}")) rest ∙ append_assoc (number_line n) (printed_at 1 draws) (indented_line 0 (codes "}") ++ rest)))
 
 eight : decimal 8 ≡ codes "8"
 unfolding digits

@@ -1,6 +1,7 @@
 -- The text of `gen n`.
 use Rattle.std.specs.Prelude.{ℕ, ◌%◌, ◌==◌, if◌then◌else◌, List, [], ◌∷◌, ◌++◌, codes, decimal}
 use Rattle.std.specs.List.{flat_map}
+use Rattle.pl_syntax.specs.Printed.{line}
 
 -- what task 0 does behind its loop: it leaves the workers' barrier where n is not a multiple of 3
 abbrev pub lines_after_loop : ℕ → List (List ℕ)
@@ -26,10 +27,6 @@ generated_lines n =
     ∷ codes "}"
     ∷ lines_after_loop n
 
--- a line ends with a line feed
-abbrev pub ended : List ℕ → List ℕ
-ended line = line ++ 10 ∷ []
-
 -- the text: the lines, one after the other
 abbrev pub generated_text : ℕ → List ℕ
-generated_text n = flat_map ended (generated_lines n)
+generated_text n = flat_map line (generated_lines n)

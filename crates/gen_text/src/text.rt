@@ -1,7 +1,8 @@
 // The text itself.
 ghost use Rattle.std.specs.Prelude.{◌≡◌, ◌≤◌, IfOk, length};
 ghost use Rattle.std.specs.List.{flat_map};
-ghost use Rattle.gen_text.specs.Generated.{ended, lines_after_loop, generated_text};
+ghost use Rattle.pl_syntax.specs.Printed.{line};
+ghost use Rattle.gen_text.specs.Generated.{lines_after_loop, generated_text};
 
 use armus_base::{List, NoMemory};
 use std::alloc::Global;
@@ -32,7 +33,7 @@ const MAKES_WORKERS: &[u8] = b" {
 
 // What task 0 does behind the loop.
 fn last_lines(n: u16) -> &'static [u8]
-    ensures { result.now ≡ flat_map ended (lines_after_loop n) }
+    ensures { result.now ≡ flat_map line (lines_after_loop n) }
 {
     if n % 3 == 0 {
         b"adv(pb);\nawait(pb);\n"

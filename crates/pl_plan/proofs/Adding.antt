@@ -7,11 +7,11 @@ use Rattle.pl_syntax.proofs.Parts.{counts}
 use Rattle.std.specs.Borrow.{Bor}
 use Rattle.pl_syntax.specs.declared.tree.Stmt.{Stmt}
 use Rattle.pl_syntax.specs.Tree.{Tree, done, plain, fork, loop, Plain, count}
-use Rattle.pl_syntax.specs.Bodies.{first, tree_of}
+use Rattle.pl_syntax.specs.Bodies.{followed_by, tree_of}
 use Rattle.pl_plan.specs.declared.step.NameId.{NameId}
 use Rattle.pl_plan.specs.declared.step.Step.{Step}
 use Rattle.pl_plan.specs.declared.step.Step.TheVariants as a_step
-use Rattle.pl_plan.specs.inside.Steps.{IsName, IsStep, IsSpelled, step_at}
+use Rattle.pl_plan.specs.inside.Steps.{IsNumberOfName, IsStep, IsSpelled, step_at}
 use Rattle.pl_plan.specs.inside.Shows.{IsNumbering}
 use Rattle.pl_plan.specs.inside.Numbers.{spelling, IsMore}
 use Rattle.pl_plan.specs.inside.Flattening.{AddsSteps}
@@ -28,7 +28,7 @@ agrees : (a b : List (Bor (List ℕ))) → IsMore a b → NamesAgree (length a) 
 agrees a b h = record { more = h.0; same = h.1 }
 
 -- a name that was numbered before
-pub earlier_name : (a b : List (Bor (List ℕ))) (i : NameId) (x : List ℕ) → IsMore a b → IsName (length a) (spelling a) i x → IsName (length b) (spelling b) i x
+pub earlier_name : (a b : List (Bor (List ℕ))) (i : NameId) (x : List ℕ) → IsMore a b → IsNumberOfName (length a) (spelling a) i x → IsNumberOfName (length b) (spelling b) i x
 earlier_name a b i x h n = name_more (length a) (spelling a) (length b) (spelling b) i x (agrees a b h) n
 
 -- one step that is a statement
@@ -74,7 +74,7 @@ added_behind steps mid new step is more = (step ∷ [] ++ more.0, more.1 ∙ ap 
 -- a fork, and the steps of its body
 pub adds_fork :
     (a b c : List (Bor (List ℕ))) (steps mid new : List Step) (i : NameId) (x : List ℕ) (after : ℕ) (body : Tree) → IsMore a b →
-    mid ≡ steps ++ a_step.Fork i after ∷ [] → after ≡ length steps + 1 + count body → IsName (length b) (spelling b) i x →
+    mid ≡ steps ++ a_step.Fork i after ∷ [] → after ≡ length steps + 1 + count body → IsNumberOfName (length b) (spelling b) i x →
     AddsSteps b c mid new body → AddsSteps a c steps new (fork x body done)
 adds_fork a b c steps mid new i x after body more is at named adds =
     let ends = body_end c steps mid new (a_step.Fork i after) after body is at adds.spelled in
@@ -117,7 +117,7 @@ adds_nothing a steps distinct = record { names = same_names a; distinct = distin
 -- one statement more
 pub adds_more :
     (a b c : List (Bor (List ℕ))) (steps mid new : List Step) (xs : List Stmt) (q : Stmt) → AddsSteps a b steps mid (tree_of xs) →
-    AddsSteps b c mid new (first q done) → AddsSteps a c steps new (tree_of (xs ++ q ∷ []))
+    AddsSteps b c mid new (followed_by q done) → AddsSteps a c steps new (tree_of (xs ++ q ∷ []))
 adds_more a b c steps mid new xs q h k =
     record {
       names = more_names a b c h.names k.names;
@@ -140,7 +140,7 @@ flattened_first a old items distinct = record { so_far = adds_nothing a old dist
 
 pub flattened_more :
     (a b c : List (Bor (List ℕ))) (old mid new : List Step) (items : List Stmt) (i : ℕ) (q : Stmt) → i < length items → q ≡ get_or items i q →
-    Flattened a b old mid items i → AddsSteps b c mid new (first q done) → Flattened a c old new items (i + 1)
+    Flattened a b old mid items i → AddsSteps b c mid new (followed_by q done) → Flattened a c old new items (i + 1)
 flattened_more a b c old mid new items i q l is h k =
     record {
       so_far =
@@ -148,7 +148,7 @@ flattened_more a b c old mid new items i q l is h k =
           (adds_more a b c old mid new (take i items) q h.so_far k);
       room =
           omega
-          (arith, h.room, counts items i q l is, spelled_count (length c) (spelling c) new (length mid) (first q done) (length new) k.spelled);
+          (arith, h.room, counts items i q l is, spelled_count (length c) (spelling c) new (length mid) (followed_by q done) (length new) k.spelled);
     }
 
 pub flattened_all :

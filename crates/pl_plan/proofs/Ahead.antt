@@ -8,27 +8,27 @@ use Rattle.pl_plan.specs.declared.fault.CheckFault.{CheckFault}
 use Rattle.pl_plan.specs.declared.fault.PlanEnd.{PlanEnd}
 use Rattle.pl_plan.specs.declared.fault.PlanEnd.TheVariants as ends
 use Rattle.pl_plan.specs.inside.Steps.{step_at, IsSpelled, IsList}
-use Rattle.pl_plan.specs.inside.Checker.{Checker, Fits, Keeps}
-use Rattle.pl_plan.specs.inside.CheckerSteps.{checker_act, HasNames, checker_count, checker_fork, Gives}
-use Rattle.pl_plan.specs.Unfolding.{State, Outcome, ◌>>=◌, times, meetings_of, meet_all, count_meeting}
-use Rattle.pl_plan.specs.inside.Shows.{Shows, Follows, FollowsFrom}
+use Rattle.pl_plan.specs.inside.Checker.{Checker, IsChecker, Keeps}
+use Rattle.pl_plan.specs.inside.CheckerSteps.{checker_act, HasNames, checker_count, checker_fork, GivesChecker}
+use Rattle.pl_plan.specs.Unfolding.{UnfoldingState, Outcome, ◌>>=◌, times, visits_of, make_visits, count_visit}
+use Rattle.pl_plan.specs.inside.Shows.{ShowsState, Follows, FollowsFrom}
 use Rattle.pl_plan.proofs.Simulating as simulating
-use Rattle.pl_plan.proofs.Walks.{meet_all-append, On, Failed, on_through, on_failed, simulates_ok, simulates_err, IsPlain}
+use Rattle.pl_plan.proofs.Walks.{make_visits-append, On, Failed, on_through, on_failed, simulates_ok, simulates_err, IsPlain}
 use Rattle.pl_plan.proofs.Turns.{turn, Turned}
 use Rattle.pl_plan.proofs.Onward.{respell, count_keeps, count_fails, plain_on, plain_fails, plain_names, fork_on, fork_fails, fork_bounds, loop_on, loop_fails, loop_bounds, loop_list, on_same, failed_same}
 
 end_follows : (from to t : ℕ) (old kk : Checker) (e : PlanEnd) (fails : (f : CheckFault) → e ≡ ends.Check f → Failed (length old.slots) to t old.steps from old f) (r : Result (Unit {0}) PlanEnd) → r ≡ Err e → FollowsFrom from to t old r kk
-end_follows from to t old kk ends.NoMemory fails r is names s tree sp h = subst (λ z. Follows z (meet_all t (meetings_of (from + 1) tree) s) (Shows names kk)) (sym is) tt
-end_follows from to t old kk (ends.Check f) fails r is names s tree sp h = subst (λ z. Follows z (meet_all t (meetings_of (from + 1) tree) s) (Shows names kk)) (sym is) (fails f refl names s tree sp h)
+end_follows from to t old kk ends.NoMemory fails r is names s tree sp h = subst (λ z. Follows z (make_visits t (visits_of (from + 1) tree) s) (ShowsState names kk)) (sym is) tt
+end_follows from to t old kk (ends.Check f) fails r is names s tree sp h = subst (λ z. Follows z (make_visits t (visits_of (from + 1) tree) s) (ShowsState names kk)) (sym is) (fails f refl names s tree sp h)
 
-gave : (e : PlanEnd) (o : Outcome Checker) (k : Checker) (f : CheckFault) → Gives {A = Unit {0}} (Err e) o k → e ≡ ends.Check f → o ≡ Err f
-gave e o k f g is = subst (λ z. Gives {A = Unit {0}} (Err z) o k) is g
+gave : (e : PlanEnd) (o : Outcome Checker) (k : Checker) (f : CheckFault) → GivesChecker {A = Unit {0}} (Err e) o k → e ≡ ends.Check f → o ≡ Err f
+gave e o k f g is = subst (λ z. GivesChecker {A = Unit {0}} (Err z) o k) is g
 
-went_err : (e : PlanEnd) (o : Outcome State) (shows : State → Type 0) (f : CheckFault) → Follows {A = Unit {0}} (Err e) o shows → e ≡ ends.Check f → o ≡ Err f
+went_err : (e : PlanEnd) (o : Outcome UnfoldingState) (shows : UnfoldingState → Type 0) (f : CheckFault) → Follows {A = Unit {0}} (Err e) o shows → e ≡ ends.Check f → o ≡ Err f
 went_err e o shows f g is = subst (λ z. Follows {A = Unit {0}} (Err z) o shows) is g
 
 module _ (from to t : ℕ) (old : Checker) (at : ℕ) (k : Checker) (old_runs : t < length old.parents) (inv : On (length old.slots) to t old.steps from old at k) (lt : at < to) where
-  here_fits : Fits k
+  here_fits : IsChecker k
   here_fits = inv.keeps.fits
 
   run : t < length k.parents
@@ -46,14 +46,14 @@ module _ (from to t : ℕ) (old : Checker) (at : ℕ) (k : Checker) (old_runs : 
   pub at_in : to ≤ length old.steps → at < length k.steps
   at_in w = (let e = ap (λ z. length z) inv.keeps.steps in omega arith)
 
-  pub ahead_count_fails : (e : PlanEnd) (k1 kk : Checker) → Gives {A = Unit {0}} (Err e) (checker_count (at + 1) k) k1 → (r : Result (Unit {0}) PlanEnd) → r ≡ Err e → FollowsFrom from to t old r kk
+  pub ahead_count_fails : (e : PlanEnd) (k1 kk : Checker) → GivesChecker {A = Unit {0}} (Err e) (checker_count (at + 1) k) k1 → (r : Result (Unit {0}) PlanEnd) → r ≡ Err e → FollowsFrom from to t old r kk
   ahead_count_fails e k1 kk g = end_follows from to t old kk e (λ f is. failed_from f (count_fails to t at k here_fits run lt list f (gave e (checker_count (at + 1) k) k1 f g is)))
 
-  module _ (k1 : Checker) (met : checker_count (at + 1) k ≡ Ok k1) where
+  module _ (k1 : Checker) (visited : checker_count (at + 1) k ≡ Ok k1) where
     pub kept1 : Keeps k k1
-    kept1 = count_keeps k k1 (at + 1) here_fits met
+    kept1 = count_keeps k k1 (at + 1) here_fits visited
 
-    pub fits1 : Fits k1
+    pub fits1 : IsChecker k1
     fits1 = kept1.fits
 
     pub run1 : t < length k1.parents
@@ -63,93 +63,93 @@ module _ (from to t : ℕ) (old : Checker) (at : ℕ) (k : Checker) (old_runs : 
     steps1 = kept1.steps ∙ inv.keeps.steps
 
     pub ahead_names : (step : Step) → step ≡ step_at k.steps at → IsPlain step → HasNames (length k1.slots) step
-    ahead_names step is p = subst (HasNames (length k1.slots)) (sym is) (plain_names to t at k here_fits run lt list k1 met (subst IsPlain is p))
+    ahead_names step is p = subst (HasNames (length k1.slots)) (sym is) (plain_names to t at k here_fits run lt list k1 visited (subst IsPlain is p))
 
     pub ahead_plain : (step : Step) → step ≡ step_at k.steps at → IsPlain step → (k2 : Checker) → checker_act t (at + 1) step k1 ≡ Ok k2 → On (length old.slots) to t old.steps from old (at + 1) k2
-    ahead_plain step is p k2 did = next_on (at + 1) k2 (plain_on to t at k here_fits run lt list k1 met (subst IsPlain is p) k2 (ap (λ z. checker_act t (at + 1) z k1) (sym is) ∙ did))
+    ahead_plain step is p k2 did = next_on (at + 1) k2 (plain_on to t at k here_fits run lt list k1 visited (subst IsPlain is p) k2 (ap (λ z. checker_act t (at + 1) z k1) (sym is) ∙ did))
 
-    pub ahead_plain_fails : (step : Step) → step ≡ step_at k.steps at → IsPlain step → (e : PlanEnd) (k2 kk : Checker) → Gives {A = Unit {0}} (Err e) (checker_act t (at + 1) step k1) k2 → (r : Result (Unit {0}) PlanEnd) → r ≡ Err e → FollowsFrom from to t old r kk
-    ahead_plain_fails step is p e k2 kk g = end_follows from to t old kk e (λ f ef. failed_from f (plain_fails to t at k here_fits run lt list k1 met (subst IsPlain is p) f (ap (λ z. checker_act t (at + 1) z k1) (sym is) ∙ gave e (checker_act t (at + 1) step k1) k2 f g ef)))
+    pub ahead_plain_fails : (step : Step) → step ≡ step_at k.steps at → IsPlain step → (e : PlanEnd) (k2 kk : Checker) → GivesChecker {A = Unit {0}} (Err e) (checker_act t (at + 1) step k1) k2 → (r : Result (Unit {0}) PlanEnd) → r ≡ Err e → FollowsFrom from to t old r kk
+    ahead_plain_fails step is p e k2 kk g = end_follows from to t old kk e (λ f ef. failed_from f (plain_fails to t at k here_fits run lt list k1 visited (subst IsPlain is p) f (ap (λ z. checker_act t (at + 1) z k1) (sym is) ∙ gave e (checker_act t (at + 1) step k1) k2 f g ef)))
 
     module _ (x : NameId) (after : ℕ) (is : a_step.Fork x after ≡ step_at k.steps at) (whole : to ≤ length old.steps) where
       whole_k : to ≤ length k.steps
       whole_k = (let e = ap (λ z. length z) inv.keeps.steps in omega arith)
 
       pub ahead_bounds : (x.0 < length k1.slots) × (at < after) × (after ≤ to)
-      ahead_bounds = fork_bounds to t at k here_fits run lt list k1 met x after (sym is) whole_k
+      ahead_bounds = fork_bounds to t at k here_fits run lt list k1 visited x after (sym is) whole_k
 
       pub ahead_fork : (k2 : Checker) → checker_fork t (at + 1) x.0 after k1 ≡ Ok k2 → On (length old.slots) to t old.steps from old after k2
-      ahead_fork k2 did = next_on after k2 (fork_on to t at k here_fits run lt list k1 met x after (sym is) whole_k k2 did)
+      ahead_fork k2 did = next_on after k2 (fork_on to t at k here_fits run lt list k1 visited x after (sym is) whole_k k2 did)
 
-      pub ahead_fork_fails : (e : PlanEnd) (k2 kk : Checker) → Gives {A = Unit {0}} (Err e) (checker_fork t (at + 1) x.0 after k1) k2 → (r : Result (Unit {0}) PlanEnd) → r ≡ Err e → FollowsFrom from to t old r kk
-      ahead_fork_fails e k2 kk g = end_follows from to t old kk e (λ f ef. failed_from f (fork_fails to t at k here_fits run lt list k1 met x after (sym is) whole_k f (gave e (checker_fork t (at + 1) x.0 after k1) k2 f g ef)))
+      pub ahead_fork_fails : (e : PlanEnd) (k2 kk : Checker) → GivesChecker {A = Unit {0}} (Err e) (checker_fork t (at + 1) x.0 after k1) k2 → (r : Result (Unit {0}) PlanEnd) → r ≡ Err e → FollowsFrom from to t old r kk
+      ahead_fork_fails e k2 kk g = end_follows from to t old kk e (λ f ef. failed_from f (fork_fails to t at k here_fits run lt list k1 visited x after (sym is) whole_k f (gave e (checker_fork t (at + 1) x.0 after k1) k2 f g ef)))
 
     module _ (i after : ℕ) (is : a_step.Loop i after ≡ step_at k.steps at) where
       pub ahead_loop_bounds : (at < after) × (after ≤ to)
-      ahead_loop_bounds = loop_bounds to t at k here_fits run lt list k1 met i after (sym is)
+      ahead_loop_bounds = loop_bounds to t at k here_fits run lt list k1 visited i after (sym is)
 
       pub ahead_loop_list : IsList (length k1.slots) k1.steps (at + 1) after
-      ahead_loop_list = loop_list to t at k here_fits run lt list k1 met i after (sym is)
+      ahead_loop_list = loop_list to t at k here_fits run lt list k1 visited i after (sym is)
 
       pub ahead_loop : (k2 : Checker) → Keeps k1 k2 →
-          ((names : ℕ → List ℕ) (s : State) (tree : Tree) → IsSpelled (length k1.slots) names k1.steps (at + 1) tree after → Shows names k1 s → (s' : State) × (meet_all t (times i (turn at tree)) s ≡ Ok s') × Shows names k2 s') →
+          ((names : ℕ → List ℕ) (s : UnfoldingState) (tree : Tree) → IsSpelled (length k1.slots) names k1.steps (at + 1) tree after → ShowsState names k1 s → (s' : UnfoldingState) × (make_visits t (times i (turn at tree)) s ≡ Ok s') × ShowsState names k2 s') →
           On (length old.slots) to t old.steps from old after k2
-      ahead_loop k2 keeps went = next_on after k2 (loop_on to t at k here_fits run lt list k1 met i after (sym is) k2 keeps went)
+      ahead_loop k2 keeps went = next_on after k2 (loop_on to t at k here_fits run lt list k1 visited i after (sym is) k2 keeps went)
 
       pub ahead_loop_fails : (e : PlanEnd) (k2 kk : Checker) →
-          ((names : ℕ → List ℕ) (s : State) (tree : Tree) → IsSpelled (length k1.slots) names k1.steps (at + 1) tree after → Shows names k1 s → Follows {A = Unit {0}} (Err e) (meet_all t (times i (turn at tree)) s) (Shows names k2)) →
+          ((names : ℕ → List ℕ) (s : UnfoldingState) (tree : Tree) → IsSpelled (length k1.slots) names k1.steps (at + 1) tree after → ShowsState names k1 s → Follows {A = Unit {0}} (Err e) (make_visits t (times i (turn at tree)) s) (ShowsState names k2)) →
           (r : Result (Unit {0}) PlanEnd) → r ≡ Err e → FollowsFrom from to t old r kk
-      ahead_loop_fails e k2 kk went = end_follows from to t old kk e (λ f ef. failed_from f (loop_fails to t at k here_fits run lt list k1 met i after (sym is) f
-          (λ names s tree sp h. went_err e (meet_all t (times i (turn at tree)) s) (Shows names k2) f (went names s tree sp h) ef)))
+      ahead_loop_fails e k2 kk went = end_follows from to t old kk e (λ f ef. failed_from f (loop_fails to t at k here_fits run lt list k1 visited i after (sym is) f
+          (λ names s tree sp h. went_err e (make_visits t (times i (turn at tree)) s) (ShowsState names k2) f (went names s tree sp h) ef)))
 
 -- ---- turns
 
 abbrev pub TurnsGo : ℕ → ℕ → ℕ → ℕ → Checker → Result (Unit {0}) PlanEnd → Checker → Type 0
 TurnsGo at after t i old r kk =
-    (names : ℕ → List ℕ) (s : State) (tree : Tree) → IsSpelled (length old.slots) names old.steps (at + 1) tree after → Shows names old s → Follows r (meet_all t (times i (turn at tree)) s) (Shows names kk)
+    (names : ℕ → List ℕ) (s : UnfoldingState) (tree : Tree) → IsSpelled (length old.slots) names old.steps (at + 1) tree after → ShowsState names old s → Follows r (make_visits t (times i (turn at tree)) s) (ShowsState names kk)
 
-pub turned_start : (at after t i : ℕ) (old : Checker) → Fits old → Turned at after t i old 0 old
-turned_start at after t i old f = record { keeps = simulating.keeps_itself old f; all = λ names s tree sp h. record { state = s; shows = h; same = ap (λ m. meet_all t (times m (turn at tree)) s) (let e : i - 0 ≡ i = omega arith in e) } }
+pub turned_start : (at after t i : ℕ) (old : Checker) → IsChecker old → Turned at after t i old 0 old
+turned_start at after t i old f = record { keeps = simulating.keeps_itself old f; all = λ names s tree sp h. record { state = s; shows = h; same = ap (λ m. make_visits t (times m (turn at tree)) s) (let e : i - 0 ≡ i = omega arith in e) } }
 
-turns_end : (at after t i : ℕ) (old kk : Checker) (e : PlanEnd) → ((f : CheckFault) → e ≡ ends.Check f → (names : ℕ → List ℕ) (s : State) (tree : Tree) → IsSpelled (length old.slots) names old.steps (at + 1) tree after → Shows names old s → meet_all t (times i (turn at tree)) s ≡ Err f) →
+turns_end : (at after t i : ℕ) (old kk : Checker) (e : PlanEnd) → ((f : CheckFault) → e ≡ ends.Check f → (names : ℕ → List ℕ) (s : UnfoldingState) (tree : Tree) → IsSpelled (length old.slots) names old.steps (at + 1) tree after → ShowsState names old s → make_visits t (times i (turn at tree)) s ≡ Err f) →
     (r : Result (Unit {0}) PlanEnd) → r ≡ Err e → TurnsGo at after t i old r kk
-turns_end at after t i old kk ends.NoMemory fails r is names s tree sp h = subst (λ z. Follows z (meet_all t (times i (turn at tree)) s) (Shows names kk)) (sym is) tt
-turns_end at after t i old kk (ends.Check f) fails r is names s tree sp h = subst (λ z. Follows z (meet_all t (times i (turn at tree)) s) (Shows names kk)) (sym is) (fails f refl names s tree sp h)
+turns_end at after t i old kk ends.NoMemory fails r is names s tree sp h = subst (λ z. Follows z (make_visits t (times i (turn at tree)) s) (ShowsState names kk)) (sym is) tt
+turns_end at after t i old kk (ends.Check f) fails r is names s tree sp h = subst (λ z. Follows z (make_visits t (times i (turn at tree)) s) (ShowsState names kk)) (sym is) (fails f refl names s tree sp h)
 
 module _ (at after t i : ℕ) (old : Checker) (j : ℕ) (k : Checker) (inv : Turned at after t i old j k) where
-  pub turns_done : i ≤ j → (names : ℕ → List ℕ) (s : State) (tree : Tree) → IsSpelled (length old.slots) names old.steps (at + 1) tree after → Shows names old s → (s' : State) × (meet_all t (times i (turn at tree)) s ≡ Ok s') × Shows names k s'
-  unfolding meet_all
+  pub turns_done : i ≤ j → (names : ℕ → List ℕ) (s : UnfoldingState) (tree : Tree) → IsSpelled (length old.slots) names old.steps (at + 1) tree after → ShowsState names old s → (s' : UnfoldingState) × (make_visits t (times i (turn at tree)) s ≡ Ok s') × ShowsState names k s'
+  unfolding make_visits
   turns_done le names s tree sp h =
       let l = inv.all names s tree sp h in
       let e : i - j ≡ 0 = omega arith in
-      (l.state, sym l.same ∙ ap (λ m. meet_all t (times m (turn at tree)) l.state) e, l.shows)
+      (l.state, sym l.same ∙ ap (λ m. make_visits t (times m (turn at tree)) l.state) e, l.shows)
 
   module _ (lt : j < i) where
-    left_is : (tree : Tree) (s' : State) → meet_all t (times (i - j) (turn at tree)) s' ≡ ((count_meeting (at + 1) s' >>= λ z. Ok z) >>= λ z. meet_all t (meetings_of (at + 1 + 1) tree) z >>= meet_all t (times (i - (j + 1)) (turn at tree)))
-    unfolding meet_all
+    left_is : (tree : Tree) (s' : UnfoldingState) → make_visits t (times (i - j) (turn at tree)) s' ≡ ((count_visit (at + 1) s' >>= λ z. Ok z) >>= λ z. make_visits t (visits_of (at + 1 + 1) tree) z >>= make_visits t (times (i - (j + 1)) (turn at tree)))
+    unfolding make_visits
     left_is tree s' =
         let e : i - j ≡ suc (i - (j + 1)) = omega arith in
-        ap (λ m. meet_all t (times m (turn at tree)) s') e
-        ∙ ap (λ g. (count_meeting (at + 1) s' >>= λ z. Ok z) >>= g) (λ p z. meet_all-append t (meetings_of (at + 1 + 1) tree) (times (i - (j + 1)) (turn at tree)) z p)
+        ap (λ m. make_visits t (times m (turn at tree)) s') e
+        ∙ ap (λ g. (count_visit (at + 1) s' >>= λ z. Ok z) >>= g) (λ p z. make_visits-append t (visits_of (at + 1 + 1) tree) (times (i - (j + 1)) (turn at tree)) z p)
 
-    pub turn_count_fails : (e : PlanEnd) (k1 kk : Checker) → Gives {A = Unit {0}} (Err e) (checker_count (at + 1) k) k1 → (r : Result (Unit {0}) PlanEnd) → r ≡ Err e → TurnsGo at after t i old r kk
+    pub turn_count_fails : (e : PlanEnd) (k1 kk : Checker) → GivesChecker {A = Unit {0}} (Err e) (checker_count (at + 1) k) k1 → (r : Result (Unit {0}) PlanEnd) → r ≡ Err e → TurnsGo at after t i old r kk
     turn_count_fails e k1 kk g = turns_end at after t i old kk e (λ f ef names s tree sp h.
         let l = inv.all names s tree sp h in
-        let c = simulates_err names (checker_count (at + 1) k) f (count_meeting (at + 1) l.state) (gave e (checker_count (at + 1) k) k1 f g ef) (simulating.simulates_count names k l.state inv.keeps.fits l.shows (at + 1)) in
-        sym l.same ∙ left_is tree l.state ∙ ap (λ o. (o >>= λ z. Ok z) >>= λ z. meet_all t (meetings_of (at + 1 + 1) tree) z >>= meet_all t (times (i - (j + 1)) (turn at tree))) c)
+        let c = simulates_err names (checker_count (at + 1) k) f (count_visit (at + 1) l.state) (gave e (checker_count (at + 1) k) k1 f g ef) (simulating.simulates_count names k l.state inv.keeps.fits l.shows (at + 1)) in
+        sym l.same ∙ left_is tree l.state ∙ ap (λ o. (o >>= λ z. Ok z) >>= λ z. make_visits t (visits_of (at + 1 + 1) tree) z >>= make_visits t (times (i - (j + 1)) (turn at tree))) c)
 
-    module _ (k1 : Checker) (met : checker_count (at + 1) k ≡ Ok k1) where
+    module _ (k1 : Checker) (visited : checker_count (at + 1) k ≡ Ok k1) where
       pub turn_kept : Keeps old k1
-      turn_kept = simulating.keeps_through old k k1 inv.keeps (count_keeps k k1 (at + 1) inv.keeps.fits met)
+      turn_kept = simulating.keeps_through old k k1 inv.keeps (count_keeps k k1 (at + 1) inv.keeps.fits visited)
 
-      after_count : (names : ℕ → List ℕ) (tree : Tree) (s' : State) → Shows names k s' →
-          (s1 : State) × (meet_all t (times (i - j) (turn at tree)) s' ≡ (meet_all t (meetings_of (at + 1 + 1) tree) s1 >>= meet_all t (times (i - (j + 1)) (turn at tree)))) × Shows names k1 s1
+      after_count : (names : ℕ → List ℕ) (tree : Tree) (s' : UnfoldingState) → ShowsState names k s' →
+          (s1 : UnfoldingState) × (make_visits t (times (i - j) (turn at tree)) s' ≡ (make_visits t (visits_of (at + 1 + 1) tree) s1 >>= make_visits t (times (i - (j + 1)) (turn at tree)))) × ShowsState names k1 s1
       after_count names tree s' h =
-          let c = simulates_ok names (checker_count (at + 1) k) k1 (count_meeting (at + 1) s') met (simulating.simulates_count names k s' inv.keeps.fits h (at + 1)) in
-          (c.0, left_is tree s' ∙ ap (λ o. (o >>= λ z. Ok z) >>= λ z. meet_all t (meetings_of (at + 1 + 1) tree) z >>= meet_all t (times (i - (j + 1)) (turn at tree))) c.1, c.2)
+          let c = simulates_ok names (checker_count (at + 1) k) k1 (count_visit (at + 1) s') visited (simulating.simulates_count names k s' inv.keeps.fits h (at + 1)) in
+          (c.0, left_is tree s' ∙ ap (λ o. (o >>= λ z. Ok z) >>= λ z. make_visits t (visits_of (at + 1 + 1) tree) z >>= make_visits t (times (i - (j + 1)) (turn at tree))) c.1, c.2)
 
       pub turn_on : (k2 : Checker) → Keeps k1 k2 →
-          ((names : ℕ → List ℕ) (s : State) (tree : Tree) → IsSpelled (length k1.slots) names k1.steps (at + 1) tree after → Shows names k1 s → (s' : State) × (meet_all t (meetings_of (at + 1 + 1) tree) s ≡ Ok s') × Shows names k2 s') →
+          ((names : ℕ → List ℕ) (s : UnfoldingState) (tree : Tree) → IsSpelled (length k1.slots) names k1.steps (at + 1) tree after → ShowsState names k1 s → (s' : UnfoldingState) × (make_visits t (visits_of (at + 1 + 1) tree) s ≡ Ok s') × ShowsState names k2 s') →
           Turned at after t i old (j + 1) k2
       turn_on k2 keeps went = record {
         keeps = simulating.keeps_through old k1 k2 turn_kept keeps;
@@ -157,17 +157,17 @@ module _ (at after t i : ℕ) (old : Checker) (j : ℕ) (k : Checker) (inv : Tur
             let l = inv.all names s tree sp h in
             let a = after_count names tree l.state l.shows in
             let w = went names a.0 tree (respell old k1 names (at + 1) tree after turn_kept sp) a.2 in
-            record { state = w.0; shows = w.2; same = sym (ap (λ o. o >>= meet_all t (times (i - (j + 1)) (turn at tree))) w.1) ∙ sym a.1 ∙ l.same };
+            record { state = w.0; shows = w.2; same = sym (ap (λ o. o >>= make_visits t (times (i - (j + 1)) (turn at tree))) w.1) ∙ sym a.1 ∙ l.same };
       }
 
       pub turn_fails : (e : PlanEnd) (k2 kk : Checker) →
-          ((names : ℕ → List ℕ) (s : State) (tree : Tree) → IsSpelled (length k1.slots) names k1.steps (at + 1) tree after → Shows names k1 s → Follows {A = Unit {0}} (Err e) (meet_all t (meetings_of (at + 1 + 1) tree) s) (Shows names k2)) →
+          ((names : ℕ → List ℕ) (s : UnfoldingState) (tree : Tree) → IsSpelled (length k1.slots) names k1.steps (at + 1) tree after → ShowsState names k1 s → Follows {A = Unit {0}} (Err e) (make_visits t (visits_of (at + 1 + 1) tree) s) (ShowsState names k2)) →
           (r : Result (Unit {0}) PlanEnd) → r ≡ Err e → TurnsGo at after t i old r kk
       turn_fails e k2 kk went = turns_end at after t i old kk e (λ f ef names s tree sp h.
           let l = inv.all names s tree sp h in
           let a = after_count names tree l.state l.shows in
-          let w = went_err e (meet_all t (meetings_of (at + 1 + 1) tree) a.0) (Shows names k2) f (went names a.0 tree (respell old k1 names (at + 1) tree after turn_kept sp) a.2) ef in
-          sym l.same ∙ a.1 ∙ ap (λ o. o >>= meet_all t (times (i - (j + 1)) (turn at tree))) w)
+          let w = went_err e (make_visits t (visits_of (at + 1 + 1) tree) a.0) (ShowsState names k2) f (went names a.0 tree (respell old k1 names (at + 1) tree after turn_kept sp) a.2) ef in
+          sym l.same ∙ a.1 ∙ ap (λ o. o >>= make_visits t (times (i - (j + 1)) (turn at tree))) w)
 
 pub turn_spelled : (a b : Checker) (names : ℕ → List ℕ) (i : ℕ) (tree : Tree) (to : ℕ) → Keeps a b → IsSpelled (length a.slots) names a.steps i tree to → IsSpelled (length b.slots) names b.steps i tree to
 turn_spelled = respell

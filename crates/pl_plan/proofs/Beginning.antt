@@ -7,14 +7,14 @@ use Rattle.pl_syntax.specs.Tree.{Tree}
 use Rattle.pl_plan.specs.declared.fault.PlanEnd.{PlanEnd}
 use Rattle.pl_plan.specs.declared.fault.PlanEnd.TheVariants as ends
 use Rattle.pl_plan.specs.inside.Steps.{IsSpelled, IsList}
-use Rattle.pl_plan.specs.inside.Checker.{Checker, CheckerStart, Fits, StartFits, Keeps, begun, padded, range_of}
-use Rattle.pl_plan.specs.Unfolding.{State, Start, Outcome, ◌>>=◌, meetings_of, meet_all, unfold_task, unfold_tasks, with_names}
-use Rattle.pl_plan.specs.inside.Shows.{Shows, MaybeStartShows, Follows}
+use Rattle.pl_plan.specs.inside.Checker.{Checker, CheckerStart, IsChecker, StartFits, Keeps, with_start_things, padded, range_of}
+use Rattle.pl_plan.specs.Unfolding.{UnfoldingState, Start, Outcome, ◌>>=◌, visits_of, make_visits, unfold_task, unfold_tasks, with_names}
+use Rattle.pl_plan.specs.inside.Shows.{ShowsState, MaybeStartShows, Follows}
 use Rattle.pl_plan.specs.inside.CheckerSteps.{thing_of}
 use Rattle.pl_plan.proofs.Keeping.{length_padded, padded_same, things_same}
 use Rattle.pl_plan.proofs.Simulating as simulating
 
-keeps_begun_by : (k : Checker) → Fits k → (o : Option CheckerStart) → StartFits (length k.parents) (length k.makers) k.slot_count (length k.slots) k.steps o → Keeps k (begun o k)
+keeps_begun_by : (k : Checker) → IsChecker k → (o : Option CheckerStart) → StartFits (length k.parents) (length k.makers) k.slot_count (length k.slots) k.steps o → Keeps k (with_start_things o k)
 keeps_begun_by k f None h = simulating.keeps_itself k f
 keeps_begun_by k f (Some s) h = record {
   fits = record { starts_many = f.starts_many; codes_many = f.codes_many; few = f.few; few_makers = f.few_makers; all = f.all; below = f.below; apart = f.apart; room = f.room; long = length_padded s.things h.short; now = things_same (length k.parents) (length k.makers) k.slot_count s.things (padded s.things) (padded_same s.things) h.things; later = f.later };
@@ -23,7 +23,7 @@ keeps_begun_by k f (Some s) h = record {
   slots = refl;
 }
 
-pub keeps_begun : (k : Checker) (t : ℕ) → Fits k → Keeps k (begun (slice_index_or k.starts t None) k)
+pub keeps_begun : (k : Checker) (t : ℕ) → IsChecker k → Keeps k (with_start_things (slice_index_or k.starts t None) k)
 keeps_begun k t f = keeps_begun_by k f (slice_index_or k.starts t None) (f.later t)
 
 -- the start in hand
@@ -36,7 +36,7 @@ range_is first after s e =
     let p : ◌≡◌ {A = ℕ × ℕ} (first, after) (s.first, s.after) = cc in
     (ap (λ x. x.0) p, ap (λ x. x.1) p)
 
-ready_by : (k : Checker) (o : Option CheckerStart) (first after : ℕ) → StartFits (length k.parents) (length k.makers) k.slot_count (length k.slots) k.steps o → Some (first, after) ≡ range_of o → Ready (begun o k) first after
+ready_by : (k : Checker) (o : Option CheckerStart) (first after : ℕ) → StartFits (length k.parents) (length k.makers) k.slot_count (length k.slots) k.steps o → Some (first, after) ≡ range_of o → Ready (with_start_things o k) first after
 ready_by k None first after h e = absurd cc
 ready_by k (Some s) first after h e =
     let p = range_is first after s e in
@@ -45,36 +45,36 @@ ready_by k (Some s) first after h e =
       list = (h.list.0, h.list.1, subst (λ a. IsSpelled (length k.slots) h.list.0 k.steps first h.list.1 a) (sym p.1) (subst (λ a. IsSpelled (length k.slots) h.list.0 k.steps a h.list.1 s.after) (sym p.0) h.list.2));
     }
 
-pub ready : (k new : Checker) (t first after : ℕ) → Fits k → Some (first, after) ≡ range_of (slice_index_or k.starts t None) → new ≡ begun (slice_index_or k.starts t None) k → Ready new first after
+pub ready : (k new : Checker) (t first after : ℕ) → IsChecker k → Some (first, after) ≡ range_of (slice_index_or k.starts t None) → new ≡ with_start_things (slice_index_or k.starts t None) k → Ready new first after
 ready k new t first after f e is = subst (λ z. Ready z first after) (sym is) (ready_by k (slice_index_or k.starts t None) first after (f.later t) e)
 
-pub kept_begun : (k new : Checker) (t : ℕ) → Fits k → new ≡ begun (slice_index_or k.starts t None) k → Keeps k new
+pub kept_begun : (k new : Checker) (t : ℕ) → IsChecker k → new ≡ with_start_things (slice_index_or k.starts t None) k → Keeps k new
 kept_begun k new t f is = subst (Keeps k) (sym is) (keeps_begun k t f)
 
 -- no start
-idle_by : (names : ℕ → List ℕ) (k : Checker) (s : State) (t : ℕ) (o : Option Start) (o' : Option CheckerStart) → MaybeStartShows names k.slots k.steps o o' → None ≡ range_of o' → Shows names k s → (s' : State) × (unfold_task t o s ≡ Ok s') × Shows names (begun o' k) s'
+idle_by : (names : ℕ → List ℕ) (k : Checker) (s : UnfoldingState) (t : ℕ) (o : Option Start) (o' : Option CheckerStart) → MaybeStartShows names k.slots k.steps o o' → None ≡ range_of o' → ShowsState names k s → (s' : UnfoldingState) × (unfold_task t o s ≡ Ok s') × ShowsState names (with_start_things o' k) s'
 idle_by names k s t None None m e h = (s, refl, h)
 idle_by names k s t (Some a) (Some b) m e h = absurd cc
 idle_by names k s t None (Some b) m e h = absurd m
 idle_by names k s t (Some a) None m e h = absurd m
 
-pub idle : (names : ℕ → List ℕ) (k new : Checker) (s : State) (t : ℕ) → None ≡ range_of (slice_index_or k.starts t None) → new ≡ begun (slice_index_or k.starts t None) k → Shows names k s → (s' : State) × (unfold_task t (slice_index_or s.starts t None) s ≡ Ok s') × Shows names new s'
-idle names k new s t e is h = subst (λ z. (s' : State) × (unfold_task t (slice_index_or s.starts t None) s ≡ Ok s') × Shows names z s') (sym is)
+pub idle : (names : ℕ → List ℕ) (k new : Checker) (s : UnfoldingState) (t : ℕ) → None ≡ range_of (slice_index_or k.starts t None) → new ≡ with_start_things (slice_index_or k.starts t None) k → ShowsState names k s → (s' : UnfoldingState) × (unfold_task t (slice_index_or s.starts t None) s ≡ Ok s') × ShowsState names new s'
+idle names k new s t e is h = subst (λ z. (s' : UnfoldingState) × (unfold_task t (slice_index_or s.starts t None) s ≡ Ok s') × ShowsState names z s') (sym is)
     (idle_by names k s t (slice_index_or s.starts t None) (slice_index_or k.starts t None) (h.starts t) e h)
 
 -- a start
 abbrev pub Walked : (ℕ → List ℕ) → ℕ → Result (Unit {0}) PlanEnd → Checker → ℕ → ℕ → Checker → Type 0
-Walked names t r k first after new = (s : State) (tree : Tree) → IsSpelled (length k.slots) names k.steps first tree after → Shows names k s → Follows r (meet_all t (meetings_of (first + 1) tree) s) (Shows names new)
+Walked names t r k first after new = (s : UnfoldingState) (tree : Tree) → IsSpelled (length k.slots) names k.steps first tree after → ShowsState names k s → Follows r (make_visits t (visits_of (first + 1) tree) s) (ShowsState names new)
 
-busy_by : (names : ℕ → List ℕ) (k new : Checker) (s : State) (t first after : ℕ) (r : Result (Unit {0}) PlanEnd) (o : Option Start) (o' : Option CheckerStart) → MaybeStartShows names k.slots k.steps o o' → Some (first, after) ≡ range_of o' → Shows names k s →
-    Walked names t r (begun o' k) first after new → Follows r (unfold_task t o s) (Shows names new)
+busy_by : (names : ℕ → List ℕ) (k new : Checker) (s : UnfoldingState) (t first after : ℕ) (r : Result (Unit {0}) PlanEnd) (o : Option Start) (o' : Option CheckerStart) → MaybeStartShows names k.slots k.steps o o' → Some (first, after) ≡ range_of o' → ShowsState names k s →
+    Walked names t r (with_start_things o' k) first after new → Follows r (unfold_task t o s) (ShowsState names new)
 busy_by names k new s t first after r None None m e h w = absurd cc
 busy_by names k new s t first after r None (Some b) m e h w = absurd m
 busy_by names k new s t first after r (Some a) None m e h w = absurd m
 busy_by names k new s t first after r (Some a) (Some b) m e h w =
     let p = range_is first after b e in
     let sp = subst (λ i. IsSpelled (length k.slots) names k.steps i a.body after) (sym p.0) (subst (λ i. IsSpelled (length k.slots) names k.steps b.first a.body i) (sym p.1) m.spelled) in
-    let h' : Shows names (begun (Some b) k) (with_names a.names s) = record {
+    let h' : ShowsState names (with_start_things (Some b) k) (with_names a.names s) = record {
       distinct = h.distinct;
       parents = h.parents;
       makers = h.makers;
@@ -84,49 +84,49 @@ busy_by names k new s t first after r (Some a) (Some b) m e h w =
       members = h.members;
       named = λ x lt. m.named x lt ∙ ap thing_of (sym (padded_same b.things (slice_index_or k.slots x 0)));
       ops = h.ops;
-      meetings = h.meetings;
+      visits = h.visits;
     } in
     let n : first + 1 ≡ a.first = ap (λ i. i + 1) p.0 ∙ sym m.first in
-    subst (λ i. Follows r (meet_all t (meetings_of i a.body) (with_names a.names s)) (Shows names new)) n (w (with_names a.names s) a.body sp h')
+    subst (λ i. Follows r (make_visits t (visits_of i a.body) (with_names a.names s)) (ShowsState names new)) n (w (with_names a.names s) a.body sp h')
 
-pub busy : (names : ℕ → List ℕ) (k k1 new : Checker) (s : State) (t first after : ℕ) (r : Result (Unit {0}) PlanEnd) → Some (first, after) ≡ range_of (slice_index_or k.starts t None) → k1 ≡ begun (slice_index_or k.starts t None) k → Shows names k s →
-    Walked names t r k1 first after new → Follows r (unfold_task t (slice_index_or s.starts t None) s) (Shows names new)
+pub busy : (names : ℕ → List ℕ) (k k1 new : Checker) (s : UnfoldingState) (t first after : ℕ) (r : Result (Unit {0}) PlanEnd) → Some (first, after) ≡ range_of (slice_index_or k.starts t None) → k1 ≡ with_start_things (slice_index_or k.starts t None) k → ShowsState names k s →
+    Walked names t r k1 first after new → Follows r (unfold_task t (slice_index_or s.starts t None) s) (ShowsState names new)
 busy names k k1 new s t first after r e is h w =
     busy_by names k new s t first after r (slice_index_or s.starts t None) (slice_index_or k.starts t None) (h.starts t) e h (subst (λ z. Walked names t r z first after new) is w)
 
 -- ---- all tasks
 
-none_left : (n u : ℕ) (s : State) → length s.starts ≤ u → unfold_tasks n u s ≡ Ok s
+none_left : (n u : ℕ) (s : UnfoldingState) → length s.starts ≤ u → unfold_tasks n u s ≡ Ok s
 unfolding unfold_tasks
 none_left zero u s le = refl
 none_left (suc n) u s le = ap (λ o. unfold_task u o s >>= unfold_tasks n (u + 1)) (get_or_past s.starts u None le) ∙ none_left n (u + 1) s (omega arith)
 
-pub record TasksLeft (names : ℕ → List ℕ) (t : ℕ) (all : Outcome State) (k : Checker) : Type 0 where
-  pub state : State
-  pub shows : Shows names k state
+pub record TasksLeft (names : ℕ → List ℕ) (t : ℕ) (all : Outcome UnfoldingState) (k : Checker) : Type 0 where
+  pub state : UnfoldingState
+  pub shows : ShowsState names k state
   pub same : unfold_tasks (max_tasks - t) t state ≡ all
 
 -- the tasks below t are unfolded
 pub record Tasked (old : Checker) (t : ℕ) (k : Checker) : Type 0 where
   pub keeps : Keeps old k
   pub within : t ≤ length k.parents
-  pub all : (names : ℕ → List ℕ) (s : State) → Shows names old s → TasksLeft names t (unfold_tasks max_tasks 0 s) k
+  pub all : (names : ℕ → List ℕ) (s : UnfoldingState) → ShowsState names old s → TasksLeft names t (unfold_tasks max_tasks 0 s) k
 
-pub tasks_start : (old : Checker) → Fits old → Tasked old 0 old
+pub tasks_start : (old : Checker) → IsChecker old → Tasked old 0 old
 tasks_start old f = record { keeps = simulating.keeps_itself old f; within = omega arith; all = λ names s h. record { state = s; shows = h; same = refl } }
 
 module _ (old : Checker) (t : ℕ) (k : Checker) (inv : Tasked old t k) where
-  pub tasks_done : length k.parents ≤ t → (names : ℕ → List ℕ) (s : State) → Shows names old s → (s' : State) × (unfold_tasks max_tasks 0 s ≡ Ok s') × Shows names k s'
+  pub tasks_done : length k.parents ≤ t → (names : ℕ → List ℕ) (s : UnfoldingState) → ShowsState names old s → (s' : UnfoldingState) × (unfold_tasks max_tasks 0 s ≡ Ok s') × ShowsState names k s'
   tasks_done le names s h =
       let l = inv.all names s h in
       (l.state, sym l.same ∙ none_left (max_tasks - t) t l.state (omega (arith, l.shows.starts_many, inv.keeps.fits.starts_many)), l.shows)
 
   module _ (lt : t < length k.parents) where
-    left_is : (s : State) → unfold_tasks (max_tasks - t) t s ≡ (unfold_task t (slice_index_or s.starts t None) s >>= unfold_tasks (max_tasks - (t + 1)) (t + 1))
+    left_is : (s : UnfoldingState) → unfold_tasks (max_tasks - t) t s ≡ (unfold_task t (slice_index_or s.starts t None) s >>= unfold_tasks (max_tasks - (t + 1)) (t + 1))
     unfolding unfold_tasks
     left_is s = ap (λ n. unfold_tasks n t s) (let e : max_tasks - t ≡ suc (max_tasks - (t + 1)) = omega (arith, inv.keeps.fits.few) in e)
 
-    pub tasks_on : (k2 : Checker) → Keeps k k2 → ((names : ℕ → List ℕ) (s : State) → Shows names k s → (s' : State) × (unfold_task t (slice_index_or s.starts t None) s ≡ Ok s') × Shows names k2 s') → Tasked old (t + 1) k2
+    pub tasks_on : (k2 : Checker) → Keeps k k2 → ((names : ℕ → List ℕ) (s : UnfoldingState) → ShowsState names k s → (s' : UnfoldingState) × (unfold_task t (slice_index_or s.starts t None) s ≡ Ok s') × ShowsState names k2 s') → Tasked old (t + 1) k2
     tasks_on k2 keeps went = record {
       keeps = simulating.keeps_through old k k2 inv.keeps keeps;
       within = omega (arith, keeps.more);
@@ -136,9 +136,9 @@ module _ (old : Checker) (t : ℕ) (k : Checker) (inv : Tasked old t k) where
           record { state = w.0; shows = w.2; same = sym (ap (λ o. o >>= unfold_tasks (max_tasks - (t + 1)) (t + 1)) w.1) ∙ sym (left_is l.state) ∙ l.same };
     }
 
-    pub tasks_fail : (e : PlanEnd) (k2 kk : Checker) → ((names : ℕ → List ℕ) (s : State) → Shows names k s → Follows {A = Unit {0}} (Err e) (unfold_task t (slice_index_or s.starts t None) s) (Shows names k2)) →
-        (r : Result (Unit {0}) PlanEnd) → r ≡ Err e → (names : ℕ → List ℕ) (s : State) → Shows names old s → Follows r (unfold_tasks max_tasks 0 s) (Shows names kk)
-    tasks_fail ends.NoMemory k2 kk went r is names s h = subst (λ z. Follows z (unfold_tasks max_tasks 0 s) (Shows names kk)) (sym is) tt
+    pub tasks_fail : (e : PlanEnd) (k2 kk : Checker) → ((names : ℕ → List ℕ) (s : UnfoldingState) → ShowsState names k s → Follows {A = Unit {0}} (Err e) (unfold_task t (slice_index_or s.starts t None) s) (ShowsState names k2)) →
+        (r : Result (Unit {0}) PlanEnd) → r ≡ Err e → (names : ℕ → List ℕ) (s : UnfoldingState) → ShowsState names old s → Follows r (unfold_tasks max_tasks 0 s) (ShowsState names kk)
+    tasks_fail ends.NoMemory k2 kk went r is names s h = subst (λ z. Follows z (unfold_tasks max_tasks 0 s) (ShowsState names kk)) (sym is) tt
     tasks_fail (ends.Check f) k2 kk went r is names s h =
         let l = inv.all names s h in
-        subst (λ z. Follows z (unfold_tasks max_tasks 0 s) (Shows names kk)) (sym is) (sym l.same ∙ left_is l.state ∙ ap (λ o. o >>= unfold_tasks (max_tasks - (t + 1)) (t + 1)) (went names l.state l.shows))
+        subst (λ z. Follows z (unfold_tasks max_tasks 0 s) (ShowsState names kk)) (sym is) (sym l.same ∙ left_is l.state ∙ ap (λ o. o >>= unfold_tasks (max_tasks - (t + 1)) (t + 1)) (went names l.state l.shows))

@@ -1,13 +1,13 @@
--- A visit does what its tests, made row by row, say.
+-- A stage does what its tests, made row by row, say.
 use Rattle.std.proofs.Common.{◌≡◌, ℕ, ◌+◌, Bool, true, false, not, Some, None, Ok, Err, Option, List, [], ◌∷◌, ◌++◌, sym, ◌∙◌, ap, refl, inl, inr}
 use Rattle.std.specs.Prelude.{◌||◌, Contains, is_none, nat_lt, length, sum_by}
 use Rattle.armus_base.proofs.Elements.{Contains-cons_cases, Contains-head, Contains-tail, nothing_in_nil}
 use Rattle.armus_base.specs.declared.op.Op.{Op}
 use Rattle.armus_base.specs.declared.op.Op.TheVariants as op
 use Rattle.pl_syntax.specs.Tree.{new_task, new_phaser, reg, dereg, adv, await, skip}
-use Rattle.pl_plan.specs.Unfolding.{Coming, a_plain, a_fork, a_loop, a_turn, Meeting, State, Start, Thing, a_task, a_phaser, Outcome, ◌>>=◌, fault, fault_unless, as_task, as_phaser, unforked_child, member_of, task, phaser, add_op, act, act_fork, come_to, count_meeting, meet, with_member, with_members, with_new_phaser, with_start}
+use Rattle.pl_plan.specs.Unfolding.{Coming, a_plain, a_fork, a_loop, a_turn, Visit, UnfoldingState, Start, Thing, a_task, a_phaser, Outcome, ◌>>=◌, fault, fault_unless, as_task, as_phaser, unforked_child, member_of, task, phaser, add_op, act, act_fork, come_to, count_visit, make_visit, with_member, with_members, with_new_phaser, with_start}
 use Rattle.pl_plan.specs.Tests.{Row, is_phaser, is_task, phaser_number, task_number, IsFirstFailing, Passes, drew, is_forked, table, first_unknown, first_of_other_kind, second_unknown, second_of_other_kind, not_drawn, forked_already, no_member, member_already, no_task_left, no_phaser_left, no_op_left}
-use Rattle.pl_plan.specs.Visits.{after_visit, done_at, meets, with_code}
+use Rattle.pl_plan.specs.Stages.{after_stage, done_at, comes, with_code}
 
 -- ---- the first row at fault, computed
 
@@ -15,11 +15,11 @@ abbrev pub kind_or : Bool → ℕ → Option ℕ → Option ℕ
 kind_or true kind o = Some kind
 kind_or false kind o = o
 
-abbrev pub first_kind : List Row → State → ℕ → Coming → Option ℕ
+abbrev pub first_kind : List Row → UnfoldingState → ℕ → Coming → Option ℕ
 first_kind [] s t c = None
 first_kind (r ∷ rows) s t c = kind_or (r.fails s t c) r.kind (first_kind rows s t c)
 
-module _ (s : State) (t : ℕ) (c : Coming) where
+module _ (s : UnfoldingState) (t : ℕ) (c : Coming) where
   -- where no row is at fault, none of them is
   abbrev NoneFails : List Row → Type 0
   NoneFails rows = (r : Row) → Contains rows r → r.fails s t c ≡ false
@@ -107,30 +107,30 @@ module _ (s : State) (t : ℕ) (c : Coming) where
   kind_some kind f =
       ap (λ rows. first_kind rows s t c) f.of_table ∙ kind_behind f.before f.failing f.after f.passed f.fails ∙ ap Some f.kind_is
 
--- ---- what a meeting answers
+-- ---- what a visit answers
 
 -- the state, or the fault of this kind at statement n
-abbrev pub answer : ℕ → Option ℕ → State → Outcome State
+abbrev pub answer : ℕ → Option ℕ → UnfoldingState → Outcome UnfoldingState
 answer n None s = Ok s
 answer n (Some kind) s = Err (fault kind n)
 
 -- one test, and then the rest
 step :
-    (good : Bool) (kind n : ℕ) (rest : Option ℕ) (done : State) (o : Outcome State) → o ≡ answer n rest done →
+    (good : Bool) (kind n : ℕ) (rest : Option ℕ) (done : UnfoldingState) (o : Outcome UnfoldingState) → o ≡ answer n rest done →
     (fault_unless good kind n >>= λ _. o) ≡ answer n (kind_or (not good) kind rest) done
 step true kind n rest done o e = e
 step false kind n rest done o e = refl
 
 -- a test that is no test of the table's form: what must not hold
 step_not :
-    (bad : Bool) (kind n : ℕ) (rest : Option ℕ) (done : State) (o : Outcome State) → o ≡ answer n rest done →
+    (bad : Bool) (kind n : ℕ) (rest : Option ℕ) (done : UnfoldingState) (o : Outcome UnfoldingState) → o ≡ answer n rest done →
     (fault_unless (not bad) kind n >>= λ _. o) ≡ answer n (kind_or bad kind rest) done
 step_not true kind n rest done o e = refl
 step_not false kind n rest done o e = e
 
 -- the two tests of a child
 step_child :
-    (drawn forked : Bool) (n : ℕ) (rest : Option ℕ) (done : State) (o : Outcome State) → o ≡ answer n rest done →
+    (drawn forked : Bool) (n : ℕ) (rest : Option ℕ) (done : UnfoldingState) (o : Outcome UnfoldingState) → o ≡ answer n rest done →
     ((fault_unless drawn 5 n >>= λ _. fault_unless (not forked) 6 n) >>= λ _. o) ≡ answer n (kind_or (not drawn) 5 (kind_or forked 6 rest)) done
 step_child true true n rest done o e = refl
 step_child true false n rest done o e = e
@@ -138,29 +138,29 @@ step_child false forked n rest done o e = refl
 
 -- the test of a member
 step_member :
-    (inside : Bool) (p n : ℕ) (rest : Option ℕ) (done : State) (f : ℕ → Outcome State) → f p ≡ answer n rest done →
+    (inside : Bool) (p n : ℕ) (rest : Option ℕ) (done : UnfoldingState) (f : ℕ → Outcome UnfoldingState) → f p ≡ answer n rest done →
     ((fault_unless inside 3 n >>= λ _. Ok p) >>= f) ≡ answer n (kind_or (not inside) 3 rest) done
 step_member true p n rest done f e = e
 step_member false p n rest done f e = refl
 
 -- the last test, of ops, and then the op
 step_op :
-    (t n : ℕ) (o : Op) (s : State) →
+    (t n : ℕ) (o : Op) (s : UnfoldingState) →
     add_op t n o s ≡ answer n (kind_or (not (nat_lt (sum_by length s.plan.codes) 262144)) 9 None) (with_code t o s)
 unfolding add_op
 step_op t n o s = step (nat_lt (sum_by length s.plan.codes) 262144) 9 n None (with_code t o s) (Ok (with_code t o s)) refl
 
--- what stands behind the test of meetings
-abbrev behind_meetings : List Row
-behind_meetings =
+-- what stands behind the test of visits
+abbrev behind_visits : List Row
+behind_visits =
     first_unknown ∷ first_of_other_kind ∷ second_unknown ∷ second_of_other_kind ∷ not_drawn ∷ forked_already ∷ no_member ∷ member_already
     ∷ no_task_left ∷ no_phaser_left ∷ no_op_left ∷ []
 
--- the tests behind that of meetings, and what is done
-abbrev IsByTable : ℕ → ℕ → Coming → State → Outcome State → Type 0
-IsByTable t n c s o = o ≡ answer n (first_kind behind_meetings s t c) (done_at t n c s)
+-- the tests behind that of visits, and what is done
+abbrev IsByTable : ℕ → ℕ → Coming → UnfoldingState → Outcome UnfoldingState → Type 0
+IsByTable t n c s o = o ≡ answer n (first_kind behind_visits s t c) (done_at t n c s)
 
-module _ (t n : ℕ) (s : State) where
+module _ (t n : ℕ) (s : UnfoldingState) where
   abbrev ops_left : Bool
   ops_left = nat_lt (sum_by length s.plan.codes) 262144
 
@@ -228,14 +228,14 @@ module _ (t n : ℕ) (s : State) where
   come_by a_loop = refl
   come_by a_turn = refl
 
--- a meeting answers by the table
-pub meet_by : (t : ℕ) (m : Meeting) (s : State) → meet t m s ≡ answer m.statement (first_kind table s t m.coming) (after_visit (meets t m) s)
-unfolding count_meeting
-meet_by t m s = by (nat_lt s.meetings 1048576)
+-- a visit answers by the table
+pub visit_by : (t : ℕ) (m : Visit) (s : UnfoldingState) → make_visit t m s ≡ answer m.statement (first_kind table s t m.coming) (after_stage (comes t m) s)
+unfolding count_visit
+visit_by t m s = by (nat_lt s.visits 1048576)
   where
     by :
         (b : Bool) →
-        ((fault_unless b 10 m.statement >>= λ _. Ok (record s { meetings = s.meetings + 1 })) >>= come_to t m.statement m.coming)
-        ≡ answer m.statement (kind_or (not b) 10 (first_kind behind_meetings s t m.coming)) (after_visit (meets t m) s)
-    by true = come_by t m.statement (record s { meetings = s.meetings + 1 }) m.coming
+        ((fault_unless b 10 m.statement >>= λ _. Ok (record s { visits = s.visits + 1 })) >>= come_to t m.statement m.coming)
+        ≡ answer m.statement (kind_or (not b) 10 (first_kind behind_visits s t m.coming)) (after_stage (comes t m) s)
+    by true = come_by t m.statement (record s { visits = s.visits + 1 }) m.coming
     by false = refl

@@ -5,9 +5,9 @@ use Rattle.armus_base.specs.Limits.{max_tasks, max_phasers, max_ops}
 use Rattle.armus_base.specs.declared.op.Op.{Op}
 use Rattle.armus_base.specs.declared.op.Op.TheVariants as op
 use Rattle.pl_syntax.specs.Tree.{Tree, done, plain, fork, loop, Plain, new_task, new_phaser, reg, dereg, adv, await, skip, count}
-use Rattle.pl_plan.specs.Limits.{max_meetings}
+use Rattle.pl_plan.specs.Limits.{max_visits}
 use Rattle.pl_plan.specs.declared.fault.CheckFault.{CheckFault}
-use Rattle.pl_plan.specs.Unfolding.{Coming, a_plain, a_fork, a_loop, a_turn, Meeting, meeting, times, meetings_of, State, Start, Thing, a_task, a_phaser, Outcome, ◌>>=◌, fault_unless, as_task, as_phaser, is_parent, unforked_child, member_of, task, phaser, add_op, act, act_fork, come_to, count_meeting, meet, meet_all, with_names, with_op, with_member, with_members, with_new_task, with_new_phaser, with_start, unfold_task, unfold_tasks, opening_state, plan_of, not_member, already_member, not_drawn_here, already_forked, too_many_tasks, too_many_phasers, too_many_ops, too_many_meetings}
+use Rattle.pl_plan.specs.Unfolding.{Coming, a_plain, a_fork, a_loop, a_turn, Visit, visit, times, visits_of, UnfoldingState, Start, Thing, a_task, a_phaser, Outcome, ◌>>=◌, fault_unless, as_task, as_phaser, is_parent, unforked_child, member_of, task, phaser, add_op, act, act_fork, come_to, count_visit, make_visit, make_visits, with_names, with_op, with_member, with_members, with_new_task, with_new_phaser, with_start, unfold_task, unfold_tasks, opening_state, plan_of, not_member, already_member, not_drawn_here, already_forked, too_many_tasks, too_many_phasers, too_many_ops, too_many_visits}
 use Rattle.pl_plan.specs.Laws.{FaultIsOfProgram}
 use Rattle.pl_plan.proofs.Places.{at_set, at_more}
 
@@ -20,66 +20,66 @@ abbrev IsPart : ℕ → Option Start → Type 0
 IsPart many None = Unit {0}
 IsPart many (Some start) = (1 ≤ start.first) × (start.first + count start.body ≤ many + 1)
 
-abbrev ArePartsOf : ℕ → State → Type 0
+abbrev ArePartsOf : ℕ → UnfoldingState → Type 0
 ArePartsOf many s = (c : ℕ) → IsPart many (slice_index_or s.starts c None)
 
-abbrev Stays : ℕ → Outcome State → Type 0
+abbrev Stays : ℕ → Outcome UnfoldingState → Type 0
 Stays many (Ok s) = ArePartsOf many s
 Stays many (Err f) = IsFaultOf many f
 
--- ---- the meetings of a part have the numbers of its statements
+-- ---- the visits of a part have the numbers of its statements
 
 abbrev HasPart : ℕ → ℕ → Coming → Type 0
 HasPart many n (a_fork x body) = n + 1 + count body ≤ many + 1
 HasPart many n c = Unit {0}
 
-abbrev IsIn : ℕ → Meeting → Type 0
+abbrev IsIn : ℕ → Visit → Type 0
 IsIn many m = (1 ≤ m.statement) × (m.statement ≤ many) × HasPart many m.statement m.coming
 
-abbrev AreIn : ℕ → List Meeting → Type 0
+abbrev AreIn : ℕ → List Visit → Type 0
 AreIn many [] = Unit {0}
 AreIn many (m ∷ ms) = IsIn many m × AreIn many ms
 
-in-append : (many : ℕ) (xs ys : List Meeting) → AreIn many xs → AreIn many ys → AreIn many (xs ++ ys)
+in-append : (many : ℕ) (xs ys : List Visit) → AreIn many xs → AreIn many ys → AreIn many (xs ++ ys)
 in-append many [] ys h k = k
 in-append many (x ∷ xs) ys h k = (h.0, in-append many xs ys h.1 k)
 
-in-times : (many k : ℕ) (xs : List Meeting) → AreIn many xs → AreIn many (times k xs)
+in-times : (many k : ℕ) (xs : List Visit) → AreIn many xs → AreIn many (times k xs)
 in-times many zero xs h = tt
 in-times many (suc k) xs h = in-append many xs (times k xs) h (in-times many k xs h)
 
-meetings_in : (many n : ℕ) (tree : Tree) → 1 ≤ n → n + count tree ≤ many + 1 → AreIn many (meetings_of n tree)
-meetings_in many n done pos le = tt
-meetings_in many n (plain s rest) pos le = ((pos, omega arith, tt), meetings_in many (n + 1) rest (omega arith) (omega arith))
-meetings_in many n (fork x body rest) pos le =
-    ((pos, omega arith, omega arith), meetings_in many (n + 1 + count body) rest (omega arith) (omega arith))
-meetings_in many n (loop k body rest) pos le = (
+visits_in : (many n : ℕ) (tree : Tree) → 1 ≤ n → n + count tree ≤ many + 1 → AreIn many (visits_of n tree)
+visits_in many n done pos le = tt
+visits_in many n (plain s rest) pos le = ((pos, omega arith, tt), visits_in many (n + 1) rest (omega arith) (omega arith))
+visits_in many n (fork x body rest) pos le =
+    ((pos, omega arith, omega arith), visits_in many (n + 1 + count body) rest (omega arith) (omega arith))
+visits_in many n (loop k body rest) pos le = (
   (pos, omega arith, tt),
-  in-append many (times k (meeting n a_turn ∷ meetings_of (n + 1) body)) (meetings_of (n + 1 + count body) rest)
-      (in-times many k (meeting n a_turn ∷ meetings_of (n + 1) body) ((pos, omega arith, tt), meetings_in many (n + 1) body (omega arith) (omega arith)))
-      (meetings_in many (n + 1 + count body) rest (omega arith) (omega arith)),
+  in-append many (times k (visit n a_turn ∷ visits_of (n + 1) body)) (visits_of (n + 1 + count body) rest)
+      (in-times many k (visit n a_turn ∷ visits_of (n + 1) body) ((pos, omega arith, tt), visits_in many (n + 1) body (omega arith) (omega arith)))
+      (visits_in many (n + 1 + count body) rest (omega arith) (omega arith)),
 )
 
 -- ---- tests
 
 stays_fault_unless :
-    (many : ℕ) (b : Bool) (kind n : ℕ) (o : Outcome State) → 1 ≤ kind → kind ≤ 10 → 1 ≤ n → n ≤ many → Stays many o →
+    (many : ℕ) (b : Bool) (kind n : ℕ) (o : Outcome UnfoldingState) → 1 ≤ kind → kind ≤ 10 → 1 ≤ n → n ≤ many → Stays many o →
     Stays many (fault_unless b kind n >>= λ _. o)
 stays_fault_unless many true kind n o low high pos le h = h
 stays_fault_unless many false kind n o low high pos le h = (low, high, pos, le)
 
-stays_task : (many n : ℕ) (o : Option Thing) (f : ℕ → Outcome State) → 1 ≤ n → n ≤ many → ((c : ℕ) → Stays many (f c)) → Stays many (as_task n o >>= f)
+stays_task : (many n : ℕ) (o : Option Thing) (f : ℕ → Outcome UnfoldingState) → 1 ≤ n → n ≤ many → ((c : ℕ) → Stays many (f c)) → Stays many (as_task n o >>= f)
 stays_task many n None f pos le h = (omega arith, omega arith, pos, le)
 stays_task many n (Some (a_task c)) f pos le h = h c
 stays_task many n (Some (a_phaser p)) f pos le h = (omega arith, omega arith, pos, le)
 
-stays_phaser : (many n : ℕ) (o : Option Thing) (f : ℕ → Outcome State) → 1 ≤ n → n ≤ many → ((p : ℕ) → Stays many (f p)) → Stays many (as_phaser n o >>= f)
+stays_phaser : (many n : ℕ) (o : Option Thing) (f : ℕ → Outcome UnfoldingState) → 1 ≤ n → n ≤ many → ((p : ℕ) → Stays many (f p)) → Stays many (as_phaser n o >>= f)
 stays_phaser many n None f pos le h = (omega arith, omega arith, pos, le)
 stays_phaser many n (Some (a_task c)) f pos le h = (omega arith, omega arith, pos, le)
 stays_phaser many n (Some (a_phaser p)) f pos le h = h p
 
 stays_member :
-    (many t n : ℕ) (o : Option Thing) (s : State) (f : ℕ → Outcome State) → 1 ≤ n → n ≤ many → ((p : ℕ) → Stays many (f p)) →
+    (many t n : ℕ) (o : Option Thing) (s : UnfoldingState) (f : ℕ → Outcome UnfoldingState) → 1 ≤ n → n ≤ many → ((p : ℕ) → Stays many (f p)) →
     Stays many (member_of t n o s >>= f)
 unfolding member_of
 stays_member many t n None s f pos le h = (omega arith, omega arith, pos, le)
@@ -90,7 +90,7 @@ stays_member many t n (Some (a_phaser p)) s f pos le h = by (s.members t p)
     by true = h p
     by false = (omega arith, omega arith, pos, le)
 
-stays_child : (many t n c : ℕ) (s : State) (o : Outcome State) → 1 ≤ n → n ≤ many → Stays many o → Stays many (unforked_child t n c s >>= λ _. o)
+stays_child : (many t n c : ℕ) (s : UnfoldingState) (o : Outcome UnfoldingState) → 1 ≤ n → n ≤ many → Stays many o → Stays many (unforked_child t n c s >>= λ _. o)
 stays_child many t n c s o pos le h = by (is_parent t (slice_index_or s.plan.parents c None)) (is_some (slice_index_or s.starts c None))
   where
     by : (a b : Bool) → Stays many ((fault_unless a not_drawn_here n >>= λ _. fault_unless (not b) already_forked n) >>= λ _. o)
@@ -98,14 +98,14 @@ stays_child many t n c s o pos le h = by (is_parent t (slice_index_or s.plan.par
     by true true = (omega arith, omega arith, pos, le)
     by true false = h
 
-stays_op : (many t n : ℕ) (o : Op) (s : State) → 1 ≤ n → n ≤ many → ArePartsOf many s → Stays many (add_op t n o s)
+stays_op : (many t n : ℕ) (o : Op) (s : UnfoldingState) → 1 ≤ n → n ≤ many → ArePartsOf many s → Stays many (add_op t n o s)
 unfolding add_op
 stays_op many t n o s pos le h =
     stays_fault_unless many (nat_lt (sum_by length s.plan.codes) max_ops) too_many_ops n (Ok (record s { plan = with_op t o s.plan })) (omega arith) (omega arith) pos le h
 
--- ---- statements, meetings and tasks
+-- ---- statements, visits and tasks
 
-module _ (many t n : ℕ) (s : State) (pos : 1 ≤ n) (le : n ≤ many) (h : ArePartsOf many s) where
+module _ (many t n : ℕ) (s : UnfoldingState) (pos : 1 ≤ n) (le : n ≤ many) (h : ArePartsOf many s) where
   stays_act : (x : Plain) → Stays many (act t n x s)
   unfolding act
   stays_act (new_task x) =
@@ -141,30 +141,30 @@ module _ (many t n : ℕ) (s : State) (pos : 1 ≤ n) (le : n ≤ many) (h : Are
   stays_come a_loop part = h
   stays_come a_turn part = h
 
-stays_then : (many : ℕ) (o : Outcome State) (f : State → Outcome State) → Stays many o → ((s : State) → ArePartsOf many s → Stays many (f s)) → Stays many (o >>= f)
+stays_then : (many : ℕ) (o : Outcome UnfoldingState) (f : UnfoldingState → Outcome UnfoldingState) → Stays many o → ((s : UnfoldingState) → ArePartsOf many s → Stays many (f s)) → Stays many (o >>= f)
 stays_then many (Ok s) f h k = k s h
 stays_then many (Err e) f h k = h
 
-stays_count : (many n : ℕ) (s : State) → 1 ≤ n → n ≤ many → ArePartsOf many s → Stays many (count_meeting n s)
-unfolding count_meeting
+stays_count : (many n : ℕ) (s : UnfoldingState) → 1 ≤ n → n ≤ many → ArePartsOf many s → Stays many (count_visit n s)
+unfolding count_visit
 stays_count many n s pos le h =
-    stays_fault_unless many (nat_lt s.meetings max_meetings) too_many_meetings n (Ok (record s { meetings = s.meetings + 1 })) (omega arith) (omega arith) pos le h
+    stays_fault_unless many (nat_lt s.visits max_visits) too_many_visits n (Ok (record s { visits = s.visits + 1 })) (omega arith) (omega arith) pos le h
 
-stays_met : (many t : ℕ) (ms : List Meeting) (s : State) → AreIn many ms → ArePartsOf many s → Stays many (meet_all t ms s)
-unfolding meet_all
-stays_met many t [] s i h = h
-stays_met many t (m ∷ ms) s i h =
-    stays_then many (meet t m s) (meet_all t ms)
-    (stays_then many (count_meeting m.statement s) (come_to t m.statement m.coming) (stays_count many m.statement s i.0.0 i.0.1 h)
+stays_visited : (many t : ℕ) (ms : List Visit) (s : UnfoldingState) → AreIn many ms → ArePartsOf many s → Stays many (make_visits t ms s)
+unfolding make_visits
+stays_visited many t [] s i h = h
+stays_visited many t (m ∷ ms) s i h =
+    stays_then many (make_visit t m s) (make_visits t ms)
+    (stays_then many (count_visit m.statement s) (come_to t m.statement m.coming) (stays_count many m.statement s i.0.0 i.0.1 h)
     (λ s' h'. stays_come many t m.statement s' i.0.0 i.0.1 h' m.coming i.0.2))
-    (λ s' h'. stays_met many t ms s' i.1 h')
+    (λ s' h'. stays_visited many t ms s' i.1 h')
 
-stays_unfolded : (many t : ℕ) (o : Option Start) (s : State) → IsPart many o → ArePartsOf many s → Stays many (unfold_task t o s)
+stays_unfolded : (many t : ℕ) (o : Option Start) (s : UnfoldingState) → IsPart many o → ArePartsOf many s → Stays many (unfold_task t o s)
 stays_unfolded many t None s part h = h
 stays_unfolded many t (Some start) s part h =
-    stays_met many t (meetings_of start.first start.body) (with_names start.names s) (meetings_in many start.first start.body part.0 part.1) h
+    stays_visited many t (visits_of start.first start.body) (with_names start.names s) (visits_in many start.first start.body part.0 part.1) h
 
-stays_tasks : (many n t : ℕ) (s : State) → ArePartsOf many s → Stays many (unfold_tasks n t s)
+stays_tasks : (many n t : ℕ) (s : UnfoldingState) → ArePartsOf many s → Stays many (unfold_tasks n t s)
 unfolding unfold_tasks
 stays_tasks many zero t s h = h
 stays_tasks many (suc n) t s h =
@@ -175,7 +175,7 @@ first_parts : (program : Tree) → ArePartsOf (count program) (opening_state pro
 first_parts program zero = (omega arith, omega arith)
 first_parts program (suc c) = tt
 
-fault_of : (many : ℕ) (o : Outcome State) (f : CheckFault) → Stays many o → (o >>= λ s. Ok s.plan) ≡ Err f → IsFaultOf many f
+fault_of : (many : ℕ) (o : Outcome UnfoldingState) (f : CheckFault) → Stays many o → (o >>= λ s. Ok s.plan) ≡ Err f → IsFaultOf many f
 fault_of many (Ok s) f h e = absurd cc
 fault_of many (Err g) f h e = subst (IsFaultOf many) (let same : g ≡ f = cc in same) h
 

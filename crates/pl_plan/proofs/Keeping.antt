@@ -9,7 +9,7 @@ use Rattle.pl_plan.specs.declared.step.Step.{Step}
 use Rattle.pl_plan.specs.declared.step.Thing.{Thing}
 use Rattle.pl_plan.specs.declared.step.Thing.TheVariants.{Nothing, Task, Phaser}
 use Rattle.pl_plan.specs.inside.Steps.{IsList}
-use Rattle.pl_plan.specs.inside.Checker.{Checker, CheckerStart, IsThings, IsInside, StartFits, Fits, slot_of, slotted, with_thing, with_task, with_maker, pushed, marked, started, padded}
+use Rattle.pl_plan.specs.inside.Checker.{Checker, CheckerStart, IsThings, IsInside, StartFits, IsChecker, slot_of, slotted, with_thing, with_task, with_maker, pushed, with_membership, started, padded}
 use Rattle.pl_plan.specs.inside.CheckerSteps.{with_binding}
 use Rattle.pl_plan.proofs.Places.{at_set, at_more}
 
@@ -71,7 +71,7 @@ start_more a b n a' b' n' m m' steps (Some s) p q r e h = record {
 
 -- ---- changes
 
-pub fits_pushed : (k : Checker) (t : ℕ) (o : Op) → Fits k → Fits (pushed t o k)
+pub fits_pushed : (k : Checker) (t : ℕ) (o : Op) → IsChecker k → IsChecker (pushed t o k)
 fits_pushed k t o f = record {
   starts_many = f.starts_many;
   codes_many = length-set k.codes t (slice_index_or k.codes t [] ++ o ∷ []) ∙ f.codes_many;
@@ -86,7 +86,7 @@ fits_pushed k t o f = record {
   later = f.later;
 }
 
-pub fits_marked : (k : Checker) (t p : ℕ) (v : Bool) → Fits k → Fits (marked t p v k)
+pub fits_marked : (k : Checker) (t p : ℕ) (v : Bool) → IsChecker k → IsChecker (with_membership t p v k)
 fits_marked k t p v f = record {
   starts_many = f.starts_many;
   codes_many = f.codes_many;
@@ -101,7 +101,7 @@ fits_marked k t p v f = record {
   later = f.later;
 }
 
-pub fits_started : (k : Checker) (c first after : ℕ) → after ≤ length k.steps → IsList (length k.slots) k.steps first after → Fits k → Fits (started c first after k)
+pub fits_started : (k : Checker) (c first after : ℕ) → after ≤ length k.steps → IsList (length k.slots) k.steps first after → IsChecker k → IsChecker (started c first after k)
 fits_started k c first after within list f = record {
   starts_many = length-set k.starts c (Some start) ∙ f.starts_many;
   codes_many = f.codes_many;
@@ -119,7 +119,7 @@ fits_started k c first after within list f = record {
     start : CheckerStart
     start = record { first = first; after = after; things = take k.slot_count k.things }
 
-pub fits_task : (k : Checker) (t : ℕ) → length k.parents < max_tasks → Fits k → Fits (with_task t k)
+pub fits_task : (k : Checker) (t : ℕ) → length k.parents < max_tasks → IsChecker k → IsChecker (with_task t k)
 fits_task k t lt f = record {
   starts_many = omega (arith, length-append k.starts (None ∷ []), length-append k.parents (Some (record { 0 = t }) ∷ []), f.starts_many);
   codes_many = omega (arith, length-append k.codes ([] ∷ []), length-append k.parents (Some (record { 0 = t }) ∷ []), f.codes_many);
@@ -135,7 +135,7 @@ fits_task k t lt f = record {
       (start_more (length k.parents) (length k.makers) k.slot_count (length (with_task t k).parents) (length k.makers) k.slot_count (length k.slots) (length k.slots) k.steps (slice_index_or k.starts c None) (omega (arith, length-append k.parents (Some (record { 0 = t }) ∷ []))) (omega arith) (omega arith) refl (f.later c));
 }
 
-pub fits_maker : (k : Checker) (t : ℕ) → length k.makers < max_phasers → Fits k → Fits (with_maker t k)
+pub fits_maker : (k : Checker) (t : ℕ) → length k.makers < max_phasers → IsChecker k → IsChecker (with_maker t k)
 fits_maker k t lt f = record {
   starts_many = f.starts_many;
   codes_many = f.codes_many;
@@ -155,7 +155,7 @@ fits_maker k t lt f = record {
 abbrev new_slot : ℕ → Checker → Checker
 new_slot x k = record k { slots = slice_set k.slots x k.slot_count; slot_count = k.slot_count + 1 }
 
-fits_new_slot : (k : Checker) (x : ℕ) → k.slot_count < length k.parents + length k.makers → Fits k → Fits (new_slot x k)
+fits_new_slot : (k : Checker) (x : ℕ) → k.slot_count < length k.parents + length k.makers → IsChecker k → IsChecker (new_slot x k)
 fits_new_slot k x room f = record {
   starts_many = f.starts_many;
   codes_many = f.codes_many;
@@ -175,12 +175,12 @@ fits_new_slot k x room f = record {
 
 -- what a slotted name has
 pub record Slotted (x : ℕ) (k new : Checker) : Type 0 where
-  pub fits : Fits new
+  pub fits : IsChecker new
   pub has : 0 < slot_of new x
   pub slots : length new.slots ≡ length k.slots
   pub same : new ≡ record k { slots = new.slots; slot_count = new.slot_count }
 
-slotted_by : (x : ℕ) (k : Checker) → x < length k.slots → k.slot_count < length k.parents + length k.makers → Fits k →
+slotted_by : (x : ℕ) (k : Checker) → x < length k.slots → k.slot_count < length k.parents + length k.makers → IsChecker k →
     (b : Bool) → nat_lt 0 (slot_of k x) ≡ b → Slotted x k (if b then k else new_slot x k)
 slotted_by x k here room f true e = record { fits = f; has = grind (arith, e); slots = refl; same = refl }
 slotted_by x k here room f false e = record {
@@ -190,12 +190,12 @@ slotted_by x k here room f false e = record {
   same = refl;
 }
 
-pub slotted_fits : (x : ℕ) (k : Checker) → x < length k.slots → k.slot_count < length k.parents + length k.makers → Fits k → Slotted x k (slotted x k)
+pub slotted_fits : (x : ℕ) (k : Checker) → x < length k.slots → k.slot_count < length k.parents + length k.makers → IsChecker k → Slotted x k (slotted x k)
 slotted_fits x k here room f = slotted_by x k here room f (nat_lt 0 (slot_of k x)) refl
 
 -- ---- a thing
 
-pub fits_thing : (x : ℕ) (v : Thing) (k : Checker) → 0 < slot_of k x → IsInside (length k.parents) (length k.makers) v → Fits k → Fits (with_thing x v k)
+pub fits_thing : (x : ℕ) (v : Thing) (k : Checker) → 0 < slot_of k x → IsInside (length k.parents) (length k.makers) v → IsChecker k → IsChecker (with_thing x v k)
 fits_thing x v k has inside f = record {
   starts_many = f.starts_many;
   codes_many = f.codes_many;
@@ -214,7 +214,7 @@ fits_thing x v k has inside f = record {
   later = f.later;
 }
 
-pub fits_binding : (x : ℕ) (v : Thing) (k : Checker) → x < length k.slots → k.slot_count < length k.parents + length k.makers → IsInside (length k.parents) (length k.makers) v → Fits k → Fits (with_binding x v k)
+pub fits_binding : (x : ℕ) (v : Thing) (k : Checker) → x < length k.slots → k.slot_count < length k.parents + length k.makers → IsInside (length k.parents) (length k.makers) v → IsChecker k → IsChecker (with_binding x v k)
 fits_binding x v k here room inside f =
     let s = slotted_fits x k here room f in
     fits_thing x v (slotted x k) s.has (subst (λ n. IsInside (length n.parents) (length n.makers) v) (sym s.same) inside) s.fits

@@ -1,4 +1,4 @@
--- Before the first meeting, and the plan at the end.
+-- Before the first visit, and the plan at the end.
 use Rattle.std.proofs.Common.{◌≡◌, ℕ, ◌+◌, ◌*◌, ◌<◌, ◌≤◌, ◌⊎◌, inl, inr, List, [], ◌∷◌, length, Ok, Err, Result, Option, Some, None, arith, sym, ◌∙◌, ap, subst, refl}
 use Rattle.std.specs.Prelude.{slice_index_or}
 use Rattle.std.proofs.lemmas.Bool.{cases_lt}
@@ -14,12 +14,12 @@ use Rattle.pl_plan.specs.declared.fault.PlanEnd.TheVariants as ends
 use Rattle.pl_plan.specs.inside.Steps.{IsSpelled}
 use Rattle.pl_plan.specs.inside.Checker.{Checker, CheckerStart}
 use Rattle.pl_plan.specs.inside.CheckerSteps.{thing_of}
-use Rattle.pl_plan.specs.inside.Opening.{IsOpening}
-use Rattle.pl_plan.specs.Planning.{Answers}
-use Rattle.pl_plan.specs.Unfolding.{State, Start, ◌>>=◌, opening_state, unfold_tasks, plan_of}
-use Rattle.pl_plan.specs.inside.Shows.{Shows, MaybeStartShows, StartShows, IsNumbering, Follows}
+use Rattle.pl_plan.specs.inside.Opening.{IsOpeningChecker}
+use Rattle.pl_plan.specs.Planning.{GivesOutcome}
+use Rattle.pl_plan.specs.Unfolding.{UnfoldingState, Start, ◌>>=◌, opening_state, unfold_tasks, plan_of}
+use Rattle.pl_plan.specs.inside.Shows.{ShowsState, MaybeStartShows, StartShows, IsNumbering, Follows}
 
-pub opens : (spelling : ℕ → List ℕ) (steps : List Step) (names : ℕ) (k : Checker) (tree : Tree) → IsOpening steps names k → IsNumbering names spelling → IsSpelled names spelling steps 0 tree (length steps) → Shows spelling k (opening_state tree)
+pub opens : (spelling : ℕ → List ℕ) (steps : List Step) (names : ℕ) (k : Checker) (tree : Tree) → IsOpeningChecker steps names k → IsNumbering names spelling → IsSpelled names spelling steps 0 tree (length steps) → ShowsState spelling k (opening_state tree)
 opens spelling steps names k tree o distinct spelled = record {
   distinct = subst (λ n. IsNumbering n spelling) (sym o.slots_many) distinct;
   parents = sym o.parents;
@@ -30,7 +30,7 @@ opens spelling steps names k tree o distinct spelled = record {
   members = λ v q lt. sym (o.members (max_phasers * v + q));
   named = λ x lt. ap thing_of (sym (o.things (slice_index_or k.slots x 0)));
   ops = sym o.ops;
-  meetings = sym o.meetings;
+  visits = sym o.visits;
 }
   where
     start : Start
@@ -54,12 +54,12 @@ plan_is : (p : Plan) (parents : List (Option TaskId)) (makers : List TaskId) (co
 plan_is p parents makers codes a b c =
     ap (λ x. record p { parents = x }) a ∙ ap (λ x. record p { parents = parents; makers = x }) b ∙ ap (λ x. record p { parents = parents; makers = makers; codes = x }) c
 
-pub plan_found : (spelling : ℕ → List ℕ) (k : Checker) (tree : Tree) (plan : Plan) → ((s : State) × (unfold_tasks max_tasks 0 (opening_state tree) ≡ Ok s) × Shows spelling k s) → plan ≡ record { parents = k.parents; makers = k.makers; codes = k.codes } → plan_of tree ≡ Ok plan
+pub plan_found : (spelling : ℕ → List ℕ) (k : Checker) (tree : Tree) (plan : Plan) → ((s : UnfoldingState) × (unfold_tasks max_tasks 0 (opening_state tree) ≡ Ok s) × ShowsState spelling k s) → plan ≡ record { parents = k.parents; makers = k.makers; codes = k.codes } → plan_of tree ≡ Ok plan
 unfolding plan_of
 plan_found spelling k tree plan w is =
     ap (λ o. o >>= λ s. Ok s.plan) w.1 ∙ ap Ok (plan_is w.0.plan k.parents k.makers k.codes w.2.parents w.2.makers w.2.codes ∙ sym is)
 
-pub plan_fault : (tree : Tree) (e : PlanEnd) (shows : State → Type 0) → Follows {A = Unit {0}} (Err e) (unfold_tasks max_tasks 0 (opening_state tree)) shows → (r : Result Plan PlanEnd) → r ≡ Err e → Answers r (plan_of tree)
+pub plan_fault : (tree : Tree) (e : PlanEnd) (shows : UnfoldingState → Type 0) → Follows {A = Unit {0}} (Err e) (unfold_tasks max_tasks 0 (opening_state tree)) shows → (r : Result Plan PlanEnd) → r ≡ Err e → GivesOutcome r (plan_of tree)
 unfolding plan_of
-plan_fault tree ends.NoMemory shows g r is = subst (λ z. Answers z (plan_of tree)) (sym is) tt
-plan_fault tree (ends.Check f) shows g r is = subst (λ z. Answers z (plan_of tree)) (sym is) (ap (λ o. o >>= λ s. Ok s.plan) g)
+plan_fault tree ends.NoMemory shows g r is = subst (λ z. GivesOutcome z (plan_of tree)) (sym is) tt
+plan_fault tree (ends.Check f) shows g r is = subst (λ z. GivesOutcome z (plan_of tree)) (sym is) (ap (λ o. o >>= λ s. Ok s.plan) g)

@@ -12,9 +12,9 @@ use Rattle.pl_plan.specs.inside.Steps.{IsSpelled}
 use Rattle.pl_plan.specs.inside.Numbers.{spelling}
 use Rattle.pl_plan.specs.inside.Flattening.{AddsSteps}
 use Rattle.pl_plan.specs.inside.Checker.{Checker}
-use Rattle.pl_plan.specs.inside.Opening.{IsOpening}
-use Rattle.pl_plan.specs.inside.Shows.{Shows, IsNumbering}
-use Rattle.pl_plan.specs.Unfolding.{State, opening_state, unfold_tasks}
+use Rattle.pl_plan.specs.inside.Opening.{IsOpeningChecker}
+use Rattle.pl_plan.specs.inside.Shows.{ShowsState, IsNumbering}
+use Rattle.pl_plan.specs.Unfolding.{UnfoldingState, opening_state, unfold_tasks}
 use Rattle.pl_plan.proofs.Spelled.{spelled_count}
 use Rattle.pl_plan.proofs.Opens.{opens, plan_found}
 use Rattle.pl_plan.proofs.UnfoldedIsChecked.{unfolded_is_checked}
@@ -24,10 +24,10 @@ pub as_many_steps : (a b : List (Bor (List ℕ))) (old steps : List Step) (tree 
 as_many_steps a b old steps tree empty adds =
     omega (arith, spelled_count (length b) (spelling b) steps (length old) tree (length steps) adds.spelled, ap length empty)
 
--- what is kept first shows the state before the first meeting
+-- what is kept first shows the state before the first visit
 pub opens_flat :
     (a b : List (Bor (List ℕ))) (old steps : List Step) (tree : Tree) (names : ℕ) (k : Checker) → old ≡ [] → names ≡ length b → AddsSteps a b old steps tree →
-    IsOpening steps names k → Shows (spelling b) k (opening_state tree)
+    IsOpeningChecker steps names k → ShowsState (spelling b) k (opening_state tree)
 opens_flat a b old steps tree names k empty many adds o =
     opens (spelling b) steps names k tree o (subst (λ n. IsNumbering n (spelling b)) (sym many) adds.distinct)
     (subst (λ n. IsSpelled n (spelling b) steps 0 tree (length steps)) (sym many)
@@ -44,6 +44,6 @@ same_plan parents parents' makers makers' codes codes' p m c =
 
 -- what is kept last is a checked plan
 pub plan_checked :
-    (names : ℕ → List ℕ) (k : Checker) (tree : Tree) (plan : Plan) → (s : State) × (unfold_tasks max_tasks 0 (opening_state tree) ≡ Ok s) × Shows names k s →
+    (names : ℕ → List ℕ) (k : Checker) (tree : Tree) (plan : Plan) → (s : UnfoldingState) × (unfold_tasks max_tasks 0 (opening_state tree) ≡ Ok s) × ShowsState names k s →
     plan ≡ record { parents = k.parents; makers = k.makers; codes = k.codes } → IsCheckedPlan plan
 plan_checked names k tree plan w is = unfolded_is_checked tree plan (plan_found names k tree plan w is)

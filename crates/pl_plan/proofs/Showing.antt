@@ -12,16 +12,16 @@ use Rattle.pl_plan.specs.declared.step.Step.{Step}
 use Rattle.pl_plan.specs.declared.step.Thing as code
 use Rattle.pl_plan.specs.declared.step.Thing.TheVariants as a_thing
 use Rattle.pl_plan.specs.inside.Steps.{IsSpelled}
-use Rattle.pl_plan.specs.inside.Checker.{Checker, CheckerStart, StartFits, Fits, slot_of, slotted, with_thing, with_task, with_maker, pushed, marked, started}
+use Rattle.pl_plan.specs.inside.Checker.{Checker, CheckerStart, StartFits, IsChecker, slot_of, slotted, with_thing, with_task, with_maker, pushed, with_membership, started}
 use Rattle.pl_plan.specs.inside.CheckerSteps.{with_binding, thing_of}
-use Rattle.pl_plan.specs.Unfolding.{State, Start, Names, Thing, with_name, with_op, with_member, with_members, with_start}
-use Rattle.pl_plan.specs.inside.Shows.{Shows, MaybeStartShows, AreNamed, IsNumbering}
+use Rattle.pl_plan.specs.Unfolding.{UnfoldingState, Start, Names, Thing, assigned, with_op, with_member, with_members, with_start}
+use Rattle.pl_plan.specs.inside.Shows.{ShowsState, MaybeStartShows, AreNamed, IsNumbering}
 use Rattle.pl_plan.proofs.Places.{same_or, at_set, at_more}
 use Rattle.pl_plan.proofs.Keeping.{slotted_fits, taken_same}
 
 -- ---- ops
 
-pub shows_pushed : (names : ℕ → List ℕ) (k : Checker) (s : State) (t : ℕ) (o : Op) → t < length k.codes → Shows names k s → Shows names (pushed t o k) (record s { plan = with_op t o s.plan })
+pub shows_pushed : (names : ℕ → List ℕ) (k : Checker) (s : UnfoldingState) (t : ℕ) (o : Op) → t < length k.codes → ShowsState names k s → ShowsState names (pushed t o k) (record s { plan = with_op t o s.plan })
 shows_pushed names k s t o here h = record {
   distinct = h.distinct;
   parents = h.parents;
@@ -35,7 +35,7 @@ shows_pushed names k s t o here h = record {
       let b = length-append (slice_index_or s.plan.codes t []) (o ∷ []) in
       let c = h.ops in
       omega arith);
-  meetings = h.meetings;
+  visits = h.visits;
 }
 
 -- ---- members
@@ -52,7 +52,7 @@ is_other v t q p h = by (same_or v t) (same_or q p)
     by (inr a) (inl b) = grind (arith, nat_tests)
     by (inr a) (inr b) = grind (arith, nat_tests)
 
-pub shows_marked : (names : ℕ → List ℕ) (k : Checker) (s : State) (t p : ℕ) (m : Bool) → t < max_tasks → p < max_phasers → length k.members ≡ max_tasks * max_phasers → Shows names k s → Shows names (marked t p m k) (with_members (with_member t p m s.members) s)
+pub shows_marked : (names : ℕ → List ℕ) (k : Checker) (s : UnfoldingState) (t p : ℕ) (m : Bool) → t < max_tasks → p < max_phasers → length k.members ≡ max_tasks * max_phasers → ShowsState names k s → ShowsState names (with_membership t p m k) (with_members (with_member t p m s.members) s)
 shows_marked names k s t p m tl pl all h = record {
   distinct = h.distinct;
   parents = h.parents;
@@ -66,13 +66,13 @@ shows_marked names k s t p m tl pl all h = record {
       (λ le. absurd (omega arith));
   named = h.named;
   ops = h.ops;
-  meetings = h.meetings;
+  visits = h.visits;
 }
 
 -- ---- tasks and phasers
 
-pub shows_task : (names : ℕ → List ℕ) (k : Checker) (s : State) (t : ℕ) → Shows names k s →
-    Shows names (with_task t k) (record s { plan = record s.plan { parents = s.plan.parents ++ Some (record { 0 = t }) ∷ []; codes = s.plan.codes ++ [] ∷ [] }; starts = s.starts ++ None ∷ [] })
+pub shows_task : (names : ℕ → List ℕ) (k : Checker) (s : UnfoldingState) (t : ℕ) → ShowsState names k s →
+    ShowsState names (with_task t k) (record s { plan = record s.plan { parents = s.plan.parents ++ Some (record { 0 = t }) ∷ []; codes = s.plan.codes ++ [] ∷ [] }; starts = s.starts ++ None ∷ [] })
 shows_task names k s t h = record {
   distinct = h.distinct;
   parents = ap (λ xs. xs ++ Some (record { 0 = t }) ∷ []) h.parents;
@@ -84,11 +84,11 @@ shows_task names k s t h = record {
   members = h.members;
   named = h.named;
   ops = omega (arith, sum_by-append length s.plan.codes ([] ∷ []), h.ops);
-  meetings = h.meetings;
+  visits = h.visits;
 }
 
-pub shows_maker : (names : ℕ → List ℕ) (k : Checker) (s : State) (t : ℕ) → Shows names k s →
-    Shows names (with_maker t k) (record s { plan = record s.plan { makers = s.plan.makers ++ record { 0 = t } ∷ [] } })
+pub shows_maker : (names : ℕ → List ℕ) (k : Checker) (s : UnfoldingState) (t : ℕ) → ShowsState names k s →
+    ShowsState names (with_maker t k) (record s { plan = record s.plan { makers = s.plan.makers ++ record { 0 = t } ∷ [] } })
 shows_maker names k s t h = record {
   distinct = h.distinct;
   parents = h.parents;
@@ -99,7 +99,7 @@ shows_maker names k s t h = record {
   members = h.members;
   named = h.named;
   ops = h.ops;
-  meetings = h.meetings;
+  visits = h.visits;
 }
 
 -- ---- slots
@@ -125,8 +125,8 @@ starts_new names a b n m slots steps x (Some s) (Some s') i z f h = record {
   named = named_new names slots s'.things s.names x n i z f.things.none (f.things.free n (omega arith)) h.named;
 }
 
-shows_slotted_by : (names : ℕ → List ℕ) (x : ℕ) (k : Checker) (s : State) → x < length k.slots → Fits k → Shows names k s →
-    (b : Bool) → nat_lt 0 (slot_of k x) ≡ b → Shows names (if b then k else record k { slots = slice_set k.slots x k.slot_count; slot_count = k.slot_count + 1 }) s
+shows_slotted_by : (names : ℕ → List ℕ) (x : ℕ) (k : Checker) (s : UnfoldingState) → x < length k.slots → IsChecker k → ShowsState names k s →
+    (b : Bool) → nat_lt 0 (slot_of k x) ≡ b → ShowsState names (if b then k else record k { slots = slice_set k.slots x k.slot_count; slot_count = k.slot_count + 1 }) s
 shows_slotted_by names x k s i f h true e = h
 shows_slotted_by names x k s i f h false e =
     let z : slot_of k x ≡ 0 = grind (arith, e) in
@@ -140,11 +140,11 @@ shows_slotted_by names x k s i f h false e =
       members = h.members;
       named = named_new names k.slots k.things s.names x k.slot_count i z f.now.none (f.now.free k.slot_count (omega arith)) h.named;
       ops = h.ops;
-      meetings = h.meetings;
+      visits = h.visits;
     }
 
-shows_thing : (names : ℕ → List ℕ) (x : ℕ) (v : code.Thing) (w : Thing) (k : Checker) (s : State) → thing_of v ≡ Some w → x < length k.slots → 0 < slot_of k x → Fits k → Shows names k s →
-    Shows names (with_thing x v k) (record s { names = with_name (names x) w s.names })
+shows_thing : (names : ℕ → List ℕ) (x : ℕ) (v : code.Thing) (w : Thing) (k : Checker) (s : UnfoldingState) → thing_of v ≡ Some w → x < length k.slots → 0 < slot_of k x → IsChecker k → ShowsState names k s →
+    ShowsState names (with_thing x v k) (record s { names = assigned (names x) w s.names })
 shows_thing names x v w k s is here has f h = record {
   distinct = h.distinct;
   parents = h.parents;
@@ -155,12 +155,12 @@ shows_thing names x v w k s is here has f h = record {
   members = h.members;
   named = λ y lt. by y lt (same_or y x);
   ops = h.ops;
-  meetings = h.meetings;
+  visits = h.visits;
 }
   where
-    by : (y : ℕ) → y < length k.slots → (y ≡ x) ⊎ (y ≡ x → ⊥) → with_name (names x) w s.names (names y) ≡ thing_of (slice_index_or (slice_set k.things (slot_of k x) v) (slot_of k y) a_thing.Nothing)
+    by : (y : ℕ) → y < length k.slots → (y ≡ x) ⊎ (y ≡ x → ⊥) → assigned (names x) w s.names (names y) ≡ thing_of (slice_index_or (slice_set k.things (slot_of k x) v) (slot_of k y) a_thing.Nothing)
     by y lt (inl e) =
-        ap (λ i. with_name (names x) w s.names (names i)) e
+        ap (λ i. assigned (names x) w s.names (names i)) e
         ∙ ap (λ b. if b then Some w else s.names (names x)) ((bytes_eq-Decides (names x) (names x)).1 refl)
         ∙ sym is
         ∙ ap thing_of (sym (get_or-set_same k.things (slot_of k x) v a_thing.Nothing (omega (arith, f.below x, f.room, f.few, f.few_makers, f.long))))
@@ -170,16 +170,16 @@ shows_thing names x v w k s is here has f h = record {
         ∙ h.named y lt
         ∙ ap thing_of (sym (get_or-set_other k.things (slot_of k x) (slot_of k y) v a_thing.Nothing (λ e. ne (sym (f.apart x y (sym e) has)))))
 
-pub shows_binding : (names : ℕ → List ℕ) (x : ℕ) (v : code.Thing) (w : Thing) (k : Checker) (s : State) → thing_of v ≡ Some w → x < length k.slots → k.slot_count < length k.parents + length k.makers → Fits k → Shows names k s →
-    Shows names (with_binding x v k) (record s { names = with_name (names x) w s.names })
+pub shows_binding : (names : ℕ → List ℕ) (x : ℕ) (v : code.Thing) (w : Thing) (k : Checker) (s : UnfoldingState) → thing_of v ≡ Some w → x < length k.slots → k.slot_count < length k.parents + length k.makers → IsChecker k → ShowsState names k s →
+    ShowsState names (with_binding x v k) (record s { names = assigned (names x) w s.names })
 shows_binding names x v w k s is here room f h =
     let sl = slotted_fits x k here room f in
     shows_thing names x v w (slotted x k) s is (omega (arith, sl.slots)) sl.has sl.fits (shows_slotted_by names x k s here f h (nat_lt 0 (slot_of k x)) refl)
 
 -- ---- forks
 
-pub shows_started : (names : ℕ → List ℕ) (k : Checker) (s : State) (c first after : ℕ) (body : Tree) → c < length k.starts → IsSpelled (length k.slots) names k.steps first body after → Fits k → Shows names k s →
-    Shows names (started c first after k) (with_start c (record { body = body; first = first + 1; names = s.names }) s)
+pub shows_started : (names : ℕ → List ℕ) (k : Checker) (s : UnfoldingState) (c first after : ℕ) (body : Tree) → c < length k.starts → IsSpelled (length k.slots) names k.steps first body after → IsChecker k → ShowsState names k s →
+    ShowsState names (started c first after k) (with_start c (record { body = body; first = first + 1; names = s.names }) s)
 shows_started names k s c first after body here spelled f h = record {
   distinct = h.distinct;
   parents = h.parents;
@@ -194,7 +194,7 @@ shows_started names k s c first after body here spelled f h = record {
   members = h.members;
   named = h.named;
   ops = h.ops;
-  meetings = h.meetings;
+  visits = h.visits;
 }
   where
     start : Start

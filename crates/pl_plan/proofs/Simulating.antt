@@ -2,7 +2,7 @@
 use Rattle.std.proofs.Common.{◌≡◌, ℕ, ◌+◌, ◌<◌, ◌≤◌, Bool, true, false, not, List, [], ◌∷◌, ◌++◌, length, sym, ap, ◌∙◌, subst, refl, arith, Some, None, Ok, Option}
 use Rattle.std.specs.Prelude.{slice_index_or, nat_lt, is_some, sum_by}
 use Rattle.std.proofs.lemmas.List.{length-append}
-use Rattle.pl_plan.specs.Limits.{max_meetings}
+use Rattle.pl_plan.specs.Limits.{max_visits}
 use Rattle.armus_base.specs.Limits.{max_tasks, max_phasers, max_ops}
 use Rattle.armus_base.specs.declared.op.Op.{Op}
 use Rattle.armus_base.specs.declared.op.Op.TheVariants as op
@@ -11,26 +11,26 @@ use Rattle.pl_plan.specs.declared.step.Step.{Step}
 use Rattle.pl_plan.specs.declared.step.Thing as code
 use Rattle.pl_plan.specs.declared.step.Thing.TheVariants as a_thing
 use Rattle.pl_plan.specs.inside.Steps.{IsSpelled, IsList}
-use Rattle.pl_plan.specs.inside.Checker.{Checker, CheckerStart, IsInside, Fits, Keeps, slot_of, thing_at, with_task, with_maker, marked, started}
+use Rattle.pl_plan.specs.inside.Checker.{Checker, CheckerStart, IsInside, IsChecker, Keeps, slot_of, thing_at, with_task, with_maker, with_membership, started}
 use Rattle.pl_plan.specs.inside.CheckerSteps.{with_binding, thing_of, thing_named, member, checker_add, checker_new_task, checker_new_phaser, checker_unforked_child, checker_reg, checker_member, checker_dereg, checker_adv, checker_await, checker_fork, checker_count}
-use Rattle.pl_plan.specs.Unfolding.{State, Start, Thing, a_task, a_phaser, Outcome, ◌>>=◌, fault_unless, as_task, as_phaser, is_parent, unforked_child, member_of, task, phaser, add_op, act, act_fork, count_meeting, with_member, with_name, not_member, already_member, not_drawn_here, already_forked, too_many_tasks, too_many_phasers, too_many_ops, too_many_meetings}
-use Rattle.pl_plan.specs.inside.Shows.{Shows, MaybeStartShows}
+use Rattle.pl_plan.specs.Unfolding.{UnfoldingState, Start, Thing, a_task, a_phaser, Outcome, ◌>>=◌, fault_unless, as_task, as_phaser, is_parent, unforked_child, member_of, task, phaser, add_op, act, act_fork, count_visit, with_member, assigned, not_member, already_member, not_drawn_here, already_forked, too_many_tasks, too_many_phasers, too_many_ops, too_many_visits}
+use Rattle.pl_plan.specs.inside.Shows.{ShowsState, MaybeStartShows}
 use Rattle.pl_plan.specs.inside.Simulates.{Simulates, KeepsAll}
 use Rattle.pl_plan.proofs.Keeping.{fits_pushed, fits_marked, fits_started, fits_task, fits_maker, fits_binding, slotted_fits}
 use Rattle.pl_plan.proofs.Showing.{shows_pushed, shows_marked, shows_task, shows_maker, shows_binding, shows_started}
 
 -- ---- steps that may fail
 
-simulates_fault_unless : (names : ℕ → List ℕ) (b b' : Bool) (kind n : ℕ) (f : Outcome Checker) (g : Outcome State) → b' ≡ b → (b ≡ true → Simulates names f g) → Simulates names (fault_unless b kind n >>= λ _. f) (fault_unless b' kind n >>= λ _. g)
+simulates_fault_unless : (names : ℕ → List ℕ) (b b' : Bool) (kind n : ℕ) (f : Outcome Checker) (g : Outcome UnfoldingState) → b' ≡ b → (b ≡ true → Simulates names f g) → Simulates names (fault_unless b kind n >>= λ _. f) (fault_unless b' kind n >>= λ _. g)
 simulates_fault_unless names true b' kind n f g e h = subst (λ v. Simulates names f (fault_unless v kind n >>= λ _. g)) (sym e) (h refl)
 simulates_fault_unless names false b' kind n f g e h = ap (λ v. fault_unless v kind n >>= λ _. g) e
 
-simulates_task : (names : ℕ → List ℕ) (n : ℕ) (o o' : Option Thing) (f : ℕ → Outcome Checker) (g : ℕ → Outcome State) → o' ≡ o → ((c : ℕ) → o ≡ Some (a_task c) → Simulates names (f c) (g c)) → Simulates names (as_task n o >>= f) (as_task n o' >>= g)
+simulates_task : (names : ℕ → List ℕ) (n : ℕ) (o o' : Option Thing) (f : ℕ → Outcome Checker) (g : ℕ → Outcome UnfoldingState) → o' ≡ o → ((c : ℕ) → o ≡ Some (a_task c) → Simulates names (f c) (g c)) → Simulates names (as_task n o >>= f) (as_task n o' >>= g)
 simulates_task names n None o' f g e h = ap (λ v. as_task n v >>= g) e
 simulates_task names n (Some (a_phaser p)) o' f g e h = ap (λ v. as_task n v >>= g) e
 simulates_task names n (Some (a_task c)) o' f g e h = subst (λ v. Simulates names (f c) (as_task n v >>= g)) (sym e) (h c refl)
 
-simulates_phaser : (names : ℕ → List ℕ) (n : ℕ) (o o' : Option Thing) (f : ℕ → Outcome Checker) (g : ℕ → Outcome State) → o' ≡ o → ((p : ℕ) → o ≡ Some (a_phaser p) → Simulates names (f p) (g p)) → Simulates names (as_phaser n o >>= f) (as_phaser n o' >>= g)
+simulates_phaser : (names : ℕ → List ℕ) (n : ℕ) (o o' : Option Thing) (f : ℕ → Outcome Checker) (g : ℕ → Outcome UnfoldingState) → o' ≡ o → ((p : ℕ) → o ≡ Some (a_phaser p) → Simulates names (f p) (g p)) → Simulates names (as_phaser n o >>= f) (as_phaser n o' >>= g)
 simulates_phaser names n None o' f g e h = ap (λ v. as_phaser n v >>= g) e
 simulates_phaser names n (Some (a_task c)) o' f g e h = ap (λ v. as_phaser n v >>= g) e
 simulates_phaser names n (Some (a_phaser p)) o' f g e h = subst (λ v. Simulates names (f p) (as_phaser n v >>= g)) (sym e) (h p refl)
@@ -55,8 +55,8 @@ same_start names slots steps (Some s) (Some s') h = refl
 same_start names slots steps None (Some s') h = absurd h
 same_start names slots steps (Some s) None h = absurd h
 
-module _ (names : ℕ → List ℕ) (k : Checker) (s : State) (f : Fits k) (h : Shows names k s) where
-  simulates_unforked_child : (t n c : ℕ) (g : Outcome Checker) (g' : Outcome State) → Simulates names g g' → Simulates names (checker_unforked_child t n c k >>= λ _. g) (unforked_child t n c s >>= λ _. g')
+module _ (names : ℕ → List ℕ) (k : Checker) (s : UnfoldingState) (f : IsChecker k) (h : ShowsState names k s) where
+  simulates_unforked_child : (t n c : ℕ) (g : Outcome Checker) (g' : Outcome UnfoldingState) → Simulates names g g' → Simulates names (checker_unforked_child t n c k >>= λ _. g) (unforked_child t n c s >>= λ _. g')
   simulates_unforked_child t n c g g' r = by (is_parent t (slice_index_or k.parents c None)) (is_some (slice_index_or k.starts c None)) (is_parent t (slice_index_or s.plan.parents c None)) (is_some (slice_index_or s.starts c None))
       (ap (λ xs. is_parent t (slice_index_or xs c None)) h.parents) (same_start names k.slots k.steps (slice_index_or s.starts c None) (slice_index_or k.starts c None) (h.starts c))
     where
@@ -69,9 +69,9 @@ module _ (names : ℕ → List ℕ) (k : Checker) (s : State) (f : Fits k) (h : 
   unfolding checker_add add_op
   simulates_add t n o here = simulates_fault_unless names (nat_lt k.ops max_ops) (nat_lt (sum_by length s.plan.codes) max_ops) too_many_ops n _ _ (ap (λ v. nat_lt v max_ops) h.ops) (λ e. (_, refl, shows_pushed names k s t o here h))
 
-  pub simulates_count : (n : ℕ) → Simulates names (checker_count n k) (count_meeting n s)
-  unfolding checker_count count_meeting
-  simulates_count n = simulates_fault_unless names (nat_lt k.meetings max_meetings) (nat_lt s.meetings max_meetings) too_many_meetings n _ _ (ap (λ v. nat_lt v max_meetings) h.meetings) (λ e. (
+  pub simulates_count : (n : ℕ) → Simulates names (checker_count n k) (count_visit n s)
+  unfolding checker_count count_visit
+  simulates_count n = simulates_fault_unless names (nat_lt k.visits max_visits) (nat_lt s.visits max_visits) too_many_visits n _ _ (ap (λ v. nat_lt v max_visits) h.visits) (λ e. (
     _,
     refl,
     record {
@@ -84,11 +84,11 @@ module _ (names : ℕ → List ℕ) (k : Checker) (s : State) (f : Fits k) (h : 
       members = h.members;
       named = h.named;
       ops = h.ops;
-      meetings = ap (λ m. m + 1) h.meetings;
+      visits = ap (λ m. m + 1) h.visits;
     },
   ))
 
-  simulates_member : (t n x : ℕ) (g : ℕ → Outcome Checker) (g' : ℕ → Outcome State) → x < length k.slots → ((p : ℕ) → p < length k.makers → Simulates names (g p) (g' p)) → Simulates names (checker_member t n x k >>= g) (member_of t n (s.names (names x)) s >>= g')
+  simulates_member : (t n x : ℕ) (g : ℕ → Outcome Checker) (g' : ℕ → Outcome UnfoldingState) → x < length k.slots → ((p : ℕ) → p < length k.makers → Simulates names (g p) (g' p)) → Simulates names (checker_member t n x k >>= g) (member_of t n (s.names (names x)) s >>= g')
   unfolding checker_member member_of
   simulates_member t n x g g' here r = by (thing_named k x) (s.names (names x)) (h.named x here) (λ p e. phaser_inside (length k.parents) (length k.makers) (thing_at k x) p (f.now.inside (slot_of k x)) e)
     where
@@ -105,7 +105,7 @@ module _ (names : ℕ → List ℕ) (k : Checker) (s : State) (f : Fits k) (h : 
 
 -- ---- statements
 
-module _ (names : ℕ → List ℕ) (k : Checker) (s : State) (f : Fits k) (h : Shows names k s) (t n : ℕ) (running : t < length k.parents) where
+module _ (names : ℕ → List ℕ) (k : Checker) (s : UnfoldingState) (f : IsChecker k) (h : ShowsState names k s) (t n : ℕ) (running : t < length k.parents) where
   has_code : t < length k.codes
   has_code = omega (arith, f.codes_many)
 
@@ -133,13 +133,13 @@ module _ (names : ℕ → List ℕ) (k : Checker) (s : State) (f : Fits k) (h : 
       let b = with_binding x v m in
       let hm = shows_marked names b (record s { plan = record s.plan { makers = s.plan.makers ++ task t ∷ [] }; names = _ }) t p true (omega (arith, f.few)) lt fb.all hb in
       let fk = fits_marked b t p true fb in
-      subst (λ q. Simulates names (checker_add t n (op.Make (phaser p)) (marked t p true b)) (add_op t n (op.Make (phaser q)) (record s { plan = record s.plan { makers = s.plan.makers ++ task t ∷ [] }; members = with_member t q true s.members; names = with_name (names x) (a_phaser (length s.plan.makers)) s.names }))) (ap length (sym h.makers))
-      (simulates_add names (marked t p true b) _ fk hm t n (op.Make (phaser p)) (let same = ap (λ (z : Checker). length z.codes) (slotted_fits x m here (omega (arith, f.room)) fm).same in omega (arith, has_code, same))))
+      subst (λ q. Simulates names (checker_add t n (op.Make (phaser p)) (with_membership t p true b)) (add_op t n (op.Make (phaser q)) (record s { plan = record s.plan { makers = s.plan.makers ++ task t ∷ [] }; members = with_member t q true s.members; names = assigned (names x) (a_phaser (length s.plan.makers)) s.names }))) (ap length (sym h.makers))
+      (simulates_add names (with_membership t p true b) _ fk hm t n (op.Make (phaser p)) (let same = ap (λ (z : Checker). length z.codes) (slotted_fits x m here (omega (arith, f.room)) fm).same in omega (arith, has_code, same))))
 
   pub simulates_dereg : (x : ℕ) → x < length k.slots → Simulates names (checker_dereg t n x k) (act t n (dereg (names x)) s)
   unfolding checker_dereg act
   simulates_dereg x here = simulates_member names k s f h t n x _ _ here (λ p lt.
-      simulates_add names (marked t p false k) _ (fits_marked k t p false f) (shows_marked names k s t p false (omega (arith, f.few)) (omega (arith, f.few_makers)) f.all h) t n (op.Drop (phaser p)) has_code)
+      simulates_add names (with_membership t p false k) _ (fits_marked k t p false f) (shows_marked names k s t p false (omega (arith, f.few)) (omega (arith, f.few_makers)) f.all h) t n (op.Drop (phaser p)) has_code)
 
   pub simulates_adv : (x : ℕ) → x < length k.slots → Simulates names (checker_adv t n x k) (act t n (adv (names x)) s)
   unfolding checker_adv act
@@ -159,7 +159,7 @@ module _ (names : ℕ → List ℕ) (k : Checker) (s : State) (f : Fits k) (h : 
       simulates_unforked_child names k s f h t n c _ _
       (simulates_fault_unless names (member k t p) (s.members t p) not_member n _ _ (h.members t p (omega (arith, f.few_makers))) (λ _.
       simulates_fault_unless names (not (member k c p)) (not (s.members c p)) already_member n _ _ (ap not (h.members c p (omega (arith, f.few_makers)))) (λ _.
-      simulates_add names (marked c p true k) _ (fits_marked k c p true f) (shows_marked names k s c p true (omega (arith, f.few)) (omega (arith, f.few_makers)) f.all h) t n (op.Reg (task c) (phaser p)) has_code)))))
+      simulates_add names (with_membership c p true k) _ (fits_marked k c p true f) (shows_marked names k s c p true (omega (arith, f.few)) (omega (arith, f.few_makers)) f.all h) t n (op.Reg (task c) (phaser p)) has_code)))))
 
   pub simulates_fork : (x after : ℕ) (body : Tree) → x < length k.slots → after ≤ length k.steps → IsSpelled (length k.slots) names k.steps n body after → Simulates names (checker_fork t n x after k) (act_fork t n (names x) body s)
   unfolding checker_fork act_fork
@@ -194,13 +194,13 @@ keeps_add : (k b : Checker) (t n : ℕ) (o : Op) → Keeps k b → KeepsAll k (c
 unfolding checker_add
 keeps_add k b t n o h = keeps_fault_unless k (nat_lt b.ops max_ops) too_many_ops n _ (λ e. record { fits = fits_pushed b t o h.fits; more = h.more; steps = h.steps; slots = h.slots })
 
-module _ (k : Checker) (f : Fits k) where
+module _ (k : Checker) (f : IsChecker k) where
   pub keeps_itself : Keeps k k
   keeps_itself = record { fits = f; more = omega arith; steps = refl; slots = refl }
 
   pub keeps_count : (n : ℕ) → KeepsAll k (checker_count n k)
   unfolding checker_count
-  keeps_count n = keeps_fault_unless k (nat_lt k.meetings max_meetings) too_many_meetings n _ (λ e. record {
+  keeps_count n = keeps_fault_unless k (nat_lt k.visits max_visits) too_many_visits n _ (λ e. record {
     fits = record { starts_many = f.starts_many; codes_many = f.codes_many; few = f.few; few_makers = f.few_makers; all = f.all; below = f.below; apart = f.apart; room = f.room; long = f.long; now = f.now; later = f.later };
     more = omega arith;
     steps = refl;
@@ -220,7 +220,7 @@ module _ (k : Checker) (f : Fits k) where
       by (Some (a_task c)) = tt
       by (Some (a_phaser p)) = ends_ p (member k t p)
 
-  keeps_marked : (t p : ℕ) (v : Bool) → Keeps k (marked t p v k)
+  keeps_marked : (t p : ℕ) (v : Bool) → Keeps k (with_membership t p v k)
   keeps_marked t p v = record { fits = fits_marked k t p v f; more = omega arith; steps = refl; slots = refl }
 
   keeps_bound : (m : Checker) (x : ℕ) (v : code.Thing) → x < length m.slots → m.slot_count < length m.parents + length m.makers → IsInside (length m.parents) (length m.makers) v → Keeps k m → Keeps k (with_binding x v m)
@@ -246,12 +246,12 @@ module _ (k : Checker) (f : Fits k) where
       let more = length-append k.makers (task t ∷ []) in
       let h = keeps_bound (with_maker t k) x (a_thing.Phaser (phaser (length k.makers))) here (omega (arith, f.room)) (omega arith)
       (record { fits = fits_maker k t (lt_true (length k.makers) max_phasers e) f; more = omega arith; steps = refl; slots = refl }) in
-      keeps_add k (marked t (length k.makers) true (with_binding x (a_thing.Phaser (phaser (length k.makers))) (with_maker t k))) t n (op.Make (phaser (length k.makers)))
+      keeps_add k (with_membership t (length k.makers) true (with_binding x (a_thing.Phaser (phaser (length k.makers))) (with_maker t k))) t n (op.Make (phaser (length k.makers)))
       (record { fits = fits_marked (with_binding x (a_thing.Phaser (phaser (length k.makers))) (with_maker t k)) t (length k.makers) true h.fits; more = h.more; steps = h.steps; slots = h.slots }))
 
   pub keeps_dereg : (t n x : ℕ) → KeepsAll k (checker_dereg t n x k)
   unfolding checker_dereg
-  keeps_dereg t n x = keeps_member t n x _ (λ p. keeps_add k (marked t p false k) t n (op.Drop (phaser p)) (keeps_marked t p false))
+  keeps_dereg t n x = keeps_member t n x _ (λ p. keeps_add k (with_membership t p false k) t n (op.Drop (phaser p)) (keeps_marked t p false))
 
   pub keeps_adv : (t n x : ℕ) → KeepsAll k (checker_adv t n x k)
   unfolding checker_adv
@@ -267,7 +267,7 @@ module _ (k : Checker) (f : Fits k) where
       keeps_task k n (thing_named k x) _ (λ c ec. keeps_phaser k n (thing_named k y) _ (λ p ep.
       keeps_two k (is_parent t (slice_index_or k.parents c None)) (not (is_some (slice_index_or k.starts c None))) not_drawn_here already_forked n _
       (keeps_fault_unless k (member k t p) not_member n _ (λ _. keeps_fault_unless k (not (member k c p)) already_member n _ (λ _.
-      keeps_add k (marked c p true k) t n (op.Reg (task c) (phaser p)) (keeps_marked c p true))))))
+      keeps_add k (with_membership c p true k) t n (op.Reg (task c) (phaser p)) (keeps_marked c p true))))))
 
   pub keeps_fork : (t n x after : ℕ) → after ≤ length k.steps → IsList (length k.slots) k.steps n after → KeepsAll k (checker_fork t n x after k)
   unfolding checker_fork

@@ -9,7 +9,7 @@ use Rattle.armus_base.specs.CheckedPlans.{Grows, HasFork, HasTables, IsCheckedPl
 use Rattle.armus_base.proofs.Codes.{child_within, phaser_within}
 use Rattle.armus_base.proofs.Fixed.{action_within}
 use Rattle.armus_base.proofs.PlanGrows.{plan_grows}
-use Rattle.pl_plan.specs.Unfolding.{State}
+use Rattle.pl_plan.specs.Unfolding.{UnfoldingState}
 use Rattle.pl_plan.proofs.Growth.{own_steps, register_steps, last_phases, parents_same, other_at, own_at, new_at, last_grown, first_grown, first_kept}
 
 -- no task above t has a code yet, and none of them has drawn a task or made a phaser
@@ -19,12 +19,12 @@ pub record IsAt (t : ℕ) (plan : Plan) : Type 0 where
   pub makers : (p : ℕ) → maker_of plan p ≤ t
 
 -- a task is forked
-abbrev pub is_begun : State → ℕ → Bool
+abbrev pub is_begun : UnfoldingState → ℕ → Bool
 is_begun s c = is_some (slice_index_or s.starts c None)
 
 -- The plan so far is checked, exactly the forked tasks have a start, and the members of phasers are those that the plan fixes: for the current task
 -- after all its actions, for a later one with what it is registered so far.
-pub record IsSound (t : ℕ) (s : State) : Type 0 where
+pub record IsSound (t : ℕ) (s : UnfoldingState) : Type 0 where
   pub checked : IsCheckedPlan s.plan
   pub at : IsAt t s.plan
   pub starts : length s.starts ≡ length s.plan.parents
@@ -34,7 +34,7 @@ pub record IsSound (t : ℕ) (s : State) : Type 0 where
   pub outside : (u p : ℕ) → length s.plan.parents ≤ u → s.members u p ≡ false
 
 -- the same while task t, which is forked, acts
-pub record IsActing (t : ℕ) (s : State) : Type 0 where
+pub record IsActing (t : ℕ) (s : UnfoldingState) : Type 0 where
   pub sound : IsSound t s
   pub here : t < length s.plan.parents
   pub begun : is_begun s t ≡ true
@@ -47,14 +47,14 @@ pub record IsNew (t : ℕ) (plan plan' : Plan) (new : List Action) : Type 0 wher
   pub drawn : (c : ℕ) → length plan.parents ≤ c → c < length plan'.parents → parent_of plan' c ≡ t
 
 -- a start is new exactly where a new action forks
-pub record HasStarts (t : ℕ) (s s' : State) (new : List Action) : Type 0 where
+pub record HasStarts (t : ℕ) (s s' : UnfoldingState) (new : List Action) : Type 0 where
   pub many : length s'.starts ≡ length s'.plan.parents
   pub stay : (c : ℕ) → is_begun s c ≡ true → is_begun s' c ≡ true
   pub begins : (c : ℕ) → is_begun s' c ≡ true → (is_begun s c ≡ true) ⊎ ((parent_of s'.plan c ≡ t) × (slice_get new 0 ≡ Some (Forks c)))
   pub forks : (i c : ℕ) → slice_get new i ≡ Some (Forks c) → is_begun s' c ≡ true
 
 -- the new actions change the members as they change the phases
-pub record HasMembers (t : ℕ) (s s' : State) (new : List Action) : Type 0 where
+pub record HasMembers (t : ℕ) (s s' : UnfoldingState) (new : List Action) : Type 0 where
   pub own : (p : ℕ) → s'.members t p ≡ is_some (own_steps new (last_phases s.plan t) p)
   pub child :
       (u p : ℕ) → t < u → u < length s.plan.parents → parent_of s.plan u ≡ t →
@@ -68,14 +68,14 @@ pub idle_phases : (plan : Plan) (u : ℕ) → actions plan u ≡ [] → last_pha
 unfolding phases_after
 idle_phases plan u e = ap (λ xs. own_phases (action_at plan u) (first_phases plan u) (length xs)) e
 
-not_begun : (s : State) (c : ℕ) → (is_begun s c ≡ true) ⊎ (is_begun s c ≡ false)
+not_begun : (s : UnfoldingState) (c : ℕ) → (is_begun s c ≡ true) ⊎ (is_begun s c ≡ false)
 not_begun s c = by (is_begun s c) refl
   where
     by : (b : Bool) → is_begun s c ≡ b → (is_begun s c ≡ true) ⊎ (is_begun s c ≡ false)
     by true e = inl e
     by false e = inr e
 
-module _ (t : ℕ) (s s' : State) (a : IsActing t s) (grows : Grows s.plan s'.plan t) (tables : HasTables s'.plan) where
+module _ (t : ℕ) (s s' : UnfoldingState) (a : IsActing t s) (grows : Grows s.plan s'.plan t) (tables : HasTables s'.plan) where
   -- a new action is one of the list of them
   new_action :
       (k : ℕ) (x : Action) → length (actions s.plan t) ≤ k → action_at s'.plan t k ≡ Some x →

@@ -1,4 +1,4 @@
--- Each meeting keeps a state of the unfolding sound.
+-- Each visit keeps a state of the unfolding sound.
 use Rattle.std.proofs.Common.{◌≡◌, ◌≢◌, ℕ, zero, suc, ◌+◌, ◌<◌, ◌≤◌, Bool, true, false, not, Some, None, Ok, Err, Option, List, [], ◌∷◌, ◌++◌, length, arith, sym, ◌∙◌, ap, subst, refl, inl, inr, ◌⊎◌}
 use Rattle.std.specs.Prelude.{slice_get, slice_set, slice_index_or, is_some, nat_lt, sum_by}
 use Rattle.std.proofs.lemmas.Bool.{cases_lt, cases_eq, false≢true, eqb-true, ltb-true}
@@ -6,7 +6,7 @@ use Rattle.std.proofs.lemmas.Bool.Decides.{nat_tests}
 use Rattle.std.proofs.lemmas.List.{append-nil, length-append, length-set, get_or-set_same, get_or-set_other, get_or_past}
 use Rattle.std.proofs.lemmas.List.Sums.{sum_by-append}
 use Rattle.std.proofs.lemmas.Option.{slice_get-get_or}
-use Rattle.pl_plan.specs.Limits.{max_meetings}
+use Rattle.pl_plan.specs.Limits.{max_visits}
 use Rattle.armus_base.specs.Limits.{max_tasks, max_phasers, max_ops}
 use Rattle.armus_base.specs.declared.ids.TaskId.{TaskId}
 use Rattle.armus_base.specs.declared.op.Op.{Op}
@@ -19,33 +19,33 @@ use Rattle.armus_base.proofs.Fixed.{first_phases_is, register_step_keeps}
 use Rattle.armus_base.proofs.Codes.{child_later, child_within, parent_is, phaser_within}
 use Rattle.pl_syntax.specs.Tree.{Plain, new_task, new_phaser, reg, dereg, adv, await, skip, Tree}
 use Rattle.pl_plan.proofs.Places.{at_set, at_more}
-use Rattle.pl_plan.specs.Unfolding.{Coming, a_plain, a_fork, a_loop, a_turn, Meeting, come_to, meet, meet_all, State, Start, Names, Thing, a_task, a_phaser, Outcome, ◌>>=◌, fault_unless, as_task, as_phaser, is_parent, unforked_child, member_of, task, phaser, add_op, act, act_fork, count_meeting, with_op, with_member, with_name, not_member, already_member, not_drawn_here, already_forked, too_many_tasks, too_many_phasers, too_many_ops, too_many_meetings}
+use Rattle.pl_plan.specs.Unfolding.{Coming, a_plain, a_fork, a_loop, a_turn, Visit, come_to, make_visit, make_visits, UnfoldingState, Start, Names, Thing, a_task, a_phaser, Outcome, ◌>>=◌, fault_unless, as_task, as_phaser, is_parent, unforked_child, member_of, task, phaser, add_op, act, act_fork, count_visit, with_op, with_member, assigned, not_member, already_member, not_drawn_here, already_forked, too_many_tasks, too_many_phasers, too_many_ops, too_many_visits}
 use Rattle.pl_plan.proofs.Growth.{own_steps, register_steps, last_phases, own_at, own_before, first_new, nobody_registers, stays_registered}
 use Rattle.pl_plan.proofs.Tables.{own_actions, other_actions, one_more_op, op_tables, with_maker, maker_new, makers_at_most, maker_tables, with_task, parent_new, parents_at_most, task_actions, task_tables, slice_get-last}
 use Rattle.pl_plan.proofs.Sound.{IsAt, IsActing, IsNew, HasStarts, HasMembers, is_begun, idle_phases, acts_on}
 
 -- ---- what holds of the state of an outcome
 
-abbrev pub OnState : (State → Type 0) → Outcome State → Type 0
+abbrev pub OnState : (UnfoldingState → Type 0) → Outcome UnfoldingState → Type 0
 OnState P (Ok s) = P s
 OnState P (Err f) = Unit {0}
 
-on_fault_unless : (P : State → Type 0) (b : Bool) (kind n : ℕ) (f : Outcome State) → (b ≡ true → OnState P f) → OnState P (fault_unless b kind n >>= λ _. f)
+on_fault_unless : (P : UnfoldingState → Type 0) (b : Bool) (kind n : ℕ) (f : Outcome UnfoldingState) → (b ≡ true → OnState P f) → OnState P (fault_unless b kind n >>= λ _. f)
 on_fault_unless P true kind n f h = h refl
 on_fault_unless P false kind n f h = tt
 
-on_task : (P : State → Type 0) (n : ℕ) (o : Option Thing) (f : ℕ → Outcome State) → ((c : ℕ) → OnState P (f c)) → OnState P (as_task n o >>= f)
+on_task : (P : UnfoldingState → Type 0) (n : ℕ) (o : Option Thing) (f : ℕ → Outcome UnfoldingState) → ((c : ℕ) → OnState P (f c)) → OnState P (as_task n o >>= f)
 on_task P n None f h = tt
 on_task P n (Some (a_task c)) f h = h c
 on_task P n (Some (a_phaser p)) f h = tt
 
-on_phaser : (P : State → Type 0) (n : ℕ) (o : Option Thing) (f : ℕ → Outcome State) → ((p : ℕ) → OnState P (f p)) → OnState P (as_phaser n o >>= f)
+on_phaser : (P : UnfoldingState → Type 0) (n : ℕ) (o : Option Thing) (f : ℕ → Outcome UnfoldingState) → ((p : ℕ) → OnState P (f p)) → OnState P (as_phaser n o >>= f)
 on_phaser P n None f h = tt
 on_phaser P n (Some (a_task c)) f h = tt
 on_phaser P n (Some (a_phaser p)) f h = h p
 
 on_member :
-    (P : State → Type 0) (t n : ℕ) (o : Option Thing) (s : State) (f : ℕ → Outcome State) → ((p : ℕ) → s.members t p ≡ true → OnState P (f p)) →
+    (P : UnfoldingState → Type 0) (t n : ℕ) (o : Option Thing) (s : UnfoldingState) (f : ℕ → Outcome UnfoldingState) → ((p : ℕ) → s.members t p ≡ true → OnState P (f p)) →
     OnState P (member_of t n o s >>= f)
 unfolding member_of
 on_member P t n None s f h = tt
@@ -57,7 +57,7 @@ on_member P t n (Some (a_phaser p)) s f h = by (s.members t p) refl
     by false e = tt
 
 on_unforked_child :
-    (P : State → Type 0) (t n c : ℕ) (s : State) (f : Outcome State) →
+    (P : UnfoldingState → Type 0) (t n c : ℕ) (s : UnfoldingState) (f : Outcome UnfoldingState) →
     (is_parent t (slice_index_or s.plan.parents c None) ≡ true → is_begun s c ≡ false → OnState P f) → OnState P (unforked_child t n c s >>= λ _. f)
 on_unforked_child P t n c s f h = by (is_parent t (slice_index_or s.plan.parents c None)) (is_begun s c) refl refl
   where
@@ -130,10 +130,10 @@ some_value (Some n) e = (n, refl)
 
 -- ---- one op more
 
-abbrev state_of : Plan → List (Option Start) → (ℕ → ℕ → Bool) → Names → ℕ → State
-state_of plan starts members names meetings = record { plan = plan; starts = starts; members = members; names = names; meetings = meetings }
+abbrev state_of : Plan → List (Option Start) → (ℕ → ℕ → Bool) → Names → ℕ → UnfoldingState
+state_of plan starts members names visits = record { plan = plan; starts = starts; members = members; names = names; visits = visits }
 
-module _ (t : ℕ) (s : State) (a : IsActing t s) where
+module _ (t : ℕ) (s : UnfoldingState) (a : IsActing t s) where
   members_own : (p : ℕ) → s.members t p ≡ is_some (last_phases s.plan t p)
   members_own p = a.sound.members t p (omega arith) a.here
 
@@ -202,19 +202,19 @@ module _ (t : ℕ) (s : State) (a : IsActing t s) where
 
     -- an op that forks nobody
     same_starts :
-        (members : ℕ → ℕ → Bool) (names : Names) (meetings : ℕ) → ((i c : ℕ) → slice_get (actions_of (o ∷ [])) i ≢ Some (Forks c)) →
-        HasStarts t s (state_of (with_op t o s.plan) s.starts members names meetings) (actions_of (o ∷ []))
-    same_starts members names meetings none =
+        (members : ℕ → ℕ → Bool) (names : Names) (visits : ℕ) → ((i c : ℕ) → slice_get (actions_of (o ∷ [])) i ≢ Some (Forks c)) →
+        HasStarts t s (state_of (with_op t o s.plan) s.starts members names visits) (actions_of (o ∷ []))
+    same_starts members names visits none =
         record { many = a.sound.starts; stay = λ c e. e; begins = λ c e. inl e; forks = λ i c e. absurd (none i c e) }
 
     -- an op that registers nobody
     own_members :
-        (starts : List (Option Start)) (members : ℕ → ℕ → Bool) (names : Names) (meetings : ℕ) →
+        (starts : List (Option Start)) (members : ℕ → ℕ → Bool) (names : Names) (visits : ℕ) →
         ((p : ℕ) → members t p ≡ is_some (own_steps (actions_of (o ∷ [])) (last_phases s.plan t) p)) →
         ((u p : ℕ) → u ≢ t → members u p ≡ s.members u p) →
         ((u : ℕ) (m r : Phases) → register_steps (actions_of (o ∷ [])) u m r ≡ r) →
-        HasMembers t s (state_of (with_op t o s.plan) starts members names meetings) (actions_of (o ∷ []))
-    own_members starts members names meetings own others none =
+        HasMembers t s (state_of (with_op t o s.plan) starts members names visits) (actions_of (o ∷ []))
+    own_members starts members names visits own others none =
         record {
           own = own;
           child =
@@ -228,48 +228,48 @@ module _ (t : ℕ) (s : State) (a : IsActing t s) where
         }
 
     op_acts :
-        (starts : List (Option Start)) (members : ℕ → ℕ → Bool) (names : Names) (meetings : ℕ) →
+        (starts : List (Option Start)) (members : ℕ → ℕ → Bool) (names : Names) (visits : ℕ) →
         nat_lt (sum_by length s.plan.codes) max_ops ≡ true →
         IsNew t s.plan (with_op t o s.plan) (actions_of (o ∷ [])) →
-        HasStarts t s (state_of (with_op t o s.plan) starts members names meetings) (actions_of (o ∷ [])) →
-        HasMembers t s (state_of (with_op t o s.plan) starts members names meetings) (actions_of (o ∷ [])) →
-        IsActing t (state_of (with_op t o s.plan) starts members names meetings)
-    op_acts starts members names meetings few new has_starts has_members =
-        acts_on t s (state_of (with_op t o s.plan) starts members names meetings) a grows_op (op_tables s.plan t o a.sound.checked.tables) new (limits_op few)
+        HasStarts t s (state_of (with_op t o s.plan) starts members names visits) (actions_of (o ∷ [])) →
+        HasMembers t s (state_of (with_op t o s.plan) starts members names visits) (actions_of (o ∷ [])) →
+        IsActing t (state_of (with_op t o s.plan) starts members names visits)
+    op_acts starts members names visits few new has_starts has_members =
+        acts_on t s (state_of (with_op t o s.plan) starts members names visits) a grows_op (op_tables s.plan t o a.sound.checked.tables) new (limits_op few)
         at_op has_starts has_members
 
   adv_acts : (p n : ℕ) → s.members t p ≡ true → OnState (IsActing t) (add_op t n (op.Adv (phaser p)) s)
   unfolding add_op
   adv_acts p n e =
       on_fault_unless (IsActing t) (nat_lt (sum_by length s.plan.codes) max_ops) too_many_ops n _
-      (λ few. op_acts (op.Adv (phaser p)) s.starts s.members s.names s.meetings few
+      (λ few. op_acts (op.Adv (phaser p)) s.starts s.members s.names s.visits few
       (new_op (op.Adv (phaser p)) (one_new (Advances p) (λ i x. IsWellFormed (with_op t (op.Adv (phaser p)) s.plan) t (length (actions s.plan t) + i) x) (member_now (op.Adv (phaser p)) p e))
       (λ i q f. one_new (Advances p) (λ i x. (q : ℕ) → x ≢ Makes q) (λ q g. cc) i (Makes q) f q refl))
-      (same_starts (op.Adv (phaser p)) s.members s.names s.meetings (λ i c f. one_new (Advances p) (λ i x. (c : ℕ) → x ≢ Forks c) (λ c g. cc) i (Forks c) f c refl))
-      (own_members (op.Adv (phaser p)) s.starts s.members s.names s.meetings (λ q. members_own q ∙ advanced_member (last_phases s.plan t) p q) (λ u q n. refl) (λ u m r. refl)))
+      (same_starts (op.Adv (phaser p)) s.members s.names s.visits (λ i c f. one_new (Advances p) (λ i x. (c : ℕ) → x ≢ Forks c) (λ c g. cc) i (Forks c) f c refl))
+      (own_members (op.Adv (phaser p)) s.starts s.members s.names s.visits (λ q. members_own q ∙ advanced_member (last_phases s.plan t) p q) (λ u q n. refl) (λ u m r. refl)))
 
   dereg_acts : (p n : ℕ) → s.members t p ≡ true → OnState (IsActing t) (add_op t n (op.Drop (phaser p)) (record s { members = with_member t p false s.members }))
   unfolding add_op
   dereg_acts p n e =
       on_fault_unless (IsActing t) (nat_lt (sum_by length s.plan.codes) max_ops) too_many_ops n _
-      (λ few. op_acts (op.Drop (phaser p)) s.starts (with_member t p false s.members) s.names s.meetings few
+      (λ few. op_acts (op.Drop (phaser p)) s.starts (with_member t p false s.members) s.names s.visits few
       (new_op (op.Drop (phaser p)) (one_new (Drops p) (λ i x. IsWellFormed (with_op t (op.Drop (phaser p)) s.plan) t (length (actions s.plan t) + i) x) (member_now (op.Drop (phaser p)) p e))
       (λ i q f. one_new (Drops p) (λ i x. (q : ℕ) → x ≢ Makes q) (λ q g. cc) i (Makes q) f q refl))
-      (same_starts (op.Drop (phaser p)) (with_member t p false s.members) s.names s.meetings (λ i c f. one_new (Drops p) (λ i x. (c : ℕ) → x ≢ Forks c) (λ c g. cc) i (Forks c) f c refl))
-      (own_members (op.Drop (phaser p)) s.starts (with_member t p false s.members) s.names s.meetings
+      (same_starts (op.Drop (phaser p)) (with_member t p false s.members) s.names s.visits (λ i c f. one_new (Drops p) (λ i x. (c : ℕ) → x ≢ Forks c) (λ c g. cc) i (Forks c) f c refl))
+      (own_members (op.Drop (phaser p)) s.starts (with_member t p false s.members) s.names s.visits
       (set_member t p false s.members (last_phases s.plan t) None members_own refl) (λ u q n. member_other t p false s.members u q n) (λ u m r. refl)))
 
   await_acts : (p n : ℕ) → s.members t p ≡ true → OnState (IsActing t) (add_op t n (op.Await (phaser p)) s)
   unfolding add_op
   await_acts p n e =
       on_fault_unless (IsActing t) (nat_lt (sum_by length s.plan.codes) max_ops) too_many_ops n _
-      (λ few. op_acts (op.Await (phaser p)) s.starts s.members s.names s.meetings few
+      (λ few. op_acts (op.Await (phaser p)) s.starts s.members s.names s.visits few
       (new_op (op.Await (phaser p))
       (two_new (Blocks p) (Passes p) (λ i x. IsWellFormed (with_op t (op.Await (phaser p)) s.plan) t (length (actions s.plan t) + i) x) (member_now (op.Await (phaser p)) p e) tt)
       (λ i q f. two_new (Blocks p) (Passes p) (λ i x. (q : ℕ) → x ≢ Makes q) (λ q g. cc) (λ q g. cc) i (Makes q) f q refl))
-      (same_starts (op.Await (phaser p)) s.members s.names s.meetings
+      (same_starts (op.Await (phaser p)) s.members s.names s.visits
       (λ i c f. two_new (Blocks p) (Passes p) (λ i x. (c : ℕ) → x ≢ Forks c) (λ c g. cc) (λ c g. cc) i (Forks c) f c refl))
-      (own_members (op.Await (phaser p)) s.starts s.members s.names s.meetings members_own (λ u q n. refl) (λ u m r. refl)))
+      (own_members (op.Await (phaser p)) s.starts s.members s.names s.visits members_own (λ u q n. refl) (λ u m r. refl)))
 
   -- ---- children
 
@@ -302,7 +302,7 @@ module _ (t : ℕ) (s : State) (a : IsActing t s) where
     not_forked j e = a.sound.unforked c j unforked (subst (λ v. action_at s.plan v j ≡ Some (Forks c)) (sym (parent_is s.plan t c child)) e)
 
     fork_starts :
-        (start : Start) → HasStarts t s (state_of (with_op t (op.Fork (task c)) s.plan) (slice_set s.starts c (Some start)) s.members s.names s.meetings) (actions_of (op.Fork (task c) ∷ []))
+        (start : Start) → HasStarts t s (state_of (with_op t (op.Fork (task c)) s.plan) (slice_set s.starts c (Some start)) s.members s.names s.visits) (actions_of (op.Fork (task c) ∷ []))
     unfolding parent_of
     fork_starts start =
         record {
@@ -328,12 +328,12 @@ module _ (t : ℕ) (s : State) (a : IsActing t s) where
     unfolding add_op
     fork_acts n start =
         on_fault_unless (IsActing t) (nat_lt (sum_by length s.plan.codes) max_ops) too_many_ops n _
-        (λ few. op_acts (op.Fork (task c)) (slice_set s.starts c (Some start)) s.members s.names s.meetings few
+        (λ few. op_acts (op.Fork (task c)) (slice_set s.starts c (Some start)) s.members s.names s.visits few
         (new_op (op.Fork (task c))
         (one_new (Forks c) (λ i x. IsWellFormed (with_op t (op.Fork (task c)) s.plan) t (length (actions s.plan t) + i) x) (child, not_before (op.Fork (task c)) (Forks c) (λ j l. not_forked j)))
         (λ i q f. one_new (Forks c) (λ i x. (q : ℕ) → x ≢ Makes q) (λ q g. cc) i (Makes q) f q refl))
         (fork_starts start)
-        (own_members (op.Fork (task c)) (slice_set s.starts c (Some start)) s.members s.names s.meetings members_own (λ u q n. refl) (λ u m r. refl)))
+        (own_members (op.Fork (task c)) (slice_set s.starts c (Some start)) s.members s.names s.visits members_own (λ u q n. refl) (λ u m r. refl)))
 
     module _ (p : ℕ) (inside : s.members t p ≡ true) (outside : s.members c p ≡ false) where
       -- nobody is registered twice
@@ -353,7 +353,7 @@ module _ (t : ℕ) (s : State) (a : IsActing t s) where
               ∙ ap (λ v. registered_by s.plan v c (length (actions s.plan v))) (parent_is s.plan t c child)
 
       reg_members :
-          HasMembers t s (state_of (with_op t (op.Reg (task c) (phaser p)) s.plan) s.starts (with_member c p true s.members) s.names s.meetings) (actions_of (op.Reg (task c) (phaser p) ∷ []))
+          HasMembers t s (state_of (with_op t (op.Reg (task c) (phaser p)) s.plan) s.starts (with_member c p true s.members) s.names s.visits) (actions_of (op.Reg (task c) (phaser p) ∷ []))
       reg_members =
           record {
             own = λ q. member_other c p true s.members t q (λ e. absurd (let h = child_above in omega arith)) ∙ members_own q;
@@ -387,7 +387,7 @@ module _ (t : ℕ) (s : State) (a : IsActing t s) where
       unfolding add_op
       reg_acts n =
           on_fault_unless (IsActing t) (nat_lt (sum_by length s.plan.codes) max_ops) too_many_ops n _
-          (λ few. op_acts (op.Reg (task c) (phaser p)) s.starts (with_member c p true s.members) s.names s.meetings few
+          (λ few. op_acts (op.Reg (task c) (phaser p)) s.starts (with_member c p true s.members) s.names s.visits few
           (new_op (op.Reg (task c) (phaser p))
           (one_new (Registers c p) (λ i x. IsWellFormed (with_op t (op.Reg (task c) (phaser p)) s.plan) t (length (actions s.plan t) + i) x) (
             child,
@@ -396,7 +396,7 @@ module _ (t : ℕ) (s : State) (a : IsActing t s) where
             member_now (op.Reg (task c) (phaser p)) p inside,
           ))
           (λ i q f. one_new (Registers c p) (λ i x. (q : ℕ) → x ≢ Makes q) (λ q g. cc) i (Makes q) f q refl))
-          (same_starts (op.Reg (task c) (phaser p)) (with_member c p true s.members) s.names s.meetings (λ i d f. one_new (Registers c p) (λ i x. (d : ℕ) → x ≢ Forks d) (λ d g. cc) i (Forks d) f d refl))
+          (same_starts (op.Reg (task c) (phaser p)) (with_member c p true s.members) s.names s.visits (λ i d f. one_new (Registers c p) (λ i x. (d : ℕ) → x ≢ Forks d) (λ d g. cc) i (Forks d) f d refl))
           reg_members)
 
   -- ---- a phaser more
@@ -465,11 +465,11 @@ module _ (t : ℕ) (s : State) (a : IsActing t s) where
 
   make_acts :
       (n : ℕ) (names : Names) → nat_lt (length s.plan.makers) max_phasers ≡ true →
-      OnState (IsActing t) (add_op t n make (state_of (with_maker t s.plan) s.starts (with_member t (length s.plan.makers) true s.members) names s.meetings))
+      OnState (IsActing t) (add_op t n make (state_of (with_maker t s.plan) s.starts (with_member t (length s.plan.makers) true s.members) names s.visits))
   unfolding add_op
   make_acts n names room =
       on_fault_unless (IsActing t) (nat_lt (sum_by length s.plan.codes) max_ops) too_many_ops n _
-      (λ few. acts_on t s (state_of plan_made s.starts (with_member t (length s.plan.makers) true s.members) names s.meetings) a grows_make
+      (λ few. acts_on t s (state_of plan_made s.starts (with_member t (length s.plan.makers) true s.members) names s.visits) a grows_make
       (op_tables (with_maker t s.plan) t make (maker_tables s.plan t a.sound.at.makers a.sound.checked.tables)) make_new
       (record {
         few_tasks = a.sound.checked.limits.few_tasks;
@@ -527,9 +527,9 @@ module _ (t : ℕ) (s : State) (a : IsActing t s) where
       (let h = a.here in omega arith) parent)
       ∙ nobody_registers s.plan a.sound.checked t u (length (actions s.plan t)) l p
 
-  task_acts : (names : Names) → nat_lt (length s.plan.parents) max_tasks ≡ true → IsActing t (state_of (with_task t s.plan) (s.starts ++ None ∷ []) s.members names s.meetings)
+  task_acts : (names : Names) → nat_lt (length s.plan.parents) max_tasks ≡ true → IsActing t (state_of (with_task t s.plan) (s.starts ++ None ∷ []) s.members names s.visits)
   task_acts names room =
-      acts_on t s (state_of (with_task t s.plan) (s.starts ++ None ∷ []) s.members names s.meetings) a grows_task
+      acts_on t s (state_of (with_task t s.plan) (s.starts ++ None ∷ []) s.members names s.visits) a grows_task
       (task_tables s.plan t a.here a.sound.at.parents a.sound.checked.tables)
       (record {
         well_formed = λ i x e. absurd cc;
@@ -557,14 +557,14 @@ module _ (t : ℕ) (s : State) (a : IsActing t s) where
         drawn = task_first;
       })
 
-  -- ---- statements and meetings
+  -- ---- statements and visits
 
   act_keeps : (n : ℕ) (x : Plain) → OnState (IsActing t) (act t n x s)
   unfolding act
   act_keeps n (new_task x) =
-      on_fault_unless (IsActing t) (nat_lt (length s.plan.parents) max_tasks) too_many_tasks n _ (λ room. task_acts (with_name x (a_task (length s.plan.parents)) s.names) room)
+      on_fault_unless (IsActing t) (nat_lt (length s.plan.parents) max_tasks) too_many_tasks n _ (λ room. task_acts (assigned x (a_task (length s.plan.parents)) s.names) room)
   act_keeps n (new_phaser x) =
-      on_fault_unless (IsActing t) (nat_lt (length s.plan.makers) max_phasers) too_many_phasers n _ (λ room. make_acts n (with_name x (a_phaser (length s.plan.makers)) s.names) room)
+      on_fault_unless (IsActing t) (nat_lt (length s.plan.makers) max_phasers) too_many_phasers n _ (λ room. make_acts n (assigned x (a_phaser (length s.plan.makers)) s.names) room)
   act_keeps n (reg x y) =
       on_task (IsActing t) n (s.names x) _
       (λ c. on_phaser (IsActing t) n (s.names y) _
@@ -594,9 +594,9 @@ module _ (t : ℕ) (s : State) (a : IsActing t s) where
   come_keeps n a_loop = a
   come_keeps n a_turn = a
 
--- neither the names nor the number of meetings matter
-pub same_acts : (t : ℕ) (s : State) (names : Names) (meetings : ℕ) → IsActing t s → IsActing t (record s { names = names; meetings = meetings })
-same_acts t s names meetings a =
+-- neither the names nor the number of visits matter
+pub same_acts : (t : ℕ) (s : UnfoldingState) (names : Names) (visits : ℕ) → IsActing t s → IsActing t (record s { names = names; visits = visits })
+same_acts t s names visits a =
     record {
       sound =
           record {
@@ -612,19 +612,19 @@ same_acts t s names meetings a =
       begun = a.begun;
     }
 
-on_then : (P Q : State → Type 0) (o : Outcome State) (f : State → Outcome State) → OnState P o → ((s : State) → P s → OnState Q (f s)) → OnState Q (o >>= f)
+on_then : (P Q : UnfoldingState → Type 0) (o : Outcome UnfoldingState) (f : UnfoldingState → Outcome UnfoldingState) → OnState P o → ((s : UnfoldingState) → P s → OnState Q (f s)) → OnState Q (o >>= f)
 on_then P Q (Ok s) f h k = k s h
 on_then P Q (Err e) f h k = tt
 
-count_meeting_keeps : (t n : ℕ) (s : State) → IsActing t s → OnState (IsActing t) (count_meeting n s)
-unfolding count_meeting
-count_meeting_keeps t n s a = on_fault_unless (IsActing t) (nat_lt s.meetings max_meetings) too_many_meetings n _ (λ room. same_acts t s s.names (s.meetings + 1) a)
+count_visit_keeps : (t n : ℕ) (s : UnfoldingState) → IsActing t s → OnState (IsActing t) (count_visit n s)
+unfolding count_visit
+count_visit_keeps t n s a = on_fault_unless (IsActing t) (nat_lt s.visits max_visits) too_many_visits n _ (λ room. same_acts t s s.names (s.visits + 1) a)
 
-pub meets_keep : (t : ℕ) (ms : List Meeting) (s : State) → IsActing t s → OnState (IsActing t) (meet_all t ms s)
-unfolding meet_all
-meets_keep t [] s a = a
-meets_keep t (m ∷ ms) s a =
-    on_then (IsActing t) (IsActing t) (meet t m s) (meet_all t ms)
-    (on_then (IsActing t) (IsActing t) (count_meeting m.statement s) (come_to t m.statement m.coming) (count_meeting_keeps t m.statement s a)
+pub comes_keep : (t : ℕ) (ms : List Visit) (s : UnfoldingState) → IsActing t s → OnState (IsActing t) (make_visits t ms s)
+unfolding make_visits
+comes_keep t [] s a = a
+comes_keep t (m ∷ ms) s a =
+    on_then (IsActing t) (IsActing t) (make_visit t m s) (make_visits t ms)
+    (on_then (IsActing t) (IsActing t) (count_visit m.statement s) (come_to t m.statement m.coming) (count_visit_keeps t m.statement s a)
     (λ s' a'. come_keeps t s' a' m.statement m.coming))
-    (λ s' a'. meets_keep t ms s' a')
+    (λ s' a'. comes_keep t ms s' a')

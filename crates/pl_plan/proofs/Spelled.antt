@@ -5,14 +5,14 @@ use Rattle.pl_syntax.specs.Tree.{Tree, done, plain, fork, loop, Plain, new_task,
 use Rattle.pl_plan.specs.declared.step.NameId.{NameId}
 use Rattle.pl_plan.specs.declared.step.Step.{Step}
 use Rattle.pl_plan.specs.declared.step.Step.TheVariants as a_step
-use Rattle.pl_plan.specs.inside.Steps.{IsName, IsStep, step_at, IsSpelled}
+use Rattle.pl_plan.specs.inside.Steps.{IsNumberOfName, IsStep, step_at, IsSpelled}
 
 -- the names below n are the same
 pub record NamesAgree (n : ℕ) (names : ℕ → List ℕ) (n' : ℕ) (names' : ℕ → List ℕ) : Type 0 where
   pub more : n ≤ n'
   pub same : (i : ℕ) → i < n → names' i ≡ names i
 
-pub name_more : (n : ℕ) (names : ℕ → List ℕ) (n' : ℕ) (names' : ℕ → List ℕ) (i : NameId) (x : List ℕ) → NamesAgree n names n' names' → IsName n names i x → IsName n' names' i x
+pub name_more : (n : ℕ) (names : ℕ → List ℕ) (n' : ℕ) (names' : ℕ → List ℕ) (i : NameId) (x : List ℕ) → NamesAgree n names n' names' → IsNumberOfName n names i x → IsNumberOfName n' names' i x
 name_more n names n' names' i x a h = (omega (arith, a.more, h.0), a.same i.0 h.0 ∙ h.1)
 
 step_more : (n : ℕ) (names : ℕ → List ℕ) (n' : ℕ) (names' : ℕ → List ℕ) (step step' : Step) (s : Plain) → step' ≡ step → NamesAgree n names n' names' → IsStep n names step s → IsStep n' names' step' s

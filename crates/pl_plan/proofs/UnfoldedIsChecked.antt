@@ -9,14 +9,14 @@ use Rattle.armus_base.specs.Places.{first_phases, phases_after}
 use Rattle.armus_base.specs.CheckedPlans.{IsCheckedPlan, first_plan}
 use Rattle.armus_base.proofs.PlanGrows.{first_plan_is_checked}
 use Rattle.pl_syntax.specs.Tree.{Tree}
-use Rattle.pl_plan.specs.Unfolding.{State, Start, Outcome, ◌>>=◌, unfold_task, unfold_tasks, opening_state, plan_of, meetings_of, with_names}
+use Rattle.pl_plan.specs.Unfolding.{UnfoldingState, Start, Outcome, ◌>>=◌, unfold_task, unfold_tasks, opening_state, plan_of, visits_of, with_names}
 use Rattle.pl_plan.specs.Laws.{UnfoldedIsChecked}
 use Rattle.pl_plan.proofs.Growth.{last_phases}
 use Rattle.pl_plan.proofs.Sound.{IsSound, IsActing, is_begun}
-use Rattle.pl_plan.proofs.SoundSteps.{OnState, same_acts, meets_keep}
+use Rattle.pl_plan.proofs.SoundSteps.{OnState, same_acts, comes_keep}
 
 -- the next task
-next_sound : (t : ℕ) (s : State) → IsSound t s → IsSound (t + 1) s
+next_sound : (t : ℕ) (s : UnfoldingState) → IsSound t s → IsSound (t + 1) s
 next_sound t s h =
     record {
       checked = h.checked;
@@ -33,11 +33,11 @@ next_sound t s h =
       outside = h.outside;
     }
 
-on_more : (t : ℕ) (o : Outcome State) (f : State → Outcome State) → OnState (IsActing t) o → ((s : State) → IsSound (t + 1) s → OnState (λ r. IsCheckedPlan r.plan) (f s)) → OnState (λ r. IsCheckedPlan r.plan) (o >>= f)
+on_more : (t : ℕ) (o : Outcome UnfoldingState) (f : UnfoldingState → Outcome UnfoldingState) → OnState (IsActing t) o → ((s : UnfoldingState) → IsSound (t + 1) s → OnState (λ r. IsCheckedPlan r.plan) (f s)) → OnState (λ r. IsCheckedPlan r.plan) (o >>= f)
 on_more t (Ok s) f h k = k s (next_sound t s h.sound)
 on_more t (Err e) f h k = tt
 
-begun_inside : (t : ℕ) (s : State) → IsSound t s → is_begun s t ≡ true → t < length s.plan.parents
+begun_inside : (t : ℕ) (s : UnfoldingState) → IsSound t s → is_begun s t ≡ true → t < length s.plan.parents
 begun_inside t s h e =
     elim (cases_lt t (length s.starts)) [
       | inl l ↦ omega (arith, h.starts)
@@ -45,18 +45,18 @@ begun_inside t s h e =
     ]
 
 task_keeps :
-    (t : ℕ) (s : State) (rest : State → Outcome State) → IsSound t s →
-    ((s' : State) → IsSound (t + 1) s' → OnState (λ r. IsCheckedPlan r.plan) (rest s')) → (o : Option Start) → slice_index_or s.starts t None ≡ o →
+    (t : ℕ) (s : UnfoldingState) (rest : UnfoldingState → Outcome UnfoldingState) → IsSound t s →
+    ((s' : UnfoldingState) → IsSound (t + 1) s' → OnState (λ r. IsCheckedPlan r.plan) (rest s')) → (o : Option Start) → slice_index_or s.starts t None ≡ o →
     OnState (λ r. IsCheckedPlan r.plan) (unfold_task t o s >>= rest)
 task_keeps t s rest h then None e = then s (next_sound t s h)
 task_keeps t s rest h then (Some start) e =
     let begun : is_begun s t ≡ true = ap is_some e in
     on_more t (unfold_task t (Some start) s) rest
-    (meets_keep t (meetings_of start.first start.body) (with_names start.names s)
-    (same_acts t s start.names s.meetings (record { sound = h; here = begun_inside t s h begun; begun = begun })))
+    (comes_keep t (visits_of start.first start.body) (with_names start.names s)
+    (same_acts t s start.names s.visits (record { sound = h; here = begun_inside t s h begun; begun = begun })))
     then
 
-tasks_keep : (n t : ℕ) (s : State) → IsSound t s → OnState (λ r. IsCheckedPlan r.plan) (unfold_tasks n t s)
+tasks_keep : (n t : ℕ) (s : UnfoldingState) → IsSound t s → OnState (λ r. IsCheckedPlan r.plan) (unfold_tasks n t s)
 unfolding unfold_tasks
 tasks_keep zero t s h = h.checked
 tasks_keep (suc n) t s h = task_keeps t s (unfold_tasks n (t + 1)) h (tasks_keep n (t + 1)) (slice_index_or s.starts t None) refl
@@ -105,7 +105,7 @@ sound_opening program =
       outside = λ u p l. refl;
     }
 
-plan_is : (o : Outcome State) (plan : Plan) → OnState (λ r. IsCheckedPlan r.plan) o → (o >>= λ s. Ok s.plan) ≡ Ok plan → IsCheckedPlan plan
+plan_is : (o : Outcome UnfoldingState) (plan : Plan) → OnState (λ r. IsCheckedPlan r.plan) o → (o >>= λ s. Ok s.plan) ≡ Ok plan → IsCheckedPlan plan
 plan_is (Ok s) plan h e = subst IsCheckedPlan (let q : s.plan ≡ plan = cc in q) h
 plan_is (Err f) plan h e = absurd cc
 

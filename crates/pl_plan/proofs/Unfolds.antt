@@ -1,4 +1,4 @@
--- The computation of the unfolding makes the visits of the relation, and there is one list of such visits.
+-- The computation of the unfolding makes the stages of the relation, and there is one list of such stages.
 use Rattle.std.proofs.Common.{◌≡◌, ℕ, zero, suc, ◌+◌, ◌-◌, ◌<◌, ◌≤◌, Bool, true, false, not, Some, None, Ok, Err, Option, List, [], ◌∷◌, ◌++◌, length, append_assoc, arith, sym, ◌∙◌, ap, subst, refl, ◌⊎◌, inl, inr}
 use Rattle.std.specs.Prelude.{map, nat_lt, slice_index_or}
 use Rattle.std.proofs.lemmas.Bool.{cases_lt, cases_eq, eqb-true, false≢true, ltb-true}
@@ -7,66 +7,66 @@ use Rattle.armus_base.specs.declared.ids.TaskId.{TaskId}
 use Rattle.armus_base.specs.Plans.{Plan}
 use Rattle.pl_syntax.specs.Tree.{Tree, new_task, new_phaser, reg, dereg, adv, await, skip}
 use Rattle.pl_plan.specs.declared.fault.CheckFault.{CheckFault}
-use Rattle.pl_plan.specs.Unfolding.{Coming, a_plain, a_fork, a_loop, a_turn, Meeting, meetings_of, State, Start, Outcome, ◌>>=◌, fault, is_parent, task, meet, meet_all, with_names, unfold_task, unfold_tasks, opening_state, plan_of}
+use Rattle.pl_plan.specs.Unfolding.{Coming, a_plain, a_fork, a_loop, a_turn, Visit, visits_of, UnfoldingState, Start, Outcome, ◌>>=◌, fault, is_parent, task, make_visit, make_visits, with_names, unfold_task, unfold_tasks, opening_state, plan_of}
 use Rattle.pl_plan.specs.Tests.{Passes, drew, first_thing, table, task_number}
 use Rattle.pl_plan.specs.Laws.{FaultIsFirst, PlanIsUnfolded}
-use Rattle.pl_plan.specs.Visits.{IsFirstFault, IsNext, Leads, Unfolds, Visit, VisitPasses, after_visit, all_visits, begins, begun, meets, visits_below, visits_of}
-use Rattle.pl_plan.proofs.ByTable.{answer, first_if, first_kind, kind_none, kind_some, meet_by, passes_if}
+use Rattle.pl_plan.specs.Stages.{IsFirstCheckFault, IsNextStage, StagesLead, Unfolds, Stage, StagePasses, after_stage, all_stages, begins, with_start_names, comes, stages_below, stages_of}
+use Rattle.pl_plan.proofs.ByTable.{answer, first_if, first_kind, kind_none, kind_some, visit_by, passes_if}
 use Rattle.pl_plan.proofs.Places.{at_more}
 
--- ---- lists of visits
+-- ---- lists of stages
 
 append_nil : {X : Type 0} (xs : List X) → xs ++ [] ≡ xs
 append_nil [] = refl
 append_nil (x ∷ xs) = ap (λ z. x ∷ z) (append_nil xs)
 
 leads_more :
-    (before xs ys : List Visit) (s m e : State) → Leads before xs s m → Leads (before ++ xs) ys m e → Leads before (xs ++ ys) s e
+    (before xs ys : List Stage) (s m e : UnfoldingState) → StagesLead before xs s m → StagesLead (before ++ xs) ys m e → StagesLead before (xs ++ ys) s e
 leads_more before [] ys s m e l r =
-    subst (λ z. Leads before ys z e) (sym l) (subst (λ b. Leads b ys m e) (append_nil before) r)
+    subst (λ z. StagesLead before ys z e) (sym l) (subst (λ b. StagesLead b ys m e) (append_nil before) r)
 leads_more before (x ∷ xs) ys s m e l r = (
   l.0,
   l.1,
-  leads_more (before ++ x ∷ []) xs ys (after_visit x s) m e l.2 (subst (λ b. Leads b ys m e) (sym (append_assoc before (x ∷ []) xs)) r),
+  leads_more (before ++ x ∷ []) xs ys (after_stage x s) m e l.2 (subst (λ b. StagesLead b ys m e) (sym (append_assoc before (x ∷ []) xs)) r),
 )
 
--- the visits of more tasks begin with those of fewer
-visits_more : (n k : ℕ) (s : State) → (rest : List Visit) × (visits_below (n + k) s ≡ visits_below n s ++ rest)
-visits_more n zero s = ([], subst (λ m. visits_below m s ≡ visits_below n s ++ []) (let e : n ≡ n + 0 = omega arith in e) (sym (append_nil (visits_below n s))))
-visits_more n (suc k) s =
-    let before = visits_more n k s in
-    let last = visits_of (n + k) (slice_index_or s.starts (n + k) None) in (
+-- the stages of more tasks begin with those of fewer
+stages_more : (n k : ℕ) (s : UnfoldingState) → (rest : List Stage) × (stages_below (n + k) s ≡ stages_below n s ++ rest)
+stages_more n zero s = ([], subst (λ m. stages_below m s ≡ stages_below n s ++ []) (let e : n ≡ n + 0 = omega arith in e) (sym (append_nil (stages_below n s))))
+stages_more n (suc k) s =
+    let before = stages_more n k s in
+    let last = stages_of (n + k) (slice_index_or s.starts (n + k) None) in (
       before.0 ++ last,
-      subst (λ m. visits_below m s ≡ visits_below n s ++ (before.0 ++ last)) (let e : suc (n + k) ≡ n + suc k = omega arith in e)
-          (ap (λ z. z ++ last) before.1 ∙ append_assoc (visits_below n s) before.0 last),
+      subst (λ m. stages_below m s ≡ stages_below n s ++ (before.0 ++ last)) (let e : suc (n + k) ≡ n + suc k = omega arith in e)
+          (ap (λ z. z ++ last) before.1 ∙ append_assoc (stages_below n s) before.0 last),
     )
 
--- where the same tasks have the same starts, they have the same visits
-visits_same :
-    (n : ℕ) (s e : State) → ((u : ℕ) → u < n → slice_index_or e.starts u None ≡ slice_index_or s.starts u None) → visits_below n e ≡ visits_below n s
-visits_same zero s e same = refl
-visits_same (suc n) s e same =
-    ap (λ z. z ++ visits_of n (slice_index_or e.starts n None)) (visits_same n s e (λ u l. same u (omega arith)))
-    ∙ ap (λ o. visits_below n s ++ visits_of n o) (same n (omega arith))
+-- where the same tasks have the same starts, they have the same stages
+stages_same :
+    (n : ℕ) (s e : UnfoldingState) → ((u : ℕ) → u < n → slice_index_or e.starts u None ≡ slice_index_or s.starts u None) → stages_below n e ≡ stages_below n s
+stages_same zero s e same = refl
+stages_same (suc n) s e same =
+    ap (λ z. z ++ stages_of n (slice_index_or e.starts n None)) (stages_same n s e (λ u l. same u (omega arith)))
+    ∙ ap (λ o. stages_below n s ++ stages_of n o) (same n (omega arith))
 
 -- tasks past the last have none
-visits_past : (n k : ℕ) (s : State) → length s.starts ≤ n → visits_below (n + k) s ≡ visits_below n s
-visits_past n zero s l = ap (λ m. visits_below m s) (let e : n + 0 ≡ n = omega arith in e)
-visits_past n (suc k) s l =
-    ap (λ m. visits_below m s) (let e : n + suc k ≡ suc (n + k) = omega arith in e)
-    ∙ ap (λ o. visits_below (n + k) s ++ visits_of (n + k) o) (get_or_past s.starts (n + k) None (omega arith))
-    ∙ append_nil (visits_below (n + k) s) ∙ visits_past n k s l
+stages_past : (n k : ℕ) (s : UnfoldingState) → length s.starts ≤ n → stages_below (n + k) s ≡ stages_below n s
+stages_past n zero s l = ap (λ m. stages_below m s) (let e : n + 0 ≡ n = omega arith in e)
+stages_past n (suc k) s l =
+    ap (λ m. stages_below m s) (let e : n + suc k ≡ suc (n + k) = omega arith in e)
+    ∙ ap (λ o. stages_below (n + k) s ++ stages_of (n + k) o) (get_or_past s.starts (n + k) None (omega arith))
+    ∙ append_nil (stages_below (n + k) s) ∙ stages_past n k s l
 
--- ---- what a visit keeps
+-- ---- what a stage keeps
 
 -- a task is drawn by one before it, and each has a start or none
-record IsKept (s : State) : Type 0 where
+record IsKept (s : UnfoldingState) : Type 0 where
   drawn : (c u : ℕ) → is_parent u (slice_index_or s.plan.parents c None) ≡ true → u < c
   many : length s.starts ≡ length s.plan.parents
   few : length s.plan.parents ≤ 1024
 
--- one more visit of task t keeps that, and the starts of the tasks up to t
-record Keeps (t : ℕ) (s e : State) : Type 0 where
+-- one more stage of task t keeps that, and the starts of the tasks up to t
+record Keeps (t : ℕ) (s e : UnfoldingState) : Type 0 where
   kept : IsKept e
   more : length s.plan.parents ≤ length e.plan.parents
   starts : (u : ℕ) → u ≤ t → slice_index_or e.starts u None ≡ slice_index_or s.starts u None
@@ -94,8 +94,8 @@ drawn_more parents t here drawn c u is =
       ]
     ]
 
-module _ (t n : ℕ) (s : State) (kept : IsKept s) (here : t < length s.plan.parents) where
-  same_kept : (e : State) → e.plan.parents ≡ s.plan.parents → e.starts ≡ s.starts → Keeps t s e
+module _ (t n : ℕ) (s : UnfoldingState) (kept : IsKept s) (here : t < length s.plan.parents) where
+  same_kept : (e : UnfoldingState) → e.plan.parents ≡ s.plan.parents → e.starts ≡ s.starts → Keeps t s e
   same_kept e parents starts = record {
     kept = record {
       drawn = λ c u is. kept.drawn c u (subst (λ ps. is_parent u (slice_index_or ps c None) ≡ true) parents is);
@@ -106,7 +106,7 @@ module _ (t n : ℕ) (s : State) (kept : IsKept s) (here : t < length s.plan.par
     starts = λ u l. ap (λ ss. slice_index_or ss u None) starts;
   }
 
-  keeps : (c : Coming) → Passes s t c → Keeps t s (after_visit (meets t (record { statement = n; coming = c })) s)
+  keeps : (c : Coming) → Passes s t c → Keeps t s (after_stage (comes t (record { statement = n; coming = c })) s)
   keeps (a_plain (new_task x)) passes = record {
     kept = record {
       drawn = drawn_more s.plan.parents t here kept.drawn;
@@ -136,173 +136,173 @@ module _ (t n : ℕ) (s : State) (kept : IsKept s) (here : t < length s.plan.par
   keeps a_loop passes = same_kept _ refl refl
   keeps a_turn passes = same_kept _ refl refl
 
--- ---- the meetings of a task
+-- ---- the visits of a task
 
--- behind these visits the visits of task t go on so
-record Went (before : List Visit) (t : ℕ) (ms : List Meeting) (s : State) : Type 0 where
-  end : State
-  leads : Leads before (map (λ m. meets t m) ms) s end
+-- behind these stages the stages of task t go on so
+record Went (before : List Stage) (t : ℕ) (ms : List Visit) (s : UnfoldingState) : Type 0 where
+  end : UnfoldingState
+  leads : StagesLead before (map (λ m. comes t m) ms) s end
   keeps : Keeps t s end
-  is : meet_all t ms s ≡ Ok end
+  is : make_visits t ms s ≡ Ok end
 
 -- or to the first fault
-record Fails (before : List Visit) (s : State) (o : Outcome State) : Type 0 where
-  done : List Visit
-  there : State
-  leads : Leads before done s there
+record Fails (before : List Stage) (s : UnfoldingState) (o : Outcome UnfoldingState) : Type 0 where
+  done : List Stage
+  there : UnfoldingState
+  leads : StagesLead before done s there
   who : ℕ
-  meeting : Meeting
-  next : IsNext (before ++ done) (meets who meeting) there
+  visit : Visit
+  next : IsNextStage (before ++ done) (comes who visit) there
   kind : ℕ
-  fails : first_kind table there who meeting.coming ≡ Some kind
-  is : o ≡ Err (fault kind meeting.statement)
+  fails : first_kind table there who visit.coming ≡ Some kind
+  is : o ≡ Err (fault kind visit.statement)
 
--- the next visit of all is the next one of task t
+-- the next stage of all is the next one of task t
 next_of :
-    (before : List Visit) (t : ℕ) (v : Visit) (rest : List Visit) (s : State) → t < length s.plan.parents →
-    before ++ (v ∷ rest) ≡ visits_below (suc t) s → IsNext before v s
+    (before : List Stage) (t : ℕ) (v : Stage) (rest : List Stage) (s : UnfoldingState) → t < length s.plan.parents →
+    before ++ (v ∷ rest) ≡ stages_below (suc t) s → IsNextStage before v s
 next_of before t v rest s here own =
     let n = length s.plan.parents - suc t in
-    let more = visits_more (suc t) n s in
-    let whole : visits_below (length s.plan.parents) s ≡ visits_below (suc t) s ++ more.0 =
-    ap (λ m. visits_below m s) (let e : length s.plan.parents ≡ suc t + n = omega arith in e) ∙ more.1 in
+    let more = stages_more (suc t) n s in
+    let whole : stages_below (length s.plan.parents) s ≡ stages_below (suc t) s ++ more.0 =
+    ap (λ m. stages_below m s) (let e : length s.plan.parents ≡ suc t + n = omega arith in e) ∙ more.1 in
     (rest ++ more.0, whole ∙ ap (λ z. z ++ more.0) (sym own) ∙ append_assoc before (v ∷ rest) more.0)
 
-keeps_on : (t : ℕ) (s m e : State) → Keeps t s m → Keeps t m e → Keeps t s e
+keeps_on : (t : ℕ) (s m e : UnfoldingState) → Keeps t s m → Keeps t m e → Keeps t s e
 keeps_on t s m e a b =
     record { kept = b.kept; more = omega (arith, a.more, b.more); starts = λ u l. b.starts u l ∙ a.starts u l }
 
 fails_later :
-    (before : List Visit) (v : Visit) (s : State) (o : Outcome State) → IsNext before v s → VisitPasses v s →
-    Fails (before ++ v ∷ []) (after_visit v s) o → Fails before s o
+    (before : List Stage) (v : Stage) (s : UnfoldingState) (o : Outcome UnfoldingState) → IsNextStage before v s → StagePasses v s →
+    Fails (before ++ v ∷ []) (after_stage v s) o → Fails before s o
 fails_later before v s o next passes f =
     record {
       done = v ∷ f.done;
       there = f.there;
       leads = (next, passes, f.leads);
       who = f.who;
-      meeting = f.meeting;
-      next = subst (λ b. IsNext b (meets f.who f.meeting) f.there) (append_assoc before (v ∷ []) f.done) f.next;
+      visit = f.visit;
+      next = subst (λ b. IsNextStage b (comes f.who f.visit) f.there) (append_assoc before (v ∷ []) f.done) f.next;
       kind = f.kind;
       fails = f.fails;
       is = f.is;
     }
 
-fails_so : (before : List Visit) (s : State) (o q : Outcome State) → q ≡ o → Fails before s o → Fails before s q
+fails_so : (before : List Stage) (s : UnfoldingState) (o q : Outcome UnfoldingState) → q ≡ o → Fails before s o → Fails before s q
 fails_so before s o q same f = subst (λ z. Fails before s z) (sym same) f
 
 module _ (t : ℕ) where
   by_kind :
-      (before : List Visit) (m : Meeting) (ms : List Meeting) (s : State) → IsKept s → t < length s.plan.parents →
-      before ++ (meets t m ∷ map (λ m. meets t m) ms) ≡ visits_below (suc t) s →
-      ((e : State) → Keeps t s e → (before ++ meets t m ∷ []) ++ map (λ m. meets t m) ms ≡ visits_below (suc t) e →
-      Went (before ++ meets t m ∷ []) t ms e ⊎ Fails (before ++ meets t m ∷ []) e (meet_all t ms e)) → (o : Option ℕ) →
-      first_kind table s t m.coming ≡ o → Went before t (m ∷ ms) s ⊎ Fails before s (meet_all t (m ∷ ms) s)
-  unfolding meet_all
+      (before : List Stage) (m : Visit) (ms : List Visit) (s : UnfoldingState) → IsKept s → t < length s.plan.parents →
+      before ++ (comes t m ∷ map (λ m. comes t m) ms) ≡ stages_below (suc t) s →
+      ((e : UnfoldingState) → Keeps t s e → (before ++ comes t m ∷ []) ++ map (λ m. comes t m) ms ≡ stages_below (suc t) e →
+      Went (before ++ comes t m ∷ []) t ms e ⊎ Fails (before ++ comes t m ∷ []) e (make_visits t ms e)) → (o : Option ℕ) →
+      first_kind table s t m.coming ≡ o → Went before t (m ∷ ms) s ⊎ Fails before s (make_visits t (m ∷ ms) s)
+  unfolding make_visits
   by_kind before m ms s kept here own rest None passes_all =
-      let v = meets t m in
-      let e = after_visit v s in
+      let v = comes t m in
+      let e = after_stage v s in
       let passes = passes_if s t m.coming passes_all in
       let k = keeps t m.statement s kept here m.coming passes in
-      let next = next_of before t v (map (λ m. meets t m) ms) s here own in
-      let is : meet t m s ≡ Ok e = meet_by t m s ∙ ap (λ o. answer m.statement o e) passes_all in
-      let all : meet_all t (m ∷ ms) s ≡ meet_all t ms e = ap (λ o. o >>= meet_all t ms) is in
-      let own_now : (before ++ v ∷ []) ++ map (λ m. meets t m) ms ≡ visits_below (suc t) e =
-      append_assoc before (v ∷ []) (map (λ m. meets t m) ms) ∙ own ∙ sym (visits_same (suc t) s e (λ u l. k.starts u (omega arith))) in
+      let next = next_of before t v (map (λ m. comes t m) ms) s here own in
+      let is : make_visit t m s ≡ Ok e = visit_by t m s ∙ ap (λ o. answer m.statement o e) passes_all in
+      let all : make_visits t (m ∷ ms) s ≡ make_visits t ms e = ap (λ o. o >>= make_visits t ms) is in
+      let own_now : (before ++ v ∷ []) ++ map (λ m. comes t m) ms ≡ stages_below (suc t) e =
+      append_assoc before (v ∷ []) (map (λ m. comes t m) ms) ∙ own ∙ sym (stages_same (suc t) s e (λ u l. k.starts u (omega arith))) in
       elim (rest e k own_now) [
         | inl went ↦ inl (record { end = went.end; leads = (next, passes, went.leads); keeps = keeps_on t s e went.end k went.keeps; is = all ∙ went.is })
-        | inr fails ↦ inr (fails_so before s (meet_all t ms e) (meet_all t (m ∷ ms) s) all (fails_later before v s (meet_all t ms e) next passes fails))
+        | inr fails ↦ inr (fails_so before s (make_visits t ms e) (make_visits t (m ∷ ms) s) all (fails_later before v s (make_visits t ms e) next passes fails))
       ]
   by_kind before m ms s kept here own rest (Some kind) fails =
-      let v = meets t m in
+      let v = comes t m in
       inr (record {
         done = [];
         there = s;
         leads = refl;
         who = t;
-        meeting = m;
-        next = subst (λ b. IsNext b v s) (sym (append_nil before)) (next_of before t v (map (λ m. meets t m) ms) s here own);
+        visit = m;
+        next = subst (λ b. IsNextStage b v s) (sym (append_nil before)) (next_of before t v (map (λ m. comes t m) ms) s here own);
         kind = kind;
         fails = fails;
-        is = ap (λ o. o >>= meet_all t ms) (meet_by t m s ∙ ap (λ o. answer m.statement o (after_visit v s)) fails);
+        is = ap (λ o. o >>= make_visits t ms) (visit_by t m s ∙ ap (λ o. answer m.statement o (after_stage v s)) fails);
       })
 
-  meets_all :
-      (before : List Visit) (ms : List Meeting) (s : State) → IsKept s → t < length s.plan.parents →
-      before ++ map (λ m. meets t m) ms ≡ visits_below (suc t) s → Went before t ms s ⊎ Fails before s (meet_all t ms s)
-  unfolding meet_all
-  meets_all before [] s kept here own =
+  comes_all :
+      (before : List Stage) (ms : List Visit) (s : UnfoldingState) → IsKept s → t < length s.plan.parents →
+      before ++ map (λ m. comes t m) ms ≡ stages_below (suc t) s → Went before t ms s ⊎ Fails before s (make_visits t ms s)
+  unfolding make_visits
+  comes_all before [] s kept here own =
       inl (record { end = s; leads = refl; keeps = record { kept = kept; more = omega arith; starts = λ u l. refl }; is = refl })
-  meets_all before (m ∷ ms) s kept here own =
+  comes_all before (m ∷ ms) s kept here own =
       by_kind before m ms s kept here own
-      (λ e k own_now. meets_all (before ++ meets t m ∷ []) ms e k.kept (omega (arith, k.more)) own_now)
+      (λ e k own_now. comes_all (before ++ comes t m ∷ []) ms e k.kept (omega (arith, k.more)) own_now)
       (first_kind table s t m.coming) refl
 
 -- ---- all tasks
 
--- the visits of all tasks, from some of them on
-record Through (before : List Visit) (n : ℕ) (s : State) (o : Outcome State) : Type 0 where
-  visits : List Visit
-  end : State
-  leads : Leads before visits s end
-  all : visits_below n end ≡ before ++ visits
+-- the stages of all tasks, from some of them on
+record Through (before : List Stage) (n : ℕ) (s : UnfoldingState) (o : Outcome UnfoldingState) : Type 0 where
+  stages : List Stage
+  end : UnfoldingState
+  leads : StagesLead before stages s end
+  all : stages_below n end ≡ before ++ stages
   kept : IsKept end
   is : o ≡ Ok end
 
 through_later :
-    (before xs : List Visit) (n : ℕ) (s m : State) (o : Outcome State) → Leads before xs s m → Through (before ++ xs) n m o → Through before n s o
+    (before xs : List Stage) (n : ℕ) (s m : UnfoldingState) (o : Outcome UnfoldingState) → StagesLead before xs s m → Through (before ++ xs) n m o → Through before n s o
 through_later before xs n s m o leads r =
     record {
-      visits = xs ++ r.visits;
+      stages = xs ++ r.stages;
       end = r.end;
-      leads = leads_more before xs r.visits s m r.end leads r.leads;
-      all = r.all ∙ append_assoc before xs r.visits;
+      leads = leads_more before xs r.stages s m r.end leads r.leads;
+      all = r.all ∙ append_assoc before xs r.stages;
       kept = r.kept;
       is = r.is;
     }
 
-fails_behind : (before xs : List Visit) (s m : State) (o : Outcome State) → Leads before xs s m → Fails (before ++ xs) m o → Fails before s o
+fails_behind : (before xs : List Stage) (s m : UnfoldingState) (o : Outcome UnfoldingState) → StagesLead before xs s m → Fails (before ++ xs) m o → Fails before s o
 fails_behind before xs s m o leads f =
     record {
       done = xs ++ f.done;
       there = f.there;
       leads = leads_more before xs f.done s m f.there leads f.leads;
       who = f.who;
-      meeting = f.meeting;
-      next = subst (λ b. IsNext b (meets f.who f.meeting) f.there) (append_assoc before xs f.done) f.next;
+      visit = f.visit;
+      next = subst (λ b. IsNextStage b (comes f.who f.visit) f.there) (append_assoc before xs f.done) f.next;
       kind = f.kind;
       fails = f.fails;
       is = f.is;
     }
 
-abbrev Told : List Visit → ℕ → State → Outcome State → Type 0
+abbrev Told : List Stage → ℕ → UnfoldingState → Outcome UnfoldingState → Type 0
 Told before n s o = Through before n s o ⊎ Fails before s o
 
 told_later :
-    (before xs : List Visit) (n : ℕ) (s m : State) (o q : Outcome State) → Leads before xs s m → q ≡ o → Told (before ++ xs) n m o → Told before n s q
+    (before xs : List Stage) (n : ℕ) (s m : UnfoldingState) (o q : Outcome UnfoldingState) → StagesLead before xs s m → q ≡ o → Told (before ++ xs) n m o → Told before n s q
 told_later before xs n s m o q leads same (inl r) = inl (through_later before xs n s m q leads (subst (λ z. Through (before ++ xs) n m z) (sym same) r))
 told_later before xs n s m o q leads same (inr f) = inr (fails_behind before xs s m q leads (subst (λ z. Fails (before ++ xs) m z) (sym same) f))
 
-module _ (n t : ℕ) (before : List Visit) (s : State) (kept : IsKept s) (own : before ≡ visits_below t s) (rest : (b : List Visit) (e : State) → IsKept e → b ≡ visits_below (t + 1) e → Told b (t + 1 + n) e (unfold_tasks n (t + 1) e)) where
+module _ (n t : ℕ) (before : List Stage) (s : UnfoldingState) (kept : IsKept s) (own : before ≡ stages_below t s) (rest : (b : List Stage) (e : UnfoldingState) → IsKept e → b ≡ stages_below (t + 1) e → Told b (t + 1 + n) e (unfold_tasks n (t + 1) e)) where
   -- a task with this start
   started : (start : Start) → slice_index_or s.starts t None ≡ Some start → Told before (t + 1 + n) s (unfold_task t (Some start) s >>= unfold_tasks n (t + 1))
   started start is =
       let here : t < length s.plan.parents = inside in
-      let ms = meetings_of start.first start.body in
+      let ms = visits_of start.first start.body in
       let e = with_names start.names s in
-      let visits = map (λ m. meets t m) ms in
-      let whole : before ++ (begins t ∷ visits) ≡ visits_below (suc t) s = ap (λ b. b ++ (begins t ∷ visits)) own ∙ ap (λ o. visits_below t s ++ visits_of t o) (sym is) in
-      let first : Leads before (begins t ∷ []) s e = (next_of before t (begins t) visits s here whole, tt, ap (λ o. begun o s) is) in
-      let own_now : (before ++ begins t ∷ []) ++ visits ≡ visits_below (suc t) e =
-      append_assoc before (begins t ∷ []) visits ∙ whole ∙ sym (visits_same (suc t) s e (λ u l. refl)) in
+      let stages = map (λ m. comes t m) ms in
+      let whole : before ++ (begins t ∷ stages) ≡ stages_below (suc t) s = ap (λ b. b ++ (begins t ∷ stages)) own ∙ ap (λ o. stages_below t s ++ stages_of t o) (sym is) in
+      let first : StagesLead before (begins t ∷ []) s e = (next_of before t (begins t) stages s here whole, tt, ap (λ o. with_start_names o s) is) in
+      let own_now : (before ++ begins t ∷ []) ++ stages ≡ stages_below (suc t) e =
+      append_assoc before (begins t ∷ []) stages ∙ whole ∙ sym (stages_same (suc t) s e (λ u l. refl)) in
       let kept_now : IsKept e = record { drawn = kept.drawn; many = kept.many; few = kept.few } in
-      elim (meets_all t (before ++ begins t ∷ []) ms e kept_now here own_now) [
+      elim (comes_all t (before ++ begins t ∷ []) ms e kept_now here own_now) [
         | inl went ↦
-            let leads : Leads before (begins t ∷ visits) s went.end = leads_more before (begins t ∷ []) visits s e went.end first went.leads in
-            let below : before ++ (begins t ∷ visits) ≡ visits_below (t + 1) went.end =
-            whole ∙ sym (visits_same (suc t) s went.end (λ u l. went.keeps.starts u (omega arith))) ∙ ap (λ m. visits_below m went.end) (let z : suc t ≡ t + 1 = omega arith in z) in
-            told_later before (begins t ∷ visits) (t + 1 + n) s went.end (unfold_tasks n (t + 1) went.end) (unfold_task t (Some start) s >>= unfold_tasks n (t + 1)) leads
-            (ap (λ o. o >>= unfold_tasks n (t + 1)) went.is) (rest (before ++ (begins t ∷ visits)) went.end went.keeps.kept below)
+            let leads : StagesLead before (begins t ∷ stages) s went.end = leads_more before (begins t ∷ []) stages s e went.end first went.leads in
+            let below : before ++ (begins t ∷ stages) ≡ stages_below (t + 1) went.end =
+            whole ∙ sym (stages_same (suc t) s went.end (λ u l. went.keeps.starts u (omega arith))) ∙ ap (λ m. stages_below m went.end) (let z : suc t ≡ t + 1 = omega arith in z) in
+            told_later before (begins t ∷ stages) (t + 1 + n) s went.end (unfold_tasks n (t + 1) went.end) (unfold_task t (Some start) s >>= unfold_tasks n (t + 1)) leads
+            (ap (λ o. o >>= unfold_tasks n (t + 1)) went.is) (rest (before ++ (begins t ∷ stages)) went.end went.keeps.kept below)
         | inr fails ↦
             let f = fails_behind before (begins t ∷ []) s e (unfold_task t (Some start) s) first fails in
             inr (record {
@@ -310,7 +310,7 @@ module _ (n t : ℕ) (before : List Visit) (s : State) (kept : IsKept s) (own : 
               there = f.there;
               leads = f.leads;
               who = f.who;
-              meeting = f.meeting;
+              visit = f.visit;
               next = f.next;
               kind = f.kind;
               fails = f.fails;
@@ -328,17 +328,17 @@ module _ (n t : ℕ) (before : List Visit) (s : State) (kept : IsKept s) (own : 
   by_start : (o : Option Start) → slice_index_or s.starts t None ≡ o → Told before (t + 1 + n) s (unfold_task t o s >>= unfold_tasks n (t + 1))
   by_start None is =
       rest before s kept
-      (own ∙ sym (append_nil (visits_below t s)) ∙ ap (λ o. visits_below t s ++ visits_of t o) (sym is) ∙ ap (λ m. visits_below m s) (let z : suc t ≡ t + 1 = omega arith in z))
+      (own ∙ sym (append_nil (stages_below t s)) ∙ ap (λ o. stages_below t s ++ stages_of t o) (sym is) ∙ ap (λ m. stages_below m s) (let z : suc t ≡ t + 1 = omega arith in z))
   by_start (Some start) is = started start is
 
-tasks : (n t : ℕ) (before : List Visit) (s : State) → IsKept s → before ≡ visits_below t s → Told before (t + n) s (unfold_tasks n t s)
+tasks : (n t : ℕ) (before : List Stage) (s : UnfoldingState) → IsKept s → before ≡ stages_below t s → Told before (t + n) s (unfold_tasks n t s)
 unfolding unfold_tasks
 tasks zero t before s kept own =
     inl (record {
-      visits = [];
+      stages = [];
       end = s;
       leads = refl;
-      all = ap (λ m. visits_below m s) (let z : t + 0 ≡ t = omega arith in z) ∙ sym own ∙ sym (append_nil before);
+      all = ap (λ m. stages_below m s) (let z : t + 0 ≡ t = omega arith in z) ∙ sym own ∙ sym (append_nil before);
       kept = kept;
       is = refl;
     })
@@ -353,48 +353,48 @@ opening_kept program = record { drawn = none_drawn; many = refl; few = omega ari
     none_drawn zero u is = absurd (false≢true is)
     none_drawn (suc c) u is = absurd (false≢true is)
 
--- ---- there is one list of visits
+-- ---- there is one list of stages
 
-append_same : (before : List Visit) (v w : Visit) (r q : List Visit) → before ++ (v ∷ r) ≡ before ++ (w ∷ q) → v ≡ w
+append_same : (before : List Stage) (v w : Stage) (r q : List Stage) → before ++ (v ∷ r) ≡ before ++ (w ∷ q) → v ≡ w
 append_same [] v w r q e = cc
 append_same (b ∷ before) v w r q e = append_same before v w r q (let rest : before ++ (v ∷ r) ≡ before ++ (w ∷ q) = cc in rest)
 
-next_same : (before : List Visit) (v w : Visit) (s : State) → IsNext before v s → IsNext before w s → v ≡ w
+next_same : (before : List Stage) (v w : Stage) (s : UnfoldingState) → IsNextStage before v s → IsNextStage before w s → v ≡ w
 next_same before v w s a b = append_same before v w a.0 b.0 (sym a.1 ∙ b.1)
 
--- behind these visits there is no further one that passes
-abbrev IsBlocked : List Visit → State → Type 0
-IsBlocked before s = (v : Visit) → IsNext before v s → VisitPasses v s → ⊥
+-- behind these stages there is no further one that passes
+abbrev IsBlocked : List Stage → UnfoldingState → Type 0
+IsBlocked before s = (v : Stage) → IsNextStage before v s → StagePasses v s → ⊥
 
 one_way :
-    (before xs ys : List Visit) (s d e : State) → Leads before xs s d → Leads before ys s e → IsBlocked (before ++ xs) d → IsBlocked (before ++ ys) e →
+    (before xs ys : List Stage) (s d e : UnfoldingState) → StagesLead before xs s d → StagesLead before ys s e → IsBlocked (before ++ xs) d → IsBlocked (before ++ ys) e →
     xs ≡ ys × d ≡ e
 one_way before [] [] s d e a b ends ends' = (refl, sym a ∙ b)
 one_way before [] (y ∷ ys) s d e a b ends ends' =
-    absurd (subst (λ z. IsBlocked z d) (append_nil before) ends y (subst (λ z. IsNext before y z) a b.0) (subst (λ z. VisitPasses y z) a b.1))
+    absurd (subst (λ z. IsBlocked z d) (append_nil before) ends y (subst (λ z. IsNextStage before y z) a b.0) (subst (λ z. StagePasses y z) a b.1))
 one_way before (x ∷ xs) [] s d e a b ends ends' =
-    absurd (subst (λ z. IsBlocked z e) (append_nil before) ends' x (subst (λ z. IsNext before x z) b a.0) (subst (λ z. VisitPasses x z) b a.1))
+    absurd (subst (λ z. IsBlocked z e) (append_nil before) ends' x (subst (λ z. IsNextStage before x z) b a.0) (subst (λ z. StagePasses x z) b a.1))
 one_way before (x ∷ xs) (y ∷ ys) s d e a b ends ends' =
     let same = next_same before y x s b.0 a.0 in
-    let r = one_way (before ++ x ∷ []) xs ys (after_visit x s) d e a.2 (subst (λ v. Leads (before ++ v ∷ []) ys (after_visit v s) e) same b.2)
+    let r = one_way (before ++ x ∷ []) xs ys (after_stage x s) d e a.2 (subst (λ v. StagesLead (before ++ v ∷ []) ys (after_stage v s) e) same b.2)
     (subst (λ z. IsBlocked z d) (sym (append_assoc before (x ∷ []) xs)) ends)
     (subst (λ z. IsBlocked z e) (sym (append_assoc before (x ∷ []) ys)) (subst (λ v. IsBlocked (before ++ (v ∷ ys)) e) same ends')) in (
       ap (λ zs. x ∷ zs) r.0 ∙ ap (λ v. v ∷ ys) (sym same),
       r.1,
     )
 
--- no visit follows all
-longer : (run : List Visit) (v : Visit) (rest : List Visit) → run ≡ run ++ (v ∷ rest) → ⊥
+-- no stage follows all
+longer : (run : List Stage) (v : Stage) (rest : List Stage) → run ≡ run ++ (v ∷ rest) → ⊥
 longer run v rest e = absurd (omega (arith, ap length e, length-append run (v ∷ rest)))
 
-all_blocks : (run : List Visit) (s : State) → all_visits s ≡ run → IsBlocked run s
+all_blocks : (run : List Stage) (s : UnfoldingState) → all_stages s ≡ run → IsBlocked run s
 all_blocks run s all v next passes = longer run v next.0 (sym all ∙ next.1)
 
 fault_blocks :
-    (run : List Visit) (s : State) (t : ℕ) (m : Meeting) (kind : ℕ) → IsNext run (meets t m) s → first_kind table s t m.coming ≡ Some kind → IsBlocked run s
+    (run : List Stage) (s : UnfoldingState) (t : ℕ) (m : Visit) (kind : ℕ) → IsNextStage run (comes t m) s → first_kind table s t m.coming ≡ Some kind → IsBlocked run s
 fault_blocks run s t m kind next fails v other passes =
-    let same = next_same run v (meets t m) s other next in
-    absurd (let none = kind_none s t m.coming (subst (λ w. VisitPasses w s) same passes) in cc)
+    let same = next_same run v (comes t m) s other next in
+    absurd (let none = kind_none s t m.coming (subst (λ w. StagePasses w s) same passes) in cc)
 
 -- ---- the two laws
 
@@ -405,33 +405,33 @@ Found program = Told [] 1024 (opening_state program) (unfold_tasks 1024 0 (openi
 found : (program : Tree) → Found program
 found program = tasks 1024 0 [] (opening_state program) (opening_kept program) refl
 
--- the end of a whole unfolding has all visits
-through_all : (program : Tree) (o : Outcome State) → (r : Through [] 1024 (opening_state program) o) → all_visits r.end ≡ r.visits
+-- the end of a whole unfolding has all stages
+through_all : (program : Tree) (o : Outcome UnfoldingState) → (r : Through [] 1024 (opening_state program) o) → all_stages r.end ≡ r.stages
 through_all program o r =
     let n = 1024 - length r.end.plan.parents in
     let few = r.kept.few in
-    sym (visits_past (length r.end.plan.parents) n r.end (omega (arith, r.kept.many)))
-    ∙ ap (λ m. visits_below m r.end) (let e : length r.end.plan.parents + n ≡ 1024 = omega arith in e)
+    sym (stages_past (length r.end.plan.parents) n r.end (omega (arith, r.kept.many)))
+    ∙ ap (λ m. stages_below m r.end) (let e : length r.end.plan.parents + n ≡ 1024 = omega arith in e)
     ∙ r.all
 
-unfolds_of : (program : Tree) (o : Outcome State) (r : Through [] 1024 (opening_state program) o) → Unfolds program r.end.plan
-unfolds_of program o r = record { visits = r.visits; end = r.end; leads = r.leads; all = through_all program o r; plan_is = refl }
+unfolds_of : (program : Tree) (o : Outcome UnfoldingState) (r : Through [] 1024 (opening_state program) o) → Unfolds program r.end.plan
+unfolds_of program o r = record { stages = r.stages; end = r.end; leads = r.leads; all = through_all program o r; plan_is = refl }
 
 fault_of :
-    (program : Tree) (o : Outcome State) (f : Fails [] (opening_state program) o) → IsFirstFault program (fault f.kind f.meeting.statement)
+    (program : Tree) (o : Outcome UnfoldingState) (f : Fails [] (opening_state program) o) → IsFirstCheckFault program (fault f.kind f.visit.statement)
 fault_of program o f =
     record {
-      visits = f.done;
+      stages = f.done;
       there = f.there;
       leads = f.leads;
       task = f.who;
-      meeting = f.meeting;
+      visit = f.visit;
       next = f.next;
-      fails = first_if f.there f.who f.meeting.coming f.kind f.fails;
+      fails = first_if f.there f.who f.visit.coming f.kind f.fails;
       statement = refl;
     }
 
-abbrev planned : Outcome State → Outcome Plan
+abbrev planned : Outcome UnfoldingState → Outcome Plan
 planned o = o >>= λ s. Ok s.plan
 
 ok_same : (a b : Plan) → ◌≡◌ {A = Outcome Plan} (Ok a) (Ok b) → a ≡ b
@@ -441,48 +441,48 @@ err_same : (a b : CheckFault) → ◌≡◌ {A = Outcome Plan} (Err a) (Err b) �
 err_same a b e = cc
 
 module _ (program : Tree) where
-  from_found : (o : Outcome State) → Told [] 1024 (opening_state program) o → (plan : Plan) → planned o ≡ Ok plan → Unfolds program plan
+  from_found : (o : Outcome UnfoldingState) → Told [] 1024 (opening_state program) o → (plan : Plan) → planned o ≡ Ok plan → Unfolds program plan
   from_found o (inl r) plan e = subst (λ p. Unfolds program p) (ok_same r.end.plan plan (ap planned (sym r.is) ∙ e)) (unfolds_of program o r)
   from_found o (inr f) plan e = absurd (let g = ap planned f.is in cc)
 
-  from_fails : (o : Outcome State) → Told [] 1024 (opening_state program) o → (f : CheckFault) → planned o ≡ Err f → IsFirstFault program f
+  from_fails : (o : Outcome UnfoldingState) → Told [] 1024 (opening_state program) o → (f : CheckFault) → planned o ≡ Err f → IsFirstCheckFault program f
   from_fails o (inl r) g e = absurd (let h = ap planned r.is in cc)
-  from_fails o (inr f) g e = subst (λ z. IsFirstFault program z) (err_same (fault f.kind f.meeting.statement) g (ap planned (sym f.is) ∙ e)) (fault_of program o f)
+  from_fails o (inr f) g e = subst (λ z. IsFirstCheckFault program z) (err_same (fault f.kind f.visit.statement) g (ap planned (sym f.is) ∙ e)) (fault_of program o f)
 
-  to_plan : (o : Outcome State) → Told [] 1024 (opening_state program) o → (plan : Plan) → Unfolds program plan → planned o ≡ Ok plan
+  to_plan : (o : Outcome UnfoldingState) → Told [] 1024 (opening_state program) o → (plan : Plan) → Unfolds program plan → planned o ≡ Ok plan
   to_plan o (inl r) plan u =
-      let same = one_way [] r.visits u.visits (opening_state program) r.end u.end r.leads u.leads (all_blocks r.visits r.end (through_all program o r)) (all_blocks u.visits u.end u.all) in
-      ap planned r.is ∙ ap (λ (s : State). Ok s.plan) same.1 ∙ ap Ok u.plan_is
+      let same = one_way [] r.stages u.stages (opening_state program) r.end u.end r.leads u.leads (all_blocks r.stages r.end (through_all program o r)) (all_blocks u.stages u.end u.all) in
+      ap planned r.is ∙ ap (λ (s : UnfoldingState). Ok s.plan) same.1 ∙ ap Ok u.plan_is
   to_plan o (inr f) plan u =
-      let same = one_way [] f.done u.visits (opening_state program) f.there u.end f.leads u.leads
-      (fault_blocks f.done f.there f.who f.meeting f.kind f.next f.fails) (all_blocks u.visits u.end u.all) in
-      let next : IsNext u.visits (meets f.who f.meeting) u.end =
-      subst (λ z. IsNext u.visits (meets f.who f.meeting) z) same.1 (subst (λ b. IsNext b (meets f.who f.meeting) f.there) same.0 f.next) in
-      absurd (longer u.visits (meets f.who f.meeting) next.0 (sym u.all ∙ next.1))
+      let same = one_way [] f.done u.stages (opening_state program) f.there u.end f.leads u.leads
+      (fault_blocks f.done f.there f.who f.visit f.kind f.next f.fails) (all_blocks u.stages u.end u.all) in
+      let next : IsNextStage u.stages (comes f.who f.visit) u.end =
+      subst (λ z. IsNextStage u.stages (comes f.who f.visit) z) same.1 (subst (λ b. IsNextStage b (comes f.who f.visit) f.there) same.0 f.next) in
+      absurd (longer u.stages (comes f.who f.visit) next.0 (sym u.all ∙ next.1))
 
-  to_fault : (o : Outcome State) → Told [] 1024 (opening_state program) o → (g : CheckFault) → IsFirstFault program g → planned o ≡ Err g
+  to_fault : (o : Outcome UnfoldingState) → Told [] 1024 (opening_state program) o → (g : CheckFault) → IsFirstCheckFault program g → planned o ≡ Err g
   to_fault o (inl r) g u =
-      let kind = kind_some u.there u.task u.meeting.coming g.kind u.fails in
-      let same = one_way [] r.visits u.visits (opening_state program) r.end u.there r.leads u.leads (all_blocks r.visits r.end (through_all program o r))
-      (fault_blocks u.visits u.there u.task u.meeting g.kind u.next kind) in
-      let next : IsNext r.visits (meets u.task u.meeting) r.end =
-      subst (λ z. IsNext r.visits (meets u.task u.meeting) z) (sym same.1) (subst (λ b. IsNext b (meets u.task u.meeting) u.there) (sym same.0) u.next) in
-      absurd (longer r.visits (meets u.task u.meeting) next.0 (sym (through_all program o r) ∙ next.1))
+      let kind = kind_some u.there u.task u.visit.coming g.kind u.fails in
+      let same = one_way [] r.stages u.stages (opening_state program) r.end u.there r.leads u.leads (all_blocks r.stages r.end (through_all program o r))
+      (fault_blocks u.stages u.there u.task u.visit g.kind u.next kind) in
+      let next : IsNextStage r.stages (comes u.task u.visit) r.end =
+      subst (λ z. IsNextStage r.stages (comes u.task u.visit) z) (sym same.1) (subst (λ b. IsNextStage b (comes u.task u.visit) u.there) (sym same.0) u.next) in
+      absurd (longer r.stages (comes u.task u.visit) next.0 (sym (through_all program o r) ∙ next.1))
   to_fault o (inr f) g u =
-      let kind = kind_some u.there u.task u.meeting.coming g.kind u.fails in
-      let same = one_way [] f.done u.visits (opening_state program) f.there u.there f.leads u.leads
-      (fault_blocks f.done f.there f.who f.meeting f.kind f.next f.fails) (fault_blocks u.visits u.there u.task u.meeting g.kind u.next kind) in
-      let next : IsNext u.visits (meets f.who f.meeting) u.there =
-      subst (λ z. IsNext u.visits (meets f.who f.meeting) z) same.1 (subst (λ b. IsNext b (meets f.who f.meeting) f.there) same.0 f.next) in
-      let visit = next_same u.visits (meets f.who f.meeting) (meets u.task u.meeting) u.there next u.next in
+      let kind = kind_some u.there u.task u.visit.coming g.kind u.fails in
+      let same = one_way [] f.done u.stages (opening_state program) f.there u.there f.leads u.leads
+      (fault_blocks f.done f.there f.who f.visit f.kind f.next f.fails) (fault_blocks u.stages u.there u.task u.visit g.kind u.next kind) in
+      let next : IsNextStage u.stages (comes f.who f.visit) u.there =
+      subst (λ z. IsNextStage u.stages (comes f.who f.visit) z) same.1 (subst (λ b. IsNextStage b (comes f.who f.visit) f.there) same.0 f.next) in
+      let stage = next_same u.stages (comes f.who f.visit) (comes u.task u.visit) u.there next u.next in
       let who : f.who ≡ u.task = (cc) in
-      let meeting : f.meeting ≡ u.meeting = (cc) in
-      let fails : first_kind table u.there u.task u.meeting.coming ≡ Some f.kind =
-      subst (λ z. first_kind table z u.task u.meeting.coming ≡ Some f.kind) same.1
-      (subst (λ w. first_kind table f.there w u.meeting.coming ≡ Some f.kind) who
-      (subst (λ (m : Meeting). first_kind table f.there f.who m.coming ≡ Some f.kind) meeting f.fails)) in
+      let visit : f.visit ≡ u.visit = (cc) in
+      let fails : first_kind table u.there u.task u.visit.coming ≡ Some f.kind =
+      subst (λ z. first_kind table z u.task u.visit.coming ≡ Some f.kind) same.1
+      (subst (λ w. first_kind table f.there w u.visit.coming ≡ Some f.kind) who
+      (subst (λ (m : Visit). first_kind table f.there f.who m.coming ≡ Some f.kind) visit f.fails)) in
       let kinds : f.kind ≡ g.kind = (let a : Some f.kind ≡ Some g.kind = sym fails ∙ kind in cc) in
-      let numbers : f.meeting.statement ≡ g.statement = ap (λ (m : Meeting). m.statement) meeting ∙ u.statement in
+      let numbers : f.visit.statement ≡ g.statement = ap (λ (m : Visit). m.statement) visit ∙ u.statement in
       ap planned f.is ∙ ap Err (λ i. fault (kinds i) (numbers i))
 
 pub plan_is_unfolded : PlanIsUnfolded

@@ -5,27 +5,27 @@ use Rattle.pl_plan.specs.declared.step.NameId.{NameId}
 use Rattle.pl_plan.specs.declared.step.Step.{Step}
 use Rattle.pl_plan.specs.declared.step.Step.TheVariants as a_step
 use Rattle.pl_plan.specs.declared.fault.CheckFault.{CheckFault}
-use Rattle.pl_plan.specs.inside.Steps.{IsName, IsStep, step_at, IsSpelled, IsList}
-use Rattle.pl_plan.specs.inside.Checker.{Checker, Fits, Keeps}
+use Rattle.pl_plan.specs.inside.Steps.{IsNumberOfName, IsStep, step_at, IsSpelled, IsList}
+use Rattle.pl_plan.specs.inside.Checker.{Checker, IsChecker, Keeps}
 use Rattle.pl_plan.specs.inside.CheckerSteps.{checker_act, HasNames}
-use Rattle.pl_plan.specs.Unfolding.{State, Outcome, ◌>>=◌, Meeting, meetings_of, meet, meet_all, act}
-use Rattle.pl_plan.specs.inside.Shows.{Shows}
+use Rattle.pl_plan.specs.Unfolding.{UnfoldingState, Outcome, ◌>>=◌, Visit, visits_of, make_visit, make_visits, act}
+use Rattle.pl_plan.specs.inside.Shows.{ShowsState}
 use Rattle.pl_plan.specs.inside.Simulates.{Simulates, KeepsAll}
 use Rattle.pl_plan.proofs.Spelled.{spelled_count}
 use Rattle.pl_plan.proofs.Simulating as simulating
 
-pub bind_bind : (o : Outcome State) (f g : State → Outcome State) → ((o >>= f) >>= g) ≡ (o >>= λ s. f s >>= g)
+pub bind_bind : (o : Outcome UnfoldingState) (f g : UnfoldingState → Outcome UnfoldingState) → ((o >>= f) >>= g) ≡ (o >>= λ s. f s >>= g)
 bind_bind (Ok s) f g = refl
 bind_bind (Err e) f g = refl
 
-pub meet_all-append : (t : ℕ) (xs ys : List Meeting) (s : State) → meet_all t (xs ++ ys) s ≡ (meet_all t xs s >>= meet_all t ys)
-unfolding meet_all
-meet_all-append t [] ys s = refl
-meet_all-append t (x ∷ xs) ys s = ap (λ f. meet t x s >>= f) (λ i s'. meet_all-append t xs ys s' i) ∙ sym (bind_bind (meet t x s) (meet_all t xs) (meet_all t ys))
+pub make_visits-append : (t : ℕ) (xs ys : List Visit) (s : UnfoldingState) → make_visits t (xs ++ ys) s ≡ (make_visits t xs s >>= make_visits t ys)
+unfolding make_visits
+make_visits-append t [] ys s = refl
+make_visits-append t (x ∷ xs) ys s = ap (λ f. make_visit t x s >>= f) (λ i s'. make_visits-append t xs ys s' i) ∙ sym (bind_bind (make_visit t x s) (make_visits t xs) (make_visits t ys))
 
 -- ---- a statement without a body
 
-pub simulates_acting : (names : ℕ → List ℕ) (k : Checker) (s : State) → Fits k → Shows names k s → (t n : ℕ) → t < length k.parents → (step : Step) (c : Plain) → IsStep (length k.slots) names step c → Simulates names (checker_act t n step k) (act t n c s)
+pub simulates_acting : (names : ℕ → List ℕ) (k : Checker) (s : UnfoldingState) → IsChecker k → ShowsState names k s → (t n : ℕ) → t < length k.parents → (step : Step) (c : Plain) → IsStep (length k.slots) names step c → Simulates names (checker_act t n step k) (act t n c s)
 unfolding act
 simulates_acting names k s f h t n r step (new_task x) e = subst (λ z. Simulates names (checker_act t n z k) (act t n (new_task x) s)) (sym e.1) (subst (λ y. Simulates names (checker_act t n (a_step.NewTask e.0) k) (act t n (new_task y) s)) e.2.1 (simulating.simulates_new_task names k s f h t n r e.0.0 e.2.0))
 simulates_acting names k s f h t n r step (new_phaser x) e = subst (λ z. Simulates names (checker_act t n z k) (act t n (new_phaser x) s)) (sym e.1) (subst (λ y. Simulates names (checker_act t n (a_step.NewPhaser e.0) k) (act t n (new_phaser y) s)) e.2.1 (simulating.simulates_new_phaser names k s f h t n r e.0.0 e.2.0))
@@ -36,7 +36,7 @@ simulates_acting names k s f h t n r step (adv x) e = subst (λ z. Simulates nam
 simulates_acting names k s f h t n r step (await x) e = subst (λ z. Simulates names (checker_act t n z k) (act t n (await x) s)) (sym e.1) (subst (λ y. Simulates names (checker_act t n (a_step.Await e.0) k) (act t n (await y) s)) e.2.1 (simulating.simulates_await names k s f h t n r e.0.0 e.2.0))
 simulates_acting names k s f h t n r step skip e = subst (λ z. Simulates names (checker_act t n z k) (act t n skip s)) (sym e) (s, refl, h)
 
-pub keeps_acting : (k : Checker) → Fits k → (t n : ℕ) (step : Step) → HasNames (length k.slots) step → KeepsAll k (checker_act t n step k)
+pub keeps_acting : (k : Checker) → IsChecker k → (t n : ℕ) (step : Step) → HasNames (length k.slots) step → KeepsAll k (checker_act t n step k)
 keeps_acting k f t n (a_step.NewTask x) h = simulating.keeps_new_task k f t n x.0 h
 keeps_acting k f t n (a_step.NewPhaser x) h = simulating.keeps_new_phaser k f t n x.0 h
 keeps_acting k f t n (a_step.Reg x y) h = simulating.keeps_reg k f t n x.0 y.0
@@ -58,25 +58,25 @@ names_of n names step skip e = subst (HasNames n) (sym e) tt
 
 -- ---- on from one index to another
 
-pub record Rest (names : ℕ → List ℕ) (n to t : ℕ) (steps : List Step) (all : Outcome State) (at : ℕ) (k : Checker) : Type 0 where
+pub record Rest (names : ℕ → List ℕ) (n to t : ℕ) (steps : List Step) (all : Outcome UnfoldingState) (at : ℕ) (k : Checker) : Type 0 where
   pub rest : Tree
-  pub state : State
+  pub state : UnfoldingState
   pub spelled : IsSpelled n names steps at rest to
-  pub shows : Shows names k state
-  pub same : meet_all t (meetings_of (at + 1) rest) state ≡ all
+  pub shows : ShowsState names k state
+  pub same : make_visits t (visits_of (at + 1) rest) state ≡ all
 
 pub record On (n to t : ℕ) (steps : List Step) (at : ℕ) (k : Checker) (at' : ℕ) (k' : Checker) : Type 0 where
   pub within : at' ≤ to
   pub forward : at ≤ at'
   pub list : IsList n steps at' to
   pub keeps : Keeps k k'
-  pub all : (names : ℕ → List ℕ) (s : State) (tree : Tree) → IsSpelled n names steps at tree to → Shows names k s → Rest names n to t steps (meet_all t (meetings_of (at + 1) tree) s) at' k'
+  pub all : (names : ℕ → List ℕ) (s : UnfoldingState) (tree : Tree) → IsSpelled n names steps at tree to → ShowsState names k s → Rest names n to t steps (make_visits t (visits_of (at + 1) tree) s) at' k'
 
 -- a fault from an index on
 abbrev pub Failed : ℕ → ℕ → ℕ → List Step → ℕ → Checker → CheckFault → Type 0
-Failed n to t steps at k f = (names : ℕ → List ℕ) (s : State) (tree : Tree) → IsSpelled n names steps at tree to → Shows names k s → meet_all t (meetings_of (at + 1) tree) s ≡ Err f
+Failed n to t steps at k f = (names : ℕ → List ℕ) (s : UnfoldingState) (tree : Tree) → IsSpelled n names steps at tree to → ShowsState names k s → make_visits t (visits_of (at + 1) tree) s ≡ Err f
 
-pub on_start : (n to t : ℕ) (steps : List Step) (at : ℕ) (k : Checker) → Fits k → IsList n steps at to → On n to t steps at k at k
+pub on_start : (n to t : ℕ) (steps : List Step) (at : ℕ) (k : Checker) → IsChecker k → IsList n steps at to → On n to t steps at k at k
 on_start n to t steps at k f list = record {
   within = (let c = spelled_count n list.0 steps at list.1 to list.2 in omega arith);
   forward = omega arith;
@@ -102,25 +102,25 @@ on_failed n to t steps a ka b kb f p q = λ names s tree e h.
     let r = p.all names s tree e h in
     sym r.same ∙ q names r.state r.rest r.spelled r.shows
 
-pub on_ended : (n to t : ℕ) (steps : List Step) (a : ℕ) (ka : Checker) (b : ℕ) (kb : Checker) (names : ℕ → List ℕ) (s : State) (tree : Tree) → to ≤ b → IsSpelled n names steps a tree to → Shows names ka s → On n to t steps a ka b kb →
-    (s' : State) × (meet_all t (meetings_of (a + 1) tree) s ≡ Ok s') × Shows names kb s'
-unfolding meet_all
+pub on_ended : (n to t : ℕ) (steps : List Step) (a : ℕ) (ka : Checker) (b : ℕ) (kb : Checker) (names : ℕ → List ℕ) (s : UnfoldingState) (tree : Tree) → to ≤ b → IsSpelled n names steps a tree to → ShowsState names ka s → On n to t steps a ka b kb →
+    (s' : UnfoldingState) × (make_visits t (visits_of (a + 1) tree) s ≡ Ok s') × ShowsState names kb s'
+unfolding make_visits
 on_ended n to t steps a ka b kb names s tree le e h p =
     let r = p.all names s tree e h in
     (r.state, sym r.same ∙ last r.state r.rest r.spelled, r.shows)
   where
-    last : (s' : State) (u : Tree) → IsSpelled n names steps b u to → meet_all t (meetings_of (b + 1) u) s' ≡ Ok s'
+    last : (s' : UnfoldingState) (u : Tree) → IsSpelled n names steps b u to → make_visits t (visits_of (b + 1) u) s' ≡ Ok s'
     last s' done e' = refl
     last s' (plain c rest) e' = absurd (let x = spelled_count n names steps b (plain c rest) to e' in omega arith)
     last s' (fork y body rest) e' = absurd (let x = spelled_count n names steps b (fork y body rest) to e' in omega arith)
     last s' (loop i body rest) e' = absurd (let x = spelled_count n names steps b (loop i body rest) to e' in omega arith)
 
--- ---- one meeting
+-- ---- one visit
 
-pub simulates_ok : (names : ℕ → List ℕ) (o : Outcome Checker) (k : Checker) (g : Outcome State) → o ≡ Ok k → Simulates names o g → (s : State) × (g ≡ Ok s) × Shows names k s
+pub simulates_ok : (names : ℕ → List ℕ) (o : Outcome Checker) (k : Checker) (g : Outcome UnfoldingState) → o ≡ Ok k → Simulates names o g → (s : UnfoldingState) × (g ≡ Ok s) × ShowsState names k s
 simulates_ok names o k g e h = subst (λ v. Simulates names v g) e h
 
-pub simulates_err : (names : ℕ → List ℕ) (o : Outcome Checker) (f : CheckFault) (g : Outcome State) → o ≡ Err f → Simulates names o g → g ≡ Err f
+pub simulates_err : (names : ℕ → List ℕ) (o : Outcome Checker) (f : CheckFault) (g : Outcome UnfoldingState) → o ≡ Err f → Simulates names o g → g ≡ Err f
 simulates_err names o f g e h = subst (λ v. Simulates names v g) e h
 
 pub keeps_ok : (k : Checker) (o : Outcome Checker) (new : Checker) → o ≡ Ok new → KeepsAll k o → Keeps k new
@@ -150,17 +150,17 @@ pub record ForkAt (n : ℕ) (names : ℕ → List ℕ) (steps : List Step) (i to
   pub body : Tree
   pub rest : Tree
   pub tree_is : tree ≡ fork name body rest
-  pub named : IsName n names x name
+  pub named : IsNumberOfName n names x name
   pub body_there : IsSpelled n names steps (i + 1) body after
   pub rest_there : IsSpelled n names steps after rest to
 
-fork_at_same : (n : ℕ) (names : ℕ → List ℕ) (steps : List Step) (i to : ℕ) (x x' : NameId) (after after' : ℕ) (name : List ℕ) (body rest : Tree) → x' ≡ x → after' ≡ after → IsName n names x' name → IsSpelled n names steps (i + 1) body after' → IsSpelled n names steps after' rest to → ForkAt n names steps i to x after (fork name body rest)
+fork_at_same : (n : ℕ) (names : ℕ → List ℕ) (steps : List Step) (i to : ℕ) (x x' : NameId) (after after' : ℕ) (name : List ℕ) (body rest : Tree) → x' ≡ x → after' ≡ after → IsNumberOfName n names x' name → IsSpelled n names steps (i + 1) body after' → IsSpelled n names steps after' rest to → ForkAt n names steps i to x after (fork name body rest)
 fork_at_same n names steps i to x x' after after' name body rest p q a b r = record {
   name = name;
   body = body;
   rest = rest;
   tree_is = refl;
-  named = subst (λ z. IsName n names z name) p a;
+  named = subst (λ z. IsNumberOfName n names z name) p a;
   body_there = subst (λ z. IsSpelled n names steps (i + 1) body z) q b;
   rest_there = subst (λ z. IsSpelled n names steps z rest to) q r;
 }

@@ -5,7 +5,7 @@ use Rattle.armus_base.specs.Plans.{Plan}
 use Rattle.armus_base.specs.CheckedPlans.{IsCheckedPlan}
 use Rattle.pl_plan.specs.declared.fault.CheckFault.{CheckFault}
 use Rattle.pl_plan.specs.Unfolding.{plan_of}
-use Rattle.pl_plan.specs.Visits.{Unfolds, IsFirstFault}
+use Rattle.pl_plan.specs.Stages.{Unfolds, IsFirstCheckFault}
 
 -- the plan to which a program unfolds is checked
 abbrev pub UnfoldedIsChecked : Type 0
@@ -23,4 +23,4 @@ PlanIsUnfolded = (program : Tree) (plan : Plan) → (plan_of program ≡ Ok plan
 
 -- the fault of a program is its first one, by the relation
 abbrev pub FaultIsFirst : Type 0
-FaultIsFirst = (program : Tree) (fault : CheckFault) → (plan_of program ≡ Err fault) ↔ IsFirstFault program fault
+FaultIsFirst = (program : Tree) (fault : CheckFault) → (plan_of program ≡ Err fault) ↔ IsFirstCheckFault program fault

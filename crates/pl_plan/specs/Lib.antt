@@ -2,7 +2,7 @@
 pub mod Limits
 pub mod Unfolding
 pub mod Tests
-pub mod Visits
+pub mod Stages
 pub mod Planning
 -- What is proved of it.
 pub mod Laws

@@ -6,7 +6,7 @@ use Rattle.pl_plan.specs.declared.fault.PlanEnd.TheVariants as ends
 use Rattle.pl_plan.specs.Unfolding.{Outcome}
 
 -- the plan, or the first fault, unless memory ran out
-abbrev pub Answers : Result Plan PlanEnd → Outcome Plan → Type 0
-Answers (Ok p) o = o ≡ Ok p
-Answers (Err (ends.Check f)) o = o ≡ Err f
-Answers (Err ends.NoMemory) o = Unit {0}
+abbrev pub GivesOutcome : Result Plan PlanEnd → Outcome Plan → Type 0
+GivesOutcome (Ok p) o = o ≡ Ok p
+GivesOutcome (Err (ends.Check f)) o = o ≡ Err f
+GivesOutcome (Err ends.NoMemory) o = Unit {0}

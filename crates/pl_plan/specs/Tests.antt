@@ -1,7 +1,7 @@
 -- The table of tests: which faults a coming to a statement may have, in the order in which they are tried.
 use Rattle.std.specs.Prelude.{◌≡◌, ℕ, Bool, true, false, not, ◌&&◌, ◌||◌, is_none, is_some, List, [], ◌∷◌, ◌++◌, length, slice_index_or, sum_by, Option, Some, None, nat_lt, Contains}
 use Rattle.pl_syntax.specs.Tree.{new_task, new_phaser, reg, dereg, adv, await}
-use Rattle.pl_plan.specs.Unfolding.{Coming, a_plain, a_fork, State, Thing, a_task, a_phaser, is_parent}
+use Rattle.pl_plan.specs.Unfolding.{Coming, a_plain, a_fork, UnfoldingState, Thing, a_task, a_phaser, is_parent}
 
 -- ---- which statements a row of the table concerns
 
@@ -49,41 +49,45 @@ abbrev pub second_name : Coming → List ℕ
 second_name (a_plain (reg x y)) = y
 second_name c = []
 
--- what x stands for, and what y
-abbrev pub first_thing : State → Coming → Option Thing
+-- what x stands for
+abbrev pub first_thing : UnfoldingState → Coming → Option Thing
 first_thing s c = s.names (first_name c)
 
-abbrev pub second_thing : State → Coming → Option Thing
+-- what y stands for
+abbrev pub second_thing : UnfoldingState → Coming → Option Thing
 second_thing s c = s.names (second_name c)
 
+-- it is a task
 abbrev pub is_task : Option Thing → Bool
 is_task (Some (a_task c)) = true
 is_task o = false
 
+-- it is a phaser
 abbrev pub is_phaser : Option Thing → Bool
 is_phaser (Some (a_phaser p)) = true
 is_phaser o = false
 
--- the number of a task, and of a phaser
+-- the number of a task, and 0 of what is none
 abbrev pub task_number : Option Thing → ℕ
 task_number (Some (a_task c)) = c
 task_number o = 0
 
+-- the number of a phaser, and 0 of what is none
 abbrev pub phaser_number : Option Thing → ℕ
 phaser_number (Some (a_phaser p)) = p
 phaser_number o = 0
 
 -- the phaser of which the current task has to be a member: y of a reg, x of the others
-abbrev pub phaser_wanted : State → Coming → ℕ
+abbrev pub phaser_wanted : UnfoldingState → Coming → ℕ
 phaser_wanted s (a_plain (reg x y)) = phaser_number (s.names y)
 phaser_wanted s c = phaser_number (first_thing s c)
 
 -- task t is the one that drew task c
-abbrev pub drew : State → ℕ → ℕ → Bool
+abbrev pub drew : UnfoldingState → ℕ → ℕ → Bool
 drew s t c = is_parent t (slice_index_or s.plan.parents c None)
 
 -- task c is forked
-abbrev pub is_forked : State → ℕ → Bool
+abbrev pub is_forked : UnfoldingState → ℕ → Bool
 is_forked s c = is_some (slice_index_or s.starts c None)
 
 -- ---- the table
@@ -91,14 +95,14 @@ is_forked s c = is_some (slice_index_or s.starts c None)
 -- a row of the table: the kind of the fault, and whether it is one for task t that comes to this in the state before
 pub record Row : Type 0 where
   pub kind : ℕ
-  pub fails : State → ℕ → Coming → Bool
+  pub fails : UnfoldingState → ℕ → Coming → Bool
 
-abbrev row : ℕ → (State → ℕ → Coming → Bool) → Row
+abbrev row : ℕ → (UnfoldingState → ℕ → Coming → Bool) → Row
 row kind fails = record { kind = kind; fails = fails }
 
--- all, and turns: this meeting is number 1,048,577
-abbrev pub no_meeting_left : Row
-no_meeting_left = row 10 (λ s t c. not (nat_lt s.meetings 1048576))
+-- all, and turns: this visit is number 1,048,577
+abbrev pub no_visit_left : Row
+no_visit_left = row 10 (λ s t c. not (nat_lt s.visits 1048576))
 
 -- fork, reg, dereg, adv, await: the name x is unknown
 abbrev pub first_unknown : Row
@@ -147,15 +151,15 @@ no_op_left = row 9 (λ s t c. (of_new_phaser c || (of_child c || of_member c)) &
 -- the rows, in the order in which they are tried
 abbrev pub table : List Row
 table =
-    no_meeting_left ∷ first_unknown ∷ first_of_other_kind ∷ second_unknown ∷ second_of_other_kind ∷ not_drawn ∷ forked_already ∷ no_member
+    no_visit_left ∷ first_unknown ∷ first_of_other_kind ∷ second_unknown ∷ second_of_other_kind ∷ not_drawn ∷ forked_already ∷ no_member
     ∷ member_already ∷ no_task_left ∷ no_phaser_left ∷ no_op_left ∷ []
 
 -- no row is at fault
-abbrev pub Passes : State → ℕ → Coming → Type 0
+abbrev pub Passes : UnfoldingState → ℕ → Coming → Type 0
 Passes s t c = (r : Row) → Contains table r → r.fails s t c ≡ false
 
 -- the first row at fault is of this kind
-pub record IsFirstFailing (s : State) (t : ℕ) (c : Coming) (kind : ℕ) : Type 0 where
+pub record IsFirstFailing (s : UnfoldingState) (t : ℕ) (c : Coming) (kind : ℕ) : Type 0 where
   pub before : List Row
   pub failing : Row
   pub after : List Row

@@ -1,9 +1,9 @@
--- The unfolding of a program: what each task comes to, what each meeting does, and the plan or the first check fault.
--- Read from the end: `plan_of` unfolds the tasks in order of number; a task's meetings are those of its body; `act` has the tests of each
+-- The unfolding of a program: what each task comes to, what each visit does, and the plan or the first check fault.
+-- Read from the end: `plan_of` unfolds the tasks in order of number; a task's visits are those of its body; `act` has the tests of each
 -- statement in their order, and what it does.
 use Rattle.std.specs.Prelude.{ℕ, zero, suc, ◌+◌, ◌==◌, Bool, true, false, not, ◌&&◌, if◌then◌else◌, is_some, List, [], ◌∷◌, ◌++◌, length, slice_set, slice_index_or, Option, Some, None, Result, Ok, Err, nat_lt, sum_by}
 use Rattle.std.specs.Str.{bytes_eq}
-use Rattle.pl_plan.specs.Limits.{max_meetings}
+use Rattle.pl_plan.specs.Limits.{max_visits}
 use Rattle.armus_base.specs.Limits.{max_tasks, max_phasers, max_ops}
 use Rattle.pl_syntax.specs.Tree.{Tree, done, plain, fork, loop, Plain, new_task, new_phaser, reg, dereg, adv, await, skip, count}
 use Rattle.armus_base.specs.declared.ids.TaskId.{TaskId}
@@ -23,7 +23,7 @@ pub data Coming : Type 0 where
   a_turn : Coming
 
 -- a coming to the statement with this number
-pub record Meeting : Type 0 where
+pub record Visit : Type 0 where
   pub statement : ℕ
   pub coming : Coming
 
@@ -33,16 +33,16 @@ times zero xs = []
 times (suc k) xs = xs ++ times k xs
 
 -- one coming to statement n
-abbrev pub meeting : ℕ → Coming → Meeting
-meeting n c = record { statement = n; coming = c }
+abbrev pub visit : ℕ → Coming → Visit
+visit n c = record { statement = n; coming = c }
 
--- the meetings of a list of statements, in order; its first statement has number n
-abbrev pub meetings_of : ℕ → Tree → List Meeting
-meetings_of n done = []
-meetings_of n (plain s rest) = meeting n (a_plain s) ∷ meetings_of (n + 1) rest
-meetings_of n (fork x body rest) = meeting n (a_fork x body) ∷ meetings_of (n + 1 + count body) rest
-meetings_of n (loop k body rest) =
-    meeting n a_loop ∷ (times k (meeting n a_turn ∷ meetings_of (n + 1) body) ++ meetings_of (n + 1 + count body) rest)
+-- the visits of a list of statements, in order; its first statement has number n
+abbrev pub visits_of : ℕ → Tree → List Visit
+visits_of n done = []
+visits_of n (plain s rest) = visit n (a_plain s) ∷ visits_of (n + 1) rest
+visits_of n (fork x body rest) = visit n (a_fork x body) ∷ visits_of (n + 1 + count body) rest
+visits_of n (loop k body rest) =
+    visit n a_loop ∷ (times k (visit n a_turn ∷ visits_of (n + 1) body) ++ visits_of (n + 1 + count body) rest)
 
 -- ---- states
 
@@ -56,8 +56,8 @@ abbrev pub Names : Type 0
 Names = List ℕ → Option Thing
 
 -- an assignment overwrites the name
-abbrev pub with_name : List ℕ → Thing → Names → Names
-with_name x v names y = if bytes_eq x y then Some v else names y
+abbrev pub assigned : List ℕ → Thing → Names → Names
+assigned x v names y = if bytes_eq x y then Some v else names y
 
 -- with what a task is forked: the body, the number of its first statement, and the names as they are at the fork
 pub record Start : Type 0 where
@@ -66,13 +66,13 @@ pub record Start : Type 0 where
   pub names : Names
 
 -- the plan so far, with a code for each task; with what each task was forked, if it was; who is a member where; the current task's names;
--- and how many meetings there were
-pub record State : Type 0 where
+-- and how many visits there were
+pub record UnfoldingState : Type 0 where
   pub plan : Plan
   pub starts : List (Option Start)
   pub members : ℕ → ℕ → Bool  -- of a task and a phaser
   pub names : Names
-  pub meetings : ℕ
+  pub visits : ℕ
 
 -- a value, or the first fault
 abbrev pub Outcome : Type 0 → Type 0
@@ -122,9 +122,9 @@ too_many_phasers = 8
 abbrev pub too_many_ops : ℕ
 too_many_ops = 9
 
--- no meeting more
-abbrev pub too_many_meetings : ℕ
-too_many_meetings = 10
+-- no visit more
+abbrev pub too_many_visits : ℕ
+too_many_visits = 10
 
 -- ---- tests
 
@@ -164,7 +164,7 @@ abbrev pub with_op : ℕ → Op → Plan → Plan
 with_op t o plan = record plan { codes = slice_set plan.codes t (slice_index_or plan.codes t [] ++ o ∷ []) }
 
 -- the test of the number of ops, and then the op
-unfoldable pub add_op : ℕ → ℕ → Op → State → Outcome State
+unfoldable pub add_op : ℕ → ℕ → Op → UnfoldingState → Outcome UnfoldingState
 add_op t n o s = do
   room ← fault_unless (nat_lt (sum_by length s.plan.codes) max_ops) too_many_ops n
   Ok (record s { plan = with_op t o s.plan })
@@ -178,30 +178,30 @@ abbrev pub is_parent : ℕ → Option TaskId → Bool
 is_parent t None = false
 is_parent t (Some u) = t == u.0
 
--- ---- meetings
+-- ---- visits
 
 -- task t draws a task
-abbrev pub with_new_task : ℕ → List ℕ → State → State
+abbrev pub with_new_task : ℕ → List ℕ → UnfoldingState → UnfoldingState
 with_new_task t x s = record s {
   plan = record s.plan { parents = s.plan.parents ++ Some (task t) ∷ []; codes = s.plan.codes ++ [] ∷ [] };
   starts = s.starts ++ None ∷ [];
-  names = with_name x (a_task (length s.plan.parents)) s.names;
+  names = assigned x (a_task (length s.plan.parents)) s.names;
 }
 
 -- task t makes a phaser, and is its one member
-abbrev pub with_new_phaser : ℕ → List ℕ → State → State
+abbrev pub with_new_phaser : ℕ → List ℕ → UnfoldingState → UnfoldingState
 with_new_phaser t x s = record s {
   plan = record s.plan { makers = s.plan.makers ++ task t ∷ [] };
   members = with_member t (length s.plan.makers) true s.members;
-  names = with_name x (a_phaser (length s.plan.makers)) s.names;
+  names = assigned x (a_phaser (length s.plan.makers)) s.names;
 }
 
 -- with these members
-abbrev pub with_members : (ℕ → ℕ → Bool) → State → State
+abbrev pub with_members : (ℕ → ℕ → Bool) → UnfoldingState → UnfoldingState
 with_members ms s = record s { members = ms }
 
 -- what this names is a phaser of which task t is a member
-unfoldable pub member_of : ℕ → ℕ → Option Thing → State → Outcome ℕ
+unfoldable pub member_of : ℕ → ℕ → Option Thing → UnfoldingState → Outcome ℕ
 member_of t n thing s = do
   p ← as_phaser n thing
   inside ← fault_unless (s.members t p) not_member n
@@ -212,15 +212,15 @@ abbrev pub unforked_child_by : ℕ → ℕ → Option TaskId → Bool → Outcom
 unforked_child_by t n parent forked = fault_unless (is_parent t parent) not_drawn_here n >>= λ _. fault_unless (not forked) already_forked n
 
 -- task t drew task c, and task c is not forked
-abbrev pub unforked_child : ℕ → ℕ → ℕ → State → Outcome (Unit {0})
+abbrev pub unforked_child : ℕ → ℕ → ℕ → UnfoldingState → Outcome (Unit {0})
 unforked_child t n c s = unforked_child_by t n (slice_index_or s.plan.parents c None) (is_some (slice_index_or s.starts c None))
 
 -- task c is forked with this
-abbrev pub with_start : ℕ → Start → State → State
+abbrev pub with_start : ℕ → Start → UnfoldingState → UnfoldingState
 with_start c start s = record s { starts = slice_set s.starts c (Some start) }
 
 -- what task t does at statement n, which is one without a body: its tests in their order, and its op
-unfoldable pub act : ℕ → ℕ → Plain → State → Outcome State
+unfoldable pub act : ℕ → ℕ → Plain → UnfoldingState → Outcome UnfoldingState
 act t n (new_task x) s = do
   room ← fault_unless (nat_lt (length s.plan.parents) max_tasks) too_many_tasks n
   Ok (with_new_task t x s)
@@ -246,58 +246,58 @@ act t n (await x) s = do
 act t n skip s = Ok s
 
 -- task t forks task x, at statement n: the next number is that of the body's first statement
-unfoldable pub act_fork : ℕ → ℕ → List ℕ → Tree → State → Outcome State
+unfoldable pub act_fork : ℕ → ℕ → List ℕ → Tree → UnfoldingState → Outcome UnfoldingState
 act_fork t n x body s = do
   c ← as_task n (s.names x)
   mine ← unforked_child t n c s
   add_op t n (op.Fork (task c)) (with_start c (record { body = body; first = n + 1; names = s.names }) s)
 
 -- task t comes to statement n; a loop and its turns do nothing of their own
-abbrev pub come_to : ℕ → ℕ → Coming → State → Outcome State
+abbrev pub come_to : ℕ → ℕ → Coming → UnfoldingState → Outcome UnfoldingState
 come_to t n (a_plain s) = act t n s
 come_to t n (a_fork x body) = act_fork t n x body
 come_to t n a_loop = λ s. Ok s
 come_to t n a_turn = λ s. Ok s
 
--- the test of the number of meetings, and one more
-unfoldable pub count_meeting : ℕ → State → Outcome State
-count_meeting n s = do
-  room ← fault_unless (nat_lt s.meetings max_meetings) too_many_meetings n
-  Ok (record s { meetings = s.meetings + 1 })
+-- the test of the number of visits, and one more
+unfoldable pub count_visit : ℕ → UnfoldingState → Outcome UnfoldingState
+count_visit n s = do
+  room ← fault_unless (nat_lt s.visits max_visits) too_many_visits n
+  Ok (record s { visits = s.visits + 1 })
 
--- a meeting of task t
-abbrev pub meet : ℕ → Meeting → State → Outcome State
-meet t m s = count_meeting m.statement s >>= come_to t m.statement m.coming
+-- a visit of task t
+abbrev pub make_visit : ℕ → Visit → UnfoldingState → Outcome UnfoldingState
+make_visit t m s = count_visit m.statement s >>= come_to t m.statement m.coming
 
--- meetings one after the other, up to the first fault
-unfoldable pub meet_all : ℕ → List Meeting → State → Outcome State
-meet_all t [] s = Ok s
-meet_all t (m ∷ ms) s = meet t m s >>= meet_all t ms
+-- visits one after the other, up to the first fault
+unfoldable pub make_visits : ℕ → List Visit → UnfoldingState → Outcome UnfoldingState
+make_visits t [] s = Ok s
+make_visits t (m ∷ ms) s = make_visit t m s >>= make_visits t ms
 
 -- ---- tasks
 
 -- with these names
-abbrev pub with_names : Names → State → State
+abbrev pub with_names : Names → UnfoldingState → UnfoldingState
 with_names names s = record s { names = names }
 
--- the meetings of task t, which begins with the names of its start; one that no fork names has none
-abbrev pub unfold_task : ℕ → Option Start → State → Outcome State
+-- the visits of task t, which begins with the names of its start; one that no fork names has none
+abbrev pub unfold_task : ℕ → Option Start → UnfoldingState → Outcome UnfoldingState
 unfold_task t None s = Ok s
-unfold_task t (Some start) s = meet_all t (meetings_of start.first start.body) (with_names start.names s)
+unfold_task t (Some start) s = make_visits t (visits_of start.first start.body) (with_names start.names s)
 
 -- the tasks from number t on, in order, of which there are at most n
-unfoldable pub unfold_tasks : ℕ → ℕ → State → Outcome State
+unfoldable pub unfold_tasks : ℕ → ℕ → UnfoldingState → Outcome UnfoldingState
 unfold_tasks zero t s = Ok s
 unfold_tasks (suc n) t s = unfold_task t (slice_index_or s.starts t None) s >>= unfold_tasks n (t + 1)
 
--- before the first meeting: task 0 alone, with the whole program
-abbrev pub opening_state : Tree → State
+-- before the first visit: task 0 alone, with the whole program
+abbrev pub opening_state : Tree → UnfoldingState
 opening_state p = record {
   plan = record { parents = None ∷ []; makers = []; codes = [] ∷ [] };
   starts = Some (record { body = p; first = 1; names = λ _. None }) ∷ [];
   members = λ _ _. false;
   names = λ _. None;
-  meetings = 0;
+  visits = 0;
 }
 
 -- the plan of a program, or its first fault

@@ -2,9 +2,9 @@
 
 ghost use Rattle.std.specs.Prelude.{◌≡◌, ◌+◌, ◌*◌, ◌<◌, ◌≤◌, ◌^◌, ◌++◌, ◌∷◌, [], length, replicate, slice_index_or, OnOk, IfOk, None, false, is_some, ℕ};
 ghost use Rattle.pl_plan.specs.inside.Steps.{step_at};
-ghost use Rattle.pl_plan.specs.inside.Opening.{IsOpening};
+ghost use Rattle.pl_plan.specs.inside.Opening.{IsOpeningChecker};
 ghost use Rattle.pl_plan.specs.declared.step.Thing.TheVariants.{Nothing};
-ghost use Rattle.pl_plan.specs.inside.Checker.{Checker as CheckerValue, Fits, IsThings, slot_of, thing_at, slotted, with_thing, with_task, with_maker, pushed, marked, started, begun, range_of};
+ghost use Rattle.pl_plan.specs.inside.Checker.{Checker as CheckerValue, IsChecker, IsThings, slot_of, thing_at, slotted, with_thing, with_task, with_maker, pushed, with_membership, started, with_start_things, range_of};
 
 use crate::step::{NameId, Step, Thing};
 use armus_base::{List, MAX_PHASERS, MAX_TASKS, NoMemory, Op, PhaserId, TaskId};
@@ -31,7 +31,7 @@ impl Model for Start {
 }
 
 // What the checker keeps: the flat steps; the three lists of the plan so far; the starts of the tasks; one bit for each task and phaser, whether the
-// task is a member; a slot for each name, and the current task's things by slot; the counts of ops and meetings. A meeting reads one step and a few
+// task is a member; a slot for each name, and the current task's things by slot; the counts of ops and visits. A visit reads one step and a few
 // entries, and compares no names; a fork copies the things in the slots that there are.
 #[derive(Drop)]
 pub(crate) struct Checker {
@@ -45,12 +45,12 @@ pub(crate) struct Checker {
     slot_count: u32,
     things: Vec<Thing>,
     ops: u32,
-    meetings: u32,
+    visits: u32,
 }
 
 impl Model for Checker {
     ghost use Rattle.pl_plan.specs.inside.Steps.{step_at};
-    ghost use Rattle.pl_plan.specs.inside.Opening.{IsOpening};
+    ghost use Rattle.pl_plan.specs.inside.Opening.{IsOpeningChecker};
     ghost use Rattle.pl_plan.specs.declared.step.Thing.TheVariants.{Nothing};
     ghost use Rattle.pl_plan.specs.inside.Checker.{Checker as CheckerRecord};
 
@@ -67,14 +67,14 @@ impl Model for Checker {
       slot_count = k.slot_count;
       things = k.things.items;
       ops = k.ops;
-      meetings = k.meetings;
+      visits = k.visits;
     } };
 }
 
 impl Checker {
     // How many tasks are drawn.
     pub(crate) fn tasks(&self) -> u32
-        requires { Fits self.now }
+        requires { IsChecker self.now }
         ensures { result ≡ length self.now.parents }
     {
         self.parents.len() as u32
@@ -82,7 +82,7 @@ impl Checker {
 
     // How many phasers are made.
     pub(crate) fn phasers(&self) -> u32
-        requires { Fits self.now }
+        requires { IsChecker self.now }
         ensures { result ≡ length self.now.makers }
     {
         self.makers.len() as u32
@@ -95,11 +95,11 @@ impl Checker {
         self.ops
     }
 
-    // How many meetings there were.
-    pub(crate) fn meetings(&self) -> u32
-        ensures { result ≡ self.now.meetings }
+    // How many visits there were.
+    pub(crate) fn visits(&self) -> u32
+        ensures { result ≡ self.now.visits }
     {
-        self.meetings
+        self.visits
     }
 
     // The step with this index.
@@ -130,19 +130,19 @@ impl Checker {
 
     // What the name stands for.
     pub(crate) fn thing(&self, x: NameId) -> Thing
-        requires fits { Fits self.now }
+        requires fits { IsChecker self.now }
         requires here { x.0 < length self.now.slots }
         ensures { result ≡ thing_at self.now x.0 }
     {
         self.things[self.slots[x.0 as usize] as usize]
     }
 
-    // One meeting more.
-    pub(crate) fn count_meeting(&mut self)
-        requires { self.old.meetings < 2 ^ 31 }
-        ensures { self.new ≡ record self.old { meetings = self.old.meetings + 1 } }
+    // One visit more.
+    pub(crate) fn count_visit(&mut self)
+        requires { self.old.visits < 2 ^ 31 }
+        ensures { self.new ≡ record self.old { visits = self.old.visits + 1 } }
     {
-        self.meetings += 1;
+        self.visits += 1;
     }
 
     // Says whether `t` is a member of `p`.
@@ -150,7 +150,7 @@ impl Checker {
         requires all { length self.old.members ≡ MAX_TASKS * MAX_PHASERS }
         requires task { t.0 < MAX_TASKS }
         requires phaser { p.0 < MAX_PHASERS }
-        ensures { self.new ≡ marked t.0 p.0 member self.old }
+        ensures { self.new ≡ with_membership t.0 p.0 member self.old }
     {
         self.members[(MAX_PHASERS * t.0 + p.0) as usize] = member;
     }
@@ -242,10 +242,10 @@ impl Checker {
         alloc: Global,
         t: TaskId,
     ) -> Result<Option<(u32, u32)>, AllocError>
-        requires fits { Fits self.old }
+        requires fits { IsChecker self.old }
         requires here { t.0 < length self.old.starts }
         ensures range { IfOk result (λ r. r ≡ range_of (slice_index_or self.old.starts t.0 None)) }
-        ensures begun { OnOk result (self.new ≡ begun (slice_index_or self.old.starts t.0 None) self.old) }
+        ensures begun { OnOk result (self.new ≡ with_start_things (slice_index_or self.old.starts t.0 None) self.old) }
     {
         match &self.starts[t.0 as usize] {
             None => Ok(None),
@@ -262,10 +262,10 @@ impl Checker {
         }
     }
 
-    // What is kept before the first meeting.
+    // What is kept before the first visit.
     pub(crate) fn new(alloc: Global, steps: Vec<Step>, names: usize) -> Result<Checker, AllocError>
         requires { length steps.items < 2 ^ 32 }
-        ensures { IfOk result (λ k. IsOpening steps.items names k) }
+        ensures { IfOk result (λ k. IsOpeningChecker steps.items names k) }
     {
         let after = steps.len() as u32;
         let things = no_things(alloc, MAX_SLOTS)?;
@@ -294,7 +294,7 @@ impl Checker {
             slot_count: 1,
             things,
             ops: 0,
-            meetings: 0,
+            visits: 0,
         })
     }
 

@@ -7,7 +7,7 @@ use armus_base::NoMemory;
 use std::alloc::{AllocError, AllocFailed};
 use thiserror::Error;
 
-/// The kind of a name that stands for nothing where it is met.
+/// The kind of a name that stands for nothing where it is used.
 pub const UNKNOWN_NAME: u8 = 1;
 
 /// The kind of a name that stands for a phaser where a task is wanted, or for a task where a phaser is wanted.
@@ -34,8 +34,8 @@ pub const TOO_MANY_PHASERS: u8 = 8;
 /// The kind of an op where `MAX_OPS` ops are there.
 pub const TOO_MANY_OPS: u8 = 9;
 
-/// The kind of a meeting after `MAX_MEETINGS` meetings.
-pub const TOO_MANY_MEETINGS: u8 = 10;
+/// The kind of a visit after `MAX_VISITS` visits.
+pub const TOO_MANY_VISITS: u8 = 10;
 
 /// The first fault of a program's unfolding (this project's own).
 #[derive(Clone, Copy, Debug, PartialEq, Eq)]

@@ -2,7 +2,7 @@
 
 ghost use Rattle.std.specs.Prelude.{◌≡◌, ◌+◌, ◌<◌, ◌^◌, ◌++◌, ◌∷◌, [], length, OnOk, IfOk};
 ghost use Rattle.pl_syntax.specs.Tree.{count, done};
-ghost use Rattle.pl_syntax.specs.Bodies.{first};
+ghost use Rattle.pl_syntax.specs.Bodies.{followed_by};
 ghost use Rattle.pl_plan.specs.inside.Shows.{IsNumbering};
 ghost use Rattle.pl_plan.specs.inside.Numbers.{spelling, IsMore};
 ghost use Rattle.pl_plan.specs.inside.Flattening.{AddsSteps};
@@ -41,9 +41,9 @@ pub(crate) fn flatten_statement<'p>(
     steps: &mut Vec<Step>,
     stmt: &'p Stmt,
 ) -> Result<(), NoMemory>
-    requires small { length steps.old.items + count (first stmt.now done) < 2 ^ 32 }
+    requires small { length steps.old.items + count (followed_by stmt.now done) < 2 ^ 32 }
     requires distinct { IsNumbering (length names.old.keys) (spelling names.old.keys) }
-    ensures { OnOk result (AddsSteps names.old.keys names.new.keys steps.old.items steps.new.items (first stmt.now done)) }
+    ensures { OnOk result (AddsSteps names.old.keys names.new.keys steps.old.items steps.new.items (followed_by stmt.now done)) }
 {
     match stmt {
         Stmt::NewTask { x } => {

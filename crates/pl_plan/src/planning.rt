@@ -3,7 +3,7 @@
 ghost use Rattle.std.specs.Prelude.{◌≡◌, ◌<◌, ◌≤◌, ◌^◌, IfOk};
 ghost use Rattle.pl_syntax.specs.Tree.{count, height};
 ghost use Rattle.pl_plan.specs.Unfolding.{plan_of};
-ghost use Rattle.pl_plan.specs.Planning.{Answers};
+ghost use Rattle.pl_plan.specs.Planning.{GivesOutcome};
 
 use crate::checker::Checker;
 use crate::fault::PlanEnd;
@@ -28,12 +28,12 @@ fn codes_of(alloc: Global, lists: Vec<List<Op>>) -> Result<List<Code>, NoMemory>
 /// The plan to which a program unfolds, or its first check fault.
 ///
 /// Tasks are unfolded in order of their numbers, from task 0 with the whole program. `Check` comes exactly where the unfolding has a fault, with the
-/// first one; a body that is never unfolded is not checked. The time is linear in the meetings, at most `MAX_MEETINGS`. The plan is a checked plan:
+/// first one; a body that is never unfolded is not checked. The time is linear in the visits, at most `MAX_VISITS`. The plan is a checked plan:
 /// it follows the rules of PL and the limits of `Plan`.
 pub fn plan(alloc: Global, program: &Program) -> Result<Plan, PlanEnd>
     requires few { count program.now.body < 2 ^ 32 }
     requires shallow { height program.now.body ≤ MAX_OPEN_BRACES }
-    ensures unfolded { Answers result (plan_of program.now.body) }
+    ensures unfolded { GivesOutcome result (plan_of program.now.body) }
 {
     let mut names = IndexSet::new(alloc);
     let mut steps = Vec::new(alloc);

@@ -1,16 +1,16 @@
 // What the checker does at a step.
 
 ghost use Rattle.std.specs.Prelude.{◌≡◌, ◌+◌, ◌*◌, ◌<◌, ◌≤◌, ◌^◌, ◌++◌, ◌∷◌, [], length, slice_index_or, OnOk, IfOk, None, false, is_some};
-ghost use Rattle.pl_plan.specs.inside.Checker.{Fits, slot_of};
+ghost use Rattle.pl_plan.specs.inside.Checker.{IsChecker, slot_of};
 ghost use Rattle.pl_plan.specs.Unfolding.{as_task, as_phaser, fault_unless, is_parent};
-ghost use Rattle.pl_plan.specs.inside.CheckerSteps.{Gives, viewed, thing_named, member, with_binding, checker_add, checker_new_task, checker_new_phaser, checker_unforked_child, checker_reg, checker_member, checker_dereg, checker_adv, checker_await, checker_fork, checker_count, checker_act, HasNames};
+ghost use Rattle.pl_plan.specs.inside.CheckerSteps.{GivesChecker, viewed, thing_named, member, with_binding, checker_add, checker_new_task, checker_new_phaser, checker_unforked_child, checker_reg, checker_member, checker_dereg, checker_adv, checker_await, checker_fork, checker_count, checker_act, HasNames};
 
 use crate::checker::Checker;
 use crate::fault::{
     ALREADY_FORKED, ALREADY_MEMBER, CheckFault, NOT_DRAWN_HERE, NOT_MEMBER, OTHER_KIND, PlanEnd,
-    TOO_MANY_MEETINGS, TOO_MANY_OPS, TOO_MANY_PHASERS, TOO_MANY_TASKS, UNKNOWN_NAME,
+    TOO_MANY_OPS, TOO_MANY_PHASERS, TOO_MANY_TASKS, TOO_MANY_VISITS, UNKNOWN_NAME,
 };
-use crate::limits::MAX_MEETINGS;
+use crate::limits::MAX_VISITS;
 use crate::step::{NameId, Step, Thing};
 use armus_base::{MAX_OPS, MAX_PHASERS, MAX_TASKS, Op, PhaserId, TaskId};
 use std::alloc::Global;
@@ -26,19 +26,19 @@ fn fault_unless(holds: bool, kind: u8, n: u32) -> Result<(), CheckFault>
     }
 }
 
-// A meeting, or its fault.
+// A visit, or its fault.
 #[tactic(auto, unfolding(crate::specs::inside::CheckerSteps::checker_count))]
-pub(crate) fn count_meeting(checker: &mut Checker, n: u32) -> Result<(), PlanEnd>
-    ensures { Gives result (checker_count n checker.old) checker.new }
+pub(crate) fn count_visit(checker: &mut Checker, n: u32) -> Result<(), PlanEnd>
+    ensures { GivesChecker result (checker_count n checker.old) checker.new }
 {
-    fault_unless(checker.meetings() < MAX_MEETINGS, TOO_MANY_MEETINGS, n)?;
-    checker.count_meeting();
+    fault_unless(checker.visits() < MAX_VISITS, TOO_MANY_VISITS, n)?;
+    checker.count_visit();
     Ok(())
 }
 
 // The task of this name.
 fn task_named(checker: &Checker, n: u32, x: NameId) -> Result<TaskId, CheckFault>
-    requires fits { Fits checker.now }
+    requires fits { IsChecker checker.now }
     requires here { x.0 < length checker.now.slots }
     ensures exact { viewed (λ c. c.0) result ≡ as_task n (thing_named checker.now x.0) }
     ensures inside { IfOk result (λ c. c.0 < length checker.now.parents) }
@@ -58,7 +58,7 @@ fn task_named(checker: &Checker, n: u32, x: NameId) -> Result<TaskId, CheckFault
 
 // The phaser of this name.
 fn phaser_named(checker: &Checker, n: u32, x: NameId) -> Result<PhaserId, CheckFault>
-    requires fits { Fits checker.now }
+    requires fits { IsChecker checker.now }
     requires here { x.0 < length checker.now.slots }
     ensures exact { viewed (λ p. p.0) result ≡ as_phaser n (thing_named checker.now x.0) }
     ensures inside { IfOk result (λ p. p.0 < length checker.now.makers) }
@@ -88,7 +88,7 @@ fn is_parent(t: TaskId, parent: Option<TaskId>) -> bool
 
 // `t` drew `c`, and `c` is not forked.
 fn unforked_child(checker: &Checker, t: TaskId, n: u32, c: TaskId) -> Result<(), CheckFault>
-    requires fits { Fits checker.now }
+    requires fits { IsChecker checker.now }
     requires inside { c.0 < length checker.now.parents }
     ensures { result ≡ checker_unforked_child t.0 n c.0 checker.now }
 {
@@ -112,7 +112,7 @@ fn bind(checker: &mut Checker, x: NameId, thing: Thing)
 #[tactic(auto, unfolding(crate::specs::inside::CheckerSteps::checker_add))]
 fn add(checker: &mut Checker, t: TaskId, n: u32, op: Op) -> Result<(), PlanEnd>
     requires { t.0 < length checker.old.codes }
-    ensures { Gives result (checker_add t.0 n op checker.old) checker.new }
+    ensures { GivesChecker result (checker_add t.0 n op checker.old) checker.new }
 {
     fault_unless(checker.ops() < MAX_OPS, TOO_MANY_OPS, n)?;
     checker.push_op(t, op)?;
@@ -128,9 +128,9 @@ pub(crate) fn new_task(
     n: u32,
     x: NameId,
 ) -> Result<(), PlanEnd>
-    requires fits { Fits checker.old }
+    requires fits { IsChecker checker.old }
     requires here { x.0 < length checker.old.slots }
-    ensures { Gives result (checker_new_task t.0 n x.0 checker.old) checker.new }
+    ensures { GivesChecker result (checker_new_task t.0 n x.0 checker.old) checker.new }
 {
     let c = checker.tasks();
     fault_unless(c < MAX_TASKS, TOO_MANY_TASKS, n)?;
@@ -142,10 +142,10 @@ pub(crate) fn new_task(
 // `x = newPhaser();`
 #[tactic(auto, unfolding(crate::specs::inside::CheckerSteps::checker_new_phaser))]
 pub(crate) fn new_phaser(checker: &mut Checker, t: TaskId, n: u32, x: NameId) -> Result<(), PlanEnd>
-    requires fits { Fits checker.old }
+    requires fits { IsChecker checker.old }
     requires task { t.0 < length checker.old.parents }
     requires here { x.0 < length checker.old.slots }
-    ensures { Gives result (checker_new_phaser t.0 n x.0 checker.old) checker.new }
+    ensures { GivesChecker result (checker_new_phaser t.0 n x.0 checker.old) checker.new }
 {
     let p = PhaserId(checker.phasers());
     fault_unless(p.0 < MAX_PHASERS, TOO_MANY_PHASERS, n)?;
@@ -164,11 +164,11 @@ pub(crate) fn register(
     x: NameId,
     y: NameId,
 ) -> Result<(), PlanEnd>
-    requires fits { Fits checker.old }
+    requires fits { IsChecker checker.old }
     requires task { t.0 < length checker.old.parents }
     requires x_here { x.0 < length checker.old.slots }
     requires y_here { y.0 < length checker.old.slots }
-    ensures { Gives result (checker_reg t.0 n x.0 y.0 checker.old) checker.new }
+    ensures { GivesChecker result (checker_reg t.0 n x.0 y.0 checker.old) checker.new }
 {
     let c = task_named(checker, n, x)?;
     let p = phaser_named(checker, n, y)?;
@@ -182,7 +182,7 @@ pub(crate) fn register(
 // The phaser of this name, of which `t` is a member.
 #[tactic(auto, unfolding(crate::specs::inside::CheckerSteps::checker_member))]
 fn member_named(checker: &Checker, t: TaskId, n: u32, x: NameId) -> Result<PhaserId, CheckFault>
-    requires fits { Fits checker.now }
+    requires fits { IsChecker checker.now }
     requires task { t.0 < length checker.now.parents }
     requires here { x.0 < length checker.now.slots }
     ensures exact { viewed (λ p. p.0) result ≡ checker_member t.0 n x.0 checker.now }
@@ -196,10 +196,10 @@ fn member_named(checker: &Checker, t: TaskId, n: u32, x: NameId) -> Result<Phase
 // `dereg(x);`
 #[tactic(auto, unfolding(crate::specs::inside::CheckerSteps::checker_dereg))]
 pub(crate) fn leave(checker: &mut Checker, t: TaskId, n: u32, x: NameId) -> Result<(), PlanEnd>
-    requires fits { Fits checker.old }
+    requires fits { IsChecker checker.old }
     requires task { t.0 < length checker.old.parents }
     requires here { x.0 < length checker.old.slots }
-    ensures { Gives result (checker_dereg t.0 n x.0 checker.old) checker.new }
+    ensures { GivesChecker result (checker_dereg t.0 n x.0 checker.old) checker.new }
 {
     let p = member_named(checker, t, n, x)?;
     checker.mark(t, p, false);
@@ -209,10 +209,10 @@ pub(crate) fn leave(checker: &mut Checker, t: TaskId, n: u32, x: NameId) -> Resu
 // `adv(x);`
 #[tactic(auto, unfolding(crate::specs::inside::CheckerSteps::checker_adv))]
 pub(crate) fn advance(checker: &mut Checker, t: TaskId, n: u32, x: NameId) -> Result<(), PlanEnd>
-    requires fits { Fits checker.old }
+    requires fits { IsChecker checker.old }
     requires task { t.0 < length checker.old.parents }
     requires here { x.0 < length checker.old.slots }
-    ensures { Gives result (checker_adv t.0 n x.0 checker.old) checker.new }
+    ensures { GivesChecker result (checker_adv t.0 n x.0 checker.old) checker.new }
 {
     let p = member_named(checker, t, n, x)?;
     add(checker, t, n, Op::Adv { p })
@@ -221,10 +221,10 @@ pub(crate) fn advance(checker: &mut Checker, t: TaskId, n: u32, x: NameId) -> Re
 // `await(x);`
 #[tactic(auto, unfolding(crate::specs::inside::CheckerSteps::checker_await))]
 pub(crate) fn wait(checker: &mut Checker, t: TaskId, n: u32, x: NameId) -> Result<(), PlanEnd>
-    requires fits { Fits checker.old }
+    requires fits { IsChecker checker.old }
     requires task { t.0 < length checker.old.parents }
     requires here { x.0 < length checker.old.slots }
-    ensures { Gives result (checker_await t.0 n x.0 checker.old) checker.new }
+    ensures { GivesChecker result (checker_await t.0 n x.0 checker.old) checker.new }
 {
     let p = member_named(checker, t, n, x)?;
     add(checker, t, n, Op::Await { p })
@@ -240,10 +240,10 @@ pub(crate) fn fork(
     x: NameId,
     after: u32,
 ) -> Result<(), PlanEnd>
-    requires fits { Fits checker.old }
+    requires fits { IsChecker checker.old }
     requires task { t.0 < length checker.old.parents }
     requires here { x.0 < length checker.old.slots }
-    ensures { Gives result (checker_fork t.0 n x.0 after checker.old) checker.new }
+    ensures { GivesChecker result (checker_fork t.0 n x.0 after checker.old) checker.new }
 {
     let c = task_named(checker, n, x)?;
     unforked_child(checker, t, n, c)?;
@@ -259,10 +259,10 @@ pub(crate) fn act(
     n: u32,
     step: Step,
 ) -> Result<(), PlanEnd>
-    requires fits { Fits checker.old }
+    requires fits { IsChecker checker.old }
     requires task { t.0 < length checker.old.parents }
     requires here { HasNames (length checker.old.slots) step }
-    ensures { Gives result (checker_act t.0 n step checker.old) checker.new }
+    ensures { GivesChecker result (checker_act t.0 n step checker.old) checker.new }
 {
     match step {
         Step::NewTask { x } => new_task(alloc, checker, t, n, x),

@@ -1,13 +1,13 @@
 // The walk over steps, with loops and their turns.
 
 ghost use Rattle.std.specs.Prelude.{◌+◌, ◌<◌, ◌≤◌, ◌^◌, length, OnOk};
-ghost use Rattle.pl_plan.specs.inside.Checker.{Fits, Keeps};
+ghost use Rattle.pl_plan.specs.inside.Checker.{IsChecker, Keeps};
 ghost use Rattle.pl_plan.specs.inside.Steps.{IsList};
 ghost use Rattle.pl_plan.specs.inside.Shows.{FollowsFrom, FollowsTurns};
 
 use crate::checker::Checker;
 use crate::fault::PlanEnd;
-use crate::statements::{act, count_meeting, fork};
+use crate::statements::{act, count_visit, fork};
 use crate::step::Step;
 use armus_base::TaskId;
 use std::alloc::Global;
@@ -22,7 +22,7 @@ fn walk_turns(
     turns: u16,
     after: u32,
 ) -> Result<(), PlanEnd>
-    requires fits { Fits checker.old }
+    requires fits { IsChecker checker.old }
     requires small { length checker.old.steps < 2 ^ 32 }
     requires task { t.0 < length checker.old.parents }
     requires here { at < after }
@@ -33,7 +33,7 @@ fn walk_turns(
 {
     let number = at + 1;
     for _ in 0..turns {
-        count_meeting(checker, number)?;
+        count_visit(checker, number)?;
         walk(alloc, checker, t, at + 1, after)?;
     }
     Ok(())
@@ -48,7 +48,7 @@ pub(crate) fn walk(
     from: u32,
     to: u32,
 ) -> Result<(), PlanEnd>
-    requires fits { Fits checker.old }
+    requires fits { IsChecker checker.old }
     requires small { length checker.old.steps < 2 ^ 32 }
     requires task { t.0 < length checker.old.parents }
     requires within { to ≤ length checker.old.steps }
@@ -59,7 +59,7 @@ pub(crate) fn walk(
     let mut at = from;
     while at < to {
         let step = checker.step(at);
-        count_meeting(checker, at + 1)?;
+        count_visit(checker, at + 1)?;
         match step {
             Step::Loop { k, after } => {
                 walk_turns(alloc, checker, t, at, k, after)?;

@@ -6,7 +6,7 @@ use Rattle.pl_syntax.specs.declared.token.Sign.{Sign}
 use Rattle.pl_syntax.specs.declared.token.Sign.TheVariants.{Equals, OpenParen, CloseParen, Comma, Semicolon, OpenBrace, CloseBrace}
 use Rattle.pl_syntax.specs.Tokens.{Token, the_end, sign, word, name, number}
 use Rattle.pl_syntax.specs.Tree.{Tree, done, plain, fork, loop, Plain, new_task, new_phaser, reg, dereg, adv, await, skip}
-use Rattle.pl_syntax.specs.Reading.{sign_number}
+use Rattle.pl_syntax.specs.inside.Reading.{sign_number}
 use Rattle.pl_syntax.specs.Grammar.{tokens, sentence, Begins, opened, plain_tokens}
 use Rattle.pl_syntax.proofs.Machine.{Shape, a_sign, a_name, a_number, a_maker, State, at, over, fits, s_named, s_drawn, s_pair, s_fork, s_loop, go, run, run-append, some_front, run_sentence, comes_to_end}
 

@@ -7,14 +7,14 @@ use Rattle.std.specs.Borrow.{Bor}
 use Rattle.std.proofs.lemmas.List.{length-drop}
 use Rattle.pl_syntax.specs.declared.limits.TheConstants.{MAX_NAME_BYTES}
 use Rattle.pl_syntax.specs.declared.fault.TheConstants.{NO_TOKEN, NO_NUMBER, TOO_LONG}
-use Rattle.pl_syntax.specs.Reading.{ends_list}
+use Rattle.pl_syntax.specs.inside.Reading.{ends_list}
 use Rattle.pl_syntax.specs.declared.token.Token as token
 use Rattle.pl_syntax.specs.declared.token.Token.TheVariants as t
 use Rattle.pl_syntax.specs.declared.fault.SyntaxFault.{SyntaxFault}
 use Rattle.pl_syntax.specs.declared.token.Keyword.{Keyword}
 use Rattle.pl_syntax.specs.declared.token.Sign.{Sign}
 use Rattle.pl_syntax.specs.Words.{IsName, begins_with, keyword_of, has_name_form, number_of, is_digit, is_word_byte}
-use Rattle.pl_syntax.specs.Seen.{front_seen, token_of, HasForm}
+use Rattle.pl_syntax.specs.inside.Seen.{front_seen, token_of, HasForm}
 use Rattle.pl_syntax.specs.Tokens.{Token, the_end, sign, word, name, number, front, token_here, after_gap, placed, word_token, letters_token, digits_token, name_token, sign_token, sign_of, after_comment, is_blank}
 
 -- which way a test went

@@ -4,7 +4,7 @@ use Rattle.pl_syntax.specs.declared.limits.TheConstants.{MAX_OPEN_BRACES}
 use Rattle.pl_syntax.specs.declared.token.Sign.TheVariants.{Equals, OpenParen, CloseParen, Comma, Semicolon}
 use Rattle.pl_syntax.specs.declared.fault.SyntaxFault.{SyntaxFault}
 use Rattle.pl_syntax.specs.Tokens.{sign, name, Leads}
-use Rattle.pl_syntax.specs.Reading.{sign_at, name_at, maker_at, in_parens_at, named_at, pair_at, drawn_at}
+use Rattle.pl_syntax.specs.inside.Reading.{sign_at, name_at, maker_at, in_parens_at, named_at, pair_at, drawn_at}
 use Rattle.pl_syntax.proofs.Machine.{Shape, a_sign, a_name, a_maker, s_named, s_drawn, s_pair}
 use Rattle.pl_syntax.proofs.Leaves.{bind_ok, bind_err, ok_is, Stuck, behind, Leads-append, maker_of, sign_ok, sign_err, name_ok, name_err, maker_ok, maker_err, after_sign, after_name, after_maker}
 

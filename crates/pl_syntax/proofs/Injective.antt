@@ -3,7 +3,7 @@ use Rattle.std.proofs.Common.{◌≡◌, List, [], ◌∷◌, refl, sym, ap, ◌
 use Rattle.pl_syntax.specs.declared.tree.Stmt.{Stmt}
 use Rattle.pl_syntax.specs.declared.tree.Stmt.TheVariants as s
 use Rattle.pl_syntax.specs.Tree.{Tree, done, plain, fork, loop, new_task, new_phaser, reg, dereg, adv, await, skip}
-use Rattle.pl_syntax.specs.Bodies.{first, tree_of}
+use Rattle.pl_syntax.specs.Bodies.{followed_by, tree_of}
 
 -- the statements of a tree
 abbrev stmts_of : Tree → List Stmt
@@ -18,7 +18,7 @@ stmts_of (plain skip rest) = s.Skip ∷ stmts_of rest
 stmts_of (fork x body rest) = s.Fork x body ∷ stmts_of rest
 stmts_of (loop k body rest) = s.Loop k body ∷ stmts_of rest
 
-back_first : (q : Stmt) (p : Tree) → stmts_of (first q p) ≡ q ∷ stmts_of p
+back_first : (q : Stmt) (p : Tree) → stmts_of (followed_by q p) ≡ q ∷ stmts_of p
 back_first (s.NewTask x) p = refl
 back_first (s.NewPhaser x) p = refl
 back_first (s.Reg x y) p = refl

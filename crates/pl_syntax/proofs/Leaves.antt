@@ -8,7 +8,7 @@ use Rattle.pl_syntax.specs.declared.token.Sign.{Sign}
 use Rattle.pl_syntax.specs.declared.token.Sign.TheVariants.{OpenBrace}
 use Rattle.pl_syntax.specs.declared.fault.SyntaxFault.{SyntaxFault}
 use Rattle.pl_syntax.specs.Tokens.{Token, the_end, sign, word, name, number, front, place, Leads}
-use Rattle.pl_syntax.specs.Reading.{◌>>=◌, sign_number, unexpected, sign_in, sign_at, name_in, name_at, number_in, number_at, maker_in, maker_at, opened_at}
+use Rattle.pl_syntax.specs.inside.Reading.{◌>>=◌, sign_number, unexpected, sign_in, sign_at, name_in, name_at, number_in, number_at, maker_in, maker_at, opened_at}
 use Rattle.pl_syntax.specs.Grammar.{opened, open_after, StaysShallow}
 use Rattle.pl_syntax.proofs.Fronts.{chosen, ok_pair}
 use Rattle.pl_syntax.proofs.Machine.{Shape, a_sign, a_name, a_number, a_maker, State, at, fits, step, run, run-append}

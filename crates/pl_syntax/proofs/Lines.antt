@@ -5,10 +5,10 @@ use Rattle.pl_syntax.specs.declared.limits.TheConstants.{MAX_OPEN_BRACES}
 use Rattle.pl_syntax.specs.declared.tree.Stmt.{Stmt}
 use Rattle.pl_syntax.specs.declared.tree.Stmt.TheVariants as s
 use Rattle.pl_syntax.specs.Tree.{Tree, done, height}
-use Rattle.pl_syntax.specs.Bodies.{first, tree_of}
-use Rattle.pl_syntax.specs.Printed.{line, printed_at, IsWritable}
+use Rattle.pl_syntax.specs.Bodies.{followed_by, tree_of}
+use Rattle.pl_syntax.specs.Printed.{indented_line, printed_at, IsWritable}
 
-pub printed_first : (d : ℕ) (q : Stmt) (p : Tree) → printed_at d (first q p) ≡ printed_at d (first q done) ++ printed_at d p
+pub printed_first : (d : ℕ) (q : Stmt) (p : Tree) → printed_at d (followed_by q p) ≡ printed_at d (followed_by q done) ++ printed_at d p
 printed_first d (s.NewTask x) p = simp append_assoc
 printed_first d (s.NewPhaser x) p = simp append_assoc
 printed_first d (s.Reg x y) p = simp append_assoc
@@ -19,7 +19,7 @@ printed_first d s.Skip p = simp append_assoc
 printed_first d (s.Fork x b) p = simp append_assoc
 printed_first d (s.Loop n b) p = simp append_assoc
 
-pub names_first : (q : Stmt) (p : Tree) → IsWritable (first q done) → IsWritable p → IsWritable (first q p)
+pub names_first : (q : Stmt) (p : Tree) → IsWritable (followed_by q done) → IsWritable p → IsWritable (followed_by q p)
 names_first (s.NewTask x) p a b = (a.0, b)
 names_first (s.NewPhaser x) p a b = (a.0, b)
 names_first (s.Reg x y) p a b = (a.0, b)
@@ -30,7 +30,7 @@ names_first s.Skip p a b = (a.0, b)
 names_first (s.Fork x i) p a b = (a.0, a.1, b)
 names_first (s.Loop n i) p a b = (a.0, a.1, b)
 
-pub height_first : (q : Stmt) (p : Tree) → (height (first q done) ≤ height (first q p)) × (height p ≤ height (first q p))
+pub height_first : (q : Stmt) (p : Tree) → (height (followed_by q done) ≤ height (followed_by q p)) × (height p ≤ height (followed_by q p))
 height_first (s.NewTask x) p = (omega arith, omega arith)
 height_first (s.NewPhaser x) p = (omega arith, omega arith)
 height_first (s.Reg x y) p = (omega arith, omega arith)
@@ -43,10 +43,10 @@ height_first (s.Loop n i) p = (omega arith, omega arith)
 
 -- statement i of a body, which may be that deep
 pub next_fits : (depth : ℕ) (items : List Stmt) (i : ℕ) (q : Stmt) → i < length items → q ≡ get_or items i q → height (tree_of (drop i items)) + depth ≤ MAX_OPEN_BRACES
-    → (height (first q done) + depth ≤ MAX_OPEN_BRACES) × (height (tree_of (drop (i + 1) items)) + depth ≤ MAX_OPEN_BRACES)
+    → (height (followed_by q done) + depth ≤ MAX_OPEN_BRACES) × (height (tree_of (drop (i + 1) items)) + depth ≤ MAX_OPEN_BRACES)
 next_fits depth items i q lt is deep =
     let rest = tree_of (drop (i + 1) items) in
-    let e : tree_of (drop i items) ≡ first q rest = ap tree_of (drop_more items i q lt) ∙ ap (λ (x : Stmt). first x rest) (sym is) in
+    let e : tree_of (drop i items) ≡ followed_by q rest = ap tree_of (drop_more items i q lt) ∙ ap (λ (x : Stmt). followed_by x rest) (sym is) in
     let g = ap height e in
     let h = height_first q rest in
     (omega arith, omega arith)
@@ -77,18 +77,18 @@ module _ (depth : ℕ) (items : List Stmt) (i : ℕ) (body : Tree) (out old : Li
   ends_names le = now.names (let e : tree_of (drop i items) ≡ done = ap tree_of (drop_all i items le) in rw e tt)
 
   module _ (q : Stmt) (lt : i < length items) (is : q ≡ get_or items i q) where
-    next_is : tree_of (drop i items) ≡ first q (tree_of (drop (i + 1) items))
-    next_is = ap tree_of (drop_more items i q lt) ∙ ap (λ (x : Stmt). first x (tree_of (drop (i + 1) items))) (sym is)
+    next_is : tree_of (drop i items) ≡ followed_by q (tree_of (drop (i + 1) items))
+    next_is = ap tree_of (drop_more items i q lt) ∙ ap (λ (x : Stmt). followed_by x (tree_of (drop (i + 1) items))) (sym is)
 
-    pub fits : height (first q done) + depth ≤ MAX_OPEN_BRACES
+    pub fits : height (followed_by q done) + depth ≤ MAX_OPEN_BRACES
     fits = let h = height_first q (tree_of (drop (i + 1) items)) in let d = now.deep in let e = ap height next_is in omega arith
 
-    pub goes : (new : List ℕ) → new ≡ out ++ printed_at depth (first q done) → IsWritable (first q done) → Printing depth items (i + 1) body new old
+    pub goes : (new : List ℕ) → new ≡ out ++ printed_at depth (followed_by q done) → IsWritable (followed_by q done) → Printing depth items (i + 1) body new old
     goes new e n = record {
       all = now.all;
       text =
           let rest = tree_of (drop (i + 1) items) in
-          let a : new ++ printed_at depth rest ≡ out ++ printed_at depth (first q rest) = rw (e, printed_first depth q rest) (append_assoc out (printed_at depth (first q done)) (printed_at depth rest)) in
+          let a : new ++ printed_at depth rest ≡ out ++ printed_at depth (followed_by q rest) = rw (e, printed_first depth q rest) (append_assoc out (printed_at depth (followed_by q done)) (printed_at depth rest)) in
           a ∙ ap (λ (p : Tree). out ++ printed_at depth p) (sym next_is) ∙ now.text;
       names = λ m. now.names (subst (λ (p : Tree). IsWritable p) (sym next_is) (names_first q (tree_of (drop (i + 1) items)) n m));
       deep = let h = height_first q (tree_of (drop (i + 1) items)) in let d = now.deep in let e = ap height next_is in omega arith;
@@ -103,8 +103,8 @@ pub fork_lines : (depth : ℕ) (x inner out one two three : List ℕ)
     → one ≡ out ++ replicate (2 * depth) 32 ++ codes "fork(" ++ x ++ codes ") {\n"
     → two ≡ one ++ inner
     → three ≡ two ++ replicate (2 * depth) 32 ++ codes "}\n"
-    → three ≡ out ++ (line depth (codes "fork(" ++ x ++ codes ") {") ++ inner ++ line depth (codes "}") ++ [])
+    → three ≡ out ++ (indented_line depth (codes "fork(" ++ x ++ codes ") {") ++ inner ++ indented_line depth (codes "}") ++ [])
 fork_lines depth x inner out one two three a b c = rw (c, b, a) (simp append_assoc)
 
-pub named_line : (depth : ℕ) (x out new : List ℕ) → new ≡ out ++ replicate (2 * depth) 32 ++ [] ++ x ++ codes " = newTid();\n" → new ≡ out ++ (line depth (x ++ codes " = newTid();") ++ [])
+pub named_line : (depth : ℕ) (x out new : List ℕ) → new ≡ out ++ replicate (2 * depth) 32 ++ [] ++ x ++ codes " = newTid();\n" → new ≡ out ++ (indented_line depth (x ++ codes " = newTid();") ++ [])
 named_line depth x out new e = rw e (simp (append_assoc, append-nil))

@@ -6,7 +6,7 @@ use Rattle.pl_syntax.specs.declared.token.Sign.{Sign}
 use Rattle.pl_syntax.specs.declared.token.Sign.TheVariants.{Equals, OpenParen, CloseParen, Comma, Semicolon, OpenBrace, CloseBrace}
 use Rattle.pl_syntax.specs.Tokens.{Token, the_end, sign, word, name, number}
 use Rattle.pl_syntax.specs.Tree.{Tree, done, plain, fork, loop, new_task, new_phaser, reg, dereg, adv, await, skip}
-use Rattle.pl_syntax.specs.Reading.{sign_number}
+use Rattle.pl_syntax.specs.inside.Reading.{sign_number}
 use Rattle.pl_syntax.specs.Grammar.{tokens, sentence, opened, open_after}
 use Rattle.pl_syntax.proofs.Fronts.{chosen}
 

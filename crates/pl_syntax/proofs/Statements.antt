@@ -9,9 +9,9 @@ use Rattle.pl_syntax.specs.declared.tree.Stmt.{Stmt}
 use Rattle.pl_syntax.specs.declared.tree.Stmt.TheVariants as s
 use Rattle.pl_syntax.specs.Tokens.{Token, the_end, sign, word, name, number, front, Leads}
 use Rattle.pl_syntax.specs.Tree.{Tree, done, plain, fork, loop, Plain, new_task, new_phaser, reg, dereg, adv, await, skip, height}
-use Rattle.pl_syntax.specs.Bodies.{first, tree_of}
+use Rattle.pl_syntax.specs.Bodies.{followed_by, tree_of}
 use Rattle.pl_syntax.specs.Grammar.{tokens, plain_tokens, opened, StaysShallow}
-use Rattle.pl_syntax.specs.Reading.{unexpected, Block, sign_at, number_at, in_parens_at, named_at, pair_at, drawn_at, opened_at, drawn_stmt, drawing_at, reg_at, dereg_at, adv_at, await_at, skip_at, block_at, fork_at, loop_at, statement_in, ends_list}
+use Rattle.pl_syntax.specs.inside.Reading.{unexpected, Block, sign_at, number_at, in_parens_at, named_at, pair_at, drawn_at, opened_at, drawn_stmt, drawing_at, reg_at, dereg_at, adv_at, await_at, skip_at, block_at, fork_at, loop_at, statement_in, ends_list}
 use Rattle.pl_syntax.proofs.Fronts.{progress, front_le}
 use Rattle.pl_syntax.proofs.Machine.{Shape, a_sign, at, fits, first_step, run_tree, s_named, s_drawn, s_pair, s_fork, s_loop}
 use Rattle.pl_syntax.proofs.Leaves.{bind_ok, bind_err, ok_is, Stuck, behind, Leads-append, maker_of, sign_ok, sign_err, number_ok, number_err, opened_ok, opened_err, refused, after, after_number, sign_fault}
@@ -66,7 +66,7 @@ stays (loop n b p) d rest le h =
     (l, (l, (l, stays b (d + 1) (sign CloseBrace ∷ tokens p rest) (omega arith) after_body)))
 
 -- a statement and those after it
-pub tokens_first : (s : Stmt) (p : Tree) (us : List Token) → tokens (first s done) (tokens p us) ≡ tokens (first s p) us
+pub tokens_first : (s : Stmt) (p : Tree) (us : List Token) → tokens (followed_by s done) (tokens p us) ≡ tokens (followed_by s p) us
 tokens_first (s.NewTask x) p us = refl
 tokens_first (s.NewPhaser x) p us = refl
 tokens_first (s.Reg x y) p us = refl
@@ -77,7 +77,7 @@ tokens_first s.Skip p us = refl
 tokens_first (s.Fork x b) p us = refl
 tokens_first (s.Loop n b) p us = refl
 
-pub deep_first : (s : Stmt) (p : Tree) (d : ℕ) → height (first s done) + d ≤ MAX_OPEN_BRACES → height p + d ≤ MAX_OPEN_BRACES → height (first s p) + d ≤ MAX_OPEN_BRACES
+pub deep_first : (s : Stmt) (p : Tree) (d : ℕ) → height (followed_by s done) + d ≤ MAX_OPEN_BRACES → height p + d ≤ MAX_OPEN_BRACES → height (followed_by s p) + d ≤ MAX_OPEN_BRACES
 deep_first (s.NewTask x) p d a b = b
 deep_first (s.NewPhaser x) p d a b = b
 deep_first (s.Reg x y) p d a b = b
@@ -92,7 +92,7 @@ abbrev goes_first : List Token → Bool
 goes_first [] = false
 goes_first (t ∷ ts) = not (ends_list t)
 
-tokens_go : (q : Stmt) → goes_first (tokens (first q done) []) ≡ true
+tokens_go : (q : Stmt) → goes_first (tokens (followed_by q done) []) ≡ true
 tokens_go (s.NewTask x) = refl
 tokens_go (s.NewPhaser x) = refl
 tokens_go (s.Reg x y) = refl
@@ -120,8 +120,8 @@ module _ (total : ℕ) where
   all_lt text [] rest e h = absurd cc
   all_lt text (t ∷ ts) rest e h = leads_lt text t ts rest (let g : not (ends_list t) ≡ true = e in grind (arith, nat_tests)) h
 
-  pub first_lt : (q : Stmt) (text rest : List ℕ) (d : ℕ) → Took total text (first q done) rest d → length rest < length text
-  first_lt q text rest d t = all_lt text (tokens (first q done) []) rest (tokens_go q) (t.leads [] rest refl)
+  pub first_lt : (q : Stmt) (text rest : List ℕ) (d : ℕ) → Took total text (followed_by q done) rest d → length rest < length text
+  first_lt q text rest d t = all_lt text (tokens (followed_by q done) []) rest (tokens_go q) (t.leads [] rest refl)
 
   -- ---- behind a tree
 
@@ -152,12 +152,12 @@ module _ (total : ℕ) where
   }
 
   StmtTook : List ℕ → Stmt × List ℕ → ℕ → Type 0
-  StmtTook before y d = Took total before (first y.0 done) y.1 d
+  StmtTook before y d = Took total before (followed_by y.0 done) y.1 d
 
   -- ---- `x = newTid ( ) ;` and the like
 
   drawn_plain : (x : List ℕ) (made : Bool) (d : ℕ) (before text rest : List ℕ) → d ≤ MAX_OPEN_BRACES → front total before ≡ Ok (name x, text)
-      → Leads total text (sign Equals ∷ maker_of total made ∷ sign OpenParen ∷ sign CloseParen ∷ sign Semicolon ∷ []) rest → Took total before (first (drawn_stmt x made) done) rest d
+      → Leads total text (sign Equals ∷ maker_of total made ∷ sign OpenParen ∷ sign CloseParen ∷ sign Semicolon ∷ []) rest → Took total before (followed_by (drawn_stmt x made) done) rest d
   drawn_plain x true d before text rest le here leads = plain_took (new_task x) (name x) (sign Equals ∷ maker_of total true ∷ sign OpenParen ∷ sign CloseParen ∷ sign Semicolon ∷ []) d before text rest le here leads (λ us. refl)
   drawn_plain x false d before text rest le here leads = plain_took (new_phaser x) (name x) (sign Equals ∷ maker_of total false ∷ sign OpenParen ∷ sign CloseParen ∷ sign Semicolon ∷ []) d before text rest le here leads (λ us. refl)
 
@@ -165,7 +165,7 @@ module _ (total : ℕ) where
   unfolding drawing_at StmtTook
   drawing_ok x d before text y le here e =
       let b = bind_ok (drawn_at total text) _ y e in
-      subst (λ (z : Stmt × List ℕ). Took total before (first z.0 done) z.1 d) (ok_is (drawn_stmt x b.0.0, b.0.1) y b.2) (drawn_plain x b.0.0 d before text b.0.1 le here (drawn_ok total text b.0 b.1))
+      subst (λ (z : Stmt × List ℕ). Took total before (followed_by z.0 done) z.1 d) (ok_is (drawn_stmt x b.0.0, b.0.1) y b.2) (drawn_plain x b.0.0 d before text b.0.1 le here (drawn_ok total text b.0 b.1))
 
   drawing_err : (x : List ℕ) (d : ℕ) (before text : List ℕ) (f : SyntaxFault) → d ≤ MAX_OPEN_BRACES → front total before ≡ Ok (name x, text) → drawing_at total x text ≡ Err f → Stuck total [] d before f
   unfolding drawing_at
@@ -179,7 +179,7 @@ module _ (total : ℕ) where
   unfolding dereg_at StmtTook
   dereg_ok d before text y le here e =
       let b = bind_ok (named_at total text) _ y e in
-      subst (λ (z : Stmt × List ℕ). Took total before (first z.0 done) z.1 d) (ok_is (s.Dereg b.0.0, b.0.1) y b.2)
+      subst (λ (z : Stmt × List ℕ). Took total before (followed_by z.0 done) z.1 d) (ok_is (s.Dereg b.0.0, b.0.1) y b.2)
       (plain_took (dereg b.0.0) (word k.Dereg) (sign OpenParen ∷ name b.0.0 ∷ sign CloseParen ∷ sign Semicolon ∷ []) d before text b.0.1 le here (named_ok total text b.0 b.1) (λ us. refl))
 
   dereg_err : (d : ℕ) (before text : List ℕ) (f : SyntaxFault) → d ≤ MAX_OPEN_BRACES → front total before ≡ Ok (word k.Dereg, text) → dereg_at total text ≡ Err f → Stuck total [] d before f
@@ -194,7 +194,7 @@ module _ (total : ℕ) where
   unfolding adv_at StmtTook
   adv_ok d before text y le here e =
       let b = bind_ok (named_at total text) _ y e in
-      subst (λ (z : Stmt × List ℕ). Took total before (first z.0 done) z.1 d) (ok_is (s.Adv b.0.0, b.0.1) y b.2)
+      subst (λ (z : Stmt × List ℕ). Took total before (followed_by z.0 done) z.1 d) (ok_is (s.Adv b.0.0, b.0.1) y b.2)
       (plain_took (adv b.0.0) (word k.Adv) (sign OpenParen ∷ name b.0.0 ∷ sign CloseParen ∷ sign Semicolon ∷ []) d before text b.0.1 le here (named_ok total text b.0 b.1) (λ us. refl))
 
   adv_err : (d : ℕ) (before text : List ℕ) (f : SyntaxFault) → d ≤ MAX_OPEN_BRACES → front total before ≡ Ok (word k.Adv, text) → adv_at total text ≡ Err f → Stuck total [] d before f
@@ -209,7 +209,7 @@ module _ (total : ℕ) where
   unfolding await_at StmtTook
   await_ok d before text y le here e =
       let b = bind_ok (named_at total text) _ y e in
-      subst (λ (z : Stmt × List ℕ). Took total before (first z.0 done) z.1 d) (ok_is (s.Await b.0.0, b.0.1) y b.2)
+      subst (λ (z : Stmt × List ℕ). Took total before (followed_by z.0 done) z.1 d) (ok_is (s.Await b.0.0, b.0.1) y b.2)
       (plain_took (await b.0.0) (word k.Await) (sign OpenParen ∷ name b.0.0 ∷ sign CloseParen ∷ sign Semicolon ∷ []) d before text b.0.1 le here (named_ok total text b.0 b.1) (λ us. refl))
 
   await_err : (d : ℕ) (before text : List ℕ) (f : SyntaxFault) → d ≤ MAX_OPEN_BRACES → front total before ≡ Ok (word k.Await, text) → await_at total text ≡ Err f → Stuck total [] d before f
@@ -224,7 +224,7 @@ module _ (total : ℕ) where
   unfolding reg_at StmtTook
   reg_ok d before text y le here e =
       let b = bind_ok (pair_at total text) _ y e in
-      subst (λ (z : Stmt × List ℕ). Took total before (first z.0 done) z.1 d) (ok_is (s.Reg b.0.0 b.0.1, b.0.2) y b.2)
+      subst (λ (z : Stmt × List ℕ). Took total before (followed_by z.0 done) z.1 d) (ok_is (s.Reg b.0.0 b.0.1, b.0.2) y b.2)
       (plain_took (reg b.0.0 b.0.1) (word k.Reg) (sign OpenParen ∷ name b.0.0 ∷ sign Comma ∷ name b.0.1 ∷ sign CloseParen ∷ sign Semicolon ∷ []) d before text b.0.2 le here (pair_ok total text b.0 b.1) (λ us. refl))
 
   reg_err : (d : ℕ) (before text : List ℕ) (f : SyntaxFault) → d ≤ MAX_OPEN_BRACES → front total before ≡ Ok (word k.Reg, text) → reg_at total text ≡ Err f → Stuck total [] d before f
@@ -239,7 +239,7 @@ module _ (total : ℕ) where
   unfolding skip_at StmtTook
   skip_ok d before text y le here e =
       let b = bind_ok (sign_at total Semicolon text) _ y e in
-      subst (λ (z : Stmt × List ℕ). Took total before (first z.0 done) z.1 d) (ok_is (s.Skip, b.0) y b.2)
+      subst (λ (z : Stmt × List ℕ). Took total before (followed_by z.0 done) z.1 d) (ok_is (s.Skip, b.0) y b.2)
       (plain_took skip (word k.Skip) (sign Semicolon ∷ []) d before text b.0 le here (b.0, sign_ok total Semicolon text b.0 b.1, refl) (λ us. refl))
 
   skip_err : (d : ℕ) (before text : List ℕ) (f : SyntaxFault) → d ≤ MAX_OPEN_BRACES → front total before ≡ Ok (word k.Skip, text) → skip_at total text ≡ Err f → Stuck total [] d before f
@@ -319,7 +319,7 @@ module _ (total : ℕ) where
         let x = in_parens_ok total text a.0 a.1 in
         let l = leads_le text (sign OpenParen ∷ name a.0.0 ∷ sign CloseParen ∷ []) a.0.1 x in
         let i = block_ok d a.0.1 b.0 le (omega arith) b.1 in
-        subst (λ (z : Stmt × List ℕ). Took total before (first z.0 done) z.1 d) (ok_is (s.Fork a.0.0 b.0.0, b.0.1) y b.2)
+        subst (λ (z : Stmt × List ℕ). Took total before (followed_by z.0 done) z.1 d) (ok_is (s.Fork a.0.0 b.0.0, b.0.1) y b.2)
         record {
           leads = λ us end h. (text, here, Leads-append total text (sign OpenParen ∷ name a.0.0 ∷ sign CloseParen ∷ []) a.0.1 (sign OpenBrace ∷ tokens b.0.0 (sign CloseBrace ∷ us)) end x (i.leads us end h));
           deep = (let q = i.deep in omega arith);
@@ -347,7 +347,7 @@ module _ (total : ℕ) where
         let x = number_ok total text a.0 a.1 in
         let l = front_le total text (number a.0.0) a.0.1 x in
         let i = block_ok d a.0.1 b.0 le (omega arith) b.1 in
-        subst (λ (z : Stmt × List ℕ). Took total before (first z.0 done) z.1 d) (ok_is (s.Loop a.0.0 b.0.0, b.0.1) y b.2)
+        subst (λ (z : Stmt × List ℕ). Took total before (followed_by z.0 done) z.1 d) (ok_is (s.Loop a.0.0 b.0.0, b.0.1) y b.2)
         record {
           leads = λ us end h. (text, here, (a.0.1, x, i.leads us end h));
           deep = (let q = i.deep in omega arith);
@@ -369,7 +369,7 @@ module _ (total : ℕ) where
 
     -- ---- any statement
 
-    pub statement_ok : (d : ℕ) (t : Token) (before text : List ℕ) (y : Stmt × List ℕ) → d ≤ MAX_OPEN_BRACES → length text < m → front total before ≡ Ok (t, text) → statement_in body total d t before text ≡ Ok y → Took total before (first y.0 done) y.1 d
+    pub statement_ok : (d : ℕ) (t : Token) (before text : List ℕ) (y : Stmt × List ℕ) → d ≤ MAX_OPEN_BRACES → length text < m → front total before ≡ Ok (t, text) → statement_in body total d t before text ≡ Ok y → Took total before (followed_by y.0 done) y.1 d
     unfolding StmtTook
     statement_ok d (name x) before text y le lt here e = drawing_ok x d before text y le here e
     statement_ok d (word k.Reg) before text y le lt here e = reg_ok d before text y le here e

@@ -6,9 +6,9 @@ use Rattle.pl_syntax.specs.declared.fault.SyntaxFault.{SyntaxFault}
 use Rattle.pl_syntax.specs.declared.tree.Stmt.{Stmt}
 use Rattle.pl_syntax.specs.Tokens.{Token, the_end, sign, word, name, number, front, Leads}
 use Rattle.pl_syntax.specs.Tree.{Tree, done}
-use Rattle.pl_syntax.specs.Bodies.{first, tree_of}
+use Rattle.pl_syntax.specs.Bodies.{followed_by, tree_of}
 use Rattle.pl_syntax.specs.Grammar.{tokens, IsText, HasFault, Begins, no_token, cannot_stand, too_deep}
-use Rattle.pl_syntax.specs.Reading.{◌>>=◌, unexpected, statement_in, statements_at, ends_list, ended, program_at}
+use Rattle.pl_syntax.specs.inside.Reading.{◌>>=◌, unexpected, statement_in, statements_at, ends_list, ended_at, program_at}
 use Rattle.pl_syntax.proofs.Fronts.{chosen, ok_pair, progress, end_in_front}
 use Rattle.pl_syntax.proofs.Machine.{Shape, State, at, over, step, first_step, run, run-append, comes_to_end, some_front, depth_is}
 use Rattle.pl_syntax.proofs.Forest.{begins_if, runs_if}
@@ -59,7 +59,7 @@ module _ (total : ℕ) where
                 | inr c ↦
                     let one = statement_ok total (statements_at n total) n law d x.0 text x.1 c.0 le (omega arith) here c.1 in
                     let less = first_lt total c.0.0 text c.0.1 d one in
-                    behind_tree total (first c.0.0 done) d text c.0.1 f one
+                    behind_tree total (followed_by c.0.0 done) d text c.0.1 f one
                     (elim (bind_err (statements_at n total d c.0.1) _ f c.2) [
                       | inl q ↦ law.fails d c.0.1 f le (omega arith) q
                       | inr g ↦ absurd (let q = g.2 in cc)
@@ -86,14 +86,14 @@ module _ (total : ℕ) where
 
 -- ---- the end
 
-ended_ok : (total : ℕ) (items : List Stmt) (text : List ℕ) (t : Token) (p : Tree) → ended total items text t ≡ Ok p → (t ≡ the_end) × (tree_of items ≡ p)
+ended_ok : (total : ℕ) (items : List Stmt) (text : List ℕ) (t : Token) (p : Tree) → ended_at total items text t ≡ Ok p → (t ≡ the_end) × (tree_of items ≡ p)
 ended_ok total items text the_end p e = (refl, ok_is _ p e)
 ended_ok total items text (sign q) p e = absurd cc
 ended_ok total items text (word q) p e = absurd cc
 ended_ok total items text (name q) p e = absurd cc
 ended_ok total items text (number q) p e = absurd cc
 
-ended_err : (total : ℕ) (items : List Stmt) (text : List ℕ) (t : Token) (f : SyntaxFault) → ended total items text t ≡ Err f → ends_list t ≡ true → (first_step 0 t ≡ None) × (f ≡ unexpected total text)
+ended_err : (total : ℕ) (items : List Stmt) (text : List ℕ) (t : Token) (f : SyntaxFault) → ended_at total items text t ≡ Err f → ends_list t ≡ true → (first_step 0 t ≡ None) × (f ≡ unexpected total text)
 ended_err total items text the_end f e b = absurd cc
 ended_err total items text (sign Equals) f e b = absurd cc
 ended_err total items text (sign OpenParen) f e b = absurd cc

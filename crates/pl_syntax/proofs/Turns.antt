@@ -6,7 +6,7 @@ use Rattle.pl_syntax.specs.declared.fault.ParseEnd.{ParseEnd}
 use Rattle.pl_syntax.specs.declared.fault.ParseEnd.TheVariants as ends
 use Rattle.pl_syntax.specs.declared.tree.Stmt.{Stmt}
 use Rattle.pl_syntax.specs.Tokens.{Token, front}
-use Rattle.pl_syntax.specs.Reading.{◌>>=◌, Fails, statements_at, statement_in, ends_list}
+use Rattle.pl_syntax.specs.inside.Reading.{◌>>=◌, Fails, statements_at, statement_in, ends_list}
 
 abbrev Read : Type 0
 Read = Result (List Stmt × List ℕ) SyntaxFault

@@ -7,7 +7,7 @@ use Rattle.pl_syntax.specs.declared.fault.SyntaxFault.{SyntaxFault}
 use Rattle.pl_syntax.specs.Tokens.{Token, the_end, sign, word, name, front, Leads}
 use Rattle.pl_syntax.specs.Tree.{Tree, done, plain, fork, loop, Plain, new_task, new_phaser, reg, dereg, adv, await, skip, height}
 use Rattle.pl_syntax.specs.Grammar.{tokens, plain_tokens, sentence, opened, open_after, StaysShallow, IsText, HasFault, Begins, IsAtFault, no_token, cannot_stand, too_deep}
-use Rattle.pl_syntax.specs.Reading.{ends_list}
+use Rattle.pl_syntax.specs.inside.Reading.{ends_list}
 use Rattle.pl_syntax.proofs.Fronts.{ok_pair}
 use Rattle.pl_syntax.proofs.Machine.{at, run, run-append, run_sentence}
 use Rattle.pl_syntax.proofs.Forest.{runs_if}

@@ -7,9 +7,8 @@ pub mod Printed
 pub mod Spacing
 -- How the types of the program show as those.
 pub mod Bodies
-pub mod Falls
-pub mod Seen
-pub mod Reading
 -- What is promised.
 pub mod Parsing
 pub mod Laws
+-- How the program does it: private contracts alone cite these.
+pub mod inside

@@ -4,9 +4,13 @@ use Rattle.pl_syntax.specs.declared.limits.TheConstants.{MAX_NUMBER}
 use Rattle.pl_syntax.specs.Words.{IsName}
 use Rattle.pl_syntax.specs.Tree.{Tree, done, plain, fork, loop, Plain, new_task, new_phaser, reg, dereg, adv, await, skip}
 
--- a line, behind two spaces for each open brace
-abbrev pub line : ℕ → List ℕ → List ℕ
-line depth text = replicate (2 * depth) 32 ++ text ++ 10 ∷ []
+-- a line: its words, and the LF that ends it
+abbrev pub line : List ℕ → List ℕ
+line words = words ++ 10 ∷ []
+
+-- a line behind two spaces for each open brace
+abbrev pub indented_line : ℕ → List ℕ → List ℕ
+indented_line depth words = replicate (2 * depth) 32 ++ line words
 
 -- a statement without a body
 abbrev pub plain_text : Plain → List ℕ
@@ -21,11 +25,11 @@ plain_text skip = codes "skip;"
 -- the lines of a list of statements, where so many braces are open
 abbrev pub printed_at : ℕ → Tree → List ℕ
 printed_at depth done = []
-printed_at depth (plain s rest) = line depth (plain_text s) ++ printed_at depth rest
+printed_at depth (plain s rest) = indented_line depth (plain_text s) ++ printed_at depth rest
 printed_at depth (fork x body rest) =
-    line depth (codes "fork(" ++ x ++ codes ") {") ++ printed_at (depth + 1) body ++ line depth (codes "}") ++ printed_at depth rest
+    indented_line depth (codes "fork(" ++ x ++ codes ") {") ++ printed_at (depth + 1) body ++ indented_line depth (codes "}") ++ printed_at depth rest
 printed_at depth (loop k body rest) =
-    line depth (codes "loop " ++ decimal k ++ codes " {") ++ printed_at (depth + 1) body ++ line depth (codes "}") ++ printed_at depth rest
+    indented_line depth (codes "loop " ++ decimal k ++ codes " {") ++ printed_at (depth + 1) body ++ indented_line depth (codes "}") ++ printed_at depth rest
 
 -- the printed form of a program
 abbrev pub printed_of : Tree → List ℕ

@@ -2,7 +2,7 @@
 
 ghost use Rattle.std.specs.Prelude.{◌≡◌, ◌<◌, ◌≤◌, ◌^◌, length, IfOk, IsOk};
 ghost use Rattle.pl_syntax.specs.Words.{IsName};
-ghost use Rattle.pl_syntax.specs.Reading.{seen, unexpected, sign_at, name_at, number_at, maker_at, in_parens_at, named_at, pair_at, drawn_at, opened_at};
+ghost use Rattle.pl_syntax.specs.inside.Reading.{result_seen, unexpected, sign_at, name_at, number_at, maker_at, in_parens_at, named_at, pair_at, drawn_at, opened_at};
 
 use crate::fault::{CANNOT_STAND, SyntaxFault, TOO_DEEP};
 use crate::lexer::{next, place};
@@ -22,11 +22,11 @@ pub fn unexpected(total: usize, text: &[u8]) -> SyntaxFault
 }
 
 /// What is left behind this sign.
-#[tactic(auto, unfolding(crate::specs::Reading::sign_at))]
+#[tactic(auto, unfolding(crate::specs::inside::Reading::sign_at))]
 pub fn sign_at(total: usize, sign: Sign, text: &[u8]) -> Result<&[u8], SyntaxFault>
     requires within { length text.now ≤ total }
     requires small { total < 2 ^ 32 }
-    ensures exact { seen (λ x. x.now) result ≡ sign_at total sign text.now }
+    ensures exact { result_seen (λ x. x.now) result ≡ sign_at total sign text.now }
     ensures no_longer { IfOk result (λ x. length x.now ≤ length text.now) }
 {
     match next(total, text)? {
@@ -36,11 +36,11 @@ pub fn sign_at(total: usize, sign: Sign, text: &[u8]) -> Result<&[u8], SyntaxFau
 }
 
 /// A name, and what is left behind it.
-#[tactic(auto, unfolding(crate::specs::Reading::name_at))]
+#[tactic(auto, unfolding(crate::specs::inside::Reading::name_at))]
 pub fn name_at(total: usize, text: &[u8]) -> Result<(&[u8], &[u8]), SyntaxFault>
     requires within { length text.now ≤ total }
     requires small { total < 2 ^ 32 }
-    ensures exact { seen (λ x. (x.0.now, x.1.now)) result ≡ name_at total text.now }
+    ensures exact { result_seen (λ x. (x.0.now, x.1.now)) result ≡ name_at total text.now }
     ensures name { IfOk result (λ x. IsName x.0.now) }
     ensures no_longer { IfOk result (λ x. length x.1.now ≤ length text.now) }
 {
@@ -51,11 +51,11 @@ pub fn name_at(total: usize, text: &[u8]) -> Result<(&[u8], &[u8]), SyntaxFault>
 }
 
 /// A number, and what is left behind it.
-#[tactic(auto, unfolding(crate::specs::Reading::number_at))]
+#[tactic(auto, unfolding(crate::specs::inside::Reading::number_at))]
 pub fn number_at(total: usize, text: &[u8]) -> Result<(u16, &[u8]), SyntaxFault>
     requires within { length text.now ≤ total }
     requires small { total < 2 ^ 32 }
-    ensures exact { seen (λ x. (x.0, x.1.now)) result ≡ number_at total text.now }
+    ensures exact { result_seen (λ x. (x.0, x.1.now)) result ≡ number_at total text.now }
     ensures no_longer { IfOk result (λ x. length x.1.now ≤ length text.now) }
 {
     match next(total, text)? {
@@ -65,11 +65,11 @@ pub fn number_at(total: usize, text: &[u8]) -> Result<(u16, &[u8]), SyntaxFault>
 }
 
 /// Whether a task is made, or a phaser; and what is left behind that word.
-#[tactic(auto, unfolding(crate::specs::Reading::maker_at))]
+#[tactic(auto, unfolding(crate::specs::inside::Reading::maker_at))]
 pub fn maker_at(total: usize, text: &[u8]) -> Result<(bool, &[u8]), SyntaxFault>
     requires within { length text.now ≤ total }
     requires small { total < 2 ^ 32 }
-    ensures exact { seen (λ x. (x.0, x.1.now)) result ≡ maker_at total text.now }
+    ensures exact { result_seen (λ x. (x.0, x.1.now)) result ≡ maker_at total text.now }
     ensures no_longer { IfOk result (λ x. length x.1.now ≤ length text.now) }
 {
     match next(total, text)? {
@@ -80,11 +80,11 @@ pub fn maker_at(total: usize, text: &[u8]) -> Result<(bool, &[u8]), SyntaxFault>
 }
 
 /// The name in `( x )`.
-#[tactic(auto, unfolding(crate::specs::Reading::in_parens_at))]
+#[tactic(auto, unfolding(crate::specs::inside::Reading::in_parens_at))]
 pub fn in_parens_at(total: usize, text: &[u8]) -> Result<(&[u8], &[u8]), SyntaxFault>
     requires within { length text.now ≤ total }
     requires small { total < 2 ^ 32 }
-    ensures exact { seen (λ x. (x.0.now, x.1.now)) result ≡ in_parens_at total text.now }
+    ensures exact { result_seen (λ x. (x.0.now, x.1.now)) result ≡ in_parens_at total text.now }
     ensures name { IfOk result (λ x. IsName x.0.now) }
     ensures no_longer { IfOk result (λ x. length x.1.now ≤ length text.now) }
 {
@@ -95,11 +95,11 @@ pub fn in_parens_at(total: usize, text: &[u8]) -> Result<(&[u8], &[u8]), SyntaxF
 }
 
 /// The name in `( x ) ;`.
-#[tactic(auto, unfolding(crate::specs::Reading::named_at))]
+#[tactic(auto, unfolding(crate::specs::inside::Reading::named_at))]
 pub fn named_at(total: usize, text: &[u8]) -> Result<(&[u8], &[u8]), SyntaxFault>
     requires within { length text.now ≤ total }
     requires small { total < 2 ^ 32 }
-    ensures exact { seen (λ x. (x.0.now, x.1.now)) result ≡ named_at total text.now }
+    ensures exact { result_seen (λ x. (x.0.now, x.1.now)) result ≡ named_at total text.now }
     ensures name { IfOk result (λ x. IsName x.0.now) }
     ensures no_longer { IfOk result (λ x. length x.1.now ≤ length text.now) }
 {
@@ -109,11 +109,11 @@ pub fn named_at(total: usize, text: &[u8]) -> Result<(&[u8], &[u8]), SyntaxFault
 }
 
 /// The names in `( x , y ) ;`.
-#[tactic(auto, unfolding(crate::specs::Reading::pair_at))]
+#[tactic(auto, unfolding(crate::specs::inside::Reading::pair_at))]
 pub fn pair_at(total: usize, text: &[u8]) -> Result<(&[u8], &[u8], &[u8]), SyntaxFault>
     requires within { length text.now ≤ total }
     requires small { total < 2 ^ 32 }
-    ensures exact { seen (λ x. (x.0.now, x.1.now, x.2.now)) result ≡ pair_at total text.now }
+    ensures exact { result_seen (λ x. (x.0.now, x.1.now, x.2.now)) result ≡ pair_at total text.now }
     ensures first { IfOk result (λ x. IsName x.0.now) }
     ensures second { IfOk result (λ x. IsName x.1.now) }
     ensures no_longer { IfOk result (λ x. length x.2.now ≤ length text.now) }
@@ -128,11 +128,11 @@ pub fn pair_at(total: usize, text: &[u8]) -> Result<(&[u8], &[u8], &[u8]), Synta
 }
 
 /// What is made in `= newTid ( ) ;` or `= newPhaser ( ) ;`: a task or not.
-#[tactic(auto, unfolding(crate::specs::Reading::drawn_at))]
+#[tactic(auto, unfolding(crate::specs::inside::Reading::drawn_at))]
 pub fn drawn_at(total: usize, text: &[u8]) -> Result<(bool, &[u8]), SyntaxFault>
     requires within { length text.now ≤ total }
     requires small { total < 2 ^ 32 }
-    ensures exact { seen (λ x. (x.0, x.1.now)) result ≡ drawn_at total text.now }
+    ensures exact { result_seen (λ x. (x.0, x.1.now)) result ≡ drawn_at total text.now }
     ensures no_longer { IfOk result (λ x. length x.1.now ≤ length text.now) }
 {
     let equals = sign_at(total, Sign::Equals, text)?;
@@ -144,11 +144,11 @@ pub fn drawn_at(total: usize, text: &[u8]) -> Result<(bool, &[u8]), SyntaxFault>
 }
 
 /// What is left behind a `{`, where so many braces are open before it.
-#[tactic(auto, unfolding(crate::specs::Reading::opened_at))]
+#[tactic(auto, unfolding(crate::specs::inside::Reading::opened_at))]
 pub fn opened_at(total: usize, depth: u32, text: &[u8]) -> Result<&[u8], SyntaxFault>
     requires within { length text.now ≤ total }
     requires small { total < 2 ^ 32 }
-    ensures exact { seen (λ x. x.now) result ≡ opened_at total depth text.now }
+    ensures exact { result_seen (λ x. x.now) result ≡ opened_at total depth text.now }
     ensures no_longer { IfOk result (λ x. length x.now ≤ length text.now) }
     ensures shallow { IsOk result → depth < MAX_OPEN_BRACES }
 {

@@ -4,7 +4,7 @@ ghost use Rattle.std.specs.Prelude.{◌≡◌, ◌+◌, ◌-◌, ◌<◌, ◌≤
 ghost use Rattle.std.specs.List.{prefix_len};
 ghost use Rattle.pl_syntax.specs.Words.{is_word_byte};
 ghost use Rattle.pl_syntax.specs.Tokens.{token_here, front, is_blank, after_gap, after_comment, sign_of, sign_token, place};
-ghost use Rattle.pl_syntax.specs.Seen.{token_seen, front_seen, HasForm};
+ghost use Rattle.pl_syntax.specs.inside.Seen.{token_seen, front_seen, HasForm};
 
 use crate::fault::{NO_TOKEN, SyntaxFault};
 use crate::token::{Sign, Token};

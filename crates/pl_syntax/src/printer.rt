@@ -3,9 +3,9 @@
 ghost use Rattle.std.specs.Prelude.{◌≡◌, ◌+◌, ◌*◌, ◌≤◌, ◌∷◌, [], ◌++◌, replicate, decimal, codes, OnOk, IfOk};
 ghost use Rattle.pl_syntax.specs.Words.{IsName};
 ghost use Rattle.pl_syntax.specs.Tree.{done, reg, height};
-ghost use Rattle.pl_syntax.specs.Bodies.{first};
+ghost use Rattle.pl_syntax.specs.Bodies.{followed_by};
 ghost use Rattle.pl_syntax.specs.Grammar.{IsText};
-ghost use Rattle.pl_syntax.specs.Printed.{line, plain_text, printed_at, printed_of, IsWritable};
+ghost use Rattle.pl_syntax.specs.Printed.{indented_line, plain_text, printed_at, printed_of, IsWritable};
 
 use crate::limits::MAX_OPEN_BRACES;
 use crate::name::Name;
@@ -28,7 +28,7 @@ fn named_room(depth: u32, x: &Name, others: usize) -> usize {
 // The lines of a statement.
 #[cycle(room)]
 fn statement_room(depth: u32, stmt: &Stmt) -> usize
-    requires { height (first stmt.now done) + depth ≤ MAX_OPEN_BRACES }
+    requires { height (followed_by stmt.now done) + depth ≤ MAX_OPEN_BRACES }
 {
     match stmt {
         Stmt::NewTask { x } => named_room(depth, x, 12),
@@ -105,7 +105,7 @@ fn put_named(
 fn put_reg(out: &mut Vec<u8>, depth: u32, x: &Name, y: &Name) -> Result<(), AllocError>
     requires { depth ≤ MAX_OPEN_BRACES }
     ensures text { OnOk result
-        (out.new.items ≡ out.old.items ++ line depth (plain_text (reg x.now y.now))) }
+        (out.new.items ≡ out.old.items ++ indented_line depth (plain_text (reg x.now y.now))) }
     ensures first { OnOk result (IsName x.now) }
     ensures second { OnOk result (IsName y.now) }
 {
@@ -119,7 +119,7 @@ fn put_reg(out: &mut Vec<u8>, depth: u32, x: &Name, y: &Name) -> Result<(), Allo
 fn put_loop(alloc: Global, out: &mut Vec<u8>, depth: u32, k: u16) -> Result<(), AllocError>
     requires { depth ≤ MAX_OPEN_BRACES }
     ensures { OnOk result
-        (out.new.items ≡ out.old.items ++ line depth (codes "loop " ++ decimal k ++ codes " {")) }
+        (out.new.items ≡ out.old.items ++ indented_line depth (codes "loop " ++ decimal k ++ codes " {")) }
 {
     put_text(out, depth, b"loop ")?;
     let number = format!(in alloc; "{k}")?;
@@ -136,10 +136,10 @@ fn put_statement(
     depth: u32,
     stmt: &Stmt,
 ) -> Result<(), AllocError>
-    requires { height (first stmt.now done) + depth ≤ MAX_OPEN_BRACES }
+    requires { height (followed_by stmt.now done) + depth ≤ MAX_OPEN_BRACES }
     ensures text { OnOk result
-        (out.new.items ≡ out.old.items ++ printed_at depth (first stmt.now done)) }
-    ensures form { OnOk result (IsWritable (first stmt.now done)) }
+        (out.new.items ≡ out.old.items ++ printed_at depth (followed_by stmt.now done)) }
+    ensures form { OnOk result (IsWritable (followed_by stmt.now done)) }
 {
     match stmt {
         Stmt::NewTask { x } => put_named(out, depth, b"", x, b" = newTid();\n"),

@@ -3,12 +3,12 @@
 ghost use Rattle.std.specs.Prelude.{◌≡◌, ℕ, ◌+◌, ◌<◌, ◌≤◌, ◌^◌, length, IfOk, IfErr};
 ghost use Rattle.pl_syntax.specs.Words.{IsName};
 ghost use Rattle.pl_syntax.specs.Tree.{Tree, count, done};
-ghost use Rattle.pl_syntax.specs.Bodies.{first, tree_of};
-ghost use Rattle.pl_syntax.specs.Seen.{token_of, HasForm};
+ghost use Rattle.pl_syntax.specs.Bodies.{followed_by, tree_of};
+ghost use Rattle.pl_syntax.specs.inside.Seen.{token_of, HasForm};
 ghost use Rattle.pl_syntax.specs.declared.fault.SyntaxFault.{SyntaxFault};
 ghost use Rattle.pl_syntax.specs.Grammar.{IsText, HasFault};
 ghost use Rattle.pl_syntax.specs.Parsing.{GivesProgram, GivesFault, Explains};
-ghost use Rattle.pl_syntax.specs.Reading.{Gives, drawing_at, reg_at, dereg_at, adv_at, await_at, skip_at, statement_in, statements_at, block_at, fork_at, loop_at, ends_list, program_at};
+ghost use Rattle.pl_syntax.specs.inside.Reading.{Gives, drawing_at, reg_at, dereg_at, adv_at, await_at, skip_at, statement_in, statements_at, block_at, fork_at, loop_at, ends_list, program_at};
 
 use crate::expect::{
     drawn_at, in_parens_at, named_at, number_at, opened_at, pair_at, sign_at, unexpected,
@@ -22,7 +22,7 @@ use crate::tree::{Body, Program, Stmt};
 use std::alloc::Global;
 
 // `x = newTid();` or `x = newPhaser();`, behind its name.
-#[tactic(auto, unfolding(crate::specs::Reading::drawing_at))]
+#[tactic(auto, unfolding(crate::specs::inside::Reading::drawing_at))]
 fn drawing_at<'a>(
     alloc: Global,
     total: usize,
@@ -34,7 +34,7 @@ fn drawing_at<'a>(
     requires name { IsName x.now }
     ensures exact { Gives (λ x. (x.0, x.1.now)) result (drawing_at total x.now text.now) }
     ensures no_longer { IfOk result (λ x. length x.1.now ≤ length text.now) }
-    ensures counted { IfOk result (λ x. count (first x.0 done) + length x.1.now ≤ length text.now + 1) }
+    ensures counted { IfOk result (λ x. count (followed_by x.0 done) + length x.1.now ≤ length text.now + 1) }
 {
     let (is_task, rest) = drawn_at(total, text)?;
     let x = Name::new(alloc, x)?;
@@ -46,13 +46,13 @@ fn drawing_at<'a>(
 }
 
 // `reg(x, y);`, behind its first word.
-#[tactic(auto, unfolding(crate::specs::Reading::reg_at))]
+#[tactic(auto, unfolding(crate::specs::inside::Reading::reg_at))]
 fn reg_at(alloc: Global, total: usize, text: &[u8]) -> Result<(Stmt, &[u8]), ParseEnd>
     requires within { length text.now ≤ total }
     requires small { total < 2 ^ 32 }
     ensures exact { Gives (λ x. (x.0, x.1.now)) result (reg_at total text.now) }
     ensures no_longer { IfOk result (λ x. length x.1.now ≤ length text.now) }
-    ensures counted { IfOk result (λ x. count (first x.0 done) + length x.1.now ≤ length text.now + 1) }
+    ensures counted { IfOk result (λ x. count (followed_by x.0 done) + length x.1.now ≤ length text.now + 1) }
 {
     let (x, y, rest) = pair_at(total, text)?;
     let x = Name::new(alloc, x)?;
@@ -61,13 +61,13 @@ fn reg_at(alloc: Global, total: usize, text: &[u8]) -> Result<(Stmt, &[u8]), Par
 }
 
 // `dereg(x);`, behind its first word.
-#[tactic(auto, unfolding(crate::specs::Reading::dereg_at))]
+#[tactic(auto, unfolding(crate::specs::inside::Reading::dereg_at))]
 fn dereg_at(alloc: Global, total: usize, text: &[u8]) -> Result<(Stmt, &[u8]), ParseEnd>
     requires within { length text.now ≤ total }
     requires small { total < 2 ^ 32 }
     ensures exact { Gives (λ x. (x.0, x.1.now)) result (dereg_at total text.now) }
     ensures no_longer { IfOk result (λ x. length x.1.now ≤ length text.now) }
-    ensures counted { IfOk result (λ x. count (first x.0 done) + length x.1.now ≤ length text.now + 1) }
+    ensures counted { IfOk result (λ x. count (followed_by x.0 done) + length x.1.now ≤ length text.now + 1) }
 {
     let (x, rest) = named_at(total, text)?;
     let x = Name::new(alloc, x)?;
@@ -75,13 +75,13 @@ fn dereg_at(alloc: Global, total: usize, text: &[u8]) -> Result<(Stmt, &[u8]), P
 }
 
 // `adv(x);`, behind its first word.
-#[tactic(auto, unfolding(crate::specs::Reading::adv_at))]
+#[tactic(auto, unfolding(crate::specs::inside::Reading::adv_at))]
 fn adv_at(alloc: Global, total: usize, text: &[u8]) -> Result<(Stmt, &[u8]), ParseEnd>
     requires within { length text.now ≤ total }
     requires small { total < 2 ^ 32 }
     ensures exact { Gives (λ x. (x.0, x.1.now)) result (adv_at total text.now) }
     ensures no_longer { IfOk result (λ x. length x.1.now ≤ length text.now) }
-    ensures counted { IfOk result (λ x. count (first x.0 done) + length x.1.now ≤ length text.now + 1) }
+    ensures counted { IfOk result (λ x. count (followed_by x.0 done) + length x.1.now ≤ length text.now + 1) }
 {
     let (x, rest) = named_at(total, text)?;
     let x = Name::new(alloc, x)?;
@@ -89,13 +89,13 @@ fn adv_at(alloc: Global, total: usize, text: &[u8]) -> Result<(Stmt, &[u8]), Par
 }
 
 // `await(x);`, behind its first word.
-#[tactic(auto, unfolding(crate::specs::Reading::await_at))]
+#[tactic(auto, unfolding(crate::specs::inside::Reading::await_at))]
 fn await_at(alloc: Global, total: usize, text: &[u8]) -> Result<(Stmt, &[u8]), ParseEnd>
     requires within { length text.now ≤ total }
     requires small { total < 2 ^ 32 }
     ensures exact { Gives (λ x. (x.0, x.1.now)) result (await_at total text.now) }
     ensures no_longer { IfOk result (λ x. length x.1.now ≤ length text.now) }
-    ensures counted { IfOk result (λ x. count (first x.0 done) + length x.1.now ≤ length text.now + 1) }
+    ensures counted { IfOk result (λ x. count (followed_by x.0 done) + length x.1.now ≤ length text.now + 1) }
 {
     let (x, rest) = named_at(total, text)?;
     let x = Name::new(alloc, x)?;
@@ -103,13 +103,13 @@ fn await_at(alloc: Global, total: usize, text: &[u8]) -> Result<(Stmt, &[u8]), P
 }
 
 // `skip;`, behind its first word.
-#[tactic(auto, unfolding(crate::specs::Reading::skip_at))]
+#[tactic(auto, unfolding(crate::specs::inside::Reading::skip_at))]
 fn skip_at(total: usize, text: &[u8]) -> Result<(Stmt, &[u8]), ParseEnd>
     requires within { length text.now ≤ total }
     requires small { total < 2 ^ 32 }
     ensures exact { Gives (λ x. (x.0, x.1.now)) result (skip_at total text.now) }
     ensures no_longer { IfOk result (λ x. length x.1.now ≤ length text.now) }
-    ensures counted { IfOk result (λ x. count (first x.0 done) + length x.1.now ≤ length text.now + 1) }
+    ensures counted { IfOk result (λ x. count (followed_by x.0 done) + length x.1.now ≤ length text.now + 1) }
 {
     let rest = sign_at(total, Sign::Semicolon, text)?;
     Ok((Stmt::Skip, rest))
@@ -128,7 +128,7 @@ fn ends_list(token: &Token) -> bool
 
 // `{`, statements, `}`
 #[cycle(read)]
-#[tactic(auto, unfolding(crate::specs::Reading::block_at))]
+#[tactic(auto, unfolding(crate::specs::inside::Reading::block_at))]
 fn block_at(alloc: Global, total: usize, depth: u32, text: &[u8]) -> Result<(Body, &[u8]), ParseEnd>
     requires within { length text.now ≤ total }
     requires small { total < 2 ^ 32 }
@@ -144,14 +144,14 @@ fn block_at(alloc: Global, total: usize, depth: u32, text: &[u8]) -> Result<(Bod
 
 // `fork(x) { .. }`, behind its first word.
 #[cycle(read)]
-#[tactic(auto, unfolding(crate::specs::Reading::fork_at))]
+#[tactic(auto, unfolding(crate::specs::inside::Reading::fork_at))]
 fn fork_at(alloc: Global, total: usize, depth: u32, text: &[u8]) -> Result<(Stmt, &[u8]), ParseEnd>
     requires within { length text.now ≤ total }
     requires small { total < 2 ^ 32 }
     requires shallow { depth ≤ MAX_OPEN_BRACES }
     ensures exact { (n : ℕ) → length text.now < n → Gives (λ x. (x.0, x.1.now)) result (fork_at (statements_at n total) total depth text.now) }
     ensures no_longer { IfOk result (λ x. length x.1.now ≤ length text.now) }
-    ensures counted { IfOk result (λ x. count (first x.0 done) + length x.1.now ≤ length text.now + 1) }
+    ensures counted { IfOk result (λ x. count (followed_by x.0 done) + length x.1.now ≤ length text.now + 1) }
 {
     let (x, after) = in_parens_at(total, text)?;
     let x = Name::new(alloc, x)?;
@@ -161,14 +161,14 @@ fn fork_at(alloc: Global, total: usize, depth: u32, text: &[u8]) -> Result<(Stmt
 
 // `loop k { .. }`, behind its first word.
 #[cycle(read)]
-#[tactic(auto, unfolding(crate::specs::Reading::loop_at))]
+#[tactic(auto, unfolding(crate::specs::inside::Reading::loop_at))]
 fn loop_at(alloc: Global, total: usize, depth: u32, text: &[u8]) -> Result<(Stmt, &[u8]), ParseEnd>
     requires within { length text.now ≤ total }
     requires small { total < 2 ^ 32 }
     requires shallow { depth ≤ MAX_OPEN_BRACES }
     ensures exact { (n : ℕ) → length text.now < n → Gives (λ x. (x.0, x.1.now)) result (loop_at (statements_at n total) total depth text.now) }
     ensures no_longer { IfOk result (λ x. length x.1.now ≤ length text.now) }
-    ensures counted { IfOk result (λ x. count (first x.0 done) + length x.1.now ≤ length text.now + 1) }
+    ensures counted { IfOk result (λ x. count (followed_by x.0 done) + length x.1.now ≤ length text.now + 1) }
 {
     let (k, after) = number_at(total, text)?;
     let (body, rest) = block_at(alloc, total, depth, after)?;
@@ -192,7 +192,7 @@ fn statement_in<'a>(
     requires name { HasForm token }
     ensures exact { (n : ℕ) → length text.now < n → Gives (λ x. (x.0, x.1.now)) result (statement_in (statements_at n total) total depth (token_of token.entry) before.now text.now) }
     ensures no_longer { IfOk result (λ x. length x.1.now ≤ length text.now) }
-    ensures counted { IfOk result (λ x. count (first x.0 done) + length x.1.now ≤ length text.now + 1) }
+    ensures counted { IfOk result (λ x. count (followed_by x.0 done) + length x.1.now ≤ length text.now + 1) }
 {
     match token {
         Token::Name(x) => drawing_at(alloc, total, x, text),
@@ -235,7 +235,7 @@ fn statements_at(
 }
 
 // The program of a whole text, as a body.
-#[tactic(auto, unfolding(crate::specs::Reading::program_at))]
+#[tactic(auto, unfolding(crate::specs::inside::Reading::program_at))]
 fn program_at(alloc: Global, text: &[u8]) -> Result<Body, ParseEnd>
     requires { length text.now < 2 ^ 32 }
     ensures exact { Gives (λ x. x) result (program_at text.now) }

@@ -2,7 +2,7 @@
 
 ghost use Rattle.std.specs.Prelude.{◌≡◌, ◌<◌, ◌^◌};
 ghost use Rattle.pl_syntax.specs.Tree.{count, done};
-ghost use Rattle.pl_syntax.specs.Bodies.{first, tree_of};
+ghost use Rattle.pl_syntax.specs.Bodies.{followed_by, tree_of};
 
 use crate::name::Name;
 use std::marker::Model;
@@ -57,7 +57,7 @@ impl Model for Body {
     ghost size = { count };
 
     ghost use Rattle.std.proofs.Common.{arith};
-    ghost use Rattle.pl_syntax.specs.Falls.{falls};
+    ghost use Rattle.pl_syntax.specs.inside.Falls.{falls};
 
     ghost size_decreases = { λ a h. omega (arith, falls a.items.items) };
 }
@@ -99,8 +99,8 @@ pub struct Program {
 impl Stmt {
     // How many statements this one is, its body's included.
     fn statements(&self) -> u32
-        requires { count (first self.now done) < 2 ^ 32 }
-        ensures { result ≡ count (first self.now done) }
+        requires { count (followed_by self.now done) < 2 ^ 32 }
+        ensures { result ≡ count (followed_by self.now done) }
     {
         match self {
             Stmt::Fork { x: _, body } => body.statements() + 1,

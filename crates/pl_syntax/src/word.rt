@@ -5,7 +5,7 @@ ghost use Rattle.std.specs.List.{list_all, list_any};
 ghost use Rattle.std.specs.Str.{bytes_eq};
 ghost use Rattle.pl_syntax.specs.Words.{is_word_byte, is_name_byte, is_lower, is_digit, keyword_of, has_name_form, has_no_leading_zero, number_of, value_from};
 ghost use Rattle.pl_syntax.specs.Tokens.{word_token};
-ghost use Rattle.pl_syntax.specs.Seen.{token_seen};
+ghost use Rattle.pl_syntax.specs.inside.Seen.{token_seen};
 
 use crate::fault::{NO_NUMBER, NO_TOKEN, TOO_LONG};
 use crate::limits::{MAX_DIGITS, MAX_NAME_BYTES, MAX_NUMBER};

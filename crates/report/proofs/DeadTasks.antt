@@ -8,8 +8,9 @@ use Rattle.armus_base.specs.DeadLists.{IsDeadList}
 use Rattle.armus_base.specs.Deadlocks.{IsDeadBy}
 use Rattle.armus_base.proofs.Elements.{nothing_in_nil, Contains-head}
 use Rattle.report.specs.Lines.{cycle_line}
-use Rattle.report.specs.Reports.{IsLeastDead, IsSomeDead, AppendsCycle}
-use Rattle.report.specs.Standings.{IsIn}
+use Rattle.report.specs.Reports.{IsLeastDead, IsSomeDead}
+use Rattle.report.specs.inside.Appending.{AppendsCycle}
+use Rattle.report.specs.inside.Merging.{IsIn}
 use Rattle.verdict.specs.Cycles.{IsCycleOf}
 use Rattle.verdict.specs.declared.found.Cycle.{Cycle}
 

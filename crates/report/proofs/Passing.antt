@@ -7,7 +7,8 @@ use Rattle.armus_base.specs.declared.ids.TaskId.{TaskId}
 use Rattle.armus_base.specs.declared.ending.TaskEnd.{TaskEnd}
 use Rattle.armus_base.specs.declared.ending.TaskEnd.TheVariants.{Blocked, Done as HasEnded, Refused as WasRefused, Unforked as WasNotForked}
 use Rattle.report.specs.declared.standing.Standing.{Standing}
-use Rattle.report.specs.Standings.{Stands, AreStandings, IsTaskAt, IsIn}
+use Rattle.report.specs.Standings.{Stands, AreStandings}
+use Rattle.report.specs.inside.Merging.{IsNumberAt, IsIn}
 
 -- the tasks before the place are below t, and the others are not
 pub record HasPassed (tasks : List TaskId) (at t : ℕ) : Type 0 where
@@ -22,11 +23,11 @@ pub record AreFirst (IsDead : ℕ → Type 0) (ends : List TaskEnd) (n : ℕ) (s
 
 module _ (tasks : List TaskId) (up : AllPairs (λ a b. a.0 < b.0) tasks) (at t : ℕ) (h : HasPassed tasks at t) where
   -- at the place it stands in the list
-  pub there : IsTaskAt tasks at t → IsIn tasks t
+  pub there : IsNumberAt tasks at t → IsIn tasks t
   there (lt, e) = (at, lt, ap (λ n. record { 0 = n }) e)
 
   -- elsewhere it stands nowhere
-  pub nowhere : (IsTaskAt tasks at t → ⊥) → IsIn tasks t → ⊥
+  pub nowhere : (IsNumberAt tasks at t → ⊥) → IsIn tasks t → ⊥
   nowhere missing (k, lt, e) =
       let o : TaskId = record { 0 = t } in
       let f : (get_or tasks k o).0 ≡ t = ap (λ z. z.0) e in
@@ -42,7 +43,7 @@ module _ (tasks : List TaskId) (up : AllPairs (λ a b. a.0 < b.0) tasks) (at t :
       ]
 
   -- the place goes past a task that stands there
-  pub past : IsTaskAt tasks at t → HasPassed tasks (at + 1) (t + 1)
+  pub past : IsNumberAt tasks at t → HasPassed tasks (at + 1) (t + 1)
   past (lt, e) =
       let o : TaskId = record { 0 = t } in
       record {
@@ -59,7 +60,7 @@ module _ (tasks : List TaskId) (up : AllPairs (λ a b. a.0 < b.0) tasks) (at t :
       }
 
   -- and stays where the task is not there
-  pub stay : (IsTaskAt tasks at t → ⊥) → HasPassed tasks at (t + 1)
+  pub stay : (IsNumberAt tasks at t → ⊥) → HasPassed tasks at (t + 1)
   stay missing =
       record {
         inside = h.inside;
@@ -83,7 +84,7 @@ module _ (tasks : List TaskId) (up : AllPairs (λ a b. a.0 < b.0) tasks) (at t :
 
 -- whether a test at the place tells whether the task stands in the list
 module _ (tasks : List TaskId) (up : AllPairs (λ a b. a.0 < b.0) tasks) (at t : ℕ) (h : HasPassed tasks at t) where
-  pub told : (b : Bool) → IsTrue b ↔ IsTaskAt tasks at t → IsTrue b ↔ IsIn tasks t
+  pub told : (b : Bool) → IsTrue b ↔ IsNumberAt tasks at t → IsTrue b ↔ IsIn tasks t
   told true i = (λ x. there tasks up at t h (i.0 x), λ m. refl)
   told false i = (λ x. there tasks up at t h (i.0 x), λ m. absurd (nowhere tasks up at t h (λ x. let f : false ≡ true = i.1 x in cc) m))
 

@@ -6,3 +6,5 @@ pub mod Counts
 pub mod Lines
 pub mod Reports
 pub mod NamedDead
+-- How the program does it: private contracts alone cite these.
+pub mod inside

@@ -2,7 +2,8 @@
 use Rattle.std.specs.Prelude.{ℕ, List, [], ◌++◌, codes, decimal, flat_map}
 use Rattle.std.specs.List.{enumerate_from}
 use Rattle.armus_base.specs.declared.ids.TaskId.{TaskId}
-use Rattle.report.specs.Words.{line, task_word, event_word}
+use Rattle.pl_syntax.specs.Printed.{line}
+use Rattle.report.specs.Words.{task_word, event_word}
 use Rattle.report.specs.declared.counts.Counts.{Counts}
 use Rattle.adaptive.specs.declared.analysis.Used.{Used}
 use Rattle.adaptive.specs.declared.analysis.Used.TheVariants.{Wfg, Sg, Grg}

@@ -1,7 +1,8 @@
 -- The lines of live verdicts.
 use Rattle.std.specs.Prelude.{ℕ, List, ◌++◌, codes, flat_map}
 use Rattle.armus_base.specs.declared.status.Dead.{Dead}
-use Rattle.report.specs.Words.{line, task_word, event_word}
+use Rattle.pl_syntax.specs.Printed.{line}
+use Rattle.report.specs.Words.{task_word, event_word}
 
 -- the line of one task: dead t3 p0@1
 abbrev pub live_line : Dead → List ℕ

@@ -1,6 +1,6 @@
 -- The line that says why an input is refused.
 use Rattle.std.specs.Prelude.{ℕ, List, ◌++◌, codes, decimal}
-use Rattle.report.specs.Words.{line}
+use Rattle.pl_syntax.specs.Printed.{line}
 use Rattle.report.specs.declared.refusal.Refusal.{Refusal}
 use Rattle.report.specs.declared.refusal.Refusal.TheVariants.{Length, Syntax, Check, Schedule}
 

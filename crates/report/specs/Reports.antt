@@ -32,10 +32,6 @@ abbrev pub IsCycleText : List Status → List ℕ → Type 0
 IsCycleText blocked text =
     ((IsSomeDead blocked → ⊥) × (text ≡ [])) ⊎ ((cycle : List TaskId) × IsReportedCycle blocked cycle × (text ≡ cycle_line cycle))
 
--- the text has gone on with the cycle's line, if there is one
-abbrev pub AppendsCycle : List Status → List ℕ → List ℕ → Type 0
-AppendsCycle blocked old now = (text : List ℕ) × IsCycleText blocked text × (now ≡ old ++ text)
-
 -- the graph's line: the graph that is wanted, or the one chosen, with its number of edges
 abbrev pub IsGraphText : List Status → Wanted → List ℕ → Type 0
 IsGraphText blocked wanted text =

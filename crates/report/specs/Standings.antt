@@ -1,6 +1,5 @@
 -- How the tasks of a final state stand: a blocked task is dead or held.
-use Rattle.std.specs.Prelude.{◌≡◌, ℕ, ◌<◌, ◌⊎◌, List, length, Contains, slice_index_or}
-use Rattle.armus_base.specs.declared.ids.TaskId.{TaskId}
+use Rattle.std.specs.Prelude.{◌≡◌, ℕ, ◌<◌, ◌⊎◌, List, length, slice_index_or}
 use Rattle.armus_base.specs.declared.ending.TaskEnd.{TaskEnd}
 use Rattle.armus_base.specs.declared.ending.TaskEnd.TheVariants.{Blocked, Done as HasEnded, Refused as WasRefused, Unforked as WasNotForked}
 use Rattle.report.specs.declared.standing.Standing.{Standing}
@@ -17,11 +16,3 @@ Stands IsDead WasNotForked s = s ≡ Unforked
 pub record AreStandings (IsDead : ℕ → Type 0) (ends : List TaskEnd) (standings : List Standing) : Type 0 where
   pub sized : length standings ≡ length ends
   pub each : (t : ℕ) (e : TaskEnd) (s : Standing) → t < length ends → Stands (IsDead t) (slice_index_or ends t e) (slice_index_or standings t s)
-
--- the task stands at this place of the list
-abbrev pub IsTaskAt : List TaskId → ℕ → ℕ → Type 0
-IsTaskAt tasks at t = (at < length tasks) × ((slice_index_or tasks at (record { 0 = t })).0 ≡ t)
-
--- the task stands in the list
-abbrev pub IsIn : List TaskId → ℕ → Type 0
-IsIn tasks t = Contains tasks (record { 0 = t })

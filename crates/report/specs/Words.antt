@@ -1,5 +1,5 @@
 -- The words of which lines are made: tasks and events.
-use Rattle.std.specs.Prelude.{ℕ, List, [], ◌∷◌, ◌++◌, codes, decimal}
+use Rattle.std.specs.Prelude.{ℕ, List, ◌++◌, codes, decimal}
 use Rattle.armus_base.specs.declared.event.Event.{Event}
 
 -- a task: t3
@@ -9,7 +9,3 @@ task_word t = codes "t" ++ decimal t
 -- an event: p0@1
 abbrev pub event_word : Event → List ℕ
 event_word e = codes "p" ++ decimal e.p.0 ++ codes "@" ++ decimal e.n
-
--- a line: its words, and LF
-abbrev pub line : List ℕ → List ℕ
-line words = words ++ 10 ∷ []

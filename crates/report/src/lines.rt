@@ -1,6 +1,7 @@
 // The lines of a report, each appended to a text.
 ghost use Rattle.std.specs.Prelude.{◌≡◌, ◌++◌, OnOk, codes, decimal};
-ghost use Rattle.report.specs.Words.{line, task_word, event_word};
+ghost use Rattle.pl_syntax.specs.Printed.{line};
+ghost use Rattle.report.specs.Words.{task_word, event_word};
 ghost use Rattle.report.specs.Lines.{counts_line, task_line, task_lines, cycle_line, graph_name, graph_line};
 
 use crate::counts::Counts;

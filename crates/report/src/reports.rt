@@ -2,7 +2,8 @@
 ghost use Rattle.std.specs.Prelude.{◌≡◌, ◌++◌, ◌↔◌, List, ℕ, IfOk, OnOk, IsTrue};
 ghost use Rattle.armus_base.specs.DeadLists.{IsDeadList};
 ghost use Rattle.armus_base.specs.Statuses.{IsInOrder};
-ghost use Rattle.report.specs.Reports.{IsReport, IsSomeDead, AppendsCycle};
+ghost use Rattle.report.specs.Reports.{IsReport, IsSomeDead};
+ghost use Rattle.report.specs.inside.Appending.{AppendsCycle};
 
 use crate::counts::counts_of;
 use crate::lines::{put_counts, put_cycle, put_graph, put_tasks};

@@ -1,6 +1,7 @@
 // How the tasks of a final state stand, in the words of a report.
 ghost use Rattle.std.specs.Prelude.{◌≡◌, ◌<◌, ◌≤◌, ◌↔◌, length, IfOk, IsTrue, slice_index_or, AllPairs};
-ghost use Rattle.report.specs.Standings.{Stands, AreStandings, IsIn, IsTaskAt};
+ghost use Rattle.report.specs.Standings.{Stands, AreStandings};
+ghost use Rattle.report.specs.inside.Merging.{IsIn, IsNumberAt};
 
 use armus_base::{Event, TaskEnd, TaskId};
 use std::alloc::{AllocError, Global};
@@ -23,7 +24,7 @@ pub enum Standing {
 // Whether a task stands at a place of the list.
 fn is_task_at(tasks: &[TaskId], at: usize, t: usize) -> bool
     requires { at ≤ length tasks.now }
-    ensures { IsTrue result ↔ IsTaskAt tasks.now at t }
+    ensures { IsTrue result ↔ IsNumberAt tasks.now at t }
 {
     at < tasks.len() && tasks[at].0 as usize == t
 }

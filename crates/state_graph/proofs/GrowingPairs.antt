@@ -7,7 +7,7 @@ use Rattle.std.proofs.lemmas.List.Elements.{Contains-get_or}
 use Rattle.digraph.specs.Graph.{HasEdge}
 use Rattle.armus_base.specs.Counts.{IsCount}
 use Rattle.armus_base.proofs.Counts.{count_same, count_unique, count_none}
-use Rattle.dep_state.specs.Deps.{Deps, IsWellFormed, impeders_of}
+use Rattle.dep_state.specs.Deps.{Deps, AreRelations, impeders_of}
 use Rattle.dep_state.specs.Deps.{IsAwaitedBy}
 use Rattle.state_graph.specs.StateEdges.{IsStatePair, IsStateCount, StaysSmallBelow, IsGrown, IsReversed}
 use Rattle.digraph.proofs.AddedEdges.{no_edge}
@@ -83,7 +83,7 @@ module _ (d : Deps) (k event : ℕ) (edges mid now : List (List ℕ)) (seen : Li
 
 -- each event that a task impedes is an event
 pub impeded_inside :
-    (d : Deps) (k : ℕ) (edges : List (List ℕ)) (seen : List Bool) (impeded : List (List ℕ)) → IsWellFormed d → IsGrown d k edges seen impeded →
+    (d : Deps) (k : ℕ) (edges : List (List ℕ)) (seen : List Bool) (impeded : List (List ℕ)) → AreRelations d → IsGrown d k edges seen impeded →
     (t : ℕ) → All (λ e. e < length d.events) (get_or impeded t [])
 impeded_inside d k edges seen impeded ok h t j e lt =
     let c = (h.impedes t (get_or (get_or impeded t []) j e)).0 (Contains-get_or (get_or impeded t []) j e lt) in

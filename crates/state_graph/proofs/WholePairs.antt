@@ -3,7 +3,7 @@ use Rattle.std.proofs.Common.{◌≡◌, ℕ, ◌+◌, ◌<◌, List, length, sy
 use Rattle.std.specs.Prelude.{Contains, ◌↔◌}
 use Rattle.std.proofs.lemmas.Bool.{cases_eq}
 use Rattle.digraph.specs.Graph.{HasEdge}
-use Rattle.dep_state.specs.Deps.{Deps, IsWellFormed, impeders_of}
+use Rattle.dep_state.specs.Deps.{Deps, AreRelations, impeders_of}
 use Rattle.dep_state.proofs.TaskPlaces.{row_some, impeder_inside}
 use Rattle.state_graph.specs.StateEdges.{IsStatePair}
 
@@ -29,7 +29,7 @@ event_more d mid now n inv adds i j = (
 
 -- each event is awaited, so these are all pairs
 pub all_pairs :
-    (d : Deps) (ok : IsWellFormed d) (edges : List (List ℕ)) (n : ℕ) → n ≡ length d.events → ((i j : ℕ) → HasEdge edges i j ↔ ((i < n) × IsPairBy d i j)) →
+    (d : Deps) (ok : AreRelations d) (edges : List (List ℕ)) (n : ℕ) → n ≡ length d.events → ((i j : ℕ) → HasEdge edges i j ↔ ((i < n) × IsPairBy d i j)) →
     (i j : ℕ) → HasEdge edges i j ↔ IsStatePair d (length d.tasks) i j
 all_pairs d ok edges n same inv i j = (
   λ h. let (lt, (u, c, f)) = (inv i j).0 h in (ok.each_awaited i (omega arith), (u, impeder_inside d ok i u c, c, sym f)),

@@ -14,7 +14,7 @@ use Rattle.dep_state.proofs.EventPlaces.{awaited_at, impeded_at}
 use Rattle.dep_state.proofs.Made.{left_of}
 use Rattle.dep_state.proofs.TaskPlaces.{element, StandsAt, one_task, count, stands_task}
 use Rattle.verdict.specs.Cycles.{IsDeadStep}
-use Rattle.verdict.specs.DeadWalks.{IsFlags, IsNextDead, IsWalkable}
+use Rattle.verdict.specs.inside.DeadWalks.{IsFlags, IsNextDead, IsWalkable}
 
 -- what a test says
 told : (b : Bool) (P : Type 0) → MatchBool b P (P → ⊥) → (b ≡ true) ↔ P

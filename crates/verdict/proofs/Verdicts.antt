@@ -16,7 +16,7 @@ use Rattle.dep_state.specs.Deps.{Deps, IsDepsOf}
 use Rattle.dep_state.proofs.DeadSets.{Contains-from_map, dead_in_list}
 use Rattle.dep_state.proofs.TaskPlaces.{StandsAt, one_place, count, impeder_inside}
 use Rattle.verdict.specs.Cycles.{IsDeadStep, HaveEvents, IsCycleOf}
-use Rattle.verdict.specs.DeadWalks.{IsFlags, IsNextDead, IsMadeOf}
+use Rattle.verdict.specs.inside.DeadWalks.{IsFlags, IsNextDead, IsMadeOf}
 use Rattle.verdict.specs.declared.found.Cycle.{Cycle}
 use Rattle.verdict.proofs.DeadPlaces.{dead_step}
 

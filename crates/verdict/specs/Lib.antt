@@ -1,2 +1,3 @@
 pub mod Cycles
-pub mod DeadWalks
+-- How the program does it: private contracts alone cite these.
+pub mod inside

@@ -6,7 +6,7 @@ ghost use Rattle.armus_base.specs.Statuses.{IsInOrder};
 ghost use Rattle.armus_base.specs.declared.status.Status.{Status};
 ghost use Rattle.dep_state.specs.Picks.{Ascend};
 ghost use Rattle.verdict.specs.Cycles.{IsCycleOf, IsCycle};
-ghost use Rattle.verdict.specs.DeadWalks.{IsFlags, Ascends, IsLeastDead, IsNextDead, IsWalkable, IsMadeOf};
+ghost use Rattle.verdict.specs.inside.DeadWalks.{IsFlags, Ascends, IsLeastFlagged, IsNextDead, IsWalkable, IsMadeOf};
 
 use crate::Cycle;
 use armus_base::{List, NoMemory, Status, TaskId};
@@ -41,7 +41,7 @@ fn least_dead(row: &[u32], flags: &[bool]) -> Option<u32>
     requires inside { All (λ b. b < length flags.now) row.now }
     requires ascends { Ascends row.now }
     ensures none { IfNone result (All (λ b. slice_index_or flags.now b false ≡ false) row.now) }
-    ensures some { IfSome result (IsLeastDead row.now flags.now) }
+    ensures some { IfSome result (IsLeastFlagged row.now flags.now) }
 {
     for b in row {
         if flags[*b as usize] {

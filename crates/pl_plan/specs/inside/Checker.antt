@@ -26,7 +26,7 @@ pub record Checker : Type 0 where
   pub slot_count : ℕ
   pub things : List Thing
   pub ops : ℕ
-  pub meetings : ℕ
+  pub visits : ℕ
 
 -- the slot of the name with number x, or 0
 abbrev pub slot_of : Checker → ℕ → ℕ
@@ -61,7 +61,7 @@ StartFits tasks phasers slot_count names steps None = Unit {0}
 StartFits tasks phasers slot_count names steps (Some start) = IsStart tasks phasers slot_count names steps start
 
 -- what holds of all that the checker keeps
-pub record Fits (k : Checker) : Type 0 where
+pub record IsChecker (k : Checker) : Type 0 where
   pub starts_many : length k.starts ≡ length k.parents
   pub codes_many : length k.codes ≡ length k.parents
   pub few : length k.parents ≤ max_tasks
@@ -76,7 +76,7 @@ pub record Fits (k : Checker) : Type 0 where
 
 -- what stays and grows
 pub record Keeps (old new : Checker) : Type 0 where
-  pub fits : Fits new
+  pub fits : IsChecker new
   pub more : length old.parents ≤ length new.parents
   pub steps : new.steps ≡ old.steps
   pub slots : length new.slots ≡ length old.slots
@@ -104,8 +104,8 @@ abbrev pub pushed : ℕ → Op → Checker → Checker
 pushed t o k = record k { codes = slice_set k.codes t (slice_index_or k.codes t [] ++ o ∷ []); ops = k.ops + 1 }
 
 -- whether task t is a member of phaser p
-abbrev pub marked : ℕ → ℕ → Bool → Checker → Checker
-marked t p v k = record k { members = slice_set k.members (max_phasers * t + p) v }
+abbrev pub with_membership : ℕ → ℕ → Bool → Checker → Checker
+with_membership t p v k = record k { members = slice_set k.members (max_phasers * t + p) v }
 
 -- task c is forked with these steps and the things in the slots that there are
 abbrev pub started : ℕ → ℕ → ℕ → Checker → Checker
@@ -117,9 +117,9 @@ abbrev pub padded : List Thing → List Thing
 padded things = things ++ replicate (max_tasks + max_phasers - length things) Nothing
 
 -- a task begins with the things of its start
-abbrev pub begun : Option CheckerStart → Checker → Checker
-begun None k = k
-begun (Some start) k = record k { things = padded start.things }
+abbrev pub with_start_things : Option CheckerStart → Checker → Checker
+with_start_things None k = k
+with_start_things (Some start) k = record k { things = padded start.things }
 
 -- where a start's steps begin and end
 abbrev pub range_of : Option CheckerStart → Option (ℕ × ℕ)

@@ -1,6 +1,6 @@
 -- What the checker does at a step, as functions on what it keeps. The unfolding does not name them: laws in proofs/ tie the two.
 use Rattle.std.specs.Prelude.{◌≡◌, ℕ, ◌+◌, ◌*◌, ◌<◌, Bool, true, false, not, length, slice_index_or, Option, Some, None, Result, Ok, Err, nat_lt, is_some}
-use Rattle.pl_plan.specs.Limits.{max_meetings}
+use Rattle.pl_plan.specs.Limits.{max_visits}
 use Rattle.armus_base.specs.Limits.{max_tasks, max_phasers, max_ops}
 use Rattle.armus_base.specs.declared.op.Op.{Op}
 use Rattle.armus_base.specs.declared.op.Op.TheVariants as op
@@ -11,8 +11,8 @@ use Rattle.pl_plan.specs.declared.step.Thing.TheVariants as a_thing
 use Rattle.pl_plan.specs.declared.fault.PlanEnd.{PlanEnd}
 use Rattle.pl_plan.specs.declared.fault.PlanEnd.TheVariants as ends
 use Rattle.pl_plan.specs.declared.fault.CheckFault.{CheckFault}
-use Rattle.pl_plan.specs.inside.Checker.{Checker, thing_at, slotted, with_thing, with_task, with_maker, pushed, marked, started}
-use Rattle.pl_plan.specs.Unfolding.{Outcome, ◌>>=◌, fault_unless, as_task, as_phaser, unforked_child_by, task, phaser, Thing, a_task, a_phaser, not_member, already_member, too_many_tasks, too_many_phasers, too_many_ops, too_many_meetings}
+use Rattle.pl_plan.specs.inside.Checker.{Checker, thing_at, slotted, with_thing, with_task, with_maker, pushed, with_membership, started}
+use Rattle.pl_plan.specs.Unfolding.{Outcome, ◌>>=◌, fault_unless, as_task, as_phaser, unforked_child_by, task, phaser, Thing, a_task, a_phaser, not_member, already_member, too_many_tasks, too_many_phasers, too_many_ops, too_many_visits}
 
 -- what a thing is in the unfolding
 abbrev pub thing_of : code.Thing → Option Thing
@@ -48,7 +48,7 @@ checker_new_task t n x k = do
 unfoldable pub checker_new_phaser : ℕ → ℕ → ℕ → Checker → Outcome Checker
 checker_new_phaser t n x k = do
   room ← fault_unless (nat_lt (length k.makers) max_phasers) too_many_phasers n
-  checker_add t n (op.Make (phaser (length k.makers))) (marked t (length k.makers) true (with_binding x (a_thing.Phaser (phaser (length k.makers))) (with_maker t k)))
+  checker_add t n (op.Make (phaser (length k.makers))) (with_membership t (length k.makers) true (with_binding x (a_thing.Phaser (phaser (length k.makers))) (with_maker t k)))
 
 -- task t drew task c, and task c is not forked
 abbrev pub checker_unforked_child : ℕ → ℕ → ℕ → Checker → Outcome (Unit {0})
@@ -62,7 +62,7 @@ checker_reg t n x y k = do
   mine ← checker_unforked_child t n c k
   inside ← fault_unless (member k t p) not_member n
   outside ← fault_unless (not (member k c p)) already_member n
-  checker_add t n (op.Reg (task c) (phaser p)) (marked c p true k)
+  checker_add t n (op.Reg (task c) (phaser p)) (with_membership c p true k)
 
 -- the phaser x, of which task t is a member
 unfoldable pub checker_member : ℕ → ℕ → ℕ → Checker → Outcome ℕ
@@ -75,7 +75,7 @@ checker_member t n x k = do
 unfoldable pub checker_dereg : ℕ → ℕ → ℕ → Checker → Outcome Checker
 checker_dereg t n x k = do
   p ← checker_member t n x k
-  checker_add t n (op.Drop (phaser p)) (marked t p false k)
+  checker_add t n (op.Drop (phaser p)) (with_membership t p false k)
 
 -- adv(x)
 unfoldable pub checker_adv : ℕ → ℕ → ℕ → Checker → Outcome Checker
@@ -96,11 +96,11 @@ checker_fork t n x after k = do
   mine ← checker_unforked_child t n c k
   checker_add t n (op.Fork (task c)) (started c n after k)
 
--- a meeting
+-- a visit
 unfoldable pub checker_count : ℕ → Checker → Outcome Checker
 checker_count n k = do
-  room ← fault_unless (nat_lt k.meetings max_meetings) too_many_meetings n
-  Ok (record k { meetings = k.meetings + 1 })
+  room ← fault_unless (nat_lt k.visits max_visits) too_many_visits n
+  Ok (record k { visits = k.visits + 1 })
 
 -- a statement without a body
 abbrev pub checker_act : ℕ → ℕ → Step → Checker → Outcome Checker
@@ -127,10 +127,10 @@ HasNames n (a_step.Loop i after) = Unit {0}
 HasNames n a_step.Skip = Unit {0}
 
 -- what a function returned and left is what this gives, unless memory ran out
-abbrev pub Gives : {A : Type 0} → Result A PlanEnd → Outcome Checker → Checker → Type 0
-Gives (Ok _) outcome k = outcome ≡ Ok k
-Gives (Err (ends.Check f)) outcome k = outcome ≡ Err f
-Gives (Err ends.NoMemory) outcome k = Unit {0}
+abbrev pub GivesChecker : {A : Type 0} → Result A PlanEnd → Outcome Checker → Checker → Type 0
+GivesChecker (Ok _) outcome k = outcome ≡ Ok k
+GivesChecker (Err (ends.Check f)) outcome k = outcome ≡ Err f
+GivesChecker (Err ends.NoMemory) outcome k = Unit {0}
 
 -- the same of a function that only reads
 abbrev pub viewed : {A B : Type 0} → (A → B) → Result A CheckFault → Outcome B

@@ -1,12 +1,12 @@
--- What is kept before the first meeting.
+-- What is kept before the first visit.
 use Rattle.std.specs.Prelude.{◌≡◌, ℕ, ◌+◌, ◌*◌, false, List, [], ◌∷◌, length, slice_index_or, Some, None}
 use Rattle.armus_base.specs.Limits.{max_tasks, max_phasers}
 use Rattle.pl_plan.specs.declared.step.Step.{Step}
 use Rattle.pl_plan.specs.declared.step.Thing.TheVariants as a_thing
 use Rattle.pl_plan.specs.inside.Checker.{Checker}
 
--- what is kept before the first meeting: task 0 alone, forked with all steps; no name stands for anything, nobody is a member
-pub record IsOpening (steps : List Step) (names : ℕ) (k : Checker) : Type 0 where
+-- what is kept before the first visit: task 0 alone, forked with all steps; no name stands for anything, nobody is a member
+pub record IsOpeningChecker (steps : List Step) (names : ℕ) (k : Checker) : Type 0 where
   pub steps_are : k.steps ≡ steps
   pub parents : k.parents ≡ None ∷ []
   pub makers : k.makers ≡ []
@@ -20,4 +20,4 @@ pub record IsOpening (steps : List Step) (names : ℕ) (k : Checker) : Type 0 wh
   pub things_many : length k.things ≡ max_tasks + max_phasers
   pub things : (i : ℕ) → slice_index_or k.things i a_thing.Nothing ≡ a_thing.Nothing
   pub ops : k.ops ≡ 0
-  pub meetings : k.meetings ≡ 0
+  pub visits : k.visits ≡ 0

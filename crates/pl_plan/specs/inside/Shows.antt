@@ -11,7 +11,7 @@ use Rattle.pl_syntax.specs.Tree.{Tree}
 use Rattle.pl_plan.specs.inside.Steps.{IsSpelled}
 use Rattle.pl_plan.specs.inside.Checker.{Checker, CheckerStart}
 use Rattle.pl_plan.specs.inside.CheckerSteps.{thing_of}
-use Rattle.pl_plan.specs.Unfolding.{State, Start, Names, Outcome, meeting, times, a_turn, meetings_of, meet_all}
+use Rattle.pl_plan.specs.Unfolding.{UnfoldingState, Start, Names, Outcome, visit, times, a_turn, visits_of, make_visits}
 
 -- two numbers below n have two names
 abbrev pub IsNumbering : ℕ → (ℕ → List ℕ) → Type 0
@@ -35,8 +35,8 @@ MaybeStartShows names slots steps (Some start) (Some kept) = StartShows names sl
 MaybeStartShows names slots steps None (Some kept) = ⊥
 MaybeStartShows names slots steps (Some start) None = ⊥
 
--- what is kept shows this state: the same plan, starts, members and meetings, and each name of the text stands for the same thing
-pub record Shows (names : ℕ → List ℕ) (k : Checker) (s : State) : Type 0 where
+-- what is kept shows this state: the same plan, starts, members and visits, and each name of the text stands for the same thing
+pub record ShowsState (names : ℕ → List ℕ) (k : Checker) (s : UnfoldingState) : Type 0 where
   pub distinct : IsNumbering (length k.slots) names
   pub parents : s.plan.parents ≡ k.parents
   pub makers : s.plan.makers ≡ k.makers
@@ -46,22 +46,22 @@ pub record Shows (names : ℕ → List ℕ) (k : Checker) (s : State) : Type 0 w
   pub members : (v q : ℕ) → q < max_phasers → s.members v q ≡ slice_index_or k.members (max_phasers * v + q) false
   pub named : AreNamed names k.slots k.things s.names
   pub ops : sum_by length s.plan.codes ≡ k.ops
-  pub meetings : s.meetings ≡ k.meetings
+  pub visits : s.visits ≡ k.visits
 
 -- where this is what the unfolding gives
-abbrev pub Follows : {A : Type 0} → Result A PlanEnd → Outcome State → (State → Type 0) → Type 0
-Follows (Ok r) outcome shows = (s : State) × (outcome ≡ Ok s) × shows s
+abbrev pub Follows : {A : Type 0} → Result A PlanEnd → Outcome UnfoldingState → (UnfoldingState → Type 0) → Type 0
+Follows (Ok r) outcome shows = (s : UnfoldingState) × (outcome ≡ Ok s) × shows s
 Follows (Err (ends.Check f)) outcome shows = outcome ≡ Err f
 Follows (Err ends.NoMemory) outcome shows = Unit {0}
 
--- the steps from one index on, before another, follow the meetings of the tree that they spell
+-- the steps from one index on, before another, follow the visits of the tree that they spell
 abbrev pub FollowsFrom : ℕ → ℕ → ℕ → Checker → Result (Unit {0}) PlanEnd → Checker → Type 0
 FollowsFrom from to t old r new =
-    (names : ℕ → List ℕ) (s : State) (tree : Tree) → IsSpelled (length old.slots) names old.steps from tree to → Shows names old s →
-    Follows r (meet_all t (meetings_of (from + 1) tree) s) (Shows names new)
+    (names : ℕ → List ℕ) (s : UnfoldingState) (tree : Tree) → IsSpelled (length old.slots) names old.steps from tree to → ShowsState names old s →
+    Follows r (make_visits t (visits_of (from + 1) tree) s) (ShowsState names new)
 
--- the turns of the loop with this index follow the meetings of its turns
+-- the turns of the loop with this index follow the visits of its turns
 abbrev pub FollowsTurns : ℕ → ℕ → ℕ → ℕ → Checker → Result (Unit {0}) PlanEnd → Checker → Type 0
 FollowsTurns at after t turns old r new =
-    (names : ℕ → List ℕ) (s : State) (tree : Tree) → IsSpelled (length old.slots) names old.steps (at + 1) tree after → Shows names old s →
-    Follows r (meet_all t (times turns (meeting (at + 1) a_turn ∷ meetings_of (at + 1 + 1) tree)) s) (Shows names new)
+    (names : ℕ → List ℕ) (s : UnfoldingState) (tree : Tree) → IsSpelled (length old.slots) names old.steps (at + 1) tree after → ShowsState names old s →
+    Follows r (make_visits t (times turns (visit (at + 1) a_turn ∷ visits_of (at + 1 + 1) tree)) s) (ShowsState names new)

@@ -6,17 +6,17 @@ use Rattle.pl_plan.specs.declared.step.Step.{Step}
 use Rattle.pl_plan.specs.declared.step.Step.TheVariants as a_step
 
 -- a name's number is below n, and the name has these bytes
-abbrev pub IsName : ℕ → (ℕ → List ℕ) → NameId → List ℕ → Type 0
-IsName n names i x = (i.0 < n) × (names i.0 ≡ x)
+abbrev pub IsNumberOfName : ℕ → (ℕ → List ℕ) → NameId → List ℕ → Type 0
+IsNumberOfName n names i x = (i.0 < n) × (names i.0 ≡ x)
 
 -- a step is this statement without a body
 abbrev pub IsStep : ℕ → (ℕ → List ℕ) → Step → Plain → Type 0
-IsStep n names step (new_task x) = (i : NameId) × (step ≡ a_step.NewTask i) × IsName n names i x
-IsStep n names step (new_phaser x) = (i : NameId) × (step ≡ a_step.NewPhaser i) × IsName n names i x
-IsStep n names step (reg x y) = (i : NameId) × (j : NameId) × (step ≡ a_step.Reg i j) × IsName n names i x × IsName n names j y
-IsStep n names step (dereg x) = (i : NameId) × (step ≡ a_step.Dereg i) × IsName n names i x
-IsStep n names step (adv x) = (i : NameId) × (step ≡ a_step.Adv i) × IsName n names i x
-IsStep n names step (await x) = (i : NameId) × (step ≡ a_step.Await i) × IsName n names i x
+IsStep n names step (new_task x) = (i : NameId) × (step ≡ a_step.NewTask i) × IsNumberOfName n names i x
+IsStep n names step (new_phaser x) = (i : NameId) × (step ≡ a_step.NewPhaser i) × IsNumberOfName n names i x
+IsStep n names step (reg x y) = (i : NameId) × (j : NameId) × (step ≡ a_step.Reg i j) × IsNumberOfName n names i x × IsNumberOfName n names j y
+IsStep n names step (dereg x) = (i : NameId) × (step ≡ a_step.Dereg i) × IsNumberOfName n names i x
+IsStep n names step (adv x) = (i : NameId) × (step ≡ a_step.Adv i) × IsNumberOfName n names i x
+IsStep n names step (await x) = (i : NameId) × (step ≡ a_step.Await i) × IsNumberOfName n names i x
 IsStep n names step skip = step ≡ a_step.Skip
 
 -- the step with this index, which is that of the statement with the number after it
@@ -28,7 +28,7 @@ abbrev pub IsSpelled : ℕ → (ℕ → List ℕ) → List Step → ℕ → Tree
 IsSpelled n names steps i done to = i ≡ to
 IsSpelled n names steps i (plain s rest) to = IsStep n names (step_at steps i) s × IsSpelled n names steps (i + 1) rest to
 IsSpelled n names steps i (fork x body rest) to =
-    (id : NameId) × (after : ℕ) × (step_at steps i ≡ a_step.Fork id after) × IsName n names id x
+    (id : NameId) × (after : ℕ) × (step_at steps i ≡ a_step.Fork id after) × IsNumberOfName n names id x
     × IsSpelled n names steps (i + 1) body after × IsSpelled n names steps after rest to
 IsSpelled n names steps i (loop k body rest) to =
     (after : ℕ) × (step_at steps i ≡ a_step.Loop k after) × IsSpelled n names steps (i + 1) body after × IsSpelled n names steps after rest to

@@ -1,5 +1,6 @@
 use Rattle.std.proofs.lemmas.Result.{IfOk-weaker}
-use Rattle.adaptive.specs.Choice.{IsAnalysisBy, IsAnalysis}
+use Rattle.adaptive.specs.inside.ByGraph.{IsAnalysisBy}
+use Rattle.adaptive.specs.Choice.{IsAnalysis}
 use Rattle.adaptive.specs.declared.analysis.Used.TheVariants.{Wfg, Sg}
 use Rattle.adaptive.proofs.Choices.{by_small, by_left}
 use Rattle.adaptive.proofs.choice.analyse.Goals as goal

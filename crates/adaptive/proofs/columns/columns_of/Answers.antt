@@ -1,8 +1,8 @@
 use Rattle.std.proofs.Common.{◌∙◌, ap, subst, sym}
 use Rattle.std.proofs.lemmas.List.Elements.{All-push}
 use Rattle.adaptive.specs.declared.columns.Column.{Column}
-use Rattle.adaptive.specs.Remaining.{AreFronts}
-use Rattle.adaptive.specs.Standings.{IsFront}
+use Rattle.adaptive.specs.inside.Remaining.{AreFronts}
+use Rattle.adaptive.specs.inside.Standings.{IsFront}
 use Rattle.adaptive.proofs.Fronts.{first_is_front}
 use Rattle.adaptive.proofs.columns.columns_of.Goals.{then-is_first+in_ok-push, else-is_first}
 use Rattle.adaptive.proofs.columns.columns_of.Goals as goal

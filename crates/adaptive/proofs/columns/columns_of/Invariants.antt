@@ -1,5 +1,5 @@
 use Rattle.std.proofs.Common.{Bool, List}
-use Rattle.adaptive.specs.Remaining.{AreFronts}
+use Rattle.adaptive.specs.inside.Remaining.{AreFronts}
 use Rattle.adaptive.proofs.columns.columns_of.Given as goal
 
 abbrev pub invariant-loop-i : goal.invariant-loop-i

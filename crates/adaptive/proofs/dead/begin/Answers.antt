@@ -1,7 +1,7 @@
 use Rattle.std.proofs.Common.{◌∙◌, List, length, subst, true, ap}
 use Rattle.std.proofs.lemmas.List.{length-replicate}
 use Rattle.adaptive.specs.declared.standings.Standing.{Standing}
-use Rattle.adaptive.specs.Remaining.{AreFronts}
+use Rattle.adaptive.specs.inside.Remaining.{AreFronts}
 use Rattle.adaptive.proofs.RemainingDead.{first_remaining, first_within}
 use Rattle.adaptive.proofs.dead.begin.Goals as goal
 

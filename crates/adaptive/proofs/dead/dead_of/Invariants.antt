@@ -1,8 +1,8 @@
-use Rattle.adaptive.specs.Remaining.{IsKeptOf, how_many}
+use Rattle.adaptive.specs.inside.Remaining.{IsRemainingOf, count_remaining}
 use Rattle.adaptive.proofs.dead.dead_of.Given as goal
 
 abbrev pub decreases-rounds : goal.decreases-rounds
-decreases-rounds l = how_many l.remaining.remains.items
+decreases-rounds l = count_remaining l.remaining.remains.items
 
 abbrev pub invariant-rounds : goal.invariant-rounds
-invariant-rounds l = IsKeptOf l.list l.remaining
+invariant-rounds l = IsRemainingOf l.list l.remaining

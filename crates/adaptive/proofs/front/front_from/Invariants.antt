@@ -1,5 +1,5 @@
 use Rattle.std.proofs.Common.{◌-◌, length}
-use Rattle.adaptive.specs.Standings.{IsFront}
+use Rattle.adaptive.specs.inside.Standings.{IsFront}
 use Rattle.adaptive.proofs.front.front_from.Given as goal
 
 abbrev pub decreases-pass : goal.decreases-pass

@@ -1,5 +1,5 @@
 use Rattle.std.proofs.lemmas.Result.{IfOk-weaker}
-use Rattle.dep_state.specs.Made.{IsDistinctOf, IsEventsOf}
+use Rattle.dep_state.specs.inside.Made.{IsDistinctOf, IsEventsOf}
 use Rattle.dep_state.proofs.DistinctEvents.{never_falls, events_of}
 use Rattle.dep_state.proofs.events.awaited_events.Goals as goal
 

@@ -1,4 +1,4 @@
-use Rattle.dep_state.specs.Made.{IsPlacesOf}
+use Rattle.dep_state.specs.inside.Made.{IsPlacesOf}
 use Rattle.dep_state.proofs.events.places.Given as goal
 
 abbrev pub invariant-loop-k : goal.invariant-loop-k

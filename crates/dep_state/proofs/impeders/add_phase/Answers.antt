@@ -1,6 +1,6 @@
 use Rattle.std.proofs.Common.{◌≡◌, ◌<◌, sym, subst, arith, inl, inr}
 use Rattle.std.proofs.lemmas.Bool.{cases_eq}
-use Rattle.dep_state.specs.Made.{IsPhaseBelow, event_at}
+use Rattle.dep_state.specs.inside.Made.{IsPhaseBelow, nth_event}
 use Rattle.dep_state.proofs.AddedRows.{added_none, added_more, after_below, below_after}
 use Rattle.dep_state.proofs.impeders.add_phase.Goals as goal
 
@@ -21,8 +21,8 @@ run-preserved c =
     record {
       inside = omega arith;
       after = λ j le lt. inv.after j (omega arith) lt;
-      added = added_more (λ j. (j < c.run.i) × IsPhaseBelow m (event_at es j)) (λ j. j ≡ c.run.i) _ _ _ _ _ inv.added c.in_ok-push_to.ensures
+      added = added_more (λ j. (j < c.run.i) × IsPhaseBelow m (nth_event es j)) (λ j. j ≡ c.run.i) _ _ _ _ _ inv.added c.in_ok-push_to.ensures
           (λ j lt h. elim (cases_eq j c.run.i) [ inl e ↦ inr e | inr ne ↦ inl (omega arith, h.1) ])
           (λ j lt h. ((omega arith, h.1), λ e. omega (arith, h.0, e)))
-          (λ j lt e. (omega (arith, e), subst (λ i. IsPhaseBelow m (event_at es i)) (sym e) (after_below m (event_at es c.run.i) (inv.after c.run.i (omega arith) (omega arith)) c.if-events-i.true)));
+          (λ j lt e. (omega (arith, e), subst (λ i. IsPhaseBelow m (nth_event es i)) (sym e) (after_below m (nth_event es c.run.i) (inv.after c.run.i (omega arith) (omega arith)) c.if-events-i.true)));
     }

@@ -1,5 +1,5 @@
 use Rattle.std.proofs.Common.{◌≡◌, take}
-use Rattle.dep_state.specs.Deps.{named}
+use Rattle.dep_state.specs.inside.Names.{named}
 use Rattle.dep_state.proofs.names.names.Given as goal
 
 abbrev pub invariant-loop-k : goal.invariant-loop-k

@@ -1,23 +1,15 @@
-use Rattle.std.proofs.Common.{arith}
-use Rattle.dep_state.proofs.TaskSearch.{below_middle, above_middle}
+use Rattle.std.proofs.Common.{rules, arith, ltb, ltb-true, ltb-false}
+use Rattle.std.proofs.lemmas.List.Sorted.{IsPartitionPoint-from_clause, IsPartitionedBy-ltb}
+use Rattle.armus_base.specs.declared.ids.TaskId.{TaskId}
+use Rattle.dep_state.proofs.TaskSearch.{never_fall}
 use Rattle.dep_state.proofs.search.first_from.Goals as goal
 
-pub search-preserved-then-tasks-middle : goal.search-preserved-then-tasks-middle
-search-preserved-then-tasks-middle c =
-    let inv = c.search.invariant in
+pub returns : goal.returns
+returns c =
+    let parted = IsPartitionedBy-ltb (λ (u : TaskId). u.0) c.args.tasks.now c.args.t.0 (never_fall c.args.tasks.now c.requires) in
+    let point = IsPartitionPoint-from_clause (λ (u : TaskId). ltb u.0 c.args.t.0) _ _ c.partition_point.ensures.partitioned parted (λ a r q k. search rules) in
     record {
-      ends = omega arith;
-      inside = inv.inside;
-      ahead = below_middle c.args.tasks.now c.args.t _ _ c.requires (omega (arith, inv.inside)) c.if-tasks-middle.true;
-      from = inv.from;
-    }
-
-pub search-preserved : goal.search-preserved
-search-preserved c =
-    let inv = c.search.invariant in
-    record {
-      ends = omega arith;
-      inside = omega (arith, inv.inside);
-      ahead = inv.ahead;
-      from = above_middle c.args.tasks.now c.args.t _ _ c.requires (omega (arith, inv.inside)) c.if-tasks-middle.false;
+      inside = c.partition_point.ensures.bound;
+      ahead = λ k u lt. ltb-true _ _ (point.0 k u (omega arith) lt);
+      from = λ k u le lt. ltb-false _ _ (point.1 k u le lt);
     }

@@ -2,7 +2,7 @@ use Rattle.std.proofs.Common.{ℕ, ◌<◌, ◌≤◌, List, length, count_by}
 use Rattle.std.specs.Prelude.{All}
 use Rattle.armus_base.specs.Relations.{ReachesCycle}
 use Rattle.digraph.specs.Graph.{HasEdge}
-use Rattle.digraph.specs.Search.{IsSearch, KeepsMarked, is_unvisited}
+use Rattle.digraph.specs.inside.Search.{IsSearch, KeepsMarked, is_unvisited}
 use Rattle.digraph.proofs.search.mark_cyclic.Given as goal
 
 abbrev pub invariant-loop-v : goal.invariant-loop-v

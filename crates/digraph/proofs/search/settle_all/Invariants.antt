@@ -1,6 +1,6 @@
 use Rattle.std.proofs.Common.{◌≡◌, ℕ, ◌<◌, []}
 use Rattle.digraph.specs.Graph.{graph_of}
-use Rattle.digraph.specs.Search.{IsSearch, mark_of}
+use Rattle.digraph.specs.inside.Search.{IsSearch, mark_of}
 use Rattle.digraph.specs.declared.search.Mark.TheVariants.{Unvisited}
 use Rattle.digraph.proofs.search.settle_all.Given as goal
 

@@ -2,13 +2,14 @@ use Rattle.std.proofs.Common.{rules, ◌≡◌, ◌≤◌, ℕ, List, ◌++◌, 
 use Rattle.std.specs.Prelude.{decimal}
 use Rattle.std.specs.List.{flat_map}
 use Rattle.gen_text.specs.declared.text.TheConstants.{MAKES_PHASERS, MAKES_WORKERS, MAX_GENERATED_BYTES}
-use Rattle.gen_text.specs.Generated.{ended, lines_after_loop, generated_text}
+use Rattle.pl_syntax.specs.Printed.{line}
+use Rattle.gen_text.specs.Generated.{lines_after_loop, generated_text}
 use Rattle.gen_text.proofs.LaidOut.{laid_out, text_short}
 use Rattle.gen_text.proofs.text.gen_text.Goals as goal
 
 written : (c : goal.After-drop-number-2) → c.from_vec.result ≡ generated_text c.args.n
 written c =
-    let pieces : c.from_vec.result ≡ MAKES_PHASERS.now ++ decimal c.args.n ++ MAKES_WORKERS.now ++ flat_map ended (lines_after_loop c.args.n) = search rules in
+    let pieces : c.from_vec.result ≡ MAKES_PHASERS.now ++ decimal c.args.n ++ MAKES_WORKERS.now ++ flat_map line (lines_after_loop c.args.n) = search rules in
     pieces ∙ laid_out c.args.n
 
 pub returns : goal.returns

@@ -1,6 +1,6 @@
 use Rattle.std.proofs.Common.{◌++◌, sym, ap, ◌∙◌, arith}
 use Rattle.pl_syntax.specs.Tree.{done}
-use Rattle.pl_syntax.specs.Bodies.{first}
+use Rattle.pl_syntax.specs.Bodies.{followed_by}
 use Rattle.pl_syntax.specs.Printed.{printed_at}
 use Rattle.pl_syntax.proofs.Lines.{on_ok, fork_lines, named_line, starts, fits, goes, ends_text, ends_names}
 use Rattle.pl_syntax.proofs.printer.+print.Goals as goal
@@ -8,13 +8,13 @@ use Rattle.pl_syntax.proofs.printer.+print.Goals as goal
 pub put_statement-returns-in-NewTask-clause-text : goal.put_statement-returns-in-NewTask-clause-text
 put_statement-returns-in-NewTask-clause-text t c =
     on_ok c.put_named.result c.put_named.ensures.text
-    (λ e. named_line c.args.depth c.in-NewTask.x c.args.out.now.items c.put_named.new.out.items e ∙ ap (λ q. c.args.out.now.items ++ printed_at c.args.depth (first q done)) (sym c.in-NewTask.is))
+    (λ e. named_line c.args.depth c.in-NewTask.x c.args.out.now.items c.put_named.new.out.items e ∙ ap (λ q. c.args.out.now.items ++ printed_at c.args.depth (followed_by q done)) (sym c.in-NewTask.is))
 
 pub put_statement-returns-in_ok-put_body-in-Fork-clause-text : goal.put_statement-returns-in_ok-put_body-in-Fork-clause-text
 put_statement-returns-in_ok-put_body-in-Fork-clause-text t c =
     on_ok c.put_text-in-Fork.result c.put_text-in-Fork.ensures
     (λ e. fork_lines c.args.depth c.in-Fork.x _ c.args.out.now.items _ _ _ c.in_ok-put_named-in-Fork.ensures.text c.in_ok-put_body-in-Fork.ensures.text e
-    ∙ ap (λ q. c.args.out.now.items ++ printed_at c.args.depth (first q done)) (sym c.in-Fork.is))
+    ∙ ap (λ q. c.args.out.now.items ++ printed_at c.args.depth (followed_by q done)) (sym c.in-Fork.is))
 
 pub put_body-put_statement-requires : goal.put_body-put_statement-requires
 put_body-put_statement-requires t c =

@@ -1,9 +1,9 @@
 use Rattle.std.proofs.Common.{◌≡◌, ◌+◌, ◌<◌, ◌≤◌, length, sym, ◌∙◌, arith, false}
 use Rattle.std.proofs.lemmas.Result.{err_from_is_err_and}
 use Rattle.pl_syntax.specs.Tree.{count, done}
-use Rattle.pl_syntax.specs.Bodies.{first, tree_of}
-use Rattle.pl_syntax.specs.Seen.{token_of}
-use Rattle.pl_syntax.specs.Reading.{ends_list}
+use Rattle.pl_syntax.specs.Bodies.{followed_by, tree_of}
+use Rattle.pl_syntax.specs.inside.Seen.{token_of}
+use Rattle.pl_syntax.specs.inside.Reading.{ends_list}
 use Rattle.pl_syntax.proofs.Parts.{count_push}
 use Rattle.pl_syntax.proofs.Fronts.{progress}
 use Rattle.pl_syntax.proofs.Turns.{begins, fails_front, stops, fails_in, goes_on}
@@ -42,7 +42,7 @@ statements_at-loop-items-preserved t c =
     let items = c.loop-items.items.items in
     let shorter = progress _ _ _ _ here goes in
     let more = count_push items c.in_ok-stmt.stmt in
-    let one : count (first c.in_ok-stmt.stmt done) + length c.in_ok-stmt.left.now ≤ length c.in_ok-token.after.now + 1 = c.in_ok-stmt.ensures.counted in
+    let one : count (followed_by c.in_ok-stmt.stmt done) + length c.in_ok-stmt.left.now ≤ length c.in_ok-token.after.now + 1 = c.in_ok-stmt.ensures.counted in
     let before : count (tree_of items) + length c.loop-items.rest.now ≤ length c.args.text.now = c.loop-items.invariant.1 in
     rw c.in_ok-push.ensures.items
     (goes_on _ _ _ _ _ c.loop-items.invariant.0 (token_of c.in_ok-token.token) c.in_ok-token.after.now here goes shorter c.in_ok-stmt.stmt c.in_ok-stmt.left.now c.in_ok-stmt.ensures.no_longer c.in_ok-stmt.ensures.exact, omega arith)

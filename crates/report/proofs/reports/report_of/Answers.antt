@@ -5,8 +5,9 @@ use Rattle.armus_base.specs.Deadlocks.{IsDeadBy}
 use Rattle.adaptive.specs.Choice.{IsAnalysis}
 use Rattle.report.specs.Counts.{counts_of}
 use Rattle.report.specs.Lines.{counts_line, task_lines, graph_line}
-use Rattle.report.specs.Reports.{AppendsCycle}
-use Rattle.report.specs.Standings.{AreStandings, IsIn}
+use Rattle.report.specs.inside.Appending.{AppendsCycle}
+use Rattle.report.specs.Standings.{AreStandings}
+use Rattle.report.specs.inside.Merging.{IsIn}
 use Rattle.report.proofs.DeadTasks.{dead_in, four_pieces, some_dead}
 use Rattle.report.proofs.Passing.{standings_same}
 use Rattle.report.proofs.reports.report_of.Goals as goal

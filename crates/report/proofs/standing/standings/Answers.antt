@@ -1,7 +1,7 @@
 use Rattle.std.proofs.Common.{◌+◌, get_or}
 use Rattle.std.proofs.lemmas.List.{get_or_default}
 use Rattle.armus_base.specs.declared.ending.TaskEnd.TheVariants.{Done}
-use Rattle.report.specs.Standings.{IsIn}
+use Rattle.report.specs.inside.Merging.{IsIn}
 use Rattle.report.proofs.Passing.{AreFirst, past, stay, told, stands_same, first_more}
 use Rattle.report.proofs.standing.standings.Goals as goal
 use Rattle.report.proofs.standing.standings.Goals.{then-is_dead, else-is_dead}

@@ -1,4 +1,4 @@
-use Rattle.report.specs.Standings.{IsIn}
+use Rattle.report.specs.inside.Merging.{IsIn}
 use Rattle.report.proofs.Passing.{HasPassed, AreFirst}
 use Rattle.report.proofs.standing.standings.Given as goal
 

@@ -1,7 +1,7 @@
 use Rattle.std.proofs.Common.{◌≡◌, length, arith, get_or, subst}
 use Rattle.std.proofs.lemmas.List.{get_or_default}
 use Rattle.armus_base.specs.declared.ids.TaskId.{TaskId}
-use Rattle.verdict.specs.DeadWalks.{IsFlags}
+use Rattle.verdict.specs.inside.DeadWalks.{IsFlags}
 use Rattle.verdict.proofs.DeadPlaces.{flags_more}
 use Rattle.verdict.proofs.walk.dead_flags.Goals as goal
 

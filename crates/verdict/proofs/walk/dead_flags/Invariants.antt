@@ -1,4 +1,4 @@
-use Rattle.verdict.specs.DeadWalks.{IsFlags}
+use Rattle.verdict.specs.inside.DeadWalks.{IsFlags}
 use Rattle.verdict.proofs.walk.dead_flags.Given as goal
 
 abbrev pub invariant-loop-k : goal.invariant-loop-k

@@ -1,5 +1,5 @@
 use Rattle.std.proofs.Common.{take}
-use Rattle.verdict.specs.DeadWalks.{IsMadeOf}
+use Rattle.verdict.specs.inside.DeadWalks.{IsMadeOf}
 use Rattle.verdict.proofs.walk.made.Given as goal
 
 abbrev pub invariant-loop-k : goal.invariant-loop-k

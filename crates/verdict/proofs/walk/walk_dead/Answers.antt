@@ -3,7 +3,7 @@ use Rattle.std.proofs.lemmas.List.{take_all, get_or_default}
 use Rattle.std.proofs.lemmas.Result.{IfOk-weaker}
 use Rattle.armus_base.specs.Relations.{IsWalkCycle}
 use Rattle.armus_base.proofs.WalkCycles.{walk_more, walk_done, set_flags}
-use Rattle.verdict.specs.DeadWalks.{IsNextDead}
+use Rattle.verdict.specs.inside.DeadWalks.{IsNextDead}
 use Rattle.verdict.proofs.walk.walk_dead.Goals as goal
 
 pub walk-preserved : goal.walk-preserved

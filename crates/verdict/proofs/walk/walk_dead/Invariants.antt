@@ -1,7 +1,7 @@
 use Rattle.std.proofs.Common.{◌≡◌, ℕ, ◌<◌, length, get_or, true, false, count_by}
 use Rattle.std.specs.Prelude.{Contains, ◌↔◌, not}
 use Rattle.armus_base.proofs.WalkCycles.{IsWalkTo}
-use Rattle.verdict.specs.DeadWalks.{IsNextDead}
+use Rattle.verdict.specs.inside.DeadWalks.{IsNextDead}
 use Rattle.verdict.proofs.walk.walk_dead.Given as goal
 
 abbrev pub invariant-walk : goal.invariant-walk

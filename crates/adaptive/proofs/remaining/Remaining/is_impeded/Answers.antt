@@ -2,7 +2,7 @@ use Rattle.std.proofs.Common.{◌≡◌, Bool, List, get_or, subst, sym, ap}
 use Rattle.std.proofs.lemmas.List.{get_or_default}
 use Rattle.armus_base.specs.declared.status.Status.{Status}
 use Rattle.adaptive.specs.declared.standings.Standing.{Standing}
-use Rattle.adaptive.specs.Standings.{IsBelow, IsFront, IsRemainingImpeder, IsStop, IsUnimpeded}
+use Rattle.adaptive.specs.inside.Standings.{IsBelow, IsFront, IsRemainingImpeder, IsStop, IsUnimpeded}
 use Rattle.adaptive.proofs.Fronts.{impeded_below, told_map, unimpeded_else}
 use Rattle.adaptive.proofs.remaining.Remaining.is_impeded.Goals as goal
 

@@ -1,6 +1,6 @@
 use Rattle.std.proofs.Common.{◌≡◌, ◌∙◌, Bool, List, ap, arith, false, inl, inr, subst, sym, true}
 use Rattle.std.proofs.lemmas.Bool.{cases_Bool}
-use Rattle.adaptive.specs.Remaining.{how_many}
+use Rattle.adaptive.specs.inside.Remaining.{count_remaining}
 use Rattle.adaptive.proofs.TakenAway.{AreImpededBelow, one_more_impeded}
 use Rattle.adaptive.proofs.remaining.Remaining.take_round.Goals.{then-take_unimpeded, else-take_unimpeded}
 use Rattle.adaptive.proofs.remaining.Remaining.take_round.Goals as goal
@@ -26,10 +26,10 @@ loop-k-preserved c =
             kept = c.take_unimpeded.ensures.kept;
             quiet = λ e.
                 let old = before.quiet (sym w.taken-is ∙ e) in (
-                  ap how_many same ∙ old.0,
+                  ap count_remaining same ∙ old.0,
                   one_more_impeded c.args.list.now c.take_unimpeded.new.self.remains.items c.loop-k.k
                       (subst (λ (xs : List Bool). AreImpededBelow c.args.list.now xs c.loop-k.k) (sym same) old.1) stays.1,
                 );
-            less = λ e. (let old = before.less (sym w.taken-is ∙ e) in let n = ap how_many same in omega arith);
+            less = λ e. (let old = before.less (sym w.taken-is ∙ e) in let n = ap count_remaining same in omega arith);
           }
     ]

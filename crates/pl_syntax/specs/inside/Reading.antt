@@ -32,9 +32,9 @@ Gives view (Ok x) read = read ≡ Ok (view x)
 Gives view (Err e) read = Fails e read
 
 -- the same of a function that takes no memory
-abbrev pub seen : {X Y : Type 0} → (X → Y) → Result X SyntaxFault → Result Y SyntaxFault
-seen view (Ok x) = Ok (view x)
-seen view (Err e) = Err e
+abbrev pub result_seen : {X Y : Type 0} → (X → Y) → Result X SyntaxFault → Result Y SyntaxFault
+result_seen view (Ok x) = Ok (view x)
+result_seen view (Err e) = Err e
 
 -- a number for each sign, by which signs are told apart
 abbrev pub sign_number : Sign → ℕ
@@ -234,16 +234,16 @@ statements_at (suc n) total depth text =
     statements_at n total depth one.1 >>= λ more. Ok (one.0 ∷ more.0, more.1))
 
 -- the tree of what was read, where this token is the end
-abbrev pub ended : ℕ → List Stmt → List ℕ → Token → Result Tree SyntaxFault
-ended total items text the_end = Ok (tree_of items)
-ended total items text (sign _) = Err (unexpected total text)
-ended total items text (word _) = Err (unexpected total text)
-ended total items text (name _) = Err (unexpected total text)
-ended total items text (number _) = Err (unexpected total text)
+abbrev pub ended_at : ℕ → List Stmt → List ℕ → Token → Result Tree SyntaxFault
+ended_at total items text the_end = Ok (tree_of items)
+ended_at total items text (sign _) = Err (unexpected total text)
+ended_at total items text (word _) = Err (unexpected total text)
+ended_at total items text (name _) = Err (unexpected total text)
+ended_at total items text (number _) = Err (unexpected total text)
 
 -- the program of a whole text
 unfoldable pub program_at : List ℕ → Result Tree SyntaxFault
 program_at text = do
   all ← statements_at (length text + 1) (length text) 0 text
   last ← front (length text) all.1
-  ended (length text) all.0 all.1 last.0
+  ended_at (length text) all.0 all.1 last.0

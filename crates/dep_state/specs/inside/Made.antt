@@ -35,14 +35,14 @@ abbrev pub IsPhaseBelow : Member → Event → Type 0
 IsPhaseBelow m e = (m.p ≡ e.p) × (m.n < e.n)
 
 -- the event at a place
-abbrev pub event_at : List Event → ℕ → Event
-event_at es i = slice_index_or es i (record { p = record { 0 = 0 }; n = 0 })
+abbrev pub nth_event : List Event → ℕ → Event
+nth_event es i = slice_index_or es i (record { p = record { 0 = 0 }; n = 0 })
 
 -- the first n events are not after the given one, and the others are
 pub record IsFirstAfter (es : List Event) (e : Event) (n : ℕ) : Type 0 where
   pub inside : n ≤ length es
-  pub ahead : (j : ℕ) → j < n → NotAfter (event_at es j) e
-  pub from : (j : ℕ) → n ≤ j → j < length es → NotAfter (event_at es j) e → ⊥
+  pub ahead : (j : ℕ) → j < n → NotAfter (nth_event es j) e
+  pub from : (j : ℕ) → n ≤ j → j < length es → NotAfter (nth_event es j) e → ⊥
 
 -- each row at an index of which P is true has k as one more element at its end, and each other row is as it was
 pub record IsAdded (P : ℕ → Type 0) (k : ℕ) (old new : List (List ℕ)) : Type 0 where

@@ -2,9 +2,9 @@ use Rattle.std.proofs.Common.{rules, of_calls}
 use Rattle.std.specs.Prelude.{MatchBool}
 use Rattle.std.proofs.lemmas.List.Sorted.{IsPartitionPoint-from_clause}
 use Rattle.armus_base.specs.declared.event.Event.{Event}
-use Rattle.dep_state.specs.Made.{NotAfter}
+use Rattle.dep_state.specs.inside.Made.{NotAfter}
 use Rattle.dep_state.proofs.AddedRows.{not_after_test, tests_not_after, not_after_ahead, first_after_at}
-use Rattle.dep_state.proofs.impeders.first_after.Goals as goal
+use Rattle.dep_state.proofs.events.first_after.Goals as goal
 
 pub returns : goal.returns
 returns c =

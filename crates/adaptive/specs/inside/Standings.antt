@@ -5,26 +5,23 @@ use Rattle.armus_base.specs.declared.status.Member.{Member}
 use Rattle.armus_base.specs.declared.status.Status.{Status}
 use Rattle.armus_base.specs.Deadlocks.{IsDeadBy}
 use Rattle.adaptive.specs.declared.standings.Standing.{Standing}
+use Rattle.dep_state.specs.inside.Made.{NotAfter}
 
 -- the standing of the task of status k at this phase
-abbrev pub standing_of : ℕ → Member → Standing
-standing_of k m = record { at = record { p = m.p; n = m.n }; status = k }
+abbrev pub standing_at : ℕ → Member → Standing
+standing_at k m = record { at = record { p = m.p; n = m.n }; status = k }
 
 -- the task of status k stands at phase n of phaser p
 abbrev pub StandsAt : List Status → ℕ → ℕ → ℕ → Type 0
 StandsAt ss k p n = (k < length ss) × ((s : Status) → Contains (slice_index_or ss k s).phases (record { p = record { 0 = p }; n = n }))
 
 -- these are the standings of the list's tasks
-pub record AreStandings (ss : List Status) (standings : List Standing) : Type 0 where
+pub record AreStandingsOf (ss : List Status) (standings : List Standing) : Type 0 where
   pub exact : (k p n : ℕ) → Contains standings (record { at = record { p = record { 0 = p }; n = n }; status = k }) ↔ StandsAt ss k p n
 
--- event a is of an earlier phaser than b, or of the same and no later a phase
-abbrev pub NotAfter : Event → Event → Type 0
-NotAfter a b = (a.p.0 < b.p.0) ⊎ ((a.p.0 ≡ b.p.0) × (a.n ≤ b.n))
-
 -- no standing is before one ahead of it
-abbrev pub NeverFalls : List Standing → Type 0
-NeverFalls xs = (i j : ℕ) (d : Standing) → i ≤ j → j < length xs → NotAfter (slice_index_or xs i d).at (slice_index_or xs j d).at
+abbrev pub StandingsNeverFall : List Standing → Type 0
+StandingsNeverFall xs = (i j : ℕ) (d : Standing) → i ≤ j → j < length xs → NotAfter (slice_index_or xs i d).at (slice_index_or xs j d).at
 
 -- status k remains
 abbrev pub remains_at : List Bool → ℕ → Bool
@@ -62,5 +59,5 @@ IsBelow standings i e =
     (i < length standings) × ((d : Standing) → ((slice_index_or standings i d).at.p ≡ e.p) × ((slice_index_or standings i d).at.n < e.n))
 
 -- the standing at index i is the first of all, or the one ahead of it is on an earlier phaser
-abbrev pub IsFirst : List Standing → ℕ → Type 0
-IsFirst standings i = (d : Standing) → (i ≡ 0) ⊎ ((slice_index_or standings (i - 1) d).at.p.0 < (slice_index_or standings i d).at.p.0)
+abbrev pub IsFirstOnPhaser : List Standing → ℕ → Type 0
+IsFirstOnPhaser standings i = (d : Standing) → (i ≡ 0) ⊎ ((slice_index_or standings (i - 1) d).at.p.0 < (slice_index_or standings i d).at.p.0)

@@ -15,14 +15,14 @@ abbrev pub Ascends : List ℕ → Type 0
 Ascends xs = (j k : ℕ) → j < k → k < length xs → slice_index xs j < slice_index xs k
 
 -- the first place of an ascending row whose flag is set
-pub record IsLeastDead (row : List ℕ) (flags : List Bool) (b : ℕ) : Type 0 where
+pub record IsLeastFlagged (row : List ℕ) (flags : List Bool) (b : ℕ) : Type 0 where
   pub there : Contains row b
   pub dead : slice_index_or flags b false ≡ true
   pub least : (u : ℕ) → Contains row u → slice_index_or flags u false ≡ true → b ≤ u
 
 -- the task at b is the least dead one that impedes the event of the task at a
 abbrev pub IsNextDead : Deps → List Bool → ℕ → ℕ → Type 0
-IsNextDead d flags a b = IsLeastDead (impeders_of d (slice_index d.awaits a)) flags b
+IsNextDead d flags a b = IsLeastFlagged (impeders_of d (slice_index d.awaits a)) flags b
 
 -- each task with a flag has a task with a flag that impedes its event
 pub record IsWalkable (d : Deps) (flags : List Bool) : Type 0 where

@@ -1,0 +1,4 @@
+pub mod Made
+pub mod Order
+pub mod LowerBounds
+pub mod Names
