@@ -31,15 +31,7 @@ pub fn run_avoid<R: Threads + Sync, G: Gate>(
     let mut world = World::start(alloc, plan)?;
     let count = plan.tasks() as usize;
     let mut forked = vec![in alloc; false; count]?;
-    let mut behind = vec![in alloc; 0u32; count]?;
-    'rounds: while avoided_round(
-        alloc,
-        &mut world,
-        &mut forked,
-        &mut behind,
-        options.wanted,
-        gate,
-    )? {}
+    'rounds: while avoided_round(alloc, &mut world, &mut forked, options.wanted, gate)? {}
     world.finish(alloc)
 }
 
@@ -48,12 +40,10 @@ fn avoided_round<G: Gate>(
     alloc: Global,
     world: &mut World,
     forked: &mut [bool],
-    behind: &mut [u32],
     wanted: Wanted,
     gate: &G,
 ) -> Result<bool, NoMemory>
     requires forked_len { length forked.old ≡ length world.old.plan.parents }
-    requires behind_len { length behind.old ≡ length world.old.plan.parents }
     requires nobody { NobodyDead (state_of world.old) }
     ensures plan { OnOk result (world.new.plan ≡ world.old.plan) }
     ensures nobody { OnOk result (NobodyDead (state_of world.new)) }
@@ -61,7 +51,7 @@ fn avoided_round<G: Gate>(
     ensures round { IfOk result (λ moved. HasRoundBelow world.old world.new (length world.old.plan.parents) moved) }
 {
     mark_forked(world, forked);
-    avoided_turns(alloc, world, forked, behind, wanted, gate)
+    avoided_turns(alloc, world, forked, wanted, gate)
 }
 
 // One turn of each noted task, in order of number; answers whether an event happened.
@@ -69,13 +59,11 @@ fn avoided_turns<G: Gate>(
     alloc: Global,
     world: &mut World,
     forked: &[bool],
-    behind: &mut [u32],
     wanted: Wanted,
     gate: &G,
 ) -> Result<bool, NoMemory>
     requires forked { TellsForked world.old forked.now }
     requires forked_len { length forked.now ≡ length world.old.plan.parents }
-    requires behind_len { length behind.old ≡ length world.old.plan.parents }
     requires nobody { NobodyDead (state_of world.old) }
     ensures plan { OnOk result (world.new.plan ≡ world.old.plan) }
     ensures nobody { OnOk result (NobodyDead (state_of world.new)) }
@@ -84,15 +72,7 @@ fn avoided_turns<G: Gate>(
 {
     let mut moved = false;
     for t in 0..world.plan().tasks() {
-        let acted = avoided_turn_if(
-            forked[t as usize],
-            alloc,
-            world,
-            TaskId(t),
-            &mut behind[t as usize],
-            wanted,
-            gate,
-        )?;
+        let acted = avoided_turn_if(forked[t as usize], alloc, world, TaskId(t), wanted, gate)?;
         moved = moved || acted;
     }
     Ok(moved)
@@ -104,7 +84,6 @@ fn avoided_turn_if<G: Gate>(
     alloc: Global,
     world: &mut World,
     t: TaskId,
-    behind: &mut u32,
     wanted: Wanted,
     gate: &G,
 ) -> Result<bool, NoMemory>
@@ -118,7 +97,7 @@ fn avoided_turn_if<G: Gate>(
     ensures part { IfOk result (λ moved. HasPart world.old world.new t.0 forked moved) }
 {
     if forked {
-        avoided_turn(alloc, world, t, behind, wanted, gate)
+        avoided_turn(alloc, world, t, wanted, gate)
     } else {
         Ok(false)
     }
@@ -129,7 +108,6 @@ fn avoided_turn<G: Gate>(
     alloc: Global,
     world: &mut World,
     t: TaskId,
-    behind: &mut u32,
     wanted: Wanted,
     gate: &G,
 ) -> Result<bool, NoMemory>
@@ -143,7 +121,7 @@ fn avoided_turn<G: Gate>(
     ensures part { IfOk result (λ moved. HasPart world.old world.new t.0 true moved) }
 {
     let mut moved = false;
-    'turn: while may_go_on(world, t, behind, gate) {
+    'turn: while may_go_on(world, t, gate) {
         go_on(alloc, world, t, wanted)?;
         moved = true;
     }

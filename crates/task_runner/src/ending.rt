@@ -26,7 +26,6 @@ pub(crate) fn end_from<G: Gate>(
     let mut world = World::at(alloc, plan, places)?;
     let count = plan.tasks() as usize;
     let mut forked = vec![in alloc; false; count]?;
-    let mut behind = vec![in alloc; 0u32; count]?;
-    while round(&mut world, &mut forked, &mut behind, gate) {}
+    while round(&mut world, &mut forked, gate) {}
     world.finish(alloc)
 }

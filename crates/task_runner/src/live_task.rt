@@ -3,7 +3,6 @@ ghost use Rattle.std.specs.Prelude.{◌≡◌, ◌<◌, IfSome, length, slice_ge
 
 use armus_base::{Gate, NoMemory, Op, Plan, Point, TaskId};
 use locked_world::{LockedWorld, PlanName};
-use pl_core::{Stand, World};
 use std::marker::PhantomData;
 use std::sync::Wait;
 
@@ -21,8 +20,6 @@ pub(crate) struct LiveTask<N: PlanName> {
     moved: bool,
     // whether its code is done
     done: bool,
-    // the task that was last found to keep it waiting
-    behind: u32,
     name: PhantomData<N>,
     ghost of_plan: { t.0 < length N.plan.parents },
 }
@@ -58,7 +55,6 @@ impl<N: PlanName> LiveTask<N> {
             turn_from: 0,
             moved: false,
             done: false,
-            behind: 0,
             name: PhantomData,
         }
     }
@@ -137,31 +133,9 @@ impl<N: PlanName> LiveTask<N> {
 
     // Makes one step under the lock, where the task may go on.
     fn step<R: Wait>(&mut self, rt: &R, shared: &LockedWorld<'_, N>) -> Result<bool, NoMemory> {
-        let mut logged = shared.lock(rt);
-        if self.is_kept_waiting(logged.world()) || !logged.step(self.t)? {
-            return Ok(false);
-        }
-        self.moved = true;
-        Ok(true)
-    }
-
-    // Looks for a task that keeps it waiting, from the one on that did last: whoever is below was found ahead and stays so. Where it finds none, the step decides.
-    fn is_kept_waiting(&mut self, world: &World<'_>) -> bool
-        requires plan { world.now.plan ≡ N.plan }
-    {
-        match world.stand(self.t) {
-            Stand::Waits(event) => match world.first_behind(event, self.behind) {
-                Some(u) => {
-                    self.behind = u.0;
-                    true
-                }
-                None => {
-                    self.behind = 0;
-                    false
-                }
-            },
-            _ => false,
-        }
+        let made = shared.lock(rt).step(self.t)?;
+        self.moved = self.moved || made;
+        Ok(made)
     }
 
     /// Appends the tasks that it forked in its last turn.

@@ -15,7 +15,6 @@ pub fn run_plain<G: Gate>(alloc: Global, plan: &Plan, gate: &G) -> Result<Final,
     let mut world = World::start(alloc, plan)?;
     let count = plan.tasks() as usize;
     let mut forked = vec![in alloc; false; count]?;
-    let mut behind = vec![in alloc; 0u32; count]?;
-    while round(&mut world, &mut forked, &mut behind, gate) {}
+    while round(&mut world, &mut forked, gate) {}
     world.finish(alloc)
 }

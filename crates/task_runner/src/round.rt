@@ -10,14 +10,8 @@ use armus_base::{Gate, Point, TaskId};
 use pl_core::{Stand, World};
 
 /// One turn of each task that is forked now, in order of number; answers whether an event happened.
-pub(crate) fn round<G: Gate>(
-    world: &mut World,
-    forked: &mut [bool],
-    behind: &mut [u32],
-    gate: &G,
-) -> bool
+pub(crate) fn round<G: Gate>(world: &mut World, forked: &mut [bool], gate: &G) -> bool
     requires forked_len { length forked.old ≡ length world.old.plan.parents }
-    requires behind_len { length behind.old ≡ length world.old.plan.parents }
     requires plain { NobodyRefused world.old }
     ensures plan { world.new.plan ≡ world.old.plan }
     ensures plain { NobodyRefused world.new }
@@ -25,7 +19,7 @@ pub(crate) fn round<G: Gate>(
     ensures quiet { result ≡ false → (t : ℕ) → t < length world.new.plan.parents → IsEnabled world.new t → ⊥ }
 {
     mark_forked(world, forked);
-    turns(world, forked, behind, gate)
+    turns(world, forked, gate)
 }
 
 /// Notes which tasks are forked.
@@ -50,10 +44,9 @@ fn is_forked(world: &World, t: TaskId) -> bool
 }
 
 // One turn of each noted task, in order of number; answers whether an event happened.
-fn turns<G: Gate>(world: &mut World, forked: &[bool], behind: &mut [u32], gate: &G) -> bool
+fn turns<G: Gate>(world: &mut World, forked: &[bool], gate: &G) -> bool
     requires forked { TellsForked world.old forked.now }
     requires forked_len { length forked.now ≡ length world.old.plan.parents }
-    requires behind_len { length behind.old ≡ length world.old.plan.parents }
     requires plain { NobodyRefused world.old }
     ensures plan { world.new.plan ≡ world.old.plan }
     ensures plain { NobodyRefused world.new }
@@ -62,20 +55,14 @@ fn turns<G: Gate>(world: &mut World, forked: &[bool], behind: &mut [u32], gate: 
 {
     let mut moved = false;
     for t in 0..world.plan().tasks() {
-        let acted = turn_if(
-            forked[t as usize],
-            world,
-            TaskId(t),
-            &mut behind[t as usize],
-            gate,
-        );
+        let acted = turn_if(forked[t as usize], world, TaskId(t), gate);
         moved = moved || acted;
     }
     moved
 }
 
 // The turn of a task, if it was forked before the round.
-fn turn_if<G: Gate>(forked: bool, world: &mut World, t: TaskId, behind: &mut u32, gate: &G) -> bool
+fn turn_if<G: Gate>(forked: bool, world: &mut World, t: TaskId, gate: &G) -> bool
     requires task { t.0 < length world.old.plan.parents }
     requires plain { NobodyRefused world.old }
     ensures plan { world.new.plan ≡ world.old.plan }
@@ -84,16 +71,11 @@ fn turn_if<G: Gate>(forked: bool, world: &mut World, t: TaskId, behind: &mut u32
     ensures still { result ≡ false → world.new ≡ world.old }
     ensures ended { forked ≡ true → IsEnabled world.new t.0 → ⊥ }
 {
-    if forked {
-        turn(world, t, behind, gate)
-    } else {
-        false
-    }
+    if forked { turn(world, t, gate) } else { false }
 }
 
-// The turn of a task: it acts until it is done or waits on an event that is not reached. `behind` is the task that was last found to keep it
-// waiting: whoever is below has been found ahead, and stays so, so that no await looks at a task more than a few times.
-fn turn<G: Gate>(world: &mut World, t: TaskId, behind: &mut u32, gate: &G) -> bool
+// The turn of a task: it acts until it is done or waits on an event that is not reached.
+fn turn<G: Gate>(world: &mut World, t: TaskId, gate: &G) -> bool
     requires task { t.0 < length world.old.plan.parents }
     requires plain { NobodyRefused world.old }
     ensures plan { world.new.plan ≡ world.old.plan }
@@ -103,7 +85,7 @@ fn turn<G: Gate>(world: &mut World, t: TaskId, behind: &mut u32, gate: &G) -> bo
     ensures ended { IsEnabled world.new t.0 → ⊥ }
 {
     let mut moved = false;
-    while may_go_on(world, t, behind, gate) {
+    while may_go_on(world, t, gate) {
         world.step(t);
         moved = true;
     }
@@ -111,7 +93,7 @@ fn turn<G: Gate>(world: &mut World, t: TaskId, behind: &mut u32, gate: &G) -> bo
 }
 
 /// Whether the task may go on; before an op it calls the gate.
-pub(crate) fn may_go_on<G: Gate>(world: &World, t: TaskId, behind: &mut u32, gate: &G) -> bool
+pub(crate) fn may_go_on<G: Gate>(world: &World, t: TaskId, gate: &G) -> bool
     requires task { t.0 < length world.now.plan.parents }
     ensures enabled { IsTrue result ↔ IsEnabled world.now t.0 }
     ensures checked { IsCheckedPlan world.now.plan }
@@ -122,16 +104,7 @@ pub(crate) fn may_go_on<G: Gate>(world: &World, t: TaskId, behind: &mut u32, gat
             gate.at(Point::Op { t, k: world.op(t) });
             true
         }
-        Stand::Waits(event) => match world.first_behind(event, *behind) {
-            Some(u) => {
-                *behind = u.0;
-                false
-            }
-            None => {
-                *behind = 0;
-                world.enabled(t)
-            }
-        },
+        Stand::Waits(event) => world.is_reached(event),
         Stand::Unforked | Stand::Done | Stand::Refused(_) => false,
     }
 }

@@ -12,7 +12,6 @@ rounds-init g c =
       plan = opening.plan_is;
       nobody = opening_alive c.args.plan.now c.in_ok-world.world opening;
       forked = ap length (c.in_ok-forked.ensures.items_if_clones_equal (λ y e. e)) ∙ length-replicate c.tasks-count.result false ∙ c.tasks-count.ensures.counted;
-      behind = ap length (c.in_ok-behind.ensures.items_if_clones_equal (λ y e. e)) ∙ length-replicate c.tasks-count.result 0 ∙ c.tasks-count.ensures.counted;
       serial = serial_begun c.args.plan.now c.in_ok-world.world opening;
     }
 
@@ -24,7 +23,6 @@ rounds-preserved g c =
       plan = round.plan ∙ inv.plan;
       nobody = round.nobody;
       forked = grind (arith, common_steps);
-      behind = grind (arith, common_steps);
       serial = serial_more c.args.plan.now c.rounds.world c.avoided_round.new.world c.in_ok-avoided_round.field-0 inv.plan inv.serial round.round;
     }
 

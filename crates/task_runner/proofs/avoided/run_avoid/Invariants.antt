@@ -11,7 +11,6 @@ invariant-rounds g l =
       plan : l.world.plan ≡ l.plan;
       nobody : NobodyDead (state_of l.world);
       forked : length l.forked.items ≡ length l.plan.parents;
-      behind : length l.behind.items ≡ length l.plan.parents;
       serial : HasSerialRun l.plan l.world;
     }
 

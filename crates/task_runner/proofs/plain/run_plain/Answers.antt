@@ -11,7 +11,6 @@ loop-init g c =
       plan = opening.plan_is;
       plain = opening_plain c.args.plan.now c.in_ok-world.world opening;
       forked = ap length (c.in_ok-forked.ensures.items_if_clones_equal (λ y e. e)) ∙ length-replicate c.tasks-count.result false ∙ c.tasks-count.ensures.counted;
-      behind = ap length (c.in_ok-behind.ensures.items_if_clones_equal (λ y e. e)) ∙ length-replicate c.tasks-count.result 0 ∙ c.tasks-count.ensures.counted;
     }
 
 pub finish-requires : goal.finish-requires

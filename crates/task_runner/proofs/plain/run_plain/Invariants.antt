@@ -8,7 +8,6 @@ invariant-loop g l =
       plan : l.world.plan ≡ l.plan;
       plain : NobodyRefused l.world;
       forked : length l.forked.items ≡ length l.plan.parents;
-      behind : length l.behind.items ≡ length l.plan.parents;
     }
 
 abbrev pub decreases-loop : goal.decreases-loop
