@@ -51,6 +51,7 @@ impl Remaining {
         ensures kept { IsRemainingOf list.now self.new }
         ensures gone { self.new.remains.items ≡ slice_set self.old.remains.items k false }
     {
+        // the clauses alone speak of the list
         let _ = list;
         self.remains[k] = false;
     }
@@ -123,6 +124,7 @@ impl Remaining {
         requires kept { IsRemainingOf list.now self.old }
         ensures kept { IsRemainingOf list.now self.new }
     {
+        // the clauses alone speak of the list
         let _ = list;
         if c < self.columns.len() && self.columns[c].next < usize::MAX {
             self.columns[c].next += 1;

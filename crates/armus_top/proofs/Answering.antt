@@ -8,11 +8,11 @@ use Rattle.report.specs.declared.refusal.Refusal.TheVariants as refusal
 use Rattle.adaptive.specs.declared.analysis.Wanted.{Wanted}
 use Rattle.armus_words.specs.declared.command.Command.{Command}
 use Rattle.armus_words.specs.declared.command.Graph.{Graph}
-use Rattle.armus_top.specs.Texts.{Text}
+use Rattle.armus_words.specs.Words.{Text}
 use Rattle.armus_top.specs.declared.programs.InputEnd.{InputEnd}
 use Rattle.armus_top.specs.declared.programs.InputEnd.TheVariants.{Refused, NoMemory}
-use Rattle.armus_top.specs.Programs.{IsEnd}
-use Rattle.armus_top.specs.Commands.{IsAnswered, IsRefused, limit_of, length_line, wanted_of}
+use Rattle.armus_top.specs.inside.Programs.{IsEnd}
+use Rattle.armus_top.specs.Commands.{IsAnswered, IsRefusedInput, limit_of, length_line, wanted_of}
 use Rattle.armus_top.specs.Headline.{Ends, GaveTooMuch, HasInput, IsSound, Passage, no_memory}
 use Rattle.armus_top.specs.inside.Writing.{Answered, Finished, Refuses, TellsEnd, nothing, part, wrote}
 use Rattle.armus_top.proofs.Ending.{by_finish}
@@ -53,7 +53,7 @@ by_report c input g IsIt answers wanted some report shown out status number want
     wrote status shown (inl (answers status shown (subst (λ (t : Text). IsIt (wanted_of g) status t) (sym shown_is) by_status))) done
 
 -- why there is no answer was told
-pub by_end : (c : Command) (input : Text) (IsWhy : Refusal → Type 0) (end : InputEnd) (out : Passage) (number : ℕ) → ((why : Refusal) → IsWhy why → IsRefused c input (refusal_text why))
+pub by_end : (c : Command) (input : Text) (IsWhy : Refusal → Type 0) (end : InputEnd) (out : Passage) (number : ℕ) → ((why : Refusal) → IsWhy why → IsRefusedInput c input (refusal_text why))
     → IsEnd IsWhy end → TellsEnd end out number → Answered c input out number
 by_end c input IsWhy (Refused why) out number refused is (inl done) = wrote 3 (refusal_text why) (inr (refl, refused why is)) done
 by_end c input IsWhy (Refused why) out number refused is (inr (six, sound, kept)) = nothing six sound kept

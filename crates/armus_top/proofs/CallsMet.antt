@@ -6,14 +6,15 @@ use Rattle.armus_words.specs.declared.command.Command.{Command}
 use Rattle.armus_words.specs.declared.command.Command.TheVariants.{Check, Run, Avoid, Record, Replay, Gen}
 use Rattle.armus_words.specs.declared.table.TheConstants.{MAX_GENERATED}
 use Rattle.armus_words.proofs.EachMeaning.{each_meaning}
-use Rattle.armus_top.specs.Texts.{Text, usage_line}
+use Rattle.armus_words.specs.Words.{Text}
+use Rattle.armus_top.specs.Texts.{usage_line}
 use Rattle.armus_top.specs.Commands.{length_line, limit_of}
 use Rattle.armus_top.specs.Headline.{HasInput, Passage, Permits}
-use Rattle.armus_top.specs.Inputs.{EachCallIsMet, Fits, HasGiven, MayGenerate}
+use Rattle.armus_top.specs.Inputs.{EachCallIsMet, FitsLimit, HasGiven, MayGenerate}
 use Rattle.armus_top.specs.Meanings.{Means}
 use Rattle.armus_top.proofs.InputsMet.{each_input_is_met}
 
-fits_of : (limit : Option ℕ) (src : Passage) (input : Text) → HasInput limit src input → Fits limit input
+fits_of : (limit : Option ℕ) (src : Passage) (input : Text) → HasInput limit src input → FitsLimit limit input
 fits_of (Some limit) src input has = has.2
 fits_of None src input has = has
 

@@ -6,9 +6,9 @@ use Rattle.std.proofs.KnownBytes.{Appends-trans}
 use Rattle.armus_base.specs.ReadAll.{TookFront}
 use Rattle.armus_base.proofs.Fronts.{front_after}
 use Rattle.armus_base.specs.Causes.{Rose, counted}
-use Rattle.armus_top.specs.Commands.{limit_of, IsRefused}
+use Rattle.armus_top.specs.Commands.{limit_of, IsRefusedInput}
 use Rattle.armus_top.proofs.Inputs.{answered_small, never_both}
-use Rattle.armus_top.specs.Texts.{Text}
+use Rattle.armus_words.specs.Words.{Text}
 use Rattle.armus_top.specs.inside.Writing.{Finished}
 use Rattle.armus_top.specs.Headline.{Passage, Completes, Ends, GaveTooMuch, IsAccepted, HasInput, IsCall, IsCalm, IsServed, IsSound, Offers, OffersTooMuch, Permits, whole, read_fault, write_fault, no_memory}
 use Rattle.armus_words.specs.declared.command.Command.{Command}
@@ -79,9 +79,9 @@ module _ (src : Passage) where
     accepted = λ command input is offers fine. answered_small d read text number answered;
     refused = λ command input line is offers refused.
         let offers_too : Offers (limit_of d) src input = subst (λ x. Offers (limit_of x) src input) (sym (only is)) offers in
-        let refused_too : IsRefused d input line = subst (λ x. IsRefused x input line) (sym (only is)) refused in
+        let refused_too : IsRefusedInput d input line = subst (λ x. IsRefusedInput x input line) (sym (only is)) refused in
         let whole : input ≡ read = same_input (limit_of d) src input read offers_too has in
-        absurd (never_both d read line text number (subst (λ x. IsRefused d x line) whole refused_too) answered);
+        absurd (never_both d read line text number (subst (λ x. IsRefusedInput d x line) whole refused_too) answered);
     long = λ command is more. absurd (not_long (limit_of d) src read (subst (λ x. OffersTooMuch (limit_of x) src) (sym (only is)) more) has);
   }
   fixed (Some d) number text (inl (read, has, inr (three, refused))) = record {
@@ -90,7 +90,7 @@ module _ (src : Passage) where
         let offers_too : Offers (limit_of d) src input = subst (λ x. Offers (limit_of x) src input) (sym (only is)) offers in
         let fine_too : IsAccepted d input = subst (λ x. IsAccepted x input) (sym (only is)) fine in
         let whole : input ≡ read = same_input (limit_of d) src input read offers_too has in
-        absurd (fine_too text (subst (λ x. IsRefused d x text) (sym whole) refused));
+        absurd (fine_too text (subst (λ x. IsRefusedInput d x text) (sym whole) refused));
     refused = λ command input line is offers other. three;
     long = λ command is more. three;
   }

@@ -10,7 +10,8 @@ use Rattle.gen_text.specs.Generated.{generated_text}
 use Rattle.report.specs.Reports.{IsReport}
 use Rattle.schedule.specs.Lines.{IsCut, IsFirstLine, a_line, no_line}
 use Rattle.schedule.proofs.LinesExist.{first_exists}
-use Rattle.armus_top.specs.Texts.{Text, line}
+use Rattle.armus_words.specs.Words.{Text}
+use Rattle.pl_syntax.specs.Printed.{line}
 use Rattle.armus_top.specs.Generated.{IsFirstAndLast}
 use Rattle.armus_top.specs.Inputs.{MayGenerate}
 use Rattle.armus_top.proofs.TwoLines.{more_lines, report_has_two}

@@ -7,10 +7,10 @@ use Rattle.adaptive.specs.declared.analysis.Wanted.{Wanted}
 use Rattle.report.specs.declared.refusal.Refusal.{Refusal}
 use Rattle.armus_words.specs.declared.command.Command.{Command}
 use Rattle.armus_words.specs.declared.command.Command.TheVariants.{Check, Run, Avoid, Record, Replay, Gen}
-use Rattle.armus_top.specs.Texts.{Text}
+use Rattle.armus_words.specs.Words.{Text}
 use Rattle.armus_top.specs.Avoids.{TellsRefused}
 use Rattle.armus_top.specs.Programs.{IsFaultOf, TellsDead}
-use Rattle.armus_top.specs.Commands.{IsAnswered, IsRefused}
+use Rattle.armus_top.specs.Commands.{IsAnswered, IsRefusedInput}
 use Rattle.armus_top.specs.Runs.{IsRunOf}
 use Rattle.armus_top.proofs.OnePlan.{plan_or_fault}
 use Rattle.armus_top.proofs.ReplayInputs.{refused_or_replayed}
@@ -19,7 +19,7 @@ run_has_plan : (text : Text) (g : Wanted) (status : ℕ) (report : Text) (why : 
 run_has_plan text g status report why run has = plan_or_fault text why run.plan_is.0 run.plan has run.plan_is.1
 
 -- an input is not both refused and answered
-pub never_both : (c : Command) (input text other : Text) (status : ℕ) → IsRefused c input text → IsAnswered c input status other → ⊥
+pub never_both : (c : Command) (input text other : Text) (status : ℕ) → IsRefusedInput c input text → IsAnswered c input status other → ⊥
 never_both (Check false) input text other status (why, has, line) (plan, (program, is), is_zero, text_is) = plan_or_fault input why program plan has is
 never_both (Check true) input text other status (why, has, line) (plan, program, is, is_zero, text_is) = plan_or_fault input why program plan has is
 never_both (Run workers g false) input text other status (why, has, line) run = run_has_plan input _ status other why run has

@@ -5,9 +5,10 @@ use Rattle.armus_words.specs.declared.command.Command.{Command}
 use Rattle.armus_words.specs.declared.command.Command.TheVariants.{Check, Run, Avoid, Record, Replay, Gen}
 use Rattle.pl_syntax.specs.Printed.{printed_of}
 use Rattle.report.specs.declared.refusal.Refusal.{Refusal}
-use Rattle.armus_top.specs.Texts.{Text, plan_line}
+use Rattle.armus_words.specs.Words.{Text}
+use Rattle.armus_top.specs.Texts.{plan_line}
 use Rattle.armus_top.specs.Commands.{IsCause, limit_of, wanted_of}
-use Rattle.armus_top.specs.Inputs.{EachInputIsMet, Fits, MayGenerate}
+use Rattle.armus_top.specs.Inputs.{EachInputIsMet, FitsLimit, MayGenerate}
 use Rattle.armus_top.specs.Programs.{IsFaultOf, IsPlanOf}
 use Rattle.armus_top.proofs.WholeOutputs.{IsMet, refused, plan_or_refused}
 use Rattle.armus_top.proofs.RunsMet.{avoid_met, live_met, run_met}
@@ -23,7 +24,7 @@ module _ (input : Text) where
         | inr one ↦ let (why, is) = one in refused c input why (cause why is)
       ]
 
-  each_met : (c : Command) → Fits (limit_of c) input → MayGenerate c → IsMet c input
+  each_met : (c : Command) → FitsLimit (limit_of c) input → MayGenerate c → IsMet c input
   each_met (Check false) fits may = by_plan (Check false) (λ why is. is) (λ plan is. (0, plan_line plan, inl (plan, is, refl, refl)))
   each_met (Check true) fits may = by_plan (Check true) (λ why is. is) (λ plan is. (0, printed_of is.0, inl (plan, is.0, is.1, refl, refl)))
   each_met (Run workers g false) fits may =

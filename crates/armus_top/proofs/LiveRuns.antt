@@ -28,7 +28,7 @@ use Rattle.armus_top.specs.Commands.{wanted_of}
 use Rattle.armus_top.specs.Headline.{Passage}
 use Rattle.armus_top.specs.Programs.{IsPlanOf}
 use Rattle.armus_top.specs.Runs.{IsLiveRunOf, IsRunOf}
-use Rattle.armus_top.specs.Texts.{Text}
+use Rattle.armus_words.specs.Words.{Text}
 use Rattle.armus_top.specs.inside.Writing.{Answered, Finished, WritesReport, nothing, part, wrote}
 use Rattle.armus_top.proofs.Ending.{by_pieces}
 use Rattle.armus_top.proofs.RunsMet.{run_met}

@@ -7,7 +7,7 @@ use Rattle.armus_words.proofs.Meaning.{first_is, one_meaning}
 use Rattle.armus_words.specs.declared.command.Command.{Command}
 use Rattle.armus_words.specs.declared.command.Command.TheVariants.{Check, Run, Avoid, Record, Replay, Gen}
 use Rattle.armus_words.specs.declared.table.FirstWord.TheVariants as first
-use Rattle.armus_top.specs.Texts.{Text}
+use Rattle.armus_words.specs.Words.{Text}
 use Rattle.armus_top.specs.Meanings.{BeginsRecord, Means}
 use Rattle.armus_top.specs.inside.Serving.{MayWork, MeansJournal, MeansPlain}
 use Rattle.armus_top.specs.Headline.{Ends, IsCall, Passage, Serves, reads_input}

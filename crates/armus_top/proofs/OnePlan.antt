@@ -9,7 +9,7 @@ use Rattle.pl_syntax.proofs.Unique.{one_tree, text_or_fault}
 use Rattle.pl_plan.specs.Unfolding.{plan_of}
 use Rattle.report.specs.declared.refusal.Refusal.{Refusal}
 use Rattle.report.specs.declared.refusal.Refusal.TheVariants as refusal
-use Rattle.armus_top.specs.Texts.{Text}
+use Rattle.armus_words.specs.Words.{Text}
 use Rattle.armus_top.specs.Programs.{IsChecked, IsFaultOf, IsPlanOf}
 
 -- a text with a plan is not refused

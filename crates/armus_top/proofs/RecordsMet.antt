@@ -8,10 +8,11 @@ use Rattle.armus_base.specs.Runs.{state_after}
 use Rattle.armus_base.proofs.DeadByStatuses.{dead_by_final, run_is_of_plan}
 use Rattle.armus_base.proofs.MaximalExists.{maximal_exists}
 use Rattle.adaptive.specs.declared.analysis.Wanted.TheVariants as wanted
-use Rattle.locked_world.specs.Journals.{tasks_of}
+use Rattle.locked_world.specs.Journals.{journal_of}
 use Rattle.report.proofs.ReportExists.{report_exists}
-use Rattle.schedule.specs.Records.{IsClosed, IsEnded, recorded}
-use Rattle.armus_top.specs.Texts.{Text, line}
+use Rattle.schedule.specs.Records.{IsClosedText, IsEnded, recorded}
+use Rattle.armus_words.specs.Words.{Text}
+use Rattle.pl_syntax.specs.Printed.{line}
 use Rattle.armus_top.specs.Programs.{IsPlanOf}
 use Rattle.armus_top.specs.Records.{IsRecordOf}
 use Rattle.armus_top.proofs.OnePlan.{checked_plan}
@@ -54,7 +55,7 @@ ended_or_not (b ∷ bs) =
       | inr unclosed ↦ inr (λ is. elim is [ inl e ↦ absurd (cc) | inr ends ↦ unclosed ends.0 ends.1 ])
     ]
 
-closed_exists : (text : Text) → (closed : Text) × IsClosed text closed
+closed_exists : (text : Text) → (closed : Text) × IsClosedText text closed
 closed_exists text = elim (ended_or_not text) [ inl ends ↦ (text, inl (refl, ends)) | inr unclosed ↦ (line text, inr (refl, unclosed)) ]
 
 pub record_met : (input : Text) (plan : Plan) (plan_is : IsPlanOf input plan) → (status : ℕ) × (text : Text) × IsRecordOf input status text
@@ -67,11 +68,11 @@ record_met input plan plan_is =
     let (status, tells) = status_by state (final_of plan state) reports.cycle_text (λ t. dead_by_final plan state t of_plan) reports.cycle in
     let (closed, closed_is) = closed_exists input in (
       status,
-      recorded closed (tasks_of h),
+      recorded closed (journal_of h),
       record {
         plan = plan;
         plan_is = plan_is;
-        journal = tasks_of h;
+        journal = journal_of h;
         steps = h;
         run = record { run = run; tasks = refl };
         maximal = maximal;

@@ -18,12 +18,12 @@ use Rattle.schedule.specs.Lines.{IsSchedule}
 use Rattle.schedule.specs.Replays.{IsFirstFault}
 use Rattle.schedule.specs.Replaying.{AreDeadIn, IsReplayed}
 use Rattle.schedule.specs.Split.{IsSplit, mark}
-use Rattle.schedule.specs.Records.{FitsPlan, HasNoMark, IsClosed, step_lines, step_of}
+use Rattle.schedule.specs.Records.{FitsPlan, HasNoMark, IsClosedText, step_lines, step_of}
 use Rattle.schedule.proofs.JournalFits.{journal_fits_plan}
 use Rattle.schedule.proofs.JournalReplays.{journal_replays}
 use Rattle.schedule.proofs.OneSchedule.{one_reading, one_split}
 use Rattle.schedule.proofs.RecordIsRead.{record_is_read}
-use Rattle.armus_top.specs.Texts.{Text}
+use Rattle.armus_words.specs.Words.{Text}
 use Rattle.armus_top.specs.Programs.{IsPlanOf, TellsDead}
 use Rattle.armus_top.specs.Records.{IsRecordOf}
 use Rattle.armus_top.specs.Replayable.{IsReplayable, RecordsReplay, WritesReplayable}
@@ -39,15 +39,15 @@ use Rattle.armus_top.proofs.OnePlan.{checked_plan, one_plan, plan_or_fault}
 
 -- ---- the closed text
 
-closed_text : (input closed : Text) (p : Tree) → IsClosed input closed → IsText input p → IsText closed p
+closed_text : (input closed : Text) (p : Tree) → IsClosedText input closed → IsText input p → IsText closed p
 closed_text input closed p (inl (same, ends)) is = subst (λ t. IsText t p) (sym same) is
 closed_text input closed p (inr (longer, unclosed)) is = subst (λ t. IsText t p) (sym longer) (line_feed_changes_nothing input p is)
 
-closed_short : (input closed : Text) → IsClosed input closed → length input ≤ MAX_TEXT_BYTES → IsShort closed
+closed_short : (input closed : Text) → IsClosedText input closed → length input ≤ MAX_TEXT_BYTES → IsShort closed
 closed_short input closed (inl (same, ends)) le = inl (subst (λ t. length t ≤ MAX_TEXT_BYTES) (sym same) le)
 closed_short input closed (inr (longer, unclosed)) le = inr (input, longer, le)
 
-closed_length : (input closed : Text) → IsClosed input closed → length closed ≤ length input + 1
+closed_length : (input closed : Text) → IsClosedText input closed → length closed ≤ length input + 1
 closed_length input closed (inl (same, ends)) = omega (arith, ap length same)
 closed_length input closed (inr (longer, unclosed)) = omega (arith, ap length longer, length-append input (10 ∷ []))
 

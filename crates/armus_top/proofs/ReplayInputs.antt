@@ -14,8 +14,9 @@ use Rattle.schedule.specs.Replays.{IsFirstFault}
 use Rattle.schedule.specs.Replaying.{AreDeadIn}
 use Rattle.schedule.proofs.OneSchedule.{one_reading, one_split}
 use Rattle.schedule.proofs.OneReplay.{never_both}
-use Rattle.armus_top.specs.Texts.{Text}
-use Rattle.armus_top.specs.Programs.{IsEnd, IsFaultOf, IsPlanOf, TellsDead}
+use Rattle.armus_words.specs.Words.{Text}
+use Rattle.armus_top.specs.inside.Programs.{IsEnd}
+use Rattle.armus_top.specs.Programs.{IsFaultOf, IsPlanOf, TellsDead}
 use Rattle.armus_top.specs.Replays.{IsReplayedBy, IsReplayFault, IsReplayOf, IsReplayRefused, IsShort}
 use Rattle.armus_top.specs.declared.programs.InputEnd.{InputEnd}
 use Rattle.armus_top.specs.declared.programs.InputEnd.TheVariants.{Refused, NoMemory}

@@ -13,19 +13,20 @@ use Rattle.armus_base.proofs.Elements.{Contains-head, nothing_in_nil}
 use Rattle.armus_words.specs.declared.command.Command.TheVariants.{Replay}
 use Rattle.report.specs.declared.refusal.Refusal.{Refusal}
 use Rattle.report.specs.declared.refusal.Refusal.TheVariants.{Length, Syntax, Check as Checked, Schedule}
-use Rattle.report.proofs.DeadOrNot.{dead_list_exists}
+use Rattle.adaptive.proofs.DeadOrNot.{dead_list_exists}
 use Rattle.schedule.specs.declared.lines.Line.{Line}
 use Rattle.schedule.specs.declared.verdict.PassVerdict.{PassVerdict}
 use Rattle.schedule.specs.declared.verdict.Replayed.{Replayed}
 use Rattle.schedule.specs.Passes.{Loads, statuses_found}
-use Rattle.schedule.specs.Replays.{Leads, Progress}
+use Rattle.schedule.specs.Replays.{LinesLead, Progress}
 use Rattle.schedule.specs.Replaying.{AreDeadIn, AreVerdicts, IsReplayed, no_pass, one_pass}
 use Rattle.schedule.specs.Split.{IsSplit}
 use Rattle.schedule.specs.Texts.{text_of}
 use Rattle.schedule.proofs.LinesExist.{bytes_have_lines, input_is_split}
 use Rattle.schedule.proofs.PassesNameTheDead.{passes_name_the_dead}
 use Rattle.schedule.proofs.LinesMet.{leads_run, lines_are_met}
-use Rattle.armus_top.specs.Texts.{Text, line}
+use Rattle.armus_words.specs.Words.{Text}
+use Rattle.pl_syntax.specs.Printed.{line}
 use Rattle.armus_top.specs.Programs.{IsFaultOf, TellsDead}
 use Rattle.armus_top.specs.Replays.{IsShort, ReadsAs}
 use Rattle.armus_top.specs.declared.programs.TheConstants.{MAX_TEXT_BYTES}
@@ -43,7 +44,7 @@ verdicts_from plan before (loads ∷ rest) verdicts are =
     let (all, more) = verdicts_from plan (before ++ loads ∷ []) rest (verdicts ++ v ∷ []) (one_pass before verdicts loads v are is) in
     (all, subst (λ ps. AreVerdicts plan ps all) (append_assoc before (loads ∷ []) rest) more)
 
-replayed_exists : (plan : Plan) (lines : List Line) (a : Progress) → IsCheckedPlan plan → Leads plan lines a → (done : Replayed) × IsReplayed plan lines done
+replayed_exists : (plan : Plan) (lines : List Line) (a : Progress) → IsCheckedPlan plan → LinesLead plan lines a → (done : Replayed) × IsReplayed plan lines done
 replayed_exists plan lines a is_checked leads =
     let run = leads_run plan is_checked lines a leads in
     let state = state_after a.run in

@@ -15,7 +15,7 @@ use Rattle.pl_plan.proofs.UnfoldedIsChecked.{unfolded_is_checked}
 use Rattle.adaptive.specs.declared.analysis.Wanted.{Wanted}
 use Rattle.report.specs.Reports.{IsReport, IsSomeDead}
 use Rattle.task_runner.specs.PlainRuns.{IsPlainEnd}
-use Rattle.armus_top.specs.Texts.{Text}
+use Rattle.armus_words.specs.Words.{Text}
 use Rattle.armus_top.specs.Programs.{IsPlanOf, TellsDead}
 use Rattle.armus_top.specs.Runs.{IsRunOf}
 

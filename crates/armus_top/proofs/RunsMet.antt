@@ -17,7 +17,7 @@ use Rattle.report.specs.NamedDead.{AreSomeDead}
 use Rattle.report.proofs.DeadExtend.{some_dead_extend}
 use Rattle.report.proofs.ReportExists.{report_exists}
 use Rattle.task_runner.proofs.SerialExists.{serial_run_ends}
-use Rattle.armus_top.specs.Texts.{Text}
+use Rattle.armus_words.specs.Words.{Text}
 use Rattle.armus_top.specs.Avoids.{IsAvoidOf}
 use Rattle.armus_top.specs.Programs.{IsPlanOf}
 use Rattle.armus_top.specs.Runs.{IsLiveRunOf, IsRunOf}

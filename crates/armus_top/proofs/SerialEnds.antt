@@ -17,21 +17,21 @@ use Rattle.armus_base.proofs.StatusesAre.{statuses_are}
 use Rattle.adaptive.specs.declared.analysis.Wanted.{Wanted}
 use Rattle.report.specs.Reports.{IsReport}
 use Rattle.task_runner.specs.AvoidedRuns.{IsSerialEnd}
-use Rattle.armus_top.specs.Texts.{Text}
+use Rattle.armus_words.specs.Words.{Text}
 use Rattle.armus_top.specs.Programs.{IsPlanOf}
-use Rattle.armus_top.specs.Avoids.{IsAvoidOf, IsNeverDead, TellsRefused, is_refused}
+use Rattle.armus_top.specs.Avoids.{IsAvoidOf, IsNeverDead, TellsRefused, ended_refused}
 
 pub serial_end_in_order : (plan : Plan) (end : Final) → IsCheckedPlan plan → IsSerialEnd plan end → IsInOrder end.blocked
 serial_end_in_order plan end checked is =
     subst (λ (e : Final). IsInOrder e.blocked) (sym is.is_it) (statuses_are plan is.state (is_awaited plan is.state) checked).in_order
 
-any_more : (xs : List TaskEnd) (x : TaskEnd) → list_any is_refused (xs ++ x ∷ []) ≡ (list_any is_refused xs || is_refused x)
-any_more [] x = or_nothing (is_refused x)
+any_more : (xs : List TaskEnd) (x : TaskEnd) → list_any ended_refused (xs ++ x ∷ []) ≡ (list_any ended_refused xs || ended_refused x)
+any_more [] x = or_nothing (ended_refused x)
   where
     or_nothing : (b : Bool) → (b || false) ≡ b
     or_nothing true = refl
     or_nothing false = refl
-any_more (y ∷ ys) x = ap (λ (b : Bool). is_refused y || b) (any_more ys x) ∙ regroup (is_refused y) (list_any is_refused ys) (is_refused x)
+any_more (y ∷ ys) x = ap (λ (b : Bool). ended_refused y || b) (any_more ys x) ∙ regroup (ended_refused y) (list_any ended_refused ys) (ended_refused x)
   where
     regroup : (a b c : Bool) → (a || (b || c)) ≡ ((a || b) || c)
     regroup true b c = refl
@@ -45,24 +45,24 @@ or_neither : (a b : Bool) → (a || b) ≡ false → (a ≡ false) × (b ≡ fal
 or_neither true b e = absurd (cc)
 or_neither false b e = (refl, e)
 
-some_refused : (f : ℕ → TaskEnd) (n : ℕ) → list_any is_refused (list_below f n) ≡ true → (t : ℕ) × (t < n) × (is_refused (f t) ≡ true)
+some_refused : (f : ℕ → TaskEnd) (n : ℕ) → list_any ended_refused (list_below f n) ≡ true → (t : ℕ) × (t < n) × (ended_refused (f t) ≡ true)
 some_refused f zero e = absurd (cc)
 some_refused f (suc n) e =
-    elim (or_either (list_any is_refused (list_below f n)) (is_refused (f n)) (sym (any_more (list_below f n) (f n)) ∙ e)) [
+    elim (or_either (list_any ended_refused (list_below f n)) (ended_refused (f n)) (sym (any_more (list_below f n) (f n)) ∙ e)) [
       | inl before ↦ let found = some_refused f n before in (found.0, omega arith, found.2)
       | inr here ↦ (n, omega arith, here)
     ]
 
-none_refused : (f : ℕ → TaskEnd) (n : ℕ) → list_any is_refused (list_below f n) ≡ false → (t : ℕ) → t < n → is_refused (f t) ≡ false
+none_refused : (f : ℕ → TaskEnd) (n : ℕ) → list_any ended_refused (list_below f n) ≡ false → (t : ℕ) → t < n → ended_refused (f t) ≡ false
 none_refused f zero e t l = absurd (omega arith)
 none_refused f (suc n) e t l =
-    let none = or_neither (list_any is_refused (list_below f n)) (is_refused (f n)) (sym (any_more (list_below f n) (f n)) ∙ e) in
+    let none = or_neither (list_any ended_refused (list_below f n)) (ended_refused (f n)) (sym (any_more (list_below f n) (f n)) ∙ e) in
     elim (cases_lt t n) [
       | inl before ↦ none_refused f n none.0 t before
-      | inr here ↦ let same : n ≡ t = omega arith in subst (λ k. is_refused (f k) ≡ false) same none.1
+      | inr here ↦ let same : n ≡ t = omega arith in subst (λ k. ended_refused (f k) ≡ false) same none.1
     ]
 
-tells : (plan : Plan) (state : State) (some : Bool) → list_any is_refused (final_of plan state).ends ≡ some → TellsRefused plan state (if some then 1 else 0)
+tells : (plan : Plan) (state : State) (some : Bool) → list_any ended_refused (final_of plan state).ends ≡ some → TellsRefused plan state (if some then 1 else 0)
 tells plan state true e = inl (refl, some_refused (end_of state) (length plan.parents) e)
 tells plan state false e = inr (refl, none_refused (end_of state) (length plan.parents) e)
 
@@ -76,7 +76,7 @@ pub never_dead : (plan : Plan) → IsCheckedPlan plan → (steps : List Step) �
 never_dead plan checked steps run more before same = nobody_is_dead plan before checked (first_steps plan more before (subst (IsAvoidedRun plan) same run))
 
 pub avoid_of : (input : Text) (plan : Plan) (g : Wanted) (end : Final) (some : Bool) (text : Text) → IsPlanOf input plan → IsSerialEnd plan end
-    → some ≡ list_any is_refused end.ends → IsReport end g text → IsAvoidOf input g (if some then 1 else 0) text
+    → some ≡ list_any ended_refused end.ends → IsReport end g text → IsAvoidOf input g (if some then 1 else 0) text
 avoid_of input plan g end some text plan_is is some_is reports = let avoided = serial_final_is_avoided plan is.state (unfolded_is_checked plan_is.0 plan plan_is.1.unfolds) is.final in record {
   plan = plan;
   plan_is = plan_is;
@@ -84,6 +84,6 @@ avoid_of input plan g end some text plan_is is some_is reports = let avoided = s
   avoided = avoided;
   never = never_dead plan (unfolded_is_checked plan_is.0 plan plan_is.1.unfolds) avoided.steps avoided.run;
   serial = is.final;
-  status_is = tells plan is.state some (sym (some_is ∙ ap (λ (e : Final). list_any is_refused e.ends) is.is_it));
+  status_is = tells plan is.state some (sym (some_is ∙ ap (λ (e : Final). list_any ended_refused e.ends) is.is_it));
   report_is = subst (λ (e : Final). IsReport e g text) is.is_it reports;
 }

@@ -18,8 +18,8 @@ use Rattle.report.specs.declared.refusal.Refusal.{Refusal}
 use Rattle.report.specs.declared.refusal.Refusal.TheVariants.{Syntax, Check as Checked}
 use Rattle.report.specs.Refusals.{refusal_text}
 use Rattle.report.specs.Reports.{IsCycleText}
-use Rattle.armus_top.specs.Texts.{Text}
-use Rattle.armus_top.specs.Avoids.{TellsRefused, is_refused}
+use Rattle.armus_words.specs.Words.{Text}
+use Rattle.armus_top.specs.Avoids.{TellsRefused, ended_refused}
 use Rattle.armus_top.specs.Commands.{IsCause}
 use Rattle.armus_top.specs.Headline.{Answers}
 use Rattle.armus_top.specs.Programs.{IsFaultOf, IsPlanOf, TellsDead}
@@ -52,10 +52,10 @@ status_by state end text same (inr (cycle, (start, least, walk), is)) = (1, inl 
 
 pub status_refused : (plan : Plan) (state : State) → (status : ℕ) × TellsRefused plan state status
 status_refused plan state =
-    elim (all_or_one (λ t. is_refused (end_of state t) ≡ false) (λ t. is_refused (end_of state t) ≡ true) tell (length plan.parents)) [
+    elim (all_or_one (λ t. ended_refused (end_of state t) ≡ false) (λ t. ended_refused (end_of state t) ≡ true) tell (length plan.parents)) [
       | inl none ↦ (0, inr (refl, none))
       | inr one ↦ (1, inl (refl, one))
     ]
   where
-    tell : (t : ℕ) → (is_refused (end_of state t) ≡ false) ⊎ (is_refused (end_of state t) ≡ true)
-    tell t = elim (cases_Bool (is_refused (end_of state t))) [ inl on ↦ inr on | inr off ↦ inl off ]
+    tell : (t : ℕ) → (ended_refused (end_of state t) ≡ false) ⊎ (ended_refused (end_of state t) ≡ true)
+    tell t = elim (cases_Bool (ended_refused (end_of state t))) [ inl on ↦ inr on | inr off ↦ inl off ]

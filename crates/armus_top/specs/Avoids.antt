@@ -11,19 +11,19 @@ use Rattle.armus_base.specs.Serial.{IsSerialAvoidedFinal}
 use Rattle.armus_base.specs.States.{State, Step}
 use Rattle.adaptive.specs.declared.analysis.Wanted.{Wanted}
 use Rattle.report.specs.Reports.{IsReport}
-use Rattle.armus_top.specs.Texts.{Text}
+use Rattle.armus_words.specs.Words.{Text}
 use Rattle.armus_top.specs.Programs.{IsPlanOf}
 
 -- a task has ended so that its await was refused
-abbrev pub is_refused : TaskEnd → Bool
-is_refused (Refused e) = true
-is_refused _ = false
+abbrev pub ended_refused : TaskEnd → Bool
+ended_refused (Refused e) = true
+ended_refused _ = false
 
 -- the status tells whether a task of the plan has ended so in the state
 abbrev pub TellsRefused : Plan → State → ℕ → Type 0
 TellsRefused plan state status =
-    ((status ≡ 1) × ((t : ℕ) × (t < length plan.parents) × (is_refused (end_of state t) ≡ true)))
-    ⊎ ((status ≡ 0) × ((t : ℕ) → t < length plan.parents → is_refused (end_of state t) ≡ false))
+    ((status ≡ 1) × ((t : ℕ) × (t < length plan.parents) × (ended_refused (end_of state t) ≡ true)))
+    ⊎ ((status ≡ 0) × ((t : ℕ) → t < length plan.parents → ended_refused (end_of state t) ≡ false))
 
 -- whatever first steps of the run are made, nobody is dead after them
 abbrev pub IsNeverDead : List Step → Type 0

@@ -13,7 +13,8 @@ use Rattle.armus_words.specs.declared.command.Graph.{Graph}
 use Rattle.armus_words.specs.declared.command.Graph.TheVariants as graph
 use Rattle.armus_words.specs.declared.command.Command.{Command}
 use Rattle.armus_words.specs.declared.command.Command.TheVariants.{Check, Run, Avoid, Record, Replay, Gen}
-use Rattle.armus_top.specs.Texts.{Text, plan_line}
+use Rattle.armus_words.specs.Words.{Text}
+use Rattle.armus_top.specs.Texts.{plan_line}
 use Rattle.armus_top.specs.Programs.{IsChecked, IsFaultOf, IsPlanOf, TellsDead}
 use Rattle.armus_top.specs.Avoids.{IsAvoidOf}
 use Rattle.armus_top.specs.Generated.{IsGenOf}
@@ -46,8 +47,8 @@ IsCause Replay input why = IsReplayRefused input why
 IsCause (Gen count) input why = ⊥
 
 -- the command refuses this input, with this line
-abbrev pub IsRefused : Command → Text → Text → Type 0
-IsRefused c input text = (why : Refusal) × IsCause c input why × (text ≡ refusal_text why)
+abbrev pub IsRefusedInput : Command → Text → Text → Type 0
+IsRefusedInput c input text = (why : Refusal) × IsCause c input why × (text ≡ refusal_text why)
 
 -- the graph that the words want, for the report
 abbrev pub wanted_of : Graph → Wanted

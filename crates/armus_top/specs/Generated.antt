@@ -3,7 +3,8 @@ use Rattle.std.specs.Prelude.{◌≡◌, ℕ, List, [], ◌∷◌, ◌++◌}
 use Rattle.adaptive.specs.declared.analysis.Wanted.TheVariants as wanted
 use Rattle.gen_text.specs.Generated.{generated_text}
 use Rattle.schedule.specs.Lines.{IsCut}
-use Rattle.armus_top.specs.Texts.{Text, line}
+use Rattle.armus_words.specs.Words.{Text}
+use Rattle.pl_syntax.specs.Printed.{line}
 use Rattle.armus_top.specs.Runs.{IsRunOf}
 
 -- the text is the first and the last line of the report

@@ -4,9 +4,10 @@ use Rattle.std.specs.Prelude.{◌≡◌, ◌≢◌, ◌≤◌, ◌<◌, ◌⊎�
 use Rattle.std.specs.Io.KnownBytes.{Consumes, Appends, Keeps, IsAtEnd}
 use Rattle.armus_base.specs.Causes.{Rose, counted}
 use Rattle.armus_base.specs.ReadAll.{ReadFront, TookFront}
-use Rattle.armus_top.specs.Texts.{Text, usage_line}
+use Rattle.armus_words.specs.Words.{Text}
+use Rattle.armus_top.specs.Texts.{usage_line}
 use Rattle.armus_top.specs.Meanings.{Means}
-use Rattle.armus_top.specs.Commands.{limit_of, length_line, IsRefused, IsAnswered}
+use Rattle.armus_top.specs.Commands.{limit_of, length_line, IsRefusedInput, IsAnswered}
 use Rattle.armus_words.specs.declared.command.Command.{Command}
 
 -- a source or a sink at the beginning and at the end of a call: the bytes left or taken, where it tells them, and its faults
@@ -30,8 +31,8 @@ abbrev pub IsSound : Passage → Type 0
 IsSound d = d.faults_after ≡ d.faults_before
 
 -- one fault was counted
-abbrev pub HasFailed : Passage → Type 0
-HasFailed d = d.faults_after ≡ counted d.faults_before
+abbrev pub HasCountedFault : Passage → Type 0
+HasCountedFault d = d.faults_after ≡ counted d.faults_before
 
 -- the input of a command: all that the source gave up to its end, not too long; or nothing, where the command does not read
 abbrev pub HasInput : Option ℕ → Passage → Text → Type 0
@@ -45,7 +46,7 @@ GaveTooMuch None src = ⊥
 
 -- a whole output for this input: 0 or 1 with an answer, or 3 with the line of a refusal
 abbrev pub Answers : Command → Text → ℕ → Text → Type 0
-Answers c input status text = IsAnswered c input status text ⊎ ((status ≡ 3) × IsRefused c input text)
+Answers c input status text = IsAnswered c input status text ⊎ ((status ≡ 3) × IsRefusedInput c input text)
 
 -- the whole outputs that the meaning of the words and the source permit, with their status
 abbrev pub Permits : Option Command → Passage → ℕ → Text → Type 0
@@ -69,8 +70,8 @@ TookPart c src out = (status : ℕ) × (text : Text) × Permits c src status tex
 -- how a call may end, and with which number
 pub data Ends (c : Option Command) (src out : Passage) (number : ℕ) : Type 0 where
   whole : (text : Text) → Permits c src number text → Took out text → IsSound src → IsSound out → Ends c src out number
-  read_fault : number ≡ 4 → reads_input c ≡ true → HasFailed src → IsSound out → Keeps out.before out.after → Ends c src out number
-  write_fault : number ≡ 5 → IsSound src → HasFailed out → TookPart c src out → Ends c src out number
+  read_fault : number ≡ 4 → reads_input c ≡ true → HasCountedFault src → IsSound out → Keeps out.before out.after → Ends c src out number
+  write_fault : number ≡ 5 → IsSound src → HasCountedFault out → TookPart c src out → Ends c src out number
   no_memory : number ≡ 6 → IsSound src → IsSound out → Keeps out.before out.after ⊎ TookPart c src out → Ends c src out number
 
 -- the headline: the call ends as the command may that the words mean, or as where they mean none
@@ -95,7 +96,7 @@ OffersTooMuch None src = ⊥
 
 -- no case of a refusal holds of the input
 abbrev pub IsAccepted : Command → Text → Type 0
-IsAccepted c input = (text : Text) → IsRefused c input text → ⊥
+IsAccepted c input = (text : Text) → IsRefusedInput c input text → ⊥
 
 -- neither count of faults rose, and memory sufficed
 pub record IsCalm (src out : Passage) (number : ℕ) : Type 0 where
@@ -107,7 +108,7 @@ pub record IsCalm (src out : Passage) (number : ℕ) : Type 0 where
 pub record Completes (c : Option Command) (src : Passage) (number : ℕ) : Type 0 where
   pub usage : c ≡ None → number ≡ 2
   pub accepted : (command : Command) (input : Text) → c ≡ Some command → Offers (limit_of command) src input → IsAccepted command input → number ≤ 1
-  pub refused : (command : Command) (input text : Text) → c ≡ Some command → Offers (limit_of command) src input → IsRefused command input text → number ≡ 3
+  pub refused : (command : Command) (input text : Text) → c ≡ Some command → Offers (limit_of command) src input → IsRefusedInput command input text → number ≡ 3
   pub long : (command : Command) → c ≡ Some command → OffersTooMuch (limit_of command) src → number ≡ 3
 
 -- all that is said of a call: what it leaves, and completeness

@@ -8,9 +8,7 @@ use Rattle.pl_syntax.specs.Grammar.{IsText, HasFault}
 use Rattle.pl_plan.specs.Unfolding.{plan_of}
 use Rattle.report.specs.declared.refusal.Refusal.{Refusal}
 use Rattle.report.specs.declared.refusal.Refusal.TheVariants.{Syntax, Check}
-use Rattle.armus_top.specs.Texts.{Text}
-use Rattle.armus_top.specs.declared.programs.InputEnd.{InputEnd}
-use Rattle.armus_top.specs.declared.programs.InputEnd.TheVariants.{Refused, NoMemory}
+use Rattle.armus_words.specs.Words.{Text}
 
 -- the text is this program, which unfolds to this plan
 pub record IsChecked (text : Text) (program : Tree) (plan : Plan) : Type 0 where
@@ -26,11 +24,6 @@ abbrev pub IsFaultOf : Text → Refusal → Type 0
 IsFaultOf text (Syntax fault) = HasFault text fault
 IsFaultOf text (Check fault) = (program : Tree) × IsText text program × (plan_of program ≡ Err fault)
 IsFaultOf text _ = ⊥
-
--- why there is no answer: the input is refused for one of these causes, or memory ran out
-abbrev pub IsEnd : (Refusal → Type 0) → InputEnd → Type 0
-IsEnd IsWhy (Refused why) = IsWhy why
-IsEnd IsWhy NoMemory = Unit {0}
 
 -- the status tells whether a task is dead in the state
 abbrev pub TellsDead : State → ℕ → Type 0

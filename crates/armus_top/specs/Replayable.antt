@@ -4,7 +4,7 @@ use Rattle.armus_base.specs.declared.ids.TaskId.{TaskId}
 use Rattle.armus_base.specs.Deadlocks.{IsDeadIn}
 use Rattle.armus_base.specs.Runs.{state_after}
 use Rattle.armus_words.specs.declared.command.Command.TheVariants.{Record, Replay}
-use Rattle.armus_top.specs.Texts.{Text}
+use Rattle.armus_words.specs.Words.{Text}
 use Rattle.armus_top.specs.Headline.{HasInput, IsAccepted, Passage}
 use Rattle.armus_top.specs.Commands.{limit_of}
 use Rattle.armus_top.specs.Meanings.{Means}

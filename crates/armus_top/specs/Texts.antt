@@ -1,14 +1,8 @@
 -- The lines that the top call writes beside reports, refusals and printed programs.
 use Rattle.std.specs.Prelude.{ℕ, List, [], ◌∷◌, ◌++◌, length, codes, decimal, sum_by}
 use Rattle.armus_base.specs.Plans.{Plan}
-
--- a text is the list of its bytes
-abbrev pub Text : Type 0
-Text = List ℕ
-
--- a line with the byte that ends it
-abbrev pub line : Text → Text
-line text = text ++ 10 ∷ []
+use Rattle.pl_syntax.specs.Printed.{line}
+use Rattle.armus_words.specs.Words.{Text}
 
 -- what is written where the words are no command
 abbrev pub usage_line : Text

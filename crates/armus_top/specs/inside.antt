@@ -3,3 +3,4 @@ pub mod Reading
 pub mod Status
 pub mod Serving
 pub mod TwoLines
+pub mod Programs

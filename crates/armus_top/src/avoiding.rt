@@ -2,12 +2,12 @@
 ghost use Rattle.std.specs.Prelude.{◌≡◌, ◌≢◌, ◌≤◌, Some, IfOk, false, if◌then◌else◌, length};
 ghost use Rattle.std.specs.List.{list_any};
 ghost use Rattle.armus_base.specs.CheckedPlans.{IsCheckedPlan};
-ghost use Rattle.armus_top.specs.Texts.{Text};
+ghost use Rattle.armus_words.specs.Words.{Text};
 ghost use Rattle.armus_top.specs.Programs.{IsPlanOf};
-ghost use Rattle.armus_top.specs.Avoids.{IsAvoidOf, is_refused};
+ghost use Rattle.armus_top.specs.Avoids.{IsAvoidOf, ended_refused};
 ghost use Rattle.armus_top.specs.declared.programs.TheConstants.{MAX_TEXT_BYTES};
 ghost use Rattle.armus_top.specs.Headline.{Ends, passage};
-ghost use Rattle.armus_top.specs.inside.Status.{code_of};
+ghost use Rattle.armus_top.specs.inside.Status.{number_of_status};
 ghost use Rattle.armus_top.specs.inside.Writing.{Answered};
 ghost use Rattle.armus_words.specs.declared.command.Command.TheVariants.{Avoid};
 
@@ -25,7 +25,7 @@ use task_runner::{RunOptions, run_avoid};
 
 // Whether a task has ended so that its await was refused.
 fn any_refused(end: &Final) -> bool
-    ensures { result ≡ list_any is_refused end.now.ends }
+    ensures { result ≡ list_any ended_refused end.now.ends }
 {
     end.ends
         .as_slice()
@@ -64,8 +64,8 @@ fn answer_avoid<R: Threads + Sync, K: Sink, G: Gate>(
 ) -> ExitStatus
     requires checked { IsCheckedPlan plan.now }
     ensures done { (input : Text) → IsPlanOf input plan.now
-        → Answered (Avoid workers graph) input (passage K.taken K.faults out.old out.new) (code_of result) }
-    ensures silent { code_of result ≢ 4 }
+        → Answered (Avoid workers graph) input (passage K.taken K.faults out.old out.new) (number_of_status result) }
+    ensures silent { number_of_status result ≢ 4 }
 {
     let options = RunOptions {
         workers,
@@ -93,8 +93,8 @@ fn avoid_text<R: Threads + Sync, K: Sink, G: Gate>(
     gate: &G,
 ) -> ExitStatus
     requires short { length text.now ≤ MAX_TEXT_BYTES }
-    ensures done { Answered (Avoid workers graph) text.now (passage K.taken K.faults out.old out.new) (code_of result) }
-    ensures silent { code_of result ≡ 4 → out.new ≡ out.old }
+    ensures done { Answered (Avoid workers graph) text.now (passage K.taken K.faults out.old out.new) (number_of_status result) }
+    ensures silent { number_of_status result ≡ 4 → out.new ≡ out.old }
 {
     match checked_in(alloc, text) {
         Ok(checked) => answer_avoid(rt, alloc, workers, graph, &checked.plan, out, gate),
@@ -112,8 +112,8 @@ pub fn avoid<R: Threads + Sync, S: Source, K: Sink, G: Gate>(
     out: &mut K,
     gate: &G,
 ) -> ExitStatus
-    ensures ends { Ends (Some (Avoid workers graph)) (passage S.left S.faults src.old src.new) (passage K.taken K.faults out.old out.new) (code_of result) }
-    ensures silent { code_of result ≡ 4 → out.new ≡ out.old }
+    ensures ends { Ends (Some (Avoid workers graph)) (passage S.left S.faults src.old src.new) (passage K.taken K.faults out.old out.new) (number_of_status result) }
+    ensures silent { number_of_status result ≡ 4 → out.new ≡ out.old }
 {
     match input_of(alloc, MAX_TEXT_BYTES, src, out) {
         Ok(input) => avoid_text(rt, alloc, workers, graph, input.as_slice(), out, gate),

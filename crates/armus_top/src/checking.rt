@@ -6,7 +6,7 @@ ghost use Rattle.armus_top.specs.Texts.{plan_line};
 ghost use Rattle.armus_top.specs.Programs.{IsChecked};
 ghost use Rattle.armus_top.specs.declared.programs.TheConstants.{MAX_TEXT_BYTES};
 ghost use Rattle.armus_top.specs.Headline.{Ends, passage};
-ghost use Rattle.armus_top.specs.inside.Status.{code_of};
+ghost use Rattle.armus_top.specs.inside.Status.{number_of_status};
 ghost use Rattle.armus_top.specs.inside.Writing.{Answered};
 ghost use Rattle.armus_words.specs.declared.command.Command.TheVariants.{Check};
 
@@ -32,8 +32,8 @@ fn plan_words(alloc: Global, plan: &Plan) -> Result<String, AllocError>
 // Writes the counts of the plan.
 fn answer_counts<K: Sink>(alloc: Global, checked: &Checked, out: &mut K) -> ExitStatus
     ensures done { (input : List ℕ) → IsChecked input checked.now.program.body checked.now.plan
-        → Answered (Check false) input (passage K.taken K.faults out.old out.new) (code_of result) }
-    ensures silent { code_of result ≢ 4 }
+        → Answered (Check false) input (passage K.taken K.faults out.old out.new) (number_of_status result) }
+    ensures silent { number_of_status result ≢ 4 }
 {
     match plan_words(alloc, &checked.plan) {
         Ok(words) => finish(out, words.as_bytes(), ExitStatus::NoDeadlock),
@@ -45,8 +45,8 @@ fn answer_counts<K: Sink>(alloc: Global, checked: &Checked, out: &mut K) -> Exit
 fn answer_printed<K: Sink>(alloc: Global, checked: &Checked, out: &mut K) -> ExitStatus
     requires shallow { height checked.now.program.body ≤ MAX_OPEN_BRACES }
     ensures done { (input : List ℕ) → IsChecked input checked.now.program.body checked.now.plan
-        → Answered (Check true) input (passage K.taken K.faults out.old out.new) (code_of result) }
-    ensures silent { code_of result ≢ 4 }
+        → Answered (Check true) input (passage K.taken K.faults out.old out.new) (number_of_status result) }
+    ensures silent { number_of_status result ≢ 4 }
 {
     match print(alloc, &checked.program) {
         Ok(text) => finish(out, text.as_slice(), ExitStatus::NoDeadlock),
@@ -58,8 +58,8 @@ fn answer_printed<K: Sink>(alloc: Global, checked: &Checked, out: &mut K) -> Exi
 fn answer_check<K: Sink>(alloc: Global, print: bool, checked: &Checked, out: &mut K) -> ExitStatus
     requires shallow { height checked.now.program.body ≤ MAX_OPEN_BRACES }
     ensures done { (input : List ℕ) → IsChecked input checked.now.program.body checked.now.plan
-        → Answered (Check print) input (passage K.taken K.faults out.old out.new) (code_of result) }
-    ensures silent { code_of result ≢ 4 }
+        → Answered (Check print) input (passage K.taken K.faults out.old out.new) (number_of_status result) }
+    ensures silent { number_of_status result ≢ 4 }
 {
     if print {
         answer_printed(alloc, checked, out)
@@ -71,8 +71,8 @@ fn answer_check<K: Sink>(alloc: Global, print: bool, checked: &Checked, out: &mu
 // What `check` answers on a text.
 fn check_text<K: Sink>(alloc: Global, print: bool, text: &[u8], out: &mut K) -> ExitStatus
     requires short { length text.now ≤ MAX_TEXT_BYTES }
-    ensures done { Answered (Check print) text.now (passage K.taken K.faults out.old out.new) (code_of result) }
-    ensures silent { code_of result ≡ 4 → out.new ≡ out.old }
+    ensures done { Answered (Check print) text.now (passage K.taken K.faults out.old out.new) (number_of_status result) }
+    ensures silent { number_of_status result ≡ 4 → out.new ≡ out.old }
 {
     match checked_in(alloc, text) {
         Ok(checked) => answer_check(alloc, print, &checked, out),
@@ -82,8 +82,8 @@ fn check_text<K: Sink>(alloc: Global, print: bool, text: &[u8], out: &mut K) -> 
 
 /// Reads a text and writes the counts of its plan, or its printed form.
 pub fn check<S: Source, K: Sink>(alloc: Global, print: bool, src: &mut S, out: &mut K) -> ExitStatus
-    ensures ends { Ends (Some (Check print)) (passage S.left S.faults src.old src.new) (passage K.taken K.faults out.old out.new) (code_of result) }
-    ensures silent { code_of result ≡ 4 → out.new ≡ out.old }
+    ensures ends { Ends (Some (Check print)) (passage S.left S.faults src.old src.new) (passage K.taken K.faults out.old out.new) (number_of_status result) }
+    ensures silent { number_of_status result ≡ 4 → out.new ≡ out.old }
 {
     match input_of(alloc, MAX_TEXT_BYTES, src, out) {
         Ok(input) => check_text(alloc, print, input.as_slice(), out),

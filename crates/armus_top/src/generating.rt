@@ -3,12 +3,12 @@ ghost use Rattle.std.specs.Prelude.{◌≡◌, ◌≢◌, ◌<◌, ◌∷◌, �
 ghost use Rattle.adaptive.specs.declared.analysis.Wanted.{Wanted};
 ghost use Rattle.gen_text.specs.Generated.{generated_text};
 ghost use Rattle.schedule.specs.Lines.{IsCut};
-ghost use Rattle.armus_top.specs.Texts.{line};
+ghost use Rattle.pl_syntax.specs.Printed.{line};
 ghost use Rattle.armus_top.specs.Runs.{IsRunOf};
 ghost use Rattle.armus_top.specs.Generated.{IsFirstAndLast};
 ghost use Rattle.armus_top.specs.inside.TwoLines.{HasTwoLines};
 ghost use Rattle.armus_top.specs.Headline.{passage};
-ghost use Rattle.armus_top.specs.inside.Status.{code_of};
+ghost use Rattle.armus_top.specs.inside.Status.{number_of_status};
 ghost use Rattle.armus_top.specs.inside.Writing.{Answered};
 ghost use Rattle.armus_words.specs.declared.command.Command.TheVariants.{Gen};
 
@@ -94,8 +94,8 @@ fn run_generated<R: Threads + Sync, K: Sink, G: Gate>(
     }
 }
 
-/// Writes the first and the last line of the report of the run of a generated text. That text is read, checked and run as one that a user gives.
-// That text is never refused, by the law `gen_is_accepted`, so the one end without an answer is want of memory.
+/// Writes the first and the last line of the report of the run of a generated text. That text is read, checked and run as one that a user gives; it
+/// is never refused, by the law `gen_is_accepted`, so the one end without an answer is want of memory.
 pub fn generate<R: Threads + Sync, K: Sink, G: Gate>(
     rt: &R,
     alloc: Global,
@@ -103,8 +103,8 @@ pub fn generate<R: Threads + Sync, K: Sink, G: Gate>(
     out: &mut K,
     gate: &G,
 ) -> ExitStatus
-    ensures done { Answered (Gen count) [] (passage K.taken K.faults out.old out.new) (code_of result) }
-    ensures silent { code_of result ≢ 4 }
+    ensures done { Answered (Gen count) [] (passage K.taken K.faults out.old out.new) (number_of_status result) }
+    ensures silent { number_of_status result ≢ 4 }
 {
     let report = match run_generated(rt, alloc, count, out, gate) {
         Ok(report) => report,

@@ -2,7 +2,7 @@
 ghost use Rattle.std.specs.Prelude.{◌≡◌, IfErr, IfOk};
 ghost use Rattle.armus_top.specs.Headline.{passage};
 ghost use Rattle.armus_top.specs.inside.Reading.{EndsUnread, IsRead};
-ghost use Rattle.armus_top.specs.inside.Status.{code_of};
+ghost use Rattle.armus_top.specs.inside.Status.{number_of_status};
 
 use crate::status::ExitStatus;
 use crate::writing::refuse;
@@ -19,8 +19,8 @@ pub fn input_of<S: Source, K: Sink>(
 ) -> Result<List<u8>, ExitStatus>
     ensures read { IfOk result (IsRead limit (passage S.left S.faults src.old src.new)) }
     ensures unwritten { IfOk result (λ _. out.new ≡ out.old) }
-    ensures ends { IfErr result (λ status. EndsUnread limit (passage S.left S.faults src.old src.new) (passage K.taken K.faults out.old out.new) (code_of status)) }
-    ensures silent { IfErr result (λ status. code_of status ≡ 4 → out.new ≡ out.old) }
+    ensures ends { IfErr result (λ status. EndsUnread limit (passage S.left S.faults src.old src.new) (passage K.taken K.faults out.old out.new) (number_of_status status)) }
+    ensures silent { IfErr result (λ status. number_of_status status ≡ 4 → out.new ≡ out.old) }
 {
     match read_all(alloc, src, limit) {
         Ok(input) => Ok(input),

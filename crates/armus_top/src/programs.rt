@@ -1,7 +1,8 @@
 // From a text to its program and its plan.
 ghost use Rattle.std.specs.Prelude.{◌≡◌, ◌≤◌, length, IfOk, IfErr};
 ghost use Rattle.pl_syntax.specs.declared.limits.TheConstants.{MAX_PARSED_BYTES};
-ghost use Rattle.armus_top.specs.Programs.{IsChecked, IsEnd, IsFaultOf};
+ghost use Rattle.armus_top.specs.Programs.{IsChecked, IsFaultOf};
+ghost use Rattle.armus_top.specs.inside.Programs.{IsEnd};
 
 use armus_base::{NoMemory, Plan};
 use pl_plan::{PlanEnd, plan};

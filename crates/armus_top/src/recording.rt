@@ -6,7 +6,7 @@ ghost use Rattle.armus_top.specs.inside.Serving.{MayWork};
 ghost use Rattle.armus_top.specs.Records.{IsRecordOf};
 ghost use Rattle.armus_top.specs.declared.programs.TheConstants.{MAX_TEXT_BYTES};
 ghost use Rattle.armus_top.specs.Headline.{Ends, passage};
-ghost use Rattle.armus_top.specs.inside.Status.{code_of};
+ghost use Rattle.armus_top.specs.inside.Status.{number_of_status};
 ghost use Rattle.armus_top.specs.inside.Writing.{Answered};
 ghost use Rattle.armus_words.specs.declared.command.Command.TheVariants.{Record};
 
@@ -60,8 +60,8 @@ fn answer_record<R: Threads + Wait + Sync, K: Sink, G: Gate>(
 ) -> ExitStatus
     requires workers { MayWork workers }
     requires plan { IsPlanOf text.now plan.now }
-    ensures done { Answered (Record workers) text.now (passage K.taken K.faults out.old out.new) (code_of result) }
-    ensures silent { code_of result ≢ 4 }
+    ensures done { Answered (Record workers) text.now (passage K.taken K.faults out.old out.new) (number_of_status result) }
+    ensures silent { number_of_status result ≢ 4 }
 {
     match run_and_record(rt, alloc, workers, text, plan, gate) {
         Ok(reported) => finish(
@@ -84,8 +84,8 @@ fn record_text<R: Threads + Wait + Sync, K: Sink, G: Gate>(
 ) -> ExitStatus
     requires short { length text.now ≤ MAX_TEXT_BYTES }
     requires workers { MayWork workers }
-    ensures done { Answered (Record workers) text.now (passage K.taken K.faults out.old out.new) (code_of result) }
-    ensures silent { code_of result ≡ 4 → out.new ≡ out.old }
+    ensures done { Answered (Record workers) text.now (passage K.taken K.faults out.old out.new) (number_of_status result) }
+    ensures silent { number_of_status result ≡ 4 → out.new ≡ out.old }
 {
     match checked_in(alloc, text) {
         Ok(checked) => answer_record(rt, alloc, workers, text, &checked.plan, out, gate),
@@ -103,8 +103,8 @@ pub fn record<R: Threads + Wait + Sync, S: Source, K: Sink, G: Gate>(
     gate: &G,
 ) -> ExitStatus
     requires workers { MayWork workers }
-    ensures ends { Ends (Some (Record workers)) (passage S.left S.faults src.old src.new) (passage K.taken K.faults out.old out.new) (code_of result) }
-    ensures silent { code_of result ≡ 4 → out.new ≡ out.old }
+    ensures ends { Ends (Some (Record workers)) (passage S.left S.faults src.old src.new) (passage K.taken K.faults out.old out.new) (number_of_status result) }
+    ensures silent { number_of_status result ≡ 4 → out.new ≡ out.old }
 {
     match input_of(alloc, MAX_TEXT_BYTES, src, out) {
         Ok(input) => record_text(rt, alloc, workers, input.as_slice(), out, gate),

@@ -1,12 +1,12 @@
 // The command `replay`.
 ghost use Rattle.std.specs.Prelude.{◌≡◌, ◌≢◌, ◌≤◌, ◌<◌, ◌+◌, ◌↔◌, Some, IfErr, IfOk, IsTrue, length};
 ghost use Rattle.schedule.specs.Split.{IsSplit};
-ghost use Rattle.armus_top.specs.Texts.{Text};
-ghost use Rattle.armus_top.specs.Programs.{IsEnd};
+ghost use Rattle.armus_words.specs.Words.{Text};
+ghost use Rattle.armus_top.specs.inside.Programs.{IsEnd};
 ghost use Rattle.armus_top.specs.Replays.{IsReplayFault, IsReplayedBy, IsShort};
 ghost use Rattle.armus_top.specs.declared.replaying.TheConstants.{MAX_REPLAY_BYTES};
 ghost use Rattle.armus_top.specs.Headline.{Ends, passage};
-ghost use Rattle.armus_top.specs.inside.Status.{code_of};
+ghost use Rattle.armus_top.specs.inside.Status.{number_of_status};
 ghost use Rattle.armus_top.specs.inside.Writing.{Answered};
 ghost use Rattle.armus_words.specs.declared.command.Command.TheVariants.{Replay};
 
@@ -84,8 +84,8 @@ fn has_dead(done: &Replayed) -> bool
 // The text of a replay.
 fn answer_replayed<K: Sink>(alloc: Global, done: &Replayed, out: &mut K) -> ExitStatus
     ensures done { (input text schedule : Text) → IsSplit input text schedule → IsReplayedBy text schedule done.now
-        → Answered Replay input (passage K.taken K.faults out.old out.new) (code_of result) }
-    ensures silent { code_of result ≢ 4 }
+        → Answered Replay input (passage K.taken K.faults out.old out.new) (number_of_status result) }
+    ensures silent { number_of_status result ≢ 4 }
 {
     match replay_text(alloc, done) {
         Ok(text) => finish(out, text.as_slice(), status_of(has_dead(done))),
@@ -96,8 +96,8 @@ fn answer_replayed<K: Sink>(alloc: Global, done: &Replayed, out: &mut K) -> Exit
 // What `replay` answers on an input.
 fn replay_input<K: Sink>(alloc: Global, input: &[u8], out: &mut K) -> ExitStatus
     requires short { length input.now ≤ MAX_REPLAY_BYTES }
-    ensures done { Answered Replay input.now (passage K.taken K.faults out.old out.new) (code_of result) }
-    ensures silent { code_of result ≡ 4 → out.new ≡ out.old }
+    ensures done { Answered Replay input.now (passage K.taken K.faults out.old out.new) (number_of_status result) }
+    ensures silent { number_of_status result ≡ 4 → out.new ≡ out.old }
 {
     let (text, schedule) = split_input(input);
     match replayed_in(alloc, text, schedule) {
@@ -108,8 +108,8 @@ fn replay_input<K: Sink>(alloc: Global, input: &[u8], out: &mut K) -> ExitStatus
 
 /// Reads a text with a schedule and writes what its passes and its end say.
 pub fn replay<S: Source, K: Sink>(alloc: Global, src: &mut S, out: &mut K) -> ExitStatus
-    ensures ends { Ends (Some Replay) (passage S.left S.faults src.old src.new) (passage K.taken K.faults out.old out.new) (code_of result) }
-    ensures silent { code_of result ≡ 4 → out.new ≡ out.old }
+    ensures ends { Ends (Some Replay) (passage S.left S.faults src.old src.new) (passage K.taken K.faults out.old out.new) (number_of_status result) }
+    ensures silent { number_of_status result ≡ 4 → out.new ≡ out.old }
 {
     match input_of(alloc, MAX_REPLAY_BYTES, src, out) {
         Ok(input) => replay_input(alloc, input.as_slice(), out),

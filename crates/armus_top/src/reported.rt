@@ -1,7 +1,7 @@
 // Reports, and the status that they give.
 ghost use Rattle.std.specs.Prelude.{◌≡◌, if◌then◌else◌};
 ghost use Rattle.armus_top.specs.Commands.{wanted_of};
-ghost use Rattle.armus_top.specs.inside.Status.{code_of};
+ghost use Rattle.armus_top.specs.inside.Status.{number_of_status};
 
 use crate::status::ExitStatus;
 use adaptive::Wanted;
@@ -17,7 +17,7 @@ pub struct Reported {
 
 /// The status that tells whether a task is dead, or refused.
 pub fn status_of(has_deadlock: bool) -> ExitStatus
-    ensures { code_of result ≡ (if has_deadlock then 1 else 0) }
+    ensures { number_of_status result ≡ (if has_deadlock then 1 else 0) }
 {
     if has_deadlock {
         ExitStatus::Deadlock

@@ -3,11 +3,11 @@ ghost use Rattle.std.specs.Prelude.{◌≡◌, ◌≢◌, ◌≤◌, Some, lengt
 ghost use Rattle.armus_base.specs.CheckedPlans.{IsCheckedPlan};
 ghost use Rattle.armus_base.specs.Statuses.{IsInOrder};
 ghost use Rattle.armus_top.specs.Programs.{IsPlanOf};
-ghost use Rattle.armus_top.specs.Texts.{Text};
+ghost use Rattle.armus_words.specs.Words.{Text};
 ghost use Rattle.armus_top.specs.declared.programs.TheConstants.{MAX_TEXT_BYTES};
 ghost use Rattle.armus_top.specs.Headline.{Ends, passage};
 ghost use Rattle.armus_top.specs.inside.Serving.{MayWork};
-ghost use Rattle.armus_top.specs.inside.Status.{code_of};
+ghost use Rattle.armus_top.specs.inside.Status.{number_of_status};
 ghost use Rattle.armus_top.specs.inside.Writing.{Answered, WritesReport};
 ghost use Rattle.armus_words.specs.declared.command.Command.TheVariants.{Run};
 
@@ -27,8 +27,8 @@ use task_runner::{RunEnd, RunOptions, run_detect};
 // Writes the report of the end of a run.
 fn write_report<K: Sink>(alloc: Global, end: &Final, wanted: Wanted, out: &mut K) -> ExitStatus
     requires in_order { IsInOrder end.now.blocked }
-    ensures done { WritesReport end.now wanted (passage K.taken K.faults out.old out.new) (code_of result) }
-    ensures silent { code_of result ≢ 4 }
+    ensures done { WritesReport end.now wanted (passage K.taken K.faults out.old out.new) (number_of_status result) }
+    ensures silent { number_of_status result ≢ 4 }
 {
     match report_of(alloc, end, wanted) {
         Ok(report) => finish(out, report.text.as_slice(), status_of(report.has_dead)),
@@ -50,8 +50,8 @@ fn answer_run<R: Threads + Sync, K: Sink, G: Gate>(
     requires workers { MayWork workers }
     requires checked { IsCheckedPlan plan.now }
     ensures done { (input : Text) → IsPlanOf input plan.now
-        → Answered (Run workers graph live) input (passage K.taken K.faults out.old out.new) (code_of result) }
-    ensures silent { code_of result ≢ 4 }
+        → Answered (Run workers graph live) input (passage K.taken K.faults out.old out.new) (number_of_status result) }
+    ensures silent { number_of_status result ≢ 4 }
 {
     let options = RunOptions {
         workers,
@@ -78,8 +78,8 @@ fn run_text<R: Threads + Sync, K: Sink, G: Gate>(
 ) -> ExitStatus
     requires workers { MayWork workers }
     requires short { length text.now ≤ MAX_TEXT_BYTES }
-    ensures done { Answered (Run workers graph live) text.now (passage K.taken K.faults out.old out.new) (code_of result) }
-    ensures silent { code_of result ≡ 4 → out.new ≡ out.old }
+    ensures done { Answered (Run workers graph live) text.now (passage K.taken K.faults out.old out.new) (number_of_status result) }
+    ensures silent { number_of_status result ≡ 4 → out.new ≡ out.old }
 {
     match checked_in(alloc, text) {
         Ok(checked) => answer_run(rt, alloc, workers, graph, live, &checked.plan, out, gate),
@@ -99,8 +99,8 @@ pub fn run<R: Threads + Sync, S: Source, K: Sink, G: Gate>(
     gate: &G,
 ) -> ExitStatus
     requires workers { MayWork workers }
-    ensures ends { Ends (Some (Run workers graph live)) (passage S.left S.faults src.old src.new) (passage K.taken K.faults out.old out.new) (code_of result) }
-    ensures silent { code_of result ≡ 4 → out.new ≡ out.old }
+    ensures ends { Ends (Some (Run workers graph live)) (passage S.left S.faults src.old src.new) (passage K.taken K.faults out.old out.new) (number_of_status result) }
+    ensures silent { number_of_status result ≡ 4 → out.new ≡ out.old }
 {
     match input_of(alloc, MAX_TEXT_BYTES, src, out) {
         Ok(input) => run_text(rt, alloc, workers, graph, live, input.as_slice(), out, gate),

@@ -1,8 +1,8 @@
 // Serving a command.
 ghost use Rattle.std.specs.Prelude.{◌≡◌, ◌≢◌, Some, false};
-ghost use Rattle.armus_top.specs.inside.Serving.{IsJournal, IsPlain, MeansJournal, MeansPlain};
+ghost use Rattle.armus_top.specs.inside.Serving.{IsJournal, WaitsForNoThread, MeansJournal, MeansPlain};
 ghost use Rattle.armus_top.specs.Headline.{Ends, passage, reads_input};
-ghost use Rattle.armus_top.specs.inside.Status.{code_of};
+ghost use Rattle.armus_top.specs.inside.Status.{number_of_status};
 ghost use Rattle.armus_top.specs.Texts.{usage_line};
 ghost use Rattle.armus_top.specs.inside.Writing.{Finished};
 
@@ -24,8 +24,8 @@ const USAGE: &str = "usage: armus check|run|avoid|record|replay|gen\n";
 
 // No command.
 fn usage<K: Sink>(out: &mut K) -> ExitStatus
-    ensures done { Finished (passage K.taken K.faults out.old out.new) usage_line 2 (code_of result) }
-    ensures silent { code_of result ≢ 4 }
+    ensures done { Finished (passage K.taken K.faults out.old out.new) usage_line 2 (number_of_status result) }
+    ensures silent { number_of_status result ≢ 4 }
 {
     finish(out, USAGE.as_bytes(), ExitStatus::Usage)
 }
@@ -39,10 +39,10 @@ fn serve_plain<R: Threads + Sync, S: Source, K: Sink, G: Gate>(
     out: &mut K,
     gate: &G,
 ) -> ExitStatus
-    requires plain { IsPlain command }
-    ensures ends { Ends (Some command) (passage S.left S.faults src.old src.new) (passage K.taken K.faults out.old out.new) (code_of result) }
+    requires plain { WaitsForNoThread command }
+    ensures ends { Ends (Some command) (passage S.left S.faults src.old src.new) (passage K.taken K.faults out.old out.new) (number_of_status result) }
     ensures unread { reads_input (Some command) ≡ false → src.new ≡ src.old }
-    ensures silent { code_of result ≡ 4 → out.new ≡ out.old }
+    ensures silent { number_of_status result ≡ 4 → out.new ≡ out.old }
 {
     match command {
         Command::Check { print } => check(alloc, print, src, out),
@@ -68,9 +68,9 @@ pub fn serve<R: Threads + Sync, S: Source, K: Sink, G: Gate>(
     gate: &G,
 ) -> ExitStatus
     requires plain { MeansPlain meaning }
-    ensures ends { Ends meaning (passage S.left S.faults src.old src.new) (passage K.taken K.faults out.old out.new) (code_of result) }
+    ensures ends { Ends meaning (passage S.left S.faults src.old src.new) (passage K.taken K.faults out.old out.new) (number_of_status result) }
     ensures unread { reads_input meaning ≡ false → src.new ≡ src.old }
-    ensures silent { code_of result ≡ 4 → out.new ≡ out.old }
+    ensures silent { number_of_status result ≡ 4 → out.new ≡ out.old }
 {
     match meaning {
         Some(command) => serve_plain(rt, alloc, command, src, out, gate),
@@ -88,8 +88,8 @@ fn serve_record<R: Threads + Wait + Sync, S: Source, K: Sink, G: Gate>(
     gate: &G,
 ) -> ExitStatus
     requires journal { IsJournal command }
-    ensures ends { Ends (Some command) (passage S.left S.faults src.old src.new) (passage K.taken K.faults out.old out.new) (code_of result) }
-    ensures silent { code_of result ≡ 4 → out.new ≡ out.old }
+    ensures ends { Ends (Some command) (passage S.left S.faults src.old src.new) (passage K.taken K.faults out.old out.new) (number_of_status result) }
+    ensures silent { number_of_status result ≡ 4 → out.new ≡ out.old }
 {
     match command {
         Command::Record { workers } => record(rt, alloc, workers, src, out, gate),
@@ -107,9 +107,9 @@ pub fn serve_journal<R: Threads + Wait + Sync, S: Source, K: Sink, G: Gate>(
     gate: &G,
 ) -> ExitStatus
     requires journal { MeansJournal meaning }
-    ensures ends { Ends meaning (passage S.left S.faults src.old src.new) (passage K.taken K.faults out.old out.new) (code_of result) }
+    ensures ends { Ends meaning (passage S.left S.faults src.old src.new) (passage K.taken K.faults out.old out.new) (number_of_status result) }
     ensures unread { reads_input meaning ≡ false → src.new ≡ src.old }
-    ensures silent { code_of result ≡ 4 → out.new ≡ out.old }
+    ensures silent { number_of_status result ≡ 4 → out.new ≡ out.old }
 {
     match meaning {
         Some(command) => serve_record(rt, alloc, command, src, out, gate),

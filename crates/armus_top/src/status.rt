@@ -1,6 +1,6 @@
 // How a call of the program ends.
 ghost use Rattle.std.specs.Prelude.{◌≡◌};
-ghost use Rattle.armus_top.specs.inside.Status.{code_of};
+ghost use Rattle.armus_top.specs.inside.Status.{number_of_status};
 
 /// How a call of the program ends.
 #[derive(Clone, Copy, Debug, PartialEq, Eq)]
@@ -24,7 +24,7 @@ pub enum ExitStatus {
 impl ExitStatus {
     /// The number with which the program ends, 0 to 6.
     pub fn code(self) -> u8
-        ensures { result ≡ code_of self }
+        ensures { result ≡ number_of_status self }
     {
         match self {
             ExitStatus::NoDeadlock => 0,

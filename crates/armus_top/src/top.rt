@@ -4,7 +4,7 @@ ghost use Rattle.std.specs.Str.{bytes_eq};
 ghost use Rattle.armus_words.specs.declared.table.TheConstants.{RECORD};
 ghost use Rattle.armus_top.specs.Meanings.{BeginsRecord};
 ghost use Rattle.armus_top.specs.Replayable.{WritesReplayable};
-ghost use Rattle.armus_top.specs.inside.Status.{code_of};
+ghost use Rattle.armus_top.specs.inside.Status.{number_of_status};
 ghost use Rattle.armus_top.specs.Headline.{IsCall, IsServed, passage};
 
 use crate::serving::{serve, serve_journal};
@@ -25,7 +25,7 @@ fn status_for<R: Threads + Sync, S: Source, K: Sink, G: Gate>(
     gate: &G,
 ) -> ExitStatus
     requires plain { BeginsRecord (map string_bytes words.now) → ⊥ }
-    ensures call { IsCall (map string_bytes words.now) (passage S.left S.faults src.old src.new) (passage K.taken K.faults out.old out.new) (src.new ≡ src.old) (out.new ≡ out.old) (code_of result) }
+    ensures call { IsCall (map string_bytes words.now) (passage S.left S.faults src.old src.new) (passage K.taken K.faults out.old out.new) (src.new ≡ src.old) (out.new ≡ out.old) (number_of_status result) }
 {
     match command_in(alloc, words) {
         Ok(meaning) => serve(rt, alloc, meaning, src, out, gate),
@@ -62,7 +62,7 @@ fn status_journal<R: Threads + Wait + Sync, S: Source, K: Sink, G: Gate>(
     gate: &G,
 ) -> ExitStatus
     requires journal { BeginsRecord (map string_bytes words.now) }
-    ensures call { IsCall (map string_bytes words.now) (passage S.left S.faults src.old src.new) (passage K.taken K.faults out.old out.new) (src.new ≡ src.old) (out.new ≡ out.old) (code_of result) }
+    ensures call { IsCall (map string_bytes words.now) (passage S.left S.faults src.old src.new) (passage K.taken K.faults out.old out.new) (src.new ≡ src.old) (out.new ≡ out.old) (number_of_status result) }
 {
     match command_in(alloc, words) {
         Ok(meaning) => serve_journal(rt, alloc, meaning, src, out, gate),

@@ -2,7 +2,7 @@
 ghost use Rattle.std.specs.Prelude.{◌≡◌, ◌⊎◌};
 ghost use Rattle.std.specs.Io.KnownBytes.{Keeps};
 ghost use Rattle.armus_top.specs.Headline.{IsSound, passage};
-ghost use Rattle.armus_top.specs.inside.Status.{code_of};
+ghost use Rattle.armus_top.specs.inside.Status.{number_of_status};
 ghost use Rattle.armus_top.specs.inside.Writing.{Finished, Refuses, TellsEnd};
 
 use crate::programs::InputEnd;
@@ -13,8 +13,8 @@ use std::alloc::Global;
 
 /// Writes the text and answers the status, or `WriteFailed` where a write failed.
 pub fn finish<K: Sink>(out: &mut K, text: &[u8], status: ExitStatus) -> ExitStatus
-    ensures done { Finished (passage K.taken K.faults out.old out.new) text.now (code_of status) (code_of result) }
-    ensures status { code_of result ≡ 4 → code_of status ≡ 4 }
+    ensures done { Finished (passage K.taken K.faults out.old out.new) text.now (number_of_status status) (number_of_status result) }
+    ensures status { number_of_status result ≡ 4 → number_of_status status ≡ 4 }
 {
     match write_text(out, text) {
         Ok(()) => status,
@@ -24,8 +24,8 @@ pub fn finish<K: Sink>(out: &mut K, text: &[u8], status: ExitStatus) -> ExitStat
 
 /// Writes the line that says why an input is refused.
 pub fn refuse<K: Sink>(alloc: Global, why: &Refusal, out: &mut K) -> ExitStatus
-    ensures done { Refuses why.now (passage K.taken K.faults out.old out.new) (code_of result) }
-    ensures silent { code_of result ≡ 4 → out.new ≡ out.old }
+    ensures done { Refuses why.now (passage K.taken K.faults out.old out.new) (number_of_status result) }
+    ensures silent { number_of_status result ≡ 4 → out.new ≡ out.old }
 {
     match refusal_line(alloc, why) {
         Ok(line) => finish(out, line.as_slice(), ExitStatus::Refused),
@@ -35,8 +35,8 @@ pub fn refuse<K: Sink>(alloc: Global, why: &Refusal, out: &mut K) -> ExitStatus
 
 /// Tells why there is no answer.
 pub fn answer_end<K: Sink>(alloc: Global, end: InputEnd, out: &mut K) -> ExitStatus
-    ensures done { TellsEnd end (passage K.taken K.faults out.old out.new) (code_of result) }
-    ensures silent { code_of result ≡ 4 → out.new ≡ out.old }
+    ensures done { TellsEnd end (passage K.taken K.faults out.old out.new) (number_of_status result) }
+    ensures silent { number_of_status result ≡ 4 → out.new ≡ out.old }
 {
     match end {
         InputEnd::Refused(why) => refuse(alloc, &why, out),

@@ -7,7 +7,7 @@ use Rattle.clap.specs.Lexer.{long_of}
 use Rattle.clap.specs.Simple.{Shape, built}
 use Rattle.clap.specs.Takes.{bundle_passes, flag_word_passes, long_passes, settle_passes, step_passes, turn_passes, use_passes, walk_passes, word_passes}
 use Rattle.clap.specs.Walk.{Held, Step, Walk, after_flag, arg_by_long, has_row, idle, long_met, option, walked}
-use Rattle.armus_words.specs.Words.{Text, dashed, Use, Fits, valued, flag, option_of, use_words, name_of, wants_value}
+use Rattle.armus_words.specs.Words.{Text, dashed, Use, HasWantedValue, valued, flag, option_of, use_words, name_of, wants_value}
 use Rattle.armus_words.specs.declared.table.OptionWord.{OptionWord}
 use Rattle.armus_words.specs.declared.table.OptionWord.TheVariants.{Print, Workers, Graph, Live}
 use Rattle.armus_words.proofs.Steps.{Knows, at, flag_walked, held_after, made, no_dashes, no_long, no_short, option_walked, plain_met, rows_at, starts_as_value, starts_plain, value_walked, waits, with_pending}
@@ -69,7 +69,7 @@ module _ (name : Text) (rules : List Rule) where
   flag_turn o h knows w e fresh = turn_is o h ∙ ap (by_rule (dashed o) h) knows.long ∙ flag_passes o h w e fresh
 
   -- the words of a use are taken, and then more words
-  pub use_taken : (u : Use) (h : Held) (rest : List Text) → Knows rules (option_of u) → Fits u → settles h ≡ true → has_row (name_of (option_of u)) (rows_at rules h) ≡ false
+  pub use_taken : (u : Use) (h : Held) (rest : List Text) → Knows rules (option_of u) → HasWantedValue u → settles h ≡ true → has_row (name_of (option_of u)) (rows_at rules h) ≡ false
       → walk_passes shape [] (at h) (use_words u ++ rest) ≡ walk_passes shape [] (at (held_after rules u h)) rest
   unfolding walk_passes
   use_taken (valued o v) h rest knows fits e fresh =
@@ -94,6 +94,6 @@ module _ (name : Text) (rules : List Rule) where
   value_settles Graph v h w e = rw e refl
   value_settles Live v h w e = absurd (cc)
 
-  pub use_settles : (u : Use) (h : Held) → Knows rules (option_of u) → Fits u → has_row (name_of (option_of u)) (rows_at rules h) ≡ false → settles (held_after rules u h) ≡ true
+  pub use_settles : (u : Use) (h : Held) → Knows rules (option_of u) → HasWantedValue u → has_row (name_of (option_of u)) (rows_at rules h) ≡ false → settles (held_after rules u h) ≡ true
   use_settles (valued o v) h knows fits e = ap (by_pending o v h) knows.id ∙ value_settles o v h fits.0 e
   use_settles (flag o) h knows fits e = refl

@@ -15,7 +15,7 @@ use Rattle.clap.specs.declared.builder.value_parser.Reading.TheVariants.{AsWritt
 use Rattle.armus_words.proofs.Rows.{at_row_missing, fresh_row}
 use Rattle.armus_words.proofs.Meaning.{and_first}
 use Rattle.armus_words.specs.inside.Rules.{rule_for}
-use Rattle.armus_words.specs.Words.{Text, dashed, has_option, Use, Fits, valued, flag, option_of, use_words, is_value_byte, name_of, wants_value, IsValue}
+use Rattle.armus_words.specs.Words.{Text, dashed, has_option, Use, HasWantedValue, valued, flag, option_of, use_words, is_value_byte, name_of, wants_value, IsValue}
 use Rattle.armus_words.specs.declared.table.OptionWord.{OptionWord}
 use Rattle.armus_words.specs.declared.table.OptionWord.TheVariants.{Print, Workers, Graph, Live}
 
@@ -124,7 +124,7 @@ module _ (rules : List Rule) where
   held_after (valued o v) h = with_pending o (v ∷ []) h
   held_after (flag o) h = reacted rules (made o) [] h
 
-  pub use_walked : (u : Use) (h : Held) (rest : List Text) → Knows rules (option_of u) → Fits u
+  pub use_walked : (u : Use) (h : Held) (rest : List Text) → Knows rules (option_of u) → HasWantedValue u
       → fold (walked rules []) (at h) (use_words u ++ rest) ≡ fold (walked rules []) (at (held_after u h)) rest
   use_walked (valued o v) h rest knows fits =
       ap (λ (w : Walk). fold (walked rules []) (walked rules [] w v) rest) (option_walked o h knows fits.0)
@@ -153,7 +153,7 @@ module _ (rules : List Rule) where
   row_flag Graph rows w e = absurd (cc)
   row_flag Live rows w e = fresh_row (codes "live") AsWritten CommandLine (codes "true" ∷ []) rows e
 
-  pub use_settled : (u : Use) (h : Held) → Knows rules (option_of u) → Fits u → has_row (name_of (option_of u)) (rows_at h) ≡ false
+  pub use_settled : (u : Use) (h : Held) → Knows rules (option_of u) → HasWantedValue u → has_row (name_of (option_of u)) (rows_at h) ≡ false
       → rows_at (held_after u h) ≡ rows_at h ++ use_row u ∷ []
   use_settled (valued o v) h knows fits e = ap (λ a. used_by_id a (v ∷ []) (rows_at h)) knows.id ∙ row_valued o v (rows_at h) fits.0 e
   use_settled (flag o) h knows fits e = row_flag o (rows_at h) fits e

@@ -92,9 +92,9 @@ all_words [] = []
 all_words (u ∷ us) = use_words u ++ all_words us
 
 -- a value stands exactly where one is wanted
-abbrev pub Fits : Use → Type 0
-Fits (valued o v) = (wants_value o ≡ true) × IsValue v
-Fits (flag o) = wants_value o ≡ false
+abbrev pub HasWantedValue : Use → Type 0
+HasWantedValue (valued o v) = (wants_value o ≡ true) × IsValue v
+HasWantedValue (flag o) = wants_value o ≡ false
 
 -- the two options are one
 abbrev pub same_option : OptionWord → OptionWord → Bool
@@ -111,7 +111,7 @@ without o free p = if same_option p o then false else free p
 -- each use fits and is of an option that is free, and no option comes twice: its use takes it away
 abbrev pub AreUses : (OptionWord → Bool) → List Use → Type 0
 AreUses free [] = Unit {0}
-AreUses free (u ∷ us) = (free (option_of u) ≡ true) × Fits u × AreUses (without (option_of u) free) us
+AreUses free (u ∷ us) = (free (option_of u) ≡ true) × HasWantedValue u × AreUses (without (option_of u) free) us
 
 -- the value that stands by itself, exactly where the command has one
 abbrev pub StandsAlone : Bool → Option Text → Type 0

@@ -21,7 +21,7 @@ use Rattle.board.specs.Locking.{FreesLock, IsWithLock, MayRefuse}
 use Rattle.board.specs.Seats.{Frame, IsOf, IsSeat, Known, MakesStep, MayPublish}
 use Rattle.board.proofs.Fitting.{moved_same}
 use Rattle.board.proofs.Seated.{next_there}
-use Rattle.phase_scan.specs.Looks.{GoesOn}
+use Rattle.phase_scan.specs.Looks.{LoadsAlone}
 use Rattle.phase_scan.proofs.Supposes.{own_phase_stays}
 use Rattle.verdict.specs.declared.found.Cycle.{Cycle}
 use Rattle.avoider.specs.Decisions.{ExplainsDeath}
@@ -32,7 +32,7 @@ use Rattle.avoider.proofs.Dropping.{kept_all, own_place_next, place_at}
 use Rattle.avoider.proofs.InHand.{decides, stands}
 
 -- what comes next stays so while a seat makes loads alone
-pub next_stays : (k m : Known) (t : ℕ) → IsSeat k → k.view.own ≡ Some t → GoesOn k m → next_action m.view ≡ next_action k.view
+pub next_stays : (k m : Known) (t : ℕ) → IsSeat k → k.view.own ≡ Some t → LoadsAlone k m → next_action m.view ≡ next_action k.view
 next_stays k m t seat own goes =
     let task : task_of m.view ≡ task_of k.view = ap (λ o. unwrap_or o 0) goes.same.own in
     let is_t : task_of k.view ≡ t = ap (λ o. unwrap_or o 0) own in
@@ -40,7 +40,7 @@ next_stays k m t seat own goes =
     ap (place_in m.view.sight.places) (task ∙ is_t) ∙ goes.here t (seat.own t own).1 ∙ ap (place_in k.view.sight.places) (sym is_t) in
     λ i. action_after (goes.same.plan i) (task i) (here i).done (here i).dropped
 
-module _ (list : List Status) (p : ℕ) (before now : Known) (found : Option Cycle) (t : ℕ) (seat : IsSeat before) (own : before.view.own ≡ Some t) (avoiding : avoids before.view.mode ≡ true) (holds : before.view.holds ≡ true) (next : next_action before.view ≡ Some (Blocks p)) (goes : GoesOn before now) (j : IsJudged list p before now found) where
+module _ (list : List Status) (p : ℕ) (before now : Known) (found : Option Cycle) (t : ℕ) (seat : IsSeat before) (own : before.view.own ≡ Some t) (avoiding : avoids before.view.mode ≡ true) (holds : before.view.holds ≡ true) (next : next_action before.view ≡ Some (Blocks p)) (goes : LoadsAlone before now) (j : IsJudged list p before now found) where
   abbrev plan : Plan
   plan = before.view.plan
 

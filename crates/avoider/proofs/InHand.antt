@@ -32,7 +32,7 @@ use Rattle.board.proofs.Acting.{nothing_published}
 use Rattle.board.proofs.Forking.{lock_forked}
 use Rattle.board.proofs.Ranges.{phaser_of_member}
 use Rattle.board.proofs.Seated.{next_there, phase_here}
-use Rattle.phase_scan.specs.Looks.{GoesOn}
+use Rattle.phase_scan.specs.Looks.{LoadsAlone}
 use Rattle.phase_scan.specs.Collected.{HasFinds, IsCollected}
 use Rattle.phase_scan.specs.Supposed.{IsSupposed}
 use Rattle.phase_scan.specs.Tables.{state_supposed}
@@ -54,7 +54,7 @@ not_first : (b : Place) → 0 < b.done → b ≢ first_place
 not_first b begun same = (let none : b.done ≡ 0 = ap (λ (v : Place). v.done) same in omega arith)
 
 -- what the seat knew before the collect, after it, and after the loads of the column
-module _ (list supposed : List Status) (event : Event) (before mid store : Known) (t : ℕ) (seat : IsSeat before) (own : before.view.own ≡ Some t) (next : next_action before.view ≡ Some (Blocks event.p.0)) (phase : own_phase before.view event.p.0 ≡ Some event.n) (goes : GoesOn before mid) (collected : IsCollected list before mid) (finds : HasFinds list mid) (sup : IsSupposed before.view.plan list event supposed mid store) where
+module _ (list supposed : List Status) (event : Event) (before mid store : Known) (t : ℕ) (seat : IsSeat before) (own : before.view.own ≡ Some t) (next : next_action before.view ≡ Some (Blocks event.p.0)) (phase : own_phase before.view event.p.0 ≡ Some event.n) (goes : LoadsAlone before mid) (collected : IsCollected list before mid) (finds : HasFinds list mid) (sup : IsSupposed before.view.plan list event supposed mid store) where
   abbrev plan : Plan
   plan = before.view.plan
 
@@ -79,7 +79,7 @@ module _ (list supposed : List Status) (event : Event) (before mid store : Known
   task_mid : t ≡ task_of mid.view
   task_mid = sym (ap (λ o. unwrap_or o 0) own_mid)
 
-  down : GoesOn mid store
+  down : LoadsAlone mid store
   down = (column_goes sup.found.published p plan sup.column tasks mid store goes.same.plan (omega arith) goes.kept sup.loads).goes
 
   finds_stay : (u : ℕ) → (seen store.view).found u ≡ (seen mid.view).found u

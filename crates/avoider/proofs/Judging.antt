@@ -15,7 +15,7 @@ use Rattle.board.specs.Steps.{own_phase}
 use Rattle.board.specs.Seats.{Frame, IsOf, Known}
 use Rattle.phase_scan.specs.Collected.{HasFinds, IsCollected}
 use Rattle.phase_scan.specs.Collects.{IsCollect}
-use Rattle.phase_scan.specs.Looks.{GoesOn}
+use Rattle.phase_scan.specs.Looks.{LoadsAlone}
 use Rattle.phase_scan.specs.Supposed.{IsSupposed}
 use Rattle.phase_scan.specs.Tables.{state_supposed}
 use Rattle.verdict.specs.declared.found.Cycle.{Cycle}
@@ -31,12 +31,12 @@ supposed_ordered plan list event supposed before now checked sup =
 -- the loads of a decision
 pub judges_so :
     (f : Frame) (list supposed : List Status) (event : Event) (before first between now : Known) → IsOf before f →
-    first ≡ before → GoesOn first between → IsCollect f.plan list first between → IsCollected list first between → HasFinds list between →
+    first ≡ before → LoadsAlone first between → IsCollect f.plan list first between → IsCollected list first between → HasFinds list between →
     IsSupposed f.plan list event supposed between now → own_phase before.view event.p.0 ≡ Some event.n → Judges list event supposed before now
 judges_so f list supposed event before first between now of same goes collect collected finds adds phase =
     record {
       between = between;
-      goes_on = subst (λ k. GoesOn k between) same goes;
+      goes_on = subst (λ k. LoadsAlone k between) same goes;
       collect = subst (λ (q : Plan). IsCollect q list before between) (sym of.plan) (subst (λ k. IsCollect f.plan list k between) same collect);
       collected = subst (λ k. IsCollected list k between) same collected;
       finds = finds;

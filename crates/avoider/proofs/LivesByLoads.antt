@@ -14,13 +14,13 @@ use Rattle.armus_base.specs.States.{State}
 use Rattle.armus_base.proofs.BoardRuns.{nobody_dead_at}
 use Rattle.board.specs.Views.{avoids, next_action, seen, task_of}
 use Rattle.board.specs.Seats.{IsSeat, Known}
-use Rattle.phase_scan.specs.Looks.{GoesOn}
+use Rattle.phase_scan.specs.Looks.{LoadsAlone}
 use Rattle.avoider.specs.inside.OffCycle.{ImpedesSome, IsImpeded}
 use Rattle.avoider.specs.OnBoard.{InEachByLock, Judges}
 use Rattle.avoider.proofs.InHand.{decides, own_only, would_impede_nobody}
 use Rattle.avoider.proofs.OnNoCycle.{lives_impeding_nobody}
 
-module _ (list : List Status) (p : ℕ) (before now : Known) (t : ℕ) (seat : IsSeat before) (own : before.view.own ≡ Some t) (avoiding : avoids before.view.mode ≡ true) (holds : before.view.holds ≡ true) (next : next_action before.view ≡ Some (Blocks p)) (goes : GoesOn before now) (event : Event) (of_phaser : event.p.0 ≡ p) (supposed : List Status) (judges : Judges list event supposed before now) where
+module _ (list : List Status) (p : ℕ) (before now : Known) (t : ℕ) (seat : IsSeat before) (own : before.view.own ≡ Some t) (avoiding : avoids before.view.mode ≡ true) (holds : before.view.holds ≡ true) (next : next_action before.view ≡ Some (Blocks p)) (goes : LoadsAlone before now) (event : Event) (of_phaser : event.p.0 ≡ p) (supposed : List Status) (judges : Judges list event supposed before now) where
   abbrev plan : Plan
   plan = before.view.plan
 

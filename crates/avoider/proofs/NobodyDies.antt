@@ -10,11 +10,11 @@ use Rattle.armus_base.specs.States.{IsLegal, Step, after}
 use Rattle.armus_base.proofs.OnlyBlocksKill.{only_blocks_kill}
 use Rattle.armus_base.proofs.Reachable.{reachable_is_fixed, reachable_steps}
 use Rattle.armus_base.proofs.SerialIsAvoided.{block_leaves_nobody_dead}
-use Rattle.pl_core.specs.Moves.{LeadsOn, MakesRefusal, MakesStep, drops_from}
+use Rattle.pl_core.specs.Moves.{LeadsOn, MakesRefusal, IsWorldStep, drops_from}
 use Rattle.pl_core.specs.declared.stand.Stand.{Stand}
 use Rattle.pl_core.specs.declared.stand.Stand.TheVariants.{Unforked, Done, Refused, Ready, Await, Waits}
 use Rattle.pl_core.specs.Stands.{IsAtAwaitOf, StandsSo}
-use Rattle.pl_core.specs.Worlds.{IsOpening, WorldValue, next_action, places_of, state_of}
+use Rattle.pl_core.specs.Worlds.{IsOpeningWorld, WorldValue, action_by_code, places_of, state_of}
 use Rattle.pl_core.proofs.Refusing.{leads_reachable}
 use Rattle.avoider.proofs.Supposing.{awaits_event, blocks_next}
 
@@ -48,7 +48,7 @@ drops_publish_nothing t p (d ∷ drops) = (drops_publish_nothing t p drops, λ q
 
 module _ (old new : WorldValue) (checked : IsCheckedPlan old.plan) (reach : IsReachable old.plan (places_of old)) (t : ℕ) (nobody : NobodyDead (state_of old)) where
   -- a step that is no block
-  pub step_kills_nobody : (s : MakesStep old new t) → ((p : ℕ) → s.action ≢ Blocks p) → NobodyDead (state_of new)
+  pub step_kills_nobody : (s : IsWorldStep old new t) → ((p : ℕ) → s.action ≢ Blocks p) → NobodyDead (state_of new)
   unfolding state_of
   step_kills_nobody s other =
       subst (λ plan. NobodyDead (state_at plan (places_of new))) (sym s.plan)
@@ -62,7 +62,7 @@ module _ (old new : WorldValue) (checked : IsCheckedPlan old.plan) (reach : IsRe
       (drops_publish_nothing t r.phaser r.drops) nobody)
 
   -- a block where the task would not be dead
-  pub block_kills_nobody : (e : Event) → IsAtAwaitOf old t e → (WouldBeDead (state_of old) t e → ⊥) → MakesStep old new t → NobodyDead (state_of new)
+  pub block_kills_nobody : (e : Event) → IsAtAwaitOf old t e → (WouldBeDead (state_of old) t e → ⊥) → IsWorldStep old new t → NobodyDead (state_of new)
   block_kills_nobody e before alive s =
       let is : s.action ≡ Blocks e.p.0 = (let both : Some s.action ≡ Some (Blocks e.p.0) = sym s.next ∙ blocks_next old t e before in cc) in
       subst NobodyDead (sym (s.state ∙ ap (after (state_of old) t) is))
@@ -71,7 +71,7 @@ module _ (old new : WorldValue) (checked : IsCheckedPlan old.plan) (reach : IsRe
 -- only who stands at an await blocks
 pub no_block_else :
     (w : WorldValue) (t : ℕ) (stand : Stand) → StandsSo w t stand → ((e : Event) → stand ≡ Await e → ⊥) →
-    (x : Action) → next_action w t ≡ Some x → IsLegal w.plan (state_of w) t x → (p : ℕ) → x ≢ Blocks p
+    (x : Action) → action_by_code w t ≡ Some x → IsLegal w.plan (state_of w) t x → (p : ℕ) → x ≢ Blocks p
 no_block_else w t stand so other x next legal p is = by_stand stand so other (subst (λ y. IsLegal w.plan (state_of w) t y) is legal)
   where
     by_stand : (stand : Stand) → StandsSo w t stand → ((e : Event) → stand ≡ Await e → ⊥) → IsLegal w.plan (state_of w) t (Blocks p) → ⊥
@@ -83,7 +83,7 @@ no_block_else w t stand so other x next legal p is = by_stand stand so other (su
     by_stand (Waits e) so other legal = absurd (let none = legal.0.unpublished in cc)
 
 -- nobody is dead at first
-pub opening_alive : (plan : Plan) (w : WorldValue) → IsOpening plan w → NobodyDead (state_of w)
+pub opening_alive : (plan : Plan) (w : WorldValue) → IsOpeningWorld plan w → NobodyDead (state_of w)
 opening_alive plan w opens u dead =
     let held = (subst (λ s. IsDeadIn s u) opens.state dead).deadlocked.each u dead.inside in
     let waits = held.waits in absurd (cc)

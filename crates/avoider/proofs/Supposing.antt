@@ -16,14 +16,14 @@ use Rattle.armus_base.proofs.Reachable.{reachable_is_fixed}
 use Rattle.armus_base.proofs.StatusesAre.{statuses_are}
 use Rattle.armus_base.proofs.Steps.{updated_is}
 use Rattle.pl_core.specs.Stands.{IsAtAwaitOf}
-use Rattle.pl_core.specs.Worlds.{WorldValue, next_action, places_of, state_of}
+use Rattle.pl_core.specs.Worlds.{WorldValue, action_by_code, places_of, state_of}
 use Rattle.pl_core.proofs.Bounds.{phaser_of_member}
 use Rattle.pl_core.proofs.StepKinds.{awaits_block}
 
 -- who stands at an await of an event goes on with a block of its phaser, which publishes the event
-pub blocks_next : (w : WorldValue) (t : ℕ) (e : Event) → IsAtAwaitOf w t e → next_action w t ≡ Some (Blocks e.p.0)
+pub blocks_next : (w : WorldValue) (t : ℕ) (e : Event) → IsAtAwaitOf w t e → action_by_code w t ≡ Some (Blocks e.p.0)
 blocks_next w t e before =
-    let block = awaits_block (next_action w t) ((state_of w).phases t) e before.1 in
+    let block = awaits_block (action_by_code w t) ((state_of w).phases t) e before.1 in
     let is = event_on_is block.0 ((state_of w).phases t block.0) e block.2 in
     block.1 ∙ ap (λ p. Some (Blocks p)) (sym is.0)
 
@@ -57,7 +57,7 @@ supposed_in_order w checked t e = (statuses_are w.plan (if_published (state_of w
 -- the phaser of the event of an await is one of the plan
 pub phaser_of_await : (w : WorldValue) → IsCheckedPlan w.plan → IsReachable w.plan (places_of w) → (t : ℕ) (e : Event) → IsAtAwaitOf w t e → e.p.0 < length w.plan.makers
 phaser_of_await w checked reach t e before =
-    let block = awaits_block (next_action w t) ((state_of w).phases t) e before.1 in
+    let block = awaits_block (action_by_code w t) ((state_of w).phases t) e before.1 in
     let is = event_on_is block.0 ((state_of w).phases t block.0) e block.2 in
     let stands = subst (λ p. (state_of w).phases t p ≡ Some e.n) (sym is.0) is.1 in
     phaser_of_member w checked reach t e.p.0 e.n stands

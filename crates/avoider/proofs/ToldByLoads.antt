@@ -10,7 +10,7 @@ use Rattle.board.specs.Steps.{own_phase}
 use Rattle.board.specs.Seats.{Frame, IsOf, IsSeat, Known}
 use Rattle.phase_scan.specs.Collected.{HasFinds, IsCollected}
 use Rattle.phase_scan.specs.Collects.{IsCollect}
-use Rattle.phase_scan.specs.Looks.{GoesOn}
+use Rattle.phase_scan.specs.Looks.{LoadsAlone}
 use Rattle.phase_scan.specs.Supposed.{IsSupposed}
 use Rattle.phase_scan.proofs.Loads.{goes_both}
 use Rattle.verdict.specs.declared.found.Cycle.{Cycle}
@@ -26,12 +26,12 @@ match_none : {X : Type 0} (P Q : Type 0) (E : X → Type 0) (o : Option X) → (
 match_none P Q E None turn is = turn is
 match_none P Q E (Some x) turn is = is
 
-module _ (f : Frame) (list supposed : List Status) (event : Event) (before first between now : Known) (t : ℕ) (of : IsOf before f) (seat : IsSeat before) (own : before.view.own ≡ Some t) (locked : before.view.holds ≡ true) (next : next_action before.view ≡ Some (Blocks event.p.0)) (same : first ≡ before) (goes : GoesOn first between) (collect : IsCollect f.plan list first between) (collected : IsCollected list first between) (finds : HasFinds list between) (adds : IsSupposed f.plan list event supposed between now) (more : GoesOn between now) (phase : own_phase before.view event.p.0 ≡ Some event.n) where
+module _ (f : Frame) (list supposed : List Status) (event : Event) (before first between now : Known) (t : ℕ) (of : IsOf before f) (seat : IsSeat before) (own : before.view.own ≡ Some t) (locked : before.view.holds ≡ true) (next : next_action before.view ≡ Some (Blocks event.p.0)) (same : first ≡ before) (goes : LoadsAlone first between) (collect : IsCollect f.plan list first between) (collected : IsCollected list first between) (finds : HasFinds list between) (adds : IsSupposed f.plan list event supposed between now) (more : LoadsAlone between now) (phase : own_phase before.view event.p.0 ≡ Some event.n) where
   judges : Judges list event supposed before now
   judges = judges_so f list supposed event before first between now of same goes collect collected finds adds phase
 
-  all : GoesOn before now
-  all = goes_both before between now (subst (λ k. GoesOn k between) same goes) more
+  all : LoadsAlone before now
+  all = goes_both before between now (subst (λ k. LoadsAlone k between) same goes) more
 
   abbrev Lives : Type 0
   Lives = InEachByLock now (λ s. WouldBeDead s (task_of now.view) event → ⊥)

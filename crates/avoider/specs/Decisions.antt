@@ -9,7 +9,7 @@ use Rattle.armus_base.specs.Finals.{statuses_of}
 use Rattle.armus_base.specs.Plans.{Blocks}
 use Rattle.armus_base.specs.States.{if_published}
 use Rattle.armus_base.specs.Statuses.{IsInOrder}
-use Rattle.pl_core.specs.Moves.{MakesRefusal, MakesStep}
+use Rattle.pl_core.specs.Moves.{MakesRefusal, IsWorldStep}
 use Rattle.pl_core.specs.Stands.{IsAtAwaitOf}
 use Rattle.pl_core.specs.Worlds.{WorldValue, state_of}
 use Rattle.verdict.specs.Cycles.{IsCycle, IsCycleOf}
@@ -42,7 +42,7 @@ supposed_statuses w t e = statuses_of w.plan (if_published (state_of w) t e)
 pub record IsPublished (old new : WorldValue) (t : ℕ) (e : Event) : Type 0 where
   pub before : IsAtAwaitOf old t e
   pub alive : WouldBeDead (state_of old) t e → ⊥
-  pub step : MakesStep old new t
+  pub step : IsWorldStep old new t
 
 -- task t stood at an await where it would be dead, as the cycle explains, in which it stands, and has been refused and has left all its phasers
 pub record IsRefused (old new : WorldValue) (t : ℕ) (c : Cycle) : Type 0 where
@@ -60,7 +60,7 @@ IsDecision old new t (Refused c) = IsRefused old new t c
 
 -- task t has made its next event, which is no block
 pub record MakesOtherEvent (old new : WorldValue) (t : ℕ) : Type 0 where
-  pub step : MakesStep old new t
+  pub step : IsWorldStep old new t
   pub other : (p : ℕ) → step.action ≢ Blocks p
 
 -- task t has gone on as a run does that avoids deadlock: by a decision at an await, and else by the next event of its code

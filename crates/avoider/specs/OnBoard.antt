@@ -15,7 +15,7 @@ use Rattle.board.specs.Steps.{own_phase}
 use Rattle.board.specs.Views.{seen, task_of}
 use Rattle.phase_scan.specs.Collected.{HasFinds, IsCollected}
 use Rattle.phase_scan.specs.Collects.{IfAsked, IsCollect}
-use Rattle.phase_scan.specs.Looks.{GoesOn}
+use Rattle.phase_scan.specs.Looks.{LoadsAlone}
 use Rattle.phase_scan.specs.Supposed.{IsSupposed}
 use Rattle.verdict.specs.declared.found.Cycle.{Cycle}
 use Rattle.avoider.specs.Decisions.{ExplainsDeath}
@@ -26,7 +26,7 @@ use Rattle.avoider.specs.declared.decision.Decision.TheVariants.{Published, Refu
 -- status and the phases on the event's phaser are added.
 pub record Judges (list : List Status) (event : Event) (supposed : List Status) (before now : Known) : Type 0 where
   pub between : Known
-  pub goes_on : GoesOn before between
+  pub goes_on : LoadsAlone before between
   pub collect : IsCollect before.view.plan list before between
   pub collected : IsCollected list before between
   pub finds : HasFinds list between
@@ -80,12 +80,12 @@ pub record HasRefused (list : List Status) (p : ℕ) (cycle : Cycle) (before now
   pub drops : DropsBelow (own_phase store.view) (length store.view.plan.makers) free now
 
 -- what was decided on the own await of p
-abbrev pub IsDecided : List Status → ℕ → Known → Known → Decision → Type 0
-IsDecided list p before now (Published e) = e.p.0 ≡ p × HasPublished list e before now
-IsDecided list p before now (Refused c) = HasRefused list p c before now
+abbrev pub IsDecidedOnBoard : List Status → ℕ → Known → Known → Decision → Type 0
+IsDecidedOnBoard list p before now (Published e) = e.p.0 ≡ p × HasPublished list e before now
+IsDecidedOnBoard list p before now (Refused c) = HasRefused list p c before now
 
 -- nothing was decided: loads were made, and the lock was freed
 pub record IsUndecided (before now : Known) : Type 0 where
   pub between : Known
-  pub goes_on : GoesOn before between
+  pub goes_on : LoadsAlone before between
   pub freed : FreesLock between now

@@ -5,8 +5,8 @@ ghost use Rattle.armus_base.specs.Plans.{Blocks};
 ghost use Rattle.board.specs.Seats.{IsOf};
 ghost use Rattle.board.specs.Steps.{own_phase};
 ghost use Rattle.board.specs.Views.{next_action, own_place, task_of};
-ghost use Rattle.phase_scan.specs.Looks.{GoesOn};
-ghost use Rattle.avoider.specs.OnBoard.{DropsBelow, IsDecided, IsUndecided};
+ghost use Rattle.phase_scan.specs.Looks.{LoadsAlone};
+ghost use Rattle.avoider.specs.OnBoard.{DropsBelow, IsDecidedOnBoard, IsUndecided};
 ghost use Rattle.avoider.specs.inside.Judged.{IsJudged};
 
 use crate::Decision;
@@ -36,7 +36,7 @@ pub fn decide(
     requires next { next_action seat.old.view ≡ Some (Blocks p.0) }
     requires tasks { cells.old.tasks ≡ length board.now.plan.parents }
     requires phasers { cells.old.phasers ≡ length board.now.plan.makers }
-    ensures decision { IfOk result (IsDecided cells.new.statuses p.0 seat.old seat.new) }
+    ensures decision { IfOk result (IsDecidedOnBoard cells.new.statuses p.0 seat.old seat.new) }
     ensures undecided { OnErr result (IsUndecided seat.old seat.new) }
     ensures free { (seat.new.view.holds ≡ false) × IsOf seat.new board.now }
     ensures tasks { cells.new.tasks ≡ cells.old.tasks }
@@ -78,7 +78,7 @@ fn judge(
     requires tasks { cells.old.tasks ≡ length board.now.plan.parents }
     requires phasers { cells.old.phasers ≡ length board.now.plan.makers }
     ensures judged { IfOk result (IsJudged cells.new.statuses p.0 seat.old seat.new) }
-    ensures goes_on { GoesOn seat.old seat.new }
+    ensures goes_on { LoadsAlone seat.old seat.new }
     ensures tasks { cells.new.tasks ≡ cells.old.tasks }
     ensures phasers { cells.new.phasers ≡ cells.old.phasers }
 {

@@ -1,6 +1,6 @@
 // The lock of a board that avoids deadlock.
 ghost use Rattle.std.specs.Prelude.{◌≡◌, true, false, IfErr, OnOk};
-ghost use Rattle.board.specs.Locking.{FindsHeld, FreesLock, StandsBeforeAwait, TakesLock};
+ghost use Rattle.board.specs.Locking.{FindsHeld, FreesLock, IsBeforeAwait, TakesLock};
 ghost use Rattle.board.specs.Seats.{IsOf};
 ghost use Rattle.board.specs.Views.{avoids};
 
@@ -11,7 +11,7 @@ use board::{Board, Busy, TaskSeat};
 pub fn try_take(seat: &mut TaskSeat, board: &Board) -> Result<(), Busy>
     requires made { IsOf seat.old board.now }
     requires avoids { avoids seat.old.view.mode ≡ true }
-    requires next { StandsBeforeAwait seat.old }
+    requires next { IsBeforeAwait seat.old }
     requires unlocked { seat.old.view.holds ≡ false }
     ensures taken { OnOk result (TakesLock seat.old seat.new) }
     ensures busy { IfErr result (λ busy. FindsHeld busy.holder.0 seat.old seat.new) }

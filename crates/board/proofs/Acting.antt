@@ -21,7 +21,7 @@ use Rattle.board.specs.declared.mode.Mode.{Mode}
 use Rattle.board.specs.declared.view.View.{View}
 use Rattle.board.specs.Words.{IsShown}
 use Rattle.board.specs.Views.{action_after, avoids, next_action, own_place, place_in, task_of}
-use Rattle.board.specs.Rule.{Fits, IsKeptBy, by_seat, not_yet}
+use Rattle.board.specs.Rule.{SeatFits, IsKeptBy, by_seat, not_yet}
 use Rattle.board.specs.Steps.{after_action, next_view}
 use Rattle.board.proofs.Seating.{one_goes_on, seated_stays}
 use Rattle.board.proofs.Fitting.{IsStep, other_fits, own_fits, state_next, step_lawful}
@@ -31,7 +31,7 @@ T = TableState (Unit {0}) View
 
 -- the seat of task t, in a table that keeps the rule
 pub record Sits (plan : Plan) (mode : Mode) (s : T) (l : IsKeptBy plan mode s) (id : ℕ) (v : View) (t : ℕ) : Type 0 where
-  pub fits : Fits plan mode l.places l.lock l.steppers id v
+  pub fits : SeatFits plan mode l.places l.lock l.steppers id v
   pub within : t < length plan.parents
   pub alone : l.steppers t ≡ by_seat id
   pub task : task_of v ≡ t
@@ -191,7 +191,7 @@ acts_kept plan mode s l id i n c v t x own live found is_step forked shown =
           (λ u. sym (ap (λ st. st.forked u) next) ∙ forked u) l.seated;
       views = λ j u e unspent. elim (at_set s.views id j (after_action x v) u e) [
         | inl w ↦
-            subst (λ (z : ℕ × View). Fits plan mode a' l.lock l.steppers z.0 z.1) (λ k. (sym w.0 k, w.1 k))
+            subst (λ (z : ℕ × View). SeatFits plan mode a' l.lock l.steppers z.0 z.1) (λ k. (sym w.0 k, w.1 k))
             (own_fits plan mode l.places l.lock t x l.checked l.lawful is_step l.steppers id v own si.fits)
         | inr w ↦
             other_fits plan mode l.places l.lock t x l.checked l.lawful is_step l.steppers id j u si.alone w.0 (l.views j u w.1 unspent)

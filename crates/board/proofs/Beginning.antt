@@ -11,11 +11,11 @@ use Rattle.armus_base.specs.CheckedPlans.{IsCheckedPlan}
 use Rattle.armus_base.specs.Seats.{seen_by_child}
 use Rattle.board.specs.declared.mode.Setting.{Setting}
 use Rattle.board.specs.declared.view.View.{View}
-use Rattle.board.specs.Rule.{first}
+use Rattle.board.specs.Rule.{first_view}
 use Rattle.board.specs.Views.{is_among, place_in}
 use Rattle.board.specs.Steps.{viewer}
 use Rattle.board.specs.Seats.{Frame, IsNewSeat, IsSeat, nothing_seen}
-use Rattle.board.specs.Sitting.{IsSitting}
+use Rattle.board.specs.inside.Sitting.{IsSitting}
 use Rattle.board.proofs.Closing.{first_places, some_task}
 
 only_zero : (is_among (0 ∷ [])) ≡ (λ u. u == 0)
@@ -28,8 +28,8 @@ only_zero = fun_ext (λ u. or_none (u == 0))
 all_first : (n : ℕ) → place_in (replicate n first_place) ≡ (λ _. first_place)
 all_first n = fun_ext (first_places n)
 
-module _ (k : Setting) (f : Frame) (table : TableId) (plan_is : k.plan.value ≡ f.plan) (mode_is : k.mode ≡ f.mode) (same : table ≡ f.table) (v : View) (is : v ≡ first k) where
-  first_seat : IsCheckedPlan k.plan.value → IsSeat (record { table = table; view = first k })
+module _ (k : Setting) (f : Frame) (table : TableId) (plan_is : k.plan.value ≡ f.plan) (mode_is : k.mode ≡ f.mode) (same : table ≡ f.table) (v : View) (is : v ≡ first_view k) where
+  first_seat : IsCheckedPlan k.plan.value → IsSeat (record { table = table; view = first_view k })
   first_seat checked = record {
     live = refl;
     checked = checked;
@@ -64,7 +64,7 @@ module _ (k : Setting) (f : Frame) (table : TableId) (plan_is : k.plan.value ≡
     idle = λ _. refl;
   })
 
-  first_viewer : IsCheckedPlan k.plan.value → IsSeat (record { table = table; view = viewer (first k) })
+  first_viewer : IsCheckedPlan k.plan.value → IsSeat (record { table = table; view = viewer (first_view k) })
   first_viewer checked = record {
     live = refl;
     checked = checked;

@@ -27,7 +27,7 @@ use Rattle.board.specs.declared.mode.Setting.{Setting}
 use Rattle.board.specs.declared.view.View.{View}
 use Rattle.board.specs.Words.{IsShown, word_count}
 use Rattle.board.specs.Views.{avoids, is_among, place_in, seen}
-use Rattle.board.specs.Rule.{Fits, IsKept, IsKeptBy, IsThere, Stepper, by_seat, first, no_more, not_yet}
+use Rattle.board.specs.Rule.{SeatFits, IsKept, IsKeptBy, IsThere, Stepper, by_seat, first_view, no_more, not_yet}
 use Rattle.board.specs.Closing.{AreAllExact, AreLastOf}
 use Rattle.board.proofs.Showing.{shows_opening}
 use Rattle.board.proofs.Fitting.{none_scanned, seat_ends, seats_same}
@@ -46,7 +46,7 @@ first_places (suc n) zero = refl
 first_places (suc n) (suc u) = first_places n u
 
 -- the rule holds at the opening
-pub opens_kept : (k : Setting) (words : List ℕ) (homes : List (Unit {0})) → IsCheckedPlan k.plan.value → words ≡ replicate (word_count k.plan.value) 0 → IsKept k (opens words homes (first k))
+pub opens_kept : (k : Setting) (words : List ℕ) (homes : List (Unit {0})) → IsCheckedPlan k.plan.value → words ≡ replicate (word_count k.plan.value) 0 → IsKept k (opens words homes (first_view k))
 opens_kept k words homes checked is =
     record {
       places = at_first;
@@ -71,7 +71,7 @@ opens_kept k words homes checked is =
         seats = λ t j is. elim (cases_eq t 0) [
           | inl e ↦
               let same : 0 ≡ j = seats_same 0 j (sym (updated_same (λ _. not_yet) 0 t (by_seat 0) e) ∙ is) in
-              (first k, subst (λ i. IsThere (first k ∷ []) i (first k)) same (record { found = refl; live = refl }), ap Some (sym e))
+              (first_view k, subst (λ i. IsThere (first_view k ∷ []) i (first_view k)) same (record { found = refl; live = refl }), ap Some (sym e))
           | inr n ↦ absurd (seat_steps j (sym is ∙ updated_other (λ _. not_yet) 0 t (by_seat 0) n))
         ];
         ended = λ t is. elim (cases_eq t 0) [
@@ -107,7 +107,7 @@ opens_kept k words homes checked is =
     zero_some : (u : ℕ) → Some 0 ≡ Some u → 0 ≡ u
     zero_some u e = cc
 
-    fits : Fits plan k.mode at_first None one 0 (first k)
+    fits : SeatFits plan k.mode at_first None one 0 (first_view k)
     fits = record {
       plan_is = refl;
       mode_is = refl;
@@ -127,8 +127,8 @@ opens_kept k words homes checked is =
       viewer = λ _. refl;
     }
 
-    each : (j : ℕ) (v : View) → get_elem? (first k ∷ []) j ≡ some v → v.spent ≡ false → Fits plan k.mode at_first None one j v
-    each zero v e unspent = subst (Fits plan k.mode at_first None one 0) (some-injective (first k) v e) fits
+    each : (j : ℕ) (v : View) → get_elem? (first_view k ∷ []) j ≡ some v → v.spent ≡ false → SeatFits plan k.mode at_first None one j v
+    each zero v e unspent = subst (SeatFits plan k.mode at_first None one 0) (some-injective (first_view k) v e) fits
     each (suc j) v e unspent = absurd (some-ne-none v (sym e))
 
 -- whether a task is forked is a matter of its parent's place

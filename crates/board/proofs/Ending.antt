@@ -15,7 +15,7 @@ use Rattle.armus_base.proofs.KeepsFar.{prefixes_both}
 use Rattle.board.specs.declared.mode.Mode.{Mode}
 use Rattle.board.specs.declared.view.View.{View}
 use Rattle.board.specs.Views.{is_among, place_in, task_of}
-use Rattle.board.specs.Rule.{Fits, IsKeptBy, Owns, Stepper, by_seat, no_more, not_yet}
+use Rattle.board.specs.Rule.{SeatFits, IsKeptBy, Owns, Stepper, by_seat, no_more, not_yet}
 use Rattle.board.specs.Steps.{Counted, are_ahead, are_of_one_run, both, is_prefix, longer, longer_places, may_join, precedes, spent_view, with_seat}
 use Rattle.board.proofs.Seating.{GoesOnAs, as_before, seated_ends}
 use Rattle.board.proofs.Fitting.{seats_same}
@@ -157,7 +157,7 @@ seat_steps j e = cc
 -- the seat j of task t ends: no other seat's claim changes
 ended_fits :
     (plan : Plan) (mode : Mode) (a : ℕ → Place) (lock : Option ℕ) (steppers : ℕ → Stepper) (t k : ℕ) → steppers t ≡ by_seat k → (j : ℕ) (v : View) → j ≢ k →
-    Fits plan mode a lock steppers j v → Fits plan mode a lock (updated steppers t no_more) j v
+    SeatFits plan mode a lock steppers j v → SeatFits plan mode a lock (updated steppers t no_more) j v
 ended_fits plan mode a lock steppers t k owner j v apart f =
     record {
       plan_is = f.plan_is;
@@ -197,7 +197,7 @@ longer_right a b c x l p is = elim l [
 ]
 
 -- the viewer's view after
-module _ (plan : Plan) (mode : Mode) (s : T) (l : IsKeptBy plan mode s) (id other : ℕ) (v w : View) (t : ℕ) (alone : v.own ≡ None) (mine : Fits plan mode l.places l.lock l.steppers id v) (theirs : Fits plan mode l.places l.lock l.steppers other w) (own : w.own ≡ Some t) where
+module _ (plan : Plan) (mode : Mode) (s : T) (l : IsKeptBy plan mode s) (id other : ℕ) (v w : View) (t : ℕ) (alone : v.own ≡ None) (mine : SeatFits plan mode l.places l.lock l.steppers id v) (theirs : SeatFits plan mode l.places l.lock l.steppers other w) (own : w.own ≡ Some t) where
   o : Owns plan l.steppers other w t
   o = theirs.own t own
 
@@ -238,7 +238,7 @@ module _ (plan : Plan) (mode : Mode) (s : T) (l : IsKeptBy plan mode s) (id othe
   long : (u : ℕ) → IsLonger (place_in v.sight.places u) (place_in w.sight.places u) (place_in (longer_places v.sight.places w.sight.places) u)
   long = longer_at v.sight.places w.sight.places same_count of_one_run
 
-  pub with_fits : Fits plan mode l.places l.lock (updated l.steppers t no_more) id (with_seat v w)
+  pub with_fits : SeatFits plan mode l.places l.lock (updated l.steppers t no_more) id (with_seat v w)
   with_fits =
       record {
         plan_is = mine.plan_is;
@@ -297,8 +297,8 @@ takes_in plan mode id v other w t alone live own live_too s l found apart there 
         | inl x ↦ absurd (false≢true (sym unspent ∙ sym (ap (λ (z : View). z.spent) x.1)))
         | inr x ↦ elim (at_set s.views id j (both v w) u x.1) [
           | inl y ↦
-              subst (λ (z : ℕ × View). Fits plan mode l.places l.lock steppers' z.0 z.1) (λ i. (sym y.0 i, y.1 i))
-              (subst (Fits plan mode l.places l.lock steppers' id) joined fits)
+              subst (λ (z : ℕ × View). SeatFits plan mode l.places l.lock steppers' z.0 z.1) (λ i. (sym y.0 i, y.1 i))
+              (subst (SeatFits plan mode l.places l.lock steppers' id) joined fits)
           | inr y ↦ ended_fits plan mode l.places l.lock l.steppers t other si.alone j u x.0 (l.views j u y.1 unspent)
         ]
       ];

@@ -22,7 +22,7 @@ use Rattle.board.specs.declared.mode.Mode.{Mode}
 use Rattle.board.specs.declared.mode.Mode.TheVariants.{Avoid, Detect}
 use Rattle.board.specs.declared.view.View.{View}
 use Rattle.board.specs.Views.{avoids, is_among, own_place, place_in, seen, task_of}
-use Rattle.board.specs.Rule.{Fits, Stepper, by_seat, no_more}
+use Rattle.board.specs.Rule.{SeatFits, Stepper, by_seat, no_more}
 use Rattle.board.specs.Steps.{after_action, scanned_next}
 use Rattle.board.proofs.Sights.{set_place}
 
@@ -140,7 +140,7 @@ module _ (plan : Plan) (mode : Mode) (a : ℕ → Place) (lock : Option ℕ) (t 
           }
 
   -- another view
-  pub other_fits : (steppers : ℕ → Stepper) (id j : ℕ) (v : View) → steppers t ≡ by_seat id → j ≢ id → Fits plan mode a lock steppers j v → Fits plan mode (moved a t x) lock steppers j v
+  pub other_fits : (steppers : ℕ → Stepper) (id j : ℕ) (v : View) → steppers t ≡ by_seat id → j ≢ id → SeatFits plan mode a lock steppers j v → SeatFits plan mode (moved a t x) lock steppers j v
   other_fits steppers id j v owner apart f =
       record {
         plan_is = f.plan_is;
@@ -172,7 +172,7 @@ module _ (plan : Plan) (mode : Mode) (a : ℕ → Place) (lock : Option ℕ) (t 
           ]
 
   -- the view after one's own step
-  pub own_fits : (steppers : ℕ → Stepper) (j : ℕ) (v : View) → v.own ≡ Some t → Fits plan mode a lock steppers j v → Fits plan mode (moved a t x) lock steppers j (after_action x v)
+  pub own_fits : (steppers : ℕ → Stepper) (j : ℕ) (v : View) → v.own ≡ Some t → SeatFits plan mode a lock steppers j v → SeatFits plan mode (moved a t x) lock steppers j (after_action x v)
   own_fits steppers j v mine f =
       record {
         plan_is = f.plan_is;

@@ -22,7 +22,7 @@ use Rattle.board.specs.declared.mode.Mode.TheVariants.{Avoid, Detect}
 use Rattle.board.specs.declared.view.View.{View}
 use Rattle.board.specs.Words.{IsShown}
 use Rattle.board.specs.Views.{avoids, is_among, next_action, place_in}
-use Rattle.board.specs.Rule.{Fits, IsKeptBy, Stepper, by_seat, no_more, not_yet}
+use Rattle.board.specs.Rule.{SeatFits, IsKeptBy, Stepper, by_seat, no_more, not_yet}
 use Rattle.board.specs.Steps.{Unforked, another, child, forked_by, next_view, viewer}
 use Rattle.board.proofs.Seating.{as_before, both_go_on, one_comes, one_goes_on, seated_born, seated_stays}
 use Rattle.board.proofs.Showing.{shows_same}
@@ -93,7 +93,7 @@ ended_steps e = cc
 -- a seat for a task that has none yet changes no claim
 born_fits :
     (plan : Plan) (mode : Mode) (a : ℕ → Place) (lock : Option ℕ) (steppers : ℕ → Stepper) (c k : ℕ) → steppers c ≡ not_yet → (j : ℕ) (v : View) →
-    Fits plan mode a lock steppers j v → Fits plan mode a lock (updated steppers c (by_seat k)) j v
+    SeatFits plan mode a lock steppers j v → SeatFits plan mode a lock (updated steppers c (by_seat k)) j v
 born_fits plan mode a lock steppers c k free j v f =
     record {
       plan_is = f.plan_is;
@@ -144,15 +144,15 @@ forks plan mode id v t c own live free next s l found =
     let none_yet : l.steppers c ≡ not_yet = (l.seated.forks c).0 is_step.legal.2 in
     let k : ℕ = length s.views in
     let steppers' : ℕ → Stepper = updated l.steppers c (by_seat k) in
-    let mine : Fits plan mode a' l.lock l.steppers id (next_view v) =
-    subst (Fits plan mode a' l.lock l.steppers id) (next_view_is v (Forks c) next)
+    let mine : SeatFits plan mode a' l.lock l.steppers id (next_view v) =
+    subst (SeatFits plan mode a' l.lock l.steppers id) (next_view_is v (Forks c) next)
     (own_fits plan mode l.places l.lock t (Forks c) l.checked l.lawful is_step l.steppers id v own si.fits) in
     let is_c : forked_by (next_action v) ≡ c = ap forked_by next in
     let consistent = (reachable_is_fixed plan l.places l.checked (lawful_is_reachable (avoids mode) plan l.places l.lock l.lawful)).1 in
     let idle : a' c ≡ first_place =
     moved_other l.places t (Forks c) c (λ e. omega arith)
     ∙ (λ i. record { done = unforked_idle plan l.checked l.places consistent c is_step.legal.2 i; dropped = unforked_undropped plan l.checked l.places consistent c is_step.legal.2 i }) in
-    let baby : Fits plan mode a' l.lock steppers' k (child v) = record {
+    let baby : SeatFits plan mode a' l.lock steppers' k (child v) = record {
       plan_is = si.fits.plan_is;
       mode_is = si.fits.mode_is;
       count = mine.count;
@@ -191,14 +191,14 @@ forks plan mode id v t c own live free next s l found =
       views = λ j u e unspent. elim (at_end (set s.views id (next_view v)) (child v) u j e) [
         | inl old ↦ elim (at_set s.views id j (next_view v) u old) [
           | inl x ↦
-              subst (λ (z : ℕ × View). Fits plan mode a' l.lock steppers' z.0 z.1) (λ i. (sym x.0 i, x.1 i))
+              subst (λ (z : ℕ × View). SeatFits plan mode a' l.lock steppers' z.0 z.1) (λ i. (sym x.0 i, x.1 i))
               (born_fits plan mode a' l.lock l.steppers c k none_yet id (next_view v) mine)
           | inr x ↦
               born_fits plan mode a' l.lock l.steppers c k none_yet j u
               (other_fits plan mode l.places l.lock t (Forks c) l.checked l.lawful is_step l.steppers id j u si.alone x.0 (l.views j u x.1 unspent))
         ]
         | inr x ↦
-            subst (λ (z : ℕ × View). Fits plan mode a' l.lock steppers' z.0 z.1) (λ i. (sym (x.0 ∙ length-set s.views id (next_view v)) i, x.1 i)) baby
+            subst (λ (z : ℕ × View). SeatFits plan mode a' l.lock steppers' z.0 z.1) (λ i. (sym (x.0 ∙ length-set s.views id (next_view v)) i, x.1 i)) baby
       ];
     }
 
@@ -225,7 +225,7 @@ unforked plan mode slots id me t own live free s l _ found _ =
 -- a view that is split off and that owns no task
 splits_off :
     (plan : Plan) (mode : Mode) (id : ℕ) (v w : View) → v.spent ≡ false →
-    ((s : T) (l : IsKeptBy plan mode s) → Fits plan mode l.places l.lock l.steppers id v → Fits plan mode l.places l.lock l.steppers (length s.views) w) →
+    ((s : T) (l : IsKeptBy plan mode s) → SeatFits plan mode l.places l.lock l.steppers id v → SeatFits plan mode l.places l.lock l.steppers (length s.views) w) →
     Splits (IsKeptBy plan mode) id v v w
 splits_off plan mode id v w live fits s l found =
     record {
@@ -240,11 +240,11 @@ splits_off plan mode id v w live fits s l found =
           (both_go_on s.views (set s.views id v) (set s.views id v ++ w ∷ []) (one_goes_on s.views id v v found (as_before v)) (one_comes (set s.views id v) w)) (λ u. refl) l.seated;
       views = λ j u e unspent. elim (at_end (set s.views id v) w u j e) [
         | inl old ↦ elim (at_set s.views id j v u old) [
-          | inl x ↦ subst (λ (z : ℕ × View). Fits plan mode l.places l.lock l.steppers z.0 z.1) (λ i. (sym x.0 i, x.1 i)) (l.views id v found live)
+          | inl x ↦ subst (λ (z : ℕ × View). SeatFits plan mode l.places l.lock l.steppers z.0 z.1) (λ i. (sym x.0 i, x.1 i)) (l.views id v found live)
           | inr x ↦ l.views j u x.1 unspent
         ]
         | inr x ↦
-            subst (λ (z : ℕ × View). Fits plan mode l.places l.lock l.steppers z.0 z.1) (λ i. (sym (x.0 ∙ length-set s.views id v) i, x.1 i))
+            subst (λ (z : ℕ × View). SeatFits plan mode l.places l.lock l.steppers z.0 z.1) (λ i. (sym (x.0 ∙ length-set s.views id v) i, x.1 i))
             (fits s l (l.views id v found live))
       ];
     }

@@ -14,7 +14,7 @@ use Rattle.board.specs.declared.view.View.{View}
 use Rattle.board.specs.Views.{action_after, avoids, next_action, own_place, place_in, seen, task_of}
 use Rattle.board.specs.Steps.{after_action}
 use Rattle.board.specs.Seats.{Frame, IsOf, IsSeat, Known, MakesStep, event_of}
-use Rattle.board.specs.Sitting.{IsSitting}
+use Rattle.board.specs.inside.Sitting.{IsSitting}
 use Rattle.board.specs.Locking.{FindsHeld, FreesLock, IsWithLock, MayRefuse, MeetsHolder, TakesLock, with_lock}
 use Rattle.board.proofs.Sights.{seen_stepped}
 use Rattle.board.proofs.Loaded.{loaded_seat, loads_sitting}

@@ -17,7 +17,7 @@ use Rattle.board.specs.Words.{IsInRange, await_index, await_number, phase_index,
 use Rattle.board.specs.Views.{avoids, seen}
 use Rattle.board.specs.Steps.{IsSameSeat, LoadsAwait, LoadsPhase, Looked, WasSo, Watched}
 use Rattle.board.specs.Seats.{AnswersAwait, AnswersPhase, Frame, IsOf, IsSeat, event_of}
-use Rattle.board.specs.Sitting.{IsSitting}
+use Rattle.board.specs.inside.Sitting.{IsSitting}
 
 -- a seat stays one after a load
 pub loaded_seat :

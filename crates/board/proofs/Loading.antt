@@ -27,7 +27,7 @@ use Rattle.board.specs.declared.seen.Seen.TheVariants.{Idle, Refused, Waits}
 use Rattle.board.specs.declared.view.View.{View}
 use Rattle.board.specs.Words.{IsInRange, IsShown, await_index, await_number, found_in, phase_index, phase_number}
 use Rattle.board.specs.Views.{avoids, found_of, is_among, last_found, place_in, seen, task_of}
-use Rattle.board.specs.Rule.{Fits, IsKeptBy}
+use Rattle.board.specs.Rule.{SeatFits, IsKeptBy}
 use Rattle.board.specs.Steps.{LoadsAwait, LoadsPhase, Looked, Recalled, Watched}
 use Rattle.board.proofs.Seating.{GoesOnAs, as_before, one_goes_on, seated_stays}
 use Rattle.board.proofs.Showing.{phases_apart}
@@ -56,7 +56,7 @@ module _ (t : ℕ) (c : Place) (k : ℕ) (found : List (ℕ × Seen)) (v : View)
   loaded_there u n = ap (λ g. g u) (set_place v.sight.places t c within) ∙ updated_other (place_in v.sight.places) t u c n
 
 -- a view keeps fitting where its new place of t is a prefix of the actual one, and this one where t is exact
-module _ (plan : Plan) (mode : Mode) (s : T) (l : IsKeptBy plan mode s) (j : ℕ) (v : View) (f : Fits plan mode l.places l.lock l.steppers j v) (t : ℕ) (small : t < length plan.parents) (c : Place) (k : ℕ) (found : List (ℕ × Seen)) where
+module _ (plan : Plan) (mode : Mode) (s : T) (l : IsKeptBy plan mode s) (j : ℕ) (v : View) (f : SeatFits plan mode l.places l.lock l.steppers j v) (t : ℕ) (small : t < length plan.parents) (c : Place) (k : ℕ) (found : List (ℕ × Seen)) where
   within : t < length v.sight.places
   within = (let e = f.count in omega arith)
 
@@ -64,7 +64,7 @@ module _ (plan : Plan) (mode : Mode) (s : T) (l : IsKeptBy plan mode s) (j : ℕ
       IsPrefix c (l.places t) → (is_among v.sight.exact t ≡ true → c ≡ l.places t) →
       ((u : ℕ) → v.own ≡ Some u → IsScanned (state_at plan l.places) k (published_after plan u (l.places u).done)) →
       ((w : ℕ) → v.own ≡ Some w → v.holds ≡ true → (u : ℕ) → u ≢ w → StillAgrees (state_at plan l.places) u (last_found found u)) →
-      Fits plan mode l.places l.lock l.steppers j (after_load t c k found v)
+      SeatFits plan mode l.places l.lock l.steppers j (after_load t c k found v)
   load_fits near same scan agree =
       record {
         plan_is = f.plan_is;
@@ -109,7 +109,7 @@ longest_is plan mode s l t Means before c longest earlier means =
 -- a load changes no word
 pub looks_kept :
     (plan : Plan) (mode : Mode) (s : T) (l : IsKeptBy plan mode s) (id i : ℕ) (c : List (ℕ × Unit {0})) (v w : View) → get_elem? s.views id ≡ some v → GoesOnAs v w →
-    Fits plan mode l.places l.lock l.steppers id w → IsKeptBy plan mode (stepped s i (get_or s.words i 0) id c w keeps)
+    SeatFits plan mode l.places l.lock l.steppers id w → IsKeptBy plan mode (stepped s i (get_or s.words i 0) id c w keeps)
 looks_kept plan mode s l id i c v w found goes fits =
     record {
       places = l.places;
@@ -120,7 +120,7 @@ looks_kept plan mode s l id i c v w found goes fits =
       shown = subst (λ (ws : List ℕ). IsShown plan (state_at plan l.places) l.lock ws) (sym (set-get_or s.words i 0)) l.shown;
       seated = seated_stays plan l.places l.places l.steppers s.views (set s.views id w) (one_goes_on s.views id v w found goes) (λ u. refl) l.seated;
       views = λ j u e unspent. elim (at_set s.views id j w u e) [
-        | inl x ↦ subst (λ (z : ℕ × View). Fits plan mode l.places l.lock l.steppers z.0 z.1) (λ k. (sym x.0 k, x.1 k)) fits
+        | inl x ↦ subst (λ (z : ℕ × View). SeatFits plan mode l.places l.lock l.steppers z.0 z.1) (λ k. (sym x.0 k, x.1 k)) fits
         | inr x ↦ l.views j u x.1 unspent
       ];
     }

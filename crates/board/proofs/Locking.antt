@@ -23,7 +23,7 @@ use Rattle.board.specs.declared.mode.Mode.{Mode}
 use Rattle.board.specs.declared.view.View.{View}
 use Rattle.board.specs.Words.{IsShown, await_index, holder_number, phase_index}
 use Rattle.board.specs.Views.{avoids, next_action, seen, task_of}
-use Rattle.board.specs.Rule.{Fits, IsKeptBy, Stepper, by_seat}
+use Rattle.board.specs.Rule.{SeatFits, IsKeptBy, Stepper, by_seat}
 use Rattle.board.specs.Locking.{Freed, IsWithLock, MeetsHolder, Tried, with_lock}
 use Rattle.board.proofs.Seating.{one_goes_on, seated_stays}
 use Rattle.board.proofs.Fitting.{seats_same, unheld}
@@ -59,7 +59,7 @@ shows_lock plan s lock lock' words sh =
 -- another view fits as before where the lock is or becomes that of task t, or nobody's
 other_holds :
     (plan : Plan) (mode : Mode) (a : ℕ → Place) (lock lock' : Option ℕ) (steppers : ℕ → Stepper) (t id j : ℕ) (v : View) → steppers t ≡ by_seat id → j ≢ id →
-    ((u : ℕ) → u ≢ t → lock ≢ Some u) → ((u : ℕ) → u ≢ t → lock' ≢ Some u) → Fits plan mode a lock steppers j v → Fits plan mode a lock' steppers j v
+    ((u : ℕ) → u ≢ t → lock ≢ Some u) → ((u : ℕ) → u ≢ t → lock' ≢ Some u) → SeatFits plan mode a lock steppers j v → SeatFits plan mode a lock' steppers j v
 other_holds plan mode a lock lock' steppers t id j v owner apart before now f =
     record {
       plan_is = f.plan_is;
@@ -80,7 +80,7 @@ other_holds plan mode a lock lock' steppers t id j v owner apart before now f =
 -- the view of the seat that takes or frees the lock
 own_holds :
     (plan : Plan) (mode : Mode) (a : ℕ → Place) (lock lock' : Option ℕ) (steppers : ℕ → Stepper) (t id : ℕ) (v : View) (held : Bool) → v.own ≡ Some t →
-    (held ≡ true → lock' ≡ Some t) → (lock' ≡ Some t → held ≡ true) → Fits plan mode a lock steppers id v → Fits plan mode a lock' steppers id (with_lock held v)
+    (held ≡ true → lock' ≡ Some t) → (lock' ≡ Some t → held ≡ true) → SeatFits plan mode a lock steppers id v → SeatFits plan mode a lock' steppers id (with_lock held v)
 own_holds plan mode a lock lock' steppers t id v held own to from f =
     record {
       plan_is = f.plan_is;
@@ -118,7 +118,7 @@ lock_kept plan mode s l id c v t lock' held own live found before now to from la
       seated = seated_stays plan l.places l.places l.steppers s.views (set s.views id (with_lock held v)) (one_goes_on s.views id v (with_lock held v) found (record { own = refl; spent = refl; exact = λ u is. is })) (λ u. refl) l.seated;
       views = λ j u e unspent. elim (at_set s.views id j (with_lock held v) u e) [
         | inl w ↦
-            subst (λ (z : ℕ × View). Fits plan mode l.places lock' l.steppers z.0 z.1) (λ k. (sym w.0 k, w.1 k))
+            subst (λ (z : ℕ × View). SeatFits plan mode l.places lock' l.steppers z.0 z.1) (λ k. (sym w.0 k, w.1 k))
             (own_holds plan mode l.places l.lock lock' l.steppers t id v held own to from si.fits)
         | inr w ↦
             other_holds plan mode l.places l.lock lock' l.steppers t id j u si.alone w.0 before now (l.views j u w.1 unspent)
@@ -172,8 +172,8 @@ holder_within plan mode s l h may = elim may [
 
 -- the loads of a view do not matter
 loads_fit :
-    (plan : Plan) (mode : Mode) (a : ℕ → Place) (lock : Option ℕ) (steppers : ℕ → Stepper) (j n : ℕ) (v : View) → Fits plan mode a lock steppers j v →
-    Fits plan mode a lock steppers j (record v { loads = n })
+    (plan : Plan) (mode : Mode) (a : ℕ → Place) (lock : Option ℕ) (steppers : ℕ → Stepper) (j n : ℕ) (v : View) → SeatFits plan mode a lock steppers j v →
+    SeatFits plan mode a lock steppers j (record v { loads = n })
 loads_fit plan mode a lock steppers j n v f =
     record {
       plan_is = f.plan_is;
@@ -194,7 +194,7 @@ module _ (plan : Plan) (mode : Mode) (slots id : ℕ) (me : Me (Unit {0}) View) 
   -- the holder that was met
   meets :
       (s : T) (l : IsKeptBy plan mode s) → get_elem? s.views id ≡ some v → (h : ℕ) → l.lock ≡ Some h →
-      (w : View) × Fits plan mode l.places l.lock l.steppers id w × MeetsHolder v.plan v.mode h v w
+      (w : View) × SeatFits plan mode l.places l.lock l.steppers id w × MeetsHolder v.plan v.mode h v w
   meets s l found h held =
       let f = l.views id v found live in
       let si = sits plan mode s l id v t own live found in
@@ -210,7 +210,7 @@ module _ (plan : Plan) (mode : Mode) (slots id : ℕ) (me : Me (Unit {0}) View) 
       (λ u owned. let o = f.own u owned in subst (λ (p : Place). IsScanned (state_at plan l.places) v.sight.scanned (published_after plan u p.done)) (sym (f.far.equal u o.within o.exact)) (f.far.scanned u owned))
       (λ x owned has. absurd (false≢true (sym free ∙ has))) in
       let w : View = record (after_load h r.0 v.sight.scanned v.sight.found v) { loads = v.loads } in
-      let fits : Fits plan mode l.places l.lock l.steppers id w = loads_fit plan mode l.places l.lock l.steppers id v.loads (after_load h r.0 v.sight.scanned v.sight.found v) loaded in
+      let fits : SeatFits plan mode l.places l.lock l.steppers id w = loads_fit plan mode l.places l.lock l.steppers id v.loads (after_load h r.0 v.sight.scanned v.sight.found v) loaded in
       let here = loaded_here h r.0 v.sight.scanned v.sight.found v inside in (
         w,
         fits,

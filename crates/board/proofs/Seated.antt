@@ -20,8 +20,9 @@ use Rattle.board.specs.declared.view.View.{View}
 use Rattle.board.specs.Views.{avoids, is_among, next_action, own_place, place_in, seen, task_of}
 use Rattle.board.specs.Words.{phase_index}
 use Rattle.board.specs.Steps.{after_action, child, forked_by, next_view, own_phase, scanned_next}
-use Rattle.board.specs.Seats.{Frame, IsNewSeat, IsByMember, IsOf, IsSeat, Known, MakesStep, MayPublish, NeedsMember, event_of}
-use Rattle.board.specs.Sitting.{IsSitting}
+use Rattle.board.specs.Seats.{Frame, IsNewSeat, IsOf, IsSeat, Known, MakesStep, MayPublish, event_of}
+use Rattle.board.specs.inside.ByMembers.{IsByMember, NeedsMember}
+use Rattle.board.specs.inside.Sitting.{IsSitting}
 use Rattle.board.proofs.Sights.{seen_stepped, set_place}
 use Rattle.board.proofs.Acting.{action_there, next_view_is, nothing_published}
 

@@ -15,13 +15,13 @@ use Rattle.armus_base.proofs.Codes.{child_within, phaser_within}
 use Rattle.armus_base.proofs.Steps.{updated_same}
 use Rattle.board.specs.Views.{action_after, next_action, own_place, seen, task_of}
 use Rattle.board.specs.Seats.{Frame, IsNewSeat, IsOf, IsSeat, Known, MakesStep, event_of, nothing_seen}
-use Rattle.board.specs.Walking.{HasBegun, IsOfPlan, begins, left_of}
+use Rattle.board.specs.inside.Walking.{HasBegun, IsActionOfPlan, begins, left_of}
 use Rattle.board.specs.Steps.{IsSameSeat, WasSo}
 use Rattle.board.proofs.Ranges.{phaser_of_member}
 use Rattle.board.proofs.Loaded.{event_stays, own_stays}
 use Rattle.board.proofs.Seated.{event_here, next_there, not_awaited, place_made}
 
-of_plan : (plan : Plan) → IsCheckedPlan plan → (t k : ℕ) (x : Action) → IsWellFormed plan t k x → IsOfPlan plan x
+of_plan : (plan : Plan) → IsCheckedPlan plan → (t k : ℕ) (x : Action) → IsWellFormed plan t k x → IsActionOfPlan plan x
 of_plan plan checked t k (Makes p) f = phaser_within plan t p f.0
 of_plan plan checked t k (Registers c p) f = (child_within plan t c f.0, phaser_of_member plan checked t k p f.3.0 f.3.1)
 of_plan plan checked t k (Forks c) f = child_within plan t c f.0
@@ -31,7 +31,7 @@ of_plan plan checked t k (Blocks p) f = phaser_of_member plan checked t k p f.0 
 of_plan plan checked t k (Passes p) f = tt
 of_plan plan checked t k (Refuses p) f = tt
 
-pub next_of_plan : (k : Known) (x : Action) → IsSeat k → next_action k.view ≡ Some x → IsOfPlan k.view.plan x
+pub next_of_plan : (k : Known) (x : Action) → IsSeat k → next_action k.view ≡ Some x → IsActionOfPlan k.view.plan x
 next_of_plan k x seat next =
     let there = next_there k.view x next in
     of_plan k.view.plan seat.checked (task_of k.view) (own_place k.view).done x
@@ -209,8 +209,8 @@ module _ (begun : ℕ) (op : Op) (k : Known) (b : IsBefore begun op k) where
   pub before_next : next_action k.view ≡ Some (begins op)
   before_next = next_is k (begins op) (goes_on op (actions_of (drop (suc begun) (code_of k.view.plan (task_of k.view))))) b.begun_so.unrefused left_now
 
-  pub before_of_plan : (plan : Plan) → k.view.plan ≡ plan → IsOfPlan plan (begins op)
-  before_of_plan plan same = subst (λ q. IsOfPlan q (begins op)) same (next_of_plan k (begins op) b.seat before_next)
+  pub before_of_plan : (plan : Plan) → k.view.plan ≡ plan → IsActionOfPlan plan (begins op)
+  before_of_plan plan same = subst (λ q. IsActionOfPlan q (begins op)) same (next_of_plan k (begins op) b.seat before_next)
 
 -- after that step the op is begun
 pub begins_next : (begun : ℕ) (op : Op) (k m : Known) → IsBefore begun op k → MakesStep (begins op) k m → HasBegun (suc begun) m

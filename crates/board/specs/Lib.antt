@@ -9,4 +9,5 @@ pub mod Sitting
 pub mod Viewing
 pub mod Ended
 pub mod Boarding
-pub mod Walking
+-- How the program does it: private contracts alone cite these.
+pub mod inside

@@ -68,8 +68,8 @@ Refused step before n now =
     × IsWithLock before.0.plan (task_of before.0) (seen before.0)
 
 -- the seat stands before an await that is not published
-abbrev pub StandsBeforeAwait : Known → Type 0
-StandsBeforeAwait seat = (p : ℕ) × next_action seat.view ≡ Some (Blocks p)
+abbrev pub IsBeforeAwait : Known → Type 0
+IsBeforeAwait seat = (p : ℕ) × next_action seat.view ≡ Some (Blocks p)
 
 -- the seat has taken the lock, and nothing else is another
 pub record TakesLock (before now : Known) : Type 0 where

@@ -33,7 +33,7 @@ pub record HoldsAsSeen (plan : Plan) (a : ℕ → Place) (lock : Option ℕ) (v 
   pub held : lock ≡ Some t → v.holds ≡ true
 
 -- what the seat j knows is true at these places, with this holder of the lock
-pub record Fits (plan : Plan) (mode : Mode) (a : ℕ → Place) (lock : Option ℕ) (steppers : ℕ → Stepper) (j : ℕ) (v : View) : Type 0 where
+pub record SeatFits (plan : Plan) (mode : Mode) (a : ℕ → Place) (lock : Option ℕ) (steppers : ℕ → Stepper) (j : ℕ) (v : View) : Type 0 where
   pub plan_is : v.plan ≡ plan
   pub mode_is : v.mode ≡ mode
   pub count : length v.sight.places ≡ length plan.parents
@@ -64,15 +64,15 @@ pub record IsKeptBy (plan : Plan) (mode : Mode) (s : State (Unit {0}) View) : Ty
   pub lawful : IsLawful (avoids mode) plan places lock
   pub shown : IsShown plan (state_at plan places) lock s.words
   pub seated : AreSeated plan places steppers s.views
-  pub views : (j : ℕ) (v : View) → get_elem? s.views j ≡ some v → v.spent ≡ false → Fits plan mode places lock steppers j v
+  pub views : (j : ℕ) (v : View) → get_elem? s.views j ≡ some v → v.spent ≡ false → SeatFits plan mode places lock steppers j v
 
 -- the rule, of what the table was told
 abbrev pub IsKept : Setting → State (Unit {0}) View → Type 0
 IsKept k s = IsKeptBy k.plan.value k.mode s
 
 -- the first view: of task 0, which has seen the opening
-abbrev pub first : Setting → View
-first k =
+abbrev pub first_view : Setting → View
+first_view k =
     record {
       plan = k.plan.value;
       mode = k.mode;

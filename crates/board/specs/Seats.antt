@@ -2,14 +2,12 @@
 use Rattle.std.specs.Prelude.{◌≡◌, ℕ, ◌<◌, ◌≤◌, true, false, Option, Some, None, length, IsSome}
 use Rattle.atomic_table.specs.Seated.{TableId}
 use Rattle.armus_base.specs.declared.event.Event.{Event}
-use Rattle.armus_base.specs.Plans.{Plan, Action, Registers, Advances, Blocks, Drops, Passes}
+use Rattle.armus_base.specs.Plans.{Plan, Action, Blocks, Drops, Passes}
 use Rattle.armus_base.specs.Runs.{first_place}
 use Rattle.armus_base.specs.CheckedPlans.{IsCheckedPlan}
 use Rattle.armus_base.specs.Seats.{Found, SeenBy, AvoidsByWhatIsSeen, IsSeenAfterTakingIn, own_event, seen_after_step}
 use Rattle.board.specs.declared.mode.Mode.{Mode}
-use Rattle.board.specs.declared.mode.Setting.{Setting}
 use Rattle.board.specs.declared.view.View.{View}
-use Rattle.board.specs.Rule.{first}
 use Rattle.board.specs.Views.{avoids, next_action, own_place, seen, task_of}
 use Rattle.board.specs.Steps.{IsSameSeat, LoadsAwait, LoadsPhase, own_phase}
 
@@ -56,10 +54,6 @@ pub record IsNewSeat (board : Frame) (own : Option ℕ) (what : SeenBy) (seat : 
   pub loads : seat.view.loads ≡ 0
   pub kept : IsSeat seat
 
--- the view with which a board begins
-abbrev pub IsFirst : Frame → View → Type 0
-IsFirst board v = (setting : Setting) × setting.plan.value ≡ board.plan × setting.mode ≡ board.mode × v ≡ first setting
-
 -- the seat's task makes this step: that is seen now, and nothing else is another
 pub record MakesStep (x : Action) (before now : Known) : Type 0 where
   pub seen_now : seen now.view ≡ seen_after_step (task_of before.view) x (seen before.view)
@@ -71,19 +65,6 @@ pub record MakesStep (x : Action) (before now : Known) : Type 0 where
 -- the published event is withdrawn
 abbrev pub MakesPass : Known → Known → Type 0
 MakesPass before now = (e : Event) → event_of before ≡ Some e → MakesStep (Passes e.p.0) before now
-
--- only a member of p does this
-abbrev pub IsByMember : Action → ℕ → Type 0
-IsByMember (Registers c q) p = q ≡ p
-IsByMember (Advances q) p = q ≡ p
-IsByMember (Blocks q) p = q ≡ p
-IsByMember x p = ⊥
-
--- what comes next is something that only a member of p does
-pub record NeedsMember (seat : Known) (p : ℕ) : Type 0 where
-  pub action : Action
-  pub next : next_action seat.view ≡ Some action
-  pub by_member : IsByMember action p
 
 -- the seat may publish an await of p: on a board that avoids deadlock it has the lock, and deadlock is avoided in each state that it may be in
 abbrev pub MayPublish : Known → ℕ → Type 0

@@ -1,15 +1,7 @@
 -- What is true of each viewer's seat.
-use Rattle.std.specs.Prelude.{◌≡◌, None, [], false}
 use Rattle.board.specs.declared.view_seat.ViewSeat.TheInside.{Inside}
-use Rattle.board.specs.Seats.{Known, IsSeat}
+use Rattle.board.specs.Seats.{Known}
 
 -- what a contract sees of a viewer's seat
 abbrev pub known_of : Inside → Known
 known_of s = record { table = s.place.table_id; view = s.place.me.0 }
-
--- it is of no task, and never holds the lock
-pub record Views (s : Inside) : Type 0 where
-  pub no_slot : s.place.me.1 ≡ []
-  pub alone : s.place.me.0.own ≡ None
-  pub free : s.place.me.0.holds ≡ false
-  pub seat : IsSeat (known_of s)

@@ -6,7 +6,8 @@ ghost use Rattle.armus_base.specs.Seats.{seen_by_child};
 ghost use Rattle.board.specs.Words.{await_index, phase_index, word_count};
 ghost use Rattle.board.specs.Views.{seen};
 ghost use Rattle.board.specs.Closing.{AreLastOf};
-ghost use Rattle.board.specs.Seats.{IsFirst, IsOf, IsNewSeat, nothing_seen};
+ghost use Rattle.board.specs.inside.FirstViews.{IsFirstView};
+ghost use Rattle.board.specs.Seats.{IsOf, IsNewSeat, nothing_seen};
 
 use crate::mode::{Mode, Setting};
 use crate::rule::{Cells, Place};
@@ -33,7 +34,8 @@ impl Model for Board {
 
     ghost Value = { Frame };
 
-    ghost use Rattle.board.specs.Boarding.{frame_of, IsBoard};
+    ghost use Rattle.board.specs.Boarding.{frame_of};
+    ghost use Rattle.board.specs.inside.Boards.{IsBoard};
 
     ghost view = { frame_of };
 
@@ -68,7 +70,7 @@ impl Board {
     // The board, and the first seat's place in its table.
     fn open(alloc: Global, plan: &Plan, mode: Mode) -> Result<(Board, Place), NoMemory>
         ensures board { IfOk result (λ r. (r.0.plan ≡ plan.now) × (r.0.mode ≡ mode)) }
-        ensures place { IfOk result (λ r. (r.1.table_id ≡ r.0.table) × (r.1.me.1 ≡ []) × IsFirst r.0 r.1.me.0) }
+        ensures place { IfOk result (λ r. (r.1.table_id ≡ r.0.table) × (r.1.me.1 ≡ []) × IsFirstView r.0 r.1.me.0) }
     {
         let tasks = plan.tasks();
         let phasers = plan.phasers();

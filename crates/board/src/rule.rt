@@ -8,11 +8,11 @@ use std::alloc::Global;
 pub struct Law;
 
 impl TableRule<(), View, Setting> for Law {
-    ghost use Rattle.board.specs.Rule.{IsKept, first};
+    ghost use Rattle.board.specs.Rule.{IsKept, first_view};
 
     ghost holds = { IsKept };
 
-    ghost first = { first };
+    ghost first = { first_view };
 }
 
 pub type Cells = Table<(), View, Setting, Law, Global>;

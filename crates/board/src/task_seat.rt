@@ -5,10 +5,12 @@ ghost use Rattle.armus_base.specs.Plans.{Makes, Registers, Forks, Advances, Drop
 ghost use Rattle.armus_base.specs.Seats.{seen_by_child, scanned_after};
 ghost use Rattle.armus_base.specs.Runs.{first_place};
 ghost use Rattle.board.specs.Views.{avoids, found_of, next_action, own_place, seen, task_of};
-ghost use Rattle.board.specs.Rule.{first};
+ghost use Rattle.board.specs.Rule.{first_view};
 ghost use Rattle.board.specs.Steps.{own_phase, viewer};
-ghost use Rattle.board.specs.Seats.{Known, IsOf, IsSeat, IsNewSeat, MakesStep, MayPublish, MayDrop, MakesPass, NeedsMember, AnswersAwait, AnswersPhase, IsFirst, event_of, nothing_seen};
-ghost use Rattle.board.specs.Locking.{FindsHeld, FreesLock, IsWithLock, MayRefuse, StandsBeforeAwait, TakesLock};
+ghost use Rattle.board.specs.Seats.{Known, IsOf, IsSeat, IsNewSeat, MakesStep, MayPublish, MayDrop, MakesPass, AnswersAwait, AnswersPhase, event_of, nothing_seen};
+ghost use Rattle.board.specs.inside.ByMembers.{NeedsMember};
+ghost use Rattle.board.specs.inside.FirstViews.{IsFirstView};
+ghost use Rattle.board.specs.Locking.{FindsHeld, FreesLock, IsWithLock, MayRefuse, IsBeforeAwait, TakesLock};
 
 use crate::board::Board;
 use crate::busy::Busy;
@@ -37,7 +39,8 @@ impl Model for TaskSeat {
 
     ghost Value = { Known };
 
-    ghost use Rattle.board.specs.Sitting.{known_of, Sits};
+    ghost use Rattle.board.specs.Sitting.{known_of};
+    ghost use Rattle.board.specs.inside.Sitting.{Sits};
 
     ghost view = { known_of };
 
@@ -73,7 +76,7 @@ impl TaskSeat {
     // The seat of task 0, and the first viewer's place.
     pub(crate) fn begin(board: &Board, mut place: Place) -> (TaskSeat, Place)
         requires place { (place.table_id ≡ board.now.table) × (place.me.1 ≡ []) }
-        requires first { IsFirst board.now place.me.0 }
+        requires first { IsFirstView board.now place.me.0 }
         ensures seat { IsNewSeat board.now (Some 0) (seen_by_child 0 nothing_seen) result.0 }
         ensures other { (result.1.table_id ≡ board.now.table) × (result.1.me ≡ (viewer place.me.0, [])) }
     {
@@ -269,7 +272,7 @@ impl TaskSeat {
     pub fn try_lock(&mut self, board: &Board) -> Result<(), Busy>
         requires made { IsOf self.old board.now }
         requires avoids { avoids self.old.view.mode ≡ true }
-        requires next { StandsBeforeAwait self.old }
+        requires next { IsBeforeAwait self.old }
         requires unlocked { self.old.view.holds ≡ false }
         ensures taken { OnOk result (TakesLock self.old self.new) }
         ensures busy { IfErr result (λ busy. FindsHeld busy.holder.0 self.old self.new) }

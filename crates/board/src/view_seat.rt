@@ -24,7 +24,8 @@ impl Model for ViewSeat {
 
     ghost Value = { Known };
 
-    ghost use Rattle.board.specs.Viewing.{known_of, Views};
+    ghost use Rattle.board.specs.Viewing.{known_of};
+    ghost use Rattle.board.specs.inside.Viewing.{Views};
 
     ghost view = { known_of };
 

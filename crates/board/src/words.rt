@@ -24,13 +24,14 @@ pub struct Words {
 }
 
 impl Model for Words {
-    ghost use Rattle.board.specs.Ended.{Ended, ended_of, IsEnded};
+    ghost use Rattle.board.specs.Ended.{Ended, ended_of};
+    ghost use Rattle.board.specs.inside.EndedBoards.{IsEndedBoard};
 
     ghost Value = { Ended };
 
     ghost view = { ended_of };
 
-    ghost invariant = { IsEnded };
+    ghost invariant = { IsEndedBoard };
 }
 
 impl Words {

@@ -13,7 +13,7 @@ use Rattle.board.specs.Steps.{IsSameSeat}
 use Rattle.board.specs.Seats.{Frame, IsOf, IsSeat, Known, MakesStep}
 use Rattle.board.proofs.Seated.{next_there, place_made}
 use Rattle.board.proofs.Walking.{moved_here}
-use Rattle.phase_scan.specs.Looks.{GoesOn}
+use Rattle.phase_scan.specs.Looks.{LoadsAlone}
 use Rattle.board_rounds.specs.Turns.{Acts, AreChildSeats, Goes, LeadsTo, MakesOne, Working, forks_of, no_child, one_child}
 
 -- steps after steps
@@ -60,12 +60,12 @@ goes_itself k seat =
       kept = seat;
     }
 
-pub own_stays : (k m : Known) (t : ℕ) → k.view.own ≡ Some t → IsSeat k → GoesOn k m → own_place m.view ≡ own_place k.view
+pub own_stays : (k m : Known) (t : ℕ) → k.view.own ≡ Some t → IsSeat k → LoadsAlone k m → own_place m.view ≡ own_place k.view
 own_stays k m t own seat goes =
     ap (seen m.view).places (same_task k m goes.same ∙ task_is k t own) ∙ goes.here t (seat.own t own).1 ∙ ap (seen k.view).places (sym (task_is k t own))
 
 -- loads alone
-pub goes_loads : (k m : Known) (t : ℕ) → k.view.own ≡ Some t → IsSeat k → GoesOn k m → Goes [] k m
+pub goes_loads : (k m : Known) (t : ℕ) → k.view.own ≡ Some t → IsSeat k → LoadsAlone k m → Goes [] k m
 goes_loads k m t own seat goes =
     record {
       table = goes.table;
@@ -197,7 +197,7 @@ one_step f k m cs ds new x seat next n step grown seats =
 
 -- loads, and then one step that forks nobody
 pub loads_step :
-    (f : Frame) (k m n : Known) (cs : List Known) (t : ℕ) (x : Action) → k.view.own ≡ Some t → IsSeat k → GoesOn k m → next_action m.view ≡ Some x → ((p : ℕ) → x ≢ Refuses p) → forks_of (x ∷ []) ≡ [] →
+    (f : Frame) (k m n : Known) (cs : List Known) (t : ℕ) (x : Action) → k.view.own ≡ Some t → IsSeat k → LoadsAlone k m → next_action m.view ≡ Some x → ((p : ℕ) → x ≢ Refuses p) → forks_of (x ∷ []) ≡ [] →
     MakesStep x m n → MakesOne f (record { seat = k; children = cs }) (record { seat = n; children = cs })
 loads_step f k m n cs t x own seat goes next plain none step =
     let there = next_there m.view x next in

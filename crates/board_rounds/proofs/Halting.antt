@@ -18,13 +18,13 @@ use Rattle.armus_base.proofs.Tasks.{member_within}
 use Rattle.board.specs.Views.{avoids, own_place, seen, task_of}
 use Rattle.board.specs.Seats.{IsSeat, Known, event_of}
 use Rattle.board.specs.Steps.{WasSo}
-use Rattle.board.specs.Walking.{HasBegun, begins, left_of}
-use Rattle.phase_scan.specs.Looks.{FindsBehind, GoesOn}
+use Rattle.board.specs.inside.Walking.{HasBegun, begins, left_of}
+use Rattle.phase_scan.specs.Looks.{FindsBehind, LoadsAlone}
 use Rattle.board_rounds.specs.Turns.{EndsTurn, IsDone, IsSeenBehind, is_behind}
 use Rattle.board_rounds.proofs.Goings.{own_stays, same_task}
 
 -- loads begin no op
-pub begun_loads : (begun : ℕ) (k m : Known) (t : ℕ) → k.view.own ≡ Some t → IsSeat k → HasBegun begun k → GoesOn k m → HasBegun begun m
+pub begun_loads : (begun : ℕ) (k m : Known) (t : ℕ) → k.view.own ≡ Some t → IsSeat k → HasBegun begun k → LoadsAlone k m → HasBegun begun m
 begun_loads begun k m t own seat b goes =
     let place = own_stays k m t own seat goes in
     let task = same_task k m goes.same in
@@ -58,7 +58,7 @@ found_within k m t p n seat was =
     member_within k.view.plan seat.checked reachable.steps reachable.run t p n (ap (λ s. s.phases t p) same ∙ was.holds)
 
 -- a member that was found behind ends the turn
-pub ends_behind : (k m : Known) (t n : ℕ) → IsSeat k → GoesOn k m → FindsBehind t n k m → EndsTurn m
+pub ends_behind : (k m : Known) (t n : ℕ) → IsSeat k → LoadsAlone k m → FindsBehind t n k m → EndsTurn m
 ends_behind k m t n seat goes f =
     let load = f.load.load in
     let within : t < length m.view.plan.parents =

@@ -2,7 +2,7 @@
 use Rattle.std.specs.Prelude.{◌≡◌}
 use Rattle.board.specs.Views.{own_place}
 use Rattle.board_rounds.specs.declared.task.Task.TheInside.{Inside}
-use Rattle.board.specs.Walking.{HasBegun}
+use Rattle.board.specs.inside.Walking.{HasBegun}
 use Rattle.board_rounds.specs.Turns.{Working}
 
 -- what a contract sees of a task

@@ -9,7 +9,7 @@ use Rattle.armus_base.specs.Seats.{MayHold}
 use Rattle.pl_core.specs.declared.place.Place.{Place as Standing}
 use Rattle.board.specs.Views.{avoids, own_place, seen, task_of}
 use Rattle.board.specs.Steps.{IsSameSeat, own_phase}
-use Rattle.board.specs.Locking.{StandsBeforeAwait}
+use Rattle.board.specs.Locking.{IsBeforeAwait}
 use Rattle.board.specs.Seats.{Frame, IsOf, IsSeat, Known, event_of}
 
 -- a task: its own seat, and the seats of the children that it has forked
@@ -92,7 +92,7 @@ pub data EndsTurn (seat : Known) : Type 0 where
       (e : Event) → event_of seat ≡ Some e → (seen seat.view).scanned < length seat.view.plan.parents →
       IsSeenBehind seat e (seen seat.view).scanned → EndsTurn seat
   is_locked_out :
-      (u : ℕ) → avoids seat.view.mode ≡ true → StandsBeforeAwait seat → u ≢ task_of seat.view →
+      (u : ℕ) → avoids seat.view.mode ≡ true → IsBeforeAwait seat → u ≢ task_of seat.view →
       MayHold seat.view.plan u ((seen seat.view).places u) → EndsTurn seat
 
 -- a task of this board whose turn may come

@@ -5,7 +5,7 @@ ghost use Rattle.armus_base.specs.Runs.{first_place};
 ghost use Rattle.board.specs.declared.mode.Mode.TheVariants.{Detect};
 ghost use Rattle.board.specs.Views.{next_action, own_place};
 ghost use Rattle.board.specs.Seats.{Known, IsOf, MakesStep, event_of};
-ghost use Rattle.board.specs.Walking.{IsOfPlan, begins};
+ghost use Rattle.board.specs.inside.Walking.{IsActionOfPlan, begins};
 ghost use Rattle.board_rounds.specs.Turns.{Acts, AreChildSeats, EndsTurn, IsDone, MakesOne, forks_of, standing_of};
 
 use armus_base::{Gate, List, NoMemory, Op, Plan, Point, TaskId};
@@ -79,7 +79,7 @@ fn make_step(
     requires detects { board.now.mode ≡ Detect }
     requires unlocked { seat.old.view.holds ≡ false }
     requires next { next_action seat.old.view ≡ Some (begins op) }
-    requires plan { IsOfPlan board.now.plan (begins op) }
+    requires plan { IsActionOfPlan board.now.plan (begins op) }
     ensures step { OnOk result (MakesStep (begins op) seat.old seat.new) }
     ensures children { OnOk result ((new : List Known) × (children.new.items ≡ children.old.items ++ new) × AreChildSeats board.now (forks_of (begins op ∷ [])) new) }
     ensures same { OnErr result (seat.new ≡ seat.old) }

@@ -1,7 +1,7 @@
 // Two tasks before an await, on a board that avoids deadlock.
 ghost use Rattle.std.specs.Prelude.{◌≡◌, false};
 ghost use Rattle.board.specs.declared.mode.Mode.TheVariants.{Avoid};
-ghost use Rattle.board.specs.Locking.{StandsBeforeAwait};
+ghost use Rattle.board.specs.Locking.{IsBeforeAwait};
 ghost use Rattle.board.specs.Seats.{IsOf};
 
 use crate::plans::{ROOT, two_await};
@@ -16,8 +16,8 @@ use std::test::Fail;
 fn takes_turns(board: &Board, root: &mut TaskSeat, child: &mut TaskSeat) -> bool
     requires avoids { board.now.mode ≡ Avoid }
     requires made { IsOf root.old board.now × IsOf child.old board.now }
-    requires root { StandsBeforeAwait root.old × (root.old.view.holds ≡ false) }
-    requires child { StandsBeforeAwait child.old × (child.old.view.holds ≡ false) }
+    requires root { IsBeforeAwait root.old × (root.old.view.holds ≡ false) }
+    requires child { IsBeforeAwait child.old × (child.old.view.holds ≡ false) }
 {
     let _ = child.id();
     if try_take(root, board).is_err() {

@@ -6,8 +6,8 @@ ghost use Rattle.board.specs.declared.mode.Mode.TheVariants.{Avoid, Detect};
 ghost use Rattle.board.specs.Views.{next_action, own_place, seen};
 ghost use Rattle.board.specs.Steps.{own_phase};
 ghost use Rattle.board.specs.Seats.{IsOf, MakesStep, event_of};
-ghost use Rattle.board.specs.Walking.{IsOfPlan, begins};
-ghost use Rattle.phase_scan.specs.Looks.{GoesOn, IsLook};
+ghost use Rattle.board.specs.inside.Walking.{IsActionOfPlan, begins};
+ghost use Rattle.phase_scan.specs.Looks.{LoadsAlone, IsLook};
 
 use armus_base::{Event, NoMemory, Op, Phase, PhaserId, Plan, TaskId};
 use board::{Board, Loads, Mode, Seen, TaskSeat, ViewSeat};
@@ -36,7 +36,7 @@ impl Model for Walker {
 
     ghost Value = { Known };
 
-    ghost use Rattle.board.specs.Walking.{HasBegun};
+    ghost use Rattle.board.specs.inside.Walking.{HasBegun};
 
     ghost view = { λ w. w.seat };
 
@@ -79,7 +79,7 @@ fn make_step(seat: &mut TaskSeat, alloc: Global, board: &Board, op: Op) -> Optio
     requires detects { board.now.mode ≡ Detect }
     requires unlocked { seat.old.view.holds ≡ false }
     requires next { next_action seat.old.view ≡ Some (begins op) }
-    requires plan { IsOfPlan board.now.plan (begins op) }
+    requires plan { IsActionOfPlan board.now.plan (begins op) }
     ensures step { MakesStep (begins op) seat.old seat.new }
     ensures made { IfSome result (λ child. IsOf child board.now) }
     ensures child { IfSome result (λ child. (own_place child.view ≡ first_place) × (child.view.holds ≡ false)) }
@@ -116,7 +116,7 @@ fn make_plain_step(seat: &mut TaskSeat, alloc: Global, board: &Board, op: Op) ->
     requires plain { (p : ℕ) → begins op ≢ Blocks p }
     requires unlocked { seat.old.view.holds ≡ false }
     requires next { next_action seat.old.view ≡ Some (begins op) }
-    requires plan { IsOfPlan board.now.plan (begins op) }
+    requires plan { IsActionOfPlan board.now.plan (begins op) }
     ensures step { MakesStep (begins op) seat.old seat.new }
     ensures made { IfSome result (λ child. IsOf child board.now) }
     ensures child { IfSome result (λ child. (own_place child.view ≡ first_place) × (child.view.holds ≡ false)) }
@@ -214,7 +214,7 @@ impl Walker {
     pub fn look(&mut self, board: &Board) -> Look
         requires made { IsOf self.old board.now }
         requires event { IsSome (event_of self.old) }
-        ensures goes_on { GoesOn self.old self.new }
+        ensures goes_on { LoadsAlone self.old self.new }
         ensures answer { IsLook result self.old self.new }
     {
         let _ = self.seat.id();

@@ -14,7 +14,7 @@ use Rattle.armus_base.specs.declared.status.Status.{Status}
 use Rattle.armus_base.specs.Deadlocks.{IsListedOn}
 use Rattle.armus_base.proofs.Elements.{Contains-cons_cases, Contains-head, Contains-tail, nothing_in_nil}
 use Rattle.phase_scan.proofs.Tables.{slice_get-set_other, slice_get-set_same}
-use Rattle.collector.specs.Names.{AreFresh}
+use Rattle.collector.specs.inside.Names.{AreFresh}
 use Rattle.collector.specs.Passes.{NamesToo, is_named}
 
 -- what a read of the names says

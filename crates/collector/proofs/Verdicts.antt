@@ -25,7 +25,7 @@ use Rattle.armus_base.proofs.Reachable.{collected_is_dead_at_reachable, reachabl
 use Rattle.board.specs.declared.mode.Mode.{Mode}
 use Rattle.board.specs.Views.{avoids, seen}
 use Rattle.board.specs.Seats.{Frame, IsOf, Known}
-use Rattle.phase_scan.specs.Looks.{GoesOn}
+use Rattle.phase_scan.specs.Looks.{LoadsAlone}
 use Rattle.phase_scan.specs.Collects.{IsCollect}
 use Rattle.phase_scan.specs.Collected.{IsCollected, IsListedAsIn}
 use Rattle.phase_scan.specs.Settled.{TellsState, seen_state}
@@ -33,7 +33,7 @@ use Rattle.phase_scan.proofs.Collecting.{cells_listed, cells_possible}
 use Rattle.phase_scan.proofs.Farther.{IsPossible}
 use Rattle.phase_scan.proofs.Standing.{dead_place, published_begun, same_phases}
 use Rattle.collector.specs.declared.verdict.Verdict.{Verdict}
-use Rattle.collector.specs.Names.{AreFresh}
+use Rattle.collector.specs.inside.Names.{AreFresh}
 use Rattle.collector.specs.Passes.{HasDeadOf, InEachState, IsKnownDeadTo, IsVerdict, ListsPublished, is_named}
 use Rattle.collector.proofs.Fresh.{Contains-map, filter_inside, listed_or_not}
 
@@ -41,7 +41,7 @@ use Rattle.collector.proofs.Fresh.{Contains-map, filter_inside, listed_or_not}
 far_of_viewer : (plan : Plan) (own : Option ℕ) (a : ℕ → Place) (s : SeenBy) → IsAsFarOn plan own a s → IsAsFarOn plan None a s
 far_of_viewer plan own a s far = record { later = far.later; equal = far.equal; scanned = λ t is. absurd (cc) }
 
-module _ (before now : Known) (list : List Status) (checked : IsCheckedPlan before.view.plan) (goes : GoesOn before now) (listed : (t : ℕ) (e : Event) → IsListedOn list t e → t < length before.view.plan.parents) (possible : IsPossible before (λ s. Unit {0})) (c : IsCollected list before now) where
+module _ (before now : Known) (list : List Status) (checked : IsCheckedPlan before.view.plan) (goes : LoadsAlone before now) (listed : (t : ℕ) (e : Event) → IsListedOn list t e → t < length before.view.plan.parents) (possible : IsPossible before (λ s. Unit {0})) (c : IsCollected list before now) where
   abbrev plan : Plan
   plan = before.view.plan
 
@@ -192,7 +192,7 @@ module _ (before now : Known) (list : List Status) (checked : IsCheckedPlan befo
       }
 
 -- a pass of a collector of this board
-module _ (f : Frame) (before now : Known) (list : List Status) (of : IsOf before f) (goes : GoesOn before now) (collect : IsCollect f.plan list before now) (c : IsCollected list before now) where
+module _ (f : Frame) (before now : Known) (list : List Status) (of : IsOf before f) (goes : LoadsAlone before now) (collect : IsCollect f.plan list before now) (c : IsCollected list before now) where
   own : IsCheckedPlan before.view.plan
   own = subst IsCheckedPlan goes.same.plan goes.kept.checked
 

@@ -1,3 +1,4 @@
 pub mod Passes
-pub mod Names
 pub mod Collectors
+-- How the program does it: private contracts alone cite these.
+pub mod inside

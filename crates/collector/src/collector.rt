@@ -2,7 +2,7 @@
 ghost use Rattle.std.specs.Prelude.{◌≡◌, ℕ, false, [], IfOk, OnErr, length};
 ghost use Rattle.armus_base.specs.Statuses.{IsInOrder};
 ghost use Rattle.board.specs.Seats.{IsOf};
-ghost use Rattle.phase_scan.specs.Looks.{GoesOn};
+ghost use Rattle.phase_scan.specs.Looks.{LoadsAlone};
 ghost use Rattle.phase_scan.specs.Collects.{CountsLoads, IsCollect};
 ghost use Rattle.phase_scan.specs.Collected.{IsCollected};
 ghost use Rattle.phase_scan.specs.Settled.{KnowsAll, TellsState, seen_state};
@@ -29,7 +29,8 @@ impl Model for Collector {
 
     ghost Value = { Watch };
 
-    ghost use Rattle.collector.specs.Collectors.{watch_of, IsCollector};
+    ghost use Rattle.collector.specs.Collectors.{watch_of};
+    ghost use Rattle.collector.specs.inside.Collectors.{IsCollector};
 
     ghost view = { watch_of };
 
@@ -67,7 +68,7 @@ impl Collector {
         requires phasers { self.old.phasers ≡ length board.now.plan.makers }
         ensures tasks { self.new.tasks ≡ self.old.tasks }
         ensures phasers { self.new.phasers ≡ self.old.phasers }
-        ensures goes_on { GoesOn view.old view.new }
+        ensures goes_on { LoadsAlone view.old view.new }
         ensures collect { IsCollect board.now.plan self.new.statuses view.old view.new }
         ensures loads { CountsLoads board.now.plan self.new.statuses view.old view.new }
         ensures collected { IsCollected self.new.statuses view.old view.new }

@@ -6,8 +6,7 @@ use Rattle.std.proofs.lemmas.List.Elements.{All-contains}
 use Rattle.digraph.specs.Graph.{HasEdge, TellsCycles}
 use Rattle.digraph.specs.inside.Rows.{IsGraph}
 use Rattle.digraph.specs.inside.Search.{row_of}
-use Rattle.digraph.specs.Cycle.{IsLeastSuccessor}
-use Rattle.digraph.specs.inside.Least.{IsLeastAnswered}
+use Rattle.digraph.specs.Cycle.{IsLeastSuccessor, IsLeastMarked}
 
 -- a flag that is set
 pub set_flag : (xs : List Bool) (i j : ℕ) → i < length xs → (get_or (set xs i true) j false ≡ true) ↔ ((j ≡ i) ⊎ (get_or xs j false ≡ true))
@@ -19,7 +18,7 @@ set_flag xs i j lt =
 
 module _ (g : List (List ℕ)) (answers : List Bool) (ok : IsGraph g) (tells : TellsCycles g answers) (node : ℕ) (lt : node < length g) where
   -- each successor is a node
-  edge_inside : (b : ℕ) → HasEdge g node b → b < length g
+  pub edge_inside : (b : ℕ) → HasEdge g node b → b < length g
   edge_inside b m = All-contains (λ x. x < length g) (row_of g node) b (ok node [] lt).1 m
 
   pub row_answers : All (λ b. b < length answers) (row_of g node)
@@ -34,10 +33,10 @@ module _ (g : List (List ℕ)) (answers : List Bool) (ok : IsGraph g) (tells : T
       let f = All-contains (λ x. get_or answers x false ≡ false) (row_of g node) b none edge in
       cc
 
-  pub step_from_least : (b : ℕ) → IsLeastAnswered (row_of g node) answers b → IsLeastSuccessor g node b
+  pub step_from_least : (b : ℕ) → IsLeastMarked (row_of g node) answers b → IsLeastSuccessor g node b
   step_from_least b h =
       record {
         edge = h.there;
-        reaches = (tells.cycles b (edge_inside b h.there)).0 h.yes_there;
+        reaches = (tells.cycles b (edge_inside b h.there)).0 h.marked;
         least = λ u edge r. h.least u edge ((tells.cycles u (edge_inside u edge)).1 r);
       }

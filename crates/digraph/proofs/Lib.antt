@@ -3,3 +3,5 @@ pub mod SearchSteps
 pub mod RowLemmas
 pub mod LeastSuccessors
 pub mod AddedEdges
+pub mod WalksAlong
+pub mod NextTables

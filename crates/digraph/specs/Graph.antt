@@ -1,5 +1,5 @@
 -- A directed graph on the nodes 0, 1, .. as the list of each node's successors, ascending.
-use Rattle.std.specs.Prelude.{◌≡◌, ◌↔◌, ◌⊎◌, Bool, false, IsTrue, ℕ, ◌<◌, List, [], length, map, Contains, slice_index_or, Vec}
+use Rattle.std.specs.Prelude.{◌≡◌, ◌↔◌, ◌⊎◌, Bool, false, IsTrue, ℕ, ◌<◌, List, [], length, map, Contains, slice_index_or, Vec, slice_index}
 use Rattle.std.specs.Global.{Global}
 use Rattle.armus_base.specs.Relations.{ReachesCycle, IsInClosedSet}
 
@@ -31,3 +31,7 @@ pub record AddsEdges (old now : List (List ℕ)) (a : ℕ) (list : List ℕ) : T
 pub record AddsSomeEdges (old now : List (List ℕ)) (a : ℕ) (list : List ℕ) : Type 0 where
   pub kept : (x y : ℕ) → HasEdge old x y → HasEdge now x y
   pub within : (x y : ℕ) → HasEdge now x y → HasEdge old x y ⊎ ((x ≡ a) × Contains list y)
+
+-- each number is below those after it
+abbrev pub Ascends : List ℕ → Type 0
+Ascends xs = (j k : ℕ) → j < k → k < length xs → slice_index xs j < slice_index xs k

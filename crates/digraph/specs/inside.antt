@@ -1,3 +1,3 @@
 pub mod Search
-pub mod Least
 pub mod Rows
+pub mod NextTables

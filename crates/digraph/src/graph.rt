@@ -5,7 +5,7 @@ ghost use Rattle.armus_base.specs.Relations.{ReachesCycle, IsWalkCycle};
 ghost use Rattle.digraph.specs.Graph.{TellsCycles, HasEdge, AddsEdge, AddsEdges, AddsSomeEdges};
 ghost use Rattle.digraph.specs.Cycle.{IsLeastSuccessor};
 
-use crate::cycle::walk_cycle;
+use crate::cycle::{successors, walk_cycle};
 use crate::rows::add_edge;
 use crate::search::reaching;
 use armus_base::{List, NoMemory};
@@ -98,7 +98,8 @@ impl Digraph {
         if !answers[v as usize] {
             return Ok(None);
         }
-        let cycle = walk_cycle(alloc, &self.rows, &answers, v)?;
+        let next = successors(alloc, &self.rows, &answers)?;
+        let cycle = walk_cycle(alloc, &next, v)?;
         Ok(Some(List::from_vec(cycle)))
     }
 }

@@ -8,4 +8,5 @@ mod search;
 #[cfg(test)]
 mod tests;
 
+pub use cycle::{least_marked, walk_cycle};
 pub use graph::Digraph;

@@ -1,7 +1,7 @@
 // The successors of each node, as ascending rows.
 ghost use Rattle.std.specs.Prelude.{◌≡◌, ◌↔◌, ◌⊎◌, ℕ, ◌+◌, ◌<◌, length, IfOk, OnOk, OnErr, MatchBool, All, Contains, if◌then◌else◌};
-ghost use Rattle.digraph.specs.Graph.{HasEdge, AddsEdge, graph_of};
-ghost use Rattle.digraph.specs.inside.Rows.{Ascends, IsGraph, edge_count};
+ghost use Rattle.digraph.specs.Graph.{HasEdge, AddsEdge, graph_of, Ascends};
+ghost use Rattle.digraph.specs.inside.Rows.{IsGraph, edge_count};
 
 use std::alloc::AllocError;
 

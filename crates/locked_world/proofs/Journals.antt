@@ -6,7 +6,7 @@ use Rattle.armus_base.specs.Runs.{IsByCode, IsPlainRun, places}
 use Rattle.armus_base.specs.States.{Step}
 use Rattle.armus_base.proofs.Codes.{no_refusal}
 use Rattle.armus_base.proofs.Members.{by_code_next, plain_undropped}
-use Rattle.locked_world.specs.Journals.{GoesOnWith, LeadsTo, no_step, one_more, tasks_of}
+use Rattle.locked_world.specs.Journals.{GoesOnWith, JournalLeadsTo, no_step, one_more, journal_of}
 use Rattle.locked_world.specs.Laws.{EachGoesOn, JournalFixesRun, JournalLeads, LeadsIsJournal}
 use Rattle.locked_world.proofs.Ahead.{ahead_of_last, same_ends}
 
@@ -33,12 +33,12 @@ plain_longer plan h t x run next = ((run.0, record { legal = next.legal; by_code
     by_code : IsByCode plan t (places h t).done (places h t).dropped x
     by_code = subst (λ o. IsByCode plan t (places h t).done o x) (sym (plain_undropped plan h run t)) (next.by_code ∙ ap Some (sym (in_code_plain x other)))
 
-run_leads : (plan : Plan) (h : List Step) → IsPlainRun plan h → LeadsTo plan (tasks_of h) h
+run_leads : (plan : Plan) (h : List Step) → IsPlainRun plan h → JournalLeadsTo plan (journal_of h) h
 run_leads plan [] run = no_step
-run_leads plan (e ∷ h) run = one_more (tasks_of h) h (record { 0 = e.task }) e.action (run_leads plan h (run.0.0, run.1.0)) (last_goes_on plan h e run)
+run_leads plan (e ∷ h) run = one_more (journal_of h) h (record { 0 = e.task }) e.action (run_leads plan h (run.0.0, run.1.0)) (last_goes_on plan h e run)
 
 pub journal_leads : JournalLeads
-journal_leads plan journal h of = subst (λ j. LeadsTo plan j h) (sym of.tasks) (run_leads plan h of.run)
+journal_leads plan journal h of = subst (λ j. JournalLeadsTo plan j h) (sym of.tasks) (run_leads plan h of.run)
 
 pub leads_is_journal : LeadsIsJournal
 leads_is_journal plan _ _ no_step = record { run = (tt, tt); tasks = refl }
@@ -47,20 +47,20 @@ leads_is_journal plan _ _ (one_more journal h t x leads next) =
     record { run = plain_longer plan h t.0 x of.run next; tasks = ap (λ j. j ++ t ∷ []) of.tasks }
 
 -- two plain runs with the same tasks are the same
-one_run : (plan : Plan) (h g : List Step) → IsPlainRun plan h → IsPlainRun plan g → tasks_of h ≡ tasks_of g → h ≡ g
+one_run : (plan : Plan) (h g : List Step) → IsPlainRun plan h → IsPlainRun plan g → journal_of h ≡ journal_of g → h ≡ g
 one_run plan [] [] run_h run_g same = refl
-one_run plan [] (f ∷ g) run_h run_g same = absurd (none (tasks_of g) (record { 0 = f.task }) same)
+one_run plan [] (f ∷ g) run_h run_g same = absurd (none (journal_of g) (record { 0 = f.task }) same)
   where
     none : (ts : List TaskId) (t : TaskId) → [] ≡ ts ++ t ∷ [] → ⊥
     none [] t e = cc
     none (u ∷ ts) t e = cc
-one_run plan (e ∷ h) [] run_h run_g same = absurd (none (tasks_of h) (record { 0 = e.task }) same)
+one_run plan (e ∷ h) [] run_h run_g same = absurd (none (journal_of h) (record { 0 = e.task }) same)
   where
     none : (ts : List TaskId) (t : TaskId) → ts ++ t ∷ [] ≡ [] → ⊥
     none [] t e = cc
     none (u ∷ ts) t e = cc
 one_run plan (e ∷ h) (f ∷ g) run_h run_g same =
-    let ends = same_ends (tasks_of h) (tasks_of g) (record { 0 = e.task }) (record { 0 = f.task }) same in
+    let ends = same_ends (journal_of h) (journal_of g) (record { 0 = e.task }) (record { 0 = f.task }) same in
     let before = one_run plan h g (run_h.0.0, run_h.1.0) (run_g.0.0, run_g.1.0) ends.0 in
     let task = ap (λ t. t.0) ends.1 in
     let own = (last_goes_on plan h e run_h).by_code in
@@ -77,18 +77,18 @@ journal_fixes_run plan journal h g leads_h leads_g =
     one_run plan h g of_h.run of_g.run (sym of_h.tasks ∙ of_g.tasks)
 
 goes_on_inside :
-    (plan : Plan) (before : List TaskId) (t : TaskId) (rest : List TaskId) (h : List Step) → IsPlainRun plan h → tasks_of h ≡ before ++ t ∷ rest →
-    (g : List Step) × LeadsTo plan before g × (x : Action) × GoesOnWith plan g t.0 x
+    (plan : Plan) (before : List TaskId) (t : TaskId) (rest : List TaskId) (h : List Step) → IsPlainRun plan h → journal_of h ≡ before ++ t ∷ rest →
+    (g : List Step) × JournalLeadsTo plan before g × (x : Action) × GoesOnWith plan g t.0 x
 goes_on_inside plan before t rest [] run same = absurd (none before same)
   where
     none : (ts : List TaskId) → [] ≡ ts ++ t ∷ rest → ⊥
     none [] e = cc
     none (u ∷ ts) e = cc
 goes_on_inside plan before t rest (e ∷ h) run same =
-    elim (ahead_of_last (tasks_of h) before rest (record { 0 = e.task }) t same) [
+    elim (ahead_of_last (journal_of h) before rest (record { 0 = e.task }) t same) [
       | inl here ↦ (
         h,
-        subst (λ j. LeadsTo plan j h) here.0 (run_leads plan h (run.0.0, run.1.0)),
+        subst (λ j. JournalLeadsTo plan j h) here.0 (run_leads plan h (run.0.0, run.1.0)),
         e.action,
         subst (λ u. GoesOnWith plan h u.0 e.action) here.1 (last_goes_on plan h e run),
       )

@@ -9,16 +9,16 @@ use Rattle.armus_base.specs.Places.{state_at}
 use Rattle.armus_base.specs.Runs.{first_place, moved, places, state_after}
 use Rattle.armus_base.specs.States.{IsLegal}
 use Rattle.armus_base.proofs.Stepping.{places_fix}
-use Rattle.pl_core.specs.declared.place.Place.{Place as Standing}
-use Rattle.pl_core.specs.Moves.{MakesStep}
-use Rattle.pl_core.specs.Worlds.{IsOpening, WorldValue, place_from, places_at, state_of}
+use Rattle.pl_core.specs.declared.place.Place.{Place as KeptPlace}
+use Rattle.pl_core.specs.Moves.{IsWorldStep}
+use Rattle.pl_core.specs.Worlds.{IsOpeningWorld, WorldValue, place_from, places_at, state_of}
 use Rattle.pl_core.proofs.Opening.{copy_is}
-use Rattle.locked_world.specs.Journals.{GoesOnWith, IsReplayed, LoggedValue, LogsStep}
+use Rattle.locked_world.specs.Journals.{GoesOnWith, IsReplayOfJournal, LoggedValue, LogsStep}
 use Rattle.locked_world.specs.Laws.{ReplayedState}
 use Rattle.locked_world.proofs.Journals.{journal_fixes_run, journal_leads, plain_longer}
 
 -- the opening world is the replay of the empty journal
-pub opening_replayed : (plan : Plan) (w : WorldValue) → IsCheckedPlan plan → IsOpening plan w → IsReplayed plan (record { world = w; journal = [] })
+pub opening_replayed : (plan : Plan) (w : WorldValue) → IsCheckedPlan plan → IsOpeningWorld plan w → IsReplayOfJournal plan (record { world = w; journal = [] })
 unfolding places_at
 opening_replayed plan w checked opening =
     record {
@@ -29,13 +29,13 @@ opening_replayed plan w checked opening =
       there = fun_ext (λ t. at t (slice_get w.places t) refl);
     }
   where
-    at : (t : ℕ) (o : Option Standing) → slice_get w.places t ≡ o → place_from w.plan t o ≡ first_place
+    at : (t : ℕ) (o : Option KeptPlace) → slice_get w.places t ≡ o → place_from w.plan t o ≡ first_place
     at t None e = refl
     at t (Some a) e =
         ap (λ b. place_from w.plan t (Some b)) (copy_is (length plan.parents) t (record { events = 0; refused = false }) a (ap (λ ps. slice_get ps t) (sym opening.places) ∙ e))
 
 -- the state of a world that is a replay
-state_there : (plan : Plan) (l : LoggedValue) → (of : IsReplayed plan l) → state_of l.world ≡ state_after of.steps
+state_there : (plan : Plan) (l : LoggedValue) → (of : IsReplayOfJournal plan l) → state_of l.world ≡ state_after of.steps
 unfolding state_of
 state_there plan l of =
     ap (state_at l.world.plan) of.there ∙ ap (λ p. state_at p (places of.steps)) of.plan_is ∙ sym (places_fix plan of.checked of.steps of.journal.run.0).0
@@ -47,7 +47,7 @@ replayed_state plan l h of journal =
 
 -- a world that makes a step of task t goes on with it after the run
 world_goes_on :
-    (plan : Plan) (l : LoggedValue) (new : WorldValue) (t : ℕ) → (of : IsReplayed plan l) → (step : MakesStep l.world new t) →
+    (plan : Plan) (l : LoggedValue) (new : WorldValue) (t : ℕ) → (of : IsReplayOfJournal plan l) → (step : IsWorldStep l.world new t) →
     GoesOnWith plan of.steps t step.action
 world_goes_on plan l new t of step =
     record {
@@ -56,7 +56,7 @@ world_goes_on plan l new t of step =
     }
 
 -- a step that is logged keeps it
-pub step_replayed : (plan : Plan) (old new : LoggedValue) (t : TaskId) → IsReplayed plan old → LogsStep old new t → IsReplayed plan new
+pub step_replayed : (plan : Plan) (old new : LoggedValue) (t : TaskId) → IsReplayOfJournal plan old → LogsStep old new t → IsReplayOfJournal plan new
 step_replayed plan old new t of logs =
     record {
       checked = of.checked;

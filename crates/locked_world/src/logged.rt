@@ -1,8 +1,8 @@
 // A world beside the journal of its steps.
 ghost use Rattle.std.specs.Prelude.{◌≡◌, ◌<◌, ◌↔◌, [], IfOk, IsTrue, MatchBool, OnErr, length};
-ghost use Rattle.locked_world.specs.Journals.{IsReplayed, LogsStep};
+ghost use Rattle.locked_world.specs.Journals.{IsReplayOfJournal, LogsStep};
 ghost use Rattle.pl_core.specs.Stands.{IsEnabled};
-ghost use Rattle.pl_core.specs.Worlds.{IsOpening};
+ghost use Rattle.pl_core.specs.Worlds.{IsOpeningWorld};
 
 use crate::PlanName;
 use armus_base::{List, NoMemory, Plan, TaskId};
@@ -19,22 +19,23 @@ pub struct Logged<'p, N: PlanName> {
 }
 
 impl<'p, N: PlanName> Model for Logged<'p, N> {
-    ghost use Rattle.locked_world.specs.Journals.{LoggedValue, IsReplayed};
+    ghost use Rattle.locked_world.specs.Journals.{LoggedValue, IsReplayOfJournal};
 
     ghost Value = { LoggedValue };
 
     ghost view = { λ l. record { world = l.world; journal = l.journal } };
 
-    ghost invariant = { λ l. IsReplayed N.plan (record { world = l.world; journal = l.journal }) };
+    ghost invariant = { λ l. IsReplayOfJournal N.plan (record { world = l.world; journal = l.journal }) };
 }
 
 impl<'p, N: PlanName> Logged<'p, N> {
     /// The opening world, with an empty journal.
     pub fn start(alloc: Global, plan: &'p Plan) -> Result<Logged<'p, N>, NoMemory>
         requires plan { plan.now ≡ N.plan }
-        ensures opening { IfOk result (λ logged. IsOpening plan.now logged.world) }
+        ensures opening { IfOk result (λ logged. IsOpeningWorld plan.now logged.world) }
         ensures empty { IfOk result (λ logged. logged.journal ≡ []) }
     {
+        // so that the proof knows of the plan that it is checked
         let _tasks = plan.tasks();
         Ok(Logged {
             world: World::start(alloc, plan)?,
@@ -61,7 +62,7 @@ impl<'p, N: PlanName> Logged<'p, N> {
     /// Its world.
     pub fn world(&self) -> &World<'p>
         ensures world { result.now ≡ self.now.world }
-        ensures replayed { IsReplayed N.plan self.now }
+        ensures replayed { IsReplayOfJournal N.plan self.now }
     {
         &self.world
     }
@@ -69,7 +70,7 @@ impl<'p, N: PlanName> Logged<'p, N> {
     /// Its journal: the tasks in the order of their steps.
     pub fn journal(&self) -> &[TaskId]
         ensures journal { result.now ≡ self.now.journal }
-        ensures replayed { IsReplayed N.plan self.now }
+        ensures replayed { IsReplayOfJournal N.plan self.now }
     {
         self.journal.as_slice()
     }
@@ -77,7 +78,7 @@ impl<'p, N: PlanName> Logged<'p, N> {
     /// The journal alone; the world ends.
     pub fn into_journal(self) -> List<TaskId>
         ensures journal { result ≡ self.entry.journal }
-        ensures replayed { IsReplayed N.plan self.entry }
+        ensures replayed { IsReplayOfJournal N.plan self.entry }
     {
         self.journal
     }

@@ -7,13 +7,13 @@ use Rattle.armus_base.specs.Plans.{Plan}
 use Rattle.armus_base.specs.States.{Phases, State}
 use Rattle.board.specs.Views.{seen}
 use Rattle.board.specs.Seats.{AnswersPhase, IsSeat, Known}
-use Rattle.phase_scan.specs.Looks.{GoesOn}
+use Rattle.phase_scan.specs.Looks.{LoadsAlone}
 use Rattle.phase_scan.specs.Collects.{FindsEvent, IfAsked, LoadsAwaits, LoadsRow, LoadsRows}
 use Rattle.phase_scan.proofs.Loads.{IsLoadOf, await_load, goes_both, goes_itself, load_goes, phase_load}
 
 -- loads of words of these tasks alone
 pub record GoesAt (Only : ℕ → Type 0) (k m : Known) : Type 0 where
-  pub goes : GoesOn k m
+  pub goes : LoadsAlone k m
   pub others : (u : ℕ) → (Only u → ⊥) → (seen m.view).places u ≡ (seen k.view).places u
 
 at_itself : (Only : ℕ → Type 0) (k m : Known) → IsSeat k → m ≡ k → GoesAt Only k m
@@ -37,7 +37,7 @@ if_asked Only false Loads k m seat made goes = at_itself Only k m seat made
 
 module _ (plan : Plan) where
   -- the plan of a seat that has gone on
-  still : (k m : Known) → k.view.plan ≡ plan → GoesOn k m → m.view.plan ≡ plan
+  still : (k m : Known) → k.view.plan ≡ plan → LoadsAlone k m → m.view.plan ≡ plan
   still k m of goes = goes.same.plan ∙ of
 
   small_of : (k : Known) (t : ℕ) → k.view.plan ≡ plan → t < length plan.parents → t < length k.view.plan.parents
@@ -70,10 +70,10 @@ module _ (plan : Plan) where
     pub record AwaitLoad (t : ℕ) (k m : Known) : Type 0 where
       pub from : Known
       pub to : Known
-      pub goes_from : GoesOn k from
+      pub goes_from : LoadsAlone k from
       pub finds : FindsEvent t (events t) from to
       pub small : t < length from.view.plan.parents
-      pub goes_to : GoesOn to m
+      pub goes_to : LoadsAlone to m
       pub stays : (seen m.view).places t ≡ (seen to.view).places t
 
     pub await_of : (n : ℕ) (k m : Known) → k.view.plan ≡ plan → n ≤ length plan.parents → IsSeat k → LoadsAwaits events n k m → (t : ℕ) → t < n → AwaitLoad t k m
@@ -118,10 +118,10 @@ module _ (plan : Plan) where
     pub record PhaseLoad (p : ℕ) (k m : Known) : Type 0 where
       pub from : Known
       pub to : Known
-      pub goes_from : GoesOn k from
+      pub goes_from : LoadsAlone k from
       pub load : AnswersPhase t p (phases p) from to
       pub small : t < length from.view.plan.parents
-      pub goes_to : GoesOn to m
+      pub goes_to : LoadsAlone to m
 
     pub phase_of : (q : ℕ) (k m : Known) → k.view.plan ≡ plan → IsSeat k → LoadsRow asked t phases q k m → (p : ℕ) → p < q → asked p ≡ true → PhaseLoad p k m
     phase_of zero k m of seat loads p l is = absurd (omega arith)
@@ -180,10 +180,10 @@ module _ (plan : Plan) where
     pub record Row (t : ℕ) (k m : Known) : Type 0 where
       pub from : Known
       pub to : Known
-      pub goes_from : GoesOn k from
+      pub goes_from : LoadsAlone k from
       pub row : LoadsRow asked t (found.phases t) phasers from to
       pub of : from.view.plan ≡ plan
-      pub goes_to : GoesOn to m
+      pub goes_to : LoadsAlone to m
 
     pub row_of : (n : ℕ) (k m : Known) → k.view.plan ≡ plan → n ≤ length plan.parents → IsSeat k → LoadsRows phasers asked found n k m → (t : ℕ) → t < n → IsWaiting t → Row t k m
     row_of zero k m of few seat loads t l is = absurd (omega arith)

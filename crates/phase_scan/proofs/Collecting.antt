@@ -12,12 +12,12 @@ use Rattle.armus_base.specs.Finals.{given_below, is_awaited, is_event_of, status
 use Rattle.armus_base.specs.Statuses.{IsInOrder}
 use Rattle.armus_base.proofs.StatusesAre.{statuses_are}
 use Rattle.board.specs.Seats.{Frame, IsOf, Known}
-use Rattle.phase_scan.specs.Looks.{GoesOn}
+use Rattle.phase_scan.specs.Looks.{LoadsAlone}
 use Rattle.phase_scan.specs.Collects.{CountsLoads, IsCollect, LoadsAwaits, LoadsRows}
 use Rattle.phase_scan.specs.Collected.{HasFinds, IsCollected}
 use Rattle.phase_scan.specs.Settled.{KnowsAll, TellsState}
 use Rattle.phase_scan.specs.declared.findings.Findings.{Findings}
-use Rattle.phase_scan.specs.Tables.{awaited_found, event_at, is_marked, state_found, status_found, statuses_found}
+use Rattle.phase_scan.specs.Tables.{awaited_in_findings, event_for, is_marked, state_of_findings, status_found, statuses_of_findings}
 use Rattle.phase_scan.proofs.Counting.{counts_loads}
 use Rattle.phase_scan.proofs.Farther.{IsPossible}
 use Rattle.phase_scan.proofs.Finds.{collect_finds}
@@ -33,41 +33,41 @@ pub tables_collect :
     (f : Frame) (before between now : Known) (a b c : Findings) → a.tasks ≡ length f.plan.parents → a.phasers ≡ length f.plan.makers →
     b.tasks ≡ a.tasks → b.phasers ≡ a.phasers → c.tasks ≡ b.tasks → c.phasers ≡ b.phasers →
     c.events.items ≡ b.events.items → c.awaited.items ≡ b.awaited.items →
-    LoadsAwaits (event_at b.events.items) a.tasks before between → LoadsRows b.phasers (awaited_found b) (state_found c) b.tasks between now →
-    ((p : ℕ) → awaited_found b p ≡ some_before (λ t. is_event_of p (event_at b.events.items t)) a.tasks) → IsCollect f.plan (statuses_found c) before now
+    LoadsAwaits (event_for b.events.items) a.tasks before between → LoadsRows b.phasers (awaited_in_findings b) (state_of_findings c) b.tasks between now →
+    ((p : ℕ) → awaited_in_findings b p ≡ some_before (λ t. is_event_of p (event_for b.events.items t)) a.tasks) → IsCollect f.plan (statuses_of_findings c) before now
 tables_collect f before between now a b c tasks_a phasers_a tasks_b phasers_b tasks_c phasers_c events marks awaits rows awaited =
     let plan = f.plan in
-    let s = state_found c in
+    let s = state_of_findings c in
     let tasks_now : b.tasks ≡ length plan.parents = tasks_b ∙ tasks_a in
     let phasers_now : b.phasers ≡ length plan.makers = phasers_b ∙ phasers_a in
-    let asked : awaited_found b ≡ is_awaited plan s =
-    fun_ext (λ p. awaited p ∙ ap (some_before (λ t. is_event_of p (event_at b.events.items t))) tasks_a
-    ∙ ap (λ (xs : List (Option Event)). some_before (λ t. is_event_of p (event_at xs t)) (length plan.parents)) (sym events)) in
+    let asked : awaited_in_findings b ≡ is_awaited plan s =
+    fun_ext (λ p. awaited p ∙ ap (some_before (λ t. is_event_of p (event_for b.events.items t))) tasks_a
+    ∙ ap (λ (xs : List (Option Event)). some_before (λ t. is_event_of p (event_for xs t)) (length plan.parents)) (sym events)) in
     record {
       found = s;
       between = between;
       awaits =
           subst (λ n. LoadsAwaits s.published n before between) tasks_a
-          (subst (λ (xs : List (Option Event)). LoadsAwaits (event_at xs) a.tasks before between) (sym events) awaits);
+          (subst (λ (xs : List (Option Event)). LoadsAwaits (event_for xs) a.tasks before between) (sym events) awaits);
       rows =
           subst (λ n. LoadsRows n (is_awaited plan s) s (length plan.parents) between now) phasers_now
           (subst (λ n. LoadsRows b.phasers (is_awaited plan s) s n between now) tasks_now
           (subst (λ r. LoadsRows b.phasers r s b.tasks between now) asked rows));
       statuses =
-          ap (given_below (status_found c.phasers s (awaited_found c))) (tasks_c ∙ tasks_now)
-          ∙ ap (λ n. given_below (status_found n s (awaited_found c)) (length plan.parents)) (phasers_c ∙ phasers_now)
+          ap (given_below (status_found c.phasers s (awaited_in_findings c))) (tasks_c ∙ tasks_now)
+          ∙ ap (λ n. given_below (status_found n s (awaited_in_findings c)) (length plan.parents)) (phasers_c ∙ phasers_now)
           ∙ ap (statuses_on plan s) (ap is_marked marks ∙ asked);
     }
 
 -- and they keep the marks
 pub marks_stay :
     (a b c : Findings) → b.tasks ≡ a.tasks → c.tasks ≡ b.tasks → c.events.items ≡ b.events.items → c.awaited.items ≡ b.awaited.items →
-    ((p : ℕ) → awaited_found b p ≡ some_before (λ t. is_event_of p (event_at b.events.items t)) a.tasks) →
-    (p : ℕ) → awaited_found c p ≡ some_before (λ t. is_event_of p (event_at c.events.items t)) c.tasks
+    ((p : ℕ) → awaited_in_findings b p ≡ some_before (λ t. is_event_of p (event_for b.events.items t)) a.tasks) →
+    (p : ℕ) → awaited_in_findings c p ≡ some_before (λ t. is_event_of p (event_for c.events.items t)) c.tasks
 marks_stay a b c tasks_b tasks_c events marks awaited p =
     ap (λ (xs : List Bool). is_marked xs p) marks ∙ awaited p
-    ∙ ap (λ n. some_before (λ t. is_event_of p (event_at b.events.items t)) n) (sym (tasks_c ∙ tasks_b))
-    ∙ ap (λ (xs : List (Option Event)). some_before (λ t. is_event_of p (event_at xs t)) c.tasks) (sym events)
+    ∙ ap (λ n. some_before (λ t. is_event_of p (event_for b.events.items t)) n) (sym (tasks_c ∙ tasks_b))
+    ∙ ap (λ (xs : List (Option Event)). some_before (λ t. is_event_of p (event_for xs t)) c.tasks) (sym events)
 
 -- and what it means
 module _ (f : Frame) (list : List Status) (before now : Known) (of : IsOf before f) (checked : IsCheckedPlan f.plan) (c : IsCollect f.plan list before now) where
@@ -77,7 +77,7 @@ module _ (f : Frame) (list : List Status) (before now : Known) (of : IsOf before
   own : IsCollect before.view.plan list before now
   own = subst (λ (q : Plan). IsCollect q list before now) (sym of.plan) c
 
-  pub cells_go : GoesOn before now
+  pub cells_go : LoadsAlone before now
   cells_go = collect_goes before now list here (some_task before.view.plan here) own
 
   pub cells_count : CountsLoads f.plan list before now

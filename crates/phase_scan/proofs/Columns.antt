@@ -9,10 +9,10 @@ use Rattle.armus_base.specs.States.{updated}
 use Rattle.armus_base.proofs.Steps.{updated_other, updated_same}
 use Rattle.board.specs.Views.{seen}
 use Rattle.board.specs.Seats.{AnswersPhase, IsSeat, Known}
-use Rattle.phase_scan.specs.Looks.{GoesOn}
+use Rattle.phase_scan.specs.Looks.{LoadsAlone}
 use Rattle.phase_scan.specs.Collects.{IfAsked}
 use Rattle.phase_scan.specs.Supposed.{LoadsColumn}
-use Rattle.phase_scan.specs.Tables.{phase_in}
+use Rattle.phase_scan.specs.inside.Phases.{phase_in}
 use Rattle.phase_scan.proofs.Loads.{goes_both, goes_itself, load_goes, phase_load}
 
 -- a write sets one phase of a column
@@ -52,7 +52,7 @@ module _ (events : ℕ → Option Event) (p : ℕ) where
 
   -- a column is loads alone, which leave the finds
   pub record GoesDown (k m : Known) : Type 0 where
-    pub goes : GoesOn k m
+    pub goes : LoadsAlone k m
     pub finds : (u : ℕ) → (seen m.view).found u ≡ (seen k.view).found u
 
   down_itself : (k m : Known) → IsSeat k → m ≡ k → GoesDown k m
@@ -65,7 +65,7 @@ module _ (events : ℕ → Option Event) (p : ℕ) where
   down_if false t answer k m seat small made = down_itself k m seat made
 
   module _ (plan : Plan) (column : ℕ → Option ℕ) where
-    small_of : (k m : Known) (t : ℕ) → k.view.plan ≡ plan → GoesOn k m → t < length plan.parents → t < length m.view.plan.parents
+    small_of : (k m : Known) (t : ℕ) → k.view.plan ≡ plan → LoadsAlone k m → t < length plan.parents → t < length m.view.plan.parents
     small_of k m t of goes small = subst (λ (q : Plan). t < length q.parents) (sym (goes.same.plan ∙ of)) small
 
     pub column_goes : (n : ℕ) (k m : Known) → k.view.plan ≡ plan → n ≤ length plan.parents → IsSeat k → LoadsColumn events p column n k m → GoesDown k m
@@ -79,10 +79,10 @@ module _ (events : ℕ → Option Event) (p : ℕ) where
     pub record ColumnLoad (t : ℕ) (k m : Known) : Type 0 where
       pub from : Known
       pub to : Known
-      pub goes_from : GoesOn k from
+      pub goes_from : LoadsAlone k from
       pub load : AnswersPhase t p (column t) from to
       pub small : t < length from.view.plan.parents
-      pub goes_to : GoesOn to m
+      pub goes_to : LoadsAlone to m
 
     pub column_of :
         (n : ℕ) (k m : Known) → k.view.plan ≡ plan → n ≤ length plan.parents → IsSeat k → LoadsColumn events p column n k m → (t : ℕ) → t < n →

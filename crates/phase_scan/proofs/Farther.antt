@@ -12,14 +12,14 @@ use Rattle.board.specs.declared.mode.Mode.{Mode}
 use Rattle.board.specs.Views.{avoids, seen}
 use Rattle.board.specs.Steps.{WasSo}
 use Rattle.board.specs.Seats.{IsSeat, Known}
-use Rattle.phase_scan.specs.Looks.{GoesOn}
+use Rattle.phase_scan.specs.Looks.{LoadsAlone}
 
 scanned_less : (s : State) (i j : ℕ) (o : Option Event) → i ≤ j → IsScanned s j o → IsScanned s i o
 scanned_less s i j None l scanned = tt
 scanned_less s i j (Some e) l scanned = λ u m small is. scanned u m (omega arith) is
 
 pub far_before :
-    (k m : Known) (a : ℕ → Place) → IsSeat k → GoesOn k m → IsAsFarOn m.view.plan m.view.own a (seen m.view) →
+    (k m : Known) (a : ℕ → Place) → IsSeat k → LoadsAlone k m → IsAsFarOn m.view.plan m.view.own a (seen m.view) →
     IsAsFarOn k.view.plan k.view.own a (seen k.view)
 far_before k m a seat goes far =
     let g = subst (λ (o : Option ℕ). IsAsFarOn k.view.plan o a (seen m.view)) goes.same.own
@@ -47,7 +47,7 @@ pub record IsPossible (k : Known) (Holds : State → Type 0) : Type 0 where
 
 -- what a later load found held in a state that was possible before
 pub possible_before :
-    (k from to : Known) (Holds : State → Type 0) → IsSeat k → GoesOn k from → WasSo from.view.plan from.view.mode Holds from.view to.view →
+    (k from to : Known) (Holds : State → Type 0) → IsSeat k → LoadsAlone k from → WasSo from.view.plan from.view.mode Holds from.view to.view →
     IsPossible k Holds
 possible_before k from to Holds seat goes was =
     record {

@@ -14,7 +14,7 @@ use Rattle.board.specs.Views.{seen}
 use Rattle.board.specs.Steps.{IsSameSeat}
 use Rattle.board.specs.Seats.{AnswersAwait, AnswersPhase, Frame, IsOf, Known}
 use Rattle.phase_scan.specs.Collects.{FindsEvent, IfAsked, LoadsAwaits, LoadsRow, LoadsRows, waiting_on}
-use Rattle.phase_scan.specs.inside.Nexts.{AreNexts, IsNext}
+use Rattle.phase_scan.specs.inside.Nexts.{AreNexts, IsNextAsked}
 use Rattle.phase_scan.proofs.Loads.{published_phaser}
 use Rattle.phase_scan.proofs.Standing.{waits_unrefused, word_published}
 
@@ -108,12 +108,12 @@ row_up_to asked t f (suc d) p k m before none =
     (row_up_to asked t f d (p + 1) k m (row_skip asked t f p k m before (none p (omega arith) (omega arith))) (λ q a b. none q (omega arith) (omega arith)))
 
 -- what is read of the list of next ones
-pub next_read : (asked : ℕ → Bool) (n : ℕ) (nexts : List ℕ) (p r : ℕ) → AreNexts asked n nexts → length nexts ≡ n + 1 → p ≤ n → r ≡ get_or nexts p r → IsNext asked n p r
+pub next_read : (asked : ℕ → Bool) (n : ℕ) (nexts : List ℕ) (p r : ℕ) → AreNexts asked n nexts → length nexts ≡ n + 1 → p ≤ n → r ≡ get_or nexts p r → IsNextAsked asked n p r
 next_read asked n nexts p r are room few read =
-    subst (λ v. IsNext asked n p v) (sym (read ∙ get_or_default nexts p r 0 (omega arith))) (are p few)
+    subst (λ v. IsNextAsked asked n p v) (sym (read ∙ get_or_default nexts p r 0 (omega arith))) (are p few)
 
 -- and to the next one that is
-pub row_to_next : (asked : ℕ → Bool) (t : ℕ) (f : Phases) (n p g : ℕ) (k m : Known) → LoadsRow asked t f p k m → IsNext asked n p g → LoadsRow asked t f g k m
+pub row_to_next : (asked : ℕ → Bool) (t : ℕ) (f : Phases) (n p g : ℕ) (k m : Known) → LoadsRow asked t f p k m → IsNextAsked asked n p g → LoadsRow asked t f g k m
 row_to_next asked t f n p g k m before next =
     let from = next.from in
     let same : p + (g - p) ≡ g = omega arith in

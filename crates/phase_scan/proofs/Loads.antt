@@ -22,7 +22,7 @@ use Rattle.board.specs.Steps.{IsSameSeat, WasSo}
 use Rattle.board.specs.Seats.{AnswersAwait, AnswersPhase, IsSeat, Known, event_of}
 use Rattle.board.proofs.Ranges.{phaser_of_member}
 use Rattle.board.proofs.Loaded.{event_stays}
-use Rattle.phase_scan.specs.Looks.{GoesOn, InEachLawful, ScansTo}
+use Rattle.phase_scan.specs.Looks.{LoadsAlone, InEachLawful, ScansTo}
 
 some_same : (u w : ℕ) → Some u ≡ Some w → u ≡ w
 some_same u w e = cc
@@ -203,7 +203,7 @@ phase_load k m t p answer small answers =
     ]
 
 -- a seat that has made no load
-pub goes_itself : (k : Known) → IsSeat k → GoesOn k k
+pub goes_itself : (k : Known) → IsSeat k → LoadsAlone k k
 goes_itself k seat =
     record {
       table = refl;
@@ -218,7 +218,7 @@ goes_itself k seat =
     }
 
 -- a seat goes on, and on
-pub goes_both : (a k m : Known) → GoesOn a k → GoesOn k m → GoesOn a m
+pub goes_both : (a k m : Known) → LoadsAlone a k → LoadsAlone k m → LoadsAlone a m
 goes_both a k m goes more =
     let s = more.same in
     record {
@@ -245,7 +245,7 @@ goes_both a k m goes more =
     }
 
 -- by a load
-pub load_goes : (t : ℕ) (k m : Known) → IsLoadOf t k m → GoesOn k m
+pub load_goes : (t : ℕ) (k m : Known) → IsLoadOf t k m → LoadsAlone k m
 load_goes t k m load =
     record {
       table = load.table;
@@ -260,7 +260,7 @@ load_goes t k m load =
     }
 
 pub goes_next :
-    (a k m : Known) (t p : ℕ) (answer : Option ℕ) → GoesOn a k → t < length k.view.plan.parents → AnswersPhase t p answer k m → GoesOn a m
+    (a k m : Known) (t p : ℕ) (answer : Option ℕ) → LoadsAlone a k → t < length k.view.plan.parents → AnswersPhase t p answer k m → LoadsAlone a m
 goes_next a k m t p answer goes small load = goes_both a k m goes (load_goes t k m (phase_load k m t p answer small load))
 
 -- a load of the awaited phaser's word of the task that is scanned next

@@ -10,14 +10,15 @@ use Rattle.armus_base.specs.Finals.{given_below, is_awaited, is_event_of, status
 use Rattle.board.specs.Views.{place_in, task_of}
 use Rattle.board.specs.Steps.{own_phase}
 use Rattle.board.specs.Seats.{Frame, IsOf, IsSeat, Known}
-use Rattle.phase_scan.specs.Looks.{GoesOn}
+use Rattle.phase_scan.specs.Looks.{LoadsAlone}
 use Rattle.phase_scan.specs.Supposed.{IsSupposed, LoadsColumn}
 use Rattle.phase_scan.specs.declared.findings.Findings.{Findings}
-use Rattle.phase_scan.specs.Tables.{awaited_found, event_at, phase_in, state_found, state_supposed, status_found, statuses_found}
+use Rattle.phase_scan.specs.Tables.{awaited_in_findings, event_for, state_of_findings, state_supposed, status_found, statuses_of_findings}
+use Rattle.phase_scan.specs.inside.Phases.{phase_in}
 use Rattle.phase_scan.proofs.Columns.{column_goes}
 
 -- the own phases stay as they are while a seat makes loads alone
-pub own_phase_stays : (k m : Known) (t : ℕ) → IsSeat k → k.view.own ≡ Some t → GoesOn k m → own_phase m.view ≡ own_phase k.view
+pub own_phase_stays : (k m : Known) (t : ℕ) → IsSeat k → k.view.own ≡ Some t → LoadsAlone k m → own_phase m.view ≡ own_phase k.view
 own_phase_stays k m t seat own goes =
     let task : task_of m.view ≡ task_of k.view = ap (λ o. unwrap_or o 0) goes.same.own in
     let is_t : task_of k.view ≡ t = ap (λ o. unwrap_or o 0) own in
@@ -25,36 +26,36 @@ own_phase_stays k m t seat own goes =
     ap (place_in m.view.sight.places) (task ∙ is_t) ∙ goes.here t (seat.own t own).1 ∙ ap (place_in k.view.sight.places) (sym is_t) in
     λ i. phases_at_place (goes.same.plan i) (task i) (here i)
 
-module _ (f : Frame) (before between now : Known) (fd : Findings) (event : Event) (column : List (Option ℕ)) (t : ℕ) (of : IsOf before f) (seat : IsSeat before) (own : before.view.own ≡ Some t) (tasks : fd.tasks ≡ length f.plan.parents) (loads : LoadsColumn (event_at fd.events.items) event.p.0 (phase_in column) fd.tasks before between) (same : now ≡ between) where
-  loads_here : LoadsColumn (event_at fd.events.items) event.p.0 (phase_in column) (length f.plan.parents) before now
+module _ (f : Frame) (before between now : Known) (fd : Findings) (event : Event) (column : List (Option ℕ)) (t : ℕ) (of : IsOf before f) (seat : IsSeat before) (own : before.view.own ≡ Some t) (tasks : fd.tasks ≡ length f.plan.parents) (loads : LoadsColumn (event_for fd.events.items) event.p.0 (phase_in column) fd.tasks before between) (same : now ≡ between) where
+  loads_here : LoadsColumn (event_for fd.events.items) event.p.0 (phase_in column) (length f.plan.parents) before now
   loads_here =
-      subst (λ k. LoadsColumn (event_at fd.events.items) event.p.0 (phase_in column) (length f.plan.parents) before k) (sym same)
-      (subst (λ n. LoadsColumn (event_at fd.events.items) event.p.0 (phase_in column) n before between) tasks loads)
+      subst (λ k. LoadsColumn (event_for fd.events.items) event.p.0 (phase_in column) (length f.plan.parents) before k) (sym same)
+      (subst (λ n. LoadsColumn (event_for fd.events.items) event.p.0 (phase_in column) n before between) tasks loads)
 
-  pub supposed_goes : GoesOn before now
-  supposed_goes = (column_goes (event_at fd.events.items) event.p.0 f.plan (phase_in column) (length f.plan.parents) before now of.plan (omega arith) seat loads_here).goes
+  pub supposed_goes : LoadsAlone before now
+  supposed_goes = (column_goes (event_for fd.events.items) event.p.0 f.plan (phase_in column) (length f.plan.parents) before now of.plan (omega arith) seat loads_here).goes
 
   pub supposes :
-      (list : List Status) → fd.phasers ≡ length f.plan.makers → ((p : ℕ) → awaited_found fd p ≡ some_before (λ u. is_event_of p (event_at fd.events.items u)) fd.tasks) →
-      list ≡ given_below (status_found fd.phasers (state_supposed (state_found fd) t event (own_phase between.view) (phase_in column)) (updated (awaited_found fd) event.p.0 true)) fd.tasks →
-      IsSupposed f.plan (statuses_found fd) event list before now
+      (list : List Status) → fd.phasers ≡ length f.plan.makers → ((p : ℕ) → awaited_in_findings fd p ≡ some_before (λ u. is_event_of p (event_for fd.events.items u)) fd.tasks) →
+      list ≡ given_below (status_found fd.phasers (state_supposed (state_of_findings fd) t event (own_phase between.view) (phase_in column)) (updated (awaited_in_findings fd) event.p.0 true)) fd.tasks →
+      IsSupposed f.plan (statuses_of_findings fd) event list before now
   supposes list phasers marked is =
       let plan = f.plan in
-      let s = state_found fd in
-      let asked : awaited_found fd ≡ is_awaited plan s = fun_ext (λ p. marked p ∙ ap (some_before (λ u. is_event_of p (event_at fd.events.items u))) tasks) in
+      let s = state_of_findings fd in
+      let asked : awaited_in_findings fd ≡ is_awaited plan s = fun_ext (λ p. marked p ∙ ap (some_before (λ u. is_event_of p (event_for fd.events.items u))) tasks) in
       let task : t ≡ task_of before.view = sym (ap (λ o. unwrap_or o 0) own) in
       let phases : own_phase between.view ≡ own_phase before.view = ap (λ (k : Known). own_phase k.view) (sym same) ∙ own_phase_stays before now t seat own supposed_goes in
       record {
         found = s;
         column = phase_in column;
         statuses =
-            ap (given_below (status_found fd.phasers s (awaited_found fd))) tasks
-            ∙ ap (λ n. given_below (status_found n s (awaited_found fd)) (length plan.parents)) phasers
+            ap (given_below (status_found fd.phasers s (awaited_in_findings fd))) tasks
+            ∙ ap (λ n. given_below (status_found n s (awaited_in_findings fd)) (length plan.parents)) phasers
             ∙ ap (statuses_on plan s) asked;
         loads = loads_here;
         supposed_are =
             is
-            ∙ ap (given_below (status_found fd.phasers (state_supposed s t event (own_phase between.view) (phase_in column)) (updated (awaited_found fd) event.p.0 true))) tasks
-            ∙ ap (λ n. given_below (status_found n (state_supposed s t event (own_phase between.view) (phase_in column)) (updated (awaited_found fd) event.p.0 true)) (length plan.parents)) phasers
+            ∙ ap (given_below (status_found fd.phasers (state_supposed s t event (own_phase between.view) (phase_in column)) (updated (awaited_in_findings fd) event.p.0 true))) tasks
+            ∙ ap (λ n. given_below (status_found n (state_supposed s t event (own_phase between.view) (phase_in column)) (updated (awaited_in_findings fd) event.p.0 true)) (length plan.parents)) phasers
             ∙ (λ i. statuses_on plan (state_supposed s (task i) event (phases i) (phase_in column)) (updated (asked i) event.p.0 true));
       }

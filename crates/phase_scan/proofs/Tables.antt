@@ -13,8 +13,8 @@ use Rattle.armus_base.specs.Places.{some_before}
 use Rattle.armus_base.specs.States.{Phases, State, with_phase}
 use Rattle.armus_base.specs.Statuses.{IsInOrder}
 use Rattle.armus_base.proofs.Steps.{with_phase_same, with_phase_other}
-use Rattle.phase_scan.specs.inside.Nexts.{IsNext}
-use Rattle.phase_scan.specs.Tables.{phases_of_cells, status_found}
+use Rattle.phase_scan.specs.inside.Nexts.{IsNextAsked}
+use Rattle.phase_scan.specs.Tables.{phases_of_found, status_found}
 
 pub slice_get-set_same : {A : Type 0} (xs : List A) (k : ℕ) (v : A) → k < length xs → slice_get (set xs k v) k ≡ Some v
 slice_get-set_same [] k v l = absurd (omega arith)
@@ -29,16 +29,16 @@ slice_get-set_other (x ∷ xs) (suc k) zero v n = refl
 slice_get-set_other (x ∷ xs) (suc k) (suc j) v n = slice_get-set_other xs k j v (λ e. n (ap suc e))
 
 -- inside the table
-pub cell_is : (w : ℕ) (cells : List (Option ℕ)) (t p : ℕ) → p < w → phases_of_cells w cells t p ≡ unwrap_or (slice_get cells (t * w + p)) None
-unfolding phases_of_cells
+pub cell_is : (w : ℕ) (cells : List (Option ℕ)) (t p : ℕ) → p < w → phases_of_found w cells t p ≡ unwrap_or (slice_get cells (t * w + p)) None
+unfolding phases_of_found
 cell_is w cells t p l = ap (λ b. if b then unwrap_or (slice_get cells (t * w + p)) None else None) (is_lt p w l)
   where
     is_lt : (a b : ℕ) → a < b → nat_lt a b ≡ true
     is_lt a b h = grind arith
 
 -- outside no phaser has members
-pub cell_past : (w : ℕ) (cells : List (Option ℕ)) (t p : ℕ) → w ≤ p → phases_of_cells w cells t p ≡ None
-unfolding phases_of_cells
+pub cell_past : (w : ℕ) (cells : List (Option ℕ)) (t p : ℕ) → w ≤ p → phases_of_found w cells t p ≡ None
+unfolding phases_of_found
 cell_past w cells t p l = ap (λ b. if b then unwrap_or (slice_get cells (t * w + p)) None else None) (is_not p w l)
   where
     is_not : (a b : ℕ) → b ≤ a → nat_lt a b ≡ false
@@ -47,17 +47,17 @@ cell_past w cells t p l = ap (λ b. if b then unwrap_or (slice_get cells (t * w 
 -- a write sets the phase of one task on one phaser
 pub cell_set :
     (w : ℕ) (cells : List (Option ℕ)) (t p : ℕ) (c : Option ℕ) → p < w → t * w + p < length cells →
-    phases_of_cells w (set cells (t * w + p) c) ≡ with_phase (phases_of_cells w cells) t p c
+    phases_of_found w (set cells (t * w + p) c) ≡ with_phase (phases_of_found w cells) t p c
 cell_set w cells t p c l within =
     fun_ext (λ u. fun_ext (λ q. elim (cases_lt q w) [
       | inl inside ↦ elim (cases_eq u t) [
         | inl same ↦ elim (cases_eq q p) [
           | inl here ↦
-              subst (λ v. phases_of_cells w (set cells (t * w + p) c) v q ≡ with_phase (phases_of_cells w cells) t p c v q) (sym same)
-              (subst (λ v. phases_of_cells w (set cells (t * w + p) c) t v ≡ with_phase (phases_of_cells w cells) t p c t v) (sym here)
+              subst (λ v. phases_of_found w (set cells (t * w + p) c) v q ≡ with_phase (phases_of_found w cells) t p c v q) (sym same)
+              (subst (λ v. phases_of_found w (set cells (t * w + p) c) t v ≡ with_phase (phases_of_found w cells) t p c t v) (sym here)
               (cell_is w (set cells (t * w + p) c) t p l
               ∙ ap (λ o. unwrap_or o None) (slice_get-set_same cells (t * w + p) c within)
-              ∙ sym (with_phase_same (phases_of_cells w cells) t p c)))
+              ∙ sym (with_phase_same (phases_of_found w cells) t p c)))
           | inr other ↦ elsewhere u q inside (λ e. λ f. other f)
         ]
         | inr other ↦ elsewhere u q inside (λ e. absurd (other e))
@@ -65,17 +65,17 @@ cell_set w cells t p c l within =
       | inr past ↦
           cell_past w (set cells (t * w + p) c) u q past
           ∙ sym (cell_past w cells u q past)
-          ∙ sym (with_phase_other (phases_of_cells w cells) t p c u q (λ e f. absurd (omega arith)))
+          ∙ sym (with_phase_other (phases_of_found w cells) t p c u q (λ e f. absurd (omega arith)))
     ]))
   where
     elsewhere :
         (u q : ℕ) → q < w → (u ≡ t → q ≢ p) →
-        phases_of_cells w (set cells (t * w + p) c) u q ≡ with_phase (phases_of_cells w cells) t p c u q
+        phases_of_found w (set cells (t * w + p) c) u q ≡ with_phase (phases_of_found w cells) t p c u q
     elsewhere u q inside n =
         cell_is w (set cells (t * w + p) c) u q inside
         ∙ ap (λ o. unwrap_or o None) (slice_get-set_other cells (t * w + p) (u * w + q) c (λ e. let s = same_from_place u q t p w inside l e in n s.0 s.1))
         ∙ sym (cell_is w cells u q inside)
-        ∙ sym (with_phase_other (phases_of_cells w cells) t p c u q n)
+        ∙ sym (with_phase_other (phases_of_found w cells) t p c u q n)
 
 -- what a function gives for the numbers below a bound: one number more, and two functions that agree
 pub given_below_more : {A : Type 0} (f : ℕ → Option A) (n : ℕ) (x : A) (xs : List A) → xs ≡ given_below f n → f n ≡ Some x → xs ++ x ∷ [] ≡ given_below f (n + 1)
@@ -94,7 +94,7 @@ listed_up_to asked m (suc d) p none =
     ∙ listed_up_to asked m d (p + 1) (λ q a b. none q (omega arith) (omega arith))
     ∙ (let same : p + 1 + d ≡ p + suc d = omega arith in ap (given_below (listed_phase asked m)) same)
 
-pub listed_to_next : (asked : ℕ → Bool) (m : Phases) (n p g : ℕ) (xs : List Member) → xs ≡ given_below (listed_phase asked m) p → IsNext asked n p g → xs ≡ given_below (listed_phase asked m) g
+pub listed_to_next : (asked : ℕ → Bool) (m : Phases) (n p g : ℕ) (xs : List Member) → xs ≡ given_below (listed_phase asked m) p → IsNextAsked asked n p g → xs ≡ given_below (listed_phase asked m) g
 listed_to_next asked m n p g xs is next =
     let from = next.from in
     let same : p + (g - p) ≡ g = omega arith in

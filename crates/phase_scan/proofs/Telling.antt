@@ -28,7 +28,7 @@ use Rattle.board.specs.declared.mode.Mode.{Mode}
 use Rattle.board.specs.Views.{avoids, seen}
 use Rattle.board.specs.Words.{found_in}
 use Rattle.board.specs.Seats.{AnswersPhase, IsSeat, Known}
-use Rattle.phase_scan.specs.Looks.{GoesOn, InEachLawful}
+use Rattle.phase_scan.specs.Looks.{LoadsAlone, InEachLawful}
 use Rattle.phase_scan.specs.Collects.{IsCollect, waiting_on}
 use Rattle.phase_scan.specs.Collected.{HasItsPhases, IsCollected, IsKnownDeadBy, IsListedAsIn}
 use Rattle.phase_scan.proofs.Loads.{await_load, goes_both, phase_load, published_phaser}
@@ -72,7 +72,7 @@ module _ (before now : Known) (list : List Status) (checked : IsCheckedPlan befo
   rows = rows_go plan (length plan.makers) asked c.found tasks c.between now between_plan (omega arith) awaits.goes.kept c.rows
 
   -- a collect makes loads alone
-  pub collect_goes : GoesOn before now
+  pub collect_goes : LoadsAlone before now
   collect_goes = goes_both before c.between now awaits.goes rows.goes
 
   pub are : AreStatuses plan c.found asked list
@@ -112,10 +112,10 @@ module _ (before now : Known) (list : List Status) (checked : IsCheckedPlan befo
   pub record Phase (t p : ℕ) : Type 0 where
     pub from : Known
     pub to : Known
-    pub goes_from : GoesOn c.between from
+    pub goes_from : LoadsAlone c.between from
     pub load : AnswersPhase t p (c.found.phases t p) from to
     pub small : t < length from.view.plan.parents
-    pub goes_to : GoesOn to now
+    pub goes_to : LoadsAlone to now
 
   abbrev pub IsLoaded : ℕ → ℕ → Type 0
   IsLoaded t p = t < tasks × is_some (c.found.published t) ≡ true × p < length plan.makers × asked p ≡ true

@@ -14,7 +14,7 @@ use Rattle.phase_scan.specs.declared.answer.Look as answers
 use Rattle.phase_scan.specs.declared.answer.Look.TheVariants as cases
 
 -- the seat has made loads alone: no place that it has seen gets shorter, none is lost, no scanned task is, and it has published what it had
-pub record GoesOn (before now : Known) : Type 0 where
+pub record LoadsAlone (before now : Known) : Type 0 where
   pub table : now.table ≡ before.table
   pub same : IsSameSeat before.view now.view
   pub later : (u : ℕ) → IsPrefix ((seen before.view).places u) ((seen now.view).places u)
@@ -59,7 +59,7 @@ pub record FindsBehind (t n : ℕ) (before now : Known) : Type 0 where
   pub event : Event
   pub published : event_of before ≡ Some event
   pub scans : ScansTo event t before between
-  pub goes_on : GoesOn before between
+  pub goes_on : LoadsAlone before between
   pub load : AnswersPhase t event.p.0 (Some n) between now
   pub below : n < event.n
   pub scanned : (seen now.view).scanned ≡ t

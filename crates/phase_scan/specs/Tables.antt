@@ -1,5 +1,5 @@
 -- What the tables of a collect say.
-use Rattle.std.specs.Prelude.{ℕ, ◌+◌, ◌*◌, Bool, false, List, Option, None, nat_lt, slice_get, slice_index_or, unwrap_or, if◌then◌else◌, option_map, Some}
+use Rattle.std.specs.Prelude.{ℕ, ◌+◌, ◌*◌, Bool, false, List, Option, None, nat_lt, slice_get, unwrap_or, if◌then◌else◌, option_map, Some}
 use Rattle.armus_base.specs.declared.event.Event.{Event}
 use Rattle.armus_base.specs.declared.status.Status.{Status}
 use Rattle.armus_base.specs.Finals.{given_below, listed_phase}
@@ -8,28 +8,28 @@ use Rattle.phase_scan.specs.declared.findings.Findings.{Findings}
 use Rattle.phase_scan.specs.declared.phase_table.PhaseTable.{PhaseTable}
 
 -- the phases that the cells of a table of so many phasers say
-unfoldable pub phases_of_cells : ℕ → List (Option ℕ) → ℕ → Phases
-phases_of_cells phasers cells t p = if nat_lt p phasers then unwrap_or (slice_get cells (t * phasers + p)) None else None
+unfoldable pub phases_of_found : ℕ → List (Option ℕ) → ℕ → Phases
+phases_of_found phasers cells t p = if nat_lt p phasers then unwrap_or (slice_get cells (t * phasers + p)) None else None
 
 -- the phases of each task
-abbrev pub phases_in : PhaseTable → ℕ → Phases
-phases_in table = phases_of_cells table.phasers table.cells.items
+abbrev pub phases_in_found : PhaseTable → ℕ → Phases
+phases_in_found table = phases_of_found table.phasers table.cells.items
 
 -- the event that stands for task t, if one does
-abbrev pub event_at : List (Option Event) → ℕ → Option Event
-event_at events t = unwrap_or (slice_get events t) None
+abbrev pub event_for : List (Option Event) → ℕ → Option Event
+event_for events t = unwrap_or (slice_get events t) None
 
 -- whether phaser p is marked
 abbrev pub is_marked : List Bool → ℕ → Bool
 is_marked marks p = unwrap_or (slice_get marks p) false
 
 -- what was found of different moments, as if it were one state
-abbrev pub state_found : Findings → State
-state_found f = record opening { phases = phases_in f.phases; published = event_at f.events.items }
+abbrev pub state_of_findings : Findings → State
+state_of_findings f = record opening { phases = phases_in_found f.phases; published = event_for f.events.items }
 
 -- which phasers were found awaited
-abbrev pub awaited_found : Findings → ℕ → Bool
-awaited_found f = is_marked f.awaited.items
+abbrev pub awaited_in_findings : Findings → ℕ → Bool
+awaited_in_findings f = is_marked f.awaited.items
 
 -- the status of task t, if it was found waiting: its event, and its phases on the asked phasers, in order of number
 abbrev pub status_found : ℕ → State → (ℕ → Bool) → ℕ → Option Status
@@ -39,12 +39,8 @@ status_found phasers s asked t =
     (s.published t)
 
 -- the statuses of what was found
-abbrev pub statuses_found : Findings → List Status
-statuses_found f = given_below (status_found f.phasers (state_found f) (awaited_found f)) f.tasks
-
--- the phase that a column has for task t
-abbrev pub phase_in : List (Option ℕ) → ℕ → Option ℕ
-phase_in column t = slice_index_or column t None
+abbrev pub statuses_of_findings : Findings → List Status
+statuses_of_findings f = given_below (status_found f.phasers (state_of_findings f) (awaited_in_findings f)) f.tasks
 
 -- what was found, where task t has published the event and has these phases, with a column of phases of the others on the event's phaser
 abbrev pub state_supposed : State → ℕ → Event → Phases → (ℕ → Option ℕ) → State

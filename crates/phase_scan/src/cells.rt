@@ -2,7 +2,7 @@
 ghost use Rattle.std.specs.Prelude.{◌≡◌, ◌<◌, ◌≤◌, ◌*◌, [], true, IfOk, length};
 ghost use Rattle.armus_base.specs.Statuses.{IsInOrder};
 ghost use Rattle.board.specs.Seats.{IsOf};
-ghost use Rattle.phase_scan.specs.Looks.{GoesOn};
+ghost use Rattle.phase_scan.specs.Looks.{LoadsAlone};
 ghost use Rattle.phase_scan.specs.Collects.{CountsLoads, IsCollect};
 ghost use Rattle.phase_scan.specs.Supposed.{IsSupposed};
 ghost use Rattle.phase_scan.specs.Collected.{HasFinds, IsCollected};
@@ -31,7 +31,8 @@ impl Model for Cells {
 
     ghost Value = { Collection };
 
-    ghost use Rattle.phase_scan.specs.inside.Cells.{collection_of, AreCells};
+    ghost use Rattle.phase_scan.specs.Buffers.{collection_of};
+    ghost use Rattle.phase_scan.specs.inside.Cells.{AreCells};
 
     ghost view = { collection_of };
 
@@ -61,7 +62,7 @@ impl Cells {
         requires phasers { self.old.phasers ≡ length board.now.plan.makers }
         ensures tasks { self.new.tasks ≡ self.old.tasks }
         ensures phasers { self.new.phasers ≡ self.old.phasers }
-        ensures goes_on { GoesOn (L.known by.old) (L.known by.new) }
+        ensures goes_on { LoadsAlone (L.known by.old) (L.known by.new) }
         ensures collect { IsCollect board.now.plan self.new.statuses (L.known by.old) (L.known by.new) }
         ensures loads { CountsLoads board.now.plan self.new.statuses (L.known by.old) (L.known by.new) }
         ensures collected { IsCollected self.new.statuses (L.known by.old) (L.known by.new) }
@@ -94,7 +95,7 @@ impl Cells {
         requires tasks { self.now.tasks ≡ length board.now.plan.parents }
         requires phasers { self.now.phasers ≡ length board.now.plan.makers }
         requires event { event.p.0 < length board.now.plan.makers }
-        ensures goes_on { GoesOn seat.old seat.new }
+        ensures goes_on { LoadsAlone seat.old seat.new }
         ensures supposed { IfOk result (λ list. IsSupposed board.now.plan self.now.statuses event list seat.old seat.new) }
     {
         let t = seat.id();

@@ -44,15 +44,15 @@ fn waiting(seen: Seen) -> Option<Event>
 }
 
 impl Findings {
-    ghost use Rattle.phase_scan.specs.Tables.{awaited_found, event_at, phases_in, state_found, statuses_found};
+    ghost use Rattle.phase_scan.specs.Tables.{awaited_in_findings, event_for, phases_in_found, state_of_findings, statuses_of_findings};
 
     /// No task was found waiting.
     pub(crate) fn new(alloc: Global, tasks: u32, phasers: u32) -> Result<Findings, NoMemory>
         requires fits { tasks * phasers < 2 ^ 32 }
         ensures tasks { IfOk result (λ f. f.tasks ≡ tasks) }
         ensures phasers { IfOk result (λ f. f.phasers ≡ phasers) }
-        ensures nothing { IfOk result (λ f. (t : ℕ) → (state_found f).published t ≡ None) }
-        ensures unmarked { IfOk result (λ f. (p : ℕ) → awaited_found f p ≡ false) }
+        ensures nothing { IfOk result (λ f. (t : ℕ) → (state_of_findings f).published t ≡ None) }
+        ensures unmarked { IfOk result (λ f. (p : ℕ) → awaited_in_findings f p ≡ false) }
     {
         Ok(Findings {
             tasks,
@@ -66,7 +66,7 @@ impl Findings {
 
     /// No phaser is marked as awaited.
     pub(crate) fn unmark(&mut self)
-        ensures unmarked { (p : ℕ) → awaited_found self.new p ≡ false }
+        ensures unmarked { (p : ℕ) → awaited_in_findings self.new p ≡ false }
         ensures tasks { self.new.tasks ≡ self.old.tasks }
         ensures phasers { self.new.phasers ≡ self.old.phasers }
     {
@@ -81,8 +81,8 @@ impl Findings {
         requires phaser { IfSome event (λ e. e.p.0 < self.old.phasers) }
         ensures tasks { self.new.tasks ≡ self.old.tasks }
         ensures phasers { self.new.phasers ≡ self.old.phasers }
-        ensures events { event_at self.new.events.items ≡ updated (event_at self.old.events.items) t.0 event }
-        ensures awaited { (p : ℕ) → awaited_found self.new p ≡ (is_event_of p event || awaited_found self.old p) }
+        ensures events { event_for self.new.events.items ≡ updated (event_for self.old.events.items) t.0 event }
+        ensures awaited { (p : ℕ) → awaited_in_findings self.new p ≡ (is_event_of p event || awaited_in_findings self.old p) }
     {
         self.events[t.0 as usize] = event;
         if let Some(event) = event {
@@ -95,14 +95,14 @@ impl Findings {
         requires made { IsOf (L.known by.old) board.now }
         requires tasks { self.old.tasks ≡ length board.now.plan.parents }
         requires phasers { self.old.phasers ≡ length board.now.plan.makers }
-        requires unmarked { (p : ℕ) → awaited_found self.old p ≡ false }
+        requires unmarked { (p : ℕ) → awaited_in_findings self.old p ≡ false }
         ensures checked { IsCheckedPlan board.now.plan }
         ensures made { IsOf (L.known by.new) board.now }
         ensures tasks { self.new.tasks ≡ self.old.tasks }
         ensures phasers { self.new.phasers ≡ self.old.phasers }
-        ensures loads { LoadsAwaits (event_at self.new.events.items) self.old.tasks (L.known by.old) (L.known by.new) }
-        ensures awaited { (p : ℕ) → awaited_found self.new p ≡ some_before (λ t. is_event_of p (event_at self.new.events.items t)) self.old.tasks }
-        ensures nexts { AreNexts (awaited_found self.new) self.new.phasers self.new.nexts.items }
+        ensures loads { LoadsAwaits (event_for self.new.events.items) self.old.tasks (L.known by.old) (L.known by.new) }
+        ensures awaited { (p : ℕ) → awaited_in_findings self.new p ≡ some_before (λ t. is_event_of p (event_for self.new.events.items t)) self.old.tasks }
+        ensures nexts { AreNexts (awaited_in_findings self.new) self.new.phasers self.new.nexts.items }
     {
         for number in 0..board.tasks() {
             let t = TaskId(number);
@@ -118,15 +118,15 @@ impl Findings {
         requires tasks { self.old.tasks ≡ length board.now.plan.parents }
         requires phasers { self.old.phasers ≡ length board.now.plan.makers }
         requires task { t.0 < self.old.tasks }
-        requires nexts { AreNexts (awaited_found self.old) self.old.phasers self.old.nexts.items }
+        requires nexts { AreNexts (awaited_in_findings self.old) self.old.phasers self.old.nexts.items }
         ensures made { IsOf (L.known by.new) board.now }
         ensures tasks { self.new.tasks ≡ self.old.tasks }
         ensures phasers { self.new.phasers ≡ self.old.phasers }
         ensures events { self.new.events.items ≡ self.old.events.items }
         ensures awaited { self.new.awaited.items ≡ self.old.awaited.items }
         ensures nexts { self.new.nexts.items ≡ self.old.nexts.items }
-        ensures others { (u : ℕ) → u ≢ t.0 → phases_in self.new.phases u ≡ phases_in self.old.phases u }
-        ensures loads { LoadsRow (awaited_found self.old) t.0 (phases_in self.new.phases t.0) self.old.phasers (L.known by.old) (L.known by.new) }
+        ensures others { (u : ℕ) → u ≢ t.0 → phases_in_found self.new.phases u ≡ phases_in_found self.old.phases u }
+        ensures loads { LoadsRow (awaited_in_findings self.old) t.0 (phases_in_found self.new.phases t.0) self.old.phasers (L.known by.old) (L.known by.new) }
     {
         let mut p = self.nexts[0];
         'row: while p < self.phasers {
@@ -141,12 +141,12 @@ impl Findings {
         requires made { IsOf (L.known by.old) board.now }
         requires tasks { self.old.tasks ≡ length board.now.plan.parents }
         requires phasers { self.old.phasers ≡ length board.now.plan.makers }
-        requires nexts { AreNexts (awaited_found self.old) self.old.phasers self.old.nexts.items }
+        requires nexts { AreNexts (awaited_in_findings self.old) self.old.phasers self.old.nexts.items }
         ensures tasks { self.new.tasks ≡ self.old.tasks }
         ensures phasers { self.new.phasers ≡ self.old.phasers }
         ensures events { self.new.events.items ≡ self.old.events.items }
         ensures awaited { self.new.awaited.items ≡ self.old.awaited.items }
-        ensures loads { LoadsRows self.old.phasers (awaited_found self.old) (state_found self.new) self.old.tasks (L.known by.old) (L.known by.new) }
+        ensures loads { LoadsRows self.old.phasers (awaited_in_findings self.old) (state_of_findings self.new) self.old.tasks (L.known by.old) (L.known by.new) }
     {
         for number in 0..self.tasks {
             if self.events[number as usize].is_some() {
@@ -159,7 +159,7 @@ impl Findings {
     pub(crate) fn listed(&self, t: TaskId, p: PhaserId) -> Option<Member>
         requires task { t.0 < self.now.tasks }
         requires phaser { p.0 < self.now.phasers }
-        ensures { result ≡ listed_phase (awaited_found self.now) ((state_found self.now).phases t.0) p.0 }
+        ensures { result ≡ listed_phase (awaited_in_findings self.now) ((state_of_findings self.now).phases t.0) p.0 }
     {
         if !self.awaited[p.0 as usize] {
             return None;
@@ -174,8 +174,8 @@ impl Findings {
     fn members(&self, alloc: Global, t: TaskId, nexts: &[u32]) -> Result<Vec<Member>, NoMemory>
         requires task { t.0 < self.now.tasks }
         requires room { length nexts.now ≡ self.now.phasers + 1 }
-        requires nexts { AreNexts (awaited_found self.now) self.now.phasers nexts.now }
-        ensures { IfOk result (λ list. list.items ≡ given_below (listed_phase (awaited_found self.now) ((state_found self.now).phases t.0)) self.now.phasers) }
+        requires nexts { AreNexts (awaited_in_findings self.now) self.now.phasers nexts.now }
+        ensures { IfOk result (λ list. list.items ≡ given_below (listed_phase (awaited_in_findings self.now) ((state_of_findings self.now).phases t.0)) self.now.phasers) }
     {
         let mut members = Vec::new(alloc);
         let mut p = nexts[0];
@@ -191,7 +191,7 @@ impl Findings {
 
     /// The statuses of what was found.
     pub(crate) fn statuses(&self, alloc: Global) -> Result<List<Status>, NoMemory>
-        ensures { IfOk result (λ list. list ≡ statuses_found self.now) }
+        ensures { IfOk result (λ list. list ≡ statuses_of_findings self.now) }
     {
         let nexts = nexts_of(alloc, self.awaited.as_slice(), None)?;
         let mut statuses = Vec::new(alloc);

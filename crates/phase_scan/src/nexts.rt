@@ -1,7 +1,7 @@
 // From each phaser on the first one that is asked for, so that a walk over those looks at no others.
 ghost use Rattle.std.specs.Prelude.{◌≡◌, ◌<◌, ◌≤◌, ◌+◌, ◌^◌, IfOk, length};
 ghost use Rattle.phase_scan.specs.Tables.{is_marked};
-ghost use Rattle.phase_scan.specs.inside.Nexts.{AreNexts, IsNext, asked_with};
+ghost use Rattle.phase_scan.specs.inside.Nexts.{AreNexts, IsNextAsked, asked_with};
 
 use armus_base::{NoMemory, PhaserId};
 use std::alloc::Global;
@@ -21,8 +21,8 @@ fn is_asked(marks: &[bool], also: Option<PhaserId>, p: usize) -> bool
 fn next_from(marks: &[bool], also: Option<PhaserId>, p: usize, after: u32) -> u32
     requires inside { p < length marks.now }
     requires few { length marks.now < 2 ^ 32 }
-    requires after { IsNext (asked_with (is_marked marks.now) also) (length marks.now) (p + 1) after }
-    ensures { IsNext (asked_with (is_marked marks.now) also) (length marks.now) p result }
+    requires after { IsNextAsked (asked_with (is_marked marks.now) also) (length marks.now) (p + 1) after }
+    ensures { IsNextAsked (asked_with (is_marked marks.now) also) (length marks.now) p result }
 {
     if is_asked(marks, also, p) {
         p as u32

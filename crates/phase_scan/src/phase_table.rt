@@ -15,7 +15,7 @@ pub(crate) struct PhaseTable {
 
 impl PhaseTable {
     ghost use Rattle.armus_base.specs.States.{with_phase};
-    ghost use Rattle.phase_scan.specs.Tables.{phases_in};
+    ghost use Rattle.phase_scan.specs.Tables.{phases_in_found};
 
     /// No task is a member of anything.
     pub(crate) fn new(alloc: Global, tasks: usize, phasers: usize) -> Result<PhaseTable, NoMemory>
@@ -35,7 +35,7 @@ impl PhaseTable {
     pub(crate) fn get(&self, t: usize, p: usize) -> Option<Phase>
         requires task { t < self.now.tasks }
         requires phaser { p < self.now.phasers }
-        ensures phase { result ≡ phases_in self.now t p }
+        ensures phase { result ≡ phases_in_found self.now t p }
     {
         self.cells[t * self.phasers + p]
     }
@@ -46,7 +46,7 @@ impl PhaseTable {
         requires phaser { p < self.old.phasers }
         ensures tasks { self.new.tasks ≡ self.old.tasks }
         ensures phasers { self.new.phasers ≡ self.old.phasers }
-        ensures set { phases_in self.new ≡ with_phase (phases_in self.old) t p phase }
+        ensures set { phases_in_found self.new ≡ with_phase (phases_in_found self.old) t p phase }
     {
         self.cells[t * self.phasers + p] = phase;
     }

@@ -2,7 +2,7 @@
 ghost use Rattle.std.specs.Prelude.{◌≡◌, ◌<◌, Some, true, MatchOption, IsSome};
 ghost use Rattle.armus_base.specs.Seats.{is_not_behind};
 ghost use Rattle.board.specs.Seats.{IsOf, event_of};
-ghost use Rattle.phase_scan.specs.Looks.{GoesOn, IsLook};
+ghost use Rattle.phase_scan.specs.Looks.{LoadsAlone, IsLook};
 
 use crate::Look;
 use armus_base::{Event, Phase, TaskId};
@@ -21,7 +21,7 @@ fn behind(found: Option<Phase>, event: Event) -> Option<Phase>
 pub fn look(seat: &mut TaskSeat, board: &Board) -> Look
     requires made { IsOf seat.old board.now }
     requires event { IsSome (event_of seat.old) }
-    ensures goes_on { GoesOn seat.old seat.new }
+    ensures goes_on { LoadsAlone seat.old seat.new }
     ensures answer { IsLook result seat.old seat.new }
 {
     let _ = seat.id();

@@ -6,7 +6,8 @@ ghost use Rattle.board.specs.Seats.{IsOf};
 ghost use Rattle.board.specs.Steps.{own_phase};
 ghost use Rattle.phase_scan.specs.inside.Nexts.{AreNexts};
 ghost use Rattle.phase_scan.specs.Supposed.{LoadsColumn};
-ghost use Rattle.phase_scan.specs.Tables.{awaited_found, event_at, phase_in, state_found, state_supposed, status_found};
+ghost use Rattle.phase_scan.specs.Tables.{awaited_in_findings, event_for, state_of_findings, state_supposed, status_found};
+ghost use Rattle.phase_scan.specs.inside.Phases.{phase_in};
 
 use crate::findings::Findings;
 use crate::nexts::nexts_of;
@@ -38,7 +39,7 @@ impl Findings {
         ensures made { IsOf seat.new board.now }
         ensures err { OnErr result (seat.new ≡ seat.old) }
         ensures count { IfOk result (λ column. length column.items ≡ self.now.tasks) }
-        ensures loads { IfOk result (λ column. LoadsColumn (event_at self.now.events.items) p.0 (phase_in column.items) self.now.tasks seat.old seat.new) }
+        ensures loads { IfOk result (λ column. LoadsColumn (event_for self.now.events.items) p.0 (phase_in column.items) self.now.tasks seat.old seat.new) }
     {
         let mut column = vec![in alloc; None; self.tasks as usize]?;
         for number in 0..self.tasks {
@@ -60,7 +61,7 @@ impl Findings {
     ) -> Option<Member>
         requires task { t.0 < self.now.tasks }
         requires phaser { q.0 < self.now.phasers }
-        ensures { result ≡ listed_phase (updated (awaited_found self.now) p.0 true) (updated ((state_found self.now).phases t.0) p.0 found) q.0 }
+        ensures { result ≡ listed_phase (updated (awaited_in_findings self.now) p.0 true) (updated ((state_of_findings self.now).phases t.0) p.0 found) q.0 }
     {
         if q.0 != p.0 {
             return self.listed(t, q);
@@ -82,8 +83,8 @@ impl Findings {
     ) -> Result<Vec<Member>, NoMemory>
         requires task { t.0 < self.now.tasks }
         requires room { length nexts.now ≡ self.now.phasers + 1 }
-        requires nexts { AreNexts (updated (awaited_found self.now) p.0 true) self.now.phasers nexts.now }
-        ensures { IfOk result (λ list. list.items ≡ given_below (listed_phase (updated (awaited_found self.now) p.0 true) (updated ((state_found self.now).phases t.0) p.0 found)) self.now.phasers) }
+        requires nexts { AreNexts (updated (awaited_in_findings self.now) p.0 true) self.now.phasers nexts.now }
+        ensures { IfOk result (λ list. list.items ≡ given_below (listed_phase (updated (awaited_in_findings self.now) p.0 true) (updated ((state_of_findings self.now).phases t.0) p.0 found)) self.now.phasers) }
     {
         let mut members = Vec::new(alloc);
         let mut q = nexts[0];
@@ -109,7 +110,7 @@ impl Findings {
         requires phasers { self.now.phasers ≡ length board.now.plan.makers }
         requires phaser { q.0 < self.now.phasers }
         ensures seat { seat.new ≡ seat.old }
-        ensures listed { result ≡ listed_phase (updated (awaited_found self.now) p.0 true) (own_phase seat.old.view) q.0 }
+        ensures listed { result ≡ listed_phase (updated (awaited_in_findings self.now) p.0 true) (own_phase seat.old.view) q.0 }
     {
         if q.0 != p.0 {
             if !self.awaited[q.0 as usize] {
@@ -134,9 +135,9 @@ impl Findings {
         requires made { IsOf seat.old board.now }
         requires phasers { self.now.phasers ≡ length board.now.plan.makers }
         requires room { length nexts.now ≡ self.now.phasers + 1 }
-        requires nexts { AreNexts (updated (awaited_found self.now) p.0 true) self.now.phasers nexts.now }
+        requires nexts { AreNexts (updated (awaited_in_findings self.now) p.0 true) self.now.phasers nexts.now }
         ensures seat { seat.new ≡ seat.old }
-        ensures members { IfOk result (λ list. list.items ≡ given_below (listed_phase (updated (awaited_found self.now) p.0 true) (own_phase seat.old.view)) self.now.phasers) }
+        ensures members { IfOk result (λ list. list.items ≡ given_below (listed_phase (updated (awaited_in_findings self.now) p.0 true) (own_phase seat.old.view)) self.now.phasers) }
     {
         let mut members = Vec::new(alloc);
         let mut q = nexts[0];
@@ -167,9 +168,9 @@ impl Findings {
         requires task { u.0 < self.now.tasks }
         requires count { length column.now ≡ self.now.tasks }
         requires room { length nexts.now ≡ self.now.phasers + 1 }
-        requires nexts { AreNexts (updated (awaited_found self.now) event.p.0 true) self.now.phasers nexts.now }
+        requires nexts { AreNexts (updated (awaited_in_findings self.now) event.p.0 true) self.now.phasers nexts.now }
         ensures seat { seat.new ≡ seat.old }
-        ensures status { IfOk result (λ o. o ≡ status_found self.now.phasers (state_supposed (state_found self.now) t.0 event (own_phase seat.old.view) (phase_in column.now)) (updated (awaited_found self.now) event.p.0 true) u.0) }
+        ensures status { IfOk result (λ o. o ≡ status_found self.now.phasers (state_supposed (state_of_findings self.now) t.0 event (own_phase seat.old.view) (phase_in column.now)) (updated (awaited_in_findings self.now) event.p.0 true) u.0) }
     {
         if u.0 == t.0 {
             let phases = self.own_members(alloc, seat, board, event.p, nexts)?;
@@ -207,7 +208,7 @@ impl Findings {
         requires phasers { self.now.phasers ≡ length board.now.plan.makers }
         requires count { length column.now ≡ self.now.tasks }
         ensures seat { seat.new ≡ seat.old }
-        ensures statuses { IfOk result (λ list. list ≡ given_below (status_found self.now.phasers (state_supposed (state_found self.now) t.0 event (own_phase seat.old.view) (phase_in column.now)) (updated (awaited_found self.now) event.p.0 true)) self.now.tasks) }
+        ensures statuses { IfOk result (λ list. list ≡ given_below (status_found self.now.phasers (state_supposed (state_of_findings self.now) t.0 event (own_phase seat.old.view) (phase_in column.now)) (updated (awaited_in_findings self.now) event.p.0 true)) self.now.tasks) }
     {
         let nexts = nexts_of(alloc, self.awaited.as_slice(), Some(event.p))?;
         let mut statuses = Vec::new(alloc);

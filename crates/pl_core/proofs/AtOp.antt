@@ -8,13 +8,15 @@ use Rattle.armus_base.specs.declared.op.Op.TheVariants.{Await}
 use Rattle.armus_base.specs.Plans.{Plan, code_of}
 use Rattle.pl_core.specs.declared.task.Task.{Task}
 use Rattle.pl_core.specs.declared.phase_table.PhaseTable.{PhaseTable}
-use Rattle.pl_core.specs.Tables.{IsKept, world_from}
-use Rattle.pl_core.specs.Tasks.{IsAtOp, actions_before, begun}
+use Rattle.pl_core.specs.inside.Kept.{KeepsState}
+use Rattle.pl_core.specs.Tables.{world_from}
+use Rattle.pl_core.specs.Tasks.{IsAtOp, actions_before}
+use Rattle.pl_core.specs.inside.KeptTasks.{begun}
 use Rattle.pl_core.specs.Worlds.{places_of}
 use Rattle.pl_core.proofs.OpCounts.{actions_before-suc, at_least_one, await_is_two}
 use Rattle.pl_core.proofs.Standing.{await_of_waiting, done_is, of_task, published_kept}
 
-module _ (plan : Plan) (tasks : List Task) (table : PhaseTable) (kept : IsKept plan tasks table) (t : ℕ) (task : Task) (read : slice_get tasks t ≡ Some task) where
+module _ (plan : Plan) (tasks : List Task) (table : PhaseTable) (kept : KeepsState plan tasks table) (t : ℕ) (task : Task) (read : slice_get tasks t ≡ Some task) where
   op_here : task.op < length (code_of plan t) → (op : Op) × slice_get (code_of plan t) task.op ≡ Some op
   op_here l = go (slice_get (code_of plan t) task.op) refl
     where

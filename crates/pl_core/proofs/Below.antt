@@ -11,8 +11,8 @@ use Rattle.armus_base.specs.Places.{some_before}
 use Rattle.armus_base.specs.Plans.{Plan}
 use Rattle.armus_base.specs.States.{Phases, State}
 use Rattle.armus_base.specs.declared.ids.TaskId.{TaskId}
-use Rattle.pl_core.specs.Reading.{is_asked}
-use Rattle.pl_core.specs.Supposed.{with_also}
+use Rattle.pl_core.specs.inside.Reading.{is_asked}
+use Rattle.pl_core.specs.inside.Supposed.{with_also}
 use Rattle.pl_core.proofs.Cells.{slice_get-set_same, slice_get-set_other}
 
 pub list_below_more : {A : Type 0} (f : ℕ → A) (n : ℕ) (x : A) (xs : List A) → xs ≡ list_below f n → x ≡ f n → xs ++ x ∷ [] ≡ list_below f (n + 1)

@@ -12,8 +12,9 @@ use Rattle.armus_base.proofs.Reachable.{reachable_is_fixed}
 use Rattle.armus_base.proofs.Tasks.{member_within}
 use Rattle.pl_core.specs.declared.task.Task.{Task}
 use Rattle.pl_core.specs.declared.phase_table.PhaseTable.{PhaseTable}
-use Rattle.pl_core.specs.Tables.{IsKept, world_from}
-use Rattle.pl_core.specs.Worlds.{WorldValue, next_action, places_of, state_of}
+use Rattle.pl_core.specs.inside.Kept.{KeepsState}
+use Rattle.pl_core.specs.Tables.{world_from}
+use Rattle.pl_core.specs.Worlds.{WorldValue, action_by_code, places_of, state_of}
 use Rattle.armus_base.specs.Runs.{IsReachable, Place}
 
 -- a phaser that is made is one of the plan
@@ -60,8 +61,8 @@ phase_fits w checked t p n forked undropped e =
 
 -- a child that is forked next is kept
 pub child_bound :
-    (plan : Plan) (tasks : List Task) (table : PhaseTable) → IsKept plan tasks table → (t c : ℕ) →
-    next_action (world_from plan tasks) t ≡ Some (Forks c) → c < length tasks
+    (plan : Plan) (tasks : List Task) (table : PhaseTable) → KeepsState plan tasks table → (t c : ℕ) →
+    action_by_code (world_from plan tasks) t ≡ Some (Forks c) → c < length tasks
 child_bound plan tasks table kept t c next =
     let parent = (kept.checked.codes.well_formed t (places_of (world_from plan tasks) t).done (Forks c) next).0 in
     let l = child_within plan t c parent in

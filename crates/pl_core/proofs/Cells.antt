@@ -6,7 +6,7 @@ use Rattle.std.proofs.lemmas.Bool.{cases_eq, cases_lt}
 use Rattle.std.proofs.lemmas.Nat.{same_from_place}
 use Rattle.armus_base.specs.States.{with_phase}
 use Rattle.armus_base.proofs.Steps.{with_phase_same, with_phase_other}
-use Rattle.pl_core.specs.Cells.{phase_of_cell, phases_of_cells}
+use Rattle.pl_core.specs.inside.Cells.{phase_of_cell, phases_of_cells}
 
 pub slice_get-set_same : {A : Type 0} (xs : List A) (k : ℕ) (v : A) → k < length xs → slice_get (set xs k v) k ≡ Some v
 slice_get-set_same [] k v l = absurd (omega arith)

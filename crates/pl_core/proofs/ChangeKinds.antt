@@ -12,14 +12,16 @@ use Rattle.armus_base.proofs.Codes.{child_later, child_within, phaser_within}
 use Rattle.armus_base.proofs.Steps.{updated_same, updated_other}
 use Rattle.pl_core.specs.declared.task.Task.{Task}
 use Rattle.pl_core.specs.declared.phase_table.PhaseTable.{PhaseTable}
-use Rattle.pl_core.specs.Changes.{after_fork, after_op}
-use Rattle.pl_core.specs.Effects.{HasRoomFor}
-use Rattle.pl_core.specs.Moves.{MakesStep, further}
-use Rattle.pl_core.specs.Ops.{ChangesPhases, action_of, phases_moved}
-use Rattle.pl_core.specs.PhaseTables.{phases_in}
-use Rattle.pl_core.specs.Tasks.{IsKeptOf, actions_before, event_in}
-use Rattle.pl_core.specs.Tables.{IsKept, standings, world_from}
-use Rattle.pl_core.specs.Worlds.{WorldValue, next_action, places_of, state_of}
+use Rattle.pl_core.specs.inside.Changes.{after_fork, after_op}
+use Rattle.pl_core.specs.inside.Effects.{HasRoomFor}
+use Rattle.pl_core.specs.Moves.{IsWorldStep, further}
+use Rattle.pl_core.specs.inside.Ops.{ChangesPhases, action_of, phases_moved}
+use Rattle.pl_core.specs.inside.PhaseTables.{phases_in}
+use Rattle.pl_core.specs.inside.KeptTasks.{IsKeptOf, event_in}
+use Rattle.pl_core.specs.Tasks.{actions_before}
+use Rattle.pl_core.specs.inside.Kept.{KeepsState}
+use Rattle.pl_core.specs.Tables.{kept_places, world_from}
+use Rattle.pl_core.specs.Worlds.{WorldValue, action_by_code, places_of, state_of}
 use Rattle.pl_core.proofs.Bounds.{child_bound, phaser_of_member, phase_fits}
 use Rattle.pl_core.proofs.Cells.{slice_get-set_same, slice_get-set_other}
 use Rattle.pl_core.proofs.OpCounts.{actions_before-suc, one_unless_await}
@@ -80,7 +82,7 @@ set_there [] k v e = refl
 set_there (x ∷ xs) zero v e = ap (λ y. y ∷ xs) (let is : v ≡ x = (cc) in is)
 set_there (x ∷ xs) (suc k) v e = ap (λ ys. x ∷ ys) (set_there xs k v e)
 
-module _ (plan : Plan) (tasks : List Task) (table : PhaseTable) (kept : IsKept plan tasks table) (t : ℕ) (task : Task) (read : slice_get tasks t ≡ Some task) (active : IsActive (state_of (world_from plan tasks)) t) where
+module _ (plan : Plan) (tasks : List Task) (table : PhaseTable) (kept : KeepsState plan tasks table) (t : ℕ) (task : Task) (read : slice_get tasks t ≡ Some task) (active : IsActive (state_of (world_from plan tasks)) t) where
   abbrev old : WorldValue
   old = world_from plan tasks
 
@@ -91,7 +93,7 @@ module _ (plan : Plan) (tasks : List Task) (table : PhaseTable) (kept : IsKept p
   undropped_now = undropped_of plan tasks table kept t task read active.unrefused
 
   -- what is kept of a task that has made an op of one action
-  module _ (x : Action) (next : next_action old t ≡ Some x) (no_await : (p : ℕ) → x ≢ Blocks p) where
+  module _ (x : Action) (next : action_by_code old t ≡ Some x) (no_await : (p : ℕ) → x ≢ Blocks p) where
     legal : IsLegal plan (state_of old) t x
     legal = legal_next plan tasks table kept t task read x active next
 
@@ -118,14 +120,14 @@ module _ (plan : Plan) (tasks : List Task) (table : PhaseTable) (kept : IsKept p
         }
 
   -- an op that changes phases alone
-  module _ (op : Op) (next : next_action old t ≡ Some (action_of op)) (kind : ChangesPhases op) where
+  module _ (op : Op) (next : action_by_code old t ≡ Some (action_of op)) (kind : ChangesPhases op) where
     phaser_bound : (p n : ℕ) → (state_of old).phases t p ≡ Some n → p < table.phasers
     phaser_bound p n e = (let l = phaser_of_member old kept.checked kept.reachable t p n e in let c = kept.columns in omega arith)
 
     pub room : HasRoomFor table t op
     room = go op next kind
       where
-        go : (o : Op) → next_action old t ≡ Some (action_of o) → ChangesPhases o → HasRoomFor table t o
+        go : (o : Op) → action_by_code old t ≡ Some (action_of o) → ChangesPhases o → HasRoomFor table t o
         go (Make p) n c =
             let l = legal_next plan tasks table kept t task read (Makes p.0) active n in
             (let w = phaser_within plan t p.0 l.1 in let k = kept.columns in omega arith)
@@ -147,7 +149,7 @@ module _ (plan : Plan) (tasks : List Task) (table : PhaseTable) (kept : IsKept p
     pub change_stepped :
         (table' : PhaseTable) → table'.tasks ≡ table.tasks → table'.phasers ≡ table.phasers →
         phases_in table' ≡ phases_moved (phases_in table) t (action_of op) →
-        IsKept plan (set tasks t (after_op task)) table' × MakesStep old (world_from plan (set tasks t (after_op task))) t
+        KeepsState plan (set tasks t (after_op task)) table' × IsWorldStep old (world_from plan (set tasks t (after_op task))) t
     change_stepped table' rows columns phases =
         let x = action_of op in
         stepped_set plan tasks table kept t task read x next (legal x next (no_block op kind)) (after_op task) refl
@@ -156,7 +158,7 @@ module _ (plan : Plan) (tasks : List Task) (table : PhaseTable) (kept : IsKept p
         (phases ∙ ap (λ f. phases_moved f t x) kept.phases ∙ phases_of_state (state_of old) t x)
 
   -- a fork
-  module _ (c : ℕ) (next : next_action old t ≡ Some (Forks c)) where
+  module _ (c : ℕ) (next : action_by_code old t ≡ Some (Forks c)) where
     fork_legal : IsLegal plan (state_of old) t (Forks c)
     fork_legal = legal_next plan tasks table kept t task read (Forks c) active next
 
@@ -177,10 +179,10 @@ module _ (plan : Plan) (tasks : List Task) (table : PhaseTable) (kept : IsKept p
       pub read_after : slice_get with_child t ≡ Some task
       read_after = slice_get-set_other tasks c t (after_fork child) other ∙ read
 
-      same_places : standings (set with_child t (after_op task)) ≡ set (standings tasks) t (further task.place)
+      same_places : kept_places (set with_child t (after_op task)) ≡ set (kept_places tasks) t (further task.place)
       same_places =
           map-set (λ (k : Task). k.place) with_child t (after_op task)
-          ∙ ap (λ ps. set ps t (further task.place)) (map-set (λ (k : Task). k.place) tasks c (after_fork child) ∙ set_there (standings tasks) c child.place (standing_there tasks c child child_read))
+          ∙ ap (λ ps. set ps t (further task.place)) (map-set (λ (k : Task). k.place) tasks c (after_fork child) ∙ set_there (kept_places tasks) c child.place (standing_there tasks c child child_read))
 
       kept_child : IsKeptOf plan (after (state_of old) t (Forks c)) c (after_fork child)
       kept_child =
@@ -213,7 +215,7 @@ module _ (plan : Plan) (tasks : List Task) (table : PhaseTable) (kept : IsKept p
                 ]
           ]
 
-      pub fork_stepped : IsKept plan (set with_child t (after_op task)) table × MakesStep old (world_from plan (set with_child t (after_op task))) t
+      pub fork_stepped : KeepsState plan (set with_child t (after_op task)) table × IsWorldStep old (world_from plan (set with_child t (after_op task))) t
       fork_stepped = (
         kept_after plan tasks table kept t task read (Forks c) next fork_legal (set with_child t (after_op task)) table same_places refl refl
             kept.phases (length-set with_child t (after_op task) ∙ length-set tasks c (after_fork child)) each,

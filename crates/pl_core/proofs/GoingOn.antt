@@ -16,8 +16,8 @@ use Rattle.armus_base.proofs.Reachable.{reachable_is_fixed}
 use Rattle.armus_base.proofs.Stepping.{acting_forked}
 use Rattle.pl_core.specs.declared.stand.Stand.{Stand}
 use Rattle.pl_core.specs.declared.stand.Stand.TheVariants.{Unforked, Done, Refused, Ready, Await, Waits}
-use Rattle.pl_core.specs.Stands.{AreAhead, IsBehind, IsEnabled, IsReady, MayGoOn, StandsSo}
-use Rattle.pl_core.specs.Worlds.{WorldValue, next_action, places_of, state_of}
+use Rattle.pl_core.specs.Stands.{AreAhead, IsBehind, IsEnabled, IsBeforeOp, MayGoOn, StandsSo}
+use Rattle.pl_core.specs.Worlds.{WorldValue, action_by_code, places_of, state_of}
 use Rattle.pl_core.proofs.Bounds.{phaser_of_member, task_of_member}
 use Rattle.pl_core.proofs.StepKinds.{awaits_block}
 
@@ -25,12 +25,12 @@ module _ (w : WorldValue) (checked : IsCheckedPlan w.plan) (reach : IsReachable 
   consistent_there : IsConsistent w.plan (places_of w)
   consistent_there = (reachable_is_fixed w.plan (places_of w) checked reach).1
 
-  pub legal_when_active : (t : ℕ) (x : Action) → IsActive (state_of w) t → next_action w t ≡ Some x → IsLegal w.plan (state_of w) t x
+  pub legal_when_active : (t : ℕ) (x : Action) → IsActive (state_of w) t → action_by_code w t ≡ Some x → IsLegal w.plan (state_of w) t x
   unfolding state_of
   legal_when_active t x active next = next_legal w.plan checked (places_of w) consistent_there t x active next
 
   -- a waiting task passes next, if its event is reached
-  pub passes_when_waiting : (t : ℕ) (e : Event) → (state_of w).published t ≡ Some e → next_action w t ≡ Some (Passes e.p.0)
+  pub passes_when_waiting : (t : ℕ) (e : Event) → (state_of w).published t ≡ Some e → action_by_code w t ≡ Some (Passes e.p.0)
   unfolding state_of
   passes_when_waiting t e p =
       let is = published_after_is w.plan t (places_of w t).done e p in
@@ -70,7 +70,7 @@ module _ (w : WorldValue) (checked : IsCheckedPlan w.plan) (reach : IsReachable 
   goes_on t (Refused e) so = (λ enabled. no_more_code t e so enabled, λ h. absurd h)
   goes_on t Ready so = (λ _. tt, λ _. (so.1, so.2, legal_when_active t so.1 so.0 so.2))
   goes_on t (Await e) so =
-      let blocks = awaits_block (next_action w t) ((state_of w).phases t) e so.1 in
+      let blocks = awaits_block (action_by_code w t) ((state_of w).phases t) e so.1 in
       (λ _. tt, λ _. (Blocks blocks.0, blocks.1, legal_when_active t (Blocks blocks.0) so.0 blocks.1))
   goes_on t (Waits e) so =
       (λ enabled. reached_when_legal t e enabled.0 so enabled.2, λ reached. (Passes e.p.0, passes_when_waiting t e so, legal_when_reached t e so reached))
@@ -78,7 +78,7 @@ module _ (w : WorldValue) (checked : IsCheckedPlan w.plan) (reach : IsReachable 
   -- whoever goes on and neither waits nor stands at an await is ready
   pub is_ready_else :
       (t : ℕ) (stand : Stand) → StandsSo w t stand → MayGoOn (state_of w) stand →
-      ((e : Event) → stand ≡ Await e → ⊥) → ((e : Event) → stand ≡ Waits e → ⊥) → IsReady w t
+      ((e : Event) → stand ≡ Await e → ⊥) → ((e : Event) → stand ≡ Waits e → ⊥) → IsBeforeOp w t
   is_ready_else t Unforked so h a b = absurd h
   is_ready_else t Done so h a b = absurd h
   is_ready_else t (Refused e) so h a b = absurd h

@@ -6,13 +6,14 @@ use Rattle.std.proofs.lemmas.Option.{slice_get-get_or, slice_get_past}
 use Rattle.std.proofs.lemmas.List.{length-set}
 use Rattle.armus_base.specs.declared.event.Event.{Event}
 use Rattle.pl_core.specs.declared.task.Task.{Task}
-use Rattle.pl_core.specs.HighestPhases.{AreHighest, highest_at}
+use Rattle.pl_core.specs.inside.Highest.{AreHighest, highest_at}
 use Rattle.armus_base.specs.CheckedPlans.{IsCheckedPlan}
 use Rattle.armus_base.specs.Plans.{Plan}
 use Rattle.armus_base.specs.Runs.{IsReachable}
 use Rattle.pl_core.specs.declared.phase_table.PhaseTable.{PhaseTable}
-use Rattle.pl_core.specs.Changes.{unbegun}
-use Rattle.pl_core.specs.Tables.{IsKept, world_from}
+use Rattle.pl_core.specs.inside.Changes.{unbegun}
+use Rattle.pl_core.specs.inside.Kept.{KeepsState}
+use Rattle.pl_core.specs.Tables.{world_from}
 use Rattle.pl_core.specs.Worlds.{WorldValue, places_of, state_of}
 use Rattle.pl_core.proofs.Bounds.{task_of_member}
 use Rattle.pl_core.proofs.Cells.{slice_get-set_other, slice_get-set_same}
@@ -72,7 +73,7 @@ highest_same tasks phasers highest t old new kept read event place =
     highest_set tasks phasers highest highest t new kept refl (λ p. omega arith)
     (λ e unrefused is inside. kept.bound t old e read (ap (λ v. v.refused) (sym place) ∙ unrefused) (sym event ∙ is) inside)
 
-module _ (plan : Plan) (tasks : List Task) (table : PhaseTable) (kept : IsKept plan tasks table) (highest : List ℕ) (are : AreHighest tasks (length plan.makers) highest) where
+module _ (plan : Plan) (tasks : List Task) (table : PhaseTable) (kept : KeepsState plan tasks table) (highest : List ℕ) (are : AreHighest tasks (length plan.makers) highest) where
   abbrev now : WorldValue
   now = world_from plan tasks
 
@@ -89,9 +90,9 @@ module _ (plan : Plan) (tasks : List Task) (table : PhaseTable) (kept : IsKept p
       are.bound u task e read unrefused event (phaser_of_waiting now kept.checked kept.reachable u e waits)
 
 -- what is kept of a world is so of what contracts see of it
-pub checked_there : {plan : Plan} {tasks : List Task} {table : PhaseTable} {w : WorldValue} → world_from plan tasks ≡ w → IsKept plan tasks table → IsCheckedPlan w.plan
+pub checked_there : {plan : Plan} {tasks : List Task} {table : PhaseTable} {w : WorldValue} → world_from plan tasks ≡ w → KeepsState plan tasks table → IsCheckedPlan w.plan
 checked_there is kept = subst (λ v. IsCheckedPlan v.plan) is kept.checked
 
 pub reachable_there :
-    {plan : Plan} {tasks : List Task} {table : PhaseTable} {w : WorldValue} → world_from plan tasks ≡ w → IsKept plan tasks table → IsReachable w.plan (places_of w)
+    {plan : Plan} {tasks : List Task} {table : PhaseTable} {w : WorldValue} → world_from plan tasks ≡ w → KeepsState plan tasks table → IsReachable w.plan (places_of w)
 reachable_there is kept = subst (λ v. IsReachable v.plan (places_of v)) is kept.reachable

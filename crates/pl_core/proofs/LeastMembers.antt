@@ -6,7 +6,7 @@ use Rattle.std.proofs.lemmas.Bool.{cases_eq}
 use Rattle.std.proofs.lemmas.List.{length-set}
 use Rattle.armus_base.specs.States.{Phases}
 use Rattle.pl_core.specs.declared.least.Least.{Least}
-use Rattle.pl_core.specs.LeastPhases.{AreLeast, IsAtMost, IsLeastBelow}
+use Rattle.pl_core.specs.inside.LeastPhases.{AreLeast, IsAtMost, IsLeastBelow}
 use Rattle.pl_core.proofs.Cells.{slice_get-set_other, slice_get-set_same}
 
 -- two phases of one task on one phaser are one

@@ -15,11 +15,12 @@ use Rattle.armus_base.proofs.Steps.{updated_same, updated_other}
 use Rattle.pl_core.specs.declared.place.Place.{Place as PlaceValue}
 use Rattle.pl_core.specs.declared.task.Task.{Task}
 use Rattle.pl_core.specs.declared.phase_table.PhaseTable.{PhaseTable}
-use Rattle.pl_core.specs.Moves.{MakesStep, further}
-use Rattle.pl_core.specs.PhaseTables.{phases_in}
-use Rattle.pl_core.specs.Tasks.{IsKeptOf, event_in}
-use Rattle.pl_core.specs.Tables.{IsKept, standings, world_from}
-use Rattle.pl_core.specs.Worlds.{WorldValue, dropped_at, next_action, place_from, places_at, places_of, state_of}
+use Rattle.pl_core.specs.Moves.{IsWorldStep, further}
+use Rattle.pl_core.specs.inside.PhaseTables.{phases_in}
+use Rattle.pl_core.specs.inside.KeptTasks.{IsKeptOf, event_in}
+use Rattle.pl_core.specs.inside.Kept.{KeepsState}
+use Rattle.pl_core.specs.Tables.{kept_places, world_from}
+use Rattle.pl_core.specs.Worlds.{WorldValue, dropped_at, action_by_code, place_from, places_at, places_of, state_of}
 use Rattle.pl_core.proofs.Cells.{slice_get-set_same, slice_get-set_other}
 use Rattle.pl_core.proofs.Standing.{consistent, done_is, place_is, refused_false, standing_there, undropped_of}
 
@@ -64,7 +65,7 @@ kept_of_other plan s t u x task n f k =
       events = k.events;
     }
 
-module _ (plan : Plan) (tasks : List Task) (table : PhaseTable) (kept : IsKept plan tasks table) (t : ℕ) (task : Task) (read : slice_get tasks t ≡ Some task) (x : Action) (next : next_action (world_from plan tasks) t ≡ Some x) (legal : IsLegal plan (state_of (world_from plan tasks)) t x) where
+module _ (plan : Plan) (tasks : List Task) (table : PhaseTable) (kept : KeepsState plan tasks table) (t : ℕ) (task : Task) (read : slice_get tasks t ≡ Some task) (x : Action) (next : action_by_code (world_from plan tasks) t ≡ Some x) (legal : IsLegal plan (state_of (world_from plan tasks)) t x) where
   abbrev old : WorldValue
   old = world_from plan tasks
 
@@ -87,23 +88,23 @@ module _ (plan : Plan) (tasks : List Task) (table : PhaseTable) (kept : IsKept p
   flag = refused_false plan tasks table kept t task read undropped
 
   abbrev pub new : WorldValue
-  new = record { plan = plan; places = set (standings tasks) t (further task.place) }
+  new = record { plan = plan; places = set (kept_places tasks) t (further task.place) }
 
-  in_list : t < length (standings tasks)
-  in_list = slice_get_within (standings tasks) t task.place (standing_there tasks t task read)
+  in_list : t < length (kept_places tasks)
+  in_list = slice_get_within (kept_places tasks) t task.place (standing_there tasks t task read)
 
   pub moved_is : places_of new ≡ moved (places_of old) t x
   moved_is =
       fun_ext (λ u. elim (cases_eq u t) [
         | inl e ↦ subst (λ v. places_of new v ≡ moved (places_of old) t x v) (sym e) own
         | inr n ↦
-            places_set_other plan (standings tasks) t u (further task.place) n
+            places_set_other plan (kept_places tasks) t u (further task.place) n
             ∙ sym (updated_other (places_of old) t u (next_place (places_of old t).done (places_of old t).dropped x) n)
       ])
     where
       own : places_of new t ≡ moved (places_of old) t x t
       own =
-          places_set_same plan (standings tasks) t (further task.place) in_list
+          places_set_same plan (kept_places tasks) t (further task.place) in_list
           ∙ ap (λ b. record { done = task.place.events + 1; dropped = dropped_at plan t (task.place.events + 1) b }) flag
           ∙ ap (λ k. record { done = k; dropped = None }) (add-one task.place.events ∙ ap suc (sym (done_is plan tasks table kept t task read)))
           ∙ sym (regular (places_of old t).done x no_refusing)
@@ -124,7 +125,7 @@ module _ (plan : Plan) (tasks : List Task) (table : PhaseTable) (kept : IsKept p
   unfolding state_of
   state_is = ap (state_at plan) moved_is ∙ sym reached.1
 
-  pub makes_step : MakesStep old new t
+  pub makes_step : IsWorldStep old new t
   makes_step =
       record {
         action = x;
@@ -138,14 +139,14 @@ module _ (plan : Plan) (tasks : List Task) (table : PhaseTable) (kept : IsKept p
         state = state_is;
       }
 
-  module _ (tasks' : List Task) (table' : PhaseTable) (same_places : standings tasks' ≡ set (standings tasks) t (further task.place)) (rows : table'.tasks ≡ table.tasks) (columns : table'.phasers ≡ table.phasers) (phases : phases_in table' ≡ (after (state_of old) t x).phases) (one_each : length tasks' ≡ length tasks) (each : (u : ℕ) (k : Task) → slice_get tasks' u ≡ Some k → IsKeptOf plan (after (state_of old) t x) u k) where
+  module _ (tasks' : List Task) (table' : PhaseTable) (same_places : kept_places tasks' ≡ set (kept_places tasks) t (further task.place)) (rows : table'.tasks ≡ table.tasks) (columns : table'.phasers ≡ table.phasers) (phases : phases_in table' ≡ (after (state_of old) t x).phases) (one_each : length tasks' ≡ length tasks) (each : (u : ℕ) (k : Task) → slice_get tasks' u ≡ Some k → IsKeptOf plan (after (state_of old) t x) u k) where
     seen : world_from plan tasks' ≡ new
     seen = ap (λ ps. record { plan = plan; places = ps }) same_places
 
     state_seen : state_of (world_from plan tasks') ≡ after (state_of old) t x
     state_seen = ap state_of seen ∙ state_is
 
-    pub kept_after : IsKept plan tasks' table'
+    pub kept_after : KeepsState plan tasks' table'
     kept_after =
         record {
           checked = kept.checked;
@@ -157,13 +158,13 @@ module _ (plan : Plan) (tasks : List Task) (table : PhaseTable) (kept : IsKept p
           each = λ u k e. subst (λ s. IsKeptOf plan s u k) (sym state_seen) (each u k e);
         }
 
-    pub makes_after : MakesStep old (world_from plan tasks') t
-    makes_after = subst (λ v. MakesStep old v t) (sym seen) makes_step
+    pub makes_after : IsWorldStep old (world_from plan tasks') t
+    makes_after = subst (λ v. IsWorldStep old v t) (sym seen) makes_step
 
   -- where only what is kept of the task itself changes
   module _ (task' : Task) (place : task'.place ≡ further task.place) (own : IsKeptOf plan (after (state_of old) t x) t task') (no_fork : (u : ℕ) → x ≢ Forks u) where
-    pub same_places_set : standings (set tasks t task') ≡ set (standings tasks) t (further task.place)
-    same_places_set = map-set (λ (k : Task). k.place) tasks t task' ∙ ap (set (standings tasks) t) place
+    pub same_places_set : kept_places (set tasks t task') ≡ set (kept_places tasks) t (further task.place)
+    same_places_set = map-set (λ (k : Task). k.place) tasks t task' ∙ ap (set (kept_places tasks) t) place
 
     pub each_set : (u : ℕ) (k : Task) → slice_get (set tasks t task') u ≡ Some k → IsKeptOf plan (after (state_of old) t x) u k
     each_set u k e =
@@ -177,7 +178,7 @@ module _ (plan : Plan) (tasks : List Task) (table : PhaseTable) (kept : IsKept p
 
     pub stepped_set :
         (table' : PhaseTable) → table'.tasks ≡ table.tasks → table'.phasers ≡ table.phasers → phases_in table' ≡ (after (state_of old) t x).phases →
-        IsKept plan (set tasks t task') table' × MakesStep old (world_from plan (set tasks t task')) t
+        KeepsState plan (set tasks t task') table' × IsWorldStep old (world_from plan (set tasks t task')) t
     stepped_set table' rows columns phases = (
       kept_after (set tasks t task') table' same_places_set rows columns phases (length-set tasks t task') each_set,
       makes_after (set tasks t task') table' same_places_set rows columns phases (length-set tasks t task') each_set,

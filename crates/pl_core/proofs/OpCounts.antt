@@ -4,7 +4,7 @@ use Rattle.std.specs.Prelude.{slice_get, option_map}
 use Rattle.armus_base.specs.declared.op.Op.{Op}
 use Rattle.armus_base.specs.declared.op.Op.TheVariants.{Make, Reg, Fork, Adv, Drop, Await}
 use Rattle.armus_base.specs.Plans.{Blocks, actions_of}
-use Rattle.pl_core.specs.Ops.{action_of}
+use Rattle.pl_core.specs.inside.Ops.{action_of}
 use Rattle.pl_core.specs.Tasks.{actions_before}
 
 -- the action after those of the first k ops is the one with which the next op begins

@@ -12,14 +12,15 @@ use Rattle.armus_base.specs.Runs.{IsReachable, first_place}
 use Rattle.armus_base.specs.Places.{state_at}
 use Rattle.armus_base.specs.CheckedPlans.{IsCheckedPlan}
 use Rattle.armus_base.proofs.Stepping.{opening_fixed}
-use Rattle.pl_core.specs.declared.place.Place.{Place as Standing}
+use Rattle.pl_core.specs.declared.place.Place.{Place as KeptPlace}
 use Rattle.pl_core.specs.declared.task.Task.{Task}
 use Rattle.pl_core.specs.declared.phase_table.PhaseTable.{PhaseTable}
-use Rattle.pl_core.specs.Changes.{opening_tasks, unbegun}
-use Rattle.pl_core.specs.PhaseTables.{phases_in}
-use Rattle.pl_core.specs.Tasks.{IsKeptOf}
-use Rattle.pl_core.specs.Tables.{IsKept, standings, world_from}
-use Rattle.pl_core.specs.Worlds.{IsOpening, WorldValue, place_from, places_at, places_of, state_of}
+use Rattle.pl_core.specs.inside.Changes.{opening_tasks, unbegun}
+use Rattle.pl_core.specs.inside.PhaseTables.{phases_in}
+use Rattle.pl_core.specs.inside.KeptTasks.{IsKeptOf}
+use Rattle.pl_core.specs.inside.Kept.{KeepsState}
+use Rattle.pl_core.specs.Tables.{kept_places, world_from}
+use Rattle.pl_core.specs.Worlds.{IsOpeningWorld, WorldValue, place_from, places_at, places_of, state_of}
 use Rattle.pl_core.proofs.Cells.{slice_get-set_same, slice_get-set_other}
 
 -- an item of a list of copies
@@ -28,7 +29,7 @@ copy_is zero k x y e = absurd (cc)
 copy_is (suc n) zero x y e = cc
 copy_is (suc n) (suc k) x y e = copy_is n k x y e
 
-copies_of : (n : ℕ) (task : Task) → standings (replicate n task) ≡ replicate n task.place
+copies_of : (n : ℕ) (task : Task) → kept_places (replicate n task) ≡ replicate n task.place
 copies_of zero task = refl
 copies_of (suc n) task = ap (λ ps. task.place ∷ ps) (copies_of n task)
 
@@ -36,7 +37,7 @@ set_first : {A : Type 0} (n : ℕ) (x : A) → set (replicate n x) 0 x ≡ repli
 set_first zero x = refl
 set_first (suc n) x = refl
 
-pub opening_standings : (n : ℕ) → standings (opening_tasks n) ≡ replicate n (record { events = 0; refused = false })
+pub opening_standings : (n : ℕ) → kept_places (opening_tasks n) ≡ replicate n (record { events = 0; refused = false })
 opening_standings n =
     map-set (λ (k : Task). k.place) (replicate n unbegun) 0 (record unbegun { forked = true })
     ∙ ap (λ ps. set ps 0 unbegun.place) (copies_of n unbegun)
@@ -46,7 +47,7 @@ opening_standings n =
 first_from : (plan : Plan) (n t : ℕ) → place_from plan t (slice_get (replicate n (record { events = 0; refused = false })) t) ≡ first_place
 first_from plan n t = go (slice_get (replicate n (record { events = 0; refused = false })) t) refl
   where
-    go : (o : Option Standing) → slice_get (replicate n (record { events = 0; refused = false })) t ≡ o → place_from plan t o ≡ first_place
+    go : (o : Option KeptPlace) → slice_get (replicate n (record { events = 0; refused = false })) t ≡ o → place_from plan t o ≡ first_place
     go None e = refl
     go (Some place) e = ap (λ p. place_from plan t (Some p)) (copy_is n t (record { events = 0; refused = false }) place e)
 
@@ -62,7 +63,7 @@ module _ (plan : Plan) (checked : IsCheckedPlan plan) where
   unfolding state_of
   first_state = ap (state_at plan) (first_places plan (length plan.parents)) ∙ sym (opening_fixed plan checked)
 
-  pub opening_is : IsOpening plan first_world
+  pub opening_is : IsOpeningWorld plan first_world
   opening_is = record { plan_is = refl; places = refl; state = first_state }
 
   opening_seen : world_from plan (opening_tasks (length plan.parents)) ≡ first_world
@@ -101,7 +102,7 @@ module _ (plan : Plan) (checked : IsCheckedPlan plan) where
     reach : IsReachable plan (λ _. first_place)
     reach = record { steps = []; run = tt; there = λ t. refl }
 
-    pub kept_opening : IsKept plan tasks table
+    pub kept_opening : KeepsState plan tasks table
     kept_opening =
         record {
           checked = checked;
@@ -114,5 +115,5 @@ module _ (plan : Plan) (checked : IsCheckedPlan plan) where
               (kept_first (length plan.parents) t task (ap (λ xs. slice_get xs t) (sym tasks_are) ∙ e));
         }
 
-    pub opening_made : IsOpening plan (world_from plan tasks)
-    opening_made = subst (IsOpening plan) (sym seen) opening_is
+    pub opening_made : IsOpeningWorld plan (world_from plan tasks)
+    opening_made = subst (IsOpeningWorld plan) (sym seen) opening_is

@@ -14,13 +14,14 @@ use Rattle.armus_base.proofs.Fixed.{kept_above, kept_below, phases_forked}
 use Rattle.armus_base.proofs.Steps.{updated_same, updated_other}
 use Rattle.pl_core.specs.declared.task.Task.{Task}
 use Rattle.pl_core.specs.declared.phase_table.PhaseTable.{PhaseTable}
-use Rattle.pl_core.specs.Changes.{after_refusal}
+use Rattle.pl_core.specs.inside.Changes.{after_refusal}
 use Rattle.pl_core.specs.Moves.{LeadsOn, MakesRefusal, drops_from, refused_there}
-use Rattle.pl_core.specs.PhaseTables.{phases_in}
+use Rattle.pl_core.specs.inside.PhaseTables.{phases_in}
 use Rattle.pl_core.specs.Stands.{IsAtAwaitOf}
-use Rattle.pl_core.specs.Tasks.{IsKeptOf, event_in}
-use Rattle.pl_core.specs.Tables.{IsKept, standings, world_from}
-use Rattle.pl_core.specs.Worlds.{WorldValue, memberships, next_action, places_of, state_of}
+use Rattle.pl_core.specs.inside.KeptTasks.{IsKeptOf, event_in}
+use Rattle.pl_core.specs.inside.Kept.{KeepsState}
+use Rattle.pl_core.specs.Tables.{kept_places, world_from}
+use Rattle.pl_core.specs.Worlds.{WorldValue, memberships, action_by_code, places_of, state_of}
 use Rattle.pl_core.proofs.Bounds.{phaser_of_member}
 use Rattle.pl_core.proofs.Cells.{slice_get-set_same, slice_get-set_other}
 use Rattle.pl_core.proofs.OneStep.{places_set_other, places_set_same}
@@ -49,12 +50,12 @@ kept_beside plan s s' u task forked published refused k =
     by_flag true = sym refused
     by_flag false = sym published
 
-module _ (plan : Plan) (tasks : List Task) (table : PhaseTable) (kept : IsKept plan tasks table) (t : ℕ) (task : Task) (read : slice_get tasks t ≡ Some task) (e : Event) (before : IsAtAwaitOf (world_from plan tasks) t e) where
+module _ (plan : Plan) (tasks : List Task) (table : PhaseTable) (kept : KeepsState plan tasks table) (t : ℕ) (task : Task) (read : slice_get tasks t ≡ Some task) (e : Event) (before : IsAtAwaitOf (world_from plan tasks) t e) where
   abbrev old : WorldValue
   old = world_from plan tasks
 
-  blocks : (p : ℕ) × next_action old t ≡ Some (Blocks p) × event_on p ((state_of old).phases t p) ≡ Some e
-  blocks = awaits_block (next_action old t) ((state_of old).phases t) e before.1
+  blocks : (p : ℕ) × action_by_code old t ≡ Some (Blocks p) × event_on p ((state_of old).phases t p) ≡ Some e
+  blocks = awaits_block (action_by_code old t) ((state_of old).phases t) e before.1
 
   active_there : IsActive (state_at plan (places_of old)) t
   unfolding state_of
@@ -74,7 +75,7 @@ module _ (plan : Plan) (tasks : List Task) (table : PhaseTable) (kept : IsKept p
   last = dropping plan kept.checked (places_of old) t blocks.0 active_there undropped blocks.1 legal_there (length plan.makers)
 
   abbrev pub new : WorldValue
-  new = record { plan = plan; places = set (standings tasks) t (refused_there task.place) }
+  new = record { plan = plan; places = set (kept_places tasks) t (refused_there task.place) }
 
   seen : places_of new ≡ last
   unfolding last
@@ -82,11 +83,11 @@ module _ (plan : Plan) (tasks : List Task) (table : PhaseTable) (kept : IsKept p
       fun_ext (λ u. elim (cases_eq u t) [
         | inl same ↦
             subst (λ v. places_of new v ≡ last v) (sym same)
-            (places_set_same plan (standings tasks) t (refused_there task.place) (slice_get_within (standings tasks) t task.place (standing_there tasks t task read))
+            (places_set_same plan (kept_places tasks) t (refused_there task.place) (slice_get_within (kept_places tasks) t task.place (standing_there tasks t task read))
             ∙ ap (λ k. record { done = k; dropped = Some (memberships plan t k) }) (sym (done_is plan tasks table kept t task read))
             ∙ sym (updated_same (places_of old) t t (record { done = (places_of old t).done; dropped = Some (members_below own (length plan.makers)) }) refl))
         | inr other ↦
-            places_set_other plan (standings tasks) t u (refused_there task.place) other
+            places_set_other plan (kept_places tasks) t u (refused_there task.place) other
             ∙ sym (updated_other (places_of old) t u (record { done = (places_of old t).done; dropped = Some (members_below own (length plan.makers)) }) other)
       ])
 
@@ -169,7 +170,7 @@ module _ (plan : Plan) (tasks : List Task) (table : PhaseTable) (kept : IsKept p
 
   pub refusal_kept :
       (table' : PhaseTable) → table'.tasks ≡ table.tasks → table'.phasers ≡ table.phasers → phases_in table' ≡ updated (phases_in table) t (λ _. None) →
-      IsKept plan (set tasks t (after_refusal task e)) table'
+      KeepsState plan (set tasks t (after_refusal task e)) table'
   refusal_kept table' rows columns cleared =
       record {
         checked = kept.checked;

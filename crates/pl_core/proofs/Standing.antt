@@ -16,10 +16,12 @@ use Rattle.armus_base.proofs.Published.{published_after_is, published_undropped}
 use Rattle.pl_core.specs.declared.place.Place.{Place as PlaceValue}
 use Rattle.pl_core.specs.declared.task.Task.{Task}
 use Rattle.pl_core.specs.declared.phase_table.PhaseTable.{PhaseTable}
-use Rattle.pl_core.specs.Ops.{action_of}
-use Rattle.pl_core.specs.Tasks.{IsKeptOf, actions_before, begun, event_in}
-use Rattle.pl_core.specs.Tables.{IsKept, standings, world_from}
-use Rattle.pl_core.specs.Worlds.{dropped_at, next_action, place_from, places_at, places_of, state_of}
+use Rattle.pl_core.specs.inside.Ops.{action_of}
+use Rattle.pl_core.specs.inside.KeptTasks.{IsKeptOf, begun, event_in}
+use Rattle.pl_core.specs.Tasks.{actions_before}
+use Rattle.pl_core.specs.inside.Kept.{KeepsState}
+use Rattle.pl_core.specs.Tables.{kept_places, world_from}
+use Rattle.pl_core.specs.Worlds.{dropped_at, action_by_code, place_from, places_at, places_of, state_of}
 use Rattle.pl_core.proofs.OpCounts.{action_before, blocks_is}
 
 -- the place of a task of the list
@@ -27,7 +29,7 @@ pub place_is : (plan : Plan) (places : List PlaceValue) (t : ℕ) (place : Place
 unfolding places_at
 place_is plan places t place e = ap (place_from plan t) e
 
-pub standing_there : (tasks : List Task) (t : ℕ) (task : Task) → slice_get tasks t ≡ Some task → slice_get (standings tasks) t ≡ Some task.place
+pub standing_there : (tasks : List Task) (t : ℕ) (task : Task) → slice_get tasks t ≡ Some task → slice_get (kept_places tasks) t ≡ Some task.place
 standing_there tasks t task e = slice_get-map (λ x. x.place) tasks t ∙ ap (option_map (λ x. x.place)) e
 
 -- an action of a code, by the op
@@ -53,7 +55,7 @@ begun_none task e = ap (λ o. if task.place.refused then 0 else (if is_some o th
 pub begun_some : (task : Task) (e : Event) → task.event ≡ Some e → task.place.refused ≡ false → begun task ≡ 1
 begun_some task e is r = ap (λ o. if task.place.refused then 0 else (if is_some o then 1 else 0)) is ∙ ap (λ b. if b then 0 else 1) r
 
-module _ (plan : Plan) (tasks : List Task) (table : PhaseTable) (kept : IsKept plan tasks table) where
+module _ (plan : Plan) (tasks : List Task) (table : PhaseTable) (kept : KeepsState plan tasks table) where
   pub consistent : IsConsistent plan (places_of (world_from plan tasks))
   consistent = (reachable_is_fixed plan (places_of (world_from plan tasks)) kept.checked kept.reachable).1
 
@@ -62,7 +64,7 @@ module _ (plan : Plan) (tasks : List Task) (table : PhaseTable) (kept : IsKept p
     of_task = kept.each t task read
 
     pub place_of_task : places_of (world_from plan tasks) t ≡ place_from plan t (Some task.place)
-    place_of_task = place_is plan (standings tasks) t task.place (standing_there tasks t task read)
+    place_of_task = place_is plan (kept_places tasks) t task.place (standing_there tasks t task read)
 
     pub done_is : (places_of (world_from plan tasks) t).done ≡ task.place.events
     done_is = ap (λ p. p.done) place_of_task
@@ -83,7 +85,7 @@ module _ (plan : Plan) (tasks : List Task) (table : PhaseTable) (kept : IsKept p
     undropped_waiting e p = published_undropped plan (places_of (world_from plan tasks)) consistent t e p
 
     -- a task with no event stands before its op
-    pub next_of_idle : task.event ≡ None → next_action (world_from plan tasks) t ≡ option_map action_of (slice_get (code_of plan t) task.op)
+    pub next_of_idle : task.event ≡ None → action_by_code (world_from plan tasks) t ≡ option_map action_of (slice_get (code_of plan t) task.op)
     next_of_idle none =
         ap (action_at plan t) done_is
         ∙ action_of_op plan t task.op task.place.events of_task.within

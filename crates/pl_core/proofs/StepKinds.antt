@@ -17,12 +17,14 @@ use Rattle.armus_base.proofs.NextIsLegal.{next_legal}
 use Rattle.armus_base.proofs.Steps.{updated_same}
 use Rattle.pl_core.specs.declared.task.Task.{Task}
 use Rattle.pl_core.specs.declared.phase_table.PhaseTable.{PhaseTable}
-use Rattle.pl_core.specs.Changes.{after_block, after_op}
-use Rattle.pl_core.specs.Moves.{MakesStep}
-use Rattle.pl_core.specs.Tasks.{IsKeptOf, actions_before, event_in}
-use Rattle.pl_core.specs.Tables.{IsKept, world_from}
+use Rattle.pl_core.specs.inside.Changes.{after_block, after_op}
+use Rattle.pl_core.specs.Moves.{IsWorldStep}
+use Rattle.pl_core.specs.inside.KeptTasks.{IsKeptOf, event_in}
+use Rattle.pl_core.specs.Tasks.{actions_before}
+use Rattle.pl_core.specs.inside.Kept.{KeepsState}
+use Rattle.pl_core.specs.Tables.{world_from}
 use Rattle.pl_core.specs.Stands.{IsAtAwaitOf}
-use Rattle.pl_core.specs.Worlds.{WorldValue, next_action, places_of, state_of}
+use Rattle.pl_core.specs.Worlds.{WorldValue, action_by_code, places_of, state_of}
 use Rattle.pl_core.proofs.OpCounts.{actions_before-suc, await_is_two}
 use Rattle.pl_core.proofs.Standing.{await_of_waiting, begun_none, begun_some, consistent, done_is, idle, of_task, undropped_waiting}
 use Rattle.pl_core.proofs.OneStep.{flag, stepped_set}
@@ -50,11 +52,11 @@ pub awaits_block :
 awaits_block (Some (Blocks p)) m e h = (p, refl, h)
 awaits_block o m e h = absurd (cc)
 
-module _ (plan : Plan) (tasks : List Task) (table : PhaseTable) (kept : IsKept plan tasks table) (t : ℕ) (task : Task) (read : slice_get tasks t ≡ Some task) where
+module _ (plan : Plan) (tasks : List Task) (table : PhaseTable) (kept : KeepsState plan tasks table) (t : ℕ) (task : Task) (read : slice_get tasks t ≡ Some task) where
   abbrev old : WorldValue
   old = world_from plan tasks
 
-  pub events_fit : (x : Action) → next_action old t ≡ Some x → task.place.events + 1 < 4294967296
+  pub events_fit : (x : Action) → action_by_code old t ≡ Some x → task.place.events + 1 < 4294967296
   events_fit x next =
       let l = action_within plan kept.checked t (places_of old t).done x next in
       let d = done_is plan tasks table kept t task read in
@@ -64,14 +66,14 @@ module _ (plan : Plan) (tasks : List Task) (table : PhaseTable) (kept : IsKept p
   pub op_fits : task.op + 1 < 4294967296
   op_fits = (let w = (of_task plan tasks table kept t task read).within in let few = few_own_ops plan t kept.checked in omega arith)
 
-  pub legal_next : (x : Action) → IsActive (state_of old) t → next_action old t ≡ Some x → IsLegal plan (state_of old) t x
+  pub legal_next : (x : Action) → IsActive (state_of old) t → action_by_code old t ≡ Some x → IsLegal plan (state_of old) t x
   unfolding state_of
   legal_next x active next = next_legal plan kept.checked (places_of old) (consistent plan tasks table kept) t x active next
 
   -- a block
   module _ (e : Event) (before : IsAtAwaitOf old t e) where
-    blocks : (p : ℕ) × next_action old t ≡ Some (Blocks p) × event_on p ((state_of old).phases t p) ≡ Some e
-    blocks = awaits_block (next_action old t) ((state_of old).phases t) e before.1
+    blocks : (p : ℕ) × action_by_code old t ≡ Some (Blocks p) × event_on p ((state_of old).phases t p) ≡ Some e
+    blocks = awaits_block (action_by_code old t) ((state_of old).phases t) e before.1
 
     pub events_fit_block : task.place.events + 1 < 4294967296
     events_fit_block = events_fit (Blocks blocks.0) blocks.1
@@ -95,7 +97,7 @@ module _ (plan : Plan) (tasks : List Task) (table : PhaseTable) (kept : IsKept p
           events = (let b = begun_none task none in let b' = begun_some (after_block task e) e refl not_refused in let n = k.events in omega arith);
         }
 
-    pub block_stepped : IsKept plan (set tasks t (after_block task e)) table × MakesStep old (world_from plan (set tasks t (after_block task e))) t
+    pub block_stepped : KeepsState plan (set tasks t (after_block task e)) table × IsWorldStep old (world_from plan (set tasks t (after_block task e))) t
     block_stepped =
         stepped_set plan tasks table kept t task read (Blocks blocks.0) blocks.1 block_legal (after_block task e) refl own_block (λ u e. absurd (cc))
         table refl refl kept.phases
@@ -105,7 +107,7 @@ module _ (plan : Plan) (tasks : List Task) (table : PhaseTable) (kept : IsKept p
     await_op : (q : _) × slice_get (code_of plan t) task.op ≡ Some (Await q) × q.0 ≡ e.p.0 × task.place.events ≡ actions_before (code_of plan t) task.op + 1
     await_op = await_of_waiting plan tasks table kept t task read e waits
 
-    pub passes_after : next_action old t ≡ Some (Passes e.p.0)
+    pub passes_after : action_by_code old t ≡ Some (Passes e.p.0)
     unfolding state_of
     passes_after =
         let is = published_after_is plan t (places_of old t).done e waits in
@@ -146,7 +148,7 @@ module _ (plan : Plan) (tasks : List Task) (table : PhaseTable) (kept : IsKept p
     pub events_fit_pass : task.place.events + 1 < 4294967296
     events_fit_pass = events_fit (Passes e.p.0) passes_after
 
-    pub pass_stepped : IsKept plan (set tasks t (after_op task)) table × MakesStep old (world_from plan (set tasks t (after_op task))) t
+    pub pass_stepped : KeepsState plan (set tasks t (after_op task)) table × IsWorldStep old (world_from plan (set tasks t (after_op task))) t
     pass_stepped =
         stepped_set plan tasks table kept t task read (Passes e.p.0) passes_after pass_legal (after_op task) refl own_pass (λ u e. absurd (cc))
         table refl refl kept.phases

@@ -7,7 +7,7 @@ use Rattle.armus_base.specs.declared.op.Op.{Op}
 use Rattle.armus_base.specs.declared.op.Op.TheVariants.{Make, Reg, Fork, Adv, Drop, Await}
 use Rattle.armus_base.specs.Plans.{actions_of}
 use Rattle.pl_core.specs.declared.stop.Stop.{Stop}
-use Rattle.pl_core.specs.Stops.{IsStopOf}
+use Rattle.pl_core.specs.inside.Stops.{IsStopOf}
 use Rattle.pl_core.specs.Tasks.{actions_before}
 use Rattle.pl_core.proofs.OpCounts.{actions_before-suc, actions_in_is, at_least_one}
 

@@ -11,25 +11,26 @@ use Rattle.armus_base.specs.Runs.{IsReachable, Place, first_place}
 use Rattle.armus_base.specs.Places.{done_by, forked_at, state_at}
 use Rattle.armus_base.specs.CheckedPlans.{IsCheckedPlan}
 use Rattle.armus_base.proofs.Stepping.{opening_fixed}
-use Rattle.pl_core.specs.declared.place.Place.{Place as Standing}
+use Rattle.pl_core.specs.declared.place.Place.{Place as KeptPlace}
 use Rattle.pl_core.specs.declared.task.Task.{Task}
 use Rattle.pl_core.specs.declared.phase_table.PhaseTable.{PhaseTable}
-use Rattle.pl_core.specs.Changes.{opening_tasks, unbegun}
-use Rattle.pl_core.specs.GivenPlaces.{AreReachable}
-use Rattle.pl_core.specs.PhaseTables.{phases_in}
-use Rattle.pl_core.specs.Tables.{IsKept, standings, world_from}
-use Rattle.pl_core.specs.Tasks.{IsKeptOf}
-use Rattle.pl_core.specs.Walks.{IsWalk, walked}
+use Rattle.pl_core.specs.inside.Changes.{opening_tasks, unbegun}
+use Rattle.pl_core.specs.inside.Reachable.{AreReachable}
+use Rattle.pl_core.specs.inside.PhaseTables.{phases_in}
+use Rattle.pl_core.specs.inside.Kept.{KeepsState}
+use Rattle.pl_core.specs.Tables.{kept_places, world_from}
+use Rattle.pl_core.specs.inside.KeptTasks.{IsKeptOf}
+use Rattle.pl_core.specs.inside.Walks.{HasWalked, walked}
 use Rattle.pl_core.specs.Worlds.{place_from, places_at, places_of, state_of}
 use Rattle.pl_core.proofs.Opening.{kept_first}
 use Rattle.pl_core.proofs.Walking.{walked_below, walked_from}
 
 -- before any task
-module _ (plan : Plan) (checked : IsCheckedPlan plan) (places : List Standing) (tasks : List Task) (table : PhaseTable) (tasks_are : tasks ≡ opening_tasks (length plan.parents)) (rows : table.tasks ≡ length plan.parents) (columns : table.phasers ≡ length plan.makers) (empty : phases_in table ≡ (λ _ _. None)) where
+module _ (plan : Plan) (checked : IsCheckedPlan plan) (places : List KeptPlace) (tasks : List Task) (table : PhaseTable) (tasks_are : tasks ≡ opening_tasks (length plan.parents)) (rows : table.tasks ≡ length plan.parents) (columns : table.phasers ≡ length plan.makers) (empty : phases_in table ≡ (λ _ _. None)) where
   state_first : opening ≡ state_at plan (walked (places_at plan places) 0)
   state_first = opening_fixed plan checked ∙ ap (state_at plan) (fun_ext (λ u. sym (walked_from (places_at plan places) 0 u (omega arith))))
 
-  pub walk_start : IsWalk plan places (walked (places_at plan places) 0) 0 tasks table
+  pub walk_start : HasWalked plan places (walked (places_at plan places) 0) 0 tasks table
   walk_start =
       record {
         checked = checked;
@@ -43,25 +44,25 @@ module _ (plan : Plan) (checked : IsCheckedPlan plan) (places : List Standing) (
       }
 
 standings_are :
-    (tasks : List Task) (places : List Standing) → length tasks ≡ length places → ((u : ℕ) (task : Task) → slice_get tasks u ≡ Some task → slice_get places u ≡ Some task.place) →
-    standings tasks ≡ places
+    (tasks : List Task) (places : List KeptPlace) → length tasks ≡ length places → ((u : ℕ) (task : Task) → slice_get tasks u ≡ Some task → slice_get places u ≡ Some task.place) →
+    kept_places tasks ≡ places
 standings_are [] [] l h = refl
 standings_are [] (y ∷ ys) l h = absurd (omega arith)
 standings_are (x ∷ xs) [] l h = absurd (omega arith)
 standings_are (x ∷ xs) (y ∷ ys) l h =
     let first : Some y ≡ Some x.place = h 0 x refl in
     let same : x.place ≡ y = (cc) in
-    ap (λ p. p ∷ standings xs) same ∙ ap (λ ps. y ∷ ps) (standings_are xs ys (omega arith) (λ u task e. h (suc u) task e))
+    ap (λ p. p ∷ kept_places xs) same ∙ ap (λ ps. y ∷ ps) (standings_are xs ys (omega arith) (λ u task e. h (suc u) task e))
 
 -- behind all tasks
-module _ (plan : Plan) (places : List Standing) (given : AreReachable plan places) (tasks : List Task) (table : PhaseTable) (walk : IsWalk plan places (walked (places_at plan places) (length plan.parents)) (length plan.parents) tasks table) where
+module _ (plan : Plan) (places : List KeptPlace) (given : AreReachable plan places) (tasks : List Task) (table : PhaseTable) (walk : HasWalked plan places (walked (places_at plan places) (length plan.parents)) (length plan.parents) tasks table) where
   abbrev a : ℕ → Place
   a = places_at plan places
 
   here : (u : ℕ) (task : Task) → slice_get tasks u ≡ Some task → u < length plan.parents
   here u task e = (let l = slice_get_within tasks u task e in let one = walk.one_each in omega arith)
 
-  pub same_places : standings tasks ≡ places
+  pub same_places : kept_places tasks ≡ places
   same_places =
       standings_are tasks places (walk.one_each ∙ sym given.one_each) (λ u task e. (walk.settled u task (here u task e) e).place)
 
@@ -83,7 +84,7 @@ module _ (plan : Plan) (places : List Standing) (given : AreReachable plan place
   unfolding state_of
   state_seen = ap (state_at plan) seen
 
-  pub walk_done : IsKept plan tasks table
+  pub walk_done : KeepsState plan tasks table
   walk_done =
       record {
         checked = walk.checked;

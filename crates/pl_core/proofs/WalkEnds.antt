@@ -16,16 +16,17 @@ use Rattle.armus_base.specs.CheckedPlans.{IsCheckedPlan}
 use Rattle.armus_base.proofs.Codes.{awaited_some, passes_next}
 use Rattle.armus_base.proofs.Fixed.{phases_forked}
 use Rattle.armus_base.proofs.Steps.{updated_other, updated_same}
-use Rattle.pl_core.specs.declared.place.Place.{Place as Standing}
+use Rattle.pl_core.specs.declared.place.Place.{Place as KeptPlace}
 use Rattle.pl_core.specs.declared.stop.Stop.{Stop}
 use Rattle.pl_core.specs.declared.task.Task.{Task}
 use Rattle.pl_core.specs.declared.phase_table.PhaseTable.{PhaseTable}
-use Rattle.pl_core.specs.GivenPlaces.{AreReachable}
-use Rattle.pl_core.specs.Ops.{action_of}
-use Rattle.pl_core.specs.PhaseTables.{phases_in}
-use Rattle.pl_core.specs.Stops.{IsStopOf}
-use Rattle.pl_core.specs.Tasks.{actions_before, begun, event_in}
-use Rattle.pl_core.specs.Walks.{AwaitsBelow, IsSettled, IsWalk, event_of_op, walked, walking}
+use Rattle.pl_core.specs.inside.Reachable.{AreReachable}
+use Rattle.pl_core.specs.inside.Ops.{action_of}
+use Rattle.pl_core.specs.inside.PhaseTables.{phases_in}
+use Rattle.pl_core.specs.inside.Stops.{IsStopOf}
+use Rattle.pl_core.specs.Tasks.{actions_before}
+use Rattle.pl_core.specs.inside.KeptTasks.{begun, event_in}
+use Rattle.pl_core.specs.inside.Walks.{AwaitsBelow, IsPlaced, HasWalked, event_of_op, walked, walking}
 use Rattle.pl_core.specs.Worlds.{dropped_at, memberships, places_at}
 use Rattle.pl_core.proofs.Cells.{slice_get-set_other, slice_get-set_same}
 use Rattle.pl_core.proofs.Ranges.{phaser_of_own}
@@ -55,7 +56,7 @@ counted_false false k n e h = omega arith
 abbrev pub cleared : Bool → (ℕ → Phases) → ℕ → ℕ → Phases
 cleared b f t = if b then updated f t (λ _. None) else f
 
-module _ (plan : Plan) (checked : IsCheckedPlan plan) (places : List Standing) (given : AreReachable plan places) (t : ℕ) (place : Standing) (at_place : slice_get places t ≡ Some place) (stop : Stop) (stops : IsStopOf (code_of plan t) (places_at plan places t).done stop) (tasks : List Task) (table : PhaseTable) (walk : IsWalk plan places (walking (places_at plan places) t (actions_before (code_of plan t) stop.op)) t tasks table) where
+module _ (plan : Plan) (checked : IsCheckedPlan plan) (places : List KeptPlace) (given : AreReachable plan places) (t : ℕ) (place : KeptPlace) (at_place : slice_get places t ≡ Some place) (stop : Stop) (stops : IsStopOf (code_of plan t) (places_at plan places t).done stop) (tasks : List Task) (table : PhaseTable) (walk : HasWalked plan places (walking (places_at plan places) t (actions_before (code_of plan t) stop.op)) t tasks table) where
   abbrev a : ℕ → Place
   a = places_at plan places
 
@@ -151,10 +152,10 @@ module _ (plan : Plan) (checked : IsCheckedPlan plan) (places : List Standing) (
     module _ (table' : PhaseTable) (rows : table'.tasks ≡ table.tasks) (columns : table'.phasers ≡ table.phasers) (phases : phases_in table' ≡ cleared place.refused (phases_in table) t) where
       come :
           (b : ℕ → Place) → b ≡ walked a (suc t) → phases_in table' ≡ (state_at plan b).phases →
-          ((c : ℕ) → forked_at plan (done_by (walking a t k)) c ≡ forked_at plan (done_by b) c) → IsSettled plan places t task →
-          IsWalk plan places (walked a (suc t)) (suc t) (set tasks t task) table'
+          ((c : ℕ) → forked_at plan (done_by (walking a t k)) c ≡ forked_at plan (done_by b) c) → IsPlaced plan places t task →
+          HasWalked plan places (walked a (suc t)) (suc t) (set tasks t task) table'
       come b is phases_are forked_are settled =
-          subst (λ c. IsWalk plan places c (suc t) (set tasks t task) table') is
+          subst (λ c. HasWalked plan places c (suc t) (set tasks t task) table') is
           (record {
             checked = checked;
             one_each = length-set tasks t task ∙ walk.one_each;
@@ -169,7 +170,7 @@ module _ (plan : Plan) (checked : IsCheckedPlan plan) (places : List Standing) (
             ];
             settled = λ u other l e. elim (cases_eq u t) [
               | inl same ↦
-                  subst (λ v. IsSettled plan places v other) (sym same) (subst (IsSettled plan places t) (itself u other same e) settled)
+                  subst (λ v. IsPlaced plan places v other) (sym same) (subst (IsPlaced plan places t) (itself u other same e) settled)
               | inr n ↦ walk.settled u other (omega arith) (sym (slice_get-set_other tasks t u task n) ∙ e)
             ];
           })
@@ -221,7 +222,7 @@ module _ (plan : Plan) (checked : IsCheckedPlan plan) (places : List Standing) (
                   ∙ ap (λ b. kept (last u).dropped (phases_at plan b u)) (sym same_done)
             ])
 
-        settled_refused : IsSettled plan places t task
+        settled_refused : IsPlaced plan places t task
         settled_refused =
             let e = event_there (or_true stop.begun place.refused refused) in
             record {
@@ -240,7 +241,7 @@ module _ (plan : Plan) (checked : IsCheckedPlan plan) (places : List Standing) (
             or_true true y e = refl
             or_true false y e = e
 
-        at_refused : IsWalk plan places (walked a (suc t)) (suc t) (set tasks t task) table'
+        at_refused : HasWalked plan places (walked a (suc t)) (suc t) (set tasks t task) table'
         at_refused =
             come last (walked_more a last t (updated_same (walked a t) t t (a t) refl) (λ u n. updated_other (walked a t) t u (a t) n)) phases_left
             (λ c. ap (λ b. forked_at plan b c) (sym same_done)) settled_refused
@@ -260,7 +261,7 @@ module _ (plan : Plan) (checked : IsCheckedPlan plan) (places : List Standing) (
             (walking_other a t n)
 
         -- published
-        at_begun : stop.begun ≡ true → IsWalk plan places (walked a (suc t)) (suc t) (set tasks t task) table'
+        at_begun : stop.begun ≡ true → HasWalked plan places (walked a (suc t)) (suc t) (set tasks t task) table'
         at_begun b =
             let at = blocks b in
             let forked = forked_begun b in
@@ -284,7 +285,7 @@ module _ (plan : Plan) (checked : IsCheckedPlan plan) (places : List Standing) (
             or_true false y e = absurd (cc)
 
         -- before its op
-        at_idle : stop.begun ≡ false → IsWalk plan places (walked a (suc t)) (suc t) (set tasks t task) table'
+        at_idle : stop.begun ≡ false → HasWalked plan places (walked a (suc t)) (suc t) (set tasks t task) table'
         at_idle b =
             let e = event_nowhere (or_none stop.begun place.refused b unrefused) in
             let h = done_idle b in
@@ -304,10 +305,10 @@ module _ (plan : Plan) (checked : IsCheckedPlan plan) (places : List Standing) (
             or_none true y e f = absurd (cc)
             or_none false y e f = f
 
-      pub walk_stands : IsWalk plan places (walked a (suc t)) (suc t) (set tasks t task) table'
+      pub walk_stands : HasWalked plan places (walked a (suc t)) (suc t) (set tasks t task) table'
       walk_stands = go place.refused refl stop.begun refl
         where
-          go : (r : Bool) → place.refused ≡ r → (b : Bool) → stop.begun ≡ b → IsWalk plan places (walked a (suc t)) (suc t) (set tasks t task) table'
+          go : (r : Bool) → place.refused ≡ r → (b : Bool) → stop.begun ≡ b → HasWalked plan places (walked a (suc t)) (suc t) (set tasks t task) table'
           go true refused b e = at_refused refused
           go false unrefused true e = at_begun unrefused e
           go false unrefused false e = at_idle unrefused e

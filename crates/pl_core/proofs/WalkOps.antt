@@ -15,16 +15,16 @@ use Rattle.armus_base.proofs.Codes.{child_within, passes_next, phaser_within}
 use Rattle.armus_base.proofs.PhasesFit.{phases_fit}
 use Rattle.armus_base.proofs.Reachable.{reachable_is_fixed}
 use Rattle.armus_base.proofs.Steps.{updated_other, updated_same}
-use Rattle.pl_core.specs.declared.place.Place.{Place as Standing}
+use Rattle.pl_core.specs.declared.place.Place.{Place as KeptPlace}
 use Rattle.pl_core.specs.declared.task.Task.{Task}
 use Rattle.pl_core.specs.declared.phase_table.PhaseTable.{PhaseTable}
-use Rattle.pl_core.specs.Changes.{after_fork}
-use Rattle.pl_core.specs.Effects.{HasRoomFor}
-use Rattle.pl_core.specs.GivenPlaces.{AreReachable}
-use Rattle.pl_core.specs.Ops.{action_of, phases_moved}
-use Rattle.pl_core.specs.PhaseTables.{phases_in}
+use Rattle.pl_core.specs.inside.Changes.{after_fork}
+use Rattle.pl_core.specs.inside.Effects.{HasRoomFor}
+use Rattle.pl_core.specs.inside.Reachable.{AreReachable}
+use Rattle.pl_core.specs.inside.Ops.{action_of, phases_moved}
+use Rattle.pl_core.specs.inside.PhaseTables.{phases_in}
 use Rattle.pl_core.specs.Tasks.{actions_before}
-use Rattle.pl_core.specs.Walks.{ForksBelow, IsSettled, IsWalk, marked_by, walking, with_forked}
+use Rattle.pl_core.specs.inside.Walks.{ForksBelow, IsPlaced, HasWalked, marked_by, walking, with_forked}
 use Rattle.pl_core.specs.Worlds.{places_at}
 use Rattle.pl_core.proofs.Cells.{slice_get-set_other, slice_get-set_same}
 use Rattle.pl_core.proofs.ChangeKinds.{phases_of_state}
@@ -103,10 +103,10 @@ forked_marked s t tasks before (Drop q) u task e = before u task e
 forked_marked s t tasks before (Await q) u task e = before u task e
 
 -- a task that is forked stays settled
-settled_forked : (plan : Plan) (places : List Standing) (u : ℕ) (task : Task) → IsSettled plan places u task → IsSettled plan places u (after_fork task)
+settled_forked : (plan : Plan) (places : List KeptPlace) (u : ℕ) (task : Task) → IsPlaced plan places u task → IsPlaced plan places u (after_fork task)
 settled_forked plan places u task is = record { place = is.place; event = is.event; within = is.within; events = is.events }
 
-module _ (plan : Plan) (checked : IsCheckedPlan plan) (places : List Standing) (given : AreReachable plan places) (t : ℕ) where
+module _ (plan : Plan) (checked : IsCheckedPlan plan) (places : List KeptPlace) (given : AreReachable plan places) (t : ℕ) where
   abbrev a : ℕ → Place
   a = places_at plan places
 
@@ -115,9 +115,9 @@ module _ (plan : Plan) (checked : IsCheckedPlan plan) (places : List Standing) (
 
   -- other places at which the phases and the forked tasks are the same
   pub walk_same :
-      (b b' : ℕ → Place) (tasks : List Task) (table : PhaseTable) → IsWalk plan places b t tasks table →
+      (b b' : ℕ → Place) (tasks : List Task) (table : PhaseTable) → HasWalked plan places b t tasks table →
       (state_at plan b).phases ≡ (state_at plan b').phases → ((c : ℕ) → forked_at plan (done_by b) c ≡ forked_at plan (done_by b') c) →
-      IsWalk plan places b' t tasks table
+      HasWalked plan places b' t tasks table
   walk_same b b' tasks table walk phases forked =
       record {
         checked = walk.checked;
@@ -129,7 +129,7 @@ module _ (plan : Plan) (checked : IsCheckedPlan plan) (places : List Standing) (
         settled = walk.settled;
       }
 
-  module _ (tasks : List Task) (table : PhaseTable) (n : ℕ) (op : Op) (is : slice_get (code_of plan t) n ≡ Some op) (walk : IsWalk plan places (walking a t (actions_before (code_of plan t) n)) t tasks table) (few : actions_before (code_of plan t) n < (a t).done) where
+  module _ (tasks : List Task) (table : PhaseTable) (n : ℕ) (op : Op) (is : slice_get (code_of plan t) n ≡ Some op) (walk : HasWalked plan places (walking a t (actions_before (code_of plan t) n)) t tasks table) (few : actions_before (code_of plan t) n < (a t).done) where
     abbrev k : ℕ
     k = actions_before (code_of plan t) n
 
@@ -193,7 +193,7 @@ module _ (plan : Plan) (checked : IsCheckedPlan plan) (places : List Standing) (
       state_next = stepped plan checked a given_consistent t k (omega arith) forked_there (action_of op) next (no_pass op)
 
       -- its first action
-      first_action : IsWalk plan places (walking a t (suc k)) t (marked_by tasks op) table'
+      first_action : HasWalked plan places (walking a t (suc k)) t (marked_by tasks op) table'
       first_action =
           record {
             checked = walk.checked;
@@ -211,13 +211,13 @@ module _ (plan : Plan) (checked : IsCheckedPlan plan) (places : List Standing) (
                 (let old = marked_is tasks op u task e in
                 let before = walk.settled u old.0 l old.1 in
                 elim old.2 [
-                  | inl same ↦ subst (IsSettled plan places u) (sym same) before
-                  | inr forked ↦ subst (IsSettled plan places u) (sym forked) (settled_forked plan places u old.0 before)
+                  | inl same ↦ subst (IsPlaced plan places u) (sym same) before
+                  | inr forked ↦ subst (IsPlaced plan places u) (sym forked) (settled_forked plan places u old.0 before)
                 ]);
           }
 
       -- and the pass of an await
-      second_action : (p : ℕ) → action_at plan t k ≡ Some (Blocks p) → suc k < (a t).done → IsWalk plan places (walking a t (suc (suc k))) t (marked_by tasks op) table'
+      second_action : (p : ℕ) → action_at plan t k ≡ Some (Blocks p) → suc k < (a t).done → HasWalked plan places (walking a t (suc (suc k))) t (marked_by tasks op) table'
       second_action p e l =
           let passes = passes_next plan t k p e in
           walk_same (walking a t (suc k)) (walking a t (suc (suc k))) (marked_by tasks op) table' first_action
@@ -226,24 +226,24 @@ module _ (plan : Plan) (checked : IsCheckedPlan plan) (places : List Standing) (
 
       pub walk_more :
           actions_before (code_of plan t) (suc n) ≤ (a t).done →
-          IsWalk plan places (walking a t (actions_before (code_of plan t) (suc n))) t (marked_by tasks op) table'
+          HasWalked plan places (walking a t (actions_before (code_of plan t) (suc n))) t (marked_by tasks op) table'
       walk_more less = go op refl
         where
-          one_more : actions_in op ≡ 1 → IsWalk plan places (walking a t (actions_before (code_of plan t) (suc n))) t (marked_by tasks op) table'
+          one_more : actions_in op ≡ 1 → HasWalked plan places (walking a t (actions_before (code_of plan t) (suc n))) t (marked_by tasks op) table'
           one_more one =
               let more = actions_before-suc (code_of plan t) n op is in
               let same : suc k ≡ actions_before (code_of plan t) (suc n) = omega arith in
-              subst (λ m. IsWalk plan places (walking a t m) t (marked_by tasks op) table') same first_action
+              subst (λ m. HasWalked plan places (walking a t m) t (marked_by tasks op) table') same first_action
 
-          two_more : (p : _) → op ≡ Await p → IsWalk plan places (walking a t (actions_before (code_of plan t) (suc n))) t (marked_by tasks op) table'
+          two_more : (p : _) → op ≡ Await p → HasWalked plan places (walking a t (actions_before (code_of plan t) (suc n))) t (marked_by tasks op) table'
           two_more p e =
               let more = actions_before-suc (code_of plan t) n op is in
               let two = ap actions_in e ∙ await_is_two p in
               let same : suc (suc k) ≡ actions_before (code_of plan t) (suc n) = omega arith in
-              subst (λ m. IsWalk plan places (walking a t m) t (marked_by tasks op) table') same
+              subst (λ m. HasWalked plan places (walking a t m) t (marked_by tasks op) table') same
               (second_action p.0 (next ∙ ap (λ o. Some (action_of o)) e) (omega arith))
 
-          go : (o : Op) → op ≡ o → IsWalk plan places (walking a t (actions_before (code_of plan t) (suc n))) t (marked_by tasks op) table'
+          go : (o : Op) → op ≡ o → HasWalked plan places (walking a t (actions_before (code_of plan t) (suc n))) t (marked_by tasks op) table'
           go (Await p) e = two_more p e
           go (Make p) e = one_more (ap actions_in e ∙ one_unless_await (Make p) (λ q h. absurd (cc)))
           go (Reg c p) e = one_more (ap actions_in e ∙ one_unless_await (Reg c p) (λ q h. absurd (cc)))

@@ -13,7 +13,7 @@ use Rattle.armus_base.proofs.Fixed.{kept_above, kept_below, phases_forked}
 use Rattle.armus_base.proofs.NextIsLegal.{next_legal}
 use Rattle.armus_base.proofs.Published.{published_after_is}
 use Rattle.armus_base.proofs.Stepping.{forked_same, phases_unchanged, regular_step}
-use Rattle.pl_core.specs.Walks.{walking}
+use Rattle.pl_core.specs.inside.Walks.{walking}
 use Rattle.pl_core.proofs.Refusing.{dropped_below}
 use Rattle.pl_core.proofs.Walking.{forked_upto, walking_consistent, walking_other, walking_own}
 

@@ -9,7 +9,7 @@ use Rattle.armus_base.specs.Places.{IsConsistent, done_by, forked_at, forks, som
 use Rattle.armus_base.specs.CheckedPlans.{IsCheckedPlan}
 use Rattle.armus_base.proofs.Fixed.{root_forked}
 use Rattle.armus_base.proofs.Steps.{updated_same, updated_other}
-use Rattle.pl_core.specs.Walks.{walked, walking}
+use Rattle.pl_core.specs.inside.Walks.{walked, walking}
 
 lt_true : (a b : ℕ) → a < b → nat_lt a b ≡ true
 lt_true a b h = grind arith

@@ -1,19 +1,7 @@
 -- The highest phases on which tasks were published.
-use Rattle.std.specs.Prelude.{◌≡◌, ℕ, ◌<◌, ◌≤◌, false, List, Some, length, slice_get, slice_index_or}
+use Rattle.std.specs.Prelude.{◌≡◌, ℕ, ◌<◌, ◌≤◌, Some}
 use Rattle.armus_base.specs.declared.event.Event.{Event}
 use Rattle.armus_base.specs.States.{State}
-use Rattle.pl_core.specs.declared.task.Task.{Task}
-
--- the kept phase of phaser p
-abbrev pub highest_at : List ℕ → ℕ → ℕ
-highest_at highest p = slice_index_or highest p 0
-
--- no published task waits for a later phase of a phaser than the kept one
-pub record AreHighest (tasks : List Task) (phasers : ℕ) (highest : List ℕ) : Type 0 where
-  pub one_each : length highest ≡ phasers
-  pub bound :
-      (t : ℕ) (task : Task) (e : Event) → slice_get tasks t ≡ Some task → task.place.refused ≡ false → task.event ≡ Some e → e.p.0 < phasers →
-      e.n ≤ highest_at highest e.p.0
 
 -- task t impedes no event on which a task is published
 abbrev pub ImpedesNobody : State → ℕ → Type 0

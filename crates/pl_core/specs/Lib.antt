@@ -1,18 +1,10 @@
-pub mod Cells
-pub mod PhaseTables
 pub mod Worlds
 pub mod Stands
 pub mod Moves
 pub mod Tasks
-pub mod Changes
-pub mod Tables
 pub mod Views
-pub mod Ops
-pub mod Effects
-pub mod Reading
 pub mod GivenPlaces
-pub mod Stops
-pub mod Walks
-pub mod Supposed
-pub mod LeastPhases
 pub mod HighestPhases
+-- How the program does it: private contracts alone cite these.
+pub mod inside
+pub mod Tables

@@ -4,8 +4,8 @@ use Rattle.armus_base.specs.Plans.{Plan, Action, Drops, Refuses}
 use Rattle.armus_base.specs.States.{Step, IsLegal, after}
 use Rattle.armus_base.specs.Runs.{Place, IsByCode, moved}
 use Rattle.armus_base.specs.Places.{state_at}
-use Rattle.pl_core.specs.declared.place.Place.{Place as Standing}
-use Rattle.pl_core.specs.Worlds.{WorldValue, places_of, state_of, next_action}
+use Rattle.pl_core.specs.declared.place.Place.{Place as KeptPlace}
+use Rattle.pl_core.specs.Worlds.{WorldValue, places_of, state_of, action_by_code}
 
 -- These steps lead on from the places a to the places b, the last one first: each is legal where it comes, and the next one by its task's code.
 abbrev pub LeadsOn : Plan → (ℕ → Place) → List Step → (ℕ → Place) → Type 0
@@ -15,19 +15,19 @@ LeadsOn plan a (e ∷ h) b =
     × IsLegal plan (state_at plan c) e.task e.action × moved c e.task e.action ≡ b
 
 -- one event more
-abbrev pub further : Standing → Standing
+abbrev pub further : KeptPlace → KeptPlace
 further a = record { events = a.events + 1; refused = a.refused }
 
 -- refused at its next op
-abbrev pub refused_there : Standing → Standing
+abbrev pub refused_there : KeptPlace → KeptPlace
 refused_there a = record { events = a.events; refused = true }
 
 -- one step of task t: the next action of its code, which is legal; it leads to the places and to the state after it
-pub record MakesStep (old new : WorldValue) (t : ℕ) : Type 0 where
+pub record IsWorldStep (old new : WorldValue) (t : ℕ) : Type 0 where
   pub action : Action
-  pub next : next_action old t ≡ Some action
+  pub next : action_by_code old t ≡ Some action
   pub legal : IsLegal old.plan (state_of old) t action
-  pub place : Standing
+  pub place : KeptPlace
   pub there : slice_get old.places t ≡ Some place
   pub plan : new.plan ≡ old.plan
   pub places : new.places ≡ slice_set old.places t (further place)
@@ -42,7 +42,7 @@ drops_from t = map (λ p. record { task = t; action = Drops p })
 pub record MakesRefusal (old new : WorldValue) (t : ℕ) : Type 0 where
   pub phaser : ℕ
   pub drops : List ℕ  -- the last one first
-  pub place : Standing
+  pub place : KeptPlace
   pub there : slice_get old.places t ≡ Some place
   pub plan : new.plan ≡ old.plan
   pub places : new.places ≡ slice_set old.places t (refused_there place)

@@ -1,6 +1,6 @@
 // Reads and writes of a flat table of phases.
 ghost use Rattle.std.specs.Prelude.{◌≡◌, ◌<◌, ◌+◌, ◌*◌, ◌^◌, length};
-ghost use Rattle.pl_core.specs.Cells.{phase_of_cell, phases_of_cells, FitsCell};
+ghost use Rattle.pl_core.specs.inside.Cells.{phase_of_cell, phases_of_cells, FitsCell};
 
 // What a cell says.
 fn phase_of(cell: u32) -> Option<u32>

@@ -1,9 +1,9 @@
 // What an op makes of the phases.
 ghost use Rattle.std.specs.Prelude.{◌≡◌, ℕ, ◌+◌, ◌<◌, ◌^◌, Some};
 ghost use Rattle.armus_base.specs.States.{next_phase};
-ghost use Rattle.pl_core.specs.Effects.{HasRoomFor};
-ghost use Rattle.pl_core.specs.Ops.{action_of, phases_moved};
-ghost use Rattle.pl_core.specs.PhaseTables.{phases_in};
+ghost use Rattle.pl_core.specs.inside.Effects.{HasRoomFor};
+ghost use Rattle.pl_core.specs.inside.Ops.{action_of, phases_moved};
+ghost use Rattle.pl_core.specs.inside.PhaseTables.{phases_in};
 
 use crate::phase_table::PhaseTable;
 use armus_base::{Op, Phase};

@@ -2,7 +2,7 @@
 // reached stays reached, so no member of its phaser is below it any more.
 ghost use Rattle.std.specs.Prelude.{◌≡◌, ℕ, ◌<◌, ◌≤◌, false, Some, IfOk, length};
 ghost use Rattle.armus_base.specs.declared.event.Event.{Event};
-ghost use Rattle.pl_core.specs.HighestPhases.{AreHighest, highest_at};
+ghost use Rattle.pl_core.specs.inside.Highest.{AreHighest, highest_at};
 
 use crate::task::Task;
 use armus_base::{Event, NoMemory};

@@ -1,8 +1,8 @@
 // Which member of a phaser is least far on.
 ghost use Rattle.std.specs.Prelude.{◌≡◌, ◌≢◌, ℕ, ◌<◌, ◌+◌, ◌*◌, None, Some, length, replicate, IfOk, MatchBool, MatchOption};
 ghost use Rattle.armus_base.specs.States.{Phases};
-ghost use Rattle.pl_core.specs.Cells.{phases_of_cells};
-ghost use Rattle.pl_core.specs.LeastPhases.{IsAtMost, IsLeastBelow};
+ghost use Rattle.pl_core.specs.inside.Cells.{phases_of_cells};
+ghost use Rattle.pl_core.specs.inside.LeastPhases.{IsAtMost, IsLeastBelow};
 
 use crate::cell::phase_in;
 use armus_base::NoMemory;

@@ -1,7 +1,7 @@
 // The phases of all tasks in one flat table, and the least phase of each phaser's members.
 ghost use Rattle.std.specs.Prelude.{◌≡◌, ◌↔◌, ℕ, ◌<◌, ◌≤◌, ◌*◌, ◌^◌, None, Some, IfOk, IsTrue, vec_len};
-ghost use Rattle.pl_core.specs.Cells.{FitsCell, phases_of_cells};
-ghost use Rattle.pl_core.specs.LeastPhases.{AreLeast};
+ghost use Rattle.pl_core.specs.inside.Cells.{FitsCell, phases_of_cells};
+ghost use Rattle.pl_core.specs.inside.LeastPhases.{AreLeast};
 
 use crate::cell::{cell_of, phase_in};
 use crate::least::{Least, least_after, no_members};
@@ -22,7 +22,7 @@ pub(crate) struct PhaseTable {
 
 impl PhaseTable {
     ghost use Rattle.armus_base.specs.States.{updated, with_phase};
-    ghost use Rattle.pl_core.specs.PhaseTables.{phases_in};
+    ghost use Rattle.pl_core.specs.inside.PhaseTables.{phases_in};
 
     /// No task is a member of anything.
     pub(crate) fn new(alloc: Global, tasks: usize, phasers: usize) -> Result<PhaseTable, NoMemory>

@@ -1,7 +1,7 @@
 // Where in its code a task stands after its first events.
 ghost use Rattle.std.specs.Prelude.{◌≡◌, ◌<◌, ◌≤◌, ◌^◌, [], ◌∷◌, Some, length, slice_get};
 ghost use Rattle.armus_base.specs.Plans.{actions_of};
-ghost use Rattle.pl_core.specs.Stops.{IsStopOf};
+ghost use Rattle.pl_core.specs.inside.Stops.{IsStopOf};
 
 use armus_base::Op;
 

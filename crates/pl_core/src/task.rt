@@ -1,6 +1,6 @@
 // What a world keeps of each task.
 ghost use Rattle.std.specs.Prelude.{◌≡◌, ◌<◌, ◌+◌, ◌^◌, Some, IfOk, length, slice_get};
-ghost use Rattle.pl_core.specs.Changes.{after_block, after_op, after_fork, after_refusal, opening_tasks};
+ghost use Rattle.pl_core.specs.inside.Changes.{after_block, after_op, after_fork, after_refusal, opening_tasks};
 
 use crate::Place;
 use armus_base::{Event, NoMemory, Op};

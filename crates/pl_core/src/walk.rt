@@ -2,14 +2,15 @@
 ghost use Rattle.std.specs.Prelude.{◌≡◌, ◌+◌, ◌<◌, ◌^◌, None, Some, IfOk, length, slice_get, ◌||◌, if◌then◌else◌};
 ghost use Rattle.armus_base.specs.Plans.{code_of};
 ghost use Rattle.armus_base.specs.States.{updated};
-ghost use Rattle.pl_core.specs.Effects.{HasRoomFor};
-ghost use Rattle.pl_core.specs.GivenPlaces.{AreReachable};
-ghost use Rattle.pl_core.specs.Ops.{action_of, phases_moved};
-ghost use Rattle.pl_core.specs.PhaseTables.{phases_in};
-ghost use Rattle.pl_core.specs.Stops.{IsStopOf};
-ghost use Rattle.pl_core.specs.Tables.{IsKept, standings};
+ghost use Rattle.pl_core.specs.inside.Effects.{HasRoomFor};
+ghost use Rattle.pl_core.specs.inside.Reachable.{AreReachable};
+ghost use Rattle.pl_core.specs.inside.Ops.{action_of, phases_moved};
+ghost use Rattle.pl_core.specs.inside.PhaseTables.{phases_in};
+ghost use Rattle.pl_core.specs.inside.Stops.{IsStopOf};
+ghost use Rattle.pl_core.specs.inside.Kept.{KeepsState};
+ghost use Rattle.pl_core.specs.Tables.{kept_places};
 ghost use Rattle.pl_core.specs.Tasks.{actions_before};
-ghost use Rattle.pl_core.specs.Walks.{AwaitsBelow, ForksBelow, IsWalk, event_of_op, marked_by, walked, walking};
+ghost use Rattle.pl_core.specs.inside.Walks.{AwaitsBelow, ForksBelow, HasWalked, event_of_op, marked_by, walked, walking};
 ghost use Rattle.pl_core.specs.Worlds.{places_at};
 
 use crate::Place;
@@ -80,8 +81,8 @@ impl Walk {
     /// What is kept at these places.
     pub(crate) fn to_places(alloc: Global, plan: &Plan, places: &[Place]) -> Result<Walk, NoMemory>
         requires given { AreReachable plan.now places.now }
-        ensures kept { IfOk result (λ walk. IsKept plan.now walk.tasks.items walk.phases) }
-        ensures places { IfOk result (λ walk. standings walk.tasks.items ≡ places.now) }
+        ensures kept { IfOk result (λ walk. KeepsState plan.now walk.tasks.items walk.phases) }
+        ensures places { IfOk result (λ walk. kept_places walk.tasks.items ≡ places.now) }
     {
         let count = plan.tasks() as usize;
         let phases = PhaseTable::new(alloc, count, plan.phasers() as usize)?;
@@ -97,8 +98,8 @@ impl Walk {
     fn settle(&mut self, plan: &Plan, places: &[Place], t: TaskId)
         requires task { t.0 < length plan.now.parents }
         requires given { AreReachable plan.now places.now }
-        requires walked { IsWalk plan.now places.now (walked (places_at plan.now places.now) t.0) t.0 self.old.tasks.items self.old.phases }
-        ensures { IsWalk plan.now places.now (walked (places_at plan.now places.now) (t.0 + 1)) (t.0 + 1) self.new.tasks.items self.new.phases }
+        requires walked { HasWalked plan.now places.now (walked (places_at plan.now places.now) t.0) t.0 self.old.tasks.items self.old.phases }
+        ensures { HasWalked plan.now places.now (walked (places_at plan.now places.now) (t.0 + 1)) (t.0 + 1) self.new.tasks.items self.new.phases }
     {
         let stop = self.make_ops(plan, places, t);
         self.stand(plan, places, t, stop);
@@ -108,9 +109,9 @@ impl Walk {
     fn make_ops(&mut self, plan: &Plan, places: &[Place], t: TaskId) -> Stop
         requires task { t.0 < length plan.now.parents }
         requires given { AreReachable plan.now places.now }
-        requires walked { IsWalk plan.now places.now (walked (places_at plan.now places.now) t.0) t.0 self.old.tasks.items self.old.phases }
+        requires walked { HasWalked plan.now places.now (walked (places_at plan.now places.now) t.0) t.0 self.old.tasks.items self.old.phases }
         ensures stop { IsStopOf (code_of plan.now t.0) (places_at plan.now places.now t.0).done result }
-        ensures walking { IsWalk plan.now places.now (walking (places_at plan.now places.now) t.0 (actions_before (code_of plan.now t.0) result.op)) t.0 self.new.tasks.items self.new.phases }
+        ensures walking { HasWalked plan.now places.now (walking (places_at plan.now places.now) t.0 (actions_before (code_of plan.now t.0) result.op)) t.0 self.new.tasks.items self.new.phases }
     {
         let ops = plan.code(t);
         let stop = stop_of(ops, place_within(places, t.0 as usize).events);
@@ -139,8 +140,8 @@ impl Walk {
         requires task { t.0 < length plan.now.parents }
         requires given { AreReachable plan.now places.now }
         requires stop { IsStopOf (code_of plan.now t.0) (places_at plan.now places.now t.0).done stop }
-        requires walking { IsWalk plan.now places.now (walking (places_at plan.now places.now) t.0 (actions_before (code_of plan.now t.0) stop.op)) t.0 self.old.tasks.items self.old.phases }
-        ensures { IsWalk plan.now places.now (walked (places_at plan.now places.now) (t.0 + 1)) (t.0 + 1) self.new.tasks.items self.new.phases }
+        requires walking { HasWalked plan.now places.now (walking (places_at plan.now places.now) t.0 (actions_before (code_of plan.now t.0) stop.op)) t.0 self.old.tasks.items self.old.phases }
+        ensures { HasWalked plan.now places.now (walked (places_at plan.now places.now) (t.0 + 1)) (t.0 + 1) self.new.tasks.items self.new.phases }
     {
         let at = t.0 as usize;
         let place = place_within(places, at);

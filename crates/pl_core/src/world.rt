@@ -6,13 +6,13 @@ ghost use Rattle.armus_base.specs.CheckedPlans.{IsCheckedPlan};
 ghost use Rattle.armus_base.specs.Runs.{IsReachable};
 ghost use Rattle.armus_base.specs.States.{event_on, if_published, IsActive, IsMember, IsReached};
 ghost use Rattle.pl_core.specs.GivenPlaces.{IsAtPlaces};
-ghost use Rattle.pl_core.specs.Worlds.{state_of, places_at, places_of, next_action, IsOpening};
-ghost use Rattle.pl_core.specs.Stands.{StandsSo, IsAtAwaitOf, IsReady, IsEnabled, MayGoOn, AreAhead, IsFirstBehind};
-ghost use Rattle.pl_core.specs.Moves.{MakesRefusal, MakesStep};
+ghost use Rattle.pl_core.specs.Worlds.{state_of, places_at, places_of, action_by_code, IsOpeningWorld};
+ghost use Rattle.pl_core.specs.Stands.{StandsSo, IsAtAwaitOf, IsBeforeOp, IsEnabled, MayGoOn, AreAhead, IsFirstBehind};
+ghost use Rattle.pl_core.specs.Moves.{MakesRefusal, IsWorldStep};
 ghost use Rattle.armus_base.specs.Finals.{end_of, final_of, given_below, is_awaited, list_below, listed_phase, statuses_of, statuses_on};
-ghost use Rattle.pl_core.specs.Ops.{action_of, ChangesPhases};
-ghost use Rattle.pl_core.specs.Reading.{is_asked};
-ghost use Rattle.pl_core.specs.Supposed.{with_also};
+ghost use Rattle.pl_core.specs.inside.Ops.{action_of, ChangesPhases};
+ghost use Rattle.pl_core.specs.inside.Reading.{is_asked};
+ghost use Rattle.pl_core.specs.inside.Supposed.{with_also};
 ghost use Rattle.pl_core.specs.Tasks.{IsAtOp};
 
 mod impeding;
@@ -43,7 +43,8 @@ impl<'p> Model for World<'p> {
 
     ghost Value = { WorldValue };
 
-    ghost use Rattle.pl_core.specs.Views.{world_of, IsWorld};
+    ghost use Rattle.pl_core.specs.Views.{world_of};
+    ghost use Rattle.pl_core.specs.inside.Invariants.{IsWorld};
 
     ghost view = { world_of };
 
@@ -53,7 +54,7 @@ impl<'p> Model for World<'p> {
 impl<'p> World<'p> {
     /// The opening state: only task 0 is forked, and no task has made an event.
     pub fn start(alloc: Global, plan: &'p Plan) -> Result<World<'p>, NoMemory>
-        ensures opening { IfOk result (λ world. IsOpening plan.now world) }
+        ensures opening { IfOk result (λ world. IsOpeningWorld plan.now world) }
     {
         let count = plan.tasks() as usize;
         let phases = PhaseTable::new(alloc, count, plan.phasers() as usize)?;
@@ -143,7 +144,7 @@ impl<'p> World<'p> {
     fn next_op(&self, t: TaskId) -> Option<Op>
         requires task { t.0 < length self.now.plan.parents }
         requires active { IsActive (state_of self.now) t.0 }
-        ensures next { next_action self.now t.0 ≡ option_map action_of result }
+        ensures next { action_by_code self.now t.0 ≡ option_map action_of result }
         ensures checked { IsCheckedPlan self.now.plan }
         ensures reachable { IsReachable self.now.plan (places_of self.now) }
     {
@@ -220,7 +221,7 @@ impl<'p> World<'p> {
     pub fn step(&mut self, t: TaskId)
         requires task { t.0 < length self.old.plan.parents }
         requires enabled { IsEnabled self.old t.0 }
-        ensures { MakesStep self.old self.new t.0 }
+        ensures { IsWorldStep self.old self.new t.0 }
     {
         match self.stand(t) {
             Stand::Waits(event) => self.pass(t, event),
@@ -257,7 +258,7 @@ impl<'p> World<'p> {
     fn block(&mut self, t: TaskId, event: Event)
         requires task { t.0 < length self.old.plan.parents }
         requires before { IsAtAwaitOf self.old t.0 event }
-        ensures { MakesStep self.old self.new t.0 }
+        ensures { IsWorldStep self.old self.new t.0 }
     {
         let at = t.0 as usize;
         self.tasks[at] = task_at(&self.tasks, at).after_block(event);
@@ -269,7 +270,7 @@ impl<'p> World<'p> {
         requires task { t.0 < length self.old.plan.parents }
         requires waits { (state_of self.old).published t.0 ≡ Some event }
         requires reached { IsReached (state_of self.old) event }
-        ensures { MakesStep self.old self.new t.0 }
+        ensures { IsWorldStep self.old self.new t.0 }
     {
         let at = t.0 as usize;
         self.tasks[at] = task_at(&self.tasks, at).after_op();
@@ -278,8 +279,8 @@ impl<'p> World<'p> {
     // Makes the op's own event.
     fn act(&mut self, t: TaskId)
         requires task { t.0 < length self.old.plan.parents }
-        requires ready { IsReady self.old t.0 }
-        ensures { MakesStep self.old self.new t.0 }
+        requires ready { IsBeforeOp self.old t.0 }
+        ensures { IsWorldStep self.old self.new t.0 }
     {
         match self.next_op(t) {
             Some(Op::Fork { c }) => self.fork(t, c),
@@ -292,8 +293,8 @@ impl<'p> World<'p> {
     fn fork(&mut self, t: TaskId, c: TaskId)
         requires task { t.0 < length self.old.plan.parents }
         requires active { IsActive (state_of self.old) t.0 }
-        requires next { next_action self.old t.0 ≡ Some (Forks c.0) }
-        ensures { MakesStep self.old self.new t.0 }
+        requires next { action_by_code self.old t.0 ≡ Some (Forks c.0) }
+        ensures { IsWorldStep self.old self.new t.0 }
     {
         let child = task_at(&self.tasks, c.0 as usize);
         let task = task_at(&self.tasks, t.0 as usize);
@@ -305,9 +306,9 @@ impl<'p> World<'p> {
     fn change(&mut self, t: TaskId, op: Op)
         requires task { t.0 < length self.old.plan.parents }
         requires active { IsActive (state_of self.old) t.0 }
-        requires next { next_action self.old t.0 ≡ Some (action_of op) }
+        requires next { action_by_code self.old t.0 ≡ Some (action_of op) }
         requires kind { ChangesPhases op }
-        ensures { MakesStep self.old self.new t.0 }
+        ensures { IsWorldStep self.old self.new t.0 }
     {
         let task = task_at(&self.tasks, t.0 as usize);
         move_phases(&mut self.phases, t.0 as usize, op);

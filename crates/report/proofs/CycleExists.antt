@@ -17,8 +17,8 @@ use Rattle.dep_state.proofs.DeadSets.{Contains-map, dead_by_list, dead_in_list, 
 use Rattle.verdict.specs.Cycles.{IsDeadStep}
 use Rattle.report.specs.Lines.{cycle_line}
 use Rattle.report.specs.Reports.{IsCycleText, IsLeastDead}
-use Rattle.report.proofs.Deciding.{Told, told_both, told_in, told_less, told_number, told_same, told_some, told_some_both, least_or_none}
-use Rattle.report.proofs.DeadOrNot.{dead_or_not}
+use Rattle.adaptive.proofs.Deciding.{Told, told_both, told_in, told_less, told_number, told_same, told_some, told_some_both, least_or_none}
+use Rattle.adaptive.proofs.DeadOrNot.{dead_or_not}
 
 -- nodes of a list, each of which leads to another
 module _ {X : Type 0} (R : X → X → Type 0) (same : (a b : X) → Told (a ≡ b)) (start : X) (set : List X) (P : X → Type 0)

@@ -12,8 +12,8 @@ use Rattle.armus_base.proofs.Below.{contains_at}
 use Rattle.armus_base.proofs.Elements.{nothing_in_nil, Contains-cons_cases, Contains-head, Contains-tail}
 use Rattle.report.specs.NamedDead.{AreSomeDead, SomeDeadExtend}
 use Rattle.report.proofs.CycleExists.{told_task}
-use Rattle.report.proofs.Deciding.{told_some}
-use Rattle.report.proofs.DeadOrNot.{dead_list_exists}
+use Rattle.adaptive.proofs.Deciding.{told_some}
+use Rattle.adaptive.proofs.DeadOrNot.{dead_list_exists}
 
 module _ (blocked : List Status) where
   -- one more dead task, that is not named yet

@@ -1,6 +1,4 @@
 pub mod Passing
-pub mod Deciding
-pub mod DeadOrNot
 pub mod CycleExists
 pub mod ReportExists
 pub mod DeadExtend

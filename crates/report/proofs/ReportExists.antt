@@ -26,8 +26,8 @@ use Rattle.report.specs.Reports.{IsGraphText, ReportExists}
 use Rattle.report.specs.Standings.{Stands, AreStandings}
 use Rattle.report.specs.declared.standing.Standing.{Standing}
 use Rattle.report.specs.declared.standing.Standing.TheVariants.{Done, Dead, Held, Refused, Unforked}
-use Rattle.report.proofs.Deciding.{Told, told_both, told_number, told_pair, told_same, told_some, told_some_both, counted, pairs, pairs-has}
-use Rattle.report.proofs.DeadOrNot.{dead_or_not}
+use Rattle.adaptive.proofs.Deciding.{Told, told_both, told_number, told_pair, told_same, told_some, told_some_both, counted, pairs, pairs-has}
+use Rattle.adaptive.proofs.DeadOrNot.{dead_or_not}
 use Rattle.report.proofs.CycleExists.{told_impedes, told_phaser, told_task, told_waits, tasks, in_tasks, cycle_exists}
 
 -- how a task stands

@@ -12,7 +12,7 @@ use Rattle.armus_base.specs.States.{Step}
 use Rattle.schedule.specs.declared.pass.OpenPass.{OpenPass}
 use Rattle.schedule.specs.declared.pass.Waiting.{Waiting}
 use Rattle.schedule.specs.Passes.{Loads, event_found, event_after}
-use Rattle.schedule.specs.inside.OpenPasses.{IsPassOf, HasPhases, KeepsEvent, phaser_of, waiting_found, awaited_found, status_with, row_found}
+use Rattle.schedule.specs.inside.OpenPasses.{IsPassOf, HasPhases, KeepsEvent, phaser_of, waiting_found, awaited_phaser, status_with, row_found}
 use Rattle.std.proofs.Common.{eq-eqb, get_or}
 use Rattle.armus_base.proofs.Below.{given_from}
 use Rattle.schedule.proofs.Marks.{given_more, given_same}
@@ -71,10 +71,10 @@ module _ (plan : Plan) (checked : IsCheckedPlan plan) (loads : Loads) (h : List 
       ∙ sym (given_more (waiting_found all) pass.loaded)
       ∙ ap (given_below (waiting_found all)) (sym loads_one.kept.loaded)
 
-  awaited_more : (all : Loads) → Extends all (loads ++ h ∷ []) → new.loaded ≡ length plan.parents → new.awaited.items ≡ given_below (awaited_found plan all) (length plan.makers)
+  awaited_more : (all : Loads) → Extends all (loads ++ h ∷ []) → new.loaded ≡ length plan.parents → new.awaited.items ≡ given_below (awaited_phaser plan all) (length plan.makers)
   awaited_more all ext full =
       loads_one.awaited full
-      ∙ given_same (phaser_of new.waiting.items) (awaited_found plan all) (length plan.makers) (λ p l.
+      ∙ given_same (phaser_of new.waiting.items) (awaited_phaser plan all) (length plan.makers) (λ p l.
       ap (λ b. if b then Some (record { 0 = p }) else None)
       (ap (list_any (λ (w : Waiting). w.event.p.0 == p)) (waiting_more all ext ∙ ap (given_below (waiting_found all)) full)
       ∙ any_given (λ (w : Waiting). w.event.p.0 == p) (waiting_found all) (λ t. is_event_of p (event_found all t)) (length plan.parents) (λ t m. one_event p (event_found all t) t)))

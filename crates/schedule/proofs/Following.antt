@@ -14,7 +14,7 @@ use Rattle.armus_base.proofs.Stepping.{places_fix}
 use Rattle.pl_core.specs.declared.stand.Stand.{Stand}
 use Rattle.pl_core.specs.declared.stand.Stand.TheVariants.{Unforked, Done, Refused, Ready, Await, Waits}
 use Rattle.pl_core.specs.Stands.{StandsSo}
-use Rattle.pl_core.specs.Worlds.{WorldValue, places_of, state_of, next_action}
+use Rattle.pl_core.specs.Worlds.{WorldValue, places_of, state_of, action_by_code}
 use Rattle.schedule.specs.inside.Following.{IsAt}
 
 -- the state of a world that follows a run
@@ -34,7 +34,7 @@ module _ (w : WorldValue) (t : ℕ) (checked : IsCheckedPlan w.plan) (reachable 
       let begun = (published_after_is w.plan t (places_of w t).done e at).1 in
       (reachable_is_fixed w.plan (places_of w) checked reachable).1.begun t (omega arith)
 
-  goes_on : next_action w t ≢ None
+  goes_on : action_by_code w t ≢ None
   goes_on ended =
       let (j, same, blocks) = published_after_is w.plan t (places_of w t).done e at in
       let passes = ap (action_at w.plan t) same ∙ passes_next w.plan t j e.p.0 blocks in

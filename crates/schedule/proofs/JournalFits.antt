@@ -16,7 +16,7 @@ use Rattle.armus_base.specs.States.{Step}
 use Rattle.armus_base.proofs.Elements.{nothing_in_nil}
 use Rattle.armus_base.proofs.Members.{plain_step, other_step}
 use Rattle.armus_base.proofs.Tasks.{action_of_task, done_within_code}
-use Rattle.locked_world.specs.Journals.{tasks_of}
+use Rattle.locked_world.specs.Journals.{journal_of}
 use Rattle.locked_world.proofs.Journals.{last_goes_on}
 use Rattle.schedule.specs.Records.{JournalFitsPlan}
 use Rattle.schedule.proofs.RecordIsRead.{steps_short}
@@ -104,15 +104,15 @@ module _ (plan : Plan) (checked : IsCheckedPlan plan) where
       ap (sum_below (code_length plan.codes)) (sym checked.tables.one_code_each) in
       omega (arith, done_is h run, all_codes plan.codes, checked.limits.few_ops)
 
-  journal_length : (h : List Step) → length (tasks_of h) ≡ length h
+  journal_length : (h : List Step) → length (journal_of h) ≡ length h
   journal_length [] = refl
-  journal_length (e ∷ h) = omega (arith, length-append (tasks_of h) (record { 0 = e.task } ∷ []), journal_length h)
+  journal_length (e ∷ h) = omega (arith, length-append (journal_of h) (record { 0 = e.task } ∷ []), journal_length h)
 
-  tasks_within : (h : List Step) → IsPlainRun plan h → (t : TaskId) → Contains (tasks_of h) t → t.0 < length plan.parents
+  tasks_within : (h : List Step) → IsPlainRun plan h → (t : TaskId) → Contains (journal_of h) t → t.0 < length plan.parents
   tasks_within [] run t m = absurd (nothing_in_nil t m)
   tasks_within (e ∷ h) run t m =
       let before : IsPlainRun plan h = (run.0.0, run.1.0) in
-      elim (Contains-push_cases (tasks_of h) (record { 0 = e.task }) t m) [
+      elim (Contains-push_cases (journal_of h) (record { 0 = e.task }) t m) [
         | inl earlier ↦ tasks_within h before t earlier
         | inr last ↦ subst (λ (u : TaskId). u.0 < length plan.parents) last (steps_within e h run)
       ]

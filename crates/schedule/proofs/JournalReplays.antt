@@ -8,24 +8,24 @@ use Rattle.armus_base.specs.Plans.{Action, Plan}
 use Rattle.armus_base.specs.Runs.{places, state_after}
 use Rattle.armus_base.specs.States.{Step}
 use Rattle.armus_base.proofs.Tasks.{no_action}
-use Rattle.locked_world.specs.Journals.{GoesOnWith, LeadsTo, no_step, one_more as one_step, tasks_of}
+use Rattle.locked_world.specs.Journals.{GoesOnWith, JournalLeadsTo, no_step, one_more as one_step, journal_of}
 use Rattle.locked_world.proofs.Journals.{each_goes_on, journal_fixes_run, journal_leads}
 use Rattle.schedule.specs.declared.lines.Line.{Line}
 use Rattle.schedule.specs.declared.lines.Line.TheVariants as line
 use Rattle.schedule.specs.declared.verdict.PassVerdict.{PassVerdict}
 use Rattle.schedule.specs.declared.verdict.ReplayEnd.TheVariants.{Schedule, NoMemory}
 use Rattle.schedule.specs.Passes.{Loads}
-use Rattle.schedule.specs.Replays.{IsFault, IsNext, Leads, Progress, Takes, load_without_pass, no_line, one_more, second_pass, strange_task, stuck_task, unreadable}
+use Rattle.schedule.specs.Replays.{IsFault, IsOwnNextStep, LinesLead, Progress, Takes, load_without_pass, no_line, one_more, second_pass, strange_task, stuck_task, unreadable}
 use Rattle.schedule.specs.Replaying.{AreDeadIn, AreVerdicts, no_pass, one_pass}
 use Rattle.schedule.specs.Records.{JournalReplays, step_of}
 
 -- the lines of a journal lead to its run
 pub journal_progress :
-    (plan : Plan) (journal : List TaskId) (h : List Step) → LeadsTo plan journal h →
-    Leads plan (map step_of journal) (record { run = h; open_pass = None; passes = [] })
+    (plan : Plan) (journal : List TaskId) (h : List Step) → JournalLeadsTo plan journal h →
+    LinesLead plan (map step_of journal) (record { run = h; open_pass = None; passes = [] })
 journal_progress plan _ _ no_step = no_line
 journal_progress plan _ _ (one_step journal h t x leads next) =
-    subst (λ ls. Leads plan ls (record { run = record { task = t.0; action = x } ∷ h; open_pass = None; passes = [] })) (sym (map-append step_of journal (t ∷ [])))
+    subst (λ ls. LinesLead plan ls (record { run = record { task = t.0; action = x } ∷ h; open_pass = None; passes = [] })) (sym (map-append step_of journal (t ∷ [])))
     (one_more (map step_of journal) (record { run = h; open_pass = None; passes = [] }) (line.Step t.0) _ (journal_progress plan journal h leads)
     (x, record { by_code = next.by_code; legal = next.legal }, refl))
 
@@ -62,15 +62,15 @@ empty_journal (t ∷ ts) e = absurd (cc)
 
 -- and only to runs of the journal, with no pass
 journal_of_leads :
-    (plan : Plan) (lines : List Line) (a : Progress) → Leads plan lines a → (journal : List TaskId) → lines ≡ map step_of journal →
-    LeadsTo plan journal a.run × (a.open_pass ≡ None) × (a.passes ≡ [])
-journal_of_leads plan _ _ no_line journal same = (subst (λ j. LeadsTo plan j []) (sym (empty_journal journal same)) no_step, refl, refl)
+    (plan : Plan) (lines : List Line) (a : Progress) → LinesLead plan lines a → (journal : List TaskId) → lines ≡ map step_of journal →
+    JournalLeadsTo plan journal a.run × (a.open_pass ≡ None) × (a.passes ≡ [])
+journal_of_leads plan _ _ no_line journal same = (subst (λ j. JournalLeadsTo plan j []) (sym (empty_journal journal same)) no_step, refl, refl)
 journal_of_leads plan _ _ (one_more lines a next b leads takes) journal same =
     let (before, t, is, front, last) = last_task lines next journal same in
     let (led, none, no_passes) = journal_of_leads plan lines a leads before front in
     let (x, goes, there) = subst (λ l. Takes plan a l b) last takes in (
-      subst (λ j. LeadsTo plan j b.run) (sym is)
-          (subst (λ r. LeadsTo plan (before ++ t ∷ []) r) (sym (ap (λ (p : Progress). p.run) there))
+      subst (λ j. JournalLeadsTo plan j b.run) (sym is)
+          (subst (λ r. JournalLeadsTo plan (before ++ t ∷ []) r) (sym (ap (λ (p : Progress). p.run) there))
           (one_step before a.run t x led (record { by_code = goes.by_code; legal = goes.legal }))),
       ap (λ (p : Progress). p.open_pass) there ∙ none,
       ap (λ (p : Progress). p.passes) there ∙ no_passes,
@@ -88,7 +88,7 @@ no_fault plan a _ _ checked (strange_task u beyond) t x e goes =
     absurd (cc)
 no_fault plan a _ _ checked (stuck_task u here stuck) t x e goes =
     let same : u ≡ t = cc in
-    stuck x (subst (λ v. IsNext plan a.run v x) (sym same) (record { by_code = goes.by_code; legal = goes.legal }))
+    stuck x (subst (λ v. IsOwnNextStep plan a.run v x) (sym same) (record { by_code = goes.by_code; legal = goes.legal }))
 no_fault plan a _ _ checked (load_without_pass none) t x e goes = absurd (cc)
 no_fault plan a _ _ checked (second_pass some) t x e goes = absurd (cc)
 
@@ -100,9 +100,9 @@ no_verdicts : (plan : Plan) (passes : List Loads) (verdicts : List PassVerdict) 
 no_verdicts plan _ _ no_pass e = refl
 no_verdicts plan _ _ (one_pass passes verdicts loads v before dead) e = absurd (nothing_behind passes loads e)
 
-as_long : (h : List Step) → length (tasks_of h) ≡ length h
+as_long : (h : List Step) → length (journal_of h) ≡ length h
 as_long [] = refl
-as_long (e ∷ h) = (let n = as_long h in omega (arith, length-append (tasks_of h) (record { 0 = e.task } ∷ [])))
+as_long (e ∷ h) = (let n = as_long h in omega (arith, length-append (journal_of h) (record { 0 = e.task } ∷ [])))
 
 pub journal_replays : JournalReplays
 journal_replays plan journal h (Ok done) checked of replays =
@@ -114,7 +114,7 @@ journal_replays plan journal h (Ok done) checked of replays =
     )
 journal_replays plan journal h (Err (Schedule f)) checked of replays =
     let (ahead, t, behind, is, front, here) = task_between replays.before replays.here replays.rest journal replays.parts in
-    let (g, led, x, goes) = each_goes_on plan ahead t behind h (subst (λ j. LeadsTo plan j h) is (journal_leads plan journal h of)) in
+    let (g, led, x, goes) = each_goes_on plan ahead t behind h (subst (λ j. JournalLeadsTo plan j h) is (journal_leads plan journal h of)) in
     let (own, none, no_passes) = journal_of_leads plan replays.before replays.progress replays.leads ahead front in
     let same = journal_fixes_run plan ahead g replays.progress.run led own in
     no_fault plan replays.progress replays.here f.kind checked replays.fault t.0 x here (subst (λ r. GoesOnWith plan r t.0 x) same goes)

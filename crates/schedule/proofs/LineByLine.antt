@@ -14,10 +14,10 @@ use Rattle.armus_base.specs.Statuses.{IsInOrder}
 use Rattle.armus_base.specs.Deadlocks.{IsDeadIn}
 use Rattle.armus_base.specs.FinalLaws.{IsOfPlan}
 use Rattle.armus_base.proofs.StatusesAre.{statuses_are}
-use Rattle.pl_core.specs.declared.place.Place.{Place as Standing}
-use Rattle.pl_core.specs.Moves.{MakesStep}
+use Rattle.pl_core.specs.declared.place.Place.{Place as KeptPlace}
+use Rattle.pl_core.specs.Moves.{IsWorldStep}
 use Rattle.pl_core.specs.Stands.{IsEnabled}
-use Rattle.pl_core.specs.Worlds.{WorldValue, IsOpening, next_action, place_from, places_at, places_of, state_of}
+use Rattle.pl_core.specs.Worlds.{WorldValue, IsOpeningWorld, action_by_code, place_from, places_at, places_of, state_of}
 use Rattle.schedule.specs.declared.lines.Line.{Line}
 use Rattle.schedule.specs.declared.lines.Line.TheVariants as line
 use Rattle.schedule.specs.declared.pass.OpenPass.{OpenPass}
@@ -30,9 +30,9 @@ use Rattle.std.proofs.Common.{get_or, take, drop, take-append-drop, ◌==◌}
 use Rattle.std.proofs.lemmas.List.{take_more, drop_more, length-take-le}
 use Rattle.schedule.specs.declared.replaying.LineEnd.{LineEnd}
 use Rattle.schedule.specs.declared.replaying.LineEnd.TheVariants.{Fault, NoMemory as LineWantsMemory}
-use Rattle.schedule.specs.Replays.{Leads, one_more, Progress, loaded, IsNext, Takes}
+use Rattle.schedule.specs.Replays.{LinesLead, one_more, Progress, loaded, IsOwnNextStep, Takes}
 use Rattle.schedule.specs.Replaying.{AreDeadIn, AreVerdicts, one_pass, Replays}
-use Rattle.schedule.specs.inside.KeptReplays.{IsOpenPass, HasOpenPass, KeepsProgress, TakesLine, end_of}
+use Rattle.schedule.specs.inside.KeptReplays.{IsOpenPass, HasOpenPass, KeepsProgress, TakesLine, end_at_line}
 use Rattle.schedule.proofs.Following.{state_is}
 use Rattle.std.proofs.lemmas.Option.{slice_get_within}
 use Rattle.std.proofs.lemmas.Bool.{eq-eqb, ne_eqb}
@@ -40,13 +40,13 @@ use Rattle.schedule.proofs.Passing.{loads_left}
 use Rattle.schedule.proofs.PassesNameTheDead.{plain_next}
 use Rattle.armus_base.proofs.DeadByStatuses.{dead_by_statuses, run_is_of_plan}
 
-replicated : (a : Standing) (n t : ℕ) → (slice_get (replicate n a) t ≡ None) ⊎ (slice_get (replicate n a) t ≡ Some a)
+replicated : (a : KeptPlace) (n t : ℕ) → (slice_get (replicate n a) t ≡ None) ⊎ (slice_get (replicate n a) t ≡ Some a)
 replicated a zero t = inl refl
 replicated a (suc n) zero = inr refl
 replicated a (suc n) (suc t) = replicated a n t
 
 -- the opening world
-pub opening_is : (plan : Plan) (w : WorldValue) → IsCheckedPlan plan → IsOpening plan w → IsAt w []
+pub opening_is : (plan : Plan) (w : WorldValue) → IsCheckedPlan plan → IsOpeningWorld plan w → IsAt w []
 unfolding places_at
 opening_is plan w checked opens =
     record {
@@ -64,13 +64,13 @@ opening_is plan w checked opens =
         ]
 
 -- a task is enabled exactly where it has a next step
-pub next_is : (plan : Plan) (w : WorldValue) (h : List Step) (t : ℕ) (x : Action) → w.plan ≡ plan → IsAt w h → next_action w t ≡ Some x → IsLegal w.plan (state_of w) t x → IsNext plan h t x
+pub next_is : (plan : Plan) (w : WorldValue) (h : List Step) (t : ℕ) (x : Action) → w.plan ≡ plan → IsAt w h → action_by_code w t ≡ Some x → IsLegal w.plan (state_of w) t x → IsOwnNextStep plan h t x
 next_is plan w h t x same at next legal = record {
   by_code = ap (λ q. action_at q t (places h t).done) (sym same) ∙ ap (λ a. action_at w.plan t (a t).done) (sym at.there) ∙ next;
   legal = subst (λ q. IsLegal q (state_after h) t x) same (subst (λ s. IsLegal w.plan s t x) (state_is w h at) legal);
 }
 
-pub enabled_from : (plan : Plan) (w : WorldValue) (h : List Step) (t : ℕ) (x : Action) → w.plan ≡ plan → IsAt w h → IsNext plan h t x → IsEnabled w t
+pub enabled_from : (plan : Plan) (w : WorldValue) (h : List Step) (t : ℕ) (x : Action) → w.plan ≡ plan → IsAt w h → IsOwnNextStep plan h t x → IsEnabled w t
 enabled_from plan w h t x same at next = (
   x,
   ap (λ a. action_at w.plan t (a t).done) at.there ∙ ap (λ q. action_at q t (places h t).done) same ∙ next.by_code,
@@ -78,12 +78,12 @@ enabled_from plan w h t x same at next = (
 )
 
 -- a step of the world is one more step of the run
-pub step_follows : (plan : Plan) (old new : WorldValue) (h : List Step) (t : ℕ) → old.plan ≡ plan → IsAt old h → MakesStep old new t
-    → (x : Action) × IsNext plan h t x × IsAt new (record { task = t; action = x } ∷ h)
+pub step_follows : (plan : Plan) (old new : WorldValue) (h : List Step) (t : ℕ) → old.plan ≡ plan → IsAt old h → IsWorldStep old new t
+    → (x : Action) × IsOwnNextStep plan h t x × IsAt new (record { task = t; action = x } ∷ h)
 step_follows plan old new h t same at makes =
     let x = makes.action in
-    let next : IsNext plan h t x = next_is plan old h t x same at makes.next makes.legal in
-    let next_old : IsNext old.plan h t x = subst (λ q. IsNext q h t x) (sym same) next in (
+    let next : IsOwnNextStep plan h t x = next_is plan old h t x same at makes.next makes.legal in
+    let next_old : IsOwnNextStep old.plan h t x = subst (λ q. IsOwnNextStep q h t x) (sym same) next in (
       x,
       next,
       record {
@@ -189,12 +189,12 @@ run_grows plan a line.Load b (loads, opened, is) =
 run_grows plan a line.Unreadable b takes = absurd takes
 
 -- one line more
-pub leads_more : (plan : Plan) (lines : List Line) (i : ℕ) (d : Line) (a b : Progress) → i < length lines → Leads plan (take i lines) a → Takes plan a (get_or lines i d) b → Leads plan (take (i + 1) lines) b
-leads_more plan lines i d a b l leads takes = subst (λ v. Leads plan v b) (sym (take_more lines i d l)) (one_more (take i lines) a (get_or lines i d) b leads takes)
+pub leads_more : (plan : Plan) (lines : List Line) (i : ℕ) (d : Line) (a b : Progress) → i < length lines → LinesLead plan (take i lines) a → Takes plan a (get_or lines i d) b → LinesLead plan (take (i + 1) lines) b
+leads_more plan lines i d a b l leads takes = subst (λ v. LinesLead plan v b) (sym (take_more lines i d l)) (one_more (take i lines) a (get_or lines i d) b leads takes)
 
 -- an end at a line
-pub ends_at : (plan : Plan) (lines : List Line) (i : ℕ) (d : Line) (a : Progress) (new : Replaying) (end : LineEnd) → i < length lines → Leads plan (take i lines) a
-    → TakesLine plan a (get_or lines i d) new (Err end) → Replays plan lines (Err (end_of end (i + 1)))
+pub ends_at : (plan : Plan) (lines : List Line) (i : ℕ) (d : Line) (a : Progress) (new : Replaying) (end : LineEnd) → i < length lines → LinesLead plan (take i lines) a
+    → TakesLine plan a (get_or lines i d) new (Err end) → Replays plan lines (Err (end_at_line end (i + 1)))
 ends_at plan lines i d a new (Fault kind) l leads takes =
     record {
       before = take i lines;

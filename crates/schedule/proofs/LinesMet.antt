@@ -17,7 +17,7 @@ use Rattle.armus_base.proofs.Tasks.{reached_or_not}
 use Rattle.schedule.specs.declared.lines.Line.{Line}
 use Rattle.schedule.specs.declared.lines.Line.TheVariants as line
 use Rattle.schedule.specs.Passes.{Loads, loads_of}
-use Rattle.schedule.specs.Replays.{IsFault, IsNext, Leads, Progress, Takes, at_start, load_without_pass, loaded, no_line, one_more, second_pass, strange_task, stuck_task, unreadable}
+use Rattle.schedule.specs.Replays.{IsFault, IsOwnNextStep, LinesLead, Progress, Takes, at_start, load_without_pass, loaded, no_line, one_more, second_pass, strange_task, stuck_task, unreadable}
 use Rattle.schedule.specs.Laws.{IsMet, LineIsMet, LinesAreMet}
 use Rattle.schedule.proofs.PassesNameTheDead.{plain_next}
 
@@ -25,10 +25,10 @@ module _ (plan : Plan) (checked : IsCheckedPlan plan) where
   -- a task has a next step, or it has none
   module _ (h : List Step) (run : IsPlainRun plan h) (t : ℕ) where
     abbrev Goes : Type 0
-    Goes = (x : Action) × IsNext plan h t x
+    Goes = (x : Action) × IsOwnNextStep plan h t x
 
     abbrev IsStuck : Type 0
-    IsStuck = (x : Action) → IsNext plan h t x → ⊥
+    IsStuck = (x : Action) → IsOwnNextStep plan h t x → ⊥
 
     unrefused : (state_after h).refused t ≡ None
     unrefused =
@@ -36,7 +36,7 @@ module _ (plan : Plan) (checked : IsCheckedPlan plan) where
         ∙ ap (refused_at plan t (places h t).done) (plain_undropped plan h run t)
 
     -- the one next action of the code
-    only_next : (x y : Action) → action_at plan t (places h t).done ≡ Some x → IsNext plan h t y → y ≡ x
+    only_next : (x y : Action) → action_at plan t (places h t).done ≡ Some x → IsOwnNextStep plan h t y → y ≡ x
     only_next x y next other = let both : Some y ≡ Some x = sym other.by_code ∙ next in cc
 
     stuck_by : (x : Action) → action_at plan t (places h t).done ≡ Some x → (IsLegal plan (state_after h) t x → ⊥) → IsStuck
@@ -129,12 +129,12 @@ module _ (plan : Plan) (checked : IsCheckedPlan plan) where
   takes_run a line.Unreadable b run takes = absurd takes
 
   -- the run of lines that lead somewhere is plain
-  pub leads_run : (lines : List Line) (a : Progress) → Leads plan lines a → IsPlainRun plan a.run
+  pub leads_run : (lines : List Line) (a : Progress) → LinesLead plan lines a → IsPlainRun plan a.run
   leads_run _ _ no_line = (tt, tt)
   leads_run _ _ (one_more lines a next b leads takes) = takes_run a next b (leads_run lines a leads) takes
 
-  met_from : (before rest : List Line) (a : Progress) → Leads plan before a → IsMet plan (before ++ rest)
-  met_from before [] a leads = inl (a, subst (λ l. Leads plan l a) (sym (append-nil before)) leads)
+  met_from : (before rest : List Line) (a : Progress) → LinesLead plan before a → IsMet plan (before ++ rest)
+  met_from before [] a leads = inl (a, subst (λ l. LinesLead plan l a) (sym (append-nil before)) leads)
   met_from before (next ∷ rest) a leads =
       elim (line_met a next (leads_run before a leads)) [
         | inl one ↦

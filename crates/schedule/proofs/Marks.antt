@@ -10,19 +10,19 @@ use Rattle.std.proofs.Math.ListN.{length-set}
 use Rattle.armus_base.specs.Finals.{given_below}
 use Rattle.pl_core.proofs.Cells.{slice_get-set_same, slice_get-set_other}
 use Rattle.schedule.specs.declared.pass.Waiting.{Waiting}
-use Rattle.schedule.specs.inside.OpenPasses.{marked, phaser_of}
+use Rattle.schedule.specs.inside.OpenPasses.{marked_phaser, phaser_of}
 
 pub given_more : {A : Type 0} (f : ℕ → Option A) (n : ℕ) → given_below f (n + 1) ≡ given_below f n ++ option_to_list (f n)
 given_more f n = ap (given_below f) (add-one n)
 
 -- one that is marked is listed, and one that is not is not
-pub marked_more : (marks : List Bool) (p : ℕ) → p < length marks → get_or marks p false ≡ true → given_below (marked marks) (p + 1) ≡ given_below (marked marks) p ++ record { 0 = p } ∷ []
+pub marked_more : (marks : List Bool) (p : ℕ) → p < length marks → get_or marks p false ≡ true → given_below (marked_phaser marks) (p + 1) ≡ given_below (marked_phaser marks) p ++ record { 0 = p } ∷ []
 marked_more marks p l e =
-    given_more (marked marks) p ∙ ap (λ o. given_below (marked marks) p ++ option_to_list (if unwrap_or o false then Some (record { 0 = p }) else None)) (slice_get-get_or marks p false l ∙ ap Some e)
+    given_more (marked_phaser marks) p ∙ ap (λ o. given_below (marked_phaser marks) p ++ option_to_list (if unwrap_or o false then Some (record { 0 = p }) else None)) (slice_get-get_or marks p false l ∙ ap Some e)
 
-pub unmarked_more : (marks : List Bool) (p : ℕ) → p < length marks → get_or marks p false ≡ false → given_below (marked marks) (p + 1) ≡ given_below (marked marks) p
+pub unmarked_more : (marks : List Bool) (p : ℕ) → p < length marks → get_or marks p false ≡ false → given_below (marked_phaser marks) (p + 1) ≡ given_below (marked_phaser marks) p
 unmarked_more marks p l e =
-    given_more (marked marks) p ∙ ap (λ o. given_below (marked marks) p ++ option_to_list (if unwrap_or o false then Some (record { 0 = p }) else None)) (slice_get-get_or marks p false l ∙ ap Some e) ∙ append-nil (given_below (marked marks) p)
+    given_more (marked_phaser marks) p ∙ ap (λ o. given_below (marked_phaser marks) p ++ option_to_list (if unwrap_or o false then Some (record { 0 = p }) else None)) (slice_get-get_or marks p false l ∙ ap Some e) ∙ append-nil (given_below (marked_phaser marks) p)
 
 -- given by equal functions
 pub given_same : {A : Type 0} (f g : ℕ → Option A) (n : ℕ) → ((k : ℕ) → k < n → f k ≡ g k) → given_below f n ≡ given_below g n
@@ -77,9 +77,9 @@ mark_none marks waiting phasers i d are l beyond =
 
 -- marked are the phasers of the tasks
 pub marks_are : (marks : List Bool) (waiting : List Waiting) (phasers : ℕ) → AreMarks marks waiting phasers (length waiting)
-    → given_below (marked marks) (length marks) ≡ given_below (phaser_of waiting) phasers
+    → given_below (marked_phaser marks) (length marks) ≡ given_below (phaser_of waiting) phasers
 marks_are marks waiting phasers are =
-    ap (given_below (marked marks)) are.all
-    ∙ given_same (marked marks) (phaser_of waiting) phasers
+    ap (given_below (marked_phaser marks)) are.all
+    ∙ given_same (marked_phaser marks) (phaser_of waiting) phasers
     (λ p l. ap (λ o. if unwrap_or o false then Some (record { 0 = p }) else None) (are.each p l)
     ∙ ap (λ t. if list_any (λ w. w.event.p.0 == p) t then Some (record { 0 = p }) else None) (take_all (length waiting) waiting (omega arith)))

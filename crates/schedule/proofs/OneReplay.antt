@@ -7,7 +7,7 @@ use Rattle.armus_base.proofs.Tasks.{action_of_task}
 use Rattle.schedule.specs.declared.lines.Line.{Line}
 use Rattle.schedule.specs.declared.lines.Line.TheVariants as line
 use Rattle.schedule.specs.Passes.{Loads}
-use Rattle.schedule.specs.Replays.{IsFault, Leads, Progress, Takes, at_start, load_without_pass, loaded, no_line, one_more, second_pass, strange_task, stuck_task, unreadable}
+use Rattle.schedule.specs.Replays.{IsFault, LinesLead, Progress, Takes, at_start, load_without_pass, loaded, no_line, one_more, second_pass, strange_task, stuck_task, unreadable}
 use Rattle.schedule.specs.Laws.{NeverBoth, OneFirstFault, OneProgress}
 
 -- ---- lists with a last line
@@ -68,27 +68,27 @@ one_step plan a line.Unreadable b c p q = absurd p
 -- before its last line
 record LeadsBefore (plan : Plan) (lines : List Line) (next : Line) (b : Progress) : Type 0 where
   progress : Progress
-  leads : Leads plan lines progress
+  leads : LinesLead plan lines progress
   takes : Takes plan progress next b
 
-before_last : (plan : Plan) (all lines : List Line) (next : Line) (b : Progress) → all ≡ lines ++ next ∷ [] → Leads plan all b → LeadsBefore plan lines next b
+before_last : (plan : Plan) (all lines : List Line) (next : Line) (b : Progress) → all ≡ lines ++ next ∷ [] → LinesLead plan all b → LeadsBefore plan lines next b
 before_last plan _ lines next _ e no_line = absurd (ends_some lines next e)
 before_last plan _ lines next _ e (one_more front a last b leads takes) =
     let parts = same_ends front lines last next e in
     record {
       progress = a;
-      leads = subst (λ l. Leads plan l a) parts.0 leads;
+      leads = subst (λ l. LinesLead plan l a) parts.0 leads;
       takes = subst (λ x. Takes plan a x b) parts.1 takes;
     }
 
-from_start : (plan : Plan) (all : List Line) (b : Progress) → all ≡ [] → Leads plan all b → at_start ≡ b
+from_start : (plan : Plan) (all : List Line) (b : Progress) → all ≡ [] → LinesLead plan all b → at_start ≡ b
 from_start plan _ _ e no_line = refl
 from_start plan _ _ e (one_more front a last b leads takes) = absurd (ends_some front last (sym e))
 
 pub one_progress : OneProgress
 one_progress plan lines a b p q = go lines a b p q
   where
-    go : (lines : List Line) (a b : Progress) → Leads plan lines a → Leads plan lines b → a ≡ b
+    go : (lines : List Line) (a b : Progress) → LinesLead plan lines a → LinesLead plan lines b → a ≡ b
     go _ _ b no_line q = from_start plan [] b refl q
     go _ _ b (one_more lines a next c leads takes) q =
         let last = before_last plan (lines ++ next ∷ []) lines next b refl q in
@@ -110,14 +110,14 @@ fault_or_taken plan checked a _ _ b (second_pass some) (none, is) = some_or_none
 
 -- lines that lead to a progress have no line at fault
 no_fault_inside : (plan : Plan) → IsCheckedPlan plan → (all : List Line) (b : Progress) (before : List Line) (here : Line) (rest : List Line) (a : Progress) (kind : ℕ)
-    → all ≡ before ++ here ∷ rest → Leads plan before a → IsFault plan a here kind → Leads plan all b → ⊥
+    → all ≡ before ++ here ∷ rest → LinesLead plan before a → IsFault plan a here kind → LinesLead plan all b → ⊥
 no_fault_inside plan checked _ _ [] here rest a kind e leads fault no_line = absurd (cc)
 no_fault_inside plan checked _ _ (x ∷ xs) here rest a kind e leads fault no_line = absurd (cc)
 no_fault_inside plan checked _ _ before here rest a kind e leads fault (one_more front c next b leads_on takes) =
     elim (has_last rest) [
       | inl none ↦
           let parts = same_ends front before next here (e ∙ ap (λ r. before ++ here ∷ r) none) in
-          let same : c ≡ a = one_progress plan before c a (subst (λ l. Leads plan l c) parts.0 leads_on) leads in
+          let same : c ≡ a = one_progress plan before c a (subst (λ l. LinesLead plan l c) parts.0 leads_on) leads in
           fault_or_taken plan checked a here kind b fault (subst (λ x. Takes plan a x b) parts.1 (subst (λ p. Takes plan p next b) same takes))
       | inr more ↦
           let whole : front ++ next ∷ [] ≡ (before ++ here ∷ more.0) ++ more.1 ∷ [] = e ∙ ap (λ r. before ++ here ∷ r) more.2 ∙ sym (append_assoc before (here ∷ more.0) (more.1 ∷ [])) in
@@ -142,7 +142,7 @@ pub one_first_fault : OneFirstFault
 one_first_fault plan lines number kind other another checked p q =
     elim (compared p.before q.before p.here q.here p.rest q.rest (sym p.parts ∙ q.parts)) [
       | inl same ↦
-          let progress_is : p.progress ≡ q.progress = one_progress plan p.before p.progress q.progress p.leads (subst (λ l. Leads plan l q.progress) (sym same.0) q.leads) in (
+          let progress_is : p.progress ≡ q.progress = one_progress plan p.before p.progress q.progress p.leads (subst (λ l. LinesLead plan l q.progress) (sym same.0) q.leads) in (
             p.counted ∙ ap (λ (l : List Line). length l + 1) same.0 ∙ sym q.counted,
             one_kind plan q.progress q.here kind another (subst (λ x. IsFault plan q.progress x kind) same.1 (subst (λ a. IsFault plan a p.here kind) progress_is p.fault)) q.fault,
           )

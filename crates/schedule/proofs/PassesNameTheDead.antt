@@ -34,7 +34,7 @@ use Rattle.armus_base.proofs.Codes.{no_refusal}
 use Rattle.armus_base.proofs.Elements.{nothing_in_nil, Contains-cons_cases}
 use Rattle.schedule.specs.declared.lines.Line.{Line}
 use Rattle.schedule.specs.declared.lines.Line.TheVariants as line
-use Rattle.schedule.specs.Replays.{Progress, at_start, IsNext, Takes, Leads, no_line, one_more}
+use Rattle.schedule.specs.Replays.{Progress, at_start, IsOwnNextStep, Takes, LinesLead, no_line, one_more}
 use Rattle.schedule.specs.Laws.{NamesTheDead, PassesNameTheDead}
 use Rattle.schedule.proofs.Counts.{count_below_less, cell_within}
 use Rattle.schedule.proofs.Moments.{AreMoments, no_moments, more_moments, moments_stay}
@@ -271,7 +271,7 @@ module _ (plan : Plan) (checked : IsCheckedPlan plan) where
       record { run = kept.run; opened = λ other e. (let same : loads ≡ other = cc in subst (λ l. AreMoments plan l a.run) same moments); closed = kept.closed }
 
   -- the next step of a plain run
-  pub plain_next : (h : List Step) → IsPlainRun plan h → (t : ℕ) (x : Action) → IsNext plan h t x → IsPlainRun plan (record { task = t; action = x } ∷ h)
+  pub plain_next : (h : List Step) → IsPlainRun plan h → (t : ℕ) (x : Action) → IsOwnNextStep plan h t x → IsPlainRun plan (record { task = t; action = x } ∷ h)
   plain_next h run t x next = ((run.0, record { legal = next.legal; by_code = by_code }), (run.1, other))
     where
       other : (p : ℕ) → x ≢ Refuses p
@@ -281,7 +281,7 @@ module _ (plan : Plan) (checked : IsCheckedPlan plan) where
       by_code = subst (λ o. IsByCode plan t (places h t).done o x) (sym (plain_undropped plan h run t)) (next.by_code ∙ ap Some (sym (in_code_plain x other)))
 
   -- one more step
-  stepped_kept : (a : Progress) → IsKept a → (t : ℕ) (x : Action) → IsNext plan a.run t x → IsKept (record a { run = record { task = t; action = x } ∷ a.run })
+  stepped_kept : (a : Progress) → IsKept a → (t : ℕ) (x : Action) → IsOwnNextStep plan a.run t x → IsKept (record a { run = record { task = t; action = x } ∷ a.run })
   stepped_kept a kept t x next =
       record {
         run = plain_next a.run kept.run t x next;
@@ -298,7 +298,7 @@ module _ (plan : Plan) (checked : IsCheckedPlan plan) where
       subst IsKept (sym is) (loaded_kept a kept more (more_moments plan loads a.run (kept.opened loads opened) kept.run.0) (length more == loads_of plan more) refl)
   takes_kept a line.Unreadable b kept takes = absurd takes
 
-  leads_kept : (lines : List Line) (a : Progress) → Leads plan lines a → IsKept a
+  leads_kept : (lines : List Line) (a : Progress) → LinesLead plan lines a → IsKept a
   leads_kept _ _ no_line = at_start_kept
   leads_kept _ _ (one_more lines a next b leads takes) = takes_kept a next b (leads_kept lines a leads) takes
 

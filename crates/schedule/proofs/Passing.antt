@@ -10,7 +10,7 @@ use Rattle.armus_base.specs.Finals.{given_below, listed_phase}
 use Rattle.armus_base.specs.Plans.{Plan}
 use Rattle.schedule.specs.declared.pass.OpenPass.{OpenPass}
 use Rattle.schedule.specs.Passes.{Loads, event_found, is_found_awaited, waiting_below, awaited_below, phases_found, loads_of, statuses_found}
-use Rattle.schedule.specs.inside.OpenPasses.{IsPassOf, waiting_found, awaited_found, status_with}
+use Rattle.schedule.specs.inside.OpenPasses.{IsPassOf, waiting_found, awaited_phaser, status_with}
 use Rattle.schedule.proofs.Counts.{cell_within, count_same}
 use Rattle.schedule.proofs.Rows.{length_given, map_given}
 use Rattle.schedule.proofs.Marks.{given_same}
@@ -38,8 +38,8 @@ pub columns_are : (plan : Plan) (loads : Loads) (pass : OpenPass) → IsPassOf p
     → length pass.awaited.items ≡ awaited_below plan loads (length plan.makers)
 columns_are plan loads pass of all =
     ap length (of.awaits.awaited loads (itself loads) all)
-    ∙ length_given (awaited_found plan loads) (length plan.makers)
-    ∙ count_same (λ k. is_some (awaited_found plan loads k)) (is_found_awaited plan loads) (length plan.makers) (λ k. some_if (is_found_awaited plan loads k) (record { 0 = k }))
+    ∙ length_given (awaited_phaser plan loads) (length plan.makers)
+    ∙ count_same (λ k. is_some (awaited_phaser plan loads k)) (is_found_awaited plan loads) (length plan.makers) (λ k. some_if (is_found_awaited plan loads k) (record { 0 = k }))
 
 min_all : (a b : ℕ) → b ≤ a → min a b ≡ b
 min_all a b l = omega arith

@@ -16,7 +16,7 @@ use Rattle.armus_base.specs.States.{Step}
 use Rattle.schedule.specs.declared.pass.OpenPass.{OpenPass}
 use Rattle.schedule.specs.declared.pass.Waiting.{Waiting}
 use Rattle.schedule.specs.Passes.{Loads, event_found, is_found_awaited, waiting_below, awaited_below, phase_after, phase_load, phases_found}
-use Rattle.schedule.specs.inside.OpenPasses.{IsPassOf, IsMidPass, HasPlace, KeepsPhase, EndsRow, waiting_found, awaited_found, member_found, row_found, status_with}
+use Rattle.schedule.specs.inside.OpenPasses.{IsPassOf, IsMidPass, HasPlace, KeepsPhase, EndsRow, waiting_found, awaited_phaser, member_found, row_found, status_with}
 use Rattle.schedule.proofs.Awaiting.{extends_less, has_next}
 use Rattle.schedule.proofs.Counts.{count_same}
 use Rattle.schedule.proofs.Passing.{itself, full_is, some_map, some_if}
@@ -75,7 +75,7 @@ module _ (plan : Plan) (pass : OpenPass) (mid : IsMidPass plan pass) where
   pub phaser_within : (p : PhaserId) → slice_get pass.awaited.items pass.column ≡ Some p → p.0 < length plan.makers
   phaser_within p is =
       let given = mid.of.awaits.awaited mid.loads (itself mid.loads) all_loaded in
-      let (q, l, gives, counted) = at_place (awaited_found plan mid.loads) (length plan.makers) pass.column p (ap (λ v. slice_get v pass.column) (sym given) ∙ is) in
+      let (q, l, gives, counted) = at_place (awaited_phaser plan mid.loads) (length plan.makers) pass.column p (ap (λ v. slice_get v pass.column) (sym given) ∙ is) in
       subst (λ k. k < length plan.makers) (number_of_marked q (is_found_awaited plan mid.loads q) p gives) l
 
 -- the next load finds the phase of the row's task on the column's phaser
@@ -103,15 +103,15 @@ module _ (plan : Plan) (pass : OpenPass) (mid : IsMidPass plan pass) (loads : Lo
     column_is : awaited_below plan all p.0 ≡ pass.column
     column_is =
         let given = of.awaits.awaited all before full in
-        let (q, l, gives, counted) = at_place (awaited_found plan all) (length plan.makers) pass.column p (ap (λ v. slice_get v pass.column) (sym given) ∙ there) in
+        let (q, l, gives, counted) = at_place (awaited_phaser plan all) (length plan.makers) pass.column p (ap (λ v. slice_get v pass.column) (sym given) ∙ there) in
         ap (awaited_below plan all) (sym (number_of_marked q (is_found_awaited plan all q) p gives))
-        ∙ sym (count_same (λ k. is_some (awaited_found plan all k)) (is_found_awaited plan all) q (λ k. some_if (is_found_awaited plan all k) (record { 0 = k }))) ∙ counted
+        ∙ sym (count_same (λ k. is_some (awaited_phaser plan all k)) (is_found_awaited plan all) q (λ k. some_if (is_found_awaited plan all k) (record { 0 = k }))) ∙ counted
 
     columns : awaited_below plan all (length plan.makers) ≡ length pass.awaited.items
     columns =
         sym (ap length (of.awaits.awaited all before full)
-        ∙ length_given (awaited_found plan all) (length plan.makers)
-        ∙ count_same (λ k. is_some (awaited_found plan all k)) (is_found_awaited plan all) (length plan.makers) (λ k. some_if (is_found_awaited plan all k) (record { 0 = k })))
+        ∙ length_given (awaited_phaser plan all) (length plan.makers)
+        ∙ count_same (λ k. is_some (awaited_phaser plan all k)) (is_found_awaited plan all) (length plan.makers) (λ k. some_if (is_found_awaited plan all k) (record { 0 = k })))
 
     load_is : phase_load plan all w.t.0 p.0 ≡ length loads
     load_is =
@@ -141,7 +141,7 @@ module _ (plan : Plan) (pass : OpenPass) (mid : IsMidPass plan pass) (loads : Lo
     row_status : flat_map (member_found plan all w.t.0) pass.awaited.items ≡ given_below (listed_phase (is_found_awaited plan all) (phases_found plan all w.t.0)) (length plan.makers)
     row_status =
         ap (flat_map (member_found plan all w.t.0)) (of.awaits.awaited all before full)
-        ∙ flat_given (λ q. option_map (λ n. record { p = q; n = n }) (phases_found plan all w.t.0 q.0)) (awaited_found plan all) (listed_phase (is_found_awaited plan all) (phases_found plan all w.t.0)) (length plan.makers)
+        ∙ flat_given (λ q. option_map (λ n. record { p = q; n = n }) (phases_found plan all w.t.0 q.0)) (awaited_phaser plan all) (listed_phase (is_found_awaited plan all) (phases_found plan all w.t.0)) (length plan.makers)
         (λ k l. one k (is_found_awaited plan all k))
       where
         one : (k : ℕ) (b : Bool) → flat_map (member_found plan all w.t.0) (option_to_list (if b then Some (record { 0 = k }) else None))

@@ -12,7 +12,7 @@ use Rattle.schedule.specs.Lines.{AllSay, HasNoEnd, IsCut, IsFirstLine, IsSchedul
 use Rattle.schedule.specs.Split.{IsSplit, at_mark, mark, more_text}
 use Rattle.schedule.proofs.LinesExist.{first_exists, no_end_more, no_end_nil}
 use Rattle.schedule.proofs.OneSchedule.{no_end_inside}
-use Rattle.schedule.specs.Records.{AreReadable, HasNoMark, IsClosed, IsEnded, RecordIsRead, recorded, step_line, step_lines, step_of}
+use Rattle.schedule.specs.Records.{AreReadable, HasNoMark, IsClosedText, IsEnded, RecordIsRead, recorded, step_line, step_lines, step_of}
 
 own : IsNumeralModel (AllDigits 10) (digits_value 10)
 own = numerals_by_value (AllDigits 10) tells_digits
@@ -111,7 +111,7 @@ steps_are_lines journal small =
 
 -- ---- both
 
-closed_ended : (text closed : List ℕ) → IsClosed text closed → IsEnded closed
+closed_ended : (text closed : List ℕ) → IsClosedText text closed → IsEnded closed
 closed_ended text closed (inl (same, ends)) = subst IsEnded (sym same) ends
 closed_ended text closed (inr (longer, unclosed)) = inr (text, longer)
 

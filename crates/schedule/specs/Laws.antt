@@ -8,7 +8,7 @@ use Rattle.armus_base.specs.Runs.{IsPlainRun, state_after}
 use Rattle.schedule.specs.declared.lines.Line.{Line}
 use Rattle.schedule.specs.Passes.{Loads, statuses_found}
 use Rattle.schedule.specs.Lines.{IsSchedule}
-use Rattle.schedule.specs.Replays.{Progress, IsFault, IsFirstFault, Leads, Takes}
+use Rattle.schedule.specs.Replays.{Progress, IsFault, IsFirstFault, LinesLead, Takes}
 use Rattle.schedule.specs.Split.{IsSplit}
 
 -- a closed pass names every task that is dead at its first load, and only tasks that are dead at its last
@@ -19,7 +19,7 @@ pub record NamesTheDead (plan : Plan) (loads : Loads) : Type 0 where
 -- so does each closed pass of every schedule
 abbrev pub PassesNameTheDead : Type 0
 PassesNameTheDead =
-    (plan : Plan) (lines : List Line) (a : Progress) (loads : Loads) → IsCheckedPlan plan → Leads plan lines a → Contains a.passes loads →
+    (plan : Plan) (lines : List Line) (a : Progress) (loads : Loads) → IsCheckedPlan plan → LinesLead plan lines a → Contains a.passes loads →
     NamesTheDead plan loads
 
 -- an input has one text and one schedule
@@ -32,12 +32,12 @@ OneReading = (bytes : List ℕ) (lines others : List Line) → IsSchedule bytes 
 
 -- lines lead to one progress
 abbrev pub OneProgress : Type 0
-OneProgress = (plan : Plan) (lines : List Line) (a b : Progress) → Leads plan lines a → Leads plan lines b → a ≡ b
+OneProgress = (plan : Plan) (lines : List Line) (a b : Progress) → LinesLead plan lines a → LinesLead plan lines b → a ≡ b
 
 -- no lines both lead to a progress and have a first fault
 abbrev pub NeverBoth : Type 0
 NeverBoth =
-    (plan : Plan) (lines : List Line) (a : Progress) (number kind : ℕ) → IsCheckedPlan plan → Leads plan lines a → IsFirstFault plan lines number kind → ⊥
+    (plan : Plan) (lines : List Line) (a : Progress) (number kind : ℕ) → IsCheckedPlan plan → LinesLead plan lines a → IsFirstFault plan lines number kind → ⊥
 
 -- lines have one first fault
 abbrev pub OneFirstFault : Type 0
@@ -53,7 +53,7 @@ LineIsMet =
 
 -- the lines lead to a progress, or have a first fault
 abbrev pub IsMet : Plan → List Line → Type 0
-IsMet plan lines = ((a : Progress) × Leads plan lines a) ⊎ ((number : ℕ) × (kind : ℕ) × IsFirstFault plan lines number kind)
+IsMet plan lines = ((a : Progress) × LinesLead plan lines a) ⊎ ((number : ℕ) × (kind : ℕ) × IsFirstFault plan lines number kind)
 
 -- so is each list of lines
 abbrev pub LinesAreMet : Type 0

@@ -1,5 +1,5 @@
 -- The lines of a schedule: how bytes are cut into them, and what each one says.
-use Rattle.std.specs.Prelude.{◌≡◌, ◌≢◌, ℕ, ◌<◌, ◌^◌, List, [], ◌∷◌, ◌++◌, codes, All, length, slice_index, ◌≤◌}
+use Rattle.std.specs.Prelude.{◌≡◌, ◌≢◌, ℕ, ◌<◌, ◌^◌, List, [], ◌∷◌, ◌++◌, codes, All}
 use Rattle.std.specs.Fmt.{decimal}
 use Rattle.schedule.specs.declared.lines.TheConstants.{MOST_DIGITS}
 use Rattle.schedule.specs.declared.lines.Line.{Line}
@@ -22,13 +22,6 @@ pub data IsFirstLine (bytes line rest : List ℕ) : Type 0 where
 pub data IsCut : List ℕ → List (List ℕ) → Type 0 where
   no_line : IsCut [] []
   a_line : (bytes line rest : List ℕ) (lines : List (List ℕ)) → IsFirstLine bytes line rest → IsCut rest lines → IsCut bytes (line ∷ lines)
-
--- bytes, not more than a task's number has digits, with neither a leading zero nor a sign
-pub record MayBeNumber (bytes : List ℕ) : Type 0 where
-  pub some : 0 < length bytes
-  pub few : length bytes ≤ MOST_DIGITS
-  pub no_zero : slice_index bytes 0 ≡ 48 → length bytes ≡ 1
-  pub no_sign : slice_index bytes 0 ≢ 43
 
 -- the spelling of a line: `t` and a task's number of at most nine digits, without leading zeros; `pass`; or `l`
 abbrev pub Spells : List ℕ → Line → Type 0

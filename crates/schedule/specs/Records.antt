@@ -24,8 +24,8 @@ abbrev pub IsEnded : List ℕ → Type 0
 IsEnded bytes = (bytes ≡ []) ⊎ ((front : List ℕ) × (bytes ≡ front ++ line_end ∷ []))
 
 -- the text, with an LF behind it where its last line is not ended by one
-abbrev pub IsClosed : List ℕ → List ℕ → Type 0
-IsClosed text closed = ((closed ≡ text) × IsEnded text) ⊎ ((closed ≡ text ++ line_end ∷ []) × (IsEnded text → ⊥))
+abbrev pub IsClosedText : List ℕ → List ℕ → Type 0
+IsClosedText text closed = ((closed ≡ text) × IsEnded text) ⊎ ((closed ≡ text ++ line_end ∷ []) × (IsEnded text → ⊥))
 
 -- the line of a step: t 3
 abbrev pub step_line : TaskId → List ℕ
@@ -42,7 +42,7 @@ recorded closed journal = closed ++ (mark ++ line_end ∷ []) ++ step_lines jour
 -- the bytes record this text with this journal
 pub record IsRecord (text : List ℕ) (journal : List TaskId) (bytes : List ℕ) : Type 0 where
   pub closed : List ℕ
-  pub closed_is : IsClosed text closed
+  pub closed_is : IsClosedText text closed
   pub bytes_are : bytes ≡ recorded closed journal
 
 -- ---- what is read in them

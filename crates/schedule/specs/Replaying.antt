@@ -12,7 +12,7 @@ use Rattle.schedule.specs.declared.verdict.Replayed.{Replayed}
 use Rattle.schedule.specs.declared.verdict.ReplayEnd.{ReplayEnd}
 use Rattle.schedule.specs.declared.verdict.ReplayEnd.TheVariants.{Schedule, NoMemory}
 use Rattle.schedule.specs.Passes.{Loads, statuses_found}
-use Rattle.schedule.specs.Replays.{Progress, Leads, IsFirstFault}
+use Rattle.schedule.specs.Replays.{Progress, LinesLead, IsFirstFault}
 
 -- each verdict names the tasks that are dead by the statuses that its pass found
 pub data AreVerdicts (plan : Plan) : List Loads → List PassVerdict → Type 0 where
@@ -28,7 +28,7 @@ pub record AreDeadIn (s : State) (dead : List TaskId) : Type 0 where
 -- what a schedule without a fault leads to: the verdicts of its passes, the number of its steps, and the dead tasks of the state at its end
 pub record IsReplayed (plan : Plan) (lines : List Line) (done : Replayed) : Type 0 where
   pub progress : Progress
-  pub leads : Leads plan lines progress
+  pub leads : LinesLead plan lines progress
   pub verdicts : AreVerdicts plan progress.passes done.verdicts
   pub steps : done.steps ≡ length progress.run
   pub dead : AreDeadIn (state_after progress.run) done.dead

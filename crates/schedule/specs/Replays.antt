@@ -18,7 +18,7 @@ abbrev pub at_start : Progress
 at_start = record { run = []; open_pass = None; passes = [] }
 
 -- the step by which task t goes on by its code, if it has one
-pub record IsNext (plan : Plan) (h : List Step) (t : ℕ) (x : Action) : Type 0 where
+pub record IsOwnNextStep (plan : Plan) (h : List Step) (t : ℕ) (x : Action) : Type 0 where
   pub by_code : action_at plan t (places h t).done ≡ Some x
   pub legal : IsLegal plan (state_after h) t x
 
@@ -29,15 +29,15 @@ loaded plan a loads =
 
 -- a line that is at no fault leads from one progress to the next
 abbrev pub Takes : Plan → Progress → Line → Progress → Type 0
-Takes plan a (line.Step t) b = (x : Action) × IsNext plan a.run t x × b ≡ record a { run = record { task = t; action = x } ∷ a.run }
+Takes plan a (line.Step t) b = (x : Action) × IsOwnNextStep plan a.run t x × b ≡ record a { run = record { task = t; action = x } ∷ a.run }
 Takes plan a line.Pass b = a.open_pass ≡ None × b ≡ record a { open_pass = Some [] }
 Takes plan a line.Load b = (loads : Loads) × a.open_pass ≡ Some loads × b ≡ loaded plan a (loads ++ a.run ∷ [])
 Takes plan a line.Unreadable b = ⊥
 
 -- these lines, each at no fault, lead to this progress
-pub data Leads (plan : Plan) : List Line → Progress → Type 0 where
-  no_line : Leads plan [] at_start
-  one_more : (lines : List Line) (a : Progress) (next : Line) (b : Progress) → Leads plan lines a → Takes plan a next b → Leads plan (lines ++ next ∷ []) b
+pub data LinesLead (plan : Plan) : List Line → Progress → Type 0 where
+  no_line : LinesLead plan [] at_start
+  one_more : (lines : List Line) (a : Progress) (next : Line) (b : Progress) → LinesLead plan lines a → Takes plan a next b → LinesLead plan (lines ++ next ∷ []) b
 
 -- the kind of a line that has no form
 abbrev pub no_form : ℕ
@@ -63,7 +63,7 @@ pass_is_open = 5
 pub data IsFault (plan : Plan) (a : Progress) : Line → ℕ → Type 0 where
   unreadable : IsFault plan a line.Unreadable no_form
   strange_task : (t : ℕ) → length plan.parents ≤ t → IsFault plan a (line.Step t) no_task
-  stuck_task : (t : ℕ) → t < length plan.parents → ((x : Action) → IsNext plan a.run t x → ⊥) → IsFault plan a (line.Step t) not_enabled
+  stuck_task : (t : ℕ) → t < length plan.parents → ((x : Action) → IsOwnNextStep plan a.run t x → ⊥) → IsFault plan a (line.Step t) not_enabled
   load_without_pass : a.open_pass ≡ None → IsFault plan a line.Load no_open_pass
   second_pass : IsSome a.open_pass → IsFault plan a line.Pass pass_is_open
 
@@ -74,6 +74,6 @@ pub record IsFirstFault (plan : Plan) (lines : List Line) (number kind : ℕ) : 
   pub rest : List Line
   pub parts : lines ≡ before ++ here ∷ rest
   pub progress : Progress
-  pub leads : Leads plan before progress
+  pub leads : LinesLead plan before progress
   pub fault : IsFault plan progress here kind
   pub counted : number ≡ length before + 1

@@ -1,3 +1,4 @@
 pub mod Following
 pub mod OpenPasses
 pub mod KeptReplays
+pub mod Numbers

@@ -1,7 +1,8 @@
 // The lines of a schedule.
 ghost use Rattle.std.specs.Prelude.{◌≡◌, ◌<◌, ◌≤◌, ◌^◌, ℕ, List as Seq, Some, None, IfOk, IsTrue, ◌↔◌, MatchOption, length, take, slice_index};
 ghost use Rattle.std.specs.Fmt.{decimal};
-ghost use Rattle.schedule.specs.Lines.{line_end, HasNoEnd, IsFirstLine, IsSchedule, MayBeNumber, Says};
+ghost use Rattle.schedule.specs.Lines.{line_end, HasNoEnd, IsFirstLine, IsSchedule, Says};
+ghost use Rattle.schedule.specs.inside.Numbers.{MayBeNumber};
 
 use armus_base::{List, NoMemory};
 use std::alloc::Global;

@@ -3,7 +3,7 @@ ghost use Rattle.std.specs.Prelude.{◌≡◌, ◌<◌, ◌≤◌, ◌+◌, ◌^
 ghost use Rattle.armus_base.specs.Finals.{given_below};
 ghost use Rattle.armus_base.specs.States.{Step};
 ghost use Rattle.schedule.specs.Passes.{Loads, loads_of, statuses_found};
-ghost use Rattle.schedule.specs.inside.OpenPasses.{EndsRow, IsMidPass, IsPassOf, KeepsEvent, KeepsPhase, marked, phaser_of};
+ghost use Rattle.schedule.specs.inside.OpenPasses.{EndsRow, IsMidPass, IsPassOf, KeepsEvent, KeepsPhase, marked_phaser, phaser_of};
 ghost use Rattle.armus_base.specs.CheckedPlans.{IsCheckedPlan};
 ghost use Rattle.armus_base.specs.Plans.{Plan as PlanValue};
 ghost use Rattle.schedule.specs.inside.Following.{IsAt};
@@ -57,7 +57,7 @@ fn awaited_phasers(
 // The phasers that are marked.
 fn listed(alloc: Global, marks: &[bool]) -> Result<Vec<PhaserId>, NoMemory>
     requires few { length marks.now < 2 ^ 32 }
-    ensures { IfOk result (λ all. all.items ≡ given_below (marked marks.now) (length marks.now)) }
+    ensures { IfOk result (λ all. all.items ≡ given_below (marked_phaser marks.now) (length marks.now)) }
 {
     let mut all = Vec::new(alloc);
     for (p, mark) in marks.iter().enumerate() {

@@ -1,13 +1,13 @@
 // Records: the text of a run with the journal of its steps.
 ghost use Rattle.std.specs.Prelude.{◌≡◌, ◌++◌, IfOk, OnOk};
-ghost use Rattle.schedule.specs.Records.{IsClosed, IsRecord, step_line, step_lines};
+ghost use Rattle.schedule.specs.Records.{IsClosedText, IsRecord, step_line, step_lines};
 
 use armus_base::{List, NoMemory, TaskId};
 use std::alloc::{AllocError, Global};
 
 // What is wanted behind a text: an LF, where the text is not empty and does not end with one.
 fn last_end(text: &[u8]) -> &'static [u8]
-    ensures { IsClosed text.now (text.now ++ result.now) }
+    ensures { IsClosedText text.now (text.now ++ result.now) }
 {
     match text.split_last() {
         Some((last, _)) => { if *last == b'\n' { &[] } else { b"\n" } }

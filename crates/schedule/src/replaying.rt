@@ -10,7 +10,7 @@ ghost use Rattle.schedule.specs.inside.OpenPasses.{IsPassOf};
 ghost use Rattle.schedule.specs.Passes.{Loads, loads_of};
 ghost use Rattle.schedule.specs.Replays.{Progress, at_start};
 ghost use Rattle.schedule.specs.Replaying.{AreDeadIn, Replays};
-ghost use Rattle.schedule.specs.inside.KeptReplays.{HasOpenPass, KeepsProgress, TakesLine, end_of};
+ghost use Rattle.schedule.specs.inside.KeptReplays.{HasOpenPass, KeepsProgress, TakesLine, end_at_line};
 
 use crate::Line;
 use crate::pass::OpenPass;
@@ -163,7 +163,7 @@ fn dead_in(alloc: Global, world: &World<'_>) -> Result<List<TaskId>, NoMemory>
 
 // The end of a replay at the line with this number.
 fn end_at(end: LineEnd, line: u32) -> ReplayEnd
-    ensures { result ≡ end_of end line }
+    ensures { result ≡ end_at_line end line }
 {
     match end {
         LineEnd::Fault(kind) => ReplayEnd::Schedule(ScheduleFault { line, kind }),

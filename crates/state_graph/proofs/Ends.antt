@@ -4,7 +4,8 @@ use Rattle.armus_base.specs.Statuses.{IsInOrder}
 use Rattle.armus_base.specs.declared.status.Status.{Status}
 use Rattle.dep_state.specs.Deps.{Deps, IsDepsOf}
 use Rattle.dep_state.proofs.TaskPlaces.{count}
-use Rattle.state_graph.specs.BoundedEnds.{IsBoundedEnd, IsEndAt}
+use Rattle.state_graph.specs.BoundedEnds.{IsBoundedEnd}
+use Rattle.state_graph.specs.inside.Ends.{IsEndAt}
 use Rattle.state_graph.specs.declared.end.SgEnd.{SgEnd}
 use Rattle.state_graph.specs.declared.end.SgEnd.TheVariants.{Left, NoMemory}
 use Rattle.state_graph.proofs.StatePlaces.{state_count, count_state}

@@ -9,7 +9,8 @@ use Rattle.armus_base.specs.Counts.{IsCount}
 use Rattle.armus_base.proofs.Counts.{count_same, count_unique, count_none}
 use Rattle.dep_state.specs.Deps.{Deps, AreRelations, impeders_of}
 use Rattle.dep_state.specs.Deps.{IsAwaitedBy}
-use Rattle.state_graph.specs.StateEdges.{IsStatePair, IsStateCount, StaysSmallBelow, IsGrown, IsReversed}
+use Rattle.state_graph.specs.StateEdges.{IsStatePair}
+use Rattle.state_graph.specs.inside.Growing.{IsStateCount, StaysSmallBelow, IsGrown, IsReversed}
 use Rattle.digraph.proofs.AddedEdges.{no_edge}
 use Rattle.dep_state.proofs.TaskPlaces.{row_some}
 

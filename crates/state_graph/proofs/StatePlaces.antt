@@ -15,7 +15,8 @@ use Rattle.dep_state.proofs.DeadSets.{IsDead, dead_to_state, state_to_dead}
 use Rattle.dep_state.proofs.EventPlaces.{EventAt, one_event, one_event_place, awaited_at, impeded_at}
 use Rattle.dep_state.proofs.TaskPlaces.{element, count}
 use Rattle.dep_state.proofs.Transfer.{transfer}
-use Rattle.state_graph.specs.StateEdges.{IsStatePair, IsStateCount, StaysSmallBelow}
+use Rattle.state_graph.specs.StateEdges.{IsStatePair}
+use Rattle.state_graph.specs.inside.Growing.{IsStateCount, StaysSmallBelow}
 
 module _ (ss : List Status) (ok : IsInOrder ss) (d : Deps) (is : IsDepsOf ss d) where
   sized : length d.tasks ≡ length ss

@@ -15,7 +15,8 @@ use Rattle.dep_state.specs.Deps.{Deps, IsDepsOf}
 use Rattle.dep_state.specs.Picks.{IsPick}
 use Rattle.dep_state.proofs.Made.{left_of}
 use Rattle.dep_state.proofs.TaskPlaces.{count, dead_picked}
-use Rattle.state_graph.specs.StateEdges.{IsAnswersAt, StateEdges, IsStateGraphOf, IsStatePair}
+use Rattle.state_graph.specs.inside.Growing.{IsAnswersAt}
+use Rattle.state_graph.specs.StateEdges.{StateEdges, IsStateGraphOf, IsStatePair}
 use Rattle.state_graph.proofs.StatePlaces.{dead_event, edges_count}
 
 module _ (ss : List Status) (ok : IsInOrder ss) (d : Deps) (is : IsDepsOf ss d) where

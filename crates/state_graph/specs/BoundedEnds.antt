@@ -2,8 +2,6 @@
 use Rattle.std.specs.Prelude.{ℕ, ◌*◌, ◌<◌, ◌≤◌, List, length}
 use Rattle.armus_base.specs.Graphs.{StateCount}
 use Rattle.armus_base.specs.declared.status.Status.{Status}
-use Rattle.dep_state.specs.Deps.{Deps}
-use Rattle.state_graph.specs.StateEdges.{IsStateCount, StaysSmallBelow}
 use Rattle.state_graph.specs.declared.end.SgEnd.{SgEnd}
 use Rattle.state_graph.specs.declared.end.SgEnd.TheVariants.{Left, NoMemory}
 
@@ -18,8 +16,3 @@ pub record IsFirstLarge (ss : List Status) (k n : ℕ) : Type 0 where
 abbrev pub IsBoundedEnd : List Status → SgEnd → Type 0
 IsBoundedEnd ss (Left k edges) = IsFirstLarge ss k edges
 IsBoundedEnd ss NoMemory = Unit {0}
-
--- the same by places
-abbrev pub IsEndAt : Deps → SgEnd → Type 0
-IsEndAt d (Left k edges) = (k ≤ length d.tasks) × IsStateCount d k edges × (2 * k < edges) × StaysSmallBelow d k
-IsEndAt d NoMemory = Unit {0}

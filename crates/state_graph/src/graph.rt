@@ -8,7 +8,8 @@ ghost use Rattle.armus_base.specs.declared.event.Event.{Event};
 ghost use Rattle.armus_base.specs.declared.status.Status.{Status};
 ghost use Rattle.digraph.specs.Graph.{HasEdge};
 ghost use Rattle.dep_state.specs.Deps.{Deps, IsDepsOf};
-ghost use Rattle.state_graph.specs.StateEdges.{IsStateGraphOf, IsStatePair, IsAnswersAt};
+ghost use Rattle.state_graph.specs.StateEdges.{IsStateGraphOf, IsStatePair};
+ghost use Rattle.state_graph.specs.inside.Growing.{IsAnswersAt};
 ghost use Rattle.state_graph.specs.BoundedEnds.{IsBoundedEnd};
 
 use crate::end::SgEnd;

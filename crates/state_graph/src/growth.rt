@@ -2,8 +2,8 @@
 ghost use Rattle.std.specs.Prelude.{◌≡◌, ◌↔◌, ◌⊎◌, ◌+◌, ◌<◌, ◌≤◌, ℕ, true, false, length, All, Contains, slice_index, slice_index_or, IfOk, OnOk, MatchResult};
 ghost use Rattle.digraph.specs.Graph.{HasEdge, graph_of};
 ghost use Rattle.dep_state.specs.Deps.{impeders_of};
-ghost use Rattle.state_graph.specs.StateEdges.{IsGrown, StaysSmallBelow};
-ghost use Rattle.state_graph.specs.BoundedEnds.{IsEndAt};
+ghost use Rattle.state_graph.specs.inside.Growing.{IsGrown, StaysSmallBelow};
+ghost use Rattle.state_graph.specs.inside.Ends.{IsEndAt};
 
 use crate::end::SgEnd;
 use crate::reversed::reversed;

@@ -1,7 +1,7 @@
 // The events that each task impedes.
 ghost use Rattle.std.specs.Prelude.{◌≡◌, ◌↔◌, ◌⊎◌, ◌<◌, ℕ, [], length, replicate, All, Contains, IfOk, OnOk};
 ghost use Rattle.digraph.specs.Graph.{HasEdge, AddsEdge, graph_of};
-ghost use Rattle.state_graph.specs.StateEdges.{IsReversed};
+ghost use Rattle.state_graph.specs.inside.Growing.{IsReversed};
 
 use dep_state::DepState;
 use std::alloc::{AllocError, Global};

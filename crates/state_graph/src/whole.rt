@@ -2,7 +2,7 @@
 ghost use Rattle.std.specs.Prelude.{◌≡◌, ◌↔◌, ◌⊎◌, ◌<◌, ℕ, length, Contains, slice_index, IfOk, OnOk};
 ghost use Rattle.digraph.specs.Graph.{HasEdge};
 ghost use Rattle.dep_state.specs.Deps.{impeders_of};
-ghost use Rattle.state_graph.specs.StateEdges.{IsWhole};
+ghost use Rattle.state_graph.specs.inside.Growing.{IsWhole};
 
 use armus_base::NoMemory;
 use dep_state::DepState;

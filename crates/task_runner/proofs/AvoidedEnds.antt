@@ -13,7 +13,7 @@ use Rattle.armus_base.proofs.Fixed.{phases_forked}
 use Rattle.pl_core.specs.declared.place.Place.{Place as Standing}
 use Rattle.pl_core.specs.declared.stand.Stand.TheVariants.{Refused, Waits}
 use Rattle.pl_core.specs.Stands.{IsEnabled}
-use Rattle.pl_core.specs.Worlds.{WorldValue, dropped_at, memberships, next_action, place_from, places_at, places_of, state_of}
+use Rattle.pl_core.specs.Worlds.{WorldValue, dropped_at, memberships, action_by_code, place_from, places_at, places_of, state_of}
 use Rattle.pl_core.proofs.Bounds.{phaser_of_member}
 use Rattle.pl_core.proofs.GoingOn.{goes_on, legal_when_active, legal_when_reached, passes_when_waiting}
 use Rattle.pl_core.proofs.Refusing.{dropped_below}
@@ -62,12 +62,12 @@ module _ (w : WorldValue) (checked : IsCheckedPlan w.plan) (reach : IsReachable 
   pub ended_here : (state_of w).forked t ≡ true → (IsEnabled w t → ⊥) → HasEnded w.plan (state_of w) (places_of w t) t
   ended_here forked stuck = by_published ((state_of w).published t) refl
     where
-      by_next : IsActive (state_of w) t → (o : Option Action) → next_action w t ≡ o → HasEnded w.plan (state_of w) (places_of w t) t
+      by_next : IsActive (state_of w) t → (o : Option Action) → action_by_code w t ≡ o → HasEnded w.plan (state_of w) (places_of w t) t
       by_next active None e = is_done e
       by_next active (Some x) e = absurd (stuck (x, e, legal_when_active w checked reach t x active e))
 
       by_refused : (state_of w).published t ≡ None → (o : Option Event) → (state_of w).refused t ≡ o → HasEnded w.plan (state_of w) (places_of w t) t
-      by_refused none None e = by_next (record { forked = forked; unpublished = none; unrefused = e }) (next_action w t) refl
+      by_refused none None e = by_next (record { forked = forked; unpublished = none; unrefused = e }) (action_by_code w t) refl
       by_refused none (Some event) e = is_refused (let some : IsSome (Some event) = refl in subst (λ (o : Option Event). IsSome o) (sym e) some) (left_all forked event e)
 
       by_published : (o : Option Event) → (state_of w).published t ≡ o → HasEnded w.plan (state_of w) (places_of w t) t

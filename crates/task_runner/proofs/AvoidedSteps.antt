@@ -9,7 +9,7 @@ use Rattle.armus_base.specs.Serial.{GoesOn, IsDecided}
 use Rattle.armus_base.specs.States.{IsLegal, State, Step}
 use Rattle.armus_base.proofs.Codes.{no_refusal}
 use Rattle.armus_base.proofs.Stepping.{places_fix}
-use Rattle.pl_core.specs.Moves.{LeadsOn, MakesStep, drops_from}
+use Rattle.pl_core.specs.Moves.{LeadsOn, IsWorldStep, drops_from}
 use Rattle.pl_core.specs.Worlds.{WorldValue, places_of, state_of}
 use Rattle.avoider.specs.declared.decision.Decision.{Decision}
 use Rattle.avoider.specs.declared.decision.Decision.TheVariants.{Published, Refused}
@@ -89,7 +89,7 @@ module _ (old new : WorldValue) (checked : IsCheckedPlan old.plan) (t : ℕ) whe
   same_state h leads = leads_state old.plan checked h old leads
 
   -- a step that is decided
-  pub step_adds : (s : MakesStep old new t) (h : List Step) → LeadsTo old.plan h old → IsDecided (state_of old) t s.action → Adds h
+  pub step_adds : (s : IsWorldStep old new t) (h : List Step) → LeadsTo old.plan h old → IsDecided (state_of old) t s.action → Adds h
   step_adds s h leads decided =
       let own = record { task = t; action = s.action } ∷ [] in
       let run = leads_run old.plan checked (places_of old) own (places_of new) h leads.run leads.there s.run in (

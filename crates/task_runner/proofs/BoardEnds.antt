@@ -25,7 +25,7 @@ use Rattle.board.specs.Seats.{Frame, IsOf, Known}
 use Rattle.board.specs.Views.{avoids, own_place, seen}
 use Rattle.board.specs.Words.{IsShown}
 use Rattle.board.proofs.Seated.{event_here}
-use Rattle.phase_scan.specs.Looks.{GoesOn}
+use Rattle.phase_scan.specs.Looks.{LoadsAlone}
 use Rattle.board_rounds.specs.Turns.{EndsTurn, Working, is_behind, is_done, is_locked_out, is_refused, standing_of}
 use Rattle.board_rounds.specs.Crews.{ArePlacesOf, IsClosed, IsCrewOf, KnowsTasks, number}
 use Rattle.board_rounds.proofs.Closed.{all_exact}
@@ -37,7 +37,7 @@ no_holder (Does e ∷ entries) free = no_holder entries free
 no_holder (Takes t ∷ entries) free = absurd free
 no_holder (Frees t ∷ entries) free = absurd free
 
-module _ (f : Frame) (detects : f.mode ≡ Detect) (tasks : List Working) (whole : IsCrewOf f tasks) (ends : All (λ (w : Working). EndsTurn w.seat) tasks) (places : List Standing) (are : ArePlacesOf f.plan tasks places) (before now : Known) (known : KnowsTasks f tasks before) (goes : GoesOn before now) (of : IsOf now f) (words : List ℕ) (end : AreLastOf f.plan Detect (seen now.view) words) where
+module _ (f : Frame) (detects : f.mode ≡ Detect) (tasks : List Working) (whole : IsCrewOf f tasks) (ends : All (λ (w : Working). EndsTurn w.seat) tasks) (places : List Standing) (are : ArePlacesOf f.plan tasks places) (before now : Known) (known : KnowsTasks f tasks before) (goes : LoadsAlone before now) (of : IsOf now f) (words : List ℕ) (end : AreLastOf f.plan Detect (seen now.view) words) where
   checked : IsCheckedPlan f.plan
   checked = subst IsCheckedPlan of.plan goes.kept.checked
 

@@ -8,7 +8,7 @@ use Rattle.armus_base.specs.declared.op.Op.TheVariants.{Fork}
 use Rattle.armus_base.specs.CheckedPlans.{IsCheckedPlan}
 use Rattle.armus_base.specs.Plans.{Forks, Plan, action_at, actions, code_of}
 use Rattle.armus_base.proofs.Codes.{child_within}
-use Rattle.pl_core.specs.Ops.{action_of}
+use Rattle.pl_core.specs.inside.Ops.{action_of}
 use Rattle.pl_core.specs.Tasks.{actions_before}
 use Rattle.pl_core.proofs.OpCounts.{action_before}
 use Rattle.pl_core.proofs.StepKinds.{few_own_ops}

@@ -17,7 +17,7 @@ use Rattle.armus_base.proofs.Steps.{updated_same, updated_other}
 use Rattle.armus_base.proofs.Tasks.{no_action}
 use Rattle.pl_core.specs.declared.place.Place.{Place as Standing}
 use Rattle.pl_core.specs.Stands.{IsEnabled}
-use Rattle.pl_core.specs.Worlds.{WorldValue, dropped_at, next_action, place_from, places_at, places_of, state_of}
+use Rattle.pl_core.specs.Worlds.{WorldValue, dropped_at, action_by_code, place_from, places_at, places_of, state_of}
 use Rattle.pl_core.proofs.GoingOn.{legal_when_active, legal_when_reached, passes_when_waiting}
 use Rattle.task_runner.specs.PlainRuns.{IsPlainEnd}
 use Rattle.task_runner.specs.Turns.{NobodyRefused}
@@ -69,14 +69,14 @@ module _ (w : WorldValue) (checked : IsCheckedPlan w.plan) (reach : IsReachable 
   ended_here : (t : ℕ) → ((IsEnabled w t) → ⊥) → (state_of w).forked t ≡ true → HasEnded w.plan (state_of w) (places_of w t) t
   ended_here t stuck forked = by_published ((state_of w).published t) refl
     where
-      by_next : (state_of w).published t ≡ None → (o : Option Action) → next_action w t ≡ o → HasEnded w.plan (state_of w) (places_of w t) t
+      by_next : (state_of w).published t ≡ None → (o : Option Action) → action_by_code w t ≡ o → HasEnded w.plan (state_of w) (places_of w t) t
       by_next none None e = is_done e
       by_next none (Some x) e =
           let active : IsActive (state_of w) t = record { forked = forked; unpublished = none; unrefused = unrefused_all t } in
           absurd (stuck (x, e, legal_when_active w checked reach t x active e))
 
       by_published : (o : Option Event) → (state_of w).published t ≡ o → HasEnded w.plan (state_of w) (places_of w t) t
-      by_published None e = by_next e (next_action w t) refl
+      by_published None e = by_next e (action_by_code w t) refl
       by_published (Some event) e =
           is_waiting event e (λ reached. stuck (Passes event.p.0, passes_when_waiting w checked reach t event e, legal_when_reached w checked reach t event e reached))
 

@@ -7,7 +7,7 @@ use Rattle.armus_base.specs.Runs.{IsReachable}
 use Rattle.armus_base.proofs.NextIsLegal.{unrefused_undropped}
 use Rattle.armus_base.proofs.Reachable.{reachable_is_fixed}
 use Rattle.pl_core.specs.declared.place.Place.{Place}
-use Rattle.pl_core.specs.Moves.{MakesStep, further, refused_there}
+use Rattle.pl_core.specs.Moves.{IsWorldStep, further, refused_there}
 use Rattle.pl_core.specs.Worlds.{WorldValue, dropped_at, place_from, places_of, state_of}
 use Rattle.pl_core.proofs.Standing.{place_is}
 use Rattle.avoider.specs.declared.decision.Decision.{Decision}
@@ -48,7 +48,7 @@ less_in_all old new t place next plan there places l =
     (subst (λ n. left_at old.plan n next < left_at old.plan n place) (let z : t ≡ 0 + t = omega arith in z) l)))
 
 -- an event more
-pub step_leaves_less_left : (old new : WorldValue) (t : ℕ) → MakesStep old new t → left_in new < left_in old
+pub step_leaves_less_left : (old new : WorldValue) (t : ℕ) → IsWorldStep old new t → left_in new < left_in old
 step_leaves_less_left old new t step =
     let at : places_of old t ≡ place_from old.plan t (Some step.place) = place_is old.plan old.places t step.place step.there in
     let left = has_left old.plan t (places_of old t).done step.action step.next in

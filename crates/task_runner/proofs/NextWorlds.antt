@@ -20,9 +20,9 @@ use Rattle.armus_base.proofs.Steps.{updated_same, updated_other}
 use Rattle.armus_base.proofs.Tasks.{action_of_task, reached_or_not}
 use Rattle.pl_core.specs.declared.place.Place.{Place as Standing}
 use Rattle.pl_core.specs.declared.stand.Stand.TheVariants.{Unforked, Refused, Waits}
-use Rattle.pl_core.specs.Moves.{LeadsOn, MakesStep, drops_from, further, refused_there}
+use Rattle.pl_core.specs.Moves.{LeadsOn, IsWorldStep, drops_from, further, refused_there}
 use Rattle.pl_core.specs.Stands.{IsAtAwaitOf, IsEnabled}
-use Rattle.pl_core.specs.Worlds.{WorldValue, dropped_at, memberships, next_action, places_of, state_of}
+use Rattle.pl_core.specs.Worlds.{WorldValue, dropped_at, memberships, action_by_code, places_of, state_of}
 use Rattle.pl_core.proofs.GoingOn.{goes_on, legal_when_active, legal_when_reached, passes_when_waiting}
 use Rattle.pl_core.proofs.OneStep.{places_set_other, places_set_same, regular}
 use Rattle.pl_core.proofs.Refusing.{dropping, drops_lead}
@@ -45,7 +45,7 @@ module _ (w : WorldValue) (checked : IsCheckedPlan w.plan) (reach : IsReachable 
   Goes = (new : WorldValue) × GoesOnInto w new t
 
   -- a step of the code
-  module _ (x : Action) (next : next_action w t ≡ Some x) (legal : IsLegal w.plan (state_of w) t x) (undropped : (places_of w t).dropped ≡ None) where
+  module _ (x : Action) (next : action_by_code w t ≡ Some x) (legal : IsLegal w.plan (state_of w) t x) (undropped : (places_of w t).dropped ≡ None) where
     inside : t < length w.places
     inside = (let l = action_of_task w.plan checked t (places_of w t).done x next in omega arith)
 
@@ -96,7 +96,7 @@ module _ (w : WorldValue) (checked : IsCheckedPlan w.plan) (reach : IsReachable 
     unfolding state_of
     state_is = ap (state_at w.plan) moved_is ∙ sym (reachable_steps w.plan (places_of w) t x checked reach by_code legal_there).1
 
-    makes_step : MakesStep w stepped t
+    makes_step : IsWorldStep w stepped t
     makes_step =
         record {
           action = x;
@@ -124,7 +124,7 @@ module _ (w : WorldValue) (checked : IsCheckedPlan w.plan) (reach : IsReachable 
 
   -- a refusal and its drops
   module _ (e : Event) (before : IsAtAwaitOf w t e) (dead : WouldBeDead (state_of w) t e) where
-    blocks : next_action w t ≡ Some (Blocks e.p.0)
+    blocks : action_by_code w t ≡ Some (Blocks e.p.0)
     blocks = blocks_next w t e before
 
     undropped_there : (places_of w t).dropped ≡ None
@@ -199,7 +199,7 @@ module _ (w : WorldValue) (checked : IsCheckedPlan w.plan) (reach : IsReachable 
       subst (λ s. IsReached s e ⊎ (IsReached s e → ⊥)) (reachable_is_fixed w.plan (places_of w) checked reach).0
       (reached_or_not w.plan checked reach.steps reach.run e.p.0 e.n)
 
-  by_await : (p : ℕ) → next_action w t ≡ Some (Blocks p) → IsLegal w.plan (state_of w) t (Blocks p) → Goes
+  by_await : (p : ℕ) → action_by_code w t ≡ Some (Blocks p) → IsLegal w.plan (state_of w) t (Blocks p) → Goes
   by_await p next legal =
       let awaits = awaited_some p ((state_of w).phases t) legal.1 in
       let before : IsAtAwaitOf w t awaits.0 = (legal.0, ap (λ o. awaited o ((state_of w).phases t)) next ∙ awaits.1) in
@@ -210,7 +210,7 @@ module _ (w : WorldValue) (checked : IsCheckedPlan w.plan) (reach : IsReachable 
         | inr alive ↦ by_step (Blocks p) next legal (unrefused_is_undropped w checked reach t legal.0.unrefused) (awaits.0, awaits.1, alive)
       ]
 
-  by_action : (x : Action) → IsActive (state_of w) t → next_action w t ≡ Some x → IsLegal w.plan (state_of w) t x → Goes
+  by_action : (x : Action) → IsActive (state_of w) t → action_by_code w t ≡ Some x → IsLegal w.plan (state_of w) t x → Goes
   by_action (Blocks p) active next legal = by_await p next legal
   by_action (Refuses p) active next legal = absurd (no_refusal w.plan t (places_of w t).done p next)
   by_action x active next legal = by_step x next legal (unrefused_is_undropped w checked reach t active.unrefused) tt
@@ -219,7 +219,7 @@ module _ (w : WorldValue) (checked : IsCheckedPlan w.plan) (reach : IsReachable 
   pub next_or_not : Goes ⊎ (IsEnabled w t → ⊥)
   next_or_not = by_published ((state_of w).published t) refl
     where
-      by_next : IsActive (state_of w) t → (o : Option Action) → next_action w t ≡ o → Goes ⊎ (IsEnabled w t → ⊥)
+      by_next : IsActive (state_of w) t → (o : Option Action) → action_by_code w t ≡ o → Goes ⊎ (IsEnabled w t → ⊥)
       by_next active None none = inr (λ enabled. absurd (let next = enabled.1 in cc))
       by_next active (Some x) next = inl (by_action x active next (legal_when_active w checked reach t x active next))
 
@@ -227,7 +227,7 @@ module _ (w : WorldValue) (checked : IsCheckedPlan w.plan) (reach : IsReachable 
       by_refused unpublished (Some e) is = inr (λ enabled. (goes_on w checked reach t (Refused e) is).0 enabled)
       by_refused unpublished None is =
           elim (cases_Bool ((state_of w).forked t)) [
-            | inl forked ↦ by_next (record { forked = forked; unpublished = unpublished; unrefused = is }) (next_action w t) refl
+            | inl forked ↦ by_next (record { forked = forked; unpublished = unpublished; unrefused = is }) (action_by_code w t) refl
             | inr unforked ↦ inr (λ enabled. (goes_on w checked reach t Unforked unforked).0 enabled)
           ]
 

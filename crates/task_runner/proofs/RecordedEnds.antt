@@ -8,7 +8,7 @@ use Rattle.armus_base.specs.Finals.{final_of}
 use Rattle.armus_base.specs.Plans.{Plan}
 use Rattle.armus_base.specs.Runs.{IsReachable}
 use Rattle.armus_base.proofs.Members.{plain_undropped}
-use Rattle.locked_world.specs.Journals.{IsReplayed, LoggedValue, LogsStep}
+use Rattle.locked_world.specs.Journals.{IsReplayOfJournal, LoggedValue, LogsStep}
 use Rattle.pl_core.specs.Stands.{IsEnabled}
 use Rattle.pl_core.specs.Worlds.{WorldValue, dropped_at, places_of, state_of}
 use Rattle.pl_core.proofs.Standing.{place_is}
@@ -21,7 +21,7 @@ not_refused : (plan : Plan) (t k : ℕ) (b : Bool) → dropped_at plan t k b ≡
 not_refused plan t k true e = absurd (cc)
 not_refused plan t k false e = refl
 
-module _ (l : LoggedValue) (of : IsReplayed l.world.plan l) (quiet : (t : ℕ) → t < length l.world.plan.parents → IsEnabled l.world t → ⊥) where
+module _ (l : LoggedValue) (of : IsReplayOfJournal l.world.plan l) (quiet : (t : ℕ) → t < length l.world.plan.parents → IsEnabled l.world t → ⊥) where
   abbrev reach : IsReachable l.world.plan (places_of l.world)
   reach = record { steps = of.steps; run = of.journal.run.0; there = λ t. ap (λ a. a t) (sym of.there) }
 
@@ -41,23 +41,23 @@ module _ (l : LoggedValue) (of : IsReplayed l.world.plan l) (quiet : (t : ℕ) �
       }
 
 pub recorded :
-    (plan : Plan) (l : LoggedValue) → IsReplayed plan l → ((t : ℕ) → t < length plan.parents → IsEnabled l.world t → ⊥) →
+    (plan : Plan) (l : LoggedValue) → IsReplayOfJournal plan l → ((t : ℕ) → t < length plan.parents → IsEnabled l.world t → ⊥) →
     IsRecordedRun plan (final_of l.world.plan (state_of l.world)) l.journal
 recorded plan l of quiet =
     subst
-    (λ p. IsReplayed p l → ((t : ℕ) → t < length p.parents → IsEnabled l.world t → ⊥) → IsRecordedRun p (final_of l.world.plan (state_of l.world)) l.journal)
+    (λ p. IsReplayOfJournal p l → ((t : ℕ) → t < length p.parents → IsEnabled l.world t → ⊥) → IsRecordedRun p (final_of l.world.plan (state_of l.world)) l.journal)
     of.plan_is (recorded_here l) of quiet
 
 -- what is answered of a world that is one with the logged one
 pub recorded_as :
-    (plan : Plan) (l : LoggedValue) (w : WorldValue) (end : Final) (journal : List TaskId) → w ≡ l.world → IsReplayed plan l →
+    (plan : Plan) (l : LoggedValue) (w : WorldValue) (end : Final) (journal : List TaskId) → w ≡ l.world → IsReplayOfJournal plan l →
     ((t : ℕ) → t < length plan.parents → IsEnabled l.world t → ⊥) → end ≡ final_of w.plan (state_of w) → journal ≡ l.journal → IsRecordedRun plan end journal
 recorded_as plan l w end journal same of quiet end_is journal_is =
     subst (λ j. IsRecordedRun plan end j) (sym journal_is)
     (subst (λ e. IsRecordedRun plan e l.journal) (sym (end_is ∙ ap (λ (v : WorldValue). final_of v.plan (state_of v)) same)) (recorded plan l of quiet))
 
 pub quiet_as :
-    (plan : Plan) (l : LoggedValue) (w : WorldValue) → w ≡ l.world → IsReplayed plan l → ((t : ℕ) → t < length plan.parents → IsEnabled l.world t → ⊥) →
+    (plan : Plan) (l : LoggedValue) (w : WorldValue) → w ≡ l.world → IsReplayOfJournal plan l → ((t : ℕ) → t < length plan.parents → IsEnabled l.world t → ⊥) →
     (t : ℕ) → t < length w.plan.parents → IsEnabled w t → ⊥
 quiet_as plan l w same of quiet t here enabled =
     let tasks = ap (λ (v : WorldValue). length v.plan.parents) same in

@@ -5,7 +5,7 @@ use Rattle.std.proofs.lemmas.Bool.{cases_eq}
 use Rattle.std.proofs.lemmas.Option.{slice_get_within}
 use Rattle.armus_base.specs.Plans.{Action, Plan, action_at, actions}
 use Rattle.pl_core.specs.declared.place.Place.{Place}
-use Rattle.pl_core.specs.Moves.{MakesStep, further}
+use Rattle.pl_core.specs.Moves.{IsWorldStep, further}
 use Rattle.pl_core.specs.Worlds.{WorldValue, place_from, places_of}
 use Rattle.pl_core.proofs.Cells.{slice_get-set_same, slice_get-set_other}
 use Rattle.pl_core.proofs.Standing.{place_is}
@@ -31,7 +31,7 @@ pub has_left : (plan : Plan) (t k : ℕ) (x : Action) → action_at plan t k ≡
 unfolding action_at
 has_left plan t k x e = slice_get_within (actions plan t) k x e
 
-pub step_leaves_less : (old new : WorldValue) (t : ℕ) → MakesStep old new t → remaining new < remaining old
+pub step_leaves_less : (old new : WorldValue) (t : ℕ) → IsWorldStep old new t → remaining new < remaining old
 step_leaves_less old new t step =
     let at : places_of old t ≡ place_from old.plan t (Some step.place) = place_is old.plan old.places t step.place step.there in
     let left = has_left old.plan t (places_of old t).done step.action step.next in
@@ -41,7 +41,7 @@ step_leaves_less old new t step =
     (subst (λ ps. remaining_from old.plan 0 ps < remaining_from old.plan 0 old.places) (sym step.places)
     (less_after old.plan 0 old.places t step.place step.there here))
 
-pub step_keeps_plain : (old new : WorldValue) (t : ℕ) → MakesStep old new t → NobodyRefused old → NobodyRefused new
+pub step_keeps_plain : (old new : WorldValue) (t : ℕ) → IsWorldStep old new t → NobodyRefused old → NobodyRefused new
 step_keeps_plain old new t step plain u place e =
     let there : slice_get (set old.places t (further step.place)) u ≡ Some place = ap (λ ps. slice_get ps u) (sym step.places) ∙ e in
     elim (cases_eq u t) [

@@ -6,7 +6,7 @@ use Rattle.std.proofs.lemmas.Option.{slice_get-get_or}
 use Rattle.armus_base.specs.Plans.{Plan}
 use Rattle.armus_base.proofs.Stepping.{acting_forked}
 use Rattle.pl_core.specs.Stands.{IsEnabled}
-use Rattle.pl_core.specs.Worlds.{IsOpening, WorldValue, state_of}
+use Rattle.pl_core.specs.Worlds.{IsOpeningWorld, WorldValue, state_of}
 use Rattle.pl_core.proofs.Opening.{copy_is}
 use Rattle.task_runner.specs.Turns.{TellsForked, NobodyRefused}
 
@@ -29,7 +29,7 @@ quiet_more old new forked t here same knows ended before u l =
     by_note false noted end = unforked_stays old t (knows t false noted)
 
 -- nobody is refused at first
-pub opening_plain : (plan : Plan) (w : WorldValue) → IsOpening plan w → NobodyRefused w
+pub opening_plain : (plan : Plan) (w : WorldValue) → IsOpeningWorld plan w → NobodyRefused w
 opening_plain plan w opening t place e =
     ap (λ p. p.refused)
     (copy_is (length plan.parents) t (record { events = 0; refused = false }) place (ap (λ ps. slice_get ps t) (sym opening.places) ∙ e))

@@ -14,7 +14,7 @@ use Rattle.armus_base.proofs.OneSerialEnd.{one_serial_end}
 use Rattle.armus_base.proofs.SerialFinalIsAvoided.{round_ended}
 use Rattle.armus_base.proofs.Stepping.{acting_forked}
 use Rattle.pl_core.specs.Stands.{IsEnabled}
-use Rattle.pl_core.specs.Worlds.{IsOpening, WorldValue, places_at, places_of, state_of}
+use Rattle.pl_core.specs.Worlds.{IsOpeningWorld, WorldValue, places_at, places_of, state_of}
 use Rattle.pl_core.proofs.Opening.{first_places}
 use Rattle.task_runner.specs.AvoidedRuns.{HasRoundBelow, IsSerialEnd, LeadsTo}
 use Rattle.task_runner.proofs.AvoidedEnds.{ended_stops}
@@ -93,7 +93,7 @@ serial_end_if_ok plan w end nobody (Ok value) is checked =
 serial_end_if_ok plan w end nobody (Err e) is checked = is
 
 -- the empty run leads to the opening world
-pub serial_begun : (plan : Plan) (w : WorldValue) → IsOpening plan w → HasSerialRun plan w
+pub serial_begun : (plan : Plan) (w : WorldValue) → IsOpeningWorld plan w → HasSerialRun plan w
 serial_begun plan w opening = record { steps = []; run = opens; leads = record { plan_is = opening.plan_is; run = tt; there = there } }
   where
     there : places [] ≡ places_of w

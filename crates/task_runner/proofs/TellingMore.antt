@@ -26,7 +26,7 @@ use Rattle.board.specs.Seats.{Frame, IsOf, IsSeat, Known}
 use Rattle.board.specs.Steps.{IsSameSeat}
 use Rattle.board.proofs.Closing.{some_task}
 use Rattle.phase_scan.specs.Collects.{IsCollect}
-use Rattle.phase_scan.specs.Looks.{GoesOn}
+use Rattle.phase_scan.specs.Looks.{LoadsAlone}
 use Rattle.collector.specs.Passes.{Watch}
 use Rattle.task_runner.specs.Tellers.{TellsMore, Telling, Watches}
 use Rattle.task_runner.specs.declared.ran.RunEnd.{RunEnd}
@@ -218,7 +218,7 @@ none_written b n same = record { lines = subst (λ (t : Told). Appends b.taken t
 
 -- a pass by a teller that watches the board
 pub watches_more :
-    (f : Frame) (w : Telling) (now : Known) (collector : Watch) (list : List Status) (v : Verdict) → f.mode ≡ Detect → Watches f w → GoesOn w.view now → IsCollect f.plan list w.view now →
+    (f : Frame) (w : Telling) (now : Known) (collector : Watch) (list : List Status) (v : Verdict) → f.mode ≡ Detect → Watches f w → LoadsAlone w.view now → IsCollect f.plan list w.view now →
     IsVerdict w.collector.names list w.view now v → NamesToo v.dead w.collector.names collector.names → collector.tasks ≡ w.collector.tasks → collector.phasers ≡ w.collector.phasers →
     Watches f (record { collector = collector; view = now; dead = w.dead ++ v.fresh })
 watches_more f w now collector list v detects watches goes collect verdict too tasks phasers =

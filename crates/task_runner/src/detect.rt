@@ -2,7 +2,7 @@
 ghost use Rattle.std.specs.Prelude.{◌≡◌, ◌≤◌, ℕ, false, true, IfOk, OnOk};
 ghost use Rattle.board.specs.declared.mode.Mode.TheVariants.{Detect};
 ghost use Rattle.board.specs.Views.{seen};
-ghost use Rattle.phase_scan.specs.Looks.{GoesOn};
+ghost use Rattle.phase_scan.specs.Looks.{LoadsAlone};
 ghost use Rattle.board_rounds.specs.Crews.{AreTasksOf, HaveEnded, all_of};
 ghost use Rattle.task_runner.specs.DetectRuns.{IsDetectRun, TellsRun, told};
 ghost use Rattle.task_runner.specs.Tellers.{IsNoWrite, TellsMore, TellsOn, Watches};
@@ -105,7 +105,7 @@ fn last_pass<G: Gate, K: Sink>(
     requires watches { Watches board.now teller.old }
     requires detects { board.now.mode ≡ Detect }
     ensures watches { OnOk result (Watches board.now teller.new) }
-    ensures goes_on { GoesOn teller.old.view teller.new.view }
+    ensures goes_on { LoadsAlone teller.old.view teller.new.view }
     ensures told { options.now.live ≡ true → TellsMore board.now.plan teller.old.dead teller.new.dead (told K.taken K.faults out.old) (told K.taken K.faults out.new) result }
     ensures silent { options.now.live ≡ false → (out.new ≡ out.old) × IsNoWrite result }
 {

@@ -1,7 +1,7 @@
 // The rounds of a run on a board that detects deadlock, with or without a pass beside each.
 ghost use Rattle.std.specs.Prelude.{◌≡◌, ◌<◌, true, false, IfOk, OnOk};
 ghost use Rattle.board.specs.declared.mode.Mode.TheVariants.{Detect};
-ghost use Rattle.phase_scan.specs.Looks.{GoesOn};
+ghost use Rattle.phase_scan.specs.Looks.{LoadsAlone};
 ghost use Rattle.board_rounds.specs.Crews.{AreTasksOf, HaveEnded, all_of, left_to};
 ghost use Rattle.task_runner.specs.DetectRuns.{told};
 ghost use Rattle.task_runner.specs.Tellers.{IsNoWrite, SeesOn, TellsMore, Watches};
@@ -153,7 +153,7 @@ fn turn_and_tell<R: Threads + Sync, G: Gate, K: Sink>(
     ensures further { IfOk result.0 (λ made. 0 < made → left_to plan.now crew.new < left_to plan.now crew.old) }
     ensures quiet { IfOk result.0 (λ made. made ≡ 0 → HaveEnded (all_of crew.new)) }
     ensures watches { OnOk result.1 (Watches board.now teller.new) }
-    ensures goes_on { GoesOn teller.old.view teller.new.view }
+    ensures goes_on { LoadsAlone teller.old.view teller.new.view }
     ensures told { TellsMore board.now.plan teller.old.dead teller.new.dead (told K.taken K.faults out.old) (told K.taken K.faults out.new) result.1 }
 {
     join_mut(

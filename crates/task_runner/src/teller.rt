@@ -6,7 +6,7 @@ ghost use Rattle.board.specs.declared.mode.Mode.TheVariants.{Detect};
 ghost use Rattle.board.specs.Closing.{AreLastOf};
 ghost use Rattle.board.specs.Seats.{IsNewSeat, IsOf, nothing_seen};
 ghost use Rattle.board.specs.Views.{seen};
-ghost use Rattle.phase_scan.specs.Looks.{GoesOn};
+ghost use Rattle.phase_scan.specs.Looks.{LoadsAlone};
 ghost use Rattle.board_rounds.specs.Crews.{AreTasksOf, KnowsTasks, all_of};
 ghost use Rattle.task_runner.specs.DetectRuns.{told};
 ghost use Rattle.task_runner.specs.Tellers.{TellsMore, Watches};
@@ -67,7 +67,7 @@ impl Teller {
         requires watches { Watches board.now self.old }
         requires detects { board.now.mode ≡ Detect }
         ensures watches { OnOk result (Watches board.now self.new) }
-        ensures goes_on { GoesOn self.old.view self.new.view }
+        ensures goes_on { LoadsAlone self.old.view self.new.view }
         ensures told { TellsMore board.now.plan self.old.dead self.new.dead (told K.taken K.faults out.old) (told K.taken K.faults out.new) result }
     {
         let Ok(lines) = self.name(alloc, board, wanted) else {
@@ -92,7 +92,7 @@ impl Teller {
         requires detects { board.now.mode ≡ Detect }
         ensures watches { OnOk result (Watches board.now self.new) }
         ensures named { IfOk result (λ lines. (fresh : List Dead) × (self.new.dead ≡ self.old.dead ++ fresh) × (lines ≡ live_text fresh)) }
-        ensures goes_on { GoesOn self.old.view self.new.view }
+        ensures goes_on { LoadsAlone self.old.view self.new.view }
     {
         let fresh = self
             .collector

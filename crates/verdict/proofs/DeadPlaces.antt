@@ -77,7 +77,7 @@ module _ (ss : List Status) (ok : IsInOrder ss) (d : Deps) (is : IsDepsOf ss d) 
   dead_step a b t u s (st, al, ae, af) (su, bl, be, bf) =
       record {
         waits = (st, (a, al, ae), af, (su, (b, bl, be), bf, (impedes_at a b st su al ae bl be).0 s.there));
-        dead = (flag_dead b u (su, bl, be, bf)).0 s.dead;
+        dead = (flag_dead b u (su, bl, be, bf)).0 s.marked;
         least = λ w (s', i', st', (v, (j, jl, je), vt, p)) by.
             let one = one_status ss ok s' st i' (a, al, ae) (st' ∙ sym af) in
             let p' : Impedes v st.event = subst (λ x. Impedes v x.event) one p in

@@ -1,16 +1,18 @@
 // The walk over the dead tasks, and its cycle.
-ghost use Rattle.std.specs.Prelude.{◌≡◌, ◌<◌, ◌≤◌, ℕ, Bool, true, false, [], length, All, Contains, IfOk, IfSome, IfNone, MatchBool, MatchOption, slice_index, slice_index_or};
+ghost use Rattle.std.specs.Prelude.{◌≡◌, ◌^◌, ◌<◌, [], true, false, length, All, Contains, IfOk, IfSome, MatchBool, MatchOption, slice_index_or};
 ghost use Rattle.armus_base.specs.DeadLists.{IsDeadList};
 ghost use Rattle.armus_base.specs.Relations.{IsWalkCycle};
 ghost use Rattle.armus_base.specs.Statuses.{IsInOrder};
 ghost use Rattle.armus_base.specs.declared.status.Status.{Status};
 ghost use Rattle.dep_state.specs.Picks.{Ascend};
+ghost use Rattle.digraph.specs.inside.NextTables.{AreNext};
 ghost use Rattle.verdict.specs.Cycles.{IsCycleOf, IsCycle};
-ghost use Rattle.verdict.specs.inside.DeadWalks.{IsFlags, Ascends, IsLeastFlagged, IsNextDead, IsWalkable, IsMadeOf};
+ghost use Rattle.verdict.specs.inside.DeadWalks.{IsFlags, IsMadeOf, IsNextDead, IsStepOn, IsWalkable};
 
 use crate::Cycle;
 use armus_base::{List, NoMemory, Status, TaskId};
 use dep_state::{DepState, task_place};
+use digraph::{least_marked, walk_cycle};
 use std::alloc::{AllocError, Global};
 
 // Whether a task stands in an ascending list.
@@ -36,34 +38,34 @@ fn dead_flags(alloc: Global, tasks: &[TaskId], dead: &[TaskId]) -> Result<Vec<bo
     Ok(flags)
 }
 
-// The first place of a row whose flag is set.
-fn least_dead(row: &[u32], flags: &[bool]) -> Option<u32>
-    requires inside { All (λ b. b < length flags.now) row.now }
-    requires ascends { Ascends row.now }
-    ensures none { IfNone result (All (λ b. slice_index_or flags.now b false ≡ false) row.now) }
-    ensures some { IfSome result (IsLeastFlagged row.now flags.now) }
-{
-    for b in row {
-        if flags[*b as usize] {
-            return Some(*b);
-        }
-    }
-    None
-}
-
-// The least dead task that impedes the event of a dead task, by places.
+// The least dead task that impedes the event of a dead task, by places; another task is its own next one.
 fn next_dead(deps: &DepState, flags: &[bool], node: u32) -> u32
     requires walkable { IsWalkable deps.now flags.now }
     requires node { node < length deps.now.tasks }
-    requires dead { slice_index_or flags.now node false ≡ true }
-    ensures step { IsNextDead deps.now flags.now node result }
+    ensures step { IsStepOn deps.now flags.now node result }
     ensures inside { result < length deps.now.tasks }
 {
+    if !flags[node as usize] {
+        return node;
+    }
     let event = deps.awaits_at(node);
-    match least_dead(deps.impeders_at(event), flags) {
+    match least_marked(deps.impeders_at(event), flags) {
         Some(next) => next,
         None => unreachable!(),
     }
+}
+
+// For each dead task the least dead one that impedes its event.
+fn nexts(alloc: Global, deps: &DepState, flags: &[bool]) -> Result<Vec<u32>, AllocError>
+    requires walkable { IsWalkable deps.now flags.now }
+    requires few { length deps.now.tasks < 2 ^ 31 }
+    ensures { IfOk result (λ next. AreNext (IsStepOn deps.now flags.now) (length deps.now.tasks) (length flags.now) next.items) }
+{
+    let mut next = Vec::with_capacity(alloc, flags.len())?;
+    for k in 0..flags.len() {
+        next.push(next_dead(deps, flags, k as u32))?;
+    }
+    Ok(next)
 }
 
 // The walk from a dead task, to where it comes back, by places.
@@ -74,33 +76,13 @@ fn walk_dead(
     start: u32,
 ) -> Result<Vec<u32>, AllocError>
     requires walkable { IsWalkable deps.now flags.now }
+    requires few { length deps.now.tasks < 2 ^ 31 }
     requires start { start < length deps.now.tasks }
     requires dead { slice_index_or flags.now start false ≡ true }
     ensures { IfOk result (λ cycle. IsWalkCycle (IsNextDead deps.now flags.now) start cycle.items) }
 {
-    let mut seen = vec![in alloc; false; flags.len()]?;
-    let mut path: Vec<u32> = Vec::new(alloc);
-    let mut node = start;
-    'walk: while !seen[node as usize] {
-        seen[node as usize] = true;
-        path.push(node)?;
-        node = next_dead(deps, flags, node);
-    }
-    let at = path_place(&path, node);
-    Vec::from_slice(alloc, &path[at..])
-}
-
-// Where a place stands on a path that has it.
-fn path_place(path: &[u32], node: u32) -> usize
-    requires { Contains path.now node }
-    ensures inside { result < length path.now }
-    ensures there { slice_index path.now result ≡ node }
-{
-    let mut at = 0;
-    while path[at] != node {
-        at += 1;
-    }
-    at
+    let next = nexts(alloc, deps, flags)?;
+    walk_cycle(alloc, &next, start)
 }
 
 // Where the status of a task stands.

@@ -1,7 +1,7 @@
 -- What is left where the input of a command is read.
 use Rattle.std.specs.Prelude.{◌≡◌, ℕ, Some}
 use Rattle.armus_words.specs.declared.command.Command.{Command}
-use Rattle.armus_top.specs.Texts.{Text}
+use Rattle.armus_words.specs.Words.{Text}
 use Rattle.armus_top.specs.Commands.{limit_of}
 use Rattle.armus_top.specs.Headline.{Ends, HasInput, IsSound, Passage}
 

@@ -9,13 +9,13 @@ abbrev pub MayWork : ℕ → Type 0
 MayWork workers = (1 ≤ workers) × (workers ≤ MAX_WORKERS)
 
 -- the command waits for no thread, and a run of it may have its workers
-abbrev pub IsPlain : Command → Type 0
-IsPlain (Check print) = Unit {0}
-IsPlain (Run workers g live) = MayWork workers
-IsPlain (Avoid workers g) = MayWork workers
-IsPlain (Record workers) = ⊥
-IsPlain Replay = Unit {0}
-IsPlain (Gen count) = Unit {0}
+abbrev pub WaitsForNoThread : Command → Type 0
+WaitsForNoThread (Check print) = Unit {0}
+WaitsForNoThread (Run workers g live) = MayWork workers
+WaitsForNoThread (Avoid workers g) = MayWork workers
+WaitsForNoThread (Record workers) = ⊥
+WaitsForNoThread Replay = Unit {0}
+WaitsForNoThread (Gen count) = Unit {0}
 
 -- the command is `record`, the one that waits for threads, and a run of it may have its workers
 abbrev pub IsJournal : Command → Type 0
@@ -24,7 +24,7 @@ IsJournal _ = ⊥
 
 -- words mean such a command that waits for no thread, or none
 abbrev pub MeansPlain : Option Command → Type 0
-MeansPlain (Some c) = IsPlain c
+MeansPlain (Some c) = WaitsForNoThread c
 MeansPlain None = Unit {0}
 
 -- words mean `record`, or no command

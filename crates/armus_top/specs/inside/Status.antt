@@ -4,11 +4,11 @@ use Rattle.armus_top.specs.declared.status.ExitStatus.{ExitStatus}
 use Rattle.armus_top.specs.declared.status.ExitStatus.TheVariants.{NoDeadlock, Deadlock, Usage, Refused, ReadFailed, WriteFailed, OutOfMemory}
 
 -- the number of a status
-abbrev pub code_of : ExitStatus → ℕ
-code_of NoDeadlock = 0
-code_of Deadlock = 1
-code_of Usage = 2
-code_of Refused = 3
-code_of ReadFailed = 4
-code_of WriteFailed = 5
-code_of OutOfMemory = 6
+abbrev pub number_of_status : ExitStatus → ℕ
+number_of_status NoDeadlock = 0
+number_of_status Deadlock = 1
+number_of_status Usage = 2
+number_of_status Refused = 3
+number_of_status ReadFailed = 4
+number_of_status WriteFailed = 5
+number_of_status OutOfMemory = 6

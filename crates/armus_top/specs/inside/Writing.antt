@@ -4,19 +4,19 @@ use Rattle.armus_base.specs.declared.ending.Final.{Final}
 use Rattle.adaptive.specs.declared.analysis.Wanted.{Wanted}
 use Rattle.report.specs.Reports.{IsReport, IsSomeDead}
 use Rattle.armus_base.specs.ReadAll.{TookFront}
-use Rattle.armus_top.specs.Texts.{Text}
+use Rattle.armus_words.specs.Words.{Text}
 use Rattle.std.specs.Io.KnownBytes.{Keeps}
 use Rattle.report.specs.Refusals.{refusal_text}
 use Rattle.report.specs.declared.refusal.Refusal.{Refusal}
 use Rattle.armus_top.specs.declared.programs.InputEnd.{InputEnd}
 use Rattle.armus_top.specs.declared.programs.InputEnd.TheVariants.{Refused, NoMemory}
 use Rattle.armus_words.specs.declared.command.Command.{Command}
-use Rattle.armus_top.specs.Headline.{Answers, Passage, HasFailed, IsSound, Took}
+use Rattle.armus_top.specs.Headline.{Answers, Passage, HasCountedFault, IsSound, Took}
 
 -- the status after a whole output, or a write that failed
 abbrev pub Finished : Passage → Text → ℕ → ℕ → Type 0
 Finished out text status number = ((number ≡ status) × Took out text × IsSound out)
-    ⊎ ((number ≡ 5) × HasFailed out × TookFront out.before out.after text)
+    ⊎ ((number ≡ 5) × HasCountedFault out × TookFront out.before out.after text)
 
 -- the line of a refusal was written, or memory was wanting and nothing was
 abbrev pub Refuses : Refusal → Passage → ℕ → Type 0

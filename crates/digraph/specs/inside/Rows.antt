@@ -1,12 +1,8 @@
 -- What the rows of a digraph keep.
-use Rattle.std.specs.Prelude.{◌≡◌, ◌^◌, ℕ, ◌<◌, List, length, All, slice_index}
+use Rattle.std.specs.Prelude.{◌≡◌, ◌^◌, ℕ, ◌<◌, List, length, All}
 use Rattle.std.specs.List.{sum_by}
 use Rattle.armus_base.specs.Counts.{IsCount}
-use Rattle.digraph.specs.Graph.{HasEdge}
-
--- each number is below those after it
-abbrev pub Ascends : List ℕ → Type 0
-Ascends xs = (j k : ℕ) → j < k → k < length xs → slice_index xs j < slice_index xs k
+use Rattle.digraph.specs.Graph.{HasEdge, Ascends}
 
 -- what is true of a node's successors among n nodes: they ascend, and each is a node
 abbrev pub IsRow : ℕ → List ℕ → Type 0

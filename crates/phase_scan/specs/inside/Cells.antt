@@ -4,14 +4,9 @@ use Rattle.armus_base.specs.Finals.{is_event_of}
 use Rattle.armus_base.specs.Places.{some_before}
 use Rattle.armus_base.specs.Statuses.{IsInOrder}
 use Rattle.phase_scan.specs.declared.cells.Cells.TheInside.{Inside}
-use Rattle.phase_scan.specs.Collects.{Collection}
-use Rattle.phase_scan.specs.Tables.{awaited_found, event_at, statuses_found}
-
--- its counts, and the statuses of what was found last
-abbrev pub collection_of : Inside → Collection
-collection_of c = record { tasks = c.found.tasks; phasers = c.found.phasers; statuses = statuses_found c.found }
+use Rattle.phase_scan.specs.Tables.{awaited_in_findings, event_for, statuses_of_findings}
 
 -- these statuses are in order, and the phasers on which a task was found waiting are marked
 pub record AreCells (c : Inside) : Type 0 where
-  pub in_order : IsInOrder (statuses_found c.found)
-  pub marked : (p : ℕ) → awaited_found c.found p ≡ some_before (λ t. is_event_of p (event_at c.found.events.items t)) c.found.tasks
+  pub in_order : IsInOrder (statuses_of_findings c.found)
+  pub marked : (p : ℕ) → awaited_in_findings c.found p ≡ some_before (λ t. is_event_of p (event_for c.found.events.items t)) c.found.tasks

@@ -9,7 +9,7 @@ asked_with asked None = asked
 asked_with asked (Some p) = updated asked p.0 true
 
 -- f is the first asked number from p on, or n where none is below n
-pub record IsNext (asked : ℕ → Bool) (n p f : ℕ) : Type 0 where
+pub record IsNextAsked (asked : ℕ → Bool) (n p f : ℕ) : Type 0 where
   pub from : p ≤ f
   pub within : f ≤ n
   pub asked_for : f < n → asked f ≡ true
@@ -17,4 +17,4 @@ pub record IsNext (asked : ℕ → Bool) (n p f : ℕ) : Type 0 where
 
 -- the list has for each number up to n the first asked one from it on
 abbrev pub AreNexts : (ℕ → Bool) → ℕ → List ℕ → Type 0
-AreNexts asked n nexts = (p : ℕ) → p ≤ n → IsNext asked n p (slice_index nexts p)
+AreNexts asked n nexts = (p : ℕ) → p ≤ n → IsNextAsked asked n p (slice_index nexts p)

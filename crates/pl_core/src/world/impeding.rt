@@ -1,6 +1,7 @@
 // Whom a task impedes, and who impedes an event.
 ghost use Rattle.std.specs.Prelude.{◌≡◌, ℕ, ◌<◌, ◌≤◌, IsTrue, MatchBool, MatchOption, length};
-ghost use Rattle.pl_core.specs.HighestPhases.{ImpedesNobody, IsPublishedImpeder, highest_at};
+ghost use Rattle.pl_core.specs.HighestPhases.{ImpedesNobody, IsPublishedImpeder};
+ghost use Rattle.pl_core.specs.inside.Highest.{highest_at};
 ghost use Rattle.armus_base.specs.States.{if_published};
 ghost use Rattle.pl_core.specs.Worlds.{state_of};
 

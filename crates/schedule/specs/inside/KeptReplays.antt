@@ -41,6 +41,6 @@ pub record HasOpenPass (plan : Plan) (pass : OpenPass) : Type 0 where
   pub not_full : length loads ≢ loads_of plan loads
 
 -- the end of a replay at the line with this number
-abbrev pub end_of : LineEnd → ℕ → ReplayEnd
-end_of (Fault kind) number = Schedule (record { line = number; kind = kind })
-end_of LineWantsMemory number = NoMemory
+abbrev pub end_at_line : LineEnd → ℕ → ReplayEnd
+end_at_line (Fault kind) number = Schedule (record { line = number; kind = kind })
+end_at_line LineWantsMemory number = NoMemory

@@ -18,8 +18,8 @@ abbrev pub waiting_found : Loads → ℕ → Option Waiting
 waiting_found loads t = option_map (λ e. record { t = record { 0 = t }; event = e }) (event_found loads t)
 
 -- the phaser, if it was found awaited
-abbrev pub awaited_found : Plan → Loads → ℕ → Option PhaserId
-awaited_found plan loads p = if is_found_awaited plan loads p then Some (record { 0 = p }) else None
+abbrev pub awaited_phaser : Plan → Loads → ℕ → Option PhaserId
+awaited_phaser plan loads p = if is_found_awaited plan loads p then Some (record { 0 = p }) else None
 
 -- the phase of task t on a phaser that was found, if it is a member
 abbrev pub member_found : Plan → Loads → ℕ → PhaserId → List Member
@@ -47,7 +47,7 @@ pub record HasAwaits (plan : Plan) (loads : Loads) (pass : OpenPass) : Type 0 wh
   pub loaded : pass.loaded ≡ min (length loads) (length plan.parents)
   pub waiting : (all : Loads) → Extends all loads → pass.waiting.items ≡ given_below (waiting_found all) pass.loaded
   pub awaited :
-      (all : Loads) → Extends all loads → pass.loaded ≡ length plan.parents → pass.awaited.items ≡ given_below (awaited_found plan all) (length plan.makers)
+      (all : Loads) → Extends all loads → pass.loaded ≡ length plan.parents → pass.awaited.items ≡ given_below (awaited_phaser plan all) (length plan.makers)
   pub phasers : All (λ w. w.event.p.0 < length plan.makers) pass.waiting.items
 
 -- what was found of phase cells, whatever loads come after
@@ -104,5 +104,5 @@ abbrev pub phaser_of : List Waiting → ℕ → Option PhaserId
 phaser_of waiting p = if list_any (λ w. w.event.p.0 == p) waiting then Some (record { 0 = p }) else None
 
 -- the phaser, if it is marked
-abbrev pub marked : List Bool → ℕ → Option PhaserId
-marked marks p = if unwrap_or (slice_get marks p) false then Some (record { 0 = p }) else None
+abbrev pub marked_phaser : List Bool → ℕ → Option PhaserId
+marked_phaser marks p = if unwrap_or (slice_get marks p) false then Some (record { 0 = p }) else None

@@ -1,28 +1,23 @@
 -- The walk over dead tasks by the places of their statuses.
-use Rattle.std.specs.Prelude.{◌≡◌, ◌↔◌, ℕ, ◌<◌, ◌≤◌, Bool, true, false, List, map, length, Contains, AllPairs, slice_index, slice_index_or}
+use Rattle.std.specs.Prelude.{◌≡◌, ◌↔◌, ℕ, ◌<◌, Bool, true, false, List, map, length, Contains, AllPairs, slice_index, slice_index_or}
 use Rattle.armus_base.specs.declared.event.Event.{Event}
 use Rattle.armus_base.specs.declared.ids.TaskId.{TaskId}
 use Rattle.armus_base.specs.declared.status.Status.{Status}
 use Rattle.dep_state.specs.Deps.{Deps, impeders_of}
+use Rattle.digraph.specs.Cycle.{IsLeastMarked}
 
 -- the flag of each task says whether it is one of the dead
 pub record IsFlags (tasks dead : List TaskId) (n : ℕ) (flags : List Bool) : Type 0 where
   pub sized : length flags ≡ n
   pub each : (k : ℕ) (t : TaskId) → k < n → (slice_index_or flags k false ≡ true) ↔ Contains dead (slice_index_or tasks k t)
 
--- each number is below those after it
-abbrev pub Ascends : List ℕ → Type 0
-Ascends xs = (j k : ℕ) → j < k → k < length xs → slice_index xs j < slice_index xs k
-
--- the first place of an ascending row whose flag is set
-pub record IsLeastFlagged (row : List ℕ) (flags : List Bool) (b : ℕ) : Type 0 where
-  pub there : Contains row b
-  pub dead : slice_index_or flags b false ≡ true
-  pub least : (u : ℕ) → Contains row u → slice_index_or flags u false ≡ true → b ≤ u
-
 -- the task at b is the least dead one that impedes the event of the task at a
 abbrev pub IsNextDead : Deps → List Bool → ℕ → ℕ → Type 0
-IsNextDead d flags a b = IsLeastFlagged (impeders_of d (slice_index d.awaits a)) flags b
+IsNextDead d flags a b = IsLeastMarked (impeders_of d (slice_index d.awaits a)) flags b
+
+-- where the task at a is dead, the one at b is the least dead one that impedes its event
+abbrev pub IsStepOn : Deps → List Bool → ℕ → ℕ → Type 0
+IsStepOn d flags a b = slice_index_or flags a false ≡ true → IsNextDead d flags a b
 
 -- each task with a flag has a task with a flag that impedes its event
 pub record IsWalkable (d : Deps) (flags : List Bool) : Type 0 where

@@ -1,10 +1,10 @@
 use Rattle.armus_words.specs.declared.command.Command.TheVariants.{Avoid}
 use Rattle.armus_top.specs.Avoids.{IsAvoidOf}
-use Rattle.armus_top.specs.inside.Status.{code_of}
+use Rattle.armus_top.specs.inside.Status.{number_of_status}
 use Rattle.armus_top.proofs.Answering.{by_report}
 use Rattle.armus_top.proofs.avoiding.answer_avoid.Goals as goal
 
 pub returns-in-Ok-clause-done : goal.returns-in-Ok-clause-done
 returns-in-Ok-clause-done g c input plan_is =
     by_report (Avoid c.args.workers c.args.graph) input c.args.graph (IsAvoidOf input) (λ status text is. is)
-    c.wanted_in.result c.in-Ok.reported.has_deadlock c.in-Ok.reported.text c.as_slice.result.now _ (code_of c.status_of.result) _ c.wanted_in.ensures c.status_of.ensures c.as_slice.ensures.items (c.in-Ok.ensures.run input plan_is) c.finish.ensures.done
+    c.wanted_in.result c.in-Ok.reported.has_deadlock c.in-Ok.reported.text c.as_slice.result.now _ (number_of_status c.status_of.result) _ c.wanted_in.ensures c.status_of.ensures c.as_slice.ensures.items (c.in-Ok.ensures.run input plan_is) c.finish.ensures.done

@@ -5,7 +5,7 @@ use Rattle.armus_words.specs.declared.command.Command.TheVariants.{Gen}
 use Rattle.armus_top.specs.Generated.{IsFirstAndLast}
 use Rattle.armus_top.specs.inside.TwoLines.{HasTwoLines}
 use Rattle.armus_top.specs.Runs.{IsRunOf}
-use Rattle.armus_top.specs.inside.Status.{code_of}
+use Rattle.armus_top.specs.inside.Status.{number_of_status}
 use Rattle.armus_top.proofs.Answering.{by_answer}
 use Rattle.armus_top.proofs.TwoLines.{report_has_two}
 use Rattle.armus_top.proofs.generating.generate.Goals as goal
@@ -18,7 +18,7 @@ pub returns-in-Ok-first_and_last-clause-done : goal.returns-in-Ok-first_and_last
 returns-in-Ok-first_and_last-clause-done g c =
     let report = c.in-Ok.report.text in
     let shown = c.as_slice-in-Ok-first_and_last.result.now in
-    rw (← c.run_generated.ensures.unwritten) (by_answer (Gen c.args.count) [] shown _ (code_of c.status_of.result) _
+    rw (← c.run_generated.ensures.unwritten) (by_answer (Gen c.args.count) [] shown _ (number_of_status c.status_of.result) _
     (record {
       report = report;
       run = subst (λ s. IsRunOf (generated_text c.args.count) wanted.Auto s report) (sym c.status_of.ensures) c.in-Ok.ensures.run;

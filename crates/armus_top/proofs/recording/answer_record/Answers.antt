@@ -1,7 +1,7 @@
 use Rattle.std.proofs.Common.{◌≡◌, sym, subst, rules}
 use Rattle.armus_words.specs.declared.command.Command.TheVariants.{Record}
 use Rattle.armus_top.specs.Records.{IsRecordOf}
-use Rattle.armus_top.specs.inside.Status.{code_of}
+use Rattle.armus_top.specs.inside.Status.{number_of_status}
 use Rattle.armus_top.proofs.Answering.{by_answer}
 use Rattle.armus_top.proofs.OnePlan.{checked_plan}
 use Rattle.armus_top.proofs.recording.answer_record.Goals as goal
@@ -13,7 +13,7 @@ pub returns-in-Ok-clause-done : goal.returns-in-Ok-clause-done
 returns-in-Ok-clause-done g c =
     let input = c.args.text.now in
     let shown = c.as_slice.result.now in
-    by_answer (Record c.args.workers) input shown _ (code_of c.status_of.result) _
-    (subst (λ t. IsRecordOf input (code_of c.status_of.result) t) (sym c.as_slice.ensures.items)
+    by_answer (Record c.args.workers) input shown _ (number_of_status c.status_of.result) _
+    (subst (λ t. IsRecordOf input (number_of_status c.status_of.result) t) (sym c.as_slice.ensures.items)
     (subst (λ n. IsRecordOf input n c.in-Ok.reported.text) (sym c.status_of.ensures) (c.in-Ok.ensures.run c.requires.plan)))
     c.finish.ensures.done

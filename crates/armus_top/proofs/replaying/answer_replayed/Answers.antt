@@ -2,7 +2,7 @@ use Rattle.std.proofs.Common.{◌∙◌, sym, subst}
 use Rattle.armus_base.specs.Runs.{state_after}
 use Rattle.armus_words.specs.declared.command.Command.TheVariants.{Replay}
 use Rattle.armus_top.specs.Programs.{TellsDead}
-use Rattle.armus_top.specs.inside.Status.{code_of}
+use Rattle.armus_top.specs.inside.Status.{number_of_status}
 use Rattle.armus_top.proofs.Answering.{by_answer}
 use Rattle.schedule.proofs.PassesNameTheDead.{passes_name_the_dead}
 use Rattle.armus_top.proofs.OnePlan.{checked_plan}
@@ -11,7 +11,7 @@ use Rattle.armus_top.proofs.replaying.answer_replayed.Goals as goal
 
 pub returns-in-Ok-clause-done : goal.returns-in-Ok-clause-done
 returns-in-Ok-clause-done g c input text schedule split by =
-    by_answer Replay input c.as_slice.result.now _ (code_of c.status_of.result) _
+    by_answer Replay input c.as_slice.result.now _ (number_of_status c.status_of.result) _
     (record {
       text = text;
       schedule = schedule;

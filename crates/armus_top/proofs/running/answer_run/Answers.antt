@@ -1,7 +1,7 @@
 use Rattle.std.proofs.Common.{◌≡◌, ap, subst, false, true, rules}
 use Rattle.adaptive.specs.declared.analysis.Wanted.{Wanted}
 use Rattle.task_runner.specs.DetectRuns.{told}
-use Rattle.armus_top.specs.inside.Status.{code_of}
+use Rattle.armus_top.specs.inside.Status.{number_of_status}
 use Rattle.armus_top.specs.inside.Writing.{WritesReport}
 use Rattle.armus_top.proofs.LiveRuns.{between, reported, unwritten, wanted_memory}
 use Rattle.armus_top.proofs.Reporting.{plain_end_in_order}
@@ -16,9 +16,9 @@ returns-in-Ok-clause-done g c input plan_is =
     let before = telling c.args.out.now in
     let now = telling c.run_detect.new.out in
     let after = telling c.write_report.new.out in
-    reported input c.args.plan.now plan_is c.args.workers c.args.graph c.args.live before now after (code_of c.write_report.result) c.in-Ok.ran c.in-Ok.ensures.ran.end
+    reported input c.args.plan.now plan_is c.args.workers c.args.graph c.args.live before now after (number_of_status c.write_report.result) c.in-Ok.ran c.in-Ok.ensures.ran.end
     c.in-Ok.ensures.told (λ e. ap telling (c.in-Ok.ensures.silent e).0)
-    (subst (λ (w : Wanted). WritesReport c.in-Ok.ran.end w (between now after) (code_of c.write_report.result)) c.wanted_in.ensures c.write_report.ensures.done)
+    (subst (λ (w : Wanted). WritesReport c.in-Ok.ran.end w (between now after) (number_of_status c.write_report.result)) c.wanted_in.ensures c.write_report.ensures.done)
 
 pub returns-in-Err-Write-clause-done : goal.returns-in-Err-Write-clause-done
 returns-in-Err-Write-clause-done g c input plan_is =

@@ -1,7 +1,7 @@
 use Rattle.std.proofs.Common.{◌≡◌, ℕ, inl, subst, if◌then◌else◌}
 use Rattle.armus_top.specs.Headline.{passage}
-use Rattle.armus_top.specs.inside.Status.{code_of}
-use Rattle.armus_top.specs.Texts.{Text}
+use Rattle.armus_top.specs.inside.Status.{number_of_status}
+use Rattle.armus_words.specs.Words.{Text}
 use Rattle.armus_top.specs.inside.Writing.{Finished}
 use Rattle.armus_top.proofs.Ending.{finished_as}
 use Rattle.armus_top.proofs.running.write_report.Goals as goal
@@ -15,6 +15,6 @@ returns-in-Ok-clause-done g c =
       report.text,
       c.in-Ok.ensures.dead,
       c.in-Ok.ensures.text,
-      subst (λ (s : ℕ). Finished out report.text s (code_of c.finish.result)) c.status_of.ensures
-          (finished_as out report.text c.as_slice.result.now (code_of c.status_of.result) (code_of c.finish.result) c.as_slice.ensures.items c.finish.ensures.done),
+      subst (λ (s : ℕ). Finished out report.text s (number_of_status c.finish.result)) c.status_of.ensures
+          (finished_as out report.text c.as_slice.result.now (number_of_status c.status_of.result) (number_of_status c.finish.result) c.as_slice.ensures.items c.finish.ensures.done),
     )

@@ -1,5 +1,5 @@
 use Rattle.std.proofs.Common.{[], ◌∷◌, sym, subst, append-nil}
-use Rattle.board.specs.Walking.{begins}
+use Rattle.board.specs.inside.Walking.{begins}
 use Rattle.board_rounds.specs.Turns.{AreChildSeats, forks_of, no_child}
 use Rattle.board_rounds.proofs.task.make_step.Goals as goal
 

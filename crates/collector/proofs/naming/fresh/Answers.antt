@@ -1,5 +1,5 @@
 use Rattle.std.proofs.Common.{◌+◌, ◌∙◌, ap, get_or, subst, sym, take}
-use Rattle.collector.specs.Names.{AreFresh}
+use Rattle.collector.specs.inside.Names.{AreFresh}
 use Rattle.collector.proofs.Fresh.{fresh_new, fresh_old, name_read}
 use Rattle.collector.proofs.naming.fresh.Goals.{then-not-names-t+in-Some+in_ok-push, else-not-names-t}
 use Rattle.collector.proofs.naming.fresh.Goals as goal

@@ -1,5 +1,5 @@
 use Rattle.std.proofs.Common.{take}
-use Rattle.collector.specs.Names.{AreFresh}
+use Rattle.collector.specs.inside.Names.{AreFresh}
 use Rattle.collector.proofs.naming.fresh.Given as goal
 
 abbrev pub invariant-loop-t : goal.invariant-loop-t

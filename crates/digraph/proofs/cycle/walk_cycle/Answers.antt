@@ -1,10 +1,8 @@
-use Rattle.std.proofs.Common.{◌≡◌, ℕ, ◌-◌, ◌<◌, List, length, arith, ◌∙◌, take, drop, true, false, length-set, length-drop}
+use Rattle.std.proofs.Common.{◌≡◌, ℕ, ◌-◌, ◌<◌, List, length, arith, refl, ◌∙◌, take, drop, true, false, get_or, length-set, length-drop}
 use Rattle.std.proofs.lemmas.List.{take_all, get_or_default}
 use Rattle.std.proofs.lemmas.Result.{IfOk-weaker}
 use Rattle.armus_base.specs.Relations.{IsWalkCycle}
 use Rattle.armus_base.proofs.WalkCycles.{walk_more, walk_done, set_flags}
-use Rattle.digraph.specs.Graph.{graph_of}
-use Rattle.digraph.specs.Cycle.{IsLeastSuccessor}
 use Rattle.digraph.proofs.SearchSteps.{read_at}
 use Rattle.digraph.proofs.cycle.walk_cycle.Goals as goal
 
@@ -14,10 +12,9 @@ walk-preserved c =
     let lt : c.walk.node < length c.walk.seen.items = rw inv.sized inv.inside in
     let unseen = read_at c.walk.seen.items c.walk.node c.index.result.now false lt c.index.ensures ∙ c.walk-test.true in
     record {
-      walk = rw c.in_ok-push.ensures.items (walk_more _ _ _ _ inv.walk c.successor-node.result (λ m. let t = (inv.marks c.walk.node).1 m in cc) c.successor-node.ensures.step);
+      walk = rw c.in_ok-push.ensures.items (walk_more _ _ _ _ inv.walk (get_or c.args.next.now c.walk.node 0) (λ m. let t = (inv.marks c.walk.node).1 m in cc) refl);
       marks = rw c.in_ok-push.ensures.items (set_flags _ _ _ lt inv.marks);
-      reaches = c.successor-node.ensures.reaches;
-      inside = c.successor-node.ensures.inside;
+      inside = c.requires.inside c.walk.node 0 inv.inside;
       sized = length-set c.walk.seen.items c.walk.node true ∙ inv.sized;
     }
 
@@ -29,6 +26,6 @@ returns c =
     let there = rw c.deref.ensures.value at c.place-at.ensures.there in
     let all : take (length path - at) (drop at path) ≡ drop at path = take_all (length path - at) (drop at path) (omega (arith, length-drop at path)) in
     IfOk-weaker c.from_slice.result (λ v. v.items ≡ take (length c.deref-2.result.now - at) (drop at c.deref-2.result.now))
-    (λ v. IsWalkCycle (IsLeastSuccessor (graph_of c.args.rows.now)) c.args.start v.items)
+    (λ v. IsWalkCycle (λ a b. b ≡ get_or c.args.next.now a 0) c.args.start v.items)
     (λ v e. rw (e, c.deref-2.ensures.value, all) (walk_done _ _ _ _ c.walk.invariant.walk at inside (λ d. get_or_default path at d 0 inside ∙ there)))
     c.from_slice.ensures.items

@@ -2,7 +2,7 @@ use Rattle.std.proofs.Common.{◌+◌, ◌*◌, ◌<◌, ◌∙◌, ap, arith, l
 use Rattle.std.specs.Prelude.{option_and_then}
 use Rattle.std.proofs.lemmas.Nat.{mul-add-lt}
 use Rattle.std.proofs.lemmas.Option.{slice_get-get_or}
-use Rattle.pl_core.specs.Cells.{phase_of_cell}
+use Rattle.pl_core.specs.inside.Cells.{phase_of_cell}
 use Rattle.pl_core.proofs.Cells.{cell_is}
 use Rattle.pl_core.proofs.cell.phase_in.Goals as goal
 

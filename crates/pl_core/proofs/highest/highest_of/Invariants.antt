@@ -2,7 +2,7 @@ use Rattle.std.proofs.Common.{◌≡◌, ◌<◌, ◌≤◌, ℕ, false, Some, l
 use Rattle.std.specs.Prelude.{slice_get}
 use Rattle.armus_base.specs.declared.event.Event.{Event}
 use Rattle.pl_core.specs.declared.task.Task.{Task}
-use Rattle.pl_core.specs.HighestPhases.{highest_at}
+use Rattle.pl_core.specs.inside.Highest.{highest_at}
 use Rattle.pl_core.proofs.highest.highest_of.Given as goal
 
 abbrev pub invariant-loop-k : goal.invariant-loop-k

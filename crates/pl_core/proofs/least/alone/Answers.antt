@@ -1,5 +1,5 @@
 use Rattle.std.proofs.Common.{◌∙◌, subst}
-use Rattle.pl_core.specs.LeastPhases.{IsAtMost}
+use Rattle.pl_core.specs.inside.LeastPhases.{IsAtMost}
 use Rattle.pl_core.proofs.LeastMembers.{alone_bound, alone_none}
 use Rattle.pl_core.proofs.least.alone.Goals as goal
 

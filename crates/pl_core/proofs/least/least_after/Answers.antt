@@ -1,6 +1,6 @@
 use Rattle.std.proofs.Common.{◌≡◌, ◌∙◌, None, Some, subst, sym}
-use Rattle.pl_core.specs.Cells.{phases_of_cells}
-use Rattle.pl_core.specs.LeastPhases.{IsLeastBelow}
+use Rattle.pl_core.specs.inside.Cells.{phases_of_cells}
+use Rattle.pl_core.specs.inside.LeastPhases.{IsLeastBelow}
 use Rattle.pl_core.proofs.LeastMembers.{at_most_trans}
 use Rattle.pl_core.proofs.least.least_after.Goals as goal
 

@@ -1,5 +1,5 @@
 use Rattle.std.proofs.Common.{sym}
-use Rattle.pl_core.specs.Cells.{phases_of_cells}
+use Rattle.pl_core.specs.inside.Cells.{phases_of_cells}
 use Rattle.pl_core.proofs.least.least_of_all.Goals as goal
 
 pub loop-t-preserved : goal.loop-t-preserved

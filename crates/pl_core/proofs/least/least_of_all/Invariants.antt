@@ -1,5 +1,5 @@
-use Rattle.pl_core.specs.Cells.{phases_of_cells}
-use Rattle.pl_core.specs.LeastPhases.{IsLeastBelow}
+use Rattle.pl_core.specs.inside.Cells.{phases_of_cells}
+use Rattle.pl_core.specs.inside.LeastPhases.{IsLeastBelow}
 use Rattle.pl_core.proofs.least.least_of_all.Given as goal
 
 abbrev pub invariant-loop-t : goal.invariant-loop-t

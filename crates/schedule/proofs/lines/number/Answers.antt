@@ -1,6 +1,6 @@
 use Rattle.std.proofs.Common.{subst, ℕ, Ok, Err, rules}
 use Rattle.std.specs.Str.Parse.{ParsesUnsigned}
-use Rattle.schedule.specs.Lines.{MayBeNumber}
+use Rattle.schedule.specs.inside.Numbers.{MayBeNumber}
 use Rattle.schedule.proofs.Numbers.{read_number, not_read}
 use Rattle.schedule.proofs.lines.number.Goals as goal
 

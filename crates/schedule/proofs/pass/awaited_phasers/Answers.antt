@@ -1,7 +1,7 @@
 use Rattle.std.proofs.Common.{◌≡◌, ◌+◌, ◌≤◌, ◌∙◌, subst, sym, ap, arith, length, get_or, IfOk}
 use Rattle.schedule.specs.declared.pass.Waiting.{Waiting}
 use Rattle.armus_base.specs.Finals.{given_below}
-use Rattle.schedule.specs.inside.OpenPasses.{marked}
+use Rattle.schedule.specs.inside.OpenPasses.{marked_phaser}
 use Rattle.schedule.proofs.Marks.{AreMarks, mark_one, mark_none, marks_are}
 use Rattle.schedule.proofs.pass.awaited_phasers.Goals as goal
 use Rattle.schedule.proofs.pass.awaited_phasers.Goals.{then-p-len, else-p-len}
@@ -24,5 +24,5 @@ returns c =
     let waiting = c.args.waiting.now in
     let ended : c.loop-w.w-index ≡ length waiting = omega arith in
     let there = marks_are marks waiting c.args.phasers (subst (AreMarks marks waiting c.args.phasers) ended c.loop-w.invariant) in
-    let all = ap (λ m. given_below (marked m) (length m)) c.as_slice.ensures.value in
+    let all = ap (λ m. given_below (marked_phaser m) (length m)) c.as_slice.ensures.value in
     subst (λ l. IfOk c.listed.result (λ v. v.items ≡ l)) (all ∙ there) c.listed.ensures

@@ -1,4 +1,4 @@
-use Rattle.state_graph.specs.StateEdges.{IsAnswersAt}
+use Rattle.state_graph.specs.inside.Growing.{IsAnswersAt}
 use Rattle.state_graph.proofs.graph.at_places.Given as goal
 
 abbrev pub invariant-loop-k : goal.invariant-loop-k

@@ -1,6 +1,6 @@
 use Rattle.std.proofs.Common.{◌+◌}
 use Rattle.digraph.specs.Graph.{graph_of}
-use Rattle.state_graph.specs.StateEdges.{IsGrown, StaysSmallBelow}
+use Rattle.state_graph.specs.inside.Growing.{IsGrown, StaysSmallBelow}
 use Rattle.state_graph.proofs.growth.grow.Given as goal
 
 abbrev pub invariant-loop-k : goal.invariant-loop-k

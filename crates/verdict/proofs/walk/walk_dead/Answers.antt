@@ -1,39 +1,17 @@
-use Rattle.std.proofs.Common.{◌≡◌, ℕ, ◌-◌, ◌<◌, List, length, arith, sym, ◌∙◌, take, drop, true, false, length-set, length-drop}
-use Rattle.std.proofs.lemmas.List.{take_all, get_or_default}
+use Rattle.std.proofs.Common.{◌≡◌, ℕ, true, false, length, get_or}
 use Rattle.std.proofs.lemmas.Result.{IfOk-weaker}
 use Rattle.armus_base.specs.Relations.{IsWalkCycle}
-use Rattle.armus_base.proofs.WalkCycles.{walk_more, walk_done, set_flags}
-use Rattle.verdict.specs.inside.DeadWalks.{IsNextDead}
+use Rattle.digraph.specs.inside.NextTables.{AreNext}
+use Rattle.digraph.proofs.NextTables.{walk_by_table}
+use Rattle.verdict.specs.inside.DeadWalks.{IsNextDead, IsStepOn}
 use Rattle.verdict.proofs.walk.walk_dead.Goals as goal
-
-pub walk-preserved : goal.walk-preserved
-walk-preserved c =
-    let inv = c.walk.invariant in
-    let lt : c.walk.node < length c.walk.seen.items = rw inv.sized inv.inside in
-    let unseen = get_or_default c.walk.seen.items c.walk.node false c.index.result.now lt ∙ sym c.index.ensures ∙ c.walk-test.true in
-    record {
-      walk = rw c.in_ok-push.ensures.items (walk_more _ _ _ _ inv.walk c.next_dead-node.result (λ m. let t = (inv.marks c.walk.node).1 m in cc) c.next_dead-node.ensures.step);
-      marks = rw c.in_ok-push.ensures.items (set_flags _ _ _ lt inv.marks);
-      dead = c.next_dead-node.ensures.step.dead;
-      inside = c.next_dead-node.ensures.inside;
-      sized = length-set c.walk.seen.items c.walk.node true ∙ inv.sized;
-    }
 
 pub returns : goal.returns
 returns c =
-    let path : List ℕ = c.walk.path.items in
-    let at : ℕ = c.path_place-at.result in
-    let inside : at < length path = rw c.deref.ensures.value at c.path_place-at.ensures.inside in
-    let there = rw c.deref.ensures.value at c.path_place-at.ensures.there in
-    let all : take (length path - at) (drop at path) ≡ drop at path = take_all (length path - at) (drop at path) (omega (arith, length-drop at path)) in
-    IfOk-weaker c.from_slice.result (λ v. v.items ≡ take (length c.deref-2.result.now - at) (drop at c.deref-2.result.now))
-    (λ v. IsWalkCycle (IsNextDead c.args.deps.now c.args.flags.now) c.args.start v.items)
-    (λ v e. rw (e, c.deref-2.ensures.value, all) (walk_done _ _ _ _ c.walk.invariant.walk at inside (λ d. get_or_default path at d 0 inside ∙ there)))
-    c.from_slice.ensures.items
-
-pub path_place-at-requires : goal.path_place-at-requires
-path_place-at-requires c =
-    let inv = c.walk.invariant in
-    let lt : c.walk.node < length c.walk.seen.items = rw inv.sized inv.inside in
-    let was_seen = get_or_default c.walk.seen.items c.walk.node false c.index.result.now lt ∙ sym c.index.ensures ∙ c.walk-test.false in
-    rw c.deref.ensures.value ((inv.marks c.walk.node).0 was_seen)
+    let d = c.args.deps.now in
+    let flags = c.args.flags.now in
+    let n : ℕ = length d.tasks in
+    let table : AreNext (IsStepOn d flags) n n c.in_ok-next.next.items = rw c.requires.walkable.sized at c.in_ok-next.ensures in
+    IfOk-weaker c.walk_cycle.result (λ v. IsWalkCycle (λ a b. b ≡ get_or c.deref.result.now a 0) c.args.start v.items) (λ v. IsWalkCycle (IsNextDead d flags) c.args.start v.items)
+    (λ v w. walk_by_table (IsStepOn d flags) (IsNextDead d flags) (λ a. get_or flags a false ≡ true) (λ a b dead step. (step dead, (step dead).marked)) n c.in_ok-next.next.items c.args.start v.items table c.requires.start c.requires.dead (rw c.deref.ensures.value at w))
+    c.walk_cycle.ensures

@@ -3,7 +3,7 @@ use Rattle.armus_base.specs.Plans.{Plan, code_of}
 use Rattle.pl_core.proofs.StepKinds.{few_actions}
 use Rattle.board.specs.Seats.{IsSeat, event_of}
 use Rattle.board.specs.Views.{task_of}
-use Rattle.board.specs.Walking.{HasBegun, begins}
+use Rattle.board.specs.inside.Walking.{HasBegun, begins}
 use Rattle.board.proofs.Walking.{before_next, before_of_plan, begins_next, is_before}
 use Rattle.board_rounds.specs.Turns.{Acts, EndsTurn, MakesOne, Working, is_done}
 use Rattle.board_rounds.proofs.Goings.{acts_itself, one_step, task_is}

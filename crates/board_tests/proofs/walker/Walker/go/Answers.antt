@@ -2,7 +2,7 @@ use Rattle.std.proofs.Common.{◌∙◌, ◌<◌, Result, Ok, Err, OnOk, add-one
 use Rattle.armus_base.specs.Plans.{Plan}
 use Rattle.board.specs.Seats.{Known, MakesStep}
 use Rattle.board.specs.Views.{next_action}
-use Rattle.board.specs.Walking.{HasBegun, begins}
+use Rattle.board.specs.inside.Walking.{HasBegun, begins}
 use Rattle.board.proofs.Walking.{IsBefore, before_next, before_of_plan, begins_next, is_before}
 use Rattle.board_tests.proofs.walker.Walker.go.Goals as goal
 

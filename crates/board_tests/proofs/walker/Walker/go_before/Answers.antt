@@ -1,7 +1,7 @@
 use Rattle.std.proofs.Common.{◌∙◌, ◌<◌, add-one, length, sym, ap, subst}
 use Rattle.armus_base.specs.Plans.{Plan}
 use Rattle.board.specs.Seats.{Known}
-use Rattle.board.specs.Walking.{HasBegun}
+use Rattle.board.specs.inside.Walking.{HasBegun}
 use Rattle.board.proofs.Walking.{before_next, before_of_plan, begins_next, is_before}
 use Rattle.board_tests.proofs.walker.Walker.go_before.Goals as goal
 

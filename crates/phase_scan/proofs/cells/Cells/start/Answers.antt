@@ -1,6 +1,6 @@
 use Rattle.std.proofs.Common.{sym, ap, ◌∙◌}
 use Rattle.armus_base.specs.Finals.{is_event_of}
-use Rattle.phase_scan.specs.Tables.{awaited_found, event_at, state_found, status_found, statuses_found}
+use Rattle.phase_scan.specs.Tables.{awaited_in_findings, event_for, state_of_findings, status_found, statuses_of_findings}
 use Rattle.phase_scan.proofs.Tables.{given_below_nothing, none_before, nothing_in_order, status_none}
 use Rattle.phase_scan.proofs.cells.Cells.start.Goals as goal
 
@@ -9,14 +9,14 @@ invariant_of-result c =
     let f = c.in_ok-new.field-0 in
     record {
       in_order =
-          nothing_in_order (statuses_found f)
-          (given_below_nothing (status_found f.phasers (state_found f) (awaited_found f)) f.tasks
-          (λ t. status_none f.phasers (state_found f) (awaited_found f) t (c.in_ok-new.ensures.nothing t)));
-      marked = λ p. c.in_ok-new.ensures.unmarked p ∙ sym (none_before (λ t. is_event_of p (event_at f.events.items t)) f.tasks (λ t. ap (is_event_of p) (c.in_ok-new.ensures.nothing t)));
+          nothing_in_order (statuses_of_findings f)
+          (given_below_nothing (status_found f.phasers (state_of_findings f) (awaited_in_findings f)) f.tasks
+          (λ t. status_none f.phasers (state_of_findings f) (awaited_in_findings f) t (c.in_ok-new.ensures.nothing t)));
+      marked = λ p. c.in_ok-new.ensures.unmarked p ∙ sym (none_before (λ t. is_event_of p (event_for f.events.items t)) f.tasks (λ t. ap (is_event_of p) (c.in_ok-new.ensures.nothing t)));
     }
 
 pub returns-clause-nothing : goal.returns-clause-nothing
 returns-clause-nothing c =
     let f = c.in_ok-new.field-0 in
-    given_below_nothing (status_found f.phasers (state_found f) (awaited_found f)) f.tasks
-    (λ t. status_none f.phasers (state_found f) (awaited_found f) t (c.in_ok-new.ensures.nothing t))
+    given_below_nothing (status_found f.phasers (state_of_findings f) (awaited_in_findings f)) f.tasks
+    (λ t. status_none f.phasers (state_of_findings f) (awaited_in_findings f) t (c.in_ok-new.ensures.nothing t))

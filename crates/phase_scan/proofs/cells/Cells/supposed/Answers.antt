@@ -5,7 +5,8 @@ use Rattle.armus_base.specs.Finals.{given_below}
 use Rattle.board.specs.Steps.{own_phase}
 use Rattle.phase_scan.specs.Collects.{Collection}
 use Rattle.phase_scan.specs.Supposed.{IsSupposed}
-use Rattle.phase_scan.specs.Tables.{awaited_found, phase_in, state_found, state_supposed, status_found}
+use Rattle.phase_scan.specs.Tables.{awaited_in_findings, state_of_findings, state_supposed, status_found}
+use Rattle.phase_scan.specs.inside.Phases.{phase_in}
 use Rattle.phase_scan.proofs.Supposes.{supposed_goes, supposes}
 use Rattle.phase_scan.proofs.cells.Cells.supposed.Goals as goal
 
@@ -32,4 +33,4 @@ returns-clause-supposed c =
     c.requires.made c.id-t.ensures.seat c.id-t.ensures.task tasks c.in_ok-column.ensures.loads c.supposed.ensures.seat
     c.in_ok-list.list phasers c.self.invariant.marked
     (c.in_ok-list.ensures.statuses
-    ∙ ap (λ xs. given_below (status_found self.phasers (state_supposed (state_found self) c.id-t.result.0 c.args.event (own_phase c.load_column.new.seat.view) (phase_in xs)) (updated (awaited_found self) c.args.event.p.0 true)) self.tasks) column))
+    ∙ ap (λ xs. given_below (status_found self.phasers (state_supposed (state_of_findings self) c.id-t.result.0 c.args.event (own_phase c.load_column.new.seat.view) (phase_in xs)) (updated (awaited_in_findings self) c.args.event.p.0 true)) self.tasks) column))

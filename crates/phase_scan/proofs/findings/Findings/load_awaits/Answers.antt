@@ -2,7 +2,7 @@ use Rattle.std.proofs.Common.{◌≡◌, ◌<◌, ℕ, sym, ◌∙◌, subst, re
 use Rattle.std.specs.Prelude.{IfSome}
 use Rattle.armus_base.specs.declared.event.Event.{Event}
 use Rattle.board.specs.Views.{found_of}
-use Rattle.phase_scan.specs.Tables.{awaited_found, event_at}
+use Rattle.phase_scan.specs.Tables.{awaited_in_findings, event_for}
 use Rattle.phase_scan.proofs.Keeping.{awaited_more, awaits_more, still_of, waits_within}
 use Rattle.phase_scan.proofs.findings.Findings.load_awaits.Goals as goal
 
@@ -27,8 +27,8 @@ loop-number-preserved g c =
       made = still_of (g.L.Loads.known c.loop-number.by) (g.L.Loads.known c.load_await-seen.new.self) c.args.board.now i.made load.table load.load.same;
       tasks = kept.tasks ∙ i.tasks;
       phasers = kept.phasers ∙ i.phasers;
-      loads = awaits_more (event_at c.loop-number.self.events.items) (event_at c.keep_event.new.self.events.items) c.loop-number.number c.waiting.result (found_of c.load_await-seen.result)
+      loads = awaits_more (event_for c.loop-number.self.events.items) (event_for c.keep_event.new.self.events.items) c.loop-number.number c.waiting.result (found_of c.load_await-seen.result)
           (g.L.Loads.known c.args.by.now) (g.L.Loads.known c.loop-number.by) (g.L.Loads.known c.load_await-seen.new.self) i.loads load c.waiting.ensures kept.events;
-      awaited = λ p. awaited_more (event_at c.loop-number.self.events.items) (event_at c.keep_event.new.self.events.items) c.loop-number.number p c.waiting.result
-          (awaited_found c.loop-number.self p) (awaited_found c.keep_event.new.self p) (i.awaited p) (kept.awaited p) kept.events;
+      awaited = λ p. awaited_more (event_for c.loop-number.self.events.items) (event_for c.keep_event.new.self.events.items) c.loop-number.number p c.waiting.result
+          (awaited_in_findings c.loop-number.self p) (awaited_in_findings c.keep_event.new.self p) (i.awaited p) (kept.awaited p) kept.events;
     }

@@ -3,7 +3,8 @@ use Rattle.std.specs.Prelude.{unwrap_or, is_some}
 use Rattle.std.proofs.lemmas.Option.{slice_get_read}
 use Rattle.board.specs.Seats.{IsOf}
 use Rattle.phase_scan.specs.Supposed.{LoadsColumn}
-use Rattle.phase_scan.specs.Tables.{event_at, phase_in}
+use Rattle.phase_scan.specs.Tables.{event_for}
+use Rattle.phase_scan.specs.inside.Phases.{phase_in}
 use Rattle.phase_scan.proofs.Keeping.{still_of}
 use Rattle.phase_scan.proofs.Columns.{column_more, column_skip}
 use Rattle.phase_scan.proofs.findings.Findings.load_column.Goals.{then-is_some, else-is_some}
@@ -15,9 +16,9 @@ loop-number-preserved c =
     let self = c.args.self.now in
     let t = c.loop-number.number in
     let p = c.args.p.0 in
-    let events = event_at self.events.items in
+    let events = event_for self.events.items in
     let within : t < length self.events.items = (let count = self.task_count in let counted : vec_len self.events ≡ length self.events.items = self.events.ok.0 in let l = c.loop-number-test.true in omega arith) in
-    let event : event_at self.events.items t ≡ c.index.result.now =
+    let event : event_for self.events.items t ≡ c.index.result.now =
     ap (λ o. unwrap_or o None) (slice_get_read self.events.items (length self.events.items) t c.index.result.now refl within c.index.ensures) in
     let before = c.args.seat.now in
     let between = c.loop-number.seat in

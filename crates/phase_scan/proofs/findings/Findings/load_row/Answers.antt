@@ -1,6 +1,6 @@
 use Rattle.std.proofs.Common.{◌≡◌, ◌+◌, ◌<◌, arith, length, get_or, refl, subst, vec_len, List, ℕ}
-use Rattle.phase_scan.specs.inside.Nexts.{IsNext}
-use Rattle.phase_scan.specs.Tables.{awaited_found, phases_in}
+use Rattle.phase_scan.specs.inside.Nexts.{IsNextAsked}
+use Rattle.phase_scan.specs.Tables.{awaited_in_findings, phases_in_found}
 use Rattle.phase_scan.proofs.Keeping.{next_read, others_stay, row_more, row_to_next, still_of}
 use Rattle.phase_scan.proofs.findings.Findings.load_row.Goals as goal
 
@@ -8,7 +8,7 @@ pub row-init : goal.row-init
 row-init g c =
     let self = c.args.self.now in
     let room : length self.nexts.items ≡ self.phasers + 1 = (let count = self.next_count in let counted : vec_len self.nexts ≡ length self.nexts.items = self.nexts.ok.0 in omega arith) in
-    let next = next_read (awaited_found self) self.phasers self.nexts.items 0 c.index-p.result.now c.requires.nexts room (omega arith) c.index-p.ensures in
+    let next = next_read (awaited_in_findings self) self.phasers self.nexts.items 0 c.index-p.result.now c.requires.nexts room (omega arith) c.index-p.ensures in
     record {
       made = c.requires.made;
       tasks = refl;
@@ -19,7 +19,7 @@ row-init g c =
       others = λ u n. refl;
       within = next.within;
       asked = next.asked_for;
-      loads = row_to_next (awaited_found self) c.args.t.0 (phases_in self.phases c.args.t.0) self.phasers 0 c.index-p.result.now (g.L.Loads.known c.args.by.now) (g.L.Loads.known c.args.by.now) refl next;
+      loads = row_to_next (awaited_in_findings self) c.args.t.0 (phases_in_found self.phases c.args.t.0) self.phasers 0 c.index-p.result.now (g.L.Loads.known c.args.by.now) (g.L.Loads.known c.args.by.now) refl next;
     }
 
 pub row-preserved : goal.row-preserved
@@ -36,10 +36,10 @@ row-preserved g c =
     let answer = c.load_phase-found.result in
     let few : p < first.phasers = (let test = c.row-test.true in let same = i.phasers in omega arith) in
     let room : length first.nexts.items ≡ first.phasers + 1 = (let count = first.next_count in let counted : vec_len first.nexts ≡ length first.nexts.items = first.nexts.ok.0 in omega arith) in
-    let next : IsNext (awaited_found first) first.phasers (p + 1) c.index-p-in-row.result.now =
-    next_read (awaited_found first) first.phasers first.nexts.items (p + 1) c.index-p-in-row.result.now c.requires.nexts room (omega arith)
+    let next : IsNextAsked (awaited_in_findings first) first.phasers (p + 1) c.index-p-in-row.result.now =
+    next_read (awaited_in_findings first) first.phasers first.nexts.items (p + 1) c.index-p-in-row.result.now c.requires.nexts room (omega arith)
     (subst (λ (xs : List ℕ). c.index-p-in-row.result.now ≡ get_or xs (p + 1) c.index-p-in-row.result.now) i.nexts c.index-p-in-row.ensures) in
-    let more = row_more (awaited_found first) t (phases_in self.phases) (phases_in c.set.new.self) p answer before between j i.loads (i.asked few) load c.set.ensures.set in
+    let more = row_more (awaited_in_findings first) t (phases_in_found self.phases) (phases_in_found c.set.new.self) p answer before between j i.loads (i.asked few) load c.set.ensures.set in
     record {
       made = still_of between j c.args.board.now i.made load.table load.load.same;
       tasks = i.tasks;
@@ -47,8 +47,8 @@ row-preserved g c =
       events = i.events;
       awaited = i.awaited;
       nexts = i.nexts;
-      others = λ u n. others_stay (phases_in first.phases) (phases_in self.phases) (phases_in c.set.new.self) t p answer c.set.ensures.set u n (i.others u n);
+      others = λ u n. others_stay (phases_in_found first.phases) (phases_in_found self.phases) (phases_in_found c.set.new.self) t p answer c.set.ensures.set u n (i.others u n);
       within = next.within;
       asked = next.asked_for;
-      loads = row_to_next (awaited_found first) t (phases_in c.set.new.self t) first.phasers (p + 1) c.index-p-in-row.result.now before j more next;
+      loads = row_to_next (awaited_in_findings first) t (phases_in_found c.set.new.self t) first.phasers (p + 1) c.index-p-in-row.result.now before j more next;
     }

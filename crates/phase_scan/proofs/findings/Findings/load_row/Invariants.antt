@@ -1,7 +1,7 @@
 use Rattle.std.proofs.Common.{◌≡◌, ◌≢◌, ℕ, ◌<◌, ◌≤◌, ◌-◌, true}
 use Rattle.board.specs.Seats.{IsOf}
 use Rattle.phase_scan.specs.Collects.{LoadsRow}
-use Rattle.phase_scan.specs.Tables.{awaited_found, phases_in}
+use Rattle.phase_scan.specs.Tables.{awaited_in_findings, phases_in_found}
 use Rattle.phase_scan.proofs.findings.Findings.load_row.Given as goal
 
 abbrev pub invariant-row : goal.invariant-row
@@ -12,10 +12,10 @@ invariant-row g l = record {
   events : l.self.events.items ≡ l.initial.self.events.items;
   awaited : l.self.awaited.items ≡ l.initial.self.awaited.items;
   nexts : l.self.nexts.items ≡ l.initial.self.nexts.items;
-  others : (u : ℕ) → u ≢ l.t.0 → phases_in l.self.phases u ≡ phases_in l.initial.self.phases u;
+  others : (u : ℕ) → u ≢ l.t.0 → phases_in_found l.self.phases u ≡ phases_in_found l.initial.self.phases u;
   within : l.p ≤ l.initial.self.phasers;
-  asked : l.p < l.initial.self.phasers → awaited_found l.initial.self l.p ≡ true;
-  loads : LoadsRow (awaited_found l.initial.self) l.t.0 (phases_in l.self.phases l.t.0) l.p (g.L.Loads.known l.initial.by) (g.L.Loads.known l.by);
+  asked : l.p < l.initial.self.phasers → awaited_in_findings l.initial.self l.p ≡ true;
+  loads : LoadsRow (awaited_in_findings l.initial.self) l.t.0 (phases_in_found l.self.phases l.t.0) l.p (g.L.Loads.known l.initial.by) (g.L.Loads.known l.by);
 }
 
 abbrev pub decreases-row : goal.decreases-row

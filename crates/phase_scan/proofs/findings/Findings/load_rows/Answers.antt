@@ -5,7 +5,7 @@ use Rattle.board.specs.Seats.{IsOf}
 use Rattle.phase_scan.specs.declared.findings.Findings.{Findings}
 use Rattle.phase_scan.specs.Collects.{LoadsRow, LoadsRows}
 use Rattle.phase_scan.specs.inside.Nexts.{AreNexts}
-use Rattle.phase_scan.specs.Tables.{awaited_found, event_at, is_marked, phases_in, state_found}
+use Rattle.phase_scan.specs.Tables.{awaited_in_findings, event_for, is_marked, phases_in_found, state_of_findings}
 use Rattle.phase_scan.proofs.Keeping.{rows_more, rows_skip}
 use Rattle.phase_scan.proofs.findings.Findings.load_rows.Goals.{then-is_some, else-is_some}
 use Rattle.phase_scan.proofs.findings.Findings.load_rows.Goals as goal
@@ -17,7 +17,7 @@ loop-number-preserved g c =
     let first = c.args.self.now in
     let t = c.loop-number.number in
     let within : t < length self.events.items = (let count = self.task_count in let same = i.tasks in let counted : vec_len self.events ≡ length self.events.items = self.events.ok.0 in let l = c.loop-number-test.true in omega arith) in
-    let event : event_at self.events.items t ≡ c.index.result.now =
+    let event : event_for self.events.items t ≡ c.index.result.now =
     ap (λ o. unwrap_or o None) (slice_get_read self.events.items (length self.events.items) t c.index.result.now refl within c.index.ensures) in
     let before = g.L.Loads.known c.args.by.now in
     let between = g.L.Loads.known c.loop-number.by in
@@ -27,11 +27,11 @@ loop-number-preserved g c =
           let last = w.load_row.new.self in
           let j = g.L.Loads.known w.load_row.new.by in
           let told = ap g.L.Loads.known (sym w.by-is) in
-          let waits : is_some (event_at self.events.items t) ≡ true = ap is_some event ∙ sym c.is_some.ensures ∙ w.if-is_some.true in
-          let made : LoadsRow (awaited_found first) t (phases_in last.phases t) first.phasers between j =
-          subst (λ n. LoadsRow (awaited_found first) t (phases_in last.phases t) n between j) i.phasers
-          (subst (λ (xs : List Bool). LoadsRow (is_marked xs) t (phases_in last.phases t) self.phasers between j) i.awaited row.loads) in
-          let more = rows_more first.phasers (awaited_found first) (state_found self) (state_found last) t before between j i.loads waits made (ap event_at row.events) row.others in
+          let waits : is_some (event_for self.events.items t) ≡ true = ap is_some event ∙ sym c.is_some.ensures ∙ w.if-is_some.true in
+          let made : LoadsRow (awaited_in_findings first) t (phases_in_found last.phases t) first.phasers between j =
+          subst (λ n. LoadsRow (awaited_in_findings first) t (phases_in_found last.phases t) n between j) i.phasers
+          (subst (λ (xs : List Bool). LoadsRow (is_marked xs) t (phases_in_found last.phases t) self.phasers between j) i.awaited row.loads) in
+          let more = rows_more first.phasers (awaited_in_findings first) (state_of_findings self) (state_of_findings last) t before between j i.loads waits made (ap event_for row.events) row.others in
           record {
             made = subst (λ k. IsOf k c.args.board.now) told row.made;
             tasks = ap (λ (f : Findings). f.tasks) w.self-is ∙ row.tasks ∙ i.tasks;
@@ -40,13 +40,13 @@ loop-number-preserved g c =
             awaited = ap (λ (f : Findings). f.awaited.items) w.self-is ∙ row.awaited ∙ i.awaited;
             nexts = ap (λ (f : Findings). f.nexts.items) w.self-is ∙ row.nexts ∙ i.nexts;
             loads =
-                subst (λ (f : Findings). LoadsRows first.phasers (awaited_found first) (state_found f) (t + 1) before (g.L.Loads.known c.if-is_some.by)) (sym w.self-is)
-                (subst (λ k. LoadsRows first.phasers (awaited_found first) (state_found last) (t + 1) before k) told more);
+                subst (λ (f : Findings). LoadsRows first.phasers (awaited_in_findings first) (state_of_findings f) (t + 1) before (g.L.Loads.known c.if-is_some.by)) (sym w.self-is)
+                (subst (λ k. LoadsRows first.phasers (awaited_in_findings first) (state_of_findings last) (t + 1) before k) told more);
           }
       | else-is_some w ↦
           let told = ap g.L.Loads.known (sym w.by-is) in
-          let idle : is_some (event_at self.events.items t) ≡ false = ap is_some event ∙ sym c.is_some.ensures ∙ w.if-is_some.false in
-          let skip = rows_skip first.phasers (awaited_found first) (state_found self) t before between i.loads idle in
+          let idle : is_some (event_for self.events.items t) ≡ false = ap is_some event ∙ sym c.is_some.ensures ∙ w.if-is_some.false in
+          let skip = rows_skip first.phasers (awaited_in_findings first) (state_of_findings self) t before between i.loads idle in
           record {
             made = subst (λ k. IsOf k c.args.board.now) told i.made;
             tasks = ap (λ (f : Findings). f.tasks) w.self-is ∙ i.tasks;
@@ -55,8 +55,8 @@ loop-number-preserved g c =
             awaited = ap (λ (f : Findings). f.awaited.items) w.self-is ∙ i.awaited;
             nexts = ap (λ (f : Findings). f.nexts.items) w.self-is ∙ i.nexts;
             loads =
-                subst (λ (f : Findings). LoadsRows first.phasers (awaited_found first) (state_found f) (t + 1) before (g.L.Loads.known c.if-is_some.by)) (sym w.self-is)
-                (subst (λ k. LoadsRows first.phasers (awaited_found first) (state_found self) (t + 1) before k) told skip);
+                subst (λ (f : Findings). LoadsRows first.phasers (awaited_in_findings first) (state_of_findings f) (t + 1) before (g.L.Loads.known c.if-is_some.by)) (sym w.self-is)
+                (subst (λ k. LoadsRows first.phasers (awaited_in_findings first) (state_of_findings self) (t + 1) before k) told skip);
           }
     ]
 
@@ -65,6 +65,6 @@ load_row-requires-clause-nexts g c =
     let i = c.loop-number.invariant in
     let first = c.args.self.now in
     let self = c.loop-number.self in
-    subst (λ (xs : List ℕ). AreNexts (awaited_found self) self.phasers xs) (sym i.nexts)
-    (subst (λ n. AreNexts (awaited_found self) n first.nexts.items) (sym i.phasers)
+    subst (λ (xs : List ℕ). AreNexts (awaited_in_findings self) self.phasers xs) (sym i.nexts)
+    (subst (λ n. AreNexts (awaited_in_findings self) n first.nexts.items) (sym i.phasers)
     (subst (λ (xs : List Bool). AreNexts (is_marked xs) first.phasers first.nexts.items) (sym i.awaited) c.requires.nexts))

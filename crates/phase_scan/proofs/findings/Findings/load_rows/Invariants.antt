@@ -1,7 +1,7 @@
 use Rattle.std.proofs.Common.{◌≡◌}
 use Rattle.board.specs.Seats.{IsOf}
 use Rattle.phase_scan.specs.Collects.{LoadsRows}
-use Rattle.phase_scan.specs.Tables.{awaited_found, state_found}
+use Rattle.phase_scan.specs.Tables.{awaited_in_findings, state_of_findings}
 use Rattle.phase_scan.proofs.findings.Findings.load_rows.Given as goal
 
 abbrev pub invariant-loop-number : goal.invariant-loop-number
@@ -12,5 +12,5 @@ invariant-loop-number g l = record {
   events : l.self.events.items ≡ l.initial.self.events.items;
   awaited : l.self.awaited.items ≡ l.initial.self.awaited.items;
   nexts : l.self.nexts.items ≡ l.initial.self.nexts.items;
-  loads : LoadsRows l.initial.self.phasers (awaited_found l.initial.self) (state_found l.self) l.number (g.L.Loads.known l.initial.by) (g.L.Loads.known l.by);
+  loads : LoadsRows l.initial.self.phasers (awaited_in_findings l.initial.self) (state_of_findings l.self) l.number (g.L.Loads.known l.initial.by) (g.L.Loads.known l.by);
 }

@@ -2,7 +2,8 @@ use Rattle.std.proofs.Common.{◌∙◌, ap, true}
 use Rattle.armus_base.specs.States.{updated}
 use Rattle.board.specs.Seats.{Known}
 use Rattle.board.specs.Steps.{own_phase}
-use Rattle.phase_scan.specs.Tables.{awaited_found, phase_in, state_found, state_supposed, status_found}
+use Rattle.phase_scan.specs.Tables.{awaited_in_findings, state_of_findings, state_supposed, status_found}
+use Rattle.phase_scan.specs.inside.Phases.{phase_in}
 use Rattle.phase_scan.proofs.WithOwn.{none_more, some_more}
 use Rattle.phase_scan.proofs.findings.Findings.supposed.Goals.{in-Some+in_ok-push-in-Some, in-None}
 use Rattle.phase_scan.proofs.findings.Findings.supposed.Goals as goal
@@ -11,9 +12,9 @@ pub loop-number-preserved : goal.loop-number-preserved
 loop-number-preserved c =
     let i = c.loop-number.invariant in
     let self = c.args.self.now in
-    let asked = updated (awaited_found self) c.args.event.p.0 true in
-    let f = status_found self.phasers (state_supposed (state_found self) c.args.t.0 c.args.event (own_phase c.args.seat.now.view) (phase_in c.args.column.now)) asked in
-    let is = c.in_ok-status.ensures.status ∙ ap (λ (k : Known). status_found self.phasers (state_supposed (state_found self) c.args.t.0 c.args.event (own_phase k.view) (phase_in c.args.column.now)) asked c.loop-number.number) i.seat in
+    let asked = updated (awaited_in_findings self) c.args.event.p.0 true in
+    let f = status_found self.phasers (state_supposed (state_of_findings self) c.args.t.0 c.args.event (own_phase c.args.seat.now.view) (phase_in c.args.column.now)) asked in
+    let is = c.in_ok-status.ensures.status ∙ ap (λ (k : Known). status_found self.phasers (state_supposed (state_of_findings self) c.args.t.0 c.args.event (own_phase k.view) (phase_in c.args.column.now)) asked c.loop-number.number) i.seat in
     record {
       seat = c.in_ok-status.ensures.seat ∙ i.seat;
       listed = elim c.match-branch-3.branch [

@@ -3,7 +3,7 @@ use Rattle.std.proofs.Common.{◌≡◌, ◌∙◌, ap, arith, inl, inr, None, r
 use Rattle.std.proofs.lemmas.Bool.{cases_eq, cases_lt}
 use Rattle.armus_base.specs.States.{updated}
 use Rattle.armus_base.proofs.Steps.{updated_other, updated_same}
-use Rattle.pl_core.specs.PhaseTables.{phases_in}
+use Rattle.pl_core.specs.inside.PhaseTables.{phases_in}
 use Rattle.pl_core.proofs.Cells.{cell_past}
 use Rattle.pl_core.proofs.phase_table.PhaseTable.clear.Goals as goal
 

@@ -1,5 +1,5 @@
 use Rattle.std.proofs.Common.{◌≡◌, ◌<◌, ℕ, None}
-use Rattle.pl_core.specs.PhaseTables.{phases_in}
+use Rattle.pl_core.specs.inside.PhaseTables.{phases_in}
 use Rattle.pl_core.proofs.phase_table.PhaseTable.clear.Given as goal
 
 abbrev pub invariant-loop-p : goal.invariant-loop-p

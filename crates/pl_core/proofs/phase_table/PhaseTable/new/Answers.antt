@@ -1,6 +1,6 @@
 use Rattle.std.proofs.Common.{◌*◌, ◌∙◌, ap, sym, length, None, rules}
 use Rattle.std.specs.Prelude.{slice_get}
-use Rattle.pl_core.specs.Cells.{phases_of_cells}
+use Rattle.pl_core.specs.inside.Cells.{phases_of_cells}
 use Rattle.std.proofs.lemmas.List.{length-replicate}
 use Rattle.pl_core.proofs.Cells.{new_cells}
 use Rattle.pl_core.proofs.LeastMembers.{least_new, slice_get-replicate}

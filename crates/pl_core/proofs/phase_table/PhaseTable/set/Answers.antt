@@ -4,8 +4,8 @@ use Rattle.std.proofs.lemmas.Nat.{mul-add-lt}
 use Rattle.std.proofs.lemmas.Option.{slice_get_read}
 use Rattle.armus_base.specs.States.{with_phase}
 use Rattle.armus_base.proofs.Steps.{with_phase_other}
-use Rattle.pl_core.specs.Cells.{phases_of_cells}
-use Rattle.pl_core.specs.LeastPhases.{IsLeastBelow}
+use Rattle.pl_core.specs.inside.Cells.{phases_of_cells}
+use Rattle.pl_core.specs.inside.LeastPhases.{IsLeastBelow}
 use Rattle.pl_core.proofs.Cells.{cell_set}
 use Rattle.pl_core.proofs.LeastMembers.{least_at, least_set}
 use Rattle.pl_core.proofs.phase_table.PhaseTable.set.Goals as goal

@@ -1,7 +1,7 @@
 use Rattle.std.proofs.Common.{◌≡◌, ◌∙◌, Some, None, add-one, ap, set, subst, suc, sym}
 use Rattle.std.specs.Prelude.{slice_get, ◌||◌, if◌then◌else◌}
-use Rattle.pl_core.specs.PhaseTables.{phases_in}
-use Rattle.pl_core.specs.Walks.{AwaitsBelow, IsWalk, event_of_op, walked}
+use Rattle.pl_core.specs.inside.PhaseTables.{phases_in}
+use Rattle.pl_core.specs.inside.Walks.{AwaitsBelow, HasWalked, event_of_op, walked}
 use Rattle.pl_core.specs.Worlds.{places_at}
 use Rattle.pl_core.proofs.WalkEnds.{awaits_below, walk_stands}
 use Rattle.pl_core.proofs.walk.Walk.stand.Goals as goal
@@ -25,6 +25,6 @@ returns c =
     let read = subst (λ xs. slice_get xs t ≡ Some was) c.deref.ensures.value c.task_at-forked.ensures in
     let stood = walk_stands plan c.requires.walking.checked places c.requires.given t place c.place_within-place.ensures c.args.stop c.requires.stop c.args.self.now.tasks.items c.args.self.now.phases c.requires.walking was read
     c.clear_refused.new.phases c.clear_refused.ensures.tasks c.clear_refused.ensures.phasers c.clear_refused.ensures.cleared in
-    subst (λ n. IsWalk plan places (walked (places_at plan places) n) n (set c.args.self.now.tasks.items t (record { place = place; op = c.args.stop.op; event = c.event-event.result; forked = was.forked })) c.clear_refused.new.phases) (sym (add-one t))
-    (subst (λ e. IsWalk plan places (walked (places_at plan places) (suc t)) (suc t) (set c.args.self.now.tasks.items t (record { place = place; op = c.args.stop.op; event = e; forked = was.forked })) c.clear_refused.new.phases) (sym event_is)
+    subst (λ n. HasWalked plan places (walked (places_at plan places) n) n (set c.args.self.now.tasks.items t (record { place = place; op = c.args.stop.op; event = c.event-event.result; forked = was.forked })) c.clear_refused.new.phases) (sym (add-one t))
+    (subst (λ e. HasWalked plan places (walked (places_at plan places) (suc t)) (suc t) (set c.args.self.now.tasks.items t (record { place = place; op = c.args.stop.op; event = e; forked = was.forked })) c.clear_refused.new.phases) (sym event_is)
     stood)

@@ -1,6 +1,6 @@
 use Rattle.std.proofs.Common.{◌≡◌, ◌∙◌, ap, arith, length, subst}
-use Rattle.pl_core.specs.Changes.{opening_tasks}
-use Rattle.pl_core.specs.Walks.{IsWalk, walked}
+use Rattle.pl_core.specs.inside.Changes.{opening_tasks}
+use Rattle.pl_core.specs.inside.Walks.{HasWalked, walked}
 use Rattle.pl_core.specs.Worlds.{places_at}
 use Rattle.pl_core.proofs.WalkDone.{same_places, walk_done, walk_start}
 use Rattle.pl_core.proofs.walk.Walk.to_places.Goals as goal
@@ -17,7 +17,7 @@ returns-clause-kept c =
     let places = c.args.places.now in
     let last : c.loop-t.t ≡ length plan.parents = omega arith in
     walk_done plan places c.requires.given c.loop-t.walk.tasks.items c.loop-t.walk.phases
-    (subst (λ n. IsWalk plan places (walked (places_at plan places) n) n c.loop-t.walk.tasks.items c.loop-t.walk.phases) last c.loop-t.invariant)
+    (subst (λ n. HasWalked plan places (walked (places_at plan places) n) n c.loop-t.walk.tasks.items c.loop-t.walk.phases) last c.loop-t.invariant)
 
 pub returns-clause-places : goal.returns-clause-places
 returns-clause-places c =
@@ -25,4 +25,4 @@ returns-clause-places c =
     let places = c.args.places.now in
     let last : c.loop-t.t ≡ length plan.parents = omega arith in
     same_places plan places c.requires.given c.loop-t.walk.tasks.items c.loop-t.walk.phases
-    (subst (λ n. IsWalk plan places (walked (places_at plan places) n) n c.loop-t.walk.tasks.items c.loop-t.walk.phases) last c.loop-t.invariant)
+    (subst (λ n. HasWalked plan places (walked (places_at plan places) n) n c.loop-t.walk.tasks.items c.loop-t.walk.phases) last c.loop-t.invariant)

@@ -1,7 +1,7 @@
 use Rattle.std.proofs.Common.{◌≡◌, ◌<◌, ◌∙◌, ℕ, ap, length, subst, sym, true}
 use Rattle.armus_base.specs.Finals.{statuses_on}
-use Rattle.pl_core.specs.Reading.{is_asked}
-use Rattle.pl_core.specs.Supposed.{with_also}
+use Rattle.pl_core.specs.inside.Reading.{is_asked}
+use Rattle.pl_core.specs.inside.Supposed.{with_also}
 use Rattle.pl_core.specs.Worlds.{WorldValue, state_of}
 use Rattle.pl_core.proofs.Below.{asked_of_copies, statuses_same}
 use Rattle.pl_core.proofs.world.World.all_statuses.Goals as goal

@@ -1,7 +1,7 @@
 use Rattle.std.proofs.Common.{◌≡◌, ◌<◌, ℕ, length}
 use Rattle.armus_base.specs.Finals.{is_event_of}
 use Rattle.armus_base.specs.Places.{some_before}
-use Rattle.pl_core.specs.Reading.{is_asked}
+use Rattle.pl_core.specs.inside.Reading.{is_asked}
 use Rattle.pl_core.specs.Worlds.{state_of}
 use Rattle.pl_core.proofs.world.World.awaited_phasers.Given as goal
 

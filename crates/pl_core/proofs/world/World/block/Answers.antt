@@ -1,12 +1,13 @@
 use Rattle.std.proofs.Common.{Some, ap, arith, length, set, subst, sym, ◌<◌, ◌∙◌, ◌≡◌, ◌≤◌}
 use Rattle.std.specs.Prelude.{slice_get}
-use Rattle.pl_core.specs.Moves.{MakesStep}
+use Rattle.pl_core.specs.Moves.{IsWorldStep}
 use Rattle.pl_core.specs.Stands.{IsAtAwaitOf}
-use Rattle.pl_core.specs.Tables.{IsKept, world_from}
+use Rattle.pl_core.specs.inside.Kept.{KeepsState}
+use Rattle.pl_core.specs.Tables.{world_from}
 use Rattle.pl_core.specs.Worlds.{WorldValue}
 use Rattle.pl_core.proofs.StepKinds.{block_stepped, events_fit_block}
 use Rattle.pl_core.proofs.HighestKept.{highest_set}
-use Rattle.pl_core.specs.HighestPhases.{highest_at}
+use Rattle.pl_core.specs.inside.Highest.{highest_at}
 use Rattle.pl_core.proofs.world.World.block.Goals as goal
 
 pub after_block-requires : goal.after_block-requires
@@ -21,7 +22,7 @@ invariant_of-self c =
     let before = subst (λ (w : WorldValue). IsAtAwaitOf w c.args.t.0 c.args.event) (sym c.self.view_is) c.requires.before in
     let stepped = block_stepped c.self.inside.plan.now c.self.inside.tasks.items c.self.inside.phases c.self.invariant.kept c.args.t.0 c.task_at.result read c.args.event before in
     record {
-      kept = subst (λ task. IsKept c.self.inside.plan.now (set c.self.inside.tasks.items c.args.t.0 task) c.self.inside.phases) (sym c.after_block.ensures) stepped.0;
+      kept = subst (λ task. KeepsState c.self.inside.plan.now (set c.self.inside.tasks.items c.args.t.0 task) c.self.inside.phases) (sym c.after_block.ensures) stepped.0;
       highest =
           highest_set c.self.inside.tasks.items (length c.self.inside.plan.now.makers) c.self.inside.highest.items c.raise.new.highest.items c.args.t.0 c.after_block.result c.self.invariant.highest
           c.raise.ensures.len c.raise.ensures.keeps
@@ -37,5 +38,5 @@ returns c =
     let read = subst (λ xs. slice_get xs c.args.t.0 ≡ Some c.task_at.result) c.deref.ensures.value c.task_at.ensures in
     let before = subst (λ (w : WorldValue). IsAtAwaitOf w c.args.t.0 c.args.event) (sym c.self.view_is) c.requires.before in
     let stepped = block_stepped c.self.inside.plan.now c.self.inside.tasks.items c.self.inside.phases c.self.invariant.kept c.args.t.0 c.task_at.result read c.args.event before in
-    subst (λ w. MakesStep w (world_from c.self.inside.plan.now (set c.self.inside.tasks.items c.args.t.0 c.after_block.result)) c.args.t.0) c.self.view_is
-    (subst (λ task. MakesStep (world_from c.self.inside.plan.now c.self.inside.tasks.items) (world_from c.self.inside.plan.now (set c.self.inside.tasks.items c.args.t.0 task)) c.args.t.0) (sym c.after_block.ensures) stepped.1)
+    subst (λ w. IsWorldStep w (world_from c.self.inside.plan.now (set c.self.inside.tasks.items c.args.t.0 c.after_block.result)) c.args.t.0) c.self.view_is
+    (subst (λ task. IsWorldStep (world_from c.self.inside.plan.now c.self.inside.tasks.items) (world_from c.self.inside.plan.now (set c.self.inside.tasks.items c.args.t.0 task)) c.args.t.0) (sym c.after_block.ensures) stepped.1)

@@ -2,7 +2,8 @@ use Rattle.std.proofs.Common.{Some, ap, length, set, subst, sym, ◌≡◌}
 use Rattle.std.specs.Prelude.{slice_get}
 use Rattle.pl_core.specs.Moves.{MakesRefusal}
 use Rattle.pl_core.specs.Stands.{IsAtAwaitOf}
-use Rattle.pl_core.specs.Tables.{IsKept, world_from}
+use Rattle.pl_core.specs.inside.Kept.{KeepsState}
+use Rattle.pl_core.specs.Tables.{world_from}
 use Rattle.pl_core.specs.Worlds.{WorldValue}
 use Rattle.pl_core.proofs.RefusalKept.{refusal_kept, refusal_made}
 use Rattle.pl_core.proofs.HighestKept.{highest_refused}
@@ -15,7 +16,7 @@ invariant_of-self c =
     let before = subst (λ (w : WorldValue). IsAtAwaitOf w c.args.t.0 c.args.event) (sym c.self.view_is) c.requires.before in
     record {
       kept =
-          subst (λ k. IsKept c.self.inside.plan.now (set c.self.inside.tasks.items c.args.t.0 k) c.clear.new.self) (sym c.after_refusal.ensures)
+          subst (λ k. KeepsState c.self.inside.plan.now (set c.self.inside.tasks.items c.args.t.0 k) c.clear.new.self) (sym c.after_refusal.ensures)
           (refusal_kept c.self.inside.plan.now c.self.inside.tasks.items c.self.inside.phases c.self.invariant.kept c.args.t.0 task read c.args.event before
           c.clear.new.self c.clear.ensures.tasks c.clear.ensures.phasers c.clear.ensures.cleared);
       highest =

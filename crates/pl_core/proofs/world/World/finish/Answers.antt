@@ -1,6 +1,6 @@
 use Rattle.std.proofs.Common.{◌∙◌, ap, length}
 use Rattle.armus_base.specs.Finals.{end_of, is_awaited, list_below, statuses_on}
-use Rattle.pl_core.specs.Reading.{is_asked}
+use Rattle.pl_core.specs.inside.Reading.{is_asked}
 use Rattle.pl_core.specs.Worlds.{state_of}
 use Rattle.pl_core.proofs.Below.{statuses_same}
 use Rattle.pl_core.proofs.world.World.finish.Goals as goal

@@ -1,5 +1,5 @@
 use Rattle.std.proofs.Common.{◌≡◌, ◌<◌, ◌≤◌, ℕ, Some}
-use Rattle.pl_core.specs.HighestPhases.{highest_at}
+use Rattle.pl_core.specs.inside.Highest.{highest_at}
 use Rattle.pl_core.specs.Worlds.{state_of}
 use Rattle.pl_core.proofs.world.World.impedes_nobody.Given as goal
 

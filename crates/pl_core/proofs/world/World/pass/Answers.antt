@@ -1,8 +1,9 @@
 use Rattle.std.proofs.Common.{Some, ap, length, set, subst, sym, ◌≡◌}
 use Rattle.std.specs.Prelude.{slice_get}
 use Rattle.armus_base.specs.States.{IsReached}
-use Rattle.pl_core.specs.Moves.{MakesStep}
-use Rattle.pl_core.specs.Tables.{IsKept, world_from}
+use Rattle.pl_core.specs.Moves.{IsWorldStep}
+use Rattle.pl_core.specs.inside.Kept.{KeepsState}
+use Rattle.pl_core.specs.Tables.{world_from}
 use Rattle.pl_core.specs.Worlds.{WorldValue, state_of}
 use Rattle.pl_core.proofs.StepKinds.{events_fit_pass, op_fits, pass_stepped}
 use Rattle.pl_core.proofs.HighestKept.{highest_idle}
@@ -27,7 +28,7 @@ invariant_of-self c =
     let reached = subst (λ (w : WorldValue). IsReached (state_of w) c.args.event) (sym c.self.view_is) c.requires.reached in
     let stepped = pass_stepped c.self.inside.plan.now c.self.inside.tasks.items c.self.inside.phases c.self.invariant.kept c.args.t.0 c.task_at.result read c.args.event waits reached in
     record {
-      kept = subst (λ task. IsKept c.self.inside.plan.now (set c.self.inside.tasks.items c.args.t.0 task) c.self.inside.phases) (sym c.after_op.ensures) stepped.0;
+      kept = subst (λ task. KeepsState c.self.inside.plan.now (set c.self.inside.tasks.items c.args.t.0 task) c.self.inside.phases) (sym c.after_op.ensures) stepped.0;
       highest =
           highest_idle c.self.inside.tasks.items (length c.self.inside.plan.now.makers) c.self.inside.highest.items c.args.t.0 c.after_op.result c.self.invariant.highest
           (ap (λ v. v.event) c.after_op.ensures);
@@ -39,5 +40,5 @@ returns c =
     let waits = subst (λ (w : WorldValue). (state_of w).published c.args.t.0 ≡ Some c.args.event) (sym c.self.view_is) c.requires.waits in
     let reached = subst (λ (w : WorldValue). IsReached (state_of w) c.args.event) (sym c.self.view_is) c.requires.reached in
     let stepped = pass_stepped c.self.inside.plan.now c.self.inside.tasks.items c.self.inside.phases c.self.invariant.kept c.args.t.0 c.task_at.result read c.args.event waits reached in
-    subst (λ w. MakesStep w (world_from c.self.inside.plan.now (set c.self.inside.tasks.items c.args.t.0 c.after_op.result)) c.args.t.0) c.self.view_is
-    (subst (λ task. MakesStep (world_from c.self.inside.plan.now c.self.inside.tasks.items) (world_from c.self.inside.plan.now (set c.self.inside.tasks.items c.args.t.0 task)) c.args.t.0) (sym c.after_op.ensures) stepped.1)
+    subst (λ w. IsWorldStep w (world_from c.self.inside.plan.now (set c.self.inside.tasks.items c.args.t.0 c.after_op.result)) c.args.t.0) c.self.view_is
+    (subst (λ task. IsWorldStep (world_from c.self.inside.plan.now c.self.inside.tasks.items) (world_from c.self.inside.plan.now (set c.self.inside.tasks.items c.args.t.0 task)) c.args.t.0) (sym c.after_op.ensures) stepped.1)

@@ -1,6 +1,6 @@
 use Rattle.std.proofs.Common.{◌∙◌, ap, length, subst}
-use Rattle.pl_core.specs.Changes.{opening_tasks}
-use Rattle.pl_core.specs.HighestPhases.{AreHighest}
+use Rattle.pl_core.specs.inside.Changes.{opening_tasks}
+use Rattle.pl_core.specs.inside.Highest.{AreHighest}
 use Rattle.pl_core.proofs.Opening.{kept_opening, opening_made}
 use Rattle.pl_core.proofs.world.World.start.Goals as goal
 

@@ -1,8 +1,8 @@
 use Rattle.std.proofs.Common.{◌∙◌, ap, length, sym}
 use Rattle.armus_base.specs.Finals.{status_of}
-use Rattle.pl_core.specs.Reading.{is_asked}
+use Rattle.pl_core.specs.inside.Reading.{is_asked}
 use Rattle.armus_base.specs.Finals.{given_below, listed_phase}
-use Rattle.pl_core.specs.Supposed.{with_also}
+use Rattle.pl_core.specs.inside.Supposed.{with_also}
 use Rattle.pl_core.specs.Worlds.{state_of}
 use Rattle.pl_core.proofs.Below.{given_below_more, given_below_none, phases_also, status_none, status_some}
 use Rattle.pl_core.proofs.world.World.statuses_on.Goals.{in-Some+in_ok-phases-in-Some+in_ok-push-in-Some, in-None}

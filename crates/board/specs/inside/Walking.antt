@@ -17,14 +17,14 @@ begins (Drop p) = Drops p.0
 begins (Await p) = Blocks p.0
 
 -- the child and the phaser of an action are the plan's
-abbrev pub IsOfPlan : Plan → Action → Type 0
-IsOfPlan plan (Makes p) = p < length plan.makers
-IsOfPlan plan (Registers c p) = c < length plan.parents × p < length plan.makers
-IsOfPlan plan (Forks c) = c < length plan.parents
-IsOfPlan plan (Advances p) = p < length plan.makers
-IsOfPlan plan (Drops p) = p < length plan.makers
-IsOfPlan plan (Blocks p) = p < length plan.makers
-IsOfPlan plan x = Unit {0}
+abbrev pub IsActionOfPlan : Plan → Action → Type 0
+IsActionOfPlan plan (Makes p) = p < length plan.makers
+IsActionOfPlan plan (Registers c p) = c < length plan.parents × p < length plan.makers
+IsActionOfPlan plan (Forks c) = c < length plan.parents
+IsActionOfPlan plan (Advances p) = p < length plan.makers
+IsActionOfPlan plan (Drops p) = p < length plan.makers
+IsActionOfPlan plan (Blocks p) = p < length plan.makers
+IsActionOfPlan plan x = Unit {0}
 
 -- the actions that are left to a task that has begun all ops but these: while it is published it has a pass to make first
 abbrev pub left_of : Option Event → List Op → List Action

@@ -3,7 +3,7 @@ use Rattle.std.specs.Prelude.{◌≡◌, ℕ, ◌+◌, ◌<◌, ◌^◌, Some}
 use Rattle.armus_base.specs.declared.op.Op.{Op}
 use Rattle.armus_base.specs.declared.op.Op.TheVariants.{Make, Reg, Fork, Adv, Drop, Await}
 use Rattle.pl_core.specs.declared.phase_table.PhaseTable.{PhaseTable}
-use Rattle.pl_core.specs.PhaseTables.{phases_in}
+use Rattle.pl_core.specs.inside.PhaseTables.{phases_in}
 
 -- the table has a cell for what the op of task t changes, and a higher phase fits it
 abbrev pub HasRoomFor : PhaseTable → ℕ → Op → Type 0

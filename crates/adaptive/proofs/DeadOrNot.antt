@@ -14,7 +14,7 @@ use Rattle.armus_base.proofs.Below.{given_ascends, given_from, given_is}
 use Rattle.armus_base.proofs.Elements.{nothing_in_nil, Contains-cons_cases}
 use Rattle.armus_base.proofs.Steps.{updated_is, updated_other, updated_same}
 use Rattle.armus_base.proofs.Tasks.{all_or_one}
-use Rattle.report.proofs.Deciding.{Told, told_less, told_number, told_same, told_some_both, told_true}
+use Rattle.adaptive.proofs.Deciding.{Told, told_less, told_number, told_same, told_some_both, told_true}
 
 -- how many of the first n are marked
 marked : (ℕ → Bool) → ℕ → ℕ

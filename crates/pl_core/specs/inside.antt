@@ -1,0 +1,15 @@
+pub mod Changes
+pub mod Effects
+pub mod Ops
+pub mod PhaseTables
+pub mod Reading
+pub mod Stops
+pub mod Supposed
+pub mod Walks
+pub mod LeastPhases
+pub mod Cells
+pub mod Highest
+pub mod Reachable
+pub mod KeptTasks
+pub mod Kept
+pub mod Invariants
