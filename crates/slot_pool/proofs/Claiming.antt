@@ -1,0 +1,161 @@
+-- A claim keeps the rule, whatever it finds.
+use Rattle.std.proofs.Common.{◌≡◌, ◌≢◌, ℕ, ◌+◌, ◌<◌, List, [], ◌∷◌, Option, Some, None, set, sym, refl, ap, ◌∙◌, subst, arith, eqb, ne_eqb, get_or-set_same}
+use Rattle.std.proofs.lemmas.List.{set-get_or}
+use Rattle.std.specs.Prelude.{Contains, slice_index}
+use prog.Atomic.{either}
+use mathlib.Core.Option.{some, none, some-injective}
+use lib.ListN.{get_elem?}
+use Rattle.atomic_table.specs.Table.{Act, Allows, Me, State, Valid, carried_after, keeps, step, stepped, takes}
+use Rattle.atomic_table.proofs.Lists.{set_here}
+use Rattle.slot_pool.specs.declared.setting.Setting.{Setting}
+use Rattle.slot_pool.specs.declared.view.View.{View}
+use Rattle.slot_pool.specs.Views.{claiming, finding, placing, trying}
+use Rattle.slot_pool.specs.Rule.{IsHad, IsPlaced, PoolHolds, Stands, at_home, nowhere, out}
+use Rattle.slot_pool.specs.Steps.{Begun, Claimed}
+use Rattle.slot_pool.proofs.Members.{contains_else, contains_first, contains_none, contains_rest}
+use Rattle.slot_pool.proofs.Changing.{Renews, changed, found_within, looked, placed_renewed}
+
+-- a view with a number is not blank
+some_number : (v : View) (k : ℕ) (ts : List ℕ) → v.numbers ≡ k ∷ [] → v.numbers ≡ [] → ts ≡ []
+some_number v k ts mine none_there = absurd (let e : k ∷ [] ≡ [] = sym mine ∙ none_there in cc)
+
+-- what each step makes of a view
+tries_renews : (t n : ℕ) (v : View) (k : ℕ) → v.numbers ≡ k ∷ [] → Renews t v (trying t n v)
+tries_renews t n v k mine =
+    record { numbers = refl; workers = refl; blank = some_number v k v.placed mine; knows = λ u o c. c; placed = λ u o c. c; placed_still = λ u c. c; has = λ u o c. c; has_still = λ u o c. c }
+
+finds_renews : (t n : ℕ) (v : View) (k : ℕ) → v.numbers ≡ k ∷ [] → Renews t v (finding t n v)
+finds_renews t n v k mine =
+    record { numbers = refl; workers = refl; blank = some_number v k v.placed mine; knows = λ u o c. contains_else t v.knows u o c; placed = λ u o c. c; placed_still = λ u c. c; has = λ u o c. c; has_still = λ u o c. c }
+
+claims_renews : (t : ℕ) (v : View) (k : ℕ) → v.numbers ≡ k ∷ [] → Renews t v (claiming t v)
+claims_renews t v k mine =
+    record {
+      numbers = refl;
+      workers = refl;
+      blank = some_number v k v.placed mine;
+      knows = λ u o c. contains_else t v.knows u o c;
+      placed = λ u o c. c;
+      placed_still = λ u c. c;
+      has = λ u o c. contains_else t v.has u o c;
+      has_still = λ u o c. contains_rest t v.has u c;
+    }
+
+places_renews : (t : ℕ) (v : View) (k : ℕ) → v.numbers ≡ k ∷ [] → Renews t v (placing t v)
+places_renews t v k mine =
+    record {
+      numbers = refl;
+      workers = refl;
+      blank = some_number v k (t ∷ v.placed) mine;
+      knows = λ u o c. contains_else t v.knows u o c;
+      placed = λ u o c. contains_else t v.placed u o c;
+      placed_still = λ u c. contains_rest t v.placed u c;
+      has = λ u o c. contains_else t v.has u o c;
+      has_still = λ u o c. contains_rest t v.has u c;
+    }
+
+module _ {R : Type 0} (number_of : R → ℕ) (key : Setting) where
+  -- a view with task t: its word is that of a worker
+  had_word : (s : State (Option R) View) → PoolHolds number_of key s → (t m j : ℕ) (x : View) → slice_index s.words t ≡ m → m < 2 → get_elem? s.views j ≡ some x → Contains x.has t → ⊥
+  had_word s holds t m j x word small at has = let h = (holds.views j x at).has t has in absurd (let w = h.3 in omega arith)
+
+  -- the slot of a task that nobody has becomes a worker's
+  taken :
+      (s : State (Option R) View) → PoolHolds number_of key s → (id t k m : ℕ) (v w : View) → get_elem? s.views id ≡ some v → v.numbers ≡ k ∷ [] → t < key.tasks →
+      slice_index s.words t ≡ m → m < 2 → Renews t v w → Contains w.has t → IsPlaced (set s.views id w) t →
+      PoolHolds number_of key (record { words = set s.words t (k + 2); homes = set s.homes t none; views = set s.views id w })
+  taken s holds id t k m v w at mine small word two re has placed =
+      changed number_of key s holds id t v w at re (k + 2) none small k mine (λ e. omega arith) (λ c. refl) (λ j x o xj. had_word s holds t m j x word two xj)
+      (out k (get_or-set_same s.words t (k + 2) 0 (let l = holds.words in omega arith)) (set_here s.homes t none (let l = holds.slots in omega arith))
+      (record { index = id; view = w; found = set_here s.views id w (found_within s.views id v at); number = re.numbers ∙ mine; has = has }) placed)
+
+  module _ (slots id k t : ℕ) (me : Me (Option R) View) (mine : me.0.numbers ≡ k ∷ []) (small : t < key.tasks) where
+    -- what a step on the word of t owes where it finds n and leaves m
+    abbrev Owes : State (Option R) View → ℕ → ℕ → (ℕ → Me (Option R) View → Type 0) → Type 0
+    Owes s n m then = (w : View) × (a : Act (Option R)) × Valid s.homes me.1 a × PoolHolds number_of key (stepped s t m id me.1 w a) × then n (w, carried_after me.1 a)
+
+    -- it leaves the word as it is, and has learned something
+    learns :
+        (then : ℕ → Me (Option R) View → Type 0) (s : State (Option R) View) → PoolHolds number_of key s → get_elem? s.views id ≡ some me.0 → (w : View) → Renews t me.0 w → me.0.placed ≡ w.placed →
+        me.0.has ≡ w.has → (Contains w.knows t → slice_index s.words t ≢ 0) → then (slice_index s.words t) (w, me.1) → Owes s (slice_index s.words t) (slice_index s.words t) then
+    learns then s holds at w re placed has knows told =
+        (w, keeps, tt, subst (λ ws. PoolHolds number_of key (record { words = ws; homes = s.homes; views = set s.views id w })) (sym (set-get_or s.words t 0)) (looked number_of key s holds id t me.0 w at re placed has knows), told)
+
+    -- a compare and exchange that found another word than it wanted
+    missed : (n old new : ℕ) → n ≢ old → either (eqb n old) new n ≡ n
+    missed n old new other = ap (λ b. either b new n) (ne_eqb n old other)
+
+    -- whom a word names who is not this worker
+    other_worker :
+        (s : State (Option R) View) (holds : PoolHolds number_of key s) (j : ℕ) → get_elem? s.views id ≡ some me.0 → IsHad s.views j t →
+        (j < me.0.workers) × (me.0.has ≡ [] → me.0.numbers ≢ j ∷ [])
+    other_worker s holds j at had =
+        let theirs = ((holds.views had.index had.view had.found).number j (subst (λ (ns : List ℕ). Contains ns j) (sym had.number) (contains_first j []))).0 in
+        let own = ((holds.views id me.0 at).number k (subst (λ (ns : List ℕ). Contains ns k) (sym mine) (contains_first k []))).1 in (
+          subst (λ n. j < n) (sym own) theirs,
+          λ idle same.
+              let here : had.index ≡ id = holds.one_view had.index id j had.view me.0 had.found at (subst (λ (ns : List ℕ). Contains ns j) (sym had.number) (contains_first j [])) (subst (λ (ns : List ℕ). Contains ns j) (sym same) (contains_first j [])) in
+              let one : had.view ≡ me.0 = some-injective had.view me.0 (sym had.found ∙ ap (get_elem? s.views) here ∙ at) in
+              contains_none t (subst (λ (ts : List ℕ). Contains ts t) (ap (λ (x : View). x.has) one ∙ idle) had.has),
+        )
+
+    abbrev claim_told : ℕ → Me (Option R) View → Type 0
+    claim_told = Claimed number_of (step slots t 1 (k + 2) none) me
+
+    abbrev begin_told : ℕ → Me (Option R) View → Type 0
+    begin_told = Begun (step slots t 0 (k + 2) none) me
+
+    pub claims : Allows (PoolHolds number_of key) slots id me t (λ n. either (eqb n 1) (k + 2) n) (Claimed number_of (step slots t 1 (k + 2) none) me)
+    claims s holds long at fits = by_place (holds.tasks t small)
+      where
+        by_place : Stands number_of s t → Owes s (slice_index s.words t) (either (eqb (slice_index s.words t) 1) (k + 2) (slice_index s.words t)) claim_told
+        by_place (nowhere word home not) =
+            subst (λ m. Owes s (slice_index s.words t) m claim_told) (sym (missed (slice_index s.words t) 1 (k + 2) (λ e. omega arith)))
+            (learns claim_told s holds at (trying t 0 me.0) (tries_renews t 0 me.0 k mine) refl refl (λ c. (holds.views id me.0 at).knows t c)
+            (record {
+              got = λ e. absurd (omega arith);
+              empty = λ e. ((λ c. (holds.views id me.0 at).knows t c word), refl);
+              held = λ one none_there. absurd (none_there word);
+            }))
+        by_place (at_home r word home name p) =
+            subst (λ m. Owes s m (either (eqb m 1) (k + 2) m) claim_told) (sym word) (
+              claiming t me.0,
+              takes t (Some r),
+              home,
+              taken s holds id t k 1 me.0 (claiming t me.0) at mine small word (omega arith) (claims_renews t me.0 k mine) (contains_first t me.0.has) (placed_renewed s.views id t me.0 (claiming t me.0) at (claims_renews t me.0 k mine) t p),
+              record {
+                got = λ e. (r, name, refl);
+                empty = λ e. absurd (omega arith);
+                held = λ one none_there. absurd (one refl);
+              },
+            )
+        by_place (out j word home had p) =
+            let other = other_worker s holds j at had in
+            subst (λ m. Owes s (slice_index s.words t) m claim_told) (sym (missed (slice_index s.words t) 1 (k + 2) (λ e. omega arith)))
+            (learns claim_told s holds at (finding t (slice_index s.words t) me.0) (finds_renews t (slice_index s.words t) me.0 k mine) refl refl (λ c zero. omega arith)
+            (record {
+              got = λ e. absurd (omega arith);
+              empty = λ e. absurd (omega arith);
+              held = λ one none_there. (j, word, other.0, other.1, refl);
+            }))
+
+    pub begins : Allows (PoolHolds number_of key) slots id me t (λ n. either (eqb n 0) (k + 2) n) (Begun (step slots t 0 (k + 2) none) me)
+    begins s holds long at fits = by_place (holds.tasks t small)
+      where
+        missing : slice_index s.words t ≢ 0 → Owes s (slice_index s.words t) (either (eqb (slice_index s.words t) 0) (k + 2) (slice_index s.words t)) begin_told
+        missing some_word =
+            subst (λ m. Owes s (slice_index s.words t) m begin_told) (sym (missed (slice_index s.words t) 0 (k + 2) some_word))
+            (learns begin_told s holds at (finding t (slice_index s.words t) me.0) (finds_renews t (slice_index s.words t) me.0 k mine) refl refl (λ c. some_word) (record { placed = λ e. absurd (some_word e); refused = λ e. refl }))
+
+        by_place : Stands number_of s t → Owes s (slice_index s.words t) (either (eqb (slice_index s.words t) 0) (k + 2) (slice_index s.words t)) begin_told
+        by_place (nowhere word home not) =
+            subst (λ m. Owes s m (either (eqb m 0) (k + 2) m) begin_told) (sym word) (
+              placing t me.0,
+              takes t None,
+              home,
+              taken s holds id t k 0 me.0 (placing t me.0) at mine small word (omega arith) (places_renews t me.0 k mine) (contains_first t me.0.has)
+                  (record { index = id; view = placing t me.0; found = set_here s.views id (placing t me.0) (found_within s.views id me.0 at); placed = contains_first t me.0.placed }),
+              record { placed = λ e. ((λ c. (holds.views id me.0 at).knows t c word), refl); refused = λ e. absurd (e refl) },
+            )
+        by_place (at_home r word home name p) = missing (λ e. omega arith)
+        by_place (out j word home had p) = missing (λ e. omega arith)

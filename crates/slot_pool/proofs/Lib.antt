@@ -1,0 +1,13 @@
+pub mod Members
+pub mod Changing
+pub mod Claiming
+pub mod Placing
+pub mod Joining
+pub mod Starts
+pub mod Closed
+pub mod Standing
+pub mod SplitOff
+pub mod JoinedAll
+pub mod Taken
+pub mod Sending
+pub mod FirstWorkers

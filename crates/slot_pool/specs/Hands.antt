@@ -1,0 +1,72 @@
+-- What contracts see of a pool and of its workers, and what the calls answer.
+use Rattle.std.specs.Prelude.{◌≡◌, ◌≢◌, ℕ, ◌+◌, ◌<◌, List, [], ◌∷◌, Result, Ok, Err, Any, Contains, map}
+use Rattle.std.specs.List.{range_with_len}
+use Rattle.atomic_table.specs.Seated.{TableId}
+use Rattle.slot_pool.specs.declared.claim.Claim.{Claim}
+use Rattle.slot_pool.specs.declared.claim.Claim.TheVariants.{Got, Held, Empty}
+use Rattle.slot_pool.specs.declared.view.View.{View}
+use Rattle.slot_pool.specs.Views.{claiming, finding, first_view, giving, placing, trying}
+
+-- the most tasks and the most workers of a pool
+abbrev pub max_tasks : ℕ
+max_tasks = 4096
+
+abbrev pub max_workers : ℕ
+max_workers = 64
+
+-- which pool it is, and how many tasks and workers it has
+pub record Frame : Type 0 where
+  pub table : TableId
+  pub tasks : ℕ
+  pub workers : ℕ
+
+-- of which pool a worker is, and what it knows
+pub record Hand : Type 0 where
+  pub table : TableId
+  pub view : View
+
+-- the worker was made by this pool
+pub record IsOf (worker : Hand) (pool : Frame) : Type 0 where
+  pub table : worker.table ≡ pool.table
+  pub workers : worker.view.workers ≡ pool.workers
+
+-- it is the same worker of the same pool
+pub record IsSameWorker (before now : Hand) : Type 0 where
+  pub table : now.table ≡ before.table
+  pub numbers : now.view.numbers ≡ before.view.numbers
+  pub workers : now.view.workers ≡ before.view.workers
+
+-- the worker with another view
+abbrev pub seeing : Hand → View → Hand
+seeing worker v = record { table = worker.table; view = v }
+
+-- the workers of a pool at its start, in order of number
+abbrev pub first_workers : Frame → List Hand
+first_workers pool = map (λ k. record { table = pool.table; view = first_view pool.workers k }) (range_with_len 0 pool.workers)
+
+-- a claim of task t made one compare and exchange. Got: it found the task at home, and the record is that task's. Held: it found the word of another
+-- worker. Empty: it found nothing there, of a task that the worker did not know
+abbrev pub AnswersClaim : {R : Type 0} → (R → ℕ) → ℕ → Hand → Hand → Claim R → Type 0
+AnswersClaim number_of t before now (Got r) = number_of r ≡ t × now ≡ seeing before (claiming t before.view)
+AnswersClaim number_of t before now (Held k) = k < before.view.workers × before.view.numbers ≢ k ∷ [] × now ≡ seeing before (finding t (k + 2) before.view)
+AnswersClaim number_of t before now Empty = (Contains before.view.knows t → ⊥) × now ≡ seeing before (trying t 0 before.view)
+
+-- the tasks that a worker which had nothing has after a claim of task t
+abbrev pub has_after : {R : Type 0} → ℕ → Claim R → List ℕ
+has_after t (Got r) = t ∷ []
+has_after t (Held k) = []
+has_after t Empty = []
+
+-- a record of task t was to be placed, by one compare and exchange. Ok: it found nothing there, of a task that the worker did not know, and the record is
+-- home. Err: it found another word, and the record came back
+abbrev pub AnswersPlace : {R : Type 0} → ℕ → R → Hand → Hand → Result (Unit {0}) R → Type 0
+AnswersPlace t item before now (Ok u) = (Contains before.view.knows t → ⊥) × now ≡ seeing before (giving (placing t before.view))
+AnswersPlace t item before now (Err r) = r ≡ item × (n : ℕ) × n ≢ 0 × now ≡ seeing before (finding t n before.view)
+
+-- one of the workers has placed t
+abbrev pub IsPlacedBy : List Hand → ℕ → Type 0
+IsPlacedBy workers t = Any (λ w. Contains w.view.placed t) workers
+
+-- k is the number of one of the workers
+abbrev pub IsNumberOf : List Hand → ℕ → Type 0
+IsNumberOf workers k = Any (λ w. Contains w.view.numbers k) workers

@@ -1,0 +1,64 @@
+-- What a seat of a pool knows, and what its steps make of that.
+use Rattle.std.specs.Prelude.{ℕ, [], ◌∷◌, ◌++◌, take, drop, ◌==◌, if◌then◌else◌}
+use Rattle.std.specs.List.{range_with_len}
+use Rattle.slot_pool.specs.declared.view.View.{View}
+
+-- one compare and exchange at the word of task t found n
+abbrev pub trying : ℕ → ℕ → View → View
+trying t n v = record v { tries = (t, n) ∷ v.tries }
+
+-- it found n, which is not 0: the task is known from now on
+abbrev pub finding : ℕ → ℕ → View → View
+finding t n v = record v { knows = t ∷ v.knows; tries = (t, n) ∷ v.tries }
+
+-- it found the task at home, and has it from now on
+abbrev pub claiming : ℕ → View → View
+claiming t v = record v { knows = t ∷ v.knows; has = t ∷ v.has; tries = (t, 1) ∷ v.tries }
+
+-- it found nothing there, and has the task, which counts as placed, until the record is home
+abbrev pub placing : ℕ → View → View
+placing t v = record v { knows = t ∷ v.knows; placed = t ∷ v.placed; has = t ∷ v.has; tries = (t, 0) ∷ v.tries }
+
+-- the record of the task that it took last is home, and it has that task no more
+abbrev pub giving : View → View
+giving v = record v { has = drop 1 v.has }
+
+-- the view with which a pool begins: of all workers, with task 0 placed
+abbrev pub opening_view : ℕ → View
+opening_view workers =
+    record {
+      numbers = range_with_len 0 workers;
+      workers = workers;
+      knows = 0 ∷ [];
+      placed = 0 ∷ [];
+      has = [];
+      tries = [];
+    }
+
+-- the worker that is split off has the first number, and what was placed so far
+abbrev pub split_off : View → View
+split_off v = record v { numbers = take 1 v.numbers }
+
+-- and the other numbers are left
+abbrev pub left_over : View → View
+left_over v = record v { numbers = drop 1 v.numbers; placed = [] }
+
+-- two seats as one, with what both know and have placed
+abbrev pub joined : View → View → View
+joined v w = record v { numbers = v.numbers ++ w.numbers; knows = v.knows ++ w.knows; placed = v.placed ++ w.placed }
+
+-- the view of a seat that was joined to another
+abbrev pub spent_view : View
+spent_view = record { numbers = []; workers = 0; knows = []; placed = []; has = []; tries = [] }
+
+-- the view of worker k at the start: it knows task 0, and it is worker 0 that counts as having placed it
+abbrev pub first_view : ℕ → ℕ → View
+first_view workers k =
+    record {
+      numbers = k ∷ [];
+      workers = workers;
+      knows = 0 ∷ [];
+      placed = if k == 0 then 0 ∷ [] else [];
+      has = [];
+      tries = [];
+    }

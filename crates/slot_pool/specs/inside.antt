@@ -1,0 +1,4 @@
+pub mod Pools
+pub mod Workers
+pub mod Parting
+pub mod Gathering

@@ -1,0 +1,17 @@
+-- What is true of each pool.
+use Rattle.std.specs.Prelude.{◌≡◌, ◌<◌}
+use Rattle.atomic_table.specs.Seated.{TableId}
+use Rattle.slot_pool.specs.declared.setting.Setting.{Setting}
+use Rattle.slot_pool.specs.Hands.{Frame}
+
+-- what a contract sees of a pool
+abbrev pub frame_of : TableId → Setting → Frame
+frame_of table setting = record { table = table; tasks = setting.tasks; workers = setting.workers }
+
+-- a pool has what its table was told, some task and some worker, and a word and a slot for each task
+pub record IsPool (table : TableId) (key setting : Setting) : Type 0 where
+  pub told : key ≡ setting
+  pub words : table.words ≡ setting.tasks
+  pub slots : table.slots ≡ setting.tasks
+  pub some_task : 0 < setting.tasks
+  pub some_worker : 0 < setting.workers

@@ -1,0 +1,56 @@
+// What each step on the table tells.
+use crate::named::Named;
+use crate::view::View;
+use atomic_table::{Join, Play, Split};
+use std::marker::PhantomData;
+
+/// A claim.
+pub(crate) struct Claims<R> {
+    marker: PhantomData<R>,
+}
+
+impl<R: Named> Play<Option<R>, View> for Claims<R> {
+    ghost use Rattle.slot_pool.specs.Steps.{Claimed};
+
+    ghost then = { Claimed R.number };
+}
+
+/// The beginning of a place.
+pub(crate) struct Begins;
+
+impl<R> Play<Option<R>, View> for Begins {
+    ghost use Rattle.slot_pool.specs.Steps.{Begun};
+
+    ghost then = { Begun };
+}
+
+/// A record is home.
+pub(crate) struct Gives;
+
+impl<R> Play<Option<R>, View> for Gives {
+    ghost use Rattle.slot_pool.specs.Steps.{Given};
+
+    ghost then = { Given };
+}
+
+/// A worker is split off.
+pub(crate) struct Parts;
+
+impl Split<View> for Parts {
+    ghost use Rattle.slot_pool.specs.Views.{split_off, left_over};
+
+    ghost left = { left_over };
+
+    ghost right = { split_off };
+}
+
+/// A worker's seat is joined to another.
+pub(crate) struct Joins;
+
+impl Join<View> for Joins {
+    ghost use Rattle.slot_pool.specs.Views.{joined, spent_view};
+
+    ghost both = { joined };
+
+    ghost spent = { spent_view };
+}
