@@ -1,5 +1,5 @@
 // Graphs small enough to draw.
-use crate::Digraph;
+use crate::{Digraph, least_marked, walk_cycle};
 use std::test::Fail;
 
 #[test]
@@ -22,5 +22,15 @@ fn one_edge_is_no_cycle(rt: HostRuntime) -> Result<(), Fail> {
     let mut graph = Digraph::new(rt.alloc(), 2)?;
     graph.add_all(0, [1].as_slice())?;
     assert!(rt; graph.cycle_from(rt.alloc(), 0)?.is_none());
+    Ok(())
+}
+
+#[test]
+fn walks_by_a_table(rt: HostRuntime) -> Result<(), Fail> {
+    let next = [1, 2, 1];
+    let cycle = walk_cycle(rt.alloc(), next.as_slice(), 0)?;
+    assert_eq!(rt; cycle.as_slice(), [1, 2].as_slice());
+    let marks = [false, true, true];
+    assert_eq!(rt; least_marked([0, 2].as_slice(), marks.as_slice()), Some(2));
     Ok(())
 }
