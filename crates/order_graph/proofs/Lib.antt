@@ -1,0 +1,9 @@
+mod ListPairs
+mod TaskRows
+mod Climbing
+mod NearestTasks
+mod NearestWalks
+mod OrderRows
+mod MendedLists
+mod MendedOrders
+mod PairEdges

@@ -1,0 +1,4 @@
+pub mod Orders
+pub mod Adding
+pub mod Following
+pub mod inside

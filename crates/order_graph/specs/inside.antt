@@ -1,0 +1,5 @@
+pub mod Rows
+pub mod Distances
+pub mod Mending
+pub mod Found
+pub mod Steps

@@ -1,0 +1,43 @@
+-- What is left to be done before an order has followed statuses.
+use Rattle.std.specs.Prelude.{◌≡◌, ◌↔◌, ◌⊎◌, ℕ, ◌<◌, List, Contains}
+use Rattle.armus_base.specs.declared.ids.TaskId.{TaskId}
+use Rattle.armus_base.specs.declared.status.Status.{Status}
+use Rattle.armus_base.specs.Graphs.{WaitsFor}
+use Rattle.armus_base.specs.Relations.{Walk}
+use Rattle.order_graph.specs.Orders.{OrderValue, IsEdge, position_of}
+use Rattle.order_graph.specs.declared.answers.Followed.{Followed}
+use Rattle.order_graph.specs.declared.answers.Followed.TheVariants.{Kept, Dead}
+
+-- of the edges just the pairs are left, and no task has moved
+pub record KeepsPairs (ss : List Status) (old new : OrderValue) : Type 0 where
+  pub positions : new.positions ≡ old.positions
+  pub edges : (a b : TaskId) → IsEdge new a b ↔ (IsEdge old a b × WaitsFor ss a b)
+
+-- There are also the edges of Adds. Where each of them went up in the old order, no task has moved.
+pub record AddsAll (Adds : TaskId → TaskId → Type 0) (old new : OrderValue) : Type 0 where
+  pub edges : (a b : TaskId) → IsEdge new a b ↔ (IsEdge old a b ⊎ Adds a b)
+  pub stays : ((a b : TaskId) → Adds a b → position_of old a < position_of old b) → new.positions ≡ old.positions
+
+-- some edges of Adds were added, and another one would close a cycle
+pub record StopsAt (Adds : TaskId → TaskId → Type 0) (old new : OrderValue) : Type 0 where
+  pub some : (a b : TaskId) → IsEdge new a b → IsEdge old a b ⊎ Adds a b
+  pub kept : (a b : TaskId) → IsEdge old a b → IsEdge new a b
+  pub cycle : (a : TaskId) × (b : TaskId) × (n : ℕ) × Adds a b × Walk (IsEdge new) n b a
+
+-- edges from t to the wanted tasks
+abbrev pub ToWanted : TaskId → List TaskId → TaskId → TaskId → Type 0
+ToWanted t wanted a b = (a ≡ t) × Contains wanted b
+
+-- pairs from these tasks
+abbrev pub PairsFrom : List Status → List TaskId → TaskId → TaskId → Type 0
+PairsFrom ss ts a b = Contains ts a × WaitsFor ss a b
+
+-- what came of the edges from t to the wanted tasks
+abbrev pub AnswersRow : TaskId → List TaskId → OrderValue → OrderValue → Followed → Type 0
+AnswersRow t wanted old new Kept = AddsAll (ToWanted t wanted) old new
+AnswersRow t wanted old new Dead = StopsAt (ToWanted t wanted) old new
+
+-- what came of the pairs from these tasks
+abbrev pub AnswersRows : List Status → List TaskId → OrderValue → OrderValue → Followed → Type 0
+AnswersRows ss ts old new Kept = AddsAll (PairsFrom ss ts) old new
+AnswersRows ss ts old new Dead = StopsAt (PairsFrom ss ts) old new

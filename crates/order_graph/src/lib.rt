@@ -1,0 +1,17 @@
+//! An order of tasks that is kept while edges come and go: each edge goes from a smaller position to a larger one, and only what stands between the
+//! ends of a new edge is moved.
+#![tactic(auto)]
+
+mod answers;
+mod distances;
+mod following;
+mod mending;
+mod order;
+mod rows;
+mod settling;
+#[cfg(test)]
+mod tests;
+mod walk;
+
+pub use answers::{Added, Followed};
+pub use order::Order;
