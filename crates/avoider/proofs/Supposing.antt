@@ -5,17 +5,18 @@ use Rattle.armus_base.specs.declared.event.Event.{Event}
 use Rattle.armus_base.specs.CheckedPlans.{IsCheckedPlan}
 use Rattle.armus_base.specs.Deadlocks.{IsDeadBy, WouldBeDead}
 use Rattle.armus_base.specs.FinalLaws.{IsOfPlan}
-use Rattle.armus_base.specs.Finals.{statuses_of}
+use Rattle.armus_base.specs.Finals.{is_awaited}
 use Rattle.armus_base.specs.Plans.{Blocks}
 use Rattle.armus_base.specs.Runs.{IsReachable}
 use Rattle.armus_base.specs.States.{awaited, if_published}
 use Rattle.armus_base.specs.Statuses.{IsInOrder}
 use Rattle.armus_base.proofs.Codes.{event_on_is}
-use Rattle.armus_base.proofs.DeadByStatuses.{dead_by_statuses, run_is_of_plan}
+use Rattle.armus_base.proofs.DeadByStatuses.{dead_by_final, run_is_of_plan}
 use Rattle.armus_base.proofs.Reachable.{reachable_is_fixed}
 use Rattle.armus_base.proofs.StatusesAre.{statuses_are}
 use Rattle.armus_base.proofs.Steps.{updated_is}
 use Rattle.pl_core.specs.Stands.{IsAtAwaitOf}
+use Rattle.pl_core.specs.Awaiting.{awaited_statuses}
 use Rattle.pl_core.specs.Worlds.{WorldValue, action_by_code, places_of, state_of}
 use Rattle.pl_core.proofs.Bounds.{phaser_of_member}
 use Rattle.pl_core.proofs.StepKinds.{awaits_block}
@@ -48,11 +49,11 @@ module _ (w : WorldValue) (checked : IsCheckedPlan w.plan) (reach : IsReachable 
   }
 
   -- the statuses tell whether the task would be dead
-  pub told_by_statuses : IsDeadBy (statuses_of w.plan (if_published (state_of w) t e)) t ↔ WouldBeDead (state_of w) t e
-  told_by_statuses = dead_by_statuses w.plan (if_published (state_of w) t e) t supposed_of_plan
+  pub told_by_statuses : IsDeadBy (awaited_statuses w.plan (if_published (state_of w) t e)) t ↔ WouldBeDead (state_of w) t e
+  told_by_statuses = dead_by_final w.plan (if_published (state_of w) t e) t supposed_of_plan
 
-pub supposed_in_order : (w : WorldValue) → IsCheckedPlan w.plan → (t : ℕ) (e : Event) → IsInOrder (statuses_of w.plan (if_published (state_of w) t e))
-supposed_in_order w checked t e = (statuses_are w.plan (if_published (state_of w) t e) (λ p. true) checked).in_order
+pub supposed_in_order : (w : WorldValue) → IsCheckedPlan w.plan → (t : ℕ) (e : Event) → IsInOrder (awaited_statuses w.plan (if_published (state_of w) t e))
+supposed_in_order w checked t e = (statuses_are w.plan (if_published (state_of w) t e) (is_awaited w.plan (if_published (state_of w) t e)) checked).in_order
 
 -- the phaser of the event of an await is one of the plan
 pub phaser_of_await : (w : WorldValue) → IsCheckedPlan w.plan → IsReachable w.plan (places_of w) → (t : ℕ) (e : Event) → IsAtAwaitOf w t e → e.p.0 < length w.plan.makers

@@ -5,12 +5,12 @@ use Rattle.armus_base.specs.declared.ids.TaskId.{TaskId}
 use Rattle.armus_base.specs.declared.status.Status.{Status}
 use Rattle.armus_base.specs.DeadLists.{IsDeadList}
 use Rattle.armus_base.specs.Deadlocks.{IsDeadBy, WouldBeDead}
-use Rattle.armus_base.specs.Finals.{statuses_of}
 use Rattle.armus_base.specs.Plans.{Blocks}
 use Rattle.armus_base.specs.States.{if_published}
 use Rattle.armus_base.specs.Statuses.{IsInOrder}
 use Rattle.pl_core.specs.Moves.{MakesRefusal, IsWorldStep}
 use Rattle.pl_core.specs.Stands.{IsAtAwaitOf}
+use Rattle.pl_core.specs.Awaiting.{awaited_statuses}
 use Rattle.pl_core.specs.Worlds.{WorldValue, state_of}
 use Rattle.verdict.specs.Cycles.{IsCycle, IsCycleOf}
 use Rattle.verdict.specs.declared.found.Cycle.{Cycle}
@@ -34,9 +34,9 @@ IsOutcome list t found = MatchOption found (IsDeadBy list t → ⊥) (ExplainsDe
 abbrev pub OneOutcome : Type 0
 OneOutcome = (list : List Status) (t : ℕ) (a b : Option Cycle) → IsInOrder list → IsOutcome list t a → IsOutcome list t b → a ≡ b
 
--- the statuses as they would be if task t had published the event of the await at which it stands
+-- the statuses as they would be if task t had published the event of the await at which it stands, with the phases on the phasers awaited then
 abbrev pub supposed_statuses : WorldValue → ℕ → Event → List Status
-supposed_statuses w t e = statuses_of w.plan (if_published (state_of w) t e)
+supposed_statuses w t e = awaited_statuses w.plan (if_published (state_of w) t e)
 
 -- task t stood at its await of the event, where it would not be dead, and has published it
 pub record IsPublished (old new : WorldValue) (t : ℕ) (e : Event) : Type 0 where

@@ -16,7 +16,7 @@ use Rattle.armus_base.proofs.Reachable.{reachable_is_fixed}
 use Rattle.armus_base.proofs.Stepping.{acting_forked}
 use Rattle.pl_core.specs.declared.stand.Stand.{Stand}
 use Rattle.pl_core.specs.declared.stand.Stand.TheVariants.{Unforked, Done, Refused, Ready, Await, Waits}
-use Rattle.pl_core.specs.Stands.{AreAhead, IsBehind, IsEnabled, IsBeforeOp, MayGoOn, StandsSo}
+use Rattle.pl_core.specs.Stands.{IsEnabled, IsBeforeOp, MayGoOn, StandsSo}
 use Rattle.pl_core.specs.Worlds.{WorldValue, action_by_code, places_of, state_of}
 use Rattle.pl_core.proofs.Bounds.{phaser_of_member, task_of_member}
 use Rattle.pl_core.proofs.StepKinds.{awaits_block}
@@ -85,13 +85,6 @@ module _ (w : WorldValue) (checked : IsCheckedPlan w.plan) (reach : IsReachable 
   is_ready_else t Ready so h a b = so
   is_ready_else t (Await e) so h a b = absurd (a e refl)
   is_ready_else t (Waits e) so h a b = absurd (b e refl)
-
-  -- what is ahead among all tasks is reached, and what somebody is behind is not
-  pub reached_if_ahead : (e : Event) → AreAhead (state_of w) e 0 (length w.plan.parents) → IsReached (state_of w) e
-  reached_if_ahead e ahead u m at = ahead u m (omega arith) (task_of_member w checked reach u e.p.0 m at) at
-
-  pub unreached_if_behind : (e : Event) (u : ℕ) → IsBehind (state_of w) e u → IsReached (state_of w) e → ⊥
-  unreached_if_behind e u behind reached = (let l = reached u behind.0 behind.1 in let b = behind.2 in absurd (omega arith))
 
   -- a waiting task is a member of its event's phaser
   pub member_when_waiting : (t : ℕ) (e : Event) → (state_of w).published t ≡ Some e → IsMember (state_of w) t e.p.0

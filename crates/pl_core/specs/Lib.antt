@@ -5,6 +5,7 @@ pub mod Tasks
 pub mod Views
 pub mod GivenPlaces
 pub mod HighestPhases
+pub mod Awaiting
 -- How the program does it: private contracts alone cite these.
 pub mod inside
 pub mod Tables

@@ -34,18 +34,3 @@ MayGoOn s Ready = Unit {0}
 MayGoOn s (Await e) = Unit {0}
 MayGoOn s (Waits e) = IsReached s e
 MayGoOn s stand = ⊥
-
--- task u keeps the event from being reached: it is a member of its phaser with a phase below
-abbrev pub IsBehind : State → Event → ℕ → Type 0
-IsBehind s e u = (m : ℕ) × (s.phases u e.p.0 ≡ Some m) × (m < e.n)
-
--- none of the tasks from number k on and below number j does
-abbrev pub AreAhead : State → Event → ℕ → ℕ → Type 0
-AreAhead s e k j = (u m : ℕ) → k ≤ u → u < j → s.phases u e.p.0 ≡ Some m → e.n ≤ m
-
--- task t is the first one from number k on that keeps the event from being reached
-pub record IsFirstBehind (w : WorldValue) (e : Event) (k t : ℕ) : Type 0 where
-  pub from : k ≤ t
-  pub task : t < length w.plan.parents
-  pub behind : IsBehind (state_of w) e t
-  pub ahead : AreAhead (state_of w) e k t

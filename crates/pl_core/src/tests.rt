@@ -41,25 +41,48 @@ fn two_tasks(alloc: Global) -> Result<Plan, NoMemory> {
     ))
 }
 
-// An event, and the first task that keeps it from being reached.
+// An event, and whether it is reached.
 fn event_text(alloc: Global, world: &World, event: Event) -> Result<String, Fail> {
     let p = event.p.0;
     let n = event.n;
     if p >= world.plan().phasers() {
         return Ok(format!(in alloc; "no phaser")?);
     }
-    match world.first_behind(event, 0) {
+    let reached = if world.is_reached(event) {
+        " reached"
+    } else {
+        ""
+    };
+    Ok(format!(in alloc; "p{p}@{n}{reached}")?)
+}
+
+// An event that a task awaits and has not published; whether the task impedes nobody, and which published task impedes it.
+fn await_text(alloc: Global, world: &World, t: TaskId, event: Event) -> Result<String, Fail>
+    requires task { t.0 < length world.now.plan.parents }
+{
+    let text = event_text(alloc, world, event)?;
+    if event.p.0 >= world.plan().phasers() {
+        return Ok(text);
+    }
+    let alone = if world.impedes_nobody(t, event) {
+        " impedes nobody"
+    } else {
+        ""
+    };
+    match world.published_impeder(t, event) {
         Some(u) => {
-            let task = u.0;
-            Ok(format!(in alloc; "p{p}@{n} for t{task}")?)
+            let by = u.0;
+            Ok(format!(in alloc; "{text}{alone} impeded by t{by}")?)
         }
-        None => Ok(format!(in alloc; "p{p}@{n} reached")?),
+        None => Ok(format!(in alloc; "{text}{alone}")?),
     }
 }
 
 // How a task stands.
-fn stand_text(alloc: Global, world: &World, stand: Stand) -> Result<String, Fail> {
-    match stand {
+fn stand_text(alloc: Global, world: &World, t: TaskId) -> Result<String, Fail>
+    requires task { t.0 < length world.now.plan.parents }
+{
+    match world.stand(t) {
         Stand::Unforked => Ok(format!(in alloc; "unforked")?),
         Stand::Done => Ok(format!(in alloc; "done")?),
         Stand::Ready => Ok(format!(in alloc; "ready")?),
@@ -69,7 +92,7 @@ fn stand_text(alloc: Global, world: &World, stand: Stand) -> Result<String, Fail
             Ok(format!(in alloc; "refused p{p}@{n}")?)
         }
         Stand::Await(event) => {
-            let text = event_text(alloc, world, event)?;
+            let text = await_text(alloc, world, t, event)?;
             Ok(format!(in alloc; "awaits {text}")?)
         }
         Stand::Waits(event) => {
@@ -91,7 +114,7 @@ fn phase_text(alloc: Global, phase: Option<u32>) -> Result<String, Fail> {
 fn state_text(alloc: Global, world: &World) -> Result<String, Fail> {
     let mut text = String::new(alloc);
     for t in 0..world.plan().tasks() {
-        let stand = stand_text(alloc, world, world.stand(TaskId(t)))?;
+        let stand = stand_text(alloc, world, TaskId(t))?;
         let op = world.op(TaskId(t));
         let goes = if world.enabled(TaskId(t)) { "+" } else { "." };
         text.push_str(format!(in alloc; "t{t} {stand} op {op} {goes}")?.as_str())?;
@@ -252,15 +275,19 @@ fn states_after_turns_and_at_their_places(rt: HostRuntime) -> Result<(), Fail> {
         ("00000", "t0 ready op 5 + 0 0;t1 ready op 0 + 0 0;\n\n"),
         (
             "0000001",
-            "t0 awaits p0@1 for t1 op 6 + 1 0;t1 awaits p1@1 for t0 op 1 + 0 1;\n\n",
+            "t0 awaits p0@1 impedes nobody op 6 + 1 0;t1 awaits p1@1 impedes nobody op 1 + 0 1;\n\n",
         ),
         (
             "0000000",
-            "t0 waits p0@1 for t1 op 6 . 1 0;t1 ready op 0 + 0 0;\nt0 p0@1 p0:1 p1:0;\n",
+            "t0 waits p0@1 op 6 . 1 0;t1 ready op 0 + 0 0;\nt0 p0@1 p0:1 p1:0;\n",
+        ),
+        (
+            "00000001",
+            "t0 waits p0@1 op 6 . 1 0;t1 awaits p1@1 impeded by t0 op 1 + 0 1;\nt0 p0@1 p0:1 p1:0;\n",
         ),
         (
             "000000011",
-            "t0 waits p0@1 for t1 op 6 . 1 0;t1 waits p1@1 for t0 op 1 . 0 1;\nt0 p0@1 p0:1 p1:0;t1 p1@1 p0:0 p1:1;\nblocked blocked t0 p0@1 p0:1 p1:0;t1 p1@1 p0:0 p1:1;",
+            "t0 waits p0@1 op 6 . 1 0;t1 waits p1@1 op 1 . 0 1;\nt0 p0@1 p0:1 p1:0;t1 p1@1 p0:0 p1:1;\nblocked blocked t0 p0@1 p0:1 p1:0;t1 p1@1 p0:0 p1:1;",
         ),
         (
             "00000001r",

@@ -7,9 +7,10 @@ ghost use Rattle.armus_base.specs.Runs.{IsReachable};
 ghost use Rattle.armus_base.specs.States.{event_on, if_published, IsActive, IsMember, IsReached};
 ghost use Rattle.pl_core.specs.GivenPlaces.{IsAtPlaces};
 ghost use Rattle.pl_core.specs.Worlds.{state_of, places_at, places_of, action_by_code, IsOpeningWorld};
-ghost use Rattle.pl_core.specs.Stands.{StandsSo, IsAtAwaitOf, IsBeforeOp, IsEnabled, MayGoOn, AreAhead, IsFirstBehind};
+ghost use Rattle.pl_core.specs.Stands.{StandsSo, IsAtAwaitOf, IsBeforeOp, IsEnabled, MayGoOn};
 ghost use Rattle.pl_core.specs.Moves.{MakesRefusal, IsWorldStep};
 ghost use Rattle.armus_base.specs.Finals.{end_of, final_of, given_below, is_awaited, list_below, listed_phase, statuses_of, statuses_on};
+ghost use Rattle.pl_core.specs.Awaiting.{awaited_statuses};
 ghost use Rattle.pl_core.specs.inside.Ops.{action_of, ChangesPhases};
 ghost use Rattle.pl_core.specs.inside.Reading.{is_asked};
 ghost use Rattle.pl_core.specs.inside.Supposed.{with_also};
@@ -182,21 +183,6 @@ impl<'p> World<'p> {
         self.phases.get(t.0 as usize, p.0 as usize)
     }
 
-    /// The first task from number `from` on that keeps the event from being reached: it is a member of the event's phaser with a phase below.
-    pub fn first_behind(&self, event: Event, from: u32) -> Option<TaskId>
-        requires phaser { event.p.0 < length self.now.plan.makers }
-        ensures first { MatchOption result (AreAhead (state_of self.now) event from (length self.now.plan.parents)) (λ t. IsFirstBehind self.now event from t.0) }
-    {
-        for t in from..self.plan.tasks() {
-            if let Some(n) = self.phase(event.p, TaskId(t)) {
-                if n < event.n {
-                    return Some(TaskId(t));
-                }
-            }
-        }
-        None
-    }
-
     /// Whether the event is reached: each member of its phaser has its phase at least. It is one comparison.
     pub fn is_reached(&self, event: Event) -> bool
         requires phaser { event.p.0 < length self.now.plan.makers }
@@ -319,30 +305,35 @@ impl<'p> World<'p> {
     pub fn statuses(&self, alloc: Global) -> Result<List<Status>, NoMemory>
         ensures statuses { IfOk result (λ list. list ≡ statuses_of self.now.plan (state_of self.now)) }
     {
-        self.all_statuses(alloc, None)
+        let asked = vec![in alloc; true; self.plan.phasers() as usize]?;
+        let statuses = self.statuses_on(alloc, &asked, None)?;
+        Ok(List::from_vec(statuses))
     }
 
-    /// The statuses as they would be if task `t` were published on the event, in order of number.
+    /// The statuses as they would be if task `t` were published on the event, in order of number, each with its phases on the phasers that would be
+    /// awaited then.
     pub fn statuses_if(
         &self,
         alloc: Global,
         t: TaskId,
         event: Event,
     ) -> Result<List<Status>, NoMemory>
-        ensures statuses { IfOk result (λ list. list ≡ statuses_of self.now.plan (if_published (state_of self.now) t.0 event)) }
+        requires phaser { event.p.0 < length self.now.plan.makers }
+        ensures statuses { IfOk result (λ list. list ≡ awaited_statuses self.now.plan (if_published (state_of self.now) t.0 event)) }
     {
-        self.all_statuses(alloc, Some((t, event)))
+        self.awaited_statuses(alloc, Some((t, event)))
     }
 
-    // The statuses with all phases, where the pair counts as published too.
-    fn all_statuses(
+    // The statuses with the phases on the awaited phasers, where the pair counts as published too.
+    fn awaited_statuses(
         &self,
         alloc: Global,
         also: Option<(TaskId, Event)>,
     ) -> Result<List<Status>, NoMemory>
-        ensures { IfOk result (λ list. list ≡ statuses_of self.now.plan (with_also (state_of self.now) also)) }
+        requires phaser { IfSome also (λ a. a.1.p.0 < length self.now.plan.makers) }
+        ensures { IfOk result (λ list. list ≡ awaited_statuses self.now.plan (with_also (state_of self.now) also)) }
     {
-        let asked = vec![in alloc; true; self.plan.phasers() as usize]?;
+        let asked = self.awaited_phasers(alloc, also)?;
         let statuses = self.statuses_on(alloc, &asked, also)?;
         Ok(List::from_vec(statuses))
     }
@@ -354,12 +345,11 @@ impl<'p> World<'p> {
         ensures checked { OnOk result (IsCheckedPlan self.now.plan) }
         ensures reachable { OnOk result (IsReachable self.now.plan (places_of self.now)) }
     {
-        let asked = self.awaited_phasers(alloc)?;
-        let blocked = self.statuses_on(alloc, &asked, None)?;
+        let blocked = self.awaited_statuses(alloc, None)?;
         let ends = self.ends(alloc)?;
         Ok(Final {
             ends: List::from_vec(ends),
-            blocked: List::from_vec(blocked),
+            blocked,
         })
     }
 
@@ -376,7 +366,8 @@ impl<'p> World<'p> {
     // The event on which a task is published, where the pair counts too.
     fn published_or(&self, u: TaskId, also: Option<(TaskId, Event)>) -> Option<Event>
         requires task { u.0 < length self.now.plan.parents }
-        ensures { result ≡ (with_also (state_of self.now) also).published u.0 }
+        ensures event { result ≡ (with_also (state_of self.now) also).published u.0 }
+        ensures phaser { IfSome also (λ a. a.1.p.0 < length self.now.plan.makers) → IfSome result (λ event. event.p.0 < length self.now.plan.makers) }
     {
         match also {
             Some((t, event)) => {
@@ -427,14 +418,19 @@ impl<'p> World<'p> {
         Ok(ends)
     }
 
-    // Which phasers some published task awaits.
-    fn awaited_phasers(&self, alloc: Global) -> Result<Vec<bool>, NoMemory>
+    // Which phasers some published task awaits, where the pair counts as published too.
+    fn awaited_phasers(
+        &self,
+        alloc: Global,
+        also: Option<(TaskId, Event)>,
+    ) -> Result<Vec<bool>, NoMemory>
+        requires phaser { IfSome also (λ a. a.1.p.0 < length self.now.plan.makers) }
         ensures len { IfOk result (λ asked. length asked.items ≡ length self.now.plan.makers) }
-        ensures asked { IfOk result (λ asked. (p : ℕ) → p < length self.now.plan.makers → is_asked asked.items p ≡ is_awaited self.now.plan (state_of self.now) p) }
+        ensures asked { IfOk result (λ asked. (p : ℕ) → p < length self.now.plan.makers → is_asked asked.items p ≡ is_awaited self.now.plan (with_also (state_of self.now) also) p) }
     {
         let mut asked = vec![in alloc; false; self.plan.phasers() as usize]?;
         for t in 0..self.plan.tasks() {
-            match self.published(TaskId(t)) {
+            match self.published_or(TaskId(t), also) {
                 Some(event) => asked[event.p.0 as usize] = true,
                 None => {}
             }

@@ -1,8 +1,8 @@
 use Rattle.std.proofs.Common.{◌∙◌, subst, sym}
 use Rattle.armus_base.specs.Deadlocks.{IsDeadBy, WouldBeDead}
 use Rattle.armus_base.specs.States.{if_published}
-use Rattle.armus_base.specs.Finals.{statuses_of}
 use Rattle.armus_base.specs.Statuses.{IsInOrder}
+use Rattle.pl_core.specs.Awaiting.{awaited_statuses}
 use Rattle.pl_core.specs.Worlds.{state_of}
 use Rattle.avoider.specs.Decisions.{ExplainsDeath}
 use Rattle.avoider.proofs.NobodyDies.{block_kills_nobody, refusal_kills_nobody}
@@ -22,7 +22,7 @@ returns-in-Some-clause-decision c =
     let event = c.event_before-event.result in
     let list = c.as_slice.ensures.items ∙ c.in_ok-list.ensures.statuses in
     let death = rw c.in-Some.is at c.in_ok-cycle.ensures in
-    let there : ExplainsDeath (statuses_of w.plan (if_published (state_of w) c.args.t.0 event)) c.args.t.0 c.in-Some.cycle =
+    let there : ExplainsDeath (awaited_statuses w.plan (if_published (state_of w) c.args.t.0 event)) c.args.t.0 c.in-Some.cycle =
     subst (λ ss. ExplainsDeath ss c.args.t.0 c.in-Some.cycle) list death in
     record {
       event = event;
@@ -31,7 +31,7 @@ returns-in-Some-clause-decision c =
       refusal = c.refuse.ensures;
       cycle = there;
       stands =
-          refused_in_cycle w at.checked at.reachable c.args.t.0 event c.requires.nobody c.in-Some.cycle.tasks c.in-Some.cycle.events there.links;
+          refused_in_cycle w at.checked at.reachable c.args.t.0 event at.before c.requires.nobody c.in-Some.cycle.tasks c.in-Some.cycle.events there.links;
     }
 
 pub returns-in-Some-clause-nobody : goal.returns-in-Some-clause-nobody
@@ -68,6 +68,11 @@ returns-clause-nobody c =
     (subst (λ ss. IsDeadBy ss c.args.t.0) (sym list)
     ((told_by_statuses w at.checked at.reachable c.args.t.0 c.requires.task event).1 would)) in
     block_kills_nobody w c.step-in-None.new.self at.checked at.reachable c.args.t.0 c.requires.nobody event at.before alive c.step-in-None.ensures
+
+pub statuses_if-requires : goal.statuses_if-requires
+statuses_if-requires c =
+    let at = c.event_before-event.ensures in
+    record { phaser = phaser_of_await c.args.world.now at.checked at.reachable c.args.t.0 c.event_before-event.result at.before }
 
 pub is_on_no_cycle-requires-clause-phaser : goal.is_on_no_cycle-requires-clause-phaser
 is_on_no_cycle-requires-clause-phaser c =

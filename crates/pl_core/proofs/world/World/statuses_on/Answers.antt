@@ -18,11 +18,11 @@ loop-t-preserved c =
           ap (λ v. v.items) w.statuses-is ∙ w.in_ok-push-in-Some.ensures.items
           ∙ given_below_more (status_of plan s asked) c.loop-t.t (record { t = record { 0 = c.loop-t.t }; event = w.in-Some.event; phases = w.from_vec.result })
           c.loop-t.statuses.items c.loop-t.invariant
-          (status_some plan s asked c.loop-t.t w.in-Some.event w.from_vec.result (sym c.published_or.ensures ∙ w.in-Some.is)
+          (status_some plan s asked c.loop-t.t w.in-Some.event w.from_vec.result (sym c.published_or.ensures.event ∙ w.in-Some.is)
           (w.from_vec.ensures.items ∙ w.in_ok-phases-in-Some.ensures
           ∙ ap (λ f. given_below (listed_phase asked (f c.loop-t.t)) (length plan.makers)) (sym (phases_also (state_of c.args.self.now) c.args.also))))
       | in-None w ↦
           ap (λ v. v.items) w.statuses-is
           ∙ given_below_none (status_of plan s asked) c.loop-t.t c.loop-t.statuses.items c.loop-t.invariant
-          (status_none plan s asked c.loop-t.t (sym c.published_or.ensures ∙ w.in-None.is))
+          (status_none plan s asked c.loop-t.t (sym c.published_or.ensures.event ∙ w.in-None.is))
     ]
