@@ -1,8 +1,8 @@
 // The seat of a task.
-ghost use Rattle.std.specs.Prelude.{◌≡◌, ◌+◌, ◌<◌, ◌≤◌, [], Some, None, length, IfOk, IsOk, IfErr, OnOk, IsSome, true, false};
+ghost use Rattle.std.specs.Prelude.{◌≡◌, ◌+◌, ◌<◌, ◌≤◌, [], Some, None, length, IfOk, IsOk, IfErr, MatchBool, OnOk, IsSome, true, false};
 ghost use Rattle.armus_base.specs.Limits.{max_tasks, max_ops};
 ghost use Rattle.armus_base.specs.Plans.{Makes, Registers, Forks, Advances, Drops, Blocks, Refuses as RefusesAction};
-ghost use Rattle.armus_base.specs.Seats.{seen_by_child, scanned_after};
+ghost use Rattle.armus_base.specs.Seats.{is_not_behind, seen_by_child, scanned_after};
 ghost use Rattle.armus_base.specs.Runs.{first_place};
 ghost use Rattle.board.specs.Views.{avoids, found_of, next_action, own_place, seen, task_of};
 ghost use Rattle.board.specs.Rule.{first_view};
@@ -69,6 +69,16 @@ fn scanned_next(
         t.0 + 1
     } else {
         scanned
+    }
+}
+
+// Whether what was found is a phase below that of the event.
+fn is_behind(found: Option<Phase>, event: Event) -> bool
+    ensures { MatchBool result (is_not_behind found event ≡ false) (is_not_behind found event ≡ true) }
+{
+    match found {
+        Some(phase) => phase < event.n,
+        None => false,
     }
 }
 
@@ -321,6 +331,25 @@ impl TaskSeat {
             .shared
             .store::<Refuses>(&mut self.place, index, word);
         event
+    }
+
+    /// The event is the published one, and `t` is the task that is scanned next: one load of the phase word of `t` on the phaser of the event.
+    pub fn scan_next(&mut self, board: &Board, event: Event, t: TaskId) -> Option<Phase>
+        requires made { IsOf self.old board.now }
+        requires event { event_of self.old ≡ Some event }
+        requires task { t.0 < length board.now.plan.parents }
+        requires phaser { event.p.0 < length board.now.plan.makers }
+        requires next { (seen self.old.view).scanned ≡ t.0 }
+        ensures answer { AnswersPhase t.0 event.p.0 result self.old self.new }
+    {
+        let index = board.phase_index(t, event.p);
+        let word = board.cells.shared.load::<Looks>(&mut self.place, index);
+        let answer = phase_of(word);
+        if is_behind(answer, event) {
+            return answer;
+        }
+        self.scanned = t.0 + 1;
+        answer
     }
 
     // One load of its own word: its phase on a phaser of which its task is a member.

@@ -6,7 +6,7 @@ ghost use Rattle.phase_scan.specs.Looks.{LoadsAlone, IsLook};
 
 use crate::Look;
 use armus_base::{Event, Phase, TaskId};
-use board::{Board, Loads, TaskSeat};
+use board::{Board, TaskSeat};
 
 // The phase that was found, if it is below that of the event.
 fn behind(found: Option<Phase>, event: Event) -> Option<Phase>
@@ -30,7 +30,7 @@ pub fn look(seat: &mut TaskSeat, board: &Board) -> Look
     let tasks = board.tasks();
     for number in first..tasks {
         let t = TaskId(number);
-        let found = seat.load_phase(board, t, event.p);
+        let found = seat.scan_next(board, event, t);
         if let Some(phase) = behind(found, event) {
             return Look::Behind { t, phase };
         }
