@@ -22,3 +22,5 @@ pub use worker::Worker;
 
 #[cfg(test)]
 mod tests;
+#[cfg(test)]
+mod thread_tests;
