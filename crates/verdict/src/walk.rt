@@ -7,7 +7,7 @@ ghost use Rattle.armus_base.specs.declared.status.Status.{Status};
 ghost use Rattle.dep_state.specs.Picks.{Ascend};
 ghost use Rattle.digraph.specs.inside.NextTables.{AreNext};
 ghost use Rattle.verdict.specs.Cycles.{IsCycleOf, IsCycle};
-ghost use Rattle.verdict.specs.inside.DeadWalks.{IsFlags, IsMadeOf, IsNextDead, IsStepOn, IsWalkable};
+ghost use Rattle.verdict.specs.inside.DeadWalks.{IsFlags, IsMadeOf, IsNextDead, GoesToNextDead, IsWalkable};
 
 use crate::Cycle;
 use armus_base::{List, NoMemory, Status, TaskId};
@@ -42,7 +42,7 @@ fn dead_flags(alloc: Global, tasks: &[TaskId], dead: &[TaskId]) -> Result<Vec<bo
 fn next_dead(deps: &DepState, flags: &[bool], node: u32) -> u32
     requires walkable { IsWalkable deps.now flags.now }
     requires node { node < length deps.now.tasks }
-    ensures step { IsStepOn deps.now flags.now node result }
+    ensures step { GoesToNextDead deps.now flags.now node result }
     ensures inside { result < length deps.now.tasks }
 {
     if !flags[node as usize] {
@@ -59,7 +59,7 @@ fn next_dead(deps: &DepState, flags: &[bool], node: u32) -> u32
 fn nexts(alloc: Global, deps: &DepState, flags: &[bool]) -> Result<Vec<u32>, AllocError>
     requires walkable { IsWalkable deps.now flags.now }
     requires few { length deps.now.tasks < 2 ^ 31 }
-    ensures { IfOk result (λ next. AreNext (IsStepOn deps.now flags.now) (length deps.now.tasks) (length flags.now) next.items) }
+    ensures { IfOk result (λ next. AreNext (GoesToNextDead deps.now flags.now) (length deps.now.tasks) (length flags.now) next.items) }
 {
     let mut next = Vec::with_capacity(alloc, flags.len())?;
     for k in 0..flags.len() {

@@ -16,8 +16,8 @@ abbrev pub IsNextDead : Deps → List Bool → ℕ → ℕ → Type 0
 IsNextDead d flags a b = IsLeastMarked (impeders_of d (slice_index d.awaits a)) flags b
 
 -- where the task at a is dead, the one at b is the least dead one that impedes its event
-abbrev pub IsStepOn : Deps → List Bool → ℕ → ℕ → Type 0
-IsStepOn d flags a b = slice_index_or flags a false ≡ true → IsNextDead d flags a b
+abbrev pub GoesToNextDead : Deps → List Bool → ℕ → ℕ → Type 0
+GoesToNextDead d flags a b = slice_index_or flags a false ≡ true → IsNextDead d flags a b
 
 -- each task with a flag has a task with a flag that impedes its event
 pub record IsWalkable (d : Deps) (flags : List Bool) : Type 0 where

@@ -1,7 +1,7 @@
 use Rattle.std.proofs.Common.{◌≡◌, length, arith, subst}
 use Rattle.digraph.specs.inside.NextTables.{AreNext}
 use Rattle.digraph.proofs.NextTables.{next_more}
-use Rattle.verdict.specs.inside.DeadWalks.{IsStepOn}
+use Rattle.verdict.specs.inside.DeadWalks.{GoesToNextDead}
 use Rattle.verdict.proofs.walk.nexts.Goals as goal
 
 pub loop-k-preserved : goal.loop-k-preserved
@@ -12,4 +12,4 @@ loop-k-preserved c =
 pub returns : goal.returns
 returns c =
     let all : c.loop-k.k ≡ length c.args.flags.now = omega (arith, c.loop-k-test.false, c.loop-k.auto.k-end) in
-    subst (λ n. AreNext (IsStepOn c.args.deps.now c.args.flags.now) (length c.args.deps.now.tasks) n c.loop-k.next.items) all c.loop-k.invariant
+    subst (λ n. AreNext (GoesToNextDead c.args.deps.now c.args.flags.now) (length c.args.deps.now.tasks) n c.loop-k.next.items) all c.loop-k.invariant
