@@ -35,7 +35,8 @@ impl<R: Named> Model for Pool<R> {
 }
 
 impl<R: Named> Pool<R> {
-    /// A pool of so many tasks, with the first record, which is of task 0, at home, and its workers in order of number. NoRoom hands the record back.
+    /// A pool of 1 to 4,096 tasks and 1 to 64 workers: the first record, which is of task 0, is at home, and the workers come in order of number, each of
+    /// which knows task 0. NoRoom is want of memory alone, and hands the record back.
     pub fn start(
         alloc: Global,
         tasks: u32,
@@ -71,7 +72,8 @@ impl<R: Named> Pool<R> {
         }
     }
 
-    /// Ends a pool of which these are all workers, and none has a record: each placed record, at its task's number. It takes no memory.
+    /// Ends a pool of which these are all workers, and none has a record. It answers an entry for each task: the record that was placed of it, or None. It
+    /// takes no memory. A pool of which a worker was dropped cannot be closed so; it can be dropped.
     pub fn close(self, workers: List<Worker<R>>) -> List<Option<R>>
         requires made { All (λ w. IsOf w self) workers }
         requires all_workers { (k : ℕ) → k < self.workers → IsNumberOf workers k }

@@ -61,7 +61,9 @@ impl<R: Named> Worker<R> {
         (place, entries)
     }
 
-    /// One compare and exchange on the word of task `t`, by a worker that has nothing.
+    /// Claims the record of task `t`, by one compare and exchange, for a worker that has nothing. Got where the record was at home then: the worker has it
+    /// until it puts it back. Held where another worker had it, or was placing it, and `by` is that worker's number. Empty where nobody had placed one, so
+    /// never where the worker knows the task. It takes no memory.
     pub fn claim(&mut self, pool: &Pool<R>, t: TaskId) -> Claim<R>
         requires made { IsOf self.old pool.now }
         requires task { t.0 < pool.now.tasks }
@@ -89,7 +91,7 @@ impl<R: Named> Worker<R> {
         }
     }
 
-    /// The record that the worker has goes home.
+    /// The record that the worker has goes home. It takes no memory.
     pub fn put(&mut self, pool: &Pool<R>, item: R)
         requires made { IsOf self.old pool.now }
         requires has { self.old.view.has ≡ R.number item ∷ [] }
@@ -100,7 +102,8 @@ impl<R: Named> Worker<R> {
         self.give(pool, item.id().0 as usize, item);
     }
 
-    /// The first record of a task goes home, by one compare and exchange on the task's word. Err hands it back. A worker that has another task keeps it.
+    /// The first record of a task goes home, by one compare and exchange. Err where the task was placed before then: the record comes back, and nothing in
+    /// the pool has changed. Either way the worker knows the task from now on, and what it had it still has. It takes no memory.
     pub fn place(&mut self, pool: &Pool<R>, item: R) -> Result<(), R>
         requires made { IsOf self.old pool.now }
         requires task { R.number item < pool.now.tasks }
