@@ -6,7 +6,7 @@ pub mod Inputs
 pub mod Meaning
 pub mod Answering
 pub mod Reporting
-pub mod SerialEnds
+pub mod AvoidedReports
 pub mod RecordedTexts
 pub mod RecordsReplay
 pub mod WholeOutputs

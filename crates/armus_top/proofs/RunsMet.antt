@@ -22,7 +22,7 @@ use Rattle.armus_top.specs.Avoids.{IsAvoidOf}
 use Rattle.armus_top.specs.Programs.{IsPlanOf}
 use Rattle.armus_top.specs.Runs.{IsLiveRunOf, IsRunOf}
 use Rattle.armus_top.proofs.OnePlan.{checked_plan}
-use Rattle.armus_top.proofs.SerialEnds.{never_dead}
+use Rattle.armus_top.proofs.AvoidedReports.{never_dead}
 use Rattle.armus_top.proofs.WholeOutputs.{status_by, status_refused}
 
 nobody_named : {blocked : List Status} → AreSomeDead blocked []
@@ -58,8 +58,8 @@ module _ (input : Text) (plan : Plan) (plan_is : IsPlanOf input plan) where
       let (named, are) = some_dead_extend (final_of run.plan run.state).blocked [] nobody_named in
       (status, live_text named ++ report, record { report = report; run = run; named = named; named_are = are; output_is = refl })
 
-  pub avoid_met : (g : Wanted) → (status : ℕ) × (text : Text) × IsAvoidOf input g status text
-  avoid_met g =
+  pub avoid_met : (workers : ℕ) (g : Wanted) → (status : ℕ) × (text : Text) × IsAvoidOf input workers g status text
+  avoid_met workers g =
       let (state, final) = serial_run_ends plan checked in
       let avoided = serial_final_is_avoided plan state checked final in
       let (text, reports) = report_exists (final_of plan state) g in
@@ -72,7 +72,7 @@ module _ (input : Text) (plan : Plan) (plan_is : IsPlanOf input plan) where
           state = state;
           avoided = avoided;
           never = never_dead plan checked avoided.steps avoided.run;
-          serial = final;
+          serial = λ _. final;
           status_is = tells;
           report_is = reports;
         },

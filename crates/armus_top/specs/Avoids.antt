@@ -29,14 +29,14 @@ TellsRefused plan state status =
 abbrev pub IsNeverDead : List Step → Type 0
 IsNeverDead steps = (more before : List Step) → steps ≡ more ++ before → NobodyDead (state_after before)
 
--- the report of the state in which a maximal avoided run of the text's plan ends, in which nobody is ever dead: the state in which the serial avoided run ends; and the
--- status that tells whether a task is refused in it
-pub record IsAvoidOf (text : Text) (g : Wanted) (status : ℕ) (report : Text) : Type 0 where
+-- the report of a state in which a maximal avoided run of the text's plan ends, in which nobody is ever dead; with one worker the state in which the serial
+-- avoided run ends; and the status that tells whether a task is refused in it
+pub record IsAvoidOf (text : Text) (workers : ℕ) (g : Wanted) (status : ℕ) (report : Text) : Type 0 where
   pub plan : Plan
   pub plan_is : IsPlanOf text plan
   pub state : State
   pub avoided : IsAvoidedFinal plan state
   pub never : IsNeverDead avoided.steps
-  pub serial : IsSerialAvoidedFinal plan state
+  pub serial : workers ≡ 1 → IsSerialAvoidedFinal plan state
   pub status_is : TellsRefused plan state status
   pub report_is : IsReport (final_of plan state) g report

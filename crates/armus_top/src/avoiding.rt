@@ -7,6 +7,7 @@ ghost use Rattle.armus_top.specs.Programs.{IsPlanOf};
 ghost use Rattle.armus_top.specs.Avoids.{IsAvoidOf, ended_refused};
 ghost use Rattle.armus_top.specs.declared.programs.TheConstants.{MAX_TEXT_BYTES};
 ghost use Rattle.armus_top.specs.Headline.{Ends, passage};
+ghost use Rattle.armus_top.specs.inside.Serving.{MayWork};
 ghost use Rattle.armus_top.specs.inside.Status.{number_of_status};
 ghost use Rattle.armus_top.specs.inside.Writing.{Answered};
 ghost use Rattle.armus_words.specs.declared.command.Command.TheVariants.{Avoid};
@@ -42,9 +43,10 @@ fn avoid_and_report<R: Threads + Sync, G: Gate>(
     gate: &G,
 ) -> Result<Reported, NoMemory>
     requires checked { IsCheckedPlan plan.now }
+    requires workers { MayWork options.now.workers }
     requires quiet { options.now.live ≡ false }
     ensures run { IfOk result (λ r. (input : Text) → IsPlanOf input plan.now
-        → IsAvoidOf input options.now.wanted (if r.has_deadlock then 1 else 0) r.text) }
+        → IsAvoidOf input options.now.workers options.now.wanted (if r.has_deadlock then 1 else 0) r.text) }
 {
     let end = run_avoid(rt, alloc, plan, options, gate)?;
     let has_deadlock = any_refused(&end);
@@ -52,7 +54,7 @@ fn avoid_and_report<R: Threads + Sync, G: Gate>(
     Ok(Reported { text, has_deadlock })
 }
 
-// Writes the report of the run. Every number of workers makes the run of one worker.
+// Writes the report of the run.
 fn answer_avoid<R: Threads + Sync, K: Sink, G: Gate>(
     rt: &R,
     alloc: Global,
@@ -62,6 +64,7 @@ fn answer_avoid<R: Threads + Sync, K: Sink, G: Gate>(
     out: &mut K,
     gate: &G,
 ) -> ExitStatus
+    requires workers { MayWork workers }
     requires checked { IsCheckedPlan plan.now }
     ensures done { (input : Text) → IsPlanOf input plan.now
         → Answered (Avoid workers graph) input (passage K.taken K.faults out.old out.new) (number_of_status result) }
@@ -92,6 +95,7 @@ fn avoid_text<R: Threads + Sync, K: Sink, G: Gate>(
     out: &mut K,
     gate: &G,
 ) -> ExitStatus
+    requires workers { MayWork workers }
     requires short { length text.now ≤ MAX_TEXT_BYTES }
     ensures done { Answered (Avoid workers graph) text.now (passage K.taken K.faults out.old out.new) (number_of_status result) }
     ensures silent { number_of_status result ≡ 4 → out.new ≡ out.old }
@@ -112,6 +116,7 @@ pub fn avoid<R: Threads + Sync, S: Source, K: Sink, G: Gate>(
     out: &mut K,
     gate: &G,
 ) -> ExitStatus
+    requires workers { MayWork workers }
     ensures ends { Ends (Some (Avoid workers graph)) (passage S.left S.faults src.old src.new) (passage K.taken K.faults out.old out.new) (number_of_status result) }
     ensures silent { number_of_status result ≡ 4 → out.new ≡ out.old }
 {

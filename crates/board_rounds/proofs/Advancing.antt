@@ -65,14 +65,14 @@ further plan t a (x ∷ own) b none steps l =
     omega arith
 
 -- a task that is not refused has dropped nothing
-no_drop : (o : Option ℕ) → (o ≡ None) ⊎ IsSome o
+pub no_drop : (o : Option ℕ) → (o ≡ None) ⊎ IsSome o
 no_drop None = inl refl
 no_drop (Some d) = inr refl
 
 task_not_back : (f : Frame) (own : List Action) (w v : Working) → Acts f own w v → steps_of w ≤ steps_of v
 task_not_back f own w v acts = not_back w.seat.view.plan (task_of w.seat.view) (own_place w.seat.view) own (own_place v.seat.view) acts.goes.place
 
-task_further : (f : Frame) (own : List Action) (w v : Working) → Acts f own w v → 0 < length own → steps_of w < steps_of v
+pub task_further : (f : Frame) (own : List Action) (w v : Working) → Acts f own w v → 0 < length own → steps_of w < steps_of v
 task_further f own w v acts l = elim (no_drop (own_place w.seat.view).dropped) [
   | inl none ↦ further w.seat.view.plan (task_of w.seat.view) (own_place w.seat.view) own (own_place v.seat.view) none acts.goes.place l
   | inr some ↦ (let e : length own ≡ 0 = ap length (acts.refused some) in absurd (omega arith))

@@ -108,7 +108,7 @@ take_front (w ∷ ws) rest (suc n) e = ap (λ vs. w ∷ vs) (take_front ws rest 
 
 -- each task of a crew may take its turn
 pub crew_ready : (f : Frame) (ws : List Working) → IsCrew f (IsSeatIn ws) → All (IsReady f) ws
-crew_ready f ws crew = all_from (IsReady f) ws (λ w i. let s = crew.each w.seat (w, i, refl) in record { of_board = s.of_board; kept = s.kept })
+crew_ready f ws crew = all_from (IsReady f) ws (λ w i. let s = crew.each w.seat (w, i, refl) in record { of_board = s.of_board; kept = s.kept; free = s.free })
 
 -- a whole round: the turns, and then the children are taken on
 module _ (f : Frame) (owns : List (List Action)) (olds news : List Working) (each : EachActs f owns olds news) (crew : IsCrew f (IsSeatIn olds)) (none : All (λ (w : Working). w.children ≡ []) olds) where
@@ -146,6 +146,7 @@ first_crew f w new =
       each = λ k at. subst (IsCrewSeat f) (sym (only k at)) (record {
         of_board = new.of_board;
         kept = new.kept;
+        free = new.free;
         task = 0;
         own = new.own_is;
         alone = λ u is. eqb-true u 0 (sym (ap (λ (s : SeenBy). s.exact u) new.seen_is) ∙ is);

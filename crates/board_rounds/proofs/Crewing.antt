@@ -125,6 +125,7 @@ goes_crew f own k m s goes =
     record {
       of_board = of_on f own k m s.of_board goes;
       kept = goes.kept;
+      free = goes.same.holds ∙ s.free;
       task = s.task;
       own = goes.same.own ∙ s.own;
       alone = λ u is. s.alone u (sym (goes.exact u) ∙ is);
@@ -163,6 +164,7 @@ module _ (f : Frame) (owns : List (List Action)) (olds news : List Working) (Oth
           record {
             of_board = s.1.of_board;
             kept = s.1.kept;
+            free = s.1.free;
             task = s.0;
             own = s.1.own;
             alone = s.1.alone;

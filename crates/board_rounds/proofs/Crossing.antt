@@ -14,7 +14,10 @@ use Rattle.armus_base.specs.contracts.plan.Plan as plans
 use Rattle.board.specs.contracts.board.Board as boards
 use Rattle.board.proofs.Sending.{board_sync, task_seat_send}
 use Rattle.armus_base.proofs.plan.Plan.TheSendSync as plan_crosses
+use Rattle.adaptive.specs.contracts.analysis.Wanted as wanteds
+use Rattle.phase_scan.proofs.Sending.{cells_send}
 use Rattle.board_rounds.specs.contracts.task.Task as tasks
+use Rattle.board_rounds.specs.contracts.worker_cells.WorkerCells as rooms
 
 -- a task may be handed to a thread
 pub task_send : IsSend tasks.the_row
@@ -27,9 +30,17 @@ plan_sync = search (sendable, crosses, plan_crosses.the_sync) depth 30
 pub global_sync : IsSync global.the_row
 global_sync = search (sendable, crosses, heap.the_send, heap.the_sync) depth 30
 
+pub wanted_sync : IsSync wanteds.the_row
+wanted_sync = search (sendable, crosses) depth 30
+
+-- a worker's cells may be handed to a thread
+pub worker_cells_send : IsSend rooms.the_row
+worker_cells_send = search (sendable, crosses, cells_send) depth 30
+
 pub turns_send :
-    (ν : Sym) (a b c d e h i : NamedLft) (X Y : RattleType) (one : One X.mir) (other : One Y.mir) → IsSync X → IsSync Y →
+    (ν : Sym) (a b c d e h i j k : NamedLft) (X Y : RattleType) (one : One X.mir) (other : One Y.mir) → IsSync X → IsSync Y →
     IsSend (TupleAt ν
     ((shr_ref_field a X one).row ∷ (shr_ref_field b global.the_row tt).row ∷ (shr_ref_field c boards.the_row tt).row ∷ (shr_ref_field d plans.the_row tt).row
-    ∷ (shr_ref_field e Y other).row ∷ (shr_ref_field h u8-field.row tt).row ∷ (mut_slice_field i tasks.the_row tt).row ∷ []))
-turns_send ν a b c d e h i X Y one other x y = search (sendable, global_sync, board_sync, plan_sync, task_send) depth 30
+    ∷ (shr_ref_field e wanteds.the_row tt).row ∷ (shr_ref_field h Y other).row ∷ (shr_ref_field i u8-field.row tt).row ∷ (mut_slice_field j rooms.the_row tt).row
+    ∷ (mut_slice_field k tasks.the_row tt).row ∷ []))
+turns_send ν a b c d e h i j k X Y one other x y = search (sendable, global_sync, board_sync, plan_sync, wanted_sync, worker_cells_send, task_send) depth 30

@@ -1,20 +1,21 @@
 -- What steps and loads make of a task, one after the other.
-use Rattle.std.proofs.Common.{◌≡◌, ◌≢◌, ℕ, suc, ◌≤◌, List, [], ◌∷◌, ◌++◌, Option, Some, None, length, sym, refl, ap, ◌∙◌, subst, arith, append-nil, append_assoc, length-append, inl, inr, ◌+◌}
+use Rattle.std.proofs.Common.{◌≡◌, ◌≢◌, ℕ, suc, ◌<◌, ◌≤◌, List, [], ◌∷◌, ◌++◌, Option, Some, None, length, sym, refl, ap, ◌∙◌, subst, arith, append-nil, append_assoc, length-append, inl, inr, ◌+◌}
 use Rattle.std.specs.Prelude.{IsSome, unwrap_or}
 use Rattle.std.proofs.lemmas.Bool.{cases_eq, false≢true}
+use Rattle.armus_base.specs.Limits.{max_phasers}
 use Rattle.armus_base.specs.Plans.{Action, Advances, Blocks, Drops, Forks, Makes, Passes, Plan, Refuses, Registers, action_at, actions}
 use Rattle.armus_base.specs.Runs.{IsByCode, IsPrefix, Place, moved, next_place}
 use Rattle.armus_base.specs.Seats.{SeenBy, seen_after_step}
 use Rattle.armus_base.proofs.Fixed.{action_within}
 use Rattle.armus_base.proofs.Places.{next_later, precedes_itself, precedes_trans}
 use Rattle.armus_base.proofs.Steps.{updated_other, updated_same}
-use Rattle.board.specs.Views.{next_action, own_place, seen, task_of}
+use Rattle.board.specs.Views.{action_after, next_action, own_place, seen, task_of}
 use Rattle.board.specs.Steps.{IsSameSeat}
 use Rattle.board.specs.Seats.{Frame, IsOf, IsSeat, Known, MakesStep}
-use Rattle.board.proofs.Seated.{next_there, place_made}
+use Rattle.board.proofs.Seated.{next_there}
 use Rattle.board.proofs.Walking.{moved_here}
 use Rattle.phase_scan.specs.Looks.{LoadsAlone}
-use Rattle.board_rounds.specs.Turns.{Acts, AreChildSeats, Goes, LeadsTo, MakesOne, Working, forks_of, no_child, one_child}
+use Rattle.board_rounds.specs.Turns.{Acts, AreChildSeats, Goes, LeadsTo, MakesSome, Working, forks_of, no_child, one_child}
 
 -- steps after steps
 pub leads_on : (plan : Plan) (t : ℕ) (a : Place) (xs : List Action) (b : Place) (ys : List Action) (c : Place) → LeadsTo plan t a xs b → LeadsTo plan t b ys c → LeadsTo plan t a (xs ++ ys) c
@@ -121,17 +122,22 @@ pub stepped_place : (k m : Known) (x : Action) → MakesStep x k m → own_place
 stepped_place k m x step =
     ap (seen m.view).places (same_task k m step.same) ∙ ap (λ (s : SeenBy). s.places (task_of k.view)) step.seen_now ∙ moved_here (task_of k.view) x (seen k.view)
 
-pub goes_step : (k m : Known) (x : Action) → next_action k.view ≡ Some x → ((p : ℕ) → x ≢ Refuses p) → MakesStep x k m → Goes (x ∷ []) k m
-goes_step k m x next n step =
-    let there = next_there k.view x next in
+-- a step that is next by the code
+pub goes_made : (k m : Known) (x : Action) → IsByCode k.view.plan (task_of k.view) (own_place k.view).done (own_place k.view).dropped x → MakesStep x k m → Goes (x ∷ []) k m
+goes_made k m x next step =
     record {
       table = step.table;
       same = step.same;
-      place = (by_code k.view.plan (task_of k.view) (own_place k.view).done (own_place k.view).dropped x there.0 there.1 n, stepped_place k m x step);
+      place = (next, stepped_place k m x step);
       later = λ u. subst (λ (s : SeenBy). IsPrefix ((seen k.view).places u) (s.places u)) (sym step.seen_now) (step_later (task_of k.view) x (seen k.view) u);
       exact = λ u. ap (λ (s : SeenBy). s.exact u) step.seen_now ∙ step_exact (task_of k.view) x (seen k.view) u;
       kept = step.kept;
     }
+
+pub goes_step : (k m : Known) (x : Action) → next_action k.view ≡ Some x → ((p : ℕ) → x ≢ Refuses p) → MakesStep x k m → Goes (x ∷ []) k m
+goes_step k m x next n step =
+    let there = next_there k.view x next in
+    goes_made k m x (by_code k.view.plan (task_of k.view) (own_place k.view).done (own_place k.view).dropped x there.0 there.1 n) step
 
 -- one after the other
 pub goes_on : (k m n : Known) (xs ys : List Action) → Goes xs k m → Goes ys m n → Goes (xs ++ ys) k n
@@ -182,53 +188,38 @@ acts_on f a b c xs ys p q =
       seats = subst (λ ds. AreChildSeats f ds (p.new ++ q.new)) (sym (forks_on xs ys)) (children_on (forks_of ys) q.new p.seats q.seats);
     }
 
--- one step, and the seat of the child that it forks
-pub one_step :
-    (f : Frame) (k m : Known) (cs ds new : List Known) (x : Action) → IsSeat k → next_action k.view ≡ Some x → ((p : ℕ) → x ≢ Refuses p) → MakesStep x k m →
-    ds ≡ cs ++ new → AreChildSeats f (forks_of (x ∷ [])) new → MakesOne f (record { seat = k; children = cs }) (record { seat = m; children = ds })
-one_step f k m cs ds new x seat next n step grown seats =
+-- steps that begin with one of the code of a task that is not refused, and the seats of the children that it forks by them
+pub some_steps :
+    (f : Frame) (own : List Action) (k m : Known) (cs ds new : List Known) (made : ℕ) (x : Action) → IsSeat k → next_action k.view ≡ Some x → Goes own k m →
+    ds ≡ cs ++ new → AreChildSeats f (forks_of own) new → made ≡ length own → 0 < made → made ≤ max_phasers + 1 →
+    MakesSome f made (record { seat = k; children = cs }) (record { seat = m; children = ds })
+some_steps f own k m cs ds new made x seat next goes grown seats counted some few =
     let there = next_there k.view x next in
     record {
-      action = x;
-      acts = record { goes = goes_step k m x next n step; refused = unrefused_next k.view.plan (task_of k.view) (own_place k.view).done (own_place k.view).dropped (x ∷ []) there.0; new = new; children = grown; seats = seats };
-      on = ap (λ (b : Place). b.done) (stepped_place k m x step) ∙ place_made (own_place k.view).done (own_place k.view).dropped x there.0 n;
+      own = own;
+      acts = record { goes = goes; refused = unrefused_next k.view.plan (task_of k.view) (own_place k.view).done (own_place k.view).dropped own there.0; new = new; children = grown; seats = seats };
+      counted = counted;
+      some = some;
+      few = few;
       within = action_within k.view.plan seat.checked (task_of k.view) (own_place k.view).done x there.1;
     }
 
--- loads, and then one step that forks nobody
-pub loads_step :
-    (f : Frame) (k m n : Known) (cs : List Known) (t : ℕ) (x : Action) → k.view.own ≡ Some t → IsSeat k → LoadsAlone k m → next_action m.view ≡ Some x → ((p : ℕ) → x ≢ Refuses p) → forks_of (x ∷ []) ≡ [] →
-    MakesStep x m n → MakesOne f (record { seat = k; children = cs }) (record { seat = n; children = cs })
-loads_step f k m n cs t x own seat goes next plain none step =
-    let there = next_there m.view x next in
-    let place = own_stays k m t own seat goes in
-    let at : action_at k.view.plan (task_of k.view) (own_place k.view).done ≡ Some x =
-    (λ i. action_at (sym goes.same.plan i) (sym (same_task k m goes.same) i) (sym place i).done) ∙ there.1 in
-    record {
-      action = x;
-      acts = acts_alone f (x ∷ []) k n cs none (goes_on k m n [] (x ∷ []) (goes_loads k m t own seat goes) (goes_step m n x next plain step))
-          (unrefused_next k.view.plan (task_of k.view) (own_place k.view).done (own_place k.view).dropped (x ∷ []) (ap (λ (b : Place). b.dropped) (sym place) ∙ there.0));
-      on = ap (λ (b : Place). b.done) (stepped_place m n x step) ∙ place_made (own_place m.view).done (own_place m.view).dropped x there.0 plain ∙ ap (λ (b : Place). suc b.done) place;
-      within = action_within k.view.plan seat.checked (task_of k.view) (own_place k.view).done x at;
-    }
+-- steps that fork nobody
+pub some_alone :
+    (f : Frame) (own : List Action) (k m : Known) (cs : List Known) (made : ℕ) (x : Action) → IsSeat k → next_action k.view ≡ Some x → Goes own k m →
+    forks_of own ≡ [] → made ≡ length own → 0 < made → made ≤ max_phasers + 1 →
+    MakesSome f made (record { seat = k; children = cs }) (record { seat = m; children = cs })
+some_alone f own k m cs made x seat next goes none counted some few =
+    some_steps f own k m cs cs [] made x seat next goes (sym (append-nil cs)) (subst (λ ds. AreChildSeats f ds []) (sym none) no_child) counted some few
+
+-- loads, and then one step
+pub goes_then : (k m n : Known) (t : ℕ) (x : Action) → k.view.own ≡ Some t → IsSeat k → LoadsAlone k m → Goes (x ∷ []) m n → Goes (x ∷ []) k n
+goes_then k m n t x own seat goes step = goes_on k m n [] (x ∷ []) (goes_loads k m t own seat goes) step
+
+-- what comes next stays so while a seat makes loads alone, or nothing
+pub next_still : (k m : Known) → IsSameSeat k.view m.view → own_place m.view ≡ own_place k.view → next_action m.view ≡ next_action k.view
+next_still k m same place = λ i. action_after (same.plan i) (same_task k m same i) (place i).done (place i).dropped
 
 -- a seat is of its board after its steps
 pub of_on : (f : Frame) (own : List Action) (k m : Known) → IsOf k f → Goes own k m → IsOf m f
 of_on f own k m of goes = record { table = goes.table ∙ of.table; plan = goes.same.plan ∙ of.plan; mode = goes.same.mode ∙ of.mode }
-
--- one step more is counted
-pub counts_on :
-    (f : Frame) (a b c : Working) (own : List Action) → (own_place b.seat.view).done ≡ (own_place a.seat.view).done + length own → (m : MakesOne f b c) →
-    ((own_place c.seat.view).done ≡ (own_place a.seat.view).done + length (own ++ m.action ∷ []))
-    × (length (own ++ m.action ∷ []) ≡ length own + 1)
-    × (length (own ++ m.action ∷ []) ≤ length (actions c.seat.view.plan (task_of c.seat.view)))
-counts_on f a b c own on m =
-    let more = length-append own (m.action ∷ []) in
-    let next = m.on in
-    let within = m.within in
-    let same : length (actions c.seat.view.plan (task_of c.seat.view)) ≡ length (actions b.seat.view.plan (task_of b.seat.view)) =
-    (λ i. length (actions (m.acts.goes.same.plan i) (same_task b.seat c.seat m.acts.goes.same i))) in (
-      omega arith,
-      omega arith,
-      omega arith,
-    )

@@ -12,3 +12,9 @@ pub mod Shuffling
 pub mod Advancing
 pub mod Rejoining
 pub mod Noting
+pub mod Leaving
+pub mod Attempting
+pub mod Begun
+pub mod Counting
+pub mod Passing
+pub mod Onward

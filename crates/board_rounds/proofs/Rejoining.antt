@@ -12,7 +12,7 @@ use Rattle.armus_base.specs.Limits.{max_tasks}
 use Rattle.armus_base.specs.Seats.{seen_by_child}
 use Rattle.armus_base.proofs.Elements.{Contains-cons_cases, nothing_in_nil}
 use Rattle.board.specs.Seats.{Frame, IsNewSeat, IsOf, Known, nothing_seen}
-use Rattle.board_rounds.specs.Turns.{EachActs, EndsTurn, IsDone, IsReady, Working, is_done}
+use Rattle.board_rounds.specs.Turns.{ActsNoMore, EachActs, EndsTurn, IsReady, Working, is_done, is_refused}
 use Rattle.board_rounds.specs.Crews.{AreTasksOf, IsCrewOf, MakesRound, Tasks, all_of, all_steps, emptied, left_to, fresh_of, number, steps_of}
 use Rattle.board_rounds.proofs.Advancing.{all_further, emptied_steps, few_tasks, within_all}
 use Rattle.board_rounds.proofs.Apart.{IsFamily, family_after}
@@ -79,6 +79,11 @@ no_steps w = []
 zeros : (ws : List Working) → sum_by length (map no_steps ws) ≡ 0
 zeros [] = refl
 zeros (w ∷ ws) = (let r = zeros ws in let s = sum_by-cons (length {A = Action}) (no_steps w) (map no_steps ws) in omega arith)
+
+-- whose task acts no more has ended its turn
+ends_now : (seat : Known) → ActsNoMore seat → EndsTurn seat
+ends_now seat (inl done) = is_done done
+ends_now seat (inr left) = is_refused left
 
 module _ (f : Frame) (live ended new : List Working) (made : ℕ) (tasks : AreTasksOf f (record { live = live; ended = ended })) (round : MakesRound f live new made) where
   abbrev olds : List Working
@@ -164,7 +169,7 @@ module _ (f : Frame) (live ended new : List Working) (made : ℕ) (tasks : AreTa
   round_quiet z =
       let ends : All (λ (w : Working). EndsTurn w.seat) turned =
       All-append (λ (w : Working). EndsTurn w.seat) round.turned ended round.ends
-      (all_from (λ (w : Working). EndsTurn w.seat) ended (λ w i. is_done (to_each (λ (v : Working). IsDone v.seat) ended tasks.ended w i))) in
+      (all_from (λ (w : Working). EndsTurn w.seat) ended (λ w i. ends_now w.seat (to_each (λ (v : Working). ActsNoMore v.seat) ended tasks.ended w i))) in
       all_from (λ (w : Working). EndsTurn w.seat) (new ++ ended)
       (λ w i.
       then_ends f owns olds turned each whole.crew whole.no_child (sym z ∙ events) ends w.seat
@@ -222,7 +227,7 @@ new_planned f plan before new made same tasks round =
 -- and once the tasks that have done their code are among the ended ones
 pub whole_round :
     (f : Frame) (plan : Plan) (before now : Tasks) (new : List Working) (made : ℕ) → f.plan ≡ plan → AreTasksOf f before → MakesRound f before.live new made →
-    IsPermutation (new ++ before.ended) (all_of now) → All (λ (w : Working). IsDone w.seat) now.ended →
+    IsPermutation (new ++ before.ended) (all_of now) → All (λ (w : Working). ActsNoMore w.seat) now.ended →
     AreTasksOf f now × (0 < made → left_to plan now < left_to plan before) × (made ≡ 0 → All (λ (w : Working). EndsTurn w.seat) (all_of now))
 whole_round f plan before now new made same tasks round moved done =
     let middle = new ++ before.ended in

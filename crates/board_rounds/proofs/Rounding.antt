@@ -1,5 +1,5 @@
 -- Turns one after the other, and side by side.
-use Rattle.std.proofs.Common.{◌≡◌, ℕ, zero, suc, ◌+◌, ◌<◌, List, [], ◌∷◌, ◌++◌, Result, Ok, Err, IfOk, All, length, length-append, map, set, get_or, subst, arith}
+use Rattle.std.proofs.Common.{◌≡◌, ℕ, zero, suc, ◌+◌, ◌<◌, List, [], ◌∷◌, ◌++◌, Result, Ok, Err, IfOk, All, length, length-append, map, set, get_or, subst, arith, false, ◌∙◌}
 use Rattle.std.proofs.lemmas.List.Elements.{All-append}
 use Rattle.std.proofs.lemmas.List.Sums.{sum_by-append}
 use Rattle.armus_base.specs.Plans.{Action}
@@ -91,6 +91,12 @@ pub stopped :
     {E : Type 0} (f : Frame) (olds news : List Working) (r : Result ℕ E) → IfOk r (λ n. ⊥) → (owns : List (List Action)) × EachActs f owns olds news → TakesTurns f olds news r
 stopped f olds news (Ok n) bad p = absurd bad
 stopped f olds news (Err e) bad p = record { owns = p.0; each = p.1; events = tt; few = tt; ends = tt }
+
+-- no task has the lock then
+pub each_free : {f : Frame} {owns : List (List Action)} {olds news : List Working} → EachActs f owns olds news → All (IsReady f) olds → All (λ (w : Working). w.seat.view.holds ≡ false) news
+each_free no_task all = all_none (λ (w : Working). w.seat.view.holds ≡ false)
+each_free (one_task acts p) all =
+    all_more (λ (w : Working). w.seat.view.holds ≡ false) _ _ (acts.goes.same.holds ∙ (all_first (IsReady _) _ _ all).free) (each_free p (all_rest (IsReady _) _ _ all))
 
 -- side by side
 pub each_on :

@@ -19,7 +19,7 @@ use Rattle.board.specs.Seats.{Frame, IsSeat, Known, TakesIn}
 use Rattle.board.specs.Closing.{AreLastOf}
 use Rattle.board.proofs.Seated.{event_here}
 use Rattle.board_rounds.specs.Turns.{EndsTurn, is_behind, is_done, is_locked_out, is_refused}
-use Rattle.board_rounds.specs.Crews.{AreSettled, HasSeatOf, IsClosed, IsCrew, TakesAll}
+use Rattle.board_rounds.specs.Crews.{HasSeatOf, IsClosed, IsCrew, TakesAll}
 use Rattle.board_rounds.proofs.Closed.{all_exact}
 
 -- one more
@@ -113,56 +113,3 @@ module _ (f : Frame) (seats : List Known) (before now : Known) (crew : IsCrew f 
         has_exact c
         (crew.forked w.0 w.1 j c (subst (λ (x : Place). j < x.done) place l) (ap (λ u. action_at f.plan u j) w.2 ∙ forks));
   }
-
-  -- so at the end each forked task is done or published
-  module _ (detects : f.mode ≡ Detect) (words : List ℕ) (checked : IsCheckedPlan f.plan) (count : length now.view.sight.places ≡ length f.plan.parents) (end : AreLastOf f.plan Detect (seen now.view) words) (ends : (k : Known) → Contains seats k → EndsTurn k) where
-    past : (t : ℕ) → length f.plan.parents ≤ t → (seen now.view).places t ≡ first_place
-    past t l = get_or_past now.view.sight.places t first_place (omega arith)
-
-    same : end.last.places ≡ (seen now.view).places
-    same = end.exact (all_exact f.plan Detect end.last.places end.last.lock checked end.last.lawful (seen now.view) end.far closed past)
-
-    -- nobody is refused, and nobody finds a lock
-    unrefused : (k : Known) → Contains seats k → IsSome (own_place k.view).dropped → ⊥
-    unrefused k i some =
-        let place : end.last.places (task_of k.view) ≡ own_place k.view = (λ j. same j (task_of k.view)) ∙ (taken_here seats before now k takes i).1 in
-        let none : (own_place k.view).dropped ≡ None =
-        ap (λ (x : Place). x.dropped) (sym (end.last.lawful.there (task_of k.view) ∙ place))
-        ∙ plain_undropped f.plan (steps_of end.last.lawful.entries) end.last.lawful.run.0 (task_of k.view) in
-        false≢true (subst IsSome none some)
-
-    detecting : (k : Known) → Contains seats k → avoids k.view.mode ≡ false
-    detecting k i = ap avoids ((crew.each k i).of_board.mode ∙ detects)
-
-    ended : (k : Known) → Contains seats k → EndsTurn k → (action_at f.plan (task_of k.view) (own_place k.view).done ≡ None) ⊎ IsSome (published_after f.plan (task_of k.view) (own_place k.view).done)
-    ended k i (is_done done) =
-        inl (ap (λ (q : Plan). action_at q (task_of k.view) (own_place k.view).done) (sym (crew.each k i).of_board.plan) ∙ done.past)
-    ended k i (is_refused dropped none) = absurd (unrefused k i dropped)
-    ended k i (is_locked_out u mode at other may) = absurd (false≢true (sym (detecting k i) ∙ mode))
-    ended k i (is_behind e published few behind) =
-        (let s = crew.each k i in
-        let is : published_after f.plan (task_of k.view) (own_place k.view).done ≡ Some e =
-        ap (λ (q : Plan). published_after q (task_of k.view) (own_place k.view).done) (sym s.of_board.plan) ∙ sym (event_here k s.task s.own) ∙ published in
-        inr (subst (λ o. IsSome o) (sym is) refl))
-
-    pub settles : AreSettled f.plan Detect words
-    settles = record {
-      last = end.last;
-      settled = λ t forked.
-          let w = whose t (known t forked) in
-          let place : end.last.places t ≡ own_place w.0.view =
-          (λ i. same i t) ∙ subst (λ u. (seen now.view).places u ≡ own_place w.0.view) w.2 (taken_here seats before now w.0 takes w.1).1 in
-          subst (λ (x : Place). (action_at f.plan t x.done ≡ None) ⊎ IsSome (published_after f.plan t x.done)) (sym place)
-          (subst (λ u. (action_at f.plan u (own_place w.0.view).done ≡ None) ⊎ IsSome (published_after f.plan u (own_place w.0.view).done)) w.2 (ended w.0 w.1 (ends w.0 w.1)));
-    }
-      where
-        known : (t : ℕ) → forked_at f.plan (done_by end.last.places) t ≡ true → (seen now.view).exact t ≡ true
-        known t forked =
-            all_exact f.plan Detect end.last.places end.last.lock checked end.last.lawful (seen now.view) end.far closed past t (small t forked)
-            (subst (λ (a : ℕ → Place). forked_at f.plan (done_by a) t ≡ true) same forked)
-          where
-            small : (t : ℕ) → forked_at f.plan (done_by end.last.places) t ≡ true → t < length f.plan.parents
-            small t forked = elim (forked_at_is f.plan (done_by end.last.places) t forked) [
-              | inl z ↦ subst (λ u. u < length f.plan.parents) (sym z) (some_task f.plan checked)
-              | inr g ↦ child_within f.plan (parent_of f.plan t) t (checked.codes.well_formed (parent_of f.plan t) g.0 (Forks t) g.2).0
-            ]

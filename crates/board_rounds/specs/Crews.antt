@@ -11,17 +11,18 @@ use Rattle.board.specs.Closing.{AreLawful}
 use Rattle.board.specs.Views.{own_place, seen, task_of}
 use Rattle.board.specs.Seats.{Frame, IsOf, IsSeat, Known, TakesIn}
 use Rattle.pl_core.specs.declared.place.Place.{Place as Standing}
-use Rattle.board_rounds.specs.Turns.{EachActs, EndsTurn, IsDone, Working, standing_of}
+use Rattle.board_rounds.specs.Turns.{ActsNoMore, EachActs, EndsTurn, Working, standing_of}
 
 -- task 0 is exact, and so is each task that an exact one forks before its place
 pub record IsClosed (plan : Plan) (seen : SeenBy) : Type 0 where
   pub root : seen.exact 0 ≡ true
   pub forked : (t j c : ℕ) → seen.exact t ≡ true → j < (seen.places t).done → action_at plan t j ≡ Some (Forks c) → seen.exact c ≡ true
 
--- a seat of this board, of a task that alone is exact, and that has done no more actions than it has
+-- a seat of this board without the lock, of a task that alone is exact, and that has done no more actions than it has
 pub record IsCrewSeat (board : Frame) (seat : Known) : Type 0 where
   pub of_board : IsOf seat board
   pub kept : IsSeat seat
+  pub free : seat.view.holds ≡ false
   pub task : ℕ
   pub own : seat.view.own ≡ Some task
   pub alone : (u : ℕ) → (seen seat.view).exact u ≡ true → u ≡ task
@@ -51,13 +52,6 @@ IsChildIn tasks seat = (task : Working) × Contains tasks task × Contains task.
 abbrev pub TakesAll : List Known → Known → Known → Type 0
 TakesAll [] before now = now ≡ before
 TakesAll (seat ∷ seats) before now = (between : Known) × TakesIn seat before between × TakesAll seats between now
-
--- the words are those of a lawful state in which each forked task is done or published
-pub record AreSettled (plan : Plan) (mode : Mode) (words : List ℕ) : Type 0 where
-  pub last : AreLawful plan mode words
-  pub settled :
-      (t : ℕ) → forked_at plan (done_by last.places) t ≡ true →
-      (action_at plan t (last.places t).done ≡ None) ⊎ IsSome (published_after plan t (last.places t).done)
 
 -- a seat whose task has made no step
 abbrev pub IsAtStart : Known → Type 0
@@ -124,10 +118,10 @@ pub record Tasks : Type 0 where
 abbrev pub all_of : Tasks → List Working
 all_of tasks = tasks.live ++ tasks.ended
 
--- they are those of a run, and the ended ones have done their code
+-- they are those of a run, and the ended ones act no more
 pub record AreTasksOf (board : Frame) (tasks : Tasks) : Type 0 where
   pub all : IsCrewOf board (all_of tasks)
-  pub ended : All (λ task. IsDone task.seat) tasks.ended
+  pub ended : All (λ task. ActsNoMore task.seat) tasks.ended
 
 -- each of these tasks has come to the end of its turn
 pub record HaveEnded (tasks : List Working) : Type 0 where

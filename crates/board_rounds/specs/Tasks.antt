@@ -1,15 +1,22 @@
 -- What is true of each task.
-use Rattle.std.specs.Prelude.{◌≡◌}
+use Rattle.std.specs.Prelude.{◌≡◌, ℕ, Bool, true, false}
+use Rattle.board.specs.Seats.{Known}
 use Rattle.board.specs.Views.{own_place}
-use Rattle.board_rounds.specs.declared.task.Task.TheInside.{Inside}
 use Rattle.board.specs.inside.Walking.{HasBegun}
-use Rattle.board_rounds.specs.Turns.{Working}
+use Rattle.board_rounds.specs.declared.task.Task.TheInside.{Inside}
+use Rattle.board_rounds.specs.Turns.{HasLeftAll, Working}
 
 -- what a contract sees of a task
 abbrev pub working_of : Inside → Working
 working_of t = record { seat = t.seat; children = t.children.items }
 
--- it has begun so many ops of its code, and made so many events
-pub record IsWorking (t : Inside) : Type 0 where
-  pub begun : HasBegun t.begun t.seat
-  pub events : t.events ≡ (own_place t.seat.view).done
+-- The seat's task has made so many events of its code, and does not hold the lock; and it is refused and a member of nothing, or has begun so many ops.
+pub record HasCome (seat : Known) (begun events : ℕ) (refused : Bool) : Type 0 where
+  pub free : seat.view.holds ≡ false
+  pub events_are : events ≡ (own_place seat.view).done
+  pub begun_are : refused ≡ false → HasBegun begun seat
+  pub left : refused ≡ true → HasLeftAll seat
+
+-- its fields tell how far it has come
+abbrev pub IsWorking : Inside → Type 0
+IsWorking t = HasCome t.seat t.begun t.events t.refused

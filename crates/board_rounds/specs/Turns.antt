@@ -1,7 +1,7 @@
 -- What the turns of tasks make of their seats and of their children's.
-use Rattle.std.specs.Prelude.{true, ◌≡◌, ◌≢◌, ℕ, ◌<◌, ◌≤◌, ◌⊎◌, false, List, [], ◌∷◌, ◌++◌, Some, None, length, IsSome, is_some, Result, IfOk, OnOk, All, sum_by, ◌*◌}
-use Rattle.std.proofs.Common.{suc}
+use Rattle.std.specs.Prelude.{true, ◌≡◌, ◌≢◌, ℕ, ◌+◌, ◌<◌, ◌≤◌, ◌⊎◌, false, List, [], ◌∷◌, ◌++◌, Some, None, length, IsSome, is_some, Result, IfOk, OnOk, All, sum_by, ◌*◌}
 use Rattle.armus_base.specs.declared.event.Event.{Event}
+use Rattle.armus_base.specs.Limits.{max_phasers}
 use Rattle.armus_base.specs.Plans.{Plan, Action, Forks, action_at, actions}
 use Rattle.armus_base.specs.Runs.{Place, IsByCode, IsPrefix, first_place, next_place}
 use Rattle.armus_base.specs.Places.{phases_at_place}
@@ -59,11 +59,13 @@ pub record Acts (board : Frame) (own : List Action) (before now : Working) : Typ
   pub children : now.children ≡ before.children ++ new
   pub seats : AreChildSeats board (forks_of own) new
 
--- a task has made one step
-pub record MakesOne (board : Frame) (before now : Working) : Type 0 where
-  pub action : Action
-  pub acts : Acts board (action ∷ []) before now
-  pub on : (own_place now.seat.view).done ≡ suc (own_place before.seat.view).done
+-- a task has made so many steps, one at least: one step of its code, or a refusal and a drop of each of its phasers
+pub record MakesSome (board : Frame) (made : ℕ) (before now : Working) : Type 0 where
+  pub own : List Action
+  pub acts : Acts board own before now
+  pub counted : made ≡ length own
+  pub some : 0 < made
+  pub few : made ≤ max_phasers + 1
   pub within : (own_place before.seat.view).done < length (actions before.seat.view.plan (task_of before.seat.view))
 
 -- task u is seen where nothing is seen of it, or as a member of the event's phaser below its phase
@@ -78,6 +80,15 @@ pub record IsDone (seat : Known) : Type 0 where
   pub unrefused : (own_place seat.view).dropped ≡ None
   pub past : action_at seat.view.plan (task_of seat.view) (own_place seat.view).done ≡ None
 
+-- the seat's task is refused, and a member of nothing
+pub record HasLeftAll (seat : Known) : Type 0 where
+  pub refused : IsSome (own_place seat.view).dropped
+  pub nothing : (p : ℕ) → own_phase seat.view p ≡ None
+
+-- the seat's task acts no more: it has done its code, or is refused
+abbrev pub ActsNoMore : Known → Type 0
+ActsNoMore seat = IsDone seat ⊎ HasLeftAll seat
+
 -- how far the seat's task has come
 abbrev pub standing_of : Known → Standing
 standing_of seat = record { events = (own_place seat.view).done; refused = is_some (own_place seat.view).dropped }
@@ -87,7 +98,7 @@ standing_of seat = record { events = (own_place seat.view).done; refused = is_so
 -- at which it may hold the lock.
 pub data EndsTurn (seat : Known) : Type 0 where
   is_done : IsDone seat → EndsTurn seat
-  is_refused : IsSome (own_place seat.view).dropped → ((p : ℕ) → own_phase seat.view p ≡ None) → EndsTurn seat
+  is_refused : HasLeftAll seat → EndsTurn seat
   is_behind :
       (e : Event) → event_of seat ≡ Some e → (seen seat.view).scanned < length seat.view.plan.parents →
       IsSeenBehind seat e (seen seat.view).scanned → EndsTurn seat
@@ -95,10 +106,11 @@ pub data EndsTurn (seat : Known) : Type 0 where
       (u : ℕ) → avoids seat.view.mode ≡ true → IsBeforeAwait seat → u ≢ task_of seat.view →
       MayHold seat.view.plan u ((seen seat.view).places u) → EndsTurn seat
 
--- a task of this board whose turn may come
+-- a task of this board whose turn may come: its seat does not hold the lock
 pub record IsReady (board : Frame) (task : Working) : Type 0 where
   pub of_board : IsOf task.seat board
   pub kept : IsSeat task.seat
+  pub free : task.seat.view.holds ≡ false
 
 -- each task has made its own steps
 pub data EachActs (board : Frame) : List (List Action) → List Working → List Working → Type 0 where
@@ -112,5 +124,5 @@ pub record TakesTurns {E : Type 0} (board : Frame) (befores nows : List Working)
   pub owns : List (List Action)
   pub each : EachActs board owns befores nows
   pub events : IfOk counted (λ n. n ≡ sum_by length owns)
-  pub few : IfOk counted (λ n. n ≤ length befores * 524288)
+  pub few : IfOk counted (λ n. n ≤ length befores * 1048576)
   pub ends : OnOk counted (All (λ task. EndsTurn task.seat) nows)

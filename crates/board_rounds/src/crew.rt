@@ -4,15 +4,16 @@ ghost use Rattle.std.specs.List.Sorted.{IsPermutation};
 ghost use Rattle.armus_base.specs.Limits.{max_tasks};
 ghost use Rattle.armus_base.specs.Runs.{first_place};
 ghost use Rattle.armus_base.specs.Seats.{seen_by_child};
-ghost use Rattle.board.specs.declared.mode.Mode.TheVariants.{Detect};
 ghost use Rattle.board.specs.Seats.{IsNewSeat, IsOf, IsSeat, Known, nothing_seen};
 ghost use Rattle.board.specs.Steps.{IsSameSeat};
 ghost use Rattle.board.specs.Views.{own_place, seen};
-ghost use Rattle.board_rounds.specs.Turns.{IsDone, IsReady, Working};
+ghost use Rattle.board_rounds.specs.Turns.{ActsNoMore, IsReady, Working};
 ghost use Rattle.board_rounds.specs.Crews.{ArePlacesOf, AreTasksOf, HaveEnded, IsAtStart, IsChildIn, KnowsTasks, MakesRound, all_of, emptied, fresh, fresh_of, left_to};
 
+use crate::Task;
 use crate::ending::{note_places, take_in_all};
-use crate::{Task, round};
+use crate::rounds::take_turns;
+use crate::worker_cells::{WorkerCells, provide};
 use adaptive::Wanted;
 use armus_base::{Gate, List, NoMemory, Plan};
 use board::{Board, TaskSeat, ViewSeat};
@@ -21,11 +22,13 @@ use std::alloc::Global;
 use std::marker::Model;
 use std::thread::Threads;
 
-/// The tasks of a run on a board: those that live, in order of number, and those that have done their code.
+/// The tasks of a run on a board: those that live, in order of number, and those that act no more.
 #[derive(Drop)]
 pub struct Crew {
     pub(crate) live: Vec<Task>,
     pub(crate) ended: Vec<Task>,
+    // of each worker
+    cells: Vec<WorkerCells>,
 }
 
 impl Model for Crew {
@@ -50,6 +53,7 @@ impl Crew {
         Ok(Crew {
             live,
             ended: Vec::new(alloc),
+            cells: Vec::new(alloc),
         })
     }
 
@@ -73,22 +77,15 @@ impl Crew {
         gate: &G,
     ) -> Result<u32, NoMemory>
         requires plan { board.now.plan ≡ plan.now }
-        requires detects { board.now.mode ≡ Detect }
         requires tasks { AreTasksOf board.now self.old }
         ensures tasks { OnOk result (AreTasksOf board.now self.new) }
         ensures further { IfOk result (λ made. 0 < made → left_to plan.now self.new < left_to plan.now self.old) }
         ensures quiet { IfOk result (λ made. made ≡ 0 → HaveEnded (all_of self.new)) }
     {
-        let made = go_round(
-            rt,
-            alloc,
-            board,
-            plan,
-            wanted,
-            workers,
-            gate,
-            &mut self.live,
-        )?;
+        provide(&mut self.cells, workers)?;
+        let cells = self.cells.as_mut_slice();
+        let live = &mut self.live;
+        let made = go_round(rt, alloc, board, plan, wanted, workers, gate, cells, live)?;
         retire(alloc, plan, &mut self.live, &mut self.ended)?;
         Ok(made)
     }
@@ -134,25 +131,19 @@ fn go_round<R: Threads + Sync, G: Gate>(
     wanted: Wanted,
     workers: u8,
     gate: &G,
+    cells: &mut [WorkerCells],
     tasks: &mut Vec<Task>,
 ) -> Result<u32, NoMemory>
     requires plan { board.now.plan ≡ plan.now }
-    requires detects { board.now.mode ≡ Detect }
     requires ready { All (IsReady board.now) tasks.old.items }
     requires no_child { All (λ task. task.children ≡ []) tasks.old.items }
     requires few { length tasks.old.items ≤ max_tasks }
+    requires enough { workers ≤ length cells.old }
+    requires cells { 1 ≤ length cells.old }
     ensures round { IfOk result (MakesRound board.now tasks.old.items tasks.new.items) }
 {
-    let made = round(
-        rt,
-        alloc,
-        tasks.as_mut_slice(),
-        board,
-        plan,
-        wanted,
-        workers,
-        gate,
-    )?;
+    let turned = tasks.as_mut_slice();
+    let made = take_turns(rt, alloc, board, plan, wanted, gate, workers, cells, turned)?;
     take_on(alloc, tasks)?;
     Ok(made)
 }
@@ -198,7 +189,7 @@ fn add_children(alloc: Global, task: &mut Task, children: &mut Vec<Task>) -> Res
     Ok(())
 }
 
-// Takes the tasks that have done their code out of those that live.
+// Takes the tasks that act no more out of those that live.
 fn retire(
     alloc: Global,
     plan: &Plan,
@@ -206,18 +197,18 @@ fn retire(
     ended: &mut Vec<Task>,
 ) -> Result<(), NoMemory>
     requires plan { All (λ task. task.seat.view.plan ≡ plan.now) live.old.items }
-    requires ended { All (λ task. IsDone task.seat) ended.old.items }
+    requires ended { All (λ task. ActsNoMore task.seat) ended.old.items }
     ensures same { OnOk result (IsPermutation (live.old.items ++ ended.old.items) (live.new.items ++ ended.new.items)) }
-    ensures ended { OnOk result (All (λ task. IsDone task.seat) ended.new.items) }
+    ensures ended { OnOk result (All (λ task. ActsNoMore task.seat) ended.new.items) }
 {
-    if !has_done(plan, live.as_slice()) {
+    if !some_ended(plan, live.as_slice()) {
         return Ok(());
     }
     let tasks = std::mem::replace(live, Vec::new(alloc));
     sort_out(plan, tasks, live, ended)
 }
 
-// Puts each of these tasks among those that live or, if it has done its code, among the ended ones.
+// Puts each of these tasks among those that live or, if it acts no more, among the ended ones.
 fn sort_out(
     plan: &Plan,
     tasks: Vec<Task>,
@@ -226,12 +217,12 @@ fn sort_out(
 ) -> Result<(), NoMemory>
     requires plan { All (λ task. task.seat.view.plan ≡ plan.now) tasks.items }
     requires none { live.old.items ≡ [] }
-    requires ended { All (λ task. IsDone task.seat) ended.old.items }
+    requires ended { All (λ task. ActsNoMore task.seat) ended.old.items }
     ensures same { OnOk result (IsPermutation (ended.old.items ++ tasks.items) (live.new.items ++ ended.new.items)) }
-    ensures ended { OnOk result (All (λ task. IsDone task.seat) ended.new.items) }
+    ensures ended { OnOk result (All (λ task. ActsNoMore task.seat) ended.new.items) }
 {
     for task in tasks {
-        if task.is_done(plan) {
+        if task.has_ended(plan) {
             ended.push(task)?;
         } else {
             live.push(task)?;
@@ -240,12 +231,12 @@ fn sort_out(
     Ok(())
 }
 
-// Whether one of these tasks has done its code.
-fn has_done(plan: &Plan, tasks: &[Task]) -> bool
+// Whether one of these tasks acts no more.
+fn some_ended(plan: &Plan, tasks: &[Task]) -> bool
     requires { All (λ task. task.seat.view.plan ≡ plan.now) tasks.now }
 {
     for task in tasks {
-        if task.is_done(plan) {
+        if task.has_ended(plan) {
             return true;
         }
     }

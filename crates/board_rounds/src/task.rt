@@ -1,14 +1,16 @@
 // A task of a run: its seat, how far it has come, and the seats of the children that it forked.
-ghost use Rattle.std.specs.Prelude.{◌≡◌, ◌+◌, ◌++◌, ◌≤◌, ◌<◌, ◌^◌, ℕ, [], ◌∷◌, List, Some, None, false, true, IfOk, IfSome, IsSome, OnOk, OnErr, length, slice_get};
-ghost use Rattle.armus_base.specs.Plans.{Action, Forks};
+ghost use Rattle.std.specs.Prelude.{◌≡◌, ◌+◌, ◌++◌, ◌≤◌, ◌<◌, ◌^◌, ℕ, [], ◌∷◌, List, Some, None, false, true, IfOk, IfSome, IsSome, OnOk, OnErr, length};
+ghost use Rattle.armus_base.specs.Plans.{Action};
 ghost use Rattle.armus_base.specs.Runs.{first_place};
-ghost use Rattle.board.specs.declared.mode.Mode.TheVariants.{Detect};
-ghost use Rattle.board.specs.Views.{next_action, own_place};
-ghost use Rattle.board.specs.Seats.{Known, IsOf, MakesStep, event_of};
-ghost use Rattle.board.specs.inside.Walking.{IsActionOfPlan, begins};
-ghost use Rattle.board_rounds.specs.Turns.{Acts, AreChildSeats, EndsTurn, IsDone, MakesOne, forks_of, standing_of};
+ghost use Rattle.board.specs.Views.{own_place};
+ghost use Rattle.board.specs.Seats.{IsOf, event_of};
+ghost use Rattle.board_rounds.specs.Turns.{Acts, ActsNoMore, EndsTurn, MakesSome, standing_of};
 
-use armus_base::{Gate, List, NoMemory, Op, Plan, Point, TaskId};
+use crate::beginning::{begin, op_at};
+use crate::deciding::Attempt;
+use crate::worker_cells::WorkerCells;
+use adaptive::Wanted;
+use armus_base::{Gate, List, NoMemory, Plan, Point, TaskId};
 use board::{Board, TaskSeat};
 use phase_scan::{Look, look};
 use pl_core::Place;
@@ -23,6 +25,7 @@ pub struct Task {
     begun: u32,
     // how many events of its code it has made
     events: u32,
+    refused: bool,
     children: Vec<TaskSeat>,
 }
 
@@ -38,68 +41,6 @@ impl Model for Task {
     ghost invariant = { IsWorking };
 }
 
-// The op at an index of a code.
-fn op_at(code: &[Op], index: u32) -> Option<Op>
-    ensures { result ≡ slice_get code.now index }
-{
-    code.get(index as usize).copied()
-}
-
-// Splits the seat of a child off, for which there is room before.
-fn fork(
-    seat: &mut TaskSeat,
-    children: &mut Vec<TaskSeat>,
-    alloc: Global,
-    board: &Board,
-    c: TaskId,
-) -> Result<(), NoMemory>
-    requires made { IsOf seat.old board.now }
-    requires unlocked { seat.old.view.holds ≡ false }
-    requires next { next_action seat.old.view ≡ Some (Forks c.0) }
-    ensures step { OnOk result (MakesStep (Forks c.0) seat.old seat.new) }
-    ensures children { OnOk result ((new : List Known) × (children.new.items ≡ children.old.items ++ new) × AreChildSeats board.now (c.0 ∷ []) new) }
-    ensures same { OnErr result (seat.new ≡ seat.old) }
-    ensures same_children { OnErr result (children.new.items ≡ children.old.items) }
-{
-    children.reserve(1)?;
-    let child = seat.fork(alloc, board, c)?;
-    children.push(child)?;
-    Ok(())
-}
-
-// Makes the step with which an op begins, and keeps the seat of a child that it forks.
-fn make_step(
-    seat: &mut TaskSeat,
-    children: &mut Vec<TaskSeat>,
-    alloc: Global,
-    board: &Board,
-    op: Op,
-) -> Result<(), NoMemory>
-    requires made { IsOf seat.old board.now }
-    requires detects { board.now.mode ≡ Detect }
-    requires unlocked { seat.old.view.holds ≡ false }
-    requires next { next_action seat.old.view ≡ Some (begins op) }
-    requires plan { IsActionOfPlan board.now.plan (begins op) }
-    ensures step { OnOk result (MakesStep (begins op) seat.old seat.new) }
-    ensures children { OnOk result ((new : List Known) × (children.new.items ≡ children.old.items ++ new) × AreChildSeats board.now (forks_of (begins op ∷ [])) new) }
-    ensures same { OnErr result (seat.new ≡ seat.old) }
-    ensures same_children { OnErr result (children.new.items ≡ children.old.items) }
-{
-    match op {
-        Op::Make { p } => seat.make(board, p),
-        Op::Reg { c, p } => seat.reg(board, c, p),
-        Op::Adv { p } => {
-            seat.adv(board, p);
-        }
-        Op::Drop { p } => seat.drop_phaser(board, p),
-        Op::Await { p } => {
-            seat.publish(board, p);
-        }
-        Op::Fork { c } => return fork(seat, children, alloc, board, c),
-    }
-    Ok(())
-}
-
 impl Task {
     /// The task of a seat that has made no step. It stands before its first op, and has no child's seat.
     pub fn new(alloc: Global, seat: TaskSeat) -> Task
@@ -112,6 +53,7 @@ impl Task {
             seat,
             begun: 0,
             events: 0,
+            refused: false,
             children: Vec::new(alloc),
         }
     }
@@ -138,15 +80,18 @@ impl Task {
     {
         Place {
             events: self.events,
-            refused: false,
+            refused: self.refused,
         }
     }
 
-    /// Whether its code is done.
-    pub fn is_done(&self, plan: &Plan) -> bool
+    /// Whether it acts no more: its code is done, or it is refused.
+    pub fn has_ended(&self, plan: &Plan) -> bool
         requires { self.now.seat.view.plan ≡ plan.now }
-        ensures { result ≡ true → IsDone self.now.seat }
+        ensures { result ≡ true → ActsNoMore self.now.seat }
     {
+        if self.refused {
+            return true;
+        }
         let code = plan.code(self.seat.id());
         self.seat.event().is_none() && op_at(code, self.begun).is_none()
     }
@@ -159,74 +104,88 @@ impl Task {
         self.seat
     }
 
-    /// Its turn: it acts until it is done, or is published and finds a member behind. It answers how many events happened. The gate is called before each op.
-    pub fn turn<G: Gate>(
+    /// Its turn: it acts until it is done, or is published and finds a member behind, or is refused, or finds the lock taken. It answers how many events
+    /// happened. The gate is called before each op that it tries.
+    pub(crate) fn turn<G: Gate>(
         &mut self,
         alloc: Global,
         board: &Board,
         plan: &Plan,
+        wanted: Wanted,
+        cells: &mut WorkerCells,
         gate: &G,
     ) -> Result<u32, NoMemory>
         requires made { IsOf self.old.seat board.now }
         requires plan { board.now.plan ≡ plan.now }
-        requires detects { board.now.mode ≡ Detect }
         ensures acts { (own : List Action) × Acts board.now own self.old self.new × IfOk result (λ n. n ≡ length own) }
-        ensures few { IfOk result (λ n. n ≤ 524288) }
+        ensures few { IfOk result (λ n. n ≤ 1048576) }
         ensures ends { OnOk result (EndsTurn self.new.seat) }
     {
         let _ = self.seat.id();
         let mut made = 0;
-        'turn: while self.step(alloc, board, plan, gate)? {
-            made += 1;
+        'turn: while let Some(more) = self.go_on(alloc, board, plan, wanted, cells, gate)? {
+            made += more;
         }
         Ok(made)
     }
 
-    // Makes its next step, if it may; answers whether it did.
-    fn step<G: Gate>(
+    // Makes its next event, if it may, and after a refusal its drops; answers how many events happened.
+    fn go_on<G: Gate>(
         &mut self,
         alloc: Global,
         board: &Board,
         plan: &Plan,
+        wanted: Wanted,
+        cells: &mut WorkerCells,
         gate: &G,
-    ) -> Result<bool, NoMemory>
+    ) -> Result<Option<u32>, NoMemory>
         requires made { IsOf self.old.seat board.now }
         requires plan { board.now.plan ≡ plan.now }
-        requires detects { board.now.mode ≡ Detect }
-        ensures one { IfOk result (λ b. b ≡ true → MakesOne board.now self.old self.new) }
-        ensures none { IfOk result (λ b. b ≡ false → Acts board.now [] self.old self.new × EndsTurn self.new.seat) }
+        ensures some { IfOk result (λ o. IfSome o (λ n. MakesSome board.now n self.old self.new)) }
+        ensures none { IfOk result (λ o. o ≡ None → Acts board.now [] self.old self.new × EndsTurn self.new.seat) }
         ensures err { OnErr result (Acts board.now [] self.old self.new) }
     {
+        let t = self.seat.id();
+        if self.refused {
+            return Ok(None);
+        }
         if self.seat.event().is_some() {
             return Ok(self.pass(board));
         }
-        let Some(op) = op_at(plan.code(self.seat.id()), self.begun) else {
-            return Ok(false);
+        let Some(op) = op_at(plan.code(t), self.begun) else {
+            return Ok(None);
         };
-        gate.at(Point::Op {
-            t: self.seat.id(),
-            k: self.begun,
-        });
-        make_step(&mut self.seat, &mut self.children, alloc, board, op)?;
-        self.begun += 1;
-        self.events += 1;
-        Ok(true)
+        gate.at(Point::Op { t, k: self.begun });
+        let children = &mut self.children;
+        match begin(&mut self.seat, children, alloc, board, op, cells, wanted)? {
+            Attempt::LockedOut => Ok(None),
+            Attempt::Begun => {
+                self.begun += 1;
+                self.events += 1;
+                Ok(Some(1))
+            }
+            Attempt::Refused(drops) => {
+                self.refused = true;
+                Ok(Some(drops + 1))
+            }
+        }
     }
 
-    // Passes the await on which it is published, if its event is reached; answers whether it is.
-    fn pass(&mut self, board: &Board) -> bool
+    // Passes the await on which it is published, if its event is reached; answers how many events happened.
+    fn pass(&mut self, board: &Board) -> Option<u32>
         requires made { IsOf self.old.seat board.now }
+        requires unrefused { (own_place self.old.seat.view).dropped ≡ None }
         requires event { IsSome (event_of self.old.seat) }
-        ensures one { result ≡ true → MakesOne board.now self.old self.new }
-        ensures none { result ≡ false → Acts board.now [] self.old self.new × EndsTurn self.new.seat }
+        ensures some { IfSome result (λ n. MakesSome board.now n self.old self.new) }
+        ensures none { result ≡ None → Acts board.now [] self.old self.new × EndsTurn self.new.seat }
     {
         let _ = self.seat.id();
         match look(&mut self.seat, board) {
-            Look::Behind { t: _, phase: _ } => false,
+            Look::Behind { t: _, phase: _ } => None,
             Look::Reached => {
                 self.seat.withdraw(board);
                 self.events += 1;
-                true
+                Some(1)
             }
         }
     }

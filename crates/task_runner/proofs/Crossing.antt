@@ -14,15 +14,12 @@ use Rattle.armus_base.specs.contracts.plan.Plan as plans
 use Rattle.adaptive.specs.contracts.analysis.Wanted as wanteds
 use Rattle.board.specs.contracts.board.Board as boards
 use Rattle.board.proofs.Sending.{board_sync}
-use Rattle.board_rounds.proofs.Crossing.{global_sync, plan_sync, task_send}
+use Rattle.board_rounds.proofs.Crossing.{global_sync, plan_sync, task_send, wanted_sync, worker_cells_send}
 use Rattle.board_rounds.specs.contracts.crew.Crew as crews
 
 -- the tasks of a run may be handed to a thread
 pub crew_send : IsSend crews.the_row
-crew_send = search (sendable, crosses, task_send, heap.the_send, heap.the_sync) depth 30
-
-pub wanted_sync : IsSync wanteds.the_row
-wanted_sync = search (sendable, crosses) depth 30
+crew_send = search (sendable, crosses, task_send, worker_cells_send, heap.the_send, heap.the_sync) depth 30
 
 pub round_send :
     (ν : Sym) (a b c d e h i j : NamedLft) (X Y : RattleType) (one : One X.mir) (other : One Y.mir) → IsSync X → IsSync Y →

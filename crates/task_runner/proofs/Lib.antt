@@ -18,5 +18,7 @@ pub mod Possible
 pub mod TellingMore
 pub mod Resting
 pub mod Crossing
+pub mod BoardPlaces
 pub mod BoardEnds
+pub mod AvoidedRests
 pub mod TellingAll

@@ -11,12 +11,12 @@ use Rattle.armus_base.specs.Runs.{HasEnded, IsReachable, Place, places, state_af
 use Rattle.armus_base.specs.Serial.{IsSerialAvoidedEnd, IsSerialAvoidedRun, RoundBelow, opens, rounds}
 use Rattle.armus_base.specs.States.{Step}
 use Rattle.armus_base.proofs.OneSerialEnd.{one_serial_end}
-use Rattle.armus_base.proofs.SerialFinalIsAvoided.{round_ended}
+use Rattle.armus_base.proofs.SerialFinalIsAvoided.{round_ended, serial_final_is_avoided}
 use Rattle.armus_base.proofs.Stepping.{acting_forked}
 use Rattle.pl_core.specs.Stands.{IsEnabled}
 use Rattle.pl_core.specs.Worlds.{IsOpeningWorld, WorldValue, places_at, places_of, state_of}
 use Rattle.pl_core.proofs.Opening.{first_places}
-use Rattle.task_runner.specs.AvoidedRuns.{HasRoundBelow, IsSerialEnd, LeadsTo}
+use Rattle.task_runner.specs.AvoidedRuns.{HasRoundBelow, IsAvoidedEnd, IsSerialEnd, LeadsTo}
 use Rattle.task_runner.proofs.AvoidedEnds.{ended_stops}
 use Rattle.task_runner.proofs.AvoidedSteps.{leads_state}
 
@@ -60,20 +60,25 @@ serial_ended plan old new moved is unmoved serial round =
       leads = subst (λ q. LeadsTo q serial.steps new) is (subst (λ g. LeadsTo old.plan g new) same run.1);
     }
 
--- there nobody may go on
-pub nobody_goes_on : (plan : Plan) (w : WorldValue) → IsCheckedPlan plan → HasSerialEnd plan w → (t : ℕ) → t < length w.plan.parents → IsEnabled w t → ⊥
-nobody_goes_on plan w checked end t l enabled =
-    let is = end.leads.plan_is in
-    let reach : IsReachable plan (places_of w) = record { steps = end.steps; run = end.leads.run; there = λ u. ap (λ a. a u) end.leads.there } in
-    let state = leads_state plan checked end.steps w end.leads in
+-- where one more round has no step nobody may go on
+pub nobody_may_go_on :
+    (plan : Plan) (w : WorldValue) (steps : List Step) → IsCheckedPlan plan → LeadsTo plan steps w → RoundBelow plan (length plan.parents) steps steps →
+    (t : ℕ) → t < length w.plan.parents → IsEnabled w t → ⊥
+nobody_may_go_on plan w steps checked leads round t l enabled =
+    let is = leads.plan_is in
+    let reach : IsReachable plan (places_of w) = record { steps = steps; run = leads.run; there = λ u. ap (λ a. a u) leads.there } in
+    let state = leads_state plan checked steps w leads in
     let forked = acting_forked w.plan (state_of w) t enabled.0 enabled.2 in
-    let ended = round_ended plan (length plan.parents) end.steps end.steps end.ended.1 (omega arith) t (subst (λ q. t < length q.parents) is l)
+    let ended = round_ended plan (length plan.parents) steps steps round (omega arith) t (subst (λ q. t < length q.parents) is l)
     (ap (λ s. s.forked t) state ∙ forked) in
     let here : HasEnded plan (state_of w) (places_of w t) t =
     subst (λ s. HasEnded plan s (places_of w t) t) state
-    (subst (λ (a : ℕ → Place). HasEnded plan (state_after end.steps) (a t) t) end.leads.there ended) in
+    (subst (λ (a : ℕ → Place). HasEnded plan (state_after steps) (a t) t) leads.there ended) in
     ended_stops w (subst IsCheckedPlan (sym is) checked) (subst (λ q. IsReachable q (places_of w)) (sym is) reach) t
     (subst (λ q. HasEnded q (state_of w) (places_of w t) t) (sym is) here) enabled
+
+pub nobody_goes_on : (plan : Plan) (w : WorldValue) → IsCheckedPlan plan → HasSerialEnd plan w → (t : ℕ) → t < length w.plan.parents → IsEnabled w t → ⊥
+nobody_goes_on plan w checked end = nobody_may_go_on plan w end.steps checked end.leads end.ended.1
 
 -- the value of the end
 pub serial_end_if_ok :
@@ -91,6 +96,13 @@ serial_end_if_ok plan w end nobody (Ok value) is checked =
       is_it = is ∙ ap (λ q. final_of q (state_of w)) same;
     }
 serial_end_if_ok plan w end nobody (Err e) is checked = is
+
+-- which is that of the end of a maximal avoided run
+pub avoided_end_if_ok :
+    (plan : Plan) (r : Result Final NoMemory) → IfOk r (λ end. IsSerialEnd plan end) → OnOk r (IsCheckedPlan plan) → IfOk r (λ end. IsAvoidedEnd plan end)
+avoided_end_if_ok plan (Ok value) is checked =
+    record { state = is.state; final = serial_final_is_avoided plan is.state checked is.final; nobody = is.nobody; is_it = is.is_it }
+avoided_end_if_ok plan (Err e) is checked = is
 
 -- the empty run leads to the opening world
 pub serial_begun : (plan : Plan) (w : WorldValue) → IsOpeningWorld plan w → HasSerialRun plan w

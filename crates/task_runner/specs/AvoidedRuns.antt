@@ -1,7 +1,8 @@
--- Runs that avoid deadlock with one worker, and the worlds to which they lead.
+-- Runs that avoid deadlock, with one worker and with several, and the worlds to which they lead.
 use Rattle.std.specs.Prelude.{◌≡◌, ℕ, ◌+◌, ◌-◌, Bool, false, List, [], ◌∷◌, ◌++◌, if◌then◌else◌, length, MatchBool}
 use Rattle.std.proofs.Common.{suc}
 use Rattle.armus_base.specs.declared.ending.Final.{Final}
+use Rattle.armus_base.specs.Avoidance.{IsAvoidedFinal}
 use Rattle.armus_base.specs.CheckedPlans.{IsCheckedPlan}
 use Rattle.armus_base.specs.Deadlocks.{NobodyDead}
 use Rattle.armus_base.specs.Finals.{final_of}
@@ -11,6 +12,13 @@ use Rattle.armus_base.specs.Serial.{GoesOn, IsSerialAvoidedEnd, IsSerialAvoidedF
 use Rattle.armus_base.specs.States.{State, Step}
 use Rattle.pl_core.specs.declared.place.Place.{Place}
 use Rattle.pl_core.specs.Worlds.{WorldValue, places_of}
+
+-- the value is that of a state in which a maximal avoided run of the plan ends, and nobody is dead in it
+pub record IsAvoidedEnd (plan : Plan) (end : Final) : Type 0 where
+  pub state : State
+  pub final : IsAvoidedFinal plan state
+  pub nobody : NobodyDead state
+  pub is_it : end ≡ final_of plan state
 
 -- the value is that of the state in which the one serial avoided run of the plan ends, and nobody is dead in it
 pub record IsSerialEnd (plan : Plan) (end : Final) : Type 0 where

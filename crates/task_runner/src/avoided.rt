@@ -1,11 +1,12 @@
-// The run that avoids deadlock with one worker.
-ghost use Rattle.std.specs.Prelude.{◌≡◌, ◌<◌, Bool, true, false, length, IfOk, OnOk};
+// The run that avoids deadlock.
+ghost use Rattle.std.specs.Prelude.{◌≡◌, ◌<◌, ◌≤◌, Bool, true, false, length, IfOk, OnOk};
 ghost use Rattle.armus_base.specs.Deadlocks.{NobodyDead};
 ghost use Rattle.pl_core.specs.Worlds.{state_of};
-ghost use Rattle.task_runner.specs.AvoidedRuns.{HasPart, HasRoundBelow, IsSerialEnd, left_in};
+ghost use Rattle.task_runner.specs.AvoidedRuns.{HasPart, HasRoundBelow, IsAvoidedEnd, IsSerialEnd, left_in};
 ghost use Rattle.task_runner.specs.Turns.{TellsForked};
 
 use crate::RunOptions;
+use crate::avoided_board::avoid_on_board;
 use crate::round::{mark_forked, may_go_on};
 use adaptive::Wanted;
 use armus_base::{Final, Gate, NoMemory, Plan, TaskId};
@@ -14,9 +15,10 @@ use pl_core::World;
 use std::alloc::Global;
 use std::thread::Threads;
 
-/// The state in which the serial avoided run of the plan ends; nobody is dead in it. The run goes by rounds: in a round each task that was forked
-/// before it acts, in order of number, until it is done, or waits on an event that is not reached, or is refused, which it is exactly where it
-/// would be dead. It calls the gate before each op, of which no clause speaks, and the number of workers has no effect.
+/// The state in which a maximal avoided run of the plan ends; nobody is dead in it, and in the run each await was refused exactly where its task would
+/// have been dead. With one worker it is the serial avoided run, which goes by rounds: in a round each task that was forked before it acts, in order of
+/// number, until it is done, or waits on an event that is not reached, or is refused. With several workers the run goes by rounds on a board that avoids
+/// deadlock, and who is refused may depend on the order in which they act. It calls the gate before each op, of which no clause speaks. No call waits.
 pub fn run_avoid<R: Threads + Sync, G: Gate>(
     rt: &R,
     alloc: Global,
@@ -24,19 +26,36 @@ pub fn run_avoid<R: Threads + Sync, G: Gate>(
     options: &RunOptions,
     gate: &G,
 ) -> Result<Final, NoMemory>
-    requires { options.now.live ≡ false }
-    ensures end { IfOk result (λ end. IsSerialEnd plan.now end) }
+    requires workers { 1 ≤ options.now.workers × options.now.workers ≤ 64 }
+    requires quiet { options.now.live ≡ false }
+    ensures end { IfOk result (λ end. IsAvoidedEnd plan.now end) }
+    ensures serial { options.now.workers ≡ 1 → IfOk result (λ end. IsSerialEnd plan.now end) }
 {
-    let _ = rt;
+    if options.workers < 2 {
+        return avoid_in_order(alloc, plan, options.wanted, gate);
+    }
+    avoid_on_board(rt, alloc, plan, options, gate)
+}
+
+// The serial avoided run.
+fn avoid_in_order<G: Gate>(
+    alloc: Global,
+    plan: &Plan,
+    wanted: Wanted,
+    gate: &G,
+) -> Result<Final, NoMemory>
+    ensures end { IfOk result (λ end. IsAvoidedEnd plan.now end) }
+    ensures serial { IfOk result (λ end. IsSerialEnd plan.now end) }
+{
     let mut world = World::start(alloc, plan)?;
     let count = plan.tasks() as usize;
     let mut forked = vec![in alloc; false; count]?;
-    'rounds: while avoided_round(alloc, &mut world, &mut forked, options.wanted, gate)? {}
+    'rounds: while avoided_round(alloc, &mut world, &mut forked, wanted, gate)? {}
     world.finish(alloc)
 }
 
-// One turn of each task that is forked now, in order of number; answers whether an event happened.
-fn avoided_round<G: Gate>(
+/// One turn of each task that is forked now, in order of number; answers whether an event happened.
+pub(crate) fn avoided_round<G: Gate>(
     alloc: Global,
     world: &mut World,
     forked: &mut [bool],

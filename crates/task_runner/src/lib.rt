@@ -2,6 +2,8 @@
 #![tactic(auto)]
 
 mod avoided;
+mod avoided_board;
+mod avoided_rest;
 mod detect;
 mod detect_rounds;
 mod ending;

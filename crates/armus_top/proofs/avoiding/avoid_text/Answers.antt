@@ -6,7 +6,7 @@ use Rattle.armus_top.proofs.Answering.{by_end}
 use Rattle.armus_top.proofs.avoiding.avoid_text.Goals as goal
 
 pub answer_avoid-requires : goal.answer_avoid-requires
-answer_avoid-requires g c = (search rules, (search rules, (search rules, unfolded_is_checked _ _ c.in-Ok.ensures.plan.unfolds)))
+answer_avoid-requires g c = (search rules, (search rules, (search rules, (c.requires.workers, unfolded_is_checked _ _ c.in-Ok.ensures.plan.unfolds))))
 
 pub returns-in-Ok-clause-done : goal.returns-in-Ok-clause-done
 returns-in-Ok-clause-done g c = c.answer_avoid.ensures.done _ (_, c.in-Ok.ensures.plan)

@@ -10,23 +10,23 @@ use Rattle.board_rounds.proofs.crew.go_round.Goals as goal
 pub take_on-requires : goal.take_on-requires
 take_on-requires g c =
     let turns = c.in_ok-made.ensures.turns in
-    let olds : c.as_mut_slice.result.now ≡ c.args.tasks.now.items = c.as_mut_slice.ensures.value in
+    let olds : c.as_mut_slice-turned.result.now ≡ c.args.tasks.now.items = c.as_mut_slice-turned.ensures.value in
     let none = subst (λ (ws : List Working). All (λ (w : Working). w.children ≡ []) ws) (sym olds) c.requires.no_child in
-    let whole = take_front c.round.new.tasks (drop (length c.round.new.tasks) c.args.tasks.now.items) c.args.tasks.now.len (search rules) in record {
+    let whole = take_front c.take_turns.new.tasks (drop (length c.take_turns.new.tasks) c.args.tasks.now.items) c.args.tasks.now.len (search rules) in record {
       start = λ seat at.
-          starts c.args.board.now turns.owns c.as_mut_slice.result.now c.round.new.tasks turns.each (to_each (λ (w : Working). w.children ≡ []) c.as_mut_slice.result.now none) seat
+          starts c.args.board.now turns.owns c.as_mut_slice-turned.result.now c.take_turns.new.tasks turns.each (to_each (λ (w : Working). w.children ≡ []) c.as_mut_slice-turned.result.now none) seat
           (subst (λ (ws : List Working). IsChildIn ws seat) whole at);
     }
 
 pub returns : goal.returns
 returns g c =
     let turns = c.in_ok-made.ensures.turns in
-    let whole = take_front c.round.new.tasks (drop (length c.round.new.tasks) c.args.tasks.now.items) c.args.tasks.now.len (search rules) in
+    let whole = take_front c.take_turns.new.tasks (drop (length c.take_turns.new.tasks) c.args.tasks.now.items) c.args.tasks.now.len (search rules) in
     record {
       round = record {
         owns = turns.owns;
-        turned = c.round.new.tasks;
-        each = subst (λ (ws : List Working). EachActs c.args.board.now turns.owns ws c.round.new.tasks) c.as_mut_slice.ensures.value turns.each;
+        turned = c.take_turns.new.tasks;
+        each = subst (λ (ws : List Working). EachActs c.args.board.now turns.owns ws c.take_turns.new.tasks) c.as_mut_slice-turned.ensures.value turns.each;
         events = turns.events;
         ends = turns.ends;
         joined =

@@ -1,6 +1,6 @@
 use Rattle.std.proofs.Common.{[], ◌∷◌, ◌++◌, All, List, sym, subst}
 use Rattle.std.specs.List.Sorted.{IsPermutation}
-use Rattle.board_rounds.specs.Turns.{IsDone, Working}
+use Rattle.board_rounds.specs.Turns.{ActsNoMore, Working}
 use Rattle.board_rounds.proofs.Rejoining.{all_push, one_ends, one_lives}
 use Rattle.board_rounds.proofs.crew.sort_out.Goals as goal
 
@@ -12,8 +12,8 @@ loop-task-preserved-in-Continue-1 c =
     record {
       same = subst (λ (ws : List Working). IsPermutation (E ++ Y) (c.loop-task.live.items ++ ws)) (sym c.in_ok-push.ensures.items) (one_ends E c.loop-task.yielded c.loop-task.live.items c.loop-task.ended.items c.in-Some.task i.same);
       ended =
-          subst (λ (ws : List Working). All (λ (w : Working). IsDone w.seat) ws) (sym c.in_ok-push.ensures.items)
-          (all_push (λ (w : Working). IsDone w.seat) c.loop-task.ended.items c.in-Some.task i.ended (c.is_done.ensures c.if-is_done.true));
+          subst (λ (ws : List Working). All (λ (w : Working). ActsNoMore w.seat) ws) (sym c.in_ok-push.ensures.items)
+          (all_push (λ (w : Working). ActsNoMore w.seat) c.loop-task.ended.items c.in-Some.task i.ended (c.has_ended.ensures c.if-has_ended.true));
     }
 
 pub loop-task-preserved : goal.loop-task-preserved

@@ -8,7 +8,7 @@ use Rattle.board_rounds.proofs.Rounding.{both_each, stopped, turns_on}
 use Rattle.board_rounds.proofs.rounds.+fn-take_turns-join_mut+arg2+fn-take_turns-join_mut+arg3+take_turns.Goals as goal
 
 pub join_mut-first-requires-send-F : goal.join_mut-first-requires-send-F
-join_mut-first-requires-send-F g t c κs within = param_send 1 _ (arg_send _ no _ (turns_send _ _ _ _ _ _ _ _ (param 0 g.row.R) (param 1 g.row.G) tt tt (search rules) (search rules)))
+join_mut-first-requires-send-F g t c κs within = param_send 1 _ (arg_send _ no _ (turns_send _ _ _ _ _ _ _ _ _ _ (param 0 g.row.R) (param 1 g.row.G) tt tt (search rules) (search rules)))
 
 pub returns-in_err-first : goal.returns-in_err-first
 returns-in_err-first g t c =

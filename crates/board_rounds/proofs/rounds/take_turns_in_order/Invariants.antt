@@ -9,5 +9,5 @@ invariant-loop-task g l = record {
   owns : List (List Action);
   so_far : IsSoFar l.board l.task-index owns l.initial.tasks l.tasks;
   events : l.made ≡ sum_by length owns;
-  few : l.made ≤ l.task-index * 524288;
+  few : l.made ≤ l.task-index * 1048576;
 }

@@ -1,7 +1,7 @@
 use Rattle.std.proofs.Common.{[], ◌∷◌, sym, subst, append-nil}
 use Rattle.board.specs.inside.Walking.{begins}
 use Rattle.board_rounds.specs.Turns.{AreChildSeats, forks_of, no_child}
-use Rattle.board_rounds.proofs.task.make_step.Goals as goal
+use Rattle.board_rounds.proofs.beginning.make_step.Goals as goal
 
 pub returns-in-Make-clause-children : goal.returns-in-Make-clause-children
 returns-in-Make-clause-children c =

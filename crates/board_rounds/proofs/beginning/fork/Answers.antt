@@ -1,7 +1,7 @@
 use Rattle.std.proofs.Common.{◌≡◌, ◌∙◌, [], ◌∷◌, ◌++◌, rules, ap, sym, eqb-true}
 use Rattle.armus_base.specs.Seats.{SeenBy}
 use Rattle.board_rounds.specs.Turns.{no_child, one_child}
-use Rattle.board_rounds.proofs.task.fork.Goals as goal
+use Rattle.board_rounds.proofs.beginning.fork.Goals as goal
 
 pub returns-clause-children : goal.returns-clause-children
 returns-clause-children c =

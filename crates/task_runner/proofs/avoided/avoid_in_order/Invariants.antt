@@ -3,7 +3,7 @@ use Rattle.armus_base.specs.Deadlocks.{NobodyDead}
 use Rattle.pl_core.specs.Worlds.{state_of}
 use Rattle.task_runner.specs.AvoidedRuns.{left_in}
 use Rattle.task_runner.proofs.SerialEnds.{HasSerialRun}
-use Rattle.task_runner.proofs.avoided.run_avoid.Given as goal
+use Rattle.task_runner.proofs.avoided.avoid_in_order.Given as goal
 
 abbrev pub invariant-rounds : goal.invariant-rounds
 invariant-rounds g l =

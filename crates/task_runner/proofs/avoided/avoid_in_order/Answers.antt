@@ -1,9 +1,13 @@
-use Rattle.std.proofs.Common.{◌∙◌, ap, arith, false, length}
+use Rattle.std.proofs.Common.{◌∙◌, ap, arith, false, length, Result, Ok, Err, OnOk}
 use Rattle.std.proofs.lemmas.Grind.{common_steps}
 use Rattle.std.proofs.lemmas.List.{length-replicate}
 use Rattle.avoider.proofs.NobodyDies.{opening_alive}
-use Rattle.task_runner.proofs.SerialEnds.{nobody_goes_on, serial_begun, serial_end_if_ok, serial_ended, serial_more}
-use Rattle.task_runner.proofs.avoided.run_avoid.Goals as goal
+use Rattle.task_runner.proofs.SerialEnds.{avoided_end_if_ok, nobody_goes_on, serial_begun, serial_end_if_ok, serial_ended, serial_more}
+use Rattle.task_runner.proofs.avoided.avoid_in_order.Goals as goal
+
+on_ok : {A B : Type 0} {P : Type 0} (r : Result A B) → P → OnOk r P
+on_ok (Ok x) p = p
+on_ok (Err e) p = tt
 
 pub rounds-init : goal.rounds-init
 rounds-init g c =
@@ -40,9 +44,11 @@ pub returns : goal.returns
 returns g c =
     let inv = c.rounds.invariant in
     let round = c.in_ok-avoided_round.ensures in
+    let end =
+    serial_end_if_ok c.args.plan.now c.avoided_round.new.world
+    (serial_ended c.args.plan.now c.rounds.world c.avoided_round.new.world c.in_ok-avoided_round.field-0 inv.plan c.if-branch.false inv.serial round.round)
+    round.nobody c.finish.result c.finish.ensures.end c.finish.ensures.checked in
     record {
-      end =
-          serial_end_if_ok c.args.plan.now c.avoided_round.new.world
-          (serial_ended c.args.plan.now c.rounds.world c.avoided_round.new.world c.in_ok-avoided_round.field-0 inv.plan c.if-branch.false inv.serial round.round)
-          round.nobody c.finish.result c.finish.ensures.end c.finish.ensures.checked;
+      end = avoided_end_if_ok c.args.plan.now c.finish.result end (on_ok c.finish.result c.tasks-count.ensures.checked);
+      serial = end;
     }

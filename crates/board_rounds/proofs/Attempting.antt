@@ -1,0 +1,186 @@
+-- What an attempt to decide on an await makes of a seat.
+use Rattle.std.proofs.Common.{◌≡◌, ◌≢◌, ℕ, suc, ◌<◌, ◌≤◌, ◌+◌, true, false, List, [], ◌∷◌, ◌++◌, Option, Some, None, length, sym, refl, ap, ◌∙◌, subst, arith, inl, inr}
+use Rattle.std.specs.Prelude.{IsSome, unwrap_or}
+use Rattle.std.proofs.lemmas.Bool.{cases_eq}
+use Rattle.armus_base.specs.declared.event.Event.{Event}
+use Rattle.armus_base.specs.declared.status.Status.{Status}
+use Rattle.armus_base.specs.Plans.{Action, Blocks, Plan, Refuses, action_at}
+use Rattle.armus_base.specs.Runs.{IsByCode, IsPrefix, Place, next_place}
+use Rattle.armus_base.specs.Places.{kept, members_below, phases_after, phases_at_place}
+use Rattle.armus_base.specs.Boards.{IsLawful}
+use Rattle.armus_base.specs.Seats.{MayHold}
+use Rattle.armus_base.specs.States.{Phases}
+use Rattle.armus_base.proofs.Places.{precedes_itself}
+use Rattle.board.specs.declared.view.View.{View}
+use Rattle.board.specs.Views.{avoids, next_action, own_place, place_in, seen, task_of}
+use Rattle.board.specs.Steps.{IsSameSeat, own_phase}
+use Rattle.board.specs.Locking.{FindsHeld, FreesLock, TakesLock, with_lock}
+use Rattle.board.specs.Seats.{Frame, IsOf, IsSeat, Known, MakesStep}
+use Rattle.board.proofs.Seated.{next_there}
+use Rattle.phase_scan.specs.Looks.{LoadsAlone}
+use Rattle.phase_scan.proofs.Columns.{column_goes}
+use Rattle.phase_scan.proofs.Loads.{goes_both, longest_later}
+use Rattle.phase_scan.proofs.Supposes.{own_phase_stays}
+use Rattle.verdict.specs.declared.found.Cycle.{Cycle}
+use Rattle.avoider.specs.OnBoard.{HasPublished, HasRefused, IsUndecided, Judges}
+use Rattle.board_rounds.specs.Turns.{EndsTurn, Goes, HasLeftAll, LeadsTo, is_locked_out}
+use Rattle.board_rounds.specs.inside.Attempts.{IsRefusedAt, drops_below}
+use Rattle.board_rounds.proofs.Goings.{goes_itself, goes_loads, goes_made, goes_on, goes_step, goes_then, next_still, own_stays, same_task, stepped_place, task_is}
+use Rattle.board_rounds.proofs.Leaving.{drops_go, has_left_all}
+
+-- steps between a taking and a freeing of the lock
+pub goes_locked : (a b c d : Known) (own : List Action) → a.view.holds ≡ false → TakesLock a b → Goes own b c → FreesLock c d → Goes own a d
+goes_locked a b c d own free taken goes freed =
+    record {
+      table = freed.table ∙ goes.table ∙ taken.table;
+      same = record {
+        plan = ap (λ (v : View). v.plan) freed.view ∙ goes.same.plan ∙ ap (λ (v : View). v.plan) taken.view;
+        mode = ap (λ (v : View). v.mode) freed.view ∙ goes.same.mode ∙ ap (λ (v : View). v.mode) taken.view;
+        own = ap (λ (v : View). v.own) freed.view ∙ goes.same.own ∙ ap (λ (v : View). v.own) taken.view;
+        holds = ap (λ (v : View). v.holds) freed.view ∙ sym free;
+        spent = ap (λ (v : View). v.spent) freed.view ∙ goes.same.spent ∙ ap (λ (v : View). v.spent) taken.view;
+        count = ap (λ (v : View). length v.sight.places) freed.view ∙ goes.same.count ∙ ap (λ (v : View). length v.sight.places) taken.view;
+      };
+      place =
+          subst (λ (v : View). LeadsTo a.view.plan (task_of a.view) (own_place a.view) own (own_place v)) (sym freed.view)
+          (subst (λ (v : View). LeadsTo v.plan (task_of v) (own_place v) own (own_place c.view)) taken.view goes.place);
+      later = λ u.
+          subst (λ (v : View). IsPrefix ((seen a.view).places u) ((seen v).places u)) (sym freed.view)
+          (subst (λ (v : View). IsPrefix ((seen v).places u) ((seen c.view).places u)) taken.view (goes.later u));
+      exact = λ u. ap (λ (v : View). (seen v).exact u) freed.view ∙ goes.exact u ∙ ap (λ (v : View). (seen v).exact u) taken.view;
+      kept = freed.kept;
+    }
+
+-- the loads of a decision
+judged_goes : (list supposed : List Status) (event : Event) (before now : Known) → Judges list event supposed before now → LoadsAlone before now
+judged_goes list supposed event before now j =
+    let s = j.adds in
+    let more = column_goes s.found.published event.p.0 before.view.plan s.column (length before.view.plan.parents) j.between now j.goes_on.same.plan (omega arith) j.goes_on.kept s.loads in
+    goes_both before j.between now j.goes_on more.goes
+
+-- who holds the lock stands where it stood, with its phases
+next_locked : (a b : Known) (o : Option Action) → TakesLock a b → next_action a.view ≡ o → next_action b.view ≡ o
+next_locked a b o taken next = ap next_action taken.view ∙ next
+
+own_locked : (a b : Known) (t : ℕ) → TakesLock a b → a.view.own ≡ Some t → b.view.own ≡ Some t
+own_locked a b t taken own = ap (λ (v : View). v.own) taken.view ∙ own
+
+module _ (a b now : Known) (t p : ℕ) (own : a.view.own ≡ Some t) (free : a.view.holds ≡ false) (next : next_action a.view ≡ Some (Blocks p)) (taken : TakesLock a b) where
+  own_b : b.view.own ≡ Some t
+  own_b = own_locked a b t taken own
+
+  -- it stands there still when it has made its loads
+  next_then : (store : Known) → LoadsAlone b store → next_action store.view ≡ Some (Blocks p)
+  next_then store goes = next_still b store goes.same (own_stays b store t own_b taken.kept goes) ∙ next_locked a b (Some (Blocks p)) taken next
+
+  -- the await was published
+  pub goes_published : (list : List Status) (event : Event) → event.p.0 ≡ p → HasPublished list event b now → Goes (Blocks p ∷ []) a now
+  goes_published list event phaser h =
+      let loads = judged_goes list h.supposed event b h.store h.judges in
+      let step : MakesStep (Blocks p) h.store h.stored = subst (λ q. MakesStep (Blocks q) h.store h.stored) phaser h.step in
+      goes_locked a b h.stored now (Blocks p ∷ []) free taken
+      (goes_then b h.store h.stored t (Blocks p) own_b taken.kept loads (goes_step h.store h.stored (Blocks p) (next_then h.store loads) (λ q e. cc) step)) h.freed
+
+  -- nothing was decided
+  pub goes_undecided : IsUndecided b now → Goes [] a now
+  goes_undecided u = goes_locked a b u.between now [] free taken (goes_loads b u.between t own_b taken.kept u.goes_on) u.freed
+
+  refuse_next : (plan : Plan) (u k : ℕ) (o : Option ℕ) → o ≡ None → action_at plan u k ≡ Some (Blocks p) → IsByCode plan u k o (Refuses p)
+  refuse_next plan u k None e is = is
+  refuse_next plan u k (Some d) e is = absurd (cc)
+
+  -- the task was refused
+  module _ (list : List Status) (cycle : Cycle) (h : HasRefused list p cycle b now) where
+    loads : LoadsAlone b h.store
+    loads = judged_goes list h.supposed h.event b h.store h.judges
+
+    there : ((own_place h.store.view).dropped ≡ None) × (action_at h.store.view.plan (task_of h.store.view) (own_place h.store.view).done ≡ Some (Blocks p))
+    there = next_there h.store.view (Blocks p) (next_then h.store loads)
+
+    refuses : Goes (Refuses p ∷ []) a h.free
+    refuses =
+        goes_locked a b h.stored h.free (Refuses p ∷ []) free taken
+        (goes_then b h.store h.stored t (Refuses p) own_b taken.kept loads
+        (goes_made h.store h.stored (Refuses p)
+        (refuse_next h.store.view.plan (task_of h.store.view) (own_place h.store.view).done (own_place h.store.view).dropped there.0 there.1) h.step))
+        h.freed
+
+    abbrev ph : Phases
+    ph = own_phase h.store.view
+
+    abbrev count : ℕ
+    count = length h.store.view.plan.makers
+
+    phases_same : ph ≡ own_phase a.view
+    phases_same = own_phase_stays b h.store t taken.kept own_b loads ∙ ap own_phase taken.view
+
+    plan_same : h.store.view.plan ≡ a.view.plan
+    plan_same = loads.same.plan ∙ ap (λ (v : View). v.plan) taken.view
+
+    place_free : own_place h.free.view ≡ record { done = (own_place h.store.view).done; dropped = Some 0 }
+    place_free =
+        ap own_place h.freed.view ∙ stepped_place h.store h.stored (Refuses p) h.step
+        ∙ ap (λ o. next_place (own_place h.store.view).done o (Refuses p)) there.0
+
+    dropping : Goes (drops_below ph count) h.free now × (own_place now.view ≡ record { done = (own_place h.free.view).done; dropped = Some (0 + members_below ph count) })
+    dropping =
+        let d = drops_go ph h.free 0 h.freed.kept (ap (λ (x : Place). x.dropped) place_free) count now h.drops in
+        (d.goes, d.place)
+
+    place_now : own_place now.view ≡ record { done = (own_place h.store.view).done; dropped = Some (members_below ph count) }
+    place_now =
+        dropping.1
+        ∙ (λ i. record { done = (place_free i).done; dropped = Some (let z : 0 + members_below ph count ≡ members_below ph count = omega arith in z i) })
+
+    all_phases : ph ≡ phases_after h.store.view.plan (task_of h.store.view) (own_place h.store.view).done
+    all_phases = ap (λ o. kept o (phases_after h.store.view.plan (task_of h.store.view) (own_place h.store.view).done)) there.0
+
+    plan_then : now.view.plan ≡ h.store.view.plan
+    plan_then = dropping.0.same.plan ∙ ap (λ (v : View). v.plan) h.freed.view ∙ h.step.same.plan
+
+    task_then : task_of now.view ≡ task_of h.store.view
+    task_then = same_task h.free now dropping.0.same ∙ ap task_of h.freed.view ∙ same_task h.store h.stored h.step.same
+
+    pub goes_refused : (drops : ℕ) → drops ≡ members_below (own_phase a.view) (length a.view.plan.makers) → IsRefusedAt p drops a now
+    goes_refused drops counted =
+        let n : count ≡ length a.view.plan.makers = ap (λ (q : Plan). length q.makers) plan_same in
+        record {
+          goes =
+              subst (λ k. Goes (Refuses p ∷ drops_below (own_phase a.view) k) a now) n
+              (subst (λ m. Goes (Refuses p ∷ drops_below m count) a now) phases_same
+              (goes_on a h.free now (Refuses p ∷ []) (drops_below ph count) refuses dropping.0));
+          left = has_left_all h.store now ph (own_place h.store.view).done dropping.0.kept plan_then task_then all_phases place_now;
+          counted = counted;
+        }
+
+-- the lock was found taken
+module _ (h : ℕ) (a now : Known) (t : ℕ) (own : a.view.own ≡ Some t) (seat : IsSeat a) (avoiding : avoids a.view.mode ≡ true) (found : FindsHeld h a now) where
+  other : t ≢ h
+  other e = found.meets.other (own ∙ ap Some e)
+
+  place : own_place now.view ≡ own_place a.view
+  place =
+      ap (seen now.view).places (same_task a now found.meets.same ∙ task_is a t own) ∙ found.meets.seen_now.place.others t other
+      ∙ ap (seen a.view).places (sym (task_is a t own))
+
+  later : (u : ℕ) → IsPrefix ((seen a.view).places u) ((seen now.view).places u)
+  later u = elim (cases_eq u h) [
+    | inl same ↦
+        subst (λ v. IsPrefix ((seen a.view).places v) ((seen now.view).places v)) (sym same)
+        (let w = found.meets.was.was in
+        longest_later true a.view.plan seat.checked h (MayHold a.view.plan h) ((seen a.view).places h) ((seen now.view).places h) w.places w.lock
+        (subst (λ m. IsLawful m a.view.plan w.places w.lock) avoiding w.lawful) (w.before_far.later h found.meets.within) found.meets.seen_now.place.here)
+    | inr apart ↦
+        subst (λ (b : Place). IsPrefix ((seen a.view).places u) b) (sym (found.meets.seen_now.place.others u apart))
+        (precedes_itself ((seen a.view).places u).done ((seen a.view).places u).dropped)
+  ]
+
+  pub goes_locked_out : Goes [] a now
+  goes_locked_out =
+      record { table = found.table; same = found.meets.same; place = place; later = later; exact = found.meets.seen_now.place.exact; kept = found.kept }
+
+  pub ends_locked_out : (p : ℕ) → next_action a.view ≡ Some (Blocks p) → EndsTurn now
+  ends_locked_out p next =
+      is_locked_out h (ap avoids found.meets.same.mode ∙ avoiding) (p, next_still a now found.meets.same place ∙ next)
+      (λ e. other (sym (e ∙ same_task a now found.meets.same ∙ task_is a t own)))
+      (subst (λ (q : Plan). MayHold q h ((seen now.view).places h)) (sym found.meets.same.plan) found.meets.there)

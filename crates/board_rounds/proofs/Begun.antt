@@ -1,0 +1,82 @@
+-- An op that has begun.
+use Rattle.std.proofs.Common.{◌≡◌, ◌≢◌, ℕ, zero, suc, List, [], ◌∷◌, Option, Some, None, drop, sym, refl, ap, ◌∙◌, subst, false}
+use Rattle.armus_base.specs.declared.event.Event.{Event}
+use Rattle.armus_base.specs.declared.op.Op.{Op}
+use Rattle.armus_base.specs.declared.op.Op.TheVariants.{Adv, Await, Drop, Fork, Make, Reg}
+use Rattle.armus_base.specs.Plans.{Action, Advances, Blocks, Drops, Forks, Makes, Passes, Refuses, Registers, action_at, actions, actions_of, code_of}
+use Rattle.armus_base.specs.Places.{phases_after, published_after}
+use Rattle.armus_base.specs.Runs.{Place, next_place}
+use Rattle.armus_base.specs.States.{awaited, event_at, event_on}
+use Rattle.board.specs.Views.{next_action, own_place, task_of}
+use Rattle.board.specs.Seats.{Known, event_of}
+use Rattle.board.specs.inside.Walking.{HasBegun, begins, left_of}
+use Rattle.board.proofs.Seated.{event_here, next_there, place_made}
+use Rattle.board.proofs.Walking.{HasStepped, IsBefore, before_next, begun_published, begun_then, op_left}
+use Rattle.board_rounds.specs.Turns.{Goes}
+use Rattle.board_rounds.proofs.Goings.{same_task}
+
+rest_left : {A : Type 0} (xs : List A) (k : ℕ) (x : A) (ys : List A) → drop k xs ≡ x ∷ ys → drop (suc k) xs ≡ ys
+rest_left [] zero x ys e = absurd (cc)
+rest_left [] (suc k) x ys e = absurd (cc)
+rest_left (z ∷ zs) zero x ys e = cc
+rest_left (z ∷ zs) (suc k) x ys e = rest_left zs k x ys e
+
+undropped : (k : ℕ) (o : Option ℕ) (x : Action) → o ≡ None → ((p : ℕ) → x ≢ Refuses p) → (next_place k o x).dropped ≡ None
+undropped k None (Makes p) e n = refl
+undropped k None (Registers c p) e n = refl
+undropped k None (Forks c) e n = refl
+undropped k None (Advances p) e n = refl
+undropped k None (Drops p) e n = refl
+undropped k None (Blocks p) e n = refl
+undropped k None (Passes p) e n = refl
+undropped k None (Refuses p) e n = absurd (n p refl)
+undropped k (Some d) x e n = absurd (cc)
+
+module _ (begun : ℕ) (op : Op) (k m : Known) (b : IsBefore begun op k) (goes : Goes (begins op ∷ []) k m) where
+  abbrev rest : List Action
+  rest = actions_of (drop (suc begun) (code_of k.view.plan (task_of k.view)))
+
+  task : task_of m.view ≡ task_of k.view
+  task = same_task k m goes.same
+
+  left : drop (own_place k.view).done (actions k.view.plan (task_of k.view)) ≡ actions_of (op ∷ drop (suc begun) (code_of k.view.plan (task_of k.view)))
+  left =
+      b.begun_so.left ∙ ap (λ o. left_of o (drop begun (code_of k.view.plan (task_of k.view)))) b.idle
+      ∙ ap actions_of (op_left (code_of k.view.plan (task_of k.view)) begun op b.op_is)
+
+  stepped : (x : Action) (xs : List Action) → begins op ≡ x → ((p : ℕ) → x ≢ Refuses p) → drop (own_place k.view).done (actions k.view.plan (task_of k.view)) ≡ x ∷ xs → HasStepped k m x xs
+  stepped x xs is n first =
+      let place : own_place m.view ≡ next_place (own_place k.view).done (own_place k.view).dropped x =
+      goes.place.1 ∙ ap (next_place (own_place k.view).done (own_place k.view).dropped) is in
+      let done : (own_place m.view).done ≡ suc (own_place k.view).done =
+      ap (λ (y : Place). y.done) place ∙ place_made (own_place k.view).done (own_place k.view).dropped x b.begun_so.unrefused n in
+      record {
+        free = goes.same.holds ∙ b.begun_so.free;
+        unrefused = ap (λ (y : Place). y.dropped) place ∙ undropped (own_place k.view).done (own_place k.view).dropped x b.begun_so.unrefused n;
+        left = (λ i. drop (done i) (actions (goes.same.plan i) (task i))) ∙ rest_left (actions k.view.plan (task_of k.view)) (own_place k.view).done x xs first;
+        plan = goes.same.plan;
+        task = task;
+        event = event_here m (task_of k.view) (goes.same.own ∙ b.own) ∙ (λ i. published_after (goes.same.plan i) (task i) (done i))
+            ∙ ap (λ o. awaited o (phases_after k.view.plan (task_of k.view) (own_place k.view).done))
+            ((next_there k.view (begins op) (before_next begun op k b)).1 ∙ ap Some is);
+      }
+
+  pub begun_on : HasBegun (suc begun) m
+  begun_on = by_op op refl
+    where
+      first_is : (o : Op) → op ≡ o → drop (own_place k.view).done (actions k.view.plan (task_of k.view)) ≡ actions_of (o ∷ drop (suc begun) (code_of k.view.plan (task_of k.view)))
+      first_is o is = left ∙ ap (λ q. actions_of (q ∷ drop (suc begun) (code_of k.view.plan (task_of k.view)))) is
+
+      member : (p : ℕ) → next_action k.view ≡ Some (Blocks p) → (n : ℕ) × (phases_after k.view.plan (task_of k.view) (own_place k.view).done p ≡ Some n)
+      member p next = b.seat.checked.codes.well_formed (task_of k.view) (own_place k.view).done (Blocks p) (next_there k.view (Blocks p) next).1
+
+      by_op : (o : Op) → op ≡ o → HasBegun (suc begun) m
+      by_op (Make p) is = begun_then k m (Makes p.0) (suc begun) (stepped (Makes p.0) rest (ap begins is) (λ q e. cc) (first_is (Make p) is)) (λ q e. cc)
+      by_op (Reg c p) is = begun_then k m (Registers c.0 p.0) (suc begun) (stepped (Registers c.0 p.0) rest (ap begins is) (λ q e. cc) (first_is (Reg c p) is)) (λ q e. cc)
+      by_op (Fork c) is = begun_then k m (Forks c.0) (suc begun) (stepped (Forks c.0) rest (ap begins is) (λ q e. cc) (first_is (Fork c) is)) (λ q e. cc)
+      by_op (Adv p) is = begun_then k m (Advances p.0) (suc begun) (stepped (Advances p.0) rest (ap begins is) (λ q e. cc) (first_is (Adv p) is)) (λ q e. cc)
+      by_op (Drop p) is = begun_then k m (Drops p.0) (suc begun) (stepped (Drops p.0) rest (ap begins is) (λ q e. cc) (first_is (Drop p) is)) (λ q e. cc)
+      by_op (Await p) is =
+          let one = member p.0 (before_next begun op k b ∙ ap (λ o. Some (begins o)) is) in
+          let s = stepped (Blocks p.0) (Passes p.0 ∷ rest) (ap begins is) (λ q e. cc) (first_is (Await p) is) in
+          begun_published k m p.0 (suc begun) (event_at p.0 one.0) s (s.event ∙ ap (event_on p.0) one.1) refl

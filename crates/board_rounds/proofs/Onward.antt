@@ -1,0 +1,195 @@
+-- What comes of an op that was to begin, and how far its task has come then.
+use Rattle.std.proofs.Common.{◌≡◌, ◌≢◌, ℕ, suc, ◌<◌, ◌≤◌, ◌+◌, ◌^◌, Bool, true, false, List, [], ◌∷◌, ◌++◌, Option, Some, None, length, drop, sym, refl, ap, ◌∙◌, subst, arith, append-nil}
+use Rattle.std.specs.Prelude.{IsSome}
+use Rattle.std.proofs.lemmas.Bool.{false≢true}
+use Rattle.armus_base.specs.declared.ids.PhaserId.{PhaserId}
+use Rattle.armus_base.specs.declared.op.Op.{Op}
+use Rattle.armus_base.specs.declared.op.Op.TheVariants.{Adv, Await, Drop, Fork, Make, Reg}
+use Rattle.armus_base.specs.Limits.{max_phasers}
+use Rattle.armus_base.specs.Plans.{Action, Advances, Blocks, Drops, Forks, Makes, Passes, Plan, Refuses, Registers, actions, code_of}
+use Rattle.armus_base.specs.Places.{published_after}
+use Rattle.armus_base.specs.Runs.{Place, next_place}
+use Rattle.armus_base.proofs.Fixed.{action_within}
+use Rattle.board.specs.Seats.{Frame, IsSeat, Known, event_of}
+use Rattle.board.specs.Steps.{own_phase}
+use Rattle.board.specs.Views.{own_place, task_of}
+use Rattle.board.specs.inside.Walking.{HasBegun, begins, left_of}
+use Rattle.board.proofs.Seated.{event_here, next_there, place_made}
+use Rattle.board.proofs.Walking.{IsBefore, before_next}
+use Rattle.board_rounds.specs.declared.deciding.Attempt.TheVariants.{Begun, LockedOut, Refused}
+use Rattle.board_rounds.specs.inside.Attempts.{Begins, IsRefusedAt, drops_below}
+use Rattle.board_rounds.specs.Tasks.{HasCome}
+use Rattle.board_rounds.specs.Turns.{Acts, AreChildSeats, EndsTurn, Goes, LeadsTo, MakesSome, Working, forks_of, no_child}
+use Rattle.board_rounds.proofs.Begun.{begun_on}
+use Rattle.board_rounds.proofs.Goings.{acts_alone, same_task, some_alone, some_steps}
+use Rattle.board_rounds.proofs.Halting.{events_fit, no_refusal, op_fits}
+use Rattle.board_rounds.proofs.Leaving.{drops_counted, drops_fork_nobody, few_memberships}
+
+-- who has made no step has begun no op
+begun_still : (begun t : ℕ) (k m : Known) → k.view.own ≡ Some t → HasBegun begun k → Goes [] k m → HasBegun begun m
+begun_still begun t k m own b goes =
+    record {
+      free = goes.same.holds ∙ b.free;
+      unrefused = ap (λ (x : Place). x.dropped) place ∙ b.unrefused;
+      left = (λ i. drop (place i).done (actions (goes.same.plan i) (task i))) ∙ b.left ∙ sym (λ i. left_of (event i) (drop begun (code_of (goes.same.plan i) (task i))));
+    }
+  where
+    task : task_of m.view ≡ task_of k.view
+    task = same_task k m goes.same
+
+    place : own_place m.view ≡ own_place k.view
+    place = goes.place
+
+    event : event_of m ≡ event_of k
+    event = event_here m t (goes.same.own ∙ own) ∙ (λ i. published_after (goes.same.plan i) (task i) (place i).done) ∙ sym (event_here k t own)
+
+-- a refused task does no action of its code
+drop_done : (k d : ℕ) (x : Action) → ((next_place k (Some d) x).done ≡ k) × IsSome (next_place k (Some d) x).dropped
+drop_done k d (Makes p) = (refl, refl)
+drop_done k d (Registers c p) = (refl, refl)
+drop_done k d (Forks c) = (refl, refl)
+drop_done k d (Advances p) = (refl, refl)
+drop_done k d (Drops p) = (refl, refl)
+drop_done k d (Blocks p) = (refl, refl)
+drop_done k d (Passes p) = (refl, refl)
+drop_done k d (Refuses p) = (refl, refl)
+
+dropped_done : (k : ℕ) (o : Option ℕ) (x : Action) → IsSome o → ((next_place k o x).done ≡ k) × IsSome (next_place k o x).dropped
+dropped_done k None x some = absurd (false≢true some)
+dropped_done k (Some d) x some = drop_done k d x
+
+stays_done : (plan : Plan) (t : ℕ) (a : Place) (own : List Action) (b : Place) → IsSome a.dropped → LeadsTo plan t a own b → b.done ≡ a.done
+stays_done plan t a [] b some same = ap (λ (x : Place). x.done) same
+stays_done plan t a (x ∷ own) b some steps =
+    let one = dropped_done a.done a.dropped x some in
+    stays_done plan t (next_place a.done a.dropped x) own b one.1 steps.1 ∙ one.0
+
+refused_done : (k : ℕ) (o : Option ℕ) (p : ℕ) → o ≡ None → ((next_place k o (Refuses p)).done ≡ k) × IsSome (next_place k o (Refuses p)).dropped
+refused_done k None p e = (refl, refl)
+refused_done k (Some d) p e = absurd (cc)
+
+no_seat : (f : Frame) (cs : List ℕ) (seats : List Known) → cs ≡ [] → AreChildSeats f cs seats → AreChildSeats f [] seats
+no_seat f cs seats e are = subst (λ ds. AreChildSeats f ds seats) e are
+
+-- what came of each op
+begins_goes : (op : Op) (k m : Known) → Begins op k m Begun → Goes (begins op ∷ []) k m
+begins_goes (Make p) k m b = b
+begins_goes (Reg c p) k m b = b
+begins_goes (Fork c) k m b = b
+begins_goes (Adv p) k m b = b
+begins_goes (Drop p) k m b = b
+begins_goes (Await p) k m b = b
+
+pub goes_begins : (op : Op) (k m : Known) → Goes (begins op ∷ []) k m → Begins op k m Begun
+goes_begins (Make p) k m goes = goes
+goes_begins (Reg c p) k m goes = goes
+goes_begins (Fork c) k m goes = goes
+goes_begins (Adv p) k m goes = goes
+goes_begins (Drop p) k m goes = goes
+goes_begins (Await p) k m goes = goes
+
+locked_goes : (op : Op) (k m : Known) → Begins op k m LockedOut → (forks_of (begins op ∷ []) ≡ []) × Goes [] k m × EndsTurn m
+locked_goes (Make p) k m b = absurd b
+locked_goes (Reg c p) k m b = absurd b
+locked_goes (Fork c) k m b = absurd b
+locked_goes (Adv p) k m b = absurd b
+locked_goes (Drop p) k m b = absurd b
+locked_goes (Await p) k m b = (refl, b.0, b.1)
+
+refused_goes : (op : Op) (k m : Known) (n : ℕ) → Begins op k m (Refused n) → (forks_of (begins op ∷ []) ≡ []) × (p : PhaserId) × (begins op ≡ Blocks p.0) × IsRefusedAt p.0 n k m
+refused_goes (Make p) k m n b = absurd b
+refused_goes (Reg c p) k m n b = absurd b
+refused_goes (Fork c) k m n b = absurd b
+refused_goes (Adv p) k m n b = absurd b
+refused_goes (Drop p) k m n b = absurd b
+refused_goes (Await p) k m n b = (refl, p, refl, b)
+
+-- nothing came of it
+still_come : (begun events t : ℕ) (k m : Known) → k.view.own ≡ Some t → HasCome k begun events false → Goes [] k m → HasCome m begun events false
+still_come begun events t k m own w goes = record {
+  free = goes.same.holds ∙ w.free;
+  events_are = w.events_are ∙ sym (ap (λ (x : Place). x.done) goes.place);
+  begun_are = λ e. begun_still begun t k m own (w.begun_are e) goes;
+  left = λ e. absurd (false≢true e);
+}
+
+module _ (f : Frame) (begun events : ℕ) (k m : Known) (cs ds : List Known) (op : Op) (w : HasCome k begun events false) (b : IsBefore begun op k) where
+  abbrev before : Working
+  before = record { seat = k; children = cs }
+
+  abbrev now : Working
+  now = record { seat = m; children = ds }
+
+  -- nothing was done
+  pub nothing_come : Goes [] k m → HasCome m begun events false
+  nothing_come goes = still_come begun events (task_of k.view) k m b.own w goes
+
+  pub nothing_acts : ds ≡ cs → Goes [] k m → Acts f [] before now
+  nothing_acts same goes = subst (λ es. Acts f [] before (record { seat = m; children = es })) (sym same) (acts_alone f [] k m cs refl goes (λ _. refl))
+
+  module _ (new : List Known) (grown : ds ≡ cs ++ new) (seats : AreChildSeats f (forks_of (begins op ∷ [])) new) where
+    -- the lock was taken
+    pub locked_out : Begins op k m LockedOut → (Acts f [] before now × EndsTurn m) × HasCome m begun events false
+    locked_out is =
+        let r = locked_goes op k m is in (
+          (record { goes = r.1; refused = λ _. refl; new = new; children = grown; seats = no_seat f (forks_of (begins op ∷ [])) new r.0 seats }, r.2),
+          nothing_come r.1,
+        )
+
+    -- the op has begun
+    pub begun_makes : Begins op k m Begun → MakesSome f 1 before now
+    begun_makes is =
+        some_steps f (begins op ∷ []) k m cs ds new 1 (begins op) b.seat (before_next begun op k b) (begins_goes op k m is) grown seats refl (omega arith) (omega arith)
+
+    pub begun_come : Begins op k m Begun → HasCome m (begun + 1) (events + 1) false
+    begun_come is =
+        let goes = begins_goes op k m is in
+        let n = begun_on begun op k m b goes in record {
+          free = n.free;
+          events_are = (let e = w.events_are in
+              let d : (own_place m.view).done ≡ suc (own_place k.view).done =
+              ap (λ (x : Place). x.done) goes.place.1 ∙ place_made (own_place k.view).done (own_place k.view).dropped (begins op) b.begun_so.unrefused (no_refusal op) in
+              omega arith);
+          begun_are = λ _. subst (λ j. HasBegun j m) (let z : suc begun ≡ begun + 1 = omega arith in z) n;
+          left = λ e. absurd (false≢true e);
+        }
+
+    pub begun_fits : (begun + 1 < 2 ^ 32) × (events + 1 < 2 ^ 32)
+    begun_fits = (
+      (let l = op_fits k.view.plan (task_of k.view) begun op b.seat.checked b.op_is in omega arith),
+      (let within = next_within in
+          let e = w.events_are in
+          let l = events_fit k.view.plan (task_of k.view) (own_place k.view).done b.seat.checked within in omega arith),
+    )
+      where
+        next_within : (own_place k.view).done < length (actions k.view.plan (task_of k.view))
+        next_within = action_within k.view.plan b.seat.checked (task_of k.view) (own_place k.view).done (begins op) (next_there k.view (begins op) (before_next begun op k b)).1
+
+    -- the task is refused
+    module _ (n : ℕ) (is : Begins op k m (Refused n)) where
+      abbrev r : (forks_of (begins op ∷ []) ≡ []) × (p : PhaserId) × (begins op ≡ Blocks p.0) × IsRefusedAt p.0 n k m
+      r = refused_goes op k m n is
+
+      few : n ≤ max_phasers
+      few = (let c = r.3.counted in let l = few_memberships k.view.plan (own_phase k.view) b.seat.checked in omega arith)
+
+      pub refused_makes : MakesSome f (n + 1) before now
+      refused_makes =
+          some_steps f (Refuses r.1.0 ∷ drops_below (own_phase k.view) (length k.view.plan.makers)) k m cs ds new (n + 1) (begins op) b.seat (before_next begun op k b) r.3.goes grown
+          (subst (λ es. AreChildSeats f es new) (sym (drops_fork_nobody (own_phase k.view) (length k.view.plan.makers))) (no_seat f (forks_of (begins op ∷ [])) new r.0 seats))
+          (let c = r.3.counted in let l = drops_counted (own_phase k.view) (length k.view.plan.makers) in omega arith) (omega arith) (let l = few in omega arith)
+
+      pub refused_fits : n + 1 < 2 ^ 32
+      refused_fits = (let l = few in omega arith)
+
+      pub refused_come : HasCome m begun events true
+      refused_come =
+          let steps = r.3.goes.place in
+          let first = refused_done (own_place k.view).done (own_place k.view).dropped r.1.0 b.begun_so.unrefused in
+          record {
+            free = r.3.goes.same.holds ∙ w.free;
+            events_are = w.events_are
+                ∙ sym (stays_done k.view.plan (task_of k.view) (next_place (own_place k.view).done (own_place k.view).dropped (Refuses r.1.0)) (drops_below (own_phase k.view) (length k.view.plan.makers)) (own_place m.view) first.1 steps.1 ∙ first.0);
+            begun_are = λ e. absurd (false≢true (sym e));
+            left = λ _. r.3.left;
+          }

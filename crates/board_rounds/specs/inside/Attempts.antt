@@ -1,0 +1,37 @@
+-- What comes of an attempt to decide on an await, on a board that avoids deadlock.
+use Rattle.std.specs.Prelude.{◌≡◌, ℕ, List, [], ◌∷◌, ◌++◌, is_some, if◌then◌else◌, length}
+use Rattle.std.proofs.Common.{zero, suc}
+use Rattle.armus_base.specs.declared.op.Op.{Op}
+use Rattle.armus_base.specs.declared.op.Op.TheVariants.{Await}
+use Rattle.armus_base.specs.Places.{members_below}
+use Rattle.armus_base.specs.Plans.{Action, Blocks, Drops, Refuses}
+use Rattle.armus_base.specs.States.{Phases}
+use Rattle.board.specs.Seats.{Known}
+use Rattle.board.specs.Steps.{own_phase}
+use Rattle.board.specs.inside.Walking.{begins}
+use Rattle.board_rounds.specs.declared.deciding.Attempt.{Attempt}
+use Rattle.board_rounds.specs.declared.deciding.Attempt.TheVariants.{Begun, LockedOut, Refused}
+use Rattle.board_rounds.specs.Turns.{EndsTurn, Goes, HasLeftAll}
+
+-- the drops of those of the first phasers of which a task with these phases is a member, in order of number
+abbrev pub drops_below : Phases → ℕ → List Action
+drops_below phases zero = []
+drops_below phases (suc p) = drops_below phases p ++ (if is_some (phases p) then Drops p ∷ [] else [])
+
+-- the seat's task was refused at its await of p, and has left all its phasers, so many
+pub record IsRefusedAt (p drops : ℕ) (before now : Known) : Type 0 where
+  pub goes : Goes (Refuses p ∷ drops_below (own_phase before.view) (length before.view.plan.makers)) before now
+  pub left : HasLeftAll now
+  pub counted : drops ≡ members_below (own_phase before.view) (length before.view.plan.makers)
+
+-- What came of an attempt at the await of p that comes next: the lock was found taken, and the turn is over; or it was published; or it was refused.
+abbrev pub IsAttempt : ℕ → Known → Known → Attempt → Type 0
+IsAttempt p before now LockedOut = Goes [] before now × EndsTurn now
+IsAttempt p before now Begun = Goes (Blocks p ∷ []) before now
+IsAttempt p before now (Refused drops) = IsRefusedAt p drops before now
+
+-- what came of an op that was to begin: the same of an await, and every other one has begun
+abbrev pub Begins : Op → Known → Known → Attempt → Type 0
+Begins (Await p) before now tried = IsAttempt p.0 before now tried
+Begins op before now Begun = Goes (begins op ∷ []) before now
+Begins op before now tried = ⊥

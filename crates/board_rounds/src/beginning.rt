@@ -1,0 +1,119 @@
+// The step with which an op begins.
+ghost use Rattle.std.specs.Prelude.{◌≡◌, ◌++◌, ◌<◌, [], ◌∷◌, List, Some, None, false, true, IfOk, IfSome, OnOk, OnErr, slice_get};
+ghost use Rattle.armus_base.specs.Plans.{Forks};
+ghost use Rattle.armus_base.specs.declared.op.Op.TheVariants.{Await};
+ghost use Rattle.board.specs.Views.{avoids, next_action};
+ghost use Rattle.board.specs.Seats.{Known, IsOf, MakesStep};
+ghost use Rattle.board.specs.inside.Walking.{IsActionOfPlan, begins};
+ghost use Rattle.board_rounds.specs.inside.Attempts.{Begins};
+ghost use Rattle.board_rounds.specs.Turns.{AreChildSeats, Goes, forks_of};
+
+use crate::deciding::{Attempt, try_to_decide};
+use crate::worker_cells::WorkerCells;
+use adaptive::Wanted;
+use armus_base::{NoMemory, Op, PhaserId, TaskId};
+use board::{Board, Mode, TaskSeat};
+use std::alloc::Global;
+
+/// The op at an index of a code.
+pub(crate) fn op_at(code: &[Op], index: u32) -> Option<Op>
+    ensures { result ≡ slice_get code.now index }
+{
+    code.get(index as usize).copied()
+}
+
+// The phaser of an await on which is to be decided before it is published, as on each one of a board that avoids deadlock.
+fn phaser_to_decide(op: Op, board: &Board) -> Option<PhaserId>
+    ensures phaser { IfSome result (λ p. (op ≡ Await p) × (avoids board.now.mode ≡ true)) }
+    ensures none { result ≡ None → (p : PhaserId) → op ≡ Await p → avoids board.now.mode ≡ false }
+{
+    match (op, board.mode()) {
+        (Op::Await { p }, Mode::Avoid) => Some(p),
+        _ => None,
+    }
+}
+
+// Splits the seat of a child off, for which there is room before.
+fn fork(
+    seat: &mut TaskSeat,
+    children: &mut Vec<TaskSeat>,
+    alloc: Global,
+    board: &Board,
+    c: TaskId,
+) -> Result<(), NoMemory>
+    requires made { IsOf seat.old board.now }
+    requires unlocked { seat.old.view.holds ≡ false }
+    requires next { next_action seat.old.view ≡ Some (Forks c.0) }
+    ensures step { OnOk result (MakesStep (Forks c.0) seat.old seat.new) }
+    ensures children { OnOk result ((new : List Known) × (children.new.items ≡ children.old.items ++ new) × AreChildSeats board.now (c.0 ∷ []) new) }
+    ensures same { OnErr result (seat.new ≡ seat.old) }
+    ensures same_children { OnErr result (children.new.items ≡ children.old.items) }
+{
+    children.reserve(1)?;
+    let child = seat.fork(alloc, board, c)?;
+    children.push(child)?;
+    Ok(())
+}
+
+// Makes the step with which an op begins, and keeps the seat of a child that it forks.
+fn make_step(
+    seat: &mut TaskSeat,
+    children: &mut Vec<TaskSeat>,
+    alloc: Global,
+    board: &Board,
+    op: Op,
+) -> Result<(), NoMemory>
+    requires made { IsOf seat.old board.now }
+    requires undecided { (p : PhaserId) → op ≡ Await p → avoids board.now.mode ≡ false }
+    requires unlocked { seat.old.view.holds ≡ false }
+    requires next { next_action seat.old.view ≡ Some (begins op) }
+    requires plan { IsActionOfPlan board.now.plan (begins op) }
+    ensures step { OnOk result (MakesStep (begins op) seat.old seat.new) }
+    ensures children { OnOk result ((new : List Known) × (children.new.items ≡ children.old.items ++ new) × AreChildSeats board.now (forks_of (begins op ∷ [])) new) }
+    ensures same { OnErr result (seat.new ≡ seat.old) }
+    ensures same_children { OnErr result (children.new.items ≡ children.old.items) }
+{
+    match op {
+        Op::Make { p } => seat.make(board, p),
+        Op::Reg { c, p } => seat.reg(board, c, p),
+        Op::Adv { p } => {
+            seat.adv(board, p);
+        }
+        Op::Drop { p } => seat.drop_phaser(board, p),
+        Op::Await { p } => {
+            seat.publish(board, p);
+        }
+        Op::Fork { c } => return fork(seat, children, alloc, board, c),
+    }
+    Ok(())
+}
+
+/// Makes the step with which an op begins, and keeps the seat of a child that it forks. An await on which is to be decided is published only if it would
+/// deadlock nobody, and else refused; nothing is done where the lock is taken.
+pub(crate) fn begin(
+    seat: &mut TaskSeat,
+    children: &mut Vec<TaskSeat>,
+    alloc: Global,
+    board: &Board,
+    op: Op,
+    cells: &mut WorkerCells,
+    wanted: Wanted,
+) -> Result<Attempt, NoMemory>
+    requires made { IsOf seat.old board.now }
+    requires unlocked { seat.old.view.holds ≡ false }
+    requires next { next_action seat.old.view ≡ Some (begins op) }
+    requires plan { IsActionOfPlan board.now.plan (begins op) }
+    ensures begins { IfOk result (Begins op seat.old seat.new) }
+    ensures children { OnOk result ((new : List Known) × (children.new.items ≡ children.old.items ++ new) × AreChildSeats board.now (forks_of (begins op ∷ [])) new) }
+    ensures same { OnErr result (Goes [] seat.old seat.new) }
+    ensures same_children { OnErr result (children.new.items ≡ children.old.items) }
+{
+    let _ = seat.id();
+    match phaser_to_decide(op, board) {
+        Some(p) => try_to_decide(seat, alloc, board, p, cells, wanted),
+        None => {
+            make_step(seat, children, alloc, board, op)?;
+            Ok(Attempt::Begun)
+        }
+    }
+}

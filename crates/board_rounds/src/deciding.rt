@@ -1,0 +1,103 @@
+// An attempt to decide on an await, on a board that avoids deadlock.
+ghost use Rattle.std.specs.Prelude.{◌≡◌, ◌<◌, ◌≤◌, ◌+◌, Some, [], true, false, length, IfOk, OnErr};
+ghost use Rattle.armus_base.specs.Limits.{max_phasers};
+ghost use Rattle.armus_base.specs.Places.{members_below};
+ghost use Rattle.armus_base.specs.Plans.{Blocks};
+ghost use Rattle.board.specs.Seats.{IsOf};
+ghost use Rattle.board.specs.Steps.{own_phase};
+ghost use Rattle.board.specs.Views.{avoids, next_action};
+ghost use Rattle.board_rounds.specs.inside.Attempts.{IsAttempt};
+ghost use Rattle.board_rounds.specs.Turns.{Goes};
+
+use crate::worker_cells::WorkerCells;
+use adaptive::Wanted;
+use armus_base::{NoMemory, PhaserId};
+use avoider::{Decision, decide, try_take};
+use board::{Board, TaskSeat};
+use phase_scan::Cells;
+use std::alloc::Global;
+
+/// What came of an op that was to begin.
+#[derive(Clone, Copy, Debug)]
+pub(crate) enum Attempt {
+    /// It is an await on which is to be decided, and another task held the lock.
+    LockedOut,
+    /// It has begun.
+    Begun,
+    /// It is an await, and the task is refused and has left all its phasers, so many.
+    Refused(u32),
+}
+
+/// Takes the lock, if nobody holds it, and decides on the await of `p`, which comes next. The lock is free after it.
+pub(crate) fn try_to_decide(
+    seat: &mut TaskSeat,
+    alloc: Global,
+    board: &Board,
+    p: PhaserId,
+    cells: &mut WorkerCells,
+    wanted: Wanted,
+) -> Result<Attempt, NoMemory>
+    requires made { IsOf seat.old board.now }
+    requires phaser { p.0 < length board.now.plan.makers }
+    requires avoids { avoids board.now.mode ≡ true }
+    requires unlocked { seat.old.view.holds ≡ false }
+    requires next { next_action seat.old.view ≡ Some (Blocks p.0) }
+    ensures attempt { IfOk result (IsAttempt p.0 seat.old seat.new) }
+    ensures undecided { OnErr result (Goes [] seat.old seat.new) }
+{
+    let _ = seat.id();
+    let mut own = cells.take(alloc, board)?;
+    let tried = decide_with(seat, alloc, board, p, &mut own, wanted);
+    cells.keep(board, own);
+    tried
+}
+
+// The same with these cells.
+fn decide_with(
+    seat: &mut TaskSeat,
+    alloc: Global,
+    board: &Board,
+    p: PhaserId,
+    cells: &mut Cells,
+    wanted: Wanted,
+) -> Result<Attempt, NoMemory>
+    requires made { IsOf seat.old board.now }
+    requires phaser { p.0 < length board.now.plan.makers }
+    requires avoids { avoids board.now.mode ≡ true }
+    requires unlocked { seat.old.view.holds ≡ false }
+    requires next { next_action seat.old.view ≡ Some (Blocks p.0) }
+    requires tasks { cells.old.tasks ≡ length board.now.plan.parents }
+    requires phasers { cells.old.phasers ≡ length board.now.plan.makers }
+    ensures attempt { IfOk result (IsAttempt p.0 seat.old seat.new) }
+    ensures undecided { OnErr result (Goes [] seat.old seat.new) }
+    ensures tasks { cells.new.tasks ≡ cells.old.tasks }
+    ensures phasers { cells.new.phasers ≡ cells.old.phasers }
+{
+    let _ = seat.id();
+    let phasers = memberships(seat, board);
+    match try_take(seat, board) {
+        Err(_) => return Ok(Attempt::LockedOut),
+        Ok(()) => {}
+    }
+    match decide(alloc, seat, board, p, cells, wanted)? {
+        Decision::Published(_) => Ok(Attempt::Begun),
+        Decision::Refused(_) => Ok(Attempt::Refused(phasers)),
+    }
+}
+
+// Of how many phasers the seat's task is a member.
+fn memberships(seat: &mut TaskSeat, board: &Board) -> u32
+    requires made { IsOf seat.old board.now }
+    ensures seat { seat.new ≡ seat.old }
+    ensures counted { result ≡ members_below (own_phase seat.old.view) (length board.now.plan.makers) }
+    ensures few { result ≤ max_phasers }
+{
+    let mut count = 0;
+    for p in 0..board.phasers() {
+        match seat.phase(board, PhaserId(p)) {
+            Some(_) => count += 1,
+            None => {}
+        }
+    }
+    count
+}
