@@ -4,6 +4,7 @@ pub mod Dropping
 pub mod CycleDead
 pub mod Decided
 pub mod Supposing
+pub mod Followed
 pub mod NobodyDies
 pub mod SamePlan
 pub mod RefusedInCycle

@@ -1,3 +1,4 @@
 pub mod Decisions
 pub mod OnBoard
+pub mod Kept
 pub mod inside

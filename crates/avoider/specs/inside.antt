@@ -1,2 +1,3 @@
 pub mod OffCycle
 pub mod Judged
+pub mod Followings

@@ -4,6 +4,7 @@
 mod deciding;
 mod decision;
 mod event;
+mod kept;
 pub mod laws;
 mod lock;
 mod off_cycle;
@@ -12,5 +13,6 @@ mod step;
 pub use deciding::decide;
 pub use decision::Decision;
 pub use event::go_on;
+pub use kept::avoid_step_kept;
 pub use lock::{release, try_take};
 pub use step::avoid_step;

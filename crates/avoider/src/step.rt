@@ -74,7 +74,7 @@ fn is_on_no_cycle(world: &World, t: TaskId, event: Event) -> bool
 }
 
 // The event of the await at which a task stands.
-fn event_before(world: &World, t: TaskId) -> Event
+pub(crate) fn event_before(world: &World, t: TaskId) -> Event
     requires task { t.0 < length world.now.plan.parents }
     requires before { (e : Event) × IsAtAwaitOf world.now t.0 e }
     ensures before { IsAtAwaitOf world.now t.0 result }

@@ -1,0 +1,17 @@
+-- What a decision leaves of a kept order.
+use Rattle.std.specs.Prelude.{List}
+use Rattle.armus_base.specs.declared.status.Status.{Status}
+use Rattle.order_graph.specs.Following.{ArePairs, StaysWhereOrdered}
+use Rattle.order_graph.specs.Orders.{OrderValue}
+use Rattle.avoider.specs.declared.decision.Decision.{Decision}
+use Rattle.avoider.specs.declared.decision.Decision.TheVariants.{Published, Refused}
+
+-- the edges are the pairs of the statuses, and where the old positions ordered all pairs, no task has moved
+pub record HoldsPairs (ss : List Status) (old new : OrderValue) : Type 0 where
+  pub edges : ArePairs ss new
+  pub stays : StaysWhereOrdered ss old new
+
+-- so it is where the await was published
+abbrev pub HoldsIfPublished : List Status → OrderValue → OrderValue → Decision → Type 0
+HoldsIfPublished ss old new (Published e) = HoldsPairs ss old new
+HoldsIfPublished ss old new (Refused c) = Unit {0}
