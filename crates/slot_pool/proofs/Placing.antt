@@ -12,7 +12,7 @@ use Rattle.slot_pool.specs.Steps.{Given}
 use Rattle.slot_pool.proofs.Members.{contains_else, contains_first, contains_rest}
 use Rattle.slot_pool.proofs.Changing.{Renews, changed, placed_renewed}
 
-gives_renews : (t k : ℕ) (v : View) (us : List ℕ) → v.numbers ≡ k ∷ [] → v.has ≡ t ∷ us → Renews t v (giving v)
+gives_renews : (t k : ℕ) (v : View) (us : List ℕ) → v.numbers ≡ k ∷ [] → v.has ≡ t ∷ us → Renews t v (giving t v)
 gives_renews t k v us mine had =
     record {
       numbers = refl;
@@ -41,15 +41,15 @@ module _ {R : Type 0} (number_of : R → ℕ) (key : Setting) where
       let f = holds.views id v at in
       let own = f.has t (subst (λ ts. Contains ts t) (sym had) (contains_first t us)) in
       let re = gives_renews t k v us mine had in (
-        giving v,
+        giving t v,
         gives,
         tt,
-        changed number_of key s holds id t v (giving v) at re 1 (some (Some r)) own.2 k mine (λ e. omega arith) (λ c. absurd (once (subst (λ ts. Contains (drop 1 ts) t) had c)))
+        changed number_of key s holds id t v (giving t v) at re 1 (some (Some r)) own.2 k mine (λ e. omega arith) (λ c. absurd (once (subst (λ ts. Contains (drop 1 ts) t) had c)))
             (λ j x o xj c.
             let theirs = (holds.views j x xj).has t c in
             let same : theirs.0 ≡ own.0 = let a = theirs.3 in let b = own.3 in omega arith in
             o (holds.one_view j id theirs.0 x v xj at (subst (λ ns. Contains ns theirs.0) (sym theirs.1) (contains_first theirs.0 [])) (subst (λ ns. Contains ns theirs.0) (ap (λ i. i ∷ []) same ∙ sym own.1) (contains_first theirs.0 []))))
             (at_home r (get_or-set_same s.words t 1 0 (let l = holds.words in let m = own.2 in omega arith)) (set_here s.homes t (some (Some r)) (let l = holds.slots in let m = own.2 in omega arith)) name
-            (placed_renewed s.views id t v (giving v) at re t (had_placed s holds t id own.0 v own.3 own.2))),
+            (placed_renewed s.views id t v (giving t v) at re t (had_placed s holds t id own.0 v own.3 own.2))),
         refl,
       )

@@ -54,9 +54,9 @@ module _ {R : Type 0} (table after : TableId) (same : after ≡ table) (number :
       (record { alone = w.0.alone; few = w.0.few; slots = ap (λ (xs : List (ℕ × Option R)). (t, None) ∷ xs) w.0.slots; known = known_more t; inside = inside_more t small })
 
   -- the slot that it took last is at home
-  pub given_at_work : (t : ℕ) (others : List ℕ) → me.0.has ≡ t ∷ others → now ≡ (giving me.0, rest me.1) → Keeps after number now entries room
+  pub given_at_work : (t : ℕ) (others : List ℕ) → me.0.has ≡ t ∷ others → now ≡ (giving t me.0, rest me.1) → Keeps after number now entries room
   given_at_work t others had is =
-      stays (giving me.0, rest me.1) is
+      stays (giving t me.0, rest me.1) is
       (record {
         alone = w.0.alone;
         few = w.0.few;

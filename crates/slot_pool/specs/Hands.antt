@@ -44,7 +44,7 @@ seeing worker v = record { table = worker.table; view = v }
 abbrev pub first_workers : Frame → List Hand
 first_workers pool = map (λ k. record { table = pool.table; view = first_view pool.workers k }) (range_with_len 0 pool.workers)
 
--- a claim of task t made one compare and exchange. Got: it found the task at home, and the record is that task's. Held: it found the word of another
+-- a claim of task t made one step, a compare and exchange. Got: it found the task at home, and the record is that task's. Held: it found the word of another
 -- worker. Empty: it found nothing there, of a task that the worker did not know
 abbrev pub AnswersClaim : {R : Type 0} → (R → ℕ) → ℕ → Hand → Hand → Claim R → Type 0
 AnswersClaim number_of t before now (Got r) = number_of r ≡ t × now ≡ seeing before (claiming t before.view)
@@ -57,10 +57,10 @@ has_after t (Got r) = t ∷ []
 has_after t (Held k) = []
 has_after t Empty = []
 
--- a record of task t was to be placed, by one compare and exchange. Ok: it found nothing there, of a task that the worker did not know, and the record is
--- home. Err: it found another word, and the record came back
+-- a record of task t was to be placed. Ok: a compare and exchange found nothing there, of a task that the worker did not know, and a second step brought
+-- the record home. Err: the one step was a compare and exchange that found another word, and the record came back
 abbrev pub AnswersPlace : {R : Type 0} → ℕ → R → Hand → Hand → Result (Unit {0}) R → Type 0
-AnswersPlace t item before now (Ok u) = (Contains before.view.knows t → ⊥) × now ≡ seeing before (giving (placing t before.view))
+AnswersPlace t item before now (Ok u) = (Contains before.view.knows t → ⊥) × now ≡ seeing before (giving t (placing t before.view))
 AnswersPlace t item before now (Err r) = r ≡ item × (n : ℕ) × n ≢ 0 × now ≡ seeing before (finding t n before.view)
 
 -- one of the workers has placed t

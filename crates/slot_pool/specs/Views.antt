@@ -1,27 +1,27 @@
 -- What a seat of a pool knows, and what its steps make of that.
-use Rattle.std.specs.Prelude.{ℕ, [], ◌∷◌, ◌++◌, take, drop, ◌==◌, if◌then◌else◌}
+use Rattle.std.specs.Prelude.{Some, None, ℕ, [], ◌∷◌, ◌++◌, take, drop, ◌==◌, if◌then◌else◌}
 use Rattle.std.specs.List.{range_with_len}
 use Rattle.slot_pool.specs.declared.view.View.{View}
 
 -- one compare and exchange at the word of task t found n
 abbrev pub trying : ℕ → ℕ → View → View
-trying t n v = record v { tries = (t, n) ∷ v.tries }
+trying t n v = record v { steps = (t, Some n) ∷ v.steps }
 
 -- it found n, which is not 0: the task is known from now on
 abbrev pub finding : ℕ → ℕ → View → View
-finding t n v = record v { knows = t ∷ v.knows; tries = (t, n) ∷ v.tries }
+finding t n v = record v { knows = t ∷ v.knows; steps = (t, Some n) ∷ v.steps }
 
 -- it found the task at home, and has it from now on
 abbrev pub claiming : ℕ → View → View
-claiming t v = record v { knows = t ∷ v.knows; has = t ∷ v.has; tries = (t, 1) ∷ v.tries }
+claiming t v = record v { knows = t ∷ v.knows; has = t ∷ v.has; steps = (t, Some 1) ∷ v.steps }
 
 -- it found nothing there, and has the task, which counts as placed, until the record is home
 abbrev pub placing : ℕ → View → View
-placing t v = record v { knows = t ∷ v.knows; placed = t ∷ v.placed; has = t ∷ v.has; tries = (t, 0) ∷ v.tries }
+placing t v = record v { knows = t ∷ v.knows; placed = t ∷ v.placed; has = t ∷ v.has; steps = (t, Some 0) ∷ v.steps }
 
--- the record of the task that it took last is home, and it has that task no more
-abbrev pub giving : View → View
-giving v = record v { has = drop 1 v.has }
+-- the record of task t, which it took last, is home, and it has that task no more
+abbrev pub giving : ℕ → View → View
+giving t v = record v { has = drop 1 v.has; steps = (t, None) ∷ v.steps }
 
 -- the view with which a pool begins: of all workers, with task 0 placed
 abbrev pub opening_view : ℕ → View
@@ -32,7 +32,7 @@ opening_view workers =
       knows = 0 ∷ [];
       placed = 0 ∷ [];
       has = [];
-      tries = [];
+      steps = [];
     }
 
 -- the worker that is split off has the first number, and what was placed so far
@@ -49,7 +49,7 @@ joined v w = record v { numbers = v.numbers ++ w.numbers; knows = v.knows ++ w.k
 
 -- the view of a seat that was joined to another
 abbrev pub spent_view : View
-spent_view = record { numbers = []; workers = 0; knows = []; placed = []; has = []; tries = [] }
+spent_view = record { numbers = []; workers = 0; knows = []; placed = []; has = []; steps = [] }
 
 -- the view of worker k at the start: it knows task 0, and it is worker 0 that counts as having placed it
 abbrev pub first_view : ℕ → ℕ → View
@@ -60,5 +60,5 @@ first_view workers k =
       knows = 0 ∷ [];
       placed = if k == 0 then 0 ∷ [] else [];
       has = [];
-      tries = [];
+      steps = [];
     }

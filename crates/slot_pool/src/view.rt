@@ -13,6 +13,6 @@ pub struct View {
     pub placed: LinkedList<u32>,
     /// The tasks that it has now, the one that it took last first.
     pub has: LinkedList<u32>,
-    /// Each compare and exchange that it made, the last one first: of which task, and the word that it found.
-    pub tries: LinkedList<(u32, u64)>,
+    /// Each step that it made, the last one first: on which task's word, and what a compare and exchange found in it; None where the record went home.
+    pub steps: LinkedList<(u32, Option<u64>)>,
 }

@@ -95,7 +95,7 @@ impl<R: Named> Worker<R> {
     pub fn put(&mut self, pool: &Pool<R>, item: R)
         requires made { IsOf self.old pool.now }
         requires has { self.old.view.has ≡ R.number item ∷ [] }
-        ensures home { self.new ≡ seeing self.old (giving self.old.view) }
+        ensures home { self.new ≡ seeing self.old (giving (R.number item) self.old.view) }
         ensures nothing { self.new.view.has ≡ [] }
         ensures same { IsSameWorker self.old self.new }
     {
@@ -130,7 +130,7 @@ impl<R: Named> Worker<R> {
         requires made { IsOf self.old pool.now }
         requires slot { slot ≡ R.number item }
         requires has { (others : List ℕ) × (self.old.view.has ≡ R.number item ∷ others) × (Contains others (R.number item) → ⊥) }
-        ensures { self.new ≡ seeing self.old (giving self.old.view) }
+        ensures { self.new ≡ seeing self.old (giving (R.number item) self.old.view) }
     {
         let shared = &pool.slots.shared;
         let before = shared.exchange(&mut self.place, slot, Some(item));

@@ -12,5 +12,5 @@ left_for workers k =
       knows = 0 ∷ [];
       placed = if k == 0 then 0 ∷ [] else [];
       has = [];
-      tries = [];
+      steps = [];
     }
