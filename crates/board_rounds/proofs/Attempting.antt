@@ -1,21 +1,20 @@
 -- What an attempt to decide on an await makes of a seat.
-use Rattle.std.proofs.Common.{◌≡◌, ◌≢◌, ℕ, suc, ◌<◌, ◌≤◌, ◌+◌, true, false, List, [], ◌∷◌, ◌++◌, Option, Some, None, length, sym, refl, ap, ◌∙◌, subst, arith, inl, inr}
-use Rattle.std.specs.Prelude.{IsSome, unwrap_or}
+use Rattle.std.proofs.Common.{◌≡◌, ◌≢◌, ℕ, ◌+◌, true, false, List, [], ◌∷◌, Option, Some, None, length, sym, ap, ◌∙◌, subst, arith, inl, inr}
 use Rattle.std.proofs.lemmas.Bool.{cases_eq}
 use Rattle.armus_base.specs.declared.event.Event.{Event}
 use Rattle.armus_base.specs.declared.status.Status.{Status}
 use Rattle.armus_base.specs.Plans.{Action, Blocks, Plan, Refuses, action_at}
 use Rattle.armus_base.specs.Runs.{IsByCode, IsPrefix, Place, next_place}
-use Rattle.armus_base.specs.Places.{kept, members_below, phases_after, phases_at_place}
+use Rattle.armus_base.specs.Places.{kept, members_below, phases_after}
 use Rattle.armus_base.specs.Boards.{IsLawful}
 use Rattle.armus_base.specs.Seats.{MayHold}
 use Rattle.armus_base.specs.States.{Phases}
 use Rattle.armus_base.proofs.Places.{precedes_itself}
 use Rattle.board.specs.declared.view.View.{View}
-use Rattle.board.specs.Views.{avoids, next_action, own_place, place_in, seen, task_of}
-use Rattle.board.specs.Steps.{IsSameSeat, own_phase}
-use Rattle.board.specs.Locking.{FindsHeld, FreesLock, TakesLock, with_lock}
-use Rattle.board.specs.Seats.{Frame, IsOf, IsSeat, Known, MakesStep}
+use Rattle.board.specs.Views.{avoids, next_action, own_place, seen, task_of}
+use Rattle.board.specs.Steps.{own_phase}
+use Rattle.board.specs.Locking.{FindsHeld, FreesLock, TakesLock}
+use Rattle.board.specs.Seats.{IsSeat, Known, MakesStep}
 use Rattle.board.proofs.Seated.{next_there}
 use Rattle.phase_scan.specs.Looks.{LoadsAlone}
 use Rattle.phase_scan.proofs.Columns.{column_goes}
@@ -23,9 +22,9 @@ use Rattle.phase_scan.proofs.Loads.{goes_both, longest_later}
 use Rattle.phase_scan.proofs.Supposes.{own_phase_stays}
 use Rattle.verdict.specs.declared.found.Cycle.{Cycle}
 use Rattle.avoider.specs.OnBoard.{HasPublished, HasRefused, IsUndecided, Judges}
-use Rattle.board_rounds.specs.Turns.{EndsTurn, Goes, HasLeftAll, LeadsTo, is_locked_out}
+use Rattle.board_rounds.specs.Turns.{EndsTurn, Goes, LeadsTo, is_locked_out}
 use Rattle.board_rounds.specs.inside.Attempts.{IsRefusedAt, drops_below}
-use Rattle.board_rounds.proofs.Goings.{goes_itself, goes_loads, goes_made, goes_on, goes_step, goes_then, next_still, own_stays, same_task, stepped_place, task_is}
+use Rattle.board_rounds.proofs.Goings.{goes_loads, goes_made, goes_on, goes_step, goes_then, next_still, own_stays, same_task, stepped_place, task_is}
 use Rattle.board_rounds.proofs.Leaving.{drops_go, has_left_all}
 
 -- steps between a taking and a freeing of the lock

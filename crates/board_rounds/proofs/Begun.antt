@@ -1,14 +1,13 @@
 -- An op that has begun.
-use Rattle.std.proofs.Common.{◌≡◌, ◌≢◌, ℕ, zero, suc, List, [], ◌∷◌, Option, Some, None, drop, sym, refl, ap, ◌∙◌, subst, false}
-use Rattle.armus_base.specs.declared.event.Event.{Event}
+use Rattle.std.proofs.Common.{◌≡◌, ◌≢◌, ℕ, zero, suc, List, [], ◌∷◌, Option, Some, None, drop, refl, ap, ◌∙◌}
 use Rattle.armus_base.specs.declared.op.Op.{Op}
 use Rattle.armus_base.specs.declared.op.Op.TheVariants.{Adv, Await, Drop, Fork, Make, Reg}
-use Rattle.armus_base.specs.Plans.{Action, Advances, Blocks, Drops, Forks, Makes, Passes, Refuses, Registers, action_at, actions, actions_of, code_of}
+use Rattle.armus_base.specs.Plans.{Action, Advances, Blocks, Drops, Forks, Makes, Passes, Refuses, Registers, actions, actions_of, code_of}
 use Rattle.armus_base.specs.Places.{phases_after, published_after}
 use Rattle.armus_base.specs.Runs.{Place, next_place}
 use Rattle.armus_base.specs.States.{awaited, event_at, event_on}
 use Rattle.board.specs.Views.{next_action, own_place, task_of}
-use Rattle.board.specs.Seats.{Known, event_of}
+use Rattle.board.specs.Seats.{Known}
 use Rattle.board.specs.inside.Walking.{HasBegun, begins, left_of}
 use Rattle.board.proofs.Seated.{event_here, next_there, place_made}
 use Rattle.board.proofs.Walking.{HasStepped, IsBefore, before_next, begun_published, begun_then, op_left}

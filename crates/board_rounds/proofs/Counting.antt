@@ -1,6 +1,6 @@
 -- How many events a task has made.
-use Rattle.std.proofs.Common.{◌≡◌, ◌≢◌, ℕ, zero, suc, ◌<◌, ◌≤◌, ◌+◌, ◌-◌, List, [], ◌∷◌, ◌++◌, Option, Some, None, length, length-append, sym, refl, ap, ◌∙◌, subst, arith, inl, inr, ◌⊎◌}
-use Rattle.std.specs.Prelude.{IsSome, is_some, if◌then◌else◌}
+use Rattle.std.proofs.Common.{◌≡◌, ℕ, suc, ◌<◌, ◌≤◌, ◌+◌, ◌-◌, List, [], ◌∷◌, Option, Some, None, length, refl, ap, ◌∙◌, arith, inl, inr}
+use Rattle.std.specs.Prelude.{is_some, if◌then◌else◌}
 use Rattle.armus_base.specs.Limits.{max_phasers}
 use Rattle.armus_base.specs.Plans.{Action, Advances, Blocks, Drops, Forks, Makes, Passes, Plan, Refuses, Registers, actions}
 use Rattle.armus_base.specs.Runs.{IsByCode, Place, next_place}
@@ -8,7 +8,7 @@ use Rattle.armus_base.specs.CheckedPlans.{IsCheckedPlan}
 use Rattle.pl_core.proofs.StepKinds.{few_actions}
 use Rattle.board.specs.Views.{own_place, task_of}
 use Rattle.board.specs.Seats.{Frame}
-use Rattle.board_rounds.specs.Turns.{Acts, LeadsTo, MakesSome, Working}
+use Rattle.board_rounds.specs.Turns.{LeadsTo, MakesSome, Working}
 use Rattle.board_rounds.specs.Crews.{steps_of}
 use Rattle.board_rounds.proofs.Advancing.{no_drop, task_further}
 use Rattle.board_rounds.proofs.Goings.{same_task}

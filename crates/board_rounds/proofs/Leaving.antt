@@ -1,16 +1,15 @@
 -- A refused task that leaves its phasers, one after the other.
-use Rattle.std.proofs.Common.{◌≡◌, ◌≢◌, ℕ, zero, suc, ◌<◌, ◌≤◌, ◌+◌, Bool, true, false, List, [], ◌∷◌, ◌++◌, Option, Some, None, length, sym, refl, ap, ◌∙◌, subst, arith, inl, inr, append-nil, length-append}
+use Rattle.std.proofs.Common.{◌≡◌, ℕ, zero, suc, ◌≤◌, ◌+◌, Bool, true, false, [], ◌∷◌, ◌++◌, Option, Some, None, length, sym, refl, ap, ◌∙◌, subst, arith, inl, inr, append-nil, length-append}
 use Rattle.std.specs.Prelude.{IsSome, is_some, if◌then◌else◌}
-use Rattle.std.proofs.lemmas.Bool.{cases_Bool, cases_lt, false≢true}
+use Rattle.std.proofs.lemmas.Bool.{cases_lt}
 use Rattle.armus_base.specs.Limits.{max_phasers}
-use Rattle.armus_base.specs.Plans.{Action, Drops, Plan, Refuses}
+use Rattle.armus_base.specs.Plans.{Drops, Plan}
 use Rattle.armus_base.specs.Runs.{IsByCode, Place, next_place}
 use Rattle.armus_base.specs.Places.{kept, members_below, phases_after, phases_at_place}
 use Rattle.armus_base.specs.States.{Phases}
 use Rattle.armus_base.specs.CheckedPlans.{IsCheckedPlan}
 use Rattle.armus_base.proofs.Fixed.{kept_above, kept_below, members_below-none, members_below-suc}
 use Rattle.board.specs.Views.{own_place, task_of}
-use Rattle.board.specs.Steps.{own_phase}
 use Rattle.board.specs.Seats.{IsSeat, Known, MakesStep}
 use Rattle.board.proofs.Ranges.{phaser_of_member}
 use Rattle.pl_core.proofs.Refusing.{dropped_below}

@@ -1,5 +1,5 @@
 -- What comes of an op that was to begin, and how far its task has come then.
-use Rattle.std.proofs.Common.{◌≡◌, ◌≢◌, ℕ, suc, ◌<◌, ◌≤◌, ◌+◌, ◌^◌, Bool, true, false, List, [], ◌∷◌, ◌++◌, Option, Some, None, length, drop, sym, refl, ap, ◌∙◌, subst, arith, append-nil}
+use Rattle.std.proofs.Common.{◌≡◌, ℕ, suc, ◌<◌, ◌≤◌, ◌+◌, ◌^◌, true, false, List, [], ◌∷◌, ◌++◌, Option, Some, None, length, drop, sym, refl, ap, ◌∙◌, subst, arith}
 use Rattle.std.specs.Prelude.{IsSome}
 use Rattle.std.proofs.lemmas.Bool.{false≢true}
 use Rattle.armus_base.specs.declared.ids.PhaserId.{PhaserId}
@@ -10,7 +10,7 @@ use Rattle.armus_base.specs.Plans.{Action, Advances, Blocks, Drops, Forks, Makes
 use Rattle.armus_base.specs.Places.{published_after}
 use Rattle.armus_base.specs.Runs.{Place, next_place}
 use Rattle.armus_base.proofs.Fixed.{action_within}
-use Rattle.board.specs.Seats.{Frame, IsSeat, Known, event_of}
+use Rattle.board.specs.Seats.{Frame, Known, event_of}
 use Rattle.board.specs.Steps.{own_phase}
 use Rattle.board.specs.Views.{own_place, task_of}
 use Rattle.board.specs.inside.Walking.{HasBegun, begins, left_of}
@@ -19,9 +19,9 @@ use Rattle.board.proofs.Walking.{IsBefore, before_next}
 use Rattle.board_rounds.specs.declared.deciding.Attempt.TheVariants.{Begun, LockedOut, Refused}
 use Rattle.board_rounds.specs.inside.Attempts.{Begins, IsRefusedAt, drops_below}
 use Rattle.board_rounds.specs.Tasks.{HasCome}
-use Rattle.board_rounds.specs.Turns.{Acts, AreChildSeats, EndsTurn, Goes, LeadsTo, MakesSome, Working, forks_of, no_child}
+use Rattle.board_rounds.specs.Turns.{Acts, AreChildSeats, EndsTurn, Goes, LeadsTo, MakesSome, Working, forks_of}
 use Rattle.board_rounds.proofs.Begun.{begun_on}
-use Rattle.board_rounds.proofs.Goings.{acts_alone, same_task, some_alone, some_steps}
+use Rattle.board_rounds.proofs.Goings.{acts_alone, same_task, some_steps}
 use Rattle.board_rounds.proofs.Halting.{events_fit, no_refusal, op_fits}
 use Rattle.board_rounds.proofs.Leaving.{drops_counted, drops_fork_nobody, few_memberships}
 

@@ -1,8 +1,8 @@
 -- A task passes the await on which it is published.
-use Rattle.std.proofs.Common.{◌≡◌, ◌∙◌, ◌<◌, ◌+◌, ◌^◌, ℕ, [], ◌∷◌, Bool, true, false, Some, None, length, arith, refl, ap, subst, sym}
+use Rattle.std.proofs.Common.{◌≡◌, ◌∙◌, ◌<◌, ◌+◌, ◌^◌, ℕ, [], ◌∷◌, Bool, true, false, Some, None, arith, refl, ap, subst, sym}
 use Rattle.std.specs.Prelude.{IsSome}
-use Rattle.std.proofs.lemmas.Bool.{cases_Bool, false≢true}
-use Rattle.armus_base.specs.Plans.{Passes, actions}
+use Rattle.std.proofs.lemmas.Bool.{false≢true}
+use Rattle.armus_base.specs.Plans.{Passes}
 use Rattle.armus_base.specs.Runs.{Place}
 use Rattle.board.specs.Seats.{Frame, IsSeat, Known, MakesPass, event_of}
 use Rattle.board.specs.Views.{own_place, task_of}
@@ -12,7 +12,7 @@ use Rattle.board.proofs.Walking.{begun_passed, passes_next, published_is}
 use Rattle.phase_scan.specs.Looks.{LoadsAlone}
 use Rattle.board_rounds.specs.declared.task.Task.TheInside.{Inside}
 use Rattle.board_rounds.specs.Tasks.{IsWorking}
-use Rattle.board_rounds.specs.Turns.{HasLeftAll, MakesSome, Working}
+use Rattle.board_rounds.specs.Turns.{MakesSome}
 use Rattle.board_rounds.proofs.Goings.{goes_step, goes_then, own_stays, some_alone, stepped_place}
 use Rattle.board_rounds.proofs.Halting.{begun_loads, events_fit}
 

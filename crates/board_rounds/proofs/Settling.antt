@@ -1,26 +1,13 @@
 -- What a viewer knows that has taken in all seats of a crew.
-use Rattle.std.proofs.Common.{◌≡◌, ℕ, ◌<◌, ◌≤◌, Bool, true, false, List, [], ◌∷◌, ◌++◌, Some, None, length, sym, refl, ap, ◌∙◌, subst, arith, inl, inr, ◌⊎◌, eq-eqb, eqb-true}
-use Rattle.std.specs.Prelude.{Contains, IsSome, unwrap_or, ◌==◌, ◌||◌}
+use Rattle.std.proofs.Common.{◌≡◌, ℕ, ◌<◌, Bool, true, false, List, [], ◌∷◌, ◌++◌, sym, refl, ap, ◌∙◌, subst, inl, inr, ◌⊎◌, eq-eqb, eqb-true}
+use Rattle.std.specs.Prelude.{Contains, unwrap_or, ◌==◌, ◌||◌}
 use Rattle.std.proofs.lemmas.Bool.{false≢true}
-use Rattle.std.proofs.lemmas.List.{get_or_past}
-use Rattle.armus_base.specs.Plans.{Forks, Plan, action_at, parent_of}
-use Rattle.armus_base.proofs.Codes.{child_within}
-use Rattle.armus_base.proofs.Fixed.{forked_at_is}
-use Rattle.board.proofs.Closing.{some_task}
-use Rattle.armus_base.specs.Runs.{Place, first_place}
-use Rattle.armus_base.specs.Places.{done_by, forked_at, published_after}
-use Rattle.armus_base.specs.CheckedPlans.{IsCheckedPlan}
+use Rattle.armus_base.specs.Plans.{action_at}
+use Rattle.armus_base.specs.Runs.{Place}
 use Rattle.armus_base.proofs.Elements.{Contains-cons_cases, Contains-head, Contains-tail, nothing_in_nil}
-use Rattle.armus_base.specs.Boards.{steps_of}
-use Rattle.armus_base.proofs.Members.{plain_undropped}
-use Rattle.board.specs.declared.mode.Mode.TheVariants.{Detect}
-use Rattle.board.specs.Views.{avoids, own_place, seen, task_of}
+use Rattle.board.specs.Views.{own_place, seen, task_of}
 use Rattle.board.specs.Seats.{Frame, IsSeat, Known, TakesIn}
-use Rattle.board.specs.Closing.{AreLastOf}
-use Rattle.board.proofs.Seated.{event_here}
-use Rattle.board_rounds.specs.Turns.{EndsTurn, is_behind, is_done, is_locked_out, is_refused}
 use Rattle.board_rounds.specs.Crews.{HasSeatOf, IsClosed, IsCrew, TakesAll}
-use Rattle.board_rounds.proofs.Closed.{all_exact}
 
 -- one more
 pub takes_more : (seats : List Known) (seat a b c : Known) → TakesAll seats a b → TakesIn seat b c → TakesAll (seats ++ seat ∷ []) a c

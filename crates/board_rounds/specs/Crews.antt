@@ -1,13 +1,10 @@
 -- The seats of a run's tasks: whoever is forked by one of them has one too.
-use Rattle.std.specs.Prelude.{false, map, flat_map, slice_get, ◌≡◌, ◌≢◌, ℕ, ◌+◌, ◌-◌, ◌<◌, ◌≤◌, ◌⊎◌, true, List, [], ◌∷◌, ◌++◌, Some, None, All, Contains, IsSome, is_some, length, sum_by, ◌==◌, if◌then◌else◌}
+use Rattle.std.specs.Prelude.{false, map, flat_map, slice_get, ◌≡◌, ◌≢◌, ℕ, ◌+◌, ◌-◌, ◌<◌, ◌≤◌, ◌⊎◌, true, List, [], ◌∷◌, ◌++◌, Some, All, Contains, is_some, length, sum_by, ◌==◌, if◌then◌else◌}
 use Rattle.std.specs.List.Sorted.{IsPermutation}
 use Rattle.std.proofs.Common.{zero, suc}
 use Rattle.armus_base.specs.Plans.{Action, Plan, Forks, action_at, actions}
 use Rattle.armus_base.specs.Runs.{first_place}
-use Rattle.armus_base.specs.Places.{done_by, forked_at, published_after}
 use Rattle.armus_base.specs.Seats.{SeenBy}
-use Rattle.board.specs.declared.mode.Mode.{Mode}
-use Rattle.board.specs.Closing.{AreLawful}
 use Rattle.board.specs.Views.{own_place, seen, task_of}
 use Rattle.board.specs.Seats.{Frame, IsOf, IsSeat, Known, TakesIn}
 use Rattle.pl_core.specs.declared.place.Place.{Place as Standing}

@@ -1,5 +1,4 @@
-use Rattle.std.proofs.Common.{◌≡◌, ◌++◌, [], ◌∷◌, List, Result, Ok, Err, OnOk, sym, subst, append-nil}
-use Rattle.board.specs.Seats.{Known}
+use Rattle.std.proofs.Common.{[], ◌∷◌, Result, Ok, Err, OnOk, sym, subst, append-nil}
 use Rattle.board.specs.inside.Walking.{begins}
 use Rattle.board_rounds.specs.Turns.{AreChildSeats, forks_of, no_child}
 use Rattle.board_rounds.proofs.Goings.{goes_step}

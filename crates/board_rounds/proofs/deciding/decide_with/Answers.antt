@@ -6,7 +6,7 @@ use Rattle.board.specs.Steps.{own_phase}
 use Rattle.board.specs.Views.{avoids, next_action}
 use Rattle.avoider.specs.declared.decision.Decision.{Decision}
 use Rattle.avoider.specs.OnBoard.{IsDecidedOnBoard}
-use Rattle.board_rounds.specs.Turns.{EndsTurn, Goes}
+use Rattle.board_rounds.specs.Turns.{Goes}
 use Rattle.board_rounds.specs.inside.Attempts.{IsRefusedAt}
 use Rattle.board_rounds.proofs.Attempting.{ends_locked_out, goes_locked_out, goes_published, goes_refused}
 use Rattle.board_rounds.proofs.deciding.decide_with.Goals.{in-Published, in-Refused}

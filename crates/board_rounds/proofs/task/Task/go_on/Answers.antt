@@ -1,15 +1,13 @@
-use Rattle.std.proofs.Common.{◌≡◌, ◌<◌, ◌+◌, ◌∙◌, [], Result, Ok, Err, OnErr, inl, inr, length, refl, sym, ap, subst, arith, slice_get, false, true}
-use Rattle.std.proofs.lemmas.Bool.{false≢true}
+use Rattle.std.proofs.Common.{◌<◌, ◌+◌, ◌∙◌, [], Result, Ok, Err, OnErr, length, sym, ap, subst, arith, slice_get}
 use Rattle.armus_base.specs.Plans.{Plan, code_of}
 use Rattle.board.specs.Seats.{IsSeat, event_of}
-use Rattle.board.specs.Views.{own_place}
 use Rattle.board.proofs.Walking.{before_next, before_of_plan, is_before}
 use Rattle.board_rounds.specs.inside.Attempts.{Begins}
 use Rattle.board_rounds.specs.Tasks.{HasCome}
 use Rattle.board_rounds.specs.Turns.{Acts, EndsTurn, MakesSome, Working, is_done, is_refused}
 use Rattle.board_rounds.proofs.Goings.{acts_itself, task_is}
 use Rattle.board_rounds.proofs.Halting.{ends_done, no_event}
-use Rattle.board_rounds.proofs.Onward.{begun_come, begun_fits, begun_makes, locked_out, nothing_acts, nothing_come, refused_come, refused_fits, refused_makes}
+use Rattle.board_rounds.proofs.Onward.{begun_come, begun_fits, begun_makes, locked_out, nothing_acts, refused_come, refused_fits, refused_makes}
 use Rattle.board_rounds.proofs.task.Task.go_on.Goals as goal
 
 pub code-requires : goal.code-requires

@@ -1,4 +1,4 @@
-use Rattle.std.proofs.Common.{◌≡◌, ◌+◌, ◌∙◌, ℕ, [], ◌++◌, rules, length, length-append, sym, refl, ap, subst, arith, append-nil}
+use Rattle.std.proofs.Common.{◌+◌, ◌∙◌, [], ◌++◌, rules, length, length-append, sym, refl, ap, subst, arith, append-nil}
 use Rattle.board.specs.Seats.{IsSeat}
 use Rattle.std.specs.Prelude.{IfSome}
 use Rattle.board_rounds.specs.Turns.{MakesSome, Working}
