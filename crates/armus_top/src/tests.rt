@@ -2,6 +2,7 @@
 mod avoid;
 mod check;
 mod generated;
+mod large;
 mod outside;
 mod record;
 mod replay;
@@ -62,7 +63,7 @@ fn expect_on<R: Abort + Threads + Wait + Sync>(
     status: u8,
 ) -> Result<(), Fail> {
     let mut src = MemSource::new(input, 4000, calls(alloc, &[])?);
-    let mut out = MemSink::new(alloc, 1000, 16, calls(alloc, &[])?)?;
+    let mut out = MemSink::new(alloc, 200_000, 16, calls(alloc, &[])?)?;
     let all = words_of(alloc, given)?;
     let ended = armus(rt, alloc, all.as_slice(), &mut src, &mut out, &Still);
     assert_eq!(rt; ended, status, "with {output}");

@@ -1,8 +1,13 @@
 // The rows of `record`, and what it writes replayed.
-use super::{CROSSED, bytes, calls, expect, words_of};
+use super::large::TWO_MEET;
+use super::{CROSSED, bytes, calls, expect, expect_on, words_of};
 use crate::armus;
 use armus_base::{List, MemSink, MemSource, Still};
+use std::alloc::Global;
+use std::process::Abort;
+use std::sync::Wait;
 use std::test::Fail;
+use std::thread::Threads;
 
 #[test]
 fn rows_of_record(rt: HostRuntime) -> Result<(), Fail> {
@@ -44,27 +49,43 @@ fn a_record_of_one_worker_is_replayed(rt: HostRuntime) -> Result<(), Fail> {
     expect(&rt, alloc, &["replay"], record.as_str(), replayed, 1)
 }
 
-// What two workers record is replayed, and names the same dead tasks.
+// What the words record of the text is replayed, with this answer and status.
+fn expect_replayed<R: Abort + Threads + Wait + Sync>(
+    rt: &R,
+    alloc: Global,
+    given: &[&str],
+    text: &str,
+    output: &str,
+    status: u8,
+) -> Result<(), Fail> {
+    let words = words_of(alloc, given)?;
+    let mut src = MemSource::new(bytes(alloc, text)?, 7, calls(alloc, &[])?);
+    let mut out = MemSink::new(alloc, 200_000, 16, calls(alloc, &[])?)?;
+    let ended = armus(rt, alloc, words.as_slice(), &mut src, &mut out, &Still);
+    assert_eq!(rt; ended, status);
+    let record = List::from_vec(out.taken().to_vec(alloc)?);
+    expect_on(rt, alloc, &["replay"], record, output, status)
+}
+
+// What several workers record is replayed, and names the same dead tasks.
 #[test]
 fn a_record_is_replayed(rt: HostRuntime) -> Result<(), Fail> {
-    let alloc = rt.alloc();
-    let given = words_of(alloc, &["record", "--workers", "2"])?;
-    let mut src = MemSource::new(bytes(alloc, CROSSED)?, 7, calls(alloc, &[])?);
-    let mut out = MemSink::new(alloc, 1000, 16, calls(alloc, &[])?)?;
-    let ended = armus(&rt, alloc, given.as_slice(), &mut src, &mut out, &Still);
-    assert_eq!(rt; ended, 1);
-    let again = words_of(alloc, &["replay"])?;
-    let mut input = MemSource::new(
-        List::from_vec(out.taken().to_vec(alloc)?),
-        7,
-        calls(alloc, &[])?,
-    );
-    let mut text = MemSink::new(alloc, 1000, 16, calls(alloc, &[])?)?;
-    let status = armus(&rt, alloc, again.as_slice(), &mut input, &mut text, &Still);
-    assert_eq!(rt; status, 1);
-    assert_eq!(rt;
-        text.taken(),
-        "end steps 9 passes 0 dead t0 t1\n".as_bytes()
-    );
+    let rows: [(&[&str], &str, &str, u8); 2] = [
+        (
+            &["record", "--workers", "2"],
+            CROSSED,
+            "end steps 9 passes 0 dead t0 t1\n",
+            1,
+        ),
+        (
+            &["record", "--workers", "4"],
+            TWO_MEET,
+            "end steps 36003 passes 0 dead none\n",
+            0,
+        ),
+    ];
+    for (given, text, output, status) in rows {
+        expect_replayed(&rt, rt.alloc(), given, text, output, status)?;
+    }
     Ok(())
 }
