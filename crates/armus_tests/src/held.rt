@@ -63,16 +63,19 @@ const THREE_DONE: &str = "tasks 3 done 3 dead 0 held 0 refused 0 unforked 0\ngra
 // Two tasks that each wait for the other's first op: a run that makes its workers' turns one after another would wait in vain.
 #[test]
 fn two_tasks_act_side_by_side(rt: HostRuntime) -> Result<(), Fail> {
-    let gate = Holding::both(op(1, 0), op(2, 0));
-    expect(
-        &rt,
-        rt.alloc(),
-        &["run", "--workers", "2"],
-        TWO_MAKERS,
-        &gate,
-        &[THREE_DONE],
-        0,
-    )
+    for command in ["run", "avoid"] {
+        let gate = Holding::both(op(1, 0), op(2, 0));
+        expect(
+            &rt,
+            rt.alloc(),
+            &[command, "--workers", "2"],
+            TWO_MAKERS,
+            &gate,
+            &[THREE_DONE],
+            0,
+        )?;
+    }
+    Ok(())
 }
 
 // The same of a recorded run: behind the steps of task 0 stands one of each other task, in one of two orders.
@@ -97,16 +100,19 @@ fn two_tasks_of_a_record_act_side_by_side(rt: HostRuntime) -> Result<(), Fail> {
 // A task passes an await while another one is held: awaits are not left to the end of the run.
 #[test]
 fn an_await_is_passed_while_another_task_is_held(rt: HostRuntime) -> Result<(), Fail> {
-    let gate = Holding::until(op(2, 0), op(1, 2));
-    expect(
-        &rt,
-        rt.alloc(),
-        &["run", "--workers", "2"],
-        PASSES_AN_AWAIT,
-        &gate,
-        &[THREE_DONE],
-        0,
-    )
+    for command in ["run", "avoid"] {
+        let gate = Holding::until(op(2, 0), op(1, 2));
+        expect(
+            &rt,
+            rt.alloc(),
+            &[command, "--workers", "2"],
+            PASSES_AN_AWAIT,
+            &gate,
+            &[THREE_DONE],
+            0,
+        )?;
+    }
+    Ok(())
 }
 
 // The detector names two dead tasks while another task is held: it goes beside the tasks, and its lines are written meanwhile.

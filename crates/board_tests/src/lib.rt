@@ -12,6 +12,8 @@ mod passes;
 #[cfg(test)]
 mod plans;
 #[cfg(test)]
+mod rounds;
+#[cfg(test)]
 mod walker;
 #[cfg(test)]
 mod walks;

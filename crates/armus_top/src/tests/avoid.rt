@@ -4,9 +4,15 @@ use std::test::Fail;
 
 #[test]
 fn rows_of_avoid(rt: HostRuntime) -> Result<(), Fail> {
-    let rows: [(&[&str], &str, &str, u8); 5] = [
+    let rows: [(&[&str], &str, &str, u8); 6] = [
         (
             &["avoid", "--workers", "1"],
+            AVERAGING,
+            "tasks 4 done 1 dead 0 held 0 refused 3 unforked 0\nt1 refused p0@1\nt2 refused p0@1\nt3 refused p0@1\ngraph sg 0\n",
+            1,
+        ),
+        (
+            &["avoid", "--workers", "2"],
             AVERAGING,
             "tasks 4 done 1 dead 0 held 0 refused 3 unforked 0\nt1 refused p0@1\nt2 refused p0@1\nt3 refused p0@1\ngraph sg 0\n",
             1,
