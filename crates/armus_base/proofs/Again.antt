@@ -2,7 +2,7 @@
 use Rattle.std.proofs.Common.{◌≡◌, ◌≢◌, ℕ, ◌≤◌, true, Some, None, List, ◌∷◌, sym, ◌∙◌, ap, subst, refl, ◌⊎◌, inl, inr}
 use Rattle.std.proofs.lemmas.Bool.{cases_Bool}
 use Rattle.armus_base.specs.declared.event.Event.{Event}
-use Rattle.armus_base.specs.Plans.{Action, Advances, Blocks, Drops, Forks, Makes, Passes, Plan, Refuses, Registers, action_at, in_code}
+use Rattle.armus_base.specs.Plans.{Action, Advances, Blocks, Drops, Forks, Makes, Passes, Plan, Refuses, Registers, action_at, in_code, Aim}
 use Rattle.armus_base.specs.States.{IsLegal, IsReached, State, Step, event_at}
 use Rattle.armus_base.specs.Runs.{ArePrefixes, IsByCode, IsPlainRun, Precedes, places, state_after}
 use Rattle.armus_base.specs.Places.{IsConsistent, done_by, published_after, refused_at, state_at}
@@ -14,13 +14,13 @@ use Rattle.armus_base.proofs.NextIsLegal.{next_is_legal}
 use Rattle.armus_base.proofs.ReachedStays.{reached_stays_at_later}
 use Rattle.armus_base.proofs.Tasks.{reached_or_not}
 
-pub in_code_plain : (x : Action) → ((p : ℕ) → x ≢ Refuses p) → in_code x ≡ x
+pub in_code_plain : (x : Action) → ((aim : Aim) → x ≢ Refuses aim) → in_code x ≡ x
 in_code_plain (Refuses p) n = absurd (n p refl)
 in_code_plain x n = refl
 
 -- a task that may act is active, or it passes
 pub active_or_passes :
-    (plan : Plan) (s : State) (t : ℕ) (x : Action) → ((p : ℕ) → x ≢ Refuses p) → s.refused t ≡ None → IsLegal plan s t x →
+    (plan : Plan) (s : State) (t : ℕ) (x : Action) → ((aim : Aim) → x ≢ Refuses aim) → s.refused t ≡ None → IsLegal plan s t x →
     (s.published t ≡ None × ((p : ℕ) → x ≢ Passes p)) ⊎ ((p : ℕ) × x ≡ Passes p)
 active_or_passes plan s t (Makes q) plain unrefused l = inl (l.0.unpublished, λ p e. absurd (cc))
 active_or_passes plan s t (Registers c q) plain unrefused l = inl (l.0.unpublished, λ p e. absurd (cc))

@@ -6,59 +6,70 @@ use Rattle.std.proofs.lemmas.Option.{slice_get_within}
 use Rattle.armus_base.specs.declared.event.Event.{Event}
 use Rattle.armus_base.specs.declared.op.Op.{Op}
 use Rattle.armus_base.specs.declared.op.Op.TheVariants.{Adv, Await, Drop, Fork, Make, Reg}
-use Rattle.armus_base.specs.Plans.{Blocks, IsMakerOf, IsParentOf, Passes, Plan, Refuses, action_at, actions, actions_of, code_of, maker_of, number_or_zero, parent_of}
+use Rattle.armus_base.specs.Offsets.{target}
+use Rattle.armus_base.specs.Plans.{Action, Aim, Blocks, IsMakerOf, IsParentOf, Passes, Plan, Refuses, action_at, actions, actions_of, code_of, maker_of, number_or_zero, parent_of}
 use Rattle.armus_base.specs.States.{Phases, awaited, event_at, event_on}
 use Rattle.armus_base.specs.CheckedPlans.{HasTables}
 
 -- an await passes next after it blocks
 actions_block :
-    (ops : List Op) (k p : ℕ) → slice_get (actions_of ops) k ≡ Some (Blocks p) → slice_get (actions_of ops) (suc k) ≡ Some (Passes p)
-actions_block [] k p e = absurd (cc)
-actions_block (Make q ∷ ops) zero p e = absurd (cc)
-actions_block (Make q ∷ ops) (suc k) p e = actions_block ops k p e
-actions_block (Reg c q ∷ ops) zero p e = absurd (cc)
-actions_block (Reg c q ∷ ops) (suc k) p e = actions_block ops k p e
-actions_block (Fork c ∷ ops) zero p e = absurd (cc)
-actions_block (Fork c ∷ ops) (suc k) p e = actions_block ops k p e
-actions_block (Adv q ∷ ops) zero p e = absurd (cc)
-actions_block (Adv q ∷ ops) (suc k) p e = actions_block ops k p e
-actions_block (Drop q ∷ ops) zero p e = absurd (cc)
-actions_block (Drop q ∷ ops) (suc k) p e = actions_block ops k p e
-actions_block (Await q ∷ ops) zero p e = cc
-actions_block (Await q ∷ ops) (suc zero) p e = absurd (cc)
-actions_block (Await q ∷ ops) (suc (suc k)) p e = actions_block ops k p e
+    (ops : List Op) (k : ℕ) (aim : Aim) → slice_get (actions_of ops) k ≡ Some (Blocks aim) →
+    slice_get (actions_of ops) (suc k) ≡ Some (Passes aim.phaser)
+actions_block [] k aim e = absurd (cc)
+actions_block (Make q ∷ ops) zero aim e = absurd (cc)
+actions_block (Make q ∷ ops) (suc k) aim e = actions_block ops k aim e
+actions_block (Reg c q ∷ ops) zero aim e = absurd (cc)
+actions_block (Reg c q ∷ ops) (suc k) aim e = actions_block ops k aim e
+actions_block (Fork c ∷ ops) zero aim e = absurd (cc)
+actions_block (Fork c ∷ ops) (suc k) aim e = actions_block ops k aim e
+actions_block (Adv q ∷ ops) zero aim e = absurd (cc)
+actions_block (Adv q ∷ ops) (suc k) aim e = actions_block ops k aim e
+actions_block (Drop q ∷ ops) zero aim e = absurd (cc)
+actions_block (Drop q ∷ ops) (suc k) aim e = actions_block ops k aim e
+actions_block (Await q off ∷ ops) zero aim e = cc
+actions_block (Await q off ∷ ops) (suc zero) aim e = absurd (cc)
+actions_block (Await q off ∷ ops) (suc (suc k)) aim e = actions_block ops k aim e
 
 pub passes_next :
-    (plan : Plan) (t k p : ℕ) → action_at plan t k ≡ Some (Blocks p) → action_at plan t (suc k) ≡ Some (Passes p)
+    (plan : Plan) (t k : ℕ) (aim : Aim) → action_at plan t k ≡ Some (Blocks aim) → action_at plan t (suc k) ≡ Some (Passes aim.phaser)
 unfolding action_at actions
-passes_next plan t k p e = actions_block (code_of plan t) k p e
+passes_next plan t k aim e = actions_block (code_of plan t) k aim e
+
+-- the phaser of a pass
+passed : {p q : ℕ} → Some (Passes q) ≡ Some (Passes p) → q ≡ p
+passed e = ap phaser_of e
+  where
+    phaser_of : Option Action → ℕ
+    phaser_of (Some (Passes q)) = q
+    phaser_of o = 0
 
 -- and it blocks before it passes
 actions_pass :
     (ops : List Op) (k p : ℕ) → slice_get (actions_of ops) k ≡ Some (Passes p) →
-    (j : ℕ) × (k ≡ suc j) × slice_get (actions_of ops) j ≡ Some (Blocks p)
+    (j : ℕ) × (k ≡ suc j) × (aim : Aim) × (aim.phaser ≡ p) × slice_get (actions_of ops) j ≡ Some (Blocks aim)
 actions_pass [] k p e = absurd (cc)
 actions_pass (Make q ∷ ops) zero p e = absurd (cc)
-actions_pass (Make q ∷ ops) (suc k) p e = (let r = actions_pass ops k p e in (suc r.0, ap suc r.1, r.2))
+actions_pass (Make q ∷ ops) (suc k) p e = (let r = actions_pass ops k p e in (suc r.0, ap suc r.1, r.2, r.3, r.4))
 actions_pass (Reg c q ∷ ops) zero p e = absurd (cc)
-actions_pass (Reg c q ∷ ops) (suc k) p e = (let r = actions_pass ops k p e in (suc r.0, ap suc r.1, r.2))
+actions_pass (Reg c q ∷ ops) (suc k) p e = (let r = actions_pass ops k p e in (suc r.0, ap suc r.1, r.2, r.3, r.4))
 actions_pass (Fork c ∷ ops) zero p e = absurd (cc)
-actions_pass (Fork c ∷ ops) (suc k) p e = (let r = actions_pass ops k p e in (suc r.0, ap suc r.1, r.2))
+actions_pass (Fork c ∷ ops) (suc k) p e = (let r = actions_pass ops k p e in (suc r.0, ap suc r.1, r.2, r.3, r.4))
 actions_pass (Adv q ∷ ops) zero p e = absurd (cc)
-actions_pass (Adv q ∷ ops) (suc k) p e = (let r = actions_pass ops k p e in (suc r.0, ap suc r.1, r.2))
+actions_pass (Adv q ∷ ops) (suc k) p e = (let r = actions_pass ops k p e in (suc r.0, ap suc r.1, r.2, r.3, r.4))
 actions_pass (Drop q ∷ ops) zero p e = absurd (cc)
-actions_pass (Drop q ∷ ops) (suc k) p e = (let r = actions_pass ops k p e in (suc r.0, ap suc r.1, r.2))
-actions_pass (Await q ∷ ops) zero p e = absurd (cc)
-actions_pass (Await q ∷ ops) (suc zero) p e = (0, refl, cc)
-actions_pass (Await q ∷ ops) (suc (suc k)) p e = (let r = actions_pass ops k p e in (suc (suc r.0), ap (λ v. suc (suc v)) r.1, r.2))
+actions_pass (Drop q ∷ ops) (suc k) p e = (let r = actions_pass ops k p e in (suc r.0, ap suc r.1, r.2, r.3, r.4))
+actions_pass (Await q off ∷ ops) zero p e = absurd (cc)
+actions_pass (Await q off ∷ ops) (suc zero) p e = (0, refl, record { phaser = q.0; off = off }, passed e, refl)
+actions_pass (Await q off ∷ ops) (suc (suc k)) p e = (let r = actions_pass ops k p e in (suc (suc r.0), ap (λ v. suc (suc v)) r.1, r.2, r.3, r.4))
 
 pub blocks_before :
-    (plan : Plan) (t k p : ℕ) → action_at plan t k ≡ Some (Passes p) → (j : ℕ) × (k ≡ suc j) × action_at plan t j ≡ Some (Blocks p)
+    (plan : Plan) (t k p : ℕ) → action_at plan t k ≡ Some (Passes p) →
+    (j : ℕ) × (k ≡ suc j) × (aim : Aim) × (aim.phaser ≡ p) × action_at plan t j ≡ Some (Blocks aim)
 unfolding action_at actions
 blocks_before plan t k p e = actions_pass (code_of plan t) k p e
 
 -- no code refuses
-actions_refuse : (ops : List Op) (k p : ℕ) → slice_get (actions_of ops) k ≢ Some (Refuses p)
+actions_refuse : (ops : List Op) (k : ℕ) (aim : Aim) → slice_get (actions_of ops) k ≢ Some (Refuses aim)
 actions_refuse [] k p e = absurd (cc)
 actions_refuse (Make q ∷ ops) zero p e = absurd (cc)
 actions_refuse (Make q ∷ ops) (suc k) p e = actions_refuse ops k p e
@@ -70,11 +81,11 @@ actions_refuse (Adv q ∷ ops) zero p e = absurd (cc)
 actions_refuse (Adv q ∷ ops) (suc k) p e = actions_refuse ops k p e
 actions_refuse (Drop q ∷ ops) zero p e = absurd (cc)
 actions_refuse (Drop q ∷ ops) (suc k) p e = actions_refuse ops k p e
-actions_refuse (Await q ∷ ops) zero p e = absurd (cc)
-actions_refuse (Await q ∷ ops) (suc zero) p e = absurd (cc)
-actions_refuse (Await q ∷ ops) (suc (suc k)) p e = actions_refuse ops k p e
+actions_refuse (Await q off ∷ ops) zero p e = absurd (cc)
+actions_refuse (Await q off ∷ ops) (suc zero) p e = absurd (cc)
+actions_refuse (Await q off ∷ ops) (suc (suc k)) p e = actions_refuse ops k p e
 
-pub no_refusal : (plan : Plan) (t k p : ℕ) → action_at plan t k ≢ Some (Refuses p)
+pub no_refusal : (plan : Plan) (t k : ℕ) (aim : Aim) → action_at plan t k ≢ Some (Refuses aim)
 unfolding action_at actions
 no_refusal plan t k p e = actions_refuse (code_of plan t) k p e
 
@@ -113,11 +124,24 @@ event_on_is p (Some n) e h = (ap (λ o. phaser_of o p) (sym h), ap (λ o. Some (
     phase_of None d = d
     phase_of (Some e) d = e.n
 
--- who is a member where its code awaits has an event
-pub awaited_some : (p : ℕ) (m : Phases) → (n : ℕ) × (m p ≡ Some n) → (e : Event) × awaited (Some (Blocks p)) m ≡ Some e
-awaited_some p m member = (event_at p member.0, ap (event_on p) member.1)
+-- an option that is mapped to something is something
+pub mapped_is : (f : ℕ → ℕ) (o : Option ℕ) (n : ℕ) → option_map f o ≡ Some n → (m : ℕ) × (o ≡ Some m) × n ≡ f m
+mapped_is f None n e = absurd (cc)
+mapped_is f (Some m) n e = (m, refl, sym (ap (unwrap_or_zero) e))
+  where
+    unwrap_or_zero : Option ℕ → ℕ
+    unwrap_or_zero None = 0
+    unwrap_or_zero (Some v) = v
 
--- and such an event is one of that phaser, and of a member
+-- who is a member where its code awaits has an event
+pub awaited_some : (aim : Aim) (m : Phases) → (n : ℕ) × (m aim.phaser ≡ Some n) → (e : Event) × awaited (Some (Blocks aim)) m ≡ Some e
+awaited_some aim m member =
+    (event_at aim.phaser (target aim.off member.0), ap (λ o. event_on aim.phaser (option_map (target aim.off) o)) member.1)
+
+-- and such an event is one of that phaser, at the target of a member's phase
 pub awaited_is :
-    (p : ℕ) (m : Phases) (e : Event) → awaited (Some (Blocks p)) m ≡ Some e → e.p.0 ≡ p × ((n : ℕ) × (m p ≡ Some n))
-awaited_is p m e is = (let on = event_on_is p (m p) e is in (on.0, (e.n, on.1)))
+    (aim : Aim) (m : Phases) (e : Event) → awaited (Some (Blocks aim)) m ≡ Some e →
+    e.p.0 ≡ aim.phaser × ((n : ℕ) × (m aim.phaser ≡ Some n) × e.n ≡ target aim.off n)
+awaited_is aim m e is =
+    let on = event_on_is aim.phaser (option_map (target aim.off) (m aim.phaser)) e is in
+    (on.0, mapped_is (target aim.off) (m aim.phaser) e.n on.1)

@@ -6,14 +6,13 @@ use Rattle.armus_base.specs.declared.event.Event.{Event}
 use Rattle.armus_base.specs.CheckedPlans.{IsCheckedPlan}
 use Rattle.armus_base.specs.FinalLaws.{EndsAre, EndsTell, Tells}
 use Rattle.armus_base.specs.Finals.{end_by, end_of}
-use Rattle.armus_base.specs.Places.{IsConsistent, refused_at, state_at}
+use Rattle.armus_base.specs.Places.{IsConsistent, published_after, refused_at, state_at}
 use Rattle.armus_base.specs.Plans.{Passes, Plan, action_at}
 use Rattle.armus_base.specs.Runs.{HasEnded, IsLegalRun, is_done, is_refused, is_waiting, places, state_after}
 use Rattle.armus_base.specs.States.{IsReached, Step}
 use Rattle.armus_base.proofs.Below.{length-list_below, list_below-at}
-use Rattle.armus_base.proofs.Codes.{passes_next}
 use Rattle.armus_base.proofs.FoundArePublished.{not_both}
-use Rattle.armus_base.proofs.Published.{published_after_is}
+use Rattle.armus_base.proofs.Published.{published_after_is, published_passes}
 use Rattle.armus_base.proofs.Stepping.{places_fix}
 
 pub ends_are : EndsAre
@@ -29,9 +28,10 @@ module _ (plan : Plan) (checked : IsCheckedPlan plan) (h : List Step) (run : IsL
   -- a published task is forked, and its code goes on with the pass
   published_tells : (t : ℕ) (e : Event) → (state_after h).published t ≡ Some e → (state_after h).forked t ≡ true × action_at plan t (places h t).done ≡ Some (Passes e.p.0)
   published_tells t e is =
-      let at = published_after_is plan t (places h t).done e (sym (ap (λ s. s.published t) fixed.0) ∙ is) in
+      let published : published_after plan t (places h t).done ≡ Some e = sym (ap (λ s. s.published t) fixed.0) ∙ is in
+      let at = published_after_is plan t (places h t).done e published in
       let begun : 0 < (places h t).done = (let more = at.1 in omega arith) in
-      (ap (λ s. s.forked t) fixed.0 ∙ fixed.1.begun t begun, ap (action_at plan t) at.1 ∙ passes_next plan t at.0 e.p.0 at.2)
+      (ap (λ s. s.forked t) fixed.0 ∙ fixed.1.begun t begun, published_passes plan t (places h t).done e published)
 
   -- a refused task is forked, and its code goes on with an await
   refused_tells : (t : ℕ) (e : Event) → (state_after h).refused t ≡ Some e → (state_after h).forked t ≡ true × (action_at plan t (places h t).done ≡ None → ⊥)

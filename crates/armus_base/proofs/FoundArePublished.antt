@@ -29,7 +29,7 @@ not_both plan a consistent u e f published refused =
 pub published_within :
     (plan : Plan) → IsCheckedPlan plan → (a : ℕ → Place) (u : ℕ) (e : Event) → (state_at plan a).published u ≡ Some e → u < length plan.parents
 published_within plan checked a u e published =
-    let is = published_after_is plan u (a u).done e published in action_of_task plan checked u is.0 (Blocks e.p.0) is.2
+    let is = published_after_is plan u (a u).done e published in action_of_task plan checked u is.0 (Blocks is.2) is.4
 
 module _ (plan : Plan) (a : ℕ → Place) (consistent : IsConsistent plan a) (list : List Status) (u : ℕ) (e : Event) (published : (state_at plan a).published u ≡ Some e) where
   by_find :

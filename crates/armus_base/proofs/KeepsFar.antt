@@ -97,7 +97,7 @@ await_load_keeps_far avoids plan own a lock holds t before now checked lawful wi
 pub holder_is_task : HolderIsTask
 holder_is_task plan a t checked lawful = elim (holder_may_hold plan a t checked lawful) [
   | stands_before undropped stands ↦ action_of_task plan checked t (a t).done (Blocks stands.0) stands.1
-  | has_blocked e is ↦ let by = published_after_is plan t (a t).done e is in action_of_task plan checked t by.0 (Blocks e.p.0) by.2
+  | has_blocked e is ↦ let by = published_after_is plan t (a t).done e is in action_of_task plan checked t by.0 (Blocks by.2) by.4
   | has_refused is ↦
       let stands = ((reachable_is_fixed plan a checked (lawful_is_reachable true plan a (Some t) lawful)).1.refused t 0 is).1 in
       action_of_task plan checked t (a t).done (Blocks stands.0) stands.1

@@ -12,10 +12,10 @@ use Rattle.armus_base.proofs.SerialIsAvoided.{publishing_leaves_nobody_dead}
 use Rattle.armus_base.proofs.Steps.{updated_other, updated_same}
 
 pub list_in_hand_avoids : ListInHandAvoids
-list_in_hand_avoids plan t event seen list checked finds in_hand = (
+list_in_hand_avoids plan t aim event seen list checked finds in_hand = (
   λ alive a lock lawful has far.
       let here = in_hand a lock lawful has far in
-      let decides = list_in_hand_decides plan t event seen list a lock checked finds lawful has here.stands here.own here.others in
+      let decides = list_in_hand_decides plan t aim event seen list a lock checked finds lawful has here.stands here.own here.others in
       let nobody = nobody_dead_at plan a lock checked lawful in (
         event,
         here.stands.awaits,
@@ -23,7 +23,7 @@ list_in_hand_avoids plan t event seen list checked finds in_hand = (
       ),
   λ dead a lock lawful has far.
       let here = in_hand a lock lawful has far in
-      let decides = list_in_hand_decides plan t event seen list a lock checked finds lawful has here.stands here.own here.others in
+      let decides = list_in_hand_decides plan t aim event seen list a lock checked finds lawful has here.stands here.own here.others in
       (event, here.stands.awaits, decides.refuses dead),
 )
 

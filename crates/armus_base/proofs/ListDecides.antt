@@ -40,7 +40,7 @@ module _ (plan : Plan) (checked : IsCheckedPlan plan) (h : List Step) (run : IsL
   s = state_after h
 
   abbrev blocked : Step
-  blocked = record { task = t; action = Blocks event.p.0 }
+  blocked = record { task = t; action = Blocks enough.aim }
 
   at_h : (state_after h ≡ state_at plan (places h)) × IsConsistent plan (places h)
   at_h = places_fix plan checked h run
@@ -52,8 +52,8 @@ module _ (plan : Plan) (checked : IsCheckedPlan plan) (h : List Step) (run : IsL
   run' = (
     run,
     record {
-      legal = next_is_legal plan h t (Blocks event.p.0) checked run enough.stands.active enough.stands.next;
-      by_code = subst (λ o. IsByCode plan t (places h t).done o (Blocks event.p.0)) (sym undropped) enough.stands.next;
+      legal = next_is_legal plan h t (Blocks enough.aim) checked run enough.stands.active enough.stands.next;
+      by_code = subst (λ o. IsByCode plan t (places h t).done o (Blocks enough.aim)) (sym undropped) enough.stands.next;
     },
   )
 
@@ -168,7 +168,7 @@ module _ (plan : Plan) (checked : IsCheckedPlan plan) (h : List Step) (run : IsL
                     let other : v ≢ t = λ e. absurd (let b : dead.tasks v ≡ false = ap dead.tasks e ∙ outside in cc) in
                     record {
                       event = held.event;
-                      waits = sym (updated_other (state_after h).published t v (awaited (Some (Blocks event.p.0)) ((state_after h).phases t)) other) ∙ held.waits;
+                      waits = sym (updated_other (state_after h).published t v (awaited (Some (Blocks enough.aim)) ((state_after h).phases t)) other) ∙ held.waits;
                       by = held.by;
                       inside = held.inside;
                       phase = held.phase;
@@ -182,7 +182,7 @@ module _ (plan : Plan) (checked : IsCheckedPlan plan) (h : List Step) (run : IsL
   others : (u : ℕ) (e : Event) → u ≢ t → IsDeadBy list u → IsListedOn list u e → (state_after h).published u ≡ Some e
   others u e other dead listed =
       let there = (collected dead.tasks dead.deadlocked).0 u dead.inside in
-      sym (updated_other (state_after h).published t u (awaited (Some (Blocks event.p.0)) ((state_after h).phases t)) other)
+      sym (updated_other (state_after h).published t u (awaited (Some (Blocks enough.aim)) ((state_after h).phases t)) other)
       ∙ ap (λ r. r.published u) at_h'.0
       ∙ ap (λ v. published_after plan u v.done) there
       ∙ waiting u e listed
@@ -250,7 +250,7 @@ list_decides plan a t event list checked reachable enough =
     subst (λ s. Decides s t event list) same (decides plan checked h reachable.run t event list enough_h)
 
 pub list_in_hand_decides : ListInHandDecides
-list_in_hand_decides plan t event seen list a lock checked found lawful has stands own others =
+list_in_hand_decides plan t aim event seen list a lock checked found lawful has stands own others =
     let published = found_are_published plan t a lock seen list checked lawful has stands.active.unpublished found in
     list_decides plan a t event list checked (lawful_is_reachable true plan a lock lawful)
-    (record { nobody = published.0; stands = stands; own = own; all_published = published.1; others = others })
+    (record { nobody = published.0; aim = aim; stands = stands; own = own; all_published = published.1; others = others })

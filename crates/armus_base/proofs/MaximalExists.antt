@@ -2,17 +2,17 @@
 use Rattle.std.proofs.Common.{◌≡◌, ◌≢◌, ℕ, zero, suc, ◌<◌, ◌≤◌, ◌+◌, true, Option, Some, None, List, [], ◌∷◌, length, arith, sym, ◌∙◌, ap, subst, refl, ◌⊎◌, inl, inr}
 use Rattle.std.proofs.lemmas.Bool.{cases_eq, cases_lt, cases_Bool}
 use Rattle.armus_base.specs.declared.event.Event.{Event}
-use Rattle.armus_base.specs.Plans.{Action, Passes, Plan, Refuses, action_at, actions}
+use Rattle.armus_base.specs.Plans.{Action, Passes, Plan, Refuses, action_at, actions, Aim}
 use Rattle.armus_base.specs.States.{IsLegal, Step}
 use Rattle.armus_base.specs.Runs.{HasEnded, IsByCode, IsMaximal, IsPlainRun, is_done, is_waiting, places, state_after}
 use Rattle.armus_base.specs.Places.{done_by, refused_at}
 use Rattle.armus_base.specs.CheckedPlans.{IsCheckedPlan}
 use Rattle.armus_base.specs.RunLaws.{MaximalExists}
 use Rattle.armus_base.proofs.Stepping.{places_fix}
-use Rattle.armus_base.proofs.Codes.{passes_next, no_refusal}
+use Rattle.armus_base.proofs.Codes.{no_refusal}
 use Rattle.armus_base.proofs.Members.{plain_undropped, plain_step, other_step}
 use Rattle.armus_base.proofs.NextIsLegal.{next_is_legal}
-use Rattle.armus_base.proofs.Published.{published_after_is}
+use Rattle.armus_base.proofs.Published.{published_passes}
 use Rattle.armus_base.proofs.Again.{in_code_plain}
 use Rattle.armus_base.proofs.Tasks.{all_or_one, no_action, begun_within, done_within_code, reached_or_not}
 
@@ -54,7 +54,7 @@ all_done plan h = sum_below (done_by (places h)) (length plan.parents)
 
 module _ (plan : Plan) (checked : IsCheckedPlan plan) where
   -- what the code asks for is no refusal
-  next_in_code : (t k : ℕ) (x : Action) → action_at plan t k ≡ Some x → (p : ℕ) → x ≢ Refuses p
+  next_in_code : (t k : ℕ) (x : Action) → action_at plan t k ≡ Some x → (aim : Aim) → x ≢ Refuses aim
   next_in_code t k x next p is = no_refusal plan t k p (next ∙ ap Some is)
 
   -- a task either makes its next step, or has come to an end
@@ -87,9 +87,7 @@ module _ (plan : Plan) (checked : IsCheckedPlan plan) where
         (e : Event) → (state_after h).published t ≡ Some e → Ends ⊎ GoesOn
     waits x next forked e published =
         let at = places_fix plan checked h run.0 in
-        let is = published_after_is plan t (places h t).done e (ap (λ s. s.published t) (sym at.0) ∙ published) in
-        let passes : action_at plan t (places h t).done ≡ Some (Passes e.p.0) =
-        ap (action_at plan t) is.1 ∙ passes_next plan t is.0 e.p.0 is.2 in
+        let passes = published_passes plan t (places h t).done e (ap (λ s. s.published t) (sym at.0) ∙ published) in
         elim (reached_or_not plan checked h run.0 e.p.0 e.n) [
           | inl reached ↦ inr (goes (Passes e.p.0) passes (
             forked,

@@ -2,7 +2,7 @@
 use Rattle.std.proofs.Common.{◌≡◌, ◌≢◌, ℕ, suc, true, Option, Some, None, List, [], ◌∷◌, sym, ◌∙◌, ap, subst, refl, inl, inr}
 use Rattle.std.proofs.lemmas.Bool.{cases_eq}
 use Rattle.armus_base.specs.declared.event.Event.{Event}
-use Rattle.armus_base.specs.Plans.{Action, Advances, Blocks, Drops, Forks, Makes, Passes, Plan, Refuses, Registers, action_at, in_code}
+use Rattle.armus_base.specs.Plans.{Action, Advances, Blocks, Drops, Forks, Makes, Passes, Plan, Refuses, Registers, action_at, in_code, Aim}
 use Rattle.armus_base.specs.States.{IsLegal, IsMember, IsReached, State, Step, after, awaited, event_at, next_phase, with_phase}
 use Rattle.armus_base.specs.Runs.{IsByCode, IsLegalRun, IsPlainRun, next_place, places, state_after}
 use Rattle.armus_base.proofs.Codes.{awaited_is, event_on_is}
@@ -57,7 +57,7 @@ plain_undropped plan (e ∷ h) run t =
           ap (λ v. v.dropped) (updated_other (places h) e.task t (next_place (places h e.task).done (places h e.task).dropped e.action) other) ∙ before t
     ]
   where
-    stays : (k : ℕ) (x : Action) → ((p : ℕ) → x ≢ Refuses p) → (next_place k None x).dropped ≡ None
+    stays : (k : ℕ) (x : Action) → ((aim : Aim) → x ≢ Refuses aim) → (next_place k None x).dropped ≡ None
     stays k (Refuses p) n = absurd (n p refl)
     stays k x n = refl
 
@@ -127,7 +127,7 @@ plain_step plan e h run =
     ∙ ap (λ o. next_place (places h e.task).done o e.action) (plain_undropped plan h (run.0.0, run.1.0) e.task)
     ∙ regular (places h e.task).done e.action run.1.1
   where
-    regular : (k : ℕ) (x : Action) → ((p : ℕ) → x ≢ Refuses p) → next_place k None x ≡ record { done = suc k; dropped = None }
+    regular : (k : ℕ) (x : Action) → ((aim : Aim) → x ≢ Refuses aim) → next_place k None x ≡ record { done = suc k; dropped = None }
     regular k (Refuses p) n = absurd (n p refl)
     regular k x n = refl
 

@@ -6,7 +6,7 @@ use Rattle.armus_base.specs.declared.event.Event.{Event}
 use Rattle.armus_base.specs.CheckedPlans.{IsCheckedPlan}
 use Rattle.armus_base.specs.Deadlocks.{WouldBeDead}
 use Rattle.armus_base.specs.Places.{IsConsistent, state_at}
-use Rattle.armus_base.specs.Plans.{Action, Advances, Blocks, Drops, Forks, Makes, Passes, Plan, Refuses, Registers, action_at, in_code}
+use Rattle.armus_base.specs.Plans.{Action, Advances, Blocks, Drops, Forks, Makes, Passes, Plan, Refuses, Registers, action_at, in_code, Aim}
 use Rattle.armus_base.specs.RunLaws.{OneSerialEnd}
 use Rattle.armus_base.specs.Runs.{HasEnded, IsByCode, IsDrop, IsLegalRun, IsNextStep, is_done, is_refused, is_waiting, places, state_after}
 use Rattle.armus_base.specs.Serial.{GoesOn, IsDecided, IsSerialAvoidedEnd, IsSerialAvoidedRun, IsTurn, RoundBelow, opens, rounds}
@@ -16,13 +16,13 @@ use Rattle.armus_base.proofs.NextIsLegal.{unrefused_undropped}
 use Rattle.armus_base.proofs.Stepping.{places_fix}
 
 -- an action is that of the code, or a refusal
-code_or_refusal : (x : Action) → (x ≡ in_code x) ⊎ ((p : ℕ) × x ≡ Refuses p)
+code_or_refusal : (x : Action) → (x ≡ in_code x) ⊎ ((aim : Aim) × x ≡ Refuses aim)
 code_or_refusal (Refuses p) = inr (p, refl)
 code_or_refusal x = inl refl
 
 -- a task does not both block and refuse
-not_both_ways : (s : State) (t p : ℕ) → IsDecided s t (Blocks p) → IsDecided s t (Refuses p) → ⊥
-not_both_ways s t p blocks refuses =
+not_both_ways : (s : State) (t : ℕ) (aim : Aim) → IsDecided s t (Blocks aim) → IsDecided s t (Refuses aim) → ⊥
+not_both_ways s t aim blocks refuses =
     let same : blocks.0 ≡ refuses.0 = (let both : Some blocks.0 ≡ Some refuses.0 = sym blocks.1 ∙ refuses.1 in cc) in
     blocks.2 (subst (λ e. WouldBeDead s t e) (sym same) refuses.2)
 
@@ -41,8 +41,8 @@ one_by_code s t x y same dx dy =
             absurd (not_both_ways s t rx.0 (subst (λ v. IsDecided s t v) blocks dy) (subst (λ v. IsDecided s t v) rx.1 dx))
         | inr ry ↦
             let blocks : Blocks rx.0 ≡ Blocks ry.0 = sym (ap in_code rx.1) ∙ same ∙ ap in_code ry.1 in
-            let phaser : rx.0 ≡ ry.0 = cc in
-            rx.1 ∙ ap Refuses phaser ∙ sym ry.1
+            let aims : rx.0 ≡ ry.0 = cc in
+            rx.1 ∙ ap Refuses aims ∙ sym ry.1
       ]
     ]
 

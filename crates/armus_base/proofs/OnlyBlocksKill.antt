@@ -1,7 +1,7 @@
 -- A legal event that is no block makes nobody dead.
 use Rattle.std.proofs.Common.{◌≡◌, ◌≢◌, ℕ, false, Some, None, List, sym, ◌∙◌, ap, refl, inl, inr}
 use Rattle.armus_base.specs.declared.event.Event.{Event}
-use Rattle.armus_base.specs.Plans.{Action, Advances, Blocks, Drops, Forks, Makes, Passes, Plan, Refuses, Registers}
+use Rattle.armus_base.specs.Plans.{Action, Advances, Blocks, Drops, Forks, Makes, Passes, Plan, Refuses, Registers, Aim}
 use Rattle.armus_base.specs.States.{IsLegal, State, Step, after, next_phase}
 use Rattle.armus_base.specs.Runs.{IsLegalRun, places, state_after}
 use Rattle.armus_base.specs.Places.{published_after}
@@ -13,7 +13,7 @@ use Rattle.armus_base.proofs.NextIsLegal.{unforked}
 
 -- only a block publishes
 published_was :
-    (s : State) (u : ℕ) (x : Action) → ((p : ℕ) → x ≢ Blocks p) → (w : ℕ) (e : Event) →
+    (s : State) (u : ℕ) (x : Action) → ((aim : Aim) → x ≢ Blocks aim) → (w : ℕ) (e : Event) →
     (after s u x).published w ≡ Some e → s.published w ≡ Some e
 published_was s u (Blocks q) n w e p = absurd (n q refl)
 published_was s u (Passes q) n w e p =

@@ -7,12 +7,16 @@ use Rattle.std.proofs.lemmas.Option.{unwrap_or-slice_get}
 use Rattle.std.proofs.lemmas.Bool.{cases_eq, cases_lt, cases_Bool}
 use Rattle.armus_base.specs.declared.op.Op.{Op}
 use Rattle.armus_base.specs.declared.op.Op.TheVariants.{Adv, Await, Drop, Fork, Make, Reg}
-use Rattle.armus_base.specs.Plans.{Action, Advances, Blocks, Drops, Forks, Makes, Passes, Plan, Refuses, Registers, action_at, actions, actions_of, code_of, parent_of}
-use Rattle.armus_base.specs.States.{Phases, awaited, event_on, next_phase, updated}
+use Rattle.armus_base.specs.declared.offset.Offset.{Offset}
+use Rattle.armus_base.specs.declared.offset.Offset.TheVariants.{Ahead, Back, Here}
+use Rattle.armus_base.specs.Limits.{max_offset}
+use Rattle.armus_base.specs.Offsets.{IsNear, target}
+use Rattle.armus_base.specs.Plans.{Action, Advances, Blocks, Drops, Forks, Makes, Passes, Plan, Refuses, Registers, action_at, actions, actions_of, code_of, parent_of, Aim}
+use Rattle.armus_base.specs.States.{Phases, awaited, next_phase, updated}
 use Rattle.armus_base.specs.Places.{first_phases, own_step, phases_after, published_after, register_step, registered_by}
 use Rattle.armus_base.specs.CheckedPlans.{IsCheckedPlan}
 use Rattle.armus_base.specs.PlanLaws.{AwaitedPhasesFit, PhasesFit}
-use Rattle.armus_base.proofs.Codes.{event_on_is}
+use Rattle.armus_base.proofs.Codes.{awaited_is}
 use Rattle.armus_base.proofs.Steps.{updated_is, next_phase_is}
 use Rattle.armus_base.proofs.Published.{published_after_is}
 use Rattle.armus_base.proofs.Fixed.{first_phases_is, registered_by-suc}
@@ -52,7 +56,7 @@ raised_zero : (act : ℕ → Option Action) → raised act 0 ≡ 0
 unfolding raised
 raised_zero act = refl
 
-blocks_raise : (p : ℕ) → raises (Some (Blocks p)) ≡ 0
+blocks_raise : (aim : Aim) → raises (Some (Blocks aim)) ≡ 0
 unfolding raises
 blocks_raise p = refl
 
@@ -70,12 +74,12 @@ raised_ops (Reg c q ∷ ops) (suc k) = (let r = raised_ops ops k in let s = rais
 raised_ops (Fork c ∷ ops) (suc k) = (let r = raised_ops ops k in let s = raised_first (slice_get (actions_of (Fork c ∷ ops))) k in let o = raises_one (Some (Forks c.0)) in omega arith)
 raised_ops (Adv q ∷ ops) (suc k) = (let r = raised_ops ops k in let s = raised_first (slice_get (actions_of (Adv q ∷ ops))) k in let o = raises_one (Some (Advances q.0)) in omega arith)
 raised_ops (Drop q ∷ ops) (suc k) = (let r = raised_ops ops k in let s = raised_first (slice_get (actions_of (Drop q ∷ ops))) k in let o = raises_one (Some (Drops q.0)) in omega arith)
-raised_ops (Await q ∷ ops) (suc zero) = (let s = raised_first (slice_get (actions_of (Await q ∷ ops))) 0 in let o = raises_one (Some (Blocks q.0)) in let z = raised_none 0 in let w = raised_zero (λ j. slice_get (actions_of (Await q ∷ ops)) (suc j)) in omega arith)
-raised_ops (Await q ∷ ops) (suc (suc k)) =
+raised_ops (Await q off ∷ ops) (suc zero) = (let s = raised_first (slice_get (actions_of (Await q off ∷ ops))) 0 in let o = raises_one (Some (Blocks (record { phaser = q.0; off = off }))) in let z = raised_none 0 in let w = raised_zero (λ j. slice_get (actions_of (Await q off ∷ ops)) (suc j)) in omega arith)
+raised_ops (Await q off ∷ ops) (suc (suc k)) =
     (let r = raised_ops ops k in
-    let s = raised_first (slice_get (actions_of (Await q ∷ ops))) (suc k) in
-    let s' = raised_first (λ j. slice_get (actions_of (Await q ∷ ops)) (suc j)) k in
-    let o : raises (Some (Blocks q.0)) ≡ 0 = blocks_raise q.0 in
+    let s = raised_first (slice_get (actions_of (Await q off ∷ ops))) (suc k) in
+    let s' = raised_first (λ j. slice_get (actions_of (Await q off ∷ ops)) (suc j)) k in
+    let o : raises (Some (Blocks (record { phaser = q.0; off = off }))) ≡ 0 = blocks_raise (record { phaser = q.0; off = off }) in
     let o' = raises_one (Some (Passes q.0)) in
     omega arith)
 
@@ -172,7 +176,7 @@ module _ (plan : Plan) (checked : IsCheckedPlan plan) (p : ℕ) where
 -- an op is at most two actions
 two_each : (ops : List Op) → length (actions_of ops) ≤ 2 * length ops
 two_each [] = omega arith
-two_each (Await q ∷ ops) = (let l = two_each ops in omega arith)
+two_each (Await q off ∷ ops) = (let l = two_each ops in omega arith)
 two_each (Make q ∷ ops) = (let l = two_each ops in omega arith)
 two_each (Reg c q ∷ ops) = (let l = two_each ops in omega arith)
 two_each (Fork c ∷ ops) = (let l = two_each ops in omega arith)
@@ -214,13 +218,23 @@ unfolding work_before
 phases_fit plan t k p n checked e =
     (let l = phases_at_most plan checked p t k n e in let a = all_work plan (suc t) in omega arith)
 
+-- a near target is at most the greatest offset above the phase
+pub target_fits : (off : Offset) (m : ℕ) → IsNear off → target off m ≤ m + max_offset
+target_fits Here m near = omega arith
+target_fits (Back k) m near = omega arith
+target_fits (Ahead k) m near = (let few : k ≤ max_offset = near in omega arith)
+
 pub awaited_phases_fit : AwaitedPhasesFit
 awaited_phases_fit plan t k e checked published =
     let is = published_after_is plan t k e published in
     let now : published_after plan t (suc is.0) ≡ Some e = ap (published_after plan t) (sym is.1) ∙ published in
-    let event : event_on e.p.0 (phases_after plan t is.0 e.p.0) ≡ Some e =
-    ap (λ o. awaited o (phases_after plan t is.0)) (sym is.2) ∙ now in
-    phases_fit plan t is.0 e.p.0 e.n checked (event_on_is e.p.0 (phases_after plan t is.0 e.p.0) e event).1
+    let event : awaited (Some (Blocks is.2)) (phases_after plan t is.0) ≡ Some e =
+    ap (λ o. awaited o (phases_after plan t is.0)) (sym is.4) ∙ now in
+    let by = awaited_is is.2 (phases_after plan t is.0) e event in
+    let own = phases_fit plan t is.0 is.2.phaser by.1.0 checked by.1.1 in
+    let near = target_fits is.2.off by.1.0 (checked.codes.well_formed t is.0 (Blocks is.2) is.4).1 in
+    let same = by.1.2 in
+    omega arith
 
 -- no code has more actions than twice the ops of the plan
 pub actions_fit : (plan : Plan) (t : ℕ) → length (actions plan t) ≤ 2 * sum_by length plan.codes

@@ -2,7 +2,7 @@
 use Rattle.std.proofs.Common.{◌≡◌, ℕ, zero, suc, ◌≤◌, Option, Some, None, List, ◌∷◌, arith, sym, ◌∙◌, ap, subst, refl, inl, inr}
 use Rattle.std.proofs.lemmas.Bool.{cases_lt}
 use Rattle.armus_base.specs.declared.event.Event.{Event}
-use Rattle.armus_base.specs.Plans.{Action, Blocks, Drops, Passes, Plan, Refuses, action_at}
+use Rattle.armus_base.specs.Plans.{Action, Aim, Blocks, Drops, Passes, Plan, Refuses, action_at}
 use Rattle.armus_base.specs.States.{Phases, Step, awaited}
 use Rattle.armus_base.specs.Runs.{ArePrefixes, IsPrefix, Place, Precedes, next_place, places}
 use Rattle.armus_base.specs.Places.{IsConsistent, done_by, kept, members_below, phases_after, published_after}
@@ -13,15 +13,23 @@ use Rattle.armus_base.proofs.Codes.{passes_next, awaited_is}
 -- an event that stands published after k actions was published by the last of them
 pub published_after_is :
     (plan : Plan) (t k : ℕ) (e : Event) → published_after plan t k ≡ Some e →
-    (j : ℕ) × k ≡ suc j × action_at plan t j ≡ Some (Blocks e.p.0)
+    (j : ℕ) × k ≡ suc j × (aim : Aim) × (e.p.0 ≡ aim.phaser) × action_at plan t j ≡ Some (Blocks aim)
 published_after_is plan t zero e h = absurd (cc)
-published_after_is plan t (suc j) e h = (j, refl, go (action_at plan t j) refl (sym refl ∙ h))
+published_after_is plan t (suc j) e h = (let by = go (action_at plan t j) refl h in (j, refl, by.0, by.1, by.2))
   where
-    go : (o : Option Action) → action_at plan t j ≡ o → awaited (action_at plan t j) (phases_after plan t j) ≡ Some e → action_at plan t j ≡ Some (Blocks e.p.0)
-    go (Some (Blocks p)) is h =
-        let by : awaited (Some (Blocks p)) (phases_after plan t j) ≡ Some e = ap (λ o. awaited o (phases_after plan t j)) (sym is) ∙ h in
-        is ∙ ap (λ q. Some (Blocks q)) (sym (awaited_is p (phases_after plan t j) e by).0)
+    go :
+        (o : Option Action) → action_at plan t j ≡ o → awaited (action_at plan t j) (phases_after plan t j) ≡ Some e →
+        (aim : Aim) × (e.p.0 ≡ aim.phaser) × action_at plan t j ≡ Some (Blocks aim)
+    go (Some (Blocks aim)) is h =
+        let by : awaited (Some (Blocks aim)) (phases_after plan t j) ≡ Some e = ap (λ o. awaited o (phases_after plan t j)) (sym is) ∙ h in
+        (aim, (awaited_is aim (phases_after plan t j) e by).0, is)
     go o is h = absurd (let by : awaited o (phases_after plan t j) ≡ Some e = ap (λ o. awaited o (phases_after plan t j)) (sym is) ∙ h in cc)
+
+-- and the code goes on with the pass
+pub published_passes : (plan : Plan) (t k : ℕ) (e : Event) → published_after plan t k ≡ Some e → action_at plan t k ≡ Some (Passes e.p.0)
+published_passes plan t k e h =
+    let is = published_after_is plan t k e h in
+    ap (action_at plan t) is.1 ∙ passes_next plan t is.0 is.2 is.4 ∙ ap (λ p. Some (Passes p)) (sym is.3)
 
 -- a task at a place at which it is published is not refused
 pub published_undropped :
@@ -32,8 +40,7 @@ published_undropped plan a consistent t e h = go (a t).dropped refl
     go None dropped = refl
     go (Some q) dropped =
         let stands = consistent.refused t q dropped in
-        let is = published_after_is plan t (a t).done e h in
-        let passes : action_at plan t (a t).done ≡ Some (Passes e.p.0) = ap (action_at plan t) is.1 ∙ passes_next plan t is.0 e.p.0 is.2 in
+        let passes = published_passes plan t (a t).done e h in
         absurd (let blocks = stands.1.1 in cc)
 
 -- a refused task does no more of its code

@@ -5,7 +5,7 @@ use Rattle.std.proofs.lemmas.Bool.{cases_eq, eqb-true, false≢true, ltb-true}
 use Rattle.armus_base.specs.declared.event.Event.{Event}
 use Rattle.armus_base.specs.declared.ids.TaskId.{TaskId}
 use Rattle.armus_base.specs.Places.{some_before}
-use Rattle.armus_base.specs.Plans.{Action, Advances, Blocks, Drops, Forks, Makes, Passes, Plan, Refuses, Registers, action_at, in_code}
+use Rattle.armus_base.specs.Plans.{Action, Advances, Blocks, Drops, Forks, Makes, Passes, Plan, Refuses, Registers, action_at, in_code, Aim}
 use Rattle.armus_base.specs.Runs.{HasEnded, IsByCode, IsMaximal, IsPlainRun, Place, is_done, is_waiting, places, state_after}
 use Rattle.armus_base.specs.Serial.{next_step, scheduled}
 use Rattle.armus_base.specs.States.{IsActive, IsLegal, State, Step}
@@ -68,7 +68,7 @@ may plan s t (Registers c p) =
 may plan s t (Forks c) = active s t && (is_drawn_by t (slice_get plan.parents c) && is_not (s.forked c))
 may plan s t (Advances p) = active s t && is_some (s.phases t p)
 may plan s t (Drops p) = active s t && is_some (s.phases t p)
-may plan s t (Blocks p) = active s t && is_some (s.phases t p)
+may plan s t (Blocks aim) = active s t && is_some (s.phases t aim.phaser)
 may plan s t (Passes p) = false
 may plan s t (Refuses p) = false
 
@@ -93,8 +93,8 @@ may_is plan s t (Drops p) e =
     let a = both (active s t) (is_some (s.phases t p)) e in
     let is = active_is s t a.0 in
     (is.forked, is.unpublished, member_is (s.phases t p) a.1, λ some. absurd (false≢true (subst (λ o. is_some o ≡ true) is.unrefused some)))
-may_is plan s t (Blocks p) e =
-    let a = both (active s t) (is_some (s.phases t p)) e in (active_is s t a.0, member_is (s.phases t p) a.1)
+may_is plan s t (Blocks aim) e =
+    let a = both (active s t) (is_some (s.phases t aim.phaser)) e in (active_is s t a.0, member_is (s.phases t aim.phaser) a.1)
 may_is plan s t (Passes p) e = absurd (false≢true e)
 may_is plan s t (Refuses p) e = absurd (false≢true e)
 
@@ -102,7 +102,7 @@ may_in_code : (plan : Plan) (s : State) (t : ℕ) (x : Action) → may plan s t 
 may_in_code plan s t (Refuses p) e = absurd (false≢true e)
 may_in_code plan s t x e = refl
 
-may_plain : (plan : Plan) (s : State) (t : ℕ) (x : Action) → may plan s t x ≡ true → (p : ℕ) → x ≡ Refuses p → ⊥
+may_plain : (plan : Plan) (s : State) (t : ℕ) (x : Action) → may plan s t x ≡ true → (aim : Aim) → x ≡ Refuses aim → ⊥
 may_plain plan s t (Refuses q) e p r = false≢true e
 may_plain plan s t x e p r = absurd (cc)
 

@@ -3,7 +3,7 @@ use Rattle.std.proofs.Common.{◌≡◌, ◌≢◌, ℕ, zero, suc, Bool, true, 
 use Rattle.std.specs.Prelude.{MatchBool}
 use Rattle.std.proofs.lemmas.Bool.{cases_Bool}
 use Rattle.armus_base.specs.declared.event.Event.{Event}
-use Rattle.armus_base.specs.Plans.{Action, Advances, Blocks, Drops, Forks, Makes, Passes, Plan, Refuses, Registers}
+use Rattle.armus_base.specs.Plans.{Action, Advances, Blocks, Drops, Forks, Makes, Passes, Plan, Refuses, Registers, Aim}
 use Rattle.armus_base.specs.States.{State, Step, after, awaited, updated}
 use Rattle.armus_base.specs.Runs.{IsLegalRun, state_after}
 use Rattle.armus_base.specs.CheckedPlans.{IsCheckedPlan}
@@ -44,9 +44,9 @@ publishing_leaves_nobody_dead s t e nobody alive u dead =
 
 -- a block of a task that would not be dead leaves nobody dead
 pub block_leaves_nobody_dead :
-    (s : State) (t p : ℕ) (e : Event) → NobodyDead s → awaited (Some (Blocks p)) (s.phases t) ≡ Some e → (WouldBeDead s t e → ⊥) →
-    NobodyDead (after s t (Blocks p))
-block_leaves_nobody_dead s t p e nobody awaits alive =
+    (s : State) (t : ℕ) (aim : Aim) (e : Event) → NobodyDead s → awaited (Some (Blocks aim)) (s.phases t) ≡ Some e → (WouldBeDead s t e → ⊥) →
+    NobodyDead (after s t (Blocks aim))
+block_leaves_nobody_dead s t aim e nobody awaits alive =
     subst (λ o. NobodyDead (record s { published = updated s.published t o })) (sym awaits) (publishing_leaves_nobody_dead s t e nobody alive)
 
 decided_avoids : (s : State) (t : ℕ) (x : Action) → NobodyDead s → IsDecided s t x → Avoids s t x

@@ -4,7 +4,7 @@ use Rattle.std.proofs.Common.{◌≡◌, ◌≢◌, ℕ, zero, suc, ◌<◌, ◌
 use Rattle.std.specs.Prelude.{◌==◌, IsSome}
 use Rattle.std.proofs.lemmas.Bool.{cases_eq, eq-eqb, or_left, ne_eqb, cond-true, cases_order, cases_lt}
 use Rattle.armus_base.specs.declared.event.Event.{Event}
-use Rattle.armus_base.specs.Plans.{Action, Advances, Blocks, Drops, Forks, Makes, Passes, Plan, Refuses, Registers, action_at, maker_of, parent_of}
+use Rattle.armus_base.specs.Plans.{Action, Advances, Blocks, Drops, Forks, Makes, Passes, Plan, Refuses, Registers, action_at, maker_of, parent_of, Aim}
 use Rattle.armus_base.specs.States.{IsLegal, Phases, State, Step, after, awaited, next_phase, opening, updated, with_phase}
 use Rattle.armus_base.specs.Runs.{IsAtAwait, IsByCode, IsLegalRun, Place, first_place, moved, next_place, places, state_after}
 use Rattle.armus_base.specs.Places.{IsConsistent, done_by, forked_at, forks, kept, made_at, makes, members_below, own_step, phases_after, phases_at, published_after, refused_at, register_step, registered_by, state_at}
@@ -254,14 +254,14 @@ kept-zero m = fun_ext (λ p. kept_above 0 p m (omega arith))
 
 -- a task refuses
 pub refuse_step :
-    (plan : Plan) (checked : IsCheckedPlan plan) (a : ℕ → Place) (consistent : IsConsistent plan a) (t p : ℕ) (a' : ℕ → Place) →
+    (plan : Plan) (checked : IsCheckedPlan plan) (a : ℕ → Place) (consistent : IsConsistent plan a) (t : ℕ) (aim : Aim) (a' : ℕ → Place) →
     (a t).dropped ≡ None → a' t ≡ record { done = (a t).done; dropped = Some 0 } → ((u : ℕ) → u ≢ t → a' u ≡ a u) →
-    action_at plan t (a t).done ≡ Some (Blocks p) → IsLegal plan (state_at plan a) t (Refuses p) →
-    after (state_at plan a) t (Refuses p) ≡ state_at plan a'
-refuse_step plan checked a consistent t p a' undropped own rest code legal =
+    action_at plan t (a t).done ≡ Some (Blocks aim) → IsLegal plan (state_at plan a) t (Refuses aim) →
+    after (state_at plan a) t (Refuses aim) ≡ state_at plan a'
+refuse_step plan checked a consistent t aim a' undropped own rest code legal =
     let now : forked_at plan (done_by a) t ≡ true = legal.0.forked in
     let same = done_same plan checked a consistent t 0 a' own rest in
-    state_ext (after (state_at plan a) t (Refuses p)) (state_at plan a')
+    state_ext (after (state_at plan a) t (Refuses aim)) (state_at plan a')
     (forked_of_same plan checked a consistent t 0 a' own rest)
     (made_of_same plan checked a consistent t 0 a' own rest)
     (subst (λ b. (u q : ℕ) → kept (a u).dropped (phases_at plan (done_by a) u) q ≡ kept (a' u).dropped (phases_at plan b u) q) same
@@ -270,11 +270,11 @@ refuse_step plan checked a consistent t p a' undropped own rest code legal =
     (λ u n. ap (λ v. kept v.dropped (phases_at plan (done_by a) u)) (rest u n))))
     (published_of_same plan checked a consistent t 0 a' own rest)
     (updated_from (λ u. refused_at plan u (a u).done (a u).dropped) (λ u. refused_at plan u (a' u).done (a' u).dropped) t
-    (awaited (Some (Blocks p)) (kept (a t).dropped (phases_at plan (done_by a) t)))
+    (awaited (Some (Blocks aim)) (kept (a t).dropped (phases_at plan (done_by a) t)))
     (ap (λ v. refused_at plan t v.done v.dropped) own
     ∙ ap (λ o. awaited o (phases_after plan t (a t).done)) code
-    ∙ ap (awaited (Some (Blocks p))) (sym (phases_forked plan checked (done_by a) t now))
-    ∙ ap (λ o. awaited (Some (Blocks p)) (kept o (phases_at plan (done_by a) t))) (sym undropped))
+    ∙ ap (awaited (Some (Blocks aim))) (sym (phases_forked plan checked (done_by a) t now))
+    ∙ ap (λ o. awaited (Some (Blocks aim)) (kept o (phases_at plan (done_by a) t))) (sym undropped))
     (λ u n. ap (λ v. refused_at plan u v.done v.dropped) (rest u n)))
 
 -- those below which nothing is kept are no more than those that were left
@@ -330,7 +330,7 @@ drop_step plan checked a consistent t q p a' dropped own rest legal =
     let m = phases_at plan (done_by a) t in
     let stands = consistent.refused t q dropped in
     let member = checked.codes.well_formed t (a t).done (Blocks stands.1.0) stands.1.1 in
-    let some = awaited_some stands.1.0 (phases_after plan t (a t).done) member in
+    let some = awaited_some stands.1.0 (phases_after plan t (a t).done) member.0 in
     let event : refused_at plan t (a t).done (a t).dropped ≡ Some some.0 =
     ap (refused_at plan t (a t).done) dropped
     ∙ ap (λ o. awaited o (phases_after plan t (a t).done)) stands.1.1

@@ -4,7 +4,7 @@ use Rattle.std.specs.Prelude.{nat_lt}
 use Rattle.std.proofs.lemmas.Bool.{ltb-true}
 use Rattle.std.proofs.lemmas.Bool.Decides.{nat_tests}
 use Rattle.armus_base.specs.declared.event.Event.{Event}
-use Rattle.armus_base.specs.Plans.{Advances, Drops, Passes, Refuses, action_at, actions, maker_of, parent_of}
+use Rattle.armus_base.specs.Plans.{Advances, Drops, Passes, Refuses, action_at, actions, maker_of, parent_of, here}
 use Rattle.armus_base.specs.States.{IsReached, event_at, updated}
 use Rattle.armus_base.specs.Runs.{IsLegalRun, is_done, is_refused, is_waiting, state_after}
 use Rattle.armus_base.specs.Deadlocks.{IsAtPhase, IsImpededWithin, IsPublishedOn, WouldBeDead}
@@ -80,7 +80,7 @@ second_run = (
   record { legal = (refl, refl, (1, refl), λ some q l. low q l); by_code = tt },
 )
   where
-    low : (q : ℕ) → q < 1 → (state_after (does 1 (Drops 0) ∷ does 1 (Refuses 1) ∷ does 1 (Advances 1) ∷ first_turn)).phases 1 q ≡ None
+    low : (q : ℕ) → q < 1 → (state_after (does 1 (Drops 0) ∷ does 1 (Refuses (here 1)) ∷ does 1 (Advances 1) ∷ first_turn)).phases 1 q ≡ None
     low zero l = refl
     low (suc q) l = absurd (omega arith)
 
@@ -113,7 +113,7 @@ round_1 = (first_turn, ([], refl, turn_0), refl)
 turn_1 : IsTurn two_tasks 1 first_turn second_turn
 turn_1 =
     record {
-      own = does 1 (Drops 1) ∷ does 1 (Drops 0) ∷ does 1 (Refuses 1) ∷ does 1 (Advances 1) ∷ [];
+      own = does 1 (Drops 1) ∷ does 1 (Drops 0) ∷ does 1 (Refuses (here 1)) ∷ does 1 (Advances 1) ∷ [];
       there = refl;
       run = second_run;
       goes_on = ((((tt, refl, tt), refl, (event_at 1 1, refl, second_dead)), refl, tt), refl, tt);

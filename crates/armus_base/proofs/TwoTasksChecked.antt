@@ -62,11 +62,11 @@ fine zero (suc (suc zero)) = ((record { 0 = 0 }, refl, refl), register_first_unf
 fine zero (suc (suc (suc zero))) = ((record { 0 = 0 }, refl, refl), register_second_unforked, register_second, (0, refl))
 fine zero (suc (suc (suc (suc zero)))) = ((record { 0 = 0 }, refl, refl), fork_once)
 fine zero (suc (suc (suc (suc (suc zero))))) = (0, refl)
-fine zero (suc (suc (suc (suc (suc (suc zero)))))) = (1, refl)
+fine zero (suc (suc (suc (suc (suc (suc zero)))))) = ((1, refl), tt)
 fine zero (suc (suc (suc (suc (suc (suc (suc zero))))))) = tt
 fine zero (suc (suc (suc (suc (suc (suc (suc (suc k)))))))) = tt
 fine (suc zero) zero = (0, refl)
-fine (suc zero) (suc zero) = (1, refl)
+fine (suc zero) (suc zero) = ((1, refl), tt)
 fine (suc zero) (suc (suc zero)) = tt
 fine (suc zero) (suc (suc (suc k))) = tt
 fine (suc (suc t)) k = tt

@@ -4,7 +4,7 @@ use Rattle.std.specs.Prelude.{Contains, IsSome}
 use Rattle.armus_base.specs.declared.event.Event.{Event}
 use Rattle.armus_base.specs.declared.status.Member.{Member}
 use Rattle.armus_base.specs.declared.status.Status.{Status}
-use Rattle.armus_base.specs.Plans.{Advances, action_at, actions, maker_of, parent_of}
+use Rattle.armus_base.specs.Plans.{Advances, action_at, actions, maker_of, parent_of, here}
 use Rattle.armus_base.specs.States.{Step, event_at}
 use Rattle.armus_base.specs.Runs.{IsLegalRun, places, state_after}
 use Rattle.armus_base.specs.Places.{first_phases, phases_after, phases_at_place, published_after, registered_by, state_at}
@@ -40,7 +40,7 @@ unfolding parent_of maker_of actions action_at
 first_locked = (
   ((((((tt, free None 0 refl), free None 0 refl), free None 0 refl), free None 0 refl), free None 0 refl), free None 0 refl),
   refl,
-  (record { forked = refl; unpublished = refl; unrefused = refl }, (0, refl)),
+  (record { forked = refl; unpublished = refl; unrefused = refl }, (here 0, refl)),
 )
 
 locked : IsLocked two_tasks second_holds
@@ -48,7 +48,7 @@ unfolding parent_of maker_of actions action_at
 locked = (
   (((first_locked, refl), refl), free None 1 refl),
   refl,
-  (record { forked = refl; unpublished = refl; unrefused = refl }, (1, refl)),
+  (record { forked = refl; unpublished = refl; unrefused = refl }, (here 1, refl)),
 )
 
 lawful : IsLawful true two_tasks (places h) (Some 1)
@@ -172,12 +172,12 @@ far = record {
   scanned = λ t is. subst (λ u. IsScanned (state_at two_tasks (places h)) 0 (published_after two_tasks u (places h u).done)) (some_is 1 t is) tt;
 }
 
-stands : StandsBefore two_tasks (state_at two_tasks (places h)) (places h) 1 (event_at 1 1)
+stands : StandsBefore two_tasks (state_at two_tasks (places h)) (places h) 1 (here 1) (event_at 1 1)
 unfolding actions action_at
-stands = subst (λ s. StandsBefore two_tasks s (places h) 1 (event_at 1 1)) same here
+stands = subst (λ s. StandsBefore two_tasks s (places h) 1 (here 1) (event_at 1 1)) same active
   where
-    here : StandsBefore two_tasks (state_after h) (places h) 1 (event_at 1 1)
-    here = record { active = record { forked = refl; unpublished = refl; unrefused = refl }; next = refl; awaits = refl }
+    active : StandsBefore two_tasks (state_after h) (places h) 1 (here 1) (event_at 1 1)
+    active = record { active = record { forked = refl; unpublished = refl; unrefused = refl }; next = refl; awaits = refl }
 
 own_phases_are : (p n : ℕ) → listed 1 p n → (state_after h).phases 1 p ≡ Some n
 own_phases_are p n l =
@@ -292,7 +292,7 @@ others =
 
 decided : Decides (state_at two_tasks (places h)) 1 (event_at 1 1) list
 decided =
-    list_in_hand_decides two_tasks 1 (event_at 1 1) seen list (places h) (Some 1) two_tasks_checked all_found lawful has_lock stands own_status others
+    list_in_hand_decides two_tasks 1 (here 1) (event_at 1 1) seen list (places h) (Some 1) two_tasks_checked all_found lawful has_lock stands own_status others
 
 second_would_be : WouldBeDead (state_at two_tasks (places h)) 1 (event_at 1 1)
 second_would_be = subst (λ s. WouldBeDead s 1 (event_at 1 1)) same second_dead
@@ -377,12 +377,12 @@ first_far = record {
       subst (λ u. IsScanned (state_at two_tasks (places before_block)) 0 (published_after two_tasks u (places before_block u).done)) (some_is 0 t is) tt;
 }
 
-first_stands : StandsBefore two_tasks (state_at two_tasks (places before_block)) (places before_block) 0 (event_at 0 1)
+first_stands : StandsBefore two_tasks (state_at two_tasks (places before_block)) (places before_block) 0 (here 0) (event_at 0 1)
 unfolding actions action_at
-first_stands = subst (λ s. StandsBefore two_tasks s (places before_block) 0 (event_at 0 1)) first_same here
+first_stands = subst (λ s. StandsBefore two_tasks s (places before_block) 0 (here 0) (event_at 0 1)) first_same active
   where
-    here : StandsBefore two_tasks (state_after before_block) (places before_block) 0 (event_at 0 1)
-    here = record { active = record { forked = refl; unpublished = refl; unrefused = refl }; next = refl; awaits = refl }
+    active : StandsBefore two_tasks (state_after before_block) (places before_block) 0 (here 0) (event_at 0 1)
+    active = record { active = record { forked = refl; unpublished = refl; unrefused = refl }; next = refl; awaits = refl }
 
 first_own : HasOwnStatus (state_at two_tasks (places before_block)) 0 (event_at 0 1) (alone ∷ [])
 first_own =
@@ -419,7 +419,7 @@ first_others =
 
 first_decided : Decides (state_at two_tasks (places before_block)) 0 (event_at 0 1) (alone ∷ [])
 first_decided =
-    list_in_hand_decides two_tasks 0 (event_at 0 1) first_seen (alone ∷ []) (places before_block) (Some 0) two_tasks_checked first_finds first_lawful
+    list_in_hand_decides two_tasks 0 (here 0) (event_at 0 1) first_seen (alone ∷ []) (places before_block) (Some 0) two_tasks_checked first_finds first_lawful
     first_has_lock first_stands first_own first_others
 
 pub decides_alive : DecidesAlive

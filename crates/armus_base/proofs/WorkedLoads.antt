@@ -1,7 +1,7 @@
 -- What single loads of the second of the two tasks show.
 use Rattle.std.proofs.Common.{◌≡◌, ℕ, zero, suc, ◌≤◌, Bool, true, Option, Some, None, arith, sym, subst, refl}
 use Rattle.armus_base.specs.declared.event.Event.{Event}
-use Rattle.armus_base.specs.Plans.{Plan, action_at, actions, maker_of, parent_of}
+use Rattle.armus_base.specs.Plans.{Plan, action_at, actions, maker_of, parent_of, here}
 use Rattle.armus_base.specs.States.{event_at}
 use Rattle.armus_base.specs.Runs.{IsAtAwait, IsPrefix, Place, Precedes, first_place}
 use Rattle.armus_base.specs.Places.{first_phases, phases_after, published_after, registered_by}
@@ -61,7 +61,7 @@ just_refused =
     record {
       within = omega arith;
       unrefused = λ e. absurd (cc);
-      before_await = λ d e. (1, refl);
+      before_await = λ d e. (here 1, refl);
       no_more = λ d e. (let none : 0 ≡ d = (cc) in omega arith);
     }
 
@@ -81,7 +81,7 @@ refused_there = refl
 
 may_hold_there : MayHold two_tasks 1 (record { done = 1; dropped = None })
 unfolding actions action_at
-may_hold_there = stands_before refl (1, refl)
+may_hold_there = stands_before refl (here 1, refl)
 
 idle_there : await_word two_tasks 1 (record { done = 3; dropped = None }) ≡ FoundIdle
 unfolding parent_of maker_of actions action_at first_phases phases_after registered_by

@@ -12,8 +12,8 @@ LeavesNobodyDead s t e = NobodyDead (if_published s t e)
 
 -- a block publishes an event that leaves nobody dead, and a refusal comes only where its task would be dead
 abbrev pub Avoids : State → ℕ → Action → Type 0
-Avoids s t (Blocks p) = (e : Event) × awaited (Some (Blocks p)) (s.phases t) ≡ Some e × LeavesNobodyDead s t e
-Avoids s t (Refuses p) = (e : Event) × awaited (Some (Blocks p)) (s.phases t) ≡ Some e × WouldBeDead s t e
+Avoids s t (Blocks a) = (e : Event) × awaited (Some (Blocks a)) (s.phases t) ≡ Some e × LeavesNobodyDead s t e
+Avoids s t (Refuses a) = (e : Event) × awaited (Some (Blocks a)) (s.phases t) ≡ Some e × WouldBeDead s t e
 Avoids s t x = Unit {0}
 
 -- an avoided run: each step is legal after those before it and next by its task's code, each block leaves nobody dead, and each refusal is of a task that

@@ -1,6 +1,7 @@
 -- Checked plans: what every plan is to which a text unfolds. (There are more: forks in one another, 70 deep, are a checked plan of no text.)
 use Rattle.std.specs.Prelude.{◌≡◌, ◌≢◌, ℕ, ◌<◌, ◌≤◌, List, [], ◌∷◌, ◌++◌, Some, None, length, slice_get, sum_by}
 use Rattle.armus_base.specs.declared.ids.TaskId.{TaskId}
+use Rattle.armus_base.specs.Offsets.{IsNear}
 use Rattle.armus_base.specs.Limits.{max_tasks, max_phasers, max_ops}
 use Rattle.armus_base.specs.Plans.{Plan, Action, Makes, Registers, Forks, Advances, Drops, Blocks, IsParentOf, IsMakerOf, parent_of, maker_of, actions, action_at}
 use Rattle.armus_base.specs.Places.{phases_after}
@@ -21,7 +22,7 @@ IsWellFormed plan t k (Registers c p) =
 IsWellFormed plan t k (Forks c) = IsParentOf plan t c × NotBefore plan t k (Forks c)
 IsWellFormed plan t k (Advances p) = IsMemberAfter plan t k p
 IsWellFormed plan t k (Drops p) = IsMemberAfter plan t k p
-IsWellFormed plan t k (Blocks p) = IsMemberAfter plan t k p
+IsWellFormed plan t k (Blocks a) = IsMemberAfter plan t k a.phaser × IsNear a.off
 IsWellFormed plan t k x = Unit {0}
 
 -- the code of its parent forks task t

@@ -1,7 +1,7 @@
 -- Laws of deadlock: only a block kills, the dead stay dead, a collected deadlock stands, and nobody dies where deadlock is avoided.
 use Rattle.std.specs.Prelude.{◌≡◌, ◌≢◌, ℕ, Bool, true, List, Option}
 use Rattle.armus_base.specs.declared.status.Status.{Status}
-use Rattle.armus_base.specs.Plans.{Plan, Action, Blocks}
+use Rattle.armus_base.specs.Plans.{Plan, Action, Aim, Blocks}
 use Rattle.armus_base.specs.States.{Step, after, IsLegal}
 use Rattle.armus_base.specs.Runs.{Place, IsReachable, IsLegalRun, state_after, places, ArePrefixes}
 use Rattle.armus_base.specs.Places.{state_at}
@@ -16,7 +16,7 @@ use Rattle.armus_base.specs.Decisions.{HasFound}
 abbrev pub OnlyBlocksKill : Type 0
 OnlyBlocksKill =
     (plan : Plan) (h : List Step) (a : ℕ) (x : Action) (t : ℕ) → IsCheckedPlan plan → IsLegalRun plan h → IsLegal plan (state_after h) a x →
-    ((p : ℕ) → x ≢ Blocks p) → IsDeadIn (after (state_after h) a x) t → IsDeadIn (state_after h) t
+    ((aim : Aim) → x ≢ Blocks aim) → IsDeadIn (after (state_after h) a x) t → IsDeadIn (state_after h) t
 
 -- a task that is dead after a run is dead, at the same place, after each run whose places are all at or after
 abbrev pub DeadStays : Type 0

@@ -2,7 +2,7 @@
 use Rattle.std.specs.Prelude.{◌≡◌, ◌≢◌, ℕ, true, List, Option, Some, None}
 use Rattle.armus_base.specs.declared.event.Event.{Event}
 use Rattle.armus_base.specs.declared.status.Status.{Status}
-use Rattle.armus_base.specs.Plans.{Plan, Action, Blocks, Refuses}
+use Rattle.armus_base.specs.Plans.{Plan, Action, Aim, Blocks, Refuses}
 use Rattle.armus_base.specs.States.{State, after, IsLegal}
 use Rattle.armus_base.specs.Runs.{Place, IsReachable}
 use Rattle.armus_base.specs.Places.{state_at}
@@ -28,8 +28,8 @@ FoundArePublished =
 -- in each lawful state that has the lock with the seat, the list in hand of a seat that has found all other tasks decides on its await
 abbrev pub ListInHandDecides : Type 0
 ListInHandDecides =
-    (plan : Plan) (t : ℕ) (event : Event) (seen : SeenBy) (list : List Status) (a : ℕ → Place) (lock : Option ℕ) → IsCheckedPlan plan →
-    HasAllFound plan t seen list → IsLawful true plan a lock → HasLockWith plan t a lock seen → StandsBefore plan (state_at plan a) a t event →
+    (plan : Plan) (t : ℕ) (aim : Aim) (event : Event) (seen : SeenBy) (list : List Status) (a : ℕ → Place) (lock : Option ℕ) → IsCheckedPlan plan →
+    HasAllFound plan t seen list → IsLawful true plan a lock → HasLockWith plan t a lock seen → StandsBefore plan (state_at plan a) a t aim event →
     HasOwnStatus (state_at plan a) t event list → HasOtherStatuses plan (state_at plan a) a t list → Decides (state_at plan a) t event list
 
 -- what a holder of the lock found of another task still agrees with the state, whatever legal step comes that its task may do
@@ -48,8 +48,8 @@ LoadKeepsLock =
 -- task may publish it where it is not dead by the list, and refuse it where it is.
 abbrev pub ListInHandAvoids : Type 0
 ListInHandAvoids =
-    (plan : Plan) (t : ℕ) (event : Event) (seen : SeenBy) (list : List Status) → IsCheckedPlan plan → HasAllFound plan t seen list →
+    (plan : Plan) (t : ℕ) (aim : Aim) (event : Event) (seen : SeenBy) (list : List Status) → IsCheckedPlan plan → HasAllFound plan t seen list →
     ((a : ℕ → Place) (lock : Option ℕ) → IsLawful true plan a lock → HasLockWith plan t a lock seen → IsAsFarOn plan (Some t) a seen →
-    IsInHand plan a t event list) →
-    ((IsDeadBy list t → ⊥) → AvoidsByWhatIsSeen plan t seen (Blocks event.p.0))
-    × (IsDeadBy list t → AvoidsByWhatIsSeen plan t seen (Refuses event.p.0))
+    IsInHand plan a t aim event list) →
+    ((IsDeadBy list t → ⊥) → AvoidsByWhatIsSeen plan t seen (Blocks aim))
+    × (IsDeadBy list t → AvoidsByWhatIsSeen plan t seen (Refuses aim))

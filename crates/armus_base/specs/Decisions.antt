@@ -2,7 +2,7 @@
 use Rattle.std.specs.Prelude.{◌≡◌, ◌≢◌, ℕ, ◌<◌, List, Some, IsSome, length}
 use Rattle.armus_base.specs.declared.event.Event.{Event}
 use Rattle.armus_base.specs.declared.status.Status.{Status}
-use Rattle.armus_base.specs.Plans.{Plan, Blocks, action_at}
+use Rattle.armus_base.specs.Plans.{Plan, Aim, Blocks, action_at}
 use Rattle.armus_base.specs.States.{State, IsActive, awaited}
 use Rattle.armus_base.specs.Runs.{Place, IsPrefix}
 use Rattle.armus_base.specs.Places.{phases_at_place, published_after, state_at}
@@ -18,11 +18,11 @@ pub record HasFound (plan : Plan) (IsOne : ℕ → Type 0) (list : List Status) 
       (u p n : ℕ) → IsOne u → IsListedAt list u p n → IsPrefix (at u) (found u p) × phases_at_place plan u (found u p) p ≡ Some n
   pub phases_before : (u p n : ℕ) → IsOne u → IsListedAt list u p n → IsPrefix (found u p) (now u)
 
--- in a state in which the tasks stand at these places, task t stands before an await of this event
-pub record StandsBefore (plan : Plan) (s : State) (now : ℕ → Place) (t : ℕ) (event : Event) : Type 0 where
+-- in a state in which the tasks stand at these places, task t stands before an await with this aim, which is then of this event
+pub record StandsBefore (plan : Plan) (s : State) (now : ℕ → Place) (t : ℕ) (aim : Aim) (event : Event) : Type 0 where
   pub active : IsActive s t
-  pub next : action_at plan t (now t).done ≡ Some (Blocks event.p.0)
-  pub awaits : awaited (Some (Blocks event.p.0)) (s.phases t) ≡ Some event
+  pub next : action_at plan t (now t).done ≡ Some (Blocks aim)
+  pub awaits : awaited (Some (Blocks aim)) (s.phases t) ≡ Some event
 
 -- the list has task t with the event, and of its phases just those that it has, each on an awaited phaser at least
 pub record HasOwnStatus (s : State) (t : ℕ) (event : Event) (list : List Status) : Type 0 where
@@ -45,14 +45,15 @@ pub record HasOtherStatuses (plan : Plan) (s : State) (now : ℕ → Place) (t :
 -- what was found.
 pub record IsEnoughToDecide (plan : Plan) (s : State) (now : ℕ → Place) (t : ℕ) (event : Event) (list : List Status) : Type 0 where
   pub nobody : NobodyDead s
-  pub stands : StandsBefore plan s now t event
+  pub aim : Aim
+  pub stands : StandsBefore plan s now t aim event
   pub own : HasOwnStatus s t event list
   pub all_published : (u : ℕ) (e : Event) → s.published u ≡ Some e → IsListedOn list u e
   pub others : HasOtherStatuses plan s now t list
 
 -- task t stands before an await of the event, and the list has its status and of each other what was found
-pub record IsInHand (plan : Plan) (now : ℕ → Place) (t : ℕ) (event : Event) (list : List Status) : Type 0 where
-  pub stands : StandsBefore plan (state_at plan now) now t event
+pub record IsInHand (plan : Plan) (now : ℕ → Place) (t : ℕ) (aim : Aim) (event : Event) (list : List Status) : Type 0 where
+  pub stands : StandsBefore plan (state_at plan now) now t aim event
   pub own : HasOwnStatus (state_at plan now) t event list
   pub others : HasOtherStatuses plan (state_at plan now) now t list
 

@@ -2,8 +2,9 @@
 use Rattle.std.specs.Prelude.{◌≡◌, ℕ, Bool, true, false, List, [], ◌∷◌, Some, None}
 use Rattle.armus_base.specs.declared.ids.PhaserId.{PhaserId}
 use Rattle.armus_base.specs.declared.ids.TaskId.{TaskId}
+use Rattle.armus_base.specs.declared.offset.Offset.TheVariants.{Here}
 use Rattle.armus_base.specs.declared.op.Op.TheVariants.{Make, Reg, Fork, Adv, Drop, Await}
-use Rattle.armus_base.specs.Plans.{Plan, Advances, Blocks, Drops, Makes, Registers, Passes, Refuses}
+use Rattle.armus_base.specs.Plans.{Plan, Advances, Blocks, Drops, Makes, Registers, Passes, Refuses, here}
 use Rattle.armus_base.specs.declared.event.Event.{Event}
 use Rattle.armus_base.specs.States.{State, IsLegal}
 use Rattle.armus_base.specs.Places.{phases_at_place}
@@ -27,7 +28,7 @@ steady =
       makers = record { 0 = 0 } ∷ [];
       codes =
           (Make (record { 0 = 0 }) ∷ Reg (record { 0 = 1 }) (record { 0 = 0 }) ∷ Fork (record { 0 = 1 }) ∷ [])
-          ∷ (Adv (record { 0 = 0 }) ∷ Await (record { 0 = 0 }) ∷ Drop (record { 0 = 0 }) ∷ [])
+          ∷ (Adv (record { 0 = 0 }) ∷ Await (record { 0 = 0 }) Here ∷ Drop (record { 0 = 0 }) ∷ [])
           ∷ [];
     }
 
@@ -85,7 +86,7 @@ makers_fall =
 -- of the steady plan no member any more tells that it has done all its code.
 pub record Excludes : Type 0 where
   pub early_refusal :
-      (avoids : Bool) (entries : List Entry) → steps_of entries ≡ does 0 (Refuses 0) ∷ before_block → IsBoardRun avoids two_tasks entries → ⊥
+      (avoids : Bool) (entries : List Entry) → steps_of entries ≡ does 0 (Refuses (here 0)) ∷ before_block → IsBoardRun avoids two_tasks entries → ⊥
   pub strange_child : (s : State) → IsLegal two_tasks s 0 (Registers 7 0) → ⊥
   pub strange_phaser : (s : State) → IsLegal two_tasks s 0 (Makes 77) → ⊥
   pub empty_set : (s : State) → IsDeadlockedSet (IsPublishedOn s) (IsAtPhase s) (λ _. false) → ⊥
@@ -106,8 +107,8 @@ pub record ExcludesPlans : Type 0 where
 -- What goes on from a run of a board that avoids deadlock and is none, by one rule of the lock each: a taking while the lock is held, a freeing by
 -- another task, a block and a refusal without the lock, and a drop by the holder.
 pub record ExcludesUnlocked : Type 0 where
-  pub second_taking : IsBoardRun true two_tasks (Takes 1 ∷ Does (does 1 (Advances 1)) ∷ Does (does 0 (Blocks 0)) ∷ first_holds) → ⊥
+  pub second_taking : IsBoardRun true two_tasks (Takes 1 ∷ Does (does 1 (Advances 1)) ∷ Does (does 0 (Blocks (here 0))) ∷ first_holds) → ⊥
   pub other_freeing : IsBoardRun true two_tasks (Frees 1 ∷ first_holds) → ⊥
-  pub unlocked_block : IsBoardRun true two_tasks (Does (does 0 (Blocks 0)) ∷ without_lock before_block) → ⊥
-  pub unlocked_refusal : IsBoardRun true two_tasks (Does (does 1 (Refuses 1)) ∷ second_stands) → ⊥
-  pub holder_drops : IsBoardRun true two_tasks (Does (does 1 (Drops 0)) ∷ Does (does 1 (Refuses 1)) ∷ second_holds) → ⊥
+  pub unlocked_block : IsBoardRun true two_tasks (Does (does 0 (Blocks (here 0))) ∷ without_lock before_block) → ⊥
+  pub unlocked_refusal : IsBoardRun true two_tasks (Does (does 1 (Refuses (here 1))) ∷ second_stands) → ⊥
+  pub holder_drops : IsBoardRun true two_tasks (Does (does 1 (Drops 0)) ∷ Does (does 1 (Refuses (here 1))) ∷ second_holds) → ⊥

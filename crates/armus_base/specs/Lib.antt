@@ -1,4 +1,5 @@
 pub mod Limits
+pub mod Offsets
 pub mod Plans
 pub mod States
 pub mod Runs

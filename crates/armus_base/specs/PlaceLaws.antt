@@ -1,7 +1,7 @@
 -- Laws of places: those to which legal runs lead, and the lawful ones of both boards.
 use Rattle.std.specs.Prelude.{◌≡◌, ◌≢◌, ℕ, ◌<◌, Bool, true, false, List, ◌∷◌, ◌++◌, Option, Some, None, Contains, length}
 use Rattle.armus_base.specs.declared.event.Event.{Event}
-use Rattle.armus_base.specs.Plans.{Plan, Action, Refuses}
+use Rattle.armus_base.specs.Plans.{Plan, Action, Aim, Refuses}
 use Rattle.armus_base.specs.States.{after, IsLegal, IsActive, IsReached}
 use Rattle.armus_base.specs.Runs.{first_place, IsAtAwait, Place, IsByCode, IsReachable, moved, state_after, ArePrefixes}
 use Rattle.armus_base.specs.Places.{IsConsistent, members_below, phases_after, state_at}
@@ -51,7 +51,7 @@ OpeningIsLawful = (avoids : Bool) (plan : Plan) → IsLawful avoids plan (λ _. 
 abbrev pub PlainStepIsLawful : Type 0
 PlainStepIsLawful =
     (plan : Plan) (a : ℕ → Place) (t : ℕ) (x : Action) → IsCheckedPlan plan → IsLawful false plan a None →
-    IsByCode plan t (a t).done (a t).dropped x → IsLegal plan (state_at plan a) t x → ((p : ℕ) → x ≢ Refuses p) →
+    IsByCode plan t (a t).done (a t).dropped x → IsLegal plan (state_at plan a) t x → ((aim : Aim) → x ≢ Refuses aim) →
     IsLawful false plan (moved a t x) None
 
 -- on a board that avoids deadlock a legal step by the code keeps the places lawful, where it avoids deadlock and is one that its task may do

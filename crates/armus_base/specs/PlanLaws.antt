@@ -1,6 +1,7 @@
 -- Laws of plans: a plan stays checked while it is unfolded, and its phases are bounded.
-use Rattle.std.specs.Prelude.{◌≡◌, ℕ, ◌<◌, ◌≤◌, Some, length, sum_by}
+use Rattle.std.specs.Prelude.{◌≡◌, ℕ, ◌+◌, ◌<◌, ◌≤◌, Some, length, sum_by}
 use Rattle.armus_base.specs.declared.event.Event.{Event}
+use Rattle.armus_base.specs.Limits.{max_offset}
 use Rattle.armus_base.specs.Plans.{Plan, actions, maker_of}
 use Rattle.armus_base.specs.Places.{phases_after, published_after}
 use Rattle.armus_base.specs.CheckedPlans.{IsCheckedPlan, HasTables, IsWithinLimits, Grows, IsSoundGrowth, first_plan}
@@ -29,7 +30,7 @@ MakersAreTasks = (plan : Plan) (p : ℕ) → IsCheckedPlan plan → p < length p
 abbrev pub PhasesFit : Type 0
 PhasesFit = (plan : Plan) (t k p n : ℕ) → IsCheckedPlan plan → phases_after plan t k p ≡ Some n → n ≤ sum_by length plan.codes
 
--- no phase that is awaited is above the number of all ops
+-- no phase that is awaited is farther above the number of all ops than an await may look
 abbrev pub AwaitedPhasesFit : Type 0
 AwaitedPhasesFit =
-    (plan : Plan) (t k : ℕ) (e : Event) → IsCheckedPlan plan → published_after plan t k ≡ Some e → e.n ≤ sum_by length plan.codes
+    (plan : Plan) (t k : ℕ) (e : Event) → IsCheckedPlan plan → published_after plan t k ≡ Some e → e.n ≤ sum_by length plan.codes + max_offset

@@ -2,6 +2,8 @@
 use Rattle.std.specs.Prelude.{◌≡◌, ℕ, List, [], ◌∷◌, Option, Some, unwrap_or, slice_get}
 use Rattle.std.specs.Option.{option_map}
 use Rattle.armus_base.specs.declared.ids.TaskId.{TaskId}
+use Rattle.armus_base.specs.declared.offset.Offset.{Offset}
+use Rattle.armus_base.specs.declared.offset.Offset.TheVariants.{Here}
 use Rattle.armus_base.specs.declared.op.Op.{Op}
 use Rattle.armus_base.specs.declared.op.Op.TheVariants.{Make, Reg, Fork, Adv, Drop, Await}
 
@@ -11,6 +13,15 @@ pub record Plan : Type 0 where
   pub makers : List TaskId
   pub codes : List (List Op)
 
+-- what an await aims at: a phaser, and how far from the task's own phase there
+pub record Aim : Type 0 where
+  pub phaser : ℕ
+  pub off : Offset
+
+-- the own phase on phaser p
+abbrev pub here : ℕ → Aim
+here p = record { phaser = p; off = Here }
+
 -- what a task does in one step
 pub data Action : Type 0 where
   Makes : (phaser : ℕ) → Action
@@ -18,9 +29,9 @@ pub data Action : Type 0 where
   Forks : (child : ℕ) → Action
   Advances : (phaser : ℕ) → Action
   Drops : (phaser : ℕ) → Action
-  Blocks : (phaser : ℕ) → Action
+  Blocks : (aim : Aim) → Action
   Passes : (phaser : ℕ) → Action
-  Refuses : (phaser : ℕ) → Action
+  Refuses : (aim : Aim) → Action
 
 -- the actions of a code: one for each op, and two for an await
 abbrev pub actions_of : List Op → List Action
@@ -30,11 +41,11 @@ actions_of (Reg c p ∷ ops) = Registers c.0 p.0 ∷ actions_of ops
 actions_of (Fork c ∷ ops) = Forks c.0 ∷ actions_of ops
 actions_of (Adv p ∷ ops) = Advances p.0 ∷ actions_of ops
 actions_of (Drop p ∷ ops) = Drops p.0 ∷ actions_of ops
-actions_of (Await p ∷ ops) = Blocks p.0 ∷ (Passes p.0 ∷ actions_of ops)
+actions_of (Await p off ∷ ops) = Blocks (record { phaser = p.0; off = off }) ∷ (Passes p.0 ∷ actions_of ops)
 
 -- the action of the code in whose place this one stands
 abbrev pub in_code : Action → Action
-in_code (Refuses p) = Blocks p
+in_code (Refuses a) = Blocks a
 in_code x = x
 
 -- task t draws task c

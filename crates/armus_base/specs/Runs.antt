@@ -2,7 +2,7 @@
 use Rattle.std.specs.Prelude.{◌≡◌, ◌≢◌, ℕ, ◌≤◌, true, List, [], ◌∷◌, Option, Some, None, IsSome}
 use Rattle.std.proofs.Common.{suc}
 use Rattle.armus_base.specs.declared.event.Event.{Event}
-use Rattle.armus_base.specs.Plans.{Plan, Action, Drops, Blocks, Refuses, in_code, action_at}
+use Rattle.armus_base.specs.Plans.{Plan, Action, Aim, Drops, Blocks, Refuses, in_code, action_at}
 use Rattle.armus_base.specs.States.{State, Step, opening, after, updated, IsLegal, IsReached}
 
 -- the state after these steps, the last one first
@@ -21,7 +21,7 @@ first_place = record { done = 0; dropped = None }
 
 -- the place after one more step
 abbrev pub next_place : ℕ → Option ℕ → Action → Place
-next_place k None (Refuses p) = record { done = k; dropped = Some 0 }
+next_place k None (Refuses a) = record { done = k; dropped = Some 0 }
 next_place k None x = record { done = suc k; dropped = None }
 next_place k (Some d) (Drops p) = record { done = k; dropped = Some (suc d) }
 next_place k (Some d) x = record { done = k; dropped = Some d }
@@ -47,7 +47,7 @@ IsByCode plan t k (Some q) x = IsDrop x
 
 -- the code of task t goes on at this place with an await that it has not published
 abbrev pub IsAtAwait : Plan → ℕ → Place → Type 0
-IsAtAwait plan t place = (p : ℕ) × action_at plan t place.done ≡ Some (Blocks p)
+IsAtAwait plan t place = (a : Aim) × action_at plan t place.done ≡ Some (Blocks a)
 
 -- the step is legal after h, and the next one by its task's code
 pub record IsNextStep (plan : Plan) (h : List Step) (e : Step) : Type 0 where
@@ -62,7 +62,7 @@ IsLegalRun plan (e ∷ h) = IsLegalRun plan h × IsNextStep plan h e
 -- nobody is refused
 abbrev pub IsPlain : List Step → Type 0
 IsPlain [] = Unit {0}
-IsPlain (e ∷ h) = IsPlain h × ((p : ℕ) → e.action ≢ Refuses p)
+IsPlain (e ∷ h) = IsPlain h × ((a : Aim) → e.action ≢ Refuses a)
 
 -- a plain run: a legal run in which nobody is refused
 abbrev pub IsPlainRun : Plan → List Step → Type 0

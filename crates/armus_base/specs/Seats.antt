@@ -117,7 +117,7 @@ pub data MayHold (plan : Plan) (t : ℕ) (place : Place) : Type 0 where
 
 -- an own step of task t; a block and a pass begin with nothing scanned
 abbrev pub seen_after_step : ℕ → Action → SeenBy → SeenBy
-seen_after_step t (Blocks p) seen = record seen { places = moved seen.places t (Blocks p); scanned = 0 }
+seen_after_step t (Blocks a) seen = record seen { places = moved seen.places t (Blocks a); scanned = 0 }
 seen_after_step t (Passes p) seen = record seen { places = moved seen.places t (Passes p); scanned = 0 }
 seen_after_step t x seen = record seen { places = moved seen.places t x }
 

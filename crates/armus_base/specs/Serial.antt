@@ -9,8 +9,8 @@ use Rattle.armus_base.specs.Deadlocks.{WouldBeDead}
 
 -- a task blocks where it would not be dead, and refuses where it would
 abbrev pub IsDecided : State → ℕ → Action → Type 0
-IsDecided s t (Blocks p) = (e : Event) × awaited (Some (Blocks p)) (s.phases t) ≡ Some e × (WouldBeDead s t e → ⊥)
-IsDecided s t (Refuses p) = (e : Event) × awaited (Some (Blocks p)) (s.phases t) ≡ Some e × WouldBeDead s t e
+IsDecided s t (Blocks a) = (e : Event) × awaited (Some (Blocks a)) (s.phases t) ≡ Some e × (WouldBeDead s t e → ⊥)
+IsDecided s t (Refuses a) = (e : Event) × awaited (Some (Blocks a)) (s.phases t) ≡ Some e × WouldBeDead s t e
 IsDecided s t x = Unit {0}
 
 -- task t goes on from h by its own steps alone, each decided so

@@ -1,6 +1,8 @@
 -- States: who is forked, which phasers are made, who is a member where and at which phase, who is published or refused.
 use Rattle.std.specs.Prelude.{◌≡◌, ℕ, ◌+◌, ◌<◌, ◌≤◌, Bool, true, false, Option, Some, None, ◌==◌, ◌&&◌, if◌then◌else◌, IsSome}
+use Rattle.std.specs.Option.{option_map}
 use Rattle.armus_base.specs.declared.event.Event.{Event}
+use Rattle.armus_base.specs.Offsets.{target}
 use Rattle.armus_base.specs.Plans.{Plan, Action, Makes, Registers, Forks, Advances, Drops, Blocks, Passes, Refuses, IsParentOf, IsMakerOf}
 
 -- the event p@n
@@ -39,7 +41,7 @@ event_on p (Some n) = Some (event_at p n)
 
 -- the event on which a task with these phases waits, whose code goes on with this action
 abbrev pub awaited : Option Action → Phases → Option Event
-awaited (Some (Blocks p)) m = event_on p (m p)
+awaited (Some (Blocks a)) m = event_on a.phaser (option_map (target a.off) (m a.phaser))
 awaited o m = None
 
 -- nothing is made, only task 0 is forked
@@ -53,9 +55,9 @@ after s t (Registers c p) = record s { phases = with_phase s.phases c p (s.phase
 after s t (Forks c) = record s { forked = updated s.forked c true }
 after s t (Advances p) = record s { phases = with_phase s.phases t p (next_phase (s.phases t p)) }
 after s t (Drops p) = record s { phases = with_phase s.phases t p None }
-after s t (Blocks p) = record s { published = updated s.published t (awaited (Some (Blocks p)) (s.phases t)) }
+after s t (Blocks a) = record s { published = updated s.published t (awaited (Some (Blocks a)) (s.phases t)) }
 after s t (Passes p) = record s { published = updated s.published t None }
-after s t (Refuses p) = record s { refused = updated s.refused t (awaited (Some (Blocks p)) (s.phases t)) }
+after s t (Refuses a) = record s { refused = updated s.refused t (awaited (Some (Blocks a)) (s.phases t)) }
 
 -- a step: a task and what it does
 pub record Step : Type 0 where
@@ -93,7 +95,7 @@ IsLegal plan s t (Forks c) = IsActive s t × IsParentOf plan t c × s.forked c �
 IsLegal plan s t (Advances p) = IsActive s t × IsMember s t p
 IsLegal plan s t (Drops p) =
     s.forked t ≡ true × s.published t ≡ None × IsMember s t p × (IsSome (s.refused t) → (q : ℕ) → q < p → s.phases t q ≡ None)
-IsLegal plan s t (Blocks p) = IsActive s t × IsMember s t p
+IsLegal plan s t (Blocks a) = IsActive s t × IsMember s t a.phaser
 IsLegal plan s t (Passes p) =
     s.forked t ≡ true × (n : ℕ) × (s.published t ≡ Some (event_at p n)) × IsReached s (event_at p n) × s.refused t ≡ None
-IsLegal plan s t (Refuses p) = IsActive s t × IsMember s t p
+IsLegal plan s t (Refuses a) = IsActive s t × IsMember s t a.phaser

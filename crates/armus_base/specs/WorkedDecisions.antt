@@ -2,7 +2,7 @@
 use Rattle.std.specs.Prelude.{◌≡◌, ℕ, ◌==◌, ◌↔◌, Bool, true, List, [], ◌∷◌, Some, None}
 use Rattle.armus_base.specs.declared.event.Event.{Event}
 use Rattle.armus_base.specs.declared.status.Status.{Status}
-use Rattle.armus_base.specs.Plans.{Plan}
+use Rattle.armus_base.specs.Plans.{Plan, Aim, here}
 use Rattle.armus_base.specs.States.{event_at, updated}
 use Rattle.armus_base.specs.Runs.{Place, first_place, places}
 use Rattle.armus_base.specs.Places.{state_at}
@@ -19,12 +19,12 @@ abbrev pub places_after : List Entry → ℕ → Place
 places_after entries = places (steps_of entries)
 
 -- all that the law on the list in hand asks for, in the state after these entries
-pub record IsReady (plan : Plan) (entries : List Entry) (t : ℕ) (event : Event) (seen : SeenBy) (list : List Status) : Type 0 where
+pub record IsReady (plan : Plan) (entries : List Entry) (t : ℕ) (aim : Aim) (event : Event) (seen : SeenBy) (list : List Status) : Type 0 where
   pub lawful : IsLawful true plan (places_after entries) (holder entries)
   pub with_lock : HasLockWith plan t (places_after entries) (holder entries) seen
   pub far : IsAsFarOn plan (Some t) (places_after entries) seen
   pub finds : HasAllFound plan t seen list
-  pub in_hand : IsInHand plan (places_after entries) t event list
+  pub in_hand : IsInHand plan (places_after entries) t aim event list
 
 -- what the seat of task t has seen that has loaded the await word of task u and nothing else since it took the lock, and is where the state is
 abbrev pub having_found : List Entry → ℕ → ℕ → Found → SeenBy
@@ -33,13 +33,13 @@ having_found entries t u find =
 
 -- task 0 has blocked, and task 1 holds the lock: it would be dead
 pub record DecidesDead : Type 0 where
-  pub ready : IsReady two_tasks second_holds 1 (event_at 1 1) (having_found second_holds 1 0 (FoundWaiting (event_at 0 1))) two_tasks_end.blocked
+  pub ready : IsReady two_tasks second_holds 1 (here 1) (event_at 1 1) (having_found second_holds 1 0 (FoundWaiting (event_at 0 1))) two_tasks_end.blocked
   pub by_list : IsDeadBy two_tasks_end.blocked 1
   pub would_be : WouldBeDead (state_at two_tasks (places_after second_holds)) 1 (event_at 1 1)
 
 -- task 0 holds the lock, and nobody is published: its block leaves nobody dead
 pub record DecidesAlive : Type 0 where
-  pub ready : IsReady two_tasks first_holds 0 (event_at 0 1) (having_found first_holds 0 1 FoundIdle) (status 0 0 1 (at 0 1 ∷ []) ∷ [])
+  pub ready : IsReady two_tasks first_holds 0 (here 0) (event_at 0 1) (having_found first_holds 0 1 FoundIdle) (status 0 0 1 (at 0 1 ∷ []) ∷ [])
   pub by_list : IsDeadBy (status 0 0 1 (at 0 1 ∷ []) ∷ []) 0 → ⊥
   pub nobody : LeavesNobodyDead (state_at two_tasks (places_after first_holds)) 0 (event_at 0 1)
 

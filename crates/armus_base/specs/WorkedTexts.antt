@@ -5,6 +5,7 @@ use Rattle.armus_base.specs.declared.ending.TaskEnd.{TaskEnd}
 use Rattle.armus_base.specs.declared.ending.TaskEnd.TheVariants.{Blocked, Done, Refused, Unforked}
 use Rattle.armus_base.specs.declared.ids.PhaserId.{PhaserId}
 use Rattle.armus_base.specs.declared.ids.TaskId.{TaskId}
+use Rattle.armus_base.specs.declared.offset.Offset.TheVariants.{Here}
 use Rattle.armus_base.specs.declared.op.Op.{Op}
 use Rattle.armus_base.specs.declared.op.Op.TheVariants.{Adv, Await, Drop, Fork, Make, Reg}
 use Rattle.armus_base.specs.declared.status.Member.{Member}
@@ -47,7 +48,7 @@ status t p n phases = record { t = task t; event = event_at p n; phases = phases
 
 abbrev worker : List Op
 worker =
-    Adv (phaser 0) ∷ Await (phaser 0) ∷ Adv (phaser 0) ∷ Await (phaser 0) ∷ Adv (phaser 0) ∷ Await (phaser 0) ∷ Adv (phaser 0) ∷ Await (phaser 0)
+    Adv (phaser 0) ∷ Await (phaser 0) Here ∷ Adv (phaser 0) ∷ Await (phaser 0) Here ∷ Adv (phaser 0) ∷ Await (phaser 0) Here ∷ Adv (phaser 0) ∷ Await (phaser 0) Here
     ∷ Drop (phaser 0) ∷ Drop (phaser 1) ∷ []
 
 abbrev starts : ℕ → List Op
@@ -60,7 +61,7 @@ averaging =
       parents = None ∷ Some (task 0) ∷ Some (task 0) ∷ Some (task 0) ∷ [];
       makers = task 0 ∷ task 0 ∷ [];
       codes =
-          (Make (phaser 0) ∷ Make (phaser 1) ∷ starts 1 ++ starts 2 ++ starts 3 ++ Adv (phaser 1) ∷ Await (phaser 1) ∷ [])
+          (Make (phaser 0) ∷ Make (phaser 1) ∷ starts 1 ++ starts 2 ++ starts 3 ++ Adv (phaser 1) ∷ Await (phaser 1) Here ∷ [])
           ∷ worker ∷ worker ∷ worker ∷ [];
     }
 
@@ -97,7 +98,7 @@ abbrev starts_on_three : ℕ → List Op
 starts_on_three t = reg t 0 ∷ reg t 1 ∷ reg t 2 ∷ Fork (task t) ∷ []
 
 abbrev advances_and_waits : ℕ → List Op
-advances_and_waits p = Adv (phaser p) ∷ Await (phaser p) ∷ []
+advances_and_waits p = Adv (phaser p) ∷ Await (phaser p) Here ∷ []
 
 -- avoided, with one worker: the await of task 1 is refused, and task 0 is done
 abbrev pub two_tasks_avoided : Final
@@ -139,7 +140,7 @@ behind_a_cycle =
       makers = task 0 ∷ task 0 ∷ task 0 ∷ [];
       codes =
           (Make (phaser 0) ∷ Make (phaser 1) ∷ Make (phaser 2) ∷ starts_on_three 1 ++ reg 2 0 ∷ reg 2 1 ∷ Fork (task 2)
-          ∷ Drop (phaser 0) ∷ Drop (phaser 1) ∷ Adv (phaser 2) ∷ Await (phaser 2) ∷ [])
+          ∷ Drop (phaser 0) ∷ Drop (phaser 1) ∷ Adv (phaser 2) ∷ Await (phaser 2) Here ∷ [])
           ∷ advances_and_waits 0 ∷ advances_and_waits 1 ∷ [];
     }
 

@@ -1,5 +1,5 @@
 // The ops of a task's code.
-use crate::{PhaserId, TaskId};
+use crate::{Offset, PhaserId, TaskId};
 
 /// One op: a command of PL as it stands in an unfolded code (PPoPP 2015, but for the unfolding, which is this project's own).
 #[derive(Clone, Copy, Debug, PartialEq, Eq)]
@@ -14,6 +14,6 @@ pub enum Op {
     Adv { p: PhaserId },
     /// Ends the task's membership of `p`.
     Drop { p: PhaserId },
-    /// Waits until every member of `p` has at least the task's own phase there.
-    Await { p: PhaserId },
+    /// Waits until every member of `p` has at least the phase that `off` makes of the task's own phase there.
+    Await { p: PhaserId, off: Offset },
 }

@@ -15,6 +15,9 @@ pub const MAX_PHASERS: u32 = 256;
 /// The most ops that the codes of a plan may have together.
 pub const MAX_OPS: u32 = 262_144;
 
+/// The most phases that an await may look back or ahead: the greatest number of a text.
+pub const MAX_OFFSET: u32 = 65_535;
+
 /// A checked plan: the parent of each task, the maker of each phaser, and each task's code. Nothing in it depends on a schedule (this project's own).
 #[derive(Drop)]
 pub struct Plan {
