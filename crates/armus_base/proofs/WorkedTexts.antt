@@ -6,7 +6,7 @@ use Rattle.armus_base.specs.Plans.{action_at, actions}
 use Rattle.armus_base.specs.Runs.{IsPlainRun, state_after}
 use Rattle.armus_base.specs.Serial.{scheduled}
 use Rattle.armus_base.specs.TwoTasks.{all_turns, two_tasks}
-use Rattle.armus_base.specs.WorkedTexts.{EndsIn, averaging, averaging_end, averaging_schedule, behind_a_cycle, behind_a_cycle_end, behind_a_cycle_schedule, ended_member, ended_member_end, ended_member_schedule, three_tasks, three_tasks_end, three_tasks_schedule, two_tasks_avoided, two_tasks_end, two_tasks_schedule, unforked_member, unforked_member_end, unforked_member_schedule}
+use Rattle.armus_base.specs.WorkedTexts.{EndsIn, averaging, averaging_end, averaging_schedule, awaits_ahead, awaits_ahead_end, awaits_ahead_schedule, behind_a_cycle, behind_a_cycle_end, behind_a_cycle_schedule, ended_member, ended_member_end, ended_member_schedule, looks_back, looks_back_end, looks_back_schedule, three_tasks, three_tasks_end, three_tasks_schedule, two_tasks_avoided, two_tasks_end, two_tasks_schedule, unforked_member, unforked_member_end, unforked_member_schedule}
 use Rattle.armus_base.proofs.DeadTests.{dead_if}
 use Rattle.armus_base.proofs.RunTests.{maximal_if, run_if}
 
@@ -86,6 +86,32 @@ unforked_member_ends_in = record {
   maximal = maximal_if unforked_member (omega arith) (scheduled unforked_member unforked_member_schedule) unforked_member_runs refl;
   value = refl;
   dead_tasks = dead_if unforked_member (omega arith) (scheduled unforked_member unforked_member_schedule) unforked_member_runs.0 [] (0 ∷ 1 ∷ []) refl;
+}
+
+awaits_ahead_runs : IsPlainRun awaits_ahead (scheduled awaits_ahead awaits_ahead_schedule)
+unfolding actions action_at
+awaits_ahead_runs = run_if awaits_ahead awaits_ahead_schedule refl
+
+pub awaits_ahead_ends_in : EndsIn awaits_ahead awaits_ahead_schedule awaits_ahead_end (0 ∷ [])
+unfolding actions action_at
+awaits_ahead_ends_in = record {
+  run = awaits_ahead_runs;
+  maximal = maximal_if awaits_ahead (omega arith) (scheduled awaits_ahead awaits_ahead_schedule) awaits_ahead_runs refl;
+  value = refl;
+  dead_tasks = dead_if awaits_ahead (omega arith) (scheduled awaits_ahead awaits_ahead_schedule) awaits_ahead_runs.0 (0 ∷ []) [] refl;
+}
+
+looks_back_runs : IsPlainRun looks_back (scheduled looks_back looks_back_schedule)
+unfolding actions action_at
+looks_back_runs = run_if looks_back looks_back_schedule refl
+
+pub looks_back_ends_in : EndsIn looks_back looks_back_schedule looks_back_end []
+unfolding actions action_at
+looks_back_ends_in = record {
+  run = looks_back_runs;
+  maximal = maximal_if looks_back (omega arith) (scheduled looks_back looks_back_schedule) looks_back_runs refl;
+  value = refl;
+  dead_tasks = dead_if looks_back (omega arith) (scheduled looks_back looks_back_schedule) looks_back_runs.0 [] (0 ∷ 1 ∷ []) refl;
 }
 
 -- the serial avoided run of the two tasks ends so

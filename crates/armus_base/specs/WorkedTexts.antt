@@ -5,13 +5,14 @@ use Rattle.armus_base.specs.declared.ending.TaskEnd.{TaskEnd}
 use Rattle.armus_base.specs.declared.ending.TaskEnd.TheVariants.{Blocked, Done, Refused, Unforked}
 use Rattle.armus_base.specs.declared.ids.PhaserId.{PhaserId}
 use Rattle.armus_base.specs.declared.ids.TaskId.{TaskId}
-use Rattle.armus_base.specs.declared.offset.Offset.TheVariants.{Here}
+use Rattle.armus_base.specs.declared.offset.Offset.TheVariants.{Ahead, Back, Here}
 use Rattle.armus_base.specs.declared.op.Op.{Op}
 use Rattle.armus_base.specs.declared.op.Op.TheVariants.{Adv, Await, Drop, Fork, Make, Reg}
 use Rattle.armus_base.specs.declared.status.Member.{Member}
 use Rattle.armus_base.specs.declared.status.Status.{Status}
 use Rattle.armus_base.specs.Deadlocks.{IsDeadIn}
 use Rattle.armus_base.specs.Finals.{final_of}
+use Rattle.armus_base.specs.Offsets.{target}
 use Rattle.armus_base.specs.Plans.{Plan}
 use Rattle.armus_base.specs.Runs.{IsMaximal, IsPlainRun, state_after}
 use Rattle.armus_base.specs.Serial.{scheduled}
@@ -193,3 +194,45 @@ unforked_member_schedule = replicate 4 0
 -- task 0 waits for the member that is not forked
 abbrev pub unforked_member_end : Final
 unforked_member_end = record { ends = waits 0 1 ∷ Unforked ∷ []; blocked = status 0 0 1 (at 0 1 ∷ []) ∷ [] }
+
+-- a task awaits the phase after its own, which no one but itself can bring
+abbrev pub awaits_ahead : Plan
+awaits_ahead =
+    record {
+      parents = None ∷ [];
+      makers = task 0 ∷ [];
+      codes = (Make (phaser 0) ∷ Adv (phaser 0) ∷ Await (phaser 0) (Ahead 1) ∷ []) ∷ [];
+    }
+
+-- the task to where it waits
+abbrev pub awaits_ahead_schedule : List ℕ
+awaits_ahead_schedule = replicate 3 0
+
+-- it waits for itself
+abbrev pub awaits_ahead_end : Final
+awaits_ahead_end = record { ends = waits 0 2 ∷ []; blocked = status 0 0 2 (at 0 1 ∷ []) ∷ [] }
+
+-- a task at phase 3 awaits the phase before its own; a member at phase 1 keeps it waiting
+abbrev pub looks_back : Plan
+looks_back =
+    record {
+      parents = None ∷ Some (task 0) ∷ [];
+      makers = task 0 ∷ [];
+      codes =
+          (Make (phaser 0) ∷ Adv (phaser 0) ∷ reg 1 0 ∷ Adv (phaser 0) ∷ Adv (phaser 0) ∷ Await (phaser 0) (Back 1) ∷ []) ∷ [] ∷ [];
+    }
+
+-- task 0 to where it waits
+abbrev pub looks_back_schedule : List ℕ
+looks_back_schedule = replicate 6 0
+
+-- it waits for phase 2
+abbrev pub looks_back_end : Final
+looks_back_end = record { ends = waits 0 2 ∷ Unforked ∷ []; blocked = status 0 0 2 (at 0 3 ∷ []) ∷ [] }
+
+-- what an await aims at, in numbers
+pub record Targets : Type 0 where
+  pub own : target Here 3 ≡ 3
+  pub back : target (Back 2) 3 ≡ 1
+  pub no_farther_back : target (Back 5) 3 ≡ 0
+  pub ahead : target (Ahead 2) 3 ≡ 5
