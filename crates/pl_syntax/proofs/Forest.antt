@@ -1,14 +1,16 @@
 -- What the machine takes to the end is a text of the grammar.
 use Rattle.std.proofs.Common.{◌≡◌, ℕ, zero, suc, ◌+◌, ◌==◌, Bool, true, false, cond, List, [], ◌∷◌, ◌++◌, length, Option, Some, None, refl, sym, ap, subst, ◌∙◌, arith, ◌⊎◌, inl, inr}
 use Rattle.std.proofs.lemmas.Bool.Decides.{nat_tests}
+use Rattle.armus_base.specs.declared.offset.Offset.{Offset}
+use Rattle.armus_base.specs.declared.offset.Offset.TheVariants.{Ahead, Back, Here}
 use Rattle.pl_syntax.specs.declared.token.Keyword.TheVariants as k
 use Rattle.pl_syntax.specs.declared.token.Sign.{Sign}
-use Rattle.pl_syntax.specs.declared.token.Sign.TheVariants.{Equals, OpenParen, CloseParen, Comma, Semicolon, OpenBrace, CloseBrace}
+use Rattle.pl_syntax.specs.declared.token.Sign.TheVariants.{Equals, OpenParen, CloseParen, Comma, Semicolon, OpenBrace, CloseBrace, Plus, Minus}
 use Rattle.pl_syntax.specs.Tokens.{Token, the_end, sign, word, name, number}
 use Rattle.pl_syntax.specs.Tree.{Tree, done, plain, fork, loop, Plain, new_task, new_phaser, reg, dereg, adv, await, skip}
 use Rattle.pl_syntax.specs.inside.Reading.{sign_number}
-use Rattle.pl_syntax.specs.Grammar.{tokens, sentence, Begins, opened, plain_tokens}
-use Rattle.pl_syntax.proofs.Machine.{Shape, a_sign, a_name, a_number, a_maker, State, at, over, fits, s_named, s_drawn, s_pair, s_fork, s_loop, go, run, run-append, some_front, run_sentence, comes_to_end}
+use Rattle.pl_syntax.specs.Grammar.{tokens, sentence, Begins, opened, offset_tokens, plain_tokens}
+use Rattle.pl_syntax.proofs.Machine.{Shape, a_sign, a_name, a_number, a_maker, an_offset, then, s_await, State, at, over, fits, s_named, s_drawn, s_pair, s_fork, s_loop, go, run, run-append, some_front, run_sentence, comes_to_end}
 
 -- trees, of which each but the last is closed by a brace, and the last by the end
 abbrev pub close : Tree → List Tree → List Token
@@ -19,7 +21,7 @@ close p (q ∷ qs) = tokens p (sign CloseBrace ∷ close q qs)
 abbrev Splits : List Shape → ℕ → List Token → Type 0
 Splits [] d ts = (p : Tree) × (qs : List Tree) × (length qs ≡ d) × (ts ≡ close p qs)
 Splits (s ∷ ss) d [] = ⊥
-Splits (s ∷ ss) d (t ∷ ts) = (fits s t ≡ true) × Splits ss (opened t d) ts
+Splits (s ∷ ss) d (t ∷ ts) = (fits s t ≡ true) × Splits (then s t ss) (opened t d) ts
 
 abbrev sign_back : ℕ → Sign
 sign_back zero = Equals
@@ -28,6 +30,8 @@ sign_back (suc (suc zero)) = CloseParen
 sign_back (suc (suc (suc zero))) = Comma
 sign_back (suc (suc (suc (suc zero)))) = Semicolon
 sign_back (suc (suc (suc (suc (suc zero))))) = OpenBrace
+sign_back (suc (suc (suc (suc (suc (suc (suc zero))))))) = Plus
+sign_back (suc (suc (suc (suc (suc (suc (suc (suc zero)))))))) = Minus
 sign_back _ = CloseBrace
 
 back_sign : (s : Sign) → sign_back (sign_number s) ≡ s
@@ -38,6 +42,8 @@ back_sign Comma = refl
 back_sign Semicolon = refl
 back_sign OpenBrace = refl
 back_sign CloseBrace = refl
+back_sign Plus = refl
+back_sign Minus = refl
 
 pub same_sign : (r s : Sign) → (sign_number r == sign_number s) ≡ true → r ≡ s
 same_sign r s e =
@@ -116,6 +122,37 @@ maker_off ss d (t ∷ ts) h =
     let e : opened t d ≡ d = (elim m [ inl e ↦ ap (λ (x : Token). opened x d) e | inr e ↦ ap (λ (x : Token). opened x d) e ]) in
     (t, ts, refl, m, subst (λ n. Splits ss n ts) e h.1)
 
+-- an offset with its brace
+far_off : (way : ℕ → Offset) (s : Sign) (ss : List Shape) (d : ℕ) (ts : List Token) → ((n : ℕ) (us : List Token) → offset_tokens (way n) us ≡ sign s ∷ number n ∷ us) →
+    Splits (a_number ∷ a_sign CloseParen ∷ ss) d ts →
+    (off : Offset) × (us : List Token) × (sign s ∷ ts ≡ offset_tokens off (sign CloseParen ∷ us)) × Splits ss d us
+far_off way s ss d ts spelled h =
+    let n = number_off (a_sign CloseParen ∷ ss) d ts h in
+    let c = sign_off CloseParen ss d n.1 refl n.3 in
+    (
+      way n.0,
+      c.0,
+      ap (λ (x : List Token). sign s ∷ x) n.2 ∙ ap (λ (x : List Token). sign s ∷ number n.0 ∷ x) c.1 ∙ sym (spelled n.0 (sign CloseParen ∷ c.0)),
+      c.2,
+    )
+
+offset_off : (ss : List Shape) (d : ℕ) (ts : List Token) → Splits (an_offset ∷ ss) d ts
+    → (off : Offset) × (us : List Token) × (ts ≡ offset_tokens off (sign CloseParen ∷ us)) × Splits ss d us
+offset_off ss d [] h = absurd h
+offset_off ss d (sign CloseParen ∷ ts) h = (Here, ts, refl, h.1)
+offset_off ss d (sign Minus ∷ ts) h = far_off Back Minus ss d ts (λ n us. refl) h.1
+offset_off ss d (sign Plus ∷ ts) h = far_off Ahead Plus ss d ts (λ n us. refl) h.1
+offset_off ss d (sign Equals ∷ ts) h = absurd (let q = h.0 in cc)
+offset_off ss d (sign OpenParen ∷ ts) h = absurd (let q = h.0 in cc)
+offset_off ss d (sign Comma ∷ ts) h = absurd (let q = h.0 in cc)
+offset_off ss d (sign Semicolon ∷ ts) h = absurd (let q = h.0 in cc)
+offset_off ss d (sign OpenBrace ∷ ts) h = absurd (let q = h.0 in cc)
+offset_off ss d (sign CloseBrace ∷ ts) h = absurd (let q = h.0 in cc)
+offset_off ss d (the_end ∷ ts) h = absurd (let q = h.0 in cc)
+offset_off ss d (word w ∷ ts) h = absurd (let q = h.0 in cc)
+offset_off ss d (name x ∷ ts) h = absurd (let q = h.0 in cc)
+offset_off ss d (number n ∷ ts) h = absurd (let q = h.0 in cc)
+
 -- a statement without a body, before the trees that follow
 before_trees : (c : Plain) (d : ℕ) (ts us : List Token) → ts ≡ plain_tokens c us → Splits [] d us → ((p : Tree) (rest : List Token) → tokens (plain c p) rest ≡ plain_tokens c (tokens p rest)) → Splits [] d ts
 before_trees c d ts us e h same = (plain c h.0, h.1, h.2, e ∙ ap (plain_tokens c) h.3 ∙ closed c h.0 h.1)
@@ -163,6 +200,17 @@ named_of w c d ts spelled h =
     let f = sign_off Semicolon [] d e.0 refl e.2 in
     let all : w ∷ ts ≡ w ∷ sign OpenParen ∷ name b.0 ∷ sign CloseParen ∷ sign Semicolon ∷ f.0 = cc in
     before_trees (c b.0) d (w ∷ ts) f.0 (all ∙ sym (spelled b.0 f.0)) f.2 (λ p rest. refl)
+
+await_of : (d : ℕ) (ts : List Token) → Splits s_await d ts → Splits [] d (word k.Await ∷ ts)
+await_of d ts h =
+    let a = sign_off OpenParen (a_name ∷ an_offset ∷ t_end) d ts refl h in
+    let b = name_off (an_offset ∷ t_end) d a.0 a.2 in
+    let o = offset_off t_end d b.1 b.3 in
+    let f = sign_off Semicolon [] d o.1 refl o.3 in
+    let behind : b.1 ≡ offset_tokens o.0 (sign CloseParen ∷ sign Semicolon ∷ f.0) =
+    o.2 ∙ ap (λ (x : List Token). offset_tokens o.0 (sign CloseParen ∷ x)) f.1 in
+    let all : word k.Await ∷ ts ≡ plain_tokens (await b.0 o.0) f.0 = cc in
+    before_trees (await b.0 o.0) d (word k.Await ∷ ts) f.0 all f.2 (λ p rest. refl)
 
 pair_of : (d : ℕ) (ts : List Token) → Splits s_pair d ts → Splits [] d (word k.Reg ∷ ts)
 pair_of d ts h =
@@ -236,8 +284,8 @@ pub splits : (ts : List Token) (ss : List Shape) (d : ℕ) → run (at ss d) ts 
 splits [] [] d e = absurd cc
 splits [] (s ∷ ss) d e = absurd cc
 splits (t ∷ ts) (s ∷ ss) d e =
-    let h = go_on (fits s t) (at ss (opened t d)) (λ next. run next ts) e in
-    (h.0, splits ts ss (opened t d) h.1)
+    let h = go_on (fits s t) (at (then s t ss) (opened t d)) (λ next. run next ts) e in
+    (h.0, splits ts (then s t ss) (opened t d) h.1)
 splits (the_end ∷ ts) [] zero e = (done, [], refl, ap (λ (x : List Token). the_end ∷ x) (over_stays ts e))
 splits (the_end ∷ ts) [] (suc d) e = absurd cc
 splits (sign CloseBrace ∷ ts) [] zero e = absurd cc
@@ -248,12 +296,14 @@ splits (sign CloseParen ∷ ts) [] d e = absurd cc
 splits (sign Comma ∷ ts) [] d e = absurd cc
 splits (sign Semicolon ∷ ts) [] d e = absurd cc
 splits (sign OpenBrace ∷ ts) [] d e = absurd cc
+splits (sign Plus ∷ ts) [] d e = absurd cc
+splits (sign Minus ∷ ts) [] d e = absurd cc
 splits (number n ∷ ts) [] d e = absurd cc
 splits (name x ∷ ts) [] d e = drawn_of x d ts (splits ts s_drawn d e)
 splits (word k.Reg ∷ ts) [] d e = pair_of d ts (splits ts s_pair d e)
 splits (word k.Dereg ∷ ts) [] d e = named_of (word k.Dereg) dereg d ts (λ x us. refl) (splits ts s_named d e)
 splits (word k.Adv ∷ ts) [] d e = named_of (word k.Adv) adv d ts (λ x us. refl) (splits ts s_named d e)
-splits (word k.Await ∷ ts) [] d e = named_of (word k.Await) await d ts (λ x us. refl) (splits ts s_named d e)
+splits (word k.Await ∷ ts) [] d e = await_of d ts (splits ts s_await d e)
 splits (word k.Skip ∷ ts) [] d e = skip_of d ts (splits ts (a_sign Semicolon ∷ []) d e)
 splits (word k.Fork ∷ ts) [] d e = fork_of d ts (splits ts s_fork d e)
 splits (word k.Loop ∷ ts) [] d e = loop_of d ts (splits ts s_loop d e)
@@ -269,13 +319,13 @@ is_sentence ts e = alone (splits ts [] 0 e)
     alone (p, q ∷ qs, n, h) = absurd (omega arith)
 
 -- tokens begin a text exactly while the machine goes on
-pub begins_if : (ts : List Token) (st : State) → run (at [] 0) ts ≡ Some st → Begins ts
+pub begins_if : (ts : List Token) (st : State) → run (at [] 0) ts ≡ Some st → Begins true ts
 begins_if ts st e =
     let c = comes_to_end st in
     let r : run (at [] 0) (ts ++ c.0) ≡ Some over = run-append (at [] 0) ts c.0 ∙ rw e c.1 in
     let p = is_sentence (ts ++ c.0) r in
     (p.0, c.0, p.1)
 
-pub runs_if : (ts : List Token) → Begins ts → (st : State) × (run (at [] 0) ts ≡ Some st)
+pub runs_if : (ts : List Token) → Begins true ts → (st : State) × (run (at [] 0) ts ≡ Some st)
 runs_if ts b =
     some_front (run (at [] 0) ts) (λ next. run next b.1) over (sym (run-append (at [] 0) ts b.1) ∙ ap (run (at [] 0)) b.2 ∙ run_sentence b.0)

@@ -5,6 +5,7 @@ use Rattle.std.proofs.lemmas.Bool.Decides.{nat_tests}
 use Rattle.std.specs.Prelude.{IfOk}
 use Rattle.std.specs.Borrow.{Bor}
 use Rattle.std.proofs.lemmas.List.{length-drop}
+use Rattle.pl_syntax.specs.declared.scan.Scan.{Scan}
 use Rattle.pl_syntax.specs.declared.limits.TheConstants.{MAX_NAME_BYTES}
 use Rattle.pl_syntax.specs.declared.fault.TheConstants.{NO_TOKEN, NO_NUMBER, TOO_LONG}
 use Rattle.pl_syntax.specs.inside.Reading.{ends_list}
@@ -67,18 +68,18 @@ pub was_found : (at : ℕ) (r : Result Token ℕ) (rest : List ℕ) (t : Token) 
 was_found at (Ok x) rest t left e = let h = ok_pair (x, rest) (t, left) e in (ap Found h.0, h.1)
 was_found at (Err kind) rest t left e = absurd cc
 
-name_here : (total : ℕ) (text w rest : List ℕ) → token_here total text ≡ Ok (name w, rest) → IsName w
-name_here total [] w rest e = let h : the_end ≡ name w = (ok_pair (the_end, []) (name w, rest) e).0 in absurd cc
-name_here total (b ∷ bs) w rest e =
+name_here : (scan : Scan) (text w rest : List ℕ) → token_here scan text ≡ Ok (name w, rest) → IsName w
+name_here scan [] w rest e = let h : the_end ≡ name w = (ok_pair (the_end, []) (name w, rest) e).0 in absurd cc
+name_here scan (b ∷ bs) w rest e =
     elim (chosen (is_word_byte b) _ _ _ e) [
       | inl p ↦ name_of_word (take (prefix_len is_word_byte (b ∷ bs)) (b ∷ bs)) w (was_found _ _ _ (name w) rest p.1).0
-      | inr p ↦ absurd (no_sign (sign_of b) w (was_found _ _ _ (name w) rest p.1).0)
+      | inr p ↦ absurd (no_sign (sign_of scan.offsets b) w (was_found _ _ _ (name w) rest p.1).0)
     ]
 
 -- a token that is a name has its form
-pub name_in_front : (total : ℕ) (text w rest : List ℕ) → front total text ≡ Ok (name w, rest) → IsName w
+pub name_in_front : (scan : Scan) (text w rest : List ℕ) → front scan text ≡ Ok (name w, rest) → IsName w
 unfolding front
-name_in_front total text w rest e = name_here total (after_gap text) w rest e
+name_in_front scan text w rest e = name_here scan (after_gap text) w rest e
 
 cond_le : (b : Bool) (x y : List ℕ) (n : ℕ) → length x ≤ n → length y ≤ n → length (cond b x y) ≤ n
 cond_le true x y n p q = p
@@ -99,11 +100,11 @@ mutual
       let q : length (after_comment bs) ≤ length (b ∷ bs) = (let h = comment_le bs in omega arith) in
       cond_le (b == 10) _ _ _ p q
 
-progress_here : (total : ℕ) (text : List ℕ) (t : Token) (rest : List ℕ) → token_here total text ≡ Ok (t, rest) → ends_list t ≡ false → length rest < length text
-progress_here total [] t rest e f =
+progress_here : (scan : Scan) (text : List ℕ) (t : Token) (rest : List ℕ) → token_here scan text ≡ Ok (t, rest) → ends_list t ≡ false → length rest < length text
+progress_here scan [] t rest e f =
     let h : the_end ≡ t = (ok_pair (the_end, []) (t, rest) e).0 in
     let g : true ≡ false = ap ends_list h ∙ f in absurd cc
-progress_here total (b ∷ bs) t rest e f =
+progress_here scan (b ∷ bs) t rest e f =
     elim (chosen (is_word_byte b) _ _ _ e) [
       | inl p ↦
           let h : drop (prefix_len is_word_byte (b ∷ bs)) (b ∷ bs) ≡ rest = (was_found _ (word_token (take (prefix_len is_word_byte (b ∷ bs)) (b ∷ bs))) _ t rest p.1).1 in
@@ -112,37 +113,37 @@ progress_here total (b ∷ bs) t rest e f =
           let m = ap (λ (x : List ℕ). length x) h in
           omega arith
       | inr p ↦
-          let h : bs ≡ rest = (was_found _ (sign_token (sign_of b)) bs t rest p.1).1 in
+          let h : bs ≡ rest = (was_found _ (sign_token (sign_of scan.offsets b)) bs t rest p.1).1 in
           let m = ap (λ (x : List ℕ). length x) h in
           omega arith
     ]
 
 -- a token before which a list of statements does not end takes a byte
-pub progress : (total : ℕ) (text : List ℕ) (t : Token) (rest : List ℕ) → front total text ≡ Ok (t, rest) → ends_list t ≡ false → length rest < length text
+pub progress : (scan : Scan) (text : List ℕ) (t : Token) (rest : List ℕ) → front scan text ≡ Ok (t, rest) → ends_list t ≡ false → length rest < length text
 unfolding front
-progress total text t rest e f =
-    let h = progress_here total (after_gap text) t rest e f in
+progress scan text t rest e f =
+    let h = progress_here scan (after_gap text) t rest e f in
     let g = gap_le text in
     omega arith
 
-form_of : (total : ℕ) (text : List ℕ) (x : token.Token) (rest : List ℕ) → front total text ≡ Ok (token_of x, rest) → HasForm x
-form_of total text t.End rest e = tt
-form_of total text (t.Sign s) rest e = tt
-form_of total text (t.Word k) rest e = tt
-form_of total text (t.Name w) rest e = name_in_front total text w.now rest e
-form_of total text (t.Number k) rest e = tt
+form_of : (scan : Scan) (text : List ℕ) (x : token.Token) (rest : List ℕ) → front scan text ≡ Ok (token_of x, rest) → HasForm x
+form_of scan text t.End rest e = tt
+form_of scan text (t.Sign s) rest e = tt
+form_of scan text (t.Word k) rest e = tt
+form_of scan text (t.Name w) rest e = name_in_front scan text w.now rest e
+form_of scan text (t.Number k) rest e = tt
 
 -- what was found has its form
-pub form_seen : (total : ℕ) (text : List ℕ) (r : Result (token.Token × Bor (List ℕ)) SyntaxFault) → front_seen r ≡ front total text → IfOk r (λ x. HasForm x.0)
-form_seen total text (Ok x) e = form_of total text x.0 x.1.now (sym e)
-form_seen total text (Err f) e = tt
+pub form_seen : (scan : Scan) (text : List ℕ) (r : Result (token.Token × Bor (List ℕ)) SyntaxFault) → front_seen r ≡ front scan text → IfOk r (λ x. HasForm x.0)
+form_seen scan text (Ok x) e = form_of scan text x.0 x.1.now (sym e)
+form_seen scan text (Err f) e = tt
 
-here_le : (total : ℕ) (text : List ℕ) (t : Token) (rest : List ℕ) → token_here total text ≡ Ok (t, rest) → length rest ≤ length text
-here_le total [] t rest e =
+here_le : (scan : Scan) (text : List ℕ) (t : Token) (rest : List ℕ) → token_here scan text ≡ Ok (t, rest) → length rest ≤ length text
+here_le scan [] t rest e =
     let h : [] ≡ rest = (ok_pair (the_end, []) (t, rest) e).1 in
     let m = ap (λ (x : List ℕ). length x) h in
     omega arith
-here_le total (b ∷ bs) t rest e =
+here_le scan (b ∷ bs) t rest e =
     elim (chosen (is_word_byte b) _ _ _ e) [
       | inl p ↦
           let h : drop (prefix_len is_word_byte (b ∷ bs)) (b ∷ bs) ≡ rest = (was_found _ (word_token (take (prefix_len is_word_byte (b ∷ bs)) (b ∷ bs))) _ t rest p.1).1 in
@@ -150,15 +151,15 @@ here_le total (b ∷ bs) t rest e =
           let m = ap (λ (x : List ℕ). length x) h in
           omega arith
       | inr p ↦
-          let h : bs ≡ rest = (was_found _ (sign_token (sign_of b)) bs t rest p.1).1 in
+          let h : bs ≡ rest = (was_found _ (sign_token (sign_of scan.offsets b)) bs t rest p.1).1 in
           let m = ap (λ (x : List ℕ). length x) h in
           omega arith
     ]
 
-pub front_le : (total : ℕ) (text : List ℕ) (t : Token) (rest : List ℕ) → front total text ≡ Ok (t, rest) → length rest ≤ length text
+pub front_le : (scan : Scan) (text : List ℕ) (t : Token) (rest : List ℕ) → front scan text ≡ Ok (t, rest) → length rest ≤ length text
 unfolding front
-front_le total text t rest e =
-    let h = here_le total (after_gap text) t rest e in
+front_le scan text t rest e =
+    let h = here_le scan (after_gap text) t rest e in
     let g = gap_le text in
     omega arith
 
@@ -190,15 +191,15 @@ no_end_sign : (o : Option Sign) → sign_token o ≡ Found the_end → ⊥
 no_end_sign None e = let q : Err NO_TOKEN ≡ Found the_end = e in cc
 no_end_sign (Some k) e = let q : Found (sign k) ≡ Found the_end = e in cc
 
-end_here : (total : ℕ) (text rest : List ℕ) → token_here total text ≡ Ok (the_end, rest) → rest ≡ []
-end_here total [] rest e = sym (ok_pair (the_end, []) (the_end, rest) e).1
-end_here total (b ∷ bs) rest e =
+end_here : (scan : Scan) (text rest : List ℕ) → token_here scan text ≡ Ok (the_end, rest) → rest ≡ []
+end_here scan [] rest e = sym (ok_pair (the_end, []) (the_end, rest) e).1
+end_here scan (b ∷ bs) rest e =
     elim (chosen (is_word_byte b) _ _ _ e) [
       | inl p ↦ absurd (no_end_word (take (prefix_len is_word_byte (b ∷ bs)) (b ∷ bs)) (was_found _ _ _ the_end rest p.1).0)
-      | inr p ↦ absurd (no_end_sign (sign_of b) (was_found _ _ _ the_end rest p.1).0)
+      | inr p ↦ absurd (no_end_sign (sign_of scan.offsets b) (was_found _ _ _ the_end rest p.1).0)
     ]
 
 -- nothing is left behind the end
-pub end_in_front : (total : ℕ) (text rest : List ℕ) → front total text ≡ Ok (the_end, rest) → rest ≡ []
+pub end_in_front : (scan : Scan) (text rest : List ℕ) → front scan text ≡ Ok (the_end, rest) → rest ≡ []
 unfolding front
-end_in_front total text rest e = end_here total (after_gap text) rest e
+end_in_front scan text rest e = end_here scan (after_gap text) rest e

@@ -1,15 +1,17 @@
 -- One more line feed at the end of a text changes no token, and behind a line feed no text goes on with a byte that is no token.
 use Rattle.std.proofs.Common.{◌≡◌, ℕ, ◌+◌, ◌-◌, ◌==◌, ◌&&◌, ◌⊎◌, Bool, true, false, cond, List, [], ◌∷◌, ◌++◌, length, take, drop, Result, Ok, refl, sym, ap, subst, ◌∙◌, inl, inr}
-use Rattle.std.specs.List.{prefix_len}
+use Rattle.std.specs.List.{list_all, prefix_len}
 use Rattle.std.proofs.lemmas.List.{take-append-le, drop-append-le}
 use Rattle.std.proofs.lemmas.List.Sums.{prefix_len-le-length}
+use Rattle.pl_syntax.specs.declared.scan.Scan.{Scan}
 use Rattle.pl_syntax.specs.declared.fault.SyntaxFault.{SyntaxFault}
+use Rattle.armus_base.specs.declared.offset.Offset.TheVariants.{Ahead, Back, Here}
 use Rattle.pl_syntax.specs.declared.token.Keyword.TheVariants as k
 use Rattle.pl_syntax.specs.declared.token.Sign.TheVariants.{OpenBrace, CloseBrace}
 use Rattle.pl_syntax.specs.Words.{begins_with, is_word_byte}
 use Rattle.pl_syntax.specs.Tokens.{Token, the_end, sign, word, number, front, Leads, after_gap, after_comment, is_blank, token_here, placed, word_token, sign_token, sign_of, word_of, after_word}
 use Rattle.pl_syntax.specs.Tree.{Tree, done, plain, fork, loop, Plain, new_task, new_phaser, reg, dereg, adv, await, skip}
-use Rattle.pl_syntax.specs.Grammar.{tokens, plain_tokens, with_name, sentence}
+use Rattle.pl_syntax.specs.Grammar.{Reads, header, scan_of, tokens, plain_tokens, with_name, sentence}
 use Rattle.pl_syntax.specs.Laws.{LineFeedChangesNothing, NoLineIsAMark}
 use Rattle.pl_syntax.proofs.Fronts.{chosen, end_in_front, ok_pair, was_found}
 
@@ -29,16 +31,20 @@ same_rest xs ys =
     ap (λ n. drop n (xs ++ 10 ∷ ys)) (prefix_before xs ys)
     ∙ drop-append-le (prefix_len is_word_byte xs) xs (10 ∷ ys) (prefix_len-le-length is_word_byte xs)
 
+-- the same way of reading, of a text with so many bytes
+abbrev with_total : ℕ → Scan → Scan
+with_total n scan = record { total = n; offsets = scan.offsets }
+
 -- a token before a line feed is that token, whatever stands behind the line feed
 here_before :
-    (total other b : ℕ) (bs ys : List ℕ) (t : Token) (mid : List ℕ) → token_here total (b ∷ bs) ≡ Ok (t, mid) →
-    token_here other ((b ∷ bs) ++ 10 ∷ ys) ≡ Ok (t, mid ++ 10 ∷ ys)
-here_before total other b bs ys t mid e =
+    (scan : Scan) (n b : ℕ) (bs ys : List ℕ) (t : Token) (mid : List ℕ) → token_here scan (b ∷ bs) ≡ Ok (t, mid) →
+    token_here (with_total n scan) ((b ∷ bs) ++ 10 ∷ ys) ≡ Ok (t, mid ++ 10 ∷ ys)
+here_before scan n b bs ys t mid e =
     let w : List ℕ = b ∷ bs in
     let more : List ℕ = w ++ 10 ∷ ys in
-    let at : ℕ = other - length more in
+    let at : ℕ = n - length more in
     let words : Result (Token × List ℕ) SyntaxFault = placed at (word_token (word_of more)) (after_word more) in
-    let signs : Result (Token × List ℕ) SyntaxFault = placed at (sign_token (sign_of b)) (bs ++ 10 ∷ ys) in
+    let signs : Result (Token × List ℕ) SyntaxFault = placed at (sign_token (sign_of scan.offsets b)) (bs ++ 10 ∷ ys) in
     elim (chosen (is_word_byte b) _ _ _ e) [
       | inl p ↦
           let f = was_found _ (word_token (word_of w)) (after_word w) t mid p.1 in
@@ -48,7 +54,7 @@ here_before total other b bs ys t mid e =
           ∙ ap (λ r. placed at r (after_word w ++ 10 ∷ ys)) f.0
           ∙ ap (λ r. Ok (t, r ++ 10 ∷ ys)) f.1
       | inr p ↦
-          let f = was_found _ (sign_token (sign_of b)) bs t mid p.1 in
+          let f = was_found _ (sign_token (sign_of scan.offsets b)) bs t mid p.1 in
           ap (λ v. cond v words signs) p.0
           ∙ ap (λ r. placed at r (bs ++ 10 ∷ ys)) f.0
           ∙ ap (λ r. Ok (t, r ++ 10 ∷ ys)) f.1
@@ -96,46 +102,67 @@ mutual
       ∙ comment_cases (b == 10) (after_gap bs) (after_comment bs)
 
 -- nothing is left, and the token is the end; or the token is the same, with a line feed behind what is left
-abbrev Fed : ℕ → List ℕ → Token → List ℕ → Type 0
+abbrev Fed : Scan → List ℕ → Token → List ℕ → Type 0
 Fed other text t mid =
     ((front other (text ++ 10 ∷ []) ≡ Ok (t, [])) × (t ≡ the_end) × (mid ≡ [])) ⊎ (front other (text ++ 10 ∷ []) ≡ Ok (t, mid ++ 10 ∷ []))
 
-feed_here : (total other : ℕ) (text gap : List ℕ) (t : Token) (mid : List ℕ) → after_gap text ≡ gap → token_here total gap ≡ Ok (t, mid) → Fed other text t mid
+feed_here : (scan : Scan) (n : ℕ) (text gap : List ℕ) (t : Token) (mid : List ℕ) → after_gap text ≡ gap → token_here scan gap ≡ Ok (t, mid) → Fed (with_total n scan) text t mid
 unfolding front with_feed
-feed_here total other text [] t mid is e =
+feed_here scan n text [] t mid is e =
     let f = ok_pair (the_end, []) (t, mid) e in
-    inl (ap (token_here other) (gap_feed text ∙ ap with_feed is) ∙ ap (λ (x : Token). Ok (x, [])) f.0, sym f.0, sym f.1)
-feed_here total other text (b ∷ bs) t mid is e =
-    inr (ap (token_here other) (gap_feed text ∙ ap with_feed is) ∙ here_before total other b bs [] t mid e)
+    inl (ap (token_here (with_total n scan)) (gap_feed text ∙ ap with_feed is) ∙ ap (λ (x : Token). Ok (x, [])) f.0, sym f.0, sym f.1)
+feed_here scan n text (b ∷ bs) t mid is e =
+    inr (ap (token_here (with_total n scan)) (gap_feed text ∙ ap with_feed is) ∙ here_before scan n b bs [] t mid e)
 
-fed : (total other : ℕ) (text : List ℕ) (t : Token) (mid : List ℕ) → front total text ≡ Ok (t, mid) → Fed other text t mid
+fed : (scan : Scan) (n : ℕ) (text : List ℕ) (t : Token) (mid : List ℕ) → front scan text ≡ Ok (t, mid) → Fed (with_total n scan) text t mid
 unfolding front
-fed total other text t mid e = feed_here total other text (after_gap text) t mid refl e
+fed scan n text t mid e = feed_here scan n text (after_gap text) t mid refl e
 
 some_left : (mid : List ℕ) → mid ++ 10 ∷ [] ≡ [] → ⊥
 some_left [] e = absurd cc
 some_left (b ∷ bs) e = absurd cc
 
 -- where nothing is left, the length of the whole does not matter
-leads_nothing : (total other : ℕ) (ts : List Token) → Leads total [] ts [] → Leads other [] ts []
+leads_nothing : (scan : Scan) (n : ℕ) (ts : List Token) → Leads scan [] ts [] → Leads (with_total n scan) [] ts []
 unfolding front
-leads_nothing total other [] h = h
-leads_nothing total other (t ∷ ts) h =
+leads_nothing scan n [] h = h
+leads_nothing scan n (t ∷ ts) h =
     let f = ok_pair (the_end, []) (t, h.0) h.1 in
-    ([], ap (λ (x : Token). Ok (x, [])) f.0, leads_nothing total other ts (subst (λ m. Leads total m ts []) (sym f.1) h.2))
+    ([], ap (λ (x : Token). Ok (x, [])) f.0, leads_nothing scan n ts (subst (λ m. Leads scan m ts []) (sym f.1) h.2))
 
 leads_feed :
-    (total other : ℕ) (text : List ℕ) (ts : List Token) → Leads total text (ts ++ the_end ∷ []) [] → Leads other (text ++ 10 ∷ []) (ts ++ the_end ∷ []) []
-leads_feed total other text [] h =
-    elim (fed total other text the_end h.0 h.1) [
+    (scan : Scan) (n : ℕ) (text : List ℕ) (ts : List Token) → Leads scan text (ts ++ the_end ∷ []) [] → Leads (with_total n scan) (text ++ 10 ∷ []) (ts ++ the_end ∷ []) []
+leads_feed scan n text [] h =
+    elim (fed scan n text the_end h.0 h.1) [
       | inl p ↦ ([], p.0, refl)
-      | inr p ↦ absurd (some_left h.0 (end_in_front other (text ++ 10 ∷ []) (h.0 ++ 10 ∷ []) p))
+      | inr p ↦ absurd (some_left h.0 (end_in_front (with_total n scan) (text ++ 10 ∷ []) (h.0 ++ 10 ∷ []) p))
     ]
-leads_feed total other text (t ∷ ts) h =
-    elim (fed total other text t h.0 h.1) [
-      | inl p ↦ ([], p.0, leads_nothing total other (ts ++ the_end ∷ []) (subst (λ m. Leads total m (ts ++ the_end ∷ []) []) p.2 h.2))
-      | inr p ↦ (h.0 ++ 10 ∷ [], p, leads_feed total other h.0 ts h.2)
+leads_feed scan n text (t ∷ ts) h =
+    elim (fed scan n text t h.0 h.1) [
+      | inl p ↦ ([], p.0, leads_nothing scan n (ts ++ the_end ∷ []) (subst (λ m. Leads scan m (ts ++ the_end ∷ []) []) p.2 h.2))
+      | inr p ↦ (h.0 ++ 10 ∷ [], p, leads_feed scan n h.0 ts h.2)
     ]
+
+-- a token that is not the end
+abbrev pub is_real : Token → Bool
+is_real the_end = false
+is_real t = true
+
+-- tokens that are not the end are read as before
+leads_part :
+    (scan : Scan) (n : ℕ) (text : List ℕ) (ts : List Token) (rest : List ℕ) → list_all is_real ts ≡ true → Leads scan text ts rest →
+    Leads (with_total n scan) (text ++ 10 ∷ []) ts (rest ++ 10 ∷ [])
+leads_part scan n text [] rest real h = ap (λ (m : List ℕ). m ++ 10 ∷ []) h
+leads_part scan n text (t ∷ ts) rest real h =
+    let all = two_true (is_real t) (list_all is_real ts) real in
+    elim (fed scan n text t h.0 h.1) [
+      | inl p ↦ absurd (let q : true ≡ false = sym all.0 ∙ ap is_real p.1 in cc)
+      | inr p ↦ (h.0 ++ 10 ∷ [], p, leads_part scan n h.0 ts rest all.1 h.2)
+    ]
+  where
+    two_true : (a b : Bool) → (a && b) ≡ true → (a ≡ true) × (b ≡ true)
+    two_true true b e = (refl, e)
+    two_true false b e = absurd cc
 
 plain_append : (s : Plain) (us vs : List Token) → plain_tokens s (us ++ vs) ≡ plain_tokens s us ++ vs
 plain_append (new_task x) us vs = refl
@@ -143,7 +170,9 @@ plain_append (new_phaser x) us vs = refl
 plain_append (reg x y) us vs = refl
 plain_append (dereg x) us vs = refl
 plain_append (adv x) us vs = refl
-plain_append (await x) us vs = refl
+plain_append (await x Here) us vs = refl
+plain_append (await x (Back k)) us vs = refl
+plain_append (await x (Ahead k)) us vs = refl
 plain_append skip us vs = refl
 
 pub tokens_append : (p : Tree) (us vs : List Token) → tokens p (us ++ vs) ≡ tokens p us ++ vs
@@ -156,15 +185,21 @@ tokens_append (loop n body more) us vs =
     ap (λ z. word k.Loop ∷ number n ∷ sign OpenBrace ∷ z)
     (ap (λ y. tokens body (sign CloseBrace ∷ y)) (tokens_append more us vs) ∙ tokens_append body (sign CloseBrace ∷ tokens more us) vs)
 
-pub line_feed_changes_nothing : LineFeedChangesNothing
-line_feed_changes_nothing text p h =
+feed_in_form : (two : Bool) (text : List ℕ) (p : Tree) → Reads two text (sentence p) [] → Reads two (text ++ 10 ∷ []) (sentence p) []
+feed_in_form false text p h =
     let is : sentence p ≡ tokens p [] ++ the_end ∷ [] = tokens_append p [] (the_end ∷ []) in
-    record {
-      reads =
-          subst (λ ts. Leads (length (text ++ 10 ∷ [])) (text ++ 10 ∷ []) ts []) (sym is)
-          (leads_feed (length text) (length (text ++ 10 ∷ [])) text (tokens p []) (subst (λ ts. Leads (length text) text ts []) is h.reads));
-      shallow = h.shallow;
-    }
+    subst (λ ts. Leads (scan_of false (text ++ 10 ∷ [])) (text ++ 10 ∷ []) ts []) (sym is)
+    (leads_feed (scan_of false text) (length (text ++ 10 ∷ [])) text (tokens p []) (subst (λ ts. Leads (scan_of false text) text ts []) is h))
+feed_in_form true text p h =
+    let is : sentence p ≡ tokens p [] ++ the_end ∷ [] = tokens_append p [] (the_end ∷ []) in (
+      h.0 ++ 10 ∷ [],
+      leads_part (scan_of false text) (length (text ++ 10 ∷ [])) text header h.0 refl h.1,
+      subst (λ ts. Leads (scan_of true (text ++ 10 ∷ [])) (h.0 ++ 10 ∷ []) ts []) (sym is)
+          (leads_feed (scan_of true text) (length (text ++ 10 ∷ [])) h.0 (tokens p []) (subst (λ ts. Leads (scan_of true text) h.0 ts []) is h.2)),
+    )
+
+pub line_feed_changes_nothing : LineFeedChangesNothing
+line_feed_changes_nothing text p h = record { reads = feed_in_form p.two text p.body h.reads; shallow = h.shallow }
 
 -- ---- a mark behind a line feed
 
@@ -197,44 +232,60 @@ mutual
 abbrev LeavesMark : List ℕ → Type 0
 LeavesMark mid = (front : List ℕ) × (rest : List ℕ) × (mid ≡ front ++ 10 ∷ 37 ∷ rest)
 
-left_here : (total : ℕ) (ahead rest : List ℕ) (t : Token) (mid : List ℕ) → token_here total (ahead ++ 10 ∷ 37 ∷ rest) ≡ Ok (t, mid) → LeavesMark mid
-left_here total [] rest t mid e = absurd cc
-left_here total (b ∷ bs) rest t mid e =
+left_here : (scan : Scan) (ahead rest : List ℕ) (t : Token) (mid : List ℕ) → token_here scan (ahead ++ 10 ∷ 37 ∷ rest) ≡ Ok (t, mid) → LeavesMark mid
+left_here scan [] rest t mid e = absurd cc
+left_here scan (b ∷ bs) rest t mid e =
     elim (chosen (is_word_byte b) _ _ _ e) [
       | inl p ↦
           let text : List ℕ = (b ∷ bs) ++ 10 ∷ 37 ∷ rest in
           let f = was_found _ (word_token (word_of text)) (after_word text) t mid p.1 in
           (after_word (b ∷ bs), rest, sym f.1 ∙ same_rest (b ∷ bs) (37 ∷ rest))
-      | inr p ↦ let f = was_found _ (sign_token (sign_of b)) (bs ++ 10 ∷ 37 ∷ rest) t mid p.1 in (bs, rest, sym f.1)
+      | inr p ↦ let f = was_found _ (sign_token (sign_of scan.offsets b)) (bs ++ 10 ∷ 37 ∷ rest) t mid p.1 in (bs, rest, sym f.1)
     ]
 
-left_by : (total : ℕ) (gap : List ℕ) (t : Token) (mid : List ℕ) → HasMark gap → token_here total gap ≡ Ok (t, mid) → LeavesMark mid
-left_by total gap t mid (inl (rest, is)) e =
-    absurd (let f : token_here total (37 ∷ rest) ≡ Ok (t, mid) = ap (token_here total) (sym is) ∙ e in cc)
-left_by total gap t mid (inr (ahead, rest, is)) e = left_here total ahead rest t mid (ap (token_here total) (sym is) ∙ e)
+left_by : (scan : Scan) (gap : List ℕ) (t : Token) (mid : List ℕ) → HasMark gap → token_here scan gap ≡ Ok (t, mid) → LeavesMark mid
+left_by scan gap t mid (inl (rest, is)) e =
+    absurd (let f : token_here scan (37 ∷ rest) ≡ Ok (t, mid) = ap (token_here scan) (sym is) ∙ e in cc)
+left_by scan gap t mid (inr (ahead, rest, is)) e = left_here scan ahead rest t mid (ap (token_here scan) (sym is) ∙ e)
 
-left_behind : (total : ℕ) (ahead rest : List ℕ) (t : Token) (mid : List ℕ) → front total (ahead ++ 10 ∷ 37 ∷ rest) ≡ Ok (t, mid) → LeavesMark mid
+left_behind : (scan : Scan) (ahead rest : List ℕ) (t : Token) (mid : List ℕ) → front scan (ahead ++ 10 ∷ 37 ∷ rest) ≡ Ok (t, mid) → LeavesMark mid
 unfolding front
-left_behind total ahead rest t mid e = left_by total (after_gap (ahead ++ 10 ∷ 37 ∷ rest)) t mid (gap_mark ahead rest) e
+left_behind scan ahead rest t mid e = left_by scan (after_gap (ahead ++ 10 ∷ 37 ∷ rest)) t mid (gap_mark ahead rest) e
 
 some_there : (ahead rest : List ℕ) → ahead ++ 10 ∷ 37 ∷ rest ≡ [] → ⊥
 some_there [] rest e = absurd cc
 some_there (b ∷ bs) rest e = absurd cc
 
 -- so no tokens come to the end
-never_ends : (total : ℕ) (ts : List Token) (ahead rest : List ℕ) → Leads total (ahead ++ 10 ∷ 37 ∷ rest) ts [] → ⊥
-never_ends total [] ahead rest h = some_there ahead rest h
-never_ends total (t ∷ ts) ahead rest h =
-    let (ahead', rest', is) = left_behind total ahead rest t h.0 h.1 in
-    never_ends total ts ahead' rest' (subst (λ m. Leads total m ts []) is h.2)
+never_ends : (scan : Scan) (ts : List Token) (ahead rest : List ℕ) → Leads scan (ahead ++ 10 ∷ 37 ∷ rest) ts [] → ⊥
+never_ends scan [] ahead rest h = some_there ahead rest h
+never_ends scan (t ∷ ts) ahead rest h =
+    let (ahead', rest', is) = left_behind scan ahead rest t h.0 h.1 in
+    never_ends scan ts ahead' rest' (subst (λ m. Leads scan m ts []) is h.2)
 
-never_begins : (total : ℕ) (ts : List Token) (rest : List ℕ) → Leads total (37 ∷ rest) ts [] → ⊥
+never_begins : (scan : Scan) (ts : List Token) (rest : List ℕ) → Leads scan (37 ∷ rest) ts [] → ⊥
 unfolding front
-never_begins total [] rest h = absurd cc
-never_begins total (t ∷ ts) rest h = absurd (let e = h.1 in cc)
+never_begins scan [] rest h = absurd cc
+never_begins scan (t ∷ ts) rest h = absurd (let e = h.1 in cc)
+
+-- of a part of the tokens, either the mark is left, or they do not begin there
+mark_stays : (scan : Scan) (ts : List Token) (ahead rest : List ℕ) (left : List ℕ) → Leads scan (ahead ++ 10 ∷ 37 ∷ rest) ts left → LeavesMark left
+mark_stays scan [] ahead rest left h = (ahead, rest, sym h)
+mark_stays scan (t ∷ ts) ahead rest left h =
+    let (ahead', rest', is) = left_behind scan ahead rest t h.0 h.1 in
+    mark_stays scan ts ahead' rest' left (subst (λ m. Leads scan m ts left) is h.2)
+
+no_mark_first : (two : Bool) (p : Tree) (rest : List ℕ) → Reads two (37 ∷ rest) (sentence p) [] → ⊥
+unfolding front
+no_mark_first false p rest h = never_begins (scan_of false (37 ∷ rest)) (sentence p) rest h
+no_mark_first true p rest h = absurd (let e = h.1.1 in cc)
+
+no_mark_later : (two : Bool) (p : Tree) (ahead rest : List ℕ) → Reads two (ahead ++ 10 ∷ 37 ∷ rest) (sentence p) [] → ⊥
+no_mark_later false p ahead rest h = never_ends (scan_of false (ahead ++ 10 ∷ 37 ∷ rest)) (sentence p) ahead rest h
+no_mark_later true p ahead rest h =
+    let (ahead', rest', is) = mark_stays (scan_of false (ahead ++ 10 ∷ 37 ∷ rest)) header ahead rest h.0 h.1 in
+    never_ends (scan_of true (ahead ++ 10 ∷ 37 ∷ rest)) (sentence p) ahead' rest'
+    (subst (λ m. Leads (scan_of true (ahead ++ 10 ∷ 37 ∷ rest)) m (sentence p) []) is h.2)
 
 pub no_line_is_a_mark : NoLineIsAMark
-no_line_is_a_mark p rest = (
-  λ h. never_begins (length (37 ∷ rest)) (sentence p) rest h.reads,
-  λ ahead h. never_ends (length (ahead ++ 10 ∷ 37 ∷ rest)) (sentence p) ahead rest h.reads,
-)
+no_line_is_a_mark p rest = (λ h. no_mark_first p.two p.body rest h.reads, λ ahead h. no_mark_later p.two p.body ahead rest h.reads)

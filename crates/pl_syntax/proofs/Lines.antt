@@ -6,7 +6,7 @@ use Rattle.pl_syntax.specs.declared.tree.Stmt.{Stmt}
 use Rattle.pl_syntax.specs.declared.tree.Stmt.TheVariants as s
 use Rattle.pl_syntax.specs.Tree.{Tree, done, height}
 use Rattle.pl_syntax.specs.Bodies.{followed_by, tree_of}
-use Rattle.pl_syntax.specs.Printed.{indented_line, printed_at, IsWritable}
+use Rattle.pl_syntax.specs.Printed.{indented_line, printed_at, TreeIsWritable}
 
 pub printed_first : (d : ℕ) (q : Stmt) (p : Tree) → printed_at d (followed_by q p) ≡ printed_at d (followed_by q done) ++ printed_at d p
 printed_first d (s.NewTask x) p = simp append_assoc
@@ -14,18 +14,18 @@ printed_first d (s.NewPhaser x) p = simp append_assoc
 printed_first d (s.Reg x y) p = simp append_assoc
 printed_first d (s.Dereg x) p = simp append_assoc
 printed_first d (s.Adv x) p = simp append_assoc
-printed_first d (s.Await x) p = simp append_assoc
+printed_first d (s.Await x off) p = simp append_assoc
 printed_first d s.Skip p = simp append_assoc
 printed_first d (s.Fork x b) p = simp append_assoc
 printed_first d (s.Loop n b) p = simp append_assoc
 
-pub names_first : (q : Stmt) (p : Tree) → IsWritable (followed_by q done) → IsWritable p → IsWritable (followed_by q p)
+pub names_first : (q : Stmt) (p : Tree) → TreeIsWritable (followed_by q done) → TreeIsWritable p → TreeIsWritable (followed_by q p)
 names_first (s.NewTask x) p a b = (a.0, b)
 names_first (s.NewPhaser x) p a b = (a.0, b)
 names_first (s.Reg x y) p a b = (a.0, b)
 names_first (s.Dereg x) p a b = (a.0, b)
 names_first (s.Adv x) p a b = (a.0, b)
-names_first (s.Await x) p a b = (a.0, b)
+names_first (s.Await x off) p a b = (a.0, b)
 names_first s.Skip p a b = (a.0, b)
 names_first (s.Fork x i) p a b = (a.0, a.1, b)
 names_first (s.Loop n i) p a b = (a.0, a.1, b)
@@ -36,7 +36,7 @@ height_first (s.NewPhaser x) p = (omega arith, omega arith)
 height_first (s.Reg x y) p = (omega arith, omega arith)
 height_first (s.Dereg x) p = (omega arith, omega arith)
 height_first (s.Adv x) p = (omega arith, omega arith)
-height_first (s.Await x) p = (omega arith, omega arith)
+height_first (s.Await x off) p = (omega arith, omega arith)
 height_first s.Skip p = (omega arith, omega arith)
 height_first (s.Fork x i) p = (omega arith, omega arith)
 height_first (s.Loop n i) p = (omega arith, omega arith)
@@ -55,14 +55,14 @@ next_fits depth items i q lt is deep =
 pub record Printing (depth : ℕ) (items : List Stmt) (i : ℕ) (body : Tree) (out old : List ℕ) : Type 0 where
   pub all : tree_of items ≡ body
   pub text : out ++ printed_at depth (tree_of (drop i items)) ≡ old ++ printed_at depth body
-  pub names : IsWritable (tree_of (drop i items)) → IsWritable body
+  pub names : TreeIsWritable (tree_of (drop i items)) → TreeIsWritable body
   pub deep : height (tree_of (drop i items)) + depth ≤ MAX_OPEN_BRACES
 
 pub starts : (depth : ℕ) (items : List Stmt) (body : Tree) (out : List ℕ) → tree_of items ≡ body → height body + depth ≤ MAX_OPEN_BRACES → Printing depth items 0 body out out
 starts depth items body out e h = record {
   all = e;
   text = ap (λ (p : Tree). out ++ printed_at depth p) e;
-  names = λ n. subst (λ (p : Tree). IsWritable p) e n;
+  names = λ n. subst (λ (p : Tree). TreeIsWritable p) e n;
   deep = subst (λ (p : Tree). height p + depth ≤ MAX_OPEN_BRACES) (sym e) h;
 }
 
@@ -73,7 +73,7 @@ module _ (depth : ℕ) (items : List Stmt) (i : ℕ) (body : Tree) (out old : Li
       let t : out ++ [] ≡ old ++ printed_at depth body = rw e at now.text in
       sym (append-nil out) ∙ t
 
-  pub ends_names : length items ≤ i → IsWritable body
+  pub ends_names : length items ≤ i → TreeIsWritable body
   ends_names le = now.names (let e : tree_of (drop i items) ≡ done = ap tree_of (drop_all i items le) in rw e tt)
 
   module _ (q : Stmt) (lt : i < length items) (is : q ≡ get_or items i q) where
@@ -83,14 +83,14 @@ module _ (depth : ℕ) (items : List Stmt) (i : ℕ) (body : Tree) (out old : Li
     pub fits : height (followed_by q done) + depth ≤ MAX_OPEN_BRACES
     fits = let h = height_first q (tree_of (drop (i + 1) items)) in let d = now.deep in let e = ap height next_is in omega arith
 
-    pub goes : (new : List ℕ) → new ≡ out ++ printed_at depth (followed_by q done) → IsWritable (followed_by q done) → Printing depth items (i + 1) body new old
+    pub goes : (new : List ℕ) → new ≡ out ++ printed_at depth (followed_by q done) → TreeIsWritable (followed_by q done) → Printing depth items (i + 1) body new old
     goes new e n = record {
       all = now.all;
       text =
           let rest = tree_of (drop (i + 1) items) in
           let a : new ++ printed_at depth rest ≡ out ++ printed_at depth (followed_by q rest) = rw (e, printed_first depth q rest) (append_assoc out (printed_at depth (followed_by q done)) (printed_at depth rest)) in
           a ∙ ap (λ (p : Tree). out ++ printed_at depth p) (sym next_is) ∙ now.text;
-      names = λ m. now.names (subst (λ (p : Tree). IsWritable p) (sym next_is) (names_first q (tree_of (drop (i + 1) items)) n m));
+      names = λ m. now.names (subst (λ (p : Tree). TreeIsWritable p) (sym next_is) (names_first q (tree_of (drop (i + 1) items)) n m));
       deep = let h = height_first q (tree_of (drop (i + 1) items)) in let d = now.deep in let e = ap height next_is in omega arith;
     }
 

@@ -1,9 +1,10 @@
 -- A machine that takes tokens one by one, and goes on exactly while they begin a text.
 use Rattle.std.proofs.Common.{◌≡◌, ℕ, zero, suc, ◌+◌, ◌==◌, Bool, true, false, cond, List, [], ◌∷◌, ◌++◌, Option, Some, None, refl, sym, subst, ◌∙◌, add-one, arith, inl, inr}
 use Rattle.std.proofs.lemmas.Bool.Decides.{nat_tests}
+use Rattle.armus_base.specs.declared.offset.Offset.TheVariants.{Ahead, Back, Here}
 use Rattle.pl_syntax.specs.declared.token.Keyword.TheVariants as k
 use Rattle.pl_syntax.specs.declared.token.Sign.{Sign}
-use Rattle.pl_syntax.specs.declared.token.Sign.TheVariants.{Equals, OpenParen, CloseParen, Comma, Semicolon, OpenBrace, CloseBrace}
+use Rattle.pl_syntax.specs.declared.token.Sign.TheVariants.{Equals, OpenParen, CloseParen, Comma, Semicolon, OpenBrace, CloseBrace, Plus, Minus}
 use Rattle.pl_syntax.specs.Tokens.{Token, the_end, sign, word, name, number}
 use Rattle.pl_syntax.specs.Tree.{Tree, done, plain, fork, loop, new_task, new_phaser, reg, dereg, adv, await, skip}
 use Rattle.pl_syntax.specs.inside.Reading.{sign_number}
@@ -16,6 +17,7 @@ pub data Shape : Type 0 where
   a_name : Shape
   a_number : Shape
   a_maker : Shape
+  an_offset : Shape  -- `)`, `- k )` or `+ k )`
 
 -- the tokens that the statement still waits for, and how many braces are open; or the end has come
 pub data State : Type 0 where
@@ -28,10 +30,22 @@ fits a_name (name x) = true
 fits a_number (number n) = true
 fits a_maker (word k.NewTid) = true
 fits a_maker (word k.NewPhaser) = true
+fits an_offset (sign CloseParen) = true
+fits an_offset (sign Minus) = true
+fits an_offset (sign Plus) = true
 fits _ _ = false
+
+-- what is waited for behind this token of this shape, where these follow the shape
+abbrev pub then : Shape → Token → List Shape → List Shape
+then an_offset (sign Minus) ss = a_number ∷ a_sign CloseParen ∷ ss
+then an_offset (sign Plus) ss = a_number ∷ a_sign CloseParen ∷ ss
+then s t ss = ss
 
 abbrev pub s_named : List Shape
 s_named = a_sign OpenParen ∷ a_name ∷ a_sign CloseParen ∷ a_sign Semicolon ∷ []
+
+abbrev pub s_await : List Shape
+s_await = a_sign OpenParen ∷ a_name ∷ an_offset ∷ a_sign Semicolon ∷ []
 
 abbrev pub s_drawn : List Shape
 s_drawn = a_sign Equals ∷ a_maker ∷ a_sign OpenParen ∷ a_sign CloseParen ∷ a_sign Semicolon ∷ []
@@ -61,7 +75,7 @@ first_step d (name x) = Some (at s_drawn d)
 first_step d (word k.Reg) = Some (at s_pair d)
 first_step d (word k.Dereg) = Some (at s_named d)
 first_step d (word k.Adv) = Some (at s_named d)
-first_step d (word k.Await) = Some (at s_named d)
+first_step d (word k.Await) = Some (at s_await d)
 first_step d (word k.Skip) = Some (at (a_sign Semicolon ∷ []) d)
 first_step d (word k.Fork) = Some (at s_fork d)
 first_step d (word k.Loop) = Some (at s_loop d)
@@ -70,7 +84,7 @@ first_step d _ = None
 abbrev pub step : State → Token → Option State
 step over t = None
 step (at [] d) t = first_step d t
-step (at (s ∷ ss) d) t = cond (fits s t) (Some (at ss (opened t d))) None
+step (at (s ∷ ss) d) t = cond (fits s t) (Some (at (then s t ss) (opened t d))) None
 
 abbrev pub go : Option State → (State → Option State) → Option State
 go None f = None
@@ -109,7 +123,9 @@ run_tree (plain (new_phaser x) p) d rest = run_tree p d rest
 run_tree (plain (reg x y) p) d rest = run_tree p d rest
 run_tree (plain (dereg x) p) d rest = run_tree p d rest
 run_tree (plain (adv x) p) d rest = run_tree p d rest
-run_tree (plain (await x) p) d rest = run_tree p d rest
+run_tree (plain (await x Here) p) d rest = run_tree p d rest
+run_tree (plain (await x (Back n)) p) d rest = run_tree p d rest
+run_tree (plain (await x (Ahead n)) p) d rest = run_tree p d rest
 run_tree (plain skip p) d rest = run_tree p d rest
 run_tree (fork x b p) d rest =
     run_tree b (d + 1) (sign CloseBrace ∷ tokens p rest) ∙ rw add-one (run_tree p d rest)
@@ -131,6 +147,7 @@ completes (a_sign s ∷ ss) d = let c = completes ss (opened (sign s) d) in (sig
 completes (a_name ∷ ss) d = let c = completes ss d in (name [] ∷ c.0, c.1)
 completes (a_number ∷ ss) d = let c = completes ss d in (number 0 ∷ c.0, c.1)
 completes (a_maker ∷ ss) d = let c = completes ss d in (word k.NewTid ∷ c.0, c.1)
+completes (an_offset ∷ ss) d = let c = completes ss d in (sign CloseParen ∷ c.0, c.1)
 
 pub comes_to_end : (st : State) → (more : List Token) × (run st more ≡ Some over)
 comes_to_end (at ss d) = completes ss d
@@ -150,7 +167,7 @@ first_depth d (name x) us n e = some_at s_drawn d us n e
 first_depth d (word k.Reg) us n e = some_at s_pair d us n e
 first_depth d (word k.Dereg) us n e = some_at s_named d us n e
 first_depth d (word k.Adv) us n e = some_at s_named d us n e
-first_depth d (word k.Await) us n e = some_at s_named d us n e
+first_depth d (word k.Await) us n e = some_at s_await d us n e
 first_depth d (word k.Skip) us n e = some_at (a_sign Semicolon ∷ []) d us n e
 first_depth d (word k.Fork) us n e = some_at s_fork d us n e
 first_depth d (word k.Loop) us n e = some_at s_loop d us n e
@@ -163,12 +180,14 @@ first_depth d (sign CloseParen) us n e = absurd cc
 first_depth d (sign Comma) us n e = absurd cc
 first_depth d (sign Semicolon) us n e = absurd cc
 first_depth d (sign OpenBrace) us n e = absurd cc
+first_depth d (sign Plus) us n e = absurd cc
+first_depth d (sign Minus) us n e = absurd cc
 
 step_depth : (ss : List Shape) (d : ℕ) (t : Token) (us : List Shape) (n : ℕ) → step (at ss d) t ≡ Some (at us n) → opened t d ≡ n
 step_depth [] d t us n e = first_depth d t us n e
 step_depth (s ∷ ss) d t us n e =
-    elim (chosen (fits s t) (Some (at ss (opened t d))) None (Some (at us n)) e) [
-      | inl p ↦ some_at ss (opened t d) us n p.1
+    elim (chosen (fits s t) (Some (at (then s t ss) (opened t d))) None (Some (at us n)) e) [
+      | inl p ↦ some_at (then s t ss) (opened t d) us n p.1
       | inr p ↦ absurd (let q = p.1 in cc)
     ]
 

@@ -1,18 +1,23 @@
--- The printed_of form of a program is a text of it.
-use Rattle.std.proofs.Common.{◌≡◌, ℕ, zero, suc, ◌+◌, ◌-◌, ◌*◌, ◌<◌, ◌≤◌, ◌==◌, ◌&&◌, ◌/◌, ◌%◌, ◌^◌, get_or, Bool, true, false, cond, List, [], ◌∷◌, ◌++◌, length, take, drop, replicate, codes, decimal, Some, None, Result, Ok, refl, sym, ap, subst, ◌∙◌, append_assoc, arith, nat_le}
+-- The printed form of a program is a text of it.
+use Rattle.std.proofs.Common.{◌≡◌, ℕ, zero, suc, ◌+◌, ◌-◌, ◌*◌, ◌<◌, ◌≤◌, ◌==◌, ◌&&◌, ◌/◌, ◌%◌, ◌^◌, get_or, Bool, true, false, cond, List, [], ◌∷◌, ◌++◌, length, take, drop, replicate, codes, decimal, Some, None, Result, Ok, refl, sym, ap, subst, ◌∙◌, append_assoc, arith, nat_le, inl, inr}
 use Rattle.std.specs.List.{list_any, list_all, prefix_len}
 use Rattle.std.proofs.lemmas.Bool.Decides.{nat_tests}
+use Rattle.std.proofs.lemmas.Bool.{cases_Bool}
 use Rattle.std.proofs.lemmas.List.{append-nil, take_at, drop_at, length-append}
 use Rattle.std.proofs.lemmas.List.Folds.{list_all-append}
 use Rattle.std.proofs.lemmas.Fmt.{decimal_by_steps, decimal_digit, decimal_nonempty, first_decimal, length-decimal-le}
+use Rattle.pl_syntax.specs.declared.scan.Scan.{Scan}
 use Rattle.pl_syntax.specs.declared.limits.TheConstants.{MAX_NAME_BYTES, MAX_DIGITS, MAX_NUMBER, MAX_OPEN_BRACES}
+use Rattle.armus_base.specs.declared.offset.Offset.{Offset}
+use Rattle.armus_base.specs.declared.offset.Offset.TheVariants.{Ahead, Back, Here}
+use Rattle.pl_syntax.specs.declared.tree.Program.{Program}
 use Rattle.pl_syntax.specs.declared.token.Keyword.TheVariants as k
-use Rattle.pl_syntax.specs.declared.token.Sign.TheVariants.{Equals, OpenParen, CloseParen, Comma, Semicolon, OpenBrace, CloseBrace}
+use Rattle.pl_syntax.specs.declared.token.Sign.TheVariants.{Equals, OpenParen, CloseParen, Comma, Semicolon, OpenBrace, CloseBrace, Plus, Minus}
 use Rattle.pl_syntax.specs.Words.{IsName, keyword_of, is_word_byte, is_name_byte, is_lower, is_digit, value_from, has_no_leading_zero, is_number, number_of}
 use Rattle.pl_syntax.specs.Tokens.{Token, the_end, sign, word, name, number, front, Leads, after_gap, is_blank, token_here, placed, word_token, letters_token, name_token, sign_token, sign_of, digits_token}
-use Rattle.pl_syntax.specs.Tree.{Tree, done, plain, fork, loop, Plain, new_task, new_phaser, reg, dereg, adv, await, skip, height}
-use Rattle.pl_syntax.specs.Grammar.{tokens, plain_tokens, sentence, IsText}
-use Rattle.pl_syntax.specs.Printed.{printed_at, printed_of, IsWritable}
+use Rattle.pl_syntax.specs.Tree.{Tree, done, plain, fork, loop, Plain, new_task, new_phaser, reg, dereg, adv, await, skip, height, AllHere}
+use Rattle.pl_syntax.specs.Grammar.{tokens, plain_tokens, sentence, scan_of, IsText}
+use Rattle.pl_syntax.specs.Printed.{header_text, indented_line, printed_at, printed_of, IsWritable, TreeIsWritable}
 
 -- ---- blanks
 
@@ -20,9 +25,9 @@ gap_spaces : (n : ℕ) (t : List ℕ) → after_gap (replicate n 32 ++ t) ≡ af
 gap_spaces zero t = refl
 gap_spaces (suc n) t = gap_spaces n t
 
-spaces : (total n : ℕ) (t : List ℕ) → front total (replicate n 32 ++ t) ≡ front total t
+spaces : (scan : Scan) (n : ℕ) (t : List ℕ) → front scan (replicate n 32 ++ t) ≡ front scan t
 unfolding front
-spaces total n t = ap (token_here total) (gap_spaces n t)
+spaces scan n t = ap (token_here scan) (gap_spaces n t)
 
 -- ---- names
 
@@ -58,16 +63,16 @@ Found : Token → Result Token ℕ
 Found t = Ok t
 
 -- a word that stands before another byte
-word_here : (total b : ℕ) (bs : List ℕ) (c : ℕ) (r : List ℕ) (t : Token) → list_all is_word_byte (b ∷ bs) ≡ true → is_word_byte c ≡ false → word_token (b ∷ bs) ≡ Found t
-    → token_here total (b ∷ (bs ++ c ∷ r)) ≡ Ok (t, c ∷ r)
+word_here : (scan : Scan) (b : ℕ) (bs : List ℕ) (c : ℕ) (r : List ℕ) (t : Token) → list_all is_word_byte (b ∷ bs) ≡ true → is_word_byte c ≡ false → word_token (b ∷ bs) ≡ Found t
+    → token_here scan (b ∷ (bs ++ c ∷ r)) ≡ Ok (t, c ∷ r)
 unfolding Found
-word_here total b bs c r t all ends is =
+word_here scan b bs c r t all ends is =
     let w : List ℕ = b ∷ (bs ++ c ∷ r) in
     let n : ℕ = prefix_len is_word_byte w in
-    let at : ℕ = total - length w in
+    let at : ℕ = scan.total - length w in
     let h = and_parts (is_word_byte b) (list_all is_word_byte bs) all in
     let len : length (b ∷ bs) ≡ n = sym (word_prefix (b ∷ bs) c r all ends) in
-    ap (λ v. cond v (placed at (word_token (take n w)) (drop n w)) (placed at (sign_token (sign_of b)) (bs ++ c ∷ r))) h.0
+    ap (λ v. cond v (placed at (word_token (take n w)) (drop n w)) (placed at (sign_token (sign_of scan.offsets b)) (bs ++ c ∷ r))) h.0
     ∙ ap (λ (u : List ℕ). placed at (word_token u) (drop n w)) (take_at (b ∷ bs) (c ∷ r) n len)
     ∙ ap (λ (u : List ℕ). placed at (word_token (b ∷ bs)) u) (drop_at (b ∷ bs) (c ∷ r) n len)
     ∙ ap (λ (u : Result Token ℕ). placed at u (c ∷ r)) is
@@ -87,13 +92,13 @@ name_is_word b bs h le =
     let named : name_token (b ∷ bs) ≡ Ok (name (b ∷ bs)) = rw (h.form, s) refl in
     rw d (letters ∙ named)
 
-name_front : (total : ℕ) (x : List ℕ) (c : ℕ) (r : List ℕ) → IsName x → is_word_byte c ≡ false → front total (x ++ c ∷ r) ≡ Ok (name x, c ∷ r)
+name_front : (scan : Scan) (x : List ℕ) (c : ℕ) (r : List ℕ) → IsName x → is_word_byte c ≡ false → front scan (x ++ c ∷ r) ≡ Ok (name x, c ∷ r)
 unfolding front
-name_front total [] c r h ends = absurd (let q = h.form in cc)
-name_front total (b ∷ bs) c r h ends =
+name_front scan [] c r h ends = absurd (let q = h.form in cc)
+name_front scan (b ∷ bs) c r h ends =
     let p = and_parts (is_lower b) (list_all is_name_byte (b ∷ bs)) h.form in
     let low : 97 ≤ b = (let q = p.0 in grind (arith, nat_tests)) in
-    ap (token_here total) (no_gap b (bs ++ c ∷ r) (omega arith)) ∙ word_here total b bs c r (name (b ∷ bs)) (words_of_names (b ∷ bs) p.1) ends (name_is_word b bs h low)
+    ap (token_here scan) (no_gap b (bs ++ c ∷ r) (omega arith)) ∙ word_here scan b bs c r (name (b ∷ bs)) (words_of_names (b ∷ bs) p.1) ends (name_is_word b bs h low)
 
 -- ---- numbers
 
@@ -152,91 +157,112 @@ number_word n b bs h e i =
     let any : list_any is_digit (take 1 (b ∷ bs)) ≡ true = rw d.0 refl in
     ap (λ v. cond v (digits_token (number_of (b ∷ bs))) (letters_token (b ∷ bs) (keyword_of (b ∷ bs)))) any ∙ ap digits_token some
 
-number_front : (total n c : ℕ) (r : List ℕ) → n ≤ MAX_NUMBER → is_word_byte c ≡ false → front total (decimal n ++ c ∷ r) ≡ Ok (number n, c ∷ r)
+number_front : (scan : Scan) (n c : ℕ) (r : List ℕ) → n ≤ MAX_NUMBER → is_word_byte c ≡ false → front scan (decimal n ++ c ∷ r) ≡ Ok (number n, c ∷ r)
 unfolding front
-number_front total n c r h ends = by_cases (decimal n) refl (numeral n (omega arith))
+number_front scan n c r h ends = by_cases (decimal n) refl (numeral n (omega arith))
   where
-    by_cases : (w : List ℕ) → decimal n ≡ w → IsNumeral n w → token_here total (after_gap (w ++ c ∷ r)) ≡ Ok (number n, c ∷ r)
+    by_cases : (w : List ℕ) → decimal n ≡ w → IsNumeral n w → token_here scan (after_gap (w ++ c ∷ r)) ≡ Ok (number n, c ∷ r)
     by_cases [] e i = absurd (let q = i.some in omega arith)
     by_cases (b ∷ bs) e i =
         let d = and_parts (is_digit b) (list_all is_digit bs) i.digits in
         let low : 48 ≤ b = (let q = d.0 in grind (arith, nat_tests)) in
-        ap (token_here total) (no_gap b (bs ++ c ∷ r) low) ∙ word_here total b bs c r (number n) (words_of_digits (b ∷ bs) i.digits) ends (number_word n b bs h e i)
+        ap (token_here scan) (no_gap b (bs ++ c ∷ r) low) ∙ word_here scan b bs c r (number n) (words_of_digits (b ∷ bs) i.digits) ends (number_word n b bs h e i)
+
+-- the line of an await, and what follows it
+regroup : (d : ℕ) (x off more rest : List ℕ)
+    → (indented_line d (codes "await(" ++ x ++ off ++ codes ");") ++ more) ++ rest ≡ replicate (2 * d) 32 ++ (codes "await(" ++ (x ++ (off ++ (41 ∷ 59 ∷ 10 ∷ (more ++ rest)))))
+regroup d x off more rest = simp append_assoc
 
 -- ---- fixed tokens
 
-module _ (total : ℕ) where
-  fork_front : (t : List ℕ) → front total (codes "fork(" ++ t) ≡ Ok (word k.Fork, 40 ∷ t)
+module _ (scan : Scan) where
+  fork_front : (t : List ℕ) → front scan (codes "fork(" ++ t) ≡ Ok (word k.Fork, 40 ∷ t)
   unfolding front keyword_of
   fork_front t = refl
 
-  reg_front : (t : List ℕ) → front total (codes "reg(" ++ t) ≡ Ok (word k.Reg, 40 ∷ t)
+  reg_front : (t : List ℕ) → front scan (codes "reg(" ++ t) ≡ Ok (word k.Reg, 40 ∷ t)
   unfolding front keyword_of
   reg_front t = refl
 
-  dereg_front : (t : List ℕ) → front total (codes "dereg(" ++ t) ≡ Ok (word k.Dereg, 40 ∷ t)
+  dereg_front : (t : List ℕ) → front scan (codes "dereg(" ++ t) ≡ Ok (word k.Dereg, 40 ∷ t)
   unfolding front keyword_of
   dereg_front t = refl
 
-  adv_front : (t : List ℕ) → front total (codes "adv(" ++ t) ≡ Ok (word k.Adv, 40 ∷ t)
+  adv_front : (t : List ℕ) → front scan (codes "adv(" ++ t) ≡ Ok (word k.Adv, 40 ∷ t)
   unfolding front keyword_of
   adv_front t = refl
 
-  await_front : (t : List ℕ) → front total (codes "await(" ++ t) ≡ Ok (word k.Await, 40 ∷ t)
+  await_front : (t : List ℕ) → front scan (codes "await(" ++ t) ≡ Ok (word k.Await, 40 ∷ t)
   unfolding front keyword_of
   await_front t = refl
 
-  skip_front : (t : List ℕ) → front total (codes "skip;" ++ t) ≡ Ok (word k.Skip, 59 ∷ t)
+  skip_front : (t : List ℕ) → front scan (codes "skip;" ++ t) ≡ Ok (word k.Skip, 59 ∷ t)
   unfolding front keyword_of
   skip_front t = refl
 
-  loop_front : (t : List ℕ) → front total (codes "loop " ++ t) ≡ Ok (word k.Loop, 32 ∷ t)
+  loop_front : (t : List ℕ) → front scan (codes "loop " ++ t) ≡ Ok (word k.Loop, 32 ∷ t)
   unfolding front keyword_of
   loop_front t = refl
 
-  tid_front : (t : List ℕ) → front total (codes " newTid(" ++ t) ≡ Ok (word k.NewTid, 40 ∷ t)
+  tid_front : (t : List ℕ) → front scan (codes " newTid(" ++ t) ≡ Ok (word k.NewTid, 40 ∷ t)
   unfolding front keyword_of
   tid_front t = refl
 
-  phaser_front : (t : List ℕ) → front total (codes " newPhaser(" ++ t) ≡ Ok (word k.NewPhaser, 40 ∷ t)
+  phaser_front : (t : List ℕ) → front scan (codes " newPhaser(" ++ t) ≡ Ok (word k.NewPhaser, 40 ∷ t)
   unfolding front keyword_of
   phaser_front t = refl
 
-  open_front : (t : List ℕ) → front total (40 ∷ t) ≡ Ok (sign OpenParen, t)
+  open_front : (t : List ℕ) → front scan (40 ∷ t) ≡ Ok (sign OpenParen, t)
   unfolding front
   open_front t = refl
 
-  close_front : (t : List ℕ) → front total (41 ∷ t) ≡ Ok (sign CloseParen, t)
+  close_front : (t : List ℕ) → front scan (41 ∷ t) ≡ Ok (sign CloseParen, t)
   unfolding front
   close_front t = refl
 
-  comma_front : (t : List ℕ) → front total (44 ∷ t) ≡ Ok (sign Comma, t)
+  comma_front : (t : List ℕ) → front scan (44 ∷ t) ≡ Ok (sign Comma, t)
   unfolding front
   comma_front t = refl
 
-  semicolon_front : (t : List ℕ) → front total (59 ∷ t) ≡ Ok (sign Semicolon, t)
+  semicolon_front : (t : List ℕ) → front scan (59 ∷ t) ≡ Ok (sign Semicolon, t)
   unfolding front
   semicolon_front t = refl
 
-  equals_front : (t : List ℕ) → front total (32 ∷ 61 ∷ t) ≡ Ok (sign Equals, t)
+  equals_front : (t : List ℕ) → front scan (32 ∷ 61 ∷ t) ≡ Ok (sign Equals, t)
   unfolding front
   equals_front t = refl
 
-  brace_front : (t : List ℕ) → front total (32 ∷ 123 ∷ t) ≡ Ok (sign OpenBrace, t)
+  brace_front : (t : List ℕ) → front scan (32 ∷ 123 ∷ t) ≡ Ok (sign OpenBrace, t)
   unfolding front
   brace_front t = refl
 
-  shut_front : (t : List ℕ) → front total (125 ∷ t) ≡ Ok (sign CloseBrace, t)
+  shut_front : (t : List ℕ) → front scan (125 ∷ t) ≡ Ok (sign CloseBrace, t)
   unfolding front
   shut_front t = refl
 
-  line_front : (t : List ℕ) → front total (10 ∷ t) ≡ front total t
+  line_front : (t : List ℕ) → front scan (10 ∷ t) ≡ front scan t
   unfolding front
   line_front t = refl
 
-  space_front : (t : List ℕ) → front total (32 ∷ t) ≡ front total t
+  space_front : (t : List ℕ) → front scan (32 ∷ t) ≡ front scan t
   unfolding front
   space_front t = refl
+
+  plus_front : scan.offsets ≡ true → (t : List ℕ) → front scan (32 ∷ 43 ∷ t) ≡ Ok (sign Plus, t)
+  unfolding front
+  plus_front on t = rw on refl
+
+  minus_front : scan.offsets ≡ true → (t : List ℕ) → front scan (32 ∷ 45 ∷ t) ≡ Ok (sign Minus, t)
+  unfolding front
+  minus_front on t = rw on refl
+
+  pl_front : (t : List ℕ) → front scan (codes "pl " ++ t) ≡ Ok (name (codes "pl"), 32 ∷ t)
+  unfolding front keyword_of
+  pl_front t = refl
+
+  two_front : (t : List ℕ) → front scan (codes " 2;" ++ t) ≡ Ok (number 2, 59 ∷ t)
+  unfolding front
+  two_front t = refl
 
   -- a line's end before tokens
   IsSome : List Token → Type 0
@@ -251,7 +277,7 @@ module _ (total : ℕ) where
   unfolding IsSome
   some_end = tt
 
-  new_line : (t : List ℕ) (us : List Token) (end : List ℕ) → IsSome us → Leads total t us end → Leads total (10 ∷ t) us end
+  new_line : (t : List ℕ) (us : List Token) (end : List ℕ) → IsSome us → Leads scan t us end → Leads scan (10 ∷ t) us end
   unfolding IsSome
   new_line t [] end n h = absurd n
   new_line t (u ∷ us) end n h = (h.0, line_front t ∙ h.1, h.2)
@@ -263,7 +289,7 @@ module _ (total : ℕ) where
   some_plain (reg x y) us = tt
   some_plain (dereg x) us = tt
   some_plain (adv x) us = tt
-  some_plain (await x) us = tt
+  some_plain (await x off) us = tt
   some_plain skip us = tt
 
   some_tree : (p : Tree) (us : List Token) → IsSome us → IsSome (tokens p us)
@@ -275,19 +301,51 @@ module _ (total : ℕ) where
 
   -- ---- lines
 
-  indented : (n : ℕ) (t : List ℕ) (u : Token) (mid : List ℕ) → front total t ≡ Ok (u, mid) → front total (replicate n 32 ++ t) ≡ Ok (u, mid)
-  indented n t u mid e = spaces total n t ∙ e
+  indented : (n : ℕ) (t : List ℕ) (u : Token) (mid : List ℕ) → front scan t ≡ Ok (u, mid) → front scan (replicate n 32 ++ t) ≡ Ok (u, mid)
+  indented n t u mid e = spaces scan n t ∙ e
 
-  named_line : (n : ℕ) (kw : List ℕ) (w : Token) (x : List ℕ) (t : List ℕ) (us : List Token) (end : List ℕ) → ((r : List ℕ) → front total (kw ++ r) ≡ Ok (w, 40 ∷ r)) → IsName x → Leads total t us end
-      → Leads total (replicate n 32 ++ (kw ++ (x ++ (41 ∷ 59 ∷ t)))) (w ∷ sign OpenParen ∷ name x ∷ sign CloseParen ∷ sign Semicolon ∷ us) end
+  named_line : (n : ℕ) (kw : List ℕ) (w : Token) (x : List ℕ) (t : List ℕ) (us : List Token) (end : List ℕ) → ((r : List ℕ) → front scan (kw ++ r) ≡ Ok (w, 40 ∷ r)) → IsName x → Leads scan t us end
+      → Leads scan (replicate n 32 ++ (kw ++ (x ++ (41 ∷ 59 ∷ t)))) (w ∷ sign OpenParen ∷ name x ∷ sign CloseParen ∷ sign Semicolon ∷ us) end
   named_line n kw w x t us end f i h = (
     40 ∷ (x ++ (41 ∷ 59 ∷ t)),
     indented n _ w _ (f (x ++ (41 ∷ 59 ∷ t))),
-    (x ++ (41 ∷ 59 ∷ t), open_front (x ++ (41 ∷ 59 ∷ t)), (41 ∷ 59 ∷ t, name_front total x 41 (59 ∷ t) i refl, (59 ∷ t, close_front (59 ∷ t), (t, semicolon_front t, h)))),
+    (x ++ (41 ∷ 59 ∷ t), open_front (x ++ (41 ∷ 59 ∷ t)), (41 ∷ 59 ∷ t, name_front scan x 41 (59 ∷ t) i refl, (59 ∷ t, close_front (59 ∷ t), (t, semicolon_front t, h)))),
   )
 
-  reg_line : (n : ℕ) (x y : List ℕ) (t : List ℕ) (us : List Token) (end : List ℕ) → IsName x → IsName y → Leads total t us end
-      → Leads total (replicate n 32 ++ (codes "reg(" ++ (x ++ (44 ∷ 32 ∷ (y ++ (41 ∷ 59 ∷ t)))))) (plain_tokens (reg x y) us) end
+  far_line : (n : ℕ) (x : List ℕ) (c m : ℕ) (w : Token) (t : List ℕ) (us : List Token) (end : List ℕ) → ((r : List ℕ) → front scan (32 ∷ c ∷ r) ≡ Ok (w, r)) → IsName x → m ≤ MAX_NUMBER
+      → Leads scan t us end
+      → Leads scan (replicate n 32 ++ (codes "await(" ++ (x ++ (32 ∷ c ∷ 32 ∷ (decimal m ++ (41 ∷ 59 ∷ t))))))
+          (word k.Await ∷ sign OpenParen ∷ name x ∷ w ∷ number m ∷ sign CloseParen ∷ sign Semicolon ∷ us) end
+  far_line n x c m w t us end f i small h =
+      let b : List ℕ = 32 ∷ (decimal m ++ (41 ∷ 59 ∷ t)) in
+      let a : List ℕ = x ++ (32 ∷ c ∷ b) in (
+        40 ∷ a,
+        indented n _ (word k.Await) (40 ∷ a) (await_front a),
+        (
+          a,
+          open_front a,
+          (
+            32 ∷ c ∷ b,
+            name_front scan x 32 (c ∷ b) i refl,
+            (
+              b,
+              f b,
+              (
+                41 ∷ 59 ∷ t,
+                space_front (decimal m ++ (41 ∷ 59 ∷ t)) ∙ number_front scan m 41 (59 ∷ t) small refl,
+                (59 ∷ t, close_front (59 ∷ t), (t, semicolon_front t, h)),
+              ),
+            ),
+          ),
+        ),
+      )
+
+  -- only where + and - are signs does an await look back or ahead
+  looks : (off : Offset) → (scan.offsets ≡ false → off ≡ Here) → (off ≡ Here → ⊥) → scan.offsets ≡ true
+  looks off here not_here = elim (cases_Bool scan.offsets) [ inl e ↦ e | inr e ↦ absurd (not_here (here e)) ]
+
+  reg_line : (n : ℕ) (x y : List ℕ) (t : List ℕ) (us : List Token) (end : List ℕ) → IsName x → IsName y → Leads scan t us end
+      → Leads scan (replicate n 32 ++ (codes "reg(" ++ (x ++ (44 ∷ 32 ∷ (y ++ (41 ∷ 59 ∷ t)))))) (plain_tokens (reg x y) us) end
   reg_line n x y t us end i j h =
       let b : List ℕ = y ++ (41 ∷ 59 ∷ t) in
       let a : List ℕ = x ++ (44 ∷ 32 ∷ b) in (
@@ -298,22 +356,22 @@ module _ (total : ℕ) where
           open_front a,
           (
             44 ∷ 32 ∷ b,
-            name_front total x 44 (32 ∷ b) i refl,
+            name_front scan x 44 (32 ∷ b) i refl,
             (
               32 ∷ b,
               comma_front (32 ∷ b),
-              (41 ∷ 59 ∷ t, space_front b ∙ name_front total y 41 (59 ∷ t) j refl, (59 ∷ t, close_front (59 ∷ t), (t, semicolon_front t, h))),
+              (41 ∷ 59 ∷ t, space_front b ∙ name_front scan y 41 (59 ∷ t) j refl, (59 ∷ t, close_front (59 ∷ t), (t, semicolon_front t, h))),
             ),
           ),
         ),
       )
 
-  drawn_line : (n : ℕ) (x : List ℕ) (kw : List ℕ) (w : Token) (t : List ℕ) (us : List Token) (end : List ℕ) → ((r : List ℕ) → front total (kw ++ r) ≡ Ok (w, 40 ∷ r)) → IsName x → Leads total t us end
-      → Leads total (replicate n 32 ++ (x ++ (32 ∷ 61 ∷ (kw ++ (41 ∷ 59 ∷ t))))) (name x ∷ sign Equals ∷ w ∷ sign OpenParen ∷ sign CloseParen ∷ sign Semicolon ∷ us) end
+  drawn_line : (n : ℕ) (x : List ℕ) (kw : List ℕ) (w : Token) (t : List ℕ) (us : List Token) (end : List ℕ) → ((r : List ℕ) → front scan (kw ++ r) ≡ Ok (w, 40 ∷ r)) → IsName x → Leads scan t us end
+      → Leads scan (replicate n 32 ++ (x ++ (32 ∷ 61 ∷ (kw ++ (41 ∷ 59 ∷ t))))) (name x ∷ sign Equals ∷ w ∷ sign OpenParen ∷ sign CloseParen ∷ sign Semicolon ∷ us) end
   drawn_line n x kw w t us end f i h =
       let a : List ℕ = kw ++ (41 ∷ 59 ∷ t) in (
         32 ∷ 61 ∷ a,
-        indented n _ (name x) (32 ∷ 61 ∷ a) (name_front total x 32 (61 ∷ a) i refl),
+        indented n _ (name x) (32 ∷ 61 ∷ a) (name_front scan x 32 (61 ∷ a) i refl),
         (
           a,
           equals_front a,
@@ -329,80 +387,113 @@ module _ (total : ℕ) where
         ),
       )
 
-  skip_line : (n : ℕ) (t : List ℕ) (us : List Token) (end : List ℕ) → Leads total t us end → Leads total (replicate n 32 ++ (codes "skip;" ++ t)) (word k.Skip ∷ sign Semicolon ∷ us) end
+  skip_line : (n : ℕ) (t : List ℕ) (us : List Token) (end : List ℕ) → Leads scan t us end → Leads scan (replicate n 32 ++ (codes "skip;" ++ t)) (word k.Skip ∷ sign Semicolon ∷ us) end
   skip_line n t us end h = (59 ∷ t, indented n _ (word k.Skip) (59 ∷ t) (skip_front t), (t, semicolon_front t, h))
 
-  fork_line : (n : ℕ) (x : List ℕ) (t : List ℕ) (us : List Token) (end : List ℕ) → IsName x → Leads total t us end
-      → Leads total (replicate n 32 ++ (codes "fork(" ++ (x ++ (41 ∷ 32 ∷ 123 ∷ t)))) (word k.Fork ∷ sign OpenParen ∷ name x ∷ sign CloseParen ∷ sign OpenBrace ∷ us) end
+  fork_line : (n : ℕ) (x : List ℕ) (t : List ℕ) (us : List Token) (end : List ℕ) → IsName x → Leads scan t us end
+      → Leads scan (replicate n 32 ++ (codes "fork(" ++ (x ++ (41 ∷ 32 ∷ 123 ∷ t)))) (word k.Fork ∷ sign OpenParen ∷ name x ∷ sign CloseParen ∷ sign OpenBrace ∷ us) end
   fork_line n x t us end i h =
       let b : List ℕ = 32 ∷ 123 ∷ t in
       let a : List ℕ = x ++ (41 ∷ b) in
-      (40 ∷ a, indented n _ (word k.Fork) (40 ∷ a) (fork_front a), (a, open_front a, (41 ∷ b, name_front total x 41 b i refl, (b, close_front b, (t, brace_front t, h)))))
+      (40 ∷ a, indented n _ (word k.Fork) (40 ∷ a) (fork_front a), (a, open_front a, (41 ∷ b, name_front scan x 41 b i refl, (b, close_front b, (t, brace_front t, h)))))
 
-  loop_line : (n m : ℕ) (t : List ℕ) (us : List Token) (end : List ℕ) → m ≤ MAX_NUMBER → Leads total t us end
-      → Leads total (replicate n 32 ++ (codes "loop " ++ (decimal m ++ (32 ∷ 123 ∷ t)))) (word k.Loop ∷ number m ∷ sign OpenBrace ∷ us) end
+  loop_line : (n m : ℕ) (t : List ℕ) (us : List Token) (end : List ℕ) → m ≤ MAX_NUMBER → Leads scan t us end
+      → Leads scan (replicate n 32 ++ (codes "loop " ++ (decimal m ++ (32 ∷ 123 ∷ t)))) (word k.Loop ∷ number m ∷ sign OpenBrace ∷ us) end
   loop_line n m t us end i h =
       let a : List ℕ = decimal m ++ (32 ∷ 123 ∷ t) in
-      (32 ∷ a, indented n _ (word k.Loop) (32 ∷ a) (loop_front a), (32 ∷ 123 ∷ t, space_front a ∙ number_front total m 32 (123 ∷ t) i refl, (t, brace_front t, h)))
+      (32 ∷ a, indented n _ (word k.Loop) (32 ∷ a) (loop_front a), (32 ∷ 123 ∷ t, space_front a ∙ number_front scan m 32 (123 ∷ t) i refl, (t, brace_front t, h)))
 
-  shut_line : (n : ℕ) (t : List ℕ) (us : List Token) (end : List ℕ) → Leads total t us end → Leads total (replicate n 32 ++ (125 ∷ t)) (sign CloseBrace ∷ us) end
+  shut_line : (n : ℕ) (t : List ℕ) (us : List Token) (end : List ℕ) → Leads scan t us end → Leads scan (replicate n 32 ++ (125 ∷ t)) (sign CloseBrace ∷ us) end
   shut_line n t us end h = (t, indented n _ (sign CloseBrace) t (shut_front t), h)
 
   -- ---- trees
 
-  put : (a b : List ℕ) (us : List Token) (end : List ℕ) → a ≡ b → Leads total b us end → Leads total a us end
-  put a b us end e h = subst (λ (t : List ℕ). Leads total t us end) (sym e) h
+  put : (a b : List ℕ) (us : List Token) (end : List ℕ) → a ≡ b → Leads scan b us end → Leads scan a us end
+  put a b us end e h = subst (λ (t : List ℕ). Leads scan t us end) (sym e) h
 
-  reads : (p : Tree) (d : ℕ) (rest : List ℕ) (us : List Token) (end : List ℕ) → IsWritable p → IsSome us → Leads total rest us end → Leads total (printed_at d p ++ rest) (tokens p us) end
-  reads done d rest us end n i h = h
-  reads (plain (new_task x) p) d rest us end n i h =
+  reads : (p : Tree) (d : ℕ) (rest : List ℕ) (us : List Token) (end : List ℕ) → TreeIsWritable p → (scan.offsets ≡ false → AllHere p) → IsSome us → Leads scan rest us end → Leads scan (printed_at d p ++ rest) (tokens p us) end
+  reads done d rest us end n g i h = h
+  reads (plain (new_task x) p) d rest us end n g i h =
       let t : List ℕ = printed_at d p ++ rest in
-      let l = new_line t (tokens p us) end (some_tree p us i) (reads p d rest us end n.1 i h) in
+      let l = new_line t (tokens p us) end (some_tree p us i) (reads p d rest us end n.1 (λ e. (g e).1) i h) in
       put (printed_at d (plain (new_task x) p) ++ rest) (replicate (2 * d) 32 ++ (x ++ (32 ∷ 61 ∷ (codes " newTid(" ++ (41 ∷ 59 ∷ 10 ∷ t))))) (tokens (plain (new_task x) p) us) end (simp append_assoc) (drawn_line (2 * d) x (codes " newTid(") (word k.NewTid) (10 ∷ t) (tokens p us) end tid_front n.0 l)
-  reads (plain (new_phaser x) p) d rest us end n i h =
+  reads (plain (new_phaser x) p) d rest us end n g i h =
       let t : List ℕ = printed_at d p ++ rest in
-      let l = new_line t (tokens p us) end (some_tree p us i) (reads p d rest us end n.1 i h) in
+      let l = new_line t (tokens p us) end (some_tree p us i) (reads p d rest us end n.1 (λ e. (g e).1) i h) in
       put (printed_at d (plain (new_phaser x) p) ++ rest) (replicate (2 * d) 32 ++ (x ++ (32 ∷ 61 ∷ (codes " newPhaser(" ++ (41 ∷ 59 ∷ 10 ∷ t))))) (tokens (plain (new_phaser x) p) us) end (simp append_assoc) (drawn_line (2 * d) x (codes " newPhaser(") (word k.NewPhaser) (10 ∷ t) (tokens p us) end phaser_front n.0 l)
-  reads (plain (reg x y) p) d rest us end n i h =
+  reads (plain (reg x y) p) d rest us end n g i h =
       let t : List ℕ = printed_at d p ++ rest in
-      let l = new_line t (tokens p us) end (some_tree p us i) (reads p d rest us end n.1 i h) in
+      let l = new_line t (tokens p us) end (some_tree p us i) (reads p d rest us end n.1 (λ e. (g e).1) i h) in
       put (printed_at d (plain (reg x y) p) ++ rest) (replicate (2 * d) 32 ++ (codes "reg(" ++ (x ++ (44 ∷ 32 ∷ (y ++ (41 ∷ 59 ∷ 10 ∷ t)))))) (tokens (plain (reg x y) p) us) end (simp append_assoc) (reg_line (2 * d) x y (10 ∷ t) (tokens p us) end n.0.0 n.0.1 l)
-  reads (plain (dereg x) p) d rest us end n i h =
+  reads (plain (dereg x) p) d rest us end n g i h =
       let t : List ℕ = printed_at d p ++ rest in
-      let l = new_line t (tokens p us) end (some_tree p us i) (reads p d rest us end n.1 i h) in
+      let l = new_line t (tokens p us) end (some_tree p us i) (reads p d rest us end n.1 (λ e. (g e).1) i h) in
       put (printed_at d (plain (dereg x) p) ++ rest) (replicate (2 * d) 32 ++ (codes "dereg(" ++ (x ++ (41 ∷ 59 ∷ 10 ∷ t)))) (tokens (plain (dereg x) p) us) end (simp append_assoc) (named_line (2 * d) (codes "dereg(") (word k.Dereg) x (10 ∷ t) (tokens p us) end dereg_front n.0 l)
-  reads (plain (adv x) p) d rest us end n i h =
+  reads (plain (adv x) p) d rest us end n g i h =
       let t : List ℕ = printed_at d p ++ rest in
-      let l = new_line t (tokens p us) end (some_tree p us i) (reads p d rest us end n.1 i h) in
+      let l = new_line t (tokens p us) end (some_tree p us i) (reads p d rest us end n.1 (λ e. (g e).1) i h) in
       put (printed_at d (plain (adv x) p) ++ rest) (replicate (2 * d) 32 ++ (codes "adv(" ++ (x ++ (41 ∷ 59 ∷ 10 ∷ t)))) (tokens (plain (adv x) p) us) end (simp append_assoc) (named_line (2 * d) (codes "adv(") (word k.Adv) x (10 ∷ t) (tokens p us) end adv_front n.0 l)
-  reads (plain (await x) p) d rest us end n i h =
+  reads (plain (await x Here) p) d rest us end n g i h =
       let t : List ℕ = printed_at d p ++ rest in
-      let l = new_line t (tokens p us) end (some_tree p us i) (reads p d rest us end n.1 i h) in
-      put (printed_at d (plain (await x) p) ++ rest) (replicate (2 * d) 32 ++ (codes "await(" ++ (x ++ (41 ∷ 59 ∷ 10 ∷ t)))) (tokens (plain (await x) p) us) end (simp append_assoc) (named_line (2 * d) (codes "await(") (word k.Await) x (10 ∷ t) (tokens p us) end await_front n.0 l)
-  reads (plain skip p) d rest us end n i h =
+      let l = new_line t (tokens p us) end (some_tree p us i) (reads p d rest us end n.1 (λ e. (g e).1) i h) in
+      put (printed_at d (plain (await x Here) p) ++ rest) (replicate (2 * d) 32 ++ (codes "await(" ++ (x ++ (41 ∷ 59 ∷ 10 ∷ t)))) (tokens (plain (await x Here) p) us) end (simp append_assoc) (named_line (2 * d) (codes "await(") (word k.Await) x (10 ∷ t) (tokens p us) end await_front n.0.0 l)
+  reads (plain (await x (Back m)) p) d rest us end n g i h =
       let t : List ℕ = printed_at d p ++ rest in
-      let l = new_line t (tokens p us) end (some_tree p us i) (reads p d rest us end n.1 i h) in
+      let l = new_line t (tokens p us) end (some_tree p us i) (reads p d rest us end n.1 (λ e. (g e).1) i h) in
+      let on = looks (Back m) (λ e. (g e).0) (λ e. absurd cc) in
+      put (printed_at d (plain (await x (Back m)) p) ++ rest) (replicate (2 * d) 32 ++ (codes "await(" ++ (x ++ (32 ∷ 45 ∷ 32 ∷ (decimal m ++ (41 ∷ 59 ∷ 10 ∷ t)))))) (tokens (plain (await x (Back m)) p) us) end (regroup d x (codes " - " ++ decimal m) (printed_at d p) rest)
+      (far_line (2 * d) x 45 m (sign Minus) (10 ∷ t) (tokens p us) end (minus_front on) n.0.0 n.0.1 l)
+  reads (plain (await x (Ahead m)) p) d rest us end n g i h =
+      let t : List ℕ = printed_at d p ++ rest in
+      let l = new_line t (tokens p us) end (some_tree p us i) (reads p d rest us end n.1 (λ e. (g e).1) i h) in
+      let on = looks (Ahead m) (λ e. (g e).0) (λ e. absurd cc) in
+      put (printed_at d (plain (await x (Ahead m)) p) ++ rest) (replicate (2 * d) 32 ++ (codes "await(" ++ (x ++ (32 ∷ 43 ∷ 32 ∷ (decimal m ++ (41 ∷ 59 ∷ 10 ∷ t)))))) (tokens (plain (await x (Ahead m)) p) us) end (regroup d x (codes " + " ++ decimal m) (printed_at d p) rest)
+      (far_line (2 * d) x 43 m (sign Plus) (10 ∷ t) (tokens p us) end (plus_front on) n.0.0 n.0.1 l)
+  reads (plain skip p) d rest us end n g i h =
+      let t : List ℕ = printed_at d p ++ rest in
+      let l = new_line t (tokens p us) end (some_tree p us i) (reads p d rest us end n.1 (λ e. (g e).1) i h) in
       put (printed_at d (plain skip p) ++ rest) (replicate (2 * d) 32 ++ (codes "skip;" ++ (10 ∷ t))) (tokens (plain skip p) us) end (simp append_assoc) (skip_line (2 * d) (10 ∷ t) (tokens p us) end l)
-  reads (fork x b p) d rest us end n i h =
+  reads (fork x b p) d rest us end n g i h =
       let t : List ℕ = printed_at d p ++ rest in
       let after_body : List ℕ = replicate (2 * d) 32 ++ (125 ∷ 10 ∷ t) in
-      let l = shut_line (2 * d) (10 ∷ t) (tokens p us) end (new_line t (tokens p us) end (some_tree p us i) (reads p d rest us end n.2 i h)) in
+      let l = shut_line (2 * d) (10 ∷ t) (tokens p us) end (new_line t (tokens p us) end (some_tree p us i) (reads p d rest us end n.2 (λ e. (g e).1) i h)) in
       let inner = new_line (printed_at (d + 1) b ++ after_body) (tokens b (sign CloseBrace ∷ tokens p us)) end (some_tree b (sign CloseBrace ∷ tokens p us) (some_sign (tokens p us)))
-      (reads b (d + 1) after_body (sign CloseBrace ∷ tokens p us) end n.1 (some_sign (tokens p us)) l) in
+      (reads b (d + 1) after_body (sign CloseBrace ∷ tokens p us) end n.1 (λ e. (g e).0) (some_sign (tokens p us)) l) in
       put (printed_at d (fork x b p) ++ rest) (replicate (2 * d) 32 ++ (codes "fork(" ++ (x ++ (41 ∷ 32 ∷ 123 ∷ 10 ∷ (printed_at (d + 1) b ++ after_body))))) (tokens (fork x b p) us) end (simp append_assoc)
       (fork_line (2 * d) x (10 ∷ (printed_at (d + 1) b ++ after_body)) (tokens b (sign CloseBrace ∷ tokens p us)) end n.0 inner)
-  reads (loop m b p) d rest us end n i h =
+  reads (loop m b p) d rest us end n g i h =
       let t : List ℕ = printed_at d p ++ rest in
       let after_body : List ℕ = replicate (2 * d) 32 ++ (125 ∷ 10 ∷ t) in
-      let l = shut_line (2 * d) (10 ∷ t) (tokens p us) end (new_line t (tokens p us) end (some_tree p us i) (reads p d rest us end n.2 i h)) in
+      let l = shut_line (2 * d) (10 ∷ t) (tokens p us) end (new_line t (tokens p us) end (some_tree p us i) (reads p d rest us end n.2 (λ e. (g e).1) i h)) in
       let inner = new_line (printed_at (d + 1) b ++ after_body) (tokens b (sign CloseBrace ∷ tokens p us)) end (some_tree b (sign CloseBrace ∷ tokens p us) (some_sign (tokens p us)))
-      (reads b (d + 1) after_body (sign CloseBrace ∷ tokens p us) end n.1 (some_sign (tokens p us)) l) in
+      (reads b (d + 1) after_body (sign CloseBrace ∷ tokens p us) end n.1 (λ e. (g e).0) (some_sign (tokens p us)) l) in
       put (printed_at d (loop m b p) ++ rest) (replicate (2 * d) 32 ++ (codes "loop " ++ (decimal m ++ (32 ∷ 123 ∷ 10 ∷ (printed_at (d + 1) b ++ after_body))))) (tokens (loop m b p) us) end (simp append_assoc)
       (loop_line (2 * d) m (10 ∷ (printed_at (d + 1) b ++ after_body)) (tokens b (sign CloseBrace ∷ tokens p us)) end n.0 inner)
 
--- the printed_of form of a program is a text of it
-pub prints_text : (p : Tree) → IsWritable p → height p ≤ MAX_OPEN_BRACES → IsText (printed_of p) p
+-- the printed statements are read as themselves
+statements : (scan : Scan) (p : Tree) → TreeIsWritable p → (scan.offsets ≡ false → AllHere p) → Leads scan (printed_at 0 p) (sentence p) []
 unfolding front
-prints_text p n h =
-    let r = reads (length (printed_of p)) p 0 [] (the_end ∷ []) [] n (some_end (length (printed_of p))) ([], refl, refl) in
-    record { reads = subst (λ (t : List ℕ). Leads (length (printed_of p)) t (sentence p) []) (append-nil (printed_of p)) r; shallow = h }
+statements scan p n here =
+    subst (λ (t : List ℕ). Leads scan t (sentence p) []) (append-nil (printed_at 0 p))
+    (reads scan p 0 [] (the_end ∷ []) [] n here (some_end scan) ([], refl, refl))
+
+in_form : (two : Bool) (p : Tree) → TreeIsWritable p → (two ≡ false → AllHere p) → height p ≤ MAX_OPEN_BRACES
+    → IsText (header_text two ++ printed_at 0 p) (record { two = two; body = p })
+in_form false p n here h = record { reads = statements (scan_of false (printed_at 0 p)) p n here; shallow = h }
+in_form true p n here h =
+    let rest : List ℕ = 10 ∷ printed_at 0 p in
+    let text : List ℕ = header_text true ++ printed_at 0 p in
+    let one : Scan = scan_of false text in
+    let two : Scan = scan_of true text in
+    record {
+      reads = (
+        rest,
+        (32 ∷ 50 ∷ 59 ∷ rest, pl_front one (50 ∷ 59 ∷ rest), (59 ∷ rest, two_front one rest, (rest, semicolon_front one rest, refl))),
+        new_line two (printed_at 0 p) (sentence p) [] (some_tree two p (the_end ∷ []) (some_end two)) (statements two p n here),
+      );
+      shallow = h;
+    }
+
+-- the printed form of a program is a text of it
+pub prints_text : (p : Program) → IsWritable p → height p.body ≤ MAX_OPEN_BRACES → IsText (printed_of p) p
+prints_text p n h = in_form p.two p.body n.tree n.here h

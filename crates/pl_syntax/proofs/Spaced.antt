@@ -4,18 +4,22 @@ use Rattle.std.specs.List.{list_all, list_any, prefix_len}
 use Rattle.std.proofs.lemmas.Bool.{eqb-true, false≢true}
 use Rattle.std.proofs.lemmas.Bool.Decides.{nat_tests}
 use Rattle.std.proofs.lemmas.List.{append-nil, drop_at, take_at, take-append-drop}
+use Rattle.pl_syntax.specs.declared.scan.Scan.{Scan}
 use Rattle.pl_syntax.specs.declared.limits.TheConstants.{MAX_NAME_BYTES}
+use Rattle.armus_base.specs.declared.offset.Offset.TheVariants.{Ahead, Back, Here}
 use Rattle.pl_syntax.specs.declared.token.Keyword.{Keyword}
 use Rattle.pl_syntax.specs.declared.token.Sign.{Sign}
-use Rattle.pl_syntax.specs.declared.token.Sign.TheVariants.{CloseBrace}
+use Rattle.pl_syntax.specs.declared.token.Sign.TheVariants.{CloseBrace, Minus, Plus}
 use Rattle.pl_syntax.specs.Words.{begins_with, has_name_form, is_digit, is_word_byte, keyword_of, number_of}
 use Rattle.pl_syntax.specs.Tokens.{Token, the_end, sign, word, name, number, front, Leads, after_gap, after_comment, is_blank, token_here, placed, word_token, letters_token, digits_token, sign_token, sign_of, word_of, after_word, kind_no_token, kind_no_number, kind_too_long}
-use Rattle.pl_syntax.specs.Tree.{Tree, done, plain, fork, loop, Plain, new_task, new_phaser, reg, dereg, adv, await, skip}
-use Rattle.pl_syntax.specs.Grammar.{tokens, plain_tokens, sentence}
-use Rattle.pl_syntax.specs.Spacing.{IsGap, empty, blank, comment, left_open, IsSpelling, a_sign, a_word, IsSpaced, is_a_word, is_no_feed}
+use Rattle.pl_syntax.specs.Tree.{Tree, done, plain, fork, loop, Plain, new_task, new_phaser, reg, dereg, adv, await, skip, AllHere, PlainIsHere}
+use Rattle.pl_syntax.specs.Grammar.{Reads, header, scan_of, tokens, plain_tokens, sentence}
+use Rattle.pl_syntax.specs.Spacing.{IsGap, empty, blank, comment, left_open, IsSpelling, a_sign, a_word, IsSpaced, all_tokens, is_a_word, is_no_feed}
 use Rattle.pl_syntax.specs.Laws.{TextsAreSpaced}
 use Rattle.pl_syntax.proofs.Fronts.{chosen, ok_pair, was_found}
-use Rattle.pl_syntax.proofs.LineFeeds.{tokens_append}
+use Rattle.pl_syntax.proofs.LineFeeds.{is_real, tokens_append}
+use Rattle.pl_syntax.proofs.Leaves.{Leads-append}
+use Rattle.pl_syntax.proofs.Writable.{text_is_writable}
 
 -- ---- gaps
 
@@ -258,7 +262,7 @@ IsSignByte b = (is_word_byte b ≡ false) × (is_blank b ≡ false) × ((b == 47
 at_byte : (b c : ℕ) → (b == c) ≡ true → IsSignByte c → IsSignByte b
 at_byte b c e h = subst IsSignByte (sym (eqb-true b c e)) h
 
-sign_byte : (b : ℕ) (s : Sign) → sign_of b ≡ Some s → IsSignByte b
+sign_byte : (b : ℕ) (s : Sign) → sign_of true b ≡ Some s → IsSignByte b
 sign_byte b s e =
     elim (chosen (b == 61) _ _ _ e) [
       | inl p ↦ at_byte b 61 p.0 (refl, refl, refl)
@@ -274,7 +278,13 @@ sign_byte b s e =
                 | inl p ↦ at_byte b 123 p.0 (refl, refl, refl)
                 | inr p ↦ elim (chosen (b == 125) _ _ _ p.1) [
                   | inl p ↦ at_byte b 125 p.0 (refl, refl, refl)
-                  | inr p ↦ absurd (let none : None ≡ Some s = p.1 in cc)
+                  | inr p ↦ elim (chosen (b == 43) _ _ _ p.1) [
+                    | inl p ↦ at_byte b 43 p.0 (refl, refl, refl)
+                    | inr p ↦ elim (chosen (b == 45) _ _ _ p.1) [
+                      | inl p ↦ at_byte b 45 p.0 (refl, refl, refl)
+                      | inr p ↦ absurd (let none : None ≡ Some s = p.1 in cc)
+                    ]
+                  ]
                 ]
               ]
             ]
@@ -300,33 +310,73 @@ blank_no_word b e = grind (arith, nat_tests)
 
 -- ---- spaced tokens are read
 
-spelled_here : (total : ℕ) (t : Token) (w rest : List ℕ) → IsSpelling t w → (is_a_word t ≡ true → Stops rest) → token_here total (after_gap (w ++ rest)) ≡ Ok (t, rest)
-spelled_here total t w rest (a_sign {s} {b} is) stops =
+-- + and - are tokens in PL 2 alone
+abbrev is_near : Token → Bool
+is_near (sign Plus) = false
+is_near (sign Minus) = false
+is_near t = true
+
+-- the sign of a byte, where + and - are signs, is its sign where they are not, or it is one of these
+same_sign_of : (offsets : Bool) (b : ℕ) (s : Sign) → (offsets ≡ false → is_near (sign s) ≡ true) → sign_of true b ≡ Some s → sign_of offsets b ≡ Some s
+same_sign_of true b s near e = e
+same_sign_of false b s near e =
+    elim (chosen (b == 61) _ _ _ e) [
+      | inl p ↦ rw p.0 p.1
+      | inr p ↦ rw p.0 (elim (chosen (b == 40) _ _ _ p.1) [
+        | inl p ↦ rw p.0 p.1
+        | inr p ↦ rw p.0 (elim (chosen (b == 41) _ _ _ p.1) [
+          | inl p ↦ rw p.0 p.1
+          | inr p ↦ rw p.0 (elim (chosen (b == 44) _ _ _ p.1) [
+            | inl p ↦ rw p.0 p.1
+            | inr p ↦ rw p.0 (elim (chosen (b == 59) _ _ _ p.1) [
+              | inl p ↦ rw p.0 p.1
+              | inr p ↦ rw p.0 (elim (chosen (b == 123) _ _ _ p.1) [
+                | inl p ↦ rw p.0 p.1
+                | inr p ↦ rw p.0 (elim (chosen (b == 125) _ _ _ p.1) [
+                  | inl p ↦ rw p.0 p.1
+                  | inr p ↦ absurd (elim (chosen (b == 43) _ _ _ p.1) [
+                    | inl p ↦ far Plus p.1 refl
+                    | inr p ↦ elim (chosen (b == 45) _ _ _ p.1) [ inl p ↦ far Minus p.1 refl | inr p ↦ (let none : None ≡ Some s = p.1 in cc) ]
+                  ])
+                ])
+              ])
+            ])
+          ])
+        ])
+      ])
+    ]
+  where
+    far : (r : Sign) → ◌≡◌ {A = Option Sign} (Some r) (Some s) → is_near (sign r) ≡ false → ⊥
+    far r same not_near = (let is : r ≡ s = cc in let q : false ≡ true = sym not_near ∙ ap (λ (x : Sign). is_near (sign x)) is ∙ near refl in cc)
+
+spelled_here : (scan : Scan) (t : Token) (w rest : List ℕ) → (scan.offsets ≡ false → is_near t ≡ true) → IsSpelling t w → (is_a_word t ≡ true → Stops rest) → token_here scan (after_gap (w ++ rest)) ≡ Ok (t, rest)
+spelled_here scan t w rest near (a_sign {s} {b} is) stops =
     let h = sign_byte b s is in
-    let at = total - length (b ∷ rest) in
-    ap (token_here total) (stays b rest h.1 h.2)
-    ∙ ap (λ v. cond v (placed at (word_token (word_of (b ∷ rest))) (after_word (b ∷ rest))) (placed at (sign_token (sign_of b)) rest)) h.0
-    ∙ ap (λ o. placed at (sign_token o) rest) is
-spelled_here total t w rest (a_word {b = b} {bs = bs} all is) stops =
+    let at = scan.total - length (b ∷ rest) in
+    ap (token_here scan) (stays b rest h.1 h.2)
+    ∙ ap (λ v. cond v (placed at (word_token (word_of (b ∷ rest))) (after_word (b ∷ rest))) (placed at (sign_token (sign_of scan.offsets b)) rest)) h.0
+    ∙ ap (λ o. placed at (sign_token o) rest) (same_sign_of scan.offsets b s near is)
+spelled_here scan t w rest near (a_word {b = b} {bs = bs} all is) stops =
     let first = (and_is (is_word_byte b) (list_all is_word_byte bs) all).0 in
     let whole = b ∷ (bs ++ rest) in
-    let at = total - length whole in
+    let at = scan.total - length whole in
     let run : length (b ∷ bs) ≡ prefix_len is_word_byte whole = sym (word_run (b ∷ bs) rest all (stops (word_is_word (b ∷ bs) t is))) in
-    ap (token_here total) (stays b (bs ++ rest) (word_no_blank b first) (word_no_slash b first))
-    ∙ ap (λ v. cond v (placed at (word_token (word_of whole)) (after_word whole)) (placed at (sign_token (sign_of b)) (bs ++ rest))) first
+    ap (token_here scan) (stays b (bs ++ rest) (word_no_blank b first) (word_no_slash b first))
+    ∙ ap (λ v. cond v (placed at (word_token (word_of whole)) (after_word whole)) (placed at (sign_token (sign_of scan.offsets b)) (bs ++ rest))) first
     ∙ ap (λ (u : List ℕ). placed at (word_token u) (after_word whole)) (take_at (b ∷ bs) rest (prefix_len is_word_byte whole) run)
     ∙ ap (λ (u : List ℕ). placed at (word_token (b ∷ bs)) u) (drop_at (b ∷ bs) rest (prefix_len is_word_byte whole) run)
     ∙ ap (λ (u : Result Token ℕ). placed at u rest) is
 
 spelled_front :
-    (total : ℕ) (t : Token) (gap w rest : List ℕ) → IsGap false gap → IsSpelling t w → (is_a_word t ≡ true → Stops rest) →
-    front total (gap ++ (w ++ rest)) ≡ Ok (t, rest)
+    (scan : Scan) (t : Token) (gap w rest : List ℕ) → (scan.offsets ≡ false → is_near t ≡ true) → IsGap false gap → IsSpelling t w → (is_a_word t ≡ true → Stops rest) →
+    front scan (gap ++ (w ++ rest)) ≡ Ok (t, rest)
 unfolding front
-spelled_front total t gap w rest is_gap spelled stops = ap (token_here total) (behind_gap gap (w ++ rest) is_gap) ∙ spelled_here total t w rest spelled stops
+spelled_front scan t gap w rest near is_gap spelled stops =
+    ap (token_here scan) (behind_gap gap (w ++ rest) is_gap) ∙ spelled_here scan t w rest near spelled stops
 
-end_front : (total : ℕ) (text : List ℕ) → IsGap true text → front total text ≡ Ok (the_end, [])
+end_front : (scan : Scan) (text : List ℕ) → IsGap true text → front scan text ≡ Ok (the_end, [])
 unfolding front
-end_front total text is_gap = ap (token_here total) (behind_last text is_gap)
+end_front scan text is_gap = ap (token_here scan) (behind_last text is_gap)
 
 -- a gap that is not empty stops a word
 gap_stops : (at_end : Bool) (gap rest : List ℕ) → IsGap at_end gap → (gap ≡ [] → Stops rest) → Stops (gap ++ rest)
@@ -345,20 +395,59 @@ spaced_stops (t ∷ ts) text h =
     subst Stops (sym h.3)
     (gap_stops false h.0 (h.1 ++ h.2) h.4 (λ none. sign_stops t h.1 h.2 h.5 (λ is. h.6 refl is none)))
 
-spaced_leads : (total : ℕ) (ts : List Token) (behind : Bool) (text : List ℕ) → IsSpaced behind ts text → Leads total text (ts ++ the_end ∷ []) []
-spaced_leads total [] behind text h = ([], end_front total text h, refl)
-spaced_leads total (t ∷ ts) behind text h = (
-  h.2,
-  ap (front total) h.3
-      ∙ spelled_front total t h.0 h.1 h.2 h.4 h.5 (λ is. spaced_stops ts h.2 (subst (λ v. IsSpaced v ts h.2) is h.7)),
-  spaced_leads total ts (is_a_word t) h.2 h.7,
-)
+-- what stands behind tokens
+abbrev after_tokens : Bool → List Token → Bool
+after_tokens behind [] = behind
+after_tokens behind (t ∷ ts) = after_tokens (is_a_word t) ts
+
+-- tokens that are spaced before others are read, and the others are spaced in what is left
+spaced_part :
+    (scan : Scan) (ts us : List Token) (behind : Bool) (text : List ℕ) → (scan.offsets ≡ false → list_all is_near ts ≡ true) →
+    IsSpaced behind (ts ++ us) text → (mid : List ℕ) × Leads scan text ts mid × IsSpaced (after_tokens behind ts) us mid
+spaced_part scan [] us behind text near h = (text, refl, h)
+spaced_part scan (t ∷ ts) us behind text near h =
+    let rest = spaced_part scan ts us (is_a_word t) h.2 (λ off. (and_is (is_near t) (list_all is_near ts) (near off)).1) h.7 in (
+      rest.0,
+      (
+        h.2,
+        ap (front scan) h.3
+            ∙ spelled_front scan t h.0 h.1 h.2 (λ off. (and_is (is_near t) (list_all is_near ts) (near off)).0) h.4 h.5
+            (λ is. spaced_stops (ts ++ us) h.2 (subst (λ v. IsSpaced v (ts ++ us) h.2) is h.7)),
+        rest.1,
+      ),
+      rest.2,
+    )
+
+spaced_leads :
+    (scan : Scan) (ts : List Token) (behind : Bool) (text : List ℕ) → (scan.offsets ≡ false → list_all is_near ts ≡ true) → IsSpaced behind ts text →
+    Leads scan text (ts ++ the_end ∷ []) []
+spaced_leads scan ts behind text near h =
+    let all = spaced_part scan ts [] behind text near (subst (λ (x : List Token). IsSpaced behind x text) (sym (append-nil ts)) h) in
+    Leads-append scan text ts all.0 (the_end ∷ []) [] all.1 ([], end_front scan all.0 all.2, refl)
+
+plain_near : (s : Plain) (rest : List Token) → PlainIsHere s → list_all is_near rest ≡ true → list_all is_near (plain_tokens s rest) ≡ true
+plain_near (new_task x) rest here h = h
+plain_near (new_phaser x) rest here h = h
+plain_near (reg x y) rest here h = h
+plain_near (dereg x) rest here h = h
+plain_near (adv x) rest here h = h
+plain_near (await x Here) rest here h = h
+plain_near (await x (Back k)) rest here h = absurd cc
+plain_near (await x (Ahead k)) rest here h = absurd cc
+plain_near skip rest here h = h
+
+-- no await of PL 1 has + or -
+all_near : (p : Tree) (rest : List Token) → AllHere p → list_all is_near rest ≡ true → list_all is_near (tokens p rest) ≡ true
+all_near done rest here h = h
+all_near (plain s more) rest here h = plain_near s (tokens more rest) here.0 (all_near more rest here.1 h)
+all_near (fork x body more) rest here h = all_near body (sign CloseBrace ∷ tokens more rest) here.0 (all_near more rest here.1 h)
+all_near (loop n body more) rest here h = all_near body (sign CloseBrace ∷ tokens more rest) here.0 (all_near more rest here.1 h)
 
 -- ---- tokens that are read are spaced
 
-abbrev is_real : Token → Bool
-is_real the_end = false
-is_real t = true
+Leads-split : (scan : Scan) (text : List ℕ) (ts us : List Token) (rest : List ℕ) → Leads scan text (ts ++ us) rest → (mid : List ℕ) × Leads scan text ts mid × Leads scan mid us rest
+Leads-split scan text [] us rest h = (text, refl, h)
+Leads-split scan text (t ∷ ts) us rest h = let more = Leads-split scan h.0 ts us rest h.2 in (more.0, (h.0, h.1, more.1), more.2)
 
 plain_real : (s : Plain) (rest : List Token) → list_all is_real rest ≡ true → list_all is_real (plain_tokens s rest) ≡ true
 plain_real (new_task x) rest h = h
@@ -366,7 +455,9 @@ plain_real (new_phaser x) rest h = h
 plain_real (reg x y) rest h = h
 plain_real (dereg x) rest h = h
 plain_real (adv x) rest h = h
-plain_real (await x) rest h = h
+plain_real (await x Here) rest h = h
+plain_real (await x (Back k)) rest h = h
+plain_real (await x (Ahead k)) rest h = h
 plain_real skip rest h = h
 
 all_real : (p : Tree) (rest : List Token) → list_all is_real rest ≡ true → list_all is_real (tokens p rest) ≡ true
@@ -383,22 +474,52 @@ record Spelled (t : Token) (text mid : List ℕ) : Type 0 where
   stops : is_a_word t ≡ true → Stops mid
   no_stop : is_a_word t ≡ true → Stops text → ⊥
 
-sign_spelled : (o : Option Sign) (b : ℕ) (bs mid : List ℕ) (t : Token) → sign_of b ≡ o → sign_token o ≡ Found t → bs ≡ mid → Spelled t (b ∷ bs) mid
-sign_spelled None b bs mid t is e rest = absurd (let q : Err kind_no_token ≡ Found t = e in cc)
-sign_spelled (Some s) b bs mid t is e rest =
+-- a sign where + and - are none is one where they are
+more_signs : (offsets : Bool) (b : ℕ) (s : Sign) → sign_of offsets b ≡ Some s → sign_of true b ≡ Some s
+more_signs true b s e = e
+more_signs false b s e =
+    elim (chosen (b == 61) _ _ _ e) [
+      | inl p ↦ rw p.0 p.1
+      | inr p ↦ rw p.0 (elim (chosen (b == 40) _ _ _ p.1) [
+        | inl p ↦ rw p.0 p.1
+        | inr p ↦ rw p.0 (elim (chosen (b == 41) _ _ _ p.1) [
+          | inl p ↦ rw p.0 p.1
+          | inr p ↦ rw p.0 (elim (chosen (b == 44) _ _ _ p.1) [
+            | inl p ↦ rw p.0 p.1
+            | inr p ↦ rw p.0 (elim (chosen (b == 59) _ _ _ p.1) [
+              | inl p ↦ rw p.0 p.1
+              | inr p ↦ rw p.0 (elim (chosen (b == 123) _ _ _ p.1) [
+                | inl p ↦ rw p.0 p.1
+                | inr p ↦ rw p.0 (elim (chosen (b == 125) _ _ _ p.1) [
+                  | inl p ↦ rw p.0 p.1
+                  | inr p ↦ absurd (elim (chosen (b == 43) _ _ _ p.1) [
+                    | inl p ↦ (let none : None ≡ Some s = p.1 in cc)
+                    | inr p ↦ elim (chosen (b == 45) _ _ _ p.1) [ inl p ↦ (let none : None ≡ Some s = p.1 in cc) | inr p ↦ (let none : None ≡ Some s = p.1 in cc) ]
+                  ])
+                ])
+              ])
+            ])
+          ])
+        ])
+      ])
+    ]
+
+sign_spelled : (offsets : Bool) (o : Option Sign) (b : ℕ) (bs mid : List ℕ) (t : Token) → sign_of offsets b ≡ o → sign_token o ≡ Found t → bs ≡ mid → Spelled t (b ∷ bs) mid
+sign_spelled offsets None b bs mid t is e rest = absurd (let q : Err kind_no_token ≡ Found t = e in cc)
+sign_spelled offsets (Some s) b bs mid t is e rest =
     let q : Found (sign s) ≡ Found t = e in
     let same : sign s ≡ t = cc in
     let no : is_a_word t ≡ false = ap is_a_word (sym same) in
     record {
       spelling = b ∷ [];
       here = ap (λ z. b ∷ z) rest;
-      spelled = subst (λ z. IsSpelling z (b ∷ [])) same (a_sign is);
+      spelled = subst (λ z. IsSpelling z (b ∷ [])) same (a_sign (more_signs offsets b s is));
       stops = λ yes. absurd (false≢true (sym no ∙ yes));
       no_stop = λ yes stops. false≢true (sym no ∙ yes);
     }
 
-spelled_at : (total b : ℕ) (bs mid : List ℕ) (t : Token) → token_here total (b ∷ bs) ≡ Ok (t, mid) → Spelled t (b ∷ bs) mid
-spelled_at total b bs mid t e =
+spelled_at : (scan : Scan) (b : ℕ) (bs mid : List ℕ) (t : Token) → token_here scan (b ∷ bs) ≡ Ok (t, mid) → Spelled t (b ∷ bs) mid
+spelled_at scan b bs mid t e =
     let text : List ℕ = b ∷ bs in
     elim (chosen (is_word_byte b) _ _ _ e) [
       | inl p ↦
@@ -413,14 +534,14 @@ spelled_at total b bs mid t e =
             stops = λ yes. subst Stops (sym (rest_cons b bs p.0) ∙ f.1) run.0;
             no_stop = λ yes stops. false≢true (sym stops ∙ p.0);
           }
-      | inr p ↦ let f = was_found _ (sign_token (sign_of b)) bs t mid p.1 in sign_spelled (sign_of b) b bs mid t refl f.0 f.1
+      | inr p ↦ let f = was_found _ (sign_token (sign_of scan.offsets b)) bs t mid p.1 in sign_spelled scan.offsets (sign_of scan.offsets b) b bs mid t refl f.0 f.1
     ]
 
-no_end_at : (total b : ℕ) (bs mid : List ℕ) → token_here total (b ∷ bs) ≡ Ok (the_end, mid) → ⊥
-no_end_at total b bs mid e =
+no_end_at : (scan : Scan) (b : ℕ) (bs mid : List ℕ) → token_here scan (b ∷ bs) ≡ Ok (the_end, mid) → ⊥
+no_end_at scan b bs mid e =
     elim (chosen (is_word_byte b) _ _ _ e) [
       | inl p ↦ false≢true (word_is_word (word_of (b ∷ bs)) the_end (was_found _ (word_token (word_of (b ∷ bs))) (after_word (b ∷ bs)) the_end mid p.1).0)
-      | inr p ↦ no_sign (sign_of b) (was_found _ (sign_token (sign_of b)) bs the_end mid p.1).0
+      | inr p ↦ no_sign (sign_of scan.offsets b) (was_found _ (sign_token (sign_of scan.offsets b)) bs the_end mid p.1).0
     ]
   where
     no_sign : (o : Option Sign) → sign_token o ≡ Found the_end → ⊥
@@ -436,34 +557,36 @@ record Placed (t : Token) (text mid : List ℕ) : Type 0 where
   spelled : Spelled t left mid
 
 placed_by :
-    (total : ℕ) (text mid left : List ℕ) (t : Token) → is_real t ≡ true → Split text → after_gap text ≡ left → token_here total left ≡ Ok (t, mid) →
+    (scan : Scan) (text mid left : List ℕ) (t : Token) → is_real t ≡ true → Split text → after_gap text ≡ left → token_here scan left ≡ Ok (t, mid) →
     Placed t text mid
-placed_by total text mid [] t real split is e =
+placed_by scan text mid [] t real split is e =
     absurd (let same : the_end ≡ t = (ok_pair (the_end, []) (t, mid) e).0 in false≢true (ap is_real same ∙ real))
-placed_by total text mid (b ∷ bs) t real (inr s) is e = absurd (let no = sym is ∙ s.1 in cc)
-placed_by total text mid (b ∷ bs) t real (inl s) is e =
-    record { gap = s.0; left = b ∷ bs; is_gap = s.1; there = s.2 ∙ ap (λ z. s.0 ++ z) is; spelled = spelled_at total b bs mid t e }
+placed_by scan text mid (b ∷ bs) t real (inr s) is e = absurd (let no = sym is ∙ s.1 in cc)
+placed_by scan text mid (b ∷ bs) t real (inl s) is e =
+    record { gap = s.0; left = b ∷ bs; is_gap = s.1; there = s.2 ∙ ap (λ z. s.0 ++ z) is; spelled = spelled_at scan b bs mid t e }
 
-placed_in : (total : ℕ) (text mid : List ℕ) (t : Token) → is_real t ≡ true → front total text ≡ Ok (t, mid) → Placed t text mid
+placed_in : (scan : Scan) (text mid : List ℕ) (t : Token) → is_real t ≡ true → front scan text ≡ Ok (t, mid) → Placed t text mid
 unfolding front
-placed_in total text mid t real e = placed_by total text mid (after_gap text) t real (both_split text).0 refl e
+placed_in scan text mid t real e = placed_by scan text mid (after_gap text) t real (both_split text).0 refl e
 
-end_by : (total : ℕ) (text mid left : List ℕ) → Split text → after_gap text ≡ left → token_here total left ≡ Ok (the_end, mid) → IsGap true text
-end_by total text mid (b ∷ bs) split is e = absurd (no_end_at total b bs mid e)
-end_by total text mid [] (inr s) is e = s.0
-end_by total text mid [] (inl s) is e = subst (λ z. IsGap true z) (sym (s.2 ∙ ap (λ z. s.0 ++ z) is ∙ append-nil s.0)) (last_too s.0 s.1)
+end_by : (scan : Scan) (text mid left : List ℕ) → Split text → after_gap text ≡ left → token_here scan left ≡ Ok (the_end, mid) → IsGap true text
+end_by scan text mid (b ∷ bs) split is e = absurd (no_end_at scan b bs mid e)
+end_by scan text mid [] (inr s) is e = s.0
+end_by scan text mid [] (inl s) is e = subst (λ z. IsGap true z) (sym (s.2 ∙ ap (λ z. s.0 ++ z) is ∙ append-nil s.0)) (last_too s.0 s.1)
 
-end_in : (total : ℕ) (text mid : List ℕ) → front total text ≡ Ok (the_end, mid) → IsGap true text
+end_in : (scan : Scan) (text mid : List ℕ) → front scan text ≡ Ok (the_end, mid) → IsGap true text
 unfolding front
-end_in total text mid e = end_by total text mid (after_gap text) (both_split text).0 refl e
+end_in scan text mid e = end_by scan text mid (after_gap text) (both_split text).0 refl e
 
-leads_spaced :
-    (total : ℕ) (ts : List Token) (behind : Bool) (text : List ℕ) → list_all is_real ts ≡ true → (behind ≡ true → Stops text) →
-    Leads total text (ts ++ the_end ∷ []) [] → IsSpaced behind ts text
-leads_spaced total [] behind text real stops h = end_in total text h.0 h.1
-leads_spaced total (t ∷ ts) behind text real stops h =
+-- tokens that are read are spaced before what is left
+leads_before :
+    (scan : Scan) (ts us : List Token) (behind : Bool) (text mid : List ℕ) → list_all is_real ts ≡ true → (behind ≡ true → Stops text) →
+    Leads scan text ts mid → ((after_tokens behind ts ≡ true → Stops mid) → IsSpaced (after_tokens behind ts) us mid) → IsSpaced behind (ts ++ us) text
+leads_before scan [] us behind text mid real stops h rest =
+    subst (λ (m : List ℕ). IsSpaced behind us m) (sym h) (rest (λ is. subst Stops h (stops is)))
+leads_before scan (t ∷ ts) us behind text mid real stops h rest =
     let all = and_is (is_real t) (list_all is_real ts) real in
-    let at = placed_in total text h.0 t all.0 h.1 in
+    let at = placed_in scan text h.0 t all.0 h.1 in
     let sp = at.spelled in (
       at.gap,
       sp.spelling,
@@ -472,16 +595,43 @@ leads_spaced total (t ∷ ts) behind text real stops h =
       at.is_gap,
       sp.spelled,
       λ word_before is none. sp.no_stop is (subst Stops (at.there ∙ ap (λ z. z ++ at.left) none) (stops word_before)),
-      leads_spaced total ts (is_a_word t) h.0 all.1 sp.stops h.2,
+      leads_before scan ts us (is_a_word t) h.0 mid all.1 sp.stops h.2 rest,
+    )
+
+-- the last ones up to the end
+leads_spaced :
+    (scan : Scan) (ts : List Token) (behind : Bool) (text : List ℕ) → list_all is_real ts ≡ true → (behind ≡ true → Stops text) →
+    Leads scan text (ts ++ the_end ∷ []) [] → IsSpaced behind ts text
+leads_spaced scan ts behind text real stops h =
+    let parts = Leads-split scan text ts (the_end ∷ []) [] h in
+    subst (λ (x : List Token). IsSpaced behind x text) (append-nil ts)
+    (leads_before scan ts [] behind text parts.0 real stops parts.1 (λ no. end_in scan parts.0 parts.2.0 parts.2.1))
+
+-- ---- the two forms
+
+form_spaced : (two : Bool) (text : List ℕ) (p : Tree) → Reads two text (sentence p) [] → IsSpaced false (all_tokens (record { two = two; body = p })) text
+form_spaced false text p h =
+    leads_spaced (scan_of false text) (tokens p []) false text (all_real p [] refl) (λ e. absurd (false≢true e))
+    (subst (λ ts. Leads (scan_of false text) text ts []) (tokens_append p [] (the_end ∷ [])) h)
+form_spaced true text p h =
+    leads_before (scan_of false text) header (tokens p []) false text h.0 refl (λ e. absurd (false≢true e)) h.1
+    (λ stops. leads_spaced (scan_of true text) (tokens p []) false h.0 (all_real p [] refl) (λ e. absurd (false≢true e))
+    (subst (λ ts. Leads (scan_of true text) h.0 ts []) (tokens_append p [] (the_end ∷ [])) h.2))
+
+spaced_form : (two : Bool) (text : List ℕ) (p : Tree) → (two ≡ false → AllHere p) → IsSpaced false (all_tokens (record { two = two; body = p })) text → Reads two text (sentence p) []
+spaced_form false text p here h =
+    subst (λ ts. Leads (scan_of false text) text ts []) (sym (tokens_append p [] (the_end ∷ [])))
+    (spaced_leads (scan_of false text) (tokens p []) false text (λ off. all_near p [] (here refl) refl) h)
+spaced_form true text p here h =
+    let head = spaced_part (scan_of false text) header (tokens p []) false text (λ off. refl) h in (
+      head.0,
+      head.1,
+      subst (λ ts. Leads (scan_of true text) head.0 ts []) (sym (tokens_append p [] (the_end ∷ [])))
+          (spaced_leads (scan_of true text) (tokens p []) false head.0 (λ off. absurd (false≢true (sym off))) head.2),
     )
 
 pub texts_are_spaced : TextsAreSpaced
-texts_are_spaced text p =
-    let is : sentence p ≡ tokens p [] ++ the_end ∷ [] = tokens_append p [] (the_end ∷ []) in (
-      λ h. (
-        leads_spaced (length text) (tokens p []) false text (all_real p [] refl) (λ e. absurd (false≢true e))
-            (subst (λ ts. Leads (length text) text ts []) is h.reads),
-        h.shallow,
-      ),
-      λ h. record { reads = subst (λ ts. Leads (length text) text ts []) (sym is) (spaced_leads (length text) (tokens p []) false text h.0); shallow = h.1 },
-    )
+texts_are_spaced text p = (
+  λ h. (form_spaced p.two text p.body h.reads, (text_is_writable text p h).here, h.shallow),
+  λ h. record { reads = spaced_form p.two text p.body h.1 h.0; shallow = h.2 },
+)

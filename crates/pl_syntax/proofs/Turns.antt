@@ -1,6 +1,7 @@
 -- Reading statements one after the other, as a loop does.
 use Rattle.std.proofs.Common.{◌≡◌, ℕ, ◌+◌, ◌-◌, ◌<◌, ◌≤◌, true, false, List, [], ◌∷◌, ◌++◌, length, Result, Ok, Err, refl, sym, ap, ◌∙◌, append_assoc, add-one, arith}
 use Rattle.std.proofs.lemmas.List.{append-nil}
+use Rattle.pl_syntax.specs.declared.scan.Scan.{Scan}
 use Rattle.pl_syntax.specs.declared.fault.SyntaxFault.{SyntaxFault}
 use Rattle.pl_syntax.specs.declared.fault.ParseEnd.{ParseEnd}
 use Rattle.pl_syntax.specs.declared.fault.ParseEnd.TheVariants as ends
@@ -16,9 +17,9 @@ abbrev pub with_front : List Stmt → Result (List Stmt × List ℕ) SyntaxFault
 with_front before read = read >>= λ x. Ok (before ++ x.0, x.1)
 
 -- The statements before, and those that are left, are all. Any number of turns that is enough for all leaves one that is enough for the rest.
-pub record Turn (before : List Stmt) (total depth : ℕ) (rest text : List ℕ) : Type 0 where
+pub record Turn (before : List Stmt) (scan : Scan) (depth : ℕ) (rest text : List ℕ) : Type 0 where
   pub within : length rest ≤ length text
-  pub all : (n : ℕ) → length text < n → (m : ℕ) × (length rest ≤ m) × (with_front before (statements_at (m + 1) total depth rest) ≡ statements_at n total depth text)
+  pub all : (n : ℕ) → length text < n → (m : ℕ) × (length rest ≤ m) × (with_front before (statements_at (m + 1) scan depth rest) ≡ statements_at n scan depth text)
 
 regroup : (before : List Stmt) (s : Stmt) (read : Read) → with_front before (read >>= λ x. Ok (s ∷ x.0, x.1)) ≡ with_front (before ++ s ∷ []) read
 regroup before s (Ok x) = ap (λ (ss : List Stmt). Ok (ss, x.1)) (simp append_assoc)
@@ -28,49 +29,49 @@ no_front : (read : Read) → with_front [] read ≡ read
 no_front (Ok x) = refl
 no_front (Err f) = refl
 
-pub begins : (total depth : ℕ) (text : List ℕ) → Turn [] total depth text text
-begins total depth text = record {
+pub begins : (scan : Scan) (depth : ℕ) (text : List ℕ) → Turn [] scan depth text text
+begins scan depth text = record {
   within = omega arith;
-  all = λ n h. (n - 1, omega arith, (let e : n - 1 + 1 ≡ n = omega arith in rw e (no_front (statements_at n total depth text))));
+  all = λ n h. (n - 1, omega arith, (let e : n - 1 + 1 ≡ n = omega arith in rw e (no_front (statements_at n scan depth text))));
 }
 
 -- one statement on
-module _ (before : List Stmt) (total depth : ℕ) (rest text : List ℕ) (turn : Turn before total depth rest text) where
-  pub fails_front : (f : SyntaxFault) (n : ℕ) → length text < n → front total rest ≡ Err f → statements_at n total depth text ≡ Err f
+module _ (before : List Stmt) (scan : Scan) (depth : ℕ) (rest text : List ℕ) (turn : Turn before scan depth rest text) where
+  pub fails_front : (f : SyntaxFault) (n : ℕ) → length text < n → front scan rest ≡ Err f → statements_at n scan depth text ≡ Err f
   unfolding statements_at
   fails_front f n h e =
       let t = turn.all n h in
-      let one : with_front before (statements_at (t.0 + 1) total depth rest) ≡ Err f = rw (add-one, e) refl in
+      let one : with_front before (statements_at (t.0 + 1) scan depth rest) ≡ Err f = rw (add-one, e) refl in
       sym t.2 ∙ one
 
-  pub stops : (token : Token) (after : List ℕ) (n : ℕ) → length text < n → front total rest ≡ Ok (token, after) → ends_list token ≡ true → statements_at n total depth text ≡ Ok (before, rest)
+  pub stops : (token : Token) (after : List ℕ) (n : ℕ) → length text < n → front scan rest ≡ Ok (token, after) → ends_list token ≡ true → statements_at n scan depth text ≡ Ok (before, rest)
   unfolding statements_at
   stops token after n h e b =
       let t = turn.all n h in
-      let one : with_front before (statements_at (t.0 + 1) total depth rest) ≡ Ok (before, rest) = rw (add-one, e, b) (ap (λ (ss : List Stmt). Ok (ss, rest)) (append-nil before)) in
+      let one : with_front before (statements_at (t.0 + 1) scan depth rest) ≡ Ok (before, rest) = rw (add-one, e, b) (ap (λ (ss : List Stmt). Ok (ss, rest)) (append-nil before)) in
       sym t.2 ∙ one
 
-  module _ (token : Token) (after : List ℕ) (here : front total rest ≡ Ok (token, after)) (goes : ends_list token ≡ false) (shorter : length after < length rest) where
-    pub fails_in : (e : ParseEnd) → ((m : ℕ) → length after < m → Fails e (statement_in (statements_at m total) total depth token rest after))
-        → (n : ℕ) → length text < n → Fails e (statements_at n total depth text)
+  module _ (token : Token) (after : List ℕ) (here : front scan rest ≡ Ok (token, after)) (goes : ends_list token ≡ false) (shorter : length after < length rest) where
+    pub fails_in : (e : ParseEnd) → ((m : ℕ) → length after < m → Fails e (statement_in (statements_at m scan) scan depth token rest after))
+        → (n : ℕ) → length text < n → Fails e (statements_at n scan depth text)
     unfolding statements_at
     fails_in ends.NoMemory fails n h = tt
     fails_in (ends.Syntax f) fails n h =
         let t = turn.all n h in
         let k : length after < t.0 = omega arith in
-        let one : with_front before (statements_at (t.0 + 1) total depth rest) ≡ Err f = rw (add-one, here, goes, fails t.0 k) refl in
+        let one : with_front before (statements_at (t.0 + 1) scan depth rest) ≡ Err f = rw (add-one, here, goes, fails t.0 k) refl in
         sym t.2 ∙ one
 
     pub goes_on : (s : Stmt) (left : List ℕ) → length left ≤ length after
-        → ((m : ℕ) → length after < m → statement_in (statements_at m total) total depth token rest after ≡ Ok (s, left))
-        → Turn (before ++ s ∷ []) total depth left text
+        → ((m : ℕ) → length after < m → statement_in (statements_at m scan) scan depth token rest after ≡ Ok (s, left))
+        → Turn (before ++ s ∷ []) scan depth left text
     unfolding statements_at
     goes_on s left le reads = record {
       within = (let w = turn.within in omega arith);
       all = λ n h.
           let t = turn.all n h in
           let k : length after < t.0 = omega arith in
-          let one : with_front before (statements_at (t.0 + 1) total depth rest) ≡ with_front (before ++ s ∷ []) (statements_at t.0 total depth left) = rw (add-one, here, goes, reads t.0 k) (regroup before s (statements_at t.0 total depth left)) in
+          let one : with_front before (statements_at (t.0 + 1) scan depth rest) ≡ with_front (before ++ s ∷ []) (statements_at t.0 scan depth left) = rw (add-one, here, goes, reads t.0 k) (regroup before s (statements_at t.0 scan depth left)) in
           let e : t.0 - 1 + 1 ≡ t.0 = omega arith in
           (t.0 - 1, omega arith, rw e (sym one ∙ t.2));
     }

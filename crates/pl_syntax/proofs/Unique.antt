@@ -1,12 +1,15 @@
 -- A text has one tree or one first fault, and not both.
-use Rattle.std.proofs.Common.{◌≡◌, ℕ, ◌+◌, ◌≤◌, true, false, List, [], ◌∷◌, ◌++◌, length, Some, None, Result, Ok, Err, refl, sym, ap, subst, ◌∙◌, append_assoc, arith, ◌⊎◌, inl, inr}
+use Rattle.std.proofs.Common.{Bool, ◌≡◌, ℕ, ◌+◌, ◌≤◌, true, false, List, [], ◌∷◌, ◌++◌, length, Some, None, Result, Ok, Err, refl, sym, ap, subst, ◌∙◌, append_assoc, arith, ◌⊎◌, inl, inr}
+use Rattle.pl_syntax.specs.declared.scan.Scan.{Scan}
 use Rattle.pl_syntax.specs.declared.limits.TheConstants.{MAX_OPEN_BRACES}
+use Rattle.armus_base.specs.declared.offset.Offset.TheVariants.{Ahead, Back, Here}
+use Rattle.pl_syntax.specs.declared.tree.Program.{Program}
 use Rattle.pl_syntax.specs.declared.token.Keyword.TheVariants as k
 use Rattle.pl_syntax.specs.declared.token.Sign.TheVariants.{OpenBrace, CloseBrace}
 use Rattle.pl_syntax.specs.declared.fault.SyntaxFault.{SyntaxFault}
 use Rattle.pl_syntax.specs.Tokens.{Token, the_end, sign, word, name, front, Leads}
 use Rattle.pl_syntax.specs.Tree.{Tree, done, plain, fork, loop, Plain, new_task, new_phaser, reg, dereg, adv, await, skip, height}
-use Rattle.pl_syntax.specs.Grammar.{tokens, plain_tokens, sentence, opened, open_after, StaysShallow, IsText, HasFault, Begins, IsAtFault, no_token, cannot_stand, too_deep}
+use Rattle.pl_syntax.specs.Grammar.{Reads, header, scan_of, tokens, plain_tokens, sentence, opened, open_after, StaysShallow, IsText, HasFault, Begins, IsAtFault, no_token, cannot_stand, too_deep}
 use Rattle.pl_syntax.specs.inside.Reading.{ends_list}
 use Rattle.pl_syntax.proofs.Fronts.{ok_pair}
 use Rattle.pl_syntax.proofs.Machine.{at, run, run-append, run_sentence}
@@ -22,7 +25,9 @@ plain_one (new_phaser x) (new_phaser y) us vs e = (cc, cc)
 plain_one (reg x y) (reg z w) us vs e = (cc, cc)
 plain_one (dereg x) (dereg y) us vs e = (cc, cc)
 plain_one (adv x) (adv y) us vs e = (cc, cc)
-plain_one (await x) (await y) us vs e = (cc, cc)
+plain_one (await x Here) (await y Here) us vs e = (cc, cc)
+plain_one (await x (Back k)) (await y (Back n)) us vs e = (cc, cc)
+plain_one (await x (Ahead k)) (await y (Ahead n)) us vs e = (cc, cc)
 plain_one skip skip us vs e = (refl, cc)
 plain_one _ _ us vs e = absurd cc
 
@@ -38,7 +43,7 @@ plain_goes (new_phaser x) us (t ∷ ts) h e = let q : name x ≡ t = cc in let r
 plain_goes (reg x y) us (t ∷ ts) h e = let q : word k.Reg ≡ t = cc in let r : false ≡ true = ap ends_list q ∙ h in cc
 plain_goes (dereg x) us (t ∷ ts) h e = let q : word k.Dereg ≡ t = cc in let r : false ≡ true = ap ends_list q ∙ h in cc
 plain_goes (adv x) us (t ∷ ts) h e = let q : word k.Adv ≡ t = cc in let r : false ≡ true = ap ends_list q ∙ h in cc
-plain_goes (await x) us (t ∷ ts) h e = let q : word k.Await ≡ t = cc in let r : false ≡ true = ap ends_list q ∙ h in cc
+plain_goes (await x off) us (t ∷ ts) h e = let q : word k.Await ≡ t = cc in let r : false ≡ true = ap ends_list q ∙ h in cc
 plain_goes skip us (t ∷ ts) h e = let q : word k.Skip ≡ t = cc in let r : false ≡ true = ap ends_list q ∙ h in cc
 
 word_goes : (w : Token) (us rest : List Token) → ends_list w ≡ false → Closes rest → w ∷ us ≡ rest → ⊥
@@ -51,7 +56,7 @@ plain_fork (new_phaser x) us vs e = cc
 plain_fork (reg x y) us vs e = cc
 plain_fork (dereg x) us vs e = cc
 plain_fork (adv x) us vs e = cc
-plain_fork (await x) us vs e = cc
+plain_fork (await x off) us vs e = cc
 plain_fork skip us vs e = cc
 
 plain_loop : (c : Plain) (us vs : List Token) → plain_tokens c us ≡ word k.Loop ∷ vs → ⊥
@@ -60,7 +65,7 @@ plain_loop (new_phaser x) us vs e = cc
 plain_loop (reg x y) us vs e = cc
 plain_loop (dereg x) us vs e = cc
 plain_loop (adv x) us vs e = cc
-plain_loop (await x) us vs e = cc
+plain_loop (await x off) us vs e = cc
 plain_loop skip us vs e = cc
 
 tree_one : (p q : Tree) (us vs : List Token) → Closes us → Closes vs → tokens p us ≡ tokens q vs → (p ≡ q) × (us ≡ vs)
@@ -99,25 +104,25 @@ tree_one (loop n i p) (loop m j q) us vs a b e =
 -- ---- readings of one text
 
 -- two readings of one text are one, or one is the other and more
-abbrev Longer : ℕ → List Token → List ℕ → List Token → List ℕ → Type 0
-Longer total ts rest us end = (t : Token) × (vs : List Token) × (us ≡ ts ++ t ∷ vs) × Leads total rest (t ∷ vs) end
+abbrev Longer : Scan → List Token → List ℕ → List Token → List ℕ → Type 0
+Longer scan ts rest us end = (t : Token) × (vs : List Token) × (us ≡ ts ++ t ∷ vs) × Leads scan rest (t ∷ vs) end
 
-abbrev Compared : ℕ → List Token → List ℕ → List Token → List ℕ → Type 0
-Compared total ts rest us end = ((ts ≡ us) × (rest ≡ end)) ⊎ (Longer total ts rest us end ⊎ Longer total us end ts rest)
+abbrev Compared : Scan → List Token → List ℕ → List Token → List ℕ → Type 0
+Compared scan ts rest us end = ((ts ≡ us) × (rest ≡ end)) ⊎ (Longer scan ts rest us end ⊎ Longer scan us end ts rest)
 
-more : (total : ℕ) (t : Token) (ts : List Token) (rest : List ℕ) (us : List Token) (end : List ℕ) → Compared total ts rest us end → Compared total (t ∷ ts) rest (t ∷ us) end
-more total t ts rest us end (inl e) = inl (ap (λ (x : List Token). t ∷ x) e.0, e.1)
-more total t ts rest us end (inr (inl l)) = inr (inl (l.0, l.1, ap (λ (x : List Token). t ∷ x) l.2, l.3))
-more total t ts rest us end (inr (inr l)) = inr (inr (l.0, l.1, ap (λ (x : List Token). t ∷ x) l.2, l.3))
+more : (scan : Scan) (t : Token) (ts : List Token) (rest : List ℕ) (us : List Token) (end : List ℕ) → Compared scan ts rest us end → Compared scan (t ∷ ts) rest (t ∷ us) end
+more scan t ts rest us end (inl e) = inl (ap (λ (x : List Token). t ∷ x) e.0, e.1)
+more scan t ts rest us end (inr (inl l)) = inr (inl (l.0, l.1, ap (λ (x : List Token). t ∷ x) l.2, l.3))
+more scan t ts rest us end (inr (inr l)) = inr (inr (l.0, l.1, ap (λ (x : List Token). t ∷ x) l.2, l.3))
 
-compare : (total : ℕ) (text : List ℕ) (ts : List Token) (rest : List ℕ) (us : List Token) (end : List ℕ) → Leads total text ts rest → Leads total text us end → Compared total ts rest us end
-compare total text [] rest [] end p q = inl (refl, sym p ∙ q)
-compare total text [] rest (u ∷ us) end p q = inr (inl (u, us, refl, subst (λ (x : List ℕ). Leads total x (u ∷ us) end) p q))
-compare total text (t ∷ ts) rest [] end p q = inr (inr (t, ts, refl, subst (λ (x : List ℕ). Leads total x (t ∷ ts) rest) q p))
-compare total text (t ∷ ts) rest (u ∷ us) end p q =
+compare : (scan : Scan) (text : List ℕ) (ts : List Token) (rest : List ℕ) (us : List Token) (end : List ℕ) → Leads scan text ts rest → Leads scan text us end → Compared scan ts rest us end
+compare scan text [] rest [] end p q = inl (refl, sym p ∙ q)
+compare scan text [] rest (u ∷ us) end p q = inr (inl (u, us, refl, subst (λ (x : List ℕ). Leads scan x (u ∷ us) end) p q))
+compare scan text (t ∷ ts) rest [] end p q = inr (inr (t, ts, refl, subst (λ (x : List ℕ). Leads scan x (t ∷ ts) rest) q p))
+compare scan text (t ∷ ts) rest (u ∷ us) end p q =
     let h = ok_pair (t, p.0) (u, q.0) (sym p.1 ∙ q.1) in
-    let c = compare total p.0 ts rest us end p.2 (subst (λ (x : List ℕ). Leads total x us end) (sym h.1) q.2) in
-    subst (λ (x : Token). Compared total (t ∷ ts) rest (x ∷ us) end) h.0 (more total t ts rest us end c)
+    let c = compare scan p.0 ts rest us end p.2 (subst (λ (x : List ℕ). Leads scan x us end) (sym h.1) q.2) in
+    subst (λ (x : Token). Compared scan (t ∷ ts) rest (x ∷ us) end) h.0 (more scan t ts rest us end c)
 
 -- ---- a fault stops every reading
 
@@ -129,17 +134,19 @@ shallow_now : (n : ℕ) (ts : List Token) → StaysShallow n ts → n ≤ MAX_OP
 shallow_now n [] h = h
 shallow_now n (t ∷ ts) h = h.0
 
-begins_front : (ts us : List Token) → Begins (ts ++ us) → Begins ts
-begins_front ts us b = (b.0, us ++ b.1, sym (append_assoc ts us b.1) ∙ b.2)
+begins_front : (two : Bool) (ts us : List Token) → Begins two (ts ++ us) → Begins two ts
+begins_front true ts us b = (b.0, us ++ b.1, sym (append_assoc ts us b.1) ∙ b.2)
+begins_front false ts us (inl b) = inl (b.0, us ++ b.1, sym (append_assoc ts us b.1) ∙ b.2)
+begins_front false ts us (inr b) = inr (us ++ b.0, sym (append_assoc ts us b.0) ∙ b.1)
 
 -- no reading goes past a fault
-stops_all : (total : ℕ) (before : List Token) (text : List ℕ) (f : SyntaxFault) (t : Token) (mid : List ℕ) (vs : List Token) → IsAtFault before total text f
-    → front total text ≡ Ok (t, mid) → Begins (before ++ t ∷ []) → StaysShallow 0 (before ++ t ∷ vs) → ⊥
-stops_all total before text f t mid vs (no_token a) here b s = let h = a.here in let q : ◌≡◌ {A = Result (Token × List ℕ) SyntaxFault} (Err f) (Ok (t, mid)) = sym h ∙ here in cc
-stops_all total before text f t mid vs (cannot_stand a) here b s =
+stops_all : (scan : Scan) (before : List Token) (text : List ℕ) (f : SyntaxFault) (t : Token) (mid : List ℕ) (vs : List Token) → IsAtFault before scan text f
+    → front scan text ≡ Ok (t, mid) → Begins scan.offsets (before ++ t ∷ []) → StaysShallow 0 (before ++ t ∷ vs) → ⊥
+stops_all scan before text f t mid vs (no_token a) here b s = let h = a.here in let q : ◌≡◌ {A = Result (Token × List ℕ) SyntaxFault} (Err f) (Ok (t, mid)) = sym h ∙ here in cc
+stops_all scan before text f t mid vs (cannot_stand a) here b s =
     let h = ok_pair (a.token, a.rest) (t, mid) (sym a.here ∙ here) in
-    a.stands_not (subst (λ (x : Token). Begins (before ++ x ∷ [])) (sym h.0) b)
-stops_all total before text f t mid vs (too_deep a) here b s =
+    a.stands_not (subst (λ (x : Token). Begins scan.offsets (before ++ x ∷ [])) (sym h.0) b)
+stops_all scan before text f t mid vs (too_deep a) here b s =
     let h = ok_pair (sign OpenBrace, a.rest) (t, mid) (sym a.here ∙ here) in
     let r = shallow_rest 0 before (t ∷ vs) s in
     let g = shallow_now (opened t (open_after 0 before)) vs r.1 in
@@ -147,58 +154,197 @@ stops_all total before text f t mid vs (too_deep a) here b s =
     let full = a.full in
     omega arith
 
-one_token : (before : List Token) (t : Token) (vs : List Token) → Begins (before ++ t ∷ vs) → Begins (before ++ t ∷ [])
-one_token before t vs b = begins_front (before ++ t ∷ []) vs (subst Begins (sym (append_assoc before (t ∷ []) vs)) b)
+one_token : (two : Bool) (before : List Token) (t : Token) (vs : List Token) → Begins two (before ++ t ∷ vs) → Begins two (before ++ t ∷ [])
+one_token two before t vs b = begins_front two (before ++ t ∷ []) vs (subst (Begins two) (sym (append_assoc before (t ∷ []) vs)) b)
 
--- ---- the three laws
+-- ---- whole stretches of a text
 
-end_only : (p : Tree) (t : Token) (vs us : List Token) → us ≡ sentence p ++ t ∷ vs → Begins us → ⊥
-end_only p t vs us e b =
-    let r = runs_if us b in
-    let q : run (at [] 0) us ≡ None = ap (run (at [] 0)) e ∙ run-append (at [] 0) (sentence p) (t ∷ vs) ∙ rw (run_sentence p) refl in
+-- no text of PL 1 begins with the header
+no_header : (p : Tree) (us vs : List Token) → header ++ us ≡ sentence p ++ vs → ⊥
+no_header done us vs e = cc
+no_header (plain (new_task x) p) us vs e = cc
+no_header (plain (new_phaser x) p) us vs e = cc
+no_header (plain (reg x y) p) us vs e = cc
+no_header (plain (dereg x) p) us vs e = cc
+no_header (plain (adv x) p) us vs e = cc
+no_header (plain (await x off) p) us vs e = cc
+no_header (plain skip p) us vs e = cc
+no_header (fork x b p) us vs e = cc
+no_header (loop n b p) us vs e = cc
+
+-- what is read in one way from its start to its end: a list of statements with the end, or the header
+data Whole : Bool → List Token → Type 0 where
+  statements : (two : Bool) (p : Tree) → Whole two (sentence p)
+  a_header : Whole false header
+
+past_text : (p : Tree) (t : Token) (vs : List Token) → Begins true (sentence p ++ t ∷ vs) → ⊥
+past_text p t vs b =
+    let r = runs_if (sentence p ++ t ∷ vs) b in
+    let q : run (at [] 0) (sentence p ++ t ∷ vs) ≡ None = run-append (at [] 0) (sentence p) (t ∷ vs) ∙ rw (run_sentence p) refl in
     let z : None ≡ Some r.0 = sym q ∙ r.1 in
     cc
 
-sentence_begins : (p : Tree) → Begins (sentence p)
-sentence_begins p = (p, [], append-nil (sentence p))
+-- nothing goes on behind it
+end_only : (two : Bool) (us : List Token) → Whole two us → (t : Token) (vs : List Token) → Begins two (us ++ t ∷ vs) → ⊥
+end_only true us (statements two p) t vs b = past_text p t vs b
+end_only false us (statements two p) t vs (inl b) = past_text p t vs b
+end_only false us (statements two p) t vs (inr b) =
+    no_header p [] (t ∷ vs ++ b.0) (append-nil header ∙ sym b.1 ∙ append_assoc (sentence p) (t ∷ vs) b.0)
+end_only false us a_header t vs (inl b) = no_header b.0 (t ∷ vs ++ b.1) [] (b.2 ∙ sym (append-nil (sentence b.0)))
+end_only false us a_header t vs (inr b) = let e = b.1 in cc
 
-pub one_tree : (text : List ℕ) (p q : Tree) → IsText text p → IsText text q → p ≡ q
-one_tree text p q a b = elim (compare (length text) text (sentence p) [] (sentence q) [] a.reads b.reads) [
-  | inl e ↦ (tree_one p q (the_end ∷ []) (the_end ∷ []) refl refl e.0).0
-  | inr (inl l) ↦ absurd (end_only p l.0 l.1 (sentence q) l.2 (sentence_begins q))
-  | inr (inr l) ↦ absurd (end_only q l.0 l.1 (sentence p) l.2 (sentence_begins p))
+whole_begins : (two : Bool) (us : List Token) → Whole two us → Begins two us
+whole_begins true us (statements two p) = (p, [], append-nil (sentence p))
+whole_begins false us (statements two p) = inl (p, [], append-nil (sentence p))
+whole_begins false us a_header = inr ([], refl)
+
+-- two whole stretches from one start are one
+one_stretch : (scan : Scan) (text : List ℕ) (us : List Token) (end : List ℕ) (vs : List Token) (end' : List ℕ) → Whole scan.offsets us → Whole scan.offsets vs
+    → Leads scan text us end → Leads scan text vs end' → (us ≡ vs) × (end ≡ end')
+one_stretch scan text us end vs end' a b p q = elim (compare scan text us end vs end' p q) [
+  | inl e ↦ e
+  | inr (inl l) ↦ absurd (end_only scan.offsets us a l.0 l.1 (subst (Begins scan.offsets) l.2 (whole_begins scan.offsets vs b)))
+  | inr (inr l) ↦ absurd (end_only scan.offsets vs b l.0 l.1 (subst (Begins scan.offsets) l.2 (whole_begins scan.offsets us a)))
+]
+
+-- ---- a fault, from a start on
+record From (scan : Scan) (start : List ℕ) (f : SyntaxFault) : Type 0 where
+  pub before : List Token
+  pub left : List ℕ
+  pub reads : Leads scan start before left
+  pub goes_on : (t : Token) × Begins scan.offsets (before ++ t ∷ [])
+  pub shallow : StaysShallow 0 before
+  pub here : IsAtFault before scan left f
+
+began : (scan : Scan) (start : List ℕ) (f : SyntaxFault) (b : From scan start f) → Begins scan.offsets b.before
+began scan start f b = begins_front scan.offsets b.before (b.goes_on.0 ∷ []) b.goes_on.1
+
+-- no whole stretch has a fault
+no_fault : (scan : Scan) (start : List ℕ) (us : List Token) (end : List ℕ) (f : SyntaxFault) → Whole scan.offsets us → StaysShallow 0 us → Leads scan start us end
+    → From scan start f → ⊥
+no_fault scan start us end f whole shallow reads b = elim (compare scan start b.before b.left us end b.reads reads) [
+  | inl e ↦ end_only scan.offsets us whole b.goes_on.0 [] (subst (λ (x : List Token). Begins scan.offsets (x ++ b.goes_on.0 ∷ [])) e.0 b.goes_on.1)
+  | inr (inl l) ↦ stops_all scan b.before b.left f l.0 l.3.0 l.1 b.here l.3.1
+      (one_token scan.offsets b.before l.0 l.1 (subst (Begins scan.offsets) l.2 (whole_begins scan.offsets us whole))) (subst (StaysShallow 0) l.2 shallow)
+  | inr (inr l) ↦ end_only scan.offsets us whole l.0 l.1 (subst (Begins scan.offsets) l.2 (began scan start f b))
+]
+
+same_fault : (scan : Scan) (before : List Token) (text : List ℕ) (f g : SyntaxFault) → IsAtFault before scan text f → IsAtFault before scan text g → f ≡ g
+same_fault scan before text f g (no_token a) (no_token b) = let x = a.here in let y = b.here in let q : ◌≡◌ {A = Result (Token × List ℕ) SyntaxFault} (Err f) (Err g) = sym x ∙ y in cc
+same_fault scan before text f g (no_token a) (cannot_stand b) = absurd (let q : Err f ≡ Ok (b.token, b.rest) = sym a.here ∙ b.here in cc)
+same_fault scan before text f g (no_token a) (too_deep b) = absurd (let q : Err f ≡ Ok (sign OpenBrace, b.rest) = sym a.here ∙ b.here in cc)
+same_fault scan before text f g (cannot_stand a) (no_token b) = absurd (let q : Err g ≡ Ok (a.token, a.rest) = sym b.here ∙ a.here in cc)
+same_fault scan before text f g (too_deep a) (no_token b) = absurd (let q : Err g ≡ Ok (sign OpenBrace, a.rest) = sym b.here ∙ a.here in cc)
+same_fault scan before text f g (cannot_stand a) (cannot_stand b) = a.fault_is ∙ sym b.fault_is
+same_fault scan before text f g (too_deep a) (too_deep b) = a.fault_is ∙ sym b.fault_is
+same_fault scan before text f g (cannot_stand a) (too_deep b) =
+    absurd (a.stands_not (subst (λ (x : Token). Begins scan.offsets (before ++ x ∷ [])) (ok_pair (sign OpenBrace, b.rest) (a.token, a.rest) (sym b.here ∙ a.here)).0 b.stands))
+same_fault scan before text f g (too_deep a) (cannot_stand b) =
+    absurd (b.stands_not (subst (λ (x : Token). Begins scan.offsets (before ++ x ∷ [])) (ok_pair (sign OpenBrace, a.rest) (b.token, b.rest) (sym a.here ∙ b.here)).0 a.stands))
+
+goes_past : (scan : Scan) (before : List Token) (left : List ℕ) (f : SyntaxFault) (us : List Token) (end : List ℕ) → IsAtFault before scan left f → Longer scan before left us end
+    → Begins scan.offsets us → StaysShallow 0 us → ⊥
+goes_past scan before left f us end a l b s =
+    stops_all scan before left f l.0 l.3.0 l.1 a l.3.1 (one_token scan.offsets before l.0 l.1 (subst (Begins scan.offsets) l.2 b)) (subst (StaysShallow 0) l.2 s)
+
+one_from : (scan : Scan) (start : List ℕ) (f g : SyntaxFault) → From scan start f → From scan start g → f ≡ g
+one_from scan start f g a b = elim (compare scan start a.before a.left b.before b.left a.reads b.reads) [
+  | inl e ↦ same_fault scan b.before b.left f g (subst (λ (x : List Token). IsAtFault x scan b.left f) e.0 (subst (λ (x : List ℕ). IsAtFault a.before scan x f) e.1 a.here)) b.here
+  | inr (inl l) ↦ absurd (goes_past scan a.before a.left f b.before b.left a.here l (began scan start g b) b.shallow)
+  | inr (inr l) ↦ absurd (goes_past scan b.before b.left g a.before a.left b.here l (began scan start f a) a.shallow)
+]
+
+-- ---- texts and faults of the two forms
+
+abbrev Header : List ℕ → List ℕ → Type 0
+Header text mid = Leads (scan_of false text) text header mid
+
+-- how a text is read
+abbrev Form : List ℕ → Program → Type 0
+Form text p =
+    ((p.two ≡ false) × Leads (scan_of false text) text (sentence p.body) [])
+    ⊎ ((p.two ≡ true) × (mid : List ℕ) × Header text mid × Leads (scan_of true text) mid (sentence p.body) [])
+
+form_of : (text : List ℕ) (p : Program) → IsText text p → Form text p
+form_of text p a = go p.two refl (a.reads)
+  where
+    go : (b : Bool) → p.two ≡ b → Reads b text (sentence p.body) [] → Form text p
+    go false e r = inl (e, r)
+    go true e r = inr (e, r.0, r.1, r.2)
+
+-- how a fault is found
+abbrev Faulty : List ℕ → SyntaxFault → Type 0
+Faulty text f = From (scan_of false text) text f ⊎ ((mid : List ℕ) × Header text mid × From (scan_of true text) mid f)
+
+faulty : (text : List ℕ) (f : SyntaxFault) → HasFault text f → Faulty text f
+faulty text f b = go b.two b.reads b.goes_on b.here
+  where
+    go : (two : Bool) → Reads two text b.before b.left → ((t : Token) × Begins two (b.before ++ t ∷ [])) → IsAtFault b.before (scan_of two text) b.left f → Faulty text f
+    go false reads goes_on here = inl (record { before = b.before; left = b.left; reads = reads; goes_on = goes_on; shallow = b.shallow; here = here })
+    go true reads goes_on here =
+        inr (reads.0, reads.1, record { before = b.before; left = b.left; reads = reads.2; goes_on = goes_on; shallow = b.shallow; here = here })
+
+header_shallow : StaysShallow 0 header
+header_shallow = (omega arith, (omega arith, (omega arith, omega arith)))
+
+one_header : (text mid mid' : List ℕ) → Header text mid → Header text mid' → mid ≡ mid'
+one_header text mid mid' p q = (one_stretch (scan_of false text) text header mid header mid' a_header a_header p q).1
+
+two_forms : (text mid : List ℕ) (p : Tree) → Header text mid → Leads (scan_of false text) text (sentence p) [] → ⊥
+two_forms text mid p h r =
+    let e = (one_stretch (scan_of false text) text header mid (sentence p) [] a_header (statements false p) h r).0 in
+    no_header p [] [] (append-nil header ∙ e ∙ sym (append-nil (sentence p)))
+
+one_body : (scan : Scan) (text : List ℕ) (p q : Tree) → Leads scan text (sentence p) [] → Leads scan text (sentence q) [] → p ≡ q
+one_body scan text p q a b =
+    (tree_one p q (the_end ∷ []) (the_end ∷ []) refl refl
+    (one_stretch scan text (sentence p) [] (sentence q) [] (statements scan.offsets p) (statements scan.offsets q) a b).0).0
+
+-- ---- the three laws
+
+program_is : (p q : Program) → p.two ≡ q.two → p.body ≡ q.body → p ≡ q
+program_is p q e f = ap (λ (b : Bool). make b p.body) e ∙ ap (λ (t : Tree). make q.two t) f
+  where
+    make : Bool → Tree → Program
+    make b t = record { two = b; body = t }
+
+pub one_tree : (text : List ℕ) (p q : Program) → IsText text p → IsText text q → p ≡ q
+one_tree text p q a b = elim (form_of text p a) [
+  | inl x ↦ elim (form_of text q b) [
+    | inl y ↦ program_is p q (x.0 ∙ sym y.0) (one_body (scan_of false text) text p.body q.body x.1 y.1)
+    | inr y ↦ absurd (two_forms text y.1 p.body y.2 x.1)
+  ]
+  | inr x ↦ elim (form_of text q b) [
+    | inl y ↦ absurd (two_forms text x.1 q.body x.2 y.1)
+    | inr y ↦ program_is p q (x.0 ∙ sym y.0) (one_body (scan_of true text) y.1 p.body q.body
+        (subst (λ (m : List ℕ). Leads (scan_of true text) m (sentence p.body) []) (one_header text x.1 y.1 x.2 y.2) x.3) y.3)
+  ]
 ]
 
 shallow_sentence : (p : Tree) → height p ≤ MAX_OPEN_BRACES → StaysShallow 0 (sentence p)
 shallow_sentence p h = stays p 0 (the_end ∷ []) (omega arith) (omega arith, omega arith)
 
-pub text_or_fault : (text : List ℕ) (p : Tree) (f : SyntaxFault) → IsText text p → HasFault text f → ⊥
-text_or_fault text p f a b = elim (compare (length text) text b.before b.left (sentence p) [] b.reads a.reads) [
-  | inl e ↦ end_only p b.goes_on.0 [] (b.before ++ b.goes_on.0 ∷ []) (ap (λ (x : List Token). x ++ b.goes_on.0 ∷ []) e.0) b.goes_on.1
-  | inr (inl l) ↦ stops_all (length text) b.before b.left f l.0 l.3.0 l.1 b.here l.3.1 (one_token b.before l.0 l.1 (subst Begins l.2 (sentence_begins p))) (subst (StaysShallow 0) l.2 (shallow_sentence p a.shallow))
-  | inr (inr l) ↦ end_only p l.0 l.1 b.before l.2 (begins_front b.before (b.goes_on.0 ∷ []) b.goes_on.1)
+pub text_or_fault : (text : List ℕ) (p : Program) (f : SyntaxFault) → IsText text p → HasFault text f → ⊥
+text_or_fault text p f a b = elim (form_of text p a) [
+  | inl x ↦ elim (faulty text f b) [
+    | inl y ↦ no_fault (scan_of false text) text (sentence p.body) [] f (statements false p.body) (shallow_sentence p.body a.shallow) x.1 y
+    | inr y ↦ two_forms text y.0 p.body y.1 x.1
+  ]
+  | inr x ↦ elim (faulty text f b) [
+    | inl y ↦ no_fault (scan_of false text) text header x.1 f a_header header_shallow x.2 y
+    | inr y ↦ no_fault (scan_of true text) y.0 (sentence p.body) [] f (statements true p.body) (shallow_sentence p.body a.shallow)
+        (subst (λ (m : List ℕ). Leads (scan_of true text) m (sentence p.body) []) (one_header text x.1 y.0 x.2 y.1) x.3) y.2
+  ]
 ]
 
-same_fault : (total : ℕ) (before : List Token) (text : List ℕ) (f g : SyntaxFault) → IsAtFault before total text f → IsAtFault before total text g → f ≡ g
-same_fault total before text f g (no_token a) (no_token b) = let x = a.here in let y = b.here in let q : ◌≡◌ {A = Result (Token × List ℕ) SyntaxFault} (Err f) (Err g) = sym x ∙ y in cc
-same_fault total before text f g (no_token a) (cannot_stand b) = absurd (let q : Err f ≡ Ok (b.token, b.rest) = sym a.here ∙ b.here in cc)
-same_fault total before text f g (no_token a) (too_deep b) = absurd (let q : Err f ≡ Ok (sign OpenBrace, b.rest) = sym a.here ∙ b.here in cc)
-same_fault total before text f g (cannot_stand a) (no_token b) = absurd (let q : Err g ≡ Ok (a.token, a.rest) = sym b.here ∙ a.here in cc)
-same_fault total before text f g (too_deep a) (no_token b) = absurd (let q : Err g ≡ Ok (sign OpenBrace, a.rest) = sym b.here ∙ a.here in cc)
-same_fault total before text f g (cannot_stand a) (cannot_stand b) = a.fault_is ∙ sym b.fault_is
-same_fault total before text f g (too_deep a) (too_deep b) = a.fault_is ∙ sym b.fault_is
-same_fault total before text f g (cannot_stand a) (too_deep b) =
-    absurd (a.stands_not (subst (λ (x : Token). Begins (before ++ x ∷ [])) (ok_pair (sign OpenBrace, b.rest) (a.token, a.rest) (sym b.here ∙ a.here)).0 b.stands))
-same_fault total before text f g (too_deep a) (cannot_stand b) =
-    absurd (b.stands_not (subst (λ (x : Token). Begins (before ++ x ∷ [])) (ok_pair (sign OpenBrace, a.rest) (b.token, b.rest) (sym a.here ∙ b.here)).0 a.stands))
-
-goes_past : (total : ℕ) (text : List ℕ) (before : List Token) (left : List ℕ) (f : SyntaxFault) (us : List Token) (end : List ℕ) → IsAtFault before total left f → Longer total before left us end → Begins us → StaysShallow 0 us → ⊥
-goes_past total text before left f us end a l b s =
-    stops_all total before left f l.0 l.3.0 l.1 a l.3.1 (one_token before l.0 l.1 (subst Begins l.2 b)) (subst (StaysShallow 0) l.2 s)
-
 pub one_fault : (text : List ℕ) (f g : SyntaxFault) → HasFault text f → HasFault text g → f ≡ g
-one_fault text f g a b = elim (compare (length text) text a.before a.left b.before b.left a.reads b.reads) [
-  | inl e ↦ same_fault (length text) b.before b.left f g (subst (λ (x : List Token). IsAtFault x (length text) b.left f) e.0 (subst (λ (x : List ℕ). IsAtFault a.before (length text) x f) e.1 a.here)) b.here
-  | inr (inl l) ↦ absurd (goes_past (length text) text a.before a.left f b.before b.left a.here l (begins_front b.before (b.goes_on.0 ∷ []) b.goes_on.1) b.shallow)
-  | inr (inr l) ↦ absurd (goes_past (length text) text b.before b.left g a.before a.left b.here l (begins_front a.before (a.goes_on.0 ∷ []) a.goes_on.1) a.shallow)
+one_fault text f g a b = elim (faulty text f a) [
+  | inl x ↦ elim (faulty text g b) [
+    | inl y ↦ one_from (scan_of false text) text f g x y
+    | inr y ↦ absurd (no_fault (scan_of false text) text header y.0 f a_header header_shallow y.1 x)
+  ]
+  | inr x ↦ elim (faulty text g b) [
+    | inl y ↦ absurd (no_fault (scan_of false text) text header x.0 g a_header header_shallow x.1 y)
+    | inr y ↦ one_from (scan_of true text) y.0 f g (subst (λ (m : List ℕ). From (scan_of true text) m f) (one_header text x.0 y.0 x.1 y.1) x.2) y.2
+  ]
 ]

@@ -14,4 +14,6 @@ reads_texts =
         reads = (_, refl, (_, refl, (_, refl, (_, refl, (_, refl, (_, refl, (_, refl, (_, refl, (_, refl, (_, refl, (_, refl, (_, refl, (_, refl, (_, refl, (_, refl, (_, refl, (_, refl, refl)))))))))))))))));
         shallow = omega arith;
       };
+      ahead = record { reads = (_, (_, refl, (_, refl, (_, refl, refl))), (_, refl, (_, refl, (_, refl, (_, refl, (_, refl, (_, refl, (_, refl, (_, refl, (_, refl, (_, refl, (_, refl, (_, refl, (_, refl, (_, refl, (_, refl, refl)))))))))))))))); shallow = omega arith };
+      a_name = record { reads = (_, refl, (_, refl, (_, refl, (_, refl, (_, refl, (_, refl, (_, refl, refl))))))); shallow = omega arith };
     }

@@ -1,17 +1,20 @@
 -- The tree of a text can be printed: its names are names, and its numbers are numbers.
-use Rattle.std.proofs.Common.{◌≡◌, ℕ, ◌≤◌, ◌&&◌, Bool, true, false, List, [], ◌∷◌, length, take, Option, Some, None, Result, Ok, Err, refl, ap, arith, nat_le, inl, inr}
+use Rattle.std.proofs.Common.{cond, sym, ◌==◌, ◌∙◌, ◌≡◌, ℕ, ◌≤◌, ◌&&◌, Bool, true, false, List, [], ◌∷◌, length, take, Option, Some, None, Result, Ok, Err, refl, ap, arith, nat_le, inl, inr}
 use Rattle.std.specs.List.{list_any, list_all}
 use Rattle.std.proofs.lemmas.Bool.Decides.{nat_tests}
+use Rattle.pl_syntax.specs.declared.scan.Scan.{Scan}
 use Rattle.pl_syntax.specs.declared.limits.TheConstants.{MAX_NAME_BYTES, MAX_DIGITS, MAX_NUMBER}
 use Rattle.pl_syntax.specs.declared.fault.TheConstants.{NO_TOKEN, NO_NUMBER, TOO_LONG}
+use Rattle.armus_base.specs.declared.offset.Offset.TheVariants.{Ahead, Back, Here}
+use Rattle.pl_syntax.specs.declared.tree.Program.{Program}
 use Rattle.pl_syntax.specs.declared.token.Keyword.{Keyword}
 use Rattle.pl_syntax.specs.declared.token.Sign.{Sign}
-use Rattle.pl_syntax.specs.declared.token.Sign.TheVariants.{CloseBrace}
+use Rattle.pl_syntax.specs.declared.token.Sign.TheVariants.{CloseBrace, Minus, Plus}
 use Rattle.pl_syntax.specs.Words.{is_word_byte, is_digit, keyword_of, has_name_form, has_no_leading_zero, is_number, number_of, value_from}
 use Rattle.pl_syntax.specs.Tokens.{Token, the_end, sign, word, name, number, front, after_gap, token_here, word_token, letters_token, digits_token, sign_token, sign_of, word_of, Leads}
-use Rattle.pl_syntax.specs.Tree.{Tree, done, plain, fork, loop, Plain, new_task, new_phaser, reg, dereg, adv, await, skip}
-use Rattle.pl_syntax.specs.Grammar.{tokens, plain_tokens, IsText}
-use Rattle.pl_syntax.specs.Printed.{PlainIsWritable, IsWritable}
+use Rattle.pl_syntax.specs.Tree.{Tree, done, plain, fork, loop, Plain, new_task, new_phaser, reg, dereg, adv, await, skip, AllHere, PlainIsHere}
+use Rattle.pl_syntax.specs.Grammar.{tokens, plain_tokens, sentence, scan_of, Reads, IsText}
+use Rattle.pl_syntax.specs.Printed.{PlainIsWritable, TreeIsWritable, IsWritable}
 use Rattle.pl_syntax.proofs.Fronts.{chosen, ok_pair, was_found, name_in_front}
 
 -- ---- numbers
@@ -68,57 +71,151 @@ no_sign : (o : Option Sign) (n : ℕ) → sign_token o ≡ Found (number n) → 
 no_sign None n e = let q : Err NO_TOKEN ≡ Found (number n) = e in cc
 no_sign (Some s) n e = let q : Found (sign s) ≡ Found (number n) = e in cc
 
-number_here : (total : ℕ) (text : List ℕ) (n : ℕ) (rest : List ℕ) → token_here total text ≡ Ok (number n, rest) → n ≤ MAX_NUMBER
-number_here total [] n rest e = let h : the_end ≡ number n = (ok_pair (the_end, []) (number n, rest) e).0 in absurd cc
-number_here total (b ∷ bs) n rest e =
+number_here : (scan : Scan) (text : List ℕ) (n : ℕ) (rest : List ℕ) → token_here scan text ≡ Ok (number n, rest) → n ≤ MAX_NUMBER
+number_here scan [] n rest e = let h : the_end ≡ number n = (ok_pair (the_end, []) (number n, rest) e).0 in absurd cc
+number_here scan (b ∷ bs) n rest e =
     elim (chosen (is_word_byte b) _ _ _ e) [
       | inl p ↦ number_of_word (word_of (b ∷ bs)) n (was_found _ _ _ (number n) rest p.1).0
-      | inr p ↦ absurd (no_sign (sign_of b) n (was_found _ _ _ (number n) rest p.1).0)
+      | inr p ↦ absurd (no_sign (sign_of scan.offsets b) n (was_found _ _ _ (number n) rest p.1).0)
     ]
 
 -- a token that is a number is small enough
-number_in_front : (total : ℕ) (text : List ℕ) (n : ℕ) (rest : List ℕ) → front total text ≡ Ok (number n, rest) → n ≤ MAX_NUMBER
+number_in_front : (scan : Scan) (text : List ℕ) (n : ℕ) (rest : List ℕ) → front scan text ≡ Ok (number n, rest) → n ≤ MAX_NUMBER
 unfolding front
-number_in_front total text n rest e = number_here total (after_gap text) n rest e
+number_in_front scan text n rest e = number_here scan (after_gap text) n rest e
+
+-- ---- signs of PL 2
+
+letters_no_sign : (w : List ℕ) (o : Option Keyword) (s : Sign) → letters_token w o ≡ Found (sign s) → ⊥
+letters_no_sign w (Some k) s e = let q : Found (word k) ≡ Found (sign s) = e in cc
+letters_no_sign w None s e =
+    elim (chosen (has_name_form w) _ _ (Found (sign s)) e) [
+      | inr p ↦ (let q : Err NO_TOKEN ≡ Found (sign s) = p.1 in cc)
+      | inl p ↦ elim (chosen (nat_le (length w) MAX_NAME_BYTES) _ _ (Found (sign s)) p.1) [
+        | inr q ↦ (let r : Err TOO_LONG ≡ Found (sign s) = q.1 in cc)
+        | inl q ↦ (let r : Found (name w) ≡ Found (sign s) = q.1 in cc)
+      ]
+    ]
+
+digits_no_sign : (o : Option ℕ) (s : Sign) → digits_token o ≡ Found (sign s) → ⊥
+digits_no_sign None s e = let q : Err NO_NUMBER ≡ Found (sign s) = e in cc
+digits_no_sign (Some m) s e = let q : Found (number m) ≡ Found (sign s) = e in cc
+
+word_no_sign : (w : List ℕ) (s : Sign) → word_token w ≡ Found (sign s) → ⊥
+word_no_sign w s e =
+    elim (chosen (list_any is_digit (take 1 w)) _ _ (Found (sign s)) e) [
+      | inl p ↦ digits_no_sign (number_of w) s p.1
+      | inr p ↦ letters_no_sign w (keyword_of w) s p.1
+    ]
+
+-- + or -
+abbrev is_far : Option Sign → Bool
+is_far (Some Plus) = true
+is_far (Some Minus) = true
+is_far o = false
+
+cond_near : (c : Bool) (x y : Option Sign) → is_far x ≡ false → is_far y ≡ false → is_far (cond c x y) ≡ false
+cond_near true x y p q = p
+cond_near false x y p q = q
+
+near_sign : (b : ℕ) → is_far (sign_of false b) ≡ false
+near_sign b =
+    cond_near (b == 61) _ _ refl (cond_near (b == 40) _ _ refl (cond_near (b == 41) _ _ refl (cond_near (b == 44) _ _ refl
+    (cond_near (b == 59) _ _ refl (cond_near (b == 123) _ _ refl (cond_near (b == 125) _ _ refl
+    (cond_near (b == 43) _ _ refl (cond_near (b == 45) _ _ refl refl))))))))
+
+sign_token_is : (o : Option Sign) (s : Sign) → sign_token o ≡ Found (sign s) → o ≡ Some s
+sign_token_is None s e = absurd (let q : Err NO_TOKEN ≡ Found (sign s) = e in cc)
+sign_token_is (Some r) s e = let q : Found (sign r) ≡ Found (sign s) = e in let h : r ≡ s = cc in ap (λ (x : Sign). Some x) h
+
+near_here : (scan : Scan) (text : List ℕ) (s : Sign) (rest : List ℕ) → scan.offsets ≡ false → token_here scan text ≡ Ok (sign s, rest) → is_far (Some s) ≡ false
+near_here scan [] s rest off e = let h : the_end ≡ sign s = (ok_pair (the_end, []) (sign s, rest) e).0 in absurd cc
+near_here scan (b ∷ bs) s rest off e =
+    elim (chosen (is_word_byte b) _ _ _ e) [
+      | inl p ↦ absurd (word_no_sign (word_of (b ∷ bs)) s (was_found _ _ _ (sign s) rest p.1).0)
+      | inr p ↦
+          let is = sign_token_is (sign_of scan.offsets b) s (was_found _ _ _ (sign s) rest p.1).0 in
+          ap is_far (sym is) ∙ ap (λ (o : Bool). is_far (sign_of o b)) off ∙ near_sign b
+    ]
+
+-- only in PL 2 are + and - tokens
+near_in_front : (scan : Scan) (text : List ℕ) (s : Sign) (rest : List ℕ) → scan.offsets ≡ false → front scan text ≡ Ok (sign s, rest) → is_far (Some s) ≡ false
+unfolding front
+near_in_front scan text s rest off e = near_here scan (after_gap text) s rest off e
 
 -- ---- trees
 
-plain_is_writable : (total : ℕ) (c : Plain) (text : List ℕ) (us : List Token) (end : List ℕ) → Leads total text (plain_tokens c us) end → PlainIsWritable c × (mid : List ℕ) × Leads total mid us end
-plain_is_writable total (new_task x) text us end h = let z = h.2.2.2.2.2 in (name_in_front total text x h.0 h.1, z.0, z.2)
-plain_is_writable total (new_phaser x) text us end h = let z = h.2.2.2.2.2 in (name_in_front total text x h.0 h.1, z.0, z.2)
-plain_is_writable total (reg x y) text us end h =
+plain_is_writable : (scan : Scan) (c : Plain) (text : List ℕ) (us : List Token) (end : List ℕ) → Leads scan text (plain_tokens c us) end
+    → PlainIsWritable c × (scan.offsets ≡ false → PlainIsHere c) × (mid : List ℕ) × Leads scan mid us end
+plain_is_writable scan (new_task x) text us end h = let z = h.2.2.2.2.2 in (name_in_front scan text x h.0 h.1, λ off. tt, z.0, z.2)
+plain_is_writable scan (new_phaser x) text us end h = let z = h.2.2.2.2.2 in (name_in_front scan text x h.0 h.1, λ off. tt, z.0, z.2)
+plain_is_writable scan (reg x y) text us end h =
     let a = h.2 in
     let b = a.2 in
     let c = b.2 in
     let d = c.2 in
     let z = d.2.2 in
-    ((name_in_front total a.0 x b.0 b.1, name_in_front total c.0 y d.0 d.1), z.0, z.2)
-plain_is_writable total (dereg x) text us end h = let a = h.2 in let b = a.2 in let z = b.2.2 in (name_in_front total a.0 x b.0 b.1, z.0, z.2)
-plain_is_writable total (adv x) text us end h = let a = h.2 in let b = a.2 in let z = b.2.2 in (name_in_front total a.0 x b.0 b.1, z.0, z.2)
-plain_is_writable total (await x) text us end h = let a = h.2 in let b = a.2 in let z = b.2.2 in (name_in_front total a.0 x b.0 b.1, z.0, z.2)
-plain_is_writable total skip text us end h = let z = h.2 in (tt, z.0, z.2)
+    ((name_in_front scan a.0 x b.0 b.1, name_in_front scan c.0 y d.0 d.1), λ off. tt, z.0, z.2)
+plain_is_writable scan (dereg x) text us end h = let a = h.2 in let b = a.2 in let z = b.2.2 in (name_in_front scan a.0 x b.0 b.1, λ off. tt, z.0, z.2)
+plain_is_writable scan (adv x) text us end h = let a = h.2 in let b = a.2 in let z = b.2.2 in (name_in_front scan a.0 x b.0 b.1, λ off. tt, z.0, z.2)
+plain_is_writable scan (await x Here) text us end h =
+    let a = h.2 in let b = a.2 in let z = b.2.2 in ((name_in_front scan a.0 x b.0 b.1, tt), λ off. refl, z.0, z.2)
+plain_is_writable scan (await x (Back k)) text us end h =
+    let a = h.2 in
+    let b = a.2 in
+    let s = b.2 in
+    let n = s.2 in
+    let z = n.2.2 in
+    (
+      (name_in_front scan a.0 x b.0 b.1, number_in_front scan s.0 k n.0 n.1),
+      λ off. absurd (let near : true ≡ false = near_in_front scan b.0 Minus s.0 off s.1 in cc),
+      z.0,
+      z.2,
+    )
+plain_is_writable scan (await x (Ahead k)) text us end h =
+    let a = h.2 in
+    let b = a.2 in
+    let s = b.2 in
+    let n = s.2 in
+    let z = n.2.2 in
+    (
+      (name_in_front scan a.0 x b.0 b.1, number_in_front scan s.0 k n.0 n.1),
+      λ off. absurd (let near : true ≡ false = near_in_front scan b.0 Plus s.0 off s.1 in cc),
+      z.0,
+      z.2,
+    )
+plain_is_writable scan skip text us end h = let z = h.2 in (tt, λ off. tt, z.0, z.2)
 
-is_writable : (total : ℕ) (p : Tree) (text : List ℕ) (us : List Token) (end : List ℕ) → Leads total text (tokens p us) end → IsWritable p × (mid : List ℕ) × Leads total mid us end
-is_writable total done text us end h = (tt, text, h)
-is_writable total (plain c p) text us end h =
-    let a = plain_is_writable total c text (tokens p us) end h in
-    let b = is_writable total p a.1 us end a.2 in
-    ((a.0, b.0), b.1, b.2)
-is_writable total (fork x i p) text us end h =
+pub is_writable : (scan : Scan) (p : Tree) (text : List ℕ) (us : List Token) (end : List ℕ) → Leads scan text (tokens p us) end
+    → TreeIsWritable p × (scan.offsets ≡ false → AllHere p) × (mid : List ℕ) × Leads scan mid us end
+is_writable scan done text us end h = (tt, λ off. tt, text, h)
+is_writable scan (plain c p) text us end h =
+    let a = plain_is_writable scan c text (tokens p us) end h in
+    let b = is_writable scan p a.2 us end a.3 in
+    ((a.0, b.0), λ off. (a.1 off, b.1 off), b.2, b.3)
+is_writable scan (fork x i p) text us end h =
     let a = h.2 in
     let b = a.2 in
     let d = b.2.2 in
-    let inner = is_writable total i d.0 (sign CloseBrace ∷ tokens p us) end d.2 in
-    let z = inner.2 in
-    let outer = is_writable total p z.0 us end z.2 in
-    ((name_in_front total a.0 x b.0 b.1, inner.0, outer.0), outer.1, outer.2)
-is_writable total (loop n i p) text us end h =
+    let inner = is_writable scan i d.0 (sign CloseBrace ∷ tokens p us) end d.2 in
+    let z = inner.3 in
+    let outer = is_writable scan p z.0 us end z.2 in
+    ((name_in_front scan a.0 x b.0 b.1, inner.0, outer.0), λ off. (inner.1 off, outer.1 off), outer.2, outer.3)
+is_writable scan (loop n i p) text us end h =
     let a = h.2 in
     let d = a.2 in
-    let inner = is_writable total i d.0 (sign CloseBrace ∷ tokens p us) end d.2 in
-    let z = inner.2 in
-    let outer = is_writable total p z.0 us end z.2 in
-    ((number_in_front total h.0 n a.0 a.1, inner.0, outer.0), outer.1, outer.2)
+    let inner = is_writable scan i d.0 (sign CloseBrace ∷ tokens p us) end d.2 in
+    let z = inner.3 in
+    let outer = is_writable scan p z.0 us end z.2 in
+    ((number_in_front scan h.0 n a.0 a.1, inner.0, outer.0), λ off. (inner.1 off, outer.1 off), outer.2, outer.3)
 
-pub text_is_writable : (text : List ℕ) (p : Tree) → IsText text p → IsWritable p
-text_is_writable text p h = (is_writable (length text) p text (the_end ∷ []) [] h.reads).0
+pub text_is_writable : (text : List ℕ) (p : Program) → IsText text p → IsWritable p
+text_is_writable text p h = go p.two refl h.reads
+  where
+    go : (two : Bool) → p.two ≡ two → Reads two text (sentence p.body) [] → IsWritable p
+    go false e reads =
+        let w = is_writable (scan_of false text) p.body text (the_end ∷ []) [] reads in
+        record { tree = w.0; here = λ one. w.1 refl }
+    go true e reads =
+        let w = is_writable (scan_of true text) p.body reads.0 (the_end ∷ []) [] reads.2 in
+        record { tree = w.0; here = λ one. absurd (let q : true ≡ false = sym e ∙ one in cc) }

@@ -4,12 +4,11 @@ use Rattle.pl_syntax.specs.declared.fault.SyntaxFault.{SyntaxFault}
 use Rattle.pl_syntax.specs.declared.fault.ParseEnd.{ParseEnd}
 use Rattle.pl_syntax.specs.declared.fault.ParseEnd.TheVariants as ends
 use Rattle.pl_syntax.specs.declared.tree.Program.{Program}
-use Rattle.pl_syntax.specs.Tree.{Tree}
 use Rattle.pl_syntax.specs.Grammar.{HasFault}
 
 -- the answer is this program, or that memory ran out
-abbrev pub GivesProgram : Result Program ParseEnd → Tree → Type 0
-GivesProgram (Ok found) p = found.body ≡ p
+abbrev pub GivesProgram : Result Program ParseEnd → Program → Type 0
+GivesProgram (Ok found) p = found ≡ p
 GivesProgram (Err ends.NoMemory) p = Unit {0}
 GivesProgram (Err (ends.Syntax found)) p = ⊥
 

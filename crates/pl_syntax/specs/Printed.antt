@@ -1,8 +1,12 @@
 -- The printed form of a program.
-use Rattle.std.specs.Prelude.{ℕ, ◌+◌, ◌*◌, ◌≤◌, List, [], ◌∷◌, ◌++◌, codes, replicate, decimal}
+use Rattle.std.specs.Prelude.{◌≡◌, Bool, true, false, ℕ, ◌+◌, ◌*◌, ◌≤◌, List, [], ◌∷◌, ◌++◌, codes, replicate, decimal}
 use Rattle.pl_syntax.specs.declared.limits.TheConstants.{MAX_NUMBER}
+use Rattle.armus_base.specs.declared.offset.Offset.{Offset}
+use Rattle.armus_base.specs.declared.offset.Offset.TheVariants.{Ahead, Back, Here}
+use Rattle.armus_base.specs.Offsets.{IsNear}
+use Rattle.pl_syntax.specs.declared.tree.Program.{Program}
 use Rattle.pl_syntax.specs.Words.{IsName}
-use Rattle.pl_syntax.specs.Tree.{Tree, done, plain, fork, loop, Plain, new_task, new_phaser, reg, dereg, adv, await, skip}
+use Rattle.pl_syntax.specs.Tree.{Tree, done, plain, fork, loop, Plain, new_task, new_phaser, reg, dereg, adv, await, skip, AllHere}
 
 -- a line: its words, and the LF that ends it
 abbrev pub line : List ℕ → List ℕ
@@ -12,6 +16,12 @@ line words = words ++ 10 ∷ []
 abbrev pub indented_line : ℕ → List ℕ → List ℕ
 indented_line depth words = replicate (2 * depth) 32 ++ line words
 
+-- how far an await looks back or ahead
+abbrev pub offset_text : Offset → List ℕ
+offset_text Here = []
+offset_text (Back k) = codes " - " ++ decimal k
+offset_text (Ahead k) = codes " + " ++ decimal k
+
 -- a statement without a body
 abbrev pub plain_text : Plain → List ℕ
 plain_text (new_task x) = x ++ codes " = newTid();"
@@ -19,7 +29,7 @@ plain_text (new_phaser x) = x ++ codes " = newPhaser();"
 plain_text (reg x y) = codes "reg(" ++ x ++ codes ", " ++ y ++ codes ");"
 plain_text (dereg x) = codes "dereg(" ++ x ++ codes ");"
 plain_text (adv x) = codes "adv(" ++ x ++ codes ");"
-plain_text (await x) = codes "await(" ++ x ++ codes ");"
+plain_text (await x off) = codes "await(" ++ x ++ offset_text off ++ codes ");"
 plain_text skip = codes "skip;"
 
 -- the lines of a list of statements, where so many braces are open
@@ -31,25 +41,35 @@ printed_at depth (fork x body rest) =
 printed_at depth (loop k body rest) =
     indented_line depth (codes "loop " ++ decimal k ++ codes " {") ++ printed_at (depth + 1) body ++ indented_line depth (codes "}") ++ printed_at depth rest
 
+-- the line with which a program of PL 2 begins
+abbrev pub header_text : Bool → List ℕ
+header_text false = []
+header_text true = line (codes "pl 2;")
+
 -- the printed form of a program
-abbrev pub printed_of : Tree → List ℕ
-printed_of p = printed_at 0 p
+abbrev pub printed_of : Program → List ℕ
+printed_of p = header_text p.two ++ printed_at 0 p.body
 
 -- ---- what can be printed
 
--- the names of a statement without a body have the form of names
+-- the names of a statement without a body have the form of names, and its offset is no greater than a number of a text
 abbrev pub PlainIsWritable : Plain → Type 0
 PlainIsWritable (new_task x) = IsName x
 PlainIsWritable (new_phaser x) = IsName x
 PlainIsWritable (reg x y) = IsName x × IsName y
 PlainIsWritable (dereg x) = IsName x
 PlainIsWritable (adv x) = IsName x
-PlainIsWritable (await x) = IsName x
+PlainIsWritable (await x off) = IsName x × IsNear off
 PlainIsWritable skip = Unit {0}
 
--- all names have the form of names, and no loop's number is above the greatest
-abbrev pub IsWritable : Tree → Type 0
-IsWritable done = Unit {0}
-IsWritable (plain s rest) = PlainIsWritable s × IsWritable rest
-IsWritable (fork x body rest) = IsName x × IsWritable body × IsWritable rest
-IsWritable (loop k body rest) = (k ≤ MAX_NUMBER) × IsWritable body × IsWritable rest
+-- all names have the form of names, and no number is above the greatest
+abbrev pub TreeIsWritable : Tree → Type 0
+TreeIsWritable done = Unit {0}
+TreeIsWritable (plain s rest) = PlainIsWritable s × TreeIsWritable rest
+TreeIsWritable (fork x body rest) = IsName x × TreeIsWritable body × TreeIsWritable rest
+TreeIsWritable (loop k body rest) = (k ≤ MAX_NUMBER) × TreeIsWritable body × TreeIsWritable rest
+
+-- the program can be printed: in PL 1 no await looks back or ahead
+pub record IsWritable (p : Program) : Type 0 where
+  pub tree : TreeIsWritable p.body
+  pub here : p.two ≡ false → AllHere p.body

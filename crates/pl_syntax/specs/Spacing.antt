@@ -1,8 +1,10 @@
 -- How the tokens of a text may be spaced: blanks and comments stand between any two tokens, and between two words there has to be one.
-use Rattle.std.specs.Prelude.{◌≡◌, ℕ, ◌==◌, Bool, true, false, not, List, [], ◌∷◌, ◌++◌, Some, Ok}
+use Rattle.std.specs.Prelude.{◌≡◌, ℕ, ◌==◌, Bool, true, false, not, if◌then◌else◌, List, [], ◌∷◌, ◌++◌, Some, Ok}
 use Rattle.std.specs.List.{list_all}
 use Rattle.pl_syntax.specs.declared.token.Sign.{Sign}
 use Rattle.pl_syntax.specs.Words.{begins_with, is_word_byte}
+use Rattle.pl_syntax.specs.declared.tree.Program.{Program}
+use Rattle.pl_syntax.specs.Grammar.{header, tokens}
 use Rattle.pl_syntax.specs.Tokens.{Token, sign, word, name, number, is_blank, sign_of, word_token}
 
 -- the byte ends no line
@@ -19,7 +21,7 @@ pub data IsGap (at_end : Bool) : List ℕ → Type 0 where
 
 -- the bytes spell the token: a sign is one byte, and a word is a run of letters, digits and _ that is this token
 pub data IsSpelling : Token → List ℕ → Type 0 where
-  a_sign : {s : Sign} {b : ℕ} → sign_of b ≡ Some s → IsSpelling (sign s) (b ∷ [])
+  a_sign : {s : Sign} {b : ℕ} → sign_of true b ≡ Some s → IsSpelling (sign s) (b ∷ [])
   a_word : {t : Token} {b : ℕ} {bs : List ℕ} → list_all is_word_byte (b ∷ bs) ≡ true → word_token (b ∷ bs) ≡ Ok t → IsSpelling t (b ∷ bs)
 
 -- keywords, names and numbers are words
@@ -35,3 +37,7 @@ IsSpaced behind_word [] text = IsGap true text
 IsSpaced behind_word (t ∷ ts) text =
     (gap : List ℕ) × (spelling : List ℕ) × (rest : List ℕ) × (text ≡ gap ++ (spelling ++ rest)) × IsGap false gap × IsSpelling t spelling
     × (behind_word ≡ true → is_a_word t ≡ true → gap ≡ [] → ⊥) × IsSpaced (is_a_word t) ts rest
+
+-- the tokens of a program, those of its header too, without the end
+abbrev pub all_tokens : Program → List Token
+all_tokens p = if p.two then header ++ tokens p.body [] else tokens p.body []

@@ -1,12 +1,13 @@
 -- From bytes to tokens.
--- A text is passed on as what is left of it, beside the number `total` of all its bytes: a place is `total` less what is left there.
+-- A text is passed on as what is left of it, beside how it is read: a place is the number of all bytes less what is left there.
 use Rattle.std.specs.Prelude.{◌≡◌, ℕ, ◌-◌, ◌==◌, Bool, ◌&&◌, ◌||◌, if◌then◌else◌, List, [], ◌∷◌, length, Option, Some, None, Result, Ok, Err, take, drop, nat_le}
 use Rattle.std.specs.List.{prefix_len, list_any}
 use Rattle.pl_syntax.specs.declared.limits.TheConstants.{MAX_NAME_BYTES}
 use Rattle.pl_syntax.specs.declared.fault.SyntaxFault.{SyntaxFault}
+use Rattle.pl_syntax.specs.declared.scan.Scan.{Scan}
 use Rattle.pl_syntax.specs.declared.token.Keyword.{Keyword}
 use Rattle.pl_syntax.specs.declared.token.Sign.{Sign}
-use Rattle.pl_syntax.specs.declared.token.Sign.TheVariants.{Equals, OpenParen, CloseParen, Comma, Semicolon, OpenBrace, CloseBrace}
+use Rattle.pl_syntax.specs.declared.token.Sign.TheVariants.{Equals, OpenParen, CloseParen, Comma, Semicolon, OpenBrace, CloseBrace, Plus, Minus}
 use Rattle.pl_syntax.specs.Words.{is_word_byte, is_digit, keyword_of, has_name_form, number_of, begins_with}
 
 -- a token; the end of the text is the last one
@@ -57,12 +58,17 @@ abbrev mutual
 
 -- ---- one token
 
--- the sign that is this byte
-abbrev pub sign_of : ℕ → Option Sign
-sign_of b =
+-- a sign of PL 2, where those are signs
+abbrev pub sign_if : Bool → Sign → Option Sign
+sign_if offsets s = if offsets then Some s else None
+
+-- the sign that is this byte, where + and - are signs or not
+abbrev pub sign_of : Bool → ℕ → Option Sign
+sign_of offsets b =
     if b == 61 then Some Equals else (if b == 40 then Some OpenParen else (if b == 41 then Some CloseParen
     else (if b == 44 then Some Comma else (if b == 59 then Some Semicolon
-    else (if b == 123 then Some OpenBrace else (if b == 125 then Some CloseBrace else None))))))
+    else (if b == 123 then Some OpenBrace else (if b == 125 then Some CloseBrace
+    else (if b == 43 then sign_if offsets Plus else (if b == 45 then sign_if offsets Minus else None))))))))
 
 -- a sign, or the kind of the fault of a byte that is none
 abbrev pub sign_token : Option Sign → Result Token ℕ
@@ -108,22 +114,22 @@ placed at (Ok t) rest = Ok (t, rest)
 placed at (Err kind) rest = Err (record { at = at; kind = kind })
 
 -- the token that begins here, where neither a blank nor a comment does: the end, a word, or a sign
-abbrev pub token_here : ℕ → List ℕ → Front
-token_here total [] = Ok (the_end, [])
-token_here total (b ∷ bs) =
+abbrev pub token_here : Scan → List ℕ → Front
+token_here scan [] = Ok (the_end, [])
+token_here scan (b ∷ bs) =
     if is_word_byte b
-    then placed (total - length (b ∷ bs)) (word_token (word_of (b ∷ bs))) (after_word (b ∷ bs))
-    else placed (total - length (b ∷ bs)) (sign_token (sign_of b)) bs
+    then placed (scan.total - length (b ∷ bs)) (word_token (word_of (b ∷ bs))) (after_word (b ∷ bs))
+    else placed (scan.total - length (b ∷ bs)) (sign_token (sign_of scan.offsets b)) bs
 
 -- the next token of a text of which this is left
-unfoldable pub front : ℕ → List ℕ → Front
-front total text = token_here total (after_gap text)
+unfoldable pub front : Scan → List ℕ → Front
+front scan text = token_here scan (after_gap text)
 
 -- where that token begins
-abbrev pub place : ℕ → List ℕ → ℕ
-place total text = total - length (after_gap text)
+abbrev pub place : Scan → List ℕ → ℕ
+place scan text = scan.total - length (after_gap text)
 
 -- these tokens are the next ones, one after the other, and the rest is left
-abbrev pub Leads : ℕ → List ℕ → List Token → List ℕ → Type 0
-Leads total text [] rest = text ≡ rest
-Leads total text (t ∷ ts) rest = (mid : List ℕ) × (front total text ≡ Ok (t, mid)) × Leads total mid ts rest
+abbrev pub Leads : Scan → List ℕ → List Token → List ℕ → Type 0
+Leads scan text [] rest = text ≡ rest
+Leads scan text (t ∷ ts) rest = (mid : List ℕ) × (front scan text ≡ Ok (t, mid)) × Leads scan mid ts rest

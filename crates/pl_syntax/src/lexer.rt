@@ -1,4 +1,4 @@
-// From bytes to tokens. A text is passed on as what is left of it, beside the number of all its bytes.
+// From bytes to tokens. A text is passed on as what is left of it, beside how it is read.
 
 ghost use Rattle.std.specs.Prelude.{◌≡◌, ◌+◌, ◌-◌, ◌<◌, ◌≤◌, ◌^◌, length, Ok, Err, IfOk};
 ghost use Rattle.std.specs.List.{prefix_len};
@@ -7,6 +7,7 @@ ghost use Rattle.pl_syntax.specs.Tokens.{token_here, front, is_blank, after_gap,
 ghost use Rattle.pl_syntax.specs.inside.Seen.{token_seen, front_seen, HasForm};
 
 use crate::fault::{NO_TOKEN, SyntaxFault};
+use crate::scan::Scan;
 use crate::token::{Sign, Token};
 use crate::word::{is_word_byte, word_token};
 
@@ -54,9 +55,9 @@ fn word_len(text: &[u8]) -> usize
     text.iter().take_while(|b| is_word_byte(**b)).count()
 }
 
-// The sign that is this byte.
-fn sign_of(b: u8) -> Option<Sign>
-    ensures { result ≡ sign_of b }
+// The sign that is this byte, where `+` and `-` are signs or not.
+fn sign_of(offsets: bool, b: u8) -> Option<Sign>
+    ensures { result ≡ sign_of offsets b }
 {
     match b {
         b'=' => Some(Sign::Equals),
@@ -66,25 +67,27 @@ fn sign_of(b: u8) -> Option<Sign>
         b';' => Some(Sign::Semicolon),
         b'{' => Some(Sign::OpenBrace),
         b'}' => Some(Sign::CloseBrace),
+        b'+' if offsets => Some(Sign::Plus),
+        b'-' if offsets => Some(Sign::Minus),
         _ => None,
     }
 }
 
 // A sign, or the kind of the fault of a byte that is none.
-fn sign_token(b: u8) -> Result<Token<'static>, u8>
-    ensures { token_seen result ≡ sign_token (sign_of b) }
+fn sign_token(offsets: bool, b: u8) -> Result<Token<'static>, u8>
+    ensures { token_seen result ≡ sign_token (sign_of offsets b) }
 {
-    match sign_of(b) {
+    match sign_of(offsets, b) {
         Some(sign) => Ok(Token::Sign(sign)),
         None => Err(NO_TOKEN),
     }
 }
 
 // The token that begins here, where neither a blank nor a comment does.
-fn token_here(total: usize, text: &[u8]) -> Result<(Token, &[u8]), SyntaxFault>
-    requires within { length text.now ≤ total }
-    requires small { total < 2 ^ 32 }
-    ensures exact { front_seen result ≡ token_here total text.now }
+fn token_here(scan: Scan, text: &[u8]) -> Result<(Token, &[u8]), SyntaxFault>
+    requires within { length text.now ≤ scan.total }
+    requires small { scan.total < 2 ^ 32 }
+    ensures exact { front_seen result ≡ token_here scan text.now }
     ensures no_longer { IfOk result (λ x. length x.1.now ≤ length text.now) }
 {
     match text {
@@ -94,15 +97,15 @@ fn token_here(total: usize, text: &[u8]) -> Result<(Token, &[u8]), SyntaxFault>
             match word_token(word) {
                 Ok(token) => Ok((token, rest)),
                 Err(kind) => Err(SyntaxFault {
-                    at: (total - text.len()) as u32,
+                    at: (scan.total - text.len()) as u32,
                     kind,
                 }),
             }
         }
-        [b, rest @ ..] => match sign_token(*b) {
+        [b, rest @ ..] => match sign_token(scan.offsets, *b) {
             Ok(token) => Ok((token, rest)),
             Err(kind) => Err(SyntaxFault {
-                at: (total - text.len()) as u32,
+                at: (scan.total - text.len()) as u32,
                 kind,
             }),
         },
@@ -111,21 +114,21 @@ fn token_here(total: usize, text: &[u8]) -> Result<(Token, &[u8]), SyntaxFault>
 
 /// The next token of a text of which this is left, and the bytes after it.
 #[tactic(auto, unfolding(crate::specs::Tokens::front))]
-pub fn next(total: usize, text: &[u8]) -> Result<(Token, &[u8]), SyntaxFault>
-    requires within { length text.now ≤ total }
-    requires small { total < 2 ^ 32 }
-    ensures exact { front_seen result ≡ front total text.now }
+pub fn next(scan: Scan, text: &[u8]) -> Result<(Token, &[u8]), SyntaxFault>
+    requires within { length text.now ≤ scan.total }
+    requires small { scan.total < 2 ^ 32 }
+    ensures exact { front_seen result ≡ front scan text.now }
     ensures no_longer { IfOk result (λ x. length x.1.now ≤ length text.now) }
     ensures name { IfOk result (λ x. HasForm x.0) }
 {
-    token_here(total, after_gap(text))
+    token_here(scan, after_gap(text))
 }
 
 /// Where the next token begins.
-pub fn place(total: usize, text: &[u8]) -> u32
-    requires within { length text.now ≤ total }
-    requires small { total < 2 ^ 32 }
-    ensures { result ≡ place total text.now }
+pub fn place(scan: Scan, text: &[u8]) -> u32
+    requires within { length text.now ≤ scan.total }
+    requires small { scan.total < 2 ^ 32 }
+    ensures { result ≡ place scan text.now }
 {
-    (total - after_gap(text).len()) as u32
+    (scan.total - after_gap(text).len()) as u32
 }

@@ -10,6 +10,7 @@ mod name;
 mod printer;
 mod reader;
 mod round_trip;
+mod scan;
 #[cfg(test)]
 mod tests;
 mod token;

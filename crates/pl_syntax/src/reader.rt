@@ -2,21 +2,24 @@
 
 ghost use Rattle.std.specs.Prelude.{◌≡◌, ℕ, ◌+◌, ◌<◌, ◌≤◌, ◌^◌, length, IfOk, IfErr};
 ghost use Rattle.pl_syntax.specs.Words.{IsName};
-ghost use Rattle.pl_syntax.specs.Tree.{Tree, count, done};
+ghost use Rattle.pl_syntax.specs.declared.tree.Program.{Program as Parsed};
+ghost use Rattle.pl_syntax.specs.Tree.{count, done};
 ghost use Rattle.pl_syntax.specs.Bodies.{followed_by, tree_of};
 ghost use Rattle.pl_syntax.specs.inside.Seen.{token_of, HasForm};
-ghost use Rattle.pl_syntax.specs.declared.fault.SyntaxFault.{SyntaxFault};
+ghost use Rattle.pl_syntax.specs.declared.fault.SyntaxFault.{SyntaxFault as Fault};
 ghost use Rattle.pl_syntax.specs.Grammar.{IsText, HasFault};
 ghost use Rattle.pl_syntax.specs.Parsing.{GivesProgram, GivesFault, Explains};
-ghost use Rattle.pl_syntax.specs.inside.Reading.{Gives, drawing_at, reg_at, dereg_at, adv_at, await_at, skip_at, statement_in, statements_at, block_at, fork_at, loop_at, ends_list, program_at};
+ghost use Rattle.pl_syntax.specs.inside.Reading.{Gives, drawing_at, reg_at, dereg_at, adv_at, await_at, skip_at, statement_in, statements_at, block_at, fork_at, loop_at, ends_list, result_seen, is_pl, is_two, header_at, body_at, program_at};
 
 use crate::expect::{
-    drawn_at, in_parens_at, named_at, number_at, opened_at, pair_at, sign_at, unexpected,
+    drawn_at, in_parens_at, name_at, named_at, number_at, offset_at, opened_at, pair_at, sign_at,
+    unexpected,
 };
-use crate::fault::ParseEnd;
+use crate::fault::{ParseEnd, SyntaxFault};
 use crate::lexer::next;
 use crate::limits::{MAX_OPEN_BRACES, MAX_PARSED_BYTES};
 use crate::name::Name;
+use crate::scan::Scan;
 use crate::token::{Keyword, Sign, Token};
 use crate::tree::{Body, Program, Stmt};
 use std::alloc::Global;
@@ -25,18 +28,18 @@ use std::alloc::Global;
 #[tactic(auto, unfolding(crate::specs::inside::Reading::drawing_at))]
 fn drawing_at<'a>(
     alloc: Global,
-    total: usize,
+    scan: Scan,
     x: &[u8],
     text: &'a [u8],
 ) -> Result<(Stmt, &'a [u8]), ParseEnd>
-    requires within { length text.now ≤ total }
-    requires small { total < 2 ^ 32 }
+    requires within { length text.now ≤ scan.total }
+    requires small { scan.total < 2 ^ 32 }
     requires name { IsName x.now }
-    ensures exact { Gives (λ x. (x.0, x.1.now)) result (drawing_at total x.now text.now) }
+    ensures exact { Gives (λ x. (x.0, x.1.now)) result (drawing_at scan x.now text.now) }
     ensures no_longer { IfOk result (λ x. length x.1.now ≤ length text.now) }
     ensures counted { IfOk result (λ x. count (followed_by x.0 done) + length x.1.now ≤ length text.now + 1) }
 {
-    let (is_task, rest) = drawn_at(total, text)?;
+    let (is_task, rest) = drawn_at(scan, text)?;
     let x = Name::new(alloc, x)?;
     if is_task {
         Ok((Stmt::NewTask { x }, rest))
@@ -47,14 +50,14 @@ fn drawing_at<'a>(
 
 // `reg(x, y);`, behind its first word.
 #[tactic(auto, unfolding(crate::specs::inside::Reading::reg_at))]
-fn reg_at(alloc: Global, total: usize, text: &[u8]) -> Result<(Stmt, &[u8]), ParseEnd>
-    requires within { length text.now ≤ total }
-    requires small { total < 2 ^ 32 }
-    ensures exact { Gives (λ x. (x.0, x.1.now)) result (reg_at total text.now) }
+fn reg_at(alloc: Global, scan: Scan, text: &[u8]) -> Result<(Stmt, &[u8]), ParseEnd>
+    requires within { length text.now ≤ scan.total }
+    requires small { scan.total < 2 ^ 32 }
+    ensures exact { Gives (λ x. (x.0, x.1.now)) result (reg_at scan text.now) }
     ensures no_longer { IfOk result (λ x. length x.1.now ≤ length text.now) }
     ensures counted { IfOk result (λ x. count (followed_by x.0 done) + length x.1.now ≤ length text.now + 1) }
 {
-    let (x, y, rest) = pair_at(total, text)?;
+    let (x, y, rest) = pair_at(scan, text)?;
     let x = Name::new(alloc, x)?;
     let y = Name::new(alloc, y)?;
     Ok((Stmt::Reg { x, y }, rest))
@@ -62,56 +65,59 @@ fn reg_at(alloc: Global, total: usize, text: &[u8]) -> Result<(Stmt, &[u8]), Par
 
 // `dereg(x);`, behind its first word.
 #[tactic(auto, unfolding(crate::specs::inside::Reading::dereg_at))]
-fn dereg_at(alloc: Global, total: usize, text: &[u8]) -> Result<(Stmt, &[u8]), ParseEnd>
-    requires within { length text.now ≤ total }
-    requires small { total < 2 ^ 32 }
-    ensures exact { Gives (λ x. (x.0, x.1.now)) result (dereg_at total text.now) }
+fn dereg_at(alloc: Global, scan: Scan, text: &[u8]) -> Result<(Stmt, &[u8]), ParseEnd>
+    requires within { length text.now ≤ scan.total }
+    requires small { scan.total < 2 ^ 32 }
+    ensures exact { Gives (λ x. (x.0, x.1.now)) result (dereg_at scan text.now) }
     ensures no_longer { IfOk result (λ x. length x.1.now ≤ length text.now) }
     ensures counted { IfOk result (λ x. count (followed_by x.0 done) + length x.1.now ≤ length text.now + 1) }
 {
-    let (x, rest) = named_at(total, text)?;
+    let (x, rest) = named_at(scan, text)?;
     let x = Name::new(alloc, x)?;
     Ok((Stmt::Dereg { x }, rest))
 }
 
 // `adv(x);`, behind its first word.
 #[tactic(auto, unfolding(crate::specs::inside::Reading::adv_at))]
-fn adv_at(alloc: Global, total: usize, text: &[u8]) -> Result<(Stmt, &[u8]), ParseEnd>
-    requires within { length text.now ≤ total }
-    requires small { total < 2 ^ 32 }
-    ensures exact { Gives (λ x. (x.0, x.1.now)) result (adv_at total text.now) }
+fn adv_at(alloc: Global, scan: Scan, text: &[u8]) -> Result<(Stmt, &[u8]), ParseEnd>
+    requires within { length text.now ≤ scan.total }
+    requires small { scan.total < 2 ^ 32 }
+    ensures exact { Gives (λ x. (x.0, x.1.now)) result (adv_at scan text.now) }
     ensures no_longer { IfOk result (λ x. length x.1.now ≤ length text.now) }
     ensures counted { IfOk result (λ x. count (followed_by x.0 done) + length x.1.now ≤ length text.now + 1) }
 {
-    let (x, rest) = named_at(total, text)?;
+    let (x, rest) = named_at(scan, text)?;
     let x = Name::new(alloc, x)?;
     Ok((Stmt::Adv { x }, rest))
 }
 
-// `await(x);`, behind its first word.
+// `await(x);`, `await(x - k);` or `await(x + k);`, behind its first word.
 #[tactic(auto, unfolding(crate::specs::inside::Reading::await_at))]
-fn await_at(alloc: Global, total: usize, text: &[u8]) -> Result<(Stmt, &[u8]), ParseEnd>
-    requires within { length text.now ≤ total }
-    requires small { total < 2 ^ 32 }
-    ensures exact { Gives (λ x. (x.0, x.1.now)) result (await_at total text.now) }
+fn await_at(alloc: Global, scan: Scan, text: &[u8]) -> Result<(Stmt, &[u8]), ParseEnd>
+    requires within { length text.now ≤ scan.total }
+    requires small { scan.total < 2 ^ 32 }
+    ensures exact { Gives (λ x. (x.0, x.1.now)) result (await_at scan text.now) }
     ensures no_longer { IfOk result (λ x. length x.1.now ≤ length text.now) }
     ensures counted { IfOk result (λ x. count (followed_by x.0 done) + length x.1.now ≤ length text.now + 1) }
 {
-    let (x, rest) = named_at(total, text)?;
+    let open = sign_at(scan, Sign::OpenParen, text)?;
+    let (x, after) = name_at(scan, open)?;
+    let (off, close) = offset_at(scan, after)?;
+    let rest = sign_at(scan, Sign::Semicolon, close)?;
     let x = Name::new(alloc, x)?;
-    Ok((Stmt::Await { x }, rest))
+    Ok((Stmt::Await { x, off }, rest))
 }
 
 // `skip;`, behind its first word.
 #[tactic(auto, unfolding(crate::specs::inside::Reading::skip_at))]
-fn skip_at(total: usize, text: &[u8]) -> Result<(Stmt, &[u8]), ParseEnd>
-    requires within { length text.now ≤ total }
-    requires small { total < 2 ^ 32 }
-    ensures exact { Gives (λ x. (x.0, x.1.now)) result (skip_at total text.now) }
+fn skip_at(scan: Scan, text: &[u8]) -> Result<(Stmt, &[u8]), ParseEnd>
+    requires within { length text.now ≤ scan.total }
+    requires small { scan.total < 2 ^ 32 }
+    ensures exact { Gives (λ x. (x.0, x.1.now)) result (skip_at scan text.now) }
     ensures no_longer { IfOk result (λ x. length x.1.now ≤ length text.now) }
     ensures counted { IfOk result (λ x. count (followed_by x.0 done) + length x.1.now ≤ length text.now + 1) }
 {
-    let rest = sign_at(total, Sign::Semicolon, text)?;
+    let rest = sign_at(scan, Sign::Semicolon, text)?;
     Ok((Stmt::Skip, rest))
 }
 
@@ -129,49 +135,49 @@ fn ends_list(token: &Token) -> bool
 // `{`, statements, `}`
 #[cycle(read)]
 #[tactic(auto, unfolding(crate::specs::inside::Reading::block_at))]
-fn block_at(alloc: Global, total: usize, depth: u32, text: &[u8]) -> Result<(Body, &[u8]), ParseEnd>
-    requires within { length text.now ≤ total }
-    requires small { total < 2 ^ 32 }
+fn block_at(alloc: Global, scan: Scan, depth: u32, text: &[u8]) -> Result<(Body, &[u8]), ParseEnd>
+    requires within { length text.now ≤ scan.total }
+    requires small { scan.total < 2 ^ 32 }
     requires shallow { depth ≤ MAX_OPEN_BRACES }
-    ensures exact { (n : ℕ) → length text.now < n → Gives (λ x. (x.0, x.1.now)) result (block_at (statements_at n total) total depth text.now) }
+    ensures exact { (n : ℕ) → length text.now < n → Gives (λ x. (x.0, x.1.now)) result (block_at (statements_at n scan) scan depth text.now) }
     ensures counted { IfOk result (λ x. count x.0 + length x.1.now ≤ length text.now) }
 {
-    let open = opened_at(total, depth, text)?;
-    let (items, end) = statements_at(alloc, total, depth + 1, open)?;
-    let rest = sign_at(total, Sign::CloseBrace, end)?;
+    let open = opened_at(scan, depth, text)?;
+    let (items, end) = statements_at(alloc, scan, depth + 1, open)?;
+    let rest = sign_at(scan, Sign::CloseBrace, end)?;
     Ok((Body::new(items), rest))
 }
 
 // `fork(x) { .. }`, behind its first word.
 #[cycle(read)]
 #[tactic(auto, unfolding(crate::specs::inside::Reading::fork_at))]
-fn fork_at(alloc: Global, total: usize, depth: u32, text: &[u8]) -> Result<(Stmt, &[u8]), ParseEnd>
-    requires within { length text.now ≤ total }
-    requires small { total < 2 ^ 32 }
+fn fork_at(alloc: Global, scan: Scan, depth: u32, text: &[u8]) -> Result<(Stmt, &[u8]), ParseEnd>
+    requires within { length text.now ≤ scan.total }
+    requires small { scan.total < 2 ^ 32 }
     requires shallow { depth ≤ MAX_OPEN_BRACES }
-    ensures exact { (n : ℕ) → length text.now < n → Gives (λ x. (x.0, x.1.now)) result (fork_at (statements_at n total) total depth text.now) }
+    ensures exact { (n : ℕ) → length text.now < n → Gives (λ x. (x.0, x.1.now)) result (fork_at (statements_at n scan) scan depth text.now) }
     ensures no_longer { IfOk result (λ x. length x.1.now ≤ length text.now) }
     ensures counted { IfOk result (λ x. count (followed_by x.0 done) + length x.1.now ≤ length text.now + 1) }
 {
-    let (x, after) = in_parens_at(total, text)?;
+    let (x, after) = in_parens_at(scan, text)?;
     let x = Name::new(alloc, x)?;
-    let (body, rest) = block_at(alloc, total, depth, after)?;
+    let (body, rest) = block_at(alloc, scan, depth, after)?;
     Ok((Stmt::Fork { x, body }, rest))
 }
 
 // `loop k { .. }`, behind its first word.
 #[cycle(read)]
 #[tactic(auto, unfolding(crate::specs::inside::Reading::loop_at))]
-fn loop_at(alloc: Global, total: usize, depth: u32, text: &[u8]) -> Result<(Stmt, &[u8]), ParseEnd>
-    requires within { length text.now ≤ total }
-    requires small { total < 2 ^ 32 }
+fn loop_at(alloc: Global, scan: Scan, depth: u32, text: &[u8]) -> Result<(Stmt, &[u8]), ParseEnd>
+    requires within { length text.now ≤ scan.total }
+    requires small { scan.total < 2 ^ 32 }
     requires shallow { depth ≤ MAX_OPEN_BRACES }
-    ensures exact { (n : ℕ) → length text.now < n → Gives (λ x. (x.0, x.1.now)) result (loop_at (statements_at n total) total depth text.now) }
+    ensures exact { (n : ℕ) → length text.now < n → Gives (λ x. (x.0, x.1.now)) result (loop_at (statements_at n scan) scan depth text.now) }
     ensures no_longer { IfOk result (λ x. length x.1.now ≤ length text.now) }
     ensures counted { IfOk result (λ x. count (followed_by x.0 done) + length x.1.now ≤ length text.now + 1) }
 {
-    let (k, after) = number_at(total, text)?;
-    let (body, rest) = block_at(alloc, total, depth, after)?;
+    let (k, after) = number_at(scan, text)?;
+    let (body, rest) = block_at(alloc, scan, depth, after)?;
     Ok((Stmt::Loop { k, body }, rest))
 }
 
@@ -179,31 +185,31 @@ fn loop_at(alloc: Global, total: usize, depth: u32, text: &[u8]) -> Result<(Stmt
 #[cycle(read)]
 fn statement_in<'a>(
     alloc: Global,
-    total: usize,
+    scan: Scan,
     depth: u32,
     token: Token,
     before: &[u8],
     text: &'a [u8],
 ) -> Result<(Stmt, &'a [u8]), ParseEnd>
-    requires within { length text.now ≤ total }
-    requires before_within { length before.now ≤ total }
-    requires small { total < 2 ^ 32 }
+    requires within { length text.now ≤ scan.total }
+    requires before_within { length before.now ≤ scan.total }
+    requires small { scan.total < 2 ^ 32 }
     requires shallow { depth ≤ MAX_OPEN_BRACES }
     requires name { HasForm token }
-    ensures exact { (n : ℕ) → length text.now < n → Gives (λ x. (x.0, x.1.now)) result (statement_in (statements_at n total) total depth (token_of token.entry) before.now text.now) }
+    ensures exact { (n : ℕ) → length text.now < n → Gives (λ x. (x.0, x.1.now)) result (statement_in (statements_at n scan) scan depth (token_of token.entry) before.now text.now) }
     ensures no_longer { IfOk result (λ x. length x.1.now ≤ length text.now) }
     ensures counted { IfOk result (λ x. count (followed_by x.0 done) + length x.1.now ≤ length text.now + 1) }
 {
     match token {
-        Token::Name(x) => drawing_at(alloc, total, x, text),
-        Token::Word(Keyword::Reg) => reg_at(alloc, total, text),
-        Token::Word(Keyword::Dereg) => dereg_at(alloc, total, text),
-        Token::Word(Keyword::Adv) => adv_at(alloc, total, text),
-        Token::Word(Keyword::Await) => await_at(alloc, total, text),
-        Token::Word(Keyword::Skip) => skip_at(total, text),
-        Token::Word(Keyword::Fork) => fork_at(alloc, total, depth, text),
-        Token::Word(Keyword::Loop) => loop_at(alloc, total, depth, text),
-        _ => Err(ParseEnd::Syntax(unexpected(total, before))),
+        Token::Name(x) => drawing_at(alloc, scan, x, text),
+        Token::Word(Keyword::Reg) => reg_at(alloc, scan, text),
+        Token::Word(Keyword::Dereg) => dereg_at(alloc, scan, text),
+        Token::Word(Keyword::Adv) => adv_at(alloc, scan, text),
+        Token::Word(Keyword::Await) => await_at(alloc, scan, text),
+        Token::Word(Keyword::Skip) => skip_at(scan, text),
+        Token::Word(Keyword::Fork) => fork_at(alloc, scan, depth, text),
+        Token::Word(Keyword::Loop) => loop_at(alloc, scan, depth, text),
+        _ => Err(ParseEnd::Syntax(unexpected(scan, before))),
     }
 }
 
@@ -211,42 +217,95 @@ fn statement_in<'a>(
 #[cycle(read)]
 fn statements_at(
     alloc: Global,
-    total: usize,
+    scan: Scan,
     depth: u32,
     text: &[u8],
 ) -> Result<(Vec<Stmt>, &[u8]), ParseEnd>
-    requires within { length text.now ≤ total }
-    requires small { total < 2 ^ 32 }
+    requires within { length text.now ≤ scan.total }
+    requires small { scan.total < 2 ^ 32 }
     requires shallow { depth ≤ MAX_OPEN_BRACES }
-    ensures exact { (n : ℕ) → length text.now < n → Gives (λ x. (x.0.items, x.1.now)) result (statements_at n total depth text.now) }
+    ensures exact { (n : ℕ) → length text.now < n → Gives (λ x. (x.0.items, x.1.now)) result (statements_at n scan depth text.now) }
     ensures counted { IfOk result (λ x. count (tree_of x.0.items) + length x.1.now ≤ length text.now) }
 {
     let mut items = Vec::new(alloc);
     let mut rest = text;
     loop {
-        let (token, after) = next(total, rest)?;
+        let (token, after) = next(scan, rest)?;
         if ends_list(&token) {
             return Ok((items, rest));
         }
-        let (stmt, left) = statement_in(alloc, total, depth, token, rest, after)?;
+        let (stmt, left) = statement_in(alloc, scan, depth, token, rest, after)?;
         items.push(stmt)?;
         rest = left;
     }
 }
 
-// The program of a whole text, as a body.
-#[tactic(auto, unfolding(crate::specs::inside::Reading::program_at))]
-fn program_at(alloc: Global, text: &[u8]) -> Result<Body, ParseEnd>
-    requires { length text.now < 2 ^ 32 }
-    ensures exact { Gives (λ x. x) result (program_at text.now) }
+// The statements of a whole text, of which this is left behind the header.
+#[tactic(auto, unfolding(crate::specs::inside::Reading::body_at))]
+fn body_at(alloc: Global, scan: Scan, text: &[u8]) -> Result<Body, ParseEnd>
+    requires within { length text.now ≤ scan.total }
+    requires small { scan.total < 2 ^ 32 }
+    ensures exact { Gives (λ x. x) result (body_at scan text.now) }
     ensures counted { IfOk result (λ body. count body ≤ length text.now) }
 {
-    let total = text.len();
-    let (items, rest) = statements_at(alloc, total, 0, text)?;
-    match next(total, rest)? {
+    let (items, rest) = statements_at(alloc, scan, 0, text)?;
+    match next(scan, rest)? {
         (Token::End, _) => Ok(Body::new(items)),
-        _ => Err(ParseEnd::Syntax(unexpected(total, rest))),
+        _ => Err(ParseEnd::Syntax(unexpected(scan, rest))),
     }
+}
+
+// Whether the text is one of PL 2, and what is left behind its header.
+#[tactic(auto, unfolding(crate::specs::inside::Reading::header_at))]
+fn header_at(scan: Scan, text: &[u8]) -> Result<(bool, &[u8]), SyntaxFault>
+    requires within { length text.now ≤ scan.total }
+    requires small { scan.total < 2 ^ 32 }
+    ensures exact { result_seen (λ x. (x.0, x.1.now)) result ≡ header_at scan text.now }
+    ensures no_longer { IfOk result (λ x. length x.1.now ≤ length text.now) }
+{
+    let (first, after) = next(scan, text)?;
+    if !is_pl(&first) {
+        return Ok((false, text));
+    }
+    let (second, after) = next(scan, after)?;
+    if !is_two(&second) {
+        return Ok((false, text));
+    }
+    let rest = sign_at(scan, Sign::Semicolon, after)?;
+    Ok((true, rest))
+}
+
+// Whether the token is the name `pl`.
+fn is_pl(token: &Token) -> bool
+    ensures { result ≡ is_pl (token_of token.now) }
+{
+    match token {
+        Token::Name(x) => *x == b"pl".as_slice(),
+        _ => false,
+    }
+}
+
+// Whether the token is the number 2.
+fn is_two(token: &Token) -> bool
+    ensures { result ≡ is_two (token_of token.now) }
+{
+    match token {
+        Token::Number(k) => *k == 2,
+        _ => false,
+    }
+}
+
+// The program of a whole text.
+#[tactic(auto, unfolding(crate::specs::inside::Reading::program_at))]
+fn program_at(alloc: Global, text: &[u8]) -> Result<Program, ParseEnd>
+    requires { length text.now < 2 ^ 32 }
+    ensures exact { Gives (λ x. x) result (program_at text.now) }
+    ensures counted { IfOk result (λ p. count p.body ≤ length text.now) }
+{
+    let total = text.len();
+    let (two, rest) = header_at(Scan { total, offsets: false }, text)?;
+    let body = body_at(alloc, Scan { total, offsets: two }, rest)?;
+    Ok(Program { two, body })
 }
 
 /// The program of a text, or its first fault. The text has at most 8,388,608 bytes.
@@ -256,18 +315,18 @@ pub fn parse(alloc: Global, text: &[u8]) -> Result<Program, ParseEnd>
     requires short { length text.now ≤ MAX_PARSED_BYTES }
 
     // What is answered is the program of the text, or its first fault, or that memory ran out.
-    ensures program { IfOk result (λ p. IsText text.now p.body) }
+    ensures program { IfOk result (λ p. IsText text.now p) }
     ensures fault { IfErr result (Explains text.now) }
 
     // Where the text has a program, or a first fault, that is answered, unless memory ran out.
-    ensures only_program { (p : Tree) → IsText text.now p → GivesProgram result p }
-    ensures only_fault { (f : SyntaxFault) → HasFault text.now f → GivesFault result f }
+    ensures only_program { (p : Parsed) → IsText text.now p → GivesProgram result p }
+    ensures only_fault { (f : Fault) → HasFault text.now f → GivesFault result f }
 
     // Each statement takes a byte or more.
     ensures few { IfOk result (λ p. count p.body ≤ length text.now) }
 {
     match program_at(alloc, text) {
-        Ok(body) => Ok(Program { body }),
+        Ok(program) => Ok(program),
         Err(end) => Err(end),
     }
 }

@@ -14,7 +14,7 @@ pub enum Keyword {
     Skip,
 }
 
-/// One of the seven bytes that are tokens by themselves.
+/// One of the nine bytes that are tokens by themselves; the last two are so in PL 2 alone.
 #[derive(Clone, Copy, Debug, PartialEq, Eq)]
 pub enum Sign {
     Equals,
@@ -24,6 +24,8 @@ pub enum Sign {
     Semicolon,
     OpenBrace,
     CloseBrace,
+    Plus,
+    Minus,
 }
 
 /// A token. The end of the text is the last one.

@@ -5,6 +5,7 @@ ghost use Rattle.pl_syntax.specs.Tree.{count, done};
 ghost use Rattle.pl_syntax.specs.Bodies.{followed_by, tree_of};
 
 use crate::name::Name;
+use armus_base::Offset;
 use std::marker::Model;
 
 /// A list of statements, seen as the tree of them: none, or the first one with those after it.
@@ -32,8 +33,8 @@ pub enum Stmt {
     Dereg { x: Name },
     /// `adv(x);` advances on phaser x.
     Adv { x: Name },
-    /// `await(x);` waits for the other members of phaser x.
-    Await { x: Name },
+    /// `await(x);` waits for the other members of phaser x; in PL 2 also `await(x + k);` and `await(x - k);`, which look ahead and back.
+    Await { x: Name, off: Offset },
     /// `skip;` does nothing.
     Skip,
     /// `loop k { .. }` runs this body k times.
@@ -90,9 +91,10 @@ impl Body {
     }
 }
 
-/// A program: the body of task 0.
+/// A program: whether it is one of PL 2, where tasks leave their phasers when they end and awaits may look ahead and back; and the body of task 0.
 #[derive(Debug, Drop)]
 pub struct Program {
+    pub two: bool,
     pub body: Body,
 }
 

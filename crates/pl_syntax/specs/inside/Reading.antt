@@ -1,18 +1,24 @@
 -- What each function of the reader gives, as a function on bytes. No public clause and no definition of the language names these:
 -- proofs/ shows that what they give is the tree of the grammar, or the first fault.
-use Rattle.std.specs.Prelude.{◌≡◌, ℕ, zero, suc, ◌+◌, ◌==◌, Bool, true, false, if◌then◌else◌, List, [], ◌∷◌, length, Result, Ok, Err, nat_lt}
+use Rattle.std.specs.Str.{bytes_eq}
+use Rattle.std.specs.Prelude.{codes, ◌≡◌, ℕ, zero, suc, ◌+◌, ◌==◌, Bool, true, false, if◌then◌else◌, List, [], ◌∷◌, length, Result, Ok, Err, nat_lt}
 use Rattle.pl_syntax.specs.declared.limits.TheConstants.{MAX_OPEN_BRACES}
 use Rattle.pl_syntax.specs.declared.fault.TheConstants.{CANNOT_STAND, TOO_DEEP}
 use Rattle.pl_syntax.specs.declared.token.Sign.{Sign}
-use Rattle.pl_syntax.specs.declared.token.Sign.TheVariants.{Equals, OpenParen, CloseParen, Comma, Semicolon, OpenBrace, CloseBrace}
+use Rattle.pl_syntax.specs.declared.token.Sign.TheVariants.{Equals, OpenParen, CloseParen, Comma, Semicolon, OpenBrace, CloseBrace, Plus, Minus}
 use Rattle.pl_syntax.specs.declared.token.Keyword.TheVariants as k
 use Rattle.pl_syntax.specs.declared.fault.SyntaxFault.{SyntaxFault}
 use Rattle.pl_syntax.specs.declared.fault.ParseEnd.{ParseEnd}
 use Rattle.pl_syntax.specs.declared.fault.ParseEnd.TheVariants as ends
+use Rattle.armus_base.specs.declared.offset.Offset.{Offset}
+use Rattle.armus_base.specs.declared.offset.Offset.TheVariants.{Ahead, Back, Here}
+use Rattle.pl_syntax.specs.declared.scan.Scan.{Scan}
+use Rattle.pl_syntax.specs.declared.tree.Program.{Program}
 use Rattle.pl_syntax.specs.declared.tree.Stmt.{Stmt}
 use Rattle.pl_syntax.specs.declared.tree.Stmt.TheVariants as s
 use Rattle.pl_syntax.specs.Tree.{Tree}
 use Rattle.pl_syntax.specs.Bodies.{tree_of}
+use Rattle.pl_syntax.specs.Grammar.{scan_of}
 use Rattle.pl_syntax.specs.Tokens.{Token, the_end, sign, word, name, number, front, place}
 
 infixl 10 ◌>>=◌
@@ -45,98 +51,118 @@ sign_number Comma = 3
 sign_number Semicolon = 4
 sign_number OpenBrace = 5
 sign_number CloseBrace = 6
+sign_number Plus = 7
+sign_number Minus = 8
 
 -- the fault of the next token, which cannot stand here
-abbrev pub unexpected : ℕ → List ℕ → SyntaxFault
-unexpected total text = record { at = place total text; kind = CANNOT_STAND }
+abbrev pub unexpected : Scan → List ℕ → SyntaxFault
+unexpected scan text = record { at = place scan text; kind = CANNOT_STAND }
 
 -- what is left behind this token, where it is this sign
-abbrev pub sign_in : ℕ → Sign → List ℕ → Token → List ℕ → Result (List ℕ) SyntaxFault
-sign_in total s text (sign found) rest = if sign_number found == sign_number s then Ok rest else Err (unexpected total text)
-sign_in total s text the_end rest = Err (unexpected total text)
-sign_in total s text (word _) rest = Err (unexpected total text)
-sign_in total s text (name _) rest = Err (unexpected total text)
-sign_in total s text (number _) rest = Err (unexpected total text)
+abbrev pub sign_in : Scan → Sign → List ℕ → Token → List ℕ → Result (List ℕ) SyntaxFault
+sign_in scan s text (sign found) rest = if sign_number found == sign_number s then Ok rest else Err (unexpected scan text)
+sign_in scan s text the_end rest = Err (unexpected scan text)
+sign_in scan s text (word _) rest = Err (unexpected scan text)
+sign_in scan s text (name _) rest = Err (unexpected scan text)
+sign_in scan s text (number _) rest = Err (unexpected scan text)
 
 -- the text after this sign
-unfoldable pub sign_at : ℕ → Sign → List ℕ → Result (List ℕ) SyntaxFault
-sign_at total s text = front total text >>= λ x. sign_in total s text x.0 x.1
+unfoldable pub sign_at : Scan → Sign → List ℕ → Result (List ℕ) SyntaxFault
+sign_at scan s text = front scan text >>= λ x. sign_in scan s text x.0 x.1
 
 -- this token as a name
-abbrev pub name_in : ℕ → List ℕ → Token → List ℕ → Result (List ℕ × List ℕ) SyntaxFault
-name_in total text (name x) rest = Ok (x, rest)
-name_in total text the_end rest = Err (unexpected total text)
-name_in total text (sign _) rest = Err (unexpected total text)
-name_in total text (word _) rest = Err (unexpected total text)
-name_in total text (number _) rest = Err (unexpected total text)
+abbrev pub name_in : Scan → List ℕ → Token → List ℕ → Result (List ℕ × List ℕ) SyntaxFault
+name_in scan text (name x) rest = Ok (x, rest)
+name_in scan text the_end rest = Err (unexpected scan text)
+name_in scan text (sign _) rest = Err (unexpected scan text)
+name_in scan text (word _) rest = Err (unexpected scan text)
+name_in scan text (number _) rest = Err (unexpected scan text)
 
 -- a name, and the text after it
-unfoldable pub name_at : ℕ → List ℕ → Result (List ℕ × List ℕ) SyntaxFault
-name_at total text = front total text >>= λ x. name_in total text x.0 x.1
+unfoldable pub name_at : Scan → List ℕ → Result (List ℕ × List ℕ) SyntaxFault
+name_at scan text = front scan text >>= λ x. name_in scan text x.0 x.1
 
 -- this token as a number
-abbrev pub number_in : ℕ → List ℕ → Token → List ℕ → Result (ℕ × List ℕ) SyntaxFault
-number_in total text (number n) rest = Ok (n, rest)
-number_in total text the_end rest = Err (unexpected total text)
-number_in total text (sign _) rest = Err (unexpected total text)
-number_in total text (word _) rest = Err (unexpected total text)
-number_in total text (name _) rest = Err (unexpected total text)
+abbrev pub number_in : Scan → List ℕ → Token → List ℕ → Result (ℕ × List ℕ) SyntaxFault
+number_in scan text (number n) rest = Ok (n, rest)
+number_in scan text the_end rest = Err (unexpected scan text)
+number_in scan text (sign _) rest = Err (unexpected scan text)
+number_in scan text (word _) rest = Err (unexpected scan text)
+number_in scan text (name _) rest = Err (unexpected scan text)
 
 -- a number, and what is left behind it
-unfoldable pub number_at : ℕ → List ℕ → Result (ℕ × List ℕ) SyntaxFault
-number_at total text = front total text >>= λ x. number_in total text x.0 x.1
+unfoldable pub number_at : Scan → List ℕ → Result (ℕ × List ℕ) SyntaxFault
+number_at scan text = front scan text >>= λ x. number_in scan text x.0 x.1
 
 -- whether a task is made, or a phaser
-abbrev pub maker_in : ℕ → List ℕ → Token → List ℕ → Result (Bool × List ℕ) SyntaxFault
-maker_in total text (word k.NewTid) rest = Ok (true, rest)
-maker_in total text (word k.NewPhaser) rest = Ok (false, rest)
-maker_in total text _ rest = Err (unexpected total text)
+abbrev pub maker_in : Scan → List ℕ → Token → List ℕ → Result (Bool × List ℕ) SyntaxFault
+maker_in scan text (word k.NewTid) rest = Ok (true, rest)
+maker_in scan text (word k.NewPhaser) rest = Ok (false, rest)
+maker_in scan text _ rest = Err (unexpected scan text)
 
 -- the same of the next token
-unfoldable pub maker_at : ℕ → List ℕ → Result (Bool × List ℕ) SyntaxFault
-maker_at total text = front total text >>= λ x. maker_in total text x.0 x.1
+unfoldable pub maker_at : Scan → List ℕ → Result (Bool × List ℕ) SyntaxFault
+maker_at scan text = front scan text >>= λ x. maker_in scan text x.0 x.1
 
 -- `( x )`
-unfoldable pub in_parens_at : ℕ → List ℕ → Result (List ℕ × List ℕ) SyntaxFault
-in_parens_at total text = do
-  open_ ← sign_at total OpenParen text
-  x ← name_at total open_
-  close ← sign_at total CloseParen x.1
+unfoldable pub in_parens_at : Scan → List ℕ → Result (List ℕ × List ℕ) SyntaxFault
+in_parens_at scan text = do
+  open_ ← sign_at scan OpenParen text
+  x ← name_at scan open_
+  close ← sign_at scan CloseParen x.1
   Ok (x.0, close)
 
 -- `( x ) ;`
-unfoldable pub named_at : ℕ → List ℕ → Result (List ℕ × List ℕ) SyntaxFault
-named_at total text = do
-  x ← in_parens_at total text
-  rest ← sign_at total Semicolon x.1
+unfoldable pub named_at : Scan → List ℕ → Result (List ℕ × List ℕ) SyntaxFault
+named_at scan text = do
+  x ← in_parens_at scan text
+  rest ← sign_at scan Semicolon x.1
   Ok (x.0, rest)
 
 -- `( x , y ) ;`
-unfoldable pub pair_at : ℕ → List ℕ → Result (List ℕ × List ℕ × List ℕ) SyntaxFault
-pair_at total text = do
-  open_ ← sign_at total OpenParen text
-  x ← name_at total open_
-  comma ← sign_at total Comma x.1
-  y ← name_at total comma
-  close ← sign_at total CloseParen y.1
-  rest ← sign_at total Semicolon close
+unfoldable pub pair_at : Scan → List ℕ → Result (List ℕ × List ℕ × List ℕ) SyntaxFault
+pair_at scan text = do
+  open_ ← sign_at scan OpenParen text
+  x ← name_at scan open_
+  comma ← sign_at scan Comma x.1
+  y ← name_at scan comma
+  close ← sign_at scan CloseParen y.1
+  rest ← sign_at scan Semicolon close
   Ok (x.0, y.0, rest)
 
 -- `= newTid ( ) ;` and the like
-unfoldable pub drawn_at : ℕ → List ℕ → Result (Bool × List ℕ) SyntaxFault
-drawn_at total text = do
-  equals ← sign_at total Equals text
-  maker ← maker_at total equals
-  open_ ← sign_at total OpenParen maker.1
-  close ← sign_at total CloseParen open_
-  rest ← sign_at total Semicolon close
+unfoldable pub drawn_at : Scan → List ℕ → Result (Bool × List ℕ) SyntaxFault
+drawn_at scan text = do
+  equals ← sign_at scan Equals text
+  maker ← maker_at scan equals
+  open_ ← sign_at scan OpenParen maker.1
+  close ← sign_at scan CloseParen open_
+  rest ← sign_at scan Semicolon close
   Ok (maker.0, rest)
 
+-- `k )`, as an offset
+unfoldable pub far_at : Scan → (ℕ → Offset) → List ℕ → Result (Offset × List ℕ) SyntaxFault
+far_at scan way text = do
+  k ← number_at scan text
+  close ← sign_at scan CloseParen k.1
+  Ok (way k.0, close)
+
+-- `)`, `- k )` or `+ k )`, from this token on
+abbrev pub offset_in : Scan → List ℕ → Token → List ℕ → Result (Offset × List ℕ) SyntaxFault
+offset_in scan text (sign CloseParen) rest = Ok (Here, rest)
+offset_in scan text (sign Minus) rest = far_at scan Back rest
+offset_in scan text (sign Plus) rest = far_at scan Ahead rest
+offset_in scan text _ rest = Err (unexpected scan text)
+
+-- `)`, `- k )` or `+ k )`
+unfoldable pub offset_at : Scan → List ℕ → Result (Offset × List ℕ) SyntaxFault
+offset_at scan text = front scan text >>= λ x. offset_in scan text x.0 x.1
+
 -- a brace, where so many are open before it
-unfoldable pub opened_at : ℕ → ℕ → List ℕ → Result (List ℕ) SyntaxFault
-opened_at total depth text = do
-  rest ← sign_at total OpenBrace text
-  if nat_lt depth MAX_OPEN_BRACES then Ok rest else Err (record { at = place total text; kind = TOO_DEEP })
+unfoldable pub opened_at : Scan → ℕ → List ℕ → Result (List ℕ) SyntaxFault
+opened_at scan depth text = do
+  rest ← sign_at scan OpenBrace text
+  if nat_lt depth MAX_OPEN_BRACES then Ok rest else Err (record { at = place scan text; kind = TOO_DEEP })
 
 -- ---- statements
 
@@ -145,39 +171,42 @@ drawn_stmt x true = s.NewTask x
 drawn_stmt x false = s.NewPhaser x
 
 -- the rest of a statement that begins with a name
-unfoldable pub drawing_at : ℕ → List ℕ → List ℕ → Result (Stmt × List ℕ) SyntaxFault
-drawing_at total x text = do
-  made ← drawn_at total text
+unfoldable pub drawing_at : Scan → List ℕ → List ℕ → Result (Stmt × List ℕ) SyntaxFault
+drawing_at scan x text = do
+  made ← drawn_at scan text
   Ok (drawn_stmt x made.0, made.1)
 
 -- `reg(x, y);`, behind its first word
-unfoldable pub reg_at : ℕ → List ℕ → Result (Stmt × List ℕ) SyntaxFault
-reg_at total text = do
-  p ← pair_at total text
+unfoldable pub reg_at : Scan → List ℕ → Result (Stmt × List ℕ) SyntaxFault
+reg_at scan text = do
+  p ← pair_at scan text
   Ok (s.Reg p.0 p.1, p.2)
 
 -- `dereg(x);`, behind its first word
-unfoldable pub dereg_at : ℕ → List ℕ → Result (Stmt × List ℕ) SyntaxFault
-dereg_at total text = do
-  x ← named_at total text
+unfoldable pub dereg_at : Scan → List ℕ → Result (Stmt × List ℕ) SyntaxFault
+dereg_at scan text = do
+  x ← named_at scan text
   Ok (s.Dereg x.0, x.1)
 
 -- `adv(x);`, behind its first word
-unfoldable pub adv_at : ℕ → List ℕ → Result (Stmt × List ℕ) SyntaxFault
-adv_at total text = do
-  x ← named_at total text
+unfoldable pub adv_at : Scan → List ℕ → Result (Stmt × List ℕ) SyntaxFault
+adv_at scan text = do
+  x ← named_at scan text
   Ok (s.Adv x.0, x.1)
 
--- `await(x);`, behind its first word
-unfoldable pub await_at : ℕ → List ℕ → Result (Stmt × List ℕ) SyntaxFault
-await_at total text = do
-  x ← named_at total text
-  Ok (s.Await x.0, x.1)
+-- `await(x);`, `await(x - k);` or `await(x + k);`, behind its first word
+unfoldable pub await_at : Scan → List ℕ → Result (Stmt × List ℕ) SyntaxFault
+await_at scan text = do
+  open_ ← sign_at scan OpenParen text
+  x ← name_at scan open_
+  off ← offset_at scan x.1
+  rest ← sign_at scan Semicolon off.1
+  Ok (s.Await x.0 off.0, rest)
 
 -- `skip;`, behind its first word
-unfoldable pub skip_at : ℕ → List ℕ → Result (Stmt × List ℕ) SyntaxFault
-skip_at total text = do
-  rest ← sign_at total Semicolon text
+unfoldable pub skip_at : Scan → List ℕ → Result (Stmt × List ℕ) SyntaxFault
+skip_at scan text = do
+  rest ← sign_at scan Semicolon text
   Ok (s.Skip, rest)
 
 -- what reads statements, where so many braces are open
@@ -185,38 +214,38 @@ abbrev pub Block : Type 0
 Block = ℕ → List ℕ → Result (List Stmt × List ℕ) SyntaxFault
 
 -- `{`, statements, `}`
-unfoldable pub block_at : Block → ℕ → ℕ → List ℕ → Result (Tree × List ℕ) SyntaxFault
-block_at body total depth text = do
-  open_ ← opened_at total depth text
+unfoldable pub block_at : Block → Scan → ℕ → List ℕ → Result (Tree × List ℕ) SyntaxFault
+block_at body scan depth text = do
+  open_ ← opened_at scan depth text
   inner ← body (depth + 1) open_
-  close ← sign_at total CloseBrace inner.1
+  close ← sign_at scan CloseBrace inner.1
   Ok (tree_of inner.0, close)
 
 -- `fork(x) { .. }`, behind its first word
-unfoldable pub fork_at : Block → ℕ → ℕ → List ℕ → Result (Stmt × List ℕ) SyntaxFault
-fork_at body total depth text = do
-  x ← in_parens_at total text
-  b ← block_at body total depth x.1
+unfoldable pub fork_at : Block → Scan → ℕ → List ℕ → Result (Stmt × List ℕ) SyntaxFault
+fork_at body scan depth text = do
+  x ← in_parens_at scan text
+  b ← block_at body scan depth x.1
   Ok (s.Fork x.0 b.0, b.1)
 
 -- `loop k { .. }`, behind its first word
-unfoldable pub loop_at : Block → ℕ → ℕ → List ℕ → Result (Stmt × List ℕ) SyntaxFault
-loop_at body total depth text = do
-  n ← number_at total text
-  b ← block_at body total depth n.1
+unfoldable pub loop_at : Block → Scan → ℕ → List ℕ → Result (Stmt × List ℕ) SyntaxFault
+loop_at body scan depth text = do
+  n ← number_at scan text
+  b ← block_at body scan depth n.1
   Ok (s.Loop n.0 b.0, b.1)
 
 -- the statement that this token begins; before is the text from that token on
-abbrev pub statement_in : Block → ℕ → ℕ → Token → List ℕ → List ℕ → Result (Stmt × List ℕ) SyntaxFault
-statement_in body total depth (name x) before text = drawing_at total x text
-statement_in body total depth (word k.Reg) before text = reg_at total text
-statement_in body total depth (word k.Dereg) before text = dereg_at total text
-statement_in body total depth (word k.Adv) before text = adv_at total text
-statement_in body total depth (word k.Await) before text = await_at total text
-statement_in body total depth (word k.Skip) before text = skip_at total text
-statement_in body total depth (word k.Fork) before text = fork_at body total depth text
-statement_in body total depth (word k.Loop) before text = loop_at body total depth text
-statement_in body total depth _ before text = Err (unexpected total before)
+abbrev pub statement_in : Block → Scan → ℕ → Token → List ℕ → List ℕ → Result (Stmt × List ℕ) SyntaxFault
+statement_in body scan depth (name x) before text = drawing_at scan x text
+statement_in body scan depth (word k.Reg) before text = reg_at scan text
+statement_in body scan depth (word k.Dereg) before text = dereg_at scan text
+statement_in body scan depth (word k.Adv) before text = adv_at scan text
+statement_in body scan depth (word k.Await) before text = await_at scan text
+statement_in body scan depth (word k.Skip) before text = skip_at scan text
+statement_in body scan depth (word k.Fork) before text = fork_at body scan depth text
+statement_in body scan depth (word k.Loop) before text = loop_at body scan depth text
+statement_in body scan depth _ before text = Err (unexpected scan before)
 
 -- a list of statements ends before these tokens
 abbrev pub ends_list : Token → Bool
@@ -225,25 +254,55 @@ ends_list (sign CloseBrace) = true
 ends_list _ = false
 
 -- The statements up to the end of a body or of the text. The number bounds how many there are; the length of the text is enough.
-unfoldable pub statements_at : ℕ → ℕ → Block
-statements_at zero total depth text = Ok ([], text)
-statements_at (suc n) total depth text =
-    front total text >>= λ x.
+unfoldable pub statements_at : ℕ → Scan → Block
+statements_at zero scan depth text = Ok ([], text)
+statements_at (suc n) scan depth text =
+    front scan text >>= λ x.
     if ends_list x.0 then Ok ([], text)
-    else (statement_in (statements_at n total) total depth x.0 text x.1 >>= λ one.
-    statements_at n total depth one.1 >>= λ more. Ok (one.0 ∷ more.0, more.1))
+    else (statement_in (statements_at n scan) scan depth x.0 text x.1 >>= λ one.
+    statements_at n scan depth one.1 >>= λ more. Ok (one.0 ∷ more.0, more.1))
 
 -- the tree of what was read, where this token is the end
-abbrev pub ended_at : ℕ → List Stmt → List ℕ → Token → Result Tree SyntaxFault
-ended_at total items text the_end = Ok (tree_of items)
-ended_at total items text (sign _) = Err (unexpected total text)
-ended_at total items text (word _) = Err (unexpected total text)
-ended_at total items text (name _) = Err (unexpected total text)
-ended_at total items text (number _) = Err (unexpected total text)
+abbrev pub ended_at : Scan → List Stmt → List ℕ → Token → Result Tree SyntaxFault
+ended_at scan items text the_end = Ok (tree_of items)
+ended_at scan items text (sign _) = Err (unexpected scan text)
+ended_at scan items text (word _) = Err (unexpected scan text)
+ended_at scan items text (name _) = Err (unexpected scan text)
+ended_at scan items text (number _) = Err (unexpected scan text)
+
+-- the statements of a whole text, of which this is left behind the header
+unfoldable pub body_at : Scan → List ℕ → Result Tree SyntaxFault
+body_at scan text = do
+  all ← statements_at (length text + 1) scan 0 text
+  last ← front scan all.1
+  ended_at scan all.0 all.1 last.0
+
+-- this token is the name `pl`
+abbrev pub is_pl : Token → Bool
+is_pl (name x) = bytes_eq x (codes "pl")
+is_pl _ = false
+
+-- this token is the number 2
+abbrev pub is_two : Token → Bool
+is_two (number k) = k == 2
+is_two _ = false
+
+-- behind `pl 2`, the text that is left behind the sign; and the whole text where it does not begin so
+abbrev pub behind_two : Scan → List ℕ → Token × List ℕ → Result (Bool × List ℕ) SyntaxFault
+behind_two scan text second =
+    if is_two second.0 then (sign_at scan Semicolon second.1 >>= λ rest. Ok (true, rest)) else Ok (false, text)
+
+abbrev pub behind_pl : Scan → List ℕ → Token × List ℕ → Result (Bool × List ℕ) SyntaxFault
+behind_pl scan text first =
+    if is_pl first.0 then (front scan first.1 >>= λ second. behind_two scan text second) else Ok (false, text)
+
+-- whether the text is one of PL 2, and what is left behind its header
+unfoldable pub header_at : Scan → List ℕ → Result (Bool × List ℕ) SyntaxFault
+header_at scan text = front scan text >>= λ first. behind_pl scan text first
 
 -- the program of a whole text
-unfoldable pub program_at : List ℕ → Result Tree SyntaxFault
+unfoldable pub program_at : List ℕ → Result Program SyntaxFault
 program_at text = do
-  all ← statements_at (length text + 1) (length text) 0 text
-  last ← front (length text) all.1
-  ended_at (length text) all.0 all.1 last.0
+  begun ← header_at (scan_of false text) text
+  body ← body_at (scan_of begun.0 text) begun.1
+  Ok (record { two = begun.0; body = body })

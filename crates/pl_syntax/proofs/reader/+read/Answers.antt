@@ -10,7 +10,7 @@ use Rattle.pl_syntax.proofs.Turns.{begins, fails_front, stops, fails_in, goes_on
 use Rattle.pl_syntax.proofs.reader.+read.Goals as goal
 
 pub statements_at-loop-items-init : goal.statements_at-loop-items-init
-statements_at-loop-items-init t c = rw c.new-items.ensures.items (begins c.args.total c.args.depth c.args.text.now, omega arith)
+statements_at-loop-items-init t c = rw c.new-items.ensures.items (begins c.args.scan c.args.depth c.args.text.now, omega arith)
 
 pub statements_at-returns-in_err-token-clause-exact : goal.statements_at-returns-in_err-token-clause-exact
 statements_at-returns-in_err-token-clause-exact t c = λ n h.

@@ -21,7 +21,7 @@ abbrev pub decreases-statements_at : goal.decreases-statements_at
 decreases-statements_at l = 5 * (MAX_OPEN_BRACES - l.depth) + 4
 
 abbrev pub invariant-statements_at-loop-items : goal.invariant-statements_at-loop-items
-invariant-statements_at-loop-items l = Turn l.items.items l.total l.depth l.rest l.text × (count (tree_of l.items.items) + length l.rest ≤ length l.text)
+invariant-statements_at-loop-items l = Turn l.items.items l.scan l.depth l.rest l.text × (count (tree_of l.items.items) + length l.rest ≤ length l.text)
 
 abbrev pub decreases-statements_at-loop-items : goal.decreases-statements_at-loop-items
 decreases-statements_at-loop-items l = length l.rest
