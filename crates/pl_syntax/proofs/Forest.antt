@@ -128,8 +128,7 @@ far_off : (way : ℕ → Offset) (s : Sign) (ss : List Shape) (d : ℕ) (ts : Li
     (off : Offset) × (us : List Token) × (sign s ∷ ts ≡ offset_tokens off (sign CloseParen ∷ us)) × Splits ss d us
 far_off way s ss d ts spelled h =
     let n = number_off (a_sign CloseParen ∷ ss) d ts h in
-    let c = sign_off CloseParen ss d n.1 refl n.3 in
-    (
+    let c = sign_off CloseParen ss d n.1 refl n.3 in (
       way n.0,
       c.0,
       ap (λ (x : List Token). sign s ∷ x) n.2 ∙ ap (λ (x : List Token). sign s ∷ number n.0 ∷ x) c.1 ∙ sym (spelled n.0 (sign CloseParen ∷ c.0)),

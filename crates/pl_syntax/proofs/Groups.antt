@@ -181,8 +181,7 @@ module _ (scan : Scan) where
   far_ok way text y e =
       let a = bind_ok (number_at scan text) _ y e in
       let c = bind_ok (sign_at scan CloseParen a.0.1) _ y a.2 in
-      let same = ok_is (way a.0.0, c.0) y c.2 in
-      (
+      let same = ok_is (way a.0.0, c.0) y c.2 in (
         a.0.0,
         ap (λ (z : Offset × List ℕ). z.0) same,
         subst (λ (z : List ℕ). Leads scan text (number a.0.0 ∷ sign CloseParen ∷ []) z) (ap (λ (z : Offset × List ℕ). z.1) same)

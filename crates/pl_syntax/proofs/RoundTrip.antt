@@ -315,7 +315,7 @@ module _ (scan : Scan) where
   far_line : (n : ℕ) (x : List ℕ) (c m : ℕ) (w : Token) (t : List ℕ) (us : List Token) (end : List ℕ) → ((r : List ℕ) → front scan (32 ∷ c ∷ r) ≡ Ok (w, r)) → IsName x → m ≤ MAX_NUMBER
       → Leads scan t us end
       → Leads scan (replicate n 32 ++ (codes "await(" ++ (x ++ (32 ∷ c ∷ 32 ∷ (decimal m ++ (41 ∷ 59 ∷ t))))))
-          (word k.Await ∷ sign OpenParen ∷ name x ∷ w ∷ number m ∷ sign CloseParen ∷ sign Semicolon ∷ us) end
+      (word k.Await ∷ sign OpenParen ∷ name x ∷ w ∷ number m ∷ sign CloseParen ∷ sign Semicolon ∷ us) end
   far_line n x c m w t us end f i small h =
       let b : List ℕ = 32 ∷ (decimal m ++ (41 ∷ 59 ∷ t)) in
       let a : List ℕ = x ++ (32 ∷ c ∷ b) in (

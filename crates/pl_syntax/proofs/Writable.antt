@@ -165,8 +165,7 @@ plain_is_writable scan (await x (Back k)) text us end h =
     let b = a.2 in
     let s = b.2 in
     let n = s.2 in
-    let z = n.2.2 in
-    (
+    let z = n.2.2 in (
       (name_in_front scan a.0 x b.0 b.1, number_in_front scan s.0 k n.0 n.1),
       λ off. absurd (let near : true ≡ false = near_in_front scan b.0 Minus s.0 off s.1 in cc),
       z.0,
@@ -177,8 +176,7 @@ plain_is_writable scan (await x (Ahead k)) text us end h =
     let b = a.2 in
     let s = b.2 in
     let n = s.2 in
-    let z = n.2.2 in
-    (
+    let z = n.2.2 in (
       (name_in_front scan a.0 x b.0 b.1, number_in_front scan s.0 k n.0 n.1),
       λ off. absurd (let near : true ≡ false = near_in_front scan b.0 Plus s.0 off s.1 in cc),
       z.0,

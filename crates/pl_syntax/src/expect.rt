@@ -5,12 +5,12 @@ ghost use Rattle.std.specs.Prelude.{if◌then◌else◌, ◌≡◌, ◌<◌, ◌
 ghost use Rattle.pl_syntax.specs.Words.{IsName};
 ghost use Rattle.pl_syntax.specs.inside.Reading.{result_seen, unexpected, sign_at, name_at, number_at, maker_at, in_parens_at, named_at, pair_at, drawn_at, opened_at, far_at, offset_at};
 
-use armus_base::Offset;
 use crate::fault::{CANNOT_STAND, SyntaxFault, TOO_DEEP};
 use crate::lexer::{next, place};
 use crate::limits::MAX_OPEN_BRACES;
 use crate::scan::Scan;
 use crate::token::{Keyword, Sign, Token};
+use armus_base::Offset;
 
 /// The fault of the next token, which cannot stand here.
 pub fn unexpected(scan: Scan, text: &[u8]) -> SyntaxFault

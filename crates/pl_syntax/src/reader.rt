@@ -1,9 +1,9 @@
 // From tokens to statements.
 
-ghost use Rattle.std.specs.Prelude.{◌≡◌, ℕ, ◌+◌, ◌<◌, ◌≤◌, ◌^◌, length, IfOk, IfErr};
+ghost use Rattle.std.specs.Prelude.{false, ◌≡◌, ℕ, ◌+◌, ◌<◌, ◌≤◌, ◌^◌, length, IfOk, IfErr};
 ghost use Rattle.pl_syntax.specs.Words.{IsName};
 ghost use Rattle.pl_syntax.specs.declared.tree.Program.{Program as Parsed};
-ghost use Rattle.pl_syntax.specs.Tree.{count, done};
+ghost use Rattle.pl_syntax.specs.Tree.{count, done, AllHere};
 ghost use Rattle.pl_syntax.specs.Bodies.{followed_by, tree_of};
 ghost use Rattle.pl_syntax.specs.inside.Seen.{token_of, HasForm};
 ghost use Rattle.pl_syntax.specs.declared.fault.SyntaxFault.{SyntaxFault as Fault};
@@ -303,8 +303,21 @@ fn program_at(alloc: Global, text: &[u8]) -> Result<Program, ParseEnd>
     ensures counted { IfOk result (λ p. count p.body ≤ length text.now) }
 {
     let total = text.len();
-    let (two, rest) = header_at(Scan { total, offsets: false }, text)?;
-    let body = body_at(alloc, Scan { total, offsets: two }, rest)?;
+    let (two, rest) = header_at(
+        Scan {
+            total,
+            offsets: false,
+        },
+        text,
+    )?;
+    let body = body_at(
+        alloc,
+        Scan {
+            total,
+            offsets: two,
+        },
+        rest,
+    )?;
     Ok(Program { two, body })
 }
 
@@ -321,6 +334,9 @@ pub fn parse(alloc: Global, text: &[u8]) -> Result<Program, ParseEnd>
     // Where the text has a program, or a first fault, that is answered, unless memory ran out.
     ensures only_program { (p : Parsed) → IsText text.now p → GivesProgram result p }
     ensures only_fault { (f : Fault) → HasFault text.now f → GivesFault result f }
+
+    // In PL 1 no await looks back or ahead.
+    ensures offsets { IfOk result (λ p. p.two ≡ false → AllHere p.body) }
 
     // Each statement takes a byte or more.
     ensures few { IfOk result (λ p. count p.body ≤ length text.now) }

@@ -61,6 +61,59 @@ fn first_faults(rt: HostRuntime) {
 }
 
 #[test]
+fn first_faults_of_pl_2(rt: HostRuntime) {
+    let rows: [(&[u8], Option<(u32, u8)>); 44] = [
+        (b"pl 2;", None),
+        (b"pl = newTid();", None),
+        (b"pl 2; pl = newTid();", None),
+        (b"pl//x\n2//y\n;", None),
+        (b"//c\rpl 2;", None),
+        (b"pl 2 // + \n;", None),
+        (b"pl 2;await(p+65535);", None),
+        (b"pl", Some((2, CANNOT_STAND))),
+        (b"pl 2", Some((4, CANNOT_STAND))),
+        (b"pl 2 ", Some((5, CANNOT_STAND))),
+        (b"pl;", Some((2, CANNOT_STAND))),
+        (b"pl 3;", Some((3, CANNOT_STAND))),
+        (b"pl 65535;", Some((3, CANNOT_STAND))),
+        (b"pl pl;", Some((3, CANNOT_STAND))),
+        (b"pl loop;", Some((3, CANNOT_STAND))),
+        (b"pl 02;", Some((3, NO_NUMBER))),
+        (b"pl 65536;", Some((3, NO_NUMBER))),
+        (b"pl 2x;", Some((3, NO_NUMBER))),
+        (b"pl 2 2;", Some((5, CANNOT_STAND))),
+        (b"pl 2{", Some((4, CANNOT_STAND))),
+        (b"pl + 2;", Some((3, NO_TOKEN))),
+        (b"pl 2+", Some((4, NO_TOKEN))),
+        (b"+pl 2;", Some((0, NO_TOKEN))),
+        (b"skip;+", Some((5, NO_TOKEN))),
+        (b"adv(+", Some((4, NO_TOKEN))),
+        (b"pl2;", Some((3, CANNOT_STAND))),
+        (b"PL 2;", Some((0, NO_TOKEN))),
+        (b"pl/2;", Some((2, NO_TOKEN))),
+        (b"pl 2;pl 2;", Some((8, CANNOT_STAND))),
+        (b"skip; pl 2;", Some((9, CANNOT_STAND))),
+        (b"loop 1{pl 2;}", Some((10, CANNOT_STAND))),
+        (b"pl 2;+", Some((5, CANNOT_STAND))),
+        (b"pl 2;await(p+);", Some((13, CANNOT_STAND))),
+        (b"pl 2;await(p+1", Some((14, CANNOT_STAND))),
+        (b"pl 2;await(+1);", Some((11, CANNOT_STAND))),
+        (b"pl 2;await(p 1);", Some((13, CANNOT_STAND))),
+        (b"pl 2;await(p + q);", Some((15, CANNOT_STAND))),
+        (b"pl 2;await(p+-1);", Some((13, CANNOT_STAND))),
+        (b"pl 2;await(p+1+1);", Some((14, CANNOT_STAND))),
+        (b"pl 2;await(p+01);", Some((13, NO_NUMBER))),
+        (b"pl 2;await(p+65536);", Some((13, NO_NUMBER))),
+        (b"pl 2;adv(p+1);", Some((10, CANNOT_STAND))),
+        (b"pl 2;reg(p+1, q);", Some((10, CANNOT_STAND))),
+        (b"pl 2;p - 1;", Some((7, CANNOT_STAND))),
+    ];
+    for (i, (text, wanted)) in rows.iter().enumerate() {
+        assert_eq!(rt; fault(&rt, rt.alloc(), text), *wanted, "row {i}");
+    }
+}
+
+#[test]
 fn limits_of_a_text(rt: HostRuntime) -> Result<(), Fail> {
     // 64 braces may be open; a token that cannot stand there is so before a brace is one too many.
     let mut deep = times(rt.alloc(), 64, b"loop 1{")?;
@@ -125,8 +178,13 @@ fn printed(rt: &impl Abort, alloc: Global, text: &[u8]) -> Result<List<u8>, Fail
 
 #[test]
 fn printed_forms(rt: HostRuntime) -> Result<(), Fail> {
-    let rows: [(&[u8], &[u8]); 5] = [
+    let rows: [(&[u8], &[u8]); 7] = [
         (b"", b""),
+        (b"pl 2;", b"pl 2;\n"),
+        (
+            b"pl 2;await(p+1);await( p-0 );await(p);",
+            b"pl 2;\nawait(p + 1);\nawait(p - 0);\nawait(p);\n",
+        ),
         (b"loop 2{skip;}//x", b"loop 2 {\n  skip;\n}\n"),
         (b"loop 3{}", b"loop 3 {\n}\n"),
         (
