@@ -180,5 +180,5 @@ plain_is (a_step.NewPhaser x) f l = tt
 plain_is (a_step.Reg x y) f l = tt
 plain_is (a_step.Dereg x) f l = tt
 plain_is (a_step.Adv x) f l = tt
-plain_is (a_step.Await x) f l = tt
+plain_is (a_step.Await x off) f l = tt
 plain_is a_step.Skip f l = tt

@@ -222,7 +222,7 @@ module _ (t n : ℕ) (s : UnfoldingState) where
   come_by (a_plain (reg x y)) = reg_by (s.names x) (s.names y)
   come_by (a_plain (dereg x)) = member_by (s.names x) (λ p. op.Drop (phaser p)) (λ p. with_member t p false s.members)
   come_by (a_plain (adv x)) = member_by (s.names x) (λ p. op.Adv (phaser p)) (λ p. s.members)
-  come_by (a_plain (await x)) = member_by (s.names x) (λ p. op.Await (phaser p)) (λ p. s.members)
+  come_by (a_plain (await x off)) = member_by (s.names x) (λ p. op.Await (phaser p) off) (λ p. s.members)
   come_by (a_plain skip) = refl
   come_by (a_fork x body) = fork_by (s.names x) (record { body = body; first = n + 1; names = s.names })
   come_by a_loop = refl

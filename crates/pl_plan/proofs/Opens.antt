@@ -7,6 +7,7 @@ use Rattle.armus_base.specs.Limits.{max_tasks, max_phasers}
 use Rattle.armus_base.specs.declared.ids.TaskId.{TaskId}
 use Rattle.armus_base.specs.declared.op.Op.{Op}
 use Rattle.armus_base.specs.Plans.{Plan}
+use Rattle.pl_syntax.specs.declared.tree.Program.{Program}
 use Rattle.pl_syntax.specs.Tree.{Tree}
 use Rattle.pl_plan.specs.declared.step.Step.{Step}
 use Rattle.pl_plan.specs.declared.fault.PlanEnd.{PlanEnd}
@@ -54,12 +55,12 @@ plan_is : (p : Plan) (parents : List (Option TaskId)) (makers : List TaskId) (co
 plan_is p parents makers codes a b c =
     ap (λ x. record p { parents = x }) a ∙ ap (λ x. record p { parents = parents; makers = x }) b ∙ ap (λ x. record p { parents = parents; makers = makers; codes = x }) c
 
-pub plan_found : (spelling : ℕ → List ℕ) (k : Checker) (tree : Tree) (plan : Plan) → ((s : UnfoldingState) × (unfold_tasks max_tasks 0 (opening_state tree) ≡ Ok s) × ShowsState spelling k s) → plan ≡ record { parents = k.parents; makers = k.makers; codes = k.codes } → plan_of tree ≡ Ok plan
+pub plan_found : (spelling : ℕ → List ℕ) (k : Checker) (program : Program) (plan : Plan) → ((s : UnfoldingState) × (unfold_tasks program.two max_tasks 0 (opening_state program.body) ≡ Ok s) × ShowsState spelling k s) → plan ≡ record { parents = k.parents; makers = k.makers; codes = k.codes } → plan_of program ≡ Ok plan
 unfolding plan_of
-plan_found spelling k tree plan w is =
+plan_found spelling k program plan w is =
     ap (λ o. o >>= λ s. Ok s.plan) w.1 ∙ ap Ok (plan_is w.0.plan k.parents k.makers k.codes w.2.parents w.2.makers w.2.codes ∙ sym is)
 
-pub plan_fault : (tree : Tree) (e : PlanEnd) (shows : UnfoldingState → Type 0) → Follows {A = Unit {0}} (Err e) (unfold_tasks max_tasks 0 (opening_state tree)) shows → (r : Result Plan PlanEnd) → r ≡ Err e → GivesOutcome r (plan_of tree)
+pub plan_fault : (program : Program) (e : PlanEnd) (shows : UnfoldingState → Type 0) → Follows {A = Unit {0}} (Err e) (unfold_tasks program.two max_tasks 0 (opening_state program.body)) shows → (r : Result Plan PlanEnd) → r ≡ Err e → GivesOutcome r (plan_of program)
 unfolding plan_of
-plan_fault tree ends.NoMemory shows g r is = subst (λ z. GivesOutcome z (plan_of tree)) (sym is) tt
-plan_fault tree (ends.Check f) shows g r is = subst (λ z. GivesOutcome z (plan_of tree)) (sym is) (ap (λ o. o >>= λ s. Ok s.plan) g)
+plan_fault program ends.NoMemory shows g r is = subst (λ z. GivesOutcome z (plan_of program)) (sym is) tt
+plan_fault program (ends.Check f) shows g r is = subst (λ z. GivesOutcome z (plan_of program)) (sym is) (ap (λ o. o >>= λ s. Ok s.plan) g)

@@ -6,7 +6,8 @@ use Rattle.armus_base.specs.declared.ids.TaskId.{TaskId}
 use Rattle.armus_base.specs.declared.op.Op.{Op}
 use Rattle.armus_base.specs.Plans.{Plan}
 use Rattle.armus_base.specs.CheckedPlans.{IsCheckedPlan}
-use Rattle.pl_syntax.specs.Tree.{Tree, count}
+use Rattle.pl_syntax.specs.declared.tree.Program.{Program}
+use Rattle.pl_syntax.specs.Tree.{AreNear, Tree, count}
 use Rattle.pl_plan.specs.declared.step.Step.{Step}
 use Rattle.pl_plan.specs.inside.Steps.{IsSpelled}
 use Rattle.pl_plan.specs.inside.Numbers.{spelling}
@@ -15,7 +16,7 @@ use Rattle.pl_plan.specs.inside.Checker.{Checker}
 use Rattle.pl_plan.specs.inside.Opening.{IsOpeningChecker}
 use Rattle.pl_plan.specs.inside.Shows.{ShowsState, IsNumbering}
 use Rattle.pl_plan.specs.Unfolding.{UnfoldingState, opening_state, unfold_tasks}
-use Rattle.pl_plan.proofs.Spelled.{spelled_count}
+use Rattle.pl_plan.proofs.Spelled.{spelled_count, spelled_near}
 use Rattle.pl_plan.proofs.Opens.{opens, plan_found}
 use Rattle.pl_plan.proofs.UnfoldedIsChecked.{unfolded_is_checked}
 
@@ -44,6 +45,11 @@ same_plan parents parents' makers makers' codes codes' p m c =
 
 -- what is kept last is a checked plan
 pub plan_checked :
-    (names : ℕ → List ℕ) (k : Checker) (tree : Tree) (plan : Plan) → (s : UnfoldingState) × (unfold_tasks max_tasks 0 (opening_state tree) ≡ Ok s) × ShowsState names k s →
+    (names : ℕ → List ℕ) (k : Checker) (program : Program) (plan : Plan) → AreNear program.body →
+    (s : UnfoldingState) × (unfold_tasks program.two max_tasks 0 (opening_state program.body) ≡ Ok s) × ShowsState names k s →
     plan ≡ record { parents = k.parents; makers = k.makers; codes = k.codes } → IsCheckedPlan plan
-plan_checked names k tree plan w is = unfolded_is_checked tree plan (plan_found names k tree plan w is)
+plan_checked names k program plan near w is = unfolded_is_checked program plan near (plan_found names k program plan w is)
+
+-- no await of a tree whose steps were added looks farther than it may
+pub added_near : (a b : List (Bor (List ℕ))) (old steps : List Step) (tree : Tree) → AddsSteps a b old steps tree → AreNear tree
+added_near a b old steps tree adds = spelled_near (length b) (spelling b) steps (length old) tree (length steps) adds.spelled

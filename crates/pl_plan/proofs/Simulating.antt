@@ -4,6 +4,7 @@ use Rattle.std.specs.Prelude.{slice_index_or, nat_lt, is_some, sum_by}
 use Rattle.std.proofs.lemmas.List.{length-append}
 use Rattle.pl_plan.specs.Limits.{max_visits}
 use Rattle.armus_base.specs.Limits.{max_tasks, max_phasers, max_ops}
+use Rattle.armus_base.specs.declared.offset.Offset.{Offset}
 use Rattle.armus_base.specs.declared.op.Op.{Op}
 use Rattle.armus_base.specs.declared.op.Op.TheVariants as op
 use Rattle.pl_syntax.specs.Tree.{Tree, new_task, new_phaser, reg, dereg, adv, await}
@@ -12,8 +13,8 @@ use Rattle.pl_plan.specs.declared.step.Thing as code
 use Rattle.pl_plan.specs.declared.step.Thing.TheVariants as a_thing
 use Rattle.pl_plan.specs.inside.Steps.{IsSpelled, IsList}
 use Rattle.pl_plan.specs.inside.Checker.{Checker, CheckerStart, IsInside, IsChecker, Keeps, slot_of, thing_at, with_task, with_maker, with_membership, started}
-use Rattle.pl_plan.specs.inside.CheckerSteps.{with_binding, thing_of, thing_named, member, checker_add, checker_new_task, checker_new_phaser, checker_unforked_child, checker_reg, checker_member, checker_dereg, checker_adv, checker_await, checker_fork, checker_count}
-use Rattle.pl_plan.specs.Unfolding.{UnfoldingState, Start, Thing, a_task, a_phaser, Outcome, ◌>>=◌, fault_unless, as_task, as_phaser, is_parent, unforked_child, member_of, task, phaser, add_op, act, act_fork, count_visit, with_member, assigned, not_member, already_member, not_drawn_here, already_forked, too_many_tasks, too_many_phasers, too_many_ops, too_many_visits}
+use Rattle.pl_plan.specs.inside.CheckerSteps.{with_binding, thing_of, thing_named, member, checker_add, checker_new_task, checker_new_phaser, checker_unforked_child, checker_reg, checker_member, checker_dereg, checker_adv, checker_await, checker_fork, checker_count, checker_leave}
+use Rattle.pl_plan.specs.Unfolding.{UnfoldingState, Start, Thing, a_task, a_phaser, Outcome, ◌>>=◌, fault_unless, as_task, as_phaser, is_parent, unforked_child, member_of, task, phaser, add_op, act, act_fork, count_visit, with_member, assigned, not_member, already_member, not_drawn_here, already_forked, too_many_tasks, too_many_phasers, too_many_ops, too_many_visits, leave}
 use Rattle.pl_plan.specs.inside.Shows.{ShowsState, MaybeStartShows}
 use Rattle.pl_plan.specs.inside.Simulates.{Simulates, KeepsAll}
 use Rattle.pl_plan.proofs.Keeping.{fits_pushed, fits_marked, fits_started, fits_task, fits_maker, fits_binding, slotted_fits}
@@ -145,9 +146,22 @@ module _ (names : ℕ → List ℕ) (k : Checker) (s : UnfoldingState) (f : IsCh
   unfolding checker_adv act
   simulates_adv x here = simulates_member names k s f h t n x _ _ here (λ p lt. simulates_add names k s f h t n (op.Adv (phaser p)) has_code)
 
-  pub simulates_await : (x : ℕ) → x < length k.slots → Simulates names (checker_await t n x k) (act t n (await (names x)) s)
+  pub simulates_await : (x : ℕ) (off : Offset) → x < length k.slots → Simulates names (checker_await t n x off k) (act t n (await (names x) off) s)
   unfolding checker_await act
-  simulates_await x here = simulates_member names k s f h t n x _ _ here (λ p lt. simulates_add names k s f h t n (op.Await (phaser p)) has_code)
+  simulates_await x off here = simulates_member names k s f h t n x _ _ here (λ p lt. simulates_add names k s f h t n (op.Await (phaser p) off) has_code)
+
+  pub simulates_leave : (p : ℕ) → p < max_phasers → Simulates names (checker_leave t n p k) (leave t n p s)
+  unfolding checker_leave leave
+  simulates_leave p few =
+      subst (λ (b : Bool). Simulates names (if member k t p then checker_add t n (op.Drop (phaser p)) (with_membership t p false k) else Ok k)
+      (if b then add_op t n (op.Drop (phaser p)) (with_members (with_member t p false s.members) s) else Ok s)) (sym (h.members t p few)) (by (member k t p))
+    where
+      by : (b : Bool) → Simulates names (if b then checker_add t n (op.Drop (phaser p)) (with_membership t p false k) else Ok k)
+          (if b then add_op t n (op.Drop (phaser p)) (with_members (with_member t p false s.members) s) else Ok s)
+      by true =
+          simulates_add names (with_membership t p false k) _ (fits_marked k t p false f) (shows_marked names k s t p false (omega (arith, f.few)) few f.all h) t n
+          (op.Drop (phaser p)) has_code
+      by false = (s, refl, h)
 
   pub simulates_reg : (x y : ℕ) → x < length k.slots → y < length k.slots → Simulates names (checker_reg t n x y k) (act t n (reg (names x) (names y)) s)
   unfolding checker_reg act
@@ -257,9 +271,17 @@ module _ (k : Checker) (f : IsChecker k) where
   unfolding checker_adv
   keeps_adv t n x = keeps_member t n x _ (λ p. keeps_add k k t n (op.Adv (phaser p)) keeps_itself)
 
-  pub keeps_await : (t n x : ℕ) → KeepsAll k (checker_await t n x k)
+  pub keeps_await : (t n x : ℕ) (off : Offset) → KeepsAll k (checker_await t n x off k)
   unfolding checker_await
-  keeps_await t n x = keeps_member t n x _ (λ p. keeps_add k k t n (op.Await (phaser p)) keeps_itself)
+  keeps_await t n x off = keeps_member t n x _ (λ p. keeps_add k k t n (op.Await (phaser p) off) keeps_itself)
+
+  pub keeps_leave : (t n p : ℕ) → KeepsAll k (checker_leave t n p k)
+  unfolding checker_leave
+  keeps_leave t n p = by (member k t p)
+    where
+      by : (b : Bool) → KeepsAll k (if b then checker_add t n (op.Drop (phaser p)) (with_membership t p false k) else Ok k)
+      by true = keeps_add k (with_membership t p false k) t n (op.Drop (phaser p)) (keeps_marked t p false)
+      by false = keeps_itself
 
   pub keeps_reg : (t n x y : ℕ) → KeepsAll k (checker_reg t n x y k)
   unfolding checker_reg

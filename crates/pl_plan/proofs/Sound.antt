@@ -1,5 +1,5 @@
 -- What holds of a state of the unfolding while task t is unfolded, and how it is kept while the plan grows.
-use Rattle.std.proofs.Common.{◌≡◌, ◌≢◌, ℕ, ◌+◌, ◌-◌, ◌<◌, ◌≤◌, Bool, true, false, Some, None, List, [], length, arith, sym, ◌∙◌, ap, subst, refl, inl, inr, ◌⊎◌}
+use Rattle.std.proofs.Common.{◌≡◌, ◌≢◌, ℕ, ◌+◌, ◌-◌, ◌<◌, ◌≤◌, Bool, true, false, Option, Some, None, List, [], length, arith, sym, ◌∙◌, ap, subst, refl, inl, inr, ◌⊎◌}
 use Rattle.std.specs.Prelude.{slice_get, slice_index_or, is_some}
 use Rattle.std.proofs.lemmas.Bool.{cases_lt, cases_eq, false≢true}
 use Rattle.std.proofs.lemmas.List.{length-append}
@@ -9,7 +9,8 @@ use Rattle.armus_base.specs.CheckedPlans.{Grows, HasFork, HasTables, IsCheckedPl
 use Rattle.armus_base.proofs.Codes.{child_within, phaser_within}
 use Rattle.armus_base.proofs.Fixed.{action_within}
 use Rattle.armus_base.proofs.PlanGrows.{plan_grows}
-use Rattle.pl_plan.specs.Unfolding.{UnfoldingState}
+use Rattle.pl_syntax.specs.Tree.{AreNear}
+use Rattle.pl_plan.specs.Unfolding.{UnfoldingState, Start}
 use Rattle.pl_plan.proofs.Growth.{own_steps, register_steps, last_phases, parents_same, other_at, own_at, new_at, last_grown, first_grown, first_kept}
 
 -- no task above t has a code yet, and none of them has drawn a task or made a phaser
@@ -22,6 +23,11 @@ pub record IsAt (t : ℕ) (plan : Plan) : Type 0 where
 abbrev pub is_begun : UnfoldingState → ℕ → Bool
 is_begun s c = is_some (slice_index_or s.starts c None)
 
+-- no await of the body with which a task was forked looks farther than it may
+abbrev pub NearStart : Option Start → Type 0
+NearStart None = Unit {0}
+NearStart (Some start) = AreNear start.body
+
 -- The plan so far is checked, exactly the forked tasks have a start, and the members of phasers are those that the plan fixes: for the current task
 -- after all its actions, for a later one with what it is registered so far.
 pub record IsSound (t : ℕ) (s : UnfoldingState) : Type 0 where
@@ -32,6 +38,7 @@ pub record IsSound (t : ℕ) (s : UnfoldingState) : Type 0 where
   pub unforked : (c j : ℕ) → is_begun s c ≡ false → action_at s.plan (parent_of s.plan c) j ≢ Some (Forks c)
   pub members : (u p : ℕ) → t ≤ u → u < length s.plan.parents → s.members u p ≡ is_some (last_phases s.plan u p)
   pub outside : (u p : ℕ) → length s.plan.parents ≤ u → s.members u p ≡ false
+  pub near : (c : ℕ) → NearStart (slice_index_or s.starts c None)
 
 -- the same while task t, which is forked, acts
 pub record IsActing (t : ℕ) (s : UnfoldingState) : Type 0 where
@@ -52,6 +59,7 @@ pub record HasStarts (t : ℕ) (s s' : UnfoldingState) (new : List Action) : Typ
   pub stay : (c : ℕ) → is_begun s c ≡ true → is_begun s' c ≡ true
   pub begins : (c : ℕ) → is_begun s' c ≡ true → (is_begun s c ≡ true) ⊎ ((parent_of s'.plan c ≡ t) × (slice_get new 0 ≡ Some (Forks c)))
   pub forks : (i c : ℕ) → slice_get new i ≡ Some (Forks c) → is_begun s' c ≡ true
+  pub near : (c : ℕ) → NearStart (slice_index_or s'.starts c None)
 
 -- the new actions change the members as they change the phases
 pub record HasMembers (t : ℕ) (s s' : UnfoldingState) (new : List Action) : Type 0 where
@@ -225,6 +233,7 @@ module _ (t : ℕ) (s s' : UnfoldingState) (a : IsActing t s) (grows : Grows s.p
                   unforked = unforked_now;
                   members = members_now;
                   outside = λ u p l. members.outside u p (omega (arith, more_tasks));
+                  near = starts.near;
                 };
             here = omega (arith, a.here, more_tasks);
             begun = starts.stay t a.begun;

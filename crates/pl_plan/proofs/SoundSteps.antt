@@ -1,6 +1,6 @@
 -- Each visit keeps a state of the unfolding sound.
 use Rattle.std.proofs.Common.{◌≡◌, ◌≢◌, ℕ, zero, suc, ◌+◌, ◌<◌, ◌≤◌, Bool, true, false, not, Some, None, Ok, Err, Option, List, [], ◌∷◌, ◌++◌, length, arith, sym, ◌∙◌, ap, subst, refl, inl, inr, ◌⊎◌}
-use Rattle.std.specs.Prelude.{slice_get, slice_set, slice_index_or, is_some, nat_lt, sum_by}
+use Rattle.std.specs.Prelude.{slice_get, slice_set, slice_index_or, is_some, nat_lt, sum_by, if◌then◌else◌}
 use Rattle.std.proofs.lemmas.Bool.{cases_lt, cases_eq, false≢true, eqb-true, ltb-true}
 use Rattle.std.proofs.lemmas.Bool.Decides.{nat_tests}
 use Rattle.std.proofs.lemmas.List.{append-nil, length-append, length-set, get_or-set_same, get_or-set_other, get_or_past}
@@ -9,6 +9,8 @@ use Rattle.std.proofs.lemmas.Option.{slice_get-get_or}
 use Rattle.pl_plan.specs.Limits.{max_visits}
 use Rattle.armus_base.specs.Limits.{max_tasks, max_phasers, max_ops}
 use Rattle.armus_base.specs.declared.ids.TaskId.{TaskId}
+use Rattle.armus_base.specs.declared.offset.Offset.{Offset}
+use Rattle.armus_base.specs.Offsets.{IsNear}
 use Rattle.armus_base.specs.declared.op.Op.{Op}
 use Rattle.armus_base.specs.declared.op.Op.TheVariants as op
 use Rattle.armus_base.specs.Plans.{Action, Makes, Registers, Forks, Advances, Drops, Blocks, Passes, IsParentOf, Plan, action_at, actions, actions_of, parent_of, maker_of}
@@ -17,12 +19,42 @@ use Rattle.armus_base.specs.Places.{first_phases, phases_after, register_step, r
 use Rattle.armus_base.specs.CheckedPlans.{Grows, HasTables, IsMemberAfter, IsWellFormed, IsWithinLimits, NotBefore}
 use Rattle.armus_base.proofs.Fixed.{first_phases_is, register_step_keeps}
 use Rattle.armus_base.proofs.Codes.{child_later, child_within, parent_is, phaser_within}
-use Rattle.pl_syntax.specs.Tree.{Plain, new_task, new_phaser, reg, dereg, adv, await, skip, Tree}
+use Rattle.pl_syntax.specs.Tree.{Plain, new_task, new_phaser, reg, dereg, adv, await, skip, Tree, AreNear, PlainIsNear, count, done, plain, fork, loop}
 use Rattle.pl_plan.proofs.Places.{at_set, at_more}
-use Rattle.pl_plan.specs.Unfolding.{Coming, a_plain, a_fork, a_loop, a_turn, Visit, come_to, make_visit, make_visits, UnfoldingState, Start, Names, Thing, a_task, a_phaser, Outcome, ◌>>=◌, fault_unless, as_task, as_phaser, is_parent, unforked_child, member_of, task, phaser, add_op, act, act_fork, count_visit, with_op, with_member, assigned, not_member, already_member, not_drawn_here, already_forked, too_many_tasks, too_many_phasers, too_many_ops, too_many_visits}
+use Rattle.pl_plan.specs.Unfolding.{Coming, a_plain, a_fork, a_loop, a_turn, Visit, come_to, make_visit, make_visits, UnfoldingState, Start, Names, Thing, a_task, a_phaser, Outcome, ◌>>=◌, fault_unless, as_task, as_phaser, is_parent, unforked_child, member_of, task, phaser, add_op, act, act_fork, count_visit, with_op, with_member, assigned, not_member, already_member, not_drawn_here, already_forked, too_many_tasks, too_many_phasers, too_many_ops, too_many_visits, visit, visits_of, times, leave, leave_below, ended, with_members}
 use Rattle.pl_plan.proofs.Growth.{own_steps, register_steps, last_phases, own_at, own_before, first_new, nobody_registers, stays_registered}
 use Rattle.pl_plan.proofs.Tables.{own_actions, other_actions, one_more_op, op_tables, with_maker, maker_new, makers_at_most, maker_tables, with_task, parent_new, parents_at_most, task_actions, task_tables, slice_get-last}
-use Rattle.pl_plan.proofs.Sound.{IsAt, IsActing, IsNew, HasStarts, HasMembers, is_begun, idle_phases, acts_on}
+use Rattle.pl_plan.proofs.Sound.{IsAt, IsActing, IsNew, HasStarts, HasMembers, is_begun, idle_phases, acts_on, NearStart}
+
+-- ---- awaits that look no farther than they may
+
+abbrev IsNearComing : Coming → Type 0
+IsNearComing (a_plain x) = PlainIsNear x
+IsNearComing (a_fork x body) = AreNear body
+IsNearComing c = Unit {0}
+
+abbrev AreNearVisits : List Visit → Type 0
+AreNearVisits [] = Unit {0}
+AreNearVisits (m ∷ ms) = IsNearComing m.coming × AreNearVisits ms
+
+near_more : (xs ys : List Visit) → AreNearVisits xs → AreNearVisits ys → AreNearVisits (xs ++ ys)
+near_more [] ys a b = b
+near_more (x ∷ xs) ys a b = (a.0, near_more xs ys a.1 b)
+
+near_times : (k : ℕ) (xs : List Visit) → AreNearVisits xs → AreNearVisits (times k xs)
+near_times zero xs a = tt
+near_times (suc k) xs a = near_more xs (times k xs) a (near_times k xs a)
+
+-- the visits of a body
+pub visits_near : (n : ℕ) (body : Tree) → AreNear body → AreNearVisits (visits_of n body)
+visits_near n done near = tt
+visits_near n (plain s rest) near = (near.0, visits_near (n + 1) rest near.1)
+visits_near n (fork x body rest) near = (near.0, visits_near (n + 1 + count body) rest near.1)
+visits_near n (loop k body rest) near = (
+  tt,
+  near_more (times k (visit n a_turn ∷ visits_of (n + 1) body)) (visits_of (n + 1 + count body) rest)
+      (near_times k (visit n a_turn ∷ visits_of (n + 1) body) (tt, visits_near (n + 1) body near.0)) (visits_near (n + 1 + count body) rest near.1),
+)
 
 -- ---- what holds of the state of an outcome
 
@@ -205,7 +237,7 @@ module _ (t : ℕ) (s : UnfoldingState) (a : IsActing t s) where
         (members : ℕ → ℕ → Bool) (names : Names) (visits : ℕ) → ((i c : ℕ) → slice_get (actions_of (o ∷ [])) i ≢ Some (Forks c)) →
         HasStarts t s (state_of (with_op t o s.plan) s.starts members names visits) (actions_of (o ∷ []))
     same_starts members names visits none =
-        record { many = a.sound.starts; stay = λ c e. e; begins = λ c e. inl e; forks = λ i c e. absurd (none i c e) }
+        record { many = a.sound.starts; stay = λ c e. e; begins = λ c e. inl e; forks = λ i c e. absurd (none i c e); near = a.sound.near }
 
     -- an op that registers nobody
     own_members :
@@ -259,17 +291,17 @@ module _ (t : ℕ) (s : UnfoldingState) (a : IsActing t s) where
       (own_members (op.Drop (phaser p)) s.starts (with_member t p false s.members) s.names s.visits
       (set_member t p false s.members (last_phases s.plan t) None members_own refl) (λ u q n. member_other t p false s.members u q n) (λ u m r. refl)))
 
-  await_acts : (p n : ℕ) → s.members t p ≡ true → OnState (IsActing t) (add_op t n (op.Await (phaser p)) s)
+  await_acts : (p n : ℕ) (off : Offset) → IsNear off → s.members t p ≡ true → OnState (IsActing t) (add_op t n (op.Await (phaser p) off) s)
   unfolding add_op
-  await_acts p n e =
+  await_acts p n off near e =
       on_fault_unless (IsActing t) (nat_lt (sum_by length s.plan.codes) max_ops) too_many_ops n _
-      (λ few. op_acts (op.Await (phaser p)) s.starts s.members s.names s.visits few
-      (new_op (op.Await (phaser p))
-      (two_new (Blocks p) (Passes p) (λ i x. IsWellFormed (with_op t (op.Await (phaser p)) s.plan) t (length (actions s.plan t) + i) x) (member_now (op.Await (phaser p)) p e) tt)
-      (λ i q f. two_new (Blocks p) (Passes p) (λ i x. (q : ℕ) → x ≢ Makes q) (λ q g. cc) (λ q g. cc) i (Makes q) f q refl))
-      (same_starts (op.Await (phaser p)) s.members s.names s.visits
-      (λ i c f. two_new (Blocks p) (Passes p) (λ i x. (c : ℕ) → x ≢ Forks c) (λ c g. cc) (λ c g. cc) i (Forks c) f c refl))
-      (own_members (op.Await (phaser p)) s.starts s.members s.names s.visits members_own (λ u q n. refl) (λ u m r. refl)))
+      (λ few. op_acts (op.Await (phaser p) off) s.starts s.members s.names s.visits few
+      (new_op (op.Await (phaser p) off)
+      (two_new (Blocks (record { phaser = p; off = off })) (Passes p) (λ i x. IsWellFormed (with_op t (op.Await (phaser p) off) s.plan) t (length (actions s.plan t) + i) x) (member_now (op.Await (phaser p) off) p e, near) tt)
+      (λ i q f. two_new (Blocks (record { phaser = p; off = off })) (Passes p) (λ i x. (q : ℕ) → x ≢ Makes q) (λ q g. cc) (λ q g. cc) i (Makes q) f q refl))
+      (same_starts (op.Await (phaser p) off) s.members s.names s.visits
+      (λ i c f. two_new (Blocks (record { phaser = p; off = off })) (Passes p) (λ i x. (c : ℕ) → x ≢ Forks c) (λ c g. cc) (λ c g. cc) i (Forks c) f c refl))
+      (own_members (op.Await (phaser p) off) s.starts s.members s.names s.visits members_own (λ u q n. refl) (λ u m r. refl)))
 
   -- ---- children
 
@@ -302,9 +334,9 @@ module _ (t : ℕ) (s : UnfoldingState) (a : IsActing t s) where
     not_forked j e = a.sound.unforked c j unforked (subst (λ v. action_at s.plan v j ≡ Some (Forks c)) (sym (parent_is s.plan t c child)) e)
 
     fork_starts :
-        (start : Start) → HasStarts t s (state_of (with_op t (op.Fork (task c)) s.plan) (slice_set s.starts c (Some start)) s.members s.names s.visits) (actions_of (op.Fork (task c) ∷ []))
+        (start : Start) → AreNear start.body → HasStarts t s (state_of (with_op t (op.Fork (task c)) s.plan) (slice_set s.starts c (Some start)) s.members s.names s.visits) (actions_of (op.Fork (task c) ∷ []))
     unfolding parent_of
-    fork_starts start =
+    fork_starts start near =
         record {
           many = length-set s.starts c (Some start) ∙ a.sound.starts;
           stay = λ d e. at_set (λ o. is_some o ≡ true) s.starts c (Some start) None d (λ h l. refl) (λ n. e) (λ l. absurd (let i = child_inside in let m = a.sound.starts in omega arith));
@@ -312,6 +344,7 @@ module _ (t : ℕ) (s : UnfoldingState) (a : IsActing t s) where
           forks = λ i d e. one_new (Forks c) (λ i x. (d : ℕ) → x ≡ Forks d → is_some (slice_index_or (slice_set s.starts c (Some start)) d None) ≡ true)
               (λ d g. let same : c ≡ d = (let q : Forks c ≡ Forks d = g in cc) in subst (λ v. is_some (slice_index_or (slice_set s.starts c (Some start)) v None) ≡ true) same (ap is_some (get_or-set_same s.starts c (Some start) None here)))
               i (Forks d) e d refl;
+          near = λ d. at_set NearStart s.starts c (Some start) None d (λ h l. near) (λ n. a.sound.near d) (λ l. tt);
         }
       where
         here : c < length s.starts
@@ -324,15 +357,15 @@ module _ (t : ℕ) (s : UnfoldingState) (a : IsActing t s) where
               | inr other ↦ inl (ap is_some (sym (get_or-set_other s.starts c d (Some start) None other)) ∙ e)
             ]
 
-    fork_acts : (n : ℕ) (start : Start) → OnState (IsActing t) (add_op t n (op.Fork (task c)) (record s { starts = slice_set s.starts c (Some start) }))
+    fork_acts : (n : ℕ) (start : Start) → AreNear start.body → OnState (IsActing t) (add_op t n (op.Fork (task c)) (record s { starts = slice_set s.starts c (Some start) }))
     unfolding add_op
-    fork_acts n start =
+    fork_acts n start near =
         on_fault_unless (IsActing t) (nat_lt (sum_by length s.plan.codes) max_ops) too_many_ops n _
         (λ few. op_acts (op.Fork (task c)) (slice_set s.starts c (Some start)) s.members s.names s.visits few
         (new_op (op.Fork (task c))
         (one_new (Forks c) (λ i x. IsWellFormed (with_op t (op.Fork (task c)) s.plan) t (length (actions s.plan t) + i) x) (child, not_before (op.Fork (task c)) (Forks c) (λ j l. not_forked j)))
         (λ i q f. one_new (Forks c) (λ i x. (q : ℕ) → x ≢ Makes q) (λ q g. cc) i (Makes q) f q refl))
-        (fork_starts start)
+        (fork_starts start near)
         (own_members (op.Fork (task c)) (slice_set s.starts c (Some start)) s.members s.names s.visits members_own (λ u q n. refl) (λ u m r. refl)))
 
     module _ (p : ℕ) (inside : s.members t p ≡ true) (outside : s.members c p ≡ false) where
@@ -482,6 +515,7 @@ module _ (t : ℕ) (s : UnfoldingState) (a : IsActing t s) where
         stay = λ c e. e;
         begins = λ c e. inl e;
         forks = λ i c e. absurd (one_new (Makes (length s.plan.makers)) (λ i x. (c : ℕ) → x ≢ Forks c) (λ c g. cc) i (Forks c) e c refl);
+        near = a.sound.near;
       })
       (record {
         own = set_member t (length s.plan.makers) true s.members (last_phases s.plan t) (Some 0) members_own refl;
@@ -548,6 +582,7 @@ module _ (t : ℕ) (s : UnfoldingState) (a : IsActing t s) where
         stay = λ c e. ap is_some (at_more s.starts None c) ∙ e;
         begins = λ c e. inl (ap is_some (sym (at_more s.starts None c)) ∙ e);
         forks = λ i c e. absurd cc;
+        near = λ c. subst NearStart (sym (at_more s.starts None c)) (a.sound.near c);
       })
       (record {
         own = members_own;
@@ -559,13 +594,13 @@ module _ (t : ℕ) (s : UnfoldingState) (a : IsActing t s) where
 
   -- ---- statements and visits
 
-  act_keeps : (n : ℕ) (x : Plain) → OnState (IsActing t) (act t n x s)
+  act_keeps : (n : ℕ) (x : Plain) → PlainIsNear x → OnState (IsActing t) (act t n x s)
   unfolding act
-  act_keeps n (new_task x) =
+  act_keeps n (new_task x) near =
       on_fault_unless (IsActing t) (nat_lt (length s.plan.parents) max_tasks) too_many_tasks n _ (λ room. task_acts (assigned x (a_task (length s.plan.parents)) s.names) room)
-  act_keeps n (new_phaser x) =
+  act_keeps n (new_phaser x) near =
       on_fault_unless (IsActing t) (nat_lt (length s.plan.makers) max_phasers) too_many_phasers n _ (λ room. make_acts n (assigned x (a_phaser (length s.plan.makers)) s.names) room)
-  act_keeps n (reg x y) =
+  act_keeps n (reg x y) near =
       on_task (IsActing t) n (s.names x) _
       (λ c. on_phaser (IsActing t) n (s.names y) _
       (λ p. on_unforked_child (IsActing t) t n c s _
@@ -577,22 +612,30 @@ module _ (t : ℕ) (s : UnfoldingState) (a : IsActing t s) where
       by c p mine unforked false d e f = tt
       by c p mine unforked true true e f = tt
       by c p mine unforked true false e f = reg_acts c mine unforked p e f n
-  act_keeps n (dereg x) = on_member (IsActing t) t n (s.names x) s _ (λ p e. dereg_acts p n e)
-  act_keeps n (adv x) = on_member (IsActing t) t n (s.names x) s _ (λ p e. adv_acts p n e)
-  act_keeps n (await x) = on_member (IsActing t) t n (s.names x) s _ (λ p e. await_acts p n e)
-  act_keeps n skip = a
+  act_keeps n (dereg x) near = on_member (IsActing t) t n (s.names x) s _ (λ p e. dereg_acts p n e)
+  act_keeps n (adv x) near = on_member (IsActing t) t n (s.names x) s _ (λ p e. adv_acts p n e)
+  act_keeps n (await x off) near = on_member (IsActing t) t n (s.names x) s _ (λ p e. await_acts p n off near e)
+  act_keeps n skip near = a
 
-  fork_keeps : (n : ℕ) (x : List ℕ) (body : Tree) → OnState (IsActing t) (act_fork t n x body s)
+  fork_keeps : (n : ℕ) (x : List ℕ) (body : Tree) → AreNear body → OnState (IsActing t) (act_fork t n x body s)
   unfolding act_fork
-  fork_keeps n x body =
+  fork_keeps n x body near =
       on_task (IsActing t) n (s.names x) _
-      (λ c. on_unforked_child (IsActing t) t n c s _ (λ mine unforked. fork_acts c mine unforked n (record { body = body; first = n + 1; names = s.names })))
+      (λ c. on_unforked_child (IsActing t) t n c s _ (λ mine unforked. fork_acts c mine unforked n (record { body = body; first = n + 1; names = s.names }) near))
 
-  pub come_keeps : (n : ℕ) (c : Coming) → OnState (IsActing t) (come_to t n c s)
-  come_keeps n (a_plain x) = act_keeps n x
-  come_keeps n (a_fork x body) = fork_keeps n x body
-  come_keeps n a_loop = a
-  come_keeps n a_turn = a
+  pub come_keeps : (n : ℕ) (c : Coming) → IsNearComing c → OnState (IsActing t) (come_to t n c s)
+  come_keeps n (a_plain x) near = act_keeps n x near
+  come_keeps n (a_fork x body) near = fork_keeps n x body near
+  come_keeps n a_loop near = a
+  come_keeps n a_turn near = a
+
+  pub leave_keeps : (n p : ℕ) → OnState (IsActing t) (leave t n p s)
+  unfolding leave
+  leave_keeps n p = by (s.members t p) refl
+    where
+      by : (b : Bool) → s.members t p ≡ b → OnState (IsActing t) (if b then add_op t n (op.Drop (phaser p)) (with_members (with_member t p false s.members) s) else Ok s)
+      by true e = dereg_acts p n e
+      by false e = a
 
 -- neither the names nor the number of visits matter
 pub same_acts : (t : ℕ) (s : UnfoldingState) (names : Names) (visits : ℕ) → IsActing t s → IsActing t (record s { names = names; visits = visits })
@@ -607,6 +650,7 @@ same_acts t s names visits a =
             unforked = a.sound.unforked;
             members = a.sound.members;
             outside = a.sound.outside;
+            near = a.sound.near;
           };
       here = a.here;
       begun = a.begun;
@@ -620,11 +664,21 @@ count_visit_keeps : (t n : ℕ) (s : UnfoldingState) → IsActing t s → OnStat
 unfolding count_visit
 count_visit_keeps t n s a = on_fault_unless (IsActing t) (nat_lt s.visits max_visits) too_many_visits n _ (λ room. same_acts t s s.names (s.visits + 1) a)
 
-pub comes_keep : (t : ℕ) (ms : List Visit) (s : UnfoldingState) → IsActing t s → OnState (IsActing t) (make_visits t ms s)
+pub comes_keep : (t : ℕ) (ms : List Visit) (s : UnfoldingState) → AreNearVisits ms → IsActing t s → OnState (IsActing t) (make_visits t ms s)
 unfolding make_visits
-comes_keep t [] s a = a
-comes_keep t (m ∷ ms) s a =
+comes_keep t [] s near a = a
+comes_keep t (m ∷ ms) s near a =
     on_then (IsActing t) (IsActing t) (make_visit t m s) (make_visits t ms)
     (on_then (IsActing t) (IsActing t) (count_visit m.statement s) (come_to t m.statement m.coming) (count_visit_keeps t m.statement s a)
-    (λ s' a'. come_keeps t s' a' m.statement m.coming))
-    (λ s' a'. comes_keep t ms s' a')
+    (λ s' a'. come_keeps t s' a' m.statement m.coming near.0))
+    (λ s' a'. comes_keep t ms s' near.1 a')
+
+leaves_keep : (t n p : ℕ) (s : UnfoldingState) → IsActing t s → OnState (IsActing t) (leave_below t n p s)
+unfolding leave_below
+leaves_keep t n zero s a = a
+leaves_keep t n (suc p) s a = on_then (IsActing t) (IsActing t) (leave_below t n p s) (leave t n p) (leaves_keep t n p s a) (λ s' a'. leave_keeps t s' a' n p)
+
+-- and so does the end of a task
+pub end_keeps : (two : Bool) (t n : ℕ) (o : Outcome UnfoldingState) → OnState (IsActing t) o → OnState (IsActing t) (ended two t n o)
+end_keeps false t n o a = a
+end_keeps true t n o a = on_then (IsActing t) (IsActing t) o (leave_below t n max_phasers) a (λ s' a'. leaves_keep t n max_phasers s' a')

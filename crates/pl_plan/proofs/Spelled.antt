@@ -1,7 +1,7 @@
 -- What is spelled stays spelled behind more steps and with more names.
 use Rattle.std.proofs.Common.{◌≡◌, ℕ, ◌+◌, ◌<◌, ◌≤◌, List, ◌++◌, length, arith, sym, ◌∙◌}
 use Rattle.std.proofs.lemmas.List.{get_or_append_left}
-use Rattle.pl_syntax.specs.Tree.{Tree, done, plain, fork, loop, Plain, new_task, new_phaser, reg, dereg, adv, await, skip, count}
+use Rattle.pl_syntax.specs.Tree.{AreNear, PlainIsNear, Tree, done, plain, fork, loop, Plain, new_task, new_phaser, reg, dereg, adv, await, skip, count}
 use Rattle.pl_plan.specs.declared.step.NameId.{NameId}
 use Rattle.pl_plan.specs.declared.step.Step.{Step}
 use Rattle.pl_plan.specs.declared.step.Step.TheVariants as a_step
@@ -21,7 +21,7 @@ step_more n names n' names' z z' (new_phaser x) e a h = (h.0, e ∙ h.1, name_mo
 step_more n names n' names' z z' (reg x y) e a h = (h.0, h.1, e ∙ h.2, name_more n names n' names' h.0 x a h.3, name_more n names n' names' h.1 y a h.4)
 step_more n names n' names' z z' (dereg x) e a h = (h.0, e ∙ h.1, name_more n names n' names' h.0 x a h.2)
 step_more n names n' names' z z' (adv x) e a h = (h.0, e ∙ h.1, name_more n names n' names' h.0 x a h.2)
-step_more n names n' names' z z' (await x) e a h = (h.0, e ∙ h.1, name_more n names n' names' h.0 x a h.2)
+step_more n names n' names' z z' (await x off) e a h = (h.0, e ∙ h.1, name_more n names n' names' h.0 x a h.2, h.3)
 step_more n names n' names' z z' skip e a h = e ∙ h
 
 -- a tree's steps are as many as its statements
@@ -36,6 +36,22 @@ spelled_count n names steps i (loop k body rest) to e =
     let a = spelled_count n names steps (i + 1) body e.0 e.2 in
     let b = spelled_count n names steps e.0 rest to e.3 in
     omega arith
+
+step_near : (n : ℕ) (names : ℕ → List ℕ) (step : Step) (s : Plain) → IsStep n names step s → PlainIsNear s
+step_near n names step (new_task x) h = tt
+step_near n names step (new_phaser x) h = tt
+step_near n names step (reg x y) h = tt
+step_near n names step (dereg x) h = tt
+step_near n names step (adv x) h = tt
+step_near n names step (await x off) h = h.3
+step_near n names step skip h = tt
+
+-- no await of a tree with steps looks farther than it may
+pub spelled_near : (n : ℕ) (names : ℕ → List ℕ) (steps : List Step) (i : ℕ) (tree : Tree) (to : ℕ) → IsSpelled n names steps i tree to → AreNear tree
+spelled_near n names steps i done to e = tt
+spelled_near n names steps i (plain s rest) to e = (step_near n names (step_at steps i) s e.0, spelled_near n names steps (i + 1) rest to e.1)
+spelled_near n names steps i (fork x body rest) to e = (spelled_near n names steps (i + 1) body e.1 e.4, spelled_near n names steps e.1 rest to e.5)
+spelled_near n names steps i (loop k body rest) to e = (spelled_near n names steps (i + 1) body e.0 e.2, spelled_near n names steps e.0 rest to e.3)
 
 module _ (n : ℕ) (names : ℕ → List ℕ) (n' : ℕ) (names' : ℕ → List ℕ) (a : NamesAgree n names n' names') (steps later : List Step) where
   same_step : (i : ℕ) → i < length steps → step_at (steps ++ later) i ≡ step_at steps i

@@ -21,7 +21,7 @@ actions_of-append (Reg c p ∷ xs) ys = ap (λ zs. Registers c.0 p.0 ∷ zs) (ac
 actions_of-append (Fork c ∷ xs) ys = ap (λ zs. Forks c.0 ∷ zs) (actions_of-append xs ys)
 actions_of-append (Adv p ∷ xs) ys = ap (λ zs. Advances p.0 ∷ zs) (actions_of-append xs ys)
 actions_of-append (Drop p ∷ xs) ys = ap (λ zs. Drops p.0 ∷ zs) (actions_of-append xs ys)
-actions_of-append (Await p ∷ xs) ys = ap (λ zs. Blocks p.0 ∷ (Passes p.0 ∷ zs)) (actions_of-append xs ys)
+actions_of-append (Await p off ∷ xs) ys = ap (λ zs. Blocks (record { phaser = p.0; off = off }) ∷ (Passes p.0 ∷ zs)) (actions_of-append xs ys)
 
 module _ (plan : Plan) (t : ℕ) (o : Op) where
   pub own_actions : t < length plan.codes → actions (with_op t o plan) t ≡ actions plan t ++ actions_of (o ∷ [])

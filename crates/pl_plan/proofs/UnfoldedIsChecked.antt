@@ -1,5 +1,5 @@
 -- The plan to which a program unfolds is checked.
-use Rattle.std.proofs.Common.{◌≡◌, ℕ, zero, suc, ◌+◌, ◌<◌, ◌≤◌, true, false, Some, None, Ok, Err, Option, [], length, arith, sym, ◌∙◌, ap, subst, refl, inl, inr}
+use Rattle.std.proofs.Common.{◌≡◌, ℕ, zero, suc, ◌+◌, ◌-◌, Bool, ◌<◌, ◌≤◌, true, false, Some, None, Ok, Err, Option, [], length, arith, sym, ◌∙◌, ap, subst, refl, inl, inr}
 use Rattle.std.specs.Prelude.{slice_get, slice_index_or, is_some}
 use Rattle.std.proofs.lemmas.Bool.{cases_lt, false≢true}
 use Rattle.std.proofs.lemmas.List.{get_or_past}
@@ -8,12 +8,12 @@ use Rattle.armus_base.specs.Plans.{Plan, action_at, actions, parent_of, maker_of
 use Rattle.armus_base.specs.Places.{first_phases, phases_after}
 use Rattle.armus_base.specs.CheckedPlans.{IsCheckedPlan, first_plan}
 use Rattle.armus_base.proofs.PlanGrows.{first_plan_is_checked}
-use Rattle.pl_syntax.specs.Tree.{Tree}
-use Rattle.pl_plan.specs.Unfolding.{UnfoldingState, Start, Outcome, ◌>>=◌, unfold_task, unfold_tasks, opening_state, plan_of, visits_of, with_names}
+use Rattle.pl_syntax.specs.Tree.{Tree, AreNear}
+use Rattle.pl_plan.specs.Unfolding.{UnfoldingState, Start, Outcome, ◌>>=◌, unfold_task, unfold_tasks, opening_state, plan_of, visits_of, with_names, make_visits, ended}
 use Rattle.pl_plan.specs.Laws.{UnfoldedIsChecked}
 use Rattle.pl_plan.proofs.Growth.{last_phases}
-use Rattle.pl_plan.proofs.Sound.{IsSound, IsActing, is_begun}
-use Rattle.pl_plan.proofs.SoundSteps.{OnState, same_acts, comes_keep}
+use Rattle.pl_plan.proofs.Sound.{IsSound, IsActing, is_begun, NearStart}
+use Rattle.pl_plan.proofs.SoundSteps.{OnState, same_acts, comes_keep, end_keeps, visits_near}
 
 -- the next task
 next_sound : (t : ℕ) (s : UnfoldingState) → IsSound t s → IsSound (t + 1) s
@@ -31,6 +31,7 @@ next_sound t s h =
       unforked = h.unforked;
       members = λ u p le l. h.members u p (omega arith) l;
       outside = h.outside;
+      near = h.near;
     }
 
 on_more : (t : ℕ) (o : Outcome UnfoldingState) (f : UnfoldingState → Outcome UnfoldingState) → OnState (IsActing t) o → ((s : UnfoldingState) → IsSound (t + 1) s → OnState (λ r. IsCheckedPlan r.plan) (f s)) → OnState (λ r. IsCheckedPlan r.plan) (o >>= f)
@@ -45,21 +46,22 @@ begun_inside t s h e =
     ]
 
 task_keeps :
-    (t : ℕ) (s : UnfoldingState) (rest : UnfoldingState → Outcome UnfoldingState) → IsSound t s →
+    (two : Bool) (t : ℕ) (s : UnfoldingState) (rest : UnfoldingState → Outcome UnfoldingState) → IsSound t s →
     ((s' : UnfoldingState) → IsSound (t + 1) s' → OnState (λ r. IsCheckedPlan r.plan) (rest s')) → (o : Option Start) → slice_index_or s.starts t None ≡ o →
-    OnState (λ r. IsCheckedPlan r.plan) (unfold_task t o s >>= rest)
-task_keeps t s rest h then None e = then s (next_sound t s h)
-task_keeps t s rest h then (Some start) e =
+    OnState (λ r. IsCheckedPlan r.plan) (unfold_task two t o s >>= rest)
+task_keeps two t s rest h then None e = then s (next_sound t s h)
+task_keeps two t s rest h then (Some start) e =
     let begun : is_begun s t ≡ true = ap is_some e in
-    on_more t (unfold_task t (Some start) s) rest
-    (comes_keep t (visits_of start.first start.body) (with_names start.names s)
-    (same_acts t s start.names s.visits (record { sound = h; here = begun_inside t s h begun; begun = begun })))
+    on_more t (unfold_task two t (Some start) s) rest
+    (end_keeps two t (start.first - 1) (make_visits t (visits_of start.first start.body) (with_names start.names s))
+    (comes_keep t (visits_of start.first start.body) (with_names start.names s) (visits_near start.first start.body (subst NearStart e (h.near t)))
+    (same_acts t s start.names s.visits (record { sound = h; here = begun_inside t s h begun; begun = begun }))))
     then
 
-tasks_keep : (n t : ℕ) (s : UnfoldingState) → IsSound t s → OnState (λ r. IsCheckedPlan r.plan) (unfold_tasks n t s)
+tasks_keep : (two : Bool) (n t : ℕ) (s : UnfoldingState) → IsSound t s → OnState (λ r. IsCheckedPlan r.plan) (unfold_tasks two n t s)
 unfolding unfold_tasks
-tasks_keep zero t s h = h.checked
-tasks_keep (suc n) t s h = task_keeps t s (unfold_tasks n (t + 1)) h (tasks_keep n (t + 1)) (slice_index_or s.starts t None) refl
+tasks_keep two zero t s h = h.checked
+tasks_keep two (suc n) t s h = task_keeps two t s (unfold_tasks two n (t + 1)) h (tasks_keep two n (t + 1)) (slice_index_or s.starts t None) refl
 
 no_first_actions : (t : ℕ) → actions first_plan t ≡ []
 unfolding actions
@@ -88,8 +90,8 @@ first_starts : (program : Tree) (c : ℕ) → 0 < c → is_begun (opening_state 
 first_starts program zero l = absurd (omega arith)
 first_starts program (suc c) l = refl
 
-sound_opening : (program : Tree) → IsSound 0 (opening_state program)
-sound_opening program =
+sound_opening : (program : Tree) → AreNear program → IsSound 0 (opening_state program)
+sound_opening program near =
     record {
       checked = first_plan_is_checked;
       at =
@@ -103,7 +105,12 @@ sound_opening program =
       unforked = λ c j e f. absurd (let none = no_first_action (parent_of first_plan c) j in cc);
       members = first_members;
       outside = λ u p l. refl;
+      near = near_first;
     }
+  where
+    near_first : (c : ℕ) → NearStart (slice_index_or (opening_state program).starts c None)
+    near_first zero = near
+    near_first (suc c) = tt
 
 plan_is : (o : Outcome UnfoldingState) (plan : Plan) → OnState (λ r. IsCheckedPlan r.plan) o → (o >>= λ s. Ok s.plan) ≡ Ok plan → IsCheckedPlan plan
 plan_is (Ok s) plan h e = subst IsCheckedPlan (let q : s.plan ≡ plan = cc in q) h
@@ -111,4 +118,6 @@ plan_is (Err f) plan h e = absurd cc
 
 pub unfolded_is_checked : UnfoldedIsChecked
 unfolding plan_of
-unfolded_is_checked program plan e = plan_is (unfold_tasks max_tasks 0 (opening_state program)) plan (tasks_keep max_tasks 0 (opening_state program) (sound_opening program)) e
+unfolded_is_checked program plan near e =
+    plan_is (unfold_tasks program.two max_tasks 0 (opening_state program.body)) plan
+    (tasks_keep program.two max_tasks 0 (opening_state program.body) (sound_opening program.body near)) e

@@ -33,7 +33,7 @@ simulates_acting names k s f h t n r step (reg x y) e = subst (λ z. Simulates n
     (subst (λ v. Simulates names (checker_act t n (a_step.Reg e.0 e.1) k) (act t n (reg v y) s)) e.3.1 (subst (λ v. Simulates names (checker_act t n (a_step.Reg e.0 e.1) k) (act t n (reg (names e.0.0) v) s)) e.4.1 (simulating.simulates_reg names k s f h t n r e.0.0 e.1.0 e.3.0 e.4.0)))
 simulates_acting names k s f h t n r step (dereg x) e = subst (λ z. Simulates names (checker_act t n z k) (act t n (dereg x) s)) (sym e.1) (subst (λ y. Simulates names (checker_act t n (a_step.Dereg e.0) k) (act t n (dereg y) s)) e.2.1 (simulating.simulates_dereg names k s f h t n r e.0.0 e.2.0))
 simulates_acting names k s f h t n r step (adv x) e = subst (λ z. Simulates names (checker_act t n z k) (act t n (adv x) s)) (sym e.1) (subst (λ y. Simulates names (checker_act t n (a_step.Adv e.0) k) (act t n (adv y) s)) e.2.1 (simulating.simulates_adv names k s f h t n r e.0.0 e.2.0))
-simulates_acting names k s f h t n r step (await x) e = subst (λ z. Simulates names (checker_act t n z k) (act t n (await x) s)) (sym e.1) (subst (λ y. Simulates names (checker_act t n (a_step.Await e.0) k) (act t n (await y) s)) e.2.1 (simulating.simulates_await names k s f h t n r e.0.0 e.2.0))
+simulates_acting names k s f h t n r step (await x off) e = subst (λ z. Simulates names (checker_act t n z k) (act t n (await x off) s)) (sym e.1) (subst (λ y. Simulates names (checker_act t n (a_step.Await e.0 off) k) (act t n (await y off) s)) e.2.1 (simulating.simulates_await names k s f h t n r e.0.0 off e.2.0))
 simulates_acting names k s f h t n r step skip e = subst (λ z. Simulates names (checker_act t n z k) (act t n skip s)) (sym e) (s, refl, h)
 
 pub keeps_acting : (k : Checker) → IsChecker k → (t n : ℕ) (step : Step) → HasNames (length k.slots) step → KeepsAll k (checker_act t n step k)
@@ -42,7 +42,7 @@ keeps_acting k f t n (a_step.NewPhaser x) h = simulating.keeps_new_phaser k f t 
 keeps_acting k f t n (a_step.Reg x y) h = simulating.keeps_reg k f t n x.0 y.0
 keeps_acting k f t n (a_step.Dereg x) h = simulating.keeps_dereg k f t n x.0
 keeps_acting k f t n (a_step.Adv x) h = simulating.keeps_adv k f t n x.0
-keeps_acting k f t n (a_step.Await x) h = simulating.keeps_await k f t n x.0
+keeps_acting k f t n (a_step.Await x off) h = simulating.keeps_await k f t n x.0 off
 keeps_acting k f t n (a_step.Fork x a) h = simulating.keeps_itself k f
 keeps_acting k f t n (a_step.Loop i a) h = simulating.keeps_itself k f
 keeps_acting k f t n a_step.Skip h = simulating.keeps_itself k f
@@ -53,7 +53,7 @@ names_of n names step (new_phaser x) e = subst (HasNames n) (sym e.1) e.2.0
 names_of n names step (reg x y) e = subst (HasNames n) (sym e.2) (e.3.0, e.4.0)
 names_of n names step (dereg x) e = subst (HasNames n) (sym e.1) e.2.0
 names_of n names step (adv x) e = subst (HasNames n) (sym e.1) e.2.0
-names_of n names step (await x) e = subst (HasNames n) (sym e.1) e.2.0
+names_of n names step (await x off) e = subst (HasNames n) (sym e.1) e.2.0
 names_of n names step skip e = subst (HasNames n) (sym e) tt
 
 -- ---- on from one index to another
@@ -175,7 +175,7 @@ fork_at n names steps i to x after (plain s rest) e lt is = absurd (no_plain (st
     no_plain z (reg y y') a b = (let h = sym a.2 ∙ b in cc)
     no_plain z (dereg y) a b = (let h = sym a.1 ∙ b in cc)
     no_plain z (adv y) a b = (let h = sym a.1 ∙ b in cc)
-    no_plain z (await y) a b = (let h = sym a.1 ∙ b in cc)
+    no_plain z (await y off) a b = (let h = sym a.1 ∙ b in cc)
     no_plain z skip a b = (let h = sym a ∙ b in cc)
 fork_at n names steps i to x after (loop k body rest) e lt is = absurd (let h = sym e.1 ∙ is in cc)
 fork_at n names steps i to x after (fork y body rest) e lt is =
@@ -210,7 +210,7 @@ loop_at n names steps i to k after (plain s rest) e lt is = absurd (no_plain (st
     no_plain z (reg y y') a b = (let h = sym a.2 ∙ b in cc)
     no_plain z (dereg y) a b = (let h = sym a.1 ∙ b in cc)
     no_plain z (adv y) a b = (let h = sym a.1 ∙ b in cc)
-    no_plain z (await y) a b = (let h = sym a.1 ∙ b in cc)
+    no_plain z (await y off) a b = (let h = sym a.1 ∙ b in cc)
     no_plain z skip a b = (let h = sym a ∙ b in cc)
 loop_at n names steps i to k after (fork y body rest) e lt is = absurd (let h = sym e.2 ∙ is in cc)
 loop_at n names steps i to k after (loop k' body rest) e lt is =

@@ -20,7 +20,7 @@ of_reg c = false
 abbrev pub of_member : Coming → Bool
 of_member (a_plain (dereg x)) = true
 of_member (a_plain (adv x)) = true
-of_member (a_plain (await x)) = true
+of_member (a_plain (await x off)) = true
 of_member c = false
 
 -- newTid
@@ -41,7 +41,7 @@ first_name (a_fork x body) = x
 first_name (a_plain (reg x y)) = x
 first_name (a_plain (dereg x)) = x
 first_name (a_plain (adv x)) = x
-first_name (a_plain (await x)) = x
+first_name (a_plain (await x off)) = x
 first_name c = []
 
 -- y, its second name

@@ -1,10 +1,11 @@
 -- The unfolding of a program: what each task comes to, what each visit does, and the plan or the first check fault.
 -- Read from the end: `plan_of` unfolds the tasks in order of number; a task's visits are those of its body; `act` has the tests of each
 -- statement in their order, and what it does.
-use Rattle.std.specs.Prelude.{ℕ, zero, suc, ◌+◌, ◌==◌, Bool, true, false, not, ◌&&◌, if◌then◌else◌, is_some, List, [], ◌∷◌, ◌++◌, length, slice_set, slice_index_or, Option, Some, None, Result, Ok, Err, nat_lt, sum_by}
+use Rattle.std.specs.Prelude.{ℕ, zero, suc, ◌+◌, ◌-◌, ◌==◌, Bool, true, false, not, ◌&&◌, if◌then◌else◌, is_some, List, [], ◌∷◌, ◌++◌, length, slice_set, slice_index_or, Option, Some, None, Result, Ok, Err, nat_lt, sum_by}
 use Rattle.std.specs.Str.{bytes_eq}
 use Rattle.pl_plan.specs.Limits.{max_visits}
 use Rattle.armus_base.specs.Limits.{max_tasks, max_phasers, max_ops}
+use Rattle.pl_syntax.specs.declared.tree.Program.{Program}
 use Rattle.pl_syntax.specs.Tree.{Tree, done, plain, fork, loop, Plain, new_task, new_phaser, reg, dereg, adv, await, skip, count}
 use Rattle.armus_base.specs.declared.ids.TaskId.{TaskId}
 use Rattle.armus_base.specs.declared.ids.PhaserId.{PhaserId}
@@ -240,9 +241,9 @@ act t n (dereg x) s = do
 act t n (adv x) s = do
   p ← member_of t n (s.names x) s
   add_op t n (op.Adv (phaser p)) s
-act t n (await x) s = do
+act t n (await x off) s = do
   p ← member_of t n (s.names x) s
-  add_op t n (op.Await (phaser p)) s
+  add_op t n (op.Await (phaser p) off) s
 act t n skip s = Ok s
 
 -- task t forks task x, at statement n: the next number is that of the body's first statement
@@ -280,15 +281,29 @@ make_visits t (m ∷ ms) s = make_visit t m s >>= make_visits t ms
 abbrev pub with_names : Names → UnfoldingState → UnfoldingState
 with_names names s = record s { names = names }
 
--- the visits of task t, which begins with the names of its start; one that no fork names has none
-abbrev pub unfold_task : ℕ → Option Start → UnfoldingState → Outcome UnfoldingState
-unfold_task t None s = Ok s
-unfold_task t (Some start) s = make_visits t (visits_of start.first start.body) (with_names start.names s)
+-- task t leaves phaser p at its end, if it is a member; n is the statement of its fork, or 0
+unfoldable pub leave : ℕ → ℕ → ℕ → UnfoldingState → Outcome UnfoldingState
+leave t n p s = if s.members t p then add_op t n (op.Drop (phaser p)) (with_members (with_member t p false s.members) s) else Ok s
+
+-- the same of each phaser with a number below p, in order
+unfoldable pub leave_below : ℕ → ℕ → ℕ → UnfoldingState → Outcome UnfoldingState
+leave_below t n zero s = Ok s
+leave_below t n (suc p) s = leave_below t n p s >>= leave t n p
+
+-- how a task ends: in PL 2 it leaves its phasers
+abbrev pub ended : Bool → ℕ → ℕ → Outcome UnfoldingState → Outcome UnfoldingState
+ended false t n outcome = outcome
+ended true t n outcome = outcome >>= leave_below t n max_phasers
+
+-- the visits of task t, which begins with the names of its start, and its end; one that no fork names has neither
+abbrev pub unfold_task : Bool → ℕ → Option Start → UnfoldingState → Outcome UnfoldingState
+unfold_task two t None s = Ok s
+unfold_task two t (Some start) s = ended two t (start.first - 1) (make_visits t (visits_of start.first start.body) (with_names start.names s))
 
 -- the tasks from number t on, in order, of which there are at most n
-unfoldable pub unfold_tasks : ℕ → ℕ → UnfoldingState → Outcome UnfoldingState
-unfold_tasks zero t s = Ok s
-unfold_tasks (suc n) t s = unfold_task t (slice_index_or s.starts t None) s >>= unfold_tasks n (t + 1)
+unfoldable pub unfold_tasks : Bool → ℕ → ℕ → UnfoldingState → Outcome UnfoldingState
+unfold_tasks two zero t s = Ok s
+unfold_tasks two (suc n) t s = unfold_task two t (slice_index_or s.starts t None) s >>= unfold_tasks two n (t + 1)
 
 -- before the first visit: task 0 alone, with the whole program
 abbrev pub opening_state : Tree → UnfoldingState
@@ -301,5 +316,5 @@ opening_state p = record {
 }
 
 -- the plan of a program, or its first fault
-unfoldable pub plan_of : Tree → Outcome Plan
-plan_of p = unfold_tasks max_tasks 0 (opening_state p) >>= λ s. Ok s.plan
+unfoldable pub plan_of : Program → Outcome Plan
+plan_of p = unfold_tasks p.two max_tasks 0 (opening_state p.body) >>= λ s. Ok s.plan

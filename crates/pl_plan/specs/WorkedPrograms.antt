@@ -1,5 +1,7 @@
 -- Small programs with the plans to which they unfold, and with their first faults.
-use Rattle.std.specs.Prelude.{◌≡◌, ℕ, codes, List, [], ◌∷◌, Ok, Err, Some, None}
+use Rattle.std.specs.Prelude.{◌≡◌, ℕ, codes, true, false, List, [], ◌∷◌, Ok, Err, Some, None}
+use Rattle.armus_base.specs.declared.offset.Offset.TheVariants.{Ahead, Back, Here}
+use Rattle.pl_syntax.specs.declared.tree.Program.{Program}
 use Rattle.pl_syntax.specs.Tree.{Tree, done, plain, fork, loop, new_task, new_phaser, reg, dereg, adv, await, skip}
 use Rattle.armus_base.specs.declared.op.Op.TheVariants as op
 use Rattle.armus_base.specs.Plans.{Plan}
@@ -7,7 +9,7 @@ use Rattle.pl_plan.specs.Unfolding.{Outcome, plan_of, task, phaser}
 
 -- a program and what its unfolding answers
 pub record Example : Type 0 where
-  pub program : Tree
+  pub program : Program
   pub answer : Outcome Plan
 
 -- ---- programs, written backwards from what follows a statement
@@ -26,23 +28,24 @@ t = codes "t"
 
 -- this program has the plan with these parts
 abbrev unfolds : Tree → Plan → Example
-unfolds program plan = record { program = program; answer = Ok plan }
+unfolds body plan = record { program = record { two = false; body = body }; answer = Ok plan }
 
 -- this program's first fault is of this kind at this statement
 abbrev faults : Tree → ℕ → ℕ → Example
-faults program kind statement = record { program = program; answer = Err (record { kind = kind; statement = statement }) }
+faults body kind statement =
+    record { program = record { two = false; body = body }; answer = Err (record { kind = kind; statement = statement }) }
 
 -- each turn draws a task, with the names that the turn before left:
 -- p = newPhaser(); loop 2 { t = newTid(); reg(t, p); fork(t) { adv(p); } } await(p);
 abbrev turns : Example
 turns =
     unfolds
-    (plain (new_phaser p) (loop 2 (plain (new_task t) (plain (reg t p) (fork t (plain (adv p) done) done))) (plain (await p) done)))
+    (plain (new_phaser p) (loop 2 (plain (new_task t) (plain (reg t p) (fork t (plain (adv p) done) done))) (plain (await p Here) done)))
     (record {
       parents = None ∷ Some (task 0) ∷ Some (task 0) ∷ [];
       makers = task 0 ∷ [];
       codes =
-          (op.Make (phaser 0) ∷ op.Reg (task 1) (phaser 0) ∷ op.Fork (task 1) ∷ op.Reg (task 2) (phaser 0) ∷ op.Fork (task 2) ∷ op.Await (phaser 0) ∷ [])
+          (op.Make (phaser 0) ∷ op.Reg (task 1) (phaser 0) ∷ op.Fork (task 1) ∷ op.Reg (task 2) (phaser 0) ∷ op.Fork (task 2) ∷ op.Await (phaser 0) Here ∷ [])
           ∷ (op.Adv (phaser 0) ∷ []) ∷ (op.Adv (phaser 0) ∷ []) ∷ [];
     })
 
@@ -66,9 +69,32 @@ never_unfolded =
     (plain (new_task t) (loop 0 (plain (adv q) done) done))
     (record { parents = None ∷ Some (task 0) ∷ []; makers = []; codes = [] ∷ [] ∷ [] })
 
+-- in PL 2 a task that ends leaves its phasers in order of number, and one that is never forked has no code:
+-- pl 2; q = newPhaser(); p = newPhaser(); t = newTid(); reg(t, p); s = newTid(); reg(s, p); fork(t) { await(p - 1); } await(q + 2);
+abbrev leaving : Example
+leaving =
+    record {
+      program =
+          record {
+            two = true;
+            body =
+                plain (new_phaser q) (plain (new_phaser p) (plain (new_task t) (plain (reg t p) (plain (new_task s) (plain (reg s p)
+                (fork t (plain (await p (Back 1)) done) (plain (await q (Ahead 2)) done)))))));
+          };
+      answer =
+          Ok (record {
+            parents = None ∷ Some (task 0) ∷ Some (task 0) ∷ [];
+            makers = task 0 ∷ task 0 ∷ [];
+            codes =
+                (op.Make (phaser 0) ∷ op.Make (phaser 1) ∷ op.Reg (task 1) (phaser 1) ∷ op.Reg (task 2) (phaser 1) ∷ op.Fork (task 1)
+                ∷ op.Await (phaser 0) (Ahead 2) ∷ op.Drop (phaser 0) ∷ op.Drop (phaser 1) ∷ [])
+                ∷ (op.Await (phaser 1) (Back 1) ∷ op.Drop (phaser 1) ∷ []) ∷ [] ∷ [];
+          });
+    }
+
 -- some programs with their plans
 abbrev pub worked_plans : List Example
-worked_plans = turns ∷ names_at_the_fork ∷ never_unfolded ∷ []
+worked_plans = turns ∷ names_at_the_fork ∷ never_unfolded ∷ leaving ∷ []
 
 -- some programs with their first faults, which tell the orders of the tests
 abbrev pub worked_faults : List Example

@@ -67,9 +67,9 @@ pub(crate) fn flatten_statement<'p>(
             let x = number(names, x.as_bytes())?;
             push(steps, Step::Adv { x })
         }
-        Stmt::Await { x } => {
+        Stmt::Await { x, off } => {
             let x = number(names, x.as_bytes())?;
-            push(steps, Step::Await { x })
+            push(steps, Step::Await { x, off: *off })
         }
         Stmt::Skip => push(steps, Step::Skip),
         Stmt::Fork { x, body } => {

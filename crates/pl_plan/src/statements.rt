@@ -3,7 +3,7 @@
 ghost use Rattle.std.specs.Prelude.{◌≡◌, ◌+◌, ◌*◌, ◌<◌, ◌≤◌, ◌^◌, ◌++◌, ◌∷◌, [], length, slice_index_or, OnOk, IfOk, None, false, is_some};
 ghost use Rattle.pl_plan.specs.inside.Checker.{IsChecker, slot_of};
 ghost use Rattle.pl_plan.specs.Unfolding.{as_task, as_phaser, fault_unless, is_parent};
-ghost use Rattle.pl_plan.specs.inside.CheckerSteps.{GivesChecker, viewed, thing_named, member, with_binding, checker_add, checker_new_task, checker_new_phaser, checker_unforked_child, checker_reg, checker_member, checker_dereg, checker_adv, checker_await, checker_fork, checker_count, checker_act, HasNames};
+ghost use Rattle.pl_plan.specs.inside.CheckerSteps.{GivesChecker, viewed, thing_named, member, with_binding, checker_add, checker_new_task, checker_new_phaser, checker_unforked_child, checker_reg, checker_member, checker_dereg, checker_adv, checker_await, checker_leave, checker_fork, checker_count, checker_act, HasNames};
 
 use crate::checker::Checker;
 use crate::fault::{
@@ -12,7 +12,7 @@ use crate::fault::{
 };
 use crate::limits::MAX_VISITS;
 use crate::step::{NameId, Step, Thing};
-use armus_base::{MAX_OPS, MAX_PHASERS, MAX_TASKS, Op, PhaserId, TaskId};
+use armus_base::{MAX_OPS, MAX_PHASERS, MAX_TASKS, Offset, Op, PhaserId, TaskId};
 use std::alloc::Global;
 
 // The fault of this kind, unless the test holds.
@@ -218,16 +218,22 @@ pub(crate) fn advance(checker: &mut Checker, t: TaskId, n: u32, x: NameId) -> Re
     add(checker, t, n, Op::Adv { p })
 }
 
-// `await(x);`
+// `await(x);`, `await(x - k);` or `await(x + k);`
 #[tactic(auto, unfolding(crate::specs::inside::CheckerSteps::checker_await))]
-pub(crate) fn wait(checker: &mut Checker, t: TaskId, n: u32, x: NameId) -> Result<(), PlanEnd>
+pub(crate) fn wait(
+    checker: &mut Checker,
+    t: TaskId,
+    n: u32,
+    x: NameId,
+    off: Offset,
+) -> Result<(), PlanEnd>
     requires fits { IsChecker checker.old }
     requires task { t.0 < length checker.old.parents }
     requires here { x.0 < length checker.old.slots }
-    ensures { GivesChecker result (checker_await t.0 n x.0 checker.old) checker.new }
+    ensures { GivesChecker result (checker_await t.0 n x.0 off checker.old) checker.new }
 {
     let p = member_named(checker, t, n, x)?;
-    add(checker, t, n, Op::Await { p })
+    add(checker, t, n, Op::Await { p, off })
 }
 
 // `fork(x) { .. }`, whose body's steps stand before `after`.
@@ -251,6 +257,21 @@ pub(crate) fn fork(
     add(checker, t, n, Op::Fork { c })
 }
 
+// The task leaves the phaser at its end, if it is a member.
+#[tactic(auto, unfolding(crate::specs::inside::CheckerSteps::checker_leave))]
+pub(crate) fn leave_if_member(checker: &mut Checker, t: TaskId, n: u32, p: PhaserId) -> Result<(), PlanEnd>
+    requires fits { IsChecker checker.old }
+    requires task { t.0 < length checker.old.parents }
+    requires phaser { p.0 < MAX_PHASERS }
+    ensures { GivesChecker result (checker_leave t.0 n p.0 checker.old) checker.new }
+{
+    if !checker.is_member(t, p) {
+        return Ok(());
+    }
+    checker.mark(t, p, false);
+    add(checker, t, n, Op::Drop { p })
+}
+
 // A statement without a body.
 pub(crate) fn act(
     alloc: Global,
@@ -270,7 +291,7 @@ pub(crate) fn act(
         Step::Reg { x, y } => register(checker, t, n, x, y),
         Step::Dereg { x } => leave(checker, t, n, x),
         Step::Adv { x } => advance(checker, t, n, x),
-        Step::Await { x } => wait(checker, t, n, x),
+        Step::Await { x, off } => wait(checker, t, n, x, off),
         _ => Ok(()),
     }
 }

@@ -1,6 +1,6 @@
 // Programs as flat steps.
 
-use armus_base::{PhaserId, TaskId};
+use armus_base::{Offset, PhaserId, TaskId};
 
 // The number of a name, in the order of first sight.
 #[derive(Clone, Copy, Debug)]
@@ -15,7 +15,7 @@ pub(crate) enum Step {
     Reg { x: NameId, y: NameId },
     Dereg { x: NameId },
     Adv { x: NameId },
-    Await { x: NameId },
+    Await { x: NameId, off: Offset },
     Skip,
     Loop { k: u16, after: u32 },
 }

@@ -2,6 +2,7 @@
 use Rattle.std.specs.Prelude.{◌≡◌, ℕ, ◌+◌, ◌*◌, ◌<◌, Bool, true, false, not, length, slice_index_or, Option, Some, None, Result, Ok, Err, nat_lt, is_some}
 use Rattle.pl_plan.specs.Limits.{max_visits}
 use Rattle.armus_base.specs.Limits.{max_tasks, max_phasers, max_ops}
+use Rattle.armus_base.specs.declared.offset.Offset.{Offset}
 use Rattle.armus_base.specs.declared.op.Op.{Op}
 use Rattle.armus_base.specs.declared.op.Op.TheVariants as op
 use Rattle.pl_plan.specs.declared.step.Step.{Step}
@@ -83,11 +84,20 @@ checker_adv t n x k = do
   p ← checker_member t n x k
   checker_add t n (op.Adv (phaser p)) k
 
--- await(x)
-unfoldable pub checker_await : ℕ → ℕ → ℕ → Checker → Outcome Checker
-checker_await t n x k = do
+-- await(x), await(x - k) or await(x + k)
+unfoldable pub checker_await : ℕ → ℕ → ℕ → Offset → Checker → Outcome Checker
+checker_await t n x off k = do
   p ← checker_member t n x k
-  checker_add t n (op.Await (phaser p)) k
+  checker_add t n (op.Await (phaser p) off) k
+
+-- task t leaves phaser p at its end, if it is a member
+unfoldable pub checker_leave : ℕ → ℕ → ℕ → Checker → Outcome Checker
+checker_leave t n p k = if member k t p then checker_add t n (op.Drop (phaser p)) (with_membership t p false k) else Ok k
+
+-- the same of each phaser below p, in order
+unfoldable pub checker_leave_below : ℕ → ℕ → ℕ → Checker → Outcome Checker
+checker_leave_below t n zero k = Ok k
+checker_leave_below t n (suc p) k = checker_leave_below t n p k >>= checker_leave t n p
 
 -- fork(x), with the steps of its body before `after`
 unfoldable pub checker_fork : ℕ → ℕ → ℕ → ℕ → Checker → Outcome Checker
@@ -109,7 +119,7 @@ checker_act t n (a_step.NewPhaser x) k = checker_new_phaser t n x.0 k
 checker_act t n (a_step.Reg x y) k = checker_reg t n x.0 y.0 k
 checker_act t n (a_step.Dereg x) k = checker_dereg t n x.0 k
 checker_act t n (a_step.Adv x) k = checker_adv t n x.0 k
-checker_act t n (a_step.Await x) k = checker_await t n x.0 k
+checker_act t n (a_step.Await x off) k = checker_await t n x.0 off k
 checker_act t n (a_step.Fork x after) k = Ok k
 checker_act t n (a_step.Loop i after) k = Ok k
 checker_act t n a_step.Skip k = Ok k
@@ -121,7 +131,7 @@ HasNames n (a_step.NewPhaser x) = x.0 < n
 HasNames n (a_step.Reg x y) = (x.0 < n) × (y.0 < n)
 HasNames n (a_step.Dereg x) = x.0 < n
 HasNames n (a_step.Adv x) = x.0 < n
-HasNames n (a_step.Await x) = x.0 < n
+HasNames n (a_step.Await x off) = x.0 < n
 HasNames n (a_step.Fork x after) = x.0 < n
 HasNames n (a_step.Loop i after) = Unit {0}
 HasNames n a_step.Skip = Unit {0}

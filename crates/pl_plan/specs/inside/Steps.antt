@@ -1,6 +1,7 @@
 -- Steps that spell a tree.
 use Rattle.std.specs.Prelude.{◌≡◌, ℕ, ◌+◌, ◌<◌, List, slice_index_or}
 use Rattle.pl_syntax.specs.Tree.{Tree, done, plain, fork, loop, Plain, new_task, new_phaser, reg, dereg, adv, await, skip}
+use Rattle.armus_base.specs.Offsets.{IsNear}
 use Rattle.pl_plan.specs.declared.step.NameId.{NameId}
 use Rattle.pl_plan.specs.declared.step.Step.{Step}
 use Rattle.pl_plan.specs.declared.step.Step.TheVariants as a_step
@@ -16,7 +17,7 @@ IsStep n names step (new_phaser x) = (i : NameId) × (step ≡ a_step.NewPhaser 
 IsStep n names step (reg x y) = (i : NameId) × (j : NameId) × (step ≡ a_step.Reg i j) × IsNumberOfName n names i x × IsNumberOfName n names j y
 IsStep n names step (dereg x) = (i : NameId) × (step ≡ a_step.Dereg i) × IsNumberOfName n names i x
 IsStep n names step (adv x) = (i : NameId) × (step ≡ a_step.Adv i) × IsNumberOfName n names i x
-IsStep n names step (await x) = (i : NameId) × (step ≡ a_step.Await i) × IsNumberOfName n names i x
+IsStep n names step (await x off) = (i : NameId) × (step ≡ a_step.Await i off) × IsNumberOfName n names i x × IsNear off
 IsStep n names step skip = step ≡ a_step.Skip
 
 -- the step with this index, which is that of the statement with the number after it
