@@ -9,7 +9,7 @@ use Rattle.armus_base.specs.Places.{first_phases, phases_after}
 use Rattle.armus_base.specs.CheckedPlans.{IsCheckedPlan, first_plan}
 use Rattle.armus_base.proofs.PlanGrows.{first_plan_is_checked}
 use Rattle.pl_syntax.specs.Tree.{Tree, AreNear}
-use Rattle.pl_plan.specs.Unfolding.{UnfoldingState, Start, Outcome, ◌>>=◌, unfold_task, unfold_tasks, opening_state, plan_of, visits_of, with_names, make_visits, ended}
+use Rattle.pl_plan.specs.Unfolding.{UnfoldingState, Start, Outcome, ◌>>=◌, unfold_task, unfold_tasks, opening_state, plan_of, visits_of, with_names, make_visits}
 use Rattle.pl_plan.specs.Laws.{UnfoldedIsChecked}
 use Rattle.pl_plan.proofs.Growth.{last_phases}
 use Rattle.pl_plan.proofs.Sound.{IsSound, IsActing, is_begun, NearStart}

@@ -42,7 +42,8 @@ pub const TOO_MANY_VISITS: u8 = 10;
 pub struct CheckFault {
     /// Its kind, one of the ten constants above, from 1 to 10.
     pub kind: u8,
-    /// The number of its statement, from 1 in the order in which the statements stand in the text. A turn of a loop has the loop's number.
+    /// The number of its statement, from 1 in the order in which the statements stand in the text. A turn of a loop has the loop's number,
+    /// and the end of a task, where a text of PL 2 has no op left for what it leaves, the number of its fork, or 0 if it is the end of task 0.
     pub statement: u32,
 }
 

@@ -1,6 +1,7 @@
 // Programs as flat steps.
 
 ghost use Rattle.std.specs.Prelude.{◌≡◌, ◌+◌, ◌<◌, ◌^◌, ◌++◌, ◌∷◌, [], length, OnOk, IfOk};
+ghost use Rattle.armus_base.specs.Offsets.{IsNear};
 ghost use Rattle.pl_syntax.specs.Tree.{count, done};
 ghost use Rattle.pl_syntax.specs.Bodies.{followed_by};
 ghost use Rattle.pl_plan.specs.inside.Shows.{IsNumbering};
@@ -8,7 +9,7 @@ ghost use Rattle.pl_plan.specs.inside.Numbers.{spelling, IsMore};
 ghost use Rattle.pl_plan.specs.inside.Flattening.{AddsSteps};
 
 use crate::step::{NameId, Step};
-use armus_base::NoMemory;
+use armus_base::{NoMemory, Offset};
 use indexmap::IndexSet;
 use pl_syntax::{Body, Stmt};
 
@@ -32,6 +33,18 @@ fn push(steps: &mut Vec<Step>, step: Step) -> Result<(), NoMemory>
 {
     steps.push(step)?;
     Ok(())
+}
+
+// An offset as it is written: as it has 16 bits, it looks no farther than an await may.
+fn as_written(off: Offset) -> Offset
+    ensures same { result ≡ off }
+    ensures near { IsNear result }
+{
+    match off {
+        Offset::Here => Offset::Here,
+        Offset::Back(k) => Offset::Back(k),
+        Offset::Ahead(k) => Offset::Ahead(k),
+    }
 }
 
 // A statement, and its body's statements behind it.
@@ -69,7 +82,8 @@ pub(crate) fn flatten_statement<'p>(
         }
         Stmt::Await { x, off } => {
             let x = number(names, x.as_bytes())?;
-            push(steps, Step::Await { x, off: *off })
+            let off = as_written(*off);
+            push(steps, Step::Await { x, off })
         }
         Stmt::Skip => push(steps, Step::Skip),
         Stmt::Fork { x, body } => {

@@ -2,12 +2,13 @@
 ghost use Rattle.pl_plan.specs.Laws.{UnfoldedIsChecked, FaultIsOfProgram, PlanIsUnfolded, FaultIsFirst};
 ghost use Rattle.pl_plan.specs.WorkedPrograms.{AreWorked, worked_faults, worked_plans};
 
-/// The plan to which a program unfolds is a checked plan.
+/// The plan to which a program unfolds is a checked plan, where no await looks farther than a parsed one can.
 pub fn unfolded_is_checked()
     ensures { UnfoldedIsChecked }
 {}
 
-/// A check fault has one of the ten kinds, and the number of a statement of the program.
+/// A check fault has one of the ten kinds, and the number of a statement of the program; or, in PL 2 and with the kind of an op too many, the number 0:
+/// the end of task 0.
 pub fn fault_is_of_program()
     ensures { FaultIsOfProgram }
 {}

@@ -259,7 +259,12 @@ pub(crate) fn fork(
 
 // The task leaves the phaser at its end, if it is a member.
 #[tactic(auto, unfolding(crate::specs::inside::CheckerSteps::checker_leave))]
-pub(crate) fn leave_if_member(checker: &mut Checker, t: TaskId, n: u32, p: PhaserId) -> Result<(), PlanEnd>
+pub(crate) fn leave_if_member(
+    checker: &mut Checker,
+    t: TaskId,
+    n: u32,
+    p: PhaserId,
+) -> Result<(), PlanEnd>
     requires fits { IsChecker checker.old }
     requires task { t.0 < length checker.old.parents }
     requires phaser { p.0 < MAX_PHASERS }

@@ -13,6 +13,22 @@ const AVERAGING: &[u8] =
 const MOST_OPS: &[u8] =
     b"p = newPhaser(); loop 65535 { adv(p); adv(p); adv(p); adv(p); } adv(p); adv(p); adv(p);";
 
+// One op is left for the Drop at the end of task 0.
+const MOST_OPS_IN_PL_2: &[u8] =
+    b"pl 2; p = newPhaser(); loop 65535 { adv(p); adv(p); adv(p); adv(p); } adv(p); adv(p);";
+
+const NO_OP_FOR_THE_END: &[u8] =
+    b"pl 2; p = newPhaser(); loop 65535 { adv(p); adv(p); adv(p); adv(p); } adv(p); adv(p); adv(p);";
+
+const NO_OP_FOR_A_CHILD: &[u8] =
+    b"pl 2; p = newPhaser(); t = newTid(); reg(t, p); fork(t) { loop 65535 { adv(p); adv(p); adv(p); adv(p); } } dereg(p);";
+
+const NO_OP_BEFORE_THE_LAST: &[u8] =
+    b"pl 2; p = newPhaser(); t = newTid(); u = newTid(); reg(t, p); fork(t) { loop 65534 { adv(p); adv(p); adv(p); adv(p); } adv(p); adv(p); adv(p); } dereg(p); fork(u) { adv(z); }";
+
+const MOST_VISITS_IN_PL_2: &[u8] =
+    b"pl 2; p = newPhaser(); loop 65535 { skip; skip; skip; skip; skip; skip; skip; skip; skip; skip; skip; skip; skip; skip; skip; } skip; skip; skip; skip; skip; skip; skip; skip; skip; skip; skip; skip; skip; skip;";
+
 const ONE_OP_TOO_MANY: &[u8] =
     b"p = newPhaser(); loop 65535 { adv(p); adv(p); adv(p); adv(p); } adv(p); adv(p); adv(p); adv(p);";
 
@@ -50,7 +66,7 @@ fn check_text(rt: &impl Abort, alloc: Global, text: &[u8]) -> Checked {
 
 #[test]
 fn plans_and_first_faults(rt: HostRuntime) {
-    let rows: [(&[u8], Checked); 20] = [
+    let rows: [(&[u8], Checked); 31] = [
         (b"", counts(1, 0, 0)),
         (AVERAGING, counts(4, 2, 43)),
         (b"loop 0 { adv(zz); }", counts(1, 0, 0)),
@@ -90,6 +106,29 @@ fn plans_and_first_faults(rt: HostRuntime) {
         (b"t = newTid(); fork(t) { adv(q); } adv(t);", fault(2, 4)),
         // A number is taken at `newTid`, so an assignment in a turn is a task more.
         (b"loop 2 { t = newTid(); fork(t) { } }", counts(3, 0, 2)),
+        // In PL 2 a forked task leaves its phasers at its end, by one op for each.
+        (b"pl 2; p = newPhaser();", counts(1, 1, 2)),
+        (
+            b"pl 2; p = newPhaser(); await(p + 65535); await(p - 3);",
+            counts(1, 1, 4),
+        ),
+        // A task that is never forked leaves nothing.
+        (
+            b"pl 2; p = newPhaser(); t = newTid(); reg(t, p); adv(p); await(p);",
+            counts(2, 1, 5),
+        ),
+        (b"pl 2; p = newPhaser(); dereg(p);", counts(1, 1, 2)),
+        (MOST_OPS_IN_PL_2, counts(1, 1, 262_144)),
+        // The end of task 0 is the end of no statement.
+        (NO_OP_FOR_THE_END, fault(9, 0)),
+        // The end of another is the end of its fork.
+        (NO_OP_FOR_A_CHILD, fault(9, 4)),
+        // The end of a task comes before the tasks after it.
+        (NO_OP_BEFORE_THE_LAST, fault(9, 5)),
+        // A Drop at an end is no visit.
+        (MOST_VISITS_IN_PL_2, counts(1, 1, 2)),
+        (b"pl 2; await(p + 65535);", fault(1, 1)),
+        (b"pl 2; fork(pl) { }", fault(1, 1)),
     ];
     for (i, (text, wanted)) in rows.iter().enumerate() {
         assert_eq!(rt; check_text(&rt, rt.alloc(), text), *wanted, "row {i}");

@@ -1,5 +1,5 @@
 -- What the checker does at a step, as functions on what it keeps. The unfolding does not name them: laws in proofs/ tie the two.
-use Rattle.std.specs.Prelude.{◌≡◌, ℕ, ◌+◌, ◌*◌, ◌<◌, Bool, true, false, not, length, slice_index_or, Option, Some, None, Result, Ok, Err, nat_lt, is_some}
+use Rattle.std.specs.Prelude.{◌≡◌, ℕ, ◌+◌, ◌*◌, ◌<◌, Bool, true, false, not, length, slice_index_or, Option, Some, None, Result, Ok, Err, nat_lt, is_some, if◌then◌else◌, zero, suc}
 use Rattle.pl_plan.specs.Limits.{max_visits}
 use Rattle.armus_base.specs.Limits.{max_tasks, max_phasers, max_ops}
 use Rattle.armus_base.specs.declared.offset.Offset.{Offset}
