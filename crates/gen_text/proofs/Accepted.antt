@@ -9,7 +9,7 @@ use Rattle.pl_syntax.proofs.Unique.{one_tree, text_or_fault}
 use Rattle.pl_plan.specs.Unfolding.{UnfoldingState, Start, Outcome, ◌>>=◌, a_phaser, a_plain, a_loop, a_turn, visit, times, visits_of, make_visits, count_visit, act, add_op, assigned, with_names, with_member, unfold_task, unfold_tasks, opening_state, plan_of}
 use Rattle.gen_text.specs.Generated.{generated_text}
 use Rattle.gen_text.specs.Laws.{GeneratedIsAccepted, GeneratedHasNoSyntaxFault, GeneratedHasNoCheckFault}
-use Rattle.gen_text.proofs.GeneratedProgram.{pc, pb, draws, goes_on, generated_program, is_text}
+use Rattle.gen_text.proofs.GeneratedProgram.{pc, pb, draws, goes_on, generated_body, generated_program, is_text}
 use Rattle.gen_text.proofs.Succeeding.{Succeeds, so, and_then, Parts, Has, has_more, both}
 use Rattle.gen_text.proofs.Statements.{left}
 use Rattle.gen_text.proofs.Drawing.{CanWork, IsDrawing, Drawing, draws_all, member_other}
@@ -21,7 +21,7 @@ use Rattle.gen_text.proofs.Working.{CanGoOn, left_behind, works, ends}
 abbrev opened : ℕ → Parts
 opened n = record {
   parents = None ∷ [];
-  starts = Some (record { body = generated_program n; first = 1; names = λ _. None }) ∷ [];
+  starts = Some (record { body = generated_body n; first = 1; names = λ _. None }) ∷ [];
   members = with_member 0 1 true (with_member 0 0 true (λ _ _. false));
   names = assigned pb (a_phaser 1) (assigned pc (a_phaser 0) (λ _. None));
 }
@@ -42,7 +42,7 @@ is_opened n = record {
 opens :
     (n : ℕ) →
     Succeeds (Drawing 3 0)
-    (make_visits 0 (visit 1 (a_plain (new_phaser pc)) ∷ visit 2 (a_plain (new_phaser pb)) ∷ visit 3 a_loop ∷ []) (opening_state (generated_program n)))
+    (make_visits 0 (visit 1 (a_plain (new_phaser pc)) ∷ visit 2 (a_plain (new_phaser pb)) ∷ visit 3 a_loop ∷ []) (opening_state (generated_body n)))
 unfolding make_visits count_visit act add_op
 opens n = (opened n, record { parts_are = refl; visits = omega arith; ops = omega arith }, is_opened n)
 
@@ -50,9 +50,9 @@ opens n = (opened n, record { parts_are = refl; visits = omega arith; ops = omeg
 abbrev Behind : ℕ → ℕ → UnfoldingState → Type 0
 Behind k t s = (a : Parts) × Has k a s × CanGoOn t a
 
-first_task : (n : ℕ) → n < max_tasks → Succeeds (Behind (5 * n + 6) 1) (make_visits 0 (visits_of 1 (generated_program n)) (opening_state (generated_program n)))
+first_task : (n : ℕ) → n < max_tasks → Succeeds (Behind (5 * n + 6) 1) (make_visits 0 (visits_of 1 (generated_body n)) (opening_state (generated_body n)))
 first_task n l =
-    let p = generated_program n in
+    let p = generated_body n in
     let Q : UnfoldingState → Type 0 = Behind (5 * n + 6) 1 in
     both (Drawing 3 0) Q 0 (opening_state p) (visit 1 (a_plain (new_phaser pc)) ∷ visit 2 (a_plain (new_phaser pb)) ∷ visit 3 a_loop ∷ []) _ (opens n)
     (λ s1 d1. both (Drawing (3 + 5 * n) n) Q 0 s1 (times n (visit 3 a_turn ∷ visits_of 4 draws)) _ (draws_all n 3 s1 (omega arith) l d1)
@@ -64,31 +64,31 @@ first_task n l =
 
 next_task :
     (t k : ℕ) (a : Parts) (s : UnfoldingState) (Q : UnfoldingState → Type 0) (rest : UnfoldingState → Outcome UnfoldingState) → Has k a s → CanGoOn t a → k + 27 < max_ops →
-    ((s' : UnfoldingState) → Behind (k + 27) (t + 1) s' → Succeeds Q (rest s')) → (o : Option Start) → slice_index_or s.starts t None ≡ o → Succeeds Q (unfold_task t o s >>= rest)
+    ((s' : UnfoldingState) → Behind (k + 27) (t + 1) s' → Succeeds Q (rest s')) → (o : Option Start) → slice_index_or s.starts t None ≡ o → Succeeds Q (unfold_task false t o s >>= rest)
 next_task t k a s Q rest h later few then None e = then s (a, has_more k (k + 27) a s (omega arith) h, λ c l. later c (omega arith))
 next_task t k a s Q rest h later few then (Some start) e =
     let b : Parts = record a { names = start.names } in
     let begun : Has k b (with_names start.names s) = record { parts_are = ap (λ (x : Parts). record x { names = start.names }) h.parts_are; visits = h.visits; ops = h.ops } in
     let w : CanWork (a.members t) (Some start) = subst (CanWork (a.members t)) (sym (ap (λ (x : Parts). slice_index_or x.starts t None) h.parts_are) ∙ e) (later t (omega arith)) in
     let P : UnfoldingState → Type 0 = Has (k + 27) (left t 1 (left t 0 b)) in
-    and_then P Q (unfold_task t (Some start) s) rest
+    and_then P Q (unfold_task false t (Some start) s) rest
     (subst (λ (body : Tree). Succeeds P (make_visits t (visits_of start.first body) (with_names start.names s))) (sym w.0)
     (works t k b (with_names start.names s) begun w.1 w.2 start.first few))
     (λ s' h'. then s' (left t 1 (left t 0 b), h', left_behind t 1 (left t 0 b) (left_behind t 0 b (λ c l. later c (omega arith)))))
 
-other_tasks : (m t k : ℕ) (s : UnfoldingState) → Behind k t s → k + 27 * m < max_ops → Succeeds (λ _. Unit {0}) (unfold_tasks m t s)
+other_tasks : (m t k : ℕ) (s : UnfoldingState) → Behind k t s → k + 27 * m < max_ops → Succeeds (λ _. Unit {0}) (unfold_tasks false m t s)
 unfolding unfold_tasks
 other_tasks zero t k s h few = tt
 other_tasks (suc m) t k s h few =
-    next_task t k h.0 s (λ _. Unit {0}) (unfold_tasks m (t + 1)) h.1 h.2 (omega arith)
+    next_task t k h.0 s (λ _. Unit {0}) (unfold_tasks false m (t + 1)) h.1 h.2 (omega arith)
     (λ s' h'. other_tasks m (t + 1) (k + 27) s' h' (omega arith)) (slice_index_or s.starts t None) refl
 
 -- ---- all
 
-all_tasks : (m n : ℕ) → n < max_tasks → m < max_tasks → Succeeds (λ _. Unit {0}) (unfold_tasks (suc m) 0 (opening_state (generated_program n)))
+all_tasks : (m n : ℕ) → n < max_tasks → m < max_tasks → Succeeds (λ _. Unit {0}) (unfold_tasks false (suc m) 0 (opening_state (generated_body n)))
 unfolding unfold_tasks
 all_tasks m n few l =
-    and_then (Behind (5 * n + 6) 1) (λ _. Unit {0}) (unfold_task 0 (Some (record { body = generated_program n; first = 1; names = λ _. None })) (opening_state (generated_program n))) (unfold_tasks m 1)
+    and_then (Behind (5 * n + 6) 1) (λ _. Unit {0}) (unfold_task false 0 (Some (record { body = generated_body n; first = 1; names = λ _. None })) (opening_state (generated_body n))) (unfold_tasks false m 1)
     (first_task n few) (λ s h. other_tasks m 1 (5 * n + 6) s h (omega arith))
 
 plan_from : (o : Outcome UnfoldingState) → Succeeds (λ _. Unit {0}) o → (plan : Plan) × ((o >>= λ s. Ok s.plan) ≡ Ok plan)
@@ -97,7 +97,7 @@ plan_from (Err f) h = absurd h
 
 unfolds : (n : ℕ) → n < max_tasks → (plan : Plan) × (plan_of (generated_program n) ≡ Ok plan)
 unfolding plan_of
-unfolds n l = plan_from (unfold_tasks max_tasks 0 (opening_state (generated_program n))) (all_tasks 1023 n l (omega arith))
+unfolds n l = plan_from (unfold_tasks false max_tasks 0 (opening_state (generated_body n))) (all_tasks 1023 n l (omega arith))
 
 pub accepted : GeneratedIsAccepted
 accepted n l = let u = unfolds n l in (generated_program n, is_text n (omega arith), u.0, u.1)

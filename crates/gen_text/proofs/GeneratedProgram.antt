@@ -3,10 +3,12 @@ use Rattle.std.proofs.Common.{◌≡◌, ℕ, ◌%◌, ◌≤◌, Bool, true, fa
 use Rattle.std.specs.Prelude.{◌==◌, List, [], ◌∷◌, ◌++◌, codes, decimal}
 use Rattle.std.specs.Fmt.{digits}
 use Rattle.pl_syntax.specs.declared.limits.TheConstants.{MAX_NUMBER, MAX_OPEN_BRACES}
+use Rattle.armus_base.specs.declared.offset.Offset.TheVariants.{Here}
+use Rattle.pl_syntax.specs.declared.tree.Program.{Program}
 use Rattle.pl_syntax.specs.Words.{IsName, keyword_of}
-use Rattle.pl_syntax.specs.Tree.{Tree, done, plain, fork, loop, new_task, new_phaser, reg, dereg, adv, await, height}
+use Rattle.pl_syntax.specs.Tree.{Tree, done, plain, fork, loop, new_task, new_phaser, reg, dereg, adv, await, height, AllHere}
 use Rattle.pl_syntax.specs.Grammar.{IsText}
-use Rattle.pl_syntax.specs.Printed.{indented_line, plain_text, printed_at, printed_of, IsWritable}
+use Rattle.pl_syntax.specs.Printed.{indented_line, plain_text, printed_at, printed_of, TreeIsWritable}
 use Rattle.pl_syntax.proofs.RoundTrip.{prints_text}
 use Rattle.gen_text.specs.Generated.{generated_text}
 
@@ -24,7 +26,7 @@ child = codes "t"
 
 -- a round of a worker
 abbrev pub round : Tree
-round = plain (adv pc) (plain (await pc) done)
+round = plain (adv pc) (plain (await pc Here) done)
 
 -- what a worker does
 abbrev pub worker : Tree
@@ -36,16 +38,20 @@ draws = plain (new_task child) (plain (reg child pc) (plain (reg child pb) (fork
 
 -- how task 0 waits for the workers
 abbrev pub waits : Tree
-waits = plain (adv pb) (plain (await pb) done)
+waits = plain (adv pb) (plain (await pb Here) done)
 
 -- what task 0 does when the workers are there: it stays on their barrier, or it leaves it
 abbrev pub goes_on : Bool → Tree
 goes_on true = waits
 goes_on false = plain (dereg pc) waits
 
--- the program
-abbrev pub generated_program : ℕ → Tree
-generated_program n = plain (new_phaser pc) (plain (new_phaser pb) (loop n draws (goes_on (n % 3 == 0))))
+-- the statements
+abbrev pub generated_body : ℕ → Tree
+generated_body n = plain (new_phaser pc) (plain (new_phaser pb) (loop n draws (goes_on (n % 3 == 0))))
+
+-- the program, one of PL 1
+abbrev pub generated_program : ℕ → Program
+generated_program n = record { two = false; body = generated_body n }
 
 -- the first lines up to the number of workers
 abbrev before_number : List ℕ
@@ -82,26 +88,33 @@ child_is_name : IsName child
 unfolding keyword_of
 child_is_name = record { form = refl; short = lit≤ tt; free = refl }
 
-ending_writable : (stays : Bool) → IsWritable (goes_on stays)
-ending_writable true = (pb_is_name, (pb_is_name, tt))
-ending_writable false = (pc_is_name, (pb_is_name, (pb_is_name, tt)))
+ending_writable : (stays : Bool) → TreeIsWritable (goes_on stays)
+ending_writable true = (pb_is_name, ((pb_is_name, tt), tt))
+ending_writable false = (pc_is_name, (pb_is_name, ((pb_is_name, tt), tt)))
 
-worker_writable : IsWritable worker
-worker_writable = (lit≤ tt, (pc_is_name, (pc_is_name, tt)), (pc_is_name, (pb_is_name, tt)))
+worker_writable : TreeIsWritable worker
+worker_writable = (lit≤ tt, (pc_is_name, ((pc_is_name, tt), tt)), (pc_is_name, (pb_is_name, tt)))
 
-draws_writable : IsWritable draws
+draws_writable : TreeIsWritable draws
 draws_writable = (child_is_name, ((child_is_name, pc_is_name), ((child_is_name, pb_is_name), (child_is_name, worker_writable, tt))))
 
-writable : (n : ℕ) → n ≤ MAX_NUMBER → IsWritable (generated_program n)
+writable : (n : ℕ) → n ≤ MAX_NUMBER → TreeIsWritable (generated_body n)
 writable n l = (pc_is_name, (pb_is_name, (l, draws_writable, ending_writable (n % 3 == 0))))
+
+here_after : (stays : Bool) → AllHere (goes_on stays)
+here_after true = (tt, (refl, tt))
+here_after false = (tt, (tt, (refl, tt)))
+
+all_here : (n : ℕ) (stays : Bool) → AllHere (plain (new_phaser pc) (plain (new_phaser pb) (loop n draws (goes_on stays))))
+all_here n stays = (tt, (tt, ((tt, (tt, (tt, (((tt, (refl, tt)), (tt, (tt, tt))), tt)))), here_after stays)))
 
 low : (stays : Bool) → height (goes_on stays) ≡ 0
 low true = refl
 low false = refl
 
-shallow : (n : ℕ) → height (generated_program n) ≤ MAX_OPEN_BRACES
+shallow : (n : ℕ) → height (generated_body n) ≤ MAX_OPEN_BRACES
 shallow n = omega (arith, low (n % 3 == 0))
 
 -- the text is that of the program
 pub is_text : (n : ℕ) → n ≤ MAX_NUMBER → IsText (generated_text n) (generated_program n)
-is_text n l = subst (λ (text : List ℕ). IsText text (generated_program n)) (sym (printed_is n (n % 3 == 0) refl)) (prints_text (generated_program n) (writable n l) (shallow n))
+is_text n l = subst (λ (text : List ℕ). IsText text (generated_program n)) (sym (printed_is n (n % 3 == 0) refl)) (prints_text (generated_program n) (record { tree = writable n l; here = λ _. all_here n (n % 3 == 0) }) (shallow n))

@@ -5,6 +5,7 @@ use Rattle.std.proofs.lemmas.Bool.Decides.{nat_tests}
 use Rattle.std.proofs.lemmas.List.Sums.{sum_by-append}
 use Rattle.armus_base.specs.Limits.{max_tasks, max_ops}
 use Rattle.armus_base.specs.declared.op.Op.TheVariants as op
+use Rattle.armus_base.specs.declared.offset.Offset.TheVariants.{Here}
 use Rattle.pl_syntax.specs.Tree.{Tree, new_task, reg, dereg, adv, await}
 use Rattle.pl_plan.specs.Unfolding.{a_plain, a_fork, a_loop, a_turn, visit, make_visit, UnfoldingState, Start, a_task, a_phaser, task, phaser, add_op, act, act_fork, assigned, with_member, not_member, already_member, too_many_tasks}
 use Rattle.gen_text.proofs.Succeeding.{Succeeds, holds, names_task, names_phaser, is_member, is_own_child, Parts, parts_of, Has, op_fits, visit_fits}
@@ -58,13 +59,13 @@ module _ (n k : ℕ) (a : Parts) (s : UnfoldingState) (h : Has k a s) (few : k <
           (is_member (Has (k + 1) (parts_of s)) n t p (s.names x) (visited s) (λ q. add_op t n (op.Adv (phaser q)) (visited s)) e m
           (op_fits t n k (op.Adv (phaser p)) (visited s) (omega (arith, h.visits)) h.ops few)))
 
-      pub await_fits : a.names x ≡ Some (a_phaser p) → a.members t p ≡ true → Succeeds (Has (k + 1) a) (make_visit t (visit n (a_plain (await x))) s)
+      pub await_fits : a.names x ≡ Some (a_phaser p) → a.members t p ≡ true → Succeeds (Has (k + 1) a) (make_visit t (visit n (a_plain (await x Here))) s)
       unfolding act
       await_fits =
-          subst (λ (b : Parts). b.names x ≡ Some (a_phaser p) → b.members t p ≡ true → Succeeds (Has (k + 1) b) (make_visit t (visit n (a_plain (await x))) s)) h.parts_are
-          (λ e m. visit_fits (Has (k + 1) (parts_of s)) t n k (a_plain (await x)) s h.visits few
-          (is_member (Has (k + 1) (parts_of s)) n t p (s.names x) (visited s) (λ q. add_op t n (op.Await (phaser q)) (visited s)) e m
-          (op_fits t n k (op.Await (phaser p)) (visited s) (omega (arith, h.visits)) h.ops few)))
+          subst (λ (b : Parts). b.names x ≡ Some (a_phaser p) → b.members t p ≡ true → Succeeds (Has (k + 1) b) (make_visit t (visit n (a_plain (await x Here))) s)) h.parts_are
+          (λ e m. visit_fits (Has (k + 1) (parts_of s)) t n k (a_plain (await x Here)) s h.visits few
+          (is_member (Has (k + 1) (parts_of s)) n t p (s.names x) (visited s) (λ q. add_op t n (op.Await (phaser q) Here) (visited s)) e m
+          (op_fits t n k (op.Await (phaser p) Here) (visited s) (omega (arith, h.visits)) h.ops few)))
 
       pub dereg_fits : a.names x ≡ Some (a_phaser p) → a.members t p ≡ true → Succeeds (Has (k + 1) (left t p a)) (make_visit t (visit n (a_plain (dereg x))) s)
       unfolding act

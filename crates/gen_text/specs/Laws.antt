@@ -3,7 +3,7 @@ use Rattle.std.specs.Prelude.{◌≡◌, ℕ, ◌<◌, Ok, Err}
 use Rattle.armus_base.specs.Limits.{max_tasks}
 use Rattle.armus_base.specs.Plans.{Plan}
 use Rattle.pl_syntax.specs.declared.fault.SyntaxFault.{SyntaxFault}
-use Rattle.pl_syntax.specs.Tree.{Tree}
+use Rattle.pl_syntax.specs.declared.tree.Program.{Program}
 use Rattle.pl_syntax.specs.Grammar.{IsText, HasFault}
 use Rattle.pl_plan.specs.declared.fault.CheckFault.{CheckFault}
 use Rattle.pl_plan.specs.Unfolding.{plan_of}
@@ -11,7 +11,7 @@ use Rattle.gen_text.specs.Generated.{generated_text}
 
 -- The text with n workers is a program that unfolds to a plan, where a plan may have task 0 and n tasks more.
 abbrev pub GeneratedIsAccepted : Type 0
-GeneratedIsAccepted = (n : ℕ) → n < max_tasks → (program : Tree) × IsText (generated_text n) program × (plan : Plan) × (plan_of program ≡ Ok plan)
+GeneratedIsAccepted = (n : ℕ) → n < max_tasks → (program : Program) × IsText (generated_text n) program × (plan : Plan) × (plan_of program ≡ Ok plan)
 
 -- it has no syntax fault
 abbrev pub GeneratedHasNoSyntaxFault : Type 0
@@ -19,4 +19,4 @@ GeneratedHasNoSyntaxFault = (n : ℕ) → n < max_tasks → (fault : SyntaxFault
 
 -- its unfolding has no fault
 abbrev pub GeneratedHasNoCheckFault : Type 0
-GeneratedHasNoCheckFault = (n : ℕ) → n < max_tasks → (program : Tree) (fault : CheckFault) → IsText (generated_text n) program → plan_of program ≡ Err fault → ⊥
+GeneratedHasNoCheckFault = (n : ℕ) → n < max_tasks → (program : Program) (fault : CheckFault) → IsText (generated_text n) program → plan_of program ≡ Err fault → ⊥
