@@ -4,6 +4,7 @@ use Rattle.std.specs.Prelude.{slice_get, is_some, if◌then◌else◌}
 use Rattle.std.proofs.lemmas.Option.{slice_get-get_or}
 use Rattle.armus_base.specs.declared.event.Event.{Event}
 use Rattle.armus_base.specs.declared.op.Op.{Op}
+use Rattle.armus_base.specs.declared.offset.Offset.TheVariants.{Here}
 use Rattle.armus_base.specs.declared.op.Op.TheVariants.{Await}
 use Rattle.armus_base.specs.Plans.{Plan, code_of}
 use Rattle.pl_core.specs.declared.task.Task.{Task}
@@ -21,7 +22,7 @@ module _ (plan : Plan) (tasks : List Task) (table : PhaseTable) (kept : KeepsSta
   op_here l = go (slice_get (code_of plan t) task.op) refl
     where
       go : (o : Option Op) → slice_get (code_of plan t) task.op ≡ o → (op : Op) × slice_get (code_of plan t) task.op ≡ Some op
-      go None e = absurd (let some = slice_get-get_or (code_of plan t) task.op (Await (record { 0 = 0 })) l in cc)
+      go None e = absurd (let some = slice_get-get_or (code_of plan t) task.op (Await (record { 0 = 0 }) Here) l in cc)
       go (Some op) e = (op, e)
 
   below_next : (b : Bool) (o : Option Event) → task.place.refused ≡ b → task.event ≡ o → task.op < length (code_of plan t) → task.place.events < actions_before (code_of plan t) (suc task.op)
@@ -41,9 +42,9 @@ module _ (plan : Plan) (tasks : List Task) (table : PhaseTable) (kept : KeepsSta
       omega arith
   below_next false (Some event) r e l =
       let at = await_of_waiting plan tasks table kept t task read event (published_kept plan tasks table kept t task read r ∙ e) in
-      let more = actions_before-suc (code_of plan t) task.op (Await at.0) at.1 in
-      let two = await_is_two at.0 in
-      let n = at.3 in
+      let more = actions_before-suc (code_of plan t) task.op (Await at.0 at.1) at.2 in
+      let two = await_is_two at.0 at.1 in
+      let n = at.4 in
       omega arith
 
   pub at_op : IsAtOp (code_of plan t) (places_of (world_from plan tasks) t).done task.op

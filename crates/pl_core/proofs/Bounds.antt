@@ -1,6 +1,7 @@
 -- Members are tasks and their phasers phasers of the plan, and phases fit the table.
 use Rattle.std.proofs.Common.{◌≡◌, ℕ, ◌<◌, ◌≤◌, true, List, Some, None, length, arith, sym, ◌∙◌, ap}
 use Rattle.armus_base.specs.Plans.{Forks, Plan, Makes, action_at, maker_of}
+use Rattle.armus_base.specs.Limits.{max_ops}
 use Rattle.armus_base.specs.Runs.{state_after}
 use Rattle.armus_base.specs.Places.{done_by, kept, made_at, makes, phases_after, phases_at, state_at}
 use Rattle.armus_base.specs.CheckedPlans.{IsCheckedPlan}
@@ -48,7 +49,7 @@ phaser_of_member w checked reach t p n e = (members_within w.plan (places_of w) 
 -- the phase of a forked task that is not refused fits
 pub phase_fits :
     (w : WorldValue) → IsCheckedPlan w.plan → (t p n : ℕ) → (state_of w).forked t ≡ true → (places_of w t).dropped ≡ None →
-    (state_of w).phases t p ≡ Some n → n ≤ 262144
+    (state_of w).phases t p ≡ Some n → n ≤ max_ops
 unfolding state_of
 phase_fits w checked t p n forked undropped e =
     let known : phases_after w.plan t (places_of w t).done p ≡ Some n =

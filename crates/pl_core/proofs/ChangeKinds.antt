@@ -6,7 +6,7 @@ use Rattle.std.proofs.lemmas.Option.{slice_get_within}
 use Rattle.std.proofs.lemmas.List.{length-set, map-set}
 use Rattle.armus_base.specs.declared.op.Op.{Op}
 use Rattle.armus_base.specs.declared.op.Op.TheVariants.{Make, Reg, Fork, Adv, Drop, Await}
-use Rattle.armus_base.specs.Plans.{Plan, Action, Advances, Blocks, Drops, Forks, Makes, Passes, Refuses, Registers, code_of}
+use Rattle.armus_base.specs.Plans.{Plan, Action, Advances, Blocks, Drops, Forks, Makes, Passes, Refuses, Registers, code_of, Aim}
 use Rattle.armus_base.specs.States.{IsActive, IsLegal, State, after}
 use Rattle.armus_base.proofs.Codes.{child_later, child_within, phaser_within}
 use Rattle.armus_base.proofs.Steps.{updated_same, updated_other}
@@ -34,13 +34,13 @@ some_of : {A B : Type 0} (f : A → B) (o : Option A) (y : B) → option_map f o
 some_of f None y e = absurd (cc)
 some_of f (Some x) y e = (x, refl, cc)
 
-no_block : (op : Op) → ChangesPhases op → (p : ℕ) → action_of op ≢ Blocks p
+no_block : (op : Op) → ChangesPhases op → (aim : Aim) → action_of op ≢ Blocks aim
 no_block (Make q) c p e = absurd (cc)
 no_block (Reg d q) c p e = absurd (cc)
 no_block (Adv q) c p e = absurd (cc)
 no_block (Drop q) c p e = absurd (cc)
 no_block (Fork d) c p e = absurd c
-no_block (Await q) c p e = absurd c
+no_block (Await q off) c p e = absurd c
 
 no_fork : (op : Op) → ChangesPhases op → (u : ℕ) → action_of op ≢ Forks u
 no_fork (Make q) c u e = absurd (cc)
@@ -48,7 +48,7 @@ no_fork (Reg d q) c u e = absurd (cc)
 no_fork (Adv q) c u e = absurd (cc)
 no_fork (Drop q) c u e = absurd (cc)
 no_fork (Fork d) c u e = absurd c
-no_fork (Await q) c u e = absurd c
+no_fork (Await q off) c u e = absurd c
 
 same_forked : (s : State) (t : ℕ) (op : Op) → ChangesPhases op → (after s t (action_of op)).forked ≡ s.forked
 same_forked s t (Make q) c = refl
@@ -56,7 +56,7 @@ same_forked s t (Reg d q) c = refl
 same_forked s t (Adv q) c = refl
 same_forked s t (Drop q) c = refl
 same_forked s t (Fork d) c = absurd c
-same_forked s t (Await q) c = absurd c
+same_forked s t (Await q off) c = absurd c
 
 same_published : (s : State) (t : ℕ) (op : Op) → ChangesPhases op → (after s t (action_of op)).published ≡ s.published
 same_published s t (Make q) c = refl
@@ -64,7 +64,7 @@ same_published s t (Reg d q) c = refl
 same_published s t (Adv q) c = refl
 same_published s t (Drop q) c = refl
 same_published s t (Fork d) c = absurd c
-same_published s t (Await q) c = absurd c
+same_published s t (Await q off) c = absurd c
 
 pub phases_of_state : (s : State) (t : ℕ) (x : Action) → phases_moved s.phases t x ≡ (after s t x).phases
 phases_of_state s t (Makes p) = refl
@@ -93,7 +93,7 @@ module _ (plan : Plan) (tasks : List Task) (table : PhaseTable) (kept : KeepsSta
   undropped_now = undropped_of plan tasks table kept t task read active.unrefused
 
   -- what is kept of a task that has made an op of one action
-  module _ (x : Action) (next : action_by_code old t ≡ Some x) (no_await : (p : ℕ) → x ≢ Blocks p) where
+  module _ (x : Action) (next : action_by_code old t ≡ Some x) (no_await : (aim : Aim) → x ≢ Blocks aim) where
     legal : IsLegal plan (state_of old) t x
     legal = legal_next plan tasks table kept t task read x active next
 
@@ -144,7 +144,7 @@ module _ (plan : Plan) (tasks : List Task) (table : PhaseTable) (kept : KeepsSta
         go (Drop p) n c =
             let l = legal_next plan tasks table kept t task read (Drops p.0) active n in phaser_bound p.0 l.2.0 l.2.1
         go (Fork d) n c = absurd c
-        go (Await p) n c = absurd c
+        go (Await p off) n c = absurd c
 
     pub change_stepped :
         (table' : PhaseTable) → table'.tasks ≡ table.tasks → table'.phasers ≡ table.phasers →

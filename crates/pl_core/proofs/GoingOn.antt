@@ -1,24 +1,24 @@
 -- Which tasks may go on.
-use Rattle.std.proofs.Common.{◌≡◌, ℕ, ◌<◌, Option, Some, None, length, arith, sym, ◌∙◌, ap, subst, refl}
+use Rattle.std.proofs.Common.{◌≡◌, ℕ, ◌<◌, ◌≤◌, Option, Some, None, length, arith, sym, ◌∙◌, ap, subst, refl}
 use Rattle.std.specs.Prelude.{◌↔◌}
 use Rattle.std.proofs.lemmas.Bool.{false≢true}
 use Rattle.armus_base.specs.declared.event.Event.{Event}
-use Rattle.armus_base.specs.Plans.{Action, Blocks, Passes, action_at}
+use Rattle.armus_base.specs.Limits.{max_ops}
+use Rattle.armus_base.specs.Plans.{Action, Aim, Blocks, Passes}
 use Rattle.armus_base.specs.States.{IsActive, IsLegal, IsMember, IsReached}
 use Rattle.armus_base.specs.Runs.{IsReachable}
 use Rattle.armus_base.specs.Places.{IsConsistent, refused_at}
 use Rattle.armus_base.specs.CheckedPlans.{IsCheckedPlan}
-use Rattle.armus_base.proofs.Codes.{passes_next}
 use Rattle.armus_base.proofs.Members.{only_passes, published_member}
-use Rattle.armus_base.proofs.NextIsLegal.{next_legal}
-use Rattle.armus_base.proofs.Published.{published_after_is, published_undropped}
+use Rattle.armus_base.proofs.NextIsLegal.{next_legal, unrefused_undropped}
+use Rattle.armus_base.proofs.Published.{published_after_is, published_passes, published_undropped}
 use Rattle.armus_base.proofs.Reachable.{reachable_is_fixed}
 use Rattle.armus_base.proofs.Stepping.{acting_forked}
 use Rattle.pl_core.specs.declared.stand.Stand.{Stand}
 use Rattle.pl_core.specs.declared.stand.Stand.TheVariants.{Unforked, Done, Refused, Ready, Await, Waits}
 use Rattle.pl_core.specs.Stands.{IsEnabled, IsBeforeOp, MayGoOn, StandsSo}
 use Rattle.pl_core.specs.Worlds.{WorldValue, action_by_code, places_of, state_of}
-use Rattle.pl_core.proofs.Bounds.{phaser_of_member, task_of_member}
+use Rattle.pl_core.proofs.Bounds.{phase_fits, phaser_of_member, task_of_member}
 use Rattle.pl_core.proofs.StepKinds.{awaits_block}
 
 module _ (w : WorldValue) (checked : IsCheckedPlan w.plan) (reach : IsReachable w.plan (places_of w)) where
@@ -29,12 +29,17 @@ module _ (w : WorldValue) (checked : IsCheckedPlan w.plan) (reach : IsReachable 
   unfolding state_of
   legal_when_active t x active next = next_legal w.plan checked (places_of w) consistent_there t x active next
 
+  -- the phase of an active task leaves room for what it awaits
+  pub phase_when_active : (t p n : ℕ) → IsActive (state_of w) t → (state_of w).phases t p ≡ Some n → n ≤ max_ops
+  unfolding state_of
+  phase_when_active t p n active e =
+      phase_fits w checked t p n active.forked (unrefused_undropped w.plan checked (places_of w) consistent_there t active.unrefused) e
+
   -- a waiting task passes next, if its event is reached
   pub passes_when_waiting : (t : ℕ) (e : Event) → (state_of w).published t ≡ Some e → action_by_code w t ≡ Some (Passes e.p.0)
   unfolding state_of
   passes_when_waiting t e p =
-      let is = published_after_is w.plan t (places_of w t).done e p in
-      ap (action_at w.plan t) is.1 ∙ passes_next w.plan t is.0 e.p.0 is.2
+      published_passes w.plan t (places_of w t).done e p
 
   pub legal_when_reached : (t : ℕ) (e : Event) → (state_of w).published t ≡ Some e → IsReached (state_of w) e → IsLegal w.plan (state_of w) t (Passes e.p.0)
   unfolding state_of
@@ -95,8 +100,8 @@ module _ (w : WorldValue) (checked : IsCheckedPlan w.plan) (reach : IsReachable 
       (member.0, ap (λ s. s.phases t e.p.0) (sym at) ∙ member.1)
 
   -- the phaser of an event on which a task is published, and one at which it awaits
-  pub phaser_of_awaited : (t p : ℕ) → IsLegal w.plan (state_of w) t (Blocks p) → p < length w.plan.makers
-  phaser_of_awaited t p legal = phaser_of_member w checked reach t p legal.1.0 legal.1.1
+  pub phaser_of_awaited : (t : ℕ) (aim : Aim) → IsLegal w.plan (state_of w) t (Blocks aim) → aim.phaser < length w.plan.makers
+  phaser_of_awaited t aim legal = phaser_of_member w checked reach t aim.phaser legal.1.0 legal.1.1
 
   pub phaser_of_waiting : (t : ℕ) (e : Event) → (state_of w).published t ≡ Some e → e.p.0 < length w.plan.makers
   phaser_of_waiting t e p =

@@ -5,7 +5,7 @@ use Rattle.std.specs.Prelude.{slice_get}
 use Rattle.std.proofs.lemmas.Option.{slice_get_within}
 use Rattle.std.proofs.lemmas.Bool.{cases_eq}
 use Rattle.std.proofs.lemmas.List.{length-set, map-set}
-use Rattle.armus_base.specs.Plans.{Plan, Action, Blocks, Forks, Passes, Refuses, in_code}
+use Rattle.armus_base.specs.Plans.{Plan, Action, Blocks, Forks, Passes, Refuses, in_code, Aim}
 use Rattle.armus_base.specs.States.{State, IsLegal, after}
 use Rattle.armus_base.specs.Runs.{IsByCode, IsReachable, moved, next_place}
 use Rattle.armus_base.specs.Places.{state_at}
@@ -35,11 +35,11 @@ unfolding places_at
 places_set_other plan places t u v n = ap (place_from plan u) (slice_get-set_other places t u v n)
 
 -- a step that refuses nothing
-pub regular : (k : ℕ) (x : Action) → ((p : ℕ) → x ≢ Refuses p) → next_place k None x ≡ record { done = suc k; dropped = None }
+pub regular : (k : ℕ) (x : Action) → ((aim : Aim) → x ≢ Refuses aim) → next_place k None x ≡ record { done = suc k; dropped = None }
 regular k (Refuses p) n = absurd (n p refl)
 regular k x n = refl
 
-in_code_same : (x : Action) → ((p : ℕ) → x ≢ Refuses p) → in_code x ≡ x
+in_code_same : (x : Action) → ((aim : Aim) → x ≢ Refuses aim) → in_code x ≡ x
 in_code_same (Refuses p) n = absurd (n p refl)
 in_code_same x n = refl
 
@@ -81,7 +81,7 @@ module _ (plan : Plan) (tasks : List Task) (table : PhaseTable) (kept : KeepsSta
           let active = subst (λ y. IsLegal plan (state_of old) t y) is legal in
           sym h ∙ undropped_of plan tasks table kept t task read active.0.unrefused
 
-  no_refusing : (p : ℕ) → x ≢ Refuses p
+  no_refusing : (aim : Aim) → x ≢ Refuses aim
   no_refusing p e = no_refusal plan t (places_of old t).done p (next ∙ ap Some e)
 
   pub flag : task.place.refused ≡ false

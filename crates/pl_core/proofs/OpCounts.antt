@@ -1,9 +1,10 @@
 -- Where an op's actions stand among the actions of a code.
 use Rattle.std.proofs.Common.{◌≡◌, ◌≢◌, ℕ, zero, suc, ◌≤◌, ◌+◌, List, [], ◌∷◌, Option, Some, None, length, arith, ap, refl}
 use Rattle.std.specs.Prelude.{slice_get, option_map}
+use Rattle.armus_base.specs.declared.offset.Offset.{Offset}
 use Rattle.armus_base.specs.declared.op.Op.{Op}
 use Rattle.armus_base.specs.declared.op.Op.TheVariants.{Make, Reg, Fork, Adv, Drop, Await}
-use Rattle.armus_base.specs.Plans.{Blocks, actions_of}
+use Rattle.armus_base.specs.Plans.{Action, Aim, Blocks, actions_of}
 use Rattle.pl_core.specs.inside.Ops.{action_of}
 use Rattle.pl_core.specs.Tasks.{actions_before}
 
@@ -16,17 +17,17 @@ action_before (Reg c p ∷ ops) zero l = refl
 action_before (Fork c ∷ ops) zero l = refl
 action_before (Adv p ∷ ops) zero l = refl
 action_before (Drop p ∷ ops) zero l = refl
-action_before (Await p ∷ ops) zero l = refl
+action_before (Await p off ∷ ops) zero l = refl
 action_before (Make p ∷ ops) (suc k) l = action_before ops k (omega arith)
 action_before (Reg c p ∷ ops) (suc k) l = action_before ops k (omega arith)
 action_before (Fork c ∷ ops) (suc k) l = action_before ops k (omega arith)
 action_before (Adv p ∷ ops) (suc k) l = action_before ops k (omega arith)
 action_before (Drop p ∷ ops) (suc k) l = action_before ops k (omega arith)
-action_before (Await p ∷ ops) (suc k) l = action_before ops k (omega arith)
+action_before (Await p off ∷ ops) (suc k) l = action_before ops k (omega arith)
 
 -- how many actions an op is
 pub actions_in : Op → ℕ
-actions_in (Await p) = 2
+actions_in (Await p off) = 2
 actions_in op = 1
 
 -- one op more
@@ -38,37 +39,45 @@ actions_before-suc (Reg c p ∷ ops) zero op e = (let is : Reg c p ≡ op = (cc)
 actions_before-suc (Fork c ∷ ops) zero op e = (let is : Fork c ≡ op = (cc) in let n = ap actions_in is in omega arith)
 actions_before-suc (Adv p ∷ ops) zero op e = (let is : Adv p ≡ op = (cc) in let n = ap actions_in is in omega arith)
 actions_before-suc (Drop p ∷ ops) zero op e = (let is : Drop p ≡ op = (cc) in let n = ap actions_in is in omega arith)
-actions_before-suc (Await p ∷ ops) zero op e = (let is : Await p ≡ op = (cc) in let n = ap actions_in is in omega arith)
+actions_before-suc (Await p off ∷ ops) zero op e = (let is : Await p off ≡ op = (cc) in let n = ap actions_in is in omega arith)
 actions_before-suc (Make p ∷ ops) (suc k) op e = (let r = actions_before-suc ops k op e in omega arith)
 actions_before-suc (Reg c p ∷ ops) (suc k) op e = (let r = actions_before-suc ops k op e in omega arith)
 actions_before-suc (Fork c ∷ ops) (suc k) op e = (let r = actions_before-suc ops k op e in omega arith)
 actions_before-suc (Adv p ∷ ops) (suc k) op e = (let r = actions_before-suc ops k op e in omega arith)
 actions_before-suc (Drop p ∷ ops) (suc k) op e = (let r = actions_before-suc ops k op e in omega arith)
-actions_before-suc (Await p ∷ ops) (suc k) op e = (let r = actions_before-suc ops k op e in omega arith)
+actions_before-suc (Await p off ∷ ops) (suc k) op e = (let r = actions_before-suc ops k op e in omega arith)
 
-pub await_is_two : (p : _) → actions_in (Await p) ≡ 2
+pub await_is_two : (p : _) (off : Offset) → actions_in (Await p off) ≡ 2
 unfolding actions_in
-await_is_two p = refl
+await_is_two p off = refl
+
+-- the phaser of a block
+aimed : {a b : Aim} → Some (Blocks a) ≡ Some (Blocks b) → a.phaser ≡ b.phaser
+aimed e = ap phaser_of e
+  where
+    phaser_of : Option Action → ℕ
+    phaser_of (Some (Blocks a)) = a.phaser
+    phaser_of o = 0
 
 -- an op that begins with a block is an await, and a block is the first action of one
-pub blocks_is : (o : Option Op) (p : ℕ) → option_map action_of o ≡ Some (Blocks p) → (q : _) × o ≡ Some (Await q) × q.0 ≡ p
-blocks_is None p e = absurd (cc)
-blocks_is (Some (Make q)) p e = absurd (cc)
-blocks_is (Some (Reg c q)) p e = absurd (cc)
-blocks_is (Some (Fork c)) p e = absurd (cc)
-blocks_is (Some (Adv q)) p e = absurd (cc)
-blocks_is (Some (Drop q)) p e = absurd (cc)
-blocks_is (Some (Await q)) p e = (q, refl, cc)
+pub blocks_is : (o : Option Op) (aim : Aim) → option_map action_of o ≡ Some (Blocks aim) → (q : _) × (off : Offset) × (o ≡ Some (Await q off)) × q.0 ≡ aim.phaser
+blocks_is None aim e = absurd (cc)
+blocks_is (Some (Make q)) aim e = absurd (cc)
+blocks_is (Some (Reg c q)) aim e = absurd (cc)
+blocks_is (Some (Fork c)) aim e = absurd (cc)
+blocks_is (Some (Adv q)) aim e = absurd (cc)
+blocks_is (Some (Drop q)) aim e = absurd (cc)
+blocks_is (Some (Await q off)) aim e = (q, off, refl, aimed e)
 
 -- an op that is no await is one action
-pub one_unless_await : (op : Op) → ((p : ℕ) → action_of op ≢ Blocks p) → actions_in op ≡ 1
+pub one_unless_await : (op : Op) → ((aim : Aim) → action_of op ≢ Blocks aim) → actions_in op ≡ 1
 unfolding actions_in
 one_unless_await (Make p) n = refl
 one_unless_await (Reg c p) n = refl
 one_unless_await (Fork c) n = refl
 one_unless_await (Adv p) n = refl
 one_unless_await (Drop p) n = refl
-one_unless_await (Await p) n = absurd (n p.0 refl)
+one_unless_await (Await p off) n = absurd (n (record { phaser = p.0; off = off }) refl)
 
 -- an op is at least one action
 pub at_least_one : (op : Op) → 1 ≤ actions_in op
@@ -78,7 +87,7 @@ at_least_one (Reg c p) = omega arith
 at_least_one (Fork c) = omega arith
 at_least_one (Adv p) = omega arith
 at_least_one (Drop p) = omega arith
-at_least_one (Await p) = omega arith
+at_least_one (Await p off) = omega arith
 
 -- how many actions an op is, as a code of its own
 pub actions_in_is : (op : Op) → length (actions_of (op ∷ [])) ≡ actions_in op
@@ -88,4 +97,4 @@ actions_in_is (Reg c p) = refl
 actions_in_is (Fork c) = refl
 actions_in_is (Adv p) = refl
 actions_in_is (Drop p) = refl
-actions_in_is (Await p) = refl
+actions_in_is (Await p off) = refl

@@ -6,8 +6,8 @@ use Rattle.std.proofs.lemmas.Bool.{cases_eq, cases_lt}
 use Rattle.std.proofs.lemmas.List.{length-set, map-set}
 use Rattle.std.proofs.lemmas.Option.{slice_get_within}
 use Rattle.armus_base.specs.declared.event.Event.{Event}
-use Rattle.armus_base.specs.Plans.{Blocks, Plan, Refuses}
-use Rattle.armus_base.specs.States.{IsActive, IsLegal, Phases, State, event_on, updated}
+use Rattle.armus_base.specs.Plans.{Blocks, Plan, Refuses, Aim}
+use Rattle.armus_base.specs.States.{IsActive, IsLegal, Phases, State, awaited, updated}
 use Rattle.armus_base.specs.Runs.{IsReachable, Place}
 use Rattle.armus_base.specs.Places.{done_by, kept as kept_phases, members_below, phases_after, phases_at, state_at}
 use Rattle.armus_base.proofs.Fixed.{kept_above, kept_below, phases_forked}
@@ -54,7 +54,7 @@ module _ (plan : Plan) (tasks : List Task) (table : PhaseTable) (kept : KeepsSta
   abbrev old : WorldValue
   old = world_from plan tasks
 
-  blocks : (p : ℕ) × action_by_code old t ≡ Some (Blocks p) × event_on p ((state_of old).phases t p) ≡ Some e
+  blocks : (aim : Aim) × (action_by_code old t ≡ Some (Blocks aim)) × awaited (Some (Blocks aim)) ((state_of old).phases t) ≡ Some e
   blocks = awaits_block (action_by_code old t) ((state_of old).phases t) e before.1
 
   active_there : IsActive (state_at plan (places_of old)) t
@@ -199,7 +199,7 @@ module _ (plan : Plan) (tasks : List Task) (table : PhaseTable) (kept : KeepsSta
   refusal_made =
       subst (λ v. MakesRefusal old v t) (sym (ap (λ ps. record { plan = plan; places = ps }) (map-set (λ (k : Task). k.place) tasks t (after_refusal task e))))
       (record {
-        phaser = blocks.0;
+        aim = blocks.0;
         drops = lead.0;
         place = task.place;
         there = standing_there tasks t task read;

@@ -2,7 +2,7 @@
 use mathlib.Core.Path.{fun_ext}
 use Rattle.std.proofs.Common.{◌≡◌, ◌≢◌, ℕ, zero, suc, ◌<◌, List, [], ◌∷◌, ◌++◌, Option, Some, None, arith, sym, ◌∙◌, ap, subst, refl, inl, inr}
 use Rattle.std.proofs.lemmas.Bool.{cases_eq, cases_lt}
-use Rattle.armus_base.specs.Plans.{Blocks, Drops, Plan, Refuses, action_at}
+use Rattle.armus_base.specs.Plans.{Blocks, Drops, Plan, Refuses, action_at, Aim}
 use Rattle.armus_base.specs.States.{IsActive, IsLegal, Phases, Step, awaited, updated}
 use Rattle.armus_base.specs.Runs.{IsByCode, IsReachable, Place, moved, next_place}
 use Rattle.armus_base.specs.Places.{done_by, forked_at, kept, members_below, phases_after, phases_at, published_after, refused_at, state_at}
@@ -33,7 +33,7 @@ dropped_below m q r l = go (m r) refl
         kept_below (members_below m q) r m
         (let more = members_below_more m (suc r) q (omega arith) in let one = members_below-suc m r n e in omega arith)
 
-module _ (plan : Plan) (checked : IsCheckedPlan plan) (a : ℕ → Place) (t p : ℕ) (active : IsActive (state_at plan a) t) (undropped : (a t).dropped ≡ None) (next : action_at plan t (a t).done ≡ Some (Blocks p)) (legal : IsLegal plan (state_at plan a) t (Blocks p)) where
+module _ (plan : Plan) (checked : IsCheckedPlan plan) (a : ℕ → Place) (t : ℕ) (aim : Aim) (active : IsActive (state_at plan a) t) (undropped : (a t).dropped ≡ None) (next : action_at plan t (a t).done ≡ Some (Blocks aim)) (legal : IsLegal plan (state_at plan a) t (Blocks aim)) where
   abbrev own : Phases
   own = phases_after plan t (a t).done
 
@@ -68,8 +68,8 @@ module _ (plan : Plan) (checked : IsCheckedPlan plan) (a : ℕ → Place) (t p :
   drop_code : (q : ℕ) → IsByCode plan t (dropping q t).done (dropping q t).dropped (Drops q)
   drop_code q = subst (λ v. IsByCode plan t v.done v.dropped (Drops q)) (sym (own_place q)) tt
 
-  refuse_code : IsByCode plan t (a t).done (a t).dropped (Refuses p)
-  refuse_code = subst (λ o. IsByCode plan t (a t).done o (Refuses p)) (sym undropped) next
+  refuse_code : IsByCode plan t (a t).done (a t).dropped (Refuses aim)
+  refuse_code = subst (λ o. IsByCode plan t (a t).done o (Refuses aim)) (sym undropped) next
 
   twice : (f : ℕ → Place) (v w : Place) → updated (updated f t v) t w ≡ updated f t w
   twice f v w =
@@ -78,8 +78,8 @@ module _ (plan : Plan) (checked : IsCheckedPlan plan) (a : ℕ → Place) (t p :
         | inr n ↦ updated_other (updated f t v) t u w n ∙ updated_other f t u v n ∙ sym (updated_other f t u w n)
       ])
 
-  refuse_moves : moved a t (Refuses p) ≡ dropping 0
-  refuse_moves = ap (λ o. updated a t (next_place (a t).done o (Refuses p))) undropped
+  refuse_moves : moved a t (Refuses aim) ≡ dropping 0
+  refuse_moves = ap (λ o. updated a t (next_place (a t).done o (Refuses aim))) undropped
 
   drop_moves : (q n : ℕ) → own q ≡ Some n → moved (dropping q) t (Drops q) ≡ dropping (suc q)
   drop_moves q n member =
@@ -87,20 +87,20 @@ module _ (plan : Plan) (checked : IsCheckedPlan plan) (a : ℕ → Place) (t p :
       ∙ twice a (record { done = (a t).done; dropped = Some (members_below own q) }) (record { done = (a t).done; dropped = Some (suc (members_below own q)) })
       ∙ ap (λ d. updated a t (record { done = (a t).done; dropped = Some d })) (sym (members_below-suc own q n member))
 
-  refuse_legal : IsLegal plan (state_at plan a) t (Refuses p)
+  refuse_legal : IsLegal plan (state_at plan a) t (Refuses aim)
   refuse_legal = (legal.0, legal.1)
 
   -- the refusal, and the drops of the phasers below q, the last one first
-  pub drops_lead : (q : ℕ) → (drops : List ℕ) × LeadsOn plan a (drops_from t drops ++ record { task = t; action = Refuses p } ∷ []) (dropping q)
+  pub drops_lead : (q : ℕ) → (drops : List ℕ) × LeadsOn plan a (drops_from t drops ++ record { task = t; action = Refuses aim } ∷ []) (dropping q)
   drops_lead zero = ([], (a, refl, refuse_code, refuse_legal, refuse_moves))
   drops_lead (suc q) = go (own q) refl (drops_lead q)
     where
       go :
-          (o : Option ℕ) → own q ≡ o → (drops : List ℕ) × LeadsOn plan a (drops_from t drops ++ record { task = t; action = Refuses p } ∷ []) (dropping q) →
-          (drops : List ℕ) × LeadsOn plan a (drops_from t drops ++ record { task = t; action = Refuses p } ∷ []) (dropping (suc q))
+          (o : Option ℕ) → own q ≡ o → (drops : List ℕ) × LeadsOn plan a (drops_from t drops ++ record { task = t; action = Refuses aim } ∷ []) (dropping q) →
+          (drops : List ℕ) × LeadsOn plan a (drops_from t drops ++ record { task = t; action = Refuses aim } ∷ []) (dropping (suc q))
       go None e before = (
         before.0,
-        subst (λ d. LeadsOn plan a (drops_from t before.0 ++ record { task = t; action = Refuses p } ∷ []) (updated a t (record { done = (a t).done; dropped = Some d })))
+        subst (λ d. LeadsOn plan a (drops_from t before.0 ++ record { task = t; action = Refuses aim } ∷ []) (updated a t (record { done = (a t).done; dropped = Some d })))
             (sym (members_below-none own q e)) before.1,
       )
       go (Some n) e before = (q ∷ before.0, (dropping q, before.1, drop_code q, drop_legal q n e, drop_moves q n e))
@@ -115,12 +115,12 @@ module _ (plan : Plan) (checked : IsCheckedPlan plan) (a : ℕ → Place) (t p :
   pub same_refused : (q u : ℕ) → u ≢ t → (state_at plan (dropping q)).refused u ≡ (state_at plan a).refused u
   same_refused q u n = ap (λ v. refused_at plan u v.done v.dropped) (updated_other a t u (record { done = (a t).done; dropped = Some (members_below own q) }) n)
 
-  pub own_refused : (q : ℕ) → (state_at plan (dropping q)).refused t ≡ awaited (Some (Blocks p)) ((state_at plan a).phases t)
+  pub own_refused : (q : ℕ) → (state_at plan (dropping q)).refused t ≡ awaited (Some (Blocks aim)) ((state_at plan a).phases t)
   own_refused q =
       ap (λ v. refused_at plan t v.done v.dropped) (own_place q)
       ∙ ap (λ o. awaited o own) next
-      ∙ ap (awaited (Some (Blocks p))) (sym (phases_forked plan checked (done_by a) t active.forked))
-      ∙ ap (λ o. awaited (Some (Blocks p)) (kept o (phases_at plan (done_by a) t))) (sym undropped)
+      ∙ ap (awaited (Some (Blocks aim))) (sym (phases_forked plan checked (done_by a) t active.forked))
+      ∙ ap (λ o. awaited (Some (Blocks aim)) (kept o (phases_at plan (done_by a) t))) (sym undropped)
 
   pub same_phases : (q u : ℕ) → u ≢ t → (state_at plan (dropping q)).phases u ≡ (state_at plan a).phases u
   same_phases q u n =

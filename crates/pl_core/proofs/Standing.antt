@@ -6,6 +6,7 @@ use Rattle.std.proofs.lemmas.Option.{slice_get-map}
 use Rattle.armus_base.specs.declared.ending.TaskEnd.TheVariants.{Blocked, Done, Refused, Unforked}
 use Rattle.armus_base.specs.declared.event.Event.{Event}
 use Rattle.armus_base.specs.Finals.{end_by, end_of}
+use Rattle.armus_base.specs.declared.offset.Offset.{Offset}
 use Rattle.armus_base.specs.declared.op.Op.TheVariants.{Await}
 use Rattle.armus_base.specs.Plans.{Plan, action_at, actions, code_of}
 use Rattle.armus_base.specs.States.{State, IsActive}
@@ -97,7 +98,7 @@ module _ (plan : Plan) (tasks : List Task) (table : PhaseTable) (kept : KeepsSta
     -- a waiting task has begun an await
     pub await_of_waiting :
         (e : Event) → (state_of (world_from plan tasks)).published t ≡ Some e →
-        (q : _) × slice_get (code_of plan t) task.op ≡ Some (Await q) × q.0 ≡ e.p.0 × task.place.events ≡ actions_before (code_of plan t) task.op + 1
+        (q : _) × (off : Offset) × slice_get (code_of plan t) task.op ≡ Some (Await q off) × q.0 ≡ e.p.0 × task.place.events ≡ actions_before (code_of plan t) task.op + 1
     unfolding state_of
     await_of_waiting e p =
         let r = refused_false (undropped_waiting e p) in
@@ -105,8 +106,8 @@ module _ (plan : Plan) (tasks : List Task) (table : PhaseTable) (kept : KeepsSta
         let counted : task.place.events ≡ actions_before (code_of plan t) task.op + 1 = (let n = of_task.events in let b = begun_some task e event r in omega arith) in
         let is = published_after_is plan t (places_of (world_from plan tasks) t).done e p in
         let before : is.0 ≡ actions_before (code_of plan t) task.op = (let d = done_is in let s = is.1 in omega arith) in
-        let op = blocks_is (slice_get (code_of plan t) task.op) e.p.0 (sym (action_of_op plan t task.op is.0 of_task.within before) ∙ is.2) in
-        (op.0, op.1, op.2, counted)
+        let op = blocks_is (slice_get (code_of plan t) task.op) is.2 (sym (action_of_op plan t task.op is.0 of_task.within before) ∙ is.4) in
+        (op.0, op.1, op.2, op.3 ∙ sym is.3, counted)
 
     -- a task with no event is neither published nor refused
     idle_by_flag :

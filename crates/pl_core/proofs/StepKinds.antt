@@ -1,17 +1,18 @@
 -- What is kept after each kind of step.
-use Rattle.std.proofs.Common.{◌≡◌, ℕ, ◌<◌, ◌≤◌, ◌+◌, true, false, List, [], ◌∷◌, Option, Some, None, length, set, add-one, arith, sym, ◌∙◌, ap, refl}
+use Rattle.std.proofs.Common.{◌≡◌, ℕ, ◌<◌, ◌≤◌, ◌+◌, ◌*◌, true, false, List, [], ◌∷◌, Option, Some, None, length, set, add-one, arith, sym, ◌∙◌, ap, refl}
 use Rattle.std.specs.Prelude.{slice_get}
 use Rattle.std.proofs.lemmas.Option.{slice_get_within}
 use Rattle.armus_base.specs.declared.event.Event.{Event}
+use Rattle.armus_base.specs.declared.offset.Offset.{Offset}
 use Rattle.armus_base.specs.declared.op.Op.{Op}
 use Rattle.armus_base.specs.declared.op.Op.TheVariants.{Make, Reg, Fork, Adv, Drop, Await}
-use Rattle.armus_base.specs.Plans.{Plan, Action, Blocks, Passes, action_at, actions, actions_of, code_of}
-use Rattle.armus_base.specs.States.{IsActive, IsLegal, IsReached, Phases, after, awaited, event_on}
+use Rattle.armus_base.specs.Plans.{Plan, Action, Aim, Blocks, Passes, actions, actions_of, code_of}
+use Rattle.armus_base.specs.States.{IsActive, IsLegal, IsReached, Phases, after, awaited}
+use Rattle.armus_base.specs.Limits.{max_ops}
 use Rattle.armus_base.specs.Places.{refused_at}
 use Rattle.armus_base.specs.CheckedPlans.{IsCheckedPlan}
-use Rattle.armus_base.proofs.Codes.{passes_next}
 use Rattle.armus_base.proofs.Fixed.{action_within}
-use Rattle.armus_base.proofs.Published.{published_after_is}
+use Rattle.armus_base.proofs.Published.{published_after_is, published_passes}
 use Rattle.armus_base.proofs.PhasesFit.{actions_fit}
 use Rattle.armus_base.proofs.NextIsLegal.{next_legal}
 use Rattle.armus_base.proofs.Steps.{updated_same}
@@ -37,19 +38,19 @@ ops_at_most (Reg c p ∷ ops) = (let r = ops_at_most ops in omega arith)
 ops_at_most (Fork c ∷ ops) = (let r = ops_at_most ops in omega arith)
 ops_at_most (Adv p ∷ ops) = (let r = ops_at_most ops in omega arith)
 ops_at_most (Drop p ∷ ops) = (let r = ops_at_most ops in omega arith)
-ops_at_most (Await p ∷ ops) = (let r = ops_at_most ops in omega arith)
+ops_at_most (Await p off ∷ ops) = (let r = ops_at_most ops in omega arith)
 
-pub few_actions : (plan : Plan) (t : ℕ) → IsCheckedPlan plan → length (actions plan t) ≤ 524288
+pub few_actions : (plan : Plan) (t : ℕ) → IsCheckedPlan plan → length (actions plan t) ≤ 2 * max_ops
 few_actions plan t checked = (let a = actions_fit plan t in let l = checked.limits.few_ops in omega arith)
 
-pub few_own_ops : (plan : Plan) (t : ℕ) → IsCheckedPlan plan → length (code_of plan t) ≤ 524288
+pub few_own_ops : (plan : Plan) (t : ℕ) → IsCheckedPlan plan → length (code_of plan t) ≤ 2 * max_ops
 unfolding actions
 few_own_ops plan t checked = (let a = ops_at_most (code_of plan t) in let l = few_actions plan t checked in omega arith)
 
--- a task that awaits an event has a block next, of that phaser
+-- a task that awaits an event has a block next, whose event this is
 pub awaits_block :
-    (o : Option Action) (m : Phases) (e : Event) → awaited o m ≡ Some e → (p : ℕ) × o ≡ Some (Blocks p) × event_on p (m p) ≡ Some e
-awaits_block (Some (Blocks p)) m e h = (p, refl, h)
+    (o : Option Action) (m : Phases) (e : Event) → awaited o m ≡ Some e → (aim : Aim) × (o ≡ Some (Blocks aim)) × awaited (Some (Blocks aim)) m ≡ Some e
+awaits_block (Some (Blocks aim)) m e h = (aim, refl, h)
 awaits_block o m e h = absurd (cc)
 
 module _ (plan : Plan) (tasks : List Task) (table : PhaseTable) (kept : KeepsState plan tasks table) (t : ℕ) (task : Task) (read : slice_get tasks t ≡ Some task) where
@@ -72,7 +73,7 @@ module _ (plan : Plan) (tasks : List Task) (table : PhaseTable) (kept : KeepsSta
 
   -- a block
   module _ (e : Event) (before : IsAtAwaitOf old t e) where
-    blocks : (p : ℕ) × action_by_code old t ≡ Some (Blocks p) × event_on p ((state_of old).phases t p) ≡ Some e
+    blocks : (aim : Aim) × (action_by_code old t ≡ Some (Blocks aim)) × awaited (Some (Blocks aim)) ((state_of old).phases t) ≡ Some e
     blocks = awaits_block (action_by_code old t) ((state_of old).phases t) e before.1
 
     pub events_fit_block : task.place.events + 1 < 4294967296
@@ -104,14 +105,13 @@ module _ (plan : Plan) (tasks : List Task) (table : PhaseTable) (kept : KeepsSta
 
   -- a pass
   module _ (e : Event) (waits : (state_of old).published t ≡ Some e) (reached : IsReached (state_of old) e) where
-    await_op : (q : _) × slice_get (code_of plan t) task.op ≡ Some (Await q) × q.0 ≡ e.p.0 × task.place.events ≡ actions_before (code_of plan t) task.op + 1
+    await_op : (q : _) × (off : Offset) × slice_get (code_of plan t) task.op ≡ Some (Await q off) × q.0 ≡ e.p.0 × task.place.events ≡ actions_before (code_of plan t) task.op + 1
     await_op = await_of_waiting plan tasks table kept t task read e waits
 
     pub passes_after : action_by_code old t ≡ Some (Passes e.p.0)
     unfolding state_of
     passes_after =
-        let is = published_after_is plan t (places_of old t).done e waits in
-        ap (action_at plan t) is.1 ∙ passes_next plan t is.0 e.p.0 is.2
+        published_passes plan t (places_of old t).done e waits
 
     forked_waiting : (state_of old).forked t ≡ true
     unfolding state_of
@@ -131,16 +131,16 @@ module _ (plan : Plan) (tasks : List Task) (table : PhaseTable) (kept : KeepsSta
     own_pass =
         let k = of_task plan tasks table kept t task read in
         let flag_is = flag plan tasks table kept t task read (Passes e.p.0) passes_after pass_legal in
-        let here = slice_get_within (code_of plan t) task.op (Await await_op.0) await_op.1 in
+        let here = slice_get_within (code_of plan t) task.op (Await await_op.0 await_op.1) await_op.2 in
         record {
           forked = k.forked;
           event = sym (updated_same (state_of old).published t t None refl) ∙ ap (event_in (after (state_of old) t (Passes e.p.0)) t) (sym flag_is);
           within = omega arith;
           events =
               (let b = begun_none (after_op task) refl in
-              let more = actions_before-suc (code_of plan t) task.op (Await await_op.0) await_op.1 in
-              let two = await_is_two await_op.0 in
-              let n = await_op.3 in
+              let more = actions_before-suc (code_of plan t) task.op (Await await_op.0 await_op.1) await_op.2 in
+              let two = await_is_two await_op.0 await_op.1 in
+              let n = await_op.4 in
               let one = ap (actions_before (code_of plan t)) (add-one task.op) in
               omega arith);
         }

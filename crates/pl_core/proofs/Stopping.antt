@@ -17,14 +17,14 @@ pub stop_here :
     IsStopOf ops events (record { op = k; begun = left == 1 })
 stop_here ops k events zero op is e l =
     record { within = (let w = slice_get_within ops k op is in omega arith); events = omega arith; await = λ b. absurd (cc) }
-stop_here ops k events (suc zero) (Await p) is e l =
-    record { within = (let w = slice_get_within ops k (Await p) is in omega arith); events = omega arith; await = λ b. (p, is) }
+stop_here ops k events (suc zero) (Await p off) is e l =
+    record { within = (let w = slice_get_within ops k (Await p off) is in omega arith); events = omega arith; await = λ b. (p, off, is) }
 stop_here ops k events (suc zero) (Make p) is e l = absurd (omega arith)
 stop_here ops k events (suc zero) (Reg c p) is e l = absurd (omega arith)
 stop_here ops k events (suc zero) (Fork c) is e l = absurd (omega arith)
 stop_here ops k events (suc zero) (Adv p) is e l = absurd (omega arith)
 stop_here ops k events (suc zero) (Drop p) is e l = absurd (omega arith)
-stop_here ops k events (suc (suc n)) (Await p) is e l = absurd (omega arith)
+stop_here ops k events (suc (suc n)) (Await p off) is e l = absurd (omega arith)
 stop_here ops k events (suc (suc n)) (Make p) is e l = absurd (omega arith)
 stop_here ops k events (suc (suc n)) (Reg c p) is e l = absurd (omega arith)
 stop_here ops k events (suc (suc n)) (Fork c) is e l = absurd (omega arith)
@@ -65,7 +65,7 @@ before_more (Reg c p ∷ ops) (suc n) (suc m) l = (let r = before_more ops n m (
 before_more (Fork c ∷ ops) (suc n) (suc m) l = (let r = before_more ops n m (omega arith) in omega arith)
 before_more (Adv p ∷ ops) (suc n) (suc m) l = (let r = before_more ops n m (omega arith) in omega arith)
 before_more (Drop p ∷ ops) (suc n) (suc m) l = (let r = before_more ops n m (omega arith) in omega arith)
-before_more (Await p ∷ ops) (suc n) (suc m) l = (let r = before_more ops n m (omega arith) in omega arith)
+before_more (Await p off ∷ ops) (suc n) (suc m) l = (let r = before_more ops n m (omega arith) in omega arith)
 
 -- the actions of an op before which a task still stops are among those that it has made
 module _ (ops : List Op) (events : ℕ) (stop : Stop) (stops : IsStopOf ops events stop) (n : ℕ) (before : n < stop.op) where

@@ -8,13 +8,14 @@ use Rattle.std.proofs.lemmas.Option.{slice_get_within}
 use Rattle.armus_base.specs.declared.event.Event.{Event}
 use Rattle.armus_base.specs.declared.op.Op.{Op}
 use Rattle.armus_base.specs.declared.op.Op.TheVariants.{Make, Reg, Fork, Adv, Drop, Await}
-use Rattle.armus_base.specs.Plans.{Blocks, Passes, Plan, action_at, code_of}
+use Rattle.armus_base.specs.Plans.{Blocks, Passes, Plan, action_at, code_of, Aim}
 use Rattle.armus_base.specs.States.{Phases, awaited, updated}
 use Rattle.armus_base.specs.Runs.{IsAtAwait, Place}
 use Rattle.armus_base.specs.Places.{IsConsistent, done_by, forked_at, kept, phases_after, phases_at, published_after, refused_at, state_at}
 use Rattle.armus_base.specs.CheckedPlans.{IsCheckedPlan}
 use Rattle.armus_base.proofs.Codes.{awaited_some, passes_next}
 use Rattle.armus_base.proofs.Fixed.{phases_forked}
+use Rattle.armus_base.proofs.PhasesFit.{phases_fit}
 use Rattle.armus_base.proofs.Steps.{updated_other, updated_same}
 use Rattle.pl_core.specs.declared.place.Place.{Place as KeptPlace}
 use Rattle.pl_core.specs.declared.stop.Stop.{Stop}
@@ -26,7 +27,7 @@ use Rattle.pl_core.specs.inside.PhaseTables.{phases_in}
 use Rattle.pl_core.specs.inside.Stops.{IsStopOf}
 use Rattle.pl_core.specs.Tasks.{actions_before}
 use Rattle.pl_core.specs.inside.KeptTasks.{begun, event_in}
-use Rattle.pl_core.specs.inside.Walks.{AwaitsBelow, IsPlaced, HasWalked, event_of_op, walked, walking}
+use Rattle.pl_core.specs.inside.Walks.{AwaitsBelow, AwaitsNear, IsPlaced, HasWalked, event_of_op, walked, walking}
 use Rattle.pl_core.specs.Worlds.{dropped_at, memberships, places_at}
 use Rattle.pl_core.proofs.Cells.{slice_get-set_other, slice_get-set_same}
 use Rattle.pl_core.proofs.Ranges.{phaser_of_own}
@@ -42,7 +43,7 @@ not_passes (Some (Reg c q)) p e = absurd (cc)
 not_passes (Some (Fork c)) p e = absurd (cc)
 not_passes (Some (Adv q)) p e = absurd (cc)
 not_passes (Some (Drop q)) p e = absurd (cc)
-not_passes (Some (Await q)) p e = absurd (cc)
+not_passes (Some (Await q off)) p e = absurd (cc)
 
 counted_true : (b : Bool) (k n : ℕ) → b ≡ true → n ≡ k + (if b then 1 else 0) → n ≡ suc k
 counted_true true k n e h = omega arith
@@ -81,8 +82,8 @@ module _ (plan : Plan) (checked : IsCheckedPlan plan) (places : List KeptPlace) 
   next : action_at plan t k ≡ option_map action_of op
   next = action_of_op plan t stop.op k stops.within refl
 
-  blocks : stop.begun ≡ true → (p : ℕ) × action_at plan t k ≡ Some (Blocks p)
-  blocks b = (let at = stops.await b in (at.0.0, next ∙ ap (option_map action_of) at.1))
+  blocks : stop.begun ≡ true → (aim : Aim) × action_at plan t k ≡ Some (Blocks aim)
+  blocks b = (let at = stops.await b in (record { phaser = at.0.0; off = at.1 }, next ∙ ap (option_map action_of) at.2))
 
   done_begun : stop.begun ≡ true → (a t).done ≡ suc k
   done_begun b = counted_true stop.begun k (a t).done b stops.events
@@ -119,8 +120,8 @@ module _ (plan : Plan) (checked : IsCheckedPlan plan) (places : List KeptPlace) 
   awaits_below = go op next
     where
       go : (o : Option Op) → action_at plan t k ≡ option_map action_of o → AwaitsBelow table.phasers o
-      go (Some (Await p)) e =
-          let w = checked.codes.well_formed t k (Blocks p.0) e in
+      go (Some (Await p off)) e =
+          let w = (checked.codes.well_formed t k (Blocks (record { phaser = p.0; off = off })) e).0 in
           let l = phaser_of_own plan checked t k p.0 w.0 w.1 in
           let c = walk.columns in
           omega arith
@@ -130,6 +131,27 @@ module _ (plan : Plan) (checked : IsCheckedPlan plan) (places : List KeptPlace) 
       go (Some (Adv p)) e = tt
       go (Some (Drop p)) e = tt
       go None e = tt
+
+  -- and its phase there leaves room for what it awaits, where the task has begun the op or is refused at it
+  pub awaits_near : stop.begun || place.refused ≡ true → AwaitsNear (phases_in table t) op
+  awaits_near here = go op
+    where
+      forked_here : (b r : Bool) → stop.begun ≡ b → place.refused ≡ r → b || r ≡ true → forked_at plan (done_by a) t ≡ true
+      forked_here true r begun refused e = forked_begun begun
+      forked_here false r begun refused e = (stands (refused ∙ e)).0
+
+      go : (o : Option Op) → AwaitsNear (phases_in table t) o
+      go (Some (Await p off)) = λ n e.
+          (let known : phases_after plan t k p.0 ≡ Some n = ap (λ m. m p.0) (sym (own_row (forked_here stop.begun place.refused refl refl here))) ∙ e in
+          let fits = phases_fit plan t k p.0 n checked known in
+          let few = checked.limits.few_ops in
+          omega arith)
+      go (Some (Make p)) = tt
+      go (Some (Reg c p)) = tt
+      go (Some (Fork c)) = tt
+      go (Some (Adv p)) = tt
+      go (Some (Drop p)) = tt
+      go None = tt
 
   -- the event at its op
   event_is : forked_at plan (done_by a) t ≡ true → event_of_op op (phases_in table t) ≡ awaited (action_at plan t k) (phases_after plan t k)
@@ -268,7 +290,7 @@ module _ (plan : Plan) (checked : IsCheckedPlan plan) (places : List KeptPlace) 
             let e = event_there (or_true stop.begun place.refused b) in
             let is : event ≡ published_after plan t (a t).done =
             e ∙ event_is forked ∙ ap (published_after plan t) (sym (done_begun b)) in
-            let member = awaited_some at.0 (phases_after plan t k) (checked.codes.well_formed t k (Blocks at.0) at.1) in
+            let member = awaited_some at.0 (phases_after plan t k) (checked.codes.well_formed t k (Blocks at.0) at.1).0 in
             let some : event ≡ Some member.0 = e ∙ event_is forked ∙ ap (λ o. awaited o (phases_after plan t k)) at.1 ∙ member.1 in
             come (walking a t (suc k)) (come_to (suc k) (done_begun b))
             (phases_stay ∙ quiet_phases plan checked a consistent t k few forked (Blocks at.0) at.1 (λ m. refl) (λ u q h. absurd (cc)))

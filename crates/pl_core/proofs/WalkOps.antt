@@ -4,9 +4,10 @@ use Rattle.std.specs.Prelude.{slice_get, option_map}
 use Rattle.std.proofs.lemmas.Bool.{cases_eq}
 use Rattle.std.proofs.lemmas.List.{length-set}
 use Rattle.std.proofs.lemmas.Option.{slice_get_within}
+use Rattle.armus_base.specs.declared.offset.Offset.{Offset}
 use Rattle.armus_base.specs.declared.op.Op.{Op}
 use Rattle.armus_base.specs.declared.op.Op.TheVariants.{Make, Reg, Fork, Adv, Drop, Await}
-use Rattle.armus_base.specs.Plans.{Advances, Blocks, Drops, Forks, Makes, Passes, Plan, Registers, action_at, code_of}
+use Rattle.armus_base.specs.Plans.{Advances, Blocks, Drops, Forks, Makes, Passes, Plan, Registers, action_at, code_of, Aim}
 use Rattle.armus_base.specs.States.{State, after}
 use Rattle.armus_base.specs.Runs.{Place}
 use Rattle.armus_base.specs.Places.{IsConsistent, done_by, forked_at, phases_after, state_at}
@@ -39,7 +40,7 @@ no_pass (Reg c q) p e = absurd (cc)
 no_pass (Fork c) p e = absurd (cc)
 no_pass (Adv q) p e = absurd (cc)
 no_pass (Drop q) p e = absurd (cc)
-no_pass (Await q) p e = absurd (cc)
+no_pass (Await q off) p e = absurd (cc)
 
 -- what an op leaves of what is kept of a task: all, but that it may be forked
 pub marked_is :
@@ -61,7 +62,7 @@ marked_is tasks (Make q) u task e = (task, e, inl refl)
 marked_is tasks (Reg c q) u task e = (task, e, inl refl)
 marked_is tasks (Adv q) u task e = (task, e, inl refl)
 marked_is tasks (Drop q) u task e = (task, e, inl refl)
-marked_is tasks (Await q) u task e = (task, e, inl refl)
+marked_is tasks (Await q off) u task e = (task, e, inl refl)
 
 length-marked : (tasks : List Task) (op : Op) → length (marked_by tasks op) ≡ length tasks
 length-marked tasks (Fork c) = go (slice_get tasks c.0)
@@ -73,7 +74,7 @@ length-marked tasks (Make q) = refl
 length-marked tasks (Reg c q) = refl
 length-marked tasks (Adv q) = refl
 length-marked tasks (Drop q) = refl
-length-marked tasks (Await q) = refl
+length-marked tasks (Await q off) = refl
 
 -- who is forked after an op
 forked_marked :
@@ -100,7 +101,7 @@ forked_marked s t tasks before (Make q) u task e = before u task e
 forked_marked s t tasks before (Reg c q) u task e = before u task e
 forked_marked s t tasks before (Adv q) u task e = before u task e
 forked_marked s t tasks before (Drop q) u task e = before u task e
-forked_marked s t tasks before (Await q) u task e = before u task e
+forked_marked s t tasks before (Await q off) u task e = before u task e
 
 -- a task that is forked stays settled
 settled_forked : (plan : Plan) (places : List KeptPlace) (u : ℕ) (task : Task) → IsPlaced plan places u task → IsPlaced plan places u (after_fork task)
@@ -171,7 +172,7 @@ module _ (plan : Plan) (checked : IsCheckedPlan plan) (places : List KeptPlace) 
         go (Adv p) e =
             let w = checked.codes.well_formed t k (Advances p.0) e in (member_bound p.0 w.0 w.1, fits p.0)
         go (Drop p) e = (let w = checked.codes.well_formed t k (Drops p.0) e in member_bound p.0 w.0 w.1)
-        go (Await p) e = tt
+        go (Await p off) e = tt
 
     pub child_here : ForksBelow (length tasks) op
     child_here = go op next
@@ -186,7 +187,7 @@ module _ (plan : Plan) (checked : IsCheckedPlan plan) (places : List KeptPlace) 
         go (Reg c p) e = tt
         go (Adv p) e = tt
         go (Drop p) e = tt
-        go (Await p) e = tt
+        go (Await p off) e = tt
 
     module _ (table' : PhaseTable) (rows : table'.tasks ≡ table.tasks) (columns : table'.phasers ≡ table.phasers) (phases : phases_in table' ≡ phases_moved (phases_in table) t (action_of op)) where
       state_next : after (state_at plan (walking a t k)) t (action_of op) ≡ state_at plan (walking a t (suc k))
@@ -217,12 +218,12 @@ module _ (plan : Plan) (checked : IsCheckedPlan plan) (places : List KeptPlace) 
           }
 
       -- and the pass of an await
-      second_action : (p : ℕ) → action_at plan t k ≡ Some (Blocks p) → suc k < (a t).done → HasWalked plan places (walking a t (suc (suc k))) t (marked_by tasks op) table'
-      second_action p e l =
-          let passes = passes_next plan t k p e in
+      second_action : (aim : Aim) → action_at plan t k ≡ Some (Blocks aim) → suc k < (a t).done → HasWalked plan places (walking a t (suc (suc k))) t (marked_by tasks op) table'
+      second_action aim e l =
+          let passes = passes_next plan t k aim e in
           walk_same (walking a t (suc k)) (walking a t (suc (suc k))) (marked_by tasks op) table' first_action
-          (quiet_phases plan checked a given_consistent t (suc k) (omega arith) forked_there (Passes p) passes (λ m. refl) (λ u q e. absurd (cc)))
-          (quiet_forked plan checked a given_consistent t (suc k) (omega arith) forked_there (Passes p) passes (λ c. refl))
+          (quiet_phases plan checked a given_consistent t (suc k) (omega arith) forked_there (Passes aim.phaser) passes (λ m. refl) (λ u q e. absurd (cc)))
+          (quiet_forked plan checked a given_consistent t (suc k) (omega arith) forked_there (Passes aim.phaser) passes (λ c. refl))
 
       pub walk_more :
           actions_before (code_of plan t) (suc n) ≤ (a t).done →
@@ -235,16 +236,16 @@ module _ (plan : Plan) (checked : IsCheckedPlan plan) (places : List KeptPlace) 
               let same : suc k ≡ actions_before (code_of plan t) (suc n) = omega arith in
               subst (λ m. HasWalked plan places (walking a t m) t (marked_by tasks op) table') same first_action
 
-          two_more : (p : _) → op ≡ Await p → HasWalked plan places (walking a t (actions_before (code_of plan t) (suc n))) t (marked_by tasks op) table'
-          two_more p e =
+          two_more : (p : _) (off : Offset) → op ≡ Await p off → HasWalked plan places (walking a t (actions_before (code_of plan t) (suc n))) t (marked_by tasks op) table'
+          two_more p off e =
               let more = actions_before-suc (code_of plan t) n op is in
-              let two = ap actions_in e ∙ await_is_two p in
+              let two = ap actions_in e ∙ await_is_two p off in
               let same : suc (suc k) ≡ actions_before (code_of plan t) (suc n) = omega arith in
               subst (λ m. HasWalked plan places (walking a t m) t (marked_by tasks op) table') same
-              (second_action p.0 (next ∙ ap (λ o. Some (action_of o)) e) (omega arith))
+              (second_action (record { phaser = p.0; off = off }) (next ∙ ap (λ o. Some (action_of o)) e) (omega arith))
 
           go : (o : Op) → op ≡ o → HasWalked plan places (walking a t (actions_before (code_of plan t) (suc n))) t (marked_by tasks op) table'
-          go (Await p) e = two_more p e
+          go (Await p off) e = two_more p off e
           go (Make p) e = one_more (ap actions_in e ∙ one_unless_await (Make p) (λ q h. absurd (cc)))
           go (Reg c p) e = one_more (ap actions_in e ∙ one_unless_await (Reg c p) (λ q h. absurd (cc)))
           go (Fork c) e = one_more (ap actions_in e ∙ one_unless_await (Fork c) (λ q h. absurd (cc)))

@@ -8,10 +8,9 @@ use Rattle.armus_base.specs.States.{IsActive, IsLegal, Phases, after}
 use Rattle.armus_base.specs.Runs.{Place}
 use Rattle.armus_base.specs.Places.{IsConsistent, done_by, forked_at, forks, kept, members_below, own_step, phases_after, phases_at, published_after, refused_at, state_at}
 use Rattle.armus_base.specs.CheckedPlans.{IsCheckedPlan}
-use Rattle.armus_base.proofs.Codes.{passes_next}
 use Rattle.armus_base.proofs.Fixed.{kept_above, kept_below, phases_forked}
 use Rattle.armus_base.proofs.NextIsLegal.{next_legal}
-use Rattle.armus_base.proofs.Published.{published_after_is}
+use Rattle.armus_base.proofs.Published.{published_passes}
 use Rattle.armus_base.proofs.Stepping.{forked_same, phases_unchanged, regular_step}
 use Rattle.pl_core.specs.inside.Walks.{walking}
 use Rattle.pl_core.proofs.Refusing.{dropped_below}
@@ -37,8 +36,7 @@ unpublished_before plan t k no_pass = go (published_after plan t k) refl
     go : (o : Option Event) → published_after plan t k ≡ o → o ≡ None
     go None e = refl
     go (Some e) h =
-        let is = published_after_is plan t k e h in
-        absurd (no_pass e.p.0 (ap (action_at plan t) is.1 ∙ passes_next plan t is.0 e.p.0 is.2))
+        absurd (no_pass e.p.0 (published_passes plan t k e h))
 
 -- task t, which is forked at the given places, has made k of its actions
 module _ (plan : Plan) (checked : IsCheckedPlan plan) (a : ℕ → Place) (consistent : IsConsistent plan a) (t k : ℕ) (few : k ≤ (a t).done) (forked : forked_at plan (done_by a) t ≡ true) where

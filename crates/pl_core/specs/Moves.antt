@@ -1,6 +1,6 @@
 -- What a step and a refusal make of a world.
 use Rattle.std.specs.Prelude.{◌≡◌, ℕ, ◌+◌, true, List, [], ◌∷◌, ◌++◌, Some, None, map, slice_get, slice_set}
-use Rattle.armus_base.specs.Plans.{Plan, Action, Drops, Refuses}
+use Rattle.armus_base.specs.Plans.{Plan, Action, Drops, Refuses, Aim}
 use Rattle.armus_base.specs.States.{Step, IsLegal, after}
 use Rattle.armus_base.specs.Runs.{Place, IsByCode, moved}
 use Rattle.armus_base.specs.Places.{state_at}
@@ -40,11 +40,11 @@ drops_from t = map (λ p. record { task = t; action = Drops p })
 
 -- a refusal of task t and then its drops, until it is a member of nothing; a refused task may only drop the least of its phasers
 pub record MakesRefusal (old new : WorldValue) (t : ℕ) : Type 0 where
-  pub phaser : ℕ
+  pub aim : Aim
   pub drops : List ℕ  -- the last one first
   pub place : KeptPlace
   pub there : slice_get old.places t ≡ Some place
   pub plan : new.plan ≡ old.plan
   pub places : new.places ≡ slice_set old.places t (refused_there place)
-  pub run : LeadsOn old.plan (places_of old) (drops_from t drops ++ record { task = t; action = Refuses phaser } ∷ []) (places_of new)
+  pub run : LeadsOn old.plan (places_of old) (drops_from t drops ++ record { task = t; action = Refuses aim } ∷ []) (places_of new)
   pub left : (p : ℕ) → (state_of new).phases t p ≡ None

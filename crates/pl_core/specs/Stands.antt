@@ -1,7 +1,7 @@
 -- How a task stands in a world, and whether it may go on.
 use Rattle.std.specs.Prelude.{◌≡◌, ◌≢◌, ℕ, ◌<◌, ◌≤◌, true, false, Some, None, length}
 use Rattle.armus_base.specs.declared.event.Event.{Event}
-use Rattle.armus_base.specs.Plans.{Action, Blocks}
+use Rattle.armus_base.specs.Plans.{Action, Blocks, Aim}
 use Rattle.armus_base.specs.States.{State, IsActive, IsLegal, IsReached, awaited}
 use Rattle.pl_core.specs.declared.stand.Stand.{Stand}
 use Rattle.pl_core.specs.declared.stand.Stand.TheVariants.{Unforked, Done, Refused, Ready, Await, Waits}
@@ -9,7 +9,7 @@ use Rattle.pl_core.specs.Worlds.{WorldValue, state_of, action_by_code}
 
 -- task t is active, and its code goes on with something else than an await
 abbrev pub IsBeforeOp : WorldValue → ℕ → Type 0
-IsBeforeOp w t = IsActive (state_of w) t × (x : Action) × (action_by_code w t ≡ Some x) × ((p : ℕ) → x ≢ Blocks p)
+IsBeforeOp w t = IsActive (state_of w) t × (x : Action) × (action_by_code w t ≡ Some x) × ((aim : Aim) → x ≢ Blocks aim)
 
 -- task t is active, and its code goes on with an await of the event
 abbrev pub IsAtAwaitOf : WorldValue → ℕ → Event → Type 0

@@ -4,7 +4,9 @@ ghost use Rattle.pl_core.specs.Stands.{IsEnabled};
 
 use crate::walk::place_within;
 use crate::{Place, Stand, World};
-use armus_base::{Code, Event, Final, List, NoMemory, Op, PhaserId, Plan, Status, TaskEnd, TaskId};
+use armus_base::{
+    Code, Event, Final, List, NoMemory, Offset, Op, PhaserId, Plan, Status, TaskEnd, TaskId,
+};
 use std::alloc::Global;
 use std::test::Fail;
 
@@ -27,9 +29,18 @@ fn two_tasks(alloc: Global) -> Result<Plan, NoMemory> {
         Op::Reg { c: CHILD, p: B },
         Op::Fork { c: CHILD },
         Op::Adv { p: A },
-        Op::Await { p: A },
+        Op::Await {
+            p: A,
+            off: Offset::Here
+        },
     ]?;
-    let second = vec![in alloc; Op::Adv { p: B }, Op::Await { p: B }]?;
+    let second = vec![in alloc;
+        Op::Adv { p: B },
+        Op::Await {
+            p: B,
+            off: Offset::Here
+        },
+    ]?;
     let codes = vec![in alloc;
         Code::from_ops(List::from_vec(first)),
         Code::from_ops(List::from_vec(second)),

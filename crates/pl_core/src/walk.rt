@@ -1,5 +1,5 @@
 // A walk along the codes of the tasks, in order of number, to given places.
-ghost use Rattle.std.specs.Prelude.{◌≡◌, ◌+◌, ◌<◌, ◌^◌, None, Some, IfOk, length, slice_get, ◌||◌, if◌then◌else◌};
+ghost use Rattle.std.specs.Prelude.{◌≡◌, ◌+◌, ◌<◌, ◌^◌, None, Some, true, IfOk, length, slice_get, ◌||◌, if◌then◌else◌};
 ghost use Rattle.armus_base.specs.Plans.{code_of};
 ghost use Rattle.armus_base.specs.States.{updated};
 ghost use Rattle.pl_core.specs.inside.Effects.{HasRoomFor};
@@ -10,7 +10,7 @@ ghost use Rattle.pl_core.specs.inside.Stops.{IsStopOf};
 ghost use Rattle.pl_core.specs.inside.Kept.{KeepsState};
 ghost use Rattle.pl_core.specs.Tables.{kept_places};
 ghost use Rattle.pl_core.specs.Tasks.{actions_before};
-ghost use Rattle.pl_core.specs.inside.Walks.{AwaitsBelow, ForksBelow, HasWalked, event_of_op, marked_by, walked, walking};
+ghost use Rattle.pl_core.specs.inside.Walks.{AwaitsBelow, AwaitsNear, ForksBelow, HasWalked, event_of_op, marked_by, walked, walking};
 ghost use Rattle.pl_core.specs.Worlds.{places_at};
 
 use crate::Place;
@@ -47,11 +47,15 @@ fn mark_forked(tasks: &mut Vec<Task>, op: Op)
 fn event_of(phases: &PhaseTable, t: usize, op: Option<Op>) -> Option<Event>
     requires task { t < phases.now.tasks }
     requires phaser { AwaitsBelow phases.now.phasers op }
+    requires near { AwaitsNear (phases_in phases.now t) op }
     ensures { result ≡ event_of_op op (phases_in phases.now t) }
 {
     match op {
-        Some(Op::Await { p }) => match phases.get(t, p.0 as usize) {
-            Some(n) => Some(Event { p, n }),
+        Some(Op::Await { p, off }) => match phases.get(t, p.0 as usize) {
+            Some(n) => Some(Event {
+                p,
+                n: off.target(n),
+            }),
             None => None,
         },
         _ => None,
@@ -161,6 +165,7 @@ impl Walk {
     fn event(&self, t: TaskId, op: Option<Op>, begun: bool, refused: bool) -> Option<Event>
         requires task { t.0 < self.now.phases.tasks }
         requires phaser { AwaitsBelow self.now.phases.phasers op }
+        requires near { begun || refused ≡ true → AwaitsNear (phases_in self.now.phases t.0) op }
         ensures { result ≡ (if begun || refused then event_of_op op (phases_in self.now.phases t.0) else None) }
     {
         if begun || refused {

@@ -12,4 +12,4 @@ HasRoomFor table t (Reg c p) = c.0 < table.tasks × p.0 < table.phasers
 HasRoomFor table t (Fork c) = Unit {0}
 HasRoomFor table t (Adv p) = p.0 < table.phasers × ((n : ℕ) → phases_in table t p.0 ≡ Some n → n + 2 < 2 ^ 32)
 HasRoomFor table t (Drop p) = p.0 < table.phasers
-HasRoomFor table t (Await p) = Unit {0}
+HasRoomFor table t (Await p off) = Unit {0}

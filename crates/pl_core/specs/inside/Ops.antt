@@ -12,7 +12,7 @@ action_of (Reg c p) = Registers c.0 p.0
 action_of (Fork c) = Forks c.0
 action_of (Adv p) = Advances p.0
 action_of (Drop p) = Drops p.0
-action_of (Await p) = Blocks p.0
+action_of (Await p off) = Blocks (record { phaser = p.0; off = off })
 
 -- the phases of all tasks after a step of task t
 abbrev pub phases_moved : (ℕ → Phases) → ℕ → Action → ℕ → Phases
@@ -21,5 +21,5 @@ phases_moved f t x = (after (record opening { phases = f }) t x).phases
 -- the op changes nothing but phases, and who has made what
 abbrev pub ChangesPhases : Op → Type 0
 ChangesPhases (Fork c) = ⊥
-ChangesPhases (Await p) = ⊥
+ChangesPhases (Await p off) = ⊥
 ChangesPhases op = Unit {0}

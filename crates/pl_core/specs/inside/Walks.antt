@@ -4,6 +4,7 @@ use Rattle.armus_base.specs.declared.event.Event.{Event}
 use Rattle.armus_base.specs.declared.op.Op.{Op}
 use Rattle.armus_base.specs.declared.op.Op.TheVariants.{Await, Fork}
 use Rattle.armus_base.specs.Plans.{Plan, code_of}
+use Rattle.armus_base.specs.Limits.{max_ops}
 use Rattle.armus_base.specs.States.{Phases, awaited, updated}
 use Rattle.armus_base.specs.Runs.{Place, first_place}
 use Rattle.armus_base.specs.Places.{done_by, forked_at, state_at}
@@ -60,8 +61,13 @@ ForksBelow n op = Unit {0}
 
 -- what the op awaits has a number below n
 abbrev pub AwaitsBelow : ℕ → Option Op → Type 0
-AwaitsBelow n (Some (Await p)) = p.0 < n
+AwaitsBelow n (Some (Await p off)) = p.0 < n
 AwaitsBelow n op = Unit {0}
+
+-- no phase on the phaser that the op awaits is above the number of all ops
+abbrev pub AwaitsNear : Phases → Option Op → Type 0
+AwaitsNear m (Some (Await p off)) = (n : ℕ) → m p.0 ≡ Some n → n ≤ max_ops
+AwaitsNear m op = Unit {0}
 
 -- the event of an await at these phases
 abbrev pub event_of_op : Option Op → Phases → Option Event

@@ -1,6 +1,8 @@
 // How a task stands, and whether an event is reached.
-ghost use Rattle.std.specs.Prelude.{◌≡◌, ◌<◌, ◌↔◌, Some, IsTrue, length, option_map};
+ghost use Rattle.std.specs.Prelude.{◌≡◌, ℕ, ◌<◌, ◌≤◌, ◌↔◌, Some, IsTrue, length, option_map};
 ghost use Rattle.armus_base.specs.declared.event.Event.{Event};
+ghost use Rattle.armus_base.specs.Limits.{max_ops};
+ghost use Rattle.armus_base.specs.Offsets.{target};
 ghost use Rattle.armus_base.specs.Plans.{code_of};
 ghost use Rattle.armus_base.specs.CheckedPlans.{IsCheckedPlan};
 ghost use Rattle.armus_base.specs.Runs.{IsReachable};
@@ -13,7 +15,7 @@ ghost use Rattle.pl_core.specs.Tasks.{IsAtOp};
 use super::World;
 use crate::Stand;
 use crate::task::{op_at, task_at};
-use armus_base::{Event, Op, Phase, PhaserId, TaskId};
+use armus_base::{Event, Offset, Op, Phase, PhaserId, TaskId};
 
 impl<'p> World<'p> {
     /// How task `t` stands.
@@ -58,7 +60,7 @@ impl<'p> World<'p> {
     {
         match self.next_op(t) {
             None => Stand::Done,
-            Some(Op::Await { p }) => Stand::Await(self.own_event(p, t)),
+            Some(Op::Await { p, off }) => Stand::Await(self.own_event(p, off, t)),
             Some(_) => Stand::Ready,
         }
     }
@@ -75,15 +77,19 @@ impl<'p> World<'p> {
         op_at(self.plan.code(t), task.op as usize)
     }
 
-    // The event of a phaser at the phase of its member.
-    fn own_event(&self, p: PhaserId, t: TaskId) -> Event
+    // The event of a phaser at the target of its member's phase.
+    fn own_event(&self, p: PhaserId, off: Offset, t: TaskId) -> Event
         requires task { t.0 < length self.now.plan.parents }
         requires phaser { p.0 < length self.now.plan.makers }
         requires member { IsMember (state_of self.now) t.0 p.0 }
-        ensures { event_on p.0 ((state_of self.now).phases t.0 p.0) ≡ Some result }
+        requires near { (n : ℕ) → (state_of self.now).phases t.0 p.0 ≡ Some n → n ≤ max_ops }
+        ensures { event_on p.0 (option_map (target off) ((state_of self.now).phases t.0 p.0)) ≡ Some result }
     {
         match self.phase(p, t) {
-            Some(n) => Event { p, n },
+            Some(n) => Event {
+                p,
+                n: off.target(n),
+            },
             None => unreachable!(),
         }
     }

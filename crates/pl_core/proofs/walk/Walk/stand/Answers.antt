@@ -1,9 +1,9 @@
 use Rattle.std.proofs.Common.{◌≡◌, ◌∙◌, Some, None, add-one, ap, set, subst, suc, sym}
 use Rattle.std.specs.Prelude.{slice_get, ◌||◌, if◌then◌else◌}
 use Rattle.pl_core.specs.inside.PhaseTables.{phases_in}
-use Rattle.pl_core.specs.inside.Walks.{AwaitsBelow, HasWalked, event_of_op, walked}
+use Rattle.pl_core.specs.inside.Walks.{AwaitsBelow, AwaitsNear, HasWalked, event_of_op, walked}
 use Rattle.pl_core.specs.Worlds.{places_at}
-use Rattle.pl_core.proofs.WalkEnds.{awaits_below, walk_stands}
+use Rattle.pl_core.proofs.WalkEnds.{awaits_below, awaits_near, walk_stands}
 use Rattle.pl_core.proofs.walk.Walk.stand.Goals as goal
 
 pub event-event-requires-clause-phaser : goal.event-event-requires-clause-phaser
@@ -12,6 +12,14 @@ event-event-requires-clause-phaser c =
     subst (AwaitsBelow c.args.self.now.phases.phasers) (sym op_is)
     (awaits_below c.args.plan.now c.requires.walking.checked c.args.places.now c.requires.given c.args.t.0 c.place_within-place.result c.place_within-place.ensures
     c.args.stop c.requires.stop c.args.self.now.tasks.items c.args.self.now.phases c.requires.walking)
+
+pub event-event-requires-clause-near : goal.event-event-requires-clause-near
+event-event-requires-clause-near c =
+    let op_is = c.op_at-op.ensures ∙ ap (λ xs. slice_get xs c.args.stop.op) c.code.ensures.code in
+    λ here.
+    subst (AwaitsNear (phases_in c.args.self.now.phases c.args.t.0)) (sym op_is)
+    (awaits_near c.args.plan.now c.requires.walking.checked c.args.places.now c.requires.given c.args.t.0 c.place_within-place.result c.place_within-place.ensures
+    c.args.stop c.requires.stop c.args.self.now.tasks.items c.args.self.now.phases c.requires.walking here)
 
 pub returns : goal.returns
 returns c =
