@@ -4,8 +4,11 @@ use Rattle.std.specs.Prelude.{Ok, Err}
 use Rattle.armus_base.specs.CheckedPlans.{IsCheckedPlan}
 use Rattle.armus_base.specs.Plans.{Plan}
 use Rattle.pl_plan.proofs.UnfoldedIsChecked.{unfolded_is_checked}
-use Rattle.pl_syntax.specs.Tree.{Tree}
+use Rattle.pl_syntax.specs.declared.tree.Program.{Program}
+use Rattle.pl_syntax.specs.Tree.{AreNear, Plain, new_task, new_phaser, reg, dereg, adv, await, skip, PlainIsNear, Tree, done, plain, fork, loop}
+use Rattle.pl_syntax.specs.Printed.{PlainIsWritable, TreeIsWritable}
 use Rattle.pl_syntax.proofs.Unique.{one_tree, text_or_fault}
+use Rattle.pl_syntax.proofs.Writable.{text_is_writable}
 use Rattle.pl_plan.specs.Unfolding.{plan_of}
 use Rattle.report.specs.declared.refusal.Refusal.{Refusal}
 use Rattle.report.specs.declared.refusal.Refusal.TheVariants as refusal
@@ -13,7 +16,7 @@ use Rattle.armus_words.specs.Words.{Text}
 use Rattle.armus_top.specs.Programs.{IsChecked, IsFaultOf, IsPlanOf}
 
 -- a text with a plan is not refused
-pub plan_or_fault : (text : Text) (why : Refusal) (program : Tree) (plan : Plan) → IsFaultOf text why → IsChecked text program plan → ⊥
+pub plan_or_fault : (text : Text) (why : Refusal) (program : Program) (plan : Plan) → IsFaultOf text why → IsChecked text program plan → ⊥
 plan_or_fault text (refusal.Syntax fault) program plan has is = text_or_fault text program fault is.reads has
 plan_or_fault text (refusal.Check fault) program plan (other, reads, unfolds) is =
     let same : other ≡ program = one_tree text other program reads is.reads in
@@ -29,6 +32,22 @@ one_plan text plan other (program, is) (second, are) =
     let unfolds : plan_of second ≡ Ok plan = subst (λ p. plan_of p ≡ Ok plan) same is.unfolds in
     let unfolded : plan_of second ≡ Ok other = are.unfolds in cc
 
+-- what can be printed has no await that looks farther than it may
+plain_near : (s : Plain) → PlainIsWritable s → PlainIsNear s
+plain_near (new_task x) w = tt
+plain_near (new_phaser x) w = tt
+plain_near (reg x y) w = tt
+plain_near (dereg x) w = tt
+plain_near (adv x) w = tt
+plain_near (await x off) w = w.1
+plain_near skip w = tt
+
+near : (p : Tree) → TreeIsWritable p → AreNear p
+near done w = tt
+near (plain s rest) w = (plain_near s w.0, near rest w.1)
+near (fork x body rest) w = (near body w.1.0, near rest w.1.1)
+near (loop k body rest) w = (near body w.1.0, near rest w.1.1)
+
 -- the plan of a text is checked
 pub checked_plan : (text : Text) (plan : Plan) → IsPlanOf text plan → IsCheckedPlan plan
-checked_plan text plan (program, is) = unfolded_is_checked program plan is.unfolds
+checked_plan text plan (program, is) = unfolded_is_checked program plan (near program.body (text_is_writable text program is.reads).tree) is.unfolds

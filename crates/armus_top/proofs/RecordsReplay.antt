@@ -8,7 +8,7 @@ use Rattle.armus_base.specs.Plans.{Plan}
 use Rattle.armus_base.specs.Runs.{state_after}
 use Rattle.armus_base.specs.States.{State}
 use Rattle.pl_syntax.specs.Grammar.{IsText}
-use Rattle.pl_syntax.specs.Tree.{Tree}
+use Rattle.pl_syntax.specs.declared.tree.Program.{Program}
 use Rattle.pl_syntax.proofs.LineFeeds.{line_feed_changes_nothing, no_line_is_a_mark}
 use Rattle.report.specs.declared.refusal.Refusal.{Refusal}
 use Rattle.report.specs.declared.refusal.Refusal.TheVariants.{Length, Syntax, Check, Schedule}
@@ -39,7 +39,7 @@ use Rattle.armus_top.proofs.OnePlan.{checked_plan, one_plan, plan_or_fault}
 
 -- ---- the closed text
 
-closed_text : (input closed : Text) (p : Tree) → IsClosedText input closed → IsText input p → IsText closed p
+closed_text : (input closed : Text) (p : Program) → IsClosedText input closed → IsText input p → IsText closed p
 closed_text input closed p (inl (same, ends)) is = subst (λ t. IsText t p) (sym same) is
 closed_text input closed p (inr (longer, unclosed)) is = subst (λ t. IsText t p) (sym longer) (line_feed_changes_nothing input p is)
 
@@ -51,7 +51,7 @@ closed_length : (input closed : Text) → IsClosedText input closed → length c
 closed_length input closed (inl (same, ends)) = omega (arith, ap length same)
 closed_length input closed (inr (longer, unclosed)) = omega (arith, ap length longer, length-append input (10 ∷ []))
 
-unmarked : (text : Text) (p : Tree) → IsText text p → HasNoMark text
+unmarked : (text : Text) (p : Program) → IsText text p → HasNoMark text
 unmarked text p is rest = (
   λ e. (no_line_is_a_mark p rest).0 (subst (λ t. IsText t p) e is),
   λ front e. (no_line_is_a_mark p rest).1 front (subst (λ t. IsText t p) e is),

@@ -12,7 +12,7 @@ use Rattle.armus_words.specs.declared.command.Command.{Command}
 use Rattle.pl_plan.specs.declared.fault.CheckFault.{CheckFault}
 use Rattle.pl_plan.specs.Unfolding.{plan_of}
 use Rattle.pl_syntax.specs.Grammar.{IsText}
-use Rattle.pl_syntax.specs.Tree.{Tree}
+use Rattle.pl_syntax.specs.declared.tree.Program.{Program}
 use Rattle.pl_syntax.proofs.Whole.{one_of_both}
 use Rattle.report.specs.declared.refusal.Refusal.{Refusal}
 use Rattle.report.specs.declared.refusal.Refusal.TheVariants.{Syntax, Check as Checked}
@@ -34,7 +34,7 @@ refused c input why is = (3, refusal_text why, inr (refl, (why, is, refl)))
 abbrev HasPlanOrFault : Text → Type 0
 HasPlanOrFault text = ((plan : Plan) × IsPlanOf text plan) ⊎ ((why : Refusal) × IsFaultOf text why)
 
-unfolds_or_not : (text : Text) (p : Tree) → IsText text p → (r : Result Plan CheckFault) → plan_of p ≡ r → HasPlanOrFault text
+unfolds_or_not : (text : Text) (p : Program) → IsText text p → (r : Result Plan CheckFault) → plan_of p ≡ r → HasPlanOrFault text
 unfolds_or_not text p reads (Ok plan) e = inl (plan, (p, record { reads = reads; unfolds = e }))
 unfolds_or_not text p reads (Err fault) e = inr (Checked fault, (p, reads, e))
 

@@ -2,7 +2,7 @@
 -- A command joins by a case of each definition; the headline does not change.
 use Rattle.std.specs.Prelude.{◌≡◌, ℕ, true, false, Option, Some, None}
 use Rattle.armus_base.specs.Plans.{Plan}
-use Rattle.pl_syntax.specs.Tree.{Tree}
+use Rattle.pl_syntax.specs.declared.tree.Program.{Program}
 use Rattle.pl_syntax.specs.Printed.{printed_of}
 use Rattle.adaptive.specs.declared.analysis.Wanted.{Wanted}
 use Rattle.adaptive.specs.declared.analysis.Wanted.TheVariants as wanted
@@ -60,7 +60,7 @@ wanted_of graph.Grg = wanted.Grg
 -- the command accepts this input, and may end with this status, 0 or 1, and this whole output
 abbrev pub IsAnswered : Command → Text → ℕ → Text → Type 0
 IsAnswered (Check false) input status text = (plan : Plan) × IsPlanOf input plan × (status ≡ 0) × (text ≡ plan_line plan)
-IsAnswered (Check true) input status text = (plan : Plan) × (program : Tree) × IsChecked input program plan × (status ≡ 0) × (text ≡ printed_of program)
+IsAnswered (Check true) input status text = (plan : Plan) × (program : Program) × IsChecked input program plan × (status ≡ 0) × (text ≡ printed_of program)
 IsAnswered (Run workers g false) input status text = IsRunOf input (wanted_of g) status text
 IsAnswered (Run workers g true) input status text = IsLiveRunOf input (wanted_of g) status text
 IsAnswered (Avoid workers g) input status text = IsAvoidOf input workers (wanted_of g) status text

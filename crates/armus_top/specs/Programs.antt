@@ -3,7 +3,7 @@ use Rattle.std.specs.Prelude.{◌≡◌, ◌⊎◌, ℕ, Ok, Err}
 use Rattle.armus_base.specs.Plans.{Plan}
 use Rattle.armus_base.specs.States.{State}
 use Rattle.armus_base.specs.Deadlocks.{IsDeadIn, NobodyDead}
-use Rattle.pl_syntax.specs.Tree.{Tree}
+use Rattle.pl_syntax.specs.declared.tree.Program.{Program}
 use Rattle.pl_syntax.specs.Grammar.{IsText, HasFault}
 use Rattle.pl_plan.specs.Unfolding.{plan_of}
 use Rattle.report.specs.declared.refusal.Refusal.{Refusal}
@@ -11,18 +11,18 @@ use Rattle.report.specs.declared.refusal.Refusal.TheVariants.{Syntax, Check}
 use Rattle.armus_words.specs.Words.{Text}
 
 -- the text is this program, which unfolds to this plan
-pub record IsChecked (text : Text) (program : Tree) (plan : Plan) : Type 0 where
+pub record IsChecked (text : Text) (program : Program) (plan : Plan) : Type 0 where
   pub reads : IsText text program
   pub unfolds : plan_of program ≡ Ok plan
 
 -- the plan of a text
 abbrev pub IsPlanOf : Text → Plan → Type 0
-IsPlanOf text plan = (program : Tree) × IsChecked text program plan
+IsPlanOf text plan = (program : Program) × IsChecked text program plan
 
 -- the text is refused: it is not in the grammar, or its unfolding has a fault; the first fault is told
 abbrev pub IsFaultOf : Text → Refusal → Type 0
 IsFaultOf text (Syntax fault) = HasFault text fault
-IsFaultOf text (Check fault) = (program : Tree) × IsText text program × (plan_of program ≡ Err fault)
+IsFaultOf text (Check fault) = (program : Program) × IsText text program × (plan_of program ≡ Err fault)
 IsFaultOf text _ = ⊥
 
 -- the status tells whether a task is dead in the state

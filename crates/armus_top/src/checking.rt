@@ -1,6 +1,6 @@
 // The command `check`.
 ghost use Rattle.std.specs.Prelude.{◌≡◌, ◌≢◌, ◌≤◌, List, ℕ, Some, true, false, IfOk, length, string_bytes};
-ghost use Rattle.pl_syntax.specs.Tree.{height};
+ghost use Rattle.pl_syntax.specs.Tree.{height, AllHere};
 ghost use Rattle.pl_syntax.specs.declared.limits.TheConstants.{MAX_OPEN_BRACES};
 ghost use Rattle.armus_top.specs.Texts.{plan_line};
 ghost use Rattle.armus_top.specs.Programs.{IsChecked};
@@ -31,7 +31,7 @@ fn plan_words(alloc: Global, plan: &Plan) -> Result<String, AllocError>
 
 // Writes the counts of the plan.
 fn answer_counts<K: Sink>(alloc: Global, checked: &Checked, out: &mut K) -> ExitStatus
-    ensures done { (input : List ℕ) → IsChecked input checked.now.program.body checked.now.plan
+    ensures done { (input : List ℕ) → IsChecked input checked.now.program checked.now.plan
         → Answered (Check false) input (passage K.taken K.faults out.old out.new) (number_of_status result) }
     ensures silent { number_of_status result ≢ 4 }
 {
@@ -44,7 +44,8 @@ fn answer_counts<K: Sink>(alloc: Global, checked: &Checked, out: &mut K) -> Exit
 // Writes the printed program.
 fn answer_printed<K: Sink>(alloc: Global, checked: &Checked, out: &mut K) -> ExitStatus
     requires shallow { height checked.now.program.body ≤ MAX_OPEN_BRACES }
-    ensures done { (input : List ℕ) → IsChecked input checked.now.program.body checked.now.plan
+    requires offsets { checked.now.program.two ≡ false → AllHere checked.now.program.body }
+    ensures done { (input : List ℕ) → IsChecked input checked.now.program checked.now.plan
         → Answered (Check true) input (passage K.taken K.faults out.old out.new) (number_of_status result) }
     ensures silent { number_of_status result ≢ 4 }
 {
@@ -57,7 +58,8 @@ fn answer_printed<K: Sink>(alloc: Global, checked: &Checked, out: &mut K) -> Exi
 // Writes what is asked of the program and its plan.
 fn answer_check<K: Sink>(alloc: Global, print: bool, checked: &Checked, out: &mut K) -> ExitStatus
     requires shallow { height checked.now.program.body ≤ MAX_OPEN_BRACES }
-    ensures done { (input : List ℕ) → IsChecked input checked.now.program.body checked.now.plan
+    requires offsets { checked.now.program.two ≡ false → AllHere checked.now.program.body }
+    ensures done { (input : List ℕ) → IsChecked input checked.now.program checked.now.plan
         → Answered (Check print) input (passage K.taken K.faults out.old out.new) (number_of_status result) }
     ensures silent { number_of_status result ≢ 4 }
 {

@@ -1,5 +1,6 @@
 // From a text to its program and its plan.
-ghost use Rattle.std.specs.Prelude.{◌≡◌, ◌≤◌, length, IfOk, IfErr};
+ghost use Rattle.std.specs.Prelude.{◌≡◌, ◌≤◌, false, length, IfOk, IfErr};
+ghost use Rattle.pl_syntax.specs.Tree.{AllHere};
 ghost use Rattle.pl_syntax.specs.declared.limits.TheConstants.{MAX_PARSED_BYTES};
 ghost use Rattle.armus_top.specs.Programs.{IsChecked, IsFaultOf};
 ghost use Rattle.armus_top.specs.inside.Programs.{IsEnd};
@@ -42,8 +43,9 @@ pub struct Checked {
 /// The program of a text and its plan, or why there is none.
 pub fn checked_in(alloc: Global, text: &[u8]) -> Result<Checked, InputEnd>
     requires short { length text.now ≤ MAX_PARSED_BYTES }
-    ensures plan { IfOk result (λ c. IsChecked text.now c.program.body c.plan) }
+    ensures plan { IfOk result (λ c. IsChecked text.now c.program c.plan) }
     ensures refused { IfErr result (IsEnd (IsFaultOf text.now)) }
+    ensures offsets { IfOk result (λ c. c.program.two ≡ false → AllHere c.program.body) }
 {
     let program = match parse(alloc, text) {
         Ok(program) => program,

@@ -4,6 +4,7 @@ mod check;
 mod generated;
 mod large;
 mod outside;
+mod pl_2;
 mod record;
 mod replay;
 mod run;

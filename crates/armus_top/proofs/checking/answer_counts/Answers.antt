@@ -5,5 +5,5 @@ use Rattle.armus_top.proofs.checking.answer_counts.Goals as goal
 
 pub returns-in-Ok-clause-done : goal.returns-in-Ok-clause-done
 returns-in-Ok-clause-done g c input checked =
-    by_answer (Check false) input c.as_bytes.result.now _ 0 _ (c.args.checked.now.plan, (c.args.checked.now.program.body, checked), refl, c.as_bytes.ensures.value ∙ c.in-Ok.ensures)
+    by_answer (Check false) input c.as_bytes.result.now _ 0 _ (c.args.checked.now.plan, (c.args.checked.now.program, checked), refl, c.as_bytes.ensures.value ∙ c.in-Ok.ensures)
     c.finish.ensures.done
