@@ -6,15 +6,15 @@ use lib.ListN.{get_elem?}
 use Rattle.atomic_table.specs.Table.{State as TableState, keeps, stepped}
 use Rattle.atomic_table.proofs.Lists.{at_set}
 use Rattle.armus_base.specs.declared.event.Event.{Event}
-use Rattle.armus_base.specs.Plans.{Action, Advances, Blocks, Drops, Forks, Makes, Passes, Plan, Refuses, Registers, action_at, in_code}
+use Rattle.armus_base.specs.Plans.{Aim, Action, Advances, Blocks, Drops, Forks, Makes, Passes, Plan, Refuses, Registers, action_at, in_code}
 use Rattle.armus_base.specs.States.{IsActive, IsLegal, State, after}
 use Rattle.armus_base.specs.Runs.{IsByCode, Place, moved}
 use Rattle.armus_base.specs.Places.{done_by, forked_at, kept, phases_at_place, published_after, refused_at, state_at}
 use Rattle.armus_base.specs.Avoidance.{Avoids}
 use Rattle.armus_base.specs.Boards.{MayDo, steps_of}
-use Rattle.armus_base.proofs.Codes.{no_refusal, passes_next}
+use Rattle.armus_base.proofs.Codes.{no_refusal}
 use Rattle.armus_base.proofs.Fixed.{phases_forked}
-use Rattle.armus_base.proofs.Published.{published_after_is}
+use Rattle.armus_base.proofs.Published.{published_passes}
 use Rattle.armus_base.proofs.NextIsLegal.{next_is_legal}
 use Rattle.armus_base.proofs.BoardRuns.{board_legal, lawful_state}
 use Rattle.board.specs.declared.mode.Mode.{Mode}
@@ -107,9 +107,7 @@ nothing_published plan t k x next n = by_case (published_after plan t k) refl
     by_case : (o : Option Event) → published_after plan t k ≡ o → o ≡ None
     by_case None is = refl
     by_case (Some e) is =
-        let w = published_after_is plan t k e is in
-        let passes : action_at plan t k ≡ Some (Passes e.p.0) = ap (action_at plan t) w.1 ∙ passes_next plan t w.0 e.p.0 w.2 in
-        absurd (n e.p.0 (some_same x (Passes e.p.0) (sym next ∙ passes)))
+        absurd (n e.p.0 (some_same x (Passes e.p.0) (sym next ∙ published_passes plan t k e is)))
 
 code_itself : (plan : Plan) (t k : ℕ) (x : Action) → action_at plan t k ≡ Some x → action_at plan t k ≡ Some (in_code x)
 code_itself plan t k (Makes p) e = e
@@ -147,7 +145,7 @@ steps_by_code plan mode s l id v t x si next n avoided =
     }
 
 -- who does not hold the lock may do what is no block and no refusal
-pub may_do : (lock : Option ℕ) (t : ℕ) (x : Action) → (lock ≡ Some t → ⊥) → ((p : ℕ) → x ≢ Blocks p) → ((p : ℕ) → x ≢ Refuses p) → MayDo lock t x
+pub may_do : (lock : Option ℕ) (t : ℕ) (x : Action) → (lock ≡ Some t → ⊥) → ((aim : Aim) → x ≢ Blocks aim) → ((aim : Aim) → x ≢ Refuses aim) → MayDo lock t x
 may_do lock t (Makes p) n b r = n
 may_do lock t (Registers c p) n b r = n
 may_do lock t (Forks c) n b r = n
@@ -157,7 +155,7 @@ may_do lock t (Blocks p) n b r = absurd (b p refl)
 may_do lock t (Passes p) n b r = n
 may_do lock t (Refuses p) n b r = absurd (r p refl)
 
-pub avoids_else : (s : State) (t : ℕ) (x : Action) → ((p : ℕ) → x ≢ Blocks p) → ((p : ℕ) → x ≢ Refuses p) → Avoids s t x
+pub avoids_else : (s : State) (t : ℕ) (x : Action) → ((aim : Aim) → x ≢ Blocks aim) → ((aim : Aim) → x ≢ Refuses aim) → Avoids s t x
 avoids_else s t (Makes p) b r = tt
 avoids_else s t (Registers c p) b r = tt
 avoids_else s t (Forks c) b r = tt

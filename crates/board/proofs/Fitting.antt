@@ -3,7 +3,7 @@ use Rattle.std.proofs.Common.{◌≡◌, ◌≢◌, ℕ, ◌<◌, Bool, true, fa
 use Rattle.std.specs.Prelude.{unwrap_or}
 use Rattle.std.proofs.lemmas.Bool.{cases_eq}
 use Rattle.armus_base.specs.declared.event.Event.{Event}
-use Rattle.armus_base.specs.Plans.{Action, Advances, Blocks, Drops, Forks, Makes, Passes, Plan, Refuses, Registers}
+use Rattle.armus_base.specs.Plans.{Aim, Action, Advances, Blocks, Drops, Forks, Makes, Passes, Plan, Refuses, Registers}
 use Rattle.armus_base.specs.States.{IsLegal, IsReachedBelow, State, Step, after}
 use Rattle.armus_base.specs.Runs.{IsByCode, IsPrefix, Place, moved, next_place}
 use Rattle.armus_base.specs.Places.{published_after, state_at}
@@ -30,7 +30,7 @@ use Rattle.board.proofs.Sights.{set_place}
 pub record IsStep (plan : Plan) (mode : Mode) (a : ℕ → Place) (lock : Option ℕ) (t : ℕ) (x : Action) : Type 0 where
   pub code : IsByCode plan t (a t).done (a t).dropped x
   pub legal : IsLegal plan (state_at plan a) t x
-  pub plain : avoids mode ≡ false → (p : ℕ) → x ≢ Refuses p
+  pub plain : avoids mode ≡ false → (aim : Aim) → x ≢ Refuses aim
   pub avoided : avoids mode ≡ true → Avoids (state_at plan a) t x × MayDo lock t x
 
 -- nobody holds the lock of a board that detects deadlock
@@ -78,7 +78,7 @@ pub prefix_trans : (a b c : Place) → IsPrefix a b → IsPrefix b c → IsPrefi
 prefix_trans a b c x y = precedes_trans a.done b.done c.done a.dropped b.dropped c.dropped x y
 
 -- only a block publishes, and only who is not published does anything but pass
-pub unpublished_after : (plan : Plan) (s : State) (t : ℕ) (x : Action) → IsLegal plan s t x → ((p : ℕ) → x ≢ Blocks p) → (after s t x).published t ≡ None
+pub unpublished_after : (plan : Plan) (s : State) (t : ℕ) (x : Action) → IsLegal plan s t x → ((aim : Aim) → x ≢ Blocks aim) → (after s t x).published t ≡ None
 unpublished_after plan s t (Makes p) l n = l.0.unpublished
 unpublished_after plan s t (Registers c p) l n = l.0.unpublished
 unpublished_after plan s t (Forks c) l n = l.0.unpublished
@@ -226,7 +226,7 @@ module _ (plan : Plan) (mode : Mode) (a : ℕ → Place) (lock : Option ℕ) (t 
       now_there : (u : ℕ) → u ≢ t → (seen (after_action x v)).places u ≡ (seen v).places u
       now_there u n = all_now u ∙ updated_other (place_in v.sight.places) (task_of v) u (next_place (own_place v).done (own_place v).dropped x) (λ e. n (e ∙ task))
 
-      scanned_else : (y : Action) → x ≡ y → ((p : ℕ) → y ≢ Blocks p) → (k : ℕ) → IsScanned (state_at plan (moved a t x)) k (published_after plan t (moved a t x t).done)
+      scanned_else : (y : Action) → x ≡ y → ((aim : Aim) → y ≢ Blocks aim) → (k : ℕ) → IsScanned (state_at plan (moved a t x)) k (published_after plan t (moved a t x t).done)
       scanned_else y is n k =
           unscanned (state_at plan (moved a t x)) k (published_after plan t (moved a t x t).done)
           (ap (λ s. s.published t) (sym state_next) ∙ unpublished_after plan (state_at plan a) t x step.legal (λ p e. n p (sym is ∙ e)))

@@ -6,7 +6,7 @@ use mathlib.Core.Option.{some, none, some-injective, some-ne-none}
 use lib.ListN.{get_elem?}
 use Rattle.atomic_table.specs.Table.{Allows, Me, Splits, State as TableState, keeps, step}
 use Rattle.atomic_table.proofs.Lists.{at_last, at_set}
-use Rattle.armus_base.specs.Plans.{Action, Advances, Blocks, Drops, Forks, Makes, Passes, Plan, Refuses, Registers}
+use Rattle.armus_base.specs.Plans.{Aim, Action, Advances, Blocks, Drops, Forks, Makes, Passes, Plan, Refuses, Registers}
 use Rattle.armus_base.specs.States.{State, after, updated}
 use Rattle.armus_base.specs.Runs.{IsPrefix, Place, Precedes, first_place, moved, state_after}
 use Rattle.armus_base.specs.Places.{done_by, forked_at, published_after, state_at}
@@ -133,8 +133,8 @@ pub forks :
 forks plan mode id v t c own live free next s l found =
     let si = sits plan mode s l id v t own live found in
     let st = state_at plan l.places in
-    let no_block : (p : ℕ) → Forks c ≢ Blocks p = λ p e. cc in
-    let no_refusal : (p : ℕ) → Forks c ≢ Refuses p = λ p e. cc in
+    let no_block : (aim : Aim) → Forks c ≢ Blocks aim = λ p e. cc in
+    let no_refusal : (aim : Aim) → Forks c ≢ Refuses aim = λ p e. cc in
     let is_step = steps_by_code plan mode s l id v t (Forks c) si next (λ p e. cc)
     (λ _. (avoids_else st t (Forks c) no_block no_refusal, may_do l.lock t (Forks c) (not_held plan mode s l id v t si own free) no_block no_refusal)) in
     let a' : ℕ → Place = moved l.places t (Forks c) in
@@ -213,8 +213,8 @@ unforked plan mode slots id me t own live free s l _ found _ =
     unseen : Sits plan mode s l id me.0 t → (c : ℕ) → next_action me.0 ≡ Some (Forks c) → place_in me.0.sight.places c ≡ first_place
     unseen si c next =
         let st = state_at plan l.places in
-        let no_block : (p : ℕ) → Forks c ≢ Blocks p = λ p e. cc in
-        let no_refusal : (p : ℕ) → Forks c ≢ Refuses p = λ p e. cc in
+        let no_block : (aim : Aim) → Forks c ≢ Blocks aim = λ p e. cc in
+        let no_refusal : (aim : Aim) → Forks c ≢ Refuses aim = λ p e. cc in
         let is_step = steps_by_code plan mode s l id me.0 t (Forks c) si next (λ p e. cc)
         (λ _. (avoids_else st t (Forks c) no_block no_refusal, may_do l.lock t (Forks c) (not_held plan mode s l id me.0 t si own free) no_block no_refusal)) in
         let consistent = (reachable_is_fixed plan l.places l.checked (lawful_is_reachable (avoids mode) plan l.places l.lock l.lawful)).1 in

@@ -5,7 +5,7 @@ use Rattle.std.proofs.lemmas.Bool.{false≢true}
 use Rattle.atomic_table.specs.Seated.{TableId}
 use Rattle.armus_base.specs.declared.event.Event.{Event}
 use Rattle.armus_base.specs.Limits.{max_tasks}
-use Rattle.armus_base.specs.Plans.{Plan, Refuses}
+use Rattle.armus_base.specs.Plans.{Aim, Plan, Refuses}
 use Rattle.armus_base.specs.Runs.{Place, next_place}
 use Rattle.armus_base.specs.Places.{published_after}
 use Rattle.armus_base.specs.Seats.{AvoidsByWhatIsSeen}
@@ -73,34 +73,34 @@ pub holder_small : (table : TableId) (v w : View) (mode : Mode) (h : ℕ) → Is
 holder_small table v w mode h seat m = (let a = m.within in let b = seat.checked.limits.few_tasks in omega arith)
 
 -- the place after a refusal
-refused_done : (k : ℕ) (o : Option ℕ) (p : ℕ) → (next_place k o (Refuses p)).done ≡ k
+refused_done : (k : ℕ) (o : Option ℕ) (aim : Aim) → (next_place k o (Refuses aim)).done ≡ k
 refused_done k None p = refl
 refused_done k (Some d) p = refl
 
-module _ (table table' : TableId) (v w : View) (p : ℕ) (seat : IsSeat (record { table = table; view = v })) (within : task_of v < length v.sight.places) (is : w ≡ after_action (Refuses p) v) where
+module _ (table table' : TableId) (v w : View) (aim : Aim) (seat : IsSeat (record { table = table; view = v })) (within : task_of v < length v.sight.places) (is : w ≡ after_action (Refuses aim) v) where
   pub refused_seat : IsSeat (record { table = table'; view = w })
   refused_seat =
       subst (λ (u : View). IsSeat (record { table = table'; view = u })) (sym is)
       (record {
         live = seat.live;
         checked = seat.checked;
-        count = length-set v.sight.places (task_of v) (next_place (own_place v).done (own_place v).dropped (Refuses p)) ∙ seat.count;
+        count = length-set v.sight.places (task_of v) (next_place (own_place v).done (own_place v).dropped (Refuses aim)) ∙ seat.count;
         few = seat.few;
         own = seat.own;
         lock = seat.lock;
       })
 
-  pub refuses_step : table' ≡ table → MakesStep (Refuses p) (record { table = table; view = v }) (record { table = table'; view = w })
+  pub refuses_step : table' ≡ table → MakesStep (Refuses aim) (record { table = table; view = v }) (record { table = table'; view = w })
   refuses_step same =
       record {
-        seen_now = ap seen is ∙ seen_stepped (Refuses p) v within;
+        seen_now = ap seen is ∙ seen_stepped (Refuses aim) v within;
         same = record {
           plan = ap (λ (u : View). u.plan) is;
           mode = ap (λ (u : View). u.mode) is;
           own = ap (λ (u : View). u.own) is;
           holds = ap (λ (u : View). u.holds) is;
           spent = ap (λ (u : View). u.spent) is;
-          count = ap (λ (u : View). length u.sight.places) is ∙ length-set v.sight.places (task_of v) (next_place (own_place v).done (own_place v).dropped (Refuses p));
+          count = ap (λ (u : View). length u.sight.places) is ∙ length-set v.sight.places (task_of v) (next_place (own_place v).done (own_place v).dropped (Refuses aim));
         };
         loads = ap (λ (u : View). u.loads) is;
         table = same;
@@ -112,9 +112,9 @@ module _ (table table' : TableId) (v w : View) (p : ℕ) (seat : IsSeat (record 
       let k : Known = record { table = table; view = v } in
       let same : event_of (record { table = table'; view = w }) ≡ event_of k =
       ap (λ (u : View). event_of (record { table = table'; view = u })) is
-      ∙ event_here (record { table = table'; view = after_action (Refuses p) v }) t s.task
-      ∙ ap (λ (b : Place). published_after v.plan (task_of v) b.done) (place_next v (Refuses p) within)
-      ∙ ap (published_after v.plan (task_of v)) (refused_done (own_place v).done (own_place v).dropped p)
+      ∙ event_here (record { table = table'; view = after_action (Refuses aim) v }) t s.task
+      ∙ ap (λ (b : Place). published_after v.plan (task_of v) b.done) (place_next v (Refuses aim) within)
+      ∙ ap (published_after v.plan (task_of v)) (refused_done (own_place v).done (own_place v).dropped aim)
       ∙ sym (event_here k t s.task) in
       record {
         task = ap (λ (u : View). u.own) is ∙ s.task;
@@ -126,10 +126,10 @@ module _ (table table' : TableId) (v w : View) (p : ℕ) (seat : IsSeat (record 
 
 -- what is asked of who refuses, by the board's own plan
 pub may_refuse_here :
-    (k : Known) (f : Frame) (t p : ℕ) → IsOf k f → k.view.own ≡ Some t → MayRefuse k p → AvoidsByWhatIsSeen f.plan t (seen k.view) (Refuses p)
-may_refuse_here k f t p of own may =
-    subst (λ (q : Plan). AvoidsByWhatIsSeen q t (seen k.view) (Refuses p)) of.plan
-    (subst (λ u. AvoidsByWhatIsSeen k.view.plan u (seen k.view) (Refuses p)) (ap (λ o. unwrap_or o 0) own) may)
+    (k : Known) (f : Frame) (t : ℕ) (aim : Aim) → IsOf k f → k.view.own ≡ Some t → MayRefuse k aim → AvoidsByWhatIsSeen f.plan t (seen k.view) (Refuses aim)
+may_refuse_here k f t aim of own may =
+    subst (λ (q : Plan). AvoidsByWhatIsSeen q t (seen k.view) (Refuses aim)) of.plan
+    (subst (λ u. AvoidsByWhatIsSeen k.view.plan u (seen k.view) (Refuses aim)) (ap (λ o. unwrap_or o 0) own) may)
 
 -- what comes next stays so where the lock was found taken
 pub busy_next : (k m : Known) (h t : ℕ) → k.view.own ≡ Some t → FindsHeld h k m → next_action m.view ≡ next_action k.view

@@ -7,7 +7,7 @@ use lib.ListN.{get_elem?}
 use Rattle.atomic_table.specs.Table.{Act, Allows, Me, State as TableState, Valid, carried_after, keeps, step, stepped}
 use Rattle.atomic_table.proofs.Lists.{at_set, exchanged}
 use Rattle.armus_base.specs.declared.event.Event.{Event}
-use Rattle.armus_base.specs.Plans.{Blocks, Plan}
+use Rattle.armus_base.specs.Plans.{Aim, Blocks, Plan}
 use Rattle.armus_base.specs.States.{IsActive, State}
 use Rattle.armus_base.specs.Runs.{IsAtAwait, Place}
 use Rattle.armus_base.specs.Places.{published_after, refused_at, state_at}
@@ -164,7 +164,7 @@ holder_within :
     (plan : Plan) (mode : Mode) (s : T) (l : IsKeptBy plan mode s) (h : ℕ) → MayHold plan h (l.places h) → h < length plan.parents
 holder_within plan mode s l h may = elim may [
   | stands_before undropped stands ↦ action_of_task plan l.checked h (l.places h).done (Blocks stands.0) stands.1
-  | has_blocked e is ↦ let by = published_after_is plan h (l.places h).done e is in action_of_task plan l.checked h by.0 (Blocks e.p.0) by.2
+  | has_blocked e is ↦ let by = published_after_is plan h (l.places h).done e is in action_of_task plan l.checked h by.0 (Blocks by.2) by.4
   | has_refused is ↦
       let stands = ((reachable_is_fixed plan l.places l.checked (lawful_is_reachable (avoids mode) plan l.places l.lock l.lawful)).1.refused h 0 is).1 in
       action_of_task plan l.checked h (l.places h).done (Blocks stands.0) stands.1
@@ -239,25 +239,25 @@ module _ (plan : Plan) (mode : Mode) (slots id : ℕ) (me : Me (Unit {0}) View) 
       )
 
   -- the state has the lock with the seat now
-  takes_it : (s : T) (l : IsKeptBy plan mode s) (p : ℕ) → get_elem? s.views id ≡ some v → next_action v ≡ Some (Blocks p) → l.lock ≡ None → IsLawful true plan l.places (Some t)
-  takes_it s l p found next nobody =
+  takes_it : (s : T) (l : IsKeptBy plan mode s) (aim : Aim) → get_elem? s.views id ≡ some v → next_action v ≡ Some (Blocks aim) → l.lock ≡ None → IsLawful true plan l.places (Some t)
+  takes_it s l aim found next nobody =
       let si = sits plan mode s l id v t own live found in
-      let there = comes_next plan mode s l id v t (Blocks p) si next in
+      let there = comes_next plan mode s l id v t (Blocks aim) si next in
       let active : IsActive (state_at plan l.places) t = record {
         forked = si.forked;
-        unpublished = nothing_published plan t (l.places t).done (Blocks p) there.1 (λ q e. cc);
+        unpublished = nothing_published plan t (l.places t).done (Blocks aim) there.1 (λ q e. cc);
         unrefused = ap (refused_at plan t (l.places t).done) there.0;
       } in
-      taking_is_lawful plan l.places t l.checked (subst (λ o. IsLawful true plan l.places o) nobody (subst (λ b. IsLawful b plan l.places l.lock) avoiding l.lawful)) active (p, there.1)
+      taking_is_lawful plan l.places t l.checked (subst (λ o. IsLawful true plan l.places o) nobody (subst (λ b. IsLawful b plan l.places l.lock) avoiding l.lawful)) active (aim, there.1)
 
-  pub tries : (p : ℕ) → next_action v ≡ Some (Blocks p) → Allows (IsKeptBy plan mode) slots id me 0 (λ n. either (eqb n 0) (t + 1) n) (Tried (step slots 0 0 (t + 1) none) me)
-  tries p next s l _ found _ =
+  pub tries : (aim : Aim) → next_action v ≡ Some (Blocks aim) → Allows (IsKeptBy plan mode) slots id me 0 (λ n. either (eqb n 0) (t + 1) n) (Tried (step slots 0 0 (t + 1) none) me)
+  tries aim next s l _ found _ =
       let n : ℕ = get_or s.words 0 0 in
       let si = sits plan mode s l id v t own live found in
       exchanged n 0 (t + 1) (λ m. (w : View) × (a : Act (Unit {0})) × Valid s.homes me.1 a × IsKeptBy plan mode (stepped s 0 m id me.1 w a) × Tried (step slots 0 0 (t + 1) none) me n (w, carried_after me.1 a))
       (λ hit.
       let nobody : l.lock ≡ None = no_number l.lock (sym l.shown.holder ∙ hit) in
-      let lawful = takes_it s l p found next nobody in (
+      let lawful = takes_it s l aim found next nobody in (
         with_lock true v,
         keeps,
         tt,

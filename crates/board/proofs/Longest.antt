@@ -2,7 +2,7 @@
 use Rattle.std.proofs.Common.{◌≡◌, ℕ, zero, suc, ◌<◌, ◌≤◌, Bool, true, false, List, [], ◌∷◌, ◌++◌, Option, Some, None, length, sym, refl, ap, ◌∙◌, subst, arith, inl, inr, ◌⊎◌}
 use Rattle.std.specs.Prelude.{if◌then◌else◌, is_some}
 use Rattle.std.proofs.lemmas.Bool.{cases_eq, cases_lt}
-use Rattle.armus_base.specs.Plans.{Action, Advances, Blocks, Drops, Forks, Makes, Passes, Plan, Refuses, Registers, action_at, actions}
+use Rattle.armus_base.specs.Plans.{Aim, Action, Advances, Blocks, Drops, Forks, Makes, Passes, Plan, Refuses, Registers, action_at, actions}
 use Rattle.armus_base.specs.Runs.{IsAtAwait, IsPrefix, Place, Precedes}
 use Rattle.armus_base.specs.Places.{members_below, phases_after}
 use Rattle.armus_base.specs.States.{Phases}
@@ -147,11 +147,11 @@ precedes_or_not k (Some p) j (Some q) = elim (cases_eq k j) [
 ]
 
 -- whether the code goes on with an await
-pub await_or_not : (plan : Plan) (t k : ℕ) → ((p : ℕ) × action_at plan t k ≡ Some (Blocks p)) ⊎ (((p : ℕ) × action_at plan t k ≡ Some (Blocks p)) → ⊥)
+pub await_or_not : (plan : Plan) (t k : ℕ) → ((aim : Aim) × action_at plan t k ≡ Some (Blocks aim)) ⊎ (((aim : Aim) × action_at plan t k ≡ Some (Blocks aim)) → ⊥)
 await_or_not plan t k = by_case (action_at plan t k) refl
   where
-    by_case : (o : Option Action) → action_at plan t k ≡ o → ((p : ℕ) × action_at plan t k ≡ Some (Blocks p)) ⊎ (((p : ℕ) × action_at plan t k ≡ Some (Blocks p)) → ⊥)
-    by_case (Some (Blocks p)) e = inl (p, e)
+    by_case : (o : Option Action) → action_at plan t k ≡ o → ((aim : Aim) × action_at plan t k ≡ Some (Blocks aim)) ⊎ (((aim : Aim) × action_at plan t k ≡ Some (Blocks aim)) → ⊥)
+    by_case (Some (Blocks aim)) e = inl (aim, e)
     by_case None e = inr (λ h. let f = h.1 in cc)
     by_case (Some (Makes p)) e = inr (λ h. let f = h.1 in cc)
     by_case (Some (Registers c p)) e = inr (λ h. let f = h.1 in cc)

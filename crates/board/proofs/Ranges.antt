@@ -2,19 +2,19 @@
 use Rattle.std.proofs.Common.{◌≡◌, ℕ, zero, suc, ◌<◌, ◌≤◌, Bool, true, false, Option, Some, None, length, sym, refl, ap, ◌∙◌, subst, arith, inl, inr}
 use Rattle.std.specs.Prelude.{if◌then◌else◌, ◌==◌, sum_by}
 use Rattle.std.proofs.lemmas.Bool.{cases_eq}
-use Rattle.armus_base.specs.Limits.{max_ops, max_phasers}
+use Rattle.armus_base.specs.Limits.{max_awaited, max_ops, max_phasers}
 use Rattle.armus_base.specs.declared.event.Event.{Event}
 use Rattle.armus_base.specs.Plans.{Action, Advances, Blocks, Drops, Forks, Makes, Passes, Plan, Refuses, Registers, action_at, actions, parent_of}
-use Rattle.armus_base.specs.States.{Phases, awaited, next_phase, updated}
+use Rattle.armus_base.specs.States.{Phases, next_phase, updated}
 use Rattle.armus_base.specs.Runs.{Place}
 use Rattle.armus_base.specs.Places.{done_by, first_phases, own_phases, own_step, phases_after, phases_at, published_after, refused_at, register_step, registered, registered_by, state_at}
 use Rattle.armus_base.specs.CheckedPlans.{IsCheckedPlan}
 use Rattle.armus_base.specs.Seats.{found_by}
 use Rattle.armus_base.proofs.Steps.{next_phase_is, updated_is}
-use Rattle.armus_base.proofs.Codes.{event_on_is, phaser_within}
+use Rattle.armus_base.proofs.Codes.{phaser_within}
 use Rattle.armus_base.proofs.Fixed.{first_phases_is, phases_begun, phases_idle}
-use Rattle.armus_base.proofs.Published.{kept_is}
-use Rattle.armus_base.proofs.PhasesFit.{phases_fit}
+use Rattle.armus_base.proofs.Published.{kept_is, published_after_is}
+use Rattle.armus_base.proofs.PhasesFit.{awaited_phases_fit, phases_fit}
 use Rattle.board.specs.Words.{IsInRange, found_in}
 
 -- what is said of each phase that a task has after its actions holds of those with which it registers a child
@@ -112,29 +112,22 @@ module _ (plan : Plan) (checked : IsCheckedPlan plan) where
         | inr ne ↦ few_ops n (phases_fit plan t (done_by a t) p n checked (ap (λ g. g p) (sym (phases_begun plan checked (done_by a) t ne)) ∙ was))
       ]
 
-  -- an event that a code awaits is one of the plan, and small
-  awaited_small : (t k : ℕ) (o : Option Action) (e : Event) → awaited o (phases_after plan t k) ≡ Some e → (e.p.0 < max_phasers) × (e.n ≤ max_ops)
-  awaited_small t k (Some (Blocks p)) e is =
-      let on = event_on_is p (phases_after plan t k p) e is in
-      let within = phaser_of_member t k p e.n on.1 in
+  -- an event that stands published is one of the plan, and small
+  published_small : (t k : ℕ) (e : Event) → published_after plan t k ≡ Some e → (e.p.0 < max_phasers) × (e.n ≤ max_awaited)
+  published_small t k e is =
+      let by = published_after_is plan t k e is in
+      let member = (checked.codes.well_formed t by.0 (Blocks by.2) by.4).0 in
+      let within = phaser_of_member t by.0 by.2.phaser member.0 member.1 in
       let few = checked.limits.few_phasers in
-      let same = on.0 in (omega arith, few_ops e.n (phases_fit plan t k p e.n checked on.1))
-  awaited_small t k None e is = absurd (cc)
-  awaited_small t k (Some (Makes p)) e is = absurd (cc)
-  awaited_small t k (Some (Registers c p)) e is = absurd (cc)
-  awaited_small t k (Some (Forks c)) e is = absurd (cc)
-  awaited_small t k (Some (Advances p)) e is = absurd (cc)
-  awaited_small t k (Some (Drops p)) e is = absurd (cc)
-  awaited_small t k (Some (Passes p)) e is = absurd (cc)
-  awaited_small t k (Some (Refuses p)) e is = absurd (cc)
+      let same = by.3 in
+      let fits = awaited_phases_fit plan t k e checked is in
+      let ops = checked.limits.few_ops in
+      (omega arith, omega arith)
 
-  published_small : (t k : ℕ) (e : Event) → published_after plan t k ≡ Some e → (e.p.0 < max_phasers) × (e.n ≤ max_ops)
-  published_small t zero e is = absurd (cc)
-  published_small t (suc k) e is = awaited_small t k (action_at plan t k) e is
-
-  refused_small : (t k : ℕ) (o : Option ℕ) (e : Event) → refused_at plan t k o ≡ Some e → (e.p.0 < max_phasers) × (e.n ≤ max_ops)
+  -- and so is one at which a task is refused, which it would have published next
+  refused_small : (t k : ℕ) (o : Option ℕ) (e : Event) → refused_at plan t k o ≡ Some e → (e.p.0 < max_phasers) × (e.n ≤ max_awaited)
   refused_small t k None e is = absurd (cc)
-  refused_small t k (Some d) e is = awaited_small t k (action_at plan t k) e is
+  refused_small t k (Some d) e is = published_small t (suc k) e is
 
   -- so an await word says no other
   pub found_small : (a : ℕ → Place) (t : ℕ) → IsInRange (found_in (state_at plan a) t)

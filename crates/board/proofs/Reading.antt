@@ -3,32 +3,32 @@ use Rattle.std.proofs.Common.{◌≡◌, ℕ, zero, suc, ◌+◌, ◌-◌, ◌/�
 use Rattle.std.proofs.lemmas.Nat.{div-mul-add, mod-mul-add}
 use mathlib.Core.Option.{some, some-injective, some-ne-none}
 use lib.ListN.{get_elem?}
-use Rattle.armus_base.specs.Limits.{max_ops, max_phasers}
+use Rattle.armus_base.specs.Limits.{max_awaited, max_ops, max_phasers}
 use Rattle.armus_base.specs.declared.event.Event.{Event}
 use Rattle.armus_base.specs.Seats.{Found, FoundIdle, FoundRefused, FoundWaiting}
 use Rattle.board.specs.Words.{IsInRange, await_number, event_number, phase_number}
 
 -- the phaser and the phase of an event's number
-pub phaser_in : (e : Event) → e.n ≤ max_ops → event_number e / 4294967296 ≡ e.p.0 + 1
+pub phaser_in : (e : Event) → e.n ≤ max_awaited → event_number e / 4294967296 ≡ e.p.0 + 1
 phaser_in e l = div-mul-add (e.p.0 + 1) 4294967296 e.n (omega arith)
 
-pub phase_in : (e : Event) → e.n ≤ max_ops → event_number e % 4294967296 ≡ e.n
+pub phase_in : (e : Event) → e.n ≤ max_awaited → event_number e % 4294967296 ≡ e.n
 phase_in e l = mod-mul-add (e.p.0 + 1) 4294967296 e.n (omega arith)
 
-pub event_small : (e : Event) → e.p.0 < max_phasers → e.n ≤ max_ops → (event_number e < 9223372036854775808) × (0 < event_number e)
+pub event_small : (e : Event) → e.p.0 < max_phasers → e.n ≤ max_awaited → (event_number e < 9223372036854775808) × (0 < event_number e)
 event_small e p n = (omega arith, omega arith)
 
 -- which word says what
 pub of_waits :
     (f : Found) (word : ℕ) → IsInRange f → word ≡ await_number f → (word ≡ 0 → ⊥) → word < 9223372036854775808 →
-    (e : Event) × (f ≡ FoundWaiting e) × (e.p.0 < max_phasers) × (e.n ≤ max_ops) × (word ≡ event_number e)
+    (e : Event) × (f ≡ FoundWaiting e) × (e.p.0 < max_phasers) × (e.n ≤ max_awaited) × (word ≡ event_number e)
 of_waits FoundIdle word r is n l = absurd (n is)
 of_waits (FoundWaiting e) word r is n l = (e, refl, r.0, r.1, is)
 of_waits (FoundRefused e) word r is n l = absurd (omega arith)
 
 pub of_refused :
     (f : Found) (word : ℕ) → IsInRange f → word ≡ await_number f → (word ≡ 0 → ⊥) → 9223372036854775808 ≤ word →
-    (e : Event) × (f ≡ FoundRefused e) × (e.p.0 < max_phasers) × (e.n ≤ max_ops) × (word - 9223372036854775808 ≡ event_number e)
+    (e : Event) × (f ≡ FoundRefused e) × (e.p.0 < max_phasers) × (e.n ≤ max_awaited) × (word - 9223372036854775808 ≡ event_number e)
 of_refused FoundIdle word r is n l = absurd (n is)
 of_refused (FoundWaiting e) word r is n l = absurd (let s = event_small e r.0 r.1 in let less = s.0 in omega arith)
 of_refused (FoundRefused e) word r is n l = (e, refl, r.0, r.1, omega arith)

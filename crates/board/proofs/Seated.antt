@@ -1,11 +1,13 @@
 -- What the steps make of a seat's own facts.
 use mathlib.Core.Path.{fun_ext}
 use Rattle.std.proofs.Common.{◌≡◌, ◌≢◌, ℕ, suc, ◌+◌, ◌<◌, ◌≤◌, Bool, true, false, [], ◌∷◌, Option, Some, None, length, sym, refl, ap, ◌∙◌, subst, arith, length-set, eq-eqb}
-use Rattle.std.specs.Prelude.{unwrap_or, ◌==◌, ◌||◌, IsSome}
+use Rattle.std.specs.Prelude.{option_map, unwrap_or, ◌==◌, ◌||◌, IsSome}
 use Rattle.std.proofs.lemmas.Bool.{false≢true}
 use Rattle.atomic_table.specs.Seated.{TableId}
 use Rattle.armus_base.specs.declared.event.Event.{Event}
-use Rattle.armus_base.specs.Plans.{Action, Advances, Blocks, Drops, Forks, Makes, Passes, Plan, Refuses, Registers, action_at}
+use Rattle.armus_base.specs.declared.offset.Offset.{Offset}
+use Rattle.armus_base.specs.Plans.{Aim, Action, Advances, Blocks, Drops, Forks, Makes, Passes, Plan, Refuses, Registers, action_at}
+use Rattle.armus_base.specs.Offsets.{target}
 use Rattle.armus_base.specs.States.{awaited, event_at, event_on, next_phase}
 use Rattle.armus_base.specs.Runs.{Place, first_place, next_place}
 use Rattle.armus_base.specs.Places.{kept, own_step, phases_after, phases_at_place, published_after}
@@ -98,7 +100,7 @@ event_before k t x own next n =
     let there = next_there k.view x next in
     event_here k t own ∙ nothing_published k.view.plan (task_of k.view) (own_place k.view).done x there.1 n
 
-pub place_made : (k : ℕ) (o : Option ℕ) (x : Action) → o ≡ None → ((p : ℕ) → x ≢ Refuses p) → (next_place k o x).done ≡ suc k
+pub place_made : (k : ℕ) (o : Option ℕ) (x : Action) → o ≡ None → ((aim : Aim) → x ≢ Refuses aim) → (next_place k o x).done ≡ suc k
 place_made k None (Makes p) e n = refl
 place_made k None (Registers c p) e n = refl
 place_made k None (Forks c) e n = refl
@@ -111,7 +113,7 @@ place_made k (Some d) x e n = absurd (cc)
 
 -- the event after an own action
 pub event_next :
-    (table table' : TableId) (v w : View) (t : ℕ) (x : Action) → v.own ≡ Some t → task_of v < length v.sight.places → next_action v ≡ Some x → ((p : ℕ) → x ≢ Refuses p) → w ≡ next_view v →
+    (table table' : TableId) (v w : View) (t : ℕ) (x : Action) → v.own ≡ Some t → task_of v < length v.sight.places → next_action v ≡ Some x → ((aim : Aim) → x ≢ Refuses aim) → w ≡ next_view v →
     event_of (record { table = table'; view = w }) ≡ awaited (Some x) (phases_after v.plan (task_of v) (own_place v).done)
 event_next table table' v w t x own within next n is =
     let after : w ≡ after_action x v = is ∙ sym (next_view_is v x next) in
@@ -122,7 +124,7 @@ event_next table table' v w t x own within next n is =
     ∙ ap (published_after v.plan (task_of v)) (place_made (own_place v).done (own_place v).dropped x there.0 n)
     ∙ ap (λ o. awaited o (phases_after v.plan (task_of v) (own_place v).done)) there.1
 
-pub not_awaited : (x : Action) (k : ℕ → Option ℕ) → ((p : ℕ) → x ≢ Blocks p) → awaited (Some x) k ≡ None
+pub not_awaited : (x : Action) (k : ℕ → Option ℕ) → ((aim : Aim) → x ≢ Blocks aim) → awaited (Some x) k ≡ None
 not_awaited (Makes p) k n = refl
 not_awaited (Registers c p) k n = refl
 not_awaited (Forks c) k n = refl
@@ -137,10 +139,10 @@ pub phase_here : (v : View) (p : ℕ) → (own_place v).dropped ≡ None → own
 phase_here v p e = ap (λ o. kept o (phases_after v.plan (task_of v) (own_place v).done) p) e
 
 -- scanned after an own action that neither blocks nor passes
-pub scanned_same : (v w : View) (x : Action) → next_action v ≡ Some x → ((p : ℕ) → x ≢ Blocks p) → ((p : ℕ) → x ≢ Passes p) → w ≡ next_view v → (seen w).scanned ≡ (seen v).scanned
+pub scanned_same : (v w : View) (x : Action) → next_action v ≡ Some x → ((aim : Aim) → x ≢ Blocks aim) → ((p : ℕ) → x ≢ Passes p) → w ≡ next_view v → (seen w).scanned ≡ (seen v).scanned
 scanned_same v w x next b p is = ap (λ (u : View). u.sight.scanned) (is ∙ sym (next_view_is v x next)) ∙ by_case x b p
   where
-    by_case : (x : Action) → ((p : ℕ) → x ≢ Blocks p) → ((p : ℕ) → x ≢ Passes p) → (after_action x v).sight.scanned ≡ v.sight.scanned
+    by_case : (x : Action) → ((aim : Aim) → x ≢ Blocks aim) → ((p : ℕ) → x ≢ Passes p) → (after_action x v).sight.scanned ≡ v.sight.scanned
     by_case (Makes p) b q = refl
     by_case (Registers c p) b q = refl
     by_case (Forks c) b q = refl
@@ -157,7 +159,7 @@ own_small k f t seat of own = subst (λ (q : Plan). t < length q.parents) of.pla
 -- the seat's own facts after an own action that neither blocks nor passes
 pub acts_sitting :
     (table table' : TableId) (v w : View) (t n : ℕ) (o : Option Event) (x : Action) → IsSitting t n o (record { table = table; view = v }) → next_action v ≡ Some x →
-    ((p : ℕ) → x ≢ Blocks p) → ((p : ℕ) → x ≢ Passes p) → ((p : ℕ) → x ≢ Refuses p) → w ≡ next_view v → IsSitting t n o (record { table = table'; view = w })
+    ((aim : Aim) → x ≢ Blocks aim) → ((p : ℕ) → x ≢ Passes p) → ((aim : Aim) → x ≢ Refuses aim) → w ≡ next_view v → IsSitting t n o (record { table = table'; view = w })
 acts_sitting table table' v w t n o x s next b p r is =
     let k : Known = record { table = table; view = v } in
     let within = task_inside k t s.seat s.task in
@@ -173,19 +175,19 @@ acts_sitting table table' v w t n o x s next b p r is =
 
 -- after a block
 pub blocks_sitting :
-    (table table' : TableId) (v w : View) (t n : ℕ) (o : Option Event) (p : ℕ) (e : Event) → IsSitting t n o (record { table = table; view = v }) → next_action v ≡ Some (Blocks p) →
-    own_phase v p ≡ Some e.n → e.p.0 ≡ p → w ≡ next_view v → IsSitting t 0 (Some e) (record { table = table'; view = w })
-blocks_sitting table table' v w t n o p e s next phase here is =
+    (table table' : TableId) (v w : View) (t n : ℕ) (o : Option Event) (aim : Aim) (e : Event) → IsSitting t n o (record { table = table; view = v }) → next_action v ≡ Some (Blocks aim) →
+    option_map (target aim.off) (own_phase v aim.phaser) ≡ Some e.n → e.p.0 ≡ aim.phaser → w ≡ next_view v → IsSitting t 0 (Some e) (record { table = table'; view = w })
+blocks_sitting table table' v w t n o aim e s next phase here is =
     let k : Known = record { table = table; view = v } in
     let within = task_inside k t s.seat s.task in
-    let there = next_there v (Blocks p) next in
+    let there = next_there v (Blocks aim) next in
     let after : event_of (record { table = table'; view = w }) ≡ Some e =
-    event_next table table' v w t (Blocks p) s.task within next (λ q f. cc) is
-    ∙ ap (event_on p) (sym (phase_here v p there.0) ∙ phase) ∙ ap (λ q. Some (event_at q e.n)) (sym here) in
+    event_next table table' v w t (Blocks aim) s.task within next (λ q f. cc) is
+    ∙ ap (event_on aim.phaser) (ap (option_map (target aim.off)) (sym (phase_here v aim.phaser there.0)) ∙ phase) ∙ ap (λ q. Some (event_at q e.n)) (sym here) in
     record {
       task = ap (λ (u : View). u.own) is ∙ s.task;
       seat = seat_next table table' v w s.seat is;
-      scanned_is = sym (ap (λ (u : View). u.sight.scanned) (is ∙ sym (next_view_is v (Blocks p) next)));
+      scanned_is = sym (ap (λ (u : View). u.sight.scanned) (is ∙ sym (next_view_is v (Blocks aim) next)));
       event = sym after;
       idle = λ none_now. refl;
     }
@@ -234,7 +236,7 @@ leaves_sitting table table' v w t n d p o s dropped is seat =
 formed_member : (plan : Plan) (t k p : ℕ) (x : Action) → IsByMember x p → IsWellFormed plan t k x → (n : ℕ) × (phases_after plan t k p ≡ Some n)
 formed_member plan t k p (Registers c q) e f = subst (λ r. (n : ℕ) × (phases_after plan t k r ≡ Some n)) e f.3
 formed_member plan t k p (Advances q) e f = subst (λ r. (n : ℕ) × (phases_after plan t k r ≡ Some n)) e f
-formed_member plan t k p (Blocks q) e f = subst (λ r. (n : ℕ) × (phases_after plan t k r ≡ Some n)) e f
+formed_member plan t k p (Blocks a) e f = subst (λ r. (n : ℕ) × (phases_after plan t k r ≡ Some n)) e f.0
 formed_member plan t k p (Makes q) e f = absurd e
 formed_member plan t k p (Forks c) e f = absurd e
 formed_member plan t k p (Drops q) e f = absurd e
@@ -246,6 +248,13 @@ member_next k p seat needs =
     let there = next_there k.view needs.action needs.next in
     let m = formed_member k.view.plan (task_of k.view) (own_place k.view).done p needs.action needs.by_member (seat.checked.codes.well_formed (task_of k.view) (own_place k.view).done needs.action there.1) in
     (m.0, phase_here k.view p there.0 ∙ m.1)
+
+-- what an offset makes of the own phase, by what the seat knew before it was loaded
+pub target_is :
+    (k now : Known) (p m n : ℕ) (off : Offset) → k ≡ now → own_phase now.view p ≡ Some m → n ≡ target off m →
+    option_map (target off) (own_phase k.view p) ≡ Some n
+target_is k now p m n off same phase is =
+    ap (λ (k : Known). option_map (target off) (own_phase k.view p)) same ∙ ap (option_map (target off)) phase ∙ ap Some (sym is)
 
 -- the own phase is small
 pub own_phase_small : (k : Known) (p n : ℕ) → IsSeat k → own_phase k.view p ≡ Some n → n ≤ max_ops
@@ -274,12 +283,12 @@ own_index k f t p index of own is =
 
 -- what the board's mode asks of who publishes, by the board's own plan
 pub may_publish_here :
-    (k : Known) (f : Frame) (t p : ℕ) → IsOf k f → k.view.own ≡ Some t → MayPublish k p → avoids f.mode ≡ true → (k.view.holds ≡ true) × AvoidsByWhatIsSeen f.plan t (seen k.view) (Blocks p)
-may_publish_here k f t p of own may avoiding =
+    (k : Known) (f : Frame) (t : ℕ) (aim : Aim) → IsOf k f → k.view.own ≡ Some t → MayPublish k aim → avoids f.mode ≡ true → (k.view.holds ≡ true) × AvoidsByWhatIsSeen f.plan t (seen k.view) (Blocks aim)
+may_publish_here k f t aim of own may avoiding =
     let m = may (ap avoids of.mode ∙ avoiding) in (
       m.0,
-      subst (λ (q : Plan). AvoidsByWhatIsSeen q t (seen k.view) (Blocks p)) of.plan
-          (subst (λ u. AvoidsByWhatIsSeen k.view.plan u (seen k.view) (Blocks p)) (ap (λ o. unwrap_or o 0) own) m.1),
+      subst (λ (q : Plan). AvoidsByWhatIsSeen q t (seen k.view) (Blocks aim)) of.plan
+          (subst (λ u. AvoidsByWhatIsSeen k.view.plan u (seen k.view) (Blocks aim)) (ap (λ o. unwrap_or o 0) own) m.1),
     )
 
 pub some_is : (o : Option ℕ) → IsSome o → (n : ℕ) × (o ≡ Some n)

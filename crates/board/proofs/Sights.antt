@@ -26,6 +26,6 @@ seen_stepped (Registers c p) v w i = record (seen (after_action (Makes p) v)) { 
 seen_stepped (Forks c) v w i = record (seen (after_action (Makes 0) v)) { places = set_place v.sight.places (task_of v) (next_place (own_place v).done (own_place v).dropped (Forks c)) w i }
 seen_stepped (Advances p) v w i = record (seen (after_action (Makes p) v)) { places = set_place v.sight.places (task_of v) (next_place (own_place v).done (own_place v).dropped (Advances p)) w i }
 seen_stepped (Drops p) v w i = record (seen (after_action (Makes p) v)) { places = set_place v.sight.places (task_of v) (next_place (own_place v).done (own_place v).dropped (Drops p)) w i }
-seen_stepped (Blocks p) v w i = record (seen (after_action (Blocks p) v)) { places = set_place v.sight.places (task_of v) (next_place (own_place v).done (own_place v).dropped (Blocks p)) w i }
+seen_stepped (Blocks a) v w i = record (seen (after_action (Blocks a) v)) { places = set_place v.sight.places (task_of v) (next_place (own_place v).done (own_place v).dropped (Blocks a)) w i }
 seen_stepped (Passes p) v w i = record (seen (after_action (Passes p) v)) { places = set_place v.sight.places (task_of v) (next_place (own_place v).done (own_place v).dropped (Passes p)) w i }
-seen_stepped (Refuses p) v w i = record (seen (after_action (Makes p) v)) { places = set_place v.sight.places (task_of v) (next_place (own_place v).done (own_place v).dropped (Refuses p)) w i }
+seen_stepped (Refuses a) v w i = record (seen (after_action (Makes 0) v)) { places = set_place v.sight.places (task_of v) (next_place (own_place v).done (own_place v).dropped (Refuses a)) w i }

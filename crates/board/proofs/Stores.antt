@@ -1,12 +1,13 @@
 -- The stores: each says in its word what the action changes.
 use Rattle.std.proofs.Common.{◌≡◌, ◌≢◌, ℕ, ◌+◌, ◌<◌, true, false, Option, Some, None, length, set, sym, refl, ap, ◌∙◌, subst, arith}
-use Rattle.std.specs.Prelude.{unwrap_or}
+use Rattle.std.specs.Prelude.{option_map, unwrap_or}
 use Rattle.std.proofs.lemmas.Bool.{false≢true}
 use mathlib.Core.Option.{some, none}
 use lib.ListN.{get_elem?}
 use Rattle.atomic_table.specs.Table.{Allows, Me, State as TableState, keeps, step, stepped}
 use Rattle.armus_base.specs.declared.event.Event.{Event}
-use Rattle.armus_base.specs.Plans.{Action, Advances, Blocks, Drops, Makes, Passes, Plan, Refuses, Registers, action_at}
+use Rattle.armus_base.specs.Plans.{Aim, Action, Advances, Blocks, Drops, Makes, Passes, Plan, Refuses, Registers, action_at}
+use Rattle.armus_base.specs.Offsets.{target}
 use Rattle.armus_base.specs.States.{State, after, awaited, event_at, event_on, next_phase, updated}
 use Rattle.armus_base.specs.Runs.{IsByCode, Place, next_place}
 use Rattle.armus_base.specs.Places.{phases_at_place, published_after, refused_at, state_at}
@@ -14,8 +15,8 @@ use Rattle.armus_base.specs.Boards.{IsLawful, MayDo}
 use Rattle.armus_base.specs.Avoidance.{Avoids}
 use Rattle.armus_base.specs.Seats.{AvoidsByWhatIsSeen, FoundRefused, IsAsFarOn, found_by, own_event}
 use Rattle.armus_base.proofs.Steps.{updated_other, updated_same, with_phase_other, with_phase_same}
-use Rattle.armus_base.proofs.Codes.{passes_next}
-use Rattle.armus_base.proofs.Published.{published_after_is, published_undropped}
+use Rattle.armus_base.proofs.Codes.{mapped_is}
+use Rattle.armus_base.proofs.Published.{published_passes, published_undropped}
 use Rattle.armus_base.proofs.Reachable.{reachable_is_fixed}
 use Rattle.armus_base.proofs.BoardRuns.{lawful_is_reachable}
 use Rattle.armus_base.proofs.AllScannedIsReached.{all_scanned_is_reached}
@@ -43,8 +44,8 @@ pub record ChangesPhase (st st' : State) (u p n : ℕ) : Type 0 where
 -- the action is none that needs the lock, and no pass
 pub record IsPhaseAction (x : Action) : Type 0 where
   pub no_pass : (p : ℕ) → x ≢ Passes p
-  pub no_block : (p : ℕ) → x ≢ Blocks p
-  pub no_refusal : (p : ℕ) → x ≢ Refuses p
+  pub no_block : (aim : Aim) → x ≢ Blocks aim
+  pub no_refusal : (aim : Aim) → x ≢ Refuses aim
 
 -- a store to a phase word
 stores_phase :
@@ -142,8 +143,8 @@ stores_await plan mode slots id me t x n s l own live found is_step forked phase
     (subst (λ (k : ℕ). IsShown plan (after st t x) l.lock (set s.words (await_index t) k)) (sym is)
     (shows_await plan st (after st t x) l.lock s.words t l.shown si.within phases others))
 
-actions_same : (p q : ℕ) → Some (Blocks p) ≡ Some (Blocks q) → p ≡ q
-actions_same p q e = cc
+actions_same : (a b : Aim) → Some (Blocks a) ≡ Some (Blocks b) → a ≡ b
+actions_same a b e = cc
 
 -- a state that has the lock with a seat that holds it
 with_lock_now :
@@ -167,32 +168,32 @@ with_lock_so plan mode s l id v t si w =
 
 -- an await is published
 pub publishes :
-    (plan : Plan) (mode : Mode) (slots id : ℕ) (me : Me (Unit {0}) View) (t p n : ℕ) (e : Event) → me.0.own ≡ Some t → me.0.spent ≡ false →
-    (avoids mode ≡ true → (me.0.holds ≡ true) × AvoidsByWhatIsSeen plan t (seen me.0) (Blocks p)) →
-    next_action me.0 ≡ Some (Blocks p) → phases_at_place me.0.plan (task_of me.0) (own_place me.0) p ≡ Some e.n → e.p.0 ≡ p → n ≡ event_number e →
+    (plan : Plan) (mode : Mode) (slots id : ℕ) (me : Me (Unit {0}) View) (t n : ℕ) (aim : Aim) (e : Event) → me.0.own ≡ Some t → me.0.spent ≡ false →
+    (avoids mode ≡ true → (me.0.holds ≡ true) × AvoidsByWhatIsSeen plan t (seen me.0) (Blocks aim)) →
+    next_action me.0 ≡ Some (Blocks aim) → option_map (target aim.off) (phases_at_place me.0.plan (task_of me.0) (own_place me.0) aim.phaser) ≡ Some e.n → e.p.0 ≡ aim.phaser → n ≡ event_number e →
     Allows (IsKeptBy plan mode) slots id me (await_index t) (λ _. n) (λ _. Published (step slots (await_index t) n 0 none) me n)
-publishes plan mode slots id me t p n e own live avoiding next phase here is s l _ found _ =
+publishes plan mode slots id me t n aim e own live avoiding next phase here is s l _ found _ =
     let si = sits plan mode s l id me.0 t own live found in
     let st : State = state_at plan l.places in
-    let is_step = steps_by_code plan mode s l id me.0 t (Blocks p) si next (λ q e. cc) (by_mode mode refl si) in
-    let event : awaited (Some (Blocks p)) (st.phases t) ≡ Some e =
-    ap (event_on p) (own_phases_so plan mode s l id me.0 t p si ∙ phase) ∙ ap (λ q. Some (event_at q e.n)) (sym here) in (
-      after_action (Blocks p) me.0,
+    let is_step = steps_by_code plan mode s l id me.0 t (Blocks aim) si next (λ q e. cc) (by_mode mode refl si) in
+    let event : awaited (Some (Blocks aim)) (st.phases t) ≡ Some e =
+    ap (event_on aim.phaser) (ap (option_map (target aim.off)) (own_phases_so plan mode s l id me.0 t aim.phaser si) ∙ phase) ∙ ap (λ q. Some (event_at q e.n)) (sym here) in (
+      after_action (Blocks aim) me.0,
       keeps,
       tt,
-      stores_await plan mode slots id me t (Blocks p) n s l own live found is_step (λ w. refl) (λ u q. refl)
-          (λ u ne. ap (λ o. found_by o (st.refused u)) (updated_other st.published t u (awaited (Some (Blocks p)) (st.phases t)) ne))
-          (is ∙ ap (λ o. await_number (found_by o (st.refused t))) (sym (updated_same st.published t t (awaited (Some (Blocks p)) (st.phases t)) refl ∙ event))),
+      stores_await plan mode slots id me t (Blocks aim) n s l own live found is_step (λ w. refl) (λ u q. refl)
+          (λ u ne. ap (λ o. found_by o (st.refused u)) (updated_other st.published t u (awaited (Some (Blocks aim)) (st.phases t)) ne))
+          (is ∙ ap (λ o. await_number (found_by o (st.refused t))) (sym (updated_same st.published t t (awaited (Some (Blocks aim)) (st.phases t)) refl ∙ event))),
       (
         refl,
-        (λ q next_too. ap (λ r. after_action (Blocks r) me.0) (actions_same p q (sym next ∙ next_too))),
+        (λ q next_too. ap (λ r. after_action (Blocks r) me.0) (actions_same aim q (sym next ∙ next_too))),
         (λ is_avoiding.
             let avoids_too = ap avoids (sym si.fits.mode_is) ∙ is_avoiding in
             with_lock_so plan mode s l id me.0 t si (with_lock_now plan mode s l id me.0 t si own (avoiding avoids_too).0 avoids_too)),
       ),
     )
   where
-    by_mode : (m : Mode) → m ≡ mode → Sits plan mode s l id me.0 t → avoids mode ≡ true → Avoids (state_at plan l.places) t (Blocks p) × MayDo l.lock t (Blocks p)
+    by_mode : (m : Mode) → m ≡ mode → Sits plan mode s l id me.0 t → avoids mode ≡ true → Avoids (state_at plan l.places) t (Blocks aim) × MayDo l.lock t (Blocks aim)
     by_mode m same si is_avoiding =
         let c = avoiding is_avoiding in
         let lock = (si.fits.holding t own).holds c.0 in (
@@ -202,45 +203,46 @@ publishes plan mode slots id me t p n e own live avoiding next phase here is s l
 
 -- an await is refused
 pub refuses :
-    (plan : Plan) (mode : Mode) (slots id : ℕ) (me : Me (Unit {0}) View) (t p n : ℕ) (e : Event) → me.0.own ≡ Some t → me.0.spent ≡ false → me.0.holds ≡ true → avoids mode ≡ true →
-    AvoidsByWhatIsSeen plan t (seen me.0) (Refuses p) → next_action me.0 ≡ Some (Blocks p) → phases_at_place me.0.plan (task_of me.0) (own_place me.0) p ≡ Some e.n → e.p.0 ≡ p →
+    (plan : Plan) (mode : Mode) (slots id : ℕ) (me : Me (Unit {0}) View) (t n : ℕ) (aim : Aim) (e : Event) → me.0.own ≡ Some t → me.0.spent ≡ false → me.0.holds ≡ true → avoids mode ≡ true →
+    AvoidsByWhatIsSeen plan t (seen me.0) (Refuses aim) → next_action me.0 ≡ Some (Blocks aim) → option_map (target aim.off) (phases_at_place me.0.plan (task_of me.0) (own_place me.0) aim.phaser) ≡ Some e.n → e.p.0 ≡ aim.phaser →
     n ≡ await_number (FoundRefused e) → Allows (IsKeptBy plan mode) slots id me (await_index t) (λ _. n) (λ _. Refused (step slots (await_index t) n 0 none) me n)
 unfolding with_lock_now
-refuses plan mode slots id me t p n e own live has avoiding dead next phase here is s l _ found _ =
+refuses plan mode slots id me t n aim e own live has avoiding dead next phase here is s l _ found _ =
     let si = sits plan mode s l id me.0 t own live found in
     let st : State = state_at plan l.places in
-    let there = comes_next plan mode s l id me.0 t (Blocks p) si next in
+    let there = comes_next plan mode s l id me.0 t (Blocks aim) si next in
     let w = with_lock_now plan mode s l id me.0 t si own has avoiding in
-    let idle : st.published t ≡ None = nothing_published plan t (l.places t).done (Blocks p) there.1 (λ q f. cc) in
-    let member : st.phases t p ≡ Some e.n = own_phases_so plan mode s l id me.0 t p si ∙ phase in
-    let event : awaited (Some (Blocks p)) (st.phases t) ≡ Some e = ap (event_on p) member ∙ ap (λ q. Some (event_at q e.n)) (sym here) in
-    let is_step : IsStep plan mode l.places l.lock t (Refuses p) = record {
-      code = refused_so plan t (l.places t).done (l.places t).dropped p there.0 there.1;
+    let idle : st.published t ≡ None = nothing_published plan t (l.places t).done (Blocks aim) there.1 (λ q f. cc) in
+    let aimed : option_map (target aim.off) (st.phases t aim.phaser) ≡ Some e.n = ap (option_map (target aim.off)) (own_phases_so plan mode s l id me.0 t aim.phaser si) ∙ phase in
+    let member = mapped_is (target aim.off) (st.phases t aim.phaser) e.n aimed in
+    let event : awaited (Some (Blocks aim)) (st.phases t) ≡ Some e = ap (event_on aim.phaser) aimed ∙ ap (λ q. Some (event_at q e.n)) (sym here) in
+    let is_step : IsStep plan mode l.places l.lock t (Refuses aim) = record {
+      code = refused_so plan t (l.places t).done (l.places t).dropped aim there.0 there.1;
       legal = (
         record { forked = si.forked; unpublished = idle; unrefused = ap (refused_at plan t (l.places t).done) there.0 },
-        (e.n, member),
+        (member.0, member.1),
       );
       plain = λ detects q f. absurd (false≢true (sym detects ∙ avoiding));
       avoided = λ _. (dead w.places w.lock w.lawful w.with_seat w.far, w.with_seat.holds);
     } in (
-      after_action (Refuses p) me.0,
+      after_action (Refuses aim) me.0,
       keeps,
       tt,
-      stores_await plan mode slots id me t (Refuses p) n s l own live found is_step (λ w. refl) (λ u q. refl)
-          (λ u ne. ap (found_by (st.published u)) (updated_other st.refused t u (awaited (Some (Blocks p)) (st.phases t)) ne))
+      stores_await plan mode slots id me t (Refuses aim) n s l own live found is_step (λ w. refl) (λ u q. refl)
+          (λ u ne. ap (found_by (st.published u)) (updated_other st.refused t u (awaited (Some (Blocks aim)) (st.phases t)) ne))
           (is
-          ∙ ap await_number (sym (ap (λ o. found_by o (updated st.refused t (awaited (Some (Blocks p)) (st.phases t)) t)) idle
-          ∙ ap (found_by None) (updated_same st.refused t t (awaited (Some (Blocks p)) (st.phases t)) refl ∙ event)))),
+          ∙ ap await_number (sym (ap (λ o. found_by o (updated st.refused t (awaited (Some (Blocks aim)) (st.phases t)) t)) idle
+          ∙ ap (found_by None) (updated_same st.refused t t (awaited (Some (Blocks aim)) (st.phases t)) refl ∙ event)))),
       (
         refl,
-        (λ q next_too. ap (λ r. after_action (Refuses r) me.0) (actions_same p q (sym next ∙ next_too))),
+        (λ q next_too. ap (λ r. after_action (Refuses r) me.0) (actions_same aim q (sym next ∙ next_too))),
         with_lock_so plan mode s l id me.0 t si w,
       ),
     )
   where
-    refused_so : (plan : Plan) (t k : ℕ) (o : Option ℕ) (p : ℕ) → o ≡ None → action_at plan t k ≡ Some (Blocks p) → IsByCode plan t k o (Refuses p)
-    refused_so plan t k None p e next = next
-    refused_so plan t k (Some d) p e next = absurd (cc)
+    refused_so : (plan : Plan) (t k : ℕ) (o : Option ℕ) (aim : Aim) → o ≡ None → action_at plan t k ≡ Some (Blocks aim) → IsByCode plan t k o (Refuses aim)
+    refused_so plan t k None aim e next = next
+    refused_so plan t k (Some d) aim e next = absurd (cc)
 
 -- the event is reached, and the task goes on
 pub passes :
@@ -255,8 +257,7 @@ passes plan mode slots id me t e own live free same event all s l _ found _ =
     subst (λ o. own_event plan o (seen me.0) ≡ Some e) own (subst (λ q. own_event q me.0.own (seen me.0) ≡ Some e) same event) in
     let published : published_after plan t (l.places t).done ≡ Some e =
     ap (λ (b : Place). published_after plan t b.done) (sym (sym (ap (place_in me.0.sight.places) si.task) ∙ si.place)) ∙ seen_event in
-    let w = published_after_is plan t (l.places t).done e published in
-    let next : action_at plan t (l.places t).done ≡ Some (Passes e.p.0) = ap (action_at plan t) w.1 ∙ passes_next plan t w.0 e.p.0 w.2 in
+    let next : action_at plan t (l.places t).done ≡ Some (Passes e.p.0) = published_passes plan t (l.places t).done e published in
     let reached = all_scanned_is_reached plan t (seen me.0) l.places e l.checked (lawful_is_reachable (avoids mode) plan l.places l.lock l.lawful) far seen_event all in
     let dropped : (l.places t).dropped ≡ None = published_undropped plan l.places (reachable_is_fixed plan l.places l.checked (lawful_is_reachable (avoids mode) plan l.places l.lock l.lawful)).1 t e published in
     let is_step : IsStep plan mode l.places l.lock t (Passes e.p.0) = record {

@@ -4,17 +4,17 @@ use Rattle.std.specs.Prelude.{IsSome, is_some, slice_get, unwrap_or}
 use Rattle.std.proofs.lemmas.Bool.{false≢true}
 use Rattle.armus_base.specs.declared.event.Event.{Event}
 use Rattle.armus_base.specs.declared.op.Op.{Op}
-use Rattle.armus_base.specs.Plans.{Action, Advances, Blocks, Drops, Forks, Makes, Passes, Plan, Refuses, Registers, action_at, actions, actions_of, code_of}
+use Rattle.armus_base.specs.Plans.{Aim, Action, Advances, Blocks, Drops, Forks, Makes, Passes, Plan, Refuses, Registers, action_at, actions, actions_of, code_of}
 use Rattle.armus_base.specs.declared.op.Op.TheVariants.{Adv, Await, Drop, Fork, Make, Reg}
-use Rattle.armus_base.specs.States.{State, awaited, event_at, event_on}
+use Rattle.armus_base.specs.States.{Phases, State, awaited, event_at, event_on}
 use Rattle.armus_base.specs.Runs.{Place, first_place, next_place}
 use Rattle.armus_base.specs.Places.{phases_after, published_after}
 use Rattle.armus_base.specs.CheckedPlans.{IsCheckedPlan, IsWellFormed}
 use Rattle.armus_base.specs.Seats.{SeenBy, own_event, seen_after_step, seen_by_child}
-use Rattle.armus_base.proofs.Codes.{child_within, phaser_within}
+use Rattle.armus_base.proofs.Codes.{awaited_is, awaited_some, child_within, phaser_within}
 use Rattle.armus_base.proofs.Steps.{updated_same}
 use Rattle.board.specs.Views.{action_after, next_action, own_place, seen, task_of}
-use Rattle.board.specs.Seats.{Frame, IsNewSeat, IsOf, IsSeat, Known, MakesStep, event_of, nothing_seen}
+use Rattle.board.specs.Seats.{Frame, aim_at, IsNewSeat, IsOf, IsSeat, Known, MakesStep, event_of, nothing_seen}
 use Rattle.board.specs.inside.Walking.{HasBegun, IsActionOfPlan, begins, left_of}
 use Rattle.board.specs.Steps.{IsSameSeat, WasSo}
 use Rattle.board.proofs.Ranges.{phaser_of_member}
@@ -27,7 +27,7 @@ of_plan plan checked t k (Registers c p) f = (child_within plan t c f.0, phaser_
 of_plan plan checked t k (Forks c) f = child_within plan t c f.0
 of_plan plan checked t k (Advances p) f = phaser_of_member plan checked t k p f.0 f.1
 of_plan plan checked t k (Drops p) f = phaser_of_member plan checked t k p f.0 f.1
-of_plan plan checked t k (Blocks p) f = phaser_of_member plan checked t k p f.0 f.1
+of_plan plan checked t k (Blocks a) f = phaser_of_member plan checked t k a.phaser f.0.0 f.0.1
 of_plan plan checked t k (Passes p) f = tt
 of_plan plan checked t k (Refuses p) f = tt
 
@@ -83,7 +83,7 @@ moved_here t (Blocks p) s = updated_same s.places t t (next_place (s.places t).d
 moved_here t (Passes p) s = updated_same s.places t t (next_place (s.places t).done (s.places t).dropped (Passes p)) refl
 moved_here t (Refuses p) s = updated_same s.places t t (next_place (s.places t).done (s.places t).dropped (Refuses p)) refl
 
-place_undropped : (k : ℕ) (o : Option ℕ) (x : Action) → o ≡ None → ((p : ℕ) → x ≢ Refuses p) → (next_place k o x).dropped ≡ None
+place_undropped : (k : ℕ) (o : Option ℕ) (x : Action) → o ≡ None → ((aim : Aim) → x ≢ Refuses aim) → (next_place k o x).dropped ≡ None
 place_undropped k None (Makes p) e n = refl
 place_undropped k None (Registers c p) e n = refl
 place_undropped k None (Forks c) e n = refl
@@ -96,7 +96,7 @@ place_undropped k (Some d) x e n = absurd (cc)
 
 pub has_stepped :
     (k m : Known) (t : ℕ) (x : Action) (xs : List Action) → k.view.own ≡ Some t → k.view.holds ≡ false → (own_place k.view).dropped ≡ None →
-    drop (own_place k.view).done (actions k.view.plan (task_of k.view)) ≡ x ∷ xs → ((p : ℕ) → x ≢ Refuses p) → MakesStep x k m → HasStepped k m x xs
+    drop (own_place k.view).done (actions k.view.plan (task_of k.view)) ≡ x ∷ xs → ((aim : Aim) → x ≢ Refuses aim) → MakesStep x k m → HasStepped k m x xs
 has_stepped k m t x xs own free unrefused left n step =
     record {
       free = step.same.holds ∙ free;
@@ -119,7 +119,7 @@ has_stepped k m t x xs own free unrefused left n step =
 
 -- so many ops are begun then, after all steps but a block
 pub begun_then :
-    (k m : Known) (x : Action) (begun : ℕ) → HasStepped k m x (actions_of (drop begun (code_of k.view.plan (task_of k.view)))) → ((p : ℕ) → x ≢ Blocks p) → HasBegun begun m
+    (k m : Known) (x : Action) (begun : ℕ) → HasStepped k m x (actions_of (drop begun (code_of k.view.plan (task_of k.view)))) → ((aim : Aim) → x ≢ Blocks aim) → HasBegun begun m
 begun_then k m x begun s n =
     record {
       free = s.free;
@@ -132,8 +132,9 @@ begun_then k m x begun s n =
 
 -- and after a block, whose pass is left
 pub begun_published :
-    (k m : Known) (p begun : ℕ) (e : Event) → HasStepped k m (Blocks p) (Passes p ∷ actions_of (drop begun (code_of k.view.plan (task_of k.view)))) → event_of m ≡ Some e → e.p.0 ≡ p → HasBegun begun m
-begun_published k m p begun e s is here =
+    (k m : Known) (aim : Aim) (begun : ℕ) (e : Event) → HasStepped k m (Blocks aim) (Passes aim.phaser ∷ actions_of (drop begun (code_of k.view.plan (task_of k.view)))) → event_of m ≡ Some e →
+    e.p.0 ≡ aim.phaser → HasBegun begun m
+begun_published k m aim begun e s is here =
     record {
       free = s.free;
       unrefused = s.unrefused;
@@ -186,7 +187,7 @@ is_before k now f plan t begun code o r op same of plan_is begun_so own seat idl
 
 -- the actions that an op has after its first
 abbrev goes_on : Op → List Action → List Action
-goes_on (Await p) xs = Passes p.0 ∷ xs
+goes_on (Await p off) xs = Passes p.0 ∷ xs
 goes_on op xs = xs
 
 first_of : (op : Op) (ops : List Op) → actions_of (op ∷ ops) ≡ begins op ∷ goes_on op (actions_of ops)
@@ -195,7 +196,7 @@ first_of (Reg c p) ops = refl
 first_of (Fork c) ops = refl
 first_of (Adv p) ops = refl
 first_of (Drop p) ops = refl
-first_of (Await p) ops = refl
+first_of (Await p off) ops = refl
 
 module _ (begun : ℕ) (op : Op) (k : Known) (b : IsBefore begun op k) where
   left_now :
@@ -216,16 +217,16 @@ module _ (begun : ℕ) (op : Op) (k : Known) (b : IsBefore begun op k) where
 pub begins_next : (begun : ℕ) (op : Op) (k m : Known) → IsBefore begun op k → MakesStep (begins op) k m → HasBegun (suc begun) m
 begins_next begun op k m b step = by_op op refl (has_stepped k m (task_of k.view) (begins op) _ b.own b.begun_so.free b.begun_so.unrefused (left_now begun op k b) (no_refuse op) step)
   where
-    no_refuse : (op : Op) (p : ℕ) → begins op ≢ Refuses p
+    no_refuse : (op : Op) (aim : Aim) → begins op ≢ Refuses aim
     no_refuse (Make q) p e = cc
     no_refuse (Reg c q) p e = cc
     no_refuse (Fork c) p e = cc
     no_refuse (Adv q) p e = cc
     no_refuse (Drop q) p e = cc
-    no_refuse (Await q) p e = cc
+    no_refuse (Await q off) p e = cc
 
-    member : (p : ℕ) → next_action k.view ≡ Some (Blocks p) → (n : ℕ) × (phases_after k.view.plan (task_of k.view) (own_place k.view).done p ≡ Some n)
-    member p next = b.seat.checked.codes.well_formed (task_of k.view) (own_place k.view).done (Blocks p) (next_there k.view (Blocks p) next).1
+    member : (aim : Aim) → next_action k.view ≡ Some (Blocks aim) → (n : ℕ) × (phases_after k.view.plan (task_of k.view) (own_place k.view).done aim.phaser ≡ Some n)
+    member aim next = (b.seat.checked.codes.well_formed (task_of k.view) (own_place k.view).done (Blocks aim) (next_there k.view (Blocks aim) next).1).0
 
     by_op : (o : Op) → op ≡ o → HasStepped k m (begins op) (goes_on op (actions_of (drop (suc begun) (code_of k.view.plan (task_of k.view))))) → HasBegun (suc begun) m
     by_op (Make p) is s = begun_then k m (Makes p.0) (suc begun) (subst (λ o. HasStepped k m (begins o) (goes_on o (actions_of (drop (suc begun) (code_of k.view.plan (task_of k.view)))))) is s) (λ q e. cc)
@@ -233,11 +234,12 @@ begins_next begun op k m b step = by_op op refl (has_stepped k m (task_of k.view
     by_op (Fork c) is s = begun_then k m (Forks c.0) (suc begun) (subst (λ o. HasStepped k m (begins o) (goes_on o (actions_of (drop (suc begun) (code_of k.view.plan (task_of k.view)))))) is s) (λ q e. cc)
     by_op (Adv p) is s = begun_then k m (Advances p.0) (suc begun) (subst (λ o. HasStepped k m (begins o) (goes_on o (actions_of (drop (suc begun) (code_of k.view.plan (task_of k.view)))))) is s) (λ q e. cc)
     by_op (Drop p) is s = begun_then k m (Drops p.0) (suc begun) (subst (λ o. HasStepped k m (begins o) (goes_on o (actions_of (drop (suc begun) (code_of k.view.plan (task_of k.view)))))) is s) (λ q e. cc)
-    by_op (Await p) is s =
-        let one = member p.0 (before_next begun op k b ∙ ap (λ o. Some (begins o)) is) in
-        let t : HasStepped k m (Blocks p.0) (Passes p.0 ∷ actions_of (drop (suc begun) (code_of k.view.plan (task_of k.view)))) =
+    by_op (Await p off) is s =
+        let phases : Phases = phases_after k.view.plan (task_of k.view) (own_place k.view).done in
+        let found = awaited_some (aim_at p.0 off) phases (member (aim_at p.0 off) (before_next begun op k b ∙ ap (λ o. Some (begins o)) is)) in
+        let t : HasStepped k m (Blocks (aim_at p.0 off)) (Passes p.0 ∷ actions_of (drop (suc begun) (code_of k.view.plan (task_of k.view)))) =
         subst (λ o. HasStepped k m (begins o) (goes_on o (actions_of (drop (suc begun) (code_of k.view.plan (task_of k.view)))))) is s in
-        begun_published k m p.0 (suc begun) (event_at p.0 one.0) t (t.event ∙ ap (event_on p.0) one.1) refl
+        begun_published k m (aim_at p.0 off) (suc begun) found.0 t (t.event ∙ found.1) (awaited_is (aim_at p.0 off) phases found.0 found.1).0
 
 -- the seat is of its board after a step
 pub of_then : (x : Action) (k m : Known) (f : Frame) → IsOf k f → MakesStep x k m → IsOf m f

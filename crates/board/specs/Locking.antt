@@ -1,7 +1,7 @@
 -- The lock of a board that avoids deadlock: what it makes of a seat that it is taken, found taken or freed, and that a task is refused.
 use Rattle.std.specs.Prelude.{◌≡◌, ◌≢◌, ℕ, ◌+◌, ◌<◌, Bool, true, false, [], Option, Some, length}
 use Rattle.atomic_table.specs.Table.{Me, Step}
-use Rattle.armus_base.specs.Plans.{Plan, Blocks, Refuses}
+use Rattle.armus_base.specs.Plans.{Aim, Plan, Blocks, Refuses}
 use Rattle.armus_base.specs.Runs.{Place}
 use Rattle.armus_base.specs.Boards.{IsLawful}
 use Rattle.armus_base.specs.Seats.{SeenBy, IsAsFarOn, HasLockWith, IsSeenAfterBusy, MayHold, AvoidsByWhatIsSeen}
@@ -57,19 +57,19 @@ Freed step before n now = now.0 ≡ with_lock false before.0 × now.1 ≡ before
 abbrev pub Published : Step (Unit {0}) → Seat → ℕ → Seat → Type 0
 Published step before n now =
     now.1 ≡ before.1
-    × ((p : ℕ) → next_action before.0 ≡ Some (Blocks p) → now.0 ≡ after_action (Blocks p) before.0)
+    × ((aim : Aim) → next_action before.0 ≡ Some (Blocks aim) → now.0 ≡ after_action (Blocks aim) before.0)
     × (avoids before.0.mode ≡ true → IsWithLock before.0.plan (task_of before.0) (seen before.0))
 
 -- the await that comes next was refused
 abbrev pub Refused : Step (Unit {0}) → Seat → ℕ → Seat → Type 0
 Refused step before n now =
     now.1 ≡ before.1
-    × ((p : ℕ) → next_action before.0 ≡ Some (Blocks p) → now.0 ≡ after_action (Refuses p) before.0)
+    × ((aim : Aim) → next_action before.0 ≡ Some (Blocks aim) → now.0 ≡ after_action (Refuses aim) before.0)
     × IsWithLock before.0.plan (task_of before.0) (seen before.0)
 
 -- the seat stands before an await that is not published
 abbrev pub IsBeforeAwait : Known → Type 0
-IsBeforeAwait seat = (p : ℕ) × next_action seat.view ≡ Some (Blocks p)
+IsBeforeAwait seat = (aim : Aim) × next_action seat.view ≡ Some (Blocks aim)
 
 -- the seat has taken the lock, and nothing else is another
 pub record TakesLock (before now : Known) : Type 0 where
@@ -90,6 +90,6 @@ pub record FreesLock (before now : Known) : Type 0 where
   pub table : now.table ≡ before.table
   pub kept : IsSeat now
 
--- the seat may refuse an await of p: in each state that it may be in with the lock its task would be dead
-abbrev pub MayRefuse : Known → ℕ → Type 0
-MayRefuse seat p = AvoidsByWhatIsSeen seat.view.plan (task_of seat.view) (seen seat.view) (Refuses p)
+-- the seat may refuse an await with this aim: in each state that it may be in with the lock its task would be dead
+abbrev pub MayRefuse : Known → Aim → Type 0
+MayRefuse seat aim = AvoidsByWhatIsSeen seat.view.plan (task_of seat.view) (seen seat.view) (Refuses aim)

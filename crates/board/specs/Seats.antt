@@ -2,7 +2,8 @@
 use Rattle.std.specs.Prelude.{◌≡◌, ℕ, ◌<◌, ◌≤◌, true, false, Option, Some, None, length, IsSome}
 use Rattle.atomic_table.specs.Seated.{TableId}
 use Rattle.armus_base.specs.declared.event.Event.{Event}
-use Rattle.armus_base.specs.Plans.{Plan, Action, Blocks, Drops, Passes}
+use Rattle.armus_base.specs.declared.offset.Offset.{Offset}
+use Rattle.armus_base.specs.Plans.{Aim, Plan, Action, Blocks, Drops, Passes}
 use Rattle.armus_base.specs.Runs.{first_place}
 use Rattle.armus_base.specs.CheckedPlans.{IsCheckedPlan}
 use Rattle.armus_base.specs.Seats.{Found, SeenBy, AvoidsByWhatIsSeen, IsSeenAfterTakingIn, own_event, seen_after_step}
@@ -66,11 +67,15 @@ pub record MakesStep (x : Action) (before now : Known) : Type 0 where
 abbrev pub MakesPass : Known → Known → Type 0
 MakesPass before now = (e : Event) → event_of before ≡ Some e → MakesStep (Passes e.p.0) before now
 
--- the seat may publish an await of p: on a board that avoids deadlock it has the lock, and deadlock is avoided in each state that it may be in
-abbrev pub MayPublish : Known → ℕ → Type 0
-MayPublish seat p =
+-- the aim of an await of phaser p with this offset
+abbrev pub aim_at : ℕ → Offset → Aim
+aim_at p off = record { phaser = p; off = off }
+
+-- the seat may publish an await with this aim: on a board that avoids deadlock it has the lock, and deadlock is avoided in each state that it may be in
+abbrev pub MayPublish : Known → Aim → Type 0
+MayPublish seat aim =
     avoids seat.view.mode ≡ true →
-    (seat.view.holds ≡ true) × AvoidsByWhatIsSeen seat.view.plan (task_of seat.view) (seen seat.view) (Blocks p)
+    (seat.view.holds ≡ true) × AvoidsByWhatIsSeen seat.view.plan (task_of seat.view) (seen seat.view) (Blocks aim)
 
 -- the seat may leave p: this comes next by its code, or it is refused and p is the least phaser of which it is a member
 pub data MayDrop (seat : Known) (p : ℕ) : Type 0 where

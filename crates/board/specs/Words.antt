@@ -1,7 +1,7 @@
 -- The words of a board: where they stand, and what they say of a state.
 use Rattle.std.specs.Prelude.{◌≡◌, ℕ, ◌+◌, ◌*◌, ◌^◌, ◌<◌, ◌≤◌, List, Option, Some, None, length, slice_index}
 use Rattle.armus_base.specs.declared.event.Event.{Event}
-use Rattle.armus_base.specs.Limits.{max_ops, max_phasers}
+use Rattle.armus_base.specs.Limits.{max_awaited, max_phasers}
 use Rattle.armus_base.specs.Plans.{Plan}
 use Rattle.armus_base.specs.States.{State}
 use Rattle.armus_base.specs.Seats.{Found, FoundIdle, FoundWaiting, FoundRefused, found_by}
@@ -41,8 +41,8 @@ holder_number (Some t) = t + 1
 -- what an await word of a checked plan says is one of its events
 abbrev pub IsInRange : Found → Type 0
 IsInRange FoundIdle = Unit {0}
-IsInRange (FoundWaiting e) = e.p.0 < max_phasers × e.n ≤ max_ops
-IsInRange (FoundRefused e) = e.p.0 < max_phasers × e.n ≤ max_ops
+IsInRange (FoundWaiting e) = e.p.0 < max_phasers × e.n ≤ max_awaited
+IsInRange (FoundRefused e) = e.p.0 < max_phasers × e.n ≤ max_awaited
 
 -- what task t awaits, or at what it is refused, in a state
 abbrev pub found_in : State → ℕ → Found

@@ -2,7 +2,7 @@
 ghost use Rattle.std.specs.Prelude.{◌≡◌, ◌<◌, ◌≤◌, ◌^◌, ℕ, Option};
 ghost use Rattle.armus_base.specs.declared.event.Event.{Event as EventValue};
 ghost use Rattle.armus_base.specs.Seats.{Found, FoundRefused};
-ghost use Rattle.armus_base.specs.Limits.{max_phasers, max_ops};
+ghost use Rattle.armus_base.specs.Limits.{max_awaited, max_phasers};
 ghost use Rattle.board.specs.Words.{event_number, await_number, phase_number, IsInRange};
 ghost use Rattle.board.specs.Views.{found_of};
 
@@ -25,7 +25,7 @@ pub(crate) fn event_number(event: Event) -> u64
 
 /// The number of an event at which a task is refused.
 pub(crate) fn refused_number(event: Event) -> u64
-    requires { (event.p.0 < max_phasers) × (event.n ≤ max_ops) }
+    requires { event.p.0 < max_phasers }
     ensures { result ≡ await_number (FoundRefused event) }
 {
     event_number(event) + REFUSED
@@ -33,8 +33,8 @@ pub(crate) fn refused_number(event: Event) -> u64
 
 /// The event with this number.
 fn event_of(number: u64) -> Event
-    requires { (e : EventValue) × (e.p.0 < max_phasers) × (e.n ≤ max_ops) × (number ≡ event_number e) }
-    ensures { (e : EventValue) → e.p.0 < max_phasers → e.n ≤ max_ops → number ≡ event_number e → result ≡ e }
+    requires { (e : EventValue) × (e.p.0 < max_phasers) × (e.n ≤ max_awaited) × (number ≡ event_number e) }
+    ensures { (e : EventValue) → e.p.0 < max_phasers → e.n ≤ max_awaited → number ≡ event_number e → result ≡ e }
 {
     Event {
         p: PhaserId((number / PHASES - 1) as u32),

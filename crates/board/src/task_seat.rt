@@ -1,13 +1,14 @@
 // The seat of a task.
-ghost use Rattle.std.specs.Prelude.{◌≡◌, ◌+◌, ◌<◌, ◌≤◌, [], Some, None, length, IfOk, IsOk, IfErr, MatchBool, OnOk, IsSome, true, false};
+ghost use Rattle.std.specs.Prelude.{◌≡◌, ◌+◌, ◌<◌, ◌≤◌, [], Some, None, length, IfOk, IsOk, IfErr, MatchBool, OnOk, IsSome, option_map, true, false};
 ghost use Rattle.armus_base.specs.Limits.{max_tasks, max_ops};
+ghost use Rattle.armus_base.specs.Offsets.{target};
 ghost use Rattle.armus_base.specs.Plans.{Makes, Registers, Forks, Advances, Drops, Blocks, Refuses as RefusesAction};
 ghost use Rattle.armus_base.specs.Seats.{is_not_behind, seen_by_child, scanned_after};
 ghost use Rattle.armus_base.specs.Runs.{first_place};
 ghost use Rattle.board.specs.Views.{avoids, found_of, next_action, own_place, seen, task_of};
 ghost use Rattle.board.specs.Rule.{first_view};
 ghost use Rattle.board.specs.Steps.{own_phase, viewer};
-ghost use Rattle.board.specs.Seats.{Known, IsOf, IsSeat, IsNewSeat, MakesStep, MayPublish, MayDrop, MakesPass, AnswersAwait, AnswersPhase, event_of, nothing_seen};
+ghost use Rattle.board.specs.Seats.{Known, IsOf, IsSeat, IsNewSeat, MakesStep, MayPublish, MayDrop, MakesPass, AnswersAwait, AnswersPhase, aim_at, event_of, nothing_seen};
 ghost use Rattle.board.specs.inside.ByMembers.{NeedsMember};
 ghost use Rattle.board.specs.inside.FirstViews.{IsFirstView};
 ghost use Rattle.board.specs.Locking.{FindsHeld, FreesLock, IsWithLock, MayRefuse, IsBeforeAwait, TakesLock};
@@ -21,7 +22,7 @@ use crate::plays::{
 };
 use crate::rule::Place;
 use crate::seen::Seen;
-use armus_base::{Event, NoMemory, Phase, PhaserId, TaskId};
+use armus_base::{Event, NoMemory, Offset, Phase, PhaserId, TaskId};
 use std::alloc::Global;
 use std::marker::Model;
 
@@ -233,20 +234,21 @@ impl TaskSeat {
         })
     }
 
-    /// The next op is an Await that is not published: one load, and one store of the event, which it answers. On a board that avoids deadlock the
-    /// seat also has the lock word, and its publication deadlocks nobody in any lawful state that has the lock with this seat and is as far on as
-    /// what it has seen.
-    pub fn publish(&mut self, board: &Board, p: PhaserId) -> Event
+    /// The next op is an Await of `p` with this offset that is not published: one load of its own phase, and one store of the event at the target of
+    /// that, which it answers. On a board that avoids deadlock the seat also has the lock word, and its publication deadlocks nobody in any lawful
+    /// state that has the lock with this seat and is as far on as what it has seen.
+    pub fn publish(&mut self, board: &Board, p: PhaserId, off: Offset) -> Event
         requires made { IsOf self.old board.now }
         requires phaser { p.0 < length board.now.plan.makers }
-        requires next { next_action self.old.view ≡ Some (Blocks p.0) }
-        requires avoids { MayPublish self.old p.0 }
-        ensures step { MakesStep (Blocks p.0) self.old self.new }
+        requires next { next_action self.old.view ≡ Some (Blocks (aim_at p.0 off)) }
+        requires avoids { MayPublish self.old (aim_at p.0 off) }
+        ensures step { MakesStep (Blocks (aim_at p.0 off)) self.old self.new }
         ensures event { event_of self.new ≡ Some result }
-        ensures phase { (result.p ≡ p) × (own_phase self.old.view p.0 ≡ Some result.n) }
+        ensures phase { (result.p ≡ p) × (option_map (target off) (own_phase self.old.view p.0) ≡ Some result.n) }
         ensures was { avoids self.old.view.mode ≡ true → IsWithLock self.old.view.plan (task_of self.old.view) (seen self.old.view) }
     {
-        let n = self.member_phase(board, p);
+        let phase = self.member_phase(board, p);
+        let n = off.target(phase);
         let event = Event { p, n };
         let index = board.await_index(self.task);
         let word = event_number(event);
@@ -310,21 +312,25 @@ impl TaskSeat {
         board.cells.shared.store::<Frees>(&mut self.place, 0, 0);
     }
 
-    /// The seat holds the lock, and the next op is an Await that is not published, and that would deadlock its task in any lawful state that has the
-    /// lock with this seat and is as far on as what it has seen: one load, and one store of the refusal, whose event it answers.
-    pub fn refuse(&mut self, board: &Board, p: PhaserId) -> Event
+    /// The seat holds the lock, and the next op is an Await of `p` with this offset that is not published, and that would deadlock its task in any
+    /// lawful state that has the lock with this seat and is as far on as what it has seen: one load of its own phase, and one store of the refusal,
+    /// whose event it answers.
+    pub fn refuse(&mut self, board: &Board, p: PhaserId, off: Offset) -> Event
         requires made { IsOf self.old board.now }
         requires phaser { p.0 < length board.now.plan.makers }
         requires locked { self.old.view.holds ≡ true }
-        requires next { next_action self.old.view ≡ Some (Blocks p.0) }
-        requires dead { MayRefuse self.old p.0 }
-        ensures step { MakesStep (RefusesAction p.0) self.old self.new }
-        ensures phase { (result.p ≡ p) × (own_phase self.old.view p.0 ≡ Some result.n) }
+        requires next { next_action self.old.view ≡ Some (Blocks (aim_at p.0 off)) }
+        requires dead { MayRefuse self.old (aim_at p.0 off) }
+        ensures step { MakesStep (RefusesAction (aim_at p.0 off)) self.old self.new }
+        ensures phase { (result.p ≡ p) × (option_map (target off) (own_phase self.old.view p.0) ≡ Some result.n) }
         ensures was { IsWithLock self.old.view.plan (task_of self.old.view) (seen self.old.view) }
     {
         let phase = self.member_phase(board, p);
         let index = board.await_index(self.task);
-        let event = Event { p, n: phase };
+        let event = Event {
+            p,
+            n: off.target(phase),
+        };
         let word = refused_number(event);
         board
             .cells

@@ -8,7 +8,7 @@ use Rattle.board.specs.Seats.{Known}
 abbrev pub IsByMember : Action → ℕ → Type 0
 IsByMember (Registers c q) p = q ≡ p
 IsByMember (Advances q) p = q ≡ p
-IsByMember (Blocks q) p = q ≡ p
+IsByMember (Blocks a) p = a.phaser ≡ p
 IsByMember x p = ⊥
 
 -- what comes next is something that only a member of p does

@@ -5,7 +5,7 @@ use Rattle.armus_base.specs.declared.op.Op.{Op}
 use Rattle.armus_base.specs.declared.op.Op.TheVariants.{Make, Reg, Fork, Adv, Drop, Await}
 use Rattle.armus_base.specs.Plans.{Plan, Action, Makes, Registers, Forks, Advances, Drops, Blocks, Passes, actions, actions_of, code_of}
 use Rattle.board.specs.Views.{own_place, task_of}
-use Rattle.board.specs.Seats.{Known, event_of}
+use Rattle.board.specs.Seats.{Known, aim_at, event_of}
 
 -- the action with which an op begins
 abbrev pub begins : Op → Action
@@ -14,7 +14,7 @@ begins (Reg c p) = Registers c.0 p.0
 begins (Fork c) = Forks c.0
 begins (Adv p) = Advances p.0
 begins (Drop p) = Drops p.0
-begins (Await p) = Blocks p.0
+begins (Await p off) = Blocks (aim_at p.0 off)
 
 -- the child and the phaser of an action are the plan's
 abbrev pub IsActionOfPlan : Plan → Action → Type 0
@@ -23,7 +23,7 @@ IsActionOfPlan plan (Registers c p) = c < length plan.parents × p < length plan
 IsActionOfPlan plan (Forks c) = c < length plan.parents
 IsActionOfPlan plan (Advances p) = p < length plan.makers
 IsActionOfPlan plan (Drops p) = p < length plan.makers
-IsActionOfPlan plan (Blocks p) = p < length plan.makers
+IsActionOfPlan plan (Blocks a) = a.phaser < length plan.makers
 IsActionOfPlan plan x = Unit {0}
 
 -- the actions that are left to a task that has begun all ops but these: while it is published it has a pass to make first

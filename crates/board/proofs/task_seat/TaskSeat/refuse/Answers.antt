@@ -5,16 +5,15 @@ use Rattle.armus_base.specs.declared.event.Event.{Event}
 use Rattle.armus_base.specs.Plans.{Blocks, Refuses}
 use Rattle.board.specs.Rule.{IsKept}
 use Rattle.board.specs.Views.{avoids, next_action, seen, task_of}
-use Rattle.board.specs.Seats.{Frame, IsOf, Known, MakesStep}
+use Rattle.board.specs.Seats.{Frame, aim_at, IsOf, Known, MakesStep}
 use Rattle.board.specs.Locking.{IsWithLock, MayRefuse, Refused}
-use Rattle.board.specs.Steps.{own_phase}
 use Rattle.board.proofs.Stores.{refuses}
-use Rattle.board.proofs.Seated.{own_small, task_inside}
+use Rattle.board.proofs.Seated.{own_small, target_is, task_inside}
 use Rattle.board.proofs.Holding.{may_refuse_here, refuses_sitting, refuses_step}
 use Rattle.board.proofs.task_seat.TaskSeat.refuse.Goals as goal
 
 pub member_phase-phase-requires-clause-member : goal.member_phase-phase-requires-clause-member
-member_phase-phase-requires-clause-member c = record { action = Blocks c.args.p.0; next = c.requires.next; by_member = refl }
+member_phase-phase-requires-clause-member c = record { action = Blocks (aim_at c.args.p.0 c.args.off); next = c.requires.next; by_member = refl }
 
 pub await_index-index-requires : goal.await_index-index-requires
 await_index-index-requires c =
@@ -32,17 +31,17 @@ store-requires c =
     let id = c.self.inside.place.id in
     let me = c.self.inside.place.me in
     let t = c.self.inside.task.0 in
-    let p = c.args.p.0 in
+    let aim = aim_at c.args.p.0 c.args.off in
     let w = c.refused_number-word.result in
-    let e : Event = record { p = c.args.p; n = c.member_phase-phase.result } in (
+    let e : Event = record { p = c.args.p; n = c.target.result } in (
       o.table,
       subst (λ (f : Frame). c.await_index-index.result < f.table.words) (sym b) c.await_index-index.ensures.inside,
       subst (λ (n : ℕ). Allows (IsKept key) slots id me n (λ _. w) (λ _. Refused (step slots n w 0 none) me w)) (sym c.await_index-index.ensures.index)
-          (refuses key.plan.value key.mode slots id me t p w e i.task i.seat.live (ap (λ (k : Known). k.view.holds) s ∙ c.requires.locked)
+          (refuses key.plan.value key.mode slots id me t w aim e i.task i.seat.live (ap (λ (k : Known). k.view.holds) s ∙ c.requires.locked)
           (ap avoids (sym o.mode) ∙ i.seat.lock (ap (λ (k : Known). k.view.holds) s ∙ c.requires.locked))
-          (may_refuse_here _ _ t p o i.task (subst (λ (k : Known). MayRefuse k p) (sym s) c.requires.dead))
+          (may_refuse_here _ _ t aim o i.task (subst (λ (k : Known). MayRefuse k aim) (sym s) c.requires.dead))
           (ap (λ (k : Known). next_action k.view) s ∙ c.requires.next)
-          (ap (λ (k : Known). own_phase k.view p) s ∙ c.member_phase-phase.ensures.phase) refl c.refused_number-word.ensures),
+          (target_is _ _ c.args.p.0 _ _ c.args.off s c.member_phase-phase.ensures.phase c.target.ensures) refl c.refused_number-word.ensures),
     )
 
 pub invariant_of-self : goal.invariant_of-self
@@ -50,17 +49,17 @@ invariant_of-self c =
     let i = c.self.invariant.sitting in
     let s = c.self.view_is ∙ c.member_phase-phase.ensures.seat in record {
       no_slot = c.store.ensures.2.0 ∙ c.self.invariant.no_slot;
-      sitting = refuses_sitting c.self.inside.place.table_id c.store.new.seat.table_id c.self.inside.place.me.0 c.store.new.seat.me.0 c.args.p.0 i.seat (task_inside _ _ i.seat i.task)
-          (c.store.ensures.2.1 c.args.p.0 (ap (λ (k : Known). next_action k.view) s ∙ c.requires.next)) _ _ _ i;
+      sitting = refuses_sitting c.self.inside.place.table_id c.store.new.seat.table_id c.self.inside.place.me.0 c.store.new.seat.me.0 (aim_at c.args.p.0 c.args.off) i.seat (task_inside _ _ i.seat i.task)
+          (c.store.ensures.2.1 (aim_at c.args.p.0 c.args.off) (ap (λ (k : Known). next_action k.view) s ∙ c.requires.next)) _ _ _ i;
     }
 
 pub returns-clause-step : goal.returns-clause-step
 returns-clause-step c =
     let i = c.self.invariant.sitting in
     let s = c.self.view_is ∙ c.member_phase-phase.ensures.seat in
-    subst (λ (k : Known). MakesStep (Refuses c.args.p.0) k (record { table = c.store.new.seat.table_id; view = c.store.new.seat.me.0 })) s
-    (refuses_step c.self.inside.place.table_id c.store.new.seat.table_id c.self.inside.place.me.0 c.store.new.seat.me.0 c.args.p.0 i.seat (task_inside _ _ i.seat i.task)
-    (c.store.ensures.2.1 c.args.p.0 (ap (λ (k : Known). next_action k.view) s ∙ c.requires.next)) c.store.ensures.0)
+    subst (λ (k : Known). MakesStep (Refuses (aim_at c.args.p.0 c.args.off)) k (record { table = c.store.new.seat.table_id; view = c.store.new.seat.me.0 })) s
+    (refuses_step c.self.inside.place.table_id c.store.new.seat.table_id c.self.inside.place.me.0 c.store.new.seat.me.0 (aim_at c.args.p.0 c.args.off) i.seat (task_inside _ _ i.seat i.task)
+    (c.store.ensures.2.1 (aim_at c.args.p.0 c.args.off) (ap (λ (k : Known). next_action k.view) s ∙ c.requires.next)) c.store.ensures.0)
 
 pub returns-clause-was : goal.returns-clause-was
 returns-clause-was c =
