@@ -1,7 +1,7 @@
 -- A journal and its run fix each other.
 use Rattle.std.proofs.Common.{◌≡◌, ◌≢◌, ℕ, List, [], ◌∷◌, ◌++◌, Some, sym, ◌∙◌, ap, subst, refl, inl, inr}
 use Rattle.armus_base.specs.declared.ids.TaskId.{TaskId}
-use Rattle.armus_base.specs.Plans.{Plan, Action, Refuses, action_at, in_code}
+use Rattle.armus_base.specs.Plans.{Aim, Plan, Action, Refuses, action_at, in_code}
 use Rattle.armus_base.specs.Runs.{IsByCode, IsPlainRun, places}
 use Rattle.armus_base.specs.States.{Step}
 use Rattle.armus_base.proofs.Codes.{no_refusal}
@@ -10,7 +10,7 @@ use Rattle.locked_world.specs.Journals.{GoesOnWith, JournalLeadsTo, no_step, one
 use Rattle.locked_world.specs.Laws.{EachGoesOn, JournalFixesRun, JournalLeads, LeadsIsJournal}
 use Rattle.locked_world.proofs.Ahead.{ahead_of_last, same_ends}
 
-in_code_plain : (x : Action) → ((p : ℕ) → x ≢ Refuses p) → in_code x ≡ x
+in_code_plain : (x : Action) → ((aim : Aim) → x ≢ Refuses aim) → in_code x ≡ x
 in_code_plain (Refuses p) n = absurd (n p refl)
 in_code_plain x n = refl
 
@@ -27,7 +27,7 @@ last_goes_on plan h e run =
 pub plain_longer : (plan : Plan) (h : List Step) (t : ℕ) (x : Action) → IsPlainRun plan h → GoesOnWith plan h t x → IsPlainRun plan (record { task = t; action = x } ∷ h)
 plain_longer plan h t x run next = ((run.0, record { legal = next.legal; by_code = by_code }), (run.1, other))
   where
-    other : (p : ℕ) → x ≢ Refuses p
+    other : (aim : Aim) → x ≢ Refuses aim
     other p same = no_refusal plan t (places h t).done p (subst (λ y. action_at plan t (places h t).done ≡ Some y) same next.by_code)
 
     by_code : IsByCode plan t (places h t).done (places h t).dropped x

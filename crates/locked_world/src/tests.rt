@@ -2,7 +2,7 @@
 ghost use Rattle.std.specs.Prelude.{◌≡◌, ◌<◌, length};
 
 use crate::{LockedWorld, Logged, PlanName};
-use armus_base::{Code, List, NoMemory, Op, PhaserId, Plan, TaskId};
+use armus_base::{Code, List, NoMemory, Offset, Op, PhaserId, Plan, TaskId};
 use pl_core::Stand;
 use std::alloc::Global;
 use std::marker::Brand;
@@ -29,9 +29,18 @@ fn two_tasks(alloc: Global) -> Result<Plan, NoMemory> {
         Op::Reg { c: CHILD, p: B },
         Op::Fork { c: CHILD },
         Op::Adv { p: A },
-        Op::Await { p: A },
+        Op::Await {
+            p: A,
+            off: Offset::Here
+        },
     ]?;
-    let second = vec![in alloc; Op::Adv { p: B }, Op::Await { p: B }]?;
+    let second = vec![in alloc;
+        Op::Adv { p: B },
+        Op::Await {
+            p: B,
+            off: Offset::Here
+        },
+    ]?;
     let codes = vec![in alloc;
         Code::from_ops(List::from_vec(first)),
         Code::from_ops(List::from_vec(second)),

@@ -3,14 +3,13 @@ use Rattle.std.proofs.Common.{◌≡◌, ◌≢◌, ℕ, zero, suc, ◌<◌, ◌
 use Rattle.std.specs.Prelude.{if◌then◌else◌, ◌&&◌, ◌==◌}
 use Rattle.std.proofs.lemmas.Bool.{cases_eq}
 use Rattle.armus_base.specs.declared.event.Event.{Event}
-use Rattle.armus_base.specs.Plans.{Plan, action_at}
-use Rattle.armus_base.specs.States.{IsReached, State, awaited, event_on}
+use Rattle.armus_base.specs.Plans.{Blocks, Plan, action_at}
+use Rattle.armus_base.specs.States.{IsReached, State}
 use Rattle.armus_base.specs.Runs.{IsPrefix, Place, Precedes, first_place}
 use Rattle.armus_base.specs.Places.{members_below, phases_after, phases_at_place, published_after}
 use Rattle.armus_base.specs.CheckedPlans.{IsCheckedPlan}
 use Rattle.armus_base.specs.Boards.{IsLawful}
 use Rattle.armus_base.specs.Seats.{Found, IsAsFarOn, IsLongestPrefix, IsPlaceOf, await_word, is_not_behind, own_event, scanned_after}
-use Rattle.armus_base.proofs.Codes.{event_on_is}
 use Rattle.armus_base.proofs.Published.{published_after_is}
 use Rattle.armus_base.proofs.Places.{precedes_itself, precedes_trans}
 use Rattle.armus_base.proofs.LawfulPlaces.{lawful_places_are_of}
@@ -59,9 +58,8 @@ prefix_place b plan t a c place before = by_parts c.dropped refl a.dropped refl 
 pub published_phaser : (plan : Plan) → IsCheckedPlan plan → (t k : ℕ) (e : Event) → published_after plan t k ≡ Some e → e.p.0 < length plan.makers
 published_phaser plan checked t k e published =
     let is = published_after_is plan t k e published in
-    let now : published_after plan t (suc is.0) ≡ Some e = ap (published_after plan t) (sym is.1) ∙ published in
-    let event : event_on e.p.0 (phases_after plan t is.0 e.p.0) ≡ Some e = ap (λ o. awaited o (phases_after plan t is.0)) (sym is.2) ∙ now in
-    phaser_of_member plan checked t is.0 e.p.0 e.n (event_on_is e.p.0 (phases_after plan t is.0 e.p.0) e event).1
+    let member = (checked.codes.well_formed t is.0 (Blocks is.2) is.4).0 in
+    subst (λ p. p < length plan.makers) (sym is.3) (phaser_of_member plan checked t is.0 is.2.phaser member.0 member.1)
 
 -- a seat that has published is that of a task
 pub own_of_event : (k : Known) (e : Event) → event_of k ≡ Some e → (t : ℕ) × (k.view.own ≡ Some t)

@@ -9,9 +9,8 @@ use Rattle.armus_base.specs.CheckedPlans.{IsCheckedPlan}
 use Rattle.armus_base.specs.Boards.{IsLawful, steps_of}
 use Rattle.armus_base.specs.Deadlocks.{IsDeadIn}
 use Rattle.armus_base.specs.Seats.{Found, FoundRefused, IsLongestPrefix, IsPlaceOf, found_by}
-use Rattle.armus_base.proofs.Codes.{passes_next}
 use Rattle.armus_base.proofs.Fixed.{action_within, phases_forked}
-use Rattle.armus_base.proofs.Published.{published_after_is}
+use Rattle.armus_base.proofs.Published.{published_after_is, published_passes}
 use Rattle.armus_base.proofs.Members.{plain_undropped}
 use Rattle.armus_base.proofs.MaximalExists.{maximal_exists}
 use Rattle.armus_base.proofs.OneEnd.{below_maximal}
@@ -36,8 +35,7 @@ waits_unrefused answer e is f same = (let none : waiting_on answer ≡ None = ap
 module _ (plan : Plan) (checked : IsCheckedPlan plan) where
   -- after the event on which a task is published its code goes on with the pass
   passes_after : (t k : ℕ) (e : Event) → published_after plan t k ≡ Some e → action_at plan t k ≡ Some (Passes e.p.0)
-  passes_after t k e published =
-      let is = published_after_is plan t k e published in ap (action_at plan t) is.1 ∙ passes_next plan t is.0 e.p.0 is.2
+  passes_after = published_passes plan
 
   pub published_begun : (t k : ℕ) (e : Event) → published_after plan t k ≡ Some e → 0 < k
   published_begun t k e published = (let is = published_after_is plan t k e published in let one = is.1 in omega arith)

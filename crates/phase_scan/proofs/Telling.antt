@@ -386,7 +386,7 @@ module _ (before now : Known) (list : List Status) (checked : IsCheckedPlan befo
       by_event None is = refl
       by_event (Some f) is =
           let by = published_after_is plan t ((seen now.view).places t).done f is in
-          absurd (idle t f (action_of_task plan checked t by.0 (Blocks f.p.0) by.2) unlisted is)
+          absurd (idle t f (action_of_task plan checked t by.0 (Blocks by.2) by.4) unlisted is)
 
   pub collected : IsCollected list before now
   collected = record { at = at; found = found; places = all_found; since = since; exact = exact; dead = dead; others = others }
