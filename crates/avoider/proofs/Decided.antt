@@ -1,6 +1,6 @@
 -- A decision meets what the board asks of a publication and of a refusal.
 use Rattle.std.proofs.Common.{◌≡◌, ◌≢◌, ℕ, true, List, Option, Some, None, length, sym, ap, ◌∙◌, subst}
-use Rattle.std.specs.Prelude.{MatchOption, unwrap_or}
+use Rattle.std.specs.Prelude.{MatchOption, option_map, unwrap_or}
 use Rattle.armus_base.specs.declared.event.Event.{Event}
 use Rattle.armus_base.specs.declared.status.Status.{Status}
 use Rattle.armus_base.specs.Avoidance.{Avoids, LeavesNobodyDead}
@@ -8,10 +8,11 @@ use Rattle.armus_base.specs.Boards.{IsLawful}
 use Rattle.armus_base.specs.Deadlocks.{IsDeadBy, IsListedOn, WouldBeDead}
 use Rattle.armus_base.specs.Decisions.{Decides}
 use Rattle.armus_base.specs.Places.{kept, phases_after, phases_at_place, state_at}
-use Rattle.armus_base.specs.Plans.{Blocks, Plan, Refuses}
+use Rattle.armus_base.specs.Plans.{Aim, Blocks, Plan, Refuses}
 use Rattle.armus_base.specs.Runs.{Place, next_place}
 use Rattle.armus_base.specs.Seats.{HasLockWith, InEachWithLock, IsAsFarOn, SeenBy}
-use Rattle.armus_base.specs.States.{State, awaited}
+use Rattle.armus_base.specs.Offsets.{target}
+use Rattle.armus_base.specs.States.{State, awaited, event_at, event_on}
 use Rattle.armus_base.proofs.BoardRuns.{nobody_dead_at}
 use Rattle.armus_base.proofs.SerialIsAvoided.{publishing_leaves_nobody_dead}
 use Rattle.board.specs.declared.view.View.{View}
@@ -40,7 +41,7 @@ next_stays k m t seat own goes =
     ap (place_in m.view.sight.places) (task ∙ is_t) ∙ goes.here t (seat.own t own).1 ∙ ap (place_in k.view.sight.places) (sym is_t) in
     λ i. action_after (goes.same.plan i) (task i) (here i).done (here i).dropped
 
-module _ (list : List Status) (p : ℕ) (before now : Known) (found : Option Cycle) (t : ℕ) (seat : IsSeat before) (own : before.view.own ≡ Some t) (avoiding : avoids before.view.mode ≡ true) (holds : before.view.holds ≡ true) (next : next_action before.view ≡ Some (Blocks p)) (goes : LoadsAlone before now) (j : IsJudged list p before now found) where
+module _ (list : List Status) (aim : Aim) (before now : Known) (found : Option Cycle) (t : ℕ) (seat : IsSeat before) (own : before.view.own ≡ Some t) (avoiding : avoids before.view.mode ≡ true) (holds : before.view.holds ≡ true) (next : next_action before.view ≡ Some (Blocks aim)) (goes : LoadsAlone before now) (j : IsJudged list aim before now found) where
   abbrev plan : Plan
   plan = before.view.plan
 
@@ -50,27 +51,23 @@ module _ (list : List Status) (p : ℕ) (before now : Known) (found : Option Cyc
   task : task_of now.view ≡ t
   task = ap (λ o. unwrap_or o 0) goes.same.own ∙ is_t
 
-  next_event : next_action before.view ≡ Some (Blocks j.event.p.0)
-  next_event = next ∙ ap (λ q. Some (Blocks q)) (sym j.of_phaser)
-
   pub holds_now : now.view.holds ≡ true
   holds_now = goes.same.holds ∙ holds
 
   pub avoids_now : avoids now.view.mode ≡ true
   avoids_now = ap avoids goes.same.mode ∙ avoiding
 
-  pub next_now : next_action now.view ≡ Some (Blocks p)
+  pub next_now : next_action now.view ≡ Some (Blocks aim)
   next_now = next_stays before now t seat own goes ∙ next
 
   -- in each state that it may be in
   module _ (a : ℕ → Place) (lock : Option ℕ) (lawful : IsLawful true plan a lock) (has : HasLockWith plan t a lock (seen now.view)) (far : IsAsFarOn plan (Some t) a (seen now.view)) where
     told : Decides (state_at plan a) t j.event j.supposed
-    told = decides list j.supposed j.event before j.judges.between now t seat own next_event j.judges.own j.judges.goes_on j.judges.collected j.judges.finds j.judges.adds a lock avoiding lawful has far
+    told = decides list j.supposed aim j.event before j.judges.between now t seat own next j.judges.own j.judges.goes_on j.judges.collected j.judges.finds j.judges.adds a lock avoiding lawful has far
 
-    awaits : awaited (Some (Blocks p)) ((state_at plan a).phases t) ≡ Some j.event
+    awaits : awaited (Some (Blocks aim)) ((state_at plan a).phases t) ≡ Some j.event
     awaits =
-        ap (λ q. awaited (Some (Blocks q)) ((state_at plan a).phases t)) (sym j.of_phaser)
-        ∙ (stands list j.supposed j.event before j.judges.between now t seat own next_event j.judges.own j.judges.goes_on j.judges.collected j.judges.finds j.judges.adds a lock avoiding lawful has far).awaits
+        (stands list j.supposed aim j.event before j.judges.between now t seat own next j.judges.own j.judges.goes_on j.judges.collected j.judges.finds j.judges.adds a lock avoiding lawful has far).awaits
 
     alive_here : (WouldBeDead (state_at plan a) t j.event → ⊥) → LeavesNobodyDead (state_at plan a) t j.event
     alive_here lives = publishing_leaves_nobody_dead (state_at plan a) t j.event (nobody_dead_at plan a lock seat.checked lawful) lives
@@ -95,13 +92,13 @@ module _ (list : List Status) (p : ℕ) (before now : Known) (found : Option Cyc
       (subst (λ u. InEachWithLock plan t (seen now.view) (λ s. LeavesNobodyDead s u j.event)) (sym task)
       (λ a lock lawful has far. alive_here a lock lawful has far (lives none a lock lawful has far)))
 
-  all_avoid : found ≡ None → InEachByLock now (λ s. Avoids s (task_of now.view) (Blocks p))
+  all_avoid : found ≡ None → InEachByLock now (λ s. Avoids s (task_of now.view) (Blocks aim))
   all_avoid none =
-      each (λ s. Avoids s (task_of now.view) (Blocks p))
-      (subst (λ u. InEachWithLock plan t (seen now.view) (λ s. Avoids s u (Blocks p))) (sym task)
+      each (λ s. Avoids s (task_of now.view) (Blocks aim))
+      (subst (λ u. InEachWithLock plan t (seen now.view) (λ s. Avoids s u (Blocks aim))) (sym task)
       (λ a lock lawful has far. (j.event, awaits a lock lawful has far, alive_here a lock lawful has far (lives none a lock lawful has far))))
 
-  pub may_publish_now : found ≡ None → MayPublish now p
+  pub may_publish_now : found ≡ None → MayPublish now aim
   may_publish_now none = λ _. (holds_now, all_avoid none)
 
   -- a refused task would be dead
@@ -111,10 +108,10 @@ module _ (list : List Status) (p : ℕ) (before now : Known) (found : Option Cyc
       (subst (λ u. InEachWithLock plan t (seen now.view) (λ s. WouldBeDead s u j.event)) (sym task)
       (λ a lock lawful has far. (told a lock lawful has far).refuses by))
 
-  pub may_refuse_now : IsDeadBy j.supposed t → MayRefuse now p
+  pub may_refuse_now : IsDeadBy j.supposed t → MayRefuse now aim
   may_refuse_now by =
-      each (λ s. Avoids s (task_of now.view) (Refuses p))
-      (subst (λ u. InEachWithLock plan t (seen now.view) (λ s. Avoids s u (Refuses p))) (sym task)
+      each (λ s. Avoids s (task_of now.view) (Refuses aim))
+      (subst (λ u. InEachWithLock plan t (seen now.view) (λ s. Avoids s u (Refuses aim))) (sym task)
       (λ a lock lawful has far. (j.event, awaits a lock lawful has far, (told a lock lawful has far).refuses by)))
 
   -- each other task that is dead by the statuses is published
@@ -122,53 +119,48 @@ module _ (list : List Status) (p : ℕ) (before now : Known) (found : Option Cyc
   all_published u e other by on = each (λ s. s.published u ≡ Some e) (λ a lock lawful has far. (told a lock lawful has far).others u e other by on)
 
   -- the event that is published is the one that was judged
-  event_same : (e : Event) → e.p.0 ≡ p → own_phase now.view p ≡ Some e.n → e ≡ j.event
+  event_same : (e : Event) → e.p.0 ≡ aim.phaser → option_map (target aim.off) (own_phase now.view aim.phaser) ≡ Some e.n → e ≡ j.event
   event_same e phaser phase =
-      let same : own_phase now.view p ≡ Some j.event.n = ap (λ m. m p) (own_phase_stays before now t seat own goes) ∙ ap (own_phase before.view) (sym j.of_phaser) ∙ j.judges.own in
-      let n : e.n ≡ j.event.n = some_same e.n j.event.n (sym phase ∙ same) in
-      let q : e.p.0 ≡ j.event.p.0 = phaser ∙ sym j.of_phaser in
-      λ i. record { p = record { 0 = q i }; n = n i }
+      let of_step : awaited (Some (Blocks aim)) (own_phase now.view) ≡ Some e = ap (event_on aim.phaser) phase ∙ ap (λ q. Some (event_at q e.n)) (sym phaser) in
+      some_same e j.event (sym of_step ∙ ap (awaited (Some (Blocks aim))) (own_phase_stays before now t seat own goes) ∙ j.judges.own)
     where
-      some_same : (u w : ℕ) → Some u ≡ Some w → u ≡ w
+      some_same : (u w : Event) → Some u ≡ Some w → u ≡ w
       some_same u w e = cc
 
   pub publishes_on :
       (e : Event) (stored last : Known) → found ≡ None →
-      e.p.0 ≡ p → own_phase now.view p ≡ Some e.n → IsWithLock now.view.plan (task_of now.view) (seen now.view) → MakesStep (Blocks p) now stored → FreesLock stored last →
-      e.p.0 ≡ p × HasPublished list e before last
-  publishes_on e stored last none phaser phase possible step freed = (
-    phaser,
-    record {
-      supposed = j.supposed;
-      store = now;
-      judges = subst (λ f. Judges list f j.supposed before now) (sym (event_same e phaser phase)) j.judges;
-      alive = subst (λ f. InEachByLock now (λ s. LeavesNobodyDead s (task_of now.view) f)) (sym (event_same e phaser phase)) (all_alive none);
-      possible = possible;
-      stored = stored;
-      step = subst (λ q. MakesStep (Blocks q) now stored) (sym phaser) step;
-      freed = freed;
-    },
-  )
+      e.p.0 ≡ aim.phaser → option_map (target aim.off) (own_phase now.view aim.phaser) ≡ Some e.n → IsWithLock now.view.plan (task_of now.view) (seen now.view) → MakesStep (Blocks aim) now stored → FreesLock stored last → HasPublished list aim e before last
+  publishes_on e stored last none phaser phase possible step freed =
+      record {
+        supposed = j.supposed;
+        store = now;
+        judges = subst (λ f. Judges list aim f j.supposed before now) (sym (event_same e phaser phase)) j.judges;
+        alive = subst (λ f. InEachByLock now (λ s. LeavesNobodyDead s (task_of now.view) f)) (sym (event_same e phaser phase)) (all_alive none);
+        possible = possible;
+        stored = stored;
+        step = step;
+        freed = freed;
+      }
 
   -- the place of a refused task
-  refused_place : (stored : Known) → MakesStep (Refuses p) now stored → own_place stored.view ≡ place_at (own_place now.view).done 0
+  refused_place : (stored : Known) → MakesStep (Refuses aim) now stored → own_place stored.view ≡ place_at (own_place now.view).done 0
   refused_place stored step =
-      own_place_next (Refuses p) now stored (ap (λ (s : SeenBy). s.places (task_of now.view)) step.seen_now ∙ moved_same (seen now.view).places (task_of now.view) (Refuses p)) step.same.own
-      ∙ ap (λ o. next_place (own_place now.view).done o (Refuses p)) (next_there now.view (Blocks p) next_now).0
+      own_place_next (Refuses aim) now stored (ap (λ (s : SeenBy). s.places (task_of now.view)) step.seen_now ∙ moved_same (seen now.view).places (task_of now.view) (Refuses aim)) step.same.own
+      ∙ ap (λ o. next_place (own_place now.view).done o (Refuses aim)) (next_there now.view (Blocks aim) next_now).0
 
-  free_place : (stored free : Known) → MakesStep (Refuses p) now stored → FreesLock stored free → own_place free.view ≡ place_at (own_place now.view).done 0
+  free_place : (stored free : Known) → MakesStep (Refuses aim) now stored → FreesLock stored free → own_place free.view ≡ place_at (own_place now.view).done 0
   free_place stored free step freed = ap own_place freed.view ∙ refused_place stored step
 
-  pub free_refused : (stored free : Known) → MakesStep (Refuses p) now stored → FreesLock stored free → (own_place free.view).dropped ≡ Some 0
+  pub free_refused : (stored free : Known) → MakesStep (Refuses aim) now stored → FreesLock stored free → (own_place free.view).dropped ≡ Some 0
   free_refused stored free step freed = ap (λ (v : Place). v.dropped) (free_place stored free step freed)
 
-  free_phases : (stored free : Known) → MakesStep (Refuses p) now stored → FreesLock stored free → own_phase free.view ≡ own_phase now.view
+  free_phases : (stored free : Known) → MakesStep (Refuses aim) now stored → FreesLock stored free → own_phase free.view ≡ own_phase now.view
   free_phases stored free step freed =
       let same_plan : free.view.plan ≡ now.view.plan = ap (λ (v : View). v.plan) freed.view ∙ step.same.plan in
       let same_task : task_of free.view ≡ task_of now.view = ap task_of freed.view ∙ ap (λ o. unwrap_or o 0) step.same.own in
       (λ i. phases_at_place (same_plan i) (same_task i) (free_place stored free step freed i))
       ∙ kept_all (phases_after now.view.plan (task_of now.view) (own_place now.view).done)
-      ∙ ap (λ o. kept o (phases_after now.view.plan (task_of now.view) (own_place now.view).done)) (sym (next_there now.view (Blocks p) next_now).0)
+      ∙ ap (λ o. kept o (phases_after now.view.plan (task_of now.view) (own_place now.view).done)) (sym (next_there now.view (Blocks aim) next_now).0)
 
   pub explained : (cycle : Cycle) → found ≡ Some cycle → ExplainsDeath j.supposed t cycle
   explained cycle is =
@@ -177,12 +169,11 @@ module _ (list : List Status) (p : ℕ) (before now : Known) (found : Option Cyc
 
   pub refuses_on :
       (f : Frame) (cycle : Cycle) (stored free last : Known) → IsOf before f → found ≡ Some cycle → IsWithLock now.view.plan (task_of now.view) (seen now.view) →
-      MakesStep (Refuses p) now stored → FreesLock stored free → DropsBelow (own_phase free.view) (length f.plan.makers) free last → HasRefused list p cycle before last
+      MakesStep (Refuses aim) now stored → FreesLock stored free → DropsBelow (own_phase free.view) (length f.plan.makers) free last → HasRefused list aim cycle before last
   refuses_on f cycle stored free last of is possible step freed drops =
       let why = explained cycle is in
       record {
         event = j.event;
-        of_phaser = j.of_phaser;
         supposed = j.supposed;
         store = now;
         judges = j.judges;

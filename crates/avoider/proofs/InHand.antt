@@ -1,11 +1,12 @@
 -- The statuses of a collect, with that of the holder's own task, decide on its await in each state that it may be in.
 use Rattle.std.proofs.Common.{◌≡◌, ◌≢◌, ℕ, ◌<◌, Bool, true, List, Option, Some, None, length, sym, refl, ap, ◌∙◌, subst, arith, inl, inr, ◌⊎◌}
-use Rattle.std.specs.Prelude.{is_some, nat_lt, unwrap_or, IsSome}
+use Rattle.std.specs.Prelude.{is_some, nat_lt, option_map, unwrap_or, IsSome}
 use Rattle.std.proofs.lemmas.Bool.{cases_Bool, cases_eq, cases_lt, false≢true}
 use Rattle.armus_base.specs.declared.event.Event.{Event}
 use Rattle.armus_base.specs.declared.status.Status.{Status}
-use Rattle.armus_base.specs.Plans.{Blocks, Plan, action_at}
-use Rattle.armus_base.specs.States.{State, event_at, event_on, if_published, updated}
+use Rattle.armus_base.specs.Plans.{Aim, Blocks, Plan, action_at}
+use Rattle.armus_base.specs.Offsets.{target}
+use Rattle.armus_base.specs.States.{State, awaited, event_at, event_on, if_published, updated}
 use Rattle.armus_base.specs.Runs.{IsPrefix, Place, first_place}
 use Rattle.armus_base.specs.Places.{done_by, forked_at, kept, phases_at_place, published_after, refused_at, state_at}
 use Rattle.armus_base.specs.CheckedPlans.{IsCheckedPlan}
@@ -16,6 +17,7 @@ use Rattle.armus_base.specs.Decisions.{Decides, HasAllFound, HasFound, HasOtherS
 use Rattle.armus_base.specs.FinalLaws.{AreStatuses}
 use Rattle.armus_base.specs.Finals.{is_awaited, is_event_of}
 use Rattle.armus_base.specs.Statuses.{Impedes, IsAwaited}
+use Rattle.armus_base.proofs.Codes.{awaited_is}
 use Rattle.armus_base.proofs.KeepsFar.{prefixes_both}
 use Rattle.armus_base.proofs.FoundArePublished.{found_are_published}
 use Rattle.armus_base.proofs.Fixed.{phases_forked, some_before_from}
@@ -54,7 +56,7 @@ not_first : (b : Place) → 0 < b.done → b ≢ first_place
 not_first b begun same = (let none : b.done ≡ 0 = ap (λ (v : Place). v.done) same in omega arith)
 
 -- what the seat knew before the collect, after it, and after the loads of the column
-module _ (list supposed : List Status) (event : Event) (before mid store : Known) (t : ℕ) (seat : IsSeat before) (own : before.view.own ≡ Some t) (next : next_action before.view ≡ Some (Blocks event.p.0)) (phase : own_phase before.view event.p.0 ≡ Some event.n) (goes : LoadsAlone before mid) (collected : IsCollected list before mid) (finds : HasFinds list mid) (sup : IsSupposed before.view.plan list event supposed mid store) where
+module _ (list supposed : List Status) (aim : Aim) (event : Event) (before mid store : Known) (t : ℕ) (seat : IsSeat before) (own : before.view.own ≡ Some t) (next : next_action before.view ≡ Some (Blocks aim)) (event_is : awaited (Some (Blocks aim)) (own_phase before.view) ≡ Some event) (goes : LoadsAlone before mid) (collected : IsCollected list before mid) (finds : HasFinds list mid) (sup : IsSupposed before.view.plan list event supposed mid store) where
   abbrev plan : Plan
   plan = before.view.plan
 
@@ -110,7 +112,12 @@ module _ (list supposed : List Status) (event : Event) (before mid store : Known
   own_within : (q n : ℕ) → own_phase before.view q ≡ Some n → q < length plan.makers
   own_within q n is =
       phaser_of_member plan checked (task_of before.view) (own_place before.view).done q n
-      (sym (phase_here before.view q (next_there before.view (Blocks p) next).0) ∙ is)
+      (sym (phase_here before.view q (next_there before.view (Blocks aim) next).0) ∙ is)
+
+  event_inside : p < length plan.makers
+  event_inside =
+      let is = awaited_is aim (own_phase before.view) event event_is in
+      subst (λ q. q < length plan.makers) (sym is.0) (own_within aim.phaser is.1.0 is.1.1)
 
   -- who is listed
   pub own_listed : IsListedOn supposed t event
@@ -237,13 +244,13 @@ module _ (list supposed : List Status) (event : Event) (before mid store : Known
         ∙ ap (place_in before.view.sight.places) (sym task)
 
     dropped : (a t).dropped ≡ None
-    dropped = ap (λ (v : Place). v.dropped) here ∙ (next_there before.view (Blocks p) next).0
+    dropped = ap (λ (v : Place). v.dropped) here ∙ (next_there before.view (Blocks aim) next).0
 
-    code : action_at plan t (a t).done ≡ Some (Blocks p)
+    code : action_at plan t (a t).done ≡ Some (Blocks aim)
     code =
         ap (λ (v : Place). action_at plan t v.done) here
         ∙ ap (λ u. action_at plan u (own_place before.view).done) (sym task)
-        ∙ (next_there before.view (Blocks p) next).1
+        ∙ (next_there before.view (Blocks aim) next).1
 
     forked : forked_at plan (done_by a) t ≡ true
     forked = lock_forked plan Avoid a lock checked lawful t has.holds
@@ -254,15 +261,15 @@ module _ (list supposed : List Status) (event : Event) (before mid store : Known
         ∙ ap (λ (v : Place). phases_at_place plan t v q) here
         ∙ ap (λ u. phases_at_place plan u (own_place before.view) q) (sym task)
 
-    pub stands : StandsBefore plan s a t event
+    pub stands : StandsBefore plan s a t aim event
     stands = record {
       active = record {
         forked = forked;
-        unpublished = nothing_published plan t (a t).done (Blocks p) code (λ q e. cc);
+        unpublished = nothing_published plan t (a t).done (Blocks aim) code (λ q e. cc);
         unrefused = ap (refused_at plan t (a t).done) dropped;
       };
       next = code;
-      awaits = ap (event_on p) (phases_now p ∙ phase);
+      awaits = ap (λ o. event_on aim.phaser (option_map (target aim.off) o)) (phases_now aim.phaser) ∙ event_is;
     }
 
     -- an awaited phaser of which a task is a member is one of the plan, and asked for
@@ -416,7 +423,7 @@ module _ (list supposed : List Status) (event : Event) (before mid store : Known
               task = w.0;
               event = f;
               published = updated_other sup.found.published (task_of mid.view) u (Some event) (apart_mid u apart) ∙ w.1;
-              phaser = own_within p event.n phase;
+              phaser = event_inside;
               asked_for = updated_same asked p p true refl;
               phase = phases_other u p apart ∙ updated_same (sup.found.phases u) p p (sup.column u) refl ∙ column_is;
             }))
@@ -448,7 +455,7 @@ module _ (list supposed : List Status) (event : Event) (before mid store : Known
         some_same x y h = cc
 
     pub decides : Decides s t event supposed
-    decides = list_in_hand_decides plan t event (seen store.view) supposed a lock checked has_all lawful has stands own_status others
+    decides = list_in_hand_decides plan t aim event (seen store.view) supposed a lock checked has_all lawful has stands own_status others
 
     -- whoever would be published is listed
     would_be_listed : (u : ℕ) (e : Event) → (if_published s t event).published u ≡ Some e → IsListedOn supposed u e
@@ -469,11 +476,11 @@ module _ (list supposed : List Status) (event : Event) (before mid store : Known
     would_impede_nobody none u m e on phase_is =
         let listed = would_be_listed u e on in
         let (own, own_in, own_is, (k, few, member)) = own_status.all u m e listed phase_is in
-        let (other, (j, within, here), task_of_other, event_is) = listed in
+        let (other, (j, within, here), task_of_other, event_of_other) = listed in
         elim (cases_lt m e.n) [
           | inl low ↦
-              let same : e.p ≡ other.event.p = ap (λ (x : Event). x.p) (sym event_is) in
-              let below : m < other.event.n = (let n = ap (λ (x : Event). x.n) event_is in omega arith) in
+              let same : e.p ≡ other.event.p = ap (λ (x : Event). x.p) (sym event_of_other) in
+              let below : m < other.event.n = (let n = ap (λ (x : Event). x.n) event_of_other in omega arith) in
               let impedes : Impedes own other.event = (k, record { p = record { 0 = e.p.0 }; n = m }, few, member, (same, below)) in
               absurd (none (own_in.0, own, own_in.1, own_in.2, ((λ i. record { 0 = own_is i }), (j, other, within, here, impedes))))
           | inr high ↦ high

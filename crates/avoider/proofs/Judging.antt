@@ -1,13 +1,13 @@
 -- What the loads of a decision tell.
-use Rattle.std.proofs.Common.{◌≡◌, ℕ, true, List, Option, Some, sym, refl, ap, subst}
+use Rattle.std.proofs.Common.{◌≡◌, ℕ, true, List, Option, Some, sym, ap, subst}
 use Rattle.std.specs.Prelude.{unwrap_or, MatchOption}
 use Rattle.armus_base.specs.declared.event.Event.{Event}
 use Rattle.armus_base.specs.declared.status.Status.{Status}
-use Rattle.armus_base.specs.Plans.{Plan}
+use Rattle.armus_base.specs.Plans.{Aim, Blocks, Plan}
 use Rattle.armus_base.specs.CheckedPlans.{IsCheckedPlan}
 use Rattle.armus_base.specs.Deadlocks.{WouldBeDead}
 use Rattle.armus_base.specs.Finals.{is_awaited}
-use Rattle.armus_base.specs.States.{updated}
+use Rattle.armus_base.specs.States.{awaited, updated}
 use Rattle.armus_base.specs.Statuses.{IsInOrder}
 use Rattle.armus_base.proofs.StatusesAre.{statuses_are}
 use Rattle.board.specs.Views.{task_of}
@@ -30,10 +30,10 @@ supposed_ordered plan list event supposed before now checked sup =
 
 -- the loads of a decision
 pub judges_so :
-    (f : Frame) (list supposed : List Status) (event : Event) (before first between now : Known) → IsOf before f →
+    (f : Frame) (list supposed : List Status) (aim : Aim) (event : Event) (before first between now : Known) → IsOf before f →
     first ≡ before → LoadsAlone first between → IsCollect f.plan list first between → IsCollected list first between → HasFinds list between →
-    IsSupposed f.plan list event supposed between now → own_phase before.view event.p.0 ≡ Some event.n → Judges list event supposed before now
-judges_so f list supposed event before first between now of same goes collect collected finds adds phase =
+    IsSupposed f.plan list event supposed between now → awaited (Some (Blocks aim)) (own_phase before.view) ≡ Some event → Judges list aim event supposed before now
+judges_so f list supposed aim event before first between now of same goes collect collected finds adds event_is =
     record {
       between = between;
       goes_on = subst (λ k. LoadsAlone k between) same goes;
@@ -41,17 +41,16 @@ judges_so f list supposed event before first between now of same goes collect co
       collected = subst (λ k. IsCollected list k between) same collected;
       finds = finds;
       adds = subst (λ (q : Plan). IsSupposed q list event supposed between now) (sym of.plan) adds;
-      own = phase;
+      own = event_is;
     }
 
 -- and what they tell
 pub judged :
-    (list supposed : List Status) (event : Event) (before now : Known) (t : ℕ) (found : Option Cycle) → before.view.own ≡ Some t → Judges list event supposed before now →
-    MatchOption found (InEachByLock now (λ s. WouldBeDead s (task_of now.view) event → ⊥)) (ExplainsDeath supposed t) → IsJudged list event.p.0 before now found
-judged list supposed event before now t found own judges told =
+    (list supposed : List Status) (aim : Aim) (event : Event) (before now : Known) (t : ℕ) (found : Option Cycle) → before.view.own ≡ Some t → Judges list aim event supposed before now →
+    MatchOption found (InEachByLock now (λ s. WouldBeDead s (task_of now.view) event → ⊥)) (ExplainsDeath supposed t) → IsJudged list aim before now found
+judged list supposed aim event before now t found own judges told =
     record {
       event = event;
-      of_phaser = refl;
       supposed = supposed;
       judges = judges;
       told = subst (λ u. MatchOption found (InEachByLock now (λ s. WouldBeDead s (task_of now.view) event → ⊥)) (ExplainsDeath supposed u)) (sym (ap (λ o. unwrap_or o 0) own)) told;

@@ -7,7 +7,7 @@ use Rattle.armus_base.specs.Boards.{IsLawful}
 use Rattle.armus_base.specs.Deadlocks.{IsDeadBy, WouldBeDead}
 use Rattle.armus_base.specs.Decisions.{Decides}
 use Rattle.armus_base.specs.Places.{state_at}
-use Rattle.armus_base.specs.Plans.{Blocks, Plan}
+use Rattle.armus_base.specs.Plans.{Aim, Blocks, Plan}
 use Rattle.armus_base.specs.Runs.{Place}
 use Rattle.armus_base.specs.Seats.{HasLockWith, InEachWithLock, IsAsFarOn}
 use Rattle.armus_base.specs.States.{State}
@@ -20,7 +20,7 @@ use Rattle.avoider.specs.OnBoard.{InEachByLock, Judges}
 use Rattle.avoider.proofs.InHand.{decides, own_only, would_impede_nobody}
 use Rattle.avoider.proofs.OnNoCycle.{lives_impeding_nobody}
 
-module _ (list : List Status) (p : ℕ) (before now : Known) (t : ℕ) (seat : IsSeat before) (own : before.view.own ≡ Some t) (avoiding : avoids before.view.mode ≡ true) (holds : before.view.holds ≡ true) (next : next_action before.view ≡ Some (Blocks p)) (goes : LoadsAlone before now) (event : Event) (of_phaser : event.p.0 ≡ p) (supposed : List Status) (judges : Judges list event supposed before now) where
+module _ (list : List Status) (aim : Aim) (before now : Known) (t : ℕ) (seat : IsSeat before) (own : before.view.own ≡ Some t) (avoiding : avoids before.view.mode ≡ true) (holds : before.view.holds ≡ true) (next : next_action before.view ≡ Some (Blocks aim)) (goes : LoadsAlone before now) (event : Event) (supposed : List Status) (judges : Judges list aim event supposed before now) where
   abbrev plan : Plan
   plan = before.view.plan
 
@@ -30,18 +30,15 @@ module _ (list : List Status) (p : ℕ) (before now : Known) (t : ℕ) (seat : I
   task : task_of now.view ≡ t
   task = ap (λ o. unwrap_or o 0) goes.same.own ∙ is_t
 
-  next_event : next_action before.view ≡ Some (Blocks event.p.0)
-  next_event = next ∙ ap (λ q. Some (Blocks q)) (sym of_phaser)
-
   -- in each state that it may be in
   module _ (a : ℕ → Place) (lock : Option ℕ) (lawful : IsLawful true plan a lock) (has : HasLockWith plan t a lock (seen now.view)) (far : IsAsFarOn plan (Some t) a (seen now.view)) where
     told : Decides (state_at plan a) t event supposed
-    told = decides list supposed event before judges.between now t seat own next_event judges.own judges.goes_on judges.collected judges.finds judges.adds a lock avoiding lawful has far
+    told = decides list supposed aim event before judges.between now t seat own next judges.own judges.goes_on judges.collected judges.finds judges.adds a lock avoiding lawful has far
 
     harmless : (ImpedesSome supposed (record { 0 = t }) → ⊥) → WouldBeDead (state_at plan a) t event → ⊥
     harmless none =
         lives_impeding_nobody (state_at plan a) t event (nobody_dead_at plan a lock seat.checked lawful)
-        (would_impede_nobody list supposed event before judges.between now t seat own next_event judges.own judges.goes_on judges.collected judges.finds judges.adds a lock avoiding lawful has far none)
+        (would_impede_nobody list supposed aim event before judges.between now t seat own next judges.own judges.goes_on judges.collected judges.finds judges.adds a lock avoiding lawful has far none)
 
   pub each : (Holds : State → Type 0) → InEachWithLock plan t (seen now.view) Holds → InEachByLock now Holds
   each Holds all = subst (λ (q : Plan). InEachWithLock q (task_of now.view) (seen now.view) Holds) (sym goes.same.plan) (subst (λ u. InEachWithLock plan u (seen now.view) Holds) (sym task) all)
@@ -64,7 +61,7 @@ module _ (list : List Status) (p : ℕ) (before now : Known) (t : ℕ) (seat : I
   lives_unimpeded none dead =
       let link = dead.deadlocked.each t dead.inside in
       let same : link.event ≡ event =
-      own_only list supposed event before judges.between now t seat own next_event judges.own judges.goes_on judges.collected judges.finds judges.adds link.event link.waits in
+      own_only list supposed aim event before judges.between now t seat own next judges.own judges.goes_on judges.collected judges.finds judges.adds link.event link.waits in
       let (s, (k, few, here), task_is, (i, within, member)) = link.impedes in
       none (
         k,

@@ -6,11 +6,11 @@ use Rattle.armus_base.specs.CheckedPlans.{IsCheckedPlan}
 use Rattle.armus_base.specs.Deadlocks.{IsDeadBy, WouldBeDead}
 use Rattle.armus_base.specs.FinalLaws.{IsOfPlan}
 use Rattle.armus_base.specs.Finals.{is_awaited}
-use Rattle.armus_base.specs.Plans.{Blocks}
+use Rattle.armus_base.specs.Plans.{Aim, Blocks}
 use Rattle.armus_base.specs.Runs.{IsReachable}
 use Rattle.armus_base.specs.States.{awaited, if_published}
 use Rattle.armus_base.specs.Statuses.{IsInOrder}
-use Rattle.armus_base.proofs.Codes.{event_on_is}
+use Rattle.armus_base.proofs.Codes.{awaited_is}
 use Rattle.armus_base.proofs.DeadByStatuses.{dead_by_final, run_is_of_plan}
 use Rattle.armus_base.proofs.Reachable.{reachable_is_fixed}
 use Rattle.armus_base.proofs.StatusesAre.{statuses_are}
@@ -21,15 +21,11 @@ use Rattle.pl_core.specs.Worlds.{WorldValue, action_by_code, places_of, state_of
 use Rattle.pl_core.proofs.Bounds.{phaser_of_member}
 use Rattle.pl_core.proofs.StepKinds.{awaits_block}
 
--- who stands at an await of an event goes on with a block of its phaser, which publishes the event
-pub blocks_next : (w : WorldValue) (t : ℕ) (e : Event) → IsAtAwaitOf w t e → action_by_code w t ≡ Some (Blocks e.p.0)
-blocks_next w t e before =
-    let block = awaits_block (action_by_code w t) ((state_of w).phases t) e before.1 in
-    let is = event_on_is block.0 ((state_of w).phases t block.0) e block.2 in
-    block.1 ∙ ap (λ p. Some (Blocks p)) (sym is.0)
-
-pub awaits_event : (w : WorldValue) (t : ℕ) (e : Event) → IsAtAwaitOf w t e → awaited (Some (Blocks e.p.0)) ((state_of w).phases t) ≡ Some e
-awaits_event w t e before = ap (λ o. awaited o ((state_of w).phases t)) (sym (blocks_next w t e before)) ∙ before.1
+-- who stands at an await of an event goes on with a block that publishes the event
+pub blocks_next :
+    (w : WorldValue) (t : ℕ) (e : Event) → IsAtAwaitOf w t e →
+    (aim : Aim) × (action_by_code w t ≡ Some (Blocks aim)) × awaited (Some (Blocks aim)) ((state_of w).phases t) ≡ Some e
+blocks_next w t e before = awaits_block (action_by_code w t) ((state_of w).phases t) e before.1
 
 -- the state of a world is one of its plan
 pub of_plan : (w : WorldValue) → IsCheckedPlan w.plan → IsReachable w.plan (places_of w) → IsOfPlan w.plan (state_of w)
@@ -58,7 +54,6 @@ supposed_in_order w checked t e = (statuses_are w.plan (if_published (state_of w
 -- the phaser of the event of an await is one of the plan
 pub phaser_of_await : (w : WorldValue) → IsCheckedPlan w.plan → IsReachable w.plan (places_of w) → (t : ℕ) (e : Event) → IsAtAwaitOf w t e → e.p.0 < length w.plan.makers
 phaser_of_await w checked reach t e before =
-    let block = awaits_block (action_by_code w t) ((state_of w).phases t) e before.1 in
-    let is = event_on_is block.0 ((state_of w).phases t block.0) e block.2 in
-    let stands = subst (λ p. (state_of w).phases t p ≡ Some e.n) (sym is.0) is.1 in
-    phaser_of_member w checked reach t e.p.0 e.n stands
+    let block = blocks_next w t e before in
+    let is = awaited_is block.0 ((state_of w).phases t) e block.2 in
+    subst (λ p. p < length w.plan.makers) (sym is.0) (phaser_of_member w checked reach t block.0.phaser is.1.0 is.1.1)

@@ -5,7 +5,7 @@ use Rattle.armus_base.specs.declared.ids.TaskId.{TaskId}
 use Rattle.armus_base.specs.declared.status.Status.{Status}
 use Rattle.armus_base.specs.DeadLists.{IsDeadList}
 use Rattle.armus_base.specs.Deadlocks.{IsDeadBy, WouldBeDead}
-use Rattle.armus_base.specs.Plans.{Blocks}
+use Rattle.armus_base.specs.Plans.{Aim, Blocks}
 use Rattle.armus_base.specs.States.{if_published}
 use Rattle.armus_base.specs.Statuses.{IsInOrder}
 use Rattle.pl_core.specs.Moves.{MakesRefusal, IsWorldStep}
@@ -61,7 +61,7 @@ IsDecision old new t (Refused c) = IsRefused old new t c
 -- task t has made its next event, which is no block
 pub record MakesOtherEvent (old new : WorldValue) (t : ℕ) : Type 0 where
   pub step : IsWorldStep old new t
-  pub other : (p : ℕ) → step.action ≢ Blocks p
+  pub other : (aim : Aim) → step.action ≢ Blocks aim
 
 -- task t has gone on as a run does that avoids deadlock: by a decision at an await, and else by the next event of its code
 abbrev pub HasGoneOn : WorldValue → WorldValue → ℕ → Type 0

@@ -6,9 +6,9 @@ use Rattle.armus_base.specs.declared.ids.TaskId.{TaskId}
 use Rattle.armus_base.specs.declared.status.Status.{Status}
 use Rattle.armus_base.specs.Avoidance.{LeavesNobodyDead}
 use Rattle.armus_base.specs.Deadlocks.{IsListedOn, WouldBeDead}
-use Rattle.armus_base.specs.Plans.{Blocks, Drops, Refuses}
+use Rattle.armus_base.specs.Plans.{Aim, Blocks, Drops, Refuses}
 use Rattle.armus_base.specs.Seats.{InEachWithLock}
-use Rattle.armus_base.specs.States.{Phases, State}
+use Rattle.armus_base.specs.States.{awaited, Phases, State}
 use Rattle.board.specs.Locking.{FreesLock, IsWithLock}
 use Rattle.board.specs.Seats.{Known, MakesStep}
 use Rattle.board.specs.Steps.{own_phase}
@@ -22,16 +22,16 @@ use Rattle.avoider.specs.Decisions.{ExplainsDeath}
 use Rattle.avoider.specs.declared.decision.Decision.{Decision}
 use Rattle.avoider.specs.declared.decision.Decision.TheVariants.{Published, Refused}
 
--- The loads of a decision on the own await of an event: a collect, which found the statuses of this list, and then the further loads by which the own
--- status and the phases on the event's phaser are added.
-pub record Judges (list : List Status) (event : Event) (supposed : List Status) (before now : Known) : Type 0 where
+-- The loads of a decision on the own await with this aim, which is of this event: a collect, which found the statuses of this list, and then the further
+-- loads by which the own status and the phases on the event's phaser are added.
+pub record Judges (list : List Status) (aim : Aim) (event : Event) (supposed : List Status) (before now : Known) : Type 0 where
   pub between : Known
   pub goes_on : LoadsAlone before between
   pub collect : IsCollect before.view.plan list before between
   pub collected : IsCollected list before between
   pub finds : HasFinds list between
   pub adds : IsSupposed before.view.plan list event supposed between now
-  pub own : own_phase before.view event.p.0 ≡ Some event.n
+  pub own : awaited (Some (Blocks aim)) (own_phase before.view) ≡ Some event
 
 -- this holds in each state that has the lock with the seat and is as far on as what it has seen
 abbrev pub InEachByLock : Known → (State → Type 0) → Type 0
@@ -47,26 +47,25 @@ DropsBelow phases zero before now = now ≡ before
 DropsBelow phases (suc q) before now =
     (between : Known) × DropsBelow phases q before between × IfAsked (is_some (phases q)) (MakesStep (Drops q)) between now
 
--- The task has published the event. At the store this left nobody dead in any state that it might be in. After it the lock was freed.
-pub record HasPublished (list : List Status) (event : Event) (before now : Known) : Type 0 where
+-- The task has published the event of its await. At the store this left nobody dead in any state that it might be in. After it the lock was freed.
+pub record HasPublished (list : List Status) (aim : Aim) (event : Event) (before now : Known) : Type 0 where
   pub supposed : List Status
   pub store : Known
-  pub judges : Judges list event supposed before store
+  pub judges : Judges list aim event supposed before store
   pub alive : InEachByLock store (λ s. LeavesNobodyDead s (task_of store.view) event)
   pub possible : IsPossibleByLock store
   pub stored : Known
-  pub step : MakesStep (Blocks event.p.0) store stored
+  pub step : MakesStep (Blocks aim) store stored
   pub freed : FreesLock stored now
 
--- The task was refused at its await of p. At the store it would have been dead with its event in every state that it might be in, as the cycle of the
+-- The task was refused at its await with this aim. At the store it would have been dead with its event in every state that it might be in, as the cycle of the
 -- statuses explains, each of whose other tasks is published on its event in every such state. After it the lock was freed, and then the task has
 -- dropped all its phasers, in order of number.
-pub record HasRefused (list : List Status) (p : ℕ) (cycle : Cycle) (before now : Known) : Type 0 where
+pub record HasRefused (list : List Status) (aim : Aim) (cycle : Cycle) (before now : Known) : Type 0 where
   pub event : Event
-  pub of_phaser : event.p.0 ≡ p
   pub supposed : List Status
   pub store : Known
-  pub judges : Judges list event supposed before store
+  pub judges : Judges list aim event supposed before store
   pub dead : InEachByLock store (λ s. WouldBeDead s (task_of store.view) event)
   pub possible : IsPossibleByLock store
   pub explains : ExplainsDeath supposed (task_of store.view) cycle
@@ -74,15 +73,15 @@ pub record HasRefused (list : List Status) (p : ℕ) (cycle : Cycle) (before now
       (u : TaskId) (e : Event) → Contains cycle.tasks u → u.0 ≢ task_of store.view → IsListedOn supposed u.0 e →
       InEachByLock store (λ s. s.published u.0 ≡ Some e)
   pub stored : Known
-  pub step : MakesStep (Refuses p) store stored
+  pub step : MakesStep (Refuses aim) store stored
   pub free : Known
   pub freed : FreesLock stored free
   pub drops : DropsBelow (own_phase store.view) (length store.view.plan.makers) free now
 
--- what was decided on the own await of p
-abbrev pub IsDecidedOnBoard : List Status → ℕ → Known → Known → Decision → Type 0
-IsDecidedOnBoard list p before now (Published e) = e.p.0 ≡ p × HasPublished list e before now
-IsDecidedOnBoard list p before now (Refused c) = HasRefused list p c before now
+-- what was decided on the own await with this aim
+abbrev pub IsDecidedOnBoard : List Status → Aim → Known → Known → Decision → Type 0
+IsDecidedOnBoard list aim before now (Published e) = HasPublished list aim e before now
+IsDecidedOnBoard list aim before now (Refused c) = HasRefused list aim c before now
 
 -- nothing was decided: loads were made, and the lock was freed
 pub record IsUndecided (before now : Known) : Type 0 where

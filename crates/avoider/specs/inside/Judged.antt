@@ -1,20 +1,20 @@
 -- What the loads of a decision on a board tell, before it is stored.
-use Rattle.std.specs.Prelude.{◌≡◌, ℕ, List, Option, MatchOption}
+use Rattle.std.specs.Prelude.{List, Option, MatchOption}
 use Rattle.armus_base.specs.declared.event.Event.{Event}
 use Rattle.armus_base.specs.declared.status.Status.{Status}
 use Rattle.armus_base.specs.Deadlocks.{WouldBeDead}
+use Rattle.armus_base.specs.Plans.{Aim}
 use Rattle.board.specs.Seats.{Known}
 use Rattle.board.specs.Views.{task_of}
 use Rattle.verdict.specs.declared.found.Cycle.{Cycle}
 use Rattle.avoider.specs.Decisions.{ExplainsDeath}
 use Rattle.avoider.specs.OnBoard.{InEachByLock, Judges}
 
--- What the loads of a decision on the own await of p tell: the cycle that explains the death of the own task, where it is dead by the statuses, and else
+-- What the loads of a decision on the own await with this aim tell: the cycle that explains the death of the own task, where it is dead by the statuses, and else
 -- that it would be dead in no state that the seat may be in with the lock.
-pub record IsJudged (list : List Status) (p : ℕ) (before now : Known) (found : Option Cycle) : Type 0 where
+pub record IsJudged (list : List Status) (aim : Aim) (before now : Known) (found : Option Cycle) : Type 0 where
   pub event : Event
-  pub of_phaser : event.p.0 ≡ p
   pub supposed : List Status
-  pub judges : Judges list event supposed before now
+  pub judges : Judges list aim event supposed before now
   pub told :
       MatchOption found (InEachByLock now (λ s. WouldBeDead s (task_of now.view) event → ⊥)) (ExplainsDeath supposed (task_of before.view))
