@@ -87,6 +87,14 @@ fn behind_a_cycle(alloc: Global) -> Result<Vec<Status>, NoMemory> {
     Ok(list)
 }
 
+// Two tasks wait for each other, and the second also for itself.
+fn pair_and_loop(alloc: Global) -> Result<Vec<Status>, NoMemory> {
+    let mut list: Vec<Status> = Vec::new(alloc);
+    list.push(status(alloc, 0, (1, 1), [(0, 0), (1, 1)].as_slice())?)?;
+    list.push(status(alloc, 1, (0, 3), [(0, 1), (1, 0)].as_slice())?)?;
+    Ok(list)
+}
+
 fn check(
     rt: &impl Abort,
     alloc: Global,
@@ -133,7 +141,15 @@ fn uses_the_graph_of_the_choice(rt: HostRuntime) -> Result<(), Fail> {
         Wanted::Auto,
         Used::Sg,
         3,
-    )
+    )?;
+    for (wanted, used, edges) in [
+        (Wanted::Sg, Used::Sg, 3),
+        (Wanted::Wfg, Used::Wfg, 3),
+        (Wanted::Grg, Used::Grg, 5),
+    ] {
+        check(&rt, alloc, &pair_and_loop(alloc)?, wanted, used, edges)?;
+    }
+    Ok(())
 }
 
 // A chain: task 1 is impeded by the two others, task 2 by task 3, and that one by nobody.

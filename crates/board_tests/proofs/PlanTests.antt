@@ -4,8 +4,11 @@ use Rattle.std.specs.Prelude.{◌==◌, ◌&&◌, ◌||◌, is_some, nat_le, nat
 use Rattle.std.proofs.lemmas.Bool.{cases_eq, cases_lt, eqb-true, false≢true, leb-true, ltb-true}
 use Rattle.std.proofs.lemmas.Option.{slice_get_within}
 use Rattle.armus_base.specs.declared.ids.TaskId.{TaskId}
+use Rattle.armus_base.specs.declared.offset.Offset.{Offset}
+use Rattle.armus_base.specs.declared.offset.Offset.TheVariants.{Ahead, Back, Here}
 use Rattle.armus_base.specs.declared.op.Op.{Op}
-use Rattle.armus_base.specs.Limits.{max_ops, max_phasers, max_tasks}
+use Rattle.armus_base.specs.Limits.{max_offset, max_ops, max_phasers, max_tasks}
+use Rattle.armus_base.specs.Offsets.{IsNear}
 use Rattle.armus_base.specs.Plans.{Action, Advances, Blocks, Drops, Forks, Makes, Passes, Plan, Refuses, Registers, action_at, actions, actions_of, maker_of, number_or_zero, parent_of}
 use Rattle.armus_base.specs.Places.{forks, makes, phases_after, some_before}
 use Rattle.armus_base.specs.CheckedPlans.{HasFork, IsCheckedPlan, IsWellFormed, NotBefore}
@@ -76,6 +79,17 @@ new_is plan t k x itself e j l is =
 register_same : (c p : ℕ) → is_same (Some (Registers c p)) (Registers c p) ≡ true
 register_same c p = λ i. eq-eqb c c refl i && eq-eqb p p refl i
 
+-- the offset is no greater than the numbers of a text
+abbrev is_near : Offset → Bool
+is_near Here = true
+is_near (Back k) = nat_le k max_offset
+is_near (Ahead k) = nat_le k max_offset
+
+near_is : (off : Offset) → is_near off ≡ true → IsNear off
+near_is Here e = tt
+near_is (Back k) e = leb-true k max_offset e
+near_is (Ahead k) e = leb-true k max_offset e
+
 -- the action is well formed where it stands
 abbrev is_formed : Plan → ℕ → ℕ → Option Action → Bool
 is_formed plan t k (Some (Makes p)) = is_made_by t (slice_get plan.makers p) && is_new plan t k (Makes p)
@@ -85,7 +99,7 @@ is_formed plan t k (Some (Registers c p)) =
 is_formed plan t k (Some (Forks c)) = is_drawn_by t (slice_get plan.parents c) && is_new plan t k (Forks c)
 is_formed plan t k (Some (Advances p)) = is_some (phases_after plan t k p)
 is_formed plan t k (Some (Drops p)) = is_some (phases_after plan t k p)
-is_formed plan t k (Some (Blocks p)) = is_some (phases_after plan t k p)
+is_formed plan t k (Some (Blocks a)) = is_some (phases_after plan t k a.phaser) && is_near a.off
 is_formed plan t k o = true
 
 formed_is : (plan : Plan) (t k : ℕ) (x : Action) → is_formed plan t k (Some x) ≡ true → IsWellFormed plan t k x
@@ -106,7 +120,9 @@ formed_is plan t k (Forks c) e =
     (drawn_by_is t (slice_get plan.parents c) a.0, new_is plan t k (Forks c) (eq-eqb c c refl) a.1)
 formed_is plan t k (Advances p) e = member_is (phases_after plan t k p) e
 formed_is plan t k (Drops p) e = member_is (phases_after plan t k p) e
-formed_is plan t k (Blocks p) e = member_is (phases_after plan t k p) e
+formed_is plan t k (Blocks a) e =
+    let both_are = both (is_some (phases_after plan t k a.phaser)) (is_near a.off) e in
+    (member_is (phases_after plan t k a.phaser) both_are.0, near_is a.off both_are.1)
 formed_is plan t k (Passes p) e = tt
 formed_is plan t k (Refuses p) e = tt
 

@@ -2,10 +2,12 @@
 use Rattle.std.proofs.Common.{[], ◌∷◌, Some, None, arith, refl}
 use Rattle.armus_base.specs.declared.ids.PhaserId.{PhaserId}
 use Rattle.armus_base.specs.declared.ids.TaskId.{TaskId}
+use Rattle.armus_base.specs.declared.offset.Offset.TheVariants.{Here}
 use Rattle.armus_base.specs.declared.op.Op.TheVariants.{Adv, Await, Drop, Fork, Make, Reg}
 use Rattle.armus_base.specs.Plans.{Plan, action_at, actions, maker_of, parent_of}
 use Rattle.armus_base.specs.Places.{first_phases, phases_after}
 use Rattle.armus_base.specs.CheckedPlans.{IsCheckedPlan}
+use Rattle.armus_base.specs.WorkedTexts.{awaits_ahead, looks_back}
 use Rattle.board_tests.proofs.PlanTests.{tests_pass}
 
 abbrev phaser : PhaserId
@@ -25,7 +27,7 @@ never_forked =
     record {
       parents = None ∷ Some root ∷ [];
       makers = root ∷ [];
-      codes = (Make phaser ∷ Reg child phaser ∷ Adv phaser ∷ Await phaser ∷ []) ∷ [] ∷ [];
+      codes = (Make phaser ∷ Reg child phaser ∷ Adv phaser ∷ Await phaser Here ∷ []) ∷ [] ∷ [];
     }
 
 abbrev pub never_left : Plan
@@ -33,7 +35,7 @@ never_left =
     record {
       parents = None ∷ Some root ∷ [];
       makers = root ∷ [];
-      codes = (Make phaser ∷ Reg child phaser ∷ Fork child ∷ Adv phaser ∷ Await phaser ∷ []) ∷ [] ∷ [];
+      codes = (Make phaser ∷ Reg child phaser ∷ Fork child ∷ Adv phaser ∷ Await phaser Here ∷ []) ∷ [] ∷ [];
     }
 
 abbrev pub late_registration : Plan
@@ -42,7 +44,7 @@ late_registration =
       parents = None ∷ Some root ∷ Some child ∷ [];
       makers = root ∷ [];
       codes =
-          (Make phaser ∷ Reg child phaser ∷ Fork child ∷ Adv phaser ∷ Await phaser ∷ [])
+          (Make phaser ∷ Reg child phaser ∷ Fork child ∷ Adv phaser ∷ Await phaser Here ∷ [])
           ∷ (Reg grandchild phaser ∷ Adv phaser ∷ Fork grandchild ∷ [])
           ∷ (Adv phaser ∷ Drop phaser ∷ [])
           ∷ [];
@@ -53,7 +55,7 @@ two_await =
     record {
       parents = None ∷ Some root ∷ [];
       makers = root ∷ [];
-      codes = (Make phaser ∷ Reg child phaser ∷ Fork child ∷ Await phaser ∷ []) ∷ (Await phaser ∷ []) ∷ [];
+      codes = (Make phaser ∷ Reg child phaser ∷ Fork child ∷ Await phaser Here ∷ []) ∷ (Await phaser Here ∷ []) ∷ [];
     }
 
 pub never_forked_checked : IsCheckedPlan never_forked
@@ -116,6 +118,44 @@ late_registration_checked = tests_pass late_registration (record {
 pub two_await_checked : IsCheckedPlan two_await
 unfolding parent_of maker_of actions action_at first_phases phases_after
 two_await_checked = tests_pass two_await (record {
+  root = refl;
+  drawn = refl;
+  parents_first = refl;
+  parents_rise = refl;
+  makers_rise = refl;
+  one_code_each = refl;
+  well_formed = refl;
+  made = refl;
+  makes_rise = refl;
+  works = refl;
+  draws = refl;
+  few_tasks = omega arith;
+  few_phasers = omega arith;
+  few_ops = omega arith;
+})
+
+pub awaits_ahead_checked : IsCheckedPlan awaits_ahead
+unfolding parent_of maker_of actions action_at first_phases phases_after
+awaits_ahead_checked = tests_pass awaits_ahead (record {
+  root = refl;
+  drawn = refl;
+  parents_first = refl;
+  parents_rise = refl;
+  makers_rise = refl;
+  one_code_each = refl;
+  well_formed = refl;
+  made = refl;
+  makes_rise = refl;
+  works = refl;
+  draws = refl;
+  few_tasks = omega arith;
+  few_phasers = omega arith;
+  few_ops = omega arith;
+})
+
+pub looks_back_checked : IsCheckedPlan looks_back
+unfolding parent_of maker_of actions action_at first_phases phases_after
+looks_back_checked = tests_pass looks_back (record {
   root = refl;
   drawn = refl;
   parents_first = refl;

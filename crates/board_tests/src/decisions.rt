@@ -3,12 +3,12 @@ ghost use Rattle.std.specs.Prelude.{◌≡◌, ◌<◌, Some, IfSome, true, fals
 ghost use Rattle.armus_base.specs.Plans.{Blocks};
 ghost use Rattle.board.specs.declared.mode.Mode.TheVariants.{Avoid};
 ghost use Rattle.board.specs.Views.{next_action};
-ghost use Rattle.board.specs.Seats.{IsOf};
+ghost use Rattle.board.specs.Seats.{IsOf, aim_at};
 
 use crate::plans::{A, B, CHILD, ROOT, two_tasks};
 use crate::walker::{Walker, begin_avoiding};
 use adaptive::Wanted;
-use armus_base::{Event, NoMemory, PhaserId, Plan};
+use armus_base::{Event, NoMemory, Offset, PhaserId, Plan};
 use avoider::{Decision, decide, try_take};
 use board::{Board, Loads, Seen, TaskSeat, ViewSeat};
 use phase_scan::Cells;
@@ -21,8 +21,8 @@ const FIRST: Event = Event { p: A, n: 1 };
 // What its child awaits.
 const SECOND: Event = Event { p: B, n: 1 };
 
-// Whether the walker makes so many steps, none of them of an await.
-fn steps(walker: &mut Walker, alloc: Global, board: &Board, plan: &Plan, count: u32) -> bool
+/// Whether the walker makes so many steps, none of them of an await.
+pub fn steps(walker: &mut Walker, alloc: Global, board: &Board, plan: &Plan, count: u32) -> bool
     requires made { IsOf walker.old board.now }
     requires plan { board.now.plan ≡ plan.now }
     ensures made { IsOf walker.new board.now }
@@ -50,13 +50,14 @@ fn publishes(
     seat: &mut TaskSeat,
     board: &Board,
     p: PhaserId,
+    off: Offset,
     cells: &mut Cells,
     event: Event,
 ) -> Result<bool, NoMemory>
     requires made { IsOf seat.old board.now }
     requires avoids { board.now.mode ≡ Avoid }
     requires phaser { p.0 < length board.now.plan.makers }
-    requires next { next_action seat.old.view ≡ Some (Blocks p.0) }
+    requires next { next_action seat.old.view ≡ Some (Blocks (aim_at p.0 off)) }
     requires free { seat.old.view.holds ≡ false }
     requires tasks { cells.old.tasks ≡ length board.now.plan.parents }
     requires phasers { cells.old.phasers ≡ length board.now.plan.makers }
@@ -68,7 +69,7 @@ fn publishes(
     if try_take(seat, board).is_err() {
         return Ok(false);
     }
-    match decide(alloc, seat, board, p, cells, Wanted::Auto)? {
+    match decide(alloc, seat, board, p, off, cells, Wanted::Auto)? {
         Decision::Published(made) => Ok(made == event),
         Decision::Refused(_) => Ok(false),
     }
@@ -80,13 +81,14 @@ fn is_refused(
     seat: &mut TaskSeat,
     board: &Board,
     p: PhaserId,
+    off: Offset,
     cells: &mut Cells,
 ) -> Result<bool, NoMemory>
     requires made { IsOf seat.old board.now }
     requires avoids { board.now.mode ≡ Avoid }
     requires phaser { p.0 < length board.now.plan.makers }
     requires two { 1 < length board.now.plan.makers }
-    requires next { next_action seat.old.view ≡ Some (Blocks p.0) }
+    requires next { next_action seat.old.view ≡ Some (Blocks (aim_at p.0 off)) }
     requires free { seat.old.view.holds ≡ false }
     requires tasks { cells.old.tasks ≡ length board.now.plan.parents }
     requires phasers { cells.old.phasers ≡ length board.now.plan.makers }
@@ -95,7 +97,7 @@ fn is_refused(
     if try_take(seat, board).is_err() {
         return Ok(false);
     }
-    let cycle = match decide(alloc, seat, board, p, cells, Wanted::Auto)? {
+    let cycle = match decide(alloc, seat, board, p, off, cells, Wanted::Auto)? {
         Decision::Published(_) => return Ok(false),
         Decision::Refused(cycle) => cycle,
     };
@@ -152,18 +154,21 @@ fn both_are_decided(
     mut view: ViewSeat,
     seats: (TaskSeat, TaskSeat),
     phasers: (PhaserId, PhaserId),
+    offsets: (Offset, Offset),
 ) -> Result<bool, NoMemory>
     requires avoids { board.mode ≡ Avoid }
     requires two { (length board.plan.parents ≡ 2) × (length board.plan.makers ≡ 2) }
     requires made { IsOf view board × IsOf seats.0 board × IsOf seats.1 board }
-    requires next { (next_action seats.0.view ≡ Some (Blocks phasers.0.0)) × (next_action seats.1.view ≡ Some (Blocks phasers.1.0)) }
+    requires next { (next_action seats.0.view ≡ Some (Blocks (aim_at phasers.0.0 offsets.0))) × (next_action seats.1.view ≡ Some (Blocks (aim_at phasers.1.0 offsets.1))) }
     requires phasers { (phasers.0.0 < 2) × (phasers.1.0 < 2) }
     requires free { (seats.0.view.holds ≡ false) × (seats.1.view.holds ≡ false) }
 {
     let (mut root, mut child) = seats;
     let mut cells = Cells::start(alloc, board.tasks(), board.phasers())?;
-    let published = publishes(alloc, &mut child, &board, phasers.1, &mut cells, SECOND)?;
-    let refused = is_refused(alloc, &mut root, &board, phasers.0, &mut cells)?;
+    let published = publishes(
+        alloc, &mut child, &board, phasers.1, offsets.1, &mut cells, SECOND,
+    )?;
+    let refused = is_refused(alloc, &mut root, &board, phasers.0, offsets.0, &mut cells)?;
     let shown = shows_both(&mut view, &board);
     let passed = passes(&mut child, &board);
     let closed = ends(board, view, (root, child));
@@ -180,13 +185,20 @@ fn one_is_refused(alloc: Global) -> Result<bool, NoMemory> {
     };
     let first = steps(&mut root, alloc, &board, &plan, 1);
     let second = steps(&mut child, alloc, &board, &plan, 1);
-    let Some((root, a)) = root.into_awaiting(&board, &plan) else {
+    let Some((root, a, first_off)) = root.into_awaiting(&board, &plan) else {
         return Ok(false);
     };
-    let Some((child, b)) = child.into_awaiting(&board, &plan) else {
+    let Some((child, b, second_off)) = child.into_awaiting(&board, &plan) else {
         return Ok(false);
     };
-    let decided = both_are_decided(alloc, board, view, (root, child), (a, b))?;
+    let decided = both_are_decided(
+        alloc,
+        board,
+        view,
+        (root, child),
+        (a, b),
+        (first_off, second_off),
+    )?;
     Ok(registers && first && second && decided)
 }
 

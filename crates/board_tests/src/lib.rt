@@ -6,6 +6,8 @@ mod decisions;
 #[cfg(test)]
 mod halves;
 #[cfg(test)]
+mod itself;
+#[cfg(test)]
 mod locks;
 #[cfg(test)]
 mod passes;

@@ -1,7 +1,7 @@
 // Small plans.
 ghost use Rattle.std.specs.Prelude.{◌≡◌, IfOk, length};
 
-use armus_base::{Code, List, NoMemory, Op, PhaserId, Plan, TaskId};
+use armus_base::{Code, List, NoMemory, Offset, Op, PhaserId, Plan, TaskId};
 use std::alloc::Global;
 
 /// The first phaser of each of these plans.
@@ -29,7 +29,10 @@ pub fn never_forked(alloc: Global) -> Result<Plan, NoMemory>
         Op::Make { p: A },
         Op::Reg { c: CHILD, p: A },
         Op::Adv { p: A },
-        Op::Await { p: A },
+        Op::Await {
+            p: A,
+            off: Offset::Here
+        },
     ]?;
     let codes = vec![in alloc;
         Code::from_ops(List::from_vec(root)),
@@ -53,7 +56,10 @@ pub fn never_left(alloc: Global) -> Result<Plan, NoMemory>
         Op::Reg { c: CHILD, p: A },
         Op::Fork { c: CHILD },
         Op::Adv { p: A },
-        Op::Await { p: A },
+        Op::Await {
+            p: A,
+            off: Offset::Here
+        },
     ]?;
     let codes = vec![in alloc;
         Code::from_ops(List::from_vec(root)),
@@ -77,7 +83,10 @@ pub fn late_registration(alloc: Global) -> Result<Plan, NoMemory>
         Op::Reg { c: CHILD, p: A },
         Op::Fork { c: CHILD },
         Op::Adv { p: A },
-        Op::Await { p: A },
+        Op::Await {
+            p: A,
+            off: Offset::Here
+        },
     ]?;
     let child = vec![in alloc;
         Op::Reg {
@@ -110,9 +119,17 @@ pub fn two_await(alloc: Global) -> Result<Plan, NoMemory>
         Op::Make { p: A },
         Op::Reg { c: CHILD, p: A },
         Op::Fork { c: CHILD },
-        Op::Await { p: A },
+        Op::Await {
+            p: A,
+            off: Offset::Here
+        },
     ]?;
-    let child = vec![in alloc; Op::Await { p: A }]?;
+    let child = vec![in alloc;
+        Op::Await {
+            p: A,
+            off: Offset::Here
+        },
+    ]?;
     let codes = vec![in alloc;
         Code::from_ops(List::from_vec(root)),
         Code::from_ops(List::from_vec(child)),
@@ -137,12 +154,71 @@ pub fn two_tasks(alloc: Global) -> Result<Plan, NoMemory>
         Op::Reg { c: CHILD, p: B },
         Op::Fork { c: CHILD },
         Op::Adv { p: A },
-        Op::Await { p: A },
+        Op::Await {
+            p: A,
+            off: Offset::Here
+        },
     ]?;
-    let second = vec![in alloc; Op::Adv { p: B }, Op::Await { p: B }]?;
+    let second = vec![in alloc;
+        Op::Adv { p: B },
+        Op::Await {
+            p: B,
+            off: Offset::Here
+        },
+    ]?;
     let codes = vec![in alloc;
         Code::from_ops(List::from_vec(first)),
         Code::from_ops(List::from_vec(second)),
+    ]?;
+    Ok(Plan::from_parts(
+        List::from_vec(parents),
+        List::from_vec(makers),
+        List::from_vec(codes),
+    ))
+}
+
+/// A task makes a phaser, advances, and awaits the phase after its own.
+pub fn awaits_ahead(alloc: Global) -> Result<Plan, NoMemory>
+    ensures { IfOk result (λ plan. (length plan.parents ≡ 1) × (length plan.makers ≡ 1)) }
+{
+    let parents = vec![in alloc; None]?;
+    let makers = vec![in alloc; ROOT]?;
+    let root = vec![in alloc;
+        Op::Make { p: A },
+        Op::Adv { p: A },
+        Op::Await {
+            p: A,
+            off: Offset::Ahead(1)
+        },
+    ]?;
+    let codes = vec![in alloc; Code::from_ops(List::from_vec(root))]?;
+    Ok(Plan::from_parts(
+        List::from_vec(parents),
+        List::from_vec(makers),
+        List::from_vec(codes),
+    ))
+}
+
+/// Task 0 makes a phaser and registers a child at phase 1, which it never forks; at phase 3 it awaits the phase before its own.
+pub fn looks_back(alloc: Global) -> Result<Plan, NoMemory>
+    ensures { IfOk result (λ plan. (length plan.parents ≡ 2) × (length plan.makers ≡ 1)) }
+{
+    let parents = vec![in alloc; None, Some(ROOT)]?;
+    let makers = vec![in alloc; ROOT]?;
+    let root = vec![in alloc;
+        Op::Make { p: A },
+        Op::Adv { p: A },
+        Op::Reg { c: CHILD, p: A },
+        Op::Adv { p: A },
+        Op::Adv { p: A },
+        Op::Await {
+            p: A,
+            off: Offset::Back(1)
+        },
+    ]?;
+    let codes = vec![in alloc;
+        Code::from_ops(List::from_vec(root)),
+        Code::from_ops(List::new(alloc)),
     ]?;
     Ok(Plan::from_parts(
         List::from_vec(parents),

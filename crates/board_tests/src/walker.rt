@@ -1,15 +1,15 @@
 // A task that walks along its code on a board.
 ghost use Rattle.std.specs.Prelude.{◌≡◌, ◌≢◌, ℕ, ◌+◌, ◌^◌, ◌<◌, Some, IfOk, IfSome, IsSome, IsNone, MatchOption, OnOk, OnErr, true, false, length, slice_get};
-ghost use Rattle.armus_base.specs.Plans.{Action, Blocks};
+ghost use Rattle.armus_base.specs.Plans.{Action, Aim, Blocks};
 ghost use Rattle.armus_base.specs.Runs.{first_place};
 ghost use Rattle.board.specs.declared.mode.Mode.TheVariants.{Avoid, Detect};
 ghost use Rattle.board.specs.Views.{next_action, own_place, seen};
 ghost use Rattle.board.specs.Steps.{own_phase};
-ghost use Rattle.board.specs.Seats.{IsOf, MakesStep, event_of};
+ghost use Rattle.board.specs.Seats.{IsOf, MakesStep, aim_at, event_of};
 ghost use Rattle.board.specs.inside.Walking.{IsActionOfPlan, begins};
 ghost use Rattle.phase_scan.specs.Looks.{LoadsAlone, IsLook};
 
-use armus_base::{Event, NoMemory, Op, Phase, PhaserId, Plan, TaskId};
+use armus_base::{Event, NoMemory, Offset, Op, Phase, PhaserId, Plan, TaskId};
 use board::{Board, Loads, Mode, Seen, TaskSeat, ViewSeat};
 use phase_scan::{Look, look};
 use std::alloc::Global;
@@ -91,20 +91,20 @@ fn make_step(seat: &mut TaskSeat, alloc: Global, board: &Board, op: Op) -> Optio
             seat.adv(board, p);
         }
         Op::Drop { p } => seat.drop_phaser(board, p),
-        Op::Await { p } => {
-            seat.publish(board, p);
+        Op::Await { p, off } => {
+            seat.publish(board, p, off);
         }
         Op::Fork { c } => return seat.fork(alloc, board, c).ok(),
     }
     None
 }
 
-// The phaser that the op awaits, if it awaits one.
-fn awaited(op: Op) -> Option<PhaserId>
-    ensures { MatchOption result ((p : ℕ) → begins op ≢ Blocks p) (λ p. begins op ≡ Blocks p.0) }
+// The phaser that the op awaits, and with which offset, if it awaits one.
+fn awaited(op: Op) -> Option<(PhaserId, Offset)>
+    ensures { MatchOption result ((aim : Aim) → begins op ≢ Blocks aim) (λ r. begins op ≡ Blocks (aim_at r.0.0 r.1)) }
 {
     match op {
-        Op::Await { p } => Some(p),
+        Op::Await { p, off } => Some((p, off)),
         Op::Make { .. } | Op::Reg { .. } | Op::Adv { .. } | Op::Drop { .. } | Op::Fork { .. } =>
             None,
     }
@@ -113,7 +113,7 @@ fn awaited(op: Op) -> Option<PhaserId>
 // The same of an op that awaits nothing, on any board.
 fn make_plain_step(seat: &mut TaskSeat, alloc: Global, board: &Board, op: Op) -> Option<TaskSeat>
     requires made { IsOf seat.old board.now }
-    requires plain { (p : ℕ) → begins op ≢ Blocks p }
+    requires plain { (aim : Aim) → begins op ≢ Blocks aim }
     requires unlocked { seat.old.view.holds ≡ false }
     requires next { next_action seat.old.view ≡ Some (begins op) }
     requires plan { IsActionOfPlan board.now.plan (begins op) }
@@ -195,19 +195,19 @@ impl Walker {
         }
     }
 
-    /// The seat of a task that stands before an await that is not published, and the phaser that it awaits.
-    pub fn into_awaiting(self, board: &Board, plan: &Plan) -> Option<(TaskSeat, PhaserId)>
+    /// The seat of a task that stands before an await that is not published, the phaser that it awaits, and with which offset.
+    pub fn into_awaiting(self, board: &Board, plan: &Plan) -> Option<(TaskSeat, PhaserId, Offset)>
         requires made { IsOf self board.now }
         requires plan { board.now.plan ≡ plan.now }
         ensures seat { IfSome result (λ r. (r.0 ≡ self) × (r.0.view.holds ≡ false)) }
-        ensures next { IfSome result (λ r. (next_action r.0.view ≡ Some (Blocks r.1.0)) × (r.1.0 < length board.now.plan.makers)) }
+        ensures next { IfSome result (λ r. (next_action r.0.view ≡ Some (Blocks (aim_at r.1.0 r.2))) × (r.1.0 < length board.now.plan.makers)) }
     {
         if self.event().is_some() {
             return None;
         }
         let op = op_at(plan.code(self.seat.id()), self.begun)?;
-        let p = awaited(op)?;
-        Some((self.seat, p))
+        let aimed = awaited(op)?;
+        Some((self.seat, aimed.0, aimed.1))
     }
 
     /// Its event is published: it looks at the awaited phaser.

@@ -95,8 +95,8 @@ fn scans(walker: &mut Walker, board: &Board, t: TaskId, phase: Phase, scanned: u
     found == Some(phase) && walker.scanned() == scanned
 }
 
-// Whether a look answers this, and so many tasks are scanned then.
-fn looks(walker: &mut Walker, board: &Board, answer: Look, scanned: u32) -> bool
+/// Whether a look answers this, and so many tasks are scanned then.
+pub fn looks(walker: &mut Walker, board: &Board, answer: Look, scanned: u32) -> bool
     requires made { IsOf walker.old board.now }
     ensures made { IsOf walker.new board.now }
 {

@@ -16,8 +16,8 @@ const FIRST: Event = Event { p: A, n: 1 };
 
 const SECOND: Event = Event { p: B, n: 1 };
 
-// Makes this many events of a task.
-fn events(
+/// Makes this many events of a task.
+pub fn events(
     rt: &impl Abort,
     alloc: Global,
     world: &mut World,

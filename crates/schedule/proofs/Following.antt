@@ -2,13 +2,11 @@
 use Rattle.std.proofs.Common.{◌≡◌, ◌≢◌, ◌∙◌, ℕ, true, List, Option, Some, None, sym, ap, refl, arith}
 use Rattle.armus_base.specs.declared.event.Event.{Event}
 use Rattle.armus_base.specs.CheckedPlans.{IsCheckedPlan}
-use Rattle.armus_base.specs.Plans.{action_at}
 use Rattle.armus_base.specs.Places.{state_at, published_after}
 use Rattle.armus_base.specs.Runs.{IsReachable, state_after}
 use Rattle.armus_base.specs.States.{Step}
-use Rattle.armus_base.proofs.Codes.{passes_next}
 use Rattle.armus_base.proofs.FoundArePublished.{not_both}
-use Rattle.armus_base.proofs.Published.{published_after_is}
+use Rattle.armus_base.proofs.Published.{published_after_is, published_passes}
 use Rattle.armus_base.proofs.Reachable.{reachable_is_fixed}
 use Rattle.armus_base.proofs.Stepping.{places_fix}
 use Rattle.pl_core.specs.declared.stand.Stand.{Stand}
@@ -36,8 +34,7 @@ module _ (w : WorldValue) (t : ℕ) (checked : IsCheckedPlan w.plan) (reachable 
 
   goes_on : action_by_code w t ≢ None
   goes_on ended =
-      let (j, same, blocks) = published_after_is w.plan t (places_of w t).done e at in
-      let passes = ap (action_at w.plan t) same ∙ passes_next w.plan t j e.p.0 blocks in
+      let passes = published_passes w.plan t (places_of w t).done e at in
       cc
 
   not_refused : (f : Event) → (state_of w).refused t ≢ Some f

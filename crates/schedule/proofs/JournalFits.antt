@@ -64,7 +64,7 @@ two_each (Reg c p ∷ ops) = let a = two_each ops in omega arith
 two_each (Fork c ∷ ops) = let a = two_each ops in omega arith
 two_each (Adv p ∷ ops) = let a = two_each ops in omega arith
 two_each (Drop p ∷ ops) = let a = two_each ops in omega arith
-two_each (Await p ∷ ops) = let a = two_each ops in omega arith
+two_each (Await p off ∷ ops) = let a = two_each ops in omega arith
 
 abbrev code_length : List (List Op) → ℕ → ℕ
 code_length codes t = length (actions_of (unwrap_or (slice_get codes t) []))

@@ -8,10 +8,9 @@ use Rattle.armus_base.specs.Plans.{Plan, Action, Passes, action_at}
 use Rattle.armus_base.specs.Places.{refused_at}
 use Rattle.armus_base.specs.Runs.{IsPlainRun, places, state_after}
 use Rattle.armus_base.specs.States.{IsLegal, IsReached, Step, event_at}
-use Rattle.armus_base.proofs.Codes.{passes_next}
 use Rattle.armus_base.proofs.Members.{plain_undropped}
 use Rattle.armus_base.proofs.NextIsLegal.{next_is_legal}
-use Rattle.armus_base.proofs.Published.{published_after_is}
+use Rattle.armus_base.proofs.Published.{published_passes}
 use Rattle.armus_base.proofs.Stepping.{acting_forked, places_fix}
 use Rattle.armus_base.proofs.Tasks.{reached_or_not}
 use Rattle.schedule.specs.declared.lines.Line.{Line}
@@ -60,9 +59,8 @@ module _ (plan : Plan) (checked : IsCheckedPlan plan) where
         Goes ⊎ IsStuck
     waiting x next forked e published =
         let fixed = places_fix plan checked h run.0 in
-        let is = published_after_is plan t (places h t).done e (ap (λ s. s.published t) (sym fixed.0) ∙ published) in
         let passes : action_at plan t (places h t).done ≡ Some (Passes e.p.0) =
-        ap (action_at plan t) is.1 ∙ passes_next plan t is.0 e.p.0 is.2 in
+        published_passes plan t (places h t).done e (ap (λ s. s.published t) (sym fixed.0) ∙ published) in
         elim (reached_or_not plan checked h run.0 e.p.0 e.n) [
           | inl reached ↦ inl (Passes e.p.0, record { by_code = passes; legal = (forked, e.n, published, reached, unrefused) })
           | inr unreached ↦ inr (stuck_by (Passes e.p.0) passes (λ legal. unreached (same_event e published legal)))

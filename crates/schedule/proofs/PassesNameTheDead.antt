@@ -27,7 +27,7 @@ use Rattle.armus_base.proofs.CollectedIsDead.{collected_is_dead}
 use Rattle.schedule.specs.Passes.{Loads, event_after, phase_after, event_found, is_found_awaited, waiting_below, awaited_below, phase_load, phases_found, loads_of, state_found, statuses_found}
 use Rattle.std.specs.Prelude.{◌==◌, if◌then◌else◌}
 use Rattle.std.proofs.Common.{false, eqb-true}
-use Rattle.armus_base.specs.Plans.{Action, Refuses}
+use Rattle.armus_base.specs.Plans.{Action, Aim, Refuses}
 use Rattle.armus_base.specs.Runs.{IsByCode, IsPlainRun}
 use Rattle.armus_base.proofs.Again.{in_code_plain}
 use Rattle.armus_base.proofs.Codes.{no_refusal}
@@ -274,7 +274,7 @@ module _ (plan : Plan) (checked : IsCheckedPlan plan) where
   pub plain_next : (h : List Step) → IsPlainRun plan h → (t : ℕ) (x : Action) → IsOwnNextStep plan h t x → IsPlainRun plan (record { task = t; action = x } ∷ h)
   plain_next h run t x next = ((run.0, record { legal = next.legal; by_code = by_code }), (run.1, other))
     where
-      other : (p : ℕ) → x ≢ Refuses p
+      other : (aim : Aim) → x ≢ Refuses aim
       other p same = no_refusal plan t (places h t).done p (subst (λ y. action_at plan t (places h t).done ≡ Some y) same next.by_code)
 
       by_code : IsByCode plan t (places h t).done (places h t).dropped x

@@ -1,6 +1,6 @@
 // Schedules over the empty text's plan, and over that of two tasks that wait for each other.
 use crate::{ReplayEnd, read_lines, replay, replay_text, split_input};
-use armus_base::{Code, List, NoMemory, Op, PhaserId, Plan, TaskId};
+use armus_base::{Code, List, NoMemory, Offset, Op, PhaserId, Plan, TaskId};
 use std::alloc::Global;
 use std::test::Fail;
 
@@ -34,9 +34,9 @@ fn two_tasks(alloc: Global) -> Result<Plan, NoMemory> {
         Op::Reg { c: CHILD, p: B },
         Op::Fork { c: CHILD },
         Op::Adv { p: A },
-        Op::Await { p: A },
+        Op::Await { p: A, off: Offset::Here },
     ]?;
-    let second = vec![in alloc; Op::Adv { p: B }, Op::Await { p: B }]?;
+    let second = vec![in alloc; Op::Adv { p: B }, Op::Await { p: B, off: Offset::Here }]?;
     let codes = vec![in alloc;
         Code::from_ops(List::from_vec(first)),
         Code::from_ops(List::from_vec(second)),

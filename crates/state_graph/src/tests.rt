@@ -94,6 +94,14 @@ fn for_itself(alloc: Global) -> Result<Vec<Status>, NoMemory> {
     Ok(list)
 }
 
+// Two tasks wait for each other, and the second also for itself.
+fn pair_and_loop(alloc: Global) -> Result<Vec<Status>, NoMemory> {
+    let mut list: Vec<Status> = Vec::new(alloc);
+    list.push(status(alloc, 0, (1, 1), [(0, 0), (1, 1)].as_slice())?)?;
+    list.push(status(alloc, 1, (0, 3), [(0, 1), (1, 0)].as_slice())?)?;
+    Ok(list)
+}
+
 fn check(
     rt: &impl Abort,
     alloc: Global,
@@ -133,7 +141,14 @@ fn names_the_dead_and_counts(rt: HostRuntime) -> Result<(), Fail> {
         [TaskId(0), TaskId(1), TaskId(2)].as_slice(),
         3,
     )?;
-    check(&rt, alloc, &for_itself(alloc)?, [TaskId(0)].as_slice(), 1)
+    check(&rt, alloc, &for_itself(alloc)?, [TaskId(0)].as_slice(), 1)?;
+    check(
+        &rt,
+        alloc,
+        &pair_and_loop(alloc)?,
+        [TaskId(0), TaskId(1)].as_slice(),
+        3,
+    )
 }
 
 #[test]

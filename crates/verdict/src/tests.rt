@@ -46,6 +46,14 @@ fn behind_a_cycle(alloc: Global) -> Result<Vec<Status>, NoMemory> {
     Ok(list)
 }
 
+// A task waits for itself, and another one for it.
+fn for_itself(alloc: Global) -> Result<Vec<Status>, NoMemory> {
+    let mut list: Vec<Status> = Vec::new(alloc);
+    list.push(status(alloc, 1, (0, 2), [(0, 1)].as_slice())?)?;
+    list.push(status(alloc, 2, (0, 2), [(0, 2)].as_slice())?)?;
+    Ok(list)
+}
+
 // The cycle of these tasks with these events.
 fn cycle_of(alloc: Global, links: &[(u32, (u32, u32))]) -> Result<Cycle, NoMemory> {
     let mut tasks = List::new(alloc);
@@ -82,5 +90,10 @@ fn tests_cycles(rt: HostRuntime) -> Result<(), Fail> {
     assert_eq!(rt; check_cycle(&walk, &behind), false);
     let empty = cycle_of(alloc, [].as_slice())?;
     assert_eq!(rt; check_cycle(&empty, &behind), false);
+    let itself = for_itself(alloc)?;
+    let looped = cycle_of(alloc, [(1, (0, 2))].as_slice())?;
+    assert_eq!(rt; check_cycle(&looped, &itself), true);
+    let beside = cycle_of(alloc, [(2, (0, 2))].as_slice())?;
+    assert_eq!(rt; check_cycle(&beside, &itself), false);
     Ok(())
 }

@@ -14,8 +14,8 @@ pub returns-clause-next : goal.returns-clause-next
 returns-clause-next c =
     let b = is_before c.self.inside.seat c.args.self c.args.board.now c.args.plan.now c.id.result.0 c.self.inside.begun _ _ _ c.in_ok-op.op c.self.view_is c.requires.made c.requires.plan
     c.self.invariant c.id.ensures.task c.id.ensures.seat (sym c.is_some.ensures ∙ c.if-is_some.false) c.event.ensures c.code.ensures.code c.op_at.ensures.op c.in_ok-op.was in (
-      before_next c.self.inside.begun c.in_ok-op.op c.self.inside.seat b ∙ ap Some c.in_ok-p.ensures,
-      subst (IsActionOfPlan c.args.board.now.plan) c.in_ok-p.ensures
+      before_next c.self.inside.begun c.in_ok-op.op c.self.inside.seat b ∙ ap Some c.in_ok-aimed.ensures,
+      subst (IsActionOfPlan c.args.board.now.plan) c.in_ok-aimed.ensures
           (before_of_plan c.self.inside.begun c.in_ok-op.op c.self.inside.seat b c.args.board.now.plan
           (ap (λ (k : Known). k.view.plan) c.self.view_is ∙ c.requires.made.plan)),
     )
