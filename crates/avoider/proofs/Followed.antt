@@ -31,7 +31,7 @@ use Rattle.pl_core.specs.Worlds.{WorldValue, places_of, state_of}
 use Rattle.verdict.specs.declared.found.Cycle.{Cycle}
 use Rattle.avoider.specs.Kept.{HoldsPairs}
 use Rattle.avoider.specs.inside.Followings.{HoldsOrOtherDead}
-use Rattle.avoider.proofs.Supposing.{awaits_event, blocks_next, supposed_of_plan}
+use Rattle.avoider.proofs.Supposing.{blocks_next, supposed_of_plan}
 
 -- the tasks of the relations are those of the statuses
 pub deps_tasks : (ss : List Status) (d : Deps) → IsDepsOf ss d → (o : OrderValue) → ((s : Status) → Contains ss s → IsTaskOf o s.t) → All (IsTaskOf o) d.tasks
@@ -95,9 +95,10 @@ module _ (w : WorldValue) (checked : IsCheckedPlan w.plan) (reach : IsReachable 
   -- a step at the await makes the state in which it is published
   pub published_state : (new : WorldValue) → IsAtAwaitOf w t e → IsWorldStep w new t → state_of new ≡ if_published (state_of w) t e
   published_state new before s =
-      let is : s.action ≡ Blocks e.p.0 = (let both : Some s.action ≡ Some (Blocks e.p.0) = sym s.next ∙ blocks_next w t e before in cc) in
+      let block = blocks_next w t e before in
+      let is : s.action ≡ Blocks block.0 = (let both : Some s.action ≡ Some (Blocks block.0) = sym s.next ∙ block.1 in cc) in
       s.state ∙ ap (after (state_of w) t) is ∙
-      ap (λ o. let v : State = record (state_of w) { published = updated (state_of w).published t o } in v) (awaits_event w t e before)
+      ap (λ o. let v : State = record (state_of w) { published = updated (state_of w).published t o } in v) block.2
 
   pub published_statuses :
       (new : WorldValue) → IsAtAwaitOf w t e → IsWorldStep w new t → awaited_statuses new.plan (state_of new) ≡ awaited_statuses w.plan (if_published (state_of w) t e)
