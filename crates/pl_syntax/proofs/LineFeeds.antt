@@ -11,7 +11,7 @@ use Rattle.pl_syntax.specs.declared.token.Sign.TheVariants.{OpenBrace, CloseBrac
 use Rattle.pl_syntax.specs.Words.{begins_with, is_word_byte}
 use Rattle.pl_syntax.specs.Tokens.{Token, the_end, sign, word, number, front, Leads, after_gap, after_comment, is_blank, token_here, placed, word_token, sign_token, sign_of, word_of, after_word}
 use Rattle.pl_syntax.specs.Tree.{Tree, done, plain, fork, loop, Plain, new_task, new_phaser, reg, dereg, adv, await, skip}
-use Rattle.pl_syntax.specs.Grammar.{Reads, header, scan_of, tokens, plain_tokens, with_name, sentence}
+use Rattle.pl_syntax.specs.Grammar.{ReadsTokens, header, scan_of, tokens, plain_tokens, with_name, sentence}
 use Rattle.pl_syntax.specs.Laws.{LineFeedChangesNothing, NoLineIsAMark}
 use Rattle.pl_syntax.proofs.Fronts.{chosen, end_in_front, ok_pair, was_found}
 
@@ -185,7 +185,7 @@ tokens_append (loop n body more) us vs =
     ap (λ z. word k.Loop ∷ number n ∷ sign OpenBrace ∷ z)
     (ap (λ y. tokens body (sign CloseBrace ∷ y)) (tokens_append more us vs) ∙ tokens_append body (sign CloseBrace ∷ tokens more us) vs)
 
-feed_in_form : (two : Bool) (text : List ℕ) (p : Tree) → Reads two text (sentence p) [] → Reads two (text ++ 10 ∷ []) (sentence p) []
+feed_in_form : (two : Bool) (text : List ℕ) (p : Tree) → ReadsTokens two text (sentence p) [] → ReadsTokens two (text ++ 10 ∷ []) (sentence p) []
 feed_in_form false text p h =
     let is : sentence p ≡ tokens p [] ++ the_end ∷ [] = tokens_append p [] (the_end ∷ []) in
     subst (λ ts. Leads (scan_of false (text ++ 10 ∷ [])) (text ++ 10 ∷ []) ts []) (sym is)
@@ -275,12 +275,12 @@ mark_stays scan (t ∷ ts) ahead rest left h =
     let (ahead', rest', is) = left_behind scan ahead rest t h.0 h.1 in
     mark_stays scan ts ahead' rest' left (subst (λ m. Leads scan m ts left) is h.2)
 
-no_mark_first : (two : Bool) (p : Tree) (rest : List ℕ) → Reads two (37 ∷ rest) (sentence p) [] → ⊥
+no_mark_first : (two : Bool) (p : Tree) (rest : List ℕ) → ReadsTokens two (37 ∷ rest) (sentence p) [] → ⊥
 unfolding front
 no_mark_first false p rest h = never_begins (scan_of false (37 ∷ rest)) (sentence p) rest h
 no_mark_first true p rest h = absurd (let e = h.1.1 in cc)
 
-no_mark_later : (two : Bool) (p : Tree) (ahead rest : List ℕ) → Reads two (ahead ++ 10 ∷ 37 ∷ rest) (sentence p) [] → ⊥
+no_mark_later : (two : Bool) (p : Tree) (ahead rest : List ℕ) → ReadsTokens two (ahead ++ 10 ∷ 37 ∷ rest) (sentence p) [] → ⊥
 no_mark_later false p ahead rest h = never_ends (scan_of false (ahead ++ 10 ∷ 37 ∷ rest)) (sentence p) ahead rest h
 no_mark_later true p ahead rest h =
     let (ahead', rest', is) = mark_stays (scan_of false (ahead ++ 10 ∷ 37 ∷ rest)) header ahead rest h.0 h.1 in

@@ -13,7 +13,7 @@ use Rattle.pl_syntax.specs.declared.token.Sign.TheVariants.{CloseBrace, Minus, P
 use Rattle.pl_syntax.specs.Words.{begins_with, has_name_form, is_digit, is_word_byte, keyword_of, number_of}
 use Rattle.pl_syntax.specs.Tokens.{Token, the_end, sign, word, name, number, front, Leads, after_gap, after_comment, is_blank, token_here, placed, word_token, letters_token, digits_token, sign_token, sign_of, word_of, after_word, kind_no_token, kind_no_number, kind_too_long}
 use Rattle.pl_syntax.specs.Tree.{Tree, done, plain, fork, loop, Plain, new_task, new_phaser, reg, dereg, adv, await, skip, AllHere, PlainIsHere}
-use Rattle.pl_syntax.specs.Grammar.{Reads, header, scan_of, tokens, plain_tokens, sentence}
+use Rattle.pl_syntax.specs.Grammar.{ReadsTokens, header, scan_of, tokens, plain_tokens, sentence}
 use Rattle.pl_syntax.specs.Spacing.{IsGap, empty, blank, comment, left_open, IsSpelling, a_sign, a_word, IsSpaced, all_tokens, is_a_word, is_no_feed}
 use Rattle.pl_syntax.specs.Laws.{TextsAreSpaced}
 use Rattle.pl_syntax.proofs.Fronts.{chosen, ok_pair, was_found}
@@ -609,7 +609,7 @@ leads_spaced scan ts behind text real stops h =
 
 -- ---- the two forms
 
-form_spaced : (two : Bool) (text : List ℕ) (p : Tree) → Reads two text (sentence p) [] → IsSpaced false (all_tokens (record { two = two; body = p })) text
+form_spaced : (two : Bool) (text : List ℕ) (p : Tree) → ReadsTokens two text (sentence p) [] → IsSpaced false (all_tokens (record { two = two; body = p })) text
 form_spaced false text p h =
     leads_spaced (scan_of false text) (tokens p []) false text (all_real p [] refl) (λ e. absurd (false≢true e))
     (subst (λ ts. Leads (scan_of false text) text ts []) (tokens_append p [] (the_end ∷ [])) h)
@@ -618,7 +618,7 @@ form_spaced true text p h =
     (λ stops. leads_spaced (scan_of true text) (tokens p []) false h.0 (all_real p [] refl) (λ e. absurd (false≢true e))
     (subst (λ ts. Leads (scan_of true text) h.0 ts []) (tokens_append p [] (the_end ∷ [])) h.2))
 
-spaced_form : (two : Bool) (text : List ℕ) (p : Tree) → (two ≡ false → AllHere p) → IsSpaced false (all_tokens (record { two = two; body = p })) text → Reads two text (sentence p) []
+spaced_form : (two : Bool) (text : List ℕ) (p : Tree) → (two ≡ false → AllHere p) → IsSpaced false (all_tokens (record { two = two; body = p })) text → ReadsTokens two text (sentence p) []
 spaced_form false text p here h =
     subst (λ ts. Leads (scan_of false text) text ts []) (sym (tokens_append p [] (the_end ∷ [])))
     (spaced_leads (scan_of false text) (tokens p []) false text (λ off. all_near p [] (here refl) refl) h)

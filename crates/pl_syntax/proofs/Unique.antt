@@ -1,5 +1,5 @@
 -- A text has one tree or one first fault, and not both.
-use Rattle.std.proofs.Common.{Bool, ◌≡◌, ℕ, ◌+◌, ◌≤◌, true, false, List, [], ◌∷◌, ◌++◌, length, Some, None, Result, Ok, Err, refl, sym, ap, subst, ◌∙◌, append_assoc, arith, ◌⊎◌, inl, inr}
+use Rattle.std.proofs.Common.{Bool, ◌≡◌, ℕ, ◌+◌, ◌≤◌, true, false, List, [], ◌∷◌, ◌++◌, Some, None, Result, Ok, Err, refl, sym, ap, subst, ◌∙◌, append_assoc, arith, ◌⊎◌, inl, inr}
 use Rattle.pl_syntax.specs.declared.scan.Scan.{Scan}
 use Rattle.pl_syntax.specs.declared.limits.TheConstants.{MAX_OPEN_BRACES}
 use Rattle.armus_base.specs.declared.offset.Offset.TheVariants.{Ahead, Back, Here}
@@ -9,7 +9,7 @@ use Rattle.pl_syntax.specs.declared.token.Sign.TheVariants.{OpenBrace, CloseBrac
 use Rattle.pl_syntax.specs.declared.fault.SyntaxFault.{SyntaxFault}
 use Rattle.pl_syntax.specs.Tokens.{Token, the_end, sign, word, name, front, Leads}
 use Rattle.pl_syntax.specs.Tree.{Tree, done, plain, fork, loop, Plain, new_task, new_phaser, reg, dereg, adv, await, skip, height}
-use Rattle.pl_syntax.specs.Grammar.{Reads, header, scan_of, tokens, plain_tokens, sentence, opened, open_after, StaysShallow, IsText, HasFault, Begins, IsAtFault, no_token, cannot_stand, too_deep}
+use Rattle.pl_syntax.specs.Grammar.{ReadsTokens, header, scan_of, tokens, plain_tokens, sentence, opened, open_after, StaysShallow, IsText, HasFault, Begins, IsAtFault, no_token, cannot_stand, too_deep}
 use Rattle.pl_syntax.specs.inside.Reading.{ends_list}
 use Rattle.pl_syntax.proofs.Fronts.{ok_pair}
 use Rattle.pl_syntax.proofs.Machine.{at, run, run-append, run_sentence}
@@ -268,7 +268,7 @@ Form text p =
 form_of : (text : List ℕ) (p : Program) → IsText text p → Form text p
 form_of text p a = go p.two refl (a.reads)
   where
-    go : (b : Bool) → p.two ≡ b → Reads b text (sentence p.body) [] → Form text p
+    go : (b : Bool) → p.two ≡ b → ReadsTokens b text (sentence p.body) [] → Form text p
     go false e r = inl (e, r)
     go true e r = inr (e, r.0, r.1, r.2)
 
@@ -279,7 +279,7 @@ Faulty text f = From (scan_of false text) text f ⊎ ((mid : List ℕ) × Header
 faulty : (text : List ℕ) (f : SyntaxFault) → HasFault text f → Faulty text f
 faulty text f b = go b.two b.reads b.goes_on b.here
   where
-    go : (two : Bool) → Reads two text b.before b.left → ((t : Token) × Begins two (b.before ++ t ∷ [])) → IsAtFault b.before (scan_of two text) b.left f → Faulty text f
+    go : (two : Bool) → ReadsTokens two text b.before b.left → ((t : Token) × Begins two (b.before ++ t ∷ [])) → IsAtFault b.before (scan_of two text) b.left f → Faulty text f
     go false reads goes_on here = inl (record { before = b.before; left = b.left; reads = reads; goes_on = goes_on; shallow = b.shallow; here = here })
     go true reads goes_on here =
         inr (reads.0, reads.1, record { before = b.before; left = b.left; reads = reads.2; goes_on = goes_on; shallow = b.shallow; here = here })

@@ -13,7 +13,7 @@ use Rattle.pl_syntax.specs.declared.token.Sign.TheVariants.{CloseBrace, Minus, P
 use Rattle.pl_syntax.specs.Words.{is_word_byte, is_digit, keyword_of, has_name_form, has_no_leading_zero, is_number, number_of, value_from}
 use Rattle.pl_syntax.specs.Tokens.{Token, the_end, sign, word, name, number, front, after_gap, token_here, word_token, letters_token, digits_token, sign_token, sign_of, word_of, Leads}
 use Rattle.pl_syntax.specs.Tree.{Tree, done, plain, fork, loop, Plain, new_task, new_phaser, reg, dereg, adv, await, skip, AllHere, PlainIsHere}
-use Rattle.pl_syntax.specs.Grammar.{tokens, plain_tokens, sentence, scan_of, Reads, IsText}
+use Rattle.pl_syntax.specs.Grammar.{tokens, plain_tokens, sentence, scan_of, ReadsTokens, IsText}
 use Rattle.pl_syntax.specs.Printed.{PlainIsWritable, TreeIsWritable, IsWritable}
 use Rattle.pl_syntax.proofs.Fronts.{chosen, ok_pair, was_found, name_in_front}
 
@@ -210,7 +210,7 @@ is_writable scan (loop n i p) text us end h =
 pub text_is_writable : (text : List ℕ) (p : Program) → IsText text p → IsWritable p
 text_is_writable text p h = go p.two refl h.reads
   where
-    go : (two : Bool) → p.two ≡ two → Reads two text (sentence p.body) [] → IsWritable p
+    go : (two : Bool) → p.two ≡ two → ReadsTokens two text (sentence p.body) [] → IsWritable p
     go false e reads =
         let w = is_writable (scan_of false text) p.body text (the_end ∷ []) [] reads in
         record { tree = w.0; here = λ one. w.1 refl }

@@ -60,13 +60,13 @@ abbrev pub scan_of : Bool → List ℕ → Scan
 scan_of two text = record { total = length text; offsets = two }
 
 -- these tokens are the first ones of the text, in PL 2 those behind its header, and the rest is left: only behind the header are + and - signs
-abbrev pub Reads : Bool → List ℕ → List Token → List ℕ → Type 0
-Reads false text ts rest = Leads (scan_of false text) text ts rest
-Reads true text ts rest = (mid : List ℕ) × Leads (scan_of false text) text header mid × Leads (scan_of true text) mid ts rest
+abbrev pub ReadsTokens : Bool → List ℕ → List Token → List ℕ → Type 0
+ReadsTokens false text ts rest = Leads (scan_of false text) text ts rest
+ReadsTokens true text ts rest = (mid : List ℕ) × Leads (scan_of false text) text header mid × Leads (scan_of true text) mid ts rest
 
 -- the text is this program: its tokens are those of the program, and no more braces are open than may be
 pub record IsText (text : List ℕ) (p : Program) : Type 0 where
-  pub reads : Reads p.two text (sentence p.body) []
+  pub reads : ReadsTokens p.two text (sentence p.body) []
   pub shallow : height p.body ≤ MAX_OPEN_BRACES
 
 -- ---- the first fault
@@ -124,7 +124,7 @@ pub record HasFault (text : List ℕ) (fault : SyntaxFault) : Type 0 where
   pub two : Bool
   pub before : List Token
   pub left : List ℕ
-  pub reads : Reads two text before left
+  pub reads : ReadsTokens two text before left
   pub goes_on : (t : Token) × Begins two (before ++ t ∷ [])
   pub shallow : StaysShallow 0 before
   pub here : IsAtFault before (scan_of two text) left fault

@@ -7,10 +7,11 @@ use Rattle.slot_pool.specs.declared.claim.Claim.TheVariants.{Got, Held, Empty}
 use Rattle.slot_pool.specs.declared.view.View.{View}
 use Rattle.slot_pool.specs.Views.{claiming, finding, first_view, giving, placing, trying}
 
--- the most tasks and the most workers of a pool
+-- the most tasks of a pool
 abbrev pub max_tasks : ℕ
 max_tasks = 4096
 
+-- the most workers of a pool
 abbrev pub max_workers : ℕ
 max_workers = 64
 

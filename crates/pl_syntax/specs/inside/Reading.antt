@@ -292,6 +292,7 @@ abbrev pub behind_two : Scan → List ℕ → Token × List ℕ → Result (Bool
 behind_two scan text second =
     if is_two second.0 then (sign_at scan Semicolon second.1 >>= λ rest. Ok (true, rest)) else Ok (false, text)
 
+-- behind `pl`, whether the rest of the header follows, and what is left behind it; and the whole text where it does not begin so
 abbrev pub behind_pl : Scan → List ℕ → Token × List ℕ → Result (Bool × List ℕ) SyntaxFault
 behind_pl scan text first =
     if is_pl first.0 then (front scan first.1 >>= λ second. behind_two scan text second) else Ok (false, text)
