@@ -6,7 +6,7 @@ use Rattle.armus_base.specs.declared.event.Event.{Event}
 use Rattle.armus_base.specs.declared.op.Op.{Op}
 use Rattle.armus_base.specs.Plans.{Aim, Action, Advances, Blocks, Drops, Forks, Makes, Passes, Plan, Refuses, Registers, action_at, actions, actions_of, code_of}
 use Rattle.armus_base.specs.declared.op.Op.TheVariants.{Adv, Await, Drop, Fork, Make, Reg}
-use Rattle.armus_base.specs.States.{Phases, State, awaited, event_at, event_on}
+use Rattle.armus_base.specs.States.{Phases, State, awaited}
 use Rattle.armus_base.specs.Runs.{Place, first_place, next_place}
 use Rattle.armus_base.specs.Places.{phases_after, published_after}
 use Rattle.armus_base.specs.CheckedPlans.{IsCheckedPlan, IsWellFormed}

@@ -3,7 +3,7 @@ use Rattle.std.proofs.Common.{◌≡◌, ◌≢◌, ℕ, ◌+◌, true, false, L
 use Rattle.std.proofs.lemmas.Bool.{cases_eq}
 use Rattle.armus_base.specs.declared.event.Event.{Event}
 use Rattle.armus_base.specs.declared.status.Status.{Status}
-use Rattle.armus_base.specs.Plans.{Action, Blocks, Plan, Refuses, action_at}
+use Rattle.armus_base.specs.Plans.{Aim, Action, Blocks, Plan, Refuses, action_at}
 use Rattle.armus_base.specs.Runs.{IsByCode, IsPrefix, Place, next_place}
 use Rattle.armus_base.specs.Places.{kept, members_below, phases_after}
 use Rattle.armus_base.specs.Boards.{IsLawful}
@@ -51,8 +51,8 @@ goes_locked a b c d own free taken goes freed =
     }
 
 -- the loads of a decision
-judged_goes : (list supposed : List Status) (event : Event) (before now : Known) → Judges list event supposed before now → LoadsAlone before now
-judged_goes list supposed event before now j =
+judged_goes : (list supposed : List Status) (aim : Aim) (event : Event) (before now : Known) → Judges list aim event supposed before now → LoadsAlone before now
+judged_goes list supposed aim event before now j =
     let s = j.adds in
     let more = column_goes s.found.published event.p.0 before.view.plan s.column (length before.view.plan.parents) j.between now j.goes_on.same.plan (omega arith) j.goes_on.kept s.loads in
     goes_both before j.between now j.goes_on more.goes
@@ -64,43 +64,42 @@ next_locked a b o taken next = ap next_action taken.view ∙ next
 own_locked : (a b : Known) (t : ℕ) → TakesLock a b → a.view.own ≡ Some t → b.view.own ≡ Some t
 own_locked a b t taken own = ap (λ (v : View). v.own) taken.view ∙ own
 
-module _ (a b now : Known) (t p : ℕ) (own : a.view.own ≡ Some t) (free : a.view.holds ≡ false) (next : next_action a.view ≡ Some (Blocks p)) (taken : TakesLock a b) where
+module _ (a b now : Known) (t : ℕ) (aim : Aim) (own : a.view.own ≡ Some t) (free : a.view.holds ≡ false) (next : next_action a.view ≡ Some (Blocks aim)) (taken : TakesLock a b) where
   own_b : b.view.own ≡ Some t
   own_b = own_locked a b t taken own
 
   -- it stands there still when it has made its loads
-  next_then : (store : Known) → LoadsAlone b store → next_action store.view ≡ Some (Blocks p)
-  next_then store goes = next_still b store goes.same (own_stays b store t own_b taken.kept goes) ∙ next_locked a b (Some (Blocks p)) taken next
+  next_then : (store : Known) → LoadsAlone b store → next_action store.view ≡ Some (Blocks aim)
+  next_then store goes = next_still b store goes.same (own_stays b store t own_b taken.kept goes) ∙ next_locked a b (Some (Blocks aim)) taken next
 
   -- the await was published
-  pub goes_published : (list : List Status) (event : Event) → event.p.0 ≡ p → HasPublished list event b now → Goes (Blocks p ∷ []) a now
-  goes_published list event phaser h =
-      let loads = judged_goes list h.supposed event b h.store h.judges in
-      let step : MakesStep (Blocks p) h.store h.stored = subst (λ q. MakesStep (Blocks q) h.store h.stored) phaser h.step in
-      goes_locked a b h.stored now (Blocks p ∷ []) free taken
-      (goes_then b h.store h.stored t (Blocks p) own_b taken.kept loads (goes_step h.store h.stored (Blocks p) (next_then h.store loads) (λ q e. cc) step)) h.freed
+  pub goes_published : (list : List Status) (event : Event) → HasPublished list aim event b now → Goes (Blocks aim ∷ []) a now
+  goes_published list event h =
+      let loads = judged_goes list h.supposed aim event b h.store h.judges in
+      goes_locked a b h.stored now (Blocks aim ∷ []) free taken
+      (goes_then b h.store h.stored t (Blocks aim) own_b taken.kept loads (goes_step h.store h.stored (Blocks aim) (next_then h.store loads) (λ q e. cc) h.step)) h.freed
 
   -- nothing was decided
   pub goes_undecided : IsUndecided b now → Goes [] a now
   goes_undecided u = goes_locked a b u.between now [] free taken (goes_loads b u.between t own_b taken.kept u.goes_on) u.freed
 
-  refuse_next : (plan : Plan) (u k : ℕ) (o : Option ℕ) → o ≡ None → action_at plan u k ≡ Some (Blocks p) → IsByCode plan u k o (Refuses p)
+  refuse_next : (plan : Plan) (u k : ℕ) (o : Option ℕ) → o ≡ None → action_at plan u k ≡ Some (Blocks aim) → IsByCode plan u k o (Refuses aim)
   refuse_next plan u k None e is = is
   refuse_next plan u k (Some d) e is = absurd (cc)
 
   -- the task was refused
-  module _ (list : List Status) (cycle : Cycle) (h : HasRefused list p cycle b now) where
+  module _ (list : List Status) (cycle : Cycle) (h : HasRefused list aim cycle b now) where
     loads : LoadsAlone b h.store
-    loads = judged_goes list h.supposed h.event b h.store h.judges
+    loads = judged_goes list h.supposed aim h.event b h.store h.judges
 
-    there : ((own_place h.store.view).dropped ≡ None) × (action_at h.store.view.plan (task_of h.store.view) (own_place h.store.view).done ≡ Some (Blocks p))
-    there = next_there h.store.view (Blocks p) (next_then h.store loads)
+    there : ((own_place h.store.view).dropped ≡ None) × (action_at h.store.view.plan (task_of h.store.view) (own_place h.store.view).done ≡ Some (Blocks aim))
+    there = next_there h.store.view (Blocks aim) (next_then h.store loads)
 
-    refuses : Goes (Refuses p ∷ []) a h.free
+    refuses : Goes (Refuses aim ∷ []) a h.free
     refuses =
-        goes_locked a b h.stored h.free (Refuses p ∷ []) free taken
-        (goes_then b h.store h.stored t (Refuses p) own_b taken.kept loads
-        (goes_made h.store h.stored (Refuses p)
+        goes_locked a b h.stored h.free (Refuses aim ∷ []) free taken
+        (goes_then b h.store h.stored t (Refuses aim) own_b taken.kept loads
+        (goes_made h.store h.stored (Refuses aim)
         (refuse_next h.store.view.plan (task_of h.store.view) (own_place h.store.view).done (own_place h.store.view).dropped there.0 there.1) h.step))
         h.freed
 
@@ -118,8 +117,8 @@ module _ (a b now : Known) (t p : ℕ) (own : a.view.own ≡ Some t) (free : a.v
 
     place_free : own_place h.free.view ≡ record { done = (own_place h.store.view).done; dropped = Some 0 }
     place_free =
-        ap own_place h.freed.view ∙ stepped_place h.store h.stored (Refuses p) h.step
-        ∙ ap (λ o. next_place (own_place h.store.view).done o (Refuses p)) there.0
+        ap own_place h.freed.view ∙ stepped_place h.store h.stored (Refuses aim) h.step
+        ∙ ap (λ o. next_place (own_place h.store.view).done o (Refuses aim)) there.0
 
     dropping : Goes (drops_below ph count) h.free now × (own_place now.view ≡ record { done = (own_place h.free.view).done; dropped = Some (0 + members_below ph count) })
     dropping =
@@ -140,14 +139,14 @@ module _ (a b now : Known) (t p : ℕ) (own : a.view.own ≡ Some t) (free : a.v
     task_then : task_of now.view ≡ task_of h.store.view
     task_then = same_task h.free now dropping.0.same ∙ ap task_of h.freed.view ∙ same_task h.store h.stored h.step.same
 
-    pub goes_refused : (drops : ℕ) → drops ≡ members_below (own_phase a.view) (length a.view.plan.makers) → IsRefusedAt p drops a now
+    pub goes_refused : (drops : ℕ) → drops ≡ members_below (own_phase a.view) (length a.view.plan.makers) → IsRefusedAt aim drops a now
     goes_refused drops counted =
         let n : count ≡ length a.view.plan.makers = ap (λ (q : Plan). length q.makers) plan_same in
         record {
           goes =
-              subst (λ k. Goes (Refuses p ∷ drops_below (own_phase a.view) k) a now) n
-              (subst (λ m. Goes (Refuses p ∷ drops_below m count) a now) phases_same
-              (goes_on a h.free now (Refuses p ∷ []) (drops_below ph count) refuses dropping.0));
+              subst (λ k. Goes (Refuses aim ∷ drops_below (own_phase a.view) k) a now) n
+              (subst (λ m. Goes (Refuses aim ∷ drops_below m count) a now) phases_same
+              (goes_on a h.free now (Refuses aim ∷ []) (drops_below ph count) refuses dropping.0));
           left = has_left_all h.store now ph (own_place h.store.view).done dropping.0.kept plan_then task_then all_phases place_now;
           counted = counted;
         }
@@ -178,8 +177,8 @@ module _ (h : ℕ) (a now : Known) (t : ℕ) (own : a.view.own ≡ Some t) (seat
   goes_locked_out =
       record { table = found.table; same = found.meets.same; place = place; later = later; exact = found.meets.seen_now.place.exact; kept = found.kept }
 
-  pub ends_locked_out : (p : ℕ) → next_action a.view ≡ Some (Blocks p) → EndsTurn now
-  ends_locked_out p next =
-      is_locked_out h (ap avoids found.meets.same.mode ∙ avoiding) (p, next_still a now found.meets.same place ∙ next)
+  pub ends_locked_out : (aim : Aim) → next_action a.view ≡ Some (Blocks aim) → EndsTurn now
+  ends_locked_out aim next =
+      is_locked_out h (ap avoids found.meets.same.mode ∙ avoiding) (aim, next_still a now found.meets.same place ∙ next)
       (λ e. other (sym (e ∙ same_task a now found.meets.same ∙ task_is a t own)))
       (subst (λ (q : Plan). MayHold q h ((seen now.view).places h)) (sym found.meets.same.plan) found.meets.there)

@@ -2,13 +2,14 @@
 use Rattle.std.proofs.Common.{◌≡◌, ◌≢◌, ℕ, zero, suc, List, [], ◌∷◌, Option, Some, None, drop, refl, ap, ◌∙◌}
 use Rattle.armus_base.specs.declared.op.Op.{Op}
 use Rattle.armus_base.specs.declared.op.Op.TheVariants.{Adv, Await, Drop, Fork, Make, Reg}
-use Rattle.armus_base.specs.Plans.{Action, Advances, Blocks, Drops, Forks, Makes, Passes, Refuses, Registers, actions, actions_of, code_of}
+use Rattle.armus_base.specs.Plans.{Action, Advances, Blocks, Drops, Forks, Makes, Passes, Refuses, Registers, actions, actions_of, code_of, Aim, action_at}
 use Rattle.armus_base.specs.Places.{phases_after, published_after}
 use Rattle.armus_base.specs.Runs.{Place, next_place}
-use Rattle.armus_base.specs.States.{awaited, event_at, event_on}
+use Rattle.armus_base.specs.States.{Phases, awaited}
 use Rattle.board.specs.Views.{next_action, own_place, task_of}
-use Rattle.board.specs.Seats.{Known}
+use Rattle.board.specs.Seats.{Known, aim_at, event_of}
 use Rattle.board.specs.inside.Walking.{HasBegun, begins, left_of}
+use Rattle.armus_base.proofs.Codes.{awaited_is, awaited_some}
 use Rattle.board.proofs.Seated.{event_here, next_there, place_made}
 use Rattle.board.proofs.Walking.{HasStepped, IsBefore, before_next, begun_published, begun_then, op_left}
 use Rattle.board_rounds.specs.Turns.{Goes}
@@ -20,7 +21,7 @@ rest_left [] (suc k) x ys e = absurd (cc)
 rest_left (z ∷ zs) zero x ys e = cc
 rest_left (z ∷ zs) (suc k) x ys e = rest_left zs k x ys e
 
-undropped : (k : ℕ) (o : Option ℕ) (x : Action) → o ≡ None → ((p : ℕ) → x ≢ Refuses p) → (next_place k o x).dropped ≡ None
+undropped : (k : ℕ) (o : Option ℕ) (x : Action) → o ≡ None → ((aim : Aim) → x ≢ Refuses aim) → (next_place k o x).dropped ≡ None
 undropped k None (Makes p) e n = refl
 undropped k None (Registers c p) e n = refl
 undropped k None (Forks c) e n = refl
@@ -43,7 +44,7 @@ module _ (begun : ℕ) (op : Op) (k m : Known) (b : IsBefore begun op k) (goes :
       b.begun_so.left ∙ ap (λ o. left_of o (drop begun (code_of k.view.plan (task_of k.view)))) b.idle
       ∙ ap actions_of (op_left (code_of k.view.plan (task_of k.view)) begun op b.op_is)
 
-  stepped : (x : Action) (xs : List Action) → begins op ≡ x → ((p : ℕ) → x ≢ Refuses p) → drop (own_place k.view).done (actions k.view.plan (task_of k.view)) ≡ x ∷ xs → HasStepped k m x xs
+  stepped : (x : Action) (xs : List Action) → begins op ≡ x → ((aim : Aim) → x ≢ Refuses aim) → drop (own_place k.view).done (actions k.view.plan (task_of k.view)) ≡ x ∷ xs → HasStepped k m x xs
   stepped x xs is n first =
       let place : own_place m.view ≡ next_place (own_place k.view).done (own_place k.view).dropped x =
       goes.place.1 ∙ ap (next_place (own_place k.view).done (own_place k.view).dropped) is in
@@ -66,8 +67,8 @@ module _ (begun : ℕ) (op : Op) (k m : Known) (b : IsBefore begun op k) (goes :
       first_is : (o : Op) → op ≡ o → drop (own_place k.view).done (actions k.view.plan (task_of k.view)) ≡ actions_of (o ∷ drop (suc begun) (code_of k.view.plan (task_of k.view)))
       first_is o is = left ∙ ap (λ q. actions_of (q ∷ drop (suc begun) (code_of k.view.plan (task_of k.view)))) is
 
-      member : (p : ℕ) → next_action k.view ≡ Some (Blocks p) → (n : ℕ) × (phases_after k.view.plan (task_of k.view) (own_place k.view).done p ≡ Some n)
-      member p next = b.seat.checked.codes.well_formed (task_of k.view) (own_place k.view).done (Blocks p) (next_there k.view (Blocks p) next).1
+      member : (aim : Aim) → next_action k.view ≡ Some (Blocks aim) → (n : ℕ) × (phases_after k.view.plan (task_of k.view) (own_place k.view).done aim.phaser ≡ Some n)
+      member aim next = (b.seat.checked.codes.well_formed (task_of k.view) (own_place k.view).done (Blocks aim) (next_there k.view (Blocks aim) next).1).0
 
       by_op : (o : Op) → op ≡ o → HasBegun (suc begun) m
       by_op (Make p) is = begun_then k m (Makes p.0) (suc begun) (stepped (Makes p.0) rest (ap begins is) (λ q e. cc) (first_is (Make p) is)) (λ q e. cc)
@@ -75,7 +76,8 @@ module _ (begun : ℕ) (op : Op) (k m : Known) (b : IsBefore begun op k) (goes :
       by_op (Fork c) is = begun_then k m (Forks c.0) (suc begun) (stepped (Forks c.0) rest (ap begins is) (λ q e. cc) (first_is (Fork c) is)) (λ q e. cc)
       by_op (Adv p) is = begun_then k m (Advances p.0) (suc begun) (stepped (Advances p.0) rest (ap begins is) (λ q e. cc) (first_is (Adv p) is)) (λ q e. cc)
       by_op (Drop p) is = begun_then k m (Drops p.0) (suc begun) (stepped (Drops p.0) rest (ap begins is) (λ q e. cc) (first_is (Drop p) is)) (λ q e. cc)
-      by_op (Await p) is =
-          let one = member p.0 (before_next begun op k b ∙ ap (λ o. Some (begins o)) is) in
-          let s = stepped (Blocks p.0) (Passes p.0 ∷ rest) (ap begins is) (λ q e. cc) (first_is (Await p) is) in
-          begun_published k m p.0 (suc begun) (event_at p.0 one.0) s (s.event ∙ ap (event_on p.0) one.1) refl
+      by_op (Await p off) is =
+          let phases : Phases = phases_after k.view.plan (task_of k.view) (own_place k.view).done in
+          let found = awaited_some (aim_at p.0 off) phases (member (aim_at p.0 off) (before_next begun op k b ∙ ap (λ o. Some (begins o)) is)) in
+          let s = stepped (Blocks (aim_at p.0 off)) (Passes p.0 ∷ rest) (ap begins is) (λ q e. cc) (first_is (Await p off) is) in
+          begun_published k m (aim_at p.0 off) (suc begun) found.0 s (s.event ∙ found.1) (awaited_is (aim_at p.0 off) phases found.0 found.1).0

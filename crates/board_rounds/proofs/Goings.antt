@@ -3,7 +3,7 @@ use Rattle.std.proofs.Common.{◌≡◌, ◌≢◌, ℕ, ◌<◌, ◌≤◌, Lis
 use Rattle.std.specs.Prelude.{IsSome, unwrap_or}
 use Rattle.std.proofs.lemmas.Bool.{cases_eq, false≢true}
 use Rattle.armus_base.specs.Limits.{max_phasers}
-use Rattle.armus_base.specs.Plans.{Action, Advances, Blocks, Drops, Forks, Makes, Passes, Plan, Refuses, Registers, action_at}
+use Rattle.armus_base.specs.Plans.{Action, Advances, Blocks, Drops, Forks, Makes, Passes, Plan, Refuses, Registers, action_at, Aim, actions}
 use Rattle.armus_base.specs.Runs.{IsByCode, IsPrefix, Place, moved, next_place}
 use Rattle.armus_base.specs.Seats.{SeenBy, seen_after_step}
 use Rattle.armus_base.proofs.Fixed.{action_within}
@@ -78,7 +78,7 @@ goes_loads k m t own seat goes =
     }
 
 -- one step
-by_code : (plan : Plan) (t k : ℕ) (o : Option ℕ) (x : Action) → o ≡ None → action_at plan t k ≡ Some x → ((p : ℕ) → x ≢ Refuses p) → IsByCode plan t k o x
+by_code : (plan : Plan) (t k : ℕ) (o : Option ℕ) (x : Action) → o ≡ None → action_at plan t k ≡ Some x → ((aim : Aim) → x ≢ Refuses aim) → IsByCode plan t k o x
 by_code plan t k None (Makes p) e is n = is
 by_code plan t k None (Registers c p) e is n = is
 by_code plan t k None (Forks c) e is n = is
@@ -134,7 +134,7 @@ goes_made k m x next step =
       kept = step.kept;
     }
 
-pub goes_step : (k m : Known) (x : Action) → next_action k.view ≡ Some x → ((p : ℕ) → x ≢ Refuses p) → MakesStep x k m → Goes (x ∷ []) k m
+pub goes_step : (k m : Known) (x : Action) → next_action k.view ≡ Some x → ((aim : Aim) → x ≢ Refuses aim) → MakesStep x k m → Goes (x ∷ []) k m
 goes_step k m x next n step =
     let there = next_there k.view x next in
     goes_made k m x (by_code k.view.plan (task_of k.view) (own_place k.view).done (own_place k.view).dropped x there.0 there.1 n) step

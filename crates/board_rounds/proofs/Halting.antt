@@ -1,14 +1,15 @@
 -- What is true of a seat whose task's turn is over, and what its task has begun.
-use Rattle.std.proofs.Common.{◌≡◌, ◌≢◌, ℕ, zero, suc, ◌<◌, ◌+◌, ◌^◌, List, [], ◌∷◌, Option, Some, None, length, drop, sym, refl, ap, ◌∙◌, subst, arith, inl, inr, ◌⊎◌}
+use Rattle.std.proofs.Common.{◌≡◌, ◌≢◌, ℕ, zero, suc, ◌<◌, ◌+◌, ◌*◌, ◌^◌, List, [], ◌∷◌, Option, Some, None, length, drop, sym, refl, ap, ◌∙◌, subst, arith, inl, inr, ◌⊎◌}
 use Rattle.std.specs.Prelude.{slice_get, is_some, false}
 use Rattle.std.proofs.lemmas.Bool.{false≢true}
 use Rattle.std.proofs.lemmas.Option.{slice_get_within}
 use Rattle.armus_base.specs.declared.event.Event.{Event}
 use Rattle.armus_base.specs.declared.op.Op.{Op}
 use Rattle.armus_base.specs.declared.op.Op.TheVariants.{Adv, Await, Drop, Fork, Make, Reg}
+use Rattle.armus_base.specs.Limits.{max_ops}
 use Rattle.armus_base.specs.CheckedPlans.{IsCheckedPlan}
 use Rattle.pl_core.proofs.StepKinds.{few_actions, few_own_ops}
-use Rattle.armus_base.specs.Plans.{Plan, Refuses, action_at, actions, actions_of, code_of}
+use Rattle.armus_base.specs.Plans.{Aim, Plan, Refuses, action_at, actions, actions_of, code_of}
 use Rattle.armus_base.specs.Runs.{Place, first_place}
 use Rattle.armus_base.specs.Places.{phases_at_place}
 use Rattle.armus_base.specs.Seats.{own_event}
@@ -98,13 +99,13 @@ no_one None e = refl
 no_one (Some x) h = absurd (false≢true (sym h))
 
 -- what an op begins with is no refusal
-pub no_refusal : (op : Op) (p : ℕ) → begins op ≢ Refuses p
+pub no_refusal : (op : Op) (aim : Aim) → begins op ≢ Refuses aim
 no_refusal (Make q) p e = cc
 no_refusal (Reg c q) p e = cc
 no_refusal (Fork c) p e = cc
 no_refusal (Adv q) p e = cc
 no_refusal (Drop q) p e = cc
-no_refusal (Await q) p e = cc
+no_refusal (Await q off) p e = cc
 
 pub no_event : (o : Option Event) → is_some o ≡ false → o ≡ None
 no_event None e = refl
@@ -115,6 +116,6 @@ pub events_fit : (plan : Plan) (t k : ℕ) → IsCheckedPlan plan → k < length
 events_fit plan t k checked l = (let few = few_actions plan t checked in omega arith)
 
 -- a task has few ops
-pub op_fits : (plan : Plan) (t begun : ℕ) (op : Op) → IsCheckedPlan plan → slice_get (code_of plan t) begun ≡ Some op → begun < 524288
+pub op_fits : (plan : Plan) (t begun : ℕ) (op : Op) → IsCheckedPlan plan → slice_get (code_of plan t) begun ≡ Some op → begun < 2 * max_ops
 op_fits plan t begun op checked is =
     (let within = slice_get_within (code_of plan t) begun op is in let few = few_own_ops plan t checked in omega arith)

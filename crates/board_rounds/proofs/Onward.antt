@@ -2,15 +2,14 @@
 use Rattle.std.proofs.Common.{◌≡◌, ℕ, suc, ◌<◌, ◌≤◌, ◌+◌, ◌^◌, true, false, List, [], ◌∷◌, ◌++◌, Option, Some, None, length, drop, sym, refl, ap, ◌∙◌, subst, arith}
 use Rattle.std.specs.Prelude.{IsSome}
 use Rattle.std.proofs.lemmas.Bool.{false≢true}
-use Rattle.armus_base.specs.declared.ids.PhaserId.{PhaserId}
 use Rattle.armus_base.specs.declared.op.Op.{Op}
 use Rattle.armus_base.specs.declared.op.Op.TheVariants.{Adv, Await, Drop, Fork, Make, Reg}
 use Rattle.armus_base.specs.Limits.{max_phasers}
-use Rattle.armus_base.specs.Plans.{Action, Advances, Blocks, Drops, Forks, Makes, Passes, Plan, Refuses, Registers, actions, code_of}
+use Rattle.armus_base.specs.Plans.{Aim, Action, Advances, Blocks, Drops, Forks, Makes, Passes, Plan, Refuses, Registers, actions, code_of}
 use Rattle.armus_base.specs.Places.{published_after}
 use Rattle.armus_base.specs.Runs.{Place, next_place}
 use Rattle.armus_base.proofs.Fixed.{action_within}
-use Rattle.board.specs.Seats.{Frame, Known, event_of}
+use Rattle.board.specs.Seats.{Frame, Known, event_of, aim_at, IsSeat}
 use Rattle.board.specs.Steps.{own_phase}
 use Rattle.board.specs.Views.{own_place, task_of}
 use Rattle.board.specs.inside.Walking.{HasBegun, begins, left_of}
@@ -64,7 +63,7 @@ stays_done plan t a (x ∷ own) b some steps =
     let one = dropped_done a.done a.dropped x some in
     stays_done plan t (next_place a.done a.dropped x) own b one.1 steps.1 ∙ one.0
 
-refused_done : (k : ℕ) (o : Option ℕ) (p : ℕ) → o ≡ None → ((next_place k o (Refuses p)).done ≡ k) × IsSome (next_place k o (Refuses p)).dropped
+refused_done : (k : ℕ) (o : Option ℕ) (aim : Aim) → o ≡ None → ((next_place k o (Refuses aim)).done ≡ k) × IsSome (next_place k o (Refuses aim)).dropped
 refused_done k None p e = (refl, refl)
 refused_done k (Some d) p e = absurd (cc)
 
@@ -78,7 +77,7 @@ begins_goes (Reg c p) k m b = b
 begins_goes (Fork c) k m b = b
 begins_goes (Adv p) k m b = b
 begins_goes (Drop p) k m b = b
-begins_goes (Await p) k m b = b
+begins_goes (Await p off) k m b = b
 
 pub goes_begins : (op : Op) (k m : Known) → Goes (begins op ∷ []) k m → Begins op k m Begun
 goes_begins (Make p) k m goes = goes
@@ -86,7 +85,7 @@ goes_begins (Reg c p) k m goes = goes
 goes_begins (Fork c) k m goes = goes
 goes_begins (Adv p) k m goes = goes
 goes_begins (Drop p) k m goes = goes
-goes_begins (Await p) k m goes = goes
+goes_begins (Await p off) k m goes = goes
 
 locked_goes : (op : Op) (k m : Known) → Begins op k m LockedOut → (forks_of (begins op ∷ []) ≡ []) × Goes [] k m × EndsTurn m
 locked_goes (Make p) k m b = absurd b
@@ -94,15 +93,15 @@ locked_goes (Reg c p) k m b = absurd b
 locked_goes (Fork c) k m b = absurd b
 locked_goes (Adv p) k m b = absurd b
 locked_goes (Drop p) k m b = absurd b
-locked_goes (Await p) k m b = (refl, b.0, b.1)
+locked_goes (Await p off) k m b = (refl, b.0, b.1)
 
-refused_goes : (op : Op) (k m : Known) (n : ℕ) → Begins op k m (Refused n) → (forks_of (begins op ∷ []) ≡ []) × (p : PhaserId) × (begins op ≡ Blocks p.0) × IsRefusedAt p.0 n k m
+refused_goes : (op : Op) (k m : Known) (n : ℕ) → Begins op k m (Refused n) → (forks_of (begins op ∷ []) ≡ []) × (aim : Aim) × (begins op ≡ Blocks aim) × IsRefusedAt aim n k m
 refused_goes (Make p) k m n b = absurd b
 refused_goes (Reg c p) k m n b = absurd b
 refused_goes (Fork c) k m n b = absurd b
 refused_goes (Adv p) k m n b = absurd b
 refused_goes (Drop p) k m n b = absurd b
-refused_goes (Await p) k m n b = (refl, p, refl, b)
+refused_goes (Await p off) k m n b = (refl, aim_at p.0 off, refl, b)
 
 -- nothing came of it
 still_come : (begun events t : ℕ) (k m : Known) → k.view.own ≡ Some t → HasCome k begun events false → Goes [] k m → HasCome m begun events false
@@ -167,7 +166,7 @@ module _ (f : Frame) (begun events : ℕ) (k m : Known) (cs ds : List Known) (op
 
     -- the task is refused
     module _ (n : ℕ) (is : Begins op k m (Refused n)) where
-      abbrev r : (forks_of (begins op ∷ []) ≡ []) × (p : PhaserId) × (begins op ≡ Blocks p.0) × IsRefusedAt p.0 n k m
+      abbrev r : (forks_of (begins op ∷ []) ≡ []) × (aim : Aim) × (begins op ≡ Blocks aim) × IsRefusedAt aim n k m
       r = refused_goes op k m n is
 
       few : n ≤ max_phasers
@@ -175,7 +174,7 @@ module _ (f : Frame) (begun events : ℕ) (k m : Known) (cs ds : List Known) (op
 
       pub refused_makes : MakesSome f (n + 1) before now
       refused_makes =
-          some_steps f (Refuses r.1.0 ∷ drops_below (own_phase k.view) (length k.view.plan.makers)) k m cs ds new (n + 1) (begins op) b.seat (before_next begun op k b) r.3.goes grown
+          some_steps f (Refuses r.1 ∷ drops_below (own_phase k.view) (length k.view.plan.makers)) k m cs ds new (n + 1) (begins op) b.seat (before_next begun op k b) r.3.goes grown
           (subst (λ es. AreChildSeats f es new) (sym (drops_fork_nobody (own_phase k.view) (length k.view.plan.makers))) (no_seat f (forks_of (begins op ∷ [])) new r.0 seats))
           (let c = r.3.counted in let l = drops_counted (own_phase k.view) (length k.view.plan.makers) in omega arith) (omega arith) (let l = few in omega arith)
 
@@ -185,11 +184,11 @@ module _ (f : Frame) (begun events : ℕ) (k m : Known) (cs ds : List Known) (op
       pub refused_come : HasCome m begun events true
       refused_come =
           let steps = r.3.goes.place in
-          let first = refused_done (own_place k.view).done (own_place k.view).dropped r.1.0 b.begun_so.unrefused in
+          let first = refused_done (own_place k.view).done (own_place k.view).dropped r.1 b.begun_so.unrefused in
           record {
             free = r.3.goes.same.holds ∙ w.free;
             events_are = w.events_are
-                ∙ sym (stays_done k.view.plan (task_of k.view) (next_place (own_place k.view).done (own_place k.view).dropped (Refuses r.1.0)) (drops_below (own_phase k.view) (length k.view.plan.makers)) (own_place m.view) first.1 steps.1 ∙ first.0);
+                ∙ sym (stays_done k.view.plan (task_of k.view) (next_place (own_place k.view).done (own_place k.view).dropped (Refuses r.1)) (drops_below (own_phase k.view) (length k.view.plan.makers)) (own_place m.view) first.1 steps.1 ∙ first.0);
             begun_are = λ e. absurd (false≢true (sym e));
             left = λ _. r.3.left;
           }

@@ -11,7 +11,7 @@ ghost use Rattle.board_rounds.specs.Turns.{AreChildSeats, Goes, forks_of};
 use crate::deciding::{Attempt, try_to_decide};
 use crate::worker_cells::WorkerCells;
 use adaptive::Wanted;
-use armus_base::{NoMemory, Op, PhaserId, TaskId};
+use armus_base::{NoMemory, Offset, Op, PhaserId, TaskId};
 use board::{Board, Mode, TaskSeat};
 use std::alloc::Global;
 
@@ -22,13 +22,13 @@ pub(crate) fn op_at(code: &[Op], index: u32) -> Option<Op>
     code.get(index as usize).copied()
 }
 
-// The phaser of an await on which is to be decided before it is published, as on each one of a board that avoids deadlock.
-fn phaser_to_decide(op: Op, board: &Board) -> Option<PhaserId>
-    ensures phaser { IfSome result (λ p. (op ≡ Await p) × (avoids board.now.mode ≡ true)) }
-    ensures none { result ≡ None → (p : PhaserId) → op ≡ Await p → avoids board.now.mode ≡ false }
+// The phaser and the offset of an await on which is to be decided before it is published, as on each one of a board that avoids deadlock.
+fn await_to_decide(op: Op, board: &Board) -> Option<(PhaserId, Offset)>
+    ensures awaits { IfSome result (λ r. (op ≡ Await r.0 r.1) × (avoids board.now.mode ≡ true)) }
+    ensures none { result ≡ None → (p : PhaserId) (off : Offset) → op ≡ Await p off → avoids board.now.mode ≡ false }
 {
     match (op, board.mode()) {
-        (Op::Await { p }, Mode::Avoid) => Some(p),
+        (Op::Await { p, off }, Mode::Avoid) => Some((p, off)),
         _ => None,
     }
 }
@@ -64,7 +64,7 @@ fn make_step(
     op: Op,
 ) -> Result<(), NoMemory>
     requires made { IsOf seat.old board.now }
-    requires undecided { (p : PhaserId) → op ≡ Await p → avoids board.now.mode ≡ false }
+    requires undecided { (p : PhaserId) (off : Offset) → op ≡ Await p off → avoids board.now.mode ≡ false }
     requires unlocked { seat.old.view.holds ≡ false }
     requires next { next_action seat.old.view ≡ Some (begins op) }
     requires plan { IsActionOfPlan board.now.plan (begins op) }
@@ -80,8 +80,8 @@ fn make_step(
             seat.adv(board, p);
         }
         Op::Drop { p } => seat.drop_phaser(board, p),
-        Op::Await { p } => {
-            seat.publish(board, p);
+        Op::Await { p, off } => {
+            seat.publish(board, p, off);
         }
         Op::Fork { c } => return fork(seat, children, alloc, board, c),
     }
@@ -109,8 +109,8 @@ pub(crate) fn begin(
     ensures same_children { OnErr result (children.new.items ≡ children.old.items) }
 {
     let _ = seat.id();
-    match phaser_to_decide(op, board) {
-        Some(p) => try_to_decide(seat, alloc, board, p, cells, wanted),
+    match await_to_decide(op, board) {
+        Some((p, off)) => try_to_decide(seat, alloc, board, p, off, cells, wanted),
         None => {
             make_step(seat, children, alloc, board, op)?;
             Ok(Attempt::Begun)

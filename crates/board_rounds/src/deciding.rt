@@ -3,7 +3,7 @@ ghost use Rattle.std.specs.Prelude.{◌≡◌, ◌<◌, ◌≤◌, ◌+◌, Some
 ghost use Rattle.armus_base.specs.Limits.{max_phasers};
 ghost use Rattle.armus_base.specs.Places.{members_below};
 ghost use Rattle.armus_base.specs.Plans.{Blocks};
-ghost use Rattle.board.specs.Seats.{IsOf};
+ghost use Rattle.board.specs.Seats.{IsOf, aim_at};
 ghost use Rattle.board.specs.Steps.{own_phase};
 ghost use Rattle.board.specs.Views.{avoids, next_action};
 ghost use Rattle.board_rounds.specs.inside.Attempts.{IsAttempt};
@@ -11,7 +11,7 @@ ghost use Rattle.board_rounds.specs.Turns.{Goes};
 
 use crate::worker_cells::WorkerCells;
 use adaptive::Wanted;
-use armus_base::{NoMemory, PhaserId};
+use armus_base::{NoMemory, Offset, PhaserId};
 use avoider::{Decision, decide, try_take};
 use board::{Board, TaskSeat};
 use phase_scan::Cells;
@@ -28,12 +28,13 @@ pub(crate) enum Attempt {
     Refused(u32),
 }
 
-/// Takes the lock, if nobody holds it, and decides on the await of `p`, which comes next. The lock is free after it.
+/// Takes the lock, if nobody holds it, and decides on the await of `p` with this offset, which comes next. The lock is free after it.
 pub(crate) fn try_to_decide(
     seat: &mut TaskSeat,
     alloc: Global,
     board: &Board,
     p: PhaserId,
+    off: Offset,
     cells: &mut WorkerCells,
     wanted: Wanted,
 ) -> Result<Attempt, NoMemory>
@@ -41,13 +42,13 @@ pub(crate) fn try_to_decide(
     requires phaser { p.0 < length board.now.plan.makers }
     requires avoids { avoids board.now.mode ≡ true }
     requires unlocked { seat.old.view.holds ≡ false }
-    requires next { next_action seat.old.view ≡ Some (Blocks p.0) }
-    ensures attempt { IfOk result (IsAttempt p.0 seat.old seat.new) }
+    requires next { next_action seat.old.view ≡ Some (Blocks (aim_at p.0 off)) }
+    ensures attempt { IfOk result (IsAttempt (aim_at p.0 off) seat.old seat.new) }
     ensures undecided { OnErr result (Goes [] seat.old seat.new) }
 {
     let _ = seat.id();
     let mut own = cells.take(alloc, board)?;
-    let tried = decide_with(seat, alloc, board, p, &mut own, wanted);
+    let tried = decide_with(seat, alloc, board, p, off, &mut own, wanted);
     cells.keep(board, own);
     tried
 }
@@ -58,6 +59,7 @@ fn decide_with(
     alloc: Global,
     board: &Board,
     p: PhaserId,
+    off: Offset,
     cells: &mut Cells,
     wanted: Wanted,
 ) -> Result<Attempt, NoMemory>
@@ -65,10 +67,10 @@ fn decide_with(
     requires phaser { p.0 < length board.now.plan.makers }
     requires avoids { avoids board.now.mode ≡ true }
     requires unlocked { seat.old.view.holds ≡ false }
-    requires next { next_action seat.old.view ≡ Some (Blocks p.0) }
+    requires next { next_action seat.old.view ≡ Some (Blocks (aim_at p.0 off)) }
     requires tasks { cells.old.tasks ≡ length board.now.plan.parents }
     requires phasers { cells.old.phasers ≡ length board.now.plan.makers }
-    ensures attempt { IfOk result (IsAttempt p.0 seat.old seat.new) }
+    ensures attempt { IfOk result (IsAttempt (aim_at p.0 off) seat.old seat.new) }
     ensures undecided { OnErr result (Goes [] seat.old seat.new) }
     ensures tasks { cells.new.tasks ≡ cells.old.tasks }
     ensures phasers { cells.new.phasers ≡ cells.old.phasers }
@@ -79,7 +81,7 @@ fn decide_with(
         Err(_) => return Ok(Attempt::LockedOut),
         Ok(()) => {}
     }
-    match decide(alloc, seat, board, p, cells, wanted)? {
+    match decide(alloc, seat, board, p, off, cells, wanted)? {
         Decision::Published(_) => Ok(Attempt::Begun),
         Decision::Refused(_) => Ok(Attempt::Refused(phasers)),
     }

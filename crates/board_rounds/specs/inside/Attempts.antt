@@ -4,9 +4,9 @@ use Rattle.std.proofs.Common.{zero, suc}
 use Rattle.armus_base.specs.declared.op.Op.{Op}
 use Rattle.armus_base.specs.declared.op.Op.TheVariants.{Await}
 use Rattle.armus_base.specs.Places.{members_below}
-use Rattle.armus_base.specs.Plans.{Action, Blocks, Drops, Refuses}
+use Rattle.armus_base.specs.Plans.{Aim, Action, Blocks, Drops, Refuses}
 use Rattle.armus_base.specs.States.{Phases}
-use Rattle.board.specs.Seats.{Known}
+use Rattle.board.specs.Seats.{Known, aim_at}
 use Rattle.board.specs.Steps.{own_phase}
 use Rattle.board.specs.inside.Walking.{begins}
 use Rattle.board_rounds.specs.declared.deciding.Attempt.{Attempt}
@@ -18,20 +18,20 @@ abbrev pub drops_below : Phases → ℕ → List Action
 drops_below phases zero = []
 drops_below phases (suc p) = drops_below phases p ++ (if is_some (phases p) then Drops p ∷ [] else [])
 
--- the seat's task was refused at its await of p, and has left all its phasers, so many
-pub record IsRefusedAt (p drops : ℕ) (before now : Known) : Type 0 where
-  pub goes : Goes (Refuses p ∷ drops_below (own_phase before.view) (length before.view.plan.makers)) before now
+-- the seat's task was refused at its await with this aim, and has left all its phasers, so many
+pub record IsRefusedAt (aim : Aim) (drops : ℕ) (before now : Known) : Type 0 where
+  pub goes : Goes (Refuses aim ∷ drops_below (own_phase before.view) (length before.view.plan.makers)) before now
   pub left : HasLeftAll now
   pub counted : drops ≡ members_below (own_phase before.view) (length before.view.plan.makers)
 
--- What came of an attempt at the await of p that comes next: the lock was found taken, and the turn is over; or it was published; or it was refused.
-abbrev pub IsAttempt : ℕ → Known → Known → Attempt → Type 0
-IsAttempt p before now LockedOut = Goes [] before now × EndsTurn now
-IsAttempt p before now Begun = Goes (Blocks p ∷ []) before now
-IsAttempt p before now (Refused drops) = IsRefusedAt p drops before now
+-- What came of an attempt at the await with this aim that comes next: the lock was found taken, and the turn is over; or it was published; or it was refused.
+abbrev pub IsAttempt : Aim → Known → Known → Attempt → Type 0
+IsAttempt aim before now LockedOut = Goes [] before now × EndsTurn now
+IsAttempt aim before now Begun = Goes (Blocks aim ∷ []) before now
+IsAttempt aim before now (Refused drops) = IsRefusedAt aim drops before now
 
 -- what came of an op that was to begin: the same of an await, and every other one has begun
 abbrev pub Begins : Op → Known → Known → Attempt → Type 0
-Begins (Await p) before now tried = IsAttempt p.0 before now tried
+Begins (Await p off) before now tried = IsAttempt (aim_at p.0 off) before now tried
 Begins op before now Begun = Goes (begins op ∷ []) before now
 Begins op before now tried = ⊥

@@ -13,7 +13,7 @@ on_ok (Err e) p = tt
 pub returns-in-Some-clause-children : goal.returns-in-Some-clause-children
 returns-in-Some-clause-children c =
     on_ok c.try_to_decide.result
-    ([], sym (append-nil c.args.children.now.items), subst (λ o. AreChildSeats c.args.board.now (forks_of (begins o ∷ [])) []) (sym c.in-Some.ensures.phaser.0) no_child)
+    ([], sym (append-nil c.args.children.now.items), subst (λ o. AreChildSeats c.args.board.now (forks_of (begins o ∷ [])) []) (sym c.in-Some.ensures.awaits.0) no_child)
 
 pub returns-in_ok-make_step-in-None-clause-begins : goal.returns-in_ok-make_step-in-None-clause-begins
 returns-in_ok-make_step-in-None-clause-begins c =

@@ -1,7 +1,7 @@
 use Rattle.std.proofs.Common.{◌≡◌, ◌∙◌, [], ◌∷◌, ap, subst, sym, length}
 use Rattle.armus_base.specs.Places.{members_below}
 use Rattle.armus_base.specs.Plans.{Blocks, Plan}
-use Rattle.board.specs.Seats.{IsSeat, Known}
+use Rattle.board.specs.Seats.{IsSeat, Known, aim_at}
 use Rattle.board.specs.Steps.{own_phase}
 use Rattle.board.specs.Views.{avoids, next_action}
 use Rattle.avoider.specs.declared.decision.Decision.{Decision}
@@ -13,7 +13,7 @@ use Rattle.board_rounds.proofs.deciding.decide_with.Goals.{in-Published, in-Refu
 use Rattle.board_rounds.proofs.deciding.decide_with.Goals as goal
 
 pub try_take-requires-clause-next : goal.try_take-requires-clause-next
-try_take-requires-clause-next c = (c.args.p.0, ap (λ (k : Known). next_action k.view) c.memberships-phasers.ensures.seat ∙ c.requires.next)
+try_take-requires-clause-next c = (aim_at c.args.p.0 c.args.off, ap (λ (k : Known). next_action k.view) c.memberships-phasers.ensures.seat ∙ c.requires.next)
 
 pub returns-in-Err-clause-attempt : goal.returns-in-Err-clause-attempt
 returns-in-Err-clause-attempt c =
@@ -24,7 +24,7 @@ returns-in-Err-clause-attempt c =
     let next = ap (λ (k : Known). next_action k.view) same ∙ c.requires.next in (
       subst (λ (k : Known). Goes [] k c.try_take.new.seat) same
           (goes_locked_out c.in-Err.field-0.holder.0 c.memberships-phasers.new.seat c.try_take.new.seat c.id.result.0 own seat avoiding c.in-Err.ensures.busy),
-      ends_locked_out c.in-Err.field-0.holder.0 c.memberships-phasers.new.seat c.try_take.new.seat c.id.result.0 own seat avoiding c.in-Err.ensures.busy c.args.p.0 next,
+      ends_locked_out c.in-Err.field-0.holder.0 c.memberships-phasers.new.seat c.try_take.new.seat c.id.result.0 own seat avoiding c.in-Err.ensures.busy (aim_at c.args.p.0 c.args.off) next,
     )
 
 pub returns-clause-attempt : goal.returns-clause-attempt
@@ -35,17 +35,17 @@ returns-clause-attempt c =
     let own = ap (λ (k : Known). k.view.own) same ∙ c.id.ensures.task in
     let free = ap (λ (k : Known). k.view.holds) same ∙ c.requires.unlocked in
     let next = ap (λ (k : Known). next_action k.view) same ∙ c.requires.next in
-    let told : (d : Decision) → c.in_ok-decide.field-0 ≡ d → IsDecidedOnBoard c.decide.new.cells.statuses c.args.p.0 c.try_take.new.seat now d =
-    λ d is. subst (λ e. IsDecidedOnBoard c.decide.new.cells.statuses c.args.p.0 c.try_take.new.seat now e) is c.in_ok-decide.ensures.decision in
+    let told : (d : Decision) → c.in_ok-decide.field-0 ≡ d → IsDecidedOnBoard c.decide.new.cells.statuses (aim_at c.args.p.0 c.args.off) c.try_take.new.seat now d =
+    λ d is. subst (λ e. IsDecidedOnBoard c.decide.new.cells.statuses (aim_at c.args.p.0 c.args.off) c.try_take.new.seat now e) is c.in_ok-decide.ensures.decision in
     elim c.match-branch-2.branch [
       | in-Published w ↦
           rw w.result-is
-          (subst (λ (k : Known). Goes (Blocks c.args.p.0 ∷ []) k now) same
-          (goes_published first c.try_take.new.seat now c.id.result.0 c.args.p.0 own free next c.in-Ok.ensures.taken _ _ (told _ w.in-Published.is).0 (told _ w.in-Published.is).1))
+          (subst (λ (k : Known). Goes (Blocks (aim_at c.args.p.0 c.args.off) ∷ []) k now) same
+          (goes_published first c.try_take.new.seat now c.id.result.0 (aim_at c.args.p.0 c.args.off) own free next c.in-Ok.ensures.taken _ _ (told _ w.in-Published.is)))
       | in-Refused w ↦
           rw w.result-is
-          (subst (λ (k : Known). IsRefusedAt c.args.p.0 c.memberships-phasers.result k now) same
-          (goes_refused first c.try_take.new.seat now c.id.result.0 c.args.p.0 own free next c.in-Ok.ensures.taken _ _ (told _ w.in-Refused.is) c.memberships-phasers.result
+          (subst (λ (k : Known). IsRefusedAt (aim_at c.args.p.0 c.args.off) c.memberships-phasers.result k now) same
+          (goes_refused first c.try_take.new.seat now c.id.result.0 (aim_at c.args.p.0 c.args.off) own free next c.in-Ok.ensures.taken _ _ (told _ w.in-Refused.is) c.memberships-phasers.result
           (c.memberships-phasers.ensures.counted ∙ ap (λ (q : Plan). members_below (own_phase c.args.seat.now.view) (length q.makers)) (sym c.requires.made.plan)
           ∙ ap (λ (k : Known). members_below (own_phase k.view) (length k.view.plan.makers)) (sym same))))
     ]
