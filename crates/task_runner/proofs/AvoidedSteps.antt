@@ -3,7 +3,7 @@ use Rattle.std.proofs.Common.{◌≡◌, ◌≢◌, ℕ, Bool, true, false, List
 use Rattle.std.proofs.lemmas.Bool.{false≢true}
 use Rattle.armus_base.specs.CheckedPlans.{IsCheckedPlan}
 use Rattle.armus_base.specs.Places.{state_at}
-use Rattle.armus_base.specs.Plans.{Action, Advances, Blocks, Drops, Forks, Makes, Passes, Plan, Refuses, Registers, action_at}
+use Rattle.armus_base.specs.Plans.{Aim, Action, Advances, Blocks, Drops, Forks, Makes, Passes, Plan, Refuses, Registers, action_at}
 use Rattle.armus_base.specs.Runs.{IsByCode, IsLegalRun, Place, moved, places, state_after}
 use Rattle.armus_base.specs.Serial.{GoesOn, IsDecided}
 use Rattle.armus_base.specs.States.{IsLegal, State, Step}
@@ -14,7 +14,7 @@ use Rattle.pl_core.specs.Worlds.{WorldValue, places_of, state_of}
 use Rattle.avoider.specs.declared.decision.Decision.{Decision}
 use Rattle.avoider.specs.declared.decision.Decision.TheVariants.{Published, Refused}
 use Rattle.avoider.specs.Decisions.{HasGoneOn, IsDecision, MakesOtherEvent}
-use Rattle.avoider.proofs.Supposing.{awaits_event, blocks_next}
+use Rattle.avoider.proofs.Supposing.{blocks_next}
 use Rattle.task_runner.specs.AvoidedRuns.{GoesOnTo, LeadsTo}
 
 -- the state after a run that leads to the world
@@ -44,18 +44,18 @@ module _ (plan : Plan) (checked : IsCheckedPlan plan) where
 
   -- who is refused stood before its await
   refuses_next :
-      (a : ℕ → Place) (t p : ℕ) (drops : List ℕ) (b : ℕ → Place) → LeadsOn plan a (drops_from t drops ++ record { task = t; action = Refuses p } ∷ []) b →
-      action_at plan t (a t).done ≡ Some (Blocks p)
-  refuses_next a t p [] b leads =
-      subst (λ (c : ℕ → Place). action_at plan t (c t).done ≡ Some (Blocks p)) (sym leads.1) (by_place (leads.0 t).done (leads.0 t).dropped leads.2)
+      (a : ℕ → Place) (t : ℕ) (aim : Aim) (drops : List ℕ) (b : ℕ → Place) → LeadsOn plan a (drops_from t drops ++ record { task = t; action = Refuses aim } ∷ []) b →
+      action_at plan t (a t).done ≡ Some (Blocks aim)
+  refuses_next a t aim [] b leads =
+      subst (λ (c : ℕ → Place). action_at plan t (c t).done ≡ Some (Blocks aim)) (sym leads.1) (by_place (leads.0 t).done (leads.0 t).dropped leads.2)
     where
-      by_place : (k : ℕ) (o : Option ℕ) → IsByCode plan t k o (Refuses p) → action_at plan t k ≡ Some (Blocks p)
+      by_place : (k : ℕ) (o : Option ℕ) → IsByCode plan t k o (Refuses aim) → action_at plan t k ≡ Some (Blocks aim)
       by_place k None code = code
       by_place k (Some q) code = absurd code
-  refuses_next a t p (d ∷ drops) b leads = refuses_next a t p drops leads.0 leads.1
+  refuses_next a t aim (d ∷ drops) b leads = refuses_next a t aim drops leads.0 leads.1
 
 -- an action that neither blocks nor refuses needs no decision
-decided_else : (s : State) (t : ℕ) (x : Action) → ((p : ℕ) → x ≢ Blocks p) → ((p : ℕ) → x ≢ Refuses p) → IsDecided s t x
+decided_else : (s : State) (t : ℕ) (x : Action) → ((aim : Aim) → x ≢ Blocks aim) → ((aim : Aim) → x ≢ Refuses aim) → IsDecided s t x
 decided_else s t (Blocks p) b r = absurd (b p refl)
 decided_else s t (Refuses p) b r = absurd (r p refl)
 decided_else s t (Makes p) b r = tt
@@ -67,8 +67,8 @@ decided_else s t (Passes p) b r = tt
 
 -- a refusal that was decided, and the drops after it
 pub refusal_goes_on :
-    (plan : Plan) (t p : ℕ) (drops : List ℕ) (h : List Step) → IsDecided (state_after h) t (Refuses p) →
-    GoesOn plan t h (drops_from t drops ++ record { task = t; action = Refuses p } ∷ [])
+    (plan : Plan) (t : ℕ) (aim : Aim) (drops : List ℕ) (h : List Step) → IsDecided (state_after h) t (Refuses aim) →
+    GoesOn plan t h (drops_from t drops ++ record { task = t; action = Refuses aim } ∷ [])
 refusal_goes_on plan t p [] h decided = (tt, refl, decided)
 refusal_goes_on plan t p (d ∷ drops) h decided = (refusal_goes_on plan t p drops h decided, refl, tt)
 
@@ -106,22 +106,23 @@ module _ (old new : WorldValue) (checked : IsCheckedPlan old.plan) (t : ℕ) whe
 
   decision_adds : (d : Decision) → IsDecision old new t d → (h : List Step) → LeadsTo old.plan h old → Adds h
   decision_adds (Published e) is h leads =
-      let block : is.step.action ≡ Blocks e.p.0 =
-      (let both : Some is.step.action ≡ Some (Blocks e.p.0) = sym is.step.next ∙ blocks_next old t e is.before in cc) in
+      let next = blocks_next old t e is.before in
+      let block : is.step.action ≡ Blocks next.0 = (let both : Some is.step.action ≡ Some (Blocks next.0) = sym is.step.next ∙ next.1 in cc) in
       step_adds is.step h leads
-      (subst (λ x. IsDecided (state_of old) t x) (sym block) (e, awaits_event old t e is.before, is.alive))
+      (subst (λ x. IsDecided (state_of old) t x) (sym block) (e, next.2, is.alive))
   decision_adds (Refused c) is h leads =
       let r = is.refusal in
-      let own = drops_from t r.drops ++ record { task = t; action = Refuses r.phaser } ∷ [] in
+      let own = drops_from t r.drops ++ record { task = t; action = Refuses r.aim } ∷ [] in
       let run = leads_run old.plan checked (places_of old) own (places_of new) h leads.run leads.there r.run in
-      let phaser : is.event.p.0 ≡ r.phaser =
-      (let both : Some (Blocks is.event.p.0) ≡ Some (Blocks r.phaser) =
-      sym (blocks_next old t is.event is.before) ∙ refuses_next old.plan checked (places_of old) t r.phaser r.drops (places_of new) r.run in cc) in
-      let decided : IsDecided (state_of old) t (Refuses r.phaser) =
-      subst (λ p. IsDecided (state_of old) t (Refuses p)) phaser (is.event, awaits_event old t is.event is.before, is.dead) in (
+      let next = blocks_next old t is.event is.before in
+      let same : next.0 ≡ r.aim =
+      (let both : Some (Blocks next.0) ≡ Some (Blocks r.aim) =
+      sym next.1 ∙ refuses_next old.plan checked (places_of old) t r.aim r.drops (places_of new) r.run in cc) in
+      let decided : IsDecided (state_of old) t (Refuses r.aim) =
+      subst (λ aim. IsDecided (state_of old) t (Refuses aim)) same (is.event, next.2, is.dead) in (
         own,
         record { plan_is = r.plan; run = run.0; there = run.1 },
-        refusal_goes_on old.plan t r.phaser r.drops h (subst (λ v. IsDecided v t (Refuses r.phaser)) (sym (same_state h leads)) decided),
+        refusal_goes_on old.plan t r.aim r.drops h (subst (λ v. IsDecided v t (Refuses r.aim)) (sym (same_state h leads)) decided),
       )
 
   pub gone_on_adds : HasGoneOn old new t → (h : List Step) → LeadsTo old.plan h old → Adds h

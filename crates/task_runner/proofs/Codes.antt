@@ -1,10 +1,11 @@
 -- The ops of a code, and the children that they fork.
-use Rattle.std.proofs.Common.{◌≡◌, ◌<◌, ◌≤◌, ℕ, List, Some, length, arith, sym, ◌∙◌, ap, subst}
+use Rattle.std.proofs.Common.{◌≡◌, ◌<◌, ◌≤◌, ◌*◌, ℕ, List, Some, length, arith, sym, ◌∙◌, ap, subst}
 use Rattle.std.specs.Prelude.{slice_get, option_map}
 use Rattle.std.proofs.lemmas.Option.{slice_get_within}
 use Rattle.armus_base.specs.declared.ids.TaskId.{TaskId}
 use Rattle.armus_base.specs.declared.op.Op.{Op}
 use Rattle.armus_base.specs.declared.op.Op.TheVariants.{Fork}
+use Rattle.armus_base.specs.Limits.{max_ops}
 use Rattle.armus_base.specs.CheckedPlans.{IsCheckedPlan}
 use Rattle.armus_base.specs.Plans.{Forks, Plan, action_at, actions, code_of}
 use Rattle.armus_base.proofs.Codes.{child_within}
@@ -25,5 +26,5 @@ child_is_task plan t k c checked e =
     child_within plan t c.0 (checked.codes.well_formed t (actions_before (code_of plan t) k) (Forks c.0) (fork_there plan t k c e)).0
 
 -- a task has few ops
-pub own_ops_fit : (plan : Plan) (t : ℕ) (ops : List Op) → IsCheckedPlan plan → ops ≡ code_of plan t → length ops ≤ 524288
-own_ops_fit plan t ops checked is = subst (λ xs. length xs ≤ 524288) (sym is) (few_own_ops plan t checked)
+pub own_ops_fit : (plan : Plan) (t : ℕ) (ops : List Op) → IsCheckedPlan plan → ops ≡ code_of plan t → length ops ≤ 2 * max_ops
+own_ops_fit plan t ops checked is = subst (λ xs. length xs ≤ 2 * max_ops) (sym is) (few_own_ops plan t checked)

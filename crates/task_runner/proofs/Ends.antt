@@ -6,7 +6,7 @@ use Rattle.std.proofs.lemmas.Bool.{cases_eq, cases_lt}
 use Rattle.armus_base.specs.declared.event.Event.{Event}
 use Rattle.armus_base.specs.declared.ending.Final.{Final}
 use Rattle.armus_base.specs.Finals.{final_of}
-use Rattle.armus_base.specs.Plans.{Action, Passes, Plan, Refuses, Drops}
+use Rattle.armus_base.specs.Plans.{Aim, Action, Passes, Plan, Refuses, Drops}
 use Rattle.armus_base.specs.States.{IsActive, Step}
 use Rattle.armus_base.specs.Runs.{HasEnded, IsFinal, IsLegalRun, IsMaximal, IsPlain, IsReachable, is_done, is_waiting, next_place, places, state_after}
 use Rattle.armus_base.specs.Places.{refused_at}
@@ -45,9 +45,9 @@ unrefused_plain plan (e ∷ h) run none = (unrefused_plain plan h run.0 before, 
               ap (λ v. v.dropped) (sym (updated_other (places h) e.task t (next_place (places h e.task).done (places h e.task).dropped e.action) other)) ∙ none t
         ]
 
-    refuses : (p : ℕ) → e.action ≡ Refuses p → ⊥
-    refuses p is =
-        absurd (let refused : (next_place (places h e.task).done None (Refuses p)).dropped ≡ None =
+    refuses : (aim : Aim) → e.action ≡ Refuses aim → ⊥
+    refuses aim is =
+        absurd (let refused : (next_place (places h e.task).done None (Refuses aim)).dropped ≡ None =
         subst (λ x. (next_place (places h e.task).done None x).dropped ≡ None) is
         (subst (λ o. (next_place (places h e.task).done o e.action).dropped ≡ None) (before e.task) own) in cc)
 

@@ -9,7 +9,7 @@ use Rattle.armus_base.specs.declared.event.Event.{Event}
 use Rattle.armus_base.specs.CheckedPlans.{IsCheckedPlan}
 use Rattle.armus_base.specs.Deadlocks.{WouldBeDead}
 use Rattle.armus_base.specs.Places.{members_below, phases_after, state_at}
-use Rattle.armus_base.specs.Plans.{Action, Blocks, Passes, Refuses}
+use Rattle.armus_base.specs.Plans.{Aim, Action, Blocks, Passes, Refuses}
 use Rattle.armus_base.specs.Runs.{IsByCode, IsReachable, Place, moved, next_place}
 use Rattle.armus_base.specs.Serial.{GoesOn, IsDecided}
 use Rattle.armus_base.specs.States.{IsActive, IsLegal, IsReached, Step, after, awaited, if_published}
@@ -27,7 +27,7 @@ use Rattle.pl_core.proofs.GoingOn.{goes_on, legal_when_active, legal_when_reache
 use Rattle.pl_core.proofs.OneStep.{places_set_other, places_set_same, regular}
 use Rattle.pl_core.proofs.Refusing.{dropping, drops_lead}
 use Rattle.pl_core.proofs.Standing.{place_is}
-use Rattle.avoider.proofs.Supposing.{awaits_event, blocks_next, supposed_of_plan}
+use Rattle.avoider.proofs.Supposing.{blocks_next, supposed_of_plan}
 use Rattle.task_runner.specs.AvoidedRuns.{LeadsTo, left_in}
 use Rattle.task_runner.proofs.AvoidedSteps.{leads_run, leads_state, refusal_goes_on, step_adds}
 use Rattle.task_runner.proofs.DeadOrNot.{dead_or_not}
@@ -61,7 +61,7 @@ module _ (w : WorldValue) (checked : IsCheckedPlan w.plan) (reach : IsReachable 
     done : (places_of w t).done ≡ place.events
     done = ap (λ p. p.done) (place_is w.plan w.places t place there)
 
-    no_refusing : (p : ℕ) → x ≢ Refuses p
+    no_refusing : (aim : Aim) → x ≢ Refuses aim
     no_refusing p e = no_refusal w.plan t (places_of w t).done p (next ∙ ap Some e)
 
     abbrev stepped : WorldValue
@@ -124,8 +124,16 @@ module _ (w : WorldValue) (checked : IsCheckedPlan w.plan) (reach : IsReachable 
 
   -- a refusal and its drops
   module _ (e : Event) (before : IsAtAwaitOf w t e) (dead : WouldBeDead (state_of w) t e) where
-    blocks : action_by_code w t ≡ Some (Blocks e.p.0)
-    blocks = blocks_next w t e before
+    aim : Aim
+    aim = (blocks_next w t e before).0
+
+    blocks : action_by_code w t ≡ Some (Blocks aim)
+    unfolding aim
+    blocks = (blocks_next w t e before).1
+
+    awaits : awaited (Some (Blocks aim)) ((state_of w).phases t) ≡ Some e
+    unfolding aim
+    awaits = (blocks_next w t e before).2
 
     undropped_there : (places_of w t).dropped ≡ None
     undropped_there = unrefused_is_undropped w checked reach t before.0.unrefused
@@ -134,15 +142,15 @@ module _ (w : WorldValue) (checked : IsCheckedPlan w.plan) (reach : IsReachable 
     unfolding state_of
     active_there = before.0
 
-    may_block : IsLegal w.plan (state_at w.plan (places_of w)) t (Blocks e.p.0)
+    may_block : IsLegal w.plan (state_at w.plan (places_of w)) t (Blocks aim)
     unfolding state_of
-    may_block = legal_when_active w checked reach t (Blocks e.p.0) before.0 blocks
+    may_block = legal_when_active w checked reach t (Blocks aim) before.0 blocks
 
     standing : Standing
     standing = get_or w.places t (record { events = 0; refused = false })
 
     within : t < length w.places
-    within = (let l = action_of_task w.plan checked t (places_of w t).done (Blocks e.p.0) blocks in omega arith)
+    within = (let l = action_of_task w.plan checked t (places_of w t).done (Blocks aim) blocks in omega arith)
 
     stands : slice_get w.places t ≡ Some standing
     unfolding standing
@@ -155,7 +163,7 @@ module _ (w : WorldValue) (checked : IsCheckedPlan w.plan) (reach : IsReachable 
     own = phases_after w.plan t (places_of w t).done
 
     abbrev last : ℕ → Place
-    last = dropping w.plan checked (places_of w) t e.p.0 active_there undropped_there blocks may_block (length w.plan.makers)
+    last = dropping w.plan checked (places_of w) t aim active_there undropped_there blocks may_block (length w.plan.makers)
 
     seen : places_of refused ≡ last
     seen =
@@ -170,11 +178,11 @@ module _ (w : WorldValue) (checked : IsCheckedPlan w.plan) (reach : IsReachable 
               ∙ sym (updated_other (places_of w) t u (record { done = (places_of w t).done; dropped = Some (members_below own (length w.plan.makers)) }) other)
         ])
 
-    lead : (drops : List ℕ) × LeadsOn w.plan (places_of w) (drops_from t drops ++ record { task = t; action = Refuses e.p.0 } ∷ []) last
-    lead = drops_lead w.plan checked (places_of w) t e.p.0 active_there undropped_there blocks may_block (length w.plan.makers)
+    lead : (drops : List ℕ) × LeadsOn w.plan (places_of w) (drops_from t drops ++ record { task = t; action = Refuses aim } ∷ []) last
+    lead = drops_lead w.plan checked (places_of w) t aim active_there undropped_there blocks may_block (length w.plan.makers)
 
-    decided : IsDecided (state_of w) t (Refuses e.p.0)
-    decided = (e, awaits_event w t e before, dead)
+    decided : IsDecided (state_of w) t (Refuses aim)
+    decided = (e, awaits, dead)
 
     by_refusal : Goes
     by_refusal = (
@@ -184,11 +192,11 @@ module _ (w : WorldValue) (checked : IsCheckedPlan w.plan) (reach : IsReachable 
         sized = length-set w.places t (refused_there standing);
         less = refused_leaves_less w refused t standing refl stands refl (undropped_flag w t standing stands undropped_there);
         adds = λ h leads.
-            let steps = drops_from t lead.0 ++ record { task = t; action = Refuses e.p.0 } ∷ [] in
+            let steps = drops_from t lead.0 ++ record { task = t; action = Refuses aim } ∷ [] in
             let run = leads_run w.plan checked (places_of w) steps last h leads.run leads.there lead.1 in (
               steps,
               record { plan_is = refl; run = run.0; there = run.1 ∙ sym seen },
-              refusal_goes_on w.plan t e.p.0 lead.0 h (subst (λ s. IsDecided s t (Refuses e.p.0)) (sym (leads_state w.plan checked h w leads)) decided),
+              refusal_goes_on w.plan t aim lead.0 h (subst (λ s. IsDecided s t (Refuses aim)) (sym (leads_state w.plan checked h w leads)) decided),
             );
       },
     )
@@ -199,15 +207,15 @@ module _ (w : WorldValue) (checked : IsCheckedPlan w.plan) (reach : IsReachable 
       subst (λ s. IsReached s e ⊎ (IsReached s e → ⊥)) (reachable_is_fixed w.plan (places_of w) checked reach).0
       (reached_or_not w.plan checked reach.steps reach.run e.p.0 e.n)
 
-  by_await : (p : ℕ) → action_by_code w t ≡ Some (Blocks p) → IsLegal w.plan (state_of w) t (Blocks p) → Goes
-  by_await p next legal =
-      let awaits = awaited_some p ((state_of w).phases t) legal.1 in
+  by_await : (aim : Aim) → action_by_code w t ≡ Some (Blocks aim) → IsLegal w.plan (state_of w) t (Blocks aim) → Goes
+  by_await aim next legal =
+      let awaits = awaited_some aim ((state_of w).phases t) legal.1 in
       let before : IsAtAwaitOf w t awaits.0 = (legal.0, ap (λ o. awaited o ((state_of w).phases t)) next ∙ awaits.1) in
-      let task = action_of_task w.plan checked t (places_of w t).done (Blocks p) next in
+      let task = action_of_task w.plan checked t (places_of w t).done (Blocks aim) next in
       let supposed = supposed_of_plan w checked reach t task awaits.0 in
       elim (dead_or_not (if_published (state_of w) t awaits.0) (length w.plan.parents) supposed.published supposed.member t) [
         | inl dead ↦ by_refusal awaits.0 before dead
-        | inr alive ↦ by_step (Blocks p) next legal (unrefused_is_undropped w checked reach t legal.0.unrefused) (awaits.0, awaits.1, alive)
+        | inr alive ↦ by_step (Blocks aim) next legal (unrefused_is_undropped w checked reach t legal.0.unrefused) (awaits.0, awaits.1, alive)
       ]
 
   by_action : (x : Action) → IsActive (state_of w) t → action_by_code w t ≡ Some x → IsLegal w.plan (state_of w) t x → Goes

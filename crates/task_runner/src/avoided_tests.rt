@@ -1,7 +1,7 @@
 // The run that avoids deadlock over two tasks that would wait for each other.
 use crate::{RunOptions, run_avoid};
 use adaptive::Wanted;
-use armus_base::{Code, Event, List, NoMemory, Op, PhaserId, Plan, Still, TaskEnd, TaskId};
+use armus_base::{Code, Event, List, NoMemory, Offset, Op, PhaserId, Plan, Still, TaskEnd, TaskId};
 use std::alloc::Global;
 use std::test::Fail;
 
@@ -26,9 +26,18 @@ fn two_tasks(alloc: Global) -> Result<Plan, NoMemory> {
         Op::Reg { c: CHILD, p: B },
         Op::Fork { c: CHILD },
         Op::Adv { p: A },
-        Op::Await { p: A },
+        Op::Await {
+            p: A,
+            off: Offset::Here
+        },
     ]?;
-    let second = vec![in alloc; Op::Adv { p: B }, Op::Await { p: B }]?;
+    let second = vec![in alloc;
+        Op::Adv { p: B },
+        Op::Await {
+            p: B,
+            off: Offset::Here
+        },
+    ]?;
     let codes = vec![in alloc;
         Code::from_ops(List::from_vec(first)),
         Code::from_ops(List::from_vec(second)),

@@ -1,7 +1,7 @@
 // Recorded runs of two tasks that wait for each other, and of two tasks that a gate makes act side by side.
 use crate::{RunOptions, run_journal, run_plain};
 use adaptive::Wanted;
-use armus_base::{Code, Gate, List, NoMemory, Op, PhaserId, Plan, Point, Still, TaskId};
+use armus_base::{Code, Gate, List, NoMemory, Offset, Op, PhaserId, Plan, Point, Still, TaskId};
 use std::alloc::Global;
 use std::sync::atomic::{AtomicBool, Ordering};
 use std::test::Fail;
@@ -31,9 +31,18 @@ fn two_tasks(alloc: Global) -> Result<Plan, NoMemory> {
         Op::Reg { c: FIRST, p: B },
         Op::Fork { c: FIRST },
         Op::Adv { p: A },
-        Op::Await { p: A },
+        Op::Await {
+            p: A,
+            off: Offset::Here
+        },
     ]?;
-    let second = vec![in alloc; Op::Adv { p: B }, Op::Await { p: B }]?;
+    let second = vec![in alloc;
+        Op::Adv { p: B },
+        Op::Await {
+            p: B,
+            off: Offset::Here
+        },
+    ]?;
     let codes = vec![in alloc;
         Code::from_ops(List::from_vec(first)),
         Code::from_ops(List::from_vec(second)),
