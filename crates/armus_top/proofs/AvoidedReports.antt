@@ -12,7 +12,6 @@ use Rattle.armus_base.specs.Serial.{IsSerialAvoidedFinal}
 use Rattle.armus_base.specs.States.{State, Step}
 use Rattle.armus_base.proofs.NobodyIsDead.{nobody_is_dead}
 use Rattle.armus_base.proofs.SerialFinalIsAvoided.{serial_final_is_avoided}
-use Rattle.pl_plan.proofs.UnfoldedIsChecked.{unfolded_is_checked}
 use Rattle.armus_base.specs.Statuses.{IsInOrder}
 use Rattle.armus_base.proofs.StatusesAre.{statuses_are}
 use Rattle.adaptive.specs.declared.analysis.Wanted.{Wanted}
@@ -21,6 +20,7 @@ use Rattle.task_runner.specs.AvoidedRuns.{IsAvoidedEnd, IsSerialEnd}
 use Rattle.armus_words.specs.Words.{Text}
 use Rattle.armus_top.specs.Programs.{IsPlanOf}
 use Rattle.armus_top.specs.Avoids.{IsAvoidOf, IsNeverDead, TellsRefused, ended_refused}
+use Rattle.armus_top.proofs.OnePlan.{checked_plan}
 
 pub avoided_end_in_order : (plan : Plan) (end : Final) → IsCheckedPlan plan → IsAvoidedEnd plan end → IsInOrder end.blocked
 avoided_end_in_order plan end checked is =
@@ -78,7 +78,7 @@ never_dead plan checked steps run more before same = nobody_is_dead plan before 
 
 module _ (input : Text) (plan : Plan) (g : Wanted) (end : Final) (some : Bool) (text : Text) (plan_is : IsPlanOf input plan) (some_is : some ≡ list_any ended_refused end.ends) (reports : IsReport end g text) where
   checked : IsCheckedPlan plan
-  checked = unfolded_is_checked plan_is.0 plan plan_is.1.unfolds
+  checked = checked_plan input plan plan_is
 
   told : (workers : ℕ) (state : State) → end ≡ final_of plan state → IsAvoidedFinal plan state → (workers ≡ 1 → IsSerialAvoidedFinal plan state) → IsAvoidOf input workers g (if some then 1 else 0) text
   told workers state is avoided serial = record {

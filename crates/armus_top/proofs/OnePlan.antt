@@ -45,8 +45,8 @@ plain_near skip w = tt
 near : (p : Tree) → TreeIsWritable p → AreNear p
 near done w = tt
 near (plain s rest) w = (plain_near s w.0, near rest w.1)
-near (fork x body rest) w = (near body w.1.0, near rest w.1.1)
-near (loop k body rest) w = (near body w.1.0, near rest w.1.1)
+near (fork x body rest) w = (near body w.1, near rest w.2)
+near (loop k body rest) w = (near body w.1, near rest w.2)
 
 -- the plan of a text is checked
 pub checked_plan : (text : Text) (plan : Plan) → IsPlanOf text plan → IsCheckedPlan plan

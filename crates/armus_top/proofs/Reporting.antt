@@ -11,13 +11,13 @@ use Rattle.armus_base.specs.States.{State}
 use Rattle.armus_base.specs.Statuses.{IsInOrder}
 use Rattle.armus_base.proofs.DeadByStatuses.{dead_by_final, run_is_of_plan}
 use Rattle.armus_base.proofs.StatusesAre.{statuses_are}
-use Rattle.pl_plan.proofs.UnfoldedIsChecked.{unfolded_is_checked}
 use Rattle.adaptive.specs.declared.analysis.Wanted.{Wanted}
 use Rattle.report.specs.Reports.{IsReport, IsSomeDead}
 use Rattle.task_runner.specs.PlainRuns.{IsPlainEnd}
 use Rattle.armus_words.specs.Words.{Text}
 use Rattle.armus_top.specs.Programs.{IsPlanOf, TellsDead}
 use Rattle.armus_top.specs.Runs.{IsRunOf}
+use Rattle.armus_top.proofs.OnePlan.{checked_plan}
 
 pub plain_end_in_order : (plan : Plan) (end : Final) → IsCheckedPlan plan → IsPlainEnd plan end → IsInOrder end.blocked
 plain_end_in_order plan end checked is =
@@ -31,7 +31,7 @@ tells state final false same is = inr (refl, λ t dead. let yes = is.1 (t, (same
 pub run_of : (input : Text) (plan : Plan) (g : Wanted) (end : Final) (dead : Bool) (text : Text) → IsPlanOf input plan → IsPlainEnd plan end
     → (IsTrue dead ↔ IsSomeDead end.blocked) → IsReport end g text → IsRunOf input g (if dead then 1 else 0) text
 run_of input plan g end dead text plan_is is is_dead reports =
-    let checked : IsCheckedPlan plan = unfolded_is_checked plan_is.0 plan plan_is.1.unfolds in
+    let checked : IsCheckedPlan plan = checked_plan input plan plan_is in
     let state = is.state in
     let of_plan : IsOfPlan plan state = subst (λ (s : State). IsOfPlan plan s) is.final.there (run_is_of_plan plan is.final.steps checked is.final.run.0) in
     record {

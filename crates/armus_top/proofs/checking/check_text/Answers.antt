@@ -5,7 +5,7 @@ use Rattle.armus_top.proofs.Answering.{by_end}
 use Rattle.armus_top.proofs.checking.check_text.Goals as goal
 
 pub answer_check-requires : goal.answer_check-requires
-answer_check-requires g c = (search rules, c.in-Ok.ensures.plan.reads.shallow, c.in-Ok.ensures.offsets)
+answer_check-requires g c = (search rules, (c.in-Ok.ensures.plan.reads.shallow, c.in-Ok.ensures.offsets))
 
 pub returns-in-Ok-clause-done : goal.returns-in-Ok-clause-done
 returns-in-Ok-clause-done g c = c.answer_check.ensures.done _ c.in-Ok.ensures.plan

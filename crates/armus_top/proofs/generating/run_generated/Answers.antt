@@ -1,13 +1,13 @@
 use Rattle.std.proofs.Common.{◌∙◌, subst}
 use Rattle.gen_text.specs.Generated.{generated_text}
-use Rattle.pl_plan.proofs.UnfoldedIsChecked.{unfolded_is_checked}
 use Rattle.adaptive.specs.declared.analysis.Wanted.TheVariants as wanted
 use Rattle.armus_top.specs.Programs.{IsPlanOf}
+use Rattle.armus_top.proofs.OnePlan.{checked_plan}
 use Rattle.armus_top.proofs.Reporting.{plain_end_in_order, run_of}
 use Rattle.armus_top.proofs.generating.run_generated.Goals as goal
 
 pub report_of-requires : goal.report_of-requires
-report_of-requires g c = plain_end_in_order _ _ (unfolded_is_checked _ _ c.in_ok-checked.ensures.plan.unfolds) c.in-Ok.ensures.ran.end
+report_of-requires g c = plain_end_in_order _ _ (checked_plan _ _ (_, c.in_ok-checked.ensures.plan)) c.in-Ok.ensures.ran.end
 
 pub returns-in-Ok-clause-run : goal.returns-in-Ok-clause-run
 returns-in-Ok-clause-run g c =

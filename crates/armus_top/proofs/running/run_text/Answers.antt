@@ -1,12 +1,12 @@
 use Rattle.std.proofs.Common.{refl, rules}
-use Rattle.pl_plan.proofs.UnfoldedIsChecked.{unfolded_is_checked}
 use Rattle.armus_words.specs.declared.command.Command.TheVariants.{Run}
 use Rattle.armus_top.specs.Programs.{IsFaultOf}
 use Rattle.armus_top.proofs.Answering.{by_end}
+use Rattle.armus_top.proofs.OnePlan.{checked_plan}
 use Rattle.armus_top.proofs.running.run_text.Goals as goal
 
 pub answer_run-requires : goal.answer_run-requires
-answer_run-requires g c = (search rules, (search rules, (search rules, (c.requires.workers, unfolded_is_checked _ _ c.in-Ok.ensures.plan.unfolds))))
+answer_run-requires g c = (search rules, (search rules, (search rules, (c.requires.workers, checked_plan _ _ (_, c.in-Ok.ensures.plan)))))
 
 pub returns-in-Ok-clause-done : goal.returns-in-Ok-clause-done
 returns-in-Ok-clause-done g c = c.answer_run.ensures.done _ (_, c.in-Ok.ensures.plan)
