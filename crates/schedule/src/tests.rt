@@ -34,9 +34,18 @@ fn two_tasks(alloc: Global) -> Result<Plan, NoMemory> {
         Op::Reg { c: CHILD, p: B },
         Op::Fork { c: CHILD },
         Op::Adv { p: A },
-        Op::Await { p: A, off: Offset::Here },
+        Op::Await {
+            p: A,
+            off: Offset::Here
+        },
     ]?;
-    let second = vec![in alloc; Op::Adv { p: B }, Op::Await { p: B, off: Offset::Here }]?;
+    let second = vec![in alloc;
+        Op::Adv { p: B },
+        Op::Await {
+            p: B,
+            off: Offset::Here
+        },
+    ]?;
     let codes = vec![in alloc;
         Code::from_ops(List::from_vec(first)),
         Code::from_ops(List::from_vec(second)),
