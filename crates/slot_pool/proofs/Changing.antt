@@ -8,7 +8,7 @@ use Rattle.atomic_table.specs.Table.{State}
 use Rattle.atomic_table.proofs.Lists.{at_set, set_else, set_here}
 use Rattle.slot_pool.specs.declared.setting.Setting.{Setting}
 use Rattle.slot_pool.specs.declared.view.View.{View}
-use Rattle.slot_pool.specs.Rule.{Fits, IsHad, IsPlaced, PoolHolds, Stands, at_home, nowhere, out}
+use Rattle.slot_pool.specs.inside.Rule.{Fits, IsHad, IsPlacedIn, PoolHolds, StandsInPool, at_home, nowhere, out}
 
 -- an index at which something is lies inside
 pub found_within : {A : Type 0} (xs : List A) (i : ℕ) (a : A) → get_elem? xs i ≡ some a → i < length xs
@@ -28,13 +28,13 @@ pub record Renews (t : ℕ) (v w : View) : Type 0 where
   pub has_still : (u : ℕ) → u ≢ t → Contains v.has u → Contains w.has u
 
 module _ (views : List View) (id t : ℕ) (v w : View) (at : get_elem? views id ≡ some v) (re : Renews t v w) where
-  pub renewed_placed : (u : ℕ) → u ≢ t → IsPlaced (set views id w) u → IsPlaced views u
+  pub renewed_placed : (u : ℕ) → u ≢ t → IsPlacedIn (set views id w) u → IsPlacedIn views u
   renewed_placed u n p = elim (at_set views id p.index w p.view p.found) [
     | inl e ↦ record { index = id; view = v; found = at; placed = re.placed u n (subst (λ (x : View). Contains x.placed u) (sym e.1) p.placed) }
     | inr e ↦ record { index = p.index; view = p.view; found = e.1; placed = p.placed }
   ]
 
-  pub placed_renewed : (u : ℕ) → IsPlaced views u → IsPlaced (set views id w) u
+  pub placed_renewed : (u : ℕ) → IsPlacedIn views u → IsPlacedIn (set views id w) u
   placed_renewed u p = elim (cases_eq p.index id) [
     | inl e ↦
         let same : p.view ≡ v = some-injective p.view v (sym p.found ∙ ap (get_elem? views) e ∙ at) in
@@ -77,7 +77,7 @@ module _ {R : Type 0} (number_of : R → ℕ) (key : Setting) (s : State (Option
     abbrev s' : State (Option R) View
     s' = record { words = set s.words t n; homes = set s.homes t h; views = set s.views id w }
 
-    elsewhere : (u : ℕ) → u ≢ t → Stands number_of s u → Stands number_of s' u
+    elsewhere : (u : ℕ) → u ≢ t → StandsInPool number_of s u → StandsInPool number_of s' u
     elsewhere u other st = elim st [
       | nowhere word home not ↦ nowhere (get_or-set_other s.words t u n 0 other ∙ word) (set_else s.homes t u h other ∙ home) (λ p. not (renewed_placed s.views id t v w at re u other p))
       | at_home r word home name p ↦ at_home r (get_or-set_other s.words t u n 0 other ∙ word) (set_else s.homes t u h other ∙ home) name (placed_renewed s.views id t v w at re u p)
@@ -120,14 +120,14 @@ module _ {R : Type 0} (number_of : R → ℕ) (key : Setting) (s : State (Option
 
     pub changed :
         (k : ℕ) → v.numbers ≡ k ∷ [] → n ≢ 0 → (Contains w.has t → n ≡ k + 2) → ((j : ℕ) (x : View) → j ≢ id → get_elem? s.views j ≡ some x → Contains x.has t → ⊥) →
-        Stands number_of (record { words = set s.words t n; homes = set s.homes t h; views = set s.views id w }) t →
+        StandsInPool number_of (record { words = set s.words t n; homes = set s.homes t h; views = set s.views id w }) t →
         PoolHolds number_of key (record { words = set s.words t n; homes = set s.homes t h; views = set s.views id w })
     changed k mine some_word with_me free stands =
         record {
           words = length-set s.words t n ∙ holds.words;
           slots = length-set s.homes t h ∙ holds.slots;
           tasks = λ u l. elim (cases_eq u t) [
-            | inl e ↦ subst (Stands number_of s') (sym e) stands
+            | inl e ↦ subst (StandsInPool number_of s') (sym e) stands
             | inr other ↦ elsewhere u other (holds.tasks u l)
           ];
           views = λ j x e. elim (at_set s.views id j w x e) [
@@ -169,7 +169,7 @@ module _ {R : Type 0} (number_of : R → ℕ) (key : Setting) (s : State (Option
             has = λ u c. let had = f.has u (subst (λ (ts : List ℕ). Contains ts u) (sym has) c) in (had.0, re.numbers ∙ had.1, had.2, had.3);
           }
 
-      back : (u : ℕ) → IsPlaced (set s.views id w) u → IsPlaced s.views u
+      back : (u : ℕ) → IsPlacedIn (set s.views id w) u → IsPlacedIn s.views u
       back u p = elim (at_set s.views id p.index w p.view p.found) [
         | inl e ↦ record { index = id; view = v; found = at; placed = subst (λ (ts : List ℕ). Contains ts u) (ap (λ (x : View). x.placed) (sym e.1) ∙ sym placed) p.placed }
         | inr e ↦ record { index = p.index; view = p.view; found = e.1; placed = p.placed }

@@ -10,8 +10,8 @@ use Rattle.atomic_table.proofs.Lists.{set_here}
 use Rattle.slot_pool.specs.declared.setting.Setting.{Setting}
 use Rattle.slot_pool.specs.declared.view.View.{View}
 use Rattle.slot_pool.specs.Views.{claiming, finding, placing, trying}
-use Rattle.slot_pool.specs.Rule.{IsHad, IsPlaced, PoolHolds, Stands, at_home, nowhere, out}
-use Rattle.slot_pool.specs.Steps.{Begun, Claimed}
+use Rattle.slot_pool.specs.inside.Rule.{IsHad, IsPlacedIn, PoolHolds, StandsInPool, at_home, nowhere, out}
+use Rattle.slot_pool.specs.inside.Steps.{Begun, Claimed}
 use Rattle.slot_pool.proofs.Members.{contains_else, contains_first, contains_none, contains_rest}
 use Rattle.slot_pool.proofs.Changing.{Renews, changed, found_within, looked, placed_renewed}
 
@@ -62,7 +62,7 @@ module _ {R : Type 0} (number_of : R → ℕ) (key : Setting) where
   -- the slot of a task that nobody has becomes a worker's
   taken :
       (s : State (Option R) View) → PoolHolds number_of key s → (id t k m : ℕ) (v w : View) → get_elem? s.views id ≡ some v → v.numbers ≡ k ∷ [] → t < key.tasks →
-      slice_index s.words t ≡ m → m < 2 → Renews t v w → Contains w.has t → IsPlaced (set s.views id w) t →
+      slice_index s.words t ≡ m → m < 2 → Renews t v w → Contains w.has t → IsPlacedIn (set s.views id w) t →
       PoolHolds number_of key (record { words = set s.words t (k + 2); homes = set s.homes t none; views = set s.views id w })
   taken s holds id t k m v w at mine small word two re has placed =
       changed number_of key s holds id t v w at re (k + 2) none small k mine (λ e. omega arith) (λ c. refl) (λ j x o xj. had_word s holds t m j x word two xj)
@@ -108,7 +108,7 @@ module _ {R : Type 0} (number_of : R → ℕ) (key : Setting) where
     pub claims : Allows (PoolHolds number_of key) slots id me t (λ n. either (eqb n 1) (k + 2) n) (Claimed number_of (step slots t 1 (k + 2) none) me)
     claims s holds long at fits = by_place (holds.tasks t small)
       where
-        by_place : Stands number_of s t → Owes s (slice_index s.words t) (either (eqb (slice_index s.words t) 1) (k + 2) (slice_index s.words t)) claim_told
+        by_place : StandsInPool number_of s t → Owes s (slice_index s.words t) (either (eqb (slice_index s.words t) 1) (k + 2) (slice_index s.words t)) claim_told
         by_place (nowhere word home not) =
             subst (λ m. Owes s (slice_index s.words t) m claim_told) (sym (missed (slice_index s.words t) 1 (k + 2) (λ e. omega arith)))
             (learns claim_told s holds at (trying t 0 me.0) (tries_renews t 0 me.0 k mine) refl refl (λ c. (holds.views id me.0 at).knows t c)
@@ -147,7 +147,7 @@ module _ {R : Type 0} (number_of : R → ℕ) (key : Setting) where
             subst (λ m. Owes s (slice_index s.words t) m begin_told) (sym (missed (slice_index s.words t) 0 (k + 2) some_word))
             (learns begin_told s holds at (finding t (slice_index s.words t) me.0) (finds_renews t (slice_index s.words t) me.0 k mine) refl refl (λ c. some_word) (record { placed = λ e. absurd (some_word e); refused = λ e. refl }))
 
-        by_place : Stands number_of s t → Owes s (slice_index s.words t) (either (eqb (slice_index s.words t) 0) (k + 2) (slice_index s.words t)) begin_told
+        by_place : StandsInPool number_of s t → Owes s (slice_index s.words t) (either (eqb (slice_index s.words t) 0) (k + 2) (slice_index s.words t)) begin_told
         by_place (nowhere word home not) =
             subst (λ m. Owes s m (either (eqb m 0) (k + 2) m) begin_told) (sym word) (
               placing t me.0,

@@ -7,7 +7,7 @@ use Rattle.atomic_table.specs.Table.{Final, Seen, State}
 use Rattle.slot_pool.specs.declared.setting.Setting.{Setting}
 use Rattle.slot_pool.specs.declared.view.View.{View}
 use Rattle.slot_pool.specs.Closing.{AreHome}
-use Rattle.slot_pool.specs.Rule.{IsHad, IsPlaced, PoolHolds, Stands, at_home, nowhere, out}
+use Rattle.slot_pool.specs.inside.Rule.{IsHad, IsPlacedIn, PoolHolds, StandsInPool, at_home, nowhere, out}
 use Rattle.slot_pool.proofs.Members.{contains_first, contains_none}
 
 -- the two ways to read a list agree
@@ -30,7 +30,7 @@ module _
       let here : i ≡ id = holds.one_view i id k x v e at c (all k ((holds.views i x e).number k c).0) in
       some-injective x v (sym e ∙ ap (get_elem? s.views) here ∙ at)
 
-  all_here : (t : ℕ) → IsPlaced s.views t → Contains v.placed t
+  all_here : (t : ℕ) → IsPlacedIn s.views t → Contains v.placed t
   all_here t p = by_numbers p.view.numbers refl
     where
       by_numbers : (ns : List ℕ) → p.view.numbers ≡ ns → Contains v.placed t
@@ -43,12 +43,12 @@ module _
       contains_none t (subst (λ ts. Contains ts t) (ap (λ (y : View). y.has) mine ∙ idle) h.has)
 
   module _ (slots : List (Option R)) (same : length s.homes ≡ length slots) (values : (k : ℕ) (y : Option R) → get_elem? s.homes k ≡ some (some y) → get_elem? slots k ≡ some y) where
-    home_placed : (t : ℕ) (r : R) → slice_get slots t ≡ Some (Some r) → Stands number_of s t → Contains v.placed t × number_of r ≡ t
+    home_placed : (t : ℕ) (r : R) → slice_get slots t ≡ Some (Some r) → StandsInPool number_of s t → Contains v.placed t × number_of r ≡ t
     home_placed t r e (nowhere word home not) = absurd (let f = read_same slots t None (Some r) (values t None home) e in cc)
     home_placed t r e (at_home x word home name p) = (all_here t p, (let f : Some x ≡ Some r = read_same slots t (Some x) (Some r) (values t (Some x) home) e in let g : x ≡ r = cc in ap number_of (sym g)) ∙ name)
     home_placed t r e (out k word home had p) = absurd (none_out k t had)
 
-    home_empty : (t : ℕ) → slice_get slots t ≡ Some None → Stands number_of s t → Contains v.placed t → ⊥
+    home_empty : (t : ℕ) → slice_get slots t ≡ Some None → StandsInPool number_of s t → Contains v.placed t → ⊥
     home_empty t e (nowhere word home not) c = not (record { index = id; view = v; found = at; placed = c })
     home_empty t e (at_home x word home name p) c = let f = read_same slots t (Some x) None (values t (Some x) home) e in cc
     home_empty t e (out k word home had p) c = none_out k t had

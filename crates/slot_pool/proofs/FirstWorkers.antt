@@ -2,21 +2,21 @@
 use Rattle.std.proofs.Common.{◌≡◌, ℕ, zero, suc, ◌+◌, ◌<◌, [], ◌∷◌, sym, refl, subst, arith}
 use Rattle.std.specs.Prelude.{All, Contains}
 use Rattle.std.proofs.lemmas.List.FromFn.{get_or-map-range_with_len, length-map-range_with_len}
-use Rattle.slot_pool.specs.Hands.{Frame, Hand, IsNumberOf, IsOf, first_workers}
-use Rattle.slot_pool.specs.Views.{first_view}
+use Rattle.slot_pool.specs.Hands.{PoolValue, Hand, IsNumberOf, IsOfPool, first_workers}
+use Rattle.slot_pool.specs.Views.{starting_view}
 use Rattle.slot_pool.proofs.JoinedAll.{any_first, any_rest}
 use Rattle.slot_pool.proofs.Members.{contains_first}
 
-module _ (pool : Frame) where
+module _ (pool : PoolValue) where
   abbrev worker : ℕ → Hand
-  worker k = record { table = pool.table; view = first_view pool.workers k }
+  worker k = record { table = pool.table; view = starting_view pool.workers k }
 
   is_worker : (P : Hand → Type 0) → ((k : ℕ) → P (worker k)) → All P (first_workers pool)
   is_worker P each k d l =
       subst P (sym (get_or-map-range_with_len worker 0 pool.workers k k d (let e = length-map-range_with_len worker 0 pool.workers in omega arith) (let z : 0 + k ≡ k = omega arith in z))) (each k)
 
-  pub first_made : All (λ w. IsOf w pool) (first_workers pool)
-  first_made = is_worker (λ w. IsOf w pool) (λ k. record { table = refl; workers = refl })
+  pub first_made : All (λ w. IsOfPool w pool) (first_workers pool)
+  first_made = is_worker (λ w. IsOfPool w pool) (λ k. record { table = refl; workers = refl })
 
   pub first_idle : All (λ w. w.view.has ≡ []) (first_workers pool)
   first_idle = is_worker (λ w. w.view.has ≡ []) (λ k. refl)

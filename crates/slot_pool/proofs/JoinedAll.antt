@@ -6,7 +6,7 @@ use Rattle.std.proofs.lemmas.List.Elements.{All-contains, Contains-append_left, 
 use Rattle.slot_pool.specs.declared.view.View.{View}
 use Rattle.slot_pool.specs.inside.Gathering.{Gathers}
 use Rattle.slot_pool.specs.Hands.{Hand, IsNumberOf}
-use Rattle.slot_pool.specs.Views.{joined}
+use Rattle.slot_pool.specs.inside.Views.{joined}
 use Rattle.slot_pool.proofs.Members.{contains_one}
 
 -- one of a longer list is the first, or one of the others

@@ -9,8 +9,8 @@ use Rattle.atomic_table.specs.Table.{Joins, Splits, State}
 use Rattle.atomic_table.proofs.Lists.{at_set, at_longer, at_last, set_else, set_here}
 use Rattle.slot_pool.specs.declared.setting.Setting.{Setting}
 use Rattle.slot_pool.specs.declared.view.View.{View}
-use Rattle.slot_pool.specs.Views.{joined, left_over, split_off, spent_view}
-use Rattle.slot_pool.specs.Rule.{Fits, IsHad, IsPlaced, PoolHolds, at_home, nowhere, out}
+use Rattle.slot_pool.specs.inside.Views.{joined, left_over, split_off, blank_view}
+use Rattle.slot_pool.specs.inside.Rule.{Fits, IsHad, IsPlacedIn, PoolHolds, at_home, nowhere, out}
 use Rattle.slot_pool.proofs.Members.{contains_first, contains_none, contains_one, contains_rest}
 use Rattle.slot_pool.proofs.Changing.{found_within}
 
@@ -29,8 +29,8 @@ nothing_had v t idle c = contains_none t (subst (λ ts. Contains ts t) idle c)
 
 -- the same words and slots under other views: what was placed still is and nothing else, and who has something is there as before
 pub record Rearranges (before now : List View) : Type 0 where
-  pub placed : (u : ℕ) → IsPlaced now u → IsPlaced before u
-  pub placed_still : (u : ℕ) → IsPlaced before u → IsPlaced now u
+  pub placed : (u : ℕ) → IsPlacedIn now u → IsPlacedIn before u
+  pub placed_still : (u : ℕ) → IsPlacedIn before u → IsPlacedIn now u
   pub had_still : (k u : ℕ) → IsHad before k u → IsHad now k u
 
 rearranged :
@@ -186,15 +186,15 @@ module _
   first_set = set s.views id both
 
   abbrev joined_views : List View
-  joined_views = set first_set other spent_view
+  joined_views = set first_set other blank_view
 
   data Comes (i : ℕ) (x : View) : Type 0 where
     as_before : get_elem? s.views i ≡ some x → i ≢ id → i ≢ other → Comes i x
     as_both : i ≡ id → both ≡ x → Comes i x
-    as_spent : spent_view ≡ x → Comes i x
+    as_spent : blank_view ≡ x → Comes i x
 
   comes : (i : ℕ) (x : View) → get_elem? joined_views i ≡ some x → Comes i x
-  comes i x e = elim (at_set first_set other i spent_view x e) [
+  comes i x e = elim (at_set first_set other i blank_view x e) [
     | inl a ↦ as_spent a.1
     | inr a ↦ elim (at_set s.views id i both x a.1) [
       | inl b ↦ as_both b.0 b.1
@@ -203,10 +203,10 @@ module _
   ]
 
   both_there : get_elem? joined_views id ≡ some both
-  both_there = set_else first_set other id spent_view (λ e. apart' (sym e)) ∙ set_here s.views id both (found_within s.views id v at)
+  both_there = set_else first_set other id blank_view (λ e. apart' (sym e)) ∙ set_here s.views id both (found_within s.views id v at)
 
   stays : (i : ℕ) (x : View) → get_elem? s.views i ≡ some x → i ≢ id → i ≢ other → get_elem? joined_views i ≡ some x
-  stays i x e n o = set_else first_set other i spent_view o ∙ set_else s.views id i both n ∙ e
+  stays i x e n o = set_else first_set other i blank_view o ∙ set_else s.views id i both n ∙ e
 
   is_first : (i : ℕ) (x : View) → get_elem? s.views i ≡ some x → i ≡ id → x ≡ v
   is_first i x e same = some-injective x v (sym e ∙ ap (get_elem? s.views) same ∙ at)
@@ -257,7 +257,7 @@ module _
         has = λ u c. absurd (nothing_had v u idle c);
       }
 
-  spent_fits : Fits key s.words spent_view
+  spent_fits : Fits key s.words blank_view
   spent_fits = record { number = λ m c. absurd (contains_none m c); blank = λ e. refl; knows = λ u c. absurd (contains_none u c); has = λ u c. absurd (contains_none u c) }
 
   all_fit : (i : ℕ) (x : View) → get_elem? joined_views i ≡ some x → Fits key s.words x
@@ -298,6 +298,6 @@ module _
 
 pub joins_in :
     {R : Type 0} (number_of : R → ℕ) (key : Setting) (id other : ℕ) (v w : View) (k : ℕ) → Contains v.numbers k → v.has ≡ [] → w.has ≡ [] →
-    Joins (PoolHolds number_of key) id v other w (joined v w) spent_view
+    Joins (PoolHolds number_of key) id v other w (joined v w) blank_view
 joins_in number_of key id other v w k mine idle idle' s holds at apart' found =
     all_joined number_of key id other v w k mine idle idle' s holds at apart' (sym (set_else s.views id other (joined v w) apart') ∙ found)

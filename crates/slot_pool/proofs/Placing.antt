@@ -7,8 +7,8 @@ use Rattle.atomic_table.proofs.Lists.{set_here}
 use Rattle.slot_pool.specs.declared.setting.Setting.{Setting}
 use Rattle.slot_pool.specs.declared.view.View.{View}
 use Rattle.slot_pool.specs.Views.{giving}
-use Rattle.slot_pool.specs.Rule.{IsPlaced, PoolHolds, at_home, nowhere, out}
-use Rattle.slot_pool.specs.Steps.{Given}
+use Rattle.slot_pool.specs.inside.Rule.{IsPlacedIn, PoolHolds, at_home, nowhere, out}
+use Rattle.slot_pool.specs.inside.Steps.{GivenBack}
 use Rattle.slot_pool.proofs.Members.{contains_else, contains_first, contains_rest}
 use Rattle.slot_pool.proofs.Changing.{Renews, changed, placed_renewed}
 
@@ -27,7 +27,7 @@ gives_renews t k v us mine had =
 
 module _ {R : Type 0} (number_of : R → ℕ) (key : Setting) where
   -- a task that a view has was placed
-  had_placed : (s : State (Option R) View) → PoolHolds number_of key s → (t i k : ℕ) (v : View) → slice_index s.words t ≡ k + 2 → t < key.tasks → IsPlaced s.views t
+  had_placed : (s : State (Option R) View) → PoolHolds number_of key s → (t i k : ℕ) (v : View) → slice_index s.words t ≡ k + 2 → t < key.tasks → IsPlacedIn s.views t
   had_placed s holds t i k v word small = elim (holds.tasks t small) [
     | nowhere w home not ↦ absurd (omega arith)
     | at_home r w home name p ↦ absurd (omega arith)
@@ -36,7 +36,7 @@ module _ {R : Type 0} (number_of : R → ℕ) (key : Setting) where
 
   pub gives_home :
       (slots id k t : ℕ) (v : View) (r : R) (more : List (ℕ × Option R)) (us : List ℕ) → v.numbers ≡ k ∷ [] → v.has ≡ t ∷ us → (Contains us t → ⊥) → number_of r ≡ t →
-      Allows (PoolHolds number_of key) slots id (v, (t, Some r) ∷ more) t (λ n. 1) (λ n. Given (step slots t 1 0 none) (v, (t, Some r) ∷ more) 1)
+      Allows (PoolHolds number_of key) slots id (v, (t, Some r) ∷ more) t (λ n. 1) (λ n. GivenBack (step slots t 1 0 none) (v, (t, Some r) ∷ more) 1)
   gives_home slots id k t v r more us mine had once name s holds long at fits =
       let f = holds.views id v at in
       let own = f.has t (subst (λ ts. Contains ts t) (sym had) (contains_first t us)) in

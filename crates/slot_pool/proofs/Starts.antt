@@ -9,8 +9,8 @@ use lib.ListN.{get_elem?}
 use Rattle.atomic_table.specs.Table.{State, opening}
 use Rattle.slot_pool.specs.declared.setting.Setting.{Setting}
 use Rattle.slot_pool.specs.declared.view.View.{View}
-use Rattle.slot_pool.specs.Views.{opening_view}
-use Rattle.slot_pool.specs.Rule.{Fits, IsPlaced, PoolHolds, Stands, at_home, nowhere}
+use Rattle.slot_pool.specs.inside.Views.{opening_view}
+use Rattle.slot_pool.specs.inside.Rule.{Fits, IsPlacedIn, PoolHolds, StandsInPool, at_home, nowhere}
 use Rattle.slot_pool.proofs.Members.{contains_first, contains_none, contains_one}
 
 -- a number among those below a bound
@@ -45,10 +45,10 @@ module _ {R : Type 0} (number_of : R → ℕ) (key : Setting) (n : ℕ) (first :
   alone zero v e = (refl, some-injective (opening_view key.workers) v e)
   alone (suc i) v e = absurd (let f : none ≡ some v = e in cc)
 
-  only_first : (t : ℕ) → IsPlaced start.views t → t ≡ 0
+  only_first : (t : ℕ) → IsPlacedIn start.views t → t ≡ 0
   only_first t p = let a = alone p.index p.view p.found in contains_one 0 t (subst (λ (y : View). Contains y.placed t) (sym a.1) p.placed)
 
-  stands : (t : ℕ) → t < key.tasks → Stands number_of start t
+  stands : (t : ℕ) → t < key.tasks → StandsInPool number_of start t
   stands zero l = at_home first refl refl name (record { index = 0; view = opening_view key.workers; found = refl; placed = contains_first 0 [] })
   stands (suc t) l = nowhere (zeros n t) (nones n t (omega arith)) (λ p. let e = only_first (suc t) p in absurd (omega arith))
 

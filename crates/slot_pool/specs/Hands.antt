@@ -5,18 +5,18 @@ use Rattle.atomic_table.specs.Seated.{TableId}
 use Rattle.slot_pool.specs.declared.claim.Claim.{Claim}
 use Rattle.slot_pool.specs.declared.claim.Claim.TheVariants.{Got, Held, Empty}
 use Rattle.slot_pool.specs.declared.view.View.{View}
-use Rattle.slot_pool.specs.Views.{claiming, finding, first_view, giving, placing, trying}
+use Rattle.slot_pool.specs.Views.{claiming, finding, starting_view, giving, placing, trying}
 
 -- the most tasks of a pool
-abbrev pub max_tasks : ℕ
-max_tasks = 4096
+abbrev pub max_pool_tasks : ℕ
+max_pool_tasks = 4096
 
 -- the most workers of a pool
 abbrev pub max_workers : ℕ
 max_workers = 64
 
 -- which pool it is, and how many tasks and workers it has
-pub record Frame : Type 0 where
+pub record PoolValue : Type 0 where
   pub table : TableId
   pub tasks : ℕ
   pub workers : ℕ
@@ -27,7 +27,7 @@ pub record Hand : Type 0 where
   pub view : View
 
 -- the worker was made by this pool
-pub record IsOf (worker : Hand) (pool : Frame) : Type 0 where
+pub record IsOfPool (worker : Hand) (pool : PoolValue) : Type 0 where
   pub table : worker.table ≡ pool.table
   pub workers : worker.view.workers ≡ pool.workers
 
@@ -42,8 +42,8 @@ abbrev pub seeing : Hand → View → Hand
 seeing worker v = record { table = worker.table; view = v }
 
 -- the workers of a pool at its start, in order of number
-abbrev pub first_workers : Frame → List Hand
-first_workers pool = map (λ k. record { table = pool.table; view = first_view pool.workers k }) (range_with_len 0 pool.workers)
+abbrev pub first_workers : PoolValue → List Hand
+first_workers pool = map (λ k. record { table = pool.table; view = starting_view pool.workers k }) (range_with_len 0 pool.workers)
 
 -- a claim of task t made one step, a compare and exchange. Got: it found the task at home, and the record is that task's. Held: it found the word of another
 -- worker. Empty: it found nothing there, of a task that the worker did not know

@@ -1,6 +1,5 @@
 -- What a seat of a pool knows, and what its steps make of that.
-use Rattle.std.specs.Prelude.{Some, None, ℕ, [], ◌∷◌, ◌++◌, take, drop, ◌==◌, if◌then◌else◌}
-use Rattle.std.specs.List.{range_with_len}
+use Rattle.std.specs.Prelude.{Some, None, ℕ, [], ◌∷◌, drop, ◌==◌, if◌then◌else◌}
 use Rattle.slot_pool.specs.declared.view.View.{View}
 
 -- one compare and exchange at the word of task t found n
@@ -23,37 +22,9 @@ placing t v = record v { knows = t ∷ v.knows; placed = t ∷ v.placed; has = t
 abbrev pub giving : ℕ → View → View
 giving t v = record v { has = drop 1 v.has; steps = (t, None) ∷ v.steps }
 
--- the view with which a pool begins: of all workers, with task 0 placed
-abbrev pub opening_view : ℕ → View
-opening_view workers =
-    record {
-      numbers = range_with_len 0 workers;
-      workers = workers;
-      knows = 0 ∷ [];
-      placed = 0 ∷ [];
-      has = [];
-      steps = [];
-    }
-
--- the worker that is split off has the first number, and what was placed so far
-abbrev pub split_off : View → View
-split_off v = record v { numbers = take 1 v.numbers }
-
--- and the other numbers are left
-abbrev pub left_over : View → View
-left_over v = record v { numbers = drop 1 v.numbers; placed = [] }
-
--- two seats as one, with what both know and have placed
-abbrev pub joined : View → View → View
-joined v w = record v { numbers = v.numbers ++ w.numbers; knows = v.knows ++ w.knows; placed = v.placed ++ w.placed }
-
--- the view of a seat that was joined to another
-abbrev pub spent_view : View
-spent_view = record { numbers = []; workers = 0; knows = []; placed = []; has = []; steps = [] }
-
 -- the view of worker k at the start: it knows task 0, and it is worker 0 that counts as having placed it
-abbrev pub first_view : ℕ → ℕ → View
-first_view workers k =
+abbrev pub starting_view : ℕ → ℕ → View
+starting_view workers k =
     record {
       numbers = k ∷ [];
       workers = workers;

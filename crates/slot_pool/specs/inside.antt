@@ -1,3 +1,6 @@
+pub mod Views
+pub mod Rule
+pub mod Steps
 pub mod Pools
 pub mod Workers
 pub mod Parting

@@ -4,7 +4,7 @@ ghost use Rattle.std.specs.Vec.{vec_capacity};
 ghost use Rattle.std.specs.Mem.Slots.{slots_items, slots_len, IsFull};
 ghost use Rattle.slot_pool.specs.inside.Gathering.{Gathers};
 ghost use Rattle.slot_pool.specs.inside.Workers.{HasRoom};
-ghost use Rattle.slot_pool.specs.Hands.{IsNumberOf, IsOf};
+ghost use Rattle.slot_pool.specs.Hands.{IsNumberOf, IsOfPool};
 
 use crate::named::Named;
 use crate::plays::Joins;
@@ -34,7 +34,7 @@ pub(crate) fn gather<R: Named>(
     pool: &Pool<R>,
     mut workers: Vec<Worker<R>>,
 ) -> (Place<R>, Vec<Option<R>>)
-    requires made { All (λ w. IsOf w pool.now) workers.items }
+    requires made { All (λ w. IsOfPool w pool.now) workers.items }
     requires idle { All (λ w. w.view.has ≡ []) workers.items }
     requires first { IsNumberOf workers.items 0 }
     ensures table { result.0.table_id ≡ pool.now.table }

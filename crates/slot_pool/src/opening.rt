@@ -1,6 +1,6 @@
 // A new table, with the first record at home.
 ghost use Rattle.std.specs.Prelude.{◌≡◌, ℕ, ◌+◌, ◌-◌, ◌<◌, ◌≤◌, [], ◌∷◌, Some, None, replicate, slice_get, IfErr, IfOk};
-ghost use Rattle.slot_pool.specs.Views.{opening_view};
+ghost use Rattle.slot_pool.specs.inside.Views.{opening_view};
 
 use crate::named::Named;
 use crate::room::NoRoom;

@@ -10,7 +10,7 @@ pub(crate) struct Claims<R> {
 }
 
 impl<R: Named> Play<Option<R>, View> for Claims<R> {
-    ghost use Rattle.slot_pool.specs.Steps.{Claimed};
+    ghost use Rattle.slot_pool.specs.inside.Steps.{Claimed};
 
     ghost then = { Claimed R.number };
 }
@@ -19,7 +19,7 @@ impl<R: Named> Play<Option<R>, View> for Claims<R> {
 pub(crate) struct Begins;
 
 impl<R> Play<Option<R>, View> for Begins {
-    ghost use Rattle.slot_pool.specs.Steps.{Begun};
+    ghost use Rattle.slot_pool.specs.inside.Steps.{Begun};
 
     ghost then = { Begun };
 }
@@ -28,16 +28,16 @@ impl<R> Play<Option<R>, View> for Begins {
 pub(crate) struct Gives;
 
 impl<R> Play<Option<R>, View> for Gives {
-    ghost use Rattle.slot_pool.specs.Steps.{Given};
+    ghost use Rattle.slot_pool.specs.inside.Steps.{GivenBack};
 
-    ghost then = { Given };
+    ghost then = { GivenBack };
 }
 
 /// A worker is split off.
 pub(crate) struct Parts;
 
 impl Split<View> for Parts {
-    ghost use Rattle.slot_pool.specs.Views.{split_off, left_over};
+    ghost use Rattle.slot_pool.specs.inside.Views.{split_off, left_over};
 
     ghost left = { left_over };
 
@@ -48,9 +48,9 @@ impl Split<View> for Parts {
 pub(crate) struct Joins;
 
 impl Join<View> for Joins {
-    ghost use Rattle.slot_pool.specs.Views.{joined, spent_view};
+    ghost use Rattle.slot_pool.specs.inside.Views.{joined, blank_view};
 
     ghost both = { joined };
 
-    ghost spent = { spent_view };
+    ghost spent = { blank_view };
 }

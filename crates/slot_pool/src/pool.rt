@@ -1,7 +1,7 @@
 // The slots of a pool.
 ghost use Rattle.std.specs.Prelude.{◌≡◌, ℕ, ◌≤◌, ◌<◌, [], All, IfErr, IfOk};
 ghost use Rattle.slot_pool.specs.Closing.{AreHome};
-ghost use Rattle.slot_pool.specs.Hands.{IsNumberOf, IsOf, IsPlacedBy, first_workers, max_tasks, max_workers};
+ghost use Rattle.slot_pool.specs.Hands.{IsNumberOf, IsOfPool, IsPlacedBy, first_workers, max_pool_tasks, max_workers};
 
 use crate::gathering::{gather, take_all};
 use crate::named::Named;
@@ -23,13 +23,13 @@ pub struct Pool<R: Named> {
 }
 
 impl<R: Named> Model for Pool<R> {
-    ghost use Rattle.slot_pool.specs.Hands.{Frame};
+    ghost use Rattle.slot_pool.specs.Hands.{PoolValue};
 
-    ghost Value = { Frame };
+    ghost Value = { PoolValue };
 
-    ghost use Rattle.slot_pool.specs.inside.Pools.{IsPool, frame_of};
+    ghost use Rattle.slot_pool.specs.inside.Pools.{IsPool, pool_of};
 
-    ghost view = { λ p. frame_of p.slots.shared.table_id p.setting };
+    ghost view = { λ p. pool_of p.slots.shared.table_id p.setting };
 
     ghost invariant = { λ p. IsPool p.slots.shared.table_id p.slots.shared.key p.setting };
 }
@@ -43,7 +43,7 @@ impl<R: Named> Pool<R> {
         workers: u32,
         first: R,
     ) -> Result<(Pool<R>, List<Worker<R>>), NoRoom<R>>
-        requires tasks { (1 ≤ tasks) × (tasks ≤ max_tasks) }
+        requires tasks { (1 ≤ tasks) × (tasks ≤ max_pool_tasks) }
         requires workers { (1 ≤ workers) × (workers ≤ max_workers) }
         requires first { R.number first ≡ 0 }
         ensures pool { IfOk result (λ r. (r.0.tasks ≡ tasks) × (r.0.workers ≡ workers)) }
@@ -75,7 +75,7 @@ impl<R: Named> Pool<R> {
     /// Ends a pool of which these are all workers, and none has a record. It answers an entry for each task: the record that was placed of it, or None. It
     /// takes no memory. A pool of which a worker was dropped cannot be closed so; it can be dropped.
     pub fn close(self, workers: List<Worker<R>>) -> List<Option<R>>
-        requires made { All (λ w. IsOf w self) workers }
+        requires made { All (λ w. IsOfPool w self) workers }
         requires all_workers { (k : ℕ) → k < self.workers → IsNumberOf workers k }
         requires nothing { All (λ w. w.view.has ≡ []) workers }
         ensures home { AreHome R.number self.tasks (IsPlacedBy workers) result }

@@ -12,8 +12,8 @@ pub struct Law<R> {
 }
 
 impl<R: Named> TableRule<Option<R>, View, Setting> for Law<R> {
-    ghost use Rattle.slot_pool.specs.Rule.{PoolHolds};
-    ghost use Rattle.slot_pool.specs.Views.{opening_view};
+    ghost use Rattle.slot_pool.specs.inside.Rule.{PoolHolds};
+    ghost use Rattle.slot_pool.specs.inside.Views.{opening_view};
 
     ghost holds = { PoolHolds R.number };
 

@@ -1,7 +1,7 @@
 // Calls of two workers one after the other, and what each of them answers.
 ghost use Rattle.std.specs.Prelude.{◌≡◌, ◌<◌, [], ◌∷◌, map};
 ghost use Rattle.std.specs.Option.{option_to_list};
-ghost use Rattle.slot_pool.specs.Hands.{IsOf, IsSameWorker};
+ghost use Rattle.slot_pool.specs.Hands.{IsOfPool, IsSameWorker};
 
 use crate::{Claim, Named, Pool, Worker};
 use armus_base::{List, TaskId};
@@ -52,7 +52,7 @@ struct Hand {
 }
 
 fn claim(pool: &Pool<Token>, hand: &mut Hand, task: TaskId) -> Found
-    requires made { IsOf hand.old.worker pool.now }
+    requires made { IsOfPool hand.old.worker pool.now }
     requires task { task.0 < pool.now.tasks }
     ensures same { IsSameWorker hand.old.worker hand.new.worker }
 {
@@ -70,7 +70,7 @@ fn claim(pool: &Pool<Token>, hand: &mut Hand, task: TaskId) -> Found
 }
 
 fn put(pool: &Pool<Token>, hand: &mut Hand) -> Found
-    requires made { IsOf hand.old.worker pool.now }
+    requires made { IsOfPool hand.old.worker pool.now }
     ensures same { IsSameWorker hand.old.worker hand.new.worker }
 {
     match hand.held.take() {
@@ -83,7 +83,7 @@ fn put(pool: &Pool<Token>, hand: &mut Hand) -> Found
 }
 
 fn place(pool: &Pool<Token>, hand: &mut Hand, task: TaskId) -> Found
-    requires made { IsOf hand.old.worker pool.now }
+    requires made { IsOfPool hand.old.worker pool.now }
     requires task { task.0 < pool.now.tasks }
     ensures same { IsSameWorker hand.old.worker hand.new.worker }
 {
@@ -94,7 +94,7 @@ fn place(pool: &Pool<Token>, hand: &mut Hand, task: TaskId) -> Found
 }
 
 fn act(pool: &Pool<Token>, hand: &mut Hand, call: Call, task: TaskId) -> Found
-    requires made { IsOf hand.old.worker pool.now }
+    requires made { IsOfPool hand.old.worker pool.now }
     requires task { task.0 < pool.now.tasks }
     ensures same { IsSameWorker hand.old.worker hand.new.worker }
 {
@@ -114,8 +114,8 @@ fn act_by(
     call: Call,
     task: TaskId,
 ) -> Found
-    requires first { IsOf first.old.worker pool.now }
-    requires second { IsOf second.old.worker pool.now }
+    requires first { IsOfPool first.old.worker pool.now }
+    requires second { IsOfPool second.old.worker pool.now }
     requires task { task.0 < pool.now.tasks }
     ensures first { IsSameWorker first.old.worker first.new.worker }
     ensures second { IsSameWorker second.old.worker second.new.worker }
@@ -134,8 +134,8 @@ fn play(
     second: &mut Hand,
     rows: &[(u8, Call, u32, Found)],
 ) -> bool
-    requires first { IsOf first.old.worker pool.now }
-    requires second { IsOf second.old.worker pool.now }
+    requires first { IsOfPool first.old.worker pool.now }
+    requires second { IsOfPool second.old.worker pool.now }
     requires tasks { pool.now.tasks ≡ 4 }
     ensures first { IsSameWorker first.old.worker first.new.worker }
     ensures second { IsSameWorker second.old.worker second.new.worker }
@@ -152,8 +152,8 @@ fn play(
 // Closes a pool of two workers that have put what they had.
 fn close(pool: Pool<Token>, alloc: Global, first: Hand, second: Hand) -> Option<List<Option<Token>>>
     requires workers { pool.workers ≡ 2 }
-    requires first { IsOf first.worker pool × (first.worker.view.numbers ≡ 0 ∷ []) }
-    requires second { IsOf second.worker pool × (second.worker.view.numbers ≡ 1 ∷ []) }
+    requires first { IsOfPool first.worker pool × (first.worker.view.numbers ≡ 0 ∷ []) }
+    requires second { IsOfPool second.worker pool × (second.worker.view.numbers ≡ 1 ∷ []) }
 {
     if first.held.is_some() || second.held.is_some() {
         return None;

@@ -1,6 +1,6 @@
 // Two workers side by side: a record that is got is nobody else's until it is put back.
 ghost use Rattle.std.specs.Prelude.{◌≡◌, ◌<◌, [], ◌∷◌};
-ghost use Rattle.slot_pool.specs.Hands.{IsOf, IsSameWorker};
+ghost use Rattle.slot_pool.specs.Hands.{IsOfPool, IsSameWorker};
 
 use crate::{Claim, Named, Pool, Worker};
 use armus_base::{List, TaskId};
@@ -25,7 +25,7 @@ impl Named for Counter {
 
 // One claim of a task; answers whether it got the record, which has counted it then.
 fn get(pool: &Pool<Counter>, worker: &mut Worker<Counter>, task: TaskId) -> bool
-    requires made { IsOf worker.old pool.now }
+    requires made { IsOfPool worker.old pool.now }
     requires task { task.0 < pool.now.tasks }
     requires nothing { worker.old.view.has ≡ [] }
     ensures same { IsSameWorker worker.old worker.new }
@@ -42,7 +42,7 @@ fn get(pool: &Pool<Counter>, worker: &mut Worker<Counter>, task: TaskId) -> bool
 
 // So many claims, of two tasks in turn; answers how many of them got a record.
 fn work(pool: &Pool<Counter>, worker: &mut Worker<Counter>, claims: u32) -> u32
-    requires made { IsOf worker.old pool.now }
+    requires made { IsOfPool worker.old pool.now }
     requires tasks { pool.now.tasks ≡ 2 }
     requires nothing { worker.old.view.has ≡ [] }
     ensures same { IsSameWorker worker.old worker.new }
@@ -65,8 +65,8 @@ fn work_both<R: Threads + Sync>(
     second: &mut Worker<Counter>,
     claims: u32,
 ) -> u32
-    requires first { IsOf first.old pool.now × (first.old.view.has ≡ []) }
-    requires second { IsOf second.old pool.now × (second.old.view.has ≡ []) }
+    requires first { IsOfPool first.old pool.now × (first.old.view.has ≡ []) }
+    requires second { IsOfPool second.old pool.now × (second.old.view.has ≡ []) }
     requires tasks { pool.now.tasks ≡ 2 }
     ensures first { IsSameWorker first.old first.new × (first.new.view.has ≡ []) }
     ensures second { IsSameWorker second.old second.new × (second.new.view.has ≡ []) }
@@ -74,11 +74,11 @@ fn work_both<R: Threads + Sync>(
     let (one, other) = join_mut(
         rt,
         &mut || -> u32
-            requires { IsOf first.now pool.now × (pool.now.tasks ≡ 2) × (first.now.view.has ≡ []) }
+            requires { IsOfPool first.now pool.now × (pool.now.tasks ≡ 2) × (first.now.view.has ≡ []) }
             ensures { IsSameWorker first.entry.now first.exit.now × (first.exit.now.view.has ≡ []) }
         { work(pool, first, claims) },
         &mut || -> u32
-            requires { IsOf second.now pool.now × (pool.now.tasks ≡ 2) × (second.now.view.has ≡ []) }
+            requires { IsOfPool second.now pool.now × (pool.now.tasks ≡ 2) × (second.now.view.has ≡ []) }
             ensures { IsSameWorker second.entry.now second.exit.now × (second.exit.now.view.has ≡ []) }
         { work(pool, second, claims) },
     );
@@ -117,8 +117,8 @@ fn close(
     second: Worker<Counter>,
 ) -> Option<List<Option<Counter>>>
     requires workers { pool.workers ≡ 2 }
-    requires first { IsOf first pool × (first.view.numbers ≡ 0 ∷ []) × (first.view.has ≡ []) }
-    requires second { IsOf second pool × (second.view.numbers ≡ 1 ∷ []) × (second.view.has ≡ []) }
+    requires first { IsOfPool first pool × (first.view.numbers ≡ 0 ∷ []) × (first.view.has ≡ []) }
+    requires second { IsOfPool second pool × (second.view.numbers ≡ 1 ∷ []) × (second.view.has ≡ []) }
 {
     let Ok(mut workers) = vec![in alloc; first] else {
         return None;

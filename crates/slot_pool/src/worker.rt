@@ -2,7 +2,7 @@
 ghost use Rattle.std.specs.Prelude.{◌≡◌, ℕ, ◌<◌, List, [], ◌∷◌, Contains};
 ghost use Rattle.std.specs.Vec.{vec_capacity};
 ghost use Rattle.slot_pool.specs.Views.{giving};
-ghost use Rattle.slot_pool.specs.Hands.{AnswersClaim, AnswersPlace, IsOf, IsSameWorker, has_after, seeing};
+ghost use Rattle.slot_pool.specs.Hands.{AnswersClaim, AnswersPlace, IsOfPool, IsSameWorker, has_after, seeing};
 ghost use Rattle.slot_pool.specs.inside.Workers.{HasRoom, IsAtWork, hand_of};
 
 use crate::claim::Claim;
@@ -65,7 +65,7 @@ impl<R: Named> Worker<R> {
     /// until it puts it back. Held where another worker had it, or was placing it, and `by` is that worker's number. Empty where nobody had placed one, so
     /// never where the worker knows the task. It takes no memory.
     pub fn claim(&mut self, pool: &Pool<R>, t: TaskId) -> Claim<R>
-        requires made { IsOf self.old pool.now }
+        requires made { IsOfPool self.old pool.now }
         requires task { t.0 < pool.now.tasks }
         requires nothing { self.old.view.has ≡ [] }
         ensures answer { AnswersClaim R.number t.0 self.old self.new result }
@@ -93,7 +93,7 @@ impl<R: Named> Worker<R> {
 
     /// The record that the worker has goes home. It takes no memory.
     pub fn put(&mut self, pool: &Pool<R>, item: R)
-        requires made { IsOf self.old pool.now }
+        requires made { IsOfPool self.old pool.now }
         requires has { self.old.view.has ≡ R.number item ∷ [] }
         ensures home { self.new ≡ seeing self.old (giving (R.number item) self.old.view) }
         ensures nothing { self.new.view.has ≡ [] }
@@ -105,7 +105,7 @@ impl<R: Named> Worker<R> {
     /// The first record of a task goes home, by one compare and exchange. Err where the task was placed before then: the record comes back, and nothing in
     /// the pool has changed. Either way the worker knows the task from now on, and what it had it still has. It takes no memory.
     pub fn place(&mut self, pool: &Pool<R>, item: R) -> Result<(), R>
-        requires made { IsOf self.old pool.now }
+        requires made { IsOfPool self.old pool.now }
         requires task { R.number item < pool.now.tasks }
         ensures answer { AnswersPlace (R.number item) item self.old self.new result }
         ensures has { self.new.view.has ≡ self.old.view.has }
@@ -127,7 +127,7 @@ impl<R: Named> Worker<R> {
 
     // The slot that the worker took last gets the record, and is at home.
     fn give(&mut self, pool: &Pool<R>, slot: usize, item: R)
-        requires made { IsOf self.old pool.now }
+        requires made { IsOfPool self.old pool.now }
         requires slot { slot ≡ R.number item }
         requires has { (others : List ℕ) × (self.old.view.has ≡ R.number item ∷ others) × (Contains others (R.number item) → ⊥) }
         ensures { self.new ≡ seeing self.old (giving (R.number item) self.old.view) }

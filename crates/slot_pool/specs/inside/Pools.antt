@@ -2,11 +2,11 @@
 use Rattle.std.specs.Prelude.{◌≡◌, ◌<◌}
 use Rattle.atomic_table.specs.Seated.{TableId}
 use Rattle.slot_pool.specs.declared.setting.Setting.{Setting}
-use Rattle.slot_pool.specs.Hands.{Frame}
+use Rattle.slot_pool.specs.Hands.{PoolValue}
 
 -- what a contract sees of a pool
-abbrev pub frame_of : TableId → Setting → Frame
-frame_of table setting = record { table = table; tasks = setting.tasks; workers = setting.workers }
+abbrev pub pool_of : TableId → Setting → PoolValue
+pool_of table setting = record { table = table; tasks = setting.tasks; workers = setting.workers }
 
 -- a pool has what its table was told, some task and some worker, and a word and a slot for each task
 pub record IsPool (table : TableId) (key setting : Setting) : Type 0 where

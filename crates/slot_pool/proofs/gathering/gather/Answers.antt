@@ -3,8 +3,8 @@ use Rattle.std.specs.Prelude.{Contains}
 use Rattle.std.proofs.lemmas.List.Elements.{Contains-append_left}
 use Rattle.std.specs.Vec.{vec_capacity}
 use Rattle.atomic_table.specs.Seated.{TableId}
-use Rattle.slot_pool.specs.Hands.{Hand, IsNumberOf, IsOf}
-use Rattle.slot_pool.specs.Views.{joined}
+use Rattle.slot_pool.specs.Hands.{Hand, IsNumberOf, IsOfPool}
+use Rattle.slot_pool.specs.inside.Views.{joined}
 use Rattle.slot_pool.proofs.Joining.{joins_in}
 use Rattle.slot_pool.proofs.JoinedAll.{any_none, all_last, all_others, gathers_more, gathers_one, no_items, zero_cases}
 use Rattle.slot_pool.proofs.Members.{contains_first}
@@ -15,13 +15,13 @@ loop-worker-init g c =
     let w = c.in-Some.last in
     let list : c.args.workers.items ≡ c.pop.new.self.items ++ w ∷ [] = c.in-Some.ensures.items in
     let place = c.into_parts-place.ensures in
-    let made = all_last (λ (x : Hand). IsOf x c.args.pool.now) c.args.workers.items c.pop.new.self.items w list c.requires.made in
+    let made = all_last (λ (x : Hand). IsOfPool x c.args.pool.now) c.args.workers.items c.pop.new.self.items w list c.requires.made in
     let idle = all_last (λ (x : Hand). x.view.has ≡ []) c.args.workers.items c.pop.new.self.items w list c.requires.idle in
     let v = ap (λ (h : Hand). h.view) place.place in record {
       table = ap (λ (h : Hand). h.table) place.place ∙ made.table;
       slots = place.slots idle;
       number = (place.number.0, subst (λ ns. Contains ns place.number.0) (sym (ap (λ (h : Hand). h.view.numbers) place.place ∙ place.number.1)) (contains_first place.number.0 []));
-      made = all_others (λ (x : Hand). IsOf x c.args.pool.now) c.args.workers.items c.pop.new.self.items w list c.requires.made;
+      made = all_others (λ (x : Hand). IsOfPool x c.args.pool.now) c.args.workers.items c.pop.new.self.items w list c.requires.made;
       idle = all_others (λ (x : Hand). x.view.has ≡ []) c.args.workers.items c.pop.new.self.items w list c.requires.idle;
       empty = place.number.2.empty;
       gathered = (
@@ -41,7 +41,7 @@ join_seat-requires g c =
     let w = c.in-Some-pop.worker in
     let list : c.loop-worker.workers.items ≡ c.pop-in-loop-worker.new.self.items ++ w ∷ [] = c.in-Some-pop.ensures.items in
     let place = c.into_parts-other.ensures in
-    let made = all_last (λ (x : Hand). IsOf x c.args.pool.now) c.loop-worker.workers.items c.pop-in-loop-worker.new.self.items w list before.made in
+    let made = all_last (λ (x : Hand). IsOfPool x c.args.pool.now) c.loop-worker.workers.items c.pop-in-loop-worker.new.self.items w list before.made in
     let idle = all_last (λ (x : Hand). x.view.has ≡ []) c.loop-worker.workers.items c.pop-in-loop-worker.new.self.items w list before.idle in
     let table = sym (ap (λ f. f.table) c.pool.view_is) in
     let number_of = g.R.Named.number in
@@ -63,14 +63,14 @@ loop-worker-preserved g c =
     let place = c.into_parts-other.ensures in
     let now = c.join_seat.ensures in
     let room = c.wider-entries.ensures.room in
-    let made = all_last (λ (x : Hand). IsOf x c.args.pool.now) c.loop-worker.workers.items c.pop-in-loop-worker.new.self.items w list before.made in
+    let made = all_last (λ (x : Hand). IsOfPool x c.args.pool.now) c.loop-worker.workers.items c.pop-in-loop-worker.new.self.items w list before.made in
     let v = c.loop-worker.place.me.0 in
     let u = c.into_parts-other.result.0.me.0 in
     let done = before.gathered.0 in record {
       table = now.0 ∙ before.table;
       slots = ap (λ m. m.1) now.2 ∙ before.slots;
       number = (before.number.0, subst (λ (ns : List ℕ). Contains ns before.number.0) (sym (ap (λ m. m.0.numbers) now.2)) (Contains-append_left v.numbers u.numbers before.number.0 before.number.1));
-      made = all_others (λ (x : Hand). IsOf x c.args.pool.now) c.loop-worker.workers.items c.pop-in-loop-worker.new.self.items w list before.made;
+      made = all_others (λ (x : Hand). IsOfPool x c.args.pool.now) c.loop-worker.workers.items c.pop-in-loop-worker.new.self.items w list before.made;
       idle = all_others (λ (x : Hand). x.view.has ≡ []) c.loop-worker.workers.items c.pop-in-loop-worker.new.self.items w list before.idle;
       empty = c.wider-entries.ensures.empty;
       gathered = (

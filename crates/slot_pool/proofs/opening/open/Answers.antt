@@ -1,7 +1,7 @@
 use Rattle.std.proofs.Common.{◌≡◌, ◌+◌, ◌-◌, sym, ◌∙◌, subst₂, arith}
 use Rattle.atomic_table.specs.Table.{opening}
-use Rattle.slot_pool.specs.Rule.{PoolHolds}
-use Rattle.slot_pool.specs.Views.{opening_view}
+use Rattle.slot_pool.specs.inside.Rule.{PoolHolds}
+use Rattle.slot_pool.specs.inside.Views.{opening_view}
 use Rattle.slot_pool.proofs.Starts.{opens}
 use Rattle.slot_pool.proofs.opening.open.Goals as goal
 

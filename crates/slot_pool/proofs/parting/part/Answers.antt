@@ -6,8 +6,9 @@ use Rattle.atomic_table.specs.Seated.{TableId}
 use Rattle.atomic_table.specs.Table.{Splits}
 use Rattle.slot_pool.specs.declared.view.View.{View}
 use Rattle.slot_pool.specs.Hands.{Hand}
-use Rattle.slot_pool.specs.Rule.{PoolHolds}
-use Rattle.slot_pool.specs.Views.{first_view, left_over, split_off}
+use Rattle.slot_pool.specs.inside.Rule.{PoolHolds}
+use Rattle.slot_pool.specs.Views.{starting_view}
+use Rattle.slot_pool.specs.inside.Views.{left_over, split_off}
 use Rattle.slot_pool.proofs.SplitOff.{first_at_work, left_last, left_next, split_first, splits_left}
 use Rattle.slot_pool.proofs.parting.part.Goals as goal
 
@@ -37,7 +38,7 @@ loop-number-preserved g c =
     let split = c.split_seat-other.ensures in
     let k = c.loop-number.number in
     let small : k < c.args.workers = let l = c.loop-number-test.true in omega arith in
-    let f : ℕ → Hand = λ n. record { table = c.args.pool.now.table; view = first_view c.args.workers n } in
+    let f : ℕ → Hand = λ n. record { table = c.args.pool.now.table; view = starting_view c.args.workers n } in
     let new : c.of.result ≡ f k =
     c.of.ensures ∙ ap₂ hand (split.3 ∙ before.0) (ap (λ m. m.0) split.4 ∙ ap (λ m. split_off m.0) before.1 ∙ split_first c.args.workers k small) in (
       split.0 ∙ before.0,
@@ -53,10 +54,10 @@ returns g c =
     let before = c.loop-number.invariant in
     let k = c.loop-number.number in
     let whole : c.args.workers ≡ k + 1 = let l = c.loop-number-test.false in let m = c.loop-number.auto.number-end in let n = c.requires.workers.1 in omega arith in
-    let f : ℕ → Hand = λ n. record { table = c.args.pool.now.table; view = first_view c.args.workers n } in
+    let f : ℕ → Hand = λ n. record { table = c.args.pool.now.table; view = starting_view c.args.workers n } in
     let new : c.of-2.result ≡ f k = c.of-2.ensures ∙ ap₂ hand before.0 (ap (λ m. m.0) before.1 ∙ left_last c.args.workers k whole) in
     c.push_reserved-2.ensures.items ∙ ap₂ (λ xs (x : Hand). xs ++ x ∷ []) before.2 new ∙ sym (map-range_with_len_more f 0 k k (let e : 0 + k ≡ k = omega arith in e))
-    ∙ ap (λ n. map f (range_with_len 0 n)) (sym whole) ∙ ap (λ w. map (λ n. hand c.args.pool.now.table (first_view w n)) (range_with_len 0 w)) c.requires.workers.0
+    ∙ ap (λ n. map f (range_with_len 0 n)) (sym whole) ∙ ap (λ w. map (λ n. hand c.args.pool.now.table (starting_view w n)) (range_with_len 0 w)) c.requires.workers.0
 
 pub of-requires-clause-room : goal.of-requires-clause-room
 of-requires-clause-room g c =

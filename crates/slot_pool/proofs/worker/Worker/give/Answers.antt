@@ -4,8 +4,8 @@ use mathlib.Core.Option.{none}
 use Rattle.atomic_table.specs.Seated.{TableId}
 use Rattle.atomic_table.specs.Table.{Allows, rest, step}
 use Rattle.slot_pool.specs.Views.{giving}
-use Rattle.slot_pool.specs.Rule.{PoolHolds}
-use Rattle.slot_pool.specs.Steps.{Given}
+use Rattle.slot_pool.specs.inside.Rule.{PoolHolds}
+use Rattle.slot_pool.specs.inside.Steps.{GivenBack}
 use Rattle.slot_pool.proofs.Members.{contains_first}
 use Rattle.slot_pool.proofs.Placing.{gives_home}
 use Rattle.slot_pool.proofs.Standing.{given_at_work}
@@ -27,7 +27,7 @@ store-requires g c =
     let id = c.exchange-before.new.seat.id in (
       table,
       subst (λ (i : TableId). t < i.words) (sym before.0 ∙ table) (c.self.invariant.0.inside t (subst (λ ts. Contains ts t) (sym had) (contains_first t others))),
-      subst (λ x. Allows (PoolHolds number_of key) slots id x t (λ n. 1) (λ n. Given (step slots t 1 0 none) x 1)) (sym before.3)
+      subst (λ x. Allows (PoolHolds number_of key) slots id x t (λ n. 1) (λ n. GivenBack (step slots t 1 0 none) x 1)) (sym before.3)
           (gives_home number_of key slots id c.self.inside.number t me.0 c.args.item (rest me.1) others c.self.invariant.0.alone had once (sym named)),
     )
 

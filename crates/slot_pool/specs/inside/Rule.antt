@@ -11,7 +11,7 @@ abbrev pub PoolContent : Type 0 → Type 0
 PoolContent R = State (Option R) View
 
 -- some view lists task t as placed
-pub record IsPlaced (views : List View) (t : ℕ) : Type 0 where
+pub record IsPlacedIn (views : List View) (t : ℕ) : Type 0 where
   pub index : ℕ
   pub view : View
   pub found : get_elem? views index ≡ some view
@@ -35,15 +35,15 @@ pub record Fits (key : Setting) (words : List ℕ) (v : View) : Type 0 where
 
 module _ {R : Type 0} (number_of : R → ℕ) where
   -- where task t is: nowhere yet, at home, or out with worker k. Its word is 0 until somebody has placed it; in the slot at home is a record of the task
-  pub data Stands (s : PoolContent R) (t : ℕ) : Type 0 where
-    nowhere : slice_index s.words t ≡ 0 → get_elem? s.homes t ≡ some (some None) → (IsPlaced s.views t → ⊥) → Stands s t
-    at_home : (r : R) → slice_index s.words t ≡ 1 → get_elem? s.homes t ≡ some (some (Some r)) → number_of r ≡ t → IsPlaced s.views t → Stands s t
-    out : (k : ℕ) → slice_index s.words t ≡ k + 2 → get_elem? s.homes t ≡ some none → IsHad s.views k t → IsPlaced s.views t → Stands s t
+  pub data StandsInPool (s : PoolContent R) (t : ℕ) : Type 0 where
+    nowhere : slice_index s.words t ≡ 0 → get_elem? s.homes t ≡ some (some None) → (IsPlacedIn s.views t → ⊥) → StandsInPool s t
+    at_home : (r : R) → slice_index s.words t ≡ 1 → get_elem? s.homes t ≡ some (some (Some r)) → number_of r ≡ t → IsPlacedIn s.views t → StandsInPool s t
+    out : (k : ℕ) → slice_index s.words t ≡ k + 2 → get_elem? s.homes t ≡ some none → IsHad s.views k t → IsPlacedIn s.views t → StandsInPool s t
 
   -- there is a word and a slot for each task, each task stands somewhere, each view fits, and no number is in two views
   pub record PoolHolds (key : Setting) (s : PoolContent R) : Type 0 where
     pub words : length s.words ≡ key.tasks
     pub slots : length s.homes ≡ key.tasks
-    pub tasks : (t : ℕ) → t < key.tasks → Stands s t
+    pub tasks : (t : ℕ) → t < key.tasks → StandsInPool s t
     pub views : (i : ℕ) (v : View) → get_elem? s.views i ≡ some v → Fits key s.words v
     pub one_view : (i j k : ℕ) (v w : View) → get_elem? s.views i ≡ some v → get_elem? s.views j ≡ some w → Contains v.numbers k → Contains w.numbers k → i ≡ j

@@ -17,5 +17,5 @@ pub record Begun {R : Type 0} (step : Step (Option R)) (before : Me (Option R) V
   pub refused : found ≢ 0 → now ≡ (finding step.word found before.0, before.1)
 
 -- the slot that the worker took last is at home
-abbrev pub Given : {R : Type 0} → Step (Option R) → Me (Option R) View → ℕ → Me (Option R) View → Type 0
-Given step before n now = now ≡ (giving step.word before.0, rest before.1)
+abbrev pub GivenBack : {R : Type 0} → Step (Option R) → Me (Option R) View → ℕ → Me (Option R) View → Type 0
+GivenBack step before n now = now ≡ (giving step.word before.0, rest before.1)
