@@ -36,7 +36,7 @@ pub record IsOrder (o : OrderValue) : Type 0 where
   pub forward : (a b : TaskId) → IsEdge o a b → position_of o a < position_of o b
 
 -- an order of so many tasks that has no edges, and in which each task's position is its number
-pub record IsFresh (tasks : ℕ) (o : OrderValue) : Type 0 where
+pub record IsNewOrder (tasks : ℕ) (o : OrderValue) : Type 0 where
   pub sized : length o.positions ≡ tasks
   pub none : (a b : TaskId) → IsEdge o a b → ⊥
   pub at_number : (t : TaskId) → IsTaskOf o t → position_of o t ≡ t.0

@@ -7,7 +7,7 @@ ghost use Rattle.dep_state.specs.Deps.{IsDepsOf};
 ghost use Rattle.dep_state.specs.Picks.{Ascend};
 ghost use Rattle.order_graph.specs.Adding.{AnswersAdd, HasEdgeMore, HasNoEdge};
 ghost use Rattle.order_graph.specs.Following.{AnswersFollow};
-ghost use Rattle.order_graph.specs.Orders.{IsEdge, IsFresh, IsOrder, IsTaskOf, position_of, successors_of};
+ghost use Rattle.order_graph.specs.Orders.{IsEdge, IsNewOrder, IsOrder, IsTaskOf, position_of, successors_of};
 ghost use Rattle.order_graph.specs.inside.Distances.{NeverReaches};
 ghost use Rattle.order_graph.specs.inside.Mending.{IsMended, IsStretch};
 ghost use Rattle.order_graph.specs.inside.Rows.{KeepsOnly};
@@ -42,7 +42,7 @@ impl Model for Order {
 impl Order {
     /// An order of the tasks below a number: there are no edges, and each task's position is its number.
     pub fn start(alloc: Global, tasks: u32) -> Result<Order, NoMemory>
-        ensures { IfOk result (IsFresh tasks) }
+        ensures { IfOk result (IsNewOrder tasks) }
     {
         let count = tasks as usize;
         let mut positions = Vec::with_capacity(alloc, count)?;
