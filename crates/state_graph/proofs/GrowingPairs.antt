@@ -1,107 +1,85 @@
--- What one more task adds to the state graph.
-use Rattle.std.proofs.Common.{◌≡◌, ℕ, ◌+◌, ◌*◌, ◌<◌, ◌≤◌, Bool, true, false, List, [], length, refl, sym, ap, ◌∙◌, subst, ◌⊎◌, inl, inr, arith, get_or, set, get_or-set_same, get_or-set_other, length-set, replicate}
-use Rattle.std.specs.Prelude.{Contains, ◌↔◌, All}
+-- What has grown with some tasks added, and what its edges are.
+use Rattle.std.proofs.Common.{◌≡◌, ℕ, ◌+◌, ◌*◌, ◌<◌, ◌≤◌, Bool, true, false, List, [], ◌∷◌, length, refl, sym, ap, ◌∙◌, subst, ◌⊎◌, inl, inr, arith, get_or, set, get_or-set_same, get_or-set_other, length-set, replicate}
+use Rattle.std.specs.Prelude.{Contains, ◌↔◌}
 use Rattle.std.proofs.lemmas.Bool.{cases_Bool, cases_eq, cases_lt}
-use Rattle.std.proofs.lemmas.List.{get_or_past, get_or-replicate, length-replicate}
+use Rattle.std.proofs.lemmas.List.{get_or_default, get_or_past, get_or-replicate, length-replicate}
 use Rattle.std.proofs.lemmas.List.Elements.{Contains-get_or}
 use Rattle.digraph.specs.Graph.{HasEdge}
 use Rattle.armus_base.specs.Counts.{IsCount}
 use Rattle.armus_base.proofs.Counts.{count_same, count_unique, count_none}
-use Rattle.dep_state.specs.Deps.{Deps, AreRelations, impeders_of}
-use Rattle.dep_state.specs.Deps.{IsAwaitedBy}
+use Rattle.armus_base.proofs.Elements.{Contains-cons_cases, Contains-head, Contains-tail, nothing_in_nil}
+use Rattle.dep_state.specs.Deps.{Deps, AreRelations, IsAwaitedBy, impeders_of}
 use Rattle.state_graph.specs.StateEdges.{IsStatePair}
-use Rattle.state_graph.specs.inside.Growing.{IsStateCount, StaysSmallBelow, IsGrown, IsReversed}
+use Rattle.state_graph.specs.inside.Growing.{AreSized, IsBehind, IsFirstFrom, IsGrown, IsGrowing, IsNextAt, IsPairBetween, IsPassedPair, IsPassing, IsStateCount, RowsAscend, StaysSmallBelow}
 use Rattle.digraph.proofs.AddedEdges.{no_edge}
-use Rattle.dep_state.proofs.TaskPlaces.{row_some}
+use Rattle.dep_state.proofs.TaskPlaces.{impeder_inside, row_some}
 
--- a flag that is set
-set_flag : (xs : List Bool) (i j : ℕ) → i < length xs → (get_or (set xs i true) j false ≡ true) ↔ ((j ≡ i) ⊎ (get_or xs j false ≡ true))
-set_flag xs i j lt =
-    elim (cases_eq j i) [
-      | inl e ↦ (λ _. inl e, λ _. subst (λ k. get_or (set xs i true) k false ≡ true) (sym e) (get_or-set_same xs i true false lt))
-      | inr ne ↦ let f = get_or-set_other xs i j true false ne in (λ h. inr (sym f ∙ h), λ h. elim h [ inl e ↦ absurd (ne e) | inr g ↦ f ∙ g ])
-    ]
+-- all were followed
+pub grown_more :
+    (d : Deps) (k : ℕ) (edges : List (List ℕ)) (seen : List Bool) (next : List ℕ) (waiting : List (List ℕ)) → IsGrowing d k [] edges seen next waiting →
+    IsGrown d (k + 1) edges seen next waiting
+grown_more d k edges seen next waiting h =
+    record {
+      sized = h.sized;
+      awaited = h.awaited;
+      fresh = h.fresh;
+      passed = λ i s. elim (h.passed i s) [ inl q ↦ absurd (nothing_in_nil i q.0) | inr f ↦ f ];
+      pairs = h.pairs;
+      waits = λ t e le. (λ x. h.waits t e (omega arith) x, λ x. elim (h.left_or_waits t e (omega arith) x) [ inl c ↦ absurd (nothing_in_nil e c) | inr w ↦ w ]);
+    }
 
-module _ (d : Deps) (k event : ℕ) (edges mid now : List (List ℕ)) (seen : List Bool) (impeded : List (List ℕ)) where
-  module _ (h : IsGrown d k edges seen impeded) (is : event ≡ get_or d.awaits k 0) (inside : event < length d.events) where
-    awaited_more : (i : ℕ) → (get_or (set seen event true) i false ≡ true) ↔ IsAwaitedBy d (k + 1) i
-    awaited_more i =
-        let flag = set_flag seen event i (omega (arith, h.seen_sized)) in (
-          λ t. elim (flag.0 t) [
-            | inl e ↦ (k, omega arith, sym is ∙ sym e)
-            | inr old ↦ let (m, lt, w) = (h.awaited i).0 old in (m, omega arith, w)
-          ],
-          λ (m, lt, w). flag.1 (elim (cases_eq m k) [
-            | inl e ↦ inl (sym w ∙ ap (λ j. get_or d.awaits j 0) e ∙ sym is)
-            | inr ne ↦ inr ((h.awaited i).1 (m, omega arith, w))
-          ]),
-        )
+module _ (d : Deps) (k : ℕ) (edges : List (List ℕ)) (seen : List Bool) (next : List ℕ) (waiting : List (List ℕ)) (h : IsGrown d k edges seen next waiting) where
+  -- the edges are the pairs of the first k tasks, where what a row has below k is what was passed of it
+  module _ (behind : (i m : ℕ) → get_or seen i false ≡ true → m < length (impeders_of d i) → get_or (impeders_of d i) m 0 < k → m < get_or next i 0) where
+    pub pairs_by : (i j : ℕ) → HasEdge edges i j ↔ IsStatePair d k i j
+    pairs_by i j = (
+      λ x.
+          let (s, (m, lt, e)) = (h.pairs i j).0 x in
+          let f = h.passed i s in
+          let w = f.within in
+          ((h.awaited i).0 s, (get_or (impeders_of d i) m 0, f.before m lt, Contains-get_or (impeders_of d i) m 0 (omega arith), sym e)),
+      λ (a, (u, lt, c, e)).
+          let s = (h.awaited i).1 a in
+          let (m, l, is) = c in
+          let at : get_or (impeders_of d i) m 0 ≡ u = get_or_default (impeders_of d i) m 0 u l ∙ is in
+          (h.pairs i j).1 (s, (m, behind i m s l (omega arith), sym e ∙ ap (λ v. get_or d.awaits v 0) (sym at))),
+    )
 
-    module _
-        (a : (i j : ℕ) → HasEdge mid i j ↔ (HasEdge edges i j ⊎ ((get_or seen event false ≡ false) × ((u : ℕ) × Contains (impeders_of d event) u × ((u ≤ k) × (i ≡ event) × (j ≡ get_or d.awaits u 0))))))
-        (b : (i j : ℕ) → HasEdge now i j ↔ (HasEdge mid i j ⊎ ((e : ℕ) × Contains (get_or impeded k []) e × ((get_or (set seen event true) e false ≡ true) × (i ≡ e) × (j ≡ event))))) where
-      to_pair : (i j : ℕ) → HasEdge now i j → IsStatePair d (k + 1) i j
-      to_pair i j x =
-          elim ((b i j).0 x) [
-            | inl y ↦ elim ((a i j).0 y) [
-              | inl z ↦ let ((m, lt, w), (u, lu, c, v)) = (h.pairs i j).0 z in ((m, omega arith, w), (u, omega arith, c, v))
-              | inr (z) ↦ let (off, (u, c, (le, ie, ju))) = z in ((k, omega arith, sym is ∙ sym ie), (u, omega arith, subst (λ e. Contains (impeders_of d e) u) (sym ie) c, sym ju))
-            ]
-            | inr z ↦ let (e, c, (s, ie, je)) = z in (
-              (awaited_more i).0 (subst (λ o. get_or (set seen event true) o false ≡ true) (sym ie) s),
-              (k, omega arith, subst (λ o. Contains (impeders_of d o) k) (sym ie) ((h.impedes k e).0 c), sym is ∙ sym je),
-            )
+  module _ (up : RowsAscend d) where
+    pub grown_pairs : (i j : ℕ) → HasEdge edges i j ↔ IsStatePair d k i j
+    grown_pairs = pairs_by (λ i m s l lt. elim (cases_lt m (get_or next i 0)) [
+      | inl before ↦ before
+      | inr past ↦ absurd (
+          let after = (h.passed i s).after (omega arith) in
+          elim (cases_eq (get_or next i 0) m) [
+            | inl e ↦ (let g = ap (λ v. get_or (impeders_of d i) v 0) e in omega arith)
+            | inr ne ↦ (let a = up i (get_or next i 0) m 0 (omega arith) l in omega arith)
+          ])
+    ])
+
+    module _ (n : ℕ) (c : IsCount (λ (p : ℕ × ℕ). HasEdge edges p.0 p.1) n) where
+      pub grown_count : IsStateCount d k n
+      grown_count = count_same (λ (p : ℕ × ℕ). HasEdge edges p.0 p.1) (λ (p : ℕ × ℕ). IsStatePair d k p.0 p.1) n c (λ p. grown_pairs p.0 p.1)
+
+      pub small_more : StaysSmallBelow d k → n ≤ 2 * k → StaysSmallBelow d (k + 1)
+      small_more small le j m lt other =
+          elim (cases_eq j k) [
+            | inl e ↦
+                let at : IsStateCount d k m = subst (λ o. IsStateCount d o m) e other in
+                omega (arith, count_unique (λ (p : ℕ × ℕ). IsStatePair d k p.0 p.1) m n at grown_count)
+            | inr ne ↦ small j m (omega arith) other
           ]
 
-      from_pair : (i j : ℕ) → IsStatePair d (k + 1) i j → HasEdge now i j
-      from_pair i j ((m, lt, w), (u, lu, c, v)) =
-          elim (cases_eq u k) [
-            | inl e ↦ (b i j).1 (inr (i, (h.impedes k i).1 (subst (λ o. Contains (impeders_of d i) o) e c), ((awaited_more i).1 (m, lt, w), refl, sym v ∙ ap (λ o. get_or d.awaits o 0) e ∙ sym is)))
-            | inr ne ↦ elim (cases_eq m k) [
-              | inl f ↦
-                  let ie : i ≡ event = sym w ∙ ap (λ o. get_or d.awaits o 0) f ∙ sym is in
-                  let there = subst (λ o. Contains (impeders_of d o) u) ie c in
-                  elim (cases_Bool (get_or seen event false)) [
-                    | inl on ↦
-                        let before = (h.awaited event).0 on in
-                        (b i j).1 (inl ((a i j).1 (inl (subst (λ o. HasEdge edges o j) (sym ie) ((h.pairs event j).1 (before, (u, omega arith, there, v)))))))
-                    | inr off ↦ (b i j).1 (inl ((a i j).1 (inr (off, (u, there, (omega arith, ie, sym v))))))
-                  ]
-              | inr nf ↦ (b i j).1 (inl ((a i j).1 (inl ((h.pairs i j).1 ((m, omega arith, w), (u, omega arith, c, v))))))
-            ]
-          ]
-
-      pub grown_more : length now ≡ length edges → IsGrown d (k + 1) now (set seen event true) impeded
-      grown_more n =
-          record {
-            nodes = n ∙ h.nodes;
-            seen_sized = length-set seen event true ∙ h.seen_sized;
-            impeded_sized = h.impeded_sized;
-            awaited = awaited_more;
-            pairs = λ i j. (to_pair i j, from_pair i j);
-            impedes = h.impedes;
-          }
-
--- each event that a task impedes is an event
-pub impeded_inside :
-    (d : Deps) (k : ℕ) (edges : List (List ℕ)) (seen : List Bool) (impeded : List (List ℕ)) → AreRelations d → IsGrown d k edges seen impeded →
-    (t : ℕ) → All (λ e. e < length d.events) (get_or impeded t [])
-impeded_inside d k edges seen impeded ok h t j e lt =
-    let c = (h.impedes t (get_or (get_or impeded t []) j e)).0 (Contains-get_or (get_or impeded t []) j e lt) in
-    omega (arith, row_some d.impeders (get_or (get_or impeded t []) j e) t c, ok.impeders_sized)
-
-module _ (d : Deps) (k : ℕ) (edges : List (List ℕ)) (seen : List Bool) (impeded : List (List ℕ)) (h : IsGrown d k edges seen impeded) (n : ℕ) (c : IsCount (λ (p : ℕ × ℕ). HasEdge edges p.0 p.1) n) where
-  pub grown_count : IsStateCount d k n
-  grown_count = count_same (λ (p : ℕ × ℕ). HasEdge edges p.0 p.1) (λ (p : ℕ × ℕ). IsStatePair d k p.0 p.1) n c (λ p. h.pairs p.0 p.1)
-
-  pub small_more : StaysSmallBelow d k → n ≤ 2 * k → StaysSmallBelow d (k + 1)
-  small_more small le j m lt other =
-      elim (cases_eq j k) [
-        | inl e ↦
-            let at : IsStateCount d k m = subst (λ o. IsStateCount d o m) e other in
-            omega (arith, count_unique (λ (p : ℕ × ℕ). IsStatePair d k p.0 p.1) m n at grown_count)
-        | inr ne ↦ small j m (omega arith) other
-      ]
+  -- with all tasks added these are all pairs
+  pub whole_pairs : AreRelations d → k ≡ length d.tasks → (i j : ℕ) → HasEdge edges i j ↔ IsStatePair d k i j
+  whole_pairs ok all = pairs_by (λ i m s l lt. elim (cases_lt m (get_or next i 0)) [
+    | inl before ↦ before
+    | inr past ↦ absurd (
+        let inrow : get_or next i 0 < length (impeders_of d i) = omega arith in
+        let after = (h.passed i s).after inrow in
+        let inside = impeder_inside d ok i (get_or (impeders_of d i) (get_or next i 0) 0) (Contains-get_or (impeders_of d i) (get_or next i 0) 0 inrow) in
+        omega arith)
+  ])
 
 pub small_none : (d : Deps) → StaysSmallBelow d 1
 small_none d k n lt c =
@@ -124,14 +102,25 @@ none_seen d seen f i h =
 
 -- nothing has grown at first
 pub grown_none :
-    (d : Deps) (edges : List (List ℕ)) (seen : List Bool) (impeded : List (List ℕ)) → edges ≡ replicate (length d.events) [] → seen ≡ replicate (length d.events) false →
-    IsReversed d impeded → IsGrown d 0 edges seen impeded
-grown_none d edges seen impeded e f r =
+    (d : Deps) (edges : List (List ℕ)) (seen : List Bool) (next : List ℕ) (waiting : List (List ℕ)) → edges ≡ replicate (length d.events) [] → seen ≡ replicate (length d.events) false →
+    next ≡ replicate (length d.events) 0 → waiting ≡ replicate (length d.tasks) [] → IsGrown d 0 edges seen next waiting
+grown_none d edges seen next waiting e f g w =
     record {
-      nodes = rw e (length-replicate {A = List ℕ} (length d.events) []);
-      seen_sized = rw f (length-replicate {A = Bool} (length d.events) false);
-      impeded_sized = r.sized;
+      sized = record {
+        nodes = rw e (length-replicate {A = List ℕ} (length d.events) []);
+        flags = rw f (length-replicate {A = Bool} (length d.events) false);
+        places = rw g (length-replicate {A = ℕ} (length d.events) 0);
+        tasks = rw w (length-replicate {A = List ℕ} (length d.tasks) []);
+      };
       awaited = λ i. (λ h. absurd (none_seen d seen f i h), λ (m, lt, w). absurd (omega arith));
-      pairs = λ i j. (λ h. absurd (no_edge (length d.events) i j (subst (λ g. HasEdge g i j) e h)), λ (a, b). let (m, lt, w) = a in absurd (omega arith));
-      impedes = r.edges;
+      fresh = λ i off. ap (λ xs. get_or xs i 0) g ∙ zeros (length d.events) i;
+      passed = λ i s. absurd (none_seen d seen f i s);
+      pairs = λ i j. (λ h. absurd (no_edge (length d.events) i j (subst (λ x. HasEdge x i j) e h)), λ (s, q). absurd (none_seen d seen f i s));
+      waits = λ t i le. (λ h. absurd (no_edge (length d.tasks) t i (subst (λ x. HasEdge x t i) w h)), λ (s, inrow, at). absurd (none_seen d seen f i s));
     }
+  where
+    zeros : (n i : ℕ) → let zero : ℕ = 0 in get_or (replicate n zero) i 0 ≡ zero
+    zeros n i = elim (cases_lt i n) [
+      | inl lt ↦ get_or-replicate n i 0 0 lt
+      | inr past ↦ get_or_past (replicate n 0) i 0 (omega (arith, length-replicate {A = ℕ} n 0))
+    ]

@@ -1,3 +1,5 @@
+pub mod ComingTask
+pub mod FollowedEvent
 pub mod GrowingPairs
 pub mod StatePlaces
 pub mod StateTasks

@@ -84,15 +84,14 @@ impl StateGraph {
         ensures { (ss : List Status) → IsInOrder ss → IsDepsOf ss deps.now →
             MatchResult result (λ g. IsStateGraphOf deps.now g × StaysSmall ss) (IsBoundedEnd ss) }
     {
-        let (mut graph, mut seen, impeded) = match start(alloc, deps) {
-            Ok(made) => made,
-            Err(_) => return Err(SgEnd::NoMemory),
+        let Ok(mut growth) = start(alloc, deps) else {
+            return Err(SgEnd::NoMemory);
         };
-        match grow(&mut graph, &mut seen, &impeded, deps) {
+        match grow(alloc, &mut growth, deps) {
             Ok(()) => (),
             Err(end) => return Err(end),
         }
-        match finish(alloc, deps, graph) {
+        match finish(alloc, deps, growth.graph) {
             Ok(whole) => Ok(whole),
             Err(_) => Err(SgEnd::NoMemory),
         }

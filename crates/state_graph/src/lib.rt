@@ -4,7 +4,6 @@
 mod end;
 mod graph;
 mod growth;
-mod reversed;
 #[cfg(test)]
 mod tests;
 mod whole;

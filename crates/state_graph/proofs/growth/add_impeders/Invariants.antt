@@ -1,10 +1,12 @@
-use Rattle.std.proofs.Common.{◌≡◌, ℕ, ◌≤◌, length, ◌⊎◌, take}
-use Rattle.std.specs.Prelude.{Contains, ◌↔◌, slice_index}
+use Rattle.std.proofs.Common.{◌≡◌, ℕ, ◌≤◌, ◌<◌, length, ◌⊎◌}
+use Rattle.std.specs.Prelude.{◌↔◌, slice_index}
 use Rattle.digraph.specs.Graph.{HasEdge}
+use Rattle.state_graph.specs.inside.Growing.{IsPairBetween}
 use Rattle.state_graph.proofs.growth.add_impeders.Given as goal
 
-abbrev pub invariant-loop-u : goal.invariant-loop-u
-invariant-loop-u l = record {
+abbrev pub invariant-loop-at : goal.invariant-loop-at
+invariant-loop-at l = record {
   nodes : length l.graph ≡ length l.initial.graph;
-  edges : (i j : ℕ) → HasEdge l.graph i j ↔ (HasEdge l.initial.graph i j ⊎ ((u : ℕ) × Contains (take l.u-index l.u-items) u × ((u ≤ l.k) × (i ≡ l.event) × (j ≡ slice_index l.deps.awaits u))));
+  below : (m : ℕ) → l.from ≤ m → m < l.at → slice_index l.row m ≤ l.k;
+  edges : (i j : ℕ) → HasEdge l.graph i j ↔ (HasEdge l.initial.graph i j ⊎ IsPairBetween l.deps l.event l.from l.at i j);
 }
