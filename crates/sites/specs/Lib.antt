@@ -1,0 +1,6 @@
+pub mod Rows
+pub mod Keeping
+pub mod MemKeepers
+pub mod RowLaws
+-- How the program does it: private contracts alone cite these.
+pub mod inside
