@@ -3,7 +3,7 @@ use Rattle.std.proofs.Common.{◌≡◌, ℕ, suc, ◌-◌, ◌+◌, ◌≤◌, 
 use Rattle.std.proofs.lemmas.List.{append-nil}
 use Rattle.sites.specs.declared.ends.DecodeEnd.{DecodeEnd}
 use Rattle.sites.specs.declared.ends.DecodeEnd.TheVariants.{Bad, NoMemory}
-use Rattle.sites.specs.inside.Reading.{◌>>=◌, Fails, items_at}
+use Rattle.sites.specs.inside.Reading.{◌>>=◌, FailsToRead, items_at}
 
 -- what was read before, and what is still read
 abbrev pub with_front : {A : Type 0} → List A → Option (List A × List ℕ) → Option (List A × List ℕ)
@@ -23,7 +23,7 @@ module _ {A : Type 0} (read : List ℕ → Option (A × List ℕ)) where
       sym one ∙ so_far
 
   pub ends : (e : DecodeEnd) (front : List A) (count i : ℕ) (bytes : List ℕ) (total : Option (List A × List ℕ)) → i < count
-      → Fails e (read bytes) → with_front front (items_at read (count - i) bytes) ≡ total → Fails e total
+      → FailsToRead e (read bytes) → with_front front (items_at read (count - i) bytes) ≡ total → FailsToRead e total
   unfolding items_at
   ends NoMemory front count i bytes total lt h so_far = tt
   ends Bad front count i bytes total lt h so_far =

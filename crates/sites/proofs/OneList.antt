@@ -1,9 +1,9 @@
 -- A row has one list of statuses.
-use Rattle.std.proofs.Common.{◌≡◌, ℕ, zero, suc, ◌<◌, ◌^◌, List, [], ◌∷◌, All, length, Some, get_or, sym, ap, ◌∙◌, arith}
+use Rattle.std.proofs.Common.{◌≡◌, ℕ, List, Some, sym, ap, ◌∙◌, arith}
 use Rattle.std.specs.List.{AllByRecursion}
 use Rattle.std.proofs.lemmas.List.Elements.{recursion_from_All}
 use Rattle.armus_base.specs.declared.status.Status.{Status}
-use Rattle.sites.specs.Rows.{AreOfSite, HasNumbers, IsRowOf, row_bytes}
+use Rattle.sites.specs.Rows.{AreOfSite, IsRowOf}
 use Rattle.sites.specs.inside.Reading.{row_at}
 use Rattle.sites.proofs.Fields.{some_is}
 use Rattle.sites.proofs.RowFields.{FitsRow, row_again}

@@ -1,5 +1,5 @@
 -- The laws of rows: what is read is the row of it, and what has a row is read again.
-use Rattle.std.proofs.Common.{◌≡◌, ℕ, ◌^◌, ◌<◌, Bool, true, false, cond, eqb, List, [], ◌∷◌, ◌++◌, length, All, Option, Some, None, refl, sym, ap, subst, ◌∙◌, append_assoc, arith}
+use Rattle.std.proofs.Common.{◌≡◌, ℕ, ◌^◌, ◌<◌, Bool, true, false, cond, eqb, List, [], ◌++◌, length, Some, None, refl, sym, ap, subst, ◌∙◌, append_assoc, arith}
 use Rattle.std.specs.List.{flat_map, AllByRecursion}
 use Rattle.std.specs.Int.{w32, to_be_bytes}
 use Rattle.std.proofs.lemmas.Bool.{eqb-true}
@@ -9,7 +9,7 @@ use Rattle.armus_base.specs.declared.event.Event.{Event}
 use Rattle.armus_base.specs.declared.status.Member.{Member}
 use Rattle.armus_base.specs.declared.status.Status.{Status}
 use Rattle.sites.specs.Rows.{HasNumbers, HasPhaseNumbers, phase_bytes, row_bytes, status_bytes}
-use Rattle.sites.specs.inside.Reading.{◌>>=◌, event_after, items_at, number_at, phase_at, row_at, status_at}
+use Rattle.sites.specs.inside.Reading.{◌>>=◌, front_event, items_at, front_number, phase_at, row_at, status_at}
 use Rattle.sites.proofs.Fields.{IsBytes, bind_some, number_again, number_takes, some_is, Takes, Takes-then}
 use Rattle.sites.proofs.Items.{Reads, items_again, items_take}
 
@@ -20,8 +20,8 @@ guard_ended false x y e = absurd cc
 phase_takes : (bytes : List ℕ) (x : Member × List ℕ) → IsBytes bytes → phase_at bytes ≡ Some x → Takes bytes (phase_bytes x.0) x.1 × HasPhaseNumbers x.0
 unfolding phase_at
 phase_takes bytes x fits e =
-    let a = bind_some (number_at bytes) (λ p. number_at p.1 >>= λ n. Some (record { p = record { 0 = p.0 }; n = n.0 }, n.1)) x e in
-    let b = bind_some (number_at a.0.1) (λ n. Some (record { p = record { 0 = a.0.0 }; n = n.0 }, n.1)) x a.2 in
+    let a = bind_some (front_number bytes) (λ p. front_number p.1 >>= λ n. Some (record { p = record { 0 = p.0 }; n = n.0 }, n.1)) x e in
+    let b = bind_some (front_number a.0.1) (λ n. Some (record { p = record { 0 = a.0.0 }; n = n.0 }, n.1)) x a.2 in
     let t0 = number_takes bytes a.0.0 a.0.1 fits a.1 in
     let t1 = number_takes a.0.1 b.0.0 b.0.1 t0.0.rest_fits b.1 in
     let made : Member × List ℕ = (record { p = record { 0 = a.0.0 }; n = b.0.0 }, b.0.1) in
@@ -47,11 +47,11 @@ record FitsEvent (e : Event) : Type 0 where
   phaser : e.p.0 < 2 ^ 32
   phase : e.n < 2 ^ 32
 
-event_takes : (bytes : List ℕ) (x : Event × List ℕ) → IsBytes bytes → event_after bytes ≡ Some x → Takes bytes (event_bytes x.0) x.1 × FitsEvent x.0
-unfolding event_after
+event_takes : (bytes : List ℕ) (x : Event × List ℕ) → IsBytes bytes → front_event bytes ≡ Some x → Takes bytes (event_bytes x.0) x.1 × FitsEvent x.0
+unfolding front_event
 event_takes bytes x fits e =
-    let a = bind_some (number_at bytes) (λ p. number_at p.1 >>= λ n. Some (record { p = record { 0 = p.0 }; n = n.0 }, n.1)) x e in
-    let b = bind_some (number_at a.0.1) (λ n. Some (record { p = record { 0 = a.0.0 }; n = n.0 }, n.1)) x a.2 in
+    let a = bind_some (front_number bytes) (λ p. front_number p.1 >>= λ n. Some (record { p = record { 0 = p.0 }; n = n.0 }, n.1)) x e in
+    let b = bind_some (front_number a.0.1) (λ n. Some (record { p = record { 0 = a.0.0 }; n = n.0 }, n.1)) x a.2 in
     let t0 = number_takes bytes a.0.0 a.0.1 fits a.1 in
     let t1 = number_takes a.0.1 b.0.0 b.0.1 t0.0.rest_fits b.1 in
     let made : Event × List ℕ = (record { p = record { 0 = a.0.0 }; n = b.0.0 }, b.0.1) in
@@ -60,8 +60,8 @@ event_takes bytes x fits e =
       record { phaser = t0.1; phase = t1.1 },
     )
 
-event_again : (e : Event) (rest : List ℕ) → FitsEvent e → event_after (to_be_bytes w32 e.p.0 ++ (to_be_bytes w32 e.n ++ rest)) ≡ Some (e, rest)
-unfolding event_after
+event_again : (e : Event) (rest : List ℕ) → FitsEvent e → front_event (to_be_bytes w32 e.p.0 ++ (to_be_bytes w32 e.n ++ rest)) ≡ Some (e, rest)
+unfolding front_event
 event_again e rest fits = rw (number_again e.p.0 (to_be_bytes w32 e.n ++ rest) fits.phaser, number_again e.n rest fits.phase) refl
 
 -- what has a row: its numbers are small, and so is the number of its phases
@@ -75,9 +75,9 @@ made_of t e phases = record { t = record { 0 = t }; event = e; phases = phases }
 status_takes : (bytes : List ℕ) (x : Status × List ℕ) → IsBytes bytes → status_at bytes ≡ Some x → Takes bytes (status_bytes x.0) x.1 × FitsRow x.0
 unfolding status_at
 status_takes bytes x fits e =
-    let a = bind_some (number_at bytes) (λ t. event_after t.1 >>= λ v. number_at v.1 >>= λ n. items_at phase_at n.0 n.1 >>= λ ps. Some (made_of t.0 v.0 ps.0, ps.1)) x e in
-    let b = bind_some (event_after a.0.1) (λ v. number_at v.1 >>= λ n. items_at phase_at n.0 n.1 >>= λ ps. Some (made_of a.0.0 v.0 ps.0, ps.1)) x a.2 in
-    let c = bind_some (number_at b.0.1) (λ n. items_at phase_at n.0 n.1 >>= λ ps. Some (made_of a.0.0 b.0.0 ps.0, ps.1)) x b.2 in
+    let a = bind_some (front_number bytes) (λ t. front_event t.1 >>= λ v. front_number v.1 >>= λ n. items_at phase_at n.0 n.1 >>= λ ps. Some (made_of t.0 v.0 ps.0, ps.1)) x e in
+    let b = bind_some (front_event a.0.1) (λ v. front_number v.1 >>= λ n. items_at phase_at n.0 n.1 >>= λ ps. Some (made_of a.0.0 v.0 ps.0, ps.1)) x a.2 in
+    let c = bind_some (front_number b.0.1) (λ n. items_at phase_at n.0 n.1 >>= λ ps. Some (made_of a.0.0 b.0.0 ps.0, ps.1)) x b.2 in
     let d = bind_some (items_at phase_at c.0.0 c.0.1) (λ ps. Some (made_of a.0.0 b.0.0 ps.0, ps.1)) x c.2 in
     let t0 = number_takes bytes a.0.0 a.0.1 fits a.1 in
     let t1 = event_takes a.0.1 b.0 t0.0.rest_fits b.1 in
@@ -110,7 +110,7 @@ status_again s rest fits =
     append_assoc t (p ++ (n ++ (k ++ ps))) rest
     ∙ ap (λ (v : List ℕ). t ++ v) (append_assoc p (n ++ (k ++ ps)) rest
     ∙ ap (λ (v : List ℕ). p ++ v) (append_assoc n (k ++ ps) rest ∙ ap (λ (v : List ℕ). n ++ v) (append_assoc k ps rest))) in
-    let event : event_after (p ++ (n ++ (k ++ (ps ++ rest)))) ≡ Some (s.event, k ++ (ps ++ rest)) =
+    let event : front_event (p ++ (n ++ (k ++ (ps ++ rest)))) ≡ Some (s.event, k ++ (ps ++ rest)) =
     event_again s.event (k ++ (ps ++ rest)) (record { phaser = fits.numbers.phaser; phase = fits.numbers.phase }) in
     let phases : items_at phase_at (length s.phases) (ps ++ rest) ≡ Some (s.phases, rest) =
     items_again phase_at phase_bytes HasPhaseNumbers phase_reads s.phases rest (recursion_from_All HasPhaseNumbers s.phases fits.numbers.phases) in
@@ -129,7 +129,7 @@ pub record IsRead (bytes : List ℕ) (ss : List Status) : Type 0 where
 pub row_takes : (bytes : List ℕ) (ss : List Status) → IsBytes bytes → row_at bytes ≡ Some ss → IsRead bytes ss
 unfolding row_at
 row_takes bytes ss fits e =
-    let a = bind_some (number_at bytes) (λ n. items_at status_at n.0 n.1 >>= λ x. cond (eqb (length x.1) 0) (Some x.0) None) ss e in
+    let a = bind_some (front_number bytes) (λ n. items_at status_at n.0 n.1 >>= λ x. cond (eqb (length x.1) 0) (Some x.0) None) ss e in
     let b = bind_some (items_at status_at a.0.0 a.0.1) (λ x. cond (eqb (length x.1) 0) (Some x.0) None) ss a.2 in
     let g = guard_ended (eqb (length b.0.1) 0) b.0.0 ss b.2 in
     let first = number_takes bytes a.0.0 a.0.1 fits a.1 in

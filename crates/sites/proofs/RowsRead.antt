@@ -1,14 +1,13 @@
 -- What the two halves of decoding say together.
-use Rattle.std.proofs.Common.{◌≡◌, ℕ, List, Option, Some, None, sym, subst, ◌∙◌, arith}
+use Rattle.std.proofs.Common.{◌≡◌, ℕ, List, Some, sym, subst, ◌∙◌}
 use Rattle.std.specs.Prelude.{Result, Err}
-use Rattle.std.specs.List.{AllByRecursion}
 use Rattle.std.proofs.lemmas.List.Elements.{All-from_recursion}
 use Rattle.armus_base.specs.declared.status.Status.{Status}
 use Rattle.sites.specs.declared.ends.DecodeEnd.{DecodeEnd}
 use Rattle.sites.specs.declared.ends.DecodeEnd.TheVariants.{Bad, NoMemory}
 use Rattle.sites.specs.declared.snapshot.Snapshot.{Snapshot}
-use Rattle.sites.specs.Rows.{HasNumbers, IsBadRow, IsRowOf}
-use Rattle.sites.specs.inside.Reading.{Fails, MayBeStored, row_at}
+use Rattle.sites.specs.Rows.{IsBadRow, IsRowOf}
+use Rattle.sites.specs.inside.Reading.{FailsToRead, MayBeStored, row_at}
 use Rattle.sites.proofs.Fields.{IsBytes, some_is}
 use Rattle.sites.proofs.OneList.{row_is_read}
 use Rattle.sites.proofs.RowFields.{FitsRow, row_takes}
@@ -17,7 +16,7 @@ abbrev pub failed : DecodeEnd → Result Snapshot DecodeEnd
 failed e = Err e
 
 -- what cannot be read is the row of nothing
-pub unread_is_bad : (sites site : ℕ) (row : List ℕ) (e : DecodeEnd) → Fails e (row_at row) → failed e ≡ failed Bad → IsBadRow sites site row
+pub unread_is_bad : (sites site : ℕ) (row : List ℕ) (e : DecodeEnd) → FailsToRead e (row_at row) → failed e ≡ failed Bad → IsBadRow sites site row
 unread_is_bad sites site row NoMemory fails same ss is = absurd cc
 unread_is_bad sites site row Bad fails same ss is = (let read = row_is_read sites site ss row is in absurd cc)
 

@@ -8,6 +8,7 @@ mod keeper;
 mod laws;
 mod memory;
 mod reading;
+mod snapping;
 mod snapshot;
 
 pub use decoding::{MAX_SITES, decode};
@@ -16,6 +17,7 @@ pub use ends::{DecodeEnd, KeepEnd, SiteEnd};
 pub use keeper::Keeper;
 pub use laws::one_list;
 pub use memory::{MemKeeper, SafeKeeper};
+pub use snapping::snap;
 pub use snapshot::Snapshot;
 
 #[cfg(test)]

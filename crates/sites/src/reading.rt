@@ -1,13 +1,13 @@
 // What a row stores, whatever it is of.
 ghost use Rattle.std.specs.Prelude.{◌≡◌};
-ghost use Rattle.sites.specs.inside.Reading.{Gives, event_after, items_at, number_at, phase_at, row_at, status_at};
+ghost use Rattle.sites.specs.inside.Reading.{GivesRead, front_event, items_at, front_number, phase_at, row_at, status_at};
 
 use crate::DecodeEnd;
 use armus_base::{Event, List, Member, PhaserId, Status, TaskId};
 use std::alloc::Global;
 
 fn number_of(bytes: &[u8]) -> Result<(u32, &[u8]), DecodeEnd>
-    ensures { Gives (λ x. (x.0, x.1.now)) result (number_at bytes.now) }
+    ensures { GivesRead (λ x. (x.0, x.1.now)) result (front_number bytes.now) }
 {
     if bytes.len() < 4 {
         return Err(DecodeEnd::Bad);
@@ -19,7 +19,7 @@ fn number_of(bytes: &[u8]) -> Result<(u32, &[u8]), DecodeEnd>
 
 #[tactic(auto, unfolding(crate::specs::inside::Reading::phase_at))]
 fn phase_of(bytes: &[u8]) -> Result<(Member, &[u8]), DecodeEnd>
-    ensures { Gives (λ x. (x.0, x.1.now)) result (phase_at bytes.now) }
+    ensures { GivesRead (λ x. (x.0, x.1.now)) result (phase_at bytes.now) }
 {
     let (p, rest) = number_of(bytes)?;
     let (n, rest) = number_of(rest)?;
@@ -27,7 +27,7 @@ fn phase_of(bytes: &[u8]) -> Result<(Member, &[u8]), DecodeEnd>
 }
 
 fn phases_of(alloc: Global, count: u32, bytes: &[u8]) -> Result<(Vec<Member>, &[u8]), DecodeEnd>
-    ensures { Gives (λ x. (x.0.items, x.1.now)) result (items_at phase_at count bytes.now) }
+    ensures { GivesRead (λ x. (x.0.items, x.1.now)) result (items_at phase_at count bytes.now) }
 {
     let mut phases = Vec::new(alloc);
     let mut rest = bytes;
@@ -39,9 +39,9 @@ fn phases_of(alloc: Global, count: u32, bytes: &[u8]) -> Result<(Vec<Member>, &[
     Ok((phases, rest))
 }
 
-#[tactic(auto, unfolding(crate::specs::inside::Reading::event_after))]
+#[tactic(auto, unfolding(crate::specs::inside::Reading::front_event))]
 fn event_of(bytes: &[u8]) -> Result<(Event, &[u8]), DecodeEnd>
-    ensures { Gives (λ x. (x.0, x.1.now)) result (event_after bytes.now) }
+    ensures { GivesRead (λ x. (x.0, x.1.now)) result (front_event bytes.now) }
 {
     let (p, rest) = number_of(bytes)?;
     let (n, rest) = number_of(rest)?;
@@ -50,7 +50,7 @@ fn event_of(bytes: &[u8]) -> Result<(Event, &[u8]), DecodeEnd>
 
 #[tactic(auto, unfolding(crate::specs::inside::Reading::status_at))]
 fn status_of(alloc: Global, bytes: &[u8]) -> Result<(Status, &[u8]), DecodeEnd>
-    ensures { Gives (λ x. (x.0, x.1.now)) result (status_at bytes.now) }
+    ensures { GivesRead (λ x. (x.0, x.1.now)) result (status_at bytes.now) }
 {
     let (t, rest) = number_of(bytes)?;
     let (event, rest) = event_of(rest)?;
@@ -65,7 +65,7 @@ fn status_of(alloc: Global, bytes: &[u8]) -> Result<(Status, &[u8]), DecodeEnd>
 }
 
 fn statuses_of(alloc: Global, count: u32, bytes: &[u8]) -> Result<(Vec<Status>, &[u8]), DecodeEnd>
-    ensures { Gives (λ x. (x.0.items, x.1.now)) result (items_at status_at count bytes.now) }
+    ensures { GivesRead (λ x. (x.0.items, x.1.now)) result (items_at status_at count bytes.now) }
 {
     let mut statuses = Vec::new(alloc);
     let mut rest = bytes;
@@ -80,7 +80,7 @@ fn statuses_of(alloc: Global, count: u32, bytes: &[u8]) -> Result<(Vec<Status>, 
 /// The statuses of which the bytes are the row, all of the bytes.
 #[tactic(auto, unfolding(crate::specs::inside::Reading::row_at))]
 pub(crate) fn row_of(alloc: Global, bytes: &[u8]) -> Result<Vec<Status>, DecodeEnd>
-    ensures { Gives (λ v. v.items) result (row_at bytes.now) }
+    ensures { GivesRead (λ v. v.items) result (row_at bytes.now) }
 {
     let (count, rest) = number_of(bytes)?;
     let (statuses, rest) = statuses_of(alloc, count, rest)?;

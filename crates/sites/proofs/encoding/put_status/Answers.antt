@@ -1,5 +1,5 @@
 use Rattle.std.specs.Int.{w32, to_be_bytes}
-use Rattle.std.proofs.Common.{length, ap, ◌∙◌, ◌++◌, List, ℕ}
+use Rattle.std.proofs.Common.{length, ap, ◌∙◌, ◌++◌, List}
 use Rattle.std.specs.List.{flat_map}
 use Rattle.armus_base.specs.declared.status.Member.{Member}
 use Rattle.sites.specs.Rows.{phase_bytes}

@@ -1,4 +1,3 @@
-use Rattle.std.proofs.Common.{◌≡◌, sym, ◌∙◌, ap}
 use Rattle.sites.proofs.OneList.{one_list_of}
 use Rattle.sites.proofs.laws.one_list.Goals as goal
 
