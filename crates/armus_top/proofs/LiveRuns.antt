@@ -16,8 +16,7 @@ use Rattle.report.specs.Live.{live_line, live_text}
 use Rattle.report.specs.NamedDead.{AreSomeDead, AreTheDead}
 use Rattle.report.specs.Reports.{IsReport, IsSomeDead}
 use Rattle.report.proofs.DeadExtend.{some_dead_extend}
-use Rattle.task_runner.specs.DetectRuns.{AreDeadAtTheEnd, HasWritten, TellsRun, Told}
-use Rattle.task_runner.specs.Tellers.{IsNoWrite}
+use Rattle.task_runner.specs.DetectRuns.{AreDeadAtTheEnd, HasWritten, TellsRun, Told, IsNoWrite}
 use Rattle.task_runner.specs.PlainRuns.{IsPlainEnd}
 use Rattle.task_runner.specs.declared.ran.Ran.{Ran}
 use Rattle.task_runner.specs.declared.ran.RunEnd.{RunEnd}

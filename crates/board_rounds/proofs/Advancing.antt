@@ -10,8 +10,9 @@ use Rattle.armus_base.specs.CheckedPlans.{IsCheckedPlan}
 use Rattle.armus_base.proofs.Elements.{Contains-head, Contains-tail}
 use Rattle.board.specs.Views.{own_place, task_of}
 use Rattle.board.specs.Seats.{Frame}
-use Rattle.board_rounds.specs.Turns.{Acts, EachActs, LeadsTo, Working, no_task, one_task}
-use Rattle.board_rounds.specs.Crews.{IsCrewOf, all_steps, emptied, number, steps_of, sum_below}
+use Rattle.board_rounds.specs.Turns.{Acts, EachActs, LeadsByCode, Working, no_task, one_task}
+use Rattle.board_rounds.specs.Crews.{IsCrewOf, all_steps, number, progress_of, sum_below}
+use Rattle.board_rounds.specs.inside.Rounds.{emptied}
 use Rattle.board_rounds.proofs.Apart.{differ_sum, sum_over}
 use Rattle.board_rounds.proofs.Between.{from_map}
 use Rattle.board_rounds.proofs.Goings.{task_is}
@@ -50,14 +51,14 @@ more : (k : ℕ) (o : Option ℕ) (x : Action) → o ≡ None → k + (if is_som
 more k None x e = (let s = steps_first k x in omega arith)
 more k (Some d) x e = absurd (cc)
 
-not_back : (plan : Plan) (t : ℕ) (a : Place) (own : List Action) (b : Place) → LeadsTo plan t a own b → steps_at a ≤ steps_at b
+not_back : (plan : Plan) (t : ℕ) (a : Place) (own : List Action) (b : Place) → LeadsByCode plan t a own b → steps_at a ≤ steps_at b
 not_back plan t a [] b same = (let e : steps_at b ≡ steps_at a = ap steps_at same in omega arith)
 not_back plan t a (x ∷ own) b steps =
     let l = no_less a.done a.dropped x in
     let r = not_back plan t (next_place a.done a.dropped x) own b steps.1 in
     omega arith
 
-further : (plan : Plan) (t : ℕ) (a : Place) (own : List Action) (b : Place) → a.dropped ≡ None → LeadsTo plan t a own b → 0 < length own → steps_at a < steps_at b
+further : (plan : Plan) (t : ℕ) (a : Place) (own : List Action) (b : Place) → a.dropped ≡ None → LeadsByCode plan t a own b → 0 < length own → steps_at a < steps_at b
 further plan t a [] b none steps l = absurd (omega arith)
 further plan t a (x ∷ own) b none steps l =
     let m = more a.done a.dropped x none in
@@ -69,30 +70,30 @@ pub no_drop : (o : Option ℕ) → (o ≡ None) ⊎ IsSome o
 no_drop None = inl refl
 no_drop (Some d) = inr refl
 
-task_not_back : (f : Frame) (own : List Action) (w v : Working) → Acts f own w v → steps_of w ≤ steps_of v
+task_not_back : (f : Frame) (own : List Action) (w v : Working) → Acts f own w v → progress_of w ≤ progress_of v
 task_not_back f own w v acts = not_back w.seat.view.plan (task_of w.seat.view) (own_place w.seat.view) own (own_place v.seat.view) acts.goes.place
 
-pub task_further : (f : Frame) (own : List Action) (w v : Working) → Acts f own w v → 0 < length own → steps_of w < steps_of v
+pub task_further : (f : Frame) (own : List Action) (w v : Working) → Acts f own w v → 0 < length own → progress_of w < progress_of v
 task_further f own w v acts l = elim (no_drop (own_place w.seat.view).dropped) [
   | inl none ↦ further w.seat.view.plan (task_of w.seat.view) (own_place w.seat.view) own (own_place v.seat.view) none acts.goes.place l
   | inr some ↦ (let e : length own ≡ 0 = ap length (acts.refused some) in absurd (omega arith))
 ]
 
 -- so are the tasks of a round, and further by a step of one of them
-pub all_not_back : {f : Frame} {owns : List (List Action)} {olds news : List Working} → EachActs f owns olds news → sum_by steps_of olds ≤ sum_by steps_of news
+pub all_not_back : {f : Frame} {owns : List (List Action)} {olds news : List Working} → EachActs f owns olds news → sum_by progress_of olds ≤ sum_by progress_of news
 all_not_back no_task = omega arith
 all_not_back {f = f} (one_task {own = own} {owns = owns} {before = a} {now = b} {befores = olds} {nows = news} acts p) =
-    let x = sum_by-cons steps_of a olds in
-    let y = sum_by-cons steps_of b news in
+    let x = sum_by-cons progress_of a olds in
+    let y = sum_by-cons progress_of b news in
     let l = task_not_back f own a b acts in
     let r = all_not_back p in
     omega arith
 
-pub all_further : {f : Frame} {owns : List (List Action)} {olds news : List Working} → EachActs f owns olds news → 0 < sum_by length owns → sum_by steps_of olds < sum_by steps_of news
+pub all_further : {f : Frame} {owns : List (List Action)} {olds news : List Working} → EachActs f owns olds news → 0 < sum_by length owns → sum_by progress_of olds < sum_by progress_of news
 all_further no_task l = absurd (omega arith)
 all_further {f = f} (one_task {own = own} {owns = owns} {before = a} {now = b} {befores = olds} {nows = news} acts p) l =
-    let x = sum_by-cons steps_of a olds in
-    let y = sum_by-cons steps_of b news in
+    let x = sum_by-cons progress_of a olds in
+    let y = sum_by-cons progress_of b news in
     let z = sum_by-cons length own owns in
     elim (cases_lt 0 (length own)) [
       | inl some ↦ (let m = task_further f own a b acts some in let r = all_not_back p in omega arith)
@@ -100,11 +101,11 @@ all_further {f = f} (one_task {own = own} {owns = owns} {before = a} {now = b} {
     ]
 
 -- taking the children's seats out changes no step
-pub emptied_steps : (ws : List Working) → sum_by steps_of (map emptied ws) ≡ sum_by steps_of ws
+pub emptied_steps : (ws : List Working) → sum_by progress_of (map emptied ws) ≡ sum_by progress_of ws
 emptied_steps [] = refl
 emptied_steps (w ∷ ws) =
-    let x = sum_by-cons steps_of (emptied w) (map emptied ws) in
-    let y = sum_by-cons steps_of w ws in
+    let x = sum_by-cons progress_of (emptied w) (map emptied ws) in
+    let y = sum_by-cons progress_of w ws in
     let r = emptied_steps ws in
     omega arith
 
@@ -116,10 +117,10 @@ over_numbers g (w ∷ ws) =
     let r = over_numbers g ws in
     omega arith
 
-at_most_each : (g : ℕ → ℕ) (ws : List Working) → ((w : Working) → Contains ws w → steps_of w ≤ g (number w)) → sum_by steps_of ws ≤ sum_by (λ (w : Working). g (number w)) ws
+at_most_each : (g : ℕ → ℕ) (ws : List Working) → ((w : Working) → Contains ws w → progress_of w ≤ g (number w)) → sum_by progress_of ws ≤ sum_by (λ (w : Working). g (number w)) ws
 at_most_each g [] each = omega arith
 at_most_each g (w ∷ ws) each =
-    let x = sum_by-cons steps_of w ws in
+    let x = sum_by-cons progress_of w ws in
     let y = sum_by-cons (λ (v : Working). g (number v)) w ws in
     let l = each w (Contains-head w ws) in
     let r = at_most_each g ws (λ v i. each v (Contains-tail w ws v i)) in
@@ -155,7 +156,7 @@ module _ (f : Frame) (checked : IsCheckedPlan f.plan) (ws : List Working) (whole
       let l = checked.limits.few_tasks in
       omega arith
 
-  step_bound : (w : Working) → Contains ws w → steps_of w ≤ length (actions f.plan (number w)) + 1
+  step_bound : (w : Working) → Contains ws w → progress_of w ≤ length (actions f.plan (number w)) + 1
   step_bound w i =
       let s = whole.crew.each w.seat (w, i, refl) in
       let l = s.within in
@@ -163,7 +164,7 @@ module _ (f : Frame) (checked : IsCheckedPlan f.plan) (ws : List Working) (whole
       omega arith
 
   -- and come no further than their codes go
-  pub within_all : sum_by steps_of ws ≤ all_steps f.plan
+  pub within_all : sum_by progress_of ws ≤ all_steps f.plan
   within_all =
       let d = differ_sum (map number ws) (λ t. length (actions f.plan t) + 1) (length f.plan.parents) (once_differ ws whole.once) number_within in
       let a = over_numbers (λ t. length (actions f.plan t) + 1) ws in

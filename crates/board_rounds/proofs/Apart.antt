@@ -12,8 +12,9 @@ use Rattle.armus_base.proofs.Elements.{Contains-cons_cases, Contains-head, Conta
 use Rattle.armus_base.proofs.Codes.{child_later, parent_is}
 use Rattle.board.specs.Views.{own_place, task_of}
 use Rattle.board.specs.Seats.{Frame, Known}
-use Rattle.board_rounds.specs.Turns.{Acts, AreChildSeats, EachActs, LeadsTo, Working, forks_of, no_child, no_task, one_child, one_task}
-use Rattle.board_rounds.specs.Crews.{IsForkedWithin, done_of, emptied, fresh, fresh_of, number, sum_below}
+use Rattle.board_rounds.specs.Turns.{Acts, AreChildSeats, EachActs, LeadsByCode, Working, forks_of, no_child, no_task, one_child, one_task}
+use Rattle.board_rounds.specs.Crews.{IsForkedWithin, done_of, number, sum_below}
+use Rattle.board_rounds.specs.inside.Rounds.{emptied, fresh, fresh_of}
 use Rattle.board_rounds.proofs.Goings.{same_task}
 use Rattle.board_rounds.proofs.Between.{from_fresh, from_map, in_map}
 use Rattle.board_rounds.proofs.Crewing.{became, step_done, was}
@@ -31,7 +32,7 @@ differ_on (x ∷ xs) ys p q apart = (
   differ_on xs ys p.1 q (λ t i j. apart t (Contains-tail x xs t i) j),
 )
 
-go_less : (plan : Plan) (t : ℕ) (a : Place) (xs : List Action) (b : Place) → LeadsTo plan t a xs b → a.done ≤ b.done
+go_less : (plan : Plan) (t : ℕ) (a : Place) (xs : List Action) (b : Place) → LeadsByCode plan t a xs b → a.done ≤ b.done
 go_less plan t a [] b same = (let e : b.done ≡ a.done = ap (λ (x : Place). x.done) same in omega arith)
 go_less plan t a (x ∷ xs) b steps =
     let l = go_less plan t (next_place a.done a.dropped x) xs b steps.1 in
@@ -47,7 +48,7 @@ wider plan t from from' to c l s = (s.0, (let m = s.1 in omega arith), s.2, s.3)
 next_more : (k : ℕ) (o : Option ℕ) (x : Action) → k ≤ (next_place k o x).done
 next_more k o x = elim (step_done k o x) [ inl s ↦ omega arith | inr s ↦ (let e = s.0 in omega arith) ]
 
-pub fork_stands : (plan : Plan) (t : ℕ) (a : Place) (own : List Action) (b : Place) (c : ℕ) → LeadsTo plan t a own b → Contains (forks_of own) c → IsForkedWithin plan t a.done b.done c
+pub fork_stands : (plan : Plan) (t : ℕ) (a : Place) (own : List Action) (b : Place) (c : ℕ) → LeadsByCode plan t a own b → Contains (forks_of own) c → IsForkedWithin plan t a.done b.done c
 fork_stands plan t a [] b c steps i = absurd (nothing_in_nil c i)
 fork_stands plan t a (Forks d ∷ own) b c steps i =
     let f = fork_step a.done a.dropped plan t d steps.0 in
@@ -71,7 +72,7 @@ pub forks_once : (plan : Plan) → IsCheckedPlan plan → (t i j c : ℕ) → i 
 forks_once plan checked t i j c l first second = (checked.codes.well_formed t j (Forks c) second).1 i l first
 
 -- so what one task forks in a round differs
-fork_differ : (plan : Plan) → IsCheckedPlan plan → (t : ℕ) (a : Place) (own : List Action) (b : Place) → LeadsTo plan t a own b → Differ (forks_of own)
+fork_differ : (plan : Plan) → IsCheckedPlan plan → (t : ℕ) (a : Place) (own : List Action) (b : Place) → LeadsByCode plan t a own b → Differ (forks_of own)
 fork_differ plan checked t a [] b steps = tt
 fork_differ plan checked t a (Forks d ∷ own) b steps =
     let f = fork_step a.done a.dropped plan t d steps.0 in (
@@ -110,8 +111,8 @@ module _ (f : Frame) (checked : IsCheckedPlan f.plan) where
   not_root : (t from to c : ℕ) → IsForkedWithin f.plan t from to c → 0 < c
   not_root t from to c s = (let l = child_later f.plan checked.tables t c (checked.codes.well_formed t s.0 (Forks c) s.3).0 in omega arith)
 
-  leads_here : (own : List Action) (w v : Working) → w.seat.view.plan ≡ f.plan → Acts f own w v → LeadsTo f.plan (number w) (own_place w.seat.view) own (own_place v.seat.view)
-  leads_here own w v plan acts = subst (λ (q : Plan). LeadsTo q (number w) (own_place w.seat.view) own (own_place v.seat.view)) plan acts.goes.place
+  leads_here : (own : List Action) (w v : Working) → w.seat.view.plan ≡ f.plan → Acts f own w v → LeadsByCode f.plan (number w) (own_place w.seat.view) own (own_place v.seat.view)
+  leads_here own w v plan acts = subst (λ (q : Plan). LeadsByCode q (number w) (own_place w.seat.view) own (own_place v.seat.view)) plan acts.goes.place
 
   forker :
       {owns : List (List Action)} {olds news : List Working} (c : ℕ) → EachActs f owns olds news → ((w : Working) → Contains olds w → w.seat.view.plan ≡ f.plan) → Contains (all_forks owns) c →

@@ -22,7 +22,7 @@ use Rattle.phase_scan.proofs.Loads.{goes_both, longest_later}
 use Rattle.phase_scan.proofs.Supposes.{own_phase_stays}
 use Rattle.verdict.specs.declared.found.Cycle.{Cycle}
 use Rattle.avoider.specs.OnBoard.{HasPublished, HasRefused, IsUndecided, Judges}
-use Rattle.board_rounds.specs.Turns.{EndsTurn, Goes, LeadsTo, is_locked_out}
+use Rattle.board_rounds.specs.Turns.{EndsTurn, Goes, LeadsByCode, is_locked_out}
 use Rattle.board_rounds.specs.inside.Attempts.{IsRefusedAt, drops_below}
 use Rattle.board_rounds.proofs.Goings.{goes_loads, goes_made, goes_on, goes_step, goes_then, next_still, own_stays, same_task, stepped_place, task_is}
 use Rattle.board_rounds.proofs.Leaving.{drops_go, has_left_all}
@@ -41,8 +41,8 @@ goes_locked a b c d own free taken goes freed =
         count = ap (λ (v : View). length v.sight.places) freed.view ∙ goes.same.count ∙ ap (λ (v : View). length v.sight.places) taken.view;
       };
       place =
-          subst (λ (v : View). LeadsTo a.view.plan (task_of a.view) (own_place a.view) own (own_place v)) (sym freed.view)
-          (subst (λ (v : View). LeadsTo v.plan (task_of v) (own_place v) own (own_place c.view)) taken.view goes.place);
+          subst (λ (v : View). LeadsByCode a.view.plan (task_of a.view) (own_place a.view) own (own_place v)) (sym freed.view)
+          (subst (λ (v : View). LeadsByCode v.plan (task_of v) (own_place v) own (own_place c.view)) taken.view goes.place);
       later = λ u.
           subst (λ (v : View). IsPrefix ((seen a.view).places u) ((seen v).places u)) (sym freed.view)
           (subst (λ (v : View). IsPrefix ((seen v).places u) ((seen c.view).places u)) taken.view (goes.later u));

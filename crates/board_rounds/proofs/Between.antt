@@ -11,10 +11,11 @@ use Rattle.armus_base.specs.Runs.{Place}
 use Rattle.armus_base.specs.Seats.{SeenBy, seen_by_child}
 use Rattle.board.specs.Seats.{Frame, IsNewSeat, Known, nothing_seen}
 use Rattle.board.proofs.Walking.{new_first}
-use Rattle.board_rounds.specs.Turns.{Acts, AreChildSeats, EachActs, EndsTurn, IsReady, Working, no_task, one_task}
+use Rattle.board_rounds.specs.Turns.{Acts, AreChildSeats, EachActs, EndsTurn, MayTakeTurn, Working, no_task, one_task}
 use Rattle.board_rounds.proofs.Crewing.{crew_after, starts}
 use Rattle.board_rounds.proofs.Emptying.{contains_at}
-use Rattle.board_rounds.specs.Crews.{IsAtStart, IsChildIn, IsCrew, IsCrewSeat, IsSeatIn, emptied, fresh, fresh_of}
+use Rattle.board_rounds.specs.Crews.{IsCrew, IsCrewSeat, IsSeatIn}
+use Rattle.board_rounds.specs.inside.Rounds.{IsAtStart, IsChildIn, emptied, fresh, fresh_of}
 
 -- a crew by other words
 pub crew_same : (f : Frame) (P Q : Known → Type 0) → ((k : Known) → P k → Q k) → ((k : Known) → Q k → P k) → IsCrew f P → IsCrew f Q
@@ -107,8 +108,8 @@ take_front (w ∷ ws) rest zero e = absurd (omega arith)
 take_front (w ∷ ws) rest (suc n) e = ap (λ vs. w ∷ vs) (take_front ws rest n (omega arith))
 
 -- each task of a crew may take its turn
-pub crew_ready : (f : Frame) (ws : List Working) → IsCrew f (IsSeatIn ws) → All (IsReady f) ws
-crew_ready f ws crew = all_from (IsReady f) ws (λ w i. let s = crew.each w.seat (w, i, refl) in record { of_board = s.of_board; kept = s.kept; free = s.free })
+pub crew_ready : (f : Frame) (ws : List Working) → IsCrew f (IsSeatIn ws) → All (MayTakeTurn f) ws
+crew_ready f ws crew = all_from (MayTakeTurn f) ws (λ w i. let s = crew.each w.seat (w, i, refl) in record { of_board = s.of_board; kept = s.kept; free = s.free })
 
 -- a whole round: the turns, and then the children are taken on
 module _ (f : Frame) (owns : List (List Action)) (olds news : List Working) (each : EachActs f owns olds news) (crew : IsCrew f (IsSeatIn olds)) (none : All (λ (w : Working). w.children ≡ []) olds) where

@@ -8,8 +8,9 @@ use Rattle.armus_base.specs.CheckedPlans.{IsCheckedPlan}
 use Rattle.pl_core.proofs.StepKinds.{few_actions}
 use Rattle.board.specs.Views.{own_place, task_of}
 use Rattle.board.specs.Seats.{Frame}
-use Rattle.board_rounds.specs.Turns.{LeadsTo, MakesSome, Working}
-use Rattle.board_rounds.specs.Crews.{steps_of}
+use Rattle.board_rounds.specs.Turns.{LeadsByCode, Working}
+use Rattle.board_rounds.specs.inside.Tasks.{MakesSome}
+use Rattle.board_rounds.specs.Crews.{progress_of}
 use Rattle.board_rounds.proofs.Advancing.{no_drop, task_further}
 use Rattle.board_rounds.proofs.Goings.{same_task}
 
@@ -36,7 +37,7 @@ one_more plan t k (Some d) (Blocks p) by = absurd by
 one_more plan t k (Some d) (Passes p) by = absurd by
 one_more plan t k (Some d) (Refuses p) by = absurd by
 
-all_more : (plan : Plan) (t : ℕ) (a : Place) (own : List Action) (b : Place) → LeadsTo plan t a own b → events_to b.done b.dropped ≡ events_to a.done a.dropped + length own
+all_more : (plan : Plan) (t : ℕ) (a : Place) (own : List Action) (b : Place) → LeadsByCode plan t a own b → events_to b.done b.dropped ≡ events_to a.done a.dropped + length own
 all_more plan t a [] b same = (let e : events_to b.done b.dropped ≡ events_to a.done a.dropped = ap (λ (x : Place). events_to x.done x.dropped) same in omega arith)
 all_more plan t a (x ∷ own) b steps =
     (let e = one_more plan t a.done a.dropped x steps.0 in
@@ -44,7 +45,7 @@ all_more plan t a (x ∷ own) b steps =
     omega arith)
 
 -- a task that is not refused has made as many events as it has done actions
-undropped_more : (plan : Plan) (t : ℕ) (a : Place) (own : List Action) (b : Place) → a.dropped ≡ None → b.dropped ≡ None → LeadsTo plan t a own b → b.done ≡ a.done + length own
+undropped_more : (plan : Plan) (t : ℕ) (a : Place) (own : List Action) (b : Place) → a.dropped ≡ None → b.dropped ≡ None → LeadsByCode plan t a own b → b.done ≡ a.done + length own
 undropped_more plan t a own b first last steps =
     (let r = all_more plan t a own b steps in
     let x : events_to a.done a.dropped ≡ a.done = ap (events_to a.done) first in
@@ -70,7 +71,7 @@ counts_on f own made w v c m =
     let a = own_place w.seat.view in
     let b = own_place v.seat.view in
     let none = was_unrefused f made w v m in
-    let steps : LeadsTo plan t a m.own b = m.acts.goes.place in
+    let steps : LeadsByCode plan t a m.own b = m.acts.goes.place in
     let same : length (actions v.seat.view.plan (task_of v.seat.view)) ≡ length (actions plan t) =
     (λ i. length (actions (m.acts.goes.same.plan i) (same_task w.seat v.seat m.acts.goes.same i))) in
     let before = c.unrefused none in
@@ -81,14 +82,14 @@ counts_on f own made w v c m =
 
 -- how much is left to a task, which falls with its events
 abbrev pub left_to_task : Working → ℕ
-left_to_task w = (length (actions w.seat.view.plan (task_of w.seat.view)) + 1) - steps_of w
+left_to_task w = (length (actions w.seat.view.plan (task_of w.seat.view)) + 1) - progress_of w
 
 pub leaves_less : (f : Frame) (made : ℕ) (w v : Working) → MakesSome f made w v → left_to_task v < left_to_task w
 leaves_less f made w v m =
     let same : length (actions v.seat.view.plan (task_of v.seat.view)) ≡ length (actions w.seat.view.plan (task_of w.seat.view)) =
     (λ i. length (actions (m.acts.goes.same.plan i) (same_task w.seat v.seat m.acts.goes.same i))) in
     let more = task_further f m.own w v m.acts (let n = m.counted in let s = m.some in omega arith) in
-    let first : steps_of w ≡ (own_place w.seat.view).done =
+    let first : progress_of w ≡ (own_place w.seat.view).done =
     ap (λ o. (own_place w.seat.view).done + (if is_some o then 1 else 0)) (was_unrefused f made w v m) ∙ (let z : (own_place w.seat.view).done + 0 ≡ (own_place w.seat.view).done = omega arith in z) in
     (let l = m.within in omega arith)
 

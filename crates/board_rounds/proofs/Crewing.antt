@@ -8,8 +8,9 @@ use Rattle.armus_base.specs.Runs.{IsByCode, Place, next_place}
 use Rattle.armus_base.proofs.Elements.{Contains-cons_cases, Contains-head, Contains-tail, nothing_in_nil}
 use Rattle.board.specs.Views.{own_place, task_of}
 use Rattle.board.specs.Seats.{Frame, Known}
-use Rattle.board_rounds.specs.Turns.{Acts, AreChildSeats, EachActs, Goes, IsChildSeat, LeadsTo, Working, forks_of, no_child, no_task, one_child, one_task}
-use Rattle.board_rounds.specs.Crews.{HasSeatOf, IsAtStart, IsChildIn, IsCrew, IsCrewSeat, IsSeatIn}
+use Rattle.board_rounds.specs.Turns.{Acts, AreChildSeats, EachActs, Goes, IsChildSeat, LeadsByCode, Working, forks_of, no_child, no_task, one_child, one_task}
+use Rattle.board_rounds.specs.Crews.{HasSeatOf, IsCrew, IsCrewSeat, IsSeatIn}
+use Rattle.board_rounds.specs.inside.Rounds.{IsAtStart, IsChildIn}
 use Rattle.board_rounds.proofs.Goings.{of_on, same_task}
 
 -- a fork between two places is one of the steps that lead from one to the other
@@ -65,7 +66,7 @@ by_code_is plan t k None x e is = is
 by_code_is plan t k (Some d) x e is = absurd (cc)
 
 forked_between :
-    (plan : Plan) (t : ℕ) (a : Place) (own : List Action) (b : Place) (j c : ℕ) → LeadsTo plan t a own b → a.done ≤ j → j < b.done → action_at plan t j ≡ Some (Forks c) →
+    (plan : Plan) (t : ℕ) (a : Place) (own : List Action) (b : Place) (j c : ℕ) → LeadsByCode plan t a own b → a.done ≤ j → j < b.done → action_at plan t j ≡ Some (Forks c) →
     Contains (forks_of own) c
 forked_between plan t a [] b j c same l m is = absurd (let e : b.done ≡ a.done = ap (λ (x : Place). x.done) same in omega arith)
 forked_between plan t a (x ∷ own) b j c steps l m is = elim (step_done a.done a.dropped x) [
@@ -115,7 +116,7 @@ within_next plan t k o x is l = elim (step_done k o x) [
   | inr goes ↦ (let e = goes.0 in let w = has_left plan t k (in_code x) (by_code_is plan t k o x goes.1 is) in omega arith)
 ]
 
-still_within : (plan : Plan) (t : ℕ) (a : Place) (own : List Action) (b : Place) → LeadsTo plan t a own b → a.done ≤ length (actions plan t) → b.done ≤ length (actions plan t)
+still_within : (plan : Plan) (t : ℕ) (a : Place) (own : List Action) (b : Place) → LeadsByCode plan t a own b → a.done ≤ length (actions plan t) → b.done ≤ length (actions plan t)
 still_within plan t a [] b same l = (let e : b.done ≡ a.done = ap (λ (x : Place). x.done) same in omega arith)
 still_within plan t a (x ∷ own) b steps l =
     still_within plan t (next_place a.done a.dropped x) own b steps.1 (within_next plan t a.done a.dropped x steps.0 l)
@@ -132,7 +133,7 @@ goes_crew f own k m s goes =
       within =
           subst (λ t. (own_place m.view).done ≤ length (actions f.plan t)) (sym (same_task k m goes.same))
           (still_within f.plan (task_of k.view) (own_place k.view) own (own_place m.view)
-          (subst (λ (q : Plan). LeadsTo q (task_of k.view) (own_place k.view) own (own_place m.view)) s.of_board.plan goes.place) s.within);
+          (subst (λ (q : Plan). LeadsByCode q (task_of k.view) (own_place k.view) own (own_place m.view)) s.of_board.plan goes.place) s.within);
     }
 
 -- the seats before a round, and those after it

@@ -15,11 +15,12 @@ use Rattle.board.specs.Seats.{Frame, IsOf, IsSeat, Known, MakesStep}
 use Rattle.board.proofs.Seated.{next_there}
 use Rattle.board.proofs.Walking.{moved_here}
 use Rattle.phase_scan.specs.Looks.{LoadsAlone}
-use Rattle.board_rounds.specs.Turns.{Acts, AreChildSeats, Goes, LeadsTo, MakesSome, Working, forks_of, no_child, one_child}
+use Rattle.board_rounds.specs.Turns.{Acts, AreChildSeats, Goes, LeadsByCode, Working, forks_of, no_child, one_child}
+use Rattle.board_rounds.specs.inside.Tasks.{MakesSome}
 
 -- steps after steps
-pub leads_on : (plan : Plan) (t : ℕ) (a : Place) (xs : List Action) (b : Place) (ys : List Action) (c : Place) → LeadsTo plan t a xs b → LeadsTo plan t b ys c → LeadsTo plan t a (xs ++ ys) c
-leads_on plan t a [] b ys c e q = subst (λ (z : Place). LeadsTo plan t z ys c) e q
+pub leads_on : (plan : Plan) (t : ℕ) (a : Place) (xs : List Action) (b : Place) (ys : List Action) (c : Place) → LeadsByCode plan t a xs b → LeadsByCode plan t b ys c → LeadsByCode plan t a (xs ++ ys) c
+leads_on plan t a [] b ys c e q = subst (λ (z : Place). LeadsByCode plan t z ys c) e q
 leads_on plan t a (x ∷ xs) b ys c p q = (p.0, leads_on plan t (next_place a.done a.dropped x) xs b ys c p.1 q)
 
 pub forks_on : (xs ys : List Action) → forks_of (xs ++ ys) ≡ forks_of xs ++ forks_of ys
@@ -147,8 +148,8 @@ goes_on k m n xs ys p q =
       same = same_on k m n p.same q.same;
       place =
           leads_on k.view.plan (task_of k.view) (own_place k.view) xs (own_place m.view) ys (own_place n.view) p.place
-          (subst (λ (t : ℕ). LeadsTo k.view.plan t (own_place m.view) ys (own_place n.view)) (same_task k m p.same)
-          (subst (λ (z : Plan). LeadsTo z (task_of m.view) (own_place m.view) ys (own_place n.view)) p.same.plan q.place));
+          (subst (λ (t : ℕ). LeadsByCode k.view.plan t (own_place m.view) ys (own_place n.view)) (same_task k m p.same)
+          (subst (λ (z : Plan). LeadsByCode z (task_of m.view) (own_place m.view) ys (own_place n.view)) p.same.plan q.place));
       later = λ u.
           let x : Place = (seen k.view).places u in
           let y : Place = (seen m.view).places u in
@@ -159,8 +160,8 @@ goes_on k m n xs ys p q =
     }
 
 -- without a step nobody goes anywhere
-nowhere : (plan : Plan) (t : ℕ) (a : Place) (xs : List Action) (b : Place) → xs ≡ [] → LeadsTo plan t a xs b → b ≡ a
-nowhere plan t a xs b none steps = subst (λ ys. LeadsTo plan t a ys b) none steps
+nowhere : (plan : Plan) (t : ℕ) (a : Place) (xs : List Action) (b : Place) → xs ≡ [] → LeadsByCode plan t a xs b → b ≡ a
+nowhere plan t a xs b none steps = subst (λ ys. LeadsByCode plan t a ys b) none steps
 
 -- who goes on by its code is not refused
 unrefused_next : (plan : Plan) (t k : ℕ) (o : Option ℕ) (xs : List Action) → o ≡ None → IsSome o → xs ≡ []

@@ -6,20 +6,21 @@ use Rattle.std.proofs.lemmas.List.{length-set}
 use Rattle.std.proofs.lemmas.List.Elements.{Contains-append_cases, Contains-append_left, Contains-append_right}
 use Rattle.armus_base.specs.Plans.{Plan}
 use Rattle.armus_base.proofs.Elements.{Contains-cons_cases, Contains-head, nothing_in_nil}
-use Rattle.pl_core.specs.declared.place.Place.{Place as Standing}
+use Rattle.pl_core.specs.declared.place.Place.{Place as KeptPlace}
 use Rattle.pl_core.proofs.Cells.{slice_get-set_other, slice_get-set_same}
 use Rattle.board.specs.Seats.{Frame, Known, TakesIn}
 use Rattle.board.specs.Views.{seen, task_of}
 use Rattle.board_rounds.specs.Turns.{Working, standing_of}
-use Rattle.board_rounds.specs.Crews.{ArePlacesOf, IsCrewOf, KnowsTasks, NotesPlaces, TakesAll, number}
+use Rattle.board_rounds.specs.Crews.{ArePlacesOf, IsCrewOf, KnowsTasks, number}
+use Rattle.board_rounds.specs.inside.Endings.{NotesPlaces, TakesAll}
 use Rattle.board_rounds.proofs.Between.{from_map, in_map, seats_crew}
 use Rattle.board_rounds.proofs.Settling.{closed, taken_here, takes_more, whose}
 
-pub none_noted : (places : List Standing) → NotesPlaces [] places places
+pub none_noted : (places : List KeptPlace) → NotesPlaces [] places places
 none_noted places = record { count = refl; each = λ t l. inr ((λ w i. absurd (nothing_in_nil w i)), refl) }
 
 pub one_noted :
-    (tasks : List Working) (w : Working) (before now : List Standing) (p : Standing) → NotesPlaces tasks before now → number w < length before → p ≡ standing_of w.seat →
+    (tasks : List Working) (w : Working) (before now : List KeptPlace) (p : KeptPlace) → NotesPlaces tasks before now → number w < length before → p ≡ standing_of w.seat →
     NotesPlaces (tasks ++ w ∷ []) before (set now (number w) p)
 one_noted tasks w before now p noted within is = record { count = length-set now (number w) p ∙ noted.count; each = each }
   where
@@ -53,7 +54,7 @@ one_noted tasks w before now p noted within is = record { count = length-set now
 
 -- one list after another
 pub both_noted :
-    (plan : Plan) (xs ys : List Working) (first second third : List Standing) → length first ≡ length plan.parents →
+    (plan : Plan) (xs ys : List Working) (first second third : List KeptPlace) → length first ≡ length plan.parents →
     ((t : ℕ) → t < length first → slice_get first t ≡ Some (record { events = 0; refused = false })) → NotesPlaces xs first second → NotesPlaces ys second third →
     ArePlacesOf plan (xs ++ ys) third
 both_noted plan xs ys first second third count opening p q = record { one_each = q.count ∙ p.count ∙ count; each = each }
@@ -104,7 +105,7 @@ knows f tasks a b whole takes unknown =
       only = λ u is. let k = whose f seats a b crew takes unknown u is in let w = from_map seat_of tasks k.0 k.1 in (w.0, w.1, ap (λ (m : Known). task_of m.view) w.2 ∙ k.2);
     }
 
-pub all_opening : (n : ℕ) (p : Standing) (t : ℕ) → t < n → slice_get (replicate n p) t ≡ Some p
+pub all_opening : (n : ℕ) (p : KeptPlace) (t : ℕ) → t < n → slice_get (replicate n p) t ≡ Some p
 all_opening zero p t l = absurd (omega arith)
 all_opening (suc n) p zero l = refl
 all_opening (suc n) p (suc t) l = all_opening n p t (omega arith)

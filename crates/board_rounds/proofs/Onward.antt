@@ -16,9 +16,9 @@ use Rattle.board.specs.inside.Walking.{HasBegun, begins, left_of}
 use Rattle.board.proofs.Seated.{event_here, next_there, place_made}
 use Rattle.board.proofs.Walking.{IsBefore, before_next}
 use Rattle.board_rounds.specs.declared.deciding.Attempt.TheVariants.{Begun, LockedOut, Refused}
-use Rattle.board_rounds.specs.inside.Attempts.{Begins, IsRefusedAt, drops_below}
-use Rattle.board_rounds.specs.Tasks.{HasCome}
-use Rattle.board_rounds.specs.Turns.{Acts, AreChildSeats, EndsTurn, Goes, LeadsTo, MakesSome, Working, forks_of}
+use Rattle.board_rounds.specs.inside.Attempts.{BeginsOp, IsRefusedAt, drops_below}
+use Rattle.board_rounds.specs.inside.Tasks.{HasCome, MakesSome}
+use Rattle.board_rounds.specs.Turns.{Acts, AreChildSeats, EndsTurn, Goes, LeadsByCode, Working, forks_of}
 use Rattle.board_rounds.proofs.Begun.{begun_on}
 use Rattle.board_rounds.proofs.Goings.{acts_alone, same_task, some_steps}
 use Rattle.board_rounds.proofs.Halting.{events_fit, no_refusal, op_fits}
@@ -57,7 +57,7 @@ dropped_done : (k : ℕ) (o : Option ℕ) (x : Action) → IsSome o → ((next_p
 dropped_done k None x some = absurd (false≢true some)
 dropped_done k (Some d) x some = drop_done k d x
 
-stays_done : (plan : Plan) (t : ℕ) (a : Place) (own : List Action) (b : Place) → IsSome a.dropped → LeadsTo plan t a own b → b.done ≡ a.done
+stays_done : (plan : Plan) (t : ℕ) (a : Place) (own : List Action) (b : Place) → IsSome a.dropped → LeadsByCode plan t a own b → b.done ≡ a.done
 stays_done plan t a [] b some same = ap (λ (x : Place). x.done) same
 stays_done plan t a (x ∷ own) b some steps =
     let one = dropped_done a.done a.dropped x some in
@@ -71,7 +71,7 @@ no_seat : (f : Frame) (cs : List ℕ) (seats : List Known) → cs ≡ [] → Are
 no_seat f cs seats e are = subst (λ ds. AreChildSeats f ds seats) e are
 
 -- what came of each op
-begins_goes : (op : Op) (k m : Known) → Begins op k m Begun → Goes (begins op ∷ []) k m
+begins_goes : (op : Op) (k m : Known) → BeginsOp op k m Begun → Goes (begins op ∷ []) k m
 begins_goes (Make p) k m b = b
 begins_goes (Reg c p) k m b = b
 begins_goes (Fork c) k m b = b
@@ -79,7 +79,7 @@ begins_goes (Adv p) k m b = b
 begins_goes (Drop p) k m b = b
 begins_goes (Await p off) k m b = b
 
-pub goes_begins : (op : Op) (k m : Known) → Goes (begins op ∷ []) k m → Begins op k m Begun
+pub goes_begins : (op : Op) (k m : Known) → Goes (begins op ∷ []) k m → BeginsOp op k m Begun
 goes_begins (Make p) k m goes = goes
 goes_begins (Reg c p) k m goes = goes
 goes_begins (Fork c) k m goes = goes
@@ -87,7 +87,7 @@ goes_begins (Adv p) k m goes = goes
 goes_begins (Drop p) k m goes = goes
 goes_begins (Await p off) k m goes = goes
 
-locked_goes : (op : Op) (k m : Known) → Begins op k m LockedOut → (forks_of (begins op ∷ []) ≡ []) × Goes [] k m × EndsTurn m
+locked_goes : (op : Op) (k m : Known) → BeginsOp op k m LockedOut → (forks_of (begins op ∷ []) ≡ []) × Goes [] k m × EndsTurn m
 locked_goes (Make p) k m b = absurd b
 locked_goes (Reg c p) k m b = absurd b
 locked_goes (Fork c) k m b = absurd b
@@ -95,7 +95,7 @@ locked_goes (Adv p) k m b = absurd b
 locked_goes (Drop p) k m b = absurd b
 locked_goes (Await p off) k m b = (refl, b.0, b.1)
 
-refused_goes : (op : Op) (k m : Known) (n : ℕ) → Begins op k m (Refused n) → (forks_of (begins op ∷ []) ≡ []) × (aim : Aim) × (begins op ≡ Blocks aim) × IsRefusedAt aim n k m
+refused_goes : (op : Op) (k m : Known) (n : ℕ) → BeginsOp op k m (Refused n) → (forks_of (begins op ∷ []) ≡ []) × (aim : Aim) × (begins op ≡ Blocks aim) × IsRefusedAt aim n k m
 refused_goes (Make p) k m n b = absurd b
 refused_goes (Reg c p) k m n b = absurd b
 refused_goes (Fork c) k m n b = absurd b
@@ -128,7 +128,7 @@ module _ (f : Frame) (begun events : ℕ) (k m : Known) (cs ds : List Known) (op
 
   module _ (new : List Known) (grown : ds ≡ cs ++ new) (seats : AreChildSeats f (forks_of (begins op ∷ [])) new) where
     -- the lock was taken
-    pub locked_out : Begins op k m LockedOut → (Acts f [] before now × EndsTurn m) × HasCome m begun events false
+    pub locked_out : BeginsOp op k m LockedOut → (Acts f [] before now × EndsTurn m) × HasCome m begun events false
     locked_out is =
         let r = locked_goes op k m is in (
           (record { goes = r.1; refused = λ _. refl; new = new; children = grown; seats = no_seat f (forks_of (begins op ∷ [])) new r.0 seats }, r.2),
@@ -136,11 +136,11 @@ module _ (f : Frame) (begun events : ℕ) (k m : Known) (cs ds : List Known) (op
         )
 
     -- the op has begun
-    pub begun_makes : Begins op k m Begun → MakesSome f 1 before now
+    pub begun_makes : BeginsOp op k m Begun → MakesSome f 1 before now
     begun_makes is =
         some_steps f (begins op ∷ []) k m cs ds new 1 (begins op) b.seat (before_next begun op k b) (begins_goes op k m is) grown seats refl (omega arith) (omega arith)
 
-    pub begun_come : Begins op k m Begun → HasCome m (begun + 1) (events + 1) false
+    pub begun_come : BeginsOp op k m Begun → HasCome m (begun + 1) (events + 1) false
     begun_come is =
         let goes = begins_goes op k m is in
         let n = begun_on begun op k m b goes in record {
@@ -165,7 +165,7 @@ module _ (f : Frame) (begun events : ℕ) (k m : Known) (cs ds : List Known) (op
         next_within = action_within k.view.plan b.seat.checked (task_of k.view) (own_place k.view).done (begins op) (next_there k.view (begins op) (before_next begun op k b)).1
 
     -- the task is refused
-    module _ (n : ℕ) (is : Begins op k m (Refused n)) where
+    module _ (n : ℕ) (is : BeginsOp op k m (Refused n)) where
       abbrev r : (forks_of (begins op ∷ []) ≡ []) × (aim : Aim) × (begins op ≡ Blocks aim) × IsRefusedAt aim n k m
       r = refused_goes op k m n is
 

@@ -11,8 +11,7 @@ use Rattle.board.proofs.Seated.{place_made}
 use Rattle.board.proofs.Walking.{begun_passed, passes_next, published_is}
 use Rattle.phase_scan.specs.Looks.{LoadsAlone}
 use Rattle.board_rounds.specs.declared.task.Task.TheInside.{Inside}
-use Rattle.board_rounds.specs.Tasks.{IsWorking}
-use Rattle.board_rounds.specs.Turns.{MakesSome}
+use Rattle.board_rounds.specs.inside.Tasks.{IsWorking, MakesSome}
 use Rattle.board_rounds.proofs.Goings.{goes_step, goes_then, own_stays, some_alone, stepped_place}
 use Rattle.board_rounds.proofs.Halting.{begun_loads, events_fit}
 

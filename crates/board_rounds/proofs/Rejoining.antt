@@ -12,8 +12,9 @@ use Rattle.armus_base.specs.Limits.{max_tasks}
 use Rattle.armus_base.specs.Seats.{seen_by_child}
 use Rattle.armus_base.proofs.Elements.{Contains-cons_cases, nothing_in_nil}
 use Rattle.board.specs.Seats.{Frame, IsNewSeat, IsOf, Known, nothing_seen}
-use Rattle.board_rounds.specs.Turns.{ActsNoMore, EachActs, EndsTurn, IsReady, Working, is_done, is_refused}
-use Rattle.board_rounds.specs.Crews.{AreTasksOf, IsCrewOf, MakesRound, Tasks, all_of, all_steps, emptied, left_to, fresh_of, number, steps_of}
+use Rattle.board_rounds.specs.Turns.{ActsNoMore, EachActs, EndsTurn, MayTakeTurn, Working, is_done, is_refused}
+use Rattle.board_rounds.specs.Crews.{AreTasksOf, IsCrewOf, Tasks, all_of, all_steps, left_to, number, progress_of}
+use Rattle.board_rounds.specs.inside.Rounds.{MakesRound, emptied, fresh_of}
 use Rattle.board_rounds.proofs.Advancing.{all_further, emptied_steps, few_tasks, within_all}
 use Rattle.board_rounds.proofs.Apart.{IsFamily, family_after}
 use Rattle.board_rounds.proofs.Between.{all_from, crew_ready, first_crew, then_crew, then_ends, then_none, to_each}
@@ -95,14 +96,14 @@ module _ (f : Frame) (live ended new : List Working) (made : ℕ) (tasks : AreTa
   whole : IsCrewOf f olds
   whole = tasks.all
 
-  ready : (w : Working) → Contains olds w → IsReady f w
-  ready w i = to_each (IsReady f) olds (crew_ready f olds whole.crew) w i
+  ready : (w : Working) → Contains olds w → MayTakeTurn f w
+  ready w i = to_each (MayTakeTurn f) olds (crew_ready f olds whole.crew) w i
 
   abbrev owns : List (List Action)
   owns = round.owns ++ map no_steps ended
 
   each : EachActs f owns olds turned
-  each = each_on (map no_steps ended) ended ended round.each (rest_each f ended (all_from (IsReady f) ended (λ w i. ready w (Contains-append_right live ended w i))))
+  each = each_on (map no_steps ended) ended ended round.each (rest_each f ended (all_from (MayTakeTurn f) ended (λ w i. ready w (Contains-append_right live ended w i))))
 
   events : made ≡ sum_by length owns
   events = (let s = sum_by-append (length {A = Action}) round.owns (map no_steps ended) in let z = zeros ended in let e = round.events in omega arith)
@@ -155,14 +156,14 @@ module _ (f : Frame) (live ended new : List Working) (made : ℕ) (tasks : AreTa
   pub after_round : IsCrewOf f (new ++ ended)
   after_round = shuffled f next (new ++ ended) moved next_whole
 
-  next_steps : sum_by steps_of turned ≤ sum_by steps_of (new ++ ended)
+  next_steps : sum_by progress_of turned ≤ sum_by progress_of (new ++ ended)
   next_steps =
-      (let p = sum_by-IsPermutation steps_of next (new ++ ended) moved in
-      let s = sum_by-append steps_of (map emptied turned) (flat_map fresh_of turned) in
+      (let p = sum_by-IsPermutation progress_of next (new ++ ended) moved in
+      let s = sum_by-append progress_of (map emptied turned) (flat_map fresh_of turned) in
       let e = emptied_steps turned in
       omega arith)
 
-  pub round_further : 0 < made → sum_by steps_of olds < sum_by steps_of (new ++ ended)
+  pub round_further : 0 < made → sum_by progress_of olds < sum_by progress_of (new ++ ended)
   round_further l = (let e = events in let m = all_further each (omega arith) in let n = next_steps in omega arith)
 
   pub round_quiet : made ≡ 0 → All (λ (w : Working). EndsTurn w.seat) (new ++ ended)
@@ -180,8 +181,8 @@ module _ (f : Frame) (tasks : Tasks) (are : AreTasksOf f tasks) where
   lives : (P : Working → Type 0) → ((w : Working) → Contains (all_of tasks) w → P w) → All P tasks.live
   lives P each = all_from P tasks.live (λ w i. each w (Contains-append_left tasks.live tasks.ended w i))
 
-  pub live_ready : All (IsReady f) tasks.live
-  live_ready = lives (IsReady f) (to_each (IsReady f) (all_of tasks) (crew_ready f (all_of tasks) are.all.crew))
+  pub live_ready : All (MayTakeTurn f) tasks.live
+  live_ready = lives (MayTakeTurn f) (to_each (MayTakeTurn f) (all_of tasks) (crew_ready f (all_of tasks) are.all.crew))
 
   pub live_none : All (λ (w : Working). w.children ≡ []) tasks.live
   live_none = lives (λ (w : Working). w.children ≡ []) (to_each (λ (w : Working). w.children ≡ []) (all_of tasks) are.all.no_child)
@@ -235,7 +236,7 @@ whole_round f plan before now new made same tasks round moved done =
       record { all = whole; ended = done },
       (λ l.
           let more = round_further f before.live before.ended new made tasks round l in
-          let e = sum_by-IsPermutation steps_of middle (all_of now) moved in
+          let e = sum_by-IsPermutation progress_of middle (all_of now) moved in
           let bound = within_all f (is_checked f before.live before.ended new made tasks round) (all_of now) whole in
           let s : all_steps f.plan ≡ all_steps plan = ap all_steps same in
           omega arith),

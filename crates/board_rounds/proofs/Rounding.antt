@@ -4,7 +4,7 @@ use Rattle.std.proofs.lemmas.List.Elements.{All-append}
 use Rattle.std.proofs.lemmas.List.Sums.{sum_by-append}
 use Rattle.armus_base.specs.Plans.{Action}
 use Rattle.board.specs.Seats.{Frame}
-use Rattle.board_rounds.specs.Turns.{Acts, EachActs, EndsTurn, IsReady, TakesTurns, Working, no_task, one_task}
+use Rattle.board_rounds.specs.Turns.{Acts, EachActs, EndsTurn, MayTakeTurn, TakesTurns, Working, no_task, one_task}
 use Rattle.board_rounds.proofs.Goings.{acts_itself}
 
 -- the first n tasks have made their own steps and ended their turns, and the others have made none
@@ -50,23 +50,23 @@ pub next_done :
 next_done own d w at_rest l acts ends = first_done _ own d w _ l acts ends
 next_done own d w (one_done acts' ends' p) l acts ends = one_done acts' ends' (next_done own d w p (omega arith) acts ends)
 
-pub rest_each : (f : Frame) (rest : List Working) → All (IsReady f) rest → EachActs f (map (λ w. []) rest) rest rest
+pub rest_each : (f : Frame) (rest : List Working) → All (MayTakeTurn f) rest → EachActs f (map (λ w. []) rest) rest rest
 rest_each f [] all = no_task
-rest_each f (w ∷ rest) all = one_task (acts_itself f w (all_first (IsReady f) w rest all).kept) (rest_each f rest (all_rest (IsReady f) w rest all))
+rest_each f (w ∷ rest) all = one_task (acts_itself f w (all_first (MayTakeTurn f) w rest all).kept) (rest_each f rest (all_rest (MayTakeTurn f) w rest all))
 
 first_stops :
-    (f : Frame) (own : List Action) (d w : Working) (rest : List Working) → All (IsReady f) rest → 0 < length rest → Acts f own (get_or rest 0 d) w →
+    (f : Frame) (own : List Action) (d w : Working) (rest : List Working) → All (MayTakeTurn f) rest → 0 < length rest → Acts f own (get_or rest 0 d) w →
     (owns : List (List Action)) × EachActs f owns rest (set rest 0 w)
 first_stops f own d w [] all l acts = absurd (omega arith)
-first_stops f own d w (b ∷ rest) all l acts = (own ∷ map (λ w. []) rest, one_task acts (rest_each f rest (all_rest (IsReady f) b rest all)))
+first_stops f own d w (b ∷ rest) all l acts = (own ∷ map (λ w. []) rest, one_task acts (rest_each f rest (all_rest (MayTakeTurn f) b rest all)))
 
 -- the next has made some steps, and no other acts then
 pub next_stops :
-    {f : Frame} {n : ℕ} {owns : List (List Action)} {olds news : List Working} (own : List Action) (d w : Working) → IsSoFar f n owns olds news → All (IsReady f) olds → n < length news →
+    {f : Frame} {n : ℕ} {owns : List (List Action)} {olds news : List Working} (own : List Action) (d w : Working) → IsSoFar f n owns olds news → All (MayTakeTurn f) olds → n < length news →
     Acts f own (get_or news n d) w → (owns' : List (List Action)) × EachActs f owns' olds (set news n w)
 next_stops own d w at_rest all l acts = first_stops _ own d w _ all l acts
 next_stops own d w (one_done {own = own'} acts' ends' p) all l acts =
-    let r = next_stops own d w p (all_rest (IsReady _) _ _ all) (omega arith) acts in
+    let r = next_stops own d w p (all_rest (MayTakeTurn _) _ _ all) (omega arith) acts in
     (own' ∷ r.0, one_task acts' r.1)
 
 none_each : (f : Frame) (rest : List Working) → 0 ≡ length rest → EachActs f [] rest rest
@@ -93,10 +93,10 @@ stopped f olds news (Ok n) bad p = absurd bad
 stopped f olds news (Err e) bad p = record { owns = p.0; each = p.1; events = tt; few = tt; ends = tt }
 
 -- no task has the lock then
-pub each_free : {f : Frame} {owns : List (List Action)} {olds news : List Working} → EachActs f owns olds news → All (IsReady f) olds → All (λ (w : Working). w.seat.view.holds ≡ false) news
+pub each_free : {f : Frame} {owns : List (List Action)} {olds news : List Working} → EachActs f owns olds news → All (MayTakeTurn f) olds → All (λ (w : Working). w.seat.view.holds ≡ false) news
 each_free no_task all = all_none (λ (w : Working). w.seat.view.holds ≡ false)
 each_free (one_task acts p) all =
-    all_more (λ (w : Working). w.seat.view.holds ≡ false) _ _ (acts.goes.same.holds ∙ (all_first (IsReady _) _ _ all).free) (each_free p (all_rest (IsReady _) _ _ all))
+    all_more (λ (w : Working). w.seat.view.holds ≡ false) _ _ (acts.goes.same.holds ∙ (all_first (MayTakeTurn _) _ _ all).free) (each_free p (all_rest (MayTakeTurn _) _ _ all))
 
 -- side by side
 pub each_on :

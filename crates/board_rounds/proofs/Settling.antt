@@ -7,7 +7,8 @@ use Rattle.armus_base.specs.Runs.{Place}
 use Rattle.armus_base.proofs.Elements.{Contains-cons_cases, Contains-head, Contains-tail, nothing_in_nil}
 use Rattle.board.specs.Views.{own_place, seen, task_of}
 use Rattle.board.specs.Seats.{Frame, IsSeat, Known, TakesIn}
-use Rattle.board_rounds.specs.Crews.{HasSeatOf, IsClosed, IsCrew, TakesAll}
+use Rattle.board_rounds.specs.Crews.{HasSeatOf, IsClosed, IsCrew}
+use Rattle.board_rounds.specs.inside.Endings.{TakesAll}
 
 -- one more
 pub takes_more : (seats : List Known) (seat a b c : Known) → TakesAll seats a b → TakesIn seat b c → TakesAll (seats ++ seat ∷ []) a c

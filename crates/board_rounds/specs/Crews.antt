@@ -1,14 +1,12 @@
 -- The seats of a run's tasks: whoever is forked by one of them has one too.
-use Rattle.std.specs.Prelude.{false, map, flat_map, slice_get, ◌≡◌, ◌≢◌, ℕ, ◌+◌, ◌-◌, ◌<◌, ◌≤◌, ◌⊎◌, true, List, [], ◌∷◌, ◌++◌, Some, All, Contains, is_some, length, sum_by, ◌==◌, if◌then◌else◌}
-use Rattle.std.specs.List.Sorted.{IsPermutation}
+use Rattle.std.specs.Prelude.{false, slice_get, ◌≡◌, ◌≢◌, ℕ, ◌+◌, ◌-◌, ◌<◌, ◌≤◌, ◌⊎◌, true, List, [], ◌++◌, Some, All, Contains, is_some, length, sum_by, ◌==◌, if◌then◌else◌}
 use Rattle.std.proofs.Common.{zero, suc}
-use Rattle.armus_base.specs.Plans.{Action, Plan, Forks, action_at, actions}
-use Rattle.armus_base.specs.Runs.{first_place}
+use Rattle.armus_base.specs.Plans.{Plan, Forks, action_at, actions}
 use Rattle.armus_base.specs.Seats.{SeenBy}
 use Rattle.board.specs.Views.{own_place, seen, task_of}
-use Rattle.board.specs.Seats.{Frame, IsOf, IsSeat, Known, TakesIn}
-use Rattle.pl_core.specs.declared.place.Place.{Place as Standing}
-use Rattle.board_rounds.specs.Turns.{ActsNoMore, EachActs, EndsTurn, Working, standing_of}
+use Rattle.board.specs.Seats.{Frame, IsOf, IsSeat, Known}
+use Rattle.pl_core.specs.declared.place.Place.{Place as KeptPlace}
+use Rattle.board_rounds.specs.Turns.{ActsNoMore, EndsTurn, Working, standing_of}
 
 -- task 0 is exact, and so is each task that an exact one forks before its place
 pub record IsClosed (plan : Plan) (seen : SeenBy) : Type 0 where
@@ -41,31 +39,6 @@ pub record IsCrew (board : Frame) (Seats : Known → Type 0) : Type 0 where
 abbrev pub IsSeatIn : List Working → Known → Type 0
 IsSeatIn tasks seat = (task : Working) × Contains tasks task × seat ≡ task.seat
 
--- the seat of a child which one of these tasks forked
-abbrev pub IsChildIn : List Working → Known → Type 0
-IsChildIn tasks seat = (task : Working) × Contains tasks task × Contains task.children seat
-
--- the viewer takes these seats in, one after the other
-abbrev pub TakesAll : List Known → Known → Known → Type 0
-TakesAll [] before now = now ≡ before
-TakesAll (seat ∷ seats) before now = (between : Known) × TakesIn seat before between × TakesAll seats between now
-
--- a seat whose task has made no step
-abbrev pub IsAtStart : Known → Type 0
-IsAtStart seat = (own_place seat.view ≡ first_place) × (seat.view.holds ≡ false)
-
--- a task whose children's seats were taken
-abbrev pub emptied : Working → Working
-emptied task = record { seat = task.seat; children = [] }
-
--- the task of a child's seat
-abbrev pub fresh : Known → Working
-fresh seat = record { seat = seat; children = [] }
-
--- the tasks of all children's seats of a task
-abbrev pub fresh_of : Working → List Working
-fresh_of task = map fresh task.children
-
 -- the number of a task
 abbrev pub number : Working → ℕ
 number task = task_of task.seat.view
@@ -94,8 +67,8 @@ pub record IsCrewOf (board : Frame) (tasks : List Working) : Type 0 where
   pub origin : (task : Working) → Contains tasks task → (number task ≡ 0) ⊎ IsForkedBy board.plan tasks (number task)
 
 -- how far a task has come: the actions that it has done, and one more where it is refused
-abbrev pub steps_of : Working → ℕ
-steps_of task = done_of task + (if is_some (own_place task.seat.view).dropped then 1 else 0)
+abbrev pub progress_of : Working → ℕ
+progress_of task = done_of task + (if is_some (own_place task.seat.view).dropped then 1 else 0)
 
 -- the sum of a function over the numbers below n
 abbrev pub sum_below : (ℕ → ℕ) → ℕ → ℕ
@@ -126,33 +99,15 @@ pub record HaveEnded (tasks : List Working) : Type 0 where
 
 -- how much is left to these tasks of a plan
 abbrev pub left_to : Plan → Tasks → ℕ
-left_to plan tasks = all_steps plan - sum_by steps_of (all_of tasks)
-
--- A round of turns of these tasks: each has made its own steps, so many in all, and has come to the end of its turn; then the children whom they forked
--- stand among them.
-pub record MakesRound (board : Frame) (before now : List Working) (made : ℕ) : Type 0 where
-  pub owns : List (List Action)
-  pub turned : List Working
-  pub each : EachActs board owns before turned
-  pub events : made ≡ sum_by length owns
-  pub ends : All (λ task. EndsTurn task.seat) turned
-  pub joined : IsPermutation (map emptied turned ++ flat_map fresh_of turned) now
+left_to plan tasks = all_steps plan - sum_by progress_of (all_of tasks)
 
 -- the place of each task of the plan that is one of these, and the first place of each other
-pub record ArePlacesOf (plan : Plan) (tasks : List Working) (places : List Standing) : Type 0 where
+pub record ArePlacesOf (plan : Plan) (tasks : List Working) (places : List KeptPlace) : Type 0 where
   pub one_each : length places ≡ length plan.parents
   pub each :
       (t : ℕ) → t < length plan.parents →
       ((task : Working) × Contains tasks task × number task ≡ t × slice_get places t ≡ Some (standing_of task.seat))
       ⊎ (((task : Working) → Contains tasks task → number task ≢ t) × slice_get places t ≡ Some (record { events = 0; refused = false }))
-
--- the place of each of these tasks is noted under its number, and nothing else is another
-pub record NotesPlaces (tasks : List Working) (before now : List Standing) : Type 0 where
-  pub count : length now ≡ length before
-  pub each :
-      (t : ℕ) → t < length before →
-      ((task : Working) × Contains tasks task × number task ≡ t × slice_get now t ≡ Some (standing_of task.seat))
-      ⊎ (((task : Working) → Contains tasks task → number task ≢ t) × slice_get now t ≡ slice_get before t)
 
 -- A viewer knows just these tasks exactly, and sees them where their seats stood. Whoever one of them forks is among them.
 pub record KnowsTasks (board : Frame) (tasks : List Working) (view : Known) : Type 0 where

@@ -1,12 +1,11 @@
 -- What the turns of tasks make of their seats and of their children's.
 use Rattle.std.specs.Prelude.{true, ◌≡◌, ◌≢◌, ℕ, ◌+◌, ◌<◌, ◌≤◌, ◌⊎◌, false, List, [], ◌∷◌, ◌++◌, Some, None, length, IsSome, is_some, Result, IfOk, OnOk, All, sum_by, ◌*◌}
 use Rattle.armus_base.specs.declared.event.Event.{Event}
-use Rattle.armus_base.specs.Limits.{max_phasers}
-use Rattle.armus_base.specs.Plans.{Plan, Action, Forks, action_at, actions}
+use Rattle.armus_base.specs.Plans.{Plan, Action, Forks, action_at}
 use Rattle.armus_base.specs.Runs.{Place, IsByCode, IsPrefix, first_place, next_place}
 use Rattle.armus_base.specs.Places.{phases_at_place}
 use Rattle.armus_base.specs.Seats.{MayHold}
-use Rattle.pl_core.specs.declared.place.Place.{Place as Standing}
+use Rattle.pl_core.specs.declared.place.Place.{Place as KeptPlace}
 use Rattle.board.specs.Views.{avoids, own_place, seen, task_of}
 use Rattle.board.specs.Steps.{IsSameSeat, own_phase}
 use Rattle.board.specs.Locking.{IsBeforeAwait}
@@ -18,9 +17,9 @@ pub record Working : Type 0 where
   pub children : List Known
 
 -- from place a these steps of task t lead to place b, each the next one by its code
-abbrev pub LeadsTo : Plan → ℕ → Place → List Action → Place → Type 0
-LeadsTo plan t a [] b = b ≡ a
-LeadsTo plan t a (x ∷ xs) b = IsByCode plan t a.done a.dropped x × LeadsTo plan t (next_place a.done a.dropped x) xs b
+abbrev pub LeadsByCode : Plan → ℕ → Place → List Action → Place → Type 0
+LeadsByCode plan t a [] b = b ≡ a
+LeadsByCode plan t a (x ∷ xs) b = IsByCode plan t a.done a.dropped x × LeadsByCode plan t (next_place a.done a.dropped x) xs b
 
 -- the tasks that these steps fork, in order
 abbrev pub forks_of : List Action → List ℕ
@@ -46,7 +45,7 @@ pub data AreChildSeats (board : Frame) : List ℕ → List Known → Type 0 wher
 pub record Goes (own : List Action) (before now : Known) : Type 0 where
   pub table : now.table ≡ before.table
   pub same : IsSameSeat before.view now.view
-  pub place : LeadsTo before.view.plan (task_of before.view) (own_place before.view) own (own_place now.view)
+  pub place : LeadsByCode before.view.plan (task_of before.view) (own_place before.view) own (own_place now.view)
   pub later : (u : ℕ) → IsPrefix ((seen before.view).places u) ((seen now.view).places u)
   pub exact : (u : ℕ) → (seen now.view).exact u ≡ (seen before.view).exact u
   pub kept : IsSeat now
@@ -58,15 +57,6 @@ pub record Acts (board : Frame) (own : List Action) (before now : Working) : Typ
   pub new : List Known
   pub children : now.children ≡ before.children ++ new
   pub seats : AreChildSeats board (forks_of own) new
-
--- a task has made so many steps, one at least: one step of its code, or a refusal and a drop of each of its phasers
-pub record MakesSome (board : Frame) (made : ℕ) (before now : Working) : Type 0 where
-  pub own : List Action
-  pub acts : Acts board own before now
-  pub counted : made ≡ length own
-  pub some : 0 < made
-  pub few : made ≤ max_phasers + 1
-  pub within : (own_place before.seat.view).done < length (actions before.seat.view.plan (task_of before.seat.view))
 
 -- task u is seen where nothing is seen of it, or as a member of the event's phaser below its phase
 abbrev pub IsSeenBehind : Known → Event → ℕ → Type 0
@@ -90,7 +80,7 @@ abbrev pub ActsNoMore : Known → Type 0
 ActsNoMore seat = IsDone seat ⊎ HasLeftAll seat
 
 -- how far the seat's task has come
-abbrev pub standing_of : Known → Standing
+abbrev pub standing_of : Known → KeptPlace
 standing_of seat = record { events = (own_place seat.view).done; refused = is_some (own_place seat.view).dropped }
 
 -- How a turn ends, by what the seat has seen: its task is done; or it is refused and a member of nothing; or it is published, and the task that is
@@ -107,7 +97,7 @@ pub data EndsTurn (seat : Known) : Type 0 where
       MayHold seat.view.plan u ((seen seat.view).places u) → EndsTurn seat
 
 -- a task of this board whose turn may come: its seat does not hold the lock
-pub record IsReady (board : Frame) (task : Working) : Type 0 where
+pub record MayTakeTurn (board : Frame) (task : Working) : Type 0 where
   pub of_board : IsOf task.seat board
   pub kept : IsSeat task.seat
   pub free : task.seat.view.holds ≡ false

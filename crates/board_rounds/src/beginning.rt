@@ -5,7 +5,7 @@ ghost use Rattle.armus_base.specs.declared.op.Op.TheVariants.{Await};
 ghost use Rattle.board.specs.Views.{avoids, next_action};
 ghost use Rattle.board.specs.Seats.{Known, IsOf, MakesStep};
 ghost use Rattle.board.specs.inside.Walking.{IsActionOfPlan, begins};
-ghost use Rattle.board_rounds.specs.inside.Attempts.{Begins};
+ghost use Rattle.board_rounds.specs.inside.Attempts.{BeginsOp};
 ghost use Rattle.board_rounds.specs.Turns.{AreChildSeats, Goes, forks_of};
 
 use crate::deciding::{Attempt, try_to_decide};
@@ -103,7 +103,7 @@ pub(crate) fn begin(
     requires unlocked { seat.old.view.holds ≡ false }
     requires next { next_action seat.old.view ≡ Some (begins op) }
     requires plan { IsActionOfPlan board.now.plan (begins op) }
-    ensures begins { IfOk result (Begins op seat.old seat.new) }
+    ensures begins { IfOk result (BeginsOp op seat.old seat.new) }
     ensures children { OnOk result ((new : List Known) × (children.new.items ≡ children.old.items ++ new) × AreChildSeats board.now (forks_of (begins op ∷ [])) new) }
     ensures same { OnErr result (Goes [] seat.old seat.new) }
     ensures same_children { OnErr result (children.new.items ≡ children.old.items) }

@@ -7,8 +7,9 @@ ghost use Rattle.armus_base.specs.Seats.{seen_by_child};
 ghost use Rattle.board.specs.Seats.{IsNewSeat, IsOf, IsSeat, Known, nothing_seen};
 ghost use Rattle.board.specs.Steps.{IsSameSeat};
 ghost use Rattle.board.specs.Views.{own_place, seen};
-ghost use Rattle.board_rounds.specs.Turns.{ActsNoMore, IsReady, Working};
-ghost use Rattle.board_rounds.specs.Crews.{ArePlacesOf, AreTasksOf, HaveEnded, IsAtStart, IsChildIn, KnowsTasks, MakesRound, all_of, emptied, fresh, fresh_of, left_to};
+ghost use Rattle.board_rounds.specs.Turns.{ActsNoMore, MayTakeTurn, Working};
+ghost use Rattle.board_rounds.specs.Crews.{ArePlacesOf, AreTasksOf, HaveEnded, KnowsTasks, all_of, left_to};
+ghost use Rattle.board_rounds.specs.inside.Rounds.{IsAtStart, IsChildIn, MakesRound, emptied, fresh, fresh_of};
 
 use crate::Task;
 use crate::ending::{note_places, take_in_all};
@@ -36,7 +37,7 @@ impl Model for Crew {
 
     ghost Value = { Tasks };
 
-    ghost use Rattle.board_rounds.specs.Crewed.{tasks_of};
+    ghost use Rattle.board_rounds.specs.inside.Crewed.{tasks_of};
 
     ghost view = { tasks_of };
 }
@@ -135,7 +136,7 @@ fn go_round<R: Threads + Sync, G: Gate>(
     tasks: &mut Vec<Task>,
 ) -> Result<u32, NoMemory>
     requires plan { board.now.plan ≡ plan.now }
-    requires ready { All (IsReady board.now) tasks.old.items }
+    requires ready { All (MayTakeTurn board.now) tasks.old.items }
     requires no_child { All (λ task. task.children ≡ []) tasks.old.items }
     requires few { length tasks.old.items ≤ max_tasks }
     requires enough { workers ≤ length cells.old }

@@ -3,7 +3,8 @@ ghost use Rattle.std.specs.Prelude.{◌≡◌, ◌<◌, ℕ, [], All, length, ma
 ghost use Rattle.board.specs.Seats.{IsOf};
 ghost use Rattle.board.specs.Steps.{IsSameSeat};
 ghost use Rattle.board_rounds.specs.Turns.{Working};
-ghost use Rattle.board_rounds.specs.Crews.{NotesPlaces, TakesAll, number};
+ghost use Rattle.board_rounds.specs.Crews.{number};
+ghost use Rattle.board_rounds.specs.inside.Endings.{NotesPlaces, TakesAll};
 
 use crate::Task;
 use board::{Board, ViewSeat};

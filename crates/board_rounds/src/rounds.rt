@@ -2,7 +2,7 @@
 ghost use Rattle.std.specs.Thread.{IsSync};
 ghost use Rattle.std.specs.Prelude.{◌≡◌, ◌≤◌, All, false, length};
 ghost use Rattle.armus_base.specs.Limits.{max_tasks};
-ghost use Rattle.board_rounds.specs.Turns.{IsReady, TakesTurns};
+ghost use Rattle.board_rounds.specs.Turns.{MayTakeTurn, TakesTurns};
 
 use crate::Task;
 use crate::worker_cells::{WorkerCells, provide};
@@ -25,7 +25,7 @@ pub fn round<R: Threads + Sync, G: Gate>(
     workers: u8,
     gate: &G,
 ) -> Result<u32, NoMemory>
-    requires ready { All (IsReady board.now) tasks.old }
+    requires ready { All (MayTakeTurn board.now) tasks.old }
     requires plan { board.now.plan ≡ plan.now }
     requires few { length tasks.old ≤ max_tasks }
     ensures turns { TakesTurns board.now tasks.old tasks.new result }
@@ -50,7 +50,7 @@ pub(crate) fn take_turns<R: Threads + Sync, G: Gate>(
     cells: &mut [WorkerCells],
     tasks: &mut [Task],
 ) -> Result<u32, NoMemory>
-    requires ready { All (IsReady board.now) tasks.old }
+    requires ready { All (MayTakeTurn board.now) tasks.old }
     requires plan { board.now.plan ≡ plan.now }
     requires few { length tasks.old ≤ max_tasks }
     requires enough { workers ≤ length cells.old }
@@ -67,7 +67,7 @@ pub(crate) fn take_turns<R: Threads + Sync, G: Gate>(
     let (first, second) = join_mut(
         rt,
         &mut || -> Result<u32, NoMemory>
-            requires { IsSync R.row × All (IsReady board.now) front.now × (board.now.plan ≡ plan.now) × (length front.now ≤ max_tasks) × (few ≤ length front_cells.now) × (1 ≤ length front_cells.now) }
+            requires { IsSync R.row × All (MayTakeTurn board.now) front.now × (board.now.plan ≡ plan.now) × (length front.now ≤ max_tasks) × (few ≤ length front_cells.now) × (1 ≤ length front_cells.now) }
             ensures { TakesTurns board.entry.now front.entry.now front.exit.now result }
         {
             take_turns(
@@ -83,7 +83,7 @@ pub(crate) fn take_turns<R: Threads + Sync, G: Gate>(
             )
         },
         &mut || -> Result<u32, NoMemory>
-            requires { IsSync R.row × All (IsReady board.now) back.now × (board.now.plan ≡ plan.now) × (length back.now ≤ max_tasks) × (rest ≤ length back_cells.now) × (1 ≤ length back_cells.now) }
+            requires { IsSync R.row × All (MayTakeTurn board.now) back.now × (board.now.plan ≡ plan.now) × (length back.now ≤ max_tasks) × (rest ≤ length back_cells.now) × (1 ≤ length back_cells.now) }
             ensures { TakesTurns board.entry.now back.entry.now back.exit.now result }
         { take_turns(rt, alloc, board, plan, wanted, gate, rest, back_cells, back) },
     );
@@ -100,7 +100,7 @@ fn take_turns_in_order<G: Gate>(
     cells: &mut WorkerCells,
     tasks: &mut [Task],
 ) -> Result<u32, NoMemory>
-    requires ready { All (IsReady board.now) tasks.old }
+    requires ready { All (MayTakeTurn board.now) tasks.old }
     requires plan { board.now.plan ≡ plan.now }
     requires few { length tasks.old ≤ max_tasks }
     ensures turns { TakesTurns board.now tasks.old tasks.new result }

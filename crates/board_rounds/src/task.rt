@@ -4,7 +4,8 @@ ghost use Rattle.armus_base.specs.Plans.{Action};
 ghost use Rattle.armus_base.specs.Runs.{first_place};
 ghost use Rattle.board.specs.Views.{own_place};
 ghost use Rattle.board.specs.Seats.{IsOf, event_of};
-ghost use Rattle.board_rounds.specs.Turns.{Acts, ActsNoMore, EndsTurn, MakesSome, standing_of};
+ghost use Rattle.board_rounds.specs.Turns.{Acts, ActsNoMore, EndsTurn, standing_of};
+ghost use Rattle.board_rounds.specs.inside.Tasks.{MakesSome};
 
 use crate::beginning::{begin, op_at};
 use crate::deciding::Attempt;
@@ -34,7 +35,7 @@ impl Model for Task {
 
     ghost Value = { Working };
 
-    ghost use Rattle.board_rounds.specs.Tasks.{IsWorking, working_of};
+    ghost use Rattle.board_rounds.specs.inside.Tasks.{IsWorking, working_of};
 
     ghost view = { working_of };
 

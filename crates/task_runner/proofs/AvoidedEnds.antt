@@ -10,7 +10,7 @@ use Rattle.armus_base.specs.Runs.{HasEnded, IsReachable, Place, is_done, is_refu
 use Rattle.armus_base.specs.Serial.{IsTurn, RoundBelow}
 use Rattle.armus_base.specs.States.{IsActive}
 use Rattle.armus_base.proofs.Fixed.{phases_forked}
-use Rattle.pl_core.specs.declared.place.Place.{Place as Standing}
+use Rattle.pl_core.specs.declared.place.Place.{Place as KeptPlace}
 use Rattle.pl_core.specs.declared.stand.Stand.TheVariants.{Refused, Waits}
 use Rattle.pl_core.specs.Stands.{IsEnabled}
 use Rattle.pl_core.specs.Worlds.{WorldValue, dropped_at, memberships, action_by_code, place_from, places_at, places_of, state_of}
@@ -18,7 +18,7 @@ use Rattle.pl_core.proofs.Bounds.{phaser_of_member}
 use Rattle.pl_core.proofs.GoingOn.{goes_on, legal_when_active, legal_when_reached, passes_when_waiting}
 use Rattle.pl_core.proofs.Refusing.{dropped_below}
 use Rattle.pl_core.proofs.Standing.{place_is}
-use Rattle.task_runner.specs.AvoidedRuns.{GoesOnTo, HasPart, HasRoundBelow, LeadsTo}
+use Rattle.task_runner.specs.inside.AvoidedRounds.{GoesOnTo, HasPart, HasRoundBelow, LeadsTo}
 use Rattle.task_runner.proofs.AvoidedSteps.{leads_state}
 use Rattle.task_runner.proofs.ForkedTasks.{forked_in_round, forked_later}
 
@@ -34,7 +34,7 @@ module _ (w : WorldValue) (checked : IsCheckedPlan w.plan) (reach : IsReachable 
   left_all forked e is p = by_place (slice_get w.places t) refl
     where
       by_phase :
-          (a : Standing) → slice_get w.places t ≡ Some a → (places_of w t).dropped ≡ Some (memberships w.plan t a.events) →
+          (a : KeptPlace) → slice_get w.places t ≡ Some a → (places_of w t).dropped ≡ Some (memberships w.plan t a.events) →
           (o : Option ℕ) → (state_of w).phases t p ≡ o → (state_of w).phases t p ≡ None
       by_phase a there dropped None none = none
       by_phase a there dropped (Some n) member =
@@ -45,14 +45,14 @@ module _ (w : WorldValue) (checked : IsCheckedPlan w.plan) (reach : IsReachable 
           ∙ ap (λ m. kept (Some (memberships w.plan t a.events)) m p) own
           ∙ dropped_below (phases_after w.plan t a.events) (length w.plan.makers) p (phaser_of_member w checked reach t p n member)
 
-      by_flag : (a : Standing) → slice_get w.places t ≡ Some a → (b : Bool) → a.refused ≡ b → (state_of w).phases t p ≡ None
+      by_flag : (a : KeptPlace) → slice_get w.places t ≡ Some a → (b : Bool) → a.refused ≡ b → (state_of w).phases t p ≡ None
       by_flag a there true flag =
           by_phase a there (ap (λ v. v.dropped) (place_is w.plan w.places t a there) ∙ ap (dropped_at w.plan t a.events) flag) ((state_of w).phases t p) refl
       by_flag a there false flag =
           let dropped : (places_of w t).dropped ≡ None = ap (λ v. v.dropped) (place_is w.plan w.places t a there) ∙ ap (dropped_at w.plan t a.events) flag in
           absurd (let none : refused_at w.plan t (places_of w t).done (places_of w t).dropped ≡ None = ap (refused_at w.plan t (places_of w t).done) dropped in cc)
 
-      by_place : (o : Option Standing) → slice_get w.places t ≡ o → (state_of w).phases t p ≡ None
+      by_place : (o : Option KeptPlace) → slice_get w.places t ≡ o → (state_of w).phases t p ≡ None
       by_place (Some a) there = by_flag a there a.refused refl
       by_place None there =
           let dropped : (places_of w t).dropped ≡ None = nowhere w t there in

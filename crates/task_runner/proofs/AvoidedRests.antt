@@ -18,10 +18,11 @@ use Rattle.armus_base.proofs.ForkedTasks.{forked_within}
 use Rattle.armus_base.proofs.NobodyIsDead.{avoided_legal, nobody_is_dead}
 use Rattle.armus_base.proofs.SerialFinalIsAvoided.{round_ended}
 use Rattle.armus_base.proofs.SerialIsAvoided.{publishing_leaves_nobody_dead}
-use Rattle.pl_core.specs.declared.place.Place.{Place as Standing}
+use Rattle.pl_core.specs.declared.place.Place.{Place as KeptPlace}
 use Rattle.pl_core.specs.GivenPlaces.{IsAtPlaces}
 use Rattle.pl_core.specs.Worlds.{WorldValue, places_at, state_of}
-use Rattle.task_runner.specs.AvoidedRuns.{HasRoundBelow, IsAvoidedEnd, LeadsTo}
+use Rattle.task_runner.specs.AvoidedRuns.{IsAvoidedEnd}
+use Rattle.task_runner.specs.inside.AvoidedRounds.{HasRoundBelow, LeadsTo}
 use Rattle.task_runner.proofs.AvoidedSteps.{leads_state}
 
 -- a decided step avoids deadlock
@@ -64,7 +65,7 @@ pub record HasAvoidedRun (plan : Plan) (w : WorldValue) : Type 0 where
 
 -- one leads to lawful places
 pub avoided_there :
-    (plan : Plan) (given : List Standing) (w : WorldValue) → IsAtPlaces plan given w → (lock : Option ℕ) → IsLawful true plan (places_at plan given) lock → HasAvoidedRun plan w
+    (plan : Plan) (given : List KeptPlace) (w : WorldValue) → IsAtPlaces plan given w → (lock : Option ℕ) → IsLawful true plan (places_at plan given) lock → HasAvoidedRun plan w
 avoided_there plan given w at lock lawful = record {
   steps = steps_of lawful.entries;
   run = lawful.run.0;
@@ -116,7 +117,9 @@ avoided_ended plan old new moved is unmoved avoided round =
     }
 
 -- the value of the end
-pub avoided_end : (plan : Plan) (w : WorldValue) → IsCheckedPlan plan → HasAvoidedEnd plan w → NobodyDead (state_of w) → (r : Result Final NoMemory) → IfOk r (λ end. end ≡ final_of w.plan (state_of w)) → IfOk r (λ end. IsAvoidedEnd plan end)
+pub avoided_end :
+    (plan : Plan) (w : WorldValue) → IsCheckedPlan plan → HasAvoidedEnd plan w → NobodyDead (state_of w) → (r : Result Final NoMemory) →
+    IfOk r (λ end. end ≡ final_of w.plan (state_of w)) → IfOk r (λ end. IsAvoidedEnd plan end)
 avoided_end plan w checked end nobody (Ok value) is = record {
   state = state_of w;
   final = record {

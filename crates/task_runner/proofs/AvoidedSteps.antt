@@ -15,7 +15,7 @@ use Rattle.avoider.specs.declared.decision.Decision.{Decision}
 use Rattle.avoider.specs.declared.decision.Decision.TheVariants.{Published, Refused}
 use Rattle.avoider.specs.Decisions.{HasGoneOn, IsDecision, MakesOtherEvent}
 use Rattle.avoider.proofs.Supposing.{blocks_next}
-use Rattle.task_runner.specs.AvoidedRuns.{GoesOnTo, LeadsTo}
+use Rattle.task_runner.specs.inside.AvoidedRounds.{GoesOnTo, LeadsTo}
 
 -- the state after a run that leads to the world
 pub leads_state : (plan : Plan) → IsCheckedPlan plan → (h : List Step) (w : WorldValue) → LeadsTo plan h w → state_after h ≡ state_of w

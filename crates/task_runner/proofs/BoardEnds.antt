@@ -17,7 +17,7 @@ use Rattle.board.proofs.Closing.{some_task}
 use Rattle.armus_base.proofs.Members.{plain_undropped}
 use Rattle.armus_base.proofs.Published.{same_place}
 use Rattle.armus_base.proofs.Reachable.{reachable_is_fixed}
-use Rattle.pl_core.specs.declared.place.Place.{Place as Standing}
+use Rattle.pl_core.specs.declared.place.Place.{Place as KeptPlace}
 use Rattle.pl_core.specs.Worlds.{dropped_at, place_from, places_at}
 use Rattle.board.specs.declared.mode.Mode.TheVariants.{Detect}
 use Rattle.board.specs.Closing.{AreLastOf}
@@ -38,7 +38,9 @@ no_holder (Does e ∷ entries) free = no_holder entries free
 no_holder (Takes t ∷ entries) free = absurd free
 no_holder (Frees t ∷ entries) free = absurd free
 
-module _ (f : Frame) (detects : f.mode ≡ Detect) (tasks : List Working) (whole : IsCrewOf f tasks) (ends : All (λ (w : Working). EndsTurn w.seat) tasks) (places : List Standing) (are : ArePlacesOf f.plan tasks places) (before now : Known) (known : KnowsTasks f tasks before) (goes : LoadsAlone before now) (of : IsOf now f) (words : List ℕ) (end : AreLastOf f.plan Detect (seen now.view) words) where
+module _ (f : Frame) (detects : f.mode ≡ Detect) (tasks : List Working) (whole : IsCrewOf f tasks) (ends : All (λ (w : Working). EndsTurn w.seat) tasks)
+    (places : List KeptPlace) (are : ArePlacesOf f.plan tasks places) (before now : Known) (known : KnowsTasks f tasks before) (goes : LoadsAlone before now)
+    (of : IsOf now f) (words : List ℕ) (end : AreLastOf f.plan Detect (seen now.view) words) where
   abbrev a : ℕ → Place
   a = end.last.places
 
@@ -66,7 +68,7 @@ module _ (f : Frame) (detects : f.mode ≡ Detect) (tasks : List Working) (whole
   pub reachable : IsReachable f.plan (places_at f.plan places)
   reachable = lawful_is_reachable false f.plan (places_at f.plan places) None lawful
 
-  pub plain : (t : ℕ) (place : Standing) → slice_get places t ≡ Some place → place.refused ≡ false
+  pub plain : (t : ℕ) (place : KeptPlace) → slice_get places t ≡ Some place → place.refused ≡ false
   plain t place is =
       let within = slice_get_within places t place is in
       elim (are.each t (let c = are.one_each in omega arith)) [
@@ -74,8 +76,9 @@ module _ (f : Frame) (detects : f.mode ≡ Detect) (tasks : List Working) (whole
             (let e : Some place ≡ Some (standing_of r.0.seat) = sym is ∙ r.3 in
             let p : place ≡ standing_of r.0.seat = cc in
             let none : (own_place r.0.seat.view).dropped ≡ None = unrefused r.0 r.1 in
-            ap (λ (q : Standing). q.refused) p ∙ ap is_some none)
-        | inr r ↦ (let e : Some place ≡ Some (record { events = 0; refused = false }) = sym is ∙ r.1 in let p : place ≡ record { events = 0; refused = false } = cc in ap (λ (q : Standing). q.refused) p)
+            ap (λ (q : KeptPlace). q.refused) p ∙ ap is_some none)
+        | inr r ↦ (let e : Some place ≡ Some (record { events = 0; refused = false }) = sym is ∙ r.1 in
+            let p : place ≡ record { events = 0; refused = false } = cc in ap (λ (q : KeptPlace). q.refused) p)
       ]
 
   pub shown : IsShown f.plan (state_at f.plan (places_at f.plan places)) None words
@@ -83,7 +86,9 @@ module _ (f : Frame) (detects : f.mode ≡ Detect) (tasks : List Working) (whole
       subst (λ (b : ℕ → Place). IsShown f.plan (state_at f.plan b) None words) (sym there)
       (subst (λ (o : Option ℕ). IsShown f.plan (state_at f.plan a) o words) (sym end.last.lawful.held ∙ no_holder end.last.lawful.entries end.last.lawful.run.1) end.last.shown)
 
-  ended : (w : Working) → Contains tasks w → EndsTurn w.seat → (action_at f.plan (number w) (own_place w.seat.view).done ≡ None) ⊎ IsSome (published_after f.plan (number w) (own_place w.seat.view).done)
+  ended :
+      (w : Working) → Contains tasks w → EndsTurn w.seat → (action_at f.plan (number w) (own_place w.seat.view).done ≡ None)
+      ⊎ IsSome (published_after f.plan (number w) (own_place w.seat.view).done)
   ended w i (is_done done) =
       let s = whole.crew.each w.seat (w, i, refl) in
       inl (ap (λ (q : Plan). action_at q (number w) (own_place w.seat.view).done) (sym s.of_board.plan) ∙ done.past)

@@ -15,7 +15,7 @@ use Rattle.armus_base.proofs.Fixed.{forked_at_is, phases_forked}
 use Rattle.armus_base.proofs.Published.{published_undropped, same_place}
 use Rattle.armus_base.proofs.Reachable.{reachable_is_fixed}
 use Rattle.armus_base.proofs.RefusedHasDropped.{refused_has_dropped}
-use Rattle.pl_core.specs.declared.place.Place.{Place as Standing}
+use Rattle.pl_core.specs.declared.place.Place.{Place as KeptPlace}
 use Rattle.pl_core.specs.Worlds.{dropped_at, memberships, place_from, places_at}
 use Rattle.board.specs.declared.mode.Mode.{Mode}
 use Rattle.board.specs.Closing.{AreLastOf}
@@ -29,7 +29,8 @@ use Rattle.board_rounds.specs.Turns.{EndsTurn, HasLeftAll, Working, is_behind, i
 use Rattle.board_rounds.specs.Crews.{ArePlacesOf, IsClosed, IsCrewOf, KnowsTasks, number}
 use Rattle.board_rounds.proofs.Closed.{all_exact}
 
-module _ (f : Frame) (mode : Mode) (tasks : List Working) (whole : IsCrewOf f tasks) (before now : Known) (known : KnowsTasks f tasks before) (goes : LoadsAlone before now) (of : IsOf now f) (words : List ℕ) (end : AreLastOf f.plan mode (seen now.view) words) where
+module _ (f : Frame) (mode : Mode) (tasks : List Working) (whole : IsCrewOf f tasks) (before now : Known) (known : KnowsTasks f tasks before)
+    (goes : LoadsAlone before now) (of : IsOf now f) (words : List ℕ) (end : AreLastOf f.plan mode (seen now.view) words) where
   checked : IsCheckedPlan f.plan
   checked = subst IsCheckedPlan of.plan goes.kept.checked
 
@@ -45,7 +46,8 @@ module _ (f : Frame) (mode : Mode) (tasks : List Working) (whole : IsCrewOf f ta
   }
 
   past : (t : ℕ) → length f.plan.parents ≤ t → (seen now.view).places t ≡ first_place
-  past t l = get_or_past now.view.sight.places t first_place (let c = goes.kept.count in let p : length now.view.plan.parents ≡ length f.plan.parents = ap (λ (q : Plan). length q.parents) of.plan in omega arith)
+  past t l = get_or_past now.view.sight.places t first_place (let c = goes.kept.count in
+      let p : length now.view.plan.parents ≡ length f.plan.parents = ap (λ (q : Plan). length q.parents) of.plan in omega arith)
 
   exact_all : (t : ℕ) → t < length f.plan.parents → forked_at f.plan (done_by (seen now.view).places) t ≡ true → (seen now.view).exact t ≡ true
   exact_all = all_exact f.plan mode a end.last.lock checked end.last.lawful (seen now.view) end.far closed past
@@ -98,7 +100,8 @@ module _ (f : Frame) (mode : Mode) (tasks : List Working) (whole : IsCrewOf f ta
       absurd (false≢true (subst IsSome none some))
 
   -- where refused tasks are members of nothing, the places that the seats tell are those of the board
-  module _ (places : List Standing) (are : ArePlacesOf f.plan tasks places) (left : (w : Working) → Contains tasks w → IsSome (own_place w.seat.view).dropped → HasLeftAll w.seat) where
+  module _ (places : List KeptPlace) (are : ArePlacesOf f.plan tasks places)
+      (left : (w : Working) → Contains tasks w → IsSome (own_place w.seat.view).dropped → HasLeftAll w.seat) where
     all_dropped :
         (w : Working) → Contains tasks w → (t : ℕ) → number w ≡ t → (d : ℕ) → (own_place w.seat.view).dropped ≡ Some d → a t ≡ own_place w.seat.view →
         d ≡ memberships f.plan t (a t).done
@@ -144,7 +147,7 @@ module _ (f : Frame) (mode : Mode) (tasks : List Working) (whole : IsCrewOf f ta
       | inr l ↦ ap (place_from f.plan t) (none_past places t (let c = are.one_each in omega arith)) ∙ sym ((λ j. same j t) ∙ past t l)
     ]
       where
-        none_past : (xs : List Standing) (k : ℕ) → length xs ≤ k → slice_get xs k ≡ None
+        none_past : (xs : List KeptPlace) (k : ℕ) → length xs ≤ k → slice_get xs k ≡ None
         none_past [] k l = refl
         none_past (x ∷ xs) zero l = absurd (omega arith)
         none_past (x ∷ xs) (suc k) l = none_past xs k (omega arith)
@@ -158,7 +161,7 @@ module _ (f : Frame) (mode : Mode) (tasks : List Working) (whole : IsCrewOf f ta
 -- where all turns have ended, the places that the seats tell are lawful, and those of the board
 pub lawful_end :
     (f : Frame) (mode : Mode) (tasks : List Working) → IsCrewOf f tasks → (view : Known) → IsSeat view → KnowsTasks f tasks view → IsOf view f → (words : List ℕ) →
-    AreLastOf f.plan mode (seen view.view) words → All (λ (w : Working). EndsTurn w.seat) tasks → (places : List Standing) → ArePlacesOf f.plan tasks places →
+    AreLastOf f.plan mode (seen view.view) words → All (λ (w : Working). EndsTurn w.seat) tasks → (places : List KeptPlace) → ArePlacesOf f.plan tasks places →
     (lock : Option ℕ) × IsLawful (avoids mode) f.plan (places_at f.plan places) lock
 lawful_end f mode tasks whole view seat known of words end ends places are =
     let still = goes_itself view seat in (

@@ -34,7 +34,8 @@ module _ (plan : Plan) (checked : IsCheckedPlan plan) (h : List Step) (run : IsP
       let stays = dead_stays plan h g t checked run.0 is_end.final.run.0 later dead in
       let of_plan = run_is_of_plan plan g checked is_end.final.run.0 in
       let there : state_after g ≡ is_end.state = is_end.final.there in
-      let blocked : (final_of plan (state_after g)).blocked ≡ end.blocked = ap (λ (s : State). (final_of plan s).blocked) there ∙ ap (λ (f : Final). f.blocked) (sym is_end.is_it) in
+      let blocked : (final_of plan (state_after g)).blocked ≡ end.blocked = ap (λ (s : State). (final_of plan s).blocked) there
+      ∙ ap (λ (f : Final). f.blocked) (sym is_end.is_it) in
       let at_h = (places_fix plan checked h run.0).0 in
       let at_g = (places_fix plan checked g is_end.final.run.0).0 in
       let on : (state_after g).published t ≡ Some e =

@@ -15,12 +15,12 @@ use Rattle.armus_base.proofs.OneEnd.{one_end}
 use Rattle.armus_base.proofs.Reachable.{reachable_is_fixed}
 use Rattle.armus_base.proofs.Steps.{updated_same, updated_other}
 use Rattle.armus_base.proofs.Tasks.{no_action}
-use Rattle.pl_core.specs.declared.place.Place.{Place as Standing}
+use Rattle.pl_core.specs.declared.place.Place.{Place as KeptPlace}
 use Rattle.pl_core.specs.Stands.{IsEnabled}
 use Rattle.pl_core.specs.Worlds.{WorldValue, dropped_at, action_by_code, place_from, places_at, places_of, state_of}
 use Rattle.pl_core.proofs.GoingOn.{legal_when_active, legal_when_reached, passes_when_waiting}
 use Rattle.task_runner.specs.PlainRuns.{IsPlainEnd}
-use Rattle.task_runner.specs.Turns.{NobodyRefused}
+use Rattle.task_runner.specs.inside.Turns.{NobodyRefused}
 
 -- a run after which nobody is refused refuses nobody
 pub unrefused_plain : (plan : Plan) (h : List Step) → IsLegalRun plan h → ((t : ℕ) → (places h t).dropped ≡ None) → IsPlain h
@@ -52,7 +52,7 @@ unrefused_plain plan (e ∷ h) run none = (unrefused_plain plan h run.0 before, 
         (subst (λ o. (next_place (places h e.task).done o e.action).dropped ≡ None) (before e.task) own) in cc)
 
 -- whose flag is false has dropped nothing
-undropped_from : (plan : Plan) (t : ℕ) (o : Option Standing) → ((a : Standing) → o ≡ Some a → a.refused ≡ false) → (place_from plan t o).dropped ≡ None
+undropped_from : (plan : Plan) (t : ℕ) (o : Option KeptPlace) → ((a : KeptPlace) → o ≡ Some a → a.refused ≡ false) → (place_from plan t o).dropped ≡ None
 undropped_from plan t None h = refl
 undropped_from plan t (Some a) h = ap (dropped_at plan t a.events) (h a refl)
 
@@ -60,7 +60,8 @@ pub undropped_all : (w : WorldValue) → NobodyRefused w → (t : ℕ) → (plac
 unfolding places_at
 undropped_all w plain t = undropped_from w.plan t (slice_get w.places t) (plain t)
 
-module _ (w : WorldValue) (checked : IsCheckedPlan w.plan) (reach : IsReachable w.plan (places_of w)) (plain : NobodyRefused w) (quiet : (t : ℕ) → t < length w.plan.parents → IsEnabled w t → ⊥) where
+module _ (w : WorldValue) (checked : IsCheckedPlan w.plan) (reach : IsReachable w.plan (places_of w)) (plain : NobodyRefused w)
+    (quiet : (t : ℕ) → t < length w.plan.parents → IsEnabled w t → ⊥) where
   unrefused_all : (t : ℕ) → (state_of w).refused t ≡ None
   unfolding state_of
   unrefused_all t = ap (refused_at w.plan t (places_of w t).done) (undropped_all w plain t)

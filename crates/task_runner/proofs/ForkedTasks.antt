@@ -64,7 +64,9 @@ pub forked_later : (own h : List Step) (t : ℕ) → (state_after h).forked t �
 forked_later [] h t is = is
 forked_later (e ∷ own) h t is = forked_after (state_after (own ++ h)) e.task e.action t (forked_later own h t is)
 
-forked_after_part : (plan : Plan) (k : ℕ) (b : Bool) (g h : List Step) → MatchBool b (IsTurn plan k g h) (h ≡ g) → (t : ℕ) → (state_after g).forked t ≡ true → (state_after h).forked t ≡ true
+forked_after_part :
+    (plan : Plan) (k : ℕ) (b : Bool) (g h : List Step) → MatchBool b (IsTurn plan k g h) (h ≡ g) → (t : ℕ) → (state_after g).forked t ≡ true →
+    (state_after h).forked t ≡ true
 forked_after_part plan k true g h turn t is = subst (λ v. (state_after v).forked t ≡ true) (sym turn.there) (forked_later turn.own g t is)
 forked_after_part plan k false g h same t is = subst (λ v. (state_after v).forked t ≡ true) (sym same) is
 

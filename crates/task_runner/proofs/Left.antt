@@ -13,7 +13,7 @@ use Rattle.pl_core.proofs.Standing.{place_is}
 use Rattle.avoider.specs.declared.decision.Decision.{Decision}
 use Rattle.avoider.specs.declared.decision.Decision.TheVariants.{Published, Refused}
 use Rattle.avoider.specs.Decisions.{HasGoneOn, IsDecision}
-use Rattle.task_runner.specs.AvoidedRuns.{left_at, left_from, left_in}
+use Rattle.task_runner.specs.inside.AvoidedRounds.{left_at, left_from, left_in}
 use Rattle.task_runner.proofs.Remaining.{has_left}
 
 -- one task with less left

@@ -18,7 +18,7 @@ use Rattle.armus_base.proofs.Codes.{awaited_some, no_refusal}
 use Rattle.armus_base.proofs.Reachable.{reachable_is_fixed, reachable_steps}
 use Rattle.armus_base.proofs.Steps.{updated_same, updated_other}
 use Rattle.armus_base.proofs.Tasks.{action_of_task, reached_or_not}
-use Rattle.pl_core.specs.declared.place.Place.{Place as Standing}
+use Rattle.pl_core.specs.declared.place.Place.{Place as KeptPlace}
 use Rattle.pl_core.specs.declared.stand.Stand.TheVariants.{Unforked, Refused, Waits}
 use Rattle.pl_core.specs.Moves.{LeadsOn, IsWorldStep, drops_from, further, refused_there}
 use Rattle.pl_core.specs.Stands.{IsAtAwaitOf, IsEnabled}
@@ -28,7 +28,7 @@ use Rattle.pl_core.proofs.OneStep.{places_set_other, places_set_same, regular}
 use Rattle.pl_core.proofs.Refusing.{dropping, drops_lead}
 use Rattle.pl_core.proofs.Standing.{place_is}
 use Rattle.avoider.proofs.Supposing.{blocks_next, supposed_of_plan}
-use Rattle.task_runner.specs.AvoidedRuns.{LeadsTo, left_in}
+use Rattle.task_runner.specs.inside.AvoidedRounds.{LeadsTo, left_in}
 use Rattle.task_runner.proofs.AvoidedSteps.{leads_run, leads_state, refusal_goes_on, step_adds}
 use Rattle.task_runner.proofs.DeadOrNot.{dead_or_not}
 use Rattle.task_runner.proofs.Left.{refused_leaves_less, step_leaves_less_left, undropped_flag, unrefused_is_undropped}
@@ -49,7 +49,7 @@ module _ (w : WorldValue) (checked : IsCheckedPlan w.plan) (reach : IsReachable 
     inside : t < length w.places
     inside = (let l = action_of_task w.plan checked t (places_of w t).done x next in omega arith)
 
-    abbrev place : Standing
+    abbrev place : KeptPlace
     place = get_or w.places t (record { events = 0; refused = false })
 
     there : slice_get w.places t ≡ Some place
@@ -146,7 +146,7 @@ module _ (w : WorldValue) (checked : IsCheckedPlan w.plan) (reach : IsReachable 
     unfolding state_of
     may_block = legal_when_active w checked reach t (Blocks aim) before.0 blocks
 
-    standing : Standing
+    standing : KeptPlace
     standing = get_or w.places t (record { events = 0; refused = false })
 
     within : t < length w.places

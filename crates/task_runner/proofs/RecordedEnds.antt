@@ -13,7 +13,7 @@ use Rattle.pl_core.specs.Stands.{IsEnabled}
 use Rattle.pl_core.specs.Worlds.{WorldValue, dropped_at, places_of, state_of}
 use Rattle.pl_core.proofs.Standing.{place_is}
 use Rattle.task_runner.specs.RecordedRuns.{IsRecordedRun}
-use Rattle.task_runner.specs.Turns.{NobodyRefused}
+use Rattle.task_runner.specs.inside.Turns.{NobodyRefused}
 use Rattle.task_runner.proofs.Ends.{maximal_there, plain_end, same_state}
 
 -- who has dropped nothing is not refused

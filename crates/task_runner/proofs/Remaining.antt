@@ -9,7 +9,7 @@ use Rattle.pl_core.specs.Moves.{IsWorldStep, further}
 use Rattle.pl_core.specs.Worlds.{WorldValue, place_from, places_of}
 use Rattle.pl_core.proofs.Cells.{slice_get-set_same, slice_get-set_other}
 use Rattle.pl_core.proofs.Standing.{place_is}
-use Rattle.task_runner.specs.Turns.{NobodyRefused, remaining, remaining_from}
+use Rattle.task_runner.specs.inside.Turns.{NobodyRefused, remaining, remaining_from}
 
 -- one event more of one task, which has one left
 less_after :
@@ -36,7 +36,8 @@ step_leaves_less old new t step =
     let at : places_of old t ≡ place_from old.plan t (Some step.place) = place_is old.plan old.places t step.place step.there in
     let left = has_left old.plan t (places_of old t).done step.action step.next in
     let done = ap (λ p. p.done) at in
-    let here : step.place.events < length (actions old.plan (0 + t)) = subst (λ n. step.place.events < length (actions old.plan n)) (let z : t ≡ 0 + t = omega arith in z) (omega arith) in
+    let here : step.place.events < length (actions old.plan (0 + t)) = subst (λ n. step.place.events < length (actions old.plan n))
+    (let z : t ≡ 0 + t = omega arith in z) (omega arith) in
     subst (λ plan. remaining_from plan 0 new.places < remaining_from old.plan 0 old.places) (sym step.plan)
     (subst (λ ps. remaining_from old.plan 0 ps < remaining_from old.plan 0 old.places) (sym step.places)
     (less_after old.plan 0 old.places t step.place step.there here))

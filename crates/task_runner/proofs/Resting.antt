@@ -11,7 +11,7 @@ use Rattle.armus_base.specs.Deadlocks.{IsDeadBy, IsListedOn}
 use Rattle.armus_base.specs.DeadLists.{IsDeadList}
 use Rattle.armus_base.proofs.Elements.{Contains-cons_cases, Contains-head, nothing_in_nil}
 use Rattle.report.specs.NamedDead.{AreSomeDead, AreTheDead}
-use Rattle.task_runner.specs.Rests.{IsNamedIn}
+use Rattle.task_runner.specs.inside.Rests.{IsNamedIn}
 use Rattle.task_runner.proofs.TellingMore.{pairs_on}
 
 -- the dead tasks of the first i statuses are told or among the rest
@@ -31,7 +31,8 @@ named_cases xs ys t is = elim (Contains-append_cases xs ys is.0 is.1) [ inl here
 pub none_rest : (blocked : List Status) (told : List Dead) → AreSomeDead blocked told → IsRestUpTo blocked told [] 0
 none_rest blocked told some = record { some = subst (AreSomeDead blocked) (sym (append-nil told)) some; all = λ k d l. absurd (omega arith) }
 
-module _ (blocked : List Status) (dead : List TaskId) (is_dead : IsDeadList blocked dead) (told rest : List Dead) (i : ℕ) (s : Status) (here : s ≡ get_or blocked i s) (within : i < length blocked) (before : IsRestUpTo blocked told rest i) where
+module _ (blocked : List Status) (dead : List TaskId) (is_dead : IsDeadList blocked dead) (told rest : List Dead) (i : ℕ) (s : Status)
+    (here : s ≡ get_or blocked i s) (within : i < length blocked) (before : IsRestUpTo blocked told rest i) where
   abbrev x : Dead
   x = record { t = s.t; event = s.event }
 

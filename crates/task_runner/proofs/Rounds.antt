@@ -8,7 +8,7 @@ use Rattle.armus_base.proofs.Stepping.{acting_forked}
 use Rattle.pl_core.specs.Stands.{IsEnabled}
 use Rattle.pl_core.specs.Worlds.{IsOpeningWorld, WorldValue, state_of}
 use Rattle.pl_core.proofs.Opening.{copy_is}
-use Rattle.task_runner.specs.Turns.{TellsForked, NobodyRefused}
+use Rattle.task_runner.specs.inside.Turns.{TellsForked, NobodyRefused}
 
 -- who may go on is forked
 unforked_stays : (w : WorldValue) (t : ℕ) → (state_of w).forked t ≡ false → IsEnabled w t → ⊥

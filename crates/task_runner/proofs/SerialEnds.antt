@@ -16,7 +16,8 @@ use Rattle.armus_base.proofs.Stepping.{acting_forked}
 use Rattle.pl_core.specs.Stands.{IsEnabled}
 use Rattle.pl_core.specs.Worlds.{IsOpeningWorld, WorldValue, places_at, places_of, state_of}
 use Rattle.pl_core.proofs.Opening.{first_places}
-use Rattle.task_runner.specs.AvoidedRuns.{HasRoundBelow, IsAvoidedEnd, IsSerialEnd, LeadsTo}
+use Rattle.task_runner.specs.AvoidedRuns.{IsAvoidedEnd, IsSerialEnd}
+use Rattle.task_runner.specs.inside.AvoidedRounds.{HasRoundBelow, LeadsTo}
 use Rattle.task_runner.proofs.AvoidedEnds.{ended_stops}
 use Rattle.task_runner.proofs.AvoidedSteps.{leads_state}
 
@@ -27,7 +28,9 @@ pub record HasSerialRun (plan : Plan) (w : WorldValue) : Type 0 where
   pub leads : LeadsTo plan steps w
 
 -- the round leads the serial run on
-pub serial_more : (plan : Plan) (old new : WorldValue) (moved : Bool) → old.plan ≡ plan → HasSerialRun plan old → HasRoundBelow old new (length old.plan.parents) moved → HasSerialRun plan new
+pub serial_more :
+    (plan : Plan) (old new : WorldValue) (moved : Bool) → old.plan ≡ plan → HasSerialRun plan old → HasRoundBelow old new (length old.plan.parents) moved →
+    HasSerialRun plan new
 serial_more plan old new moved is serial round =
     let there : LeadsTo old.plan serial.steps old = subst (λ q. LeadsTo q serial.steps old) (sym is) serial.leads in
     let run = round serial.steps there in

@@ -10,7 +10,8 @@ use Rattle.armus_base.specs.States.{Step}
 use Rattle.pl_core.specs.Stands.{IsEnabled}
 use Rattle.pl_core.specs.Worlds.{WorldValue, places_of, state_of}
 use Rattle.pl_core.proofs.Opening.{opening_is}
-use Rattle.task_runner.specs.AvoidedRuns.{GoesOnTo, HasPart, HasRoundBelow, LeadsTo, SerialRunEnds, left_in}
+use Rattle.task_runner.specs.AvoidedRuns.{SerialRunEnds}
+use Rattle.task_runner.specs.inside.AvoidedRounds.{GoesOnTo, HasPart, HasRoundBelow, LeadsTo, left_in}
 use Rattle.task_runner.proofs.AvoidedEnds.{forked_still, leads_there, round_begun, round_more, turn_left_out, turn_taken}
 use Rattle.task_runner.proofs.AvoidedSteps.{goes_more, goes_none}
 use Rattle.task_runner.proofs.Left.{left_at_most}
@@ -111,7 +112,8 @@ both_still : (a b : Bool) → (a || b) ≡ false → (a ≡ false) × (b ≡ fal
 both_still true b e = absurd (false≢true (sym e))
 both_still false b e = (refl, e)
 
-module _ (first : WorldValue) (checked : IsCheckedPlan first.plan) (reach : IsReachable first.plan (places_of first)) (sized : length first.places ≡ length first.plan.parents) where
+module _ (first : WorldValue) (checked : IsCheckedPlan first.plan) (reach : IsReachable first.plan (places_of first))
+    (sized : length first.places ≡ length first.plan.parents) where
   part_of :
       (k : ℕ) (r : HasRounded first k) (has : Bool) → (state_of first).forked k ≡ has → HasTurned r.new k has
   part_of k r true forked =

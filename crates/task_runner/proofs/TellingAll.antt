@@ -9,8 +9,9 @@ use Rattle.armus_base.specs.Statuses.{IsInOrder}
 use Rattle.armus_base.proofs.StatusesAre.{statuses_are}
 use Rattle.report.specs.NamedDead.{AreSomeDead, AreTheDead}
 use Rattle.task_runner.specs.PlainRuns.{IsPlainEnd}
-use Rattle.task_runner.specs.DetectRuns.{AreDeadAtTheEnd, HasWritten, TellsRest, TellsRun, Told}
-use Rattle.task_runner.specs.Tellers.{TellsMore, TellsOn}
+use Rattle.task_runner.specs.DetectRuns.{AreDeadAtTheEnd, HasWritten, TellsRun, Told}
+use Rattle.task_runner.specs.inside.Rests.{TellsRest}
+use Rattle.task_runner.specs.inside.Tellers.{TellsMore, TellsOn}
 use Rattle.task_runner.specs.declared.ran.Ran.{Ran}
 use Rattle.task_runner.specs.declared.ran.RunEnd.{RunEnd}
 use Rattle.task_runner.specs.declared.ran.RunEnd.TheVariants.{NoMemory, Write}
@@ -35,11 +36,14 @@ pub none_on : (plan : Plan) (dead : List Dead) (a n : Told) (r : Result Ran RunE
 none_on plan dead a n r is same at_end = subst (TellsOn plan dead a n) (sym is) ([], subst (AreDeadAtTheEnd plan) (sym (append-nil dead)) at_end, none_written a n same)
 
 -- an error of a pass ends the run
-pub pass_err : (A : Type 0) (plan : Plan) (first second : List Dead) (a n : Told) (e : RunEnd) (r : Result Ran RunEnd) → r ≡ Err e → TellsMore {A = A} plan first second a n (Err e) → TellsOn plan first a n r
+pub pass_err :
+    (A : Type 0) (plan : Plan) (first second : List Dead) (a n : Told) (e : RunEnd) (r : Result Ran RunEnd) → r ≡ Err e →
+    TellsMore {A = A} plan first second a n (Err e) → TellsOn plan first a n r
 pass_err A plan first second a n Write r is p = subst (TellsOn plan first a n) (sym is) p
 pass_err A plan first second a n NoMemory r is p = subst (TellsOn plan first a n) (sym is) p
 
-module _ (plan : Plan) (x : Final) (is_end : IsPlainEnd plan x) (first second fresh : List Dead) (grown : second ≡ first ++ fresh) (a m n : Told) (written : HasWritten fresh a m) where
+module _ (plan : Plan) (x : Final) (is_end : IsPlainEnd plan x) (first second fresh : List Dead) (grown : second ≡ first ++ fresh) (a m n : Told)
+    (written : HasWritten fresh a m) where
   abbrev all : List Dead → List Dead
   all rest = first ++ (fresh ++ rest)
 
@@ -61,12 +65,16 @@ module _ (plan : Plan) (x : Final) (is_end : IsPlainEnd plan x) (first second fr
       subst (TellsOn plan first a n) (sym is) (fresh, subst (AreDeadAtTheEnd plan) grown dead, subst (HasWritten fresh a) (sym same) written)
 
 -- the rounds of a run, at whose beginning nobody is told
-pub run_err : (A : Type 0) (plan : Plan) (first second : List Dead) (a n : Told) (e : RunEnd) (r : Result Ran RunEnd) → r ≡ Err e → first ≡ [] → TellsMore {A = A} plan first second a n (Err e) → TellsRun plan a n r
+pub run_err :
+    (A : Type 0) (plan : Plan) (first second : List Dead) (a n : Told) (e : RunEnd) (r : Result Ran RunEnd) → r ≡ Err e → first ≡ [] →
+    TellsMore {A = A} plan first second a n (Err e) → TellsRun plan a n r
 run_err A plan first second a n Write r is none p = subst (TellsRun plan a n) (sym is) (p.0, subst (AreDeadAtTheEnd plan) (ap (λ ds. ds ++ p.0) none) p.1, p.2)
 run_err A plan first second a n NoMemory r is none p = subst (TellsRun plan a n) (sym is) (p.0, subst (AreDeadAtTheEnd plan) (ap (λ ds. ds ++ p.0) none) p.1, p.2)
 
 -- and its end
-pub run_on : (plan : Plan) (first second fresh : List Dead) (a m n : Told) (r : Result Ran RunEnd) → first ≡ [] → second ≡ first ++ fresh → HasWritten fresh a m → TellsOn plan second m n r → TellsRun plan a n r
+pub run_on :
+    (plan : Plan) (first second fresh : List Dead) (a m n : Told) (r : Result Ran RunEnd) → first ≡ [] → second ≡ first ++ fresh → HasWritten fresh a m →
+    TellsOn plan second m n r → TellsRun plan a n r
 run_on plan first second fresh a m n (Ok ran) none grown written p =
     (fresh ++ p.0, subst (AreTheDead ran.end.blocked) (ap (λ ds. ds ++ p.0) (grown ∙ ap (λ ds. ds ++ fresh) none)) p.1, written_on fresh p.0 a m n written p.2)
 run_on plan first second fresh a m n (Err Write) none grown written p =

@@ -28,7 +28,7 @@ use Rattle.board.proofs.Closing.{some_task}
 use Rattle.phase_scan.specs.Collects.{IsCollect}
 use Rattle.phase_scan.specs.Looks.{LoadsAlone}
 use Rattle.collector.specs.Passes.{Watch}
-use Rattle.task_runner.specs.Tellers.{TellsMore, Telling, Watches}
+use Rattle.task_runner.specs.inside.Tellers.{TellsMore, Telling, Watches}
 use Rattle.task_runner.specs.declared.ran.RunEnd.{RunEnd}
 use Rattle.task_runner.specs.declared.ran.RunEnd.TheVariants.{NoMemory, Write}
 use Rattle.armus_base.specs.Boards.{IsLawful}
@@ -169,7 +169,8 @@ module _ (names : List Bool) (list : List Status) (before now : Known) (v : Verd
 
     -- and all are dead at the end
     pub dead_too :
-        (plan : Plan) → IsCheckedPlan plan → now.view.plan ≡ plan → now.view.mode ≡ Detect → now.view.own ≡ None → Possible now → AreDeadAtTheEnd plan told → AreDeadAtTheEnd plan (told ++ v.fresh)
+        (plan : Plan) → IsCheckedPlan plan → now.view.plan ≡ plan → now.view.mode ≡ Detect → now.view.own ≡ None → Possible now → AreDeadAtTheEnd plan told →
+        AreDeadAtTheEnd plan (told ++ v.fresh)
     dead_too plan checked same detects viewer possible dead end is_end =
         let before = dead end is_end in
         record {
@@ -181,7 +182,8 @@ module _ (names : List Bool) (list : List Status) (before now : Known) (v : Verd
         }
       where
         lawful : IsLawful false plan possible.places possible.lock
-        lawful = subst (λ (m : Mode). IsLawful (avoids m) plan possible.places possible.lock) detects (subst (λ (q : Plan). IsLawful (avoids now.view.mode) q possible.places possible.lock) same possible.lawful)
+        lawful = subst (λ (m : Mode). IsLawful (avoids m) plan possible.places possible.lock) detects
+            (subst (λ (q : Plan). IsLawful (avoids now.view.mode) q possible.places possible.lock) same possible.lawful)
 
         far : IsAsFarOn now.view.plan None possible.places (seen now.view)
         far = subst (λ o. IsAsFarOn now.view.plan o possible.places (seen now.view)) viewer possible.far
@@ -197,14 +199,16 @@ module _ (names : List Bool) (list : List Status) (before now : Known) (v : Verd
 pub written_on : (xs ys : List Dead) (a b c : Told) → HasWritten xs a b → HasWritten ys b c → HasWritten (xs ++ ys) a c
 written_on xs ys a b c p q =
     record {
-      lines = subst (λ text. Appends a.taken c.taken text) (sym (flat_map-append live_line xs ys)) (Appends-trans a.taken b.taken c.taken (live_text xs) (live_text ys) p.lines q.lines);
+      lines = subst (λ text. Appends a.taken c.taken text) (sym (flat_map-append live_line xs ys))
+          (Appends-trans a.taken b.taken c.taken (live_text xs) (live_text ys) p.lines q.lines);
       sound = q.sound ∙ p.sound;
     }
 
 pub failed_on : (xs ys : List Dead) (a b c : Told) → HasWritten xs a b → HasFailed ys b c → HasFailed (xs ++ ys) a c
 failed_on xs ys a b c p q =
     record {
-      front = subst (λ text. TookFront a.taken c.taken text) (sym (flat_map-append live_line xs ys)) (front_after a.taken b.taken c.taken (live_text xs) (live_text ys) p.lines q.front);
+      front = subst (λ text. TookFront a.taken c.taken text) (sym (flat_map-append live_line xs ys))
+          (front_after a.taken b.taken c.taken (live_text xs) (live_text ys) p.lines q.front);
       failed = q.failed ∙ ap counted p.sound;
     }
 
@@ -218,8 +222,10 @@ none_written b n same = record { lines = subst (λ (t : Told). Appends b.taken t
 
 -- a pass by a teller that watches the board
 pub watches_more :
-    (f : Frame) (w : Telling) (now : Known) (collector : Watch) (list : List Status) (v : Verdict) → f.mode ≡ Detect → Watches f w → LoadsAlone w.view now → IsCollect f.plan list w.view now →
-    IsVerdict w.collector.names list w.view now v → NamesToo v.dead w.collector.names collector.names → collector.tasks ≡ w.collector.tasks → collector.phasers ≡ w.collector.phasers →
+    (f : Frame) (w : Telling) (now : Known) (collector : Watch) (list : List Status) (v : Verdict) → f.mode ≡ Detect → Watches f w → LoadsAlone w.view now →
+    IsCollect f.plan list w.view now →
+    IsVerdict w.collector.names list w.view now v → NamesToo v.dead w.collector.names collector.names → collector.tasks ≡ w.collector.tasks →
+    collector.phasers ≡ w.collector.phasers →
     Watches f (record { collector = collector; view = now; dead = w.dead ++ v.fresh })
 watches_more f w now collector list v detects watches goes collect verdict too tasks phasers =
     let checked = subst IsCheckedPlan watches.made.plan watches.kept.checked in
@@ -231,12 +237,15 @@ watches_more f w now collector list v detects watches goes collect verdict too t
       phasers = phasers ∙ watches.phasers;
       named = named_too w.collector.names list w.view now v verdict w.dead watches.named collector.names too;
       dead =
-          dead_too w.collector.names list w.view now v verdict w.dead watches.named f.plan checked (goes.same.plan ∙ watches.made.plan) (goes.same.mode ∙ watches.made.mode ∙ detects)
+          dead_too w.collector.names list w.view now v verdict w.dead watches.named f.plan checked (goes.same.plan ∙ watches.made.plan)
+          (goes.same.mode ∙ watches.made.mode ∙ detects)
           (goes.same.own ∙ watches.viewer) (collect_possible f.plan list w.view now (some_task f.plan checked) collect) watches.dead;
     }
 
 -- the viewer has taken seats in
-pub watches_taken : (f : Frame) (w : Telling) (now : Known) → Watches f w → IsOf now f → IsSameSeat w.view.view now.view → IsSeat now → Watches f (record { collector = w.collector; view = now; dead = w.dead })
+pub watches_taken :
+    (f : Frame) (w : Telling) (now : Known) → Watches f w → IsOf now f → IsSameSeat w.view.view now.view → IsSeat now →
+    Watches f (record { collector = w.collector; view = now; dead = w.dead })
 watches_taken f w now watches made same kept =
     record { made = made; kept = kept; viewer = same.own ∙ watches.viewer; tasks = watches.tasks; phasers = watches.phasers; named = watches.named; dead = watches.dead }
 
@@ -252,6 +261,8 @@ told_on plan first second third a b c fresh (Err NoMemory) e w p =
     (fresh ++ p.0, subst (AreDeadAtTheEnd plan) (ap (λ ds. ds ++ p.0) e ∙ append_assoc first fresh p.0) p.1, written_on fresh p.0 a b c w p.2)
 
 -- an error is handed on
-pub told_err : (A B : Type 0) (plan : Plan) (first second : List Dead) (a b : Told) (e : RunEnd) (r : Result B RunEnd) → r ≡ Err e → TellsMore {A = A} plan first second a b (Err e) → TellsMore {A = B} plan first second a b r
+pub told_err :
+    (A B : Type 0) (plan : Plan) (first second : List Dead) (a b : Told) (e : RunEnd) (r : Result B RunEnd) → r ≡ Err e →
+    TellsMore {A = A} plan first second a b (Err e) → TellsMore {A = B} plan first second a b r
 told_err A B plan first second a b Write r is p = subst (TellsMore plan first second a b) (sym is) p
 told_err A B plan first second a b NoMemory r is p = subst (TellsMore plan first second a b) (sym is) p

@@ -1,9 +1,8 @@
 -- Runs on a board that detects deadlock: what one answers, and what it writes while it goes on.
-use Rattle.std.specs.Prelude.{◌≡◌, ℕ, ◌⊎◌, true, false, List, ◌++◌, Option, None, IsSome, Result, Ok, Err, length}
+use Rattle.std.specs.Prelude.{◌≡◌, ℕ, ◌⊎◌, true, false, List, Option, None, IsSome, Result, Ok, Err, length}
 use Rattle.std.specs.Io.KnownBytes.{Appends}
 use Rattle.armus_base.specs.declared.ending.Final.{Final}
 use Rattle.armus_base.specs.declared.status.Dead.{Dead}
-use Rattle.armus_base.specs.declared.status.Status.{Status}
 use Rattle.armus_base.specs.Causes.{counted}
 use Rattle.armus_base.specs.ReadAll.{TookFront}
 use Rattle.armus_base.specs.Plans.{Plan, action_at}
@@ -64,9 +63,7 @@ TellsRun plan before now (Ok ran) = (named : List Dead) × AreTheDead ran.end.bl
 TellsRun plan before now (Err Write) = (named : List Dead) × AreDeadAtTheEnd plan named × HasFailed named before now
 TellsRun plan before now (Err NoMemory) = (named : List Dead) × AreDeadAtTheEnd plan named × HasWritten named before now
 
--- The lines of all dead tasks of the statuses that were not told before were written; or the sink counted a fault in them; or memory was wanting, and
--- nothing was written.
-abbrev pub TellsRest : List Status → List Dead → Told → Told → Result (Unit {0}) RunEnd → Type 0
-TellsRest blocked dead before now (Ok x) = (rest : List Dead) × AreTheDead blocked (dead ++ rest) × HasWritten rest before now
-TellsRest blocked dead before now (Err Write) = (rest : List Dead) × AreTheDead blocked (dead ++ rest) × HasFailed rest before now
-TellsRest blocked dead before now (Err NoMemory) = now ≡ before
+-- no fault of the sink ended it
+abbrev pub IsNoWrite : {A : Type 0} → Result A RunEnd → Type 0
+IsNoWrite (Err Write) = ⊥
+IsNoWrite result = Unit {0}

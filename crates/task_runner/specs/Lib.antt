@@ -1,8 +1,5 @@
 pub mod PlainRuns
 pub mod RecordedRuns
-pub mod Turns
 pub mod AvoidedRuns
 pub mod DetectRuns
-pub mod Tellers
-pub mod Watching
-pub mod Rests
+pub mod inside

@@ -2,8 +2,9 @@
 ghost use Rattle.std.specs.Prelude.{◌≡◌, ◌<◌, ◌≤◌, Bool, true, false, length, IfOk, OnOk};
 ghost use Rattle.armus_base.specs.Deadlocks.{NobodyDead};
 ghost use Rattle.pl_core.specs.Worlds.{state_of};
-ghost use Rattle.task_runner.specs.AvoidedRuns.{HasPart, HasRoundBelow, IsAvoidedEnd, IsSerialEnd, left_in};
-ghost use Rattle.task_runner.specs.Turns.{TellsForked};
+ghost use Rattle.task_runner.specs.AvoidedRuns.{IsAvoidedEnd, IsSerialEnd};
+ghost use Rattle.task_runner.specs.inside.AvoidedRounds.{HasPart, HasRoundBelow, left_in};
+ghost use Rattle.task_runner.specs.inside.Turns.{TellsForked};
 
 use crate::RunOptions;
 use crate::avoided_board::avoid_on_board;

@@ -3,9 +3,10 @@ ghost use Rattle.std.specs.Prelude.{◌≡◌, ◌≤◌, ℕ, false, true, IfOk
 ghost use Rattle.board.specs.declared.mode.Mode.TheVariants.{Detect};
 ghost use Rattle.board.specs.Views.{seen};
 ghost use Rattle.phase_scan.specs.Looks.{LoadsAlone};
-ghost use Rattle.board_rounds.specs.Crews.{AreTasksOf, HaveEnded, all_of};
-ghost use Rattle.task_runner.specs.DetectRuns.{IsDetectRun, TellsRun, told};
-ghost use Rattle.task_runner.specs.Tellers.{IsNoWrite, TellsMore, TellsOn, Watches};
+ghost use Rattle.board_rounds.specs.Crews.{HaveEnded, all_of};
+ghost use Rattle.task_runner.specs.DetectRuns.{IsDetectRun, IsNoWrite, TellsRun, told};
+ghost use Rattle.task_runner.specs.inside.DetectRounds.{IsUnderWay};
+ghost use Rattle.task_runner.specs.inside.Tellers.{TellsMore, TellsOn, Watches};
 
 use crate::detect_rounds::go_by_rounds;
 use crate::ending::end_from;
@@ -70,11 +71,8 @@ fn end_run<G: Gate, K: Sink>(
     mut teller: Teller,
     out: &mut K,
 ) -> Result<Ran, RunEnd>
-    requires plan { board.plan ≡ plan.now }
-    requires detects { board.mode ≡ Detect }
-    requires tasks { AreTasksOf board crew }
+    requires under_way { IsUnderWay board plan.now crew teller }
     requires ends { HaveEnded (all_of crew) }
-    requires watches { Watches board teller }
     requires unknown { (u : ℕ) → (seen teller.view.view).exact u ≡ false }
     ensures ran { IfOk result (IsDetectRun plan.now) }
     ensures told { options.now.live ≡ true → TellsOn plan.now teller.dead (told K.taken K.faults out.old) (told K.taken K.faults out.new) result }

@@ -3,8 +3,9 @@ ghost use Rattle.std.specs.Prelude.{◌≡◌, ◌<◌, true, false, IfOk, OnOk}
 ghost use Rattle.board.specs.declared.mode.Mode.TheVariants.{Detect};
 ghost use Rattle.phase_scan.specs.Looks.{LoadsAlone};
 ghost use Rattle.board_rounds.specs.Crews.{AreTasksOf, HaveEnded, all_of, left_to};
-ghost use Rattle.task_runner.specs.DetectRuns.{told};
-ghost use Rattle.task_runner.specs.Tellers.{IsNoWrite, SeesOn, TellsMore, Watches};
+ghost use Rattle.task_runner.specs.DetectRuns.{IsNoWrite, told};
+ghost use Rattle.task_runner.specs.inside.DetectRounds.{IsUnderWay};
+ghost use Rattle.task_runner.specs.inside.Tellers.{SeesOn, TellsMore, Watches};
 
 use crate::pace::Pace;
 use crate::teller::Teller;
@@ -28,13 +29,9 @@ pub(crate) fn go_by_rounds<R: Threads + Sync, G: Gate, K: Sink>(
     teller: &mut Teller,
     out: &mut K,
 ) -> Result<(), RunEnd>
-    requires plan { board.now.plan ≡ plan.now }
-    requires detects { board.now.mode ≡ Detect }
-    requires tasks { AreTasksOf board.now crew.old }
-    requires watches { Watches board.now teller.old }
-    ensures tasks { OnOk result (AreTasksOf board.now crew.new) }
+    requires under_way { IsUnderWay board.now plan.now crew.old teller.old }
+    ensures under_way { OnOk result (IsUnderWay board.now plan.now crew.new teller.new) }
     ensures ends { OnOk result (HaveEnded (all_of crew.new)) }
-    ensures watches { OnOk result (Watches board.now teller.new) }
     ensures sees { SeesOn teller.old.view teller.new.view }
     ensures told { TellsMore board.now.plan teller.old.dead teller.new.dead (told K.taken K.faults out.old) (told K.taken K.faults out.new) result }
     ensures silent { options.now.live ≡ false → (out.new ≡ out.old) × IsNoWrite result }
@@ -59,14 +56,10 @@ fn go_round<R: Threads + Sync, G: Gate, K: Sink>(
     teller: &mut Teller,
     out: &mut K,
 ) -> Result<bool, RunEnd>
-    requires plan { board.now.plan ≡ plan.now }
-    requires detects { board.now.mode ≡ Detect }
-    requires tasks { AreTasksOf board.now crew.old }
-    requires watches { Watches board.now teller.old }
-    ensures tasks { OnOk result (AreTasksOf board.now crew.new) }
+    requires under_way { IsUnderWay board.now plan.now crew.old teller.old }
+    ensures under_way { OnOk result (IsUnderWay board.now plan.now crew.new teller.new) }
     ensures further { IfOk result (λ moved. moved ≡ true → left_to plan.now crew.new < left_to plan.now crew.old) }
     ensures quiet { IfOk result (λ moved. moved ≡ false → HaveEnded (all_of crew.new)) }
-    ensures watches { OnOk result (Watches board.now teller.new) }
     ensures sees { SeesOn teller.old.view teller.new.view }
     ensures told { TellsMore board.now.plan teller.old.dead teller.new.dead (told K.taken K.faults out.old) (told K.taken K.faults out.new) result }
     ensures silent { options.now.live ≡ false → (out.new ≡ out.old) × IsNoWrite result }
@@ -97,10 +90,7 @@ fn take_round<R: Threads + Sync, G: Gate, K: Sink>(
     teller: &mut Teller,
     out: &mut K,
 ) -> (Result<u32, NoMemory>, Result<(), RunEnd>)
-    requires plan { board.now.plan ≡ plan.now }
-    requires detects { board.now.mode ≡ Detect }
-    requires tasks { AreTasksOf board.now crew.old }
-    requires watches { Watches board.now teller.old }
+    requires under_way { IsUnderWay board.now plan.now crew.old teller.old }
     ensures tasks { OnOk result.0 (AreTasksOf board.now crew.new) }
     ensures further { IfOk result.0 (λ made. 0 < made → left_to plan.now crew.new < left_to plan.now crew.old) }
     ensures quiet { IfOk result.0 (λ made. made ≡ 0 → HaveEnded (all_of crew.new)) }
@@ -145,10 +135,7 @@ fn turn_and_tell<R: Threads + Sync, G: Gate, K: Sink>(
     teller: &mut Teller,
     out: &mut K,
 ) -> (Result<u32, NoMemory>, Result<(), RunEnd>)
-    requires plan { board.now.plan ≡ plan.now }
-    requires detects { board.now.mode ≡ Detect }
-    requires tasks { AreTasksOf board.now crew.old }
-    requires watches { Watches board.now teller.old }
+    requires under_way { IsUnderWay board.now plan.now crew.old teller.old }
     ensures tasks { OnOk result.0 (AreTasksOf board.now crew.new) }
     ensures further { IfOk result.0 (λ made. 0 < made → left_to plan.now crew.new < left_to plan.now crew.old) }
     ensures quiet { IfOk result.0 (λ made. made ≡ 0 → HaveEnded (all_of crew.new)) }

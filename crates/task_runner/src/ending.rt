@@ -1,17 +1,17 @@
 // The end of a run, from where its tasks stand.
 ghost use Rattle.std.specs.Prelude.{◌≡◌, ℕ, Some, false, IfOk, length, slice_get};
 ghost use Rattle.armus_base.specs.Runs.{IsReachable};
-ghost use Rattle.pl_core.specs.declared.place.Place.{Place as Standing};
+ghost use Rattle.pl_core.specs.declared.place.Place.{Place as KeptPlace};
 ghost use Rattle.pl_core.specs.Worlds.{places_at};
 ghost use Rattle.task_runner.specs.PlainRuns.{IsPlainEnd};
+ghost use Rattle.task_runner.specs.inside.Turns.{NobodyRefused};
 
 use crate::round::round;
 use armus_base::{Final, Gate, NoMemory, Plan};
 use pl_core::{Place, World};
 use std::alloc::Global;
 
-/// The end of the run whose tasks stand at these places, none refused: turns go on by rounds in order of number until no task may go on. The gate is
-/// called before each op.
+/// The end of the run whose tasks stand at these places, none refused. The gate is called before each op.
 pub(crate) fn end_from<G: Gate>(
     alloc: Global,
     plan: &Plan,
@@ -20,10 +20,25 @@ pub(crate) fn end_from<G: Gate>(
 ) -> Result<Final, NoMemory>
     requires one_each { length places.now ≡ length plan.now.parents }
     requires reachable { IsReachable plan.now (places_at plan.now places.now) }
-    requires plain { (t : ℕ) (place : Standing) → slice_get places.now t ≡ Some place → place.refused ≡ false }
+    requires plain { (t : ℕ) (place : KeptPlace) → slice_get places.now t ≡ Some place → place.refused ≡ false }
     ensures end { IfOk result (λ end. IsPlainEnd plan.now end) }
 {
-    let mut world = World::at(alloc, plan, places)?;
+    let world = World::at(alloc, plan, places)?;
+    end_of(alloc, world, plan, gate)
+}
+
+/// The end of the run that has come to this world, in which nobody is refused: turns go on by rounds in order of number until no task may go on. The gate
+/// is called before each op.
+pub(crate) fn end_of<G: Gate>(
+    alloc: Global,
+    mut world: World,
+    plan: &Plan,
+    gate: &G,
+) -> Result<Final, NoMemory>
+    requires plan { world.plan ≡ plan.now }
+    requires plain { NobodyRefused world }
+    ensures end { IfOk result (λ end. IsPlainEnd plan.now end) }
+{
     let count = plan.tasks() as usize;
     let mut forked = vec![in alloc; false; count]?;
     while round(&mut world, &mut forked, gate) {}

@@ -2,7 +2,7 @@
 ghost use Rattle.std.specs.Prelude.{◌≡◌, ℕ, ◌<◌, IfOk, OnOk, false, true, length};
 ghost use Rattle.pl_core.specs.Stands.{IsEnabled};
 ghost use Rattle.task_runner.specs.RecordedRuns.{IsRecordedRun};
-ghost use Rattle.task_runner.specs.Turns.{remaining};
+ghost use Rattle.task_runner.specs.inside.Turns.{remaining};
 
 use armus_base::{Final, List, NoMemory, TaskId};
 use locked_world::{Logged, PlanName};

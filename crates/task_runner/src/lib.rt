@@ -31,4 +31,6 @@ pub use ran::{Ran, RunEnd};
 #[cfg(test)]
 mod avoided_tests;
 #[cfg(test)]
+mod test_plans;
+#[cfg(test)]
 mod tests;

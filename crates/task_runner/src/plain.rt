@@ -1,8 +1,8 @@
 // The plain run with one worker.
-ghost use Rattle.std.specs.Prelude.{◌≡◌, IfOk};
+ghost use Rattle.std.specs.Prelude.{IfOk};
 ghost use Rattle.task_runner.specs.PlainRuns.{IsPlainEnd};
 
-use crate::round::round;
+use crate::ending::end_of;
 use armus_base::{Final, Gate, NoMemory, Plan};
 use pl_core::World;
 use std::alloc::Global;
@@ -12,9 +12,6 @@ use std::alloc::Global;
 pub fn run_plain<G: Gate>(alloc: Global, plan: &Plan, gate: &G) -> Result<Final, NoMemory>
     ensures end { IfOk result (λ end. IsPlainEnd plan.now end) }
 {
-    let mut world = World::start(alloc, plan)?;
-    let count = plan.tasks() as usize;
-    let mut forked = vec![in alloc; false; count]?;
-    while round(&mut world, &mut forked, gate) {}
-    world.finish(alloc)
+    let world = World::start(alloc, plan)?;
+    end_of(alloc, world, plan, gate)
 }

@@ -2,9 +2,8 @@
 ghost use Rattle.std.specs.Prelude.{◌≡◌, ◌++◌, ◌⊎◌, true, false, Contains, IfOk};
 ghost use Rattle.armus_base.specs.Statuses.{IsInOrder};
 ghost use Rattle.report.specs.NamedDead.{AreSomeDead, AreTheDead};
-ghost use Rattle.task_runner.specs.DetectRuns.{TellsRest, told};
-ghost use Rattle.task_runner.specs.Tellers.{IsNoWrite};
-ghost use Rattle.task_runner.specs.Rests.{IsNamedIn};
+ghost use Rattle.task_runner.specs.DetectRuns.{told, IsNoWrite};
+ghost use Rattle.task_runner.specs.inside.Rests.{TellsRest, IsNamedIn};
 
 use crate::{RunEnd, RunOptions};
 use adaptive::{Wanted, analyse};

@@ -4,7 +4,7 @@ ghost use Rattle.armus_base.specs.CheckedPlans.{IsCheckedPlan};
 ghost use Rattle.armus_base.specs.Runs.{IsReachable};
 ghost use Rattle.pl_core.specs.Worlds.{places_of, state_of};
 ghost use Rattle.pl_core.specs.Stands.{IsEnabled};
-ghost use Rattle.task_runner.specs.Turns.{NobodyRefused, TellsForked, remaining};
+ghost use Rattle.task_runner.specs.inside.Turns.{NobodyRefused, TellsForked, remaining};
 
 use armus_base::{Gate, Point, TaskId};
 use pl_core::{Stand, World};

@@ -9,7 +9,7 @@ ghost use Rattle.board.specs.Views.{seen};
 ghost use Rattle.phase_scan.specs.Looks.{LoadsAlone};
 ghost use Rattle.board_rounds.specs.Crews.{AreTasksOf, KnowsTasks, all_of};
 ghost use Rattle.task_runner.specs.DetectRuns.{told};
-ghost use Rattle.task_runner.specs.Tellers.{TellsMore, Watches};
+ghost use Rattle.task_runner.specs.inside.Tellers.{TellsMore, Watches};
 
 use crate::RunEnd;
 use adaptive::Wanted;
@@ -31,11 +31,11 @@ pub(crate) struct Teller {
 }
 
 impl Model for Teller {
-    ghost use Rattle.task_runner.specs.Tellers.{Telling};
+    ghost use Rattle.task_runner.specs.inside.Tellers.{Telling};
 
     ghost Value = { Telling };
 
-    ghost use Rattle.task_runner.specs.Watching.{telling_of};
+    ghost use Rattle.task_runner.specs.inside.Watching.{telling_of};
 
     ghost view = { telling_of };
 }

@@ -1,77 +1,14 @@
 // Recorded runs of two tasks that wait for each other, and of two tasks that a gate makes act side by side.
+use crate::test_plans::{FIRST, ROOT, SECOND, two_makers, two_tasks};
 use crate::{RunOptions, run_journal, run_plain};
 use adaptive::Wanted;
-use armus_base::{Code, Gate, List, NoMemory, Offset, Op, PhaserId, Plan, Point, Still, TaskId};
-use std::alloc::Global;
+use armus_base::{Gate, Point, Still};
 use std::sync::atomic::{AtomicBool, Ordering};
 use std::test::Fail;
 use std::thread::yield_now;
 
-const A: PhaserId = PhaserId(0);
-
-const B: PhaserId = PhaserId(1);
-
-const ROOT: TaskId = TaskId(0);
-
-const FIRST: TaskId = TaskId(1);
-
-const SECOND: TaskId = TaskId(2);
-
 // How often a task looks for another at the gate before it gives up.
 const MAX_LOOKS: u32 = 200_000_000;
-
-// Task 0 makes two phasers, registers its child on both and forks it; it waits on the first, and the child on the second.
-fn two_tasks(alloc: Global) -> Result<Plan, NoMemory> {
-    let parents = vec![in alloc; None, Some(ROOT)]?;
-    let makers = vec![in alloc; ROOT, ROOT]?;
-    let first = vec![in alloc;
-        Op::Make { p: A },
-        Op::Make { p: B },
-        Op::Reg { c: FIRST, p: A },
-        Op::Reg { c: FIRST, p: B },
-        Op::Fork { c: FIRST },
-        Op::Adv { p: A },
-        Op::Await {
-            p: A,
-            off: Offset::Here
-        },
-    ]?;
-    let second = vec![in alloc;
-        Op::Adv { p: B },
-        Op::Await {
-            p: B,
-            off: Offset::Here
-        },
-    ]?;
-    let codes = vec![in alloc;
-        Code::from_ops(List::from_vec(first)),
-        Code::from_ops(List::from_vec(second)),
-    ]?;
-    Ok(Plan::from_parts(
-        List::from_vec(parents),
-        List::from_vec(makers),
-        List::from_vec(codes),
-    ))
-}
-
-// Task 0 forks two children, each of which makes a phaser.
-fn two_makers(alloc: Global) -> Result<Plan, NoMemory> {
-    let parents = vec![in alloc; None, Some(ROOT), Some(ROOT)]?;
-    let makers = vec![in alloc; FIRST, SECOND]?;
-    let root = vec![in alloc; Op::Fork { c: FIRST }, Op::Fork { c: SECOND }]?;
-    let first = vec![in alloc; Op::Make { p: A }]?;
-    let second = vec![in alloc; Op::Make { p: B }]?;
-    let codes = vec![in alloc;
-        Code::from_ops(List::from_vec(root)),
-        Code::from_ops(List::from_vec(first)),
-        Code::from_ops(List::from_vec(second)),
-    ]?;
-    Ok(Plan::from_parts(
-        List::from_vec(parents),
-        List::from_vec(makers),
-        List::from_vec(codes),
-    ))
-}
 
 // A gate that holds tasks 1 and 2 before their first op until both are there.
 #[derive(Drop)]

@@ -8,7 +8,8 @@ use locked_world::{LockedWorld, PlanName};
 use std::sync::Wait;
 use std::thread::{Threads, join_mut};
 
-/// One turn of each of these tasks. With several workers the list is split into halves, which take their turns side by side, each with half of the workers; with one worker turns are taken in order.
+/// One turn of each of these tasks. With several workers the list is split into halves, which take their turns side by side, each with half of the
+/// workers; with one worker turns are taken in order.
 pub(crate) fn take_turns<N: PlanName, R: Threads + Wait + Sync, G: Gate>(
     rt: &R,
     shared: &LockedWorld<'_, N>,

@@ -31,7 +31,7 @@ IsAttempt aim before now Begun = Goes (Blocks aim ∷ []) before now
 IsAttempt aim before now (Refused drops) = IsRefusedAt aim drops before now
 
 -- what came of an op that was to begin: the same of an await, and every other one has begun
-abbrev pub Begins : Op → Known → Known → Attempt → Type 0
-Begins (Await p off) before now tried = IsAttempt (aim_at p.0 off) before now tried
-Begins op before now Begun = Goes (begins op ∷ []) before now
-Begins op before now tried = ⊥
+abbrev pub BeginsOp : Op → Known → Known → Attempt → Type 0
+BeginsOp (Await p off) before now tried = IsAttempt (aim_at p.0 off) before now tried
+BeginsOp op before now Begun = Goes (begins op ∷ []) before now
+BeginsOp op before now tried = ⊥

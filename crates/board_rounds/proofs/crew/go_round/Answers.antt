@@ -2,7 +2,7 @@ use Rattle.std.proofs.Common.{◌≡◌, ◌++◌, List, [], All, length, drop, 
 use Rattle.std.specs.List.{flat_map}
 use Rattle.std.specs.List.Sorted.{IsPermutation}
 use Rattle.board_rounds.specs.Turns.{EachActs, Working}
-use Rattle.board_rounds.specs.Crews.{IsChildIn, emptied, fresh_of}
+use Rattle.board_rounds.specs.inside.Rounds.{IsChildIn, emptied, fresh_of}
 use Rattle.board_rounds.proofs.Between.{take_front, to_each}
 use Rattle.board_rounds.proofs.Crewing.{starts}
 use Rattle.board_rounds.proofs.crew.go_round.Goals as goal

@@ -3,7 +3,7 @@ use Rattle.std.proofs.lemmas.List.{flat_map_more, take_more}
 use Rattle.std.specs.List.{flat_map}
 use Rattle.std.specs.Prelude.{All, Contains}
 use Rattle.board_rounds.specs.Turns.{Working}
-use Rattle.board_rounds.specs.Crews.{IsAtStart, fresh_of}
+use Rattle.board_rounds.specs.inside.Rounds.{IsAtStart, fresh_of}
 use Rattle.board_rounds.proofs.Emptying.{IsEmptiedUpTo, contains_at, grows, none_yet, there, whole}
 use Rattle.board_rounds.proofs.crew.new_tasks.Goals as goal
 

@@ -1,6 +1,6 @@
 use Rattle.std.proofs.Common.{List, subst}
 use Rattle.board_rounds.specs.Turns.{Working}
-use Rattle.board_rounds.specs.Crews.{IsChildIn}
+use Rattle.board_rounds.specs.inside.Rounds.{IsChildIn}
 use Rattle.board_rounds.proofs.crew.take_on.Goals as goal
 
 pub new_tasks-requires : goal.new_tasks-requires

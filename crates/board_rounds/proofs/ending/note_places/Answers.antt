@@ -2,7 +2,8 @@ use Rattle.std.proofs.Common.{◌≡◌, ◌∙◌, List, ◌∷◌, ◌++◌, [
 use Rattle.std.specs.Prelude.{unwrap_or}
 use Rattle.std.proofs.lemmas.List.{take_more}
 use Rattle.board_rounds.specs.Turns.{Working}
-use Rattle.board_rounds.specs.Crews.{NotesPlaces, number}
+use Rattle.board_rounds.specs.Crews.{number}
+use Rattle.board_rounds.specs.inside.Endings.{NotesPlaces}
 use Rattle.board_rounds.proofs.Noting.{one_noted}
 use Rattle.board_rounds.proofs.ending.note_places.Goals as goal
 

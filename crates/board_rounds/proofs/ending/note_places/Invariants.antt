@@ -1,5 +1,5 @@
 use Rattle.std.proofs.Common.{take}
-use Rattle.board_rounds.specs.Crews.{NotesPlaces}
+use Rattle.board_rounds.specs.inside.Endings.{NotesPlaces}
 use Rattle.board_rounds.proofs.ending.note_places.Given as goal
 
 abbrev pub invariant-loop-task : goal.invariant-loop-task

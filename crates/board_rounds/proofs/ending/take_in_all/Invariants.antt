@@ -2,7 +2,7 @@ use Rattle.std.proofs.Common.{map}
 use Rattle.board.specs.Seats.{IsOf}
 use Rattle.board.specs.Steps.{IsSameSeat}
 use Rattle.board_rounds.specs.Turns.{Working}
-use Rattle.board_rounds.specs.Crews.{TakesAll}
+use Rattle.board_rounds.specs.inside.Endings.{TakesAll}
 use Rattle.board_rounds.proofs.ending.take_in_all.Given as goal
 
 abbrev pub invariant-loop-task : goal.invariant-loop-task

@@ -1,6 +1,6 @@
 use Rattle.std.proofs.Common.{◌≡◌, [], ◌∷◌, ◌++◌, IfOk, rules, add-one, length, set, sym, refl, subst, arith}
 use Rattle.std.proofs.lemmas.List.Sums.{sum_by_push}
-use Rattle.board_rounds.specs.Turns.{IsReady}
+use Rattle.board_rounds.specs.Turns.{MayTakeTurn}
 use Rattle.board_rounds.proofs.Rounding.{IsSoFar, all_each, all_end, at_rest, next_done, next_is, next_stops, stopped}
 use Rattle.board_rounds.proofs.rounds.take_turns_in_order.Goals as goal
 
@@ -9,7 +9,7 @@ loop-task-init g c = record { owns = []; so_far = at_rest; events = refl; few = 
 
 pub turn-requires-clause-made : goal.turn-requires-clause-made
 turn-requires-clause-made g c κs within =
-    (next_is (IsReady c.args.board.now) c.task-item.result c.loop-task.invariant.so_far c.requires.ready (let t = c.loop-task-test.true in let s = c.loop-task.auto.tasks in omega arith)).of_board
+    (next_is (MayTakeTurn c.args.board.now) c.task-item.result c.loop-task.invariant.so_far c.requires.ready (let t = c.loop-task-test.true in let s = c.loop-task.auto.tasks in omega arith)).of_board
 
 pub returns-in_err-made : goal.returns-in_err-made
 returns-in_err-made g c =

@@ -1,7 +1,7 @@
 use Rattle.std.proofs.Common.{◌≡◌, ◌<◌, false, true}
 use Rattle.armus_base.specs.Deadlocks.{NobodyDead}
 use Rattle.pl_core.specs.Worlds.{state_of}
-use Rattle.task_runner.specs.AvoidedRuns.{GoesOnTo, left_in}
+use Rattle.task_runner.specs.inside.AvoidedRounds.{GoesOnTo, left_in}
 use Rattle.task_runner.proofs.avoided.avoided_turn.Given as goal
 
 abbrev pub invariant-turn : goal.invariant-turn

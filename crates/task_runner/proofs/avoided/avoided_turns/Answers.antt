@@ -1,7 +1,7 @@
 use Rattle.std.proofs.Common.{◌<◌, ◌∙◌, ap, arith, false, get_or, length, subst, sym}
 use Rattle.std.proofs.lemmas.Bool.{false≢true}
 use Rattle.std.proofs.lemmas.Option.{slice_get-get_or}
-use Rattle.task_runner.specs.AvoidedRuns.{left_in}
+use Rattle.task_runner.specs.inside.AvoidedRounds.{left_in}
 use Rattle.task_runner.proofs.AvoidedEnds.{forked_still, round_more}
 use Rattle.task_runner.proofs.Left.{left_at_most}
 use Rattle.task_runner.proofs.avoided.avoided_turns.Goals.{then-moved, else-moved}
@@ -10,7 +10,8 @@ use Rattle.task_runner.proofs.avoided.avoided_turns.Goals as goal
 pub avoided_turn_if-requires-clause-forked : goal.avoided_turn_if-requires-clause-forked
 avoided_turn_if-requires-clause-forked g c κs within =
     let here : c.loop-t.t < length c.args.forked.now =
-    (let test = c.loop-t-test.true in let counted = c.tasks-t-end.ensures.counted in let plan = ap (λ p. length p.parents) c.plan.ensures.plan in let len = c.requires.forked_len in omega arith) in
+    (let test = c.loop-t-test.true in let counted = c.tasks-t-end.ensures.counted in let plan = ap (λ p. length p.parents) c.plan.ensures.plan in
+    let len = c.requires.forked_len in omega arith) in
     λ on.
     forked_still c.args.world.now c.loop-t.world c.loop-t.t c.loop-t.t c.loop-t.moved c.plan.ensures.checked c.plan.ensures.reachable c.loop-t.invariant.round
     (c.requires.forked c.loop-t.t (get_or c.args.forked.now c.loop-t.t false) (slice_get-get_or c.args.forked.now c.loop-t.t false here) ∙ on)
@@ -20,7 +21,8 @@ loop-t-preserved g c =
     let inv = c.loop-t.invariant in
     let turn = c.in_ok-acted.ensures in
     let here : c.loop-t.t < length c.args.forked.now =
-    (let test = c.loop-t-test.true in let counted = c.tasks-t-end.ensures.counted in let plan = ap (λ p. length p.parents) c.plan.ensures.plan in let len = c.requires.forked_len in omega arith) in
+    (let test = c.loop-t-test.true in let counted = c.tasks-t-end.ensures.counted in let plan = ap (λ p. length p.parents) c.plan.ensures.plan in
+    let len = c.requires.forked_len in omega arith) in
     let has = get_or c.args.forked.now c.loop-t.t false in
     let noted = c.requires.forked c.loop-t.t has (slice_get-get_or c.args.forked.now c.loop-t.t false here) in
     let most = left_at_most c.loop-t.world c.avoided_turn_if.new.world c.in_ok-acted.acted turn.moved turn.still in

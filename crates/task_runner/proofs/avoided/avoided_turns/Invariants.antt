@@ -1,7 +1,7 @@
 use Rattle.std.proofs.Common.{◌≡◌, ◌<◌, false, true}
 use Rattle.armus_base.specs.Deadlocks.{NobodyDead}
 use Rattle.pl_core.specs.Worlds.{state_of}
-use Rattle.task_runner.specs.AvoidedRuns.{HasRoundBelow, left_in}
+use Rattle.task_runner.specs.inside.AvoidedRounds.{HasRoundBelow, left_in}
 use Rattle.task_runner.proofs.avoided.avoided_turns.Given as goal
 
 abbrev pub invariant-loop-t : goal.invariant-loop-t

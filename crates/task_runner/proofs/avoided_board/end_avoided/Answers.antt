@@ -1,7 +1,7 @@
 use Rattle.std.proofs.Common.{◌∙◌, ℕ, List, Option, true, length, sym, ap, subst}
 use Rattle.armus_base.specs.Boards.{IsLawful}
 use Rattle.armus_base.specs.Plans.{Plan}
-use Rattle.pl_core.specs.declared.place.Place.{Place as Standing}
+use Rattle.pl_core.specs.declared.place.Place.{Place as KeptPlace}
 use Rattle.pl_core.specs.Worlds.{places_at}
 use Rattle.board.specs.declared.mode.Mode.{Mode}
 use Rattle.board.specs.declared.mode.Mode.TheVariants.{Avoid}
@@ -21,10 +21,11 @@ avoided_end_from-requires-clause-lawful g c κs within =
     let view = c.take_in.new.view in
     let words = c.close.result.words in
     let last = subst (λ (m : Mode). AreLastOf f.plan m (seen view.view) words) c.requires.avoids c.close.ensures.words in
-    let places : List Standing = c.in_ok-places.places in
+    let places : List KeptPlace = c.in_ok-places.places in
     let are = subst (λ (q : Plan). ArePlacesOf q tasks places) (sym c.requires.plan) c.in_ok-places.ensures.places in
-    let end = lawful_end f Avoid tasks c.requires.tasks.all view (c.take_in.ensures.kept c.requires.kept) c.take_in.ensures.known c.take_in.ensures.made words last c.requires.ends.each places are in (
+    let end = lawful_end f Avoid tasks c.requires.tasks.all view (c.take_in.ensures.kept c.requires.kept) c.take_in.ensures.known c.take_in.ensures.made words
+    last c.requires.ends.each places are in (
       end.0,
-      subst (λ (xs : List Standing). IsLawful true c.args.plan.now (places_at c.args.plan.now xs) end.0) (sym c.as_slice.ensures.items)
+      subst (λ (xs : List KeptPlace). IsLawful true c.args.plan.now (places_at c.args.plan.now xs) end.0) (sym c.as_slice.ensures.items)
           (subst (λ (q : Plan). IsLawful true q (places_at q places) end.0) c.requires.plan end.1),
     )

@@ -1,7 +1,7 @@
 use Rattle.std.proofs.Common.{◌≡◌, length}
 use Rattle.armus_base.specs.Deadlocks.{NobodyDead}
 use Rattle.pl_core.specs.Worlds.{state_of}
-use Rattle.task_runner.specs.AvoidedRuns.{left_in}
+use Rattle.task_runner.specs.inside.AvoidedRounds.{left_in}
 use Rattle.task_runner.proofs.AvoidedRests.{HasAvoidedRun}
 use Rattle.task_runner.proofs.avoided_rest.avoided_end_from.Given as goal
 

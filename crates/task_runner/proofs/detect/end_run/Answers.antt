@@ -8,7 +8,7 @@ use Rattle.armus_base.specs.Places.{state_at}
 use Rattle.armus_base.specs.Runs.{IsReachable}
 use Rattle.armus_base.specs.Statuses.{IsInOrder}
 use Rattle.armus_base.specs.declared.status.Status.{Status}
-use Rattle.pl_core.specs.declared.place.Place.{Place as Standing}
+use Rattle.pl_core.specs.declared.place.Place.{Place as KeptPlace}
 use Rattle.pl_core.specs.Worlds.{places_at}
 use Rattle.board.specs.declared.mode.Mode.{Mode}
 use Rattle.board.specs.Closing.{AreLastOf}
@@ -16,8 +16,9 @@ use Rattle.board.specs.Seats.{IsOf}
 use Rattle.board.specs.Views.{seen}
 use Rattle.board.specs.Words.{IsShown}
 use Rattle.board_rounds.specs.Crews.{ArePlacesOf, all_of}
-use Rattle.task_runner.specs.DetectRuns.{AreDeadAtTheEnd, AreSettledPlaces, TellsRest, told}
-use Rattle.task_runner.specs.Tellers.{TellsMore}
+use Rattle.task_runner.specs.DetectRuns.{AreDeadAtTheEnd, AreSettledPlaces, told}
+use Rattle.task_runner.specs.inside.Rests.{TellsRest}
+use Rattle.task_runner.specs.inside.Tellers.{TellsMore}
 use Rattle.task_runner.specs.declared.ran.RunEnd.TheVariants.{NoMemory}
 use Rattle.task_runner.proofs.BoardEnds.{lawful, plain, reachable, settled, shown}
 use Rattle.task_runner.proofs.TellingAll.{blocked_in_order, none_on, pass_err, rest_err, rest_ok}
@@ -33,11 +34,13 @@ end_from-requires-clause-reachable g c κs within =
     let made = c.take_in.ensures.watches.made in
     let of : IsOf now f = record { table = goes.table ∙ made.table; plan = goes.same.plan ∙ made.plan; mode = goes.same.mode ∙ made.mode } in
     let words = c.close-words.result.0.words in
-    let last = subst (λ (m : Mode). AreLastOf f.plan m (seen now.view) words) c.requires.detects c.close-words.ensures.words in
-    let places : List Standing = c.in-Ok.places in
-    let are = subst (λ (q : Plan). ArePlacesOf q tasks places) (sym c.requires.plan) c.in-Ok.ensures.places in
-    subst (λ (xs : List Standing). IsReachable c.args.plan.now (places_at c.args.plan.now xs)) (sym c.as_slice.ensures.items)
-    (subst (λ (q : Plan). IsReachable q (places_at q places)) c.requires.plan (reachable f c.requires.detects tasks c.requires.tasks.all c.requires.ends.each places are before now c.take_in.ensures.known goes of words last))
+    let last = subst (λ (m : Mode). AreLastOf f.plan m (seen now.view) words) c.requires.under_way.detects c.close-words.ensures.words in
+    let places : List KeptPlace = c.in-Ok.places in
+    let are = subst (λ (q : Plan). ArePlacesOf q tasks places) (sym c.requires.under_way.of_plan) c.in-Ok.ensures.places in
+    subst (λ (xs : List KeptPlace). IsReachable c.args.plan.now (places_at c.args.plan.now xs)) (sym c.as_slice.ensures.items)
+    (subst (λ (q : Plan). IsReachable q (places_at q places)) c.requires.under_way.of_plan
+    (reachable f c.requires.under_way.detects tasks c.requires.under_way.crew.all c.requires.ends.each places are before now c.take_in.ensures.known goes of
+    words last))
 
 pub end_from-requires-clause-plain : goal.end_from-requires-clause-plain
 end_from-requires-clause-plain g c κs within = λ t place is.
@@ -49,15 +52,16 @@ end_from-requires-clause-plain g c κs within = λ t place is.
     let made = c.take_in.ensures.watches.made in
     let of : IsOf now f = record { table = goes.table ∙ made.table; plan = goes.same.plan ∙ made.plan; mode = goes.same.mode ∙ made.mode } in
     let words = c.close-words.result.0.words in
-    let last = subst (λ (m : Mode). AreLastOf f.plan m (seen now.view) words) c.requires.detects c.close-words.ensures.words in
-    let places : List Standing = c.in-Ok.places in
-    let are = subst (λ (q : Plan). ArePlacesOf q tasks places) (sym c.requires.plan) c.in-Ok.ensures.places in
-    plain f c.requires.detects tasks c.requires.tasks.all c.requires.ends.each places are before now c.take_in.ensures.known goes of words last t place (ap (λ (xs : List Standing). slice_get xs t) (sym c.as_slice.ensures.items) ∙ is)
+    let last = subst (λ (m : Mode). AreLastOf f.plan m (seen now.view) words) c.requires.under_way.detects c.close-words.ensures.words in
+    let places : List KeptPlace = c.in-Ok.places in
+    let are = subst (λ (q : Plan). ArePlacesOf q tasks places) (sym c.requires.under_way.of_plan) c.in-Ok.ensures.places in
+    plain f c.requires.under_way.detects tasks c.requires.under_way.crew.all c.requires.ends.each places are before now c.take_in.ensures.known goes of words
+    last t place (ap (λ (xs : List KeptPlace). slice_get xs t) (sym c.as_slice.ensures.items) ∙ is)
 
 pub returns-in_default-clause-told : goal.returns-in_default-clause-told
 returns-in_default-clause-told g c = λ live.
     none_on c.args.plan.now c.args.teller.dead (told g.K.Sink.taken g.K.Sink.faults c.args.out.now) (told g.K.Sink.taken g.K.Sink.faults c.args.out.now) (Err NoMemory) refl refl
-    (subst (λ (q : Plan). AreDeadAtTheEnd q c.args.teller.dead) c.requires.plan c.requires.watches.dead)
+    (subst (λ (q : Plan). AreDeadAtTheEnd q c.args.teller.dead) c.requires.under_way.of_plan c.requires.under_way.watches.dead)
 
 pub returns-in_err-last_pass-clause-told : goal.returns-in_err-last_pass-clause-told
 returns-in_err-last_pass-clause-told g c = λ live.
@@ -65,19 +69,24 @@ returns-in_err-last_pass-clause-told g c = λ live.
     let m = told g.K.Sink.taken g.K.Sink.faults c.last_pass.new.out in
     let is : c.from_residual.result ≡ Err c.in_err-last_pass.field-0.0 = search rules in
     pass_err (Unit {0}) c.args.plan.now c.args.teller.dead c.last_pass.new.teller.dead a m c.in_err-last_pass.field-0.0 c.from_residual.result is
-    (subst (λ (q : Plan). TellsMore {A = Unit {0}} q c.args.teller.dead c.last_pass.new.teller.dead a m (Err c.in_err-last_pass.field-0.0)) c.requires.plan
-    (subst (λ (ds : List Dead). TellsMore {A = Unit {0}} c.args.board.plan ds c.last_pass.new.teller.dead a m (Err c.in_err-last_pass.field-0.0)) c.take_in.ensures.same (c.in_err-last_pass.ensures.told live)))
+    (subst (λ (q : Plan). TellsMore {A = Unit {0}} q c.args.teller.dead c.last_pass.new.teller.dead a m (Err c.in_err-last_pass.field-0.0)) c.requires.under_way.of_plan
+    (subst (λ (ds : List Dead). TellsMore {A = Unit {0}} c.args.board.plan ds c.last_pass.new.teller.dead a m (Err c.in_err-last_pass.field-0.0))
+    c.take_in.ensures.same (c.in_err-last_pass.ensures.told live)))
 
 pub returns-in_default-end_from-clause-told : goal.returns-in_default-end_from-clause-told
 returns-in_default-end_from-clause-told g c = λ live.
     let t = c.in_ok-last_pass.ensures.told live in
-    let grown = t.1 ∙ ap (λ (ds : List Dead). ds ++ t.0) c.take_in.ensures.same in
-    (t.0, subst (AreDeadAtTheEnd c.args.plan.now) grown (subst (λ (q : Plan). AreDeadAtTheEnd q c.last_pass.new.teller.dead) c.requires.plan c.in_ok-last_pass.ensures.watches.dead), t.2)
+    let grown = t.1 ∙ ap (λ (ds : List Dead). ds ++ t.0) c.take_in.ensures.same in (
+      t.0,
+      subst (AreDeadAtTheEnd c.args.plan.now) grown (subst (λ (q : Plan). AreDeadAtTheEnd q c.last_pass.new.teller.dead) c.requires.under_way.of_plan
+          c.in_ok-last_pass.ensures.watches.dead),
+      t.2,
+    )
 
 pub tell_rest-requires-clause-in_order : goal.tell_rest-requires-clause-in_order
 tell_rest-requires-clause-in_order g c κs within =
     let watches = c.take_in.ensures.watches in
-    let checked = subst IsCheckedPlan (watches.made.plan ∙ c.requires.plan) watches.kept.checked in
+    let checked = subst IsCheckedPlan (watches.made.plan ∙ c.requires.under_way.of_plan) watches.kept.checked in
     subst IsInOrder (sym c.as_slice-2.ensures.items) (blocked_in_order c.args.plan.now c.in-Ok-end_from.end checked c.in-Ok-end_from.ensures.end)
 
 pub returns-in_err-tell_rest-clause-told : goal.returns-in_err-tell_rest-clause-told
@@ -90,9 +99,11 @@ returns-in_err-tell_rest-clause-told g c = λ live.
     let is : c.from_residual-in_err-tell_rest.result ≡ Err c.in_err-tell_rest.field-0.0 = search rules in
     let dead : c.as_slice-3.result.now ≡ c.last_pass.new.teller.dead = search rules in
     rest_err c.args.plan.now c.in-Ok-end_from.end c.in-Ok-end_from.ensures.end c.args.teller.dead c.last_pass.new.teller.dead t.0 grown a m n t.2
-    (subst (λ (q : Plan). AreDeadAtTheEnd q c.last_pass.new.teller.dead) c.requires.plan c.in_ok-last_pass.ensures.watches.dead) c.in_err-tell_rest.field-0.0 c.from_residual-in_err-tell_rest.result is
+    (subst (λ (q : Plan). AreDeadAtTheEnd q c.last_pass.new.teller.dead) c.requires.under_way.of_plan c.in_ok-last_pass.ensures.watches.dead)
+    c.in_err-tell_rest.field-0.0 c.from_residual-in_err-tell_rest.result is
     (subst (λ (ds : List Dead). TellsRest c.in-Ok-end_from.end.blocked ds m n (Err c.in_err-tell_rest.field-0.0)) dead
-    (subst (λ (list : List Status). TellsRest list c.as_slice-3.result.now m n (Err c.in_err-tell_rest.field-0.0)) c.as_slice-2.ensures.items (c.in_err-tell_rest.ensures.told live)))
+    (subst (λ (list : List Status). TellsRest list c.as_slice-3.result.now m n (Err c.in_err-tell_rest.field-0.0)) c.as_slice-2.ensures.items
+    (c.in_err-tell_rest.ensures.told live)))
 
 pub returns-clause-ran : goal.returns-clause-ran
 returns-clause-ran g c =
@@ -104,16 +115,22 @@ returns-clause-ran g c =
     let made = c.take_in.ensures.watches.made in
     let of : IsOf now f = record { table = goes.table ∙ made.table; plan = goes.same.plan ∙ made.plan; mode = goes.same.mode ∙ made.mode } in
     let words = c.close-words.result.0.words in
-    let last = subst (λ (m : Mode). AreLastOf f.plan m (seen now.view) words) c.requires.detects c.close-words.ensures.words in
-    let places : List Standing = c.in-Ok.places in
-    let are = subst (λ (q : Plan). ArePlacesOf q tasks places) (sym c.requires.plan) c.in-Ok.ensures.places in
+    let last = subst (λ (m : Mode). AreLastOf f.plan m (seen now.view) words) c.requires.under_way.detects c.close-words.ensures.words in
+    let places : List KeptPlace = c.in-Ok.places in
+    let are = subst (λ (q : Plan). ArePlacesOf q tasks places) (sym c.requires.under_way.of_plan) c.in-Ok.ensures.places in
     record {
       end = c.in-Ok-end_from.ensures.end;
       one_each = c.in-Ok.ensures.places.one_each;
-      lawful = subst (λ (q : Plan). IsLawful false q (places_at q places) None) c.requires.plan (lawful f c.requires.detects tasks c.requires.tasks.all c.requires.ends.each places are before now c.take_in.ensures.known goes of words last);
-      settled = subst (λ (q : Plan). AreSettledPlaces q (places_at q places)) c.requires.plan (settled f c.requires.detects tasks c.requires.tasks.all c.requires.ends.each places are before now c.take_in.ensures.known goes of words last);
-      of_plan = c.close-words.ensures.board.0 ∙ c.requires.plan;
-      words = subst (λ (q : Plan). IsShown q (state_at q (places_at q places)) None words) c.requires.plan (shown f c.requires.detects tasks c.requires.tasks.all c.requires.ends.each places are before now c.take_in.ensures.known goes of words last);
+      lawful = subst (λ (q : Plan). IsLawful false q (places_at q places) None) c.requires.under_way.of_plan
+          (lawful f c.requires.under_way.detects tasks c.requires.under_way.crew.all c.requires.ends.each places are before now c.take_in.ensures.known goes of
+          words last);
+      settled = subst (λ (q : Plan). AreSettledPlaces q (places_at q places)) c.requires.under_way.of_plan
+          (settled f c.requires.under_way.detects tasks c.requires.under_way.crew.all c.requires.ends.each places are before now c.take_in.ensures.known goes of
+          words last);
+      of_plan = c.close-words.ensures.board.0 ∙ c.requires.under_way.of_plan;
+      words = subst (λ (q : Plan). IsShown q (state_at q (places_at q places)) None words) c.requires.under_way.of_plan
+          (shown f c.requires.under_way.detects tasks c.requires.under_way.crew.all c.requires.ends.each places are before now c.take_in.ensures.known goes of
+          words last);
     }
 
 pub returns-clause-told : goal.returns-clause-told

@@ -24,8 +24,7 @@ rounds-preserved g c =
     let b = told g.K.Sink.taken g.K.Sink.faults c.rounds.out in
     let n = told g.K.Sink.taken g.K.Sink.faults c.go_round.new.out in
     record {
-      tasks = e.tasks;
-      watches = e.watches;
+      under_way = e.under_way;
       sees = λ u. e.sees u ∙ i.sees u;
       fresh = i.fresh ++ t.0;
       dead = t.1 ∙ ap (λ (ds : List Dead). ds ++ t.0) i.dead ∙ append_assoc c.args.teller.now.dead i.fresh t.0;

@@ -3,7 +3,7 @@ use Rattle.std.proofs.lemmas.Bool.Decides.{nat_tests}
 use Rattle.armus_base.specs.declared.errors.NoMemory.{NoMemory}
 use Rattle.board_rounds.specs.Crews.{HaveEnded, all_of}
 use Rattle.task_runner.specs.DetectRuns.{AreDeadAtTheEnd, told}
-use Rattle.task_runner.specs.Tellers.{TellsMore, Watches}
+use Rattle.task_runner.specs.inside.Tellers.{TellsMore, Watches}
 use Rattle.task_runner.specs.declared.ran.RunEnd.{RunEnd}
 use Rattle.task_runner.proofs.detect_rounds.go_round.Goals as goal
 
@@ -19,6 +19,7 @@ pub returns-in-Err-clause-told : goal.returns-in-Err-clause-told
 returns-in-Err-clause-told g c =
     let b = told g.K.Sink.taken g.K.Sink.faults c.args.out.now in
     let n = told g.K.Sink.taken g.K.Sink.faults c.take_round-made.new.out in
-    let t = subst (λ (r : Result (Unit {0}) RunEnd). TellsMore c.args.board.now.plan c.args.teller.now.dead c.take_round-made.new.teller.dead b n r) c.in_ok-told.was c.take_round-made.ensures.told in
+    let t = subst (λ (r : Result (Unit {0}) RunEnd). TellsMore c.args.board.now.plan c.args.teller.now.dead c.take_round-made.new.teller.dead b n r)
+    c.in_ok-told.was c.take_round-made.ensures.told in
     let watches = subst (λ (r : Result (Unit {0}) RunEnd). OnOk r (Watches c.args.board.now c.take_round-made.new.teller)) c.in_ok-told.was c.take_round-made.ensures.watches in
     (t.0, subst (AreDeadAtTheEnd c.args.board.now.plan) t.1 watches.dead, t.2)

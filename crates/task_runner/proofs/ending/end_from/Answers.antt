@@ -1,24 +1,6 @@
-use Rattle.std.proofs.Common.{◌∙◌, ap, sym, false, length}
-use Rattle.std.proofs.lemmas.List.{length-replicate}
-use Rattle.task_runner.proofs.Ends.{plain_end_if_ok}
+use Rattle.std.proofs.Common.{◌∙◌, ap, sym}
 use Rattle.std.specs.Prelude.{slice_get}
 use Rattle.task_runner.proofs.ending.end_from.Goals as goal
 
-pub loop-init : goal.loop-init
-loop-init g c =
-    let at = c.in_ok-world.ensures.at in
-    record {
-      plan = at.plan_is;
-      plain = λ t place is. c.requires.plain t place (ap (λ ps. slice_get ps t) (sym at.places) ∙ is);
-      forked = ap length (c.in_ok-forked.ensures.items_if_clones_equal (λ y e. e)) ∙ length-replicate c.tasks-count.result false ∙ c.tasks-count.ensures.counted;
-    }
-
-pub finish-requires : goal.finish-requires
-finish-requires g c = record { quiet = c.round.ensures.quiet c.loop-test.false }
-
-pub returns : goal.returns
-returns g c =
-    record {
-      end = plain_end_if_ok c.round.new.world c.args.plan.now (c.round.ensures.plan ∙ c.loop.invariant.plan) c.round.ensures.plain (c.round.ensures.quiet c.loop-test.false) c.finish.result
-          c.finish.ensures.end c.finish.ensures.checked c.finish.ensures.reachable;
-    }
+pub end_of-requires-clause-plain : goal.end_of-requires-clause-plain
+end_of-requires-clause-plain g c κs within = λ t place is. c.requires.plain t place (ap (λ ps. slice_get ps t) (sym c.in_ok-world.ensures.at.places) ∙ is)

@@ -1,4 +1,4 @@
-use Rattle.task_runner.specs.Turns.{remaining}
+use Rattle.task_runner.specs.inside.Turns.{remaining}
 use Rattle.task_runner.proofs.finishing.finish.Given as goal
 
 abbrev pub invariant-loop-logged : goal.invariant-loop-logged

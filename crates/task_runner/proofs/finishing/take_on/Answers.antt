@@ -1,6 +1,6 @@
 use Rattle.std.proofs.Common.{◌<◌, arith, sym}
 use Rattle.std.proofs.lemmas.Bool.{false≢true}
-use Rattle.task_runner.specs.Turns.{remaining}
+use Rattle.task_runner.specs.inside.Turns.{remaining}
 use Rattle.task_runner.proofs.RecordedEnds.{step_if_true}
 use Rattle.task_runner.proofs.Remaining.{at_most_before, step_leaves_less}
 use Rattle.std.proofs.Common.{ap}

@@ -1,5 +1,5 @@
 use Rattle.std.proofs.Common.{◌≡◌, ◌<◌, false, true}
-use Rattle.task_runner.specs.Turns.{remaining}
+use Rattle.task_runner.specs.inside.Turns.{remaining}
 use Rattle.task_runner.proofs.finishing.take_on.Given as goal
 
 abbrev pub invariant-loop-moved : goal.invariant-loop-moved

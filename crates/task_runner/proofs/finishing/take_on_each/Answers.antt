@@ -3,7 +3,7 @@ use Rattle.std.proofs.lemmas.Bool.{false≢true}
 use Rattle.locked_world.specs.Journals.{LoggedValue}
 use Rattle.pl_core.specs.Stands.{IsEnabled}
 use Rattle.pl_core.specs.Worlds.{WorldValue}
-use Rattle.task_runner.specs.Turns.{remaining}
+use Rattle.task_runner.specs.inside.Turns.{remaining}
 use Rattle.task_runner.proofs.RecordedEnds.{quiet_more}
 use Rattle.task_runner.proofs.Remaining.{at_most_before}
 use Rattle.task_runner.proofs.finishing.take_on_each.Goals.{then-moved, else-moved}

@@ -1,6 +1,6 @@
 use Rattle.std.proofs.Common.{◌≡◌, ◌<◌, ℕ, false, true}
 use Rattle.pl_core.specs.Stands.{IsEnabled}
-use Rattle.task_runner.specs.Turns.{remaining}
+use Rattle.task_runner.specs.inside.Turns.{remaining}
 use Rattle.task_runner.proofs.finishing.take_on_each.Given as goal
 
 abbrev pub invariant-loop-t : goal.invariant-loop-t

@@ -1,5 +1,5 @@
 use Rattle.std.proofs.Common.{◌≡◌, ◌<◌, false, true}
-use Rattle.task_runner.specs.Turns.{NobodyRefused, remaining}
+use Rattle.task_runner.specs.inside.Turns.{NobodyRefused, remaining}
 use Rattle.task_runner.proofs.round.turn.Given as goal
 
 abbrev pub invariant-loop-moved : goal.invariant-loop-moved

@@ -1,7 +1,7 @@
 use Rattle.std.proofs.Common.{◌<◌, ◌∙◌, ap, arith, length, subst, sym}
 use Rattle.std.proofs.lemmas.Bool.{false≢true}
 use Rattle.pl_core.specs.Stands.{IsEnabled}
-use Rattle.task_runner.specs.Turns.{remaining}
+use Rattle.task_runner.specs.inside.Turns.{remaining}
 use Rattle.task_runner.proofs.Remaining.{at_most_before}
 use Rattle.task_runner.proofs.Rounds.{quiet_more}
 use Rattle.task_runner.proofs.round.turns.Goals.{then-moved, else-moved}
@@ -25,7 +25,8 @@ loop-t-preserved g c =
       | else-moved w ↦
           let same = inv.still w.if-moved.false in
           let here : c.loop-t.t < length c.args.forked.now =
-          (let test = c.loop-t-test.true in let counted = c.tasks-t-end.ensures.counted in let plan = ap (λ p. length p.parents) c.plan.ensures.plan in let len = c.requires.forked_len in omega arith) in
+          (let test = c.loop-t-test.true in let counted = c.tasks-t-end.ensures.counted in let plan = ap (λ p. length p.parents) c.plan.ensures.plan in
+          let len = c.requires.forked_len in omega arith) in
           record {
             plan = turn.plan ∙ inv.plan;
             plain = turn.plain;

@@ -1,6 +1,6 @@
 use Rattle.std.proofs.Common.{◌≡◌, ◌<◌, ℕ, false, true}
 use Rattle.pl_core.specs.Stands.{IsEnabled}
-use Rattle.task_runner.specs.Turns.{NobodyRefused, remaining}
+use Rattle.task_runner.specs.inside.Turns.{NobodyRefused, remaining}
 use Rattle.task_runner.proofs.round.turns.Given as goal
 
 abbrev pub invariant-loop-t : goal.invariant-loop-t

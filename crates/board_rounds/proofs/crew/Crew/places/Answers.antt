@@ -2,14 +2,15 @@ use Rattle.std.proofs.Common.{◌≡◌, ◌∙◌, ◌<◌, All, false, List, l
 use Rattle.std.specs.Prelude.{replicate, slice_get}
 use Rattle.std.proofs.lemmas.List.{length-replicate}
 use Rattle.armus_base.specs.Plans.{Plan}
-use Rattle.pl_core.specs.declared.place.Place.{Place as Standing}
+use Rattle.pl_core.specs.declared.place.Place.{Place as KeptPlace}
 use Rattle.board_rounds.specs.Turns.{Working}
-use Rattle.board_rounds.specs.Crews.{ArePlacesOf, AreTasksOf, NotesPlaces, Tasks, all_of, number}
+use Rattle.board_rounds.specs.Crews.{ArePlacesOf, AreTasksOf, Tasks, all_of, number}
+use Rattle.board_rounds.specs.inside.Endings.{NotesPlaces}
 use Rattle.board_rounds.proofs.Noting.{all_opening, both_noted}
 use Rattle.board_rounds.proofs.Rejoining.{both_within}
 use Rattle.board_rounds.proofs.crew.Crew.places.Goals as goal
 
-abbrev opening : Standing
+abbrev opening : KeptPlace
 opening = record { events = 0; refused = false }
 
 pub note_places-requires : goal.note_places-requires
@@ -41,5 +42,5 @@ returns c =
     record {
       places =
           subst (λ (w : Tasks). ArePlacesOf c.args.plan.now (all_of w) c.from_vec.result) c.self.view_is
-          (subst (λ (ps : List Standing). ArePlacesOf c.args.plan.now (all_of now) ps) (sym c.from_vec.ensures.items) places);
+          (subst (λ (ps : List KeptPlace). ArePlacesOf c.args.plan.now (all_of now) ps) (sym c.from_vec.ensures.items) places);
     }

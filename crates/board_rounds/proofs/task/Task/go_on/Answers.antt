@@ -2,9 +2,9 @@ use Rattle.std.proofs.Common.{◌<◌, ◌+◌, ◌∙◌, [], Result, Ok, Err, 
 use Rattle.armus_base.specs.Plans.{Plan, code_of}
 use Rattle.board.specs.Seats.{IsSeat, event_of}
 use Rattle.board.proofs.Walking.{before_next, before_of_plan, is_before}
-use Rattle.board_rounds.specs.inside.Attempts.{Begins}
-use Rattle.board_rounds.specs.Tasks.{HasCome}
-use Rattle.board_rounds.specs.Turns.{Acts, EndsTurn, MakesSome, Working, is_done, is_refused}
+use Rattle.board_rounds.specs.inside.Attempts.{BeginsOp}
+use Rattle.board_rounds.specs.inside.Tasks.{HasCome, MakesSome}
+use Rattle.board_rounds.specs.Turns.{Acts, EndsTurn, Working, is_done, is_refused}
 use Rattle.board_rounds.proofs.Goings.{acts_itself, task_is}
 use Rattle.board_rounds.proofs.Halting.{ends_done, no_event}
 use Rattle.board_rounds.proofs.Onward.{begun_come, begun_fits, begun_makes, locked_out, nothing_acts, refused_come, refused_fits, refused_makes}
@@ -55,7 +55,7 @@ returns-in-LockedOut-clause-none g c = λ _.
     let b = is_before c.self.inside.seat c.args.self.now.seat c.args.board.now c.args.plan.now c.id-t.result.0 c.self.inside.begun _ _ _ c.in-Some.op (ap (λ (w : Working). w.seat) c.self.view_is) c.requires.made c.requires.plan
     (c.self.invariant.begun_are c.if-self.false) c.id-t.ensures.task c.id-t.ensures.seat (sym c.is_some.ensures ∙ c.if-is_some.false) (c.event.ensures ∙ ap (λ (w : Working). event_of w.seat) c.self.view_is) c.code.ensures.code c.op_at.ensures c.in-Some.is in
     let new = c.in_ok-begin.ensures.children in
-    let tried = subst (λ a. Begins c.in-Some.op c.self.inside.seat c.begin.new.seat a) c.in-LockedOut.is c.in_ok-begin.ensures.begins in
+    let tried = subst (λ a. BeginsOp c.in-Some.op c.self.inside.seat c.begin.new.seat a) c.in-LockedOut.is c.in_ok-begin.ensures.begins in
     let r = locked_out c.args.board.now c.self.inside.begun c.self.inside.events c.self.inside.seat c.begin.new.seat c.self.inside.children.items c.begin.new.children.items c.in-Some.op (subst (HasCome c.self.inside.seat c.self.inside.begun c.self.inside.events) c.if-self.false c.self.invariant) b new.0 new.1 new.2 tried in
     (subst (λ (w : Working). Acts c.args.board.now [] w (record { seat = c.begin.new.seat; children = c.begin.new.children.items })) c.self.view_is r.0.0, r.0.1)
 
@@ -78,7 +78,7 @@ invariant_of-self-in-Begun g c =
     let b = is_before c.self.inside.seat c.args.self.now.seat c.args.board.now c.args.plan.now c.id-t.result.0 c.self.inside.begun _ _ _ c.in-Some.op (ap (λ (w : Working). w.seat) c.self.view_is) c.requires.made c.requires.plan
     (c.self.invariant.begun_are c.if-self.false) c.id-t.ensures.task c.id-t.ensures.seat (sym c.is_some.ensures ∙ c.if-is_some.false) (c.event.ensures ∙ ap (λ (w : Working). event_of w.seat) c.self.view_is) c.code.ensures.code c.op_at.ensures c.in-Some.is in
     let new = c.in_ok-begin.ensures.children in
-    let tried = subst (λ a. Begins c.in-Some.op c.self.inside.seat c.begin.new.seat a) c.in-Begun.is c.in_ok-begin.ensures.begins in
+    let tried = subst (λ a. BeginsOp c.in-Some.op c.self.inside.seat c.begin.new.seat a) c.in-Begun.is c.in_ok-begin.ensures.begins in
     subst (HasCome c.begin.new.seat (c.self.inside.begun + 1) (c.self.inside.events + 1)) (sym c.if-self.false) (begun_come c.args.board.now c.self.inside.begun c.self.inside.events c.self.inside.seat c.begin.new.seat c.self.inside.children.items c.begin.new.children.items c.in-Some.op (subst (HasCome c.self.inside.seat c.self.inside.begun c.self.inside.events) c.if-self.false c.self.invariant) b new.0 new.1 new.2 tried)
 
 pub returns-in-Begun-clause-some : goal.returns-in-Begun-clause-some
@@ -86,7 +86,7 @@ returns-in-Begun-clause-some g c =
     let b = is_before c.self.inside.seat c.args.self.now.seat c.args.board.now c.args.plan.now c.id-t.result.0 c.self.inside.begun _ _ _ c.in-Some.op (ap (λ (w : Working). w.seat) c.self.view_is) c.requires.made c.requires.plan
     (c.self.invariant.begun_are c.if-self.false) c.id-t.ensures.task c.id-t.ensures.seat (sym c.is_some.ensures ∙ c.if-is_some.false) (c.event.ensures ∙ ap (λ (w : Working). event_of w.seat) c.self.view_is) c.code.ensures.code c.op_at.ensures c.in-Some.is in
     let new = c.in_ok-begin.ensures.children in
-    let tried = subst (λ a. Begins c.in-Some.op c.self.inside.seat c.begin.new.seat a) c.in-Begun.is c.in_ok-begin.ensures.begins in
+    let tried = subst (λ a. BeginsOp c.in-Some.op c.self.inside.seat c.begin.new.seat a) c.in-Begun.is c.in_ok-begin.ensures.begins in
     subst (λ (w : Working). MakesSome c.args.board.now 1 w (record { seat = c.begin.new.seat; children = c.begin.new.children.items })) c.self.view_is
     (begun_makes c.args.board.now c.self.inside.begun c.self.inside.events c.self.inside.seat c.begin.new.seat c.self.inside.children.items c.begin.new.children.items c.in-Some.op (subst (HasCome c.self.inside.seat c.self.inside.begun c.self.inside.events) c.if-self.false c.self.invariant) b new.0 new.1 new.2 tried)
 
@@ -95,7 +95,7 @@ overflow_add-result g c =
     let b = is_before c.self.inside.seat c.args.self.now.seat c.args.board.now c.args.plan.now c.id-t.result.0 c.self.inside.begun _ _ _ c.in-Some.op (ap (λ (w : Working). w.seat) c.self.view_is) c.requires.made c.requires.plan
     (c.self.invariant.begun_are c.if-self.false) c.id-t.ensures.task c.id-t.ensures.seat (sym c.is_some.ensures ∙ c.if-is_some.false) (c.event.ensures ∙ ap (λ (w : Working). event_of w.seat) c.self.view_is) c.code.ensures.code c.op_at.ensures c.in-Some.is in
     let new = c.in_ok-begin.ensures.children in
-    let tried = subst (λ a. Begins c.in-Some.op c.self.inside.seat c.begin.new.seat a) c.in-Refused.is c.in_ok-begin.ensures.begins in
+    let tried = subst (λ a. BeginsOp c.in-Some.op c.self.inside.seat c.begin.new.seat a) c.in-Refused.is c.in_ok-begin.ensures.begins in
     (let l = refused_fits c.args.board.now c.self.inside.begun c.self.inside.events c.self.inside.seat c.begin.new.seat c.self.inside.children.items c.begin.new.children.items c.in-Some.op (subst (HasCome c.self.inside.seat c.self.inside.begun c.self.inside.events) c.if-self.false c.self.invariant) b new.0 new.1 new.2 c.in-Refused.drops tried in omega arith)
 
 pub invariant_of-self-in-Refused : goal.invariant_of-self-in-Refused
@@ -103,7 +103,7 @@ invariant_of-self-in-Refused g c =
     let b = is_before c.self.inside.seat c.args.self.now.seat c.args.board.now c.args.plan.now c.id-t.result.0 c.self.inside.begun _ _ _ c.in-Some.op (ap (λ (w : Working). w.seat) c.self.view_is) c.requires.made c.requires.plan
     (c.self.invariant.begun_are c.if-self.false) c.id-t.ensures.task c.id-t.ensures.seat (sym c.is_some.ensures ∙ c.if-is_some.false) (c.event.ensures ∙ ap (λ (w : Working). event_of w.seat) c.self.view_is) c.code.ensures.code c.op_at.ensures c.in-Some.is in
     let new = c.in_ok-begin.ensures.children in
-    let tried = subst (λ a. Begins c.in-Some.op c.self.inside.seat c.begin.new.seat a) c.in-Refused.is c.in_ok-begin.ensures.begins in
+    let tried = subst (λ a. BeginsOp c.in-Some.op c.self.inside.seat c.begin.new.seat a) c.in-Refused.is c.in_ok-begin.ensures.begins in
     refused_come c.args.board.now c.self.inside.begun c.self.inside.events c.self.inside.seat c.begin.new.seat c.self.inside.children.items c.begin.new.children.items c.in-Some.op (subst (HasCome c.self.inside.seat c.self.inside.begun c.self.inside.events) c.if-self.false c.self.invariant) b new.0 new.1 new.2 c.in-Refused.drops tried
 
 pub returns-in-Refused-clause-some : goal.returns-in-Refused-clause-some
@@ -111,7 +111,7 @@ returns-in-Refused-clause-some g c =
     let b = is_before c.self.inside.seat c.args.self.now.seat c.args.board.now c.args.plan.now c.id-t.result.0 c.self.inside.begun _ _ _ c.in-Some.op (ap (λ (w : Working). w.seat) c.self.view_is) c.requires.made c.requires.plan
     (c.self.invariant.begun_are c.if-self.false) c.id-t.ensures.task c.id-t.ensures.seat (sym c.is_some.ensures ∙ c.if-is_some.false) (c.event.ensures ∙ ap (λ (w : Working). event_of w.seat) c.self.view_is) c.code.ensures.code c.op_at.ensures c.in-Some.is in
     let new = c.in_ok-begin.ensures.children in
-    let tried = subst (λ a. Begins c.in-Some.op c.self.inside.seat c.begin.new.seat a) c.in-Refused.is c.in_ok-begin.ensures.begins in
+    let tried = subst (λ a. BeginsOp c.in-Some.op c.self.inside.seat c.begin.new.seat a) c.in-Refused.is c.in_ok-begin.ensures.begins in
     subst (λ (w : Working). MakesSome c.args.board.now (c.in-Refused.drops + 1) w (record { seat = c.begin.new.seat; children = c.begin.new.children.items })) c.self.view_is
     (refused_makes c.args.board.now c.self.inside.begun c.self.inside.events c.self.inside.seat c.begin.new.seat c.self.inside.children.items c.begin.new.children.items c.in-Some.op (subst (HasCome c.self.inside.seat c.self.inside.begun c.self.inside.events) c.if-self.false c.self.invariant) b new.0 new.1 new.2 c.in-Refused.drops tried)
 

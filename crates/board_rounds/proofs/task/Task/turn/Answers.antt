@@ -1,7 +1,8 @@
 use Rattle.std.proofs.Common.{◌+◌, ◌∙◌, [], ◌++◌, rules, length, length-append, sym, refl, ap, subst, arith, append-nil}
 use Rattle.board.specs.Seats.{IsSeat}
 use Rattle.std.specs.Prelude.{IfSome}
-use Rattle.board_rounds.specs.Turns.{MakesSome, Working}
+use Rattle.board_rounds.specs.Turns.{Working}
+use Rattle.board_rounds.specs.inside.Tasks.{MakesSome}
 use Rattle.board_rounds.proofs.Counting.{counts_nothing, counts_on, few_events, leaves_less}
 use Rattle.board_rounds.proofs.Goings.{acts_itself, acts_on, of_on}
 use Rattle.board_rounds.proofs.task.Task.turn.Goals as goal

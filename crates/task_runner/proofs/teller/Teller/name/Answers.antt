@@ -1,7 +1,7 @@
 use Rattle.std.proofs.Common.{◌≡◌, ◌++◌, ◌∙◌, List, sym, ap, subst, rules}
 use Rattle.armus_base.specs.declared.status.Dead.{Dead}
 use Rattle.report.specs.Live.{live_text}
-use Rattle.task_runner.specs.Tellers.{Telling, Watches}
+use Rattle.task_runner.specs.inside.Tellers.{Telling, Watches}
 use Rattle.task_runner.proofs.TellingMore.{watches_more}
 use Rattle.task_runner.proofs.teller.Teller.name.Goals as goal
 

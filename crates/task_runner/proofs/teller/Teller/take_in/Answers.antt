@@ -1,5 +1,5 @@
 use Rattle.std.proofs.Common.{sym, subst}
-use Rattle.task_runner.specs.Tellers.{Telling, Watches}
+use Rattle.task_runner.specs.inside.Tellers.{Telling, Watches}
 use Rattle.task_runner.proofs.TellingMore.{watches_taken}
 use Rattle.task_runner.proofs.teller.Teller.take_in.Goals as goal
 

@@ -15,7 +15,8 @@ returns-in_default-write_text-clause-told g c =
       named.0,
       subst (AreDeadAtTheEnd c.args.board.now.plan) named.1 c.in-Ok.ensures.watches.dead,
       record {
-        front = subst (λ (bytes : List ℕ). TookFront (g.K.Sink.taken c.args.out.now) (g.K.Sink.taken c.write_text.new.out) bytes) (text ∙ named.2) c.in_default-write_text.ensures.err;
+        front = subst (λ (bytes : List ℕ). TookFront (g.K.Sink.taken c.args.out.now) (g.K.Sink.taken c.write_text.new.out) bytes) (text ∙ named.2)
+            c.in_default-write_text.ensures.err;
         failed = c.in_default-write_text.ensures.cause.once;
       },
     )

@@ -1,10 +1,12 @@
 -- What is true of each task.
-use Rattle.std.specs.Prelude.{◌≡◌, ℕ, Bool, true, false}
-use Rattle.board.specs.Seats.{Known}
-use Rattle.board.specs.Views.{own_place}
+use Rattle.std.specs.Prelude.{◌≡◌, ℕ, Bool, true, false, ◌+◌, ◌<◌, ◌≤◌, List, length}
+use Rattle.armus_base.specs.Limits.{max_phasers}
+use Rattle.armus_base.specs.Plans.{Action, actions}
+use Rattle.board.specs.Seats.{Frame, Known}
+use Rattle.board.specs.Views.{own_place, task_of}
 use Rattle.board.specs.inside.Walking.{HasBegun}
 use Rattle.board_rounds.specs.declared.task.Task.TheInside.{Inside}
-use Rattle.board_rounds.specs.Turns.{HasLeftAll, Working}
+use Rattle.board_rounds.specs.Turns.{Acts, HasLeftAll, Working}
 
 -- what a contract sees of a task
 abbrev pub working_of : Inside → Working
@@ -20,3 +22,12 @@ pub record HasCome (seat : Known) (begun events : ℕ) (refused : Bool) : Type 0
 -- its fields tell how far it has come
 abbrev pub IsWorking : Inside → Type 0
 IsWorking t = HasCome t.seat t.begun t.events t.refused
+
+-- a task has made so many steps, one at least: one step of its code, or a refusal and a drop of each of its phasers
+pub record MakesSome (board : Frame) (made : ℕ) (before now : Working) : Type 0 where
+  pub own : List Action
+  pub acts : Acts board own before now
+  pub counted : made ≡ length own
+  pub some : 0 < made
+  pub few : made ≤ max_phasers + 1
+  pub within : (own_place before.seat.view).done < length (actions before.seat.view.plan (task_of before.seat.view))

@@ -2,7 +2,7 @@ use Rattle.std.proofs.Common.{◌≡◌, ◌∙◌, List, [], ◌∷◌, ap, sub
 use Rattle.armus_base.specs.declared.op.Op.{Op}
 use Rattle.armus_base.specs.CheckedPlans.{IsCheckedPlan}
 use Rattle.task_runner.proofs.TwoMakersChecked.{two_makers, two_makers_checked}
-use Rattle.task_runner.proofs.tests.two_makers.Goals as goal
+use Rattle.task_runner.proofs.test_plans.two_makers.Goals as goal
 
 abbrev first_code : List (List Op) → List Op
 first_code [] = []

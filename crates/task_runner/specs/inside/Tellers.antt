@@ -35,11 +35,6 @@ TellsMore plan before now b n (Ok x) = (fresh : List Dead) × now ≡ before ++ 
 TellsMore plan before now b n (Err Write) = (fresh : List Dead) × AreDeadAtTheEnd plan (before ++ fresh) × HasFailed fresh b n
 TellsMore plan before now b n (Err NoMemory) = (fresh : List Dead) × AreDeadAtTheEnd plan (before ++ fresh) × HasWritten fresh b n
 
--- no fault of the sink ended it
-abbrev pub IsNoWrite : {A : Type 0} → Result A RunEnd → Type 0
-IsNoWrite (Err Write) = ⊥
-IsNoWrite result = Unit {0}
-
 -- the viewer knows the same tasks exactly as before
 abbrev pub SeesOn : Known → Known → Type 0
 SeesOn before now = (u : ℕ) → (seen now.view).exact u ≡ (seen before.view).exact u

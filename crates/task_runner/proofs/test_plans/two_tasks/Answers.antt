@@ -3,7 +3,7 @@ use Rattle.armus_base.specs.declared.op.Op.{Op}
 use Rattle.armus_base.specs.CheckedPlans.{IsCheckedPlan}
 use Rattle.armus_base.specs.TwoTasks.{two_tasks}
 use Rattle.armus_base.proofs.TwoTasksChecked.{two_tasks_checked}
-use Rattle.task_runner.proofs.tests.two_tasks.Goals as goal
+use Rattle.task_runner.proofs.test_plans.two_tasks.Goals as goal
 
 abbrev head_code : List (List Op) → List Op
 head_code [] = []

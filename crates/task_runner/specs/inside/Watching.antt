@@ -1,6 +1,6 @@
 -- How contracts see a teller.
 use Rattle.task_runner.specs.declared.teller.Teller.TheInside.{Inside}
-use Rattle.task_runner.specs.Tellers.{Telling}
+use Rattle.task_runner.specs.inside.Tellers.{Telling}
 
 -- its collector, its viewer, and whom it told
 abbrev pub telling_of : Inside → Telling
