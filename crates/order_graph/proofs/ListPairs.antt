@@ -25,7 +25,8 @@ module _ {X : Type 0} (R : X → X → Type 0) where
   pub AllPairs-left : (xs ys : List X) → AllPairs R (xs ++ ys) → AllPairs R xs
   AllPairs-left [] ys all = λ i j d l lt. absurd (omega arith)
   AllPairs-left (x ∷ xs) ys all =
-      AllPairs-cons R x xs (λ k d lt. All-contains (R x) (xs ++ ys) (get_or xs k d) (AllPairs-head x (xs ++ ys) all) (Contains-append_left xs ys (get_or xs k d) (Contains-get_or xs k d lt))) (
+      AllPairs-cons R x xs (λ k d lt. All-contains (R x) (xs ++ ys) (get_or xs k d) (AllPairs-head x (xs ++ ys) all)
+      (Contains-append_left xs ys (get_or xs k d) (Contains-get_or xs k d lt))) (
       AllPairs-left xs ys (AllPairs-tail x (xs ++ ys) all))
 
   pub AllPairs-right : (xs ys : List X) → AllPairs R (xs ++ ys) → AllPairs R ys

@@ -26,7 +26,8 @@ module _ (o : OrderValue) (goal t : TaskId) where
   told_none None told off = told
   told_none (Some n) told off = absurd cc
 
-module _ (o : OrderValue) (ok : IsOrder o) (goal b : TaskId) (to : IsTaskOf o b) (far : List (Option ℕ)) (tells : TellDistances o goal far) (ts : List TaskId) (is : IsStretch o b goal ts) (listed : All (IsListedIn o goal far) ts) where
+module _ (o : OrderValue) (ok : IsOrder o) (goal b : TaskId) (to : IsTaskOf o b) (far : List (Option ℕ)) (tells : TellDistances o goal far) (ts : List TaskId)
+    (is : IsStretch o b goal ts) (listed : All (IsListedIn o goal far) ts) where
   reach : TaskId → Bool
   reach t = is_some (distance_in o goal far t)
 

@@ -14,7 +14,9 @@ use Rattle.order_graph.specs.inside.Rows.{AreInverse, AreSettled}
 use Rattle.order_graph.proofs.Climbing.{from_task, to_task}
 use Rattle.order_graph.proofs.OrderRows.{row_more}
 
-module _ (o : OrderValue) (ok : IsOrder o) (at : List TaskId) (inverse : AreInverse o.positions at) (a b : TaskId) (from : IsTaskOf o a) (to : IsTaskOf o b) (down : position_of o b ≤ position_of o a) (none : NeverReaches o a b) (ts : List TaskId) (mended : IsMended o a b ts) (positions : List ℕ) (after : List TaskId) (settled : AreSettled (position_of o b) ts o.positions positions at after) where
+module _ (o : OrderValue) (ok : IsOrder o) (at : List TaskId) (inverse : AreInverse o.positions at) (a b : TaskId) (from : IsTaskOf o a) (to : IsTaskOf o b)
+    (down : position_of o b ≤ position_of o a) (none : NeverReaches o a b) (ts : List TaskId) (mended : IsMended o a b ts) (positions : List ℕ)
+    (after : List TaskId) (settled : AreSettled (position_of o b) ts o.positions positions at after) where
   -- the new position of a task
   now : TaskId → ℕ
   now t = slice_index positions t.0

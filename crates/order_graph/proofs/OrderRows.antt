@@ -132,7 +132,8 @@ module _ (o : OrderValue) (ok : IsOrder o) (a : TaskId) (task : IsTaskOf o a) (r
   keep_edges wanted fewer = record { positions = refl; edges = row_fewer (Contains wanted) fewer }
 
 -- the same of an order in memory
-module _ (rows : List (Vec TaskId Global)) (positions : List ℕ) (a : TaskId) (old : Vec TaskId Global) (ok : IsOrder (order_of rows positions)) (task : IsTaskOf (order_of rows positions) a) (was : old ≡ get_or rows a.0 old) where
+module _ (rows : List (Vec TaskId Global)) (positions : List ℕ) (a : TaskId) (old : Vec TaskId Global) (ok : IsOrder (order_of rows positions))
+    (task : IsTaskOf (order_of rows positions) a) (was : old ≡ get_or rows a.0 old) where
   in_rows : a.0 < length rows
   in_rows = omega (arith, task, ok.sized, length-map rows (λ r. r.items))
 
@@ -163,7 +164,8 @@ module _ (rows : List (Vec TaskId Global)) (positions : List ℕ) (a : TaskId) (
           HasEdgeMore a b (order_of rows positions) (order_of (set rows a.0 new) positions)
       memory_put_edge up more = rw is_set (put_edge (order_of rows positions) ok a task new.items b up (λ u. rw is_row (more u)))
 
-      pub memory_clear : ((u : TaskId) → Contains new.items u ↔ (Contains old.items u × (u ≡ b → ⊥))) → HasNoEdge a b (order_of rows positions) (order_of (set rows a.0 new) positions)
+      pub memory_clear :
+          ((u : TaskId) → Contains new.items u ↔ (Contains old.items u × (u ≡ b → ⊥))) → HasNoEdge a b (order_of rows positions) (order_of (set rows a.0 new) positions)
       memory_clear fewer = rw is_set (clear_edge (order_of rows positions) ok a task new.items b (λ u. rw is_row (fewer u)))
 
     pub memory_fewer_order : Ascend new.items → ((u : TaskId) → Contains new.items u → Contains old.items u) → IsOrder (order_of (set rows a.0 new) positions)

@@ -45,7 +45,8 @@ keeps_below_more ss t wanted old mid new below only is a b = (
 )
 
 pub keeps_below_all :
-    (ss : List Status) (n : ℕ) (old new : OrderValue) → IsOrder old → n ≡ length old.positions → new.positions ≡ old.positions → KeepsPairsBelow ss n old new → KeepsPairs ss old new
+    (ss : List Status) (n : ℕ) (old new : OrderValue) → IsOrder old → n ≡ length old.positions → new.positions ≡ old.positions → KeepsPairsBelow ss n old new →
+    KeepsPairs ss old new
 keeps_below_all ss n old new ok all same below =
     record {
       positions = same;
@@ -77,7 +78,8 @@ adds_one t b old new more = record { edges = more.edges; stays = λ up. position
 walk_of : {X : Type 0} (R : X → X → Type 0) (x : X) (xs : List X) → IsWalk R (x ∷ xs) → Walk R (length xs) x (get_or (x ∷ xs) (length xs) x)
 walk_of R x [] steps = refl
 walk_of R x (y ∷ ys) steps =
-    let tail : IsWalk R (y ∷ ys) = λ k d lt. let e : suc k + 1 ≡ suc (k + 1) = omega arith in subst (λ j. R (get_or (y ∷ ys) k d) (get_or (x ∷ y ∷ ys) j d)) e (steps (suc k) d (omega arith)) in
+    let tail : IsWalk R (y ∷ ys) = λ k d lt. let e : suc k + 1 ≡ suc (k + 1) = omega arith in
+    subst (λ j. R (get_or (y ∷ ys) k d) (get_or (x ∷ y ∷ ys) j d)) e (steps (suc k) d (omega arith)) in
     let end : get_or (y ∷ ys) (length ys) y ≡ get_or (y ∷ ys) (length ys) x = get_or_default (y ∷ ys) (length ys) y x (omega arith) in
     (y, steps 0 x (omega arith), subst (λ z. Walk R (length ys) y z) end (walk_of R y ys tail))
 
@@ -87,8 +89,11 @@ nearest_walks o start goal [] is = absurd (omega (arith, is.some))
 nearest_walks o start goal (x ∷ xs) is =
     let w = walk_of (IsNearest o goal) x xs is.steps in
     let last : length (x ∷ xs) - 1 ≡ length xs = omega arith in
-    let end : get_or (x ∷ xs) (length xs) x ≡ goal = ap (λ k. get_or (x ∷ xs) k x) (sym last) ∙ is.ends x in
-    (length xs, walk_along (IsNearest o goal) (IsEdge o) (λ a b near. near.edge) (length xs) start goal (subst (λ z. Walk (IsNearest o goal) (length xs) z goal) (is.starts x) (subst (λ z. Walk (IsNearest o goal) (length xs) x z) end w)))
+    let end : get_or (x ∷ xs) (length xs) x ≡ goal = ap (λ k. get_or (x ∷ xs) k x) (sym last) ∙ is.ends x in (
+      length xs,
+      walk_along (IsNearest o goal) (IsEdge o) (λ a b near. near.edge) (length xs) start goal
+          (subst (λ z. Walk (IsNearest o goal) (length xs) z goal) (is.starts x) (subst (λ z. Walk (IsNearest o goal) (length xs) x z) end w)),
+    )
 
 pub stops_one : (t b : TaskId) (o : OrderValue) (list : List TaskId) → IsNearestWalk o b t list → StopsAt (IsOne t b) o o
 stops_one t b o list is =
@@ -128,7 +133,9 @@ module _ (A B C : TaskId → TaskId → Type 0) (old mid new : OrderValue) (adds
       }
 
 -- one more wanted task
-pub wanted_more : (t b : TaskId) (wanted : List TaskId) (i : ℕ) → i < length wanted → b ≡ get_or wanted i b → (x y : TaskId) → ToWanted t (take (i + 1) wanted) x y ↔ (ToWanted t (take i wanted) x y ⊎ IsOne t b x y)
+pub wanted_more :
+    (t b : TaskId) (wanted : List TaskId) (i : ℕ) → i < length wanted → b ≡ get_or wanted i b → (x y : TaskId) →
+    ToWanted t (take (i + 1) wanted) x y ↔ (ToWanted t (take i wanted) x y ⊎ IsOne t b x y)
 wanted_more t b wanted i lt at x y =
     let e : take (i + 1) wanted ≡ take i wanted ++ b ∷ [] = rw at (take_more wanted i b lt) in
     rw e (
@@ -197,7 +204,8 @@ module _ (ss : List Status) (d : Deps) (is : IsDepsOf ss d) (old mid new : Order
 
 -- edges to the first wanted tasks, and the one to the next, are edges to wanted tasks
 pub wanted_so_far :
-    (t b : TaskId) (wanted : List TaskId) (i : ℕ) → i < length wanted → b ≡ get_or wanted i b → (x y : TaskId) → ToWanted t (take i wanted) x y ⊎ IsOne t b x y → ToWanted t wanted x y
+    (t b : TaskId) (wanted : List TaskId) (i : ℕ) → i < length wanted → b ≡ get_or wanted i b → (x y : TaskId) →
+    ToWanted t (take i wanted) x y ⊎ IsOne t b x y → ToWanted t wanted x y
 wanted_so_far t b wanted i lt at x y h = let (s, m) = (wanted_more t b wanted i lt at x y).1 h in (s, in_whole wanted (i + 1) y m)
 
 -- pairs of the first tasks, and those of the next, are pairs
@@ -208,6 +216,7 @@ pairs_so_far ss ts i t wanted lt at is x y h = let (m, w) = (pairs_more ss ts i 
 
 -- what came of all pairs is what `follow` answers
 pub answers_follow :
-    (ss : List Status) (d : Deps) → IsDepsOf ss d → (old mid new : OrderValue) → KeepsPairs ss old mid → IsOrder new → (f : Followed) → AnswersRows ss d.tasks mid new f → AnswersFollow ss old new f
+    (ss : List Status) (d : Deps) → IsDepsOf ss d → (old mid new : OrderValue) → KeepsPairs ss old mid → IsOrder new → (f : Followed) →
+    AnswersRows ss d.tasks mid new f → AnswersFollow ss old new f
 answers_follow ss d is old mid new kept ok Kept adds = followed ss d is old mid new kept adds ok
 answers_follow ss d is old mid new kept ok Dead stop = finds_cycle ss d is old mid new kept stop

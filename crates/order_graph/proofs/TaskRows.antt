@@ -75,7 +75,8 @@ is_other-true t u ne = elim (cases_Bool (eqb u.0 t.0)) [ inl same ↦ absurd (ne
 -- in a row, those below a task come first
 pub below_first : (ts : List TaskId) (t : TaskId) → Ascend ts → IsPartitionedBy (λ u. ltb u.0 t.0) ts
 below_first ts t up =
-    IsPartitionedBy-ltb (λ u. u.0) ts t.0 (λ i j d le lt. elim (cases_eq i j) [ inl e ↦ subst (λ k. (get_or ts i d).0 ≤ (get_or ts k d).0) e (omega arith) | inr ne ↦ omega (arith, up i j d (omega arith) lt) ])
+    IsPartitionedBy-ltb (λ u. u.0) ts t.0 (λ i j d le lt. elim (cases_eq i j)
+    [ inl e ↦ subst (λ k. (get_or ts i d).0 ≤ (get_or ts k d).0) e (omega arith) | inr ne ↦ omega (arith, up i j d (omega arith) lt) ])
 
 module _ (ts : List TaskId) (t : TaskId) (i : ℕ) (point : IsPartitionPoint (λ u. ltb u.0 t.0 ≡ true) (λ u. ltb u.0 t.0 ≡ false) ts i) where
   pub point_below : (k : ℕ) (d : TaskId) → k < i → (get_or ts k d).0 < t.0

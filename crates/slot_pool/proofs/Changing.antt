@@ -38,7 +38,13 @@ module _ (views : List View) (id t : ℕ) (v w : View) (at : get_elem? views id 
   placed_renewed u p = elim (cases_eq p.index id) [
     | inl e ↦
         let same : p.view ≡ v = some-injective p.view v (sym p.found ∙ ap (get_elem? views) e ∙ at) in
-        record { index = id; view = w; found = set_here views id w (found_within views id v at); placed = re.placed_still u (subst (λ (x : View). Contains x.placed u) same p.placed) }
+        record {
+          index = id;
+          view = w;
+          found = set_here views id w (found_within views id v at);
+          placed = re.placed_still u
+              (subst (λ (x : View). Contains x.placed u) same p.placed);
+        }
     | inr n ↦ record { index = p.index; view = p.view; found = set_else views id p.index w n ∙ p.found; placed = p.placed }
   ]
 
@@ -71,7 +77,8 @@ module _ (views : List View) (id t : ℕ) (v w : View) (at : get_elem? views id 
         | inr e ↦ (x, e.1, kx)
       ]
 
-module _ {R : Type 0} (number_of : R → ℕ) (key : Setting) (s : State (Option R) View) (holds : PoolHolds number_of key s) (id t : ℕ) (v w : View) (at : get_elem? s.views id ≡ some v) (re : Renews t v w) where
+module _ {R : Type 0} (number_of : R → ℕ) (key : Setting) (s : State (Option R) View) (holds : PoolHolds number_of key s) (id t : ℕ) (v w : View)
+    (at : get_elem? s.views id ≡ some v) (re : Renews t v w) where
   -- the word of t becomes n and its slot h: the rule holds again if t stands somewhere, this view fits, and no other view has t
   module _ (n : ℕ) (h : Maybe (Option R)) (small : t < key.tasks) where
     abbrev s' : State (Option R) View
@@ -79,10 +86,13 @@ module _ {R : Type 0} (number_of : R → ℕ) (key : Setting) (s : State (Option
 
     elsewhere : (u : ℕ) → u ≢ t → StandsInPool number_of s u → StandsInPool number_of s' u
     elsewhere u other st = elim st [
-      | nowhere word home not ↦ nowhere (get_or-set_other s.words t u n 0 other ∙ word) (set_else s.homes t u h other ∙ home) (λ p. not (renewed_placed s.views id t v w at re u other p))
-      | at_home r word home name p ↦ at_home r (get_or-set_other s.words t u n 0 other ∙ word) (set_else s.homes t u h other ∙ home) name (placed_renewed s.views id t v w at re u p)
+      | nowhere word home not ↦ nowhere (get_or-set_other s.words t u n 0 other ∙ word) (set_else s.homes t u h other ∙ home)
+          (λ p. not (renewed_placed s.views id t v w at re u other p))
+      | at_home r word home name p ↦ at_home r (get_or-set_other s.words t u n 0 other ∙ word) (set_else s.homes t u h other ∙ home) name
+          (placed_renewed s.views id t v w at re u p)
       | out k word home had p ↦
-          out k (get_or-set_other s.words t u n 0 other ∙ word) (set_else s.homes t u h other ∙ home) (had_renewed s.views id t v w at re k u other had) (placed_renewed s.views id t v w at re u p)
+          out k (get_or-set_other s.words t u n 0 other ∙ word) (set_else s.homes t u h other ∙ home) (had_renewed s.views id t v w at re k u other had)
+          (placed_renewed s.views id t v w at re u p)
     ]
 
     -- the word of t was 0 or is not 0 now, so that who knew it still does
@@ -139,7 +149,8 @@ module _ {R : Type 0} (number_of : R → ℕ) (key : Setting) (s : State (Option
 
   -- no word and no slot changes, and the seat has and has placed what it had and has placed
   pub looked :
-      v.placed ≡ w.placed → v.has ≡ w.has → (Contains w.knows t → slice_index s.words t ≢ 0) → PoolHolds number_of key (record { words = s.words; homes = s.homes; views = set s.views id w })
+      v.placed ≡ w.placed → v.has ≡ w.has → (Contains w.knows t → slice_index s.words t ≢ 0) →
+      PoolHolds number_of key (record { words = s.words; homes = s.homes; views = set s.views id w })
   looked placed has knows =
       record {
         words = holds.words;

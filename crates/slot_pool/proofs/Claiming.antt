@@ -22,11 +22,29 @@ some_number v k ts mine none_there = absurd (let e : k ∷ [] ≡ [] = sym mine 
 -- what each step makes of a view
 tries_renews : (t n : ℕ) (v : View) (k : ℕ) → v.numbers ≡ k ∷ [] → Renews t v (trying t n v)
 tries_renews t n v k mine =
-    record { numbers = refl; workers = refl; blank = some_number v k v.placed mine; knows = λ u o c. c; placed = λ u o c. c; placed_still = λ u c. c; has = λ u o c. c; has_still = λ u o c. c }
+    record {
+      numbers = refl;
+      workers = refl;
+      blank = some_number v k v.placed mine;
+      knows = λ u o c. c;
+      placed = λ u o c. c;
+      placed_still = λ u c. c;
+      has = λ u o c. c;
+      has_still = λ u o c. c;
+    }
 
 finds_renews : (t n : ℕ) (v : View) (k : ℕ) → v.numbers ≡ k ∷ [] → Renews t v (finding t n v)
 finds_renews t n v k mine =
-    record { numbers = refl; workers = refl; blank = some_number v k v.placed mine; knows = λ u o c. contains_else t v.knows u o c; placed = λ u o c. c; placed_still = λ u c. c; has = λ u o c. c; has_still = λ u o c. c }
+    record {
+      numbers = refl;
+      workers = refl;
+      blank = some_number v k v.placed mine;
+      knows = λ u o c. contains_else t v.knows u o c;
+      placed = λ u o c. c;
+      placed_still = λ u c. c;
+      has = λ u o c. c;
+      has_still = λ u o c. c;
+    }
 
 claims_renews : (t : ℕ) (v : View) (k : ℕ) → v.numbers ≡ k ∷ [] → Renews t v (claiming t v)
 claims_renews t v k mine =
@@ -56,7 +74,9 @@ places_renews t v k mine =
 
 module _ {R : Type 0} (number_of : R → ℕ) (key : Setting) where
   -- a view with task t: its word is that of a worker
-  had_word : (s : State (Option R) View) → PoolHolds number_of key s → (t m j : ℕ) (x : View) → slice_index s.words t ≡ m → m < 2 → get_elem? s.views j ≡ some x → Contains x.has t → ⊥
+  had_word :
+      (s : State (Option R) View) → PoolHolds number_of key s → (t m j : ℕ) (x : View) → slice_index s.words t ≡ m → m < 2 → get_elem? s.views j ≡ some x →
+      Contains x.has t → ⊥
   had_word s holds t m j x word small at has = let h = (holds.views j x at).has t has in absurd (let w = h.3 in omega arith)
 
   -- the slot of a task that nobody has becomes a worker's
@@ -76,10 +96,17 @@ module _ {R : Type 0} (number_of : R → ℕ) (key : Setting) where
 
     -- it leaves the word as it is, and has learned something
     learns :
-        (then : ℕ → Me (Option R) View → Type 0) (s : State (Option R) View) → PoolHolds number_of key s → get_elem? s.views id ≡ some me.0 → (w : View) → Renews t me.0 w → me.0.placed ≡ w.placed →
+        (then : ℕ → Me (Option R) View → Type 0) (s : State (Option R) View) → PoolHolds number_of key s → get_elem? s.views id ≡ some me.0 → (w : View) →
+        Renews t me.0 w → me.0.placed ≡ w.placed →
         me.0.has ≡ w.has → (Contains w.knows t → slice_index s.words t ≢ 0) → then (slice_index s.words t) (w, me.1) → Owes s (slice_index s.words t) (slice_index s.words t) then
-    learns then s holds at w re placed has knows told =
-        (w, keeps, tt, subst (λ ws. PoolHolds number_of key (record { words = ws; homes = s.homes; views = set s.views id w })) (sym (set-get_or s.words t 0)) (looked number_of key s holds id t me.0 w at re placed has knows), told)
+    learns then s holds at w re placed has knows told = (
+      w,
+      keeps,
+      tt,
+      subst (λ ws. PoolHolds number_of key (record { words = ws; homes = s.homes; views = set s.views id w })) (sym (set-get_or s.words t 0))
+          (looked number_of key s holds id t me.0 w at re placed has knows),
+      told,
+    )
 
     -- a compare and exchange that found another word than it wanted
     missed : (n old new : ℕ) → n ≢ old → either (eqb n old) new n ≡ n
@@ -94,7 +121,9 @@ module _ {R : Type 0} (number_of : R → ℕ) (key : Setting) where
         let own = ((holds.views id me.0 at).number k (subst (λ (ns : List ℕ). Contains ns k) (sym mine) (contains_first k []))).1 in (
           subst (λ n. j < n) (sym own) theirs,
           λ idle same.
-              let here : had.index ≡ id = holds.one_view had.index id j had.view me.0 had.found at (subst (λ (ns : List ℕ). Contains ns j) (sym had.number) (contains_first j [])) (subst (λ (ns : List ℕ). Contains ns j) (sym same) (contains_first j [])) in
+              let here : had.index ≡ id = holds.one_view had.index id j had.view me.0 had.found at
+              (subst (λ (ns : List ℕ). Contains ns j) (sym had.number) (contains_first j []))
+              (subst (λ (ns : List ℕ). Contains ns j) (sym same) (contains_first j [])) in
               let one : had.view ≡ me.0 = some-injective had.view me.0 (sym had.found ∙ ap (get_elem? s.views) here ∙ at) in
               contains_none t (subst (λ (ts : List ℕ). Contains ts t) (ap (λ (x : View). x.has) one ∙ idle) had.has),
         )
@@ -122,7 +151,8 @@ module _ {R : Type 0} (number_of : R → ℕ) (key : Setting) where
               claiming t me.0,
               takes t (Some r),
               home,
-              taken s holds id t k 1 me.0 (claiming t me.0) at mine small word (omega arith) (claims_renews t me.0 k mine) (contains_first t me.0.has) (placed_renewed s.views id t me.0 (claiming t me.0) at (claims_renews t me.0 k mine) t p),
+              taken s holds id t k 1 me.0 (claiming t me.0) at mine small word (omega arith) (claims_renews t me.0 k mine) (contains_first t me.0.has)
+                  (placed_renewed s.views id t me.0 (claiming t me.0) at (claims_renews t me.0 k mine) t p),
               record {
                 got = λ e. (r, name, refl);
                 empty = λ e. absurd (omega arith);
@@ -145,7 +175,8 @@ module _ {R : Type 0} (number_of : R → ℕ) (key : Setting) where
         missing : slice_index s.words t ≢ 0 → Owes s (slice_index s.words t) (either (eqb (slice_index s.words t) 0) (k + 2) (slice_index s.words t)) begin_told
         missing some_word =
             subst (λ m. Owes s (slice_index s.words t) m begin_told) (sym (missed (slice_index s.words t) 0 (k + 2) some_word))
-            (learns begin_told s holds at (finding t (slice_index s.words t) me.0) (finds_renews t (slice_index s.words t) me.0 k mine) refl refl (λ c. some_word) (record { placed = λ e. absurd (some_word e); refused = λ e. refl }))
+            (learns begin_told s holds at (finding t (slice_index s.words t) me.0) (finds_renews t (slice_index s.words t) me.0 k mine) refl refl
+            (λ c. some_word) (record { placed = λ e. absurd (some_word e); refused = λ e. refl }))
 
         by_place : StandsInPool number_of s t → Owes s (slice_index s.words t) (either (eqb (slice_index s.words t) 0) (k + 2) (slice_index s.words t)) begin_told
         by_place (nowhere word home not) =
@@ -154,7 +185,12 @@ module _ {R : Type 0} (number_of : R → ℕ) (key : Setting) where
               takes t None,
               home,
               taken s holds id t k 0 me.0 (placing t me.0) at mine small word (omega arith) (places_renews t me.0 k mine) (contains_first t me.0.has)
-                  (record { index = id; view = placing t me.0; found = set_here s.views id (placing t me.0) (found_within s.views id me.0 at); placed = contains_first t me.0.placed }),
+                  (record {
+                    index = id;
+                    view = placing t me.0;
+                    found = set_here s.views id (placing t me.0) (found_within s.views id me.0 at);
+                    placed = contains_first t me.0.placed;
+                  }),
               record { placed = λ e. ((λ c. (holds.views id me.0 at).knows t c word), refl); refused = λ e. absurd (e refl) },
             )
         by_place (at_home r word home name p) = missing (λ e. omega arith)

@@ -22,7 +22,8 @@ read_within (z ∷ zs) zero y f = omega arith
 read_within (z ∷ zs) (suc t) y f = let l = read_within zs t y f in omega arith
 
 module _
-    {R : Type 0} (number_of : R → ℕ) (key : Setting) (s : State (Option R) View) (holds : PoolHolds number_of key s) (id : ℕ) (v : View) (at : get_elem? s.views id ≡ some v) (idle : v.has ≡ [])
+    {R : Type 0} (number_of : R → ℕ) (key : Setting) (s : State (Option R) View) (holds : PoolHolds number_of key s) (id : ℕ) (v : View)
+    (at : get_elem? s.views id ≡ some v) (idle : v.has ≡ [])
     (all : (k : ℕ) → k < key.workers → Contains v.numbers k) where
   -- a view with a number is this one
   numbered : (i k : ℕ) (x : View) → get_elem? s.views i ≡ some x → Contains x.numbers k → x ≡ v
@@ -42,10 +43,14 @@ module _
       let mine : h.view ≡ v = numbered h.index k h.view h.found (subst (λ ns. Contains ns k) (sym h.number) (contains_first k [])) in
       contains_none t (subst (λ ts. Contains ts t) (ap (λ (y : View). y.has) mine ∙ idle) h.has)
 
-  module _ (slots : List (Option R)) (same : length s.homes ≡ length slots) (values : (k : ℕ) (y : Option R) → get_elem? s.homes k ≡ some (some y) → get_elem? slots k ≡ some y) where
+  module _ (slots : List (Option R)) (same : length s.homes ≡ length slots)
+      (values : (k : ℕ) (y : Option R) → get_elem? s.homes k ≡ some (some y) → get_elem? slots k ≡ some y) where
     home_placed : (t : ℕ) (r : R) → slice_get slots t ≡ Some (Some r) → StandsInPool number_of s t → Contains v.placed t × number_of r ≡ t
     home_placed t r e (nowhere word home not) = absurd (let f = read_same slots t None (Some r) (values t None home) e in cc)
-    home_placed t r e (at_home x word home name p) = (all_here t p, (let f : Some x ≡ Some r = read_same slots t (Some x) (Some r) (values t (Some x) home) e in let g : x ≡ r = cc in ap number_of (sym g)) ∙ name)
+    home_placed t r e (at_home x word home name p) = (
+      all_here t p,
+      (let f : Some x ≡ Some r = read_same slots t (Some x) (Some r) (values t (Some x) home) e in let g : x ≡ r = cc in ap number_of (sym g)) ∙ name,
+    )
     home_placed t r e (out k word home had p) = absurd (none_out k t had)
 
     home_empty : (t : ℕ) → slice_get slots t ≡ Some None → StandsInPool number_of s t → Contains v.placed t → ⊥
@@ -61,11 +66,14 @@ module _
     }
 
 pub closes :
-    {R : Type 0} (number_of : R → ℕ) (key : Setting) (id : ℕ) (v : View) (words : List ℕ) (slots : List (Option R)) → v.has ≡ [] → ((k : ℕ) → k < key.workers → Contains v.numbers k) →
+    {R : Type 0} (number_of : R → ℕ) (key : Setting) (id : ℕ) (v : View) (words : List ℕ) (slots : List (Option R)) → v.has ≡ [] →
+    ((k : ℕ) → k < key.workers → Contains v.numbers k) →
     Final (Seen (PoolHolds number_of key) id v) words slots → AreHome number_of key.tasks (Contains v.placed) slots
 closes number_of key id v words slots idle all end = are_home number_of key end.0 end.1.0 id v end.1.1 idle all slots end.3 end.4
 
 -- the same, of what comes to the same
-pub home_same : {R : Type 0} (number_of : R → ℕ) (tasks : ℕ) (P Q : ℕ → Type 0) (entries : List (Option R)) → ((t : ℕ) → P t → Q t) → ((t : ℕ) → Q t → P t) → AreHome number_of tasks P entries → AreHome number_of tasks Q entries
+pub home_same :
+    {R : Type 0} (number_of : R → ℕ) (tasks : ℕ) (P Q : ℕ → Type 0) (entries : List (Option R)) → ((t : ℕ) → P t → Q t) → ((t : ℕ) → Q t → P t) →
+    AreHome number_of tasks P entries → AreHome number_of tasks Q entries
 home_same number_of tasks P Q entries to from home =
     record { count = home.count; some_placed = λ t r e. let p = home.some_placed t r e in (to t p.0, p.1); none_placed = λ t e q. home.none_placed t e (from t q) }

@@ -13,7 +13,8 @@ module _ (pool : PoolValue) where
 
   is_worker : (P : Hand → Type 0) → ((k : ℕ) → P (worker k)) → All P (first_workers pool)
   is_worker P each k d l =
-      subst P (sym (get_or-map-range_with_len worker 0 pool.workers k k d (let e = length-map-range_with_len worker 0 pool.workers in omega arith) (let z : 0 + k ≡ k = omega arith in z))) (each k)
+      subst P (sym (get_or-map-range_with_len worker 0 pool.workers k k d (let e = length-map-range_with_len worker 0 pool.workers in
+      omega arith) (let z : 0 + k ≡ k = omega arith in z))) (each k)
 
   pub first_made : All (λ w. IsOfPool w pool) (first_workers pool)
   first_made = is_worker (λ w. IsOfPool w pool) (λ k. record { table = refl; workers = refl })
@@ -34,5 +35,6 @@ module _ (pool : PoolValue) where
 pub pair_numbers : (a b : Hand) → a.view.numbers ≡ 0 ∷ [] → b.view.numbers ≡ 1 ∷ [] → (k : ℕ) → k < 2 → IsNumberOf (a ∷ (b ∷ [])) k
 pair_numbers a b first second zero l = any_first (λ (x : Hand). Contains x.view.numbers 0) a (b ∷ []) (subst (λ ns. Contains ns 0) (sym first) (contains_first 0 []))
 pair_numbers a b first second (suc zero) l =
-    any_rest (λ (x : Hand). Contains x.view.numbers 1) a (b ∷ []) (any_first (λ (x : Hand). Contains x.view.numbers 1) b [] (subst (λ ns. Contains ns 1) (sym second) (contains_first 1 [])))
+    any_rest (λ (x : Hand). Contains x.view.numbers 1) a (b ∷ [])
+    (any_first (λ (x : Hand). Contains x.view.numbers 1) b [] (subst (λ ns. Contains ns 1) (sym second) (contains_first 1 [])))
 pair_numbers a b first second (suc (suc k)) l = absurd (omega arith)

@@ -53,7 +53,8 @@ rearranged number_of key s holds now re fits apart =
 
 -- a seat that has nothing gives its first number, and what was placed, to a new one
 module _
-    {R : Type 0} (number_of : R → ℕ) (key : Setting) (id : ℕ) (v : View) (k j : ℕ) (ks : List ℕ) (numbers : v.numbers ≡ k ∷ (j ∷ ks)) (once : Contains (j ∷ ks) k → ⊥) (idle : v.has ≡ [])
+    {R : Type 0} (number_of : R → ℕ) (key : Setting) (id : ℕ) (v : View) (k j : ℕ) (ks : List ℕ) (numbers : v.numbers ≡ k ∷ (j ∷ ks))
+    (once : Contains (j ∷ ks) k → ⊥) (idle : v.has ≡ [])
     (s : State (Option R) View) (holds : PoolHolds number_of key s) (at : get_elem? s.views id ≡ some v) where
   abbrev left : View
   left = left_over v
@@ -178,7 +179,8 @@ splits_off number_of key id v k j ks numbers once idle s holds at =
 -- a seat that has nothing takes in another one that has nothing
 module _
     {R : Type 0} (number_of : R → ℕ) (key : Setting) (id other : ℕ) (v w : View) (k : ℕ) (mine : Contains v.numbers k) (idle : v.has ≡ []) (idle' : w.has ≡ [])
-    (s : State (Option R) View) (holds : PoolHolds number_of key s) (at : get_elem? s.views id ≡ some v) (apart' : (other ≡ id) → ⊥) (there : get_elem? s.views other ≡ some w) where
+    (s : State (Option R) View) (holds : PoolHolds number_of key s) (at : get_elem? s.views id ≡ some v) (apart' : (other ≡ id) → ⊥)
+    (there : get_elem? s.views other ≡ some w) where
   abbrev both : View
   both = joined v w
 
@@ -225,9 +227,21 @@ module _
       | as_spent x ↦ absurd (contains_none u (subst (λ (y : View). Contains y.placed u) (sym x) p.placed))
     ];
     placed_still = λ u p. elim (cases_eq p.index id) [
-      | inl e ↦ record { index = id; view = both; found = both_there; placed = Contains-append_left v.placed w.placed u (subst (λ (y : View). Contains y.placed u) (is_first p.index p.view p.found e) p.placed) }
+      | inl e ↦ record {
+        index = id;
+        view = both;
+        found = both_there;
+        placed = Contains-append_left v.placed w.placed u
+            (subst (λ (y : View). Contains y.placed u) (is_first p.index p.view p.found e) p.placed);
+      }
       | inr n ↦ elim (cases_eq p.index other) [
-        | inl e ↦ record { index = id; view = both; found = both_there; placed = Contains-append_right v.placed w.placed u (subst (λ (y : View). Contains y.placed u) (is_second p.index p.view p.found e) p.placed) }
+        | inl e ↦ record {
+          index = id;
+          view = both;
+          found = both_there;
+          placed = Contains-append_right v.placed w.placed u
+              (subst (λ (y : View). Contains y.placed u) (is_second p.index p.view p.found e) p.placed);
+        }
         | inr o ↦ record { index = p.index; view = p.view; found = stays p.index p.view p.found n o; placed = p.placed }
       ]
     ];

@@ -48,8 +48,10 @@ module _ {R : Type 0} (number_of : R → ℕ) (key : Setting) where
             (λ j x o xj c.
             let theirs = (holds.views j x xj).has t c in
             let same : theirs.0 ≡ own.0 = let a = theirs.3 in let b = own.3 in omega arith in
-            o (holds.one_view j id theirs.0 x v xj at (subst (λ ns. Contains ns theirs.0) (sym theirs.1) (contains_first theirs.0 [])) (subst (λ ns. Contains ns theirs.0) (ap (λ i. i ∷ []) same ∙ sym own.1) (contains_first theirs.0 []))))
-            (at_home r (get_or-set_same s.words t 1 0 (let l = holds.words in let m = own.2 in omega arith)) (set_here s.homes t (some (Some r)) (let l = holds.slots in let m = own.2 in omega arith)) name
+            o (holds.one_view j id theirs.0 x v xj at (subst (λ ns. Contains ns theirs.0) (sym theirs.1) (contains_first theirs.0 []))
+            (subst (λ ns. Contains ns theirs.0) (ap (λ i. i ∷ []) same ∙ sym own.1) (contains_first theirs.0 []))))
+            (at_home r (get_or-set_same s.words t 1 0 (let l = holds.words in let m = own.2 in omega arith))
+            (set_here s.homes t (some (Some r)) (let l = holds.slots in let m = own.2 in omega arith)) name
             (placed_renewed s.views id t v (giving t v) at re t (had_placed s holds t id own.0 v own.3 own.2))),
         refl,
       )

@@ -30,18 +30,22 @@ split_first workers k l = ap (λ ns. record (left_for workers k) { numbers = tak
 
 pub left_next : (workers k : ℕ) → k < workers → left_over (left_for workers k) ≡ left_for workers (k + 1)
 left_next workers k l =
-    ap₂ (λ ns ps. record (left_for workers k) { numbers = drop 1 ns; placed = ps }) (range_first k (workers - k) (workers - k - 1) (omega arith)) (ap (λ b. if b then 0 ∷ [] else []) (sym (ne_eqb (k + 1) 0 (λ e. omega arith))))
+    ap₂ (λ ns ps. record (left_for workers k) { numbers = drop 1 ns; placed = ps }) (range_first k (workers - k) (workers - k - 1) (omega arith))
+    (ap (λ b. if b then 0 ∷ [] else []) (sym (ne_eqb (k + 1) 0 (λ e. omega arith))))
     ∙ ap (λ n. record (left_for workers (k + 1)) { numbers = range_with_len (k + 1) n }) (let e : workers - k - 1 ≡ workers - (k + 1) = omega arith in e)
 
 pub left_last : (workers k : ℕ) → workers ≡ k + 1 → left_for workers k ≡ starting_view workers k
 left_last workers k e = ap (λ ns. record (left_for workers k) { numbers = ns }) (range_first k (workers - k) 0 (omega arith))
 
 pub splits_left :
-    {R : Type 0} (number_of : R → ℕ) (key : Setting) (id workers k : ℕ) → k + 1 < workers → Splits (PoolHolds number_of key) id (left_for workers k) (left_over (left_for workers k)) (split_off (left_for workers k))
+    {R : Type 0} (number_of : R → ℕ) (key : Setting) (id workers k : ℕ) → k + 1 < workers →
+    Splits (PoolHolds number_of key) id (left_for workers k) (left_over (left_for workers k)) (split_off (left_for workers k))
 splits_left number_of key id workers k l =
     splits_off number_of key id (left_for workers k) k (k + 1) (range_with_len (k + 1 + 1) (workers - k - 2))
     (range_first k (workers - k) (workers - k - 1) (omega arith) ∙ ap (λ ns. k ∷ ns) (range_first (k + 1) (workers - k - 1) (workers - k - 2) (omega arith)))
-    (λ c. let a = above (k + 1) (workers - k - 1) k (subst (λ ns. Contains ns k) (sym (range_first (k + 1) (workers - k - 1) (workers - k - 2) (omega arith))) c) in omega arith) refl
+    (λ c. let a = above (k + 1) (workers - k - 1) k (subst (λ ns. Contains ns k) (sym (range_first (k + 1) (workers - k - 1) (workers - k - 2) (omega arith)))
+    c) in omega arith) refl
 
 pub first_at_work : {R : Type 0} (tasks workers k : ℕ) (me : Me (Option R) View) → workers ≤ max_workers → me ≡ (starting_view workers k, []) → IsAtWork tasks k me
-first_at_work {R} tasks workers k me few is = subst (IsAtWork {R = R} tasks k) (sym is) (record { alone = refl; few = few; slots = refl; known = λ t c. absurd (contains_none t c); inside = λ t c. absurd (contains_none t c) })
+first_at_work {R} tasks workers k me few is = subst (IsAtWork {R = R} tasks k) (sym is)
+    (record { alone = refl; few = few; slots = refl; known = λ t c. absurd (contains_none t c); inside = λ t c. absurd (contains_none t c) })

@@ -16,7 +16,8 @@ vacant t = (t, None)
 abbrev pub Keeps : {R : Type 0} → TableId → ℕ → Me (Option R) View → List (Option R) → ℕ → Type 0
 Keeps table number me entries room = IsAtWork table.words number me × HasRoom table.words number entries room
 
-module _ {R : Type 0} (table after : TableId) (same : after ≡ table) (number : ℕ) (me now : Me (Option R) View) (entries : List (Option R)) (room : ℕ) (w : Keeps table number me entries room) where
+module _ {R : Type 0} (table after : TableId) (same : after ≡ table) (number : ℕ) (me now : Me (Option R) View) (entries : List (Option R)) (room : ℕ)
+    (w : Keeps table number me entries room) where
   -- it is at the same table, and has the same room
   stays : (next : Me (Option R) View) → now ≡ next → IsAtWork table.words number next → Keeps after number now entries room
   stays next is at_work = subst (λ i. Keeps i number now entries room) (sym same) (subst (IsAtWork table.words number) (sym is) at_work, w.1)
@@ -28,7 +29,14 @@ module _ {R : Type 0} (table after : TableId) (same : after ≡ table) (number :
   -- it found another word
   pub found_at_work : (t n : ℕ) → now ≡ (finding t n me.0, me.1) → Keeps after number now entries room
   found_at_work t n is =
-      stays (finding t n me.0, me.1) is (record { alone = w.0.alone; few = w.0.few; slots = w.0.slots; known = λ u c. contains_rest t me.0.knows u (w.0.known u c); inside = w.0.inside })
+      stays (finding t n me.0, me.1) is (record {
+        alone = w.0.alone;
+        few = w.0.few;
+        slots = w.0.slots;
+        known = λ u c. contains_rest t me.0.knows u
+            (w.0.known u c);
+        inside = w.0.inside;
+      })
 
   -- it has a task more
   known_more : (t : ℕ) (u : ℕ) → Contains (t ∷ me.0.has) u → Contains (t ∷ me.0.knows) u

@@ -16,5 +16,6 @@ loop-next-preserved c =
     let here : next ≡ get_or row i next = get_or_default row i none next lt in
     let listed = c.requires.listed next (subst (λ r. Contains r next) c.successors-next-items.ensures.row (Contains-get_or row i none lt)) in
     let found = tells_each c.args.order.now c.successors-next-items.ensures.order c.args.goal c.args.far.now c.requires.tells next listed in
-    let more = c.nearer-best.ensures c.args.order.now c.args.goal (take i row) c.loop-next.invariant (ahead_below row i next c.successors-next-items.ensures.ascends lt here) (rw c.distance_in-found.ensures found) in
+    let more = c.nearer-best.ensures c.args.order.now c.args.goal (take i row) c.loop-next.invariant
+    (ahead_below row i next c.successors-next-items.ensures.ascends lt here) (rw c.distance_in-found.ensures found) in
     rw (take_more row i none lt) more

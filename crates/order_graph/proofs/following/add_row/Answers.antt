@@ -28,6 +28,7 @@ loop-b-preserved c =
     record {
       order = c.in_ok-add.ensures.order;
       tasks = added.tasks ∙ inv.tasks;
-      adds = adds_both (ToWanted c.args.t (take i c.args.wanted.now)) (IsOne c.args.t b) (ToWanted c.args.t (take (i + 1) c.args.wanted.now)) c.args.order.now c.loop-b.order c.add.new.self inv.adds
+      adds = adds_both (ToWanted c.args.t (take i c.args.wanted.now)) (IsOne c.args.t b) (ToWanted c.args.t (take (i + 1) c.args.wanted.now)) c.args.order.now
+          c.loop-b.order c.add.new.self inv.adds
           (adds_one c.args.t b c.loop-b.order c.add.new.self added) (wanted_more c.args.t b c.args.wanted.now i lt at);
     }

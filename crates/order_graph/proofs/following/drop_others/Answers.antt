@@ -9,9 +9,11 @@ loop-t-preserved c =
     record {
       order = c.keep_only.ensures.order;
       positions = kept.positions ∙ inv.positions;
-      pairs = λ ss ok is. keeps_below_more ss (record { 0 = c.loop-t.t }) c.waits_for.result.now c.args.order.now c.loop-t.order c.keep_only.new.self (inv.pairs ss ok is) kept (c.waits_for.ensures.pairs ss ok is);
+      pairs = λ ss ok is. keeps_below_more ss (record { 0 = c.loop-t.t }) c.waits_for.result.now c.args.order.now c.loop-t.order c.keep_only.new.self
+          (inv.pairs ss ok is) kept (c.waits_for.ensures.pairs ss ok is);
     }
 
 pub returns-clause-pairs : goal.returns-clause-pairs
 returns-clause-pairs c ss ok is =
-    keeps_below_all ss c.loop-t.t c.args.order.now c.loop-t.order c.tasks-t-end.ensures.order (omega (arith, c.tasks-t-end.ensures.tasks)) c.loop-t.invariant.positions (c.loop-t.invariant.pairs ss ok is)
+    keeps_below_all ss c.loop-t.t c.args.order.now c.loop-t.order c.tasks-t-end.ensures.order (omega (arith, c.tasks-t-end.ensures.tasks))
+    c.loop-t.invariant.positions (c.loop-t.invariant.pairs ss ok is)

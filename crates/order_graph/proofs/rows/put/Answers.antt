@@ -15,10 +15,12 @@ returns-clause-ascends c =
     let partitioned = rw c.deref-2.ensures.value at c.partition_point-place.ensures.partitioned in
     let le = rw c.deref-2.ensures.value at c.partition_point-place.ensures.bound in
     let point : IsPartitionPoint (λ u. ltb u.0 t.0 ≡ true) (λ u. ltb u.0 t.0 ≡ false) row place =
-    IsPartitionPoint-from_clause (λ (u : TaskId). ltb u.0 t.0) row place partitioned (below_first row t c.requires) (λ a r q k. (search (rules, of_calls), search (rules, of_calls))) in
+    IsPartitionPoint-from_clause (λ (u : TaskId). ltb u.0 t.0) row place partitioned (below_first row t c.requires)
+    (λ a r q k. (search (rules, of_calls), search (rules, of_calls))) in
     let none = rw c.deref.ensures.value at c.if-is_in.ensures in
     rw c.in_ok-insert.ensures.items
-    (AllPairs-insert (λ u v. u.0 < v.0) row place t c.requires (ahead_is_below row t place none le (point_below row t place point)) (behind_is_above row t place none le (point_above row t place point)))
+    (AllPairs-insert (λ u v. u.0 < v.0) row place t c.requires (ahead_is_below row t place none le (point_below row t place point))
+    (behind_is_above row t place none le (point_above row t place point)))
 
 pub returns-clause-members : goal.returns-clause-members
 returns-clause-members c u = rw c.in_ok-insert.ensures.items (insert_members c.args.row.now.items c.partition_point-place.result c.args.t u)

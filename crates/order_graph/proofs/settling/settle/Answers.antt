@@ -12,4 +12,5 @@ loop-k-preserved c =
     let lt : k < length ts = omega arith in
     let n : length (take k ts) ≡ k = length-take-le k ts (omega arith) in
     rw (take_more ts k none lt)
-    (rw n at (settle_more c.args.low (take k ts) _ c.args.positions.now c.loop-k.positions c.args.at.now c.loop-k.at c.loop-k.invariant (not_ahead ts k none c.requires.two lt) (c.requires.tasks k none lt) (omega (arith, c.requires.inside))))
+    (rw n at (settle_more c.args.low (take k ts) _ c.args.positions.now c.loop-k.positions c.args.at.now c.loop-k.at c.loop-k.invariant
+    (not_ahead ts k none c.requires.two lt) (c.requires.tasks k none lt) (omega (arith, c.requires.inside))))

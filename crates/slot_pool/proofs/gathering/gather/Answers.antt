@@ -52,7 +52,8 @@ join_seat-requires g c =
       ap (λ (h : Hand). h.table) place.place ∙ made.table ∙ table,
       place.slots idle,
       (let a = c.pool.invariant.words in let b = c.pool.invariant.some_task in omega arith),
-      joins_in number_of key c.loop-worker.place.id c.into_parts-other.result.0.id v u before.number.0 before.number.1 before.gathered.2.idle (ap (λ (h : Hand). h.view.has) place.place ∙ idle),
+      joins_in number_of key c.loop-worker.place.id c.into_parts-other.result.0.id v u before.number.0 before.number.1 before.gathered.2.idle
+          (ap (λ (h : Hand). h.view.has) place.place ∙ idle),
     )
 
 pub loop-worker-preserved : goal.loop-worker-preserved
@@ -69,7 +70,11 @@ loop-worker-preserved g c =
     let done = before.gathered.0 in record {
       table = now.0 ∙ before.table;
       slots = ap (λ m. m.1) now.2 ∙ before.slots;
-      number = (before.number.0, subst (λ (ns : List ℕ). Contains ns before.number.0) (sym (ap (λ m. m.0.numbers) now.2)) (Contains-append_left v.numbers u.numbers before.number.0 before.number.1));
+      number = (
+        before.number.0,
+        subst (λ (ns : List ℕ). Contains ns before.number.0) (sym (ap (λ m. m.0.numbers) now.2))
+            (Contains-append_left v.numbers u.numbers before.number.0 before.number.1),
+      );
       made = all_others (λ (x : Hand). IsOfPool x c.args.pool.now) c.loop-worker.workers.items c.pop-in-loop-worker.new.self.items w list before.made;
       idle = all_others (λ (x : Hand). x.view.has ≡ []) c.loop-worker.workers.items c.pop-in-loop-worker.new.self.items w list before.idle;
       empty = c.wider-entries.ensures.empty;
@@ -79,7 +84,8 @@ loop-worker-preserved g c =
         gathers_more w done v c.join_seat.new.seat.me.0 (ap (λ m. m.0) now.2 ∙ ap (λ (h : Hand). joined v h.view) place.place) before.gathered.2,
         λ zero. elim (zero_cases w done place.number.0 place.number.1 zero) [
           | inl e ↦
-              let enough : c.args.pool.now.table.words ≤ vec_capacity c.into_parts-other.result.1 = subst (λ (i : TableId). i.words ≤ vec_capacity c.into_parts-other.result.1) made.table (place.number.2.enough e) in
+              let enough : c.args.pool.now.table.words ≤ vec_capacity c.into_parts-other.result.1 = subst
+              (λ (i : TableId). i.words ≤ vec_capacity c.into_parts-other.result.1) made.table (place.number.2.enough e) in
               let more = room.1 in omega arith
           | inr b ↦ let enough = before.gathered.3 b in let more = room.0 in omega arith
         ],

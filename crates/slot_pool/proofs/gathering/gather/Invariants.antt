@@ -14,7 +14,9 @@ invariant-loop-worker g l =
       made : All (λ (w : Hand). IsOfPool w l.pool) l.workers.items;
       idle : All (λ (w : Hand). w.view.has ≡ []) l.workers.items;
       empty : l.entries.items ≡ [];
-      gathered : (joined : List Hand) × l.fn.workers.items ≡ l.workers.items ++ joined × Gathers joined l.place.me.0 × (IsNumberOf joined 0 → l.pool.table.words ≤ vec_capacity l.entries);
+      gathered :
+          (joined : List Hand) × l.fn.workers.items ≡ l.workers.items ++ joined × Gathers joined l.place.me.0
+          × (IsNumberOf joined 0 → l.pool.table.words ≤ vec_capacity l.entries);
     }
 
 abbrev pub decreases-loop-worker : goal.decreases-loop-worker

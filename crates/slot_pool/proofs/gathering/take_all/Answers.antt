@@ -11,7 +11,9 @@ loop-slot-preserved g c =
     let i = c.loop-slot.slot in
     let others = c.take.ensures.others in record {
       left = λ k after inside.
-          subst (λ (fs : List Bool). get_or fs k false ≡ true) (sym others.1) (still_filled (slots_filled c.loop-slot.closed.slots) i c.slot_count-slot-end.result (λ j from to. before.left j from (let n = before.count in omega arith)) k after
+          subst (λ (fs : List Bool). get_or fs k false ≡ true) (sym others.1)
+          (still_filled (slots_filled c.loop-slot.closed.slots) i c.slot_count-slot-end.result (λ j from to. before.left j from (let n = before.count in
+          omega arith)) k after
           (let n = before.count in let m = others.2 in omega arith));
       taken = λ k to. subst (λ (fs : List Bool). get_or fs k false ≡ false) (sym others.1) (all_emptied (slots_filled c.loop-slot.closed.slots) i before.taken k to);
       items = search rules;

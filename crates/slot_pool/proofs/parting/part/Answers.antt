@@ -30,7 +30,8 @@ pub of-requires-clause-work : goal.of-requires-clause-work
 of-requires-clause-work g c =
     let k = c.loop-number.number in
     first_at_work c.split_seat-other.result.table_id.words c.args.workers k c.split_seat-other.result.me c.requires.workers.2
-    (c.split_seat-other.ensures.4 ∙ ap (λ m. (split_off m.0, [])) c.loop-number.invariant.1 ∙ ap (λ v. (v, [])) (split_first c.args.workers k (let l = c.loop-number-test.true in omega arith)))
+    (c.split_seat-other.ensures.4 ∙ ap (λ m. (split_off m.0, [])) c.loop-number.invariant.1
+    ∙ ap (λ v. (v, [])) (split_first c.args.workers k (let l = c.loop-number-test.true in omega arith)))
 
 pub loop-number-preserved : goal.loop-number-preserved
 loop-number-preserved g c =
@@ -67,7 +68,8 @@ of-requires-clause-room g c =
     record {
       empty = ap (λ v. v.items) c.replace-own.ensures.value ∙ room.empty;
       enough = λ zero.
-          let l : c.split_seat-other.result.table_id.words ≤ vec_capacity c.loop-number.entries = subst (λ (i : TableId). i.words ≤ vec_capacity c.loop-number.entries) (sym table) (room.enough zero) in
+          let l : c.split_seat-other.result.table_id.words ≤ vec_capacity c.loop-number.entries = subst
+          (λ (i : TableId). i.words ≤ vec_capacity c.loop-number.entries) (sym table) (room.enough zero) in
           let e = ap (λ v. vec_capacity v) c.replace-own.ensures.value in omega arith;
     }
 
@@ -76,5 +78,6 @@ of-requires-2-clause-room g c =
     let before = c.loop-number.invariant in
     record {
       empty = before.5.empty;
-      enough = λ zero. subst (λ (i : TableId). i.words ≤ vec_capacity c.loop-number.entries) (sym before.0) (before.5.enough (let l = c.loop-number.auto.number-end in omega arith));
+      enough = λ zero. subst (λ (i : TableId). i.words ≤ vec_capacity c.loop-number.entries) (sym before.0)
+          (before.5.enough (let l = c.loop-number.auto.number-end in omega arith));
     }

@@ -7,5 +7,6 @@ pub close-requires-clause-all_workers : goal.close-requires-clause-all_workers
 close-requires-clause-all_workers c = λ k l.
     let first : Hand = c.args.first in
     let second : Hand = c.args.second in
-    let list : c.from_vec.result ≡ first ∷ (second ∷ []) = c.from_vec.ensures.items ∙ c.in-Ok-push.ensures.items ∙ ap (λ (ws : List Hand). ws ++ second ∷ []) c.in-Ok.ensures.items in
+    let list : c.from_vec.result ≡ first ∷ (second ∷ []) = c.from_vec.ensures.items ∙ c.in-Ok-push.ensures.items
+    ∙ ap (λ (ws : List Hand). ws ++ second ∷ []) c.in-Ok.ensures.items in
     subst (λ (ws : List Hand). IsNumberOf ws k) (sym list) (pair_numbers first second c.requires.first.1 c.requires.second.1 k (subst (λ n. k < n) c.requires.workers l))

@@ -3,7 +3,8 @@ use Rattle.order_graph.proofs.order.Order.clear.Goals as goal
 
 pub take_out-requires : goal.take_out-requires
 take_out-requires c =
-    memory_ascends c.self.inside.rows.items c.self.inside.positions.items c.args.a c.index_mut.result.now c.self.invariant.0 (rw (← c.self.view_is) at c.requires.from) c.index_mut.ensures.value
+    memory_ascends c.self.inside.rows.items c.self.inside.positions.items c.args.a c.index_mut.result.now c.self.invariant.0
+    (rw (← c.self.view_is) at c.requires.from) c.index_mut.ensures.value
 
 pub invariant_of-self : goal.invariant_of-self
 invariant_of-self c = (

@@ -3,7 +3,8 @@ use Rattle.order_graph.proofs.order.Order.keep_only.Goals as goal
 
 pub keep_common-requires-clause-ascends : goal.keep_common-requires-clause-ascends
 keep_common-requires-clause-ascends c =
-    memory_ascends c.self.inside.rows.items c.self.inside.positions.items c.args.t c.index_mut.result.now c.self.invariant.0 (rw (← c.self.view_is) at c.requires.task) c.index_mut.ensures.value
+    memory_ascends c.self.inside.rows.items c.self.inside.positions.items c.args.t c.index_mut.result.now c.self.invariant.0
+    (rw (← c.self.view_is) at c.requires.task) c.index_mut.ensures.value
 
 pub invariant_of-self : goal.invariant_of-self
 invariant_of-self c = (

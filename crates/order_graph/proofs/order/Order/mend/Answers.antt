@@ -12,7 +12,8 @@ use Rattle.order_graph.proofs.order.Order.mend.Goals as goal
 
 pub put-requires : goal.put-requires
 put-requires c =
-    memory_ascends c.self.inside.rows.items c.self.inside.positions.items c.args.a c.index_mut.result.now c.self.invariant.0 (rw (← c.self.view_is) at c.requires.from) c.index_mut.ensures.value
+    memory_ascends c.self.inside.rows.items c.self.inside.positions.items c.args.a c.index_mut.result.now c.self.invariant.0
+    (rw (← c.self.view_is) at c.requires.from) c.index_mut.ensures.value
 
 -- where no edge was put the order is as before
 pub invariant_of-self : goal.invariant_of-self
@@ -67,7 +68,8 @@ module _ (c : goal.After-self-3-1) where
   members : (u : TaskId) → Contains c.put.new.row.items u ↔ (Contains (successors_of before c.args.a) u ⊎ (u ≡ c.args.b))
   unfolding before
   members u =
-      rw (is_row c.self.inside.rows.items c.self.inside.positions.items c.args.a c.index_mut.result.now c.self.invariant.0 from c.index_mut.ensures.value) (c.in_ok-put.ensures.members u)
+      rw (is_row c.self.inside.rows.items c.self.inside.positions.items c.args.a c.index_mut.result.now c.self.invariant.0 from c.index_mut.ensures.value)
+      (c.in_ok-put.ensures.members u)
 
 pub invariant_of-self-2 : goal.invariant_of-self-2
 unfolding before

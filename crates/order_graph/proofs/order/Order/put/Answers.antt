@@ -4,7 +4,8 @@ use Rattle.order_graph.proofs.order.Order.put.Goals as goal
 
 pub put-requires : goal.put-requires
 put-requires c =
-    memory_ascends c.self.inside.rows.items c.self.inside.positions.items c.args.a c.index_mut.result.now c.self.invariant.0 (rw (← c.self.view_is) at c.requires.from) c.index_mut.ensures.value
+    memory_ascends c.self.inside.rows.items c.self.inside.positions.items c.args.a c.index_mut.result.now c.self.invariant.0
+    (rw (← c.self.view_is) at c.requires.from) c.index_mut.ensures.value
 
 pub invariant_of-self : goal.invariant_of-self
 invariant_of-self c = (

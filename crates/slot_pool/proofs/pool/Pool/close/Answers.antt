@@ -21,7 +21,8 @@ returns g c =
     let workers = ap (λ k. k.workers) told ∙ ap (λ f. f.workers) c.self.view_is in
     let tasks = ap (λ k. k.tasks) told ∙ ap (λ f. f.tasks) c.self.view_is in
     let items = c.into_vec.ensures.items in
-    let all : (k : ℕ) → k < key.workers → Contains v.numbers k = λ k l. view.numbers k (subst (λ (ws : List Hand). IsNumberOf ws k) (sym items) (c.requires.all_workers k (subst (λ n. k < n) workers l))) in
+    let all : (k : ℕ) → k < key.workers → Contains v.numbers k = λ k l. view.numbers k
+    (subst (λ (ws : List Hand). IsNumberOf ws k) (sym items) (c.requires.all_workers k (subst (λ n. k < n) workers l))) in
     let home = closes number_of key c.gather-place.result.0.id v _ (slots_items c.close_with.result.slots) view.idle all c.close_with.ensures.values.2 in
     record {
       home = subst₂ (λ n (es : List (Option g.row.R.Denot)). AreHome number_of n (IsPlacedBy c.args.workers) es) tasks (sym (c.from_vec.ensures.items ∙ c.take_all.ensures))

@@ -22,7 +22,8 @@ compare_exchange-found-requires g c =
     let me = c.self.inside.place.me in (
       table,
       within,
-      subst (λ k. Allows (PoolHolds g.R.Named.number key) slots id me t (λ n. either (eqb n 1) (k + 2) n) (Claimed g.R.Named.number (step slots t 1 (k + 2) none) me)) (sym c.from-mine.ensures)
+      subst (λ k. Allows (PoolHolds g.R.Named.number key) slots id me t (λ n. either (eqb n 1) (k + 2) n)
+          (Claimed g.R.Named.number (step slots t 1 (k + 2) none) me)) (sym c.from-mine.ensures)
           (claims g.R.Named.number key slots id c.self.inside.number t me c.self.invariant.0.alone small),
     )
 

@@ -37,5 +37,6 @@ invariant_of-self g c =
     let me = c.self.inside.place.me in
     let others = c.requires.has.0 in
     let had : me.0.has ≡ t ∷ others = ap (λ h. h.view.has) c.self.view_is ∙ c.requires.has.1 ∙ ap (λ i. i ∷ others) (sym c.requires.slot) in
-    given_at_work c.self.inside.place.table_id c.store.new.seat.table_id (c.store.ensures.0 ∙ c.exchange-before.ensures.0) c.self.inside.number me c.store.new.seat.me _ _ c.self.invariant t others had
+    given_at_work c.self.inside.place.table_id c.store.new.seat.table_id (c.store.ensures.0 ∙ c.exchange-before.ensures.0) c.self.inside.number me
+    c.store.new.seat.me _ _ c.self.invariant t others had
     (c.store.ensures.2 ∙ ap (λ x. (giving t x.0, rest x.1)) c.exchange-before.ensures.3)

@@ -9,5 +9,6 @@ pub returns-clause-number : goal.returns-clause-number
 returns-clause-number g c = (
   c.self.inside.number,
   ap (λ (h : Hand). h.view.numbers) (sym c.self.view_is) ∙ c.self.invariant.0.alone,
-  subst (λ (i : TableId). HasRoom i.words c.self.inside.number c.self.inside.entries.items (vec_capacity c.self.inside.entries)) (ap (λ (h : Hand). h.table) c.self.view_is) c.self.invariant.1,
+  subst (λ (i : TableId). HasRoom i.words c.self.inside.number c.self.inside.entries.items (vec_capacity c.self.inside.entries))
+      (ap (λ (h : Hand). h.table) c.self.view_is) c.self.invariant.1,
 )

@@ -41,6 +41,7 @@ invariant_of-self-2 g c =
     let table = ap (λ h. h.table) c.self.view_is ∙ c.requires.made.table ∙ sym (ap (λ f. f.table) c.pool.view_is) in
     let t = c.id-slot.result.0 in
     let small : t < c.self.inside.place.table_id.words =
-    subst (λ (i : TableId). t < i.words) (sym table) (let tasks = ap (λ f. f.tasks) c.pool.view_is in let words = c.pool.invariant.words in let named = c.id-slot.ensures in let l = c.requires.task in omega arith) in
+    subst (λ (i : TableId). t < i.words) (sym table) (let tasks = ap (λ f. f.tasks) c.pool.view_is in let words = c.pool.invariant.words in
+    let named = c.id-slot.ensures in let l = c.requires.task in omega arith) in
     placing_at_work c.self.inside.place.table_id after.table_id c.compare_exchange-found.ensures.0 c.self.inside.number c.self.inside.place.me after.me _ _ c.self.invariant t small
     (c.compare_exchange-found.ensures.2.placed c.if-found-ne0.false).1
