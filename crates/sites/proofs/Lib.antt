@@ -10,3 +10,7 @@ pub mod TellingSites
 pub mod CountingSnaps
 pub mod SnapSteps
 pub mod Snapped
+pub mod Gathered
+pub mod Merging
+pub mod PassSteps
+pub mod Passed

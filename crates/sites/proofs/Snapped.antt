@@ -17,8 +17,9 @@ use Rattle.sites.specs.Rows.{AreOfSite, HasNumbers, is_of_site}
 use Rattle.sites.specs.Snaps.{IsSnap, LoadsChosen, TellsSite}
 use Rattle.sites.specs.inside.Snapping.{FindsRows}
 use Rattle.sites.proofs.ChosenLoads.{chosen_seat}
+use Rattle.phase_scan.proofs.Farther.{IsPossible}
 use Rattle.sites.proofs.SnapSteps.{chosen_same}
-use Rattle.sites.proofs.TellingSites.{snap_tells}
+use Rattle.sites.proofs.TellingSites.{snap_tells, some_possible}
 
 -- the loads of the await words, and the rows
 pub snap_made :
@@ -111,3 +112,14 @@ snap_told f sites site list before now of checked c =
           (snap_tells before now sites site list (subst IsCheckedPlan own_plan checked) seat here)
       | inr none ↦ tells_nothing f.plan sites site list before now checked c none
     ]
+
+-- a snap of a site with a task shows a lawful state that was possible before it
+pub snap_possible :
+    (f : Frame) (sites site : ℕ) (list : List Status) (before now : Known) → IsOf before f → IsCheckedPlan f.plan → IsSnap f.plan sites site list before now → (t : ℕ) →
+    t < length f.plan.parents → is_of_site sites site t ≡ true → IsPossible before (λ s. Unit {0})
+snap_possible f sites site list before now of checked c t l is =
+    let own_plan = sym of.plan in
+    let here : IsSnap before.view.plan sites site list before now = subst (λ (q : Plan). IsSnap q sites site list before now) own_plan c in
+    let small : t < length before.view.plan.parents = subst (λ (q : Plan). t < length q.parents) own_plan l in
+    let seat = chosen_seat before.view.plan (is_of_site sites site) here.found.published (length before.view.plan.parents) before here.between refl (omega arith) here.awaits t small is in
+    some_possible before now sites site list (subst IsCheckedPlan own_plan checked) seat here t (small, is)

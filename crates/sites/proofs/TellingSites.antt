@@ -22,7 +22,7 @@ use Rattle.phase_scan.specs.Looks.{LoadsAlone}
 use Rattle.phase_scan.specs.Collects.{waiting_on}
 use Rattle.phase_scan.proofs.Loads.{goes_both, phase_load}
 use Rattle.phase_scan.proofs.Chains.{AwaitLoad, GoesAt, WaitsBelow, phase_of, row_of, rows_go}
-use Rattle.phase_scan.proofs.Farther.{possible_before}
+use Rattle.phase_scan.proofs.Farther.{IsPossible, possible_before}
 use Rattle.phase_scan.proofs.Standing.{dead_place, means_there, phases_begun_at, published_begun, waits_unrefused, word_published, word_waits}
 use Rattle.phase_scan.proofs.Telling.{prefix_both}
 use Rattle.sites.specs.Rows.{is_of_site}
@@ -74,6 +74,13 @@ module _ (before now : Known) (sites site : ℕ) (list : List Status) (checked :
 
   await : (t : ℕ) → IsOwn t → Await t
   await t (l, is) = chosen_of plan own c.found.published tasks before c.between refl (omega arith) seat c.awaits t l is
+
+  -- where the site has a task, some lawful state was possible before
+  pub some_possible : (t : ℕ) → IsOwn t → IsPossible before (λ s. Unit {0})
+  some_possible t task =
+      let x = await t task in
+      let was = possible_before before x.from x.to (λ s. found_in s t ≡ x.finds.answer) seat x.goes_from x.finds.load.load.was in
+      record { places = was.places; lock = was.lock; lawful = was.lawful; far = was.far; holds = tt }
 
   own_or_not : (t : ℕ) → IsOwn t ⊎ (IsOwn t → ⊥)
   own_or_not t =

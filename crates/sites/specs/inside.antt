@@ -1,2 +1,4 @@
 pub mod Reading
 pub mod Snapping
+pub mod Gathering
+pub mod Passing

@@ -2,6 +2,7 @@
 ghost use Rattle.std.specs.Prelude.{◌≡◌};
 ghost use Rattle.sites.specs.declared.ends.DecodeEnd.TheVariants as decode_ends;
 ghost use Rattle.sites.specs.declared.ends.KeepEnd.TheVariants as keep_ends;
+ghost use Rattle.sites.specs.declared.ends.SiteEnd.TheVariants as site_ends;
 
 use armus_base::NoMemory;
 use std::alloc::{AllocError, AllocFailed};
@@ -72,5 +73,13 @@ impl From<AllocError> for KeepEnd {
 
     fn from(_e: AllocError) -> KeepEnd {
         KeepEnd::NoMemory
+    }
+}
+
+impl From<NoMemory> for SiteEnd {
+    ghost from_gives = { λ _ e. e ≡ site_ends.NoMemory };
+
+    fn from(_e: NoMemory) -> SiteEnd {
+        SiteEnd::NoMemory
     }
 }

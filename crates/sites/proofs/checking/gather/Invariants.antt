@@ -1,0 +1,12 @@
+use Rattle.std.proofs.Common.{◌≡◌}
+use Rattle.sites.specs.inside.Gathering.{AreGathered, NoneBad}
+use Rattle.sites.proofs.checking.gather.Given as goal
+
+abbrev pub invariant-loop-site : goal.invariant-loop-site
+invariant-loop-site g l =
+    record {
+      rows : g.K.Keeper.rows l.keeper ≡ g.K.Keeper.rows l.initial.keeper;
+      faults : g.K.Keeper.faults l.keeper ≡ g.K.Keeper.faults l.initial.keeper;
+      gathered : AreGathered l.sites (g.K.Keeper.rows l.initial.keeper) l.site l.all.items;
+      none : NoneBad l.sites (g.K.Keeper.rows l.initial.keeper) l.site;
+    }

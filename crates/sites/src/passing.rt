@@ -1,0 +1,139 @@
+// A pass over all sites.
+ghost use Rattle.std.specs.Prelude.{◌≡◌, ◌≤◌, ◌<◌, All, IfOk, OnErr, OnOk, length, map};
+ghost use Rattle.board.specs.Seats.{IsOf, Known};
+ghost use Rattle.sites.specs.Keeping.{count_after};
+ghost use Rattle.sites.specs.Passes.{AreBacked, ChangesRows, HaveLookedOn, IsSitePass};
+ghost use Rattle.sites.specs.Rows.{AreOfSite};
+ghost use Rattle.sites.specs.Snaps.{CountsSnap, HasLookedOn, IsSnap, TellsSite};
+ghost use Rattle.sites.specs.inside.Passing.{HaveSnapped, PutsSnap};
+
+use crate::checking::check_sites;
+use crate::decoding::MAX_SITES;
+use crate::encoding::encode;
+use crate::snapping::snap;
+use crate::{KeepEnd, Keeper, SiteEnd, Snapshot};
+use adaptive::{Analysis, Wanted};
+use armus_base::NoMemory;
+use board::{Board, ViewSeat};
+use std::alloc::Global;
+
+// Who makes the snaps of a site. Contracts see what it has seen. It is a viewer's seat; the functions below are over any such type, since an element of a
+// slice of seats has no place of its own in memory.
+trait Snaps {
+    ghost known: { Self → Known };
+
+    // A snap of the site.
+    fn snap_of(
+        &mut self,
+        alloc: Global,
+        board: &Board,
+        site: u32,
+        sites: u32,
+    ) -> Result<Snapshot, NoMemory>
+        requires made { IsOf (known self.old) board.now }
+        requires some { 1 ≤ sites }
+        requires few { sites ≤ MAX_SITES }
+        requires site { site < sites }
+        ensures made { IsOf (known self.new) board.now }
+        ensures looked { HasLookedOn (known self.old) (known self.new) }
+        ensures snap { IfOk result (λ s. IsSnap board.now.plan sites site s.statuses (known self.old) (known self.new)) }
+        ensures loads { IfOk result (λ s. CountsSnap board.now.plan sites site s.statuses (known self.old) (known self.new)) }
+        ensures stored { IfOk result (λ s. AreOfSite sites site s.statuses) }
+        ensures tells { IfOk result (λ s. TellsSite board.now.plan sites site s.statuses (known self.old) (known self.new)) };
+}
+
+impl Snaps for ViewSeat {
+    ghost known = { λ s. s };
+
+    fn snap_of(
+        &mut self,
+        alloc: Global,
+        board: &Board,
+        site: u32,
+        sites: u32,
+    ) -> Result<Snapshot, NoMemory> {
+        snap(alloc, self, board, site, sites)
+    }
+}
+
+// A snap of a site, put as its row.
+fn snap_site<V: Snaps, K: Keeper>(
+    alloc: Global,
+    view: &mut V,
+    board: &Board,
+    site: u32,
+    sites: u32,
+    keeper: &mut K,
+) -> Result<(), KeepEnd>
+    requires made { IsOf (V.known view.old) board.now }
+    requires some { 1 ≤ sites }
+    requires few { sites ≤ MAX_SITES }
+    requires site { site < sites }
+    requires kept { length (K.rows keeper.old) ≡ sites }
+    ensures made { IsOf (V.known view.new) board.now }
+    ensures looked { HasLookedOn (V.known view.old) (V.known view.new) }
+    ensures count { K.faults keeper.new ≡ count_after result (K.faults keeper.old) }
+    ensures ok { OnOk result (PutsSnap board.now.plan sites site (V.known view.old) (V.known view.new) (K.rows keeper.old) (K.rows keeper.new)) }
+    ensures err { OnErr result (K.rows keeper.new ≡ K.rows keeper.old) }
+{
+    let snapshot = view.snap_of(alloc, board, site, sites)?;
+    let row = encode(alloc, &snapshot)?;
+    keeper.put(site, row.as_slice())?;
+    Ok(())
+}
+
+// A snap of each site, in order.
+fn snap_sites<V: Snaps, K: Keeper>(
+    alloc: Global,
+    views: &mut [V],
+    board: &Board,
+    sites: u32,
+    keeper: &mut K,
+) -> Result<(), KeepEnd>
+    requires views { All (λ v. IsOf (V.known v) board.now) views.old }
+    requires some { 1 ≤ sites }
+    requires few { sites ≤ MAX_SITES }
+    requires sites { length views.old ≡ sites }
+    requires kept { length (K.rows keeper.old) ≡ sites }
+    ensures looked { HaveLookedOn board.now (map V.known views.old) (map V.known views.new) }
+    ensures rows { ChangesRows board.now.plan (K.rows keeper.old) (K.rows keeper.new) (map V.known views.new) }
+    ensures count { K.faults keeper.new ≡ count_after result (K.faults keeper.old) }
+    ensures ok { OnOk result (HaveSnapped board.now sites sites (map V.known views.old) (map V.known views.new) (K.rows keeper.old) (K.rows keeper.new)) }
+{
+    for site in 0..sites {
+        snap_site(alloc, &mut views[site as usize], board, site, sites, keeper)?;
+    }
+    Ok(())
+}
+
+/// For each site, in order, a snap by its viewer, put as its row; and then a check of all rows. It names only tasks that are dead in every lawful state
+/// as far on as what all viewers have seen after the call, and all of each set that is deadlocked and of each of whose tasks the viewer of its site knew
+/// before where it stands. Rows that were backed by what their viewers have seen are backed again, after each error too; each row is then as before, or a
+/// new one of this call. Fault comes exactly where the keeper's count of faults rises, by one.
+pub fn site_pass<K: Keeper>(
+    alloc: Global,
+    views: &mut [ViewSeat],
+    board: &Board,
+    keeper: &mut K,
+    wanted: Wanted,
+) -> Result<Analysis, KeepEnd>
+    requires views { All (λ k. IsOf k board.now) views.old }
+    requires some { 1 ≤ length views.old }
+    requires few { length views.old ≤ MAX_SITES }
+    requires kept { length (K.rows keeper.old) ≡ length views.old }
+    ensures looked { HaveLookedOn board.now views.old views.new }
+    ensures rows { ChangesRows board.now.plan (K.rows keeper.old) (K.rows keeper.new) views.new }
+    ensures backed { AreBacked board.now.plan (K.rows keeper.old) views.old → AreBacked board.now.plan (K.rows keeper.new) views.new }
+    ensures count { K.faults keeper.new ≡ count_after result (K.faults keeper.old) }
+    ensures pass { IfOk result (IsSitePass board.now.plan board.now.mode wanted views.old views.new (K.rows keeper.new)) }
+{
+    let _ = board.tasks();
+    let sites = views.len() as u32;
+    snap_sites(alloc, views, board, sites, keeper)?;
+    match check_sites(alloc, keeper, sites, wanted) {
+        Ok(analysis) => Ok(analysis),
+        Err(SiteEnd::Fault) => Err(KeepEnd::Fault),
+        Err(SiteEnd::NoMemory) => Err(KeepEnd::NoMemory),
+        Err(SiteEnd::Bad { .. }) => unreachable!(),
+    }
+}
