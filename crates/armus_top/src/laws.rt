@@ -13,7 +13,8 @@ pub fn each_call_is_met()
     ensures { EachCallIsMet }
 {}
 
-/// What `record` writes of a text that is not too long is an input of `replay`: it is not too long and not refused, and its answer has the status of the record and names at its end the tasks that are dead in the recorded state.
+/// What `record` writes of a text that is not too long is an input of `replay`: it is not too long and not refused, and its answer has the status of the
+/// record and names at its end the tasks that are dead in the recorded state.
 pub fn records_replay()
     ensures { RecordsReplay }
 {}

@@ -25,7 +25,8 @@ fn status_for<R: Threads + Sync, S: Source, K: Sink, G: Gate>(
     gate: &G,
 ) -> ExitStatus
     requires plain { BeginsRecord (map string_bytes words.now) → ⊥ }
-    ensures call { IsCall (map string_bytes words.now) (passage S.left S.faults src.old src.new) (passage K.taken K.faults out.old out.new) (src.new ≡ src.old) (out.new ≡ out.old) (number_of_status result) }
+    ensures call { IsCall (map string_bytes words.now) (passage S.left S.faults src.old src.new) (passage K.taken K.faults out.old out.new)
+        (src.new ≡ src.old) (out.new ≡ out.old) (number_of_status result) }
 {
     match command_in(alloc, words) {
         Ok(meaning) => serve(rt, alloc, meaning, src, out, gate),
@@ -47,7 +48,8 @@ pub fn armus_plain<R: Threads + Sync, S: Source, K: Sink, G: Gate>(
     gate: &G,
 ) -> u8
     requires plain { BeginsRecord (map string_bytes words.now) → ⊥ }
-    ensures served { IsServed (map string_bytes words.now) (passage S.left S.faults src.old src.new) (passage K.taken K.faults out.old out.new) (src.new ≡ src.old) (out.new ≡ out.old) result }
+    ensures served { IsServed (map string_bytes words.now) (passage S.left S.faults src.old src.new) (passage K.taken K.faults out.old out.new)
+        (src.new ≡ src.old) (out.new ≡ out.old) result }
 {
     status_for(rt, alloc, words, src, out, gate).code()
 }
@@ -62,7 +64,8 @@ fn status_journal<R: Threads + Wait + Sync, S: Source, K: Sink, G: Gate>(
     gate: &G,
 ) -> ExitStatus
     requires journal { BeginsRecord (map string_bytes words.now) }
-    ensures call { IsCall (map string_bytes words.now) (passage S.left S.faults src.old src.new) (passage K.taken K.faults out.old out.new) (src.new ≡ src.old) (out.new ≡ out.old) (number_of_status result) }
+    ensures call { IsCall (map string_bytes words.now) (passage S.left S.faults src.old src.new) (passage K.taken K.faults out.old out.new)
+        (src.new ≡ src.old) (out.new ≡ out.old) (number_of_status result) }
 {
     match command_in(alloc, words) {
         Ok(meaning) => serve_journal(rt, alloc, meaning, src, out, gate),
@@ -80,7 +83,8 @@ pub fn armus_journal<R: Threads + Wait + Sync, S: Source, K: Sink, G: Gate>(
     gate: &G,
 ) -> u8
     requires journal { BeginsRecord (map string_bytes words.now) }
-    ensures served { IsServed (map string_bytes words.now) (passage S.left S.faults src.old src.new) (passage K.taken K.faults out.old out.new) (src.new ≡ src.old) (out.new ≡ out.old) result }
+    ensures served { IsServed (map string_bytes words.now) (passage S.left S.faults src.old src.new) (passage K.taken K.faults out.old out.new)
+        (src.new ≡ src.old) (out.new ≡ out.old) result }
     ensures replays { WritesReplayable (map string_bytes words.now) (passage S.left S.faults src.old src.new) (passage K.taken K.faults out.old out.new) result }
 {
     status_journal(rt, alloc, words, src, out, gate).code()
@@ -112,7 +116,8 @@ pub fn armus<R: Threads + Wait + Sync, S: Source, K: Sink, G: Gate>(
     out: &mut K,
     gate: &G,
 ) -> u8
-    ensures served { IsServed (map string_bytes words.now) (passage S.left S.faults src.old src.new) (passage K.taken K.faults out.old out.new) (src.new ≡ src.old) (out.new ≡ out.old) result }
+    ensures served { IsServed (map string_bytes words.now) (passage S.left S.faults src.old src.new) (passage K.taken K.faults out.old out.new)
+        (src.new ≡ src.old) (out.new ≡ out.old) result }
     ensures replays { WritesReplayable (map string_bytes words.now) (passage S.left S.faults src.old src.new) (passage K.taken K.faults out.old out.new) result }
 {
     if begins_record(words) {

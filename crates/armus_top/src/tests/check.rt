@@ -19,7 +19,7 @@ const ACCEPTED: [(&str, &str); 6] = [
 ];
 
 // Texts with a fault, and what is told of it: kind and place in the syntax, kind and statement in the check.
-const REFUSED: [(&str, &str); 37] = [
+const REFUSED: [(&str, &str); 43] = [
     ("adv(P);", "refused syntax 1 at 4\n"),
     ("/", "refused syntax 1 at 0\n"),
     ("skip;\u{b}", "refused syntax 1 at 5\n"),
@@ -29,15 +29,21 @@ const REFUSED: [(&str, &str); 37] = [
     ("fork(x) {", "refused syntax 2 at 9\n"),
     ("loop 65536 { }", "refused syntax 3 at 5\n"),
     ("loop 00 { }", "refused syntax 3 at 5\n"),
-    // the first bytes of `p = newPhaser();`
+    // all first bytes of `p = newPhaser();`
     ("p", "refused syntax 2 at 1\n"),
+    ("p ", "refused syntax 2 at 2\n"),
     ("p =", "refused syntax 2 at 3\n"),
     ("p = ", "refused syntax 2 at 4\n"),
     ("p = n", "refused syntax 2 at 4\n"),
+    ("p = ne", "refused syntax 2 at 4\n"),
     ("p = new", "refused syntax 2 at 4\n"),
     ("p = newP", "refused syntax 1 at 4\n"),
+    ("p = newPh", "refused syntax 1 at 4\n"),
+    ("p = newPha", "refused syntax 1 at 4\n"),
+    ("p = newPhas", "refused syntax 1 at 4\n"),
     ("p = newPhase", "refused syntax 1 at 4\n"),
     ("p = newPhaser", "refused syntax 2 at 13\n"),
+    ("p = newPhaser(", "refused syntax 2 at 14\n"),
     ("p = newPhaser()", "refused syntax 2 at 15\n"),
     // each kind of the check
     ("adv(q);", "refused check 1 statement 1\n"),
