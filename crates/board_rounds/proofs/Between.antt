@@ -116,7 +116,7 @@ module _ (f : Frame) (owns : List (List Action)) (olds news : List Working) (eac
   each_none : (w : Working) → Contains olds w → w.children ≡ []
   each_none = to_each (λ (w : Working). w.children ≡ []) olds none
 
-  pub then_starts : (k : Known) → IsChildIn news k → IsAtStart k
+  pub then_starts : (k : Known) → IsChildIn news k → IsAtStart f.plan k
   then_starts = starts f owns olds news each each_none
 
   abbrev next : List Working

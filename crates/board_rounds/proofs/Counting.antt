@@ -1,18 +1,19 @@
 -- How many events a task has made.
-use Rattle.std.proofs.Common.{◌≡◌, ℕ, suc, ◌<◌, ◌≤◌, ◌+◌, ◌-◌, List, [], ◌∷◌, Option, Some, None, length, refl, ap, ◌∙◌, arith, inl, inr}
+use Rattle.std.proofs.Common.{◌≡◌, ℕ, suc, ◌<◌, ◌≤◌, ◌+◌, ◌-◌, List, [], ◌∷◌, ◌++◌, Option, Some, None, length, length-append, refl, sym, ap, ◌∙◌, arith, inl, inr}
 use Rattle.std.specs.Prelude.{is_some, if◌then◌else◌}
 use Rattle.armus_base.specs.Limits.{max_phasers}
-use Rattle.armus_base.specs.Plans.{Action, Advances, Blocks, Drops, Forks, Makes, Passes, Plan, Refuses, Registers, actions}
+use Rattle.armus_base.specs.Plans.{Action, Advances, Blocks, Drops, Forks, Makes, Passes, Plan, Refuses, Registers, actions, in_code}
 use Rattle.armus_base.specs.Runs.{IsByCode, Place, next_place}
 use Rattle.armus_base.specs.CheckedPlans.{IsCheckedPlan}
 use Rattle.pl_core.proofs.StepKinds.{few_actions}
 use Rattle.board.specs.Views.{own_place, task_of}
-use Rattle.board.specs.Seats.{Frame}
-use Rattle.board_rounds.specs.Turns.{LeadsByCode, Working}
+use Rattle.board.specs.Seats.{Frame, Known}
+use Rattle.board_rounds.specs.Turns.{Acts, AreChildSeats, CountsEvents, LeadsByCode, Working}
 use Rattle.board_rounds.specs.inside.Tasks.{MakesSome}
 use Rattle.board_rounds.specs.Crews.{progress_of}
 use Rattle.board_rounds.proofs.Advancing.{no_drop, task_further}
-use Rattle.board_rounds.proofs.Goings.{same_task}
+use Rattle.board_rounds.proofs.Crewing.{by_code_is, has_left}
+use Rattle.board_rounds.proofs.Goings.{no_seats, same_task}
 
 -- how many events lead to a place
 abbrev events_to : ℕ → Option ℕ → ℕ
@@ -52,11 +53,6 @@ undropped_more plan t a own b first last steps =
     let y : events_to b.done b.dropped ≡ b.done = ap (events_to b.done) last in
     omega arith)
 
--- How many events a turn has made so far: no more than the actions that its task has done, and then the refusal and the drops.
-pub record CountsEvents (own : ℕ) (now : Working) : Type 0 where
-  pub unrefused : (own_place now.seat.view).dropped ≡ None → own ≤ (own_place now.seat.view).done
-  pub few : own ≤ length (actions now.seat.view.plan (task_of now.seat.view)) + (max_phasers + 1)
-
 -- a task that makes some events was not refused
 pub was_unrefused : (f : Frame) (made : ℕ) (w v : Working) → MakesSome f made w v → (own_place w.seat.view).dropped ≡ None
 was_unrefused f made w v m = elim (no_drop (own_place w.seat.view).dropped) [
@@ -80,18 +76,48 @@ counts_on f own made w v c m =
       few = (let l = m.within in let k = m.few in omega arith);
     }
 
+-- who makes no step makes no event
+pub counts_still : (f : Frame) (n : ℕ) (w v : Working) → CountsEvents n w → Acts f [] w v → CountsEvents n v
+counts_still f n w v c acts =
+    let place : own_place v.seat.view ≡ own_place w.seat.view = acts.goes.place in
+    let same : length (actions v.seat.view.plan (task_of v.seat.view)) ≡ length (actions w.seat.view.plan (task_of w.seat.view)) =
+    (λ i. length (actions (acts.goes.same.plan i) (same_task w.seat v.seat acts.goes.same i))) in
+    record {
+      unrefused = λ none. (let l = c.unrefused (ap (λ (x : Place). x.dropped) (sym place) ∙ none) in let d = ap (λ (x : Place). x.done) place in omega arith);
+      few = (let l = c.few in omega arith);
+    }
+
 -- how much is left to a task, which falls with its events
 abbrev pub left_to_task : Working → ℕ
 left_to_task w = (length (actions w.seat.view.plan (task_of w.seat.view)) + 1) - progress_of w
 
+pub leaves_by : (f : Frame) (own : List Action) (w v : Working) → Acts f own w v → 0 < length own → left_to_task v < left_to_task w
+leaves_by f [] w v acts some = absurd (omega arith)
+leaves_by f (x ∷ own) w v acts some = elim (no_drop (own_place w.seat.view).dropped) [
+  | inl none ↦
+      let plan = w.seat.view.plan in
+      let t = task_of w.seat.view in
+      let k = (own_place w.seat.view).done in
+      let within = has_left plan t k (in_code x) (by_code_is plan t k (own_place w.seat.view).dropped x none acts.goes.place.0) in
+      let same : length (actions v.seat.view.plan (task_of v.seat.view)) ≡ length (actions plan t) = (λ i. length (actions (acts.goes.same.plan i) (same_task w.seat v.seat acts.goes.same i))) in
+      let more = task_further f (x ∷ own) w v acts some in
+      let first : progress_of w ≡ k = ap (λ o. k + (if is_some o then 1 else 0)) none ∙ (let z : k + 0 ≡ k = omega arith in z) in
+      omega arith
+  | inr some ↦ absurd (let e : suc (length own) ≡ 0 = ap length (acts.refused some) in omega arith)
+]
+
 pub leaves_less : (f : Frame) (made : ℕ) (w v : Working) → MakesSome f made w v → left_to_task v < left_to_task w
-leaves_less f made w v m =
-    let same : length (actions v.seat.view.plan (task_of v.seat.view)) ≡ length (actions w.seat.view.plan (task_of w.seat.view)) =
-    (λ i. length (actions (m.acts.goes.same.plan i) (same_task w.seat v.seat m.acts.goes.same i))) in
-    let more = task_further f m.own w v m.acts (let n = m.counted in let s = m.some in omega arith) in
-    let first : progress_of w ≡ (own_place w.seat.view).done =
-    ap (λ o. (own_place w.seat.view).done + (if is_some o then 1 else 0)) (was_unrefused f made w v m) ∙ (let z : (own_place w.seat.view).done + 0 ≡ (own_place w.seat.view).done = omega arith in z) in
-    (let l = m.within in omega arith)
+leaves_less f made w v m = leaves_by f m.own w v m.acts (let n = m.counted in let s = m.some in omega arith)
+
+-- who has forked a task has made a step
+pub forked_some : (f : Frame) (own : List Action) (w v : Working) (seat : Known) → Acts f own w v → v.children ≡ w.children ++ seat ∷ [] → 0 < length own
+forked_some f [] w v seat acts forked =
+    (let a = ap length (acts.children ∙ ap (λ ks. w.children ++ ks) (no_seats acts.seats)) in
+    let b = ap length forked in
+    let c = length-append w.children [] in
+    let d = length-append w.children (seat ∷ []) in
+    absurd (omega arith))
+forked_some f (x ∷ own) w v seat acts forked = omega arith
 
 pub counts_nothing : (w : Working) → CountsEvents 0 w
 counts_nothing w = record { unrefused = λ none. omega arith; few = omega arith }

@@ -38,7 +38,7 @@ some_same (Passes p) c e = absurd (cc)
 some_same (Refuses p) c e = absurd (cc)
 
 -- a task that has a next action has done fewer than it has
-has_left : (plan : Plan) (t k : ℕ) (x : Action) → action_at plan t k ≡ Some x → k < length (actions plan t)
+pub has_left : (plan : Plan) (t k : ℕ) (x : Action) → action_at plan t k ≡ Some x → k < length (actions plan t)
 unfolding action_at
 has_left plan t k x e = slice_get_within (actions plan t) k x e
 
@@ -211,9 +211,9 @@ module _ (f : Frame) (owns : List (List Action)) (olds news : List Working) (Oth
 
 -- a child that was forked in a round has made no step
 module _ (f : Frame) (owns : List (List Action)) (olds news : List Working) (each : EachActs f owns olds news) (none : (w : Working) → Contains olds w → w.children ≡ []) where
-  pub starts : (k : Known) → IsChildIn news k → IsAtStart k
+  pub starts : (k : Known) → IsChildIn news k → IsAtStart f.plan k
   starts k child =
       let r = was child.0 each child.1 in
       let seats : AreChildSeats f (forks_of r.1) child.0.children = subst (AreChildSeats f (forks_of r.1)) (sym (r.3.children ∙ ap (λ ks. ks ++ r.3.new) (none r.0 r.2))) r.3.seats in
       let s = child_is k seats child.2 in
-      (s.1.first, s.1.free)
+      (s.1.first, s.1.free, s.1.of_board.plan)

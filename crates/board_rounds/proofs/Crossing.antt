@@ -19,13 +19,13 @@ use Rattle.phase_scan.proofs.Sending.{cells_send}
 use Rattle.board_rounds.specs.contracts.task.Task as tasks
 use Rattle.board_rounds.specs.contracts.worker_cells.WorkerCells as rooms
 
--- a task may be handed to a thread
-pub task_send : IsSend tasks.the_row
-task_send = search (sendable, crosses, task_seat_send, heap.the_send, heap.the_sync) depth 30
-
 -- threads may share a plan
 pub plan_sync : IsSync plans.the_row
 plan_sync = search (sendable, crosses, plan_crosses.the_sync) depth 30
+
+-- a task may be handed to a thread
+pub task_send : (a : NamedLft) → IsSend (tasks.the_row a)
+task_send a = search (sendable, crosses, plan_sync, task_seat_send, heap.the_send, heap.the_sync) depth 30
 
 pub global_sync : IsSync global.the_row
 global_sync = search (sendable, crosses, heap.the_send, heap.the_sync) depth 30
@@ -38,9 +38,9 @@ pub worker_cells_send : IsSend rooms.the_row
 worker_cells_send = search (sendable, crosses, cells_send) depth 30
 
 pub turns_send :
-    (ν : Sym) (a b c d e h i j k : NamedLft) (X Y : RattleType) (one : One X.mir) (other : One Y.mir) → IsSync X → IsSync Y →
+    (ν : Sym) (a b c e h i j k : NamedLft) (X Y Z : RattleType) (one : One X.mir) (other : One Y.mir) (third : One Z.mir) → IsSync X → IsSync Y → IsSend Z →
     IsSend (TupleAt ν
-    ((shr_ref_field a X one).row ∷ (shr_ref_field b global.the_row tt).row ∷ (shr_ref_field c boards.the_row tt).row ∷ (shr_ref_field d plans.the_row tt).row
+    ((shr_ref_field a X one).row ∷ (shr_ref_field b global.the_row tt).row ∷ (shr_ref_field c boards.the_row tt).row
     ∷ (shr_ref_field e wanteds.the_row tt).row ∷ (shr_ref_field h Y other).row ∷ (shr_ref_field i u8-field.row tt).row ∷ (mut_slice_field j rooms.the_row tt).row
-    ∷ (mut_slice_field k tasks.the_row tt).row ∷ []))
-turns_send ν a b c d e h i j k X Y one other x y = search (sendable, global_sync, board_sync, plan_sync, wanted_sync, worker_cells_send, task_send) depth 30
+    ∷ (mut_slice_field k Z third).row ∷ []))
+turns_send ν a b c e h i j k X Y Z one other third x y z = search (sendable, global_sync, board_sync, wanted_sync, worker_cells_send) depth 30

@@ -1,5 +1,5 @@
 -- What steps and loads make of a task, one after the other.
-use Rattle.std.proofs.Common.{◌≡◌, ◌≢◌, ℕ, ◌<◌, ◌≤◌, List, [], ◌∷◌, ◌++◌, Option, Some, None, length, sym, refl, ap, ◌∙◌, subst, append-nil, append_assoc, inl, inr, ◌+◌}
+use Rattle.std.proofs.Common.{◌≡◌, ◌≢◌, ℕ, ◌<◌, ◌≤◌, List, [], ◌∷◌, ◌++◌, Option, Some, None, length, sym, refl, ap, ◌∙◌, subst, append-nil, append_assoc, inl, inr, ◌+◌, arith}
 use Rattle.std.specs.Prelude.{IsSome, unwrap_or}
 use Rattle.std.proofs.lemmas.Bool.{cases_eq, false≢true}
 use Rattle.armus_base.specs.Limits.{max_phasers}
@@ -37,6 +37,23 @@ forks_on (Refuses p ∷ xs) ys = forks_on xs ys
 pub children_on : {f : Frame} {cs : List ℕ} {ks : List Known} (ds : List ℕ) (js : List Known) → AreChildSeats f cs ks → AreChildSeats f ds js → AreChildSeats f (cs ++ ds) (ks ++ js)
 children_on ds js no_child q = q
 children_on ds js (one_child c p) q = one_child c (children_on ds js p q)
+
+-- there is a seat for each child
+seats_counted : {f : Frame} {cs : List ℕ} {ks : List Known} → AreChildSeats f cs ks → length ks ≡ length cs
+seats_counted no_child = refl
+seats_counted (one_child c p) = (let n = seats_counted p in omega arith)
+
+pub no_seats : {f : Frame} {ks : List Known} → AreChildSeats f [] ks → ks ≡ []
+no_seats no_child = refl
+
+-- a list of one element at most
+pub none_in : {A : Type 0} (xs : List A) → length xs ≤ 0 → xs ≡ []
+none_in [] few = refl
+none_in (x ∷ xs) few = absurd (omega arith)
+
+pub one_in : {A : Type 0} (xs : List A) → length xs ≤ 1 → 0 < length xs → (x : A) × xs ≡ x ∷ []
+one_in [] few some = absurd (omega arith)
+one_in (x ∷ xs) few some = (x, ap (λ ys. x ∷ ys) (none_in xs (omega arith)))
 
 pub same_itself : (k : Known) → IsSameSeat k.view k.view
 same_itself k = record { plan = refl; mode = refl; own = refl; holds = refl; spent = refl; count = refl }
@@ -176,6 +193,10 @@ acts_alone f own k m cs none goes refused =
 pub acts_itself : (f : Frame) (w : Working) → IsSeat w.seat → Acts f [] w w
 acts_itself f w seat = acts_alone f [] w.seat w.seat w.children refl (goes_itself w.seat seat) (λ _. refl)
 
+-- who has made no step has forked nobody
+pub no_child_made : (f : Frame) (w v : Working) → Acts f [] w v → v.children ≡ w.children
+no_child_made f w v acts = acts.children ∙ ap (λ ks. w.children ++ ks) (no_seats acts.seats) ∙ append-nil w.children
+
 pub acts_on : (f : Frame) (a b c : Working) (xs ys : List Action) → Acts f xs a b → Acts f ys b c → Acts f (xs ++ ys) a c
 acts_on f a b c xs ys p q =
     record {
@@ -192,9 +213,9 @@ acts_on f a b c xs ys p q =
 -- steps that begin with one of the code of a task that is not refused, and the seats of the children that it forks by them
 pub some_steps :
     (f : Frame) (own : List Action) (k m : Known) (cs ds new : List Known) (made : ℕ) (x : Action) → IsSeat k → next_action k.view ≡ Some x → Goes own k m →
-    ds ≡ cs ++ new → AreChildSeats f (forks_of own) new → made ≡ length own → 0 < made → made ≤ max_phasers + 1 →
+    ds ≡ cs ++ new → AreChildSeats f (forks_of own) new → length (forks_of own) ≤ 1 → made ≡ length own → 0 < made → made ≤ max_phasers + 1 →
     MakesSome f made (record { seat = k; children = cs }) (record { seat = m; children = ds })
-some_steps f own k m cs ds new made x seat next goes grown seats counted some few =
+some_steps f own k m cs ds new made x seat next goes grown seats one counted some few =
     let there = next_there k.view x next in
     record {
       own = own;
@@ -203,6 +224,7 @@ some_steps f own k m cs ds new made x seat next goes grown seats counted some fe
       some = some;
       few = few;
       within = action_within k.view.plan seat.checked (task_of k.view) (own_place k.view).done x there.1;
+      one_child = (let n = seats_counted seats in omega arith);
     }
 
 -- steps that fork nobody
@@ -211,7 +233,7 @@ pub some_alone :
     forks_of own ≡ [] → made ≡ length own → 0 < made → made ≤ max_phasers + 1 →
     MakesSome f made (record { seat = k; children = cs }) (record { seat = m; children = cs })
 some_alone f own k m cs made x seat next goes none counted some few =
-    some_steps f own k m cs cs [] made x seat next goes (sym (append-nil cs)) (subst (λ ds. AreChildSeats f ds []) (sym none) no_child) counted some few
+    some_steps f own k m cs cs [] made x seat next goes (sym (append-nil cs)) (subst (λ ds. AreChildSeats f ds []) (sym none) no_child) (let n = ap length none in omega arith) counted some few
 
 -- loads, and then one step
 pub goes_then : (k m n : Known) (t : ℕ) (x : Action) → k.view.own ≡ Some t → IsSeat k → LoadsAlone k m → Goes (x ∷ []) m n → Goes (x ∷ []) k n

@@ -70,6 +70,15 @@ refused_done k (Some d) p e = absurd (cc)
 no_seat : (f : Frame) (cs : List ℕ) (seats : List Known) → cs ≡ [] → AreChildSeats f cs seats → AreChildSeats f [] seats
 no_seat f cs seats e are = subst (λ ds. AreChildSeats f ds seats) e are
 
+-- an op forks one task at most
+one_fork : (op : Op) → length (forks_of (begins op ∷ [])) ≤ 1
+one_fork (Make p) = omega arith
+one_fork (Reg c p) = omega arith
+one_fork (Fork c) = omega arith
+one_fork (Adv p) = omega arith
+one_fork (Drop p) = omega arith
+one_fork (Await p off) = omega arith
+
 -- what came of each op
 begins_goes : (op : Op) (k m : Known) → BeginsOp op k m Begun → Goes (begins op ∷ []) k m
 begins_goes (Make p) k m b = b
@@ -138,7 +147,7 @@ module _ (f : Frame) (begun events : ℕ) (k m : Known) (cs ds : List Known) (op
     -- the op has begun
     pub begun_makes : BeginsOp op k m Begun → MakesSome f 1 before now
     begun_makes is =
-        some_steps f (begins op ∷ []) k m cs ds new 1 (begins op) b.seat (before_next begun op k b) (begins_goes op k m is) grown seats refl (omega arith) (omega arith)
+        some_steps f (begins op ∷ []) k m cs ds new 1 (begins op) b.seat (before_next begun op k b) (begins_goes op k m is) grown seats (one_fork op) refl (omega arith) (omega arith)
 
     pub begun_come : BeginsOp op k m Begun → HasCome m (begun + 1) (events + 1) false
     begun_come is =
@@ -176,6 +185,7 @@ module _ (f : Frame) (begun events : ℕ) (k m : Known) (cs ds : List Known) (op
       refused_makes =
           some_steps f (Refuses r.1 ∷ drops_below (own_phase k.view) (length k.view.plan.makers)) k m cs ds new (n + 1) (begins op) b.seat (before_next begun op k b) r.3.goes grown
           (subst (λ es. AreChildSeats f es new) (sym (drops_fork_nobody (own_phase k.view) (length k.view.plan.makers))) (no_seat f (forks_of (begins op ∷ [])) new r.0 seats))
+          (let n = ap length (drops_fork_nobody (own_phase k.view) (length k.view.plan.makers)) in omega arith)
           (let c = r.3.counted in let l = drops_counted (own_phase k.view) (length k.view.plan.makers) in omega arith) (omega arith) (let l = few in omega arith)
 
       pub refused_fits : n + 1 < 2 ^ 32

@@ -20,8 +20,8 @@ pub has_begun : (t : Inside) → IsWorking t → (own_place t.seat.view).dropped
 has_begun t w none = by_flag t.refused refl
   where
     by_flag : (b : Bool) → t.refused ≡ b → (t.refused ≡ false) × HasBegun t.begun t.seat
-    by_flag true e = absurd (false≢true (subst IsSome none (w.left e).refused))
-    by_flag false e = (e, w.begun_are e)
+    by_flag true e = absurd (false≢true (subst IsSome none (w.come.left e).refused))
+    by_flag false e = (e, w.come.begun_are e)
 
 module _ (f : Frame) (t : Inside) (m n : Known) (own : ℕ) (w : IsWorking t) (none : (own_place t.seat.view).dropped ≡ None) (own_is : t.seat.view.own ≡ Some own) (seat : IsSeat t.seat) (event : IsSome (event_of t.seat)) (goes : LoadsAlone t.seat m) (pass : MakesPass m n) where
   pub record Passed : Type 0 where
@@ -45,11 +45,14 @@ module _ (f : Frame) (t : Inside) (m n : Known) (own : ℕ) (w : IsWorking t) (n
       ∙ (let same : (own_place m.view).done ≡ (own_place t.seat.view).done = ap (λ (x : Place). x.done) (own_stays t.seat m own own_is seat goes) in omega arith) in
       record {
         working = record {
-          free = step.same.holds ∙ goes.same.holds ∙ w.free;
-          events_are = (let n = w.events_are in omega arith);
-          begun_are = λ _. begun_passed t.begun m n e.0 own (goes.same.own ∙ own_is) begun is step;
-          left = λ e. absurd (false≢true (sym was.0 ∙ e));
+          come = record {
+            free = step.same.holds ∙ goes.same.holds ∙ w.come.free;
+            events_are = (let n = w.come.events_are in omega arith);
+            begun_are = λ _. begun_passed t.begun m n e.0 own (goes.same.own ∙ own_is) begun is step;
+            left = λ e. absurd (false≢true (sym was.0 ∙ e));
+          };
+          plan = step.same.plan ∙ goes.same.plan ∙ w.plan;
         };
-        fits = (let l = events_fit t.seat.view.plan (task_of t.seat.view) (own_place t.seat.view).done seat.checked some.within in let n = w.events_are in omega arith);
+        fits = (let l = events_fit t.seat.view.plan (task_of t.seat.view) (own_place t.seat.view).done seat.checked some.within in let n = w.come.events_are in omega arith);
         some = some;
       }

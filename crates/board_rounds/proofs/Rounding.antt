@@ -1,11 +1,23 @@
 -- Turns one after the other, and side by side.
-use Rattle.std.proofs.Common.{◌≡◌, ℕ, zero, suc, ◌+◌, ◌<◌, List, [], ◌∷◌, ◌++◌, Result, Ok, Err, IfOk, All, length, length-append, map, set, get_or, subst, arith, false, ◌∙◌}
+use Rattle.std.proofs.Common.{◌≡◌, ℕ, zero, suc, ◌+◌, ◌<◌, List, [], ◌∷◌, ◌++◌, Result, Ok, Err, IfOk, All, length, length-append, map, set, get_or, refl, ap, sym, subst, arith, false, ◌∙◌}
+use Rattle.std.proofs.lemmas.List.{map-append, map-id}
 use Rattle.std.proofs.lemmas.List.Elements.{All-append}
 use Rattle.std.proofs.lemmas.List.Sums.{sum_by-append}
 use Rattle.armus_base.specs.Plans.{Action}
 use Rattle.board.specs.Seats.{Frame}
 use Rattle.board_rounds.specs.Turns.{Acts, EachActs, EndsTurn, MayTakeTurn, TakesTurns, Working, no_task, one_task}
 use Rattle.board_rounds.proofs.Goings.{acts_itself}
+
+-- what is read and written in a list, through a function
+pub map_get : {A B : Type 0} (f : A → B) (xs : List A) (n : ℕ) (d : A) → get_or (map f xs) n (f d) ≡ f (get_or xs n d)
+map_get f [] n d = refl
+map_get f (x ∷ xs) zero d = refl
+map_get f (x ∷ xs) (suc n) d = map_get f xs n d
+
+pub map_set : {A B : Type 0} (f : A → B) (xs : List A) (n : ℕ) (v : A) → map f (set xs n v) ≡ set (map f xs) n (f v)
+map_set f [] n v = refl
+map_set f (x ∷ xs) zero v = refl
+map_set f (x ∷ xs) (suc n) v = ap (λ ys. f x ∷ ys) (map_set f xs n v)
 
 -- the first n tasks have made their own steps and ended their turns, and the others have made none
 pub data IsSoFar (f : Frame) : ℕ → List (List Action) → List Working → List Working → Type 0 where
@@ -123,3 +135,33 @@ pub both_each :
     {E : Type 0} (f : Frame) (olds news olds' news' : List Working) (x y : Result ℕ E) → TakesTurns f olds news x → TakesTurns f olds' news' y →
     (owns : List (List Action)) × EachActs f owns (olds ++ olds') (news ++ news')
 both_each f olds news olds' news' x y p q = (p.owns ++ q.owns, each_on q.owns olds' news' p.each q.each)
+
+-- the same through a function
+pub over_both :
+    {T E : Type 0} (f : Frame) (w : T → Working) (ts a b x y : List T) (r : Result ℕ E) → ts ≡ a ++ b → TakesTurns f (map w a ++ map w b) (map w x ++ map w y) r →
+    TakesTurns f (map w ts) (map w (x ++ y)) r
+over_both f w ts a b x y r whole turns =
+    subst (λ (ws : List Working). TakesTurns f ws (map w (x ++ y)) r) (sym (ap (map w) whole ∙ map-append w a b))
+    (subst (λ (ws : List Working). TakesTurns f (map w a ++ map w b) ws r) (sym (map-append w x y)) turns)
+
+-- and where the function changes nothing
+pub of_itself : {E : Type 0} (f : Frame) (olds news : List Working) (r : Result ℕ E) → TakesTurns f (map (λ w. w) olds) (map (λ w. w) news) r → TakesTurns f olds news r
+of_itself f olds news r turns =
+    subst (λ (ws : List Working). TakesTurns f ws news r) (map-id olds) (subst (λ (ws : List Working). TakesTurns f (map (λ w. w) olds) ws r) (map-id news) turns)
+
+pub ready_itself : (f : Frame) (ws : List Working) → All (MayTakeTurn f) ws → All (MayTakeTurn f) (map (λ w. w) ws)
+ready_itself f ws all = subst (λ (vs : List Working). All (MayTakeTurn f) vs) (sym (map-id ws)) all
+
+pub ready_both :
+    {T : Type 0} (f : Frame) (w : T → Working) (ts a b : List T) → ts ≡ a ++ b → All (MayTakeTurn f) (map w ts) → All (MayTakeTurn f) (map w a) × All (MayTakeTurn f) (map w b)
+ready_both f w ts a b whole all =
+    let both = subst (λ (ws : List Working). All (MayTakeTurn f) ws) (ap (map w) whole ∙ map-append w a b) all in
+    (all_front (MayTakeTurn f) (map w a) (map w b) both, all_back (MayTakeTurn f) (map w a) (map w b) both)
+  where
+    all_front : (P : Working → Type 0) (xs ys : List Working) → All P (xs ++ ys) → All P xs
+    all_front P [] ys all = all_none P
+    all_front P (x ∷ xs) ys all = all_more P x xs (all_first P x (xs ++ ys) all) (all_front P xs ys (all_rest P x (xs ++ ys) all))
+
+    all_back : (P : Working → Type 0) (xs ys : List Working) → All P (xs ++ ys) → All P ys
+    all_back P [] ys all = all
+    all_back P (x ∷ xs) ys all = all_back P xs ys (all_rest P x (xs ++ ys) all)

@@ -1,7 +1,8 @@
 -- What the turns of tasks make of their seats and of their children's.
 use Rattle.std.specs.Prelude.{true, ◌≡◌, ◌≢◌, ℕ, ◌+◌, ◌<◌, ◌≤◌, ◌⊎◌, false, List, [], ◌∷◌, ◌++◌, Some, None, length, IsSome, is_some, Result, IfOk, OnOk, All, sum_by, ◌*◌}
 use Rattle.armus_base.specs.declared.event.Event.{Event}
-use Rattle.armus_base.specs.Plans.{Plan, Action, Forks, action_at}
+use Rattle.armus_base.specs.Limits.{max_phasers}
+use Rattle.armus_base.specs.Plans.{Plan, Action, Forks, action_at, actions}
 use Rattle.armus_base.specs.Runs.{Place, IsByCode, IsPrefix, first_place, next_place}
 use Rattle.armus_base.specs.Places.{phases_at_place}
 use Rattle.armus_base.specs.Seats.{MayHold}
@@ -10,6 +11,8 @@ use Rattle.board.specs.Views.{avoids, own_place, seen, task_of}
 use Rattle.board.specs.Steps.{IsSameSeat, own_phase}
 use Rattle.board.specs.Locking.{IsBeforeAwait}
 use Rattle.board.specs.Seats.{Frame, IsOf, IsSeat, Known, event_of}
+use Rattle.board_rounds.specs.declared.task.Pause.{Pause}
+use Rattle.board_rounds.specs.declared.task.Pause.TheVariants.{Forked, TurnOver}
 
 -- a task: its own seat, and the seats of the children that it has forked
 pub record Working : Type 0 where
@@ -58,6 +61,11 @@ pub record Acts (board : Frame) (own : List Action) (before now : Working) : Typ
   pub children : now.children ≡ before.children ++ new
   pub seats : AreChildSeats board (forks_of own) new
 
+-- How many events of a task are counted: no more than the actions that it has done, and then a refusal and a drop of each phaser.
+pub record CountsEvents (counted : ℕ) (now : Working) : Type 0 where
+  pub unrefused : (own_place now.seat.view).dropped ≡ None → counted ≤ (own_place now.seat.view).done
+  pub few : counted ≤ length (actions now.seat.view.plan (task_of now.seat.view)) + (max_phasers + 1)
+
 -- task u is seen where nothing is seen of it, or as a member of the event's phaser below its phase
 abbrev pub IsSeenBehind : Known → Event → ℕ → Type 0
 IsSeenBehind seat e u =
@@ -95,6 +103,11 @@ pub data EndsTurn (seat : Known) : Type 0 where
   is_locked_out :
       (u : ℕ) → avoids seat.view.mode ≡ true → IsBeforeAwait seat → u ≢ task_of seat.view →
       MayHold seat.view.plan u ((seen seat.view).places u) → EndsTurn seat
+
+-- Why a task acts no further: it has forked a task, whose seat is new among its children's; or its turn is over, and it has forked nobody.
+abbrev pub PausesAt : Pause → Working → Working → Type 0
+PausesAt Forked before now = (seat : Known) × now.children ≡ before.children ++ seat ∷ []
+PausesAt TurnOver before now = EndsTurn now.seat × now.children ≡ before.children
 
 -- a task of this board whose turn may come: its seat does not hold the lock
 pub record MayTakeTurn (board : Frame) (task : Working) : Type 0 where

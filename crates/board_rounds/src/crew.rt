@@ -25,14 +25,14 @@ use std::thread::Threads;
 
 /// The tasks of a run on a board: those that live, in order of number, and those that act no more.
 #[derive(Drop)]
-pub struct Crew {
-    pub(crate) live: Vec<Task>,
-    pub(crate) ended: Vec<Task>,
+pub struct Crew<'p> {
+    pub(crate) live: Vec<Task<'p>>,
+    pub(crate) ended: Vec<Task<'p>>,
     // of each worker
     cells: Vec<WorkerCells>,
 }
 
-impl Model for Crew {
+impl<'p> Model for Crew<'p> {
     ghost use Rattle.board_rounds.specs.Crews.{Tasks};
 
     ghost Value = { Tasks };
@@ -42,15 +42,21 @@ impl Model for Crew {
     ghost view = { tasks_of };
 }
 
-impl Crew {
+impl<'p> Crew<'p> {
     /// Task 0 alone, whose seat this is, before its first step.
-    pub fn start(alloc: Global, board: &Board, seat: TaskSeat) -> Result<Crew, NoMemory>
+    pub fn start(
+        alloc: Global,
+        board: &Board,
+        seat: TaskSeat,
+        plan: &'p Plan,
+    ) -> Result<Crew<'p>, NoMemory>
+        requires plan { board.now.plan ≡ plan.now }
         requires new { IsNewSeat board.now (Some 0) (seen_by_child 0 nothing_seen) seat }
         ensures tasks { IfOk result (AreTasksOf board.now) }
     {
         let _ = board;
         let mut live = Vec::new(alloc);
-        live.push(Task::new(alloc, seat))?;
+        live.push(Task::new(alloc, seat, plan))?;
         Ok(Crew {
             live,
             ended: Vec::new(alloc),
@@ -72,7 +78,7 @@ impl Crew {
         rt: &R,
         alloc: Global,
         board: &Board,
-        plan: &Plan,
+        plan: &'p Plan,
         wanted: Wanted,
         workers: u8,
         gate: &G,
@@ -87,7 +93,7 @@ impl Crew {
         let cells = self.cells.as_mut_slice();
         let live = &mut self.live;
         let made = go_round(rt, alloc, board, plan, wanted, workers, gate, cells, live)?;
-        retire(alloc, plan, &mut self.live, &mut self.ended)?;
+        retire(alloc, &mut self.live, &mut self.ended)?;
         Ok(made)
     }
 
@@ -114,7 +120,7 @@ impl Crew {
         requires tasks { AreTasksOf board.now self }
         requires unknown { (u : ℕ) → (seen view.old.view).exact u ≡ false }
         ensures made { IsOf view.new board.now }
-        ensures known { KnowsTasks board.now (all_of self) view.new }
+        ensures known { KnowsTasks board.now (all_of self.entry) view.new }
         ensures same { IsSameSeat view.old.view view.new.view }
         ensures kept { IsSeat view.old → IsSeat view.new }
     {
@@ -124,16 +130,16 @@ impl Crew {
 }
 
 // One turn of each of these tasks, after which the children whom they forked are tasks among them, in order of number.
-fn go_round<R: Threads + Sync, G: Gate>(
+fn go_round<'p, R: Threads + Sync, G: Gate>(
     rt: &R,
     alloc: Global,
     board: &Board,
-    plan: &Plan,
+    plan: &'p Plan,
     wanted: Wanted,
     workers: u8,
     gate: &G,
     cells: &mut [WorkerCells],
-    tasks: &mut Vec<Task>,
+    tasks: &mut Vec<Task<'p>>,
 ) -> Result<u32, NoMemory>
     requires plan { board.now.plan ≡ plan.now }
     requires ready { All (MayTakeTurn board.now) tasks.old.items }
@@ -144,17 +150,17 @@ fn go_round<R: Threads + Sync, G: Gate>(
     ensures round { IfOk result (MakesRound board.now tasks.old.items tasks.new.items) }
 {
     let turned = tasks.as_mut_slice();
-    let made = take_turns(rt, alloc, board, plan, wanted, gate, workers, cells, turned)?;
-    take_on(alloc, tasks)?;
+    let made = take_turns(rt, &alloc, board, &wanted, gate, workers, cells, turned)?;
+    take_on(alloc, plan, tasks)?;
     Ok(made)
 }
 
 // Makes tasks of the children's seats that these tasks have, and puts them among them, in order of number.
-fn take_on(alloc: Global, tasks: &mut Vec<Task>) -> Result<(), NoMemory>
-    requires start { (seat : Known) → IsChildIn tasks.old.items seat → IsAtStart seat }
+fn take_on<'p>(alloc: Global, plan: &'p Plan, tasks: &mut Vec<Task<'p>>) -> Result<(), NoMemory>
+    requires start { (seat : Known) → IsChildIn tasks.old.items seat → IsAtStart plan.now seat }
     ensures joined { OnOk result (IsPermutation (map emptied tasks.old.items ++ flat_map fresh_of tasks.old.items) tasks.new.items) }
 {
-    let mut children = new_tasks(alloc, tasks.as_mut_slice())?;
+    let mut children = new_tasks(alloc, plan, tasks.as_mut_slice())?;
     if children.is_empty() {
         return Ok(());
     }
@@ -164,66 +170,72 @@ fn take_on(alloc: Global, tasks: &mut Vec<Task>) -> Result<(), NoMemory>
 }
 
 // Makes tasks of the children's seats that these tasks have, in order.
-fn new_tasks(alloc: Global, tasks: &mut [Task]) -> Result<Vec<Task>, NoMemory>
-    requires start { (seat : Known) → IsChildIn tasks.old seat → IsAtStart seat }
+fn new_tasks<'p>(
+    alloc: Global,
+    plan: &'p Plan,
+    tasks: &mut [Task<'p>],
+) -> Result<Vec<Task<'p>>, NoMemory>
+    requires start { (seat : Known) → IsChildIn tasks.old seat → IsAtStart plan.now seat }
     ensures tasks { OnOk result (tasks.new ≡ map emptied tasks.old) }
     ensures children { IfOk result (λ v. v.items ≡ flat_map fresh_of tasks.old) }
 {
     let mut children = Vec::new(alloc);
     for task in tasks.iter_mut() {
-        add_children(alloc, task, &mut children)?;
+        add_children(alloc, plan, task, &mut children)?;
     }
     Ok(children)
 }
 
 // Makes tasks of the children's seats that a task has.
-fn add_children(alloc: Global, task: &mut Task, children: &mut Vec<Task>) -> Result<(), NoMemory>
+fn add_children<'p>(
+    alloc: Global,
+    plan: &'p Plan,
+    task: &mut Task<'p>,
+    children: &mut Vec<Task<'p>>,
+) -> Result<(), NoMemory>
     requires first { All (λ seat. own_place seat.view ≡ first_place) task.old.children }
     requires free { All (λ seat. seat.view.holds ≡ false) task.old.children }
+    requires plan { All (λ seat. seat.view.plan ≡ plan.now) task.old.children }
     ensures task { OnOk result (task.new ≡ emptied task.old) }
     ensures children { OnOk result (children.new.items ≡ children.old.items ++ fresh_of task.old) }
 {
     let seats = task.take_children(alloc).into_vec();
     for seat in seats {
-        children.push(Task::new(alloc, seat))?;
+        children.push(Task::new(alloc, seat, plan))?;
     }
     Ok(())
 }
 
 // Takes the tasks that act no more out of those that live.
-fn retire(
+fn retire<'p>(
     alloc: Global,
-    plan: &Plan,
-    live: &mut Vec<Task>,
-    ended: &mut Vec<Task>,
+    live: &mut Vec<Task<'p>>,
+    ended: &mut Vec<Task<'p>>,
 ) -> Result<(), NoMemory>
-    requires plan { All (λ task. task.seat.view.plan ≡ plan.now) live.old.items }
     requires ended { All (λ task. ActsNoMore task.seat) ended.old.items }
     ensures same { OnOk result (IsPermutation (live.old.items ++ ended.old.items) (live.new.items ++ ended.new.items)) }
     ensures ended { OnOk result (All (λ task. ActsNoMore task.seat) ended.new.items) }
 {
-    if !some_ended(plan, live.as_slice()) {
+    if !some_ended(live.as_slice()) {
         return Ok(());
     }
     let tasks = std::mem::replace(live, Vec::new(alloc));
-    sort_out(plan, tasks, live, ended)
+    sort_out(tasks, live, ended)
 }
 
 // Puts each of these tasks among those that live or, if it acts no more, among the ended ones.
-fn sort_out(
-    plan: &Plan,
-    tasks: Vec<Task>,
-    live: &mut Vec<Task>,
-    ended: &mut Vec<Task>,
+fn sort_out<'p>(
+    tasks: Vec<Task<'p>>,
+    live: &mut Vec<Task<'p>>,
+    ended: &mut Vec<Task<'p>>,
 ) -> Result<(), NoMemory>
-    requires plan { All (λ task. task.seat.view.plan ≡ plan.now) tasks.items }
     requires none { live.old.items ≡ [] }
     requires ended { All (λ task. ActsNoMore task.seat) ended.old.items }
-    ensures same { OnOk result (IsPermutation (ended.old.items ++ tasks.items) (live.new.items ++ ended.new.items)) }
+    ensures same { OnOk result (IsPermutation (ended.old.items ++ tasks.entry.items) (live.new.items ++ ended.new.items)) }
     ensures ended { OnOk result (All (λ task. ActsNoMore task.seat) ended.new.items) }
 {
     for task in tasks {
-        if task.has_ended(plan) {
+        if task.has_ended() {
             ended.push(task)?;
         } else {
             live.push(task)?;
@@ -233,11 +245,9 @@ fn sort_out(
 }
 
 // Whether one of these tasks acts no more.
-fn some_ended(plan: &Plan, tasks: &[Task]) -> bool
-    requires { All (λ task. task.seat.view.plan ≡ plan.now) tasks.now }
-{
+fn some_ended(tasks: &[Task<'_>]) -> bool {
     for task in tasks {
-        if task.has_ended(plan) {
+        if task.has_ended() {
             return true;
         }
     }

@@ -11,7 +11,7 @@ use board::{Board, ViewSeat};
 use pl_core::Place;
 
 // Notes the place of each of these tasks under its number.
-pub(crate) fn note_places(tasks: &[Task], places: &mut Vec<Place>)
+pub(crate) fn note_places(tasks: &[Task<'_>], places: &mut Vec<Place>)
     requires { All (λ task. number task < length places.old.items) tasks.now }
     ensures { NotesPlaces tasks.now places.old.items places.new.items }
 {
@@ -21,13 +21,13 @@ pub(crate) fn note_places(tasks: &[Task], places: &mut Vec<Place>)
 }
 
 // Takes the seats of these tasks in, one after the other.
-pub(crate) fn take_in_all(board: &Board, view: &mut ViewSeat, tasks: Vec<Task>)
+pub(crate) fn take_in_all(board: &Board, view: &mut ViewSeat, tasks: Vec<Task<'_>>)
     requires made { IsOf view.old board.now }
     requires seats { All (λ task. IsOf task.seat board.now) tasks.items }
     requires no_child { All (λ task. task.children ≡ []) tasks.items }
     ensures made { IsOf view.new board.now }
     ensures same { IsSameSeat view.old.view view.new.view }
-    ensures taken { TakesAll (map (λ (task : Working). task.seat) tasks.items) view.old view.new }
+    ensures taken { TakesAll (map (λ (task : Working). task.seat) tasks.entry.items) view.old view.new }
 {
     for task in tasks {
         view.take_in(board, task.into_seat());

@@ -2,13 +2,17 @@
 #![tactic(auto)]
 
 mod beginning;
+mod calling;
 mod crew;
 mod deciding;
 mod ending;
 mod rounds;
+mod taking_turns;
 mod task;
 mod worker_cells;
 
+pub use calling::Calls;
 pub use crew::Crew;
 pub use rounds::round;
-pub use task::Task;
+pub use task::{Acted, Pause, Task};
+pub use worker_cells::WorkerCells;

@@ -1,10 +1,12 @@
 // A round of turns by several workers.
 ghost use Rattle.std.specs.Thread.{IsSync};
-ghost use Rattle.std.specs.Prelude.{◌≡◌, ◌≤◌, All, false, length};
+ghost use Rattle.std.specs.Prelude.{◌≡◌, ◌≤◌, All, false, length, map};
 ghost use Rattle.armus_base.specs.Limits.{max_tasks};
 ghost use Rattle.board_rounds.specs.Turns.{MayTakeTurn, TakesTurns};
 
 use crate::Task;
+use crate::calling::Calls;
+use crate::taking_turns::TakeTurn;
 use crate::worker_cells::{WorkerCells, provide};
 use adaptive::Wanted;
 use armus_base::{Gate, NoMemory, Plan};
@@ -18,7 +20,7 @@ use std::thread::{Threads, join_mut};
 pub fn round<R: Threads + Sync, G: Gate>(
     rt: &R,
     alloc: Global,
-    tasks: &mut [Task],
+    tasks: &mut [Task<'_>],
     board: &Board,
     plan: &Plan,
     wanted: Wanted,
@@ -31,35 +33,58 @@ pub fn round<R: Threads + Sync, G: Gate>(
     ensures turns { TakesTurns board.now tasks.old tasks.new result }
     ensures free { All (λ task. task.seat.view.holds ≡ false) tasks.new }
 {
+    let _ = plan;
     let mut cells = Vec::new(alloc);
     provide(&mut cells, workers)?;
     let cells = cells.as_mut_slice();
-    take_turns(rt, alloc, board, plan, wanted, gate, workers, cells, tasks)
+    take_turns(rt, &alloc, board, &wanted, gate, workers, cells, tasks)
 }
 
 /// One turn of each of these tasks. With several workers the list is split into halves, which take their turns side by side, each with half of the
-/// workers; with one worker turns are taken in order. Each worker has cells of its own.
-pub(crate) fn take_turns<R: Threads + Sync, G: Gate>(
+/// workers; with one worker turns are taken in order. Each worker has cells of its own. What the halves share is lent: where a closure takes a struct by
+/// value, what the tasks are afterwards is not known.
+#[cycle(taking)]
+pub(crate) fn take_turns<T: TakeTurn + Send, R: Threads + Sync, C: Calls + Sync>(
     rt: &R,
-    alloc: Global,
+    alloc: &Global,
     board: &Board,
-    plan: &Plan,
-    wanted: Wanted,
-    gate: &G,
+    wanted: &Wanted,
+    gate: &C,
     workers: u8,
     cells: &mut [WorkerCells],
-    tasks: &mut [Task],
+    tasks: &mut [T],
 ) -> Result<u32, NoMemory>
-    requires ready { All (MayTakeTurn board.now) tasks.old }
-    requires plan { board.now.plan ≡ plan.now }
+    requires ready { All (MayTakeTurn board.now) (map T.working tasks.old) }
     requires few { length tasks.old ≤ max_tasks }
     requires enough { workers ≤ length cells.old }
     requires cells { 1 ≤ length cells.old }
-    ensures turns { TakesTurns board.now tasks.old tasks.new result }
+    ensures turns { TakesTurns board.now (map T.working tasks.old) (map T.working tasks.new) result }
 {
     if workers < 2 || tasks.len() < 2 {
-        return take_turns_in_order(alloc, board, plan, wanted, gate, &mut cells[0], tasks);
+        take_turns_in_order(*alloc, board, *wanted, gate, &mut cells[0], tasks)
+    } else {
+        take_turns_in_halves(rt, alloc, board, wanted, gate, workers, cells, tasks)
     }
+}
+
+// One turn of each of these tasks, of which there are several, by several workers: one half beside the other.
+#[cycle(taking)]
+fn take_turns_in_halves<T: TakeTurn + Send, R: Threads + Sync, C: Calls + Sync>(
+    rt: &R,
+    alloc: &Global,
+    board: &Board,
+    wanted: &Wanted,
+    gate: &C,
+    workers: u8,
+    cells: &mut [WorkerCells],
+    tasks: &mut [T],
+) -> Result<u32, NoMemory>
+    requires ready { All (MayTakeTurn board.now) (map T.working tasks.old) }
+    requires few { length tasks.old ≤ max_tasks }
+    requires enough { workers ≤ length cells.old }
+    requires several { 2 ≤ workers }
+    ensures turns { TakesTurns board.now (map T.working tasks.old) (map T.working tasks.new) result }
+{
     let few = workers / 2;
     let rest = workers - few;
     let (front_cells, back_cells) = cells.split_at_mut(few as usize);
@@ -67,47 +92,33 @@ pub(crate) fn take_turns<R: Threads + Sync, G: Gate>(
     let (first, second) = join_mut(
         rt,
         &mut || -> Result<u32, NoMemory>
-            requires { IsSync R.row × All (MayTakeTurn board.now) front.now × (board.now.plan ≡ plan.now) × (length front.now ≤ max_tasks) × (few ≤ length front_cells.now) × (1 ≤ length front_cells.now) }
-            ensures { TakesTurns board.entry.now front.entry.now front.exit.now result }
-        {
-            take_turns(
-                rt,
-                alloc,
-                board,
-                plan,
-                wanted,
-                gate,
-                few,
-                front_cells,
-                front,
-            )
-        },
+            requires { IsSync R.row × All (MayTakeTurn board.now) (map T.working front.now) × (length front.now ≤ max_tasks) × (few ≤ length front_cells.now) × (1 ≤ length front_cells.now) }
+            ensures { TakesTurns board.entry.now (map T.working front.entry.now) (map T.working front.exit.now) result }
+        { take_turns(rt, alloc, board, wanted, gate, few, front_cells, front) },
         &mut || -> Result<u32, NoMemory>
-            requires { IsSync R.row × All (MayTakeTurn board.now) back.now × (board.now.plan ≡ plan.now) × (length back.now ≤ max_tasks) × (rest ≤ length back_cells.now) × (1 ≤ length back_cells.now) }
-            ensures { TakesTurns board.entry.now back.entry.now back.exit.now result }
-        { take_turns(rt, alloc, board, plan, wanted, gate, rest, back_cells, back) },
+            requires { IsSync R.row × All (MayTakeTurn board.now) (map T.working back.now) × (length back.now ≤ max_tasks) × (rest ≤ length back_cells.now) × (1 ≤ length back_cells.now) }
+            ensures { TakesTurns board.entry.now (map T.working back.entry.now) (map T.working back.exit.now) result }
+        { take_turns(rt, alloc, board, wanted, gate, rest, back_cells, back) },
     );
     Ok(first? + second?)
 }
 
 // One turn of each of these tasks, in order.
-fn take_turns_in_order<G: Gate>(
+fn take_turns_in_order<T: TakeTurn, C: Calls>(
     alloc: Global,
     board: &Board,
-    plan: &Plan,
     wanted: Wanted,
-    gate: &G,
+    gate: &C,
     cells: &mut WorkerCells,
-    tasks: &mut [Task],
+    tasks: &mut [T],
 ) -> Result<u32, NoMemory>
-    requires ready { All (MayTakeTurn board.now) tasks.old }
-    requires plan { board.now.plan ≡ plan.now }
+    requires ready { All (MayTakeTurn board.now) (map T.working tasks.old) }
     requires few { length tasks.old ≤ max_tasks }
-    ensures turns { TakesTurns board.now tasks.old tasks.new result }
+    ensures turns { TakesTurns board.now (map T.working tasks.old) (map T.working tasks.new) result }
 {
     let mut made = 0;
     for task in tasks.iter_mut() {
-        made += task.turn(alloc, board, plan, wanted, cells, gate)?;
+        made += task.turn(alloc, board, wanted, cells, gate)?;
     }
     Ok(made)
 }

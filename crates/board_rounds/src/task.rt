@@ -4,24 +4,46 @@ ghost use Rattle.armus_base.specs.Plans.{Action};
 ghost use Rattle.armus_base.specs.Runs.{first_place};
 ghost use Rattle.board.specs.Views.{own_place};
 ghost use Rattle.board.specs.Seats.{IsOf, event_of};
-ghost use Rattle.board_rounds.specs.Turns.{Acts, ActsNoMore, EndsTurn, standing_of};
+ghost use Rattle.board_rounds.specs.Turns.{Acts, ActsNoMore, CountsEvents, EndsTurn, PausesAt, standing_of};
 ghost use Rattle.board_rounds.specs.inside.Tasks.{MakesSome};
 
 use crate::beginning::{begin, op_at};
+use crate::calling::Calls;
 use crate::deciding::Attempt;
+use crate::taking_turns::TakeTurn;
 use crate::worker_cells::WorkerCells;
 use adaptive::Wanted;
-use armus_base::{Gate, List, NoMemory, Plan, Point, TaskId};
+use armus_base::{List, NoMemory, Plan, Point, TaskId};
 use board::{Board, TaskSeat};
 use phase_scan::{Look, look};
 use pl_core::Place;
 use std::alloc::Global;
 use std::marker::Model;
 
+/// Why a task acts no further for now.
+#[derive(Clone, Copy, Debug, PartialEq, Eq)]
+pub enum Pause {
+    /// It has forked a task, whose seat is the last of its children's.
+    Forked,
+    /// Its turn is over.
+    TurnOver,
+}
+
+/// What a stretch of a turn was.
+#[derive(Clone, Copy, Debug, PartialEq, Eq)]
+pub struct Acted {
+    /// How many events happened by the task.
+    pub events: u32,
+    /// Why it acts no further.
+    pub pause: Pause,
+}
+
 /// A task of a run on a board. Contracts see its seat, and the seats of the children that it forked and that were not taken.
 #[derive(Drop)]
-pub struct Task {
+pub struct Task<'p> {
     seat: TaskSeat,
+    // of the board of the seat
+    plan: &'p Plan,
     // how many of its ops are begun
     begun: u32,
     // how many events of its code it has made
@@ -30,7 +52,7 @@ pub struct Task {
     children: Vec<TaskSeat>,
 }
 
-impl Model for Task {
+impl<'p> Model for Task<'p> {
     ghost use Rattle.board_rounds.specs.Turns.{Working};
 
     ghost Value = { Working };
@@ -42,16 +64,18 @@ impl Model for Task {
     ghost invariant = { IsWorking };
 }
 
-impl Task {
-    /// The task of a seat that has made no step. It stands before its first op, and has no child's seat.
-    pub fn new(alloc: Global, seat: TaskSeat) -> Task
+impl<'p> Task<'p> {
+    /// The task of a seat that has made no step, on a board of this plan. It stands before its first op, and has no child's seat.
+    pub fn new(alloc: Global, seat: TaskSeat, plan: &'p Plan) -> Task<'p>
         requires first { own_place seat.view ≡ first_place }
         requires free { seat.view.holds ≡ false }
+        requires plan { seat.view.plan ≡ plan.now }
         ensures seat { result.seat ≡ seat }
         ensures no_child { result.children ≡ [] }
     {
         Task {
             seat,
+            plan,
             begun: 0,
             events: 0,
             refused: false,
@@ -86,62 +110,65 @@ impl Task {
     }
 
     /// Whether it acts no more: its code is done, or it is refused.
-    pub fn has_ended(&self, plan: &Plan) -> bool
-        requires { self.now.seat.view.plan ≡ plan.now }
+    pub fn has_ended(&self) -> bool
         ensures { result ≡ true → ActsNoMore self.now.seat }
     {
         if self.refused {
             return true;
         }
-        let code = plan.code(self.seat.id());
+        let code = self.plan.code(self.seat.id());
         self.seat.event().is_none() && op_at(code, self.begun).is_none()
     }
 
     /// Its seat.
     pub fn into_seat(self) -> TaskSeat
         requires no_child { self.children ≡ [] }
-        ensures seat { result ≡ self.seat }
+        ensures seat { result ≡ self.entry.seat }
     {
         self.seat
     }
 
-    /// Its turn: it acts until it is done, or is published and finds a member behind, or is refused, or finds the lock taken. It answers how many events
-    /// happened. The gate is called before each op that it tries.
-    pub(crate) fn turn<G: Gate>(
+    /// A stretch of its turn: it acts until it has forked a task, or until its turn is over, as it is done, or is published and finds a member behind, or is
+    /// refused, or finds the lock taken. It answers how many events happened, and which of the two it was. The gate is called before each op that it tries.
+    /// After `NoMemory` it stands where its own steps brought it, and has forked nobody.
+    pub fn act<C: Calls>(
         &mut self,
         alloc: Global,
         board: &Board,
-        plan: &Plan,
         wanted: Wanted,
         cells: &mut WorkerCells,
-        gate: &G,
-    ) -> Result<u32, NoMemory>
+        gate: &C,
+    ) -> Result<Acted, NoMemory>
         requires made { IsOf self.old.seat board.now }
-        requires plan { board.now.plan ≡ plan.now }
-        ensures acts { (own : List Action) × Acts board.now own self.old self.new × IfOk result (λ n. n ≡ length own) }
-        ensures few { IfOk result (λ n. n ≤ 1048576) }
-        ensures ends { OnOk result (EndsTurn self.new.seat) }
+        ensures acts { (own : List Action) × Acts board.now own self.old self.new × IfOk result (λ acted. acted.events ≡ length own) }
+        ensures few { (n : ℕ) → CountsEvents n self.old → IfOk result (λ acted. CountsEvents (n + acted.events) self.new) }
+        ensures pause { IfOk result (λ acted. PausesAt acted.pause self.old self.new) }
+        ensures nobody { OnErr result (self.new.children ≡ self.old.children) }
     {
         let _ = self.seat.id();
-        let mut made = 0;
-        'turn: while let Some(more) = self.go_on(alloc, board, plan, wanted, cells, gate)? {
-            made += more;
+        let had = self.children.len();
+        let mut events = 0;
+        'act: while let Some(more) = self.go_on(alloc, board, wanted, cells, gate)? {
+            events += more;
+            if self.children.len() > had {
+                let pause = Pause::Forked;
+                return Ok(Acted { events, pause });
+            }
         }
-        Ok(made)
+        let pause = Pause::TurnOver;
+        Ok(Acted { events, pause })
     }
 
     // Makes its next event, if it may, and after a refusal its drops; answers how many events happened.
-    fn go_on<G: Gate>(
+    fn go_on<C: Calls>(
         &mut self,
         alloc: Global,
         board: &Board,
-        plan: &Plan,
         wanted: Wanted,
         cells: &mut WorkerCells,
-        gate: &G,
+        gate: &C,
     ) -> Result<Option<u32>, NoMemory>
         requires made { IsOf self.old.seat board.now }
-        requires plan { board.now.plan ≡ plan.now }
         ensures some { IfOk result (λ o. IfSome o (λ n. MakesSome board.now n self.old self.new)) }
         ensures none { IfOk result (λ o. o ≡ None → Acts board.now [] self.old self.new × EndsTurn self.new.seat) }
         ensures err { OnErr result (Acts board.now [] self.old self.new) }
@@ -153,10 +180,10 @@ impl Task {
         if self.seat.event().is_some() {
             return Ok(self.pass(board));
         }
-        let Some(op) = op_at(plan.code(t), self.begun) else {
+        let Some(op) = op_at(self.plan.code(t), self.begun) else {
             return Ok(None);
         };
-        gate.at(Point::Op { t, k: self.begun });
+        gate.call(Point::Op { t, k: self.begun });
         let children = &mut self.children;
         match begin(&mut self.seat, children, alloc, board, op, cells, wanted)? {
             Attempt::LockedOut => Ok(None),
@@ -187,6 +214,30 @@ impl Task {
                 self.seat.withdraw(board);
                 self.events += 1;
                 Some(1)
+            }
+        }
+    }
+}
+
+impl<'p> TakeTurn for Task<'p> {
+    ghost working = { λ task. task };
+
+    fn turn<C: Calls>(
+        &mut self,
+        alloc: Global,
+        board: &Board,
+        wanted: Wanted,
+        cells: &mut WorkerCells,
+        gate: &C,
+    ) -> Result<u32, NoMemory> {
+        let _ = self.seat.id();
+        let mut made = 0;
+        'turn: loop {
+            let acted = self.act(alloc, board, wanted, cells, gate)?;
+            made += acted.events;
+            match acted.pause {
+                Pause::TurnOver => return Ok(made),
+                Pause::Forked => {}
             }
         }
     }

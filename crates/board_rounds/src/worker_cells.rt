@@ -9,7 +9,7 @@ use std::marker::Model;
 
 /// The cells with which a worker collects what it decides by. They are made when they are first needed, and kept from round to round.
 #[derive(Drop)]
-pub(crate) struct WorkerCells {
+pub struct WorkerCells {
     tasks: u32,
     phasers: u32,
     cells: Option<Cells>,
@@ -28,7 +28,7 @@ impl Model for WorkerCells {
 
 impl WorkerCells {
     /// No cells yet.
-    pub(crate) fn new() -> WorkerCells {
+    pub fn new() -> WorkerCells {
         WorkerCells {
             tasks: 0,
             phasers: 0,

@@ -17,7 +17,7 @@ fn first_round<R: Threads + Sync>(
 ) -> Result<(u32, usize), NoMemory> {
     let (board, seat, _) = Board::start(alloc, plan, mode)?;
     let mut tasks = Vec::new(alloc);
-    tasks.push(Task::new(alloc, seat))?;
+    tasks.push(Task::new(alloc, seat, plan))?;
     let turned = tasks.as_mut_slice();
     let made = round(rt, alloc, turned, &board, plan, Wanted::Auto, 2, &Still)?;
     let mut forked = 0;

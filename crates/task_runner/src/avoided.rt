@@ -8,7 +8,7 @@ ghost use Rattle.task_runner.specs.inside.Turns.{TellsForked};
 
 use crate::RunOptions;
 use crate::avoided_board::avoid_on_board;
-use crate::round::{mark_forked, may_go_on};
+use crate::world_round::{mark_forked, may_go_on};
 use adaptive::Wanted;
 use armus_base::{Final, Gate, NoMemory, Plan, TaskId};
 use avoider::go_on;

@@ -29,20 +29,20 @@ pub(crate) fn avoid_on_board<R: Threads + Sync, G: Gate>(
     ensures end { IfOk result (λ end. IsAvoidedEnd plan.now end) }
 {
     let (board, seat, view) = Board::start(alloc, plan, Mode::Avoid)?;
-    let mut crew = Crew::start(alloc, &board, seat)?;
+    let mut crew = Crew::start(alloc, &board, seat, plan)?;
     take_rounds(rt, alloc, &board, plan, options, gate, &mut crew)?;
     end_avoided(alloc, board, view, plan, options.wanted, gate, crew)
 }
 
 // Rounds until one in which no event happens.
-fn take_rounds<R: Threads + Sync, G: Gate>(
+fn take_rounds<'p, R: Threads + Sync, G: Gate>(
     rt: &R,
     alloc: Global,
     board: &Board,
-    plan: &Plan,
+    plan: &'p Plan,
     options: &RunOptions,
     gate: &G,
-    crew: &mut Crew,
+    crew: &mut Crew<'p>,
 ) -> Result<(), NoMemory>
     requires plan { board.now.plan ≡ plan.now }
     requires tasks { AreTasksOf board.now crew.old }
@@ -55,15 +55,15 @@ fn take_rounds<R: Threads + Sync, G: Gate>(
 }
 
 // One round; answers whether an event happened.
-fn take_one_round<R: Threads + Sync, G: Gate>(
+fn take_one_round<'p, R: Threads + Sync, G: Gate>(
     rt: &R,
     alloc: Global,
     board: &Board,
-    plan: &Plan,
+    plan: &'p Plan,
     options: &RunOptions,
     gate: &G,
     pace: &mut Pace,
-    crew: &mut Crew,
+    crew: &mut Crew<'p>,
 ) -> Result<bool, NoMemory>
     requires plan { board.now.plan ≡ plan.now }
     requires tasks { AreTasksOf board.now crew.old }
@@ -85,7 +85,7 @@ fn end_avoided<G: Gate>(
     plan: &Plan,
     wanted: Wanted,
     gate: &G,
-    crew: Crew,
+    crew: Crew<'_>,
 ) -> Result<Final, NoMemory>
     requires plan { board.plan ≡ plan.now }
     requires avoids { board.mode ≡ Avoid }

@@ -40,7 +40,7 @@ pub fn run_detect<R: Threads + Sync, G: Gate, K: Sink>(
     let Ok((board, seat, view)) = Board::start(alloc, plan, Mode::Detect) else {
         return Err(RunEnd::NoMemory);
     };
-    let Ok(mut crew) = Crew::start(alloc, &board, seat) else {
+    let Ok(mut crew) = Crew::start(alloc, &board, seat, plan) else {
         return Err(RunEnd::NoMemory);
     };
     let Ok(mut teller) = Teller::start(alloc, &board, view) else {
@@ -67,7 +67,7 @@ fn end_run<G: Gate, K: Sink>(
     plan: &Plan,
     options: &RunOptions,
     gate: &G,
-    crew: Crew,
+    crew: Crew<'_>,
     mut teller: Teller,
     out: &mut K,
 ) -> Result<Ran, RunEnd>

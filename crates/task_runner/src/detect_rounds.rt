@@ -18,14 +18,14 @@ use std::alloc::Global;
 use std::thread::{Threads, join_mut};
 
 /// Rounds until one in which no event happens. With `live` a pass goes beside each, whose lines are written before the next round.
-pub(crate) fn go_by_rounds<R: Threads + Sync, G: Gate, K: Sink>(
+pub(crate) fn go_by_rounds<'p, R: Threads + Sync, G: Gate, K: Sink>(
     rt: &R,
     alloc: Global,
     board: &Board,
-    plan: &Plan,
+    plan: &'p Plan,
     options: &RunOptions,
     gate: &G,
-    crew: &mut Crew,
+    crew: &mut Crew<'p>,
     teller: &mut Teller,
     out: &mut K,
 ) -> Result<(), RunEnd>
@@ -44,15 +44,15 @@ pub(crate) fn go_by_rounds<R: Threads + Sync, G: Gate, K: Sink>(
 }
 
 // One round; answers whether an event happened.
-fn go_round<R: Threads + Sync, G: Gate, K: Sink>(
+fn go_round<'p, R: Threads + Sync, G: Gate, K: Sink>(
     rt: &R,
     alloc: Global,
     board: &Board,
-    plan: &Plan,
+    plan: &'p Plan,
     options: &RunOptions,
     gate: &G,
     pace: &mut Pace,
-    crew: &mut Crew,
+    crew: &mut Crew<'p>,
     teller: &mut Teller,
     out: &mut K,
 ) -> Result<bool, RunEnd>
@@ -78,15 +78,15 @@ fn go_round<R: Threads + Sync, G: Gate, K: Sink>(
 }
 
 // A round, and with `live` a pass: beside the round, or after it on the same thread where there is little work.
-fn take_round<R: Threads + Sync, G: Gate, K: Sink>(
+fn take_round<'p, R: Threads + Sync, G: Gate, K: Sink>(
     rt: &R,
     alloc: Global,
     board: &Board,
-    plan: &Plan,
+    plan: &'p Plan,
     options: &RunOptions,
     gate: &G,
     pace: &Pace,
-    crew: &mut Crew,
+    crew: &mut Crew<'p>,
     teller: &mut Teller,
     out: &mut K,
 ) -> (Result<u32, NoMemory>, Result<(), RunEnd>)
@@ -123,15 +123,15 @@ fn take_round<R: Threads + Sync, G: Gate, K: Sink>(
 }
 
 // A round, and a pass beside it.
-fn turn_and_tell<R: Threads + Sync, G: Gate, K: Sink>(
+fn turn_and_tell<'p, R: Threads + Sync, G: Gate, K: Sink>(
     rt: &R,
     alloc: Global,
     board: &Board,
-    plan: &Plan,
+    plan: &'p Plan,
     wanted: Wanted,
     workers: u8,
     gate: &G,
-    crew: &mut Crew,
+    crew: &mut Crew<'p>,
     teller: &mut Teller,
     out: &mut K,
 ) -> (Result<u32, NoMemory>, Result<(), RunEnd>)

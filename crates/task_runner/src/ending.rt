@@ -6,7 +6,7 @@ ghost use Rattle.pl_core.specs.Worlds.{places_at};
 ghost use Rattle.task_runner.specs.PlainRuns.{IsPlainEnd};
 ghost use Rattle.task_runner.specs.inside.Turns.{NobodyRefused};
 
-use crate::round::round;
+use crate::world_round::round;
 use armus_base::{Final, Gate, NoMemory, Plan};
 use pl_core::{Place, World};
 use std::alloc::Global;

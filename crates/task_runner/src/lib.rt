@@ -13,19 +13,18 @@ mod laws;
 mod live_task;
 mod options;
 mod pace;
-mod plain;
 mod ran;
 mod rest;
-mod round;
 mod teller;
 mod turns;
+mod world_round;
 
 pub use avoided::run_avoid;
+pub use board_rounds::{Task, round};
 pub use detect::run_detect;
 pub use journal::run_journal;
 pub use laws::serial_run_ends;
 pub use options::RunOptions;
-pub use plain::run_plain;
 pub use ran::{Ran, RunEnd};
 
 #[cfg(test)]

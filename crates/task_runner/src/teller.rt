@@ -104,12 +104,12 @@ impl Teller {
     }
 
     /// The tasks end their turns: the viewer knows each of them exactly then.
-    pub(crate) fn take_in(&mut self, board: &Board, crew: Crew)
+    pub(crate) fn take_in(&mut self, board: &Board, crew: Crew<'_>)
         requires watches { Watches board.now self.old }
         requires tasks { AreTasksOf board.now crew }
         requires unknown { (u : ℕ) → (seen self.old.view.view).exact u ≡ false }
         ensures watches { Watches board.now self.new }
-        ensures known { KnowsTasks board.now (all_of crew) self.new.view }
+        ensures known { KnowsTasks board.now (all_of crew.entry) self.new.view }
         ensures same { self.new.dead ≡ self.old.dead }
     {
         crew.take_in(board, &mut self.view);

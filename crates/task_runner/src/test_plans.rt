@@ -2,7 +2,7 @@
 use armus_base::{Code, List, NoMemory, Offset, Op, PhaserId, Plan, TaskId};
 use std::alloc::Global;
 
-const A: PhaserId = PhaserId(0);
+pub(crate) const A: PhaserId = PhaserId(0);
 
 /// The second phaser of each of these plans.
 pub(crate) const B: PhaserId = PhaserId(1);

@@ -1,8 +1,8 @@
 // Recorded runs of two tasks that wait for each other, and of two tasks that a gate makes act side by side.
-use crate::test_plans::{FIRST, ROOT, SECOND, two_makers, two_tasks};
-use crate::{RunOptions, run_journal, run_plain};
+use crate::test_plans::{A, B, FIRST, ROOT, SECOND, two_makers, two_tasks};
+use crate::{RunOptions, run_journal};
 use adaptive::Wanted;
-use armus_base::{Gate, Point, Still};
+use armus_base::{Event, Gate, Point, Still, TaskEnd};
 use std::sync::atomic::{AtomicBool, Ordering};
 use std::test::Fail;
 use std::thread::yield_now;
@@ -58,7 +58,10 @@ impl Gate for Meeting {
 fn both_wait(rt: HostRuntime) -> Result<(), Fail> {
     let alloc = rt.alloc();
     let plan = two_tasks(alloc)?;
-    let plain = run_plain(alloc, &plan, &Still)?;
+    let dead = [
+        TaskEnd::Blocked(Event { p: A, n: 1 }),
+        TaskEnd::Blocked(Event { p: B, n: 1 }),
+    ];
     for workers in [1, 3] {
         let options = RunOptions {
             workers,
@@ -66,7 +69,7 @@ fn both_wait(rt: HostRuntime) -> Result<(), Fail> {
             live: false,
         };
         let (end, journal) = run_journal(&rt, alloc, &plan, &options, &Still)?;
-        assert!(rt; end.ends.as_slice() == plain.ends.as_slice());
+        assert!(rt; end.ends.as_slice() == dead.as_slice());
         assert_eq!(rt; end.blocked.as_slice().len(), 2);
         let journal = journal.as_slice();
         assert_eq!(rt; journal.len(), 9);

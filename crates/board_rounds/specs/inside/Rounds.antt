@@ -1,7 +1,7 @@
 -- What a round of turns makes of the tasks, and of the seats of the children whom they forked.
 use Rattle.std.specs.Prelude.{false, map, flat_map, ◌≡◌, ℕ, ◌+◌, List, [], ◌++◌, All, Contains, length, sum_by}
 use Rattle.std.specs.List.Sorted.{IsPermutation}
-use Rattle.armus_base.specs.Plans.{Action}
+use Rattle.armus_base.specs.Plans.{Action, Plan}
 use Rattle.armus_base.specs.Runs.{first_place}
 use Rattle.board.specs.Views.{own_place}
 use Rattle.board.specs.Seats.{Frame, Known}
@@ -11,9 +11,9 @@ use Rattle.board_rounds.specs.Turns.{EachActs, EndsTurn, Working}
 abbrev pub IsChildIn : List Working → Known → Type 0
 IsChildIn tasks seat = (task : Working) × Contains tasks task × Contains task.children seat
 
--- a seat whose task has made no step
-abbrev pub IsAtStart : Known → Type 0
-IsAtStart seat = (own_place seat.view ≡ first_place) × (seat.view.holds ≡ false)
+-- a seat of a board of this plan, whose task has made no step
+abbrev pub IsAtStart : Plan → Known → Type 0
+IsAtStart plan seat = own_place seat.view ≡ first_place × seat.view.holds ≡ false × seat.view.plan ≡ plan
 
 -- a task whose children's seats were taken
 abbrev pub emptied : Working → Working

@@ -19,11 +19,12 @@ pub record HasCome (seat : Known) (begun events : ℕ) (refused : Bool) : Type 0
   pub begun_are : refused ≡ false → HasBegun begun seat
   pub left : refused ≡ true → HasLeftAll seat
 
--- its fields tell how far it has come
-abbrev pub IsWorking : Inside → Type 0
-IsWorking t = HasCome t.seat t.begun t.events t.refused
+-- its fields tell how far it has come, and its seat's board is of its plan
+pub record IsWorking (t : Inside) : Type 0 where
+  pub come : HasCome t.seat t.begun t.events t.refused
+  pub plan : t.seat.view.plan ≡ t.plan.now
 
--- a task has made so many steps, one at least: one step of its code, or a refusal and a drop of each of its phasers
+-- a task has made so many steps, one at least: one step of its code, by which it forks one task at most, or a refusal and a drop of each of its phasers
 pub record MakesSome (board : Frame) (made : ℕ) (before now : Working) : Type 0 where
   pub own : List Action
   pub acts : Acts board own before now
@@ -31,3 +32,4 @@ pub record MakesSome (board : Frame) (made : ℕ) (before now : Working) : Type 
   pub some : 0 < made
   pub few : made ≤ max_phasers + 1
   pub within : (own_place before.seat.view).done < length (actions before.seat.view.plan (task_of before.seat.view))
+  pub one_child : length acts.new ≤ 1

@@ -16,13 +16,14 @@ add_children-requires c =
     let d = c.task-item.result in
     let n = c.loop-task.task-index in
     let l : n < length c.args.tasks.now = (let t = c.loop-task-test.true in let s = c.loop-task.auto.tasks in omega arith) in
-    let start : All IsAtStart (get_or c.loop-task.tasks n d).children = λ k e less. c.requires.start (get_or (get_or c.loop-task.tasks n d).children k e) (
+    let start : All (IsAtStart c.args.plan.now) (get_or c.loop-task.tasks n d).children = λ k e less. c.requires.start (get_or (get_or c.loop-task.tasks n d).children k e) (
       get_or c.args.tasks.now n d,
       contains_at c.args.tasks.now n d l,
       subst (λ (w : Working). Contains w.children (get_or (get_or c.loop-task.tasks n d).children k e)) (there d i.0) (contains_at (get_or c.loop-task.tasks n d).children k e less),
     ) in record {
       first = λ k e less. (start k e less).0;
       free = λ k e less. (start k e less).1;
+      plan = λ k e less. (start k e less).2;
     }
 
 pub loop-task-preserved : goal.loop-task-preserved

@@ -21,8 +21,3 @@ go_round-requires-clause-no_child g c κs within = live_none c.args.board.now (r
 
 pub go_round-requires-clause-few : goal.go_round-requires-clause-few
 go_round-requires-clause-few g c κs within = live_few c.args.board.now (record { live = c.self.inside.live.items; ended = c.self.inside.ended.items }) (subst (AreTasksOf c.args.board.now) (sym c.self.view_is) c.requires.tasks)
-
-pub retire-requires-clause-plan : goal.retire-requires-clause-plan
-retire-requires-clause-plan g c =
-    new_planned c.args.board.now c.args.plan.now (record { live = c.self.inside.live.items; ended = c.self.inside.ended.items }) c.go_round.new.tasks.items c.in_ok-made.made c.requires.plan
-    (subst (AreTasksOf c.args.board.now) (sym c.self.view_is) c.requires.tasks) c.in_ok-made.ensures.round

@@ -1,4 +1,4 @@
-use Rattle.std.proofs.Common.{◌≡◌, [], ◌∷◌, Some, List, sym, subst, rules}
+use Rattle.std.proofs.Common.{◌≡◌, ◌∙◌, [], ◌∷◌, Some, List, sym, subst, rules}
 use Rattle.armus_base.specs.Seats.{seen_by_child}
 use Rattle.board.specs.Seats.{IsNewSeat, nothing_seen}
 use Rattle.board.proofs.Walking.{new_first}
@@ -9,6 +9,9 @@ use Rattle.board_rounds.proofs.crew.Crew.start.Goals as goal
 
 pub new-requires-clause-first : goal.new-requires-clause-first
 new-requires-clause-first c = new_first c.args.board.now c.args.seat c.requires.new
+
+pub new-requires-clause-plan : goal.new-requires-clause-plan
+new-requires-clause-plan c = c.requires.new.of_board.plan ∙ c.requires.plan
 
 pub returns : goal.returns
 returns c =

@@ -6,8 +6,11 @@ use Rattle.board_rounds.proofs.task.Task.new.Goals as goal
 
 pub invariant_of-result : goal.invariant_of-result
 invariant_of-result c = record {
-  free = c.requires.free;
-  events_are = ap (λ (x : Place). x.done) (sym c.requires.first);
-  begun_are = λ _. begun_none c.args.seat c.requires.first c.requires.free;
-  left = λ e. absurd (false≢true e);
+  come = record {
+    free = c.requires.free;
+    events_are = ap (λ (x : Place). x.done) (sym c.requires.first);
+    begun_are = λ _. begun_none c.args.seat c.requires.first c.requires.free;
+    left = λ e. absurd (false≢true e);
+  };
+  plan = c.requires.plan;
 }

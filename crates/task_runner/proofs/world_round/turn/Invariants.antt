@@ -1,6 +1,6 @@
 use Rattle.std.proofs.Common.{◌≡◌, ◌<◌, false, true}
 use Rattle.task_runner.specs.inside.Turns.{NobodyRefused, remaining}
-use Rattle.task_runner.proofs.round.turn.Given as goal
+use Rattle.task_runner.proofs.world_round.turn.Given as goal
 
 abbrev pub invariant-loop-moved : goal.invariant-loop-moved
 invariant-loop-moved g l =

@@ -1,7 +1,7 @@
 use Rattle.std.proofs.Common.{◌≡◌, ◌<◌, ℕ, false, true}
 use Rattle.pl_core.specs.Stands.{IsEnabled}
 use Rattle.task_runner.specs.inside.Turns.{NobodyRefused, remaining}
-use Rattle.task_runner.proofs.round.turns.Given as goal
+use Rattle.task_runner.proofs.world_round.turns.Given as goal
 
 abbrev pub invariant-loop-t : goal.invariant-loop-t
 invariant-loop-t g l =

@@ -1,5 +1,5 @@
 use Rattle.pl_core.proofs.GoingOn.{phaser_of_waiting}
-use Rattle.task_runner.proofs.round.may_go_on.Goals as goal
+use Rattle.task_runner.proofs.world_round.may_go_on.Goals as goal
 
 pub is_reached-requires : goal.is_reached-requires
 is_reached-requires g c =

@@ -1,9 +1,9 @@
 use Rattle.std.proofs.Common.{◌≡◌, List, length}
 use Rattle.armus_base.specs.Plans.{Action}
 use Rattle.board.specs.Seats.{IsOf}
-use Rattle.board_rounds.specs.Turns.{Acts}
-use Rattle.board_rounds.proofs.Counting.{CountsEvents, left_to_task}
-use Rattle.board_rounds.proofs.task.Task.turn.Given as goal
+use Rattle.board_rounds.specs.Turns.{Acts, CountsEvents}
+use Rattle.board_rounds.proofs.Counting.{left_to_task}
+use Rattle.board_rounds.proofs.task.TaskTakeTurn.turn.Given as goal
 
 abbrev pub invariant-turn : goal.invariant-turn
 invariant-turn g l = record {

@@ -1,7 +1,7 @@
 use Rattle.std.proofs.Common.{◌≡◌, ◌<◌, ℕ, Bool, Some, length}
 use Rattle.std.specs.Prelude.{slice_get}
 use Rattle.pl_core.specs.Worlds.{state_of}
-use Rattle.task_runner.proofs.round.mark_forked.Given as goal
+use Rattle.task_runner.proofs.world_round.mark_forked.Given as goal
 
 abbrev pub invariant-loop-t : goal.invariant-loop-t
 invariant-loop-t l =

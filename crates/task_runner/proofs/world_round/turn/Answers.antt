@@ -2,7 +2,7 @@ use Rattle.std.proofs.Common.{◌∙◌, arith}
 use Rattle.std.proofs.lemmas.Bool.{false≢true}
 use Rattle.std.proofs.Common.{sym}
 use Rattle.task_runner.proofs.Remaining.{at_most_before, step_keeps_plain, step_leaves_less}
-use Rattle.task_runner.proofs.round.turn.Goals as goal
+use Rattle.task_runner.proofs.world_round.turn.Goals as goal
 
 pub loop-moved-smaller : goal.loop-moved-smaller
 loop-moved-smaller g c = step_leaves_less c.loop-moved.world c.step.new.self c.args.t.0 c.step.ensures

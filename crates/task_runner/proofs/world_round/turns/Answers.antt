@@ -4,8 +4,8 @@ use Rattle.pl_core.specs.Stands.{IsEnabled}
 use Rattle.task_runner.specs.inside.Turns.{remaining}
 use Rattle.task_runner.proofs.Remaining.{at_most_before}
 use Rattle.task_runner.proofs.Rounds.{quiet_more}
-use Rattle.task_runner.proofs.round.turns.Goals.{then-moved, else-moved}
-use Rattle.task_runner.proofs.round.turns.Goals as goal
+use Rattle.task_runner.proofs.world_round.turns.Goals.{then-moved, else-moved}
+use Rattle.task_runner.proofs.world_round.turns.Goals as goal
 
 pub loop-t-preserved : goal.loop-t-preserved
 loop-t-preserved g c =

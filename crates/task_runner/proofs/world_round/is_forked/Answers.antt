@@ -1,5 +1,5 @@
 use Rattle.task_runner.proofs.ForkedTasks.{forked_by_stand}
-use Rattle.task_runner.proofs.round.is_forked.Goals as goal
+use Rattle.task_runner.proofs.world_round.is_forked.Goals as goal
 
 pub returns-in_default : goal.returns-in_default
 returns-in_default c =

@@ -1,0 +1,20 @@
+use Rattle.std.proofs.Common.{◌≡◌, ◌+◌, ℕ, List, length}
+use Rattle.armus_base.specs.Plans.{Action}
+use Rattle.board.specs.Seats.{IsOf}
+use Rattle.board_rounds.specs.Turns.{Acts, CountsEvents}
+use Rattle.board_rounds.proofs.Counting.{left_to_task}
+use Rattle.board_rounds.proofs.task.Task.act.Given as goal
+
+abbrev pub invariant-act : goal.invariant-act
+invariant-act g l = record {
+  own : List Action;
+  acts : Acts l.board own l.initial.self l.self;
+  made : IsOf l.self.seat l.board;
+  counted : l.events ≡ length own;
+  counts : (n : ℕ) → CountsEvents n l.initial.self → CountsEvents (n + l.events) l.self;
+  nobody : l.self.children ≡ l.initial.self.children;
+  had : l.had ≡ length l.initial.self.children;
+}
+
+abbrev pub decreases-act : goal.decreases-act
+decreases-act g l = left_to_task l.self

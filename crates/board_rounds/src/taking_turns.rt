@@ -1,0 +1,36 @@
+// Whoever takes turns in a round on a board.
+ghost use Rattle.std.specs.Prelude.{◌≡◌, ◌≤◌, List, IfOk, OnOk, length};
+ghost use Rattle.armus_base.specs.Plans.{Action};
+ghost use Rattle.board.specs.Seats.{IsOf};
+ghost use Rattle.board_rounds.specs.Turns.{Acts, EndsTurn};
+
+use crate::calling::Calls;
+use crate::worker_cells::WorkerCells;
+use adaptive::Wanted;
+use armus_base::NoMemory;
+use board::Board;
+use std::alloc::Global;
+
+/// A task that takes turns. A round is proved for any type of them: what a slice of tasks holds after it was split is known only where the type of its
+/// elements names no lifetime, or is a parameter.
+pub(crate) trait TakeTurn {
+    ghost use Rattle.board_rounds.specs.Turns.{Working};
+
+    // The task as contracts see it.
+    ghost working: { Self → Working };
+
+    /// Its turn: it acts until it is done, or is published and finds a member behind, or is refused, or finds the lock taken. It answers how many events
+    /// happened. The gate is called before each op that it tries.
+    fn turn<C: Calls>(
+        &mut self,
+        alloc: Global,
+        board: &Board,
+        wanted: Wanted,
+        cells: &mut WorkerCells,
+        gate: &C,
+    ) -> Result<u32, NoMemory>
+        requires made { IsOf (working self.old).seat board.now }
+        ensures acts { (own : List Action) × Acts board.now own (working self.old) (working self.new) × IfOk result (λ n. n ≡ length own) }
+        ensures few { IfOk result (λ n. n ≤ 1048576) }
+        ensures ends { OnOk result (EndsTurn (working self.new).seat) };
+}
