@@ -13,7 +13,13 @@ const CHAIN: &str =
 
 // Task 0 stays behind 45 tasks that are members of 25 phasers, and awaits 500 times what is reached.
 const MANY_PHASERS: &str =
-    "a = newPhaser(); b = newPhaser(); c = newPhaser(); d = newPhaser(); e = newPhaser(); f = newPhaser(); g = newPhaser(); h = newPhaser(); i = newPhaser(); j = newPhaser(); k = newPhaser(); l = newPhaser(); m = newPhaser(); n = newPhaser(); o = newPhaser(); p = newPhaser(); q = newPhaser(); r = newPhaser(); s = newPhaser(); u = newPhaser(); v = newPhaser(); w = newPhaser(); x = newPhaser(); y = newPhaser(); z = newPhaser();\nloop 45 { t = newTid(); reg(t, a); reg(t, b); reg(t, c); reg(t, d); reg(t, e); reg(t, f); reg(t, g); reg(t, h); reg(t, i); reg(t, j); reg(t, k); reg(t, l); reg(t, m); reg(t, n); reg(t, o); reg(t, p); reg(t, q); reg(t, r); reg(t, s); reg(t, u); reg(t, v); reg(t, w); reg(t, x); reg(t, y); reg(t, z); fork(t) { adv(c); adv(a); await(a); } }\nadv(c); await(c); loop 500 { await(b); }";
+    "a = newPhaser(); b = newPhaser(); c = newPhaser(); d = newPhaser(); e = newPhaser(); f = newPhaser(); g = newPhaser(); h = newPhaser(); \
+     i = newPhaser(); j = newPhaser(); k = newPhaser(); l = newPhaser(); m = newPhaser(); n = newPhaser(); o = newPhaser(); p = newPhaser(); \
+     q = newPhaser(); r = newPhaser(); s = newPhaser(); u = newPhaser(); v = newPhaser(); w = newPhaser(); x = newPhaser(); y = newPhaser(); \
+     z = newPhaser();\nloop 45 { t = newTid(); reg(t, a); reg(t, b); reg(t, c); reg(t, d); reg(t, e); reg(t, f); reg(t, g); reg(t, h); \
+     reg(t, i); reg(t, j); reg(t, k); reg(t, l); reg(t, m); reg(t, n); reg(t, o); reg(t, p); reg(t, q); reg(t, r); reg(t, s); reg(t, u); \
+     reg(t, v); reg(t, w); reg(t, x); reg(t, y); reg(t, z); fork(t) { adv(c); adv(a); await(a); } }\nadv(c); await(c); loop 500 { await(b); \
+     }";
 
 // Two tasks meet 6,000 times.
 pub(crate) const TWO_MEET: &str =
