@@ -13,7 +13,7 @@ use Rattle.board.specs.Seats.{Known}
 use Rattle.phase_scan.specs.Collects.{FindsEvent, IfAsked, LoadsRow, LoadsRows}
 use Rattle.sites.specs.Rows.{is_of_site}
 use Rattle.sites.specs.Snaps.{CountsSnap, IsSnap, LoadsChosen}
-use Rattle.sites.specs.inside.Snapping.{status_with}
+use Rattle.sites.specs.inside.Snapping.{whole_status}
 
 -- how many numbers below n pass the test
 passes_below : (ℕ → Bool) → ℕ → ℕ
@@ -65,13 +65,14 @@ rows_loads plan found zero k m same = (let e = ap (λ (j : Known). j.view.loads)
 rows_loads plan found (suc t) k m (between, before, made) =
     by_event (length plan.makers) (length (given_below (status_of plan found (λ p. true)) t)) (rows_loads plan found t k between before)
     (λ row. row_loads t (found.phases t) (length plan.makers) between m row) (found.published t) made
-    ∙ ap (λ n. k.view.loads + n * length plan.makers) (sym (length-append (given_below (status_of plan found (λ p. true)) t) (option_to_list (status_of plan found (λ p. true) t))))
+    ∙ ap (λ n. k.view.loads + n * length plan.makers) (sym (length-append (given_below (status_of plan found (λ p. true)) t)
+    (option_to_list (status_of plan found (λ p. true) t))))
   where
     by_event :
         (each rest : ℕ) → between.view.loads ≡ k.view.loads + rest * each →
         (LoadsRow (λ p. true) t (found.phases t) (length plan.makers) between m → m.view.loads ≡ between.view.loads + each) →
         (o : Option Event) → IfAsked (is_some o) (LoadsRow (λ p. true) t (found.phases t) (length plan.makers)) between m →
-        m.view.loads ≡ k.view.loads + (rest + length (option_to_list (option_map (status_with (length plan.makers) t (found.phases t)) o))) * each
+        m.view.loads ≡ k.view.loads + (rest + length (option_to_list (option_map (whole_status (length plan.makers) t (found.phases t)) o))) * each
     by_event each rest before one (Some e) row = (let l = one row in omega arith)
     by_event each rest before one None same = (let l = ap (λ (j : Known). j.view.loads) same in omega arith)
 

@@ -15,7 +15,7 @@ use Rattle.armus_base.proofs.Elements.{Contains-cons_cases, Contains-head, Conta
 use Rattle.sites.specs.Checks.{AreAll, IsBadAt, IsFirstBad, IsSiteEnd, IsStored, part_of}
 use Rattle.sites.specs.Keeping.{held}
 use Rattle.sites.specs.Rows.{AreOfSite, IsRowOf, is_of_site}
-use Rattle.sites.specs.inside.Gathering.{AreGathered, HasFewInOrder, IsEndAt, NoneBad, TakesRow}
+use Rattle.sites.specs.inside.Gathering.{AreGathered, HasFewInOrder, EndsAtSite, NoneBad, TakesRow}
 use Rattle.sites.specs.declared.ends.SiteEnd.{SiteEnd}
 use Rattle.sites.specs.declared.ends.SiteEnd.TheVariants.{Bad, Fault, NoMemory}
 
@@ -51,7 +51,8 @@ gathered_none sites rows list none =
 
 -- one site more
 pub gathered_more :
-    (sites : ℕ) (rows : List (Option (List ℕ))) (n : ℕ) (list now : List Status) → AreGathered sites rows n list → TakesRow sites n (held rows n) list now → AreGathered sites rows (n + 1) now
+    (sites : ℕ) (rows : List (Option (List ℕ))) (n : ℕ) (list now : List Status) → AreGathered sites rows n list → TakesRow sites n (held rows n) list now →
+    AreGathered sites rows (n + 1) now
 gathered_more sites rows n list now before takes = by_row (held rows n) refl takes
   where
     by_row : (o : Option (List ℕ)) → held rows n ≡ o → TakesRow sites n o list now → AreGathered sites rows (n + 1) now
@@ -106,7 +107,8 @@ none_more sites rows n list now before takes site l (row, is, bad) =
     ]
 
 -- where taking the row of a site ends, and none before it was bad
-pub end_first : (sites : ℕ) (rows : List (Option (List ℕ))) (site : ℕ) (e : SiteEnd) → site < sites → NoneBad sites rows site → IsEndAt sites rows site e → IsSiteEnd sites rows e
+pub end_first : (sites : ℕ) (rows : List (Option (List ℕ))) (site : ℕ) (e : SiteEnd) → site < sites → NoneBad sites rows site → EndsAtSite sites rows site e →
+    IsSiteEnd sites rows e
 end_first sites rows site (Bad s) small none (same, bad) =
     subst (IsFirstBad sites rows) (sym same) (record { within = small; bad = bad; first = none })
 end_first sites rows site Fault small none end = tt
@@ -184,11 +186,13 @@ two_tally :
     (k : ℕ) (xs : List Status) (i j : ℕ) (d : Status) → i < j → j < length xs → (get_or xs i d).t.0 ≡ k → (get_or xs j d).t.0 ≡ k → 2 ≤ sum_by (tally k) xs
 two_tally k [] i j d lt l a b = absurd (omega arith)
 two_tally k (x ∷ xs) i zero d lt l a b = absurd (omega arith)
-two_tally k (x ∷ xs) zero (suc j) d lt l a b = (let cons = sum_by-cons (tally k) x xs in let here = tally_here k x a in let rest = one_tally k xs j d (omega arith) b in omega arith)
+two_tally k (x ∷ xs) zero (suc j) d lt l a b = (let cons = sum_by-cons (tally k) x xs in let here = tally_here k x a in let rest = one_tally k xs j d (omega arith) b in
+    omega arith)
 two_tally k (x ∷ xs) (suc i) (suc j) d lt l a b = (let cons = sum_by-cons (tally k) x xs in let rest = two_tally k xs i j d (omega arith) (omega arith) a b in omega arith)
 
 -- lists that ascend and have the same elements are the same
-same_head : (x y : Status) (xs ys : List Status) → Ascends (x ∷ xs) → Ascends (y ∷ ys) → ((s : Status) → Contains (x ∷ xs) s → Contains (y ∷ ys) s) → ((s : Status) → Contains (y ∷ ys) s → Contains (x ∷ xs) s) → x ≡ y
+same_head : (x y : Status) (xs ys : List Status) → Ascends (x ∷ xs) → Ascends (y ∷ ys) → ((s : Status) → Contains (x ∷ xs) s → Contains (y ∷ ys) s) → ((s : Status) →
+    Contains (y ∷ ys) s → Contains (x ∷ xs) s) → x ≡ y
 same_head x y xs ys up up' to from =
     elim (Contains-cons_cases y ys x (to x (Contains-head x xs))) [
       | inl e ↦ sym e
@@ -198,7 +202,8 @@ same_head x y xs ys up up' to from =
       ]
     ]
 
-rest_of : (x y : Status) (xs ys : List Status) → x ≡ y → Ascends (x ∷ xs) → ((s : Status) → Contains (x ∷ xs) s → Contains (y ∷ ys) s) → (s : Status) → Contains xs s → Contains ys s
+rest_of : (x y : Status) (xs ys : List Status) → x ≡ y → Ascends (x ∷ xs) → ((s : Status) → Contains (x ∷ xs) s → Contains (y ∷ ys) s) → (s : Status) → Contains xs s →
+    Contains ys s
 rest_of x y xs ys e up to s m =
     elim (Contains-cons_cases y ys s (to s (Contains-tail x xs s m))) [
       | inl f ↦ absurd (omega (arith, head_below x xs up s m, ap (λ (z : Status). z.t.0) (e ∙ f)))
@@ -250,7 +255,8 @@ stored_ascends sites site ss (Some row) is = λ i j d lt l. is.stored.in_order.t
 
 -- gathered statuses, sorted by task, are all
 pub sorted_are_all :
-    (sites : ℕ) (rows : List (Option (List ℕ))) (list now : List Status) → 1 ≤ sites → sites ≤ 8 → AreGathered sites rows sites list → IsPermutation list now → IsNonDecreasingBy (λ s. s.t.0) now → AreAll sites rows now
+    (sites : ℕ) (rows : List (Option (List ℕ))) (list now : List Status) → 1 ≤ sites → sites ≤ 8 → AreGathered sites rows sites list → IsPermutation list now →
+    IsNonDecreasingBy (λ s. s.t.0) now → AreAll sites rows now
 sorted_are_all sites rows list now some few gathered moved sorted =
     record {
       in_order = record {

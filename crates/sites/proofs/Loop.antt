@@ -19,7 +19,8 @@ module _ {A : Type 0} (read : List ℕ → Option (A × List ℕ)) where
   unfolding items_at
   goes_on front count i bytes x after total lt h so_far =
       let k : count - i ≡ suc (count - (i + 1)) = omega arith in
-      let one : with_front front (items_at read (count - i) bytes) ≡ with_front (front ++ x ∷ []) (items_at read (count - (i + 1)) after) = rw (k, h) (regroup front x (items_at read (count - (i + 1)) after)) in
+      let one : with_front front (items_at read (count - i) bytes) ≡ with_front (front ++ x ∷ []) (items_at read (count - (i + 1)) after) = rw (k, h)
+      (regroup front x (items_at read (count - (i + 1)) after)) in
       sym one ∙ so_far
 
   pub ends : (e : DecodeEnd) (front : List A) (count i : ℕ) (bytes : List ℕ) (total : Option (List A × List ℕ)) → i < count
@@ -31,7 +32,8 @@ module _ {A : Type 0} (read : List ℕ → Option (A × List ℕ)) where
       let one : with_front front (items_at read (count - i) bytes) ≡ None = rw (k, h) refl in
       sym so_far ∙ one
 
-  pub is_done : (front : List A) (count i : ℕ) (bytes : List ℕ) (total : Option (List A × List ℕ)) → count ≤ i → with_front front (items_at read (count - i) bytes) ≡ total → total ≡ Some (front, bytes)
+  pub is_done : (front : List A) (count i : ℕ) (bytes : List ℕ) (total : Option (List A × List ℕ)) → count ≤ i →
+      with_front front (items_at read (count - i) bytes) ≡ total → total ≡ Some (front, bytes)
   unfolding items_at
   is_done front count i bytes total le so_far =
       let k : count - i ≡ 0 = omega arith in

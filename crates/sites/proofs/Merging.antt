@@ -76,12 +76,14 @@ module _ (sites : ℕ) (list : List Status) where
   own_phase_listed u p n (s, inside, same, phase) = (s, (passed_is (own_test u) list s inside).0, same, phase)
 
 -- what is held of a site stores its part of the list, so the part is what the row is known to store
-pub part_is : (sites site : ℕ) (rows : List (Option (List ℕ))) (list ss : List Status) (row : List ℕ) → IsStored sites site list (held rows site) → held rows site ≡ Some row → IsRowOf sites site ss row → ss ≡ part_of sites site list
+pub part_is : (sites site : ℕ) (rows : List (Option (List ℕ))) (list ss : List Status) (row : List ℕ) → IsStored sites site list (held rows site) →
+    held rows site ≡ Some row → IsRowOf sites site ss row → ss ≡ part_of sites site list
 part_is sites site rows list ss row stored is of =
     one_list_of sites site ss (part_of sites site list) row of (subst (IsStored sites site list) is stored)
 
 -- backed rows: whoever is dead by all their statuses is dead in each lawful state as far on as what all viewers have seen
-module _ (plan : Plan) (mode : Mode) (views : List Known) (rows : List (Option (List ℕ))) (list : List Status) (checked : IsCheckedPlan plan) (some : 1 ≤ length views) (all : AreAll (length views) rows list) (backed : AreBacked plan rows views) where
+module _ (plan : Plan) (mode : Mode) (views : List Known) (rows : List (Option (List ℕ))) (list : List Status) (checked : IsCheckedPlan plan) (some : 1 ≤ length views)
+    (all : AreAll (length views) rows list) (backed : AreBacked plan rows views) where
   abbrev sites : ℕ
   sites = length views
 
@@ -143,7 +145,8 @@ module _ (plan : Plan) (mode : Mode) (views : List Known) (rows : List (Option (
 
   pub merged_dead : (t : ℕ) → IsDeadBy list t → IsDeadToAll plan mode views t
   merged_dead t dead a lock lawful far =
-      let there = collected_is_dead_at_reachable plan a list dead.tasks at found checked (lawful_is_reachable (avoids mode) plan a lock lawful) dead.deadlocked (merged a far dead.tasks) in
+      let there = collected_is_dead_at_reachable plan a list dead.tasks at found checked (lawful_is_reachable (avoids mode) plan a lock lawful) dead.deadlocked
+      (merged a far dead.tasks) in
       record { tasks = dead.tasks; inside = dead.inside; deadlocked = there.1 }
 
 -- a set that is deadlocked in a lawful state, and each of whose tasks is listed as it stands there, is deadlocked in the list

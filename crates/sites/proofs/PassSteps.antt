@@ -42,7 +42,8 @@ read_here f (y ∷ ys) zero x l e = ap (λ v. Some (f v)) (sym e)
 read_here f (y ∷ ys) (suc i) x l e = read_here f ys i x (omega arith) e
 
 -- each is of the board
-pub made_of : {A : Type 0} (known : A → Known) (xs : List A) (f : Frame) → All (λ v. IsOf (known v) f) xs → (site : ℕ) (m : Known) → slice_get (map known xs) site ≡ Some m → IsOf m f
+pub made_of : {A : Type 0} (known : A → Known) (xs : List A) (f : Frame) → All (λ v. IsOf (known v) f) xs → (site : ℕ) (m : Known) →
+    slice_get (map known xs) site ≡ Some m → IsOf m f
 made_of known [] f all site m is = absurd cc
 made_of known (x ∷ xs) f all zero m is = subst (λ k. IsOf k f) (some_one (known x) m is) (All-head (λ v. IsOf (known v) f) x xs all)
 made_of known (x ∷ xs) f all (suc site) m is = made_of known xs f (All-tail (λ v. IsOf (known v) f) x xs all) site m is
@@ -102,13 +103,19 @@ module _ (f : Frame) (sites n : ℕ) (before now : List Known) (old new : List (
       first_of : (site : ℕ) (m : Known) → slice_get now site ≡ Some m → (k : Known) × slice_get before site ≡ Some k
       first_of site m is = is_there before site (λ l. let within = slice_get_within now site m is in let count = s.count in omega arith)
 
-      each : (site : ℕ) (m : Known) → slice_get now site ≡ Some m → (held new site ≡ held old site) ⊎ ((row : List ℕ) × held new site ≡ Some row × IsBackedRow f.plan (length now) site row m)
+      each : (site : ℕ) (m : Known) → slice_get now site ≡ Some m → (held new site ≡ held old site) ⊎
+          ((row : List ℕ) × held new site ≡ Some row × IsBackedRow f.plan (length now) site row m)
       each site m is =
           elim (cases_lt site n) [
             | inl less ↦
                 let (k, there) = first_of site m is in
                 let snap = s.snapped site k m less there is in
-                inr (row_bytes snap.list, snap.put, subst (λ c. IsBackedRow f.plan c site (row_bytes snap.list) m) counted (snap.list, record { stored = snap.stored; bytes = refl }, snap.tells.backed))
+                inr (
+                  row_bytes snap.list,
+                  snap.put,
+                  subst (λ c. IsBackedRow f.plan c site (row_bytes snap.list) m) counted
+                      (snap.list, record { stored = snap.stored; bytes = refl }, snap.tells.backed),
+                )
             | inr more ↦ inl (s.rows site more)
           ]
 

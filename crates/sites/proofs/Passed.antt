@@ -31,7 +31,8 @@ use Rattle.sites.proofs.PassSteps.{is_there, some_one}
 use Rattle.sites.proofs.Snapped.{snap_possible}
 use Rattle.sites.proofs.TellingSites.{far_to_viewer}
 
-module _ (f : Frame) (before now : List Known) (old rows : List (Option (List ℕ))) (made : (site : ℕ) (k : Known) → slice_get before site ≡ Some k → IsOf k f) (checked : IsCheckedPlan f.plan) (some : 1 ≤ length before) (s : HaveSnapped f (length before) (length before) before now old rows) where
+module _ (f : Frame) (before now : List Known) (old rows : List (Option (List ℕ))) (made : (site : ℕ) (k : Known) → slice_get before site ≡ Some k →
+    IsOf k f) (checked : IsCheckedPlan f.plan) (some : 1 ≤ length before) (s : HaveSnapped f (length before) (length before) before now old rows) where
   abbrev sites : ℕ
   sites = length before
 
@@ -140,7 +141,8 @@ module _ (f : Frame) (before now : List Known) (old rows : List (Option (List �
           all = check.all;
           analysis = check.analysis;
           only = λ t inside.
-              merged_dead f.plan f.mode now rows check.list checked (let count = s.count in omega arith) (subst (λ c. AreAll c rows check.list) (sym s.count) check.all) backed t.0
+              merged_dead f.plan f.mode now rows check.list checked (let count = s.count in omega arith) (subst (λ c. AreAll c rows check.list) (sym s.count) check.all)
+              backed t.0
               ((check.analysis.dead.exact t).0 inside);
           known = known_named;
           known_to_each = λ tasks t knows inside. known_named tasks t (set_of_each tasks knows) inside;

@@ -89,7 +89,8 @@ status_takes bytes x fits e =
     let regrouped = append_assoc (to_be_bytes w32 b.0.0.p.0) (to_be_bytes w32 b.0.0.n) (to_be_bytes w32 (length d.0.0) ++ flat_map phase_bytes d.0.0) in
     let after : Takes a.0.1 (to_be_bytes w32 b.0.0.p.0 ++ (to_be_bytes w32 b.0.0.n ++ (to_be_bytes w32 (length d.0.0) ++ flat_map phase_bytes d.0.0))) d.0.1 =
     subst (λ (v : List ℕ). Takes a.0.1 v d.0.1) regrouped rest in
-    let whole = Takes-then bytes (to_be_bytes w32 a.0.0) a.0.1 (to_be_bytes w32 b.0.0.p.0 ++ (to_be_bytes w32 b.0.0.n ++ (to_be_bytes w32 (length d.0.0) ++ flat_map phase_bytes d.0.0))) d.0.1 t0.0 after in
+    let whole = Takes-then bytes (to_be_bytes w32 a.0.0) a.0.1 (to_be_bytes w32 b.0.0.p.0 ++ (to_be_bytes w32 b.0.0.n ++
+    (to_be_bytes w32 (length d.0.0) ++ flat_map phase_bytes d.0.0))) d.0.1 t0.0 after in
     let numbers : HasNumbers (made_of a.0.0 b.0.0 d.0.0) =
     record { task = t0.1; phaser = t1.1.phaser; phase = t1.1.phase; phases = All-from_recursion HasPhaseNumbers d.0.0 t3.2 } in
     let made : Status × List ℕ = (made_of a.0.0 b.0.0 d.0.0, d.0.1) in

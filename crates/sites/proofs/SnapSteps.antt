@@ -21,7 +21,7 @@ use Rattle.phase_scan.proofs.Loads.{await_load, goes_both, load_goes, phase_load
 use Rattle.phase_scan.proofs.Tables.{given_below_same}
 use Rattle.sites.specs.Rows.{HasNumbers, HasPhaseNumbers}
 use Rattle.sites.specs.Snaps.{HasLookedOn, LoadsChosen}
-use Rattle.sites.specs.inside.Snapping.{FindsRow, FindsRows, FindsStatus, status_with}
+use Rattle.sites.specs.inside.Snapping.{FindsRow, FindsRows, FindsStatus, whole_status}
 
 -- looking, and looking on
 pub looked_both : (a k m : Known) → HasLookedOn a k → HasLookedOn k m → HasLookedOn a m
@@ -108,7 +108,8 @@ finds_more p t answer list now_list k j m before load more numbers =
           row_more (λ r. true) t (λ u. before.phases) (with_phase (λ u. before.phases) t p answer) p answer k j m before.loads refl load refl;
       listed =
           more
-          ∙ ap (λ xs. xs ++ option_to_list (option_map (λ n. record { p = record { 0 = p }; n = n }) answer)) (before.listed ∙ given_below_same (listed_phase (λ r. true) before.phases) (listed_phase (λ r. true) g) p same)
+          ∙ ap (λ xs. xs ++ option_to_list (option_map (λ n. record { p = record { 0 = p }; n = n }) answer))
+          (before.listed ∙ given_below_same (listed_phase (λ r. true) before.phases) (listed_phase (λ r. true) g) p same)
           ∙ ap (λ o. given_below (listed_phase (λ r. true) g) p ++ option_to_list o) here
           ∙ ap (given_below (listed_phase (λ r. true) g)) (sym (add-one p));
       numbers = numbers;
@@ -161,7 +162,8 @@ module _ (plan : Plan) (events : ℕ → Option Event) (t : ℕ) (list now_list 
             listed =
                 more
                 ∙ ap (λ xs. xs ++ option_to_list status) before.listed
-                ∙ ap (λ o. given_below (status_of plan before.found all) t ++ option_to_list o) (f.status_is ∙ sym (ap (option_map (status_with phasers t (before.found.phases t))) (here ∙ is)))
+                ∙ ap (λ o. given_below (status_of plan before.found all) t ++ option_to_list o) (f.status_is ∙ sym
+                (ap (option_map (whole_status phasers t (before.found.phases t))) (here ∙ is)))
                 ∙ ap (given_below (status_of plan before.found all)) (sym (add-one t));
             numbers = numbers_more status f.numbers more;
           }
@@ -170,10 +172,10 @@ module _ (plan : Plan) (events : ℕ → Option Event) (t : ℕ) (list now_list 
           let g : State = record s { phases = updated s.phases t f.phases } in
           let own : g.phases t ≡ f.phases = updated_same s.phases t t f.phases refl in
           let same : (u : ℕ) → u < t → status_of plan s all u ≡ status_of plan g all u =
-          λ u l. ap (λ (h : Phases). option_map (status_with phasers u h) (s.published u)) (sym (updated_other s.phases t u f.phases (λ e. absurd (omega arith)))) in
+          λ u l. ap (λ (h : Phases). option_map (whole_status phasers u h) (s.published u)) (sym (updated_other s.phases t u f.phases (λ e. absurd (omega arith)))) in
           let status_is : status ≡ status_of plan g all t =
-          f.status_is ∙ ap (option_map (status_with phasers t f.phases)) (sym (here ∙ is))
-          ∙ ap (λ (h : Phases). option_map (status_with phasers t h) (s.published t)) (sym own) in
+          f.status_is ∙ ap (option_map (whole_status phasers t f.phases)) (sym (here ∙ is))
+          ∙ ap (λ (h : Phases). option_map (whole_status phasers t h) (s.published t)) (sym own) in
           record {
             found = g;
             published = before.published;

@@ -37,7 +37,8 @@ snap_made plan sites site events list before between now awaits others rows =
     }
 
 -- each status is one of a task of the site that was found waiting
-pub snap_own : (plan : Plan) (sites site : ℕ) (list : List Status) (before now : Known) → IsCheckedPlan plan → IsSnap plan sites site list before now → (s : Status) → Contains list s → s.t.0 < length plan.parents × is_of_site sites site s.t.0 ≡ true
+pub snap_own : (plan : Plan) (sites site : ℕ) (list : List Status) (before now : Known) → IsCheckedPlan plan → IsSnap plan sites site list before now → (s : Status) →
+    Contains list s → s.t.0 < length plan.parents × is_of_site sites site s.t.0 ≡ true
 snap_own plan sites site list before now checked c s inside =
     let are : AreStatuses plan c.found (λ p. true) list = subst (AreStatuses plan c.found (λ p. true)) (sym c.statuses) (statuses_are plan c.found (λ p. true) checked) in
     let has = (are.events s.t.0 s.event).0 (s, inside, refl, refl) in
@@ -47,7 +48,8 @@ snap_own plan sites site list before now checked c s inside =
     ]
 
 -- a site may store what it has found
-pub snap_stored : (plan : Plan) (sites site : ℕ) (list : List Status) (before now : Known) → IsCheckedPlan plan → IsSnap plan sites site list before now → All HasNumbers list → AreOfSite sites site list
+pub snap_stored : (plan : Plan) (sites site : ℕ) (list : List Status) (before now : Known) → IsCheckedPlan plan → IsSnap plan sites site list before now →
+    All HasNumbers list → AreOfSite sites site list
 snap_stored plan sites site list before now checked c numbers =
     let are : AreStatuses plan c.found (λ p. true) list = subst (AreStatuses plan c.found (λ p. true)) (sym c.statuses) (statuses_are plan c.found (λ p. true) checked) in
     record {
@@ -100,14 +102,16 @@ tells_nothing plan sites site list before now checked c none =
 
 -- what it tells, by a viewer of the board
 pub snap_told :
-    (f : Frame) (sites site : ℕ) (list : List Status) (before now : Known) → IsOf before f → IsCheckedPlan f.plan → IsSnap f.plan sites site list before now → TellsSite f.plan sites site list before now
+    (f : Frame) (sites site : ℕ) (list : List Status) (before now : Known) → IsOf before f → IsCheckedPlan f.plan → IsSnap f.plan sites site list before now →
+    TellsSite f.plan sites site list before now
 snap_told f sites site list before now of checked c =
     elim (own_or_none (is_of_site sites site) (length f.plan.parents)) [
       | inl (t, l, is) ↦
           let own_plan = sym of.plan in
           let here : IsSnap before.view.plan sites site list before now = subst (λ (q : Plan). IsSnap q sites site list before now) own_plan c in
           let small : t < length before.view.plan.parents = subst (λ (q : Plan). t < length q.parents) own_plan l in
-          let seat = chosen_seat before.view.plan (is_of_site sites site) here.found.published (length before.view.plan.parents) before here.between refl (omega arith) here.awaits t small is in
+          let seat = chosen_seat before.view.plan (is_of_site sites site) here.found.published (length before.view.plan.parents) before here.between refl (omega arith)
+          here.awaits t small is in
           subst (λ (q : Plan). TellsSite q sites site list before now) of.plan
           (snap_tells before now sites site list (subst IsCheckedPlan own_plan checked) seat here)
       | inr none ↦ tells_nothing f.plan sites site list before now checked c none
@@ -121,5 +125,6 @@ snap_possible f sites site list before now of checked c t l is =
     let own_plan = sym of.plan in
     let here : IsSnap before.view.plan sites site list before now = subst (λ (q : Plan). IsSnap q sites site list before now) own_plan c in
     let small : t < length before.view.plan.parents = subst (λ (q : Plan). t < length q.parents) own_plan l in
-    let seat = chosen_seat before.view.plan (is_of_site sites site) here.found.published (length before.view.plan.parents) before here.between refl (omega arith) here.awaits t small is in
+    let seat = chosen_seat before.view.plan (is_of_site sites site) here.found.published (length before.view.plan.parents) before here.between refl (omega arith)
+    here.awaits t small is in
     some_possible before now sites site list (subst IsCheckedPlan own_plan checked) seat here t (small, is)

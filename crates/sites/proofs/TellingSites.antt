@@ -34,7 +34,8 @@ pub far_to_viewer : (plan : Plan) (own : Option ℕ) (a : ℕ → Place) (s : Se
 far_to_viewer plan own a s far = record { later = far.later; equal = far.equal; scanned = λ t is. absurd (cc) }
 
 -- a snap of a site with a task: the viewer's seat was one before
-module _ (before now : Known) (sites site : ℕ) (list : List Status) (checked : IsCheckedPlan before.view.plan) (seat : IsSeat before) (c : IsSnap before.view.plan sites site list before now) where
+module _ (before now : Known) (sites site : ℕ) (list : List Status) (checked : IsCheckedPlan before.view.plan) (seat : IsSeat before)
+    (c : IsSnap before.view.plan sites site list before now) where
   abbrev plan : Plan
   plan = before.view.plan
 

@@ -5,7 +5,7 @@ ghost use Rattle.armus_base.specs.Statuses.{IsInOrder};
 ghost use Rattle.sites.specs.Checks.{AreAll, IsCheck, IsSiteEnd, count_after_check};
 ghost use Rattle.sites.specs.Keeping.{held};
 ghost use Rattle.sites.specs.Rows.{IsBadRow};
-ghost use Rattle.sites.specs.inside.Gathering.{AreGathered, IsEndAt, NoneBad, TakesRow};
+ghost use Rattle.sites.specs.inside.Gathering.{AreGathered, EndsAtSite, NoneBad, TakesRow};
 ghost use Rattle.sites.specs.declared.ends.DecodeEnd.TheVariants as decode_ends;
 
 use crate::decoding::{MAX_SITES, decode};
@@ -54,7 +54,7 @@ fn take_site<K: Keeper>(
     ensures rows { K.rows keeper.new ≡ K.rows keeper.old }
     ensures count { K.faults keeper.new ≡ count_after_check result (K.faults keeper.old) }
     ensures ok { OnOk result (TakesRow sites site (held (K.rows keeper.old) site) all.old.items all.new.items) }
-    ensures end { IfErr result (IsEndAt sites (K.rows keeper.old) site) }
+    ensures end { IfErr result (EndsAtSite sites (K.rows keeper.old) site) }
 {
     let row = match keeper.get(alloc, site) {
         Ok(row) => row,

@@ -29,7 +29,7 @@ abbrev pub NoneBad : ℕ → List (Option (List ℕ)) → ℕ → Type 0
 NoneBad sites rows n = (site : ℕ) → site < n → IsBadAt sites rows site → ⊥
 
 -- taking the row of a site ends with its own number where that row is bad
-abbrev pub IsEndAt : ℕ → List (Option (List ℕ)) → ℕ → SiteEnd → Type 0
-IsEndAt sites rows site (Bad s) = s ≡ site × IsBadAt sites rows site
-IsEndAt sites rows site Fault = Unit {0}
-IsEndAt sites rows site NoMemory = Unit {0}
+abbrev pub EndsAtSite : ℕ → List (Option (List ℕ)) → ℕ → SiteEnd → Type 0
+EndsAtSite sites rows site (Bad s) = s ≡ site × IsBadAt sites rows site
+EndsAtSite sites rows site Fault = Unit {0}
+EndsAtSite sites rows site NoMemory = Unit {0}

@@ -12,8 +12,8 @@ use Rattle.phase_scan.specs.Collects.{IfAsked, LoadsRow, LoadsRows}
 use Rattle.sites.specs.Rows.{HasNumbers, HasPhaseNumbers}
 
 -- the status of task t on the event, with all its phases on so many phasers
-abbrev pub status_with : ℕ → ℕ → Phases → Event → Status
-status_with phasers t phases e = record { t = record { 0 = t }; event = e; phases = given_below (listed_phase (λ p. true) phases) phasers }
+abbrev pub whole_status : ℕ → ℕ → Phases → Event → Status
+whole_status phasers t phases e = record { t = record { 0 = t }; event = e; phases = given_below (listed_phase (λ p. true) phases) phasers }
 
 -- the loads of the phase words of task t on the first phasers, in order; the list has the phases that they found
 pub record FindsRow (phasers t : ℕ) (list : List Member) (before now : Known) : Type 0 where
@@ -26,7 +26,7 @@ pub record FindsRow (phasers t : ℕ) (list : List Member) (before now : Known) 
 pub record FindsStatus (phasers t : ℕ) (event : Option Event) (status : Option Status) (before now : Known) : Type 0 where
   pub phases : Phases
   pub loads : IfAsked (is_some event) (LoadsRow (λ p. true) t phases phasers) before now
-  pub status_is : status ≡ option_map (status_with phasers t phases) event
+  pub status_is : status ≡ option_map (whole_status phasers t phases) event
   pub numbers : (s : Status) → status ≡ Some s → HasNumbers s
 
 -- the rows of those of the first tasks that were found waiting on these events, in order; the list has their statuses

@@ -2,7 +2,7 @@ use Rattle.std.proofs.Common.{◌∙◌, subst, sym, refl}
 use Rattle.std.proofs.lemmas.Result.{err_from_is_err_and}
 use Rattle.sites.specs.Checks.{IsSiteEnd}
 use Rattle.sites.specs.Keeping.{held}
-use Rattle.sites.specs.inside.Gathering.{IsEndAt, TakesRow}
+use Rattle.sites.specs.inside.Gathering.{EndsAtSite, TakesRow}
 use Rattle.sites.proofs.Gathered.{end_first, gathered_more, none_more}
 use Rattle.sites.proofs.checking.gather.Goals as goal
 
@@ -12,7 +12,7 @@ returns-in_err-take_site-clause-end g c =
     let rows = g.K.Keeper.rows c.args.keeper.now in
     let p = err_from_is_err_and c.from_residual.result c.from_residual.ensures.1 in
     rw (p.1, p.2) (end_first c.args.sites rows c.loop-site.site c.in_err-take_site.field-0.0 c.loop-site-test.true i.none
-    (subst (λ r. IsEndAt c.args.sites r c.loop-site.site c.in_err-take_site.field-0.0) i.rows c.in_err-take_site.ensures.end))
+    (subst (λ r. EndsAtSite c.args.sites r c.loop-site.site c.in_err-take_site.field-0.0) i.rows c.in_err-take_site.ensures.end))
 
 pub loop-site-preserved : goal.loop-site-preserved
 loop-site-preserved g c =

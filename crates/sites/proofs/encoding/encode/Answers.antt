@@ -10,5 +10,6 @@ loop-status-preserved c =
     record {
       bytes = one_more status_bytes (to_be_bytes w32 (length xs)) c.loop-status.row.items c.put_status.new.out.items xs c.loop-status.status-index c.status-item.result
           c.loop-status-test.true c.status-item.is c.loop-status.invariant.bytes c.in_ok-put_status.ensures.bytes;
-      numbers = each_more HasNumbers xs c.loop-status.status-index c.status-item.result c.loop-status-test.true c.status-item.is c.loop-status.invariant.numbers c.in_ok-put_status.ensures.numbers;
+      numbers = each_more HasNumbers xs c.loop-status.status-index c.status-item.result c.loop-status-test.true c.status-item.is c.loop-status.invariant.numbers
+          c.in_ok-put_status.ensures.numbers;
     }

@@ -34,15 +34,19 @@ loop-site-preserved g c =
     let m = c.snap_site.new.view in
     let i = c.loop-site.invariant in
     let small : n < length views = (let count = c.loop-site.auto.views in let l = c.loop-site-test.true in let have = c.requires.sites in omega arith) in
-    let here : slice_get (map known views) n ≡ Some (known (get_or views n r)) = read_here known views n r small c.index-views-site.is ∙ ap (λ v. Some (known v)) c.index-views-site.is in
+    let here : slice_get (map known views) n ≡ Some (known (get_or views n r)) = read_here known views n r small c.index-views-site.is ∙ ap (λ v. Some (known v))
+    c.index-views-site.is in
     let room : n < length (g.K.Keeper.rows c.loop-site.keeper) = (let l = c.loop-site-test.true in let kept = i.snapped.kept in let have = c.requires.kept in omega arith) in
     record {
       faults = c.in_ok-snap_site.ensures.count ∙ i.faults;
       snapped =
-          subst (λ vs. HaveSnapped c.args.board.now c.args.sites (n + 1) (map known c.args.views.now) vs (g.K.Keeper.rows c.args.keeper.now) (g.K.Keeper.rows c.snap_site.new.keeper))
+          subst (λ vs. HaveSnapped c.args.board.now c.args.sites (n + 1) (map known c.args.views.now) vs (g.K.Keeper.rows c.args.keeper.now)
+          (g.K.Keeper.rows c.snap_site.new.keeper))
           (sym (map-set known views n m))
-          (snapped_more c.args.board.now c.args.sites n (map known c.args.views.now) (map known views) (g.K.Keeper.rows c.args.keeper.now) (g.K.Keeper.rows c.loop-site.keeper) i.snapped
-          (known (get_or views n r)) (known m) here c.snap_site.ensures.made c.snap_site.ensures.looked (g.K.Keeper.rows c.snap_site.new.keeper) room c.in_ok-snap_site.ensures.ok);
+          (snapped_more c.args.board.now c.args.sites n (map known c.args.views.now) (map known views) (g.K.Keeper.rows c.args.keeper.now)
+          (g.K.Keeper.rows c.loop-site.keeper) i.snapped
+          (known (get_or views n r)) (known m) here c.snap_site.ensures.made c.snap_site.ensures.looked (g.K.Keeper.rows c.snap_site.new.keeper) room
+          c.in_ok-snap_site.ensures.ok);
     }
 
 pub returns-in_err-snap_site-clause-looked : goal.returns-in_err-snap_site-clause-looked
@@ -54,7 +58,8 @@ returns-in_err-snap_site-clause-looked g c =
     let m = c.snap_site.new.view in
     let i = c.loop-site.invariant in
     let small : n < length views = (let count = c.loop-site.auto.views in let l = c.loop-site-test.true in let have = c.requires.sites in omega arith) in
-    let here : slice_get (map known views) n ≡ Some (known (get_or views n r)) = read_here known views n r small c.index-views-site.is ∙ ap (λ v. Some (known v)) c.index-views-site.is in
+    let here : slice_get (map known views) n ≡ Some (known (get_or views n r)) = read_here known views n r small c.index-views-site.is ∙ ap (λ v. Some (known v))
+    c.index-views-site.is in
     subst (HaveLookedOn c.args.board.now (map known c.args.views.now)) (sym (map-set known views n m))
     (looked_more c.args.board.now c.args.sites n (map known c.args.views.now) (map known views) (g.K.Keeper.rows c.args.keeper.now) (g.K.Keeper.rows c.loop-site.keeper) i.snapped
     (known (get_or views n r)) (known m) here c.snap_site.ensures.made c.snap_site.ensures.looked)
@@ -69,7 +74,8 @@ returns-in_err-snap_site-clause-rows g c =
     let i = c.loop-site.invariant in
     let plan = c.args.board.now.plan in
     let small : n < length views = (let count = c.loop-site.auto.views in let l = c.loop-site-test.true in let have = c.requires.sites in omega arith) in
-    let here : slice_get (map known views) n ≡ Some (known (get_or views n r)) = read_here known views n r small c.index-views-site.is ∙ ap (λ v. Some (known v)) c.index-views-site.is in
+    let here : slice_get (map known views) n ≡ Some (known (get_or views n r)) = read_here known views n r small c.index-views-site.is ∙ ap (λ v. Some (known v))
+    c.index-views-site.is in
     let counted = sym (length_map known views ∙ c.loop-site.auto.views ∙ c.requires.sites) in
     subst (λ new. ChangesRows plan (g.K.Keeper.rows c.args.keeper.now) new (map known (set views n m))) (sym c.in_err-snap_site.ensures.err)
     (subst (ChangesRows plan (g.K.Keeper.rows c.args.keeper.now) (g.K.Keeper.rows c.loop-site.keeper)) (sym (map-set known views n m))

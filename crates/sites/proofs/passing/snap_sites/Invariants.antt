@@ -7,5 +7,6 @@ abbrev pub invariant-loop-site : goal.invariant-loop-site
 invariant-loop-site g l =
     record {
       faults : g.K.Keeper.faults l.keeper ≡ g.K.Keeper.faults l.initial.keeper;
-      snapped : HaveSnapped l.board l.sites l.site (map g.V.Snaps.known l.initial.views) (map g.V.Snaps.known l.views) (g.K.Keeper.rows l.initial.keeper) (g.K.Keeper.rows l.keeper);
+      snapped : HaveSnapped l.board l.sites l.site (map g.V.Snaps.known l.initial.views) (map g.V.Snaps.known l.views) (g.K.Keeper.rows l.initial.keeper)
+          (g.K.Keeper.rows l.keeper);
     }

@@ -13,7 +13,8 @@ pub returns-in_err-keep-clause-looked : goal.returns-in_err-keep-clause-looked
 returns-in_err-keep-clause-looked c =
     let i = c.loop-number.invariant in
     looked_both c.args.view.now c.loop-number.view c.load_phase-found.new.self i.looked
-    (looked_phase c.loop-number.view c.load_phase-found.new.self c.args.board.now c.args.t.0 c.loop-number.number c.load_phase-found.result i.made c.requires.task c.load_phase-found.ensures.answer)
+    (looked_phase c.loop-number.view c.load_phase-found.new.self c.args.board.now c.args.t.0 c.loop-number.number c.load_phase-found.result i.made c.requires.task
+    c.load_phase-found.ensures.answer)
 
 pub loop-number-preserved : goal.loop-number-preserved
 loop-number-preserved c =
@@ -26,5 +27,6 @@ loop-number-preserved c =
       made = still_of j m c.args.board.now i.made load.table load.load.same;
       looked = looked_both c.args.view.now j m i.looked (looked_phase j m c.args.board.now c.args.t.0 c.loop-number.number c.load_phase-found.result i.made c.requires.task load);
       row = finds_more c.loop-number.number c.args.t.0 c.load_phase-found.result c.loop-number.list.items c.keep.new.items.items c.args.view.now j m i.row load more
-          (subst (All HasPhaseNumbers) (sym c.in_ok-keep.ensures) (All-append HasPhaseNumbers c.loop-number.list.items (option_to_list c.member_at.result) i.row.numbers c.member_at.ensures.numbers));
+          (subst (All HasPhaseNumbers) (sym c.in_ok-keep.ensures) (All-append HasPhaseNumbers c.loop-number.list.items (option_to_list c.member_at.result) i.row.numbers
+          c.member_at.ensures.numbers));
     }

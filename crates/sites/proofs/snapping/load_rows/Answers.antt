@@ -6,7 +6,12 @@ use Rattle.sites.proofs.snapping.load_rows.Goals as goal
 
 pub loop-number-init : goal.loop-number-init
 loop-number-init c =
-    record { made = c.requires.made; looked = inl refl; rows = rows_none c.args.board.now.plan (event_for c.args.events.now) c.args.view.now c.new-list.result.items c.new-list.ensures.items }
+    record {
+      made = c.requires.made;
+      looked = inl refl;
+      rows = rows_none c.args.board.now.plan (event_for c.args.events.now) c.args.view.now c.new-list.result.items
+          c.new-list.ensures.items;
+    }
 
 pub returns-in_err-status-clause-looked : goal.returns-in_err-status-clause-looked
 returns-in_err-status-clause-looked c =
@@ -28,5 +33,6 @@ loop-number-preserved c =
     record {
       made = c.load_status.ensures.made;
       looked = looked_both c.args.view.now c.loop-number.view c.load_status.new.view i.looked c.load_status.ensures.looked;
-      rows = rows_one_more plan events t c.loop-number.list.items c.keep.new.items.items c.args.view.now c.loop-number.view c.load_status.new.view i.rows status finds c.in_ok-keep.ensures;
+      rows = rows_one_more plan events t c.loop-number.list.items c.keep.new.items.items c.args.view.now c.loop-number.view c.load_status.new.view i.rows status finds
+          c.in_ok-keep.ensures;
     }
