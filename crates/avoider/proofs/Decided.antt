@@ -1,5 +1,5 @@
 -- A decision meets what the board asks of a publication and of a refusal.
-use Rattle.std.proofs.Common.{◌≡◌, ◌≢◌, ℕ, true, List, Option, Some, None, length, sym, ap, ◌∙◌, subst}
+use Rattle.std.proofs.Common.{◌≡◌, ◌≢◌, ℕ, true, List, Option, Some, None, length, sym, ap, ◌∙◌, subst, inl, inr}
 use Rattle.std.specs.Prelude.{MatchOption, option_map, unwrap_or}
 use Rattle.armus_base.specs.declared.event.Event.{Event}
 use Rattle.armus_base.specs.declared.status.Status.{Status}
@@ -19,14 +19,17 @@ use Rattle.board.specs.declared.view.View.{View}
 use Rattle.board.specs.Views.{avoids, action_after, next_action, own_place, place_in, seen, task_of}
 use Rattle.board.specs.Steps.{own_phase}
 use Rattle.board.specs.Locking.{FreesLock, IsWithLock, MayRefuse}
-use Rattle.board.specs.Seats.{Frame, IsOf, IsSeat, Known, MakesStep, MayPublish}
+use Rattle.board.specs.Seats.{IsSeat, Known, MakesStep, MayPublish}
 use Rattle.board.proofs.Fitting.{moved_same}
 use Rattle.board.proofs.Seated.{next_there}
 use Rattle.phase_scan.specs.Looks.{LoadsAlone}
 use Rattle.phase_scan.proofs.Supposes.{own_phase_stays}
 use Rattle.verdict.specs.declared.found.Cycle.{Cycle}
+use Rattle.order_graph.specs.Orders.{OrderValue}
 use Rattle.avoider.specs.Decisions.{ExplainsDeath}
+use Rattle.avoider.specs.Kept.{HasPublishedByOrder}
 use Rattle.avoider.specs.OnBoard.{DropsBelow, HasPublished, HasRefused, InEachByLock, Judges}
+use Rattle.avoider.specs.inside.Followings.{HoldsOrOtherDead}
 use Rattle.avoider.specs.inside.Judged.{IsJudged}
 use Rattle.avoider.proofs.CycleDead.{cycle_dead}
 use Rattle.avoider.proofs.Dropping.{kept_all, own_place_next, place_at}
@@ -40,6 +43,25 @@ next_stays k m t seat own goes =
     let here : own_place m.view ≡ own_place k.view =
     ap (place_in m.view.sight.places) (task ∙ is_t) ∙ goes.here t (seat.own t own).1 ∙ ap (place_in k.view.sight.places) (sym is_t) in
     λ i. action_after (goes.same.plan i) (task i) (here i).done (here i).dropped
+
+-- a seat that has refused its await and freed the lock
+module _ (aim : Aim) (store stored free : Known) (next : next_action store.view ≡ Some (Blocks aim)) (step : MakesStep (Refuses aim) store stored) (freed : FreesLock stored free) where
+  free_place : own_place free.view ≡ place_at (own_place store.view).done 0
+  free_place =
+      ap own_place freed.view
+      ∙ own_place_next (Refuses aim) store stored (ap (λ (s : SeenBy). s.places (task_of store.view)) step.seen_now ∙ moved_same (seen store.view).places (task_of store.view) (Refuses aim)) step.same.own
+      ∙ ap (λ o. next_place (own_place store.view).done o (Refuses aim)) (next_there store.view (Blocks aim) next).0
+
+  pub free_refused : (own_place free.view).dropped ≡ Some 0
+  free_refused = ap (λ (v : Place). v.dropped) free_place
+
+  pub free_phases : own_phase free.view ≡ own_phase store.view
+  free_phases =
+      let same_plan : free.view.plan ≡ store.view.plan = ap (λ (v : View). v.plan) freed.view ∙ step.same.plan in
+      let same_task : task_of free.view ≡ task_of store.view = ap task_of freed.view ∙ ap (λ o. unwrap_or o 0) step.same.own in
+      (λ i. phases_at_place (same_plan i) (same_task i) (free_place i))
+      ∙ kept_all (phases_after store.view.plan (task_of store.view) (own_place store.view).done)
+      ∙ ap (λ o. kept o (phases_after store.view.plan (task_of store.view) (own_place store.view).done)) (sym (next_there store.view (Blocks aim) next).0)
 
 module _ (list : List Status) (aim : Aim) (before now : Known) (found : Option Cycle) (t : ℕ) (seat : IsSeat before) (own : before.view.own ≡ Some t) (avoiding : avoids before.view.mode ≡ true) (holds : before.view.holds ≡ true) (next : next_action before.view ≡ Some (Blocks aim)) (goes : LoadsAlone before now) (j : IsJudged list aim before now found) where
   abbrev plan : Plan
@@ -142,25 +164,29 @@ module _ (list : List Status) (aim : Aim) (before now : Known) (found : Option C
         freed = freed;
       }
 
-  -- the place of a refused task
-  refused_place : (stored : Known) → MakesStep (Refuses aim) now stored → own_place stored.view ≡ place_at (own_place now.view).done 0
-  refused_place stored step =
-      own_place_next (Refuses aim) now stored (ap (λ (s : SeenBy). s.places (task_of now.view)) step.seen_now ∙ moved_same (seen now.view).places (task_of now.view) (Refuses aim)) step.same.own
-      ∙ ap (λ o. next_place (own_place now.view).done o (Refuses aim)) (next_there now.view (Blocks aim) next_now).0
+  -- where no cycle was found nobody is dead by the statuses
+  nobody_dead : found ≡ None → IsWithLock plan t (seen now.view) → (u : ℕ) → IsDeadBy j.supposed u → ⊥
+  nobody_dead none is u dead =
+      let told_there = told is.places is.lock is.lawful is.with_seat is.far in
+      told_there.blocks (λ by. lives none is.places is.lock is.lawful is.with_seat is.far (told_there.refuses by)) u dead
 
-  free_place : (stored free : Known) → MakesStep (Refuses aim) now stored → FreesLock stored free → own_place free.view ≡ place_at (own_place now.view).done 0
-  free_place stored free step freed = ap own_place freed.view ∙ refused_place stored step
+  with_lock_there : IsWithLock now.view.plan (task_of now.view) (seen now.view) → IsWithLock plan t (seen now.view)
+  with_lock_there is = subst (λ u. IsWithLock plan u (seen now.view)) task (subst (λ (q : Plan). IsWithLock q (task_of now.view) (seen now.view)) goes.same.plan is)
 
-  pub free_refused : (stored free : Known) → MakesStep (Refuses aim) now stored → FreesLock stored free → (own_place free.view).dropped ≡ Some 0
-  free_refused stored free step freed = ap (λ (v : Place). v.dropped) (free_place stored free step freed)
-
-  free_phases : (stored free : Known) → MakesStep (Refuses aim) now stored → FreesLock stored free → own_phase free.view ≡ own_phase now.view
-  free_phases stored free step freed =
-      let same_plan : free.view.plan ≡ now.view.plan = ap (λ (v : View). v.plan) freed.view ∙ step.same.plan in
-      let same_task : task_of free.view ≡ task_of now.view = ap task_of freed.view ∙ ap (λ o. unwrap_or o 0) step.same.own in
-      (λ i. phases_at_place (same_plan i) (same_task i) (free_place stored free step freed i))
-      ∙ kept_all (phases_after now.view.plan (task_of now.view) (own_place now.view).done)
-      ∙ ap (λ o. kept o (phases_after now.view.plan (task_of now.view) (own_place now.view).done)) (sym (next_there now.view (Blocks aim) next_now).0)
+  -- so an order that has followed them has just their pairs
+  pub publishes_by_order :
+      (old new : OrderValue) (e : Event) (stored last : Known) → HoldsOrOtherDead j.supposed old new found → found ≡ None →
+      e.p.0 ≡ aim.phaser → option_map (target aim.off) (own_phase now.view aim.phaser) ≡ Some e.n → IsWithLock now.view.plan (task_of now.view) (seen now.view) → MakesStep (Blocks aim) now stored → FreesLock stored last → HasPublishedByOrder list aim e before last old new
+  unfolding publishes_on
+  publishes_by_order old new e stored last pairs none phaser phase possible step freed =
+      record {
+        published = publishes_on e stored last none phaser phase possible step freed;
+        holds =
+            elim (subst (HoldsOrOtherDead j.supposed old new) none pairs) [
+              | inl holds ↦ holds
+              | inr (u, dead) ↦ absurd (nobody_dead none (with_lock_there possible) u dead)
+            ];
+      }
 
   pub explained : (cycle : Cycle) → found ≡ Some cycle → ExplainsDeath j.supposed t cycle
   explained cycle is =
@@ -168,9 +194,9 @@ module _ (list : List Status) (aim : Aim) (before now : Known) (found : Option C
       (subst (λ o. MatchOption o (InEachByLock now (λ s. WouldBeDead s (task_of now.view) j.event → ⊥)) (ExplainsDeath j.supposed (task_of before.view))) is j.told)
 
   pub refuses_on :
-      (f : Frame) (cycle : Cycle) (stored free last : Known) → IsOf before f → found ≡ Some cycle → IsWithLock now.view.plan (task_of now.view) (seen now.view) →
-      MakesStep (Refuses aim) now stored → FreesLock stored free → DropsBelow (own_phase free.view) (length f.plan.makers) free last → HasRefused list aim cycle before last
-  refuses_on f cycle stored free last of is possible step freed drops =
+      (cycle : Cycle) (stored free last : Known) → found ≡ Some cycle → IsWithLock now.view.plan (task_of now.view) (seen now.view) →
+      MakesStep (Refuses aim) now stored → FreesLock stored free → DropsBelow (own_phase free.view) (length now.view.plan.makers) free last → HasRefused list aim cycle before last
+  refuses_on cycle stored free last is possible step freed drops =
       let why = explained cycle is in
       record {
         event = j.event;
@@ -185,6 +211,5 @@ module _ (list : List Status) (aim : Aim) (before now : Known) (found : Option C
         step = step;
         free = free;
         freed = freed;
-        drops = subst (λ (q : Plan). DropsBelow (own_phase now.view) (length q.makers) free last) (sym of.plan ∙ sym goes.same.plan)
-            (subst (λ m. DropsBelow m (length f.plan.makers) free last) (free_phases stored free step freed) drops);
+        drops = subst (λ m. DropsBelow m (length now.view.plan.makers) free last) (free_phases aim now stored free next_now step freed) drops;
       }

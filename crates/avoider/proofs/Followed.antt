@@ -1,6 +1,6 @@
 -- What an order that has followed statuses says of the dead.
 use Rattle.std.proofs.Common.{◌≡◌, ℕ, zero, suc, ◌+◌, ◌<◌, ◌≤◌, List, [], Option, None, Some, Result, Ok, Err, length, refl, sym, ◌∙◌, ap, subst, inl, inr, arith, get_or}
-use Rattle.std.specs.Prelude.{Contains, All, IfOk}
+use Rattle.std.specs.Prelude.{Contains, All, IfOk, MatchOption}
 use Rattle.std.proofs.lemmas.Bool.{cases_lt}
 use Rattle.std.proofs.lemmas.List.{get_or_past}
 use Rattle.std.proofs.lemmas.List.Elements.{All-contains, All-map, Contains-get_or}
@@ -29,7 +29,10 @@ use Rattle.pl_core.specs.Awaiting.{awaited_statuses}
 use Rattle.pl_core.specs.Stands.{IsAtAwaitOf}
 use Rattle.pl_core.specs.Worlds.{WorldValue, places_of, state_of}
 use Rattle.verdict.specs.declared.found.Cycle.{Cycle}
-use Rattle.avoider.specs.Kept.{HoldsPairs}
+use Rattle.avoider.specs.Decisions.{IsDecision, IsPublished, supposed_statuses}
+use Rattle.avoider.specs.Kept.{HoldsIfPublished, HoldsPairs}
+use Rattle.avoider.specs.declared.decision.Decision.{Decision}
+use Rattle.avoider.specs.declared.decision.Decision.TheVariants.{Published, Refused}
 use Rattle.avoider.specs.inside.Followings.{HoldsOrOtherDead}
 use Rattle.avoider.proofs.Supposing.{blocks_next, supposed_of_plan}
 
@@ -103,6 +106,19 @@ module _ (w : WorldValue) (checked : IsCheckedPlan w.plan) (reach : IsReachable 
   pub published_statuses :
       (new : WorldValue) → IsAtAwaitOf w t e → IsWorldStep w new t → awaited_statuses new.plan (state_of new) ≡ awaited_statuses w.plan (if_published (state_of w) t e)
   published_statuses new before s = ap (λ p. awaited_statuses p (state_of new)) s.plan ∙ ap (awaited_statuses w.plan) (published_state new before s)
+
+  -- so where the await was published an order that has followed those statuses has the pairs of the new ones
+  pub pairs_if_published :
+      NobodyDead (state_of w) → IsAtAwaitOf w t e → (new : WorldValue) (old now : OrderValue) (found : Option Cycle) → HoldsOrOtherDead (supposed_statuses w t e) old now found →
+      (d : Decision) → MatchOption found (d ≡ Published e) (λ c. d ≡ Refused c) → IsDecision w new t d → HoldsIfPublished (awaited_statuses new.plan (state_of new)) old now d
+  pairs_if_published nobody before new old now (Some c) pairs d is decision = subst (HoldsIfPublished (awaited_statuses new.plan (state_of new)) old now) (sym is) tt
+  pairs_if_published nobody before new old now None pairs d is decision =
+      let published : IsPublished w new t e = subst (IsDecision w new t) is decision in
+      subst (HoldsIfPublished (awaited_statuses new.plan (state_of new)) old now) (sym is)
+      (rw (published_statuses new before published.step) (elim pairs [
+        | inl holds ↦ holds
+        | inr (u, dead) ↦ absurd (nobody_by_statuses nobody published.alive u dead)
+      ]))
 
 -- the tasks of these statuses are tasks of the plan
 pub supposed_tasks :

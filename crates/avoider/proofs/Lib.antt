@@ -1,8 +1,10 @@
 pub mod InHand
-pub mod Judging
+pub mod JudgedLists
 pub mod Dropping
 pub mod CycleDead
 pub mod Decided
+pub mod Conclusions
+pub mod Sending
 pub mod Supposing
 pub mod Followed
 pub mod NobodyDies

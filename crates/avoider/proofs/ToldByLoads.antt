@@ -5,35 +5,25 @@ use Rattle.armus_base.specs.declared.event.Event.{Event}
 use Rattle.armus_base.specs.declared.status.Status.{Status}
 use Rattle.armus_base.specs.Deadlocks.{IsDeadBy, WouldBeDead}
 use Rattle.armus_base.specs.Plans.{Aim, Blocks}
-use Rattle.armus_base.specs.States.{awaited}
 use Rattle.board.specs.Views.{next_action, task_of}
-use Rattle.board.specs.Steps.{own_phase}
-use Rattle.board.specs.Seats.{Frame, IsOf, IsSeat, Known}
-use Rattle.phase_scan.specs.Collected.{HasFinds, IsCollected}
-use Rattle.phase_scan.specs.Collects.{IsCollect}
+use Rattle.board.specs.Seats.{IsSeat, Known}
 use Rattle.phase_scan.specs.Looks.{LoadsAlone}
-use Rattle.phase_scan.specs.Supposed.{IsSupposed}
-use Rattle.phase_scan.proofs.Loads.{goes_both}
+use Rattle.order_graph.specs.Orders.{OrderValue}
 use Rattle.verdict.specs.declared.found.Cycle.{Cycle}
 use Rattle.avoider.specs.Decisions.{ExplainsDeath, IsOutcome}
 use Rattle.avoider.specs.inside.OffCycle.{ImpedesSome, IsImpeded}
 use Rattle.avoider.specs.OnBoard.{InEachByLock, Judges}
-use Rattle.avoider.specs.inside.Judged.{IsJudged}
+use Rattle.avoider.specs.inside.Followings.{HoldsOrOtherDead}
+use Rattle.avoider.specs.inside.Judged.{IsJudged, IsJudgedByOrder}
 use Rattle.avoider.proofs.LivesByLoads.{lives_by_statuses, lives_harmless, lives_unimpeded}
-use Rattle.avoider.proofs.Judging.{judged, judges_so}
+use Rattle.avoider.proofs.JudgedLists.{judged}
 
 -- the first of two facts is another one
 match_none : {X : Type 0} (P Q : Type 0) (E : X → Type 0) (o : Option X) → (P → Q) → MatchOption o P E → MatchOption o Q E
 match_none P Q E None turn is = turn is
 match_none P Q E (Some x) turn is = is
 
-module _ (f : Frame) (list supposed : List Status) (aim : Aim) (event : Event) (before first between now : Known) (t : ℕ) (of : IsOf before f) (seat : IsSeat before) (own : before.view.own ≡ Some t) (locked : before.view.holds ≡ true) (next : next_action before.view ≡ Some (Blocks aim)) (same : first ≡ before) (goes : LoadsAlone first between) (collect : IsCollect f.plan list first between) (collected : IsCollected list first between) (finds : HasFinds list between) (adds : IsSupposed f.plan list event supposed between now) (more : LoadsAlone between now) (event_is : awaited (Some (Blocks aim)) (own_phase before.view) ≡ Some event) where
-  judges : Judges list aim event supposed before now
-  judges = judges_so f list supposed aim event before first between now of same goes collect collected finds adds event_is
-
-  all : LoadsAlone before now
-  all = goes_both before between now (subst (λ k. LoadsAlone k between) same goes) more
-
+module _ (list supposed : List Status) (aim : Aim) (event : Event) (before now : Known) (t : ℕ) (seat : IsSeat before) (own : before.view.own ≡ Some t) (locked : before.view.holds ≡ true) (next : next_action before.view ≡ Some (Blocks aim)) (all : LoadsAlone before now) (judges : Judges list aim event supposed before now) where
   abbrev Lives : Type 0
   Lives = InEachByLock now (λ s. WouldBeDead s (task_of now.view) event → ⊥)
 
@@ -48,3 +38,7 @@ module _ (f : Frame) (list supposed : List Status) (aim : Aim) (event : Event) (
 
   pub judged_by : (found : Option Cycle) → IsOutcome supposed t found → IsJudged list aim before now found
   judged_by found told = judged list supposed aim event before now t found own judges (match_none (IsDeadBy supposed t → ⊥) Lives (ExplainsDeath supposed t) found by_statuses told)
+
+  pub judged_by_order : (old new : OrderValue) (found : Option Cycle) → IsOutcome supposed t found → HoldsOrOtherDead supposed old new found → IsJudgedByOrder list aim before now old new found
+  unfolding judged_by judged
+  judged_by_order old new found told pairs = record { judged = judged_by found told; pairs = pairs }

@@ -1,8 +1,12 @@
 -- What a decision leaves of a kept order.
 use Rattle.std.specs.Prelude.{List}
+use Rattle.armus_base.specs.declared.event.Event.{Event}
 use Rattle.armus_base.specs.declared.status.Status.{Status}
+use Rattle.armus_base.specs.Plans.{Aim}
+use Rattle.board.specs.Seats.{Known}
 use Rattle.order_graph.specs.Following.{ArePairs, StaysWhereOrdered}
 use Rattle.order_graph.specs.Orders.{OrderValue}
+use Rattle.avoider.specs.OnBoard.{HasPublished}
 use Rattle.avoider.specs.declared.decision.Decision.{Decision}
 use Rattle.avoider.specs.declared.decision.Decision.TheVariants.{Published, Refused}
 
@@ -15,3 +19,13 @@ pub record HoldsPairs (ss : List Status) (old new : OrderValue) : Type 0 where
 abbrev pub HoldsIfPublished : List Status → OrderValue → OrderValue → Decision → Type 0
 HoldsIfPublished ss old new (Published e) = HoldsPairs ss old new
 HoldsIfPublished ss old new (Refused c) = Unit {0}
+
+-- the task has published the event, and the edges are the pairs of the statuses on which this was decided
+pub record HasPublishedByOrder (list : List Status) (aim : Aim) (event : Event) (before now : Known) (old new : OrderValue) : Type 0 where
+  pub published : HasPublished list aim event before now
+  pub holds : HoldsPairs published.supposed old new
+
+-- so it is where the own await with this aim was published on a board
+abbrev pub HoldsIfPublishedOnBoard : List Status → Aim → Known → Known → OrderValue → OrderValue → Decision → Type 0
+HoldsIfPublishedOnBoard list aim before now old new (Published e) = HasPublishedByOrder list aim e before now old new
+HoldsIfPublishedOnBoard list aim before now old new (Refused c) = Unit {0}

@@ -5,15 +5,14 @@ ghost use Rattle.pl_core.specs.Stands.{IsEnabled};
 ghost use Rattle.pl_core.specs.Worlds.{state_of};
 ghost use Rattle.avoider.specs.Decisions.{HasGoneOn};
 
-use crate::avoid_step;
-use adaptive::Wanted;
+use crate::Judge;
 use armus_base::{NoMemory, TaskId};
 use pl_core::{Stand, World};
 use std::alloc::Global;
 
-/// Makes the next event of task `t`, which may go on, in a world where nobody is dead: at an await that of `avoid_step`, and else that of its code.
+/// Makes the next event of task `t`, which may go on, in a world where nobody is dead: at an await a decision of the judge, and else that of its code.
 /// Nobody is dead after. After `NoMemory` the world is as before.
-pub fn go_on(alloc: Global, world: &mut World, t: TaskId, wanted: Wanted) -> Result<(), NoMemory>
+pub fn go_on(alloc: Global, world: &mut World, t: TaskId, judge: &mut Judge) -> Result<(), NoMemory>
     requires task { t.0 < length world.old.plan.parents }
     requires enabled { IsEnabled world.old t.0 }
     requires nobody { NobodyDead (state_of world.old) }
@@ -23,7 +22,7 @@ pub fn go_on(alloc: Global, world: &mut World, t: TaskId, wanted: Wanted) -> Res
 {
     match world.stand(t) {
         Stand::Await(_) => {
-            let _ = avoid_step(alloc, world, t, wanted)?;
+            let _ = judge.step(alloc, world, t)?;
         }
         _ => world.step(t),
     }

@@ -13,7 +13,7 @@ ghost use Rattle.avoider.specs.Kept.{HoldsIfPublished};
 ghost use Rattle.avoider.specs.inside.Followings.{HoldsOrOtherDead};
 
 use crate::Decision;
-use crate::step::{death_of, event_before};
+use crate::step::{carry_out, death_of, event_before};
 use adaptive::Wanted;
 use armus_base::{NoMemory, Status, TaskId};
 use dep_state::DepState;
@@ -43,16 +43,8 @@ pub fn avoid_step_kept(
 {
     let event = event_before(world, t);
     let list = world.statuses_if(alloc, t, event)?;
-    match death_kept(alloc, order, list.as_slice(), t)? {
-        Some(cycle) => {
-            world.refuse(t);
-            Ok(Decision::Refused(cycle))
-        }
-        None => {
-            world.step(t);
-            Ok(Decision::Published(event))
-        }
-    }
+    let found = death_kept(alloc, order, list.as_slice(), t)?;
+    Ok(carry_out(world, t, event, found))
 }
 
 // The cycle of the statuses, where the task is dead by them. Nothing is searched where the order can follow them: nobody is dead then.

@@ -1,9 +1,13 @@
 //! Decisions of the runs that avoid deadlock: whether an await is published or refused, in a world and on a board.
 #![tactic(auto)]
 
+mod concluding;
 mod deciding;
+mod deciding_kept;
 mod decision;
 mod event;
+mod gathering;
+mod judging;
 mod kept;
 pub mod laws;
 mod lock;
@@ -11,8 +15,10 @@ mod off_cycle;
 mod step;
 
 pub use deciding::decide;
+pub use deciding_kept::decide_kept;
 pub use decision::Decision;
 pub use event::go_on;
+pub use judging::{Judge, Judging};
 pub use kept::avoid_step_kept;
 pub use lock::{release, try_take};
 pub use step::avoid_step;

@@ -1,5 +1,5 @@
 // The step of a task that stands at an await, in a world where nobody is dead.
-ghost use Rattle.std.specs.Prelude.{◌≡◌, ◌<◌, length, IfOk, IsTrue, OnErr};
+ghost use Rattle.std.specs.Prelude.{◌≡◌, ◌<◌, length, IfOk, IsTrue, MatchOption, OnErr};
 ghost use Rattle.armus_base.specs.CheckedPlans.{IsCheckedPlan};
 ghost use Rattle.armus_base.specs.Deadlocks.{NobodyDead, WouldBeDead};
 ghost use Rattle.armus_base.specs.Runs.{IsReachable};
@@ -7,7 +7,8 @@ ghost use Rattle.armus_base.specs.Statuses.{IsInOrder};
 ghost use Rattle.armus_base.specs.declared.event.Event.{Event};
 ghost use Rattle.pl_core.specs.Stands.{IsAtAwaitOf};
 ghost use Rattle.pl_core.specs.Worlds.{places_of, state_of};
-ghost use Rattle.avoider.specs.Decisions.{IsDecision, IsOutcome};
+ghost use Rattle.avoider.specs.Decisions.{IsDecision, IsOutcome, supposed_statuses};
+ghost use Rattle.avoider.specs.declared.decision.Decision.TheVariants.{Published, Refused};
 
 use crate::Decision;
 use adaptive::{Wanted, dead_by};
@@ -41,16 +42,8 @@ pub fn avoid_step(
         return Ok(Decision::Published(event));
     }
     let list = world.statuses_if(alloc, t, event)?;
-    match death_of(alloc, list.as_slice(), t, wanted)? {
-        Some(cycle) => {
-            world.refuse(t);
-            Ok(Decision::Refused(cycle))
-        }
-        None => {
-            world.step(t);
-            Ok(Decision::Published(event))
-        }
-    }
+    let found = death_of(alloc, list.as_slice(), t, wanted)?;
+    Ok(carry_out(world, t, event, found))
 }
 
 // Whether a look at the phasers shows that the task, were it published on the event, would lie on no cycle: its event is reached, or it impedes
@@ -85,6 +78,34 @@ pub(crate) fn event_before(world: &World, t: TaskId) -> Event
         event
     } else {
         unreachable!()
+    }
+}
+
+// Refuses the await at which a task stands where this cycle was found, and publishes it where none was.
+pub(crate) fn carry_out(
+    world: &mut World,
+    t: TaskId,
+    event: Event,
+    found: Option<Cycle>,
+) -> Decision
+    requires task { t.0 < length world.old.plan.parents }
+    requires before { IsAtAwaitOf world.old t.0 event }
+    requires nobody { NobodyDead (state_of world.old) }
+    requires told { IsOutcome (supposed_statuses world.old t.0 event) t.0 found }
+    ensures decision { IsDecision world.old world.new t.0 result }
+    ensures nobody { NobodyDead (state_of world.new) }
+    ensures as_found { MatchOption found (result ≡ Published event) (λ c. result ≡ Refused c) }
+{
+    let _ = world.stand(t);
+    match found {
+        Some(cycle) => {
+            world.refuse(t);
+            Decision::Refused(cycle)
+        }
+        None => {
+            world.step(t);
+            Decision::Published(event)
+        }
     }
 }
 

@@ -3,6 +3,8 @@ mod TaskRows
 mod Climbing
 mod NearestTasks
 mod NearestWalks
+mod OneWalk
+pub mod Sending
 mod OrderRows
 mod MendedLists
 mod MendedOrders

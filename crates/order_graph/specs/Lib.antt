@@ -1,4 +1,5 @@
 pub mod Orders
 pub mod Adding
 pub mod Following
+pub mod Laws
 pub mod inside

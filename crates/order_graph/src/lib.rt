@@ -5,6 +5,7 @@
 mod answers;
 mod distances;
 mod following;
+pub mod laws;
 mod mending;
 mod order;
 mod rows;

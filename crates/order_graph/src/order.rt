@@ -60,6 +60,14 @@ impl Order {
         })
     }
 
+    /// The number of tasks.
+    pub fn tasks(&self) -> u32
+        ensures tasks { result ≡ length self.now.positions }
+        ensures order { IsOrder self.now }
+    {
+        self.positions.len() as u32
+    }
+
     /// The position of a task.
     pub fn position(&self, t: TaskId) -> u32
         requires { IsTaskOf self.now t }
@@ -123,14 +131,6 @@ impl Order {
     {
         following::drop_others(self, deps);
         following::add_missing(alloc, self, deps)
-    }
-
-    // The number of tasks.
-    pub(crate) fn tasks(&self) -> u32
-        ensures tasks { result ≡ length self.now.positions }
-        ensures order { IsOrder self.now }
-    {
-        self.positions.len() as u32
     }
 
     // The tasks to which there is an edge from a task, in order of number.

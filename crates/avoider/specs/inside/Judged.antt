@@ -8,7 +8,9 @@ use Rattle.board.specs.Seats.{Known}
 use Rattle.board.specs.Views.{task_of}
 use Rattle.verdict.specs.declared.found.Cycle.{Cycle}
 use Rattle.avoider.specs.Decisions.{ExplainsDeath}
+use Rattle.order_graph.specs.Orders.{OrderValue}
 use Rattle.avoider.specs.OnBoard.{InEachByLock, Judges}
+use Rattle.avoider.specs.inside.Followings.{HoldsOrOtherDead}
 
 -- What the loads of a decision on the own await with this aim tell: the cycle that explains the death of the own task, where it is dead by the statuses, and else
 -- that it would be dead in no state that the seat may be in with the lock.
@@ -18,3 +20,8 @@ pub record IsJudged (list : List Status) (aim : Aim) (before now : Known) (found
   pub judges : Judges list aim event supposed before now
   pub told :
       MatchOption found (InEachByLock now (λ s. WouldBeDead s (task_of now.view) event → ⊥)) (ExplainsDeath supposed (task_of before.view))
+
+-- the loads tell this, and an order has followed the statuses
+pub record IsJudgedByOrder (list : List Status) (aim : Aim) (before now : Known) (old new : OrderValue) (found : Option Cycle) : Type 0 where
+  pub judged : IsJudged list aim before now found
+  pub pairs : HoldsOrOtherDead judged.supposed old new found

@@ -2,8 +2,8 @@ use Rattle.std.proofs.Common.{◌+◌, ◌∙◌, sym, subst}
 use Rattle.board.specs.Seats.{MakesStep, MayDrop}
 use Rattle.armus_base.specs.Plans.{Drops}
 use Rattle.avoider.proofs.Dropping.{IsDropping, drops_none, drops_one, may_drop_it, phase_same}
-use Rattle.avoider.proofs.deciding.drop_all.Goals.{in-Some, in-None}
-use Rattle.avoider.proofs.deciding.drop_all.Goals as goal
+use Rattle.avoider.proofs.concluding.drop_all.Goals.{in-Some, in-None}
+use Rattle.avoider.proofs.concluding.drop_all.Goals as goal
 
 pub drop_phaser-requires-clause-next : goal.drop_phaser-requires-clause-next
 drop_phaser-requires-clause-next c =

@@ -2,7 +2,7 @@ use Rattle.std.proofs.Common.{◌≡◌, ℕ, Some, None, sym, refl, ◌∙◌}
 use Rattle.armus_base.specs.Plans.{Blocks}
 use Rattle.board.specs.Seats.{aim_at}
 use Rattle.board.proofs.Seated.{member_next, own_phase_small}
-use Rattle.avoider.proofs.deciding.own_event.Goals as goal
+use Rattle.avoider.proofs.gathering.own_event.Goals as goal
 
 pub unreachable-requires : goal.unreachable-requires
 unreachable-requires c =

@@ -1,6 +1,6 @@
 -- What the loads of a decision tell.
-use Rattle.std.proofs.Common.{◌≡◌, ℕ, true, List, Option, Some, sym, ap, subst}
-use Rattle.std.specs.Prelude.{unwrap_or, MatchOption}
+use Rattle.std.proofs.Common.{◌≡◌, ℕ, ◌<◌, true, List, Option, Some, length, refl, sym, ap, subst}
+use Rattle.std.specs.Prelude.{unwrap_or, Contains, MatchOption}
 use Rattle.armus_base.specs.declared.event.Event.{Event}
 use Rattle.armus_base.specs.declared.status.Status.{Status}
 use Rattle.armus_base.specs.Plans.{Aim, Blocks, Plan}
@@ -23,7 +23,7 @@ use Rattle.avoider.specs.Decisions.{ExplainsDeath}
 use Rattle.avoider.specs.OnBoard.{InEachByLock, Judges}
 use Rattle.avoider.specs.inside.Judged.{IsJudged}
 
-pub supposed_ordered : (plan : Plan) (list : List Status) (event : Event) (supposed : List Status) (before now : Known) → IsCheckedPlan plan → IsSupposed plan list event supposed before now → IsInOrder supposed
+supposed_ordered : (plan : Plan) (list : List Status) (event : Event) (supposed : List Status) (before now : Known) → IsCheckedPlan plan → IsSupposed plan list event supposed before now → IsInOrder supposed
 supposed_ordered plan list event supposed before now checked sup =
     subst IsInOrder (sym sup.supposed_are)
     (statuses_are plan (state_supposed sup.found (task_of before.view) event (own_phase before.view) sup.column) (updated (is_awaited plan sup.found) event.p.0 true) checked).in_order
@@ -44,8 +44,20 @@ judges_so f list supposed aim event before first between now of same goes collec
       own = event_is;
     }
 
+pub judged_in_order : (list supposed : List Status) (aim : Aim) (event : Event) (before now : Known) → IsCheckedPlan before.view.plan → Judges list aim event supposed before now → IsInOrder supposed
+judged_in_order list supposed aim event before now checked j = supposed_ordered before.view.plan list event supposed j.between now checked j.adds
+
+-- their statuses are of tasks of the plan
+pub judged_tasks :
+    (list supposed : List Status) (aim : Aim) (event : Event) (before now : Known) → IsCheckedPlan before.view.plan → Judges list aim event supposed before now →
+    (s : Status) → Contains supposed s → s.t.0 < length before.view.plan.parents
+judged_tasks list supposed aim event before now checked j s m =
+    let plan = before.view.plan in
+    let are = statuses_are plan (state_supposed j.adds.found (task_of j.between.view) event (own_phase j.between.view) j.adds.column) (updated (is_awaited plan j.adds.found) event.p.0 true) checked in
+    ((are.events s.t.0 s.event).0 (s, subst (λ ss. Contains ss s) j.adds.supposed_are m, refl, refl)).0
+
 -- and what they tell
-pub judged :
+unfoldable pub judged :
     (list supposed : List Status) (aim : Aim) (event : Event) (before now : Known) (t : ℕ) (found : Option Cycle) → before.view.own ≡ Some t → Judges list aim event supposed before now →
     MatchOption found (InEachByLock now (λ s. WouldBeDead s (task_of now.view) event → ⊥)) (ExplainsDeath supposed t) → IsJudged list aim before now found
 judged list supposed aim event before now t found own judges told =

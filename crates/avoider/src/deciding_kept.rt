@@ -1,0 +1,81 @@
+// The decision by a kept order, on the await of a task that holds the lock of a board.
+ghost use Rattle.std.specs.Prelude.{◌≡◌, ◌<◌, Some, true, false, length, IfOk, OnErr};
+ghost use Rattle.armus_base.specs.Plans.{Blocks};
+ghost use Rattle.board.specs.Seats.{IsOf, aim_at};
+ghost use Rattle.board.specs.Views.{next_action};
+ghost use Rattle.phase_scan.specs.Looks.{LoadsAlone};
+ghost use Rattle.avoider.specs.Kept.{HoldsIfPublishedOnBoard};
+ghost use Rattle.avoider.specs.OnBoard.{IsDecidedOnBoard, IsUndecided};
+ghost use Rattle.avoider.specs.inside.Judged.{IsJudgedByOrder};
+
+use crate::Decision;
+use crate::concluding::conclude;
+use crate::gathering::gather;
+use crate::kept::death_kept;
+use armus_base::{NoMemory, Offset, PhaserId};
+use board::{Board, TaskSeat};
+use order_graph::Order;
+use phase_scan::Cells;
+use std::alloc::Global;
+use verdict::Cycle;
+
+/// Decides as `decide` does, by an order of the board's tasks: it follows the statuses of the collect with the task's own, and only what differs from the
+/// last await is mended. After Published its edges are the pairs of the wait-for graph of these statuses: those that the cells hold and the own one, with
+/// the phases on `p` as they were loaded last. After `NoMemory` nothing is published or refused, and the edges may be any.
+pub fn decide_kept(
+    alloc: Global,
+    seat: &mut TaskSeat,
+    board: &Board,
+    p: PhaserId,
+    off: Offset,
+    cells: &mut Cells,
+    order: &mut Order,
+) -> Result<Decision, NoMemory>
+    requires made { IsOf seat.old board.now }
+    requires phaser { p.0 < length board.now.plan.makers }
+    requires locked { seat.old.view.holds ≡ true }
+    requires next { next_action seat.old.view ≡ Some (Blocks (aim_at p.0 off)) }
+    requires tasks { cells.old.tasks ≡ length board.now.plan.parents }
+    requires phasers { cells.old.phasers ≡ length board.now.plan.makers }
+    requires order { length order.old.positions ≡ length board.now.plan.parents }
+    ensures decision { IfOk result (IsDecidedOnBoard cells.new.statuses (aim_at p.0 off) seat.old seat.new) }
+    ensures undecided { OnErr result (IsUndecided seat.old seat.new) }
+    ensures free { (seat.new.view.holds ≡ false) × IsOf seat.new board.now }
+    ensures tasks { cells.new.tasks ≡ cells.old.tasks }
+    ensures phasers { cells.new.phasers ≡ cells.old.phasers }
+    ensures order { length order.new.positions ≡ length order.old.positions }
+    ensures pairs { IfOk result (HoldsIfPublishedOnBoard cells.new.statuses (aim_at p.0 off) seat.old seat.new order.old order.new) }
+{
+    let _ = seat.id();
+    let found = judge_kept(alloc, seat, board, p, off, cells, order);
+    conclude(seat, board, p, off, found)
+}
+
+// The cycle of the statuses of a collect and of the own await, where the own task is dead by them; the order follows these statuses.
+fn judge_kept(
+    alloc: Global,
+    seat: &mut TaskSeat,
+    board: &Board,
+    p: PhaserId,
+    off: Offset,
+    cells: &mut Cells,
+    order: &mut Order,
+) -> Result<Option<Cycle>, NoMemory>
+    requires made { IsOf seat.old board.now }
+    requires phaser { p.0 < length board.now.plan.makers }
+    requires locked { seat.old.view.holds ≡ true }
+    requires next { next_action seat.old.view ≡ Some (Blocks (aim_at p.0 off)) }
+    requires tasks { cells.old.tasks ≡ length board.now.plan.parents }
+    requires phasers { cells.old.phasers ≡ length board.now.plan.makers }
+    requires order { length order.old.positions ≡ length board.now.plan.parents }
+    ensures judged { IfOk result (IsJudgedByOrder cells.new.statuses (aim_at p.0 off) seat.old seat.new order.old order.new) }
+    ensures goes_on { LoadsAlone seat.old seat.new }
+    ensures tasks { cells.new.tasks ≡ cells.old.tasks }
+    ensures phasers { cells.new.phasers ≡ cells.old.phasers }
+    ensures order { length order.new.positions ≡ length order.old.positions }
+{
+    let t = seat.id();
+    let gathered = gather(alloc, seat, board, p, off, cells)?;
+    let found = death_kept(alloc, order, gathered.list.as_slice(), t)?;
+    Ok(found)
+}
