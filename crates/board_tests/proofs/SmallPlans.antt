@@ -7,7 +7,7 @@ use Rattle.armus_base.specs.declared.op.Op.TheVariants.{Adv, Await, Drop, Fork, 
 use Rattle.armus_base.specs.Plans.{Plan, action_at, actions, maker_of, parent_of}
 use Rattle.armus_base.specs.Places.{first_phases, phases_after}
 use Rattle.armus_base.specs.CheckedPlans.{IsCheckedPlan}
-use Rattle.armus_base.specs.WorkedTexts.{awaits_ahead, looks_back}
+use Rattle.armus_base.specs.WorkedTexts.{awaits_ahead, behind_a_cycle, looks_back}
 use Rattle.board_tests.proofs.PlanTests.{tests_pass}
 
 abbrev phaser : PhaserId
@@ -156,6 +156,25 @@ awaits_ahead_checked = tests_pass awaits_ahead (record {
 pub looks_back_checked : IsCheckedPlan looks_back
 unfolding parent_of maker_of actions action_at first_phases phases_after
 looks_back_checked = tests_pass looks_back (record {
+  root = refl;
+  drawn = refl;
+  parents_first = refl;
+  parents_rise = refl;
+  makers_rise = refl;
+  one_code_each = refl;
+  well_formed = refl;
+  made = refl;
+  makes_rise = refl;
+  works = refl;
+  draws = refl;
+  few_tasks = omega arith;
+  few_phasers = omega arith;
+  few_ops = omega arith;
+})
+
+pub behind_a_cycle_checked : IsCheckedPlan behind_a_cycle
+unfolding parent_of maker_of actions action_at first_phases phases_after
+behind_a_cycle_checked = tests_pass behind_a_cycle (record {
   root = refl;
   drawn = refl;
   parents_first = refl;

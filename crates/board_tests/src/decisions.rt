@@ -9,7 +9,7 @@ use crate::plans::{A, B, CHILD, ROOT, two_tasks};
 use crate::walker::{Walker, begin_avoiding};
 use adaptive::Wanted;
 use armus_base::{Event, NoMemory, Offset, PhaserId, Plan};
-use avoider::{Decision, decide, try_take};
+use avoider::{Decision, Judge, Judging, try_take};
 use board::{Board, Loads, Seen, TaskSeat, ViewSeat};
 use phase_scan::Cells;
 use std::alloc::Global;
@@ -52,6 +52,7 @@ fn publishes(
     p: PhaserId,
     off: Offset,
     cells: &mut Cells,
+    judge: &mut Judge,
     event: Event,
 ) -> Result<bool, NoMemory>
     requires made { IsOf seat.old board.now }
@@ -69,7 +70,7 @@ fn publishes(
     if try_take(seat, board).is_err() {
         return Ok(false);
     }
-    match decide(alloc, seat, board, p, off, cells, Wanted::Auto)? {
+    match judge.decide(alloc, seat, board, p, off, cells)? {
         Decision::Published(made) => Ok(made == event),
         Decision::Refused(_) => Ok(false),
     }
@@ -83,6 +84,7 @@ fn is_refused(
     p: PhaserId,
     off: Offset,
     cells: &mut Cells,
+    judge: &mut Judge,
 ) -> Result<bool, NoMemory>
     requires made { IsOf seat.old board.now }
     requires avoids { board.now.mode ≡ Avoid }
@@ -97,7 +99,7 @@ fn is_refused(
     if try_take(seat, board).is_err() {
         return Ok(false);
     }
-    let cycle = match decide(alloc, seat, board, p, off, cells, Wanted::Auto)? {
+    let cycle = match judge.decide(alloc, seat, board, p, off, cells)? {
         Decision::Published(_) => return Ok(false),
         Decision::Refused(cycle) => cycle,
     };
@@ -152,6 +154,7 @@ fn both_are_decided(
     alloc: Global,
     board: Board,
     mut view: ViewSeat,
+    judging: Judging,
     seats: (TaskSeat, TaskSeat),
     phasers: (PhaserId, PhaserId),
     offsets: (Offset, Offset),
@@ -165,10 +168,13 @@ fn both_are_decided(
 {
     let (mut root, mut child) = seats;
     let mut cells = Cells::start(alloc, board.tasks(), board.phasers())?;
+    let mut judge = Judge::new(judging);
     let published = publishes(
-        alloc, &mut child, &board, phasers.1, offsets.1, &mut cells, SECOND,
+        alloc, &mut child, &board, phasers.1, offsets.1, &mut cells, &mut judge, SECOND,
     )?;
-    let refused = is_refused(alloc, &mut root, &board, phasers.0, offsets.0, &mut cells)?;
+    let refused = is_refused(
+        alloc, &mut root, &board, phasers.0, offsets.0, &mut cells, &mut judge,
+    )?;
     let shown = shows_both(&mut view, &board);
     let passed = passes(&mut child, &board);
     let closed = ends(board, view, (root, child));
@@ -176,7 +182,7 @@ fn both_are_decided(
 }
 
 // Whether two tasks walk up to their awaits, and then one await is published and the other refused.
-fn one_is_refused(alloc: Global) -> Result<bool, NoMemory> {
+fn one_is_refused(alloc: Global, judging: Judging) -> Result<bool, NoMemory> {
     let plan = two_tasks(alloc)?;
     let (board, mut root, view) = begin_avoiding(alloc, &plan)?;
     let registers = steps(&mut root, alloc, &board, &plan, 4);
@@ -195,6 +201,7 @@ fn one_is_refused(alloc: Global) -> Result<bool, NoMemory> {
         alloc,
         board,
         view,
+        judging,
         (root, child),
         (a, b),
         (first_off, second_off),
@@ -204,9 +211,11 @@ fn one_is_refused(alloc: Global) -> Result<bool, NoMemory> {
 
 #[test]
 fn the_second_of_two_awaits_is_refused(rt: HostRuntime) -> Result<(), Fail> {
-    match one_is_refused(rt.alloc()) {
-        Ok(all) => assert!(rt; all, "a decision"),
-        Err(NoMemory) => assert!(rt; false, "memory"),
+    for judging in [Judging::Graph(Wanted::Auto), Judging::Order] {
+        match one_is_refused(rt.alloc(), judging) {
+            Ok(all) => assert!(rt; all, "a decision"),
+            Err(NoMemory) => assert!(rt; false, "memory"),
+        }
     }
     Ok(())
 }

@@ -8,6 +8,8 @@ mod halves;
 #[cfg(test)]
 mod itself;
 #[cfg(test)]
+mod kept;
+#[cfg(test)]
 mod locks;
 #[cfg(test)]
 mod passes;

@@ -1,5 +1,8 @@
 // Small plans.
-ghost use Rattle.std.specs.Prelude.{◌≡◌, IfOk, length};
+ghost use Rattle.std.specs.Prelude.{◌≡◌, [], ◌∷◌, Some, IfOk, length, slice_get};
+ghost use Rattle.armus_base.specs.WorkedTexts.{behind_a_cycle};
+ghost use Rattle.armus_base.specs.declared.offset.Offset.TheVariants.{Here};
+ghost use Rattle.armus_base.specs.declared.op.Op.TheVariants.{Adv, Await};
 
 use armus_base::{Code, List, NoMemory, Offset, Op, PhaserId, Plan, TaskId};
 use std::alloc::Global;
@@ -10,6 +13,9 @@ pub const A: PhaserId = PhaserId(0);
 /// The second phaser.
 pub const B: PhaserId = PhaserId(1);
 
+/// The third phaser.
+pub const C: PhaserId = PhaserId(2);
+
 /// The task that is the program.
 pub const ROOT: TaskId = TaskId(0);
 
@@ -18,6 +24,9 @@ pub const CHILD: TaskId = TaskId(1);
 
 /// The task that the child draws.
 pub const GRANDCHILD: TaskId = TaskId(2);
+
+/// The second task that it draws.
+pub const OTHER: TaskId = TaskId(2);
 
 /// Task 0 makes a phaser and registers a child, which it never forks; it advances and waits.
 pub fn never_forked(alloc: Global) -> Result<Plan, NoMemory>
@@ -225,4 +234,65 @@ pub fn looks_back(alloc: Global) -> Result<Plan, NoMemory>
         List::from_vec(makers),
         List::from_vec(codes),
     ))
+}
+
+/// Two tasks wait for each other, and task 0 waits for one of them.
+pub fn behind_a_cycle(alloc: Global) -> Result<Plan, NoMemory>
+    ensures { IfOk result (λ plan. (length plan.parents ≡ 3) × (length plan.makers ≡ 3)) }
+{
+    let parents = vec![in alloc; None, Some(ROOT), Some(ROOT)]?;
+    let makers = vec![in alloc; ROOT, ROOT, ROOT]?;
+    let root = behind_a_cycle_root(alloc)?;
+    let first = advances_and_waits(alloc, A)?;
+    let second = advances_and_waits(alloc, B)?;
+    let codes = vec![in alloc;
+        Code::from_ops(root),
+        Code::from_ops(first),
+        Code::from_ops(second),
+    ]?;
+    Ok(Plan::from_parts(
+        List::from_vec(parents),
+        List::from_vec(makers),
+        List::from_vec(codes),
+    ))
+}
+
+// What its task 0 does.
+fn behind_a_cycle_root(alloc: Global) -> Result<List<Op>, NoMemory>
+    ensures { IfOk result (λ ops. slice_get behind_a_cycle.codes 0 ≡ Some ops) }
+{
+    let ops = vec![in alloc;
+        Op::Make { p: A },
+        Op::Make { p: B },
+        Op::Make { p: C },
+        Op::Reg { c: CHILD, p: A },
+        Op::Reg { c: CHILD, p: B },
+        Op::Reg { c: CHILD, p: C },
+        Op::Fork { c: CHILD },
+        Op::Reg { c: OTHER, p: A },
+        Op::Reg { c: OTHER, p: B },
+        Op::Fork { c: OTHER },
+        Op::Drop { p: A },
+        Op::Drop { p: B },
+        Op::Adv { p: C },
+        Op::Await {
+            p: C,
+            off: Offset::Here
+        },
+    ]?;
+    Ok(List::from_vec(ops))
+}
+
+// A code that advances on a phaser and awaits it.
+fn advances_and_waits(alloc: Global, p: PhaserId) -> Result<List<Op>, NoMemory>
+    ensures { IfOk result (λ ops. ops ≡ Adv p ∷ Await p Here ∷ []) }
+{
+    let ops = vec![in alloc;
+        Op::Adv { p },
+        Op::Await {
+            p,
+            off: Offset::Here
+        },
+    ]?;
+    Ok(List::from_vec(ops))
 }

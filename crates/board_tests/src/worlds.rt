@@ -6,7 +6,7 @@ ghost use Rattle.pl_core.specs.Worlds.{state_of};
 use crate::plans::{A, B, CHILD, ROOT, two_tasks};
 use adaptive::Wanted;
 use armus_base::{Event, Final, NoMemory, Plan, TaskEnd, TaskId};
-use avoider::{Decision, avoid_step, go_on};
+use avoider::{Decision, Judge, Judging, avoid_step, go_on};
 use pl_core::{Stand, World};
 use std::alloc::Global;
 use std::process::Abort;
@@ -29,9 +29,10 @@ pub fn events(
     ensures plan { OnOk result (world.new.plan ≡ world.old.plan) }
     ensures nobody { OnOk result (NobodyDead (state_of world.new)) }
 {
+    let mut judge = Judge::new(Judging::Graph(Wanted::Auto));
     for _ in 0..count {
         assert!(rt; world.enabled(t));
-        go_on(alloc, world, t, Wanted::Auto)?;
+        go_on(alloc, world, t, &mut judge)?;
     }
     Ok(())
 }

@@ -9,9 +9,8 @@ ghost use Rattle.task_runner.specs.inside.Turns.{TellsForked};
 use crate::RunOptions;
 use crate::avoided_board::avoid_on_board;
 use crate::world_round::{mark_forked, may_go_on};
-use adaptive::Wanted;
 use armus_base::{Final, Gate, NoMemory, Plan, TaskId};
-use avoider::go_on;
+use avoider::{Judge, Judging, go_on};
 use pl_core::World;
 use std::alloc::Global;
 use std::thread::Threads;
@@ -33,7 +32,7 @@ pub fn run_avoid<R: Threads + Sync, G: Gate>(
     ensures serial { options.now.workers ≡ 1 → IfOk result (λ end. IsSerialEnd plan.now end) }
 {
     if options.workers < 2 {
-        return avoid_in_order(alloc, plan, options.wanted, gate);
+        return avoid_in_order(alloc, plan, Judging::Graph(options.wanted), gate);
     }
     avoid_on_board(rt, alloc, plan, options, gate)
 }
@@ -42,16 +41,17 @@ pub fn run_avoid<R: Threads + Sync, G: Gate>(
 fn avoid_in_order<G: Gate>(
     alloc: Global,
     plan: &Plan,
-    wanted: Wanted,
+    judging: Judging,
     gate: &G,
 ) -> Result<Final, NoMemory>
     ensures end { IfOk result (λ end. IsAvoidedEnd plan.now end) }
     ensures serial { IfOk result (λ end. IsSerialEnd plan.now end) }
 {
     let mut world = World::start(alloc, plan)?;
+    let mut judge = Judge::new(judging);
     let count = plan.tasks() as usize;
     let mut forked = vec![in alloc; false; count]?;
-    'rounds: while avoided_round(alloc, &mut world, &mut forked, wanted, gate)? {}
+    'rounds: while avoided_round(alloc, &mut world, &mut forked, &mut judge, gate)? {}
     world.finish(alloc)
 }
 
@@ -60,7 +60,7 @@ pub(crate) fn avoided_round<G: Gate>(
     alloc: Global,
     world: &mut World,
     forked: &mut [bool],
-    wanted: Wanted,
+    judge: &mut Judge,
     gate: &G,
 ) -> Result<bool, NoMemory>
     requires forked_len { length forked.old ≡ length world.old.plan.parents }
@@ -71,7 +71,7 @@ pub(crate) fn avoided_round<G: Gate>(
     ensures round { IfOk result (λ moved. HasRoundBelow world.old world.new (length world.old.plan.parents) moved) }
 {
     mark_forked(world, forked);
-    avoided_turns(alloc, world, forked, wanted, gate)
+    avoided_turns(alloc, world, forked, judge, gate)
 }
 
 // One turn of each noted task, in order of number; answers whether an event happened.
@@ -79,7 +79,7 @@ fn avoided_turns<G: Gate>(
     alloc: Global,
     world: &mut World,
     forked: &[bool],
-    wanted: Wanted,
+    judge: &mut Judge,
     gate: &G,
 ) -> Result<bool, NoMemory>
     requires forked { TellsForked world.old forked.now }
@@ -92,7 +92,7 @@ fn avoided_turns<G: Gate>(
 {
     let mut moved = false;
     for t in 0..world.plan().tasks() {
-        let acted = avoided_turn_if(forked[t as usize], alloc, world, TaskId(t), wanted, gate)?;
+        let acted = avoided_turn_if(forked[t as usize], alloc, world, TaskId(t), judge, gate)?;
         moved = moved || acted;
     }
     Ok(moved)
@@ -104,7 +104,7 @@ fn avoided_turn_if<G: Gate>(
     alloc: Global,
     world: &mut World,
     t: TaskId,
-    wanted: Wanted,
+    judge: &mut Judge,
     gate: &G,
 ) -> Result<bool, NoMemory>
     requires task { t.0 < length world.old.plan.parents }
@@ -117,7 +117,7 @@ fn avoided_turn_if<G: Gate>(
     ensures part { IfOk result (λ moved. HasPart world.old world.new t.0 forked moved) }
 {
     if forked {
-        avoided_turn(alloc, world, t, wanted, gate)
+        avoided_turn(alloc, world, t, judge, gate)
     } else {
         Ok(false)
     }
@@ -128,7 +128,7 @@ fn avoided_turn<G: Gate>(
     alloc: Global,
     world: &mut World,
     t: TaskId,
-    wanted: Wanted,
+    judge: &mut Judge,
     gate: &G,
 ) -> Result<bool, NoMemory>
     requires task { t.0 < length world.old.plan.parents }
@@ -142,7 +142,7 @@ fn avoided_turn<G: Gate>(
 {
     let mut moved = false;
     'turn: while may_go_on(world, t, gate) {
-        go_on(alloc, world, t, wanted)?;
+        go_on(alloc, world, t, judge)?;
         moved = true;
     }
     Ok(moved)

@@ -11,6 +11,7 @@ use crate::avoided_rest::avoided_end_from;
 use crate::pace::Pace;
 use adaptive::Wanted;
 use armus_base::{Final, Gate, NoMemory, Plan};
+use avoider::Judging;
 use board::{Board, Mode, ViewSeat};
 use board_rounds::Crew;
 use std::alloc::Global;
@@ -99,5 +100,5 @@ fn end_avoided<G: Gate>(
     let places = crew.places(alloc, &board, plan)?;
     crew.take_in(&board, &mut view);
     let _ = board.close(view);
-    avoided_end_from(alloc, plan, places.as_slice(), wanted, gate)
+    avoided_end_from(alloc, plan, places.as_slice(), Judging::Graph(wanted), gate)
 }
