@@ -14,7 +14,7 @@ use Rattle.armus_base.specs.contracts.plan.Plan as plans
 use Rattle.board.specs.contracts.board.Board as boards
 use Rattle.board.proofs.Sending.{board_sync, task_seat_send}
 use Rattle.armus_base.proofs.plan.Plan.TheSendSync as plan_crosses
-use Rattle.adaptive.specs.contracts.analysis.Wanted as wanteds
+use Rattle.avoider.proofs.Sending.{judge_send}
 use Rattle.phase_scan.proofs.Sending.{cells_send}
 use Rattle.board_rounds.specs.contracts.task.Task as tasks
 use Rattle.board_rounds.specs.contracts.worker_cells.WorkerCells as rooms
@@ -30,17 +30,14 @@ task_send a = search (sendable, crosses, plan_sync, task_seat_send, heap.the_sen
 pub global_sync : IsSync global.the_row
 global_sync = search (sendable, crosses, heap.the_send, heap.the_sync) depth 30
 
-pub wanted_sync : IsSync wanteds.the_row
-wanted_sync = search (sendable, crosses) depth 30
-
 -- a worker's cells may be handed to a thread
 pub worker_cells_send : IsSend rooms.the_row
-worker_cells_send = search (sendable, crosses, cells_send) depth 30
+worker_cells_send = search (sendable, crosses, cells_send, judge_send) depth 30
 
 pub turns_send :
-    (ν : Sym) (a b c e h i j k : NamedLft) (X Y Z : RattleType) (one : One X.mir) (other : One Y.mir) (third : One Z.mir) → IsSync X → IsSync Y → IsSend Z →
+    (ν : Sym) (a b c h i j k : NamedLft) (X Y Z : RattleType) (one : One X.mir) (other : One Y.mir) (third : One Z.mir) → IsSync X → IsSync Y → IsSend Z →
     IsSend (TupleAt ν
     ((shr_ref_field a X one).row ∷ (shr_ref_field b global.the_row tt).row ∷ (shr_ref_field c boards.the_row tt).row
-    ∷ (shr_ref_field e wanteds.the_row tt).row ∷ (shr_ref_field h Y other).row ∷ (shr_ref_field i u8-field.row tt).row ∷ (mut_slice_field j rooms.the_row tt).row
+    ∷ (shr_ref_field h Y other).row ∷ (shr_ref_field i u8-field.row tt).row ∷ (mut_slice_field j rooms.the_row tt).row
     ∷ (mut_slice_field k Z third).row ∷ []))
-turns_send ν a b c e h i j k X Y Z one other third x y z = search (sendable, global_sync, board_sync, wanted_sync, worker_cells_send) depth 30
+turns_send ν a b c h i j k X Y Z one other third x y z = search (sendable, global_sync, board_sync, worker_cells_send) depth 30

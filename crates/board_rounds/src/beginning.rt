@@ -10,7 +10,6 @@ ghost use Rattle.board_rounds.specs.Turns.{AreChildSeats, Goes, forks_of};
 
 use crate::deciding::{Attempt, try_to_decide};
 use crate::worker_cells::WorkerCells;
-use adaptive::Wanted;
 use armus_base::{NoMemory, Offset, Op, PhaserId, TaskId};
 use board::{Board, Mode, TaskSeat};
 use std::alloc::Global;
@@ -97,7 +96,6 @@ pub(crate) fn begin(
     board: &Board,
     op: Op,
     cells: &mut WorkerCells,
-    wanted: Wanted,
 ) -> Result<Attempt, NoMemory>
     requires made { IsOf seat.old board.now }
     requires unlocked { seat.old.view.holds ≡ false }
@@ -110,7 +108,7 @@ pub(crate) fn begin(
 {
     let _ = seat.id();
     match await_to_decide(op, board) {
-        Some((p, off)) => try_to_decide(seat, alloc, board, p, off, cells, wanted),
+        Some((p, off)) => try_to_decide(seat, alloc, board, p, off, cells),
         None => {
             make_step(seat, children, alloc, board, op)?;
             Ok(Attempt::Begun)

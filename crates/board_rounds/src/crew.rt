@@ -15,8 +15,8 @@ use crate::Task;
 use crate::ending::{note_places, take_in_all};
 use crate::rounds::take_turns;
 use crate::worker_cells::{WorkerCells, provide};
-use adaptive::Wanted;
 use armus_base::{Gate, List, NoMemory, Plan};
+use avoider::Judging;
 use board::{Board, TaskSeat, ViewSeat};
 use pl_core::Place;
 use std::alloc::Global;
@@ -28,6 +28,7 @@ use std::thread::Threads;
 pub struct Crew<'p> {
     pub(crate) live: Vec<Task<'p>>,
     pub(crate) ended: Vec<Task<'p>>,
+    judging: Judging,
     // of each worker
     cells: Vec<WorkerCells>,
 }
@@ -43,12 +44,13 @@ impl<'p> Model for Crew<'p> {
 }
 
 impl<'p> Crew<'p> {
-    /// Task 0 alone, whose seat this is, before its first step.
+    /// Task 0 alone, whose seat this is, before its first step. Awaits are judged so where deadlock is avoided.
     pub fn start(
         alloc: Global,
         board: &Board,
         seat: TaskSeat,
         plan: &'p Plan,
+        judging: Judging,
     ) -> Result<Crew<'p>, NoMemory>
         requires plan { board.now.plan ≡ plan.now }
         requires new { IsNewSeat board.now (Some 0) (seen_by_child 0 nothing_seen) seat }
@@ -60,6 +62,7 @@ impl<'p> Crew<'p> {
         Ok(Crew {
             live,
             ended: Vec::new(alloc),
+            judging,
             cells: Vec::new(alloc),
         })
     }
@@ -71,15 +74,14 @@ impl<'p> Crew<'p> {
         self.live.len()
     }
 
-    /// One round: each task that lives has one turn, by so many workers. After it the children whom they forked live too. It answers how many events
-    /// happened.
+    /// One round: each task that lives has one turn, by so many workers. What a worker judges by is kept from its first round on. After it the children whom
+    /// they forked live too. It answers how many events happened.
     pub fn round<R: Threads + Sync, G: Gate>(
         &mut self,
         rt: &R,
         alloc: Global,
         board: &Board,
         plan: &'p Plan,
-        wanted: Wanted,
         workers: u8,
         gate: &G,
     ) -> Result<u32, NoMemory>
@@ -89,10 +91,10 @@ impl<'p> Crew<'p> {
         ensures further { IfOk result (λ made. 0 < made → left_to plan.now self.new < left_to plan.now self.old) }
         ensures quiet { IfOk result (λ made. made ≡ 0 → HaveEnded (all_of self.new)) }
     {
-        provide(&mut self.cells, workers)?;
+        provide(&mut self.cells, workers, self.judging)?;
         let cells = self.cells.as_mut_slice();
         let live = &mut self.live;
-        let made = go_round(rt, alloc, board, plan, wanted, workers, gate, cells, live)?;
+        let made = go_round(rt, alloc, board, plan, workers, gate, cells, live)?;
         retire(alloc, &mut self.live, &mut self.ended)?;
         Ok(made)
     }
@@ -135,7 +137,6 @@ fn go_round<'p, R: Threads + Sync, G: Gate>(
     alloc: Global,
     board: &Board,
     plan: &'p Plan,
-    wanted: Wanted,
     workers: u8,
     gate: &G,
     cells: &mut [WorkerCells],
@@ -150,7 +151,7 @@ fn go_round<'p, R: Threads + Sync, G: Gate>(
     ensures round { IfOk result (MakesRound board.now tasks.old.items tasks.new.items) }
 {
     let turned = tasks.as_mut_slice();
-    let made = take_turns(rt, &alloc, board, &wanted, gate, workers, cells, turned)?;
+    let made = take_turns(rt, &alloc, board, gate, workers, cells, turned)?;
     take_on(alloc, plan, tasks)?;
     Ok(made)
 }

@@ -10,9 +10,8 @@ ghost use Rattle.board_rounds.specs.inside.Attempts.{IsAttempt};
 ghost use Rattle.board_rounds.specs.Turns.{Goes};
 
 use crate::worker_cells::WorkerCells;
-use adaptive::Wanted;
 use armus_base::{NoMemory, Offset, PhaserId};
-use avoider::{Decision, decide, try_take};
+use avoider::{Decision, Judge, try_take};
 use board::{Board, TaskSeat};
 use phase_scan::Cells;
 use std::alloc::Global;
@@ -36,7 +35,6 @@ pub(crate) fn try_to_decide(
     p: PhaserId,
     off: Offset,
     cells: &mut WorkerCells,
-    wanted: Wanted,
 ) -> Result<Attempt, NoMemory>
     requires made { IsOf seat.old board.now }
     requires phaser { p.0 < length board.now.plan.makers }
@@ -47,13 +45,13 @@ pub(crate) fn try_to_decide(
     ensures undecided { OnErr result (Goes [] seat.old seat.new) }
 {
     let _ = seat.id();
-    let mut own = cells.take(alloc, board)?;
-    let tried = decide_with(seat, alloc, board, p, off, &mut own, wanted);
-    cells.keep(board, own);
+    let (mut own, mut judge) = cells.take(alloc, board)?;
+    let tried = decide_with(seat, alloc, board, p, off, &mut own, &mut judge);
+    cells.keep(board, own, judge);
     tried
 }
 
-// The same with these cells.
+// The same with these cells and this judge.
 fn decide_with(
     seat: &mut TaskSeat,
     alloc: Global,
@@ -61,7 +59,7 @@ fn decide_with(
     p: PhaserId,
     off: Offset,
     cells: &mut Cells,
-    wanted: Wanted,
+    judge: &mut Judge,
 ) -> Result<Attempt, NoMemory>
     requires made { IsOf seat.old board.now }
     requires phaser { p.0 < length board.now.plan.makers }
@@ -81,7 +79,7 @@ fn decide_with(
         Err(_) => return Ok(Attempt::LockedOut),
         Ok(()) => {}
     }
-    match decide(alloc, seat, board, p, off, cells, wanted)? {
+    match judge.decide(alloc, seat, board, p, off, cells)? {
         Decision::Published(_) => Ok(Attempt::Begun),
         Decision::Refused(_) => Ok(Attempt::Refused(phasers)),
     }

@@ -10,6 +10,7 @@ use crate::taking_turns::TakeTurn;
 use crate::worker_cells::{WorkerCells, provide};
 use adaptive::Wanted;
 use armus_base::{Gate, NoMemory, Plan};
+use avoider::Judging;
 use board::Board;
 use std::alloc::Global;
 use std::thread::{Threads, join_mut};
@@ -35,9 +36,9 @@ pub fn round<R: Threads + Sync, G: Gate>(
 {
     let _ = plan;
     let mut cells = Vec::new(alloc);
-    provide(&mut cells, workers)?;
+    provide(&mut cells, workers, Judging::Graph(wanted))?;
     let cells = cells.as_mut_slice();
-    take_turns(rt, &alloc, board, &wanted, gate, workers, cells, tasks)
+    take_turns(rt, &alloc, board, gate, workers, cells, tasks)
 }
 
 /// One turn of each of these tasks. With several workers the list is split into halves, which take their turns side by side, each with half of the
@@ -48,7 +49,6 @@ pub(crate) fn take_turns<T: TakeTurn + Send, R: Threads + Sync, C: Calls + Sync>
     rt: &R,
     alloc: &Global,
     board: &Board,
-    wanted: &Wanted,
     gate: &C,
     workers: u8,
     cells: &mut [WorkerCells],
@@ -61,9 +61,9 @@ pub(crate) fn take_turns<T: TakeTurn + Send, R: Threads + Sync, C: Calls + Sync>
     ensures turns { TakesTurns board.now (map T.working tasks.old) (map T.working tasks.new) result }
 {
     if workers < 2 || tasks.len() < 2 {
-        take_turns_in_order(*alloc, board, *wanted, gate, &mut cells[0], tasks)
+        take_turns_in_order(*alloc, board, gate, &mut cells[0], tasks)
     } else {
-        take_turns_in_halves(rt, alloc, board, wanted, gate, workers, cells, tasks)
+        take_turns_in_halves(rt, alloc, board, gate, workers, cells, tasks)
     }
 }
 
@@ -73,7 +73,6 @@ fn take_turns_in_halves<T: TakeTurn + Send, R: Threads + Sync, C: Calls + Sync>(
     rt: &R,
     alloc: &Global,
     board: &Board,
-    wanted: &Wanted,
     gate: &C,
     workers: u8,
     cells: &mut [WorkerCells],
@@ -94,11 +93,11 @@ fn take_turns_in_halves<T: TakeTurn + Send, R: Threads + Sync, C: Calls + Sync>(
         &mut || -> Result<u32, NoMemory>
             requires { IsSync R.row × All (MayTakeTurn board.now) (map T.working front.now) × (length front.now ≤ max_tasks) × (few ≤ length front_cells.now) × (1 ≤ length front_cells.now) }
             ensures { TakesTurns board.entry.now (map T.working front.entry.now) (map T.working front.exit.now) result }
-        { take_turns(rt, alloc, board, wanted, gate, few, front_cells, front) },
+        { take_turns(rt, alloc, board, gate, few, front_cells, front) },
         &mut || -> Result<u32, NoMemory>
             requires { IsSync R.row × All (MayTakeTurn board.now) (map T.working back.now) × (length back.now ≤ max_tasks) × (rest ≤ length back_cells.now) × (1 ≤ length back_cells.now) }
             ensures { TakesTurns board.entry.now (map T.working back.entry.now) (map T.working back.exit.now) result }
-        { take_turns(rt, alloc, board, wanted, gate, rest, back_cells, back) },
+        { take_turns(rt, alloc, board, gate, rest, back_cells, back) },
     );
     Ok(first? + second?)
 }
@@ -107,7 +106,6 @@ fn take_turns_in_halves<T: TakeTurn + Send, R: Threads + Sync, C: Calls + Sync>(
 fn take_turns_in_order<T: TakeTurn, C: Calls>(
     alloc: Global,
     board: &Board,
-    wanted: Wanted,
     gate: &C,
     cells: &mut WorkerCells,
     tasks: &mut [T],
@@ -118,7 +116,7 @@ fn take_turns_in_order<T: TakeTurn, C: Calls>(
 {
     let mut made = 0;
     for task in tasks.iter_mut() {
-        made += task.turn(alloc, board, wanted, cells, gate)?;
+        made += task.turn(alloc, board, cells, gate)?;
     }
     Ok(made)
 }

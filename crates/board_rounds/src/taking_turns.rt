@@ -6,7 +6,6 @@ ghost use Rattle.board_rounds.specs.Turns.{Acts, EndsTurn};
 
 use crate::calling::Calls;
 use crate::worker_cells::WorkerCells;
-use adaptive::Wanted;
 use armus_base::NoMemory;
 use board::Board;
 use std::alloc::Global;
@@ -25,7 +24,6 @@ pub(crate) trait TakeTurn {
         &mut self,
         alloc: Global,
         board: &Board,
-        wanted: Wanted,
         cells: &mut WorkerCells,
         gate: &C,
     ) -> Result<u32, NoMemory>

@@ -12,7 +12,6 @@ use crate::calling::Calls;
 use crate::deciding::Attempt;
 use crate::taking_turns::TakeTurn;
 use crate::worker_cells::WorkerCells;
-use adaptive::Wanted;
 use armus_base::{List, NoMemory, Plan, Point, TaskId};
 use board::{Board, TaskSeat};
 use phase_scan::{Look, look};
@@ -135,7 +134,6 @@ impl<'p> Task<'p> {
         &mut self,
         alloc: Global,
         board: &Board,
-        wanted: Wanted,
         cells: &mut WorkerCells,
         gate: &C,
     ) -> Result<Acted, NoMemory>
@@ -148,7 +146,7 @@ impl<'p> Task<'p> {
         let _ = self.seat.id();
         let had = self.children.len();
         let mut events = 0;
-        'act: while let Some(more) = self.go_on(alloc, board, wanted, cells, gate)? {
+        'act: while let Some(more) = self.go_on(alloc, board, cells, gate)? {
             events += more;
             if self.children.len() > had {
                 let pause = Pause::Forked;
@@ -164,7 +162,6 @@ impl<'p> Task<'p> {
         &mut self,
         alloc: Global,
         board: &Board,
-        wanted: Wanted,
         cells: &mut WorkerCells,
         gate: &C,
     ) -> Result<Option<u32>, NoMemory>
@@ -185,7 +182,7 @@ impl<'p> Task<'p> {
         };
         gate.call(Point::Op { t, k: self.begun });
         let children = &mut self.children;
-        match begin(&mut self.seat, children, alloc, board, op, cells, wanted)? {
+        match begin(&mut self.seat, children, alloc, board, op, cells)? {
             Attempt::LockedOut => Ok(None),
             Attempt::Begun => {
                 self.begun += 1;
@@ -226,14 +223,13 @@ impl<'p> TakeTurn for Task<'p> {
         &mut self,
         alloc: Global,
         board: &Board,
-        wanted: Wanted,
         cells: &mut WorkerCells,
         gate: &C,
     ) -> Result<u32, NoMemory> {
         let _ = self.seat.id();
         let mut made = 0;
         'turn: loop {
-            let acted = self.act(alloc, board, wanted, cells, gate)?;
+            let acted = self.act(alloc, board, cells, gate)?;
             made += acted.events;
             match acted.pause {
                 Pause::TurnOver => return Ok(made),

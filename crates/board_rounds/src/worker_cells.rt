@@ -1,18 +1,22 @@
-// The cells of a worker.
+// The cells of a worker, and its judge.
 ghost use Rattle.std.specs.Prelude.{◌≡◌, ◌≤◌, IfOk, OnOk, length};
 
 use armus_base::NoMemory;
+use avoider::{Judge, Judging};
 use board::Board;
 use phase_scan::Cells;
 use std::alloc::Global;
 use std::marker::Model;
 
-/// The cells with which a worker collects what it decides by. They are made when they are first needed, and kept from round to round.
+/// The cells with which a worker collects what it decides by, and its judge. The cells are made when they are first needed, and both are kept from round to
+/// round.
 #[derive(Drop)]
 pub struct WorkerCells {
     tasks: u32,
     phasers: u32,
     cells: Option<Cells>,
+    judging: Judging,
+    judge: Judge,
 }
 
 impl Model for WorkerCells {
@@ -27,48 +31,57 @@ impl Model for WorkerCells {
 }
 
 impl WorkerCells {
-    /// No cells yet.
-    pub fn new() -> WorkerCells {
+    /// No cells yet, and a judge that has judged nothing.
+    pub fn new(judging: Judging) -> WorkerCells {
         WorkerCells {
             tasks: 0,
             phasers: 0,
             cells: None,
+            judging,
+            judge: Judge::new(judging),
         }
     }
 
-    /// Takes the cells out, and makes them where there are none for this board.
-    pub(crate) fn take(&mut self, alloc: Global, board: &Board) -> Result<Cells, NoMemory>
-        ensures tasks { IfOk result (λ cells. cells.tasks ≡ length board.now.plan.parents) }
-        ensures phasers { IfOk result (λ cells. cells.phasers ≡ length board.now.plan.makers) }
+    /// Takes the cells and the judge out, and makes the cells where there are none for this board.
+    pub(crate) fn take(&mut self, alloc: Global, board: &Board) -> Result<(Cells, Judge), NoMemory>
+        ensures tasks { IfOk result (λ own. own.0.tasks ≡ length board.now.plan.parents) }
+        ensures phasers { IfOk result (λ own. own.0.phasers ≡ length board.now.plan.makers) }
     {
         let tasks = board.tasks();
         let phasers = board.phasers();
         let fit = self.tasks == tasks && self.phasers == phasers;
-        match (self.cells.take(), fit) {
-            (Some(cells), true) => Ok(cells),
-            _ => Cells::start(alloc, tasks, phasers),
-        }
+        let cells = match (self.cells.take(), fit) {
+            (Some(cells), true) => cells,
+            _ => Cells::start(alloc, tasks, phasers)?,
+        };
+        let judge = std::mem::replace(&mut self.judge, Judge::new(self.judging));
+        Ok((cells, judge))
     }
 
-    /// Keeps the cells.
-    pub(crate) fn keep(&mut self, board: &Board, cells: Cells)
+    /// Keeps the cells and the judge.
+    pub(crate) fn keep(&mut self, board: &Board, cells: Cells, judge: Judge)
         requires tasks { cells.tasks ≡ length board.now.plan.parents }
         requires phasers { cells.phasers ≡ length board.now.plan.makers }
     {
         self.tasks = board.tasks();
         self.phasers = board.phasers();
         self.cells = Some(cells);
+        self.judge = judge;
     }
 }
 
 /// As many cells as workers, and for one worker at least.
-pub(crate) fn provide(cells: &mut Vec<WorkerCells>, workers: u8) -> Result<(), NoMemory>
+pub(crate) fn provide(
+    cells: &mut Vec<WorkerCells>,
+    workers: u8,
+    judging: Judging,
+) -> Result<(), NoMemory>
     ensures enough { OnOk result (workers ≤ length cells.new.items) }
     ensures cells { OnOk result (1 ≤ length cells.new.items) }
 {
     let enough = workers.max(1) as usize;
     for _count in cells.len()..enough {
-        cells.push(WorkerCells::new())?;
+        cells.push(WorkerCells::new(judging))?;
     }
     Ok(())
 }

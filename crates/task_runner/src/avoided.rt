@@ -31,10 +31,44 @@ pub fn run_avoid<R: Threads + Sync, G: Gate>(
     ensures end { IfOk result (λ end. IsAvoidedEnd plan.now end) }
     ensures serial { options.now.workers ≡ 1 → IfOk result (λ end. IsSerialEnd plan.now end) }
 {
+    let judging = Judging::Graph(options.wanted);
+    avoid_by(rt, alloc, plan, options, judging, gate)
+}
+
+/// The same, where awaits are judged by orders that are kept from one await to the next: one for each part of a round that is not split further, kept from
+/// round to round, and one for what goes on in one thread.
+pub fn run_avoid_kept<R: Threads + Sync, G: Gate>(
+    rt: &R,
+    alloc: Global,
+    plan: &Plan,
+    options: &RunOptions,
+    gate: &G,
+) -> Result<Final, NoMemory>
+    requires workers { 1 ≤ options.now.workers × options.now.workers ≤ 64 }
+    requires quiet { options.now.live ≡ false }
+    ensures end { IfOk result (λ end. IsAvoidedEnd plan.now end) }
+    ensures serial { options.now.workers ≡ 1 → IfOk result (λ end. IsSerialEnd plan.now end) }
+{
+    avoid_by(rt, alloc, plan, options, Judging::Order, gate)
+}
+
+// The same, where awaits are judged so.
+fn avoid_by<R: Threads + Sync, G: Gate>(
+    rt: &R,
+    alloc: Global,
+    plan: &Plan,
+    options: &RunOptions,
+    judging: Judging,
+    gate: &G,
+) -> Result<Final, NoMemory>
+    requires { 1 ≤ options.now.workers }
+    ensures end { IfOk result (λ end. IsAvoidedEnd plan.now end) }
+    ensures serial { options.now.workers ≡ 1 → IfOk result (λ end. IsSerialEnd plan.now end) }
+{
     if options.workers < 2 {
-        return avoid_in_order(alloc, plan, Judging::Graph(options.wanted), gate);
+        return avoid_in_order(alloc, plan, judging, gate);
     }
-    avoid_on_board(rt, alloc, plan, options, gate)
+    avoid_on_board(rt, alloc, plan, options, judging, gate)
 }
 
 // The serial avoided run.

@@ -9,7 +9,6 @@ ghost use Rattle.task_runner.specs.AvoidedRuns.{IsAvoidedEnd};
 use crate::RunOptions;
 use crate::avoided_rest::avoided_end_from;
 use crate::pace::Pace;
-use adaptive::Wanted;
 use armus_base::{Final, Gate, NoMemory, Plan};
 use avoider::Judging;
 use board::{Board, Mode, ViewSeat};
@@ -25,14 +24,15 @@ pub(crate) fn avoid_on_board<R: Threads + Sync, G: Gate>(
     alloc: Global,
     plan: &Plan,
     options: &RunOptions,
+    judging: Judging,
     gate: &G,
 ) -> Result<Final, NoMemory>
     ensures end { IfOk result (λ end. IsAvoidedEnd plan.now end) }
 {
     let (board, seat, view) = Board::start(alloc, plan, Mode::Avoid)?;
-    let mut crew = Crew::start(alloc, &board, seat, plan)?;
+    let mut crew = Crew::start(alloc, &board, seat, plan, judging)?;
     take_rounds(rt, alloc, &board, plan, options, gate, &mut crew)?;
-    end_avoided(alloc, board, view, plan, options.wanted, gate, crew)
+    end_avoided(alloc, board, view, plan, judging, gate, crew)
 }
 
 // Rounds until one in which no event happens.
@@ -73,7 +73,7 @@ fn take_one_round<'p, R: Threads + Sync, G: Gate>(
     ensures quiet { IfOk result (λ moved. moved ≡ false → HaveEnded (all_of crew.new)) }
 {
     let workers = pace.workers(options.workers);
-    let made = crew.round(rt, alloc, board, plan, options.wanted, workers, gate)?;
+    let made = crew.round(rt, alloc, board, plan, workers, gate)?;
     pace.note(made);
     Ok(made > 0)
 }
@@ -84,7 +84,7 @@ fn end_avoided<G: Gate>(
     board: Board,
     mut view: ViewSeat,
     plan: &Plan,
-    wanted: Wanted,
+    judging: Judging,
     gate: &G,
     crew: Crew<'_>,
 ) -> Result<Final, NoMemory>
@@ -100,5 +100,5 @@ fn end_avoided<G: Gate>(
     let places = crew.places(alloc, &board, plan)?;
     crew.take_in(&board, &mut view);
     let _ = board.close(view);
-    avoided_end_from(alloc, plan, places.as_slice(), Judging::Graph(wanted), gate)
+    avoided_end_from(alloc, plan, places.as_slice(), judging, gate)
 }

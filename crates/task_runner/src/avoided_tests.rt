@@ -1,6 +1,6 @@
 // The run that avoids deadlock over two tasks that would wait for each other.
 use crate::test_plans::{B, two_tasks};
-use crate::{RunOptions, run_avoid};
+use crate::{RunOptions, run_avoid, run_avoid_kept};
 use adaptive::Wanted;
 use armus_base::{Event, Still, TaskEnd};
 use std::test::Fail;
@@ -12,13 +12,17 @@ const AWAITED: Event = Event { p: B, n: 1 };
 fn refuses_the_child(rt: HostRuntime) -> Result<(), Fail> {
     let alloc = rt.alloc();
     let plan = two_tasks(alloc)?;
-    for workers in [1, 64] {
+    for (workers, kept) in [(1, false), (64, false), (1, true), (3, true)] {
         let options = RunOptions {
             workers,
             wanted: Wanted::Auto,
             live: false,
         };
-        let end = run_avoid(&rt, alloc, &plan, &options, &Still)?;
+        let end = if kept {
+            run_avoid_kept(&rt, alloc, &plan, &options, &Still)?
+        } else {
+            run_avoid(&rt, alloc, &plan, &options, &Still)?
+        };
         assert!(rt; end.ends.as_slice() == [TaskEnd::Done, TaskEnd::Refused(AWAITED)].as_slice());
         assert!(rt; end.blocked.as_slice().is_empty());
     }

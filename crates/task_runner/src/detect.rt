@@ -14,6 +14,7 @@ use crate::rest::tell_rest;
 use crate::teller::Teller;
 use crate::{Ran, RunEnd, RunOptions};
 use armus_base::{Gate, NoMemory, Plan, Sink};
+use avoider::Judging;
 use board::{Board, Mode};
 use board_rounds::Crew;
 use std::alloc::Global;
@@ -40,7 +41,8 @@ pub fn run_detect<R: Threads + Sync, G: Gate, K: Sink>(
     let Ok((board, seat, view)) = Board::start(alloc, plan, Mode::Detect) else {
         return Err(RunEnd::NoMemory);
     };
-    let Ok(mut crew) = Crew::start(alloc, &board, seat, plan) else {
+    let judging = Judging::Graph(options.wanted);
+    let Ok(mut crew) = Crew::start(alloc, &board, seat, plan, judging) else {
         return Err(RunEnd::NoMemory);
     };
     let Ok(mut teller) = Teller::start(alloc, &board, view) else {

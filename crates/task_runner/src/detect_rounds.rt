@@ -101,7 +101,7 @@ fn take_round<'p, R: Threads + Sync, G: Gate, K: Sink>(
 {
     let workers = pace.workers(options.workers);
     if !options.live {
-        let made = crew.round(rt, alloc, board, plan, options.wanted, workers, gate);
+        let made = crew.round(rt, alloc, board, plan, workers, gate);
         return (made, Ok(()));
     }
     if pace.wants_threads() {
@@ -118,7 +118,7 @@ fn take_round<'p, R: Threads + Sync, G: Gate, K: Sink>(
             out,
         );
     }
-    let made = crew.round(rt, alloc, board, plan, options.wanted, workers, gate);
+    let made = crew.round(rt, alloc, board, plan, workers, gate);
     (made, teller.tell(alloc, board, options.wanted, gate, out))
 }
 
@@ -147,7 +147,7 @@ fn turn_and_tell<'p, R: Threads + Sync, G: Gate, K: Sink>(
         rt,
         &mut || -> Result<u32, NoMemory>
             requires { (board.now.plan ≡ plan.now) × (board.now.mode ≡ Detect) × AreTasksOf board.now crew.now }
-        { crew.round(rt, alloc, board, plan, wanted, workers, gate) },
+        { crew.round(rt, alloc, board, plan, workers, gate) },
         &mut || -> Result<(), RunEnd>
             requires { Watches board.now teller.now × (board.now.mode ≡ Detect) }
         { teller.tell(alloc, board, wanted, gate, out) },

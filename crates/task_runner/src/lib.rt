@@ -19,7 +19,7 @@ mod teller;
 mod turns;
 mod world_round;
 
-pub use avoided::run_avoid;
+pub use avoided::{run_avoid, run_avoid_kept};
 pub use board_rounds::{Task, round};
 pub use detect::run_detect;
 pub use journal::run_journal;

@@ -11,7 +11,7 @@ use Rattle.board_rounds.proofs.rounds.+taking.Goals as goal
 
 pub take_turns_in_halves-join_mut-first-requires-send-F : goal.take_turns_in_halves-join_mut-first-requires-send-F
 take_turns_in_halves-join_mut-first-requires-send-F g t c κs within =
-    param_send 1 _ (arg_send _ no _ (turns_send _ _ _ _ _ _ _ _ _ (param 1 g.row.R) (param 2 g.row.C) (param 0 g.row.T) tt tt tt (search rules) (search rules) (search rules)))
+    param_send 1 _ (arg_send _ no _ (turns_send _ _ _ _ _ _ _ _ (param 1 g.row.R) (param 2 g.row.C) (param 0 g.row.T) tt tt tt (search rules) (search rules) (search rules)))
 
 pub take_turns_in_halves-join_mut-first-requires-after_bounds : goal.take_turns_in_halves-join_mut-first-requires-after_bounds
 take_turns_in_halves-join_mut-first-requires-after_bounds g t c κs within =

@@ -7,4 +7,4 @@ use Rattle.task_runner.proofs.detect_rounds.turn_and_tell.Goals as goal
 
 pub join_mut-requires-send-F : goal.join_mut-requires-send-F
 join_mut-requires-send-F g c κs within =
-    param_send 1 _ (arg_send _ no _ (round_send _ _ _ _ _ _ _ _ _ _ (param 0 g.row.R) (param 1 g.row.G) tt tt (search rules) (search rules)))
+    param_send 1 _ (arg_send _ no _ (round_send _ _ _ _ _ _ _ _ _ (param 0 g.row.R) (param 1 g.row.G) tt tt (search rules) (search rules)))
