@@ -12,7 +12,7 @@ use crate::walks::{looks, steps};
 use crate::worlds::events;
 use adaptive::Wanted;
 use armus_base::{Dead, Event, NoMemory, Offset, PhaserId};
-use avoider::{Decision, avoid_step, decide, try_take};
+use avoider::{Decision, Judge, Judging, avoid_step, try_take};
 use board::{Board, TaskSeat, ViewSeat};
 use collector::Collector;
 use phase_scan::{Cells, Look};
@@ -74,6 +74,7 @@ fn is_refused(
     p: PhaserId,
     off: Offset,
     cells: &mut Cells,
+    judging: Judging,
 ) -> Result<bool, NoMemory>
     requires made { IsOf seat.old board.now }
     requires avoids { board.now.mode ≡ Avoid }
@@ -86,12 +87,13 @@ fn is_refused(
     if try_take(seat, board).is_err() {
         return Ok(false);
     }
-    let decision = decide(alloc, seat, board, p, off, cells, Wanted::Auto)?;
+    let mut judge = Judge::new(judging);
+    let decision = judge.decide(alloc, seat, board, p, off, cells)?;
     Ok(is_refusal(&decision))
 }
 
 // Whether a task that would wait for itself is refused on a board that avoids deadlock.
-fn is_refused_on_board(alloc: Global) -> Result<bool, NoMemory> {
+fn is_refused_on_board(alloc: Global, judging: Judging) -> Result<bool, NoMemory> {
     let plan = awaits_ahead(alloc)?;
     let (board, mut root, _) = begin_avoiding(alloc, &plan)?;
     let walked = decisions::steps(&mut root, alloc, &board, &plan, 2);
@@ -99,7 +101,7 @@ fn is_refused_on_board(alloc: Global) -> Result<bool, NoMemory> {
         return Ok(false);
     };
     let mut cells = Cells::start(alloc, board.tasks(), board.phasers())?;
-    let refused = is_refused(alloc, &mut seat, &board, p, off, &mut cells)?;
+    let refused = is_refused(alloc, &mut seat, &board, p, off, &mut cells, judging)?;
     Ok(walked && refused)
 }
 
@@ -109,7 +111,8 @@ fn a_task_waits_for_itself(rt: HostRuntime) -> Result<(), Fail> {
     for all in [
         waits_for_itself(alloc),
         publishes_what_it_looks_back_to(alloc),
-        is_refused_on_board(alloc),
+        is_refused_on_board(alloc, Judging::Graph(Wanted::Auto)),
+        is_refused_on_board(alloc, Judging::Order),
     ] {
         match all {
             Ok(all) => assert!(rt; all, "an answer"),
