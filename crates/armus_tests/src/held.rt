@@ -58,22 +58,21 @@ fn expect<R: Abort + Threads + Wait + Sync>(
     Ok(())
 }
 
+// The words of the ways to run a kernel with two workers that report alike where nobody is dead.
+const RUNS: [&[&str]; 3] = [
+    &["run", "--workers", "2"],
+    &["avoid", "--workers", "2"],
+    &["avoid", "--kept", "--workers", "2"],
+];
+
 const THREE_DONE: &str = "tasks 3 done 3 dead 0 held 0 refused 0 unforked 0\ngraph sg 0\n";
 
 // Two tasks that each wait for the other's first op: a run that makes its workers' turns one after another would wait in vain.
 #[test]
 fn two_tasks_act_side_by_side(rt: HostRuntime) -> Result<(), Fail> {
-    for command in ["run", "avoid"] {
+    for given in RUNS {
         let gate = Holding::both(op(1, 0), op(2, 0));
-        expect(
-            &rt,
-            rt.alloc(),
-            &[command, "--workers", "2"],
-            TWO_MAKERS,
-            &gate,
-            &[THREE_DONE],
-            0,
-        )?;
+        expect(&rt, rt.alloc(), given, TWO_MAKERS, &gate, &[THREE_DONE], 0)?;
     }
     Ok(())
 }
@@ -100,12 +99,12 @@ fn two_tasks_of_a_record_act_side_by_side(rt: HostRuntime) -> Result<(), Fail> {
 // A task passes an await while another one is held: awaits are not left to the end of the run.
 #[test]
 fn an_await_is_passed_while_another_task_is_held(rt: HostRuntime) -> Result<(), Fail> {
-    for command in ["run", "avoid"] {
+    for given in RUNS {
         let gate = Holding::until(op(2, 0), op(1, 2));
         expect(
             &rt,
             rt.alloc(),
-            &[command, "--workers", "2"],
+            given,
             PASSES_AN_AWAIT,
             &gate,
             &[THREE_DONE],

@@ -25,7 +25,7 @@ few None count is = absurd is
 may_of : (words : List Text) (c : Command) → Means words (Some c) → MayGenerate c
 may_of words (Check print) means = tt
 may_of words (Run workers g live) means = tt
-may_of words (Avoid workers g) means = tt
+may_of words (Avoid workers g kept) means = tt
 may_of words (Record workers) means = tt
 may_of words Replay means = tt
 may_of words (Gen count) means = few _ count means.values

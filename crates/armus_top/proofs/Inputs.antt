@@ -24,7 +24,7 @@ never_both (Check false) input text other status (why, has, line) (plan, (progra
 never_both (Check true) input text other status (why, has, line) (plan, program, is, is_zero, text_is) = plan_or_fault input why program plan has is
 never_both (Run workers g false) input text other status (why, has, line) run = run_has_plan input _ status other why run has
 never_both (Run workers g true) input text other status (why, has, line) live = run_has_plan input _ status live.report why live.run has
-never_both (Avoid workers g) input text other status (why, has, line) r = plan_or_fault input why r.plan_is.0 r.plan has r.plan_is.1
+never_both (Avoid workers g kept) input text other status (why, has, line) r = plan_or_fault input why r.plan_is.0 r.plan has r.plan_is.1
 never_both (Record workers) input text other status (why, has, line) r = plan_or_fault input why r.plan_is.0 r.plan has r.plan_is.1
 never_both Replay input text other status (why, is, line) r = refused_or_replayed input why status other is r
 never_both (Gen count) input text other status (why, is, line) answered = absurd is
@@ -43,7 +43,7 @@ answered_small (Check false) input text status (plan, is, is_none, text_is) = om
 answered_small (Check true) input text status (plan, program, is, is_none, text_is) = omega (arith, is_none)
 answered_small (Run workers g false) input text status run = dead_small run.state status run.status_is
 answered_small (Run workers g true) input text status live = dead_small live.run.state status live.run.status_is
-answered_small (Avoid workers g) input text status r = refused_small r.plan r.state status r.status_is
+answered_small (Avoid workers g kept) input text status r = refused_small r.plan r.state status r.status_is
 answered_small (Record workers) input text status r = dead_small (state_after r.steps) status r.status_is
 answered_small Replay input text status r = dead_small (state_after r.by.replayed.progress.run) status r.status_is
 answered_small (Gen count) input text status g = dead_small g.run.state status g.run.status_is

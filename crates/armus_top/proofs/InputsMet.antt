@@ -31,8 +31,8 @@ module _ (input : Text) where
       by_plan (Run workers g false) (λ why is. is) (λ plan is. let (status, text, run) = run_met input plan is (wanted_of g) in (status, text, inl run))
   each_met (Run workers g true) fits may =
       by_plan (Run workers g true) (λ why is. is) (λ plan is. let (status, text, run) = live_met input plan is (wanted_of g) in (status, text, inl run))
-  each_met (Avoid workers g) fits may =
-      by_plan (Avoid workers g) (λ why is. is) (λ plan is. let (status, text, run) = avoid_met input plan is workers (wanted_of g) in (status, text, inl run))
+  each_met (Avoid workers g kept) fits may =
+      by_plan (Avoid workers g kept) (λ why is. is) (λ plan is. let (status, text, run) = avoid_met input plan is workers (wanted_of g) in (status, text, inl run))
   each_met (Record workers) fits may =
       by_plan (Record workers) (λ why is. is) (λ plan is. let (status, text, run) = record_met input plan is in (status, text, inl run))
   each_met Replay fits may = replay_met input

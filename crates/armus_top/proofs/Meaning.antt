@@ -34,7 +34,7 @@ workers_may None workers is = (omega (arith, is), omega (arith, is))
 pub means_plain : (words : List Text) (meaning : Option Command) → Means words meaning → (BeginsRecord words → ⊥) → MeansPlain meaning
 means_plain words (Some (Check print)) is other = tt
 means_plain words (Some (Run workers graph live)) is other = workers_may _ workers is.values.0
-means_plain words (Some (Avoid workers graph)) is other = workers_may _ workers is.values.0
+means_plain words (Some (Avoid workers graph kept)) is other = workers_may _ workers is.values.0
 means_plain words (Some (Record workers)) is other = absurd (other (_, is.form.words_are))
 means_plain words (Some Replay) is other = tt
 means_plain words (Some (Gen count)) is other = tt
@@ -52,7 +52,7 @@ first_is_record c words is begins =
 pub means_journal : (words : List Text) (meaning : Option Command) → Means words meaning → BeginsRecord words → MeansJournal meaning
 means_journal words (Some (Check print)) is begins = absurd (let e = first_is_record (Check print) words is begins in cc)
 means_journal words (Some (Run workers graph live)) is begins = absurd (let e = first_is_record (Run workers graph live) words is begins in cc)
-means_journal words (Some (Avoid workers graph)) is begins = absurd (let e = first_is_record (Avoid workers graph) words is begins in cc)
+means_journal words (Some (Avoid workers graph kept)) is begins = absurd (let e = first_is_record (Avoid workers graph kept) words is begins in cc)
 means_journal words (Some (Record workers)) is begins = workers_may _ workers is.values
 means_journal words (Some Replay) is begins = absurd (let e = first_is_record Replay words is begins in cc)
 means_journal words (Some (Gen count)) is begins = absurd (let e = first_is_record (Gen count) words is begins in cc)

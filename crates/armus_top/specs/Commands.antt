@@ -28,7 +28,7 @@ use Rattle.armus_top.specs.declared.replaying.TheConstants.{MAX_REPLAY_BYTES}
 abbrev pub limit_of : Command → Option ℕ
 limit_of (Check print) = Some MAX_TEXT_BYTES
 limit_of (Run workers g live) = Some MAX_TEXT_BYTES
-limit_of (Avoid workers g) = Some MAX_TEXT_BYTES
+limit_of (Avoid workers g kept) = Some MAX_TEXT_BYTES
 limit_of (Record workers) = Some MAX_TEXT_BYTES
 limit_of Replay = Some MAX_REPLAY_BYTES
 limit_of (Gen count) = None
@@ -41,7 +41,7 @@ length_line c = refusal_text refusal.Length
 abbrev pub IsCause : Command → Text → Refusal → Type 0
 IsCause (Check print) input why = IsFaultOf input why
 IsCause (Run workers g live) input why = IsFaultOf input why
-IsCause (Avoid workers g) input why = IsFaultOf input why
+IsCause (Avoid workers g kept) input why = IsFaultOf input why
 IsCause (Record workers) input why = IsFaultOf input why
 IsCause Replay input why = IsReplayRefused input why
 IsCause (Gen count) input why = ⊥
@@ -63,7 +63,7 @@ IsAnswered (Check false) input status text = (plan : Plan) × IsPlanOf input pla
 IsAnswered (Check true) input status text = (plan : Plan) × (program : Program) × IsChecked input program plan × (status ≡ 0) × (text ≡ printed_of program)
 IsAnswered (Run workers g false) input status text = IsRunOf input (wanted_of g) status text
 IsAnswered (Run workers g true) input status text = IsLiveRunOf input (wanted_of g) status text
-IsAnswered (Avoid workers g) input status text = IsAvoidOf input workers (wanted_of g) status text
+IsAnswered (Avoid workers g kept) input status text = IsAvoidOf input workers (wanted_of g) status text
 IsAnswered (Record workers) input status text = IsRecordOf input status text
 IsAnswered Replay input status text = IsReplayOf input status text
 IsAnswered (Gen count) input status text = IsGenOf count status text

@@ -51,7 +51,11 @@ fn serve_plain<R: Threads + Sync, S: Source, K: Sink, G: Gate>(
             graph,
             live,
         } => run(rt, alloc, workers, graph, live, src, out, gate),
-        Command::Avoid { workers, graph } => avoid(rt, alloc, workers, graph, src, out, gate),
+        Command::Avoid {
+            workers,
+            graph,
+            kept,
+        } => avoid(rt, alloc, workers, graph, kept, src, out, gate),
         Command::Record { .. } => unreachable!(),
         Command::Replay => replay(alloc, src, out),
         Command::Gen { count } => generate(rt, alloc, count, out, gate),

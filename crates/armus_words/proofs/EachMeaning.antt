@@ -17,7 +17,7 @@ use Rattle.armus_words.specs.declared.command.Command.{Command}
 use Rattle.armus_words.specs.declared.command.Command.TheVariants.{Check, Run, Avoid, Record, Replay, Gen}
 use Rattle.armus_words.specs.declared.table.TheConstants.{DEFAULT_WORKERS, MAX_GENERATED, MAX_WORKERS}
 use Rattle.armus_words.proofs.FormLemmas.{form_fits, form_from}
-use Rattle.armus_words.proofs.Meaning.{SameForm, same_form}
+use Rattle.armus_words.proofs.Meaning.{Begins, SameForm, avoid, begins_with, generate, record_run, run, same_form}
 
 -- ---- the form
 
@@ -126,37 +126,21 @@ graph_or_not (Some text) =
 abbrev ReadsOrNot : FirstWord → Given → Type 0
 ReadsOrNot f given = ((c : Command) × (first_of c ≡ f) × Reads c given) ⊎ ((c : Command) → first_of c ≡ f → Reads c given → ⊥)
 
-no_run : (given : Given) → ((w : ℕ) (g : Graph) → AreWorkers given.workers w × IsWantedGraph given.graph g → ⊥) → (c : Command) → first_of c ≡ first.Run → Reads c given → ⊥
-no_run given none (Check p) e is = absurd (cc)
-no_run given none (Run w g l) e is = none w g (is.0, is.1)
-no_run given none (Avoid w g) e is = absurd (cc)
-no_run given none (Record w) e is = absurd (cc)
-no_run given none Replay e is = absurd (cc)
-no_run given none (Gen n) e is = absurd (cc)
+-- no command with this first word says what is given, where none of its form does
+none_reads : (f : FirstWord) (given : Given) → ((c : Command) → Begins f c → Reads c given → ⊥) → (c : Command) → first_of c ≡ f → Reads c given → ⊥
+none_reads f given none c e is = none c (begins_with f c e) is
 
-no_avoid : (given : Given) → ((w : ℕ) (g : Graph) → AreWorkers given.workers w × IsWantedGraph given.graph g → ⊥) → (c : Command) → first_of c ≡ first.Avoid → Reads c given → ⊥
-no_avoid given none (Check p) e is = absurd (cc)
-no_avoid given none (Run w g l) e is = absurd (cc)
-no_avoid given none (Avoid w g) e is = none w g is
-no_avoid given none (Record w) e is = absurd (cc)
-no_avoid given none Replay e is = absurd (cc)
-no_avoid given none (Gen n) e is = absurd (cc)
+no_run : (given : Given) → ((w : ℕ) (g : Graph) → AreWorkers given.workers w × IsWantedGraph given.graph g → ⊥) → (c : Command) → Begins first.Run c → Reads c given → ⊥
+no_run given none _ (run w g l) is = none w g (is.0, is.1)
 
-no_record : (given : Given) → ((w : ℕ) → AreWorkers given.workers w → ⊥) → (c : Command) → first_of c ≡ first.Record → Reads c given → ⊥
-no_record given none (Check p) e is = absurd (cc)
-no_record given none (Run w g l) e is = absurd (cc)
-no_record given none (Avoid w g) e is = absurd (cc)
-no_record given none (Record w) e is = none w is
-no_record given none Replay e is = absurd (cc)
-no_record given none (Gen n) e is = absurd (cc)
+no_avoid : (given : Given) → ((w : ℕ) (g : Graph) → AreWorkers given.workers w × IsWantedGraph given.graph g → ⊥) → (c : Command) → Begins first.Avoid c → Reads c given → ⊥
+no_avoid given none _ (avoid w g k) is = none w g (is.0, is.1)
 
-no_gen : (given : Given) → ((n : ℕ) → IsGenerated given.alone n → ⊥) → (c : Command) → first_of c ≡ first.Gen → Reads c given → ⊥
-no_gen given none (Check p) e is = absurd (cc)
-no_gen given none (Run w g l) e is = absurd (cc)
-no_gen given none (Avoid w g) e is = absurd (cc)
-no_gen given none (Record w) e is = absurd (cc)
-no_gen given none Replay e is = absurd (cc)
-no_gen given none (Gen n) e is = none n is
+no_record : (given : Given) → ((w : ℕ) → AreWorkers given.workers w → ⊥) → (c : Command) → Begins first.Record c → Reads c given → ⊥
+no_record given none _ (record_run w) is = none w is
+
+no_gen : (given : Given) → ((n : ℕ) → IsGenerated given.alone n → ⊥) → (c : Command) → Begins first.Gen c → Reads c given → ⊥
+no_gen given none _ (generate n) is = none n is
 
 -- a number of workers and a graph are given, or they are not
 abbrev WorksOrNot : Given → Type 0
@@ -177,14 +161,14 @@ works_or_not given =
 reads_or_not : (f : FirstWord) (given : Given) → ReadsOrNot f given
 reads_or_not first.Check given = inl (Check given.print, refl, refl)
 reads_or_not first.Run given =
-    elim (works_or_not given) [ inl is ↦ inl (Run is.0 is.1 given.live, refl, (is.2.0, is.2.1, refl)) | inr none ↦ inr (no_run given none) ]
+    elim (works_or_not given) [ inl is ↦ inl (Run is.0 is.1 given.live, refl, (is.2.0, is.2.1, refl)) | inr none ↦ inr (none_reads first.Run given (no_run given none)) ]
 reads_or_not first.Avoid given =
-    elim (works_or_not given) [ inl is ↦ inl (Avoid is.0 is.1, refl, is.2) | inr none ↦ inr (no_avoid given none) ]
+    elim (works_or_not given) [ inl is ↦ inl (Avoid is.0 is.1 given.kept, refl, (is.2.0, is.2.1, refl)) | inr none ↦ inr (none_reads first.Avoid given (no_avoid given none)) ]
 reads_or_not first.Record given =
-    elim (workers_or_not given.workers) [ inl is ↦ inl (Record is.0, refl, is.1) | inr none ↦ inr (no_record given none) ]
+    elim (workers_or_not given.workers) [ inl is ↦ inl (Record is.0, refl, is.1) | inr none ↦ inr (none_reads first.Record given (no_record given none)) ]
 reads_or_not first.Replay given = inl (Replay, refl, tt)
 reads_or_not first.Gen given =
-    elim (generated_or_not given.alone) [ inl is ↦ inl (Gen is.0, refl, is.1) | inr none ↦ inr (no_gen given none) ]
+    elim (generated_or_not given.alone) [ inl is ↦ inl (Gen is.0, refl, is.1) | inr none ↦ inr (none_reads first.Gen given (no_gen given none)) ]
 
 module _ (words : List Text) where
   by_reading : (f : FirstWord) (uses : List Use) (alone : Option Text) → AreWords words f uses alone → ReadsOrNot f (given_by uses alone) → (c : Option Command) × Means words c

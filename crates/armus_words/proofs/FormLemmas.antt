@@ -12,7 +12,7 @@ use Rattle.armus_words.specs.inside.Form.{first_named, fits, free_at, is_free, i
 use Rattle.armus_words.specs.declared.forms.Free.{Free}
 use Rattle.armus_words.specs.declared.table.FirstWord.{FirstWord}
 use Rattle.armus_words.specs.declared.table.OptionWord.{OptionWord}
-use Rattle.armus_words.specs.declared.table.OptionWord.TheVariants.{Print, Workers, Graph, Live}
+use Rattle.armus_words.specs.declared.table.OptionWord.TheVariants.{Print, Workers, Graph, Live, Kept}
 use Rattle.armus_words.specs.declared.table.TheConstants.{FIRST_WORDS, MAX_VALUE_BYTES, OPTION_WORDS}
 
 head_is : {x y : Text} {xs ys : List Text} → x ∷ xs ≡ y ∷ ys → x ≡ y
@@ -77,24 +77,34 @@ free_after free Print Print = refl
 free_after free Print Workers = refl
 free_after free Print Graph = refl
 free_after free Print Live = refl
+free_after free Print Kept = refl
 free_after free Workers Print = refl
 free_after free Workers Workers = refl
 free_after free Workers Graph = refl
 free_after free Workers Live = refl
+free_after free Workers Kept = refl
 free_after free Graph Print = refl
 free_after free Graph Workers = refl
 free_after free Graph Graph = refl
 free_after free Graph Live = refl
+free_after free Graph Kept = refl
 free_after free Live Print = refl
 free_after free Live Workers = refl
 free_after free Live Graph = refl
 free_after free Live Live = refl
+free_after free Live Kept = refl
+free_after free Kept Print = refl
+free_after free Kept Workers = refl
+free_after free Kept Graph = refl
+free_after free Kept Live = refl
+free_after free Kept Kept = refl
 
 free_first : (f : FirstWord) (o : OptionWord) → is_free (free_at f) o ≡ has_option o (options_of f)
 free_first f Print = refl
 free_first f Workers = refl
 free_first f Graph = refl
 free_first f Live = refl
+free_first f Kept = refl
 
 without_same : (o : OptionWord) (f g : OptionWord → Bool) → ((p : OptionWord) → f p ≡ g p) → (p : OptionWord) → without o f p ≡ without o g p
 without_same o f g e p = rw (e p) refl

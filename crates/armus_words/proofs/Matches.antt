@@ -13,12 +13,11 @@ use Rattle.armus_words.specs.Commands.{Given, given_by}
 use Rattle.armus_words.specs.declared.table.FirstWord.{FirstWord}
 use Rattle.armus_words.specs.declared.table.FirstWord.TheVariants as first
 use Rattle.armus_words.specs.declared.table.OptionWord.{OptionWord}
-use Rattle.armus_words.specs.declared.table.OptionWord.TheVariants.{Print, Workers, Graph, Live}
+use Rattle.armus_words.specs.declared.table.OptionWord.TheVariants.{Print, Workers, Graph, Live, Kept}
 use Rattle.std.proofs.lemmas.Bool.{cases_Bool}
 use Rattle.std.proofs.lemmas.Slice.Eq.{bytes_eq-Decides}
-use Rattle.armus_words.specs.inside.Form.{option_named}
-use Rattle.armus_words.proofs.Meaning.{named_is}
-use Rattle.armus_words.proofs.Rows.{has_row_pushed, or_false}
+use Rattle.armus_words.proofs.Meaning.{names_differ, one_name}
+use Rattle.armus_words.proofs.Rows.{has_row_pushed, or_false, or_true}
 use Rattle.armus_words.proofs.Steps.{ended, finished_is, knows_all, rules_for, unused_row, use_row, with_unused}
 use Rattle.armus_words.proofs.Passes.{shape_with}
 use Rattle.armus_words.proofs.Walks.{Before, after_all, passes_all, rows_all, settles_all, walked_all}
@@ -49,16 +48,7 @@ ended_stays id [] rows e = refl
 ended_stays id (o ∷ os) rows e = ended_stays id os (with_unused o rows) e ∙ with_unused_stays id o rows (wants_value o) (e o)
 
 flags_differ : (p o : OptionWord) → wants_value p ≡ true → wants_value o ≡ false → bytes_eq (name_of o) (name_of p) ≡ false
-flags_differ Print o w e = absurd (cc)
-flags_differ Workers Print w e = refl
-flags_differ Workers Workers w e = absurd (cc)
-flags_differ Workers Graph w e = absurd (cc)
-flags_differ Graph Print w e = refl
-flags_differ Graph Workers w e = absurd (cc)
-flags_differ Graph Graph w e = absurd (cc)
-flags_differ Workers Live w e = refl
-flags_differ Graph Live w e = refl
-flags_differ Live o w e = absurd (cc)
+flags_differ p o w e = names_differ o p (λ same. absurd (cc))
 
 -- ---- the values of options
 
@@ -104,22 +94,6 @@ pick : (b : Bool) (r : Row) (found : Option Row) → (b ≡ true → text_in (So
 pick true r found e f = e refl
 pick false r found e f = f refl
 
-or_true : (a b : Bool) → (a || b) ≡ true → a ≡ false → b ≡ true
-or_true true b e f = absurd (cc)
-or_true false b e f = e
-
-valued_differ : (o p : OptionWord) → wants_value o ≡ false → wants_value p ≡ true → same_option o p ≡ false
-valued_differ Print Print w e = absurd (cc)
-valued_differ Print Workers w e = refl
-valued_differ Print Graph w e = refl
-valued_differ Print Live w e = absurd (cc)
-valued_differ Workers p w e = absurd (cc)
-valued_differ Graph p w e = absurd (cc)
-valued_differ Live Print w e = absurd (cc)
-valued_differ Live Workers w e = refl
-valued_differ Live Graph w e = refl
-valued_differ Live Live w e = absurd (cc)
-
 flag_text : (rules : List Rule) (p : OptionWord) → wants_value p ≡ false → text_in (Some (use_row rules (flag p))) ≡ Some (codes "true")
 flag_text rules p e = refl
 
@@ -127,7 +101,7 @@ used_flag : (rules : List Rule) (free : OptionWord → Bool) (o : OptionWord) (u
     → text_in (find_row (name_of o) (map (use_row rules) us)) ≡ Some (codes "true")
 used_flag rules free o [] w uses is = absurd (cc)
 used_flag rules free o (valued p v ∷ us) w uses is =
-    let differ = valued_differ o p w uses.1.0 in
+    let differ : same_option o p ≡ false = names_differ p o (λ same. absurd (let kind = uses.1.0 in cc)) in
     pick (same_option o p) (use_row rules (valued p v)) _ (λ e. absurd (cc)) (λ e. used_flag rules (without p free) o us w uses.2 (or_true (same_option o p) _ is differ))
 used_flag rules free o (flag p ∷ us) w uses is =
     pick (same_option o p) (use_row rules (flag p)) _ (λ e. refl) (λ e. used_flag rules (without p free) o us w uses.2 (or_true (same_option o p) _ is e))
@@ -169,12 +143,6 @@ find_last id (x ∷ xs) r e is =
     let parts = or_false (bytes_eq x.id id) (has_row id xs) e in
     rw parts.0 (find_last id xs r parts.1 is)
 
--- options of one name are one
-one_name : (a b : OptionWord) → bytes_eq (name_of a) (name_of b) ≡ true → a ≡ b
-one_name a b e =
-    let names : name_of a ≡ name_of b = (bytes_eq-Decides (name_of a) (name_of b)).0 e in
-    let both : Some a ≡ Some b = sym (named_is a) ∙ ap (λ (n : Text). option_named (45 ∷ 45 ∷ n)) names ∙ named_is b in cc
-
 -- the row of another flag that is not used does not make a row under this name
 pushed_either : (id : Text) (w h : Bool) (rows : List Row) (r : Row) → has_row id rows ≡ false → bytes_eq r.id id ≡ false
     → has_row id (if w then rows else (if h then rows else rows ++ r ∷ [])) ≡ false
@@ -213,6 +181,7 @@ not_alone Print = refl
 not_alone Workers = refl
 not_alone Graph = refl
 not_alone Live = refl
+not_alone Kept = refl
 
 none_alone : (rules : List Rule) (us : List Use) → find_row (codes "count") (map (use_row rules) us) ≡ None
 none_alone rules [] = refl
@@ -227,6 +196,7 @@ pub record HoldsGiven (rows : List Row) (given : Given) : Type 0 where
   pub workers : first_of (codes "workers") rows ≡ given.workers
   pub graph : first_of (codes "graph") rows ≡ given.graph
   pub live : FlagFound (one_of (codes "live") rows) given.live
+  pub kept : FlagFound (one_of (codes "kept") rows) given.kept
   pub alone : first_of (codes "count") rows ≡ given.alone
 
 module _ (f : FirstWord) where
@@ -258,6 +228,7 @@ module _ (f : FirstWord) where
       record {
         print = by_use Print refl rules free os us (is_used Print us) refl uses;
         live = by_use Live refl rules free os us (is_used Live us) refl uses;
+        kept = by_use Kept refl rules free os us (is_used Kept us) refl uses;
         workers = ap value_in (ended_stays (codes "workers") os rows (λ o w. flags_differ Workers o refl w)) ∙ value_found rules free Workers us refl uses;
         graph = ap value_in (ended_stays (codes "graph") os rows (λ o w. flags_differ Graph o refl w)) ∙ value_found rules free Graph us refl uses;
         alone = ap value_in (ended_stays (codes "count") os rows (λ o w. not_alone o) ∙ none_alone rules us);

@@ -1,17 +1,18 @@
 -- The words mean one command at most.
-use Rattle.std.proofs.Common.{◌≡◌, ◌∙◌, ◌++◌, ℕ, List, [], ◌∷◌, Bool, true, false, ap, sym, refl, subst, arith}
+use Rattle.std.proofs.Common.{◌≡◌, ◌∙◌, ◌++◌, ℕ, List, [], ◌∷◌, Bool, true, false, inl, inr, ap, sym, refl, subst, arith}
 use Rattle.std.specs.Prelude.{Option, Some, None, ◌==◌, ◌&&◌, option_to_list}
 use Rattle.std.specs.List.{list_all}
 use Rattle.std.specs.Str.{bytes_eq}
+use Rattle.std.proofs.lemmas.Bool.{cases_Bool}
 use Rattle.std.proofs.lemmas.Slice.Eq.{bytes_eq-Decides}
 use Rattle.std.proofs.lemmas.Grind.{common_steps}
-use Rattle.armus_words.specs.Words.{Text, Use, valued, flag, AreUses, AreWords, IsValue, StandsAlone, all_words, dashed, first_word, has_value_alone, is_value_byte, use_words, wants_value, without}
+use Rattle.armus_words.specs.Words.{Text, Use, valued, flag, AreUses, AreWords, IsValue, StandsAlone, all_words, dashed, first_word, has_value_alone, is_value_byte, name_of, use_words, wants_value, without}
 use Rattle.armus_words.specs.inside.Form.{first_named, option_named}
 use Rattle.armus_words.specs.Commands.{AreWorkers, Given, IsCommand, IsGenerated, IsWantedGraph, IsNumber, OneMeaning, Reads, first_of, given_by, graph_word}
 use Rattle.armus_words.specs.declared.table.FirstWord.{FirstWord}
 use Rattle.armus_words.specs.declared.table.FirstWord.TheVariants as first
 use Rattle.armus_words.specs.declared.table.OptionWord.{OptionWord}
-use Rattle.armus_words.specs.declared.table.OptionWord.TheVariants.{Print, Workers, Graph as GraphOption, Live}
+use Rattle.armus_words.specs.declared.table.OptionWord.TheVariants.{Print, Workers, Graph as GraphOption, Live, Kept}
 use Rattle.armus_words.specs.declared.command.Graph.{Graph}
 use Rattle.armus_words.specs.declared.command.Graph.TheVariants.{Auto, Wfg, Sg, Grg}
 use Rattle.armus_words.specs.declared.command.Command.{Command}
@@ -34,12 +35,23 @@ named_is Print = refl
 named_is Workers = refl
 named_is GraphOption = refl
 named_is Live = refl
+named_is Kept = refl
 
 one_first : (a b : FirstWord) → first_word a ≡ first_word b → a ≡ b
 one_first a b e = let both : Some a ≡ Some b = sym (first_is a) ∙ ap first_named e ∙ first_is b in cc
 
 one_option : (a b : OptionWord) → dashed a ≡ dashed b → a ≡ b
 one_option a b e = let both : Some a ≡ Some b = sym (named_is a) ∙ ap option_named e ∙ named_is b in cc
+
+-- options of one name are one
+pub one_name : (a b : OptionWord) → bytes_eq (name_of a) (name_of b) ≡ true → a ≡ b
+one_name a b e =
+    let names : name_of a ≡ name_of b = (bytes_eq-Decides (name_of a) (name_of b)).0 e in one_option a b (ap (λ (n : Text). 45 ∷ 45 ∷ n) names)
+
+-- a flag and an option that wants a value have two names
+pub names_differ : (a b : OptionWord) → (wants_value a ≡ wants_value b → ⊥) → bytes_eq (name_of a) (name_of b) ≡ false
+names_differ a b other =
+    elim (cases_Bool (bytes_eq (name_of a) (name_of b))) [ inl same ↦ absurd (other (ap wants_value (one_name a b same))) | inr differs ↦ differs ]
 
 head_is : {x y : Text} {xs ys : List Text} → x ∷ xs ≡ y ∷ ys → x ≡ y
 head_is e = cc
@@ -142,6 +154,26 @@ one_generated : (o : Option Text) (a b : ℕ) → IsGenerated o a → IsGenerate
 one_generated (Some text) a b p q = one_number text _ a b p q
 one_generated None a b p q = absurd p
 
+-- the command has this first word, and no other
+pub data Begins : FirstWord → Command → Type 0 where
+  check : (print : Bool) → Begins first.Check (Check print)
+  run : (workers : ℕ) (graph : Graph) (live : Bool) → Begins first.Run (Run workers graph live)
+  avoid : (workers : ℕ) (graph : Graph) (kept : Bool) → Begins first.Avoid (Avoid workers graph kept)
+  record_run : (workers : ℕ) → Begins first.Record (Record workers)
+  replay : Begins first.Replay Replay
+  generate : (count : ℕ) → Begins first.Gen (Gen count)
+
+begins : (c : Command) → Begins (first_of c) c
+begins (Check print) = check print
+begins (Run workers graph live) = run workers graph live
+begins (Avoid workers graph kept) = avoid workers graph kept
+begins (Record workers) = record_run workers
+begins Replay = replay
+begins (Gen count) = generate count
+
+pub begins_with : (f : FirstWord) (c : Command) → first_of c ≡ f → Begins f c
+begins_with f c is = subst (λ g. Begins g c) is (begins c)
+
 -- what is given is that of one command with this first word
 same_run : (w v : ℕ) (g h : Graph) (l m : Bool) (given : Given) → Reads (Run w g l) given → Reads (Run v h m) given → Run w g l ≡ Run v h m
 same_run w v g h l m given p q =
@@ -149,48 +181,19 @@ same_run w v g h l m given p q =
     let graph_is : g ≡ h = one_graph given.graph g h p.1 q.1 in
     let live_is : l ≡ m = p.2 ∙ sym q.2 in cc
 
-same_avoid : (w v : ℕ) (g h : Graph) (given : Given) → Reads (Avoid w g) given → Reads (Avoid v h) given → Avoid w g ≡ Avoid v h
-same_avoid w v g h given p q =
+same_avoid : (w v : ℕ) (g h : Graph) (k l : Bool) (given : Given) → Reads (Avoid w g k) given → Reads (Avoid v h l) given → Avoid w g k ≡ Avoid v h l
+same_avoid w v g h k l given p q =
     let workers_are : w ≡ v = one_workers given.workers w v p.0 q.0 in
-    let graph_is : g ≡ h = one_graph given.graph g h p.1 q.1 in cc
+    let graph_is : g ≡ h = one_graph given.graph g h p.1 q.1 in
+    let kept_is : k ≡ l = p.2 ∙ sym q.2 in cc
 
-one_reading : (c d : Command) (given : Given) → first_of c ≡ first_of d → Reads c given → Reads d given → c ≡ d
-one_reading (Check a) (Check b) given f p q = ap Check (p ∙ sym q)
-one_reading (Check a) (Run v h m) given f p q = absurd (cc)
-one_reading (Check a) (Avoid v h) given f p q = absurd (cc)
-one_reading (Check a) (Record v) given f p q = absurd (cc)
-one_reading (Check a) Replay given f p q = absurd (cc)
-one_reading (Check a) (Gen k) given f p q = absurd (cc)
-one_reading (Run w g l) (Check b) given f p q = absurd (cc)
-one_reading (Run w g l) (Run v h m) given f p q = same_run w v g h l m given p q
-one_reading (Run w g l) (Avoid v h) given f p q = absurd (cc)
-one_reading (Run w g l) (Record v) given f p q = absurd (cc)
-one_reading (Run w g l) Replay given f p q = absurd (cc)
-one_reading (Run w g l) (Gen k) given f p q = absurd (cc)
-one_reading (Avoid w g) (Check b) given f p q = absurd (cc)
-one_reading (Avoid w g) (Run v h m) given f p q = absurd (cc)
-one_reading (Avoid w g) (Avoid v h) given f p q = same_avoid w v g h given p q
-one_reading (Avoid w g) (Record v) given f p q = absurd (cc)
-one_reading (Avoid w g) Replay given f p q = absurd (cc)
-one_reading (Avoid w g) (Gen k) given f p q = absurd (cc)
-one_reading (Record w) (Check b) given f p q = absurd (cc)
-one_reading (Record w) (Run v h m) given f p q = absurd (cc)
-one_reading (Record w) (Avoid v h) given f p q = absurd (cc)
-one_reading (Record w) (Record v) given f p q = ap Record (one_workers given.workers w v p q)
-one_reading (Record w) Replay given f p q = absurd (cc)
-one_reading (Record w) (Gen k) given f p q = absurd (cc)
-one_reading Replay (Check b) given f p q = absurd (cc)
-one_reading Replay (Run v h m) given f p q = absurd (cc)
-one_reading Replay (Avoid v h) given f p q = absurd (cc)
-one_reading Replay (Record v) given f p q = absurd (cc)
-one_reading Replay Replay given f p q = refl
-one_reading Replay (Gen k) given f p q = absurd (cc)
-one_reading (Gen n) (Check b) given f p q = absurd (cc)
-one_reading (Gen n) (Run v h m) given f p q = absurd (cc)
-one_reading (Gen n) (Avoid v h) given f p q = absurd (cc)
-one_reading (Gen n) (Record v) given f p q = absurd (cc)
-one_reading (Gen n) Replay given f p q = absurd (cc)
-one_reading (Gen n) (Gen k) given f p q = ap Gen (one_generated given.alone n k p q)
+one_reading : (f : FirstWord) (c d : Command) (given : Given) → Begins f c → Begins f d → Reads c given → Reads d given → c ≡ d
+one_reading _ _ _ given (check a) (check b) p q = ap Check (p ∙ sym q)
+one_reading _ _ _ given (run w g l) (run v h m) p q = same_run w v g h l m given p q
+one_reading _ _ _ given (avoid w g k) (avoid v h l) p q = same_avoid w v g h k l given p q
+one_reading _ _ _ given (record_run w) (record_run v) p q = ap Record (one_workers given.workers w v p q)
+one_reading _ _ _ given replay replay p q = refl
+one_reading _ _ _ given (generate n) (generate k) p q = ap Gen (one_generated given.alone n k p q)
 
 -- words have the form of one first word alone
 pub record SameForm (a b : FirstWord) (us vs : List Use) (x y : Option Text) : Type 0 where
@@ -213,7 +216,7 @@ one_command words c d p q =
     let uses_are : p.uses ≡ q.uses = form.same.uses in
     let alone_is : p.alone ≡ q.alone = form.same.alone in
     let given_is : given_by q.uses q.alone ≡ given_by p.uses p.alone = cc in
-    one_reading c d (given_by p.uses p.alone) form.first p.values (subst (Reads d) given_is q.values)
+    one_reading (first_of d) c d (given_by p.uses p.alone) (begins_with (first_of d) c form.first) (begins d) p.values (subst (Reads d) given_is q.values)
 
 pub one_meaning : OneMeaning
 one_meaning words (Some c) (Some d) p q = ap Some (one_command words c d p q)

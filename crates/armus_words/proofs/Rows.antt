@@ -11,6 +11,10 @@ pub or_false : (a b : Bool) → (a || b) ≡ false → (a ≡ false) × (b ≡ f
 or_false true b e = absurd (cc)
 or_false false b e = (refl, e)
 
+pub or_true : (a b : Bool) → (a || b) ≡ true → a ≡ false → b ≡ true
+or_true true b e f = absurd (cc)
+or_true false b e f = e
+
 pub at_row_missing : (id : Text) (change : Row → List Row) (missing rows : List Row) → has_row id rows ≡ false → at_row id change missing rows ≡ rows ++ missing
 at_row_missing id change missing [] e = refl
 at_row_missing id change missing (r ∷ rs) e =

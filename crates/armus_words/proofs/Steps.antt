@@ -1,6 +1,6 @@
 -- One use of an option, as clap walks over it, for every list of rules that knows the option.
 use Rattle.std.proofs.Common.{◌≡◌, ◌∙◌, ◌++◌, ℕ, List, [], ◌∷◌, ap, sym, refl, subst, Bool, true, false, codes, if◌then◌else◌, fold, map}
-use Rattle.std.specs.Prelude.{Option, Some, None, ◌==◌}
+use Rattle.std.specs.Prelude.{Option, Some, None, ◌==◌, ◌||◌}
 use Rattle.std.specs.Str.{bytes_eq}
 use Rattle.clap.specs.Words.{Row, Rule}
 use Rattle.clap.specs.Lexer.{long_of, short_of}
@@ -12,12 +12,12 @@ use Rattle.std.proofs.lemmas.Grind.{common_steps}
 use Rattle.clap.specs.Walk.{finished, more_values, option_word, used_by_id, with_default, with_values}
 use Rattle.clap.specs.declared.parser.matches.ValueSource.TheVariants.{CommandLine, DefaultValue}
 use Rattle.clap.specs.declared.builder.value_parser.Reading.TheVariants.{AsWritten}
-use Rattle.armus_words.proofs.Rows.{at_row_missing, fresh_row}
-use Rattle.armus_words.proofs.Meaning.{and_first}
+use Rattle.armus_words.proofs.Rows.{at_row_missing, fresh_row, or_true}
+use Rattle.armus_words.proofs.Meaning.{and_first, one_name}
 use Rattle.armus_words.specs.inside.Rules.{rule_for}
-use Rattle.armus_words.specs.Words.{Text, dashed, has_option, Use, HasWantedValue, valued, flag, option_of, use_words, is_value_byte, name_of, wants_value, IsValue}
+use Rattle.armus_words.specs.Words.{Text, dashed, has_option, Use, HasWantedValue, valued, flag, option_of, use_words, is_value_byte, name_of, same_option, wants_value, IsValue}
 use Rattle.armus_words.specs.declared.table.OptionWord.{OptionWord}
-use Rattle.armus_words.specs.declared.table.OptionWord.TheVariants.{Print, Workers, Graph, Live}
+use Rattle.armus_words.specs.declared.table.OptionWord.TheVariants.{Print, Workers, Graph, Live, Kept}
 
 -- the rule of an option, as clap fills it
 abbrev pub made : OptionWord → Rule
@@ -61,18 +61,21 @@ module _ (rules : List Rule) where
   word_is Workers h = refl
   word_is Graph h = refl
   word_is Live h = refl
+  word_is Kept h = refl
 
   made_waits : (o : OptionWord) (h : Held) → wants_value o ≡ true → by_long (dashed o) h (Some (made o)) ≡ waits o h
   made_waits Print h e = absurd (cc)
   made_waits Workers h e = refl
   made_waits Graph h e = refl
   made_waits Live h e = absurd (cc)
+  made_waits Kept h e = absurd (cc)
 
   made_flag : (o : OptionWord) (h : Held) → wants_value o ≡ false → by_long (dashed o) h (Some (made o)) ≡ at (reacted rules (made o) [] h)
   made_flag Print h e = refl
   made_flag Workers h e = absurd (cc)
   made_flag Graph h e = absurd (cc)
   made_flag Live h e = refl
+  made_flag Kept h e = refl
 
   -- the word of an option that wants_value a value, and of one that wants_value none
   pub option_walked : (o : OptionWord) (h : Held) → Knows rules o → wants_value o ≡ true → walked rules [] (at h) (dashed o) ≡ waits o h
@@ -111,6 +114,7 @@ module _ (rules : List Rule) where
   made_value Workers v h e = refl
   made_value Graph v h e = refl
   made_value Live v h e = absurd (cc)
+  made_value Kept v h e = absurd (cc)
 
   pub value_walked : (o : OptionWord) (v : Text) (h : Held) → Knows rules o → wants_value o ≡ true → starts_plain v → walked rules [] (waits o h) v ≡ at (with_pending o (v ∷ []) h)
   unfolding walked
@@ -146,12 +150,14 @@ module _ (rules : List Rule) where
   row_valued Workers v rows w e = fresh_row (codes "workers") AsWritten CommandLine (v ∷ []) rows e
   row_valued Graph v rows w e = fresh_row (codes "graph") AsWritten CommandLine (v ∷ []) rows e
   row_valued Live v rows w e = absurd (cc)
+  row_valued Kept v rows w e = absurd (cc)
 
   row_flag : (o : OptionWord) (rows : List Row) → wants_value o ≡ false → has_row (name_of o) rows ≡ false → used (made o) [] rows ≡ rows ++ use_row (flag o) ∷ []
   row_flag Print rows w e = fresh_row (codes "print") AsWritten CommandLine (codes "true" ∷ []) rows e
   row_flag Workers rows w e = absurd (cc)
   row_flag Graph rows w e = absurd (cc)
   row_flag Live rows w e = fresh_row (codes "live") AsWritten CommandLine (codes "true" ∷ []) rows e
+  row_flag Kept rows w e = fresh_row (codes "kept") AsWritten CommandLine (codes "true" ∷ []) rows e
 
   pub use_settled : (u : Use) (h : Held) → Knows rules (option_of u) → HasWantedValue u → has_row (name_of (option_of u)) (rows_at h) ≡ false
       → rows_at (held_after u h) ≡ rows_at h ++ use_row u ∷ []
@@ -172,26 +178,40 @@ rules_made (Print ∷ os) = ap (λ t. made Print ∷ t) (rules_made os)
 rules_made (Workers ∷ os) = ap (λ t. made Workers ∷ t) (rules_made os)
 rules_made (Graph ∷ os) = ap (λ t. made Graph ∷ t) (rules_made os)
 rules_made (Live ∷ os) = ap (λ t. made Live ∷ t) (rules_made os)
+rules_made (Kept ∷ os) = ap (λ t. made Kept ∷ t) (rules_made os)
+
+or_nothing : (b : Bool) → (b || false) ≡ b
+or_nothing true = refl
+or_nothing false = refl
+
+-- the rule in front is found under its own name, and else one behind it
+long_found : (p o : OptionWord) (rules : List Rule) → arg_by_long (made p ∷ rules) (name_of o) ≡ (if bytes_eq (name_of p) (name_of o) then Some (made p) else arg_by_long rules (name_of o))
+long_found Print o rules = ap (λ (b : Bool). if b then Some (made Print) else arg_by_long rules (name_of o)) (or_nothing (bytes_eq (name_of Print) (name_of o)))
+long_found Workers o rules = ap (λ (b : Bool). if b then Some (made Workers) else arg_by_long rules (name_of o)) (or_nothing (bytes_eq (name_of Workers) (name_of o)))
+long_found Graph o rules = ap (λ (b : Bool). if b then Some (made Graph) else arg_by_long rules (name_of o)) (or_nothing (bytes_eq (name_of Graph) (name_of o)))
+long_found Live o rules = ap (λ (b : Bool). if b then Some (made Live) else arg_by_long rules (name_of o)) (or_nothing (bytes_eq (name_of Live) (name_of o)))
+long_found Kept o rules = ap (λ (b : Bool). if b then Some (made Kept) else arg_by_long rules (name_of o)) (or_nothing (bytes_eq (name_of Kept) (name_of o)))
+
+id_found : (p o : OptionWord) (rules : List Rule) → arg_by_id (made p ∷ rules) (name_of o) ≡ (if bytes_eq (name_of p) (name_of o) then Some (made p) else arg_by_id rules (name_of o))
+id_found Print o rules = refl
+id_found Workers o rules = refl
+id_found Graph o rules = refl
+id_found Live o rules = refl
+id_found Kept o rules = refl
+
+knows_here : (o p : OptionWord) (rules : List Rule) (b : Bool) → bytes_eq (name_of p) (name_of o) ≡ b → (b ≡ false → Knows rules o) → Knows (made p ∷ rules) o
+knows_here o p rules true same more =
+    let is = one_name p o same in
+    record { long = long_found p o rules ∙ rw same (ap (λ (q : OptionWord). Some (made q)) is); id = id_found p o rules ∙ rw same (ap (λ (q : OptionWord). Some (made q)) is) }
+knows_here o p rules false other more =
+    let k = more refl in
+    record { long = long_found p o rules ∙ rw other k.long; id = id_found p o rules ∙ rw other k.id }
 
 -- a command that has the option knows it
 knows_made : (o : OptionWord) (os : List OptionWord) → has_option o os ≡ true → Knows (map made os ++ made_help ∷ []) o
 knows_made o [] e = absurd (cc)
-knows_made Print (Print ∷ os) e = record { long = refl; id = refl }
-knows_made Print (Workers ∷ os) e = let k = knows_made Print os e in record { long = k.long; id = k.id }
-knows_made Print (Graph ∷ os) e = let k = knows_made Print os e in record { long = k.long; id = k.id }
-knows_made Print (Live ∷ os) e = let k = knows_made Print os e in record { long = k.long; id = k.id }
-knows_made Workers (Print ∷ os) e = let k = knows_made Workers os e in record { long = k.long; id = k.id }
-knows_made Workers (Workers ∷ os) e = record { long = refl; id = refl }
-knows_made Workers (Graph ∷ os) e = let k = knows_made Workers os e in record { long = k.long; id = k.id }
-knows_made Workers (Live ∷ os) e = let k = knows_made Workers os e in record { long = k.long; id = k.id }
-knows_made Graph (Print ∷ os) e = let k = knows_made Graph os e in record { long = k.long; id = k.id }
-knows_made Graph (Workers ∷ os) e = let k = knows_made Graph os e in record { long = k.long; id = k.id }
-knows_made Graph (Graph ∷ os) e = record { long = refl; id = refl }
-knows_made Graph (Live ∷ os) e = let k = knows_made Graph os e in record { long = k.long; id = k.id }
-knows_made Live (Print ∷ os) e = let k = knows_made Live os e in record { long = k.long; id = k.id }
-knows_made Live (Workers ∷ os) e = let k = knows_made Live os e in record { long = k.long; id = k.id }
-knows_made Live (Graph ∷ os) e = let k = knows_made Live os e in record { long = k.long; id = k.id }
-knows_made Live (Live ∷ os) e = record { long = refl; id = refl }
+knows_made o (p ∷ os) e =
+    knows_here o p (map made os ++ made_help ∷ []) (same_option o p) refl (λ other. knows_made o os (or_true (same_option o p) (has_option o os) e other))
 
 pub knows_all : (o : OptionWord) (os : List OptionWord) → has_option o os ≡ true → Knows (rules_for os) o
 knows_all o os e = subst (λ rules. Knows rules o) (sym (rules_made os)) (knows_made o os e)
@@ -222,6 +242,7 @@ one_ended Print rows = missing_added Print rows (has_row (codes "print") rows) r
 one_ended Workers rows = same_both (has_row (codes "workers") rows) rows
 one_ended Graph rows = same_both (has_row (codes "graph") rows) rows
 one_ended Live rows = missing_added Live rows (has_row (codes "live") rows) refl
+one_ended Kept rows = missing_added Kept rows (has_row (codes "kept") rows) refl
 
 all_ended : (os : List OptionWord) (rows : List Row) → fold with_default rows (map made os ++ made_help ∷ []) ≡ ended os rows
 all_ended [] rows = same_both (has_row (codes "help") rows) rows

@@ -15,7 +15,7 @@ use Rattle.armus_words.specs.declared.table.TheConstants.{MAX_WORKERS, DEFAULT_W
 abbrev pub first_of : Command → FirstWord
 first_of (Check print) = first.Check
 first_of (Run workers graph live) = first.Run
-first_of (Avoid workers graph) = first.Avoid
+first_of (Avoid workers graph kept) = first.Avoid
 first_of (Record workers) = first.Record
 first_of Replay = first.Replay
 first_of (Gen count) = first.Gen
@@ -40,6 +40,7 @@ pub record Given : Type 0 where
   pub workers : Option Text
   pub graph : Option Text
   pub live : Bool
+  pub kept : Bool
   pub alone : Option Text
 
 -- what uses and a value that stands by itself give
@@ -49,6 +50,7 @@ given_by uses alone = record {
   workers = value_of option.Workers uses;
   graph = value_of option.Graph uses;
   live = is_used option.Live uses;
+  kept = is_used option.Kept uses;
   alone = alone;
 }
 
@@ -71,7 +73,7 @@ IsGenerated None count = ⊥
 abbrev pub Reads : Command → Given → Type 0
 Reads (Check print) given = print ≡ given.print
 Reads (Run workers graph live) given = AreWorkers given.workers workers × IsWantedGraph given.graph graph × (live ≡ given.live)
-Reads (Avoid workers graph) given = AreWorkers given.workers workers × IsWantedGraph given.graph graph
+Reads (Avoid workers graph kept) given = AreWorkers given.workers workers × IsWantedGraph given.graph graph × (kept ≡ given.kept)
 Reads (Record workers) given = AreWorkers given.workers workers
 Reads Replay given = Unit {0}
 Reads (Gen count) given = IsGenerated given.alone count

@@ -5,8 +5,8 @@ use Rattle.std.specs.Str.{bytes_eq}
 use Rattle.armus_words.specs.declared.table.FirstWord.{FirstWord}
 use Rattle.armus_words.specs.declared.table.FirstWord.TheVariants.{Check, Run, Avoid, Record, Replay, Gen}
 use Rattle.armus_words.specs.declared.table.OptionWord.{OptionWord}
-use Rattle.armus_words.specs.declared.table.OptionWord.TheVariants.{Print, Workers, Graph, Live}
-use Rattle.armus_words.specs.declared.table.TheConstants.{CHECK, RUN, AVOID, RECORD, REPLAY, GEN, PRINT, WORKERS, GRAPH, LIVE, MAX_VALUE_BYTES}
+use Rattle.armus_words.specs.declared.table.OptionWord.TheVariants.{Print, Workers, Graph, Live, Kept}
+use Rattle.armus_words.specs.declared.table.TheConstants.{CHECK, RUN, AVOID, RECORD, REPLAY, GEN, PRINT, WORKERS, GRAPH, LIVE, KEPT, MAX_VALUE_BYTES}
 
 -- a text is the list of its bytes
 abbrev pub Text : Type 0
@@ -27,7 +27,7 @@ first_word Gen = GEN.now
 abbrev pub options_of : FirstWord → List OptionWord
 options_of Check = Print ∷ []
 options_of Run = Workers ∷ Graph ∷ Live ∷ []
-options_of Avoid = Workers ∷ Graph ∷ []
+options_of Avoid = Workers ∷ Graph ∷ Kept ∷ []
 options_of Record = Workers ∷ []
 options_of Replay = []
 options_of Gen = []
@@ -47,6 +47,7 @@ name_of Print = PRINT.now
 name_of Workers = WORKERS.now
 name_of Graph = GRAPH.now
 name_of Live = LIVE.now
+name_of Kept = KEPT.now
 
 -- the option wants a value
 abbrev pub wants_value : OptionWord → Bool
@@ -54,6 +55,7 @@ wants_value Print = false
 wants_value Workers = true
 wants_value Graph = true
 wants_value Live = false
+wants_value Kept = false
 
 -- ---- the rule
 

@@ -26,10 +26,11 @@ pub enum Command {
         graph: Graph,
         live: bool,
     },
-    /// Runs a text without deadlock, where awaits are refused instead, and reports its final state.
+    /// Runs a text without deadlock, where awaits are refused instead, and reports its final state; kept, with an order of the tasks that is mended where waits change.
     Avoid {
         workers: u8,
         graph: Graph,
+        kept: bool,
     },
     /// Runs a text and writes it with the schedule of the run.
     Record {

@@ -15,7 +15,17 @@ pub struct Free {
     pub workers: bool,
     pub graph: bool,
     pub live: bool,
+    pub kept: bool,
 }
+
+// No option may be used.
+const NONE: Free = Free {
+    print: false,
+    workers: false,
+    graph: false,
+    live: false,
+    kept: false,
+};
 
 // The option may still be used.
 fn has(free: Free, option: OptionWord) -> bool
@@ -26,6 +36,7 @@ fn has(free: Free, option: OptionWord) -> bool
         OptionWord::Workers => free.workers,
         OptionWord::Graph => free.graph,
         OptionWord::Live => free.live,
+        OptionWord::Kept => free.kept,
     }
 }
 
@@ -33,36 +44,26 @@ fn has(free: Free, option: OptionWord) -> bool
 fn take_off(free: Free, option: OptionWord) -> Free
     ensures { result ≡ taken_off free option }
 {
-    let Free {
-        print,
-        workers,
-        graph,
-        live,
-    } = free;
     match option {
         OptionWord::Print => Free {
             print: false,
-            workers,
-            graph,
-            live,
+            ..free
         },
         OptionWord::Workers => Free {
-            print,
             workers: false,
-            graph,
-            live,
+            ..free
         },
         OptionWord::Graph => Free {
-            print,
-            workers,
             graph: false,
-            live,
+            ..free
         },
         OptionWord::Live => Free {
-            print,
-            workers,
-            graph,
             live: false,
+            ..free
+        },
+        OptionWord::Kept => Free {
+            kept: false,
+            ..free
         },
     }
 }
@@ -143,18 +144,28 @@ fn fit(words: &[String], waits: bool, free: Free, alone: bool) -> bool
 fn options_at(first: FirstWord) -> Free
     ensures { result ≡ free_at first }
 {
-    let (print, workers, graph, live) = match first {
-        FirstWord::Check => (true, false, false, false),
-        FirstWord::Run => (false, true, true, true),
-        FirstWord::Avoid => (false, true, true, false),
-        FirstWord::Record => (false, true, false, false),
-        FirstWord::Replay | FirstWord::Gen => (false, false, false, false),
-    };
-    Free {
-        print,
-        workers,
-        graph,
-        live,
+    match first {
+        FirstWord::Check => Free {
+            print: true,
+            ..NONE
+        },
+        FirstWord::Run => Free {
+            workers: true,
+            graph: true,
+            live: true,
+            ..NONE
+        },
+        FirstWord::Avoid => Free {
+            workers: true,
+            graph: true,
+            kept: true,
+            ..NONE
+        },
+        FirstWord::Record => Free {
+            workers: true,
+            ..NONE
+        },
+        FirstWord::Replay | FirstWord::Gen => NONE,
     }
 }
 

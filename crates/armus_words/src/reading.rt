@@ -67,7 +67,11 @@ fn command_of(first: FirstWord, values: &Values<'_>) -> Option<Command>
         FirstWord::Avoid => {
             let workers = workers_in(values.workers)?;
             let graph = wanted_in(values.graph)?;
-            Some(Command::Avoid { workers, graph })
+            Some(Command::Avoid {
+                workers,
+                graph,
+                kept: values.kept,
+            })
         }
         FirstWord::Record => {
             let workers = workers_in(values.workers)?;

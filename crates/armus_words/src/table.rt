@@ -44,6 +44,9 @@ pub const GRAPH: &str = "graph";
 /// The name of the option that tells of dead tasks while others go on.
 pub const LIVE: &str = "live";
 
+/// The name of the option that keeps an order of the tasks.
+pub const KEPT: &str = "kept";
+
 /// The name under which `clap` keeps a value that stands by itself.
 pub const ALONE: &str = "count";
 
@@ -58,11 +61,12 @@ pub const FIRST_WORDS: [FirstWord; 6] = [
 ];
 
 /// All options.
-pub const OPTION_WORDS: [OptionWord; 4] = [
+pub const OPTION_WORDS: [OptionWord; 5] = [
     OptionWord::Print,
     OptionWord::Workers,
     OptionWord::Graph,
     OptionWord::Live,
+    OptionWord::Kept,
 ];
 
 /// The first word of a command.
@@ -113,6 +117,7 @@ pub enum OptionWord {
     Workers,
     Graph,
     Live,
+    Kept,
 }
 
 impl OptionWord {
@@ -125,6 +130,7 @@ impl OptionWord {
             OptionWord::Workers => WORKERS,
             OptionWord::Graph => GRAPH,
             OptionWord::Live => LIVE,
+            OptionWord::Kept => KEPT,
         }
     }
 
@@ -133,7 +139,7 @@ impl OptionWord {
         ensures { result ≡ wants_value self }
     {
         match self {
-            OptionWord::Print | OptionWord::Live => false,
+            OptionWord::Print | OptionWord::Live | OptionWord::Kept => false,
             OptionWord::Workers | OptionWord::Graph => true,
         }
     }

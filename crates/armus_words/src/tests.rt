@@ -28,7 +28,19 @@ fn live(workers: u8, graph: Graph) -> Option<Command> {
 }
 
 fn avoid(workers: u8, graph: Graph) -> Option<Command> {
-    Some(Command::Avoid { workers, graph })
+    Some(Command::Avoid {
+        workers,
+        graph,
+        kept: false,
+    })
+}
+
+fn kept(workers: u8, graph: Graph) -> Option<Command> {
+    Some(Command::Avoid {
+        workers,
+        graph,
+        kept: true,
+    })
 }
 
 fn record(workers: u8) -> Option<Command> {
@@ -46,7 +58,7 @@ fn generate(count: u16) -> Option<Command> {
 #[test]
 fn words_and_their_commands(rt: HostRuntime) -> Result<(), Fail> {
     let alloc = rt.alloc();
-    let rows: [(&[&str], Option<Command>); 55] = [
+    let rows: [(&[&str], Option<Command>); 62] = [
         (&["check"], check(false)),
         (&["check", "--print"], check(true)),
         (&["run"], run(4, Graph::Auto)),
@@ -111,6 +123,16 @@ fn words_and_their_commands(rt: HostRuntime) -> Result<(), Fail> {
             avoid(2, Graph::Wfg),
         ),
         (&["avoid", "--print"], None),
+        (&["avoid", "--kept"], kept(4, Graph::Auto)),
+        (
+            &["avoid", "--graph", "wfg", "--kept", "--workers", "2"],
+            kept(2, Graph::Wfg),
+        ),
+        (&["avoid", "--kept", "--kept"], None),
+        (&["avoid", "--kept", "3"], None),
+        (&["avoid", "--kept=1"], None),
+        (&["run", "--kept"], None),
+        (&["check", "--kept"], None),
         (&["record"], record(4)),
         (&["record", "--workers", "2"], record(2)),
         (&["record", "--graph", "sg"], None),

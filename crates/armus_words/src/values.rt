@@ -5,7 +5,7 @@ ghost use Rattle.armus_words.specs.Words.{AreWords, Text, Use};
 ghost use Rattle.armus_words.specs.Commands.{given_by};
 ghost use Rattle.armus_words.specs.inside.Rules.{app_for, given_of, rule_for};
 
-use crate::table::{ALONE, FirstWord, GRAPH, LIVE, OptionWord, PRINT, WORKERS};
+use crate::table::{ALONE, FirstWord, GRAPH, KEPT, LIVE, OptionWord, PRINT, WORKERS};
 use clap::error::ErrorKind;
 use clap::{Arg, ArgAction, Command, Error};
 use std::alloc::{AllocError, Global};
@@ -17,6 +17,7 @@ pub struct Values<'a> {
     pub workers: Option<&'a str>,
     pub graph: Option<&'a str>,
     pub live: bool,
+    pub kept: bool,
     pub alone: Option<&'a str>,
 }
 
@@ -48,7 +49,8 @@ fn command_for<'a>(alloc: Global, first: FirstWord) -> Result<Command<'a>, Alloc
             .arg(arg_for(alloc, OptionWord::Live)),
         FirstWord::Avoid => command
             .arg(arg_for(alloc, OptionWord::Workers))?
-            .arg(arg_for(alloc, OptionWord::Graph)),
+            .arg(arg_for(alloc, OptionWord::Graph))?
+            .arg(arg_for(alloc, OptionWord::Kept)),
         FirstWord::Record => command.arg(arg_for(alloc, OptionWord::Workers)),
         FirstWord::Replay => Ok(command),
         FirstWord::Gen => command.arg(Arg::new(alloc, ALONE)),
@@ -76,6 +78,7 @@ pub fn values_in<'a>(
             workers: matches.get_str(WORKERS),
             graph: matches.get_str(GRAPH),
             live: matches.get_flag(LIVE),
+            kept: matches.get_flag(KEPT),
             alone: matches.get_str(ALONE),
         }),
         Err(error) => Err(error),

@@ -12,7 +12,7 @@ MayWork workers = (1 ≤ workers) × (workers ≤ MAX_WORKERS)
 abbrev pub WaitsForNoThread : Command → Type 0
 WaitsForNoThread (Check print) = Unit {0}
 WaitsForNoThread (Run workers g live) = MayWork workers
-WaitsForNoThread (Avoid workers g) = MayWork workers
+WaitsForNoThread (Avoid workers g kept) = MayWork workers
 WaitsForNoThread (Record workers) = ⊥
 WaitsForNoThread Replay = Unit {0}
 WaitsForNoThread (Gen count) = Unit {0}

@@ -2,7 +2,7 @@
 use super::{AVERAGING, CROSSED, NEVER_FORKED, expect};
 use std::test::Fail;
 
-const LEAVES_FOUR: &str =
+pub(super) const LEAVES_FOUR: &str =
     "a = newPhaser();\nb = newPhaser();\nc = newPhaser();\nd = newPhaser();\nt = newTid(); reg(t, a); reg(t, b); reg(t, c); reg(t, d);\nfork(t) { adv(a); await(a); }\nt = newTid(); reg(t, a); reg(t, b); reg(t, c); reg(t, d);\nfork(t) { adv(b); await(b); }\nt = newTid(); reg(t, a); reg(t, b); reg(t, c); reg(t, d);\nfork(t) { adv(c); await(c); }\nt = newTid(); reg(t, a); reg(t, b); reg(t, c); reg(t, d);\nfork(t) { adv(d); await(d); }\ndereg(a); dereg(b); dereg(c); dereg(d);\n";
 
 const LEAVES_THREE: &str =

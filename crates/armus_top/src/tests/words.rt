@@ -6,7 +6,7 @@ const USAGE: &str = "usage: armus check|run|avoid|record|replay|gen\n";
 
 #[test]
 fn words_that_are_no_command(rt: HostRuntime) -> Result<(), Fail> {
-    let rows: [(&[&str], &str, &str, u8); 7] = [
+    let rows: [(&[&str], &str, &str, u8); 8] = [
         (&[], "", USAGE, 2),
         (&["run", "--workers", "0"], "", USAGE, 2),
         (&["run", "--workers=2"], "", USAGE, 2),
@@ -14,6 +14,7 @@ fn words_that_are_no_command(rt: HostRuntime) -> Result<(), Fail> {
         (&["avoid", "--live"], "", USAGE, 2),
         (&["record", "--graph", "sg"], "", USAGE, 2),
         (&["replay", "--workers", "2"], "", USAGE, 2),
+        (&["run", "--kept"], "", USAGE, 2),
     ];
     for (given, input, output, status) in rows {
         expect(&rt, rt.alloc(), given, input, output, status)?;

@@ -29,5 +29,6 @@ given_of v = record {
   workers = option_map (λ s. s.now) v.workers;
   graph = option_map (λ s. s.now) v.graph;
   live = v.live;
+  kept = v.kept;
   alone = option_map (λ s. s.now) v.alone;
 }
