@@ -23,9 +23,6 @@ told_same to back (inr n) = inr (λ q. n (back q))
 pub told_less : (m n : ℕ) → Told (m < n)
 told_less m n = elim (cases_lt m n) [ inl less ↦ inl less | inr more ↦ inr (λ less. absurd (omega arith)) ]
 
-pub told_at_most : (m n : ℕ) → Told (m ≤ n)
-told_at_most m n = elim (cases_lt n m) [ inl more ↦ inr (λ le. absurd (omega arith)) | inr le ↦ inl (omega arith) ]
-
 pub told_number : (m n : ℕ) → Told (m ≡ n)
 told_number m n = cases_eq m n
 

@@ -74,7 +74,8 @@ told_map true h f g = f h
 told_map false h f g = g h
 
 -- the first standing on a phaser has none on it ahead
-pub first_is_front : (xs : List Standing) (remains : List Bool) (i : ℕ) (d : Standing) → StandingsNeverFall xs → i < length xs → IsFirstOnPhaser xs i → IsFront xs remains (get_or xs i d).at.p.0 i
+pub first_is_front : (xs : List Standing) (remains : List Bool) (i : ℕ) (d : Standing) → StandingsNeverFall xs → i < length xs → IsFirstOnPhaser xs i →
+    IsFront xs remains (get_or xs i d).at.p.0 i
 first_is_front xs remains i d ordered inside first j e ahead within on =
     elim (first d) [
       | inl zero_is ↦ absurd (omega arith)

@@ -31,7 +31,8 @@ set_remains xs k j e = elim (cases_eq j k) [
     set_here (y ∷ ys) (suc i) = set_here ys i
 
 -- the fronts stay when fewer remain
-pub fronts_stay : (standings : List Standing) (remains : List Bool) (columns : List Column) (k : ℕ) → AreFronts standings remains columns → AreFronts standings (set remains k false) columns
+pub fronts_stay : (standings : List Standing) (remains : List Bool) (columns : List Column) (k : ℕ) → AreFronts standings remains columns →
+    AreFronts standings (set remains k false) columns
 fronts_stay standings remains columns k fronts c d within j x ahead inside on = set_remains remains k _ (fronts c d within j x ahead inside on)
 
 module _ (ss : List Status) (order : IsInOrder ss) (remains : List Bool) (are : IsRemaining ss remains) (k : ℕ) (inside : k < length ss)
@@ -57,7 +58,8 @@ module _ (ss : List Status) (order : IsInOrder ss) (remains : List Bool) (are : 
       let by = link.impedes in
       let there = by.1 in
       let stands : StandsAt ss there.0 link.event.p.0 link.phase =
-      (there.1, λ v. subst (λ w. Contains w.phases (record { p = record { 0 = link.event.p.0 }; n = link.phase })) (sym (get_or_default ss there.0 v by.0 there.1 ∙ there.2)) by.3) in
+      (there.1, λ v. subst (λ w. Contains w.phases (record { p = record { 0 = link.event.p.0 }; n = link.phase }))
+          (sym (get_or_default ss there.0 v by.0 there.1 ∙ there.2)) by.3) in
       let gone = unimpeded s there.0 link.phase (subst (λ e. StandsAt ss there.0 e.p.0 link.phase) (sym event) stands) (subst (λ e. link.phase < e.n) (sym event) link.below) in
       let number : (get_or ss there.0 by.0).t.0 ≡ link.by = ap (λ v. v.t.0) there.2 ∙ by.2 in
       are.gone there.0 by.0 there.1 gone

@@ -39,7 +39,8 @@ plain_after plan h g run l t =
     subst (λ o. Precedes (places h t).done o (places g t).done (places g t).dropped) (sym (plain_undropped plan h run t)) (l t)
 
 -- the last step e of a plain run, after a plain run m in which its task stands where it stands before e
-module _ (plan : Plan) (checked : IsCheckedPlan plan) (h : List Step) (e : Step) (run : IsPlainRun plan (e ∷ h)) (m : List Step) (run_m : IsPlainRun plan m) (same : places h e.task ≡ places m e.task) where
+module _ (plan : Plan) (checked : IsCheckedPlan plan) (h : List Step) (e : Step) (run : IsPlainRun plan (e ∷ h)) (m : List Step) (run_m : IsPlainRun plan m)
+    (same : places h e.task ≡ places m e.task) where
   at_h : ((state_after h) ≡ state_at plan (places h)) × IsConsistent plan (places h)
   at_h = places_fix plan checked h run.0.0
 

@@ -20,7 +20,11 @@ use Rattle.armus_base.proofs.Published.{published_after_is, published_undropped,
 
 -- A deadlocked set, each of whose tasks was found waiting at a place, and its phases at that place or later: at the places of run g, which
 -- are at or after all of these, each task of the set still has_phase where it was found waiting.
-module _ (plan : Plan) (checked : IsCheckedPlan plan) (g : List Step) (run_g : IsLegalRun plan g) (waits_on : WaitsOn) (has_phase : HasPhase) (tasks : ℕ → Bool) (at : ℕ → ℕ) (found : ℕ → ℕ → ℕ) (deadlocked : IsDeadlockedSet waits_on has_phase tasks) (waiting : (u : ℕ) (e : Event) → tasks u ≡ true → waits_on u e → published_after plan u (at u) ≡ Some e) (phases : (u p m : ℕ) → tasks u ≡ true → has_phase u p m → at u ≤ found u p × found u p ≤ done_by (places g) u × phases_after plan u (found u p) p ≡ Some m) (reaches : (u : ℕ) → tasks u ≡ true → at u ≤ done_by (places g) u) where
+module _ (plan : Plan) (checked : IsCheckedPlan plan) (g : List Step) (run_g : IsLegalRun plan g) (waits_on : WaitsOn) (has_phase : HasPhase) (tasks : ℕ → Bool)
+    (at : ℕ → ℕ) (found : ℕ → ℕ → ℕ) (deadlocked : IsDeadlockedSet waits_on has_phase tasks)
+    (waiting : (u : ℕ) (e : Event) → tasks u ≡ true → waits_on u e → published_after plan u (at u) ≡ Some e)
+    (phases : (u p m : ℕ) → tasks u ≡ true → has_phase u p m → at u ≤ found u p × found u p ≤ done_by (places g) u × phases_after plan u (found u p) p ≡ Some m)
+    (reaches : (u : ℕ) → tasks u ≡ true → at u ≤ done_by (places g) u) where
   -- the places of h, but with those of g for the tasks below w, and w at place b
   abbrev mixed : (ℕ → Place) → ℕ → ℕ → ℕ → Place
   mixed c w b x = if nat_lt x w then places g x else (if x == w then record { done = b; dropped = None } else c x)
@@ -50,7 +54,8 @@ module _ (plan : Plan) (checked : IsCheckedPlan plan) (g : List Step) (run_g : I
   mixed_consistent c w b consistent later undropped l within =
       record {
         begun = λ x pos. elim (cases_order x w) [
-          | inl e ↦ from_g x (omega arith) (consistent_g.begun x (let d : (mixed c w b x).done ≡ b = ap (λ v. (mixed c w b v).done) e ∙ ap (λ v. v.done) (mixed_at c w b) in let same : done_by (places g) x ≡ done_by (places g) w = ap (done_by (places g)) e in omega arith))
+          | inl e ↦ from_g x (omega arith) (consistent_g.begun x
+                (let d : (mixed c w b x).done ≡ b = ap (λ v. (mixed c w b v).done) e ∙ ap (λ v. v.done) (mixed_at c w b) in let same : done_by (places g) x ≡ done_by (places g) w = ap (done_by (places g)) e in omega arith))
           | inr (inl below) ↦ from_g x (omega arith) (consistent_g.begun x (let d = ap (λ v. v.done) (mixed_below c w b x below) in omega arith))
           | inr (inr above) ↦ from_c x (consistent.begun x (let d = ap (λ v. v.done) (mixed_above c w b x above) in omega arith))
         ];
@@ -200,7 +205,8 @@ module _ (plan : Plan) (checked : IsCheckedPlan plan) (g : List Step) (run_g : I
 
 pub collected_is_dead : CollectedIsDead
 collected_is_dead plan g list tasks at found checked run_g deadlocked found_there =
-    (there, deadlocked_there plan checked g run_g (IsListedOn list) (IsListedAt list) tasks (λ u. (at u).done) (λ u p. (found u p).done) deadlocked found_there.waiting phases reaches)
+    (there, deadlocked_there plan checked g run_g (IsListedOn list) (IsListedAt list) tasks (λ u. (at u).done) (λ u p. (found u p).done) deadlocked
+        found_there.waiting phases reaches)
   where
     phases :
         (u p n : ℕ) → tasks u ≡ true → IsListedAt list u p n →
@@ -220,7 +226,9 @@ collected_is_dead plan g list tasks at found checked run_g deadlocked found_ther
 
     there : (u : ℕ) → tasks u ≡ true → places g u ≡ at u
     there u inside =
-        let same = stands_there plan checked g run_g (IsListedOn list) (IsListedAt list) tasks (λ u. (at u).done) (λ u p. (found u p).done) deadlocked found_there.waiting phases reaches u inside in
+        let same = stands_there plan checked g run_g (IsListedOn list) (IsListedAt list) tasks (λ u. (at u).done) (λ u p. (found u p).done) deadlocked
+                found_there.waiting phases reaches u inside in
         let held = deadlocked.each u inside in
-        let undropped = published_undropped plan (places g) (places_fix plan checked g run_g).1 u held.event (ap (published_after plan u) same ∙ found_there.waiting u held.event inside held.waits) in
+        let undropped = published_undropped plan (places g) (places_fix plan checked g run_g).1 u held.event
+                (ap (published_after plan u) same ∙ found_there.waiting u held.event inside held.waits) in
         same_place (places g u) (at u) same undropped (undropped_before (at u) (places g u) (before u inside) undropped)

@@ -173,7 +173,8 @@ by_case : (a b c : Bool) → a ≡ true → (if a then b else c) ≡ true → b 
 by_case true b c e test = test
 by_case false b c e test = absurd (false≢true e)
 
-module _ (plan : Plan) (some : 0 < length plan.parents) (h : List Step) (run : IsLegalRun plan h) (dead free : List ℕ) (test : dead_test (state_after h) (length plan.parents) dead free ≡ true) where
+module _ (plan : Plan) (some : 0 < length plan.parents) (h : List Step) (run : IsLegalRun plan h) (dead free : List ℕ)
+    (test : dead_test (state_after h) (length plan.parents) dead free ≡ true) where
   parts_free : are_free (state_after h) (length plan.parents) free ≡ true
   parts_free =
       (both (are_free (state_after h) (length plan.parents) free)

@@ -31,10 +31,6 @@ made_stays s u (Blocks q) p m = m
 made_stays s u (Passes q) p m = m
 made_stays s u (Refuses q) p m = m
 
-in_code_passes : (x : Action) (p : ℕ) → in_code x ≡ Passes p → x ≡ Passes p
-in_code_passes (Refuses q) p e = absurd (cc)
-in_code_passes x p e = e
-
 -- an event that a task has passed is reached
 pub passed :
     (plan : Plan) → IsCheckedPlan plan → (g : List Step) → IsLegalRun plan g → (t k : ℕ) (e : Event) →
@@ -90,7 +86,8 @@ module _ (plan : Plan) (checked : IsCheckedPlan plan) where
               | inr n ↦ inl (elim (forked_at_is plan b w (begun w (omega arith))) [
                 | inl root ↦
                     at_a ∙ subst (λ v. registered_by plan (parent_of plan v) v (a (parent_of plan v)) ≡ registered_by plan (parent_of plan v) v (c (parent_of plan v))) (sym root)
-                    (registered_none plan checked (parent_of plan 0) (a (parent_of plan 0)) ∙ sym (registered_none plan checked (parent_of plan 0) (c (parent_of plan 0)))) ∙ sym at_c
+                    (registered_none plan checked (parent_of plan 0) (a (parent_of plan 0)) ∙
+                        sym (registered_none plan checked (parent_of plan 0) (c (parent_of plan 0)))) ∙ sym at_c
                 | inr f ↦
                     at_a ∙ registered_steady plan checked u w f.0 (a u) f.2 (omega arith)
                     ∙ sym (registered_steady plan checked u w f.0 (c u) f.2 (omega arith)) ∙ sym at_c
@@ -110,8 +107,10 @@ module _ (plan : Plan) (checked : IsCheckedPlan plan) where
       let m = earlier w in
       elim (cases_eq (a w) 0) [
         | inr n ↦ elim (cases_lt (b w) (c w)) [
-          | inl l ↦ inr (phases_begun plan checked a w n ∙ ap (phases_after plan w) (let e : a w ≡ b w = omega arith in e) ∙ sym (phases_begun plan checked b w (λ z. n (omega arith))))
-          | inr l ↦ inl (phases_begun plan checked a w n ∙ ap (phases_after plan w) (let e : a w ≡ c w = omega arith in e) ∙ sym (phases_begun plan checked c w (λ z. n (omega arith))))
+          | inl l ↦ inr (phases_begun plan checked a w n ∙ ap (phases_after plan w) (let e : a w ≡ b w = omega arith in e) ∙
+                sym (phases_begun plan checked b w (λ z. n (omega arith))))
+          | inr l ↦ inl (phases_begun plan checked a w n ∙ ap (phases_after plan w) (let e : a w ≡ c w = omega arith in e) ∙
+                sym (phases_begun plan checked c w (λ z. n (omega arith))))
         ]
         | inl z ↦ elim (cases_eq (c w) 0) [
           | inl y ↦ earlier_idle a b c earlier begun_b w z y
@@ -135,7 +134,9 @@ module _ (plan : Plan) (checked : IsCheckedPlan plan) where
       ]
 
 -- the next step of run h, at the earlier places of h and g, is a next step there too, where g has it
-module _ (plan : Plan) (checked : IsCheckedPlan plan) (g : List Step) (run_g : IsPlainRun plan g) (h : List Step) (e : Step) (run : IsPlainRun plan (e ∷ h)) (m : List Step) (run_m : IsPlainRun plan m) (earlier : (t : ℕ) → done_by (places m) t ≡ min (done_by (places h) t) (done_by (places g) t)) (ahead : done_by (places h) e.task < done_by (places g) e.task) where
+module _ (plan : Plan) (checked : IsCheckedPlan plan) (g : List Step) (run_g : IsPlainRun plan g) (h : List Step) (e : Step) (run : IsPlainRun plan (e ∷ h))
+    (m : List Step) (run_m : IsPlainRun plan m) (earlier : (t : ℕ) → done_by (places m) t ≡ min (done_by (places h) t) (done_by (places g) t))
+    (ahead : done_by (places h) e.task < done_by (places g) e.task) where
   run_h : IsPlainRun plan h
   run_h = (run.0.0, run.1.0)
 

@@ -44,7 +44,9 @@ one_longest_prefix avoids plan t Means before b c at_b at_c =
     prefixes_both b c (at_c.longest b at_b.place at_b.below) (at_b.longest c at_c.place at_c.below)
 
 -- the place seen of one task becomes the longest with a meaning that its place in the lawful state has
-module _ (avoids : Bool) (plan : Plan) (own : Option ℕ) (a : ℕ → Place) (lock : Option ℕ) (t : ℕ) (Means : Place → Type 0) (before now : SeenBy) (checked : IsCheckedPlan plan) (lawful : IsLawful avoids plan a lock) (within : t < length plan.parents) (exact : IsExactOf plan own before) (far : IsAsFarOn plan own a before) (change : ChangesPlace t (IsLongestPrefix avoids plan t Means) before now) (means : Means (a t)) where
+module _ (avoids : Bool) (plan : Plan) (own : Option ℕ) (a : ℕ → Place) (lock : Option ℕ) (t : ℕ) (Means : Place → Type 0) (before now : SeenBy)
+    (checked : IsCheckedPlan plan) (lawful : IsLawful avoids plan a lock) (within : t < length plan.parents) (exact : IsExactOf plan own before)
+    (far : IsAsFarOn plan own a before) (change : ChangesPlace t (IsLongestPrefix avoids plan t Means) before now) (means : Means (a t)) where
   near : IsPrefix (now.places t) (a t)
   near = change.here.below (a t) (lawful_places_are_of avoids plan a lock t checked lawful) (far.later t within) means
 

@@ -69,12 +69,19 @@ raised_none (suc k) = (let r = raised_none k in omega arith)
 raised_ops : (ops : List Op) (k : ℕ) → raised (slice_get (actions_of ops)) k ≤ length ops
 raised_ops [] k = (let r = raised_none k in omega arith)
 raised_ops (op ∷ ops) zero = (let z = raised_zero (slice_get (actions_of (op ∷ ops))) in omega arith)
-raised_ops (Make q ∷ ops) (suc k) = (let r = raised_ops ops k in let s = raised_first (slice_get (actions_of (Make q ∷ ops))) k in let o = raises_one (Some (Makes q.0)) in omega arith)
-raised_ops (Reg c q ∷ ops) (suc k) = (let r = raised_ops ops k in let s = raised_first (slice_get (actions_of (Reg c q ∷ ops))) k in let o = raises_one (Some (Registers c.0 q.0)) in omega arith)
-raised_ops (Fork c ∷ ops) (suc k) = (let r = raised_ops ops k in let s = raised_first (slice_get (actions_of (Fork c ∷ ops))) k in let o = raises_one (Some (Forks c.0)) in omega arith)
-raised_ops (Adv q ∷ ops) (suc k) = (let r = raised_ops ops k in let s = raised_first (slice_get (actions_of (Adv q ∷ ops))) k in let o = raises_one (Some (Advances q.0)) in omega arith)
-raised_ops (Drop q ∷ ops) (suc k) = (let r = raised_ops ops k in let s = raised_first (slice_get (actions_of (Drop q ∷ ops))) k in let o = raises_one (Some (Drops q.0)) in omega arith)
-raised_ops (Await q off ∷ ops) (suc zero) = (let s = raised_first (slice_get (actions_of (Await q off ∷ ops))) 0 in let o = raises_one (Some (Blocks (record { phaser = q.0; off = off }))) in let z = raised_none 0 in let w = raised_zero (λ j. slice_get (actions_of (Await q off ∷ ops)) (suc j)) in omega arith)
+raised_ops (Make q ∷ ops) (suc k) = (let r = raised_ops ops k in let s = raised_first (slice_get (actions_of (Make q ∷ ops))) k in
+    let o = raises_one (Some (Makes q.0)) in omega arith)
+raised_ops (Reg c q ∷ ops) (suc k) = (let r = raised_ops ops k in let s = raised_first (slice_get (actions_of (Reg c q ∷ ops))) k in
+    let o = raises_one (Some (Registers c.0 q.0)) in omega arith)
+raised_ops (Fork c ∷ ops) (suc k) = (let r = raised_ops ops k in let s = raised_first (slice_get (actions_of (Fork c ∷ ops))) k in
+    let o = raises_one (Some (Forks c.0)) in omega arith)
+raised_ops (Adv q ∷ ops) (suc k) = (let r = raised_ops ops k in let s = raised_first (slice_get (actions_of (Adv q ∷ ops))) k in
+    let o = raises_one (Some (Advances q.0)) in omega arith)
+raised_ops (Drop q ∷ ops) (suc k) = (let r = raised_ops ops k in let s = raised_first (slice_get (actions_of (Drop q ∷ ops))) k in
+    let o = raises_one (Some (Drops q.0)) in omega arith)
+raised_ops (Await q off ∷ ops) (suc zero) = (let s = raised_first (slice_get (actions_of (Await q off ∷ ops))) 0 in
+    let o = raises_one (Some (Blocks (record { phaser = q.0; off = off }))) in let z = raised_none 0 in
+    let w = raised_zero (λ j. slice_get (actions_of (Await q off ∷ ops)) (suc j)) in omega arith)
 raised_ops (Await q off ∷ ops) (suc (suc k)) =
     (let r = raised_ops ops k in
     let s = raised_first (slice_get (actions_of (Await q off ∷ ops))) (suc k) in

@@ -41,7 +41,9 @@ module _ (plan : Plan) (checked : IsCheckedPlan plan) (a : ℕ → Place) (consi
       go (Some q) h = absurd (let f : forked_at plan (done_by a) c ≡ true = (consistent.refused c q h).0 in cc)
 
 -- task t, which stands at place k of its code and is forked, does its next action x
-module _ (plan : Plan) (checked : IsCheckedPlan plan) (a : ℕ → Place) (consistent : IsConsistent plan a) (t : ℕ) (now : forked_at plan (done_by a) t ≡ true) (undropped : (a t).dropped ≡ None) (a' : ℕ → Place) (own : a' t ≡ record { done = suc (a t).done; dropped = None }) (rest : (u : ℕ) → u ≢ t → a' u ≡ a u) (x : Action) (next : action_at plan t (a t).done ≡ Some x) where
+module _ (plan : Plan) (checked : IsCheckedPlan plan) (a : ℕ → Place) (consistent : IsConsistent plan a) (t : ℕ) (now : forked_at plan (done_by a) t ≡ true)
+    (undropped : (a t).dropped ≡ None) (a' : ℕ → Place) (own : a' t ≡ record { done = suc (a t).done; dropped = None }) (rest : (u : ℕ) → u ≢ t → a' u ≡ a u)
+    (x : Action) (next : action_at plan t (a t).done ≡ Some x) where
   pub done_advanced : done_by a' ≡ advanced (done_by a) t
   done_advanced =
       fun_ext (λ u. elim (cases_eq u t) [
@@ -158,7 +160,8 @@ module _ (plan : Plan) (checked : IsCheckedPlan plan) (a : ℕ → Place) (consi
         | inr n ↦ ap (λ v. refused_at plan u v.done v.dropped) (sym (rest u n))
       ]
 
-module _ (plan : Plan) (checked : IsCheckedPlan plan) (a : ℕ → Place) (consistent : IsConsistent plan a) (t : ℕ) (undropped : (a t).dropped ≡ None) (a' : ℕ → Place) (own : a' t ≡ record { done = suc (a t).done; dropped = None }) (rest : (u : ℕ) → u ≢ t → a' u ≡ a u) where
+module _ (plan : Plan) (checked : IsCheckedPlan plan) (a : ℕ → Place) (consistent : IsConsistent plan a) (t : ℕ) (undropped : (a t).dropped ≡ None)
+    (a' : ℕ → Place) (own : a' t ≡ record { done = suc (a t).done; dropped = None }) (rest : (u : ℕ) → u ≢ t → a' u ≡ a u) where
   pub regular_step :
       (x : Action) → action_at plan t (a t).done ≡ Some x → IsLegal plan (state_at plan a) t x →
       after (state_at plan a) t x ≡ state_at plan a'
@@ -191,7 +194,8 @@ module _ (plan : Plan) (checked : IsCheckedPlan plan) (a : ℕ → Place) (consi
       state_ext (after (state_at plan a) t (Advances q)) (state_at plan a')
       (forked_same plan checked a consistent t now undropped a' own rest (Advances q) next (λ c. refl))
       (made_same plan checked a consistent t now undropped a' own rest (Advances q) next (λ p. refl))
-      (phases_changed plan checked a consistent t now undropped a' own rest (Advances q) next q (next_phase (kept (a t).dropped (phases_at plan (done_by a) t) q)) refl (λ u p e. absurd (cc)))
+      (phases_changed plan checked a consistent t now undropped a' own rest (Advances q) next q
+          (next_phase (kept (a t).dropped (phases_at plan (done_by a) t) q)) refl (λ u p e. absurd (cc)))
       (published_unchanged plan checked a consistent t now undropped a' own rest (Advances q) next legal.0.unpublished refl)
       (refused_same plan checked a consistent t now undropped a' own rest (Advances q) next)
   regular_step (Drops q) next legal =
@@ -208,7 +212,9 @@ module _ (plan : Plan) (checked : IsCheckedPlan plan) (a : ℕ → Place) (consi
       (forked_same plan checked a consistent t now undropped a' own rest (Blocks q) next (λ c. refl))
       (made_same plan checked a consistent t now undropped a' own rest (Blocks q) next (λ p. refl))
       (phases_unchanged plan checked a consistent t now undropped a' own rest (Blocks q) next refl (λ u p e. absurd (cc)))
-      (published_changed plan checked a consistent t now undropped a' own rest (Blocks q) next (awaited (Some (Blocks q)) (kept (a t).dropped (phases_at plan (done_by a) t))) (ap (λ o. awaited (Some (Blocks q)) (kept o (phases_at plan (done_by a) t))) (sym undropped)))
+      (published_changed plan checked a consistent t now undropped a' own rest (Blocks q) next
+          (awaited (Some (Blocks q)) (kept (a t).dropped (phases_at plan (done_by a) t)))
+          (ap (λ o. awaited (Some (Blocks q)) (kept o (phases_at plan (done_by a) t))) (sym undropped)))
       (refused_same plan checked a consistent t now undropped a' own rest (Blocks q) next)
   regular_step (Passes q) next legal =
       let now = acting_forked plan (state_at plan a) t (Passes q) legal in
@@ -221,7 +227,8 @@ module _ (plan : Plan) (checked : IsCheckedPlan plan) (a : ℕ → Place) (consi
   regular_step (Refuses q) next legal = absurd (no_refusal plan t (a t).done q next)
 
 -- a refused task, or one that is refused now, leaves the counts as they are
-module _ (plan : Plan) (checked : IsCheckedPlan plan) (a : ℕ → Place) (consistent : IsConsistent plan a) (t y : ℕ) (a' : ℕ → Place) (own : a' t ≡ record { done = (a t).done; dropped = Some y }) (rest : (u : ℕ) → u ≢ t → a' u ≡ a u) where
+module _ (plan : Plan) (checked : IsCheckedPlan plan) (a : ℕ → Place) (consistent : IsConsistent plan a) (t y : ℕ) (a' : ℕ → Place)
+    (own : a' t ≡ record { done = (a t).done; dropped = Some y }) (rest : (u : ℕ) → u ≢ t → a' u ≡ a u) where
   pub done_same : done_by a ≡ done_by a'
   done_same =
       fun_ext (λ u. elim (cases_eq u t) [

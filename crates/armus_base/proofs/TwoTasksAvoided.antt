@@ -52,17 +52,23 @@ pub second_dead : WouldBeDead (state_after (does 1 (Advances 1) ∷ first_turn))
 second_dead =
     record { tasks = λ u. nat_lt u 2; inside = refl; deadlocked = record { some = (1, refl); each = λ u inside. held u (ltb-true u 2 inside) } }
   where
-    held : (u : ℕ) → u < 2 → IsImpededWithin (IsPublishedOn (record (state_after (does 1 (Advances 1) ∷ first_turn)) { published = updated (state_after (does 1 (Advances 1) ∷ first_turn)).published 1 (Some ((event_at 1 1))) })) (IsAtPhase (state_after (does 1 (Advances 1) ∷ first_turn))) (λ w. nat_lt w 2) u
+    held : (u : ℕ) → u < 2 → IsImpededWithin (IsPublishedOn
+        (record (state_after (does 1 (Advances 1) ∷ first_turn))
+        { published = updated (state_after (does 1 (Advances 1) ∷ first_turn)).published 1 (Some ((event_at 1 1))) }))
+        (IsAtPhase (state_after (does 1 (Advances 1) ∷ first_turn))) (λ w. nat_lt w 2) u
     held zero l = record { event = (event_at 0 1); waits = refl; by = 1; inside = refl; phase = 0; impedes = refl; below = omega arith }
     held (suc zero) l = record { event = (event_at 1 1); waits = refl; by = 0; inside = refl; phase = 0; impedes = refl; below = omega arith }
     held (suc (suc u)) l = absurd (omega arith)
 
 first_run : IsLegalRun two_tasks first_turn
 unfolding parent_of maker_of actions action_at
-first_run = (((((((tt, record { legal = (record { forked = refl; unpublished = refl; unrefused = refl }, (record { 0 = 0 }, refl, refl), refl); by_code = refl }), record { legal = (record { forked = refl; unpublished = refl; unrefused = refl }, (record { 0 = 0 }, refl, refl), refl); by_code = refl }), record { legal = (record { forked = refl; unpublished = refl; unrefused = refl }, (record { 0 = 0 }, refl, refl), refl, (0, refl), refl); by_code = refl }), record { legal = (record { forked = refl; unpublished = refl; unrefused = refl }, (record { 0 = 0 }, refl, refl), refl, (0, refl), refl); by_code = refl }), record { legal = (record { forked = refl; unpublished = refl; unrefused = refl }, (record { 0 = 0 }, refl, refl), refl); by_code = refl }), record { legal = (record { forked = refl; unpublished = refl; unrefused = refl }, (0, refl)); by_code = refl }), record { legal = (record { forked = refl; unpublished = refl; unrefused = refl }, (1, refl)); by_code = refl })
-
-none_below_zero : (q : ℕ) → q < 0 → (f : ℕ → Option ℕ) → f q ≡ None
-none_below_zero q l f = absurd (omega arith)
+first_run = (((((((tt, record { legal = (record { forked = refl; unpublished = refl; unrefused = refl }, (record { 0 = 0 }, refl, refl), refl);
+    by_code = refl }), record { legal = (record { forked = refl; unpublished = refl; unrefused = refl }, (record { 0 = 0 }, refl, refl), refl);
+    by_code = refl }), record { legal = (record { forked = refl; unpublished = refl; unrefused = refl }, (record { 0 = 0 }, refl, refl), refl, (0, refl), refl);
+    by_code = refl }), record { legal = (record { forked = refl; unpublished = refl; unrefused = refl }, (record { 0 = 0 }, refl, refl), refl, (0, refl), refl);
+    by_code = refl }), record { legal = (record { forked = refl; unpublished = refl; unrefused = refl }, (record { 0 = 0 }, refl, refl), refl);
+    by_code = refl }), record { legal = (record { forked = refl; unpublished = refl; unrefused = refl }, (0, refl)); by_code = refl }),
+    record { legal = (record { forked = refl; unpublished = refl; unrefused = refl }, (1, refl)); by_code = refl })
 
 second_run : IsLegalRun two_tasks second_turn
 unfolding parent_of maker_of actions action_at

@@ -85,9 +85,6 @@ first = record { t = record { 0 = 0 }; event = event_at 0 1; phases = member 0 1
 abbrev second : Status
 second = record { t = record { 0 = 1 }; event = event_at 1 1; phases = member 0 0 ∷ member 1 1 ∷ [] }
 
-is_list : list ≡ first ∷ second ∷ []
-is_list = refl
-
 which : (s : Status) → Contains list s → (first ≡ s) ⊎ (second ≡ s)
 which s c =
     elim (Contains-cons_cases first (second ∷ []) s c) [

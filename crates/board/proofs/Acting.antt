@@ -45,7 +45,8 @@ pub true_unless : (b : Bool) → (b ≡ false → ⊥) → b ≡ true
 true_unless true n = refl
 true_unless false n = absurd (n refl)
 
-pub sits : (plan : Plan) (mode : Mode) (s : T) (l : IsKeptBy plan mode s) (id : ℕ) (v : View) (t : ℕ) → v.own ≡ Some t → v.spent ≡ false → get_elem? s.views id ≡ some v → Sits plan mode s l id v t
+pub sits : (plan : Plan) (mode : Mode) (s : T) (l : IsKeptBy plan mode s) (id : ℕ) (v : View) (t : ℕ) → v.own ≡ Some t → v.spent ≡ false →
+    get_elem? s.views id ≡ some v → Sits plan mode s l id v t
 sits plan mode s l id v t own live found =
     let f = l.views id v found live in
     let o = f.own t own in
@@ -68,7 +69,8 @@ pub comes_next :
     (plan : Plan) (mode : Mode) (s : T) (l : IsKeptBy plan mode s) (id : ℕ) (v : View) (t : ℕ) (x : Action) → Sits plan mode s l id v t → next_action v ≡ Some x →
     ((l.places t).dropped ≡ None) × (action_at plan t (l.places t).done ≡ Some x)
 comes_next plan mode s l id v t x si e =
-    let there : action_after v.plan (task_of v) (l.places t).done (l.places t).dropped ≡ Some x = subst (λ (p : Place). action_after v.plan (task_of v) p.done p.dropped ≡ Some x) si.place e in
+    let there : action_after v.plan (task_of v) (l.places t).done (l.places t).dropped ≡ Some x = subst
+            (λ (p : Place). action_after v.plan (task_of v) p.done p.dropped ≡ Some x) si.place e in
     action_there plan t (l.places t).done (l.places t).dropped x
     (subst (λ (q : Plan). action_after q t (l.places t).done (l.places t).dropped ≡ Some x) si.fits.plan_is
     (subst (λ u. action_after v.plan u (l.places t).done (l.places t).dropped ≡ Some x) si.task there))
@@ -185,7 +187,8 @@ acts_kept plan mode s l id i n c v t x own live found is_step forked shown =
       checked = l.checked;
       lawful = step_lawful plan mode l.places l.lock t x l.checked l.lawful is_step;
       shown = subst (λ st. IsShown plan st l.lock (set s.words i n)) next shown;
-      seated = seated_stays plan l.places a' l.steppers s.views (set s.views id (after_action x v)) (one_goes_on s.views id v (after_action x v) found (record { own = refl; spent = refl; exact = λ u is. is }))
+      seated = seated_stays plan l.places a' l.steppers s.views (set s.views id (after_action x v))
+          (one_goes_on s.views id v (after_action x v) found (record { own = refl; spent = refl; exact = λ u is. is }))
           (λ u. sym (ap (λ st. st.forked u) next) ∙ forked u) l.seated;
       views = λ j u e unspent. elim (at_set s.views id j (after_action x v) u e) [
         | inl w ↦

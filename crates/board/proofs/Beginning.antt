@@ -77,9 +77,6 @@ module _ (k : Setting) (f : Frame) (table : TableId) (plan_is : k.plan.value ≡
       none_some : (t : ℕ) → None ≡ Some t → ⊥
       none_some t e = cc
 
-  pub viewer_seat : IsCheckedPlan k.plan.value → IsSeat (record { table = table; view = viewer v })
-  viewer_seat checked = subst (λ (u : View). IsSeat (record { table = table; view = viewer u })) (sym is) (first_viewer checked)
-
   pub viewer_new : IsCheckedPlan k.plan.value → IsNewSeat f None nothing_seen (record { table = table; view = viewer v })
   viewer_new checked = subst (λ (u : View). IsNewSeat f None nothing_seen (record { table = table; view = viewer u })) (sym is) (record {
     of_board = record { table = same; plan = plan_is; mode = mode_is };

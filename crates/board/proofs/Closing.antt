@@ -46,7 +46,8 @@ first_places (suc n) zero = refl
 first_places (suc n) (suc u) = first_places n u
 
 -- the rule holds at the opening
-pub opens_kept : (k : Setting) (words : List ℕ) (homes : List (Unit {0})) → IsCheckedPlan k.plan.value → words ≡ replicate (word_count k.plan.value) 0 → IsKept k (opens words homes (first_view k))
+pub opens_kept : (k : Setting) (words : List ℕ) (homes : List (Unit {0})) → IsCheckedPlan k.plan.value → words ≡ replicate (word_count k.plan.value) 0 →
+    IsKept k (opens words homes (first_view k))
 opens_kept k words homes checked is =
     record {
       places = at_first;
@@ -150,7 +151,8 @@ module _ (plan : Plan) (mode : Mode) (a : ℕ → Place) (lock : Option ℕ) (ch
     where
       by_list : (xs : List Action) → actions plan t ≡ xs → length xs ≡ 0
       by_list [] is = refl
-      by_list (x ∷ xs) is = absurd (let e : slice_get (actions plan t) 0 ≡ None = no_action plan checked t 0 past in let f : slice_get (x ∷ xs) 0 ≡ None = ap (λ ys. slice_get ys 0) (sym is) ∙ e in cc)
+      by_list (x ∷ xs) is = absurd
+          (let e : slice_get (actions plan t) 0 ≡ None = no_action plan checked t 0 past in let f : slice_get (x ∷ xs) 0 ≡ None = ap (λ ys. slice_get ys 0) (sym is) ∙ e in cc)
 
   -- no place of what is no task is other than the first
   strange_first : (t : ℕ) → length plan.parents ≤ t → a t ≡ first_place
@@ -190,16 +192,19 @@ module _ (plan : Plan) (mode : Mode) (a : ℕ → Place) (lock : Option ℕ) (ch
     ])
 
 -- the rule at the end
-pub closes_kept : (plan : Plan) (mode : Mode) (s : TableState (Unit {0}) View) → IsKeptBy plan mode s → (id : ℕ) (v : View) → v.own ≡ None → v.spent ≡ false → get_elem? s.views id ≡ some v → AreLastOf plan mode (seen v) s.words
+pub closes_kept : (plan : Plan) (mode : Mode) (s : TableState (Unit {0}) View) → IsKeptBy plan mode s → (id : ℕ) (v : View) → v.own ≡ None → v.spent ≡ false →
+    get_elem? s.views id ≡ some v → AreLastOf plan mode (seen v) s.words
 closes_kept plan mode s l id v alone live found =
     let f = l.views id v found live in
     let far : IsAsFarOn plan None l.places (seen v) = subst (λ o. IsAsFarOn plan o l.places (seen v)) alone f.far in
     record {
       last = record { places = l.places; lock = l.lock; lawful = l.lawful; shown = l.shown };
       far = far;
-      exact = λ all. exact_places plan mode l.places l.lock l.checked l.lawful (seen v) far all (λ t past. get_or_past v.sight.places t first_place (let c = f.count in omega arith));
+      exact = λ all. exact_places plan mode l.places l.lock l.checked l.lawful (seen v) far all
+          (λ t past. get_or_past v.sight.places t first_place (let c = f.count in omega arith));
     }
 
-pub closes : (k : Setting) (id : ℕ) (v : View) (words : List ℕ) (slots : List (Unit {0})) → v.own ≡ None → v.spent ≡ false → Final (Seen (IsKept k) id v) words slots → AreLastOf k.plan.value k.mode (seen v) words
+pub closes : (k : Setting) (id : ℕ) (v : View) (words : List ℕ) (slots : List (Unit {0})) → v.own ≡ None → v.spent ≡ false →
+    Final (Seen (IsKept k) id v) words slots → AreLastOf k.plan.value k.mode (seen v) words
 closes k id v words slots alone live end =
     subst (AreLastOf k.plan.value k.mode (seen v)) end.2 (closes_kept k.plan.value k.mode end.0 end.1.0 id v alone live end.1.1)

@@ -197,7 +197,8 @@ longer_right a b c x l p is = elim l [
 ]
 
 -- the viewer's view after
-module _ (plan : Plan) (mode : Mode) (s : T) (l : IsKeptBy plan mode s) (id other : ℕ) (v w : View) (t : ℕ) (alone : v.own ≡ None) (mine : SeatFits plan mode l.places l.lock l.steppers id v) (theirs : SeatFits plan mode l.places l.lock l.steppers other w) (own : w.own ≡ Some t) where
+module _ (plan : Plan) (mode : Mode) (s : T) (l : IsKeptBy plan mode s) (id other : ℕ) (v w : View) (t : ℕ) (alone : v.own ≡ None)
+    (mine : SeatFits plan mode l.places l.lock l.steppers id v) (theirs : SeatFits plan mode l.places l.lock l.steppers other w) (own : w.own ≡ Some t) where
   o : Owns plan l.steppers other w t
   o = theirs.own t own
 
@@ -245,10 +246,13 @@ module _ (plan : Plan) (mode : Mode) (s : T) (l : IsKeptBy plan mode s) (id othe
         mode_is = mine.mode_is;
         count = longer_count v.sight.places w.sight.places same_count ∙ mine.count;
         far = record {
-          later = λ u small. longer_near (place_in v.sight.places u) (place_in w.sight.places u) (place_in (longer_places v.sight.places w.sight.places) u) (l.places u) (long u) (mine.far.later u small) (theirs.far.later u small);
+          later = λ u small. longer_near (place_in v.sight.places u) (place_in w.sight.places u) (place_in (longer_places v.sight.places w.sight.places) u)
+              (l.places u) (long u) (mine.far.later u small) (theirs.far.later u small);
           equal = λ u small is. elim (which u is) [
-            | inl in_view ↦ longer_left (place_in v.sight.places u) (place_in w.sight.places u) (place_in (longer_places v.sight.places w.sight.places) u) (l.places u) (long u) (theirs.far.later u small) (mine.far.equal u small in_view)
-            | inr in_seat ↦ longer_right (place_in v.sight.places u) (place_in w.sight.places u) (place_in (longer_places v.sight.places w.sight.places) u) (l.places u) (long u) (mine.far.later u small) (theirs.far.equal u small in_seat)
+            | inl in_view ↦ longer_left (place_in v.sight.places u) (place_in w.sight.places u) (place_in (longer_places v.sight.places w.sight.places) u)
+                  (l.places u) (long u) (theirs.far.later u small) (mine.far.equal u small in_view)
+            | inr in_seat ↦ longer_right (place_in v.sight.places u) (place_in w.sight.places u) (place_in (longer_places v.sight.places w.sight.places) u)
+                  (l.places u) (long u) (mine.far.later u small) (theirs.far.equal u small in_seat)
           ];
           scanned = λ u e. absurd (none_some v.own u alone e);
         };
@@ -279,7 +283,8 @@ takes_in plan mode id v other w t alone live own live_too s l found apart there 
     let mine = l.views id v found live in
     let steppers' = updated l.steppers t no_more in
     let fits = with_fits plan mode s l id other v w t alone mine si.fits own in
-    let joined : with_seat v w ≡ both v w = ap (λ b. if b then with_seat v w else record v { sight = record { places = []; exact = []; scanned = 0; found = [] } }) (sym (joins plan mode s l id other v w t alone mine si.fits own)) in
+    let joined : with_seat v w ≡ both v w = ap (λ b. if b then with_seat v w else record v
+            { sight = record { places = []; exact = []; scanned = 0; found = [] } }) (sym (joins plan mode s l id other v w t alone mine si.fits own)) in
     record {
       places = l.places;
       lock = l.lock;
@@ -288,10 +293,16 @@ takes_in plan mode id v other w t alone live own live_too s l found apart there 
       lawful = l.lawful;
       shown = l.shown;
       seated =
-          let goes : GoesOnAs v (with_seat v w) = record { own = refl; spent = refl; exact = λ u is. among_last v.sight.exact w.sight.exact (task_of w) u ∙ ap (λ b. (b || is_among w.sight.exact u) || (u == task_of w)) is } in
+          let goes : GoesOnAs v (with_seat v w) = record
+                  { own = refl; spent = refl; exact = λ u is. among_last v.sight.exact w.sight.exact (task_of w) u ∙
+                  ap (λ b. (b || is_among w.sight.exact u) || (u == task_of w)) is } in
           seated_ends plan l.places l.steppers s.views id other t v w (both v w) spent_view found there_too apart live (subst (GoesOnAs v) joined goes) si.forked own
-          (λ u is. subst (λ (x : View). is_among x.sight.exact u ≡ true) joined (among_last v.sight.exact w.sight.exact (task_of w) u ∙ ap (λ b. b || (u == task_of w)) (or_right (is_among v.sight.exact u) (is_among w.sight.exact u) is)))
-          (subst (λ (x : View). is_among x.sight.exact t ≡ true) joined (among_last v.sight.exact w.sight.exact (task_of w) t ∙ or_right (is_among v.sight.exact t || is_among w.sight.exact t) (t == task_of w) (eq-eqb t (task_of w) (sym si.task))))
+          (λ u is. subst (λ (x : View). is_among x.sight.exact u ≡ true) joined
+              (among_last v.sight.exact w.sight.exact (task_of w) u ∙
+              ap (λ b. b || (u == task_of w)) (or_right (is_among v.sight.exact u) (is_among w.sight.exact u) is)))
+          (subst (λ (x : View). is_among x.sight.exact t ≡ true) joined
+              (among_last v.sight.exact w.sight.exact (task_of w) t ∙
+              or_right (is_among v.sight.exact t || is_among w.sight.exact t) (t == task_of w) (eq-eqb t (task_of w) (sym si.task))))
           l.seated;
       views = λ j u e unspent. elim (at_set (set s.views id (both v w)) other j spent_view u e) [
         | inl x ↦ absurd (false≢true (sym unspent ∙ sym (ap (λ (z : View). z.spent) x.1)))
@@ -321,7 +332,8 @@ was_joined v w some_task e = by_test (may_join v w) refl
 
     by_test : (b : Bool) → may_join v w ≡ b → both v w ≡ with_seat v w × may_join v w ≡ true
     by_test true is = (ap either is, is)
-    by_test false is = absurd (let z : 0 ≡ length v.plan.parents = sym (ap (λ b. length (either b).sight.places) is) ∙ e ∙ ap (λ b. length (either b).plan.parents) is in omega arith)
+    by_test false is = absurd
+        (let z : 0 ≡ length v.plan.parents = sym (ap (λ b. length (either b).sight.places) is) ∙ e ∙ ap (λ b. length (either b).plan.parents) is in omega arith)
 
 pub both_spent : (v w : View) → (both v w).spent ≡ v.spent
 both_spent v w = by_test (may_join v w)

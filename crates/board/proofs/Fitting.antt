@@ -95,7 +95,8 @@ none_scanned s (Some e) = λ u m l h. absurd (omega arith)
 unscanned : (s : State) (k : ℕ) (o : Option Event) → o ≡ None → IsScanned s k o
 unscanned s k o e = subst (IsScanned s k) (sym e) tt
 
-module _ (plan : Plan) (mode : Mode) (a : ℕ → Place) (lock : Option ℕ) (t : ℕ) (x : Action) (checked : IsCheckedPlan plan) (lawful : IsLawful (avoids mode) plan a lock) (step : IsStep plan mode a lock t x) where
+module _ (plan : Plan) (mode : Mode) (a : ℕ → Place) (lock : Option ℕ) (t : ℕ) (x : Action) (checked : IsCheckedPlan plan)
+    (lawful : IsLawful (avoids mode) plan a lock) (step : IsStep plan mode a lock t x) where
   -- the state after the step
   pub state_next : after (state_at plan a) t x ≡ state_at plan (moved a t x)
   state_next = (reachable_steps plan a t x checked (lawful_is_reachable (avoids mode) plan a lock lawful) step.code step.legal).1
@@ -140,7 +141,8 @@ module _ (plan : Plan) (mode : Mode) (a : ℕ → Place) (lock : Option ℕ) (t 
           }
 
   -- another view
-  pub other_fits : (steppers : ℕ → Stepper) (id j : ℕ) (v : View) → steppers t ≡ by_seat id → j ≢ id → SeatFits plan mode a lock steppers j v → SeatFits plan mode (moved a t x) lock steppers j v
+  pub other_fits : (steppers : ℕ → Stepper) (id j : ℕ) (v : View) → steppers t ≡ by_seat id → j ≢ id → SeatFits plan mode a lock steppers j v →
+      SeatFits plan mode (moved a t x) lock steppers j v
   other_fits steppers id j v owner apart f =
       record {
         plan_is = f.plan_is;
@@ -172,7 +174,8 @@ module _ (plan : Plan) (mode : Mode) (a : ℕ → Place) (lock : Option ℕ) (t 
           ]
 
   -- the view after one's own step
-  pub own_fits : (steppers : ℕ → Stepper) (j : ℕ) (v : View) → v.own ≡ Some t → SeatFits plan mode a lock steppers j v → SeatFits plan mode (moved a t x) lock steppers j (after_action x v)
+  pub own_fits : (steppers : ℕ → Stepper) (j : ℕ) (v : View) → v.own ≡ Some t → SeatFits plan mode a lock steppers j v →
+      SeatFits plan mode (moved a t x) lock steppers j (after_action x v)
   own_fits steppers j v mine f =
       record {
         plan_is = f.plan_is;
@@ -181,7 +184,8 @@ module _ (plan : Plan) (mode : Mode) (a : ℕ → Place) (lock : Option ℕ) (t 
         far = record {
           later = λ u w. elim (cases_eq u t) [
             | inl e ↦ subst (λ (p : Place). IsPrefix p (moved a t x u)) (sym (now_here u e)) (precedes_itself (moved a t x u).done (moved a t x u).dropped)
-            | inr n ↦ subst (λ (p : Place). IsPrefix p (moved a t x u)) (sym (now_there u n)) (prefix_trans ((seen v).places u) (a u) (moved a t x u) (f.far.later u w) (moved_later a t x u))
+            | inr n ↦ subst (λ (p : Place). IsPrefix p (moved a t x u)) (sym (now_there u n))
+                  (prefix_trans ((seen v).places u) (a u) (moved a t x u) (f.far.later u w) (moved_later a t x u))
           ];
           equal = λ u w is. elim (cases_eq u t) [
             | inl e ↦ sym (now_here u e)
@@ -189,7 +193,8 @@ module _ (plan : Plan) (mode : Mode) (a : ℕ → Place) (lock : Option ℕ) (t 
           ];
           scanned = λ u own. let same : u ≡ t = some_same u t (sym own ∙ mine) in
               subst (λ w. IsScanned (state_at plan (moved a t x)) (scanned_next x v.sight.scanned) (published_after plan w ((seen (after_action x v)).places w).done)) (sym same)
-              (subst (λ (p : Place). IsScanned (state_at plan (moved a t x)) (scanned_next x v.sight.scanned) (published_after plan t p.done)) (sym (now_here t refl)) (scanned_own x refl));
+              (subst (λ (p : Place). IsScanned (state_at plan (moved a t x)) (scanned_next x v.sight.scanned) (published_after plan t p.done))
+                  (sym (now_here t refl)) (scanned_own x refl));
         };
         own = λ u own. let o = f.own u own in record { within = o.within; exact = o.exact; alone = o.alone };
         exact = f.exact;
@@ -232,7 +237,8 @@ module _ (plan : Plan) (mode : Mode) (a : ℕ → Place) (lock : Option ℕ) (t 
           (ap (λ s. s.published t) (sym state_next) ∙ unpublished_after plan (state_at plan a) t x step.legal (λ p e. n p (sym is ∙ e)))
 
       scanned_own : (y : Action) → x ≡ y → IsScanned (state_at plan (moved a t x)) (scanned_next x v.sight.scanned) (published_after plan t (moved a t x t).done)
-      scanned_own (Blocks p) is = subst (λ k. IsScanned (state_at plan (moved a t x)) k (published_after plan t (moved a t x t).done)) (ap (λ y. scanned_next y v.sight.scanned) (sym is)) (none_scanned (state_at plan (moved a t x)) (published_after plan t (moved a t x t).done))
+      scanned_own (Blocks p) is = subst (λ k. IsScanned (state_at plan (moved a t x)) k (published_after plan t (moved a t x t).done))
+          (ap (λ y. scanned_next y v.sight.scanned) (sym is)) (none_scanned (state_at plan (moved a t x)) (published_after plan t (moved a t x t).done))
       scanned_own (Makes p) is = scanned_else (Makes p) is (λ q e. cc) (scanned_next x v.sight.scanned)
       scanned_own (Registers c p) is = scanned_else (Registers c p) is (λ q e. cc) (scanned_next x v.sight.scanned)
       scanned_own (Forks c) is = scanned_else (Forks c) is (λ q e. cc) (scanned_next x v.sight.scanned)

@@ -29,7 +29,8 @@ locked_seat table table' v w held avoiding seat is =
     (record { live = seat.live; checked = seat.checked; count = seat.count; few = seat.few; own = seat.own; lock = avoiding })
 
 pub locked_sitting :
-    (table table' : TableId) (v w : View) (t n : ℕ) (o : Option Event) (held : Bool) → (held ≡ true → avoids v.mode ≡ true) → IsSitting t n o (record { table = table; view = v }) → w ≡ with_lock held v →
+    (table table' : TableId) (v w : View) (t n : ℕ) (o : Option Event) (held : Bool) → (held ≡ true → avoids v.mode ≡ true) →
+    IsSitting t n o (record { table = table; view = v }) → w ≡ with_lock held v →
     IsSitting t n o (record { table = table'; view = w })
 locked_sitting table table' v w t n o held avoiding s is =
     let same : event_of (record { table = table'; view = with_lock held v }) ≡ event_of (record { table = table; view = v }) =
@@ -43,41 +44,22 @@ locked_sitting table table' v w t n o held avoiding s is =
       idle = λ e. s.idle (sym same ∙ e);
     })
 
-pub takes_lock :
-    (table table' : TableId) (v w : View) → avoids v.mode ≡ true → IsSeat (record { table = table; view = v }) → w ≡ with_lock true v → IsWithLock v.plan (task_of v) (seen w) → table' ≡ table →
-    TakesLock (record { table = table; view = v }) (record { table = table'; view = w })
-takes_lock table table' v w avoiding seat is was same = record { view = is; was = was; table = same; kept = locked_seat table table' v w true (λ _. avoiding) seat is }
-
 pub frees_lock :
     (table table' : TableId) (v w : View) → IsSeat (record { table = table; view = v }) → w ≡ with_lock false v → table' ≡ table →
     FreesLock (record { table = table; view = v }) (record { table = table'; view = w })
 frees_lock table table' v w seat is same = record { view = is; table = same; kept = locked_seat table table' v w false (λ has. absurd (false≢true has)) seat is }
 
-few_met : (table : TableId) (v w : View) (mode : Mode) (h : ℕ) → IsSeat (record { table = table; view = v }) → MeetsHolder v.plan mode h v w → (seen w).scanned ≤ length v.plan.parents
+few_met : (table : TableId) (v w : View) (mode : Mode) (h : ℕ) → IsSeat (record { table = table; view = v }) → MeetsHolder v.plan mode h v w →
+    (seen w).scanned ≤ length v.plan.parents
 few_met table v w mode h seat m = subst (λ k. k ≤ length v.plan.parents) (sym m.seen_now.scanned) seat.few
-
-pub finds_held :
-    (table table' : TableId) (v w : View) (h : ℕ) → IsSeat (record { table = table; view = v }) → MeetsHolder v.plan v.mode h v w → table' ≡ table →
-    FindsHeld h (record { table = table; view = v }) (record { table = table'; view = w })
-finds_held table table' v w h seat m same =
-    record { meets = m; table = same; kept = loaded_seat table table' v w seat m.same m.seen_now.place.exact (few_met table v w v.mode h seat m) }
-
-pub met_sitting :
-    (table table' : TableId) (v w : View) (t n h : ℕ) (o : Option Event) → IsSitting t n o (record { table = table; view = v }) → MeetsHolder v.plan v.mode h v w →
-    IsSitting t n o (record { table = table'; view = w })
-met_sitting table table' v w t n h o s m =
-    loads_sitting table table' v w t n n o v.mode (λ s. Unit {0}) s m.same m.seen_now.place.exact m.was.was (few_met table v w v.mode h s.seat m) (s.scanned_is ∙ sym m.seen_now.scanned) s.idle
-
--- the number of a holder is small
-pub holder_small : (table : TableId) (v w : View) (mode : Mode) (h : ℕ) → IsSeat (record { table = table; view = v }) → MeetsHolder v.plan mode h v w → h < max_tasks + 1
-holder_small table v w mode h seat m = (let a = m.within in let b = seat.checked.limits.few_tasks in omega arith)
 
 -- the place after a refusal
 refused_done : (k : ℕ) (o : Option ℕ) (aim : Aim) → (next_place k o (Refuses aim)).done ≡ k
 refused_done k None p = refl
 refused_done k (Some d) p = refl
 
-module _ (table table' : TableId) (v w : View) (aim : Aim) (seat : IsSeat (record { table = table; view = v })) (within : task_of v < length v.sight.places) (is : w ≡ after_action (Refuses aim) v) where
+module _ (table table' : TableId) (v w : View) (aim : Aim) (seat : IsSeat (record { table = table; view = v })) (within : task_of v < length v.sight.places)
+    (is : w ≡ after_action (Refuses aim) v) where
   pub refused_seat : IsSeat (record { table = table'; view = w })
   refused_seat =
       subst (λ (u : View). IsSeat (record { table = table'; view = u })) (sym is)

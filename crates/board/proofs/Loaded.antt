@@ -52,7 +52,8 @@ pub few_await :
 few_await table v w plan mode t answer seat load = subst (λ k. k ≤ length v.plan.parents) (sym load.seen_now.scanned) seat.few
 
 pub few_phase :
-    (table : TableId) (v w : View) (mode : Mode) (t p : ℕ) (answer : Option ℕ) → IsSeat (record { table = table; view = v }) → t < length v.plan.parents → LoadsPhase v.plan mode t p answer v w →
+    (table : TableId) (v w : View) (mode : Mode) (t p : ℕ) (answer : Option ℕ) → IsSeat (record { table = table; view = v }) → t < length v.plan.parents →
+    LoadsPhase v.plan mode t p answer v w →
     (seen w).scanned ≤ length v.plan.parents
 few_phase table v w mode t p answer seat small load =
     subst (λ k. k ≤ length v.plan.parents) (sym load.seen_now.scanned)
@@ -60,7 +61,8 @@ few_phase table v w mode t p answer seat small load =
 
 -- and its own place stays
 pub own_stays :
-    (table : TableId) (v w : View) (t : ℕ) (mode : Mode) (Holds : State → Type 0) → IsSeat (record { table = table; view = v }) → v.own ≡ Some t → ((u : ℕ) → (seen w).exact u ≡ (seen v).exact u) →
+    (table : TableId) (v w : View) (t : ℕ) (mode : Mode) (Holds : State → Type 0) → IsSeat (record { table = table; view = v }) → v.own ≡ Some t →
+    ((u : ℕ) → (seen w).exact u ≡ (seen v).exact u) →
     WasSo v.plan mode Holds v w → (seen w).places t ≡ (seen v).places t
 own_stays table v w t mode Holds seat own exact was =
     let o = seat.own t own in
@@ -76,8 +78,10 @@ event_stays table table' v w t mode Holds seat own same exact was =
     ∙ ap (λ o. own_event v.plan o (seen v)) (sym own)
 
 pub loads_sitting :
-    (table table' : TableId) (v w : View) (t n m : ℕ) (o : Option Event) (mode : Mode) (Holds : State → Type 0) → IsSitting t n o (record { table = table; view = v }) → IsSameSeat v w →
-    ((u : ℕ) → (seen w).exact u ≡ (seen v).exact u) → WasSo v.plan mode Holds v w → (seen w).scanned ≤ length v.plan.parents → m ≡ (seen w).scanned → (event_of (record { table = table; view = v }) ≡ None → m ≡ 0) →
+    (table table' : TableId) (v w : View) (t n m : ℕ) (o : Option Event) (mode : Mode) (Holds : State → Type 0) →
+    IsSitting t n o (record { table = table; view = v }) → IsSameSeat v w →
+    ((u : ℕ) → (seen w).exact u ≡ (seen v).exact u) → WasSo v.plan mode Holds v w → (seen w).scanned ≤ length v.plan.parents → m ≡ (seen w).scanned →
+    (event_of (record { table = table; view = v }) ≡ None → m ≡ 0) →
     IsSitting t m o (record { table = table'; view = w })
 loads_sitting table table' v w t n m o mode Holds s same exact was few scanned idle =
     let event = event_stays table table' v w t mode Holds s.seat s.task same exact was in
@@ -91,21 +95,25 @@ loads_sitting table table' v w t n m o mode Holds s same exact was few scanned i
 
 -- what a load of an await word told
 pub watched_told :
-    (slots index : ℕ) (me me' : Me (Unit {0}) View) (n t : ℕ) (f : Frame) (table : TableId) → Watched (step slots index 0 0 none) me n me' → IsOf (record { table = table; view = me.0 }) f →
+    (slots index : ℕ) (me me' : Me (Unit {0}) View) (n t : ℕ) (f : Frame) (table : TableId) → Watched (step slots index 0 0 none) me n me' →
+    IsOf (record { table = table; view = me.0 }) f →
     t < length f.plan.parents → index ≡ await_index t → (answer : Found) × n ≡ await_number answer × IsInRange answer × LoadsAwait me.0.plan me.0.mode t answer me.0 me'.0
 watched_told slots index me me' n t f table told of small is = told.1 t (subst (λ (q : Plan). t < length q.parents) (sym of.plan) small) is
 
 -- and one of a phase word
 pub looked_told :
-    (slots index : ℕ) (me me' : Me (Unit {0}) View) (n t p : ℕ) (f : Frame) (table : TableId) → Looked (step slots index 0 0 none) me n me' → IsOf (record { table = table; view = me.0 }) f →
+    (slots index : ℕ) (me me' : Me (Unit {0}) View) (n t p : ℕ) (f : Frame) (table : TableId) → Looked (step slots index 0 0 none) me n me' →
+    IsOf (record { table = table; view = me.0 }) f →
     t < length f.plan.parents → p < length f.plan.makers → index ≡ phase_index f.plan t p →
     (answer : Option ℕ) × n ≡ phase_number answer × n < 2 ^ 32 × LoadsPhase me.0.plan me.0.mode t p answer me.0 me'.0
 looked_told slots index me me' n t p f table told of small few is =
-    told.1 t p (subst (λ (q : Plan). t < length q.parents) (sym of.plan) small) (subst (λ (q : Plan). p < length q.makers) (sym of.plan) few) (is ∙ ap (λ (q : Plan). phase_index q t p) (sym of.plan))
+    told.1 t p (subst (λ (q : Plan). t < length q.parents) (sym of.plan) small) (subst (λ (q : Plan). p < length q.makers) (sym of.plan) few)
+        (is ∙ ap (λ (q : Plan). phase_index q t p) (sym of.plan))
 
 -- the answer of a load
 pub answers_await :
-    (table table' : TableId) (v w : View) (t : ℕ) (answer given : Found) → IsSeat (record { table = table; view = v }) → LoadsAwait v.plan v.mode t answer v w → table' ≡ table → given ≡ answer →
+    (table table' : TableId) (v w : View) (t : ℕ) (answer given : Found) → IsSeat (record { table = table; view = v }) → LoadsAwait v.plan v.mode t answer v w →
+    table' ≡ table → given ≡ answer →
     AnswersAwait t given (record { table = table; view = v }) (record { table = table'; view = w })
 answers_await table table' v w t answer given seat load same is =
     record {
@@ -115,7 +123,8 @@ answers_await table table' v w t answer given seat load same is =
     }
 
 pub answers_phase :
-    (table table' : TableId) (v w : View) (t p : ℕ) (answer given : Option ℕ) → IsSeat (record { table = table; view = v }) → t < length v.plan.parents → LoadsPhase v.plan v.mode t p answer v w → table' ≡ table → given ≡ answer →
+    (table table' : TableId) (v w : View) (t p : ℕ) (answer given : Option ℕ) → IsSeat (record { table = table; view = v }) → t < length v.plan.parents →
+    LoadsPhase v.plan v.mode t p answer v w → table' ≡ table → given ≡ answer →
     AnswersPhase t p given (record { table = table; view = v }) (record { table = table'; view = w })
 answers_phase table table' v w t p answer given seat small load same is =
     record {

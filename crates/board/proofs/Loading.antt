@@ -56,7 +56,8 @@ module _ (t : ℕ) (c : Place) (k : ℕ) (found : List (ℕ × Seen)) (v : View)
   loaded_there u n = ap (λ g. g u) (set_place v.sight.places t c within) ∙ updated_other (place_in v.sight.places) t u c n
 
 -- a view keeps fitting where its new place of t is a prefix of the actual one, and this one where t is exact
-module _ (plan : Plan) (mode : Mode) (s : T) (l : IsKeptBy plan mode s) (j : ℕ) (v : View) (f : SeatFits plan mode l.places l.lock l.steppers j v) (t : ℕ) (small : t < length plan.parents) (c : Place) (k : ℕ) (found : List (ℕ × Seen)) where
+module _ (plan : Plan) (mode : Mode) (s : T) (l : IsKeptBy plan mode s) (j : ℕ) (v : View) (f : SeatFits plan mode l.places l.lock l.steppers j v) (t : ℕ)
+    (small : t < length plan.parents) (c : Place) (k : ℕ) (found : List (ℕ × Seen)) where
   within : t < length v.sight.places
   within = (let e = f.count in omega arith)
 
@@ -72,7 +73,8 @@ module _ (plan : Plan) (mode : Mode) (s : T) (l : IsKeptBy plan mode s) (j : ℕ
         count = length-set v.sight.places t c ∙ f.count;
         far = record {
           later = λ u w. elim (cases_eq u t) [
-            | inl e ↦ subst (λ x. IsPrefix ((seen (after_load t c k found v)).places x) (l.places x)) (sym e) (subst (λ (p : Place). IsPrefix p (l.places t)) (sym (loaded_here t c k found v within)) near)
+            | inl e ↦ subst (λ x. IsPrefix ((seen (after_load t c k found v)).places x) (l.places x)) (sym e)
+                  (subst (λ (p : Place). IsPrefix p (l.places t)) (sym (loaded_here t c k found v within)) near)
             | inr n ↦ subst (λ (p : Place). IsPrefix p (l.places u)) (sym (loaded_there t c k found v within u n)) (f.far.later u w)
           ];
           equal = λ u w is. exact_now u w is;
@@ -91,7 +93,8 @@ module _ (plan : Plan) (mode : Mode) (s : T) (l : IsKeptBy plan mode s) (j : ℕ
     where
       exact_now : (u : ℕ) → u < length plan.parents → is_among v.sight.exact u ≡ true → l.places u ≡ (seen (after_load t c k found v)).places u
       exact_now u w is = elim (cases_eq u t) [
-        | inl e ↦ ap l.places e ∙ sym (same (subst (λ x. is_among v.sight.exact x ≡ true) e is)) ∙ sym (loaded_here t c k found v within) ∙ ap (seen (after_load t c k found v)).places (sym e)
+        | inl e ↦ ap l.places e ∙ sym (same (subst (λ x. is_among v.sight.exact x ≡ true) e is)) ∙ sym (loaded_here t c k found v within) ∙
+              ap (seen (after_load t c k found v)).places (sym e)
         | inr n ↦ f.far.equal u w is ∙ sym (loaded_there t c k found v within u n)
       ]
 
@@ -207,7 +210,8 @@ agrees_next s b t xs u old = subst (StillAgrees s u) (sym (found_next b t (found
     by_test true true is = subst (λ x. StillAgrees s u (Some (found_in s x))) (eqb-true u t is) (agrees_itself s u)
 
 -- idle and waiting stay so where a task was not yet refused
-undrops_await : (avoids : Bool) (plan : Plan) (t : ℕ) (answer : Found) → ((e : Event) → answer ≢ FoundRefused e) → (b : Place) → IsPlaceOf avoids plan t b → await_word plan t b ≡ answer → await_word plan t (undropped b) ≡ answer
+undrops_await : (avoids : Bool) (plan : Plan) (t : ℕ) (answer : Found) → ((e : Event) → answer ≢ FoundRefused e) → (b : Place) → IsPlaceOf avoids plan t b →
+    await_word plan t b ≡ answer → await_word plan t (undropped b) ≡ answer
 undrops_await avoids plan t answer n b place is = by_case (published_after plan t b.done) (refused_at plan t b.done b.dropped) is
   where
     by_case : (o r : Option Event) → found_by o r ≡ answer → found_by o None ≡ answer
@@ -233,7 +237,8 @@ watches plan mode slots id me t live same small s l _ at _ =
     let w = after_load t r.0 v.sight.scanned finds v in
     let inside : t < length v.sight.places = (let e = f.count in omega arith) in
     let fits = load_fits plan mode s l id v f t small r.0 v.sight.scanned finds is.0 (λ e. is.1 (sym (f.far.equal t small e)))
-    (λ u own. let o = f.own u own in subst (λ (p : Place). IsScanned st v.sight.scanned (published_after plan u p.done)) (sym (f.far.equal u o.within o.exact)) (f.far.scanned u own))
+    (λ u own. let o = f.own u own in subst (λ (p : Place). IsScanned st v.sight.scanned (published_after plan u p.done)) (sym (f.far.equal u o.within o.exact))
+        (f.far.scanned u own))
     (λ x own has u n. agrees_next st v.holds t v.sight.found u (((f.holding x own).holds has).agrees u n)) in (
       w,
       keeps,
@@ -269,7 +274,8 @@ watches plan mode slots id me t live same small s l _ at _ =
 
 -- the phases of a task at a place that is not its first
 phases_there :
-    (plan : Plan) (mode : Mode) (s : T) (l : IsKeptBy plan mode s) (t p : ℕ) → l.places t ≢ first_place → (state_at plan l.places).phases t p ≡ phases_at_place plan t (l.places t) p
+    (plan : Plan) (mode : Mode) (s : T) (l : IsKeptBy plan mode s) (t p : ℕ) → l.places t ≢ first_place →
+    (state_at plan l.places).phases t p ≡ phases_at_place plan t (l.places t) p
 phases_there plan mode s l t p n =
     ap (λ m. kept (l.places t).dropped m p) (phases_forked plan l.checked (done_by l.places) t forked)
   where
@@ -325,7 +331,8 @@ scan_goes st (Some e) k t p old = by_test (e.p.0 == p) (t == k) (is_not_behind (
     ]
 
 -- a phase stays so where a task was not yet refused
-undrops_phase : (avoids : Bool) (plan : Plan) (t p n : ℕ) (answer : Option ℕ) → answer ≡ Some n → (b : Place) → IsPlaceOf avoids plan t b → phases_at_place plan t b p ≡ answer → phases_at_place plan t (undropped b) p ≡ answer
+undrops_phase : (avoids : Bool) (plan : Plan) (t p n : ℕ) (answer : Option ℕ) → answer ≡ Some n → (b : Place) → IsPlaceOf avoids plan t b →
+    phases_at_place plan t b p ≡ answer → phases_at_place plan t (undropped b) p ≡ answer
 undrops_phase avoids plan t p n answer has b place is = kept_is b.dropped (phases_after plan t b.done) p n (is ∙ has) ∙ sym has
 
 -- what a load of a phase word makes of the place seen
@@ -402,7 +409,8 @@ looks plan mode slots id me t p live same small few s l _ at _ =
             let b' : q < length plan.makers = subst (λ (c : Plan). q < length c.makers) same b in
             let one : phase_index plan t p ≡ phase_index plan u q = at_word ∙ ap (λ (c : Plan). phase_index c u q) same in
             let eq = phases_apart plan t p u q few b' one in
-            subst (λ (z : ℕ × ℕ). (g : Option ℕ) × get_or s.words (phase_index plan t p) 0 ≡ phase_number g × get_or s.words (phase_index plan t p) 0 < 2 ^ 32 × LoadsPhase v.plan v.mode z.0 z.1 g v w) (λ i. (eq.0 i, eq.1 i)) (
+            subst (λ (z : ℕ × ℕ). (g : Option ℕ) × get_or s.words (phase_index plan t p) 0 ≡ phase_number g × get_or s.words (phase_index plan t p) 0 < 2 ^ 32 ×
+                LoadsPhase v.plan v.mode z.0 z.1 g v w) (λ i. (eq.0 i, eq.1 i)) (
               answer,
               l.shown.phases t p small few,
               subst (λ n. n < 2 ^ 32) (sym (l.shown.phases t p small few)) (number_small answer (phases_small plan l.checked l.places t p)),

@@ -115,7 +115,8 @@ lock_kept plan mode s l id c v t lock' held own live found before now to from la
       checked = l.checked;
       lawful = lawful;
       shown = shows_lock plan (state_at plan l.places) l.lock lock' s.words l.shown;
-      seated = seated_stays plan l.places l.places l.steppers s.views (set s.views id (with_lock held v)) (one_goes_on s.views id v (with_lock held v) found (record { own = refl; spent = refl; exact = λ u is. is })) (λ u. refl) l.seated;
+      seated = seated_stays plan l.places l.places l.steppers s.views (set s.views id (with_lock held v))
+          (one_goes_on s.views id v (with_lock held v) found (record { own = refl; spent = refl; exact = λ u is. is })) (λ u. refl) l.seated;
       views = λ j u e unspent. elim (at_set s.views id j (with_lock held v) u e) [
         | inl w ↦
             subst (λ (z : ℕ × View). SeatFits plan mode l.places lock' l.steppers z.0 z.1) (λ k. (sym w.0 k, w.1 k))
@@ -187,7 +188,8 @@ loads_fit plan mode a lock steppers j n v f =
     }
 
 -- the compare-and-exchange of a try
-module _ (plan : Plan) (mode : Mode) (slots id : ℕ) (me : Me (Unit {0}) View) (t : ℕ) (own : me.0.own ≡ Some t) (live : me.0.spent ≡ false) (free : me.0.holds ≡ false) (avoiding : avoids mode ≡ true) (same : me.0.plan ≡ plan) where
+module _ (plan : Plan) (mode : Mode) (slots id : ℕ) (me : Me (Unit {0}) View) (t : ℕ) (own : me.0.own ≡ Some t) (live : me.0.spent ≡ false)
+    (free : me.0.holds ≡ false) (avoiding : avoids mode ≡ true) (same : me.0.plan ≡ plan) where
   abbrev v : View
   v = me.0
 
@@ -207,10 +209,12 @@ module _ (plan : Plan) (mode : Mode) (slots id : ℕ) (me : Me (Unit {0}) View) 
       let is = longest_is plan mode s l h (MayHold plan h) before r.0 r.1 (f.far.later h small) may in
       let inside : h < length v.sight.places = (let e = f.count in omega arith) in
       let loaded = load_fits plan mode s l id v f h small r.0 v.sight.scanned v.sight.found is.0 (λ e. is.1 (sym (f.far.equal h small e)))
-      (λ u owned. let o = f.own u owned in subst (λ (p : Place). IsScanned (state_at plan l.places) v.sight.scanned (published_after plan u p.done)) (sym (f.far.equal u o.within o.exact)) (f.far.scanned u owned))
+      (λ u owned. let o = f.own u owned in subst (λ (p : Place). IsScanned (state_at plan l.places) v.sight.scanned (published_after plan u p.done))
+          (sym (f.far.equal u o.within o.exact)) (f.far.scanned u owned))
       (λ x owned has. absurd (false≢true (sym free ∙ has))) in
       let w : View = record (after_load h r.0 v.sight.scanned v.sight.found v) { loads = v.loads } in
-      let fits : SeatFits plan mode l.places l.lock l.steppers id w = loads_fit plan mode l.places l.lock l.steppers id v.loads (after_load h r.0 v.sight.scanned v.sight.found v) loaded in
+      let fits : SeatFits plan mode l.places l.lock l.steppers id w = loads_fit plan mode l.places l.lock l.steppers id v.loads
+              (after_load h r.0 v.sight.scanned v.sight.found v) loaded in
       let here = loaded_here h r.0 v.sight.scanned v.sight.found v inside in (
         w,
         fits,
@@ -239,7 +243,8 @@ module _ (plan : Plan) (mode : Mode) (slots id : ℕ) (me : Me (Unit {0}) View) 
       )
 
   -- the state has the lock with the seat now
-  takes_it : (s : T) (l : IsKeptBy plan mode s) (aim : Aim) → get_elem? s.views id ≡ some v → next_action v ≡ Some (Blocks aim) → l.lock ≡ None → IsLawful true plan l.places (Some t)
+  takes_it : (s : T) (l : IsKeptBy plan mode s) (aim : Aim) → get_elem? s.views id ≡ some v → next_action v ≡ Some (Blocks aim) → l.lock ≡ None →
+      IsLawful true plan l.places (Some t)
   takes_it s l aim found next nobody =
       let si = sits plan mode s l id v t own live found in
       let there = comes_next plan mode s l id v t (Blocks aim) si next in
@@ -248,20 +253,23 @@ module _ (plan : Plan) (mode : Mode) (slots id : ℕ) (me : Me (Unit {0}) View) 
         unpublished = nothing_published plan t (l.places t).done (Blocks aim) there.1 (λ q e. cc);
         unrefused = ap (refused_at plan t (l.places t).done) there.0;
       } in
-      taking_is_lawful plan l.places t l.checked (subst (λ o. IsLawful true plan l.places o) nobody (subst (λ b. IsLawful b plan l.places l.lock) avoiding l.lawful)) active (aim, there.1)
+      taking_is_lawful plan l.places t l.checked (subst (λ o. IsLawful true plan l.places o) nobody
+          (subst (λ b. IsLawful b plan l.places l.lock) avoiding l.lawful)) active (aim, there.1)
 
   pub tries : (aim : Aim) → next_action v ≡ Some (Blocks aim) → Allows (IsKeptBy plan mode) slots id me 0 (λ n. either (eqb n 0) (t + 1) n) (Tried (step slots 0 0 (t + 1) none) me)
   tries aim next s l _ found _ =
       let n : ℕ = get_or s.words 0 0 in
       let si = sits plan mode s l id v t own live found in
-      exchanged n 0 (t + 1) (λ m. (w : View) × (a : Act (Unit {0})) × Valid s.homes me.1 a × IsKeptBy plan mode (stepped s 0 m id me.1 w a) × Tried (step slots 0 0 (t + 1) none) me n (w, carried_after me.1 a))
+      exchanged n 0 (t + 1) (λ m. (w : View) × (a : Act (Unit {0})) × Valid s.homes me.1 a × IsKeptBy plan mode (stepped s 0 m id me.1 w a) ×
+          Tried (step slots 0 0 (t + 1) none) me n (w, carried_after me.1 a))
       (λ hit.
       let nobody : l.lock ≡ None = no_number l.lock (sym l.shown.holder ∙ hit) in
       let lawful = takes_it s l aim found next nobody in (
         with_lock true v,
         keeps,
         tt,
-        lock_kept plan mode s l id me.1 v t (Some t) true own live found (λ u apart e. none_some l.lock u nobody e) (λ u apart e. apart (sym (some_same t u e))) (λ _. refl) (λ _. refl)
+        lock_kept plan mode s l id me.1 v t (Some t) true own live found (λ u apart e. none_some l.lock u nobody e) (λ u apart e. apart (sym (some_same t u e)))
+        (λ _. refl) (λ _. refl)
             (subst (λ b. IsLawful b plan l.places (Some t)) (sym avoiding) lawful),
         (
           refl,
@@ -306,7 +314,8 @@ frees plan mode slots id me t own live has s l _ found _ =
       with_lock false v,
       keeps,
       tt,
-      lock_kept plan mode s l id me.1 v t None false own live found (λ u apart e. apart (some_same u t (sym e ∙ held))) (λ u apart e. none_some None u refl e) (λ e. absurd (false≢true e)) (λ e. absurd (none_some None t refl e))
+      lock_kept plan mode s l id me.1 v t None false own live found (λ u apart e. apart (some_same u t (sym e ∙ held))) (λ u apart e. none_some None u refl e)
+      (λ e. absurd (false≢true e)) (λ e. absurd (none_some None t refl e))
           (by_mode (avoids mode) refl held l.lawful),
       (refl, refl),
     )

@@ -172,7 +172,8 @@ module _ (avoids : Bool) (plan : Plan) (t : ℕ) where
       members : ℕ
       members = members_below (phases_after plan t b.done) (length plan.makers)
 
-      by_mode : b.done ≤ length (actions plan t) → (d : ℕ) → b.dropped ≡ Some d → IsAtAwait plan t b → d ≤ members → (m : Bool) → avoids ≡ m → IsPlaceOf avoids plan t b ⊎ (IsPlaceOf avoids plan t b → ⊥)
+      by_mode : b.done ≤ length (actions plan t) → (d : ℕ) → b.dropped ≡ Some d → IsAtAwait plan t b → d ≤ members → (m : Bool) → avoids ≡ m →
+          IsPlaceOf avoids plan t b ⊎ (IsPlaceOf avoids plan t b → ⊥)
       by_mode within d e stands few false detects = inr (λ p. let n = p.unrefused detects in cc)
       by_mode within d e stands few true avoiding = inl (record {
         within = within;

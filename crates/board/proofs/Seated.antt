@@ -59,7 +59,8 @@ seat_next table table' v w seat is = subst (λ (u : View). IsSeat (record { tabl
 
 -- an own step
 pub makes_step :
-    (table table' : TableId) (v w : View) (x : Action) → task_of v < length v.sight.places → next_action v ≡ Some x → w ≡ next_view v → table' ≡ table → IsSeat (record { table = table; view = v }) →
+    (table table' : TableId) (v w : View) (x : Action) → task_of v < length v.sight.places → next_action v ≡ Some x → w ≡ next_view v → table' ≡ table →
+    IsSeat (record { table = table; view = v }) →
     MakesStep x (record { table = table; view = v }) (record { table = table'; view = w })
 makes_step table table' v w x within next is same seat =
     let after : w ≡ after_action x v = is ∙ sym (next_view_is v x next) in
@@ -113,7 +114,8 @@ place_made k (Some d) x e n = absurd (cc)
 
 -- the event after an own action
 pub event_next :
-    (table table' : TableId) (v w : View) (t : ℕ) (x : Action) → v.own ≡ Some t → task_of v < length v.sight.places → next_action v ≡ Some x → ((aim : Aim) → x ≢ Refuses aim) → w ≡ next_view v →
+    (table table' : TableId) (v w : View) (t : ℕ) (x : Action) → v.own ≡ Some t → task_of v < length v.sight.places → next_action v ≡ Some x →
+    ((aim : Aim) → x ≢ Refuses aim) → w ≡ next_view v →
     event_of (record { table = table'; view = w }) ≡ awaited (Some x) (phases_after v.plan (task_of v) (own_place v).done)
 event_next table table' v w t x own within next n is =
     let after : w ≡ after_action x v = is ∙ sym (next_view_is v x next) in
@@ -139,7 +141,8 @@ pub phase_here : (v : View) (p : ℕ) → (own_place v).dropped ≡ None → own
 phase_here v p e = ap (λ o. kept o (phases_after v.plan (task_of v) (own_place v).done) p) e
 
 -- scanned after an own action that neither blocks nor passes
-pub scanned_same : (v w : View) (x : Action) → next_action v ≡ Some x → ((aim : Aim) → x ≢ Blocks aim) → ((p : ℕ) → x ≢ Passes p) → w ≡ next_view v → (seen w).scanned ≡ (seen v).scanned
+pub scanned_same : (v w : View) (x : Action) → next_action v ≡ Some x → ((aim : Aim) → x ≢ Blocks aim) → ((p : ℕ) → x ≢ Passes p) → w ≡ next_view v →
+    (seen w).scanned ≡ (seen v).scanned
 scanned_same v w x next b p is = ap (λ (u : View). u.sight.scanned) (is ∙ sym (next_view_is v x next)) ∙ by_case x b p
   where
     by_case : (x : Action) → ((aim : Aim) → x ≢ Blocks aim) → ((p : ℕ) → x ≢ Passes p) → (after_action x v).sight.scanned ≡ v.sight.scanned
@@ -175,7 +178,8 @@ acts_sitting table table' v w t n o x s next b p r is =
 
 -- after a block
 pub blocks_sitting :
-    (table table' : TableId) (v w : View) (t n : ℕ) (o : Option Event) (aim : Aim) (e : Event) → IsSitting t n o (record { table = table; view = v }) → next_action v ≡ Some (Blocks aim) →
+    (table table' : TableId) (v w : View) (t n : ℕ) (o : Option Event) (aim : Aim) (e : Event) → IsSitting t n o (record { table = table; view = v }) →
+    next_action v ≡ Some (Blocks aim) →
     option_map (target aim.off) (own_phase v aim.phaser) ≡ Some e.n → e.p.0 ≡ aim.phaser → w ≡ next_view v → IsSitting t 0 (Some e) (record { table = table'; view = w })
 blocks_sitting table table' v w t n o aim e s next phase here is =
     let k : Known = record { table = table; view = v } in
@@ -194,7 +198,8 @@ blocks_sitting table table' v w t n o aim e s next phase here is =
 
 -- after a pass
 pub passes_sitting :
-    (table table' : TableId) (v w : View) (t n p : ℕ) (o : Option Event) → IsSitting t n o (record { table = table; view = v }) → next_action v ≡ Some (Passes p) → w ≡ next_view v →
+    (table table' : TableId) (v w : View) (t n p : ℕ) (o : Option Event) → IsSitting t n o (record { table = table; view = v }) →
+    next_action v ≡ Some (Passes p) → w ≡ next_view v →
     IsSitting t 0 None (record { table = table'; view = w })
 passes_sitting table table' v w t n p o s next is =
     let k : Known = record { table = table; view = v } in
@@ -246,7 +251,8 @@ formed_member plan t k p (Refuses q) e f = absurd e
 pub member_next : (k : Known) (p : ℕ) → IsSeat k → NeedsMember k p → (n : ℕ) × (own_phase k.view p ≡ Some n)
 member_next k p seat needs =
     let there = next_there k.view needs.action needs.next in
-    let m = formed_member k.view.plan (task_of k.view) (own_place k.view).done p needs.action needs.by_member (seat.checked.codes.well_formed (task_of k.view) (own_place k.view).done needs.action there.1) in
+    let m = formed_member k.view.plan (task_of k.view) (own_place k.view).done p needs.action needs.by_member
+            (seat.checked.codes.well_formed (task_of k.view) (own_place k.view).done needs.action there.1) in
     (m.0, phase_here k.view p there.0 ∙ m.1)
 
 -- what an offset makes of the own phase, by what the seat knew before it was loaded
@@ -259,7 +265,8 @@ target_is k now p m n off same phase is =
 -- the own phase is small
 pub own_phase_small : (k : Known) (p n : ℕ) → IsSeat k → own_phase k.view p ≡ Some n → n ≤ max_ops
 own_phase_small k p n seat is =
-    (let l = phases_fit k.view.plan (task_of k.view) (own_place k.view).done p n seat.checked (kept_is (own_place k.view).dropped (phases_after k.view.plan (task_of k.view) (own_place k.view).done) p n is) in
+    (let l = phases_fit k.view.plan (task_of k.view) (own_place k.view).done p n seat.checked
+        (kept_is (own_place k.view).dropped (phases_after k.view.plan (task_of k.view) (own_place k.view).done) p n is) in
     let m = seat.checked.limits.few_ops in omega arith)
 
 -- the own phase after it is one more
@@ -283,7 +290,8 @@ own_index k f t p index of own is =
 
 -- what the board's mode asks of who publishes, by the board's own plan
 pub may_publish_here :
-    (k : Known) (f : Frame) (t : ℕ) (aim : Aim) → IsOf k f → k.view.own ≡ Some t → MayPublish k aim → avoids f.mode ≡ true → (k.view.holds ≡ true) × AvoidsByWhatIsSeen f.plan t (seen k.view) (Blocks aim)
+    (k : Known) (f : Frame) (t : ℕ) (aim : Aim) → IsOf k f → k.view.own ≡ Some t → MayPublish k aim → avoids f.mode ≡ true →
+    (k.view.holds ≡ true) × AvoidsByWhatIsSeen f.plan t (seen k.view) (Blocks aim)
 may_publish_here k f t aim of own may avoiding =
     let m = may (ap avoids of.mode ∙ avoiding) in (
       m.0,
@@ -297,7 +305,8 @@ some_is (Some n) e = (n, refl)
 
 -- an own step of a refused task
 pub leaves_step :
-    (table table' : TableId) (v w : View) (p : ℕ) → task_of v < length v.sight.places → w ≡ after_action (Drops p) v → table' ≡ table → IsSeat (record { table = table'; view = w }) →
+    (table table' : TableId) (v w : View) (p : ℕ) → task_of v < length v.sight.places → w ≡ after_action (Drops p) v → table' ≡ table →
+    IsSeat (record { table = table'; view = w }) →
     MakesStep (Drops p) (record { table = table; view = v }) (record { table = table'; view = w })
 leaves_step table table' v w p within after same seat =
     record {
@@ -316,7 +325,8 @@ leaves_step table table' v w p within after same seat =
     }
 
 -- a seat as the board sees it
-pub new_of : (k : Known) (f : Frame) (table : TableId) (v : View) → IsOf k f → table ≡ k.table → v.plan ≡ k.view.plan → v.mode ≡ k.view.mode → IsOf (record { table = table; view = v }) f
+pub new_of : (k : Known) (f : Frame) (table : TableId) (v : View) → IsOf k f → table ≡ k.table → v.plan ≡ k.view.plan → v.mode ≡ k.view.mode →
+    IsOf (record { table = table; view = v }) f
 new_of k f table v of t p m = record { table = t ∙ of.table; plan = p ∙ of.plan; mode = m ∙ of.mode }
 
 -- the seat of a child
@@ -339,7 +349,9 @@ child_seen v c next =
       found = λ _. None;
     }
 
-pub child_new : (k : Known) (f : Frame) (table : TableId) (w : View) (c : ℕ) → IsOf k f → table ≡ k.table → next_action k.view ≡ Some (Forks c) → w ≡ child k.view → IsSeat (record { table = table; view = w }) → IsNewSeat f (Some c) (seen_by_child c (seen (next_view k.view))) (record { table = table; view = w })
+pub child_new : (k : Known) (f : Frame) (table : TableId) (w : View) (c : ℕ) → IsOf k f → table ≡ k.table → next_action k.view ≡ Some (Forks c) →
+    w ≡ child k.view → IsSeat (record { table = table; view = w }) →
+    IsNewSeat f (Some c) (seen_by_child c (seen (next_view k.view))) (record { table = table; view = w })
 child_new k f table w c of t next is seat =
     record {
       of_board = new_of k f table w of t (ap (λ (u : View). u.plan) is) (ap (λ (u : View). u.mode) is);
@@ -358,17 +370,20 @@ child_apart k t c seat own next same =
     omega arith
 
 -- it stands where no step of it is seen
-child_place : (v : View) (c : ℕ) → task_of v < length v.sight.places → next_action v ≡ Some (Forks c) → c ≢ task_of v → place_in (next_view v).sight.places c ≡ place_in v.sight.places c
+child_place : (v : View) (c : ℕ) → task_of v < length v.sight.places → next_action v ≡ Some (Forks c) → c ≢ task_of v →
+    place_in (next_view v).sight.places c ≡ place_in v.sight.places c
 child_place v c within next apart =
     ap (λ (u : View). place_in u.sight.places c) (sym (next_view_is v (Forks c) next))
     ∙ ap (λ g. g c) (set_place v.sight.places (task_of v) (next_place (own_place v).done (own_place v).dropped (Forks c)) within)
     ∙ updated_other (place_in v.sight.places) (task_of v) c (next_place (own_place v).done (own_place v).dropped (Forks c)) apart
 
-pub child_first : (v w : View) (c : ℕ) → task_of v < length v.sight.places → next_action v ≡ Some (Forks c) → place_in v.sight.places c ≡ first_place → c ≢ task_of v → w ≡ child v → own_place w ≡ first_place
+pub child_first : (v w : View) (c : ℕ) → task_of v < length v.sight.places → next_action v ≡ Some (Forks c) → place_in v.sight.places c ≡ first_place →
+    c ≢ task_of v → w ≡ child v → own_place w ≡ first_place
 child_first v w c within next unseen apart is =
     ap own_place is ∙ ap (λ o. place_in (next_view v).sight.places (forked_by o)) next ∙ child_place v c within next apart ∙ unseen
 
-pub child_sitting : (table table' : TableId) (v w : View) (t n c : ℕ) (o : Option Event) → IsSitting t n o (record { table = table; view = v }) → next_action v ≡ Some (Forks c) → place_in v.sight.places c ≡ first_place → c ≢ task_of v →
+pub child_sitting : (table table' : TableId) (v w : View) (t n c : ℕ) (o : Option Event) → IsSitting t n o (record { table = table; view = v }) →
+    next_action v ≡ Some (Forks c) → place_in v.sight.places c ≡ first_place → c ≢ task_of v →
     w ≡ child v → IsSitting c 0 None (record { table = table'; view = w })
 child_sitting table table' v w t n c o s next unseen apart is =
     subst (λ (u : View). IsSitting c 0 None (record { table = table'; view = u })) (sym is)

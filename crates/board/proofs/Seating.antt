@@ -132,7 +132,8 @@ seated_born plan a b steppers views views' c k w goes there own forked others se
     }
 
 -- a task ends, and its seat is taken in by another one
-module _ (plan : Plan) (a : ℕ → Place) (steppers : ℕ → Stepper) (views : List View) (id other t : ℕ) (v w x spent : View) (found : get_elem? views id ≡ some v) (there : get_elem? views other ≡ some w) (apart : other ≢ id) (live : v.spent ≡ false) (goes : GoesOnAs v x) where
+module _ (plan : Plan) (a : ℕ → Place) (steppers : ℕ → Stepper) (views : List View) (id other t : ℕ) (v w x spent : View) (found : get_elem? views id ≡ some v)
+    (there : get_elem? views other ≡ some w) (apart : other ≢ id) (live : v.spent ≡ false) (goes : GoesOnAs v x) where
   views' : List View
   views' = set (set views id x) other spent
 

@@ -21,11 +21,19 @@ set_place places t a within = fun_ext (λ u. elim (cases_eq u t) [
 
 -- what is seen after an own action
 pub seen_stepped : (x : Action) (v : View) → task_of v < length v.sight.places → seen (after_action x v) ≡ seen_after_step (task_of v) x (seen v)
-seen_stepped (Makes p) v w i = record (seen (after_action (Makes p) v)) { places = set_place v.sight.places (task_of v) (next_place (own_place v).done (own_place v).dropped (Makes p)) w i }
-seen_stepped (Registers c p) v w i = record (seen (after_action (Makes p) v)) { places = set_place v.sight.places (task_of v) (next_place (own_place v).done (own_place v).dropped (Registers c p)) w i }
-seen_stepped (Forks c) v w i = record (seen (after_action (Makes 0) v)) { places = set_place v.sight.places (task_of v) (next_place (own_place v).done (own_place v).dropped (Forks c)) w i }
-seen_stepped (Advances p) v w i = record (seen (after_action (Makes p) v)) { places = set_place v.sight.places (task_of v) (next_place (own_place v).done (own_place v).dropped (Advances p)) w i }
-seen_stepped (Drops p) v w i = record (seen (after_action (Makes p) v)) { places = set_place v.sight.places (task_of v) (next_place (own_place v).done (own_place v).dropped (Drops p)) w i }
-seen_stepped (Blocks a) v w i = record (seen (after_action (Blocks a) v)) { places = set_place v.sight.places (task_of v) (next_place (own_place v).done (own_place v).dropped (Blocks a)) w i }
-seen_stepped (Passes p) v w i = record (seen (after_action (Passes p) v)) { places = set_place v.sight.places (task_of v) (next_place (own_place v).done (own_place v).dropped (Passes p)) w i }
-seen_stepped (Refuses a) v w i = record (seen (after_action (Makes 0) v)) { places = set_place v.sight.places (task_of v) (next_place (own_place v).done (own_place v).dropped (Refuses a)) w i }
+seen_stepped (Makes p) v w i = record (seen (after_action (Makes p) v))
+    { places = set_place v.sight.places (task_of v) (next_place (own_place v).done (own_place v).dropped (Makes p)) w i }
+seen_stepped (Registers c p) v w i = record (seen (after_action (Makes p) v))
+    { places = set_place v.sight.places (task_of v) (next_place (own_place v).done (own_place v).dropped (Registers c p)) w i }
+seen_stepped (Forks c) v w i = record (seen (after_action (Makes 0) v))
+    { places = set_place v.sight.places (task_of v) (next_place (own_place v).done (own_place v).dropped (Forks c)) w i }
+seen_stepped (Advances p) v w i = record (seen (after_action (Makes p) v))
+    { places = set_place v.sight.places (task_of v) (next_place (own_place v).done (own_place v).dropped (Advances p)) w i }
+seen_stepped (Drops p) v w i = record (seen (after_action (Makes p) v))
+    { places = set_place v.sight.places (task_of v) (next_place (own_place v).done (own_place v).dropped (Drops p)) w i }
+seen_stepped (Blocks a) v w i = record (seen (after_action (Blocks a) v))
+    { places = set_place v.sight.places (task_of v) (next_place (own_place v).done (own_place v).dropped (Blocks a)) w i }
+seen_stepped (Passes p) v w i = record (seen (after_action (Passes p) v))
+    { places = set_place v.sight.places (task_of v) (next_place (own_place v).done (own_place v).dropped (Passes p)) w i }
+seen_stepped (Refuses a) v w i = record (seen (after_action (Makes 0) v))
+    { places = set_place v.sight.places (task_of v) (next_place (own_place v).done (own_place v).dropped (Refuses a)) w i }

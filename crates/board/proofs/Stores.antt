@@ -90,7 +90,8 @@ pub registers_child :
 registers_child plan mode slots id me t c p n m own live free next a b phase is =
     stores_phase plan mode slots id me t (Registers c p) c p n own live free next (record { no_pass = λ q e. cc; no_block = λ q e. cc; no_refusal = λ q e. cc }) a b
     (λ s l si. record {
-      here = is ∙ ap phase_number (sym phase ∙ sym (own_phases_so plan mode s l id me.0 t p si) ∙ sym (with_phase_same (state_at plan l.places).phases c p ((state_at plan l.places).phases t p)));
+      here = is ∙ ap phase_number (sym phase ∙ sym (own_phases_so plan mode s l id me.0 t p si) ∙
+          sym (with_phase_same (state_at plan l.places).phases c p ((state_at plan l.places).phases t p)));
       others = λ w q n. with_phase_other (state_at plan l.places).phases c p ((state_at plan l.places).phases t p) w q n;
       same = λ w. refl;
       forked = λ w. refl;
@@ -170,7 +171,8 @@ with_lock_so plan mode s l id v t si w =
 pub publishes :
     (plan : Plan) (mode : Mode) (slots id : ℕ) (me : Me (Unit {0}) View) (t n : ℕ) (aim : Aim) (e : Event) → me.0.own ≡ Some t → me.0.spent ≡ false →
     (avoids mode ≡ true → (me.0.holds ≡ true) × AvoidsByWhatIsSeen plan t (seen me.0) (Blocks aim)) →
-    next_action me.0 ≡ Some (Blocks aim) → option_map (target aim.off) (phases_at_place me.0.plan (task_of me.0) (own_place me.0) aim.phaser) ≡ Some e.n → e.p.0 ≡ aim.phaser → n ≡ event_number e →
+    next_action me.0 ≡ Some (Blocks aim) → option_map (target aim.off) (phases_at_place me.0.plan (task_of me.0) (own_place me.0) aim.phaser) ≡ Some e.n →
+    e.p.0 ≡ aim.phaser → n ≡ event_number e →
     Allows (IsKeptBy plan mode) slots id me (await_index t) (λ _. n) (λ _. Published (step slots (await_index t) n 0 none) me n)
 publishes plan mode slots id me t n aim e own live avoiding next phase here is s l _ found _ =
     let si = sits plan mode s l id me.0 t own live found in
@@ -203,8 +205,10 @@ publishes plan mode slots id me t n aim e own live avoiding next phase here is s
 
 -- an await is refused
 pub refuses :
-    (plan : Plan) (mode : Mode) (slots id : ℕ) (me : Me (Unit {0}) View) (t n : ℕ) (aim : Aim) (e : Event) → me.0.own ≡ Some t → me.0.spent ≡ false → me.0.holds ≡ true → avoids mode ≡ true →
-    AvoidsByWhatIsSeen plan t (seen me.0) (Refuses aim) → next_action me.0 ≡ Some (Blocks aim) → option_map (target aim.off) (phases_at_place me.0.plan (task_of me.0) (own_place me.0) aim.phaser) ≡ Some e.n → e.p.0 ≡ aim.phaser →
+    (plan : Plan) (mode : Mode) (slots id : ℕ) (me : Me (Unit {0}) View) (t n : ℕ) (aim : Aim) (e : Event) → me.0.own ≡ Some t → me.0.spent ≡ false →
+    me.0.holds ≡ true → avoids mode ≡ true →
+    AvoidsByWhatIsSeen plan t (seen me.0) (Refuses aim) → next_action me.0 ≡ Some (Blocks aim) →
+    option_map (target aim.off) (phases_at_place me.0.plan (task_of me.0) (own_place me.0) aim.phaser) ≡ Some e.n → e.p.0 ≡ aim.phaser →
     n ≡ await_number (FoundRefused e) → Allows (IsKeptBy plan mode) slots id me (await_index t) (λ _. n) (λ _. Refused (step slots (await_index t) n 0 none) me n)
 unfolding with_lock_now
 refuses plan mode slots id me t n aim e own live has avoiding dead next phase here is s l _ found _ =
@@ -259,7 +263,8 @@ passes plan mode slots id me t e own live free same event all s l _ found _ =
     ap (λ (b : Place). published_after plan t b.done) (sym (sym (ap (place_in me.0.sight.places) si.task) ∙ si.place)) ∙ seen_event in
     let next : action_at plan t (l.places t).done ≡ Some (Passes e.p.0) = published_passes plan t (l.places t).done e published in
     let reached = all_scanned_is_reached plan t (seen me.0) l.places e l.checked (lawful_is_reachable (avoids mode) plan l.places l.lock l.lawful) far seen_event all in
-    let dropped : (l.places t).dropped ≡ None = published_undropped plan l.places (reachable_is_fixed plan l.places l.checked (lawful_is_reachable (avoids mode) plan l.places l.lock l.lawful)).1 t e published in
+    let dropped : (l.places t).dropped ≡ None = published_undropped plan l.places
+            (reachable_is_fixed plan l.places l.checked (lawful_is_reachable (avoids mode) plan l.places l.lock l.lawful)).1 t e published in
     let is_step : IsStep plan mode l.places l.lock t (Passes e.p.0) = record {
       code = by_code_so plan t (l.places t).done (l.places t).dropped (Passes e.p.0) dropped next;
       legal = (si.forked, e.n, published, reached, ap (refused_at plan t (l.places t).done) dropped);
@@ -272,7 +277,8 @@ passes plan mode slots id me t e own live free same event all s l _ found _ =
       tt,
       stores_await plan mode slots id me t (Passes e.p.0) 0 s l own live found is_step (λ w. refl) (λ u q. refl)
           (λ u ne. ap (λ o. found_by o (st.refused u)) (updated_other st.published t u None ne))
-          (ap await_number (sym (ap (λ o. found_by o (st.refused t)) (updated_same st.published t t None refl) ∙ ap (found_by None) (ap (refused_at plan t (l.places t).done) dropped)))),
+          (ap await_number (sym (ap (λ o. found_by o (st.refused t)) (updated_same st.published t t None refl) ∙
+              ap (found_by None) (ap (refused_at plan t (l.places t).done) dropped)))),
       (
         refl,
         λ f is. (
@@ -287,7 +293,8 @@ passes plan mode slots id me t e own live free same event all s l _ found _ =
 
 -- the view after a refused task's drop
 pub drop_view : (v : View) (p d : ℕ) → (own_place v).dropped ≡ Some d → after_action (Drops p) v ≡ next_view v
-drop_view v p d e = sym (ap (λ o. after_action (unwrap_or (action_after v.plan (task_of v) (own_place v).done o) (Drops 0)) v) e ∙ ap (λ o. with_dropped (next_place (own_place v).done o (Drops 0))) e ∙ sym (ap (λ o. with_dropped (next_place (own_place v).done o (Drops p))) e))
+drop_view v p d e = sym (ap (λ o. after_action (unwrap_or (action_after v.plan (task_of v) (own_place v).done o) (Drops 0)) v) e ∙
+    ap (λ o. with_dropped (next_place (own_place v).done o (Drops 0))) e ∙ sym (ap (λ o. with_dropped (next_place (own_place v).done o (Drops p))) e))
   where
     with_dropped : Place → View
     with_dropped c = record v { sight = record v.sight { places = set v.sight.places (task_of v) c } }
@@ -319,6 +326,7 @@ drops_refused plan mode slots id me t p d n own live free dropped member least a
       tt,
       acts_kept plan mode s l id (phase_index plan t p) 0 me.1 me.0 t (Drops p) own live found is_step (λ _. refl)
           (subst (λ (k : ℕ). IsShown plan (after st t (Drops p)) l.lock (set s.words (phase_index plan t p) k)) (ap phase_number (with_phase_same st.phases t p None))
-          (shows_phase plan st (after st t (Drops p)) l.lock s.words t p ((after st t (Drops p)).phases t p) l.shown a b refl (λ w q m. with_phase_other st.phases t p None w q m) (λ _. refl))),
+          (shows_phase plan st (after st t (Drops p)) l.lock s.words t p ((after st t (Drops p)).phases t p) l.shown a b refl
+              (λ w q m. with_phase_other st.phases t p None w q m) (λ _. refl))),
       (drop_view me.0 p d dropped, refl),
     )

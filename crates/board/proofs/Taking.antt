@@ -14,7 +14,8 @@ use Rattle.board.proofs.Ending.{ahead_at, among_last, both_true, longer_at, long
 none_some : (o : Option ℕ) (u : ℕ) → o ≡ None → o ≡ Some u → ⊥
 none_some o u a b = cc
 
-module _ (table : TableId) (v w x : View) (alone : v.own ≡ None) (mine : IsSeat (record { table = table; view = v })) (same_plan : v.plan ≡ w.plan) (count : length w.sight.places ≡ length w.plan.parents) (is : x ≡ both v w) (told : length x.sight.places ≡ length x.plan.parents) where
+module _ (table : TableId) (v w x : View) (alone : v.own ≡ None) (mine : IsSeat (record { table = table; view = v })) (same_plan : v.plan ≡ w.plan)
+    (count : length w.sight.places ≡ length w.plan.parents) (is : x ≡ both v w) (told : length x.sight.places ≡ length x.plan.parents) where
   joined : both v w ≡ with_seat v w × may_join v w ≡ true
   joined = was_joined v w (some_task v.plan mine.checked) (subst (λ (u : View). length u.sight.places ≡ length u.plan.parents) is told)
 
@@ -24,15 +25,18 @@ module _ (table : TableId) (v w x : View) (alone : v.own ≡ None) (mine : IsSea
   same_count : length v.sight.places ≡ length w.sight.places
   same_count = mine.count ∙ ap (λ (q : Plan). length q.parents) same_plan ∙ sym count
 
-  tests : are_of_one_run v.sight.places w.sight.places ≡ true × (are_ahead (task_of w ∷ []) w.sight.places v.sight.places && are_ahead v.sight.exact v.sight.places w.sight.places) ≡ true
-  tests = both_true (are_of_one_run v.sight.places w.sight.places) (are_ahead (task_of w ∷ []) w.sight.places v.sight.places && are_ahead v.sight.exact v.sight.places w.sight.places) joined.1
+  tests : are_of_one_run v.sight.places w.sight.places ≡ true ×
+      (are_ahead (task_of w ∷ []) w.sight.places v.sight.places && are_ahead v.sight.exact v.sight.places w.sight.places) ≡ true
+  tests = both_true (are_of_one_run v.sight.places w.sight.places)
+      (are_ahead (task_of w ∷ []) w.sight.places v.sight.places && are_ahead v.sight.exact v.sight.places w.sight.places) joined.1
 
   ahead : are_ahead (task_of w ∷ []) w.sight.places v.sight.places ≡ true × are_ahead v.sight.exact v.sight.places w.sight.places ≡ true
   ahead = both_true (are_ahead (task_of w ∷ []) w.sight.places v.sight.places) (are_ahead v.sight.exact v.sight.places w.sight.places) tests.1
 
   own_with : place_in (longer_places v.sight.places w.sight.places) (task_of w) ≡ place_in w.sight.places (task_of w)
   own_with =
-      sym (longer_right (place_in v.sight.places (task_of w)) (place_in w.sight.places (task_of w)) (place_in (longer_places v.sight.places w.sight.places) (task_of w)) (place_in w.sight.places (task_of w))
+      sym (longer_right (place_in v.sight.places (task_of w)) (place_in w.sight.places (task_of w))
+          (place_in (longer_places v.sight.places w.sight.places) (task_of w)) (place_in w.sight.places (task_of w))
       (longer_at v.sight.places w.sight.places same_count tests.0 (task_of w))
       (ahead_at (task_of w ∷ []) w.sight.places v.sight.places ahead.0 (task_of w) (ap (λ b. b || is_among [] (task_of w)) (eq-eqb (task_of w) (task_of w) refl))) refl)
 
@@ -60,7 +64,8 @@ module _ (table : TableId) (v w x : View) (alone : v.own ≡ None) (mine : IsSea
     lock = mine.lock;
   })
 
-  pub taken : (table' seat_table : TableId) → table' ≡ table → TakesIn (record { table = seat_table; view = w }) (record { table = table; view = v }) (record { table = table'; view = x })
+  pub taken : (table' seat_table : TableId) → table' ≡ table →
+      TakesIn (record { table = seat_table; view = w }) (record { table = table; view = v }) (record { table = table'; view = x })
   taken table' seat_table same = record {
     seen_now = subst (λ (u : View). IsSeenAfterTakingIn (task_of w) (seen v) (seen w) (seen u)) (sym now_is) seen_with;
     own = ap (λ (u : View). (seen u).places (task_of w)) now_is ∙ own_with;

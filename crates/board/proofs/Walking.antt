@@ -132,13 +132,15 @@ begun_then k m x begun s n =
 
 -- and after a block, whose pass is left
 pub begun_published :
-    (k m : Known) (aim : Aim) (begun : ℕ) (e : Event) → HasStepped k m (Blocks aim) (Passes aim.phaser ∷ actions_of (drop begun (code_of k.view.plan (task_of k.view)))) → event_of m ≡ Some e →
+    (k m : Known) (aim : Aim) (begun : ℕ) (e : Event) →
+    HasStepped k m (Blocks aim) (Passes aim.phaser ∷ actions_of (drop begun (code_of k.view.plan (task_of k.view)))) → event_of m ≡ Some e →
     e.p.0 ≡ aim.phaser → HasBegun begun m
 begun_published k m aim begun e s is here =
     record {
       free = s.free;
       unrefused = s.unrefused;
-      left = s.left ∙ sym ((λ i. left_of (is i) (drop begun (code_of (s.plan i) (s.task i)))) ∙ ap (λ q. Passes q ∷ actions_of (drop begun (code_of k.view.plan (task_of k.view)))) here);
+      left = s.left ∙ sym ((λ i. left_of (is i) (drop begun (code_of (s.plan i) (s.task i)))) ∙
+          ap (λ q. Passes q ∷ actions_of (drop begun (code_of k.view.plan (task_of k.view)))) here);
     }
 
 -- and before the first step
@@ -215,7 +217,8 @@ module _ (begun : ℕ) (op : Op) (k : Known) (b : IsBefore begun op k) where
 
 -- after that step the op is begun
 pub begins_next : (begun : ℕ) (op : Op) (k m : Known) → IsBefore begun op k → MakesStep (begins op) k m → HasBegun (suc begun) m
-begins_next begun op k m b step = by_op op refl (has_stepped k m (task_of k.view) (begins op) _ b.own b.begun_so.free b.begun_so.unrefused (left_now begun op k b) (no_refuse op) step)
+begins_next begun op k m b step = by_op op refl (has_stepped k m (task_of k.view) (begins op) _ b.own b.begun_so.free b.begun_so.unrefused
+    (left_now begun op k b) (no_refuse op) step)
   where
     no_refuse : (op : Op) (aim : Aim) → begins op ≢ Refuses aim
     no_refuse (Make q) p e = cc
@@ -229,11 +232,16 @@ begins_next begun op k m b step = by_op op refl (has_stepped k m (task_of k.view
     member aim next = (b.seat.checked.codes.well_formed (task_of k.view) (own_place k.view).done (Blocks aim) (next_there k.view (Blocks aim) next).1).0
 
     by_op : (o : Op) → op ≡ o → HasStepped k m (begins op) (goes_on op (actions_of (drop (suc begun) (code_of k.view.plan (task_of k.view))))) → HasBegun (suc begun) m
-    by_op (Make p) is s = begun_then k m (Makes p.0) (suc begun) (subst (λ o. HasStepped k m (begins o) (goes_on o (actions_of (drop (suc begun) (code_of k.view.plan (task_of k.view)))))) is s) (λ q e. cc)
-    by_op (Reg c p) is s = begun_then k m (Registers c.0 p.0) (suc begun) (subst (λ o. HasStepped k m (begins o) (goes_on o (actions_of (drop (suc begun) (code_of k.view.plan (task_of k.view)))))) is s) (λ q e. cc)
-    by_op (Fork c) is s = begun_then k m (Forks c.0) (suc begun) (subst (λ o. HasStepped k m (begins o) (goes_on o (actions_of (drop (suc begun) (code_of k.view.plan (task_of k.view)))))) is s) (λ q e. cc)
-    by_op (Adv p) is s = begun_then k m (Advances p.0) (suc begun) (subst (λ o. HasStepped k m (begins o) (goes_on o (actions_of (drop (suc begun) (code_of k.view.plan (task_of k.view)))))) is s) (λ q e. cc)
-    by_op (Drop p) is s = begun_then k m (Drops p.0) (suc begun) (subst (λ o. HasStepped k m (begins o) (goes_on o (actions_of (drop (suc begun) (code_of k.view.plan (task_of k.view)))))) is s) (λ q e. cc)
+    by_op (Make p) is s = begun_then k m (Makes p.0) (suc begun)
+        (subst (λ o. HasStepped k m (begins o) (goes_on o (actions_of (drop (suc begun) (code_of k.view.plan (task_of k.view)))))) is s) (λ q e. cc)
+    by_op (Reg c p) is s = begun_then k m (Registers c.0 p.0) (suc begun)
+        (subst (λ o. HasStepped k m (begins o) (goes_on o (actions_of (drop (suc begun) (code_of k.view.plan (task_of k.view)))))) is s) (λ q e. cc)
+    by_op (Fork c) is s = begun_then k m (Forks c.0) (suc begun)
+        (subst (λ o. HasStepped k m (begins o) (goes_on o (actions_of (drop (suc begun) (code_of k.view.plan (task_of k.view)))))) is s) (λ q e. cc)
+    by_op (Adv p) is s = begun_then k m (Advances p.0) (suc begun)
+        (subst (λ o. HasStepped k m (begins o) (goes_on o (actions_of (drop (suc begun) (code_of k.view.plan (task_of k.view)))))) is s) (λ q e. cc)
+    by_op (Drop p) is s = begun_then k m (Drops p.0) (suc begun)
+        (subst (λ o. HasStepped k m (begins o) (goes_on o (actions_of (drop (suc begun) (code_of k.view.plan (task_of k.view)))))) is s) (λ q e. cc)
     by_op (Await p off) is s =
         let phases : Phases = phases_after k.view.plan (task_of k.view) (own_place k.view).done in
         let found = awaited_some (aim_at p.0 off) phases (member (aim_at p.0 off) (before_next begun op k b ∙ ap (λ o. Some (begins o)) is)) in
@@ -241,14 +249,11 @@ begins_next begun op k m b step = by_op op refl (has_stepped k m (task_of k.view
         subst (λ o. HasStepped k m (begins o) (goes_on o (actions_of (drop (suc begun) (code_of k.view.plan (task_of k.view)))))) is s in
         begun_published k m (aim_at p.0 off) (suc begun) found.0 t (t.event ∙ found.1) (awaited_is (aim_at p.0 off) phases found.0 found.1).0
 
--- the seat is of its board after a step
-pub of_then : (x : Action) (k m : Known) (f : Frame) → IsOf k f → MakesStep x k m → IsOf m f
-of_then x k m f of step = record { table = step.table ∙ of.table; plan = step.same.plan ∙ of.plan; mode = step.same.mode ∙ of.mode }
-
 -- a task that is published passes next
 pub passes_next : (begun : ℕ) (k : Known) (e : Event) → HasBegun begun k → event_of k ≡ Some e → next_action k.view ≡ Some (Passes e.p.0)
 passes_next begun k e b is =
-    next_is k (Passes e.p.0) (actions_of (drop begun (code_of k.view.plan (task_of k.view)))) b.unrefused (b.left ∙ ap (λ o. left_of o (drop begun (code_of k.view.plan (task_of k.view)))) is)
+    next_is k (Passes e.p.0) (actions_of (drop begun (code_of k.view.plan (task_of k.view)))) b.unrefused
+        (b.left ∙ ap (λ o. left_of o (drop begun (code_of k.view.plan (task_of k.view)))) is)
 
 pub begun_passed : (begun : ℕ) (k m : Known) (e : Event) (t : ℕ) → k.view.own ≡ Some t → HasBegun begun k → event_of k ≡ Some e → MakesStep (Passes e.p.0) k m → HasBegun begun m
 begun_passed begun k m e t own b is step =

@@ -79,7 +79,8 @@ fresh_old names list dead i d all l is kept =
     }
 
 pub fresh_new :
-    (names : List Bool) (list : List Status) (dead : List TaskId) (i : ℕ) (d : TaskId) (all : List Dead) (event : Event) → i < length dead → is_named names (get_or dead i d).0 ≡ false →
+    (names : List Bool) (list : List Status) (dead : List TaskId) (i : ℕ) (d : TaskId) (all : List Dead) (event : Event) → i < length dead →
+    is_named names (get_or dead i d).0 ≡ false →
     IsListedOn list (get_or dead i d).0 event → AreFresh names list (take i dead) all →
     AreFresh names list (take (i + 1) dead) (all ++ record { t = get_or dead i d; event = event } ∷ [])
 fresh_new names list dead i d all event l is on kept =

@@ -41,7 +41,9 @@ use Rattle.collector.proofs.Fresh.{Contains-map, filter_inside, listed_or_not}
 far_of_viewer : (plan : Plan) (own : Option ℕ) (a : ℕ → Place) (s : SeenBy) → IsAsFarOn plan own a s → IsAsFarOn plan None a s
 far_of_viewer plan own a s far = record { later = far.later; equal = far.equal; scanned = λ t is. absurd (cc) }
 
-module _ (before now : Known) (list : List Status) (checked : IsCheckedPlan before.view.plan) (goes : LoadsAlone before now) (listed : (t : ℕ) (e : Event) → IsListedOn list t e → t < length before.view.plan.parents) (possible : IsPossible before (λ s. Unit {0})) (c : IsCollected list before now) where
+module _ (before now : Known) (list : List Status) (checked : IsCheckedPlan before.view.plan) (goes : LoadsAlone before now)
+    (listed : (t : ℕ) (e : Event) → IsListedOn list t e → t < length before.view.plan.parents) (possible : IsPossible before (λ s. Unit {0}))
+    (c : IsCollected list before now) where
   abbrev plan : Plan
   plan = before.view.plan
 
@@ -49,7 +51,8 @@ module _ (before now : Known) (list : List Status) (checked : IsCheckedPlan befo
   known_of t known a lock lawful far = known a lock lawful (far_of_viewer plan before.view.own a (seen before.view) far)
 
   -- a task that is known to be dead is listed as in each lawful state in which it is dead
-  listed_as : (t : ℕ) → IsKnownDeadTo before t → (a : ℕ → Place) (lock : Option ℕ) → IsLawful (avoids before.view.mode) plan a lock → IsDeadIn (state_at plan a) t → IsListedAsIn list (state_at plan a) t
+  listed_as : (t : ℕ) → IsKnownDeadTo before t → (a : ℕ → Place) (lock : Option ℕ) → IsLawful (avoids before.view.mode) plan a lock →
+      IsDeadIn (state_at plan a) t → IsListedAsIn list (state_at plan a) t
   listed_as t known a lock lawful dead =
       let w = possible.places in
       let known_own = known_of t known in
@@ -63,7 +66,8 @@ module _ (before now : Known) (list : List Status) (checked : IsCheckedPlan befo
         here,
         is,
         λ f n awaited. (
-          λ has. (phases f n awaited).0 (same_phases plan checked (avoids before.view.mode) w a possible.lock lock possible.lawful lawful t f.p.0 (Some n) begun_then (sym same) has),
+          λ has. (phases f n awaited).0 (same_phases plan checked (avoids before.view.mode) w a possible.lock lock possible.lawful lawful t f.p.0 (Some n)
+              begun_then (sym same) has),
           λ has. same_phases plan checked (avoids before.view.mode) a w lock possible.lock lawful possible.lawful t f.p.0 (Some n) begun same ((phases f n awaited).1 has),
         ),
       )
@@ -125,7 +129,8 @@ module _ (before now : Known) (list : List Status) (checked : IsCheckedPlan befo
       (t : ℕ) → IsDeadBy list t → (a : ℕ → Place) (lock : Option ℕ) → IsLawful (avoids before.view.mode) plan a lock → IsAsFarOn plan None a (seen now.view) →
       a t ≡ c.at t × IsDeadIn (state_at plan a) t
   stand_there t dead a lock lawful far =
-      let there = collected_is_dead_at_reachable plan a list dead.tasks c.at c.found checked (lawful_is_reachable (avoids before.view.mode) plan a lock lawful) dead.deadlocked found in
+      let there = collected_is_dead_at_reachable plan a list dead.tasks c.at c.found checked (lawful_is_reachable (avoids before.view.mode) plan a lock lawful)
+              dead.deadlocked found in
       (there.0 t dead.inside, record { tasks = dead.tasks; inside = dead.inside; deadlocked = there.1 })
     where
       later : (u : ℕ) (b : Place) (e : Event) → IsListedOn list u e → IsPrefix b ((seen now.view).places u) → IsPrefix b (a u)
@@ -145,7 +150,8 @@ module _ (before now : Known) (list : List Status) (checked : IsCheckedPlan befo
           }
 
   -- in each state that is possible after, as a fact about the seat's own plan then
-  after_of : (Holds : State → Type 0) → ((a : ℕ → Place) (lock : Option ℕ) → IsLawful (avoids before.view.mode) plan a lock → IsAsFarOn plan None a (seen now.view) → Holds (state_at plan a)) → InEachState now Holds
+  after_of : (Holds : State → Type 0) → ((a : ℕ → Place) (lock : Option ℕ) → IsLawful (avoids before.view.mode) plan a lock →
+      IsAsFarOn plan None a (seen now.view) → Holds (state_at plan a)) → InEachState now Holds
   after_of Holds holds a lock lawful far =
       subst (λ (q : Plan). Holds (state_at q a)) (sym goes.same.plan)
       (holds a lock
@@ -192,7 +198,8 @@ module _ (before now : Known) (list : List Status) (checked : IsCheckedPlan befo
       }
 
 -- a pass of a collector of this board
-module _ (f : Frame) (before now : Known) (list : List Status) (of : IsOf before f) (goes : LoadsAlone before now) (collect : IsCollect f.plan list before now) (c : IsCollected list before now) where
+module _ (f : Frame) (before now : Known) (list : List Status) (of : IsOf before f) (goes : LoadsAlone before now) (collect : IsCollect f.plan list before now)
+    (c : IsCollected list before now) where
   own : IsCheckedPlan before.view.plan
   own = subst IsCheckedPlan goes.same.plan goes.kept.checked
 
@@ -226,7 +233,8 @@ module _ (f : Frame) (before now : Known) (list : List Status) (of : IsOf before
   pass_within dead are k d l = (let (e, is) = pass_listed dead are k d l in within (get_or dead k d).0 e is)
 
 -- where the list has the statuses of a state, its dead are those of the state
-pub dead_of_state : (before : Known) (list : List Status) (dead : List TaskId) → IsCheckedPlan before.view.plan → TellsState list before → IsDeadList list dead → HasDeadOf (seen_state before) dead
+pub dead_of_state : (before : Known) (list : List Status) (dead : List TaskId) → IsCheckedPlan before.view.plan → TellsState list before →
+    IsDeadList list dead → HasDeadOf (seen_state before) dead
 dead_of_state before list dead checked tells are t =
     let plan = before.view.plan in
     let s = seen_state before in

@@ -259,7 +259,8 @@ module _ (ss : List Status) where
       let im : Image Q set = image Q set (λ t m. let (v, i, e, rest) = h t m in (v.event, (v, i, e, refl, rest))) in
       let all : List Resource = map task set ++ map event im.list in
       let has_task : (t : TaskId) → Contains set t → Contains all (task t) = λ t m. Contains-append_left (map task set) (map event im.list) (task t) (Contains-map task set t m) in
-      let has_event : (e : Event) → Contains im.list e → Contains all (event e) = λ e m. Contains-append_right (map task set) (map event im.list) (event e) (Contains-map event im.list e m) in (
+      let has_event : (e : Event) → Contains im.list e →
+              Contains all (event e) = λ e m. Contains-append_right (map task set) (map event im.list) (event e) (Contains-map event im.list e m) in (
         all,
         has_task t0 here,
         λ a m. elim (Contains-append_cases (map task set) (map event im.list) a m) [

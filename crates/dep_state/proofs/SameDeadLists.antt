@@ -42,6 +42,3 @@ same_ascending (x ∷ xs) (y ∷ ys) up up' same =
     let r = same_ascending xs ys (tail_up x xs up) (tail_up y ys up')
     (λ t. (rest_of x y xs ys e up (λ u m. (same u).0 m) t, rest_of y x ys xs (sym e) up' (λ u m. (same u).1 m) t)) in
     ap (λ z. z ∷ xs) e ∙ ap (λ zs. y ∷ zs) r
-
-pub one_dead_list : (ss : List Status) (a b : List TaskId) → IsDeadList ss a → IsDeadList ss b → a ≡ b
-one_dead_list ss a b h k = same_ascending a b h.ascends k.ascends (λ t. (λ m. (k.exact t).1 ((h.exact t).0 m), λ m. (h.exact t).1 ((k.exact t).0 m)))

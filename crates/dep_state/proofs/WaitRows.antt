@@ -25,7 +25,8 @@ named_ascends tasks row tasks_up row_up inside j k u below lt =
     omega (arith, up, ap (λ x. x.0) a, ap (λ x. x.0) b)
 
 -- so do all rows of names
-pub all_named_ascend : (d : Deps) (names : List (List TaskId)) → AreRelations d → ((i : ℕ) → AllPairs (λ j k. j < k) (impeders_of d i)) → Ascend d.tasks → IsNamed d.tasks d.impeders names → All Ascend names
+pub all_named_ascend : (d : Deps) (names : List (List TaskId)) → AreRelations d → ((i : ℕ) → AllPairs (λ j k. j < k) (impeders_of d i)) → Ascend d.tasks →
+    IsNamed d.tasks d.impeders names → All Ascend names
 all_named_ascend d names ok rows_up up is =
     rw is (All-map Ascend (named d.tasks) d.impeders (λ k row lt.
     rw (get_or_default d.impeders k row [] lt) (named_ascends d.tasks (impeders_of d k) up (rows_up k) (ok.tasks_inside k [] lt))))

@@ -65,22 +65,6 @@ push_members xs b x = (
   λ h. elim h [ inl l ↦ Contains-append_left xs (b ∷ []) x l | inr e ↦ subst (λ y. Contains (xs ++ b ∷ []) y) (sym e) (Contains-push xs b) ],
 )
 
--- one more column
-pub column_more :
-    (mid now : List (List ℕ)) (row : ℕ → List ℕ) (n : ℕ) → ((i j : ℕ) → HasEdge mid i j ↔ ((j < n) × Contains (row j) i)) →
-    ((i j : ℕ) → HasEdge now i j ↔ (HasEdge mid i j ⊎ ((u : ℕ) × Contains (row n) u × ((i ≡ u) × (j ≡ n))))) →
-    (i j : ℕ) → HasEdge now i j ↔ ((j < n + 1) × Contains (row j) i)
-column_more mid now row n inv adds i j = (
-  λ h. elim ((adds i j).0 h) [
-    | inl l ↦ let (a, b) = (inv i j).0 l in (omega arith, b)
-    | inr r ↦ let (u, c, (e, f)) = r in (omega (arith, f), subst (λ y. Contains (row y) i) (sym f) (subst (λ x. Contains (row n) x) (sym e) c))
-  ],
-  λ (lt, h). (adds i j).1 (elim (cases_eq j n) [
-    | inl e ↦ inr (i, subst (λ y. Contains (row y) i) e h, (refl, e))
-    | inr ne ↦ inl ((inv i j).1 (omega arith, h))
-  ]),
-)
-
 pub no_edge : (n x y : ℕ) → HasEdge (replicate n []) x y → ⊥
 no_edge n x y h = elim (cases_lt x n) [
   | inl l ↦ nothing_in_nil y (subst (λ r. Contains {X = ℕ} r y) (get_or-replicate n x [] [] l) h)

@@ -7,10 +7,6 @@ use Rattle.armus_base.specs.Relations.{IsWalkCycle}
 use Rattle.digraph.specs.inside.NextTables.{AreNext}
 use Rattle.digraph.proofs.WalksAlong.{walk_along}
 
--- no node yet
-pub next_none : (S : ℕ → ℕ → Type 0) (m : ℕ) → AreNext S m 0 []
-next_none S m = record { sized = omega arith; inside = λ k d lt. absurd (omega arith); steps = λ k lt. absurd (omega arith) }
-
 -- one more node
 pub next_more : (S : ℕ → ℕ → Type 0) (m n : ℕ) (next : List ℕ) (b : ℕ) → AreNext S m n next → b < m → S n b → AreNext S m (n + 1) (next ++ b ∷ [])
 next_more S m n next b h lt step =

@@ -109,13 +109,6 @@ edges_added g a b row lt new =
           x;
     }
 
-pub edges_same : (g : List (List ℕ)) (a b : ℕ) → HasEdge g a b → AddsEdge g g a b
-edges_same g a b has =
-    record {
-      nodes = refl;
-      edges = λ x y. (λ h. inl h, λ h. elim h [ inl l ↦ l | inr r ↦ subst (λ u. HasEdge g u y) (sym r.0) (subst (λ u. HasEdge g a u) (sym r.1) has) ]);
-    }
-
 -- an ascending row below n has at most n numbers
 row_short : (row : List ℕ) (n : ℕ) → Ascends row → All (λ x. x < n) row → (k : ℕ) → k < length row → k ≤ get_or row k 0
 row_short row n up below zero lt = omega arith
@@ -139,8 +132,10 @@ pub searched_row :
     (xs : List ℕ) (b i : ℕ) (r : Result ℕ ℕ) → r ≡ Err i → IsBinarySearchResult (λ y. nat_cmp y b) xs r → Ascends xs →
     (i ≤ length xs) × ((k : ℕ) → k < i → get_or xs k 0 < b) × ((k : ℕ) → i ≤ k → k < length xs → b < get_or xs k 0)
 searched_row xs b i r is found up =
-    MatchResult-at_err (λ j. (j < length xs) × (get_or xs j 0 ≡ b)) (λ j. (j ≤ length xs) × ((k : ℕ) → k < j → get_or xs k 0 < b) × ((k : ℕ) → j ≤ k → k < length xs → b < get_or xs k 0)) i is
-    (searched xs b r found (λ j k le lt. elim (cases_eq j k) [ inl e ↦ subst (λ u. get_or xs j 0 ≤ get_or xs u 0) e (omega arith) | inr ne ↦ omega (arith, up j k (omega arith) lt) ]))
+    MatchResult-at_err (λ j. (j < length xs) × (get_or xs j 0 ≡ b))
+        (λ j. (j ≤ length xs) × ((k : ℕ) → k < j → get_or xs k 0 < b) × ((k : ℕ) → j ≤ k → k < length xs → b < get_or xs k 0)) i is
+    (searched xs b r found (λ j k le lt. elim (cases_eq j k) [ inl e ↦ subst (λ u. get_or xs j 0 ≤ get_or xs u 0) e (omega arith) | inr ne ↦
+        omega (arith, up j k (omega arith) lt) ]))
 
 -- the rows of the code, one of which is replaced
 module _ (rows : List (Vec ℕ Global)) (a : ℕ) (old new : Vec ℕ Global) (lt : a < length rows) (was : old ≡ get_or rows a old) where
@@ -207,7 +202,8 @@ no_edges n x y h = elim (cases_lt x n) [
 
 -- no edges are none
 no_count : (n : ℕ) → edge_count (replicate n []) ≤ n * 0
-no_count n = subst (λ k. edge_count (replicate n []) ≤ k * 0) (length-replicate n []) (sum_by-le length 0 (replicate n []) (λ k d lt. rw (get_or-replicate n k [] d (rw length-replicate at lt)) (omega arith)))
+no_count n = subst (λ k. edge_count (replicate n []) ≤ k * 0) (length-replicate n [])
+    (sum_by-le length 0 (replicate n []) (λ k d lt. rw (get_or-replicate n k [] d (rw length-replicate at lt)) (omega arith)))
 
 pub empty_digraph : (n : ℕ) → n < 2 ^ 32 → IsDigraph (replicate n []) 0
 empty_digraph n few =

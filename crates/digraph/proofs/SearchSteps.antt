@@ -23,13 +23,6 @@ count_less marks v m d lt old =
     let z : ◌≡◌ {A = ℕ} (cond (is_unvisited m) 1 0) 0 = ap (λ b. cond {A = ℕ} b 1 0) old in
     omega (arith, e, z)
 
-pub count_one_less : (marks : List Mark) (v : ℕ) (m : Mark) → v < length marks → is_unvisited m ≡ false → mark_of marks v ≡ Unvisited → count_by is_unvisited (set marks v m) + 1 ≡ count_by is_unvisited marks
-count_one_less marks v m lt old is =
-    let e = sum_by-set (λ x. cond (is_unvisited x) 1 0) marks v m Unvisited lt in
-    let z : ◌≡◌ {A = ℕ} (cond (is_unvisited m) 1 0) 0 = ap (λ b. cond {A = ℕ} b 1 0) old in
-    let o : ◌≡◌ {A = ℕ} (cond (is_unvisited (get_or marks v Unvisited)) 1 0) 1 = ap (λ b. cond {A = ℕ} (is_unvisited b) 1 0) is in
-    omega (arith, e, z, o)
-
 -- a value that was read
 pub read_at : {A : Type 0} (xs : List A) (i : ℕ) (x d : A) → i < length xs → x ≡ get_or xs i x → get_or xs i d ≡ x
 read_at xs i x d lt e = get_or_default xs i d x lt ∙ sym e
@@ -100,13 +93,3 @@ tells g marks h =
       cycles = λ v lt. (cycle v lt, λ r. closed v lt (closed_from_reaches (HasEdge g) v r));
       sets = λ v lt. (λ t. closed_from_reaches (HasEdge g) v (cycle v lt t), closed v lt);
     }
-
--- where the answers are known, a node of a closed set reaches a cycle
-pub reaches_from_closed : (g : List (List ℕ)) (answers : List Bool) → TellsCycles g answers → (u : ℕ) → IsInClosedSet (HasEdge g) u → ReachesCycle (HasEdge g) u
-reaches_from_closed g answers tells u (set, here, keeps) =
-    let (b, (j, lt, e), m) = keeps u here in
-    let in' : u < length g = elim (cases_lt u (length g)) [
-      | inl l ↦ l
-      | inr past ↦ let none : get_or g u [] ≡ [] = get_or_past g u [] past in absurd (omega (arith, ap length none))
-    ] in
-    (tells.cycles u in').0 ((tells.sets u in').1 (set, here, keeps))

@@ -2,7 +2,8 @@
 use Rattle.std.proofs.Common.{◌≡◌, ℕ, zero, suc, ◌+◌, ◌-◌, ◌<◌, List, ◌++◌, length, arith, sym, ap, subst, get_or, length-append}
 use Rattle.armus_base.specs.Relations.{IsWalkCycle}
 
-module _ {X : Type 0} (R Q : X → X → Type 0) (Good : X → Type 0) (on : (a b : X) → Good a → R a b → Q a b × Good b) (start : X) (good_start : Good start) (cycle : List X) (w : IsWalkCycle R start cycle) where
+module _ {X : Type 0} (R Q : X → X → Type 0) (Good : X → Type 0) (on : (a b : X) → Good a → R a b → Q a b × Good b) (start : X) (good_start : Good start)
+    (cycle : List X) (w : IsWalkCycle R start cycle) where
   nodes : List X
   nodes = w.before ++ cycle
 

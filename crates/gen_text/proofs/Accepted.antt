@@ -35,7 +35,8 @@ is_opened n = record {
   names = record { first = refl; second = refl };
   own = record { first = refl; second = refl };
   fresh_start = no_start n;
-  fresh_member = λ c p l. member_other 0 1 true (with_member 0 0 true (λ _ _. false)) c p (λ e. absurd (omega arith)) ∙ member_other 0 0 true (λ _ _. false) c p (λ e. absurd (omega arith));
+  fresh_member = λ c p l. member_other 0 1 true (with_member 0 0 true (λ _ _. false)) c p (λ e. absurd (omega arith)) ∙
+      member_other 0 0 true (λ _ _. false) c p (λ e. absurd (omega arith));
   workers = λ c pos. subst (CanWork ((opened n).members c)) (sym (no_start n c (omega arith))) tt;
 }
 
@@ -64,7 +65,8 @@ first_task n l =
 
 next_task :
     (t k : ℕ) (a : Parts) (s : UnfoldingState) (Q : UnfoldingState → Type 0) (rest : UnfoldingState → Outcome UnfoldingState) → Has k a s → CanGoOn t a → k + 27 < max_ops →
-    ((s' : UnfoldingState) → Behind (k + 27) (t + 1) s' → Succeeds Q (rest s')) → (o : Option Start) → slice_index_or s.starts t None ≡ o → Succeeds Q (unfold_task false t o s >>= rest)
+    ((s' : UnfoldingState) → Behind (k + 27) (t + 1) s' → Succeeds Q (rest s')) → (o : Option Start) → slice_index_or s.starts t None ≡ o →
+    Succeeds Q (unfold_task false t o s >>= rest)
 next_task t k a s Q rest h later few then None e = then s (a, has_more k (k + 27) a s (omega arith) h, λ c l. later c (omega arith))
 next_task t k a s Q rest h later few then (Some start) e =
     let b : Parts = record a { names = start.names } in
@@ -88,7 +90,8 @@ other_tasks (suc m) t k s h few =
 all_tasks : (m n : ℕ) → n < max_tasks → m < max_tasks → Succeeds (λ _. Unit {0}) (unfold_tasks false (suc m) 0 (opening_state (generated_body n)))
 unfolding unfold_tasks
 all_tasks m n few l =
-    and_then (Behind (5 * n + 6) 1) (λ _. Unit {0}) (unfold_task false 0 (Some (record { body = generated_body n; first = 1; names = λ _. None })) (opening_state (generated_body n))) (unfold_tasks false m 1)
+    and_then (Behind (5 * n + 6) 1) (λ _. Unit {0}) (unfold_task false 0 (Some (record { body = generated_body n; first = 1; names = λ _. None }))
+        (opening_state (generated_body n))) (unfold_tasks false m 1)
     (first_task n few) (λ s h. other_tasks m 1 (5 * n + 6) s h (omega arith))
 
 plan_from : (o : Outcome UnfoldingState) → Succeeds (λ _. Unit {0}) o → (plan : Plan) × ((o >>= λ s. Ok s.plan) ≡ Ok plan)

@@ -66,7 +66,8 @@ grouped : (n : ℕ) (rest : List ℕ) →
     ≡ before_number ++ (((number_line n ++ printed_at 1 draws) ++ indented_line 0 (codes "}")) ++ rest)
 grouped n rest =
     ap (λ (xs : List ℕ). before_number ++ xs)
-    (sym (append_assoc (number_line n ++ printed_at 1 draws) (indented_line 0 (codes "}")) rest ∙ append_assoc (number_line n) (printed_at 1 draws) (indented_line 0 (codes "}") ++ rest)))
+    (sym (append_assoc (number_line n ++ printed_at 1 draws) (indented_line 0 (codes "}")) rest ∙
+        append_assoc (number_line n) (printed_at 1 draws) (indented_line 0 (codes "}") ++ rest)))
 
 eight : decimal 8 ≡ codes "8"
 unfolding digits
@@ -117,4 +118,5 @@ shallow n = omega (arith, low (n % 3 == 0))
 
 -- the text is that of the program
 pub is_text : (n : ℕ) → n ≤ MAX_NUMBER → IsText (generated_text n) (generated_program n)
-is_text n l = subst (λ (text : List ℕ). IsText text (generated_program n)) (sym (printed_is n (n % 3 == 0) refl)) (prints_text (generated_program n) (record { tree = writable n l; here = λ _. all_here n (n % 3 == 0) }) (shallow n))
+is_text n l = subst (λ (text : List ℕ). IsText text (generated_program n)) (sym (printed_is n (n % 3 == 0) refl))
+    (prints_text (generated_program n) (record { tree = writable n l; here = λ _. all_here n (n % 3 == 0) }) (shallow n))

@@ -18,7 +18,8 @@ Succeeds P (Ok s) = P s
 Succeeds P (Err f) = ⊥
 
 -- one after the other
-pub and_then : (P Q : UnfoldingState → Type 0) (o : Outcome UnfoldingState) (f : UnfoldingState → Outcome UnfoldingState) → Succeeds P o → ((s : UnfoldingState) → P s → Succeeds Q (f s)) → Succeeds Q (o >>= f)
+pub and_then : (P Q : UnfoldingState → Type 0) (o : Outcome UnfoldingState) (f : UnfoldingState → Outcome UnfoldingState) → Succeeds P o →
+    ((s : UnfoldingState) → P s → Succeeds Q (f s)) → Succeeds Q (o >>= f)
 and_then P Q (Ok s) f h k = k s h
 and_then P Q (Err e) f h k = absurd h
 
@@ -109,11 +110,13 @@ unfolding make_visits
 no_visit P t s h = h
 
 module _ (P Q : UnfoldingState → Type 0) (t : ℕ) (s : UnfoldingState) where
-  pub comes : (m : Visit) (ms : List Visit) → Succeeds P (make_visit t m s) → ((s' : UnfoldingState) → P s' → Succeeds Q (make_visits t ms s')) → Succeeds Q (make_visits t (m ∷ ms) s)
+  pub comes : (m : Visit) (ms : List Visit) → Succeeds P (make_visit t m s) → ((s' : UnfoldingState) → P s' → Succeeds Q (make_visits t ms s')) →
+      Succeeds Q (make_visits t (m ∷ ms) s)
   unfolding make_visits
   comes m ms h k = and_then P Q (make_visit t m s) (make_visits t ms) h k
 
-  pub both : (ms more : List Visit) → Succeeds P (make_visits t ms s) → ((s' : UnfoldingState) → P s' → Succeeds Q (make_visits t more s')) → Succeeds Q (make_visits t (ms ++ more) s)
+  pub both : (ms more : List Visit) → Succeeds P (make_visits t ms s) → ((s' : UnfoldingState) → P s' → Succeeds Q (make_visits t more s')) →
+      Succeeds Q (make_visits t (ms ++ more) s)
   both ms more h k = subst (Succeeds Q) (sym (make_visits-append t ms more s)) (and_then P Q (make_visits t ms s) (make_visits t more) h k)
 
 -- the turns of a loop

@@ -25,7 +25,8 @@ module _ (plan : Plan) (tasks : List Task) (table : PhaseTable) (kept : KeepsSta
       go None e = absurd (let some = slice_get-get_or (code_of plan t) task.op (Await (record { 0 = 0 }) Here) l in cc)
       go (Some op) e = (op, e)
 
-  below_next : (b : Bool) (o : Option Event) → task.place.refused ≡ b → task.event ≡ o → task.op < length (code_of plan t) → task.place.events < actions_before (code_of plan t) (suc task.op)
+  below_next : (b : Bool) (o : Option Event) → task.place.refused ≡ b → task.event ≡ o → task.op < length (code_of plan t) →
+      task.place.events < actions_before (code_of plan t) (suc task.op)
   below_next true o r e l =
       let op = op_here l in
       let more = actions_before-suc (code_of plan t) task.op op.0 op.1 in

@@ -15,9 +15,6 @@ use Rattle.pl_core.specs.inside.Reading.{is_asked}
 use Rattle.pl_core.specs.inside.Supposed.{with_also}
 use Rattle.pl_core.proofs.Cells.{slice_get-set_same, slice_get-set_other}
 
-pub list_below_more : {A : Type 0} (f : ℕ → A) (n : ℕ) (x : A) (xs : List A) → xs ≡ list_below f n → x ≡ f n → xs ++ x ∷ [] ≡ list_below f (n + 1)
-list_below_more f n x xs e h = ap (λ ys. ys ++ x ∷ []) e ∙ ap (λ y. list_below f n ++ y ∷ []) h ∙ ap (list_below f) (sym (add-one n))
-
 pub given_below_more : {A : Type 0} (f : ℕ → Option A) (n : ℕ) (x : A) (xs : List A) → xs ≡ given_below f n → f n ≡ Some x → xs ++ x ∷ [] ≡ given_below f (n + 1)
 given_below_more f n x xs e h = ap (λ ys. ys ++ x ∷ []) e ∙ ap (λ o. given_below f n ++ option_to_list o) (sym h) ∙ ap (given_below f) (sym (add-one n))
 
@@ -43,23 +40,6 @@ status_some plan s asked t e phases p same =
 pub status_none : (plan : Plan) (s : State) (asked : ℕ → Bool) (t : ℕ) → s.published t ≡ None → status_of plan s asked t ≡ None
 status_none plan s asked t p =
     ap (option_map (λ f. record { t = record { 0 = t }; event = f; phases = given_below (listed_phase asked (s.phases t)) (length plan.makers) })) p
-
--- a listed phase
-pub listed_some : (asked : ℕ → Bool) (m : Phases) (p n : ℕ) → asked p ≡ true → m p ≡ Some n → listed_phase asked m p ≡ Some (record { p = record { 0 = p }; n = n })
-listed_some asked m p n a e =
-    ap (λ b. if b then option_map (λ k. record { p = record { 0 = p }; n = k }) (m p) else None) a
-    ∙ ap (option_map (λ k. record { p = record { 0 = p }; n = k })) e
-
-pub listed_none : (asked : ℕ → Bool) (m : Phases) (p : ℕ) → m p ≡ None → listed_phase asked m p ≡ None
-listed_none asked m p e =
-    ap (λ o. if asked p then option_map (λ k. record { p = record { 0 = p }; n = k }) o else None) e ∙ both (asked p) None
-  where
-    both : (b : Bool) (n : Option Member) → (if b then n else n) ≡ n
-    both true n = refl
-    both false n = refl
-
-pub listed_unasked : (asked : ℕ → Bool) (m : Phases) (p : ℕ) → asked p ≡ false → listed_phase asked m p ≡ None
-listed_unasked asked m p a = ap (λ b. if b then option_map (λ k. record { p = record { 0 = p }; n = k }) (m p) else None) a
 
 -- to suppose that a task is published changes no phases
 pub phases_also : (s : State) (also : Option (TaskId × Event)) → (with_also s also).phases ≡ s.phases

@@ -82,7 +82,8 @@ set_there [] k v e = refl
 set_there (x ∷ xs) zero v e = ap (λ y. y ∷ xs) (let is : v ≡ x = (cc) in is)
 set_there (x ∷ xs) (suc k) v e = ap (λ ys. x ∷ ys) (set_there xs k v e)
 
-module _ (plan : Plan) (tasks : List Task) (table : PhaseTable) (kept : KeepsState plan tasks table) (t : ℕ) (task : Task) (read : slice_get tasks t ≡ Some task) (active : IsActive (state_of (world_from plan tasks)) t) where
+module _ (plan : Plan) (tasks : List Task) (table : PhaseTable) (kept : KeepsState plan tasks table) (t : ℕ) (task : Task)
+    (read : slice_get tasks t ≡ Some task) (active : IsActive (state_of (world_from plan tasks)) t) where
   abbrev old : WorldValue
   old = world_from plan tasks
 
@@ -100,7 +101,8 @@ module _ (plan : Plan) (tasks : List Task) (table : PhaseTable) (kept : KeepsSta
     own_op : (op : Op) × slice_get (code_of plan t) task.op ≡ Some op × action_of op ≡ x
     own_op = some_of action_of (slice_get (code_of plan t) task.op) x (sym (next_of_idle plan tasks table kept t task read no_event) ∙ next)
 
-    own_after : (after (state_of old) t x).forked t ≡ (state_of old).forked t → (after (state_of old) t x).published t ≡ None → IsKeptOf plan (after (state_of old) t x) t (after_op task)
+    own_after : (after (state_of old) t x).forked t ≡ (state_of old).forked t → (after (state_of old) t x).published t ≡ None →
+        IsKeptOf plan (after (state_of old) t x) t (after_op task)
     own_after forked published =
         let k = of_task plan tasks table kept t task read in
         let flag_is = flag plan tasks table kept t task read x next legal in
@@ -182,7 +184,8 @@ module _ (plan : Plan) (tasks : List Task) (table : PhaseTable) (kept : KeepsSta
       same_places : kept_places (set with_child t (after_op task)) ≡ set (kept_places tasks) t (further task.place)
       same_places =
           map-set (λ (k : Task). k.place) with_child t (after_op task)
-          ∙ ap (λ ps. set ps t (further task.place)) (map-set (λ (k : Task). k.place) tasks c (after_fork child) ∙ set_there (kept_places tasks) c child.place (standing_there tasks c child child_read))
+          ∙ ap (λ ps. set ps t (further task.place)) (map-set (λ (k : Task). k.place) tasks c (after_fork child) ∙
+              set_there (kept_places tasks) c child.place (standing_there tasks c child child_read))
 
       kept_child : IsKeptOf plan (after (state_of old) t (Forks c)) c (after_fork child)
       kept_child =
@@ -198,7 +201,8 @@ module _ (plan : Plan) (tasks : List Task) (table : PhaseTable) (kept : KeepsSta
       each u k e =
           elim (cases_eq u t) [
             | inl same ↦
-                let is : after_op task ≡ k = (let one = slice_get-set_same with_child t (after_op task) (slice_get_within with_child t task read_after) in let two = subst (λ v. slice_get (set with_child t (after_op task)) v ≡ Some k) same e in cc) in
+                let is : after_op task ≡ k = (let one = slice_get-set_same with_child t (after_op task) (slice_get_within with_child t task read_after) in
+                        let two = subst (λ v. slice_get (set with_child t (after_op task)) v ≡ Some k) same e in cc) in
                 subst (λ v. IsKeptOf plan (after (state_of old) t (Forks c)) v k) (sym same)
                 (subst (IsKeptOf plan (after (state_of old) t (Forks c)) t) is
                 (own_after (Forks c) next (λ p b. absurd (cc)) (updated_other (state_of old).forked c t true other) active.unpublished))
@@ -206,7 +210,8 @@ module _ (plan : Plan) (tasks : List Task) (table : PhaseTable) (kept : KeepsSta
                 let there : slice_get with_child u ≡ Some k = sym (slice_get-set_other with_child t u (after_op task) apart) ∙ e in
                 elim (cases_eq u c) [
                   | inl same ↦
-                      let is : after_fork child ≡ k = (let one = slice_get-set_same tasks c (after_fork child) child_here in let two = subst (λ v. slice_get with_child v ≡ Some k) same there in cc) in
+                      let is : after_fork child ≡ k = (let one = slice_get-set_same tasks c (after_fork child) child_here in
+                              let two = subst (λ v. slice_get with_child v ≡ Some k) same there in cc) in
                       subst (λ v. IsKeptOf plan (after (state_of old) t (Forks c)) v k) (sym same)
                       (subst (IsKeptOf plan (after (state_of old) t (Forks c)) c) is kept_child)
                   | inr away ↦

@@ -80,17 +80,6 @@ module _ (w : WorldValue) (checked : IsCheckedPlan w.plan) (reach : IsReachable 
   goes_on t (Waits e) so =
       (λ enabled. reached_when_legal t e enabled.0 so enabled.2, λ reached. (Passes e.p.0, passes_when_waiting t e so, legal_when_reached t e so reached))
 
-  -- whoever goes on and neither waits nor stands at an await is ready
-  pub is_ready_else :
-      (t : ℕ) (stand : Stand) → StandsSo w t stand → MayGoOn (state_of w) stand →
-      ((e : Event) → stand ≡ Await e → ⊥) → ((e : Event) → stand ≡ Waits e → ⊥) → IsBeforeOp w t
-  is_ready_else t Unforked so h a b = absurd h
-  is_ready_else t Done so h a b = absurd h
-  is_ready_else t (Refused e) so h a b = absurd h
-  is_ready_else t Ready so h a b = so
-  is_ready_else t (Await e) so h a b = absurd (a e refl)
-  is_ready_else t (Waits e) so h a b = absurd (b e refl)
-
   -- a waiting task is a member of its event's phaser
   pub member_when_waiting : (t : ℕ) (e : Event) → (state_of w).published t ≡ Some e → IsMember (state_of w) t e.p.0
   unfolding state_of

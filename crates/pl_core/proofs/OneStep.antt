@@ -65,7 +65,9 @@ kept_of_other plan s t u x task n f k =
       events = k.events;
     }
 
-module _ (plan : Plan) (tasks : List Task) (table : PhaseTable) (kept : KeepsState plan tasks table) (t : ℕ) (task : Task) (read : slice_get tasks t ≡ Some task) (x : Action) (next : action_by_code (world_from plan tasks) t ≡ Some x) (legal : IsLegal plan (state_of (world_from plan tasks)) t x) where
+module _ (plan : Plan) (tasks : List Task) (table : PhaseTable) (kept : KeepsState plan tasks table) (t : ℕ) (task : Task)
+    (read : slice_get tasks t ≡ Some task) (x : Action) (next : action_by_code (world_from plan tasks) t ≡ Some x)
+    (legal : IsLegal plan (state_of (world_from plan tasks)) t x) where
   abbrev old : WorldValue
   old = world_from plan tasks
 
@@ -139,7 +141,9 @@ module _ (plan : Plan) (tasks : List Task) (table : PhaseTable) (kept : KeepsSta
         state = state_is;
       }
 
-  module _ (tasks' : List Task) (table' : PhaseTable) (same_places : kept_places tasks' ≡ set (kept_places tasks) t (further task.place)) (rows : table'.tasks ≡ table.tasks) (columns : table'.phasers ≡ table.phasers) (phases : phases_in table' ≡ (after (state_of old) t x).phases) (one_each : length tasks' ≡ length tasks) (each : (u : ℕ) (k : Task) → slice_get tasks' u ≡ Some k → IsKeptOf plan (after (state_of old) t x) u k) where
+  module _ (tasks' : List Task) (table' : PhaseTable) (same_places : kept_places tasks' ≡ set (kept_places tasks) t (further task.place))
+      (rows : table'.tasks ≡ table.tasks) (columns : table'.phasers ≡ table.phasers) (phases : phases_in table' ≡ (after (state_of old) t x).phases)
+      (one_each : length tasks' ≡ length tasks) (each : (u : ℕ) (k : Task) → slice_get tasks' u ≡ Some k → IsKeptOf plan (after (state_of old) t x) u k) where
     seen : world_from plan tasks' ≡ new
     seen = ap (λ ps. record { plan = plan; places = ps }) same_places
 
@@ -170,7 +174,8 @@ module _ (plan : Plan) (tasks : List Task) (table : PhaseTable) (kept : KeepsSta
     each_set u k e =
         elim (cases_eq u t) [
           | inl same ↦
-              let is : task' ≡ k = (let one = slice_get-set_same tasks t task' (slice_get_within tasks t task read) in let two = subst (λ v. slice_get (set tasks t task') v ≡ Some k) same e in cc) in
+              let is : task' ≡ k = (let one = slice_get-set_same tasks t task' (slice_get_within tasks t task read) in
+                      let two = subst (λ v. slice_get (set tasks t task') v ≡ Some k) same e in cc) in
               subst (λ v. IsKeptOf plan (after (state_of old) t x) v k) (sym same) (subst (IsKeptOf plan (after (state_of old) t x) t) is own)
           | inr other ↦
               kept_of_other plan (state_of old) t u x k other (no_fork u) (kept.each u k (sym (slice_get-set_other tasks t u task' other) ∙ e))

@@ -82,7 +82,8 @@ module _ (plan : Plan) (checked : IsCheckedPlan plan) where
   kept_first n t task e =
       elim (cases_eq t 0) [
         | inl z ↦
-            let within : t < length (replicate n unbegun) = (let l = slice_get_within (opening_tasks n) t task e in let s = length-set (replicate n unbegun) 0 (record unbegun { forked = true }) in omega arith) in
+            let within : t < length (replicate n unbegun) = (let l = slice_get_within (opening_tasks n) t task e in
+                    let s = length-set (replicate n unbegun) 0 (record unbegun { forked = true }) in omega arith) in
             let is : record unbegun { forked = true } ≡ task =
             (let one = slice_get-set_same (replicate n unbegun) 0 (record unbegun { forked = true }) (omega arith) in
             let two : slice_get (opening_tasks n) 0 ≡ Some task = subst (λ v. slice_get (opening_tasks n) v ≡ Some task) z e in cc) in
@@ -92,7 +93,8 @@ module _ (plan : Plan) (checked : IsCheckedPlan plan) where
             subst (IsKeptOf plan opening t) (sym is) (kept_unbegun t false (not_zero t other))
       ]
 
-  module _ (tasks : List Task) (table : PhaseTable) (tasks_are : tasks ≡ opening_tasks (length plan.parents)) (rows : table.tasks ≡ length plan.parents) (columns : table.phasers ≡ length plan.makers) (empty : phases_in table ≡ (λ _ _. None)) where
+  module _ (tasks : List Task) (table : PhaseTable) (tasks_are : tasks ≡ opening_tasks (length plan.parents)) (rows : table.tasks ≡ length plan.parents)
+      (columns : table.phasers ≡ length plan.makers) (empty : phases_in table ≡ (λ _ _. None)) where
     seen : world_from plan tasks ≡ first_world
     seen = ap (world_from plan) tasks_are ∙ opening_seen
 
@@ -107,7 +109,8 @@ module _ (plan : Plan) (checked : IsCheckedPlan plan) where
         record {
           checked = checked;
           reachable = subst (λ w. IsReachable plan (places_of w)) (sym seen) (subst (IsReachable plan) (sym (first_places plan (length plan.parents))) reach);
-          one_each = ap length tasks_are ∙ length-set (replicate (length plan.parents) unbegun) 0 (record unbegun { forked = true }) ∙ length-replicate (length plan.parents) unbegun;
+          one_each = ap length tasks_are ∙ length-set (replicate (length plan.parents) unbegun) 0 (record unbegun { forked = true }) ∙
+              length-replicate (length plan.parents) unbegun;
           rows = rows;
           columns = columns;
           phases = empty ∙ ap (λ s. s.phases) (sym state_seen);

@@ -42,7 +42,8 @@ module _ (plan : Plan) (checked : IsCheckedPlan plan) where
   own_within t first zero p n e = first p n e
   own_within t first (suc k) p n e = by_action (action_at plan t k) refl (own_within t first k) e
     where
-      by_action : (o : Option Action) → action_at plan t k ≡ o → ((p n : ℕ) → phases_after plan t k p ≡ Some n → p < length plan.makers) → own_step o (phases_after plan t k) p ≡ Some n → p < length plan.makers
+      by_action : (o : Option Action) → action_at plan t k ≡ o → ((p n : ℕ) → phases_after plan t k p ≡ Some n → p < length plan.makers) →
+          own_step o (phases_after plan t k) p ≡ Some n → p < length plan.makers
       by_action None is before e = before p n e
       by_action (Some (Makes q)) is before e = elim (updated_is (phases_after plan t k) q p (Some 0) (Some n) e) [
         | inl w ↦ subst (λ v. v < length plan.makers) (sym w.0) (phaser_within plan t q (checked.codes.well_formed t k (Makes q) is).0)

@@ -33,7 +33,8 @@ dropped_below m q r l = go (m r) refl
         kept_below (members_below m q) r m
         (let more = members_below_more m (suc r) q (omega arith) in let one = members_below-suc m r n e in omega arith)
 
-module _ (plan : Plan) (checked : IsCheckedPlan plan) (a : ℕ → Place) (t : ℕ) (aim : Aim) (active : IsActive (state_at plan a) t) (undropped : (a t).dropped ≡ None) (next : action_at plan t (a t).done ≡ Some (Blocks aim)) (legal : IsLegal plan (state_at plan a) t (Blocks aim)) where
+module _ (plan : Plan) (checked : IsCheckedPlan plan) (a : ℕ → Place) (t : ℕ) (aim : Aim) (active : IsActive (state_at plan a) t)
+    (undropped : (a t).dropped ≡ None) (next : action_at plan t (a t).done ≡ Some (Blocks aim)) (legal : IsLegal plan (state_at plan a) t (Blocks aim)) where
   abbrev own : Phases
   own = phases_after plan t (a t).done
 

@@ -34,7 +34,8 @@ pub standing_there : (tasks : List Task) (t : ℕ) (task : Task) → slice_get t
 standing_there tasks t task e = slice_get-map (λ x. x.place) tasks t ∙ ap (option_map (λ x. x.place)) e
 
 -- an action of a code, by the op
-pub action_of_op : (plan : Plan) (t k n : ℕ) → k ≤ length (code_of plan t) → n ≡ actions_before (code_of plan t) k → action_at plan t n ≡ option_map action_of (slice_get (code_of plan t) k)
+pub action_of_op : (plan : Plan) (t k n : ℕ) → k ≤ length (code_of plan t) → n ≡ actions_before (code_of plan t) k →
+    action_at plan t n ≡ option_map action_of (slice_get (code_of plan t) k)
 unfolding action_at actions
 action_of_op plan t k n l e = ap (action_at plan t) e ∙ action_before (code_of plan t) k l
 

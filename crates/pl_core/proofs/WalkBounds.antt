@@ -9,7 +9,8 @@ use Rattle.pl_core.specs.inside.Reachable.{AreReachable}
 use Rattle.pl_core.specs.Worlds.{places_at}
 use Rattle.pl_core.proofs.Standing.{place_is}
 
-module _ (plan : Plan) (checked : IsCheckedPlan plan) (places : List KeptPlace) (given : AreReachable plan places) (t : ℕ) (place : KeptPlace) (at_place : slice_get places t ≡ Some place) where
+module _ (plan : Plan) (checked : IsCheckedPlan plan) (places : List KeptPlace) (given : AreReachable plan places) (t : ℕ) (place : KeptPlace)
+    (at_place : slice_get places t ≡ Some place) where
   pub done_given : (places_at plan places t).done ≡ place.events
   done_given = ap (λ v. v.done) (place_is plan places t place at_place)
 

@@ -26,7 +26,9 @@ use Rattle.pl_core.proofs.Opening.{kept_first}
 use Rattle.pl_core.proofs.Walking.{walked_below, walked_from}
 
 -- before any task
-module _ (plan : Plan) (checked : IsCheckedPlan plan) (places : List KeptPlace) (tasks : List Task) (table : PhaseTable) (tasks_are : tasks ≡ opening_tasks (length plan.parents)) (rows : table.tasks ≡ length plan.parents) (columns : table.phasers ≡ length plan.makers) (empty : phases_in table ≡ (λ _ _. None)) where
+module _ (plan : Plan) (checked : IsCheckedPlan plan) (places : List KeptPlace) (tasks : List Task) (table : PhaseTable)
+    (tasks_are : tasks ≡ opening_tasks (length plan.parents)) (rows : table.tasks ≡ length plan.parents) (columns : table.phasers ≡ length plan.makers)
+    (empty : phases_in table ≡ (λ _ _. None)) where
   state_first : opening ≡ state_at plan (walked (places_at plan places) 0)
   state_first = opening_fixed plan checked ∙ ap (state_at plan) (fun_ext (λ u. sym (walked_from (places_at plan places) 0 u (omega arith))))
 
@@ -55,7 +57,8 @@ standings_are (x ∷ xs) (y ∷ ys) l h =
     ap (λ p. p ∷ kept_places xs) same ∙ ap (λ ps. y ∷ ps) (standings_are xs ys (omega arith) (λ u task e. h (suc u) task e))
 
 -- behind all tasks
-module _ (plan : Plan) (places : List KeptPlace) (given : AreReachable plan places) (tasks : List Task) (table : PhaseTable) (walk : HasWalked plan places (walked (places_at plan places) (length plan.parents)) (length plan.parents) tasks table) where
+module _ (plan : Plan) (places : List KeptPlace) (given : AreReachable plan places) (tasks : List Task) (table : PhaseTable)
+    (walk : HasWalked plan places (walked (places_at plan places) (length plan.parents)) (length plan.parents) tasks table) where
   abbrev a : ℕ → Place
   a = places_at plan places
 

@@ -57,7 +57,9 @@ counted_false false k n e h = omega arith
 abbrev pub cleared : Bool → (ℕ → Phases) → ℕ → ℕ → Phases
 cleared b f t = if b then updated f t (λ _. None) else f
 
-module _ (plan : Plan) (checked : IsCheckedPlan plan) (places : List KeptPlace) (given : AreReachable plan places) (t : ℕ) (place : KeptPlace) (at_place : slice_get places t ≡ Some place) (stop : Stop) (stops : IsStopOf (code_of plan t) (places_at plan places t).done stop) (tasks : List Task) (table : PhaseTable) (walk : HasWalked plan places (walking (places_at plan places) t (actions_before (code_of plan t) stop.op)) t tasks table) where
+module _ (plan : Plan) (checked : IsCheckedPlan plan) (places : List KeptPlace) (given : AreReachable plan places) (t : ℕ) (place : KeptPlace)
+    (at_place : slice_get places t ≡ Some place) (stop : Stop) (stops : IsStopOf (code_of plan t) (places_at plan places t).done stop) (tasks : List Task)
+    (table : PhaseTable) (walk : HasWalked plan places (walking (places_at plan places) t (actions_before (code_of plan t) stop.op)) t tasks table) where
   abbrev a : ℕ → Place
   a = places_at plan places
 
@@ -171,7 +173,8 @@ module _ (plan : Plan) (checked : IsCheckedPlan plan) (places : List KeptPlace) 
     task = record { place = place; op = stop.op; event = event; forked = was.forked }
 
     -- at its place the phases and the forked tasks are those of the state
-    module _ (table' : PhaseTable) (rows : table'.tasks ≡ table.tasks) (columns : table'.phasers ≡ table.phasers) (phases : phases_in table' ≡ cleared place.refused (phases_in table) t) where
+    module _ (table' : PhaseTable) (rows : table'.tasks ≡ table.tasks) (columns : table'.phasers ≡ table.phasers)
+        (phases : phases_in table' ≡ cleared place.refused (phases_in table) t) where
       come :
           (b : ℕ → Place) → b ≡ walked a (suc t) → phases_in table' ≡ (state_at plan b).phases →
           ((c : ℕ) → forked_at plan (done_by (walking a t k)) c ≡ forked_at plan (done_by b) c) → IsPlaced plan places t task →

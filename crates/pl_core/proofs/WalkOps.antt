@@ -48,7 +48,8 @@ pub marked_is :
     (old : Task) × slice_get tasks u ≡ Some old × (task ≡ old ⊎ task ≡ after_fork old)
 marked_is tasks (Fork c) u task e = go (slice_get tasks c.0) refl e
   where
-    go : (o : Option Task) → slice_get tasks c.0 ≡ o → slice_get (with_forked tasks c.0 o) u ≡ Some task → (old : Task) × slice_get tasks u ≡ Some old × (task ≡ old ⊎ task ≡ after_fork old)
+    go : (o : Option Task) → slice_get tasks c.0 ≡ o → slice_get (with_forked tasks c.0 o) u ≡ Some task →
+        (old : Task) × slice_get tasks u ≡ Some old × (task ≡ old ⊎ task ≡ after_fork old)
     go None none e = (task, e, inl refl)
     go (Some child) is e =
         elim (cases_eq u c.0) [
@@ -130,7 +131,9 @@ module _ (plan : Plan) (checked : IsCheckedPlan plan) (places : List KeptPlace) 
         settled = walk.settled;
       }
 
-  module _ (tasks : List Task) (table : PhaseTable) (n : ℕ) (op : Op) (is : slice_get (code_of plan t) n ≡ Some op) (walk : HasWalked plan places (walking a t (actions_before (code_of plan t) n)) t tasks table) (few : actions_before (code_of plan t) n < (a t).done) where
+  module _ (tasks : List Task) (table : PhaseTable) (n : ℕ) (op : Op) (is : slice_get (code_of plan t) n ≡ Some op)
+      (walk : HasWalked plan places (walking a t (actions_before (code_of plan t) n)) t tasks table) (few : actions_before (code_of plan t) n < (a t).done)
+      where
     abbrev k : ℕ
     k = actions_before (code_of plan t) n
 
@@ -189,7 +192,8 @@ module _ (plan : Plan) (checked : IsCheckedPlan plan) (places : List KeptPlace) 
         go (Drop p) e = tt
         go (Await p off) e = tt
 
-    module _ (table' : PhaseTable) (rows : table'.tasks ≡ table.tasks) (columns : table'.phasers ≡ table.phasers) (phases : phases_in table' ≡ phases_moved (phases_in table) t (action_of op)) where
+    module _ (table' : PhaseTable) (rows : table'.tasks ≡ table.tasks) (columns : table'.phasers ≡ table.phasers)
+        (phases : phases_in table' ≡ phases_moved (phases_in table) t (action_of op)) where
       state_next : after (state_at plan (walking a t k)) t (action_of op) ≡ state_at plan (walking a t (suc k))
       state_next = stepped plan checked a given_consistent t k (omega arith) forked_there (action_of op) next (no_pass op)
 

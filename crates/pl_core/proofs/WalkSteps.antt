@@ -39,7 +39,8 @@ unpublished_before plan t k no_pass = go (published_after plan t k) refl
         absurd (no_pass e.p.0 (published_passes plan t k e h))
 
 -- task t, which is forked at the given places, has made k of its actions
-module _ (plan : Plan) (checked : IsCheckedPlan plan) (a : ℕ → Place) (consistent : IsConsistent plan a) (t k : ℕ) (few : k ≤ (a t).done) (forked : forked_at plan (done_by a) t ≡ true) where
+module _ (plan : Plan) (checked : IsCheckedPlan plan) (a : ℕ → Place) (consistent : IsConsistent plan a) (t k : ℕ) (few : k ≤ (a t).done)
+    (forked : forked_at plan (done_by a) t ≡ true) where
   abbrev here : ℕ → Place
   here = walking a t k
 

@@ -31,22 +31,6 @@ agrees a b h = record { more = h.0; same = h.1 }
 pub earlier_name : (a b : List (Bor (List ℕ))) (i : NameId) (x : List ℕ) → IsMore a b → IsNumberOfName (length a) (spelling a) i x → IsNumberOfName (length b) (spelling b) i x
 earlier_name a b i x h n = name_more (length a) (spelling a) (length b) (spelling b) i x (agrees a b h) n
 
--- one step that is a statement
-pub adds_step :
-    (a b : List (Bor (List ℕ))) (steps new : List Step) (step : Step) (s : Plain) → IsMore a b → IsNumbering (length b) (spelling b) → new ≡ steps ++ step ∷ [] →
-    IsStep (length b) (spelling b) step s → AddsSteps a b steps new (plain s done)
-adds_step a b steps new step s more distinct is h =
-    record {
-      names = more;
-      distinct = distinct;
-      added = (step ∷ [], is);
-      spelled =
-          subst (λ xs. IsSpelled (length b) (spelling b) xs (length steps) (plain s done) (length xs)) (sym is) (
-            subst (λ z. IsStep (length b) (spelling b) z s) (sym (get_or-append_seam steps step [] a_step.Skip)) h,
-            sym (length-append steps (step ∷ [])),
-          );
-    }
-
 -- where a body's steps end, behind one step
 body_end :
     (c : List (Bor (List ℕ))) (steps mid new : List Step) (step : Step) (after : ℕ) (body : Tree) → mid ≡ steps ++ step ∷ [] →
@@ -135,9 +119,6 @@ pub record Flattened (old_names names : List (Bor (List ℕ))) (old steps : List
   pub so_far : AddsSteps old_names names old steps (tree_of (take i items))
   pub room : length steps + count (tree_of (drop i items)) ≡ length old + count (tree_of items)
 
-pub flattened_first : (a : List (Bor (List ℕ))) (old : List Step) (items : List Stmt) → IsNumbering (length a) (spelling a) → Flattened a a old old items 0
-flattened_first a old items distinct = record { so_far = adds_nothing a old distinct; room = refl }
-
 pub flattened_more :
     (a b c : List (Bor (List ℕ))) (old mid new : List Step) (items : List Stmt) (i : ℕ) (q : Stmt) → i < length items → q ≡ get_or items i q →
     Flattened a b old mid items i → AddsSteps b c mid new (followed_by q done) → Flattened a c old new items (i + 1)
@@ -150,8 +131,3 @@ flattened_more a b c old mid new items i q l is h k =
           omega
           (arith, h.room, counts items i q l is, spelled_count (length c) (spelling c) new (length mid) (followed_by q done) (length new) k.spelled);
     }
-
-pub flattened_all :
-    (a b : List (Bor (List ℕ))) (old new : List Step) (items : List Stmt) (i : ℕ) → length items ≤ i → Flattened a b old new items i →
-    AddsSteps a b old new (tree_of items)
-flattened_all a b old new items i l h = subst (λ zs. AddsSteps a b old new (tree_of zs)) (take_all i items l) h.so_far

@@ -16,10 +16,13 @@ use Rattle.pl_plan.specs.inside.CheckerSteps.{thing_of, GivesChecker, checker_le
 use Rattle.pl_plan.proofs.Keeping.{length_padded, padded_same, things_same}
 use Rattle.pl_plan.proofs.Simulating as simulating
 
-keeps_begun_by : (k : Checker) → IsChecker k → (o : Option CheckerStart) → StartFits (length k.parents) (length k.makers) k.slot_count (length k.slots) k.steps o → Keeps k (with_start_things o k)
+keeps_begun_by : (k : Checker) → IsChecker k → (o : Option CheckerStart) →
+    StartFits (length k.parents) (length k.makers) k.slot_count (length k.slots) k.steps o → Keeps k (with_start_things o k)
 keeps_begun_by k f None h = simulating.keeps_itself k f
 keeps_begun_by k f (Some s) h = record {
-  fits = record { starts_many = f.starts_many; codes_many = f.codes_many; few = f.few; few_makers = f.few_makers; all = f.all; below = f.below; apart = f.apart; room = f.room; long = length_padded s.things h.short; now = things_same (length k.parents) (length k.makers) k.slot_count s.things (padded s.things) (padded_same s.things) h.things; later = f.later };
+  fits = record { starts_many = f.starts_many; codes_many = f.codes_many; few = f.few; few_makers = f.few_makers; all = f.all; below = f.below; apart = f.apart;
+      room = f.room; long = length_padded s.things h.short;
+      now = things_same (length k.parents) (length k.makers) k.slot_count s.things (padded s.things) (padded_same s.things) h.things; later = f.later };
   more = omega arith;
   steps = refl;
   slots = refl;
@@ -38,16 +41,19 @@ range_is first after s e =
     let p : ◌≡◌ {A = ℕ × ℕ} (first, after) (s.first, s.after) = cc in
     (ap (λ x. x.0) p, ap (λ x. x.1) p)
 
-ready_by : (k : Checker) (o : Option CheckerStart) (first after : ℕ) → StartFits (length k.parents) (length k.makers) k.slot_count (length k.slots) k.steps o → Some (first, after) ≡ range_of o → Ready (with_start_things o k) first after
+ready_by : (k : Checker) (o : Option CheckerStart) (first after : ℕ) → StartFits (length k.parents) (length k.makers) k.slot_count (length k.slots) k.steps o →
+    Some (first, after) ≡ range_of o → Ready (with_start_things o k) first after
 ready_by k None first after h e = absurd cc
 ready_by k (Some s) first after h e =
     let p = range_is first after s e in
     record {
       within = (let q = p.1 in omega (arith, h.within));
-      list = (h.list.0, h.list.1, subst (λ a. IsSpelled (length k.slots) h.list.0 k.steps first h.list.1 a) (sym p.1) (subst (λ a. IsSpelled (length k.slots) h.list.0 k.steps a h.list.1 s.after) (sym p.0) h.list.2));
+      list = (h.list.0, h.list.1, subst (λ a. IsSpelled (length k.slots) h.list.0 k.steps first h.list.1 a) (sym p.1)
+          (subst (λ a. IsSpelled (length k.slots) h.list.0 k.steps a h.list.1 s.after) (sym p.0) h.list.2));
     }
 
-pub ready : (k new : Checker) (t first after : ℕ) → IsChecker k → Some (first, after) ≡ range_of (slice_index_or k.starts t None) → new ≡ with_start_things (slice_index_or k.starts t None) k → Ready new first after
+pub ready : (k new : Checker) (t first after : ℕ) → IsChecker k → Some (first, after) ≡ range_of (slice_index_or k.starts t None) →
+    new ≡ with_start_things (slice_index_or k.starts t None) k → Ready new first after
 ready k new t first after f e is = subst (λ z. Ready z first after) (sym is) (ready_by k (slice_index_or k.starts t None) first after (f.later t) e)
 
 pub kept_begun : (k new : Checker) (t : ℕ) → IsChecker k → new ≡ with_start_things (slice_index_or k.starts t None) k → Keeps k new
@@ -163,13 +169,17 @@ module _ (old : Checker) (t n p : ℕ) (k : Checker) (inv : Leaving old t n p k)
 
 module _ (two : Bool) where
   -- no start
-  idle_by : (names : ℕ → List ℕ) (k : Checker) (s : UnfoldingState) (t : ℕ) (o : Option Start) (o' : Option CheckerStart) → MaybeStartShows names k.slots k.steps o o' → None ≡ range_of o' → ShowsState names k s → (s' : UnfoldingState) × (unfold_task two t o s ≡ Ok s') × ShowsState names (with_start_things o' k) s'
+  idle_by : (names : ℕ → List ℕ) (k : Checker) (s : UnfoldingState) (t : ℕ) (o : Option Start) (o' : Option CheckerStart) →
+      MaybeStartShows names k.slots k.steps o o' → None ≡ range_of o' → ShowsState names k s →
+      (s' : UnfoldingState) × (unfold_task two t o s ≡ Ok s') × ShowsState names (with_start_things o' k) s'
   idle_by names k s t None None m e h = (s, refl, h)
   idle_by names k s t (Some a) (Some b) m e h = absurd cc
   idle_by names k s t None (Some b) m e h = absurd m
   idle_by names k s t (Some a) None m e h = absurd m
 
-  pub idle : (names : ℕ → List ℕ) (k new : Checker) (s : UnfoldingState) (t : ℕ) → None ≡ range_of (slice_index_or k.starts t None) → new ≡ with_start_things (slice_index_or k.starts t None) k → ShowsState names k s → (s' : UnfoldingState) × (unfold_task two t (slice_index_or s.starts t None) s ≡ Ok s') × ShowsState names new s'
+  pub idle : (names : ℕ → List ℕ) (k new : Checker) (s : UnfoldingState) (t : ℕ) → None ≡ range_of (slice_index_or k.starts t None) →
+      new ≡ with_start_things (slice_index_or k.starts t None) k → ShowsState names k s →
+      (s' : UnfoldingState) × (unfold_task two t (slice_index_or s.starts t None) s ≡ Ok s') × ShowsState names new s'
   idle names k new s t e is h = subst (λ z. (s' : UnfoldingState) × (unfold_task two t (slice_index_or s.starts t None) s ≡ Ok s') × ShowsState names z s') (sym is)
       (idle_by names k s t (slice_index_or s.starts t None) (slice_index_or k.starts t None) (h.starts t) e h)
 
@@ -179,14 +189,16 @@ module _ (two : Bool) where
       (s : UnfoldingState) (tree : Tree) → IsSpelled (length k.slots) names k.steps first tree after → ShowsState names k s →
       Follows r (ended two t first (make_visits t (visits_of (first + 1) tree) s)) (ShowsState names new)
 
-  busy_by : (names : ℕ → List ℕ) (k new : Checker) (s : UnfoldingState) (t first after : ℕ) (r : Result (Unit {0}) PlanEnd) (o : Option Start) (o' : Option CheckerStart) → MaybeStartShows names k.slots k.steps o o' → Some (first, after) ≡ range_of o' → ShowsState names k s →
+  busy_by : (names : ℕ → List ℕ) (k new : Checker) (s : UnfoldingState) (t first after : ℕ) (r : Result (Unit {0}) PlanEnd) (o : Option Start)
+      (o' : Option CheckerStart) → MaybeStartShows names k.slots k.steps o o' → Some (first, after) ≡ range_of o' → ShowsState names k s →
       Walked names t r (with_start_things o' k) first after new → Follows r (unfold_task two t o s) (ShowsState names new)
   busy_by names k new s t first after r None None m e h w = absurd cc
   busy_by names k new s t first after r None (Some b) m e h w = absurd m
   busy_by names k new s t first after r (Some a) None m e h w = absurd m
   busy_by names k new s t first after r (Some a) (Some b) m e h w =
       let p = range_is first after b e in
-      let sp = subst (λ i. IsSpelled (length k.slots) names k.steps i a.body after) (sym p.0) (subst (λ i. IsSpelled (length k.slots) names k.steps b.first a.body i) (sym p.1) m.spelled) in
+      let sp = subst (λ i. IsSpelled (length k.slots) names k.steps i a.body after) (sym p.0)
+              (subst (λ i. IsSpelled (length k.slots) names k.steps b.first a.body i) (sym p.1) m.spelled) in
       let h' : ShowsState names (with_start_things (Some b) k) (with_names a.names s) = record {
         distinct = h.distinct;
         parents = h.parents;
@@ -204,10 +216,12 @@ module _ (two : Bool) where
       subst (λ i. Follows r (ended two t i (make_visits t (visits_of a.first a.body) (with_names a.names s))) (ShowsState names new)) before
       (subst (λ i. Follows r (ended two t first (make_visits t (visits_of i a.body) (with_names a.names s))) (ShowsState names new)) n (w (with_names a.names s) a.body sp h'))
 
-  pub busy : (names : ℕ → List ℕ) (k k1 new : Checker) (s : UnfoldingState) (t first after : ℕ) (r : Result (Unit {0}) PlanEnd) → Some (first, after) ≡ range_of (slice_index_or k.starts t None) → k1 ≡ with_start_things (slice_index_or k.starts t None) k → ShowsState names k s →
+  pub busy : (names : ℕ → List ℕ) (k k1 new : Checker) (s : UnfoldingState) (t first after : ℕ) (r : Result (Unit {0}) PlanEnd) →
+      Some (first, after) ≡ range_of (slice_index_or k.starts t None) → k1 ≡ with_start_things (slice_index_or k.starts t None) k → ShowsState names k s →
       Walked names t r k1 first after new → Follows r (unfold_task two t (slice_index_or s.starts t None) s) (ShowsState names new)
   busy names k k1 new s t first after r e is h w =
-      busy_by names k new s t first after r (slice_index_or s.starts t None) (slice_index_or k.starts t None) (h.starts t) e h (subst (λ z. Walked names t r z first after new) is w)
+      busy_by names k new s t first after r (slice_index_or s.starts t None) (slice_index_or k.starts t None) (h.starts t) e h
+          (subst (λ z. Walked names t r z first after new) is w)
 
   -- ---- all tasks
 
@@ -227,21 +241,21 @@ module _ (two : Bool) where
     pub within : t ≤ length k.parents
     pub all : (names : ℕ → List ℕ) (s : UnfoldingState) → ShowsState names old s → TasksLeft names t (unfold_tasks two max_tasks 0 s) k
 
-  pub tasks_start : (old : Checker) → IsChecker old → Tasked old 0 old
-  tasks_start old f = record { keeps = simulating.keeps_itself old f; within = omega arith; all = λ names s h. record { state = s; shows = h; same = refl } }
-
   module _ (old : Checker) (t : ℕ) (k : Checker) (inv : Tasked old t k) where
-    pub tasks_done : length k.parents ≤ t → (names : ℕ → List ℕ) (s : UnfoldingState) → ShowsState names old s → (s' : UnfoldingState) × (unfold_tasks two max_tasks 0 s ≡ Ok s') × ShowsState names k s'
+    pub tasks_done : length k.parents ≤ t → (names : ℕ → List ℕ) (s : UnfoldingState) → ShowsState names old s →
+        (s' : UnfoldingState) × (unfold_tasks two max_tasks 0 s ≡ Ok s') × ShowsState names k s'
     tasks_done le names s h =
         let l = inv.all names s h in
         (l.state, sym l.same ∙ none_left (max_tasks - t) t l.state (omega (arith, l.shows.starts_many, inv.keeps.fits.starts_many)), l.shows)
 
     module _ (lt : t < length k.parents) where
-      left_is : (s : UnfoldingState) → unfold_tasks two (max_tasks - t) t s ≡ (unfold_task two t (slice_index_or s.starts t None) s >>= unfold_tasks two (max_tasks - (t + 1)) (t + 1))
+      left_is : (s : UnfoldingState) → unfold_tasks two (max_tasks - t) t
+          s ≡ (unfold_task two t (slice_index_or s.starts t None) s >>= unfold_tasks two (max_tasks - (t + 1)) (t + 1))
       unfolding unfold_tasks
       left_is s = ap (λ n. unfold_tasks two n t s) (let e : max_tasks - t ≡ suc (max_tasks - (t + 1)) = omega (arith, inv.keeps.fits.few) in e)
 
-      pub tasks_on : (k2 : Checker) → Keeps k k2 → ((names : ℕ → List ℕ) (s : UnfoldingState) → ShowsState names k s → (s' : UnfoldingState) × (unfold_task two t (slice_index_or s.starts t None) s ≡ Ok s') × ShowsState names k2 s') → Tasked old (t + 1) k2
+      pub tasks_on : (k2 : Checker) → Keeps k k2 → ((names : ℕ → List ℕ) (s : UnfoldingState) → ShowsState names k s →
+          (s' : UnfoldingState) × (unfold_task two t (slice_index_or s.starts t None) s ≡ Ok s') × ShowsState names k2 s') → Tasked old (t + 1) k2
       tasks_on k2 keeps went = record {
         keeps = simulating.keeps_through old k k2 inv.keeps keeps;
         within = omega (arith, keeps.more);
@@ -251,9 +265,13 @@ module _ (two : Bool) where
             record { state = w.0; shows = w.2; same = sym (ap (λ o. o >>= unfold_tasks two (max_tasks - (t + 1)) (t + 1)) w.1) ∙ sym (left_is l.state) ∙ l.same };
       }
 
-      pub tasks_fail : (e : PlanEnd) (k2 kk : Checker) → ((names : ℕ → List ℕ) (s : UnfoldingState) → ShowsState names k s → Follows {A = Unit {0}} (Err e) (unfold_task two t (slice_index_or s.starts t None) s) (ShowsState names k2)) →
-          (r : Result (Unit {0}) PlanEnd) → r ≡ Err e → (names : ℕ → List ℕ) (s : UnfoldingState) → ShowsState names old s → Follows r (unfold_tasks two max_tasks 0 s) (ShowsState names kk)
+      pub tasks_fail : (e : PlanEnd) (k2 kk : Checker) →
+          ((names : ℕ → List ℕ) (s : UnfoldingState) → ShowsState names k s →
+          Follows {A = Unit {0}} (Err e) (unfold_task two t (slice_index_or s.starts t None) s) (ShowsState names k2)) →
+          (r : Result (Unit {0}) PlanEnd) → r ≡ Err e → (names : ℕ → List ℕ) (s : UnfoldingState) → ShowsState names old s →
+          Follows r (unfold_tasks two max_tasks 0 s) (ShowsState names kk)
       tasks_fail ends.NoMemory k2 kk went r is names s h = subst (λ z. Follows z (unfold_tasks two max_tasks 0 s) (ShowsState names kk)) (sym is) tt
       tasks_fail (ends.Check f) k2 kk went r is names s h =
           let l = inv.all names s h in
-          subst (λ z. Follows z (unfold_tasks two max_tasks 0 s) (ShowsState names kk)) (sym is) (sym l.same ∙ left_is l.state ∙ ap (λ o. o >>= unfold_tasks two (max_tasks - (t + 1)) (t + 1)) (went names l.state l.shows))
+          subst (λ z. Follows z (unfold_tasks two max_tasks 0 s) (ShowsState names kk)) (sym is)
+              (sym l.same ∙ left_is l.state ∙ ap (λ o. o >>= unfold_tasks two (max_tasks - (t + 1)) (t + 1)) (went names l.state l.shows))

@@ -31,7 +31,8 @@ module _ (s : UnfoldingState) (t : ℕ) (c : Coming) where
         | inr later ↦ rest r later
       ]
 
-  passes_by : (q : Row) (rows : List Row) (b : Bool) → q.fails s t c ≡ b → kind_or b q.kind (first_kind rows s t c) ≡ None → (first_kind rows s t c ≡ None → NoneFails rows) → NoneFails (q ∷ rows)
+  passes_by : (q : Row) (rows : List Row) (b : Bool) → q.fails s t c ≡ b → kind_or b q.kind (first_kind rows s t c) ≡ None →
+      (first_kind rows s t c ≡ None → NoneFails rows) → NoneFails (q ∷ rows)
   passes_by q rows true is e rest = absurd (cc)
   passes_by q rows false is e rest = one_more q rows is (rest e)
 
@@ -181,7 +182,8 @@ module _ (t n : ℕ) (s : UnfoldingState) where
       (o : Option Thing) (start : Start) →
       (as_task n o >>= λ c. unforked_child t n c s >>= λ _. add_op t n (op.Fork (task c)) (with_start c start s))
       ≡ answer n
-      (kind_or (is_none o) 1 (kind_or (is_phaser o || false) 2 (kind_or (not (drew s t (task_number o))) 5 (kind_or (is_forked s (task_number o)) 6 (kind_or (not ops_left) 9 None)))))
+      (kind_or (is_none o) 1 (kind_or (is_phaser o || false) 2
+          (kind_or (not (drew s t (task_number o))) 5 (kind_or (is_forked s (task_number o)) 6 (kind_or (not ops_left) 9 None)))))
       (with_code t (op.Fork (task (task_number o))) (with_start (task_number o) start s))
   fork_by None start = refl
   fork_by (Some (a_phaser p)) start = refl

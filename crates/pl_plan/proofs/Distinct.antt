@@ -11,7 +11,8 @@ use Rattle.std.proofs.lemmas.List.{get_or-map}
 use Rattle.pl_plan.specs.inside.Shows.{IsNumbering}
 use Rattle.pl_plan.specs.inside.Numbers.{spelling}
 
-pub spelling_at : (keys : List (Bor (List ℕ))) (i : ℕ) (k : Bor (List ℕ)) (name : List ℕ) → i < length keys → slice_get keys i ≡ Some k → bytes_eq name k.now ≡ true → spelling keys i ≡ name
+pub spelling_at : (keys : List (Bor (List ℕ))) (i : ℕ) (k : Bor (List ℕ)) (name : List ℕ) → i < length keys → slice_get keys i ≡ Some k →
+    bytes_eq name k.now ≡ true → spelling keys i ≡ name
 spelling_at keys i k name lt e same =
     get_or-map (λ (b : Bor (List ℕ)). b.now) keys i k [] lt ∙ ap (λ (b : Bor (List ℕ)). b.now) (get_or_from_slice_get keys i k k e) ∙ sym ((bytes_eq-Decides name k.now).0 same)
 

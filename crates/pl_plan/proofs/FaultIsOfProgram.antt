@@ -144,7 +144,8 @@ module _ (two : Bool) where
     stays_come a_loop part = h
     stays_come a_turn part = h
 
-  stays_then : (many : ℕ) (o : Outcome UnfoldingState) (f : UnfoldingState → Outcome UnfoldingState) → Stays many o → ((s : UnfoldingState) → ArePartsOf many s → Stays many (f s)) → Stays many (o >>= f)
+  stays_then : (many : ℕ) (o : Outcome UnfoldingState) (f : UnfoldingState → Outcome UnfoldingState) → Stays many o →
+      ((s : UnfoldingState) → ArePartsOf many s → Stays many (f s)) → Stays many (o >>= f)
   stays_then many (Ok s) f h k = k s h
   stays_then many (Err e) f h k = h
 

@@ -36,7 +36,8 @@ things_same a b n vs ws same h = record {
 }
 
 -- the things in the first n slots, where behind them is nothing
-pub taken_same : (vs : List Thing) (n : ℕ) → ((k : ℕ) → n ≤ k → slice_index_or vs k Nothing ≡ Nothing) → (k : ℕ) → slice_index_or (take n vs) k Nothing ≡ slice_index_or vs k Nothing
+pub taken_same : (vs : List Thing) (n : ℕ) → ((k : ℕ) → n ≤ k → slice_index_or vs k Nothing ≡ Nothing) → (k : ℕ) →
+    slice_index_or (take n vs) k Nothing ≡ slice_index_or vs k Nothing
 taken_same vs n free k = elim (cases_lt k n) [
   | inl lt ↦ get_or-take n vs k Nothing lt
   | inr le ↦ get_or_past (take n vs) k Nothing (omega (arith, length-take n vs)) ∙ sym (free k le)
@@ -60,7 +61,8 @@ padded_same vs k = elim (cases_lt k (length vs)) [
 pub length_padded : (vs : List Thing) → length vs ≤ max_tasks + max_phasers → length (padded vs) ≡ max_tasks + max_phasers
 length_padded vs le = omega (arith, length-append vs (replicate (max_tasks + max_phasers - length vs) Nothing), length-replicate (max_tasks + max_phasers - length vs) Nothing)
 
-pub start_more : (a b n a' b' n' m m' : ℕ) (steps : List Step) (o : Option CheckerStart) → a ≤ a' → b ≤ b' → n ≤ n' → m ≡ m' → StartFits a b n m steps o → StartFits a' b' n' m' steps o
+pub start_more : (a b n a' b' n' m m' : ℕ) (steps : List Step) (o : Option CheckerStart) → a ≤ a' → b ≤ b' → n ≤ n' → m ≡ m' → StartFits a b n m steps o →
+    StartFits a' b' n' m' steps o
 start_more a b n a' b' n' m m' steps None p q r e h = tt
 start_more a b n a' b' n' m m' steps (Some s) p q r e h = record {
   things = things_more a b n a' b' n' s.things p q r h.things;
@@ -113,7 +115,10 @@ fits_started k c first after within list f = record {
   room = f.room;
   long = f.long;
   now = f.now;
-  later = λ d. at_set (StartFits (length k.parents) (length k.makers) k.slot_count (length k.slots) k.steps) k.starts c (Some start) None d (λ e lt. record { things = things_same (length k.parents) (length k.makers) k.slot_count k.things (take k.slot_count k.things) (taken_same k.things k.slot_count f.now.free) f.now; short = omega (arith, length-take k.slot_count k.things, f.long); within = within; list = list }) (λ ne. f.later d) (λ le. tt);
+  later = λ d. at_set (StartFits (length k.parents) (length k.makers) k.slot_count (length k.slots) k.steps) k.starts c (Some start) None d
+      (λ e lt. record { things = things_same (length k.parents) (length k.makers) k.slot_count k.things (take k.slot_count k.things)
+      (taken_same k.things k.slot_count f.now.free) f.now; short = omega (arith, length-take k.slot_count k.things, f.long); within = within; list = list })
+      (λ ne. f.later d) (λ le. tt);
 }
   where
     start : CheckerStart
@@ -130,9 +135,12 @@ fits_task k t lt f = record {
   apart = f.apart;
   room = omega (arith, length-append k.parents (Some (record { 0 = t }) ∷ []), f.room);
   long = f.long;
-  now = things_more (length k.parents) (length k.makers) k.slot_count (length (with_task t k).parents) (length k.makers) k.slot_count k.things (omega (arith, length-append k.parents (Some (record { 0 = t }) ∷ []))) (omega arith) (omega arith) f.now;
+  now = things_more (length k.parents) (length k.makers) k.slot_count (length (with_task t k).parents) (length k.makers) k.slot_count k.things
+      (omega (arith, length-append k.parents (Some (record { 0 = t }) ∷ []))) (omega arith) (omega arith) f.now;
   later = λ c. subst (StartFits (length (with_task t k).parents) (length k.makers) k.slot_count (length k.slots) k.steps) (sym (at_more k.starts None c))
-      (start_more (length k.parents) (length k.makers) k.slot_count (length (with_task t k).parents) (length k.makers) k.slot_count (length k.slots) (length k.slots) k.steps (slice_index_or k.starts c None) (omega (arith, length-append k.parents (Some (record { 0 = t }) ∷ []))) (omega arith) (omega arith) refl (f.later c));
+      (start_more (length k.parents) (length k.makers) k.slot_count (length (with_task t k).parents) (length k.makers) k.slot_count (length k.slots)
+          (length k.slots) k.steps (slice_index_or k.starts c None) (omega (arith, length-append k.parents (Some (record { 0 = t }) ∷ []))) (omega arith)
+          (omega arith) refl (f.later c));
 }
 
 pub fits_maker : (k : Checker) (t : ℕ) → length k.makers < max_phasers → IsChecker k → IsChecker (with_maker t k)
@@ -146,8 +154,11 @@ fits_maker k t lt f = record {
   apart = f.apart;
   room = omega (arith, length-append k.makers (record { 0 = t } ∷ []), f.room);
   long = f.long;
-  now = things_more (length k.parents) (length k.makers) k.slot_count (length k.parents) (length (with_maker t k).makers) k.slot_count k.things (omega arith) (omega (arith, length-append k.makers (record { 0 = t } ∷ []))) (omega arith) f.now;
-  later = λ c. start_more (length k.parents) (length k.makers) k.slot_count (length k.parents) (length (with_maker t k).makers) k.slot_count (length k.slots) (length k.slots) k.steps (slice_index_or k.starts c None) (omega arith) (omega (arith, length-append k.makers (record { 0 = t } ∷ []))) (omega arith) refl (f.later c);
+  now = things_more (length k.parents) (length k.makers) k.slot_count (length k.parents) (length (with_maker t k).makers) k.slot_count k.things (omega arith)
+      (omega (arith, length-append k.makers (record { 0 = t } ∷ []))) (omega arith) f.now;
+  later = λ c. start_more (length k.parents) (length k.makers) k.slot_count (length k.parents) (length (with_maker t k).makers) k.slot_count (length k.slots)
+      (length k.slots) k.steps (slice_index_or k.starts c None) (omega arith) (omega (arith, length-append k.makers (record { 0 = t } ∷ []))) (omega arith) refl
+      (f.later c);
 }
 
 -- ---- a slot
@@ -164,13 +175,18 @@ fits_new_slot k x room f = record {
   all = f.all;
   below = λ y. at_set (λ v. v < k.slot_count + 1) k.slots x k.slot_count 0 y (λ e lt. omega arith) (λ ne. omega (arith, f.below y)) (λ le. omega arith);
   apart = λ y z. at_set (λ v. v ≡ slice_index_or (slice_set k.slots x k.slot_count) z 0 → 0 < v → y ≡ z) k.slots x k.slot_count 0 y
-      (λ e lt. at_set (λ w. k.slot_count ≡ w → 0 < k.slot_count → y ≡ z) k.slots x k.slot_count 0 z (λ e' _ _ _. omega arith) (λ ne q _. absurd (omega (arith, f.below z))) (λ le q r. absurd (omega arith)))
-      (λ ne. at_set (λ w. slot_of k y ≡ w → 0 < slot_of k y → y ≡ z) k.slots x k.slot_count 0 z (λ e' _ q _. absurd (omega (arith, f.below y))) (λ ne' q r. f.apart y z q r) (λ le q r. absurd (omega arith)))
+      (λ e lt. at_set (λ w. k.slot_count ≡ w → 0 < k.slot_count → y ≡ z) k.slots x k.slot_count 0 z (λ e' _ _ _. omega arith)
+          (λ ne q _. absurd (omega (arith, f.below z))) (λ le q r. absurd (omega arith)))
+      (λ ne. at_set (λ w. slot_of k y ≡ w → 0 < slot_of k y → y ≡ z) k.slots x k.slot_count 0 z (λ e' _ q _. absurd (omega (arith, f.below y)))
+          (λ ne' q r. f.apart y z q r) (λ le q r. absurd (omega arith)))
       (λ le q r. absurd (omega arith));
   room = omega arith;
   long = f.long;
-  now = things_more (length k.parents) (length k.makers) k.slot_count (length k.parents) (length k.makers) (k.slot_count + 1) k.things (omega arith) (omega arith) (omega arith) f.now;
-  later = λ c. start_more (length k.parents) (length k.makers) k.slot_count (length k.parents) (length k.makers) (k.slot_count + 1) (length k.slots) (length (slice_set k.slots x k.slot_count)) k.steps (slice_index_or k.starts c None) (omega arith) (omega arith) (omega arith) (sym (length-set k.slots x k.slot_count)) (f.later c);
+  now = things_more (length k.parents) (length k.makers) k.slot_count (length k.parents) (length k.makers) (k.slot_count + 1) k.things (omega arith)
+      (omega arith) (omega arith) f.now;
+  later = λ c. start_more (length k.parents) (length k.makers) k.slot_count (length k.parents) (length k.makers) (k.slot_count + 1) (length k.slots)
+      (length (slice_set k.slots x k.slot_count)) k.steps (slice_index_or k.starts c None) (omega arith) (omega arith) (omega arith)
+      (sym (length-set k.slots x k.slot_count)) (f.later c);
 }
 
 -- what a slotted name has
@@ -214,7 +230,8 @@ fits_thing x v k has inside f = record {
   later = f.later;
 }
 
-pub fits_binding : (x : ℕ) (v : Thing) (k : Checker) → x < length k.slots → k.slot_count < length k.parents + length k.makers → IsInside (length k.parents) (length k.makers) v → IsChecker k → IsChecker (with_binding x v k)
+pub fits_binding : (x : ℕ) (v : Thing) (k : Checker) → x < length k.slots → k.slot_count < length k.parents + length k.makers →
+    IsInside (length k.parents) (length k.makers) v → IsChecker k → IsChecker (with_binding x v k)
 fits_binding x v k here room inside f =
     let s = slotted_fits x k here room f in
     fits_thing x v (slotted x k) s.has (subst (λ n. IsInside (length n.parents) (length n.makers) v) (sym s.same) inside) s.fits

@@ -16,11 +16,9 @@ use Rattle.pl_plan.proofs.Spelled.{spelled_count}
 use Rattle.pl_plan.proofs.Walks.{make_visits-append, simulates_acting, keeps_acting, names_of, On, Failed, simulates_ok, simulates_err, keeps_ok, IsPlain, plain_at, fork_at, loop_at, ForkAt, LoopAt}
 use Rattle.pl_plan.proofs.Turns.{turn}
 
-pub respell : (a b : Checker) (names : ℕ → List ℕ) (i : ℕ) (tree : Tree) (to : ℕ) → Keeps a b → IsSpelled (length a.slots) names a.steps i tree to → IsSpelled (length b.slots) names b.steps i tree to
+pub respell : (a b : Checker) (names : ℕ → List ℕ) (i : ℕ) (tree : Tree) (to : ℕ) → Keeps a b → IsSpelled (length a.slots) names a.steps i tree to →
+    IsSpelled (length b.slots) names b.steps i tree to
 respell a b names i tree to h e = subst (λ z. IsSpelled (length b.slots) names z i tree to) (sym h.steps) (subst (λ z. IsSpelled z names a.steps i tree to) (sym h.slots) e)
-
-pub unspell : (a b : Checker) (names : ℕ → List ℕ) (i : ℕ) (tree : Tree) (to : ℕ) → Keeps a b → IsSpelled (length b.slots) names b.steps i tree to → IsSpelled (length a.slots) names a.steps i tree to
-unspell a b names i tree to h e = subst (λ z. IsSpelled (length a.slots) names z i tree to) h.steps (subst (λ z. IsSpelled z names b.steps i tree to) h.slots e)
 
 pub count_keeps : (k k1 : Checker) (n : ℕ) → IsChecker k → checker_count n k ≡ Ok k1 → Keeps k k1
 count_keeps k k1 n f e = keeps_ok k (checker_count n k) k1 e (simulating.keeps_count k f n)
@@ -37,7 +35,8 @@ module _ (to t at : ℕ) (k : Checker) (f : IsChecker k) (run : t < length k.par
       first done sp' c = absurd (omega arith)
       first (plain q rest) sp' c = ap (λ o. (o >>= act t (at + 1) q) >>= make_visits t (visits_of (at + 1 + 1) rest)) c
       first (fork x body rest) sp' c = ap (λ o. (o >>= act_fork t (at + 1) x body) >>= make_visits t (visits_of (at + 1 + 1 + count body) rest)) c
-      first (loop i body rest) sp' c = ap (λ o. (o >>= λ z. Ok z) >>= make_visits t (times i (visit (at + 1) a_turn ∷ visits_of (at + 1 + 1) body) ++ visits_of (at + 1 + 1 + count body) rest)) c
+      first (loop i body rest) sp' c = ap (λ o. (o >>= λ z. Ok z) >>= make_visits t
+          (times i (visit (at + 1) a_turn ∷ visits_of (at + 1 + 1) body) ++ visits_of (at + 1 + 1 + count body) rest)) c
 
   module _ (k1 : Checker) (visited : checker_count (at + 1) k ≡ Ok k1) where
     k1_keeps : Keeps k k1
@@ -56,8 +55,10 @@ module _ (to t at : ℕ) (k : Checker) (f : IsChecker k) (run : t < length k.par
           let p = plain_at (length k.slots) list.0 k.steps at to list.1 list.2 lt is in
           subst (λ z. HasNames z (step_at k.steps at)) (sym k1_keeps.slots) (names_of (length k.slots) list.0 (step_at k.steps at) p.statement p.here)
 
-      act_sim : (names : ℕ → List ℕ) (s1 : UnfoldingState) (c : Plain) → ShowsState names k1 s1 → IsStep (length k.slots) names (step_at k.steps at) c → Simulates names (checker_act t (at + 1) (step_at k.steps at) k1) (act t (at + 1) c s1)
-      act_sim names s1 c h1 i = simulates_acting names k1 s1 k1_keeps.fits h1 t (at + 1) runs (step_at k.steps at) c (subst (λ z. IsStep z names (step_at k.steps at) c) (sym k1_keeps.slots) i)
+      act_sim : (names : ℕ → List ℕ) (s1 : UnfoldingState) (c : Plain) → ShowsState names k1 s1 → IsStep (length k.slots) names (step_at k.steps at) c →
+          Simulates names (checker_act t (at + 1) (step_at k.steps at) k1) (act t (at + 1) c s1)
+      act_sim names s1 c h1 i = simulates_acting names k1 s1 k1_keeps.fits h1 t (at + 1) runs (step_at k.steps at) c
+          (subst (λ z. IsStep z names (step_at k.steps at) c) (sym k1_keeps.slots) i)
 
       pub plain_on : (k2 : Checker) → checker_act t (at + 1) (step_at k.steps at) k1 ≡ Ok k2 → On (length k.slots) to t k.steps at k (at + 1) k2
       unfolding make_visits
@@ -65,7 +66,8 @@ module _ (to t at : ℕ) (k : Checker) (f : IsChecker k) (run : t < length k.par
         within = omega arith;
         forward = omega arith;
         list = (let p = plain_at (length k.slots) list.0 k.steps at to list.1 list.2 lt is in (list.0, p.rest, p.rest_there));
-        keeps = simulating.keeps_through k k1 k2 k1_keeps (keeps_ok k1 (checker_act t (at + 1) (step_at k.steps at) k1) k2 did (keeps_acting k1 k1_keeps.fits t (at + 1) (step_at k.steps at) plain_names));
+        keeps = simulating.keeps_through k k1 k2 k1_keeps
+            (keeps_ok k1 (checker_act t (at + 1) (step_at k.steps at) k1) k2 did (keeps_acting k1 k1_keeps.fits t (at + 1) (step_at k.steps at) plain_names));
         all = λ names s tree sp h.
             let p = plain_at (length k.slots) names k.steps at to tree sp lt is in
             let m = visited_state names s h in
@@ -102,17 +104,23 @@ module _ (to t at : ℕ) (k : Checker) (f : IsChecker k) (run : t < length k.par
           let e = k1_keeps.slots in
           (omega arith, omega arith, omega arith)
 
-      fork_sim : (names : ℕ → List ℕ) (s1 : UnfoldingState) (tree : Tree) → ShowsState names k1 s1 → (p : ForkAt (length k.slots) names k.steps at to x after tree) → Simulates names (checker_fork t (at + 1) x.0 after k1) (act_fork t (at + 1) p.name p.body s1)
+      fork_sim : (names : ℕ → List ℕ) (s1 : UnfoldingState) (tree : Tree) → ShowsState names k1 s1 →
+          (p : ForkAt (length k.slots) names k.steps at to x after tree) →
+          Simulates names (checker_fork t (at + 1) x.0 after k1) (act_fork t (at + 1) p.name p.body s1)
       fork_sim names s1 tree h1 p = subst (λ y. Simulates names (checker_fork t (at + 1) x.0 after k1) (act_fork t (at + 1) y p.body s1)) p.named.1
-          (simulating.simulates_fork names k1 s1 k1_keeps.fits h1 t (at + 1) runs x.0 after p.body (omega (arith, p.named.0, k1_keeps.slots)) (let e = ap (λ z. length z) k1_keeps.steps in omega (arith, fork_bounds.2)) (respell k k1 names (at + 1) p.body after k1_keeps p.body_there))
+          (simulating.simulates_fork names k1 s1 k1_keeps.fits h1 t (at + 1) runs x.0 after p.body (omega (arith, p.named.0, k1_keeps.slots))
+              (let e = ap (λ z. length z) k1_keeps.steps in omega (arith, fork_bounds.2)) (respell k k1 names (at + 1) p.body after k1_keeps p.body_there))
 
       fork_keeps : KeepsAll k1 (checker_fork t (at + 1) x.0 after k1)
-      fork_keeps = simulating.keeps_fork k1 k1_keeps.fits t (at + 1) x.0 after (let e = ap (λ z. length z) k1_keeps.steps in omega (arith, fork_bounds.2)) (list.0, some.body, respell k k1 list.0 (at + 1) some.body after k1_keeps some.body_there)
+      fork_keeps = simulating.keeps_fork k1 k1_keeps.fits t (at + 1) x.0 after (let e = ap (λ z. length z) k1_keeps.steps in
+          omega (arith, fork_bounds.2)) (list.0, some.body, respell k k1 list.0 (at + 1) some.body after k1_keeps some.body_there)
 
-      fork_visits : (names : ℕ → List ℕ) (tree : Tree) (p : ForkAt (length k.slots) names k.steps at to x after tree) → visits_of (at + 1) tree ≡ visit (at + 1) (a_fork p.name p.body) ∷ visits_of (after + 1) p.rest
+      fork_visits : (names : ℕ → List ℕ) (tree : Tree) (p : ForkAt (length k.slots) names k.steps at to x after tree) →
+          visits_of (at + 1) tree ≡ visit (at + 1) (a_fork p.name p.body) ∷ visits_of (after + 1) p.rest
       fork_visits names tree p =
           let b = spelled_count (length k.slots) names k.steps (at + 1) p.body after p.body_there in
-          ap (visits_of (at + 1)) p.tree_is ∙ ap (λ m. visit (at + 1) (a_fork p.name p.body) ∷ visits_of m p.rest) (let e : at + 1 + 1 + count p.body ≡ after + 1 = omega arith in e)
+          ap (visits_of (at + 1)) p.tree_is ∙ ap (λ m. visit (at + 1) (a_fork p.name p.body) ∷ visits_of m p.rest)
+              (let e : at + 1 + 1 + count p.body ≡ after + 1 = omega arith in e)
 
       pub fork_on : (k2 : Checker) → checker_fork t (at + 1) x.0 after k1 ≡ Ok k2 → On (length k.slots) to t k.steps at k after k2
       unfolding make_visits
@@ -158,7 +166,8 @@ module _ (to t at : ℕ) (k : Checker) (f : IsChecker k) (run : t < length k.par
       pub loop_list : IsList (length k1.slots) k1.steps (at + 1) after
       loop_list = (list.0, one.body, respell k k1 list.0 (at + 1) one.body after k1_keeps one.body_there)
 
-      loop_all : (names : ℕ → List ℕ) (tree : Tree) (s : UnfoldingState) (p : LoopAt (length k.slots) names k.steps at to i after tree) → (s1 : UnfoldingState) → count_visit (at + 1) s ≡ Ok s1 →
+      loop_all : (names : ℕ → List ℕ) (tree : Tree) (s : UnfoldingState) (p : LoopAt (length k.slots) names k.steps at to i after tree) →
+          (s1 : UnfoldingState) → count_visit (at + 1) s ≡ Ok s1 →
           make_visits t (visits_of (at + 1) tree) s ≡ (make_visits t (times i (turn at p.body)) s1 >>= make_visits t (visits_of (after + 1) p.rest))
       unfolding make_visits
       loop_all names tree s p s1 e =
@@ -171,7 +180,8 @@ module _ (to t at : ℕ) (k : Checker) (f : IsChecker k) (run : t < length k.par
           ∙ ap (λ m. make_visits t ms s1 >>= make_visits t (visits_of m p.rest)) n
 
       pub loop_on : (k2 : Checker) → Keeps k1 k2 →
-          ((names : ℕ → List ℕ) (s : UnfoldingState) (tree : Tree) → IsSpelled (length k1.slots) names k1.steps (at + 1) tree after → ShowsState names k1 s → (s' : UnfoldingState) × (make_visits t (times i (turn at tree)) s ≡ Ok s') × ShowsState names k2 s') →
+          ((names : ℕ → List ℕ) (s : UnfoldingState) (tree : Tree) → IsSpelled (length k1.slots) names k1.steps (at + 1) tree after → ShowsState names k1 s →
+          (s' : UnfoldingState) × (make_visits t (times i (turn at tree)) s ≡ Ok s') × ShowsState names k2 s') →
           On (length k.slots) to t k.steps at k after k2
       loop_on k2 keeps went = record {
         within = loop_bounds.1;
@@ -187,7 +197,8 @@ module _ (to t at : ℕ) (k : Checker) (f : IsChecker k) (run : t < length k.par
       }
 
       pub loop_fails : (err : CheckFault) →
-          ((names : ℕ → List ℕ) (s : UnfoldingState) (tree : Tree) → IsSpelled (length k1.slots) names k1.steps (at + 1) tree after → ShowsState names k1 s → make_visits t (times i (turn at tree)) s ≡ Err err) →
+          ((names : ℕ → List ℕ) (s : UnfoldingState) (tree : Tree) → IsSpelled (length k1.slots) names k1.steps (at + 1) tree after → ShowsState names k1 s →
+          make_visits t (times i (turn at tree)) s ≡ Err err) →
           Failed (length k.slots) to t k.steps at k err
       loop_fails err went names s tree sp h =
           let p = loop_at (length k.slots) names k.steps at to i after tree sp lt is in
@@ -197,8 +208,10 @@ module _ (to t at : ℕ) (k : Checker) (f : IsChecker k) (run : t < length k.par
           loop_all names tree s p m.0 m.1 ∙ ap (λ o. o >>= rest) w
 
 -- what is said at the lists of a later state holds at those of an earlier one
-pub on_same : (n n' to t : ℕ) (steps steps' : List Step) (at : ℕ) (k : Checker) (at' : ℕ) (k' : Checker) → n ≡ n' → steps ≡ steps' → On n to t steps at k at' k' → On n' to t steps' at k at' k'
+pub on_same : (n n' to t : ℕ) (steps steps' : List Step) (at : ℕ) (k : Checker) (at' : ℕ) (k' : Checker) → n ≡ n' → steps ≡ steps' →
+    On n to t steps at k at' k' → On n' to t steps' at k at' k'
 on_same n n' to t steps steps' at k at' k' p q h = subst (λ z. On z to t steps' at k at' k') p (subst (λ z. On n to t z at k at' k') q h)
 
-pub failed_same : (n n' to t : ℕ) (steps steps' : List Step) (at : ℕ) (k : Checker) (f : CheckFault) → n ≡ n' → steps ≡ steps' → Failed n to t steps at k f → Failed n' to t steps' at k f
+pub failed_same : (n n' to t : ℕ) (steps steps' : List Step) (at : ℕ) (k : Checker) (f : CheckFault) → n ≡ n' → steps ≡ steps' → Failed n to t steps at k f →
+    Failed n' to t steps' at k f
 failed_same n n' to t steps steps' at k f p q h = subst (λ z. Failed z to t steps' at k f) p (subst (λ z. Failed n to t z at k f) q h)

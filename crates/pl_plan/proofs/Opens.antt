@@ -20,7 +20,8 @@ use Rattle.pl_plan.specs.Planning.{GivesOutcome}
 use Rattle.pl_plan.specs.Unfolding.{UnfoldingState, Start, ◌>>=◌, opening_state, unfold_tasks, plan_of}
 use Rattle.pl_plan.specs.inside.Shows.{ShowsState, MaybeStartShows, StartShows, IsNumbering, Follows}
 
-pub opens : (spelling : ℕ → List ℕ) (steps : List Step) (names : ℕ) (k : Checker) (tree : Tree) → IsOpeningChecker steps names k → IsNumbering names spelling → IsSpelled names spelling steps 0 tree (length steps) → ShowsState spelling k (opening_state tree)
+pub opens : (spelling : ℕ → List ℕ) (steps : List Step) (names : ℕ) (k : Checker) (tree : Tree) → IsOpeningChecker steps names k → IsNumbering names spelling →
+    IsSpelled names spelling steps 0 tree (length steps) → ShowsState spelling k (opening_state tree)
 opens spelling steps names k tree o distinct spelled = record {
   distinct = subst (λ n. IsNumbering n spelling) (sym o.slots_many) distinct;
   parents = sym o.parents;
@@ -43,24 +44,32 @@ opens spelling steps names k tree o distinct spelled = record {
     first_ : StartShows spelling k.slots k.steps start kept
     first_ = record {
       first = refl;
-      spelled = subst (λ n. IsSpelled n spelling k.steps 0 tree (length steps)) (sym o.slots_many) (subst (λ z. IsSpelled names spelling z 0 tree (length steps)) (sym o.steps_are) spelled);
+      spelled = subst (λ n. IsSpelled n spelling k.steps 0 tree (length steps)) (sym o.slots_many)
+          (subst (λ z. IsSpelled names spelling z 0 tree (length steps)) (sym o.steps_are) spelled);
       named = λ x lt. ap thing_of (sym (o.things (slice_index_or k.slots x 0)));
     }
 
     by : (c : ℕ) → (c < 1) ⊎ (1 ≤ c) → MaybeStartShows spelling k.slots k.steps (slice_index_or (Some start ∷ []) c None) (slice_index_or (Some kept ∷ []) c None)
     by c (inl lt) = (let e : c ≡ 0 = omega arith in subst (λ i. MaybeStartShows spelling k.slots k.steps (slice_index_or (Some start ∷ []) i None) (slice_index_or (Some kept ∷ []) i None)) (sym e) first_)
-    by c (inr le) = subst (λ a. MaybeStartShows spelling k.slots k.steps a (slice_index_or (Some kept ∷ []) c None)) (sym (get_or_past (Some start ∷ []) c None le)) (subst (MaybeStartShows spelling k.slots k.steps None) (sym (get_or_past (Some kept ∷ []) c None le)) tt)
+    by c (inr le) = subst (λ a. MaybeStartShows spelling k.slots k.steps a (slice_index_or (Some kept ∷ []) c None))
+        (sym (get_or_past (Some start ∷ []) c None le))
+        (subst (MaybeStartShows spelling k.slots k.steps None) (sym (get_or_past (Some kept ∷ []) c None le)) tt)
 
-plan_is : (p : Plan) (parents : List (Option TaskId)) (makers : List TaskId) (codes : List (List Op)) → p.parents ≡ parents → p.makers ≡ makers → p.codes ≡ codes → p ≡ record { parents = parents; makers = makers; codes = codes }
+plan_is : (p : Plan) (parents : List (Option TaskId)) (makers : List TaskId) (codes : List (List Op)) → p.parents ≡ parents → p.makers ≡ makers →
+    p.codes ≡ codes → p ≡ record { parents = parents; makers = makers; codes = codes }
 plan_is p parents makers codes a b c =
     ap (λ x. record p { parents = x }) a ∙ ap (λ x. record p { parents = parents; makers = x }) b ∙ ap (λ x. record p { parents = parents; makers = makers; codes = x }) c
 
-pub plan_found : (spelling : ℕ → List ℕ) (k : Checker) (program : Program) (plan : Plan) → ((s : UnfoldingState) × (unfold_tasks program.two max_tasks 0 (opening_state program.body) ≡ Ok s) × ShowsState spelling k s) → plan ≡ record { parents = k.parents; makers = k.makers; codes = k.codes } → plan_of program ≡ Ok plan
+pub plan_found : (spelling : ℕ → List ℕ) (k : Checker) (program : Program) (plan : Plan) →
+    ((s : UnfoldingState) × (unfold_tasks program.two max_tasks 0 (opening_state program.body) ≡ Ok s) × ShowsState spelling k s) →
+    plan ≡ record { parents = k.parents; makers = k.makers; codes = k.codes } → plan_of program ≡ Ok plan
 unfolding plan_of
 plan_found spelling k program plan w is =
     ap (λ o. o >>= λ s. Ok s.plan) w.1 ∙ ap Ok (plan_is w.0.plan k.parents k.makers k.codes w.2.parents w.2.makers w.2.codes ∙ sym is)
 
-pub plan_fault : (program : Program) (e : PlanEnd) (shows : UnfoldingState → Type 0) → Follows {A = Unit {0}} (Err e) (unfold_tasks program.two max_tasks 0 (opening_state program.body)) shows → (r : Result Plan PlanEnd) → r ≡ Err e → GivesOutcome r (plan_of program)
+pub plan_fault : (program : Program) (e : PlanEnd) (shows : UnfoldingState → Type 0) →
+    Follows {A = Unit {0}} (Err e) (unfold_tasks program.two max_tasks 0 (opening_state program.body)) shows → (r : Result Plan PlanEnd) → r ≡ Err e →
+    GivesOutcome r (plan_of program)
 unfolding plan_of
 plan_fault program ends.NoMemory shows g r is = subst (λ z. GivesOutcome z (plan_of program)) (sym is) tt
 plan_fault program (ends.Check f) shows g r is = subst (λ z. GivesOutcome z (plan_of program)) (sym is) (ap (λ o. o >>= λ s. Ok s.plan) g)

@@ -21,7 +21,8 @@ use Rattle.pl_plan.proofs.Keeping.{slotted_fits, taken_same}
 
 -- ---- ops
 
-pub shows_pushed : (names : ℕ → List ℕ) (k : Checker) (s : UnfoldingState) (t : ℕ) (o : Op) → t < length k.codes → ShowsState names k s → ShowsState names (pushed t o k) (record s { plan = with_op t o s.plan })
+pub shows_pushed : (names : ℕ → List ℕ) (k : Checker) (s : UnfoldingState) (t : ℕ) (o : Op) → t < length k.codes → ShowsState names k s →
+    ShowsState names (pushed t o k) (record s { plan = with_op t o s.plan })
 shows_pushed names k s t o here h = record {
   distinct = h.distinct;
   parents = h.parents;
@@ -52,7 +53,9 @@ is_other v t q p h = by (same_or v t) (same_or q p)
     by (inr a) (inl b) = grind (arith, nat_tests)
     by (inr a) (inr b) = grind (arith, nat_tests)
 
-pub shows_marked : (names : ℕ → List ℕ) (k : Checker) (s : UnfoldingState) (t p : ℕ) (m : Bool) → t < max_tasks → p < max_phasers → length k.members ≡ max_tasks * max_phasers → ShowsState names k s → ShowsState names (with_membership t p m k) (with_members (with_member t p m s.members) s)
+pub shows_marked : (names : ℕ → List ℕ) (k : Checker) (s : UnfoldingState) (t p : ℕ) (m : Bool) → t < max_tasks → p < max_phasers →
+    length k.members ≡ max_tasks * max_phasers → ShowsState names k s →
+    ShowsState names (with_membership t p m k) (with_members (with_member t p m s.members) s)
 shows_marked names k s t p m tl pl all h = record {
   distinct = h.distinct;
   parents = h.parents;
@@ -72,7 +75,8 @@ shows_marked names k s t p m tl pl all h = record {
 -- ---- tasks and phasers
 
 pub shows_task : (names : ℕ → List ℕ) (k : Checker) (s : UnfoldingState) (t : ℕ) → ShowsState names k s →
-    ShowsState names (with_task t k) (record s { plan = record s.plan { parents = s.plan.parents ++ Some (record { 0 = t }) ∷ []; codes = s.plan.codes ++ [] ∷ [] }; starts = s.starts ++ None ∷ [] })
+    ShowsState names (with_task t k) (record s { plan = record s.plan
+    { parents = s.plan.parents ++ Some (record { 0 = t }) ∷ []; codes = s.plan.codes ++ [] ∷ [] }; starts = s.starts ++ None ∷ [] })
 shows_task names k s t h = record {
   distinct = h.distinct;
   parents = ap (λ xs. xs ++ Some (record { 0 = t }) ∷ []) h.parents;
@@ -136,14 +140,16 @@ shows_slotted_by names x k s i f h false e =
       makers = h.makers;
       codes = h.codes;
       starts_many = h.starts_many;
-      starts = λ c. starts_new names (length k.parents) (length k.makers) k.slot_count (length k.slots) k.slots k.steps x (slice_index_or s.starts c None) (slice_index_or k.starts c None) i z (f.later c) (h.starts c);
+      starts = λ c. starts_new names (length k.parents) (length k.makers) k.slot_count (length k.slots) k.slots k.steps x (slice_index_or s.starts c None)
+          (slice_index_or k.starts c None) i z (f.later c) (h.starts c);
       members = h.members;
       named = named_new names k.slots k.things s.names x k.slot_count i z f.now.none (f.now.free k.slot_count (omega arith)) h.named;
       ops = h.ops;
       visits = h.visits;
     }
 
-shows_thing : (names : ℕ → List ℕ) (x : ℕ) (v : code.Thing) (w : Thing) (k : Checker) (s : UnfoldingState) → thing_of v ≡ Some w → x < length k.slots → 0 < slot_of k x → IsChecker k → ShowsState names k s →
+shows_thing : (names : ℕ → List ℕ) (x : ℕ) (v : code.Thing) (w : Thing) (k : Checker) (s : UnfoldingState) → thing_of v ≡ Some w → x < length k.slots →
+    0 < slot_of k x → IsChecker k → ShowsState names k s →
     ShowsState names (with_thing x v k) (record s { names = assigned (names x) w s.names })
 shows_thing names x v w k s is here has f h = record {
   distinct = h.distinct;
@@ -158,7 +164,8 @@ shows_thing names x v w k s is here has f h = record {
   visits = h.visits;
 }
   where
-    by : (y : ℕ) → y < length k.slots → (y ≡ x) ⊎ (y ≡ x → ⊥) → assigned (names x) w s.names (names y) ≡ thing_of (slice_index_or (slice_set k.things (slot_of k x) v) (slot_of k y) a_thing.Nothing)
+    by : (y : ℕ) → y < length k.slots → (y ≡ x) ⊎ (y ≡ x → ⊥) →
+        assigned (names x) w s.names (names y) ≡ thing_of (slice_index_or (slice_set k.things (slot_of k x) v) (slot_of k y) a_thing.Nothing)
     by y lt (inl e) =
         ap (λ i. assigned (names x) w s.names (names i)) e
         ∙ ap (λ b. if b then Some w else s.names (names x)) ((bytes_eq-Decides (names x) (names x)).1 refl)
@@ -170,7 +177,8 @@ shows_thing names x v w k s is here has f h = record {
         ∙ h.named y lt
         ∙ ap thing_of (sym (get_or-set_other k.things (slot_of k x) (slot_of k y) v a_thing.Nothing (λ e. ne (sym (f.apart x y (sym e) has)))))
 
-pub shows_binding : (names : ℕ → List ℕ) (x : ℕ) (v : code.Thing) (w : Thing) (k : Checker) (s : UnfoldingState) → thing_of v ≡ Some w → x < length k.slots → k.slot_count < length k.parents + length k.makers → IsChecker k → ShowsState names k s →
+pub shows_binding : (names : ℕ → List ℕ) (x : ℕ) (v : code.Thing) (w : Thing) (k : Checker) (s : UnfoldingState) → thing_of v ≡ Some w → x < length k.slots →
+    k.slot_count < length k.parents + length k.makers → IsChecker k → ShowsState names k s →
     ShowsState names (with_binding x v k) (record s { names = assigned (names x) w s.names })
 shows_binding names x v w k s is here room f h =
     let sl = slotted_fits x k here room f in
@@ -178,7 +186,8 @@ shows_binding names x v w k s is here room f h =
 
 -- ---- forks
 
-pub shows_started : (names : ℕ → List ℕ) (k : Checker) (s : UnfoldingState) (c first after : ℕ) (body : Tree) → c < length k.starts → IsSpelled (length k.slots) names k.steps first body after → IsChecker k → ShowsState names k s →
+pub shows_started : (names : ℕ → List ℕ) (k : Checker) (s : UnfoldingState) (c first after : ℕ) (body : Tree) → c < length k.starts →
+    IsSpelled (length k.slots) names k.steps first body after → IsChecker k → ShowsState names k s →
     ShowsState names (started c first after k) (with_start c (record { body = body; first = first + 1; names = s.names }) s)
 shows_started names k s c first after body here spelled f h = record {
   distinct = h.distinct;
@@ -188,7 +197,9 @@ shows_started names k s c first after body here spelled f h = record {
   starts_many = length-set s.starts c (Some start) ∙ h.starts_many ∙ sym (length-set k.starts c (Some kept));
   starts = λ d. at_set (λ o. MaybeStartShows names k.slots k.steps o (slice_index_or (slice_set k.starts c (Some kept)) d None)) s.starts c (Some start) None d
       (λ e _. subst (λ i. MaybeStartShows names k.slots k.steps (Some start) (slice_index_or (slice_set k.starts c (Some kept)) i None)) (sym e)
-      (subst (MaybeStartShows names k.slots k.steps (Some start)) (sym (get_or-set_same k.starts c (Some kept) None here)) (record { first = refl; spelled = spelled; named = λ x lt. h.named x lt ∙ ap thing_of (sym (taken_same k.things k.slot_count f.now.free (slice_index_or k.slots x 0))) })))
+      (subst (MaybeStartShows names k.slots k.steps (Some start)) (sym (get_or-set_same k.starts c (Some kept) None here))
+          (record { first = refl; spelled = spelled; named = λ x lt. h.named x lt ∙
+          ap thing_of (sym (taken_same k.things k.slot_count f.now.free (slice_index_or k.slots x 0))) })))
       (λ ne. subst (MaybeStartShows names k.slots k.steps (slice_index_or s.starts d None)) (sym (get_or-set_other k.starts c d (Some kept) None ne)) (h.starts d))
       (λ le. absurd (omega (arith, h.starts_many)));
   members = h.members;

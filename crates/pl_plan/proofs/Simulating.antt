@@ -22,16 +22,19 @@ use Rattle.pl_plan.proofs.Showing.{shows_pushed, shows_marked, shows_task, shows
 
 -- ---- steps that may fail
 
-simulates_fault_unless : (names : ℕ → List ℕ) (b b' : Bool) (kind n : ℕ) (f : Outcome Checker) (g : Outcome UnfoldingState) → b' ≡ b → (b ≡ true → Simulates names f g) → Simulates names (fault_unless b kind n >>= λ _. f) (fault_unless b' kind n >>= λ _. g)
+simulates_fault_unless : (names : ℕ → List ℕ) (b b' : Bool) (kind n : ℕ) (f : Outcome Checker) (g : Outcome UnfoldingState) → b' ≡ b →
+    (b ≡ true → Simulates names f g) → Simulates names (fault_unless b kind n >>= λ _. f) (fault_unless b' kind n >>= λ _. g)
 simulates_fault_unless names true b' kind n f g e h = subst (λ v. Simulates names f (fault_unless v kind n >>= λ _. g)) (sym e) (h refl)
 simulates_fault_unless names false b' kind n f g e h = ap (λ v. fault_unless v kind n >>= λ _. g) e
 
-simulates_task : (names : ℕ → List ℕ) (n : ℕ) (o o' : Option Thing) (f : ℕ → Outcome Checker) (g : ℕ → Outcome UnfoldingState) → o' ≡ o → ((c : ℕ) → o ≡ Some (a_task c) → Simulates names (f c) (g c)) → Simulates names (as_task n o >>= f) (as_task n o' >>= g)
+simulates_task : (names : ℕ → List ℕ) (n : ℕ) (o o' : Option Thing) (f : ℕ → Outcome Checker) (g : ℕ → Outcome UnfoldingState) → o' ≡ o →
+    ((c : ℕ) → o ≡ Some (a_task c) → Simulates names (f c) (g c)) → Simulates names (as_task n o >>= f) (as_task n o' >>= g)
 simulates_task names n None o' f g e h = ap (λ v. as_task n v >>= g) e
 simulates_task names n (Some (a_phaser p)) o' f g e h = ap (λ v. as_task n v >>= g) e
 simulates_task names n (Some (a_task c)) o' f g e h = subst (λ v. Simulates names (f c) (as_task n v >>= g)) (sym e) (h c refl)
 
-simulates_phaser : (names : ℕ → List ℕ) (n : ℕ) (o o' : Option Thing) (f : ℕ → Outcome Checker) (g : ℕ → Outcome UnfoldingState) → o' ≡ o → ((p : ℕ) → o ≡ Some (a_phaser p) → Simulates names (f p) (g p)) → Simulates names (as_phaser n o >>= f) (as_phaser n o' >>= g)
+simulates_phaser : (names : ℕ → List ℕ) (n : ℕ) (o o' : Option Thing) (f : ℕ → Outcome Checker) (g : ℕ → Outcome UnfoldingState) → o' ≡ o →
+    ((p : ℕ) → o ≡ Some (a_phaser p) → Simulates names (f p) (g p)) → Simulates names (as_phaser n o >>= f) (as_phaser n o' >>= g)
 simulates_phaser names n None o' f g e h = ap (λ v. as_phaser n v >>= g) e
 simulates_phaser names n (Some (a_task c)) o' f g e h = ap (λ v. as_phaser n v >>= g) e
 simulates_phaser names n (Some (a_phaser p)) o' f g e h = subst (λ v. Simulates names (f p) (as_phaser n v >>= g)) (sym e) (h p refl)
@@ -50,25 +53,33 @@ lt_true : (a b : ℕ) → nat_lt a b ≡ true → a < b
 lt_true a b e = grind (arith, e)
 
 -- the owner's two tests
-same_start : (names : ℕ → List ℕ) (slots : List ℕ) (steps : List Step) (o : Option Start) (o' : Option CheckerStart) → MaybeStartShows names slots steps o o' → is_some o ≡ is_some o'
+same_start : (names : ℕ → List ℕ) (slots : List ℕ) (steps : List Step) (o : Option Start) (o' : Option CheckerStart) → MaybeStartShows names slots steps o o' →
+    is_some o ≡ is_some o'
 same_start names slots steps None None h = refl
 same_start names slots steps (Some s) (Some s') h = refl
 same_start names slots steps None (Some s') h = absurd h
 same_start names slots steps (Some s) None h = absurd h
 
 module _ (names : ℕ → List ℕ) (k : Checker) (s : UnfoldingState) (f : IsChecker k) (h : ShowsState names k s) where
-  simulates_unforked_child : (t n c : ℕ) (g : Outcome Checker) (g' : Outcome UnfoldingState) → Simulates names g g' → Simulates names (checker_unforked_child t n c k >>= λ _. g) (unforked_child t n c s >>= λ _. g')
-  simulates_unforked_child t n c g g' r = by (is_parent t (slice_index_or k.parents c None)) (is_some (slice_index_or k.starts c None)) (is_parent t (slice_index_or s.plan.parents c None)) (is_some (slice_index_or s.starts c None))
-      (ap (λ xs. is_parent t (slice_index_or xs c None)) h.parents) (same_start names k.slots k.steps (slice_index_or s.starts c None) (slice_index_or k.starts c None) (h.starts c))
+  simulates_unforked_child : (t n c : ℕ) (g : Outcome Checker) (g' : Outcome UnfoldingState) → Simulates names g g' →
+      Simulates names (checker_unforked_child t n c k >>= λ _. g) (unforked_child t n c s >>= λ _. g')
+  simulates_unforked_child t n c g g' r = by (is_parent t (slice_index_or k.parents c None)) (is_some (slice_index_or k.starts c None))
+      (is_parent t (slice_index_or s.plan.parents c None)) (is_some (slice_index_or s.starts c None))
+      (ap (λ xs. is_parent t (slice_index_or xs c None)) h.parents)
+          (same_start names k.slots k.steps (slice_index_or s.starts c None) (slice_index_or k.starts c None) (h.starts c))
     where
-      by : (a b a' b' : Bool) → a' ≡ a → b' ≡ b → Simulates names ((fault_unless a not_drawn_here n >>= λ _. fault_unless (not b) already_forked n) >>= λ _. g) ((fault_unless a' not_drawn_here n >>= λ _. fault_unless (not b') already_forked n) >>= λ _. g')
+      by : (a b a' b' : Bool) → a' ≡ a → b' ≡ b → Simulates names ((fault_unless a not_drawn_here n >>= λ _. fault_unless (not b) already_forked n) >>= λ _. g)
+          ((fault_unless a' not_drawn_here n >>= λ _. fault_unless (not b') already_forked n) >>= λ _. g')
       by false b a' b' p q = ap (λ v. (fault_unless v not_drawn_here n >>= λ _. fault_unless (not b') already_forked n) >>= λ _. g') p
-      by true true a' b' p q = ap (λ v. (fault_unless v not_drawn_here n >>= λ _. fault_unless (not b') already_forked n) >>= λ _. g') p ∙ ap (λ v. fault_unless (not v) already_forked n >>= λ _. g') q
-      by true false a' b' p q = subst (λ v. Simulates names g ((fault_unless v not_drawn_here n >>= λ _. fault_unless (not b') already_forked n) >>= λ _. g')) (sym p) (subst (λ v. Simulates names g (fault_unless (not v) already_forked n >>= λ _. g')) (sym q) r)
+      by true true a' b' p q = ap (λ v. (fault_unless v not_drawn_here n >>= λ _. fault_unless (not b') already_forked n) >>= λ _. g') p ∙
+          ap (λ v. fault_unless (not v) already_forked n >>= λ _. g') q
+      by true false a' b' p q = subst (λ v. Simulates names g ((fault_unless v not_drawn_here n >>= λ _. fault_unless (not b') already_forked n) >>= λ _. g'))
+          (sym p) (subst (λ v. Simulates names g (fault_unless (not v) already_forked n >>= λ _. g')) (sym q) r)
 
   pub simulates_add : (t n : ℕ) (o : Op) → t < length k.codes → Simulates names (checker_add t n o k) (add_op t n o s)
   unfolding checker_add add_op
-  simulates_add t n o here = simulates_fault_unless names (nat_lt k.ops max_ops) (nat_lt (sum_by length s.plan.codes) max_ops) too_many_ops n _ _ (ap (λ v. nat_lt v max_ops) h.ops) (λ e. (_, refl, shows_pushed names k s t o here h))
+  simulates_add t n o here = simulates_fault_unless names (nat_lt k.ops max_ops) (nat_lt (sum_by length s.plan.codes) max_ops) too_many_ops n _ _
+      (ap (λ v. nat_lt v max_ops) h.ops) (λ e. (_, refl, shows_pushed names k s t o here h))
 
   pub simulates_count : (n : ℕ) → Simulates names (checker_count n k) (count_visit n s)
   unfolding checker_count count_visit
@@ -89,19 +100,25 @@ module _ (names : ℕ → List ℕ) (k : Checker) (s : UnfoldingState) (f : IsCh
     },
   ))
 
-  simulates_member : (t n x : ℕ) (g : ℕ → Outcome Checker) (g' : ℕ → Outcome UnfoldingState) → x < length k.slots → ((p : ℕ) → p < length k.makers → Simulates names (g p) (g' p)) → Simulates names (checker_member t n x k >>= g) (member_of t n (s.names (names x)) s >>= g')
+  simulates_member : (t n x : ℕ) (g : ℕ → Outcome Checker) (g' : ℕ → Outcome UnfoldingState) → x < length k.slots →
+      ((p : ℕ) → p < length k.makers → Simulates names (g p) (g' p)) →
+      Simulates names (checker_member t n x k >>= g) (member_of t n (s.names (names x)) s >>= g')
   unfolding checker_member member_of
-  simulates_member t n x g g' here r = by (thing_named k x) (s.names (names x)) (h.named x here) (λ p e. phaser_inside (length k.parents) (length k.makers) (thing_at k x) p (f.now.inside (slot_of k x)) e)
+  simulates_member t n x g g' here r = by (thing_named k x) (s.names (names x)) (h.named x here)
+      (λ p e. phaser_inside (length k.parents) (length k.makers) (thing_at k x) p (f.now.inside (slot_of k x)) e)
     where
-      ends_ : (p : ℕ) → p < length k.makers → (b b' : Bool) → b' ≡ b → Simulates names ((fault_unless b not_member n >>= λ _. Ok p) >>= g) ((fault_unless b' not_member n >>= λ _. Ok p) >>= g')
+      ends_ : (p : ℕ) → p < length k.makers → (b b' : Bool) → b' ≡ b →
+          Simulates names ((fault_unless b not_member n >>= λ _. Ok p) >>= g) ((fault_unless b' not_member n >>= λ _. Ok p) >>= g')
       ends_ p lt true b' e = subst (λ v. Simulates names (g p) ((fault_unless v not_member n >>= λ _. Ok p) >>= g')) (sym e) (r p lt)
       ends_ p lt false b' e = ap (λ v. (fault_unless v not_member n >>= λ _. Ok p) >>= g') e
 
       by : (o o' : Option Thing) → o' ≡ o → ((p : ℕ) → o ≡ Some (a_phaser p) → p < length k.makers) →
-          Simulates names ((as_phaser n o >>= λ p. fault_unless (member k t p) not_member n >>= λ _. Ok p) >>= g) ((as_phaser n o' >>= λ p. fault_unless (s.members t p) not_member n >>= λ _. Ok p) >>= g')
+          Simulates names ((as_phaser n o >>= λ p. fault_unless (member k t p) not_member n >>= λ _. Ok p) >>= g)
+          ((as_phaser n o' >>= λ p. fault_unless (s.members t p) not_member n >>= λ _. Ok p) >>= g')
       by None o' e i = ap (λ v. (as_phaser n v >>= λ p. fault_unless (s.members t p) not_member n >>= λ _. Ok p) >>= g') e
       by (Some (a_task c)) o' e i = ap (λ v. (as_phaser n v >>= λ p. fault_unless (s.members t p) not_member n >>= λ _. Ok p) >>= g') e
-      by (Some (a_phaser p)) o' e i = subst (λ v. Simulates names ((fault_unless (member k t p) not_member n >>= λ _. Ok p) >>= g) ((as_phaser n v >>= λ q. fault_unless (s.members t q) not_member n >>= λ _. Ok q) >>= g')) (sym e)
+      by (Some (a_phaser p)) o' e i = subst (λ v. Simulates names ((fault_unless (member k t p) not_member n >>= λ _. Ok p) >>= g)
+          ((as_phaser n v >>= λ q. fault_unless (s.members t q) not_member n >>= λ _. Ok q) >>= g')) (sym e)
           (ends_ p (i p refl) (member k t p) (s.members t p) (h.members t p (omega (arith, i p refl, f.few_makers))))
 
 -- ---- statements
@@ -112,17 +129,20 @@ module _ (names : ℕ → List ℕ) (k : Checker) (s : UnfoldingState) (f : IsCh
 
   pub simulates_new_task : (x : ℕ) → x < length k.slots → Simulates names (checker_new_task t n x k) (act t n (new_task (names x)) s)
   unfolding checker_new_task act
-  simulates_new_task x here = simulates_fault_unless names (nat_lt (length k.parents) max_tasks) (nat_lt (length s.plan.parents) max_tasks) too_many_tasks n _ _ (ap (λ xs. nat_lt (length xs) max_tasks) h.parents)
+  simulates_new_task x here = simulates_fault_unless names (nat_lt (length k.parents) max_tasks) (nat_lt (length s.plan.parents) max_tasks) too_many_tasks n _ _
+      (ap (λ xs. nat_lt (length xs) max_tasks) h.parents)
       (λ e. (
         _,
         refl,
-        shows_binding names x (a_thing.Task (task (length k.parents))) (a_task (length s.plan.parents)) (with_task t k) _ (ap (λ xs. Some (a_task (length xs))) (sym h.parents)) here
+        shows_binding names x (a_thing.Task (task (length k.parents))) (a_task (length s.plan.parents)) (with_task t k) _
+        (ap (λ xs. Some (a_task (length xs))) (sym h.parents)) here
             (omega (arith, f.room, length-append k.parents (Some (task t) ∷ []))) (fits_task k t (lt_true (length k.parents) max_tasks e) f) (shows_task names k s t h),
       ))
 
   pub simulates_new_phaser : (x : ℕ) → x < length k.slots → Simulates names (checker_new_phaser t n x k) (act t n (new_phaser (names x)) s)
   unfolding checker_new_phaser act
-  simulates_new_phaser x here = simulates_fault_unless names (nat_lt (length k.makers) max_phasers) (nat_lt (length s.plan.makers) max_phasers) too_many_phasers n _ _ (ap (λ xs. nat_lt (length xs) max_phasers) h.makers) (λ e.
+  simulates_new_phaser x here = simulates_fault_unless names (nat_lt (length k.makers) max_phasers) (nat_lt (length s.plan.makers) max_phasers) too_many_phasers
+      n _ _ (ap (λ xs. nat_lt (length xs) max_phasers) h.makers) (λ e.
       let lt = lt_true (length k.makers) max_phasers e in
       let p = length k.makers in
       let v = a_thing.Phaser (phaser p) in
@@ -130,17 +150,22 @@ module _ (names : ℕ → List ℕ) (k : Checker) (s : UnfoldingState) (f : IsCh
       let fm = fits_maker k t lt f in
       let more = length-append k.makers (task t ∷ []) in
       let fb = fits_binding x v m here (omega (arith, f.room)) (omega arith) fm in
-      let hb = shows_binding names x v (a_phaser (length s.plan.makers)) m (record s { plan = record s.plan { makers = s.plan.makers ++ task t ∷ [] } }) (ap (λ xs. Some (a_phaser (length xs))) (sym h.makers)) here (omega (arith, f.room)) fm (shows_maker names k s t h) in
+      let hb = shows_binding names x v (a_phaser (length s.plan.makers)) m (record s { plan = record s.plan { makers = s.plan.makers ++ task t ∷ [] } })
+              (ap (λ xs. Some (a_phaser (length xs))) (sym h.makers)) here (omega (arith, f.room)) fm (shows_maker names k s t h) in
       let b = with_binding x v m in
       let hm = shows_marked names b (record s { plan = record s.plan { makers = s.plan.makers ++ task t ∷ [] }; names = _ }) t p true (omega (arith, f.few)) lt fb.all hb in
       let fk = fits_marked b t p true fb in
-      subst (λ q. Simulates names (checker_add t n (op.Make (phaser p)) (with_membership t p true b)) (add_op t n (op.Make (phaser q)) (record s { plan = record s.plan { makers = s.plan.makers ++ task t ∷ [] }; members = with_member t q true s.members; names = assigned (names x) (a_phaser (length s.plan.makers)) s.names }))) (ap length (sym h.makers))
-      (simulates_add names (with_membership t p true b) _ fk hm t n (op.Make (phaser p)) (let same = ap (λ (z : Checker). length z.codes) (slotted_fits x m here (omega (arith, f.room)) fm).same in omega (arith, has_code, same))))
+      subst (λ q. Simulates names (checker_add t n (op.Make (phaser p)) (with_membership t p true b))
+          (add_op t n (op.Make (phaser q)) (record s { plan = record s.plan { makers = s.plan.makers ++ task t ∷ [] }; members = with_member t q true s.members;
+          names = assigned (names x) (a_phaser (length s.plan.makers)) s.names }))) (ap length (sym h.makers))
+      (simulates_add names (with_membership t p true b) _ fk hm t n (op.Make (phaser p))
+          (let same = ap (λ (z : Checker). length z.codes) (slotted_fits x m here (omega (arith, f.room)) fm).same in omega (arith, has_code, same))))
 
   pub simulates_dereg : (x : ℕ) → x < length k.slots → Simulates names (checker_dereg t n x k) (act t n (dereg (names x)) s)
   unfolding checker_dereg act
   simulates_dereg x here = simulates_member names k s f h t n x _ _ here (λ p lt.
-      simulates_add names (with_membership t p false k) _ (fits_marked k t p false f) (shows_marked names k s t p false (omega (arith, f.few)) (omega (arith, f.few_makers)) f.all h) t n (op.Drop (phaser p)) has_code)
+      simulates_add names (with_membership t p false k) _ (fits_marked k t p false f)
+          (shows_marked names k s t p false (omega (arith, f.few)) (omega (arith, f.few_makers)) f.all h) t n (op.Drop (phaser p)) has_code)
 
   pub simulates_adv : (x : ℕ) → x < length k.slots → Simulates names (checker_adv t n x k) (act t n (adv (names x)) s)
   unfolding checker_adv act
@@ -173,15 +198,18 @@ module _ (names : ℕ → List ℕ) (k : Checker) (s : UnfoldingState) (f : IsCh
       simulates_unforked_child names k s f h t n c _ _
       (simulates_fault_unless names (member k t p) (s.members t p) not_member n _ _ (h.members t p (omega (arith, f.few_makers))) (λ _.
       simulates_fault_unless names (not (member k c p)) (not (s.members c p)) already_member n _ _ (ap not (h.members c p (omega (arith, f.few_makers)))) (λ _.
-      simulates_add names (with_membership c p true k) _ (fits_marked k c p true f) (shows_marked names k s c p true (omega (arith, f.few)) (omega (arith, f.few_makers)) f.all h) t n (op.Reg (task c) (phaser p)) has_code)))))
+      simulates_add names (with_membership c p true k) _ (fits_marked k c p true f)
+          (shows_marked names k s c p true (omega (arith, f.few)) (omega (arith, f.few_makers)) f.all h) t n (op.Reg (task c) (phaser p)) has_code)))))
 
-  pub simulates_fork : (x after : ℕ) (body : Tree) → x < length k.slots → after ≤ length k.steps → IsSpelled (length k.slots) names k.steps n body after → Simulates names (checker_fork t n x after k) (act_fork t n (names x) body s)
+  pub simulates_fork : (x after : ℕ) (body : Tree) → x < length k.slots → after ≤ length k.steps → IsSpelled (length k.slots) names k.steps n body after →
+      Simulates names (checker_fork t n x after k) (act_fork t n (names x) body s)
   unfolding checker_fork act_fork
   simulates_fork x after body here within spelled =
       simulates_task names n (thing_named k x) (s.names (names x)) _ _ (h.named x here) (λ c ec.
       let ci = task_inside (length k.parents) (length k.makers) (thing_at k x) c (f.now.inside (slot_of k x)) ec in
       simulates_unforked_child names k s f h t n c _ _
-      (simulates_add names (started c n after k) _ (fits_started k c n after within (names, body, spelled) f) (shows_started names k s c n after body (omega (arith, f.starts_many)) spelled f h) t n (op.Fork (task c)) has_code))
+      (simulates_add names (started c n after k) _ (fits_started k c n after within (names, body, spelled) f)
+          (shows_started names k s c n after body (omega (arith, f.starts_many)) spelled f h) t n (op.Fork (task c)) has_code))
 
 -- ---- what is kept
 
@@ -206,7 +234,8 @@ keeps_two k true true i j n g h = h
 
 keeps_add : (k b : Checker) (t n : ℕ) (o : Op) → Keeps k b → KeepsAll k (checker_add t n o b)
 unfolding checker_add
-keeps_add k b t n o h = keeps_fault_unless k (nat_lt b.ops max_ops) too_many_ops n _ (λ e. record { fits = fits_pushed b t o h.fits; more = h.more; steps = h.steps; slots = h.slots })
+keeps_add k b t n o h = keeps_fault_unless k (nat_lt b.ops max_ops) too_many_ops n _
+    (λ e. record { fits = fits_pushed b t o h.fits; more = h.more; steps = h.steps; slots = h.slots })
 
 module _ (k : Checker) (f : IsChecker k) where
   pub keeps_itself : Keeps k k
@@ -215,7 +244,8 @@ module _ (k : Checker) (f : IsChecker k) where
   pub keeps_count : (n : ℕ) → KeepsAll k (checker_count n k)
   unfolding checker_count
   keeps_count n = keeps_fault_unless k (nat_lt k.visits max_visits) too_many_visits n _ (λ e. record {
-    fits = record { starts_many = f.starts_many; codes_many = f.codes_many; few = f.few; few_makers = f.few_makers; all = f.all; below = f.below; apart = f.apart; room = f.room; long = f.long; now = f.now; later = f.later };
+    fits = record { starts_many = f.starts_many; codes_many = f.codes_many; few = f.few; few_makers = f.few_makers; all = f.all; below = f.below;
+        apart = f.apart; room = f.room; long = f.long; now = f.now; later = f.later };
     more = omega arith;
     steps = refl;
     slots = refl;
@@ -237,7 +267,8 @@ module _ (k : Checker) (f : IsChecker k) where
   keeps_marked : (t p : ℕ) (v : Bool) → Keeps k (with_membership t p v k)
   keeps_marked t p v = record { fits = fits_marked k t p v f; more = omega arith; steps = refl; slots = refl }
 
-  keeps_bound : (m : Checker) (x : ℕ) (v : code.Thing) → x < length m.slots → m.slot_count < length m.parents + length m.makers → IsInside (length m.parents) (length m.makers) v → Keeps k m → Keeps k (with_binding x v m)
+  keeps_bound : (m : Checker) (x : ℕ) (v : code.Thing) → x < length m.slots → m.slot_count < length m.parents + length m.makers →
+      IsInside (length m.parents) (length m.makers) v → Keeps k m → Keeps k (with_binding x v m)
   keeps_bound m x v here room inside h =
       let sl = slotted_fits x m here room h.fits in
       record {
@@ -261,7 +292,8 @@ module _ (k : Checker) (f : IsChecker k) where
       let h = keeps_bound (with_maker t k) x (a_thing.Phaser (phaser (length k.makers))) here (omega (arith, f.room)) (omega arith)
       (record { fits = fits_maker k t (lt_true (length k.makers) max_phasers e) f; more = omega arith; steps = refl; slots = refl }) in
       keeps_add k (with_membership t (length k.makers) true (with_binding x (a_thing.Phaser (phaser (length k.makers))) (with_maker t k))) t n (op.Make (phaser (length k.makers)))
-      (record { fits = fits_marked (with_binding x (a_thing.Phaser (phaser (length k.makers))) (with_maker t k)) t (length k.makers) true h.fits; more = h.more; steps = h.steps; slots = h.slots }))
+      (record { fits = fits_marked (with_binding x (a_thing.Phaser (phaser (length k.makers))) (with_maker t k)) t (length k.makers) true h.fits; more = h.more;
+          steps = h.steps; slots = h.slots }))
 
   pub keeps_dereg : (t n x : ℕ) → KeepsAll k (checker_dereg t n x k)
   unfolding checker_dereg

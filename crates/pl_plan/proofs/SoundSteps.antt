@@ -275,7 +275,8 @@ module _ (t : ℕ) (s : UnfoldingState) (a : IsActing t s) where
   adv_acts p n e =
       on_fault_unless (IsActing t) (nat_lt (sum_by length s.plan.codes) max_ops) too_many_ops n _
       (λ few. op_acts (op.Adv (phaser p)) s.starts s.members s.names s.visits few
-      (new_op (op.Adv (phaser p)) (one_new (Advances p) (λ i x. IsWellFormed (with_op t (op.Adv (phaser p)) s.plan) t (length (actions s.plan t) + i) x) (member_now (op.Adv (phaser p)) p e))
+      (new_op (op.Adv (phaser p)) (one_new (Advances p) (λ i x. IsWellFormed (with_op t (op.Adv (phaser p)) s.plan) t (length (actions s.plan t) + i) x)
+          (member_now (op.Adv (phaser p)) p e))
       (λ i q f. one_new (Advances p) (λ i x. (q : ℕ) → x ≢ Makes q) (λ q g. cc) i (Makes q) f q refl))
       (same_starts (op.Adv (phaser p)) s.members s.names s.visits (λ i c f. one_new (Advances p) (λ i x. (c : ℕ) → x ≢ Forks c) (λ c g. cc) i (Forks c) f c refl))
       (own_members (op.Adv (phaser p)) s.starts s.members s.names s.visits (λ q. members_own q ∙ advanced_member (last_phases s.plan t) p q) (λ u q n. refl) (λ u m r. refl)))
@@ -285,9 +286,11 @@ module _ (t : ℕ) (s : UnfoldingState) (a : IsActing t s) where
   dereg_acts p n e =
       on_fault_unless (IsActing t) (nat_lt (sum_by length s.plan.codes) max_ops) too_many_ops n _
       (λ few. op_acts (op.Drop (phaser p)) s.starts (with_member t p false s.members) s.names s.visits few
-      (new_op (op.Drop (phaser p)) (one_new (Drops p) (λ i x. IsWellFormed (with_op t (op.Drop (phaser p)) s.plan) t (length (actions s.plan t) + i) x) (member_now (op.Drop (phaser p)) p e))
+      (new_op (op.Drop (phaser p)) (one_new (Drops p) (λ i x. IsWellFormed (with_op t (op.Drop (phaser p)) s.plan) t (length (actions s.plan t) + i) x)
+          (member_now (op.Drop (phaser p)) p e))
       (λ i q f. one_new (Drops p) (λ i x. (q : ℕ) → x ≢ Makes q) (λ q g. cc) i (Makes q) f q refl))
-      (same_starts (op.Drop (phaser p)) (with_member t p false s.members) s.names s.visits (λ i c f. one_new (Drops p) (λ i x. (c : ℕ) → x ≢ Forks c) (λ c g. cc) i (Forks c) f c refl))
+      (same_starts (op.Drop (phaser p)) (with_member t p false s.members) s.names s.visits
+          (λ i c f. one_new (Drops p) (λ i x. (c : ℕ) → x ≢ Forks c) (λ c g. cc) i (Forks c) f c refl))
       (own_members (op.Drop (phaser p)) s.starts (with_member t p false s.members) s.names s.visits
       (set_member t p false s.members (last_phases s.plan t) None members_own refl) (λ u q n. member_other t p false s.members u q n) (λ u m r. refl)))
 
@@ -297,7 +300,9 @@ module _ (t : ℕ) (s : UnfoldingState) (a : IsActing t s) where
       on_fault_unless (IsActing t) (nat_lt (sum_by length s.plan.codes) max_ops) too_many_ops n _
       (λ few. op_acts (op.Await (phaser p) off) s.starts s.members s.names s.visits few
       (new_op (op.Await (phaser p) off)
-      (two_new (Blocks (record { phaser = p; off = off })) (Passes p) (λ i x. IsWellFormed (with_op t (op.Await (phaser p) off) s.plan) t (length (actions s.plan t) + i) x) (member_now (op.Await (phaser p) off) p e, near) tt)
+      (two_new (Blocks (record { phaser = p; off = off })) (Passes p)
+          (λ i x. IsWellFormed (with_op t (op.Await (phaser p) off) s.plan) t (length (actions s.plan t) + i) x)
+          (member_now (op.Await (phaser p) off) p e, near) tt)
       (λ i q f. two_new (Blocks (record { phaser = p; off = off })) (Passes p) (λ i x. (q : ℕ) → x ≢ Makes q) (λ q g. cc) (λ q g. cc) i (Makes q) f q refl))
       (same_starts (op.Await (phaser p) off) s.members s.names s.visits
       (λ i c f. two_new (Blocks (record { phaser = p; off = off })) (Passes p) (λ i x. (c : ℕ) → x ≢ Forks c) (λ c g. cc) (λ c g. cc) i (Forks c) f c refl))
@@ -334,12 +339,14 @@ module _ (t : ℕ) (s : UnfoldingState) (a : IsActing t s) where
     not_forked j e = a.sound.unforked c j unforked (subst (λ v. action_at s.plan v j ≡ Some (Forks c)) (sym (parent_is s.plan t c child)) e)
 
     fork_starts :
-        (start : Start) → AreNear start.body → HasStarts t s (state_of (with_op t (op.Fork (task c)) s.plan) (slice_set s.starts c (Some start)) s.members s.names s.visits) (actions_of (op.Fork (task c) ∷ []))
+        (start : Start) → AreNear start.body → HasStarts t s
+        (state_of (with_op t (op.Fork (task c)) s.plan) (slice_set s.starts c (Some start)) s.members s.names s.visits) (actions_of (op.Fork (task c) ∷ []))
     unfolding parent_of
     fork_starts start near =
         record {
           many = length-set s.starts c (Some start) ∙ a.sound.starts;
-          stay = λ d e. at_set (λ o. is_some o ≡ true) s.starts c (Some start) None d (λ h l. refl) (λ n. e) (λ l. absurd (let i = child_inside in let m = a.sound.starts in omega arith));
+          stay = λ d e. at_set (λ o. is_some o ≡ true) s.starts c (Some start) None d (λ h l. refl) (λ n. e) (λ l. absurd (let i = child_inside in
+              let m = a.sound.starts in omega arith));
           begins = begins;
           forks = λ i d e. one_new (Forks c) (λ i x. (d : ℕ) → x ≡ Forks d → is_some (slice_index_or (slice_set s.starts c (Some start)) d None) ≡ true)
               (λ d g. let same : c ≡ d = (let q : Forks c ≡ Forks d = g in cc) in subst (λ v. is_some (slice_index_or (slice_set s.starts c (Some start)) v None) ≡ true) same (ap is_some (get_or-set_same s.starts c (Some start) None here)))
@@ -350,7 +357,8 @@ module _ (t : ℕ) (s : UnfoldingState) (a : IsActing t s) where
         here : c < length s.starts
         here = omega (arith, child_inside, a.sound.starts)
 
-        begins : (d : ℕ) → is_some (slice_index_or (slice_set s.starts c (Some start)) d None) ≡ true → (is_begun s d ≡ true) ⊎ ((parent_of s.plan d ≡ t) × (slice_get (Forks c ∷ []) 0 ≡ Some (Forks d)))
+        begins : (d : ℕ) → is_some (slice_index_or (slice_set s.starts c (Some start)) d None) ≡ true →
+            (is_begun s d ≡ true) ⊎ ((parent_of s.plan d ≡ t) × (slice_get (Forks c ∷ []) 0 ≡ Some (Forks d)))
         begins d e =
             elim (cases_eq d c) [
               | inl same ↦ inr (ap (parent_of s.plan) same ∙ parent_is s.plan t c child, ap (λ v. Some (Forks v)) (sym same))
@@ -363,7 +371,8 @@ module _ (t : ℕ) (s : UnfoldingState) (a : IsActing t s) where
         on_fault_unless (IsActing t) (nat_lt (sum_by length s.plan.codes) max_ops) too_many_ops n _
         (λ few. op_acts (op.Fork (task c)) (slice_set s.starts c (Some start)) s.members s.names s.visits few
         (new_op (op.Fork (task c))
-        (one_new (Forks c) (λ i x. IsWellFormed (with_op t (op.Fork (task c)) s.plan) t (length (actions s.plan t) + i) x) (child, not_before (op.Fork (task c)) (Forks c) (λ j l. not_forked j)))
+        (one_new (Forks c) (λ i x. IsWellFormed (with_op t (op.Fork (task c)) s.plan) t (length (actions s.plan t) + i) x)
+            (child, not_before (op.Fork (task c)) (Forks c) (λ j l. not_forked j)))
         (λ i q f. one_new (Forks c) (λ i x. (q : ℕ) → x ≢ Makes q) (λ q g. cc) i (Makes q) f q refl))
         (fork_starts start near)
         (own_members (op.Fork (task c)) (slice_set s.starts c (Some start)) s.members s.names s.visits members_own (λ u q n. refl) (λ u m r. refl)))
@@ -386,7 +395,8 @@ module _ (t : ℕ) (s : UnfoldingState) (a : IsActing t s) where
               ∙ ap (λ v. registered_by s.plan v c (length (actions s.plan v))) (parent_is s.plan t c child)
 
       reg_members :
-          HasMembers t s (state_of (with_op t (op.Reg (task c) (phaser p)) s.plan) s.starts (with_member c p true s.members) s.names s.visits) (actions_of (op.Reg (task c) (phaser p) ∷ []))
+          HasMembers t s (state_of (with_op t (op.Reg (task c) (phaser p)) s.plan) s.starts (with_member c p true s.members) s.names s.visits)
+          (actions_of (op.Reg (task c) (phaser p) ∷ []))
       reg_members =
           record {
             own = λ q. member_other c p true s.members t q (λ e. absurd (let h = child_above in omega arith)) ∙ members_own q;
@@ -409,7 +419,8 @@ module _ (t : ℕ) (s : UnfoldingState) (a : IsActing t s) where
               elim (cases_eq u c) [
                 | inr other ↦
                     member_other c p true s.members u q other ∙ before u q l within
-                    ∙ sym (ap (λ m. is_some (m q)) (register_step_keeps (Some (Registers c p)) u (last_phases s.plan t) (first_phases s.plan u) (λ z e. other (let g : c ≡ u = cc in sym g))))
+                    ∙ sym (ap (λ m. is_some (m q)) (register_step_keeps (Some (Registers c p)) u (last_phases s.plan t) (first_phases s.plan u)
+                        (λ z e. other (let g : c ≡ u = cc in sym g))))
                 | inl same ↦
                     subst (λ v. with_member c p true s.members v q ≡ is_some (register_steps (Registers c p ∷ []) v (last_phases s.plan t) (first_phases s.plan v) q)) (sym same)
                     (set_member c p true s.members (first_phases s.plan c) (last_phases s.plan t p) (λ z. before c z child_above child_inside) (sym own_phase) q
@@ -429,7 +440,8 @@ module _ (t : ℕ) (s : UnfoldingState) (a : IsActing t s) where
             member_now (op.Reg (task c) (phaser p)) p inside,
           ))
           (λ i q f. one_new (Registers c p) (λ i x. (q : ℕ) → x ≢ Makes q) (λ q g. cc) i (Makes q) f q refl))
-          (same_starts (op.Reg (task c) (phaser p)) (with_member c p true s.members) s.names s.visits (λ i d f. one_new (Registers c p) (λ i x. (d : ℕ) → x ≢ Forks d) (λ d g. cc) i (Forks d) f d refl))
+          (same_starts (op.Reg (task c) (phaser p)) (with_member c p true s.members) s.names s.visits
+              (λ i d f. one_new (Registers c p) (λ i x. (d : ℕ) → x ≢ Forks d) (λ d g. cc) i (Forks d) f d refl))
           reg_members)
 
   -- ---- a phaser more
@@ -599,7 +611,8 @@ module _ (t : ℕ) (s : UnfoldingState) (a : IsActing t s) where
   act_keeps n (new_task x) near =
       on_fault_unless (IsActing t) (nat_lt (length s.plan.parents) max_tasks) too_many_tasks n _ (λ room. task_acts (assigned x (a_task (length s.plan.parents)) s.names) room)
   act_keeps n (new_phaser x) near =
-      on_fault_unless (IsActing t) (nat_lt (length s.plan.makers) max_phasers) too_many_phasers n _ (λ room. make_acts n (assigned x (a_phaser (length s.plan.makers)) s.names) room)
+      on_fault_unless (IsActing t) (nat_lt (length s.plan.makers) max_phasers) too_many_phasers n _
+          (λ room. make_acts n (assigned x (a_phaser (length s.plan.makers)) s.names) room)
   act_keeps n (reg x y) near =
       on_task (IsActing t) n (s.names x) _
       (λ c. on_phaser (IsActing t) n (s.names y) _
@@ -608,7 +621,8 @@ module _ (t : ℕ) (s : UnfoldingState) (a : IsActing t s) where
     where
       by :
           (c p : ℕ) → is_parent t (slice_index_or s.plan.parents c None) ≡ true → is_begun s c ≡ false → (b d : Bool) → s.members t p ≡ b → s.members c p ≡ d →
-          OnState (IsActing t) (fault_unless b not_member n >>= λ _. (fault_unless (not d) already_member n >>= λ _. add_op t n (op.Reg (task c) (phaser p)) (record s { members = with_member c p true s.members })))
+          OnState (IsActing t) (fault_unless b not_member n >>= λ _.
+          (fault_unless (not d) already_member n >>= λ _. add_op t n (op.Reg (task c) (phaser p)) (record s { members = with_member c p true s.members })))
       by c p mine unforked false d e f = tt
       by c p mine unforked true true e f = tt
       by c p mine unforked true false e f = reg_acts c mine unforked p e f n
@@ -656,7 +670,8 @@ same_acts t s names visits a =
       begun = a.begun;
     }
 
-on_then : (P Q : UnfoldingState → Type 0) (o : Outcome UnfoldingState) (f : UnfoldingState → Outcome UnfoldingState) → OnState P o → ((s : UnfoldingState) → P s → OnState Q (f s)) → OnState Q (o >>= f)
+on_then : (P Q : UnfoldingState → Type 0) (o : Outcome UnfoldingState) (f : UnfoldingState → Outcome UnfoldingState) → OnState P o →
+    ((s : UnfoldingState) → P s → OnState Q (f s)) → OnState Q (o >>= f)
 on_then P Q (Ok s) f h k = k s h
 on_then P Q (Err e) f h k = tt
 

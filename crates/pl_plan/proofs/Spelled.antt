@@ -12,10 +12,12 @@ pub record NamesAgree (n : ℕ) (names : ℕ → List ℕ) (n' : ℕ) (names' : 
   pub more : n ≤ n'
   pub same : (i : ℕ) → i < n → names' i ≡ names i
 
-pub name_more : (n : ℕ) (names : ℕ → List ℕ) (n' : ℕ) (names' : ℕ → List ℕ) (i : NameId) (x : List ℕ) → NamesAgree n names n' names' → IsNumberOfName n names i x → IsNumberOfName n' names' i x
+pub name_more : (n : ℕ) (names : ℕ → List ℕ) (n' : ℕ) (names' : ℕ → List ℕ) (i : NameId) (x : List ℕ) → NamesAgree n names n' names' →
+    IsNumberOfName n names i x → IsNumberOfName n' names' i x
 name_more n names n' names' i x a h = (omega (arith, a.more, h.0), a.same i.0 h.0 ∙ h.1)
 
-step_more : (n : ℕ) (names : ℕ → List ℕ) (n' : ℕ) (names' : ℕ → List ℕ) (step step' : Step) (s : Plain) → step' ≡ step → NamesAgree n names n' names' → IsStep n names step s → IsStep n' names' step' s
+step_more : (n : ℕ) (names : ℕ → List ℕ) (n' : ℕ) (names' : ℕ → List ℕ) (step step' : Step) (s : Plain) → step' ≡ step → NamesAgree n names n' names' →
+    IsStep n names step s → IsStep n' names' step' s
 step_more n names n' names' z z' (new_task x) e a h = (h.0, e ∙ h.1, name_more n names n' names' h.0 x a h.2)
 step_more n names n' names' z z' (new_phaser x) e a h = (h.0, e ∙ h.1, name_more n names n' names' h.0 x a h.2)
 step_more n names n' names' z z' (reg x y) e a h = (h.0, h.1, e ∙ h.2, name_more n names n' names' h.0 x a h.3, name_more n names n' names' h.1 y a h.4)

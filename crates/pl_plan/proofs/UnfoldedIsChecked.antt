@@ -34,7 +34,8 @@ next_sound t s h =
       near = h.near;
     }
 
-on_more : (t : ℕ) (o : Outcome UnfoldingState) (f : UnfoldingState → Outcome UnfoldingState) → OnState (IsActing t) o → ((s : UnfoldingState) → IsSound (t + 1) s → OnState (λ r. IsCheckedPlan r.plan) (f s)) → OnState (λ r. IsCheckedPlan r.plan) (o >>= f)
+on_more : (t : ℕ) (o : Outcome UnfoldingState) (f : UnfoldingState → Outcome UnfoldingState) → OnState (IsActing t) o →
+    ((s : UnfoldingState) → IsSound (t + 1) s → OnState (λ r. IsCheckedPlan r.plan) (f s)) → OnState (λ r. IsCheckedPlan r.plan) (o >>= f)
 on_more t (Ok s) f h k = k s (next_sound t s h.sound)
 on_more t (Err e) f h k = tt
 

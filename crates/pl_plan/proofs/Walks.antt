@@ -21,19 +21,32 @@ bind_bind (Err e) f g = refl
 pub make_visits-append : (t : ℕ) (xs ys : List Visit) (s : UnfoldingState) → make_visits t (xs ++ ys) s ≡ (make_visits t xs s >>= make_visits t ys)
 unfolding make_visits
 make_visits-append t [] ys s = refl
-make_visits-append t (x ∷ xs) ys s = ap (λ f. make_visit t x s >>= f) (λ i s'. make_visits-append t xs ys s' i) ∙ sym (bind_bind (make_visit t x s) (make_visits t xs) (make_visits t ys))
+make_visits-append t (x ∷ xs) ys s = ap (λ f. make_visit t x s >>= f) (λ i s'. make_visits-append t xs ys s' i) ∙
+    sym (bind_bind (make_visit t x s) (make_visits t xs) (make_visits t ys))
 
 -- ---- a statement without a body
 
-pub simulates_acting : (names : ℕ → List ℕ) (k : Checker) (s : UnfoldingState) → IsChecker k → ShowsState names k s → (t n : ℕ) → t < length k.parents → (step : Step) (c : Plain) → IsStep (length k.slots) names step c → Simulates names (checker_act t n step k) (act t n c s)
+pub simulates_acting : (names : ℕ → List ℕ) (k : Checker) (s : UnfoldingState) → IsChecker k → ShowsState names k s → (t n : ℕ) → t < length k.parents →
+    (step : Step) (c : Plain) → IsStep (length k.slots) names step c → Simulates names (checker_act t n step k) (act t n c s)
 unfolding act
-simulates_acting names k s f h t n r step (new_task x) e = subst (λ z. Simulates names (checker_act t n z k) (act t n (new_task x) s)) (sym e.1) (subst (λ y. Simulates names (checker_act t n (a_step.NewTask e.0) k) (act t n (new_task y) s)) e.2.1 (simulating.simulates_new_task names k s f h t n r e.0.0 e.2.0))
-simulates_acting names k s f h t n r step (new_phaser x) e = subst (λ z. Simulates names (checker_act t n z k) (act t n (new_phaser x) s)) (sym e.1) (subst (λ y. Simulates names (checker_act t n (a_step.NewPhaser e.0) k) (act t n (new_phaser y) s)) e.2.1 (simulating.simulates_new_phaser names k s f h t n r e.0.0 e.2.0))
+simulates_acting names k s f h t n r step (new_task x) e = subst (λ z. Simulates names (checker_act t n z k) (act t n (new_task x) s)) (sym e.1)
+    (subst (λ y. Simulates names (checker_act t n (a_step.NewTask e.0) k) (act t n (new_task y) s)) e.2.1
+    (simulating.simulates_new_task names k s f h t n r e.0.0 e.2.0))
+simulates_acting names k s f h t n r step (new_phaser x) e = subst (λ z. Simulates names (checker_act t n z k) (act t n (new_phaser x) s)) (sym e.1)
+    (subst (λ y. Simulates names (checker_act t n (a_step.NewPhaser e.0) k) (act t n (new_phaser y) s)) e.2.1
+    (simulating.simulates_new_phaser names k s f h t n r e.0.0 e.2.0))
 simulates_acting names k s f h t n r step (reg x y) e = subst (λ z. Simulates names (checker_act t n z k) (act t n (reg x y) s)) (sym e.2)
-    (subst (λ v. Simulates names (checker_act t n (a_step.Reg e.0 e.1) k) (act t n (reg v y) s)) e.3.1 (subst (λ v. Simulates names (checker_act t n (a_step.Reg e.0 e.1) k) (act t n (reg (names e.0.0) v) s)) e.4.1 (simulating.simulates_reg names k s f h t n r e.0.0 e.1.0 e.3.0 e.4.0)))
-simulates_acting names k s f h t n r step (dereg x) e = subst (λ z. Simulates names (checker_act t n z k) (act t n (dereg x) s)) (sym e.1) (subst (λ y. Simulates names (checker_act t n (a_step.Dereg e.0) k) (act t n (dereg y) s)) e.2.1 (simulating.simulates_dereg names k s f h t n r e.0.0 e.2.0))
-simulates_acting names k s f h t n r step (adv x) e = subst (λ z. Simulates names (checker_act t n z k) (act t n (adv x) s)) (sym e.1) (subst (λ y. Simulates names (checker_act t n (a_step.Adv e.0) k) (act t n (adv y) s)) e.2.1 (simulating.simulates_adv names k s f h t n r e.0.0 e.2.0))
-simulates_acting names k s f h t n r step (await x off) e = subst (λ z. Simulates names (checker_act t n z k) (act t n (await x off) s)) (sym e.1) (subst (λ y. Simulates names (checker_act t n (a_step.Await e.0 off) k) (act t n (await y off) s)) e.2.1 (simulating.simulates_await names k s f h t n r e.0.0 off e.2.0))
+    (subst (λ v. Simulates names (checker_act t n (a_step.Reg e.0 e.1) k) (act t n (reg v y) s)) e.3.1
+        (subst (λ v. Simulates names (checker_act t n (a_step.Reg e.0 e.1) k) (act t n (reg (names e.0.0) v) s)) e.4.1
+        (simulating.simulates_reg names k s f h t n r e.0.0 e.1.0 e.3.0 e.4.0)))
+simulates_acting names k s f h t n r step (dereg x) e = subst (λ z. Simulates names (checker_act t n z k) (act t n (dereg x) s)) (sym e.1)
+    (subst (λ y. Simulates names (checker_act t n (a_step.Dereg e.0) k) (act t n (dereg y) s)) e.2.1
+    (simulating.simulates_dereg names k s f h t n r e.0.0 e.2.0))
+simulates_acting names k s f h t n r step (adv x) e = subst (λ z. Simulates names (checker_act t n z k) (act t n (adv x) s)) (sym e.1)
+    (subst (λ y. Simulates names (checker_act t n (a_step.Adv e.0) k) (act t n (adv y) s)) e.2.1 (simulating.simulates_adv names k s f h t n r e.0.0 e.2.0))
+simulates_acting names k s f h t n r step (await x off) e = subst (λ z. Simulates names (checker_act t n z k) (act t n (await x off) s)) (sym e.1)
+    (subst (λ y. Simulates names (checker_act t n (a_step.Await e.0 off) k) (act t n (await y off) s)) e.2.1
+    (simulating.simulates_await names k s f h t n r e.0.0 off e.2.0))
 simulates_acting names k s f h t n r step skip e = subst (λ z. Simulates names (checker_act t n z k) (act t n skip s)) (sym e) (s, refl, h)
 
 pub keeps_acting : (k : Checker) → IsChecker k → (t n : ℕ) (step : Step) → HasNames (length k.slots) step → KeepsAll k (checker_act t n step k)
@@ -70,11 +83,13 @@ pub record On (n to t : ℕ) (steps : List Step) (at : ℕ) (k : Checker) (at' :
   pub forward : at ≤ at'
   pub list : IsList n steps at' to
   pub keeps : Keeps k k'
-  pub all : (names : ℕ → List ℕ) (s : UnfoldingState) (tree : Tree) → IsSpelled n names steps at tree to → ShowsState names k s → Rest names n to t steps (make_visits t (visits_of (at + 1) tree) s) at' k'
+  pub all : (names : ℕ → List ℕ) (s : UnfoldingState) (tree : Tree) → IsSpelled n names steps at tree to → ShowsState names k s →
+      Rest names n to t steps (make_visits t (visits_of (at + 1) tree) s) at' k'
 
 -- a fault from an index on
 abbrev pub Failed : ℕ → ℕ → ℕ → List Step → ℕ → Checker → CheckFault → Type 0
-Failed n to t steps at k f = (names : ℕ → List ℕ) (s : UnfoldingState) (tree : Tree) → IsSpelled n names steps at tree to → ShowsState names k s → make_visits t (visits_of (at + 1) tree) s ≡ Err f
+Failed n to t steps at k f = (names : ℕ → List ℕ) (s : UnfoldingState) (tree : Tree) → IsSpelled n names steps at tree to → ShowsState names k s →
+    make_visits t (visits_of (at + 1) tree) s ≡ Err f
 
 pub on_start : (n to t : ℕ) (steps : List Step) (at : ℕ) (k : Checker) → IsChecker k → IsList n steps at to → On n to t steps at k at k
 on_start n to t steps at k f list = record {
@@ -85,7 +100,8 @@ on_start n to t steps at k f list = record {
   all = λ names s tree e h. record { rest = tree; state = s; spelled = e; shows = h; same = refl };
 }
 
-pub on_through : (n to t : ℕ) (steps : List Step) (a : ℕ) (ka : Checker) (b : ℕ) (kb : Checker) (c : ℕ) (kc : Checker) → On n to t steps a ka b kb → On n to t steps b kb c kc → On n to t steps a ka c kc
+pub on_through : (n to t : ℕ) (steps : List Step) (a : ℕ) (ka : Checker) (b : ℕ) (kb : Checker) (c : ℕ) (kc : Checker) → On n to t steps a ka b kb →
+    On n to t steps b kb c kc → On n to t steps a ka c kc
 on_through n to t steps a ka b kb c kc p q = record {
   within = q.within;
   forward = omega (arith, p.forward, q.forward);
@@ -97,12 +113,14 @@ on_through n to t steps a ka b kb c kc p q = record {
       record { rest = r'.rest; state = r'.state; spelled = r'.spelled; shows = r'.shows; same = r'.same ∙ r.same };
 }
 
-pub on_failed : (n to t : ℕ) (steps : List Step) (a : ℕ) (ka : Checker) (b : ℕ) (kb : Checker) (f : CheckFault) → On n to t steps a ka b kb → Failed n to t steps b kb f → Failed n to t steps a ka f
+pub on_failed : (n to t : ℕ) (steps : List Step) (a : ℕ) (ka : Checker) (b : ℕ) (kb : Checker) (f : CheckFault) → On n to t steps a ka b kb →
+    Failed n to t steps b kb f → Failed n to t steps a ka f
 on_failed n to t steps a ka b kb f p q = λ names s tree e h.
     let r = p.all names s tree e h in
     sym r.same ∙ q names r.state r.rest r.spelled r.shows
 
-pub on_ended : (n to t : ℕ) (steps : List Step) (a : ℕ) (ka : Checker) (b : ℕ) (kb : Checker) (names : ℕ → List ℕ) (s : UnfoldingState) (tree : Tree) → to ≤ b → IsSpelled n names steps a tree to → ShowsState names ka s → On n to t steps a ka b kb →
+pub on_ended : (n to t : ℕ) (steps : List Step) (a : ℕ) (ka : Checker) (b : ℕ) (kb : Checker) (names : ℕ → List ℕ) (s : UnfoldingState) (tree : Tree) → to ≤ b →
+    IsSpelled n names steps a tree to → ShowsState names ka s → On n to t steps a ka b kb →
     (s' : UnfoldingState) × (make_visits t (visits_of (a + 1) tree) s ≡ Ok s') × ShowsState names kb s'
 unfolding make_visits
 on_ended n to t steps a ka b kb names s tree le e h p =
@@ -117,7 +135,8 @@ on_ended n to t steps a ka b kb names s tree le e h p =
 
 -- ---- one visit
 
-pub simulates_ok : (names : ℕ → List ℕ) (o : Outcome Checker) (k : Checker) (g : Outcome UnfoldingState) → o ≡ Ok k → Simulates names o g → (s : UnfoldingState) × (g ≡ Ok s) × ShowsState names k s
+pub simulates_ok : (names : ℕ → List ℕ) (o : Outcome Checker) (k : Checker) (g : Outcome UnfoldingState) → o ≡ Ok k → Simulates names o g →
+    (s : UnfoldingState) × (g ≡ Ok s) × ShowsState names k s
 simulates_ok names o k g e h = subst (λ v. Simulates names v g) e h
 
 pub simulates_err : (names : ℕ → List ℕ) (o : Outcome Checker) (f : CheckFault) (g : Outcome UnfoldingState) → o ≡ Err f → Simulates names o g → g ≡ Err f
@@ -139,7 +158,8 @@ pub record PlainAt (n : ℕ) (names : ℕ → List ℕ) (steps : List Step) (i t
   pub here : IsStep n names (step_at steps i) statement
   pub rest_there : IsSpelled n names steps (i + 1) rest to
 
-pub plain_at : (n : ℕ) (names : ℕ → List ℕ) (steps : List Step) (i to : ℕ) (tree : Tree) → IsSpelled n names steps i tree to → i < to → IsPlain (step_at steps i) → PlainAt n names steps i to tree
+pub plain_at : (n : ℕ) (names : ℕ → List ℕ) (steps : List Step) (i to : ℕ) (tree : Tree) → IsSpelled n names steps i tree to → i < to →
+    IsPlain (step_at steps i) → PlainAt n names steps i to tree
 plain_at n names steps i to done e lt p = absurd (omega arith)
 plain_at n names steps i to (plain s rest) e lt p = record { statement = s; rest = rest; tree_is = refl; here = e.0; rest_there = e.1 }
 plain_at n names steps i to (fork x body rest) e lt p = absurd (subst IsPlain e.2 p)
@@ -154,7 +174,9 @@ pub record ForkAt (n : ℕ) (names : ℕ → List ℕ) (steps : List Step) (i to
   pub body_there : IsSpelled n names steps (i + 1) body after
   pub rest_there : IsSpelled n names steps after rest to
 
-fork_at_same : (n : ℕ) (names : ℕ → List ℕ) (steps : List Step) (i to : ℕ) (x x' : NameId) (after after' : ℕ) (name : List ℕ) (body rest : Tree) → x' ≡ x → after' ≡ after → IsNumberOfName n names x' name → IsSpelled n names steps (i + 1) body after' → IsSpelled n names steps after' rest to → ForkAt n names steps i to x after (fork name body rest)
+fork_at_same : (n : ℕ) (names : ℕ → List ℕ) (steps : List Step) (i to : ℕ) (x x' : NameId) (after after' : ℕ) (name : List ℕ) (body rest : Tree) → x' ≡ x →
+    after' ≡ after → IsNumberOfName n names x' name → IsSpelled n names steps (i + 1) body after' → IsSpelled n names steps after' rest to →
+    ForkAt n names steps i to x after (fork name body rest)
 fork_at_same n names steps i to x x' after after' name body rest p q a b r = record {
   name = name;
   body = body;
@@ -165,7 +187,8 @@ fork_at_same n names steps i to x x' after after' name body rest p q a b r = rec
   rest_there = subst (λ z. IsSpelled n names steps z rest to) q r;
 }
 
-pub fork_at : (n : ℕ) (names : ℕ → List ℕ) (steps : List Step) (i to : ℕ) (x : NameId) (after : ℕ) (tree : Tree) → IsSpelled n names steps i tree to → i < to → step_at steps i ≡ a_step.Fork x after → ForkAt n names steps i to x after tree
+pub fork_at : (n : ℕ) (names : ℕ → List ℕ) (steps : List Step) (i to : ℕ) (x : NameId) (after : ℕ) (tree : Tree) → IsSpelled n names steps i tree to → i < to →
+    step_at steps i ≡ a_step.Fork x after → ForkAt n names steps i to x after tree
 fork_at n names steps i to x after done e lt is = absurd (omega arith)
 fork_at n names steps i to x after (plain s rest) e lt is = absurd (no_plain (step_at steps i) s e.0 is)
   where
@@ -191,7 +214,8 @@ pub record LoopAt (n : ℕ) (names : ℕ → List ℕ) (steps : List Step) (i to
   pub body_there : IsSpelled n names steps (i + 1) body after
   pub rest_there : IsSpelled n names steps after rest to
 
-loop_at_same : (n : ℕ) (names : ℕ → List ℕ) (steps : List Step) (i to k after k' after' : ℕ) (body rest : Tree) → k' ≡ k → after' ≡ after → IsSpelled n names steps (i + 1) body after' → IsSpelled n names steps after' rest to → LoopAt n names steps i to k after (loop k' body rest)
+loop_at_same : (n : ℕ) (names : ℕ → List ℕ) (steps : List Step) (i to k after k' after' : ℕ) (body rest : Tree) → k' ≡ k → after' ≡ after →
+    IsSpelled n names steps (i + 1) body after' → IsSpelled n names steps after' rest to → LoopAt n names steps i to k after (loop k' body rest)
 loop_at_same n names steps i to k after k' after' body rest p q b r = record {
   body = body;
   rest = rest;
@@ -200,7 +224,8 @@ loop_at_same n names steps i to k after k' after' body rest p q b r = record {
   rest_there = subst (λ z. IsSpelled n names steps z rest to) q r;
 }
 
-pub loop_at : (n : ℕ) (names : ℕ → List ℕ) (steps : List Step) (i to k after : ℕ) (tree : Tree) → IsSpelled n names steps i tree to → i < to → step_at steps i ≡ a_step.Loop k after → LoopAt n names steps i to k after tree
+pub loop_at : (n : ℕ) (names : ℕ → List ℕ) (steps : List Step) (i to k after : ℕ) (tree : Tree) → IsSpelled n names steps i tree to → i < to →
+    step_at steps i ≡ a_step.Loop k after → LoopAt n names steps i to k after tree
 loop_at n names steps i to k after done e lt is = absurd (omega arith)
 loop_at n names steps i to k after (plain s rest) e lt is = absurd (no_plain (step_at steps i) s e.0 is)
   where

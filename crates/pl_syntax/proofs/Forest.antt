@@ -153,7 +153,8 @@ offset_off ss d (name x ∷ ts) h = absurd (let q = h.0 in cc)
 offset_off ss d (number n ∷ ts) h = absurd (let q = h.0 in cc)
 
 -- a statement without a body, before the trees that follow
-before_trees : (c : Plain) (d : ℕ) (ts us : List Token) → ts ≡ plain_tokens c us → Splits [] d us → ((p : Tree) (rest : List Token) → tokens (plain c p) rest ≡ plain_tokens c (tokens p rest)) → Splits [] d ts
+before_trees : (c : Plain) (d : ℕ) (ts us : List Token) → ts ≡ plain_tokens c us → Splits [] d us →
+    ((p : Tree) (rest : List Token) → tokens (plain c p) rest ≡ plain_tokens c (tokens p rest)) → Splits [] d ts
 before_trees c d ts us e h same = (plain c h.0, h.1, h.2, e ∙ ap (plain_tokens c) h.3 ∙ closed c h.0 h.1)
   where
     closed : (c : Plain) (p : Tree) (qs : List Tree) → plain_tokens c (close p qs) ≡ close (plain c p) qs
@@ -190,7 +191,8 @@ t_closed = a_sign CloseParen ∷ t_brace
 abbrev t_forked : List Shape
 t_forked = a_name ∷ t_closed
 
-named_of : (w : Token) (c : List ℕ → Plain) (d : ℕ) (ts : List Token) → ((x : List ℕ) (us : List Token) → plain_tokens (c x) us ≡ w ∷ sign OpenParen ∷ name x ∷ sign CloseParen ∷ sign Semicolon ∷ us)
+named_of : (w : Token) (c : List ℕ → Plain) (d : ℕ) (ts : List Token) →
+    ((x : List ℕ) (us : List Token) → plain_tokens (c x) us ≡ w ∷ sign OpenParen ∷ name x ∷ sign CloseParen ∷ sign Semicolon ∷ us)
     → Splits s_named d ts → Splits [] d (w ∷ ts)
 named_of w c d ts spelled h =
     let a = sign_off OpenParen t_name d ts refl h in

@@ -23,7 +23,8 @@ module _ (scan : Scan) where
       subst (λ (z : List ℕ × List ℕ). Leads scan text (sign OpenParen ∷ name z.0 ∷ sign CloseParen ∷ []) z.1) (ok_is (b.0.0, c.0) y c.2)
       (a.0, sign_ok scan OpenParen text a.0 a.1, (b.0.1, name_ok scan a.0 b.0 b.1, (c.0, sign_ok scan CloseParen b.0.1 c.0 c.1, refl)))
 
-  pub in_parens_err : (ss : List Shape) (d : ℕ) (text : List ℕ) (f : SyntaxFault) → d ≤ MAX_OPEN_BRACES → in_parens_at scan text ≡ Err f → Stuck scan (a_sign OpenParen ∷ a_name ∷ a_sign CloseParen ∷ ss) d text f
+  pub in_parens_err : (ss : List Shape) (d : ℕ) (text : List ℕ) (f : SyntaxFault) → d ≤ MAX_OPEN_BRACES → in_parens_at scan text ≡ Err f →
+      Stuck scan (a_sign OpenParen ∷ a_name ∷ a_sign CloseParen ∷ ss) d text f
   unfolding in_parens_at
   in_parens_err ss d text f le e =
       elim (bind_err (sign_at scan OpenParen text) _ f e) [
@@ -52,7 +53,8 @@ module _ (scan : Scan) where
       let a = bind_ok (in_parens_at scan text) _ y e in
       let c = bind_ok (sign_at scan Semicolon a.0.1) _ y a.2 in
       subst (λ (z : List ℕ × List ℕ). Leads scan text (sign OpenParen ∷ name z.0 ∷ sign CloseParen ∷ sign Semicolon ∷ []) z.1) (ok_is (a.0.0, c.0) y c.2)
-      (Leads-append scan text (sign OpenParen ∷ name a.0.0 ∷ sign CloseParen ∷ []) a.0.1 (sign Semicolon ∷ []) c.0 (in_parens_ok text a.0 a.1) (c.0, sign_ok scan Semicolon a.0.1 c.0 c.1, refl))
+      (Leads-append scan text (sign OpenParen ∷ name a.0.0 ∷ sign CloseParen ∷ []) a.0.1 (sign Semicolon ∷ []) c.0 (in_parens_ok text a.0 a.1)
+          (c.0, sign_ok scan Semicolon a.0.1 c.0 c.1, refl))
 
   pub named_err : (d : ℕ) (text : List ℕ) (f : SyntaxFault) → d ≤ MAX_OPEN_BRACES → named_at scan text ≡ Err f → Stuck scan s_named d text f
   unfolding named_at
@@ -76,7 +78,8 @@ module _ (scan : Scan) where
       let g = bind_ok (name_at scan c.0) _ y c.2 in
       let h = bind_ok (sign_at scan CloseParen g.0.1) _ y g.2 in
       let i = bind_ok (sign_at scan Semicolon h.0) _ y h.2 in
-      subst (λ (z : List ℕ × List ℕ × List ℕ). Leads scan text (sign OpenParen ∷ name z.0 ∷ sign Comma ∷ name z.1 ∷ sign CloseParen ∷ sign Semicolon ∷ []) z.2) (ok_is (b.0.0, g.0.0, i.0) y i.2) (
+      subst (λ (z : List ℕ × List ℕ × List ℕ). Leads scan text (sign OpenParen ∷ name z.0 ∷ sign Comma ∷ name z.1 ∷ sign CloseParen ∷ sign Semicolon ∷ []) z.2)
+          (ok_is (b.0.0, g.0.0, i.0) y i.2) (
         a.0,
         sign_ok scan OpenParen text a.0 a.1,
         (
@@ -203,7 +206,8 @@ module _ (scan : Scan) where
 
   -- the tokens of the offset, and its brace
   OffsetTook : List ℕ → Token → List ℕ → Offset × List ℕ → Type 0
-  OffsetTook text t rest y = (us : List Token) (end : List ℕ) → front scan text ≡ Ok (t, rest) → Leads scan y.1 us end → Leads scan text (offset_tokens y.0 (sign CloseParen ∷ us)) end
+  OffsetTook text t rest y = (us : List Token) (end : List ℕ) → front scan text ≡ Ok (t, rest) → Leads scan y.1 us end →
+      Leads scan text (offset_tokens y.0 (sign CloseParen ∷ us)) end
 
   far_leads : (way : ℕ → Offset) (s : Sign) (text rest : List ℕ) (y : Offset × List ℕ)
       → ((n : ℕ) (us : List Token) → sign s ∷ number n ∷ us ≡ offset_tokens (way n) us) → far_at scan way rest ≡ Ok y → OffsetTook text (sign s) rest y

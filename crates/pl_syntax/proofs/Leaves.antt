@@ -33,7 +33,8 @@ ok_is x y e = cc
 
 -- ---- tokens in two parts
 
-pub Leads-append : (scan : Scan) (text : List ℕ) (ts : List Token) (mid : List ℕ) (us : List Token) (rest : List ℕ) → Leads scan text ts mid → Leads scan mid us rest → Leads scan text (ts ++ us) rest
+pub Leads-append : (scan : Scan) (text : List ℕ) (ts : List Token) (mid : List ℕ) (us : List Token) (rest : List ℕ) → Leads scan text ts mid →
+    Leads scan mid us rest → Leads scan text (ts ++ us) rest
 Leads-append scan text [] mid us rest p q = subst (λ x. Leads scan x us rest) (sym p) q
 Leads-append scan text (t ∷ ts) mid us rest p q = (p.0, p.1, Leads-append scan p.0 ts mid us rest p.2 q)
 
@@ -99,7 +100,8 @@ module _ (scan : Scan) where
   fault_is f g e = cc
 
   -- a token that does not fit the shape
-  misfit : (s : Shape) (ss : List Shape) (d : ℕ) (text : List ℕ) (t : Token) (rest : List ℕ) (f : Fault) → d ≤ MAX_OPEN_BRACES → front scan text ≡ Ok (t, rest) → fits s t ≡ false → f ≡ unexpected scan text → Stuck scan (s ∷ ss) d text f
+  misfit : (s : Shape) (ss : List Shape) (d : ℕ) (text : List ℕ) (t : Token) (rest : List ℕ) (f : Fault) → d ≤ MAX_OPEN_BRACES →
+      front scan text ≡ Ok (t, rest) → fits s t ≡ false → f ≡ unexpected scan text → Stuck scan (s ∷ ss) d text f
   misfit s ss d text t rest f le here misses is = refused (s ∷ ss) d text f le record { token = t; rest = rest; here = here; no_step = rw misses refl; fault_is = is }
 
   -- ---- a sign
@@ -268,7 +270,8 @@ module _ (scan : Scan) where
 
   -- ---- behind one token
 
-  pub after : (s : Shape) (t : Token) (ss : List Shape) (d d' : ℕ) (text mid : List ℕ) (f : Fault) → front scan text ≡ Ok (t, mid) → fits s t ≡ true → opened t d ≡ d' → d ≤ MAX_OPEN_BRACES → d' ≤ MAX_OPEN_BRACES
+  pub after : (s : Shape) (t : Token) (ss : List Shape) (d d' : ℕ) (text mid : List ℕ) (f : Fault) → front scan text ≡ Ok (t, mid) → fits s t ≡ true →
+      opened t d ≡ d' → d ≤ MAX_OPEN_BRACES → d' ≤ MAX_OPEN_BRACES
       → then s t ss ≡ ss → Stuck scan ss d' mid f → Stuck scan (s ∷ ss) d text f
   after s t ss d d' text mid f here fit depth le le' same stuck =
       behind scan (s ∷ ss) d text (t ∷ []) ss d' mid f (mid, here, refl) (rw (fit, same, depth) refl) (le, rw depth le') depth stuck
@@ -280,10 +283,12 @@ module _ (scan : Scan) where
       fits_itself : (s : Sign) → fits (a_sign s) (sign s) ≡ true
       fits_itself s = grind (arith, nat_tests)
 
-  pub after_name : (ss : List Shape) (d : ℕ) (text : List ℕ) (y : List ℕ × List ℕ) (f : Fault) → d ≤ MAX_OPEN_BRACES → name_at scan text ≡ Ok y → Stuck scan ss d y.1 f → Stuck scan (a_name ∷ ss) d text f
+  pub after_name : (ss : List Shape) (d : ℕ) (text : List ℕ) (y : List ℕ × List ℕ) (f : Fault) → d ≤ MAX_OPEN_BRACES → name_at scan text ≡ Ok y →
+      Stuck scan ss d y.1 f → Stuck scan (a_name ∷ ss) d text f
   after_name ss d text y f le e stuck = after a_name (name y.0) ss d d text y.1 f (name_ok text y e) refl refl le le refl stuck
 
-  pub after_number : (ss : List Shape) (d : ℕ) (text : List ℕ) (y : ℕ × List ℕ) (f : Fault) → d ≤ MAX_OPEN_BRACES → number_at scan text ≡ Ok y → Stuck scan ss d y.1 f → Stuck scan (a_number ∷ ss) d text f
+  pub after_number : (ss : List Shape) (d : ℕ) (text : List ℕ) (y : ℕ × List ℕ) (f : Fault) → d ≤ MAX_OPEN_BRACES → number_at scan text ≡ Ok y →
+      Stuck scan ss d y.1 f → Stuck scan (a_number ∷ ss) d text f
   after_number ss d text y f le e stuck = after a_number (number y.0) ss d d text y.1 f (number_ok text y e) refl refl le le refl stuck
 
   maker_fits : (b : Bool) → fits a_maker (maker_of b) ≡ true
@@ -294,11 +299,13 @@ module _ (scan : Scan) where
   maker_flat true d = refl
   maker_flat false d = refl
 
-  pub after_maker : (ss : List Shape) (d : ℕ) (text : List ℕ) (y : Bool × List ℕ) (f : Fault) → d ≤ MAX_OPEN_BRACES → maker_at scan text ≡ Ok y → Stuck scan ss d y.1 f → Stuck scan (a_maker ∷ ss) d text f
+  pub after_maker : (ss : List Shape) (d : ℕ) (text : List ℕ) (y : Bool × List ℕ) (f : Fault) → d ≤ MAX_OPEN_BRACES → maker_at scan text ≡ Ok y →
+      Stuck scan ss d y.1 f → Stuck scan (a_maker ∷ ss) d text f
   after_maker ss d text y f le e stuck = after a_maker (maker_of y.0) ss d d text y.1 f (maker_ok text y e) (maker_fits y.0) (maker_flat y.0 d) le le refl stuck
 
   -- the token at which a sign was wanted
-  pub sign_fault : (s : Sign) (text : List ℕ) (t : Token) (rest : List ℕ) (f : Fault) → front scan text ≡ Ok (t, rest) → sign_at scan s text ≡ Err f → (fits (a_sign s) t ≡ false) × (f ≡ unexpected scan text)
+  pub sign_fault : (s : Sign) (text : List ℕ) (t : Token) (rest : List ℕ) (f : Fault) → front scan text ≡ Ok (t, rest) → sign_at scan s text ≡ Err f →
+      (fits (a_sign s) t ≡ false) × (f ≡ unexpected scan text)
   unfolding sign_at
   sign_fault s text t rest f here e =
       let g : sign_in scan s text t rest ≡ Err f = rw here at e in

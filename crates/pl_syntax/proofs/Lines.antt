@@ -88,7 +88,8 @@ module _ (depth : ℕ) (items : List Stmt) (i : ℕ) (body : Tree) (out old : Li
       all = now.all;
       text =
           let rest = tree_of (drop (i + 1) items) in
-          let a : new ++ printed_at depth rest ≡ out ++ printed_at depth (followed_by q rest) = rw (e, printed_first depth q rest) (append_assoc out (printed_at depth (followed_by q done)) (printed_at depth rest)) in
+          let a : new ++ printed_at depth rest ≡ out ++ printed_at depth (followed_by q rest) = rw (e, printed_first depth q rest)
+                  (append_assoc out (printed_at depth (followed_by q done)) (printed_at depth rest)) in
           a ∙ ap (λ (p : Tree). out ++ printed_at depth p) (sym next_is) ∙ now.text;
       names = λ m. now.names (subst (λ (p : Tree). TreeIsWritable p) (sym next_is) (names_first q (tree_of (drop (i + 1) items)) n m));
       deep = let h = height_first q (tree_of (drop (i + 1) items)) in let d = now.deep in let e = ap height next_is in omega arith;
@@ -106,5 +107,6 @@ pub fork_lines : (depth : ℕ) (x inner out one two three : List ℕ)
     → three ≡ out ++ (indented_line depth (codes "fork(" ++ x ++ codes ") {") ++ inner ++ indented_line depth (codes "}") ++ [])
 fork_lines depth x inner out one two three a b c = rw (c, b, a) (simp append_assoc)
 
-pub named_line : (depth : ℕ) (x out new : List ℕ) → new ≡ out ++ replicate (2 * depth) 32 ++ [] ++ x ++ codes " = newTid();\n" → new ≡ out ++ (indented_line depth (x ++ codes " = newTid();") ++ [])
+pub named_line : (depth : ℕ) (x out new : List ℕ) → new ≡ out ++ replicate (2 * depth) 32 ++ [] ++ x ++ codes " = newTid();\n" →
+    new ≡ out ++ (indented_line depth (x ++ codes " = newTid();") ++ [])
 named_line depth x out new e = rw e (simp (append_assoc, append-nil))

@@ -202,6 +202,7 @@ depth_is (t ∷ ts) ss d us n e =
     on m.0 m.1 (let h : go (Some m.0) (λ next. run next ts) ≡ Some (at us n) = rw m.1 at e in h)
     (λ us' n' h. depth_is ts us' n' us n h)
   where
-    on : (mid : State) → step (at ss d) t ≡ Some mid → run mid ts ≡ Some (at us n) → ((us' : List Shape) (n' : ℕ) → run (at us' n') ts ≡ Some (at us n) → open_after n' ts ≡ n) → open_after (opened t d) ts ≡ n
+    on : (mid : State) → step (at ss d) t ≡ Some mid → run mid ts ≡ Some (at us n) →
+        ((us' : List Shape) (n' : ℕ) → run (at us' n') ts ≡ Some (at us n) → open_after n' ts ≡ n) → open_after (opened t d) ts ≡ n
     on (at us' n') s h rec = subst (λ x. open_after x ts ≡ n) (sym (step_depth ss d t us' n' s)) (rec us' n' h)
     on over s h rec = absurd (over_not ts us n h)

@@ -17,7 +17,8 @@ count_first s.Skip p = omega arith
 count_first (s.Fork x i) p = omega arith
 count_first (s.Loop n i) p = omega arith
 
-pub counts : (items : List Stmt) (i : ℕ) (q : Stmt) → i < length items → q ≡ get_or items i q → count (tree_of (drop i items)) ≡ count (followed_by q done) + count (tree_of (drop (i + 1) items))
+pub counts : (items : List Stmt) (i : ℕ) (q : Stmt) → i < length items → q ≡ get_or items i q →
+    count (tree_of (drop i items)) ≡ count (followed_by q done) + count (tree_of (drop (i + 1) items))
 counts items i q lt is =
     ap count (ap tree_of (drop_more items i q lt) ∙ ap (λ (x : Stmt). followed_by x (tree_of (drop (i + 1) items))) (sym is)) ∙ count_first q (tree_of (drop (i + 1) items))
 

@@ -38,9 +38,6 @@ and_parts false b e = absurd cc
 and_both : (a b : Bool) → a ≡ true → b ≡ true → (a && b) ≡ true
 and_both a b p q = rw (p, q) refl
 
-lower_word : (b : ℕ) → is_lower b ≡ true → is_word_byte b ≡ true
-lower_word b e = rw e refl
-
 name_word : (b : ℕ) → is_name_byte b ≡ true → is_word_byte b ≡ true
 name_word b e = grind (arith, nat_tests)
 
@@ -117,7 +114,8 @@ one_digit n h = record { digits = grind (arith, nat_tests); value = omega arith;
 
 more_digits : (n : ℕ) (ds : List ℕ) → 10 ≤ n → IsNumeral (n / 10) ds → IsNumeral n (ds ++ ((48 + n % 10) ∷ []))
 more_digits n ds h i = record {
-  digits = list_all-append is_digit ds ((48 + n % 10) ∷ []) ∙ and_both (list_all is_digit ds) (list_all is_digit ((48 + n % 10) ∷ [])) i.digits (let p : n % 10 < 10 = omega arith in grind (arith, nat_tests));
+  digits = list_all-append is_digit ds ((48 + n % 10) ∷ []) ∙
+      and_both (list_all is_digit ds) (list_all is_digit ((48 + n % 10) ∷ [])) i.digits (let p : n % 10 < 10 = omega arith in grind (arith, nat_tests));
   value = (let v = value_more 0 ds (48 + n % 10) in let w = i.value in omega arith);
   some = (let l = length-append ds ((48 + n % 10) ∷ []) in omega arith);
 }
@@ -152,7 +150,8 @@ number_word n b bs h e i =
     let s : nat_le (length (b ∷ bs)) MAX_DIGITS ≡ true = grind (arith, nat_tests) in
     let v : nat_le (value_from 0 (b ∷ bs)) MAX_NUMBER ≡ true = (let q = i.value in grind (arith, nat_tests)) in
     let good : is_number (b ∷ bs) ≡ true =
-    and_both (list_all is_digit (b ∷ bs)) _ i.digits (and_both (has_no_leading_zero (b ∷ bs)) _ (leads_well n (b ∷ bs) h e) (and_both (nat_le (length (b ∷ bs)) MAX_DIGITS) (nat_le (value_from 0 (b ∷ bs)) MAX_NUMBER) s v)) in
+    and_both (list_all is_digit (b ∷ bs)) _ i.digits (and_both (has_no_leading_zero (b ∷ bs)) _ (leads_well n (b ∷ bs) h e)
+        (and_both (nat_le (length (b ∷ bs)) MAX_DIGITS) (nat_le (value_from 0 (b ∷ bs)) MAX_NUMBER) s v)) in
     let some : number_of (b ∷ bs) ≡ Some n = ap (λ v. cond v (Some (value_from 0 (b ∷ bs))) None) good ∙ ap (λ (m : ℕ). Some m) i.value in
     let any : list_any is_digit (take 1 (b ∷ bs)) ≡ true = rw d.0 refl in
     ap (λ v. cond v (digits_token (number_of (b ∷ bs))) (letters_token (b ∷ bs) (keyword_of (b ∷ bs)))) any ∙ ap digits_token some
@@ -304,7 +303,8 @@ module _ (scan : Scan) where
   indented : (n : ℕ) (t : List ℕ) (u : Token) (mid : List ℕ) → front scan t ≡ Ok (u, mid) → front scan (replicate n 32 ++ t) ≡ Ok (u, mid)
   indented n t u mid e = spaces scan n t ∙ e
 
-  named_line : (n : ℕ) (kw : List ℕ) (w : Token) (x : List ℕ) (t : List ℕ) (us : List Token) (end : List ℕ) → ((r : List ℕ) → front scan (kw ++ r) ≡ Ok (w, 40 ∷ r)) → IsName x → Leads scan t us end
+  named_line : (n : ℕ) (kw : List ℕ) (w : Token) (x : List ℕ) (t : List ℕ) (us : List Token) (end : List ℕ) →
+      ((r : List ℕ) → front scan (kw ++ r) ≡ Ok (w, 40 ∷ r)) → IsName x → Leads scan t us end
       → Leads scan (replicate n 32 ++ (kw ++ (x ++ (41 ∷ 59 ∷ t)))) (w ∷ sign OpenParen ∷ name x ∷ sign CloseParen ∷ sign Semicolon ∷ us) end
   named_line n kw w x t us end f i h = (
     40 ∷ (x ++ (41 ∷ 59 ∷ t)),
@@ -312,7 +312,8 @@ module _ (scan : Scan) where
     (x ++ (41 ∷ 59 ∷ t), open_front (x ++ (41 ∷ 59 ∷ t)), (41 ∷ 59 ∷ t, name_front scan x 41 (59 ∷ t) i refl, (59 ∷ t, close_front (59 ∷ t), (t, semicolon_front t, h)))),
   )
 
-  far_line : (n : ℕ) (x : List ℕ) (c m : ℕ) (w : Token) (t : List ℕ) (us : List Token) (end : List ℕ) → ((r : List ℕ) → front scan (32 ∷ c ∷ r) ≡ Ok (w, r)) → IsName x → m ≤ MAX_NUMBER
+  far_line : (n : ℕ) (x : List ℕ) (c m : ℕ) (w : Token) (t : List ℕ) (us : List Token) (end : List ℕ) → ((r : List ℕ) → front scan (32 ∷ c ∷ r) ≡ Ok (w, r)) →
+      IsName x → m ≤ MAX_NUMBER
       → Leads scan t us end
       → Leads scan (replicate n 32 ++ (codes "await(" ++ (x ++ (32 ∷ c ∷ 32 ∷ (decimal m ++ (41 ∷ 59 ∷ t))))))
       (word k.Await ∷ sign OpenParen ∷ name x ∷ w ∷ number m ∷ sign CloseParen ∷ sign Semicolon ∷ us) end
@@ -366,7 +367,8 @@ module _ (scan : Scan) where
         ),
       )
 
-  drawn_line : (n : ℕ) (x : List ℕ) (kw : List ℕ) (w : Token) (t : List ℕ) (us : List Token) (end : List ℕ) → ((r : List ℕ) → front scan (kw ++ r) ≡ Ok (w, 40 ∷ r)) → IsName x → Leads scan t us end
+  drawn_line : (n : ℕ) (x : List ℕ) (kw : List ℕ) (w : Token) (t : List ℕ) (us : List Token) (end : List ℕ) →
+      ((r : List ℕ) → front scan (kw ++ r) ≡ Ok (w, 40 ∷ r)) → IsName x → Leads scan t us end
       → Leads scan (replicate n 32 ++ (x ++ (32 ∷ 61 ∷ (kw ++ (41 ∷ 59 ∷ t))))) (name x ∷ sign Equals ∷ w ∷ sign OpenParen ∷ sign CloseParen ∷ sign Semicolon ∷ us) end
   drawn_line n x kw w t us end f i h =
       let a : List ℕ = kw ++ (41 ∷ 59 ∷ t) in (
@@ -387,7 +389,8 @@ module _ (scan : Scan) where
         ),
       )
 
-  skip_line : (n : ℕ) (t : List ℕ) (us : List Token) (end : List ℕ) → Leads scan t us end → Leads scan (replicate n 32 ++ (codes "skip;" ++ t)) (word k.Skip ∷ sign Semicolon ∷ us) end
+  skip_line : (n : ℕ) (t : List ℕ) (us : List Token) (end : List ℕ) → Leads scan t us end →
+      Leads scan (replicate n 32 ++ (codes "skip;" ++ t)) (word k.Skip ∷ sign Semicolon ∷ us) end
   skip_line n t us end h = (59 ∷ t, indented n _ (word k.Skip) (59 ∷ t) (skip_front t), (t, semicolon_front t, h))
 
   fork_line : (n : ℕ) (x : List ℕ) (t : List ℕ) (us : List Token) (end : List ℕ) → IsName x → Leads scan t us end
@@ -411,63 +414,82 @@ module _ (scan : Scan) where
   put : (a b : List ℕ) (us : List Token) (end : List ℕ) → a ≡ b → Leads scan b us end → Leads scan a us end
   put a b us end e h = subst (λ (t : List ℕ). Leads scan t us end) (sym e) h
 
-  reads : (p : Tree) (d : ℕ) (rest : List ℕ) (us : List Token) (end : List ℕ) → TreeIsWritable p → (scan.offsets ≡ false → AllHere p) → IsSome us → Leads scan rest us end → Leads scan (printed_at d p ++ rest) (tokens p us) end
+  reads : (p : Tree) (d : ℕ) (rest : List ℕ) (us : List Token) (end : List ℕ) → TreeIsWritable p → (scan.offsets ≡ false → AllHere p) → IsSome us →
+      Leads scan rest us end → Leads scan (printed_at d p ++ rest) (tokens p us) end
   reads done d rest us end n g i h = h
   reads (plain (new_task x) p) d rest us end n g i h =
       let t : List ℕ = printed_at d p ++ rest in
       let l = new_line t (tokens p us) end (some_tree p us i) (reads p d rest us end n.1 (λ e. (g e).1) i h) in
-      put (printed_at d (plain (new_task x) p) ++ rest) (replicate (2 * d) 32 ++ (x ++ (32 ∷ 61 ∷ (codes " newTid(" ++ (41 ∷ 59 ∷ 10 ∷ t))))) (tokens (plain (new_task x) p) us) end (simp append_assoc) (drawn_line (2 * d) x (codes " newTid(") (word k.NewTid) (10 ∷ t) (tokens p us) end tid_front n.0 l)
+      put (printed_at d (plain (new_task x) p) ++ rest)
+          (replicate (2 * d) 32 ++ (x ++ (32 ∷ 61 ∷ (codes " newTid(" ++ (41 ∷ 59 ∷ 10 ∷ t))))) (tokens (plain (new_task x) p) us) end (simp append_assoc)
+          (drawn_line (2 * d) x (codes " newTid(") (word k.NewTid) (10 ∷ t) (tokens p us) end tid_front n.0 l)
   reads (plain (new_phaser x) p) d rest us end n g i h =
       let t : List ℕ = printed_at d p ++ rest in
       let l = new_line t (tokens p us) end (some_tree p us i) (reads p d rest us end n.1 (λ e. (g e).1) i h) in
-      put (printed_at d (plain (new_phaser x) p) ++ rest) (replicate (2 * d) 32 ++ (x ++ (32 ∷ 61 ∷ (codes " newPhaser(" ++ (41 ∷ 59 ∷ 10 ∷ t))))) (tokens (plain (new_phaser x) p) us) end (simp append_assoc) (drawn_line (2 * d) x (codes " newPhaser(") (word k.NewPhaser) (10 ∷ t) (tokens p us) end phaser_front n.0 l)
+      put (printed_at d (plain (new_phaser x) p) ++ rest)
+          (replicate (2 * d) 32 ++ (x ++ (32 ∷ 61 ∷ (codes " newPhaser(" ++ (41 ∷ 59 ∷ 10 ∷ t))))) (tokens (plain (new_phaser x) p) us) end (simp append_assoc)
+          (drawn_line (2 * d) x (codes " newPhaser(") (word k.NewPhaser) (10 ∷ t) (tokens p us) end phaser_front n.0 l)
   reads (plain (reg x y) p) d rest us end n g i h =
       let t : List ℕ = printed_at d p ++ rest in
       let l = new_line t (tokens p us) end (some_tree p us i) (reads p d rest us end n.1 (λ e. (g e).1) i h) in
-      put (printed_at d (plain (reg x y) p) ++ rest) (replicate (2 * d) 32 ++ (codes "reg(" ++ (x ++ (44 ∷ 32 ∷ (y ++ (41 ∷ 59 ∷ 10 ∷ t)))))) (tokens (plain (reg x y) p) us) end (simp append_assoc) (reg_line (2 * d) x y (10 ∷ t) (tokens p us) end n.0.0 n.0.1 l)
+      put (printed_at d (plain (reg x y) p) ++ rest) (replicate (2 * d) 32 ++ (codes "reg(" ++ (x ++ (44 ∷ 32 ∷ (y ++ (41 ∷ 59 ∷ 10 ∷ t))))))
+          (tokens (plain (reg x y) p) us) end (simp append_assoc) (reg_line (2 * d) x y (10 ∷ t) (tokens p us) end n.0.0 n.0.1 l)
   reads (plain (dereg x) p) d rest us end n g i h =
       let t : List ℕ = printed_at d p ++ rest in
       let l = new_line t (tokens p us) end (some_tree p us i) (reads p d rest us end n.1 (λ e. (g e).1) i h) in
-      put (printed_at d (plain (dereg x) p) ++ rest) (replicate (2 * d) 32 ++ (codes "dereg(" ++ (x ++ (41 ∷ 59 ∷ 10 ∷ t)))) (tokens (plain (dereg x) p) us) end (simp append_assoc) (named_line (2 * d) (codes "dereg(") (word k.Dereg) x (10 ∷ t) (tokens p us) end dereg_front n.0 l)
+      put (printed_at d (plain (dereg x) p) ++ rest) (replicate (2 * d) 32 ++ (codes "dereg(" ++ (x ++ (41 ∷ 59 ∷ 10 ∷ t)))) (tokens (plain (dereg x) p) us) end
+          (simp append_assoc) (named_line (2 * d) (codes "dereg(") (word k.Dereg) x (10 ∷ t) (tokens p us) end dereg_front n.0 l)
   reads (plain (adv x) p) d rest us end n g i h =
       let t : List ℕ = printed_at d p ++ rest in
       let l = new_line t (tokens p us) end (some_tree p us i) (reads p d rest us end n.1 (λ e. (g e).1) i h) in
-      put (printed_at d (plain (adv x) p) ++ rest) (replicate (2 * d) 32 ++ (codes "adv(" ++ (x ++ (41 ∷ 59 ∷ 10 ∷ t)))) (tokens (plain (adv x) p) us) end (simp append_assoc) (named_line (2 * d) (codes "adv(") (word k.Adv) x (10 ∷ t) (tokens p us) end adv_front n.0 l)
+      put (printed_at d (plain (adv x) p) ++ rest) (replicate (2 * d) 32 ++ (codes "adv(" ++ (x ++ (41 ∷ 59 ∷ 10 ∷ t)))) (tokens (plain (adv x) p) us) end
+          (simp append_assoc) (named_line (2 * d) (codes "adv(") (word k.Adv) x (10 ∷ t) (tokens p us) end adv_front n.0 l)
   reads (plain (await x Here) p) d rest us end n g i h =
       let t : List ℕ = printed_at d p ++ rest in
       let l = new_line t (tokens p us) end (some_tree p us i) (reads p d rest us end n.1 (λ e. (g e).1) i h) in
-      put (printed_at d (plain (await x Here) p) ++ rest) (replicate (2 * d) 32 ++ (codes "await(" ++ (x ++ (41 ∷ 59 ∷ 10 ∷ t)))) (tokens (plain (await x Here) p) us) end (simp append_assoc) (named_line (2 * d) (codes "await(") (word k.Await) x (10 ∷ t) (tokens p us) end await_front n.0.0 l)
+      put (printed_at d (plain (await x Here) p) ++ rest)
+          (replicate (2 * d) 32 ++ (codes "await(" ++ (x ++ (41 ∷ 59 ∷ 10 ∷ t)))) (tokens (plain (await x Here) p) us) end (simp append_assoc)
+          (named_line (2 * d) (codes "await(") (word k.Await) x (10 ∷ t) (tokens p us) end await_front n.0.0 l)
   reads (plain (await x (Back m)) p) d rest us end n g i h =
       let t : List ℕ = printed_at d p ++ rest in
       let l = new_line t (tokens p us) end (some_tree p us i) (reads p d rest us end n.1 (λ e. (g e).1) i h) in
       let on = looks (Back m) (λ e. (g e).0) (λ e. absurd cc) in
-      put (printed_at d (plain (await x (Back m)) p) ++ rest) (replicate (2 * d) 32 ++ (codes "await(" ++ (x ++ (32 ∷ 45 ∷ 32 ∷ (decimal m ++ (41 ∷ 59 ∷ 10 ∷ t)))))) (tokens (plain (await x (Back m)) p) us) end (regroup d x (codes " - " ++ decimal m) (printed_at d p) rest)
+      put (printed_at d (plain (await x (Back m)) p) ++ rest)
+          (replicate (2 * d) 32 ++ (codes "await(" ++ (x ++ (32 ∷ 45 ∷ 32 ∷ (decimal m ++ (41 ∷ 59 ∷ 10 ∷ t)))))) (tokens (plain (await x (Back m)) p) us) end
+          (regroup d x (codes " - " ++ decimal m) (printed_at d p) rest)
       (far_line (2 * d) x 45 m (sign Minus) (10 ∷ t) (tokens p us) end (minus_front on) n.0.0 n.0.1 l)
   reads (plain (await x (Ahead m)) p) d rest us end n g i h =
       let t : List ℕ = printed_at d p ++ rest in
       let l = new_line t (tokens p us) end (some_tree p us i) (reads p d rest us end n.1 (λ e. (g e).1) i h) in
       let on = looks (Ahead m) (λ e. (g e).0) (λ e. absurd cc) in
-      put (printed_at d (plain (await x (Ahead m)) p) ++ rest) (replicate (2 * d) 32 ++ (codes "await(" ++ (x ++ (32 ∷ 43 ∷ 32 ∷ (decimal m ++ (41 ∷ 59 ∷ 10 ∷ t)))))) (tokens (plain (await x (Ahead m)) p) us) end (regroup d x (codes " + " ++ decimal m) (printed_at d p) rest)
+      put (printed_at d (plain (await x (Ahead m)) p) ++ rest)
+          (replicate (2 * d) 32 ++ (codes "await(" ++ (x ++ (32 ∷ 43 ∷ 32 ∷ (decimal m ++ (41 ∷ 59 ∷ 10 ∷ t)))))) (tokens (plain (await x (Ahead m)) p) us) end
+          (regroup d x (codes " + " ++ decimal m) (printed_at d p) rest)
       (far_line (2 * d) x 43 m (sign Plus) (10 ∷ t) (tokens p us) end (plus_front on) n.0.0 n.0.1 l)
   reads (plain skip p) d rest us end n g i h =
       let t : List ℕ = printed_at d p ++ rest in
       let l = new_line t (tokens p us) end (some_tree p us i) (reads p d rest us end n.1 (λ e. (g e).1) i h) in
-      put (printed_at d (plain skip p) ++ rest) (replicate (2 * d) 32 ++ (codes "skip;" ++ (10 ∷ t))) (tokens (plain skip p) us) end (simp append_assoc) (skip_line (2 * d) (10 ∷ t) (tokens p us) end l)
+      put (printed_at d (plain skip p) ++ rest) (replicate (2 * d) 32 ++ (codes "skip;" ++ (10 ∷ t))) (tokens (plain skip p) us) end (simp append_assoc)
+          (skip_line (2 * d) (10 ∷ t) (tokens p us) end l)
   reads (fork x b p) d rest us end n g i h =
       let t : List ℕ = printed_at d p ++ rest in
       let after_body : List ℕ = replicate (2 * d) 32 ++ (125 ∷ 10 ∷ t) in
       let l = shut_line (2 * d) (10 ∷ t) (tokens p us) end (new_line t (tokens p us) end (some_tree p us i) (reads p d rest us end n.2 (λ e. (g e).1) i h)) in
-      let inner = new_line (printed_at (d + 1) b ++ after_body) (tokens b (sign CloseBrace ∷ tokens p us)) end (some_tree b (sign CloseBrace ∷ tokens p us) (some_sign (tokens p us)))
+      let inner = new_line (printed_at (d + 1) b ++ after_body) (tokens b (sign CloseBrace ∷ tokens p us)) end
+              (some_tree b (sign CloseBrace ∷ tokens p us) (some_sign (tokens p us)))
       (reads b (d + 1) after_body (sign CloseBrace ∷ tokens p us) end n.1 (λ e. (g e).0) (some_sign (tokens p us)) l) in
-      put (printed_at d (fork x b p) ++ rest) (replicate (2 * d) 32 ++ (codes "fork(" ++ (x ++ (41 ∷ 32 ∷ 123 ∷ 10 ∷ (printed_at (d + 1) b ++ after_body))))) (tokens (fork x b p) us) end (simp append_assoc)
+      put (printed_at d (fork x b p) ++ rest) (replicate (2 * d) 32 ++ (codes "fork(" ++ (x ++ (41 ∷ 32 ∷ 123 ∷ 10 ∷ (printed_at (d + 1) b ++ after_body)))))
+          (tokens (fork x b p) us) end (simp append_assoc)
       (fork_line (2 * d) x (10 ∷ (printed_at (d + 1) b ++ after_body)) (tokens b (sign CloseBrace ∷ tokens p us)) end n.0 inner)
   reads (loop m b p) d rest us end n g i h =
       let t : List ℕ = printed_at d p ++ rest in
       let after_body : List ℕ = replicate (2 * d) 32 ++ (125 ∷ 10 ∷ t) in
       let l = shut_line (2 * d) (10 ∷ t) (tokens p us) end (new_line t (tokens p us) end (some_tree p us i) (reads p d rest us end n.2 (λ e. (g e).1) i h)) in
-      let inner = new_line (printed_at (d + 1) b ++ after_body) (tokens b (sign CloseBrace ∷ tokens p us)) end (some_tree b (sign CloseBrace ∷ tokens p us) (some_sign (tokens p us)))
+      let inner = new_line (printed_at (d + 1) b ++ after_body) (tokens b (sign CloseBrace ∷ tokens p us)) end
+              (some_tree b (sign CloseBrace ∷ tokens p us) (some_sign (tokens p us)))
       (reads b (d + 1) after_body (sign CloseBrace ∷ tokens p us) end n.1 (λ e. (g e).0) (some_sign (tokens p us)) l) in
-      put (printed_at d (loop m b p) ++ rest) (replicate (2 * d) 32 ++ (codes "loop " ++ (decimal m ++ (32 ∷ 123 ∷ 10 ∷ (printed_at (d + 1) b ++ after_body))))) (tokens (loop m b p) us) end (simp append_assoc)
+      put (printed_at d (loop m b p) ++ rest) (replicate (2 * d) 32 ++ (codes "loop " ++ (decimal m ++ (32 ∷ 123 ∷ 10 ∷ (printed_at (d + 1) b ++ after_body)))))
+          (tokens (loop m b p) us) end (simp append_assoc)
       (loop_line (2 * d) m (10 ∷ (printed_at (d + 1) b ++ after_body)) (tokens b (sign CloseBrace ∷ tokens p us)) end n.0 inner)
 
 -- the printed statements are read as themselves

@@ -33,9 +33,6 @@ data Commented (text : List ℕ) : Type 0 where
   ends_last : (body : List ℕ) (gap : List ℕ) → list_all is_no_feed body ≡ true → IsGap true gap → text ≡ body ++ (10 ∷ gap) → after_comment text ≡ [] → Commented text
   stays_open : list_all is_no_feed text ≡ true → after_comment text ≡ [] → Commented text
 
-abbrev gap_by : Bool → Bool → List ℕ → List ℕ → List ℕ → List ℕ
-gap_by is_one begins_one gap rest text = cond is_one gap (cond begins_one rest text)
-
 and_is : (a b : Bool) → (a && b) ≡ true → (a ≡ true) × (b ≡ true)
 and_is true b e = (refl, e)
 and_is false b e = absurd (false≢true e)
@@ -217,7 +214,8 @@ no_run b bs is = ap (λ v. drop (cond v (1 + prefix_len is_word_byte bs) 0) (b �
 no_word : (b : ℕ) (bs : List ℕ) → is_word_byte b ≡ false → word_of (b ∷ bs) ≡ []
 no_word b bs is = ap (λ v. take (cond v (1 + prefix_len is_word_byte bs) 0) (b ∷ bs)) is
 
-run_by : (b : ℕ) (bs : List ℕ) → Stops (after_word bs) → list_all is_word_byte (word_of bs) ≡ true → (v : Bool) → is_word_byte b ≡ v → Stops (after_word (b ∷ bs)) × list_all is_word_byte (word_of (b ∷ bs)) ≡ true
+run_by : (b : ℕ) (bs : List ℕ) → Stops (after_word bs) → list_all is_word_byte (word_of bs) ≡ true → (v : Bool) → is_word_byte b ≡ v →
+    Stops (after_word (b ∷ bs)) × list_all is_word_byte (word_of (b ∷ bs)) ≡ true
 run_by b bs stops all true is = (
   subst Stops (sym (rest_cons b bs is)) stops,
   ap (list_all is_word_byte) (word_cons b bs is) ∙ ap (λ v. v && list_all is_word_byte (word_of bs)) is ∙ all,
@@ -349,7 +347,8 @@ same_sign_of false b s near e =
     far : (r : Sign) → ◌≡◌ {A = Option Sign} (Some r) (Some s) → is_near (sign r) ≡ false → ⊥
     far r same not_near = (let is : r ≡ s = cc in let q : false ≡ true = sym not_near ∙ ap (λ (x : Sign). is_near (sign x)) is ∙ near refl in cc)
 
-spelled_here : (scan : Scan) (t : Token) (w rest : List ℕ) → (scan.offsets ≡ false → is_near t ≡ true) → IsSpelling t w → (is_a_word t ≡ true → Stops rest) → token_here scan (after_gap (w ++ rest)) ≡ Ok (t, rest)
+spelled_here : (scan : Scan) (t : Token) (w rest : List ℕ) → (scan.offsets ≡ false → is_near t ≡ true) → IsSpelling t w → (is_a_word t ≡ true → Stops rest) →
+    token_here scan (after_gap (w ++ rest)) ≡ Ok (t, rest)
 spelled_here scan t w rest near (a_sign {s} {b} is) stops =
     let h = sign_byte b s is in
     let at = scan.total - length (b ∷ rest) in
@@ -445,7 +444,8 @@ all_near (loop n body more) rest here h = all_near body (sign CloseBrace ∷ tok
 
 -- ---- tokens that are read are spaced
 
-Leads-split : (scan : Scan) (text : List ℕ) (ts us : List Token) (rest : List ℕ) → Leads scan text (ts ++ us) rest → (mid : List ℕ) × Leads scan text ts mid × Leads scan mid us rest
+Leads-split : (scan : Scan) (text : List ℕ) (ts us : List Token) (rest : List ℕ) → Leads scan text (ts ++ us) rest →
+    (mid : List ℕ) × Leads scan text ts mid × Leads scan mid us rest
 Leads-split scan text [] us rest h = (text, refl, h)
 Leads-split scan text (t ∷ ts) us rest h = let more = Leads-split scan h.0 ts us rest h.2 in (more.0, (h.0, h.1, more.1), more.2)
 
@@ -618,7 +618,8 @@ form_spaced true text p h =
     (λ stops. leads_spaced (scan_of true text) (tokens p []) false h.0 (all_real p [] refl) (λ e. absurd (false≢true e))
     (subst (λ ts. Leads (scan_of true text) h.0 ts []) (tokens_append p [] (the_end ∷ [])) h.2))
 
-spaced_form : (two : Bool) (text : List ℕ) (p : Tree) → (two ≡ false → AllHere p) → IsSpaced false (all_tokens (record { two = two; body = p })) text → ReadsTokens two text (sentence p) []
+spaced_form : (two : Bool) (text : List ℕ) (p : Tree) → (two ≡ false → AllHere p) → IsSpaced false (all_tokens (record { two = two; body = p })) text →
+    ReadsTokens two text (sentence p) []
 spaced_form false text p here h =
     subst (λ ts. Leads (scan_of false text) text ts []) (sym (tokens_append p [] (the_end ∷ [])))
     (spaced_leads (scan_of false text) (tokens p []) false text (λ off. all_near p [] (here refl) refl) h)

@@ -115,9 +115,6 @@ module _ (scan : Scan) where
   leads_le text [] rest h = let m = ap (λ (x : List ℕ). length x) h in omega arith
   leads_le text (t ∷ ts) rest h = let a = front_le scan text t h.0 h.1 in let b = leads_le h.0 ts rest h.2 in omega arith
 
-  pub took_le : (text : List ℕ) (p : Tree) (rest : List ℕ) (d : ℕ) → Took scan text p rest d → length rest ≤ length text
-  took_le text p rest d t = leads_le text (tokens p []) rest (t.leads [] rest refl)
-
   leads_lt : (text : List ℕ) (t : Token) (ts : List Token) (rest : List ℕ) → ends_list t ≡ false → Leads scan text (t ∷ ts) rest → length rest < length text
   leads_lt text t ts rest e h = let a = progress scan text t h.0 h.1 e in let b = leads_le h.0 ts rest h.2 in omega arith
 
@@ -143,13 +140,15 @@ module _ (scan : Scan) where
   }
 
   -- behind the first token of a statement
-  begun : (t : Token) (ss : List Shape) (d : ℕ) (text mid : List ℕ) (f : SyntaxFault) → d ≤ MAX_OPEN_BRACES → front scan text ≡ Ok (t, mid) → first_step d t ≡ Some (at ss d) → opened t d ≡ d → Stuck scan ss d mid f → Stuck scan [] d text f
+  begun : (t : Token) (ss : List Shape) (d : ℕ) (text mid : List ℕ) (f : SyntaxFault) → d ≤ MAX_OPEN_BRACES → front scan text ≡ Ok (t, mid) →
+      first_step d t ≡ Some (at ss d) → opened t d ≡ d → Stuck scan ss d mid f → Stuck scan [] d text f
   begun t ss d text mid f le here steps flat stuck =
       behind scan [] d text (t ∷ []) ss d mid f (mid, here, refl) (rw steps refl) (le, rw flat le) flat stuck
 
   -- ---- statements without a body
 
-  plain_took : (c : Plain) (t : Token) (ts : List Token) (d : ℕ) (before text rest : List ℕ) → d ≤ MAX_OPEN_BRACES → front scan before ≡ Ok (t, text) → Leads scan text ts rest → ((us : List Token) → t ∷ (ts ++ us) ≡ plain_tokens c us)
+  plain_took : (c : Plain) (t : Token) (ts : List Token) (d : ℕ) (before text rest : List ℕ) → d ≤ MAX_OPEN_BRACES → front scan before ≡ Ok (t, text) →
+      Leads scan text ts rest → ((us : List Token) → t ∷ (ts ++ us) ≡ plain_tokens c us)
       → Took scan before (plain c done) rest d
   plain_took c t ts d before text rest le here leads spelled = record {
     leads = λ us end h. subst (λ (x : List Token). Leads scan before x end) (spelled us) (text, here, Leads-append scan text ts rest us end leads h);
@@ -162,17 +161,23 @@ module _ (scan : Scan) where
   -- ---- `x = newTid ( ) ;` and the like
 
   drawn_plain : (x : List ℕ) (made : Bool) (d : ℕ) (before text rest : List ℕ) → d ≤ MAX_OPEN_BRACES → front scan before ≡ Ok (name x, text)
-      → Leads scan text (sign Equals ∷ maker_of scan made ∷ sign OpenParen ∷ sign CloseParen ∷ sign Semicolon ∷ []) rest → Took scan before (followed_by (drawn_stmt x made) done) rest d
-  drawn_plain x true d before text rest le here leads = plain_took (new_task x) (name x) (sign Equals ∷ maker_of scan true ∷ sign OpenParen ∷ sign CloseParen ∷ sign Semicolon ∷ []) d before text rest le here leads (λ us. refl)
-  drawn_plain x false d before text rest le here leads = plain_took (new_phaser x) (name x) (sign Equals ∷ maker_of scan false ∷ sign OpenParen ∷ sign CloseParen ∷ sign Semicolon ∷ []) d before text rest le here leads (λ us. refl)
+      → Leads scan text (sign Equals ∷ maker_of scan made ∷ sign OpenParen ∷ sign CloseParen ∷ sign Semicolon ∷ []) rest →
+          Took scan before (followed_by (drawn_stmt x made) done) rest d
+  drawn_plain x true d before text rest le here leads = plain_took (new_task x) (name x)
+      (sign Equals ∷ maker_of scan true ∷ sign OpenParen ∷ sign CloseParen ∷ sign Semicolon ∷ []) d before text rest le here leads (λ us. refl)
+  drawn_plain x false d before text rest le here leads = plain_took (new_phaser x) (name x)
+      (sign Equals ∷ maker_of scan false ∷ sign OpenParen ∷ sign CloseParen ∷ sign Semicolon ∷ []) d before text rest le here leads (λ us. refl)
 
-  drawing_ok : (x : List ℕ) (d : ℕ) (before text : List ℕ) (y : Stmt × List ℕ) → d ≤ MAX_OPEN_BRACES → front scan before ≡ Ok (name x, text) → drawing_at scan x text ≡ Ok y → StmtTook before y d
+  drawing_ok : (x : List ℕ) (d : ℕ) (before text : List ℕ) (y : Stmt × List ℕ) → d ≤ MAX_OPEN_BRACES → front scan before ≡ Ok (name x, text) →
+      drawing_at scan x text ≡ Ok y → StmtTook before y d
   unfolding drawing_at StmtTook
   drawing_ok x d before text y le here e =
       let b = bind_ok (drawn_at scan text) _ y e in
-      subst (λ (z : Stmt × List ℕ). Took scan before (followed_by z.0 done) z.1 d) (ok_is (drawn_stmt x b.0.0, b.0.1) y b.2) (drawn_plain x b.0.0 d before text b.0.1 le here (drawn_ok scan text b.0 b.1))
+      subst (λ (z : Stmt × List ℕ). Took scan before (followed_by z.0 done) z.1 d) (ok_is (drawn_stmt x b.0.0, b.0.1) y b.2)
+          (drawn_plain x b.0.0 d before text b.0.1 le here (drawn_ok scan text b.0 b.1))
 
-  drawing_err : (x : List ℕ) (d : ℕ) (before text : List ℕ) (f : SyntaxFault) → d ≤ MAX_OPEN_BRACES → front scan before ≡ Ok (name x, text) → drawing_at scan x text ≡ Err f → Stuck scan [] d before f
+  drawing_err : (x : List ℕ) (d : ℕ) (before text : List ℕ) (f : SyntaxFault) → d ≤ MAX_OPEN_BRACES → front scan before ≡ Ok (name x, text) →
+      drawing_at scan x text ≡ Err f → Stuck scan [] d before f
   unfolding drawing_at
   drawing_err x d before text f le here e =
       elim (bind_err (drawn_at scan text) _ f e) [
@@ -180,14 +185,17 @@ module _ (scan : Scan) where
         | inr b ↦ absurd (let q = b.2 in cc)
       ]
 
-  dereg_ok : (d : ℕ) (before text : List ℕ) (y : Stmt × List ℕ) → d ≤ MAX_OPEN_BRACES → front scan before ≡ Ok (word k.Dereg, text) → dereg_at scan text ≡ Ok y → StmtTook before y d
+  dereg_ok : (d : ℕ) (before text : List ℕ) (y : Stmt × List ℕ) → d ≤ MAX_OPEN_BRACES → front scan before ≡ Ok (word k.Dereg, text) →
+      dereg_at scan text ≡ Ok y → StmtTook before y d
   unfolding dereg_at StmtTook
   dereg_ok d before text y le here e =
       let b = bind_ok (named_at scan text) _ y e in
       subst (λ (z : Stmt × List ℕ). Took scan before (followed_by z.0 done) z.1 d) (ok_is (s.Dereg b.0.0, b.0.1) y b.2)
-      (plain_took (dereg b.0.0) (word k.Dereg) (sign OpenParen ∷ name b.0.0 ∷ sign CloseParen ∷ sign Semicolon ∷ []) d before text b.0.1 le here (named_ok scan text b.0 b.1) (λ us. refl))
+      (plain_took (dereg b.0.0) (word k.Dereg) (sign OpenParen ∷ name b.0.0 ∷ sign CloseParen ∷ sign Semicolon ∷ []) d before text b.0.1 le here
+          (named_ok scan text b.0 b.1) (λ us. refl))
 
-  dereg_err : (d : ℕ) (before text : List ℕ) (f : SyntaxFault) → d ≤ MAX_OPEN_BRACES → front scan before ≡ Ok (word k.Dereg, text) → dereg_at scan text ≡ Err f → Stuck scan [] d before f
+  dereg_err : (d : ℕ) (before text : List ℕ) (f : SyntaxFault) → d ≤ MAX_OPEN_BRACES → front scan before ≡ Ok (word k.Dereg, text) →
+      dereg_at scan text ≡ Err f → Stuck scan [] d before f
   unfolding dereg_at
   dereg_err d before text f le here e =
       elim (bind_err (named_at scan text) _ f e) [
@@ -200,7 +208,8 @@ module _ (scan : Scan) where
   adv_ok d before text y le here e =
       let b = bind_ok (named_at scan text) _ y e in
       subst (λ (z : Stmt × List ℕ). Took scan before (followed_by z.0 done) z.1 d) (ok_is (s.Adv b.0.0, b.0.1) y b.2)
-      (plain_took (adv b.0.0) (word k.Adv) (sign OpenParen ∷ name b.0.0 ∷ sign CloseParen ∷ sign Semicolon ∷ []) d before text b.0.1 le here (named_ok scan text b.0 b.1) (λ us. refl))
+      (plain_took (adv b.0.0) (word k.Adv) (sign OpenParen ∷ name b.0.0 ∷ sign CloseParen ∷ sign Semicolon ∷ []) d before text b.0.1 le here
+          (named_ok scan text b.0 b.1) (λ us. refl))
 
   adv_err : (d : ℕ) (before text : List ℕ) (f : SyntaxFault) → d ≤ MAX_OPEN_BRACES → front scan before ≡ Ok (word k.Adv, text) → adv_at scan text ≡ Err f → Stuck scan [] d before f
   unfolding adv_at
@@ -210,7 +219,8 @@ module _ (scan : Scan) where
         | inr b ↦ absurd (let q = b.2 in cc)
       ]
 
-  await_ok : (d : ℕ) (before text : List ℕ) (y : Stmt × List ℕ) → d ≤ MAX_OPEN_BRACES → front scan before ≡ Ok (word k.Await, text) → await_at scan text ≡ Ok y → StmtTook before y d
+  await_ok : (d : ℕ) (before text : List ℕ) (y : Stmt × List ℕ) → d ≤ MAX_OPEN_BRACES → front scan before ≡ Ok (word k.Await, text) →
+      await_at scan text ≡ Ok y → StmtTook before y d
   unfolding await_at StmtTook
   await_ok d before text y le here e =
       let a = bind_ok (sign_at scan OpenParen text) _ y e in
@@ -231,7 +241,8 @@ module _ (scan : Scan) where
       offset_more (Back k) us = refl
       offset_more (Ahead k) us = refl
 
-  await_err : (d : ℕ) (before text : List ℕ) (f : SyntaxFault) → d ≤ MAX_OPEN_BRACES → front scan before ≡ Ok (word k.Await, text) → await_at scan text ≡ Err f → Stuck scan [] d before f
+  await_err : (d : ℕ) (before text : List ℕ) (f : SyntaxFault) → d ≤ MAX_OPEN_BRACES → front scan before ≡ Ok (word k.Await, text) →
+      await_at scan text ≡ Err f → Stuck scan [] d before f
   unfolding await_at
   await_err d before text f le here e =
       begun (word k.Await) s_await d before text f le here refl refl
@@ -257,7 +268,8 @@ module _ (scan : Scan) where
   reg_ok d before text y le here e =
       let b = bind_ok (pair_at scan text) _ y e in
       subst (λ (z : Stmt × List ℕ). Took scan before (followed_by z.0 done) z.1 d) (ok_is (s.Reg b.0.0 b.0.1, b.0.2) y b.2)
-      (plain_took (reg b.0.0 b.0.1) (word k.Reg) (sign OpenParen ∷ name b.0.0 ∷ sign Comma ∷ name b.0.1 ∷ sign CloseParen ∷ sign Semicolon ∷ []) d before text b.0.2 le here (pair_ok scan text b.0 b.1) (λ us. refl))
+      (plain_took (reg b.0.0 b.0.1) (word k.Reg) (sign OpenParen ∷ name b.0.0 ∷ sign Comma ∷ name b.0.1 ∷ sign CloseParen ∷ sign Semicolon ∷ []) d before text
+          b.0.2 le here (pair_ok scan text b.0 b.1) (λ us. refl))
 
   reg_err : (d : ℕ) (before text : List ℕ) (f : SyntaxFault) → d ≤ MAX_OPEN_BRACES → front scan before ≡ Ok (word k.Reg, text) → reg_at scan text ≡ Err f → Stuck scan [] d before f
   unfolding reg_at
@@ -274,7 +286,8 @@ module _ (scan : Scan) where
       subst (λ (z : Stmt × List ℕ). Took scan before (followed_by z.0 done) z.1 d) (ok_is (s.Skip, b.0) y b.2)
       (plain_took skip (word k.Skip) (sign Semicolon ∷ []) d before text b.0 le here (b.0, sign_ok scan Semicolon text b.0 b.1, refl) (λ us. refl))
 
-  skip_err : (d : ℕ) (before text : List ℕ) (f : SyntaxFault) → d ≤ MAX_OPEN_BRACES → front scan before ≡ Ok (word k.Skip, text) → skip_at scan text ≡ Err f → Stuck scan [] d before f
+  skip_err : (d : ℕ) (before text : List ℕ) (f : SyntaxFault) → d ≤ MAX_OPEN_BRACES → front scan before ≡ Ok (word k.Skip, text) → skip_at scan text ≡ Err f →
+      Stuck scan [] d before f
   unfolding skip_at
   skip_err d before text f le here e =
       elim (bind_err (sign_at scan Semicolon text) _ f e) [
@@ -345,7 +358,8 @@ module _ (scan : Scan) where
               ])
         ]
 
-    fork_ok : (d : ℕ) (before text : List ℕ) (y : Stmt × List ℕ) → d ≤ MAX_OPEN_BRACES → length text < m → front scan before ≡ Ok (word k.Fork, text) → fork_at body scan d text ≡ Ok y → StmtTook before y d
+    fork_ok : (d : ℕ) (before text : List ℕ) (y : Stmt × List ℕ) → d ≤ MAX_OPEN_BRACES → length text < m → front scan before ≡ Ok (word k.Fork, text) →
+        fork_at body scan d text ≡ Ok y → StmtTook before y d
     unfolding fork_at StmtTook
     fork_ok d before text y le lt here e =
         let a = bind_ok (in_parens_at scan text) _ y e in
@@ -355,11 +369,13 @@ module _ (scan : Scan) where
         let i = block_ok d a.0.1 b.0 le (omega arith) b.1 in
         subst (λ (z : Stmt × List ℕ). Took scan before (followed_by z.0 done) z.1 d) (ok_is (s.Fork a.0.0 b.0.0, b.0.1) y b.2)
         record {
-          leads = λ us end h. (text, here, Leads-append scan text (sign OpenParen ∷ name a.0.0 ∷ sign CloseParen ∷ []) a.0.1 (sign OpenBrace ∷ tokens b.0.0 (sign CloseBrace ∷ us)) end x (i.leads us end h));
+          leads = λ us end h. (text, here, Leads-append scan text (sign OpenParen ∷ name a.0.0 ∷ sign CloseParen ∷ []) a.0.1
+              (sign OpenBrace ∷ tokens b.0.0 (sign CloseBrace ∷ us)) end x (i.leads us end h));
           deep = (let q = i.deep in omega arith);
         }
 
-    fork_err : (d : ℕ) (before text : List ℕ) (f : SyntaxFault) → d ≤ MAX_OPEN_BRACES → length text < m → front scan before ≡ Ok (word k.Fork, text) → fork_at body scan d text ≡ Err f → Stuck scan [] d before f
+    fork_err : (d : ℕ) (before text : List ℕ) (f : SyntaxFault) → d ≤ MAX_OPEN_BRACES → length text < m → front scan before ≡ Ok (word k.Fork, text) →
+        fork_at body scan d text ≡ Err f → Stuck scan [] d before f
     unfolding fork_at
     fork_err d before text f le lt here e =
         begun (word k.Fork) s_fork d before text f le here refl refl
@@ -373,7 +389,8 @@ module _ (scan : Scan) where
               ])
         ])
 
-    loop_ok : (d : ℕ) (before text : List ℕ) (y : Stmt × List ℕ) → d ≤ MAX_OPEN_BRACES → length text < m → front scan before ≡ Ok (word k.Loop, text) → loop_at body scan d text ≡ Ok y → StmtTook before y d
+    loop_ok : (d : ℕ) (before text : List ℕ) (y : Stmt × List ℕ) → d ≤ MAX_OPEN_BRACES → length text < m → front scan before ≡ Ok (word k.Loop, text) →
+        loop_at body scan d text ≡ Ok y → StmtTook before y d
     unfolding loop_at StmtTook
     loop_ok d before text y le lt here e =
         let a = bind_ok (number_at scan text) _ y e in
@@ -387,7 +404,8 @@ module _ (scan : Scan) where
           deep = (let q = i.deep in omega arith);
         }
 
-    loop_err : (d : ℕ) (before text : List ℕ) (f : SyntaxFault) → d ≤ MAX_OPEN_BRACES → length text < m → front scan before ≡ Ok (word k.Loop, text) → loop_at body scan d text ≡ Err f → Stuck scan [] d before f
+    loop_err : (d : ℕ) (before text : List ℕ) (f : SyntaxFault) → d ≤ MAX_OPEN_BRACES → length text < m → front scan before ≡ Ok (word k.Loop, text) →
+        loop_at body scan d text ≡ Err f → Stuck scan [] d before f
     unfolding loop_at
     loop_err d before text f le lt here e =
         begun (word k.Loop) s_loop d before text f le here refl refl
@@ -403,7 +421,8 @@ module _ (scan : Scan) where
 
     -- ---- any statement
 
-    pub statement_ok : (d : ℕ) (t : Token) (before text : List ℕ) (y : Stmt × List ℕ) → d ≤ MAX_OPEN_BRACES → length text < m → front scan before ≡ Ok (t, text) → statement_in body scan d t before text ≡ Ok y → Took scan before (followed_by y.0 done) y.1 d
+    pub statement_ok : (d : ℕ) (t : Token) (before text : List ℕ) (y : Stmt × List ℕ) → d ≤ MAX_OPEN_BRACES → length text < m →
+        front scan before ≡ Ok (t, text) → statement_in body scan d t before text ≡ Ok y → Took scan before (followed_by y.0 done) y.1 d
     unfolding StmtTook
     statement_ok d (name x) before text y le lt here e = drawing_ok x d before text y le here e
     statement_ok d (word k.Reg) before text y le lt here e = reg_ok d before text y le here e
@@ -415,10 +434,12 @@ module _ (scan : Scan) where
     statement_ok d (word k.Loop) before text y le lt here e = loop_ok d before text y le lt here e
     statement_ok d _ before text y le lt here e = absurd cc
 
-    wrong : (t : Token) (d : ℕ) (before text : List ℕ) (f : SyntaxFault) → d ≤ MAX_OPEN_BRACES → front scan before ≡ Ok (t, text) → first_step d t ≡ None → ◌≡◌ {A = Result (Stmt × List ℕ) SyntaxFault} (Err (unexpected scan before)) (Err f) → Stuck scan [] d before f
+    wrong : (t : Token) (d : ℕ) (before text : List ℕ) (f : SyntaxFault) → d ≤ MAX_OPEN_BRACES → front scan before ≡ Ok (t, text) → first_step d t ≡ None →
+        ◌≡◌ {A = Result (Stmt × List ℕ) SyntaxFault} (Err (unexpected scan before)) (Err f) → Stuck scan [] d before f
     wrong t d before text f le here stops e = refused scan [] d before f le record { token = t; rest = text; here = here; no_step = stops; fault_is = cc }
 
-    pub statement_err : (d : ℕ) (t : Token) (before text : List ℕ) (f : SyntaxFault) → d ≤ MAX_OPEN_BRACES → length text < m → front scan before ≡ Ok (t, text) → ends_list t ≡ false → statement_in body scan d t before text ≡ Err f → Stuck scan [] d before f
+    pub statement_err : (d : ℕ) (t : Token) (before text : List ℕ) (f : SyntaxFault) → d ≤ MAX_OPEN_BRACES → length text < m →
+        front scan before ≡ Ok (t, text) → ends_list t ≡ false → statement_in body scan d t before text ≡ Err f → Stuck scan [] d before f
     statement_err d (name x) before text f le lt here goes e = drawing_err x d before text f le here e
     statement_err d (word k.Reg) before text f le lt here goes e = reg_err d before text f le here e
     statement_err d (word k.Dereg) before text f le lt here goes e = dereg_err d before text f le here e

@@ -45,7 +45,8 @@ module _ (scan : Scan) where
               let stop = law.stops d c.0.1 g.0 le (omega arith) g.1 in
               subst (λ (z : List Stmt × List ℕ). Took scan text (tree_of z.0) z.1 d × Stops scan z.1) (ok_is (c.0.0 ∷ g.0.0, g.0.1) y g.2) (
                 record {
-                  leads = λ us end h. subst (λ (z : List Token). Leads scan text z end) (tokens_first c.0.0 (tree_of g.0.0) us) (one.leads (tokens (tree_of g.0.0) us) end (more.leads us end h));
+                  leads = λ us end h. subst (λ (z : List Token). Leads scan text z end) (tokens_first c.0.0 (tree_of g.0.0) us)
+                      (one.leads (tokens (tree_of g.0.0) us) end (more.leads us end h));
                   deep = deep_first c.0.0 (tree_of g.0.0) d one.deep more.deep;
                 },
                 stop,
@@ -97,7 +98,8 @@ ended_ok scan items text (word q) p e = absurd cc
 ended_ok scan items text (name q) p e = absurd cc
 ended_ok scan items text (number q) p e = absurd cc
 
-ended_err : (scan : Scan) (items : List Stmt) (text : List ℕ) (t : Token) (f : SyntaxFault) → ended_at scan items text t ≡ Err f → ends_list t ≡ true → (first_step 0 t ≡ None) × (f ≡ unexpected scan text)
+ended_err : (scan : Scan) (items : List Stmt) (text : List ℕ) (t : Token) (f : SyntaxFault) → ended_at scan items text t ≡ Err f → ends_list t ≡ true →
+    (first_step 0 t ≡ None) × (f ≡ unexpected scan text)
 ended_err scan items text the_end f e b = absurd cc
 ended_err scan items text (sign Equals) f e b = absurd cc
 ended_err scan items text (sign OpenParen) f e b = absurd cc
@@ -210,18 +212,21 @@ module _ (text : List ℕ) where
 
 -- ---- where the machine goes on by a token, some text goes on so
 
-goes_by : (before : List Token) (shapes : List Shape) (deep : ℕ) (t : Token) (next : State) → run (at [] 0) before ≡ Some (at shapes deep) → step (at shapes deep) t ≡ Some next → Begins true (before ++ t ∷ [])
+goes_by : (before : List Token) (shapes : List Shape) (deep : ℕ) (t : Token) (next : State) → run (at [] 0) before ≡ Some (at shapes deep) →
+    step (at shapes deep) t ≡ Some next → Begins true (before ++ t ∷ [])
 goes_by before shapes deep t next runs steps =
     begins_if (before ++ t ∷ []) next (run-append (at [] 0) before (t ∷ []) ∙ rw (runs, steps) refl)
 
-stops_by : (before : List Token) (shapes : List Shape) (deep : ℕ) (t : Token) → run (at [] 0) before ≡ Some (at shapes deep) → step (at shapes deep) t ≡ None → Begins true (before ++ t ∷ []) → ⊥
+stops_by : (before : List Token) (shapes : List Shape) (deep : ℕ) (t : Token) → run (at [] 0) before ≡ Some (at shapes deep) → step (at shapes deep) t ≡ None →
+    Begins true (before ++ t ∷ []) → ⊥
 stops_by before shapes deep t runs steps b =
     let r = runs_if (before ++ t ∷ []) b in
     let nothing : run (at [] 0) (before ++ t ∷ []) ≡ None = run-append (at [] 0) before (t ∷ []) ∙ rw (runs, steps) refl in
     let q : None ≡ Some r.0 = sym nothing ∙ r.1 in
     cc
 
-next_token : (before : List Token) (shapes : List Shape) (deep : ℕ) → run (at [] 0) before ≡ Some (at shapes deep) → (more : List Token) → run (at shapes deep) more ≡ Some over → (t : Token) × Begins true (before ++ t ∷ [])
+next_token : (before : List Token) (shapes : List Shape) (deep : ℕ) → run (at [] 0) before ≡ Some (at shapes deep) → (more : List Token) →
+    run (at shapes deep) more ≡ Some over → (t : Token) × Begins true (before ++ t ∷ [])
 next_token before shapes deep runs [] e = absurd cc
 next_token before shapes deep runs (t ∷ ts) e =
     let m = some_front (step (at shapes deep) t) (λ next. run next ts) over e in

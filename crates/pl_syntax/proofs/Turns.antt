@@ -44,7 +44,8 @@ module _ (before : List Stmt) (scan : Scan) (depth : ℕ) (rest text : List ℕ)
       let one : with_front before (statements_at (t.0 + 1) scan depth rest) ≡ Err f = rw (add-one, e) refl in
       sym t.2 ∙ one
 
-  pub stops : (token : Token) (after : List ℕ) (n : ℕ) → length text < n → front scan rest ≡ Ok (token, after) → ends_list token ≡ true → statements_at n scan depth text ≡ Ok (before, rest)
+  pub stops : (token : Token) (after : List ℕ) (n : ℕ) → length text < n → front scan rest ≡ Ok (token, after) → ends_list token ≡ true →
+      statements_at n scan depth text ≡ Ok (before, rest)
   unfolding statements_at
   stops token after n h e b =
       let t = turn.all n h in
@@ -71,7 +72,8 @@ module _ (before : List Stmt) (scan : Scan) (depth : ℕ) (rest text : List ℕ)
       all = λ n h.
           let t = turn.all n h in
           let k : length after < t.0 = omega arith in
-          let one : with_front before (statements_at (t.0 + 1) scan depth rest) ≡ with_front (before ++ s ∷ []) (statements_at t.0 scan depth left) = rw (add-one, here, goes, reads t.0 k) (regroup before s (statements_at t.0 scan depth left)) in
+          let one : with_front before (statements_at (t.0 + 1) scan depth rest) ≡ with_front (before ++ s ∷ []) (statements_at t.0 scan depth left) = rw
+                  (add-one, here, goes, reads t.0 k) (regroup before s (statements_at t.0 scan depth left)) in
           let e : t.0 - 1 + 1 ≡ t.0 = omega arith in
           (t.0 - 1, omega arith, rw e (sym one ∙ t.2));
     }

@@ -115,7 +115,8 @@ more scan t ts rest us end (inl e) = inl (ap (λ (x : List Token). t ∷ x) e.0,
 more scan t ts rest us end (inr (inl l)) = inr (inl (l.0, l.1, ap (λ (x : List Token). t ∷ x) l.2, l.3))
 more scan t ts rest us end (inr (inr l)) = inr (inr (l.0, l.1, ap (λ (x : List Token). t ∷ x) l.2, l.3))
 
-compare : (scan : Scan) (text : List ℕ) (ts : List Token) (rest : List ℕ) (us : List Token) (end : List ℕ) → Leads scan text ts rest → Leads scan text us end → Compared scan ts rest us end
+compare : (scan : Scan) (text : List ℕ) (ts : List Token) (rest : List ℕ) (us : List Token) (end : List ℕ) → Leads scan text ts rest → Leads scan text us end →
+    Compared scan ts rest us end
 compare scan text [] rest [] end p q = inl (refl, sym p ∙ q)
 compare scan text [] rest (u ∷ us) end p q = inr (inl (u, us, refl, subst (λ (x : List ℕ). Leads scan x (u ∷ us) end) p q))
 compare scan text (t ∷ ts) rest [] end p q = inr (inr (t, ts, refl, subst (λ (x : List ℕ). Leads scan x (t ∷ ts) rest) q p))
@@ -230,7 +231,8 @@ no_fault scan start us end f whole shallow reads b = elim (compare scan start b.
 ]
 
 same_fault : (scan : Scan) (before : List Token) (text : List ℕ) (f g : SyntaxFault) → IsAtFault before scan text f → IsAtFault before scan text g → f ≡ g
-same_fault scan before text f g (no_token a) (no_token b) = let x = a.here in let y = b.here in let q : ◌≡◌ {A = Result (Token × List ℕ) SyntaxFault} (Err f) (Err g) = sym x ∙ y in cc
+same_fault scan before text f g (no_token a) (no_token b) = let x = a.here in let y = b.here in
+    let q : ◌≡◌ {A = Result (Token × List ℕ) SyntaxFault} (Err f) (Err g) = sym x ∙ y in cc
 same_fault scan before text f g (no_token a) (cannot_stand b) = absurd (let q : Err f ≡ Ok (b.token, b.rest) = sym a.here ∙ b.here in cc)
 same_fault scan before text f g (no_token a) (too_deep b) = absurd (let q : Err f ≡ Ok (sign OpenBrace, b.rest) = sym a.here ∙ b.here in cc)
 same_fault scan before text f g (cannot_stand a) (no_token b) = absurd (let q : Err g ≡ Ok (a.token, a.rest) = sym b.here ∙ a.here in cc)

@@ -17,7 +17,8 @@ use Rattle.adaptive.proofs.DeadOrNot.{dead_list_exists}
 
 module _ (blocked : List Status) where
   -- one more dead task, that is not named yet
-  named_more : (named : List Dead) (t : TaskId) (e : Event) → AreSomeDead blocked named → ((d : Dead) → Contains named d → d.t ≢ t) → IsDeadBy blocked t.0 → IsListedOn blocked t.0 e → AreSomeDead blocked (named ++ record { t = t; event = e } ∷ [])
+  named_more : (named : List Dead) (t : TaskId) (e : Event) → AreSomeDead blocked named → ((d : Dead) → Contains named d → d.t ≢ t) → IsDeadBy blocked t.0 →
+      IsListedOn blocked t.0 e → AreSomeDead blocked (named ++ record { t = t; event = e } ∷ [])
   named_more named t e are new dead listed =
       let d : Dead = record { t = t; event = e } in
       record {

@@ -34,7 +34,8 @@ pub record LoadsAwait (plan : Plan) (pass new : OpenPass) (found : Option Event)
   pub kept : KeepsEvent pass new found
   pub awaited : new.loaded ≡ length plan.parents → new.awaited.items ≡ given_below (phaser_of new.waiting.items) (length plan.makers)
 
-one_event : (p : ℕ) (o : Option Event) (t : ℕ) → list_any (λ (w : Waiting). w.event.p.0 == p) (option_to_list (option_map (λ e. record { t = record { 0 = t }; event = e }) o)) ≡ is_event_of p o
+one_event : (p : ℕ) (o : Option Event) (t : ℕ) → list_any (λ (w : Waiting). w.event.p.0 == p)
+    (option_to_list (option_map (λ e. record { t = record { 0 = t }; event = e }) o)) ≡ is_event_of p o
 one_event p None t = refl
 one_event p (Some e) t = or_nothing (e.p.0 == p)
   where
@@ -54,7 +55,9 @@ some_awaited phasers (w ∷ ws) l all =
     (ap (λ b. if (b || list_any (λ (v : Waiting). v.event.p.0 == p) ws) then Some (record { 0 = p }) else None) (eq-eqb p p refl)) in
     omega arith
 
-module _ (plan : Plan) (checked : IsCheckedPlan plan) (loads : Loads) (h : List Step) (run : IsPlainRun plan h) (pass new : OpenPass) (of : IsPassOf plan loads pass) (few : length loads < length plan.parents) (loads_one : LoadsAwait plan pass new ((state_after h).published pass.loaded)) where
+module _ (plan : Plan) (checked : IsCheckedPlan plan) (loads : Loads) (h : List Step) (run : IsPlainRun plan h) (pass new : OpenPass)
+    (of : IsPassOf plan loads pass) (few : length loads < length plan.parents) (loads_one : LoadsAwait plan pass new ((state_after h).published pass.loaded))
+    where
   here : pass.loaded ≡ length loads
   here = of.awaits.loaded ∙ min_less (length loads) (length plan.parents) few
 
@@ -66,7 +69,8 @@ module _ (plan : Plan) (checked : IsCheckedPlan plan) (loads : Loads) (h : List 
       let found : event_found all pass.loaded ≡ (state_after h).published pass.loaded =
       ap (λ t. event_after pass.loaded (slice_get all t)) here ∙ ap (event_after pass.loaded) (has_next all loads h ext) in
       loads_one.kept.waiting
-      ∙ ap (λ l. l ++ option_to_list (option_map (λ e. record { t = record { 0 = pass.loaded }; event = e }) ((state_after h).published pass.loaded))) (of.awaits.waiting all (extends_less all loads h ext))
+      ∙ ap (λ l. l ++ option_to_list (option_map (λ e. record { t = record { 0 = pass.loaded }; event = e }) ((state_after h).published pass.loaded)))
+          (of.awaits.waiting all (extends_less all loads h ext))
       ∙ ap (λ o. given_below (waiting_found all) pass.loaded ++ option_to_list (option_map (λ e. record { t = record { 0 = pass.loaded }; event = e }) o)) (sym found)
       ∙ sym (given_more (waiting_found all) pass.loaded)
       ∙ ap (given_below (waiting_found all)) (sym loads_one.kept.loaded)
@@ -77,7 +81,8 @@ module _ (plan : Plan) (checked : IsCheckedPlan plan) (loads : Loads) (h : List 
       ∙ given_same (phaser_of new.waiting.items) (awaited_phaser plan all) (length plan.makers) (λ p l.
       ap (λ b. if b then Some (record { 0 = p }) else None)
       (ap (list_any (λ (w : Waiting). w.event.p.0 == p)) (waiting_more all ext ∙ ap (given_below (waiting_found all)) full)
-      ∙ any_given (λ (w : Waiting). w.event.p.0 == p) (waiting_found all) (λ t. is_event_of p (event_found all t)) (length plan.parents) (λ t m. one_event p (event_found all t) t)))
+      ∙ any_given (λ (w : Waiting). w.event.p.0 == p) (waiting_found all) (λ t. is_event_of p (event_found all t)) (length plan.parents)
+          (λ t m. one_event p (event_found all t) t)))
 
   phasers_more : All (λ (w : Waiting). w.event.p.0 < length plan.makers) new.waiting.items
   phasers_more =
@@ -89,7 +94,8 @@ module _ (plan : Plan) (checked : IsCheckedPlan plan) (loads : Loads) (h : List 
       one None is = λ k d l. absurd (omega arith)
       one (Some e) is = λ k d l. first k d l (published_phaser plan checked h run.0 pass.loaded e is)
         where
-          first : (k : ℕ) (d : Waiting) → k < 1 → e.p.0 < length plan.makers → (get_or (record { t = record { 0 = pass.loaded }; event = e } ∷ []) k d).event.p.0 < length plan.makers
+          first : (k : ℕ) (d : Waiting) → k < 1 → e.p.0 < length plan.makers →
+              (get_or (record { t = record { 0 = pass.loaded }; event = e } ∷ []) k d).event.p.0 < length plan.makers
           first zero d l within = within
           first (suc k) d l within = absurd (omega arith)
 
@@ -115,7 +121,8 @@ module _ (plan : Plan) (checked : IsCheckedPlan plan) (loads : Loads) (h : List 
         members = λ all ext. loads_one.kept.members ∙ of.phases.members all (extends_less all loads h ext)
             ∙ ap (λ k. row_found plan all (slice_get pass.waiting.items pass.row) (take k pass.awaited.items)) no_row.1
             ∙ nothing_found all (slice_get pass.waiting.items pass.row)
-            ∙ sym (ap (λ k. row_found plan all (slice_get new.waiting.items new.row) (take k new.awaited.items)) (loads_one.kept.column ∙ no_row.1) ∙ nothing_found all (slice_get new.waiting.items new.row));
+            ∙ sym (ap (λ k. row_found plan all (slice_get new.waiting.items new.row) (take k new.awaited.items)) (loads_one.kept.column ∙ no_row.1) ∙
+                nothing_found all (slice_get new.waiting.items new.row));
       }
     where
       nothing_found : (all : Loads) (o : Option Waiting) → row_found plan all o [] ≡ []
@@ -125,7 +132,9 @@ module _ (plan : Plan) (checked : IsCheckedPlan plan) (loads : Loads) (h : List 
       cells : new.loaded ≡ length plan.parents → length (loads ++ h ∷ []) ≡ length plan.parents + (new.row * length new.awaited.items + new.column)
       cells full =
           longer ∙ ap (λ k. k + 1) (sym here) ∙ sym loads_one.kept.loaded ∙ full
-          ∙ sym (ap (λ k. length plan.parents + (k * length new.awaited.items + new.column)) (loads_one.kept.row ∙ no_row.0) ∙ ap (λ k. length plan.parents + (0 * length new.awaited.items + k)) (loads_one.kept.column ∙ no_row.1) ∙ nothing (length plan.parents) (length new.awaited.items))
+          ∙ sym (ap (λ k. length plan.parents + (k * length new.awaited.items + new.column)) (loads_one.kept.row ∙ no_row.0) ∙
+              ap (λ k. length plan.parents + (0 * length new.awaited.items + k)) (loads_one.kept.column ∙ no_row.1) ∙
+              nothing (length plan.parents) (length new.awaited.items))
         where
           nothing : (n k : ℕ) → n + (0 * k + 0) ≡ n
           nothing n k = omega arith

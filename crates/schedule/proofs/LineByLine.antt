@@ -64,7 +64,8 @@ opening_is plan w checked opens =
         ]
 
 -- a task is enabled exactly where it has a next step
-pub next_is : (plan : Plan) (w : WorldValue) (h : List Step) (t : ℕ) (x : Action) → w.plan ≡ plan → IsAt w h → action_by_code w t ≡ Some x → IsLegal w.plan (state_of w) t x → IsOwnNextStep plan h t x
+pub next_is : (plan : Plan) (w : WorldValue) (h : List Step) (t : ℕ) (x : Action) → w.plan ≡ plan → IsAt w h → action_by_code w t ≡ Some x →
+    IsLegal w.plan (state_of w) t x → IsOwnNextStep plan h t x
 next_is plan w h t x same at next legal = record {
   by_code = ap (λ q. action_at q t (places h t).done) (sym same) ∙ ap (λ a. action_at w.plan t (a t).done) (sym at.there) ∙ next;
   legal = subst (λ q. IsLegal q (state_after h) t x) same (subst (λ s. IsLegal w.plan s t x) (state_is w h at) legal);
@@ -137,20 +138,14 @@ pub the_open : (plan : Plan) (loads : Option Loads) (p : OpenPass) → IsOpenPas
 the_open plan None p is = absurd is
 the_open plan (Some l) p is = (l, refl, is.0, is.1)
 
-pub has_open : (plan : Plan) (loads : Option Loads) (p : OpenPass) → IsOpenPass plan loads (Some p) → HasOpenPass plan p
-has_open plan loads p is = let (l, same, of, other) = the_open plan loads p is in record { loads = l; of = of; not_full = other }
-
--- no load is all loads
-pub nothing_loaded : (plan : Plan) → IsCheckedPlan plan → 0 ≢ loads_of plan []
-nothing_loaded plan checked e = (let l = slice_get_within plan.parents 0 None checked.tables.root in absurd (omega arith))
-
 -- the last load of a pass closes it
 pub closes : (plan : Plan) (a : Progress) (old : Replaying) (l : Loads) (verdicts : List PassVerdict) (v : PassVerdict) → KeepsProgress plan a old
     → length (l ++ a.run ∷ []) ≡ loads_of plan (l ++ a.run ∷ []) → IsDeadList (statuses_found plan (l ++ a.run ∷ [])) v.dead → verdicts ≡ old.verdicts ++ v ∷ []
     → KeepsProgress plan (loaded plan a (l ++ a.run ∷ [])) (record { world = old.world; pass = None; verdicts = verdicts; steps = old.steps })
 closes plan a old l verdicts v of full dead same =
     let more = l ++ a.run ∷ [] in
-    subst (λ b. KeepsProgress plan (if b then record a { open_pass = None; passes = a.passes ++ more ∷ [] } else record a { open_pass = Some more }) (record { world = old.world; pass = None; verdicts = verdicts; steps = old.steps }))
+    subst (λ b. KeepsProgress plan (if b then record a { open_pass = None; passes = a.passes ++ more ∷ [] } else record a { open_pass = Some more })
+        (record { world = old.world; pass = None; verdicts = verdicts; steps = old.steps }))
     (sym (eq-eqb (length more) (loads_of plan more) full))
     record {
       plan_is = of.plan_is;
@@ -166,7 +161,8 @@ pub stays_open : (plan : Plan) (a : Progress) (old : Replaying) (l : Loads) (p :
     → KeepsProgress plan (loaded plan a (l ++ a.run ∷ [])) (record { world = old.world; pass = Some p; verdicts = old.verdicts; steps = old.steps })
 stays_open plan a old l p of other is =
     let more = l ++ a.run ∷ [] in
-    subst (λ b. KeepsProgress plan (if b then record a { open_pass = None; passes = a.passes ++ more ∷ [] } else record a { open_pass = Some more }) (record { world = old.world; pass = Some p; verdicts = old.verdicts; steps = old.steps }))
+    subst (λ b. KeepsProgress plan (if b then record a { open_pass = None; passes = a.passes ++ more ∷ [] } else record a { open_pass = Some more })
+        (record { world = old.world; pass = Some p; verdicts = old.verdicts; steps = old.steps }))
     (sym (ne_eqb (length more) (loads_of plan more) other))
     record { plan_is = of.plan_is; at = of.at; open_pass = (is, other); verdicts = of.verdicts; steps = of.steps }
 
@@ -176,7 +172,8 @@ dead_are_if w (Ok dead) are = λ h at. dead_are w h dead at are
 dead_are_if w (Err e) are = tt
 
 -- a line makes one step at most
-run_of_load : (b : Bool) (a : Progress) (loads : Loads) → length (if b then record a { open_pass = None; passes = a.passes ++ loads ∷ [] } else record a { open_pass = Some loads }).run ≡ length a.run
+run_of_load : (b : Bool) (a : Progress) (loads : Loads) →
+    length (if b then record a { open_pass = None; passes = a.passes ++ loads ∷ [] } else record a { open_pass = Some loads }).run ≡ length a.run
 run_of_load true a loads = refl
 run_of_load false a loads = refl
 
@@ -189,7 +186,8 @@ run_grows plan a line.Load b (loads, opened, is) =
 run_grows plan a line.Unreadable b takes = absurd takes
 
 -- one line more
-pub leads_more : (plan : Plan) (lines : List Line) (i : ℕ) (d : Line) (a b : Progress) → i < length lines → LinesLead plan (take i lines) a → Takes plan a (get_or lines i d) b → LinesLead plan (take (i + 1) lines) b
+pub leads_more : (plan : Plan) (lines : List Line) (i : ℕ) (d : Line) (a b : Progress) → i < length lines → LinesLead plan (take i lines) a →
+    Takes plan a (get_or lines i d) b → LinesLead plan (take (i + 1) lines) b
 leads_more plan lines i d a b l leads takes = subst (λ v. LinesLead plan v b) (sym (take_more lines i d l)) (one_more (take i lines) a (get_or lines i d) b leads takes)
 
 -- an end at a line

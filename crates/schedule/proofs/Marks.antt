@@ -16,13 +16,17 @@ pub given_more : {A : Type 0} (f : ℕ → Option A) (n : ℕ) → given_below f
 given_more f n = ap (given_below f) (add-one n)
 
 -- one that is marked is listed, and one that is not is not
-pub marked_more : (marks : List Bool) (p : ℕ) → p < length marks → get_or marks p false ≡ true → given_below (marked_phaser marks) (p + 1) ≡ given_below (marked_phaser marks) p ++ record { 0 = p } ∷ []
+pub marked_more : (marks : List Bool) (p : ℕ) → p < length marks → get_or marks p false ≡ true →
+    given_below (marked_phaser marks) (p + 1) ≡ given_below (marked_phaser marks) p ++ record { 0 = p } ∷ []
 marked_more marks p l e =
-    given_more (marked_phaser marks) p ∙ ap (λ o. given_below (marked_phaser marks) p ++ option_to_list (if unwrap_or o false then Some (record { 0 = p }) else None)) (slice_get-get_or marks p false l ∙ ap Some e)
+    given_more (marked_phaser marks) p ∙ ap (λ o. given_below (marked_phaser marks) p ++ option_to_list
+        (if unwrap_or o false then Some (record { 0 = p }) else None)) (slice_get-get_or marks p false l ∙ ap Some e)
 
 pub unmarked_more : (marks : List Bool) (p : ℕ) → p < length marks → get_or marks p false ≡ false → given_below (marked_phaser marks) (p + 1) ≡ given_below (marked_phaser marks) p
 unmarked_more marks p l e =
-    given_more (marked_phaser marks) p ∙ ap (λ o. given_below (marked_phaser marks) p ++ option_to_list (if unwrap_or o false then Some (record { 0 = p }) else None)) (slice_get-get_or marks p false l ∙ ap Some e) ∙ append-nil (given_below (marked_phaser marks) p)
+    given_more (marked_phaser marks) p ∙ ap (λ o. given_below (marked_phaser marks) p ++ option_to_list
+        (if unwrap_or o false then Some (record { 0 = p }) else None)) (slice_get-get_or marks p false l ∙ ap Some e) ∙
+        append-nil (given_below (marked_phaser marks) p)
 
 -- given by equal functions
 pub given_same : {A : Type 0} (f g : ℕ → Option A) (n : ℕ) → ((k : ℕ) → k < n → f k ≡ g k) → given_below f n ≡ given_below g n
@@ -61,8 +65,12 @@ mark_one marks waiting phasers i d are l within =
       all = length-set marks q true ∙ are.all;
       each = λ p lp. elim (cases_eq p q) [
         | inl same ↦ subst (λ r. slice_get (set marks q true) r ≡ Some (list_any (λ w. w.event.p.0 == r) (take (i + 1) waiting))) (sym same)
-            (slice_get-set_same marks q true (let a = are.all in omega arith) ∙ ap Some (sym (any_more waiting i q d l ∙ ap (λ b. list_any (λ w. w.event.p.0 == q) (take i waiting) || b) (eq-eqb q q refl) ∙ or_true _)))
-        | inr other ↦ slice_get-set_other marks q p true other ∙ are.each p lp ∙ ap Some (sym (any_more waiting i p d l ∙ ap (λ b. list_any (λ w. w.event.p.0 == p) (take i waiting) || b) (ne_eqb q p (λ e. other (sym e))) ∙ or_false _))
+            (slice_get-set_same marks q true (let a = are.all in
+                omega arith) ∙ ap Some (sym (any_more waiting i q d l ∙ ap (λ b. list_any (λ w. w.event.p.0 == q) (take i waiting) || b) (eq-eqb q q refl) ∙
+                or_true _)))
+        | inr other ↦ slice_get-set_other marks q p true other ∙ are.each p lp ∙
+              ap Some (sym (any_more waiting i p d l ∙ ap (λ b. list_any (λ w. w.event.p.0 == p) (take i waiting) || b) (ne_eqb q p (λ e. other (sym e))) ∙
+              or_false _))
       ];
     }
 
@@ -72,7 +80,8 @@ mark_none marks waiting phasers i d are l beyond =
     let q = (get_or waiting i d).event.p.0 in
     record {
       all = are.all;
-      each = λ p lp. are.each p lp ∙ ap Some (sym (any_more waiting i p d l ∙ ap (λ b. list_any (λ w. w.event.p.0 == p) (take i waiting) || b) (ne_eqb q p (λ e. absurd (omega arith))) ∙ or_false _));
+      each = λ p lp. are.each p lp ∙ ap Some (sym (any_more waiting i p d l ∙
+          ap (λ b. list_any (λ w. w.event.p.0 == p) (take i waiting) || b) (ne_eqb q p (λ e. absurd (omega arith))) ∙ or_false _));
     }
 
 -- marked are the phasers of the tasks

@@ -17,7 +17,8 @@ pub no_moments : (plan : Plan) (h : List Step) → AreMoments plan [] h
 no_moments plan h = record { legal = λ i g e. absurd (cc); before = λ i g e. absurd (cc); rising = λ i j g f l e d. absurd (cc) }
 
 -- the last of these is h, or it is one of the others
-last_or : (loads : Loads) (h : List Step) (i : ℕ) (g : List Step) → slice_get (loads ++ h ∷ []) i ≡ Some g → (slice_get loads i ≡ Some g × i < length loads) ⊎ (g ≡ h × i ≡ length loads)
+last_or : (loads : Loads) (h : List Step) (i : ℕ) (g : List Step) → slice_get (loads ++ h ∷ []) i ≡ Some g →
+    (slice_get loads i ≡ Some g × i < length loads) ⊎ (g ≡ h × i ≡ length loads)
 last_or [] h zero g e = inr (cc, refl)
 last_or [] h (suc i) g e = absurd (cc)
 last_or (f ∷ loads) h zero g e = inl (e, omega arith)

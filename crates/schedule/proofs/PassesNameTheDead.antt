@@ -112,16 +112,19 @@ module _ (plan : Plan) (checked : IsCheckedPlan plan) where
     found_phase : (t p n : ℕ) → phases_found plan loads t p ≡ Some n → (g : List Step) × slice_get loads (phase_load plan loads t p) ≡ Some g × (state_after g).phases t p ≡ Some n
     found_phase t p n found = go (slice_get loads (phase_load plan loads t p)) refl found
       where
-        go : (o : Option (List Step)) → slice_get loads (phase_load plan loads t p) ≡ o → phase_after t p o ≡ Some n → (g : List Step) × slice_get loads (phase_load plan loads t p) ≡ Some g × (state_after g).phases t p ≡ Some n
+        go : (o : Option (List Step)) → slice_get loads (phase_load plan loads t p) ≡ o → phase_after t p o ≡ Some n →
+            (g : List Step) × slice_get loads (phase_load plan loads t p) ≡ Some g × (state_after g).phases t p ≡ Some n
         go None is f = absurd (cc)
         go (Some g) is f = (g, is, f)
 
     -- a phase cell of a task found waiting on a phaser found awaited is one of the loads
-    phase_within : (t p : ℕ) (e : Event) → t < length plan.parents → p < length plan.makers → event_found loads t ≡ Some e → is_found_awaited plan loads p ≡ true → phase_load plan loads t p < length loads
+    phase_within : (t p : ℕ) (e : Event) → t < length plan.parents → p < length plan.makers → event_found loads t ≡ Some e →
+        is_found_awaited plan loads p ≡ true → phase_load plan loads t p < length loads
     phase_within t p e task phaser waits awaited =
         let row = count_below_less (λ u. is_some (event_found loads u)) t (length plan.parents) task (ap is_some waits) in
         let column = count_below_less (is_found_awaited plan loads) p (length plan.makers) phaser awaited in
-        let cell = cell_within (waiting_below loads t) (awaited_below plan loads p) (waiting_below loads (length plan.parents)) (awaited_below plan loads (length plan.makers)) row column in
+        let cell = cell_within (waiting_below loads t) (awaited_below plan loads p) (waiting_below loads (length plan.parents))
+                (awaited_below plan loads (length plan.makers)) row column in
         omega arith
 
     -- the list of statuses found, read back
@@ -136,11 +139,13 @@ module _ (plan : Plan) (checked : IsCheckedPlan plan) where
     load_is i g t is = ap (λ h. places h t) (get_or_from_slice_get loads i g [] is)
 
     -- a task that was found waiting, and what was found of it
-    found_waiting : (t : ℕ) (e : Event) → IsListedOn (statuses_found plan loads) t e → t < length plan.parents × (g : List Step) × slice_get loads t ≡ Some g × (state_after g).published t ≡ Some e
+    found_waiting : (t : ℕ) (e : Event) → IsListedOn (statuses_found plan loads) t e →
+        t < length plan.parents × (g : List Step) × slice_get loads t ≡ Some g × (state_after g).published t ≡ Some e
     found_waiting t e listed = (let (l, waits) = (are.events t e).0 listed in let (g, is, on) = found_event t e waits in (l, g, is, on))
 
     -- what is dead by the statuses is dead at any later moment
-    found_dead : (g : List Step) → IsLegalRun plan g → ((i : ℕ) (f : List Step) → slice_get loads i ≡ Some f → ArePrefixes (places f) (places g)) → (t : ℕ) → IsDeadBy (statuses_found plan loads) t → IsDeadIn (state_after g) t
+    found_dead : (g : List Step) → IsLegalRun plan g → ((i : ℕ) (f : List Step) → slice_get loads i ≡ Some f → ArePrefixes (places f) (places g)) → (t : ℕ) →
+        IsDeadBy (statuses_found plan loads) t → IsDeadIn (state_after g) t
     found_dead g run later t dead = record { tasks = dead.tasks; inside = dead.inside; deadlocked = there.1 }
       where
         waiting : (u : ℕ) (e : Event) → dead.tasks u ≡ true → IsListedOn (statuses_found plan loads) u e → published_after plan u (place_at u u).done ≡ Some e
@@ -163,7 +168,8 @@ module _ (plan : Plan) (checked : IsCheckedPlan plan) where
             let task = asked.task in
             let order : u ≤ phase_load plan loads u p = omega arith in
             let rise = moments.rising u (phase_load plan loads u p) f k order is is_k u in
-            let began : 0 < done_by (places k) u = (let b = begun f (moments.legal u f is) u asked.event on in let d = later_done (places f u).done (places k u).done (places f u).dropped (places k u).dropped rise in omega arith) in
+            let began : 0 < done_by (places k) u = (let b = begun f (moments.legal u f is) u asked.event on in
+                    let d = later_done (places f u).done (places k u).done (places f u).dropped (places k u).dropped rise in omega arith) in
             let here = load_is (phase_load plan loads u p) k u is_k in (
               subst (λ a. IsPrefix (place_at u u) a) (sym here) (subst (λ a. IsPrefix a (places k u)) (sym (load_is u f u is)) rise),
               ap (λ a. phases_at_place plan u a p) here ∙ sym (phases_fixed k (moments.legal (phase_load plan loads u p) k is_k) u began p) ∙ at_k,
@@ -180,7 +186,8 @@ module _ (plan : Plan) (checked : IsCheckedPlan plan) where
             record { waiting = waiting; before = before; phases = phases; phases_before = phases_before }
 
     -- what is dead at an earlier moment than all loads is dead by the statuses
-    dead_found : (h : List Step) → IsLegalRun plan h → ((i : ℕ) (f : List Step) → slice_get loads i ≡ Some f → ArePrefixes (places h) (places f)) → (t : ℕ) → IsDeadIn (state_after h) t → IsDeadBy (statuses_found plan loads) t
+    dead_found : (h : List Step) → IsLegalRun plan h → ((i : ℕ) (f : List Step) → slice_get loads i ≡ Some f → ArePrefixes (places h) (places f)) → (t : ℕ) →
+        IsDeadIn (state_after h) t → IsDeadBy (statuses_found plan loads) t
     dead_found h run earlier t dead =
         record {
           tasks = dead.tasks;
@@ -292,7 +299,8 @@ module _ (plan : Plan) (checked : IsCheckedPlan plan) where
   takes_kept : (a : Progress) (next : Line) (b : Progress) → IsKept a → Takes plan a next b → IsKept b
   takes_kept a (line.Step t) b kept (x, next, is) = subst IsKept (sym is) (stepped_kept a kept t x next)
   takes_kept a line.Pass b kept (none, is) =
-      subst IsKept (sym is) record { run = kept.run; opened = λ loads e. (let same : [] ≡ loads = cc in subst (λ l. AreMoments plan l a.run) same (no_moments plan a.run)); closed = kept.closed }
+      subst IsKept (sym is) record { run = kept.run; opened = λ loads e.
+          (let same : [] ≡ loads = cc in subst (λ l. AreMoments plan l a.run) same (no_moments plan a.run)); closed = kept.closed }
   takes_kept a line.Load b kept (loads, opened, is) =
       let more = loads ++ a.run ∷ [] in
       subst IsKept (sym is) (loaded_kept a kept more (more_moments plan loads a.run (kept.opened loads opened) kept.run.0) (length more == loads_of plan more) refl)

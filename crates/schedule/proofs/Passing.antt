@@ -53,7 +53,8 @@ full_is plan loads pass of all rows =
     let none = place.last rows in
     let r = rows ∙ rows_are plan loads pass of all in
     let c = columns_are plan loads pass of all in
-    cells ∙ ap (λ k. length plan.parents + k) (ap (λ x. pass.row * length pass.awaited.items + x) none ∙ add_nothing (pass.row * length pass.awaited.items) ∙ ap (λ x. x * length pass.awaited.items) r ∙ ap (λ x. waiting_below loads (length plan.parents) * x) c)
+    cells ∙ ap (λ k. length plan.parents + k) (ap (λ x. pass.row * length pass.awaited.items + x) none ∙ add_nothing (pass.row * length pass.awaited.items) ∙
+        ap (λ x. x * length pass.awaited.items) r ∙ ap (λ x. waiting_below loads (length plan.parents) * x) c)
   where
     add_nothing : (n : ℕ) → n + 0 ≡ n
     add_nothing n = omega arith
@@ -71,12 +72,14 @@ full_rows plan loads pass of full =
     let same : loads_of plan loads ≡ length plan.parents + length pass.waiting.items * length pass.awaited.items =
     ap (λ x. length plan.parents + x * awaited_below plan loads (length plan.makers)) (sym r) ∙ ap (λ x. length plan.parents + length pass.waiting.items * x) (sym c) in
     elim (cases_lt pass.row (length pass.waiting.items)) [
-      | inl less ↦ absurd (let cell = cell_within pass.row pass.column (length pass.waiting.items) (length pass.awaited.items) less (place.column less) in let cells = place.cells in omega arith)
+      | inl less ↦ absurd (let cell = cell_within pass.row pass.column (length pass.waiting.items) (length pass.awaited.items) less (place.column less) in
+            let cells = place.cells in omega arith)
       | inr more ↦ (let within = place.row in omega arith)
     ]
 
 -- a pass that is not full has loads left
-pub loads_left : (plan : Plan) (loads : Loads) (pass : OpenPass) → IsPassOf plan loads pass → pass.loaded ≡ length plan.parents → length loads ≢ loads_of plan loads → length loads < loads_of plan loads
+pub loads_left : (plan : Plan) (loads : Loads) (pass : OpenPass) → IsPassOf plan loads pass → pass.loaded ≡ length plan.parents →
+    length loads ≢ loads_of plan loads → length loads < loads_of plan loads
 loads_left plan loads pass of all other =
     let place = of.phases.place all in
     let r = rows_are plan loads pass of all in
@@ -84,7 +87,8 @@ loads_left plan loads pass of all other =
     let same : loads_of plan loads ≡ length plan.parents + length pass.waiting.items * length pass.awaited.items =
     ap (λ x. length plan.parents + x * awaited_below plan loads (length plan.makers)) (sym r) ∙ ap (λ x. length plan.parents + length pass.waiting.items * x) (sym c) in
     elim (cases_lt pass.row (length pass.waiting.items)) [
-      | inl less ↦ (let cell = cell_within pass.row pass.column (length pass.waiting.items) (length pass.awaited.items) less (place.column less) in let cells = place.cells in omega arith)
+      | inl less ↦ (let cell = cell_within pass.row pass.column (length pass.waiting.items) (length pass.awaited.items) less (place.column less) in
+            let cells = place.cells in omega arith)
       | inr more ↦ absurd (other (full_is plan loads pass of all (let within = place.row in omega arith)))
     ]
 
@@ -94,12 +98,14 @@ statuses_are_found plan loads pass of full =
     let all = full_loaded plan loads pass of full in
     let rows = full_rows plan loads pass of full in
     of.phases.statuses loads (itself loads)
-    ∙ ap (map (status_with plan loads)) (ap (λ k. take k pass.waiting.items) rows ∙ take_all (length pass.waiting.items) pass.waiting.items (omega arith) ∙ of.awaits.waiting loads (itself loads) ∙ ap (given_below (waiting_found loads)) all)
+    ∙ ap (map (status_with plan loads)) (ap (λ k. take k pass.waiting.items) rows ∙ take_all (length pass.waiting.items) pass.waiting.items (omega arith) ∙
+        of.awaits.waiting loads (itself loads) ∙ ap (given_below (waiting_found loads)) all)
     ∙ map_given (status_with plan loads) (waiting_found loads) (length plan.parents)
     ∙ given_same _ _ (length plan.parents) (λ k l. one k (event_found loads k))
   where
     one : (k : ℕ) (o : Option Event)
         → option_map (status_with plan loads) (option_map (λ e. record { t = record { 0 = k }; event = e }) o)
-        ≡ option_map (λ e. record { t = record { 0 = k }; event = e; phases = given_below (listed_phase (is_found_awaited plan loads) (phases_found plan loads k)) (length plan.makers) }) o
+        ≡ option_map (λ e. record { t = record { 0 = k }; event = e;
+            phases = given_below (listed_phase (is_found_awaited plan loads) (phases_found plan loads k)) (length plan.makers) }) o
     one k None = refl
     one k (Some e) = refl

@@ -59,7 +59,8 @@ module _ (plan : Plan) (pass : OpenPass) (mid : IsMidPass plan pass) where
   row_within =
       elim (cases_lt pass.row (length pass.waiting.items)) [
         | inl less ↦ less
-        | inr more ↦ absurd (let w = (mid.of.phases.place all_loaded).row in let full = full_is plan mid.loads pass mid.of all_loaded (omega arith) in let n = mid.not_full in omega arith)
+        | inr more ↦ absurd (let w = (mid.of.phases.place all_loaded).row in let full = full_is plan mid.loads pass mid.of all_loaded (omega arith) in
+              let n = mid.not_full in omega arith)
       ]
 
   pub column_within : pass.column < length pass.awaited.items
@@ -79,7 +80,8 @@ module _ (plan : Plan) (pass : OpenPass) (mid : IsMidPass plan pass) where
       subst (λ k. k < length plan.makers) (number_of_marked q (is_found_awaited plan mid.loads q) p gives) l
 
 -- the next load finds the phase of the row's task on the column's phaser
-module _ (plan : Plan) (pass : OpenPass) (mid : IsMidPass plan pass) (loads : Loads) (h : List Step) (of : IsPassOf plan loads pass) (w : Waiting) (here : slice_get pass.waiting.items pass.row ≡ Some w) (p : PhaserId) (there : slice_get pass.awaited.items pass.column ≡ Some p) where
+module _ (plan : Plan) (pass : OpenPass) (mid : IsMidPass plan pass) (loads : Loads) (h : List Step) (of : IsPassOf plan loads pass) (w : Waiting)
+    (here : slice_get pass.waiting.items pass.row ≡ Some w) (p : PhaserId) (there : slice_get pass.awaited.items pass.column ≡ Some p) where
   full : pass.loaded ≡ length plan.parents
   full = all_loaded plan pass mid
 
@@ -124,7 +126,8 @@ module _ (plan : Plan) (pass : OpenPass) (mid : IsMidPass plan pass) (loads : Lo
     phase_is = ap (λ k. phase_after w.t.0 p.0 (slice_get all k)) load_is ∙ ap (phase_after w.t.0 p.0) (has_next all loads h ext)
 
     -- the members of the row, one column further
-    pub members_more : (new : OpenPass) → KeepsPhase pass new p ((state_after h).phases w.t.0 p.0) → new.members ≡ flat_map (member_found plan all w.t.0) (take (pass.column + 1) pass.awaited.items)
+    pub members_more : (new : OpenPass) → KeepsPhase pass new p ((state_after h).phases w.t.0 p.0) →
+        new.members ≡ flat_map (member_found plan all w.t.0) (take (pass.column + 1) pass.awaited.items)
     members_more new kept =
         let within = column_within plan pass mid in
         let d = get_or_from_slice_get pass.awaited.items pass.column p p there in
@@ -138,10 +141,12 @@ module _ (plan : Plan) (pass : OpenPass) (mid : IsMidPass plan pass) (loads : Lo
         ∙ ap (flat_map (member_found plan all w.t.0)) (sym (take_more pass.awaited.items pass.column p within))
 
     -- a whole row is the task's status
-    row_status : flat_map (member_found plan all w.t.0) pass.awaited.items ≡ given_below (listed_phase (is_found_awaited plan all) (phases_found plan all w.t.0)) (length plan.makers)
+    row_status : flat_map (member_found plan all w.t.0) pass.awaited.items ≡ given_below
+        (listed_phase (is_found_awaited plan all) (phases_found plan all w.t.0)) (length plan.makers)
     row_status =
         ap (flat_map (member_found plan all w.t.0)) (of.awaits.awaited all before full)
-        ∙ flat_given (λ q. option_map (λ n. record { p = q; n = n }) (phases_found plan all w.t.0 q.0)) (awaited_phaser plan all) (listed_phase (is_found_awaited plan all) (phases_found plan all w.t.0)) (length plan.makers)
+        ∙ flat_given (λ q. option_map (λ n. record { p = q; n = n }) (phases_found plan all w.t.0 q.0)) (awaited_phaser plan all)
+            (listed_phase (is_found_awaited plan all) (phases_found plan all w.t.0)) (length plan.makers)
         (λ k l. one k (is_found_awaited plan all k))
       where
         one : (k : ℕ) (b : Bool) → flat_map (member_found plan all w.t.0) (option_to_list (if b then Some (record { 0 = k }) else None))
@@ -180,21 +185,25 @@ module _ (plan : Plan) (pass : OpenPass) (mid : IsMidPass plan pass) (loads : Lo
                 ∙ ap (λ r. length plan.parents + (r * length new.awaited.items + (pass.column + 1))) (sym kept.row)
                 ∙ ap (λ c. length plan.parents + (new.row * length new.awaited.items + c)) (sym kept.column);
             row = (let r = kept.row in let l = ap length kept.waiting in let within = place.row in omega arith);
-            column = λ _. (let c = kept.column in let l = ap length kept.awaited in let within = column_within plan pass mid in less_than new.column (length new.awaited.items) (omega arith) other);
+            column = λ _. (let c = kept.column in let l = ap length kept.awaited in let within = column_within plan pass mid in
+                less_than new.column (length new.awaited.items) (omega arith) other);
             last = λ e. absurd (let r = kept.row in let l = ap length kept.waiting in let within = row_within plan pass mid in omega arith);
           };
           first = λ l. absurd (let s = kept.loaded in let f = full in omega arith);
-          statuses = λ all ext. kept.statuses ∙ of.phases.statuses all (extends_less all loads h ext) ∙ ap (λ k. map (status_with plan all) (take k pass.waiting.items)) (sym kept.row)
+          statuses = λ all ext. kept.statuses ∙ of.phases.statuses all (extends_less all loads h ext) ∙
+              ap (λ k. map (status_with plan all) (take k pass.waiting.items)) (sym kept.row)
               ∙ ap (λ v. map (status_with plan all) (take new.row v)) (sym kept.waiting);
           members = λ all ext. members_more all ext new kept
               ∙ ap (λ c. flat_map (member_found plan all w.t.0) (take c pass.awaited.items)) (sym kept.column)
               ∙ ap (λ v. flat_map (member_found plan all w.t.0) (take new.column v)) (sym kept.awaited)
-              ∙ sym (ap (λ o. row_found plan all o (take new.column new.awaited.items)) (ap (λ v. slice_get v new.row) kept.waiting ∙ ap (slice_get pass.waiting.items) kept.row ∙ here));
+              ∙ sym (ap (λ o. row_found plan all o (take new.column new.awaited.items))
+                  (ap (λ v. slice_get v new.row) kept.waiting ∙ ap (slice_get pass.waiting.items) kept.row ∙ here));
         };
       }
 
   -- the row ends
-  pub row_ends : (middle new : OpenPass) → KeepsPhase pass middle p ((state_after h).phases w.t.0 p.0) → middle.column ≡ length middle.awaited.items → EndsRow middle new w → IsPassOf plan (loads ++ h ∷ []) new
+  pub row_ends : (middle new : OpenPass) → KeepsPhase pass middle p ((state_after h).phases w.t.0 p.0) → middle.column ≡ length middle.awaited.items →
+      EndsRow middle new w → IsPassOf plan (loads ++ h ∷ []) new
   row_ends middle new kept last ended =
       record {
         awaits = record {
@@ -216,7 +225,8 @@ module _ (plan : Plan) (pass : OpenPass) (mid : IsMidPass plan pass) (loads : Lo
           first = λ l. absurd (let s = ended.loaded ∙ kept.loaded in let f = full in omega arith);
           statuses = λ all ext. status_more all ext middle new kept last ended
               ∙ ap (λ k. map (status_with plan all) (take k pass.waiting.items)) (sym row) ∙ ap (λ v. map (status_with plan all) (take new.row v)) (sym waiting);
-          members = λ all ext. ended.members ∙ sym (ap (λ k. row_found plan all (slice_get new.waiting.items new.row) (take k new.awaited.items)) ended.column ∙ nothing_found all (slice_get new.waiting.items new.row));
+          members = λ all ext. ended.members ∙ sym (ap (λ k. row_found plan all (slice_get new.waiting.items new.row) (take k new.awaited.items)) ended.column ∙
+              nothing_found all (slice_get new.waiting.items new.row));
         };
       }
     where

@@ -23,7 +23,8 @@ length_given f (suc n) = length-append (given_below f n) (option_to_list (f n)) 
 -- a map of such a list
 pub map_given : {A B : Type 0} (g : A → B) (f : ℕ → Option A) (n : ℕ) → map g (given_below f n) ≡ given_below (λ k. option_map g (f k)) n
 map_given g f zero = refl
-map_given g f (suc n) = map-append g (given_below f n) (option_to_list (f n)) ∙ ap (λ l. l ++ map g (option_to_list (f n))) (map_given g f n) ∙ ap (λ l. given_below (λ k. option_map g (f k)) n ++ l) (one (f n))
+map_given g f (suc n) = map-append g (given_below f n) (option_to_list (f n)) ∙ ap (λ l. l ++ map g (option_to_list (f n))) (map_given g f n) ∙
+    ap (λ l. given_below (λ k. option_map g (f k)) n ++ l) (one (f n))
   where
     one : (o : Option _) → map g (option_to_list o) ≡ option_to_list (option_map g o)
     one None = refl
@@ -78,7 +79,8 @@ at_place f (suc n) k x e =
     ]
   where
     here : (o : Option _) → f n ≡ o → length (given_below f n) ≤ k → (t : ℕ) × (t < suc n) × (f t ≡ Some x) × (count_below (λ j. is_some (f j)) t ≡ k)
-    here None is past = absurd (let short = slice_get_within (given_below f n ++ option_to_list (f n)) k x e in let l = length-append (given_below f n) (option_to_list (f n)) in let z = ap (λ o. length (option_to_list o)) is in omega arith)
+    here None is past = absurd (let short = slice_get_within (given_below f n ++ option_to_list (f n)) k x e in
+        let l = length-append (given_below f n) (option_to_list (f n)) in let z = ap (λ o. length (option_to_list o)) is in omega arith)
     here (Some y) is past =
         let short = slice_get_within (given_below f n ++ option_to_list (f n)) k x e in
         let l = length-append (given_below f n) (option_to_list (f n)) in

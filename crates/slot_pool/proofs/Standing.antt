@@ -22,10 +22,6 @@ module _ {R : Type 0} (table after : TableId) (same : after ≡ table) (number :
   stays : (next : Me (Option R) View) → now ≡ next → IsAtWork table.words number next → Keeps after number now entries room
   stays next is at_work = subst (λ i. Keeps i number now entries room) (sym same) (subst (IsAtWork table.words number) (sym is) at_work, w.1)
 
-  -- it found nothing
-  pub tried_at_work : (t n : ℕ) → now ≡ (trying t n me.0, me.1) → Keeps after number now entries room
-  tried_at_work t n is = stays (trying t n me.0, me.1) is (record { alone = w.0.alone; few = w.0.few; slots = w.0.slots; known = w.0.known; inside = w.0.inside })
-
   -- it found another word
   pub found_at_work : (t n : ℕ) → now ≡ (finding t n me.0, me.1) → Keeps after number now entries room
   found_at_work t n is =
@@ -54,11 +50,6 @@ module _ {R : Type 0} (table after : TableId) (same : after ≡ table) (number :
   pub placing_at_work : (t : ℕ) → t < table.words → now ≡ (placing t me.0, (t, None) ∷ me.1) → Keeps after number now entries room
   placing_at_work t small is =
       stays (placing t me.0, (t, None) ∷ me.1) is
-      (record { alone = w.0.alone; few = w.0.few; slots = ap (λ (xs : List (ℕ × Option R)). (t, None) ∷ xs) w.0.slots; known = known_more t; inside = inside_more t small })
-
-  pub claiming_at_work : (t : ℕ) → t < table.words → now ≡ (claiming t me.0, (t, None) ∷ me.1) → Keeps after number now entries room
-  claiming_at_work t small is =
-      stays (claiming t me.0, (t, None) ∷ me.1) is
       (record { alone = w.0.alone; few = w.0.few; slots = ap (λ (xs : List (ℕ × Option R)). (t, None) ∷ xs) w.0.slots; known = known_more t; inside = inside_more t small })
 
   -- the slot that it took last is at home

@@ -9,7 +9,8 @@ use Rattle.dep_state.specs.Deps.{Deps, IsAwaitedBy, impeders_of}
 use Rattle.state_graph.specs.inside.Growing.{AreSized, IsBehind, IsFirstFrom, IsGrown, IsGrowing, IsNextAt, IsPairBetween, IsPassedPair, IsPassing}
 
 -- one event is followed
-module _ (d : Deps) (k event : ℕ) (left : List ℕ) (edges : List (List ℕ)) (seen : List Bool) (next : List ℕ) (waiting : List (List ℕ)) (h : IsGrowing d k (event ∷ left) edges seen next waiting) where
+module _ (d : Deps) (k event : ℕ) (left : List ℕ) (edges : List (List ℕ)) (seen : List Bool) (next : List ℕ) (waiting : List (List ℕ))
+    (h : IsGrowing d k (event ∷ left) edges seen next waiting) where
   module _
       (inside : event < length d.events) (at : ℕ) (now rows : List (List ℕ)) (p : IsPassing (impeders_of d event) k (get_or next event 0) at)
       (nodes : length now ≡ length edges)
@@ -42,7 +43,8 @@ module _ (d : Deps) (k event : ℕ) (left : List ℕ) (edges : List (List ℕ)) 
           after = λ lt. let a = p.after lt in omega arith;
         }
 
-    passed : (i : ℕ) → get_or seen i false ≡ true → (Contains left i × IsBehind (impeders_of d i) k (get_or (set next event at) i 0)) ⊎ IsFirstFrom (impeders_of d i) (k + 1) (get_or (set next event at) i 0)
+    passed : (i : ℕ) → get_or seen i false ≡ true → (Contains left i × IsBehind (impeders_of d i) k (get_or (set next event at) i 0)) ⊎
+        IsFirstFrom (impeders_of d i) (k + 1) (get_or (set next event at) i 0)
     passed i s = elim (cases_eq i event) [
       | inl e ↦ inr (subst (λ j. IsFirstFrom (impeders_of d j) (k + 1) (get_or (set next event at) j 0)) (sym e) (rw here first))
       | inr ne ↦ rw (there i ne) (elim (h.passed i s) [ inl q ↦ inl (rest i ne q.0, q.1) | inr f ↦ inr f ])
@@ -125,7 +127,8 @@ set_inside : (xs : List Bool) (i : ℕ) → get_or xs i false ≡ true → i < l
 set_inside xs i on = elim (cases_lt i (length xs)) [ inl lt ↦ lt | inr past ↦ absurd (let off = get_or_past xs i false past in cc) ]
 
 -- what is to be followed is an event, and no more of its row was passed than there is
-module _ (d : Deps) (k : ℕ) (left : List ℕ) (edges : List (List ℕ)) (seen : List Bool) (next : List ℕ) (waiting : List (List ℕ)) (h : IsGrowing d k left edges seen next waiting) where
+module _ (d : Deps) (k : ℕ) (left : List ℕ) (edges : List (List ℕ)) (seen : List Bool) (next : List ℕ) (waiting : List (List ℕ))
+    (h : IsGrowing d k left edges seen next waiting) where
   pub due_inside : (e : ℕ) → Contains left e → e < length d.events
   due_inside e c = omega (arith, set_inside seen e (h.known e c), h.sized.flags)
 

@@ -102,7 +102,8 @@ none_seen d seen f i h =
 
 -- nothing has grown at first
 pub grown_none :
-    (d : Deps) (edges : List (List ℕ)) (seen : List Bool) (next : List ℕ) (waiting : List (List ℕ)) → edges ≡ replicate (length d.events) [] → seen ≡ replicate (length d.events) false →
+    (d : Deps) (edges : List (List ℕ)) (seen : List Bool) (next : List ℕ) (waiting : List (List ℕ)) → edges ≡ replicate (length d.events) [] →
+    seen ≡ replicate (length d.events) false →
     next ≡ replicate (length d.events) 0 → waiting ≡ replicate (length d.tasks) [] → IsGrown d 0 edges seen next waiting
 grown_none d edges seen next waiting e f g w =
     record {

@@ -45,16 +45,3 @@ module _ (ss : List Status) (ok : IsInOrder ss) (d : Deps) (is : IsDepsOf ss d) 
   state_count_of g of n c =
       let pairs : (i j : ℕ) → HasEdge g.edges i j ↔ IsStatePair d (length ss) i j = rw (← sized) of.edges in
       edges_count ss ok d is g.edges pairs n c
-
--- one more answer
-pub answers_more :
-    (answers : List Bool) (places : List ℕ) (n : ℕ) (ats : List Bool) (x : Bool) → IsAnswersAt answers places n ats → x ≡ get_or answers (get_or places n 0) false →
-    IsAnswersAt answers places (n + 1) (ats ++ x ∷ [])
-answers_more answers places n ats x h is =
-    record {
-      sized = omega (arith, length-append ats (x ∷ []), h.sized);
-      each = λ k lt. elim (cases_eq k n) [
-        | inl same ↦ get_or_push ats x false k (h.sized ∙ sym same) ∙ is ∙ ap (λ i. get_or answers (get_or places i 0) false) (sym same)
-        | inr ne ↦ left_of ats (x ∷ []) k false (omega (arith, h.sized)) ∙ h.each k (omega arith)
-      ];
-    }

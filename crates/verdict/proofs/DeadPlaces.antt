@@ -37,7 +37,8 @@ flags_more tasks dead n flags x t h lt is says =
       ];
     }
 
-module _ (ss : List Status) (ok : IsInOrder ss) (d : Deps) (is : IsDepsOf ss d) (dead : List TaskId) (h : IsDeadList ss dead) (flags : List Bool) (f : IsFlags d.tasks dead (length d.tasks) flags) where
+module _ (ss : List Status) (ok : IsInOrder ss) (d : Deps) (is : IsDepsOf ss d) (dead : List TaskId) (h : IsDeadList ss dead) (flags : List Bool)
+    (f : IsFlags d.tasks dead (length d.tasks) flags) where
   -- the flag at a task's place says whether it is dead
   pub flag_dead : (k : ℕ) (t : TaskId) → StandsAt ss k t → (get_or flags k false ≡ true) ↔ IsDeadBy ss t.0
   flag_dead k t at =
@@ -54,7 +55,8 @@ module _ (ss : List Status) (ok : IsInOrder ss) (d : Deps) (is : IsDepsOf ss d) 
       ]
 
   -- the task at a place impedes what the task at another awaits
-  pub impedes_at : (a b : ℕ) (s v : Status) → a < length ss → get_or ss a s ≡ s → b < length ss → get_or ss b v ≡ v → Contains (impeders_of d (get_or d.awaits a 0)) b ↔ Impedes v s.event
+  pub impedes_at : (a b : ℕ) (s v : Status) → a < length ss → get_or ss a s ≡ s → b < length ss → get_or ss b v ≡ v →
+      Contains (impeders_of d (get_or d.awaits a 0)) b ↔ Impedes v s.event
   impedes_at a b s v al ae bl be = impeded_at ss ok d is (get_or d.awaits a 0) b s.event v (awaited_at ss ok d is a s al ae) bl be
 
   -- a dead task has a dead task that impedes its event

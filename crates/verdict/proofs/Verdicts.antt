@@ -44,7 +44,8 @@ some_dead (t ∷ ts) empty e f = omega arith
 pub first_dead : (ss : List Status) (dead : List TaskId) → IsDeadList ss dead → (o : TaskId) → 0 < length dead → IsDeadBy ss (get_or dead 0 o).0
 first_dead ss dead h o lt = (h.exact (get_or dead 0 o)).0 (Contains-get_or dead 0 o lt)
 
-module _ (ss : List Status) (ok : IsInOrder ss) (d : Deps) (is : IsDepsOf ss d) (dead : List TaskId) (dl : IsDeadList ss dead) (flags : List Bool) (f : IsFlags d.tasks dead (length d.tasks) flags) where
+module _ (ss : List Status) (ok : IsInOrder ss) (d : Deps) (is : IsDepsOf ss d) (dead : List TaskId) (dl : IsDeadList ss dead) (flags : List Bool)
+    (f : IsFlags d.tasks dead (length d.tasks) flags) where
   module _ (s0 : Status) (v : ℕ) (vl : v < length ss) (cycle : List ℕ) (w : IsWalkCycle (IsNextDead d flags) v cycle) where
     pub at : ℕ → TaskId
     at p = (get_or ss p s0).t
@@ -64,7 +65,8 @@ module _ (ss : List Status) (ok : IsInOrder ss) (d : Deps) (is : IsDepsOf ss d) 
         let lt' : k + 1 < length whole = omega arith in
         let next = w.steps k 0 lt' in
         let e : suc k ≡ k + 1 = omega arith in
-        subst (λ i. get_or whole i 0 < length ss) (sym e) (omega (arith, impeder_inside d is.formed (get_or d.awaits (get_or whole k 0) 0) (get_or whole (k + 1) 0) next.there, count ss ok d is))
+        subst (λ i. get_or whole i 0 < length ss) (sym e)
+            (omega (arith, impeder_inside d is.formed (get_or d.awaits (get_or whole k 0) 0) (get_or whole (k + 1) 0) next.there, count ss ok d is))
 
     one_node : (p q : ℕ) → Contains whole p → Contains whole q → at p ≡ at q → p ≡ q
     one_node p q (j, jl, je) (k, kl, ke) e =
@@ -76,7 +78,8 @@ module _ (ss : List Status) (ok : IsInOrder ss) (d : Deps) (is : IsDepsOf ss d) 
     unfolding whole
     step_at k t lt =
         rw (get_or-map at whole k 0 t (omega arith), get_or-map at whole (k + 1) 0 t lt)
-        (dead_step ss ok d is dead dl flags f (get_or whole k 0) (get_or whole (k + 1) 0) (at (get_or whole k 0)) (at (get_or whole (k + 1) 0)) (w.steps k 0 lt) (stands (get_or whole k 0) (inside k (omega arith))) (stands (get_or whole (k + 1) 0) (inside (k + 1) lt)))
+        (dead_step ss ok d is dead dl flags f (get_or whole k 0) (get_or whole (k + 1) 0) (at (get_or whole k 0)) (at (get_or whole (k + 1) 0)) (w.steps k 0 lt)
+            (stands (get_or whole k 0) (inside k (omega arith))) (stands (get_or whole (k + 1) 0) (inside (k + 1) lt)))
 
     -- the nodes of the cycle stand in the walk
     in_cycle : (k : ℕ) (o : ℕ) → k < length cycle → (get_or cycle k o ≡ get_or whole (length w.before + k) 0) × (length w.before + k < length whole)
@@ -100,7 +103,8 @@ module _ (ss : List Status) (ok : IsInOrder ss) (d : Deps) (is : IsDepsOf ss d) 
           distinct = rw (← e) (distinct_map at whole one_node w.distinct);
           some = rw (length-map cycle at) w.some;
           back = λ t. rw (← e, n, get_or-map at whole (length whole - 1) 0 t last, get_or-map at cycle 0 0 t w.some)
-              (dead_step ss ok d is dead dl flags f (get_or whole (length whole - 1) 0) (get_or cycle 0 0) (at (get_or whole (length whole - 1) 0)) (at (get_or cycle 0 0)) (w.back 0)
+              (dead_step ss ok d is dead dl flags f (get_or whole (length whole - 1) 0) (get_or cycle 0 0) (at (get_or whole (length whole - 1) 0))
+                  (at (get_or cycle 0 0)) (w.back 0)
               (stands (get_or whole (length whole - 1) 0) (inside (length whole - 1) last)) (stands (get_or cycle 0 0) (places_inside 0 0 w.some)));
         }
 

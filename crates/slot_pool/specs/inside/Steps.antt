@@ -9,7 +9,8 @@ use Rattle.slot_pool.specs.Views.{claiming, finding, giving, placing, trying}
 pub record Claimed {R : Type 0} (number_of : R → ℕ) (step : Step (Option R)) (before : Me (Option R) View) (found : ℕ) (now : Me (Option R) View) : Type 0 where
   pub got : found ≡ 1 → (r : R) × number_of r ≡ step.word × now ≡ (claiming step.word before.0, (step.word, Some r) ∷ before.1)
   pub empty : found ≡ 0 → (Contains before.0.knows step.word → ⊥) × now ≡ (trying step.word 0 before.0, before.1)
-  pub held : found ≢ 1 → found ≢ 0 → (k : ℕ) × found ≡ k + 2 × k < before.0.workers × (before.0.has ≡ [] → before.0.numbers ≢ k ∷ []) × now ≡ (finding step.word found before.0, before.1)
+  pub held : found ≢ 1 → found ≢ 0 → (k : ℕ) × found ≡ k + 2 × k < before.0.workers × (before.0.has ≡ [] → before.0.numbers ≢ k ∷ []) ×
+      now ≡ (finding step.word found before.0, before.1)
 
 -- the word of a task that is to be placed was found: 0, and its slot, in which nothing is, is the worker's; or another word
 pub record Begun {R : Type 0} (step : Step (Option R)) (before : Me (Option R) View) (found : ℕ) (now : Me (Option R) View) : Type 0 where

@@ -21,12 +21,14 @@ loop-v-preserved c =
     let s = c.pop.new.self.items in
     let v = c.in-Some.v in
     let split : c.loop-v.stack.items ≡ s ++ v ∷ [] = c.in-Some.ensures.items in
-    let below = All-contains (λ x. x < length c.loop-v.marks.items) (s ++ v ∷ []) v (subst (All (λ x. x < length c.loop-v.marks.items)) split c.loop-v.invariant.within) (Contains-push s v) in
+    let below = All-contains (λ x. x < length c.loop-v.marks.items) (s ++ v ∷ []) v
+            (subst (All (λ x. x < length c.loop-v.marks.items)) split c.loop-v.invariant.within) (Contains-push s v) in
     let less = count_less c.loop-v.marks.items v Cyclic Cyclic below refl in
     record {
       within = λ k d lt. rw length-set (front (λ x. x < length c.loop-v.marks.items) _ s v split c.loop-v.invariant.within k d lt);
       fewer = omega (arith, less, c.loop-v.invariant.fewer);
-      stays = λ u old. at_set (λ w m. IsMarked c.loop-v.marks.items w → m ≡ Unvisited → ⊥) c.loop-v.marks.items v Cyclic Unvisited below (λ w _ h. h) (λ _ e. absurd cc) u (c.loop-v.invariant.stays u old);
+      stays = λ u old. at_set (λ w m. IsMarked c.loop-v.marks.items w → m ≡ Unvisited → ⊥) c.loop-v.marks.items v Cyclic Unvisited below (λ w _ h. h)
+          (λ _ e. absurd cc) u (c.loop-v.invariant.stays u old);
       search = λ g left h all.
           let now = c.loop-v.invariant.search g left h all in
           let reach = All-contains (ReachesCycle (HasEdge g)) (s ++ v ∷ []) v (subst (All (ReachesCycle (HasEdge g))) split now.1) (Contains-push s v) in (

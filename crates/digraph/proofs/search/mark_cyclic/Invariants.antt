@@ -10,7 +10,8 @@ invariant-loop-v l = record {
   within : All (λ v. v < length l.marks.items) l.stack.items;
   fewer : count_by is_unvisited l.marks.items ≤ count_by is_unvisited l.initial.marks.items;
   stays : KeepsMarked l.initial.marks.items l.marks.items;
-  search : (g : List (List ℕ)) (left : List ℕ) → IsSearch g l.initial.marks.items left l.initial.stack.items → All (ReachesCycle (HasEdge g)) l.initial.stack.items → IsSearch g l.marks.items left l.stack.items × All (ReachesCycle (HasEdge g)) l.stack.items;
+  search : (g : List (List ℕ)) (left : List ℕ) → IsSearch g l.initial.marks.items left l.initial.stack.items →
+      All (ReachesCycle (HasEdge g)) l.initial.stack.items → IsSearch g l.marks.items left l.stack.items × All (ReachesCycle (HasEdge g)) l.stack.items;
 }
 
 abbrev pub decreases-loop-v : goal.decreases-loop-v

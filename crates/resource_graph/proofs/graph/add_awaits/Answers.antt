@@ -11,7 +11,8 @@ loop-k-preserved c =
     let e = c.in_ok-add.ensures.edges in
     record {
       nodes = e.nodes ∙ c.loop-k.invariant.nodes;
-      edges = single_more _ _ (λ x. length c.args.deps.now.tasks + slice_index c.args.deps.now.awaits x) c.loop-k.k c.loop-k.invariant.edges (rw (c.tasks.ensures.tasks, c.awaits_at-event.ensures.event) at e);
+      edges = single_more _ _ (λ x. length c.args.deps.now.tasks + slice_index c.args.deps.now.awaits x) c.loop-k.k c.loop-k.invariant.edges
+          (rw (c.tasks.ensures.tasks, c.awaits_at-event.ensures.event) at e);
     }
 
 pub returns-clause-edges : goal.returns-clause-edges

@@ -9,7 +9,8 @@ loop-e-preserved c =
     let e = c.in_ok-add_all.ensures.edges.edges in
     record {
       nodes = c.in_ok-add_all.ensures.nodes ∙ c.loop-e.invariant.nodes;
-      edges = later_more (HasEdge c.args.graph.now) _ _ (λ i. impeders_of c.args.deps.now i) (length c.args.deps.now.tasks) c.loop-e.e c.loop-e.invariant.edges (rw (c.tasks.ensures.tasks, c.impeders_at.ensures.impeders) at e);
+      edges = later_more (HasEdge c.args.graph.now) _ _ (λ i. impeders_of c.args.deps.now i) (length c.args.deps.now.tasks) c.loop-e.e c.loop-e.invariant.edges
+          (rw (c.tasks.ensures.tasks, c.impeders_at.ensures.impeders) at e);
     }
 
 pub returns-clause-edges : goal.returns-clause-edges

@@ -26,4 +26,5 @@ returns-clause-told c =
     (found.0, subst (λ e. IsRemainingImpeder ss remains e found.0) (sym (same s)) found.1))
     (λ not_below. λ s.
     subst (λ e. IsUnimpeded ss remains e) (sym (same s))
-    (unimpeded_else ss xs remains kept.are kept.ordered event i front stop (λ below. not_below (subst (λ (ys : List Standing). IsBelow ys i event) (sym c.deref-4.ensures.value) below))))
+    (unimpeded_else ss xs remains kept.are kept.ordered event i front stop
+        (λ below. not_below (subst (λ (ys : List Standing). IsBelow ys i event) (sym c.deref-4.ensures.value) below))))

@@ -11,6 +11,7 @@ invariant-loop-k l =
       kept : IsRemainingOf l.list l.self;
       quiet :
           l.taken ≡ false → (count_remaining l.self.remains.items ≡ count_remaining l.initial.self.remains.items)
-          × ((k : ℕ) (s : Status) → k < l.k → remains_at l.self.remains.items k ≡ true → (j : ℕ) × IsRemainingImpeder l.list l.self.remains.items (slice_index_or l.list k s).event j);
+          × ((k : ℕ) (s : Status) → k < l.k → remains_at l.self.remains.items k ≡ true →
+              (j : ℕ) × IsRemainingImpeder l.list l.self.remains.items (slice_index_or l.list k s).event j);
       less : l.taken ≡ true → count_remaining l.self.remains.items < count_remaining l.initial.self.remains.items;
     }

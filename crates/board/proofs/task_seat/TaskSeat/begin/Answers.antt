@@ -21,7 +21,8 @@ invariant_of-seat c =
     let f = c.requires.first in
     let b = c.board.view_is in record {
       no_slot = ap (λ m. m.1) e.2 ∙ c.requires.place.1;
-      sitting = first_sitting f.0 c.args.board.now c.split_seat-other.new.seat.table_id f.1 f.2 (e.0 ∙ c.requires.place.0) c.split_seat-other.new.seat.me.0 (ap (λ m. m.0) e.2 ∙ f.3)
+      sitting = first_sitting f.0 c.args.board.now c.split_seat-other.new.seat.table_id f.1 f.2 (e.0 ∙ c.requires.place.0) c.split_seat-other.new.seat.me.0
+          (ap (λ m. m.0) e.2 ∙ f.3)
           (subst IsCheckedPlan (ap (λ (g : Frame). g.plan) b ∙ sym f.1) c.board.invariant.checked);
     }
 

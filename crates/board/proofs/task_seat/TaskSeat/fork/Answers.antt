@@ -36,7 +36,8 @@ split_seat-place-requires c =
       c.load.ensures.0 ∙ o.table,
       (let n = c.board.invariant.words in omega arith),
       subst (λ (v : View). Splits (IsKept key) c.load.new.seat.id v (next_view v) (child v)) same
-          (forks key.plan.value key.mode c.load.new.seat.id c.self.inside.place.me.0 c.self.inside.task.0 c.args.c.0 i.task i.seat.live (ap (λ (k : Known). k.view.holds) s ∙ c.requires.unlocked)
+          (forks key.plan.value key.mode c.load.new.seat.id c.self.inside.place.me.0 c.self.inside.task.0 c.args.c.0 i.task i.seat.live
+              (ap (λ (k : Known). k.view.holds) s ∙ c.requires.unlocked)
           (ap (λ (k : Known). next_action k.view) s ∙ c.requires.next)),
     )
 
@@ -66,7 +67,8 @@ invariant_of-result c =
     let t = told c in
     let i = c.self.invariant.sitting in record {
       no_slot = ap (λ m. m.1) c.split_seat-place.ensures.4;
-      sitting = child_sitting c.self.inside.place.table_id c.split_seat-place.result.table_id c.self.inside.place.me.0 c.split_seat-place.result.me.0 _ _ c.args.c.0 _ i t.next t.unseen
+      sitting = child_sitting c.self.inside.place.table_id c.split_seat-place.result.table_id c.self.inside.place.me.0 c.split_seat-place.result.me.0 _ _
+          c.args.c.0 _ i t.next t.unseen
           (child_apart _ _ c.args.c.0 i.seat i.task t.next) t.child_is;
     }
 
@@ -74,7 +76,8 @@ pub invariant_of-self : goal.invariant_of-self
 invariant_of-self c =
     let t = told c in record {
       no_slot = ap (λ m. m.1) c.split_seat-place.ensures.2 ∙ c.load.ensures.2.1 ∙ c.self.invariant.no_slot;
-      sitting = acts_sitting c.self.inside.place.table_id c.split_seat-place.new.seat.table_id c.self.inside.place.me.0 c.split_seat-place.new.seat.me.0 _ _ _ (Forks c.args.c.0) c.self.invariant.sitting
+      sitting = acts_sitting c.self.inside.place.table_id c.split_seat-place.new.seat.table_id c.self.inside.place.me.0 c.split_seat-place.new.seat.me.0 _ _ _
+          (Forks c.args.c.0) c.self.invariant.sitting
           t.next (λ q e. cc) (λ q e. cc) (λ q e. cc) t.parent;
     }
 
@@ -83,14 +86,16 @@ returns-clause-step c =
     let t = told c in
     let i = c.self.invariant.sitting in
     subst (λ (k : Known). MakesStep (Forks c.args.c.0) k (record { table = c.split_seat-place.new.seat.table_id; view = c.split_seat-place.new.seat.me.0 })) c.self.view_is
-    (makes_step c.self.inside.place.table_id c.split_seat-place.new.seat.table_id c.self.inside.place.me.0 c.split_seat-place.new.seat.me.0 (Forks c.args.c.0) (task_inside _ _ i.seat i.task) t.next t.parent t.table i.seat)
+    (makes_step c.self.inside.place.table_id c.split_seat-place.new.seat.table_id c.self.inside.place.me.0 c.split_seat-place.new.seat.me.0 (Forks c.args.c.0)
+        (task_inside _ _ i.seat i.task) t.next t.parent t.table i.seat)
 
 pub returns-clause-child : goal.returns-clause-child
 returns-clause-child c =
     let t = told c in
     let i = c.self.invariant.sitting in
     let of = subst (λ k. IsOf k c.args.board.now) (sym c.self.view_is) c.requires.made in
-    subst (λ (v : View). IsNewSeat c.args.board.now (Some c.args.c.0) (seen_by_child c.args.c.0 (seen v)) (record { table = c.split_seat-place.result.table_id; view = c.split_seat-place.result.me.0 })) (sym t.parent)
+    subst (λ (v : View). IsNewSeat c.args.board.now (Some c.args.c.0) (seen_by_child c.args.c.0 (seen v))
+        (record { table = c.split_seat-place.result.table_id; view = c.split_seat-place.result.me.0 })) (sym t.parent)
     (child_new _ _ c.split_seat-place.result.table_id c.split_seat-place.result.me.0 c.args.c.0 of t.child_table t.next t.child_is
     (child_sitting c.self.inside.place.table_id c.split_seat-place.result.table_id c.self.inside.place.me.0 c.split_seat-place.result.me.0 _ _ c.args.c.0 _ i t.next t.unseen
     (child_apart _ _ c.args.c.0 i.seat i.task t.next) t.child_is).seat)
@@ -99,4 +104,5 @@ pub returns-clause-first : goal.returns-clause-first
 returns-clause-first c =
     let t = told c in
     let i = c.self.invariant.sitting in
-    child_first c.self.inside.place.me.0 c.split_seat-place.result.me.0 c.args.c.0 (task_inside _ _ i.seat i.task) t.next t.unseen (child_apart _ _ c.args.c.0 i.seat i.task t.next) t.child_is
+    child_first c.self.inside.place.me.0 c.split_seat-place.result.me.0 c.args.c.0 (task_inside _ _ i.seat i.task) t.next t.unseen
+        (child_apart _ _ c.args.c.0 i.seat i.task t.next) t.child_is

@@ -27,21 +27,28 @@ load-word-requires c =
     )
 
 pub seen_of-requires : goal.seen_of-requires
-seen_of-requires c = let t = watched_told 0 _ _ _ _ c.args.t.0 c.args.board.now c.self.inside.place.table_id c.load-word.ensures.2 (subst (λ k. IsOf k c.args.board.now) (sym c.self.view_is) c.requires.made) c.requires.task c.await_index-index.ensures.index in (t.0, t.2, t.1)
+seen_of-requires c = let t = watched_told 0 _ _ _ _ c.args.t.0 c.args.board.now c.self.inside.place.table_id c.load-word.ensures.2
+    (subst (λ k. IsOf k c.args.board.now) (sym c.self.view_is) c.requires.made) c.requires.task c.await_index-index.ensures.index in (t.0, t.2, t.1)
 
 pub returns : goal.returns
 returns c =
-    let t = watched_told 0 _ _ _ _ c.args.t.0 c.args.board.now c.self.inside.place.table_id c.load-word.ensures.2 (subst (λ k. IsOf k c.args.board.now) (sym c.self.view_is) c.requires.made) c.requires.task c.await_index-index.ensures.index in
+    let t = watched_told 0 _ _ _ _ c.args.t.0 c.args.board.now c.self.inside.place.table_id c.load-word.ensures.2
+            (subst (λ k. IsOf k c.args.board.now) (sym c.self.view_is) c.requires.made) c.requires.task c.await_index-index.ensures.index in
     record {
-      answer = subst (λ (k : Known). AnswersAwait c.args.t.0 (found_of c.seen_of.result) k (record { table = c.load-word.new.seat.table_id; view = c.load-word.new.seat.me.0 })) c.self.view_is
-          (answers_await c.self.inside.place.table_id c.load-word.new.seat.table_id c.self.inside.place.me.0 c.load-word.new.seat.me.0 c.args.t.0 t.0 (found_of c.seen_of.result) c.self.invariant.sitting.seat t.3 c.load-word.ensures.0 (c.seen_of.ensures t.0 t.2 t.1));
+      answer = subst (λ (k : Known). AnswersAwait c.args.t.0 (found_of c.seen_of.result) k
+          (record { table = c.load-word.new.seat.table_id; view = c.load-word.new.seat.me.0 })) c.self.view_is
+          (answers_await c.self.inside.place.table_id c.load-word.new.seat.table_id c.self.inside.place.me.0 c.load-word.new.seat.me.0 c.args.t.0 t.0
+              (found_of c.seen_of.result) c.self.invariant.sitting.seat t.3 c.load-word.ensures.0 (c.seen_of.ensures t.0 t.2 t.1));
     }
 
 pub invariant_of-self : goal.invariant_of-self
 invariant_of-self c =
-    let t = watched_told 0 _ _ _ _ c.args.t.0 c.args.board.now c.self.inside.place.table_id c.load-word.ensures.2 (subst (λ k. IsOf k c.args.board.now) (sym c.self.view_is) c.requires.made) c.requires.task c.await_index-index.ensures.index in
+    let t = watched_told 0 _ _ _ _ c.args.t.0 c.args.board.now c.self.inside.place.table_id c.load-word.ensures.2
+            (subst (λ k. IsOf k c.args.board.now) (sym c.self.view_is) c.requires.made) c.requires.task c.await_index-index.ensures.index in
     let i = c.self.invariant.sitting in record {
       no_slot = c.load-word.ensures.2.0 ∙ c.self.invariant.no_slot;
-      sitting = loads_sitting c.self.inside.place.table_id c.load-word.new.seat.table_id c.self.inside.place.me.0 c.load-word.new.seat.me.0 _ _ _ _ _ _ i t.3.same t.3.seen_now.place.exact t.3.was (few_await c.self.inside.place.table_id c.self.inside.place.me.0 c.load-word.new.seat.me.0 c.self.inside.place.me.0.plan c.self.inside.place.me.0.mode c.args.t.0 t.0 c.self.invariant.sitting.seat t.3)
+      sitting = loads_sitting c.self.inside.place.table_id c.load-word.new.seat.table_id c.self.inside.place.me.0 c.load-word.new.seat.me.0 _ _ _ _ _ _ i
+          t.3.same t.3.seen_now.place.exact t.3.was (few_await c.self.inside.place.table_id c.self.inside.place.me.0 c.load-word.new.seat.me.0
+          c.self.inside.place.me.0.plan c.self.inside.place.me.0.mode c.args.t.0 t.0 c.self.invariant.sitting.seat t.3)
           (i.scanned_is ∙ sym t.3.seen_now.scanned) i.idle;
     }

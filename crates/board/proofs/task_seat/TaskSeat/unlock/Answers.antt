@@ -21,11 +21,13 @@ store-requires c =
 pub invariant_of-self : goal.invariant_of-self
 invariant_of-self c = record {
   no_slot = c.store.ensures.2.1 ∙ c.self.invariant.no_slot;
-  sitting = locked_sitting c.self.inside.place.table_id c.store.new.seat.table_id c.self.inside.place.me.0 c.store.new.seat.me.0 _ _ _ false (λ has. absurd (false≢true has)) c.self.invariant.sitting c.store.ensures.2.0;
+  sitting = locked_sitting c.self.inside.place.table_id c.store.new.seat.table_id c.self.inside.place.me.0 c.store.new.seat.me.0 _ _ _ false
+      (λ has. absurd (false≢true has)) c.self.invariant.sitting c.store.ensures.2.0;
 }
 
 pub returns : goal.returns
 returns c = record {
   freed = subst (λ (k : Known). FreesLock k (record { table = c.store.new.seat.table_id; view = c.store.new.seat.me.0 })) c.self.view_is
-      (frees_lock c.self.inside.place.table_id c.store.new.seat.table_id c.self.inside.place.me.0 c.store.new.seat.me.0 c.self.invariant.sitting.seat c.store.ensures.2.0 c.store.ensures.0);
+      (frees_lock c.self.inside.place.table_id c.store.new.seat.table_id c.self.inside.place.me.0 c.store.new.seat.me.0 c.self.invariant.sitting.seat
+          c.store.ensures.2.0 c.store.ensures.0);
 }

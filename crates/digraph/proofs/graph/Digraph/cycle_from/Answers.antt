@@ -29,4 +29,5 @@ returns c =
     let on : get_or answers c.args.v false ≡ true = read_at answers c.args.v c.index.result.now false there c.index.ensures ∙ yes in
     rw c.from_vec.ensures.items
     (rw (← c.self.view_is)
-    (walk_by_table (IsStepOn g answers) (IsLeastSuccessor g) (λ a. get_or answers a false ≡ true) (λ a b reaches step. step reaches) n c.in_ok-next.next.items c.args.v c.in_ok-cycle.cycle.items table inside on walk))
+    (walk_by_table (IsStepOn g answers) (IsLeastSuccessor g) (λ a. get_or answers a false ≡ true) (λ a b reaches step. step reaches) n c.in_ok-next.next.items
+        c.args.v c.in_ok-cycle.cycle.items table inside on walk))
