@@ -45,11 +45,13 @@ next_stays k m t seat own goes =
     λ i. action_after (goes.same.plan i) (task i) (here i).done (here i).dropped
 
 -- a seat that has refused its await and freed the lock
-module _ (aim : Aim) (store stored free : Known) (next : next_action store.view ≡ Some (Blocks aim)) (step : MakesStep (Refuses aim) store stored) (freed : FreesLock stored free) where
+module _ (aim : Aim) (store stored free : Known) (next : next_action store.view ≡ Some (Blocks aim)) (step : MakesStep (Refuses aim) store stored)
+    (freed : FreesLock stored free) where
   free_place : own_place free.view ≡ place_at (own_place store.view).done 0
   free_place =
       ap own_place freed.view
-      ∙ own_place_next (Refuses aim) store stored (ap (λ (s : SeenBy). s.places (task_of store.view)) step.seen_now ∙ moved_same (seen store.view).places (task_of store.view) (Refuses aim)) step.same.own
+      ∙ own_place_next (Refuses aim) store stored (ap (λ (s : SeenBy). s.places (task_of store.view)) step.seen_now
+      ∙ moved_same (seen store.view).places (task_of store.view) (Refuses aim)) step.same.own
       ∙ ap (λ o. next_place (own_place store.view).done o (Refuses aim)) (next_there store.view (Blocks aim) next).0
 
   pub free_refused : (own_place free.view).dropped ≡ Some 0
@@ -63,7 +65,9 @@ module _ (aim : Aim) (store stored free : Known) (next : next_action store.view 
       ∙ kept_all (phases_after store.view.plan (task_of store.view) (own_place store.view).done)
       ∙ ap (λ o. kept o (phases_after store.view.plan (task_of store.view) (own_place store.view).done)) (sym (next_there store.view (Blocks aim) next).0)
 
-module _ (list : List Status) (aim : Aim) (before now : Known) (found : Option Cycle) (t : ℕ) (seat : IsSeat before) (own : before.view.own ≡ Some t) (avoiding : avoids before.view.mode ≡ true) (holds : before.view.holds ≡ true) (next : next_action before.view ≡ Some (Blocks aim)) (goes : LoadsAlone before now) (j : IsJudged list aim before now found) where
+module _ (list : List Status) (aim : Aim) (before now : Known) (found : Option Cycle) (t : ℕ) (seat : IsSeat before) (own : before.view.own ≡ Some t)
+    (avoiding : avoids before.view.mode ≡ true) (holds : before.view.holds ≡ true) (next : next_action before.view ≡ Some (Blocks aim)) (goes : LoadsAlone before now)
+    (j : IsJudged list aim before now found) where
   abbrev plan : Plan
   plan = before.view.plan
 
@@ -83,19 +87,23 @@ module _ (list : List Status) (aim : Aim) (before now : Known) (found : Option C
   next_now = next_stays before now t seat own goes ∙ next
 
   -- in each state that it may be in
-  module _ (a : ℕ → Place) (lock : Option ℕ) (lawful : IsLawful true plan a lock) (has : HasLockWith plan t a lock (seen now.view)) (far : IsAsFarOn plan (Some t) a (seen now.view)) where
+  module _ (a : ℕ → Place) (lock : Option ℕ) (lawful : IsLawful true plan a lock) (has : HasLockWith plan t a lock (seen now.view))
+      (far : IsAsFarOn plan (Some t) a (seen now.view)) where
     told : Decides (state_at plan a) t j.event j.supposed
-    told = decides list j.supposed aim j.event before j.judges.between now t seat own next j.judges.own j.judges.goes_on j.judges.collected j.judges.finds j.judges.adds a lock avoiding lawful has far
+    told = decides list j.supposed aim j.event before j.judges.between now t seat own next j.judges.own j.judges.goes_on j.judges.collected j.judges.finds j.judges.adds a lock
+        avoiding lawful has far
 
     awaits : awaited (Some (Blocks aim)) ((state_at plan a).phases t) ≡ Some j.event
     awaits =
-        (stands list j.supposed aim j.event before j.judges.between now t seat own next j.judges.own j.judges.goes_on j.judges.collected j.judges.finds j.judges.adds a lock avoiding lawful has far).awaits
+        (stands list j.supposed aim j.event before j.judges.between now t seat own next j.judges.own j.judges.goes_on j.judges.collected j.judges.finds j.judges.adds a lock
+        avoiding lawful has far).awaits
 
     alive_here : (WouldBeDead (state_at plan a) t j.event → ⊥) → LeavesNobodyDead (state_at plan a) t j.event
     alive_here lives = publishing_leaves_nobody_dead (state_at plan a) t j.event (nobody_dead_at plan a lock seat.checked lawful) lives
 
   each : (Holds : State → Type 0) → InEachWithLock plan t (seen now.view) Holds → InEachByLock now Holds
-  each Holds all = subst (λ (q : Plan). InEachWithLock q (task_of now.view) (seen now.view) Holds) (sym goes.same.plan) (subst (λ u. InEachWithLock plan u (seen now.view) Holds) (sym task) all)
+  each Holds all = subst (λ (q : Plan). InEachWithLock q (task_of now.view) (seen now.view) Holds) (sym goes.same.plan)
+      (subst (λ u. InEachWithLock plan u (seen now.view) Holds) (sym task) all)
 
   -- where no cycle was found the task would be dead in no state
   lives : found ≡ None → InEachWithLock plan t (seen now.view) (λ s. WouldBeDead s t j.event → ⊥)
@@ -151,7 +159,8 @@ module _ (list : List Status) (aim : Aim) (before now : Known) (found : Option C
 
   pub publishes_on :
       (e : Event) (stored last : Known) → found ≡ None →
-      e.p.0 ≡ aim.phaser → option_map (target aim.off) (own_phase now.view aim.phaser) ≡ Some e.n → IsWithLock now.view.plan (task_of now.view) (seen now.view) → MakesStep (Blocks aim) now stored → FreesLock stored last → HasPublished list aim e before last
+      e.p.0 ≡ aim.phaser → option_map (target aim.off) (own_phase now.view aim.phaser) ≡ Some e.n → IsWithLock now.view.plan (task_of now.view) (seen now.view) →
+      MakesStep (Blocks aim) now stored → FreesLock stored last → HasPublished list aim e before last
   publishes_on e stored last none phaser phase possible step freed =
       record {
         supposed = j.supposed;
@@ -176,7 +185,8 @@ module _ (list : List Status) (aim : Aim) (before now : Known) (found : Option C
   -- so an order that has followed them has just their pairs
   pub publishes_by_order :
       (old new : OrderValue) (e : Event) (stored last : Known) → HoldsOrOtherDead j.supposed old new found → found ≡ None →
-      e.p.0 ≡ aim.phaser → option_map (target aim.off) (own_phase now.view aim.phaser) ≡ Some e.n → IsWithLock now.view.plan (task_of now.view) (seen now.view) → MakesStep (Blocks aim) now stored → FreesLock stored last → HasPublishedByOrder list aim e before last old new
+      e.p.0 ≡ aim.phaser → option_map (target aim.off) (own_phase now.view aim.phaser) ≡ Some e.n → IsWithLock now.view.plan (task_of now.view) (seen now.view) →
+      MakesStep (Blocks aim) now stored → FreesLock stored last → HasPublishedByOrder list aim e before last old new
   unfolding publishes_on
   publishes_by_order old new e stored last pairs none phaser phase possible step freed =
       record {
@@ -203,13 +213,17 @@ module _ (list : List Status) (aim : Aim) (before now : Known) (found : Option C
         supposed = j.supposed;
         store = now;
         judges = j.judges;
-        dead = all_dead why.among;
-        possible = possible;
-        explains = subst (λ u. ExplainsDeath j.supposed u cycle) (sym task) why;
-        others = λ u e m apart on. all_published u.0 e (λ same. apart (same ∙ sym task)) (cycle_dead j.supposed cycle.tasks cycle.events j.event why.links u m) on;
-        stored = stored;
-        step = step;
-        free = free;
-        freed = freed;
-        drops = subst (λ m. DropsBelow m (length now.view.plan.makers) free last) (free_phases aim now stored free next_now step freed) drops;
+        knows = record {
+          dead = all_dead why.among;
+          possible = possible;
+          explains = subst (λ u. ExplainsDeath j.supposed u cycle) (sym task) why;
+          others = λ u e m apart on. all_published u.0 e (λ same. apart (same ∙ sym task)) (cycle_dead j.supposed cycle.tasks cycle.events j.event why.links u m) on;
+        };
+        leaves = record {
+          stored = stored;
+          step = step;
+          free = free;
+          freed = freed;
+          drops = subst (λ m. DropsBelow m (length now.view.plan.makers) free last) (free_phases aim now stored free next_now step freed) drops;
+        };
       }

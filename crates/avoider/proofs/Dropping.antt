@@ -22,7 +22,9 @@ pub kept_all : (m : Phases) → kept (Some 0) m ≡ m
 kept_all m = fun_ext (λ r. kept_above 0 r m (omega arith))
 
 -- the place of the own task after an own step
-pub own_place_next : (x : Action) (k m : Known) → (seen m.view).places (task_of k.view) ≡ next_place ((seen k.view).places (task_of k.view)).done ((seen k.view).places (task_of k.view)).dropped x → m.view.own ≡ k.view.own → own_place m.view ≡ next_place (own_place k.view).done (own_place k.view).dropped x
+pub own_place_next : (x : Action) (k m : Known) →
+    (seen m.view).places (task_of k.view) ≡ next_place ((seen k.view).places (task_of k.view)).done ((seen k.view).places (task_of k.view)).dropped x → m.view.own ≡ k.view.own →
+    own_place m.view ≡ next_place (own_place k.view).done (own_place k.view).dropped x
 own_place_next x k m is own = ap (place_in m.view.sight.places) (ap (λ o. unwrap_or o 0) own) ∙ is
 
 abbrev pub place_at : ℕ → ℕ → Place
@@ -72,7 +74,8 @@ module _ (f : Frame) (first : Known) (q : ℕ) (now : Known) (refused : (own_pla
   pub drops_one : (n : ℕ) (next : Known) → m q ≡ Some n → MakesStep (Drops q) now next → IsDropping f first (q + 1) next
   drops_one n next member step =
       let at : own_place next.view ≡ next_place (own_place now.view).done (own_place now.view).dropped (Drops q) =
-      own_place_next (Drops q) now next (ap (λ (s : SeenBy). s.places (task_of now.view)) step.seen_now ∙ moved_same (seen now.view).places (task_of now.view) (Drops q)) step.same.own in
+      own_place_next (Drops q) now next (ap (λ (s : SeenBy). s.places (task_of now.view)) step.seen_now ∙ moved_same (seen now.view).places (task_of now.view) (Drops q))
+      step.same.own in
       record {
         of = record { table = step.table ∙ d.of.table; plan = step.same.plan ∙ d.of.plan; mode = step.same.mode ∙ d.of.mode };
         free = step.same.holds ∙ d.free;

@@ -122,5 +122,7 @@ module _ (w : WorldValue) (checked : IsCheckedPlan w.plan) (reach : IsReachable 
 
 -- the tasks of these statuses are tasks of the plan
 pub supposed_tasks :
-    (w : WorldValue) → IsCheckedPlan w.plan → (t : ℕ) (e : Event) (s : Status) → Contains (awaited_statuses w.plan (if_published (state_of w) t e)) s → s.t.0 < length w.plan.parents
-supposed_tasks w checked t e s m = (((statuses_are w.plan (if_published (state_of w) t e) (is_awaited w.plan (if_published (state_of w) t e)) checked).events s.t.0 s.event).0 (s, m, refl, refl)).0
+    (w : WorldValue) → IsCheckedPlan w.plan → (t : ℕ) (e : Event) (s : Status) → Contains (awaited_statuses w.plan (if_published (state_of w) t e)) s →
+    s.t.0 < length w.plan.parents
+supposed_tasks w checked t e s m = (((statuses_are w.plan (if_published (state_of w) t e) (is_awaited w.plan (if_published (state_of w) t e)) checked).events s.t.0 s.event).0
+    (s, m, refl, refl)).0

@@ -44,7 +44,7 @@ use Rattle.phase_scan.proofs.Loads.{phase_load}
 use Rattle.phase_scan.proofs.Standing.{phases_begun_at, published_begun}
 use Rattle.phase_scan.proofs.Supposes.{own_phase_stays}
 use Rattle.phase_scan.proofs.Telling.{found_there, prefix_both}
-use Rattle.avoider.specs.inside.OffCycle.{ImpedesSome}
+use Rattle.phase_scan.specs.OffCycle.{ImpedesSome}
 
 is_lt : (a b : ℕ) → a < b → nat_lt a b ≡ true
 is_lt a b h = grind arith
@@ -56,7 +56,9 @@ not_first : (b : Place) → 0 < b.done → b ≢ first_place
 not_first b begun same = (let none : b.done ≡ 0 = ap (λ (v : Place). v.done) same in omega arith)
 
 -- what the seat knew before the collect, after it, and after the loads of the column
-module _ (list supposed : List Status) (aim : Aim) (event : Event) (before mid store : Known) (t : ℕ) (seat : IsSeat before) (own : before.view.own ≡ Some t) (next : next_action before.view ≡ Some (Blocks aim)) (event_is : awaited (Some (Blocks aim)) (own_phase before.view) ≡ Some event) (goes : LoadsAlone before mid) (collected : IsCollected list before mid) (finds : HasFinds list mid) (sup : IsSupposed before.view.plan list event supposed mid store) where
+module _ (list supposed : List Status) (aim : Aim) (event : Event) (before mid store : Known) (t : ℕ) (seat : IsSeat before) (own : before.view.own ≡ Some t)
+    (next : next_action before.view ≡ Some (Blocks aim)) (event_is : awaited (Some (Blocks aim)) (own_phase before.view) ≡ Some event) (goes : LoadsAlone before mid)
+    (collected : IsCollected list before mid) (finds : HasFinds list mid) (sup : IsSupposed before.view.plan list event supposed mid store) where
   abbrev plan : Plan
   plan = before.view.plan
 
@@ -194,10 +196,12 @@ module _ (list supposed : List Status) (aim : Aim) (event : Event) (before mid s
   at_mid u e is = collected.places.before u e tt is
 
   -- the place of the load in the column lies between
-  between : (u : ℕ) (e : Event) → IsListedOn list u e → (y : ColumnLoad sup.found.published p plan sup.column u mid store) → IsPrefix (at u) ((seen y.from.view).places u) × IsPrefix (at u) ((seen y.to.view).places u)
+  between : (u : ℕ) (e : Event) → IsListedOn list u e → (y : ColumnLoad sup.found.published p plan sup.column u mid store) →
+      IsPrefix (at u) ((seen y.from.view).places u) × IsPrefix (at u) ((seen y.to.view).places u)
   between u e is y =
       let load = phase_load y.from y.to u p (sup.column u) y.small y.load in
-      let first : IsPrefix (at u) ((seen y.from.view).places u) = prefix_both (at u) ((seen mid.view).places u) ((seen y.from.view).places u) (at_mid u e is) (y.goes_from.later u) in
+      let first : IsPrefix (at u) ((seen y.from.view).places u) =
+      prefix_both (at u) ((seen mid.view).places u) ((seen y.from.view).places u) (at_mid u e is) (y.goes_from.later u) in
       (first, prefix_both (at u) ((seen y.from.view).places u) ((seen y.to.view).places u) first (load.later u))
 
   begun : (u : ℕ) (e : Event) (b : Place) → IsListedOn list u e → IsPrefix (at u) b → 0 < b.done
@@ -210,13 +214,15 @@ module _ (list supposed : List Status) (aim : Aim) (event : Event) (before mid s
   plan_at u y = y.goes_from.same.plan ∙ goes.same.plan
 
   -- a phase that the column has is the task's at the place seen then
-  column_found : (u n : ℕ) (e : Event) → IsListedOn list u e → (y : ColumnLoad sup.found.published p plan sup.column u mid store) → sup.column u ≡ Some n → phases_at_place plan u ((seen y.to.view).places u) p ≡ Some n
+  column_found : (u n : ℕ) (e : Event) → IsListedOn list u e → (y : ColumnLoad sup.found.published p plan sup.column u mid store) → sup.column u ≡ Some n →
+      phases_at_place plan u ((seen y.to.view).places u) p ≡ Some n
   column_found u n e is y has =
       let b = (seen y.to.view).places u in
       subst (λ (q : Plan). phases_at_place q u b p ≡ sup.column u) (plan_at u y) (y.load.load.there n has (not_first b (begun u e b is (between u e is y).1))) ∙ has
 
   -- where the task still stands where it was found waiting, what the column has is so there
-  column_exact : (u : ℕ) (e : Event) → IsListedOn list u e → (y : ColumnLoad sup.found.published p plan sup.column u mid store) → (seen y.to.view).places u ≡ at u → phases_at_place plan u (at u) p ≡ sup.column u
+  column_exact : (u : ℕ) (e : Event) → IsListedOn list u e → (y : ColumnLoad sup.found.published p plan sup.column u mid store) → (seen y.to.view).places u ≡ at u →
+      phases_at_place plan u (at u) p ≡ sup.column u
   column_exact u e is y here =
       let b = (seen y.to.view).places u in
       let q = y.from.view.plan in
@@ -229,7 +235,8 @@ module _ (list supposed : List Status) (aim : Aim) (event : Event) (before mid s
       ap (λ v. phases_at_place plan u v p) (sym here) ∙ subst (λ (r : Plan). phases_at_place r u b p ≡ sup.column u) (plan_at u y) means
 
   -- a state that has the lock with the seat
-  module _ (a : ℕ → Place) (lock : Option ℕ) (avoiding : avoids before.view.mode ≡ true) (lawful : IsLawful true plan a lock) (has : HasLockWith plan t a lock (seen store.view)) (far : IsAsFarOn plan (Some t) a (seen store.view)) where
+  module _ (a : ℕ → Place) (lock : Option ℕ) (avoiding : avoids before.view.mode ≡ true) (lawful : IsLawful true plan a lock) (has : HasLockWith plan t a lock (seen store.view))
+      (far : IsAsFarOn plan (Some t) a (seen store.view)) where
     abbrev s : State
     s = state_at plan a
 
@@ -472,7 +479,7 @@ module _ (list supposed : List Status) (aim : Aim) (event : Event) (before mid s
         some_event x y h = cc
 
     -- a task that by the statuses impedes no awaited event would impede none
-    pub would_impede_nobody : (ImpedesSome supposed (record { 0 = t }) → ⊥) → ImpedesNobody (if_published s t event) t
+    pub would_impede_nobody : (ImpedesSome supposed t → ⊥) → ImpedesNobody (if_published s t event) t
     would_impede_nobody none u m e on phase_is =
         let listed = would_be_listed u e on in
         let (own, own_in, own_is, (k, few, member)) = own_status.all u m e listed phase_is in
@@ -482,6 +489,6 @@ module _ (list supposed : List Status) (aim : Aim) (event : Event) (before mid s
               let same : e.p ≡ other.event.p = ap (λ (x : Event). x.p) (sym event_of_other) in
               let below : m < other.event.n = (let n = ap (λ (x : Event). x.n) event_of_other in omega arith) in
               let impedes : Impedes own other.event = (k, record { p = record { 0 = e.p.0 }; n = m }, few, member, (same, below)) in
-              absurd (none (own_in.0, own, own_in.1, own_in.2, ((λ i. record { 0 = own_is i }), (j, other, within, here, impedes))))
+              absurd (none (own_in.0, own, own_in.1, own_in.2, (own_is, (j, other, within, here, impedes))))
           | inr high ↦ high
         ]

@@ -1,5 +1,5 @@
 -- What the loads of a decision tell.
-use Rattle.std.proofs.Common.{◌≡◌, ℕ, ◌<◌, true, List, Option, Some, length, refl, sym, ap, subst}
+use Rattle.std.proofs.Common.{◌≡◌, ℕ, ◌<◌, true, List, Option, None, Some, length, refl, sym, ap, ◌∙◌, subst}
 use Rattle.std.specs.Prelude.{unwrap_or, Contains, MatchOption}
 use Rattle.armus_base.specs.declared.event.Event.{Event}
 use Rattle.armus_base.specs.declared.status.Status.{Status}
@@ -17,16 +17,20 @@ use Rattle.phase_scan.specs.Collected.{HasFinds, IsCollected}
 use Rattle.phase_scan.specs.Collects.{IsCollect}
 use Rattle.phase_scan.specs.Looks.{LoadsAlone}
 use Rattle.phase_scan.specs.Supposed.{IsSupposed}
+use Rattle.phase_scan.specs.OffCycle.{IsOffCycle, SupposesOrExcludes}
 use Rattle.phase_scan.specs.Tables.{state_supposed}
+use Rattle.phase_scan.proofs.Loads.{goes_both}
 use Rattle.verdict.specs.declared.found.Cycle.{Cycle}
 use Rattle.avoider.specs.Decisions.{ExplainsDeath}
 use Rattle.avoider.specs.OnBoard.{InEachByLock, Judges}
 use Rattle.avoider.specs.inside.Judged.{IsJudged}
 
-supposed_ordered : (plan : Plan) (list : List Status) (event : Event) (supposed : List Status) (before now : Known) → IsCheckedPlan plan → IsSupposed plan list event supposed before now → IsInOrder supposed
+supposed_ordered : (plan : Plan) (list : List Status) (event : Event) (supposed : List Status) (before now : Known) → IsCheckedPlan plan →
+    IsSupposed plan list event supposed before now → IsInOrder supposed
 supposed_ordered plan list event supposed before now checked sup =
     subst IsInOrder (sym sup.supposed_are)
-    (statuses_are plan (state_supposed sup.found (task_of before.view) event (own_phase before.view) sup.column) (updated (is_awaited plan sup.found) event.p.0 true) checked).in_order
+    (statuses_are plan (state_supposed sup.found (task_of before.view) event (own_phase before.view) sup.column) (updated (is_awaited plan sup.found) event.p.0 true)
+    checked).in_order
 
 -- the loads of a decision
 pub judges_so :
@@ -44,7 +48,40 @@ judges_so f list supposed aim event before first between now of same goes collec
       own = event_is;
     }
 
-pub judged_in_order : (list supposed : List Status) (aim : Aim) (event : Event) (before now : Known) → IsCheckedPlan before.view.plan → Judges list aim event supposed before now → IsInOrder supposed
+-- all of them are loads alone, and the own task stays the seat's
+pub all_loads : (before first between now : Known) → first ≡ before → LoadsAlone first between → LoadsAlone between now → LoadsAlone before now
+all_loads before first between now same goes more = goes_both before between now (subst (λ k. LoadsAlone k between) same goes) more
+
+pub off_before :
+    (list : List Status) (event : Event) (before first between : Known) (t : ℕ) → before.view.own ≡ Some t → first ≡ before → LoadsAlone first between →
+    IsOffCycle list (task_of between.view) event → IsOffCycle list t event
+off_before list event before first between t own same goes =
+    subst (λ u. IsOffCycle list u event) (ap (λ o. unwrap_or o 0) (goes.same.own ∙ ap (λ (k : Known). k.view.own) same ∙ own))
+
+-- the statuses where they are given, and where they are not
+module _ (f : Frame) (list cells : List Status) (aim : Aim) (event : Event) (before first between now : Known) (of : IsOf before f) (same : first ≡ before)
+    (goes : LoadsAlone first between) (collect : IsCollect f.plan list first between) (collected : IsCollected list first between) (finds : HasFinds list between)
+    (event_is : awaited (Some (Blocks aim)) (own_phase before.view) ≡ Some event) (kept : cells ≡ list) (found : Option (List Status))
+    (told : SupposesOrExcludes f.plan list event found between now) where
+  judges_by : (supposed : List Status) → IsSupposed f.plan list event supposed between now → Judges cells aim event supposed before now
+  judges_by supposed sup =
+      subst (λ ss. Judges ss aim event supposed before now) (sym kept)
+      (judges_so f list supposed aim event before first between now of same goes collect collected finds sup event_is)
+
+  pub judges_given : (supposed : List Status) → found ≡ Some supposed → Judges cells aim event supposed before now
+  judges_given supposed is = judges_by supposed (subst (λ o. SupposesOrExcludes f.plan list event o between now) is told)
+
+  pub judges_excluded :
+      (t : ℕ) → before.view.own ≡ Some t → found ≡ None → (supposed : List Status) × Judges cells aim event supposed before now × IsOffCycle supposed t event
+  judges_excluded t own is =
+      let (supposed, sup, off) = subst (λ o. SupposesOrExcludes f.plan list event o between now) is told in (
+        supposed,
+        judges_by supposed sup,
+        off_before supposed event before first between t own same goes off,
+      )
+
+pub judged_in_order : (list supposed : List Status) (aim : Aim) (event : Event) (before now : Known) → IsCheckedPlan before.view.plan → Judges list aim event supposed before now →
+    IsInOrder supposed
 judged_in_order list supposed aim event before now checked j = supposed_ordered before.view.plan list event supposed j.between now checked j.adds
 
 -- their statuses are of tasks of the plan
@@ -53,17 +90,20 @@ pub judged_tasks :
     (s : Status) → Contains supposed s → s.t.0 < length before.view.plan.parents
 judged_tasks list supposed aim event before now checked j s m =
     let plan = before.view.plan in
-    let are = statuses_are plan (state_supposed j.adds.found (task_of j.between.view) event (own_phase j.between.view) j.adds.column) (updated (is_awaited plan j.adds.found) event.p.0 true) checked in
+    let are = statuses_are plan (state_supposed j.adds.found (task_of j.between.view) event (own_phase j.between.view) j.adds.column)
+    (updated (is_awaited plan j.adds.found) event.p.0 true) checked in
     ((are.events s.t.0 s.event).0 (s, subst (λ ss. Contains ss s) j.adds.supposed_are m, refl, refl)).0
 
 -- and what they tell
 unfoldable pub judged :
-    (list supposed : List Status) (aim : Aim) (event : Event) (before now : Known) (t : ℕ) (found : Option Cycle) → before.view.own ≡ Some t → Judges list aim event supposed before now →
+    (list supposed : List Status) (aim : Aim) (event : Event) (before now : Known) (t : ℕ) (found : Option Cycle) → before.view.own ≡ Some t →
+    Judges list aim event supposed before now →
     MatchOption found (InEachByLock now (λ s. WouldBeDead s (task_of now.view) event → ⊥)) (ExplainsDeath supposed t) → IsJudged list aim before now found
 judged list supposed aim event before now t found own judges told =
     record {
       event = event;
       supposed = supposed;
       judges = judges;
-      told = subst (λ u. MatchOption found (InEachByLock now (λ s. WouldBeDead s (task_of now.view) event → ⊥)) (ExplainsDeath supposed u)) (sym (ap (λ o. unwrap_or o 0) own)) told;
+      told = subst (λ u. MatchOption found (InEachByLock now (λ s. WouldBeDead s (task_of now.view) event → ⊥)) (ExplainsDeath supposed u)) (sym (ap (λ o. unwrap_or o 0) own))
+          told;
     }

@@ -56,7 +56,8 @@ module _ (s : State) (t : ℕ) (e : Event) where
     still u inside =
         let there = from_rest u inside in
         let link = would.deadlocked.each u there.1 in
-        let other : link.by ≢ t = λ same. (let most = free u link.phase link.event link.waits (subst (λ v. supposed.phases v link.event.p.0 ≡ Some link.phase) same link.impedes) in let low = link.below in omega arith) in
+        let other : link.by ≢ t = λ same. (let most = free u link.phase link.event link.waits (subst (λ v. supposed.phases v link.event.p.0 ≡ Some link.phase) same link.impedes)
+        in let low = link.below in omega arith) in
         record {
           event = link.event;
           waits = sym (updated_other s.published t u (Some e) there.0) ∙ link.waits;
@@ -70,6 +71,7 @@ module _ (s : State) (t : ℕ) (e : Event) where
     pub lives_impeding_nobody : ⊥
     lives_impeding_nobody =
         let link = would.deadlocked.each t would.inside in
-        let other : link.by ≢ t = λ same. (let most = free t link.phase link.event link.waits (subst (λ v. supposed.phases v link.event.p.0 ≡ Some link.phase) same link.impedes) in let low = link.below in omega arith) in
+        let other : link.by ≢ t = λ same. (let most = free t link.phase link.event link.waits (subst (λ v. supposed.phases v link.event.p.0 ≡ Some link.phase) same link.impedes)
+        in let low = link.below in omega arith) in
         let inside = in_rest link.by other link.inside in
         nobody link.by (record { tasks = rest; inside = inside; deadlocked = record { some = (link.by, inside); each = still } })

@@ -41,7 +41,8 @@ first_least list dead are start first u is = by_place ((are.exact u).1 is)
           omega arith
     ]
 
-first_dead : (list : List Status) (dead : List TaskId) → IsDeadList list dead → (start : TaskId) → ((d : TaskId) → get_or dead 0 d ≡ start) → (u : TaskId) → IsDeadBy list u.0 → IsDeadBy list start.0
+first_dead : (list : List Status) (dead : List TaskId) → IsDeadList list dead → (start : TaskId) → ((d : TaskId) → get_or dead 0 d ≡ start) → (u : TaskId) → IsDeadBy list u.0 →
+    IsDeadBy list start.0
 first_dead list dead are start first u is = by_place ((are.exact u).1 is)
   where
     by_place : Contains dead u → IsDeadBy list start.0

@@ -46,7 +46,8 @@ next_place_of n k l =
       | inr more ↦ (k + 1, omega arith, inr (omega arith, refl))
     ]
 
-module _ (w : WorldValue) (checked : IsCheckedPlan w.plan) (reach : IsReachable w.plan (places_of w)) (t : ℕ) (e : Event) (before : IsAtAwaitOf w t e) (nobody : NobodyDead (state_of w)) (tasks : List TaskId) (events : List Event) where
+module _ (w : WorldValue) (checked : IsCheckedPlan w.plan) (reach : IsReachable w.plan (places_of w)) (t : ℕ) (e : Event) (before : IsAtAwaitOf w t e)
+    (nobody : NobodyDead (state_of w)) (tasks : List TaskId) (events : List Event) where
   abbrev asked : ℕ → Bool
   asked = is_awaited w.plan (if_published (state_of w) t e)
 

@@ -1,10 +1,10 @@
 -- Decisions on an await: what they make of a world, and the cycle of a refusal.
-use Rattle.std.specs.Prelude.{◌≡◌, ◌≢◌, ℕ, ◌⊎◌, List, Option, Contains, MatchOption}
+use Rattle.std.specs.Prelude.{◌≡◌, ◌≢◌, ℕ, ◌<◌, ◌⊎◌, List, Option, length, Contains, MatchOption}
 use Rattle.armus_base.specs.declared.event.Event.{Event}
 use Rattle.armus_base.specs.declared.ids.TaskId.{TaskId}
 use Rattle.armus_base.specs.declared.status.Status.{Status}
 use Rattle.armus_base.specs.DeadLists.{IsDeadList}
-use Rattle.armus_base.specs.Deadlocks.{IsDeadBy, WouldBeDead}
+use Rattle.armus_base.specs.Deadlocks.{IsDeadBy, NobodyDead, WouldBeDead}
 use Rattle.armus_base.specs.Plans.{Aim, Blocks}
 use Rattle.armus_base.specs.States.{if_published}
 use Rattle.armus_base.specs.Statuses.{IsInOrder}
@@ -37,6 +37,12 @@ OneOutcome = (list : List Status) (t : ℕ) (a b : Option Cycle) → IsInOrder l
 -- the statuses as they would be if task t had published the event of the await at which it stands, with the phases on the phasers awaited then
 abbrev pub supposed_statuses : WorldValue → ℕ → Event → List Status
 supposed_statuses w t e = awaited_statuses w.plan (if_published (state_of w) t e)
+
+-- task t of the plan stands at an await, and nobody is dead
+pub record IsBeforeStep (w : WorldValue) (t : ℕ) : Type 0 where
+  pub task : t < length w.plan.parents
+  pub stands : (e : Event) × IsAtAwaitOf w t e
+  pub nobody : NobodyDead (state_of w)
 
 -- task t stood at its await of the event, where it would not be dead, and has published it
 pub record IsPublished (old new : WorldValue) (t : ℕ) (e : Event) : Type 0 where

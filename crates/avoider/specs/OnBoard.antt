@@ -1,5 +1,5 @@
 -- Decisions on a board: what they rest on, and what they make of a seat.
-use Rattle.std.specs.Prelude.{◌≡◌, ◌≢◌, ℕ, List, Some, length, is_some, Contains}
+use Rattle.std.specs.Prelude.{◌≡◌, ◌≢◌, ℕ, ◌<◌, true, List, Some, length, is_some, Contains}
 use Rattle.std.proofs.Common.{zero, suc}
 use Rattle.armus_base.specs.declared.event.Event.{Event}
 use Rattle.armus_base.specs.declared.ids.TaskId.{TaskId}
@@ -10,17 +10,32 @@ use Rattle.armus_base.specs.Plans.{Aim, Blocks, Drops, Refuses}
 use Rattle.armus_base.specs.Seats.{InEachWithLock}
 use Rattle.armus_base.specs.States.{awaited, Phases, State}
 use Rattle.board.specs.Locking.{FreesLock, IsWithLock}
-use Rattle.board.specs.Seats.{Known, MakesStep}
+use Rattle.board.specs.Seats.{Frame, IsOf, Known, MakesStep}
 use Rattle.board.specs.Steps.{own_phase}
-use Rattle.board.specs.Views.{seen, task_of}
+use Rattle.board.specs.Views.{next_action, seen, task_of}
 use Rattle.phase_scan.specs.Collected.{HasFinds, IsCollected}
-use Rattle.phase_scan.specs.Collects.{IfAsked, IsCollect}
+use Rattle.phase_scan.specs.Collects.{Collection, IfAsked, IsCollect}
 use Rattle.phase_scan.specs.Looks.{LoadsAlone}
 use Rattle.phase_scan.specs.Supposed.{IsSupposed}
 use Rattle.verdict.specs.declared.found.Cycle.{Cycle}
 use Rattle.avoider.specs.Decisions.{ExplainsDeath}
 use Rattle.avoider.specs.declared.decision.Decision.{Decision}
 use Rattle.avoider.specs.declared.decision.Decision.TheVariants.{Published, Refused}
+
+-- the seat is one of the board and holds its lock, the next op of its task is an await with this aim that is not published, and the cells are for as many
+-- tasks and phasers as the board has
+pub record IsBeforeDecision (f : Frame) (aim : Aim) (cells : Collection) (seat : Known) : Type 0 where
+  pub made : IsOf seat f
+  pub phaser : aim.phaser < length f.plan.makers
+  pub locked : seat.view.holds ≡ true
+  pub next : next_action seat.view ≡ Some (Blocks aim)
+  pub tasks : cells.tasks ≡ length f.plan.parents
+  pub phasers : cells.phasers ≡ length f.plan.makers
+
+-- the cells are for as many tasks and phasers as they were
+pub record HasSameRoom (old new : Collection) : Type 0 where
+  pub tasks : new.tasks ≡ old.tasks
+  pub phasers : new.phasers ≡ old.phasers
 
 -- The loads of a decision on the own await with this aim, which is of this event: a collect, which found the statuses of this list, and then the further
 -- loads by which the own status and the phases on the event's phaser are added.
@@ -58,25 +73,32 @@ pub record HasPublished (list : List Status) (aim : Aim) (event : Event) (before
   pub step : MakesStep (Blocks aim) store stored
   pub freed : FreesLock stored now
 
--- The task was refused at its await with this aim. At the store it would have been dead with its event in every state that it might be in, as the cycle of the
--- statuses explains, each of whose other tasks is published on its event in every such state. After it the lock was freed, and then the task has
--- dropped all its phasers, in order of number.
-pub record HasRefused (list : List Status) (aim : Aim) (cycle : Cycle) (before now : Known) : Type 0 where
-  pub event : Event
-  pub supposed : List Status
-  pub store : Known
-  pub judges : Judges list aim event supposed before store
+-- What the holder of the lock knows when it stores a refusal: with its event published its task would be dead in every state that it might be in, of which there
+-- is one, as the cycle of the statuses explains, each of whose other tasks is published on its event in every such state.
+pub record KnowsDeath (event : Event) (supposed : List Status) (cycle : Cycle) (store : Known) : Type 0 where
   pub dead : InEachByLock store (λ s. WouldBeDead s (task_of store.view) event)
   pub possible : IsPossibleByLock store
   pub explains : ExplainsDeath supposed (task_of store.view) cycle
   pub others :
       (u : TaskId) (e : Event) → Contains cycle.tasks u → u.0 ≢ task_of store.view → IsListedOn supposed u.0 e →
       InEachByLock store (λ s. s.published u.0 ≡ Some e)
+
+-- the refusal of the await with this aim was stored, after it the lock was freed, and then the task has dropped all its phasers, in order of number
+pub record RefusesAndDrops (aim : Aim) (store now : Known) : Type 0 where
   pub stored : Known
   pub step : MakesStep (Refuses aim) store stored
   pub free : Known
   pub freed : FreesLock stored free
   pub drops : DropsBelow (own_phase store.view) (length store.view.plan.makers) free now
+
+-- the task was refused at its await with this aim, where it knew at the store that it would have been dead
+pub record HasRefused (list : List Status) (aim : Aim) (cycle : Cycle) (before now : Known) : Type 0 where
+  pub event : Event
+  pub supposed : List Status
+  pub store : Known
+  pub judges : Judges list aim event supposed before store
+  pub knows : KnowsDeath event supposed cycle store
+  pub leaves : RefusesAndDrops aim store now
 
 -- what was decided on the own await with this aim
 abbrev pub IsDecidedOnBoard : List Status → Aim → Known → Known → Decision → Type 0

@@ -1,4 +1,3 @@
-pub mod OffCycle
 pub mod Judged
 pub mod Concluded
 pub mod Followings

@@ -1,16 +1,13 @@
 // The decision on the await of a task that holds the lock of a board.
-ghost use Rattle.std.specs.Prelude.{◌≡◌, ◌<◌, Some, true, false, length, IfOk, OnErr};
-ghost use Rattle.armus_base.specs.Plans.{Blocks};
+ghost use Rattle.std.specs.Prelude.{◌≡◌, false, IfOk, OnErr};
 ghost use Rattle.board.specs.Seats.{IsOf, aim_at};
-ghost use Rattle.board.specs.Views.{next_action};
 ghost use Rattle.phase_scan.specs.Looks.{LoadsAlone};
-ghost use Rattle.avoider.specs.OnBoard.{IsDecidedOnBoard, IsUndecided};
+ghost use Rattle.avoider.specs.OnBoard.{HasSameRoom, IsBeforeDecision, IsDecidedOnBoard, IsUndecided};
 ghost use Rattle.avoider.specs.inside.Judged.{IsJudged};
 
 use crate::Decision;
 use crate::concluding::conclude;
-use crate::gathering::gather;
-use crate::off_cycle::is_off_cycle;
+use crate::gathering::own_event;
 use crate::step::death_of;
 use adaptive::Wanted;
 use armus_base::{NoMemory, Offset, PhaserId};
@@ -31,24 +28,18 @@ pub fn decide(
     cells: &mut Cells,
     wanted: Wanted,
 ) -> Result<Decision, NoMemory>
-    requires made { IsOf seat.old board.now }
-    requires phaser { p.0 < length board.now.plan.makers }
-    requires locked { seat.old.view.holds ≡ true }
-    requires next { next_action seat.old.view ≡ Some (Blocks (aim_at p.0 off)) }
-    requires tasks { cells.old.tasks ≡ length board.now.plan.parents }
-    requires phasers { cells.old.phasers ≡ length board.now.plan.makers }
+    requires before { IsBeforeDecision board.now (aim_at p.0 off) cells.old seat.old }
     ensures decision { IfOk result (IsDecidedOnBoard cells.new.statuses (aim_at p.0 off) seat.old seat.new) }
     ensures undecided { OnErr result (IsUndecided seat.old seat.new) }
     ensures free { (seat.new.view.holds ≡ false) × IsOf seat.new board.now }
-    ensures tasks { cells.new.tasks ≡ cells.old.tasks }
-    ensures phasers { cells.new.phasers ≡ cells.old.phasers }
+    ensures room { HasSameRoom cells.old cells.new }
 {
     let _ = seat.id();
     let found = judge(alloc, seat, board, p, off, cells, wanted);
     conclude(seat, board, p, off, found)
 }
 
-// The cycle of the statuses of a collect and of the own await, where the own task is dead by them.
+// The cycle of the statuses of a collect and of the own await, where the own task is dead by them. They are made only where the task may lie on a cycle.
 fn judge(
     alloc: Global,
     seat: &mut TaskSeat,
@@ -58,23 +49,20 @@ fn judge(
     cells: &mut Cells,
     wanted: Wanted,
 ) -> Result<Option<Cycle>, NoMemory>
-    requires made { IsOf seat.old board.now }
-    requires phaser { p.0 < length board.now.plan.makers }
-    requires locked { seat.old.view.holds ≡ true }
-    requires next { next_action seat.old.view ≡ Some (Blocks (aim_at p.0 off)) }
-    requires tasks { cells.old.tasks ≡ length board.now.plan.parents }
-    requires phasers { cells.old.phasers ≡ length board.now.plan.makers }
+    requires before { IsBeforeDecision board.now (aim_at p.0 off) cells.old seat.old }
     ensures judged { IfOk result (IsJudged cells.new.statuses (aim_at p.0 off) seat.old seat.new) }
     ensures goes_on { LoadsAlone seat.old seat.new }
-    ensures tasks { cells.new.tasks ≡ cells.old.tasks }
-    ensures phasers { cells.new.phasers ≡ cells.old.phasers }
+    ensures room { HasSameRoom cells.old cells.new }
 {
     let t = seat.id();
-    let gathered = gather(alloc, seat, board, p, off, cells)?;
-    let list = gathered.list.as_slice();
-    if is_off_cycle(list, t, gathered.event) {
-        return Ok(None);
+    let event = own_event(seat, board, p, off);
+    cells.collect(seat, board);
+    let supposed = cells.supposed_on_cycle(alloc, seat, board, event)?;
+    match supposed {
+        Some(list) => {
+            let found = death_of(alloc, list.as_slice(), t, wanted)?;
+            Ok(found)
+        }
+        None => Ok(None),
     }
-    let found = death_of(alloc, list, t, wanted)?;
-    Ok(found)
 }

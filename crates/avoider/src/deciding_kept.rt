@@ -1,11 +1,9 @@
 // The decision by a kept order, on the await of a task that holds the lock of a board.
-ghost use Rattle.std.specs.Prelude.{◌≡◌, ◌<◌, Some, true, false, length, IfOk, OnErr};
-ghost use Rattle.armus_base.specs.Plans.{Blocks};
+ghost use Rattle.std.specs.Prelude.{◌≡◌, false, length, IfOk, OnErr};
 ghost use Rattle.board.specs.Seats.{IsOf, aim_at};
-ghost use Rattle.board.specs.Views.{next_action};
 ghost use Rattle.phase_scan.specs.Looks.{LoadsAlone};
 ghost use Rattle.avoider.specs.Kept.{HoldsIfPublishedOnBoard};
-ghost use Rattle.avoider.specs.OnBoard.{IsDecidedOnBoard, IsUndecided};
+ghost use Rattle.avoider.specs.OnBoard.{HasSameRoom, IsBeforeDecision, IsDecidedOnBoard, IsUndecided};
 ghost use Rattle.avoider.specs.inside.Judged.{IsJudgedByOrder};
 
 use crate::Decision;
@@ -31,18 +29,12 @@ pub fn decide_kept(
     cells: &mut Cells,
     order: &mut Order,
 ) -> Result<Decision, NoMemory>
-    requires made { IsOf seat.old board.now }
-    requires phaser { p.0 < length board.now.plan.makers }
-    requires locked { seat.old.view.holds ≡ true }
-    requires next { next_action seat.old.view ≡ Some (Blocks (aim_at p.0 off)) }
-    requires tasks { cells.old.tasks ≡ length board.now.plan.parents }
-    requires phasers { cells.old.phasers ≡ length board.now.plan.makers }
+    requires before { IsBeforeDecision board.now (aim_at p.0 off) cells.old seat.old }
     requires order { length order.old.positions ≡ length board.now.plan.parents }
     ensures decision { IfOk result (IsDecidedOnBoard cells.new.statuses (aim_at p.0 off) seat.old seat.new) }
     ensures undecided { OnErr result (IsUndecided seat.old seat.new) }
     ensures free { (seat.new.view.holds ≡ false) × IsOf seat.new board.now }
-    ensures tasks { cells.new.tasks ≡ cells.old.tasks }
-    ensures phasers { cells.new.phasers ≡ cells.old.phasers }
+    ensures room { HasSameRoom cells.old cells.new }
     ensures order { length order.new.positions ≡ length order.old.positions }
     ensures pairs { IfOk result (HoldsIfPublishedOnBoard cells.new.statuses (aim_at p.0 off) seat.old seat.new order.old order.new) }
 {
@@ -61,17 +53,11 @@ fn judge_kept(
     cells: &mut Cells,
     order: &mut Order,
 ) -> Result<Option<Cycle>, NoMemory>
-    requires made { IsOf seat.old board.now }
-    requires phaser { p.0 < length board.now.plan.makers }
-    requires locked { seat.old.view.holds ≡ true }
-    requires next { next_action seat.old.view ≡ Some (Blocks (aim_at p.0 off)) }
-    requires tasks { cells.old.tasks ≡ length board.now.plan.parents }
-    requires phasers { cells.old.phasers ≡ length board.now.plan.makers }
+    requires before { IsBeforeDecision board.now (aim_at p.0 off) cells.old seat.old }
     requires order { length order.old.positions ≡ length board.now.plan.parents }
     ensures judged { IfOk result (IsJudgedByOrder cells.new.statuses (aim_at p.0 off) seat.old seat.new order.old order.new) }
     ensures goes_on { LoadsAlone seat.old seat.new }
-    ensures tasks { cells.new.tasks ≡ cells.old.tasks }
-    ensures phasers { cells.new.phasers ≡ cells.old.phasers }
+    ensures room { HasSameRoom cells.old cells.new }
     ensures order { length order.new.positions ≡ length order.old.positions }
 {
     let t = seat.id();

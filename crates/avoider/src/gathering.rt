@@ -1,12 +1,12 @@
 // The statuses on which a decision on a board rests.
-ghost use Rattle.std.specs.Prelude.{◌≡◌, ◌<◌, Some, true, length, IfOk};
+ghost use Rattle.std.specs.Prelude.{◌≡◌, ◌<◌, Some, length, IfOk};
 ghost use Rattle.armus_base.specs.Plans.{Blocks};
 ghost use Rattle.armus_base.specs.States.{awaited};
 ghost use Rattle.board.specs.Seats.{IsOf, aim_at};
 ghost use Rattle.board.specs.Steps.{own_phase};
 ghost use Rattle.board.specs.Views.{next_action};
 ghost use Rattle.phase_scan.specs.Looks.{LoadsAlone};
-ghost use Rattle.avoider.specs.OnBoard.{Judges};
+ghost use Rattle.avoider.specs.OnBoard.{HasSameRoom, IsBeforeDecision, Judges};
 
 use armus_base::{Event, List, NoMemory, Offset, PhaserId, Status};
 use board::{Board, TaskSeat};
@@ -29,16 +29,10 @@ pub(crate) fn gather(
     off: Offset,
     cells: &mut Cells,
 ) -> Result<Gathered, NoMemory>
-    requires made { IsOf seat.old board.now }
-    requires phaser { p.0 < length board.now.plan.makers }
-    requires locked { seat.old.view.holds ≡ true }
-    requires next { next_action seat.old.view ≡ Some (Blocks (aim_at p.0 off)) }
-    requires tasks { cells.old.tasks ≡ length board.now.plan.parents }
-    requires phasers { cells.old.phasers ≡ length board.now.plan.makers }
+    requires before { IsBeforeDecision board.now (aim_at p.0 off) cells.old seat.old }
     ensures judges { IfOk result (λ g. Judges cells.new.statuses (aim_at p.0 off) g.event g.list seat.old seat.new) }
     ensures goes_on { LoadsAlone seat.old seat.new }
-    ensures tasks { cells.new.tasks ≡ cells.old.tasks }
-    ensures phasers { cells.new.phasers ≡ cells.old.phasers }
+    ensures room { HasSameRoom cells.old cells.new }
 {
     let event = own_event(seat, board, p, off);
     cells.collect(seat, board);
@@ -46,8 +40,8 @@ pub(crate) fn gather(
     Ok(Gathered { event, list })
 }
 
-// The event of the await that comes next, by the own phase on its phaser.
-fn own_event(seat: &mut TaskSeat, board: &Board, p: PhaserId, off: Offset) -> Event
+/// The event of the await that comes next, by the own phase on its phaser.
+pub(crate) fn own_event(seat: &mut TaskSeat, board: &Board, p: PhaserId, off: Offset) -> Event
     requires made { IsOf seat.old board.now }
     requires phaser { p.0 < length board.now.plan.makers }
     requires next { next_action seat.old.view ≡ Some (Blocks (aim_at p.0 off)) }

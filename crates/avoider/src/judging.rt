@@ -1,14 +1,10 @@
 // By what the awaits of a run are judged.
-ghost use Rattle.std.specs.Prelude.{◌≡◌, ◌<◌, Some, true, false, length, IfOk, OnErr};
+ghost use Rattle.std.specs.Prelude.{◌≡◌, false, length, IfOk, OnErr};
 ghost use Rattle.armus_base.specs.Deadlocks.{NobodyDead};
-ghost use Rattle.armus_base.specs.Plans.{Blocks};
-ghost use Rattle.armus_base.specs.declared.event.Event.{Event};
 ghost use Rattle.board.specs.Seats.{IsOf, aim_at};
-ghost use Rattle.board.specs.Views.{next_action};
-ghost use Rattle.pl_core.specs.Stands.{IsAtAwaitOf};
 ghost use Rattle.pl_core.specs.Worlds.{state_of};
-ghost use Rattle.avoider.specs.Decisions.{IsDecision};
-ghost use Rattle.avoider.specs.OnBoard.{IsDecidedOnBoard, IsUndecided};
+ghost use Rattle.avoider.specs.Decisions.{IsBeforeStep, IsDecision};
+ghost use Rattle.avoider.specs.OnBoard.{HasSameRoom, IsBeforeDecision, IsDecidedOnBoard, IsUndecided};
 
 use crate::{Decision, avoid_step, avoid_step_kept, decide, decide_kept, release};
 use adaptive::Wanted;
@@ -54,17 +50,11 @@ impl Judge {
         off: Offset,
         cells: &mut Cells,
     ) -> Result<Decision, NoMemory>
-        requires made { IsOf seat.old board.now }
-        requires phaser { p.0 < length board.now.plan.makers }
-        requires locked { seat.old.view.holds ≡ true }
-        requires next { next_action seat.old.view ≡ Some (Blocks (aim_at p.0 off)) }
-        requires tasks { cells.old.tasks ≡ length board.now.plan.parents }
-        requires phasers { cells.old.phasers ≡ length board.now.plan.makers }
+        requires before { IsBeforeDecision board.now (aim_at p.0 off) cells.old seat.old }
         ensures decision { IfOk result (IsDecidedOnBoard cells.new.statuses (aim_at p.0 off) seat.old seat.new) }
         ensures undecided { OnErr result (IsUndecided seat.old seat.new) }
         ensures free { (seat.new.view.holds ≡ false) × IsOf seat.new board.now }
-        ensures tasks { cells.new.tasks ≡ cells.old.tasks }
-        ensures phasers { cells.new.phasers ≡ cells.old.phasers }
+        ensures room { HasSameRoom cells.old cells.new }
     {
         let _ = seat.id();
         if let Judging::Graph(wanted) = self.judging {
@@ -90,9 +80,7 @@ impl Judge {
         world: &mut World,
         t: TaskId,
     ) -> Result<Decision, NoMemory>
-        requires task { t.0 < length world.old.plan.parents }
-        requires before { (e : Event) × IsAtAwaitOf world.old t.0 e }
-        requires nobody { NobodyDead (state_of world.old) }
+        requires before { IsBeforeStep world.old t.0 }
         ensures decision { IfOk result (IsDecision world.old world.new t.0) }
         ensures nobody { NobodyDead (state_of world.new) }
         ensures same { OnErr result (world.new ≡ world.old) }

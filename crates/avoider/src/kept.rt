@@ -1,14 +1,12 @@
 // Decisions by an order that is kept from one await to the next.
-ghost use Rattle.std.specs.Prelude.{◌≡◌, ◌<◌, List, length, Contains, IfOk, OnErr};
+ghost use Rattle.std.specs.Prelude.{◌≡◌, List, length, Contains, IfOk, OnErr};
 ghost use Rattle.armus_base.specs.Deadlocks.{NobodyDead};
 ghost use Rattle.armus_base.specs.Statuses.{IsInOrder};
-ghost use Rattle.armus_base.specs.declared.event.Event.{Event};
 ghost use Rattle.armus_base.specs.declared.status.Status.{Status};
 ghost use Rattle.order_graph.specs.Orders.{IsTaskOf};
 ghost use Rattle.pl_core.specs.Awaiting.{awaited_statuses};
-ghost use Rattle.pl_core.specs.Stands.{IsAtAwaitOf};
 ghost use Rattle.pl_core.specs.Worlds.{state_of};
-ghost use Rattle.avoider.specs.Decisions.{IsDecision, IsOutcome};
+ghost use Rattle.avoider.specs.Decisions.{IsBeforeStep, IsDecision, IsOutcome};
 ghost use Rattle.avoider.specs.Kept.{HoldsIfPublished};
 ghost use Rattle.avoider.specs.inside.Followings.{HoldsOrOtherDead};
 
@@ -31,9 +29,7 @@ pub fn avoid_step_kept(
     t: TaskId,
     order: &mut Order,
 ) -> Result<Decision, NoMemory>
-    requires task { t.0 < length world.old.plan.parents }
-    requires before { (e : Event) × IsAtAwaitOf world.old t.0 e }
-    requires nobody { NobodyDead (state_of world.old) }
+    requires before { IsBeforeStep world.old t.0 }
     requires tasks { length order.old.positions ≡ length world.old.plan.parents }
     ensures decision { IfOk result (IsDecision world.old world.new t.0) }
     ensures nobody { NobodyDead (state_of world.new) }

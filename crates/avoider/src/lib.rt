@@ -11,7 +11,6 @@ mod judging;
 mod kept;
 pub mod laws;
 mod lock;
-mod off_cycle;
 mod step;
 
 pub use deciding::decide;

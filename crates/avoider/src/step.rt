@@ -7,7 +7,7 @@ ghost use Rattle.armus_base.specs.Statuses.{IsInOrder};
 ghost use Rattle.armus_base.specs.declared.event.Event.{Event};
 ghost use Rattle.pl_core.specs.Stands.{IsAtAwaitOf};
 ghost use Rattle.pl_core.specs.Worlds.{places_of, state_of};
-ghost use Rattle.avoider.specs.Decisions.{IsDecision, IsOutcome, supposed_statuses};
+ghost use Rattle.avoider.specs.Decisions.{IsBeforeStep, IsDecision, IsOutcome, supposed_statuses};
 ghost use Rattle.avoider.specs.declared.decision.Decision.TheVariants.{Published, Refused};
 
 use crate::Decision;
@@ -29,9 +29,7 @@ pub fn avoid_step(
     t: TaskId,
     wanted: Wanted,
 ) -> Result<Decision, NoMemory>
-    requires task { t.0 < length world.old.plan.parents }
-    requires before { (e : Event) × IsAtAwaitOf world.old t.0 e }
-    requires nobody { NobodyDead (state_of world.old) }
+    requires before { IsBeforeStep world.old t.0 }
     ensures decision { IfOk result (IsDecision world.old world.new t.0) }
     ensures nobody { NobodyDead (state_of world.new) }
     ensures same { OnErr result (world.new ≡ world.old) }

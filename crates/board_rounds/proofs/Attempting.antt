@@ -95,13 +95,13 @@ module _ (a b now : Known) (t : ℕ) (aim : Aim) (own : a.view.own ≡ Some t) (
     there : ((own_place h.store.view).dropped ≡ None) × (action_at h.store.view.plan (task_of h.store.view) (own_place h.store.view).done ≡ Some (Blocks aim))
     there = next_there h.store.view (Blocks aim) (next_then h.store loads)
 
-    refuses : Goes (Refuses aim ∷ []) a h.free
+    refuses : Goes (Refuses aim ∷ []) a h.leaves.free
     refuses =
-        goes_locked a b h.stored h.free (Refuses aim ∷ []) free taken
-        (goes_then b h.store h.stored t (Refuses aim) own_b taken.kept loads
-        (goes_made h.store h.stored (Refuses aim)
-        (refuse_next h.store.view.plan (task_of h.store.view) (own_place h.store.view).done (own_place h.store.view).dropped there.0 there.1) h.step))
-        h.freed
+        goes_locked a b h.leaves.stored h.leaves.free (Refuses aim ∷ []) free taken
+        (goes_then b h.store h.leaves.stored t (Refuses aim) own_b taken.kept loads
+        (goes_made h.store h.leaves.stored (Refuses aim)
+        (refuse_next h.store.view.plan (task_of h.store.view) (own_place h.store.view).done (own_place h.store.view).dropped there.0 there.1) h.leaves.step))
+        h.leaves.freed
 
     abbrev ph : Phases
     ph = own_phase h.store.view
@@ -115,14 +115,14 @@ module _ (a b now : Known) (t : ℕ) (aim : Aim) (own : a.view.own ≡ Some t) (
     plan_same : h.store.view.plan ≡ a.view.plan
     plan_same = loads.same.plan ∙ ap (λ (v : View). v.plan) taken.view
 
-    place_free : own_place h.free.view ≡ record { done = (own_place h.store.view).done; dropped = Some 0 }
+    place_free : own_place h.leaves.free.view ≡ record { done = (own_place h.store.view).done; dropped = Some 0 }
     place_free =
-        ap own_place h.freed.view ∙ stepped_place h.store h.stored (Refuses aim) h.step
+        ap own_place h.leaves.freed.view ∙ stepped_place h.store h.leaves.stored (Refuses aim) h.leaves.step
         ∙ ap (λ o. next_place (own_place h.store.view).done o (Refuses aim)) there.0
 
-    dropping : Goes (drops_below ph count) h.free now × (own_place now.view ≡ record { done = (own_place h.free.view).done; dropped = Some (0 + members_below ph count) })
+    dropping : Goes (drops_below ph count) h.leaves.free now × (own_place now.view ≡ record { done = (own_place h.leaves.free.view).done; dropped = Some (0 + members_below ph count) })
     dropping =
-        let d = drops_go ph h.free 0 h.freed.kept (ap (λ (x : Place). x.dropped) place_free) count now h.drops in
+        let d = drops_go ph h.leaves.free 0 h.leaves.freed.kept (ap (λ (x : Place). x.dropped) place_free) count now h.leaves.drops in
         (d.goes, d.place)
 
     place_now : own_place now.view ≡ record { done = (own_place h.store.view).done; dropped = Some (members_below ph count) }
@@ -134,10 +134,10 @@ module _ (a b now : Known) (t : ℕ) (aim : Aim) (own : a.view.own ≡ Some t) (
     all_phases = ap (λ o. kept o (phases_after h.store.view.plan (task_of h.store.view) (own_place h.store.view).done)) there.0
 
     plan_then : now.view.plan ≡ h.store.view.plan
-    plan_then = dropping.0.same.plan ∙ ap (λ (v : View). v.plan) h.freed.view ∙ h.step.same.plan
+    plan_then = dropping.0.same.plan ∙ ap (λ (v : View). v.plan) h.leaves.freed.view ∙ h.leaves.step.same.plan
 
     task_then : task_of now.view ≡ task_of h.store.view
-    task_then = same_task h.free now dropping.0.same ∙ ap task_of h.freed.view ∙ same_task h.store h.stored h.step.same
+    task_then = same_task h.leaves.free now dropping.0.same ∙ ap task_of h.leaves.freed.view ∙ same_task h.store h.leaves.stored h.leaves.step.same
 
     pub goes_refused : (drops : ℕ) → drops ≡ members_below (own_phase a.view) (length a.view.plan.makers) → IsRefusedAt aim drops a now
     goes_refused drops counted =
@@ -146,7 +146,7 @@ module _ (a b now : Known) (t : ℕ) (aim : Aim) (own : a.view.own ≡ Some t) (
           goes =
               subst (λ k. Goes (Refuses aim ∷ drops_below (own_phase a.view) k) a now) n
               (subst (λ m. Goes (Refuses aim ∷ drops_below m count) a now) phases_same
-              (goes_on a h.free now (Refuses aim ∷ []) (drops_below ph count) refuses dropping.0));
+              (goes_on a h.leaves.free now (Refuses aim ∷ []) (drops_below ph count) refuses dropping.0));
           left = has_left_all h.store now ph (own_place h.store.view).done dropping.0.kept plan_then task_then all_phases place_now;
           counted = counted;
         }

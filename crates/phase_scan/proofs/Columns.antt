@@ -1,7 +1,8 @@
 -- Columns of phases, one load more, and what they leave as it was.
 use mathlib.Core.Path.{fun_ext}
 use Rattle.std.proofs.Common.{◌≡◌, ℕ, zero, suc, ◌<◌, ◌≤◌, ◌+◌, Bool, true, false, List, Option, None, length, set, sym, refl, ap, ◌∙◌, subst, arith, add-one, get_or-set_same, get_or-set_other, inl, inr}
-use Rattle.std.specs.Prelude.{is_some}
+use Rattle.std.specs.Prelude.{◌++◌, is_some, take}
+use Rattle.std.proofs.lemmas.List.{take-append-le, take_all}
 use Rattle.std.proofs.lemmas.Bool.{cases_eq}
 use Rattle.armus_base.specs.declared.event.Event.{Event}
 use Rattle.armus_base.specs.Plans.{Plan}
@@ -24,6 +25,10 @@ column_set column t c within = fun_ext (λ u. elim (cases_eq u t) [
   | inr n ↦ get_or-set_other column t u c None n ∙ sym (updated_other (phase_in column) t u c n)
 ])
 
+-- a column that was written as a whole is what a read of it finds
+pub read_back : (n : ℕ) (xs ys : List (Option ℕ)) → n ≡ length xs → take n (xs ++ ys) ≡ xs
+read_back n xs ys is = take-append-le n xs ys (omega arith) ∙ take_all n xs (omega arith)
+
 module _ (events : ℕ → Option Event) (p : ℕ) where
   column_same : (f g : ℕ → Option ℕ) (n : ℕ) (k m : Known) → ((t : ℕ) → t < n → f t ≡ g t) → LoadsColumn events p f n k m → LoadsColumn events p g n k m
   column_same f g zero k m same loads = loads
@@ -33,22 +38,16 @@ module _ (events : ℕ → Option Event) (p : ℕ) where
     subst (λ o. IfAsked (is_some (events n)) (AnswersPhase n p o) between m) (same n (omega arith)) made,
   )
 
-  -- with one load more, and without one
-  pub column_more :
-      (f g : ℕ → Option ℕ) (t : ℕ) (answer : Option ℕ) (k j m : Known) → LoadsColumn events p f t k j → is_some (events t) ≡ true →
-      AnswersPhase t p answer j m → g ≡ updated f t answer → LoadsColumn events p g (t + 1) k m
-  column_more f g t answer k j m before waits answers is =
+  -- with one task more, whose word is loaded where it is asked for
+  pub column_next :
+      (f g : ℕ → Option ℕ) (t : ℕ) (answer : Option ℕ) (k j m : Known) → LoadsColumn events p f t k j →
+      IfAsked (is_some (events t)) (AnswersPhase t p answer) j m → g ≡ updated f t answer → LoadsColumn events p g (t + 1) k m
+  column_next f g t answer k j m before made is =
       subst (λ n. LoadsColumn events p g n k m) (sym (add-one t)) (
         j,
         column_same f g t k j (λ u l. sym (updated_other f t u answer (λ e. absurd (omega arith))) ∙ ap (λ h. h u) (sym is)) before,
-        subst (λ b. IfAsked b (AnswersPhase t p (g t)) j m) (sym waits)
-            (subst (λ o. AnswersPhase t p o j m) (sym (ap (λ h. h t) is ∙ updated_same f t t answer refl)) answers),
+        subst (λ o. IfAsked (is_some (events t)) (AnswersPhase t p o) j m) (sym (ap (λ h. h t) is ∙ updated_same f t t answer refl)) made,
       )
-
-  pub column_skip :
-      (f : ℕ → Option ℕ) (t : ℕ) (k m : Known) → LoadsColumn events p f t k m → is_some (events t) ≡ false → LoadsColumn events p f (t + 1) k m
-  column_skip f t k m before idle =
-      subst (λ n. LoadsColumn events p f n k m) (sym (add-one t)) (m, before, subst (λ b. IfAsked b (AnswersPhase t p (f t)) m m) (sym idle) refl)
 
   -- a column is loads alone, which leave the finds
   pub record GoesDown (k m : Known) : Type 0 where

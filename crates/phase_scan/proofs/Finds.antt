@@ -79,7 +79,8 @@ waits_is (FoundWaiting g) e is = ap FoundWaiting (same g e is)
     same g e h = cc
 waits_is (FoundRefused g) e is = absurd (cc)
 
-module _ (before now : Known) (list : List Status) (checked : IsCheckedPlan before.view.plan) (some : 0 < length before.view.plan.parents) (c : IsCollect before.view.plan list before now) where
+module _ (before now : Known) (list : List Status) (checked : IsCheckedPlan before.view.plan) (some : 0 < length before.view.plan.parents)
+    (c : IsCollect before.view.plan list before now) where
   pub collect_finds : before.view.holds ≡ true → HasFinds list now
   unfolding KeepsFinds
   collect_finds holds u l =

@@ -9,6 +9,7 @@ pub mod Counting
 pub mod Tables
 pub mod Columns
 pub mod WithOwn
+pub mod Excluding
 pub mod Supposes
 pub mod Keeping
 pub mod Collecting

@@ -116,7 +116,9 @@ seat_before k m seat same exact scanned =
     }
 
 -- what each load leaves as it was
-module _ (t : ℕ) (k m : Known) (small : t < length k.view.plan.parents) (Holds : State → Type 0) (table : m.table ≡ k.table) (same : IsSameSeat k.view m.view) (exact : (u : ℕ) → (seen m.view).exact u ≡ (seen k.view).exact u) (was : WasSo k.view.plan k.view.mode Holds k.view m.view) (scanned : (seen k.view).scanned ≤ (seen m.view).scanned) (loads : m.view.loads ≡ k.view.loads + 1) (kept : IsSeat m) where
+module _ (t : ℕ) (k m : Known) (small : t < length k.view.plan.parents) (Holds : State → Type 0) (table : m.table ≡ k.table) (same : IsSameSeat k.view m.view)
+    (exact : (u : ℕ) → (seen m.view).exact u ≡ (seen k.view).exact u) (was : WasSo k.view.plan k.view.mode Holds k.view m.view)
+    (scanned : (seen k.view).scanned ≤ (seen m.view).scanned) (loads : m.view.loads ≡ k.view.loads + 1) (kept : IsSeat m) where
   first : IsSeat k
   first = seat_before k m kept same exact scanned
 
@@ -168,7 +170,8 @@ await_load k m t answer small answers =
     let exact = load.seen_now.place.exact in
     let seat = seat_before k m answers.kept load.same exact scanned in
     changes_load t k m small (λ s. found_in s t ≡ answer) answers.table load.same exact load.was scanned load.loads answers.kept load.seen_now.place.others
-    (longest_later (avoids k.view.mode) k.view.plan seat.checked t (λ b. await_word k.view.plan t b ≡ answer) ((seen k.view).places t) ((seen m.view).places t) load.was.places load.was.lock load.was.lawful
+    (longest_later (avoids k.view.mode) k.view.plan seat.checked t (λ b. await_word k.view.plan t b ≡ answer) ((seen k.view).places t) ((seen m.view).places t) load.was.places
+    load.was.lock load.was.lawful
     (load.was.before_far.later t small) load.seen_now.place.here)
 
 -- no scanned task is lost by a load of a phase word
@@ -196,7 +199,8 @@ phase_load k m t p answer small answers =
           (subst (IsPrefix ((seen k.view).places t)) (sym (load.seen_now.empty empty t)) (precedes_itself ((seen k.view).places t).done ((seen k.view).places t).dropped))
       | inr begun ↦
           make (load.seen_now.place begun).others
-          (longest_later (avoids k.view.mode) k.view.plan seat.checked t (λ b. phases_at_place k.view.plan t b p ≡ answer) ((seen k.view).places t) ((seen m.view).places t) load.was.places load.was.lock load.was.lawful
+          (longest_later (avoids k.view.mode) k.view.plan seat.checked t (λ b. phases_at_place k.view.plan t b p ≡ answer) ((seen k.view).places t) ((seen m.view).places t)
+          load.was.places load.was.lock load.was.lawful
           (load.was.before_far.later t small) (load.seen_now.place begun).here)
     ]
 

@@ -68,7 +68,10 @@ statuses_same plan s r asked events phases =
         (λ p few. listed_same asked (s.phases t) (r.phases t) p (same p l refl few)))
         ∙ ap (with_phases t (members plan asked r t)) is
 
-module _ (before now : Known) (list : List Status) (checked : IsCheckedPlan before.view.plan) (some : 0 < length before.view.plan.parents) (c : IsCollect before.view.plan list before now) (a : ℕ → Place) (only : (b : ℕ → Place) (lock : Option ℕ) → IsLawful (avoids before.view.mode) before.view.plan b lock → IsAsFarOn before.view.plan before.view.own b (seen before.view) → b ≡ a) where
+module _ (before now : Known) (list : List Status) (checked : IsCheckedPlan before.view.plan) (some : 0 < length before.view.plan.parents)
+    (c : IsCollect before.view.plan list before now) (a : ℕ → Place)
+    (only : (b : ℕ → Place) (lock : Option ℕ) → IsLawful (avoids before.view.mode) before.view.plan b lock →
+    IsAsFarOn before.view.plan before.view.own b (seen before.view) → b ≡ a) where
   plan : Plan
   plan = before.view.plan
 

@@ -42,7 +42,8 @@ module _ (plan : Plan) (checked : IsCheckedPlan plan) where
 
   -- The longest place that all places with a meaning have in common, where the task is published there: that place has the meaning. All other such
   -- places are past the pass.
-  module _ (b : Bool) (t : ℕ) (Means : Place → Type 0) (before now : Place) (e : Event) (longest : IsLongestPrefix b plan t Means before now) (published : published_after plan t now.done ≡ Some e) where
+  module _ (b : Bool) (t : ℕ) (Means : Place → Type 0) (before now : Place) (e : Event) (longest : IsLongestPrefix b plan t Means before now)
+      (published : published_after plan t now.done ≡ Some e) where
     passes : action_at plan t now.done ≡ Some (Passes e.p.0)
     passes = passes_after t now.done e published
 

@@ -86,7 +86,8 @@ given_below_none f n xs e h =
     e ∙ sym (append-nil (given_below f n)) ∙ ap (λ o. given_below f n ++ option_to_list o) (sym h) ∙ ap (given_below f) (sym (add-one n))
 
 -- up to the next asked number nothing is listed
-pub listed_up_to : (asked : ℕ → Bool) (m : Phases) (d p : ℕ) → ((q : ℕ) → p ≤ q → q < p + d → asked q ≡ false) → given_below (listed_phase asked m) p ≡ given_below (listed_phase asked m) (p + d)
+pub listed_up_to : (asked : ℕ → Bool) (m : Phases) (d p : ℕ) → ((q : ℕ) → p ≤ q → q < p + d → asked q ≡ false) →
+    given_below (listed_phase asked m) p ≡ given_below (listed_phase asked m) (p + d)
 listed_up_to asked m zero p none = (let same : p ≡ p + 0 = omega arith in ap (given_below (listed_phase asked m)) same)
 listed_up_to asked m (suc d) p none =
     given_below_none (listed_phase asked m) p (given_below (listed_phase asked m) p) refl
@@ -94,7 +95,8 @@ listed_up_to asked m (suc d) p none =
     ∙ listed_up_to asked m d (p + 1) (λ q a b. none q (omega arith) (omega arith))
     ∙ (let same : p + 1 + d ≡ p + suc d = omega arith in ap (given_below (listed_phase asked m)) same)
 
-pub listed_to_next : (asked : ℕ → Bool) (m : Phases) (n p g : ℕ) (xs : List Member) → xs ≡ given_below (listed_phase asked m) p → IsNextAsked asked n p g → xs ≡ given_below (listed_phase asked m) g
+pub listed_to_next : (asked : ℕ → Bool) (m : Phases) (n p g : ℕ) (xs : List Member) → xs ≡ given_below (listed_phase asked m) p → IsNextAsked asked n p g →
+    xs ≡ given_below (listed_phase asked m) g
 listed_to_next asked m n p g xs is next =
     let from = next.from in
     let same : p + (g - p) ≡ g = omega arith in

@@ -49,7 +49,8 @@ found_there q checked b t p answer before now e longest published =
       | inr other ↦ absurd (means_there q checked b t (λ v. phases_at_place q t v p ≡ answer) before now e longest published other)
     ]
 
-module _ (before now : Known) (list : List Status) (checked : IsCheckedPlan before.view.plan) (some : 0 < length before.view.plan.parents) (c : IsCollect before.view.plan list before now) where
+module _ (before now : Known) (list : List Status) (checked : IsCheckedPlan before.view.plan) (some : 0 < length before.view.plan.parents)
+    (c : IsCollect before.view.plan list before now) where
   abbrev pub plan : Plan
   plan = before.view.plan
 
@@ -332,7 +333,8 @@ module _ (before now : Known) (list : List Status) (checked : IsCheckedPlan befo
       let task = published_within plan checked a t e on in
       let x = await t task in
       let was = possible_before before x.from x.to (λ s. found_in s t ≡ x.finds.answer) seat x.goes_from x.finds.load.load.was in
-      let same = dead_place plan checked (avoids before.view.mode) t a was.places lock was.lock lawful was.lawful (known a lock lawful far) (known was.places was.lock was.lawful was.far) in
+      let same = dead_place plan checked (avoids before.view.mode) t a was.places lock was.lock lawful was.lawful (known a lock lawful far)
+      (known was.places was.lock was.lawful was.far) in
       let there : (state_at plan was.places).published t ≡ Some e = ap (λ (v : Place). published_after plan t v.done) (sym same) ∙ on in
       let waits : waiting_on x.finds.answer ≡ Some e =
       ap waiting_on (sym was.holds) ∙ word_waits ((state_at plan was.places).published t) ((state_at plan was.places).refused t) e there in

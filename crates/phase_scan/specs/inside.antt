@@ -1,3 +1,5 @@
 pub mod Nexts
 pub mod Cells
 pub mod Phases
+pub mod Behind
+pub mod Filling

@@ -4,12 +4,13 @@ ghost use Rattle.armus_base.specs.Statuses.{IsInOrder};
 ghost use Rattle.board.specs.Seats.{IsOf};
 ghost use Rattle.phase_scan.specs.Looks.{LoadsAlone};
 ghost use Rattle.phase_scan.specs.Collects.{CountsLoads, IsCollect};
+ghost use Rattle.phase_scan.specs.OffCycle.{SupposesOrExcludes};
 ghost use Rattle.phase_scan.specs.Supposed.{IsSupposed};
 ghost use Rattle.phase_scan.specs.Collected.{HasFinds, IsCollected};
 ghost use Rattle.phase_scan.specs.Settled.{KnowsAll, TellsState};
 
 use crate::findings::Findings;
-use armus_base::{Event, List, NoMemory, Status};
+use armus_base::{Event, List, NoMemory, Phase, Status};
 use board::{Board, Loads, TaskSeat};
 use std::alloc::Global;
 use std::marker::Model;
@@ -24,6 +25,8 @@ pub const MAX_CELLS: u32 = 1_048_576;
 #[derive(Drop)]
 pub struct Cells {
     found: Findings,
+    // of each task found waiting the phase that was loaded last on the phaser of an event; None for the others
+    column: Vec<Option<Phase>>,
 }
 
 impl Model for Cells {
@@ -50,6 +53,7 @@ impl Cells {
     {
         Ok(Cells {
             found: Findings::new(alloc, tasks, phasers)?,
+            column: vec![in alloc; None; tasks as usize]?,
         })
     }
 
@@ -85,24 +89,54 @@ impl Cells {
     /// The statuses that the last collect found, and that of the seat's own task as if it had published the event, with phases on the event's phaser
     /// too. First it loads the phase on that phaser of each task found waiting, in order, and then the own ones.
     pub fn supposed(
-        &self,
+        &mut self,
         alloc: Global,
         seat: &mut TaskSeat,
         board: &Board,
         event: Event,
     ) -> Result<List<Status>, NoMemory>
         requires made { IsOf seat.old board.now }
-        requires tasks { self.now.tasks ≡ length board.now.plan.parents }
-        requires phasers { self.now.phasers ≡ length board.now.plan.makers }
+        requires tasks { self.old.tasks ≡ length board.now.plan.parents }
+        requires phasers { self.old.phasers ≡ length board.now.plan.makers }
         requires event { event.p.0 < length board.now.plan.makers }
+        ensures cells { self.new ≡ self.old }
         ensures goes_on { LoadsAlone seat.old seat.new }
-        ensures supposed { IfOk result (λ list. IsSupposed board.now.plan self.now.statuses event list seat.old seat.new) }
+        ensures supposed { IfOk result (λ list. IsSupposed board.now.plan self.old.statuses event list seat.old seat.new) }
     {
         let t = seat.id();
-        let column = self.found.load_column(alloc, seat, board, event.p)?;
+        self.found
+            .load_column(self.column.as_mut_slice(), seat, board, event.p);
         let list = self
             .found
-            .supposed(alloc, seat, board, t, event, column.as_slice())?;
+            .supposed(alloc, seat, board, t, event, self.column.as_slice())?;
         Ok(list)
+    }
+
+    /// The same, by the same loads. There is no list where by these statuses nobody impedes the event, or the own task impedes no awaited event: then it lies
+    /// on no cycle of them, and no list is made.
+    pub fn supposed_on_cycle(
+        &mut self,
+        alloc: Global,
+        seat: &mut TaskSeat,
+        board: &Board,
+        event: Event,
+    ) -> Result<Option<List<Status>>, NoMemory>
+        requires made { IsOf seat.old board.now }
+        requires tasks { self.old.tasks ≡ length board.now.plan.parents }
+        requires phasers { self.old.phasers ≡ length board.now.plan.makers }
+        requires event { event.p.0 < length board.now.plan.makers }
+        ensures cells { self.new ≡ self.old }
+        ensures goes_on { LoadsAlone seat.old seat.new }
+        ensures supposed { IfOk result (λ found. SupposesOrExcludes board.now.plan self.old.statuses event found seat.old seat.new) }
+    {
+        let t = seat.id();
+        self.found
+            .load_column(self.column.as_mut_slice(), seat, board, event.p);
+        let column = self.column.as_slice();
+        if self.found.excludes_cycle(seat, board, event, column) {
+            return Ok(None);
+        }
+        let list = self.found.supposed(alloc, seat, board, t, event, column)?;
+        Ok(Some(list))
     }
 }

@@ -6,7 +6,7 @@ ghost use Rattle.armus_base.specs.Places.{some_before};
 ghost use Rattle.armus_base.specs.States.{updated, with_phase};
 ghost use Rattle.board.specs.Seats.{IsOf};
 ghost use Rattle.board.specs.Views.{found_of};
-ghost use Rattle.phase_scan.specs.Collects.{LoadsAwaits, LoadsRow, LoadsRows, waiting_on};
+ghost use Rattle.phase_scan.specs.Collects.{LoadsRows, waiting_on};
 ghost use Rattle.phase_scan.specs.inside.Nexts.{AreNexts};
 
 use crate::nexts::{fill_nexts, nexts_of};
@@ -44,7 +44,8 @@ fn waiting(seen: Seen) -> Option<Event>
 }
 
 impl Findings {
-    ghost use Rattle.phase_scan.specs.Tables.{awaited_in_findings, event_for, phases_in_found, state_of_findings, statuses_of_findings};
+    ghost use Rattle.phase_scan.specs.Tables.{awaited_in_findings, event_for, state_of_findings, statuses_of_findings};
+    ghost use Rattle.phase_scan.specs.inside.Filling.{HasSameEvents, KeepsAwaits, KeepsRow};
 
     /// No task was found waiting.
     pub(crate) fn new(alloc: Global, tasks: u32, phasers: u32) -> Result<Findings, NoMemory>
@@ -98,10 +99,7 @@ impl Findings {
         requires unmarked { (p : ℕ) → awaited_in_findings self.old p ≡ false }
         ensures checked { IsCheckedPlan board.now.plan }
         ensures made { IsOf (L.known by.new) board.now }
-        ensures tasks { self.new.tasks ≡ self.old.tasks }
-        ensures phasers { self.new.phasers ≡ self.old.phasers }
-        ensures loads { LoadsAwaits (event_for self.new.events.items) self.old.tasks (L.known by.old) (L.known by.new) }
-        ensures awaited { (p : ℕ) → awaited_in_findings self.new p ≡ some_before (λ t. is_event_of p (event_for self.new.events.items t)) self.old.tasks }
+        ensures awaits { KeepsAwaits self.old self.new (L.known by.old) (L.known by.new) }
         ensures nexts { AreNexts (awaited_in_findings self.new) self.new.phasers self.new.nexts.items }
     {
         for number in 0..board.tasks() {
@@ -120,13 +118,8 @@ impl Findings {
         requires task { t.0 < self.old.tasks }
         requires nexts { AreNexts (awaited_in_findings self.old) self.old.phasers self.old.nexts.items }
         ensures made { IsOf (L.known by.new) board.now }
-        ensures tasks { self.new.tasks ≡ self.old.tasks }
-        ensures phasers { self.new.phasers ≡ self.old.phasers }
-        ensures events { self.new.events.items ≡ self.old.events.items }
-        ensures awaited { self.new.awaited.items ≡ self.old.awaited.items }
-        ensures nexts { self.new.nexts.items ≡ self.old.nexts.items }
-        ensures others { (u : ℕ) → u ≢ t.0 → phases_in_found self.new.phases u ≡ phases_in_found self.old.phases u }
-        ensures loads { LoadsRow (awaited_in_findings self.old) t.0 (phases_in_found self.new.phases t.0) self.old.phasers (L.known by.old) (L.known by.new) }
+        ensures same { HasSameEvents self.old self.new }
+        ensures row { KeepsRow self.old self.new t.0 (L.known by.old) (L.known by.new) }
     {
         let mut p = self.nexts[0];
         'row: while p < self.phasers {
@@ -142,10 +135,7 @@ impl Findings {
         requires tasks { self.old.tasks ≡ length board.now.plan.parents }
         requires phasers { self.old.phasers ≡ length board.now.plan.makers }
         requires nexts { AreNexts (awaited_in_findings self.old) self.old.phasers self.old.nexts.items }
-        ensures tasks { self.new.tasks ≡ self.old.tasks }
-        ensures phasers { self.new.phasers ≡ self.old.phasers }
-        ensures events { self.new.events.items ≡ self.old.events.items }
-        ensures awaited { self.new.awaited.items ≡ self.old.awaited.items }
+        ensures same { HasSameEvents self.old self.new }
         ensures loads { LoadsRows self.old.phasers (awaited_in_findings self.old) (state_of_findings self.new) self.old.tasks (L.known by.old) (L.known by.new) }
     {
         for number in 0..self.tasks {

@@ -5,6 +5,7 @@ mod answer;
 mod cells;
 mod findings;
 mod nexts;
+mod off_cycle;
 mod phase_table;
 mod scan;
 mod supposing;

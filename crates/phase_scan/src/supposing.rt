@@ -1,9 +1,10 @@
 // What was found, with the status that a task would have.
-ghost use Rattle.std.specs.Prelude.{◌≡◌, ◌≢◌, ℕ, ◌+◌, ◌<◌, ◌≤◌, Some, None, true, false, IfOk, OnErr, length, vec_len};
+ghost use Rattle.std.specs.Prelude.{◌≡◌, ◌≢◌, ℕ, ◌+◌, ◌<◌, ◌≤◌, Some, None, true, false, IfOk, is_some, length};
 ghost use Rattle.armus_base.specs.Finals.{given_below, listed_phase};
 ghost use Rattle.armus_base.specs.States.{updated};
-ghost use Rattle.board.specs.Seats.{IsOf};
+ghost use Rattle.board.specs.Seats.{AnswersPhase, IsOf};
 ghost use Rattle.board.specs.Steps.{own_phase};
+ghost use Rattle.phase_scan.specs.Collects.{IfAsked};
 ghost use Rattle.phase_scan.specs.inside.Nexts.{AreNexts};
 ghost use Rattle.phase_scan.specs.Supposed.{LoadsColumn};
 ghost use Rattle.phase_scan.specs.Tables.{awaited_in_findings, event_for, state_of_findings, state_supposed, status_found};
@@ -16,39 +17,57 @@ use board::{Board, Loads, TaskSeat};
 use std::alloc::Global;
 
 // Keeps the phase of a task in a column.
-fn keep(column: &mut Vec<Option<Phase>>, t: TaskId, phase: Option<Phase>)
-    requires task { t.0 < length column.old.items }
-    ensures count { length column.new.items ≡ length column.old.items }
-    ensures set { phase_in column.new.items ≡ updated (phase_in column.old.items) t.0 phase }
+fn keep(column: &mut [Option<Phase>], t: TaskId, phase: Option<Phase>)
+    requires task { t.0 < length column.old }
+    ensures count { length column.new ≡ length column.old }
+    ensures set { phase_in column.new ≡ updated (phase_in column.old) t.0 phase }
 {
     column[t.0 as usize] = phase;
 }
 
 impl Findings {
+    // Loads the phase of a task on `p`, if it was found waiting.
+    fn load_waiting(
+        &self,
+        seat: &mut TaskSeat,
+        board: &Board,
+        t: TaskId,
+        p: PhaserId,
+    ) -> Option<Phase>
+        requires made { IsOf seat.old board.now }
+        requires tasks { self.now.tasks ≡ length board.now.plan.parents }
+        requires task { t.0 < self.now.tasks }
+        requires phaser { p.0 < length board.now.plan.makers }
+        ensures made { IsOf seat.new board.now }
+        ensures load { IfAsked (is_some (event_for self.now.events.items t.0)) (AnswersPhase t.0 p.0 result) seat.old seat.new }
+    {
+        if self.events[t.0 as usize].is_some() {
+            seat.load_phase(board, t, p)
+        } else {
+            None
+        }
+    }
+
     /// Loads the phase on `p` of each task found waiting, in order.
     pub(crate) fn load_column(
         &self,
-        alloc: Global,
+        column: &mut [Option<Phase>],
         seat: &mut TaskSeat,
         board: &Board,
         p: PhaserId,
-    ) -> Result<Vec<Option<Phase>>, NoMemory>
+    )
         requires made { IsOf seat.old board.now }
         requires tasks { self.now.tasks ≡ length board.now.plan.parents }
         requires phaser { p.0 < length board.now.plan.makers }
+        requires count { length column.old ≡ self.now.tasks }
         ensures made { IsOf seat.new board.now }
-        ensures err { OnErr result (seat.new ≡ seat.old) }
-        ensures count { IfOk result (λ column. length column.items ≡ self.now.tasks) }
-        ensures loads { IfOk result (λ column. LoadsColumn (event_for self.now.events.items) p.0 (phase_in column.items) self.now.tasks seat.old seat.new) }
+        ensures count { length column.new ≡ self.now.tasks }
+        ensures loads { LoadsColumn (event_for self.now.events.items) p.0 (phase_in column.new) self.now.tasks seat.old seat.new }
     {
-        let mut column = vec![in alloc; None; self.tasks as usize]?;
         for number in 0..self.tasks {
-            if self.events[number as usize].is_some() {
-                let found = seat.load_phase(board, TaskId(number), p);
-                keep(&mut column, TaskId(number), found);
-            }
+            let found = self.load_waiting(seat, board, TaskId(number), p);
+            keep(column, TaskId(number), found);
         }
-        Ok(column)
     }
 
     // The phase of a task on `q` that was found, where `q` was found awaited or is `p`, on which this was found.

@@ -26,6 +26,11 @@ distance_in o goal far t = if nat_lt (position_of o goal) (position_of o t) then
 abbrev pub IsListedIn : OrderValue → TaskId → List (Option ℕ) → TaskId → Type 0
 IsListedIn o goal far t = IsTaskOf o t × (position_of o goal < length far + position_of o t)
 
+-- task c stands further up than t, and the list reaches as far ahead as it
+pub record GoesOnTo (o : OrderValue) (goal : TaskId) (far : List (Option ℕ)) (t c : TaskId) : Type 0 where
+  pub listed : IsListedIn o goal far c
+  pub further : position_of o t < position_of o c
+
 -- the list tells the distances of the tasks as far ahead as it reaches
 abbrev pub TellDistances : OrderValue → TaskId → List (Option ℕ) → Type 0
 TellDistances o goal far = (t : TaskId) → IsListedIn o goal far t → position_of o t ≤ position_of o goal → TellsDistance o goal t (distance_in o goal far t)

@@ -11,4 +11,5 @@ refuse-requires-clause-dead c = c.requires.may (Some c.in-Ok-Some.cycle) (c.in-O
 
 pub drop_all-requires-clause-refused : goal.drop_all-requires-clause-refused
 drop_all-requires-clause-refused c =
-    free_refused (aim_at c.args.p.0 c.args.off) c.args.seat.now c.refuse.new.self c.unlock-in-Ok-Some.new.self c.requires.next c.refuse.ensures.step c.unlock-in-Ok-Some.ensures.freed
+    free_refused (aim_at c.args.p.0 c.args.off) c.args.seat.now c.refuse.new.self c.unlock-in-Ok-Some.new.self c.requires.next c.refuse.ensures.step
+    c.unlock-in-Ok-Some.ensures.freed

@@ -1,31 +1,51 @@
-use Rattle.std.proofs.Common.{sym, subst, ◌⊎◌}
-use Rattle.std.specs.Prelude.{List}
+use Rattle.std.proofs.Common.{◌∙◌, ap, sym, subst, List}
 use Rattle.armus_base.specs.declared.status.Status.{Status}
-use Rattle.armus_base.specs.CheckedPlans.{IsCheckedPlan}
 use Rattle.armus_base.specs.Statuses.{IsInOrder}
-use Rattle.board.specs.Seats.{aim_at}
+use Rattle.board.specs.Seats.{Known, aim_at}
+use Rattle.phase_scan.specs.Collects.{Collection}
 use Rattle.avoider.specs.Decisions.{IsOutcome}
-use Rattle.avoider.specs.inside.OffCycle.{ImpedesSome, IsImpeded}
-use Rattle.avoider.proofs.JudgedLists.{judged_in_order}
+use Rattle.avoider.proofs.JudgedLists.{all_loads, judged_in_order, judges_excluded, judges_given}
 use Rattle.avoider.proofs.ToldByLoads.{judged_by, judged_off}
 use Rattle.avoider.proofs.deciding.judge.Goals as goal
 
 pub death_of-requires : goal.death_of-requires
 death_of-requires c =
-    let g = c.in_ok-gathered in
-    subst IsInOrder (sym c.as_slice-list.ensures.items)
-    (judged_in_order c.gather.new.cells.statuses g.gathered.list (aim_at c.args.p.0 c.args.off) g.gathered.event c.args.seat.now c.gather.new.seat c.id-t.ensures.seat.checked g.ensures.judges)
+    let judges =
+    judges_given c.args.board.now c.collect.new.self.statuses c.supposed_on_cycle.new.self.statuses (aim_at c.args.p.0 c.args.off) c.own_event-event.result
+    c.args.seat.now c.own_event-event.new.seat c.collect.new.by c.supposed_on_cycle.new.seat c.requires.before.made c.own_event-event.ensures.seat c.collect.ensures.goes_on
+    c.collect.ensures.collect c.collect.ensures.collected
+    (c.collect.ensures.finds (ap (λ (k : Known). k.view.holds) c.own_event-event.ensures.seat ∙ c.requires.before.locked)) c.own_event-event.ensures.event
+    (ap (λ (v : Collection). v.statuses) c.supposed_on_cycle.ensures.cells) c.in_ok-supposed.supposed c.in_ok-supposed.ensures.supposed
+    c.in-Some.list c.in-Some.is in
+    subst IsInOrder (sym c.as_slice.ensures.items)
+    (judged_in_order c.supposed_on_cycle.new.self.statuses c.in-Some.list (aim_at c.args.p.0 c.args.off) c.own_event-event.result c.args.seat.now c.supposed_on_cycle.new.seat
+    c.id-t.ensures.seat.checked judges)
 
-pub returns-then-is_off_cycle-clause-judged : goal.returns-then-is_off_cycle-clause-judged
-returns-then-is_off_cycle-clause-judged c =
-    let g = c.in_ok-gathered in
-    let off = subst (λ (ss : List Status). (IsImpeded ss g.gathered.event → ⊥) ⊎ (ImpedesSome ss c.id-t.result → ⊥)) c.as_slice-list.ensures.items (c.is_off_cycle.ensures c.if-is_off_cycle.true) in
-    judged_off c.gather.new.cells.statuses g.gathered.list (aim_at c.args.p.0 c.args.off) g.gathered.event c.args.seat.now c.gather.new.seat c.id-t.result.0
-    c.id-t.ensures.seat c.id-t.ensures.task c.requires.locked c.requires.next g.ensures.goes_on g.ensures.judges off
+pub returns-in_ok-found-in-Some-clause-judged : goal.returns-in_ok-found-in-Some-clause-judged
+returns-in_ok-found-in-Some-clause-judged c =
+    let judges =
+    judges_given c.args.board.now c.collect.new.self.statuses c.supposed_on_cycle.new.self.statuses (aim_at c.args.p.0 c.args.off) c.own_event-event.result
+    c.args.seat.now c.own_event-event.new.seat c.collect.new.by c.supposed_on_cycle.new.seat c.requires.before.made c.own_event-event.ensures.seat c.collect.ensures.goes_on
+    c.collect.ensures.collect c.collect.ensures.collected
+    (c.collect.ensures.finds (ap (λ (k : Known). k.view.holds) c.own_event-event.ensures.seat ∙ c.requires.before.locked)) c.own_event-event.ensures.event
+    (ap (λ (v : Collection). v.statuses) c.supposed_on_cycle.ensures.cells) c.in_ok-supposed.supposed c.in_ok-supposed.ensures.supposed
+    c.in-Some.list c.in-Some.is in
+    let all = all_loads c.args.seat.now c.own_event-event.new.seat c.collect.new.by c.supposed_on_cycle.new.seat c.own_event-event.ensures.seat c.collect.ensures.goes_on
+    c.supposed_on_cycle.ensures.goes_on in
+    let told = subst (λ (ss : List Status). IsOutcome ss c.id-t.result.0 c.in_ok-found-in-Some.found) c.as_slice.ensures.items c.in_ok-found-in-Some.ensures in
+    judged_by c.supposed_on_cycle.new.self.statuses c.in-Some.list (aim_at c.args.p.0 c.args.off) c.own_event-event.result c.args.seat.now c.supposed_on_cycle.new.seat c.id-t.result.0
+    c.id-t.ensures.seat c.id-t.ensures.task c.requires.before.locked c.requires.before.next all judges c.in_ok-found-in-Some.found told
 
-pub returns-clause-judged : goal.returns-clause-judged
-returns-clause-judged c =
-    let g = c.in_ok-gathered in
-    let told = subst (λ (ss : List Status). IsOutcome ss c.id-t.result.0 c.in_ok-found.found) c.as_slice-list.ensures.items c.in_ok-found.ensures in
-    judged_by c.gather.new.cells.statuses g.gathered.list (aim_at c.args.p.0 c.args.off) g.gathered.event c.args.seat.now c.gather.new.seat c.id-t.result.0
-    c.id-t.ensures.seat c.id-t.ensures.task c.requires.locked c.requires.next g.ensures.goes_on g.ensures.judges c.in_ok-found.found told
+pub returns-in-None-clause-judged : goal.returns-in-None-clause-judged
+returns-in-None-clause-judged c =
+    let (supposed, judges, off) =
+    judges_excluded c.args.board.now c.collect.new.self.statuses c.supposed_on_cycle.new.self.statuses (aim_at c.args.p.0 c.args.off) c.own_event-event.result
+    c.args.seat.now c.own_event-event.new.seat c.collect.new.by c.supposed_on_cycle.new.seat c.requires.before.made c.own_event-event.ensures.seat c.collect.ensures.goes_on
+    c.collect.ensures.collect c.collect.ensures.collected
+    (c.collect.ensures.finds (ap (λ (k : Known). k.view.holds) c.own_event-event.ensures.seat ∙ c.requires.before.locked)) c.own_event-event.ensures.event
+    (ap (λ (v : Collection). v.statuses) c.supposed_on_cycle.ensures.cells) c.in_ok-supposed.supposed c.in_ok-supposed.ensures.supposed
+    c.id-t.result.0 c.id-t.ensures.task c.in-None.is in
+    let all = all_loads c.args.seat.now c.own_event-event.new.seat c.collect.new.by c.supposed_on_cycle.new.seat c.own_event-event.ensures.seat c.collect.ensures.goes_on
+    c.supposed_on_cycle.ensures.goes_on in
+    judged_off c.supposed_on_cycle.new.self.statuses supposed (aim_at c.args.p.0 c.args.off) c.own_event-event.result c.args.seat.now c.supposed_on_cycle.new.seat c.id-t.result.0
+    c.id-t.ensures.seat c.id-t.ensures.task c.requires.before.locked c.requires.before.next all judges off

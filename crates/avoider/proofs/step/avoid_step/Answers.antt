@@ -28,5 +28,5 @@ is_on_no_cycle-requires-clause-phaser c =
 pub returns-then-is_on_no_cycle-clause-nobody : goal.returns-then-is_on_no_cycle-clause-nobody
 returns-then-is_on_no_cycle-clause-nobody c =
     let at = c.event_before-event.ensures in
-    block_kills_nobody c.args.world.now c.step.new.self at.checked at.reachable c.args.t.0 c.requires.nobody c.event_before-event.result at.before
+    block_kills_nobody c.args.world.now c.step.new.self at.checked at.reachable c.args.t.0 c.requires.before.nobody c.event_before-event.result at.before
     (c.is_on_no_cycle.ensures c.if-is_on_no_cycle.true) c.step.ensures

@@ -11,7 +11,7 @@ pub walk-preserved : goal.walk-preserved
 walk-preserved c =
     let near = c.next-t.ensures.nearest in
     record {
-      listed = c.next-t.ensures.listed;
+      listed = c.next-t.ensures.goes_on.listed;
       reaches = (near.left, near.walk);
       way = rw c.in_ok-push.ensures.items (way_more c.args.order.now c.args.start c.args.goal c.walk.list.items c.walk.t c.walk.invariant.way c.next-t.result near);
     }

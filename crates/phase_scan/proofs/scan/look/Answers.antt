@@ -22,7 +22,8 @@ loop-number-preserved c =
     let load = c.scan_next-found.ensures.answer in
     let goes = goes_next _ c.loop-number.seat c.scan_next-found.new.self _ _ _ i.goes_on (subst (λ n. c.loop-number.number < n) count c.loop-number-test.true) load in
     let on : c.scan_next-found.new.self.view.sight.scanned ≡ suc c.loop-number.number =
-    scans_on c.loop-number.seat c.scan_next-found.new.self c.unwrap-event.result c.loop-number.number c.scan_next-found.result i.event i.scanned load c.in_default.ensures in record {
+    scans_on c.loop-number.seat c.scan_next-found.new.self c.unwrap-event.result c.loop-number.number c.scan_next-found.result i.event i.scanned load c.in_default.ensures in
+    record {
       made = record { table = load.table ∙ i.made.table; plan = load.load.same.plan ∙ i.made.plan; mode = load.load.same.mode ∙ i.made.mode };
       goes_on = goes;
       event = goes.event ∙ sym i.goes_on.event ∙ i.event;
@@ -35,7 +36,8 @@ returns-clause-answer c =
     let i = c.loop-number.invariant in
     let seat = c.loop-number.seat in
     let count : c.tasks-tasks.result ≡ length seat.view.plan.parents = c.tasks-tasks.ensures.counted ∙ ap (λ (q : Plan). length q.parents) (sym i.made.plan) in
-    let all : (seen seat.view).scanned ≡ length seat.view.plan.parents = (let at = i.scanned in let few = i.goes_on.kept.few in let ended = c.loop-number-test.false in omega arith) in record {
+    let all : (seen seat.view).scanned ≡ length seat.view.plan.parents = (let at = i.scanned in let few = i.goes_on.kept.few in let ended = c.loop-number-test.false in
+    omega arith) in record {
       event = c.unwrap-event.result;
       published = sym i.goes_on.event ∙ i.event;
       scans = scans_to i.scans (sym i.scanned ∙ all ∙ ap (λ (q : Plan). length q.parents) i.goes_on.same.plan);

@@ -1,4 +1,4 @@
-use Rattle.std.proofs.Common.{sym, ap, ◌∙◌}
+use Rattle.std.proofs.Common.{rules, sym, ap, ◌∙◌}
 use Rattle.armus_base.specs.Finals.{is_event_of}
 use Rattle.phase_scan.specs.Tables.{awaited_in_findings, event_for, state_of_findings, status_found, statuses_of_findings}
 use Rattle.phase_scan.proofs.Tables.{given_below_nothing, none_before, nothing_in_order, status_none}
@@ -12,7 +12,9 @@ invariant_of-result c =
           nothing_in_order (statuses_of_findings f)
           (given_below_nothing (status_found f.phasers (state_of_findings f) (awaited_in_findings f)) f.tasks
           (λ t. status_none f.phasers (state_of_findings f) (awaited_in_findings f) t (c.in_ok-new.ensures.nothing t)));
-      marked = λ p. c.in_ok-new.ensures.unmarked p ∙ sym (none_before (λ t. is_event_of p (event_for f.events.items t)) f.tasks (λ t. ap (is_event_of p) (c.in_ok-new.ensures.nothing t)));
+      marked = λ p. c.in_ok-new.ensures.unmarked p
+          ∙ sym (none_before (λ t. is_event_of p (event_for f.events.items t)) f.tasks (λ t. ap (is_event_of p) (c.in_ok-new.ensures.nothing t)));
+      room = search rules;
     }
 
 pub returns-clause-nothing : goal.returns-clause-nothing

@@ -1,7 +1,10 @@
-use Rattle.std.proofs.Common.{◌≡◌, ◌<◌, ℕ, sym, ◌∙◌, subst, refl, Option, None, Some}
+use Rattle.std.proofs.Common.{◌≡◌, ◌<◌, ℕ, sym, ap, ◌∙◌, subst, arith, refl, Option, None, Some}
 use Rattle.std.specs.Prelude.{IfSome}
 use Rattle.armus_base.specs.declared.event.Event.{Event}
+use Rattle.armus_base.specs.Finals.{is_event_of}
+use Rattle.armus_base.specs.Places.{some_before}
 use Rattle.board.specs.Views.{found_of}
+use Rattle.phase_scan.specs.Collects.{LoadsAwaits}
 use Rattle.phase_scan.specs.Tables.{awaited_in_findings, event_for}
 use Rattle.phase_scan.proofs.Keeping.{awaited_more, awaits_more, still_of, waits_within}
 use Rattle.phase_scan.proofs.findings.Findings.load_awaits.Goals as goal
@@ -27,8 +30,21 @@ loop-number-preserved g c =
       made = still_of (g.L.Loads.known c.loop-number.by) (g.L.Loads.known c.load_await-seen.new.self) c.args.board.now i.made load.table load.load.same;
       tasks = kept.tasks ∙ i.tasks;
       phasers = kept.phasers ∙ i.phasers;
-      loads = awaits_more (event_for c.loop-number.self.events.items) (event_for c.keep_event.new.self.events.items) c.loop-number.number c.waiting.result (found_of c.load_await-seen.result)
+      loads = awaits_more (event_for c.loop-number.self.events.items) (event_for c.keep_event.new.self.events.items) c.loop-number.number c.waiting.result
+          (found_of c.load_await-seen.result)
           (g.L.Loads.known c.args.by.now) (g.L.Loads.known c.loop-number.by) (g.L.Loads.known c.load_await-seen.new.self) i.loads load c.waiting.ensures kept.events;
       awaited = λ p. awaited_more (event_for c.loop-number.self.events.items) (event_for c.keep_event.new.self.events.items) c.loop-number.number p c.waiting.result
           (awaited_in_findings c.loop-number.self p) (awaited_in_findings c.keep_event.new.self p) (i.awaited p) (kept.awaited p) kept.events;
+    }
+
+pub returns-clause-awaits : goal.returns-clause-awaits
+returns-clause-awaits g c =
+    let i = c.loop-number.invariant in
+    let last = c.loop-number.self in
+    let all : c.loop-number.number ≡ c.args.self.now.tasks = (let ended = c.loop-number-test.false in omega arith) in
+    record {
+      tasks = i.tasks;
+      phasers = i.phasers;
+      loads = subst (λ n. LoadsAwaits (event_for last.events.items) n (g.L.Loads.known c.args.by.now) (g.L.Loads.known c.loop-number.by)) all i.loads;
+      awaited = λ p. i.awaited p ∙ ap (some_before (λ t. is_event_of p (event_for last.events.items t))) all;
     }

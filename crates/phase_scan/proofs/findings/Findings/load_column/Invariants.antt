@@ -8,6 +8,6 @@ use Rattle.phase_scan.proofs.findings.Findings.load_column.Given as goal
 abbrev pub invariant-loop-number : goal.invariant-loop-number
 invariant-loop-number l = record {
   made : IsOf l.seat l.board;
-  count : length l.column.items ≡ l.self.tasks;
-  loads : LoadsColumn (event_for l.self.events.items) l.p.0 (phase_in l.column.items) l.number l.initial.seat l.seat;
+  count : length l.column ≡ l.self.tasks;
+  loads : LoadsColumn (event_for l.self.events.items) l.p.0 (phase_in l.column) l.number l.initial.seat l.seat;
 }

@@ -16,7 +16,8 @@ loop-number-preserved g c =
     let self = c.loop-number.self in
     let first = c.args.self.now in
     let t = c.loop-number.number in
-    let within : t < length self.events.items = (let count = self.task_count in let same = i.tasks in let counted : vec_len self.events ≡ length self.events.items = self.events.ok.0 in let l = c.loop-number-test.true in omega arith) in
+    let within : t < length self.events.items = (let count = self.task_count in let same = i.tasks in
+    let counted : vec_len self.events ≡ length self.events.items = self.events.ok.0 in let l = c.loop-number-test.true in omega arith) in
     let event : event_for self.events.items t ≡ c.index.result.now =
     ap (λ o. unwrap_or o None) (slice_get_read self.events.items (length self.events.items) t c.index.result.now refl within c.index.ensures) in
     let before = g.L.Loads.known c.args.by.now in
@@ -30,15 +31,16 @@ loop-number-preserved g c =
           let waits : is_some (event_for self.events.items t) ≡ true = ap is_some event ∙ sym c.is_some.ensures ∙ w.if-is_some.true in
           let made : LoadsRow (awaited_in_findings first) t (phases_in_found last.phases t) first.phasers between j =
           subst (λ n. LoadsRow (awaited_in_findings first) t (phases_in_found last.phases t) n between j) i.phasers
-          (subst (λ (xs : List Bool). LoadsRow (is_marked xs) t (phases_in_found last.phases t) self.phasers between j) i.awaited row.loads) in
-          let more = rows_more first.phasers (awaited_in_findings first) (state_of_findings self) (state_of_findings last) t before between j i.loads waits made (ap event_for row.events) row.others in
+          (subst (λ (xs : List Bool). LoadsRow (is_marked xs) t (phases_in_found last.phases t) self.phasers between j) i.awaited row.row.loads) in
+          let more = rows_more first.phasers (awaited_in_findings first) (state_of_findings self) (state_of_findings last) t before between j i.loads waits made
+          (ap event_for row.same.events) row.row.others in
           record {
             made = subst (λ k. IsOf k c.args.board.now) told row.made;
-            tasks = ap (λ (f : Findings). f.tasks) w.self-is ∙ row.tasks ∙ i.tasks;
-            phasers = ap (λ (f : Findings). f.phasers) w.self-is ∙ row.phasers ∙ i.phasers;
-            events = ap (λ (f : Findings). f.events.items) w.self-is ∙ row.events ∙ i.events;
-            awaited = ap (λ (f : Findings). f.awaited.items) w.self-is ∙ row.awaited ∙ i.awaited;
-            nexts = ap (λ (f : Findings). f.nexts.items) w.self-is ∙ row.nexts ∙ i.nexts;
+            tasks = ap (λ (f : Findings). f.tasks) w.self-is ∙ row.same.tasks ∙ i.tasks;
+            phasers = ap (λ (f : Findings). f.phasers) w.self-is ∙ row.same.phasers ∙ i.phasers;
+            events = ap (λ (f : Findings). f.events.items) w.self-is ∙ row.same.events ∙ i.events;
+            awaited = ap (λ (f : Findings). f.awaited.items) w.self-is ∙ row.same.awaited ∙ i.awaited;
+            nexts = ap (λ (f : Findings). f.nexts.items) w.self-is ∙ row.same.nexts ∙ i.nexts;
             loads =
                 subst (λ (f : Findings). LoadsRows first.phasers (awaited_in_findings first) (state_of_findings f) (t + 1) before (g.L.Loads.known c.if-is_some.by)) (sym w.self-is)
                 (subst (λ k. LoadsRows first.phasers (awaited_in_findings first) (state_of_findings last) (t + 1) before k) told more);
@@ -68,3 +70,8 @@ load_row-requires-clause-nexts g c =
     subst (λ (xs : List ℕ). AreNexts (awaited_in_findings self) self.phasers xs) (sym i.nexts)
     (subst (λ n. AreNexts (awaited_in_findings self) n first.nexts.items) (sym i.phasers)
     (subst (λ (xs : List Bool). AreNexts (is_marked xs) first.phasers first.nexts.items) (sym i.awaited) c.requires.nexts))
+
+pub returns-clause-same : goal.returns-clause-same
+returns-clause-same g c =
+    let i = c.loop-number.invariant in
+    record { tasks = i.tasks; phasers = i.phasers; events = i.events; awaited = i.awaited; nexts = i.nexts }

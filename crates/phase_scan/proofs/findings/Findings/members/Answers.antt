@@ -21,7 +21,8 @@ row-preserved c =
     let p = c.row.p in
     let f = listed_phase (awaited_in_findings self) ((state_of_findings self).phases c.args.t.0) in
     let next = c.requires.nexts (p + 1) (let few = c.row-test.true in omega arith) in
-    let more : c.match-listed.members.items ≡ given_below (listed_phase (awaited_in_findings self) ((state_of_findings self).phases c.args.t.0)) (p + 1) = elim c.match-listed.branch [
+    let more : c.match-listed.members.items ≡ given_below (listed_phase (awaited_in_findings self) ((state_of_findings self).phases c.args.t.0)) (p + 1) =
+    elim c.match-listed.branch [
       | in-Some+in_ok-push-in-Some w ↦
           some_more f p c.listed.result w.in-Some.member c.row.members.items c.match-listed.members.items c.listed.ensures w.in-Some.is
           (ap (λ v. v.items) w.members-is ∙ w.in_ok-push-in-Some.ensures.items) c.row.invariant.listed

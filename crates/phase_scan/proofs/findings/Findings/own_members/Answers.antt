@@ -28,9 +28,11 @@ row-preserved c =
     let asked = updated (awaited_in_findings self) c.args.p.0 true in
     let next = c.requires.nexts (q + 1) (let few = c.row-test.true in omega arith) in
     let listed = c.own_listed.ensures.listed ∙ ap (λ (k : Known). listed_phase asked (own_phase k.view) q) i.seat in
-    let more : c.match-own_listed.members.items ≡ given_below (listed_phase (updated (awaited_in_findings self) c.args.p.0 true) (own_phase c.args.seat.now.view)) (q + 1) = elim c.match-own_listed.branch [
+    let more : c.match-own_listed.members.items ≡ given_below (listed_phase (updated (awaited_in_findings self) c.args.p.0 true) (own_phase c.args.seat.now.view)) (q + 1) =
+    elim c.match-own_listed.branch [
       | in-Some+in_ok-push-in-Some w ↦
-          some_more (listed_phase asked (own_phase c.args.seat.now.view)) q c.own_listed.result w.in-Some.member c.row.members.items c.match-own_listed.members.items listed w.in-Some.is
+          some_more (listed_phase asked (own_phase c.args.seat.now.view)) q c.own_listed.result w.in-Some.member c.row.members.items c.match-own_listed.members.items listed
+          w.in-Some.is
           (ap (λ v. v.items) w.members-is ∙ w.in_ok-push-in-Some.ensures.items) i.listed
       | in-None w ↦
           none_more (listed_phase asked (own_phase c.args.seat.now.view)) q c.own_listed.result c.row.members.items c.match-own_listed.members.items listed w.in-None.is

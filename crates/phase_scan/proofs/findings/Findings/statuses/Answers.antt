@@ -13,7 +13,8 @@ loop-number-preserved c =
     let s = state_of_findings self in
     let asked = awaited_in_findings self in
     let t = c.loop-number.number in
-    let within : t < length self.events.items = (let count = self.task_count in let counted : vec_len self.events ≡ length self.events.items = self.events.ok.0 in let l = c.loop-number-test.true in omega arith) in
+    let within : t < length self.events.items = (let count = self.task_count in let counted : vec_len self.events ≡ length self.events.items = self.events.ok.0 in
+    let l = c.loop-number-test.true in omega arith) in
     let event : event_for self.events.items t ≡ c.index.result.now =
     ap (λ o. unwrap_or o None) (slice_get_read self.events.items (length self.events.items) t c.index.result.now refl within c.index.ensures) in
     elim c.match-index.branch [

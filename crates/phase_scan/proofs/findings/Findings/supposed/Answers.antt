@@ -14,7 +14,9 @@ loop-number-preserved c =
     let self = c.args.self.now in
     let asked = updated (awaited_in_findings self) c.args.event.p.0 true in
     let f = status_found self.phasers (state_supposed (state_of_findings self) c.args.t.0 c.args.event (own_phase c.args.seat.now.view) (phase_in c.args.column.now)) asked in
-    let is = c.in_ok-status.ensures.status ∙ ap (λ (k : Known). status_found self.phasers (state_supposed (state_of_findings self) c.args.t.0 c.args.event (own_phase k.view) (phase_in c.args.column.now)) asked c.loop-number.number) i.seat in
+    let is = c.in_ok-status.ensures.status
+    ∙ ap (λ (k : Known). status_found self.phasers (state_supposed (state_of_findings self) c.args.t.0 c.args.event (own_phase k.view) (phase_in c.args.column.now)) asked
+    c.loop-number.number) i.seat in
     record {
       seat = c.in_ok-status.ensures.seat ∙ i.seat;
       listed = elim c.match-branch-3.branch [

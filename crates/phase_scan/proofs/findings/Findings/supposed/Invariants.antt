@@ -9,5 +9,7 @@ use Rattle.phase_scan.proofs.findings.Findings.supposed.Given as goal
 abbrev pub invariant-loop-number : goal.invariant-loop-number
 invariant-loop-number l = record {
   seat : l.seat ≡ l.initial.seat;
-  listed : l.statuses.items ≡ given_below (status_found l.self.phasers (state_supposed (state_of_findings l.self) l.t.0 l.event (own_phase l.initial.seat.view) (phase_in l.column)) (updated (awaited_in_findings l.self) l.event.p.0 true)) l.number;
+  listed : l.statuses.items ≡ given_below
+      (status_found l.self.phasers (state_supposed (state_of_findings l.self) l.t.0 l.event (own_phase l.initial.seat.view) (phase_in l.column))
+      (updated (awaited_in_findings l.self) l.event.p.0 true)) l.number;
 }
