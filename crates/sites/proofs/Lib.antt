@@ -14,3 +14,4 @@ pub mod Gathered
 pub mod Merging
 pub mod PassSteps
 pub mod Passed
+pub mod PuttingParts

@@ -51,16 +51,16 @@ made_of known (x ∷ xs) f all (suc site) m is = made_of known xs f (All-tail (�
 -- what is backed stays so while its viewer looks on
 pub backed_later : (plan : Plan) (ss : List Status) (k m : Known) → IsBacked plan ss (seen k.view).places → HasLookedOn k m → IsBacked plan ss (seen m.view).places
 backed_later plan ss k m backed (inl same) = subst (λ (j : Known). IsBacked plan ss (seen j.view).places) (sym same) backed
-backed_later plan ss k m backed (inr goes) =
+backed_later plan ss k m backed (inr looked) =
     record {
       at = backed.at;
       found = backed.found;
       there = record {
         waiting = backed.there.waiting;
-        before = λ u e one is. prefix_both (backed.at u) ((seen k.view).places u) ((seen m.view).places u) (backed.there.before u e one is) (goes.later u);
+        before = λ u e one is. prefix_both (backed.at u) ((seen k.view).places u) ((seen m.view).places u) (backed.there.before u e one is) (looked.0.later u);
         phases = backed.there.phases;
         phases_before = λ u p n one is.
-            prefix_both (backed.found u p) ((seen k.view).places u) ((seen m.view).places u) (backed.there.phases_before u p n one is) (goes.later u);
+            prefix_both (backed.found u p) ((seen k.view).places u) ((seen m.view).places u) (backed.there.phases_before u p n one is) (looked.0.later u);
       };
     }
 
@@ -85,10 +85,10 @@ snapped_none f sites views rows made =
       rows = λ site l. refl;
     }
 
-held_same : (rows : List (Option (List ℕ))) (site : ℕ) (row : List ℕ) → site < length rows → held (set rows site (Some row)) site ≡ Some row
+pub held_same : (rows : List (Option (List ℕ))) (site : ℕ) (row : List ℕ) → site < length rows → held (set rows site (Some row)) site ≡ Some row
 held_same rows site row l = ap (λ o. unwrap_or o None) (slice_get-set_same rows site (Some row) l)
 
-held_other : (rows : List (Option (List ℕ))) (site other : ℕ) (row : List ℕ) → other ≢ site → held (set rows site (Some row)) other ≡ held rows other
+pub held_other : (rows : List (Option (List ℕ))) (site other : ℕ) (row : List ℕ) → other ≢ site → held (set rows site (Some row)) other ≡ held rows other
 held_other rows site other row ne = ap (λ o. unwrap_or o None) (slice_get-set_other rows site other (Some row) ne)
 
 module _ (f : Frame) (sites n : ℕ) (before now : List Known) (old new : List (Option (List ℕ))) (s : HaveSnapped f sites n before now old new) where

@@ -10,9 +10,14 @@ use Rattle.armus_base.specs.declared.status.Status.{Status}
 use Rattle.armus_base.specs.Finals.{given_below, listed_phase, status_of}
 use Rattle.armus_base.specs.Plans.{Plan}
 use Rattle.armus_base.specs.States.{Phases, State, opening, updated, with_phase}
-use Rattle.armus_base.specs.Seats.{Found}
+use Rattle.armus_base.specs.Boards.{IsLawful}
+use Rattle.armus_base.specs.Seats.{Found, IsAsFarOn}
 use Rattle.armus_base.proofs.Steps.{updated_other, updated_same, with_phase_other, with_phase_same}
+use Rattle.board.specs.declared.mode.Mode.{Mode}
 use Rattle.board.specs.Seats.{AnswersAwait, AnswersPhase, Frame, IsOf, Known}
+use Rattle.board.specs.Steps.{IsSameSeat, WasSo}
+use Rattle.board.specs.Views.{avoids, seen}
+use Rattle.board.specs.Words.{found_in}
 use Rattle.phase_scan.specs.Looks.{LoadsAlone}
 use Rattle.phase_scan.specs.Collects.{FindsEvent, IfAsked, LoadsRow, LoadsRows}
 use Rattle.phase_scan.specs.Tables.{event_for}
@@ -20,22 +25,37 @@ use Rattle.phase_scan.proofs.Keeping.{row_more, rows_more, rows_skip}
 use Rattle.phase_scan.proofs.Loads.{await_load, goes_both, load_goes, phase_load}
 use Rattle.phase_scan.proofs.Tables.{given_below_same}
 use Rattle.sites.specs.Rows.{HasNumbers, HasPhaseNumbers}
-use Rattle.sites.specs.Snaps.{HasLookedOn, LoadsChosen}
+use Rattle.sites.specs.Snaps.{HasLookedOn, HasSeenLawful, LoadsChosen}
+use Rattle.sites.proofs.TellingSites.{far_to_viewer}
 use Rattle.sites.specs.inside.Snapping.{FindsRow, FindsRows, FindsStatus, whole_status}
 
 -- looking, and looking on
 pub looked_both : (a k m : Known) → HasLookedOn a k → HasLookedOn k m → HasLookedOn a m
 looked_both a k m (inl same) more = subst (λ j. HasLookedOn j m) same more
-looked_both a k m (inr goes) (inl same) = inr (subst (LoadsAlone a) (sym same) goes)
-looked_both a k m (inr goes) (inr more) = inr (goes_both a k m goes more)
+looked_both a k m (inr looked) (inl same) = inr (subst (λ j. LoadsAlone a j × HasSeenLawful j) (sym same) looked)
+looked_both a k m (inr looked) (inr more) = inr (goes_both a k m looked.0 more.0, more.1)
+
+-- what is seen right after a load was so in the lawful state in which it was made
+seen_lawful : (k m : Known) (Holds : State → Type 0) → IsSameSeat k.view m.view → WasSo k.view.plan k.view.mode Holds k.view m.view → HasSeenLawful m
+seen_lawful k m Holds same was =
+    record {
+      places = was.places;
+      lock = was.lock;
+      lawful = subst (λ (d : Mode). IsLawful (avoids d) m.view.plan was.places was.lock) (sym same.mode)
+          (subst (λ (q : Plan). IsLawful (avoids k.view.mode) q was.places was.lock) (sym same.plan) was.lawful);
+      far = far_to_viewer m.view.plan k.view.own was.places (seen m.view)
+          (subst (λ (q : Plan). IsAsFarOn q k.view.own was.places (seen m.view)) (sym same.plan) was.now_far);
+    }
 
 pub looked_await : (k m : Known) (f : Frame) (t : ℕ) (answer : Found) → IsOf k f → t < length f.plan.parents → AnswersAwait t answer k m → HasLookedOn k m
 looked_await k m f t answer of small load =
-    inr (load_goes t k m (await_load k m t answer (subst (λ (q : Plan). t < length q.parents) (sym of.plan) small) load))
+    let goes = load_goes t k m (await_load k m t answer (subst (λ (q : Plan). t < length q.parents) (sym of.plan) small) load) in
+    inr (goes, seen_lawful k m (λ s. found_in s t ≡ answer) goes.same load.load.was)
 
 pub looked_phase : (k m : Known) (f : Frame) (t p : ℕ) (answer : Option ℕ) → IsOf k f → t < length f.plan.parents → AnswersPhase t p answer k m → HasLookedOn k m
 looked_phase k m f t p answer of small load =
-    inr (load_goes t k m (phase_load k m t p answer (subst (λ (q : Plan). t < length q.parents) (sym of.plan) small) load))
+    let goes = load_goes t k m (phase_load k m t p answer (subst (λ (q : Plan). t < length q.parents) (sym of.plan) small) load) in
+    inr (goes, seen_lawful k m (λ s. s.phases t p ≡ answer) goes.same load.load.was)
 
 -- events that agree on the first tasks
 pub chosen_same :

@@ -3,6 +3,7 @@ pub mod Keeping
 pub mod MemKeepers
 pub mod Snaps
 pub mod Checks
+pub mod Parts
 pub mod Passes
 pub mod RowLaws
 pub mod PassLaws

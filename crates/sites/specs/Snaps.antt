@@ -41,9 +41,16 @@ pub record CountsSnap (plan : Plan) (sites site : ℕ) (list : List Status) (bef
   pub own : IsCount (λ t. t < length plan.parents × is_of_site sites site t ≡ true) tasks
   pub loads : now.view.loads ≡ before.view.loads + (tasks + length list * length plan.makers)
 
--- the viewer is as it was, or has made loads alone
+-- some lawful state is as far on as what a viewer has seen
+pub record HasSeenLawful (k : Known) : Type 0 where
+  pub places : ℕ → Place
+  pub lock : Option ℕ
+  pub lawful : IsLawful (avoids k.view.mode) k.view.plan places lock
+  pub far : IsAsFarOn k.view.plan None places (seen k.view)
+
+-- the viewer is as it was; or it has made loads alone, and some lawful state is as far on as what it has seen then
 abbrev pub HasLookedOn : Known → Known → Type 0
-HasLookedOn before now = (now ≡ before) ⊎ LoadsAlone before now
+HasLookedOn before now = (now ≡ before) ⊎ (LoadsAlone before now × HasSeenLawful now)
 
 -- each task of the list was found waiting on its event at a place, and each of its phases at that place or later, all at or before these places
 pub record IsBacked (plan : Plan) (list : List Status) (places : ℕ → Place) : Type 0 where

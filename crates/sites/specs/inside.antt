@@ -2,3 +2,4 @@ pub mod Reading
 pub mod Snapping
 pub mod Gathering
 pub mod Passing
+pub mod Putting

@@ -9,8 +9,8 @@ use crate::Snapshot;
 use armus_base::{List, Member, NoMemory, Status};
 use std::alloc::Global;
 
-// Appends a number.
-fn put_number(out: &mut Vec<u8>, n: u32) -> Result<(), NoMemory>
+/// Appends a number.
+pub(crate) fn put_number(out: &mut Vec<u8>, n: u32) -> Result<(), NoMemory>
     ensures { OnOk result (out.new.items ≡ out.old.items ++ to_be_bytes w32 n) }
 {
     out.extend_from_slice(&n.to_be_bytes())?;
