@@ -22,3 +22,4 @@ pub mod BoardPlaces
 pub mod BoardEnds
 pub mod AvoidedRests
 pub mod TellingAll
+pub mod SitesWatched

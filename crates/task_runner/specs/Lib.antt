@@ -2,4 +2,5 @@ pub mod PlainRuns
 pub mod RecordedRuns
 pub mod AvoidedRuns
 pub mod DetectRuns
+pub mod SiteRuns
 pub mod inside

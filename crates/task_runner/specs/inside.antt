@@ -4,3 +4,4 @@ pub mod Tellers
 pub mod DetectRounds
 pub mod Watching
 pub mod Rests
+pub mod SiteRounds

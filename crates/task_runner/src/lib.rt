@@ -15,8 +15,11 @@ mod options;
 mod pace;
 mod ran;
 mod rest;
+mod site_rounds;
+mod site_runs;
 mod teller;
 mod turns;
+mod whole_ending;
 mod world_round;
 
 pub use avoided::{run_avoid, run_avoid_kept};
@@ -26,6 +29,7 @@ pub use journal::run_journal;
 pub use laws::serial_run_ends;
 pub use options::RunOptions;
 pub use ran::{Ran, RunEnd};
+pub use site_runs::run_sites;
 
 #[cfg(test)]
 mod avoided_tests;

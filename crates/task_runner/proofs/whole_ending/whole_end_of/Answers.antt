@@ -1,0 +1,23 @@
+use Rattle.std.proofs.Common.{◌∙◌, ap, false, length}
+use Rattle.std.proofs.lemmas.List.{length-replicate}
+use Rattle.task_runner.proofs.SitesWatched.{whole_end}
+use Rattle.task_runner.proofs.whole_ending.whole_end_of.Goals as goal
+
+pub loop-init : goal.loop-init
+loop-init g c =
+    record {
+      plan = c.requires.plan;
+      plain = c.requires.plain;
+      forked = ap length (c.in_ok-forked.ensures.items_if_clones_equal (λ y e. e)) ∙ length-replicate c.tasks-count.result false ∙ c.tasks-count.ensures.counted;
+    }
+
+pub finish-requires : goal.finish-requires
+finish-requires g c = record { quiet = c.round.ensures.quiet c.loop-test.false }
+
+pub returns : goal.returns
+returns g c =
+    record {
+      end = whole_end c.round.new.world c.args.plan.now (c.round.ensures.plan ∙ c.loop.invariant.plan) c.in_ok-end.ensures.checked c.in_ok-end.ensures.reachable
+          c.round.ensures.plain (c.round.ensures.quiet c.loop-test.false) c.in_ok-end.end c.in_ok-statuses.statuses c.in_ok-end.ensures.end
+          c.in_ok-statuses.ensures.statuses;
+    }

@@ -1,0 +1,14 @@
+use Rattle.std.proofs.Common.{◌≡◌, length}
+use Rattle.task_runner.specs.inside.Turns.{NobodyRefused, remaining}
+use Rattle.task_runner.proofs.whole_ending.whole_end_of.Given as goal
+
+abbrev pub invariant-loop : goal.invariant-loop
+invariant-loop g l =
+    record {
+      plan : l.world.plan ≡ l.plan;
+      plain : NobodyRefused l.world;
+      forked : length l.forked.items ≡ length l.plan.parents;
+    }
+
+abbrev pub decreases-loop : goal.decreases-loop
+decreases-loop g l = remaining l.world

@@ -1,0 +1,34 @@
+-- A run over several sites, between its rounds and at its end.
+use Rattle.std.specs.Prelude.{◌≡◌, ℕ, ◌≤◌, false, List, Option, None, All, length}
+use Rattle.armus_base.specs.declared.ending.Final.{Final}
+use Rattle.armus_base.specs.declared.status.Status.{Status}
+use Rattle.armus_base.specs.Boards.{IsLawful}
+use Rattle.armus_base.specs.Finals.{statuses_of}
+use Rattle.armus_base.specs.Plans.{Plan}
+use Rattle.armus_base.specs.Runs.{Place}
+use Rattle.armus_base.specs.Statuses.{IsInOrder}
+use Rattle.board.specs.Seats.{Frame, IsOf, Known}
+use Rattle.sites.specs.Passes.{AreBacked}
+use Rattle.sites.specs.Snaps.{HasSeenLawful, IsBacked}
+use Rattle.task_runner.specs.PlainRuns.{IsPlainEnd}
+
+-- The viewers of so many sites, and the rows that their keeper holds: each viewer is one of this board, and what it has seen was so in some lawful state;
+-- each row that is held stores statuses of its site that are backed by what the viewer of the site has seen.
+pub record AreWatching (board : Frame) (sites : ℕ) (views : List Known) (rows : List (Option (List ℕ))) : Type 0 where
+  pub made : All (λ k. IsOf k board) views
+  pub lawful : All HasSeenLawful views
+  pub some : 1 ≤ sites
+  pub few : sites ≤ 8
+  pub count : length views ≡ sites
+  pub kept : length rows ≡ sites
+  pub backed : AreBacked board.plan rows views
+
+-- the value is that of the one final state, and the list has the statuses of that state with all their phases, as its places have them
+pub record IsWholeEnd (plan : Plan) (end : Final) (list : List Status) : Type 0 where
+  pub plain : IsPlainEnd plan end
+  pub statuses : list ≡ statuses_of plan plain.state
+  pub in_order : IsInOrder list
+  pub few : length list ≤ 1024
+  pub places : ℕ → Place
+  pub lawful : IsLawful false plan places None
+  pub backed : IsBacked plan list places

@@ -1,0 +1,129 @@
+// A run on a board whose tasks live on several sites.
+ghost use Rattle.std.specs.Prelude.{◌≡◌, ◌≤◌, ◌<◌, ℕ, List as Seq, All, None, false, IfOk, OnOk, length, replicate};
+ghost use Rattle.armus_base.specs.Statuses.{IsInOrder};
+ghost use Rattle.board.specs.declared.mode.Mode.TheVariants.{Detect};
+ghost use Rattle.board.specs.Seats.{IsNewSeat, IsOf, IsSeat};
+ghost use Rattle.board.specs.Views.{seen};
+ghost use Rattle.board_rounds.specs.Crews.{AreTasksOf, HaveEnded, all_of};
+ghost use Rattle.sites.specs.Keeping.{count_after};
+ghost use Rattle.sites.specs.Parts.{HoldParts, PutsParts};
+ghost use Rattle.task_runner.specs.PlainRuns.{IsPlainEnd};
+ghost use Rattle.task_runner.specs.SiteRuns.{HoldFinal, HoldRowsOfRun};
+ghost use Rattle.task_runner.specs.inside.SiteRounds.{IsWholeEnd};
+
+use crate::RunOptions;
+use crate::site_rounds::go_by_site_rounds;
+use crate::whole_ending::whole_end_from;
+use adaptive::{Analysis, Wanted};
+use armus_base::{Final, Gate, List, NoMemory, Plan, Status};
+use avoider::Judging;
+use board::{Board, Mode, ViewSeat};
+use board_rounds::Crew;
+use sites::{KeepEnd, Keeper, MAX_SITES, SiteEnd, check_sites, put_parts};
+use std::alloc::Global;
+use std::thread::Threads;
+
+/// Runs the plan on a board that detects deadlock, its tasks spread over so many sites: site s has the tasks t with t mod `sites` = s. The tasks take
+/// turns by rounds, with the given number of workers, until a round without an event. Beside each round goes one pass over all sites: each puts what its
+/// viewer finds of its tasks, and then the rows of all are checked. From the places at which the tasks stood then the run goes on in one thread until no
+/// task may go on; each site's part of the statuses of that state, with all their phases, is put, and all rows are checked once more. The gate is called
+/// before each op. At every answer each row that is held stores statuses of its site that are backed by the places of a lawful state. Fault comes exactly
+/// where the keeper's count of faults rises, by one. No call waits.
+pub fn run_sites<R: Threads + Sync, G: Gate, K: Keeper>(
+    rt: &R,
+    alloc: Global,
+    plan: &Plan,
+    options: &RunOptions,
+    sites: u32,
+    keeper: &mut K,
+    gate: &G,
+) -> Result<Final, KeepEnd>
+    requires workers { 1 ≤ options.now.workers × options.now.workers ≤ 64 }
+    requires quiet { options.now.live ≡ false }
+    requires sites { 1 ≤ sites × sites ≤ MAX_SITES }
+    requires empty { K.rows keeper.old ≡ replicate sites None }
+    ensures end { IfOk result (λ end. IsPlainEnd plan.now end) }
+    ensures parts { IfOk result (HoldFinal plan.now sites (K.rows keeper.new)) }
+    ensures rows { HoldRowsOfRun plan.now sites (K.rows keeper.new) }
+    ensures count { K.faults keeper.new ≡ count_after result (K.faults keeper.old) }
+{
+    let (board, seat, mut view) = Board::start(alloc, plan, Mode::Detect)?;
+    let mut views = split_views(alloc, &board, &mut view, sites)?;
+    let judging = Judging::Graph(options.wanted);
+    let mut crew = Crew::start(alloc, &board, seat, plan, judging)?;
+    go_by_site_rounds(
+        rt, alloc, &board, plan, options, gate, &mut crew, &mut views, keeper,
+    )?;
+    let (end, statuses) = end_of_board(alloc, board, view, plan, gate, crew)?;
+    put_final(alloc, keeper, statuses.as_slice(), sites, options.wanted)?;
+    Ok(end)
+}
+
+// So many viewers that have seen the same as this one.
+fn split_views(
+    alloc: Global,
+    board: &Board,
+    view: &mut ViewSeat,
+    count: u32,
+) -> Result<Vec<ViewSeat>, NoMemory>
+    requires made { IsOf view.old board.now }
+    ensures same { view.new ≡ view.old }
+    ensures count { IfOk result (λ views. length views.items ≡ count) }
+    ensures new { IfOk result (λ views. All (IsNewSeat board.now None (seen view.old.view)) views.items) }
+{
+    let mut views = Vec::new(alloc);
+    for _ in 0..count {
+        let other = view.split(alloc, board)?;
+        views.push(other)?;
+    }
+    Ok(views)
+}
+
+// Ends the run of these tasks, which have all come to the end of their turns: its final state, and the statuses of that with all their phases.
+fn end_of_board<G: Gate>(
+    alloc: Global,
+    board: Board,
+    mut view: ViewSeat,
+    plan: &Plan,
+    gate: &G,
+    crew: Crew<'_>,
+) -> Result<(Final, List<Status>), NoMemory>
+    requires plan { board.plan ≡ plan.now }
+    requires detects { board.mode ≡ Detect }
+    requires tasks { AreTasksOf board crew }
+    requires ends { HaveEnded (all_of crew) }
+    requires made { IsOf view board }
+    requires kept { IsSeat view }
+    requires unknown { (u : ℕ) → (seen view.view).exact u ≡ false }
+    ensures end { IfOk result (λ r. IsWholeEnd plan.now r.0 r.1) }
+{
+    let places = crew.places(alloc, &board, plan)?;
+    crew.take_in(&board, &mut view);
+    let _ = board.close(view);
+    whole_end_from(alloc, plan, places.as_slice(), gate)
+}
+
+// Puts each site's part of the statuses, and then checks all rows.
+fn put_final<K: Keeper>(
+    alloc: Global,
+    keeper: &mut K,
+    statuses: &[Status],
+    sites: u32,
+    wanted: Wanted,
+) -> Result<Analysis, KeepEnd>
+    requires sites { 1 ≤ sites × sites ≤ MAX_SITES }
+    requires kept { length (K.rows keeper.old) ≡ sites }
+    requires in_order { IsInOrder statuses.now }
+    requires few { length statuses.now ≤ 1024 }
+    ensures rows { PutsParts sites statuses.now (K.rows keeper.old) (K.rows keeper.new) }
+    ensures parts { OnOk result (HoldParts sites (K.rows keeper.new) statuses.now) }
+    ensures count { K.faults keeper.new ≡ count_after result (K.faults keeper.old) }
+{
+    put_parts(alloc, keeper, statuses, sites)?;
+    match check_sites(alloc, keeper, sites, wanted) {
+        Ok(analysis) => Ok(analysis),
+        Err(SiteEnd::Fault) => Err(KeepEnd::Fault),
+        Err(SiteEnd::NoMemory) => Err(KeepEnd::NoMemory),
+        Err(SiteEnd::Bad { .. }) => unreachable!(),
+    }
+}

@@ -1,0 +1,49 @@
+// The end of a run, from where its tasks stand, with the statuses of the final state.
+ghost use Rattle.std.specs.Prelude.{◌≡◌, ℕ, Some, false, IfOk, length, slice_get};
+ghost use Rattle.armus_base.specs.Runs.{IsReachable};
+ghost use Rattle.pl_core.specs.declared.place.Place.{Place as KeptPlace};
+ghost use Rattle.pl_core.specs.Worlds.{places_at};
+ghost use Rattle.task_runner.specs.inside.SiteRounds.{IsWholeEnd};
+ghost use Rattle.task_runner.specs.inside.Turns.{NobodyRefused};
+
+use crate::world_round::round;
+use armus_base::{Final, Gate, List, NoMemory, Plan, Status};
+use pl_core::{Place, World};
+use std::alloc::Global;
+
+/// The end of the run whose tasks stand at these places, none refused, and the statuses of its final state with all their phases. The gate is called
+/// before each op.
+pub(crate) fn whole_end_from<G: Gate>(
+    alloc: Global,
+    plan: &Plan,
+    places: &[Place],
+    gate: &G,
+) -> Result<(Final, List<Status>), NoMemory>
+    requires one_each { length places.now ≡ length plan.now.parents }
+    requires reachable { IsReachable plan.now (places_at plan.now places.now) }
+    requires plain { (t : ℕ) (place : KeptPlace) → slice_get places.now t ≡ Some place → place.refused ≡ false }
+    ensures end { IfOk result (λ r. IsWholeEnd plan.now r.0 r.1) }
+{
+    let world = World::at(alloc, plan, places)?;
+    whole_end_of(alloc, world, plan, gate)
+}
+
+// The end of the run that has come to this world, in which nobody is refused, and the statuses of its final state: turns go on by rounds in order of number
+// until no task may go on.
+fn whole_end_of<G: Gate>(
+    alloc: Global,
+    mut world: World,
+    plan: &Plan,
+    gate: &G,
+) -> Result<(Final, List<Status>), NoMemory>
+    requires plan { world.plan ≡ plan.now }
+    requires plain { NobodyRefused world }
+    ensures end { IfOk result (λ r. IsWholeEnd plan.now r.0 r.1) }
+{
+    let count = plan.tasks() as usize;
+    let mut forked = vec![in alloc; false; count]?;
+    while round(&mut world, &mut forked, gate) {}
+    let end = world.finish(alloc)?;
+    let statuses = world.statuses(alloc)?;
+    Ok((end, statuses))
+}
