@@ -58,3 +58,11 @@ pub mod DeadTests
 pub mod WorkedTexts
 pub mod WorkedDecisions
 pub mod WorkedLoads
+pub mod Unfolding
+pub mod Nesting
+pub mod WholeLoops
+pub mod Positions
+pub mod FoldedTests
+pub mod Sending
+pub mod WorkedPieces
+pub mod ByPlaces

@@ -1,4 +1,5 @@
 pub mod Limits
+pub mod Pieces
 pub mod Offsets
 pub mod Plans
 pub mod States
@@ -23,12 +24,16 @@ pub mod PlaceLaws
 pub mod SeatLaws
 pub mod DecisionLaws
 pub mod PlanLaws
+pub mod PieceLaws
 pub mod FinalLaws
 pub mod TwoTasks
 pub mod Exclusions
 pub mod WorkedTexts
 pub mod WorkedDecisions
+pub mod WorkedPieces
 pub mod Causes
 pub mod Outside
 pub mod ReadAll
 pub mod Fakes
+-- How the program does it: private contracts alone cite these.
+pub mod inside

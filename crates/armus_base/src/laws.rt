@@ -2,6 +2,7 @@
 mod deadlocks;
 mod decisions;
 mod finals;
+mod pieces;
 mod places;
 mod plans;
 mod runs;
@@ -11,6 +12,10 @@ mod texts;
 pub use deadlocks::{collected_is_dead, dead_stays, nobody_is_dead, only_blocks_kill};
 pub use decisions::list_decides;
 pub use finals::{final_is_of_state, statuses_are_of_state};
+pub use pieces::{
+    folded_stand_for, unfolded_append, unfolded_straight, whole_append, whole_by_places,
+    worked_pieces,
+};
 pub use places::{lawful_places, lock_excludes, reachable_places};
 pub use plans::{phases_fit, plan_grows};
 pub use runs::{next_is_legal, one_end, places_fix_state, reached_stays, serial_is_avoided};

@@ -2,6 +2,7 @@
 #![tactic(auto)]
 
 mod code;
+mod cursor;
 mod ending;
 mod errors;
 mod event;
@@ -12,6 +13,7 @@ mod memory;
 mod offset;
 mod op;
 mod outside;
+mod piece;
 mod plan;
 mod read;
 mod standard;
@@ -19,28 +21,33 @@ mod status;
 mod write;
 
 pub use code::Code;
+pub use cursor::Cursor;
 pub use ending::{Final, TaskEnd};
 pub use errors::{Failed, NoMemory, ReadEnd, WriteFault};
 pub use event::Event;
 pub use ids::{Phase, PhaserId, TaskId};
 pub use laws::{
-    collected_is_dead, dead_stays, exclusions, final_is_of_state, lawful_places, least_state,
-    list_decides, lock_excludes, next_is_legal, nobody_is_dead, one_end, only_blocks_kill,
-    phases_fit, places_fix_state, plan_grows, reachable_places, reached_stays, scanned_stays,
-    seen_is_before, seen_keeps_far, serial_is_avoided, statuses_are_of_state, worked_avoided_run,
-    worked_decisions, worked_loads, worked_texts,
+    collected_is_dead, dead_stays, exclusions, final_is_of_state, folded_stand_for, lawful_places,
+    least_state, list_decides, lock_excludes, next_is_legal, nobody_is_dead, one_end,
+    only_blocks_kill, phases_fit, places_fix_state, plan_grows, reachable_places, reached_stays,
+    scanned_stays, seen_is_before, seen_keeps_far, serial_is_avoided, statuses_are_of_state,
+    unfolded_append, unfolded_straight, whole_append, whole_by_places, worked_avoided_run,
+    worked_decisions, worked_loads, worked_pieces, worked_texts,
 };
 pub use list::List;
 pub use memory::{MemSink, MemSource, SafeSource};
 pub use offset::Offset;
 pub use op::Op;
 pub use outside::{Gate, Point, Sink, Source, Still};
+pub use piece::{MAX_OPEN_REPEATS, MAX_TURNS, Piece};
 pub use plan::{MAX_OFFSET, MAX_OPS, MAX_PHASERS, MAX_TASKS, Plan};
 pub use read::read_all;
 pub use standard::{StdSink, StdSource};
 pub use status::{Dead, Member, Status};
 pub use write::write_text;
 
+#[cfg(test)]
+mod cursor_tests;
 #[cfg(test)]
 mod list_tests;
 #[cfg(test)]
