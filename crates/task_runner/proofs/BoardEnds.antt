@@ -1,24 +1,16 @@
--- What is known of a board whose tasks have all come to the end of their turns, once a viewer has taken their seats in.
-use mathlib.Core.Path.{fun_ext}
-use Rattle.std.proofs.Common.{◌≡◌, ◌≢◌, ℕ, zero, suc, ◌<◌, ◌≤◌, true, false, List, [], ◌∷◌, Option, Some, None, length, sym, refl, ap, ◌∙◌, subst, arith, inl, inr, ◌⊎◌}
+-- What is known of a board that detects deadlock, once a viewer has taken the seats of its tasks in.
+use Rattle.std.proofs.Common.{◌≡◌, ℕ, true, false, List, [], ◌∷◌, Option, Some, None, sym, refl, ap, ◌∙◌, subst, arith, inl, inr, ◌⊎◌}
 use Rattle.std.specs.Prelude.{All, Contains, IsSome, is_some, slice_get}
-use Rattle.std.proofs.lemmas.Bool.{cases_lt, false≢true}
-use Rattle.std.proofs.lemmas.List.{get_or_past}
+use Rattle.std.proofs.lemmas.Bool.{false≢true}
 use Rattle.std.proofs.lemmas.Option.{slice_get_within}
 use Rattle.armus_base.specs.Boards.{Does, Entry, Frees, HasNoLock, IsLawful, Takes, holder, steps_of}
-use Rattle.armus_base.specs.CheckedPlans.{IsCheckedPlan}
-use Rattle.armus_base.specs.Plans.{Forks, Plan, action_at, parent_of}
-use Rattle.armus_base.specs.Places.{IsConsistent, done_by, forked_at, published_after, state_at}
-use Rattle.armus_base.specs.Runs.{IsReachable, Place, first_place}
+use Rattle.armus_base.specs.Plans.{Plan, action_at}
+use Rattle.armus_base.specs.Places.{done_by, forked_at, published_after, state_at}
+use Rattle.armus_base.specs.Runs.{IsReachable, Place}
 use Rattle.armus_base.proofs.BoardRuns.{lawful_is_reachable}
-use Rattle.armus_base.proofs.Codes.{child_within}
-use Rattle.armus_base.proofs.Fixed.{forked_at_is}
-use Rattle.board.proofs.Closing.{some_task}
 use Rattle.armus_base.proofs.Members.{plain_undropped}
-use Rattle.armus_base.proofs.Published.{same_place}
-use Rattle.armus_base.proofs.Reachable.{reachable_is_fixed}
 use Rattle.pl_core.specs.declared.place.Place.{Place as KeptPlace}
-use Rattle.pl_core.specs.Worlds.{dropped_at, place_from, places_at}
+use Rattle.pl_core.specs.Worlds.{places_at}
 use Rattle.board.specs.declared.mode.Mode.TheVariants.{Detect}
 use Rattle.board.specs.Closing.{AreLastOf}
 use Rattle.board.specs.Seats.{Frame, IsOf, Known}
@@ -27,8 +19,7 @@ use Rattle.board.specs.Words.{IsShown}
 use Rattle.board.proofs.Seated.{event_here}
 use Rattle.phase_scan.specs.Looks.{LoadsAlone}
 use Rattle.board_rounds.specs.Turns.{EndsTurn, Working, is_behind, is_done, is_locked_out, is_refused, standing_of}
-use Rattle.board_rounds.specs.Crews.{ArePlacesOf, IsClosed, IsCrewOf, KnowsTasks, number}
-use Rattle.board_rounds.proofs.Closed.{all_exact}
+use Rattle.board_rounds.specs.Crews.{ArePlacesOf, IsCrew, IsSeatIn, KnowsTasks, number}
 use Rattle.task_runner.specs.DetectRuns.{AreSettledPlaces}
 use Rattle.task_runner.proofs.BoardPlaces.{at_places, stands, whose}
 
@@ -38,7 +29,7 @@ no_holder (Does e ∷ entries) free = no_holder entries free
 no_holder (Takes t ∷ entries) free = absurd free
 no_holder (Frees t ∷ entries) free = absurd free
 
-module _ (f : Frame) (detects : f.mode ≡ Detect) (tasks : List Working) (whole : IsCrewOf f tasks) (ends : All (λ (w : Working). EndsTurn w.seat) tasks)
+module _ (f : Frame) (detects : f.mode ≡ Detect) (tasks : List Working) (crew : IsCrew f (IsSeatIn tasks))
     (places : List KeptPlace) (are : ArePlacesOf f.plan tasks places) (before now : Known) (known : KnowsTasks f tasks before) (goes : LoadsAlone before now)
     (of : IsOf now f) (words : List ℕ) (end : AreLastOf f.plan Detect (seen now.view) words) where
   abbrev a : ℕ → Place
@@ -49,16 +40,16 @@ module _ (f : Frame) (detects : f.mode ≡ Detect) (tasks : List Working) (whole
 
   -- each task stands where its seat stood, and is not refused
   stood : (w : Working) → Contains tasks w → a (number w) ≡ own_place w.seat.view
-  stood = stands f Detect tasks whole before now known goes of words end
+  stood = stands f Detect tasks crew before now known goes of words end
 
   unrefused : (w : Working) → Contains tasks w → (own_place w.seat.view).dropped ≡ None
   unrefused w i = ap (λ (b : Place). b.dropped) (sym (stood w i)) ∙ undropped (number w)
 
   owner : (t : ℕ) → forked_at f.plan (done_by a) t ≡ true → (w : Working) × Contains tasks w × number w ≡ t
-  owner = whose f Detect tasks whole before now known goes of words end
+  owner = whose f Detect tasks crew before now known goes of words end
 
   pub there : places_at f.plan places ≡ a
-  there = at_places f Detect tasks whole before now known goes of words end places are (λ w i some. absurd (false≢true (subst IsSome (unrefused w i) some)))
+  there = at_places f Detect tasks crew before now known goes of words end places are (λ w i some. absurd (false≢true (subst IsSome (unrefused w i) some)))
 
   pub lawful : IsLawful false f.plan (places_at f.plan places) None
   lawful =
@@ -90,20 +81,21 @@ module _ (f : Frame) (detects : f.mode ≡ Detect) (tasks : List Working) (whole
       (w : Working) → Contains tasks w → EndsTurn w.seat → (action_at f.plan (number w) (own_place w.seat.view).done ≡ None)
       ⊎ IsSome (published_after f.plan (number w) (own_place w.seat.view).done)
   ended w i (is_done done) =
-      let s = whole.crew.each w.seat (w, i, refl) in
+      let s = crew.each w.seat (w, i, refl) in
       inl (ap (λ (q : Plan). action_at q (number w) (own_place w.seat.view).done) (sym s.of_board.plan) ∙ done.past)
   ended w i (is_refused left) = absurd (false≢true (subst IsSome (unrefused w i) left.refused))
   ended w i (is_locked_out u mode at other may) =
-      let s = whole.crew.each w.seat (w, i, refl) in
+      let s = crew.each w.seat (w, i, refl) in
       absurd (false≢true (sym (ap avoids (s.of_board.mode ∙ detects)) ∙ mode))
   ended w i (is_behind e published few behind) =
-      let s = whole.crew.each w.seat (w, i, refl) in
+      let s = crew.each w.seat (w, i, refl) in
       let is : published_after f.plan (number w) (own_place w.seat.view).done ≡ Some e =
       ap (λ (q : Plan). published_after q (number w) (own_place w.seat.view).done) (sym s.of_board.plan) ∙ sym (event_here w.seat s.task s.own) ∙ published in
       inr (subst (λ o. IsSome o) (sym is) refl)
 
-  pub settled : AreSettledPlaces f.plan (places_at f.plan places)
-  settled =
+  -- where all of them have come to the end of their turns
+  pub settled : All (λ (w : Working). EndsTurn w.seat) tasks → AreSettledPlaces f.plan (places_at f.plan places)
+  settled ends =
       subst (AreSettledPlaces f.plan) (sym there)
       (λ t forked.
       let r = owner t forked in

@@ -1,13 +1,13 @@
 -- Where the tasks of a board stand that has closed, once a viewer has taken their seats in.
 use mathlib.Core.Path.{fun_ext}
-use Rattle.std.proofs.Common.{◌≡◌, ◌≢◌, ℕ, zero, suc, ◌<◌, ◌≤◌, true, false, List, [], ◌∷◌, Option, Some, None, length, sym, refl, ap, ◌∙◌, subst, arith, inl, inr}
+use Rattle.std.proofs.Common.{◌≡◌, ◌≢◌, ℕ, zero, suc, ◌<◌, ◌≤◌, true, List, [], ◌∷◌, Option, Some, None, length, sym, refl, ap, ◌∙◌, subst, arith, inl, inr}
 use Rattle.std.specs.Prelude.{All, Contains, IsSome, is_some, slice_get}
 use Rattle.std.proofs.lemmas.Bool.{cases_lt, false≢true}
 use Rattle.std.proofs.lemmas.List.{get_or_past}
 use Rattle.armus_base.specs.Boards.{IsLawful}
 use Rattle.armus_base.specs.CheckedPlans.{IsCheckedPlan}
-use Rattle.armus_base.specs.Plans.{Blocks, Forks, Plan, action_at, parent_of}
-use Rattle.armus_base.specs.Places.{IsConsistent, done_by, forked_at, kept, phases_at_place, published_after, state_at}
+use Rattle.armus_base.specs.Plans.{Blocks, Forks, Plan, parent_of}
+use Rattle.armus_base.specs.Places.{IsConsistent, done_by, forked_at, kept, phases_at_place, published_after}
 use Rattle.armus_base.specs.Runs.{IsReachable, Place, first_place}
 use Rattle.armus_base.proofs.BoardRuns.{lawful_is_reachable}
 use Rattle.armus_base.proofs.Codes.{child_within}
@@ -26,10 +26,10 @@ use Rattle.board.proofs.Seated.{event_here, next_there}
 use Rattle.phase_scan.specs.Looks.{LoadsAlone}
 use Rattle.phase_scan.proofs.Loads.{goes_itself}
 use Rattle.board_rounds.specs.Turns.{EndsTurn, HasLeftAll, Working, is_behind, is_done, is_locked_out, is_refused, standing_of}
-use Rattle.board_rounds.specs.Crews.{ArePlacesOf, IsClosed, IsCrewOf, KnowsTasks, number}
+use Rattle.board_rounds.specs.Crews.{ArePlacesOf, IsClosed, IsCrew, IsCrewOf, IsSeatIn, KnowsTasks, number}
 use Rattle.board_rounds.proofs.Closed.{all_exact}
 
-module _ (f : Frame) (mode : Mode) (tasks : List Working) (whole : IsCrewOf f tasks) (before now : Known) (known : KnowsTasks f tasks before)
+module _ (f : Frame) (mode : Mode) (tasks : List Working) (crew : IsCrew f (IsSeatIn tasks)) (before now : Known) (known : KnowsTasks f tasks before)
     (goes : LoadsAlone before now) (of : IsOf now f) (words : List ℕ) (end : AreLastOf f.plan mode (seen now.view) words) where
   checked : IsCheckedPlan f.plan
   checked = subst IsCheckedPlan of.plan goes.kept.checked
@@ -92,7 +92,7 @@ module _ (f : Frame) (mode : Mode) (tasks : List Working) (whole : IsCrewOf f ta
   has_left w i (is_refused left) some = left
   has_left w i (is_locked_out u mode at other may) some = absurd (false≢true (subst IsSome (next_there w.seat.view (Blocks at.0) at.1).0 some))
   has_left w i (is_behind e published few behind) some =
-      let s = whole.crew.each w.seat (w, i, refl) in
+      let s = crew.each w.seat (w, i, refl) in
       let is : published_after f.plan (number w) (a (number w)).done ≡ Some e =
       ap (λ (b : Place). published_after f.plan (number w) b.done) (stands w i)
       ∙ ap (λ (q : Plan). published_after q (number w) (own_place w.seat.view).done) (sym s.of_board.plan) ∙ sym (event_here w.seat s.task s.own) ∙ published in
@@ -109,7 +109,7 @@ module _ (f : Frame) (mode : Mode) (tasks : List Working) (whole : IsCrewOf f ta
         let dropped : (a t).dropped ≡ Some d = ap (λ (b : Place). b.dropped) place ∙ is in
         let forked = (consistent.refused t d dropped).0 in
         let gone = left w i (subst (λ o. IsSome o) (sym is) refl) in
-        let plan : w.seat.view.plan ≡ f.plan = (whole.crew.each w.seat (w, i, refl)).of_board.plan in
+        let plan : w.seat.view.plan ≡ f.plan = (crew.each w.seat (w, i, refl)).of_board.plan in
         refused_has_dropped f.plan a t d checked reach dropped
         (λ p.
         ap (λ m. kept (a t).dropped m p) (phases_forked f.plan checked (done_by a) t forked)
@@ -166,6 +166,6 @@ pub lawful_end :
 lawful_end f mode tasks whole view seat known of words end ends places are =
     let still = goes_itself view seat in (
       end.last.lock,
-      lawful_there f mode tasks whole view view known still of words end places are
-          (λ w i. has_left f mode tasks whole view view known still of words end w i (subst (λ (v : Working). EndsTurn v.seat) i.2 (ends i.0 w i.1))),
+      lawful_there f mode tasks whole.crew view view known still of words end places are
+          (λ w i. has_left f mode tasks whole.crew view view known still of words end w i (subst (λ (v : Working). EndsTurn v.seat) i.2 (ends i.0 w i.1))),
     )

@@ -23,3 +23,8 @@ pub mod BoardEnds
 pub mod AvoidedRests
 pub mod TellingAll
 pub mod SitesWatched
+pub mod PooledTasks
+pub mod ForksInHand
+pub mod PoolWorkers
+pub mod PoolEnds
+pub mod PoolCrossing

@@ -5,3 +5,4 @@ pub mod DetectRounds
 pub mod Watching
 pub mod Rests
 pub mod SiteRounds
+pub mod Pooled

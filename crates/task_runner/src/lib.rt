@@ -4,6 +4,7 @@
 mod avoided;
 mod avoided_board;
 mod avoided_rest;
+mod board_name;
 mod detect;
 mod detect_rounds;
 mod ending;
@@ -13,13 +14,19 @@ mod laws;
 mod live_task;
 mod options;
 mod pace;
+mod pool;
+mod pool_end;
+mod pool_worker;
+mod pooled_task;
 mod ran;
 mod rest;
 mod site_rounds;
 mod site_runs;
+mod sweep;
 mod teller;
 mod turns;
 mod whole_ending;
+mod works_on_pool;
 mod world_round;
 
 pub use avoided::{run_avoid, run_avoid_kept};
@@ -28,11 +35,16 @@ pub use detect::run_detect;
 pub use journal::run_journal;
 pub use laws::serial_run_ends;
 pub use options::RunOptions;
+pub use pool::run_pool;
 pub use ran::{Ran, RunEnd};
 pub use site_runs::run_sites;
 
 #[cfg(test)]
 mod avoided_tests;
+#[cfg(test)]
+mod meeting;
+#[cfg(test)]
+mod pool_tests;
 #[cfg(test)]
 mod test_plans;
 #[cfg(test)]

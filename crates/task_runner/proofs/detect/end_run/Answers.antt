@@ -39,7 +39,7 @@ end_from-requires-clause-reachable g c κs within =
     let are = subst (λ (q : Plan). ArePlacesOf q tasks places) (sym c.requires.under_way.of_plan) c.in-Ok.ensures.places in
     subst (λ (xs : List KeptPlace). IsReachable c.args.plan.now (places_at c.args.plan.now xs)) (sym c.as_slice.ensures.items)
     (subst (λ (q : Plan). IsReachable q (places_at q places)) c.requires.under_way.of_plan
-    (reachable f c.requires.under_way.detects tasks c.requires.under_way.crew.all c.requires.ends.each places are before now c.take_in.ensures.known goes of
+    (reachable f c.requires.under_way.detects tasks c.requires.under_way.crew.all.crew places are before now c.take_in.ensures.known goes of
     words last))
 
 pub end_from-requires-clause-plain : goal.end_from-requires-clause-plain
@@ -55,7 +55,7 @@ end_from-requires-clause-plain g c κs within = λ t place is.
     let last = subst (λ (m : Mode). AreLastOf f.plan m (seen now.view) words) c.requires.under_way.detects c.close-words.ensures.words in
     let places : List KeptPlace = c.in-Ok.places in
     let are = subst (λ (q : Plan). ArePlacesOf q tasks places) (sym c.requires.under_way.of_plan) c.in-Ok.ensures.places in
-    plain f c.requires.under_way.detects tasks c.requires.under_way.crew.all c.requires.ends.each places are before now c.take_in.ensures.known goes of words
+    plain f c.requires.under_way.detects tasks c.requires.under_way.crew.all.crew places are before now c.take_in.ensures.known goes of words
     last t place (ap (λ (xs : List KeptPlace). slice_get xs t) (sym c.as_slice.ensures.items) ∙ is)
 
 pub returns-in_default-clause-told : goal.returns-in_default-clause-told
@@ -122,14 +122,14 @@ returns-clause-ran g c =
       end = c.in-Ok-end_from.ensures.end;
       one_each = c.in-Ok.ensures.places.one_each;
       lawful = subst (λ (q : Plan). IsLawful false q (places_at q places) None) c.requires.under_way.of_plan
-          (lawful f c.requires.under_way.detects tasks c.requires.under_way.crew.all c.requires.ends.each places are before now c.take_in.ensures.known goes of
+          (lawful f c.requires.under_way.detects tasks c.requires.under_way.crew.all.crew places are before now c.take_in.ensures.known goes of
           words last);
       settled = subst (λ (q : Plan). AreSettledPlaces q (places_at q places)) c.requires.under_way.of_plan
-          (settled f c.requires.under_way.detects tasks c.requires.under_way.crew.all c.requires.ends.each places are before now c.take_in.ensures.known goes of
-          words last);
+          (settled f c.requires.under_way.detects tasks c.requires.under_way.crew.all.crew places are before now c.take_in.ensures.known goes of
+          words last c.requires.ends.each);
       of_plan = c.close-words.ensures.board.0 ∙ c.requires.under_way.of_plan;
       words = subst (λ (q : Plan). IsShown q (state_at q (places_at q places)) None words) c.requires.under_way.of_plan
-          (shown f c.requires.under_way.detects tasks c.requires.under_way.crew.all c.requires.ends.each places are before now c.take_in.ensures.known goes of
+          (shown f c.requires.under_way.detects tasks c.requires.under_way.crew.all.crew places are before now c.take_in.ensures.known goes of
           words last);
     }
 

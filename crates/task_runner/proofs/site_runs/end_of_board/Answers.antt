@@ -27,7 +27,7 @@ whole_end_from-requires-clause-reachable g c κs within =
     let are = subst (λ (q : Plan). ArePlacesOf q tasks places) (sym c.requires.plan) c.in_ok-places.ensures.places in
     subst (λ (xs : List KeptPlace). IsReachable c.args.plan.now (places_at c.args.plan.now xs)) (sym c.as_slice.ensures.items)
     (subst (λ (q : Plan). IsReachable q (places_at q places)) c.requires.plan
-    (reachable f c.requires.detects tasks c.requires.tasks.all c.requires.ends.each places are view view c.take_in.ensures.known goes c.take_in.ensures.made words last))
+    (reachable f c.requires.detects tasks c.requires.tasks.all.crew places are view view c.take_in.ensures.known goes c.take_in.ensures.made words last))
 
 pub whole_end_from-requires-clause-plain : goal.whole_end_from-requires-clause-plain
 whole_end_from-requires-clause-plain g c κs within = λ t place is.
@@ -39,5 +39,5 @@ whole_end_from-requires-clause-plain g c κs within = λ t place is.
     let last = subst (λ (m : Mode). AreLastOf f.plan m (seen view.view) words) c.requires.detects c.close.ensures.words in
     let places : List KeptPlace = c.in_ok-places.places in
     let are = subst (λ (q : Plan). ArePlacesOf q tasks places) (sym c.requires.plan) c.in_ok-places.ensures.places in
-    plain f c.requires.detects tasks c.requires.tasks.all c.requires.ends.each places are view view c.take_in.ensures.known goes c.take_in.ensures.made words last
+    plain f c.requires.detects tasks c.requires.tasks.all.crew places are view view c.take_in.ensures.known goes c.take_in.ensures.made words last
     t place (ap (λ (xs : List KeptPlace). slice_get xs t) (sym c.as_slice.ensures.items) ∙ is)

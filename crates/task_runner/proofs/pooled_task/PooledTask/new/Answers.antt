@@ -1,0 +1,21 @@
+use Rattle.std.proofs.Common.{◌<◌, ◌∙◌, length, sym, refl, subst}
+use Rattle.board.specs.Seats.{Known}
+use Rattle.board.specs.Views.{task_of}
+use Rattle.board_rounds.specs.Crews.{IsCrewSeat}
+use Rattle.task_runner.proofs.PooledTasks.{small}
+use Rattle.task_runner.proofs.pooled_task.PooledTask.new.Goals as goal
+
+pub new-requires-clause-free : goal.new-requires-clause-free
+new-requires-clause-free g c = c.requires.seat.free
+
+pub new-requires-clause-plan : goal.new-requires-clause-plan
+new-requires-clause-plan g c = c.requires.seat.of_board.plan ∙ c.requires.plan
+
+pub invariant_of-result : goal.invariant_of-result
+invariant_of-result g c =
+    record { seat = subst (IsCrewSeat g.N.BoardName.board) (sym c.new.ensures.seat) c.requires.seat; no_child = c.new.ensures.no_child }
+
+pub returns-clause-within : goal.returns-clause-within
+returns-clause-within g c =
+    subst (λ (k : Known). task_of k.view < length g.N.BoardName.board.plan.parents) (sym c.new.ensures.seat)
+    (small g.N.BoardName.board g.N.BoardName.board.plan c.args.seat refl c.requires.seat)

@@ -1,0 +1,184 @@
+// The end of a run without rounds.
+ghost use Rattle.std.specs.Prelude.{◌≡◌, ◌⊎◌, ℕ, [], ◌∷◌, All, None, Some, true, length, map, slice_get, IfOk};
+ghost use Rattle.armus_base.specs.declared.op.Op.TheVariants.{Fork};
+ghost use Rattle.armus_base.specs.declared.ids.TaskId.{TaskId};
+ghost use Rattle.armus_base.specs.Plans.{actions_of, code_of};
+ghost use Rattle.board.specs.declared.mode.Mode.TheVariants.{Detect};
+ghost use Rattle.board.specs.Seats.{IsNewSeat, IsOf, nothing_seen};
+ghost use Rattle.board.specs.Steps.{IsSameSeat};
+ghost use Rattle.board_rounds.specs.Turns.{Working};
+ghost use Rattle.board_rounds.specs.Crews.{ArePlacesOf, IsCrewSeat, done_of, number};
+ghost use Rattle.board_rounds.specs.inside.Endings.{NotesPlaces, TakesAll};
+ghost use Rattle.task_runner.specs.PlainRuns.{IsPlainEnd};
+ghost use Rattle.task_runner.specs.inside.Pooled.{AreForksMarked, AreWhole, IsInHand};
+
+use crate::board_name::BoardName;
+use crate::ending::{end_from, end_of};
+use crate::pooled_task::PooledTask;
+use adaptive::Wanted;
+use armus_base::{Final, Gate, List, NoMemory, Op, Plan};
+use board::{Board, ViewSeat};
+use collector::Collector;
+use pl_core::{Place, World};
+use std::alloc::Global;
+
+/// Ends the run of these tasks: a viewer takes their seats in, a detector makes one pass, and the board is closed; the run goes on in one thread from the
+/// places at which the tasks stood, or from the opening where one that was forked is not among them.
+pub(crate) fn end_run<N: BoardName, G: Gate>(
+    alloc: Global,
+    board: Board,
+    mut view: ViewSeat,
+    plan: &Plan,
+    wanted: Wanted,
+    gate: &G,
+    tasks: Vec<PooledTask<'_, N>>,
+) -> Result<Final, NoMemory>
+    requires board { (board ≡ N.board) × (N.board.plan ≡ plan.now) × (N.board.mode ≡ Detect) }
+    requires viewer { IsNewSeat N.board None nothing_seen view }
+    ensures end { IfOk result (λ end. IsPlainEnd plan.now end) }
+{
+    let places = places_of(alloc, plan, tasks.as_slice())?;
+    let whole = are_whole(alloc, plan, tasks.as_slice())?;
+    take_in_all(&board, &mut view, tasks);
+    let mut collector = Collector::start(alloc, &board)?;
+    let _ = collector.pass(alloc, &mut view, &board, wanted)?;
+    let _ = board.close(view);
+    if whole {
+        return end_from(alloc, plan, places.as_slice(), gate);
+    }
+    end_of(alloc, World::start(alloc, plan)?, plan, gate)
+}
+
+// The place of each task of the plan.
+fn places_of<N: BoardName>(
+    alloc: Global,
+    plan: &Plan,
+    tasks: &[PooledTask<'_, N>],
+) -> Result<List<Place>, NoMemory>
+    requires plan { N.board.plan ≡ plan.now }
+    ensures places { IfOk result (ArePlacesOf plan.now tasks.now) }
+{
+    let opening = Place {
+        events: 0,
+        refused: false,
+    };
+    let mut places = vec![in alloc; opening; plan.tasks() as usize]?;
+    note_places(tasks, &mut places);
+    Ok(List::from_vec(places))
+}
+
+// Notes the place of each of these tasks under its number.
+fn note_places<N: BoardName>(tasks: &[PooledTask<'_, N>], places: &mut Vec<Place>)
+    requires { length places.old.items ≡ length N.board.plan.parents }
+    ensures { NotesPlaces tasks.now places.old.items places.new.items }
+{
+    for task in tasks {
+        places[task.number().0 as usize] = task.place();
+    }
+}
+
+// Whether task 0 is one of these tasks, and each task that one of them has forked.
+fn are_whole<N: BoardName>(
+    alloc: Global,
+    plan: &Plan,
+    tasks: &[PooledTask<'_, N>],
+) -> Result<bool, NoMemory>
+    requires plan { N.board.plan ≡ plan.now }
+    ensures whole { IfOk result (λ whole. whole ≡ true → AreWhole plan.now tasks.now) }
+{
+    let mut marks = vec![in alloc; false; plan.tasks() as usize]?;
+    mark(tasks, &mut marks);
+    if !is_marked(marks.as_slice(), 0) {
+        return Ok(false);
+    }
+    Ok(have_forked_marked(plan, tasks, marks.as_slice()))
+}
+
+// Marks the number of each of these tasks.
+fn mark<N: BoardName>(tasks: &[PooledTask<'_, N>], marks: &mut Vec<bool>)
+    requires { length marks.old.items ≡ length N.board.plan.parents }
+    ensures { (t : ℕ) → slice_get marks.new.items t ≡ Some true → IsInHand tasks.now t ⊎ (slice_get marks.old.items t ≡ Some true) }
+{
+    for task in tasks {
+        marks[task.number().0 as usize] = true;
+    }
+}
+
+// Whether a number is marked.
+fn is_marked(marks: &[bool], t: u32) -> bool
+    ensures { result ≡ true → slice_get marks.now t ≡ Some true }
+{
+    match marks.get(t as usize).copied() {
+        Some(marked) => marked,
+        None => false,
+    }
+}
+
+// Whether each task that one of these has forked is marked.
+fn have_forked_marked<N: BoardName>(
+    plan: &Plan,
+    tasks: &[PooledTask<'_, N>],
+    marks: &[bool],
+) -> bool
+    requires plan { N.board.plan ≡ plan.now }
+    ensures { result ≡ true → All (λ task. AreForksMarked (code_of plan.now (number task)) (done_of task) marks.now) tasks.now }
+{
+    for task in tasks {
+        let code = plan.code(task.number());
+        if !are_forks_marked(code, task.place().events, marks) {
+            return false;
+        }
+    }
+    true
+}
+
+// Whether each task that is forked among the first actions of this code, so many, is marked.
+fn are_forks_marked(code: &[Op], done: u32, marks: &[bool]) -> bool
+    ensures { result ≡ true → AreForksMarked code.now done marks.now }
+{
+    let mut left = done;
+    for op in code {
+        if left == 0 {
+            return true;
+        }
+        if !is_fork_marked(op, marks) {
+            return false;
+        }
+        left = left.saturating_sub(actions_in(op));
+    }
+    true
+}
+
+// Whether an op forks no task, or one that is marked.
+fn is_fork_marked(op: &Op, marks: &[bool]) -> bool
+    ensures { result ≡ true → (c : TaskId) → op.now ≡ Fork c → slice_get marks.now c.0 ≡ Some true }
+{
+    match *op {
+        Op::Fork { c } => is_marked(marks, c.0),
+        _ => true,
+    }
+}
+
+// How many actions an op is.
+fn actions_in(op: &Op) -> u32
+    ensures { result ≡ length (actions_of (op.now ∷ [])) }
+{
+    match *op {
+        Op::Await { p: _, off: _ } => 2,
+        _ => 1,
+    }
+}
+
+// Takes the seats of these tasks in, one after the other.
+fn take_in_all<N: BoardName>(board: &Board, view: &mut ViewSeat, tasks: Vec<PooledTask<'_, N>>)
+    requires board { board.now ≡ N.board }
+    requires made { IsOf view.old board.now }
+    ensures made { IsOf view.new board.now }
+    ensures same { IsSameSeat view.old.view view.new.view }
+    ensures taken { TakesAll (map (λ (task : Working). task.seat) tasks.entry.items) view.old view.new }
+    ensures crew { All (λ (task : Working). IsCrewSeat N.board task.seat) tasks.entry.items }
+{
+    for task in tasks {
+        view.take_in(board, task.into_seat());
+    }
+}

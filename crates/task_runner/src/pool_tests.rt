@@ -1,0 +1,44 @@
+// Runs without rounds, of two tasks that wait for each other, and of two tasks that a gate makes act side by side.
+use crate::meeting::Meeting;
+use crate::test_plans::{A, B, two_makers, two_tasks};
+use crate::{RunOptions, run_pool};
+use adaptive::Wanted;
+use armus_base::{Event, Still, TaskEnd};
+use std::test::Fail;
+
+#[test]
+fn both_wait_in_a_pool(rt: HostRuntime) -> Result<(), Fail> {
+    let alloc = rt.alloc();
+    let plan = two_tasks(alloc)?;
+    let dead = [
+        TaskEnd::Blocked(Event { p: A, n: 1 }),
+        TaskEnd::Blocked(Event { p: B, n: 1 }),
+    ];
+    for workers in [1, 3, 64] {
+        let options = RunOptions {
+            workers,
+            wanted: Wanted::Auto,
+            live: false,
+        };
+        let end = run_pool(&rt, alloc, &plan, &options, &Still)?;
+        assert!(rt; end.ends.as_slice() == dead.as_slice());
+        assert_eq!(rt; end.blocked.as_slice().len(), 2);
+    }
+    Ok(())
+}
+
+#[test]
+fn two_of_a_pool_act_side_by_side(rt: HostRuntime) -> Result<(), Fail> {
+    let alloc = rt.alloc();
+    let plan = two_makers(alloc)?;
+    let gate = Meeting::new();
+    let options = RunOptions {
+        workers: 2,
+        wanted: Wanted::Auto,
+        live: false,
+    };
+    let end = run_pool(&rt, alloc, &plan, &options, &gate)?;
+    assert!(rt; !gate.gave_up());
+    assert_eq!(rt; end.blocked.as_slice().len(), 0);
+    Ok(())
+}

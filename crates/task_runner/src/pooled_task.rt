@@ -1,0 +1,119 @@
+// A task of a run without rounds: what workers claim from a pool.
+ghost use Rattle.std.specs.Prelude.{◌≡◌, ◌<◌, All, IfOk, IfSome, length};
+ghost use Rattle.armus_base.specs.Runs.{first_place};
+ghost use Rattle.board.specs.Views.{own_place, task_of};
+ghost use Rattle.board_rounds.specs.Crews.{IsCrewSeat, number};
+ghost use Rattle.board_rounds.specs.Turns.{standing_of};
+ghost use Rattle.task_runner.specs.inside.Pooled.{IsForked};
+
+use crate::board_name::BoardName;
+use armus_base::{NoMemory, Plan, TaskId};
+use board::{Board, TaskSeat};
+use board_rounds::{Acted, Calls, Task, WorkerCells};
+use pl_core::Place;
+use slot_pool::Named;
+use std::alloc::Global;
+use std::marker::{Model, PhantomData};
+
+/// A task of a run on N's board, between two stretches of its turns: it has no child's seat.
+#[derive(Drop)]
+pub(crate) struct PooledTask<'p, N: BoardName> {
+    task: Task<'p>,
+    name: PhantomData<N>,
+}
+
+impl<'p, N: BoardName> Model for PooledTask<'p, N> {
+    ghost use Rattle.board_rounds.specs.Turns.{Working};
+
+    ghost Value = { Working };
+
+    ghost use Rattle.task_runner.specs.inside.Pooled.{IsPooled};
+
+    ghost view = { λ t. t.task };
+
+    ghost invariant = { λ t. IsPooled N.board t.task };
+}
+
+impl<'p, N: BoardName> Named for PooledTask<'p, N> {
+    ghost use Rattle.board.specs.Views.{task_of};
+
+    ghost number = { λ task. task_of task.seat.view };
+
+    fn id(&self) -> TaskId {
+        self.task.id()
+    }
+}
+
+impl<'p, N: BoardName> PooledTask<'p, N> {
+    /// The task of a seat that has made no step.
+    pub(crate) fn new(alloc: Global, seat: TaskSeat, plan: &'p Plan) -> PooledTask<'p, N>
+        requires plan { N.board.plan ≡ plan.now }
+        requires first { own_place seat.view ≡ first_place }
+        requires seat { IsCrewSeat N.board seat }
+        ensures seat { result.seat ≡ seat }
+        ensures within { number result < length N.board.plan.parents }
+    {
+        PooledTask {
+            task: Task::new(alloc, seat, plan),
+            name: PhantomData,
+        }
+    }
+
+    /// A stretch of its turn; answers what it was, and the task that it forked. After `NoMemory` it stands where its own steps brought it.
+    pub(crate) fn act<C: Calls>(
+        &mut self,
+        alloc: Global,
+        board: &Board,
+        plan: &'p Plan,
+        cells: &mut WorkerCells,
+        gate: &C,
+    ) -> Result<(Acted, Option<PooledTask<'p, N>>), NoMemory>
+        requires board { board.now ≡ N.board }
+        requires plan { N.board.plan ≡ plan.now }
+        ensures same { number self.new ≡ number self.old }
+        ensures child { IfOk result (λ r. IfSome r.1 (λ child. number child < length N.board.plan.parents)) }
+    {
+        let acted = self.task.act(alloc, board, cells, gate)?;
+        let seats = self.task.take_children(alloc).into_vec();
+        Ok((acted, last_of(alloc, seats, plan)))
+    }
+
+    /// Its number.
+    pub(crate) fn number(&self) -> TaskId
+        ensures number { result.0 ≡ number self.now }
+        ensures seat { IsCrewSeat N.board self.now.seat }
+    {
+        self.task.id()
+    }
+
+    /// Its place.
+    pub(crate) fn place(&self) -> Place
+        ensures { result ≡ standing_of self.now.seat }
+    {
+        self.task.place()
+    }
+
+    /// Its seat.
+    pub(crate) fn into_seat(self) -> TaskSeat
+        ensures seat { result ≡ self.entry.seat }
+        ensures crew { IsCrewSeat N.board result }
+    {
+        self.task.into_seat()
+    }
+}
+
+// The task of the last of these seats of tasks that were just forked.
+fn last_of<'p, N: BoardName>(
+    alloc: Global,
+    mut seats: Vec<TaskSeat>,
+    plan: &'p Plan,
+) -> Option<PooledTask<'p, N>>
+    requires plan { N.board.plan ≡ plan.now }
+    requires forked { All (IsForked N.board) seats.items }
+    ensures within { IfSome result (λ child. number child < length N.board.plan.parents) }
+{
+    match seats.pop() {
+        Some(seat) => Some(PooledTask::new(alloc, seat, plan)),
+        None => None,
+    }
+}
