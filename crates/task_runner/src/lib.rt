@@ -46,6 +46,8 @@ mod meeting;
 #[cfg(test)]
 mod pool_tests;
 #[cfg(test)]
+mod site_tests;
+#[cfg(test)]
 mod test_plans;
 #[cfg(test)]
 mod tests;
