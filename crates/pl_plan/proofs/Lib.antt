@@ -22,3 +22,8 @@ pub mod Planned
 pub mod FaultIsOfProgram
 pub mod ByTable
 pub mod Unfolds
+pub mod Folds
+pub mod VisitsLeave
+pub mod TasksLeave
+pub mod CodePieces
+pub mod WorkedPieces

@@ -78,7 +78,7 @@ module _ (two : Bool) where
   not_false true e = refl
   not_false false e = absurd (false≢true (sym e))
 
-  drawn_more :
+  pub drawn_more :
       (parents : List (Option TaskId)) (t : ℕ) → t < length parents → ((c u : ℕ) → is_parent u (slice_index_or parents c None) ≡ true → u < c) →
       (c u : ℕ) → is_parent u (slice_index_or (parents ++ Some (task t) ∷ []) c None) ≡ true → u < c
   drawn_more parents t here drawn c u is =

@@ -4,8 +4,11 @@ pub mod Unfolding
 pub mod Tests
 pub mod Stages
 pub mod Planning
+pub mod Folding
 -- What is proved of it.
 pub mod Laws
+pub mod FoldingLaws
+pub mod WorkedPieces
 pub mod WorkedPrograms
 -- How the program does it: flat steps, what the checker keeps, what it shows of the unfolding.
 pub mod inside

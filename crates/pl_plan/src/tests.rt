@@ -150,5 +150,8 @@ fn ops_of_each_task(rt: HostRuntime) -> Result<(), Fail> {
     fault_is_of_program();
     unfolding_by_visits();
     worked_programs();
+    left_pieces();
+    pieces_of_codes();
+    worked_pieces();
     Ok(())
 }

@@ -1,0 +1,105 @@
+-- The codes of a program's plan have pieces; each has one list of them, which is folded and unfolds to the code.
+use Rattle.std.proofs.Common.{◌≡◌, ℕ, ◌≤◌, Bool, Option, Some, None, Ok, List, [], ◌++◌, length, get_or, sym, ap, subst, ◌∙◌, arith, inl, inr}
+use Rattle.std.specs.Prelude.{sum_by}
+use Rattle.std.proofs.lemmas.Bool.{cases_lt}
+use Rattle.std.proofs.lemmas.List.{get_or_past}
+use Rattle.std.proofs.lemmas.List.Sums.{sum_by_more_le}
+use Rattle.armus_base.specs.declared.op.Op.{Op}
+use Rattle.armus_base.specs.declared.piece.Piece.{Piece}
+use Rattle.armus_base.specs.Limits.{max_tasks, max_ops}
+use Rattle.armus_base.specs.Pieces.{IsFolded, max_open_repeats, straight, unfolded}
+use Rattle.armus_base.specs.Plans.{Plan}
+use Rattle.pl_syntax.specs.declared.limits.TheConstants.{MAX_OPEN_BRACES}
+use Rattle.pl_syntax.specs.declared.tree.Program.{Program}
+use Rattle.pl_syntax.specs.Tree.{Tree, height}
+use Rattle.pl_plan.specs.Unfolding.{Start, UnfoldingState, opening_state, plan_of, unfold_tasks}
+use Rattle.pl_plan.specs.Folding.{HasBodyPieces, HasCodePieces, HasFewTurns, drops_of}
+use Rattle.pl_plan.specs.FoldingLaws.{CodesHavePieces, LeftPiecesUnfold, OneListOfPieces, PiecesUnfoldToCode}
+use Rattle.pl_plan.proofs.Folds.{Folding, UnfoldTo, code_pieces, leaves_computed, leaves_unfold, straight_unfolds, unfolds_append, unfolds_deeper}
+use Rattle.pl_plan.proofs.TasksLeave.{IsOfParts, OfStart, end_has, end_until, start_at}
+use Rattle.pl_plan.proofs.VisitsLeave.{bind_ok, code, ok_is}
+
+-- ---- each code has pieces
+
+abbrev Holds : Tree → Type 0
+Holds body = Unit {0}
+
+holds_of_parts : IsOfParts Holds
+holds_of_parts = record { of_plain = λ x rest h. tt; of_fork = λ x body rest h. (tt, tt); of_loop = λ k body rest h. (tt, tt) }
+
+pub code_has : (program : Program) (end : UnfoldingState) → unfold_tasks program.two max_tasks 0 (opening_state program.body) ≡ Ok end → (t : ℕ) →
+    (ps : List Piece) × HasCodePieces program.two (start_at end t) (code end t) ps
+code_has program end e t = end_has Holds holds_of_parts program.two end (end_until Holds holds_of_parts program.two program.body end tt e) t
+
+pub codes_have_pieces : CodesHavePieces
+unfolding plan_of
+codes_have_pieces program plan e t =
+    let b = bind_ok (unfold_tasks program.two max_tasks 0 (opening_state program.body)) (λ s. Ok s.plan) plan e in
+    let h = code_has program b.0 b.1 t in
+    (h.0, record { end = b.0; unfolds = b.1; pieces = h.1 })
+
+-- ---- and one list of them
+
+pub body_pieces_are : (two : Bool) (body : Tree) (ops : List Op) (ps : List Piece) → HasBodyPieces two body ops ps → ps ≡ code_pieces body ops
+body_pieces_are two body ops ps h =
+    h.pieces_are ∙ ap (λ (f : Folding). f.pieces ++ straight f.rest) (sym (leaves_computed h.leaves (drops_of h.left))) ∙ ap (code_pieces body) (sym h.code_is)
+
+one_list : (two : Bool) (start : Option Start) (ops : List Op) (ps qs : List Piece) → HasCodePieces two start ops ps → HasCodePieces two start ops qs → ps ≡ qs
+one_list two None ops ps qs a b = a.1 ∙ sym b.1
+one_list two (Some start) ops ps qs a b = body_pieces_are two start.body ops ps a ∙ sym (body_pieces_are two start.body ops qs b)
+
+pub one_list_of_pieces : OneListOfPieces
+one_list_of_pieces program t ps qs a b =
+    let same : a.end ≡ b.end = ok_is a.end b.end (sym a.unfolds ∙ b.unfolds) in
+    let there = subst (λ s. HasCodePieces program.two (start_at s t) (code s t) ps) same a.pieces in
+    one_list program.two (start_at b.end t) (code b.end t) ps qs there b.pieces
+
+-- ---- it is folded
+
+-- not too deep, and no loop of too many turns
+abbrev IsSmall : Tree → Type 0
+IsSmall body = (height body ≤ MAX_OPEN_BRACES) × HasFewTurns body
+
+small_of_parts : IsOfParts IsSmall
+small_of_parts = record {
+  of_plain = λ x rest h. h;
+  of_fork = λ x body rest h. ((omega (arith, h.0), h.1.0), (omega (arith, h.0), h.1.1));
+  of_loop = λ k body rest h. ((omega (arith, h.0), h.1.1), (omega (arith, h.0), h.1.2));
+}
+
+folded_by : (ops : List Op) (ps : List Piece) → UnfoldTo max_open_repeats ops ps → length ops ≤ max_ops → IsFolded ps × (unfolded ps ≡ ops)
+folded_by ops ps u few = (record { whole = u.whole; few = subst (λ os. length os ≤ max_ops) (sym u.same) few }, u.same)
+
+body_unfolds : (two : Bool) (body : Tree) (ops : List Op) (ps : List Piece) → IsSmall body → HasBodyPieces two body ops ps → UnfoldTo max_open_repeats ops ps
+body_unfolds two body ops ps small h =
+    let d = height body in
+    let u = unfolds_append d h.made (drops_of h.left) h.body_pieces (straight (drops_of h.left)) (leaves_unfold h.leaves small.1) (straight_unfolds d (drops_of h.left)) in
+    let w = unfolds_deeper d max_open_repeats (h.made ++ drops_of h.left) (h.body_pieces ++ straight (drops_of h.left)) (omega (arith, small.0)) u in
+    subst (λ os. UnfoldTo max_open_repeats os ps) (sym h.code_is) (subst (λ qs. UnfoldTo max_open_repeats (h.made ++ drops_of h.left) qs) (sym h.pieces_are) w)
+
+code_unfolds : (two : Bool) (start : Option Start) (ops : List Op) (ps : List Piece) → OfStart IsSmall small_of_parts start → HasCodePieces two start ops ps →
+    UnfoldTo max_open_repeats ops ps
+code_unfolds two None ops ps small h =
+    subst (λ os. UnfoldTo max_open_repeats os ps) (sym h.0) (subst (λ qs. UnfoldTo max_open_repeats [] qs) (sym h.1) (straight_unfolds max_open_repeats []))
+code_unfolds two (Some start) ops ps small h = body_unfolds two start.body ops ps small h
+
+code_fits : (codes : List (List Op)) (t : ℕ) → length (get_or codes t []) ≤ sum_by length codes
+code_fits codes t = elim (cases_lt t (length codes)) [
+  | inl l ↦ omega (arith, sum_by_more_le length codes t [] l)
+  | inr l ↦ omega (arith, ap length (get_or_past codes t [] l))
+]
+
+pub pieces_unfold_to_code : PiecesUnfoldToCode
+unfolding plan_of
+pieces_unfold_to_code program plan deep few e t ps has =
+    let b = bind_ok (unfold_tasks program.two max_tasks 0 (opening_state program.body)) (λ s. Ok s.plan) plan e in
+    let same : has.end ≡ b.0 = ok_is has.end b.0 (sym has.unfolds ∙ b.1) in
+    let plans : has.end.plan ≡ plan = ap (λ (s : UnfoldingState). s.plan) same ∙ ok_is b.0.plan plan b.2 in
+    let until = end_until IsSmall small_of_parts program.two program.body has.end (deep, few) has.unfolds in
+    let u = code_unfolds program.two (start_at has.end t) (code has.end t) ps (until.kept.bodies t) has.pieces in
+    let fits : length (code has.end t) ≤ max_ops = omega (arith, code_fits has.end.plan.codes t, until.kept.few_ops) in
+    let f = folded_by (code has.end t) ps u fits in
+    (f.0, f.1 ∙ ap (λ (p : Plan). get_or p.codes t []) plans)
+
+pub left_pieces_unfold : LeftPiecesUnfold
+left_pieces_unfold body ops ps few leaves = let u = leaves_unfold leaves few in (u.whole, u.same)

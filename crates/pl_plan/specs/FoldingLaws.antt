@@ -1,0 +1,30 @@
+-- Laws of the pieces of a code.
+use Rattle.std.specs.Prelude.{◌≡◌, ℕ, ◌≤◌, Ok, List, [], slice_index_or}
+use Rattle.armus_base.specs.declared.op.Op.{Op}
+use Rattle.armus_base.specs.declared.piece.Piece.{Piece}
+use Rattle.armus_base.specs.Pieces.{AreWhole, IsFolded, unfolded}
+use Rattle.armus_base.specs.Plans.{Plan}
+use Rattle.pl_syntax.specs.declared.limits.TheConstants.{MAX_OPEN_BRACES}
+use Rattle.pl_syntax.specs.declared.tree.Program.{Program}
+use Rattle.pl_syntax.specs.Tree.{Tree, height}
+use Rattle.pl_plan.specs.Unfolding.{plan_of}
+use Rattle.pl_plan.specs.Folding.{HasFewTurns, HasPieces, LeavesPieces}
+
+-- each code of a program's plan has pieces
+abbrev pub CodesHavePieces : Type 0
+CodesHavePieces = (program : Program) (plan : Plan) → plan_of program ≡ Ok plan → (t : ℕ) → (ps : List Piece) × HasPieces program t ps
+
+-- and it has one list of them
+abbrev pub OneListOfPieces : Type 0
+OneListOfPieces = (program : Program) (t : ℕ) (ps qs : List Piece) → HasPieces program t ps → HasPieces program t qs → ps ≡ qs
+
+-- they are folded, and unfold to the code, where the program is not too deep and has no loop of too many turns
+abbrev pub PiecesUnfoldToCode : Type 0
+PiecesUnfoldToCode =
+    (program : Program) (plan : Plan) → height program.body ≤ MAX_OPEN_BRACES → HasFewTurns program.body → plan_of program ≡ Ok plan →
+    (t : ℕ) (ps : List Piece) → HasPieces program t ps → IsFolded ps × (unfolded ps ≡ slice_index_or plan.codes t [])
+
+-- pieces that statements leave are whole loops, nested no deeper than the statements, and unfold to the ops that the statements made
+abbrev pub LeftPiecesUnfold : Type 0
+LeftPiecesUnfold =
+    (body : Tree) (ops : List Op) (ps : List Piece) → HasFewTurns body → LeavesPieces body ops ps → AreWhole (height body) ps × (unfolded ps ≡ ops)
