@@ -55,7 +55,7 @@ module _ (plan : Plan) (checked : IsCheckedPlan plan) (g : List Step) (run_g : I
       record {
         begun = λ x pos. elim (cases_order x w) [
           | inl e ↦ from_g x (omega arith) (consistent_g.begun x
-                (let d : (mixed c w b x).done ≡ b = ap (λ v. (mixed c w b v).done) e ∙ ap (λ v. v.done) (mixed_at c w b) in let same : done_by (places g) x ≡ done_by (places g) w = ap (done_by (places g)) e in omega arith))
+              (let d : (mixed c w b x).done ≡ b = ap (λ v. (mixed c w b v).done) e ∙ ap (λ v. v.done) (mixed_at c w b) in let same : done_by (places g) x ≡ done_by (places g) w = ap (done_by (places g)) e in omega arith))
           | inr (inl below) ↦ from_g x (omega arith) (consistent_g.begun x (let d = ap (λ v. v.done) (mixed_below c w b x below) in omega arith))
           | inr (inr above) ↦ from_c x (consistent.begun x (let d = ap (λ v. v.done) (mixed_above c w b x above) in omega arith))
         ];
@@ -204,9 +204,11 @@ module _ (plan : Plan) (checked : IsCheckedPlan plan) (g : List Step) (run_g : I
   deadlocked_there = record { some = deadlocked.some; each = impeded_there }
 
 pub collected_is_dead : CollectedIsDead
-collected_is_dead plan g list tasks at found checked run_g deadlocked found_there =
-    (there, deadlocked_there plan checked g run_g (IsListedOn list) (IsListedAt list) tasks (λ u. (at u).done) (λ u p. (found u p).done) deadlocked
-        found_there.waiting phases reaches)
+collected_is_dead plan g list tasks at found checked run_g deadlocked found_there = (
+  there,
+  deadlocked_there plan checked g run_g (IsListedOn list) (IsListedAt list) tasks (λ u. (at u).done) (λ u p. (found u p).done) deadlocked
+      found_there.waiting phases reaches,
+)
   where
     phases :
         (u p n : ℕ) → tasks u ≡ true → IsListedAt list u p n →
@@ -227,8 +229,8 @@ collected_is_dead plan g list tasks at found checked run_g deadlocked found_ther
     there : (u : ℕ) → tasks u ≡ true → places g u ≡ at u
     there u inside =
         let same = stands_there plan checked g run_g (IsListedOn list) (IsListedAt list) tasks (λ u. (at u).done) (λ u p. (found u p).done) deadlocked
-                found_there.waiting phases reaches u inside in
+        found_there.waiting phases reaches u inside in
         let held = deadlocked.each u inside in
         let undropped = published_undropped plan (places g) (places_fix plan checked g run_g).1 u held.event
-                (ap (published_after plan u) same ∙ found_there.waiting u held.event inside held.waits) in
+        (ap (published_after plan u) same ∙ found_there.waiting u held.event inside held.waits) in
         same_place (places g u) (at u) same undropped (undropped_before (at u) (places g u) (before u inside) undropped)

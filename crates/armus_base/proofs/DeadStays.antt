@@ -58,8 +58,8 @@ dead_stays plan h g t checked run_h run_g later dead = (
     there : places g t ≡ places h t
     there =
         let same = stands_there plan checked g run_g (IsPublishedOn s) (IsAtPhase s) dead.tasks (done_by (places h)) (λ u p. done_by (places h) u)
-                dead.deadlocked waiting phases reaches t dead.inside in
+        dead.deadlocked waiting phases reaches t dead.inside in
         let held = dead.deadlocked.each t dead.inside in
         let undropped_g = published_undropped plan (places g) (places_fix plan checked g run_g).1 t held.event
-                (ap (published_after plan t) same ∙ waiting t held.event dead.inside held.waits) in
+        (ap (published_after plan t) same ∙ waiting t held.event dead.inside held.waits) in
         same_place (places g t) (places h t) same undropped_g (undropped t dead.inside)

@@ -87,7 +87,7 @@ module _ (plan : Plan) (checked : IsCheckedPlan plan) where
                 | inl root ↦
                     at_a ∙ subst (λ v. registered_by plan (parent_of plan v) v (a (parent_of plan v)) ≡ registered_by plan (parent_of plan v) v (c (parent_of plan v))) (sym root)
                     (registered_none plan checked (parent_of plan 0) (a (parent_of plan 0)) ∙
-                        sym (registered_none plan checked (parent_of plan 0) (c (parent_of plan 0)))) ∙ sym at_c
+                    sym (registered_none plan checked (parent_of plan 0) (c (parent_of plan 0)))) ∙ sym at_c
                 | inr f ↦
                     at_a ∙ registered_steady plan checked u w f.0 (a u) f.2 (omega arith)
                     ∙ sym (registered_steady plan checked u w f.0 (c u) f.2 (omega arith)) ∙ sym at_c
@@ -108,9 +108,9 @@ module _ (plan : Plan) (checked : IsCheckedPlan plan) where
       elim (cases_eq (a w) 0) [
         | inr n ↦ elim (cases_lt (b w) (c w)) [
           | inl l ↦ inr (phases_begun plan checked a w n ∙ ap (phases_after plan w) (let e : a w ≡ b w = omega arith in e) ∙
-                sym (phases_begun plan checked b w (λ z. n (omega arith))))
+              sym (phases_begun plan checked b w (λ z. n (omega arith))))
           | inr l ↦ inl (phases_begun plan checked a w n ∙ ap (phases_after plan w) (let e : a w ≡ c w = omega arith in e) ∙
-                sym (phases_begun plan checked c w (λ z. n (omega arith))))
+              sym (phases_begun plan checked c w (λ z. n (omega arith))))
         ]
         | inl z ↦ elim (cases_eq (c w) 0) [
           | inl y ↦ earlier_idle a b c earlier begun_b w z y

@@ -102,8 +102,8 @@ module _ (plan : Plan) (checked : IsCheckedPlan plan) (h : List Step) (run : IsL
   reaches u e listed =
       elim (cases_eq u t) [
         | inl same ↦ subst (λ v. IsPrefix v (places (blocked ∷ h) u)) (sym (at_own u same))
-              (subst (λ v. IsPrefix (places (blocked ∷ h) t) (places (blocked ∷ h) v)) (sym same)
-              (precedes_itself (places (blocked ∷ h) t).done (places (blocked ∷ h) t).dropped))
+            (subst (λ v. IsPrefix (places (blocked ∷ h) t) (places (blocked ∷ h) v)) (sym same)
+            (precedes_itself (places (blocked ∷ h) t).done (places (blocked ∷ h) t).dropped))
         | inr other ↦
             subst (λ v. IsPrefix v (places (blocked ∷ h) u)) (sym (at_other u other))
             (subst (λ v. IsPrefix (enough.others.at u) v) (sym (other_step blocked h u other)) (enough.others.found_there.before u e other listed))
@@ -132,8 +132,8 @@ module _ (plan : Plan) (checked : IsCheckedPlan plan) (h : List Step) (run : IsL
   reaches_found u p n listed =
       elim (cases_eq u t) [
         | inl same ↦ subst (λ v. IsPrefix v (places (blocked ∷ h) u)) (sym (found_own u p same))
-              (subst (λ v. IsPrefix (places (blocked ∷ h) t) (places (blocked ∷ h) v)) (sym same)
-              (precedes_itself (places (blocked ∷ h) t).done (places (blocked ∷ h) t).dropped))
+            (subst (λ v. IsPrefix (places (blocked ∷ h) t) (places (blocked ∷ h) v)) (sym same)
+            (precedes_itself (places (blocked ∷ h) t).done (places (blocked ∷ h) t).dropped))
         | inr other ↦
             subst (λ v. IsPrefix v (places (blocked ∷ h) u)) (sym (found_other u p other))
             (subst (λ v. IsPrefix (enough.others.found u p) v) (sym (other_step blocked h u other)) (enough.others.found_there.phases_before u p n other listed))
@@ -219,8 +219,15 @@ module _ (plan : Plan) (checked : IsCheckedPlan plan) (h : List Step) (run : IsL
           each = λ u inside.
               let held = dead.deadlocked.each u inside in
               let listed = on_list u held.event held.waits in
-              record { event = held.event; waits = listed; by = held.by; inside = held.inside; phase = held.phase;
-                  impedes = at_list u held.event listed held.by held.inside held.phase held.impedes; below = held.below };
+              record {
+                event = held.event;
+                waits = listed;
+                by = held.by;
+                inside = held.inside;
+                phase = held.phase;
+                impedes = at_list u held.event listed held.by held.inside held.phase held.impedes;
+                below = held.below;
+              };
         };
       }
     where
@@ -239,7 +246,7 @@ module _ (plan : Plan) (checked : IsCheckedPlan plan) (h : List Step) (run : IsL
                 let held = dead.deadlocked.each w inside in
                 let published : (state_after h).published w ≡ Some held.event = sym (updated_other (state_after h).published t w (Some event) other) ∙ held.waits in
                 enough.others.all w u m e held.event other (enough.all_published w held.event published)
-                    (stands_there w held.by held.phase held.event other published held.impedes held.below) listed phase
+                (stands_there w held.by held.phase held.event other published held.impedes held.below) listed phase
           ]
 
   decides : Decides (state_after h) t event list

@@ -195,7 +195,7 @@ module _ (plan : Plan) (checked : IsCheckedPlan plan) (a : ℕ → Place) (consi
       (forked_same plan checked a consistent t now undropped a' own rest (Advances q) next (λ c. refl))
       (made_same plan checked a consistent t now undropped a' own rest (Advances q) next (λ p. refl))
       (phases_changed plan checked a consistent t now undropped a' own rest (Advances q) next q
-          (next_phase (kept (a t).dropped (phases_at plan (done_by a) t) q)) refl (λ u p e. absurd (cc)))
+      (next_phase (kept (a t).dropped (phases_at plan (done_by a) t) q)) refl (λ u p e. absurd (cc)))
       (published_unchanged plan checked a consistent t now undropped a' own rest (Advances q) next legal.0.unpublished refl)
       (refused_same plan checked a consistent t now undropped a' own rest (Advances q) next)
   regular_step (Drops q) next legal =
@@ -213,8 +213,8 @@ module _ (plan : Plan) (checked : IsCheckedPlan plan) (a : ℕ → Place) (consi
       (made_same plan checked a consistent t now undropped a' own rest (Blocks q) next (λ p. refl))
       (phases_unchanged plan checked a consistent t now undropped a' own rest (Blocks q) next refl (λ u p e. absurd (cc)))
       (published_changed plan checked a consistent t now undropped a' own rest (Blocks q) next
-          (awaited (Some (Blocks q)) (kept (a t).dropped (phases_at plan (done_by a) t)))
-          (ap (λ o. awaited (Some (Blocks q)) (kept o (phases_at plan (done_by a) t))) (sym undropped)))
+      (awaited (Some (Blocks q)) (kept (a t).dropped (phases_at plan (done_by a) t)))
+      (ap (λ o. awaited (Some (Blocks q)) (kept o (phases_at plan (done_by a) t))) (sym undropped)))
       (refused_same plan checked a consistent t now undropped a' own rest (Blocks q) next)
   regular_step (Passes q) next legal =
       let now = acting_forked plan (state_at plan a) t (Passes q) legal in

@@ -62,13 +62,43 @@ second_dead =
 
 first_run : IsLegalRun two_tasks first_turn
 unfolding parent_of maker_of actions action_at
-first_run = (((((((tt, record { legal = (record { forked = refl; unpublished = refl; unrefused = refl }, (record { 0 = 0 }, refl, refl), refl);
-    by_code = refl }), record { legal = (record { forked = refl; unpublished = refl; unrefused = refl }, (record { 0 = 0 }, refl, refl), refl);
-    by_code = refl }), record { legal = (record { forked = refl; unpublished = refl; unrefused = refl }, (record { 0 = 0 }, refl, refl), refl, (0, refl), refl);
-    by_code = refl }), record { legal = (record { forked = refl; unpublished = refl; unrefused = refl }, (record { 0 = 0 }, refl, refl), refl, (0, refl), refl);
-    by_code = refl }), record { legal = (record { forked = refl; unpublished = refl; unrefused = refl }, (record { 0 = 0 }, refl, refl), refl);
-    by_code = refl }), record { legal = (record { forked = refl; unpublished = refl; unrefused = refl }, (0, refl)); by_code = refl }),
-    record { legal = (record { forked = refl; unpublished = refl; unrefused = refl }, (1, refl)); by_code = refl })
+first_run = (
+  (
+    (
+      (
+        (
+          (
+            (
+              tt,
+              record {
+                legal = (record { forked = refl; unpublished = refl; unrefused = refl }, (record { 0 = 0 }, refl, refl), refl);
+                by_code = refl;
+              },
+            ),
+            record {
+              legal = (record { forked = refl; unpublished = refl; unrefused = refl }, (record { 0 = 0 }, refl, refl), refl);
+              by_code = refl;
+            },
+          ),
+          record {
+            legal = (record { forked = refl; unpublished = refl; unrefused = refl }, (record { 0 = 0 }, refl, refl), refl, (0, refl), refl);
+            by_code = refl;
+          },
+        ),
+        record {
+          legal = (record { forked = refl; unpublished = refl; unrefused = refl }, (record { 0 = 0 }, refl, refl), refl, (0, refl), refl);
+          by_code = refl;
+        },
+      ),
+      record {
+        legal = (record { forked = refl; unpublished = refl; unrefused = refl }, (record { 0 = 0 }, refl, refl), refl);
+        by_code = refl;
+      },
+    ),
+    record { legal = (record { forked = refl; unpublished = refl; unrefused = refl }, (0, refl)); by_code = refl },
+  ),
+  record { legal = (record { forked = refl; unpublished = refl; unrefused = refl }, (1, refl)); by_code = refl },
+)
 
 second_run : IsLegalRun two_tasks second_turn
 unfolding parent_of maker_of actions action_at

@@ -32,7 +32,7 @@ pub use laws::{
     only_blocks_kill, phases_fit, places_fix_state, plan_grows, reachable_places, reached_stays,
     scanned_stays, seen_is_before, seen_keeps_far, serial_is_avoided, statuses_are_of_state,
     unfolded_append, unfolded_straight, whole_append, whole_by_places, worked_avoided_run,
-    worked_decisions, worked_loads, worked_pieces, worked_texts,
+    worked_decisions, worked_loads, worked_offsets, worked_pieces, worked_texts,
 };
 pub use list::List;
 pub use memory::{MemSink, MemSource, SafeSource};

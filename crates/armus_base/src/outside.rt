@@ -25,7 +25,8 @@ pub trait Source {
     /// How often it has failed, up to 2^64 - 1.
     ghost faults: { Self → ℕ };
 
-    /// Reads some bytes into the front of the buffer, and answers how many: for a buffer that is not empty 0 says that the input has ended. Failed comes exactly where the count of faults rises, by one, and then the bytes left are as before.
+    /// Reads some bytes into the front of the buffer, and answers how many: for a buffer that is not empty 0 says that the input has ended. Failed
+    /// comes exactly where the count of faults rises, by one, and then the bytes left are as before.
     fn read(&mut self, buf: &mut [u8]) -> Result<usize, Failed>
         ensures bound { ReadsAtMost result buf.new }
         ensures bytes { ReadConsumes (left self.old) (left self.new) result buf.new }
@@ -40,7 +41,8 @@ pub trait Sink: Send {
     /// How often it has failed, up to 2^64 - 1.
     ghost faults: { Self → ℕ };
 
-    /// Takes some first bytes of the piece, and answers how many: at least 1 where the piece is not empty. Failed comes exactly where the count of faults rises, by one, and then nothing is taken.
+    /// Takes some first bytes of the piece, and answers how many: at least 1 where the piece is not empty. Failed comes exactly where the count of
+    /// faults rises, by one, and then nothing is taken.
     fn write(&mut self, piece: &[u8]) -> Result<usize, Failed>
         ensures bound { TakesSome result piece.now }
         ensures bytes { WriteAppends (taken self.old) (taken self.new) result piece.now }

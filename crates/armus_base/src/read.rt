@@ -7,7 +7,8 @@ use std::alloc::Global;
 // How many bytes one read asks for at most.
 const PIECE: usize = 4096;
 
-/// All bytes of the source, at most `limit`. Fault comes only where the source's count of faults rose in this call, and TooLong exactly where the source gave more than `limit` bytes; the rest is then unread. After each refusal some first bytes of the source were read.
+/// All bytes of the source, at most `limit`. Fault comes only where the source's count of faults rose in this call, and TooLong exactly where the
+/// source gave more than `limit` bytes; the rest is then unread. After each refusal some first bytes of the source were read.
 pub fn read_all<S: Source>(alloc: Global, src: &mut S, limit: usize) -> Result<List<u8>, ReadEnd>
     ensures bytes { ReadsAll (S.left src.old) (S.left src.new) limit result }
     ensures told { TellsFault (S.faults src.old) (S.faults src.new) result }

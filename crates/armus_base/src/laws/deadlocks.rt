@@ -12,7 +12,8 @@ pub fn dead_stays()
     ensures places { DeadStaysAtReachable }
 {}
 
-/// A collected deadlock stands: a set that is deadlocked in statuses found at different moments is deadlocked in each later state, and its tasks stand where they were found waiting.
+/// A collected deadlock stands: a set that is deadlocked in statuses found at different moments is deadlocked in each later state, and its tasks stand
+/// where they were found waiting.
 pub fn collected_is_dead()
     ensures runs { CollectedIsDead }
     ensures places { CollectedIsDeadAtReachable }

@@ -1,7 +1,8 @@
 // Laws of places.
 ghost use Rattle.armus_base.specs.PlaceLaws.{AvoidedStepIsLawful, FreeingIsLawful, HolderIsTask, LawfulIsReachable, LawfulPlacesAreOf, OpeningIsLawful, PlainStepIsLawful, ReachableIsFixed, ReachableSteps, ReachedStaysAtReachable, RefusedHasDropped, TakersFree, TakingIsLawful};
 
-/// Reachable places fix the state, a legal next step leads to reachable places and to the state after it, what is reached stays reached, and a refused task that is a member of nothing has made all its drops.
+/// Reachable places fix the state, a legal next step leads to reachable places and to the state after it, what is reached stays reached, and a refused
+/// task that is a member of nothing has made all its drops.
 pub fn reachable_places()
     ensures fixed { ReachableIsFixed }
     ensures steps { ReachableSteps }
@@ -9,7 +10,8 @@ pub fn reachable_places()
     ensures dropped { RefusedHasDropped }
 {}
 
-/// The lawful places of both boards are reachable, and places of their tasks; they begin with the opening ones, and each step, taking and freeing that the board allows keeps them lawful.
+/// The lawful places of both boards are reachable, and places of their tasks; they begin with the opening ones, and each step, taking and freeing that
+/// the board allows keeps them lawful.
 pub fn lawful_places()
     ensures reachable { LawfulIsReachable }
     ensures places { LawfulPlacesAreOf }
