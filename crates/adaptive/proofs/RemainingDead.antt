@@ -32,7 +32,7 @@ pub first_within : (ss : List Status) (standings : List Standing) (n : ℕ) → 
 first_within ss standings n are sized k x l =
     let y = get_or standings k x in
     let stands = (are.exact y.status y.at.p.0 y.at.n).0
-            (k, l, get_or_default standings k (record { at = record { p = record { 0 = y.at.p.0 }; n = y.at.n }; status = y.status }) x l) in
+    (k, l, get_or_default standings k (record { at = record { p = record { 0 = y.at.p.0 }; n = y.at.n }; status = y.status }) x l) in
     (let below = stands.0 in omega (arith, sized))
 
 module _ (ss : List Status) (order : IsInOrder ss) (remains : List Bool) (are : IsRemaining ss remains) (all : AllImpeded ss remains)

@@ -57,9 +57,11 @@ module _ (ss : List Status) (order : IsInOrder ss) (remains : List Bool) (are : 
       let event = ap (λ v. v.event) status ∙ own.3 in
       let by = link.impedes in
       let there = by.1 in
-      let stands : StandsAt ss there.0 link.event.p.0 link.phase =
-      (there.1, λ v. subst (λ w. Contains w.phases (record { p = record { 0 = link.event.p.0 }; n = link.phase }))
-          (sym (get_or_default ss there.0 v by.0 there.1 ∙ there.2)) by.3) in
+      let stands : StandsAt ss there.0 link.event.p.0 link.phase = (
+        there.1,
+        λ v. subst (λ w. Contains w.phases (record { p = record { 0 = link.event.p.0 }; n = link.phase }))
+            (sym (get_or_default ss there.0 v by.0 there.1 ∙ there.2)) by.3,
+      ) in
       let gone = unimpeded s there.0 link.phase (subst (λ e. StandsAt ss there.0 e.p.0 link.phase) (sym event) stands) (subst (λ e. link.phase < e.n) (sym event) link.below) in
       let number : (get_or ss there.0 by.0).t.0 ≡ link.by = ap (λ v. v.t.0) there.2 ∙ by.2 in
       are.gone there.0 by.0 there.1 gone

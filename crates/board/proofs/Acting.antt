@@ -70,7 +70,7 @@ pub comes_next :
     ((l.places t).dropped ≡ None) × (action_at plan t (l.places t).done ≡ Some x)
 comes_next plan mode s l id v t x si e =
     let there : action_after v.plan (task_of v) (l.places t).done (l.places t).dropped ≡ Some x = subst
-            (λ (p : Place). action_after v.plan (task_of v) p.done p.dropped ≡ Some x) si.place e in
+    (λ (p : Place). action_after v.plan (task_of v) p.done p.dropped ≡ Some x) si.place e in
     action_there plan t (l.places t).done (l.places t).dropped x
     (subst (λ (q : Plan). action_after q t (l.places t).done (l.places t).dropped ≡ Some x) si.fits.plan_is
     (subst (λ u. action_after v.plan u (l.places t).done (l.places t).dropped ≡ Some x) si.task there))

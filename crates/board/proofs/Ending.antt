@@ -250,9 +250,9 @@ module _ (plan : Plan) (mode : Mode) (s : T) (l : IsKeptBy plan mode s) (id othe
               (l.places u) (long u) (mine.far.later u small) (theirs.far.later u small);
           equal = λ u small is. elim (which u is) [
             | inl in_view ↦ longer_left (place_in v.sight.places u) (place_in w.sight.places u) (place_in (longer_places v.sight.places w.sight.places) u)
-                  (l.places u) (long u) (theirs.far.later u small) (mine.far.equal u small in_view)
+                (l.places u) (long u) (theirs.far.later u small) (mine.far.equal u small in_view)
             | inr in_seat ↦ longer_right (place_in v.sight.places u) (place_in w.sight.places u) (place_in (longer_places v.sight.places w.sight.places) u)
-                  (l.places u) (long u) (mine.far.later u small) (theirs.far.equal u small in_seat)
+                (l.places u) (long u) (mine.far.later u small) (theirs.far.equal u small in_seat)
           ];
           scanned = λ u e. absurd (none_some v.own u alone e);
         };
@@ -284,7 +284,7 @@ takes_in plan mode id v other w t alone live own live_too s l found apart there 
     let steppers' = updated l.steppers t no_more in
     let fits = with_fits plan mode s l id other v w t alone mine si.fits own in
     let joined : with_seat v w ≡ both v w = ap (λ b. if b then with_seat v w else record v
-            { sight = record { places = []; exact = []; scanned = 0; found = [] } }) (sym (joins plan mode s l id other v w t alone mine si.fits own)) in
+    { sight = record { places = []; exact = []; scanned = 0; found = [] } }) (sym (joins plan mode s l id other v w t alone mine si.fits own)) in
     record {
       places = l.places;
       lock = l.lock;
@@ -293,16 +293,19 @@ takes_in plan mode id v other w t alone live own live_too s l found apart there 
       lawful = l.lawful;
       shown = l.shown;
       seated =
-          let goes : GoesOnAs v (with_seat v w) = record
-                  { own = refl; spent = refl; exact = λ u is. among_last v.sight.exact w.sight.exact (task_of w) u ∙
-                  ap (λ b. (b || is_among w.sight.exact u) || (u == task_of w)) is } in
+          let goes : GoesOnAs v (with_seat v w) = record {
+            own = refl;
+            spent = refl;
+            exact = λ u is. among_last v.sight.exact w.sight.exact (task_of w) u ∙
+                ap (λ b. (b || is_among w.sight.exact u) || (u == task_of w)) is;
+          } in
           seated_ends plan l.places l.steppers s.views id other t v w (both v w) spent_view found there_too apart live (subst (GoesOnAs v) joined goes) si.forked own
           (λ u is. subst (λ (x : View). is_among x.sight.exact u ≡ true) joined
-              (among_last v.sight.exact w.sight.exact (task_of w) u ∙
-              ap (λ b. b || (u == task_of w)) (or_right (is_among v.sight.exact u) (is_among w.sight.exact u) is)))
+          (among_last v.sight.exact w.sight.exact (task_of w) u ∙
+          ap (λ b. b || (u == task_of w)) (or_right (is_among v.sight.exact u) (is_among w.sight.exact u) is)))
           (subst (λ (x : View). is_among x.sight.exact t ≡ true) joined
-              (among_last v.sight.exact w.sight.exact (task_of w) t ∙
-              or_right (is_among v.sight.exact t || is_among w.sight.exact t) (t == task_of w) (eq-eqb t (task_of w) (sym si.task))))
+          (among_last v.sight.exact w.sight.exact (task_of w) t ∙
+          or_right (is_among v.sight.exact t || is_among w.sight.exact t) (t == task_of w) (eq-eqb t (task_of w) (sym si.task))))
           l.seated;
       views = λ j u e unspent. elim (at_set (set s.views id (both v w)) other j spent_view u e) [
         | inl x ↦ absurd (false≢true (sym unspent ∙ sym (ap (λ (z : View). z.spent) x.1)))

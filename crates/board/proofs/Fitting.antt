@@ -185,7 +185,7 @@ module _ (plan : Plan) (mode : Mode) (a : ℕ → Place) (lock : Option ℕ) (t 
           later = λ u w. elim (cases_eq u t) [
             | inl e ↦ subst (λ (p : Place). IsPrefix p (moved a t x u)) (sym (now_here u e)) (precedes_itself (moved a t x u).done (moved a t x u).dropped)
             | inr n ↦ subst (λ (p : Place). IsPrefix p (moved a t x u)) (sym (now_there u n))
-                  (prefix_trans ((seen v).places u) (a u) (moved a t x u) (f.far.later u w) (moved_later a t x u))
+                (prefix_trans ((seen v).places u) (a u) (moved a t x u) (f.far.later u w) (moved_later a t x u))
           ];
           equal = λ u w is. elim (cases_eq u t) [
             | inl e ↦ sym (now_here u e)
@@ -194,7 +194,7 @@ module _ (plan : Plan) (mode : Mode) (a : ℕ → Place) (lock : Option ℕ) (t 
           scanned = λ u own. let same : u ≡ t = some_same u t (sym own ∙ mine) in
               subst (λ w. IsScanned (state_at plan (moved a t x)) (scanned_next x v.sight.scanned) (published_after plan w ((seen (after_action x v)).places w).done)) (sym same)
               (subst (λ (p : Place). IsScanned (state_at plan (moved a t x)) (scanned_next x v.sight.scanned) (published_after plan t p.done))
-                  (sym (now_here t refl)) (scanned_own x refl));
+              (sym (now_here t refl)) (scanned_own x refl));
         };
         own = λ u own. let o = f.own u own in record { within = o.within; exact = o.exact; alone = o.alone };
         exact = f.exact;

@@ -152,8 +152,10 @@ forks plan mode id v t c own live free next s l found =
     let consistent = (reachable_is_fixed plan l.places l.checked (lawful_is_reachable (avoids mode) plan l.places l.lock l.lawful)).1 in
     let idle : a' c ≡ first_place =
     moved_other l.places t (Forks c) c (λ e. omega arith)
-    ∙ (λ i. record { done = unforked_idle plan l.checked l.places consistent c is_step.legal.2 i;
-        dropped = unforked_undropped plan l.checked l.places consistent c is_step.legal.2 i }) in
+    ∙ (λ i. record {
+      done = unforked_idle plan l.checked l.places consistent c is_step.legal.2 i;
+      dropped = unforked_undropped plan l.checked l.places consistent c is_step.legal.2 i;
+    }) in
     let baby : SeatFits plan mode a' l.lock steppers' k (child v) = record {
       plan_is = si.fits.plan_is;
       mode_is = si.fits.mode_is;
@@ -188,10 +190,10 @@ forks plan mode id v t c own live free next s l found =
           let parents : List View = set s.views id (next_view v) in
           seated_born plan l.places a' l.steppers s.views (parents ++ child v ∷ []) c k (child v)
           (both_go_on s.views parents (parents ++ child v ∷ [])
-              (one_goes_on s.views id v (next_view v) found (record { own = refl; spent = refl; exact = λ u is. is })) (one_comes parents (child v)))
+          (one_goes_on s.views id v (next_view v) found (record { own = refl; spent = refl; exact = λ u is. is })) (one_comes parents (child v)))
           (record { found = at_last parents (child v) k (length-set s.views id (next_view v)); live = live }) (ap Some is_c)
           (λ u e. sym (ap (λ z. z.forked u) after_is) ∙ updated_same st.forked c u true e)
-              (λ u n. sym (ap (λ z. z.forked u) after_is) ∙ updated_other st.forked c u true n) l.seated;
+          (λ u n. sym (ap (λ z. z.forked u) after_is) ∙ updated_other st.forked c u true n) l.seated;
       views = λ j u e unspent. elim (at_end (set s.views id (next_view v)) (child v) u j e) [
         | inl old ↦ elim (at_set s.views id j (next_view v) u old) [
           | inl x ↦
@@ -223,8 +225,10 @@ unforked plan mode slots id me t own live free s l _ found _ =
         (λ _. (avoids_else st t (Forks c) no_block no_refusal, may_do l.lock t (Forks c) (not_held plan mode s l id me.0 t si own free) no_block no_refusal)) in
         let consistent = (reachable_is_fixed plan l.places l.checked (lawful_is_reachable (avoids mode) plan l.places l.lock l.lawful)).1 in
         let idle : l.places c ≡ first_place =
-        λ i. record { done = unforked_idle plan l.checked l.places consistent c is_step.legal.2 i;
-            dropped = unforked_undropped plan l.checked l.places consistent c is_step.legal.2 i } in
+        λ i. record {
+          done = unforked_idle plan l.checked l.places consistent c is_step.legal.2 i;
+          dropped = unforked_undropped plan l.checked l.places consistent c is_step.legal.2 i;
+        } in
         first_before (place_in me.0.sight.places c) (l.places c) (si.fits.far.later c (child_within plan t c is_step.legal.1)) idle
 
 -- a view that is split off and that owns no task
@@ -243,7 +247,7 @@ splits_off plan mode id v w live fits s l found =
       seated =
           seated_stays plan l.places l.places l.steppers s.views (set s.views id v ++ w ∷ [])
           (both_go_on s.views (set s.views id v) (set s.views id v ++ w ∷ []) (one_goes_on s.views id v v found (as_before v)) (one_comes (set s.views id v) w))
-              (λ u. refl) l.seated;
+          (λ u. refl) l.seated;
       views = λ j u e unspent. elim (at_end (set s.views id v) w u j e) [
         | inl old ↦ elim (at_set s.views id j v u old) [
           | inl x ↦ subst (λ (z : ℕ × View). SeatFits plan mode l.places l.lock l.steppers z.0 z.1) (λ i. (sym x.0 i, x.1 i)) (l.views id v found live)

@@ -108,7 +108,7 @@ pub looked_told :
     (answer : Option ℕ) × n ≡ phase_number answer × n < 2 ^ 32 × LoadsPhase me.0.plan me.0.mode t p answer me.0 me'.0
 looked_told slots index me me' n t p f table told of small few is =
     told.1 t p (subst (λ (q : Plan). t < length q.parents) (sym of.plan) small) (subst (λ (q : Plan). p < length q.makers) (sym of.plan) few)
-        (is ∙ ap (λ (q : Plan). phase_index q t p) (sym of.plan))
+    (is ∙ ap (λ (q : Plan). phase_index q t p) (sym of.plan))
 
 -- the answer of a load
 pub answers_await :

@@ -74,7 +74,7 @@ module _ (plan : Plan) (mode : Mode) (s : T) (l : IsKeptBy plan mode s) (j : ℕ
         far = record {
           later = λ u w. elim (cases_eq u t) [
             | inl e ↦ subst (λ x. IsPrefix ((seen (after_load t c k found v)).places x) (l.places x)) (sym e)
-                  (subst (λ (p : Place). IsPrefix p (l.places t)) (sym (loaded_here t c k found v within)) near)
+                (subst (λ (p : Place). IsPrefix p (l.places t)) (sym (loaded_here t c k found v within)) near)
             | inr n ↦ subst (λ (p : Place). IsPrefix p (l.places u)) (sym (loaded_there t c k found v within u n)) (f.far.later u w)
           ];
           equal = λ u w is. exact_now u w is;
@@ -94,7 +94,7 @@ module _ (plan : Plan) (mode : Mode) (s : T) (l : IsKeptBy plan mode s) (j : ℕ
       exact_now : (u : ℕ) → u < length plan.parents → is_among v.sight.exact u ≡ true → l.places u ≡ (seen (after_load t c k found v)).places u
       exact_now u w is = elim (cases_eq u t) [
         | inl e ↦ ap l.places e ∙ sym (same (subst (λ x. is_among v.sight.exact x ≡ true) e is)) ∙ sym (loaded_here t c k found v within) ∙
-              ap (seen (after_load t c k found v)).places (sym e)
+            ap (seen (after_load t c k found v)).places (sym e)
         | inr n ↦ f.far.equal u w is ∙ sym (loaded_there t c k found v within u n)
       ]
 
@@ -238,7 +238,7 @@ watches plan mode slots id me t live same small s l _ at _ =
     let inside : t < length v.sight.places = (let e = f.count in omega arith) in
     let fits = load_fits plan mode s l id v f t small r.0 v.sight.scanned finds is.0 (λ e. is.1 (sym (f.far.equal t small e)))
     (λ u own. let o = f.own u own in subst (λ (p : Place). IsScanned st v.sight.scanned (published_after plan u p.done)) (sym (f.far.equal u o.within o.exact))
-        (f.far.scanned u own))
+    (f.far.scanned u own))
     (λ x own has u n. agrees_next st v.holds t v.sight.found u (((f.holding x own).holds has).agrees u n)) in (
       w,
       keeps,
@@ -410,7 +410,7 @@ looks plan mode slots id me t p live same small few s l _ at _ =
             let one : phase_index plan t p ≡ phase_index plan u q = at_word ∙ ap (λ (c : Plan). phase_index c u q) same in
             let eq = phases_apart plan t p u q few b' one in
             subst (λ (z : ℕ × ℕ). (g : Option ℕ) × get_or s.words (phase_index plan t p) 0 ≡ phase_number g × get_or s.words (phase_index plan t p) 0 < 2 ^ 32 ×
-                LoadsPhase v.plan v.mode z.0 z.1 g v w) (λ i. (eq.0 i, eq.1 i)) (
+            LoadsPhase v.plan v.mode z.0 z.1 g v w) (λ i. (eq.0 i, eq.1 i)) (
               answer,
               l.shown.phases t p small few,
               subst (λ n. n < 2 ^ 32) (sym (l.shown.phases t p small few)) (number_small answer (phases_small plan l.checked l.places t p)),

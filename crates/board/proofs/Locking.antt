@@ -210,11 +210,11 @@ module _ (plan : Plan) (mode : Mode) (slots id : ℕ) (me : Me (Unit {0}) View) 
       let inside : h < length v.sight.places = (let e = f.count in omega arith) in
       let loaded = load_fits plan mode s l id v f h small r.0 v.sight.scanned v.sight.found is.0 (λ e. is.1 (sym (f.far.equal h small e)))
       (λ u owned. let o = f.own u owned in subst (λ (p : Place). IsScanned (state_at plan l.places) v.sight.scanned (published_after plan u p.done))
-          (sym (f.far.equal u o.within o.exact)) (f.far.scanned u owned))
+      (sym (f.far.equal u o.within o.exact)) (f.far.scanned u owned))
       (λ x owned has. absurd (false≢true (sym free ∙ has))) in
       let w : View = record (after_load h r.0 v.sight.scanned v.sight.found v) { loads = v.loads } in
       let fits : SeatFits plan mode l.places l.lock l.steppers id w = loads_fit plan mode l.places l.lock l.steppers id v.loads
-              (after_load h r.0 v.sight.scanned v.sight.found v) loaded in
+      (after_load h r.0 v.sight.scanned v.sight.found v) loaded in
       let here = loaded_here h r.0 v.sight.scanned v.sight.found v inside in (
         w,
         fits,
@@ -254,14 +254,14 @@ module _ (plan : Plan) (mode : Mode) (slots id : ℕ) (me : Me (Unit {0}) View) 
         unrefused = ap (refused_at plan t (l.places t).done) there.0;
       } in
       taking_is_lawful plan l.places t l.checked (subst (λ o. IsLawful true plan l.places o) nobody
-          (subst (λ b. IsLawful b plan l.places l.lock) avoiding l.lawful)) active (aim, there.1)
+      (subst (λ b. IsLawful b plan l.places l.lock) avoiding l.lawful)) active (aim, there.1)
 
   pub tries : (aim : Aim) → next_action v ≡ Some (Blocks aim) → Allows (IsKeptBy plan mode) slots id me 0 (λ n. either (eqb n 0) (t + 1) n) (Tried (step slots 0 0 (t + 1) none) me)
   tries aim next s l _ found _ =
       let n : ℕ = get_or s.words 0 0 in
       let si = sits plan mode s l id v t own live found in
       exchanged n 0 (t + 1) (λ m. (w : View) × (a : Act (Unit {0})) × Valid s.homes me.1 a × IsKeptBy plan mode (stepped s 0 m id me.1 w a) ×
-          Tried (step slots 0 0 (t + 1) none) me n (w, carried_after me.1 a))
+      Tried (step slots 0 0 (t + 1) none) me n (w, carried_after me.1 a))
       (λ hit.
       let nobody : l.lock ≡ None = no_number l.lock (sym l.shown.holder ∙ hit) in
       let lawful = takes_it s l aim found next nobody in (
@@ -269,7 +269,7 @@ module _ (plan : Plan) (mode : Mode) (slots id : ℕ) (me : Me (Unit {0}) View) 
         keeps,
         tt,
         lock_kept plan mode s l id me.1 v t (Some t) true own live found (λ u apart e. none_some l.lock u nobody e) (λ u apart e. apart (sym (some_same t u e)))
-        (λ _. refl) (λ _. refl)
+            (λ _. refl) (λ _. refl)
             (subst (λ b. IsLawful b plan l.places (Some t)) (sym avoiding) lawful),
         (
           refl,
@@ -315,7 +315,7 @@ frees plan mode slots id me t own live has s l _ found _ =
       keeps,
       tt,
       lock_kept plan mode s l id me.1 v t None false own live found (λ u apart e. apart (some_same u t (sym e ∙ held))) (λ u apart e. none_some None u refl e)
-      (λ e. absurd (false≢true e)) (λ e. absurd (none_some None t refl e))
+          (λ e. absurd (false≢true e)) (λ e. absurd (none_some None t refl e))
           (by_mode (avoids mode) refl held l.lawful),
       (refl, refl),
     )

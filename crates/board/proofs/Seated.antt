@@ -252,7 +252,7 @@ pub member_next : (k : Known) (p : ℕ) → IsSeat k → NeedsMember k p → (n 
 member_next k p seat needs =
     let there = next_there k.view needs.action needs.next in
     let m = formed_member k.view.plan (task_of k.view) (own_place k.view).done p needs.action needs.by_member
-            (seat.checked.codes.well_formed (task_of k.view) (own_place k.view).done needs.action there.1) in
+    (seat.checked.codes.well_formed (task_of k.view) (own_place k.view).done needs.action there.1) in
     (m.0, phase_here k.view p there.0 ∙ m.1)
 
 -- what an offset makes of the own phase, by what the seat knew before it was loaded
@@ -266,7 +266,7 @@ target_is k now p m n off same phase is =
 pub own_phase_small : (k : Known) (p n : ℕ) → IsSeat k → own_phase k.view p ≡ Some n → n ≤ max_ops
 own_phase_small k p n seat is =
     (let l = phases_fit k.view.plan (task_of k.view) (own_place k.view).done p n seat.checked
-        (kept_is (own_place k.view).dropped (phases_after k.view.plan (task_of k.view) (own_place k.view).done) p n is) in
+    (kept_is (own_place k.view).dropped (phases_after k.view.plan (task_of k.view) (own_place k.view).done) p n is) in
     let m = seat.checked.limits.few_ops in omega arith)
 
 -- the own phase after it is one more

@@ -264,7 +264,7 @@ passes plan mode slots id me t e own live free same event all s l _ found _ =
     let next : action_at plan t (l.places t).done ≡ Some (Passes e.p.0) = published_passes plan t (l.places t).done e published in
     let reached = all_scanned_is_reached plan t (seen me.0) l.places e l.checked (lawful_is_reachable (avoids mode) plan l.places l.lock l.lawful) far seen_event all in
     let dropped : (l.places t).dropped ≡ None = published_undropped plan l.places
-            (reachable_is_fixed plan l.places l.checked (lawful_is_reachable (avoids mode) plan l.places l.lock l.lawful)).1 t e published in
+    (reachable_is_fixed plan l.places l.checked (lawful_is_reachable (avoids mode) plan l.places l.lock l.lawful)).1 t e published in
     let is_step : IsStep plan mode l.places l.lock t (Passes e.p.0) = record {
       code = by_code_so plan t (l.places t).done (l.places t).dropped (Passes e.p.0) dropped next;
       legal = (si.forked, e.n, published, reached, ap (refused_at plan t (l.places t).done) dropped);
@@ -278,7 +278,7 @@ passes plan mode slots id me t e own live free same event all s l _ found _ =
       stores_await plan mode slots id me t (Passes e.p.0) 0 s l own live found is_step (λ w. refl) (λ u q. refl)
           (λ u ne. ap (λ o. found_by o (st.refused u)) (updated_other st.published t u None ne))
           (ap await_number (sym (ap (λ o. found_by o (st.refused t)) (updated_same st.published t t None refl) ∙
-              ap (found_by None) (ap (refused_at plan t (l.places t).done) dropped)))),
+          ap (found_by None) (ap (refused_at plan t (l.places t).done) dropped)))),
       (
         refl,
         λ f is. (
@@ -327,6 +327,6 @@ drops_refused plan mode slots id me t p d n own live free dropped member least a
       acts_kept plan mode s l id (phase_index plan t p) 0 me.1 me.0 t (Drops p) own live found is_step (λ _. refl)
           (subst (λ (k : ℕ). IsShown plan (after st t (Drops p)) l.lock (set s.words (phase_index plan t p) k)) (ap phase_number (with_phase_same st.phases t p None))
           (shows_phase plan st (after st t (Drops p)) l.lock s.words t p ((after st t (Drops p)).phases t p) l.shown a b refl
-              (λ w q m. with_phase_other st.phases t p None w q m) (λ _. refl))),
+          (λ w q m. with_phase_other st.phases t p None w q m) (λ _. refl))),
       (drop_view me.0 p d dropped, refl),
     )

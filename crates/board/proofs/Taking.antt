@@ -36,7 +36,7 @@ module _ (table : TableId) (v w x : View) (alone : v.own ≡ None) (mine : IsSea
   own_with : place_in (longer_places v.sight.places w.sight.places) (task_of w) ≡ place_in w.sight.places (task_of w)
   own_with =
       sym (longer_right (place_in v.sight.places (task_of w)) (place_in w.sight.places (task_of w))
-          (place_in (longer_places v.sight.places w.sight.places) (task_of w)) (place_in w.sight.places (task_of w))
+      (place_in (longer_places v.sight.places w.sight.places) (task_of w)) (place_in w.sight.places (task_of w))
       (longer_at v.sight.places w.sight.places same_count tests.0 (task_of w))
       (ahead_at (task_of w ∷ []) w.sight.places v.sight.places ahead.0 (task_of w) (ap (λ b. b || is_among [] (task_of w)) (eq-eqb (task_of w) (task_of w) refl))) refl)
 

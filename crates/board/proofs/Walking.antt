@@ -253,7 +253,7 @@ begins_next begun op k m b step = by_op op refl (has_stepped k m (task_of k.view
 pub passes_next : (begun : ℕ) (k : Known) (e : Event) → HasBegun begun k → event_of k ≡ Some e → next_action k.view ≡ Some (Passes e.p.0)
 passes_next begun k e b is =
     next_is k (Passes e.p.0) (actions_of (drop begun (code_of k.view.plan (task_of k.view)))) b.unrefused
-        (b.left ∙ ap (λ o. left_of o (drop begun (code_of k.view.plan (task_of k.view)))) is)
+    (b.left ∙ ap (λ o. left_of o (drop begun (code_of k.view.plan (task_of k.view)))) is)
 
 pub begun_passed : (begun : ℕ) (k m : Known) (e : Event) (t : ℕ) → k.view.own ≡ Some t → HasBegun begun k → event_of k ≡ Some e → MakesStep (Passes e.p.0) k m → HasBegun begun m
 begun_passed begun k m e t own b is step =

@@ -130,7 +130,7 @@ module _ (before now : Known) (list : List Status) (checked : IsCheckedPlan befo
       a t ≡ c.at t × IsDeadIn (state_at plan a) t
   stand_there t dead a lock lawful far =
       let there = collected_is_dead_at_reachable plan a list dead.tasks c.at c.found checked (lawful_is_reachable (avoids before.view.mode) plan a lock lawful)
-              dead.deadlocked found in
+      dead.deadlocked found in
       (there.0 t dead.inside, record { tasks = dead.tasks; inside = dead.inside; deadlocked = there.1 })
     where
       later : (u : ℕ) (b : Place) (e : Event) → IsListedOn list u e → IsPrefix b ((seen now.view).places u) → IsPrefix b (a u)

@@ -260,7 +260,7 @@ module _ (ss : List Status) where
       let all : List Resource = map task set ++ map event im.list in
       let has_task : (t : TaskId) → Contains set t → Contains all (task t) = λ t m. Contains-append_left (map task set) (map event im.list) (task t) (Contains-map task set t m) in
       let has_event : (e : Event) → Contains im.list e →
-              Contains all (event e) = λ e m. Contains-append_right (map task set) (map event im.list) (event e) (Contains-map event im.list e m) in (
+      Contains all (event e) = λ e m. Contains-append_right (map task set) (map event im.list) (event e) (Contains-map event im.list e m) in (
         all,
         has_task t0 here,
         λ a m. elim (Contains-append_cases (map task set) (map event im.list) a m) [

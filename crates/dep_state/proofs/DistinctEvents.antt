@@ -99,10 +99,16 @@ module _ (all es : List Event) (i : ℕ) (h : IsDistinctTo all i es) (x : Event)
       record {
         ordered = all_pairs_push IsBefore es x h.ordered (below_new fresh);
         exact = λ e. rw more (
-          λ c. elim (Contains-push_cases es x e c) [ inl l ↦ Contains-append_left (take i all) (x ∷ []) e ((h.exact e).0 l) | inr f ↦
-              subst (λ y. Contains (take i all ++ x ∷ []) y) f (Contains-push (take i all) x) ],
-          λ c. elim (Contains-push_cases (take i all) x e c) [ inl l ↦ Contains-append_left es (x ∷ []) e ((h.exact e).1 l) | inr f ↦
-              subst (λ y. Contains (es ++ x ∷ []) y) f (Contains-push es x) ],
+          λ c. elim (Contains-push_cases es x e c) [
+            | inl l ↦ Contains-append_left (take i all) (x ∷ []) e ((h.exact e).0 l)
+            | inr f ↦
+                subst (λ y. Contains (take i all ++ x ∷ []) y) f (Contains-push (take i all) x)
+          ],
+          λ c. elim (Contains-push_cases (take i all) x e c) [
+            | inl l ↦ Contains-append_left es (x ∷ []) e ((h.exact e).1 l)
+            | inr f ↦
+                subst (λ y. Contains (es ++ x ∷ []) y) f (Contains-push es x)
+          ],
         );
         few = omega (arith, h.few, length-append es (x ∷ []));
         below = λ d pos. rw (here d) (All-push (λ e. NotAfter e x) es x (λ k o in'. before_not_after (get_or es k o) x (below_new fresh k o in')) (inr (refl, omega arith)));
@@ -115,8 +121,8 @@ module _ (all es : List Event) (i : ℕ) (h : IsDistinctTo all i es) (x : Event)
       let step : NotAfter (get_or all (i - 1) x) x = subst (λ y. NotAfter (get_or all (i - 1) x) y) (ap (λ k. get_or all k x) j ∙ is) (rising (i - 1) x (omega arith)) in
       let same : get_or all (i - 1) x ≡ x =
       same_event (get_or all (i - 1) x) x step (λ b. stale
-          (λ d. inr (subst (λ y. IsBefore y (get_or all i d)) (get_or_default all (i - 1) x d (omega arith))
-          (subst (λ y. IsBefore (get_or all (i - 1) x) y) (sym is ∙ get_or_default all i x d lt) b)))) in
+      (λ d. inr (subst (λ y. IsBefore y (get_or all i d)) (get_or_default all (i - 1) x d (omega arith))
+      (subst (λ y. IsBefore (get_or all (i - 1) x) y) (sym is ∙ get_or_default all i x d lt) b)))) in
       let old : Contains (take i all) x = (i - 1, omega (arith, length-take-le i all (omega arith)), get_or-take i all (i - 1) x (omega arith) ∙ same) in
       record {
         ordered = h.ordered;

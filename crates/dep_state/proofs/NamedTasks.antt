@@ -42,11 +42,11 @@ module _ (ss : List Status) (ok : IsInOrder ss) (d : Deps) (is : IsDepsOf ss d) 
         ascends = λ j k u below lt.
             let n : length (named d.tasks (impeders_of d i)) ≡ length (impeders_of d i) = length-map (impeders_of d i) (name_at d.tasks) in
             let a : get_or (named d.tasks (impeders_of d i)) j u ≡ name_at d.tasks (get_or (impeders_of d i) j 0) = get_or-map (name_at d.tasks)
-                    (impeders_of d i) j 0 u (omega arith) in
+            (impeders_of d i) j 0 u (omega arith) in
             let b : get_or (named d.tasks (impeders_of d i)) k u ≡ name_at d.tasks (get_or (impeders_of d i) k 0) = get_or-map (name_at d.tasks)
-                    (impeders_of d i) k 0 u (omega arith) in
+            (impeders_of d i) k 0 u (omega arith) in
             let inside = impeder_inside d is.formed i (get_or (impeders_of d i) k 0)
-                    (k, omega arith, get_or_default (impeders_of d i) k (get_or (impeders_of d i) k 0) 0 (omega arith)) in
+            (k, omega arith, get_or_default (impeders_of d i) k (get_or (impeders_of d i) k 0) 0 (omega arith)) in
             let up = tasks_ascend ss ok d is (get_or (impeders_of d i) j 0) (get_or (impeders_of d i) k 0) (record { 0 = 0 }) (is.ascend i j k 0 below (omega arith)) inside in
             omega (arith, up, ap (λ x. x.0) a, ap (λ x. x.0) b);
         exact = λ t. (

@@ -68,4 +68,4 @@ pub skip_list :
 skip_list tasks answers picked i off list =
     let here : picked_at tasks answers i ≡ None = ap (λ b. if b then slice_get tasks i else None) off in
     list ∙ sym (append-nil (given_below (picked_at tasks answers) i)) ∙
-        sym (one_more (picked_at tasks answers) i ∙ ap (λ o. given_below (picked_at tasks answers) i ++ option_to_list o) here)
+    sym (one_more (picked_at tasks answers) i ∙ ap (λ o. given_below (picked_at tasks answers) i ++ option_to_list o) here)

@@ -133,9 +133,12 @@ pub searched_row :
     (i ≤ length xs) × ((k : ℕ) → k < i → get_or xs k 0 < b) × ((k : ℕ) → i ≤ k → k < length xs → b < get_or xs k 0)
 searched_row xs b i r is found up =
     MatchResult-at_err (λ j. (j < length xs) × (get_or xs j 0 ≡ b))
-        (λ j. (j ≤ length xs) × ((k : ℕ) → k < j → get_or xs k 0 < b) × ((k : ℕ) → j ≤ k → k < length xs → b < get_or xs k 0)) i is
-    (searched xs b r found (λ j k le lt. elim (cases_eq j k) [ inl e ↦ subst (λ u. get_or xs j 0 ≤ get_or xs u 0) e (omega arith) | inr ne ↦
-        omega (arith, up j k (omega arith) lt) ]))
+    (λ j. (j ≤ length xs) × ((k : ℕ) → k < j → get_or xs k 0 < b) × ((k : ℕ) → j ≤ k → k < length xs → b < get_or xs k 0)) i is
+    (searched xs b r found (λ j k le lt. elim (cases_eq j k) [
+      | inl e ↦ subst (λ u. get_or xs j 0 ≤ get_or xs u 0) e (omega arith)
+      | inr ne ↦
+          omega (arith, up j k (omega arith) lt)
+    ]))
 
 -- the rows of the code, one of which is replaced
 module _ (rows : List (Vec ℕ Global)) (a : ℕ) (old new : Vec ℕ Global) (lt : a < length rows) (was : old ≡ get_or rows a old) where

@@ -91,7 +91,7 @@ all_tasks : (m n : ℕ) → n < max_tasks → m < max_tasks → Succeeds (λ _. 
 unfolding unfold_tasks
 all_tasks m n few l =
     and_then (Behind (5 * n + 6) 1) (λ _. Unit {0}) (unfold_task false 0 (Some (record { body = generated_body n; first = 1; names = λ _. None }))
-        (opening_state (generated_body n))) (unfold_tasks false m 1)
+    (opening_state (generated_body n))) (unfold_tasks false m 1)
     (first_task n few) (λ s h. other_tasks m 1 (5 * n + 6) s h (omega arith))
 
 plan_from : (o : Outcome UnfoldingState) → Succeeds (λ _. Unit {0}) o → (plan : Plan) × ((o >>= λ s. Ok s.plan) ≡ Ok plan)

@@ -120,7 +120,7 @@ module _ (i : ℕ) (a : Parts) (h : IsDrawing i a) where
     workers = λ c pos. at_set (CanWork (joined c)) (a.starts ++ None ∷ []) new (Some new_worker) None c
         (λ e lt. (refl, drawn_names, subst (λ (u : ℕ). IsOnBoth (joined u)) (sym e) new_on_both))
         (λ ne. subst (CanWork (joined c)) (sym (at_more a.starts None c))
-            (can_work_as (a.members c) (joined c) (slice_index_or a.starts c None) (joined_more c 0) (joined_more c 1) (h.workers c pos)))
+        (can_work_as (a.members c) (joined c) (slice_index_or a.starts c None) (joined_more c 0) (joined_more c 1) (h.workers c pos)))
         (λ le. tt);
   }
 
@@ -140,7 +140,7 @@ turn_draws i k a s h d few room =
     (reg_fits 5 (k + 1 + 1) (drawn child a) s2 h2 (omega arith) child c pc 0 refl d.names.first (new_parent i a d) (new_start i a d) d.own.first (new_first i a d))
     (λ s3 h3. comes (Has (k + 1 + 1 + 1 + 1) (registered c 1 (registered c 0 (drawn child a)))) Q 0 s3 _ _
     (reg_fits 6 (k + 1 + 1 + 1) (registered c 0 (drawn child a)) s3 h3 (omega arith) child c pb 1 refl d.names.second (new_parent i a d) (new_start i a d)
-        (own_second i a d) (new_second i a d))
+    (own_second i a d) (new_second i a d))
     (λ s4 h4. comes (Has (k + 1 + 1 + 1 + 1 + 1) (turned i a d)) Q 0 s4 _ _
     (fork_fits 7 (k + 1 + 1 + 1 + 1) (registered c 1 (registered c 0 (drawn child a))) s4 h4 (omega arith) child c worker refl (new_parent i a d) (new_start i a d))
     (λ s5 h5. no_visit Q 0 s5 (turned i a d, has_more (k + 1 + 1 + 1 + 1 + 1) (k + 5) (turned i a d) s5 (omega arith) h5, draws_one i a d))))))

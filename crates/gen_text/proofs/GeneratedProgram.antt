@@ -67,7 +67,7 @@ grouped : (n : ℕ) (rest : List ℕ) →
 grouped n rest =
     ap (λ (xs : List ℕ). before_number ++ xs)
     (sym (append_assoc (number_line n ++ printed_at 1 draws) (indented_line 0 (codes "}")) rest ∙
-        append_assoc (number_line n) (printed_at 1 draws) (indented_line 0 (codes "}") ++ rest)))
+    append_assoc (number_line n) (printed_at 1 draws) (indented_line 0 (codes "}") ++ rest)))
 
 eight : decimal 8 ≡ codes "8"
 unfolding digits

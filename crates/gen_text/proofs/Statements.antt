@@ -71,10 +71,10 @@ module _ (n k : ℕ) (a : Parts) (s : UnfoldingState) (h : Has k a s) (few : k <
       unfolding act
       dereg_fits =
           subst (λ (b : Parts). b.names x ≡ Some (a_phaser p) → b.members t p ≡ true →
-              Succeeds (Has (k + 1) (left t p b)) (make_visit t (visit n (a_plain (dereg x))) s)) h.parts_are
+          Succeeds (Has (k + 1) (left t p b)) (make_visit t (visit n (a_plain (dereg x))) s)) h.parts_are
           (λ e m. visit_fits (Has (k + 1) (left t p (parts_of s))) t n k (a_plain (dereg x)) s h.visits few
           (is_member (Has (k + 1) (left t p (parts_of s))) n t p (s.names x) (visited s)
-              (λ q. add_op t n (op.Drop (phaser q)) (record s { members = with_member t q false s.members; visits = s.visits + 1 })) e m
+          (λ q. add_op t n (op.Drop (phaser q)) (record s { members = with_member t q false s.members; visits = s.visits + 1 })) e m
           (op_fits t n k (op.Drop (phaser p)) (record s { members = with_member t p false s.members; visits = s.visits + 1 }) (omega (arith, h.visits)) h.ops few)))
 
   pub new_task_fits : (x : List ℕ) → length a.parents < max_tasks → Succeeds (Has (k + 1) (drawn x a)) (make_visit 0 (visit n (a_plain (new_task x))) s)

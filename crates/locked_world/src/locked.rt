@@ -6,7 +6,8 @@ use armus_base::{NoMemory, Plan};
 use std::alloc::Global;
 use std::sync::{Mutex, MutexGuard, Wait};
 
-/// A logged world of N's plan that threads share: whoever takes the lock is lent it until the guard is dropped. What other threads have done to it is known by its type alone: it is the replay of its journal.
+/// A logged world of N's plan that threads share: whoever takes the lock is lent it until the guard is dropped. What other threads have done to it is
+/// known by its type alone: it is the replay of its journal.
 #[derive(Drop)]
 pub struct LockedWorld<'p, N: PlanName> {
     logged: Mutex<Logged<'p, N>>,

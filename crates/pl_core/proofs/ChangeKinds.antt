@@ -185,7 +185,7 @@ module _ (plan : Plan) (tasks : List Task) (table : PhaseTable) (kept : KeepsSta
       same_places =
           map-set (λ (k : Task). k.place) with_child t (after_op task)
           ∙ ap (λ ps. set ps t (further task.place)) (map-set (λ (k : Task). k.place) tasks c (after_fork child) ∙
-              set_there (kept_places tasks) c child.place (standing_there tasks c child child_read))
+          set_there (kept_places tasks) c child.place (standing_there tasks c child child_read))
 
       kept_child : IsKeptOf plan (after (state_of old) t (Forks c)) c (after_fork child)
       kept_child =
@@ -202,7 +202,7 @@ module _ (plan : Plan) (tasks : List Task) (table : PhaseTable) (kept : KeepsSta
           elim (cases_eq u t) [
             | inl same ↦
                 let is : after_op task ≡ k = (let one = slice_get-set_same with_child t (after_op task) (slice_get_within with_child t task read_after) in
-                        let two = subst (λ v. slice_get (set with_child t (after_op task)) v ≡ Some k) same e in cc) in
+                let two = subst (λ v. slice_get (set with_child t (after_op task)) v ≡ Some k) same e in cc) in
                 subst (λ v. IsKeptOf plan (after (state_of old) t (Forks c)) v k) (sym same)
                 (subst (IsKeptOf plan (after (state_of old) t (Forks c)) t) is
                 (own_after (Forks c) next (λ p b. absurd (cc)) (updated_other (state_of old).forked c t true other) active.unpublished))
@@ -211,7 +211,7 @@ module _ (plan : Plan) (tasks : List Task) (table : PhaseTable) (kept : KeepsSta
                 elim (cases_eq u c) [
                   | inl same ↦
                       let is : after_fork child ≡ k = (let one = slice_get-set_same tasks c (after_fork child) child_here in
-                              let two = subst (λ v. slice_get with_child v ≡ Some k) same there in cc) in
+                      let two = subst (λ v. slice_get with_child v ≡ Some k) same there in cc) in
                       subst (λ v. IsKeptOf plan (after (state_of old) t (Forks c)) v k) (sym same)
                       (subst (IsKeptOf plan (after (state_of old) t (Forks c)) c) is kept_child)
                   | inr away ↦

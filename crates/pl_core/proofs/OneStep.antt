@@ -175,7 +175,7 @@ module _ (plan : Plan) (tasks : List Task) (table : PhaseTable) (kept : KeepsSta
         elim (cases_eq u t) [
           | inl same ↦
               let is : task' ≡ k = (let one = slice_get-set_same tasks t task' (slice_get_within tasks t task read) in
-                      let two = subst (λ v. slice_get (set tasks t task') v ≡ Some k) same e in cc) in
+              let two = subst (λ v. slice_get (set tasks t task') v ≡ Some k) same e in cc) in
               subst (λ v. IsKeptOf plan (after (state_of old) t x) v k) (sym same) (subst (IsKeptOf plan (after (state_of old) t x) t) is own)
           | inr other ↦
               kept_of_other plan (state_of old) t u x k other (no_fork u) (kept.each u k (sym (slice_get-set_other tasks t u task' other) ∙ e))

@@ -83,7 +83,7 @@ module _ (plan : Plan) (checked : IsCheckedPlan plan) where
       elim (cases_eq t 0) [
         | inl z ↦
             let within : t < length (replicate n unbegun) = (let l = slice_get_within (opening_tasks n) t task e in
-                    let s = length-set (replicate n unbegun) 0 (record unbegun { forked = true }) in omega arith) in
+            let s = length-set (replicate n unbegun) 0 (record unbegun { forked = true }) in omega arith) in
             let is : record unbegun { forked = true } ≡ task =
             (let one = slice_get-set_same (replicate n unbegun) 0 (record unbegun { forked = true }) (omega arith) in
             let two : slice_get (opening_tasks n) 0 ≡ Some task = subst (λ v. slice_get (opening_tasks n) v ≡ Some task) z e in cc) in

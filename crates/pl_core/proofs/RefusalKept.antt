@@ -163,7 +163,7 @@ module _ (plan : Plan) (tasks : List Task) (table : PhaseTable) (kept : KeepsSta
       elim (cases_eq u t) [
         | inl same ↦
             let is : after_refusal task e ≡ k = (let one = slice_get-set_same tasks t (after_refusal task e) (slice_get_within tasks t task read) in
-                    let two = subst (λ v. slice_get (set tasks t (after_refusal task e)) v ≡ Some k) same h in cc) in
+            let two = subst (λ v. slice_get (set tasks t (after_refusal task e)) v ≡ Some k) same h in cc) in
             subst (λ v. IsKeptOf plan (state_of new) v k) (sym same) (subst (IsKeptOf plan (state_of new) t) is kept_own)
         | inr other ↦
             kept_beside plan (state_of old) (state_of new) u k (forked_same u) (published_same u) (refused_same u other)

@@ -133,125 +133,125 @@ module _ (plan : Plan) (checked : IsCheckedPlan plan) (places : List KeptPlace) 
 
   module _ (tasks : List Task) (table : PhaseTable) (n : ℕ) (op : Op) (is : slice_get (code_of plan t) n ≡ Some op)
       (walk : HasWalked plan places (walking a t (actions_before (code_of plan t) n)) t tasks table) (few : actions_before (code_of plan t) n < (a t).done)
-      where
-    abbrev k : ℕ
-    k = actions_before (code_of plan t) n
+    where
+      abbrev k : ℕ
+      k = actions_before (code_of plan t) n
 
-    within : n < length (code_of plan t)
-    within = slice_get_within (code_of plan t) n op is
+      within : n < length (code_of plan t)
+      within = slice_get_within (code_of plan t) n op is
 
-    next : action_at plan t k ≡ Some (action_of op)
-    next = action_of_op plan t n k (let w = within in omega arith) refl ∙ ap (option_map action_of) is
+      next : action_at plan t k ≡ Some (action_of op)
+      next = action_of_op plan t n k (let w = within in omega arith) refl ∙ ap (option_map action_of) is
 
-    forked_there : forked_at plan (done_by a) t ≡ true
-    forked_there = given_consistent.begun t (omega arith)
+      forked_there : forked_at plan (done_by a) t ≡ true
+      forked_there = given_consistent.begun t (omega arith)
 
-    -- the op is one that the tables have room for
-    member_bound : (p m : ℕ) → phases_after plan t k p ≡ Some m → p < table.phasers
-    member_bound p m e = (let l = phaser_of_own plan checked t k p m e in let c = walk.columns in omega arith)
+      -- the op is one that the tables have room for
+      member_bound : (p m : ℕ) → phases_after plan t k p ≡ Some m → p < table.phasers
+      member_bound p m e = (let l = phaser_of_own plan checked t k p m e in let c = walk.columns in omega arith)
 
-    own_row : (p m : ℕ) → phases_in table t p ≡ Some m → phases_after plan t k p ≡ Some m
-    own_row p m e =
-        ap (λ f. f p) (sym (own_phases_here plan checked a given_consistent t k (omega arith) forked_there))
-        ∙ ap (λ f. f t p) (sym walk.phases) ∙ e
+      own_row : (p m : ℕ) → phases_in table t p ≡ Some m → phases_after plan t k p ≡ Some m
+      own_row p m e =
+          ap (λ f. f p) (sym (own_phases_here plan checked a given_consistent t k (omega arith) forked_there))
+          ∙ ap (λ f. f t p) (sym walk.phases) ∙ e
 
-    fits : (p m : ℕ) → phases_in table t p ≡ Some m → m + 2 < 4294967296
-    fits p m e =
-        let f = phases_fit plan t k p m checked (own_row p m e) in
-        let few = checked.limits.few_ops in
-        omega arith
+      fits : (p m : ℕ) → phases_in table t p ≡ Some m → m + 2 < 4294967296
+      fits p m e =
+          let f = phases_fit plan t k p m checked (own_row p m e) in
+          let few = checked.limits.few_ops in
+          omega arith
 
-    pub room : HasRoomFor table t op
-    room = go op next
-      where
-        go : (o : Op) → action_at plan t k ≡ Some (action_of o) → HasRoomFor table t o
-        go (Make p) e = (let w = phaser_within plan t p.0 (checked.codes.well_formed t k (Makes p.0) e).0 in let c = walk.columns in omega arith)
-        go (Reg c p) e =
-            let w = checked.codes.well_formed t k (Registers c.0 p.0) e in (
-              (let b = child_within plan t c.0 w.0 in let r = walk.rows in omega arith),
-              member_bound p.0 w.3.0 w.3.1,
-            )
-        go (Fork c) e = tt
-        go (Adv p) e =
-            let w = checked.codes.well_formed t k (Advances p.0) e in (member_bound p.0 w.0 w.1, fits p.0)
-        go (Drop p) e = (let w = checked.codes.well_formed t k (Drops p.0) e in member_bound p.0 w.0 w.1)
-        go (Await p off) e = tt
-
-    pub child_here : ForksBelow (length tasks) op
-    child_here = go op next
-      where
-        go : (o : Op) → action_at plan t k ≡ Some (action_of o) → ForksBelow (length tasks) o
-        go (Fork c) e =
-            let w = checked.codes.well_formed t k (Forks c.0) e in
-            let b = child_within plan t c.0 w.0 in
-            let one = walk.one_each in
-            omega arith
-        go (Make p) e = tt
-        go (Reg c p) e = tt
-        go (Adv p) e = tt
-        go (Drop p) e = tt
-        go (Await p off) e = tt
-
-    module _ (table' : PhaseTable) (rows : table'.tasks ≡ table.tasks) (columns : table'.phasers ≡ table.phasers)
-        (phases : phases_in table' ≡ phases_moved (phases_in table) t (action_of op)) where
-      state_next : after (state_at plan (walking a t k)) t (action_of op) ≡ state_at plan (walking a t (suc k))
-      state_next = stepped plan checked a given_consistent t k (omega arith) forked_there (action_of op) next (no_pass op)
-
-      -- its first action
-      first_action : HasWalked plan places (walking a t (suc k)) t (marked_by tasks op) table'
-      first_action =
-          record {
-            checked = walk.checked;
-            one_each = length-marked tasks op ∙ walk.one_each;
-            rows = rows ∙ walk.rows;
-            columns = columns ∙ walk.columns;
-            phases =
-                phases
-                ∙ ap (λ f. phases_moved f t (action_of op)) walk.phases
-                ∙ phases_of_state (state_at plan (walking a t k)) t (action_of op)
-                ∙ ap (λ s. s.phases) state_next;
-            forked = λ u task e.
-                forked_marked (state_at plan (walking a t k)) t tasks walk.forked op u task e ∙ ap (λ s. s.forked u) state_next;
-            settled = λ u task l e.
-                (let old = marked_is tasks op u task e in
-                let before = walk.settled u old.0 l old.1 in
-                elim old.2 [
-                  | inl same ↦ subst (IsPlaced plan places u) (sym same) before
-                  | inr forked ↦ subst (IsPlaced plan places u) (sym forked) (settled_forked plan places u old.0 before)
-                ]);
-          }
-
-      -- and the pass of an await
-      second_action : (aim : Aim) → action_at plan t k ≡ Some (Blocks aim) → suc k < (a t).done → HasWalked plan places (walking a t (suc (suc k))) t (marked_by tasks op) table'
-      second_action aim e l =
-          let passes = passes_next plan t k aim e in
-          walk_same (walking a t (suc k)) (walking a t (suc (suc k))) (marked_by tasks op) table' first_action
-          (quiet_phases plan checked a given_consistent t (suc k) (omega arith) forked_there (Passes aim.phaser) passes (λ m. refl) (λ u q e. absurd (cc)))
-          (quiet_forked plan checked a given_consistent t (suc k) (omega arith) forked_there (Passes aim.phaser) passes (λ c. refl))
-
-      pub walk_more :
-          actions_before (code_of plan t) (suc n) ≤ (a t).done →
-          HasWalked plan places (walking a t (actions_before (code_of plan t) (suc n))) t (marked_by tasks op) table'
-      walk_more less = go op refl
+      pub room : HasRoomFor table t op
+      room = go op next
         where
-          one_more : actions_in op ≡ 1 → HasWalked plan places (walking a t (actions_before (code_of plan t) (suc n))) t (marked_by tasks op) table'
-          one_more one =
-              let more = actions_before-suc (code_of plan t) n op is in
-              let same : suc k ≡ actions_before (code_of plan t) (suc n) = omega arith in
-              subst (λ m. HasWalked plan places (walking a t m) t (marked_by tasks op) table') same first_action
+          go : (o : Op) → action_at plan t k ≡ Some (action_of o) → HasRoomFor table t o
+          go (Make p) e = (let w = phaser_within plan t p.0 (checked.codes.well_formed t k (Makes p.0) e).0 in let c = walk.columns in omega arith)
+          go (Reg c p) e =
+              let w = checked.codes.well_formed t k (Registers c.0 p.0) e in (
+                (let b = child_within plan t c.0 w.0 in let r = walk.rows in omega arith),
+                member_bound p.0 w.3.0 w.3.1,
+              )
+          go (Fork c) e = tt
+          go (Adv p) e =
+              let w = checked.codes.well_formed t k (Advances p.0) e in (member_bound p.0 w.0 w.1, fits p.0)
+          go (Drop p) e = (let w = checked.codes.well_formed t k (Drops p.0) e in member_bound p.0 w.0 w.1)
+          go (Await p off) e = tt
 
-          two_more : (p : _) (off : Offset) → op ≡ Await p off → HasWalked plan places (walking a t (actions_before (code_of plan t) (suc n))) t (marked_by tasks op) table'
-          two_more p off e =
-              let more = actions_before-suc (code_of plan t) n op is in
-              let two = ap actions_in e ∙ await_is_two p off in
-              let same : suc (suc k) ≡ actions_before (code_of plan t) (suc n) = omega arith in
-              subst (λ m. HasWalked plan places (walking a t m) t (marked_by tasks op) table') same
-              (second_action (record { phaser = p.0; off = off }) (next ∙ ap (λ o. Some (action_of o)) e) (omega arith))
+      pub child_here : ForksBelow (length tasks) op
+      child_here = go op next
+        where
+          go : (o : Op) → action_at plan t k ≡ Some (action_of o) → ForksBelow (length tasks) o
+          go (Fork c) e =
+              let w = checked.codes.well_formed t k (Forks c.0) e in
+              let b = child_within plan t c.0 w.0 in
+              let one = walk.one_each in
+              omega arith
+          go (Make p) e = tt
+          go (Reg c p) e = tt
+          go (Adv p) e = tt
+          go (Drop p) e = tt
+          go (Await p off) e = tt
 
-          go : (o : Op) → op ≡ o → HasWalked plan places (walking a t (actions_before (code_of plan t) (suc n))) t (marked_by tasks op) table'
-          go (Await p off) e = two_more p off e
-          go (Make p) e = one_more (ap actions_in e ∙ one_unless_await (Make p) (λ q h. absurd (cc)))
-          go (Reg c p) e = one_more (ap actions_in e ∙ one_unless_await (Reg c p) (λ q h. absurd (cc)))
-          go (Fork c) e = one_more (ap actions_in e ∙ one_unless_await (Fork c) (λ q h. absurd (cc)))
-          go (Adv p) e = one_more (ap actions_in e ∙ one_unless_await (Adv p) (λ q h. absurd (cc)))
-          go (Drop p) e = one_more (ap actions_in e ∙ one_unless_await (Drop p) (λ q h. absurd (cc)))
+      module _ (table' : PhaseTable) (rows : table'.tasks ≡ table.tasks) (columns : table'.phasers ≡ table.phasers)
+          (phases : phases_in table' ≡ phases_moved (phases_in table) t (action_of op)) where
+        state_next : after (state_at plan (walking a t k)) t (action_of op) ≡ state_at plan (walking a t (suc k))
+        state_next = stepped plan checked a given_consistent t k (omega arith) forked_there (action_of op) next (no_pass op)
+
+        -- its first action
+        first_action : HasWalked plan places (walking a t (suc k)) t (marked_by tasks op) table'
+        first_action =
+            record {
+              checked = walk.checked;
+              one_each = length-marked tasks op ∙ walk.one_each;
+              rows = rows ∙ walk.rows;
+              columns = columns ∙ walk.columns;
+              phases =
+                  phases
+                  ∙ ap (λ f. phases_moved f t (action_of op)) walk.phases
+                  ∙ phases_of_state (state_at plan (walking a t k)) t (action_of op)
+                  ∙ ap (λ s. s.phases) state_next;
+              forked = λ u task e.
+                  forked_marked (state_at plan (walking a t k)) t tasks walk.forked op u task e ∙ ap (λ s. s.forked u) state_next;
+              settled = λ u task l e.
+                  (let old = marked_is tasks op u task e in
+                  let before = walk.settled u old.0 l old.1 in
+                  elim old.2 [
+                    | inl same ↦ subst (IsPlaced plan places u) (sym same) before
+                    | inr forked ↦ subst (IsPlaced plan places u) (sym forked) (settled_forked plan places u old.0 before)
+                  ]);
+            }
+
+        -- and the pass of an await
+        second_action : (aim : Aim) → action_at plan t k ≡ Some (Blocks aim) → suc k < (a t).done → HasWalked plan places (walking a t (suc (suc k))) t (marked_by tasks op) table'
+        second_action aim e l =
+            let passes = passes_next plan t k aim e in
+            walk_same (walking a t (suc k)) (walking a t (suc (suc k))) (marked_by tasks op) table' first_action
+            (quiet_phases plan checked a given_consistent t (suc k) (omega arith) forked_there (Passes aim.phaser) passes (λ m. refl) (λ u q e. absurd (cc)))
+            (quiet_forked plan checked a given_consistent t (suc k) (omega arith) forked_there (Passes aim.phaser) passes (λ c. refl))
+
+        pub walk_more :
+            actions_before (code_of plan t) (suc n) ≤ (a t).done →
+            HasWalked plan places (walking a t (actions_before (code_of plan t) (suc n))) t (marked_by tasks op) table'
+        walk_more less = go op refl
+          where
+            one_more : actions_in op ≡ 1 → HasWalked plan places (walking a t (actions_before (code_of plan t) (suc n))) t (marked_by tasks op) table'
+            one_more one =
+                let more = actions_before-suc (code_of plan t) n op is in
+                let same : suc k ≡ actions_before (code_of plan t) (suc n) = omega arith in
+                subst (λ m. HasWalked plan places (walking a t m) t (marked_by tasks op) table') same first_action
+
+            two_more : (p : _) (off : Offset) → op ≡ Await p off → HasWalked plan places (walking a t (actions_before (code_of plan t) (suc n))) t (marked_by tasks op) table'
+            two_more p off e =
+                let more = actions_before-suc (code_of plan t) n op is in
+                let two = ap actions_in e ∙ await_is_two p off in
+                let same : suc (suc k) ≡ actions_before (code_of plan t) (suc n) = omega arith in
+                subst (λ m. HasWalked plan places (walking a t m) t (marked_by tasks op) table') same
+                (second_action (record { phaser = p.0; off = off }) (next ∙ ap (λ o. Some (action_of o)) e) (omega arith))
+
+            go : (o : Op) → op ≡ o → HasWalked plan places (walking a t (actions_before (code_of plan t) (suc n))) t (marked_by tasks op) table'
+            go (Await p off) e = two_more p off e
+            go (Make p) e = one_more (ap actions_in e ∙ one_unless_await (Make p) (λ q h. absurd (cc)))
+            go (Reg c p) e = one_more (ap actions_in e ∙ one_unless_await (Reg c p) (λ q h. absurd (cc)))
+            go (Fork c) e = one_more (ap actions_in e ∙ one_unless_await (Fork c) (λ q h. absurd (cc)))
+            go (Adv p) e = one_more (ap actions_in e ∙ one_unless_await (Adv p) (λ q h. absurd (cc)))
+            go (Drop p) e = one_more (ap actions_in e ∙ one_unless_await (Drop p) (λ q h. absurd (cc)))

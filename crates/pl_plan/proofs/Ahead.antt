@@ -120,7 +120,7 @@ module _ (from to t : ℕ) (old : Checker) (at : ℕ) (k : Checker) (old_runs : 
 abbrev pub TurnsGo : ℕ → ℕ → ℕ → ℕ → Checker → Result (Unit {0}) PlanEnd → Checker → Type 0
 TurnsGo at after t i old r kk =
     (names : ℕ → List ℕ) (s : UnfoldingState) (tree : Tree) → IsSpelled (length old.slots) names old.steps (at + 1) tree after → ShowsState names old s →
-        Follows r (make_visits t (times i (turn at tree)) s) (ShowsState names kk)
+    Follows r (make_visits t (times i (turn at tree)) s) (ShowsState names kk)
 
 turns_end : (at after t i : ℕ) (old kk : Checker) (e : PlanEnd) →
     ((f : CheckFault) → e ≡ ends.Check f → (names : ℕ → List ℕ) (s : UnfoldingState) (tree : Tree) →
@@ -154,9 +154,9 @@ module _ (at after t i : ℕ) (old : Checker) (j : ℕ) (k : Checker) (inv : Tur
     turn_count_fails e k1 kk g = turns_end at after t i old kk e (λ f ef names s tree sp h.
         let l = inv.all names s tree sp h in
         let c = simulates_err names (checker_count (at + 1) k) f (count_visit (at + 1) l.state) (gave e (checker_count (at + 1) k) k1 f g ef)
-                (simulating.simulates_count names k l.state inv.keeps.fits l.shows (at + 1)) in
+        (simulating.simulates_count names k l.state inv.keeps.fits l.shows (at + 1)) in
         sym l.same ∙ left_is tree l.state ∙ ap (λ o. (o >>= λ z. Ok z) >>= λ z. make_visits t (visits_of (at + 1 + 1) tree) z >>= make_visits t
-            (times (i - (j + 1)) (turn at tree))) c)
+        (times (i - (j + 1)) (turn at tree))) c)
 
     module _ (k1 : Checker) (visited : checker_count (at + 1) k ≡ Ok k1) where
       pub turn_kept : Keeps old k1
@@ -166,9 +166,12 @@ module _ (at after t i : ℕ) (old : Checker) (j : ℕ) (k : Checker) (inv : Tur
           (s1 : UnfoldingState) × (make_visits t (times (i - j) (turn at tree))
           s' ≡ (make_visits t (visits_of (at + 1 + 1) tree) s1 >>= make_visits t (times (i - (j + 1)) (turn at tree)))) × ShowsState names k1 s1
       after_count names tree s' h =
-          let c = simulates_ok names (checker_count (at + 1) k) k1 (count_visit (at + 1) s') visited (simulating.simulates_count names k s' inv.keeps.fits h (at + 1)) in
-          (c.0, left_is tree s' ∙ ap (λ o. (o >>= λ z. Ok z) >>= λ z. make_visits t (visits_of (at + 1 + 1) tree) z >>= make_visits t
-              (times (i - (j + 1)) (turn at tree))) c.1, c.2)
+          let c = simulates_ok names (checker_count (at + 1) k) k1 (count_visit (at + 1) s') visited (simulating.simulates_count names k s' inv.keeps.fits h (at + 1)) in (
+            c.0,
+            left_is tree s' ∙ ap (λ o. (o >>= λ z. Ok z) >>= λ z. make_visits t (visits_of (at + 1 + 1) tree) z >>= make_visits t
+                (times (i - (j + 1)) (turn at tree))) c.1,
+            c.2,
+          )
 
       pub turn_on : (k2 : Checker) → Keeps k1 k2 →
           ((names : ℕ → List ℕ) (s : UnfoldingState) (tree : Tree) → IsSpelled (length k1.slots) names k1.steps (at + 1) tree after → ShowsState names k1 s →
@@ -191,7 +194,7 @@ module _ (at after t i : ℕ) (old : Checker) (j : ℕ) (k : Checker) (inv : Tur
           let l = inv.all names s tree sp h in
           let a = after_count names tree l.state l.shows in
           let w = went_err e (make_visits t (visits_of (at + 1 + 1) tree) a.0) (ShowsState names k2) f
-                  (went names a.0 tree (respell old k1 names (at + 1) tree after turn_kept sp) a.2) ef in
+          (went names a.0 tree (respell old k1 names (at + 1) tree after turn_kept sp) a.2) ef in
           sym l.same ∙ a.1 ∙ ap (λ o. o >>= make_visits t (times (i - (j + 1)) (turn at tree))) w)
 
 pub turn_spelled : (a b : Checker) (names : ℕ → List ℕ) (i : ℕ) (tree : Tree) (to : ℕ) → Keeps a b → IsSpelled (length a.slots) names a.steps i tree to →

@@ -20,9 +20,19 @@ keeps_begun_by : (k : Checker) → IsChecker k → (o : Option CheckerStart) →
     StartFits (length k.parents) (length k.makers) k.slot_count (length k.slots) k.steps o → Keeps k (with_start_things o k)
 keeps_begun_by k f None h = simulating.keeps_itself k f
 keeps_begun_by k f (Some s) h = record {
-  fits = record { starts_many = f.starts_many; codes_many = f.codes_many; few = f.few; few_makers = f.few_makers; all = f.all; below = f.below; apart = f.apart;
-      room = f.room; long = length_padded s.things h.short;
-      now = things_same (length k.parents) (length k.makers) k.slot_count s.things (padded s.things) (padded_same s.things) h.things; later = f.later };
+  fits = record {
+    starts_many = f.starts_many;
+    codes_many = f.codes_many;
+    few = f.few;
+    few_makers = f.few_makers;
+    all = f.all;
+    below = f.below;
+    apart = f.apart;
+    room = f.room;
+    long = length_padded s.things h.short;
+    now = things_same (length k.parents) (length k.makers) k.slot_count s.things (padded s.things) (padded_same s.things) h.things;
+    later = f.later;
+  };
   more = omega arith;
   steps = refl;
   slots = refl;
@@ -48,8 +58,12 @@ ready_by k (Some s) first after h e =
     let p = range_is first after s e in
     record {
       within = (let q = p.1 in omega (arith, h.within));
-      list = (h.list.0, h.list.1, subst (λ a. IsSpelled (length k.slots) h.list.0 k.steps first h.list.1 a) (sym p.1)
-          (subst (λ a. IsSpelled (length k.slots) h.list.0 k.steps a h.list.1 s.after) (sym p.0) h.list.2));
+      list = (
+        h.list.0,
+        h.list.1,
+        subst (λ a. IsSpelled (length k.slots) h.list.0 k.steps first h.list.1 a) (sym p.1)
+            (subst (λ a. IsSpelled (length k.slots) h.list.0 k.steps a h.list.1 s.after) (sym p.0) h.list.2),
+      );
     }
 
 pub ready : (k new : Checker) (t first after : ℕ) → IsChecker k → Some (first, after) ≡ range_of (slice_index_or k.starts t None) →
@@ -198,7 +212,7 @@ module _ (two : Bool) where
   busy_by names k new s t first after r (Some a) (Some b) m e h w =
       let p = range_is first after b e in
       let sp = subst (λ i. IsSpelled (length k.slots) names k.steps i a.body after) (sym p.0)
-              (subst (λ i. IsSpelled (length k.slots) names k.steps b.first a.body i) (sym p.1) m.spelled) in
+      (subst (λ i. IsSpelled (length k.slots) names k.steps b.first a.body i) (sym p.1) m.spelled) in
       let h' : ShowsState names (with_start_things (Some b) k) (with_names a.names s) = record {
         distinct = h.distinct;
         parents = h.parents;
@@ -221,7 +235,7 @@ module _ (two : Bool) where
       Walked names t r k1 first after new → Follows r (unfold_task two t (slice_index_or s.starts t None) s) (ShowsState names new)
   busy names k k1 new s t first after r e is h w =
       busy_by names k new s t first after r (slice_index_or s.starts t None) (slice_index_or k.starts t None) (h.starts t) e h
-          (subst (λ z. Walked names t r z first after new) is w)
+      (subst (λ z. Walked names t r z first after new) is w)
 
   -- ---- all tasks
 
@@ -274,4 +288,4 @@ module _ (two : Bool) where
       tasks_fail (ends.Check f) k2 kk went r is names s h =
           let l = inv.all names s h in
           subst (λ z. Follows z (unfold_tasks two max_tasks 0 s) (ShowsState names kk)) (sym is)
-              (sym l.same ∙ left_is l.state ∙ ap (λ o. o >>= unfold_tasks two (max_tasks - (t + 1)) (t + 1)) (went names l.state l.shows))
+          (sym l.same ∙ left_is l.state ∙ ap (λ o. o >>= unfold_tasks two (max_tasks - (t + 1)) (t + 1)) (went names l.state l.shows))

@@ -183,7 +183,7 @@ module _ (t n : ℕ) (s : UnfoldingState) where
       (as_task n o >>= λ c. unforked_child t n c s >>= λ _. add_op t n (op.Fork (task c)) (with_start c start s))
       ≡ answer n
       (kind_or (is_none o) 1 (kind_or (is_phaser o || false) 2
-          (kind_or (not (drew s t (task_number o))) 5 (kind_or (is_forked s (task_number o)) 6 (kind_or (not ops_left) 9 None)))))
+      (kind_or (not (drew s t (task_number o))) 5 (kind_or (is_forked s (task_number o)) 6 (kind_or (not ops_left) 9 None)))))
       (with_code t (op.Fork (task (task_number o))) (with_start (task_number o) start s))
   fork_by None start = refl
   fork_by (Some (a_phaser p)) start = refl

@@ -116,8 +116,13 @@ fits_started k c first after within list f = record {
   long = f.long;
   now = f.now;
   later = λ d. at_set (StartFits (length k.parents) (length k.makers) k.slot_count (length k.slots) k.steps) k.starts c (Some start) None d
-      (λ e lt. record { things = things_same (length k.parents) (length k.makers) k.slot_count k.things (take k.slot_count k.things)
-      (taken_same k.things k.slot_count f.now.free) f.now; short = omega (arith, length-take k.slot_count k.things, f.long); within = within; list = list })
+      (λ e lt. record {
+        things = things_same (length k.parents) (length k.makers) k.slot_count k.things (take k.slot_count k.things)
+            (taken_same k.things k.slot_count f.now.free) f.now;
+        short = omega (arith, length-take k.slot_count k.things, f.long);
+        within = within;
+        list = list;
+      })
       (λ ne. f.later d) (λ le. tt);
 }
   where
@@ -139,8 +144,8 @@ fits_task k t lt f = record {
       (omega (arith, length-append k.parents (Some (record { 0 = t }) ∷ []))) (omega arith) (omega arith) f.now;
   later = λ c. subst (StartFits (length (with_task t k).parents) (length k.makers) k.slot_count (length k.slots) k.steps) (sym (at_more k.starts None c))
       (start_more (length k.parents) (length k.makers) k.slot_count (length (with_task t k).parents) (length k.makers) k.slot_count (length k.slots)
-          (length k.slots) k.steps (slice_index_or k.starts c None) (omega (arith, length-append k.parents (Some (record { 0 = t }) ∷ []))) (omega arith)
-          (omega arith) refl (f.later c));
+      (length k.slots) k.steps (slice_index_or k.starts c None) (omega (arith, length-append k.parents (Some (record { 0 = t }) ∷ []))) (omega arith)
+      (omega arith) refl (f.later c));
 }
 
 pub fits_maker : (k : Checker) (t : ℕ) → length k.makers < max_phasers → IsChecker k → IsChecker (with_maker t k)
@@ -176,9 +181,9 @@ fits_new_slot k x room f = record {
   below = λ y. at_set (λ v. v < k.slot_count + 1) k.slots x k.slot_count 0 y (λ e lt. omega arith) (λ ne. omega (arith, f.below y)) (λ le. omega arith);
   apart = λ y z. at_set (λ v. v ≡ slice_index_or (slice_set k.slots x k.slot_count) z 0 → 0 < v → y ≡ z) k.slots x k.slot_count 0 y
       (λ e lt. at_set (λ w. k.slot_count ≡ w → 0 < k.slot_count → y ≡ z) k.slots x k.slot_count 0 z (λ e' _ _ _. omega arith)
-          (λ ne q _. absurd (omega (arith, f.below z))) (λ le q r. absurd (omega arith)))
+      (λ ne q _. absurd (omega (arith, f.below z))) (λ le q r. absurd (omega arith)))
       (λ ne. at_set (λ w. slot_of k y ≡ w → 0 < slot_of k y → y ≡ z) k.slots x k.slot_count 0 z (λ e' _ q _. absurd (omega (arith, f.below y)))
-          (λ ne' q r. f.apart y z q r) (λ le q r. absurd (omega arith)))
+      (λ ne' q r. f.apart y z q r) (λ le q r. absurd (omega arith)))
       (λ le q r. absurd (omega arith));
   room = omega arith;
   long = f.long;

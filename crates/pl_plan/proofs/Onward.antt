@@ -109,7 +109,7 @@ module _ (to t at : ℕ) (k : Checker) (f : IsChecker k) (run : t < length k.par
           Simulates names (checker_fork t (at + 1) x.0 after k1) (act_fork t (at + 1) p.name p.body s1)
       fork_sim names s1 tree h1 p = subst (λ y. Simulates names (checker_fork t (at + 1) x.0 after k1) (act_fork t (at + 1) y p.body s1)) p.named.1
           (simulating.simulates_fork names k1 s1 k1_keeps.fits h1 t (at + 1) runs x.0 after p.body (omega (arith, p.named.0, k1_keeps.slots))
-              (let e = ap (λ z. length z) k1_keeps.steps in omega (arith, fork_bounds.2)) (respell k k1 names (at + 1) p.body after k1_keeps p.body_there))
+          (let e = ap (λ z. length z) k1_keeps.steps in omega (arith, fork_bounds.2)) (respell k k1 names (at + 1) p.body after k1_keeps p.body_there))
 
       fork_keeps : KeepsAll k1 (checker_fork t (at + 1) x.0 after k1)
       fork_keeps = simulating.keeps_fork k1 k1_keeps.fits t (at + 1) x.0 after (let e = ap (λ z. length z) k1_keeps.steps in
@@ -120,7 +120,7 @@ module _ (to t at : ℕ) (k : Checker) (f : IsChecker k) (run : t < length k.par
       fork_visits names tree p =
           let b = spelled_count (length k.slots) names k.steps (at + 1) p.body after p.body_there in
           ap (visits_of (at + 1)) p.tree_is ∙ ap (λ m. visit (at + 1) (a_fork p.name p.body) ∷ visits_of m p.rest)
-              (let e : at + 1 + 1 + count p.body ≡ after + 1 = omega arith in e)
+          (let e : at + 1 + 1 + count p.body ≡ after + 1 = omega arith in e)
 
       pub fork_on : (k2 : Checker) → checker_fork t (at + 1) x.0 after k1 ≡ Ok k2 → On (length k.slots) to t k.steps at k after k2
       unfolding make_visits

@@ -75,8 +75,11 @@ shows_marked names k s t p m tl pl all h = record {
 -- ---- tasks and phasers
 
 pub shows_task : (names : ℕ → List ℕ) (k : Checker) (s : UnfoldingState) (t : ℕ) → ShowsState names k s →
-    ShowsState names (with_task t k) (record s { plan = record s.plan
-    { parents = s.plan.parents ++ Some (record { 0 = t }) ∷ []; codes = s.plan.codes ++ [] ∷ [] }; starts = s.starts ++ None ∷ [] })
+    ShowsState names (with_task t k) (record s {
+      plan = record s.plan
+          { parents = s.plan.parents ++ Some (record { 0 = t }) ∷ []; codes = s.plan.codes ++ [] ∷ [] };
+      starts = s.starts ++ None ∷ [];
+    })
 shows_task names k s t h = record {
   distinct = h.distinct;
   parents = ap (λ xs. xs ++ Some (record { 0 = t }) ∷ []) h.parents;
@@ -198,8 +201,12 @@ shows_started names k s c first after body here spelled f h = record {
   starts = λ d. at_set (λ o. MaybeStartShows names k.slots k.steps o (slice_index_or (slice_set k.starts c (Some kept)) d None)) s.starts c (Some start) None d
       (λ e _. subst (λ i. MaybeStartShows names k.slots k.steps (Some start) (slice_index_or (slice_set k.starts c (Some kept)) i None)) (sym e)
       (subst (MaybeStartShows names k.slots k.steps (Some start)) (sym (get_or-set_same k.starts c (Some kept) None here))
-          (record { first = refl; spelled = spelled; named = λ x lt. h.named x lt ∙
-          ap thing_of (sym (taken_same k.things k.slot_count f.now.free (slice_index_or k.slots x 0))) })))
+      (record {
+        first = refl;
+        spelled = spelled;
+        named = λ x lt. h.named x lt ∙
+            ap thing_of (sym (taken_same k.things k.slot_count f.now.free (slice_index_or k.slots x 0)));
+      })))
       (λ ne. subst (MaybeStartShows names k.slots k.steps (slice_index_or s.starts d None)) (sym (get_or-set_other k.starts c d (Some kept) None ne)) (h.starts d))
       (λ le. absurd (omega (arith, h.starts_many)));
   members = h.members;

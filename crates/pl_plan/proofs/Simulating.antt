@@ -66,7 +66,7 @@ module _ (names : ℕ → List ℕ) (k : Checker) (s : UnfoldingState) (f : IsCh
   simulates_unforked_child t n c g g' r = by (is_parent t (slice_index_or k.parents c None)) (is_some (slice_index_or k.starts c None))
       (is_parent t (slice_index_or s.plan.parents c None)) (is_some (slice_index_or s.starts c None))
       (ap (λ xs. is_parent t (slice_index_or xs c None)) h.parents)
-          (same_start names k.slots k.steps (slice_index_or s.starts c None) (slice_index_or k.starts c None) (h.starts c))
+      (same_start names k.slots k.steps (slice_index_or s.starts c None) (slice_index_or k.starts c None) (h.starts c))
     where
       by : (a b a' b' : Bool) → a' ≡ a → b' ≡ b → Simulates names ((fault_unless a not_drawn_here n >>= λ _. fault_unless (not b) already_forked n) >>= λ _. g)
           ((fault_unless a' not_drawn_here n >>= λ _. fault_unless (not b') already_forked n) >>= λ _. g')
@@ -135,7 +135,7 @@ module _ (names : ℕ → List ℕ) (k : Checker) (s : UnfoldingState) (f : IsCh
         _,
         refl,
         shows_binding names x (a_thing.Task (task (length k.parents))) (a_task (length s.plan.parents)) (with_task t k) _
-        (ap (λ xs. Some (a_task (length xs))) (sym h.parents)) here
+            (ap (λ xs. Some (a_task (length xs))) (sym h.parents)) here
             (omega (arith, f.room, length-append k.parents (Some (task t) ∷ []))) (fits_task k t (lt_true (length k.parents) max_tasks e) f) (shows_task names k s t h),
       ))
 
@@ -151,21 +151,24 @@ module _ (names : ℕ → List ℕ) (k : Checker) (s : UnfoldingState) (f : IsCh
       let more = length-append k.makers (task t ∷ []) in
       let fb = fits_binding x v m here (omega (arith, f.room)) (omega arith) fm in
       let hb = shows_binding names x v (a_phaser (length s.plan.makers)) m (record s { plan = record s.plan { makers = s.plan.makers ++ task t ∷ [] } })
-              (ap (λ xs. Some (a_phaser (length xs))) (sym h.makers)) here (omega (arith, f.room)) fm (shows_maker names k s t h) in
+      (ap (λ xs. Some (a_phaser (length xs))) (sym h.makers)) here (omega (arith, f.room)) fm (shows_maker names k s t h) in
       let b = with_binding x v m in
       let hm = shows_marked names b (record s { plan = record s.plan { makers = s.plan.makers ++ task t ∷ [] }; names = _ }) t p true (omega (arith, f.few)) lt fb.all hb in
       let fk = fits_marked b t p true fb in
       subst (λ q. Simulates names (checker_add t n (op.Make (phaser p)) (with_membership t p true b))
-          (add_op t n (op.Make (phaser q)) (record s { plan = record s.plan { makers = s.plan.makers ++ task t ∷ [] }; members = with_member t q true s.members;
-          names = assigned (names x) (a_phaser (length s.plan.makers)) s.names }))) (ap length (sym h.makers))
+      (add_op t n (op.Make (phaser q)) (record s {
+        plan = record s.plan { makers = s.plan.makers ++ task t ∷ [] };
+        members = with_member t q true s.members;
+        names = assigned (names x) (a_phaser (length s.plan.makers)) s.names;
+      }))) (ap length (sym h.makers))
       (simulates_add names (with_membership t p true b) _ fk hm t n (op.Make (phaser p))
-          (let same = ap (λ (z : Checker). length z.codes) (slotted_fits x m here (omega (arith, f.room)) fm).same in omega (arith, has_code, same))))
+      (let same = ap (λ (z : Checker). length z.codes) (slotted_fits x m here (omega (arith, f.room)) fm).same in omega (arith, has_code, same))))
 
   pub simulates_dereg : (x : ℕ) → x < length k.slots → Simulates names (checker_dereg t n x k) (act t n (dereg (names x)) s)
   unfolding checker_dereg act
   simulates_dereg x here = simulates_member names k s f h t n x _ _ here (λ p lt.
       simulates_add names (with_membership t p false k) _ (fits_marked k t p false f)
-          (shows_marked names k s t p false (omega (arith, f.few)) (omega (arith, f.few_makers)) f.all h) t n (op.Drop (phaser p)) has_code)
+      (shows_marked names k s t p false (omega (arith, f.few)) (omega (arith, f.few_makers)) f.all h) t n (op.Drop (phaser p)) has_code)
 
   pub simulates_adv : (x : ℕ) → x < length k.slots → Simulates names (checker_adv t n x k) (act t n (adv (names x)) s)
   unfolding checker_adv act
@@ -199,7 +202,7 @@ module _ (names : ℕ → List ℕ) (k : Checker) (s : UnfoldingState) (f : IsCh
       (simulates_fault_unless names (member k t p) (s.members t p) not_member n _ _ (h.members t p (omega (arith, f.few_makers))) (λ _.
       simulates_fault_unless names (not (member k c p)) (not (s.members c p)) already_member n _ _ (ap not (h.members c p (omega (arith, f.few_makers)))) (λ _.
       simulates_add names (with_membership c p true k) _ (fits_marked k c p true f)
-          (shows_marked names k s c p true (omega (arith, f.few)) (omega (arith, f.few_makers)) f.all h) t n (op.Reg (task c) (phaser p)) has_code)))))
+      (shows_marked names k s c p true (omega (arith, f.few)) (omega (arith, f.few_makers)) f.all h) t n (op.Reg (task c) (phaser p)) has_code)))))
 
   pub simulates_fork : (x after : ℕ) (body : Tree) → x < length k.slots → after ≤ length k.steps → IsSpelled (length k.slots) names k.steps n body after →
       Simulates names (checker_fork t n x after k) (act_fork t n (names x) body s)
@@ -209,7 +212,7 @@ module _ (names : ℕ → List ℕ) (k : Checker) (s : UnfoldingState) (f : IsCh
       let ci = task_inside (length k.parents) (length k.makers) (thing_at k x) c (f.now.inside (slot_of k x)) ec in
       simulates_unforked_child names k s f h t n c _ _
       (simulates_add names (started c n after k) _ (fits_started k c n after within (names, body, spelled) f)
-          (shows_started names k s c n after body (omega (arith, f.starts_many)) spelled f h) t n (op.Fork (task c)) has_code))
+      (shows_started names k s c n after body (omega (arith, f.starts_many)) spelled f h) t n (op.Fork (task c)) has_code))
 
 -- ---- what is kept
 
@@ -244,8 +247,19 @@ module _ (k : Checker) (f : IsChecker k) where
   pub keeps_count : (n : ℕ) → KeepsAll k (checker_count n k)
   unfolding checker_count
   keeps_count n = keeps_fault_unless k (nat_lt k.visits max_visits) too_many_visits n _ (λ e. record {
-    fits = record { starts_many = f.starts_many; codes_many = f.codes_many; few = f.few; few_makers = f.few_makers; all = f.all; below = f.below;
-        apart = f.apart; room = f.room; long = f.long; now = f.now; later = f.later };
+    fits = record {
+      starts_many = f.starts_many;
+      codes_many = f.codes_many;
+      few = f.few;
+      few_makers = f.few_makers;
+      all = f.all;
+      below = f.below;
+      apart = f.apart;
+      room = f.room;
+      long = f.long;
+      now = f.now;
+      later = f.later;
+    };
     more = omega arith;
     steps = refl;
     slots = refl;
@@ -292,8 +306,12 @@ module _ (k : Checker) (f : IsChecker k) where
       let h = keeps_bound (with_maker t k) x (a_thing.Phaser (phaser (length k.makers))) here (omega (arith, f.room)) (omega arith)
       (record { fits = fits_maker k t (lt_true (length k.makers) max_phasers e) f; more = omega arith; steps = refl; slots = refl }) in
       keeps_add k (with_membership t (length k.makers) true (with_binding x (a_thing.Phaser (phaser (length k.makers))) (with_maker t k))) t n (op.Make (phaser (length k.makers)))
-      (record { fits = fits_marked (with_binding x (a_thing.Phaser (phaser (length k.makers))) (with_maker t k)) t (length k.makers) true h.fits; more = h.more;
-          steps = h.steps; slots = h.slots }))
+      (record {
+        fits = fits_marked (with_binding x (a_thing.Phaser (phaser (length k.makers))) (with_maker t k)) t (length k.makers) true h.fits;
+        more = h.more;
+        steps = h.steps;
+        slots = h.slots;
+      }))
 
   pub keeps_dereg : (t n x : ℕ) → KeepsAll k (checker_dereg t n x k)
   unfolding checker_dereg

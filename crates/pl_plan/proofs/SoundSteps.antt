@@ -276,7 +276,7 @@ module _ (t : ℕ) (s : UnfoldingState) (a : IsActing t s) where
       on_fault_unless (IsActing t) (nat_lt (sum_by length s.plan.codes) max_ops) too_many_ops n _
       (λ few. op_acts (op.Adv (phaser p)) s.starts s.members s.names s.visits few
       (new_op (op.Adv (phaser p)) (one_new (Advances p) (λ i x. IsWellFormed (with_op t (op.Adv (phaser p)) s.plan) t (length (actions s.plan t) + i) x)
-          (member_now (op.Adv (phaser p)) p e))
+      (member_now (op.Adv (phaser p)) p e))
       (λ i q f. one_new (Advances p) (λ i x. (q : ℕ) → x ≢ Makes q) (λ q g. cc) i (Makes q) f q refl))
       (same_starts (op.Adv (phaser p)) s.members s.names s.visits (λ i c f. one_new (Advances p) (λ i x. (c : ℕ) → x ≢ Forks c) (λ c g. cc) i (Forks c) f c refl))
       (own_members (op.Adv (phaser p)) s.starts s.members s.names s.visits (λ q. members_own q ∙ advanced_member (last_phases s.plan t) p q) (λ u q n. refl) (λ u m r. refl)))
@@ -287,10 +287,10 @@ module _ (t : ℕ) (s : UnfoldingState) (a : IsActing t s) where
       on_fault_unless (IsActing t) (nat_lt (sum_by length s.plan.codes) max_ops) too_many_ops n _
       (λ few. op_acts (op.Drop (phaser p)) s.starts (with_member t p false s.members) s.names s.visits few
       (new_op (op.Drop (phaser p)) (one_new (Drops p) (λ i x. IsWellFormed (with_op t (op.Drop (phaser p)) s.plan) t (length (actions s.plan t) + i) x)
-          (member_now (op.Drop (phaser p)) p e))
+      (member_now (op.Drop (phaser p)) p e))
       (λ i q f. one_new (Drops p) (λ i x. (q : ℕ) → x ≢ Makes q) (λ q g. cc) i (Makes q) f q refl))
       (same_starts (op.Drop (phaser p)) (with_member t p false s.members) s.names s.visits
-          (λ i c f. one_new (Drops p) (λ i x. (c : ℕ) → x ≢ Forks c) (λ c g. cc) i (Forks c) f c refl))
+      (λ i c f. one_new (Drops p) (λ i x. (c : ℕ) → x ≢ Forks c) (λ c g. cc) i (Forks c) f c refl))
       (own_members (op.Drop (phaser p)) s.starts (with_member t p false s.members) s.names s.visits
       (set_member t p false s.members (last_phases s.plan t) None members_own refl) (λ u q n. member_other t p false s.members u q n) (λ u m r. refl)))
 
@@ -301,8 +301,8 @@ module _ (t : ℕ) (s : UnfoldingState) (a : IsActing t s) where
       (λ few. op_acts (op.Await (phaser p) off) s.starts s.members s.names s.visits few
       (new_op (op.Await (phaser p) off)
       (two_new (Blocks (record { phaser = p; off = off })) (Passes p)
-          (λ i x. IsWellFormed (with_op t (op.Await (phaser p) off) s.plan) t (length (actions s.plan t) + i) x)
-          (member_now (op.Await (phaser p) off) p e, near) tt)
+      (λ i x. IsWellFormed (with_op t (op.Await (phaser p) off) s.plan) t (length (actions s.plan t) + i) x)
+      (member_now (op.Await (phaser p) off) p e, near) tt)
       (λ i q f. two_new (Blocks (record { phaser = p; off = off })) (Passes p) (λ i x. (q : ℕ) → x ≢ Makes q) (λ q g. cc) (λ q g. cc) i (Makes q) f q refl))
       (same_starts (op.Await (phaser p) off) s.members s.names s.visits
       (λ i c f. two_new (Blocks (record { phaser = p; off = off })) (Passes p) (λ i x. (c : ℕ) → x ≢ Forks c) (λ c g. cc) (λ c g. cc) i (Forks c) f c refl))
@@ -372,7 +372,7 @@ module _ (t : ℕ) (s : UnfoldingState) (a : IsActing t s) where
         (λ few. op_acts (op.Fork (task c)) (slice_set s.starts c (Some start)) s.members s.names s.visits few
         (new_op (op.Fork (task c))
         (one_new (Forks c) (λ i x. IsWellFormed (with_op t (op.Fork (task c)) s.plan) t (length (actions s.plan t) + i) x)
-            (child, not_before (op.Fork (task c)) (Forks c) (λ j l. not_forked j)))
+        (child, not_before (op.Fork (task c)) (Forks c) (λ j l. not_forked j)))
         (λ i q f. one_new (Forks c) (λ i x. (q : ℕ) → x ≢ Makes q) (λ q g. cc) i (Makes q) f q refl))
         (fork_starts start near)
         (own_members (op.Fork (task c)) (slice_set s.starts c (Some start)) s.members s.names s.visits members_own (λ u q n. refl) (λ u m r. refl)))
@@ -420,7 +420,7 @@ module _ (t : ℕ) (s : UnfoldingState) (a : IsActing t s) where
                 | inr other ↦
                     member_other c p true s.members u q other ∙ before u q l within
                     ∙ sym (ap (λ m. is_some (m q)) (register_step_keeps (Some (Registers c p)) u (last_phases s.plan t) (first_phases s.plan u)
-                        (λ z e. other (let g : c ≡ u = cc in sym g))))
+                    (λ z e. other (let g : c ≡ u = cc in sym g))))
                 | inl same ↦
                     subst (λ v. with_member c p true s.members v q ≡ is_some (register_steps (Registers c p ∷ []) v (last_phases s.plan t) (first_phases s.plan v) q)) (sym same)
                     (set_member c p true s.members (first_phases s.plan c) (last_phases s.plan t p) (λ z. before c z child_above child_inside) (sym own_phase) q
@@ -441,7 +441,7 @@ module _ (t : ℕ) (s : UnfoldingState) (a : IsActing t s) where
           ))
           (λ i q f. one_new (Registers c p) (λ i x. (q : ℕ) → x ≢ Makes q) (λ q g. cc) i (Makes q) f q refl))
           (same_starts (op.Reg (task c) (phaser p)) (with_member c p true s.members) s.names s.visits
-              (λ i d f. one_new (Registers c p) (λ i x. (d : ℕ) → x ≢ Forks d) (λ d g. cc) i (Forks d) f d refl))
+          (λ i d f. one_new (Registers c p) (λ i x. (d : ℕ) → x ≢ Forks d) (λ d g. cc) i (Forks d) f d refl))
           reg_members)
 
   -- ---- a phaser more
@@ -612,7 +612,7 @@ module _ (t : ℕ) (s : UnfoldingState) (a : IsActing t s) where
       on_fault_unless (IsActing t) (nat_lt (length s.plan.parents) max_tasks) too_many_tasks n _ (λ room. task_acts (assigned x (a_task (length s.plan.parents)) s.names) room)
   act_keeps n (new_phaser x) near =
       on_fault_unless (IsActing t) (nat_lt (length s.plan.makers) max_phasers) too_many_phasers n _
-          (λ room. make_acts n (assigned x (a_phaser (length s.plan.makers)) s.names) room)
+      (λ room. make_acts n (assigned x (a_phaser (length s.plan.makers)) s.names) room)
   act_keeps n (reg x y) near =
       on_task (IsActing t) n (s.names x) _
       (λ c. on_phaser (IsActing t) n (s.names y) _

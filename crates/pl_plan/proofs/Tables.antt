@@ -143,7 +143,7 @@ module _ (plan : Plan) (t : ℕ) where
         | inl e ↦
             subst (λ v. actions_of (unwrap_or (slice_get (plan.codes ++ [] ∷ []) v) []) ≡ actions_of (unwrap_or (slice_get plan.codes v) [])) (sym e)
             (ap (λ o. actions_of (unwrap_or o [])) (slice_get-last plan.codes []) ∙
-                sym (ap (λ o. actions_of (unwrap_or o [])) (slice_get_past plan.codes (length plan.codes) (omega arith))))
+            sym (ap (λ o. actions_of (unwrap_or o [])) (slice_get_past plan.codes (length plan.codes) (omega arith))))
         | inr (inl l) ↦ ap (λ o. actions_of (unwrap_or o [])) (slice_get-append plan.codes ([] ∷ []) u l)
         | inr (inr l) ↦
             ap (λ o. actions_of (unwrap_or o []))

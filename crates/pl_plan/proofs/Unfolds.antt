@@ -88,7 +88,7 @@ module _ (two : Bool) where
           | inl same ↦
               let last : slice_index_or (parents ++ Some (task t) ∷ []) c None ≡ Some (task t) =
               ap (λ n. slice_index_or (parents ++ Some (task t) ∷ []) n None) same ∙
-                  get_or-append_right parents (Some (task t) ∷ []) (length parents) (length parents) None refl (omega arith)
+              get_or-append_right parents (Some (task t) ∷ []) (length parents) (length parents) None refl (omega arith)
               ∙ ap (λ n. slice_index_or (Some (task t) ∷ []) n None) (let z : length parents - length parents ≡ 0 = omega arith in z) in
               let by = eqb-true u t (subst (λ o. is_parent u o ≡ true) last is) in
               omega arith
@@ -133,8 +133,12 @@ module _ (two : Bool) where
         let mine : drew s t c ≡ true = not_false (drew s t c) (passes _ (5, omega arith, refl)) in
         let later : t < c = kept.drawn c t mine in
         record {
-          kept = record { drawn = kept.drawn; many = omega
-              (arith, kept.many, length-set s.starts c (Some (record { body = body; first = n + 1; names = s.names }))); few = kept.few };
+          kept = record {
+            drawn = kept.drawn;
+            many = omega
+                (arith, kept.many, length-set s.starts c (Some (record { body = body; first = n + 1; names = s.names })));
+            few = kept.few;
+          };
           more = omega arith;
           starts = λ u l. get_or-set_other s.starts c u (Some (record { body = body; first = n + 1; names = s.names })) None (λ same. absurd (omega arith));
         }
@@ -445,7 +449,7 @@ module _ (two : Bool) where
                     let keeps = keeps_on t e went.end last.end went.keeps last.keeps in
                     let below : before ++ all ≡ stages_below two (t + 1) last.end =
                     whole ∙ sym (stages_same (suc t) s last.end (λ u l. keeps.starts u (omega arith))) ∙
-                        ap (λ m. stages_below two m last.end) (let z : suc t ≡ t + 1 = omega arith in z) in
+                    ap (λ m. stages_below two m last.end) (let z : suc t ≡ t + 1 = omega arith in z) in
                     told_later before all (t + 1 + n) s last.end (unfold_tasks two n (t + 1) last.end) (unfold_task two t (Some start) s >>= unfold_tasks two n (t + 1)) more
                     (ap (λ o. o >>= unfold_tasks two n (t + 1)) (same_end start e ∙ last.is)) (rest (before ++ all) last.end keeps.kept below)
                 | inr fails ↦
@@ -482,7 +486,7 @@ module _ (two : Bool) where
     by_start None is =
         rest before s kept
         (own ∙ sym (append_nil (stages_below two t s)) ∙ ap (λ o. stages_below two t s ++ stages_of two t o) (sym is) ∙
-            ap (λ m. stages_below two m s) (let z : suc t ≡ t + 1 = omega arith in z))
+        ap (λ m. stages_below two m s) (let z : suc t ≡ t + 1 = omega arith in z))
     by_start (Some start) is = started start is
 
   tasks : (n t : ℕ) (before : List Stage) (s : UnfoldingState) → IsKept s → before ≡ stages_below two t s → Told before (t + n) s (unfold_tasks two n t s)
@@ -608,7 +612,7 @@ module _ (program : Program) where
   to_plan : (o : Outcome UnfoldingState) → Told program.two [] 1024 (opening_state program.body) o → (plan : Plan) → Unfolds program plan → planned o ≡ Ok plan
   to_plan o (inl r) plan u =
       let same = one_way program.two [] r.stages u.stages (opening_state program.body) r.end u.end r.leads u.leads
-              (all_blocks program.two r.stages r.end (through_all program o r)) (all_blocks program.two u.stages u.end u.all) in
+      (all_blocks program.two r.stages r.end (through_all program o r)) (all_blocks program.two u.stages u.end u.all) in
       ap planned r.is ∙ ap (λ (s : UnfoldingState). Ok s.plan) same.1 ∙ ap Ok u.plan_is
   to_plan o (inr f) plan u =
       let same = one_way program.two [] f.done u.stages (opening_state program.body) f.there u.end f.leads u.leads
@@ -620,7 +624,7 @@ module _ (program : Program) where
   to_fault : (o : Outcome UnfoldingState) → Told program.two [] 1024 (opening_state program.body) o → (g : CheckFault) → IsFirstCheckFault program g → planned o ≡ Err g
   to_fault o (inl r) g u =
       let same = one_way program.two [] r.stages u.stages (opening_state program.body) r.end u.there r.leads u.leads
-              (all_blocks program.two r.stages r.end (through_all program o r))
+      (all_blocks program.two r.stages r.end (through_all program o r))
       (fault_blocks program.two u.stages u.there u.stage g u.next u.fails) in
       let next : IsNextStage program.two r.stages u.stage r.end =
       subst (λ z. IsNextStage program.two r.stages u.stage z) (sym same.1) (subst (λ b. IsNextStage program.two b u.stage u.there) (sym same.0) u.next) in

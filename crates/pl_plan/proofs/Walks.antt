@@ -37,8 +37,8 @@ simulates_acting names k s f h t n r step (new_phaser x) e = subst (λ z. Simula
     (simulating.simulates_new_phaser names k s f h t n r e.0.0 e.2.0))
 simulates_acting names k s f h t n r step (reg x y) e = subst (λ z. Simulates names (checker_act t n z k) (act t n (reg x y) s)) (sym e.2)
     (subst (λ v. Simulates names (checker_act t n (a_step.Reg e.0 e.1) k) (act t n (reg v y) s)) e.3.1
-        (subst (λ v. Simulates names (checker_act t n (a_step.Reg e.0 e.1) k) (act t n (reg (names e.0.0) v) s)) e.4.1
-        (simulating.simulates_reg names k s f h t n r e.0.0 e.1.0 e.3.0 e.4.0)))
+    (subst (λ v. Simulates names (checker_act t n (a_step.Reg e.0 e.1) k) (act t n (reg (names e.0.0) v) s)) e.4.1
+    (simulating.simulates_reg names k s f h t n r e.0.0 e.1.0 e.3.0 e.4.0)))
 simulates_acting names k s f h t n r step (dereg x) e = subst (λ z. Simulates names (checker_act t n z k) (act t n (dereg x) s)) (sym e.1)
     (subst (λ y. Simulates names (checker_act t n (a_step.Dereg e.0) k) (act t n (dereg y) s)) e.2.1
     (simulating.simulates_dereg names k s f h t n r e.0.0 e.2.0))

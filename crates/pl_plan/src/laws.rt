@@ -15,7 +15,9 @@ pub fn fault_is_of_program()
     ensures { FaultIsOfProgram }
 {}
 
-/// What the unfolding means, in other words than its computation: the stages of the tasks come one after the other, in order of the tasks and each task's as its statements stand; each passes the tests of the table in the state after those before it; and the first fault is the first failing row of the table at the first stage that fails one.
+/// What the unfolding means, in other words than its computation: the stages of the tasks come one after the other, in order of the tasks and each
+/// task's as its statements stand; each passes the tests of the table in the state after those before it; and the first fault is the first failing row
+/// of the table at the first stage that fails one.
 pub fn unfolding_by_visits()
     ensures plan { PlanIsUnfolded }
     ensures fault { FaultIsFirst }

@@ -54,7 +54,7 @@ module _ (scan : Scan) where
       let c = bind_ok (sign_at scan Semicolon a.0.1) _ y a.2 in
       subst (λ (z : List ℕ × List ℕ). Leads scan text (sign OpenParen ∷ name z.0 ∷ sign CloseParen ∷ sign Semicolon ∷ []) z.1) (ok_is (a.0.0, c.0) y c.2)
       (Leads-append scan text (sign OpenParen ∷ name a.0.0 ∷ sign CloseParen ∷ []) a.0.1 (sign Semicolon ∷ []) c.0 (in_parens_ok text a.0 a.1)
-          (c.0, sign_ok scan Semicolon a.0.1 c.0 c.1, refl))
+      (c.0, sign_ok scan Semicolon a.0.1 c.0 c.1, refl))
 
   pub named_err : (d : ℕ) (text : List ℕ) (f : SyntaxFault) → d ≤ MAX_OPEN_BRACES → named_at scan text ≡ Err f → Stuck scan s_named d text f
   unfolding named_at
@@ -79,7 +79,7 @@ module _ (scan : Scan) where
       let h = bind_ok (sign_at scan CloseParen g.0.1) _ y g.2 in
       let i = bind_ok (sign_at scan Semicolon h.0) _ y h.2 in
       subst (λ (z : List ℕ × List ℕ × List ℕ). Leads scan text (sign OpenParen ∷ name z.0 ∷ sign Comma ∷ name z.1 ∷ sign CloseParen ∷ sign Semicolon ∷ []) z.2)
-          (ok_is (b.0.0, g.0.0, i.0) y i.2) (
+      (ok_is (b.0.0, g.0.0, i.0) y i.2) (
         a.0,
         sign_ok scan OpenParen text a.0 a.1,
         (

@@ -89,7 +89,7 @@ module _ (depth : ℕ) (items : List Stmt) (i : ℕ) (body : Tree) (out old : Li
       text =
           let rest = tree_of (drop (i + 1) items) in
           let a : new ++ printed_at depth rest ≡ out ++ printed_at depth (followed_by q rest) = rw (e, printed_first depth q rest)
-                  (append_assoc out (printed_at depth (followed_by q done)) (printed_at depth rest)) in
+          (append_assoc out (printed_at depth (followed_by q done)) (printed_at depth rest)) in
           a ∙ ap (λ (p : Tree). out ++ printed_at depth p) (sym next_is) ∙ now.text;
       names = λ m. now.names (subst (λ (p : Tree). TreeIsWritable p) (sym next_is) (names_first q (tree_of (drop (i + 1) items)) n m));
       deep = let h = height_first q (tree_of (drop (i + 1) items)) in let d = now.deep in let e = ap height next_is in omega arith;

@@ -151,7 +151,7 @@ number_word n b bs h e i =
     let v : nat_le (value_from 0 (b ∷ bs)) MAX_NUMBER ≡ true = (let q = i.value in grind (arith, nat_tests)) in
     let good : is_number (b ∷ bs) ≡ true =
     and_both (list_all is_digit (b ∷ bs)) _ i.digits (and_both (has_no_leading_zero (b ∷ bs)) _ (leads_well n (b ∷ bs) h e)
-        (and_both (nat_le (length (b ∷ bs)) MAX_DIGITS) (nat_le (value_from 0 (b ∷ bs)) MAX_NUMBER) s v)) in
+    (and_both (nat_le (length (b ∷ bs)) MAX_DIGITS) (nat_le (value_from 0 (b ∷ bs)) MAX_NUMBER) s v)) in
     let some : number_of (b ∷ bs) ≡ Some n = ap (λ v. cond v (Some (value_from 0 (b ∷ bs))) None) good ∙ ap (λ (m : ℕ). Some m) i.value in
     let any : list_any is_digit (take 1 (b ∷ bs)) ≡ true = rw d.0 refl in
     ap (λ v. cond v (digits_token (number_of (b ∷ bs))) (letters_token (b ∷ bs) (keyword_of (b ∷ bs)))) any ∙ ap digits_token some
@@ -421,75 +421,75 @@ module _ (scan : Scan) where
       let t : List ℕ = printed_at d p ++ rest in
       let l = new_line t (tokens p us) end (some_tree p us i) (reads p d rest us end n.1 (λ e. (g e).1) i h) in
       put (printed_at d (plain (new_task x) p) ++ rest)
-          (replicate (2 * d) 32 ++ (x ++ (32 ∷ 61 ∷ (codes " newTid(" ++ (41 ∷ 59 ∷ 10 ∷ t))))) (tokens (plain (new_task x) p) us) end (simp append_assoc)
-          (drawn_line (2 * d) x (codes " newTid(") (word k.NewTid) (10 ∷ t) (tokens p us) end tid_front n.0 l)
+      (replicate (2 * d) 32 ++ (x ++ (32 ∷ 61 ∷ (codes " newTid(" ++ (41 ∷ 59 ∷ 10 ∷ t))))) (tokens (plain (new_task x) p) us) end (simp append_assoc)
+      (drawn_line (2 * d) x (codes " newTid(") (word k.NewTid) (10 ∷ t) (tokens p us) end tid_front n.0 l)
   reads (plain (new_phaser x) p) d rest us end n g i h =
       let t : List ℕ = printed_at d p ++ rest in
       let l = new_line t (tokens p us) end (some_tree p us i) (reads p d rest us end n.1 (λ e. (g e).1) i h) in
       put (printed_at d (plain (new_phaser x) p) ++ rest)
-          (replicate (2 * d) 32 ++ (x ++ (32 ∷ 61 ∷ (codes " newPhaser(" ++ (41 ∷ 59 ∷ 10 ∷ t))))) (tokens (plain (new_phaser x) p) us) end (simp append_assoc)
-          (drawn_line (2 * d) x (codes " newPhaser(") (word k.NewPhaser) (10 ∷ t) (tokens p us) end phaser_front n.0 l)
+      (replicate (2 * d) 32 ++ (x ++ (32 ∷ 61 ∷ (codes " newPhaser(" ++ (41 ∷ 59 ∷ 10 ∷ t))))) (tokens (plain (new_phaser x) p) us) end (simp append_assoc)
+      (drawn_line (2 * d) x (codes " newPhaser(") (word k.NewPhaser) (10 ∷ t) (tokens p us) end phaser_front n.0 l)
   reads (plain (reg x y) p) d rest us end n g i h =
       let t : List ℕ = printed_at d p ++ rest in
       let l = new_line t (tokens p us) end (some_tree p us i) (reads p d rest us end n.1 (λ e. (g e).1) i h) in
       put (printed_at d (plain (reg x y) p) ++ rest) (replicate (2 * d) 32 ++ (codes "reg(" ++ (x ++ (44 ∷ 32 ∷ (y ++ (41 ∷ 59 ∷ 10 ∷ t))))))
-          (tokens (plain (reg x y) p) us) end (simp append_assoc) (reg_line (2 * d) x y (10 ∷ t) (tokens p us) end n.0.0 n.0.1 l)
+      (tokens (plain (reg x y) p) us) end (simp append_assoc) (reg_line (2 * d) x y (10 ∷ t) (tokens p us) end n.0.0 n.0.1 l)
   reads (plain (dereg x) p) d rest us end n g i h =
       let t : List ℕ = printed_at d p ++ rest in
       let l = new_line t (tokens p us) end (some_tree p us i) (reads p d rest us end n.1 (λ e. (g e).1) i h) in
       put (printed_at d (plain (dereg x) p) ++ rest) (replicate (2 * d) 32 ++ (codes "dereg(" ++ (x ++ (41 ∷ 59 ∷ 10 ∷ t)))) (tokens (plain (dereg x) p) us) end
-          (simp append_assoc) (named_line (2 * d) (codes "dereg(") (word k.Dereg) x (10 ∷ t) (tokens p us) end dereg_front n.0 l)
+      (simp append_assoc) (named_line (2 * d) (codes "dereg(") (word k.Dereg) x (10 ∷ t) (tokens p us) end dereg_front n.0 l)
   reads (plain (adv x) p) d rest us end n g i h =
       let t : List ℕ = printed_at d p ++ rest in
       let l = new_line t (tokens p us) end (some_tree p us i) (reads p d rest us end n.1 (λ e. (g e).1) i h) in
       put (printed_at d (plain (adv x) p) ++ rest) (replicate (2 * d) 32 ++ (codes "adv(" ++ (x ++ (41 ∷ 59 ∷ 10 ∷ t)))) (tokens (plain (adv x) p) us) end
-          (simp append_assoc) (named_line (2 * d) (codes "adv(") (word k.Adv) x (10 ∷ t) (tokens p us) end adv_front n.0 l)
+      (simp append_assoc) (named_line (2 * d) (codes "adv(") (word k.Adv) x (10 ∷ t) (tokens p us) end adv_front n.0 l)
   reads (plain (await x Here) p) d rest us end n g i h =
       let t : List ℕ = printed_at d p ++ rest in
       let l = new_line t (tokens p us) end (some_tree p us i) (reads p d rest us end n.1 (λ e. (g e).1) i h) in
       put (printed_at d (plain (await x Here) p) ++ rest)
-          (replicate (2 * d) 32 ++ (codes "await(" ++ (x ++ (41 ∷ 59 ∷ 10 ∷ t)))) (tokens (plain (await x Here) p) us) end (simp append_assoc)
-          (named_line (2 * d) (codes "await(") (word k.Await) x (10 ∷ t) (tokens p us) end await_front n.0.0 l)
+      (replicate (2 * d) 32 ++ (codes "await(" ++ (x ++ (41 ∷ 59 ∷ 10 ∷ t)))) (tokens (plain (await x Here) p) us) end (simp append_assoc)
+      (named_line (2 * d) (codes "await(") (word k.Await) x (10 ∷ t) (tokens p us) end await_front n.0.0 l)
   reads (plain (await x (Back m)) p) d rest us end n g i h =
       let t : List ℕ = printed_at d p ++ rest in
       let l = new_line t (tokens p us) end (some_tree p us i) (reads p d rest us end n.1 (λ e. (g e).1) i h) in
       let on = looks (Back m) (λ e. (g e).0) (λ e. absurd cc) in
       put (printed_at d (plain (await x (Back m)) p) ++ rest)
-          (replicate (2 * d) 32 ++ (codes "await(" ++ (x ++ (32 ∷ 45 ∷ 32 ∷ (decimal m ++ (41 ∷ 59 ∷ 10 ∷ t)))))) (tokens (plain (await x (Back m)) p) us) end
-          (regroup d x (codes " - " ++ decimal m) (printed_at d p) rest)
+      (replicate (2 * d) 32 ++ (codes "await(" ++ (x ++ (32 ∷ 45 ∷ 32 ∷ (decimal m ++ (41 ∷ 59 ∷ 10 ∷ t)))))) (tokens (plain (await x (Back m)) p) us) end
+      (regroup d x (codes " - " ++ decimal m) (printed_at d p) rest)
       (far_line (2 * d) x 45 m (sign Minus) (10 ∷ t) (tokens p us) end (minus_front on) n.0.0 n.0.1 l)
   reads (plain (await x (Ahead m)) p) d rest us end n g i h =
       let t : List ℕ = printed_at d p ++ rest in
       let l = new_line t (tokens p us) end (some_tree p us i) (reads p d rest us end n.1 (λ e. (g e).1) i h) in
       let on = looks (Ahead m) (λ e. (g e).0) (λ e. absurd cc) in
       put (printed_at d (plain (await x (Ahead m)) p) ++ rest)
-          (replicate (2 * d) 32 ++ (codes "await(" ++ (x ++ (32 ∷ 43 ∷ 32 ∷ (decimal m ++ (41 ∷ 59 ∷ 10 ∷ t)))))) (tokens (plain (await x (Ahead m)) p) us) end
-          (regroup d x (codes " + " ++ decimal m) (printed_at d p) rest)
+      (replicate (2 * d) 32 ++ (codes "await(" ++ (x ++ (32 ∷ 43 ∷ 32 ∷ (decimal m ++ (41 ∷ 59 ∷ 10 ∷ t)))))) (tokens (plain (await x (Ahead m)) p) us) end
+      (regroup d x (codes " + " ++ decimal m) (printed_at d p) rest)
       (far_line (2 * d) x 43 m (sign Plus) (10 ∷ t) (tokens p us) end (plus_front on) n.0.0 n.0.1 l)
   reads (plain skip p) d rest us end n g i h =
       let t : List ℕ = printed_at d p ++ rest in
       let l = new_line t (tokens p us) end (some_tree p us i) (reads p d rest us end n.1 (λ e. (g e).1) i h) in
       put (printed_at d (plain skip p) ++ rest) (replicate (2 * d) 32 ++ (codes "skip;" ++ (10 ∷ t))) (tokens (plain skip p) us) end (simp append_assoc)
-          (skip_line (2 * d) (10 ∷ t) (tokens p us) end l)
+      (skip_line (2 * d) (10 ∷ t) (tokens p us) end l)
   reads (fork x b p) d rest us end n g i h =
       let t : List ℕ = printed_at d p ++ rest in
       let after_body : List ℕ = replicate (2 * d) 32 ++ (125 ∷ 10 ∷ t) in
       let l = shut_line (2 * d) (10 ∷ t) (tokens p us) end (new_line t (tokens p us) end (some_tree p us i) (reads p d rest us end n.2 (λ e. (g e).1) i h)) in
       let inner = new_line (printed_at (d + 1) b ++ after_body) (tokens b (sign CloseBrace ∷ tokens p us)) end
-              (some_tree b (sign CloseBrace ∷ tokens p us) (some_sign (tokens p us)))
+      (some_tree b (sign CloseBrace ∷ tokens p us) (some_sign (tokens p us)))
       (reads b (d + 1) after_body (sign CloseBrace ∷ tokens p us) end n.1 (λ e. (g e).0) (some_sign (tokens p us)) l) in
       put (printed_at d (fork x b p) ++ rest) (replicate (2 * d) 32 ++ (codes "fork(" ++ (x ++ (41 ∷ 32 ∷ 123 ∷ 10 ∷ (printed_at (d + 1) b ++ after_body)))))
-          (tokens (fork x b p) us) end (simp append_assoc)
+      (tokens (fork x b p) us) end (simp append_assoc)
       (fork_line (2 * d) x (10 ∷ (printed_at (d + 1) b ++ after_body)) (tokens b (sign CloseBrace ∷ tokens p us)) end n.0 inner)
   reads (loop m b p) d rest us end n g i h =
       let t : List ℕ = printed_at d p ++ rest in
       let after_body : List ℕ = replicate (2 * d) 32 ++ (125 ∷ 10 ∷ t) in
       let l = shut_line (2 * d) (10 ∷ t) (tokens p us) end (new_line t (tokens p us) end (some_tree p us i) (reads p d rest us end n.2 (λ e. (g e).1) i h)) in
       let inner = new_line (printed_at (d + 1) b ++ after_body) (tokens b (sign CloseBrace ∷ tokens p us)) end
-              (some_tree b (sign CloseBrace ∷ tokens p us) (some_sign (tokens p us)))
+      (some_tree b (sign CloseBrace ∷ tokens p us) (some_sign (tokens p us)))
       (reads b (d + 1) after_body (sign CloseBrace ∷ tokens p us) end n.1 (λ e. (g e).0) (some_sign (tokens p us)) l) in
       put (printed_at d (loop m b p) ++ rest) (replicate (2 * d) 32 ++ (codes "loop " ++ (decimal m ++ (32 ∷ 123 ∷ 10 ∷ (printed_at (d + 1) b ++ after_body)))))
-          (tokens (loop m b p) us) end (simp append_assoc)
+      (tokens (loop m b p) us) end (simp append_assoc)
       (loop_line (2 * d) m (10 ∷ (printed_at (d + 1) b ++ after_body)) (tokens b (sign CloseBrace ∷ tokens p us)) end n.0 inner)
 
 -- the printed statements are read as themselves

@@ -162,7 +162,7 @@ module _ (scan : Scan) where
 
   drawn_plain : (x : List ℕ) (made : Bool) (d : ℕ) (before text rest : List ℕ) → d ≤ MAX_OPEN_BRACES → front scan before ≡ Ok (name x, text)
       → Leads scan text (sign Equals ∷ maker_of scan made ∷ sign OpenParen ∷ sign CloseParen ∷ sign Semicolon ∷ []) rest →
-          Took scan before (followed_by (drawn_stmt x made) done) rest d
+      Took scan before (followed_by (drawn_stmt x made) done) rest d
   drawn_plain x true d before text rest le here leads = plain_took (new_task x) (name x)
       (sign Equals ∷ maker_of scan true ∷ sign OpenParen ∷ sign CloseParen ∷ sign Semicolon ∷ []) d before text rest le here leads (λ us. refl)
   drawn_plain x false d before text rest le here leads = plain_took (new_phaser x) (name x)
@@ -174,7 +174,7 @@ module _ (scan : Scan) where
   drawing_ok x d before text y le here e =
       let b = bind_ok (drawn_at scan text) _ y e in
       subst (λ (z : Stmt × List ℕ). Took scan before (followed_by z.0 done) z.1 d) (ok_is (drawn_stmt x b.0.0, b.0.1) y b.2)
-          (drawn_plain x b.0.0 d before text b.0.1 le here (drawn_ok scan text b.0 b.1))
+      (drawn_plain x b.0.0 d before text b.0.1 le here (drawn_ok scan text b.0 b.1))
 
   drawing_err : (x : List ℕ) (d : ℕ) (before text : List ℕ) (f : SyntaxFault) → d ≤ MAX_OPEN_BRACES → front scan before ≡ Ok (name x, text) →
       drawing_at scan x text ≡ Err f → Stuck scan [] d before f
@@ -192,7 +192,7 @@ module _ (scan : Scan) where
       let b = bind_ok (named_at scan text) _ y e in
       subst (λ (z : Stmt × List ℕ). Took scan before (followed_by z.0 done) z.1 d) (ok_is (s.Dereg b.0.0, b.0.1) y b.2)
       (plain_took (dereg b.0.0) (word k.Dereg) (sign OpenParen ∷ name b.0.0 ∷ sign CloseParen ∷ sign Semicolon ∷ []) d before text b.0.1 le here
-          (named_ok scan text b.0 b.1) (λ us. refl))
+      (named_ok scan text b.0 b.1) (λ us. refl))
 
   dereg_err : (d : ℕ) (before text : List ℕ) (f : SyntaxFault) → d ≤ MAX_OPEN_BRACES → front scan before ≡ Ok (word k.Dereg, text) →
       dereg_at scan text ≡ Err f → Stuck scan [] d before f
@@ -209,7 +209,7 @@ module _ (scan : Scan) where
       let b = bind_ok (named_at scan text) _ y e in
       subst (λ (z : Stmt × List ℕ). Took scan before (followed_by z.0 done) z.1 d) (ok_is (s.Adv b.0.0, b.0.1) y b.2)
       (plain_took (adv b.0.0) (word k.Adv) (sign OpenParen ∷ name b.0.0 ∷ sign CloseParen ∷ sign Semicolon ∷ []) d before text b.0.1 le here
-          (named_ok scan text b.0 b.1) (λ us. refl))
+      (named_ok scan text b.0 b.1) (λ us. refl))
 
   adv_err : (d : ℕ) (before text : List ℕ) (f : SyntaxFault) → d ≤ MAX_OPEN_BRACES → front scan before ≡ Ok (word k.Adv, text) → adv_at scan text ≡ Err f → Stuck scan [] d before f
   unfolding adv_at
@@ -269,7 +269,7 @@ module _ (scan : Scan) where
       let b = bind_ok (pair_at scan text) _ y e in
       subst (λ (z : Stmt × List ℕ). Took scan before (followed_by z.0 done) z.1 d) (ok_is (s.Reg b.0.0 b.0.1, b.0.2) y b.2)
       (plain_took (reg b.0.0 b.0.1) (word k.Reg) (sign OpenParen ∷ name b.0.0 ∷ sign Comma ∷ name b.0.1 ∷ sign CloseParen ∷ sign Semicolon ∷ []) d before text
-          b.0.2 le here (pair_ok scan text b.0 b.1) (λ us. refl))
+      b.0.2 le here (pair_ok scan text b.0 b.1) (λ us. refl))
 
   reg_err : (d : ℕ) (before text : List ℕ) (f : SyntaxFault) → d ≤ MAX_OPEN_BRACES → front scan before ≡ Ok (word k.Reg, text) → reg_at scan text ≡ Err f → Stuck scan [] d before f
   unfolding reg_at
@@ -369,8 +369,12 @@ module _ (scan : Scan) where
         let i = block_ok d a.0.1 b.0 le (omega arith) b.1 in
         subst (λ (z : Stmt × List ℕ). Took scan before (followed_by z.0 done) z.1 d) (ok_is (s.Fork a.0.0 b.0.0, b.0.1) y b.2)
         record {
-          leads = λ us end h. (text, here, Leads-append scan text (sign OpenParen ∷ name a.0.0 ∷ sign CloseParen ∷ []) a.0.1
-              (sign OpenBrace ∷ tokens b.0.0 (sign CloseBrace ∷ us)) end x (i.leads us end h));
+          leads = λ us end h. (
+            text,
+            here,
+            Leads-append scan text (sign OpenParen ∷ name a.0.0 ∷ sign CloseParen ∷ []) a.0.1
+                (sign OpenBrace ∷ tokens b.0.0 (sign CloseBrace ∷ us)) end x (i.leads us end h),
+          );
           deep = (let q = i.deep in omega arith);
         }
 

@@ -73,7 +73,7 @@ module _ (before : List Stmt) (scan : Scan) (depth : ℕ) (rest text : List ℕ)
           let t = turn.all n h in
           let k : length after < t.0 = omega arith in
           let one : with_front before (statements_at (t.0 + 1) scan depth rest) ≡ with_front (before ++ s ∷ []) (statements_at t.0 scan depth left) = rw
-                  (add-one, here, goes, reads t.0 k) (regroup before s (statements_at t.0 scan depth left)) in
+          (add-one, here, goes, reads t.0 k) (regroup before s (statements_at t.0 scan depth left)) in
           let e : t.0 - 1 + 1 ≡ t.0 = omega arith in
           (t.0 - 1, omega arith, rw e (sym one ∙ t.2));
     }

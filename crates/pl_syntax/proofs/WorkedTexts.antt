@@ -11,13 +11,72 @@ reads_texts =
       blanks = record { reads = (_, refl, (_, refl, (_, refl, (_, refl, (_, refl, refl))))); shallow = omega arith };
       comments = record { reads = (_, refl, (_, refl, (_, refl, refl))); shallow = omega arith };
       dense = record {
-        reads = (_, refl, (_, refl, (_, refl, (_, refl,
-            (_, refl, (_, refl, (_, refl, (_, refl, (_, refl,
-            (_, refl, (_, refl, (_, refl, (_, refl, (_, refl, (_, refl, (_, refl, (_, refl, refl)))))))))))))))));
+        reads = (
+          _,
+          refl,
+          (
+            _,
+            refl,
+            (
+              _,
+              refl,
+              (
+                _,
+                refl,
+                (
+                  _,
+                  refl,
+                  (
+                    _,
+                    refl,
+                    (
+                      _,
+                      refl,
+                      (
+                        _,
+                        refl,
+                        (
+                          _,
+                          refl,
+                          (_, refl, (_, refl, (_, refl, (_, refl, (_, refl, (_, refl, (_, refl, (_, refl, refl)))))))),
+                        ),
+                      ),
+                    ),
+                  ),
+                ),
+              ),
+            ),
+          ),
+        );
         shallow = omega arith;
       };
-      ahead = record { reads = (_, (_, refl, (_, refl, (_, refl, refl))),
-          (_, refl, (_, refl, (_, refl, (_, refl, (_, refl,
-          (_, refl, (_, refl, (_, refl, (_, refl, (_, refl, (_, refl, (_, refl, (_, refl, (_, refl, (_, refl, refl)))))))))))))))); shallow = omega arith };
+      ahead = record {
+        reads = (
+          _,
+          (_, refl, (_, refl, (_, refl, refl))),
+          (
+            _,
+            refl,
+            (
+              _,
+              refl,
+              (
+                _,
+                refl,
+                (
+                  _,
+                  refl,
+                  (
+                    _,
+                    refl,
+                    (_, refl, (_, refl, (_, refl, (_, refl, (_, refl, (_, refl, (_, refl, (_, refl, (_, refl, (_, refl, refl)))))))))),
+                  ),
+                ),
+              ),
+            ),
+          ),
+        );
+        shallow = omega arith;
+      };
       a_name = record { reads = (_, refl, (_, refl, (_, refl, (_, refl, (_, refl, (_, refl, (_, refl, refl))))))); shallow = omega arith };
     }

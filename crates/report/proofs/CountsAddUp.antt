@@ -12,13 +12,48 @@ count_by-cons p s all = sum_by-cons (λ x. cond (p x) 1 0) s all
 
 pub counts_add_up : CountsAddUp
 counts_add_up [] = refl
-counts_add_up (Done ∷ all) = omega (arith, counts_add_up all, count_by-cons is_done Done all, count_by-cons is_dead Done all, count_by-cons is_held Done all,
-    count_by-cons is_refused Done all, count_by-cons is_unforked Done all)
-counts_add_up (Dead e ∷ all) = omega (arith, counts_add_up all, count_by-cons is_done (Dead e) all, count_by-cons is_dead (Dead e) all,
-    count_by-cons is_held (Dead e) all, count_by-cons is_refused (Dead e) all, count_by-cons is_unforked (Dead e) all)
-counts_add_up (Held e ∷ all) = omega (arith, counts_add_up all, count_by-cons is_done (Held e) all, count_by-cons is_dead (Held e) all,
-    count_by-cons is_held (Held e) all, count_by-cons is_refused (Held e) all, count_by-cons is_unforked (Held e) all)
-counts_add_up (Refused e ∷ all) = omega (arith, counts_add_up all, count_by-cons is_done (Refused e) all, count_by-cons is_dead (Refused e) all,
-    count_by-cons is_held (Refused e) all, count_by-cons is_refused (Refused e) all, count_by-cons is_unforked (Refused e) all)
-counts_add_up (Unforked ∷ all) = omega (arith, counts_add_up all, count_by-cons is_done Unforked all, count_by-cons is_dead Unforked all,
-    count_by-cons is_held Unforked all, count_by-cons is_refused Unforked all, count_by-cons is_unforked Unforked all)
+counts_add_up (Done ∷ all) = omega (
+  arith,
+  counts_add_up all,
+  count_by-cons is_done Done all,
+  count_by-cons is_dead Done all,
+  count_by-cons is_held Done all,
+  count_by-cons is_refused Done all,
+  count_by-cons is_unforked Done all,
+)
+counts_add_up (Dead e ∷ all) = omega (
+  arith,
+  counts_add_up all,
+  count_by-cons is_done (Dead e) all,
+  count_by-cons is_dead (Dead e) all,
+  count_by-cons is_held (Dead e) all,
+  count_by-cons is_refused (Dead e) all,
+  count_by-cons is_unforked (Dead e) all,
+)
+counts_add_up (Held e ∷ all) = omega (
+  arith,
+  counts_add_up all,
+  count_by-cons is_done (Held e) all,
+  count_by-cons is_dead (Held e) all,
+  count_by-cons is_held (Held e) all,
+  count_by-cons is_refused (Held e) all,
+  count_by-cons is_unforked (Held e) all,
+)
+counts_add_up (Refused e ∷ all) = omega (
+  arith,
+  counts_add_up all,
+  count_by-cons is_done (Refused e) all,
+  count_by-cons is_dead (Refused e) all,
+  count_by-cons is_held (Refused e) all,
+  count_by-cons is_refused (Refused e) all,
+  count_by-cons is_unforked (Refused e) all,
+)
+counts_add_up (Unforked ∷ all) = omega (
+  arith,
+  counts_add_up all,
+  count_by-cons is_done Unforked all,
+  count_by-cons is_dead Unforked all,
+  count_by-cons is_held Unforked all,
+  count_by-cons is_refused Unforked all,
+  count_by-cons is_unforked Unforked all,
+)

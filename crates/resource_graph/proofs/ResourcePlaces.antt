@@ -116,7 +116,7 @@ module _ (ss : List Status) (ok : IsInOrder ss) (d : Deps) (is : IsDepsOf ss d) 
         let at : ResourceAt ss d k (task s.t) = (s, lt, e, refl) in (
           λ c. resource_to_dead ss s.t (transfer (HasEdge g.edges) (ResourceEdge ss) (ResourceAt ss d) one_resource (λ x y h. (edge_ends x y h).0) edge_resource k (task s.t) at c),
           λ c. transfer (ResourceEdge ss) (HasEdge g.edges) (λ r n. ResourceAt ss d n r) one_node (λ r q h. (resource_ends r q h).0) resource_edge (task s.t) k
-          at (dead_to_resource ss s.t c),
+              at (dead_to_resource ss s.t c),
         )
 
     pub resource_dead : (answers : List Bool) (dead : List TaskId) → TellsCycles g.edges answers → IsPick g.tasks answers dead → IsDeadList ss dead

@@ -57,99 +57,99 @@ some_awaited phasers (w ∷ ws) l all =
 
 module _ (plan : Plan) (checked : IsCheckedPlan plan) (loads : Loads) (h : List Step) (run : IsPlainRun plan h) (pass new : OpenPass)
     (of : IsPassOf plan loads pass) (few : length loads < length plan.parents) (loads_one : LoadsAwait plan pass new ((state_after h).published pass.loaded))
-    where
-  here : pass.loaded ≡ length loads
-  here = of.awaits.loaded ∙ min_less (length loads) (length plan.parents) few
+  where
+    here : pass.loaded ≡ length loads
+    here = of.awaits.loaded ∙ min_less (length loads) (length plan.parents) few
 
-  longer : length (loads ++ h ∷ []) ≡ length loads + 1
-  longer = length-append loads (h ∷ [])
+    longer : length (loads ++ h ∷ []) ≡ length loads + 1
+    longer = length-append loads (h ∷ [])
 
-  waiting_more : (all : Loads) → Extends all (loads ++ h ∷ []) → new.waiting.items ≡ given_below (waiting_found all) new.loaded
-  waiting_more all ext =
-      let found : event_found all pass.loaded ≡ (state_after h).published pass.loaded =
-      ap (λ t. event_after pass.loaded (slice_get all t)) here ∙ ap (event_after pass.loaded) (has_next all loads h ext) in
-      loads_one.kept.waiting
-      ∙ ap (λ l. l ++ option_to_list (option_map (λ e. record { t = record { 0 = pass.loaded }; event = e }) ((state_after h).published pass.loaded)))
-          (of.awaits.waiting all (extends_less all loads h ext))
-      ∙ ap (λ o. given_below (waiting_found all) pass.loaded ++ option_to_list (option_map (λ e. record { t = record { 0 = pass.loaded }; event = e }) o)) (sym found)
-      ∙ sym (given_more (waiting_found all) pass.loaded)
-      ∙ ap (given_below (waiting_found all)) (sym loads_one.kept.loaded)
+    waiting_more : (all : Loads) → Extends all (loads ++ h ∷ []) → new.waiting.items ≡ given_below (waiting_found all) new.loaded
+    waiting_more all ext =
+        let found : event_found all pass.loaded ≡ (state_after h).published pass.loaded =
+        ap (λ t. event_after pass.loaded (slice_get all t)) here ∙ ap (event_after pass.loaded) (has_next all loads h ext) in
+        loads_one.kept.waiting
+        ∙ ap (λ l. l ++ option_to_list (option_map (λ e. record { t = record { 0 = pass.loaded }; event = e }) ((state_after h).published pass.loaded)))
+        (of.awaits.waiting all (extends_less all loads h ext))
+        ∙ ap (λ o. given_below (waiting_found all) pass.loaded ++ option_to_list (option_map (λ e. record { t = record { 0 = pass.loaded }; event = e }) o)) (sym found)
+        ∙ sym (given_more (waiting_found all) pass.loaded)
+        ∙ ap (given_below (waiting_found all)) (sym loads_one.kept.loaded)
 
-  awaited_more : (all : Loads) → Extends all (loads ++ h ∷ []) → new.loaded ≡ length plan.parents → new.awaited.items ≡ given_below (awaited_phaser plan all) (length plan.makers)
-  awaited_more all ext full =
-      loads_one.awaited full
-      ∙ given_same (phaser_of new.waiting.items) (awaited_phaser plan all) (length plan.makers) (λ p l.
-      ap (λ b. if b then Some (record { 0 = p }) else None)
-      (ap (list_any (λ (w : Waiting). w.event.p.0 == p)) (waiting_more all ext ∙ ap (given_below (waiting_found all)) full)
-      ∙ any_given (λ (w : Waiting). w.event.p.0 == p) (waiting_found all) (λ t. is_event_of p (event_found all t)) (length plan.parents)
-          (λ t m. one_event p (event_found all t) t)))
+    awaited_more : (all : Loads) → Extends all (loads ++ h ∷ []) → new.loaded ≡ length plan.parents → new.awaited.items ≡ given_below (awaited_phaser plan all) (length plan.makers)
+    awaited_more all ext full =
+        loads_one.awaited full
+        ∙ given_same (phaser_of new.waiting.items) (awaited_phaser plan all) (length plan.makers) (λ p l.
+        ap (λ b. if b then Some (record { 0 = p }) else None)
+        (ap (list_any (λ (w : Waiting). w.event.p.0 == p)) (waiting_more all ext ∙ ap (given_below (waiting_found all)) full)
+        ∙ any_given (λ (w : Waiting). w.event.p.0 == p) (waiting_found all) (λ t. is_event_of p (event_found all t)) (length plan.parents)
+        (λ t m. one_event p (event_found all t) t)))
 
-  phasers_more : All (λ (w : Waiting). w.event.p.0 < length plan.makers) new.waiting.items
-  phasers_more =
-      subst (All (λ (w : Waiting). w.event.p.0 < length plan.makers)) (sym loads_one.kept.waiting)
-      (All-append (λ (w : Waiting). w.event.p.0 < length plan.makers) pass.waiting.items _ of.awaits.phasers (one ((state_after h).published pass.loaded) refl))
-    where
-      one : (o : Option Event) → (state_after h).published pass.loaded ≡ o
-          → All (λ (w : Waiting). w.event.p.0 < length plan.makers) (option_to_list (option_map (λ e. record { t = record { 0 = pass.loaded }; event = e }) o))
-      one None is = λ k d l. absurd (omega arith)
-      one (Some e) is = λ k d l. first k d l (published_phaser plan checked h run.0 pass.loaded e is)
-        where
-          first : (k : ℕ) (d : Waiting) → k < 1 → e.p.0 < length plan.makers →
-              (get_or (record { t = record { 0 = pass.loaded }; event = e } ∷ []) k d).event.p.0 < length plan.makers
-          first zero d l within = within
-          first (suc k) d l within = absurd (omega arith)
+    phasers_more : All (λ (w : Waiting). w.event.p.0 < length plan.makers) new.waiting.items
+    phasers_more =
+        subst (All (λ (w : Waiting). w.event.p.0 < length plan.makers)) (sym loads_one.kept.waiting)
+        (All-append (λ (w : Waiting). w.event.p.0 < length plan.makers) pass.waiting.items _ of.awaits.phasers (one ((state_after h).published pass.loaded) refl))
+      where
+        one : (o : Option Event) → (state_after h).published pass.loaded ≡ o
+            → All (λ (w : Waiting). w.event.p.0 < length plan.makers) (option_to_list (option_map (λ e. record { t = record { 0 = pass.loaded }; event = e }) o))
+        one None is = λ k d l. absurd (omega arith)
+        one (Some e) is = λ k d l. first k d l (published_phaser plan checked h run.0 pass.loaded e is)
+          where
+            first : (k : ℕ) (d : Waiting) → k < 1 → e.p.0 < length plan.makers →
+                (get_or (record { t = record { 0 = pass.loaded }; event = e } ∷ []) k d).event.p.0 < length plan.makers
+            first zero d l within = within
+            first (suc k) d l within = absurd (omega arith)
 
-  -- where some task waits, some phaser is awaited
-  no_row : pass.row ≡ 0 × pass.column ≡ 0
-  no_row = of.phases.first (omega (arith, here))
+    -- where some task waits, some phaser is awaited
+    no_row : pass.row ≡ 0 × pass.column ≡ 0
+    no_row = of.phases.first (omega (arith, here))
 
-  phases_more : HasPhases plan (loads ++ h ∷ []) new
-  phases_more =
-      record {
-        place = λ full. record {
-          cells = cells full;
-          row = (let z = no_row.0 in let s = loads_one.kept.row in omega arith);
-          column = λ less. (let z = no_row.1 in let s = loads_one.kept.column in let w = no_row.0 in let r = loads_one.kept.row in
-              let some = some_awaited (length plan.makers) new.waiting.items (omega arith) phasers_more in
-              let l = ap length (loads_one.awaited full) in omega arith);
-          last = λ _. loads_one.kept.column ∙ no_row.1;
-        };
-        first = λ _. (loads_one.kept.row ∙ no_row.0, loads_one.kept.column ∙ no_row.1);
-        statuses = λ all ext. loads_one.kept.statuses ∙ of.phases.statuses all (extends_less all loads h ext)
-            ∙ ap (λ k. map (status_with plan all) (take k pass.waiting.items)) no_row.0
-            ∙ sym (ap (λ k. map (status_with plan all) (take k new.waiting.items)) (loads_one.kept.row ∙ no_row.0));
-        members = λ all ext. loads_one.kept.members ∙ of.phases.members all (extends_less all loads h ext)
-            ∙ ap (λ k. row_found plan all (slice_get pass.waiting.items pass.row) (take k pass.awaited.items)) no_row.1
-            ∙ nothing_found all (slice_get pass.waiting.items pass.row)
-            ∙ sym (ap (λ k. row_found plan all (slice_get new.waiting.items new.row) (take k new.awaited.items)) (loads_one.kept.column ∙ no_row.1) ∙
-                nothing_found all (slice_get new.waiting.items new.row));
-      }
-    where
-      nothing_found : (all : Loads) (o : Option Waiting) → row_found plan all o [] ≡ []
-      nothing_found all None = refl
-      nothing_found all (Some w) = refl
+    phases_more : HasPhases plan (loads ++ h ∷ []) new
+    phases_more =
+        record {
+          place = λ full. record {
+            cells = cells full;
+            row = (let z = no_row.0 in let s = loads_one.kept.row in omega arith);
+            column = λ less. (let z = no_row.1 in let s = loads_one.kept.column in let w = no_row.0 in let r = loads_one.kept.row in
+                let some = some_awaited (length plan.makers) new.waiting.items (omega arith) phasers_more in
+                let l = ap length (loads_one.awaited full) in omega arith);
+            last = λ _. loads_one.kept.column ∙ no_row.1;
+          };
+          first = λ _. (loads_one.kept.row ∙ no_row.0, loads_one.kept.column ∙ no_row.1);
+          statuses = λ all ext. loads_one.kept.statuses ∙ of.phases.statuses all (extends_less all loads h ext)
+              ∙ ap (λ k. map (status_with plan all) (take k pass.waiting.items)) no_row.0
+              ∙ sym (ap (λ k. map (status_with plan all) (take k new.waiting.items)) (loads_one.kept.row ∙ no_row.0));
+          members = λ all ext. loads_one.kept.members ∙ of.phases.members all (extends_less all loads h ext)
+              ∙ ap (λ k. row_found plan all (slice_get pass.waiting.items pass.row) (take k pass.awaited.items)) no_row.1
+              ∙ nothing_found all (slice_get pass.waiting.items pass.row)
+              ∙ sym (ap (λ k. row_found plan all (slice_get new.waiting.items new.row) (take k new.awaited.items)) (loads_one.kept.column ∙ no_row.1) ∙
+              nothing_found all (slice_get new.waiting.items new.row));
+        }
+      where
+        nothing_found : (all : Loads) (o : Option Waiting) → row_found plan all o [] ≡ []
+        nothing_found all None = refl
+        nothing_found all (Some w) = refl
 
-      cells : new.loaded ≡ length plan.parents → length (loads ++ h ∷ []) ≡ length plan.parents + (new.row * length new.awaited.items + new.column)
-      cells full =
-          longer ∙ ap (λ k. k + 1) (sym here) ∙ sym loads_one.kept.loaded ∙ full
-          ∙ sym (ap (λ k. length plan.parents + (k * length new.awaited.items + new.column)) (loads_one.kept.row ∙ no_row.0) ∙
-              ap (λ k. length plan.parents + (0 * length new.awaited.items + k)) (loads_one.kept.column ∙ no_row.1) ∙
-              nothing (length plan.parents) (length new.awaited.items))
-        where
-          nothing : (n k : ℕ) → n + (0 * k + 0) ≡ n
-          nothing n k = omega arith
+        cells : new.loaded ≡ length plan.parents → length (loads ++ h ∷ []) ≡ length plan.parents + (new.row * length new.awaited.items + new.column)
+        cells full =
+            longer ∙ ap (λ k. k + 1) (sym here) ∙ sym loads_one.kept.loaded ∙ full
+            ∙ sym (ap (λ k. length plan.parents + (k * length new.awaited.items + new.column)) (loads_one.kept.row ∙ no_row.0) ∙
+            ap (λ k. length plan.parents + (0 * length new.awaited.items + k)) (loads_one.kept.column ∙ no_row.1) ∙
+            nothing (length plan.parents) (length new.awaited.items))
+          where
+            nothing : (n k : ℕ) → n + (0 * k + 0) ≡ n
+            nothing n k = omega arith
 
-  pub awaits_more : IsPassOf plan (loads ++ h ∷ []) new
-  awaits_more =
-      record {
-        awaits = record {
-          loaded = loads_one.kept.loaded ∙ (let l = longer in let z = here in omega arith);
-          waiting = waiting_more;
-          awaited = awaited_more;
-          phasers = phasers_more;
-        };
-        phases = phases_more;
-      }
+    pub awaits_more : IsPassOf plan (loads ++ h ∷ []) new
+    awaits_more =
+        record {
+          awaits = record {
+            loaded = loads_one.kept.loaded ∙ (let l = longer in let z = here in omega arith);
+            waiting = waiting_more;
+            awaited = awaited_more;
+            phasers = phasers_more;
+          };
+          phases = phases_more;
+        }
 
 -- so a load of an await cell in a world that follows a run is a load of the pass
 pub await_loaded :

@@ -31,7 +31,7 @@ front_is input done front rest at is within same =
     let whole : input ≡ (done ++ front) ++ rest = same ∙ sym (append_assoc done front rest) in
     let ends : at + (length (front ++ rest) - length rest) ≡ length (done ++ front) = simp length-append (omega arith) in
     subst (λ i. take (at + (length (front ++ rest) - length rest)) i ≡ done ++ front) (sym whole)
-        (subst (λ k. take k ((done ++ front) ++ rest) ≡ done ++ front) (sym ends) (take-append_seam (done ++ front) rest))
+    (subst (λ k. take k ((done ++ front) ++ rest) ≡ done ++ front) (sym ends) (take-append_seam (done ++ front) rest))
 
 -- what the loop over the lines keeps: what stands before the rest is text, and a cut of the rest completes the cut
 abbrev pub Keeps : List ℕ → ℕ → List ℕ → Type 0

@@ -145,7 +145,7 @@ pub closes : (plan : Plan) (a : Progress) (old : Replaying) (l : Loads) (verdict
 closes plan a old l verdicts v of full dead same =
     let more = l ++ a.run ∷ [] in
     subst (λ b. KeepsProgress plan (if b then record a { open_pass = None; passes = a.passes ++ more ∷ [] } else record a { open_pass = Some more })
-        (record { world = old.world; pass = None; verdicts = verdicts; steps = old.steps }))
+    (record { world = old.world; pass = None; verdicts = verdicts; steps = old.steps }))
     (sym (eq-eqb (length more) (loads_of plan more) full))
     record {
       plan_is = of.plan_is;
@@ -162,7 +162,7 @@ pub stays_open : (plan : Plan) (a : Progress) (old : Replaying) (l : Loads) (p :
 stays_open plan a old l p of other is =
     let more = l ++ a.run ∷ [] in
     subst (λ b. KeepsProgress plan (if b then record a { open_pass = None; passes = a.passes ++ more ∷ [] } else record a { open_pass = Some more })
-        (record { world = old.world; pass = Some p; verdicts = old.verdicts; steps = old.steps }))
+    (record { world = old.world; pass = Some p; verdicts = old.verdicts; steps = old.steps }))
     (sym (ne_eqb (length more) (loads_of plan more) other))
     record { plan_is = of.plan_is; at = of.at; open_pass = (is, other); verdicts = of.verdicts; steps = of.steps }
 

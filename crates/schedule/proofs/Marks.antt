@@ -20,13 +20,13 @@ pub marked_more : (marks : List Bool) (p : ℕ) → p < length marks → get_or 
     given_below (marked_phaser marks) (p + 1) ≡ given_below (marked_phaser marks) p ++ record { 0 = p } ∷ []
 marked_more marks p l e =
     given_more (marked_phaser marks) p ∙ ap (λ o. given_below (marked_phaser marks) p ++ option_to_list
-        (if unwrap_or o false then Some (record { 0 = p }) else None)) (slice_get-get_or marks p false l ∙ ap Some e)
+    (if unwrap_or o false then Some (record { 0 = p }) else None)) (slice_get-get_or marks p false l ∙ ap Some e)
 
 pub unmarked_more : (marks : List Bool) (p : ℕ) → p < length marks → get_or marks p false ≡ false → given_below (marked_phaser marks) (p + 1) ≡ given_below (marked_phaser marks) p
 unmarked_more marks p l e =
     given_more (marked_phaser marks) p ∙ ap (λ o. given_below (marked_phaser marks) p ++ option_to_list
-        (if unwrap_or o false then Some (record { 0 = p }) else None)) (slice_get-get_or marks p false l ∙ ap Some e) ∙
-        append-nil (given_below (marked_phaser marks) p)
+    (if unwrap_or o false then Some (record { 0 = p }) else None)) (slice_get-get_or marks p false l ∙ ap Some e) ∙
+    append-nil (given_below (marked_phaser marks) p)
 
 -- given by equal functions
 pub given_same : {A : Type 0} (f g : ℕ → Option A) (n : ℕ) → ((k : ℕ) → k < n → f k ≡ g k) → given_below f n ≡ given_below g n
@@ -66,11 +66,11 @@ mark_one marks waiting phasers i d are l within =
       each = λ p lp. elim (cases_eq p q) [
         | inl same ↦ subst (λ r. slice_get (set marks q true) r ≡ Some (list_any (λ w. w.event.p.0 == r) (take (i + 1) waiting))) (sym same)
             (slice_get-set_same marks q true (let a = are.all in
-                omega arith) ∙ ap Some (sym (any_more waiting i q d l ∙ ap (λ b. list_any (λ w. w.event.p.0 == q) (take i waiting) || b) (eq-eqb q q refl) ∙
-                or_true _)))
+            omega arith) ∙ ap Some (sym (any_more waiting i q d l ∙ ap (λ b. list_any (λ w. w.event.p.0 == q) (take i waiting) || b) (eq-eqb q q refl) ∙
+            or_true _)))
         | inr other ↦ slice_get-set_other marks q p true other ∙ are.each p lp ∙
-              ap Some (sym (any_more waiting i p d l ∙ ap (λ b. list_any (λ w. w.event.p.0 == p) (take i waiting) || b) (ne_eqb q p (λ e. other (sym e))) ∙
-              or_false _))
+            ap Some (sym (any_more waiting i p d l ∙ ap (λ b. list_any (λ w. w.event.p.0 == p) (take i waiting) || b) (ne_eqb q p (λ e. other (sym e))) ∙
+            or_false _))
       ];
     }
 

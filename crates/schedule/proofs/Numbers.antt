@@ -48,5 +48,8 @@ pub not_read : (bytes : List ℕ) (e : ℕ) → MayBeNumber bytes → ParsesUnsi
 not_read bytes e may read n small same =
     let fits : n < 2 ^ 64 = omega arith in
     let refused = parse_plain own {E = ℕ} 32 bytes (Err e) read may.no_sign in
-    refused (subst (AllDigits 10) (sym same) (digits_decimal own n fits), may.some,
-        subst (λ b. digits_value 10 b < 2 ^ 32) (sym same) (omega (arith, digits_value-decimal own n fits)))
+    refused (
+      subst (AllDigits 10) (sym same) (digits_decimal own n fits),
+      may.some,
+      subst (λ b. digits_value 10 b < 2 ^ 32) (sym same) (omega (arith, digits_value-decimal own n fits)),
+    )

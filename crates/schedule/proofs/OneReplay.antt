@@ -121,7 +121,7 @@ no_fault_inside plan checked _ _ before here rest a kind e leads fault (one_more
           fault_or_taken plan checked a here kind b fault (subst (λ x. Takes plan a x b) parts.1 (subst (λ p. Takes plan p next b) same takes))
       | inr more ↦
           let whole : front ++ next ∷ [] ≡ (before ++ here ∷ more.0) ++ more.1 ∷ [] = e ∙ ap (λ r. before ++ here ∷ r) more.2 ∙
-                  sym (append_assoc before (here ∷ more.0) (more.1 ∷ [])) in
+          sym (append_assoc before (here ∷ more.0) (more.1 ∷ [])) in
           no_fault_inside plan checked front c before here more.0 a kind (same_ends front (before ++ here ∷ more.0) next more.1 whole).0 leads fault leads_on
     ]
 

@@ -124,7 +124,7 @@ module _ (plan : Plan) (checked : IsCheckedPlan plan) where
         let row = count_below_less (λ u. is_some (event_found loads u)) t (length plan.parents) task (ap is_some waits) in
         let column = count_below_less (is_found_awaited plan loads) p (length plan.makers) phaser awaited in
         let cell = cell_within (waiting_below loads t) (awaited_below plan loads p) (waiting_below loads (length plan.parents))
-                (awaited_below plan loads (length plan.makers)) row column in
+        (awaited_below plan loads (length plan.makers)) row column in
         omega arith
 
     -- the list of statuses found, read back
@@ -169,7 +169,7 @@ module _ (plan : Plan) (checked : IsCheckedPlan plan) where
             let order : u ≤ phase_load plan loads u p = omega arith in
             let rise = moments.rising u (phase_load plan loads u p) f k order is is_k u in
             let began : 0 < done_by (places k) u = (let b = begun f (moments.legal u f is) u asked.event on in
-                    let d = later_done (places f u).done (places k u).done (places f u).dropped (places k u).dropped rise in omega arith) in
+            let d = later_done (places f u).done (places k u).done (places f u).dropped (places k u).dropped rise in omega arith) in
             let here = load_is (phase_load plan loads u p) k u is_k in (
               subst (λ a. IsPrefix (place_at u u) a) (sym here) (subst (λ a. IsPrefix a (places k u)) (sym (load_is u f u is)) rise),
               ap (λ a. phases_at_place plan u a p) here ∙ sym (phases_fixed k (moments.legal (phase_load plan loads u p) k is_k) u began p) ∙ at_k,
@@ -299,8 +299,12 @@ module _ (plan : Plan) (checked : IsCheckedPlan plan) where
   takes_kept : (a : Progress) (next : Line) (b : Progress) → IsKept a → Takes plan a next b → IsKept b
   takes_kept a (line.Step t) b kept (x, next, is) = subst IsKept (sym is) (stepped_kept a kept t x next)
   takes_kept a line.Pass b kept (none, is) =
-      subst IsKept (sym is) record { run = kept.run; opened = λ loads e.
-          (let same : [] ≡ loads = cc in subst (λ l. AreMoments plan l a.run) same (no_moments plan a.run)); closed = kept.closed }
+      subst IsKept (sym is) record {
+        run = kept.run;
+        opened = λ loads e.
+            (let same : [] ≡ loads = cc in subst (λ l. AreMoments plan l a.run) same (no_moments plan a.run));
+        closed = kept.closed;
+      }
   takes_kept a line.Load b kept (loads, opened, is) =
       let more = loads ++ a.run ∷ [] in
       subst IsKept (sym is) (loaded_kept a kept more (more_moments plan loads a.run (kept.opened loads opened) kept.run.0) (length more == loads_of plan more) refl)

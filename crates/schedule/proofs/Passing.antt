@@ -54,7 +54,7 @@ full_is plan loads pass of all rows =
     let r = rows ∙ rows_are plan loads pass of all in
     let c = columns_are plan loads pass of all in
     cells ∙ ap (λ k. length plan.parents + k) (ap (λ x. pass.row * length pass.awaited.items + x) none ∙ add_nothing (pass.row * length pass.awaited.items) ∙
-        ap (λ x. x * length pass.awaited.items) r ∙ ap (λ x. waiting_below loads (length plan.parents) * x) c)
+    ap (λ x. x * length pass.awaited.items) r ∙ ap (λ x. waiting_below loads (length plan.parents) * x) c)
   where
     add_nothing : (n : ℕ) → n + 0 ≡ n
     add_nothing n = omega arith
@@ -73,7 +73,7 @@ full_rows plan loads pass of full =
     ap (λ x. length plan.parents + x * awaited_below plan loads (length plan.makers)) (sym r) ∙ ap (λ x. length plan.parents + length pass.waiting.items * x) (sym c) in
     elim (cases_lt pass.row (length pass.waiting.items)) [
       | inl less ↦ absurd (let cell = cell_within pass.row pass.column (length pass.waiting.items) (length pass.awaited.items) less (place.column less) in
-            let cells = place.cells in omega arith)
+          let cells = place.cells in omega arith)
       | inr more ↦ (let within = place.row in omega arith)
     ]
 
@@ -88,7 +88,7 @@ loads_left plan loads pass of all other =
     ap (λ x. length plan.parents + x * awaited_below plan loads (length plan.makers)) (sym r) ∙ ap (λ x. length plan.parents + length pass.waiting.items * x) (sym c) in
     elim (cases_lt pass.row (length pass.waiting.items)) [
       | inl less ↦ (let cell = cell_within pass.row pass.column (length pass.waiting.items) (length pass.awaited.items) less (place.column less) in
-            let cells = place.cells in omega arith)
+          let cells = place.cells in omega arith)
       | inr more ↦ absurd (other (full_is plan loads pass of all (let within = place.row in omega arith)))
     ]
 
@@ -99,13 +99,16 @@ statuses_are_found plan loads pass of full =
     let rows = full_rows plan loads pass of full in
     of.phases.statuses loads (itself loads)
     ∙ ap (map (status_with plan loads)) (ap (λ k. take k pass.waiting.items) rows ∙ take_all (length pass.waiting.items) pass.waiting.items (omega arith) ∙
-        of.awaits.waiting loads (itself loads) ∙ ap (given_below (waiting_found loads)) all)
+    of.awaits.waiting loads (itself loads) ∙ ap (given_below (waiting_found loads)) all)
     ∙ map_given (status_with plan loads) (waiting_found loads) (length plan.parents)
     ∙ given_same _ _ (length plan.parents) (λ k l. one k (event_found loads k))
   where
     one : (k : ℕ) (o : Option Event)
         → option_map (status_with plan loads) (option_map (λ e. record { t = record { 0 = k }; event = e }) o)
-        ≡ option_map (λ e. record { t = record { 0 = k }; event = e;
-            phases = given_below (listed_phase (is_found_awaited plan loads) (phases_found plan loads k)) (length plan.makers) }) o
+        ≡ option_map (λ e. record {
+          t = record { 0 = k };
+          event = e;
+          phases = given_below (listed_phase (is_found_awaited plan loads) (phases_found plan loads k)) (length plan.makers);
+        }) o
     one k None = refl
     one k (Some e) = refl

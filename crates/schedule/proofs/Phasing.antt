@@ -60,7 +60,7 @@ module _ (plan : Plan) (pass : OpenPass) (mid : IsMidPass plan pass) where
       elim (cases_lt pass.row (length pass.waiting.items)) [
         | inl less ↦ less
         | inr more ↦ absurd (let w = (mid.of.phases.place all_loaded).row in let full = full_is plan mid.loads pass mid.of all_loaded (omega arith) in
-              let n = mid.not_full in omega arith)
+            let n = mid.not_full in omega arith)
       ]
 
   pub column_within : pass.column < length pass.awaited.items
@@ -146,7 +146,7 @@ module _ (plan : Plan) (pass : OpenPass) (mid : IsMidPass plan pass) (loads : Lo
     row_status =
         ap (flat_map (member_found plan all w.t.0)) (of.awaits.awaited all before full)
         ∙ flat_given (λ q. option_map (λ n. record { p = q; n = n }) (phases_found plan all w.t.0 q.0)) (awaited_phaser plan all)
-            (listed_phase (is_found_awaited plan all) (phases_found plan all w.t.0)) (length plan.makers)
+        (listed_phase (is_found_awaited plan all) (phases_found plan all w.t.0)) (length plan.makers)
         (λ k l. one k (is_found_awaited plan all k))
       where
         one : (k : ℕ) (b : Bool) → flat_map (member_found plan all w.t.0) (option_to_list (if b then Some (record { 0 = k }) else None))
@@ -197,7 +197,7 @@ module _ (plan : Plan) (pass : OpenPass) (mid : IsMidPass plan pass) (loads : Lo
               ∙ ap (λ c. flat_map (member_found plan all w.t.0) (take c pass.awaited.items)) (sym kept.column)
               ∙ ap (λ v. flat_map (member_found plan all w.t.0) (take new.column v)) (sym kept.awaited)
               ∙ sym (ap (λ o. row_found plan all o (take new.column new.awaited.items))
-                  (ap (λ v. slice_get v new.row) kept.waiting ∙ ap (slice_get pass.waiting.items) kept.row ∙ here));
+              (ap (λ v. slice_get v new.row) kept.waiting ∙ ap (slice_get pass.waiting.items) kept.row ∙ here));
         };
       }
 

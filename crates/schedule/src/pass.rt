@@ -21,7 +21,8 @@ pub(crate) struct Waiting {
     pub(crate) event: Event,
 }
 
-/// An open pass. First it loads the await cells of all tasks, in order; then, row by row for the tasks found waiting, their phase cells in the columns of the phasers found awaited.
+/// An open pass. First it loads the await cells of all tasks, in order; then, row by row for the tasks found waiting, their phase cells in the columns
+/// of the phasers found awaited.
 #[derive(Drop)]
 pub(crate) struct OpenPass {
     // how many await cells were loaded

@@ -171,7 +171,8 @@ fn end_at(end: LineEnd, line: u32) -> ReplayEnd
     }
 }
 
-/// Replays a schedule: its lines act, in order, on a plain run of the plan and on at most one open pass, which judges by the cells that it loaded alone. Schedule comes exactly where a line is at fault, with the first such line; a pass that is still open at the end gives no verdict.
+/// Replays a schedule: its lines act, in order, on a plain run of the plan and on at most one open pass, which judges by the cells that it loaded
+/// alone. Schedule comes exactly where a line is at fault, with the first such line; a pass that is still open at the end gives no verdict.
 pub fn replay(alloc: Global, plan: &Plan, lines: &[Line]) -> Result<Replayed, ReplayEnd>
     requires few { length lines.now < 2 ^ 32 }
     ensures replays { Replays plan.now lines.now result }

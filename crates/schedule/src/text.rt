@@ -65,7 +65,8 @@ fn put_end(alloc: Global, out: &mut Vec<u8>, done: &Replayed) -> Result<(), Allo
     out.extend_from_slice(b"\n")
 }
 
-/// The text of a replay: a line for each closed pass, from 1, with the tasks that it names, and a last line with the numbers of steps and of closed passes and the tasks that are dead at the end.
+/// The text of a replay: a line for each closed pass, from 1, with the tasks that it names, and a last line with the numbers of steps and of closed
+/// passes and the tasks that are dead at the end.
 pub fn replay_text(alloc: Global, done: &Replayed) -> Result<List<u8>, NoMemory>
     ensures text { IfOk result (λ text. text ≡ text_of done.now) }
 {

@@ -111,7 +111,7 @@ module _ (ss : List Status) (ok : IsInOrder ss) (d : Deps) (is : IsDepsOf ss d) 
         let at = awaited_at ss ok d is k s lt e in (
           λ c. state_to_dead ss s (k, lt, e) (transfer (HasEdge edges) (StateEdge ss) (EventAt d) (one_event d) from_edge edge_state (get_or d.awaits k 0) s.event at c),
           λ c. transfer (StateEdge ss) (HasEdge edges) (λ r i. EventAt d i r) (one_event_place ss ok d is) to_edge state_edge s.event (get_or d.awaits k 0) at
-          (dead_to_state ss ok s (k, lt, e) c),
+              (dead_to_state ss ok s (k, lt, e) c),
         )
 
     -- as many edges as pairs of the statuses

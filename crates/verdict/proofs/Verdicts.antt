@@ -66,7 +66,7 @@ module _ (ss : List Status) (ok : IsInOrder ss) (d : Deps) (is : IsDepsOf ss d) 
         let next = w.steps k 0 lt' in
         let e : suc k ≡ k + 1 = omega arith in
         subst (λ i. get_or whole i 0 < length ss) (sym e)
-            (omega (arith, impeder_inside d is.formed (get_or d.awaits (get_or whole k 0) 0) (get_or whole (k + 1) 0) next.there, count ss ok d is))
+        (omega (arith, impeder_inside d is.formed (get_or d.awaits (get_or whole k 0) 0) (get_or whole (k + 1) 0) next.there, count ss ok d is))
 
     one_node : (p q : ℕ) → Contains whole p → Contains whole q → at p ≡ at q → p ≡ q
     one_node p q (j, jl, je) (k, kl, ke) e =
@@ -79,7 +79,7 @@ module _ (ss : List Status) (ok : IsInOrder ss) (d : Deps) (is : IsDepsOf ss d) 
     step_at k t lt =
         rw (get_or-map at whole k 0 t (omega arith), get_or-map at whole (k + 1) 0 t lt)
         (dead_step ss ok d is dead dl flags f (get_or whole k 0) (get_or whole (k + 1) 0) (at (get_or whole k 0)) (at (get_or whole (k + 1) 0)) (w.steps k 0 lt)
-            (stands (get_or whole k 0) (inside k (omega arith))) (stands (get_or whole (k + 1) 0) (inside (k + 1) lt)))
+        (stands (get_or whole k 0) (inside k (omega arith))) (stands (get_or whole (k + 1) 0) (inside (k + 1) lt)))
 
     -- the nodes of the cycle stand in the walk
     in_cycle : (k : ℕ) (o : ℕ) → k < length cycle → (get_or cycle k o ≡ get_or whole (length w.before + k) 0) × (length w.before + k < length whole)
@@ -104,7 +104,7 @@ module _ (ss : List Status) (ok : IsInOrder ss) (d : Deps) (is : IsDepsOf ss d) 
           some = rw (length-map cycle at) w.some;
           back = λ t. rw (← e, n, get_or-map at whole (length whole - 1) 0 t last, get_or-map at cycle 0 0 t w.some)
               (dead_step ss ok d is dead dl flags f (get_or whole (length whole - 1) 0) (get_or cycle 0 0) (at (get_or whole (length whole - 1) 0))
-                  (at (get_or cycle 0 0)) (w.back 0)
+              (at (get_or cycle 0 0)) (w.back 0)
               (stands (get_or whole (length whole - 1) 0) (inside (length whole - 1) last)) (stands (get_or cycle 0 0) (places_inside 0 0 w.some)));
         }
 

@@ -18,4 +18,4 @@ returns-in-Err-Left c =
     let left = rw c.in-Err-Left.field-0-is at (c.in-Err-Left.ensures c.args.list.now c.requires is) in
     IfOk-weaker c.by_waits-in-Err-Left.result (IsAnalysisBy c.args.list.now Wfg) (IsAnalysis c.args.list.now c.args.wanted)
     (λ a h. by_left c.args.list.now c.args.wanted c.in-Auto.is a c.in-Err-Left.field-0-0 c.in-Err-Left.field-0-1 left h)
-        (c.by_waits-in-Err-Left.ensures c.args.list.now c.requires is)
+    (c.by_waits-in-Err-Left.ensures c.args.list.now c.requires is)

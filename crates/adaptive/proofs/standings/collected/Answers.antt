@@ -14,8 +14,8 @@ loop-k-preserved c =
     let inside = c.loop-k-test.true in
     let items = c.in_ok-add_phases.ensures ∙ ap (λ phases. c.loop-k.standings.items ++ map (standing_at c.loop-k.k) phases) c.as_slice.ensures.items in
     subst (λ xs. AreBelow c.args.list.now (c.loop-k.k + 1) xs) (sym items)
-        (one_more c.args.list.now c.loop-k.k status inside (get_or_default c.args.list.now c.loop-k.k c.index-list-k.result status inside)
-        c.loop-k.standings.items c.loop-k.invariant)
+    (one_more c.args.list.now c.loop-k.k status inside (get_or_default c.args.list.now c.loop-k.k c.index-list-k.result status inside)
+    c.loop-k.standings.items c.loop-k.invariant)
 
 pub returns : goal.returns
 returns c =

@@ -12,7 +12,7 @@ loop-t-preserved c =
     let i = c.loop-t.t-index in
     let l = c.loop-t-test.true in
     let within : (get_or dead i (record { 0 = 0 })).0 < length names.items =
-            (let small = c.requires.tasks i (record { 0 = 0 }) l in let count = c.loop-t.invariant.count in let counted : vec_len names ≡ length names.items = names.ok.0 in omega arith) in
+    (let small = c.requires.tasks i (record { 0 = 0 }) l in let count = c.loop-t.invariant.count in let counted : vec_len names ≡ length names.items = names.ok.0 in omega arith) in
     record {
       count = c.loop-t.invariant.count;
       named = names_more c.args.names.now.items names.items dead i (record { 0 = 0 }) l within c.loop-t.invariant.named;

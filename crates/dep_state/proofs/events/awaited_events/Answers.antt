@@ -10,5 +10,5 @@ pub returns : goal.returns
 returns c =
     IfOk-weaker c.distinct.result (λ v. IsDistinctOf c.deref.result.now v.items) (λ v. IsEventsOf c.args.list.now v.items)
     (λ v h. events_of c.args.list.now c.in_ok-all.all.items c.sort_unstable.new.self.items v.items c.in_ok-all.ensures c.sort_unstable.ensures.permutation
-        (rw c.deref.ensures.value at h))
+    (rw c.deref.ensures.value at h))
     c.distinct.ensures

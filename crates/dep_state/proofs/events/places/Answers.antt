@@ -10,4 +10,4 @@ pub loop-k-preserved : goal.loop-k-preserved
 loop-k-preserved c =
     let e = ap (λ s. s.event) c.index-list-k.is in
     rw c.in_ok-push.ensures.items (places_more _ _ _ c.loop-k.places.items c.event_place-at.result c.index-list-k.result c.loop-k.invariant c.loop-k-test.true
-        c.index-list-k.is c.event_place-at.ensures.inside (rw (← e) at c.event_place-at.ensures.there))
+    c.index-list-k.is c.event_place-at.ensures.inside (rw (← e) at c.event_place-at.ensures.there))

@@ -24,6 +24,9 @@ run-preserved c =
       added = added_more (λ j. (j < c.run.i) × IsPhaseBelow m (nth_event es j)) (λ j. j ≡ c.run.i) _ _ _ _ _ inv.added c.in_ok-push_to.ensures
           (λ j lt h. elim (cases_eq j c.run.i) [ inl e ↦ inr e | inr ne ↦ inl (omega arith, h.1) ])
           (λ j lt h. ((omega arith, h.1), λ e. omega (arith, h.0, e)))
-          (λ j lt e. (omega (arith, e), subst (λ i. IsPhaseBelow m (nth_event es i)) (sym e)
-              (after_below m (nth_event es c.run.i) (inv.after c.run.i (omega arith) (omega arith)) c.if-events-i.true)));
+          (λ j lt e. (
+            omega (arith, e),
+            subst (λ i. IsPhaseBelow m (nth_event es i)) (sym e)
+                (after_below m (nth_event es c.run.i) (inv.after c.run.i (omega arith) (omega arith)) c.if-events-i.true),
+          ));
     }

@@ -20,8 +20,11 @@ loop-i-preserved c =
           }
       | else-answers-i w ↦
           let e = ap (λ v. v.items) w.picked-is in
-          record { list = e ∙ skip_list c.args.tasks.now c.args.answers.now c.loop-i.picked.items c.loop-i.i w.if-answers-i.false inv.list;
-              ascends = rw e inv.ascends; exact = rw e (skip _ _ _ _ inv.exact w.if-answers-i.false) }
+          record {
+            list = e ∙ skip_list c.args.tasks.now c.args.answers.now c.loop-i.picked.items c.loop-i.i w.if-answers-i.false inv.list;
+            ascends = rw e inv.ascends;
+            exact = rw e (skip _ _ _ _ inv.exact w.if-answers-i.false);
+          }
     ]
 
 pub returns : goal.returns

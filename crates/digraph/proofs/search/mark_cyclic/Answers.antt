@@ -22,7 +22,7 @@ loop-v-preserved c =
     let v = c.in-Some.v in
     let split : c.loop-v.stack.items ≡ s ++ v ∷ [] = c.in-Some.ensures.items in
     let below = All-contains (λ x. x < length c.loop-v.marks.items) (s ++ v ∷ []) v
-            (subst (All (λ x. x < length c.loop-v.marks.items)) split c.loop-v.invariant.within) (Contains-push s v) in
+    (subst (All (λ x. x < length c.loop-v.marks.items)) split c.loop-v.invariant.within) (Contains-push s v) in
     let less = count_less c.loop-v.marks.items v Cyclic Cyclic below refl in
     record {
       within = λ k d lt. rw length-set (front (λ x. x < length c.loop-v.marks.items) _ s v split c.loop-v.invariant.within k d lt);

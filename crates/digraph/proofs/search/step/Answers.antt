@@ -35,5 +35,5 @@ returns-in_default-clause-search c =
     let ahead = rw c.deref-2.ensures.value at c.in-Some.ensures.some in
     let at = read_at c.args.marks.now.items c.in-Some.next c.index.result.now Unvisited (omega (arith, ahead.inside, c.requires.search.marks_sized)) c.index.ensures in
     let reach = cyclic _ _ _ _ c.requires.search c.requires.more c.last-top.result c.in-Some.next top ahead c.index.result.now at c.in_default.not-Unvisited
-            c.in_default.not-Acyclic in
+    c.in_default.not-Acyclic in
     rw c.mark_cyclic.ensures.empty (c.mark_cyclic.ensures.search _ _ c.requires.search reach)

@@ -6,7 +6,7 @@ use Rattle.pl_core.proofs.stop.stop_of.Goals as goal
 pub loop-k-preserved : goal.loop-k-preserved
 loop-k-preserved c =
     stop_later c.args.ops.now c.loop-k.k c.args.events c.loop-k.left c.events_in-size.result c.op_within.result c.op_within.ensures c.loop-k.invariant
-        c.events_in-size.ensures c.if-left-size.false
+    c.events_in-size.ensures c.if-left-size.false
 
 pub returns-then-left-size : goal.returns-then-left-size
 returns-then-left-size c =

@@ -16,7 +16,7 @@ pub flatten_statement-returns-in_ok-push-in-Fork : goal.flatten_statement-return
 flatten_statement-returns-in_ok-push-in-Fork t c =
     on_ok_weaker c.flatten_body.result
     (λ adds. subst (λ z. AddsSteps c.args.names.now.keys c.flatten_body.new.names.keys c.args.steps.now.items c.flatten_body.new.steps.items
-        (followed_by z done)) (sym c.in-Fork.is)
+    (followed_by z done)) (sym c.in-Fork.is)
     (adds_fork c.args.names.now.keys _ c.flatten_body.new.names.keys c.args.steps.now.items _ c.flatten_body.new.steps.items c.in_ok-x-in-Fork.x c.in-Fork.x _ c.in-Fork.body
     c.in_ok-x-in-Fork.ensures.more c.in_ok-push-in-Fork.ensures (omega (arith, c.len.ensures, c.statements.ensures))
     (c.in_ok-x-in-Fork.ensures.found, c.in_ok-x-in-Fork.ensures.spelled ∙ c.as_bytes-in-Fork.ensures.bytes) adds))
@@ -26,7 +26,7 @@ pub flatten_statement-returns-in_ok-push-in-Loop : goal.flatten_statement-return
 flatten_statement-returns-in_ok-push-in-Loop t c =
     on_ok_weaker c.flatten_body-in-Loop.result
     (λ adds. subst (λ z. AddsSteps c.args.names.now.keys c.flatten_body-in-Loop.new.names.keys c.args.steps.now.items c.flatten_body-in-Loop.new.steps.items
-        (followed_by z done)) (sym c.in-Loop.is)
+    (followed_by z done)) (sym c.in-Loop.is)
     (adds_loop c.args.names.now.keys c.flatten_body-in-Loop.new.names.keys c.args.steps.now.items _ c.flatten_body-in-Loop.new.steps.items c.in-Loop.k _ c.in-Loop.body
     c.in_ok-push-in-Loop.ensures (omega (arith, c.len-in-Loop.ensures, c.statements-in-Loop.ensures)) adds))
     c.flatten_body-in-Loop.ensures

@@ -33,7 +33,7 @@ returns-in_err-unfold_tasks c =
           plan_fault c.args.program.now c.in_err-unfold_tasks.field-0.0 _
           (c.in_err-unfold_tasks.ensures.follows (spelling c.flatten_body.new.names.keys) (opening_state c.args.program.now.body)
           (opens_flat c.new-names.result.keys c.flatten_body.new.names.keys c.new-steps.result.items c.flatten_body.new.steps.items c.args.program.now.body
-              c.len.result _ c.new-steps.ensures.items c.len.ensures.len c.in_ok-flatten_body.ensures
+          c.len.result _ c.new-steps.ensures.items c.len.ensures.len c.in_ok-flatten_body.ensures
           c.in_ok-checker.ensures))
           c.from_residual-in_err-unfold_tasks.result (p.1 ∙ ap Err p.2);
     }
@@ -44,10 +44,10 @@ from_parts-requires c =
       checked =
           plan_checked (spelling c.flatten_body.new.names.keys) c.unfold_tasks.new.checker c.args.program.now _
           (added_near c.new-names.result.keys c.flatten_body.new.names.keys c.new-steps.result.items c.flatten_body.new.steps.items c.args.program.now.body
-              c.in_ok-flatten_body.ensures)
+          c.in_ok-flatten_body.ensures)
           (c.in_ok-unfold_tasks.ensures.follows (spelling c.flatten_body.new.names.keys) (opening_state c.args.program.now.body)
           (opens_flat c.new-names.result.keys c.flatten_body.new.names.keys c.new-steps.result.items c.flatten_body.new.steps.items c.args.program.now.body
-              c.len.result _ c.new-steps.ensures.items c.len.ensures.len c.in_ok-flatten_body.ensures
+          c.len.result _ c.new-steps.ensures.items c.len.ensures.len c.in_ok-flatten_body.ensures
           c.in_ok-checker.ensures))
           (same_plan c.from_vec.result _ c.from_vec-2.result _ c.in_ok-codes_of.field-0 _ (c.from_vec.ensures.items ∙ c.into_parts-parts.ensures.parents)
           (c.from_vec-2.ensures.items ∙ c.into_parts-parts.ensures.makers) (c.in_ok-codes_of.ensures ∙ c.into_parts-parts.ensures.codes));
@@ -60,7 +60,7 @@ returns c =
           plan_found (spelling c.flatten_body.new.names.keys) c.unfold_tasks.new.checker c.args.program.now c.from_parts.result
           (c.in_ok-unfold_tasks.ensures.follows (spelling c.flatten_body.new.names.keys) (opening_state c.args.program.now.body)
           (opens_flat c.new-names.result.keys c.flatten_body.new.names.keys c.new-steps.result.items c.flatten_body.new.steps.items c.args.program.now.body
-              c.len.result _ c.new-steps.ensures.items c.len.ensures.len c.in_ok-flatten_body.ensures
+          c.len.result _ c.new-steps.ensures.items c.len.ensures.len c.in_ok-flatten_body.ensures
           c.in_ok-checker.ensures))
           (c.from_parts.ensures.parts
           ∙ same_plan c.from_vec.result _ c.from_vec-2.result _ c.in_ok-codes_of.field-0 _ (c.from_vec.ensures.items ∙ c.into_parts-parts.ensures.parents)

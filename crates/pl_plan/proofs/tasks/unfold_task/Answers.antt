@@ -25,8 +25,12 @@ returns-in_err-leave_all-clause-follows c =
     (λ s tree spelled shows.
     ends_full c.args.two names c.walk.new.checker c.leave_all.new.checker c.args.t.0 c.in-Some.first _ c.in_ok-walk.field-0 c.in_err-leave_all.field-0.0
     c.from_residual-in_err-leave_all.result (p.1 ∙ ap Err p.2) c.if-two.true c.in_ok-walk.ensures.keeps.fits
-        (omega (arith, c.requires.task, c.in_ok-walk.ensures.keeps.more,
-        (kept_begun c.args.checker.now c.begin.new.self c.args.t.0 c.requires.fits c.in_ok-first.ensures.begun).more))
+    (omega (
+      arith,
+      c.requires.task,
+      c.in_ok-walk.ensures.keeps.more,
+      (kept_begun c.args.checker.now c.begin.new.self c.args.t.0 c.requires.fits c.in_ok-first.ensures.begun).more,
+    ))
     (c.in_ok-walk.ensures.follows names s tree spelled shows) c.in_err-leave_all.ensures.leaves _)
 
 pub returns-in_ok-leave_all-clause-follows : goal.returns-in_ok-leave_all-clause-follows
@@ -36,8 +40,12 @@ returns-in_ok-leave_all-clause-follows c =
     (sym c.in-Some.is ∙ c.in_ok-first.ensures.range) c.in_ok-first.ensures.begun h
     (λ s tree spelled shows.
     ends_by_leaving c.args.two names c.walk.new.checker c.leave_all.new.checker c.args.t.0 c.in-Some.first _ c.in_ok-walk.field-0 tt c.if-two.true
-    c.in_ok-walk.ensures.keeps.fits (omega (arith, c.requires.task, c.in_ok-walk.ensures.keeps.more,
-        (kept_begun c.args.checker.now c.begin.new.self c.args.t.0 c.requires.fits c.in_ok-first.ensures.begun).more))
+    c.in_ok-walk.ensures.keeps.fits (omega (
+      arith,
+      c.requires.task,
+      c.in_ok-walk.ensures.keeps.more,
+      (kept_begun c.args.checker.now c.begin.new.self c.args.t.0 c.requires.fits c.in_ok-first.ensures.begun).more,
+    ))
     (c.in_ok-walk.ensures.follows names s tree spelled shows) c.in_ok-leave_all.ensures.leaves)
 
 pub returns-else-two-clause-follows : goal.returns-else-two-clause-follows

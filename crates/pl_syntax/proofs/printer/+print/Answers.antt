@@ -9,7 +9,7 @@ pub put_statement-returns-in-NewTask-clause-text : goal.put_statement-returns-in
 put_statement-returns-in-NewTask-clause-text t c =
     on_ok c.put_named.result c.put_named.ensures.text
     (λ e. named_line c.args.depth c.in-NewTask.x c.args.out.now.items c.put_named.new.out.items e ∙
-        ap (λ q. c.args.out.now.items ++ printed_at c.args.depth (followed_by q done)) (sym c.in-NewTask.is))
+    ap (λ q. c.args.out.now.items ++ printed_at c.args.depth (followed_by q done)) (sym c.in-NewTask.is))
 
 pub put_statement-returns-in_ok-put_body-in-Fork-clause-text : goal.put_statement-returns-in_ok-put_body-in-Fork-clause-text
 put_statement-returns-in_ok-put_body-in-Fork-clause-text t c =

@@ -20,7 +20,7 @@ statements_at-returns-in_err-token-clause-exact t c = λ n h.
 pub statements_at-returns-then-ends_list-clause-exact : goal.statements_at-returns-then-ends_list-clause-exact
 statements_at-returns-then-ends_list-clause-exact t c = λ n h.
     stops _ _ _ _ _ c.loop-items.invariant.0 (token_of c.in_ok-token.token) c.in_ok-token.after.now n h (sym c.in_ok-token.ensures.exact)
-        (sym c.ends_list.ensures ∙ c.if-ends_list.true)
+    (sym c.ends_list.ensures ∙ c.if-ends_list.true)
 
 pub statements_at-returns-in_err-stmt-clause-exact : goal.statements_at-returns-in_err-stmt-clause-exact
 statements_at-returns-in_err-stmt-clause-exact t c = λ n h.
@@ -28,7 +28,7 @@ statements_at-returns-in_err-stmt-clause-exact t c = λ n h.
     let goes : ends_list (token_of c.in_ok-token.token) ≡ false = sym c.ends_list.ensures ∙ c.if-ends_list.false in
     let here = sym c.in_ok-token.ensures.exact in
     rw (p.1, p.2) (fails_in _ _ _ _ _ c.loop-items.invariant.0 (token_of c.in_ok-token.token) c.in_ok-token.after.now here goes (progress _ _ _ _ here goes)
-        c.in_err-stmt.field-0.0 c.in_err-stmt.ensures.exact n h)
+    c.in_err-stmt.field-0.0 c.in_err-stmt.ensures.exact n h)
 
 pub statements_at-loop-items-smaller : goal.statements_at-loop-items-smaller
 statements_at-loop-items-smaller t c =
@@ -46,6 +46,8 @@ statements_at-loop-items-preserved t c =
     let more = count_push items c.in_ok-stmt.stmt in
     let one : count (followed_by c.in_ok-stmt.stmt done) + length c.in_ok-stmt.left.now ≤ length c.in_ok-token.after.now + 1 = c.in_ok-stmt.ensures.counted in
     let before : count (tree_of items) + length c.loop-items.rest.now ≤ length c.args.text.now = c.loop-items.invariant.1 in
-    rw c.in_ok-push.ensures.items
-    (goes_on _ _ _ _ _ c.loop-items.invariant.0 (token_of c.in_ok-token.token) c.in_ok-token.after.now here goes shorter c.in_ok-stmt.stmt c.in_ok-stmt.left.now
-        c.in_ok-stmt.ensures.no_longer c.in_ok-stmt.ensures.exact, omega arith)
+    rw c.in_ok-push.ensures.items (
+      goes_on _ _ _ _ _ c.loop-items.invariant.0 (token_of c.in_ok-token.token) c.in_ok-token.after.now here goes shorter c.in_ok-stmt.stmt c.in_ok-stmt.left.now
+          c.in_ok-stmt.ensures.no_longer c.in_ok-stmt.ensures.exact,
+      omega arith,
+    )

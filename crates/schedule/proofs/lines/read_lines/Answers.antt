@@ -14,7 +14,7 @@ loop-rest-preserved c =
       done ++ line ∷ [],
       subst (AllSay (done ++ line ∷ [])) (sym c.in_ok-push.ensures.ok) (say_more done c.loop-rest.lines line c.line_of.result says c.line_of.ensures),
       λ more cut. subst (IsCut c.args.bytes.now) (sym (append_assoc done (line ∷ []) more))
-      (cuts (line ∷ more) (a_line c.loop-rest.rest.now line rest more c.first_line.ensures.cut cut)),
+          (cuts (line ∷ more) (a_line c.loop-rest.rest.now line rest more c.first_line.ensures.cut cut)),
     )
 
 pub returns : goal.returns

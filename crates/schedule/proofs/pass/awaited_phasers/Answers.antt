@@ -11,7 +11,7 @@ loop-w-preserved c =
     elim c.if-p-len.branch [
       | then-p-len w ↦ subst (λ v. AreMarks v.items c.args.waiting.now c.args.phasers (c.loop-w.w-index + 1)) (sym w.is_awaited-is)
           (mark_one c.loop-w.is_awaited.items c.args.waiting.now c.args.phasers c.loop-w.w-index _ c.loop-w.invariant c.loop-w-test.true
-              (let a = c.loop-w.invariant.all in omega arith))
+          (let a = c.loop-w.invariant.all in omega arith))
       | else-p-len w ↦
           let d : Waiting = record { t = record { 0 = 0 }; event = record { p = record { 0 = 0 }; n = 0 } } in
           let beyond : c.args.phasers ≤ (get_or c.args.waiting.now c.loop-w.w-index d).event.p.0 = (let a = c.loop-w.invariant.all in omega arith) in

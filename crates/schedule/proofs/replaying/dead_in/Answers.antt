@@ -12,5 +12,7 @@ dead_of-requires c =
 
 pub returns : goal.returns
 returns c =
-    record { dead = dead_are_if c.args.world.now c.dead_of.result
-        (subst (λ l. IfOk c.dead_of.result (IsDeadList l)) (c.as_slice.ensures.items ∙ c.in_ok-list.ensures.statuses) c.dead_of.ensures) }
+    record {
+      dead = dead_are_if c.args.world.now c.dead_of.result
+          (subst (λ l. IfOk c.dead_of.result (IsDeadList l)) (c.as_slice.ensures.items ∙ c.in_ok-list.ensures.statuses) c.dead_of.ensures);
+    }

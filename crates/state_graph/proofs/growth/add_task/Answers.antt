@@ -31,7 +31,7 @@ follow_all-requires c =
     row_at old.waiting.items c.args.k c.index_mut.result.now lt c.index_mut.ensures.value ∙ ap (λ v. v.items) (sym c.replace-due.ensures.value) in
     let tasks = sized_rows old.waiting.items c.args.k c.replace-due.new.dest ∙ grown.sized.tasks in
     let same : (t : ℕ) → c.args.k < t → get_or (graph_of (set old.waiting.items c.args.k c.replace-due.new.dest)) t [] ≡ get_or (graph_of old.waiting.items) t
-            [] = λ t l. other_row old.waiting.items c.args.k t c.replace-due.new.dest l in
+    [] = λ t l. other_row old.waiting.items c.args.k t c.replace-due.new.dest l in
     let at : c.index.result.now ≡ get_or old.seen.items event false =
     c.index.ensures ∙ get_or_default old.seen.items event c.index.result.now false (omega (arith, grown.sized.flags, c.awaits_at-event.ensures.inside)) in
     record {
@@ -40,7 +40,7 @@ follow_all-requires c =
             let off : get_or old.seen.items event false ≡ false = sym at ∙ w.if-not-index.true in
             let due = w.in_ok-push.ensures.items in
             rw (w.growth-is, w.due-is) (growing c.args.deps.now c.args.k event old.graph old.seen.items old.next.items (graph_of old.waiting.items) grown
-                c.awaits_at-event.ensures.event
+            c.awaits_at-event.ensures.event
             (set old.seen.items event true) w.push.new.self.items (graph_of (set old.waiting.items c.args.k c.replace-due.new.dest))
             (record { nodes = grown.sized.nodes; flags = length-set old.seen.items event true ∙ grown.sized.flags; places = grown.sized.places; tasks = tasks })
             (λ j. set_flag old.seen.items event j (omega (arith, grown.sized.flags, c.awaits_at-event.ensures.inside)))
@@ -52,7 +52,7 @@ follow_all-requires c =
         | else-not-index w ↦
             let on : get_or old.seen.items event false ≡ true = sym at ∙ w.if-not-index.false in
             rw (w.growth-is, w.due-is) (growing c.args.deps.now c.args.k event old.graph old.seen.items old.next.items (graph_of old.waiting.items) grown
-                c.awaits_at-event.ensures.event
+            c.awaits_at-event.ensures.event
             old.seen.items c.replace-due.result.items (graph_of (set old.waiting.items c.args.k c.replace-due.new.dest))
             (record { nodes = grown.sized.nodes; flags = grown.sized.flags; places = grown.sized.places; tasks = tasks })
             (λ j. (λ h. inr h, λ h. elim h [ inl e ↦ subst (λ v. get_or old.seen.items v false ≡ true) (sym e) on | inr s ↦ s ]))

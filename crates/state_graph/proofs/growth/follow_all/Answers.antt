@@ -27,7 +27,7 @@ loop-event-preserved c =
     let inv = c.loop-event.invariant in
     c.in_ok-follow.ensures (drop (c.loop-event.event-index + 1) c.args.due.now)
     (subst (λ left. IsGrowing c.args.deps.now c.args.k left c.loop-event.growth.graph c.loop-event.growth.seen.items c.loop-event.growth.next.items
-        (graph_of c.loop-event.growth.waiting.items)) more inv)
+    (graph_of c.loop-event.growth.waiting.items)) more inv)
 
 pub returns : goal.returns
 returns c =
@@ -35,4 +35,4 @@ returns c =
     let none = drop_all c.loop-event.event-index c.args.due.now (let past = c.loop-event-test.false in omega arith) in
     grown_more _ _ _ _ _ _
     (subst (λ left. IsGrowing c.args.deps.now c.args.k left c.loop-event.growth.graph c.loop-event.growth.seen.items c.loop-event.growth.next.items
-        (graph_of c.loop-event.growth.waiting.items)) none inv)
+    (graph_of c.loop-event.growth.waiting.items)) none inv)

@@ -13,9 +13,12 @@ from_on_ok (Err y) e p = absurd cc
 pub returns-then-edges-k : goal.returns-then-edges-k
 returns-then-edges-k c up =
     let grown = from_on_ok c.add_task.result (sym c.is_err.ensures.value ∙ c.if-is_err.false) c.add_task.ensures in
-    let formed = c.places.ensures.formed in
-    (omega (arith, ap length c.places.ensures.places, formed.awaits_sized), grown_count _ _ _ _ _ _ grown up _ c.edges-edges.ensures, c.if-edges-k.true,
-        c.loop-k.invariant.small up)
+    let formed = c.places.ensures.formed in (
+      omega (arith, ap length c.places.ensures.places, formed.awaits_sized),
+      grown_count _ _ _ _ _ _ grown up _ c.edges-edges.ensures,
+      c.if-edges-k.true,
+      c.loop-k.invariant.small up,
+    )
 
 pub loop-k-preserved : goal.loop-k-preserved
 loop-k-preserved c =

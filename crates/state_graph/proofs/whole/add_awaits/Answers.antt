@@ -15,9 +15,9 @@ loop-u-preserved c =
       nodes = e.nodes ∙ inv.nodes;
       edges = any_more (HasEdge c.args.graph.now) (HasEdge c.loop-u.graph) (HasEdge c.add.new.self) Adds c.impeders_at-u-items.result.now c.loop-u.u-index x
           (omega arith) refl inv.edges (λ i j. (
-        λ h. elim ((e.edges i j).0 h) [ inl l ↦ inl l | inr r ↦ inr (r.0, r.1 ∙ at) ],
-        λ h. (e.edges i j).1 (elim h [ inl l ↦ inl l | inr r ↦ inr (r.0, r.1 ∙ sym at) ]),
-      ));
+            λ h. elim ((e.edges i j).0 h) [ inl l ↦ inl l | inr r ↦ inr (r.0, r.1 ∙ at) ],
+            λ h. (e.edges i j).1 (elim h [ inl l ↦ inl l | inr r ↦ inr (r.0, r.1 ∙ sym at) ]),
+          ));
     }
 
 pub returns-clause-edges : goal.returns-clause-edges

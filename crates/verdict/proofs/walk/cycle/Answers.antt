@@ -31,7 +31,7 @@ made-requires c =
     let flags = rw c.tasks.ensures.tasks at c.in_ok-flags.ensures in
     rw c.deref-2.ensures.value
     (places_inside c.args.list.now c.requires.order _ c.in_ok-deps.ensures c.args.dead.now c.requires.dead _ flags s c.status_place-start.result
-        c.status_place-start.ensures.inside _ (rw c.deref.ensures.value at c.in_ok-places.ensures))
+    c.status_place-start.ensures.inside _ (rw c.deref.ensures.value at c.in_ok-places.ensures))
 
 found : (c : goal.After-drop-deps-inside-6) → IsCycleOf c.args.list.now c.args.dead.now c.in_ok-cycle.cycle
 found c =
@@ -40,7 +40,7 @@ found c =
     let (s, i, e) = dead_stands _ _ (first_dead _ _ c.requires.dead o lt) in
     let flags = rw c.tasks.ensures.tasks at c.in_ok-flags.ensures in
     cycle_of c.args.list.now c.requires.order _ c.in_ok-deps.ensures c.args.dead.now c.requires.dead _ flags s c.status_place-start.result
-        c.status_place-start.ensures.inside _ (rw c.deref.ensures.value at c.in_ok-places.ensures)
+    c.status_place-start.ensures.inside _ (rw c.deref.ensures.value at c.in_ok-places.ensures)
     o lt c.status_place-start.ensures.there c.in_ok-cycle.cycle (rw c.deref-2.ensures.value at c.in_ok-cycle.ensures)
 
 pub returns-clause-cycle : goal.returns-clause-cycle

@@ -14,5 +14,5 @@ returns c =
     let table : AreNext (GoesToNextDead d flags) n n c.in_ok-next.next.items = rw c.requires.walkable.sized at c.in_ok-next.ensures in
     IfOk-weaker c.walk_cycle.result (λ v. IsWalkCycle (λ a b. b ≡ get_or c.deref.result.now a 0) c.args.start v.items) (λ v. IsWalkCycle (IsNextDead d flags) c.args.start v.items)
     (λ v w. walk_by_table (GoesToNextDead d flags) (IsNextDead d flags) (λ a. get_or flags a false ≡ true) (λ a b dead step. (step dead, (step dead).marked)) n
-        c.in_ok-next.next.items c.args.start v.items table c.requires.start c.requires.dead (rw c.deref.ensures.value at w))
+    c.in_ok-next.next.items c.args.start v.items table c.requires.start c.requires.dead (rw c.deref.ensures.value at w))
     c.walk_cycle.ensures

@@ -27,4 +27,4 @@ returns-clause-told c =
     (λ not_below. λ s.
     subst (λ e. IsUnimpeded ss remains e) (sym (same s))
     (unimpeded_else ss xs remains kept.are kept.ordered event i front stop
-        (λ below. not_below (subst (λ (ys : List Standing). IsBelow ys i event) (sym c.deref-4.ensures.value) below))))
+    (λ below. not_below (subst (λ (ys : List Standing). IsBelow ys i event) (sym c.deref-4.ensures.value) below))))

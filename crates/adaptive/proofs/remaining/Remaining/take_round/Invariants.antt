@@ -12,6 +12,6 @@ invariant-loop-k l =
       quiet :
           l.taken ≡ false → (count_remaining l.self.remains.items ≡ count_remaining l.initial.self.remains.items)
           × ((k : ℕ) (s : Status) → k < l.k → remains_at l.self.remains.items k ≡ true →
-              (j : ℕ) × IsRemainingImpeder l.list l.self.remains.items (slice_index_or l.list k s).event j);
+          (j : ℕ) × IsRemainingImpeder l.list l.self.remains.items (slice_index_or l.list k s).event j);
       less : l.taken ≡ true → count_remaining l.self.remains.items < count_remaining l.initial.self.remains.items;
     }

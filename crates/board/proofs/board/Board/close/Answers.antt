@@ -15,7 +15,7 @@ returns-clause-words c =
     let seat = c.into_place.ensures.seat in
     subst (λ (f : Frame). AreLastOf f.plan f.mode (seen c.args.view.view) c.of.result.words) c.self.view_is
     (subst (λ (ws : List ℕ). AreLastOf c.self.inside.cells.shared.key.plan.value c.self.inside.cells.shared.key.mode (seen c.args.view.view) ws)
-        (sym (ap (λ (e : Ended). e.words) c.of.ensures))
+    (sym (ap (λ (e : Ended). e.words) c.of.ensures))
     (subst (λ (u : View). AreLastOf c.self.inside.cells.shared.key.plan.value c.self.inside.cells.shared.key.mode (seen u) (slots_items c.close_with-closed.result.words)) is
     (closes c.self.inside.cells.shared.key c.into_place.result.id v _ _ (ap (λ (u : View). u.own) is ∙ seat.0) (ap (λ (u : View). u.spent) is ∙ seat.1.live)
-        c.close_with-closed.ensures.values.2)))
+    c.close_with-closed.ensures.values.2)))

@@ -36,8 +36,8 @@ store-requires c =
       subst (λ (w : ℕ). Allows (IsKept key) slots id me w (λ _. c.from-word.result + 2) (λ _. Acted (step slots w (c.from-word.result + 2) 0 none) me (c.from-word.result + 2)))
           (sym (c.phase_index-index.ensures.index ∙ ap (λ (f : Frame). phase_index f.plan t p) (sym b)))
           (advances key.plan.value key.mode slots id me t p (c.from-word.result + 2) c.member_phase-phase.result i.task i.seat.live
-              (ap (λ (k : Known). k.view.holds) s ∙ c.requires.unlocked) next (own_small _ _ _ i.seat o i.task) few phase
-              (ap (λ n. n + 2) c.from-word.ensures)),
+          (ap (λ (k : Known). k.view.holds) s ∙ c.requires.unlocked) next (own_small _ _ _ i.seat o i.task) few phase
+          (ap (λ n. n + 2) c.from-word.ensures)),
     )
 
 pub invariant_of-self : goal.invariant_of-self
@@ -66,5 +66,5 @@ returns-clause-phase c =
     let s = c.self.view_is ∙ c.member_phase-phase.ensures.seat in
     let p = c.args.p.0 in
     advanced_phase c.self.inside.place.me.0 c.store.new.seat.me.0 p c.member_phase-phase.result (task_inside _ _ i.seat i.task)
-        (ap (λ (k : Known). next_action k.view) s ∙ c.requires.next)
+    (ap (λ (k : Known). next_action k.view) s ∙ c.requires.next)
     (ap (λ (k : Known). own_phase k.view p) s ∙ c.member_phase-phase.ensures.phase) c.store.ensures.2.0

@@ -55,11 +55,11 @@ invariant_of-self c =
       sitting = elim may [
         | by_code next ↦
             acts_sitting c.self.inside.place.table_id c.store.new.seat.table_id me.0 c.store.new.seat.me.0 _ _ _ (Drops p) i next (λ q e. cc) (λ q e. cc)
-                (λ q e. cc) c.store.ensures.2.0
+            (λ q e. cc) c.store.ensures.2.0
         | refused dropped member least ↦
             let d = some_is (own_place me.0).dropped dropped in
             leaves_sitting c.self.inside.place.table_id c.store.new.seat.table_id me.0 c.store.new.seat.me.0 _ _ d.0 p _ i d.1
-                (c.store.ensures.2.0 ∙ sym (drop_view me.0 p d.0 d.1))
+            (c.store.ensures.2.0 ∙ sym (drop_view me.0 p d.0 d.1))
             (seat_next c.self.inside.place.table_id c.store.new.seat.table_id me.0 c.store.new.seat.me.0 i.seat c.store.ensures.2.0)
       ];
     }
@@ -75,11 +75,11 @@ returns c =
       step = subst (λ (k : Known). MakesStep (Drops p) k (record { table = c.store.new.seat.table_id; view = c.store.new.seat.me.0 })) c.self.view_is
           (elim may [
             | by_code next ↦ makes_step c.self.inside.place.table_id c.store.new.seat.table_id me.0 c.store.new.seat.me.0 (Drops p) within next
-                  c.store.ensures.2.0 c.store.ensures.0 i.seat
+                c.store.ensures.2.0 c.store.ensures.0 i.seat
             | refused dropped member least ↦
                 let d = some_is (own_place me.0).dropped dropped in
                 leaves_step c.self.inside.place.table_id c.store.new.seat.table_id me.0 c.store.new.seat.me.0 p within
-                    (c.store.ensures.2.0 ∙ sym (drop_view me.0 p d.0 d.1)) c.store.ensures.0
+                (c.store.ensures.2.0 ∙ sym (drop_view me.0 p d.0 d.1)) c.store.ensures.0
                 (seat_next c.self.inside.place.table_id c.store.new.seat.table_id me.0 c.store.new.seat.me.0 i.seat c.store.ensures.2.0)
           ]);
     }

@@ -37,7 +37,7 @@ split_seat-place-requires c =
       (let n = c.board.invariant.words in omega arith),
       subst (λ (v : View). Splits (IsKept key) c.load.new.seat.id v (next_view v) (child v)) same
           (forks key.plan.value key.mode c.load.new.seat.id c.self.inside.place.me.0 c.self.inside.task.0 c.args.c.0 i.task i.seat.live
-              (ap (λ (k : Known). k.view.holds) s ∙ c.requires.unlocked)
+          (ap (λ (k : Known). k.view.holds) s ∙ c.requires.unlocked)
           (ap (λ (k : Known). next_action k.view) s ∙ c.requires.next)),
     )
 
@@ -87,7 +87,7 @@ returns-clause-step c =
     let i = c.self.invariant.sitting in
     subst (λ (k : Known). MakesStep (Forks c.args.c.0) k (record { table = c.split_seat-place.new.seat.table_id; view = c.split_seat-place.new.seat.me.0 })) c.self.view_is
     (makes_step c.self.inside.place.table_id c.split_seat-place.new.seat.table_id c.self.inside.place.me.0 c.split_seat-place.new.seat.me.0 (Forks c.args.c.0)
-        (task_inside _ _ i.seat i.task) t.next t.parent t.table i.seat)
+    (task_inside _ _ i.seat i.task) t.next t.parent t.table i.seat)
 
 pub returns-clause-child : goal.returns-clause-child
 returns-clause-child c =
@@ -95,7 +95,7 @@ returns-clause-child c =
     let i = c.self.invariant.sitting in
     let of = subst (λ k. IsOf k c.args.board.now) (sym c.self.view_is) c.requires.made in
     subst (λ (v : View). IsNewSeat c.args.board.now (Some c.args.c.0) (seen_by_child c.args.c.0 (seen v))
-        (record { table = c.split_seat-place.result.table_id; view = c.split_seat-place.result.me.0 })) (sym t.parent)
+    (record { table = c.split_seat-place.result.table_id; view = c.split_seat-place.result.me.0 })) (sym t.parent)
     (child_new _ _ c.split_seat-place.result.table_id c.split_seat-place.result.me.0 c.args.c.0 of t.child_table t.next t.child_is
     (child_sitting c.self.inside.place.table_id c.split_seat-place.result.table_id c.self.inside.place.me.0 c.split_seat-place.result.me.0 _ _ c.args.c.0 _ i t.next t.unseen
     (child_apart _ _ c.args.c.0 i.seat i.task t.next) t.child_is).seat)
@@ -105,4 +105,4 @@ returns-clause-first c =
     let t = told c in
     let i = c.self.invariant.sitting in
     child_first c.self.inside.place.me.0 c.split_seat-place.result.me.0 c.args.c.0 (task_inside _ _ i.seat i.task) t.next t.unseen
-        (child_apart _ _ c.args.c.0 i.seat i.task t.next) t.child_is
+    (child_apart _ _ c.args.c.0 i.seat i.task t.next) t.child_is

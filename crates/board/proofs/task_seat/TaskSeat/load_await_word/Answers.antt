@@ -33,18 +33,18 @@ seen_of-requires c = let t = watched_told 0 _ _ _ _ c.args.t.0 c.args.board.now 
 pub returns : goal.returns
 returns c =
     let t = watched_told 0 _ _ _ _ c.args.t.0 c.args.board.now c.self.inside.place.table_id c.load-word.ensures.2
-            (subst (λ k. IsOf k c.args.board.now) (sym c.self.view_is) c.requires.made) c.requires.task c.await_index-index.ensures.index in
+    (subst (λ k. IsOf k c.args.board.now) (sym c.self.view_is) c.requires.made) c.requires.task c.await_index-index.ensures.index in
     record {
       answer = subst (λ (k : Known). AnswersAwait c.args.t.0 (found_of c.seen_of.result) k
           (record { table = c.load-word.new.seat.table_id; view = c.load-word.new.seat.me.0 })) c.self.view_is
           (answers_await c.self.inside.place.table_id c.load-word.new.seat.table_id c.self.inside.place.me.0 c.load-word.new.seat.me.0 c.args.t.0 t.0
-              (found_of c.seen_of.result) c.self.invariant.sitting.seat t.3 c.load-word.ensures.0 (c.seen_of.ensures t.0 t.2 t.1));
+          (found_of c.seen_of.result) c.self.invariant.sitting.seat t.3 c.load-word.ensures.0 (c.seen_of.ensures t.0 t.2 t.1));
     }
 
 pub invariant_of-self : goal.invariant_of-self
 invariant_of-self c =
     let t = watched_told 0 _ _ _ _ c.args.t.0 c.args.board.now c.self.inside.place.table_id c.load-word.ensures.2
-            (subst (λ k. IsOf k c.args.board.now) (sym c.self.view_is) c.requires.made) c.requires.task c.await_index-index.ensures.index in
+    (subst (λ k. IsOf k c.args.board.now) (sym c.self.view_is) c.requires.made) c.requires.task c.await_index-index.ensures.index in
     let i = c.self.invariant.sitting in record {
       no_slot = c.load-word.ensures.2.0 ∙ c.self.invariant.no_slot;
       sitting = loads_sitting c.self.inside.place.table_id c.load-word.new.seat.table_id c.self.inside.place.me.0 c.load-word.new.seat.me.0 _ _ _ _ _ _ i

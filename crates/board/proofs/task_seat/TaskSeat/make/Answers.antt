@@ -33,7 +33,7 @@ store-requires c =
       subst (λ (n : ℕ). Allows (IsKept key) slots id me n (λ _. 1) (λ _. Acted (step slots n 1 0 none) me 1))
           (sym (c.phase_index-index.ensures.index ∙ ap (λ (f : Frame). phase_index f.plan t p) (sym b)))
           (makes_phaser key.plan.value key.mode slots id me t p i.task i.seat.live (ap (λ (k : Known). k.view.holds) s ∙ c.requires.unlocked)
-              (ap (λ (k : Known). next_action k.view) s ∙ c.requires.next)
+          (ap (λ (k : Known). next_action k.view) s ∙ c.requires.next)
           (own_small _ _ _ i.seat o i.task) (subst (λ (f : Frame). p < length f.plan.makers) (sym b) c.requires.phaser)),
     )
 

@@ -50,20 +50,20 @@ invariant_of-self c =
       sitting = blocks_sitting c.self.inside.place.table_id c.store.new.seat.table_id c.self.inside.place.me.0 c.store.new.seat.me.0 _ _ _
           (aim_at c.args.p.0 c.args.off) _ c.self.invariant.sitting
           (ap (λ (k : Known). next_action k.view) s ∙ c.requires.next)
-              (target_is _ _ c.args.p.0 _ _ c.args.off s c.member_phase-phase.ensures.phase c.target-n.ensures) refl
-              (c.store.ensures.2.1 (aim_at c.args.p.0 c.args.off) (ap (λ (k : Known). next_action k.view) s ∙ c.requires.next) ∙
-              next_view_is c.self.inside.place.me.0 (Blocks (aim_at c.args.p.0 c.args.off)) (ap (λ (k : Known). next_action k.view) s ∙ c.requires.next));
+          (target_is _ _ c.args.p.0 _ _ c.args.off s c.member_phase-phase.ensures.phase c.target-n.ensures) refl
+          (c.store.ensures.2.1 (aim_at c.args.p.0 c.args.off) (ap (λ (k : Known). next_action k.view) s ∙ c.requires.next) ∙
+          next_view_is c.self.inside.place.me.0 (Blocks (aim_at c.args.p.0 c.args.off)) (ap (λ (k : Known). next_action k.view) s ∙ c.requires.next));
     }
 
 pub returns-clause-event : goal.returns-clause-event
 returns-clause-event c =
     let s = c.self.view_is ∙ c.member_phase-phase.ensures.seat in
     sym (blocks_sitting c.self.inside.place.table_id c.store.new.seat.table_id c.self.inside.place.me.0 c.store.new.seat.me.0 _ _ _
-        (aim_at c.args.p.0 c.args.off) (record { p = c.args.p; n = c.target-n.result }) c.self.invariant.sitting
+    (aim_at c.args.p.0 c.args.off) (record { p = c.args.p; n = c.target-n.result }) c.self.invariant.sitting
     (ap (λ (k : Known). next_action k.view) s ∙ c.requires.next)
-        (target_is _ _ c.args.p.0 _ _ c.args.off s c.member_phase-phase.ensures.phase c.target-n.ensures) refl
-        (c.store.ensures.2.1 (aim_at c.args.p.0 c.args.off) (ap (λ (k : Known). next_action k.view) s ∙ c.requires.next) ∙
-        next_view_is c.self.inside.place.me.0 (Blocks (aim_at c.args.p.0 c.args.off)) (ap (λ (k : Known). next_action k.view) s ∙ c.requires.next))).event
+    (target_is _ _ c.args.p.0 _ _ c.args.off s c.member_phase-phase.ensures.phase c.target-n.ensures) refl
+    (c.store.ensures.2.1 (aim_at c.args.p.0 c.args.off) (ap (λ (k : Known). next_action k.view) s ∙ c.requires.next) ∙
+    next_view_is c.self.inside.place.me.0 (Blocks (aim_at c.args.p.0 c.args.off)) (ap (λ (k : Known). next_action k.view) s ∙ c.requires.next))).event
 
 pub returns-clause-step : goal.returns-clause-step
 returns-clause-step c =
@@ -71,11 +71,11 @@ returns-clause-step c =
     let s = c.self.view_is ∙ c.member_phase-phase.ensures.seat in
     subst (λ (k : Known). MakesStep (Blocks (aim_at c.args.p.0 c.args.off)) k (record { table = c.store.new.seat.table_id; view = c.store.new.seat.me.0 })) s
     (makes_step c.self.inside.place.table_id c.store.new.seat.table_id c.self.inside.place.me.0 c.store.new.seat.me.0 (Blocks (aim_at c.args.p.0 c.args.off))
-        (task_inside _ _ i.seat i.task)
+    (task_inside _ _ i.seat i.task)
     (ap (λ (k : Known). next_action k.view) s ∙ c.requires.next)
-        (c.store.ensures.2.1 (aim_at c.args.p.0 c.args.off) (ap (λ (k : Known). next_action k.view) s ∙ c.requires.next) ∙
-        next_view_is c.self.inside.place.me.0 (Blocks (aim_at c.args.p.0 c.args.off)) (ap (λ (k : Known). next_action k.view) s ∙ c.requires.next))
-        c.store.ensures.0 i.seat)
+    (c.store.ensures.2.1 (aim_at c.args.p.0 c.args.off) (ap (λ (k : Known). next_action k.view) s ∙ c.requires.next) ∙
+    next_view_is c.self.inside.place.me.0 (Blocks (aim_at c.args.p.0 c.args.off)) (ap (λ (k : Known). next_action k.view) s ∙ c.requires.next))
+    c.store.ensures.0 i.seat)
 
 pub returns-clause-was : goal.returns-clause-was
 returns-clause-was c =

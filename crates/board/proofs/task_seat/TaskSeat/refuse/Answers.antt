@@ -60,7 +60,7 @@ returns-clause-step c =
     let s = c.self.view_is ∙ c.member_phase-phase.ensures.seat in
     subst (λ (k : Known). MakesStep (Refuses (aim_at c.args.p.0 c.args.off)) k (record { table = c.store.new.seat.table_id; view = c.store.new.seat.me.0 })) s
     (refuses_step c.self.inside.place.table_id c.store.new.seat.table_id c.self.inside.place.me.0 c.store.new.seat.me.0 (aim_at c.args.p.0 c.args.off) i.seat
-        (task_inside _ _ i.seat i.task)
+    (task_inside _ _ i.seat i.task)
     (c.store.ensures.2.1 (aim_at c.args.p.0 c.args.off) (ap (λ (k : Known). next_action k.view) s ∙ c.requires.next)) c.store.ensures.0)
 
 pub returns-clause-was : goal.returns-clause-was

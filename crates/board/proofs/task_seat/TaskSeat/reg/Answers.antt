@@ -31,8 +31,8 @@ store-requires c =
       subst (λ (w : ℕ). Allows (IsKept key) slots id me w (λ _. c.from-word.result + 1) (λ _. Acted (step slots w (c.from-word.result + 1) 0 none) me (c.from-word.result + 1)))
           (sym (c.phase_index-index.ensures.index ∙ ap (λ (f : Frame). phase_index f.plan c.args.c.0 p) (sym b)))
           (registers_child key.plan.value key.mode slots id me t c.args.c.0 p (c.from-word.result + 1) c.member_phase-phase.result i.task i.seat.live
-              (ap (λ (k : Known). k.view.holds) s ∙ c.requires.unlocked) next
-              (subst (λ (f : Frame). c.args.c.0 < length f.plan.parents) (sym b) c.requires.child) few phase (ap (λ n. n + 1) c.from-word.ensures)),
+          (ap (λ (k : Known). k.view.holds) s ∙ c.requires.unlocked) next
+          (subst (λ (f : Frame). c.args.c.0 < length f.plan.parents) (sym b) c.requires.child) few phase (ap (λ n. n + 1) c.from-word.ensures)),
     )
 
 pub invariant_of-self : goal.invariant_of-self
@@ -51,7 +51,7 @@ returns c =
     record {
       step = subst (λ (k : Known). MakesStep (Registers c.args.c.0 c.args.p.0) k (record { table = c.store.new.seat.table_id; view = c.store.new.seat.me.0 })) s
           (makes_step c.self.inside.place.table_id c.store.new.seat.table_id c.self.inside.place.me.0 c.store.new.seat.me.0 (Registers c.args.c.0 c.args.p.0)
-              (task_inside _ _ i.seat i.task)
+          (task_inside _ _ i.seat i.task)
           (ap (λ (k : Known). next_action k.view) s ∙ c.requires.next) c.store.ensures.2.0 c.store.ensures.0 i.seat);
     }
 

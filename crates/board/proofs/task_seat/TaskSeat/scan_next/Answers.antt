@@ -48,7 +48,7 @@ load-word-requires c =
       o.table,
       subst (λ (f : Frame). c.phase_index-index.result < f.table.words) (sym b) c.phase_index-index.ensures.inside,
       subst (λ (n : ℕ). Allows (IsKept key) slots id me n (λ n. n) (Looked (step slots n 0 0 none) me))
-      (sym (c.phase_index-index.ensures.index ∙ ap (λ (f : Frame). phase_index f.plan t p) (sym b)))
+          (sym (c.phase_index-index.ensures.index ∙ ap (λ (f : Frame). phase_index f.plan t p) (sym b)))
           (looks key.plan.value key.mode slots id me t p i.seat.live o.plan small few),
     )
 
@@ -59,34 +59,34 @@ phase_of-answer-requires c = (looked_told 0 _ _ _ _ c.args.t.0 c.args.event.p.0 
 pub returns : goal.returns
 returns c =
     let t = looked_told 0 _ _ _ _ c.args.t.0 c.args.event.p.0 c.args.board.now c.self.inside.place.table_id c.load-word.ensures.2
-            (subst (λ k. IsOf k c.args.board.now) (sym c.self.view_is) c.requires.made) c.requires.task c.requires.phaser c.phase_index-index.ensures.index in
+    (subst (λ k. IsOf k c.args.board.now) (sym c.self.view_is) c.requires.made) c.requires.task c.requires.phaser c.phase_index-index.ensures.index in
     record {
       answer = subst (λ (k : Known). AnswersPhase c.args.t.0 c.args.event.p.0 c.phase_of-answer.result k
           (record { table = c.load-word.new.seat.table_id; view = c.load-word.new.seat.me.0 })) c.self.view_is
           (answers_phase c.self.inside.place.table_id c.load-word.new.seat.table_id c.self.inside.place.me.0 c.load-word.new.seat.me.0 c.args.t.0
-              c.args.event.p.0 t.0 c.phase_of-answer.result c.self.invariant.sitting.seat
-              (subst (λ (q : Plan). c.args.t.0 < length q.parents) (sym (subst (λ k. IsOf k c.args.board.now) (sym c.self.view_is) c.requires.made).plan)
-              c.requires.task) t.3 c.load-word.ensures.0 (c.phase_of-answer.ensures t.0 t.1));
+          c.args.event.p.0 t.0 c.phase_of-answer.result c.self.invariant.sitting.seat
+          (subst (λ (q : Plan). c.args.t.0 < length q.parents) (sym (subst (λ k. IsOf k c.args.board.now) (sym c.self.view_is) c.requires.made).plan)
+          c.requires.task) t.3 c.load-word.ensures.0 (c.phase_of-answer.ensures t.0 t.1));
     }
 
 pub returns-then-is_behind : goal.returns-then-is_behind
 returns-then-is_behind c =
     let t = looked_told 0 _ _ _ _ c.args.t.0 c.args.event.p.0 c.args.board.now c.self.inside.place.table_id c.load-word.ensures.2
-            (subst (λ k. IsOf k c.args.board.now) (sym c.self.view_is) c.requires.made) c.requires.task c.requires.phaser c.phase_index-index.ensures.index in
+    (subst (λ k. IsOf k c.args.board.now) (sym c.self.view_is) c.requires.made) c.requires.task c.requires.phaser c.phase_index-index.ensures.index in
     record {
       answer = subst (λ (k : Known). AnswersPhase c.args.t.0 c.args.event.p.0 c.phase_of-answer.result k
           (record { table = c.load-word.new.seat.table_id; view = c.load-word.new.seat.me.0 })) c.self.view_is
           (answers_phase c.self.inside.place.table_id c.load-word.new.seat.table_id c.self.inside.place.me.0 c.load-word.new.seat.me.0 c.args.t.0
-              c.args.event.p.0 t.0 c.phase_of-answer.result c.self.invariant.sitting.seat
-              (subst (λ (q : Plan). c.args.t.0 < length q.parents) (sym (subst (λ k. IsOf k c.args.board.now) (sym c.self.view_is) c.requires.made).plan)
-              c.requires.task) t.3 c.load-word.ensures.0 (c.phase_of-answer.ensures t.0 t.1));
+          c.args.event.p.0 t.0 c.phase_of-answer.result c.self.invariant.sitting.seat
+          (subst (λ (q : Plan). c.args.t.0 < length q.parents) (sym (subst (λ k. IsOf k c.args.board.now) (sym c.self.view_is) c.requires.made).plan)
+          c.requires.task) t.3 c.load-word.ensures.0 (c.phase_of-answer.ensures t.0 t.1));
     }
 
 pub invariant_of-self : goal.invariant_of-self
 invariant_of-self c =
     let i = c.self.invariant.sitting in
     let t = looked_told 0 _ _ _ _ c.args.t.0 c.args.event.p.0 c.args.board.now c.self.inside.place.table_id c.load-word.ensures.2
-            (subst (λ k. IsOf k c.args.board.now) (sym c.self.view_is) c.requires.made) c.requires.task c.requires.phaser c.phase_index-index.ensures.index in
+    (subst (λ k. IsOf k c.args.board.now) (sym c.self.view_is) c.requires.made) c.requires.task c.requires.phaser c.phase_index-index.ensures.index in
     let found = c.phase_of-answer.ensures t.0 t.1 in
     let event = subst (λ (k : Known). Some c.args.event ≡ event_of k) (sym c.self.view_is) (sym c.requires.event) in
     let next = subst (λ (k : Known). c.args.t.0 ≡ (seen k.view).scanned) (sym c.self.view_is) (sym c.requires.next) in
@@ -105,7 +105,7 @@ pub invariant_of-self-2 : goal.invariant_of-self-2
 invariant_of-self-2 c =
     let i = c.self.invariant.sitting in
     let t = looked_told 0 _ _ _ _ c.args.t.0 c.args.event.p.0 c.args.board.now c.self.inside.place.table_id c.load-word.ensures.2
-            (subst (λ k. IsOf k c.args.board.now) (sym c.self.view_is) c.requires.made) c.requires.task c.requires.phaser c.phase_index-index.ensures.index in
+    (subst (λ k. IsOf k c.args.board.now) (sym c.self.view_is) c.requires.made) c.requires.task c.requires.phaser c.phase_index-index.ensures.index in
     let found = c.phase_of-answer.ensures t.0 t.1 in
     let event = subst (λ (k : Known). Some c.args.event ≡ event_of k) (sym c.self.view_is) (sym c.requires.event) in
     let next = subst (λ (k : Known). c.args.t.0 ≡ (seen k.view).scanned) (sym c.self.view_is) (sym c.requires.next) in

@@ -24,5 +24,5 @@ compare_exchange-found-requires c =
       subst (λ (n : ℕ). Allows (IsKept key) slots id me 0 (λ m. either (eqb m 0) (n + 1) m) (Tried (step slots 0 0 (n + 1) none) me)) (sym c.from-mine.ensures)
           (tries key.plan.value key.mode slots id me c.self.inside.task.0 i.task i.seat.live (ap (λ (k : Known). k.view.holds) s ∙ c.requires.unlocked)
           (ap avoids (sym o.mode) ∙ ap (λ (k : Known). avoids k.view.mode) s ∙ c.requires.avoids) o.plan c.requires.next.0
-              (ap (λ (k : Known). next_action k.view) s ∙ c.requires.next.1)),
+          (ap (λ (k : Known). next_action k.view) s ∙ c.requires.next.1)),
     )

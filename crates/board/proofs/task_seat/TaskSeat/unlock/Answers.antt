@@ -29,5 +29,5 @@ pub returns : goal.returns
 returns c = record {
   freed = subst (λ (k : Known). FreesLock k (record { table = c.store.new.seat.table_id; view = c.store.new.seat.me.0 })) c.self.view_is
       (frees_lock c.self.inside.place.table_id c.store.new.seat.table_id c.self.inside.place.me.0 c.store.new.seat.me.0 c.self.invariant.sitting.seat
-          c.store.ensures.2.0 c.store.ensures.0);
+      c.store.ensures.2.0 c.store.ensures.0);
 }

@@ -38,9 +38,11 @@ pub invariant_of-self : goal.invariant_of-self
 invariant_of-self c =
     let e = event_is c.args.self.now c.requires.event in
     let told = c.store.ensures.2.1 e.0 (ap event_of c.self.view_is ∙ e.1) in
-    record { no_slot = c.store.ensures.2.0 ∙ c.self.invariant.no_slot;
-        sitting = passes_sitting c.self.inside.place.table_id c.store.new.seat.table_id c.self.inside.place.me.0 c.store.new.seat.me.0 _ _ e.0.p.0 _
-        c.self.invariant.sitting told.1 told.0 }
+    record {
+      no_slot = c.store.ensures.2.0 ∙ c.self.invariant.no_slot;
+      sitting = passes_sitting c.self.inside.place.table_id c.store.new.seat.table_id c.self.inside.place.me.0 c.store.new.seat.me.0 _ _ e.0.p.0 _
+          c.self.invariant.sitting told.1 told.0;
+    }
 
 pub returns-clause-step : goal.returns-clause-step
 returns-clause-step c = λ e is.
@@ -48,11 +50,11 @@ returns-clause-step c = λ e is.
     let told = c.store.ensures.2.1 e (ap event_of c.self.view_is ∙ is) in
     subst (λ (k : Known). MakesStep (Passes e.p.0) k (record { table = c.store.new.seat.table_id; view = c.store.new.seat.me.0 })) c.self.view_is
     (makes_step c.self.inside.place.table_id c.store.new.seat.table_id c.self.inside.place.me.0 c.store.new.seat.me.0 (Passes e.p.0)
-        (task_inside _ _ i.seat i.task) told.1 told.0 c.store.ensures.0 i.seat)
+    (task_inside _ _ i.seat i.task) told.1 told.0 c.store.ensures.0 i.seat)
 
 pub returns-clause-event : goal.returns-clause-event
 returns-clause-event c =
     let e = event_is c.args.self.now c.requires.event in
     let told = c.store.ensures.2.1 e.0 (ap event_of c.self.view_is ∙ e.1) in
     sym (passes_sitting c.self.inside.place.table_id c.store.new.seat.table_id c.self.inside.place.me.0 c.store.new.seat.me.0 _ _ e.0.p.0 _
-        c.self.invariant.sitting told.1 told.0).event
+    c.self.invariant.sitting told.1 told.0).event

@@ -25,6 +25,12 @@ returns-clause-other c =
       free = ap (λ (u : View). u.holds) v ∙ c.self.invariant.free;
       loads = ap (λ (u : View). u.loads) v;
       kept = subst (λ (u : View). IsSeat (record { table = c.split_seat-place.result.table_id; view = u })) (sym v)
-          (record { live = c.self.invariant.seat.live; checked = c.self.invariant.seat.checked; count = c.self.invariant.seat.count;
-          few = c.self.invariant.seat.few; own = c.self.invariant.seat.own; lock = c.self.invariant.seat.lock });
+          (record {
+            live = c.self.invariant.seat.live;
+            checked = c.self.invariant.seat.checked;
+            count = c.self.invariant.seat.count;
+            few = c.self.invariant.seat.few;
+            own = c.self.invariant.seat.own;
+            lock = c.self.invariant.seat.lock;
+          });
     }

@@ -20,7 +20,7 @@ join_seat-requires c =
       ap (λ m. m.1) other.place.1,
       (let n = c.board.invariant.words in omega arith),
       takes_in key.plan.value key.mode _ _ _ _ t.0 c.self.invariant.alone c.self.invariant.seat.live (ap (λ (u : View). u.own) w ∙ t.1)
-      (ap (λ (u : View). u.spent) w ∙ other.seat.0.live),
+          (ap (λ (u : View). u.spent) w ∙ other.seat.0.live),
     )
 
 pub load-requires : goal.load-requires
@@ -39,11 +39,11 @@ returns c =
     let other = c.into_place-other.ensures in
     let w : c.into_place-other.result.me.0 ≡ c.args.seat.view = ap (λ m. m.0) other.place.1 in
     let x : c.load.new.seat.me.0 ≡ both c.self.inside.place.me.0 c.args.seat.view = c.load.ensures.2.0 ∙ ap (λ m. m.0) c.join_seat.ensures.2 ∙
-            ap (both c.self.inside.place.me.0) w in
+    ap (both c.self.inside.place.me.0) w in
     let told = subst (λ (u : View). length u.sight.places ≡ length u.plan.parents) (sym c.load.ensures.2.0) c.load.ensures.2.2 in record {
       taken = subst (λ (k : Known). TakesIn c.args.seat k (record { table = c.load.new.seat.table_id; view = c.load.new.seat.me.0 })) c.self.view_is
           (taken c.self.inside.place.table_id c.self.inside.place.me.0 c.args.seat.view c.load.new.seat.me.0 c.self.invariant.alone c.self.invariant.seat
-              (o.plan ∙ sym c.requires.seat_made.plan) other.seat.0.count x told
+          (o.plan ∙ sym c.requires.seat_made.plan) other.seat.0.count x told
           c.load.new.seat.table_id c.args.seat.table (c.load.ensures.0 ∙ c.join_seat.ensures.0));
     }
 
@@ -53,10 +53,10 @@ invariant_of-self c =
     let other = c.into_place-other.ensures in
     let w : c.into_place-other.result.me.0 ≡ c.args.seat.view = ap (λ m. m.0) other.place.1 in
     let x : c.load.new.seat.me.0 ≡ both c.self.inside.place.me.0 c.args.seat.view = c.load.ensures.2.0 ∙ ap (λ m. m.0) c.join_seat.ensures.2 ∙
-            ap (both c.self.inside.place.me.0) w in
+    ap (both c.self.inside.place.me.0) w in
     let told = subst (λ (u : View). length u.sight.places ≡ length u.plan.parents) (sym c.load.ensures.2.0) c.load.ensures.2.2 in
     let is = now_is c.self.inside.place.table_id c.self.inside.place.me.0 c.args.seat.view c.load.new.seat.me.0 c.self.invariant.alone c.self.invariant.seat
-            (o.plan ∙ sym c.requires.seat_made.plan) other.seat.0.count x told in record {
+    (o.plan ∙ sym c.requires.seat_made.plan) other.seat.0.count x told in record {
       no_slot = c.load.ensures.2.1 ∙ ap (λ m. m.1) c.join_seat.ensures.2 ∙ c.self.invariant.no_slot;
       alone = ap (λ (u : View). u.own) is ∙ c.self.invariant.alone;
       free = ap (λ (u : View). u.holds) is ∙ c.self.invariant.free;

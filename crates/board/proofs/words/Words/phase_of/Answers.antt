@@ -16,10 +16,10 @@ phase_of-requires c =
     let few = subst (λ (e : Ended). p < length e.plan.makers) (sym c.self.view_is) c.requires.phaser in
     let at : 1 + c.self.inside.tasks + t * c.self.inside.phasers + p ≡ phase_index c.self.inside.setting.plan.value t p = λ j. 1 + i.tasks j + t * i.phasers j + p in
     let word = sym (read_at (slots_items c.self.inside.closed.words) (1 + c.self.inside.tasks + t * c.self.inside.phasers + p) _ 0 c.word.ensures) ∙
-            ap (λ n. get_or (slots_items c.self.inside.closed.words) n 0) at in
+    ap (λ n. get_or (slots_items c.self.inside.closed.words) n 0) at in
     subst (λ n. n < 4294967296) (sym (word ∙ i.lawful.shown.phases t p small few))
-        (number_small ((state_at c.self.inside.setting.plan.value i.lawful.places).phases t p)
-        (phases_small c.self.inside.setting.plan.value i.checked i.lawful.places t p))
+    (number_small ((state_at c.self.inside.setting.plan.value i.lawful.places).phases t p)
+    (phases_small c.self.inside.setting.plan.value i.checked i.lawful.places t p))
 
 pub returns-clause-number : goal.returns-clause-number
 returns-clause-number c =
@@ -30,7 +30,7 @@ returns-clause-number c =
     let few = subst (λ (e : Ended). p < length e.plan.makers) (sym c.self.view_is) c.requires.phaser in
     let at : 1 + c.self.inside.tasks + t * c.self.inside.phasers + p ≡ phase_index c.self.inside.setting.plan.value t p = λ j. 1 + i.tasks j + t * i.phasers j + p in
     let word = sym (read_at (slots_items c.self.inside.closed.words) (1 + c.self.inside.tasks + t * c.self.inside.phasers + p) _ 0 c.word.ensures) ∙
-            ap (λ n. get_or (slots_items c.self.inside.closed.words) n 0) at in
+    ap (λ n. get_or (slots_items c.self.inside.closed.words) n 0) at in
     ap phase_number (c.phase_of.ensures ((state_at c.self.inside.setting.plan.value i.lawful.places).phases t p) (word ∙ i.lawful.shown.phases t p small few))
     ∙ sym (i.lawful.shown.phases t p small few) ∙ ap (λ (e : Ended). get_or e.words (phase_index e.plan t p) 0) c.self.view_is
 
@@ -41,6 +41,6 @@ returns-clause-meaning c = λ l.
     let p = c.args.p.0 in
     let at : 1 + c.self.inside.tasks + t * c.self.inside.phasers + p ≡ phase_index c.self.inside.setting.plan.value t p = λ j. 1 + i.tasks j + t * i.phasers j + p in
     let word = sym (read_at (slots_items c.self.inside.closed.words) (1 + c.self.inside.tasks + t * c.self.inside.phasers + p) _ 0 c.word.ensures) ∙
-            ap (λ n. get_or (slots_items c.self.inside.closed.words) n 0) at
+    ap (λ n. get_or (slots_items c.self.inside.closed.words) n 0) at
     ∙ ap (λ (e : Ended). get_or e.words (phase_index e.plan t p) 0) c.self.view_is in
     c.phase_of.ensures ((state_at c.args.self.now.plan l.places).phases t p) (word ∙ l.shown.phases t p c.requires.task c.requires.phaser)

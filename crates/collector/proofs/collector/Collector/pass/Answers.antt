@@ -14,22 +14,22 @@ use Rattle.collector.proofs.collector.Collector.pass.Goals as goal
 pub returns-in_err-list-clause-published : goal.returns-in_err-list-clause-published
 returns-in_err-list-clause-published c =
     pass_published c.args.board.now c.args.view.now c.collect.new.by c.collect.new.self.statuses c.requires.made c.collect.ensures.goes_on
-        c.collect.ensures.collect c.collect.ensures.collected
+    c.collect.ensures.collect c.collect.ensures.collected
 
 pub returns-in_err-dead-clause-published : goal.returns-in_err-dead-clause-published
 returns-in_err-dead-clause-published c =
     pass_published c.args.board.now c.args.view.now c.collect.new.by c.collect.new.self.statuses c.requires.made c.collect.ensures.goes_on
-        c.collect.ensures.collect c.collect.ensures.collected
+    c.collect.ensures.collect c.collect.ensures.collected
 
 pub returns-in_err-fresh-clause-published : goal.returns-in_err-fresh-clause-published
 returns-in_err-fresh-clause-published c =
     pass_published c.args.board.now c.args.view.now c.collect.new.by c.collect.new.self.statuses c.requires.made c.collect.ensures.goes_on
-        c.collect.ensures.collect c.collect.ensures.collected
+    c.collect.ensures.collect c.collect.ensures.collected
 
 pub returns-clause-published : goal.returns-clause-published
 returns-clause-published c =
     pass_published c.args.board.now c.args.view.now c.collect.new.by c.collect.new.self.statuses c.requires.made c.collect.ensures.goes_on
-        c.collect.ensures.collect c.collect.ensures.collected
+    c.collect.ensures.collect c.collect.ensures.collected
 
 pub fresh-requires-clause-listed : goal.fresh-requires-clause-listed
 fresh-requires-clause-listed c =
@@ -39,7 +39,7 @@ fresh-requires-clause-listed c =
     let second = c.as_slice-2.ensures.items ∙ c.in_ok-list.ensures.statuses in
     let are = subst (λ (xs : List Status). IsDeadList xs dead) first c.in_ok-dead.ensures in
     let all = pass_listed c.args.board.now c.args.view.now c.collect.new.by list c.requires.made c.collect.ensures.goes_on c.collect.ensures.collect
-            c.collect.ensures.collected dead are in
+    c.collect.ensures.collected dead are in
     subst (λ (xs : List TaskId). All (λ t. (e : Event) × IsListedOn c.as_slice-2.result.now t.0 e) xs) (sym c.as_slice-3.ensures.items)
     (subst (λ (xs : List Status). All (λ t. (e : Event) × IsListedOn xs t.0 e) dead) (sym second) all)
 
@@ -50,7 +50,7 @@ fresh-requires-clause-tasks c =
     let first = c.as_slice.ensures.items ∙ c.in_ok-list.ensures.statuses in
     let are = subst (λ (xs : List Status). IsDeadList xs dead) first c.in_ok-dead.ensures in
     let all = pass_within c.args.board.now c.args.view.now c.collect.new.by list c.requires.made c.collect.ensures.goes_on c.collect.ensures.collect
-            c.collect.ensures.collected dead are in
+    c.collect.ensures.collected dead are in
     let tasks = ap (λ (w : Watch). w.tasks) c.self.view_is ∙ c.requires.tasks in
     let count : length c.deref.result.now ≡ length c.args.board.now.plan.parents =
     (let value = ap length c.deref.ensures.value in let counted : vec_len c.self.inside.names ≡ length c.self.inside.names.items = c.self.inside.names.ok.0 in let kept = c.self.invariant in omega arith) in
@@ -64,7 +64,7 @@ name-requires c =
     let first = c.as_slice.ensures.items ∙ c.in_ok-list.ensures.statuses in
     let are = subst (λ (xs : List Status). IsDeadList xs dead) first c.in_ok-dead.ensures in
     let all = pass_within c.args.board.now c.args.view.now c.collect.new.by list c.requires.made c.collect.ensures.goes_on c.collect.ensures.collect
-            c.collect.ensures.collected dead are in
+    c.collect.ensures.collected dead are in
     let count : vec_len c.self.inside.names ≡ length c.args.board.now.plan.parents = c.self.invariant ∙ ap (λ (w : Watch). w.tasks) c.self.view_is ∙ c.requires.tasks in
     record {
       tasks = subst (λ (xs : List TaskId). All (λ t. t.0 < vec_len c.self.inside.names) xs) (sym c.as_slice-4.ensures.items)

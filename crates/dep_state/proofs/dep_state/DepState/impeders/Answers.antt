@@ -20,7 +20,7 @@ returns c ss ok is =
     omega (arith, n, length-map c.self.inside.impeding.items (λ r. r.items), length-map (rows_of c.self.inside.impeders.items) (named c.self.inside.tasks.items)) in
     let row = row_at c.self.inside.impeding.items at c.index.result.now lt' c.index.ensures in
     let named_row : get_or (map (named c.self.inside.tasks.items) (rows_of c.self.inside.impeders.items)) at [] ≡ named c.self.inside.tasks.items
-            (get_or (rows_of c.self.inside.impeders.items) at []) =
+    (get_or (rows_of c.self.inside.impeders.items) at []) =
     get_or-map (named c.self.inside.tasks.items) (rows_of c.self.inside.impeders.items) at [] [] lt in
     let items : c.deref-2.result.now ≡ named c.self.inside.tasks.items (get_or (rows_of c.self.inside.impeders.items) at []) =
     c.deref-2.ensures.value ∙ sym row ∙ ap (λ xs. get_or xs at []) c.self.invariant.1 ∙ named_row in

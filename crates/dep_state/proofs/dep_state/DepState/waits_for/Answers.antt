@@ -62,6 +62,6 @@ returns-in-Some-clause-pairs c ss ok is b =
     let there = rw c.deref.ensures.value at c.in-Some.ensures in
     let stands = task_stands ss ok _ is' c.in-Some.at c.args.t there.0 (there.1 c.args.t) in
     let at : get_or c.self.inside.awaits.items c.in-Some.at 0 ≡ c.index.result.now = get_or_default c.self.inside.awaits.items c.in-Some.at 0 c.index.result.now
-            (awaits_inside c) ∙ sym c.index.ensures in
+    (awaits_inside c) ∙ sym c.index.ensures in
     let is_waits = row_is_waits ss ok _ is' c.in-Some.at c.args.t stands b in
     rw (named_row c) (rw at at is_waits)

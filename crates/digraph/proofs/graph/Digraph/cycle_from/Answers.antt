@@ -30,4 +30,4 @@ returns c =
     rw c.from_vec.ensures.items
     (rw (← c.self.view_is)
     (walk_by_table (IsStepOn g answers) (IsLeastSuccessor g) (λ a. get_or answers a false ≡ true) (λ a b reaches step. step reaches) n c.in_ok-next.next.items
-        c.args.v c.in_ok-cycle.cycle.items table inside on walk))
+    c.args.v c.in_ok-cycle.cycle.items table inside on walk))

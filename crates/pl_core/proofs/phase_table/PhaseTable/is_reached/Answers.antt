@@ -13,5 +13,5 @@ returns-in-Some c =
     slice_get_read table.least.items (length table.least.items) c.args.p c.index.result.now refl within c.index.ensures ∙ ap Some c.in-Some.is in (
       λ yes u m l e. (let low = kept.bound c.args.p u m c.in-Some.member read l e in let most = leb-true c.args.n c.in-Some.member.phase yes in omega arith),
       λ each. le-leb c.args.n c.in-Some.member.phase (each c.in-Some.member.task c.in-Some.member.phase (kept.within c.args.p c.in-Some.member read)
-      (kept.there c.args.p c.in-Some.member read)),
+          (kept.there c.args.p c.in-Some.member read)),
     )

@@ -16,13 +16,13 @@ least_after-requires-clause-before c =
     let f = phases_of_cells table.phasers table.cells.items in
     let at = mul-add-lt c.args.t table.phasers c.args.p table.tasks c.requires.task c.requires.phaser in
     let within : c.args.t * table.phasers + c.args.p < length table.cells.items =
-            (let sized = table.sized in let counted : vec_len table.cells ≡ length table.cells.items = table.cells.ok.0 in omega arith) in
+    (let sized = table.sized in let counted : vec_len table.cells ≡ length table.cells.items = table.cells.ok.0 in omega arith) in
     let kept = table.least_kept in
     let inside : c.args.p < length table.least.items = (let sized = kept.one_each in let phaser = c.requires.phaser in omega arith) in
     let read : slice_get table.least.items c.args.p ≡ Some c.index-before.result.now =
     slice_get_read table.least.items (length table.least.items) c.args.p c.index-before.result.now refl inside c.index-before.ensures in
     let changed = ap (phases_of_cells table.phasers) c.deref.ensures.value ∙
-            cell_set table.phasers table.cells.items c.args.t c.args.p c.cell_of.result c.requires.phaser within in (
+    cell_set table.phasers table.cells.items c.args.t c.args.p c.cell_of.result c.requires.phaser within in (
       f,
       least_at f table.tasks table.phasers table.least.items kept c.args.p c.index-before.result.now read,
       λ u n. sym (ap (λ h. h u c.args.p) changed ∙ with_phase_other f c.args.t c.args.p _ u c.args.p (λ e. absurd (n e))),
@@ -34,7 +34,7 @@ invariant_of-self c =
     let f = phases_of_cells table.phasers table.cells.items in
     let at = mul-add-lt c.args.t table.phasers c.args.p table.tasks c.requires.task c.requires.phaser in
     let within : c.args.t * table.phasers + c.args.p < length table.cells.items =
-            (let sized = table.sized in let counted : vec_len table.cells ≡ length table.cells.items = table.cells.ok.0 in omega arith) in
+    (let sized = table.sized in let counted : vec_len table.cells ≡ length table.cells.items = table.cells.ok.0 in omega arith) in
     let cells = set table.cells.items (c.args.t * table.phasers + c.args.p) c.cell_of.result in
     let changed = cell_set table.phasers table.cells.items c.args.t c.args.p c.cell_of.result c.requires.phaser within in
     let here = subst (λ xs. IsLeastBelow (phases_of_cells table.phasers xs) c.args.p table.tasks c.least_after.result) c.deref.ensures.value c.least_after.ensures in
@@ -49,6 +49,6 @@ pub returns-clause-set : goal.returns-clause-set
 returns-clause-set c =
     let at = mul-add-lt c.args.t c.args.self.now.phasers c.args.p c.args.self.now.tasks c.requires.task c.requires.phaser in
     let within : c.args.t * c.args.self.now.phasers + c.args.p < length c.args.self.now.cells.items =
-            (let sized = c.args.self.now.sized in let counted : vec_len c.args.self.now.cells ≡ length c.args.self.now.cells.items = c.args.self.now.cells.ok.0 in omega arith) in
+    (let sized = c.args.self.now.sized in let counted : vec_len c.args.self.now.cells ≡ length c.args.self.now.cells.items = c.args.self.now.cells.ok.0 in omega arith) in
     cell_set c.args.self.now.phasers c.args.self.now.cells.items c.args.t c.args.p c.cell_of.result c.requires.phaser within
     ∙ ap (with_phase (phases_of_cells c.args.self.now.phasers c.args.self.now.cells.items) c.args.t c.args.p) c.cell_of.ensures

@@ -57,7 +57,7 @@ loop-k-init c =
 pub returns-clause-stop : goal.returns-clause-stop
 returns-clause-stop c =
     stop_given c.args.plan.now c.args.places.now c.args.t.0 c.requires.walked.checked c.requires.given c.place_within.result c.place_within.ensures
-        c.code-ops.result.now c.code-ops.ensures.code c.stop_of-stop.result c.stop_of-stop.ensures
+    c.code-ops.result.now c.code-ops.ensures.code c.stop_of-stop.result c.stop_of-stop.ensures
 
 pub make_op-requires-clause-child : goal.make_op-requires-clause-child
 make_op-requires-clause-child c =
@@ -65,9 +65,9 @@ make_op-requires-clause-child c =
     let t = c.args.t.0 in
     let is : slice_get (code_of plan t) c.loop-k.k ≡ Some c.op_within.result = ap (λ xs. slice_get xs c.loop-k.k) (sym c.code-ops.ensures.code) ∙ c.op_within.ensures in
     let less = less_than c.args.plan.now c.args.places.now t c.requires.walked.checked c.requires.given c.place_within.result c.place_within.ensures
-            c.code-ops.result.now c.code-ops.ensures.code c.stop_of-stop.result c.stop_of-stop.ensures c.loop-k.k c.loop-k-test.true c.op_within.result is in
+    c.code-ops.result.now c.code-ops.ensures.code c.stop_of-stop.result c.stop_of-stop.ensures c.loop-k.k c.loop-k-test.true c.op_within.result is in
     child_here plan c.requires.walked.checked c.args.places.now c.requires.given t c.loop-k.self.tasks.items c.loop-k.self.phases c.loop-k.k c.op_within.result
-        is c.loop-k.invariant less
+    is c.loop-k.invariant less
 
 pub make_op-requires-clause-room : goal.make_op-requires-clause-room
 make_op-requires-clause-room c =
@@ -75,7 +75,7 @@ make_op-requires-clause-room c =
     let t = c.args.t.0 in
     let is : slice_get (code_of plan t) c.loop-k.k ≡ Some c.op_within.result = ap (λ xs. slice_get xs c.loop-k.k) (sym c.code-ops.ensures.code) ∙ c.op_within.ensures in
     let less = less_than c.args.plan.now c.args.places.now t c.requires.walked.checked c.requires.given c.place_within.result c.place_within.ensures
-            c.code-ops.result.now c.code-ops.ensures.code c.stop_of-stop.result c.stop_of-stop.ensures c.loop-k.k c.loop-k-test.true c.op_within.result is in
+    c.code-ops.result.now c.code-ops.ensures.code c.stop_of-stop.result c.stop_of-stop.ensures c.loop-k.k c.loop-k-test.true c.op_within.result is in
     room plan c.requires.walked.checked c.args.places.now c.requires.given t c.loop-k.self.tasks.items c.loop-k.self.phases c.loop-k.k c.op_within.result is c.loop-k.invariant less
 
 pub loop-k-preserved : goal.loop-k-preserved
@@ -85,12 +85,12 @@ loop-k-preserved c =
     let t = c.args.t.0 in
     let is : slice_get (code_of plan t) c.loop-k.k ≡ Some c.op_within.result = ap (λ xs. slice_get xs c.loop-k.k) (sym c.code-ops.ensures.code) ∙ c.op_within.ensures in
     let less = less_than plan places t c.requires.walked.checked c.requires.given c.place_within.result c.place_within.ensures c.code-ops.result.now
-            c.code-ops.ensures.code c.stop_of-stop.result c.stop_of-stop.ensures c.loop-k.k c.loop-k-test.true c.op_within.result is in
+    c.code-ops.ensures.code c.stop_of-stop.result c.stop_of-stop.ensures c.loop-k.k c.loop-k-test.true c.op_within.result is in
     let made = made_until plan places t c.requires.walked.checked c.requires.given c.place_within.result c.place_within.ensures c.code-ops.result.now
-            c.code-ops.ensures.code c.stop_of-stop.result c.stop_of-stop.ensures c.loop-k.k c.loop-k-test.true in
+    c.code-ops.ensures.code c.stop_of-stop.result c.stop_of-stop.ensures c.loop-k.k c.loop-k-test.true in
     subst (λ n. HasWalked plan places (walking (places_at plan places) t (actions_before (code_of plan t) n)) t c.make_op.new.self.tasks.items
-        c.make_op.new.self.phases) (sym (add-one c.loop-k.k))
+    c.make_op.new.self.phases) (sym (add-one c.loop-k.k))
     (subst (λ xs. HasWalked plan places (walking (places_at plan places) t (actions_before (code_of plan t) (suc c.loop-k.k))) t xs c.make_op.new.self.phases)
-        (sym c.make_op.ensures.tasks)
+    (sym c.make_op.ensures.tasks)
     (walk_more plan c.requires.walked.checked places c.requires.given t c.loop-k.self.tasks.items c.loop-k.self.phases c.loop-k.k c.op_within.result is c.loop-k.invariant less
     c.make_op.new.self.phases c.make_op.ensures.rows c.make_op.ensures.columns c.make_op.ensures.moved made))

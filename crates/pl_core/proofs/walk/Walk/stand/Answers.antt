@@ -32,12 +32,12 @@ returns c =
     let event_is = c.event-event.ensures ∙ ap (λ o. if c.args.stop.begun || place.refused then event_of_op o (phases_in c.args.self.now.phases t) else None) op_is in
     let read = subst (λ xs. slice_get xs t ≡ Some was) c.deref.ensures.value c.task_at-forked.ensures in
     let stood = walk_stands plan c.requires.walking.checked places c.requires.given t place c.place_within-place.ensures c.args.stop c.requires.stop
-            c.args.self.now.tasks.items c.args.self.now.phases c.requires.walking was read
+    c.args.self.now.tasks.items c.args.self.now.phases c.requires.walking was read
     c.clear_refused.new.phases c.clear_refused.ensures.tasks c.clear_refused.ensures.phasers c.clear_refused.ensures.cleared in
     subst (λ n. HasWalked plan places (walked (places_at plan places) n) n
-        (set c.args.self.now.tasks.items t (record { place = place; op = c.args.stop.op; event = c.event-event.result; forked = was.forked }))
-        c.clear_refused.new.phases) (sym (add-one t))
+    (set c.args.self.now.tasks.items t (record { place = place; op = c.args.stop.op; event = c.event-event.result; forked = was.forked }))
+    c.clear_refused.new.phases) (sym (add-one t))
     (subst (λ e. HasWalked plan places (walked (places_at plan places) (suc t)) (suc t)
-        (set c.args.self.now.tasks.items t (record { place = place; op = c.args.stop.op; event = e; forked = was.forked })) c.clear_refused.new.phases)
-        (sym event_is)
+    (set c.args.self.now.tasks.items t (record { place = place; op = c.args.stop.op; event = e; forked = was.forked })) c.clear_refused.new.phases)
+    (sym event_is)
     stood)

@@ -14,8 +14,10 @@ pub after_block-requires : goal.after_block-requires
 after_block-requires c =
     let read = subst (λ xs. slice_get xs c.args.t.0 ≡ Some c.task_at.result) c.deref.ensures.value c.task_at.ensures in
     let before = subst (λ (w : WorldValue). IsAtAwaitOf w c.args.t.0 c.args.event) (sym c.self.view_is) c.requires.before in
-    record { fits = events_fit_block c.self.inside.plan.now c.self.inside.tasks.items c.self.inside.phases c.self.invariant.kept c.args.t.0 c.task_at.result
-        read c.args.event before }
+    record {
+      fits = events_fit_block c.self.inside.plan.now c.self.inside.tasks.items c.self.inside.phases c.self.invariant.kept c.args.t.0 c.task_at.result
+          read c.args.event before;
+    }
 
 pub invariant_of-self : goal.invariant_of-self
 invariant_of-self c =
@@ -26,7 +28,7 @@ invariant_of-self c =
       kept = subst (λ task. KeepsState c.self.inside.plan.now (set c.self.inside.tasks.items c.args.t.0 task) c.self.inside.phases) (sym c.after_block.ensures) stepped.0;
       highest =
           highest_set c.self.inside.tasks.items (length c.self.inside.plan.now.makers) c.self.inside.highest.items c.raise.new.highest.items c.args.t.0
-              c.after_block.result c.self.invariant.highest
+          c.after_block.result c.self.invariant.highest
           c.raise.ensures.len c.raise.ensures.keeps
           (λ e unrefused is inside.
           let same : e ≡ c.args.event = (let both : Some c.args.event ≡ Some e = sym (ap (λ v. v.event) c.after_block.ensures) ∙ is in cc) in
@@ -42,4 +44,4 @@ returns c =
     let stepped = block_stepped c.self.inside.plan.now c.self.inside.tasks.items c.self.inside.phases c.self.invariant.kept c.args.t.0 c.task_at.result read c.args.event before in
     subst (λ w. IsWorldStep w (world_from c.self.inside.plan.now (set c.self.inside.tasks.items c.args.t.0 c.after_block.result)) c.args.t.0) c.self.view_is
     (subst (λ task. IsWorldStep (world_from c.self.inside.plan.now c.self.inside.tasks.items)
-        (world_from c.self.inside.plan.now (set c.self.inside.tasks.items c.args.t.0 task)) c.args.t.0) (sym c.after_block.ensures) stepped.1)
+    (world_from c.self.inside.plan.now (set c.self.inside.tasks.items c.args.t.0 task)) c.args.t.0) (sym c.after_block.ensures) stepped.1)

@@ -31,5 +31,5 @@ returns c =
     let before = subst (λ (w : WorldValue). IsAtAwaitOf w c.args.t.0 c.args.event) (sym c.self.view_is) c.requires.before in
     subst (λ w. MakesRefusal w (world_from c.self.inside.plan.now (set c.self.inside.tasks.items c.args.t.0 c.after_refusal.result)) c.args.t.0) c.self.view_is
     (subst (λ k. MakesRefusal (world_from c.self.inside.plan.now c.self.inside.tasks.items)
-        (world_from c.self.inside.plan.now (set c.self.inside.tasks.items c.args.t.0 k)) c.args.t.0) (sym c.after_refusal.ensures)
+    (world_from c.self.inside.plan.now (set c.self.inside.tasks.items c.args.t.0 k)) c.args.t.0) (sym c.after_refusal.ensures)
     (refusal_made c.self.inside.plan.now c.self.inside.tasks.items c.self.inside.phases c.self.invariant.kept c.args.t.0 task read c.args.event before))

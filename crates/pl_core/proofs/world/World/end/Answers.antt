@@ -12,7 +12,7 @@ returns-then-task c =
     let read = subst (λ xs. slice_get xs c.args.t.0 ≡ Some task) c.deref.ensures.value c.task_at-task.ensures in
     subst (λ (w : WorldValue). Refused c.in-Some.event ≡ end_of (state_of w) c.args.t.0) c.self.view_is
     (sym (end_kept_refused c.self.inside.plan.now c.self.inside.tasks.items c.self.inside.phases c.self.invariant.kept c.args.t.0 task read c.in-Some.event
-        c.in-Some.is c.if-task.true))
+    c.in-Some.is c.if-task.true))
 
 pub returns-else-task : goal.returns-else-task
 returns-else-task c =
@@ -20,7 +20,7 @@ returns-else-task c =
     let read = subst (λ xs. slice_get xs c.args.t.0 ≡ Some task) c.deref.ensures.value c.task_at-task.ensures in
     subst (λ (w : WorldValue). Blocked c.in-Some.event ≡ end_of (state_of w) c.args.t.0) c.self.view_is
     (sym (end_kept_blocked c.self.inside.plan.now c.self.inside.tasks.items c.self.inside.phases c.self.invariant.kept c.args.t.0 task read c.in-Some.event
-        c.in-Some.is c.if-task.false))
+    c.in-Some.is c.if-task.false))
 
 pub returns-then-task-2 : goal.returns-then-task-2
 returns-then-task-2 c =

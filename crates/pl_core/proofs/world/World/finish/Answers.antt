@@ -9,4 +9,4 @@ returns-clause-end c =
     let s = state_of c.args.self.now in
     let ends = c.from_vec.ensures.items ∙ c.in_ok-ends.ensures.ends in
     ap (λ e. record { ends = e; blocked = c.in_ok-blocked.blocked }) ends ∙
-        ap (λ b. record { ends = list_below (end_of s) (length plan.parents); blocked = b }) c.in_ok-blocked.ensures
+    ap (λ b. record { ends = list_below (end_of s) (length plan.parents); blocked = b }) c.in_ok-blocked.ensures

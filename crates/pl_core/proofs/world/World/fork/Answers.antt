@@ -45,15 +45,15 @@ invariant_of-self c =
     let active = subst (λ (w : WorldValue). IsActive (state_of w) c.args.t.0) (sym c.self.view_is) c.requires.active in
     let next = subst (λ (w : WorldValue). action_by_code w c.args.t.0 ≡ Some (Forks c.args.c.0)) (sym c.self.view_is) c.requires.next in
     let stepped = fork_stepped c.self.inside.plan.now c.self.inside.tasks.items c.self.inside.phases c.self.invariant.kept c.args.t.0 c.task_at-task.result read
-            active c.args.c.0 next c.task_at-child.result child in
+    active c.args.c.0 next c.task_at-child.result child in
     let forked = c.self.inside.tasks.items in
     let phasers = length c.self.inside.plan.now.makers in
     record {
       kept =
           subst (λ k. KeepsState c.self.inside.plan.now (set (set c.self.inside.tasks.items c.args.c.0 k) c.args.t.0 c.after_op.result) c.self.inside.phases)
-              (sym c.after_fork.ensures)
+          (sym c.after_fork.ensures)
           (subst (λ k. KeepsState c.self.inside.plan.now (set (set c.self.inside.tasks.items c.args.c.0 (after_fork c.task_at-child.result)) c.args.t.0 k)
-              c.self.inside.phases) (sym c.after_op.ensures) stepped.0);
+          c.self.inside.phases) (sym c.after_op.ensures) stepped.0);
       highest =
           highest_idle (set forked c.args.c.0 c.after_fork.result) phasers c.self.inside.highest.items c.args.t.0 c.after_op.result
           (highest_same forked phasers c.self.inside.highest.items c.args.c.0 c.task_at-child.result c.after_fork.result c.self.invariant.highest child
@@ -68,12 +68,12 @@ returns c =
     let active = subst (λ (w : WorldValue). IsActive (state_of w) c.args.t.0) (sym c.self.view_is) c.requires.active in
     let next = subst (λ (w : WorldValue). action_by_code w c.args.t.0 ≡ Some (Forks c.args.c.0)) (sym c.self.view_is) c.requires.next in
     let stepped = fork_stepped c.self.inside.plan.now c.self.inside.tasks.items c.self.inside.phases c.self.invariant.kept c.args.t.0 c.task_at-task.result read
-            active c.args.c.0 next c.task_at-child.result child in
+    active c.args.c.0 next c.task_at-child.result child in
     subst (λ w. IsWorldStep w (world_from c.self.inside.plan.now
-        (set (set c.self.inside.tasks.items c.args.c.0 c.after_fork.result) c.args.t.0 c.after_op.result)) c.args.t.0) c.self.view_is
+    (set (set c.self.inside.tasks.items c.args.c.0 c.after_fork.result) c.args.t.0 c.after_op.result)) c.args.t.0) c.self.view_is
     (subst (λ k. IsWorldStep (world_from c.self.inside.plan.now c.self.inside.tasks.items)
-        (world_from c.self.inside.plan.now (set (set c.self.inside.tasks.items c.args.c.0 k) c.args.t.0 c.after_op.result)) c.args.t.0)
-        (sym c.after_fork.ensures)
+    (world_from c.self.inside.plan.now (set (set c.self.inside.tasks.items c.args.c.0 k) c.args.t.0 c.after_op.result)) c.args.t.0)
+    (sym c.after_fork.ensures)
     (subst (λ k. IsWorldStep (world_from c.self.inside.plan.now c.self.inside.tasks.items)
-        (world_from c.self.inside.plan.now (set (set c.self.inside.tasks.items c.args.c.0 (after_fork c.task_at-child.result)) c.args.t.0 k)) c.args.t.0)
-        (sym c.after_op.ensures) stepped.1))
+    (world_from c.self.inside.plan.now (set (set c.self.inside.tasks.items c.args.c.0 (after_fork c.task_at-child.result)) c.args.t.0 k)) c.args.t.0)
+    (sym c.after_op.ensures) stepped.1))

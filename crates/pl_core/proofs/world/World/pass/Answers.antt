@@ -27,7 +27,7 @@ invariant_of-self c =
     let waits = subst (λ (w : WorldValue). (state_of w).published c.args.t.0 ≡ Some c.args.event) (sym c.self.view_is) c.requires.waits in
     let reached = subst (λ (w : WorldValue). IsReached (state_of w) c.args.event) (sym c.self.view_is) c.requires.reached in
     let stepped = pass_stepped c.self.inside.plan.now c.self.inside.tasks.items c.self.inside.phases c.self.invariant.kept c.args.t.0 c.task_at.result read
-            c.args.event waits reached in
+    c.args.event waits reached in
     record {
       kept = subst (λ task. KeepsState c.self.inside.plan.now (set c.self.inside.tasks.items c.args.t.0 task) c.self.inside.phases) (sym c.after_op.ensures) stepped.0;
       highest =
@@ -41,7 +41,7 @@ returns c =
     let waits = subst (λ (w : WorldValue). (state_of w).published c.args.t.0 ≡ Some c.args.event) (sym c.self.view_is) c.requires.waits in
     let reached = subst (λ (w : WorldValue). IsReached (state_of w) c.args.event) (sym c.self.view_is) c.requires.reached in
     let stepped = pass_stepped c.self.inside.plan.now c.self.inside.tasks.items c.self.inside.phases c.self.invariant.kept c.args.t.0 c.task_at.result read
-            c.args.event waits reached in
+    c.args.event waits reached in
     subst (λ w. IsWorldStep w (world_from c.self.inside.plan.now (set c.self.inside.tasks.items c.args.t.0 c.after_op.result)) c.args.t.0) c.self.view_is
     (subst (λ task. IsWorldStep (world_from c.self.inside.plan.now c.self.inside.tasks.items)
-        (world_from c.self.inside.plan.now (set c.self.inside.tasks.items c.args.t.0 task)) c.args.t.0) (sym c.after_op.ensures) stepped.1)
+    (world_from c.self.inside.plan.now (set c.self.inside.tasks.items c.args.t.0 task)) c.args.t.0) (sym c.after_op.ensures) stepped.1)

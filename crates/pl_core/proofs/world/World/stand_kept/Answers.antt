@@ -27,7 +27,7 @@ stand_before_op-requires-clause-active c =
     let task = c.task_at-task.result in
     let read = subst (λ xs. slice_get xs c.args.t.0 ≡ Some task) c.deref.ensures.value c.task_at-task.ensures in
     let active = active_of_kept c.self.inside.plan.now c.self.inside.tasks.items c.self.inside.phases c.self.invariant.kept c.args.t.0 task read
-            (not_false task.forked c.if-not-task.false) c.in-None.is in
+    (not_false task.forked c.if-not-task.false) c.in-None.is in
     subst (λ (w : WorldValue). IsActive (state_of w) c.args.t.0) c.self.view_is active
 
 pub returns-then-task-clause-stand : goal.returns-then-task-clause-stand

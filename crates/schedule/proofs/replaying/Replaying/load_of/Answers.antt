@@ -31,9 +31,9 @@ returns-in_ok-push c =
             _,
             (l, same, refl),
             subst (λ p. KeepsProgress plan (loaded plan a more)
-            (record { world = c.args.self.now.world; pass = p; verdicts = c.push.new.self; steps = c.args.self.now.steps })) (sym c.requires.closed)
+                (record { world = c.args.self.now.world; pass = p; verdicts = c.push.new.self; steps = c.args.self.now.steps })) (sym c.requires.closed)
                 (closes plan a _ l c.push.new.self (record { dead = c.in_ok-dead.dead }) of full
-                    (subst (λ s. IsDeadList s c.in_ok-dead.dead) found c.in_ok-dead.ensures) c.in_ok-push.ensures.ok),
+                (subst (λ s. IsDeadList s c.in_ok-dead.dead) found c.in_ok-dead.ensures) c.in_ok-push.ensures.ok),
           );
     }
 
@@ -46,7 +46,7 @@ returns-else-is_full c =
           let more = l ++ a.run ∷ [] in
           let after : IsPassOf plan more c.load_next.new.pass = c.in_ok-load_next.ensures.loaded l a.run of.at is in
           let open_still : length more ≢ loads_of plan more = λ e. (let on = (c.is_full.ensures.full plan more c.tasks.ensures.counted after).1 e in
-                  let off = c.if-is_full.false in absurd (cc)) in (
+          let off = c.if-is_full.false in absurd (cc)) in (
             _,
             (l, same, refl),
             stays_open plan a _ l c.load_next.new.pass of open_still after,

@@ -11,7 +11,7 @@ returns-then-not-enabled c =
     record {
       taken = λ a of. stuck_task c.args.t.0 (let l = c.if-t-tasks.false in let n = c.tasks.ensures.counted in omega arith)
           (λ x next. let enabled = enabled_from c.args.plan.now c.args.self.now.world a.run c.args.t.0 x of.plan_is of.at next in
-              let off = c.if-not-enabled.true in let on = c.enabled.ensures.enabled.1 enabled in cc);
+          let off = c.if-not-enabled.true in let on = c.enabled.ensures.enabled.1 enabled in cc);
     }
 
 pub returns : goal.returns
