@@ -11,11 +11,13 @@ use Rattle.armus_base.specs.Pieces.{IsFolded, max_open_repeats, straight, unfold
 use Rattle.armus_base.specs.Plans.{Plan}
 use Rattle.pl_syntax.specs.declared.limits.TheConstants.{MAX_OPEN_BRACES}
 use Rattle.pl_syntax.specs.declared.tree.Program.{Program}
-use Rattle.pl_syntax.specs.Tree.{Tree, height}
+use Rattle.pl_syntax.specs.Printed.{TreeIsWritable}
+use Rattle.pl_syntax.specs.Tree.{Tree, done, fork, height, loop, plain}
+use Rattle.pl_syntax.proofs.Writable.{text_is_writable}
 use Rattle.pl_plan.specs.Unfolding.{Start, UnfoldingState, opening_state, plan_of, unfold_tasks}
 use Rattle.pl_plan.specs.Folding.{HasBodyPieces, HasCodePieces, HasFewTurns, drops_of}
-use Rattle.pl_plan.specs.FoldingLaws.{CodesHavePieces, LeftPiecesUnfold, OneListOfPieces, PiecesUnfoldToCode}
-use Rattle.pl_plan.proofs.Folds.{Folding, UnfoldTo, code_pieces, leaves_computed, leaves_unfold, straight_unfolds, unfolds_append, unfolds_deeper}
+use Rattle.pl_plan.specs.FoldingLaws.{CodesHavePieces, LeftPiecesUnfold, OneListLeft, OneListOfPieces, PiecesOfTexts, PiecesUnfoldToCode, SteadyLeavesFew}
+use Rattle.pl_plan.proofs.Folds.{steady_few, Folding, UnfoldTo, code_pieces, leaves_computed, leaves_unfold, straight_unfolds, unfolds_append, unfolds_deeper}
 use Rattle.pl_plan.proofs.TasksLeave.{IsOfParts, OfStart, end_has, end_until, start_at}
 use Rattle.pl_plan.proofs.VisitsLeave.{bind_ok, code, ok_is}
 
@@ -101,5 +103,26 @@ pieces_unfold_to_code program plan deep few e t ps has =
     let f = folded_by (code has.end t) ps u fits in
     (f.0, f.1 ∙ ap (λ (p : Plan). get_or p.codes t []) plans)
 
+-- ---- programs of texts
+
+-- no number is above the greatest
+pub writable_has_few_turns : (body : Tree) → TreeIsWritable body → HasFewTurns body
+writable_has_few_turns done w = tt
+writable_has_few_turns (plain x rest) w = writable_has_few_turns rest w.1
+writable_has_few_turns (fork x body rest) w = (writable_has_few_turns body w.1, writable_has_few_turns rest w.2)
+writable_has_few_turns (loop k body rest) w = (omega (arith, w.0), writable_has_few_turns body w.1, writable_has_few_turns rest w.2)
+
+pub pieces_of_texts : PiecesOfTexts
+pieces_of_texts text program plan is e =
+    pieces_unfold_to_code program plan is.shallow (writable_has_few_turns program.body (text_is_writable text program is).tree) e
+
+-- ---- a body alone
+
 pub left_pieces_unfold : LeftPiecesUnfold
 left_pieces_unfold body ops ps few leaves = let u = leaves_unfold leaves few in (u.whole, u.same)
+
+pub one_list_left : OneListLeft
+one_list_left body ops ps qs a b = ap (λ (f : Folding). f.pieces) (sym (leaves_computed a []) ∙ leaves_computed b [])
+
+pub steady_leaves_few : SteadyLeavesFew
+steady_leaves_few body ops ps steady leaves = steady_few leaves steady

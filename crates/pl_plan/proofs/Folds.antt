@@ -1,15 +1,17 @@
 -- The pieces that statements leave are whole loops and unfold to the ops of the statements; and `pieces_in` computes them, so there is one list of them.
 use Rattle.std.proofs.Common.{◌≡◌, ℕ, zero, suc, ◌+◌, ◌-◌, ◌*◌, ◌≤◌, max, Bool, true, false, if◌then◌else◌, List, [], ◌∷◌, ◌++◌, length, drop, refl, ap}
-use Rattle.std.proofs.Common.{ap₂, ◌∙◌, arith, append_assoc, length-append, suc-mul}
+use Rattle.std.proofs.Common.{ap₂, sym, ◌∙◌, arith, append_assoc, length-append, suc-mul}
+use Rattle.std.proofs.lemmas.Bool.{false≢true}
 use Rattle.std.proofs.lemmas.List.{drop_at}
+use Rattle.armus_base.proofs.RunTests.{both}
 use Rattle.armus_base.specs.declared.op.Op.{Op}
 use Rattle.armus_base.specs.declared.piece.Piece.{Piece}
 use Rattle.armus_base.specs.declared.piece.Piece.TheVariants.{Op as Single, Repeat}
 use Rattle.armus_base.specs.Pieces.{AreWhole, max_turns, straight, times, unfolded}
 use Rattle.armus_base.proofs.Unfolding.{unfolded-append, unfolded-straight}
 use Rattle.armus_base.proofs.WholeLoops.{unfolded_loop, whole-append, whole_deeper, whole_loop}
-use Rattle.pl_syntax.specs.Tree.{Tree, done, fork, height, loop, plain}
-use Rattle.pl_plan.specs.Folding.{HasFewTurns, LeavesPieces, a_fork, a_turn, folded, is_steady, makes_op, no_op, no_piece, no_turn, nothing, op}
+use Rattle.pl_syntax.specs.Tree.{Tree, count, done, fork, height, loop, plain}
+use Rattle.pl_plan.specs.Folding.{HasFewTurns, LeavesPieces, a_fork, a_turn, folded, is_steady, is_steady_plain, makes_op, no_op, no_piece, no_turn, nothing, op}
 
 -- ---- the pieces are whole loops, and unfold to the ops
 
@@ -61,6 +63,19 @@ leaves_unfold (a_turn k body rest once os ps qs e l m) few =
     let d = max (height body + 1) (height rest) in
     unfolds_append d once os ps qs (unfolds_deeper (height body) d once ps (omega arith) (leaves_unfold l few.1))
     (leaves_unfold m (omega (arith, few.0), few.1, few.2))
+
+-- ---- a steady body leaves few pieces
+
+pub steady_few : {t : Tree} {os : List Op} {ps : List Piece} → LeavesPieces t os ps → is_steady t ≡ true → length ps ≤ count t
+steady_few nothing steady = omega arith
+steady_few (no_op s rest os ps e l) steady = omega (arith, steady_few l (both (is_steady_plain s) (is_steady rest) steady).1)
+steady_few (op s rest o os ps e l) steady = omega (arith, steady_few l (both (is_steady_plain s) (is_steady rest) steady).1)
+steady_few (a_fork x body rest o os ps l) steady = absurd (false≢true steady)
+steady_few (folded k body rest once os bs ps e pieces l m) steady =
+    omega (arith, length-append bs ps, steady_few l e, steady_few m (both (is_steady body) (is_steady rest) steady).1)
+steady_few (no_piece k body rest os ps e l m) steady = omega (arith, steady_few m (both (is_steady body) (is_steady rest) steady).1)
+steady_few (no_turn body rest os ps m) steady = omega (arith, steady_few m (both (is_steady body) (is_steady rest) steady).1)
+steady_few (a_turn k body rest once os ps qs e l m) steady = absurd (false≢true (sym e ∙ (both (is_steady body) (is_steady rest) steady).0))
 
 -- ---- pieces, computed from the body and its ops
 

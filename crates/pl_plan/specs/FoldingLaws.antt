@@ -1,14 +1,15 @@
 -- Laws of the pieces of a code.
-use Rattle.std.specs.Prelude.{◌≡◌, ℕ, ◌≤◌, Ok, List, [], slice_index_or}
+use Rattle.std.specs.Prelude.{◌≡◌, ℕ, ◌≤◌, true, Ok, List, [], length, slice_index_or}
 use Rattle.armus_base.specs.declared.op.Op.{Op}
 use Rattle.armus_base.specs.declared.piece.Piece.{Piece}
 use Rattle.armus_base.specs.Pieces.{AreWhole, IsFolded, unfolded}
 use Rattle.armus_base.specs.Plans.{Plan}
 use Rattle.pl_syntax.specs.declared.limits.TheConstants.{MAX_OPEN_BRACES}
 use Rattle.pl_syntax.specs.declared.tree.Program.{Program}
-use Rattle.pl_syntax.specs.Tree.{Tree, height}
+use Rattle.pl_syntax.specs.Grammar.{IsText}
+use Rattle.pl_syntax.specs.Tree.{Tree, count, height}
 use Rattle.pl_plan.specs.Unfolding.{plan_of}
-use Rattle.pl_plan.specs.Folding.{HasFewTurns, HasPieces, LeavesPieces}
+use Rattle.pl_plan.specs.Folding.{HasFewTurns, HasPieces, LeavesPieces, is_steady}
 
 -- each code of a program's plan has pieces
 abbrev pub CodesHavePieces : Type 0
@@ -24,7 +25,21 @@ PiecesUnfoldToCode =
     (program : Program) (plan : Plan) → height program.body ≤ MAX_OPEN_BRACES → HasFewTurns program.body → plan_of program ≡ Ok plan →
     (t : ℕ) (ps : List Piece) → HasPieces program t ps → IsFolded ps × (unfolded ps ≡ slice_index_or plan.codes t [])
 
+-- so are those of each program that is read from a text
+abbrev pub PiecesOfTexts : Type 0
+PiecesOfTexts =
+    (text : List ℕ) (program : Program) (plan : Plan) → IsText text program → plan_of program ≡ Ok plan →
+    (t : ℕ) (ps : List Piece) → HasPieces program t ps → IsFolded ps × (unfolded ps ≡ slice_index_or plan.codes t [])
+
 -- pieces that statements leave are whole loops, nested no deeper than the statements, and unfold to the ops that the statements made
 abbrev pub LeftPiecesUnfold : Type 0
 LeftPiecesUnfold =
     (body : Tree) (ops : List Op) (ps : List Piece) → HasFewTurns body → LeavesPieces body ops ps → AreWhole (height body) ps × (unfolded ps ≡ ops)
+
+-- and there is one list of them
+abbrev pub OneListLeft : Type 0
+OneListLeft = (body : Tree) (ops : List Op) (ps qs : List Piece) → LeavesPieces body ops ps → LeavesPieces body ops qs → ps ≡ qs
+
+-- a steady body leaves no more pieces than it has statements, whatever turns its loops have
+abbrev pub SteadyLeavesFew : Type 0
+SteadyLeavesFew = (body : Tree) (ops : List Op) (ps : List Piece) → is_steady body ≡ true → LeavesPieces body ops ps → length ps ≤ count body

@@ -1,6 +1,7 @@
 // The laws over the definition of the unfolding: each is the contract of a function with an empty body.
 ghost use Rattle.pl_plan.specs.Laws.{UnfoldedIsChecked, FaultIsOfProgram, PlanIsUnfolded, FaultIsFirst};
-ghost use Rattle.pl_plan.specs.FoldingLaws.{CodesHavePieces, LeftPiecesUnfold, OneListOfPieces, PiecesUnfoldToCode};
+ghost use Rattle.pl_plan.specs.FoldingLaws.{CodesHavePieces, OneListOfPieces, PiecesOfTexts, PiecesUnfoldToCode};
+ghost use Rattle.pl_plan.specs.FoldingLaws.{LeftPiecesUnfold, OneListLeft, SteadyLeavesFew};
 ghost use Rattle.pl_plan.specs.WorkedPieces.{HaveTheirPieces, folded_loops, other_loops};
 ghost use Rattle.pl_plan.specs.WorkedPrograms.{AreWorked, worked_faults, worked_plans};
 
@@ -29,17 +30,21 @@ pub fn worked_programs()
     ensures faults { AreWorked worked_faults }
 {}
 
-/// The pieces that a task's statements leave of the ops that they made are whole loops, nested no deeper than the statements, and unfold to these ops.
+/// The pieces that a task's statements leave of the ops that they made are one list: whole loops, nested no deeper than the statements, that unfold to these
+/// ops. A steady body leaves no more pieces than it has statements.
 pub fn left_pieces()
-    ensures { LeftPiecesUnfold }
+    ensures folded { LeftPiecesUnfold }
+    ensures one { OneListLeft }
+    ensures few { SteadyLeavesFew }
 {}
 
 /// Each code of the plan to which a program unfolds has one list of pieces; they are a folded code, and unfold to the code, where the program nests no deeper
-/// than a parsed one and has no loop of more turns.
+/// than that of a text and has no loop of more turns.
 pub fn pieces_of_codes()
     ensures exist { CodesHavePieces }
     ensures one { OneListOfPieces }
     ensures folded { PiecesUnfoldToCode }
+    ensures texts { PiecesOfTexts }
 {}
 
 /// Small programs with the pieces of their codes: steady loops that leave a Repeat; and others that do not, since they are not steady, have no turn, or make
