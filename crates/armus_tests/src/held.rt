@@ -59,8 +59,10 @@ fn expect<R: Abort + Threads + Wait + Sync>(
 }
 
 // The words of the ways to run a kernel with two workers that report alike where nobody is dead.
-const RUNS: [&[&str]; 3] = [
+const RUNS: [&[&str]; 5] = [
     &["run", "--workers", "2"],
+    &["run", "--sites", "2", "--workers", "2"],
+    &["pool", "--workers", "2"],
     &["avoid", "--workers", "2"],
     &["avoid", "--kept", "--workers", "2"],
 ];

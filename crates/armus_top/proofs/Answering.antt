@@ -18,7 +18,8 @@ use Rattle.armus_top.specs.inside.Writing.{Answered, Finished, Refuses, TellsEnd
 use Rattle.armus_top.proofs.Ending.{by_finish}
 
 -- an answer with this status and text was written
-pub by_answer : (c : Command) (input text : Text) (out : Passage) (status number : ℕ) → IsAnswered c input status text → Finished out text status number → Answered c input out number
+pub by_answer : (c : Command) (input text : Text) (out : Passage) (status number : ℕ) → IsAnswered c input status text → Finished out text status number
+    → Answered c input out number
 by_answer c input text out status number is done = wrote status text (inl is) done
 
 -- memory was wanting before anything was written
@@ -43,7 +44,8 @@ ends_too_long c src out number much (inl done) still = by_finish (Some c) src ou
 ends_too_long c src out number much (inr (six, sound, kept)) still = no_memory six still sound (inl kept)
 
 -- a report was written, with the status that says what it tells
-pub by_report : (c : Command) (input : Text) (g : Graph) (IsIt : Wanted → ℕ → Text → Type 0) → ((status : ℕ) (text : Text) → IsIt (wanted_of g) status text → IsAnswered c input status text)
+pub by_report : (c : Command) (input : Text) (g : Graph) (IsIt : Wanted → ℕ → Text → Type 0)
+    → ((status : ℕ) (text : Text) → IsIt (wanted_of g) status text → IsAnswered c input status text)
     → (wanted : Wanted) (some : Bool) (report shown : Text) (out : Passage) (status number : ℕ)
     → wanted ≡ wanted_of g → status ≡ (if some then 1 else 0) → shown ≡ report → IsIt wanted (if some then 1 else 0) report → Finished out shown status number
     → Answered c input out number
@@ -53,7 +55,8 @@ by_report c input g IsIt answers wanted some report shown out status number want
     wrote status shown (inl (answers status shown (subst (λ (t : Text). IsIt (wanted_of g) status t) (sym shown_is) by_status))) done
 
 -- why there is no answer was told
-pub by_end : (c : Command) (input : Text) (IsWhy : Refusal → Type 0) (end : InputEnd) (out : Passage) (number : ℕ) → ((why : Refusal) → IsWhy why → IsRefusedInput c input (refusal_text why))
+pub by_end : (c : Command) (input : Text) (IsWhy : Refusal → Type 0) (end : InputEnd) (out : Passage) (number : ℕ)
+    → ((why : Refusal) → IsWhy why → IsRefusedInput c input (refusal_text why))
     → IsEnd IsWhy end → TellsEnd end out number → Answered c input out number
 by_end c input IsWhy (Refused why) out number refused is (inl done) = wrote 3 (refusal_text why) (inr (refl, refused why is)) done
 by_end c input IsWhy (Refused why) out number refused is (inr (six, sound, kept)) = nothing six sound kept

@@ -76,11 +76,13 @@ first_steps plan (e ∷ more) before run = first_steps plan more before run.0
 pub never_dead : (plan : Plan) → IsCheckedPlan plan → (steps : List Step) → IsAvoidedRun plan steps → IsNeverDead steps
 never_dead plan checked steps run more before same = nobody_is_dead plan before checked (first_steps plan more before (subst (IsAvoidedRun plan) same run))
 
-module _ (input : Text) (plan : Plan) (g : Wanted) (end : Final) (some : Bool) (text : Text) (plan_is : IsPlanOf input plan) (some_is : some ≡ list_any ended_refused end.ends) (reports : IsReport end g text) where
+module _ (input : Text) (plan : Plan) (g : Wanted) (end : Final) (some : Bool) (text : Text) (plan_is : IsPlanOf input plan) (some_is : some ≡ list_any ended_refused end.ends)
+    (reports : IsReport end g text) where
   checked : IsCheckedPlan plan
   checked = checked_plan input plan plan_is
 
-  told : (workers : ℕ) (state : State) → end ≡ final_of plan state → IsAvoidedFinal plan state → (workers ≡ 1 → IsSerialAvoidedFinal plan state) → IsAvoidOf input workers g (if some then 1 else 0) text
+  told : (workers : ℕ) (state : State) → end ≡ final_of plan state → IsAvoidedFinal plan state → (workers ≡ 1 → IsSerialAvoidedFinal plan state)
+      → IsAvoidOf input workers g (if some then 1 else 0) text
   told workers state is avoided serial = record {
     plan = plan;
     plan_is = plan_is;

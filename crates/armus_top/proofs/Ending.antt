@@ -10,7 +10,8 @@ use Rattle.armus_top.specs.Commands.{limit_of, IsRefusedInput}
 use Rattle.armus_top.proofs.Inputs.{answered_small, never_both}
 use Rattle.armus_words.specs.Words.{Text}
 use Rattle.armus_top.specs.inside.Writing.{Finished}
-use Rattle.armus_top.specs.Headline.{Passage, Completes, Ends, GaveTooMuch, IsAccepted, HasInput, IsCall, IsCalm, IsServed, IsSound, Offers, OffersTooMuch, Permits, whole, read_fault, write_fault, no_memory}
+use Rattle.armus_top.specs.Headline.{Passage, Completes, Ends, GaveTooMuch, IsAccepted, HasInput, IsCall, IsCalm}
+use Rattle.armus_top.specs.Headline.{IsServed, IsSound, Offers, OffersTooMuch, Permits, whole, read_fault, write_fault, no_memory}
 use Rattle.armus_words.specs.declared.command.Command.{Command}
 
 only : {d e : Command} → Some d ≡ Some e → d ≡ e
@@ -33,7 +34,12 @@ pub by_pieces : (out mid : Passage) (first text : Text) (status number : ℕ)
 by_pieces out mid first text status number faults faults_after same took (inl (is, rest, sound)) =
     inl (is, subst (λ b. Appends out.before b (first ++ text)) same (Appends-trans out.before mid.before mid.after first text took rest), cc)
 by_pieces out mid first text status number faults faults_after same took (inr (five, failed, rest)) =
-    inr (five, sym faults_after ∙ failed ∙ ap counted faults, subst (λ b. TookFront out.before b (first ++ text)) same (front_after out.before mid.before mid.after first text took rest))
+    inr (
+      five,
+      sym faults_after ∙ failed ∙ ap counted faults,
+      subst (λ b. TookFront out.before b (first ++ text)) same
+          (front_after out.before mid.before mid.after first text took rest),
+    )
 
 known_whole : (a : Option Text) (b : Option Text) (xs input : Text) → a ≡ Some xs → Consumes a b input → IsAtEnd b → xs ≡ input
 known_whole None b xs input e p q = absurd (cc)

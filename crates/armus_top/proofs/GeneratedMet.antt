@@ -21,7 +21,9 @@ use Rattle.armus_top.proofs.RunsMet.{run_met}
 -- bytes that are some have a last line
 last_within : (most : ℕ) (b : ℕ) (bytes : Text) → length (b ∷ bytes) ≤ most → (before : List Text) × (last : Text) × IsCut (b ∷ bytes) (before ++ last ∷ [])
 last_within zero b bytes few = absurd (omega arith)
-last_within (suc most) b bytes few = let h = first_exists b bytes in by_lines h.rest h.line h.first (λ c cs is. last_within most c cs (omega (arith, h.shorter, ap length is))) h.rest refl
+last_within (suc most) b bytes few =
+    let h = first_exists b bytes in
+    by_lines h.rest h.line h.first (λ c cs is. last_within most c cs (omega (arith, h.shorter, ap length is))) h.rest refl
   where
     by_lines :
         (rest line : Text) → IsFirstLine (b ∷ bytes) line rest →
@@ -41,7 +43,9 @@ first_and_last end g [] is = absurd (let two = report_has_two end g [] is in not
 
     nothing_two : (front : Text) × (back : Text) × ([] ≡ line (front ++ 10 ∷ back)) → ⊥
     nothing_two (front, back, e) = some_line (front ++ 10 ∷ back) (sym e)
-first_and_last end g (b ∷ bytes) is = let h = first_exists b bytes in by_rest_of h.line h.rest h.first (more_lines (b ∷ bytes) h.line h.rest (report_has_two end g (b ∷ bytes) is) h.first)
+first_and_last end g (b ∷ bytes) is =
+    let h = first_exists b bytes in
+    by_rest_of h.line h.rest h.first (more_lines (b ∷ bytes) h.line h.rest (report_has_two end g (b ∷ bytes) is) h.first)
   where
     by_rest_of : (line_is rest : Text) → IsFirstLine (b ∷ bytes) line_is rest → 0 < length rest → (text : Text) × IsFirstAndLast (b ∷ bytes) text
     by_rest_of first [] here some = absurd (omega arith)

@@ -1,17 +1,15 @@
 -- From what a run tells before its report, and the report, to what the command leaves.
-use Rattle.std.proofs.Common.{◌≡◌, ◌∙◌, ◌≤◌, ◌++◌, [], ◌∷◌, ℕ, List, length, inl, inr, refl, sym, subst, ap, arith, append-nil, append_assoc, Bool, true, false, if◌then◌else◌}
-use Rattle.std.specs.Prelude.{◌↔◌, IsTrue, Option, Some, None, Ok, Err, Result}
+use Rattle.std.proofs.Common.{◌≡◌, ◌∙◌, ◌++◌, [], ℕ, List, inl, inr, refl, sym, subst, ap, arith, append-nil, append_assoc, Bool, true, false, if◌then◌else◌}
+use Rattle.std.specs.Prelude.{◌↔◌, IsTrue, Option, Some, None, Ok, Err}
 use Rattle.std.specs.Io.KnownBytes.{Appends, Keeps}
-use Rattle.std.proofs.KnownBytes.{Appends-nil, Keeps-refl}
+use Rattle.std.proofs.KnownBytes.{Keeps-refl}
 use Rattle.std.proofs.lemmas.Grind.{flat_map-append}
 use Rattle.armus_base.specs.declared.ending.Final.{Final}
 use Rattle.armus_base.specs.declared.status.Dead.{Dead}
 use Rattle.armus_base.specs.Finals.{final_of}
 use Rattle.armus_base.specs.Plans.{Plan}
 use Rattle.armus_base.specs.ReadAll.{TookFront}
-use Rattle.armus_base.specs.Runs.{IsMaximal, IsPlainRun, state_after}
 use Rattle.armus_base.proofs.Fronts.{front_after, front_of_more}
-use Rattle.adaptive.specs.declared.analysis.Wanted.{Wanted}
 use Rattle.report.specs.Live.{live_line, live_text}
 use Rattle.report.specs.NamedDead.{AreSomeDead, AreTheDead}
 use Rattle.report.specs.Reports.{IsReport, IsSomeDead}
@@ -19,20 +17,21 @@ use Rattle.report.proofs.DeadExtend.{some_dead_extend}
 use Rattle.task_runner.specs.DetectRuns.{AreDeadAtTheEnd, HasWritten, TellsRun, Told, IsNoWrite}
 use Rattle.task_runner.specs.PlainRuns.{IsPlainEnd}
 use Rattle.task_runner.specs.declared.ran.Ran.{Ran}
-use Rattle.task_runner.specs.declared.ran.RunEnd.{RunEnd}
 use Rattle.task_runner.specs.declared.ran.RunEnd.TheVariants as ends
 use Rattle.armus_words.specs.declared.command.Command.TheVariants.{Run}
+use Rattle.armus_words.specs.declared.command.RunKind.TheVariants.{Plain, Live}
 use Rattle.armus_words.specs.declared.command.Graph.{Graph}
 use Rattle.armus_top.specs.Commands.{wanted_of}
 use Rattle.armus_top.specs.Headline.{Passage}
 use Rattle.armus_top.specs.Programs.{IsPlanOf}
 use Rattle.armus_top.specs.Runs.{IsLiveRunOf, IsRunOf}
 use Rattle.armus_words.specs.Words.{Text}
-use Rattle.armus_top.specs.inside.Writing.{Answered, Finished, WritesReport, nothing, part, wrote}
+use Rattle.armus_top.specs.inside.Serving.{kind_of}
+use Rattle.armus_top.specs.inside.Writing.{Answered, WritesReport, nothing, part, wrote}
 use Rattle.armus_top.proofs.Ending.{by_pieces}
 use Rattle.armus_top.proofs.RunsMet.{run_met}
 use Rattle.armus_top.proofs.OnePlan.{one_plan}
-use Rattle.armus_top.proofs.Reporting.{run_of}
+use Rattle.armus_top.proofs.Reporting.{by_plain_end, run_of}
 
 -- a sink between two moments
 abbrev pub between : Told → Told → Passage
@@ -72,7 +71,8 @@ module _ (input : Text) (plan : Plan) (plan_is : IsPlanOf input plan) (workers :
 
   module _ (before now after : Told) (number : ℕ) where
     -- memory was wanting after the lines of some dead tasks
-    wanting : (named : List Dead) → AreDeadAtTheEnd plan named → number ≡ 6 → HasWritten named before now → Keeps now.taken after.taken → after.faults ≡ now.faults → Answered (Run workers g true) input (between before after) number
+    wanting : (named : List Dead) → AreDeadAtTheEnd plan named → number ≡ 6 → HasWritten named before now → Keeps now.taken after.taken → after.faults ≡ now.faults
+        → Answered (Run workers g Live) input (between before after) number
     wanting named dead six written kept still =
         let (status, text, live, (rest, is)) = begun named dead in
         part status text (inl live) six (still ∙ written.sound)
@@ -95,39 +95,43 @@ module _ (input : Text) (plan : Plan) (plan_is : IsPlanOf input plan) (workers :
   some_of_all end named is are other ends = subst (λ e. AreSomeDead e.blocked named) (one_plain_end plan end other is ends) are.some
 
   module _ (before now after : Told) (number : ℕ) (end : Final) (is : IsPlainEnd plan end) where
-    live_reported : (named : List Dead) → AreTheDead end.blocked named → HasWritten named before now → WritesReport end (wanted_of g) (between now after) number → Answered (Run workers g true) input (between before after) number
+    live_reported : (named : List Dead) → AreTheDead end.blocked named → HasWritten named before now → WritesReport end (wanted_of g) (between now after) number
+        → Answered (Run workers g Live) input (between before after) number
     live_reported named are written (inl (dead, report, same, reports, done)) =
         wrote (if dead then 1 else 0) (live_text named ++ report) (inl (behind_lines end dead report named is are same reports))
         (by_pieces (between before after) (between now after) (live_text named) report (if dead then 1 else 0) number written.sound refl refl written.lines done)
     live_reported named are written (inr (six, still, kept)) =
         wanting before now after number named (some_of_all end named is are) six written kept still
 
-    plain_reported : now ≡ before → WritesReport end (wanted_of g) (between now after) number → Answered (Run workers g false) input (between before after) number
-    plain_reported same (inl (dead, report, tells, reports, done)) =
-        wrote (if dead then 1 else 0) report (inl (plain_report end dead report is tells reports))
-        (subst (λ (m : Told). Finished (between m after) report (if dead then 1 else 0) number) same done)
-    plain_reported same (inr (six, still, kept)) =
-        nothing six (still ∙ ap (λ (m : Told). m.faults) same) (subst (λ (m : Told). Keeps m.taken after.taken) same kept)
+    plain_reported : now ≡ before → WritesReport end (wanted_of g) (between now after) number → Answered (Run workers g Plain) input (between before after) number
+    plain_reported same writes =
+        by_plain_end (Run workers g Plain) g input plan end (wanted_of g) (between before after) number (λ status text run. run) plan_is is refl
+        (subst (λ (m : Told). WritesReport end (wanted_of g) (between m after) number) same writes)
 
   -- the run came to its end, and its report was written, or memory was wanting
   pub reported : (live : Bool) (before now after : Told) (number : ℕ) (ran : Ran) → IsPlainEnd plan ran.end → (live ≡ true → TellsRun plan before now (Ok ran))
-      → (live ≡ false → now ≡ before) → WritesReport ran.end (wanted_of g) (between now after) number → Answered (Run workers g live) input (between before after) number
+      → (live ≡ false → now ≡ before) → WritesReport ran.end (wanted_of g) (between now after) number → Answered (Run workers g (kind_of live)) input (between before after) number
   reported true before now after number ran is tells silent written =
       let (named, are, lines) = tells refl in live_reported before now after number ran.end is named are lines written
   reported false before now after number ran is tells silent written = plain_reported before now after number ran.end is (silent refl) written
 
   -- the sink failed within the live lines
   pub unwritten : (live : Bool) (before now : Told) → (live ≡ true → TellsRun plan before now (Err ends.Write)) → (live ≡ false → IsNoWrite {A = Ran} (Err ends.Write))
-      → Answered (Run workers g live) input (between before now) 5
+      → Answered (Run workers g (kind_of live)) input (between before now) 5
   unwritten true before now tells silent =
       let (named, dead, part_of) = tells refl in
       let (status, text, live, (rest, is)) = begun named dead in
-      wrote status text (inl live) (inr (refl, part_of.failed, subst (TookFront before.taken now.taken) (sym is) (front_of_more before.taken now.taken (live_text named) rest part_of.front)))
+      wrote status text (inl live) (inr (
+        refl,
+        part_of.failed,
+        subst (TookFront before.taken now.taken) (sym is)
+            (front_of_more before.taken now.taken (live_text named) rest part_of.front),
+      ))
   unwritten false before now tells silent = absurd (silent refl)
 
   -- memory was wanting before the end of the run
   pub wanted_memory : (live : Bool) (before now : Told) → (live ≡ true → TellsRun plan before now (Err ends.NoMemory)) → (live ≡ false → now ≡ before)
-      → Answered (Run workers g live) input (between before now) 6
+      → Answered (Run workers g (kind_of live)) input (between before now) 6
   wanted_memory true before now tells silent =
       let (named, dead, written) = tells refl in wanting before now now 6 named dead refl written (Keeps-refl now.taken) refl
   wanted_memory false before now tells silent =

@@ -1,15 +1,16 @@
--- What the words mean to the program is one command at most, and it tells whether the first word is `record`.
-use Rattle.std.proofs.Common.{◌≡◌, ◌∙◌, List, ap, sym, subst, arith, false}
+-- What the words mean to the program is one command at most, and it tells whether the first word is `record` or `pool`.
+use Rattle.std.proofs.Common.{◌≡◌, ◌∙◌, ◌⊎◌, List, inl, inr, ap, sym, refl, subst, arith, Bool, true, false}
 use Rattle.std.specs.Prelude.{ℕ, ◌∷◌, Option, Some, None}
-use Rattle.armus_words.specs.Commands.{AreWorkers, IsCommand, first_of}
+use Rattle.armus_words.specs.Commands.{AreWorkers, IsCommand, IsRunKind, first_of}
 use Rattle.armus_words.specs.inside.Form.{first_named}
 use Rattle.armus_words.proofs.Meaning.{first_is, one_meaning}
 use Rattle.armus_words.specs.declared.command.Command.{Command}
-use Rattle.armus_words.specs.declared.command.Command.TheVariants.{Check, Run, Avoid, Record, Replay, Gen}
+use Rattle.armus_words.specs.declared.command.Command.TheVariants.{Check, Run, Avoid, Record, Replay, Gen, Pool}
+use Rattle.armus_words.specs.declared.command.RunKind.{RunKind}
 use Rattle.armus_words.specs.declared.table.FirstWord.TheVariants as first
 use Rattle.armus_words.specs.Words.{Text}
-use Rattle.armus_top.specs.Meanings.{BeginsRecord, Means}
-use Rattle.armus_top.specs.inside.Serving.{MayWork, MeansJournal, MeansPlain}
+use Rattle.armus_top.specs.Meanings.{BeginsRecordOrPool, Means}
+use Rattle.armus_top.specs.inside.Serving.{MayHaveSites, MayWork, MeansPlain, MeansWaiting}
 use Rattle.armus_top.specs.Headline.{Ends, IsCall, Passage, Serves, reads_input}
 
 pub serves_by : (words : List Text) (src out : Passage) (number : ℕ) (meaning : Option Command) → Means words meaning → Ends meaning src out number
@@ -30,30 +31,48 @@ workers_may : (given : Option Text) (workers : ℕ) → AreWorkers given workers
 workers_may (Some text) workers is = (is.from_one, is.to_most)
 workers_may None workers is = (omega (arith, is), omega (arith, is))
 
--- words that do not begin with `record` mean a command that waits for no thread, or none
-pub means_plain : (words : List Text) (meaning : Option Command) → Means words meaning → (BeginsRecord words → ⊥) → MeansPlain meaning
+kinds_may : (live : Bool) (sites : Option Text) (kind : RunKind) → IsRunKind live sites kind → MayHaveSites kind
+kinds_may false None kind is = subst MayHaveSites (sym is) tt
+kinds_may true None kind is = subst MayHaveSites (sym is) tt
+kinds_may false (Some text) kind (sites, same, is) = subst MayHaveSites (sym same) (is.from_one, is.to_most)
+kinds_may true (Some text) kind is = absurd is
+
+-- words that begin with neither `record` nor `pool` mean a command that waits for no thread, or none
+pub means_plain : (words : List Text) (meaning : Option Command) → Means words meaning → (BeginsRecordOrPool words → ⊥) → MeansPlain meaning
 means_plain words (Some (Check print)) is other = tt
-means_plain words (Some (Run workers graph live)) is other = workers_may _ workers is.values.0
+means_plain words (Some (Run workers graph kind)) is other =
+    let (few, wants, kind_is) = is.values in (workers_may _ workers few, kinds_may _ _ kind kind_is)
 means_plain words (Some (Avoid workers graph kept)) is other = workers_may _ workers is.values.0
-means_plain words (Some (Record workers)) is other = absurd (other (_, is.form.words_are))
+means_plain words (Some (Record workers)) is other = absurd (other (_, _, is.form.words_are, inl refl))
 means_plain words (Some Replay) is other = tt
 means_plain words (Some (Gen count)) is other = tt
+means_plain words (Some (Pool workers graph)) is other = absurd (other (_, _, is.form.words_are, inr refl))
 means_plain words None is other = tt
 
 head_is : {x y : Text} {xs ys : List Text} → x ∷ xs ≡ y ∷ ys → x ≡ y
 head_is e = cc
 
--- a command whose words begin with `record` is this one
-first_is_record : (c : Command) (words : List Text) → IsCommand words c → BeginsRecord words → Some (first_of c) ≡ Some first.Record
-first_is_record c words is begins =
-    sym (first_is (first_of c)) ∙ ap first_named (head_is (sym is.form.words_are ∙ begins.1)) ∙ first_is first.Record
+-- a command whose words begin with this one has it as its first word
+named_by : (c : Command) (words : List Text) (word : Text) (rest : List Text) → IsCommand words c → words ≡ word ∷ rest → Some (first_of c) ≡ first_named word
+named_by c words word rest is begins = sym (first_is (first_of c)) ∙ ap first_named (head_is (sym is.form.words_are ∙ begins))
 
--- words that begin with `record` mean it, or no command
-pub means_journal : (words : List Text) (meaning : Option Command) → Means words meaning → BeginsRecord words → MeansJournal meaning
-means_journal words (Some (Check print)) is begins = absurd (let e = first_is_record (Check print) words is begins in cc)
-means_journal words (Some (Run workers graph live)) is begins = absurd (let e = first_is_record (Run workers graph live) words is begins in cc)
-means_journal words (Some (Avoid workers graph kept)) is begins = absurd (let e = first_is_record (Avoid workers graph kept) words is begins in cc)
-means_journal words (Some (Record workers)) is begins = workers_may _ workers is.values
-means_journal words (Some Replay) is begins = absurd (let e = first_is_record Replay words is begins in cc)
-means_journal words (Some (Gen count)) is begins = absurd (let e = first_is_record (Gen count) words is begins in cc)
-means_journal words None is begins = tt
+-- so where they begin with `record` or `pool`, its first word is one of the two
+record_or_pool : (c : Command) (words : List Text) → IsCommand words c → BeginsRecordOrPool words → (first_of c ≡ first.Record) ⊎ (first_of c ≡ first.Pool)
+record_or_pool c words is (word, rest, begins, inl same) =
+    let named : Some (first_of c) ≡ Some first.Record = named_by c words word rest is begins ∙ ap first_named same ∙ first_is first.Record in inl (cc)
+record_or_pool c words is (word, rest, begins, inr same) =
+    let named : Some (first_of c) ≡ Some first.Pool = named_by c words word rest is begins ∙ ap first_named same ∙ first_is first.Pool in inr (cc)
+
+-- words that begin with one of the two mean its command, or none
+pub means_waiting : (words : List Text) (meaning : Option Command) → Means words meaning → BeginsRecordOrPool words → MeansWaiting meaning
+means_waiting words None is begins = tt
+means_waiting words (Some c) is begins = by_first c is (record_or_pool c words is begins)
+  where
+    by_first : (c : Command) → IsCommand words c → (first_of c ≡ first.Record) ⊎ (first_of c ≡ first.Pool) → MeansWaiting (Some c)
+    by_first (Check print) is one = elim one [ inl e ↦ absurd (cc) | inr e ↦ absurd (cc) ]
+    by_first (Run workers graph kind) is one = elim one [ inl e ↦ absurd (cc) | inr e ↦ absurd (cc) ]
+    by_first (Avoid workers graph kept) is one = elim one [ inl e ↦ absurd (cc) | inr e ↦ absurd (cc) ]
+    by_first (Record workers) is one = workers_may _ workers is.values
+    by_first Replay is one = elim one [ inl e ↦ absurd (cc) | inr e ↦ absurd (cc) ]
+    by_first (Gen count) is one = elim one [ inl e ↦ absurd (cc) | inr e ↦ absurd (cc) ]
+    by_first (Pool workers graph) is one = workers_may _ workers is.values.0

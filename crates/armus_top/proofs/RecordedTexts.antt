@@ -1,5 +1,5 @@
 -- What is recorded is a text with the journal of a maximal plain run of its plan.
-use Rattle.std.proofs.Common.{◌≡◌, ◌≢◌, ◌∙◌, ◌++◌, [], ◌∷◌, ℕ, List, length, inl, inr, refl, sym, subst, ap, arith, append-nil, append_assoc, Bool, if◌then◌else◌}
+use Rattle.std.proofs.Common.{◌≡◌, List, subst, Bool, if◌then◌else◌}
 use Rattle.std.specs.Prelude.{◌↔◌, IsTrue}
 use Rattle.armus_base.specs.declared.ending.Final.{Final}
 use Rattle.armus_base.specs.declared.ids.TaskId.{TaskId}

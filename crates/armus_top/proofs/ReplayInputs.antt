@@ -2,8 +2,6 @@
 use Rattle.std.proofs.Common.{◌≡◌, ◌<◌, [], ◌∷◌, ℕ, List, length, inl, inr, refl, subst, arith, if◌then◌else◌, Bool, true, false}
 use Rattle.std.specs.Prelude.{◌↔◌, IsTrue}
 use Rattle.armus_base.specs.declared.ids.TaskId.{TaskId}
-use Rattle.armus_base.specs.CheckedPlans.{IsCheckedPlan}
-use Rattle.armus_base.specs.Plans.{Plan}
 use Rattle.armus_base.specs.States.{State}
 use Rattle.armus_base.proofs.Elements.{Contains-head, nothing_in_nil}
 use Rattle.report.specs.declared.refusal.Refusal.{Refusal}
@@ -15,7 +13,7 @@ use Rattle.schedule.proofs.OneSchedule.{one_reading, one_split}
 use Rattle.schedule.proofs.OneReplay.{never_both}
 use Rattle.armus_words.specs.Words.{Text}
 use Rattle.armus_top.specs.inside.Programs.{IsEnd}
-use Rattle.armus_top.specs.Programs.{IsFaultOf, IsPlanOf, TellsDead}
+use Rattle.armus_top.specs.Programs.{IsFaultOf, TellsDead}
 use Rattle.armus_top.specs.Replays.{IsReplayedBy, IsReplayFault, IsReplayOf, IsReplayRefused, IsShort}
 use Rattle.armus_top.specs.declared.programs.InputEnd.{InputEnd}
 use Rattle.armus_top.specs.declared.programs.InputEnd.TheVariants.{Refused, NoMemory}

@@ -1,5 +1,5 @@
 -- The report of the end of a plain run is that of the one state in which every maximal plain run ends.
-use Rattle.std.proofs.Common.{ℕ, inl, inr, refl, sym, subst, Bool, true, false, if◌then◌else◌}
+use Rattle.std.proofs.Common.{◌≡◌, ℕ, inl, inr, refl, sym, subst, Bool, true, false, if◌then◌else◌}
 use Rattle.std.specs.Prelude.{◌↔◌, IsTrue}
 use Rattle.armus_base.specs.declared.ending.Final.{Final}
 use Rattle.armus_base.specs.CheckedPlans.{IsCheckedPlan}
@@ -14,7 +14,12 @@ use Rattle.armus_base.proofs.StatusesAre.{statuses_are}
 use Rattle.adaptive.specs.declared.analysis.Wanted.{Wanted}
 use Rattle.report.specs.Reports.{IsReport, IsSomeDead}
 use Rattle.task_runner.specs.PlainRuns.{IsPlainEnd}
+use Rattle.armus_words.specs.declared.command.Command.{Command}
+use Rattle.armus_words.specs.declared.command.Graph.{Graph}
 use Rattle.armus_words.specs.Words.{Text}
+use Rattle.armus_top.specs.Commands.{IsAnswered, wanted_of}
+use Rattle.armus_top.specs.Headline.{Passage}
+use Rattle.armus_top.specs.inside.Writing.{Answered, WritesReport, nothing, wrote}
 use Rattle.armus_top.specs.Programs.{IsPlanOf, TellsDead}
 use Rattle.armus_top.specs.Runs.{IsRunOf}
 use Rattle.armus_top.proofs.OnePlan.{checked_plan}
@@ -44,3 +49,12 @@ run_of input plan g end dead text plan_is is is_dead reports =
           (subst (λ (e : Final). IsTrue dead ↔ IsSomeDead e.blocked) is.is_it is_dead);
       report_is = subst (λ (e : Final). IsReport e g text) is.is_it reports;
     }
+
+-- the report of the end of a plain run was written, for a command that is answered with such a report, or memory was wanting
+pub by_plain_end : (c : Command) (g : Graph) (input : Text) (plan : Plan) (end : Final) (wanted : Wanted) (out : Passage) (number : ℕ)
+    → ((status : ℕ) (text : Text) → IsRunOf input (wanted_of g) status text → IsAnswered c input status text)
+    → IsPlanOf input plan → IsPlainEnd plan end → wanted ≡ wanted_of g → WritesReport end wanted out number → Answered c input out number
+by_plain_end c g input plan end wanted out number answers plan_is is wanted_is (inl (dead, report, same, reports, done)) =
+    let run = run_of input plan (wanted_of g) end dead report plan_is is same (subst (λ w. IsReport end w report) wanted_is reports) in
+    wrote (if dead then 1 else 0) report (inl (answers (if dead then 1 else 0) report run)) done
+by_plain_end c g input plan end wanted out number answers plan_is is wanted_is (inr (six, still, kept)) = nothing six still kept

@@ -1,5 +1,5 @@
 -- A report has at least two lines.
-use Rattle.std.proofs.Common.{◌≡◌, ◌≢◌, ◌∙◌, ◌<◌, ◌+◌, ◌++◌, [], ◌∷◌, ℕ, List, length, sym, subst, ap, refl, arith, append_assoc, codes}
+use Rattle.std.proofs.Common.{◌≡◌, ◌∙◌, ◌<◌, ◌+◌, ◌++◌, [], ◌∷◌, ℕ, List, length, sym, subst, ap, refl, arith, append_assoc, codes}
 use Rattle.std.specs.Prelude.{decimal, IfOk, Result, Ok, Err}
 use Rattle.armus_base.specs.declared.errors.NoMemory.{NoMemory}
 use Rattle.std.proofs.lemmas.List.{append_cancel_right}

@@ -46,7 +46,8 @@ plan_or_refused text =
     ]
 
 -- the cycle's text tells whether a task is dead
-pub status_by : (state : State) (end : Final) (text : Text) → ((t : ℕ) → IsDeadBy end.blocked t ↔ IsDeadIn state t) → IsCycleText end.blocked text → (status : ℕ) × TellsDead state status
+pub status_by : (state : State) (end : Final) (text : Text) → ((t : ℕ) → IsDeadBy end.blocked t ↔ IsDeadIn state t) → IsCycleText end.blocked text
+    → (status : ℕ) × TellsDead state status
 status_by state end text same (inl (none, is)) = (0, inr (refl, λ t d. none (t, (same t).1 d)))
 status_by state end text same (inr (cycle, (start, least, walk), is)) = (1, inl (refl, (start.0, (same start.0).0 least.dead)))
 

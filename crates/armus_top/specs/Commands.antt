@@ -12,7 +12,8 @@ use Rattle.report.specs.declared.refusal.Refusal.TheVariants as refusal
 use Rattle.armus_words.specs.declared.command.Graph.{Graph}
 use Rattle.armus_words.specs.declared.command.Graph.TheVariants as graph
 use Rattle.armus_words.specs.declared.command.Command.{Command}
-use Rattle.armus_words.specs.declared.command.Command.TheVariants.{Check, Run, Avoid, Record, Replay, Gen}
+use Rattle.armus_words.specs.declared.command.Command.TheVariants.{Check, Run, Avoid, Record, Replay, Gen, Pool}
+use Rattle.armus_words.specs.declared.command.RunKind.TheVariants.{Plain, Live, Sites}
 use Rattle.armus_words.specs.Words.{Text}
 use Rattle.armus_top.specs.Texts.{plan_line}
 use Rattle.armus_top.specs.Programs.{IsChecked, IsFaultOf, IsPlanOf, TellsDead}
@@ -27,11 +28,12 @@ use Rattle.armus_top.specs.declared.replaying.TheConstants.{MAX_REPLAY_BYTES}
 -- the most bytes of an input, where the command reads one
 abbrev pub limit_of : Command → Option ℕ
 limit_of (Check print) = Some MAX_TEXT_BYTES
-limit_of (Run workers g live) = Some MAX_TEXT_BYTES
+limit_of (Run workers g kind) = Some MAX_TEXT_BYTES
 limit_of (Avoid workers g kept) = Some MAX_TEXT_BYTES
 limit_of (Record workers) = Some MAX_TEXT_BYTES
 limit_of Replay = Some MAX_REPLAY_BYTES
 limit_of (Gen count) = None
+limit_of (Pool workers g) = Some MAX_TEXT_BYTES
 
 -- the line with which a longer input is refused
 abbrev pub length_line : Command → Text
@@ -40,11 +42,12 @@ length_line c = refusal_text refusal.Length
 -- why the command refuses this input; one that reads nothing refuses nothing
 abbrev pub IsCause : Command → Text → Refusal → Type 0
 IsCause (Check print) input why = IsFaultOf input why
-IsCause (Run workers g live) input why = IsFaultOf input why
+IsCause (Run workers g kind) input why = IsFaultOf input why
 IsCause (Avoid workers g kept) input why = IsFaultOf input why
 IsCause (Record workers) input why = IsFaultOf input why
 IsCause Replay input why = IsReplayRefused input why
 IsCause (Gen count) input why = ⊥
+IsCause (Pool workers g) input why = IsFaultOf input why
 
 -- the command refuses this input, with this line
 abbrev pub IsRefusedInput : Command → Text → Text → Type 0
@@ -61,9 +64,11 @@ wanted_of graph.Grg = wanted.Grg
 abbrev pub IsAnswered : Command → Text → ℕ → Text → Type 0
 IsAnswered (Check false) input status text = (plan : Plan) × IsPlanOf input plan × (status ≡ 0) × (text ≡ plan_line plan)
 IsAnswered (Check true) input status text = (plan : Plan) × (program : Program) × IsChecked input program plan × (status ≡ 0) × (text ≡ printed_of program)
-IsAnswered (Run workers g false) input status text = IsRunOf input (wanted_of g) status text
-IsAnswered (Run workers g true) input status text = IsLiveRunOf input (wanted_of g) status text
+IsAnswered (Run workers g Plain) input status text = IsRunOf input (wanted_of g) status text
+IsAnswered (Run workers g Live) input status text = IsLiveRunOf input (wanted_of g) status text
+IsAnswered (Run workers g (Sites sites)) input status text = IsRunOf input (wanted_of g) status text
 IsAnswered (Avoid workers g kept) input status text = IsAvoidOf input workers (wanted_of g) status text
 IsAnswered (Record workers) input status text = IsRecordOf input status text
 IsAnswered Replay input status text = IsReplayOf input status text
 IsAnswered (Gen count) input status text = IsGenOf count status text
+IsAnswered (Pool workers g) input status text = IsRunOf input (wanted_of g) status text

@@ -1,4 +1,4 @@
--- What `run` writes.
+-- What `run` and `pool` write.
 use Rattle.std.specs.Prelude.{◌≡◌, ◌++◌, ℕ, List}
 use Rattle.armus_base.specs.declared.status.Dead.{Dead}
 use Rattle.armus_base.specs.Finals.{final_of}

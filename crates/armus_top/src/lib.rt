@@ -6,6 +6,7 @@ mod checking;
 mod generating;
 mod input;
 mod laws;
+mod pooling;
 mod programs;
 mod recording;
 mod replaying;

@@ -1,43 +1,32 @@
 // The command `run`.
-ghost use Rattle.std.specs.Prelude.{◌≡◌, ◌≢◌, ◌≤◌, Some, length};
+ghost use Rattle.std.specs.Prelude.{◌≡◌, ◌≢◌, ◌≤◌, Some, IfOk, false, length};
 ghost use Rattle.armus_base.specs.CheckedPlans.{IsCheckedPlan};
-ghost use Rattle.armus_base.specs.Statuses.{IsInOrder};
 ghost use Rattle.armus_top.specs.Programs.{IsPlanOf};
 ghost use Rattle.armus_words.specs.Words.{Text};
 ghost use Rattle.armus_top.specs.declared.programs.TheConstants.{MAX_TEXT_BYTES};
 ghost use Rattle.armus_top.specs.Headline.{Ends, passage};
-ghost use Rattle.armus_top.specs.inside.Serving.{MayWork};
+ghost use Rattle.armus_top.specs.inside.Serving.{MayHaveSites, MayWork, kind_of};
 ghost use Rattle.armus_top.specs.inside.Status.{number_of_status};
-ghost use Rattle.armus_top.specs.inside.Writing.{Answered, WritesReport};
+ghost use Rattle.armus_top.specs.inside.Writing.{Answered};
 ghost use Rattle.armus_words.specs.declared.command.Command.TheVariants.{Run};
+ghost use Rattle.armus_words.specs.declared.command.RunKind.TheVariants.{Sites};
+ghost use Rattle.armus_words.specs.declared.table.TheConstants.{MAX_SITES};
+ghost use Rattle.task_runner.specs.PlainRuns.{IsPlainEnd};
 
 use crate::input::input_of;
 use crate::programs::{MAX_TEXT_BYTES, checked_in};
-use crate::reported::{status_of, wanted_in};
+use crate::reported::wanted_in;
 use crate::status::ExitStatus;
-use crate::writing::{answer_end, finish};
-use adaptive::Wanted;
-use armus_base::{Final, Gate, Plan, Sink, Source};
-use armus_words::Graph;
-use report::report_of;
+use crate::writing::{answer_end, write_report};
+use armus_base::{Final, Gate, NoMemory, Plan, Sink, Source};
+use armus_words::{Graph, RunKind};
+use sites::{KeepEnd, SafeKeeper};
 use std::alloc::Global;
 use std::thread::Threads;
-use task_runner::{RunEnd, RunOptions, run_detect};
-
-// Writes the report of the end of a run.
-fn write_report<K: Sink>(alloc: Global, end: &Final, wanted: Wanted, out: &mut K) -> ExitStatus
-    requires in_order { IsInOrder end.now.blocked }
-    ensures done { WritesReport end.now wanted (passage K.taken K.faults out.old out.new) (number_of_status result) }
-    ensures silent { number_of_status result ≢ 4 }
-{
-    match report_of(alloc, end, wanted) {
-        Ok(report) => finish(out, report.text.as_slice(), status_of(report.has_dead)),
-        Err(_) => ExitStatus::OutOfMemory,
-    }
-}
+use task_runner::{RunEnd, RunOptions, run_detect, run_sites};
 
 // Runs the plan and writes the report of its end, behind live lines where they are wanted.
-fn answer_run<R: Threads + Sync, K: Sink, G: Gate>(
+fn answer_without_sites<R: Threads + Sync, K: Sink, G: Gate>(
     rt: &R,
     alloc: Global,
     workers: u8,
@@ -50,7 +39,7 @@ fn answer_run<R: Threads + Sync, K: Sink, G: Gate>(
     requires workers { MayWork workers }
     requires checked { IsCheckedPlan plan.now }
     ensures done { (input : Text) → IsPlanOf input plan.now
-        → Answered (Run workers graph live) input (passage K.taken K.faults out.old out.new) (number_of_status result) }
+        → Answered (Run workers graph (kind_of live)) input (passage K.taken K.faults out.old out.new) (number_of_status result) }
     ensures silent { number_of_status result ≢ 4 }
 {
     let options = RunOptions {
@@ -65,45 +54,134 @@ fn answer_run<R: Threads + Sync, K: Sink, G: Gate>(
     }
 }
 
+// The end of the run of the plan with passes over this many sites, whose rows stand in memory.
+fn end_with_sites<R: Threads + Sync, G: Gate>(
+    rt: &R,
+    alloc: Global,
+    plan: &Plan,
+    options: &RunOptions,
+    sites: u8,
+    gate: &G,
+) -> Result<Final, NoMemory>
+    requires workers { MayWork options.now.workers }
+    requires quiet { options.now.live ≡ false }
+    requires some { 1 ≤ sites }
+    requires few { sites ≤ MAX_SITES }
+    ensures end { IfOk result (λ end. IsPlainEnd plan.now end) }
+{
+    let mut keeper = SafeKeeper::new(alloc, u32::from(sites))?;
+    match run_sites(
+        rt,
+        alloc,
+        plan,
+        options,
+        u32::from(sites),
+        &mut keeper,
+        gate,
+    ) {
+        Ok(end) => Ok(end),
+        Err(KeepEnd::NoMemory) => Err(NoMemory),
+        Err(KeepEnd::Fault) => unreachable!(),
+    }
+}
+
+// Runs the plan with passes over this many sites, and writes the report of its end.
+fn answer_with_sites<R: Threads + Sync, K: Sink, G: Gate>(
+    rt: &R,
+    alloc: Global,
+    workers: u8,
+    graph: Graph,
+    sites: u8,
+    plan: &Plan,
+    out: &mut K,
+    gate: &G,
+) -> ExitStatus
+    requires workers { MayWork workers }
+    requires sites { MayHaveSites (Sites sites) }
+    requires checked { IsCheckedPlan plan.now }
+    ensures done { (input : Text) → IsPlanOf input plan.now
+        → Answered (Run workers graph (Sites sites)) input (passage K.taken K.faults out.old out.new) (number_of_status result) }
+    ensures silent { number_of_status result ≢ 4 }
+{
+    let options = RunOptions {
+        workers,
+        wanted: wanted_in(graph),
+        live: false,
+    };
+    match end_with_sites(rt, alloc, plan, &options, sites, gate) {
+        Ok(end) => write_report(alloc, &end, options.wanted, out),
+        Err(NoMemory) => ExitStatus::OutOfMemory,
+    }
+}
+
+// Runs the plan, with what the kind says beside it, and writes the report of its end.
+fn answer_run<R: Threads + Sync, K: Sink, G: Gate>(
+    rt: &R,
+    alloc: Global,
+    workers: u8,
+    graph: Graph,
+    kind: RunKind,
+    plan: &Plan,
+    out: &mut K,
+    gate: &G,
+) -> ExitStatus
+    requires workers { MayWork workers }
+    requires sites { MayHaveSites kind }
+    requires checked { IsCheckedPlan plan.now }
+    ensures done { (input : Text) → IsPlanOf input plan.now
+        → Answered (Run workers graph kind) input (passage K.taken K.faults out.old out.new) (number_of_status result) }
+    ensures silent { number_of_status result ≢ 4 }
+{
+    match kind {
+        RunKind::Plain => answer_without_sites(rt, alloc, workers, graph, false, plan, out, gate),
+        RunKind::Live => answer_without_sites(rt, alloc, workers, graph, true, plan, out, gate),
+        RunKind::Sites { sites } => {
+            answer_with_sites(rt, alloc, workers, graph, sites, plan, out, gate)
+        }
+    }
+}
+
 // What `run` answers on a text.
 fn run_text<R: Threads + Sync, K: Sink, G: Gate>(
     rt: &R,
     alloc: Global,
     workers: u8,
     graph: Graph,
-    live: bool,
+    kind: RunKind,
     text: &[u8],
     out: &mut K,
     gate: &G,
 ) -> ExitStatus
     requires workers { MayWork workers }
+    requires sites { MayHaveSites kind }
     requires short { length text.now ≤ MAX_TEXT_BYTES }
-    ensures done { Answered (Run workers graph live) text.now (passage K.taken K.faults out.old out.new) (number_of_status result) }
+    ensures done { Answered (Run workers graph kind) text.now (passage K.taken K.faults out.old out.new) (number_of_status result) }
     ensures silent { number_of_status result ≡ 4 → out.new ≡ out.old }
 {
     match checked_in(alloc, text) {
-        Ok(checked) => answer_run(rt, alloc, workers, graph, live, &checked.plan, out, gate),
+        Ok(checked) => answer_run(rt, alloc, workers, graph, kind, &checked.plan, out, gate),
         Err(end) => answer_end(alloc, end, out),
     }
 }
 
-/// Reads a text and writes the report of its run; live, with a line for each dead task as soon as it is found.
+/// Reads a text and writes the report of its run by rounds, with what the kind says beside them: live, with a line for each dead task as soon as it is found.
 pub fn run<R: Threads + Sync, S: Source, K: Sink, G: Gate>(
     rt: &R,
     alloc: Global,
     workers: u8,
     graph: Graph,
-    live: bool,
+    kind: RunKind,
     src: &mut S,
     out: &mut K,
     gate: &G,
 ) -> ExitStatus
     requires workers { MayWork workers }
-    ensures ends { Ends (Some (Run workers graph live)) (passage S.left S.faults src.old src.new) (passage K.taken K.faults out.old out.new) (number_of_status result) }
+    requires sites { MayHaveSites kind }
+    ensures ends { Ends (Some (Run workers graph kind)) (passage S.left S.faults src.old src.new) (passage K.taken K.faults out.old out.new) (number_of_status result) }
     ensures silent { number_of_status result ≡ 4 → out.new ≡ out.old }
 {
     match input_of(alloc, MAX_TEXT_BYTES, src, out) {
-        Ok(input) => run_text(rt, alloc, workers, graph, live, input.as_slice(), out, gate),
+        Ok(input) => run_text(rt, alloc, workers, graph, kind, input.as_slice(), out, gate),
         Err(status) => status,
     }
 }

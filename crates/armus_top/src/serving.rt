@@ -1,6 +1,6 @@
 // Serving a command.
 ghost use Rattle.std.specs.Prelude.{◌≡◌, ◌≢◌, Some, false};
-ghost use Rattle.armus_top.specs.inside.Serving.{IsJournal, WaitsForNoThread, MeansJournal, MeansPlain};
+ghost use Rattle.armus_top.specs.inside.Serving.{MeansPlain, MeansWaiting, WaitsForNoThread, WaitsForThreads};
 ghost use Rattle.armus_top.specs.Headline.{Ends, passage, reads_input};
 ghost use Rattle.armus_top.specs.inside.Status.{number_of_status};
 ghost use Rattle.armus_top.specs.Texts.{usage_line};
@@ -9,6 +9,7 @@ ghost use Rattle.armus_top.specs.inside.Writing.{Finished};
 use crate::avoiding::avoid;
 use crate::checking::check;
 use crate::generating::generate;
+use crate::pooling::pool;
 use crate::recording::record;
 use crate::replaying::replay;
 use crate::running::run;
@@ -20,7 +21,7 @@ use std::alloc::Global;
 use std::sync::Wait;
 use std::thread::Threads;
 
-const USAGE: &str = "usage: armus check|run|avoid|record|replay|gen\n";
+const USAGE: &str = "usage: armus check|run|avoid|record|replay|gen|pool\n";
 
 // No command.
 fn usage<K: Sink>(out: &mut K) -> ExitStatus
@@ -49,20 +50,20 @@ fn serve_plain<R: Threads + Sync, S: Source, K: Sink, G: Gate>(
         Command::Run {
             workers,
             graph,
-            live,
-        } => run(rt, alloc, workers, graph, live, src, out, gate),
+            kind,
+        } => run(rt, alloc, workers, graph, kind, src, out, gate),
         Command::Avoid {
             workers,
             graph,
             kept,
         } => avoid(rt, alloc, workers, graph, kept, src, out, gate),
-        Command::Record { .. } => unreachable!(),
+        Command::Record { .. } | Command::Pool { .. } => unreachable!(),
         Command::Replay => replay(alloc, src, out),
         Command::Gen { count } => generate(rt, alloc, count, out, gate),
     }
 }
 
-/// Serves what words mean that do not begin with `record`: a command that waits for no thread, or none.
+/// Serves what words mean that begin neither with `record` nor with `pool`: a command that waits for no thread, or none.
 pub fn serve<R: Threads + Sync, S: Source, K: Sink, G: Gate>(
     rt: &R,
     alloc: Global,
@@ -82,8 +83,8 @@ pub fn serve<R: Threads + Sync, S: Source, K: Sink, G: Gate>(
     }
 }
 
-// Serves `record`.
-fn serve_record<R: Threads + Wait + Sync, S: Source, K: Sink, G: Gate>(
+// Serves a command that waits for threads.
+fn serve_record_or_pool<R: Threads + Wait + Sync, S: Source, K: Sink, G: Gate>(
     rt: &R,
     alloc: Global,
     command: Command,
@@ -91,18 +92,19 @@ fn serve_record<R: Threads + Wait + Sync, S: Source, K: Sink, G: Gate>(
     out: &mut K,
     gate: &G,
 ) -> ExitStatus
-    requires journal { IsJournal command }
+    requires waiting { WaitsForThreads command }
     ensures ends { Ends (Some command) (passage S.left S.faults src.old src.new) (passage K.taken K.faults out.old out.new) (number_of_status result) }
     ensures silent { number_of_status result ≡ 4 → out.new ≡ out.old }
 {
     match command {
         Command::Record { workers } => record(rt, alloc, workers, src, out, gate),
+        Command::Pool { workers, graph } => pool(rt, alloc, workers, graph, src, out, gate),
         _ => unreachable!(),
     }
 }
 
-/// Serves what words mean that begin with `record`: this command, which waits for threads, or none.
-pub fn serve_journal<R: Threads + Wait + Sync, S: Source, K: Sink, G: Gate>(
+/// Serves what words mean that begin with `record` or `pool`: such a command, which waits for threads, or none.
+pub fn serve_waiting<R: Threads + Wait + Sync, S: Source, K: Sink, G: Gate>(
     rt: &R,
     alloc: Global,
     meaning: Option<Command>,
@@ -110,13 +112,13 @@ pub fn serve_journal<R: Threads + Wait + Sync, S: Source, K: Sink, G: Gate>(
     out: &mut K,
     gate: &G,
 ) -> ExitStatus
-    requires journal { MeansJournal meaning }
+    requires waiting { MeansWaiting meaning }
     ensures ends { Ends meaning (passage S.left S.faults src.old src.new) (passage K.taken K.faults out.old out.new) (number_of_status result) }
     ensures unread { reads_input meaning ≡ false → src.new ≡ src.old }
     ensures silent { number_of_status result ≡ 4 → out.new ≡ out.old }
 {
     match meaning {
-        Some(command) => serve_record(rt, alloc, command, src, out, gate),
+        Some(command) => serve_record_or_pool(rt, alloc, command, src, out, gate),
         None => usage(out),
     }
 }

@@ -5,6 +5,7 @@ mod generated;
 mod large;
 mod outside;
 mod pl_2;
+mod pool;
 mod record;
 mod replay;
 mod run;

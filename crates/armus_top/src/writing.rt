@@ -1,14 +1,17 @@
 // Writing a whole output.
-ghost use Rattle.std.specs.Prelude.{◌≡◌, ◌⊎◌};
+ghost use Rattle.std.specs.Prelude.{◌≡◌, ◌≢◌, ◌⊎◌};
 ghost use Rattle.std.specs.Io.KnownBytes.{Keeps};
+ghost use Rattle.armus_base.specs.Statuses.{IsInOrder};
 ghost use Rattle.armus_top.specs.Headline.{IsSound, passage};
 ghost use Rattle.armus_top.specs.inside.Status.{number_of_status};
-ghost use Rattle.armus_top.specs.inside.Writing.{Finished, Refuses, TellsEnd};
+ghost use Rattle.armus_top.specs.inside.Writing.{Finished, Refuses, TellsEnd, WritesReport};
 
 use crate::programs::InputEnd;
+use crate::reported::status_of;
 use crate::status::ExitStatus;
-use armus_base::{Sink, write_text};
-use report::{Refusal, refusal_line};
+use adaptive::Wanted;
+use armus_base::{Final, NoMemory, Sink, write_text};
+use report::{Refusal, refusal_line, report_of};
 use std::alloc::Global;
 
 /// Writes the text and answers the status, or `WriteFailed` where a write failed.
@@ -41,5 +44,17 @@ pub fn answer_end<K: Sink>(alloc: Global, end: InputEnd, out: &mut K) -> ExitSta
     match end {
         InputEnd::Refused(why) => refuse(alloc, &why, out),
         InputEnd::NoMemory => ExitStatus::OutOfMemory,
+    }
+}
+
+/// Writes the report of the end of a run, with the status that tells whether a task is dead.
+pub fn write_report<K: Sink>(alloc: Global, end: &Final, wanted: Wanted, out: &mut K) -> ExitStatus
+    requires in_order { IsInOrder end.now.blocked }
+    ensures done { WritesReport end.now wanted (passage K.taken K.faults out.old out.new) (number_of_status result) }
+    ensures silent { number_of_status result ≢ 4 }
+{
+    match report_of(alloc, end, wanted) {
+        Ok(report) => finish(out, report.text.as_slice(), status_of(report.has_dead)),
+        Err(NoMemory) => ExitStatus::OutOfMemory,
     }
 }

@@ -6,7 +6,7 @@ use Rattle.armus_words.specs.Words.{Text, AreUses, AreWords, Use, StandsAlone, a
 use Rattle.armus_words.specs.Commands.{given_by}
 use Rattle.armus_words.specs.inside.Rules.{app_for}
 use Rattle.armus_words.specs.declared.table.FirstWord.{FirstWord}
-use Rattle.armus_words.specs.declared.table.FirstWord.TheVariants.{Check, Run, Avoid, Record, Replay, Gen}
+use Rattle.armus_words.specs.declared.table.FirstWord.TheVariants.{Check, Run, Avoid, Record, Replay, Gen, Pool}
 use Rattle.armus_words.proofs.Matches.{HoldsGiven, uses_given, uses_taken}
 use Rattle.armus_words.proofs.Generated.{gen_given, gen_taken}
 
@@ -15,12 +15,14 @@ pub record Reads (words : List Text) (f : FirstWord) (uses : List Use) (alone : 
   pub given : HoldsGiven (matches_of (app_for f) words) (given_by uses alone)
   pub taken : takes (app_for f) words ≡ true
 
-with_options : (f : FirstWord) (uses : List Use) → has_value_alone f ≡ false → AreUses (λ o. has_option o (options_of f)) uses → Reads (first_word f ∷ (all_words uses ++ [])) f uses None
+with_options : (f : FirstWord) (uses : List Use) → has_value_alone f ≡ false → AreUses (λ o. has_option o (options_of f)) uses
+    → Reads (first_word f ∷ (all_words uses ++ [])) f uses None
 with_options f uses e are =
     subst (λ ws. Reads (first_word f ∷ ws) f uses None) (sym (append-nil (all_words uses)))
     (record { given = uses_given f uses e are; taken = uses_taken f uses e are })
 
-with_value : (uses : List Use) (v : Text) → AreUses (λ o. has_option o (options_of Gen)) uses → StandsAlone true (Some v) → Reads (first_word Gen ∷ (all_words uses ++ v ∷ [])) Gen uses (Some v)
+with_value : (uses : List Use) (v : Text) → AreUses (λ o. has_option o (options_of Gen)) uses → StandsAlone true (Some v)
+    → Reads (first_word Gen ∷ (all_words uses ++ v ∷ [])) Gen uses (Some v)
 with_value [] v are is = record { given = gen_given v is; taken = gen_taken v is }
 with_value (u ∷ us) v are is = absurd (cc are.0)
 
@@ -35,6 +37,8 @@ form_reads Record words uses None form = rw form.words_are (with_options Record 
 form_reads Record words uses (Some v) form = absurd form.alone_fits
 form_reads Replay words uses None form = rw form.words_are (with_options Replay uses refl form.uses_fit)
 form_reads Replay words uses (Some v) form = absurd form.alone_fits
+form_reads Pool words uses None form = rw form.words_are (with_options Pool uses refl form.uses_fit)
+form_reads Pool words uses (Some v) form = absurd form.alone_fits
 form_reads Gen words uses None form = absurd form.alone_fits
 form_reads Gen words uses (Some v) form = rw form.words_are (with_value uses v form.uses_fit form.alone_fits)
 

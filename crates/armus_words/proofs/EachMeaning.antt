@@ -7,17 +7,19 @@ use Rattle.std.specs.Str.Parse.{AllDigits, IsNumeral, digits_value}
 use Rattle.std.proofs.lemmas.Bool.{cases_lt}
 use Rattle.std.proofs.lemmas.Slice.Eq.{bytes_eq-Decides}
 use Rattle.armus_words.specs.Words.{Text, Use, AreWords, has_value_alone}
-use Rattle.armus_words.specs.Commands.{AreWorkers, EachMeaning, Given, IsCommand, IsGenerated, IsWantedGraph, IsNumber, Means, Reads, first_of, given_by, graph_word}
+use Rattle.armus_words.specs.Commands.{AreWorkers, EachMeaning, Given, IsCommand, IsGenerated, IsRunKind, IsWantedGraph, IsNumber, Means, Reads, first_of, given_by, graph_word}
 use Rattle.armus_words.specs.inside.Form.{first_named, fits, free_at}
 use Rattle.armus_words.specs.declared.table.FirstWord.{FirstWord}
 use Rattle.armus_words.specs.declared.table.FirstWord.TheVariants as first
 use Rattle.armus_words.specs.declared.command.Graph.{Graph}
 use Rattle.armus_words.specs.declared.command.Graph.TheVariants.{Auto, Wfg, Sg, Grg}
 use Rattle.armus_words.specs.declared.command.Command.{Command}
-use Rattle.armus_words.specs.declared.command.Command.TheVariants.{Check, Run, Avoid, Record, Replay, Gen}
-use Rattle.armus_words.specs.declared.table.TheConstants.{DEFAULT_WORKERS, MAX_GENERATED, MAX_WORKERS}
+use Rattle.armus_words.specs.declared.command.Command.TheVariants.{Check, Run, Avoid, Record, Replay, Gen, Pool}
+use Rattle.armus_words.specs.declared.command.RunKind.{RunKind}
+use Rattle.armus_words.specs.declared.command.RunKind.TheVariants as kinds
+use Rattle.armus_words.specs.declared.table.TheConstants.{DEFAULT_WORKERS, MAX_GENERATED, MAX_SITES, MAX_WORKERS}
 use Rattle.armus_words.proofs.FormLemmas.{form_fits, form_from}
-use Rattle.armus_words.proofs.Meaning.{Begins, SameForm, avoid, begins_with, generate, record_run, run, same_form}
+use Rattle.armus_words.proofs.Meaning.{Begins, SameForm, avoid, begins_with, generate, pool, record_run, run, same_form}
 
 -- ---- the form
 
@@ -88,6 +90,13 @@ workers_or_not : (given : Option Text) → SomeOrNone (AreWorkers given)
 workers_or_not (Some text) = number_or_not text MAX_WORKERS
 workers_or_not None = inl (DEFAULT_WORKERS, refl)
 
+kind_or_not : (live : Bool) (sites : Option Text) → SomeOrNone (IsRunKind live sites)
+kind_or_not false None = inl (kinds.Plain, refl)
+kind_or_not true None = inl (kinds.Live, refl)
+kind_or_not true (Some text) = inr (λ kind is. is)
+kind_or_not false (Some text) =
+    elim (number_or_not text MAX_SITES) [ inl is ↦ inl (kinds.Sites is.0, (is.0, refl, is.1)) | inr none ↦ inr (λ kind is. none is.0 is.2) ]
+
 generated_or_not : (given : Option Text) → SomeOrNone (IsGenerated given)
 generated_or_not (Some text) = number_or_not text MAX_GENERATED
 generated_or_not None = inr (λ n is. is)
@@ -130,10 +139,20 @@ ReadsOrNot f given = ((c : Command) × (first_of c ≡ f) × Reads c given) ⊎ 
 none_reads : (f : FirstWord) (given : Given) → ((c : Command) → Begins f c → Reads c given → ⊥) → (c : Command) → first_of c ≡ f → Reads c given → ⊥
 none_reads f given none c e is = none c (begins_with f c e) is
 
-no_run : (given : Given) → ((w : ℕ) (g : Graph) → AreWorkers given.workers w × IsWantedGraph given.graph g → ⊥) → (c : Command) → Begins first.Run c → Reads c given → ⊥
-no_run given none _ (run w g l) is = none w g (is.0, is.1)
+-- a number of workers and a graph that are given
+abbrev Works : Given → ℕ → Graph → Type 0
+Works given w g = AreWorkers given.workers w × IsWantedGraph given.graph g
 
-no_avoid : (given : Given) → ((w : ℕ) (g : Graph) → AreWorkers given.workers w × IsWantedGraph given.graph g → ⊥) → (c : Command) → Begins first.Avoid c → Reads c given → ⊥
+no_run : (given : Given) → ((w : ℕ) (g : Graph) → Works given w g → ⊥) → (c : Command) → Begins first.Run c → Reads c given → ⊥
+no_run given none _ (run w g k) (few, wants, kind) = none w g (few, wants)
+
+no_kind : (given : Given) → ((k : RunKind) → IsRunKind given.live given.sites k → ⊥) → (c : Command) → Begins first.Run c → Reads c given → ⊥
+no_kind given none _ (run w g k) (few, wants, kind) = none k kind
+
+no_pool : (given : Given) → ((w : ℕ) (g : Graph) → Works given w g → ⊥) → (c : Command) → Begins first.Pool c → Reads c given → ⊥
+no_pool given none _ (pool w g) is = none w g is
+
+no_avoid : (given : Given) → ((w : ℕ) (g : Graph) → Works given w g → ⊥) → (c : Command) → Begins first.Avoid c → Reads c given → ⊥
 no_avoid given none _ (avoid w g k) is = none w g (is.0, is.1)
 
 no_record : (given : Given) → ((w : ℕ) → AreWorkers given.workers w → ⊥) → (c : Command) → Begins first.Record c → Reads c given → ⊥
@@ -144,9 +163,7 @@ no_gen given none _ (generate n) is = none n is
 
 -- a number of workers and a graph are given, or they are not
 abbrev WorksOrNot : Given → Type 0
-WorksOrNot given =
-    ((w : ℕ) × (g : Graph) × (AreWorkers given.workers w × IsWantedGraph given.graph g))
-    ⊎ ((w : ℕ) (g : Graph) → AreWorkers given.workers w × IsWantedGraph given.graph g → ⊥)
+WorksOrNot given = ((w : ℕ) × (g : Graph) × (Works given w g)) ⊎ ((w : ℕ) (g : Graph) → Works given w g → ⊥)
 
 works_or_not : (given : Given) → WorksOrNot given
 works_or_not given =
@@ -161,7 +178,13 @@ works_or_not given =
 reads_or_not : (f : FirstWord) (given : Given) → ReadsOrNot f given
 reads_or_not first.Check given = inl (Check given.print, refl, refl)
 reads_or_not first.Run given =
-    elim (works_or_not given) [ inl is ↦ inl (Run is.0 is.1 given.live, refl, (is.2.0, is.2.1, refl)) | inr none ↦ inr (none_reads first.Run given (no_run given none)) ]
+    elim (works_or_not given) [
+      | inr none ↦ inr (none_reads first.Run given (no_run given none))
+      | inl is ↦ elim (kind_or_not given.live given.sites) [
+        | inr none ↦ inr (none_reads first.Run given (no_kind given none))
+        | inl kind ↦ inl (Run is.0 is.1 kind.0, refl, (is.2.0, is.2.1, kind.1))
+      ]
+    ]
 reads_or_not first.Avoid given =
     elim (works_or_not given) [ inl is ↦ inl (Avoid is.0 is.1 given.kept, refl, (is.2.0, is.2.1, refl)) | inr none ↦ inr (none_reads first.Avoid given (no_avoid given none)) ]
 reads_or_not first.Record given =
@@ -169,6 +192,8 @@ reads_or_not first.Record given =
 reads_or_not first.Replay given = inl (Replay, refl, tt)
 reads_or_not first.Gen given =
     elim (generated_or_not given.alone) [ inl is ↦ inl (Gen is.0, refl, is.1) | inr none ↦ inr (none_reads first.Gen given (no_gen given none)) ]
+reads_or_not first.Pool given =
+    elim (works_or_not given) [ inl is ↦ inl (Pool is.0 is.1, refl, is.2) | inr none ↦ inr (none_reads first.Pool given (no_pool given none)) ]
 
 module _ (words : List Text) where
   by_reading : (f : FirstWord) (uses : List Use) (alone : Option Text) → AreWords words f uses alone → ReadsOrNot f (given_by uses alone) → (c : Option Command) × Means words c

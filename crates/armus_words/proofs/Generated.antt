@@ -49,6 +49,7 @@ gen_given v is =
       graph = ap (λ (w : Walk). first_of (codes "graph") (finished gen_rules w.held)) there;
       live = missing (ap (λ (w : Walk). one_of (codes "live") (finished gen_rules w.held)) there);
       kept = missing (ap (λ (w : Walk). one_of (codes "kept") (finished gen_rules w.held)) there);
+      sites = ap (λ (w : Walk). first_of (codes "sites") (finished gen_rules w.held)) there;
       alone = ap (λ (w : Walk). first_of (codes "count") (finished gen_rules w.held)) there;
     }
 

@@ -7,13 +7,14 @@ use Rattle.clap.specs.Words.{Row, Rule, first_of, is_simple, matches_of, takes}
 use Rattle.clap.specs.Simple.{built, entered}
 use Rattle.clap.specs.Takes.{default_passes, entered_passes, is_valid, settle_passes, walk_passes}
 use Rattle.clap.specs.Walk.{Held, Walk, finished, has_row, nothing_held, one_of, row_text, walk, walk_from}
-use Rattle.armus_words.specs.Words.{Text, AreUses, Use, valued, flag, all_words, first_word, has_option, has_value_alone, is_used, name_of, options_of, same_option, value_of, wants_value, without}
+use Rattle.armus_words.specs.Words.{Text, AreUses, Use, valued, flag, all_words, first_word, has_option}
+use Rattle.armus_words.specs.Words.{has_value_alone, is_used, name_of, options_of, same_option, value_of, wants_value, without}
 use Rattle.armus_words.specs.inside.Rules.{app_for}
 use Rattle.armus_words.specs.Commands.{Given, given_by}
 use Rattle.armus_words.specs.declared.table.FirstWord.{FirstWord}
 use Rattle.armus_words.specs.declared.table.FirstWord.TheVariants as first
 use Rattle.armus_words.specs.declared.table.OptionWord.{OptionWord}
-use Rattle.armus_words.specs.declared.table.OptionWord.TheVariants.{Print, Workers, Graph, Live, Kept}
+use Rattle.armus_words.specs.declared.table.OptionWord.TheVariants.{Print, Workers, Graph, Live, Kept, Sites}
 use Rattle.std.proofs.lemmas.Bool.{cases_Bool}
 use Rattle.std.proofs.lemmas.Slice.Eq.{bytes_eq-Decides}
 use Rattle.armus_words.proofs.Meaning.{names_differ, one_name}
@@ -182,6 +183,7 @@ not_alone Workers = refl
 not_alone Graph = refl
 not_alone Live = refl
 not_alone Kept = refl
+not_alone Sites = refl
 
 none_alone : (rules : List Rule) (us : List Use) → find_row (codes "count") (map (use_row rules) us) ≡ None
 none_alone rules [] = refl
@@ -197,6 +199,7 @@ pub record HoldsGiven (rows : List Row) (given : Given) : Type 0 where
   pub graph : first_of (codes "graph") rows ≡ given.graph
   pub live : FlagFound (one_of (codes "live") rows) given.live
   pub kept : FlagFound (one_of (codes "kept") rows) given.kept
+  pub sites : first_of (codes "sites") rows ≡ given.sites
   pub alone : first_of (codes "count") rows ≡ given.alone
 
 module _ (f : FirstWord) where
@@ -231,6 +234,7 @@ module _ (f : FirstWord) where
         kept = by_use Kept refl rules free os us (is_used Kept us) refl uses;
         workers = ap value_in (ended_stays (codes "workers") os rows (λ o w. flags_differ Workers o refl w)) ∙ value_found rules free Workers us refl uses;
         graph = ap value_in (ended_stays (codes "graph") os rows (λ o w. flags_differ Graph o refl w)) ∙ value_found rules free Graph us refl uses;
+        sites = ap value_in (ended_stays (codes "sites") os rows (λ o w. flags_differ Sites o refl w)) ∙ value_found rules free Sites us refl uses;
         alone = ap value_in (ended_stays (codes "count") os rows (λ o w. not_alone o) ∙ none_alone rules us);
       }
 
@@ -242,6 +246,7 @@ matches_are first.Avoid ws e = refl
 matches_are first.Record ws e = refl
 matches_are first.Replay ws e = refl
 matches_are first.Gen ws e = absurd (cc)
+matches_are first.Pool ws e = refl
 
 -- what clap asks of the words, by the walk over them
 abbrev passes_by : FirstWord → List Text → Walk → Bool
@@ -260,6 +265,7 @@ takes_are first.Avoid ws e = refl
 takes_are first.Record ws e = refl
 takes_are first.Replay ws e = refl
 takes_are first.Gen ws e = absurd (cc)
+takes_are first.Pool ws e = refl
 
 at_end : (f : FirstWord) (h : Held) (a b : Bool) → has_value_alone f ≡ false → a ≡ true → b ≡ true
     → (entered_passes (built (app_for f)) None && (a && (b
@@ -271,6 +277,7 @@ at_end first.Avoid h a b e p q = rw (p, q) refl
 at_end first.Record h a b e p q = rw (p, q) refl
 at_end first.Replay h a b e p q = rw (p, q) refl
 at_end first.Gen h a b e p q = absurd (cc)
+at_end first.Pool h a b e p q = rw (p, q) refl
 
 pub uses_taken : (f : FirstWord) (us : List Use) → has_value_alone f ≡ false → AreUses (λ o. has_option o (options_of f)) us
     → takes (app_for f) (first_word f ∷ all_words us) ≡ true
@@ -293,3 +300,4 @@ simple first.Avoid = refl
 simple first.Record = refl
 simple first.Replay = refl
 simple first.Gen = refl
+simple first.Pool = refl

@@ -6,17 +6,20 @@ use Rattle.std.specs.Str.{bytes_eq}
 use Rattle.std.proofs.lemmas.Bool.{cases_Bool}
 use Rattle.std.proofs.lemmas.Slice.Eq.{bytes_eq-Decides}
 use Rattle.std.proofs.lemmas.Grind.{common_steps}
-use Rattle.armus_words.specs.Words.{Text, Use, valued, flag, AreUses, AreWords, IsValue, StandsAlone, all_words, dashed, first_word, has_value_alone, is_value_byte, name_of, use_words, wants_value, without}
+use Rattle.armus_words.specs.Words.{Text, Use, valued, flag, AreUses, AreWords, IsValue, StandsAlone}
+use Rattle.armus_words.specs.Words.{all_words, dashed, first_word, has_value_alone, is_value_byte, name_of, use_words, wants_value, without}
 use Rattle.armus_words.specs.inside.Form.{first_named, option_named}
-use Rattle.armus_words.specs.Commands.{AreWorkers, Given, IsCommand, IsGenerated, IsWantedGraph, IsNumber, OneMeaning, Reads, first_of, given_by, graph_word}
+use Rattle.armus_words.specs.Commands.{AreWorkers, Given, IsCommand, IsGenerated, IsRunKind, IsWantedGraph, IsNumber, OneMeaning, Reads, first_of, given_by, graph_word}
 use Rattle.armus_words.specs.declared.table.FirstWord.{FirstWord}
 use Rattle.armus_words.specs.declared.table.FirstWord.TheVariants as first
 use Rattle.armus_words.specs.declared.table.OptionWord.{OptionWord}
-use Rattle.armus_words.specs.declared.table.OptionWord.TheVariants.{Print, Workers, Graph as GraphOption, Live, Kept}
+use Rattle.armus_words.specs.declared.table.OptionWord.TheVariants.{Print, Workers, Graph as GraphOption, Live, Kept, Sites}
 use Rattle.armus_words.specs.declared.command.Graph.{Graph}
 use Rattle.armus_words.specs.declared.command.Graph.TheVariants.{Auto, Wfg, Sg, Grg}
 use Rattle.armus_words.specs.declared.command.Command.{Command}
-use Rattle.armus_words.specs.declared.command.Command.TheVariants.{Check, Run, Avoid, Record, Replay, Gen}
+use Rattle.armus_words.specs.declared.command.Command.TheVariants.{Check, Run, Avoid, Record, Replay, Gen, Pool}
+use Rattle.armus_words.specs.declared.command.RunKind.{RunKind}
+use Rattle.armus_words.specs.declared.command.RunKind.TheVariants as kinds
 
 differ : (x y : Text) → bytes_eq x y ≡ false → x ≡ y → ⊥
 differ x y unlike e = let yes : bytes_eq x y ≡ true = (bytes_eq-Decides x y).1 e in absurd (cc)
@@ -29,6 +32,7 @@ first_is first.Avoid = refl
 first_is first.Record = refl
 first_is first.Replay = refl
 first_is first.Gen = refl
+first_is first.Pool = refl
 
 pub named_is : (o : OptionWord) → option_named (dashed o) ≡ Some o
 named_is Print = refl
@@ -36,6 +40,7 @@ named_is Workers = refl
 named_is GraphOption = refl
 named_is Live = refl
 named_is Kept = refl
+named_is Sites = refl
 
 one_first : (a b : FirstWord) → first_word a ≡ first_word b → a ≡ b
 one_first a b e = let both : Some a ≡ Some b = sym (first_is a) ∙ ap first_named e ∙ first_is b in cc
@@ -154,32 +159,45 @@ one_generated : (o : Option Text) (a b : ℕ) → IsGenerated o a → IsGenerate
 one_generated (Some text) a b p q = one_number text _ a b p q
 one_generated None a b p q = absurd p
 
+one_kind : (live : Bool) (sites : Option Text) (a b : RunKind) → IsRunKind live sites a → IsRunKind live sites b → a ≡ b
+one_kind false None a b p q = p ∙ sym q
+one_kind true None a b p q = p ∙ sym q
+one_kind false (Some text) a b (m, a_is, p) (n, b_is, q) = a_is ∙ ap kinds.Sites (one_number text _ m n p q) ∙ sym b_is
+one_kind true (Some text) a b p q = absurd p
+
 -- the command has this first word, and no other
 pub data Begins : FirstWord → Command → Type 0 where
   check : (print : Bool) → Begins first.Check (Check print)
-  run : (workers : ℕ) (graph : Graph) (live : Bool) → Begins first.Run (Run workers graph live)
+  run : (workers : ℕ) (graph : Graph) (kind : RunKind) → Begins first.Run (Run workers graph kind)
   avoid : (workers : ℕ) (graph : Graph) (kept : Bool) → Begins first.Avoid (Avoid workers graph kept)
   record_run : (workers : ℕ) → Begins first.Record (Record workers)
   replay : Begins first.Replay Replay
   generate : (count : ℕ) → Begins first.Gen (Gen count)
+  pool : (workers : ℕ) (graph : Graph) → Begins first.Pool (Pool workers graph)
 
 begins : (c : Command) → Begins (first_of c) c
 begins (Check print) = check print
-begins (Run workers graph live) = run workers graph live
+begins (Run workers graph kind) = run workers graph kind
 begins (Avoid workers graph kept) = avoid workers graph kept
 begins (Record workers) = record_run workers
 begins Replay = replay
 begins (Gen count) = generate count
+begins (Pool workers graph) = pool workers graph
 
 pub begins_with : (f : FirstWord) (c : Command) → first_of c ≡ f → Begins f c
 begins_with f c is = subst (λ g. Begins g c) is (begins c)
 
 -- what is given is that of one command with this first word
-same_run : (w v : ℕ) (g h : Graph) (l m : Bool) (given : Given) → Reads (Run w g l) given → Reads (Run v h m) given → Run w g l ≡ Run v h m
-same_run w v g h l m given p q =
+same_run : (w v : ℕ) (g h : Graph) (k l : RunKind) (given : Given) → Reads (Run w g k) given → Reads (Run v h l) given → Run w g k ≡ Run v h l
+same_run w v g h k l given (few, wants, kind) (few_too, wants_too, kind_too) =
+    let workers_are : w ≡ v = one_workers given.workers w v few few_too in
+    let graph_is : g ≡ h = one_graph given.graph g h wants wants_too in
+    let kind_is : k ≡ l = one_kind given.live given.sites k l kind kind_too in cc
+
+same_pool : (w v : ℕ) (g h : Graph) (given : Given) → Reads (Pool w g) given → Reads (Pool v h) given → Pool w g ≡ Pool v h
+same_pool w v g h given p q =
     let workers_are : w ≡ v = one_workers given.workers w v p.0 q.0 in
-    let graph_is : g ≡ h = one_graph given.graph g h p.1 q.1 in
-    let live_is : l ≡ m = p.2 ∙ sym q.2 in cc
+    let graph_is : g ≡ h = one_graph given.graph g h p.1 q.1 in cc
 
 same_avoid : (w v : ℕ) (g h : Graph) (k l : Bool) (given : Given) → Reads (Avoid w g k) given → Reads (Avoid v h l) given → Avoid w g k ≡ Avoid v h l
 same_avoid w v g h k l given p q =
@@ -189,11 +207,12 @@ same_avoid w v g h k l given p q =
 
 one_reading : (f : FirstWord) (c d : Command) (given : Given) → Begins f c → Begins f d → Reads c given → Reads d given → c ≡ d
 one_reading _ _ _ given (check a) (check b) p q = ap Check (p ∙ sym q)
-one_reading _ _ _ given (run w g l) (run v h m) p q = same_run w v g h l m given p q
+one_reading _ _ _ given (run w g k) (run v h l) p q = same_run w v g h k l given p q
 one_reading _ _ _ given (avoid w g k) (avoid v h l) p q = same_avoid w v g h k l given p q
 one_reading _ _ _ given (record_run w) (record_run v) p q = ap Record (one_workers given.workers w v p q)
 one_reading _ _ _ given replay replay p q = refl
 one_reading _ _ _ given (generate n) (generate k) p q = ap Gen (one_generated given.alone n k p q)
+one_reading _ _ _ given (pool w g) (pool v h) p q = same_pool w v g h given p q
 
 -- words have the form of one first word alone
 pub record SameForm (a b : FirstWord) (us vs : List Use) (x y : Option Text) : Type 0 where

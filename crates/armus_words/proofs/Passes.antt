@@ -9,8 +9,9 @@ use Rattle.clap.specs.Takes.{bundle_passes, flag_word_passes, long_passes, settl
 use Rattle.clap.specs.Walk.{Held, Step, Walk, after_flag, arg_by_long, has_row, idle, long_met, option, walked}
 use Rattle.armus_words.specs.Words.{Text, dashed, Use, HasWantedValue, valued, flag, option_of, use_words, name_of, wants_value}
 use Rattle.armus_words.specs.declared.table.OptionWord.{OptionWord}
-use Rattle.armus_words.specs.declared.table.OptionWord.TheVariants.{Print, Workers, Graph, Live, Kept}
-use Rattle.armus_words.proofs.Steps.{Knows, at, flag_walked, held_after, made, no_dashes, no_long, no_short, option_walked, plain_met, rows_at, starts_as_value, starts_plain, value_walked, waits, with_pending}
+use Rattle.armus_words.specs.declared.table.OptionWord.TheVariants.{Print, Workers, Graph, Live, Kept, Sites}
+use Rattle.armus_words.proofs.Steps.{Knows, at, flag_walked, held_after, made, no_dashes, no_long, no_short}
+use Rattle.armus_words.proofs.Steps.{option_walked, plain_met, rows_at, starts_as_value, starts_plain, value_walked, waits, with_pending}
 
 -- a simple command of this name with these rules, as clap builds it
 abbrev pub shape_with : Text → List Rule → Shape
@@ -49,6 +50,7 @@ module _ (name : Text) (rules : List Rule) where
   turn_is Graph h = refl
   turn_is Live h = refl
   turn_is Kept h = refl
+  turn_is Sites h = refl
 
   valued_passes : (o : OptionWord) (h : Held) → wants_value o ≡ true → settles h ≡ true → by_rule (dashed o) h (Some (made o)) ≡ true
   valued_passes Print h w e = absurd (cc)
@@ -56,6 +58,7 @@ module _ (name : Text) (rules : List Rule) where
   valued_passes Graph h w e = ap (λ (b : Bool). b && true) e
   valued_passes Live h w e = absurd (cc)
   valued_passes Kept h w e = absurd (cc)
+  valued_passes Sites h w e = ap (λ (b : Bool). b && true) e
 
   flag_passes : (o : OptionWord) (h : Held) → wants_value o ≡ false → settles h ≡ true → has_row (name_of o) (rows_at rules h) ≡ false → by_rule (dashed o) h (Some (made o)) ≡ true
   flag_passes Print h w e fresh = rw (e, fresh) refl
@@ -63,6 +66,7 @@ module _ (name : Text) (rules : List Rule) where
   flag_passes Graph h w e fresh = absurd (cc)
   flag_passes Live h w e fresh = rw (e, fresh) refl
   flag_passes Kept h w e fresh = rw (e, fresh) refl
+  flag_passes Sites h w e fresh = absurd (cc)
 
   option_turn : (o : OptionWord) (h : Held) → Knows rules o → wants_value o ≡ true → settles h ≡ true → turn_passes shape [] (at h) (dashed o) ≡ true
   option_turn o h knows w e = turn_is o h ∙ ap (by_rule (dashed o) h) knows.long ∙ valued_passes o h w e
@@ -72,7 +76,8 @@ module _ (name : Text) (rules : List Rule) where
   flag_turn o h knows w e fresh = turn_is o h ∙ ap (by_rule (dashed o) h) knows.long ∙ flag_passes o h w e fresh
 
   -- the words of a use are taken, and then more words
-  pub use_taken : (u : Use) (h : Held) (rest : List Text) → Knows rules (option_of u) → HasWantedValue u → settles h ≡ true → has_row (name_of (option_of u)) (rows_at rules h) ≡ false
+  pub use_taken : (u : Use) (h : Held) (rest : List Text) → Knows rules (option_of u) → HasWantedValue u → settles h ≡ true
+      → has_row (name_of (option_of u)) (rows_at rules h) ≡ false
       → walk_passes shape [] (at h) (use_words u ++ rest) ≡ walk_passes shape [] (at (held_after rules u h)) rest
   unfolding walk_passes
   use_taken (valued o v) h rest knows fits e fresh =
@@ -97,7 +102,9 @@ module _ (name : Text) (rules : List Rule) where
   value_settles Graph v h w e = rw e refl
   value_settles Live v h w e = absurd (cc)
   value_settles Kept v h w e = absurd (cc)
+  value_settles Sites v h w e = rw e refl
 
-  pub use_settles : (u : Use) (h : Held) → Knows rules (option_of u) → HasWantedValue u → has_row (name_of (option_of u)) (rows_at rules h) ≡ false → settles (held_after rules u h) ≡ true
+  pub use_settles : (u : Use) (h : Held) → Knows rules (option_of u) → HasWantedValue u → has_row (name_of (option_of u)) (rows_at rules h) ≡ false
+      → settles (held_after rules u h) ≡ true
   use_settles (valued o v) h knows fits e = ap (by_pending o v h) knows.id ∙ value_settles o v h fits.0 e
   use_settles (flag o) h knows fits e = refl

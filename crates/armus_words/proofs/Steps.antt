@@ -5,7 +5,8 @@ use Rattle.std.specs.Str.{bytes_eq}
 use Rattle.clap.specs.Words.{Row, Rule}
 use Rattle.clap.specs.Lexer.{long_of, short_of}
 use Rattle.clap.specs.Simple.{filled, filled_from, help_rule, with_index}
-use Rattle.clap.specs.Walk.{Held, Step, Walk, after_flag, after_step, arg_by_id, arg_by_long, has_row, long_met, long_or_other, next, idle, option, plain_word, reacted, settled, short_or_plain, trailing, used, walk_from, walked, word_met}
+use Rattle.clap.specs.Walk.{Held, Step, Walk, after_flag, after_step, arg_by_id, arg_by_long, has_row, long_met, long_or_other, next}
+use Rattle.clap.specs.Walk.{idle, option, plain_word, reacted, settled, short_or_plain, trailing, used, walk_from, walked, word_met}
 use Rattle.std.specs.List.{list_all}
 use Rattle.std.proofs.Common.{arith}
 use Rattle.std.proofs.lemmas.Grind.{common_steps}
@@ -17,7 +18,7 @@ use Rattle.armus_words.proofs.Meaning.{and_first, one_name}
 use Rattle.armus_words.specs.inside.Rules.{rule_for}
 use Rattle.armus_words.specs.Words.{Text, dashed, has_option, Use, HasWantedValue, valued, flag, option_of, use_words, is_value_byte, name_of, same_option, wants_value, IsValue}
 use Rattle.armus_words.specs.declared.table.OptionWord.{OptionWord}
-use Rattle.armus_words.specs.declared.table.OptionWord.TheVariants.{Print, Workers, Graph, Live, Kept}
+use Rattle.armus_words.specs.declared.table.OptionWord.TheVariants.{Print, Workers, Graph, Live, Kept, Sites}
 
 -- the rule of an option, as clap fills it
 abbrev pub made : OptionWord → Rule
@@ -62,6 +63,7 @@ module _ (rules : List Rule) where
   word_is Graph h = refl
   word_is Live h = refl
   word_is Kept h = refl
+  word_is Sites h = refl
 
   made_waits : (o : OptionWord) (h : Held) → wants_value o ≡ true → by_long (dashed o) h (Some (made o)) ≡ waits o h
   made_waits Print h e = absurd (cc)
@@ -69,6 +71,7 @@ module _ (rules : List Rule) where
   made_waits Graph h e = refl
   made_waits Live h e = absurd (cc)
   made_waits Kept h e = absurd (cc)
+  made_waits Sites h e = refl
 
   made_flag : (o : OptionWord) (h : Held) → wants_value o ≡ false → by_long (dashed o) h (Some (made o)) ≡ at (reacted rules (made o) [] h)
   made_flag Print h e = refl
@@ -76,6 +79,7 @@ module _ (rules : List Rule) where
   made_flag Graph h e = absurd (cc)
   made_flag Live h e = refl
   made_flag Kept h e = refl
+  made_flag Sites h e = absurd (cc)
 
   -- the word of an option that wants_value a value, and of one that wants_value none
   pub option_walked : (o : OptionWord) (h : Held) → Knows rules o → wants_value o ≡ true → walked rules [] (at h) (dashed o) ≡ waits o h
@@ -115,6 +119,7 @@ module _ (rules : List Rule) where
   made_value Graph v h e = refl
   made_value Live v h e = absurd (cc)
   made_value Kept v h e = absurd (cc)
+  made_value Sites v h e = refl
 
   pub value_walked : (o : OptionWord) (v : Text) (h : Held) → Knows rules o → wants_value o ≡ true → starts_plain v → walked rules [] (waits o h) v ≡ at (with_pending o (v ∷ []) h)
   unfolding walked
@@ -145,12 +150,14 @@ module _ (rules : List Rule) where
   abbrev pub rows_at : Held → List Row
   rows_at h = (settled rules h).rows
 
-  row_valued : (o : OptionWord) (v : Text) (rows : List Row) → wants_value o ≡ true → has_row (name_of o) rows ≡ false → used (made o) (v ∷ []) rows ≡ rows ++ use_row (valued o v) ∷ []
+  row_valued : (o : OptionWord) (v : Text) (rows : List Row) → wants_value o ≡ true → has_row (name_of o) rows ≡ false
+      → used (made o) (v ∷ []) rows ≡ rows ++ use_row (valued o v) ∷ []
   row_valued Print v rows w e = absurd (cc)
   row_valued Workers v rows w e = fresh_row (codes "workers") AsWritten CommandLine (v ∷ []) rows e
   row_valued Graph v rows w e = fresh_row (codes "graph") AsWritten CommandLine (v ∷ []) rows e
   row_valued Live v rows w e = absurd (cc)
   row_valued Kept v rows w e = absurd (cc)
+  row_valued Sites v rows w e = fresh_row (codes "sites") AsWritten CommandLine (v ∷ []) rows e
 
   row_flag : (o : OptionWord) (rows : List Row) → wants_value o ≡ false → has_row (name_of o) rows ≡ false → used (made o) [] rows ≡ rows ++ use_row (flag o) ∷ []
   row_flag Print rows w e = fresh_row (codes "print") AsWritten CommandLine (codes "true" ∷ []) rows e
@@ -158,6 +165,7 @@ module _ (rules : List Rule) where
   row_flag Graph rows w e = absurd (cc)
   row_flag Live rows w e = fresh_row (codes "live") AsWritten CommandLine (codes "true" ∷ []) rows e
   row_flag Kept rows w e = fresh_row (codes "kept") AsWritten CommandLine (codes "true" ∷ []) rows e
+  row_flag Sites rows w e = absurd (cc)
 
   pub use_settled : (u : Use) (h : Held) → Knows rules (option_of u) → HasWantedValue u → has_row (name_of (option_of u)) (rows_at h) ≡ false
       → rows_at (held_after u h) ≡ rows_at h ++ use_row u ∷ []
@@ -179,25 +187,30 @@ rules_made (Workers ∷ os) = ap (λ t. made Workers ∷ t) (rules_made os)
 rules_made (Graph ∷ os) = ap (λ t. made Graph ∷ t) (rules_made os)
 rules_made (Live ∷ os) = ap (λ t. made Live ∷ t) (rules_made os)
 rules_made (Kept ∷ os) = ap (λ t. made Kept ∷ t) (rules_made os)
+rules_made (Sites ∷ os) = ap (λ t. made Sites ∷ t) (rules_made os)
 
 or_nothing : (b : Bool) → (b || false) ≡ b
 or_nothing true = refl
 or_nothing false = refl
 
 -- the rule in front is found under its own name, and else one behind it
-long_found : (p o : OptionWord) (rules : List Rule) → arg_by_long (made p ∷ rules) (name_of o) ≡ (if bytes_eq (name_of p) (name_of o) then Some (made p) else arg_by_long rules (name_of o))
+long_found : (p o : OptionWord) (rules : List Rule)
+    → arg_by_long (made p ∷ rules) (name_of o) ≡ (if bytes_eq (name_of p) (name_of o) then Some (made p) else arg_by_long rules (name_of o))
 long_found Print o rules = ap (λ (b : Bool). if b then Some (made Print) else arg_by_long rules (name_of o)) (or_nothing (bytes_eq (name_of Print) (name_of o)))
 long_found Workers o rules = ap (λ (b : Bool). if b then Some (made Workers) else arg_by_long rules (name_of o)) (or_nothing (bytes_eq (name_of Workers) (name_of o)))
 long_found Graph o rules = ap (λ (b : Bool). if b then Some (made Graph) else arg_by_long rules (name_of o)) (or_nothing (bytes_eq (name_of Graph) (name_of o)))
 long_found Live o rules = ap (λ (b : Bool). if b then Some (made Live) else arg_by_long rules (name_of o)) (or_nothing (bytes_eq (name_of Live) (name_of o)))
 long_found Kept o rules = ap (λ (b : Bool). if b then Some (made Kept) else arg_by_long rules (name_of o)) (or_nothing (bytes_eq (name_of Kept) (name_of o)))
+long_found Sites o rules = ap (λ (b : Bool). if b then Some (made Sites) else arg_by_long rules (name_of o)) (or_nothing (bytes_eq (name_of Sites) (name_of o)))
 
-id_found : (p o : OptionWord) (rules : List Rule) → arg_by_id (made p ∷ rules) (name_of o) ≡ (if bytes_eq (name_of p) (name_of o) then Some (made p) else arg_by_id rules (name_of o))
+id_found : (p o : OptionWord) (rules : List Rule)
+    → arg_by_id (made p ∷ rules) (name_of o) ≡ (if bytes_eq (name_of p) (name_of o) then Some (made p) else arg_by_id rules (name_of o))
 id_found Print o rules = refl
 id_found Workers o rules = refl
 id_found Graph o rules = refl
 id_found Live o rules = refl
 id_found Kept o rules = refl
+id_found Sites o rules = refl
 
 knows_here : (o p : OptionWord) (rules : List Rule) (b : Bool) → bytes_eq (name_of p) (name_of o) ≡ b → (b ≡ false → Knows rules o) → Knows (made p ∷ rules) o
 knows_here o p rules true same more =
@@ -243,6 +256,7 @@ one_ended Workers rows = same_both (has_row (codes "workers") rows) rows
 one_ended Graph rows = same_both (has_row (codes "graph") rows) rows
 one_ended Live rows = missing_added Live rows (has_row (codes "live") rows) refl
 one_ended Kept rows = missing_added Kept rows (has_row (codes "kept") rows) refl
+one_ended Sites rows = same_both (has_row (codes "sites") rows) rows
 
 all_ended : (os : List OptionWord) (rows : List Row) → fold with_default rows (map made os ++ made_help ∷ []) ≡ ended os rows
 all_ended [] rows = same_both (has_row (codes "help") rows) rows

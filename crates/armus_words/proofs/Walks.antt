@@ -66,7 +66,8 @@ module _ (name : Text) (rules : List Rule) where
   settles_all free [] h b = b.settled
   settles_all free (u ∷ us) h b = settles_all (without (option_of u) free) us (held_after rules u h) (before_next free u us h b)
 
-  pub rows_all : (free : OptionWord → Bool) (us : List Use) (h : Held) → Before name rules free us h → rows_at rules (after_all rules us h) ≡ rows_at rules h ++ map (use_row rules) us
+  pub rows_all : (free : OptionWord → Bool) (us : List Use) (h : Held) → Before name rules free us h
+      → rows_at rules (after_all rules us h) ≡ rows_at rules h ++ map (use_row rules) us
   rows_all free [] h b = sym (append-nil (rows_at rules h))
   rows_all free (u ∷ us) h b =
       rows_all (without (option_of u) free) us (held_after rules u h) (before_next free u us h b)

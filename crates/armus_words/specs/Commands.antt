@@ -1,5 +1,5 @@
 -- The command that words mean.
-use Rattle.std.specs.Prelude.{◌≡◌, ◌≤◌, ℕ, Bool, List, Option, Some, None, codes}
+use Rattle.std.specs.Prelude.{◌≡◌, ◌≤◌, ℕ, Bool, true, false, List, Option, Some, None, codes}
 use Rattle.std.specs.Str.Parse.{IsNumeral, digits_value}
 use Rattle.armus_words.specs.Words.{Text, Use, AreWords, is_used, value_of}
 use Rattle.armus_words.specs.declared.table.FirstWord.{FirstWord}
@@ -8,17 +8,20 @@ use Rattle.armus_words.specs.declared.table.OptionWord.TheVariants as option
 use Rattle.armus_words.specs.declared.command.Graph.{Graph}
 use Rattle.armus_words.specs.declared.command.Graph.TheVariants.{Auto, Wfg, Sg, Grg}
 use Rattle.armus_words.specs.declared.command.Command.{Command}
-use Rattle.armus_words.specs.declared.command.Command.TheVariants.{Check, Run, Avoid, Record, Replay, Gen}
-use Rattle.armus_words.specs.declared.table.TheConstants.{MAX_WORKERS, DEFAULT_WORKERS, MAX_GENERATED}
+use Rattle.armus_words.specs.declared.command.Command.TheVariants.{Check, Run, Avoid, Record, Replay, Gen, Pool}
+use Rattle.armus_words.specs.declared.command.RunKind.{RunKind}
+use Rattle.armus_words.specs.declared.command.RunKind.TheVariants.{Plain, Live, Sites}
+use Rattle.armus_words.specs.declared.table.TheConstants.{MAX_WORKERS, DEFAULT_WORKERS, MAX_GENERATED, MAX_SITES}
 
 -- the first word of a command
 abbrev pub first_of : Command → FirstWord
 first_of (Check print) = first.Check
-first_of (Run workers graph live) = first.Run
+first_of (Run workers graph kind) = first.Run
 first_of (Avoid workers graph kept) = first.Avoid
 first_of (Record workers) = first.Record
 first_of Replay = first.Replay
 first_of (Gen count) = first.Gen
+first_of (Pool workers graph) = first.Pool
 
 -- the text writes this number in decimal digits, which is at least 1 and at most the given one
 pub record IsNumber (text : Text) (most number : ℕ) : Type 0 where
@@ -41,6 +44,7 @@ pub record Given : Type 0 where
   pub graph : Option Text
   pub live : Bool
   pub kept : Bool
+  pub sites : Option Text
   pub alone : Option Text
 
 -- what uses and a value that stands by itself give
@@ -51,6 +55,7 @@ given_by uses alone = record {
   graph = value_of option.Graph uses;
   live = is_used option.Live uses;
   kept = is_used option.Kept uses;
+  sites = value_of option.Sites uses;
   alone = alone;
 }
 
@@ -69,14 +74,22 @@ abbrev pub IsGenerated : Option Text → ℕ → Type 0
 IsGenerated (Some text) count = IsNumber text MAX_GENERATED count
 IsGenerated None count = ⊥
 
+-- what goes beside the tasks of a run: nothing, live lines where they are asked for, or passes over as many sites as are written, and never both
+abbrev pub IsRunKind : Bool → Option Text → RunKind → Type 0
+IsRunKind false None kind = kind ≡ Plain
+IsRunKind true None kind = kind ≡ Live
+IsRunKind false (Some text) kind = (sites : ℕ) × (kind ≡ Sites sites) × IsNumber text MAX_SITES sites
+IsRunKind true (Some text) kind = ⊥
+
 -- what is given is what the command says
 abbrev pub Reads : Command → Given → Type 0
 Reads (Check print) given = print ≡ given.print
-Reads (Run workers graph live) given = AreWorkers given.workers workers × IsWantedGraph given.graph graph × (live ≡ given.live)
+Reads (Run workers graph kind) given = AreWorkers given.workers workers × IsWantedGraph given.graph graph × IsRunKind given.live given.sites kind
 Reads (Avoid workers graph kept) given = AreWorkers given.workers workers × IsWantedGraph given.graph graph × (kept ≡ given.kept)
 Reads (Record workers) given = AreWorkers given.workers workers
 Reads Replay given = Unit {0}
 Reads (Gen count) given = IsGenerated given.alone count
+Reads (Pool workers graph) given = AreWorkers given.workers workers × IsWantedGraph given.graph graph
 
 -- the words are this command
 pub record IsCommand (words : List Text) (c : Command) : Type 0 where

@@ -3,10 +3,10 @@ use Rattle.std.specs.Prelude.{◌≡◌, ◌≤◌, ℕ, Bool, true, false, ◌&
 use Rattle.std.specs.List.{list_all, list_any}
 use Rattle.std.specs.Str.{bytes_eq}
 use Rattle.armus_words.specs.declared.table.FirstWord.{FirstWord}
-use Rattle.armus_words.specs.declared.table.FirstWord.TheVariants.{Check, Run, Avoid, Record, Replay, Gen}
+use Rattle.armus_words.specs.declared.table.FirstWord.TheVariants.{Check, Run, Avoid, Record, Replay, Gen, Pool}
 use Rattle.armus_words.specs.declared.table.OptionWord.{OptionWord}
-use Rattle.armus_words.specs.declared.table.OptionWord.TheVariants.{Print, Workers, Graph, Live, Kept}
-use Rattle.armus_words.specs.declared.table.TheConstants.{CHECK, RUN, AVOID, RECORD, REPLAY, GEN, PRINT, WORKERS, GRAPH, LIVE, KEPT, MAX_VALUE_BYTES}
+use Rattle.armus_words.specs.declared.table.OptionWord.TheVariants.{Print, Workers, Graph, Live, Kept, Sites}
+use Rattle.armus_words.specs.declared.table.TheConstants.{CHECK, RUN, AVOID, RECORD, REPLAY, GEN, POOL, PRINT, WORKERS, GRAPH, LIVE, KEPT, SITES, MAX_VALUE_BYTES}
 
 -- a text is the list of its bytes
 abbrev pub Text : Type 0
@@ -22,15 +22,17 @@ first_word Avoid = AVOID.now
 first_word Record = RECORD.now
 first_word Replay = REPLAY.now
 first_word Gen = GEN.now
+first_word Pool = POOL.now
 
 -- the options of a command
 abbrev pub options_of : FirstWord → List OptionWord
 options_of Check = Print ∷ []
-options_of Run = Workers ∷ Graph ∷ Live ∷ []
+options_of Run = Workers ∷ Graph ∷ Live ∷ Sites ∷ []
 options_of Avoid = Workers ∷ Graph ∷ Kept ∷ []
 options_of Record = Workers ∷ []
 options_of Replay = []
 options_of Gen = []
+options_of Pool = Workers ∷ Graph ∷ []
 
 -- a value stands by itself after the command's options
 abbrev pub has_value_alone : FirstWord → Bool
@@ -40,6 +42,7 @@ has_value_alone Avoid = false
 has_value_alone Record = false
 has_value_alone Replay = false
 has_value_alone Gen = true
+has_value_alone Pool = false
 
 -- the name of an option, without its two hyphens
 abbrev pub name_of : OptionWord → Text
@@ -48,6 +51,7 @@ name_of Workers = WORKERS.now
 name_of Graph = GRAPH.now
 name_of Live = LIVE.now
 name_of Kept = KEPT.now
+name_of Sites = SITES.now
 
 -- the option wants a value
 abbrev pub wants_value : OptionWord → Bool
@@ -56,6 +60,7 @@ wants_value Workers = true
 wants_value Graph = true
 wants_value Live = false
 wants_value Kept = false
+wants_value Sites = true
 
 -- ---- the rule
 

@@ -13,6 +13,17 @@ pub enum Graph {
     Grg,
 }
 
+/// What goes beside the tasks of a run.
+#[derive(Clone, Copy, Debug, PartialEq, Eq)]
+pub enum RunKind {
+    /// Nothing.
+    Plain,
+    /// A detector, with a line for each dead task as soon as it is found.
+    Live,
+    /// Passes over this many sites, each of which stores what its tasks await.
+    Sites { sites: u8 },
+}
+
 /// A command of the program.
 #[derive(Clone, Copy, Debug, PartialEq, Eq)]
 pub enum Command {
@@ -20,13 +31,14 @@ pub enum Command {
     Check {
         print: bool,
     },
-    /// Runs a text and reports its final state; live, with a line for each dead task as soon as it is found.
+    /// Runs a text by rounds and reports its final state, with what its kind says beside the rounds.
     Run {
         workers: u8,
         graph: Graph,
-        live: bool,
+        kind: RunKind,
     },
-    /// Runs a text without deadlock, where awaits are refused instead, and reports its final state; kept, with an order of the tasks that is mended where waits change.
+    /// Runs a text without deadlock, where awaits are refused instead, and reports its final state; kept, with an order of the tasks that is mended where
+    /// waits change.
     Avoid {
         workers: u8,
         graph: Graph,
@@ -41,5 +53,10 @@ pub enum Command {
     /// Runs a generated text with this many workers in it, and reports its final state in short.
     Gen {
         count: u16,
+    },
+    /// Runs a text without rounds, where each free worker claims the next task, and reports its final state.
+    Pool {
+        workers: u8,
+        graph: Graph,
     },
 }

@@ -16,6 +16,7 @@ pub struct Free {
     pub graph: bool,
     pub live: bool,
     pub kept: bool,
+    pub sites: bool,
 }
 
 // No option may be used.
@@ -25,6 +26,7 @@ const NONE: Free = Free {
     graph: false,
     live: false,
     kept: false,
+    sites: false,
 };
 
 // The option may still be used.
@@ -37,6 +39,7 @@ fn has(free: Free, option: OptionWord) -> bool
         OptionWord::Graph => free.graph,
         OptionWord::Live => free.live,
         OptionWord::Kept => free.kept,
+        OptionWord::Sites => free.sites,
     }
 }
 
@@ -63,6 +66,10 @@ fn take_off(free: Free, option: OptionWord) -> Free
         },
         OptionWord::Kept => Free {
             kept: false,
+            ..free
+        },
+        OptionWord::Sites => Free {
+            sites: false,
             ..free
         },
     }
@@ -153,6 +160,7 @@ fn options_at(first: FirstWord) -> Free
             workers: true,
             graph: true,
             live: true,
+            sites: true,
             ..NONE
         },
         FirstWord::Avoid => Free {
@@ -166,6 +174,11 @@ fn options_at(first: FirstWord) -> Free
             ..NONE
         },
         FirstWord::Replay | FirstWord::Gen => NONE,
+        FirstWord::Pool => Free {
+            workers: true,
+            graph: true,
+            ..NONE
+        },
     }
 }
 

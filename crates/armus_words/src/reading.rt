@@ -1,14 +1,15 @@
 // The command that the words mean.
 ghost use Rattle.std.specs.Prelude.{◌≡◌, ℕ, IfOk, IfSome, IfNone, map, option_map, string_bytes};
-ghost use Rattle.armus_words.specs.Commands.{AreWorkers, IsGenerated, IsWantedGraph, Means, Reads, first_of};
+ghost use Rattle.armus_words.specs.Commands.{AreWorkers, IsGenerated, IsRunKind, IsWantedGraph, Means, Reads, first_of};
 ghost use Rattle.armus_words.specs.inside.Rules.{given_of};
 ghost use Rattle.armus_words.specs.declared.command.Command.{Command};
 ghost use Rattle.armus_words.specs.declared.command.Graph.{Graph};
+ghost use Rattle.armus_words.specs.declared.command.RunKind.{RunKind};
 
-use crate::command::{Command, Graph};
+use crate::command::{Command, Graph, RunKind};
 use crate::forms::first_word_in;
 use crate::numbers::{graph_in, number_in};
-use crate::table::{DEFAULT_WORKERS, FirstWord, MAX_GENERATED, MAX_WORKERS};
+use crate::table::{DEFAULT_WORKERS, FirstWord, MAX_GENERATED, MAX_SITES, MAX_WORKERS};
 use crate::values::{Values, values_in};
 use clap::error::ErrorKind;
 use std::alloc::{AllocError, Global};
@@ -46,6 +47,21 @@ fn generated_in(text: Option<&str>) -> Option<u16>
     }
 }
 
+// What goes beside the tasks: live lines or sites, and not both.
+fn kind_in(live: bool, sites: Option<&str>) -> Option<RunKind>
+    ensures some { IfSome result (λ kind. IsRunKind live (option_map (λ s. s.now) sites.entry) kind) }
+    ensures none { IfNone result ((kind : RunKind) → IsRunKind live (option_map (λ s. s.now) sites.entry) kind → ⊥) }
+{
+    match sites {
+        Some(_) if live => None,
+        Some(text) => Some(RunKind::Sites {
+            sites: number_in(text, u64::from(MAX_SITES))? as u8,
+        }),
+        None if live => Some(RunKind::Live),
+        None => Some(RunKind::Plain),
+    }
+}
+
 // The command of this first word with these values.
 fn command_of(first: FirstWord, values: &Values<'_>) -> Option<Command>
     ensures some { IfSome result (λ c. (first_of c ≡ first) × Reads c (given_of values.now)) }
@@ -58,10 +74,11 @@ fn command_of(first: FirstWord, values: &Values<'_>) -> Option<Command>
         FirstWord::Run => {
             let workers = workers_in(values.workers)?;
             let graph = wanted_in(values.graph)?;
+            let kind = kind_in(values.live, values.sites)?;
             Some(Command::Run {
                 workers,
                 graph,
-                live: values.live,
+                kind,
             })
         }
         FirstWord::Avoid => {
@@ -81,6 +98,11 @@ fn command_of(first: FirstWord, values: &Values<'_>) -> Option<Command>
         FirstWord::Gen => {
             let count = generated_in(values.alone)?;
             Some(Command::Gen { count })
+        }
+        FirstWord::Pool => {
+            let workers = workers_in(values.workers)?;
+            let graph = wanted_in(values.graph)?;
+            Some(Command::Pool { workers, graph })
         }
     }
 }

@@ -11,6 +11,9 @@ pub const DEFAULT_WORKERS: u8 = 4;
 /// The most workers in a generated text.
 pub const MAX_GENERATED: u16 = 1000;
 
+/// The most sites of a run.
+pub const MAX_SITES: u8 = 8;
+
 /// The most bytes of a value.
 pub const MAX_VALUE_BYTES: usize = 16;
 
@@ -32,6 +35,9 @@ pub const REPLAY: &str = "replay";
 /// The word of `gen`.
 pub const GEN: &str = "gen";
 
+/// The word of `pool`.
+pub const POOL: &str = "pool";
+
 /// The name of the option that prints.
 pub const PRINT: &str = "print";
 
@@ -47,26 +53,31 @@ pub const LIVE: &str = "live";
 /// The name of the option that keeps an order of the tasks.
 pub const KEPT: &str = "kept";
 
+/// The name of the option for the number of sites.
+pub const SITES: &str = "sites";
+
 /// The name under which `clap` keeps a value that stands by itself.
 pub const ALONE: &str = "count";
 
 /// All first words.
-pub const FIRST_WORDS: [FirstWord; 6] = [
+pub const FIRST_WORDS: [FirstWord; 7] = [
     FirstWord::Check,
     FirstWord::Run,
     FirstWord::Avoid,
     FirstWord::Record,
     FirstWord::Replay,
     FirstWord::Gen,
+    FirstWord::Pool,
 ];
 
 /// All options.
-pub const OPTION_WORDS: [OptionWord; 5] = [
+pub const OPTION_WORDS: [OptionWord; 6] = [
     OptionWord::Print,
     OptionWord::Workers,
     OptionWord::Graph,
     OptionWord::Live,
     OptionWord::Kept,
+    OptionWord::Sites,
 ];
 
 /// The first word of a command.
@@ -78,6 +89,7 @@ pub enum FirstWord {
     Record,
     Replay,
     Gen,
+    Pool,
 }
 
 impl FirstWord {
@@ -92,6 +104,7 @@ impl FirstWord {
             FirstWord::Record => RECORD,
             FirstWord::Replay => REPLAY,
             FirstWord::Gen => GEN,
+            FirstWord::Pool => POOL,
         }
     }
 
@@ -105,7 +118,8 @@ impl FirstWord {
             | FirstWord::Run
             | FirstWord::Avoid
             | FirstWord::Record
-            | FirstWord::Replay => false,
+            | FirstWord::Replay
+            | FirstWord::Pool => false,
         }
     }
 }
@@ -118,6 +132,7 @@ pub enum OptionWord {
     Graph,
     Live,
     Kept,
+    Sites,
 }
 
 impl OptionWord {
@@ -131,6 +146,7 @@ impl OptionWord {
             OptionWord::Graph => GRAPH,
             OptionWord::Live => LIVE,
             OptionWord::Kept => KEPT,
+            OptionWord::Sites => SITES,
         }
     }
 
@@ -140,7 +156,7 @@ impl OptionWord {
     {
         match self {
             OptionWord::Print | OptionWord::Live | OptionWord::Kept => false,
-            OptionWord::Workers | OptionWord::Graph => true,
+            OptionWord::Workers | OptionWord::Graph | OptionWord::Sites => true,
         }
     }
 }

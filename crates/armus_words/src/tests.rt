@@ -1,5 +1,5 @@
 // Words that are commands, and words that are none.
-use crate::{Command, Graph, command_in};
+use crate::{Command, Graph, RunKind, command_in};
 use std::alloc::{AllocError, Global};
 use std::test::Fail;
 
@@ -15,7 +15,7 @@ fn run(workers: u8, graph: Graph) -> Option<Command> {
     Some(Command::Run {
         workers,
         graph,
-        live: false,
+        kind: RunKind::Plain,
     })
 }
 
@@ -23,8 +23,20 @@ fn live(workers: u8, graph: Graph) -> Option<Command> {
     Some(Command::Run {
         workers,
         graph,
-        live: true,
+        kind: RunKind::Live,
     })
+}
+
+fn over_sites(workers: u8, graph: Graph, sites: u8) -> Option<Command> {
+    Some(Command::Run {
+        workers,
+        graph,
+        kind: RunKind::Sites { sites },
+    })
+}
+
+fn pool(workers: u8, graph: Graph) -> Option<Command> {
+    Some(Command::Pool { workers, graph })
 }
 
 fn avoid(workers: u8, graph: Graph) -> Option<Command> {
@@ -58,7 +70,7 @@ fn generate(count: u16) -> Option<Command> {
 #[test]
 fn words_and_their_commands(rt: HostRuntime) -> Result<(), Fail> {
     let alloc = rt.alloc();
-    let rows: [(&[&str], Option<Command>); 62] = [
+    let rows: [(&[&str], Option<Command>); 91] = [
         (&["check"], check(false)),
         (&["check", "--print"], check(true)),
         (&["run"], run(4, Graph::Auto)),
@@ -139,6 +151,49 @@ fn words_and_their_commands(rt: HostRuntime) -> Result<(), Fail> {
         (&["replay"], Some(Command::Replay)),
         (&["replay", "3"], None),
         (&["replay", "--workers", "3"], None),
+        (&["run", "--sites", "1"], over_sites(4, Graph::Auto, 1)),
+        (&["run", "--sites", "8"], over_sites(4, Graph::Auto, 8)),
+        (
+            &[
+                "run",
+                "--sites",
+                "0000000000000003",
+                "--graph",
+                "sg",
+                "--workers",
+                "2",
+            ],
+            over_sites(2, Graph::Sg, 3),
+        ),
+        (&["run", "--sites", "0"], None),
+        (&["run", "--sites", "9"], None),
+        (&["run", "--sites", "00000000000000003"], None),
+        (&["run", "--sites", "-1"], None),
+        (&["run", "--sites", "+1"], None),
+        (&["run", "--sites", "x"], None),
+        (&["run", "--sites"], None),
+        (&["run", "--sites=3"], None),
+        (&["run", "--site", "3"], None),
+        (&["run", "--sites", "3", "--sites", "3"], None),
+        (&["run", "--sites", "3", "--live"], None),
+        (&["run", "--live", "--sites", "3"], None),
+        (&["run", "--live", "--workers", "2", "--sites", "1"], None),
+        (&["avoid", "--sites", "3"], None),
+        (&["record", "--sites", "3"], None),
+        (&["pool"], pool(4, Graph::Auto)),
+        (&["pool", "--workers", "64"], pool(64, Graph::Auto)),
+        (
+            &["pool", "--graph", "wfg", "--workers", "2"],
+            pool(2, Graph::Wfg),
+        ),
+        (&["pool", "--workers", "0"], None),
+        (&["pool", "--workers", "65"], None),
+        (&["pool", "--live"], None),
+        (&["pool", "--kept"], None),
+        (&["pool", "--sites", "3"], None),
+        (&["pool", "3"], None),
+        (&["pool", "pool"], None),
+        (&["pools"], None),
     ];
     for (texts, command) in rows {
         let all = words(alloc, texts)?;

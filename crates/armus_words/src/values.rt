@@ -5,7 +5,7 @@ ghost use Rattle.armus_words.specs.Words.{AreWords, Text, Use};
 ghost use Rattle.armus_words.specs.Commands.{given_by};
 ghost use Rattle.armus_words.specs.inside.Rules.{app_for, given_of, rule_for};
 
-use crate::table::{ALONE, FirstWord, GRAPH, KEPT, LIVE, OptionWord, PRINT, WORKERS};
+use crate::table::{ALONE, FirstWord, GRAPH, KEPT, LIVE, OptionWord, PRINT, SITES, WORKERS};
 use clap::error::ErrorKind;
 use clap::{Arg, ArgAction, Command, Error};
 use std::alloc::{AllocError, Global};
@@ -18,6 +18,7 @@ pub struct Values<'a> {
     pub graph: Option<&'a str>,
     pub live: bool,
     pub kept: bool,
+    pub sites: Option<&'a str>,
     pub alone: Option<&'a str>,
 }
 
@@ -46,7 +47,8 @@ fn command_for<'a>(alloc: Global, first: FirstWord) -> Result<Command<'a>, Alloc
         FirstWord::Run => command
             .arg(arg_for(alloc, OptionWord::Workers))?
             .arg(arg_for(alloc, OptionWord::Graph))?
-            .arg(arg_for(alloc, OptionWord::Live)),
+            .arg(arg_for(alloc, OptionWord::Live))?
+            .arg(arg_for(alloc, OptionWord::Sites)),
         FirstWord::Avoid => command
             .arg(arg_for(alloc, OptionWord::Workers))?
             .arg(arg_for(alloc, OptionWord::Graph))?
@@ -54,6 +56,9 @@ fn command_for<'a>(alloc: Global, first: FirstWord) -> Result<Command<'a>, Alloc
         FirstWord::Record => command.arg(arg_for(alloc, OptionWord::Workers)),
         FirstWord::Replay => Ok(command),
         FirstWord::Gen => command.arg(Arg::new(alloc, ALONE)),
+        FirstWord::Pool => command
+            .arg(arg_for(alloc, OptionWord::Workers))?
+            .arg(arg_for(alloc, OptionWord::Graph)),
     }
 }
 
@@ -79,6 +84,7 @@ pub fn values_in<'a>(
             graph: matches.get_str(GRAPH),
             live: matches.get_flag(LIVE),
             kept: matches.get_flag(KEPT),
+            sites: matches.get_str(SITES),
             alone: matches.get_str(ALONE),
         }),
         Err(error) => Err(error),

@@ -1,33 +1,48 @@
 -- Which commands are served where.
-use Rattle.std.specs.Prelude.{◌≤◌, ℕ, Option, Some, None}
+use Rattle.std.specs.Prelude.{◌≤◌, ℕ, Bool, true, false, Option, Some, None}
 use Rattle.armus_words.specs.declared.command.Command.{Command}
-use Rattle.armus_words.specs.declared.command.Command.TheVariants.{Check, Run, Avoid, Record, Replay, Gen}
-use Rattle.armus_words.specs.declared.table.TheConstants.{MAX_WORKERS}
+use Rattle.armus_words.specs.declared.command.Command.TheVariants.{Check, Run, Avoid, Record, Replay, Gen, Pool}
+use Rattle.armus_words.specs.declared.command.RunKind.{RunKind}
+use Rattle.armus_words.specs.declared.command.RunKind.TheVariants.{Plain, Live, Sites}
+use Rattle.armus_words.specs.declared.table.TheConstants.{MAX_SITES, MAX_WORKERS}
 
 -- a number of workers that a run may have
 abbrev pub MayWork : ℕ → Type 0
 MayWork workers = (1 ≤ workers) × (workers ≤ MAX_WORKERS)
 
--- the command waits for no thread, and a run of it may have its workers
+-- a number of sites that a run may have, where it has sites
+abbrev pub MayHaveSites : RunKind → Type 0
+MayHaveSites Plain = Unit {0}
+MayHaveSites Live = Unit {0}
+MayHaveSites (Sites sites) = (1 ≤ sites) × (sites ≤ MAX_SITES)
+
+-- the kind of a run without sites: with live lines, or without
+abbrev pub kind_of : Bool → RunKind
+kind_of true = Live
+kind_of false = Plain
+
+-- the command waits for no thread, and a run of it may have its workers and its sites
 abbrev pub WaitsForNoThread : Command → Type 0
 WaitsForNoThread (Check print) = Unit {0}
-WaitsForNoThread (Run workers g live) = MayWork workers
+WaitsForNoThread (Run workers g kind) = MayWork workers × MayHaveSites kind
 WaitsForNoThread (Avoid workers g kept) = MayWork workers
 WaitsForNoThread (Record workers) = ⊥
 WaitsForNoThread Replay = Unit {0}
 WaitsForNoThread (Gen count) = Unit {0}
+WaitsForNoThread (Pool workers g) = ⊥
 
--- the command is `record`, the one that waits for threads, and a run of it may have its workers
-abbrev pub IsJournal : Command → Type 0
-IsJournal (Record workers) = MayWork workers
-IsJournal _ = ⊥
+-- the command waits for threads, and a run of it may have its workers
+abbrev pub WaitsForThreads : Command → Type 0
+WaitsForThreads (Record workers) = MayWork workers
+WaitsForThreads (Pool workers g) = MayWork workers
+WaitsForThreads _ = ⊥
 
 -- words mean such a command that waits for no thread, or none
 abbrev pub MeansPlain : Option Command → Type 0
 MeansPlain (Some c) = WaitsForNoThread c
 MeansPlain None = Unit {0}
 
--- words mean `record`, or no command
-abbrev pub MeansJournal : Option Command → Type 0
-MeansJournal (Some c) = IsJournal c
-MeansJournal None = Unit {0}
+-- words mean such a command that waits for threads, or none
+abbrev pub MeansWaiting : Option Command → Type 0
+MeansWaiting (Some c) = WaitsForThreads c
+MeansWaiting None = Unit {0}

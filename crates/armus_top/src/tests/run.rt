@@ -14,21 +14,20 @@ const WAITS_BEHIND: &str =
 const ENDS_MEMBER: &str =
     "p = newPhaser();\nt = newTid(); reg(t, p);\nfork(t) { skip; }\nadv(p);\nawait(p);\n";
 
+// The report of the averaging kernel, whose tasks are all dead.
+pub(super) const ALL_DEAD: &str =
+    "tasks 4 done 0 dead 4 held 0 refused 0 unforked 0\nt0 dead p1@1\nt1 dead p0@1\nt2 dead p0@1\nt3 dead p0@1\ncycle t0 t1\ngraph sg 2\n";
+
 #[test]
 fn rows_of_run(rt: HostRuntime) -> Result<(), Fail> {
-    let rows: [(&[&str], &str, &str, u8); 16] = [
+    let rows: [(&[&str], &str, &str, u8); 21] = [
         (
             &["run"],
             "",
             "tasks 1 done 1 dead 0 held 0 refused 0 unforked 0\ngraph sg 0\n",
             0,
         ),
-        (
-            &["run"],
-            AVERAGING,
-            "tasks 4 done 0 dead 4 held 0 refused 0 unforked 0\nt0 dead p1@1\nt1 dead p0@1\nt2 dead p0@1\nt3 dead p0@1\ncycle t0 t1\ngraph sg 2\n",
-            1,
-        ),
+        (&["run"], AVERAGING, ALL_DEAD, 1),
         (
             &["run", "--graph", "wfg"],
             AVERAGING,
@@ -104,6 +103,31 @@ fn rows_of_run(rt: HostRuntime) -> Result<(), Fail> {
         ),
         (
             &["run", "--live"],
+            "adv(q);",
+            "refused check 1 statement 1\n",
+            3,
+        ),
+        (&["run", "--sites", "3"], AVERAGING, ALL_DEAD, 1),
+        (
+            &["run", "--sites", "1", "--workers", "1"],
+            AVERAGING,
+            ALL_DEAD,
+            1,
+        ),
+        (
+            &["run", "--graph", "wfg", "--sites", "8", "--workers", "64"],
+            CROSSED,
+            "tasks 2 done 0 dead 2 held 0 refused 0 unforked 0\nt0 dead p0@1\nt1 dead p1@1\ncycle t0 t1\ngraph wfg 2\n",
+            1,
+        ),
+        (
+            &["run", "--sites", "2"],
+            NEVER_FORKED,
+            "tasks 2 done 0 dead 0 held 1 refused 0 unforked 1\nt0 held p0@1\nt1 unforked\ngraph sg 0\n",
+            0,
+        ),
+        (
+            &["run", "--sites", "2"],
             "adv(q);",
             "refused check 1 statement 1\n",
             3,

@@ -7,7 +7,7 @@ use Rattle.armus_words.specs.Words.{Text, dashed, first_word, has_option, is_val
 use Rattle.armus_words.specs.declared.forms.Free.{Free}
 use Rattle.armus_words.specs.declared.table.FirstWord.{FirstWord}
 use Rattle.armus_words.specs.declared.table.OptionWord.{OptionWord}
-use Rattle.armus_words.specs.declared.table.OptionWord.TheVariants.{Print, Workers, Graph, Live, Kept}
+use Rattle.armus_words.specs.declared.table.OptionWord.TheVariants.{Print, Workers, Graph, Live, Kept, Sites}
 use Rattle.armus_words.specs.declared.table.TheConstants.{FIRST_WORDS, MAX_VALUE_BYTES, OPTION_WORDS}
 
 -- the test of a value
@@ -29,6 +29,7 @@ is_free f Workers = f.workers
 is_free f Graph = f.graph
 is_free f Live = f.live
 is_free f Kept = f.kept
+is_free f Sites = f.sites
 
 -- the free options without this one
 abbrev pub taken_off : Free → OptionWord → Free
@@ -37,6 +38,7 @@ taken_off f Workers = record f { workers = false }
 taken_off f Graph = record f { graph = false }
 taken_off f Live = record f { live = false }
 taken_off f Kept = record f { kept = false }
+taken_off f Sites = record f { sites = false }
 
 -- the options of a command
 abbrev pub free_at : FirstWord → Free
@@ -46,6 +48,7 @@ free_at f = record {
   graph = has_option Graph (options_of f);
   live = has_option Live (options_of f);
   kept = has_option Kept (options_of f);
+  sites = has_option Sites (options_of f);
 }
 
 -- the words are values that are waited for, uses of free options, and the value that stands by itself

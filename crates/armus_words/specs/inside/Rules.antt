@@ -30,5 +30,6 @@ given_of v = record {
   graph = option_map (λ s. s.now) v.graph;
   live = v.live;
   kept = v.kept;
+  sites = option_map (λ s. s.now) v.sites;
   alone = option_map (λ s. s.now) v.alone;
 }

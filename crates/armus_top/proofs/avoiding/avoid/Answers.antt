@@ -5,7 +5,8 @@ use Rattle.armus_top.proofs.avoiding.avoid.Goals as goal
 
 pub returns-in-Ok-clause-ends : goal.returns-in-Ok-clause-ends
 returns-in-Ok-clause-ends g c =
-    rw (← c.in-Ok.ensures.unwritten) (ends_by_answer (Avoid c.args.workers c.args.graph c.args.kept) _ _ c.in-Ok.input c.as_slice.result.now _ c.as_slice.ensures.items c.in-Ok.ensures.read.0 c.avoid_text.ensures.done c.in-Ok.ensures.read.1)
+    rw (← c.in-Ok.ensures.unwritten) (ends_by_answer (Avoid c.args.workers c.args.graph c.args.kept) _ _ c.in-Ok.input c.as_slice.result.now _ c.as_slice.ensures.items
+    c.in-Ok.ensures.read.0 c.avoid_text.ensures.done c.in-Ok.ensures.read.1)
 
 pub returns-in-Err-clause-ends : goal.returns-in-Err-clause-ends
 returns-in-Err-clause-ends g c = c.in-Err.ensures.ends (Avoid c.args.workers c.args.graph c.args.kept) refl

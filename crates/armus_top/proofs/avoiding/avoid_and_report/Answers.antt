@@ -7,6 +7,7 @@ report-requires g c = avoided_end_in_order c.args.plan.now _ c.requires.checked 
 pub returns : goal.returns
 returns g c = record {
   run = λ input plan_is.
-      avoid_of input c.args.plan.now c.args.options.now.wanted _ _ _ plan_is c.any_refused-has_deadlock.ensures c.in_ok-text.ensures c.args.options.now.workers c.in_ok-end.ensures.end
+      avoid_of input c.args.plan.now c.args.options.now.wanted _ _ _ plan_is c.any_refused-has_deadlock.ensures c.in_ok-text.ensures c.args.options.now.workers
+      c.in_ok-end.ensures.end
       c.in_ok-end.ensures.serial;
 }

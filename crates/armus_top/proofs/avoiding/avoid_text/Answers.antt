@@ -12,4 +12,5 @@ pub returns-in-Ok-clause-done : goal.returns-in-Ok-clause-done
 returns-in-Ok-clause-done g c = c.answer_avoid.ensures.done _ (_, c.in-Ok.ensures.plan)
 
 pub returns-in-Err-clause-done : goal.returns-in-Err-clause-done
-returns-in-Err-clause-done g c = by_end (Avoid c.args.workers c.args.graph c.args.kept) _ (IsFaultOf c.args.text.now) c.in-Err.end _ _ (λ why is. (why, is, refl)) c.in-Err.ensures.refused c.answer_end.ensures.done
+returns-in-Err-clause-done g c = by_end (Avoid c.args.workers c.args.graph c.args.kept) _ (IsFaultOf c.args.text.now) c.in-Err.end _ _ (λ why is. (why, is, refl))
+    c.in-Err.ensures.refused c.answer_end.ensures.done

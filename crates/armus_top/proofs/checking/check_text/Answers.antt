@@ -11,4 +11,5 @@ pub returns-in-Ok-clause-done : goal.returns-in-Ok-clause-done
 returns-in-Ok-clause-done g c = c.answer_check.ensures.done _ c.in-Ok.ensures.plan
 
 pub returns-in-Err-clause-done : goal.returns-in-Err-clause-done
-returns-in-Err-clause-done g c = by_end (Check c.args.print) _ (IsFaultOf c.args.text.now) c.in-Err.end _ _ (λ why is. (why, is, refl)) c.in-Err.ensures.refused c.answer_end.ensures.done
+returns-in-Err-clause-done g c = by_end (Check c.args.print) _ (IsFaultOf c.args.text.now) c.in-Err.end _ _ (λ why is. (why, is, refl)) c.in-Err.ensures.refused
+    c.answer_end.ensures.done

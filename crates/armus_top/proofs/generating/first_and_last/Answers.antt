@@ -1,10 +1,3 @@
-use Rattle.std.proofs.Common.{List, ℕ, IfOk, ◌≡◌, ◌++◌}
-use Rattle.std.specs.Prelude.{Result, Ok, Err}
-use Rattle.armus_base.specs.declared.errors.NoMemory.{NoMemory}
-use Rattle.schedule.specs.Lines.{IsCut, IsFirstLine, a_line}
-use Rattle.armus_words.specs.Words.{Text}
-use Rattle.pl_syntax.specs.Printed.{line}
-use Rattle.armus_top.specs.Generated.{IsFirstAndLast}
 use Rattle.armus_top.proofs.TwoLines.{both_lines, more_lines}
 use Rattle.armus_top.proofs.generating.first_and_last.Goals as goal
 

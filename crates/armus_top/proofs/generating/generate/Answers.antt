@@ -1,4 +1,4 @@
-use Rattle.std.proofs.Common.{◌≡◌, [], sym, subst}
+use Rattle.std.proofs.Common.{[], sym, subst}
 use Rattle.adaptive.specs.declared.analysis.Wanted.TheVariants as wanted
 use Rattle.gen_text.specs.Generated.{generated_text}
 use Rattle.armus_words.specs.declared.command.Command.TheVariants.{Gen}

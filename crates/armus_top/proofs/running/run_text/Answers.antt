@@ -6,10 +6,11 @@ use Rattle.armus_top.proofs.OnePlan.{checked_plan}
 use Rattle.armus_top.proofs.running.run_text.Goals as goal
 
 pub answer_run-requires : goal.answer_run-requires
-answer_run-requires g c = (search rules, (search rules, (search rules, (c.requires.workers, checked_plan _ _ (_, c.in-Ok.ensures.plan)))))
+answer_run-requires g c = (search rules, (search rules, (search rules, (c.requires.workers, (c.requires.sites, checked_plan _ _ (_, c.in-Ok.ensures.plan))))))
 
 pub returns-in-Ok-clause-done : goal.returns-in-Ok-clause-done
 returns-in-Ok-clause-done g c = c.answer_run.ensures.done _ (_, c.in-Ok.ensures.plan)
 
 pub returns-in-Err-clause-done : goal.returns-in-Err-clause-done
-returns-in-Err-clause-done g c = by_end (Run c.args.workers c.args.graph c.args.live) _ (IsFaultOf c.args.text.now) c.in-Err.end _ _ (λ why is. (why, is, refl)) c.in-Err.ensures.refused c.answer_end.ensures.done
+returns-in-Err-clause-done g c = by_end (Run c.args.workers c.args.graph c.args.kind) _ (IsFaultOf c.args.text.now) c.in-Err.end _ _ (λ why is. (why, is, refl))
+    c.in-Err.ensures.refused c.answer_end.ensures.done

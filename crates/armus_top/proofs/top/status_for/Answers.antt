@@ -8,7 +8,10 @@ pub serve-requires : goal.serve-requires
 serve-requires g c = (search rules, (search rules, (search rules, means_plain (map string_bytes c.args.words.now) c.in-Ok.meaning c.in-Ok.ensures.means c.requires.plain)))
 
 pub returns-in-Ok : goal.returns-in-Ok
-returns-in-Ok g c = record { call = call_by (map string_bytes c.args.words.now) _ _ _ _ _ c.in-Ok.meaning c.in-Ok.ensures.means c.serve.ensures.ends c.serve.ensures.unread c.serve.ensures.silent }
+returns-in-Ok g c = record {
+  call = call_by (map string_bytes c.args.words.now) _ _ _ _ _ c.in-Ok.meaning c.in-Ok.ensures.means c.serve.ensures.ends c.serve.ensures.unread
+      c.serve.ensures.silent;
+}
 
 pub returns-in-Err : goal.returns-in-Err
 returns-in-Err g c = record { call = record { serves = λ meaning means. no_memory refl refl refl (inl (Keeps-refl _)); unread = λ meaning means no. refl; silent = λ four. refl } }

@@ -40,7 +40,8 @@ returns-else-fit-clause-whole c first uses alone form =
     let whole : map string_bytes words ≡ string_bytes item ∷ map string_bytes rest = ap (λ ws. map string_bytes ws) (headed words item c.in-len1-up.len_at_least c.word-item.is) in
     let (named, fit) = form_fits (string_bytes item) (map string_bytes rest) first uses alone (subst (λ ws. AreWords ws first uses alone) whole form) in
     let same : f ≡ first = same_first f first (first_named (string_bytes item)) (c.in_ok-first-in-len1-up.ensures ∙ ap first_named c.as_str.ensures.value) named in
-    let tested = same_fit _ (free_at first) _ (has_value_alone first) _ (map string_bytes rest) (c.options_at.ensures ∙ ap free_at same) (c.has_value_alone.ensures ∙ ap has_value_alone same)
+    let tested = same_fit _ (free_at first) _ (has_value_alone first) _ (map string_bytes rest) (c.options_at.ensures ∙ ap free_at same)
+    (c.has_value_alone.ensures ∙ ap has_value_alone same)
     (ap (λ ws. map string_bytes ws) (take_rest words 1)) in
     let unlike : false ≡ true = sym c.if-fit.false ∙ c.fit.ensures ∙ tested ∙ fit in
     absurd (cc)

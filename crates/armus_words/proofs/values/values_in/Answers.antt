@@ -15,9 +15,10 @@ flag_is found r b is_missing is_on is_off (on e) = is_on e
 flag_is found r b is_missing is_on is_off (off e) = is_off e
 flag_is found r b is_missing is_on is_off (missing e) = is_missing e
 
-same_given : (print live kept : Bool) (workers graph alone : Option (List ℕ)) (g : Given) → print ≡ g.print → live ≡ g.live → kept ≡ g.kept → workers ≡ g.workers → graph ≡ g.graph → alone ≡ g.alone
-    → record { print = print; workers = workers; graph = graph; live = live; kept = kept; alone = alone } ≡ g
-same_given print live kept workers graph alone g p l k q r s = rw (p, l, k, q, r, s) refl
+same_given : (print live kept : Bool) (workers graph sites alone : Option (List ℕ)) (g : Given)
+    → print ≡ g.print → live ≡ g.live → kept ≡ g.kept → workers ≡ g.workers → graph ≡ g.graph → sites ≡ g.sites → alone ≡ g.alone
+    → record { print = print; workers = workers; graph = graph; live = live; kept = kept; sites = sites; alone = alone } ≡ g
+same_given print live kept workers graph sites alone g p l k q r t s = rw (p, l, k, q, r, t, s) refl
 
 pub returns-in-Err-try_get_matches_from-clause-err : goal.returns-in-Err-try_get_matches_from-clause-err
 returns-in-Err-try_get_matches_from-clause-err c uses alone form =
@@ -31,13 +32,16 @@ returns-in-Ok-try_get_matches_from-clause-ok c uses alone form =
     let given = (all_read f _ uses alone form).given in
     let found = found_of c.in-Ok-try_get_matches_from.matches in
     let same = (c.in-Ok-try_get_matches_from.ensures.matches (ap is_simple app_is ∙ simple f)).0 ∙ ap (λ (a : App). matches_of a (map string_bytes c.args.words.now)) app_is in
-    same_given _ _ _ _ _ _ (given_by uses alone)
+    same_given _ _ _ _ _ _ _ (given_by uses alone)
     (flag_is (one_text found (codes "print")) c.get_flag.result _ c.get_flag.ensures.none c.get_flag.ensures.value c.get_flag.ensures.other
     (subst (λ t. FlagFound t (given_by uses alone).print) (sym (one_text-rows found (codes "print") ∙ ap (one_of (codes "print")) same)) given.print))
-    (flag_is (one_text found (codes "live")) c.get_flag-in-Ok-try_get_matches_from.result _ c.get_flag-in-Ok-try_get_matches_from.ensures.none c.get_flag-in-Ok-try_get_matches_from.ensures.value c.get_flag-in-Ok-try_get_matches_from.ensures.other
+    (flag_is (one_text found (codes "live")) c.get_flag-in-Ok-try_get_matches_from.result _ c.get_flag-in-Ok-try_get_matches_from.ensures.none
+    c.get_flag-in-Ok-try_get_matches_from.ensures.value c.get_flag-in-Ok-try_get_matches_from.ensures.other
     (subst (λ t. FlagFound t (given_by uses alone).live) (sym (one_text-rows found (codes "live") ∙ ap (one_of (codes "live")) same)) given.live))
-    (flag_is (one_text found (codes "kept")) c.get_flag-in-Ok-try_get_matches_from-2.result _ c.get_flag-in-Ok-try_get_matches_from-2.ensures.none c.get_flag-in-Ok-try_get_matches_from-2.ensures.value c.get_flag-in-Ok-try_get_matches_from-2.ensures.other
+    (flag_is (one_text found (codes "kept")) c.get_flag-in-Ok-try_get_matches_from-2.result _ c.get_flag-in-Ok-try_get_matches_from-2.ensures.none
+    c.get_flag-in-Ok-try_get_matches_from-2.ensures.value c.get_flag-in-Ok-try_get_matches_from-2.ensures.other
     (subst (λ t. FlagFound t (given_by uses alone).kept) (sym (one_text-rows found (codes "kept") ∙ ap (one_of (codes "kept")) same)) given.kept))
     (c.get_str.ensures ∙ first_value-rows found (codes "workers") ∙ ap (first_of (codes "workers")) same ∙ given.workers)
     (c.get_str-in-Ok-try_get_matches_from.ensures ∙ first_value-rows found (codes "graph") ∙ ap (first_of (codes "graph")) same ∙ given.graph)
-    (c.get_str-in-Ok-try_get_matches_from-2.ensures ∙ first_value-rows found (codes "count") ∙ ap (first_of (codes "count")) same ∙ given.alone)
+    (c.get_str-in-Ok-try_get_matches_from-2.ensures ∙ first_value-rows found (codes "sites") ∙ ap (first_of (codes "sites")) same ∙ given.sites)
+    (c.get_str-in-Ok-try_get_matches_from-3.ensures ∙ first_value-rows found (codes "count") ∙ ap (first_of (codes "count")) same ∙ given.alone)

@@ -1,10 +1,9 @@
-use Rattle.std.proofs.Common.{◌≡◌, ℕ, inl, subst, if◌then◌else◌}
+use Rattle.std.proofs.Common.{ℕ, inl, subst}
 use Rattle.armus_top.specs.Headline.{passage}
 use Rattle.armus_top.specs.inside.Status.{number_of_status}
-use Rattle.armus_words.specs.Words.{Text}
 use Rattle.armus_top.specs.inside.Writing.{Finished}
 use Rattle.armus_top.proofs.Ending.{finished_as}
-use Rattle.armus_top.proofs.running.write_report.Goals as goal
+use Rattle.armus_top.proofs.writing.write_report.Goals as goal
 
 pub returns-in-Ok-clause-done : goal.returns-in-Ok-clause-done
 returns-in-Ok-clause-done g c =
@@ -16,5 +15,6 @@ returns-in-Ok-clause-done g c =
       c.in-Ok.ensures.dead,
       c.in-Ok.ensures.text,
       subst (λ (s : ℕ). Finished out report.text s (number_of_status c.finish.result)) c.status_of.ensures
-          (finished_as out report.text c.as_slice.result.now (number_of_status c.status_of.result) (number_of_status c.finish.result) c.as_slice.ensures.items c.finish.ensures.done),
+          (finished_as out report.text c.as_slice.result.now (number_of_status c.status_of.result) (number_of_status c.finish.result) c.as_slice.ensures.items
+          c.finish.ensures.done),
     )

@@ -1,0 +1,53 @@
+use Rattle.std.proofs.Common.{◌≡◌, ◌∙◌, ◌≤◌, ◌⊎◌, ◌||◌, length, Bool, true, false, List, [], ◌∷◌, inl, inr, ap, sym, refl, arith, get_or, drop, map, string_bytes}
+use Rattle.std.specs.Str.{bytes_eq}
+use Rattle.std.proofs.lemmas.Slice.Eq.{bytes_eq-Decides}
+use Rattle.armus_words.specs.declared.table.TheConstants.{POOL, RECORD}
+use Rattle.armus_words.specs.Words.{Text}
+use Rattle.armus_top.proofs.top.begins_record_or_pool.Goals as goal
+
+headed : {A : Type 0} (xs : List A) (x : A) → 1 ≤ length xs → x ≡ get_or xs 0 x → xs ≡ x ∷ drop 1 xs
+headed [] x some is = absurd (omega arith)
+headed (y ∷ ys) x some is = ap (λ z. z ∷ ys) (sym is)
+
+first_of : {x y : Text} {xs ys : List Text} → x ∷ xs ≡ y ∷ ys → x ≡ y
+first_of e = cc
+
+either : (a b : Bool) → (a || b) ≡ true → (a ≡ true) ⊎ (b ≡ true)
+either true b e = inl refl
+either false b e = inr e
+
+or_first : (a b : Bool) → a ≡ true → (a || b) ≡ true
+or_first a b e = rw e refl
+
+or_second : (a b : Bool) → b ≡ true → (a || b) ≡ true
+or_second true b e = refl
+or_second false b e = e
+
+-- the test of a word
+abbrev test : Text → Bool
+test word = bytes_eq word RECORD.now || bytes_eq word POOL.now
+
+passes : (word : Text) → test word ≡ true → (word ≡ RECORD.now) ⊎ (word ≡ POOL.now)
+passes word e = elim (either (bytes_eq word RECORD.now) (bytes_eq word POOL.now) e) [
+  | inl same ↦ inl ((bytes_eq-Decides word RECORD.now).0 same)
+  | inr same ↦ inr ((bytes_eq-Decides word POOL.now).0 same)
+]
+
+passed : (word : Text) → (word ≡ RECORD.now) ⊎ (word ≡ POOL.now) → test word ≡ true
+passed word (inl e) = or_first (bytes_eq word RECORD.now) (bytes_eq word POOL.now) ((bytes_eq-Decides word RECORD.now).1 e)
+passed word (inr e) = or_second (bytes_eq word RECORD.now) (bytes_eq word POOL.now) ((bytes_eq-Decides word POOL.now).1 e)
+
+pub returns-in-len1-up : goal.returns-in-len1-up
+returns-in-len1-up c =
+    let words = c.args.words.now in
+    let item = c.word-item.result in
+    let rest = map string_bytes (drop 1 words) in
+    let whole : map string_bytes words ≡ string_bytes item ∷ rest = ap (λ ws. map string_bytes ws) (headed words item c.in-len1-up.len_at_least c.word-item.is) in
+    let spelled : c.as_str.result.now ≡ string_bytes item = c.as_str.ensures.value in
+    let tested : c.is_record_or_pool.result ≡ test (string_bytes item) = c.is_record_or_pool.ensures ∙ ap test spelled in (
+      λ holds. (string_bytes item, rest, whole, passes (string_bytes item) (sym tested ∙ holds)),
+      λ begins.
+          let (word, more, same, one) = begins in
+          let word_is : string_bytes item ≡ word = first_of (sym whole ∙ same) in
+          tested ∙ ap test word_is ∙ passed word one,
+    )
