@@ -8,8 +8,6 @@ mod dead;
 mod front;
 mod remaining;
 mod standings;
-#[cfg(test)]
-mod tests;
 
 pub use analysis::{Analysis, Used, Wanted};
 pub use choice::{analyse, dead_by};

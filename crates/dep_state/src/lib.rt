@@ -8,8 +8,6 @@ mod names;
 mod order;
 mod picks;
 mod search;
-#[cfg(test)]
-mod tests;
 
 pub use dep_state::DepState;
 pub use order::is_in_order;

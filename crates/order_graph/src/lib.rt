@@ -10,8 +10,6 @@ mod mending;
 mod order;
 mod rows;
 mod settling;
-#[cfg(test)]
-mod tests;
 mod walk;
 
 pub use answers::{Added, Followed};

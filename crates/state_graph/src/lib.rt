@@ -4,8 +4,6 @@
 mod end;
 mod graph;
 mod growth;
-#[cfg(test)]
-mod tests;
 mod whole;
 
 pub use end::SgEnd;

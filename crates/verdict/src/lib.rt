@@ -3,8 +3,6 @@
 
 mod check;
 mod found;
-#[cfg(test)]
-mod tests;
 mod walk;
 
 pub use check::{check_cycle, impedes};

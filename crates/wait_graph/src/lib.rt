@@ -2,7 +2,5 @@
 #![tactic(auto)]
 
 mod graph;
-#[cfg(test)]
-mod tests;
 
 pub use graph::WaitGraph;

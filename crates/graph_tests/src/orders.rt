@@ -2,9 +2,10 @@
 ghost use Rattle.std.specs.Prelude.{All, IsTrue};
 ghost use Rattle.order_graph.specs.Orders.{IsTaskOf};
 
-use crate::{Added, Followed, Order};
-use armus_base::{Event, List as Items, Member, NoMemory, PhaserId, Status, TaskId};
+use crate::statuses::status;
+use armus_base::{Status, TaskId};
 use dep_state::{DepState, is_in_order};
+use order_graph::{Added, Followed, Order};
 use std::alloc::{AllocError, Global};
 use std::process::Abort;
 use std::test::Fail;
@@ -247,29 +248,6 @@ fn agrees_with_a_plain_search(rt: HostRuntime) -> Result<(), Fail> {
         agrees(&rt, &order, &table)?;
     }
     Ok(())
-}
-
-fn status(
-    alloc: Global,
-    t: u32,
-    event: (u32, u32),
-    phases: &[(u32, u32)],
-) -> Result<Status, NoMemory> {
-    let mut members = Items::new(alloc);
-    for (p, n) in phases {
-        members.push(Member {
-            p: PhaserId(*p),
-            n: *n,
-        })?;
-    }
-    Ok(Status {
-        t: TaskId(t),
-        event: Event {
-            p: PhaserId(event.0),
-            n: event.1,
-        },
-        phases: members,
-    })
 }
 
 fn has_tasks(order: &Order, deps: &DepState) -> bool
