@@ -8,13 +8,15 @@ use Rattle.armus_base.specs.declared.piece.Piece.TheVariants.{Op as Single, Repe
 use Rattle.armus_base.specs.Limits.{max_ops}
 use Rattle.armus_base.specs.Pieces.{IsFolded, max_turns, unfolded}
 
--- three ops on phaser 0
+-- phaser 0 is made
 abbrev pub make : Op
 make = Make (record { 0 = 0 })
 
+-- an advance on it
 abbrev pub advance : Op
 advance = Adv (record { 0 = 0 })
 
+-- an await of it
 abbrev pub wait : Op
 wait = Await (record { 0 = 0 }) Here
 
@@ -27,6 +29,7 @@ pub record AreFoldedTo (ps : List Piece) (os : List Op) : Type 0 where
 abbrev pub in_a_loop : List Piece
 in_a_loop = Single make ∷ Repeat 2 3 ∷ Repeat 3 1 ∷ Single advance ∷ Single wait ∷ []
 
+-- the ops for which they stand
 abbrev pub in_a_loop_ops : List Op
 in_a_loop_ops = make ∷ advance ∷ advance ∷ advance ∷ wait ∷ advance ∷ advance ∷ advance ∷ wait ∷ []
 
@@ -34,6 +37,7 @@ in_a_loop_ops = make ∷ advance ∷ advance ∷ advance ∷ wait ∷ advance �
 abbrev pub three_deep : List Piece
 three_deep = Repeat 2 3 ∷ Repeat 2 2 ∷ Repeat 2 1 ∷ Single advance ∷ []
 
+-- the ops for which they stand
 abbrev pub three_deep_ops : List Op
 three_deep_ops = advance ∷ advance ∷ advance ∷ advance ∷ advance ∷ advance ∷ advance ∷ advance ∷ []
 
