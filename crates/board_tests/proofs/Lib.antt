@@ -1,3 +1,1 @@
-mod PlanTests
-mod SmallPlans
 mod HandedOver

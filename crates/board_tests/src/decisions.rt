@@ -4,6 +4,7 @@ ghost use Rattle.armus_base.specs.Plans.{Blocks};
 ghost use Rattle.board.specs.declared.mode.Mode.TheVariants.{Avoid};
 ghost use Rattle.board.specs.Views.{next_action};
 ghost use Rattle.board.specs.Seats.{IsOf, aim_at};
+ghost use Rattle.board_tests.specs.Rooms.{IsRoomFor};
 
 use crate::plans::{A, B, CHILD, ROOT, two_tasks};
 use crate::walker::{Walker, begin_avoiding};
@@ -44,6 +45,30 @@ fn forks(walker: &mut Walker, alloc: Global, board: &Board, plan: &Plan) -> Opti
     walker.go_before(alloc, board, plan).unwrap_or(None)
 }
 
+/// The decision on the await of a task, which takes the lock for it; none where another task has the lock.
+pub fn decision_on(
+    alloc: Global,
+    seat: &mut TaskSeat,
+    board: &Board,
+    p: PhaserId,
+    off: Offset,
+    cells: &mut Cells,
+    judge: &mut Judge,
+) -> Result<Option<Decision>, NoMemory>
+    requires made { IsOf seat.old board.now × (board.now.mode ≡ Avoid) × (seat.old.view.holds ≡ false) }
+    requires next { next_action seat.old.view ≡ Some (Blocks (aim_at p.0 off)) }
+    requires phaser { p.0 < length board.now.plan.makers }
+    requires room { IsRoomFor board.now cells.old }
+    ensures made { IsOf seat.new board.now × (seat.new.view.holds ≡ false) }
+    ensures room { IsRoomFor board.now cells.new }
+{
+    if try_take(seat, board).is_err() {
+        return Ok(None);
+    }
+    let decision = judge.decide(alloc, seat, board, p, off, cells)?;
+    Ok(Some(decision))
+}
+
 // Whether the await of a task is published on the event.
 fn publishes(
     alloc: Global,
@@ -55,24 +80,16 @@ fn publishes(
     judge: &mut Judge,
     event: Event,
 ) -> Result<bool, NoMemory>
-    requires made { IsOf seat.old board.now }
-    requires avoids { board.now.mode ≡ Avoid }
-    requires phaser { p.0 < length board.now.plan.makers }
+    requires made { IsOf seat.old board.now × (board.now.mode ≡ Avoid) × (seat.old.view.holds ≡ false) }
     requires next { next_action seat.old.view ≡ Some (Blocks (aim_at p.0 off)) }
-    requires free { seat.old.view.holds ≡ false }
-    requires tasks { cells.old.tasks ≡ length board.now.plan.parents }
-    requires phasers { cells.old.phasers ≡ length board.now.plan.makers }
-    ensures made { IsOf seat.new board.now }
-    ensures free { seat.new.view.holds ≡ false }
-    ensures tasks { cells.new.tasks ≡ cells.old.tasks }
-    ensures phasers { cells.new.phasers ≡ cells.old.phasers }
+    requires phaser { p.0 < length board.now.plan.makers }
+    requires room { IsRoomFor board.now cells.old }
+    ensures made { IsOf seat.new board.now × (seat.new.view.holds ≡ false) }
+    ensures room { IsRoomFor board.now cells.new }
 {
-    if try_take(seat, board).is_err() {
-        return Ok(false);
-    }
-    match judge.decide(alloc, seat, board, p, off, cells)? {
-        Decision::Published(made) => Ok(made == event),
-        Decision::Refused(_) => Ok(false),
+    match decision_on(alloc, seat, board, p, off, cells, judge)? {
+        Some(Decision::Published(made)) => Ok(made == event),
+        Some(Decision::Refused(_)) | None => Ok(false),
     }
 }
 
@@ -86,22 +103,16 @@ fn is_refused(
     cells: &mut Cells,
     judge: &mut Judge,
 ) -> Result<bool, NoMemory>
-    requires made { IsOf seat.old board.now }
-    requires avoids { board.now.mode ≡ Avoid }
+    requires made { IsOf seat.old board.now × (board.now.mode ≡ Avoid) × (seat.old.view.holds ≡ false) }
+    requires next { next_action seat.old.view ≡ Some (Blocks (aim_at p.0 off)) }
     requires phaser { p.0 < length board.now.plan.makers }
     requires two { 1 < length board.now.plan.makers }
-    requires next { next_action seat.old.view ≡ Some (Blocks (aim_at p.0 off)) }
-    requires free { seat.old.view.holds ≡ false }
-    requires tasks { cells.old.tasks ≡ length board.now.plan.parents }
-    requires phasers { cells.old.phasers ≡ length board.now.plan.makers }
+    requires room { IsRoomFor board.now cells.old }
     ensures made { IsOf seat.new board.now }
 {
-    if try_take(seat, board).is_err() {
+    let Some(Decision::Refused(cycle)) = decision_on(alloc, seat, board, p, off, cells, judge)?
+    else {
         return Ok(false);
-    }
-    let cycle = match judge.decide(alloc, seat, board, p, off, cells)? {
-        Decision::Published(_) => return Ok(false),
-        Decision::Refused(cycle) => cycle,
     };
     let tasks = cycle.tasks.as_slice() == [ROOT, CHILD].as_slice();
     let events = cycle.events.as_slice() == [FIRST, SECOND].as_slice();

@@ -11,9 +11,9 @@ use crate::walker::{begin, begin_avoiding};
 use crate::walks::{looks, steps};
 use crate::worlds::events;
 use adaptive::Wanted;
-use armus_base::{Dead, Event, NoMemory, Offset, PhaserId};
-use avoider::{Decision, Judge, Judging, avoid_step, try_take};
-use board::{Board, TaskSeat, ViewSeat};
+use armus_base::{Dead, Event, NoMemory};
+use avoider::{Decision, Judge, Judging, avoid_step};
+use board::{Board, ViewSeat};
 use collector::Collector;
 use phase_scan::{Cells, Look};
 use pl_core::{Stand, World};
@@ -66,32 +66,6 @@ fn is_refusal(decision: &Decision) -> bool {
     }
 }
 
-// Whether the await is refused with the task alone as its cycle.
-fn is_refused(
-    alloc: Global,
-    seat: &mut TaskSeat,
-    board: &Board,
-    p: PhaserId,
-    off: Offset,
-    cells: &mut Cells,
-    judging: Judging,
-) -> Result<bool, NoMemory>
-    requires made { IsOf seat.old board.now }
-    requires avoids { board.now.mode ≡ Avoid }
-    requires phaser { p.0 < length board.now.plan.makers }
-    requires next { next_action seat.old.view ≡ Some (Blocks (aim_at p.0 off)) }
-    requires free { seat.old.view.holds ≡ false }
-    requires tasks { cells.old.tasks ≡ length board.now.plan.parents }
-    requires phasers { cells.old.phasers ≡ length board.now.plan.makers }
-{
-    if try_take(seat, board).is_err() {
-        return Ok(false);
-    }
-    let mut judge = Judge::new(judging);
-    let decision = judge.decide(alloc, seat, board, p, off, cells)?;
-    Ok(is_refusal(&decision))
-}
-
 // Whether a task that would wait for itself is refused on a board that avoids deadlock.
 fn is_refused_on_board(alloc: Global, judging: Judging) -> Result<bool, NoMemory> {
     let plan = awaits_ahead(alloc)?;
@@ -101,8 +75,11 @@ fn is_refused_on_board(alloc: Global, judging: Judging) -> Result<bool, NoMemory
         return Ok(false);
     };
     let mut cells = Cells::start(alloc, board.tasks(), board.phasers())?;
-    let refused = is_refused(alloc, &mut seat, &board, p, off, &mut cells, judging)?;
-    Ok(walked && refused)
+    let mut judge = Judge::new(judging);
+    match decisions::decision_on(alloc, &mut seat, &board, p, off, &mut cells, &mut judge)? {
+        Some(decision) => Ok(walked && is_refusal(&decision)),
+        None => Ok(false),
+    }
 }
 
 #[test]

@@ -13,12 +13,10 @@ mod kept;
 mod locks;
 #[cfg(test)]
 mod passes;
-#[cfg(test)]
-mod plans;
+pub mod plans;
 #[cfg(test)]
 mod rounds;
-#[cfg(test)]
-mod walker;
+pub mod walker;
 #[cfg(test)]
 mod walks;
 #[cfg(test)]
