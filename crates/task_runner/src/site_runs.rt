@@ -1,5 +1,6 @@
 // A run on a board whose tasks live on several sites.
 ghost use Rattle.std.specs.Prelude.{◌≡◌, ◌≤◌, ◌<◌, ℕ, List as Seq, All, None, false, IfOk, OnOk, length, replicate};
+ghost use Rattle.armus_base.specs.Limits.{max_tasks};
 ghost use Rattle.armus_base.specs.Statuses.{IsInOrder};
 ghost use Rattle.board.specs.declared.mode.Mode.TheVariants.{Detect};
 ghost use Rattle.board.specs.Seats.{IsNewSeat, IsOf, IsSeat};
@@ -114,7 +115,7 @@ fn put_final<K: Keeper>(
     requires sites { 1 ≤ sites × sites ≤ MAX_SITES }
     requires kept { length (K.rows keeper.old) ≡ sites }
     requires in_order { IsInOrder statuses.now }
-    requires few { length statuses.now ≤ 1024 }
+    requires few { length statuses.now ≤ max_tasks }
     ensures rows { PutsParts sites statuses.now (K.rows keeper.old) (K.rows keeper.new) }
     ensures parts { OnOk result (HoldParts sites (K.rows keeper.new) statuses.now) }
     ensures count { K.faults keeper.new ≡ count_after result (K.faults keeper.old) }

@@ -4,6 +4,7 @@ use Rattle.armus_base.specs.declared.ending.Final.{Final}
 use Rattle.armus_base.specs.declared.status.Status.{Status}
 use Rattle.armus_base.specs.Boards.{IsLawful}
 use Rattle.armus_base.specs.Finals.{statuses_of}
+use Rattle.armus_base.specs.Limits.{max_tasks}
 use Rattle.armus_base.specs.Plans.{Plan}
 use Rattle.armus_base.specs.Runs.{Place}
 use Rattle.armus_base.specs.Statuses.{IsInOrder}
@@ -28,7 +29,7 @@ pub record IsWholeEnd (plan : Plan) (end : Final) (list : List Status) : Type 0 
   pub plain : IsPlainEnd plan end
   pub statuses : list ≡ statuses_of plan plain.state
   pub in_order : IsInOrder list
-  pub few : length list ≤ 1024
+  pub few : length list ≤ max_tasks
   pub places : ℕ → Place
   pub lawful : IsLawful false plan places None
   pub backed : IsBacked plan list places
