@@ -37,6 +37,7 @@ pub mod MaximalExists
 pub mod KnownAreLeastDead
 pub mod LeastLawful
 pub mod PlanGrows
+pub mod CheckedByCodes
 pub mod PhasesFit
 pub mod TwoTasksChecked
 pub mod TwoTasksAvoided

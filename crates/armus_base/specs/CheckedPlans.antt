@@ -59,9 +59,9 @@ pub record IsCheckedPlan (plan : Plan) : Type 0 where
   pub codes : HasCodes plan
   pub limits : IsWithinLimits plan
 
--- the plan with which the unfolding begins: task 0 with no code yet
+-- the plan with which the unfolding begins: task 0 with no code yet, and no pieces
 abbrev pub first_plan : Plan
-first_plan = record { parents = None ∷ []; makers = []; codes = [] ∷ [] }
+first_plan = record { parents = None ∷ []; makers = []; codes = [] ∷ []; pieces = [] }
 
 -- the first list goes on from the second
 abbrev pub Extends : {A : Type 0} → List A → List A → Type 0

@@ -4,7 +4,7 @@ use Rattle.armus_base.specs.declared.ids.PhaserId.{PhaserId}
 use Rattle.armus_base.specs.declared.ids.TaskId.{TaskId}
 use Rattle.armus_base.specs.declared.offset.Offset.TheVariants.{Here}
 use Rattle.armus_base.specs.declared.op.Op.TheVariants.{Make, Reg, Fork, Adv, Drop, Await}
-use Rattle.armus_base.specs.Plans.{Plan, Advances, Blocks, Drops, Makes, Registers, Passes, Refuses, here}
+use Rattle.armus_base.specs.Plans.{Plan, Advances, Blocks, Drops, Makes, Registers, Passes, Refuses, here, straight_plan}
 use Rattle.armus_base.specs.declared.event.Event.{Event}
 use Rattle.armus_base.specs.States.{State, IsLegal}
 use Rattle.armus_base.specs.Places.{phases_at_place}
@@ -23,63 +23,44 @@ phaser p = record { 0 = p }
 -- one phaser; task 1 advances on it, waits and drops it
 abbrev pub steady : Plan
 steady =
-    record {
-      parents = None ∷ Some (record { 0 = 0 }) ∷ [];
-      makers = record { 0 = 0 } ∷ [];
-      codes =
-          (Make (record { 0 = 0 }) ∷ Reg (record { 0 = 1 }) (record { 0 = 0 }) ∷ Fork (record { 0 = 1 }) ∷ [])
-          ∷ (Adv (record { 0 = 0 }) ∷ Await (record { 0 = 0 }) Here ∷ Drop (record { 0 = 0 }) ∷ [])
-          ∷ [];
-    }
+    straight_plan (None ∷ Some (record { 0 = 0 }) ∷ []) (record { 0 = 0 } ∷ [])
+    ((Make (record { 0 = 0 }) ∷ Reg (record { 0 = 1 }) (record { 0 = 0 }) ∷ Fork (record { 0 = 1 }) ∷ [])
+    ∷ (Adv (record { 0 = 0 }) ∷ Await (record { 0 = 0 }) Here ∷ Drop (record { 0 = 0 }) ∷ [])
+    ∷ [])
 
 -- one rule broken: task 0 makes its phasers in falling order
 abbrev pub makes_fall : Plan
 makes_fall =
-    record {
-      parents = None ∷ [];
-      makers = task 0 ∷ task 0 ∷ [];
-      codes = (Make (phaser 1) ∷ Make (phaser 0) ∷ []) ∷ [];
-    }
+    straight_plan (None ∷ []) (task 0 ∷ task 0 ∷ [])
+    ((Make (phaser 1) ∷ Make (phaser 0) ∷ []) ∷ [])
 
 -- one rule broken: nobody makes phaser 0
 abbrev pub unmade_phaser : Plan
-unmade_phaser = record { parents = None ∷ []; makers = task 0 ∷ []; codes = [] ∷ [] }
+unmade_phaser = straight_plan (None ∷ []) (task 0 ∷ []) ([] ∷ [])
 
 -- one rule broken: task 1 is never forked and has a code
 abbrev pub unforked_works : Plan
 unforked_works =
-    record {
-      parents = None ∷ Some (task 0) ∷ [];
-      makers = task 1 ∷ [];
-      codes = [] ∷ (Make (phaser 0) ∷ []) ∷ [];
-    }
+    straight_plan (None ∷ Some (task 0) ∷ []) (task 1 ∷ [])
+    ([] ∷ (Make (phaser 0) ∷ []) ∷ [])
 
 -- one rule broken: task 1 is never forked and draws task 2
 abbrev pub unforked_draws : Plan
 unforked_draws =
-    record {
-      parents = None ∷ Some (task 0) ∷ Some (task 1) ∷ [];
-      makers = [];
-      codes = [] ∷ [] ∷ [] ∷ [];
-    }
+    straight_plan (None ∷ Some (task 0) ∷ Some (task 1) ∷ []) []
+    ([] ∷ [] ∷ [] ∷ [])
 
 -- one rule broken: task 2 is drawn by task 1, and task 3 by task 0
 abbrev pub parents_fall : Plan
 parents_fall =
-    record {
-      parents = None ∷ Some (task 0) ∷ Some (task 1) ∷ Some (task 0) ∷ [];
-      makers = [];
-      codes = (Fork (task 1) ∷ []) ∷ [] ∷ [] ∷ [] ∷ [];
-    }
+    straight_plan (None ∷ Some (task 0) ∷ Some (task 1) ∷ Some (task 0) ∷ []) []
+    ((Fork (task 1) ∷ []) ∷ [] ∷ [] ∷ [] ∷ [])
 
 -- one rule broken: phaser 0 is made by task 1, and phaser 1 by task 0
 abbrev pub makers_fall : Plan
 makers_fall =
-    record {
-      parents = None ∷ Some (task 0) ∷ [];
-      makers = task 1 ∷ task 0 ∷ [];
-      codes = (Fork (task 1) ∷ Make (phaser 1) ∷ []) ∷ (Make (phaser 0) ∷ []) ∷ [];
-    }
+    straight_plan (None ∷ Some (task 0) ∷ []) (task 1 ∷ task 0 ∷ [])
+    ((Fork (task 1) ∷ Make (phaser 1) ∷ []) ∷ (Make (phaser 0) ∷ []) ∷ [])
 
 -- What the definitions exclude. A refusal of a task that would not be dead is made on no board; nobody registers a task or makes a phaser that the
 -- plan does not have; the empty set is not deadlocked; a refused task passes nothing. And on a board that detects deadlock a load that finds task 1

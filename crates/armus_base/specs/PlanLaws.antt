@@ -1,6 +1,7 @@
 -- Laws of plans: a plan stays checked while it is unfolded, and its phases are bounded.
-use Rattle.std.specs.Prelude.{◌≡◌, ℕ, ◌+◌, ◌<◌, ◌≤◌, Some, length, sum_by}
+use Rattle.std.specs.Prelude.{◌≡◌, ℕ, ◌+◌, ◌<◌, ◌≤◌, List, Some, length, sum_by}
 use Rattle.armus_base.specs.declared.event.Event.{Event}
+use Rattle.armus_base.specs.declared.piece.Piece.{Piece}
 use Rattle.armus_base.specs.Limits.{max_offset}
 use Rattle.armus_base.specs.Plans.{Plan, actions, maker_of}
 use Rattle.armus_base.specs.Places.{phases_after, published_after}
@@ -21,6 +22,10 @@ abbrev pub PhasesStayFixed : Type 0
 PhasesStayFixed =
     (plan plan' : Plan) (t k : ℕ) → IsCheckedPlan plan → Grows plan plan' t → HasTables plan' → k ≤ length (actions plan t) →
     phases_after plan' t k ≡ phases_after plan t k
+
+-- a plan stays checked whatever its pieces are: only its codes are looked at
+abbrev pub CheckedByCodes : Type 0
+CheckedByCodes = (plan : Plan) (pieces : List (List Piece)) → IsCheckedPlan plan → IsCheckedPlan (record plan { pieces = pieces })
 
 -- the makers of the phasers are tasks
 abbrev pub MakersAreTasks : Type 0

@@ -1,17 +1,28 @@
 -- Plans: the tasks with their parents and codes, and the phasers with their makers.
-use Rattle.std.specs.Prelude.{◌≡◌, ℕ, List, [], ◌∷◌, Option, Some, unwrap_or, slice_get}
+use Rattle.std.specs.Prelude.{◌≡◌, ℕ, List, [], ◌∷◌, Option, Some, map, unwrap_or, slice_get}
 use Rattle.std.specs.Option.{option_map}
 use Rattle.armus_base.specs.declared.ids.TaskId.{TaskId}
 use Rattle.armus_base.specs.declared.offset.Offset.{Offset}
 use Rattle.armus_base.specs.declared.offset.Offset.TheVariants.{Here}
 use Rattle.armus_base.specs.declared.op.Op.{Op}
 use Rattle.armus_base.specs.declared.op.Op.TheVariants.{Make, Reg, Fork, Adv, Drop, Await}
+use Rattle.armus_base.specs.declared.piece.Piece.{Piece}
+use Rattle.armus_base.specs.Pieces.{straight, unfolded}
 
--- a plan: the parent of each task, the maker of each phaser, and each task's code
+-- a plan: the parent of each task, the maker of each phaser, each task's code, and each task's pieces, which stand for its code
 pub record Plan : Type 0 where
   pub parents : List (Option TaskId)
   pub makers : List TaskId
   pub codes : List (List Op)
+  pub pieces : List (List Piece)
+
+-- the plan whose codes are kept as these pieces
+abbrev pub folded_plan : List (Option TaskId) → List TaskId → List (List Piece) → Plan
+folded_plan parents makers pieces = record { parents = parents; makers = makers; codes = map unfolded pieces; pieces = pieces }
+
+-- the plan of these codes, with one piece for each op
+abbrev pub straight_plan : List (Option TaskId) → List TaskId → List (List Op) → Plan
+straight_plan parents makers codes = record { parents = parents; makers = makers; codes = codes; pieces = map straight codes }
 
 -- what an await aims at: a phaser, and how far from the task's own phase there
 pub record Aim : Type 0 where
@@ -72,6 +83,10 @@ maker_of plan p = number_or_zero (option_map Some (slice_get plan.makers p))
 -- the code of task t
 abbrev pub code_of : Plan → ℕ → List Op
 code_of plan t = unwrap_or (slice_get plan.codes t) []
+
+-- the pieces of task t
+abbrev pub pieces_of : Plan → ℕ → List Piece
+pieces_of plan t = unwrap_or (slice_get plan.pieces t) []
 
 -- the actions of task t, in order
 unfoldable pub actions : Plan → ℕ → List Action

@@ -2,22 +2,18 @@
 use Rattle.std.specs.Prelude.{ℕ, List, [], ◌∷◌, Some, None}
 use Rattle.armus_base.specs.declared.offset.Offset.TheVariants.{Here}
 use Rattle.armus_base.specs.declared.op.Op.TheVariants.{Make, Reg, Fork, Adv, Await}
-use Rattle.armus_base.specs.Plans.{Plan, Action, Makes, Registers, Forks, Advances, Drops, Blocks, Passes, Refuses, here}
+use Rattle.armus_base.specs.Plans.{Plan, Action, Makes, Registers, Forks, Advances, Drops, Blocks, Passes, Refuses, here, straight_plan}
 use Rattle.armus_base.specs.States.{Step}
 use Rattle.armus_base.specs.Boards.{Entry, Does, Takes, Frees, without_lock}
 
 -- two phasers a and b, of both of which both tasks are members; task 0 advances on a and awaits it, task 1 on b
 abbrev pub two_tasks : Plan
 two_tasks =
-    record {
-      parents = None ∷ Some (record { 0 = 0 }) ∷ [];
-      makers = record { 0 = 0 } ∷ record { 0 = 0 } ∷ [];
-      codes =
-          (Make (record { 0 = 0 }) ∷ Make (record { 0 = 1 }) ∷ Reg (record { 0 = 1 }) (record { 0 = 0 })
-          ∷ Reg (record { 0 = 1 }) (record { 0 = 1 }) ∷ Fork (record { 0 = 1 }) ∷ Adv (record { 0 = 0 }) ∷ Await (record { 0 = 0 }) Here ∷ [])
-          ∷ (Adv (record { 0 = 1 }) ∷ Await (record { 0 = 1 }) Here ∷ [])
-          ∷ [];
-    }
+    straight_plan (None ∷ Some (record { 0 = 0 }) ∷ []) (record { 0 = 0 } ∷ record { 0 = 0 } ∷ [])
+    ((Make (record { 0 = 0 }) ∷ Make (record { 0 = 1 }) ∷ Reg (record { 0 = 1 }) (record { 0 = 0 })
+    ∷ Reg (record { 0 = 1 }) (record { 0 = 1 }) ∷ Fork (record { 0 = 1 }) ∷ Adv (record { 0 = 0 }) ∷ Await (record { 0 = 0 }) Here ∷ [])
+    ∷ (Adv (record { 0 = 1 }) ∷ Await (record { 0 = 1 }) Here ∷ [])
+    ∷ [])
 
 -- a step of task t
 abbrev pub does : ℕ → Action → Step

@@ -13,7 +13,7 @@ use Rattle.armus_base.specs.declared.status.Status.{Status}
 use Rattle.armus_base.specs.Deadlocks.{IsDeadIn}
 use Rattle.armus_base.specs.Finals.{final_of}
 use Rattle.armus_base.specs.Offsets.{target}
-use Rattle.armus_base.specs.Plans.{Plan}
+use Rattle.armus_base.specs.Plans.{Plan, straight_plan}
 use Rattle.armus_base.specs.Runs.{IsMaximal, IsPlainRun, state_after}
 use Rattle.armus_base.specs.Serial.{scheduled}
 use Rattle.armus_base.specs.States.{event_at}
@@ -58,13 +58,9 @@ starts t = reg t 0 ∷ reg t 1 ∷ Fork (task t) ∷ []
 -- three workers average, and their parent never leaves their barrier
 abbrev pub averaging : Plan
 averaging =
-    record {
-      parents = None ∷ Some (task 0) ∷ Some (task 0) ∷ Some (task 0) ∷ [];
-      makers = task 0 ∷ task 0 ∷ [];
-      codes =
-          (Make (phaser 0) ∷ Make (phaser 1) ∷ starts 1 ++ starts 2 ++ starts 3 ++ Adv (phaser 1) ∷ Await (phaser 1) Here ∷ [])
-          ∷ worker ∷ worker ∷ worker ∷ [];
-    }
+    straight_plan (None ∷ Some (task 0) ∷ Some (task 0) ∷ Some (task 0) ∷ []) (task 0 ∷ task 0 ∷ [])
+    ((Make (phaser 0) ∷ Make (phaser 1) ∷ starts 1 ++ starts 2 ++ starts 3 ++ Adv (phaser 1) ∷ Await (phaser 1) Here ∷ [])
+    ∷ worker ∷ worker ∷ worker ∷ [])
 
 -- task 0 to where it waits, and then each worker to its first wait
 abbrev pub averaging_schedule : List ℕ
@@ -108,14 +104,10 @@ two_tasks_avoided = record { ends = Done ∷ Refused (event_at 1 1) ∷ []; bloc
 -- three tasks stand on three phasers, and each advances on one of its own and waits there
 abbrev pub three_tasks : Plan
 three_tasks =
-    record {
-      parents = None ∷ Some (task 0) ∷ Some (task 0) ∷ Some (task 0) ∷ [];
-      makers = task 0 ∷ task 0 ∷ task 0 ∷ [];
-      codes =
-          (Make (phaser 0) ∷ Make (phaser 1) ∷ Make (phaser 2) ∷ starts_on_three 1 ++ starts_on_three 2 ++ starts_on_three 3
-          ++ Drop (phaser 0) ∷ Drop (phaser 1) ∷ Drop (phaser 2) ∷ [])
-          ∷ advances_and_waits 0 ∷ advances_and_waits 1 ∷ advances_and_waits 2 ∷ [];
-    }
+    straight_plan (None ∷ Some (task 0) ∷ Some (task 0) ∷ Some (task 0) ∷ []) (task 0 ∷ task 0 ∷ task 0 ∷ [])
+    ((Make (phaser 0) ∷ Make (phaser 1) ∷ Make (phaser 2) ∷ starts_on_three 1 ++ starts_on_three 2 ++ starts_on_three 3
+    ++ Drop (phaser 0) ∷ Drop (phaser 1) ∷ Drop (phaser 2) ∷ [])
+    ∷ advances_and_waits 0 ∷ advances_and_waits 1 ∷ advances_and_waits 2 ∷ [])
 
 -- task 0 to its end, and then each of the three
 abbrev pub three_tasks_schedule : List ℕ
@@ -136,14 +128,10 @@ three_tasks_end =
 -- two tasks wait for each other, and task 0 waits for one of them
 abbrev pub behind_a_cycle : Plan
 behind_a_cycle =
-    record {
-      parents = None ∷ Some (task 0) ∷ Some (task 0) ∷ [];
-      makers = task 0 ∷ task 0 ∷ task 0 ∷ [];
-      codes =
-          (Make (phaser 0) ∷ Make (phaser 1) ∷ Make (phaser 2) ∷ starts_on_three 1 ++ reg 2 0 ∷ reg 2 1 ∷ Fork (task 2)
-          ∷ Drop (phaser 0) ∷ Drop (phaser 1) ∷ Adv (phaser 2) ∷ Await (phaser 2) Here ∷ [])
-          ∷ advances_and_waits 0 ∷ advances_and_waits 1 ∷ [];
-    }
+    straight_plan (None ∷ Some (task 0) ∷ Some (task 0) ∷ []) (task 0 ∷ task 0 ∷ task 0 ∷ [])
+    ((Make (phaser 0) ∷ Make (phaser 1) ∷ Make (phaser 2) ∷ starts_on_three 1 ++ reg 2 0 ∷ reg 2 1 ∷ Fork (task 2)
+    ∷ Drop (phaser 0) ∷ Drop (phaser 1) ∷ Adv (phaser 2) ∷ Await (phaser 2) Here ∷ [])
+    ∷ advances_and_waits 0 ∷ advances_and_waits 1 ∷ [])
 
 -- each task to where it waits
 abbrev pub behind_a_cycle_schedule : List ℕ
@@ -164,11 +152,8 @@ behind_a_cycle_end =
 -- a member that ends without leaving
 abbrev pub ended_member : Plan
 ended_member =
-    record {
-      parents = None ∷ Some (task 0) ∷ [];
-      makers = task 0 ∷ [];
-      codes = (Make (phaser 0) ∷ reg 1 0 ∷ Fork (task 1) ∷ advances_and_waits 0) ∷ [] ∷ [];
-    }
+    straight_plan (None ∷ Some (task 0) ∷ []) (task 0 ∷ [])
+    ((Make (phaser 0) ∷ reg 1 0 ∷ Fork (task 1) ∷ advances_and_waits 0) ∷ [] ∷ [])
 
 -- task 0 to where it waits
 abbrev pub ended_member_schedule : List ℕ
@@ -181,11 +166,8 @@ ended_member_end = record { ends = waits 0 1 ∷ Done ∷ []; blocked = status 0
 -- a member that is never forked
 abbrev pub unforked_member : Plan
 unforked_member =
-    record {
-      parents = None ∷ Some (task 0) ∷ [];
-      makers = task 0 ∷ [];
-      codes = (Make (phaser 0) ∷ reg 1 0 ∷ advances_and_waits 0) ∷ [] ∷ [];
-    }
+    straight_plan (None ∷ Some (task 0) ∷ []) (task 0 ∷ [])
+    ((Make (phaser 0) ∷ reg 1 0 ∷ advances_and_waits 0) ∷ [] ∷ [])
 
 -- task 0 to where it waits
 abbrev pub unforked_member_schedule : List ℕ
@@ -198,11 +180,8 @@ unforked_member_end = record { ends = waits 0 1 ∷ Unforked ∷ []; blocked = s
 -- a task awaits the phase after its own, which no one but itself can bring
 abbrev pub awaits_ahead : Plan
 awaits_ahead =
-    record {
-      parents = None ∷ [];
-      makers = task 0 ∷ [];
-      codes = (Make (phaser 0) ∷ Adv (phaser 0) ∷ Await (phaser 0) (Ahead 1) ∷ []) ∷ [];
-    }
+    straight_plan (None ∷ []) (task 0 ∷ [])
+    ((Make (phaser 0) ∷ Adv (phaser 0) ∷ Await (phaser 0) (Ahead 1) ∷ []) ∷ [])
 
 -- the task to where it waits
 abbrev pub awaits_ahead_schedule : List ℕ
@@ -215,12 +194,8 @@ awaits_ahead_end = record { ends = waits 0 2 ∷ []; blocked = status 0 0 2 (at 
 -- a task at phase 3 awaits the phase before its own; a member at phase 1 keeps it waiting
 abbrev pub looks_back : Plan
 looks_back =
-    record {
-      parents = None ∷ Some (task 0) ∷ [];
-      makers = task 0 ∷ [];
-      codes =
-          (Make (phaser 0) ∷ Adv (phaser 0) ∷ reg 1 0 ∷ Adv (phaser 0) ∷ Adv (phaser 0) ∷ Await (phaser 0) (Back 1) ∷ []) ∷ [] ∷ [];
-    }
+    straight_plan (None ∷ Some (task 0) ∷ []) (task 0 ∷ [])
+    ((Make (phaser 0) ∷ Adv (phaser 0) ∷ reg 1 0 ∷ Adv (phaser 0) ∷ Adv (phaser 0) ∷ Await (phaser 0) (Back 1) ∷ []) ∷ [] ∷ [])
 
 -- task 0 to where it waits
 abbrev pub looks_back_schedule : List ℕ

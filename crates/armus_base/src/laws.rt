@@ -17,7 +17,7 @@ pub use pieces::{
     worked_pieces,
 };
 pub use places::{lawful_places, lock_excludes, reachable_places};
-pub use plans::{phases_fit, plan_grows};
+pub use plans::{checked_by_codes, phases_fit, plan_grows};
 pub use runs::{next_is_legal, one_end, places_fix_state, reached_stays, serial_is_avoided};
 pub use seats::{least_state, scanned_stays, seen_is_before, seen_keeps_far};
 pub use texts::{

@@ -27,12 +27,13 @@ pub use errors::{Failed, NoMemory, ReadEnd, WriteFault};
 pub use event::Event;
 pub use ids::{Phase, PhaserId, TaskId};
 pub use laws::{
-    collected_is_dead, dead_stays, exclusions, final_is_of_state, folded_stand_for, lawful_places,
-    least_state, list_decides, lock_excludes, next_is_legal, nobody_is_dead, one_end,
-    only_blocks_kill, phases_fit, places_fix_state, plan_grows, reachable_places, reached_stays,
-    scanned_stays, seen_is_before, seen_keeps_far, serial_is_avoided, statuses_are_of_state,
-    unfolded_append, unfolded_straight, whole_append, whole_by_places, worked_avoided_run,
-    worked_decisions, worked_loads, worked_offsets, worked_pieces, worked_texts,
+    checked_by_codes, collected_is_dead, dead_stays, exclusions, final_is_of_state,
+    folded_stand_for, lawful_places, least_state, list_decides, lock_excludes, next_is_legal,
+    nobody_is_dead, one_end, only_blocks_kill, phases_fit, places_fix_state, plan_grows,
+    reachable_places, reached_stays, scanned_stays, seen_is_before, seen_keeps_far,
+    serial_is_avoided, statuses_are_of_state, unfolded_append, unfolded_straight, whole_append,
+    whole_by_places, worked_avoided_run, worked_decisions, worked_loads, worked_offsets,
+    worked_pieces, worked_texts,
 };
 pub use list::List;
 pub use memory::{MemSink, MemSource, SafeSource};

@@ -1,9 +1,10 @@
 // Plans: what runs.
 ghost use Rattle.std.specs.Prelude.{◌≡◌, ◌<◌, ◌↔◌, None, Some, length, slice_get, sum_by};
-ghost use Rattle.armus_base.specs.Plans.{code_of};
+ghost use Rattle.armus_base.specs.Pieces.{IsFolded, unfolded};
+ghost use Rattle.armus_base.specs.Plans.{code_of, folded_plan, pieces_of};
 ghost use Rattle.armus_base.specs.CheckedPlans.{IsCheckedPlan};
 
-use crate::{Code, List, Op, PhaserId, TaskId};
+use crate::{Code, Cursor, List, PhaserId, Piece, TaskId};
 use std::marker::Model;
 
 /// The most tasks that a plan may have, task 0 counted.
@@ -18,7 +19,8 @@ pub const MAX_OPS: u32 = 262_144;
 /// The most phases that an await may look back or ahead: the greatest number of a text.
 pub const MAX_OFFSET: u32 = 65_535;
 
-/// A checked plan: the parent of each task, the maker of each phaser, and each task's code. Nothing in it depends on a schedule (this project's own).
+/// A checked plan: the parent of each task, the maker of each phaser, and each task's code, which is kept folded. Contracts see both the codes and
+/// their pieces. Nothing in it depends on a schedule (this project's own).
 #[derive(Drop)]
 pub struct Plan {
     parents: List<Option<TaskId>>,
@@ -27,25 +29,25 @@ pub struct Plan {
 }
 
 impl Model for Plan {
-    ghost use Rattle.armus_base.specs.Plans.{Plan as PlanValue};
+    ghost use Rattle.armus_base.specs.Plans.{Plan as PlanValue, folded_plan};
     ghost use Rattle.armus_base.specs.CheckedPlans.{IsCheckedPlan};
 
     ghost Value = { PlanValue };
 
-    ghost view = { λ p. record { parents = p.parents; makers = p.makers; codes = p.codes } };
+    ghost view = { λ p. folded_plan p.parents p.makers p.codes };
 
-    ghost invariant = { λ p. IsCheckedPlan (record { parents = p.parents; makers = p.makers; codes = p.codes }) };
+    ghost invariant = { λ p. IsCheckedPlan (folded_plan p.parents p.makers p.codes) };
 }
 
 impl Plan {
-    /// The plan with these parts.
+    /// The plan with these parts; it takes no memory.
     pub fn from_parts(
         parents: List<Option<TaskId>>,
         makers: List<TaskId>,
         codes: List<Code>,
     ) -> Plan
-        requires checked { IsCheckedPlan (record { parents = parents; makers = makers; codes = codes }) }
-        ensures parts { result ≡ record { parents = parents; makers = makers; codes = codes } }
+        requires checked { IsCheckedPlan (folded_plan parents makers codes) }
+        ensures parts { result ≡ folded_plan parents makers codes }
     {
         Plan {
             parents,
@@ -77,7 +79,7 @@ impl Plan {
     {
         let mut ops = 0;
         for code in self.codes.as_slice() {
-            ops += code.as_slice().len();
+            ops += code.ops();
         }
         ops as u32
     }
@@ -99,11 +101,21 @@ impl Plan {
         self.makers.as_slice()[p.0 as usize]
     }
 
-    /// The ops of `t`, in order.
-    pub fn code(&self, t: TaskId) -> &[Op]
+    /// The pieces of `t`, which are folded and stand for its ops.
+    pub fn pieces(&self, t: TaskId) -> &[Piece]
         requires task { t.0 < length self.now.parents }
-        ensures code { result.now ≡ code_of self.now t.0 }
+        ensures pieces { result.now ≡ pieces_of self.now t.0 }
+        ensures folded { IsFolded result.now }
+        ensures stands { unfolded result.now ≡ code_of self.now t.0 }
     {
-        self.codes.as_slice()[t.0 as usize].as_slice()
+        self.codes.as_slice()[t.0 as usize].pieces()
+    }
+
+    /// A cursor at the first op of `t`; it takes no memory.
+    pub fn cursor(&self, t: TaskId) -> Cursor<'_>
+        requires task { t.0 < length self.now.parents }
+        ensures code { result ≡ code_of self.now t.0 }
+    {
+        Cursor::start(self.pieces(t))
     }
 }

@@ -151,7 +151,7 @@ both v w =
 abbrev pub spent_view : View
 spent_view =
     record {
-      plan = record { parents = []; makers = []; codes = [] };
+      plan = record { parents = []; makers = []; codes = []; pieces = [] };
       mode = Detect;
       own = None;
       sight = record { places = []; exact = []; scanned = 0; found = [] };

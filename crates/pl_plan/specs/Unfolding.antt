@@ -308,7 +308,7 @@ unfold_tasks two (suc n) t s = unfold_task two t (slice_index_or s.starts t None
 -- before the first visit: task 0 alone, with the whole program
 abbrev pub opening_state : Tree → UnfoldingState
 opening_state p = record {
-  plan = record { parents = None ∷ []; makers = []; codes = [] ∷ [] };
+  plan = record { parents = None ∷ []; makers = []; codes = [] ∷ []; pieces = [] };
   starts = Some (record { body = p; first = 1; names = λ _. None }) ∷ [];
   members = λ _ _. false;
   names = λ _. None;

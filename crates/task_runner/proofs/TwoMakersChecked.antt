@@ -3,17 +3,14 @@ use Rattle.std.proofs.Common.{◌≡◌, ℕ, zero, suc, ◌<◌, ◌≤◌, [],
 use Rattle.std.specs.Prelude.{slice_get}
 use Rattle.armus_base.specs.declared.ids.TaskId.{TaskId}
 use Rattle.armus_base.specs.declared.op.Op.TheVariants.{Fork, Make}
-use Rattle.armus_base.specs.Plans.{Plan, Action, Forks, Makes, action_at, actions, maker_of, parent_of}
+use Rattle.armus_base.specs.Plans.{Plan, Action, Forks, Makes, action_at, actions, maker_of, parent_of, straight_plan}
 use Rattle.armus_base.specs.Places.{first_phases, phases_after}
 use Rattle.armus_base.specs.CheckedPlans.{HasFork, IsCheckedPlan, IsWellFormed, NotBefore}
 
 abbrev pub two_makers : Plan
 two_makers =
-    record {
-      parents = None ∷ Some (record { 0 = 0 }) ∷ Some (record { 0 = 0 }) ∷ [];
-      makers = record { 0 = 1 } ∷ record { 0 = 2 } ∷ [];
-      codes = (Fork (record { 0 = 1 }) ∷ Fork (record { 0 = 2 }) ∷ []) ∷ (Make (record { 0 = 0 }) ∷ []) ∷ (Make (record { 0 = 1 }) ∷ []) ∷ [];
-    }
+    straight_plan (None ∷ Some (record { 0 = 0 }) ∷ Some (record { 0 = 0 }) ∷ []) (record { 0 = 1 } ∷ record { 0 = 2 } ∷ [])
+    ((Fork (record { 0 = 1 }) ∷ Fork (record { 0 = 2 }) ∷ []) ∷ (Make (record { 0 = 0 }) ∷ []) ∷ (Make (record { 0 = 1 }) ∷ []) ∷ [])
 
 none_before : (t : ℕ) (x : Action) → NotBefore two_makers t 0 x
 none_before t x j l e = absurd (omega arith)
