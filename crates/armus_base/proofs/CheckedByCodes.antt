@@ -58,5 +58,5 @@ pub checked_by_codes : CheckedByCodes
 checked_by_codes plan pieces checked = record {
   tables = still_has_tables plan pieces checked.tables;
   codes = still_has_codes plan pieces checked.codes;
-  limits = record { few_tasks = checked.limits.few_tasks; few_phasers = checked.limits.few_phasers; few_ops = checked.limits.few_ops };
+  limits = record { few_tasks = checked.limits.few_tasks; few_phasers = checked.limits.few_phasers; few_ops = checked.limits.few_ops; few_cells = checked.limits.few_cells };
 }

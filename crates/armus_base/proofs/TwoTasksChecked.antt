@@ -163,5 +163,5 @@ two_tasks_checked =
             works = second_is_forked;
             draws = first_draws;
           };
-      limits = record { few_tasks = omega arith; few_phasers = omega arith; few_ops = omega arith };
+      limits = record { few_tasks = omega arith; few_phasers = omega arith; few_ops = omega arith; few_cells = omega arith };
     }

@@ -1,8 +1,8 @@
 -- Checked plans: what every plan is to which a text unfolds. (There are more: forks in one another, 70 deep, are a checked plan of no text.)
-use Rattle.std.specs.Prelude.{◌≡◌, ◌≢◌, ℕ, ◌<◌, ◌≤◌, List, [], ◌∷◌, ◌++◌, Some, None, length, slice_get, sum_by}
+use Rattle.std.specs.Prelude.{◌≡◌, ◌≢◌, ℕ, ◌+◌, ◌*◌, ◌<◌, ◌≤◌, List, [], ◌∷◌, ◌++◌, Some, None, length, slice_get, sum_by}
 use Rattle.armus_base.specs.declared.ids.TaskId.{TaskId}
 use Rattle.armus_base.specs.Offsets.{IsNear}
-use Rattle.armus_base.specs.Limits.{max_tasks, max_phasers, max_ops}
+use Rattle.armus_base.specs.Limits.{max_tasks, max_phasers, max_ops, max_cells}
 use Rattle.armus_base.specs.Plans.{Plan, Action, Makes, Registers, Forks, Advances, Drops, Blocks, IsParentOf, IsMakerOf, parent_of, maker_of, actions, action_at}
 use Rattle.armus_base.specs.Places.{phases_after}
 
@@ -47,11 +47,12 @@ pub record HasCodes (plan : Plan) : Type 0 where
   pub works : (t k : ℕ) (x : Action) → 0 < t → action_at plan t k ≡ Some x → HasFork plan t
   pub draws : (c : ℕ) → 0 < c → c < length plan.parents → 0 < parent_of plan c → HasFork plan (parent_of plan c)
 
--- no more tasks, phasers and ops than a plan may have
+-- no more tasks, phasers and ops than a plan may have, and no more words on its board
 pub record IsWithinLimits (plan : Plan) : Type 0 where
   pub few_tasks : length plan.parents ≤ max_tasks
   pub few_phasers : length plan.makers ≤ max_phasers
   pub few_ops : sum_by length plan.codes ≤ max_ops
+  pub few_cells : length plan.parents * (length plan.makers + 1) ≤ max_cells
 
 -- a checked plan
 pub record IsCheckedPlan (plan : Plan) : Type 0 where

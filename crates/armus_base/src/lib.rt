@@ -41,7 +41,7 @@ pub use offset::Offset;
 pub use op::Op;
 pub use outside::{Gate, Point, Sink, Source, Still};
 pub use piece::{MAX_OPEN_REPEATS, MAX_TURNS, Piece};
-pub use plan::{MAX_OFFSET, MAX_OPS, MAX_PHASERS, MAX_TASKS, Plan};
+pub use plan::{MAX_CELLS, MAX_OFFSET, MAX_OPS, MAX_PHASERS, MAX_TASKS, Plan};
 pub use read::read_all;
 pub use standard::{StdSink, StdSource};
 pub use status::{Dead, Member, Status};

@@ -8,13 +8,16 @@ use crate::{Code, Cursor, List, PhaserId, Piece, TaskId};
 use std::marker::Model;
 
 /// The most tasks that a plan may have, task 0 counted.
-pub const MAX_TASKS: u32 = 1024;
+pub const MAX_TASKS: u32 = 4096;
 
 /// The most phasers that a plan may have.
-pub const MAX_PHASERS: u32 = 256;
+pub const MAX_PHASERS: u32 = 1024;
 
 /// The most ops that the codes of a plan may have together.
-pub const MAX_OPS: u32 = 262_144;
+pub const MAX_OPS: u32 = 1_048_576;
+
+/// The most that the tasks of a plan times one more than its phasers may be: a board has a word for each task and one for each task on each phaser.
+pub const MAX_CELLS: u32 = 1_048_576;
 
 /// The most phases that an await may look back or ahead: the greatest number of a text.
 pub const MAX_OFFSET: u32 = 65_535;
