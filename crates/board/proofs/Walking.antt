@@ -1,6 +1,6 @@
 -- What the steps of a task's seat make of what is left of the task's code.
 use Rattle.std.proofs.Common.{◌≡◌, ◌≢◌, ℕ, zero, suc, List, [], ◌∷◌, Option, Some, None, drop, sym, refl, ap, ◌∙◌, subst, false}
-use Rattle.std.specs.Prelude.{IsSome, is_some, slice_get, unwrap_or}
+use Rattle.std.specs.Prelude.{IfNone, IfSome, IsSome, is_some, slice_get, unwrap_or}
 use Rattle.std.proofs.lemmas.Bool.{false≢true}
 use Rattle.armus_base.specs.declared.event.Event.{Event}
 use Rattle.armus_base.specs.declared.op.Op.{Op}
@@ -14,8 +14,8 @@ use Rattle.armus_base.specs.Seats.{SeenBy, own_event, seen_after_step, seen_by_c
 use Rattle.armus_base.proofs.Codes.{awaited_is, awaited_some, child_within, phaser_within}
 use Rattle.armus_base.proofs.Steps.{updated_same}
 use Rattle.board.specs.Views.{action_after, next_action, own_place, seen, task_of}
-use Rattle.board.specs.Seats.{Frame, aim_at, IsNewSeat, IsOf, IsSeat, Known, MakesStep, event_of, nothing_seen}
-use Rattle.board.specs.inside.Walking.{HasBegun, IsActionOfPlan, begins, left_of}
+use Rattle.board.specs.Seats.{Frame, aim_at, IsNewSeat, IsSeat, Known, MakesStep, event_of, nothing_seen}
+use Rattle.board.specs.inside.Walking.{HasLeft, IsActionOfPlan, begins, left_of}
 use Rattle.board.specs.Steps.{IsSameSeat, WasSo}
 use Rattle.board.proofs.Ranges.{phaser_of_member}
 use Rattle.board.proofs.Loaded.{event_stays, own_stays}
@@ -49,11 +49,6 @@ rest_left [] zero x ys e = absurd (cc)
 rest_left [] (suc k) x ys e = absurd (cc)
 rest_left (z ∷ zs) zero x ys e = cc
 rest_left (z ∷ zs) (suc k) x ys e = rest_left zs k x ys e
-
-pub op_left : (ops : List Op) (k : ℕ) (op : Op) → slice_get ops k ≡ Some op → drop k ops ≡ op ∷ drop (suc k) ops
-op_left [] k op e = absurd (cc)
-op_left (z ∷ zs) zero op e = cc
-op_left (z ∷ zs) (suc k) op e = op_left zs k op e
 
 -- it is the next action of the seat
 pub next_is :
@@ -117,36 +112,33 @@ has_stepped k m t x xs own free unrefused left n step =
     done : (own_place m.view).done ≡ suc (own_place k.view).done
     done = ap (λ (b : Place). b.done) place ∙ place_made (own_place k.view).done (own_place k.view).dropped x unrefused n
 
--- so many ops are begun then, after all steps but a block
-pub begun_then :
-    (k m : Known) (x : Action) (begun : ℕ) → HasStepped k m x (actions_of (drop begun (code_of k.view.plan (task_of k.view)))) → ((aim : Aim) → x ≢ Blocks aim) → HasBegun begun m
-begun_then k m x begun s n =
+-- these ops are left then, after all steps but a block
+pub left_then : (k m : Known) (x : Action) (ops : List Op) → HasStepped k m x (actions_of ops) → ((aim : Aim) → x ≢ Blocks aim) → HasLeft ops m
+left_then k m x ops s n =
     record {
       free = s.free;
       unrefused = s.unrefused;
-      left = s.left ∙ sym (λ i. left_of (none i) (drop begun (code_of (s.plan i) (s.task i))));
+      left = s.left ∙ sym (ap (λ o. left_of o ops) none);
     }
   where
     none : event_of m ≡ None
     none = s.event ∙ not_awaited x (phases_after k.view.plan (task_of k.view) (own_place k.view).done) n
 
 -- and after a block, whose pass is left
-pub begun_published :
-    (k m : Known) (aim : Aim) (begun : ℕ) (e : Event) →
-    HasStepped k m (Blocks aim) (Passes aim.phaser ∷ actions_of (drop begun (code_of k.view.plan (task_of k.view)))) → event_of m ≡ Some e →
-    e.p.0 ≡ aim.phaser → HasBegun begun m
-begun_published k m aim begun e s is here =
+pub left_published :
+    (k m : Known) (aim : Aim) (ops : List Op) (e : Event) → HasStepped k m (Blocks aim) (Passes aim.phaser ∷ actions_of ops) → event_of m ≡ Some e →
+    e.p.0 ≡ aim.phaser → HasLeft ops m
+left_published k m aim ops e s is here =
     record {
       free = s.free;
       unrefused = s.unrefused;
-      left = s.left ∙ sym ((λ i. left_of (is i) (drop begun (code_of (s.plan i) (s.task i)))) ∙
-          ap (λ q. Passes q ∷ actions_of (drop begun (code_of k.view.plan (task_of k.view)))) here);
+      left = s.left ∙ sym (ap (λ o. left_of o ops) is ∙ ap (λ q. Passes q ∷ actions_of ops) here);
     }
 
--- and before the first step
-pub begun_none : (k : Known) → own_place k.view ≡ first_place → k.view.holds ≡ false → HasBegun 0 k
+-- and before the first step the whole code
+all_left : (k : Known) → own_place k.view ≡ first_place → k.view.holds ≡ false → HasLeft (code_of k.view.plan (task_of k.view)) k
 unfolding actions
-begun_none k first free =
+all_left k first free =
     record {
       free = free;
       unrefused = ap (λ (b : Place). b.dropped) first;
@@ -157,35 +149,43 @@ begun_none k first free =
     none None own = ap (λ o. own_event k.view.plan o (seen k.view)) own
     none (Some t) own = event_here k t own ∙ ap (λ (b : Place). published_after k.view.plan (task_of k.view) b.done) first
 
--- the seat of a task that has published nothing, and whose code goes on with this op
-pub record IsBefore (begun : ℕ) (op : Op) (k : Known) : Type 0 where
+pub left_at_first :
+    (k : Known) (t : ℕ) (plan : Plan) (ops : List Op) → k.view.own ≡ Some t → k.view.plan ≡ plan → ops ≡ code_of plan t → own_place k.view ≡ first_place →
+    k.view.holds ≡ false → HasLeft ops k
+left_at_first k t plan ops own plan_is all first free =
+    subst (λ xs. HasLeft xs k) ((λ i. code_of (plan_is i) (ap (λ o. unwrap_or o 0) own i)) ∙ sym all) (all_left k first free)
+
+-- the seat of a task that has published nothing, and to which this op and these behind it are left
+pub record IsBefore (op : Op) (rest : List Op) (k : Known) : Type 0 where
   pub seat : IsSeat k
   pub own : k.view.own ≡ Some (task_of k.view)
-  pub begun_so : HasBegun begun k
+  pub left : HasLeft (op ∷ rest) k
   pub idle : event_of k ≡ None
-  pub op_is : slice_get (code_of k.view.plan (task_of k.view)) begun ≡ Some op
+
+-- what is left where this op is the next one
+pub next_left : (ops : List Op) (op : Op) → slice_get ops 0 ≡ Some op → ops ≡ op ∷ drop 1 ops
+next_left [] op e = absurd (cc)
+next_left (x ∷ ops) op e = cc
+
+-- and what is left behind it
+pub left_behind : (r : Option Op) (old new : List Op) → IfSome r (λ op. old ≡ op ∷ new) → IfNone r ((old ≡ []) × (new ≡ [])) → new ≡ drop 1 old
+left_behind None old new some none = none.1 ∙ sym (ap (drop 1) none.0)
+left_behind (Some op) old new some none = sym (ap (drop 1) some)
 
 pub is_before :
-    (k now : Known) (f : Frame) (plan : Plan) (t begun : ℕ) (code : List Op) (o : Option Event) (r : Option Op) (op : Op) → k ≡ now → IsOf now f → f.plan ≡ plan →
-    HasBegun begun k → k.view.own ≡ Some t → IsSeat k → is_some o ≡ false → o ≡ event_of now → code ≡ code_of plan t → r ≡ slice_get code begun → r ≡ Some op → IsBefore begun op k
-is_before k now f plan t begun code o r op same of plan_is begun_so own seat idle event code_is read is =
+    (k now : Known) (t : ℕ) (ops rest : List Op) (o : Option Event) (op : Op) → k ≡ now → HasLeft ops k → k.view.own ≡ Some t → IsSeat k → is_some o ≡ false →
+    o ≡ event_of now → ops ≡ op ∷ rest → IsBefore op rest k
+is_before k now t ops rest o op same left own seat idle event is =
     record {
       seat = seat;
-      own = own ∙ ap Some (sym task);
-      begun_so = begun_so;
+      own = own ∙ ap Some (sym (ap (λ o. unwrap_or o 0) own));
+      left = subst (λ xs. HasLeft xs k) is left;
       idle = ap event_of same ∙ sym event ∙ none o idle;
-      op_is = (λ i. slice_get (code_of (plan_same i) (task i)) begun) ∙ ap (λ ops. slice_get ops begun) (sym code_is) ∙ sym read ∙ is;
     }
   where
     none : (o : Option Event) → is_some o ≡ false → o ≡ None
     none None e = refl
     none (Some e) h = absurd (false≢true (sym h))
-
-    task : task_of k.view ≡ t
-    task = ap (λ o. unwrap_or o 0) own
-
-    plan_same : k.view.plan ≡ plan
-    plan_same = ap (λ (m : Known). m.view.plan) same ∙ of.plan ∙ plan_is
 
 -- the actions that an op has after its first
 abbrev goes_on : Op → List Action → List Action
@@ -200,25 +200,24 @@ first_of (Adv p) ops = refl
 first_of (Drop p) ops = refl
 first_of (Await p off) ops = refl
 
-module _ (begun : ℕ) (op : Op) (k : Known) (b : IsBefore begun op k) where
-  left_now :
-      drop (own_place k.view).done (actions k.view.plan (task_of k.view))
-      ≡ begins op ∷ goes_on op (actions_of (drop (suc begun) (code_of k.view.plan (task_of k.view))))
-  left_now =
-      b.begun_so.left ∙ ap (λ o. left_of o (drop begun (code_of k.view.plan (task_of k.view)))) b.idle
-      ∙ ap actions_of (op_left (code_of k.view.plan (task_of k.view)) begun op b.op_is)
-      ∙ first_of op (drop (suc begun) (code_of k.view.plan (task_of k.view)))
+module _ (op : Op) (rest : List Op) (k : Known) (b : IsBefore op rest k) where
+  left_now : drop (own_place k.view).done (actions k.view.plan (task_of k.view)) ≡ begins op ∷ goes_on op (actions_of rest)
+  left_now = b.left.left ∙ ap (λ o. left_of o (op ∷ rest)) b.idle ∙ first_of op rest
 
   pub before_next : next_action k.view ≡ Some (begins op)
-  before_next = next_is k (begins op) (goes_on op (actions_of (drop (suc begun) (code_of k.view.plan (task_of k.view))))) b.begun_so.unrefused left_now
+  before_next = next_is k (begins op) (goes_on op (actions_of rest)) b.left.unrefused left_now
 
   pub before_of_plan : (plan : Plan) → k.view.plan ≡ plan → IsActionOfPlan plan (begins op)
   before_of_plan plan same = subst (λ q. IsActionOfPlan q (begins op)) same (next_of_plan k (begins op) b.seat before_next)
 
--- after that step the op is begun
-pub begins_next : (begun : ℕ) (op : Op) (k m : Known) → IsBefore begun op k → MakesStep (begins op) k m → HasBegun (suc begun) m
-begins_next begun op k m b step = by_op op refl (has_stepped k m (task_of k.view) (begins op) _ b.own b.begun_so.free b.begun_so.unrefused
-    (left_now begun op k b) (no_refuse op) step)
+-- the step with which an op begins leaves what is left of the op, and the ops behind it
+abbrev HasBegunOp : List Op → Known → Known → Op → Type 0
+HasBegunOp rest k m op = HasStepped k m (begins op) (goes_on op (actions_of rest))
+
+-- after that step the ops behind it are left
+pub left_begun : (op : Op) (rest : List Op) (k m : Known) → IsBefore op rest k → MakesStep (begins op) k m → HasLeft rest m
+left_begun op rest k m b step =
+    by_op op refl (has_stepped k m (task_of k.view) (begins op) _ b.own b.left.free b.left.unrefused (left_now op rest k b) (no_refuse op) step)
   where
     no_refuse : (op : Op) (aim : Aim) → begins op ≢ Refuses aim
     no_refuse (Make q) p e = cc
@@ -231,50 +230,42 @@ begins_next begun op k m b step = by_op op refl (has_stepped k m (task_of k.view
     member : (aim : Aim) → next_action k.view ≡ Some (Blocks aim) → (n : ℕ) × (phases_after k.view.plan (task_of k.view) (own_place k.view).done aim.phaser ≡ Some n)
     member aim next = (b.seat.checked.codes.well_formed (task_of k.view) (own_place k.view).done (Blocks aim) (next_there k.view (Blocks aim) next).1).0
 
-    by_op : (o : Op) → op ≡ o → HasStepped k m (begins op) (goes_on op (actions_of (drop (suc begun) (code_of k.view.plan (task_of k.view))))) → HasBegun (suc begun) m
-    by_op (Make p) is s = begun_then k m (Makes p.0) (suc begun)
-        (subst (λ o. HasStepped k m (begins o) (goes_on o (actions_of (drop (suc begun) (code_of k.view.plan (task_of k.view)))))) is s) (λ q e. cc)
-    by_op (Reg c p) is s = begun_then k m (Registers c.0 p.0) (suc begun)
-        (subst (λ o. HasStepped k m (begins o) (goes_on o (actions_of (drop (suc begun) (code_of k.view.plan (task_of k.view)))))) is s) (λ q e. cc)
-    by_op (Fork c) is s = begun_then k m (Forks c.0) (suc begun)
-        (subst (λ o. HasStepped k m (begins o) (goes_on o (actions_of (drop (suc begun) (code_of k.view.plan (task_of k.view)))))) is s) (λ q e. cc)
-    by_op (Adv p) is s = begun_then k m (Advances p.0) (suc begun)
-        (subst (λ o. HasStepped k m (begins o) (goes_on o (actions_of (drop (suc begun) (code_of k.view.plan (task_of k.view)))))) is s) (λ q e. cc)
-    by_op (Drop p) is s = begun_then k m (Drops p.0) (suc begun)
-        (subst (λ o. HasStepped k m (begins o) (goes_on o (actions_of (drop (suc begun) (code_of k.view.plan (task_of k.view)))))) is s) (λ q e. cc)
+    by_op : (o : Op) → op ≡ o → HasBegunOp rest k m op → HasLeft rest m
+    by_op (Make p) is s = left_then k m (Makes p.0) rest (subst (HasBegunOp rest k m) is s) (λ q e. cc)
+    by_op (Reg c p) is s = left_then k m (Registers c.0 p.0) rest (subst (HasBegunOp rest k m) is s) (λ q e. cc)
+    by_op (Fork c) is s = left_then k m (Forks c.0) rest (subst (HasBegunOp rest k m) is s) (λ q e. cc)
+    by_op (Adv p) is s = left_then k m (Advances p.0) rest (subst (HasBegunOp rest k m) is s) (λ q e. cc)
+    by_op (Drop p) is s = left_then k m (Drops p.0) rest (subst (HasBegunOp rest k m) is s) (λ q e. cc)
     by_op (Await p off) is s =
         let phases : Phases = phases_after k.view.plan (task_of k.view) (own_place k.view).done in
-        let found = awaited_some (aim_at p.0 off) phases (member (aim_at p.0 off) (before_next begun op k b ∙ ap (λ o. Some (begins o)) is)) in
-        let t : HasStepped k m (Blocks (aim_at p.0 off)) (Passes p.0 ∷ actions_of (drop (suc begun) (code_of k.view.plan (task_of k.view)))) =
-        subst (λ o. HasStepped k m (begins o) (goes_on o (actions_of (drop (suc begun) (code_of k.view.plan (task_of k.view)))))) is s in
-        begun_published k m (aim_at p.0 off) (suc begun) found.0 t (t.event ∙ found.1) (awaited_is (aim_at p.0 off) phases found.0 found.1).0
+        let found = awaited_some (aim_at p.0 off) phases (member (aim_at p.0 off) (before_next op rest k b ∙ ap (λ o. Some (begins o)) is)) in
+        let t : HasStepped k m (Blocks (aim_at p.0 off)) (Passes p.0 ∷ actions_of rest) = subst (HasBegunOp rest k m) is s in
+        left_published k m (aim_at p.0 off) rest found.0 t (t.event ∙ found.1) (awaited_is (aim_at p.0 off) phases found.0 found.1).0
 
 -- a task that is published passes next
-pub passes_next : (begun : ℕ) (k : Known) (e : Event) → HasBegun begun k → event_of k ≡ Some e → next_action k.view ≡ Some (Passes e.p.0)
-passes_next begun k e b is =
-    next_is k (Passes e.p.0) (actions_of (drop begun (code_of k.view.plan (task_of k.view)))) b.unrefused
-    (b.left ∙ ap (λ o. left_of o (drop begun (code_of k.view.plan (task_of k.view)))) is)
+pub passes_next : (ops : List Op) (k : Known) (e : Event) → HasLeft ops k → event_of k ≡ Some e → next_action k.view ≡ Some (Passes e.p.0)
+passes_next ops k e b is = next_is k (Passes e.p.0) (actions_of ops) b.unrefused (b.left ∙ ap (λ o. left_of o ops) is)
 
-pub begun_passed : (begun : ℕ) (k m : Known) (e : Event) (t : ℕ) → k.view.own ≡ Some t → HasBegun begun k → event_of k ≡ Some e → MakesStep (Passes e.p.0) k m → HasBegun begun m
-begun_passed begun k m e t own b is step =
-    begun_then k m (Passes e.p.0) begun
-    (has_stepped k m t (Passes e.p.0) (actions_of (drop begun (code_of k.view.plan (task_of k.view)))) own b.free b.unrefused
-    (b.left ∙ ap (λ o. left_of o (drop begun (code_of k.view.plan (task_of k.view)))) is) (λ p h. cc) step) (λ p h. cc)
+-- and then the same ops are left
+pub left_passed : (ops : List Op) (k m : Known) (e : Event) (t : ℕ) → k.view.own ≡ Some t → HasLeft ops k → event_of k ≡ Some e → MakesStep (Passes e.p.0) k m → HasLeft ops m
+left_passed ops k m e t own b is step =
+    left_then k m (Passes e.p.0) ops
+    (has_stepped k m t (Passes e.p.0) (actions_of ops) own b.free b.unrefused (b.left ∙ ap (λ o. left_of o ops) is) (λ p h. cc) step) (λ p h. cc)
 
 -- the event of a published task
 pub published_is : (o : Option Event) → IsSome o → (e : Event) × (o ≡ Some e)
 published_is None h = absurd (false≢true h)
 published_is (Some e) h = (e, refl)
 
--- no own step, and so nothing begun, by a load
-pub begun_loaded :
-    (begun : ℕ) (k m : Known) (t : ℕ) (Holds : State → Type 0) → HasBegun begun k → k.view.own ≡ Some t → IsSeat k → IsSameSeat k.view m.view →
-    ((u : ℕ) → (seen m.view).exact u ≡ (seen k.view).exact u) → WasSo k.view.plan k.view.mode Holds k.view m.view → HasBegun begun m
-begun_loaded begun k m t Holds b own seat same exact was =
+-- a load begins no op
+pub left_loaded :
+    (ops : List Op) (k m : Known) (t : ℕ) (Holds : State → Type 0) → HasLeft ops k → k.view.own ≡ Some t → IsSeat k → IsSameSeat k.view m.view →
+    ((u : ℕ) → (seen m.view).exact u ≡ (seen k.view).exact u) → WasSo k.view.plan k.view.mode Holds k.view m.view → HasLeft ops m
+left_loaded ops k m t Holds b own seat same exact was =
     record {
       free = same.holds ∙ b.free;
       unrefused = ap (λ (x : Place). x.dropped) place ∙ b.unrefused;
-      left = (λ i. drop (place i).done (actions (same.plan i) (task i))) ∙ b.left ∙ sym (λ i. left_of (event i) (drop begun (code_of (same.plan i) (task i))));
+      left = (λ i. drop (place i).done (actions (same.plan i) (task i))) ∙ b.left ∙ sym (ap (λ o. left_of o ops) event);
     }
   where
     task : task_of m.view ≡ task_of k.view

@@ -1,6 +1,6 @@
 // A board of one task that has no op: each call that needs none.
-ghost use Rattle.std.specs.Prelude.{◌≡◌, ◌<◌, length, IfOk};
-ghost use Rattle.armus_base.specs.CheckedPlans.{first_plan};
+ghost use Rattle.std.specs.Prelude.{◌≡◌, ◌<◌, ◌∷◌, [], None, length, IfOk};
+ghost use Rattle.armus_base.specs.Plans.{folded_plan};
 ghost use Rattle.board.specs.Seats.{IsOf};
 
 use crate::{Board, Loads, Mode, Seen, TaskSeat, ViewSeat};
@@ -9,12 +9,12 @@ use std::alloc::Global;
 use std::test::Fail;
 
 fn one_task(alloc: Global) -> Result<Plan, NoMemory>
-    ensures { IfOk result (λ p. p ≡ first_plan) }
+    ensures { IfOk result (λ p. p ≡ folded_plan (None ∷ []) [] ([] ∷ [])) }
 {
     let mut parents = List::new(alloc);
     parents.push(None)?;
     let mut codes = List::new(alloc);
-    codes.push(Code::from_ops(List::new(alloc)))?;
+    codes.push(Code::from_pieces(List::new(alloc)))?;
     Ok(Plan::from_parts(parents, List::new(alloc), codes))
 }
 

@@ -8,7 +8,7 @@ use Rattle.armus_base.specs.declared.op.Op.{Op}
 use Rattle.armus_base.specs.declared.op.Op.TheVariants.{Adv, Await, Drop, Fork, Make, Reg}
 use Rattle.armus_base.specs.Limits.{max_ops}
 use Rattle.armus_base.specs.CheckedPlans.{IsCheckedPlan}
-use Rattle.pl_core.proofs.StepKinds.{few_actions, few_own_ops}
+use Rattle.pl_core.proofs.StepKinds.{few_actions}
 use Rattle.armus_base.specs.Plans.{Aim, Plan, Refuses, action_at, actions, actions_of, code_of}
 use Rattle.armus_base.specs.Runs.{Place, first_place}
 use Rattle.armus_base.specs.Places.{phases_at_place}
@@ -19,20 +19,20 @@ use Rattle.armus_base.proofs.Tasks.{member_within}
 use Rattle.board.specs.Views.{avoids, own_place, seen, task_of}
 use Rattle.board.specs.Seats.{IsSeat, Known, event_of}
 use Rattle.board.specs.Steps.{WasSo}
-use Rattle.board.specs.inside.Walking.{HasBegun, begins, left_of}
+use Rattle.board.specs.inside.Walking.{HasLeft, begins, left_of}
 use Rattle.phase_scan.specs.Looks.{FindsBehind, LoadsAlone}
 use Rattle.board_rounds.specs.Turns.{EndsTurn, IsDone, IsSeenBehind, is_behind}
 use Rattle.board_rounds.proofs.Goings.{own_stays, same_task}
 
 -- loads begin no op
-pub begun_loads : (begun : ℕ) (k m : Known) (t : ℕ) → k.view.own ≡ Some t → IsSeat k → HasBegun begun k → LoadsAlone k m → HasBegun begun m
-begun_loads begun k m t own seat b goes =
+pub left_by_loads : (ops : List Op) (k m : Known) (t : ℕ) → k.view.own ≡ Some t → IsSeat k → HasLeft ops k → LoadsAlone k m → HasLeft ops m
+left_by_loads ops k m t own seat b goes =
     let place = own_stays k m t own seat goes in
     let task = same_task k m goes.same in
     record {
       free = goes.same.holds ∙ b.free;
       unrefused = ap (λ (x : Place). x.dropped) place ∙ b.unrefused;
-      left = (λ i. drop (place i).done (actions (goes.same.plan i) (task i))) ∙ b.left ∙ sym (λ i. left_of (goes.event i) (drop begun (code_of (goes.same.plan i) (task i))));
+      left = (λ i. drop (place i).done (actions (goes.same.plan i) (task i))) ∙ b.left ∙ sym (ap (λ o. left_of o ops) goes.event);
     }
 
 -- whose event is published
@@ -71,12 +71,10 @@ ends_behind k m t n seat goes f =
       | inr far ↦ inr (n, (λ i. phases_at_place (load.same.plan i) t ((seen m.view).places t) f.event.p.0) ∙ load.there n refl far, f.below)
     ]))
 
--- nothing is left of a list behind its end
-none_left : {A : Type 0} (xs : List A) (k : ℕ) → slice_get xs k ≡ None → drop k xs ≡ []
-none_left [] zero e = refl
-none_left [] (suc k) e = refl
-none_left (x ∷ xs) zero e = absurd (cc)
-none_left (x ∷ xs) (suc k) e = none_left xs k e
+-- a list that has no first has nothing
+pub none_left : {A : Type 0} (xs : List A) → slice_get xs 0 ≡ None → xs ≡ []
+none_left [] e = refl
+none_left (x ∷ xs) e = absurd (cc)
 
 none_there : {A : Type 0} (xs : List A) (k : ℕ) → drop k xs ≡ [] → slice_get xs k ≡ None
 none_there [] zero e = refl
@@ -85,12 +83,11 @@ none_there (x ∷ xs) zero e = absurd (cc)
 none_there (x ∷ xs) (suc k) e = none_there xs k e
 
 -- a task that has begun all its ops, and waits for nothing, is done
-pub ends_done : (begun : ℕ) (k : Known) → HasBegun begun k → event_of k ≡ None → slice_get (code_of k.view.plan (task_of k.view)) begun ≡ None → IsDone k
+pub ends_done : (ops : List Op) (k : Known) → HasLeft ops k → event_of k ≡ None → slice_get ops 0 ≡ None → IsDone k
 unfolding action_at
-ends_done begun k b idle past =
-    let ops = code_of k.view.plan (task_of k.view) in
+ends_done ops k b idle past =
     let none : drop (own_place k.view).done (actions k.view.plan (task_of k.view)) ≡ [] =
-    b.left ∙ ap (λ o. left_of o (drop begun ops)) idle ∙ ap actions_of (none_left ops begun past) in
+    b.left ∙ ap (λ o. left_of o ops) idle ∙ ap actions_of (none_left ops past) in
     record { idle = idle; unrefused = b.unrefused; past = none_there (actions k.view.plan (task_of k.view)) (own_place k.view).done none }
 
 -- where there is not some, there is none
@@ -114,8 +111,3 @@ no_event (Some e) h = absurd (false≢true (sym h))
 -- a task makes few events
 pub events_fit : (plan : Plan) (t k : ℕ) → IsCheckedPlan plan → k < length (actions plan t) → k + 1 < 2 ^ 32
 events_fit plan t k checked l = (let few = few_actions plan t checked in omega arith)
-
--- a task has few ops
-pub op_fits : (plan : Plan) (t begun : ℕ) (op : Op) → IsCheckedPlan plan → slice_get (code_of plan t) begun ≡ Some op → begun < 2 * max_ops
-op_fits plan t begun op checked is =
-    (let within = slice_get_within (code_of plan t) begun op is in let few = few_own_ops plan t checked in omega arith)

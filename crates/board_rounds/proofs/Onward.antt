@@ -12,25 +12,25 @@ use Rattle.armus_base.proofs.Fixed.{action_within}
 use Rattle.board.specs.Seats.{Frame, Known, event_of, aim_at, IsSeat}
 use Rattle.board.specs.Steps.{own_phase}
 use Rattle.board.specs.Views.{own_place, task_of}
-use Rattle.board.specs.inside.Walking.{HasBegun, begins, left_of}
+use Rattle.board.specs.inside.Walking.{HasLeft, begins, left_of}
 use Rattle.board.proofs.Seated.{event_here, next_there, place_made}
 use Rattle.board.proofs.Walking.{IsBefore, before_next}
 use Rattle.board_rounds.specs.declared.deciding.Attempt.TheVariants.{Begun, LockedOut, Refused}
 use Rattle.board_rounds.specs.inside.Attempts.{BeginsOp, IsRefusedAt, drops_below}
 use Rattle.board_rounds.specs.inside.Tasks.{HasCome, MakesSome}
 use Rattle.board_rounds.specs.Turns.{Acts, AreChildSeats, EndsTurn, Goes, LeadsByCode, Working, forks_of}
-use Rattle.board_rounds.proofs.Begun.{begun_on}
+use Rattle.board_rounds.proofs.Begun.{left_on}
 use Rattle.board_rounds.proofs.Goings.{acts_alone, same_task, some_steps}
-use Rattle.board_rounds.proofs.Halting.{events_fit, no_refusal, op_fits}
+use Rattle.board_rounds.proofs.Halting.{events_fit, no_refusal}
 use Rattle.board_rounds.proofs.Leaving.{drops_counted, drops_fork_nobody, few_memberships}
 
--- who has made no step has begun no op
-begun_still : (begun t : ℕ) (k m : Known) → k.view.own ≡ Some t → HasBegun begun k → Goes [] k m → HasBegun begun m
-begun_still begun t k m own b goes =
+-- to who has made no step the same ops are left
+left_still : (ops : List Op) (t : ℕ) (k m : Known) → k.view.own ≡ Some t → HasLeft ops k → Goes [] k m → HasLeft ops m
+left_still ops t k m own b goes =
     record {
       free = goes.same.holds ∙ b.free;
       unrefused = ap (λ (x : Place). x.dropped) place ∙ b.unrefused;
-      left = (λ i. drop (place i).done (actions (goes.same.plan i) (task i))) ∙ b.left ∙ sym (λ i. left_of (event i) (drop begun (code_of (goes.same.plan i) (task i))));
+      left = (λ i. drop (place i).done (actions (goes.same.plan i) (task i))) ∙ b.left ∙ sym (ap (λ o. left_of o ops) event);
     }
   where
     task : task_of m.view ≡ task_of k.view
@@ -113,15 +113,15 @@ refused_goes (Drop p) k m n b = absurd b
 refused_goes (Await p off) k m n b = (refl, aim_at p.0 off, refl, b)
 
 -- nothing came of it
-still_come : (begun events t : ℕ) (k m : Known) → k.view.own ≡ Some t → HasCome k begun events false → Goes [] k m → HasCome m begun events false
-still_come begun events t k m own w goes = record {
+still_come : (ops : List Op) (events t : ℕ) (k m : Known) → k.view.own ≡ Some t → HasCome k ops events false → Goes [] k m → HasCome m ops events false
+still_come ops events t k m own w goes = record {
   free = goes.same.holds ∙ w.free;
   events_are = w.events_are ∙ sym (ap (λ (x : Place). x.done) goes.place);
-  begun_are = λ e. begun_still begun t k m own (w.begun_are e) goes;
-  left = λ e. absurd (false≢true e);
+  ops_are = λ e. left_still ops t k m own (w.ops_are e) goes;
+  gone = λ e. absurd (false≢true e);
 }
 
-module _ (f : Frame) (begun events : ℕ) (k m : Known) (cs ds : List Known) (op : Op) (w : HasCome k begun events false) (b : IsBefore begun op k) where
+module _ (f : Frame) (ops : List Op) (events : ℕ) (k m : Known) (cs ds : List Known) (op : Op) (rest : List Op) (w : HasCome k ops events false) (b : IsBefore op rest k) where
   abbrev before : Working
   before = record { seat = k; children = cs }
 
@@ -129,15 +129,15 @@ module _ (f : Frame) (begun events : ℕ) (k m : Known) (cs ds : List Known) (op
   now = record { seat = m; children = ds }
 
   -- nothing was done
-  pub nothing_come : Goes [] k m → HasCome m begun events false
-  nothing_come goes = still_come begun events (task_of k.view) k m b.own w goes
+  pub nothing_come : Goes [] k m → HasCome m ops events false
+  nothing_come goes = still_come ops events (task_of k.view) k m b.own w goes
 
   pub nothing_acts : ds ≡ cs → Goes [] k m → Acts f [] before now
   nothing_acts same goes = subst (λ es. Acts f [] before (record { seat = m; children = es })) (sym same) (acts_alone f [] k m cs refl goes (λ _. refl))
 
   module _ (new : List Known) (grown : ds ≡ cs ++ new) (seats : AreChildSeats f (forks_of (begins op ∷ [])) new) where
     -- the lock was taken
-    pub locked_out : BeginsOp op k m LockedOut → (Acts f [] before now × EndsTurn m) × HasCome m begun events false
+    pub locked_out : BeginsOp op k m LockedOut → (Acts f [] before now × EndsTurn m) × HasCome m ops events false
     locked_out is =
         let r = locked_goes op k m is in (
           (record { goes = r.1; refused = λ _. refl; new = new; children = grown; seats = no_seat f (forks_of (begins op ∷ [])) new r.0 seats }, r.2),
@@ -147,31 +147,26 @@ module _ (f : Frame) (begun events : ℕ) (k m : Known) (cs ds : List Known) (op
     -- the op has begun
     pub begun_makes : BeginsOp op k m Begun → MakesSome f 1 before now
     begun_makes is =
-        some_steps f (begins op ∷ []) k m cs ds new 1 (begins op) b.seat (before_next begun op k b) (begins_goes op k m is) grown seats (one_fork op) refl (omega arith) (omega arith)
+        some_steps f (begins op ∷ []) k m cs ds new 1 (begins op) b.seat (before_next op rest k b) (begins_goes op k m is) grown seats (one_fork op) refl (omega arith) (omega arith)
 
-    pub begun_come : BeginsOp op k m Begun → HasCome m (begun + 1) (events + 1) false
+    pub begun_come : BeginsOp op k m Begun → HasCome m rest (events + 1) false
     begun_come is =
         let goes = begins_goes op k m is in
-        let n = begun_on begun op k m b goes in record {
+        let n = left_on op rest k m b goes in record {
           free = n.free;
           events_are = (let e = w.events_are in
               let d : (own_place m.view).done ≡ suc (own_place k.view).done =
-              ap (λ (x : Place). x.done) goes.place.1 ∙ place_made (own_place k.view).done (own_place k.view).dropped (begins op) b.begun_so.unrefused (no_refusal op) in
+              ap (λ (x : Place). x.done) goes.place.1 ∙ place_made (own_place k.view).done (own_place k.view).dropped (begins op) b.left.unrefused (no_refusal op) in
               omega arith);
-          begun_are = λ _. subst (λ j. HasBegun j m) (let z : suc begun ≡ begun + 1 = omega arith in z) n;
-          left = λ e. absurd (false≢true e);
+          ops_are = λ _. n;
+          gone = λ e. absurd (false≢true e);
         }
 
-    pub begun_fits : (begun + 1 < 2 ^ 32) × (events + 1 < 2 ^ 32)
-    begun_fits = (
-      (let l = op_fits k.view.plan (task_of k.view) begun op b.seat.checked b.op_is in omega arith),
-      (let within = next_within in
-          let e = w.events_are in
-          let l = events_fit k.view.plan (task_of k.view) (own_place k.view).done b.seat.checked within in omega arith),
-    )
-      where
-        next_within : (own_place k.view).done < length (actions k.view.plan (task_of k.view))
-        next_within = action_within k.view.plan b.seat.checked (task_of k.view) (own_place k.view).done (begins op) (next_there k.view (begins op) (before_next begun op k b)).1
+    pub begun_fits : events + 1 < 2 ^ 32
+    begun_fits =
+        (let within = action_within k.view.plan b.seat.checked (task_of k.view) (own_place k.view).done (begins op) (next_there k.view (begins op) (before_next op rest k b)).1 in
+        let e = w.events_are in
+        let l = events_fit k.view.plan (task_of k.view) (own_place k.view).done b.seat.checked within in omega arith)
 
     -- the task is refused
     module _ (n : ℕ) (is : BeginsOp op k m (Refused n)) where
@@ -183,7 +178,7 @@ module _ (f : Frame) (begun events : ℕ) (k m : Known) (cs ds : List Known) (op
 
       pub refused_makes : MakesSome f (n + 1) before now
       refused_makes =
-          some_steps f (Refuses r.1 ∷ drops_below (own_phase k.view) (length k.view.plan.makers)) k m cs ds new (n + 1) (begins op) b.seat (before_next begun op k b) r.3.goes grown
+          some_steps f (Refuses r.1 ∷ drops_below (own_phase k.view) (length k.view.plan.makers)) k m cs ds new (n + 1) (begins op) b.seat (before_next op rest k b) r.3.goes grown
           (subst (λ es. AreChildSeats f es new) (sym (drops_fork_nobody (own_phase k.view) (length k.view.plan.makers))) (no_seat f (forks_of (begins op ∷ [])) new r.0 seats))
           (let n = ap length (drops_fork_nobody (own_phase k.view) (length k.view.plan.makers)) in omega arith)
           (let c = r.3.counted in let l = drops_counted (own_phase k.view) (length k.view.plan.makers) in omega arith) (omega arith) (let l = few in omega arith)
@@ -191,14 +186,14 @@ module _ (f : Frame) (begun events : ℕ) (k m : Known) (cs ds : List Known) (op
       pub refused_fits : n + 1 < 2 ^ 32
       refused_fits = (let l = few in omega arith)
 
-      pub refused_come : HasCome m begun events true
+      pub refused_come : HasCome m ops events true
       refused_come =
           let steps = r.3.goes.place in
-          let first = refused_done (own_place k.view).done (own_place k.view).dropped r.1 b.begun_so.unrefused in
+          let first = refused_done (own_place k.view).done (own_place k.view).dropped r.1 b.left.unrefused in
           record {
             free = r.3.goes.same.holds ∙ w.free;
             events_are = w.events_are
                 ∙ sym (stays_done k.view.plan (task_of k.view) (next_place (own_place k.view).done (own_place k.view).dropped (Refuses r.1)) (drops_below (own_phase k.view) (length k.view.plan.makers)) (own_place m.view) first.1 steps.1 ∙ first.0);
-            begun_are = λ e. absurd (false≢true (sym e));
-            left = λ _. r.3.left;
+            ops_are = λ e. absurd (false≢true (sym e));
+            gone = λ _. r.3.left;
           }

@@ -6,22 +6,22 @@ use Rattle.armus_base.specs.Plans.{Passes}
 use Rattle.armus_base.specs.Runs.{Place}
 use Rattle.board.specs.Seats.{Frame, IsSeat, Known, MakesPass, event_of}
 use Rattle.board.specs.Views.{own_place, task_of}
-use Rattle.board.specs.inside.Walking.{HasBegun}
+use Rattle.board.specs.inside.Walking.{HasLeft}
 use Rattle.board.proofs.Seated.{place_made}
-use Rattle.board.proofs.Walking.{begun_passed, passes_next, published_is}
+use Rattle.board.proofs.Walking.{left_passed, passes_next, published_is}
 use Rattle.phase_scan.specs.Looks.{LoadsAlone}
 use Rattle.board_rounds.specs.declared.task.Task.TheInside.{Inside}
 use Rattle.board_rounds.specs.inside.Tasks.{IsWorking, MakesSome}
 use Rattle.board_rounds.proofs.Goings.{goes_step, goes_then, own_stays, some_alone, stepped_place}
-use Rattle.board_rounds.proofs.Halting.{begun_loads, events_fit}
+use Rattle.board_rounds.proofs.Halting.{events_fit, left_by_loads}
 
--- who is not refused has begun its ops
-pub has_begun : (t : Inside) → IsWorking t → (own_place t.seat.view).dropped ≡ None → (t.refused ≡ false) × HasBegun t.begun t.seat
-has_begun t w none = by_flag t.refused refl
+-- to whom is not refused its ops are left
+pub has_left : (t : Inside) → IsWorking t → (own_place t.seat.view).dropped ≡ None → (t.refused ≡ false) × HasLeft t.cursor t.seat
+has_left t w none = by_flag t.refused refl
   where
-    by_flag : (b : Bool) → t.refused ≡ b → (t.refused ≡ false) × HasBegun t.begun t.seat
-    by_flag true e = absurd (false≢true (subst IsSome none (w.come.left e).refused))
-    by_flag false e = (e, w.come.begun_are e)
+    by_flag : (b : Bool) → t.refused ≡ b → (t.refused ≡ false) × HasLeft t.cursor t.seat
+    by_flag true e = absurd (false≢true (subst IsSome none (w.come.gone e).refused))
+    by_flag false e = (e, w.come.ops_are e)
 
 module _ (f : Frame) (t : Inside) (m n : Known) (own : ℕ) (w : IsWorking t) (none : (own_place t.seat.view).dropped ≡ None) (own_is : t.seat.view.own ≡ Some own) (seat : IsSeat t.seat) (event : IsSome (event_of t.seat)) (goes : LoadsAlone t.seat m) (pass : MakesPass m n) where
   pub record Passed : Type 0 where
@@ -34,24 +34,24 @@ module _ (f : Frame) (t : Inside) (m n : Known) (own : ℕ) (w : IsWorking t) (n
       let e = published_is (event_of t.seat) event in
       let is : event_of m ≡ Some e.0 = goes.event ∙ e.1 in
       let step = pass e.0 is in
-      let was = has_begun t w none in
-      let begun = begun_loads t.begun t.seat m own own_is seat was.1 goes in
-      let next = passes_next t.begun m e.0 begun is in
+      let was = has_left t w none in
+      let left = left_by_loads t.cursor t.seat m own own_is seat was.1 goes in
+      let next = passes_next t.cursor m e.0 left is in
       let some =
       some_alone f (Passes e.0.p.0 ∷ []) t.seat n t.children.items 1 (Passes e.0.p.0) seat
-      (passes_next t.begun t.seat e.0 was.1 e.1) (goes_then t.seat m n own (Passes e.0.p.0) own_is seat goes (goes_step m n (Passes e.0.p.0) next (λ p h. cc) step)) refl refl (omega arith) (omega arith) in
+      (passes_next t.cursor t.seat e.0 was.1 e.1) (goes_then t.seat m n own (Passes e.0.p.0) own_is seat goes (goes_step m n (Passes e.0.p.0) next (λ p h. cc) step)) refl refl (omega arith) (omega arith) in
       let done : (own_place n.view).done ≡ (own_place t.seat.view).done + 1 =
-      ap (λ (x : Place). x.done) (stepped_place m n (Passes e.0.p.0) step) ∙ place_made (own_place m.view).done (own_place m.view).dropped (Passes e.0.p.0) begun.unrefused (λ p h. cc)
+      ap (λ (x : Place). x.done) (stepped_place m n (Passes e.0.p.0) step) ∙ place_made (own_place m.view).done (own_place m.view).dropped (Passes e.0.p.0) left.unrefused (λ p h. cc)
       ∙ (let same : (own_place m.view).done ≡ (own_place t.seat.view).done = ap (λ (x : Place). x.done) (own_stays t.seat m own own_is seat goes) in omega arith) in
       record {
         working = record {
           come = record {
             free = step.same.holds ∙ goes.same.holds ∙ w.come.free;
             events_are = (let n = w.come.events_are in omega arith);
-            begun_are = λ _. begun_passed t.begun m n e.0 own (goes.same.own ∙ own_is) begun is step;
-            left = λ e. absurd (false≢true (sym was.0 ∙ e));
+            ops_are = λ _. left_passed t.cursor m n e.0 own (goes.same.own ∙ own_is) left is step;
+            gone = λ e. absurd (false≢true (sym was.0 ∙ e));
           };
-          plan = step.same.plan ∙ goes.same.plan ∙ w.plan;
+          begun = (let l = w.begun in omega arith);
         };
         fits = (let l = events_fit t.seat.view.plan (task_of t.seat.view) (own_place t.seat.view).done seat.checked some.within in let n = w.come.events_are in omega arith);
         some = some;

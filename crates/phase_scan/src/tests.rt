@@ -1,6 +1,6 @@
 // Collects on a board of one task that has no op, by a seat that counts its loads.
-ghost use Rattle.std.specs.Prelude.{◌≡◌, IfOk};
-ghost use Rattle.armus_base.specs.CheckedPlans.{first_plan};
+ghost use Rattle.std.specs.Prelude.{◌≡◌, ◌∷◌, [], None, IfOk};
+ghost use Rattle.armus_base.specs.Plans.{folded_plan};
 
 use crate::Cells;
 use armus_base::{Code, List, NoMemory, Phase, PhaserId, Plan, TaskId};
@@ -30,12 +30,12 @@ impl Loads for Counting {
 }
 
 fn one_task(alloc: Global) -> Result<Plan, NoMemory>
-    ensures { IfOk result (λ p. p ≡ first_plan) }
+    ensures { IfOk result (λ p. p ≡ folded_plan (None ∷ []) [] ([] ∷ [])) }
 {
     let mut parents = List::new(alloc);
     parents.push(None)?;
     let mut codes = List::new(alloc);
-    codes.push(Code::from_ops(List::new(alloc)))?;
+    codes.push(Code::from_pieces(List::new(alloc)))?;
     Ok(Plan::from_parts(parents, List::new(alloc), codes))
 }
 

@@ -3,7 +3,7 @@ use Rattle.std.specs.Prelude.{◌≡◌, ℕ, ◌<◌, ◌∷◌, List, Option, 
 use Rattle.armus_base.specs.declared.event.Event.{Event}
 use Rattle.armus_base.specs.declared.op.Op.{Op}
 use Rattle.armus_base.specs.declared.op.Op.TheVariants.{Make, Reg, Fork, Adv, Drop, Await}
-use Rattle.armus_base.specs.Plans.{Plan, Action, Makes, Registers, Forks, Advances, Drops, Blocks, Passes, actions, actions_of, code_of}
+use Rattle.armus_base.specs.Plans.{Plan, Action, Makes, Registers, Forks, Advances, Drops, Blocks, Passes, actions, actions_of}
 use Rattle.board.specs.Views.{own_place, task_of}
 use Rattle.board.specs.Seats.{Known, aim_at, event_of}
 
@@ -31,8 +31,8 @@ abbrev pub left_of : Option Event → List Op → List Action
 left_of None ops = actions_of ops
 left_of (Some e) ops = Passes e.p.0 ∷ actions_of ops
 
--- the seat of a task that has begun so many ops of its code, is not refused, and does not hold the lock
-pub record HasBegun (begun : ℕ) (k : Known) : Type 0 where
+-- the seat of a task that has begun all ops of its code but these, is not refused, and does not hold the lock
+pub record HasLeft (ops : List Op) (k : Known) : Type 0 where
   pub free : k.view.holds ≡ false
   pub unrefused : (own_place k.view).dropped ≡ None
-  pub left : drop (own_place k.view).done (actions k.view.plan (task_of k.view)) ≡ left_of (event_of k) (drop begun (code_of k.view.plan (task_of k.view)))
+  pub left : drop (own_place k.view).done (actions k.view.plan (task_of k.view)) ≡ left_of (event_of k) ops

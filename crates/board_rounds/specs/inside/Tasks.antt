@@ -1,10 +1,11 @@
 -- What is true of each task.
 use Rattle.std.specs.Prelude.{◌≡◌, ℕ, Bool, true, false, ◌+◌, ◌<◌, ◌≤◌, List, length}
+use Rattle.armus_base.specs.declared.op.Op.{Op}
 use Rattle.armus_base.specs.Limits.{max_phasers}
 use Rattle.armus_base.specs.Plans.{Action, actions}
 use Rattle.board.specs.Seats.{Frame, Known}
 use Rattle.board.specs.Views.{own_place, task_of}
-use Rattle.board.specs.inside.Walking.{HasBegun}
+use Rattle.board.specs.inside.Walking.{HasLeft}
 use Rattle.board_rounds.specs.declared.task.Task.TheInside.{Inside}
 use Rattle.board_rounds.specs.Turns.{Acts, HasLeftAll, Working}
 
@@ -12,17 +13,18 @@ use Rattle.board_rounds.specs.Turns.{Acts, HasLeftAll, Working}
 abbrev pub working_of : Inside → Working
 working_of t = record { seat = t.seat; children = t.children.items }
 
--- The seat's task has made so many events of its code, and does not hold the lock; and it is refused and a member of nothing, or has begun so many ops.
-pub record HasCome (seat : Known) (begun events : ℕ) (refused : Bool) : Type 0 where
+-- The seat's task has made so many events of its code, and does not hold the lock; and it is refused and a member of nothing, or has begun all ops but
+-- these.
+pub record HasCome (seat : Known) (ops : List Op) (events : ℕ) (refused : Bool) : Type 0 where
   pub free : seat.view.holds ≡ false
   pub events_are : events ≡ (own_place seat.view).done
-  pub begun_are : refused ≡ false → HasBegun begun seat
-  pub left : refused ≡ true → HasLeftAll seat
+  pub ops_are : refused ≡ false → HasLeft ops seat
+  pub gone : refused ≡ true → HasLeftAll seat
 
--- its fields tell how far it has come, and its seat's board is of its plan
+-- its fields tell how far it has come, and each op that it has begun was an event
 pub record IsWorking (t : Inside) : Type 0 where
-  pub come : HasCome t.seat t.begun t.events t.refused
-  pub plan : t.seat.view.plan ≡ t.plan.now
+  pub come : HasCome t.seat t.cursor t.events t.refused
+  pub begun : t.begun ≤ t.events
 
 -- a task has made so many steps, one at least: one step of its code, by which it forks one task at most, or a refusal and a drop of each of its phasers
 pub record MakesSome (board : Frame) (made : ℕ) (before now : Working) : Type 0 where
