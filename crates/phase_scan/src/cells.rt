@@ -1,5 +1,6 @@
 // The cells of a collect.
 ghost use Rattle.std.specs.Prelude.{◌≡◌, ◌<◌, ◌≤◌, ◌*◌, [], true, IfOk, length};
+ghost use Rattle.armus_base.specs.Limits.{max_cells, max_tasks};
 ghost use Rattle.armus_base.specs.Statuses.{IsInOrder};
 ghost use Rattle.board.specs.Seats.{IsOf};
 ghost use Rattle.phase_scan.specs.Looks.{LoadsAlone};
@@ -14,12 +15,6 @@ use armus_base::{Event, List, NoMemory, Phase, Status};
 use board::{Board, Loads, TaskSeat};
 use std::alloc::Global;
 use std::marker::Model;
-
-/// The most tasks of which cells can be collected.
-pub const MAX_CELL_TASKS: u32 = 4096;
-
-/// The most cells for phases, one for each task and phaser.
-pub const MAX_CELLS: u32 = 1_048_576;
 
 /// Room for what a collect finds. Contracts see for how many tasks and phasers it is, and the statuses that the last collect found.
 #[derive(Drop)]
@@ -45,8 +40,8 @@ impl Model for Cells {
 impl Cells {
     /// Room for a collect of a board with so many tasks and phasers. Nothing is found yet.
     pub fn start(alloc: Global, tasks: u32, phasers: u32) -> Result<Cells, NoMemory>
-        requires tasks { tasks ≤ MAX_CELL_TASKS }
-        requires cells { tasks * phasers ≤ MAX_CELLS }
+        requires tasks { tasks ≤ max_tasks }
+        requires cells { tasks * phasers ≤ max_cells }
         ensures tasks { IfOk result (λ cells. cells.tasks ≡ tasks) }
         ensures phasers { IfOk result (λ cells. cells.phasers ≡ phasers) }
         ensures nothing { IfOk result (λ cells. cells.statuses ≡ []) }

@@ -11,7 +11,7 @@ mod scan;
 mod supposing;
 
 pub use answer::Look;
-pub use cells::{Cells, MAX_CELL_TASKS, MAX_CELLS};
+pub use cells::Cells;
 pub use scan::look;
 
 #[cfg(test)]
