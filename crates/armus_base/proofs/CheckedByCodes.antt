@@ -3,7 +3,7 @@ use Rattle.std.proofs.Common.{◌≡◌, ℕ, zero, suc, List, length, refl, ap,
 use Rattle.armus_base.specs.declared.piece.Piece.{Piece}
 use Rattle.armus_base.specs.Plans.{Action, Advances, Blocks, Drops, Forks, Makes, Passes, Plan, Refuses, Registers, action_at, actions, maker_of, parent_of}
 use Rattle.armus_base.specs.Places.{first_phases, first_phases_by, own_phases, phases_after, registered}
-use Rattle.armus_base.specs.CheckedPlans.{HasCodes, HasTables, IsCheckedPlan, IsWellFormed}
+use Rattle.armus_base.specs.CheckedPlans.{HasCodes, HasTables, IsWellFormed}
 use Rattle.armus_base.specs.PlanLaws.{CheckedByCodes}
 
 module _ (plan : Plan) (pieces : List (List Piece)) where

@@ -2,7 +2,7 @@
 use Rattle.std.proofs.Common.{◌≡◌, ℕ, suc, ◌<◌, ◌≤◌, min, true, Some, List, [], ◌∷◌, arith, sym, ◌∙◌, ap, subst, ◌⊎◌, inl, inr}
 use Rattle.std.proofs.lemmas.Bool.{cases_eq, cases_lt}
 use Rattle.armus_base.specs.declared.event.Event.{Event}
-use Rattle.armus_base.specs.Plans.{Action, Advances, Blocks, Drops, Forks, Makes, Passes, Plan, Refuses, Registers, in_code, parent_of}
+use Rattle.armus_base.specs.Plans.{Action, Advances, Blocks, Drops, Forks, Makes, Passes, Plan, Refuses, Registers, parent_of}
 use Rattle.armus_base.specs.States.{IsReached, State, Step, after, event_at}
 use Rattle.armus_base.specs.Runs.{IsLegalRun, IsPlainRun, Precedes, places, state_after}
 use Rattle.armus_base.specs.Places.{IsConsistent, done_by, forked_at, kept, phases_after, phases_at, published_after, registered_by, state_at}

@@ -38,8 +38,10 @@ pub mod KnownAreLeastDead
 pub mod LeastLawful
 pub mod PlanGrows
 pub mod CheckedByCodes
+pub mod FoldedPlans
 pub mod PhasesFit
 pub mod TwoTasksChecked
+pub mod LoopChecked
 pub mod TwoTasksAvoided
 pub mod Excluded
 pub mod Fronts

@@ -53,3 +53,5 @@ mod cursor_tests;
 mod list_tests;
 #[cfg(test)]
 mod outside_tests;
+#[cfg(test)]
+mod plan_tests;
