@@ -6,10 +6,10 @@ use Rattle.std.proofs.lemmas.Bool.Decides.{nat_tests}
 use Rattle.std.proofs.lemmas.List.{append-nil}
 use Rattle.armus_base.specs.declared.event.Event.{Event}
 use Rattle.armus_base.specs.declared.status.Member.{Member}
-use Rattle.armus_base.specs.Finals.{given_below, is_event_of, list_below, listed_phase, status_of, statuses_on}
+use Rattle.armus_base.specs.Finals.{given_below, is_event_of, listed_phase, status_of, statuses_on}
 use Rattle.armus_base.specs.Places.{some_before}
 use Rattle.armus_base.specs.Plans.{Plan}
-use Rattle.armus_base.specs.States.{Phases, State}
+use Rattle.armus_base.specs.States.{State}
 use Rattle.armus_base.specs.declared.ids.TaskId.{TaskId}
 use Rattle.pl_core.specs.inside.Reading.{is_asked}
 use Rattle.pl_core.specs.inside.Supposed.{with_also}

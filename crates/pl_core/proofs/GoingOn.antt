@@ -16,9 +16,9 @@ use Rattle.armus_base.proofs.Reachable.{reachable_is_fixed}
 use Rattle.armus_base.proofs.Stepping.{acting_forked}
 use Rattle.pl_core.specs.declared.stand.Stand.{Stand}
 use Rattle.pl_core.specs.declared.stand.Stand.TheVariants.{Unforked, Done, Refused, Ready, Await, Waits}
-use Rattle.pl_core.specs.Stands.{IsEnabled, IsBeforeOp, MayGoOn, StandsSo}
+use Rattle.pl_core.specs.Stands.{IsEnabled, MayGoOn, StandsSo}
 use Rattle.pl_core.specs.Worlds.{WorldValue, action_by_code, places_of, state_of}
-use Rattle.pl_core.proofs.Bounds.{phase_fits, phaser_of_member, task_of_member}
+use Rattle.pl_core.proofs.Bounds.{phase_fits, phaser_of_member}
 use Rattle.pl_core.proofs.StepKinds.{awaits_block}
 
 module _ (w : WorldValue) (checked : IsCheckedPlan w.plan) (reach : IsReachable w.plan (places_of w)) where

@@ -21,3 +21,4 @@ pub mod WalkBounds
 pub mod WalkDone
 pub mod LeastMembers
 pub mod HighestKept
+pub mod KeptCursors

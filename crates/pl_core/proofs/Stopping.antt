@@ -1,12 +1,11 @@
 -- Where in its code a task stands after its first actions.
-use Rattle.std.proofs.Common.{◌≡◌, ℕ, zero, suc, ◌<◌, ◌≤◌, ◌+◌, ◌-◌, false, add-one, List, [], ◌∷◌, Some, length, arith, ap}
+use Rattle.std.proofs.Common.{◌≡◌, ℕ, zero, suc, ◌<◌, ◌≤◌, ◌+◌, ◌-◌, false, add-one, List, [], ◌∷◌, Some, None, length, arith, ap}
 use Rattle.std.specs.Prelude.{slice_get, ◌==◌}
 use Rattle.std.proofs.Math.Seq.{take-length}
 use Rattle.std.proofs.lemmas.Option.{slice_get_within}
 use Rattle.armus_base.specs.declared.op.Op.{Op}
 use Rattle.armus_base.specs.declared.op.Op.TheVariants.{Make, Reg, Fork, Adv, Drop, Await}
 use Rattle.armus_base.specs.Plans.{actions_of}
-use Rattle.pl_core.specs.declared.stop.Stop.{Stop}
 use Rattle.pl_core.specs.inside.Stops.{IsStopOf}
 use Rattle.pl_core.specs.Tasks.{actions_before}
 use Rattle.pl_core.proofs.OpCounts.{actions_before-suc, actions_in_is, at_least_one}
@@ -49,28 +48,17 @@ stop_at_end ops events left e l =
     let all : actions_before ops (length ops) ≡ length (actions_of ops) = ap (λ xs. length (actions_of xs)) (take-length ops) in
     record { within = omega arith; events = omega arith; await = λ b. absurd (cc) }
 
--- more ops have no fewer actions
-pub before_more : (ops : List Op) (n m : ℕ) → n ≤ m → actions_before ops n ≤ actions_before ops m
-before_more [] n m l = nothing n m
-  where
-    nothing : (n m : ℕ) → actions_before [] n ≤ actions_before [] m
-    nothing zero zero = omega arith
-    nothing zero (suc m) = omega arith
-    nothing (suc n) zero = omega arith
-    nothing (suc n) (suc m) = omega arith
-before_more (op ∷ ops) zero m l = omega arith
-before_more (op ∷ ops) (suc n) zero l = absurd (omega arith)
-before_more (Make p ∷ ops) (suc n) (suc m) l = (let r = before_more ops n m (omega arith) in omega arith)
-before_more (Reg c p ∷ ops) (suc n) (suc m) l = (let r = before_more ops n m (omega arith) in omega arith)
-before_more (Fork c ∷ ops) (suc n) (suc m) l = (let r = before_more ops n m (omega arith) in omega arith)
-before_more (Adv p ∷ ops) (suc n) (suc m) l = (let r = before_more ops n m (omega arith) in omega arith)
-before_more (Drop p ∷ ops) (suc n) (suc m) l = (let r = before_more ops n m (omega arith) in omega arith)
-before_more (Await p off ∷ ops) (suc n) (suc m) l = (let r = before_more ops n m (omega arith) in omega arith)
+-- there is no op behind the last one
+pub past_the_last : (ops : List Op) (k : ℕ) → k ≤ length ops → slice_get ops k ≡ None → k ≡ length ops
+past_the_last [] k l e = omega arith
+past_the_last (op ∷ ops) zero l e = absurd (cc)
+past_the_last (op ∷ ops) (suc k) l e = let r = past_the_last ops k (omega arith) e in omega arith
 
--- the actions of an op before which a task still stops are among those that it has made
-module _ (ops : List Op) (events : ℕ) (stop : Stop) (stops : IsStopOf ops events stop) (n : ℕ) (before : n < stop.op) where
-  pub made_before : actions_before ops (suc n) ≤ events
-  made_before = (let l = before_more ops (suc n) stop.op (omega arith) in let e = stops.events in omega arith)
+-- where as many events are left as the op has, all its actions are among those that the task has made
+module _ (ops : List Op) (k events left size : ℕ) (op : Op) (is : slice_get ops k ≡ Some op) (e : left + actions_before ops k ≡ events)
+    (sized : size ≡ length (actions_of (op ∷ []))) (enough : size ≤ left) where
+  pub made_before : actions_before ops (suc k) ≤ events
+  made_before = (let more = actions_before-suc ops k op is in let many = actions_in_is op in omega arith)
 
-  pub made_less : (op : Op) → slice_get ops n ≡ Some op → actions_before ops n < events
-  made_less op is = (let l = made_before in let more = actions_before-suc ops n op is in let one = at_least_one op in omega arith)
+  pub made_less : actions_before ops k < events
+  made_less = (let many = actions_in_is op in let one = at_least_one op in omega arith)

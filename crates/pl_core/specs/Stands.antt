@@ -1,5 +1,5 @@
 -- How a task stands in a world, and whether it may go on.
-use Rattle.std.specs.Prelude.{◌≡◌, ◌≢◌, ℕ, ◌<◌, ◌≤◌, true, false, Some, None, length}
+use Rattle.std.specs.Prelude.{◌≡◌, ◌≢◌, ℕ, true, false, Some, None}
 use Rattle.armus_base.specs.declared.event.Event.{Event}
 use Rattle.armus_base.specs.Plans.{Action, Blocks, Aim}
 use Rattle.armus_base.specs.States.{State, IsActive, IsLegal, IsReached, awaited}

@@ -1,4 +1,5 @@
 pub mod Changes
+pub mod Cursors
 pub mod Effects
 pub mod Ops
 pub mod PhaseTables

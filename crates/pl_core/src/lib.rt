@@ -2,6 +2,7 @@
 #![tactic(auto)]
 
 mod cell;
+mod cursors;
 mod effect;
 mod highest;
 mod least;

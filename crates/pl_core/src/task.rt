@@ -3,7 +3,7 @@ ghost use Rattle.std.specs.Prelude.{◌≡◌, ◌<◌, ◌+◌, ◌^◌, Some, 
 ghost use Rattle.pl_core.specs.inside.Changes.{after_block, after_op, after_fork, after_refusal, opening_tasks};
 
 use crate::Place;
-use armus_base::{Event, NoMemory, Op};
+use armus_base::{Event, NoMemory};
 use std::alloc::Global;
 
 #[derive(Clone, Copy, Debug, PartialEq, Eq)]
@@ -80,13 +80,6 @@ pub(crate) fn task_at(tasks: &[Task], at: usize) -> Task
     ensures { slice_get tasks.now at ≡ Some result }
 {
     tasks[at]
-}
-
-/// The op at this index, if there is one.
-pub(crate) fn op_at(ops: &[Op], at: usize) -> Option<Op>
-    ensures { result ≡ slice_get ops.now at }
-{
-    ops.get(at).copied()
 }
 
 /// What is kept of the tasks before any event.

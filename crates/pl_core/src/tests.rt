@@ -1,9 +1,10 @@
-// Two tasks that wait for each other, and the same with the second one refused; each state also as the one of its places.
+// Two tasks that wait for each other, and the same with the second one refused, and a task that turns in a loop; each state also as the one of its places.
 ghost use Rattle.std.specs.Prelude.{◌≡◌, ℕ, ◌<◌, true, length};
 ghost use Rattle.pl_core.specs.Stands.{IsEnabled};
 
 use crate::walk::place_within;
 use crate::{Place, Stand, World};
+use armus_base::Piece::{Op as Single, Repeat};
 use armus_base::{
     Code, Event, Final, List, NoMemory, Offset, Op, PhaserId, Plan, Status, TaskEnd, TaskId,
 };
@@ -23,28 +24,49 @@ fn two_tasks(alloc: Global) -> Result<Plan, NoMemory> {
     let parents = vec![in alloc; None, Some(ROOT)]?;
     let makers = vec![in alloc; ROOT, ROOT]?;
     let first = vec![in alloc;
-        Op::Make { p: A },
-        Op::Make { p: B },
-        Op::Reg { c: CHILD, p: A },
-        Op::Reg { c: CHILD, p: B },
-        Op::Fork { c: CHILD },
-        Op::Adv { p: A },
-        Op::Await {
+        Single(Op::Make { p: A }),
+        Single(Op::Make { p: B }),
+        Single(Op::Reg { c: CHILD, p: A }),
+        Single(Op::Reg { c: CHILD, p: B }),
+        Single(Op::Fork { c: CHILD }),
+        Single(Op::Adv { p: A }),
+        Single(Op::Await {
             p: A,
             off: Offset::Here
-        },
+        }),
     ]?;
     let second = vec![in alloc;
-        Op::Adv { p: B },
-        Op::Await {
+        Single(Op::Adv { p: B }),
+        Single(Op::Await {
             p: B,
             off: Offset::Here
-        },
+        }),
     ]?;
     let codes = vec![in alloc;
-        Code::from_ops(List::from_vec(first)),
-        Code::from_ops(List::from_vec(second)),
+        Code::from_pieces(List::from_vec(first)),
+        Code::from_pieces(List::from_vec(second)),
     ]?;
+    Ok(Plan::from_parts(
+        List::from_vec(parents),
+        List::from_vec(makers),
+        List::from_vec(codes),
+    ))
+}
+
+// One task that makes a phaser, and then advances on it and awaits it three times.
+fn one_loop(alloc: Global) -> Result<Plan, NoMemory> {
+    let parents = vec![in alloc; None]?;
+    let makers = vec![in alloc; ROOT]?;
+    let pieces = vec![in alloc;
+        Single(Op::Make { p: A }),
+        Repeat { k: 3, len: 2 },
+        Single(Op::Adv { p: A }),
+        Single(Op::Await {
+            p: A,
+            off: Offset::Here
+        }),
+    ]?;
+    let codes = vec![in alloc; Code::from_pieces(List::from_vec(pieces))]?;
     Ok(Plan::from_parts(
         List::from_vec(parents),
         List::from_vec(makers),
@@ -308,6 +330,27 @@ fn states_after_turns_and_at_their_places(rt: HostRuntime) -> Result<(), Fail> {
             "00000001r0",
             "t0 done op 7 . 1 0;t1 refused p1@1 op 1 . - -;\n\ndone refused ",
         ),
+    ] {
+        let (made, there) = both_texts(alloc, &plan, turns.as_bytes())?;
+        assert!(rt; made.as_str() == want, "after {turns}");
+        assert!(rt; there.as_str() == want, "at the places after {turns}");
+    }
+    Ok(())
+}
+
+#[test]
+fn states_in_a_loop_and_at_their_places(rt: HostRuntime) -> Result<(), Fail> {
+    let alloc = rt.alloc();
+    let plan = one_loop(alloc)?;
+    for (turns, want) in [
+        ("", "t0 ready op 0 + -;\n\n"),
+        (
+            "00000",
+            "t0 awaits p0@2 reached impedes nobody op 4 + 2;\n\n",
+        ),
+        ("000000", "t0 waits p0@2 reached op 4 + 2;\nt0 p0@2 p0:2;\n"),
+        ("0000000", "t0 ready op 5 + 2;\n\n"),
+        ("0000000000", "t0 done op 7 . 3;\n\ndone "),
     ] {
         let (made, there) = both_texts(alloc, &plan, turns.as_bytes())?;
         assert!(rt; made.as_str() == want, "after {turns}");

@@ -1,11 +1,12 @@
 // A walk along the codes of the tasks, in order of number, to given places.
-ghost use Rattle.std.specs.Prelude.{◌≡◌, ◌+◌, ◌<◌, ◌^◌, None, Some, true, IfOk, length, slice_get, ◌||◌, if◌then◌else◌};
+ghost use Rattle.std.specs.Prelude.{◌≡◌, ◌+◌, ◌<◌, ◌^◌, None, Some, true, IfOk, drop, length, slice_get, ◌||◌, if◌then◌else◌};
 ghost use Rattle.armus_base.specs.Plans.{code_of};
 ghost use Rattle.armus_base.specs.States.{updated};
 ghost use Rattle.pl_core.specs.inside.Effects.{HasRoomFor};
 ghost use Rattle.pl_core.specs.inside.Reachable.{AreReachable};
 ghost use Rattle.pl_core.specs.inside.Ops.{action_of, phases_moved};
 ghost use Rattle.pl_core.specs.inside.PhaseTables.{phases_in};
+ghost use Rattle.pl_core.specs.inside.Cursors.{AreAt, KeepsOps, op_of};
 ghost use Rattle.pl_core.specs.inside.Stops.{IsStopOf};
 ghost use Rattle.pl_core.specs.inside.Kept.{KeepsState};
 ghost use Rattle.pl_core.specs.Tables.{kept_places};
@@ -16,9 +17,9 @@ ghost use Rattle.pl_core.specs.Worlds.{places_at};
 use crate::Place;
 use crate::effect::move_phases;
 use crate::phase_table::PhaseTable;
-use crate::stop::{Stop, op_within, stop_of};
-use crate::task::{Task, first_tasks, op_at, task_at};
-use armus_base::{Event, NoMemory, Op, Plan, TaskId};
+use crate::stop::{Stop, events_in};
+use crate::task::{Task, first_tasks, task_at};
+use armus_base::{Cursor, Event, NoMemory, Op, Plan, TaskId};
 use std::alloc::Global;
 
 /// The place at this index.
@@ -82,47 +83,79 @@ pub(crate) struct Walk {
 }
 
 impl Walk {
-    /// What is kept at these places.
-    pub(crate) fn to_places(alloc: Global, plan: &Plan, places: &[Place]) -> Result<Walk, NoMemory>
+    /// What is kept at these places, and a cursor for each task.
+    pub(crate) fn to_places<'p>(
+        alloc: Global,
+        plan: &'p Plan,
+        places: &[Place],
+    ) -> Result<(Walk, Vec<Cursor<'p>>), NoMemory>
         requires given { AreReachable plan.now places.now }
-        ensures kept { IfOk result (λ walk. KeepsState plan.now walk.tasks.items walk.phases) }
-        ensures places { IfOk result (λ walk. kept_places walk.tasks.items ≡ places.now) }
+        ensures kept { IfOk result (λ w. KeepsState plan.now w.0.tasks.items w.0.phases) }
+        ensures places { IfOk result (λ w. kept_places w.0.tasks.items ≡ places.now) }
+        ensures cursors { IfOk result (λ w. AreAt plan.now (length plan.now.parents) w.0.tasks.items w.1.items) }
     {
         let count = plan.tasks() as usize;
         let phases = PhaseTable::new(alloc, count, plan.phasers() as usize)?;
         let tasks = first_tasks(alloc, count)?;
         let mut walk = Walk { tasks, phases };
+        let mut cursors = Vec::new(alloc);
         for t in 0..plan.tasks() {
-            walk.settle(plan, places, TaskId(t));
+            cursors.push(walk.settle(plan, places, TaskId(t)))?;
         }
-        Ok(walk)
+        Ok((walk, cursors))
     }
 
-    // Walks the code of one task to its place.
-    fn settle(&mut self, plan: &Plan, places: &[Place], t: TaskId)
+    // Walks the code of one task to its place, and answers the cursor there.
+    fn settle<'p>(&mut self, plan: &'p Plan, places: &[Place], t: TaskId) -> Cursor<'p>
         requires task { t.0 < length plan.now.parents }
         requires given { AreReachable plan.now places.now }
         requires walked { HasWalked plan.now places.now (walked (places_at plan.now places.now) t.0) t.0 self.old.tasks.items self.old.phases }
-        ensures { HasWalked plan.now places.now (walked (places_at plan.now places.now) (t.0 + 1)) (t.0 + 1) self.new.tasks.items self.new.phases }
+        ensures walked { HasWalked plan.now places.now (walked (places_at plan.now places.now) (t.0 + 1)) (t.0 + 1) self.new.tasks.items self.new.phases }
+        ensures cursor { result ≡ drop (op_of self.new.tasks.items t.0) (code_of plan.now t.0) }
+        ensures others { KeepsOps t.0 self.old.tasks.items self.new.tasks.items }
     {
-        let stop = self.make_ops(plan, places, t);
-        self.stand(plan, places, t, stop);
+        let mut cursor = plan.cursor(t);
+        let stop = self.make_ops(plan, places, t, &mut cursor);
+        self.stand(plan, places, t, stop, cursor.peek());
+        cursor
     }
 
-    // Makes the ops of one task that its place has behind it, and answers where it stands then.
-    fn make_ops(&mut self, plan: &Plan, places: &[Place], t: TaskId) -> Stop
+    // Makes the ops of one task that its place has behind it, and answers where it stands then; the cursor goes there from the first op of its code.
+    fn make_ops(
+        &mut self,
+        plan: &Plan,
+        places: &[Place],
+        t: TaskId,
+        cursor: &mut Cursor<'_>,
+    ) -> Stop
         requires task { t.0 < length plan.now.parents }
         requires given { AreReachable plan.now places.now }
+        requires first { cursor.old ≡ code_of plan.now t.0 }
         requires walked { HasWalked plan.now places.now (walked (places_at plan.now places.now) t.0) t.0 self.old.tasks.items self.old.phases }
         ensures stop { IsStopOf (code_of plan.now t.0) (places_at plan.now places.now t.0).done result }
+        ensures cursor { cursor.new ≡ drop result.op (code_of plan.now t.0) }
         ensures walking { HasWalked plan.now places.now (walking (places_at plan.now places.now) t.0 (actions_before (code_of plan.now t.0) result.op)) t.0 self.new.tasks.items self.new.phases }
+        ensures others { KeepsOps t.0 self.old.tasks.items self.new.tasks.items }
     {
-        let ops = plan.code(t);
-        let stop = stop_of(ops, place_within(places, t.0 as usize).events);
-        for k in 0..stop.op {
-            self.make_op(t, op_within(ops, k as usize));
+        let mut left = place_within(places, t.0 as usize).events;
+        let mut made = 0;
+        while let Some(op) = cursor.peek() {
+            let size = events_in(op);
+            if left < size {
+                return Stop {
+                    op: made,
+                    begun: left == 1,
+                };
+            }
+            self.make_op(t, op);
+            cursor.next();
+            left -= size;
+            made += 1;
         }
-        stop
+        Stop {
+            op: made,
+            begun: false,
+        }
     }
 
     // Makes one op of a task.
@@ -139,17 +172,19 @@ impl Walk {
         move_phases(&mut self.phases, t.0 as usize, op);
     }
 
-    // Puts a task at its place, before which it has made all its ops.
-    fn stand(&mut self, plan: &Plan, places: &[Place], t: TaskId, stop: Stop)
+    // Puts a task at its place, before which it has made all its ops, and is before this op.
+    fn stand(&mut self, plan: &Plan, places: &[Place], t: TaskId, stop: Stop, op: Option<Op>)
         requires task { t.0 < length plan.now.parents }
         requires given { AreReachable plan.now places.now }
         requires stop { IsStopOf (code_of plan.now t.0) (places_at plan.now places.now t.0).done stop }
+        requires op { op ≡ slice_get (code_of plan.now t.0) stop.op }
         requires walking { HasWalked plan.now places.now (walking (places_at plan.now places.now) t.0 (actions_before (code_of plan.now t.0) stop.op)) t.0 self.old.tasks.items self.old.phases }
-        ensures { HasWalked plan.now places.now (walked (places_at plan.now places.now) (t.0 + 1)) (t.0 + 1) self.new.tasks.items self.new.phases }
+        ensures walked { HasWalked plan.now places.now (walked (places_at plan.now places.now) (t.0 + 1)) (t.0 + 1) self.new.tasks.items self.new.phases }
+        ensures stands { op_of self.new.tasks.items t.0 ≡ stop.op }
+        ensures others { KeepsOps t.0 self.old.tasks.items self.new.tasks.items }
     {
         let at = t.0 as usize;
         let place = place_within(places, at);
-        let op = op_at(plan.code(t), stop.op as usize);
         let event = self.event(t, op, stop.begun, place.refused);
         clear_refused(&mut self.phases, at, place.refused);
         let forked = task_at(&self.tasks, at).forked;

@@ -12,11 +12,12 @@ mod stepping;
 mod task_stands;
 
 use crate::Place;
+use crate::cursors::first_cursors;
 use crate::highest::highest_of;
 use crate::phase_table::PhaseTable;
 use crate::task::{Task, first_tasks};
 use crate::walk::Walk;
-use armus_base::{NoMemory, Plan};
+use armus_base::{Cursor, NoMemory, Plan};
 use std::alloc::Global;
 use std::marker::Model;
 
@@ -25,6 +26,8 @@ use std::marker::Model;
 pub struct World<'p> {
     plan: &'p Plan,
     tasks: Vec<Task>,
+    // one for each task, at its next op, or at the await that it has begun
+    cursors: Vec<Cursor<'p>>,
     phases: PhaseTable,
     highest: Vec<u32>,
 }
@@ -50,10 +53,12 @@ impl<'p> World<'p> {
         let count = plan.tasks() as usize;
         let phases = PhaseTable::new(alloc, count, plan.phasers() as usize)?;
         let tasks = first_tasks(alloc, count)?;
+        let cursors = first_cursors(alloc, plan)?;
         let highest = highest_of(alloc, &tasks, plan.phasers() as usize)?;
         Ok(World {
             plan,
             tasks,
+            cursors,
             phases,
             highest,
         })
@@ -65,11 +70,12 @@ impl<'p> World<'p> {
         requires reachable { IsReachable plan.now (places_at plan.now places.now) }
         ensures at { IfOk result (λ world. IsAtPlaces plan.now places.now world) }
     {
-        let walk = Walk::to_places(alloc, plan, places)?;
+        let (walk, cursors) = Walk::to_places(alloc, plan, places)?;
         let highest = highest_of(alloc, &walk.tasks, plan.phasers() as usize)?;
         Ok(World {
             plan,
             tasks: walk.tasks,
+            cursors,
             phases: walk.phases,
             highest,
         })

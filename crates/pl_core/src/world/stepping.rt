@@ -10,6 +10,7 @@ ghost use Rattle.pl_core.specs.inside.Ops.{action_of, ChangesPhases};
 
 use super::World;
 use crate::Stand;
+use crate::cursors::go_on;
 use crate::effect::move_phases;
 use crate::highest::raise;
 use crate::task::task_at;
@@ -73,6 +74,7 @@ impl<'p> World<'p> {
     {
         let at = t.0 as usize;
         self.tasks[at] = task_at(&self.tasks, at).after_op();
+        go_on(&mut self.cursors, at);
     }
 
     // Makes the op's own action.
@@ -99,6 +101,7 @@ impl<'p> World<'p> {
         let task = task_at(&self.tasks, t.0 as usize);
         self.tasks[c.0 as usize] = child.after_fork();
         self.tasks[t.0 as usize] = task.after_op();
+        go_on(&mut self.cursors, t.0 as usize);
     }
 
     // Makes an op that changes phases alone.
@@ -112,5 +115,6 @@ impl<'p> World<'p> {
         let task = task_at(&self.tasks, t.0 as usize);
         move_phases(&mut self.phases, t.0 as usize, op);
         self.tasks[t.0 as usize] = task.after_op();
+        go_on(&mut self.cursors, t.0 as usize);
     }
 }

@@ -14,7 +14,8 @@ ghost use Rattle.pl_core.specs.Tasks.{IsAtOp};
 
 use super::World;
 use crate::Stand;
-use crate::task::{op_at, task_at};
+use crate::cursors::op_under;
+use crate::task::task_at;
 use armus_base::{Event, Offset, Op, Phase, PhaserId, TaskId};
 
 impl<'p> World<'p> {
@@ -73,8 +74,7 @@ impl<'p> World<'p> {
         ensures checked { IsCheckedPlan self.now.plan }
         ensures reachable { IsReachable self.now.plan (places_of self.now) }
     {
-        let task = task_at(&self.tasks, t.0 as usize);
-        op_at(self.plan.code(t), task.op as usize)
+        op_under(&self.cursors, t.0 as usize)
     }
 
     // The event of a phaser at the target of its member's phase.

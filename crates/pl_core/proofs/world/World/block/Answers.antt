@@ -8,6 +8,7 @@ use Rattle.pl_core.specs.Worlds.{WorldValue}
 use Rattle.pl_core.proofs.StepKinds.{block_stepped, events_fit_block}
 use Rattle.pl_core.proofs.HighestKept.{highest_set}
 use Rattle.pl_core.specs.inside.Highest.{highest_at}
+use Rattle.pl_core.proofs.KeptCursors.{stays}
 use Rattle.pl_core.proofs.world.World.block.Goals as goal
 
 pub after_block-requires : goal.after_block-requires
@@ -26,6 +27,9 @@ invariant_of-self c =
     let stepped = block_stepped c.self.inside.plan.now c.self.inside.tasks.items c.self.inside.phases c.self.invariant.kept c.args.t.0 c.task_at.result read c.args.event before in
     record {
       kept = subst (λ task. KeepsState c.self.inside.plan.now (set c.self.inside.tasks.items c.args.t.0 task) c.self.inside.phases) (sym c.after_block.ensures) stepped.0;
+      cursors =
+          stays c.self.inside.plan.now c.self.inside.tasks.items c.self.inside.cursors.items c.self.invariant.cursors c.self.invariant.kept.one_each c.args.t.0 c.task_at.result read c.after_block.result
+          (ap (λ v. v.op) c.after_block.ensures);
       highest =
           highest_set c.self.inside.tasks.items (length c.self.inside.plan.now.makers) c.self.inside.highest.items c.raise.new.highest.items c.args.t.0
           c.after_block.result c.self.invariant.highest

@@ -7,6 +7,7 @@ use Rattle.pl_core.specs.Tables.{world_from}
 use Rattle.pl_core.specs.Worlds.{WorldValue}
 use Rattle.pl_core.proofs.RefusalKept.{refusal_kept, refusal_made}
 use Rattle.pl_core.proofs.HighestKept.{highest_refused}
+use Rattle.pl_core.proofs.KeptCursors.{stays}
 use Rattle.pl_core.proofs.world.World.drop_all.Goals as goal
 
 pub invariant_of-self : goal.invariant_of-self
@@ -19,6 +20,9 @@ invariant_of-self c =
           subst (λ k. KeepsState c.self.inside.plan.now (set c.self.inside.tasks.items c.args.t.0 k) c.clear.new.self) (sym c.after_refusal.ensures)
           (refusal_kept c.self.inside.plan.now c.self.inside.tasks.items c.self.inside.phases c.self.invariant.kept c.args.t.0 task read c.args.event before
           c.clear.new.self c.clear.ensures.tasks c.clear.ensures.phasers c.clear.ensures.cleared);
+      cursors =
+          stays c.self.inside.plan.now c.self.inside.tasks.items c.self.inside.cursors.items c.self.invariant.cursors c.self.invariant.kept.one_each c.args.t.0 task read c.after_refusal.result
+          (ap (λ v. v.op) c.after_refusal.ensures);
       highest =
           highest_refused c.self.inside.tasks.items (length c.self.inside.plan.now.makers) c.self.inside.highest.items c.args.t.0 c.after_refusal.result c.self.invariant.highest
           (ap (λ v. v.place.refused) c.after_refusal.ensures);

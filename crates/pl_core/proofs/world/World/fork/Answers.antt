@@ -11,6 +11,8 @@ use Rattle.pl_core.proofs.Bounds.{child_bound}
 use Rattle.pl_core.proofs.ChangeKinds.{fork_stepped}
 use Rattle.pl_core.proofs.StepKinds.{events_fit, op_fits}
 use Rattle.pl_core.proofs.HighestKept.{highest_idle, highest_same}
+use Rattle.pl_core.specs.inside.Cursors.{AreAt}
+use Rattle.pl_core.proofs.KeptCursors.{forks_and_goes_on}
 use Rattle.pl_core.proofs.world.World.fork.Goals as goal
 
 pub task_at-child-requires : goal.task_at-child-requires
@@ -54,6 +56,11 @@ invariant_of-self c =
           (sym c.after_fork.ensures)
           (subst (λ k. KeepsState c.self.inside.plan.now (set (set c.self.inside.tasks.items c.args.c.0 (after_fork c.task_at-child.result)) c.args.t.0 k)
           c.self.inside.phases) (sym c.after_op.ensures) stepped.0);
+      cursors =
+          subst (AreAt c.self.inside.plan.now (length c.self.inside.plan.now.parents) (set (set c.self.inside.tasks.items c.args.c.0 c.after_fork.result) c.args.t.0 c.after_op.result))
+          (sym c.go_on.ensures)
+          (forks_and_goes_on c.self.inside.plan.now c.self.inside.tasks.items c.self.inside.cursors.items c.self.invariant.cursors c.self.invariant.kept.one_each c.args.t.0 c.task_at-task.result read c.after_op.result
+          (ap (λ v. v.op) c.after_op.ensures) c.args.c.0 c.task_at-child.result c.after_fork.result child (ap (λ v. v.op) c.after_fork.ensures));
       highest =
           highest_idle (set forked c.args.c.0 c.after_fork.result) phasers c.self.inside.highest.items c.args.t.0 c.after_op.result
           (highest_same forked phasers c.self.inside.highest.items c.args.c.0 c.task_at-child.result c.after_fork.result c.self.invariant.highest child

@@ -7,6 +7,8 @@ use Rattle.pl_core.specs.Tables.{world_from}
 use Rattle.pl_core.specs.Worlds.{WorldValue, state_of}
 use Rattle.pl_core.proofs.StepKinds.{events_fit_pass, op_fits, pass_stepped}
 use Rattle.pl_core.proofs.HighestKept.{highest_idle}
+use Rattle.pl_core.specs.inside.Cursors.{AreAt}
+use Rattle.pl_core.proofs.KeptCursors.{goes_on}
 use Rattle.pl_core.proofs.world.World.pass.Goals as goal
 
 pub after_op-requires-clause-fits : goal.after_op-requires-clause-fits
@@ -30,6 +32,10 @@ invariant_of-self c =
     c.args.event waits reached in
     record {
       kept = subst (λ task. KeepsState c.self.inside.plan.now (set c.self.inside.tasks.items c.args.t.0 task) c.self.inside.phases) (sym c.after_op.ensures) stepped.0;
+      cursors =
+          subst (AreAt c.self.inside.plan.now (length c.self.inside.plan.now.parents) (set c.self.inside.tasks.items c.args.t.0 c.after_op.result)) (sym c.go_on.ensures)
+          (goes_on c.self.inside.plan.now c.self.inside.tasks.items c.self.inside.cursors.items c.self.invariant.cursors c.self.invariant.kept.one_each c.args.t.0 c.task_at.result read c.after_op.result
+          (ap (λ v. v.op) c.after_op.ensures));
       highest =
           highest_idle c.self.inside.tasks.items (length c.self.inside.plan.now.makers) c.self.inside.highest.items c.args.t.0 c.after_op.result c.self.invariant.highest
           (ap (λ v. v.event) c.after_op.ensures);
