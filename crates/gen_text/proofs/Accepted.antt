@@ -6,7 +6,8 @@ use Rattle.armus_base.specs.Limits.{max_tasks, max_ops}
 use Rattle.armus_base.specs.Plans.{Plan}
 use Rattle.pl_syntax.specs.Tree.{Tree, new_phaser}
 use Rattle.pl_syntax.proofs.Unique.{one_tree, text_or_fault}
-use Rattle.pl_plan.specs.Unfolding.{UnfoldingState, Start, Outcome, ◌>>=◌, a_phaser, a_plain, a_loop, a_turn, visit, times, visits_of, make_visits, count_visit, act, add_op, assigned, with_names, with_member, unfold_task, unfold_tasks, opening_state, plan_of}
+use Rattle.armus_base.specs.Pieces.{times}
+use Rattle.pl_plan.specs.Unfolding.{UnfoldingState, Start, Outcome, ◌>>=◌, a_phaser, a_plain, a_loop, a_turn, visit, visits_of, make_visits, count_visit, act, add_op, assigned, with_names, with_member, unfold_task, unfold_tasks, opening_state, plan_of, with_pieces}
 use Rattle.gen_text.specs.Generated.{generated_text}
 use Rattle.gen_text.specs.Laws.{GeneratedIsAccepted, GeneratedHasNoSyntaxFault, GeneratedHasNoCheckFault}
 use Rattle.gen_text.proofs.GeneratedProgram.{pc, pb, draws, goes_on, generated_body, generated_program, is_text}
@@ -94,8 +95,8 @@ all_tasks m n few l =
     (opening_state (generated_body n))) (unfold_tasks false m 1)
     (first_task n few) (λ s h. other_tasks m 1 (5 * n + 6) s h (omega arith))
 
-plan_from : (o : Outcome UnfoldingState) → Succeeds (λ _. Unit {0}) o → (plan : Plan) × ((o >>= λ s. Ok s.plan) ≡ Ok plan)
-plan_from (Ok s) h = (s.plan, refl)
+plan_from : (o : Outcome UnfoldingState) → Succeeds (λ _. Unit {0}) o → (plan : Plan) × ((o >>= λ s. Ok (with_pieces s)) ≡ Ok plan)
+plan_from (Ok s) h = (with_pieces s, refl)
 plan_from (Err f) h = absurd h
 
 unfolds : (n : ℕ) → n < max_tasks → (plan : Plan) × (plan_of (generated_program n) ≡ Ok plan)

@@ -2,7 +2,8 @@
 use Rattle.std.proofs.Common.{◌≡◌, ℕ, ◌+◌, ◌*◌, ◌<◌, ◌≤◌, Bool, true, false, None, ◌∷◌, arith, ◌∙◌}
 use Rattle.std.specs.Prelude.{slice_index_or}
 use Rattle.armus_base.specs.Limits.{max_ops}
-use Rattle.pl_plan.specs.Unfolding.{UnfoldingState, with_member, make_visits, visits_of, visit, a_turn, times}
+use Rattle.armus_base.specs.Pieces.{times}
+use Rattle.pl_plan.specs.Unfolding.{UnfoldingState, with_member, make_visits, visits_of, visit, a_turn}
 use Rattle.gen_text.proofs.GeneratedProgram.{pc, pb, round, worker, waits, goes_on}
 use Rattle.gen_text.proofs.Succeeding.{Succeeds, so, Parts, Has, has_more, comes, both, no_visit, turns}
 use Rattle.gen_text.proofs.Statements.{left, loop_fits, turn_fits, adv_fits, await_fits, dereg_fits}

@@ -1,17 +1,19 @@
 -- How the steps of statements come one behind the other.
-use Rattle.std.proofs.Common.{◌≡◌, ℕ, ◌+◌, ◌<◌, ◌≤◌, List, [], ◌∷◌, ◌++◌, length, take, drop, get_or, arith, sym, ◌∙◌, ap, subst, refl, append_assoc}
+use Rattle.std.proofs.Common.{◌≡◌, ℕ, ◌+◌, ◌<◌, ◌≤◌, Bool, List, [], ◌∷◌, ◌++◌, length, take, drop, get_or, arith, sym, ◌∙◌, ap, subst, refl, append_assoc}
 use Rattle.std.proofs.lemmas.List.{length-append, append-nil}
-use Rattle.std.proofs.lemmas.List.{take_more, take_all}
+use Rattle.std.proofs.lemmas.List.{take_more}
 use Rattle.std.proofs.Math.Seq.{get_or-append_seam}
+use Rattle.armus_base.specs.Pieces.{max_turns}
 use Rattle.pl_syntax.proofs.Parts.{counts}
 use Rattle.std.specs.Borrow.{Bor}
 use Rattle.pl_syntax.specs.declared.tree.Stmt.{Stmt}
-use Rattle.pl_syntax.specs.Tree.{Tree, done, plain, fork, loop, Plain, count}
+use Rattle.pl_syntax.specs.Tree.{Tree, done, fork, loop, count}
 use Rattle.pl_syntax.specs.Bodies.{followed_by, tree_of}
+use Rattle.pl_plan.specs.FoldedOps.{is_steady}
 use Rattle.pl_plan.specs.declared.step.NameId.{NameId}
 use Rattle.pl_plan.specs.declared.step.Step.{Step}
 use Rattle.pl_plan.specs.declared.step.Step.TheVariants as a_step
-use Rattle.pl_plan.specs.inside.Steps.{IsNumberOfName, IsStep, IsSpelled, step_at}
+use Rattle.pl_plan.specs.inside.Steps.{IsNumberOfName, IsSpelled, step_at}
 use Rattle.pl_plan.specs.inside.Shows.{IsNumbering}
 use Rattle.pl_plan.specs.inside.Numbers.{spelling, IsMore}
 use Rattle.pl_plan.specs.inside.Flattening.{AddsSteps}
@@ -78,18 +80,20 @@ adds_fork a b c steps mid new i x after body more is at named adds =
 
 -- a loop, and the steps of its body
 pub adds_loop :
-    (a c : List (Bor (List ℕ))) (steps mid new : List Step) (k after : ℕ) (body : Tree) → mid ≡ steps ++ a_step.Loop k after ∷ [] →
-    after ≡ length steps + 1 + count body → AddsSteps a c mid new body → AddsSteps a c steps new (loop k body done)
-adds_loop a c steps mid new k after body is at adds =
-    let ends = body_end c steps mid new (a_step.Loop k after) after body is at adds.spelled in
+    (a c : List (Bor (List ℕ))) (steps mid new : List Step) (k after : ℕ) (steady : Bool) (body : Tree) → k ≤ max_turns → steady ≡ is_steady body →
+    mid ≡ steps ++ a_step.Loop k after steady ∷ [] → after ≡ length steps + 1 + count body → AddsSteps a c mid new body →
+    AddsSteps a c steps new (loop k body done)
+adds_loop a c steps mid new k after steady body few same is at adds =
+    let ends = body_end c steps mid new (a_step.Loop k after steady) after body is at adds.spelled in
     record {
       names = adds.names;
       distinct = adds.distinct;
-      added = added_behind steps mid new (a_step.Loop k after) is adds.added;
+      added = added_behind steps mid new (a_step.Loop k after steady) is adds.added;
       spelled = (
         after,
-        step_before steps mid new (a_step.Loop k after) is adds.added,
-        body_steps c steps mid new (a_step.Loop k after) after body is ends adds.spelled,
+        step_before steps mid new (a_step.Loop k after steady) is adds.added ∙ ap (a_step.Loop k after) same,
+        few,
+        body_steps c steps mid new (a_step.Loop k after steady) after body is ends adds.spelled,
         ends,
       );
     }

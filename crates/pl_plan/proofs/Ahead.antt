@@ -1,5 +1,5 @@
 -- What a turn of the walk's loop needs and gives.
-use Rattle.std.proofs.Common.{◌≡◌, ℕ, suc, ◌+◌, ◌-◌, ◌<◌, ◌≤◌, List, length, Ok, Err, Result, arith, sym, ◌∙◌, ap, subst, refl}
+use Rattle.std.proofs.Common.{◌≡◌, ℕ, suc, ◌+◌, ◌-◌, ◌<◌, ◌≤◌, Bool, List, length, Ok, Err, Result, arith, sym, ◌∙◌, ap, subst, refl}
 use Rattle.pl_syntax.specs.Tree.{Tree}
 use Rattle.pl_plan.specs.declared.step.NameId.{NameId}
 use Rattle.pl_plan.specs.declared.step.Step.{Step}
@@ -10,7 +10,8 @@ use Rattle.pl_plan.specs.declared.fault.PlanEnd.TheVariants as ends
 use Rattle.pl_plan.specs.inside.Steps.{step_at, IsSpelled, IsList}
 use Rattle.pl_plan.specs.inside.Checker.{Checker, IsChecker, Keeps}
 use Rattle.pl_plan.specs.inside.CheckerSteps.{checker_act, HasNames, checker_count, checker_fork, GivesChecker}
-use Rattle.pl_plan.specs.Unfolding.{UnfoldingState, Outcome, ◌>>=◌, times, visits_of, make_visits, count_visit}
+use Rattle.armus_base.specs.Pieces.{times}
+use Rattle.pl_plan.specs.Unfolding.{UnfoldingState, Outcome, ◌>>=◌, visits_of, make_visits, count_visit}
 use Rattle.pl_plan.specs.inside.Shows.{ShowsState, Follows, FollowsFrom}
 use Rattle.pl_plan.proofs.Simulating as simulating
 use Rattle.pl_plan.proofs.Walks.{make_visits-append, On, Failed, on_through, on_failed, simulates_ok, simulates_err, IsPlain}
@@ -95,24 +96,24 @@ module _ (from to t : ℕ) (old : Checker) (at : ℕ) (k : Checker) (old_runs : 
           (λ f ef. failed_from f (fork_fails to t at k here_fits run lt list k1 visited x after (sym is) whole_k f
           (gave e (checker_fork t (at + 1) x.0 after k1) k2 f g ef)))
 
-    module _ (i after : ℕ) (is : a_step.Loop i after ≡ step_at k.steps at) where
+    module _ (i after : ℕ) (steady : Bool) (is : a_step.Loop i after steady ≡ step_at k.steps at) where
       pub ahead_loop_bounds : (at < after) × (after ≤ to)
-      ahead_loop_bounds = loop_bounds to t at k here_fits run lt list k1 visited i after (sym is)
+      ahead_loop_bounds = loop_bounds to t at k here_fits run lt list k1 visited i after steady (sym is)
 
       pub ahead_loop_list : IsList (length k1.slots) k1.steps (at + 1) after
-      ahead_loop_list = loop_list to t at k here_fits run lt list k1 visited i after (sym is)
+      ahead_loop_list = loop_list to t at k here_fits run lt list k1 visited i after steady (sym is)
 
       pub ahead_loop : (k2 : Checker) → Keeps k1 k2 →
           ((names : ℕ → List ℕ) (s : UnfoldingState) (tree : Tree) → IsSpelled (length k1.slots) names k1.steps (at + 1) tree after → ShowsState names k1 s →
           (s' : UnfoldingState) × (make_visits t (times i (turn at tree)) s ≡ Ok s') × ShowsState names k2 s') →
           On (length old.slots) to t old.steps from old after k2
-      ahead_loop k2 keeps went = next_on after k2 (loop_on to t at k here_fits run lt list k1 visited i after (sym is) k2 keeps went)
+      ahead_loop k2 keeps went = next_on after k2 (loop_on to t at k here_fits run lt list k1 visited i after steady (sym is) k2 keeps went)
 
       pub ahead_loop_fails : (e : PlanEnd) (k2 kk : Checker) →
           ((names : ℕ → List ℕ) (s : UnfoldingState) (tree : Tree) → IsSpelled (length k1.slots) names k1.steps (at + 1) tree after → ShowsState names k1 s →
           Follows {A = Unit {0}} (Err e) (make_visits t (times i (turn at tree)) s) (ShowsState names k2)) →
           (r : Result (Unit {0}) PlanEnd) → r ≡ Err e → FollowsFrom from to t old r kk
-      ahead_loop_fails e k2 kk went = end_follows from to t old kk e (λ f ef. failed_from f (loop_fails to t at k here_fits run lt list k1 visited i after (sym is) f
+      ahead_loop_fails e k2 kk went = end_follows from to t old kk e (λ f ef. failed_from f (loop_fails to t at k here_fits run lt list k1 visited i after steady (sym is) f
           (λ names s tree sp h. went_err e (make_visits t (times i (turn at tree)) s) (ShowsState names k2) f (went names s tree sp h) ef)))
 
 -- ---- turns
@@ -201,9 +202,9 @@ pub turn_spelled : (a b : Checker) (names : ℕ → List ℕ) (i : ℕ) (tree : 
     IsSpelled (length b.slots) names b.steps i tree to
 turn_spelled = respell
 
-pub plain_is : (step : Step) → ((x : NameId) (a : ℕ) → step ≡ a_step.Fork x a → ⊥) → ((i a : ℕ) → step ≡ a_step.Loop i a → ⊥) → IsPlain step
+pub plain_is : (step : Step) → ((x : NameId) (a : ℕ) → step ≡ a_step.Fork x a → ⊥) → ((i a : ℕ) (steady : Bool) → step ≡ a_step.Loop i a steady → ⊥) → IsPlain step
 plain_is (a_step.Fork x a) f l = f x a refl
-plain_is (a_step.Loop i a) f l = l i a refl
+plain_is (a_step.Loop i a steady) f l = l i a steady refl
 plain_is (a_step.NewTask x) f l = tt
 plain_is (a_step.NewPhaser x) f l = tt
 plain_is (a_step.Reg x y) f l = tt

@@ -1,5 +1,5 @@
 -- The codes of a program's plan have pieces; each has one list of them, which is folded and unfolds to the code.
-use Rattle.std.proofs.Common.{◌≡◌, ℕ, ◌≤◌, Bool, Option, Some, None, Ok, List, [], ◌++◌, length, get_or, sym, ap, subst, ◌∙◌, arith, inl, inr}
+use Rattle.std.proofs.Common.{◌≡◌, ℕ, ◌≤◌, Bool, Option, Some, None, Ok, List, [], ◌++◌, length, get_or, refl, sym, ap, subst, ◌∙◌, arith, inl, inr}
 use Rattle.std.specs.Prelude.{sum_by}
 use Rattle.std.proofs.lemmas.Bool.{cases_lt}
 use Rattle.std.proofs.lemmas.List.{get_or_past}
@@ -14,10 +14,11 @@ use Rattle.pl_syntax.specs.declared.tree.Program.{Program}
 use Rattle.pl_syntax.specs.Printed.{TreeIsWritable}
 use Rattle.pl_syntax.specs.Tree.{Tree, done, fork, height, loop, plain}
 use Rattle.pl_syntax.proofs.Writable.{text_is_writable}
-use Rattle.pl_plan.specs.Unfolding.{Start, UnfoldingState, opening_state, plan_of, unfold_tasks}
+use Rattle.pl_plan.specs.Unfolding.{Start, UnfoldingState, code_pieces, opening_state, plan_of, unfold_tasks, with_pieces}
 use Rattle.pl_plan.specs.Folding.{HasBodyPieces, HasCodePieces, HasFewTurns, drops_of}
-use Rattle.pl_plan.specs.FoldingLaws.{CodesHavePieces, LeftPiecesUnfold, OneListLeft, OneListOfPieces, PiecesOfTexts, PiecesUnfoldToCode, SteadyLeavesFew}
-use Rattle.pl_plan.proofs.Folds.{steady_few, Folding, UnfoldTo, code_pieces, leaves_computed, leaves_unfold, straight_unfolds, unfolds_append, unfolds_deeper}
+use Rattle.pl_plan.specs.FoldingLaws.{LeftPiecesUnfold, OneListLeft, OneListOfPieces, PiecesOfTexts, PiecesUnfoldToCode, SteadyLeavesFew}
+use Rattle.pl_plan.specs.FoldedOps.{Folding, body_pieces}
+use Rattle.pl_plan.proofs.Folds.{steady_few, UnfoldTo, leaves_computed, leaves_unfold, straight_unfolds, unfolds_append, unfolds_deeper}
 use Rattle.pl_plan.proofs.TasksLeave.{IsOfParts, OfStart, end_has, end_until, start_at}
 use Rattle.pl_plan.proofs.VisitsLeave.{bind_ok, code, ok_is}
 
@@ -33,22 +34,21 @@ pub code_has : (program : Program) (end : UnfoldingState) → unfold_tasks progr
     (ps : List Piece) × HasCodePieces program.two (start_at end t) (code end t) ps
 code_has program end e t = end_has Holds holds_of_parts program.two end (end_until Holds holds_of_parts program.two program.body end tt e) t
 
-pub codes_have_pieces : CodesHavePieces
-unfolding plan_of
-codes_have_pieces program plan e t =
-    let b = bind_ok (unfold_tasks program.two max_tasks 0 (opening_state program.body)) (λ s. Ok s.plan) plan e in
-    let h = code_has program b.0 b.1 t in
-    (h.0, record { end = b.0; unfolds = b.1; pieces = h.1 })
-
 -- ---- and one list of them
 
-pub body_pieces_are : (two : Bool) (body : Tree) (ops : List Op) (ps : List Piece) → HasBodyPieces two body ops ps → ps ≡ code_pieces body ops
+pub body_pieces_are : (two : Bool) (body : Tree) (ops : List Op) (ps : List Piece) → HasBodyPieces two body ops ps → ps ≡ body_pieces body ops
 body_pieces_are two body ops ps h =
-    h.pieces_are ∙ ap (λ (f : Folding). f.pieces ++ straight f.rest) (sym (leaves_computed h.leaves (drops_of h.left))) ∙ ap (code_pieces body) (sym h.code_is)
+    h.pieces_are ∙ ap (λ (f : Folding). f.pieces ++ straight f.rest) (sym (leaves_computed h.leaves (drops_of h.left))) ∙ ap (body_pieces body) (sym h.code_is)
 
-one_list : (two : Bool) (start : Option Start) (ops : List Op) (ps qs : List Piece) → HasCodePieces two start ops ps → HasCodePieces two start ops qs → ps ≡ qs
+pub one_list : (two : Bool) (start : Option Start) (ops : List Op) (ps qs : List Piece) → HasCodePieces two start ops ps → HasCodePieces two start ops qs → ps ≡ qs
 one_list two None ops ps qs a b = a.1 ∙ sym b.1
 one_list two (Some start) ops ps qs a b = body_pieces_are two start.body ops ps a ∙ sym (body_pieces_are two start.body ops qs b)
+
+-- which is computed from them
+pub has_computed : (two : Bool) (start : Option Start) (ops : List Op) (ps : List Piece) → HasCodePieces two start ops ps →
+    HasCodePieces two start ops (code_pieces start ops)
+has_computed two None ops ps h = (h.0, refl)
+has_computed two (Some start) ops ps h = subst (λ qs. HasCodePieces two (Some start) ops qs) (body_pieces_are two start.body ops ps h) h
 
 pub one_list_of_pieces : OneListOfPieces
 one_list_of_pieces program t ps qs a b =
@@ -91,17 +91,31 @@ code_fits codes t = elim (cases_lt t (length codes)) [
   | inr l ↦ omega (arith, ap length (get_or_past codes t [] l))
 ]
 
+-- at the end of an unfolding each code's pieces are folded and stand for it
+pub code_folds : (program : Program) (end : UnfoldingState) → height program.body ≤ MAX_OPEN_BRACES → HasFewTurns program.body →
+    unfold_tasks program.two max_tasks 0 (opening_state program.body) ≡ Ok end → (t : ℕ) (ps : List Piece) →
+    HasCodePieces program.two (start_at end t) (code end t) ps → IsFolded ps × (unfolded ps ≡ code end t)
+code_folds program end deep few e t ps has =
+    let until = end_until IsSmall small_of_parts program.two program.body end (deep, few) e in
+    let u = code_unfolds program.two (start_at end t) (code end t) ps (until.kept.bodies t) has in
+    folded_by (code end t) ps u (omega (arith, code_fits end.plan.codes t, until.kept.few_ops))
+
+-- as many starts as codes, and no more ops than there may be
+pub end_fits : (program : Program) (end : UnfoldingState) → unfold_tasks program.two max_tasks 0 (opening_state program.body) ≡ Ok end →
+    (length end.starts ≡ length end.plan.codes) × ((t : ℕ) → length (code end t) ≤ max_ops)
+end_fits program end e =
+    let until = end_until Holds holds_of_parts program.two program.body end tt e in
+    (until.kept.starts ∙ sym until.kept.codes, λ t. omega (arith, code_fits end.plan.codes t, until.kept.few_ops))
+
 pub pieces_unfold_to_code : PiecesUnfoldToCode
 unfolding plan_of
 pieces_unfold_to_code program plan deep few e t ps has =
-    let b = bind_ok (unfold_tasks program.two max_tasks 0 (opening_state program.body)) (λ s. Ok s.plan) plan e in
+    let b = bind_ok (unfold_tasks program.two max_tasks 0 (opening_state program.body)) (λ s. Ok (with_pieces s)) plan e in
     let same : has.end ≡ b.0 = ok_is has.end b.0 (sym has.unfolds ∙ b.1) in
-    let plans : has.end.plan ≡ plan = ap (λ (s : UnfoldingState). s.plan) same ∙ ok_is b.0.plan plan b.2 in
-    let until = end_until IsSmall small_of_parts program.two program.body has.end (deep, few) has.unfolds in
-    let u = code_unfolds program.two (start_at has.end t) (code has.end t) ps (until.kept.bodies t) has.pieces in
-    let fits : length (code has.end t) ≤ max_ops = omega (arith, code_fits has.end.plan.codes t, until.kept.few_ops) in
-    let f = folded_by (code has.end t) ps u fits in
-    (f.0, f.1 ∙ ap (λ (p : Plan). get_or p.codes t []) plans)
+    let codes : has.end.plan.codes ≡ plan.codes =
+    ap (λ (s : UnfoldingState). s.plan.codes) same ∙ ap (λ (p : Plan). p.codes) (ok_is (with_pieces b.0) plan b.2) in
+    let f = code_folds program has.end deep few has.unfolds t ps has.pieces in
+    (f.0, f.1 ∙ ap (λ os. get_or os t []) codes)
 
 -- ---- programs of texts
 

@@ -1,5 +1,5 @@
 -- The pieces that statements leave are whole loops and unfold to the ops of the statements; and `pieces_in` computes them, so there is one list of them.
-use Rattle.std.proofs.Common.{◌≡◌, ℕ, zero, suc, ◌+◌, ◌-◌, ◌*◌, ◌≤◌, max, Bool, true, false, if◌then◌else◌, List, [], ◌∷◌, ◌++◌, length, drop, refl, ap}
+use Rattle.std.proofs.Common.{◌≡◌, ℕ, zero, suc, ◌+◌, ◌-◌, ◌*◌, ◌≤◌, max, Bool, true, false, List, [], ◌∷◌, ◌++◌, length, drop, refl, ap}
 use Rattle.std.proofs.Common.{ap₂, sym, ◌∙◌, arith, append_assoc, length-append, suc-mul}
 use Rattle.std.proofs.lemmas.Bool.{false≢true}
 use Rattle.std.proofs.lemmas.List.{drop_at}
@@ -10,8 +10,9 @@ use Rattle.armus_base.specs.declared.piece.Piece.TheVariants.{Op as Single, Repe
 use Rattle.armus_base.specs.Pieces.{AreWhole, max_turns, straight, times, unfolded}
 use Rattle.armus_base.proofs.Unfolding.{unfolded-append, unfolded-straight}
 use Rattle.armus_base.proofs.WholeLoops.{unfolded_loop, whole-append, whole_deeper, whole_loop}
-use Rattle.pl_syntax.specs.Tree.{Tree, count, done, fork, height, loop, plain}
-use Rattle.pl_plan.specs.Folding.{HasFewTurns, LeavesPieces, a_fork, a_turn, folded, is_steady, is_steady_plain, makes_op, no_op, no_piece, no_turn, nothing, op}
+use Rattle.pl_syntax.specs.Tree.{Tree, count, height}
+use Rattle.pl_plan.specs.FoldedOps.{Folding, folding, is_steady, is_steady_plain, loop_pieces, pieces_in, repeated, steady_pieces, then_on, turn_pieces}
+use Rattle.pl_plan.specs.Folding.{HasFewTurns, LeavesPieces, a_fork, a_turn, folded, no_op, no_piece, no_turn, nothing, op}
 
 -- ---- the pieces are whole loops, and unfold to the ops
 
@@ -76,57 +77,6 @@ steady_few (folded k body rest once os bs ps e pieces l m) steady =
 steady_few (no_piece k body rest os ps e l m) steady = omega (arith, steady_few m (both (is_steady body) (is_steady rest) steady).1)
 steady_few (no_turn body rest os ps m) steady = omega (arith, steady_few m (both (is_steady body) (is_steady rest) steady).1)
 steady_few (a_turn k body rest once os ps qs e l m) steady = absurd (false≢true (sym e ∙ (both (is_steady body) (is_steady rest) steady).0))
-
--- ---- pieces, computed from the body and its ops
-
--- pieces, and the ops behind those that they stand for
-pub record Folding : Type 0 where
-  pub pieces : List Piece
-  pub rest : List Op
-
--- these pieces, and these ops behind
-abbrev folding : List Piece → List Op → Folding
-folding ps os = record { pieces = ps; rest = os }
-
--- the first op alone
-abbrev one_piece : List Op → Folding
-one_piece [] = folding [] []
-one_piece (o ∷ os) = folding (Single o ∷ []) os
-
--- pieces, and those of the ops behind them
-abbrev then_on : Folding → (List Op → Folding) → Folding
-then_on a f = folding (a.pieces ++ (f a.rest).pieces) (f a.rest).rest
-
--- turn by turn
-abbrev turn_pieces : ℕ → (List Op → Folding) → List Op → Folding
-turn_pieces zero f os = folding [] os
-turn_pieces (suc k) f os = then_on (f os) (turn_pieces k f)
-
--- a loop of k + 1 turns over these ops, of which the first turn left these pieces and, behind them, this rest: the ops of the other turns are passed over
-abbrev loop_behind : ℕ → List Op → List Piece → List Op → Folding
-loop_behind k os [] rest = folding [] os
-loop_behind k os (b ∷ bs) rest = folding (Repeat (suc k) (length (b ∷ bs)) ∷ (b ∷ bs)) (drop (k * (length os - length rest)) rest)
-
--- a steady loop of k + 1 turns over these ops, of which the first turn left this
-abbrev repeated : ℕ → List Op → Folding → Folding
-repeated k os a = loop_behind k os a.pieces a.rest
-
--- a steady loop of k turns
-abbrev steady_pieces : ℕ → (List Op → Folding) → List Op → Folding
-steady_pieces zero f os = folding [] os
-steady_pieces (suc k) f os = repeated k os (f os)
-
--- a loop, steady or not
-abbrev loop_pieces : Bool → ℕ → (List Op → Folding) → List Op → Folding
-loop_pieces true k f os = steady_pieces k f os
-loop_pieces false k f os = turn_pieces k f os
-
--- the pieces that these statements leave of a list of ops that begins with theirs
-abbrev pub pieces_in : Tree → List Op → Folding
-pieces_in done os = folding [] os
-pieces_in (plain s rest) os = if makes_op s then then_on (one_piece os) (pieces_in rest) else pieces_in rest os
-pieces_in (fork x body rest) os = then_on (one_piece os) (pieces_in rest)
-pieces_in (loop k body rest) os = then_on (loop_pieces (is_steady body) k (pieces_in body) os) (pieces_in rest)
 
 -- ---- the function computes the relation
 
@@ -200,9 +150,3 @@ straight_whole d (o ∷ ops) = straight_whole d ops
 
 pub straight_unfolds : (d : ℕ) (ops : List Op) → UnfoldTo d ops (straight ops)
 straight_unfolds d ops = record { whole = straight_whole d ops; same = unfolded-straight ops }
-
--- ---- a whole code
-
--- the pieces of a code with Drops behind those of the body
-abbrev pub code_pieces : Tree → List Op → List Piece
-code_pieces body ops = (pieces_in body ops).pieces ++ straight (pieces_in body ops).rest

@@ -27,3 +27,8 @@ pub mod VisitsLeave
 pub mod TasksLeave
 pub mod CodePieces
 pub mod WorkedPieces
+pub mod SteadyBodies
+pub mod FoldsOn
+pub mod PlanPieces
+pub mod Drawn
+pub mod FoldedCodes

@@ -1,5 +1,5 @@
 -- One step of the walk.
-use Rattle.std.proofs.Common.{◌≡◌, ℕ, ◌+◌, ◌<◌, ◌≤◌, List, ◌∷◌, ◌++◌, length, Ok, Err, arith, sym, ◌∙◌, ap, subst}
+use Rattle.std.proofs.Common.{◌≡◌, ℕ, ◌+◌, ◌<◌, ◌≤◌, Bool, List, ◌∷◌, ◌++◌, length, Ok, Err, arith, sym, ◌∙◌, ap, subst}
 use Rattle.pl_syntax.specs.Tree.{Tree, done, plain, fork, loop, Plain, count}
 use Rattle.pl_plan.specs.declared.step.NameId.{NameId}
 use Rattle.pl_plan.specs.declared.step.Step.{Step}
@@ -8,7 +8,8 @@ use Rattle.pl_plan.specs.declared.fault.CheckFault.{CheckFault}
 use Rattle.pl_plan.specs.inside.Steps.{IsStep, step_at, IsSpelled, IsList}
 use Rattle.pl_plan.specs.inside.Checker.{Checker, IsChecker, Keeps}
 use Rattle.pl_plan.specs.inside.CheckerSteps.{checker_act, HasNames, checker_count, checker_fork}
-use Rattle.pl_plan.specs.Unfolding.{UnfoldingState, ◌>>=◌, times, visit, a_fork, a_turn, visits_of, make_visits, count_visit, act, act_fork}
+use Rattle.armus_base.specs.Pieces.{times}
+use Rattle.pl_plan.specs.Unfolding.{UnfoldingState, ◌>>=◌, visit, a_fork, a_turn, visits_of, make_visits, count_visit, act, act_fork}
 use Rattle.pl_plan.specs.inside.Shows.{ShowsState}
 use Rattle.pl_plan.specs.inside.Simulates.{Simulates, KeepsAll}
 use Rattle.pl_plan.proofs.Simulating as simulating
@@ -153,9 +154,9 @@ module _ (to t at : ℕ) (k : Checker) (f : IsChecker k) (run : t < length k.par
           ap (λ u. make_visits t u s) (fork_visits names tree p) ∙ ap (λ o. (o >>= act_fork t (at + 1) p.name p.body) >>= rest) m.1 ∙ ap (λ o. o >>= rest) a
 
     -- ---- loops
-    module _ (i after : ℕ) (is : step_at k.steps at ≡ a_step.Loop i after) where
-      one : LoopAt (length k.slots) list.0 k.steps at to i after list.1
-      one = loop_at (length k.slots) list.0 k.steps at to i after list.1 list.2 lt is
+    module _ (i after : ℕ) (steady : Bool) (is : step_at k.steps at ≡ a_step.Loop i after steady) where
+      one : LoopAt (length k.slots) list.0 k.steps at to i after steady list.1
+      one = loop_at (length k.slots) list.0 k.steps at to i after steady list.1 list.2 lt is
 
       pub loop_bounds : (at < after) × (after ≤ to)
       loop_bounds =
@@ -166,7 +167,7 @@ module _ (to t at : ℕ) (k : Checker) (f : IsChecker k) (run : t < length k.par
       pub loop_list : IsList (length k1.slots) k1.steps (at + 1) after
       loop_list = (list.0, one.body, respell k k1 list.0 (at + 1) one.body after k1_keeps one.body_there)
 
-      loop_all : (names : ℕ → List ℕ) (tree : Tree) (s : UnfoldingState) (p : LoopAt (length k.slots) names k.steps at to i after tree) →
+      loop_all : (names : ℕ → List ℕ) (tree : Tree) (s : UnfoldingState) (p : LoopAt (length k.slots) names k.steps at to i after steady tree) →
           (s1 : UnfoldingState) → count_visit (at + 1) s ≡ Ok s1 →
           make_visits t (visits_of (at + 1) tree) s ≡ (make_visits t (times i (turn at p.body)) s1 >>= make_visits t (visits_of (after + 1) p.rest))
       unfolding make_visits
@@ -189,7 +190,7 @@ module _ (to t at : ℕ) (k : Checker) (f : IsChecker k) (run : t < length k.par
         list = (list.0, one.rest, one.rest_there);
         keeps = simulating.keeps_through k k1 k2 k1_keeps keeps;
         all = λ names s tree sp h.
-            let p = loop_at (length k.slots) names k.steps at to i after tree sp lt is in
+            let p = loop_at (length k.slots) names k.steps at to i after steady tree sp lt is in
             let m = visited_state names s h in
             let w = went names m.0 p.body (respell k k1 names (at + 1) p.body after k1_keeps p.body_there) m.2 in
             let rest = make_visits t (visits_of (after + 1) p.rest) in
@@ -201,7 +202,7 @@ module _ (to t at : ℕ) (k : Checker) (f : IsChecker k) (run : t < length k.par
           make_visits t (times i (turn at tree)) s ≡ Err err) →
           Failed (length k.slots) to t k.steps at k err
       loop_fails err went names s tree sp h =
-          let p = loop_at (length k.slots) names k.steps at to i after tree sp lt is in
+          let p = loop_at (length k.slots) names k.steps at to i after steady tree sp lt is in
           let m = visited_state names s h in
           let w = went names m.0 p.body (respell k k1 names (at + 1) p.body after k1_keeps p.body_there) m.2 in
           let rest = make_visits t (visits_of (after + 1) p.rest) in

@@ -1,11 +1,9 @@
 -- Before the first visit, and the plan at the end.
-use Rattle.std.proofs.Common.{◌≡◌, ℕ, ◌+◌, ◌*◌, ◌<◌, ◌≤◌, ◌⊎◌, inl, inr, List, [], ◌∷◌, length, Ok, Err, Result, Option, Some, None, arith, sym, ◌∙◌, ap, subst, refl}
+use Rattle.std.proofs.Common.{◌≡◌, ℕ, ◌+◌, ◌*◌, ◌<◌, ◌≤◌, ◌⊎◌, inl, inr, List, [], ◌∷◌, length, Ok, Err, Result, Some, None, arith, sym, ◌∙◌, ap, subst, refl}
 use Rattle.std.specs.Prelude.{slice_index_or}
 use Rattle.std.proofs.lemmas.Bool.{cases_lt}
 use Rattle.std.proofs.lemmas.List.{get_or_past}
 use Rattle.armus_base.specs.Limits.{max_tasks, max_phasers}
-use Rattle.armus_base.specs.declared.ids.TaskId.{TaskId}
-use Rattle.armus_base.specs.declared.op.Op.{Op}
 use Rattle.armus_base.specs.Plans.{Plan}
 use Rattle.pl_syntax.specs.declared.tree.Program.{Program}
 use Rattle.pl_syntax.specs.Tree.{Tree}
@@ -17,7 +15,7 @@ use Rattle.pl_plan.specs.inside.Checker.{Checker, CheckerStart}
 use Rattle.pl_plan.specs.inside.CheckerSteps.{thing_of}
 use Rattle.pl_plan.specs.inside.Opening.{IsOpeningChecker}
 use Rattle.pl_plan.specs.Planning.{GivesOutcome}
-use Rattle.pl_plan.specs.Unfolding.{UnfoldingState, Start, ◌>>=◌, opening_state, unfold_tasks, plan_of}
+use Rattle.pl_plan.specs.Unfolding.{UnfoldingState, Start, ◌>>=◌, opening_state, unfold_tasks, plan_of, with_pieces}
 use Rattle.pl_plan.specs.inside.Shows.{ShowsState, MaybeStartShows, StartShows, IsNumbering, Follows}
 
 pub opens : (spelling : ℕ → List ℕ) (steps : List Step) (names : ℕ) (k : Checker) (tree : Tree) → IsOpeningChecker steps names k → IsNumbering names spelling →
@@ -55,21 +53,14 @@ opens spelling steps names k tree o distinct spelled = record {
         (sym (get_or_past (Some start ∷ []) c None le))
         (subst (MaybeStartShows spelling k.slots k.steps None) (sym (get_or_past (Some kept ∷ []) c None le)) tt)
 
-plan_is : (p : Plan) (parents : List (Option TaskId)) (makers : List TaskId) (codes : List (List Op)) → p.parents ≡ parents → p.makers ≡ makers →
-    p.codes ≡ codes → p ≡ record { parents = parents; makers = makers; codes = codes }
-plan_is p parents makers codes a b c =
-    ap (λ x. record p { parents = x }) a ∙ ap (λ x. record p { parents = parents; makers = x }) b ∙ ap (λ x. record p { parents = parents; makers = makers; codes = x }) c
-
-pub plan_found : (spelling : ℕ → List ℕ) (k : Checker) (program : Program) (plan : Plan) →
-    ((s : UnfoldingState) × (unfold_tasks program.two max_tasks 0 (opening_state program.body) ≡ Ok s) × ShowsState spelling k s) →
-    plan ≡ record { parents = k.parents; makers = k.makers; codes = k.codes } → plan_of program ≡ Ok plan
+pub plan_found : (program : Program) (s : UnfoldingState) (plan : Plan) → unfold_tasks program.two max_tasks 0 (opening_state program.body) ≡ Ok s →
+    plan ≡ with_pieces s → plan_of program ≡ Ok plan
 unfolding plan_of
-plan_found spelling k program plan w is =
-    ap (λ o. o >>= λ s. Ok s.plan) w.1 ∙ ap Ok (plan_is w.0.plan k.parents k.makers k.codes w.2.parents w.2.makers w.2.codes ∙ sym is)
+plan_found program s plan e is = ap (λ o. o >>= λ s. Ok (with_pieces s)) e ∙ ap Ok (sym is)
 
 pub plan_fault : (program : Program) (e : PlanEnd) (shows : UnfoldingState → Type 0) →
     Follows {A = Unit {0}} (Err e) (unfold_tasks program.two max_tasks 0 (opening_state program.body)) shows → (r : Result Plan PlanEnd) → r ≡ Err e →
     GivesOutcome r (plan_of program)
 unfolding plan_of
 plan_fault program ends.NoMemory shows g r is = subst (λ z. GivesOutcome z (plan_of program)) (sym is) tt
-plan_fault program (ends.Check f) shows g r is = subst (λ z. GivesOutcome z (plan_of program)) (sym is) (ap (λ o. o >>= λ s. Ok s.plan) g)
+plan_fault program (ends.Check f) shows g r is = subst (λ z. GivesOutcome z (plan_of program)) (sym is) (ap (λ o. o >>= λ s. Ok (with_pieces s)) g)

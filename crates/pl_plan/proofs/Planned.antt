@@ -1,22 +1,31 @@
 -- From the flat steps of a program to its plan.
-use Rattle.std.proofs.Common.{◌≡◌, ℕ, List, [], length, Ok, Option, arith, sym, ◌∙◌, ap, subst}
+use Rattle.std.proofs.Common.{◌≡◌, ℕ, ◌≤◌, List, [], length, Ok, Option, Some, None, arith, sym, ◌∙◌, ap, subst}
+use Rattle.std.specs.Prelude.{slice_index_or}
 use Rattle.std.specs.Borrow.{Bor}
-use Rattle.armus_base.specs.Limits.{max_tasks}
+use Rattle.armus_base.specs.Finals.{list_below}
+use Rattle.armus_base.specs.Limits.{max_ops, max_tasks}
+use Rattle.armus_base.specs.Pieces.{IsFolded}
+use Rattle.armus_base.specs.declared.piece.Piece.{Piece}
 use Rattle.armus_base.specs.declared.ids.TaskId.{TaskId}
 use Rattle.armus_base.specs.declared.op.Op.{Op}
-use Rattle.armus_base.specs.Plans.{Plan}
+use Rattle.armus_base.specs.Plans.{Plan, folded_plan}
 use Rattle.armus_base.specs.CheckedPlans.{IsCheckedPlan}
 use Rattle.pl_syntax.specs.declared.tree.Program.{Program}
-use Rattle.pl_syntax.specs.Tree.{AreNear, Tree, count}
+use Rattle.pl_syntax.specs.declared.limits.TheConstants.{MAX_OPEN_BRACES}
+use Rattle.pl_syntax.specs.Tree.{AreNear, Tree, count, height}
 use Rattle.pl_plan.specs.declared.step.Step.{Step}
 use Rattle.pl_plan.specs.inside.Steps.{IsSpelled}
 use Rattle.pl_plan.specs.inside.Numbers.{spelling}
 use Rattle.pl_plan.specs.inside.Flattening.{AddsSteps}
-use Rattle.pl_plan.specs.inside.Checker.{Checker}
+use Rattle.pl_plan.specs.inside.Checker.{Checker, CheckerStart, IsChecker, StartFits}
+use Rattle.pl_plan.specs.inside.FoldsSteps.{AreFolded, CanBeFolded, HasTreeAt, SpellStarts, SpellsStart, pieces_by}
 use Rattle.pl_plan.specs.inside.Opening.{IsOpeningChecker}
-use Rattle.pl_plan.specs.inside.Shows.{ShowsState, IsNumbering}
-use Rattle.pl_plan.specs.Unfolding.{UnfoldingState, opening_state, unfold_tasks}
-use Rattle.pl_plan.proofs.Spelled.{spelled_count, spelled_near}
+use Rattle.pl_plan.specs.inside.Shows.{IsNumbering, MaybeStartShows, ShowsState}
+use Rattle.pl_plan.specs.Folding.{HasFewTurns}
+use Rattle.pl_plan.specs.Unfolding.{Start, UnfoldingState, opening_state, plan_of, unfold_tasks, with_pieces}
+use Rattle.pl_plan.proofs.CodePieces.{end_fits}
+use Rattle.pl_plan.proofs.PlanPieces.{end_folded, end_plan}
+use Rattle.pl_plan.proofs.Spelled.{spelled_count, spelled_few, spelled_near}
 use Rattle.pl_plan.proofs.Opens.{opens, plan_found}
 use Rattle.pl_plan.proofs.UnfoldedIsChecked.{unfolded_is_checked}
 
@@ -34,22 +43,70 @@ opens_flat a b old steps tree names k empty many adds o =
     (subst (λ n. IsSpelled n (spelling b) steps 0 tree (length steps)) (sym many)
     (subst (λ z. IsSpelled (length b) (spelling b) steps z tree (length steps)) (ap length empty) adds.spelled))
 
--- the plan of three lists
-pub same_plan :
-    (parents parents' : List (Option TaskId)) (makers makers' : List TaskId) (codes codes' : List (List Op)) → parents ≡ parents' → makers ≡ makers' → codes ≡ codes' →
-    ◌≡◌ {A = Plan} (record { parents = parents; makers = makers; codes = codes }) (record { parents = parents'; makers = makers'; codes = codes' })
-same_plan parents parents' makers makers' codes codes' p m c =
-    ap (λ x. record { parents = x; makers = makers; codes = codes }) p
-    ∙ ap (λ x. record { parents = parents'; makers = x; codes = codes }) m
-    ∙ ap (λ x. record { parents = parents'; makers = makers'; codes = x }) c
-
--- what is kept last is a checked plan
-pub plan_checked :
-    (names : ℕ → List ℕ) (k : Checker) (program : Program) (plan : Plan) → AreNear program.body →
-    (s : UnfoldingState) × (unfold_tasks program.two max_tasks 0 (opening_state program.body) ≡ Ok s) × ShowsState names k s →
-    plan ≡ record { parents = k.parents; makers = k.makers; codes = k.codes } → IsCheckedPlan plan
-plan_checked names k program plan near w is = unfolded_is_checked program plan near (plan_found names k program plan w is)
-
 -- no await of a tree whose steps were added looks farther than it may
 pub added_near : (a b : List (Bor (List ℕ))) (old steps : List Step) (tree : Tree) → AddsSteps a b old steps tree → AreNear tree
 added_near a b old steps tree adds = spelled_near (length b) (spelling b) steps (length old) tree (length steps) adds.spelled
+
+-- and no loop of it has too many turns
+pub added_few : (a b : List (Bor (List ℕ))) (old steps : List Step) (tree : Tree) → AddsSteps a b old steps tree → HasFewTurns tree
+added_few a b old steps tree adds = spelled_few (length b) (spelling b) steps (length old) tree (length steps) adds.spelled
+
+-- ---- what is kept last
+
+-- the steps of a start that is kept
+tree_at : (tasks phasers slot_count names : ℕ) (steps : List Step) (kept : Option CheckerStart) → StartFits tasks phasers slot_count names steps kept → HasTreeAt steps kept
+tree_at tasks phasers slot_count names steps None h = tt
+tree_at tasks phasers slot_count names steps (Some kept) h = (h.within, (names, h.list.0, h.list.1, h.list.2))
+
+-- are those of the start that it shows
+spells_start : (names : ℕ → List ℕ) (slots : List ℕ) (steps : List Step) (start : Option Start) (kept : Option CheckerStart) →
+    MaybeStartShows names slots steps start kept → SpellsStart (length slots) names steps start kept
+spells_start names slots steps None None h = tt
+spells_start names slots steps (Some start) (Some kept) h = h.spelled
+spells_start names slots steps None (Some kept) h = h
+spells_start names slots steps (Some start) None h = h
+
+module _ (names : ℕ → List ℕ) (k : Checker) (program : Program) (fits : IsChecker k) (deep : height program.body ≤ MAX_OPEN_BRACES) (few : HasFewTurns program.body)
+    (w : (s : UnfoldingState) × (unfold_tasks program.two max_tasks 0 (opening_state program.body) ≡ Ok s) × ShowsState names k s)
+    (steps : List Step) (kept : List (Option CheckerStart)) (codes : List (List Op)) (steps_are : steps ≡ k.steps) (kept_are : kept ≡ k.starts) (codes_are : codes ≡ k.codes) where
+  same_codes : w.0.plan.codes ≡ codes
+  same_codes = w.2.codes ∙ sym codes_are
+
+  starts_spell : SpellStarts (length k.slots) names steps w.0.starts kept
+  starts_spell t =
+      subst (λ zs. SpellsStart (length k.slots) names zs (slice_index_or w.0.starts t None) (slice_index_or kept t None)) (sym steps_are)
+      (subst (λ zs. SpellsStart (length k.slots) names k.steps (slice_index_or w.0.starts t None) (slice_index_or zs t None)) (sym kept_are)
+      (spells_start names k.slots k.steps (slice_index_or w.0.starts t None) (slice_index_or k.starts t None) (w.2.starts t)))
+
+  -- its codes can be folded
+  pub last_can_fold : CanBeFolded steps kept codes
+  last_can_fold = record {
+    many = ap (λ zs. length zs) kept_are ∙ fits.starts_many ∙ sym fits.codes_many ∙ ap (λ zs. length zs) (sym codes_are);
+    trees = λ t.
+        subst (λ zs. HasTreeAt zs (slice_index_or kept t None)) (sym steps_are)
+        (subst (λ zs. HasTreeAt k.steps (slice_index_or zs t None)) (sym kept_are)
+        (tree_at (length k.parents) (length k.makers) k.slot_count (length k.slots) k.steps (slice_index_or k.starts t None) (fits.later t)));
+    few = λ t. subst (λ zs. length (slice_index_or zs t []) ≤ max_ops) same_codes ((end_fits program w.0 w.1).1 t);
+    folded = (
+      length k.slots,
+      names,
+      w.0.starts,
+      starts_spell,
+      λ t. subst (λ zs. IsFolded (pieces_by w.0.starts zs t)) same_codes (end_folded program w.0 w.1 deep few t),
+    );
+  }
+
+  -- and then its plan is the program's
+  pub last_plan : (parents : List (Option TaskId)) (makers : List TaskId) (lists : List (List Piece)) → parents ≡ k.parents → makers ≡ k.makers →
+      AreFolded steps kept codes lists → folded_plan parents makers lists ≡ with_pieces w.0
+  last_plan parents makers lists p m folded =
+      let pieces : lists ≡ (with_pieces w.0).pieces =
+      subst (λ zs. lists ≡ list_below (pieces_by w.0.starts zs) (length zs)) (sym same_codes) (folded (length k.slots) names w.0.starts starts_spell) in
+      ap (λ z. folded_plan z makers lists) (p ∙ sym w.2.parents) ∙ ap (λ z. folded_plan w.0.plan.parents z lists) (m ∙ sym w.2.makers)
+      ∙ ap (λ z. folded_plan w.0.plan.parents w.0.plan.makers z) pieces ∙ sym (end_plan program w.0 w.1 deep few)
+
+  pub last_found : (plan : Plan) → plan ≡ with_pieces w.0 → plan_of program ≡ Ok plan
+  last_found plan is = plan_found program w.0 plan w.1 is
+
+  pub last_checked : (plan : Plan) → AreNear program.body → plan ≡ with_pieces w.0 → IsCheckedPlan plan
+  last_checked plan near is = unfolded_is_checked program plan near (last_found plan is)

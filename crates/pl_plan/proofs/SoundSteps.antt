@@ -21,7 +21,8 @@ use Rattle.armus_base.proofs.Fixed.{first_phases_is, register_step_keeps}
 use Rattle.armus_base.proofs.Codes.{child_later, child_within, parent_is, phaser_within}
 use Rattle.pl_syntax.specs.Tree.{Plain, new_task, new_phaser, reg, dereg, adv, await, skip, Tree, AreNear, PlainIsNear, count, done, plain, fork, loop}
 use Rattle.pl_plan.proofs.Places.{at_set, at_more}
-use Rattle.pl_plan.specs.Unfolding.{Coming, a_plain, a_fork, a_loop, a_turn, Visit, come_to, make_visit, make_visits, UnfoldingState, Start, Names, Thing, a_task, a_phaser, Outcome, ◌>>=◌, fault_unless, as_task, as_phaser, is_parent, unforked_child, member_of, task, phaser, add_op, act, act_fork, count_visit, with_op, with_member, assigned, not_member, already_member, not_drawn_here, already_forked, too_many_tasks, too_many_phasers, too_many_ops, too_many_visits, visit, visits_of, times, leave, leave_below, ended, with_members}
+use Rattle.armus_base.specs.Pieces.{times}
+use Rattle.pl_plan.specs.Unfolding.{Coming, a_plain, a_fork, a_loop, a_turn, Visit, come_to, make_visit, make_visits, UnfoldingState, Start, Names, Thing, a_task, a_phaser, Outcome, ◌>>=◌, fault_unless, as_task, as_phaser, is_parent, unforked_child, member_of, task, phaser, add_op, act, act_fork, count_visit, with_op, with_member, assigned, not_member, already_member, not_drawn_here, already_forked, too_many_tasks, too_many_phasers, too_many_ops, too_many_visits, visit, visits_of, leave, leave_below, ended, with_members}
 use Rattle.pl_plan.proofs.Growth.{own_steps, register_steps, last_phases, own_at, own_before, first_new, nobody_registers, stays_registered}
 use Rattle.pl_plan.proofs.Tables.{own_actions, other_actions, one_more_op, op_tables, with_maker, maker_new, makers_at_most, maker_tables, with_task, parent_new, parents_at_most, task_actions, task_tables, slice_get-last}
 use Rattle.pl_plan.proofs.Sound.{IsAt, IsActing, IsNew, HasStarts, HasMembers, is_begun, idle_phases, acts_on, NearStart}

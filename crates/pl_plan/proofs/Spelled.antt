@@ -5,6 +5,7 @@ use Rattle.pl_syntax.specs.Tree.{AreNear, PlainIsNear, Tree, done, plain, fork, 
 use Rattle.pl_plan.specs.declared.step.NameId.{NameId}
 use Rattle.pl_plan.specs.declared.step.Step.{Step}
 use Rattle.pl_plan.specs.declared.step.Step.TheVariants as a_step
+use Rattle.pl_plan.specs.Folding.{HasFewTurns}
 use Rattle.pl_plan.specs.inside.Steps.{IsNumberOfName, IsStep, step_at, IsSpelled}
 
 -- the names below n are the same
@@ -35,8 +36,8 @@ spelled_count n names steps i (fork x body rest) to e =
     let b = spelled_count n names steps e.1 rest to e.5 in
     omega arith
 spelled_count n names steps i (loop k body rest) to e =
-    let a = spelled_count n names steps (i + 1) body e.0 e.2 in
-    let b = spelled_count n names steps e.0 rest to e.3 in
+    let a = spelled_count n names steps (i + 1) body e.0 e.3 in
+    let b = spelled_count n names steps e.0 rest to e.4 in
     omega arith
 
 step_near : (n : ℕ) (names : ℕ → List ℕ) (step : Step) (s : Plain) → IsStep n names step s → PlainIsNear s
@@ -53,7 +54,14 @@ pub spelled_near : (n : ℕ) (names : ℕ → List ℕ) (steps : List Step) (i :
 spelled_near n names steps i done to e = tt
 spelled_near n names steps i (plain s rest) to e = (step_near n names (step_at steps i) s e.0, spelled_near n names steps (i + 1) rest to e.1)
 spelled_near n names steps i (fork x body rest) to e = (spelled_near n names steps (i + 1) body e.1 e.4, spelled_near n names steps e.1 rest to e.5)
-spelled_near n names steps i (loop k body rest) to e = (spelled_near n names steps (i + 1) body e.0 e.2, spelled_near n names steps e.0 rest to e.3)
+spelled_near n names steps i (loop k body rest) to e = (spelled_near n names steps (i + 1) body e.0 e.3, spelled_near n names steps e.0 rest to e.4)
+
+-- no loop of it has too many turns
+pub spelled_few : (n : ℕ) (names : ℕ → List ℕ) (steps : List Step) (i : ℕ) (tree : Tree) (to : ℕ) → IsSpelled n names steps i tree to → HasFewTurns tree
+spelled_few n names steps i done to e = tt
+spelled_few n names steps i (plain s rest) to e = spelled_few n names steps (i + 1) rest to e.1
+spelled_few n names steps i (fork x body rest) to e = (spelled_few n names steps (i + 1) body e.1 e.4, spelled_few n names steps e.1 rest to e.5)
+spelled_few n names steps i (loop k body rest) to e = (e.2, spelled_few n names steps (i + 1) body e.0 e.3, spelled_few n names steps e.0 rest to e.4)
 
 module _ (n : ℕ) (names : ℕ → List ℕ) (n' : ℕ) (names' : ℕ → List ℕ) (a : NamesAgree n names n' names') (steps later : List Step) where
   same_step : (i : ℕ) → i < length steps → step_at (steps ++ later) i ≡ step_at steps i
@@ -69,6 +77,6 @@ module _ (n : ℕ) (names : ℕ → List ℕ) (n' : ℕ) (names' : ℕ → List 
       let c = spelled_count n names steps h.1 rest to h.5 in
       (h.0, h.1, same_step i (omega arith) ∙ h.2, name_more n names n' names' h.0 x a h.3, spelled_more (i + 1) body h.1 (omega arith) h.4, spelled_more h.1 rest to le h.5)
   spelled_more i (loop k body rest) to le h =
-      let b = spelled_count n names steps (i + 1) body h.0 h.2 in
-      let c = spelled_count n names steps h.0 rest to h.3 in
-      (h.0, same_step i (omega arith) ∙ h.1, spelled_more (i + 1) body h.0 (omega arith) h.2, spelled_more h.0 rest to le h.3)
+      let b = spelled_count n names steps (i + 1) body h.0 h.3 in
+      let c = spelled_count n names steps h.0 rest to h.4 in
+      (h.0, same_step i (omega arith) ∙ h.1, h.2, spelled_more (i + 1) body h.0 (omega arith) h.3, spelled_more h.0 rest to le h.4)

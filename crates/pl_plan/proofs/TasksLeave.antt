@@ -15,14 +15,15 @@ use Rattle.pl_plan.specs.Limits.{max_visits}
 use Rattle.pl_plan.specs.Unfolding.{◌>>=◌, Coming, Start, UnfoldingState, Visit}
 use Rattle.pl_plan.specs.Unfolding.{a_fork, a_loop, a_plain, a_turn, act, act_fork, add_op, already_member, as_phaser, as_task, come_to, count_visit, ended}
 use Rattle.pl_plan.specs.Unfolding.{fault_unless, is_parent, leave, leave_below}
-use Rattle.pl_plan.specs.Unfolding.{make_visit, make_visits, member_of, not_drawn_here, not_member, opening_state, phaser, task, times, too_many_ops}
+use Rattle.armus_base.specs.Pieces.{times}
+use Rattle.pl_plan.specs.Unfolding.{make_visit, make_visits, member_of, not_drawn_here, not_member, opening_state, phaser, task, too_many_ops}
 use Rattle.pl_plan.specs.Unfolding.{too_many_phasers, too_many_tasks, too_many_visits}
 use Rattle.pl_plan.specs.Unfolding.{unfold_task, unfold_tasks, unforked_child, visit, visits_of, with_member, with_members, with_names, with_new_phaser}
 use Rattle.pl_plan.specs.Unfolding.{with_new_task, with_op, with_start}
 use Rattle.pl_plan.specs.Folding.{HasBodyPieces, HasCodePieces, drops_of}
 use Rattle.pl_plan.proofs.Places.{at_more, at_set}
 use Rattle.pl_plan.proofs.Tables.{one_more_op}
-use Rattle.pl_plan.proofs.Unfolds.{drawn_more}
+use Rattle.pl_plan.proofs.Drawn.{drawn_more}
 use Rattle.pl_plan.proofs.VisitsLeave.{Adds, adds_from, adds_more, adds_nothing, adds_op, bind_ok, code, first_visit, leaves_of, no_visit, ok_is}
 
 -- with what task t was forked, if it was
@@ -146,7 +147,7 @@ module _ (P : Tree → Type 0) (parts : IsOfParts P) where
       starts = omega (arith, k.starts, length-append s.starts (None ∷ []), length-append s.plan.parents (Some (task t) ∷ []));
       few_tasks = omega (arith, room, length-append s.plan.parents (Some (task t) ∷ []));
       few_ops = omega (arith, k.few_ops, sum_by-append length s.plan.codes ([] ∷ []));
-      drawn = drawn_more true s.plan.parents t (omega (arith, here, k.codes)) k.drawn;
+      drawn = drawn_more s.plan.parents t (omega (arith, here, k.codes)) k.drawn;
       bodies = λ c. subst OfStart (sym (at_more s.starts None c)) (k.bodies c);
     };
     here = omega (arith, here, length-append s.plan.codes ([] ∷ []));

@@ -3,7 +3,8 @@ use Rattle.std.proofs.Common.{◌≡◌, ℕ, ◌+◌, ◌-◌, List, ◌∷◌,
 use Rattle.pl_syntax.specs.Tree.{Tree}
 use Rattle.pl_plan.specs.inside.Steps.{IsSpelled}
 use Rattle.pl_plan.specs.inside.Checker.{Checker, Keeps}
-use Rattle.pl_plan.specs.Unfolding.{UnfoldingState, Outcome, times, visit, Visit, a_turn, visits_of, make_visits}
+use Rattle.armus_base.specs.Pieces.{times}
+use Rattle.pl_plan.specs.Unfolding.{UnfoldingState, Outcome, visit, Visit, a_turn, visits_of, make_visits}
 use Rattle.pl_plan.specs.inside.Shows.{ShowsState}
 
 -- a turn of the loop with index at

@@ -7,9 +7,10 @@ use Rattle.armus_base.specs.Limits.{max_tasks}
 use Rattle.armus_base.specs.Plans.{Plan, action_at, actions, parent_of, maker_of}
 use Rattle.armus_base.specs.Places.{first_phases, phases_after}
 use Rattle.armus_base.specs.CheckedPlans.{IsCheckedPlan, first_plan}
+use Rattle.armus_base.proofs.CheckedByCodes.{checked_by_codes}
 use Rattle.armus_base.proofs.PlanGrows.{first_plan_is_checked}
 use Rattle.pl_syntax.specs.Tree.{Tree, AreNear}
-use Rattle.pl_plan.specs.Unfolding.{UnfoldingState, Start, Outcome, ◌>>=◌, unfold_task, unfold_tasks, opening_state, plan_of, visits_of, with_names, make_visits}
+use Rattle.pl_plan.specs.Unfolding.{UnfoldingState, Start, Outcome, ◌>>=◌, unfold_task, unfold_tasks, opening_state, plan_of, visits_of, with_names, with_pieces, make_visits}
 use Rattle.pl_plan.specs.Laws.{UnfoldedIsChecked}
 use Rattle.pl_plan.proofs.Growth.{last_phases}
 use Rattle.pl_plan.proofs.Sound.{IsSound, IsActing, is_begun, NearStart}
@@ -113,8 +114,8 @@ sound_opening program near =
     near_first zero = near
     near_first (suc c) = tt
 
-plan_is : (o : Outcome UnfoldingState) (plan : Plan) → OnState (λ r. IsCheckedPlan r.plan) o → (o >>= λ s. Ok s.plan) ≡ Ok plan → IsCheckedPlan plan
-plan_is (Ok s) plan h e = subst IsCheckedPlan (let q : s.plan ≡ plan = cc in q) h
+plan_is : (o : Outcome UnfoldingState) (plan : Plan) → OnState (λ r. IsCheckedPlan r.plan) o → (o >>= λ s. Ok (with_pieces s)) ≡ Ok plan → IsCheckedPlan plan
+plan_is (Ok s) plan h e = subst IsCheckedPlan (let q : with_pieces s ≡ plan = cc in q) (checked_by_codes s.plan (with_pieces s).pieces h)
 plan_is (Err f) plan h e = absurd cc
 
 pub unfolded_is_checked : UnfoldedIsChecked

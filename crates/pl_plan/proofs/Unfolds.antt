@@ -1,20 +1,21 @@
 -- The computation of the unfolding makes the stages of the relation, and there is one list of such stages.
 use Rattle.std.proofs.Common.{◌≡◌, ℕ, zero, suc, ◌+◌, ◌-◌, ◌<◌, ◌≤◌, Bool, true, false, not, Some, None, Ok, Err, Option, List, [], ◌∷◌, ◌++◌, length, append_assoc, arith, sym, ◌∙◌, ap, subst, refl, ◌⊎◌, inl, inr}
 use Rattle.std.specs.Prelude.{map, nat_lt, slice_index_or, if◌then◌else◌}
-use Rattle.std.proofs.lemmas.Bool.{cases_lt, cases_eq, eqb-true, false≢true, ltb-true}
-use Rattle.std.proofs.lemmas.List.{get_or-set_other, get_or_past, length-set, get_or_append_left, get_or-append_right, length-append}
-use Rattle.armus_base.specs.declared.ids.TaskId.{TaskId}
+use Rattle.std.proofs.lemmas.Bool.{cases_lt, false≢true, ltb-true}
+use Rattle.std.proofs.lemmas.List.{get_or-set_other, get_or_past, length-set, length-append}
 use Rattle.armus_base.specs.Plans.{Plan}
 use Rattle.armus_base.specs.declared.op.Op.TheVariants as op
 use Rattle.pl_syntax.specs.declared.tree.Program.{Program}
 use Rattle.pl_syntax.specs.Tree.{Tree, new_task, new_phaser, reg, dereg, adv, await, skip}
 use Rattle.pl_plan.specs.declared.fault.CheckFault.{CheckFault}
-use Rattle.pl_plan.specs.Unfolding.{Coming, a_plain, a_fork, a_loop, a_turn, Visit, visits_of, UnfoldingState, Start, Outcome, ◌>>=◌, fault, is_parent, task, make_visit, make_visits, with_names, unfold_task, unfold_tasks, opening_state, plan_of, leave, leave_below, ended, add_op, phaser, with_member, with_members, fault_unless, too_many_ops}
+use Rattle.pl_plan.specs.Unfolding.{Coming, a_plain, a_fork, a_loop, a_turn, Visit, visits_of, UnfoldingState, Start, Outcome, ◌>>=◌, fault, is_parent, task, make_visit, make_visits, with_names, unfold_task, unfold_tasks, opening_state, plan_of, with_pieces, leave, leave_below, ended, add_op, phaser, with_member, with_members, fault_unless, too_many_ops}
 use Rattle.pl_plan.specs.Tests.{Passes, drew, first_thing, table, task_number}
 use Rattle.pl_plan.specs.Laws.{FaultIsFirst, PlanIsUnfolded}
 use Rattle.pl_plan.specs.Stages.{IsFirstCheckFault, IsNextStage, StagesLead, Unfolds, Stage, StagePasses, after_stage, all_stages, begins, with_start_names, comes, stages_below, stages_of, FailsAt, at_visit, at_end, leaves, leaves_below, ends_of, has_op_left, with_code}
+use Rattle.pl_plan.proofs.Drawn.{drawn_more}
 use Rattle.pl_plan.proofs.ByTable.{answer, first_if, first_kind, kind_none, kind_some, visit_by, passes_if}
 use Rattle.pl_plan.proofs.Places.{at_more}
+use Rattle.pl_plan.proofs.PlanPieces.{end_has_pieces, one_list_each}
 
 module _ (two : Bool) where
   -- ---- lists of stages
@@ -77,26 +78,6 @@ module _ (two : Bool) where
   not_false : (b : Bool) → not b ≡ false → b ≡ true
   not_false true e = refl
   not_false false e = absurd (false≢true (sym e))
-
-  pub drawn_more :
-      (parents : List (Option TaskId)) (t : ℕ) → t < length parents → ((c u : ℕ) → is_parent u (slice_index_or parents c None) ≡ true → u < c) →
-      (c u : ℕ) → is_parent u (slice_index_or (parents ++ Some (task t) ∷ []) c None) ≡ true → u < c
-  drawn_more parents t here drawn c u is =
-      elim (cases_lt c (length parents)) [
-        | inl l ↦ drawn c u (subst (λ o. is_parent u o ≡ true) (get_or_append_left parents (Some (task t) ∷ []) None c l) is)
-        | inr l ↦ elim (cases_eq c (length parents)) [
-          | inl same ↦
-              let last : slice_index_or (parents ++ Some (task t) ∷ []) c None ≡ Some (task t) =
-              ap (λ n. slice_index_or (parents ++ Some (task t) ∷ []) n None) same ∙
-              get_or-append_right parents (Some (task t) ∷ []) (length parents) (length parents) None refl (omega arith)
-              ∙ ap (λ n. slice_index_or (Some (task t) ∷ []) n None) (let z : length parents - length parents ≡ 0 = omega arith in z) in
-              let by = eqb-true u t (subst (λ o. is_parent u o ≡ true) last is) in
-              omega arith
-          | inr other ↦
-              let none = get_or_past (parents ++ Some (task t) ∷ []) c None (omega (arith, length-append parents (Some (task t) ∷ []))) in
-              absurd (false≢true (subst (λ o. is_parent u o ≡ true) none is))
-        ]
-      ]
 
   module _ (t n : ℕ) (s : UnfoldingState) (kept : IsKept s) (here : t < length s.plan.parents) where
     same_kept : (e : UnfoldingState) → e.plan.parents ≡ s.plan.parents → e.starts ≡ s.starts → Keeps t s e
@@ -585,14 +566,23 @@ through_all program o r =
     ∙ ap (λ m. stages_below program.two m r.end) (let e : length r.end.plan.parents + n ≡ 1024 = omega arith in e)
     ∙ r.all
 
-unfolds_of : (program : Program) (o : Outcome UnfoldingState) (r : Through program.two [] 1024 (opening_state program.body) o) → Unfolds program r.end.plan
-unfolds_of program o r = record { stages = r.stages; end = r.end; leads = r.leads; all = through_all program o r; plan_is = refl }
+unfolds_of :
+    (program : Program) (o : Outcome UnfoldingState) (r : Through program.two [] 1024 (opening_state program.body) o) →
+    unfold_tasks program.two 1024 0 (opening_state program.body) ≡ o → Unfolds program (with_pieces r.end)
+unfolds_of program o r is = record {
+  stages = r.stages;
+  end = r.end;
+  leads = r.leads;
+  all = through_all program o r;
+  plan_is = refl;
+  pieces = end_has_pieces program r.end (is ∙ r.is);
+}
 
 fault_of : (program : Program) (o : Outcome UnfoldingState) (f : Fails program.two [] (opening_state program.body) o) → IsFirstCheckFault program f.fault_is
 fault_of program o f = record { stages = f.done; there = f.there; leads = f.leads; stage = f.stage; next = f.next; fails = f.fails }
 
 abbrev planned : Outcome UnfoldingState → Outcome Plan
-planned o = o >>= λ s. Ok s.plan
+planned o = o >>= λ s. Ok (with_pieces s)
 
 ok_same : (a b : Plan) → ◌≡◌ {A = Outcome Plan} (Ok a) (Ok b) → a ≡ b
 ok_same a b e = cc
@@ -601,20 +591,29 @@ err_same : (a b : CheckFault) → ◌≡◌ {A = Outcome Plan} (Err a) (Err b) �
 err_same a b e = cc
 
 module _ (program : Program) where
-  from_found : (o : Outcome UnfoldingState) → Told program.two [] 1024 (opening_state program.body) o → (plan : Plan) → planned o ≡ Ok plan → Unfolds program plan
-  from_found o (inl r) plan e = subst (λ p. Unfolds program p) (ok_same r.end.plan plan (ap planned (sym r.is) ∙ e)) (unfolds_of program o r)
-  from_found o (inr f) plan e = absurd (let g = ap planned f.is in cc)
+  from_found :
+      (o : Outcome UnfoldingState) → Told program.two [] 1024 (opening_state program.body) o → unfold_tasks program.two 1024 0 (opening_state program.body) ≡ o →
+      (plan : Plan) → planned o ≡ Ok plan → Unfolds program plan
+  from_found o (inl r) is plan e = subst (λ p. Unfolds program p) (ok_same (with_pieces r.end) plan (ap planned (sym r.is) ∙ e)) (unfolds_of program o r is)
+  from_found o (inr f) is plan e = absurd (let g = ap planned f.is in cc)
 
   from_fails : (o : Outcome UnfoldingState) → Told program.two [] 1024 (opening_state program.body) o → (f : CheckFault) → planned o ≡ Err f → IsFirstCheckFault program f
   from_fails o (inl r) g e = absurd (let h = ap planned r.is in cc)
   from_fails o (inr f) g e = subst (λ z. IsFirstCheckFault program z) (err_same f.fault_is g (ap planned (sym f.is) ∙ e)) (fault_of program o f)
 
-  to_plan : (o : Outcome UnfoldingState) → Told program.two [] 1024 (opening_state program.body) o → (plan : Plan) → Unfolds program plan → planned o ≡ Ok plan
-  to_plan o (inl r) plan u =
+  -- the plan is that of the end of the unfolding, with its pieces
+  same_plan : (plan : Plan) (u : Unfolds program plan) → unfold_tasks program.two 1024 0 (opening_state program.body) ≡ Ok u.end → with_pieces u.end ≡ plan
+  same_plan plan u is = ap (λ ps. record u.end.plan { pieces = ps }) (one_list_each program u.end is plan.pieces u.pieces) ∙ sym u.plan_is
+
+  to_plan :
+      (o : Outcome UnfoldingState) → Told program.two [] 1024 (opening_state program.body) o → unfold_tasks program.two 1024 0 (opening_state program.body) ≡ o →
+      (plan : Plan) → Unfolds program plan → planned o ≡ Ok plan
+  to_plan o (inl r) is plan u =
       let same = one_way program.two [] r.stages u.stages (opening_state program.body) r.end u.end r.leads u.leads
       (all_blocks program.two r.stages r.end (through_all program o r)) (all_blocks program.two u.stages u.end u.all) in
-      ap planned r.is ∙ ap (λ (s : UnfoldingState). Ok s.plan) same.1 ∙ ap Ok u.plan_is
-  to_plan o (inr f) plan u =
+      ap planned r.is ∙ ap (λ (s : UnfoldingState). Ok (with_pieces s)) same.1
+      ∙ ap Ok (same_plan plan u (is ∙ r.is ∙ ap (λ (s : UnfoldingState). Ok s) same.1))
+  to_plan o (inr f) is plan u =
       let same = one_way program.two [] f.done u.stages (opening_state program.body) f.there u.end f.leads u.leads
       (fault_blocks program.two f.done f.there f.stage f.fault_is f.next f.fails) (all_blocks program.two u.stages u.end u.all) in
       let next : IsNextStage program.two u.stages f.stage u.end =
@@ -642,8 +641,8 @@ module _ (program : Program) where
 pub plan_is_unfolded : PlanIsUnfolded
 unfolding plan_of
 plan_is_unfolded program plan = (
-  λ e. from_found program (unfold_tasks program.two 1024 0 (opening_state program.body)) (found program) plan e,
-  λ u. to_plan program (unfold_tasks program.two 1024 0 (opening_state program.body)) (found program) plan u,
+  λ e. from_found program (unfold_tasks program.two 1024 0 (opening_state program.body)) (found program) refl plan e,
+  λ u. to_plan program (unfold_tasks program.two 1024 0 (opening_state program.body)) (found program) refl plan u,
 )
 
 pub fault_is_first : FaultIsFirst

@@ -19,8 +19,9 @@ use Rattle.pl_plan.specs.Unfolding.{a_fork, a_loop, a_phaser, a_plain, a_task, a
 use Rattle.pl_plan.specs.Unfolding.{count_visit, fault_unless}
 use Rattle.pl_plan.specs.Unfolding.{make_visit, make_visits, member_of, not_member, phaser, task, too_many_ops, too_many_phasers, too_many_tasks}
 use Rattle.pl_plan.specs.Unfolding.{too_many_visits, unforked_child}
-use Rattle.pl_plan.specs.Unfolding.{times as visits_times, visit, visits_of, with_member, with_members, with_new_phaser, with_new_task, with_op, with_start}
-use Rattle.pl_plan.specs.Folding.{LeavesPieces, is_steady, is_steady_plain, makes_op}
+use Rattle.pl_plan.specs.Unfolding.{visit, visits_of, with_member, with_members, with_new_phaser, with_new_task, with_op, with_start}
+use Rattle.pl_plan.specs.FoldedOps.{is_steady, is_steady_plain, makes_op}
+use Rattle.pl_plan.specs.Folding.{LeavesPieces}
 use Rattle.pl_plan.specs.Folding as leaves
 
 pub bind_ok : {A B : Type 0} (o : Outcome A) (f : A → Outcome B) (y : B) → (o >>= f) ≡ Ok y → (x : A) × (o ≡ Ok x) × (f x ≡ Ok y)
@@ -221,11 +222,11 @@ steadily_from t s v r os plan names a = record {
 -- the turns of a loop, where each turn is steady
 steadily_turns : (t n : ℕ) (body : Tree) →
     ((s r : UnfoldingState) → t < length s.plan.codes → make_visits t (visits_of (n + 1) body) s ≡ Ok r → Steadily t s r (steady_ops s.names body)) →
-    (k : ℕ) (s r : UnfoldingState) → t < length s.plan.codes → make_visits t (visits_times k (visit n a_turn ∷ visits_of (n + 1) body)) s ≡ Ok r →
+    (k : ℕ) (s r : UnfoldingState) → t < length s.plan.codes → make_visits t (times k (visit n a_turn ∷ visits_of (n + 1) body)) s ≡ Ok r →
     Steadily t s r (times k (steady_ops s.names body))
 steadily_turns t n body f zero s r here e = steadily_nothing t s r here (no_visit t s r e)
 steadily_turns t n body f (suc k) s r here e =
-    let all = visits_cut t (visit n a_turn ∷ visits_of (n + 1) body) (visits_times k (visit n a_turn ∷ visits_of (n + 1) body)) s r e in
+    let all = visits_cut t (visit n a_turn ∷ visits_of (n + 1) body) (times k (visit n a_turn ∷ visits_of (n + 1) body)) s r e in
     let b = first_visit t (visit n a_turn) (visits_of (n + 1) body) s all.0 all.1 in
     let c = counted t (visit n a_turn) s b.0 b.1 in
     let same : c.0 ≡ b.0 = ok_is c.0 b.0 c.3 in
@@ -251,7 +252,7 @@ steadily t n (plain x rest) s r steady here e =
 steadily t n (fork x body rest) s r steady here e = absurd (false≢true steady)
 steadily t n (loop k body rest) s r steady here e =
     let tests = both (is_steady body) (is_steady rest) steady in
-    let turns = visits_times k (visit n a_turn ∷ visits_of (n + 1) body) in
+    let turns = times k (visit n a_turn ∷ visits_of (n + 1) body) in
     let b = first_visit t (visit n a_loop) (turns ++ visits_of (n + 1 + count body) rest) s r e in
     let c = counted t (visit n a_loop) s b.0 b.1 in
     let same : c.0 ≡ b.0 = ok_is c.0 b.0 c.3 in
@@ -335,12 +336,12 @@ module _ (t n : ℕ) (body rest : Tree)
     (f : (s r : UnfoldingState) → t < length s.plan.codes → make_visits t (visits_of (n + 1) body) s ≡ Ok r → Leaves t body s r) where
   -- a loop that is not steady
   turns_left : (k : ℕ) (s u r : UnfoldingState) → is_steady body ≡ false → t < length s.plan.codes →
-      make_visits t (visits_times k (visit n a_turn ∷ visits_of (n + 1) body)) s ≡ Ok u → (t < length u.plan.codes → Leaves t rest u r) →
+      make_visits t (times k (visit n a_turn ∷ visits_of (n + 1) body)) s ≡ Ok u → (t < length u.plan.codes → Leaves t rest u r) →
       Leaves t (loop k body rest) s r
   turns_left zero s u r unsteady here e g =
       let same = no_visit t s u e in no_turn_left t body rest s u r same (g (subst (λ (q : UnfoldingState). t < length q.plan.codes) same here))
   turns_left (suc k) s u r unsteady here e g =
-      let all = visits_cut t (visit n a_turn ∷ visits_of (n + 1) body) (visits_times k (visit n a_turn ∷ visits_of (n + 1) body)) s u e in
+      let all = visits_cut t (visit n a_turn ∷ visits_of (n + 1) body) (times k (visit n a_turn ∷ visits_of (n + 1) body)) s u e in
       let v = one_turn t n body s all.0 all.1 in
       let once = leaves_from t body s v.0 all.0 v.1 (f v.0 all.0 (subst (λ (p : Plan). t < length p.codes) (sym v.1) here) v.3) in
       let others = turns_left k all.0 u r unsteady once.adds.here all.2 g in
@@ -374,9 +375,9 @@ module _ (t n : ℕ) (body rest : Tree)
   }
 
   turns_folded : (k : ℕ) (s u r : UnfoldingState) → is_steady body ≡ true → t < length s.plan.codes →
-      make_visits t (visits_times (suc k) (visit n a_turn ∷ visits_of (n + 1) body)) s ≡ Ok u → Leaves t rest u r → Leaves t (loop (suc k) body rest) s r
+      make_visits t (times (suc k) (visit n a_turn ∷ visits_of (n + 1) body)) s ≡ Ok u → Leaves t rest u r → Leaves t (loop (suc k) body rest) s r
   turns_folded k s u r steady here e l =
-      let all = visits_cut t (visit n a_turn ∷ visits_of (n + 1) body) (visits_times k (visit n a_turn ∷ visits_of (n + 1) body)) s u e in
+      let all = visits_cut t (visit n a_turn ∷ visits_of (n + 1) body) (times k (visit n a_turn ∷ visits_of (n + 1) body)) s u e in
       let v = one_turn t n body s all.0 all.1 in
       let here_too : t < length v.0.plan.codes = subst (λ (p : Plan). t < length p.codes) (sym v.1) here in
       let first = f v.0 all.0 here_too v.3 in
@@ -388,7 +389,7 @@ module _ (t n : ℕ) (body rest : Tree)
 
   -- a loop
   loop_left : (steady : Bool) (k : ℕ) (s u r : UnfoldingState) → is_steady body ≡ steady → t < length s.plan.codes →
-      make_visits t (visits_times k (visit n a_turn ∷ visits_of (n + 1) body)) s ≡ Ok u → (t < length u.plan.codes → Leaves t rest u r) → Leaves t (loop k body rest) s r
+      make_visits t (times k (visit n a_turn ∷ visits_of (n + 1) body)) s ≡ Ok u → (t < length u.plan.codes → Leaves t rest u r) → Leaves t (loop k body rest) s r
   loop_left false k s u r is here e g = turns_left k s u r is here e g
   loop_left true zero s u r is here e g =
       let same = no_visit t s u e in no_turn_left t body rest s u r same (g (subst (λ (q : UnfoldingState). t < length q.plan.codes) same here))
@@ -418,7 +419,7 @@ leaves_of t n (fork x body rest) s r here e =
       leaves = leaves.a_fork x body rest forked.0 l.ops l.pieces l.leaves;
     })
 leaves_of t n (loop k body rest) s r here e =
-    let turns = visits_times k (visit n a_turn ∷ visits_of (n + 1) body) in
+    let turns = times k (visit n a_turn ∷ visits_of (n + 1) body) in
     let b = first_visit t (visit n a_loop) (turns ++ visits_of (n + 1 + count body) rest) s r e in
     let c = counted t (visit n a_loop) s b.0 b.1 in
     let plan : b.0.plan ≡ s.plan = ap (λ (q : UnfoldingState). q.plan) (sym (ok_is c.0 b.0 c.3)) ∙ c.1 in

@@ -1,6 +1,7 @@
 -- Steps that spell a tree, and the way over them.
-use Rattle.std.proofs.Common.{◌≡◌, ℕ, ◌+◌, ◌<◌, ◌≤◌, List, [], ◌∷◌, ◌++◌, length, Ok, Err, arith, sym, ◌∙◌, ap, subst, refl}
+use Rattle.std.proofs.Common.{◌≡◌, ℕ, ◌+◌, ◌<◌, ◌≤◌, Bool, List, [], ◌∷◌, ◌++◌, length, Ok, Err, arith, sym, ◌∙◌, ap, subst, refl}
 use Rattle.pl_syntax.specs.Tree.{Tree, done, plain, fork, loop, Plain, new_task, new_phaser, reg, dereg, adv, await, skip}
+use Rattle.pl_plan.specs.FoldedOps.{is_steady}
 use Rattle.pl_plan.specs.declared.step.NameId.{NameId}
 use Rattle.pl_plan.specs.declared.step.Step.{Step}
 use Rattle.pl_plan.specs.declared.step.Step.TheVariants as a_step
@@ -57,7 +58,7 @@ keeps_acting k f t n (a_step.Dereg x) h = simulating.keeps_dereg k f t n x.0
 keeps_acting k f t n (a_step.Adv x) h = simulating.keeps_adv k f t n x.0
 keeps_acting k f t n (a_step.Await x off) h = simulating.keeps_await k f t n x.0 off
 keeps_acting k f t n (a_step.Fork x a) h = simulating.keeps_itself k f
-keeps_acting k f t n (a_step.Loop i a) h = simulating.keeps_itself k f
+keeps_acting k f t n (a_step.Loop i a steady) h = simulating.keeps_itself k f
 keeps_acting k f t n a_step.Skip h = simulating.keeps_itself k f
 
 pub names_of : (n : ℕ) (names : ℕ → List ℕ) (step : Step) (c : Plain) → IsStep n names step c → HasNames n step
@@ -148,7 +149,7 @@ keeps_ok k o new e h = subst (KeepsAll k) e h
 -- the step at an index is no fork and no loop
 abbrev pub IsPlain : Step → Type 0
 IsPlain (a_step.Fork x a) = ⊥
-IsPlain (a_step.Loop i a) = ⊥
+IsPlain (a_step.Loop i a steady) = ⊥
 IsPlain _ = Unit {0}
 
 pub record PlainAt (n : ℕ) (names : ℕ → List ℕ) (steps : List Step) (i to : ℕ) (tree : Tree) : Type 0 where
@@ -207,29 +208,32 @@ fork_at n names steps i to x after (fork y body rest) e lt is =
     let q : e.1 ≡ after = cc in
     fork_at_same n names steps i to x e.0 after e.1 y body rest p q e.3 e.4 e.5
 
-pub record LoopAt (n : ℕ) (names : ℕ → List ℕ) (steps : List Step) (i to k after : ℕ) (tree : Tree) : Type 0 where
+pub record LoopAt (n : ℕ) (names : ℕ → List ℕ) (steps : List Step) (i to k after : ℕ) (steady : Bool) (tree : Tree) : Type 0 where
   pub body : Tree
   pub rest : Tree
   pub tree_is : tree ≡ loop k body rest
+  pub steady_is : is_steady body ≡ steady
   pub body_there : IsSpelled n names steps (i + 1) body after
   pub rest_there : IsSpelled n names steps after rest to
 
-loop_at_same : (n : ℕ) (names : ℕ → List ℕ) (steps : List Step) (i to k after k' after' : ℕ) (body rest : Tree) → k' ≡ k → after' ≡ after →
-    IsSpelled n names steps (i + 1) body after' → IsSpelled n names steps after' rest to → LoopAt n names steps i to k after (loop k' body rest)
-loop_at_same n names steps i to k after k' after' body rest p q b r = record {
+loop_at_same : (n : ℕ) (names : ℕ → List ℕ) (steps : List Step) (i to k after k' after' : ℕ) (steady : Bool) (body rest : Tree) → k' ≡ k → after' ≡ after →
+    is_steady body ≡ steady → IsSpelled n names steps (i + 1) body after' → IsSpelled n names steps after' rest to →
+    LoopAt n names steps i to k after steady (loop k' body rest)
+loop_at_same n names steps i to k after k' after' steady body rest p q same b r = record {
   body = body;
   rest = rest;
   tree_is = ap (λ z. loop z body rest) p;
+  steady_is = same;
   body_there = subst (λ z. IsSpelled n names steps (i + 1) body z) q b;
   rest_there = subst (λ z. IsSpelled n names steps z rest to) q r;
 }
 
-pub loop_at : (n : ℕ) (names : ℕ → List ℕ) (steps : List Step) (i to k after : ℕ) (tree : Tree) → IsSpelled n names steps i tree to → i < to →
-    step_at steps i ≡ a_step.Loop k after → LoopAt n names steps i to k after tree
-loop_at n names steps i to k after done e lt is = absurd (omega arith)
-loop_at n names steps i to k after (plain s rest) e lt is = absurd (no_plain (step_at steps i) s e.0 is)
+pub loop_at : (n : ℕ) (names : ℕ → List ℕ) (steps : List Step) (i to k after : ℕ) (steady : Bool) (tree : Tree) → IsSpelled n names steps i tree to → i < to →
+    step_at steps i ≡ a_step.Loop k after steady → LoopAt n names steps i to k after steady tree
+loop_at n names steps i to k after steady done e lt is = absurd (omega arith)
+loop_at n names steps i to k after steady (plain s rest) e lt is = absurd (no_plain (step_at steps i) s e.0 is)
   where
-    no_plain : (z : Step) (c : Plain) → IsStep n names z c → z ≡ a_step.Loop k after → ⊥
+    no_plain : (z : Step) (c : Plain) → IsStep n names z c → z ≡ a_step.Loop k after steady → ⊥
     no_plain z (new_task y) a b = (let h = sym a.1 ∙ b in cc)
     no_plain z (new_phaser y) a b = (let h = sym a.1 ∙ b in cc)
     no_plain z (reg y y') a b = (let h = sym a.2 ∙ b in cc)
@@ -237,9 +241,10 @@ loop_at n names steps i to k after (plain s rest) e lt is = absurd (no_plain (st
     no_plain z (adv y) a b = (let h = sym a.1 ∙ b in cc)
     no_plain z (await y off) a b = (let h = sym a.1 ∙ b in cc)
     no_plain z skip a b = (let h = sym a ∙ b in cc)
-loop_at n names steps i to k after (fork y body rest) e lt is = absurd (let h = sym e.2 ∙ is in cc)
-loop_at n names steps i to k after (loop k' body rest) e lt is =
+loop_at n names steps i to k after steady (fork y body rest) e lt is = absurd (let h = sym e.2 ∙ is in cc)
+loop_at n names steps i to k after steady (loop k' body rest) e lt is =
     let h = sym e.1 ∙ is in
     let p : k' ≡ k = cc in
     let q : e.0 ≡ after = cc in
-    loop_at_same n names steps i to k after k' e.0 body rest p q e.2 e.3
+    let r : is_steady body ≡ steady = cc in
+    loop_at_same n names steps i to k after k' e.0 steady body rest p q r e.3 e.4

@@ -1,6 +1,6 @@
 -- The pieces of a code: which loops of a task are kept folded. They are fixed by the task's body and by the ops that it made.
 -- Read from the end: `HasPieces` says which pieces the code of a task has; `LeavesPieces` has a case for each sentence of the rule.
-use Rattle.std.specs.Prelude.{◌≡◌, ℕ, zero, suc, ◌≤◌, Bool, true, false, ◌&&◌, List, [], ◌∷◌, ◌++◌, length, map, slice_index_or, Option, Some, None, Ok}
+use Rattle.std.specs.Prelude.{◌≡◌, ℕ, zero, suc, ◌≤◌, Bool, true, false, List, [], ◌∷◌, ◌++◌, length, map, slice_index_or, Option, Some, None, Ok}
 use Rattle.armus_base.specs.declared.op.Op.{Op}
 use Rattle.armus_base.specs.declared.op.Op.TheVariants.{Drop}
 use Rattle.armus_base.specs.declared.piece.Piece.{Piece}
@@ -8,28 +8,9 @@ use Rattle.armus_base.specs.declared.piece.Piece.TheVariants.{Op as Single, Repe
 use Rattle.armus_base.specs.Limits.{max_tasks}
 use Rattle.armus_base.specs.Pieces.{max_turns, straight, times}
 use Rattle.pl_syntax.specs.declared.tree.Program.{Program}
-use Rattle.pl_syntax.specs.Tree.{Tree, done, plain, fork, loop, Plain, new_task, adv, await, skip}
+use Rattle.pl_syntax.specs.Tree.{Tree, done, plain, fork, loop, Plain}
+use Rattle.pl_plan.specs.FoldedOps.{is_steady, makes_op}
 use Rattle.pl_plan.specs.Unfolding.{Start, UnfoldingState, opening_state, phaser, unfold_tasks}
-
--- the statements without a body that a steady loop may hold: they change no name, no member and no task
-abbrev pub is_steady_plain : Plain → Bool
-is_steady_plain (adv x) = true
-is_steady_plain (await x off) = true
-is_steady_plain skip = true
-is_steady_plain s = false
-
--- a steady body: only `adv`, `await`, `skip`, and loops with a steady body
-abbrev pub is_steady : Tree → Bool
-is_steady done = true
-is_steady (plain s rest) = is_steady_plain s && is_steady rest
-is_steady (fork x body rest) = false
-is_steady (loop k body rest) = is_steady body && is_steady rest
-
--- the statement makes an op
-abbrev pub makes_op : Plain → Bool
-makes_op (new_task x) = false
-makes_op skip = false
-makes_op s = true
 
 -- no loop has more turns than a Repeat may have
 abbrev pub HasFewTurns : Tree → Type 0
@@ -84,6 +65,11 @@ pub record HasBodyPieces (two : Bool) (body : Tree) (code : List Op) (ps : List 
 abbrev pub HasCodePieces : Bool → Option Start → List Op → List Piece → Type 0
 HasCodePieces two None code ps = (code ≡ []) × (ps ≡ [])
 HasCodePieces two (Some start) code ps = HasBodyPieces two start.body code ps
+
+-- the codes of a state have these lists of pieces, in order of the tasks
+pub record HaveCodePieces (two : Bool) (s : UnfoldingState) (lists : List (List Piece)) : Type 0 where
+  pub many : length lists ≡ length s.plan.codes
+  pub each : (t : ℕ) → HasCodePieces two (slice_index_or s.starts t None) (slice_index_or s.plan.codes t []) (slice_index_or lists t [])
 
 -- the code of task t has these pieces, where the program unfolds to a plan
 pub record HasPieces (program : Program) (t : ℕ) (ps : List Piece) : Type 0 where

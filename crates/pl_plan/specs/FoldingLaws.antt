@@ -3,19 +3,20 @@ use Rattle.std.specs.Prelude.{◌≡◌, ℕ, ◌≤◌, true, Ok, List, [], len
 use Rattle.armus_base.specs.declared.op.Op.{Op}
 use Rattle.armus_base.specs.declared.piece.Piece.{Piece}
 use Rattle.armus_base.specs.Pieces.{AreWhole, IsFolded, unfolded}
-use Rattle.armus_base.specs.Plans.{Plan}
+use Rattle.armus_base.specs.Plans.{Plan, folded_plan, pieces_of}
 use Rattle.pl_syntax.specs.declared.limits.TheConstants.{MAX_OPEN_BRACES}
 use Rattle.pl_syntax.specs.declared.tree.Program.{Program}
 use Rattle.pl_syntax.specs.Grammar.{IsText}
 use Rattle.pl_syntax.specs.Tree.{Tree, count, height}
 use Rattle.pl_plan.specs.Unfolding.{plan_of}
-use Rattle.pl_plan.specs.Folding.{HasFewTurns, HasPieces, LeavesPieces, is_steady}
+use Rattle.pl_plan.specs.FoldedOps.{is_steady}
+use Rattle.pl_plan.specs.Folding.{HasFewTurns, HasPieces, LeavesPieces}
 
--- each code of a program's plan has pieces
-abbrev pub CodesHavePieces : Type 0
-CodesHavePieces = (program : Program) (plan : Plan) → plan_of program ≡ Ok plan → (t : ℕ) → (ps : List Piece) × HasPieces program t ps
+-- the pieces of a program's plan are those of its codes
+abbrev pub PlanHasPieces : Type 0
+PlanHasPieces = (program : Program) (plan : Plan) → plan_of program ≡ Ok plan → (t : ℕ) → HasPieces program t (pieces_of plan t)
 
--- and it has one list of them
+-- and each code has one list of them
 abbrev pub OneListOfPieces : Type 0
 OneListOfPieces = (program : Program) (t : ℕ) (ps qs : List Piece) → HasPieces program t ps → HasPieces program t qs → ps ≡ qs
 
@@ -30,6 +31,12 @@ abbrev pub PiecesOfTexts : Type 0
 PiecesOfTexts =
     (text : List ℕ) (program : Program) (plan : Plan) → IsText text program → plan_of program ≡ Ok plan →
     (t : ℕ) (ps : List Piece) → HasPieces program t ps → IsFolded ps × (unfolded ps ≡ slice_index_or plan.codes t [])
+
+-- and its plan is the one whose codes are kept as these pieces
+abbrev pub PlansOfTexts : Type 0
+PlansOfTexts =
+    (text : List ℕ) (program : Program) (plan : Plan) → IsText text program → plan_of program ≡ Ok plan →
+    plan ≡ folded_plan plan.parents plan.makers plan.pieces
 
 -- pieces that statements leave are whole loops, nested no deeper than the statements, and unfold to the ops that the statements made
 abbrev pub LeftPiecesUnfold : Type 0

@@ -1,10 +1,11 @@
 -- What a reader of the repository has to believe.
 pub mod Limits
+pub mod FoldedOps
 pub mod Unfolding
+pub mod Folding
 pub mod Tests
 pub mod Stages
 pub mod Planning
-pub mod Folding
 -- What is proved of it.
 pub mod Laws
 pub mod FoldingLaws

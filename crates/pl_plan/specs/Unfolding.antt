@@ -1,10 +1,13 @@
 -- The unfolding of a program: what each task comes to, what each visit does, and the plan or the first check fault.
--- Read from the end: `plan_of` unfolds the tasks in order of number; a task's visits are those of its body; `act` has the tests of each
--- statement in their order, and what it does.
+-- Read from the end: `plan_of` unfolds the tasks in order of number, and folds the code of each; a task's visits are those of its body; `act` has the
+-- tests of each statement in their order, and what it does.
 use Rattle.std.specs.Prelude.{ℕ, zero, suc, ◌+◌, ◌-◌, ◌==◌, Bool, true, false, not, ◌&&◌, if◌then◌else◌, is_some, List, [], ◌∷◌, ◌++◌, length, slice_set, slice_index_or, Option, Some, None, Result, Ok, Err, nat_lt, sum_by}
 use Rattle.std.specs.Str.{bytes_eq}
 use Rattle.pl_plan.specs.Limits.{max_visits}
 use Rattle.armus_base.specs.Limits.{max_tasks, max_phasers, max_ops}
+use Rattle.armus_base.specs.Finals.{list_below}
+use Rattle.armus_base.specs.Pieces.{times}
+use Rattle.armus_base.specs.declared.piece.Piece.{Piece}
 use Rattle.pl_syntax.specs.declared.tree.Program.{Program}
 use Rattle.pl_syntax.specs.Tree.{Tree, done, plain, fork, loop, Plain, new_task, new_phaser, reg, dereg, adv, await, skip, count}
 use Rattle.armus_base.specs.declared.ids.TaskId.{TaskId}
@@ -12,6 +15,7 @@ use Rattle.armus_base.specs.declared.ids.PhaserId.{PhaserId}
 use Rattle.armus_base.specs.declared.op.Op.{Op}
 use Rattle.armus_base.specs.declared.op.Op.TheVariants as op
 use Rattle.armus_base.specs.Plans.{Plan}
+use Rattle.pl_plan.specs.FoldedOps.{body_pieces}
 use Rattle.pl_plan.specs.declared.fault.CheckFault.{CheckFault}
 
 -- ---- what a task comes to
@@ -27,11 +31,6 @@ pub data Coming : Type 0 where
 pub record Visit : Type 0 where
   pub statement : ℕ
   pub coming : Coming
-
--- a list, k times
-abbrev pub times : {A : Type 0} → ℕ → List A → List A
-times zero xs = []
-times (suc k) xs = xs ++ times k xs
 
 -- one coming to statement n
 abbrev pub visit : ℕ → Coming → Visit
@@ -315,6 +314,21 @@ opening_state p = record {
   visits = 0;
 }
 
+-- ---- plans
+
+-- the pieces of a task's code, by its start; one that was not forked has none
+abbrev pub code_pieces : Option Start → List Op → List Piece
+code_pieces None ops = []
+code_pieces (Some start) ops = body_pieces start.body ops
+
+-- the pieces of task t's code
+abbrev pub pieces_at : UnfoldingState → ℕ → List Piece
+pieces_at s t = code_pieces (slice_index_or s.starts t None) (slice_index_or s.plan.codes t [])
+
+-- the plan of a state, with the pieces of its codes
+abbrev pub with_pieces : UnfoldingState → Plan
+with_pieces s = record s.plan { pieces = list_below (pieces_at s) (length s.plan.codes) }
+
 -- the plan of a program, or its first fault
 unfoldable pub plan_of : Program → Outcome Plan
-plan_of p = unfold_tasks p.two max_tasks 0 (opening_state p.body) >>= λ s. Ok s.plan
+plan_of p = unfold_tasks p.two max_tasks 0 (opening_state p.body) >>= λ s. Ok (with_pieces s)

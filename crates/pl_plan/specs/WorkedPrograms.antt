@@ -4,7 +4,7 @@ use Rattle.armus_base.specs.declared.offset.Offset.TheVariants.{Ahead, Back, Her
 use Rattle.pl_syntax.specs.declared.tree.Program.{Program}
 use Rattle.pl_syntax.specs.Tree.{Tree, done, plain, fork, loop, new_task, new_phaser, reg, dereg, adv, await, skip}
 use Rattle.armus_base.specs.declared.op.Op.TheVariants as op
-use Rattle.armus_base.specs.Plans.{Plan}
+use Rattle.armus_base.specs.Plans.{Plan, straight_plan}
 use Rattle.pl_plan.specs.Unfolding.{Outcome, plan_of, task, phaser}
 
 -- a program and what its unfolding answers
@@ -41,13 +41,9 @@ abbrev turns : Example
 turns =
     unfolds
     (plain (new_phaser p) (loop 2 (plain (new_task t) (plain (reg t p) (fork t (plain (adv p) done) done))) (plain (await p Here) done)))
-    (record {
-      parents = None ∷ Some (task 0) ∷ Some (task 0) ∷ [];
-      makers = task 0 ∷ [];
-      codes =
-          (op.Make (phaser 0) ∷ op.Reg (task 1) (phaser 0) ∷ op.Fork (task 1) ∷ op.Reg (task 2) (phaser 0) ∷ op.Fork (task 2) ∷ op.Await (phaser 0) Here ∷ [])
-          ∷ (op.Adv (phaser 0) ∷ []) ∷ (op.Adv (phaser 0) ∷ []) ∷ [];
-    })
+    (straight_plan (None ∷ Some (task 0) ∷ Some (task 0) ∷ []) (task 0 ∷ [])
+    ((op.Make (phaser 0) ∷ op.Reg (task 1) (phaser 0) ∷ op.Fork (task 1) ∷ op.Reg (task 2) (phaser 0) ∷ op.Fork (task 2) ∷ op.Await (phaser 0) Here ∷ [])
+    ∷ (op.Adv (phaser 0) ∷ []) ∷ (op.Adv (phaser 0) ∷ []) ∷ []))
 
 -- a child has the names as they were at its fork:
 -- p = newPhaser(); t = newTid(); reg(t, p); fork(t) { adv(p); } p = newTid();
@@ -55,11 +51,8 @@ abbrev names_at_the_fork : Example
 names_at_the_fork =
     unfolds
     (plain (new_phaser p) (plain (new_task t) (plain (reg t p) (fork t (plain (adv p) done) (plain (new_task p) done)))))
-    (record {
-      parents = None ∷ Some (task 0) ∷ Some (task 0) ∷ [];
-      makers = task 0 ∷ [];
-      codes = (op.Make (phaser 0) ∷ op.Reg (task 1) (phaser 0) ∷ op.Fork (task 1) ∷ []) ∷ (op.Adv (phaser 0) ∷ []) ∷ [] ∷ [];
-    })
+    (straight_plan (None ∷ Some (task 0) ∷ Some (task 0) ∷ []) (task 0 ∷ [])
+    ((op.Make (phaser 0) ∷ op.Reg (task 1) (phaser 0) ∷ op.Fork (task 1) ∷ []) ∷ (op.Adv (phaser 0) ∷ []) ∷ [] ∷ []))
 
 -- a task that no fork names has no code, and a body that is never unfolded is not checked:
 -- t = newTid(); loop 0 { adv(q); }
@@ -67,7 +60,7 @@ abbrev never_unfolded : Example
 never_unfolded =
     unfolds
     (plain (new_task t) (loop 0 (plain (adv q) done) done))
-    (record { parents = None ∷ Some (task 0) ∷ []; makers = []; codes = [] ∷ [] ∷ [] })
+    (straight_plan (None ∷ Some (task 0) ∷ []) [] ([] ∷ [] ∷ []))
 
 -- in PL 2 a task that ends leaves its phasers in order of number, and one that is never forked has no code:
 -- pl 2; q = newPhaser(); p = newPhaser(); t = newTid(); reg(t, p); s = newTid(); reg(s, p); fork(t) { await(p - 1); } await(q + 2);
@@ -82,14 +75,10 @@ leaving =
                 (fork t (plain (await p (Back 1)) done) (plain (await q (Ahead 2)) done)))))));
           };
       answer =
-          Ok (record {
-            parents = None ∷ Some (task 0) ∷ Some (task 0) ∷ [];
-            makers = task 0 ∷ task 0 ∷ [];
-            codes =
-                (op.Make (phaser 0) ∷ op.Make (phaser 1) ∷ op.Reg (task 1) (phaser 1) ∷ op.Reg (task 2) (phaser 1) ∷ op.Fork (task 1)
-                ∷ op.Await (phaser 0) (Ahead 2) ∷ op.Drop (phaser 0) ∷ op.Drop (phaser 1) ∷ [])
-                ∷ (op.Await (phaser 1) (Back 1) ∷ op.Drop (phaser 1) ∷ []) ∷ [] ∷ [];
-          });
+          Ok (straight_plan (None ∷ Some (task 0) ∷ Some (task 0) ∷ []) (task 0 ∷ task 0 ∷ [])
+          ((op.Make (phaser 0) ∷ op.Make (phaser 1) ∷ op.Reg (task 1) (phaser 1) ∷ op.Reg (task 2) (phaser 1) ∷ op.Fork (task 1)
+          ∷ op.Await (phaser 0) (Ahead 2) ∷ op.Drop (phaser 0) ∷ op.Drop (phaser 1) ∷ [])
+          ∷ (op.Await (phaser 1) (Back 1) ∷ op.Drop (phaser 1) ∷ []) ∷ [] ∷ []));
     }
 
 -- some programs with their plans

@@ -6,3 +6,4 @@ pub mod Shows
 pub mod Simulates
 pub mod Opening
 pub mod Flattening
+pub mod FoldsSteps

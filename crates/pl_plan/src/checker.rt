@@ -298,16 +298,20 @@ impl Checker {
         })
     }
 
-    // The three lists of the plan.
+    // The three lists of the plan, and what its codes are folded by.
     pub(crate) fn into_parts(self) -> Parts
+        ensures steps { result.steps.items ≡ self.steps }
         ensures parents { result.parents.items ≡ self.parents }
         ensures makers { result.makers.items ≡ self.makers }
         ensures codes { result.codes.items ≡ self.codes }
+        ensures starts { result.starts.items ≡ self.starts }
     {
         Parts {
+            steps: self.steps,
             parents: self.parents,
             makers: self.makers,
             codes: self.codes,
+            starts: self.starts,
         }
     }
 }
@@ -337,10 +341,12 @@ fn no_members(alloc: Global, n: usize) -> Result<Vec<bool>, AllocError>
     vec![in alloc; false; n]
 }
 
-// The three lists of a plan.
+// The three lists of a plan, with the flat steps and each task's start, by which the codes are folded.
 #[derive(Drop)]
 pub(crate) struct Parts {
+    pub steps: Vec<Step>,
     pub parents: Vec<Option<TaskId>>,
     pub makers: Vec<TaskId>,
     pub codes: Vec<List<Op>>,
+    pub starts: Vec<Option<Start>>,
 }

@@ -8,6 +8,7 @@ ghost use Rattle.pl_plan.specs.inside.Shows.{IsNumbering};
 ghost use Rattle.pl_plan.specs.inside.Numbers.{spelling, IsMore};
 ghost use Rattle.pl_plan.specs.inside.Flattening.{AddsSteps};
 
+use crate::steady::is_steady;
 use crate::step::{NameId, Step};
 use armus_base::{NoMemory, Offset};
 use indexmap::IndexSet;
@@ -94,7 +95,15 @@ pub(crate) fn flatten_statement<'p>(
         }
         Stmt::Loop { k, body } => {
             let after = steps.len() as u32 + 1 + body.statements();
-            push(steps, Step::Loop { k: *k, after })?;
+            let steady = is_steady(body);
+            push(
+                steps,
+                Step::Loop {
+                    k: *k,
+                    after,
+                    steady,
+                },
+            )?;
             flatten_body(names, steps, body)
         }
     }

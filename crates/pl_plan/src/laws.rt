@@ -1,6 +1,6 @@
 // The laws over the definition of the unfolding: each is the contract of a function with an empty body.
 ghost use Rattle.pl_plan.specs.Laws.{UnfoldedIsChecked, FaultIsOfProgram, PlanIsUnfolded, FaultIsFirst};
-ghost use Rattle.pl_plan.specs.FoldingLaws.{CodesHavePieces, OneListOfPieces, PiecesOfTexts, PiecesUnfoldToCode};
+ghost use Rattle.pl_plan.specs.FoldingLaws.{OneListOfPieces, PiecesOfTexts, PiecesUnfoldToCode, PlanHasPieces, PlansOfTexts};
 ghost use Rattle.pl_plan.specs.FoldingLaws.{LeftPiecesUnfold, OneListLeft, SteadyLeavesFew};
 ghost use Rattle.pl_plan.specs.WorkedPieces.{HaveTheirPieces, folded_loops, other_loops};
 ghost use Rattle.pl_plan.specs.WorkedPrograms.{AreWorked, worked_faults, worked_plans};
@@ -38,13 +38,14 @@ pub fn left_pieces()
     ensures few { SteadyLeavesFew }
 {}
 
-/// Each code of the plan to which a program unfolds has one list of pieces; they are a folded code, and unfold to the code, where the program nests no deeper
-/// than that of a text and has no loop of more turns.
+/// The plan to which a program unfolds has the pieces of its codes, and each code has one list of them; they are a folded code, and unfold to the code, where
+/// the program nests no deeper than that of a text and has no loop of more turns. So the plan of a text is the one whose codes are kept as these pieces.
 pub fn pieces_of_codes()
-    ensures exist { CodesHavePieces }
+    ensures have { PlanHasPieces }
     ensures one { OneListOfPieces }
     ensures folded { PiecesUnfoldToCode }
     ensures texts { PiecesOfTexts }
+    ensures plans { PlansOfTexts }
 {}
 
 /// Small programs with the pieces of their codes: steady loops that leave a Repeat; and others that do not, since they are not steady, have no turn, or make

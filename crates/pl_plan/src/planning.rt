@@ -4,23 +4,34 @@ ghost use Rattle.std.specs.Prelude.{◌≡◌, ◌<◌, ◌≤◌, ◌^◌, IfOk
 ghost use Rattle.pl_syntax.specs.Tree.{count, height};
 ghost use Rattle.pl_plan.specs.Unfolding.{plan_of};
 ghost use Rattle.pl_plan.specs.Planning.{GivesOutcome};
+ghost use Rattle.pl_plan.specs.inside.FoldsSteps.{AreFolded, CanBeFolded};
 
-use crate::checker::Checker;
+use crate::checker::{Checker, Parts, Start};
 use crate::fault::PlanEnd;
 use crate::flatten::flatten_body;
+use crate::pieces::code_pieces;
+use crate::step::Step;
 use crate::tasks::unfold_tasks;
 use armus_base::{Code, List, NoMemory, Op, Plan};
 use indexmap::IndexSet;
 use pl_syntax::{MAX_OPEN_BRACES, Program};
 use std::alloc::Global;
 
-// Each list of ops as a code.
-fn codes_of(alloc: Global, lists: Vec<List<Op>>) -> Result<List<Code>, NoMemory>
-    ensures { IfOk result (λ codes. codes ≡ lists.items) }
+// The codes of the tasks. Each list of ops is let go as soon as it is folded.
+fn codes_of(
+    alloc: Global,
+    steps: &[Step],
+    starts: &[Option<Start>],
+    lists: Vec<List<Op>>,
+) -> Result<List<Code>, NoMemory>
+    requires folds { CanBeFolded steps.now starts.now lists.items }
+    ensures folded { IfOk result (λ codes. AreFolded steps.now starts.now lists.items codes) }
 {
     let mut codes = List::new(alloc);
     for ops in lists {
-        codes.push(Code::from_ops(ops))?;
+        let t = codes.as_slice().len();
+        let pieces = code_pieces(alloc, steps, &starts[t], ops.as_slice())?;
+        codes.push(Code::from_pieces(pieces))?;
     }
     Ok(codes)
 }
@@ -29,7 +40,7 @@ fn codes_of(alloc: Global, lists: Vec<List<Op>>) -> Result<List<Code>, NoMemory>
 ///
 /// Tasks are unfolded in order of their numbers, from task 0 with the whole program. `Check` comes exactly where the unfolding has a fault, with the
 /// first one; a body that is never unfolded is not checked. In PL 2 the code of each forked task ends with one Drop for each phaser of which it is then a
-/// member, in order of number. The time is linear in the visits, at most `MAX_VISITS`. The plan is a checked plan:
+/// member, in order of number. Codes are kept folded: a steady loop takes the memory of its body once. The time is linear in the visits, at most `MAX_VISITS`. The plan is a checked plan:
 /// it follows the rules of PL and the limits of `Plan`.
 pub fn plan(alloc: Global, program: &Program) -> Result<Plan, PlanEnd>
     requires few { count program.now.body < 2 ^ 32 }
@@ -41,10 +52,13 @@ pub fn plan(alloc: Global, program: &Program) -> Result<Plan, PlanEnd>
     flatten_body(&mut names, &mut steps, &program.body)?;
     let mut checker = Checker::new(alloc, steps, names.len())?;
     unfold_tasks(alloc, &mut checker, program.two)?;
-    let parts = checker.into_parts();
-    Ok(Plan::from_parts(
-        List::from_vec(parts.parents),
-        List::from_vec(parts.makers),
-        codes_of(alloc, parts.codes)?,
-    ))
+    let Parts {
+        steps,
+        parents,
+        makers,
+        codes: lists,
+        starts,
+    } = checker.into_parts();
+    let codes = codes_of(alloc, &steps, &starts, lists)?;
+    Ok(Plan::from_parts(List::from_vec(parents), List::from_vec(makers), codes))
 }

@@ -6,7 +6,7 @@ use armus_base::{Offset, PhaserId, TaskId};
 #[derive(Clone, Copy, Debug)]
 pub(crate) struct NameId(pub u32);
 
-// A statement: the step with index i is that with number i + 1. What stands after a body begins at `after`.
+// A statement: the step with index i is that with number i + 1. What stands after a body begins at `after`. A loop knows whether its body is steady.
 #[derive(Clone, Copy, Debug)]
 pub(crate) enum Step {
     NewTask { x: NameId },
@@ -17,7 +17,7 @@ pub(crate) enum Step {
     Adv { x: NameId },
     Await { x: NameId, off: Offset },
     Skip,
-    Loop { k: u16, after: u32 },
+    Loop { k: u16, after: u32, steady: bool },
 }
 
 // What a name stands for.

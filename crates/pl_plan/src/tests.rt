@@ -64,6 +64,8 @@ fn check_text(rt: &impl Abort, alloc: Global, text: &[u8]) -> Checked {
     }
 }
 
+mod pieces;
+
 #[test]
 fn plans_and_first_faults(rt: HostRuntime) {
     let rows: [(&[u8], Checked); 31] = [
@@ -144,7 +146,11 @@ fn ops_of_each_task(rt: HostRuntime) -> Result<(), Fail> {
     for (t, wanted) in [13, 10, 10, 10].iter().enumerate() {
         let t = t as u32;
         assert!(rt; t < plan.tasks());
-        assert_eq!(rt; plan.code(TaskId(t)).len(), *wanted, "task {t}");
+        let mut cursor = plan.cursor(TaskId(t));
+        for _ in 0..*wanted {
+            assert!(rt; cursor.next().is_some(), "task {t}");
+        }
+        assert!(rt; cursor.next().is_none(), "task {t}");
     }
     unfolded_is_checked();
     fault_is_of_program();

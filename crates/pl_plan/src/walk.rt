@@ -61,7 +61,11 @@ pub(crate) fn walk(
         let step = checker.step(at);
         count_visit(checker, at + 1)?;
         match step {
-            Step::Loop { k, after } => {
+            Step::Loop {
+                k,
+                after,
+                steady: _,
+            } => {
                 walk_turns(alloc, checker, t, at, k, after)?;
                 at = after;
             }

@@ -121,7 +121,7 @@ checker_act t n (a_step.Dereg x) k = checker_dereg t n x.0 k
 checker_act t n (a_step.Adv x) k = checker_adv t n x.0 k
 checker_act t n (a_step.Await x off) k = checker_await t n x.0 off k
 checker_act t n (a_step.Fork x after) k = Ok k
-checker_act t n (a_step.Loop i after) k = Ok k
+checker_act t n (a_step.Loop i after steady) k = Ok k
 checker_act t n a_step.Skip k = Ok k
 
 -- the numbers of a step's names are below n
@@ -133,7 +133,7 @@ HasNames n (a_step.Dereg x) = x.0 < n
 HasNames n (a_step.Adv x) = x.0 < n
 HasNames n (a_step.Await x off) = x.0 < n
 HasNames n (a_step.Fork x after) = x.0 < n
-HasNames n (a_step.Loop i after) = Unit {0}
+HasNames n (a_step.Loop i after steady) = Unit {0}
 HasNames n a_step.Skip = Unit {0}
 
 -- what a function returned and left is what this gives, unless memory ran out

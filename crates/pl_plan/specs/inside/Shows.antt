@@ -11,7 +11,8 @@ use Rattle.pl_syntax.specs.Tree.{Tree}
 use Rattle.pl_plan.specs.inside.Steps.{IsSpelled}
 use Rattle.pl_plan.specs.inside.Checker.{Checker, CheckerStart}
 use Rattle.pl_plan.specs.inside.CheckerSteps.{thing_of}
-use Rattle.pl_plan.specs.Unfolding.{UnfoldingState, Start, Names, Outcome, visit, times, a_turn, visits_of, make_visits}
+use Rattle.armus_base.specs.Pieces.{times}
+use Rattle.pl_plan.specs.Unfolding.{UnfoldingState, Start, Names, Outcome, visit, a_turn, visits_of, make_visits}
 
 -- two numbers below n have two names
 abbrev pub IsNumbering : ℕ → (ℕ → List ℕ) → Type 0

@@ -1,7 +1,9 @@
 -- Steps that spell a tree.
-use Rattle.std.specs.Prelude.{◌≡◌, ℕ, ◌+◌, ◌<◌, List, slice_index_or}
+use Rattle.std.specs.Prelude.{◌≡◌, ℕ, ◌+◌, ◌<◌, ◌≤◌, List, slice_index_or}
 use Rattle.pl_syntax.specs.Tree.{Tree, done, plain, fork, loop, Plain, new_task, new_phaser, reg, dereg, adv, await, skip}
 use Rattle.armus_base.specs.Offsets.{IsNear}
+use Rattle.armus_base.specs.Pieces.{max_turns}
+use Rattle.pl_plan.specs.FoldedOps.{is_steady}
 use Rattle.pl_plan.specs.declared.step.NameId.{NameId}
 use Rattle.pl_plan.specs.declared.step.Step.{Step}
 use Rattle.pl_plan.specs.declared.step.Step.TheVariants as a_step
@@ -32,7 +34,8 @@ IsSpelled n names steps i (fork x body rest) to =
     (id : NameId) × (after : ℕ) × (step_at steps i ≡ a_step.Fork id after) × IsNumberOfName n names id x
     × IsSpelled n names steps (i + 1) body after × IsSpelled n names steps after rest to
 IsSpelled n names steps i (loop k body rest) to =
-    (after : ℕ) × (step_at steps i ≡ a_step.Loop k after) × IsSpelled n names steps (i + 1) body after × IsSpelled n names steps after rest to
+    (after : ℕ) × (step_at steps i ≡ a_step.Loop k after (is_steady body)) × (k ≤ max_turns)
+    × IsSpelled n names steps (i + 1) body after × IsSpelled n names steps after rest to
 
 -- there is a tree of these steps
 abbrev pub IsList : ℕ → List Step → ℕ → ℕ → Type 0

@@ -27,6 +27,6 @@ flatten_statement-returns-in_ok-push-in-Loop t c =
     on_ok_weaker c.flatten_body-in-Loop.result
     (λ adds. subst (λ z. AddsSteps c.args.names.now.keys c.flatten_body-in-Loop.new.names.keys c.args.steps.now.items c.flatten_body-in-Loop.new.steps.items
     (followed_by z done)) (sym c.in-Loop.is)
-    (adds_loop c.args.names.now.keys c.flatten_body-in-Loop.new.names.keys c.args.steps.now.items _ c.flatten_body-in-Loop.new.steps.items c.in-Loop.k _ c.in-Loop.body
-    c.in_ok-push-in-Loop.ensures (omega (arith, c.len-in-Loop.ensures, c.statements-in-Loop.ensures)) adds))
+    (adds_loop c.args.names.now.keys c.flatten_body-in-Loop.new.names.keys c.args.steps.now.items _ c.flatten_body-in-Loop.new.steps.items c.in-Loop.k _ _ c.in-Loop.body (omega arith)
+    c.is_steady-steady.ensures c.in_ok-push-in-Loop.ensures (omega (arith, c.len-in-Loop.ensures, c.statements-in-Loop.ensures)) adds))
     c.flatten_body-in-Loop.ensures

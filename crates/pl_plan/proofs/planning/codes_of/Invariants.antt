@@ -1,5 +1,5 @@
-use Rattle.std.proofs.Common.{◌≡◌}
+use Rattle.pl_plan.proofs.FoldedCodes.{CodesFolded}
 use Rattle.pl_plan.proofs.planning.codes_of.Given as goal
 
 abbrev pub invariant-loop-ops : goal.invariant-loop-ops
-invariant-loop-ops l = l.codes ≡ l.yielded
+invariant-loop-ops l = CodesFolded l.steps l.starts l.fn.lists.items l.yielded l.ops-iterator.rest.items l.codes

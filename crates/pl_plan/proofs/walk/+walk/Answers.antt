@@ -16,9 +16,9 @@ walk-returns-in_err-count_visit-clause-follows t c =
 pub walk-walk_turns-requires : goal.walk-walk_turns-requires
 walk-walk_turns-requires t c =
     let r = a.ahead_loop_bounds c.args.from c.args.to c.args.t.0 c.args.checker.now c.loop-at.at c.loop-at.checker c.requires.task c.loop-at.invariant
-    c.loop-at-test.true c.count_visit.new.checker c.in_ok-count_visit.ensures c.in-Loop.k c.in-Loop.after c.in-Loop.ensures in
+    c.loop-at-test.true c.count_visit.new.checker c.in_ok-count_visit.ensures c.in-Loop.k c.in-Loop.after c.in-Loop.steady c.in-Loop.ensures in
     let l = a.ahead_loop_list c.args.from c.args.to c.args.t.0 c.args.checker.now c.loop-at.at c.loop-at.checker c.requires.task c.loop-at.invariant
-    c.loop-at-test.true c.count_visit.new.checker c.in_ok-count_visit.ensures c.in-Loop.k c.in-Loop.after c.in-Loop.ensures in
+    c.loop-at-test.true c.count_visit.new.checker c.in_ok-count_visit.ensures c.in-Loop.k c.in-Loop.after c.in-Loop.steady c.in-Loop.ensures in
     let f = a.fits1 c.args.from c.args.to c.args.t.0 c.args.checker.now c.loop-at.at c.loop-at.checker c.requires.task c.loop-at.invariant c.loop-at-test.true
     c.count_visit.new.checker c.in_ok-count_visit.ensures in
     let u = a.run1 c.args.from c.args.to c.args.t.0 c.args.checker.now c.loop-at.at c.loop-at.checker c.requires.task c.loop-at.invariant c.loop-at-test.true
@@ -32,19 +32,19 @@ pub walk-returns-in_err-walk_turns-in-Loop-clause-follows : goal.walk-returns-in
 walk-returns-in_err-walk_turns-in-Loop-clause-follows t c =
     let p = err_from_is_err_and c.from_residual-in_err-walk_turns-in-Loop.result c.from_residual-in_err-walk_turns-in-Loop.ensures.1 in
     a.ahead_loop_fails c.args.from c.args.to c.args.t.0 c.args.checker.now c.loop-at.at c.loop-at.checker c.requires.task c.loop-at.invariant
-    c.loop-at-test.true c.count_visit.new.checker c.in_ok-count_visit.ensures c.in-Loop.k c.in-Loop.after c.in-Loop.ensures
+    c.loop-at-test.true c.count_visit.new.checker c.in_ok-count_visit.ensures c.in-Loop.k c.in-Loop.after c.in-Loop.steady c.in-Loop.ensures
     c.in_err-walk_turns-in-Loop.field-0.0 c.walk_turns.new.checker _ c.in_err-walk_turns-in-Loop.ensures.follows c.from_residual-in_err-walk_turns-in-Loop.result (p.1 ∙ ap Err p.2)
 
 pub walk-loop-at-smaller-in-Loop : goal.walk-loop-at-smaller-in-Loop
 walk-loop-at-smaller-in-Loop t c =
     let r = a.ahead_loop_bounds c.args.from c.args.to c.args.t.0 c.args.checker.now c.loop-at.at c.loop-at.checker c.requires.task c.loop-at.invariant
-    c.loop-at-test.true c.count_visit.new.checker c.in_ok-count_visit.ensures c.in-Loop.k c.in-Loop.after c.in-Loop.ensures in
+    c.loop-at-test.true c.count_visit.new.checker c.in_ok-count_visit.ensures c.in-Loop.k c.in-Loop.after c.in-Loop.steady c.in-Loop.ensures in
     omega (arith, r.0, r.1)
 
 pub walk-loop-at-preserved-in-Loop : goal.walk-loop-at-preserved-in-Loop
 walk-loop-at-preserved-in-Loop t c =
     a.ahead_loop c.args.from c.args.to c.args.t.0 c.args.checker.now c.loop-at.at c.loop-at.checker c.requires.task c.loop-at.invariant c.loop-at-test.true
-    c.count_visit.new.checker c.in_ok-count_visit.ensures c.in-Loop.k c.in-Loop.after c.in-Loop.ensures
+    c.count_visit.new.checker c.in_ok-count_visit.ensures c.in-Loop.k c.in-Loop.after c.in-Loop.steady c.in-Loop.ensures
     c.walk_turns.new.checker c.in_ok-walk_turns-in-Loop.ensures.keeps c.in_ok-walk_turns-in-Loop.ensures.follows
 
 pub walk-fork-requires-clause-fits : goal.walk-fork-requires-clause-fits
