@@ -2,6 +2,7 @@
 ghost use Rattle.std.specs.Prelude.{◌≡◌, ◌<◌, length};
 
 use crate::{LockedWorld, Logged, PlanName};
+use armus_base::Piece::Op as Single;
 use armus_base::{Code, List, NoMemory, Offset, Op, PhaserId, Plan, TaskId};
 use pl_core::Stand;
 use std::alloc::Global;
@@ -23,27 +24,27 @@ fn two_tasks(alloc: Global) -> Result<Plan, NoMemory> {
     let parents = vec![in alloc; None, Some(ROOT)]?;
     let makers = vec![in alloc; ROOT, ROOT]?;
     let first = vec![in alloc;
-        Op::Make { p: A },
-        Op::Make { p: B },
-        Op::Reg { c: CHILD, p: A },
-        Op::Reg { c: CHILD, p: B },
-        Op::Fork { c: CHILD },
-        Op::Adv { p: A },
-        Op::Await {
+        Single(Op::Make { p: A }),
+        Single(Op::Make { p: B }),
+        Single(Op::Reg { c: CHILD, p: A }),
+        Single(Op::Reg { c: CHILD, p: B }),
+        Single(Op::Fork { c: CHILD }),
+        Single(Op::Adv { p: A }),
+        Single(Op::Await {
             p: A,
             off: Offset::Here
-        },
+        }),
     ]?;
     let second = vec![in alloc;
-        Op::Adv { p: B },
-        Op::Await {
+        Single(Op::Adv { p: B }),
+        Single(Op::Await {
             p: B,
             off: Offset::Here
-        },
+        }),
     ]?;
     let codes = vec![in alloc;
-        Code::from_ops(List::from_vec(first)),
-        Code::from_ops(List::from_vec(second)),
+        Code::from_pieces(List::from_vec(first)),
+        Code::from_pieces(List::from_vec(second)),
     ]?;
     Ok(Plan::from_parts(
         List::from_vec(parents),
