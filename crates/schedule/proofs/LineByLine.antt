@@ -34,7 +34,6 @@ use Rattle.schedule.specs.Replays.{LinesLead, one_more, Progress, loaded, IsOwnN
 use Rattle.schedule.specs.Replaying.{AreDeadIn, AreVerdicts, one_pass, Replays}
 use Rattle.schedule.specs.inside.KeptReplays.{IsOpenPass, HasOpenPass, KeepsProgress, TakesLine, end_at_line}
 use Rattle.schedule.proofs.Following.{state_is}
-use Rattle.std.proofs.lemmas.Option.{slice_get_within}
 use Rattle.std.proofs.lemmas.Bool.{eq-eqb, ne_eqb}
 use Rattle.schedule.proofs.Passing.{loads_left}
 use Rattle.schedule.proofs.PassesNameTheDead.{plain_next}

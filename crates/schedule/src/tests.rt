@@ -1,5 +1,6 @@
 // Schedules over the empty text's plan, and over that of two tasks that wait for each other.
 use crate::{ReplayEnd, read_lines, replay, replay_text, split_input};
+use armus_base::Piece::Op as Single;
 use armus_base::{Code, List, NoMemory, Offset, Op, PhaserId, Plan, TaskId};
 use std::alloc::Global;
 use std::test::Fail;
@@ -15,7 +16,7 @@ const CHILD: TaskId = TaskId(1);
 // The plan of the empty text.
 fn empty_plan(alloc: Global) -> Result<Plan, NoMemory> {
     let parents = vec![in alloc; None]?;
-    let codes = vec![in alloc; Code::from_ops(List::new(alloc))]?;
+    let codes = vec![in alloc; Code::from_pieces(List::new(alloc))]?;
     Ok(Plan::from_parts(
         List::from_vec(parents),
         List::new(alloc),
@@ -28,27 +29,27 @@ fn two_tasks(alloc: Global) -> Result<Plan, NoMemory> {
     let parents = vec![in alloc; None, Some(ROOT)]?;
     let makers = vec![in alloc; ROOT, ROOT]?;
     let first = vec![in alloc;
-        Op::Make { p: A },
-        Op::Make { p: B },
-        Op::Reg { c: CHILD, p: A },
-        Op::Reg { c: CHILD, p: B },
-        Op::Fork { c: CHILD },
-        Op::Adv { p: A },
-        Op::Await {
+        Single(Op::Make { p: A }),
+        Single(Op::Make { p: B }),
+        Single(Op::Reg { c: CHILD, p: A }),
+        Single(Op::Reg { c: CHILD, p: B }),
+        Single(Op::Fork { c: CHILD }),
+        Single(Op::Adv { p: A }),
+        Single(Op::Await {
             p: A,
             off: Offset::Here
-        },
+        }),
     ]?;
     let second = vec![in alloc;
-        Op::Adv { p: B },
-        Op::Await {
+        Single(Op::Adv { p: B }),
+        Single(Op::Await {
             p: B,
             off: Offset::Here
-        },
+        }),
     ]?;
     let codes = vec![in alloc;
-        Code::from_ops(List::from_vec(first)),
-        Code::from_ops(List::from_vec(second)),
+        Code::from_pieces(List::from_vec(first)),
+        Code::from_pieces(List::from_vec(second)),
     ]?;
     Ok(Plan::from_parts(
         List::from_vec(parents),
