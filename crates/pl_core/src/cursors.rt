@@ -19,7 +19,7 @@ pub(crate) fn first_cursors<'p>(alloc: Global, plan: &'p Plan) -> Result<Vec<Cur
 }
 
 /// The op at which a cursor stands; None at the end of its code.
-pub(crate) fn op_under(cursors: &[Cursor<'_>], at: usize) -> Option<Op>
+pub(crate) fn op_at_cursor(cursors: &[Cursor<'_>], at: usize) -> Option<Op>
     requires { at < length cursors.now }
     ensures { result ≡ slice_get (slice_index_or cursors.now at []) 0 }
 {

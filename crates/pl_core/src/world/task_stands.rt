@@ -14,7 +14,7 @@ ghost use Rattle.pl_core.specs.Tasks.{IsAtOp};
 
 use super::World;
 use crate::Stand;
-use crate::cursors::op_under;
+use crate::cursors::op_at_cursor;
 use crate::task::task_at;
 use armus_base::{Event, Offset, Op, Phase, PhaserId, TaskId};
 
@@ -74,7 +74,7 @@ impl<'p> World<'p> {
         ensures checked { IsCheckedPlan self.now.plan }
         ensures reachable { IsReachable self.now.plan (places_of self.now) }
     {
-        op_under(&self.cursors, t.0 as usize)
+        op_at_cursor(&self.cursors, t.0 as usize)
     }
 
     // The event of a phaser at the target of its member's phase.

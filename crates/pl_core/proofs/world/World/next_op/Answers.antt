@@ -21,9 +21,9 @@ returns-clause-next c =
     let read : slice_get tasks t ≡ Some task = slice_get-get_or tasks t unbegun within in
     let active = subst (λ (w : WorldValue). IsActive (state_of w) t) (sym c.self.view_is) c.requires.active in
     let none = idle plan tasks c.self.inside.phases kept t task read active.unpublished active.unrefused in
-    subst (λ w. action_by_code w t ≡ option_map action_of c.op_under.result) c.self.view_is
+    subst (λ w. action_by_code w t ≡ option_map action_of c.op_at_cursor.result) c.self.view_is
     (next_of_idle plan tasks c.self.inside.phases kept t task read none
     ∙ ap (option_map action_of)
     (sym (op_of_cursor plan (length plan.parents) tasks c.self.inside.cursors.items c.self.invariant.cursors t here task read)
     ∙ ap (λ cs. slice_get (get_or cs t []) 0) (sym c.deref.ensures.value)
-    ∙ sym c.op_under.ensures))
+    ∙ sym c.op_at_cursor.ensures))
