@@ -38,13 +38,13 @@ next_of_plan k x seat next =
     (seat.checked.codes.well_formed (task_of k.view) (own_place k.view).done x there.1)
 
 -- the first of what is left of a list, and what is left then
-first_left : {A : Type 0} (xs : List A) (k : ℕ) (x : A) (ys : List A) → drop k xs ≡ x ∷ ys → slice_get xs k ≡ Some x
+pub first_left : {A : Type 0} (xs : List A) (k : ℕ) (x : A) (ys : List A) → drop k xs ≡ x ∷ ys → slice_get xs k ≡ Some x
 first_left [] zero x ys e = absurd (cc)
 first_left [] (suc k) x ys e = absurd (cc)
 first_left (z ∷ zs) zero x ys e = cc
 first_left (z ∷ zs) (suc k) x ys e = first_left zs k x ys e
 
-rest_left : {A : Type 0} (xs : List A) (k : ℕ) (x : A) (ys : List A) → drop k xs ≡ x ∷ ys → drop (suc k) xs ≡ ys
+pub rest_left : {A : Type 0} (xs : List A) (k : ℕ) (x : A) (ys : List A) → drop k xs ≡ x ∷ ys → drop (suc k) xs ≡ ys
 rest_left [] zero x ys e = absurd (cc)
 rest_left [] (suc k) x ys e = absurd (cc)
 rest_left (z ∷ zs) zero x ys e = cc
@@ -78,7 +78,7 @@ moved_here t (Blocks p) s = updated_same s.places t t (next_place (s.places t).d
 moved_here t (Passes p) s = updated_same s.places t t (next_place (s.places t).done (s.places t).dropped (Passes p)) refl
 moved_here t (Refuses p) s = updated_same s.places t t (next_place (s.places t).done (s.places t).dropped (Refuses p)) refl
 
-place_undropped : (k : ℕ) (o : Option ℕ) (x : Action) → o ≡ None → ((aim : Aim) → x ≢ Refuses aim) → (next_place k o x).dropped ≡ None
+pub place_undropped : (k : ℕ) (o : Option ℕ) (x : Action) → o ≡ None → ((aim : Aim) → x ≢ Refuses aim) → (next_place k o x).dropped ≡ None
 place_undropped k None (Makes p) e n = refl
 place_undropped k None (Registers c p) e n = refl
 place_undropped k None (Forks c) e n = refl

@@ -11,26 +11,9 @@ use Rattle.board.specs.Seats.{Known, aim_at, event_of}
 use Rattle.board.specs.inside.Walking.{HasLeft, begins, left_of}
 use Rattle.armus_base.proofs.Codes.{awaited_is, awaited_some}
 use Rattle.board.proofs.Seated.{event_here, next_there, place_made}
-use Rattle.board.proofs.Walking.{HasStepped, IsBefore, before_next, left_published, left_then}
+use Rattle.board.proofs.Walking.{HasStepped, IsBefore, before_next, left_published, left_then, place_undropped, rest_left}
 use Rattle.board_rounds.specs.Turns.{Goes}
 use Rattle.board_rounds.proofs.Goings.{same_task}
-
-rest_left : {A : Type 0} (xs : List A) (k : ℕ) (x : A) (ys : List A) → drop k xs ≡ x ∷ ys → drop (suc k) xs ≡ ys
-rest_left [] zero x ys e = absurd (cc)
-rest_left [] (suc k) x ys e = absurd (cc)
-rest_left (z ∷ zs) zero x ys e = cc
-rest_left (z ∷ zs) (suc k) x ys e = rest_left zs k x ys e
-
-undropped : (k : ℕ) (o : Option ℕ) (x : Action) → o ≡ None → ((aim : Aim) → x ≢ Refuses aim) → (next_place k o x).dropped ≡ None
-undropped k None (Makes p) e n = refl
-undropped k None (Registers c p) e n = refl
-undropped k None (Forks c) e n = refl
-undropped k None (Advances p) e n = refl
-undropped k None (Drops p) e n = refl
-undropped k None (Blocks p) e n = refl
-undropped k None (Passes p) e n = refl
-undropped k None (Refuses p) e n = absurd (n p refl)
-undropped k (Some d) x e n = absurd (cc)
 
 module _ (op : Op) (rest : List Op) (k m : Known) (b : IsBefore op rest k) (goes : Goes (begins op ∷ []) k m) where
   task : task_of m.view ≡ task_of k.view
@@ -47,7 +30,7 @@ module _ (op : Op) (rest : List Op) (k m : Known) (b : IsBefore op rest k) (goes
       ap (λ (y : Place). y.done) place ∙ place_made (own_place k.view).done (own_place k.view).dropped x b.left.unrefused n in
       record {
         free = goes.same.holds ∙ b.left.free;
-        unrefused = ap (λ (y : Place). y.dropped) place ∙ undropped (own_place k.view).done (own_place k.view).dropped x b.left.unrefused n;
+        unrefused = ap (λ (y : Place). y.dropped) place ∙ place_undropped (own_place k.view).done (own_place k.view).dropped x b.left.unrefused n;
         left = (λ i. drop (done i) (actions (goes.same.plan i) (task i))) ∙ rest_left (actions k.view.plan (task_of k.view)) (own_place k.view).done x xs first;
         plan = goes.same.plan;
         task = task;

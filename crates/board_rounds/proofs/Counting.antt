@@ -8,7 +8,7 @@ use Rattle.armus_base.specs.CheckedPlans.{IsCheckedPlan}
 use Rattle.pl_core.proofs.StepKinds.{few_actions}
 use Rattle.board.specs.Views.{own_place, task_of}
 use Rattle.board.specs.Seats.{Frame, Known}
-use Rattle.board_rounds.specs.Turns.{Acts, AreChildSeats, CountsEvents, LeadsByCode, Working}
+use Rattle.board_rounds.specs.Turns.{Acts, AreChildSeats, CountsEvents, LeadsByCode, Working, max_events}
 use Rattle.board_rounds.specs.inside.Tasks.{MakesSome}
 use Rattle.board_rounds.specs.Crews.{progress_of}
 use Rattle.board_rounds.proofs.Advancing.{no_drop, task_further}
@@ -123,6 +123,6 @@ pub counts_nothing : (w : Working) → CountsEvents 0 w
 counts_nothing w = record { unrefused = λ none. omega arith; few = omega arith }
 
 -- a task makes few events in a turn
-pub few_events : (own : ℕ) (w : Working) → IsCheckedPlan w.seat.view.plan → CountsEvents own w → own ≤ 524545
+pub few_events : (own : ℕ) (w : Working) → IsCheckedPlan w.seat.view.plan → CountsEvents own w → own ≤ max_events
 few_events own w checked c =
     (let few = few_actions w.seat.view.plan (task_of w.seat.view) checked in let l = c.few in omega arith)

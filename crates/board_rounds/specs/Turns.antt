@@ -1,7 +1,7 @@
 -- What the turns of tasks make of their seats and of their children's.
 use Rattle.std.specs.Prelude.{true, ◌≡◌, ◌≢◌, ℕ, ◌+◌, ◌<◌, ◌≤◌, ◌⊎◌, false, List, [], ◌∷◌, ◌++◌, Some, None, length, IsSome, is_some, Result, IfOk, OnOk, All, sum_by, ◌*◌}
 use Rattle.armus_base.specs.declared.event.Event.{Event}
-use Rattle.armus_base.specs.Limits.{max_phasers}
+use Rattle.armus_base.specs.Limits.{max_ops, max_phasers}
 use Rattle.armus_base.specs.Plans.{Plan, Action, Forks, action_at, actions}
 use Rattle.armus_base.specs.Runs.{Place, IsByCode, IsPrefix, first_place, next_place}
 use Rattle.armus_base.specs.Places.{phases_at_place}
@@ -60,6 +60,10 @@ pub record Acts (board : Frame) (own : List Action) (before now : Working) : Typ
   pub new : List Known
   pub children : now.children ≡ before.children ++ new
   pub seats : AreChildSeats board (forks_of own) new
+
+-- how many events a task may make: two for each op, and a refusal and a drop of each phaser
+abbrev pub max_events : ℕ
+max_events = 2 * max_ops + (max_phasers + 1)
 
 -- How many events of a task are counted: no more than the actions that it has done, and then a refusal and a drop of each phaser.
 pub record CountsEvents (counted : ℕ) (now : Working) : Type 0 where
@@ -127,5 +131,5 @@ pub record TakesTurns {E : Type 0} (board : Frame) (befores nows : List Working)
   pub owns : List (List Action)
   pub each : EachActs board owns befores nows
   pub events : IfOk counted (λ n. n ≡ sum_by length owns)
-  pub few : IfOk counted (λ n. n ≤ length befores * 1048576)
+  pub few : IfOk counted (λ n. n ≤ length befores * max_events)
   pub ends : OnOk counted (All (λ task. EndsTurn task.seat) nows)

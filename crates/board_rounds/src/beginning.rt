@@ -1,11 +1,11 @@
 // The step with which an op begins.
-ghost use Rattle.std.specs.Prelude.{◌≡◌, ◌++◌, ◌<◌, [], ◌∷◌, List, Some, None, false, true, IfOk, IfSome, OnOk, OnErr, slice_get};
+ghost use Rattle.std.specs.Prelude.{◌≡◌, ◌++◌, ◌<◌, [], ◌∷◌, List, Some, None, false, true, IfOk, IfSome, OnOk, OnErr};
 ghost use Rattle.armus_base.specs.Plans.{Forks};
 ghost use Rattle.armus_base.specs.declared.op.Op.TheVariants.{Await};
 ghost use Rattle.board.specs.Views.{avoids, next_action};
 ghost use Rattle.board.specs.Seats.{Known, IsOf, MakesStep};
-ghost use Rattle.board.specs.inside.Walking.{IsActionOfPlan, begins};
-ghost use Rattle.board_rounds.specs.inside.Attempts.{BeginsOp};
+ghost use Rattle.board.specs.inside.Walking.{begins};
+ghost use Rattle.board_rounds.specs.inside.Attempts.{BeginsOp, MayBegin};
 ghost use Rattle.board_rounds.specs.Turns.{AreChildSeats, Goes, forks_of};
 
 use crate::deciding::{Attempt, try_to_decide};
@@ -13,13 +13,6 @@ use crate::worker_cells::WorkerCells;
 use armus_base::{NoMemory, Offset, Op, PhaserId, TaskId};
 use board::{Board, Mode, TaskSeat};
 use std::alloc::Global;
-
-/// The op at an index of a code.
-pub(crate) fn op_at(code: &[Op], index: u32) -> Option<Op>
-    ensures { result ≡ slice_get code.now index }
-{
-    code.get(index as usize).copied()
-}
 
 // The phaser and the offset of an await on which is to be decided before it is published, as on each one of a board that avoids deadlock.
 fn await_to_decide(op: Op, board: &Board) -> Option<(PhaserId, Offset)>
@@ -62,11 +55,8 @@ fn make_step(
     board: &Board,
     op: Op,
 ) -> Result<(), NoMemory>
-    requires made { IsOf seat.old board.now }
+    requires ready { MayBegin board.now op seat.old }
     requires undecided { (p : PhaserId) (off : Offset) → op ≡ Await p off → avoids board.now.mode ≡ false }
-    requires unlocked { seat.old.view.holds ≡ false }
-    requires next { next_action seat.old.view ≡ Some (begins op) }
-    requires plan { IsActionOfPlan board.now.plan (begins op) }
     ensures step { OnOk result (MakesStep (begins op) seat.old seat.new) }
     ensures children { OnOk result ((new : List Known) × (children.new.items ≡ children.old.items ++ new) × AreChildSeats board.now (forks_of (begins op ∷ [])) new) }
     ensures same { OnErr result (seat.new ≡ seat.old) }
@@ -97,10 +87,7 @@ pub(crate) fn begin(
     op: Op,
     cells: &mut WorkerCells,
 ) -> Result<Attempt, NoMemory>
-    requires made { IsOf seat.old board.now }
-    requires unlocked { seat.old.view.holds ≡ false }
-    requires next { next_action seat.old.view ≡ Some (begins op) }
-    requires plan { IsActionOfPlan board.now.plan (begins op) }
+    requires ready { MayBegin board.now op seat.old }
     ensures begins { IfOk result (BeginsOp op seat.old seat.new) }
     ensures children { OnOk result ((new : List Known) × (children.new.items ≡ children.old.items ++ new) × AreChildSeats board.now (forks_of (begins op ∷ [])) new) }
     ensures same { OnErr result (Goes [] seat.old seat.new) }

@@ -84,7 +84,7 @@ impl<'p> Crew<'p> {
         plan: &'p Plan,
         workers: u8,
         gate: &G,
-    ) -> Result<u32, NoMemory>
+    ) -> Result<u64, NoMemory>
         requires plan { board.now.plan ≡ plan.now }
         requires tasks { AreTasksOf board.now self.old }
         ensures tasks { OnOk result (AreTasksOf board.now self.new) }
@@ -141,7 +141,7 @@ fn go_round<'p, R: Threads + Sync, G: Gate>(
     gate: &G,
     cells: &mut [WorkerCells],
     tasks: &mut Vec<Task<'p>>,
-) -> Result<u32, NoMemory>
+) -> Result<u64, NoMemory>
     requires plan { board.now.plan ≡ plan.now }
     requires ready { All (MayTakeTurn board.now) tasks.old.items }
     requires no_child { All (λ task. task.children ≡ []) tasks.old.items }

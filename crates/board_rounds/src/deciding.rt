@@ -1,12 +1,11 @@
 // An attempt to decide on an await, on a board that avoids deadlock.
-ghost use Rattle.std.specs.Prelude.{◌≡◌, ◌<◌, ◌≤◌, ◌+◌, Some, [], true, false, length, IfOk, OnErr};
+ghost use Rattle.std.specs.Prelude.{◌≡◌, ◌≤◌, ◌+◌, [], length, IfOk, OnErr};
 ghost use Rattle.armus_base.specs.Limits.{max_phasers};
 ghost use Rattle.armus_base.specs.Places.{members_below};
-ghost use Rattle.armus_base.specs.Plans.{Blocks};
 ghost use Rattle.board.specs.Seats.{IsOf, aim_at};
+ghost use Rattle.avoider.specs.OnBoard.{HasSameRoom};
 ghost use Rattle.board.specs.Steps.{own_phase};
-ghost use Rattle.board.specs.Views.{avoids, next_action};
-ghost use Rattle.board_rounds.specs.inside.Attempts.{IsAttempt};
+ghost use Rattle.board_rounds.specs.inside.Attempts.{IsAttempt, MayDecide};
 ghost use Rattle.board_rounds.specs.Turns.{Goes};
 
 use crate::worker_cells::WorkerCells;
@@ -36,11 +35,7 @@ pub(crate) fn try_to_decide(
     off: Offset,
     cells: &mut WorkerCells,
 ) -> Result<Attempt, NoMemory>
-    requires made { IsOf seat.old board.now }
-    requires phaser { p.0 < length board.now.plan.makers }
-    requires avoids { avoids board.now.mode ≡ true }
-    requires unlocked { seat.old.view.holds ≡ false }
-    requires next { next_action seat.old.view ≡ Some (Blocks (aim_at p.0 off)) }
+    requires ready { MayDecide board.now (aim_at p.0 off) seat.old }
     ensures attempt { IfOk result (IsAttempt (aim_at p.0 off) seat.old seat.new) }
     ensures undecided { OnErr result (Goes [] seat.old seat.new) }
 {
@@ -61,17 +56,12 @@ fn decide_with(
     cells: &mut Cells,
     judge: &mut Judge,
 ) -> Result<Attempt, NoMemory>
-    requires made { IsOf seat.old board.now }
-    requires phaser { p.0 < length board.now.plan.makers }
-    requires avoids { avoids board.now.mode ≡ true }
-    requires unlocked { seat.old.view.holds ≡ false }
-    requires next { next_action seat.old.view ≡ Some (Blocks (aim_at p.0 off)) }
+    requires ready { MayDecide board.now (aim_at p.0 off) seat.old }
     requires tasks { cells.old.tasks ≡ length board.now.plan.parents }
     requires phasers { cells.old.phasers ≡ length board.now.plan.makers }
     ensures attempt { IfOk result (IsAttempt (aim_at p.0 off) seat.old seat.new) }
     ensures undecided { OnErr result (Goes [] seat.old seat.new) }
-    ensures tasks { cells.new.tasks ≡ cells.old.tasks }
-    ensures phasers { cells.new.phasers ≡ cells.old.phasers }
+    ensures room { HasSameRoom cells.old cells.new }
 {
     let _ = seat.id();
     let phasers = memberships(seat, board);

@@ -27,7 +27,7 @@ pub fn round<R: Threads + Sync, G: Gate>(
     wanted: Wanted,
     workers: u8,
     gate: &G,
-) -> Result<u32, NoMemory>
+) -> Result<u64, NoMemory>
     requires ready { All (MayTakeTurn board.now) tasks.old }
     requires plan { board.now.plan ≡ plan.now }
     requires few { length tasks.old ≤ max_tasks }
@@ -53,7 +53,7 @@ pub(crate) fn take_turns<T: TakeTurn + Send, R: Threads + Sync, C: Calls + Sync>
     workers: u8,
     cells: &mut [WorkerCells],
     tasks: &mut [T],
-) -> Result<u32, NoMemory>
+) -> Result<u64, NoMemory>
     requires ready { All (MayTakeTurn board.now) (map T.working tasks.old) }
     requires few { length tasks.old ≤ max_tasks }
     requires enough { workers ≤ length cells.old }
@@ -77,7 +77,7 @@ fn take_turns_in_halves<T: TakeTurn + Send, R: Threads + Sync, C: Calls + Sync>(
     workers: u8,
     cells: &mut [WorkerCells],
     tasks: &mut [T],
-) -> Result<u32, NoMemory>
+) -> Result<u64, NoMemory>
     requires ready { All (MayTakeTurn board.now) (map T.working tasks.old) }
     requires few { length tasks.old ≤ max_tasks }
     requires enough { workers ≤ length cells.old }
@@ -90,11 +90,11 @@ fn take_turns_in_halves<T: TakeTurn + Send, R: Threads + Sync, C: Calls + Sync>(
     let (front, back) = tasks.split_at_mut(tasks.len() / 2);
     let (first, second) = join_mut(
         rt,
-        &mut || -> Result<u32, NoMemory>
+        &mut || -> Result<u64, NoMemory>
             requires { IsSync R.row × All (MayTakeTurn board.now) (map T.working front.now) × (length front.now ≤ max_tasks) × (few ≤ length front_cells.now) × (1 ≤ length front_cells.now) }
             ensures { TakesTurns board.entry.now (map T.working front.entry.now) (map T.working front.exit.now) result }
         { take_turns(rt, alloc, board, gate, few, front_cells, front) },
-        &mut || -> Result<u32, NoMemory>
+        &mut || -> Result<u64, NoMemory>
             requires { IsSync R.row × All (MayTakeTurn board.now) (map T.working back.now) × (length back.now ≤ max_tasks) × (rest ≤ length back_cells.now) × (1 ≤ length back_cells.now) }
             ensures { TakesTurns board.entry.now (map T.working back.entry.now) (map T.working back.exit.now) result }
         { take_turns(rt, alloc, board, gate, rest, back_cells, back) },
@@ -109,14 +109,14 @@ fn take_turns_in_order<T: TakeTurn, C: Calls>(
     gate: &C,
     cells: &mut WorkerCells,
     tasks: &mut [T],
-) -> Result<u32, NoMemory>
+) -> Result<u64, NoMemory>
     requires ready { All (MayTakeTurn board.now) (map T.working tasks.old) }
     requires few { length tasks.old ≤ max_tasks }
     ensures turns { TakesTurns board.now (map T.working tasks.old) (map T.working tasks.new) result }
 {
     let mut made = 0;
     for task in tasks.iter_mut() {
-        made += task.turn(alloc, board, cells, gate)?;
+        made += u64::from(task.turn(alloc, board, cells, gate)?);
     }
     Ok(made)
 }

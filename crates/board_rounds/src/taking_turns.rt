@@ -2,7 +2,7 @@
 ghost use Rattle.std.specs.Prelude.{◌≡◌, ◌≤◌, List, IfOk, OnOk, length};
 ghost use Rattle.armus_base.specs.Plans.{Action};
 ghost use Rattle.board.specs.Seats.{IsOf};
-ghost use Rattle.board_rounds.specs.Turns.{Acts, EndsTurn};
+ghost use Rattle.board_rounds.specs.Turns.{Acts, EndsTurn, max_events};
 
 use crate::calling::Calls;
 use crate::worker_cells::WorkerCells;
@@ -29,6 +29,6 @@ pub(crate) trait TakeTurn {
     ) -> Result<u32, NoMemory>
         requires made { IsOf (working self.old).seat board.now }
         ensures acts { (own : List Action) × Acts board.now own (working self.old) (working self.new) × IfOk result (λ n. n ≡ length own) }
-        ensures few { IfOk result (λ n. n ≤ 1048576) }
+        ensures few { IfOk result (λ n. n ≤ max_events) }
         ensures ends { OnOk result (EndsTurn (working self.new).seat) };
 }

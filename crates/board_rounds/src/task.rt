@@ -7,12 +7,12 @@ ghost use Rattle.board.specs.Seats.{IsOf, event_of};
 ghost use Rattle.board_rounds.specs.Turns.{Acts, ActsNoMore, CountsEvents, EndsTurn, PausesAt, standing_of};
 ghost use Rattle.board_rounds.specs.inside.Tasks.{MakesSome};
 
-use crate::beginning::{begin, op_at};
+use crate::beginning::begin;
 use crate::calling::Calls;
 use crate::deciding::Attempt;
 use crate::taking_turns::TakeTurn;
 use crate::worker_cells::WorkerCells;
-use armus_base::{List, NoMemory, Plan, Point, TaskId};
+use armus_base::{Cursor, List, NoMemory, Plan, Point, TaskId};
 use board::{Board, TaskSeat};
 use phase_scan::{Look, look};
 use pl_core::Place;
@@ -41,8 +41,8 @@ pub struct Acted {
 #[derive(Drop)]
 pub struct Task<'p> {
     seat: TaskSeat,
-    // of the board of the seat
-    plan: &'p Plan,
+    // stands at the first of its ops that is not begun
+    cursor: Cursor<'p>,
     // how many of its ops are begun
     begun: u32,
     // how many events of its code it has made
@@ -72,9 +72,10 @@ impl<'p> Task<'p> {
         ensures seat { result.seat ≡ seat }
         ensures no_child { result.children ≡ [] }
     {
+        let cursor = plan.cursor(seat.id());
         Task {
             seat,
-            plan,
+            cursor,
             begun: 0,
             events: 0,
             refused: false,
@@ -115,8 +116,7 @@ impl<'p> Task<'p> {
         if self.refused {
             return true;
         }
-        let code = self.plan.code(self.seat.id());
-        self.seat.event().is_none() && op_at(code, self.begun).is_none()
+        self.seat.event().is_none() && self.cursor.peek().is_none()
     }
 
     /// Its seat.
@@ -177,7 +177,7 @@ impl<'p> Task<'p> {
         if self.seat.event().is_some() {
             return Ok(self.pass(board));
         }
-        let Some(op) = op_at(self.plan.code(t), self.begun) else {
+        let Some(op) = self.cursor.peek() else {
             return Ok(None);
         };
         gate.call(Point::Op { t, k: self.begun });
@@ -185,6 +185,7 @@ impl<'p> Task<'p> {
         match begin(&mut self.seat, children, alloc, board, op, cells)? {
             Attempt::LockedOut => Ok(None),
             Attempt::Begun => {
+                let _op = self.cursor.next();
                 self.begun += 1;
                 self.events += 1;
                 Ok(Some(1))

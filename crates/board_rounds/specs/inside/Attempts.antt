@@ -1,17 +1,33 @@
 -- What comes of an attempt to decide on an await, on a board that avoids deadlock.
-use Rattle.std.specs.Prelude.{◌≡◌, ℕ, List, [], ◌∷◌, ◌++◌, is_some, if◌then◌else◌, length}
+use Rattle.std.specs.Prelude.{◌≡◌, ℕ, ◌<◌, List, [], ◌∷◌, ◌++◌, Some, false, true, is_some, if◌then◌else◌, length}
 use Rattle.std.proofs.Common.{zero, suc}
 use Rattle.armus_base.specs.declared.op.Op.{Op}
 use Rattle.armus_base.specs.declared.op.Op.TheVariants.{Await}
 use Rattle.armus_base.specs.Places.{members_below}
 use Rattle.armus_base.specs.Plans.{Aim, Action, Blocks, Drops, Refuses}
 use Rattle.armus_base.specs.States.{Phases}
-use Rattle.board.specs.Seats.{Known, aim_at}
+use Rattle.board.specs.Seats.{Frame, IsOf, Known, aim_at}
 use Rattle.board.specs.Steps.{own_phase}
-use Rattle.board.specs.inside.Walking.{begins}
+use Rattle.board.specs.Views.{avoids, next_action}
+use Rattle.board.specs.inside.Walking.{IsActionOfPlan, begins}
 use Rattle.board_rounds.specs.declared.deciding.Attempt.{Attempt}
 use Rattle.board_rounds.specs.declared.deciding.Attempt.TheVariants.{Begun, LockedOut, Refused}
 use Rattle.board_rounds.specs.Turns.{EndsTurn, Goes, HasLeftAll}
+
+-- the seat is one of the board, its task stands before this op, and does not hold the lock
+pub record MayBegin (board : Frame) (op : Op) (seat : Known) : Type 0 where
+  pub made : IsOf seat board
+  pub unlocked : seat.view.holds ≡ false
+  pub next : next_action seat.view ≡ Some (begins op)
+  pub plan : IsActionOfPlan board.plan (begins op)
+
+-- the seat is one of a board that avoids deadlock, its task stands before an await with this aim, and does not hold the lock
+pub record MayDecide (board : Frame) (aim : Aim) (seat : Known) : Type 0 where
+  pub made : IsOf seat board
+  pub avoids : avoids board.mode ≡ true
+  pub unlocked : seat.view.holds ≡ false
+  pub next : next_action seat.view ≡ Some (Blocks aim)
+  pub phaser : aim.phaser < length board.plan.makers
 
 -- the drops of those of the first phasers of which a task with these phases is a member, in order of number
 abbrev pub drops_below : Phases → ℕ → List Action

@@ -13,15 +13,15 @@ use Rattle.board_rounds.proofs.deciding.decide_with.Goals.{in-Published, in-Refu
 use Rattle.board_rounds.proofs.deciding.decide_with.Goals as goal
 
 pub try_take-requires-clause-next : goal.try_take-requires-clause-next
-try_take-requires-clause-next c = (aim_at c.args.p.0 c.args.off, ap (λ (k : Known). next_action k.view) c.memberships-phasers.ensures.seat ∙ c.requires.next)
+try_take-requires-clause-next c = (aim_at c.args.p.0 c.args.off, ap (λ (k : Known). next_action k.view) c.memberships-phasers.ensures.seat ∙ c.requires.ready.next)
 
 pub returns-in-Err-clause-attempt : goal.returns-in-Err-clause-attempt
 returns-in-Err-clause-attempt c =
     let same = c.memberships-phasers.ensures.seat in
     let own = ap (λ (k : Known). k.view.own) same ∙ c.id.ensures.task in
     let seat = subst IsSeat (sym same) c.id.ensures.seat in
-    let avoiding = ap (λ (k : Known). avoids k.view.mode) same ∙ ap avoids c.requires.made.mode ∙ c.requires.avoids in
-    let next = ap (λ (k : Known). next_action k.view) same ∙ c.requires.next in (
+    let avoiding = ap (λ (k : Known). avoids k.view.mode) same ∙ ap avoids c.requires.ready.made.mode ∙ c.requires.ready.avoids in
+    let next = ap (λ (k : Known). next_action k.view) same ∙ c.requires.ready.next in (
       subst (λ (k : Known). Goes [] k c.try_take.new.seat) same
           (goes_locked_out c.in-Err.field-0.holder.0 c.memberships-phasers.new.seat c.try_take.new.seat c.id.result.0 own seat avoiding c.in-Err.ensures.busy),
       ends_locked_out c.in-Err.field-0.holder.0 c.memberships-phasers.new.seat c.try_take.new.seat c.id.result.0 own seat avoiding c.in-Err.ensures.busy (aim_at c.args.p.0 c.args.off) next,
@@ -33,8 +33,8 @@ returns-clause-attempt c =
     let now = c.decide.new.seat in
     let same = c.memberships-phasers.ensures.seat in
     let own = ap (λ (k : Known). k.view.own) same ∙ c.id.ensures.task in
-    let free = ap (λ (k : Known). k.view.holds) same ∙ c.requires.unlocked in
-    let next = ap (λ (k : Known). next_action k.view) same ∙ c.requires.next in
+    let free = ap (λ (k : Known). k.view.holds) same ∙ c.requires.ready.unlocked in
+    let next = ap (λ (k : Known). next_action k.view) same ∙ c.requires.ready.next in
     let told : (d : Decision) → c.in_ok-decide.field-0 ≡ d → IsDecidedOnBoard c.decide.new.cells.statuses (aim_at c.args.p.0 c.args.off) c.try_take.new.seat now d =
     λ d is. subst (λ e. IsDecidedOnBoard c.decide.new.cells.statuses (aim_at c.args.p.0 c.args.off) c.try_take.new.seat now e) is c.in_ok-decide.ensures.decision in
     elim c.match-branch-2.branch [
@@ -46,6 +46,6 @@ returns-clause-attempt c =
           rw w.result-is
           (subst (λ (k : Known). IsRefusedAt (aim_at c.args.p.0 c.args.off) c.memberships-phasers.result k now) same
           (goes_refused first c.try_take.new.seat now c.id.result.0 (aim_at c.args.p.0 c.args.off) own free next c.in-Ok.ensures.taken _ _ (told _ w.in-Refused.is) c.memberships-phasers.result
-          (c.memberships-phasers.ensures.counted ∙ ap (λ (q : Plan). members_below (own_phase c.args.seat.now.view) (length q.makers)) (sym c.requires.made.plan)
+          (c.memberships-phasers.ensures.counted ∙ ap (λ (q : Plan). members_below (own_phase c.args.seat.now.view) (length q.makers)) (sym c.requires.ready.made.plan)
           ∙ ap (λ (k : Known). members_below (own_phase k.view) (length k.view.plan.makers)) (sym same))))
     ]

@@ -17,14 +17,14 @@ turn-requires g c =
       made = (subst (MayTakeTurn c.args.board.now) (map_get working c.loop-task.tasks n c.task-item.result) (next_is (MayTakeTurn c.args.board.now) (working c.task-item.result) c.loop-task.invariant.so_far c.requires.ready less)).of_board;
     }
 
-pub returns-in_err-made : goal.returns-in_err-made
-returns-in_err-made g c =
+pub returns-in_err-turn : goal.returns-in_err-turn
+returns-in_err-turn g c =
     let working = g.T.TakeTurn.working in
     let n = c.loop-task.task-index in
     let f = c.args.board.now in
     let d = c.task-item.result in
     let less : n < length (map working c.loop-task.tasks) = (let t = c.loop-task-test.true in let s = c.loop-task.auto.tasks in let m = length-map c.loop-task.tasks working in omega arith) in
-    let acts = c.in_err-made.ensures.acts in
+    let acts = c.in_err-turn.ensures.acts in
     let bad : IfOk c.from_residual.result (λ n. ⊥) = search rules in
     let now = subst (λ (w : Working). Acts f acts.0 w (working c.turn.new.self)) (sym (map_get working c.loop-task.tasks n d)) acts.1 in
     let stops = next_stops acts.0 (working d) (working c.turn.new.self) c.loop-task.invariant.so_far c.requires.ready less now in
@@ -42,16 +42,16 @@ loop-task-preserved g c =
     let d = c.task-item.result in
     let less : n < length (map working c.loop-task.tasks) = (let t = c.loop-task-test.true in let s = c.loop-task.auto.tasks in let m = length-map c.loop-task.tasks working in omega arith) in
     let i = c.loop-task.invariant in
-    let acts = c.in_ok-made.ensures.acts in
+    let acts = c.in_ok-turn.ensures.acts in
     let now = subst (λ (w : Working). Acts f acts.0 w (working c.turn.new.self)) (sym (map_get working c.loop-task.tasks n d)) acts.1 in
     record {
       owns = i.owns ++ acts.0 ∷ [];
       so_far =
           subst (λ k. IsSoFar f k (i.owns ++ acts.0 ∷ []) (map working c.args.tasks.now) (map working (set c.loop-task.tasks n c.turn.new.self))) (sym (add-one n))
           (subst (λ (ws : List Working). IsSoFar f (suc n) (i.owns ++ acts.0 ∷ []) (map working c.args.tasks.now) ws) (sym (map_set working c.loop-task.tasks n c.turn.new.self))
-          (next_done acts.0 (working d) (working c.turn.new.self) i.so_far less now c.in_ok-made.ensures.ends));
+          (next_done acts.0 (working d) (working c.turn.new.self) i.so_far less now c.in_ok-turn.ensures.ends));
       events = (let s = sum_by_push length i.owns acts.0 in let e = i.events in let k = acts.2 in omega arith);
-      few = (let a = i.few in let k = c.in_ok-made.ensures.few in omega arith);
+      few = (let a = i.few in let k = c.in_ok-turn.ensures.few in omega arith);
     }
 
 pub returns : goal.returns
