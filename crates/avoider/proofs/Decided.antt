@@ -41,7 +41,7 @@ next_stays k m t seat own goes =
     let task : task_of m.view ≡ task_of k.view = ap (λ o. unwrap_or o 0) goes.same.own in
     let is_t : task_of k.view ≡ t = ap (λ o. unwrap_or o 0) own in
     let here : own_place m.view ≡ own_place k.view =
-    ap (place_in m.view.sight.places) (task ∙ is_t) ∙ goes.here t (seat.own t own).1 ∙ ap (place_in k.view.sight.places) (sym is_t) in
+    ap (place_in m.view.sight.places) (task ∙ is_t) ∙ goes.seen_now.here t (seat.own t own).1 ∙ ap (place_in k.view.sight.places) (sym is_t) in
     λ i. action_after (goes.same.plan i) (task i) (here i).done (here i).dropped
 
 -- a seat that has refused its await and freed the lock
@@ -90,12 +90,14 @@ module _ (list : List Status) (aim : Aim) (before now : Known) (found : Option C
   module _ (a : ℕ → Place) (lock : Option ℕ) (lawful : IsLawful true plan a lock) (has : HasLockWith plan t a lock (seen now.view))
       (far : IsAsFarOn plan (Some t) a (seen now.view)) where
     told : Decides (state_at plan a) t j.event j.supposed
-    told = decides list j.supposed aim j.event before j.judges.between now t seat own next j.judges.own j.judges.goes_on j.judges.collected j.judges.finds j.judges.adds a lock
+    told = decides list j.supposed aim j.event before j.judges.between now t seat own next j.judges.own j.judges.collected.goes_on j.judges.collected.tells
+        (j.judges.collected.finds holds) j.judges.adds a lock
         avoiding lawful has far
 
     awaits : awaited (Some (Blocks aim)) ((state_at plan a).phases t) ≡ Some j.event
     awaits =
-        (stands list j.supposed aim j.event before j.judges.between now t seat own next j.judges.own j.judges.goes_on j.judges.collected j.judges.finds j.judges.adds a lock
+        (stands list j.supposed aim j.event before j.judges.between now t seat own next j.judges.own j.judges.collected.goes_on j.judges.collected.tells
+        (j.judges.collected.finds holds) j.judges.adds a lock
         avoiding lawful has far).awaits
 
     alive_here : (WouldBeDead (state_at plan a) t j.event → ⊥) → LeavesNobodyDead (state_at plan a) t j.event

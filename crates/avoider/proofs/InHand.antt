@@ -201,8 +201,8 @@ module _ (list supposed : List Status) (aim : Aim) (event : Event) (before mid s
   between u e is y =
       let load = phase_load y.from y.to u p (sup.column u) y.small y.load in
       let first : IsPrefix (at u) ((seen y.from.view).places u) =
-      prefix_both (at u) ((seen mid.view).places u) ((seen y.from.view).places u) (at_mid u e is) (y.goes_from.later u) in
-      (first, prefix_both (at u) ((seen y.from.view).places u) ((seen y.to.view).places u) first (load.later u))
+      prefix_both (at u) ((seen mid.view).places u) ((seen y.from.view).places u) (at_mid u e is) (y.goes_from.seen_now.later u) in
+      (first, prefix_both (at u) ((seen y.from.view).places u) ((seen y.to.view).places u) first (load.goes.seen_now.later u))
 
   begun : (u : ℕ) (e : Event) (b : Place) → IsListedOn list u e → IsPrefix (at u) b → 0 < b.done
   begun u e b is later =
@@ -241,13 +241,13 @@ module _ (list supposed : List Status) (aim : Aim) (event : Event) (before mid s
     s = state_at plan a
 
     exact_store : (seen store.view).exact t ≡ true
-    exact_store = down.exact t ∙ goes.exact t ∙ (seat.own t own).1
+    exact_store = down.seen_now.exact t ∙ goes.seen_now.exact t ∙ (seat.own t own).1
 
     here : a t ≡ own_place before.view
     here =
         far.equal t small exact_store
-        ∙ down.here t (goes.exact t ∙ (seat.own t own).1)
-        ∙ goes.here t (seat.own t own).1
+        ∙ down.seen_now.here t (goes.seen_now.exact t ∙ (seat.own t own).1)
+        ∙ goes.seen_now.here t (seat.own t own).1
         ∙ ap (place_in before.view.sight.places) (sym task)
 
     dropped : (a t).dropped ≡ None
@@ -317,7 +317,7 @@ module _ (list supposed : List Status) (aim : Aim) (event : Event) (before mid s
     found' u = updated (collected.found u) p (place_down u)
 
     later_mid : (u : ℕ) → u < tasks → IsPrefix ((seen mid.view).places u) (a u)
-    later_mid u l = prefix_both ((seen mid.view).places u) ((seen store.view).places u) (a u) (down.later u) (far.later u l)
+    later_mid u l = prefix_both ((seen mid.view).places u) ((seen store.view).places u) (a u) (down.seen_now.later u) (far.later u l)
 
     -- a phase listed of another task
     other_at : (u q n : ℕ) → u ≢ t → q ≢ p → IsListedAt supposed u q n → IsListedAt list u q n
@@ -384,7 +384,7 @@ module _ (list supposed : List Status) (aim : Aim) (event : Event) (before mid s
             let place : found' u q ≡ (seen y.0.to.view).places u = updated_same (collected.found u) p q (place_down u) same ∙ y.1 in
             let small_u : u < tasks = ((are.events u w.2.0).0 w.2.1).0 in
             subst (λ v. IsPrefix v (a u)) (sym place)
-            (prefix_both ((seen y.0.to.view).places u) ((seen store.view).places u) (a u) (y.0.goes_to.later u) (far.later u small_u))
+            (prefix_both ((seen y.0.to.view).places u) ((seen store.view).places u) (a u) (y.0.goes_to.seen_now.later u) (far.later u small_u))
         | inr other ↦
             let l = other_at u q m n other is in
             let small_u : u < tasks = ((are.phases u q m).0 l).task in
@@ -408,7 +408,7 @@ module _ (list supposed : List Status) (aim : Aim) (event : Event) (before mid s
         let w = (are.events u e).0 is in
         let y = column u (w.0, ap is_some w.1) in
         let b = (seen y.to.view).places u in
-        let last : IsPrefix b (at u) = subst (IsPrefix b) still (prefix_both b ((seen store.view).places u) (a u) (y.goes_to.later u) (far.later u w.0)) in
+        let last : IsPrefix b (at u) = subst (IsPrefix b) still (prefix_both b ((seen store.view).places u) (a u) (y.goes_to.seen_now.later u) (far.later u w.0)) in
         let here : b ≡ at u = prefixes_both b (at u) last (between u e is y).1 in
         let begun_now : 0 < (a u).done = subst (λ (v : Place). 0 < v.done) (sym still) (published_begun plan checked u (at u).done e (waiting_at u e is)) in
         ap (λ m. m p) (phases_begun_at plan checked true a lock lawful u begun_now)

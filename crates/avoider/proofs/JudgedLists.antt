@@ -13,8 +13,7 @@ use Rattle.armus_base.proofs.StatusesAre.{statuses_are}
 use Rattle.board.specs.Views.{task_of}
 use Rattle.board.specs.Steps.{own_phase}
 use Rattle.board.specs.Seats.{Frame, IsOf, Known}
-use Rattle.phase_scan.specs.Collected.{HasFinds, IsCollected}
-use Rattle.phase_scan.specs.Collects.{IsCollect}
+use Rattle.phase_scan.specs.Collecting.{HasCollected}
 use Rattle.phase_scan.specs.Looks.{LoadsAlone}
 use Rattle.phase_scan.specs.Supposed.{IsSupposed}
 use Rattle.phase_scan.specs.OffCycle.{IsOffCycle, SupposesOrExcludes}
@@ -35,15 +34,12 @@ supposed_ordered plan list event supposed before now checked sup =
 -- the loads of a decision
 pub judges_so :
     (f : Frame) (list supposed : List Status) (aim : Aim) (event : Event) (before first between now : Known) → IsOf before f →
-    first ≡ before → LoadsAlone first between → IsCollect f.plan list first between → IsCollected list first between → HasFinds list between →
-    IsSupposed f.plan list event supposed between now → awaited (Some (Blocks aim)) (own_phase before.view) ≡ Some event → Judges list aim event supposed before now
-judges_so f list supposed aim event before first between now of same goes collect collected finds adds event_is =
+    first ≡ before → HasCollected f.plan list first between → IsSupposed f.plan list event supposed between now →
+    awaited (Some (Blocks aim)) (own_phase before.view) ≡ Some event → Judges list aim event supposed before now
+judges_so f list supposed aim event before first between now of same collected adds event_is =
     record {
       between = between;
-      goes_on = subst (λ k. LoadsAlone k between) same goes;
-      collect = subst (λ (q : Plan). IsCollect q list before between) (sym of.plan) (subst (λ k. IsCollect f.plan list k between) same collect);
-      collected = subst (λ k. IsCollected list k between) same collected;
-      finds = finds;
+      collected = subst (λ (q : Plan). HasCollected q list before between) (sym of.plan) (subst (λ k. HasCollected f.plan list k between) same collected);
       adds = subst (λ (q : Plan). IsSupposed q list event supposed between now) (sym of.plan) adds;
       own = event_is;
     }
@@ -52,33 +48,27 @@ judges_so f list supposed aim event before first between now of same goes collec
 pub all_loads : (before first between now : Known) → first ≡ before → LoadsAlone first between → LoadsAlone between now → LoadsAlone before now
 all_loads before first between now same goes more = goes_both before between now (subst (λ k. LoadsAlone k between) same goes) more
 
-pub off_before :
+off_before :
     (list : List Status) (event : Event) (before first between : Known) (t : ℕ) → before.view.own ≡ Some t → first ≡ before → LoadsAlone first between →
     IsOffCycle list (task_of between.view) event → IsOffCycle list t event
 off_before list event before first between t own same goes =
     subst (λ u. IsOffCycle list u event) (ap (λ o. unwrap_or o 0) (goes.same.own ∙ ap (λ (k : Known). k.view.own) same ∙ own))
 
--- the statuses where they are given, and where they are not
+-- the loads of a decision tell by these statuses; where none are given, by such as exclude a cycle of task t
+abbrev pub JudgesOrExcludes : List Status → Aim → Event → Known → Known → ℕ → Option (List Status) → Type 0
+JudgesOrExcludes list aim event before now t (Some supposed) = Judges list aim event supposed before now
+JudgesOrExcludes list aim event before now t None = (supposed : List Status) × Judges list aim event supposed before now × IsOffCycle supposed t event
+
 module _ (f : Frame) (list cells : List Status) (aim : Aim) (event : Event) (before first between now : Known) (of : IsOf before f) (same : first ≡ before)
-    (goes : LoadsAlone first between) (collect : IsCollect f.plan list first between) (collected : IsCollected list first between) (finds : HasFinds list between)
-    (event_is : awaited (Some (Blocks aim)) (own_phase before.view) ≡ Some event) (kept : cells ≡ list) (found : Option (List Status))
-    (told : SupposesOrExcludes f.plan list event found between now) where
+    (collected : HasCollected f.plan list first between) (event_is : awaited (Some (Blocks aim)) (own_phase before.view) ≡ Some event) (kept : cells ≡ list) (t : ℕ)
+    (own : before.view.own ≡ Some t) where
   judges_by : (supposed : List Status) → IsSupposed f.plan list event supposed between now → Judges cells aim event supposed before now
   judges_by supposed sup =
-      subst (λ ss. Judges ss aim event supposed before now) (sym kept)
-      (judges_so f list supposed aim event before first between now of same goes collect collected finds sup event_is)
+      subst (λ ss. Judges ss aim event supposed before now) (sym kept) (judges_so f list supposed aim event before first between now of same collected sup event_is)
 
-  pub judges_given : (supposed : List Status) → found ≡ Some supposed → Judges cells aim event supposed before now
-  judges_given supposed is = judges_by supposed (subst (λ o. SupposesOrExcludes f.plan list event o between now) is told)
-
-  pub judges_excluded :
-      (t : ℕ) → before.view.own ≡ Some t → found ≡ None → (supposed : List Status) × Judges cells aim event supposed before now × IsOffCycle supposed t event
-  judges_excluded t own is =
-      let (supposed, sup, off) = subst (λ o. SupposesOrExcludes f.plan list event o between now) is told in (
-        supposed,
-        judges_by supposed sup,
-        off_before supposed event before first between t own same goes off,
-      )
+  pub judges_told : (found : Option (List Status)) → SupposesOrExcludes f.plan list event found between now → JudgesOrExcludes cells aim event before now t found
+  judges_told (Some supposed) sup = judges_by supposed sup
+  judges_told None (supposed, sup, off) = (supposed, judges_by supposed sup, off_before supposed event before first between t own same collected.goes_on off)
 
 pub judged_in_order : (list supposed : List Status) (aim : Aim) (event : Event) (before now : Known) → IsCheckedPlan before.view.plan → Judges list aim event supposed before now →
     IsInOrder supposed

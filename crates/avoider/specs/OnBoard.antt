@@ -13,8 +13,8 @@ use Rattle.board.specs.Locking.{FreesLock, IsWithLock}
 use Rattle.board.specs.Seats.{Frame, IsOf, Known, MakesStep}
 use Rattle.board.specs.Steps.{own_phase}
 use Rattle.board.specs.Views.{next_action, seen, task_of}
-use Rattle.phase_scan.specs.Collected.{HasFinds, IsCollected}
-use Rattle.phase_scan.specs.Collects.{Collection, IfAsked, IsCollect}
+use Rattle.phase_scan.specs.Collecting.{HasCollected}
+use Rattle.phase_scan.specs.Collects.{Collection, IfAsked}
 use Rattle.phase_scan.specs.Looks.{LoadsAlone}
 use Rattle.phase_scan.specs.Supposed.{IsSupposed}
 use Rattle.verdict.specs.declared.found.Cycle.{Cycle}
@@ -41,10 +41,7 @@ pub record HasSameRoom (old new : Collection) : Type 0 where
 -- loads by which the own status and the phases on the event's phaser are added.
 pub record Judges (list : List Status) (aim : Aim) (event : Event) (supposed : List Status) (before now : Known) : Type 0 where
   pub between : Known
-  pub goes_on : LoadsAlone before between
-  pub collect : IsCollect before.view.plan list before between
-  pub collected : IsCollected list before between
-  pub finds : HasFinds list between
+  pub collected : HasCollected before.view.plan list before between
   pub adds : IsSupposed before.view.plan list event supposed between now
   pub own : awaited (Some (Blocks aim)) (own_phase before.view) ≡ Some event
 

@@ -54,8 +54,8 @@ goes_locked a b c d own free taken goes freed =
 judged_goes : (list supposed : List Status) (aim : Aim) (event : Event) (before now : Known) → Judges list aim event supposed before now → LoadsAlone before now
 judged_goes list supposed aim event before now j =
     let s = j.adds in
-    let more = column_goes s.found.published event.p.0 before.view.plan s.column (length before.view.plan.parents) j.between now j.goes_on.same.plan (omega arith) j.goes_on.kept s.loads in
-    goes_both before j.between now j.goes_on more.goes
+    let more = column_goes s.found.published event.p.0 before.view.plan s.column (length before.view.plan.parents) j.between now j.collected.goes_on.same.plan (omega arith) j.collected.goes_on.kept s.loads in
+    goes_both before j.between now j.collected.goes_on more.goes
 
 -- who holds the lock stands where it stood, with its phases
 next_locked : (a b : Known) (o : Option Action) → TakesLock a b → next_action a.view ≡ o → next_action b.view ≡ o

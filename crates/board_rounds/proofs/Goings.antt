@@ -81,7 +81,7 @@ goes_itself k seat =
 
 pub own_stays : (k m : Known) (t : ℕ) → k.view.own ≡ Some t → IsSeat k → LoadsAlone k m → own_place m.view ≡ own_place k.view
 own_stays k m t own seat goes =
-    ap (seen m.view).places (same_task k m goes.same ∙ task_is k t own) ∙ goes.here t (seat.own t own).1 ∙ ap (seen k.view).places (sym (task_is k t own))
+    ap (seen m.view).places (same_task k m goes.same ∙ task_is k t own) ∙ goes.seen_now.here t (seat.own t own).1 ∙ ap (seen k.view).places (sym (task_is k t own))
 
 -- loads alone
 pub goes_loads : (k m : Known) (t : ℕ) → k.view.own ≡ Some t → IsSeat k → LoadsAlone k m → Goes [] k m
@@ -90,8 +90,8 @@ goes_loads k m t own seat goes =
       table = goes.table;
       same = goes.same;
       place = own_stays k m t own seat goes;
-      later = goes.later;
-      exact = goes.exact;
+      later = goes.seen_now.later;
+      exact = goes.seen_now.exact;
       kept = goes.kept;
     }
 

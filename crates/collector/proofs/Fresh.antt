@@ -95,21 +95,6 @@ fresh_new names list dead i d all event l is on kept =
       events = All-push (λ (v : Dead). IsListedOn list v.t.0 v.event) all one kept.events on;
     }
 
--- a task is in the list or not
-pub listed_or_not : (list : List Status) (t : ℕ) → ((e : Event) × IsListedOn list t e) ⊎ ((e : Event) → IsListedOn list t e → ⊥)
-listed_or_not [] t = inr (λ e (s, inside, same, event). absurd (nothing_in_nil s inside))
-listed_or_not (x ∷ xs) t =
-    elim (cases_eq x.t.0 t) [
-      | inl here ↦ inl (x.event, (x, Contains-head x xs, here, refl))
-      | inr other ↦ elim (listed_or_not xs t) [
-        | inl is ↦ (let s = is.1 in inl (is.0, (s.0, Contains-tail x xs s.0 s.1, s.2, s.3)))
-        | inr none ↦ inr (λ e (s, inside, same, event). elim (Contains-cons_cases x xs s inside) [
-          | inl first ↦ other (ap (λ (v : Status). v.t.0) first ∙ same)
-          | inr rest ↦ none e (s, rest, same, event)
-        ])
-      ]
-    ]
-
 -- what stands in a list, stands mapped in the mapped list
 pub Contains-map : {X Y : Type 0} (f : X → Y) (xs : List X) (x : X) → Contains xs x → Contains (map f xs) (f x)
 Contains-map f [] x inside = absurd (nothing_in_nil x inside)

@@ -1,5 +1,5 @@
 -- The dead of the statuses of a collect: all that were known to be dead before it are among them, and only such as are known to be after it.
-use Rattle.std.proofs.Common.{◌≡◌, ℕ, ◌<◌, Bool, true, false, List, Option, Some, None, length, get_or, sym, refl, ap, ◌∙◌, subst, inl, inr}
+use Rattle.std.proofs.Common.{◌≡◌, ℕ, ◌<◌, Bool, true, false, List, Option, Some, None, length, get_or, sym, refl, ap, ◌∙◌, subst}
 use Rattle.std.specs.Prelude.{All, Contains, map, not}
 use Rattle.std.proofs.lemmas.List.Elements.{All-contains, Contains-get_or}
 use Rattle.armus_base.specs.declared.ids.TaskId.{TaskId}
@@ -26,16 +26,16 @@ use Rattle.board.specs.declared.mode.Mode.{Mode}
 use Rattle.board.specs.Views.{avoids, seen}
 use Rattle.board.specs.Seats.{Frame, IsOf, Known}
 use Rattle.phase_scan.specs.Looks.{LoadsAlone}
-use Rattle.phase_scan.specs.Collects.{IsCollect}
 use Rattle.phase_scan.specs.Collected.{IsCollected, IsListedAsIn}
-use Rattle.phase_scan.specs.Settled.{TellsState, seen_state}
+use Rattle.phase_scan.specs.Collecting.{HasCollected}
+use Rattle.phase_scan.specs.Settled.{KnowsAll, TellsState, seen_state}
 use Rattle.phase_scan.proofs.Collecting.{cells_listed, cells_possible}
 use Rattle.phase_scan.proofs.Farther.{IsPossible}
 use Rattle.phase_scan.proofs.Standing.{dead_place, published_begun, same_phases}
 use Rattle.collector.specs.declared.verdict.Verdict.{Verdict}
 use Rattle.collector.specs.inside.Names.{AreFresh}
-use Rattle.collector.specs.Passes.{HasDeadOf, InEachState, IsKnownDeadTo, IsVerdict, ListsPublished, is_named}
-use Rattle.collector.proofs.Fresh.{Contains-map, filter_inside, listed_or_not}
+use Rattle.collector.specs.Passes.{HasDeadOf, InEachState, IsKnownDeadTo, IsVerdict, is_named}
+use Rattle.collector.proofs.Fresh.{Contains-map, filter_inside}
 
 -- what is as far on as what the seat of a task has seen is as far on as what a viewer has that has seen the same
 far_of_viewer : (plan : Plan) (own : Option ℕ) (a : ℕ → Place) (s : SeenBy) → IsAsFarOn plan own a s → IsAsFarOn plan None a s
@@ -168,18 +168,6 @@ module _ (before now : Known) (list : List Status) (checked : IsCheckedPlan befo
       after_of (λ s. s.published t ≡ Some e)
       (λ a lock lawful far. ap (λ (v : Place). published_after plan t v.done) (stand_there t dead a lock lawful far).0 ∙ c.places.waiting t e tt is)
 
-  -- whoever is published at the place seen after is in the list
-  pub lists_published : ListsPublished list now
-  lists_published t e on =
-      elim (listed_or_not list t) [
-        | inl is ↦ is
-        | inr none ↦
-            let idle = c.others t none in
-            let here : published_after plan t ((seen now.view).places t).done ≡ Some e =
-            subst (λ (q : Plan). published_after q t ((seen now.view).places t).done ≡ Some e) goes.same.plan on in
-            absurd (cc)
-      ]
-
   -- the verdict on the statuses
   pub is_verdict :
       (names : List Bool) (verdict : Verdict) → IsDeadList list verdict.dead → AreFresh names list verdict.dead verdict.fresh →
@@ -197,30 +185,39 @@ module _ (before now : Known) (list : List Status) (checked : IsCheckedPlan befo
             named_event d.t.0 d.event ((dead.exact d.t).0 one) on;
       }
 
+-- where the list has the statuses of a state, its dead are those of the state
+dead_of_state : (before : Known) (list : List Status) (dead : List TaskId) → IsCheckedPlan before.view.plan → TellsState list before →
+    IsDeadList list dead → HasDeadOf (seen_state before) dead
+dead_of_state before list dead checked tells are t =
+    let plan = before.view.plan in
+    let s = seen_state before in
+    let reach = lawful_is_reachable (avoids before.view.mode) plan (seen before.view).places tells.lawful.0 tells.lawful.1 in
+    let of_plan : IsOfPlan plan s = subst (IsOfPlan plan) (reachable_is_fixed plan (seen before.view).places checked reach).0 (run_is_of_plan plan reach.steps checked reach.run) in
+    let same = dead_by_final plan s t.0 of_plan in (
+      λ inside. same.0 (subst (λ (xs : List Status). IsDeadBy xs t.0) tells.statuses ((are.exact t).0 inside)),
+      λ is. (are.exact t).1 (subst (λ (xs : List Status). IsDeadBy xs t.0) (sym tells.statuses) (same.1 is)),
+    )
+
 -- a pass of a collector of this board
-module _ (f : Frame) (before now : Known) (list : List Status) (of : IsOf before f) (goes : LoadsAlone before now) (collect : IsCollect f.plan list before now)
-    (c : IsCollected list before now) where
+module _ (f : Frame) (before now : Known) (list : List Status) (of : IsOf before f) (c : HasCollected f.plan list before now) where
   own : IsCheckedPlan before.view.plan
-  own = subst IsCheckedPlan goes.same.plan goes.kept.checked
+  own = subst IsCheckedPlan c.goes_on.same.plan c.goes_on.kept.checked
 
   checked : IsCheckedPlan f.plan
   checked = subst IsCheckedPlan of.plan own
 
   within : (t : ℕ) (e : Event) → IsListedOn list t e → t < length f.plan.parents
-  within = cells_listed f list before now of checked collect
+  within = cells_listed f list before now of checked c.collect
 
   within_own : (t : ℕ) (e : Event) → IsListedOn list t e → t < length before.view.plan.parents
   within_own t e is = subst (λ (q : Plan). t < length q.parents) (sym of.plan) (within t e is)
 
   possible : IsPossible before (λ s. Unit {0})
-  possible = cells_possible f list before now of checked collect
-
-  pub pass_published : ListsPublished list now
-  pass_published = lists_published before now list own goes within_own possible c
+  possible = cells_possible f list before now of checked c.collect
 
   pub pass_verdict :
       (names : List Bool) (verdict : Verdict) → IsDeadList list verdict.dead → AreFresh names list verdict.dead verdict.fresh → IsVerdict names list before now verdict
-  pass_verdict = is_verdict before now list own goes within_own possible c
+  pass_verdict = is_verdict before now list own c.goes_on within_own possible c.tells
 
   pub pass_listed : (dead : List TaskId) → IsDeadList list dead → All (λ t. (e : Event) × IsListedOn list t.0 e) dead
   pass_listed dead are k d l =
@@ -232,15 +229,5 @@ module _ (f : Frame) (before now : Known) (list : List Status) (of : IsOf before
   pub pass_within : (dead : List TaskId) → IsDeadList list dead → All (λ t. t.0 < length f.plan.parents) dead
   pass_within dead are k d l = (let (e, is) = pass_listed dead are k d l in within (get_or dead k d).0 e is)
 
--- where the list has the statuses of a state, its dead are those of the state
-pub dead_of_state : (before : Known) (list : List Status) (dead : List TaskId) → IsCheckedPlan before.view.plan → TellsState list before →
-    IsDeadList list dead → HasDeadOf (seen_state before) dead
-dead_of_state before list dead checked tells are t =
-    let plan = before.view.plan in
-    let s = seen_state before in
-    let reach = lawful_is_reachable (avoids before.view.mode) plan (seen before.view).places tells.lawful.0 tells.lawful.1 in
-    let of_plan : IsOfPlan plan s = subst (IsOfPlan plan) (reachable_is_fixed plan (seen before.view).places checked reach).0 (run_is_of_plan plan reach.steps checked reach.run) in
-    let same = dead_by_final plan s t.0 of_plan in (
-      λ inside. same.0 (subst (λ (xs : List Status). IsDeadBy xs t.0) tells.statuses ((are.exact t).0 inside)),
-      λ is. (are.exact t).1 (subst (λ (xs : List Status). IsDeadBy xs t.0) (sym tells.statuses) (same.1 is)),
-    )
+  pub pass_settled : (dead : List TaskId) → IsDeadList list dead → KnowsAll before → HasDeadOf (seen_state before) dead
+  pass_settled dead are all = dead_of_state before list dead own (c.settled all) are

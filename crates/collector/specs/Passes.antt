@@ -1,19 +1,19 @@
 -- Passes: whom one names, by what its viewer had seen before it and what it has seen after it.
 use Rattle.std.specs.Prelude.{◌≡◌, ℕ, ◌↔◌, ◌⊎◌, Bool, true, false, List, Option, Some, None, Contains, map, not, slice_get, unwrap_or}
 use Rattle.std.specs.List.{filter}
-use Rattle.armus_base.specs.declared.event.Event.{Event}
 use Rattle.armus_base.specs.declared.ids.TaskId.{TaskId}
 use Rattle.armus_base.specs.declared.status.Dead.{Dead}
 use Rattle.armus_base.specs.declared.status.Status.{Status}
 use Rattle.armus_base.specs.States.{State}
 use Rattle.armus_base.specs.Runs.{Place}
-use Rattle.armus_base.specs.Places.{published_after, state_at}
+use Rattle.armus_base.specs.Places.{state_at}
 use Rattle.armus_base.specs.Boards.{IsLawful}
 use Rattle.armus_base.specs.Seats.{IsAsFarOn, IsKnownDead}
-use Rattle.armus_base.specs.Deadlocks.{IsDeadIn, IsListedOn}
+use Rattle.armus_base.specs.Deadlocks.{IsDeadIn}
 use Rattle.armus_base.specs.DeadLists.{IsDeadList}
 use Rattle.board.specs.Views.{avoids, seen}
 use Rattle.board.specs.Seats.{Known}
+use Rattle.phase_scan.specs.Settled.{KnowsAll, seen_state}
 use Rattle.collector.specs.declared.verdict.Verdict.{Verdict}
 
 -- for how many tasks and phasers a collector is, for each task whether it was named, and the statuses that the last pass found
@@ -37,11 +37,6 @@ InEachState view Holds =
 abbrev pub IsKnownDeadTo : Known → ℕ → Type 0
 IsKnownDeadTo view t = IsKnownDead (avoids view.view.mode) view.view.plan None (seen view.view) t
 
--- the list has each task that is published at the place that a viewer has seen of it
-abbrev pub ListsPublished : List Status → Known → Type 0
-ListsPublished list view =
-    (t : ℕ) (e : Event) → published_after view.view.plan t ((seen view.view).places t).done ≡ Some e → (f : Event) × IsListedOn list t f
-
 -- A verdict on these statuses, by a collector that has named these tasks: it has just the dead of the statuses. All that were known to be dead before
 -- are among them, and only such as are known to be after. The fresh ones are those not named before, in order, each with its event in every state.
 pub record IsVerdict (names : List Bool) (list : List Status) (before now : Known) (verdict : Verdict) : Type 0 where
@@ -58,3 +53,10 @@ HasDeadOf s dead = (t : TaskId) → Contains dead t ↔ IsDeadIn s t.0
 -- named now are these tasks, and those that were named before
 abbrev pub NamesToo : List TaskId → List Bool → List Bool → Type 0
 NamesToo tasks before now = (t : TaskId) → is_named now t.0 ≡ true ↔ (is_named before t.0 ≡ true ⊎ Contains tasks t)
+
+-- A pass that has an answer: the verdict on the statuses that it found, whose dead tasks are named too. If the viewer knew all tasks exactly before, the
+-- dead are those of the state that the board is in.
+pub record IsPass (old new : Watch) (before now : Known) (answer : Verdict) : Type 0 where
+  pub verdict : IsVerdict old.names new.statuses before now answer
+  pub named : NamesToo answer.dead old.names new.names
+  pub settled_dead : KnowsAll before → HasDeadOf (seen_state before) answer.dead

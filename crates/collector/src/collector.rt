@@ -2,11 +2,8 @@
 ghost use Rattle.std.specs.Prelude.{◌≡◌, ℕ, false, [], IfOk, OnErr, length};
 ghost use Rattle.armus_base.specs.Statuses.{IsInOrder};
 ghost use Rattle.board.specs.Seats.{IsOf};
-ghost use Rattle.phase_scan.specs.Looks.{LoadsAlone};
-ghost use Rattle.phase_scan.specs.Collects.{CountsLoads, IsCollect};
-ghost use Rattle.phase_scan.specs.Collected.{IsCollected};
-ghost use Rattle.phase_scan.specs.Settled.{KnowsAll, TellsState, seen_state};
-ghost use Rattle.collector.specs.Passes.{HasDeadOf, IsVerdict, ListsPublished, NamesToo, is_named};
+ghost use Rattle.phase_scan.specs.Collecting.{HasCollected};
+ghost use Rattle.collector.specs.Passes.{IsPass, is_named};
 
 use crate::naming::{fresh, name};
 use crate::verdict::Verdict;
@@ -68,15 +65,8 @@ impl Collector {
         requires phasers { self.old.phasers ≡ length board.now.plan.makers }
         ensures tasks { self.new.tasks ≡ self.old.tasks }
         ensures phasers { self.new.phasers ≡ self.old.phasers }
-        ensures goes_on { LoadsAlone view.old view.new }
-        ensures collect { IsCollect board.now.plan self.new.statuses view.old view.new }
-        ensures loads { CountsLoads board.now.plan self.new.statuses view.old view.new }
-        ensures collected { IsCollected self.new.statuses view.old view.new }
-        ensures published { ListsPublished self.new.statuses view.new }
-        ensures verdict { IfOk result (IsVerdict self.old.names self.new.statuses view.old view.new) }
-        ensures named { IfOk result (λ v. NamesToo v.dead self.old.names self.new.names) }
-        ensures settled { KnowsAll view.old → TellsState self.new.statuses view.old }
-        ensures settled_dead { KnowsAll view.old → IfOk result (λ v. HasDeadOf (seen_state view.old) v.dead) }
+        ensures collected { HasCollected board.now.plan self.new.statuses view.old view.new }
+        ensures pass { IfOk result (IsPass self.old self.new view.old view.new) }
         ensures err { OnErr result (self.new.names ≡ self.old.names) }
     {
         self.cells.collect(view, board);

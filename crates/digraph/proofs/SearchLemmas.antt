@@ -56,7 +56,7 @@ module _ (g : List (List ℕ)) (marks : List Mark) (left : List ℕ) (s : List �
       (top : ℕ) (m : Mark) → IsSearch g marks left (s ++ top ∷ []) → (m ≡ Acyclic → IsInClosedSet (HasEdge g) top → ⊥) →
       (m ≡ Cyclic → ReachesCycle (HasEdge g) top) → (m ≡ OnStack → ⊥) → IsSearch g (set marks top m) left s
   pop_step top m h acyclic cyclic shut =
-      let in' : top < length g = All-contains (λ v. v < length g) (s ++ top ∷ []) top h.nodes (Contains-push s top) in
+      let in' : top < length g = All-contains (λ v. v < length g) (s ++ top ∷ []) top h.walk.nodes (Contains-push s top) in
       let lt : top < length marks = rw h.marks_sized in' in
       record {
         marks_sized = length-set marks top m ∙ h.marks_sized;
@@ -68,8 +68,10 @@ module _ (g : List (List ℕ)) (marks : List Mark) (left : List ℕ) (s : List �
             (λ v ne e. elim (Contains-push_cases s top v (h.on_stack v e)) [ inl i ↦ i | inr same ↦ absurd (ne (sym same)) ])
             (λ e. absurd (shut e));
         seen = h.seen;
-        nodes = λ k d l. subst (λ x. x < length g) (get_or_append_left s (top ∷ []) d k l) (h.nodes k d (omega (arith, length-append s (top ∷ []))));
-        chain = front_chain (HasEdge g) s top h.chain;
+        walk = record {
+          nodes = λ k d l. subst (λ x. x < length g) (get_or_append_left s (top ∷ []) d k l) (h.walk.nodes k d (omega (arith, length-append s (top ∷ []))));
+          chain = front_chain (HasEdge g) s top h.walk.chain;
+        };
       }
 
   -- a node is put on the stack
@@ -88,8 +90,10 @@ module _ (g : List (List ℕ)) (marks : List Mark) (left : List ℕ) (s : List �
             (λ v ne e. Contains-append_left s (next ∷ []) v (h.on_stack v e))
             (λ e. Contains-push s next);
         seen = h.seen;
-        nodes = All-push (λ v. v < length g) s next h.nodes in';
-        chain = push_chain (HasEdge g) s next h.chain edge;
+        walk = record {
+          nodes = All-push (λ v. v < length g) s next h.walk.nodes in';
+          chain = push_chain (HasEdge g) s next h.walk.chain edge;
+        };
       }
 
   -- one more successor of a node is known to reach no cycle
@@ -111,8 +115,7 @@ module _ (g : List (List ℕ)) (marks : List Mark) (left : List ℕ) (s : List �
               | inl e ↦ acyclic (subst (λ j. IsInClosedSet (HasEdge g) (get_or (row_of g top) j 0)) e c)
               | inr ne ↦ h.seen top k (omega arith) fits c
             ]);
-        nodes = h.nodes;
-        chain = h.chain;
+        walk = h.walk;
       }
 
   -- a node with nothing left to look at reaches no cycle
@@ -125,7 +128,7 @@ module _ (g : List (List ℕ)) (marks : List Mark) (left : List ℕ) (s : List �
   -- the stack is a walk
   walk_on : IsSearch g marks left s → (n j i : ℕ) → j + n ≡ i → i < length s → Walk (HasEdge g) n (get_or s j 0) (get_or s i 0)
   walk_on h zero j i e lt = ap (λ x. get_or s x 0) (omega arith)
-  walk_on h (suc n) j i e lt = (get_or s (j + 1) 0, h.chain j (omega arith), walk_on h n (j + 1) i (omega arith) lt)
+  walk_on h (suc n) j i e lt = (get_or s (j + 1) 0, h.walk.chain j (omega arith), walk_on h n (j + 1) i (omega arith) lt)
 
   -- an edge from its top back to one of its nodes closes a cycle
   pub back_edge :
@@ -144,7 +147,7 @@ module _ (g : List (List ℕ)) (marks : List Mark) (left : List ℕ) (s : List �
       ReachesCycle (HasEdge g) (get_or s k 0)
   reach_down h top zero k e lt = subst (λ x. ReachesCycle (HasEdge g) (get_or s x 0)) (omega arith) top
   reach_down h top (suc n) k e lt =
-      reaches_back (HasEdge g) (get_or s k 0) (get_or s (k + 1) 0) (h.chain k (omega arith)) (reach_down h top n (k + 1) (omega arith) (omega arith))
+      reaches_back (HasEdge g) (get_or s k 0) (get_or s (k + 1) 0) (h.walk.chain k (omega arith)) (reach_down h top n (k + 1) (omega arith) (omega arith))
 
   pub all_reach : IsSearch g marks left s → ReachesCycle (HasEdge g) (get_or s (length s - 1) 0) → All (λ v. ReachesCycle (HasEdge g) v) s
   all_reach h top k d lt =

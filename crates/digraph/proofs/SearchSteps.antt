@@ -30,7 +30,7 @@ read_at xs i x d lt e = get_or_default xs i d x lt ∙ sym e
 module _ (g : List (List ℕ)) (marks : List Mark) (left : List ℕ) (stack : List ℕ) (h : IsSearch g marks left stack) (more : 0 < length stack) where
   -- the top of the stack is a node
   pub top_below : get_or stack (length stack - 1) 0 < length g
-  top_below = All-get_or (λ v. v < length g) stack (length stack - 1) 0 (omega arith) h.nodes
+  top_below = All-get_or (λ v. v < length g) stack (length stack - 1) 0 (omega arith) h.walk.nodes
 
   -- it has nothing left to look at, and is taken off
   pub finish :

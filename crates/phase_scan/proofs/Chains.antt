@@ -9,7 +9,7 @@ use Rattle.board.specs.Views.{seen}
 use Rattle.board.specs.Seats.{AnswersPhase, IsSeat, Known}
 use Rattle.phase_scan.specs.Looks.{LoadsAlone}
 use Rattle.phase_scan.specs.Collects.{FindsEvent, IfAsked, LoadsAwaits, LoadsRow, LoadsRows}
-use Rattle.phase_scan.proofs.Loads.{IsLoadOf, await_load, goes_both, goes_itself, load_goes, phase_load}
+use Rattle.phase_scan.proofs.Loads.{IsLoadOf, await_load, goes_both, goes_itself, phase_load}
 
 -- loads of words of these tasks alone
 pub record GoesAt (Only : ℕ → Type 0) (k m : Known) : Type 0 where
@@ -24,7 +24,7 @@ at_both Only a k m x y = record { goes = goes_both a k m x.goes y.goes; others =
 
 at_load : (Only : ℕ → Type 0) (t : ℕ) (k m : Known) → Only t → IsLoadOf t k m → GoesAt Only k m
 at_load Only t k m is load =
-    record { goes = load_goes t k m load; others = λ u none. load.others u (λ e. none (subst Only (sym e) is)) }
+    record { goes = load.goes; others = λ u none. load.others u (λ e. none (subst Only (sym e) is)) }
 
 at_wider : (Only Also : ℕ → Type 0) (k m : Known) → ((u : ℕ) → Only u → Also u) → GoesAt Only k m → GoesAt Also k m
 at_wider Only Also k m wider x = record { goes = x.goes; others = λ u none. x.others u (λ is. none (wider u is)) }
@@ -89,7 +89,7 @@ module _ (plan : Plan) where
             goes_from = goes.goes;
             finds = subst (λ x. FindsEvent x (events x) between m) (sym e) finds;
             small = subst (λ x. x < length between.view.plan.parents) (sym e) small;
-            goes_to = goes_itself m load.kept;
+            goes_to = goes_itself m load.goes.kept;
             stays = refl;
           }
           | inr ne ↦
@@ -99,7 +99,7 @@ module _ (plan : Plan) where
                 goes_from = one.goes_from;
                 finds = one.finds;
                 small = one.small;
-                goes_to = goes_both one.to between m one.goes_to (load_goes n between m load);
+                goes_to = goes_both one.to between m one.goes_to load.goes;
                 stays = load.others t ne ∙ one.stays;
               }
         ]

@@ -1,5 +1,5 @@
 -- The loads of a collect that its tables keep.
-use Rattle.std.proofs.Common.{◌≡◌, ℕ, ◌<◌, Bool, true, Option, None, List, length, sym, ap, ◌∙◌, subst}
+use Rattle.std.proofs.Common.{◌≡◌, ℕ, ◌<◌, Bool, Option, None, List, length, sym, ap, ◌∙◌, subst}
 use Rattle.std.proofs.lemmas.Option.{slice_get_within}
 use mathlib.Core.Path.{fun_ext}
 use Rattle.armus_base.specs.declared.event.Event.{Event}
@@ -12,10 +12,8 @@ use Rattle.armus_base.specs.Finals.{given_below, is_awaited, is_event_of, status
 use Rattle.armus_base.specs.Statuses.{IsInOrder}
 use Rattle.armus_base.proofs.StatusesAre.{statuses_are}
 use Rattle.board.specs.Seats.{Frame, IsOf, Known}
-use Rattle.phase_scan.specs.Looks.{LoadsAlone}
 use Rattle.phase_scan.specs.Collects.{CountsLoads, IsCollect, LoadsAwaits, LoadsRows}
-use Rattle.phase_scan.specs.Collected.{HasFinds, IsCollected}
-use Rattle.phase_scan.specs.Settled.{KnowsAll, TellsState}
+use Rattle.phase_scan.specs.Collecting.{HasCollected}
 use Rattle.phase_scan.specs.declared.findings.Findings.{Findings}
 use Rattle.phase_scan.specs.Tables.{awaited_in_findings, event_for, is_marked, state_of_findings, status_found, statuses_of_findings}
 use Rattle.phase_scan.proofs.Counting.{counts_loads}
@@ -77,20 +75,16 @@ module _ (f : Frame) (list : List Status) (before now : Known) (of : IsOf before
   own : IsCollect before.view.plan list before now
   own = subst (λ (q : Plan). IsCollect q list before now) (sym of.plan) c
 
-  pub cells_go : LoadsAlone before now
-  cells_go = collect_goes before now list here (some_task before.view.plan here) own
-
-  pub cells_count : CountsLoads f.plan list before now
-  cells_count = subst (λ (q : Plan). CountsLoads q list before now) of.plan (counts_loads before now list here (some_task before.view.plan here) own)
-
-  pub cells_tell : IsCollected list before now
-  cells_tell = collected before now list here (some_task before.view.plan here) own
-
-  pub cells_find : before.view.holds ≡ true → HasFinds list now
-  cells_find = collect_finds before now list here (some_task before.view.plan here) own
-
-  pub cells_settle : KnowsAll before → TellsState list before
-  cells_settle = tells_state before now list here (some_task before.view.plan here) own
+  pub cells_collected : HasCollected f.plan list before now
+  cells_collected =
+      record {
+        goes_on = collect_goes before now list here (some_task before.view.plan here) own;
+        collect = c;
+        loads = subst (λ (q : Plan). CountsLoads q list before now) of.plan (counts_loads before now list here (some_task before.view.plan here) own);
+        tells = collected before now list here (some_task before.view.plan here) own;
+        finds = collect_finds before now list here (some_task before.view.plan here) own;
+        settled = tells_state before now list here (some_task before.view.plan here) own;
+      }
 
   pub cells_in_order : IsInOrder list
   cells_in_order = subst IsInOrder (sym c.statuses) (statuses_are f.plan c.found (is_awaited f.plan c.found) checked).in_order

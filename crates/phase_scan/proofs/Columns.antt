@@ -14,7 +14,7 @@ use Rattle.phase_scan.specs.Looks.{LoadsAlone}
 use Rattle.phase_scan.specs.Collects.{IfAsked}
 use Rattle.phase_scan.specs.Supposed.{LoadsColumn}
 use Rattle.phase_scan.specs.inside.Phases.{phase_in}
-use Rattle.phase_scan.proofs.Loads.{goes_both, goes_itself, load_goes, phase_load}
+use Rattle.phase_scan.proofs.Loads.{goes_both, goes_itself, phase_load}
 
 -- a write sets one phase of a column
 pub column_set : (column : List (Option ℕ)) (t : ℕ) (c : Option ℕ) → t < length column → phase_in (set column t c) ≡ updated (phase_in column) t c
@@ -60,7 +60,7 @@ module _ (events : ℕ → Option Event) (p : ℕ) where
   down_if :
       (b : Bool) (t : ℕ) (answer : Option ℕ) (k m : Known) → IsSeat k → t < length k.view.plan.parents → IfAsked b (AnswersPhase t p answer) k m → GoesDown k m
   down_if true t answer k m seat small made =
-      record { goes = load_goes t k m (phase_load k m t p answer small made); finds = made.load.seen_now.found }
+      record { goes = (phase_load k m t p answer small made).goes; finds = made.load.seen_now.found }
   down_if false t answer k m seat small made = down_itself k m seat made
 
   module _ (plan : Plan) (column : ℕ → Option ℕ) where

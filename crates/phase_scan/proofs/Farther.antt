@@ -28,13 +28,13 @@ far_before k m a seat goes far =
       later = λ u l.
           let x : Place = (seen k.view).places u in
           let y : Place = (seen m.view).places u in
-          precedes_trans x.done y.done (a u).done x.dropped y.dropped (a u).dropped (goes.later u) (g.later u l);
-      equal = λ u l is. g.equal u l (goes.exact u ∙ is) ∙ goes.here u is;
+          precedes_trans x.done y.done (a u).done x.dropped y.dropped (a u).dropped (goes.seen_now.later u) (g.later u l);
+      equal = λ u l is. g.equal u l (goes.seen_now.exact u ∙ is) ∙ goes.seen_now.here u is;
       scanned = λ u own.
           scanned_less (state_at k.view.plan a) (seen k.view).scanned (seen m.view).scanned (published_after k.view.plan u ((seen k.view).places u).done)
-          goes.scanned
+          goes.seen_now.scanned
           (subst (λ (b : Place). IsScanned (state_at k.view.plan a) (seen m.view).scanned (published_after k.view.plan u b.done))
-          (goes.here u (seat.own u own).1) (g.scanned u own));
+          (goes.seen_now.here u (seat.own u own).1) (g.scanned u own));
     }
 
 -- a lawful state as far on as what a seat has seen, in which this holds

@@ -87,17 +87,10 @@ longest_later b plan checked t Means before now a lock lawful earlier longest =
 
 -- one load of a word of task t
 pub record IsLoadOf (t : ℕ) (k m : Known) : Type 0 where
-  pub table : m.table ≡ k.table
-  pub same : IsSameSeat k.view m.view
-  pub later : (u : ℕ) → IsPrefix ((seen k.view).places u) ((seen m.view).places u)
+  pub goes : LoadsAlone k m
   pub others : (u : ℕ) → u ≢ t → (seen m.view).places u ≡ (seen k.view).places u
-  pub exact : (u : ℕ) → (seen m.view).exact u ≡ (seen k.view).exact u
-  pub here : (u : ℕ) → (seen k.view).exact u ≡ true → (seen m.view).places u ≡ (seen k.view).places u
-  pub scanned : (seen k.view).scanned ≤ (seen m.view).scanned
-  pub loads : m.view.loads ≡ k.view.loads + 1
-  pub event : event_of m ≡ event_of k
+  pub one_load : m.view.loads ≡ k.view.loads + 1
   pub first : IsSeat k
-  pub kept : IsSeat m
 
 -- what is a seat after a load was one before it
 seat_before :
@@ -144,21 +137,26 @@ module _ (t : ℕ) (k m : Known) (small : t < length k.view.plan.parents) (Holds
       IsLoadOf t k m
   changes_load others grows =
       record {
-        table = table;
-        same = same;
-        later = λ u. elim (cases_eq u t) [
-          | inl e ↦ subst (λ x. IsPrefix ((seen k.view).places x) ((seen m.view).places x)) (sym e) grows
-          | inr n ↦
-              subst (IsPrefix ((seen k.view).places u)) (sym (others u n)) (precedes_itself ((seen k.view).places u).done ((seen k.view).places u).dropped)
-        ];
+        goes = record {
+          table = table;
+          same = same;
+          seen_now = record {
+            later = λ u. elim (cases_eq u t) [
+              | inl e ↦ subst (λ x. IsPrefix ((seen k.view).places x) ((seen m.view).places x)) (sym e) grows
+              | inr n ↦
+                  subst (IsPrefix ((seen k.view).places u)) (sym (others u n)) (precedes_itself ((seen k.view).places u).done ((seen k.view).places u).dropped)
+            ];
+            exact = exact;
+            here = here_same others;
+            scanned = scanned;
+          };
+          loads = (omega arith);
+          event = event_same;
+          kept = kept;
+        };
         others = others;
-        exact = exact;
-        here = here_same others;
-        scanned = scanned;
-        loads = loads;
-        event = event_same;
+        one_load = loads;
         first = first;
-        kept = kept;
       }
 
 -- a load of an await word
@@ -210,10 +208,12 @@ goes_itself k seat =
     record {
       table = refl;
       same = record { plan = refl; mode = refl; own = refl; holds = refl; spent = refl; count = refl };
-      later = λ u. precedes_itself ((seen k.view).places u).done ((seen k.view).places u).dropped;
-      exact = λ u. refl;
-      here = λ u is. refl;
-      scanned = omega arith;
+      seen_now = record {
+        later = λ u. precedes_itself ((seen k.view).places u).done ((seen k.view).places u).dropped;
+        exact = λ u. refl;
+        here = λ u is. refl;
+        scanned = omega arith;
+      };
       loads = omega arith;
       event = refl;
       kept = seat;
@@ -223,6 +223,8 @@ goes_itself k seat =
 pub goes_both : (a k m : Known) → LoadsAlone a k → LoadsAlone k m → LoadsAlone a m
 goes_both a k m goes more =
     let s = more.same in
+    let first = goes.seen_now in
+    let second = more.seen_now in
     record {
       table = more.table ∙ goes.table;
       same = record {
@@ -233,37 +235,24 @@ goes_both a k m goes more =
         spent = s.spent ∙ goes.same.spent;
         count = s.count ∙ goes.same.count;
       };
-      later = λ u.
-          let x : Place = (seen a.view).places u in
-          let y : Place = (seen k.view).places u in
-          let z : Place = (seen m.view).places u in
-          precedes_trans x.done y.done z.done x.dropped y.dropped z.dropped (goes.later u) (more.later u);
-      exact = λ u. more.exact u ∙ goes.exact u;
-      here = λ u is. more.here u (goes.exact u ∙ is) ∙ goes.here u is;
-      scanned = (let x = goes.scanned in let y = more.scanned in omega arith);
+      seen_now = record {
+        later = λ u.
+            let x : Place = (seen a.view).places u in
+            let y : Place = (seen k.view).places u in
+            let z : Place = (seen m.view).places u in
+            precedes_trans x.done y.done z.done x.dropped y.dropped z.dropped (first.later u) (second.later u);
+        exact = λ u. second.exact u ∙ first.exact u;
+        here = λ u is. second.here u (first.exact u ∙ is) ∙ first.here u is;
+        scanned = (let x = first.scanned in let y = second.scanned in omega arith);
+      };
       loads = (let x = goes.loads in let y = more.loads in omega arith);
       event = more.event ∙ goes.event;
       kept = more.kept;
     }
 
--- by a load
-pub load_goes : (t : ℕ) (k m : Known) → IsLoadOf t k m → LoadsAlone k m
-load_goes t k m load =
-    record {
-      table = load.table;
-      same = load.same;
-      later = load.later;
-      exact = load.exact;
-      here = load.here;
-      scanned = load.scanned;
-      loads = (let l = load.loads in omega arith);
-      event = load.event;
-      kept = load.kept;
-    }
-
 pub goes_next :
     (a k m : Known) (t p : ℕ) (answer : Option ℕ) → LoadsAlone a k → t < length k.view.plan.parents → AnswersPhase t p answer k m → LoadsAlone a m
-goes_next a k m t p answer goes small load = goes_both a k m goes (load_goes t k m (phase_load k m t p answer small load))
+goes_next a k m t p answer goes small load = goes_both a k m goes (phase_load k m t p answer small load).goes
 
 -- a load of the awaited phaser's word of the task that is scanned next
 pub scans_on :

@@ -27,7 +27,7 @@ own_phase_stays k m t seat own goes =
     let task : task_of m.view ≡ task_of k.view = ap (λ o. unwrap_or o 0) goes.same.own in
     let is_t : task_of k.view ≡ t = ap (λ o. unwrap_or o 0) own in
     let here : place_in m.view.sight.places (task_of m.view) ≡ place_in k.view.sight.places (task_of k.view) =
-    ap (place_in m.view.sight.places) (task ∙ is_t) ∙ goes.here t (seat.own t own).1 ∙ ap (place_in k.view.sight.places) (sym is_t) in
+    ap (place_in m.view.sight.places) (task ∙ is_t) ∙ goes.seen_now.here t (seat.own t own).1 ∙ ap (place_in k.view.sight.places) (sym is_t) in
     λ i. phases_at_place (goes.same.plan i) (task i) (here i)
 
 module _ (f : Frame) (before between now : Known) (fd : Findings) (event : Event) (column : List (Option ℕ)) (t : ℕ) (of : IsOf before f) (seat : IsSeat before)

@@ -190,7 +190,7 @@ module _ (before now : Known) (list : List Status) (checked : IsCheckedPlan befo
   at_before : (t : ℕ) → t < tasks → IsPrefix (at t) ((seen c.between.view).places t)
   at_before t task =
       let (x, here) = await_at t task in
-      subst (λ v. IsPrefix v ((seen c.between.view).places t)) (sym here) (x.goes_to.later t)
+      subst (λ v. IsPrefix v ((seen c.between.view).places t)) (sym here) (x.goes_to.seen_now.later t)
 
   found_after : (t p : ℕ) (is : IsLoaded t p) → IsPrefix (at t) (found t p) × IsPrefix (found t p) ((seen now.view).places t)
   found_after t p is =
@@ -198,11 +198,11 @@ module _ (before now : Known) (list : List Status) (checked : IsCheckedPlan befo
       let load = phase_load y.from y.to t p (c.found.phases t p) y.small y.load in
       let first = at_before t is.0 in
       let from : IsPrefix (at t) ((seen y.from.view).places t) =
-      prefix_both (at t) ((seen c.between.view).places t) ((seen y.from.view).places t) first (y.goes_from.later t) in
+      prefix_both (at t) ((seen c.between.view).places t) ((seen y.from.view).places t) first (y.goes_from.seen_now.later t) in
       let here : IsPrefix (at t) ((seen y.to.view).places t) =
-      prefix_both (at t) ((seen y.from.view).places t) ((seen y.to.view).places t) from (load.later t) in (
+      prefix_both (at t) ((seen y.from.view).places t) ((seen y.to.view).places t) from (load.goes.seen_now.later t) in (
         subst (IsPrefix (at t)) (sym there) here,
-        subst (λ v. IsPrefix v ((seen now.view).places t)) (sym there) (y.goes_to.later t),
+        subst (λ v. IsPrefix v ((seen now.view).places t)) (sym there) (y.goes_to.seen_now.later t),
       )
 
   begun_later : (t : ℕ) (e : Event) (b : Place) → IsListedOn list t e → IsPrefix (at t) b → 0 < b.done
@@ -236,7 +236,7 @@ module _ (before now : Known) (list : List Status) (checked : IsCheckedPlan befo
       let at_plan : y.from.view.plan ≡ plan = y.goes_from.same.plan ∙ between_plan in
       let q = y.from.view.plan in
       let from : IsPrefix (at t) ((seen y.from.view).places t) =
-      prefix_both (at t) ((seen c.between.view).places t) ((seen y.from.view).places t) (at_before t loaded.0) (y.goes_from.later t) in
+      prefix_both (at t) ((seen c.between.view).places t) ((seen y.from.view).places t) (at_before t loaded.0) (y.goes_from.seen_now.later t) in
       let longest = (y.load.load.seen_now.place (not_first ((seen y.from.view).places t) (begun_later t e ((seen y.from.view).places t) is from))).here in
       let on : published_after q t b.done ≡ Some e =
       ap (λ (v : Place). published_after q t v.done) here
@@ -281,7 +281,7 @@ module _ (before now : Known) (list : List Status) (checked : IsCheckedPlan befo
         waiting = λ u e one is. published_at u e is;
         before = λ u e one is.
             let task = (listed u e is).0 in
-            prefix_both (at u) ((seen c.between.view).places u) ((seen now.view).places u) (at_before u task) (rows.goes.later u);
+            prefix_both (at u) ((seen c.between.view).places u) ((seen now.view).places u) (at_before u task) (rows.goes.seen_now.later u);
         phases = λ u p n one is.
             let has = (are.phases u p n).0 is in
             let loaded : IsLoaded u p = (has.task, ap is_some has.published, has.phaser, has.asked_for) in
@@ -303,7 +303,7 @@ module _ (before now : Known) (list : List Status) (checked : IsCheckedPlan befo
       let load = await_load x.from x.to t x.finds.answer x.small x.finds.load in
       let place = x.finds.load.load.seen_now.place.here.place in
       let near : IsPrefix ((seen before.view).places t) b =
-      prefix_both ((seen before.view).places t) ((seen x.from.view).places t) b (x.goes_from.later t) (load.later t) in (
+      prefix_both ((seen before.view).places t) ((seen x.from.view).places t) b (x.goes_from.seen_now.later t) (load.goes.seen_now.later t) in (
         subst (IsPlaceOf (avoids before.view.mode) plan t) (sym here)
             (subst (λ (d : Mode). IsPlaceOf (avoids d) plan t b) x.goes_from.same.mode
             (subst (λ (q : Plan). IsPlaceOf (avoids x.from.view.mode) q t b) x.goes_from.same.plan place)),
@@ -359,12 +359,12 @@ module _ (before now : Known) (list : List Status) (checked : IsCheckedPlan befo
             same_phases plan checked (avoids before.view.mode) a was.places lock was.lock lawful was.lawful t f.p.0 (c.found.phases t f.p.0) begun same was.holds),
       )
 
-  -- a task that was not found waiting is not published at the place that is seen of it
-  idle : (t : ℕ) (f : Event) → t < tasks → ((e : Event) → IsListedOn list t e → ⊥) → published_after plan t ((seen now.view).places t).done ≡ Some f → ⊥
-  idle t f task unlisted on = by_event (c.found.published t) refl
+  -- a task of the plan that is published at the place that is seen of it was found waiting
+  listed_there : (t : ℕ) (f : Event) → t < tasks → published_after plan t ((seen now.view).places t).done ≡ Some f → (e : Event) × IsListedOn list t e
+  listed_there t f task on = by_event (c.found.published t) refl
     where
-      by_event : (o : Option Event) → c.found.published t ≡ o → ⊥
-      by_event (Some e) is = unlisted e ((are.events t e).1 (task, is))
+      by_event : (o : Option Event) → c.found.published t ≡ o → (e : Event) × IsListedOn list t e
+      by_event (Some e) is = (e, (are.events t e).1 (task, is))
       by_event None is =
           let x = await t task in
           let q = x.from.view.plan in
@@ -374,21 +374,17 @@ module _ (before now : Known) (list : List Status) (checked : IsCheckedPlan befo
           let here : published_after q t b.done ≡ Some f =
           subst (λ (r : Plan). published_after r t b.done ≡ Some f) (sym at_plan) (ap (λ (v : Place). published_after plan t v.done) (sym same) ∙ on) in
           let answer : waiting_on x.finds.answer ≡ None = sym x.finds.waits ∙ is in
-          means_there q (subst IsCheckedPlan (sym at_plan) checked) (avoids x.from.view.mode) t (λ v. await_word q t v ≡ x.finds.answer) ((seen x.from.view).places t) b f
-          x.finds.load.load.seen_now.place.here here
+          absurd (means_there q (subst IsCheckedPlan (sym at_plan) checked) (avoids x.from.view.mode) t (λ v. await_word q t v ≡ x.finds.answer)
+          ((seen x.from.view).places t) b f x.finds.load.load.seen_now.place.here here
           (λ means.
           let waits = word_waits (published_after q t b.done) (refused_at q t b.done b.dropped) f here in
           let none : waiting_on (await_word q t b) ≡ None = ap waiting_on means ∙ answer in
-          absurd (cc))
+          absurd (cc)))
 
-  others : (t : ℕ) → ((e : Event) → IsListedOn list t e → ⊥) → published_after plan t ((seen now.view).places t).done ≡ None
-  others t unlisted = by_event (published_after plan t ((seen now.view).places t).done) refl
-    where
-      by_event : (o : Option Event) → published_after plan t ((seen now.view).places t).done ≡ o → o ≡ None
-      by_event None is = refl
-      by_event (Some f) is =
-          let by = published_after_is plan t ((seen now.view).places t).done f is in
-          absurd (idle t f (action_of_task plan checked t by.0 (Blocks by.2) by.4) unlisted is)
+  published : (t : ℕ) (f : Event) → published_after plan t ((seen now.view).places t).done ≡ Some f → (e : Event) × IsListedOn list t e
+  published t f on =
+      let by = published_after_is plan t ((seen now.view).places t).done f on in
+      listed_there t f (action_of_task plan checked t by.0 (Blocks by.2) by.4) on
 
   pub collected : IsCollected list before now
-  collected = record { at = at; found = found; places = all_found; since = since; exact = exact; dead = dead; others = others }
+  collected = record { at = at; found = found; places = all_found; since = since; exact = exact; dead = dead; published = published }

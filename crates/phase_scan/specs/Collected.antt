@@ -1,5 +1,5 @@
 -- What the statuses of a collect tell, by what its seat had seen before it and what it has seen after it.
-use Rattle.std.specs.Prelude.{◌≡◌, ℕ, ◌<◌, ◌↔◌, List, Option, Some, None, length}
+use Rattle.std.specs.Prelude.{◌≡◌, ℕ, ◌<◌, ◌↔◌, List, Option, Some, length}
 use Rattle.armus_base.specs.declared.event.Event.{Event}
 use Rattle.armus_base.specs.declared.status.Status.{Status}
 use Rattle.armus_base.specs.States.{State}
@@ -28,7 +28,7 @@ IsKnownDeadBy seat t = IsKnownDead (avoids seat.view.mode) seat.view.plan seat.v
 
 -- Each task was found waiting at a place between those seen of it before and after, and each of its phases at a place from there up to the one seen
 -- after. In a lawful state as far on in which it stands where it was found waiting, it has just the phases that were found. Who was known to be dead
--- before is listed as in each state that was possible then. Who is not listed is not published at the place seen of it after.
+-- before is listed as in each state that was possible then. Who is published at the place seen of it after is listed.
 pub record IsCollected (list : List Status) (before now : Known) : Type 0 where
   pub at : ℕ → Place
   pub found : ℕ → ℕ → Place
@@ -41,7 +41,8 @@ pub record IsCollected (list : List Status) (before now : Known) : Type 0 where
       IsAsFarOn before.view.plan before.view.own a (seen now.view) → (t : ℕ) (e : Event) → IsListedOn list t e → a t ≡ at t →
       HasItsPhases list (state_at before.view.plan a) t
   pub dead : (t : ℕ) → IsKnownDeadBy before t → InEachLawful before (λ s. IsListedAsIn list s t)
-  pub others : (t : ℕ) → ((e : Event) → IsListedOn list t e → ⊥) → published_after before.view.plan t ((seen now.view).places t).done ≡ None
+  pub published :
+      (t : ℕ) (e : Event) → published_after before.view.plan t ((seen now.view).places t).done ≡ Some e → (f : Event) × IsListedOn list t f
 
 -- the seat has found each task, and just those on an event whose statuses the list has
 abbrev pub HasFinds : List Status → Known → Type 0

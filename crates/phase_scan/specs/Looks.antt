@@ -6,21 +6,25 @@ use Rattle.armus_base.specs.States.{State, IsReached}
 use Rattle.armus_base.specs.Runs.{Place, IsPrefix}
 use Rattle.armus_base.specs.Places.{state_at}
 use Rattle.armus_base.specs.Boards.{IsLawful}
-use Rattle.armus_base.specs.Seats.{IsAsFarOn, is_not_behind}
+use Rattle.armus_base.specs.Seats.{IsAsFarOn, SeenBy, is_not_behind}
 use Rattle.board.specs.Views.{avoids, seen}
 use Rattle.board.specs.Steps.{IsSameSeat}
 use Rattle.board.specs.Seats.{Known, IsSeat, AnswersPhase, event_of}
 use Rattle.phase_scan.specs.declared.answer.Look as answers
 use Rattle.phase_scan.specs.declared.answer.Look.TheVariants as cases
 
--- the seat has made loads alone: no place that it has seen gets shorter, none is lost, no scanned task is, and it has published what it had
+-- What was seen before is seen now: no place gets shorter, the same tasks are exact and have the places that they had, and no scanned task is lost.
+pub record KeepsSeen (before now : SeenBy) : Type 0 where
+  pub later : (u : ℕ) → IsPrefix (before.places u) (now.places u)
+  pub exact : (u : ℕ) → now.exact u ≡ before.exact u
+  pub here : (u : ℕ) → before.exact u ≡ true → now.places u ≡ before.places u
+  pub scanned : before.scanned ≤ now.scanned
+
+-- the seat has made loads alone: it keeps what it has seen, and has published what it had
 pub record LoadsAlone (before now : Known) : Type 0 where
   pub table : now.table ≡ before.table
   pub same : IsSameSeat before.view now.view
-  pub later : (u : ℕ) → IsPrefix ((seen before.view).places u) ((seen now.view).places u)
-  pub exact : (u : ℕ) → (seen now.view).exact u ≡ (seen before.view).exact u
-  pub here : (u : ℕ) → (seen before.view).exact u ≡ true → (seen now.view).places u ≡ (seen before.view).places u
-  pub scanned : (seen before.view).scanned ≤ (seen now.view).scanned
+  pub seen_now : KeepsSeen (seen before.view) (seen now.view)
   pub loads : before.view.loads ≤ now.view.loads
   pub event : event_of now ≡ event_of before
   pub kept : IsSeat now

@@ -4,11 +4,9 @@ ghost use Rattle.armus_base.specs.Limits.{max_cells, max_tasks};
 ghost use Rattle.armus_base.specs.Statuses.{IsInOrder};
 ghost use Rattle.board.specs.Seats.{IsOf};
 ghost use Rattle.phase_scan.specs.Looks.{LoadsAlone};
-ghost use Rattle.phase_scan.specs.Collects.{CountsLoads, IsCollect};
 ghost use Rattle.phase_scan.specs.OffCycle.{SupposesOrExcludes};
 ghost use Rattle.phase_scan.specs.Supposed.{IsSupposed};
-ghost use Rattle.phase_scan.specs.Collected.{HasFinds, IsCollected};
-ghost use Rattle.phase_scan.specs.Settled.{KnowsAll, TellsState};
+ghost use Rattle.phase_scan.specs.Collecting.{HasCollected};
 
 use crate::findings::Findings;
 use armus_base::{Event, List, NoMemory, Phase, Status};
@@ -61,12 +59,7 @@ impl Cells {
         requires phasers { self.old.phasers ≡ length board.now.plan.makers }
         ensures tasks { self.new.tasks ≡ self.old.tasks }
         ensures phasers { self.new.phasers ≡ self.old.phasers }
-        ensures goes_on { LoadsAlone (L.known by.old) (L.known by.new) }
-        ensures collect { IsCollect board.now.plan self.new.statuses (L.known by.old) (L.known by.new) }
-        ensures loads { CountsLoads board.now.plan self.new.statuses (L.known by.old) (L.known by.new) }
-        ensures collected { IsCollected self.new.statuses (L.known by.old) (L.known by.new) }
-        ensures finds { (L.known by.old).view.holds ≡ true → HasFinds self.new.statuses (L.known by.new) }
-        ensures settled { KnowsAll (L.known by.old) → TellsState self.new.statuses (L.known by.old) }
+        ensures collected { HasCollected board.now.plan self.new.statuses (L.known by.old) (L.known by.new) }
     {
         self.found.unmark();
         self.found.load_awaits(by, board);

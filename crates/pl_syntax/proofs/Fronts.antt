@@ -100,10 +100,8 @@ mutual
       let q : length (after_comment bs) ≤ length (b ∷ bs) = (let h = comment_le bs in omega arith) in
       cond_le (b == 10) _ _ _ p q
 
-progress_here : (scan : Scan) (text : List ℕ) (t : Token) (rest : List ℕ) → token_here scan text ≡ Ok (t, rest) → ends_list t ≡ false → length rest < length text
-progress_here scan [] t rest e f =
-    let h : the_end ≡ t = (ok_pair (the_end, []) (t, rest) e).0 in
-    let g : true ≡ false = ap ends_list h ∙ f in absurd cc
+progress_here : (scan : Scan) (text : List ℕ) (t : Token) (rest : List ℕ) → token_here scan text ≡ Ok (t, rest) → (t ≡ the_end → ⊥) → length rest < length text
+progress_here scan [] t rest e f = absurd (f (sym (ok_pair (the_end, []) (t, rest) e).0))
 progress_here scan (b ∷ bs) t rest e f =
     elim (chosen (is_word_byte b) _ _ _ e) [
       | inl p ↦
@@ -118,13 +116,20 @@ progress_here scan (b ∷ bs) t rest e f =
           omega arith
     ]
 
--- a token before which a list of statements does not end takes a byte
-pub progress : (scan : Scan) (text : List ℕ) (t : Token) (rest : List ℕ) → front scan text ≡ Ok (t, rest) → ends_list t ≡ false → length rest < length text
+-- a token that is not the end takes a byte
+pub further : (scan : Scan) (text : List ℕ) (t : Token) (rest : List ℕ) → front scan text ≡ Ok (t, rest) → (t ≡ the_end → ⊥) → length rest < length text
 unfolding front
-progress scan text t rest e f =
+further scan text t rest e f =
     let h = progress_here scan (after_gap text) t rest e f in
     let g = gap_le text in
     omega arith
+
+goes_on : (t : Token) → ends_list t ≡ false → t ≡ the_end → ⊥
+goes_on t f e = let g : true ≡ false = sym (ap ends_list e) ∙ f in cc
+
+-- so does one before which a list of statements does not end
+pub progress : (scan : Scan) (text : List ℕ) (t : Token) (rest : List ℕ) → front scan text ≡ Ok (t, rest) → ends_list t ≡ false → length rest < length text
+progress scan text t rest e f = further scan text t rest e (goes_on t f)
 
 form_of : (scan : Scan) (text : List ℕ) (x : token.Token) (rest : List ℕ) → front scan text ≡ Ok (token_of x, rest) → HasForm x
 form_of scan text t.End rest e = tt

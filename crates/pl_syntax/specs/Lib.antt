@@ -5,6 +5,7 @@ pub mod Tokens
 pub mod Grammar
 pub mod Printed
 pub mod Spacing
+pub mod StatementOffsets
 -- How the types of the program show as those.
 pub mod Bodies
 -- What is promised.

@@ -1,3 +1,4 @@
 pub mod Falls
 pub mod Seen
 pub mod Reading
+pub mod Beginnings

@@ -1,5 +1,6 @@
 // What holds of the definitions of this crate: each law is the contract of a public function with an empty body.
 
+ghost use Rattle.pl_syntax.specs.StatementOffsets.{HasOneListOfOffsets};
 ghost use Rattle.pl_syntax.specs.Laws.{HasOneTree, HasOneFault, HasNotBoth, HasOneOfBoth, TreesFixBodies, PrintedIsText, TextsAreWritable, LineFeedChangesNothing, NoLineIsAMark, ReadsTexts, TextsAreSpaced};
 
 /// The grammar is unambiguous: a text has at most one tree.
@@ -40,4 +41,9 @@ pub fn text_has_free_lines()
 pub fn texts_are_spaced()
     ensures spaced { TextsAreSpaced }
     ensures worked { ReadsTexts }
+{}
+
+/// A text's program has one list of the offsets at which its statements begin.
+pub fn text_has_one_list_of_offsets()
+    ensures { HasOneListOfOffsets }
 {}

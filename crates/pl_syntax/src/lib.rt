@@ -7,6 +7,7 @@ mod laws;
 mod lexer;
 mod limits;
 mod name;
+mod offsets;
 mod printer;
 mod reader;
 mod round_trip;
@@ -19,11 +20,12 @@ mod word;
 
 pub use fault::{CANNOT_STAND, NO_NUMBER, NO_TOKEN, ParseEnd, SyntaxFault, TOO_DEEP, TOO_LONG};
 pub use laws::{
-    printed_is_text, text_has_free_lines, text_has_one_fault, text_has_one_tree,
-    text_has_tree_or_fault, texts_are_spaced, tree_fixes_body,
+    printed_is_text, text_has_free_lines, text_has_one_fault, text_has_one_list_of_offsets,
+    text_has_one_tree, text_has_tree_or_fault, texts_are_spaced, tree_fixes_body,
 };
 pub use limits::{MAX_DIGITS, MAX_NAME_BYTES, MAX_NUMBER, MAX_OPEN_BRACES, MAX_PARSED_BYTES};
 pub use name::Name;
+pub use offsets::statement_offsets;
 pub use printer::print;
 pub use reader::parse;
 pub use round_trip::print_and_parse;

@@ -122,7 +122,7 @@ fn skip_at(scan: Scan, text: &[u8]) -> Result<(Stmt, &[u8]), ParseEnd>
 }
 
 // Whether a list of statements ends before this token.
-fn ends_list(token: &Token) -> bool
+pub(crate) fn ends_list(token: &Token) -> bool
     ensures { result ≡ ends_list (token_of token.now) }
 {
     match token {

@@ -240,3 +240,33 @@ fn names(rt: HostRuntime) -> Result<(), Fail> {
     }
     Ok(())
 }
+
+// Where the statements of a text begin.
+#[test]
+fn offsets_of_statements(rt: HostRuntime) -> Result<(), Fail> {
+    let rows: [(&[u8], &[u32]); 8] = [
+        (b"", &[]),
+        (b"skip;skip;", &[0, 5]),
+        (b"loop 2{}skip;", &[0, 8]),
+        (
+            b"p = newPhaser(); loop 2 { adv(p); }\nfork(t) { }",
+            &[0, 17, 26, 36],
+        ),
+        // comments hold no statement
+        (b" // skip;\n skip; // skip;", &[11]),
+        (b"pl 2; await(p+1);", &[6]),
+        (b"pl = newTid();", &[0]),
+        (
+            b"loop 1 { loop 0 { } fork(x) { skip; } }\r\n\tskip;",
+            &[0, 9, 20, 30, 42],
+        ),
+    ];
+    for (i, (text, wanted)) in rows.iter().enumerate() {
+        let Ok(program) = parse(rt.alloc(), text) else {
+            panic!(rt; "row {i} is a program");
+        };
+        let offsets = statement_offsets(rt.alloc(), text, &program)?;
+        assert_eq!(rt; offsets.as_slice(), *wanted, "row {i}");
+    }
+    Ok(())
+}

@@ -7,7 +7,7 @@ use Rattle.board.specs.Seats.{IsSeat, Known}
 use Rattle.phase_scan.specs.Looks.{LoadsAlone}
 use Rattle.phase_scan.specs.Collects.{FindsEvent, IfAsked}
 use Rattle.phase_scan.proofs.Chains.{AwaitLoad}
-use Rattle.phase_scan.proofs.Loads.{IsLoadOf, await_load, goes_both, goes_itself, load_goes}
+use Rattle.phase_scan.proofs.Loads.{IsLoadOf, await_load, goes_both, goes_itself}
 use Rattle.sites.specs.Snaps.{LoadsChosen}
 
 module _ (plan : Plan) (chosen : ℕ → Bool) (events : ℕ → Option Event) where
@@ -52,7 +52,7 @@ module _ (plan : Plan) (chosen : ℕ → Bool) (events : ℕ → Option Event) w
     where
       by_test : LoadsAlone k between → (b : Bool) → IfAsked b (FindsEvent n (events n)) between m → LoadsAlone k m
       by_test goes true finds =
-          goes_both k between m goes (load_goes n between m (one_load n between m (chosen_plan n k between of before) (omega arith) finds))
+          goes_both k between m goes (one_load n between m (chosen_plan n k between of before) (omega arith) finds).goes
       by_test goes false same = subst (LoadsAlone k) (sym same) goes
 
   -- the load of the await word of a chosen task
@@ -71,7 +71,7 @@ module _ (plan : Plan) (chosen : ℕ → Bool) (events : ℕ → Option Event) w
               goes_from = goes;
               finds = subst (λ x. FindsEvent x (events x) between m) (sym e) finds;
               small = subst (λ x. x < length between.view.plan.parents) (sym e) (small_of between n at (omega arith));
-              goes_to = goes_itself m load.kept;
+              goes_to = goes_itself m load.goes.kept;
               stays = refl;
             }
         | inr ne ↦ further (chosen_of n k between of (omega arith) seat before t (omega arith) is) (chosen n) made ne
@@ -92,7 +92,7 @@ module _ (plan : Plan) (chosen : ℕ → Bool) (events : ℕ → Option Event) w
             goes_from = one.goes_from;
             finds = one.finds;
             small = one.small;
-            goes_to = goes_both one.to between m one.goes_to (load_goes n between m load);
+            goes_to = goes_both one.to between m one.goes_to load.goes;
             stays = load.others t ne ∙ one.stays;
           }
       further one false same ne = subst (AwaitLoad plan events t k) (sym same) one

@@ -1,20 +1,19 @@
 -- The statuses of all sites, gathered site after site and then put in order.
-use Rattle.std.proofs.Common.{◌≡◌, ◌≢◌, ℕ, zero, suc, ◌<◌, ◌≤◌, ◌+◌, ◌*◌, ◌%◌, ◌^◌, Bool, true, false, List, [], ◌∷◌, ◌++◌, All, Option, Some, None, length, get_or, sym, refl, ap, ◌∙◌, subst, arith, inl, inr, ◌⊎◌, eqb-true, eq-eqb, length-append}
+use Rattle.std.proofs.Common.{◌≡◌, ◌≢◌, ℕ, zero, suc, ◌<◌, ◌≤◌, ◌+◌, ◌%◌, Bool, true, false, List, [], ◌∷◌, ◌++◌, All, Option, Some, None, length, get_or, sym, refl, ap, ◌∙◌, subst, arith, inl, inr, ◌⊎◌, eqb-true, eq-eqb, length-append}
 use Rattle.std.specs.Prelude.{AllPairs, Contains, if◌then◌else◌, ◌==◌}
 use Rattle.std.specs.List.{filter, sum_by}
 use Rattle.std.specs.List.Sorted.{IsNonDecreasingBy, IsPermutation}
 use Rattle.std.proofs.lemmas.Bool.{cases_Bool, cases_eq}
 use Rattle.std.proofs.lemmas.List.{append-nil, get_or_default}
-use Rattle.std.proofs.lemmas.List.Elements.{All-append, All-head, All-tail, Contains-append_cases, filter-append}
+use Rattle.std.proofs.lemmas.List.Elements.{All-append, All-head, All-tail, filter-append}
 use Rattle.std.proofs.lemmas.List.Kept.{AllPairs-filter}
 use Rattle.std.proofs.lemmas.List.Sums.{sum_by-cons}
 use Rattle.std.proofs.lemmas.List.Sorted.{All-permutation, Contains-permutation, IsPermutation-sym, length_permutation, sum_by-IsPermutation}
 use Rattle.armus_base.specs.declared.status.Status.{Status}
-use Rattle.armus_base.specs.Statuses.{IsInOrder}
 use Rattle.armus_base.proofs.Elements.{Contains-cons_cases, Contains-head, Contains-tail, nothing_in_nil}
-use Rattle.sites.specs.Checks.{AreAll, IsBadAt, IsFirstBad, IsSiteEnd, IsStored, part_of}
+use Rattle.sites.specs.Checks.{AreAll, IsFirstBad, IsSiteEnd, IsStored, part_of}
 use Rattle.sites.specs.Keeping.{held}
-use Rattle.sites.specs.Rows.{AreOfSite, IsRowOf, is_of_site}
+use Rattle.sites.specs.Rows.{IsRowOf, is_of_site}
 use Rattle.sites.specs.inside.Gathering.{AreGathered, HasFewInOrder, EndsAtSite, NoneBad, TakesRow}
 use Rattle.sites.specs.declared.ends.SiteEnd.{SiteEnd}
 use Rattle.sites.specs.declared.ends.SiteEnd.TheVariants.{Bad, Fault, NoMemory}

@@ -1,22 +1,19 @@
 -- Rows of different moments, checked as one: who is dead by them is dead, and who was known to be dead is.
-use Rattle.std.proofs.Common.{◌≡◌, ℕ, zero, suc, ◌<◌, ◌≤◌, ◌%◌, Bool, true, false, List, [], ◌∷◌, Option, Some, None, length, get_or, sym, refl, ap, ◌∙◌, subst, arith, inl, inr, ◌⊎◌, eq-eqb}
+use Rattle.std.proofs.Common.{◌≡◌, ℕ, ◌<◌, ◌≤◌, ◌%◌, Bool, true, List, [], ◌∷◌, Option, Some, None, length, get_or, sym, refl, ap, ◌∙◌, subst, arith, eq-eqb}
 use Rattle.std.specs.Prelude.{Contains, slice_get}
-use Rattle.std.specs.List.{filter}
 use Rattle.std.proofs.lemmas.Option.{slice_get-get_or, slice_get_within, get_or_from_slice_get}
 use Rattle.armus_base.specs.declared.event.Event.{Event}
-use Rattle.armus_base.specs.declared.ids.TaskId.{TaskId}
 use Rattle.armus_base.specs.declared.status.Status.{Status}
 use Rattle.armus_base.specs.Plans.{Blocks, Plan}
 use Rattle.armus_base.specs.Runs.{IsPrefix, Place, first_place}
-use Rattle.armus_base.specs.Places.{phases_at_place, published_after, state_at}
+use Rattle.armus_base.specs.Places.{published_after, state_at}
 use Rattle.armus_base.specs.CheckedPlans.{IsCheckedPlan}
 use Rattle.armus_base.specs.Boards.{IsLawful}
-use Rattle.armus_base.specs.Deadlocks.{IsAtPhase, IsDeadBy, IsDeadIn, IsDeadlockedSet, IsImpededWithin, IsListedAt, IsListedOn, IsPublishedOn}
+use Rattle.armus_base.specs.Deadlocks.{IsAtPhase, IsDeadBy, IsDeadlockedSet, IsImpededWithin, IsListedAt, IsListedOn, IsPublishedOn}
 use Rattle.armus_base.specs.Decisions.{HasFound}
 use Rattle.armus_base.specs.Seats.{IsAsFarOn}
 use Rattle.armus_base.proofs.BoardRuns.{lawful_is_reachable}
 use Rattle.armus_base.proofs.Elements.{nothing_in_nil}
-use Rattle.armus_base.proofs.FoundArePublished.{published_within}
 use Rattle.armus_base.proofs.Places.{precedes_trans}
 use Rattle.armus_base.proofs.Published.{published_after_is}
 use Rattle.armus_base.proofs.Reachable.{collected_is_dead_at_reachable}
@@ -28,7 +25,7 @@ use Rattle.phase_scan.proofs.Loads.{published_phaser}
 use Rattle.phase_scan.proofs.Standing.{phases_begun_at, published_begun}
 use Rattle.sites.specs.Checks.{AreAll, IsStored, part_of}
 use Rattle.sites.specs.Keeping.{held}
-use Rattle.sites.specs.Passes.{AreBacked, IsBackedRow, IsDeadToAll}
+use Rattle.sites.specs.Passes.{AreBacked, IsDeadToAll}
 use Rattle.sites.specs.Rows.{IsRowOf, is_of_site}
 use Rattle.sites.specs.Snaps.{IsBacked, IsListedWhole}
 use Rattle.sites.proofs.Gathered.{passed_from, passed_is}

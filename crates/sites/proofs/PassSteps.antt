@@ -1,25 +1,14 @@
 -- A pass, site after site: what is kept of it, and what it says in the end.
-use Rattle.std.proofs.Common.{◌≡◌, ◌≢◌, ℕ, zero, suc, ◌<◌, ◌≤◌, ◌+◌, ◌%◌, Bool, true, false, List, [], ◌∷◌, All, Option, Some, None, length, get_or, set, sym, refl, ap, ◌∙◌, subst, arith, inl, inr, ◌⊎◌}
-use Rattle.std.specs.Prelude.{Contains, map, slice_get, unwrap_or}
+use Rattle.std.proofs.Common.{◌≡◌, ◌≢◌, ℕ, zero, suc, ◌<◌, ◌≤◌, ◌+◌, List, [], ◌∷◌, All, Option, Some, None, length, get_or, set, sym, refl, ap, ◌∙◌, subst, arith, inl, inr, ◌⊎◌}
+use Rattle.std.specs.Prelude.{map, slice_get, unwrap_or}
 use Rattle.std.proofs.lemmas.Bool.{cases_eq, cases_lt}
 use Rattle.std.proofs.lemmas.List.Elements.{All-head, All-tail}
 use Rattle.std.proofs.lemmas.List.{length-set, map-id}
 use Rattle.std.proofs.lemmas.Option.{slice_get_within}
-use Rattle.armus_base.specs.declared.event.Event.{Event}
-use Rattle.armus_base.specs.declared.ids.TaskId.{TaskId}
 use Rattle.armus_base.specs.declared.status.Status.{Status}
 use Rattle.armus_base.specs.Plans.{Plan}
-use Rattle.armus_base.specs.Runs.{IsPrefix, Place}
-use Rattle.armus_base.specs.Places.{published_after, state_at}
-use Rattle.armus_base.specs.CheckedPlans.{IsCheckedPlan}
-use Rattle.armus_base.specs.Boards.{IsLawful}
-use Rattle.armus_base.specs.Deadlocks.{IsAtPhase, IsDeadIn, IsDeadlockedSet, IsListedAt, IsListedOn, IsPublishedOn}
-use Rattle.armus_base.specs.Decisions.{HasFound}
-use Rattle.armus_base.specs.Seats.{IsAsFarOn}
-use Rattle.armus_base.proofs.FoundArePublished.{published_within}
-use Rattle.board.specs.declared.mode.Mode.{Mode}
-use Rattle.board.specs.Seats.{Frame, IsOf, IsSeat, Known}
-use Rattle.board.specs.Views.{avoids, seen}
+use Rattle.board.specs.Seats.{Frame, IsOf, Known}
+use Rattle.board.specs.Views.{seen}
 use Rattle.phase_scan.proofs.Tables.{slice_get-set_other, slice_get-set_same}
 use Rattle.phase_scan.proofs.Telling.{prefix_both}
 use Rattle.sites.specs.Keeping.{held}
@@ -57,10 +46,10 @@ backed_later plan ss k m backed (inr looked) =
       found = backed.found;
       there = record {
         waiting = backed.there.waiting;
-        before = λ u e one is. prefix_both (backed.at u) ((seen k.view).places u) ((seen m.view).places u) (backed.there.before u e one is) (looked.0.later u);
+        before = λ u e one is. prefix_both (backed.at u) ((seen k.view).places u) ((seen m.view).places u) (backed.there.before u e one is) (looked.0.seen_now.later u);
         phases = backed.there.phases;
         phases_before = λ u p n one is.
-            prefix_both (backed.found u p) ((seen k.view).places u) ((seen m.view).places u) (backed.there.phases_before u p n one is) (looked.0.later u);
+            prefix_both (backed.found u p) ((seen k.view).places u) ((seen m.view).places u) (backed.there.phases_before u p n one is) (looked.0.seen_now.later u);
       };
     }
 
@@ -114,7 +103,7 @@ module _ (f : Frame) (sites n : ℕ) (before now : List Known) (old new : List (
                   row_bytes snap.list,
                   snap.put,
                   subst (λ c. IsBackedRow f.plan c site (row_bytes snap.list) m) counted
-                      (snap.list, record { stored = snap.stored; bytes = refl }, snap.tells.backed),
+                      (snap.list, record { stored = snap.snapshot.stored; bytes = refl }, snap.snapshot.tells.backed),
                 )
             | inr more ↦ inl (s.rows site more)
           ]

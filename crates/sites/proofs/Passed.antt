@@ -1,16 +1,15 @@
 -- What a pass over all sites says: whom it names.
-use Rattle.std.proofs.Common.{◌≡◌, ℕ, ◌<◌, ◌≤◌, ◌%◌, Bool, true, false, List, Option, Some, None, length, sym, refl, ap, ◌∙◌, subst, arith, inl, inr, ◌⊎◌, eq-eqb}
+use Rattle.std.proofs.Common.{◌≡◌, ℕ, ◌<◌, ◌≤◌, ◌%◌, Bool, true, List, Option, Some, None, length, sym, refl, ◌∙◌, subst, arith, eq-eqb}
 use Rattle.std.specs.Prelude.{Contains, slice_get}
 use Rattle.std.proofs.lemmas.Option.{slice_get_within}
 use Rattle.armus_base.specs.declared.event.Event.{Event}
 use Rattle.armus_base.specs.declared.ids.TaskId.{TaskId}
-use Rattle.armus_base.specs.declared.status.Status.{Status}
 use Rattle.armus_base.specs.Plans.{Plan}
 use Rattle.armus_base.specs.Runs.{Place}
 use Rattle.armus_base.specs.Places.{published_after, state_at}
 use Rattle.armus_base.specs.CheckedPlans.{IsCheckedPlan}
 use Rattle.armus_base.specs.Boards.{IsLawful}
-use Rattle.armus_base.specs.Deadlocks.{IsAtPhase, IsDeadIn, IsDeadlockedSet, IsPublishedOn}
+use Rattle.armus_base.specs.Deadlocks.{IsAtPhase, IsDeadlockedSet, IsPublishedOn}
 use Rattle.armus_base.specs.Seats.{IsAsFarOn}
 use Rattle.armus_base.proofs.FoundArePublished.{published_within}
 use Rattle.adaptive.specs.declared.analysis.Analysis.{Analysis}
@@ -18,15 +17,14 @@ use Rattle.adaptive.specs.declared.analysis.Wanted.{Wanted}
 use Rattle.board.specs.declared.mode.Mode.{Mode}
 use Rattle.board.specs.Seats.{Frame, IsOf, Known}
 use Rattle.board.specs.Views.{avoids, seen}
-use Rattle.phase_scan.proofs.Farther.{IsPossible}
 use Rattle.phase_scan.proofs.Standing.{dead_place}
-use Rattle.sites.specs.Checks.{AreAll, IsCheck, IsFirstBad, part_of}
+use Rattle.sites.specs.Checks.{AreAll, IsCheck, IsFirstBad}
 use Rattle.sites.specs.Keeping.{held}
 use Rattle.sites.specs.Passes.{AreBacked, HasSnapped, IsSetKnown, IsSetKnownToEach, IsSitePass}
-use Rattle.sites.specs.Rows.{AreOfSite, IsRowOf, row_bytes}
+use Rattle.sites.specs.Rows.{AreOfSite, row_bytes}
 use Rattle.sites.specs.Snaps.{IsBacked, IsListedWhole, KnowsPlace}
 use Rattle.sites.specs.inside.Passing.{HaveSnapped}
-use Rattle.sites.proofs.Merging.{at_place, listed_own, merged_dead, own_listed, own_part, own_phase_listed, part_is, phase_own, set_listed}
+use Rattle.sites.proofs.Merging.{at_place, merged_dead, own_listed, own_part, own_phase_listed, part_is, phase_own, set_listed}
 use Rattle.sites.proofs.PassSteps.{is_there, some_one}
 use Rattle.sites.proofs.Snapped.{snap_possible}
 use Rattle.sites.proofs.TellingSites.{far_to_viewer}
@@ -59,8 +57,8 @@ module _ (f : Frame) (before now : List Known) (old rows : List (Option (List �
       let same : row_bytes p.snapped.list ≡ row = some_one (row_bytes p.snapped.list) row (sym p.snapped.put ∙ has) in
       let viewer : p.last ≡ m = some_one p.last m (sym p.last_is ∙ is) in (
         p.snapped.list,
-        record { stored = subst (λ c. AreOfSite c site p.snapped.list) (sym count) p.snapped.stored; bytes = sym same },
-        subst (λ (v : Known). IsBacked f.plan p.snapped.list (seen v.view).places) viewer p.snapped.tells.backed,
+        record { stored = subst (λ c. AreOfSite c site p.snapped.list) (sym count) p.snapped.snapshot.stored; bytes = sym same },
+        subst (λ (v : Known). IsBacked f.plan p.snapped.list (seen v.view).places) viewer p.snapped.snapshot.tells.backed,
       )
 
   -- no row that was put is bad
@@ -69,7 +67,7 @@ module _ (f : Frame) (before now : List Known) (old rows : List (Option (List �
       let p = put_of site is.within in
       let (row, has, bad) = is.bad in
       let same : row_bytes p.snapped.list ≡ row = some_one (row_bytes p.snapped.list) row (sym p.snapped.put ∙ has) in
-      bad p.snapped.list (record { stored = p.snapped.stored; bytes = sym same })
+      bad p.snapped.list (record { stored = p.snapped.snapshot.stored; bytes = sym same })
 
   module _ (wanted : Wanted) (a : Analysis) (check : IsCheck sites rows wanted a) where
     own_site : (u : ℕ) → u % sites < sites
@@ -83,10 +81,10 @@ module _ (f : Frame) (before now : List Known) (old rows : List (Option (List �
         let p = put_of (u % sites) (own_site u) in
         let part : p.snapped.list ≡ own_part sites check.list u =
         part_is sites (u % sites) rows check.list p.snapped.list (row_bytes p.snapped.list) (check.all.each (u % sites) (own_site u)) p.snapped.put
-        (record { stored = p.snapped.stored; bytes = refl }) in
+        (record { stored = p.snapped.snapshot.stored; bytes = refl }) in
         let here : IsListedWhole f.plan (own_part sites check.list u) u place e =
         subst (λ ss. IsListedWhole f.plan ss u place e) part
-        (p.snapped.tells.waiting u place e task (eq-eqb (u % sites) (u % sites) refl) (known p.first p.first_is) on) in
+        (p.snapped.snapshot.tells.waiting u place e task (eq-eqb (u % sites) (u % sites) refl) (known p.first p.first_is) on) in
         record {
           listed = own_listed sites check.list u e here.listed;
           phases = λ q n phaser. (
@@ -112,7 +110,7 @@ module _ (f : Frame) (before now : List Known) (old rows : List (Option (List �
         let none : 0 % sites ≡ 0 = omega arith in
         let root : 0 < length f.plan.parents = slice_get_within f.plan.parents 0 None checked.tables.root in
         let first_of = made 0 p.first p.first_is in
-        let w = snap_possible f sites 0 p.snapped.list p.first p.last first_of checked p.snapped.snap 0 root (eq-eqb (0 % sites) 0 none) in
+        let w = snap_possible f sites 0 p.snapped.list p.first p.last first_of checked p.snapped.snapshot.snap 0 root (eq-eqb (0 % sites) 0 none) in
         let far : IsAsFarOn p.first.view.plan None w.places (seen p.first.view) = far_to_viewer p.first.view.plan p.first.view.own w.places (seen p.first.view) w.far in
         let there : IsDeadlockedSet (IsPublishedOn (state_at f.plan w.places)) (IsAtPhase (state_at f.plan w.places)) tasks =
         knows p.first (at_place before 0 p.first p.first_is) w.places w.lock w.lawful far in

@@ -22,7 +22,7 @@ use Rattle.phase_scan.specs.Looks.{LoadsAlone}
 use Rattle.phase_scan.specs.Collects.{FindsEvent, IfAsked, LoadsRow, LoadsRows}
 use Rattle.phase_scan.specs.Tables.{event_for}
 use Rattle.phase_scan.proofs.Keeping.{row_more, rows_more, rows_skip}
-use Rattle.phase_scan.proofs.Loads.{await_load, goes_both, load_goes, phase_load}
+use Rattle.phase_scan.proofs.Loads.{await_load, goes_both, phase_load}
 use Rattle.phase_scan.proofs.Tables.{given_below_same}
 use Rattle.sites.specs.Rows.{HasNumbers, HasPhaseNumbers}
 use Rattle.sites.specs.Snaps.{HasLookedOn, HasSeenLawful, LoadsChosen}
@@ -49,12 +49,12 @@ seen_lawful k m Holds same was =
 
 pub looked_await : (k m : Known) (f : Frame) (t : ℕ) (answer : Found) → IsOf k f → t < length f.plan.parents → AnswersAwait t answer k m → HasLookedOn k m
 looked_await k m f t answer of small load =
-    let goes = load_goes t k m (await_load k m t answer (subst (λ (q : Plan). t < length q.parents) (sym of.plan) small) load) in
+    let goes = (await_load k m t answer (subst (λ (q : Plan). t < length q.parents) (sym of.plan) small) load).goes in
     inr (goes, seen_lawful k m (λ s. found_in s t ≡ answer) goes.same load.load.was)
 
 pub looked_phase : (k m : Known) (f : Frame) (t p : ℕ) (answer : Option ℕ) → IsOf k f → t < length f.plan.parents → AnswersPhase t p answer k m → HasLookedOn k m
 looked_phase k m f t p answer of small load =
-    let goes = load_goes t k m (phase_load k m t p answer (subst (λ (q : Plan). t < length q.parents) (sym of.plan) small) load) in
+    let goes = (phase_load k m t p answer (subst (λ (q : Plan). t < length q.parents) (sym of.plan) small) load).goes in
     inr (goes, seen_lawful k m (λ s. s.phases t p ≡ answer) goes.same load.load.was)
 
 -- events that agree on the first tasks

@@ -183,7 +183,7 @@ module _ (before now : Known) (sites site : ℕ) (list : List Status) (checked :
   at_before : (t : ℕ) → IsOwn t → IsPrefix (at t) ((seen c.between.view).places t)
   at_before t task =
       let (x, here) = await_at t task in
-      subst (λ v. IsPrefix v ((seen c.between.view).places t)) (sym here) (x.goes_to.later t)
+      subst (λ v. IsPrefix v ((seen c.between.view).places t)) (sym here) (x.goes_to.seen_now.later t)
 
   found_after : (t p : ℕ) (is : IsLoaded t p) → IsPrefix (at t) (found t p) × IsPrefix (found t p) ((seen now.view).places t)
   found_after t p is =
@@ -191,11 +191,11 @@ module _ (before now : Known) (sites site : ℕ) (list : List Status) (checked :
       let load = phase_load y.from y.to t p (c.found.phases t p) y.small y.load in
       let first = at_before t is.0 in
       let from : IsPrefix (at t) ((seen y.from.view).places t) =
-      prefix_both (at t) ((seen c.between.view).places t) ((seen y.from.view).places t) first (y.goes_from.later t) in
+      prefix_both (at t) ((seen c.between.view).places t) ((seen y.from.view).places t) first (y.goes_from.seen_now.later t) in
       let here : IsPrefix (at t) ((seen y.to.view).places t) =
-      prefix_both (at t) ((seen y.from.view).places t) ((seen y.to.view).places t) from (load.later t) in (
+      prefix_both (at t) ((seen y.from.view).places t) ((seen y.to.view).places t) from (load.goes.seen_now.later t) in (
         subst (IsPrefix (at t)) (sym there) here,
-        subst (λ v. IsPrefix v ((seen now.view).places t)) (sym there) (y.goes_to.later t),
+        subst (λ v. IsPrefix v ((seen now.view).places t)) (sym there) (y.goes_to.seen_now.later t),
       )
 
   begun_later : (t : ℕ) (e : Event) (b : Place) → IsListedOn list t e → IsPrefix (at t) b → 0 < b.done
@@ -226,7 +226,7 @@ module _ (before now : Known) (sites site : ℕ) (list : List Status) (checked :
         waiting = λ u e one is. published_at u e is;
         before = λ u e one is.
             let task = (listed u e is).0 in
-            prefix_both (at u) ((seen c.between.view).places u) ((seen now.view).places u) (at_before u task) (rows.goes.later u);
+            prefix_both (at u) ((seen c.between.view).places u) ((seen now.view).places u) (at_before u task) (rows.goes.seen_now.later u);
         phases = λ u p n one is.
             let has = (are.phases u p n).0 is in
             let loaded : IsLoaded u p = ((has.task, own_is u has.event has.published), ap is_some has.published, has.phaser) in

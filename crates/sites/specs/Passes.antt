@@ -1,5 +1,5 @@
 -- Passes over all sites: each site puts what its viewer finds, and then the rows of all are checked. Whom such a pass names.
-use Rattle.std.specs.Prelude.{◌≡◌, ℕ, ◌%◌, ◌<◌, ◌⊎◌, Bool, true, List, Option, Some, None, Contains, length, slice_get, slice_set}
+use Rattle.std.specs.Prelude.{◌≡◌, ℕ, ◌%◌, ◌⊎◌, Bool, true, List, Option, Some, None, Contains, length, slice_get}
 use Rattle.armus_base.specs.declared.ids.TaskId.{TaskId}
 use Rattle.armus_base.specs.declared.status.Status.{Status}
 use Rattle.armus_base.specs.Plans.{Plan}
@@ -16,16 +16,13 @@ use Rattle.board.specs.Seats.{Frame, IsOf, Known}
 use Rattle.board.specs.Views.{avoids, seen}
 use Rattle.sites.specs.Checks.{AreAll}
 use Rattle.sites.specs.Keeping.{held}
-use Rattle.sites.specs.Rows.{AreOfSite, IsRowOf, row_bytes}
-use Rattle.sites.specs.Snaps.{CountsSnap, HasLookedOn, InEachPlaces, IsBacked, IsSnap, KnowsPlace, TellsSite}
+use Rattle.sites.specs.Rows.{IsRowOf, row_bytes}
+use Rattle.sites.specs.Snaps.{HasLookedOn, InEachPlaces, IsBacked, IsSnapshot, KnowsPlace}
 
 -- the site's viewer made a snap, and the row of its statuses is held
 pub record HasSnapped (plan : Plan) (sites site : ℕ) (before now : Known) (row : Option (List ℕ)) : Type 0 where
   pub list : List Status
-  pub snap : IsSnap plan sites site list before now
-  pub loads : CountsSnap plan sites site list before now
-  pub tells : TellsSite plan sites site list before now
-  pub stored : AreOfSite sites site list
+  pub snapshot : IsSnapshot plan sites site list before now
   pub put : row ≡ Some (row_bytes list)
 
 -- the row stores statuses of the site that are backed by what this viewer has seen

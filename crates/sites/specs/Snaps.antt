@@ -17,7 +17,7 @@ use Rattle.board.specs.Seats.{Known}
 use Rattle.board.specs.Views.{avoids, seen}
 use Rattle.phase_scan.specs.Collects.{FindsEvent, IfAsked, LoadsRows}
 use Rattle.phase_scan.specs.Looks.{LoadsAlone}
-use Rattle.sites.specs.Rows.{is_of_site}
+use Rattle.sites.specs.Rows.{AreOfSite, is_of_site}
 
 -- the loads of the await words of the chosen ones of the first tasks, in order, which were found waiting on these events
 abbrev pub LoadsChosen : (ℕ → Bool) → (ℕ → Option Event) → ℕ → Known → Known → Type 0
@@ -96,3 +96,10 @@ pub record TellsSite (plan : Plan) (sites site : ℕ) (list : List Status) (befo
   pub dead :
       (t : ℕ) → t < length plan.parents → is_of_site sites site t ≡ true → IsDeadToViewer before t →
       InEachPlaces before (λ a. IsListedWith plan list (state_at plan a) t)
+
+-- The statuses of a snap: those of its loads, of which it made so many. The site may store them, and they tell its tasks.
+pub record IsSnapshot (plan : Plan) (sites site : ℕ) (list : List Status) (before now : Known) : Type 0 where
+  pub snap : IsSnap plan sites site list before now
+  pub loads : CountsSnap plan sites site list before now
+  pub stored : AreOfSite sites site list
+  pub tells : TellsSite plan sites site list before now

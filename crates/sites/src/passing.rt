@@ -3,8 +3,7 @@ ghost use Rattle.std.specs.Prelude.{◌≡◌, ◌≤◌, ◌<◌, All, IfOk, On
 ghost use Rattle.board.specs.Seats.{IsOf, Known};
 ghost use Rattle.sites.specs.Keeping.{count_after};
 ghost use Rattle.sites.specs.Passes.{AreBacked, ChangesRows, HaveLookedOn, IsSitePass};
-ghost use Rattle.sites.specs.Rows.{AreOfSite};
-ghost use Rattle.sites.specs.Snaps.{CountsSnap, HasLookedOn, IsSnap, TellsSite};
+ghost use Rattle.sites.specs.Snaps.{HasLookedOn, IsSnapshot};
 ghost use Rattle.sites.specs.inside.Passing.{HaveSnapped, PutsSnap};
 
 use crate::checking::check_sites;
@@ -31,15 +30,10 @@ trait Snaps {
         sites: u32,
     ) -> Result<Snapshot, NoMemory>
         requires made { IsOf (known self.old) board.now }
-        requires some { 1 ≤ sites }
-        requires few { sites ≤ MAX_SITES }
         requires site { site < sites }
         ensures made { IsOf (known self.new) board.now }
         ensures looked { HasLookedOn (known self.old) (known self.new) }
-        ensures snap { IfOk result (λ s. IsSnap board.now.plan sites site s.statuses (known self.old) (known self.new)) }
-        ensures loads { IfOk result (λ s. CountsSnap board.now.plan sites site s.statuses (known self.old) (known self.new)) }
-        ensures stored { IfOk result (λ s. AreOfSite sites site s.statuses) }
-        ensures tells { IfOk result (λ s. TellsSite board.now.plan sites site s.statuses (known self.old) (known self.new)) };
+        ensures snapshot { IfOk result (λ s. IsSnapshot board.now.plan sites site s.statuses (known self.old) (known self.new)) };
 }
 
 impl Snaps for ViewSeat {
@@ -66,8 +60,6 @@ fn snap_site<V: Snaps, K: Keeper>(
     keeper: &mut K,
 ) -> Result<(), KeepEnd>
     requires made { IsOf (V.known view.old) board.now }
-    requires some { 1 ≤ sites }
-    requires few { sites ≤ MAX_SITES }
     requires site { site < sites }
     requires kept { length (K.rows keeper.old) ≡ sites }
     ensures made { IsOf (V.known view.new) board.now }
@@ -91,8 +83,6 @@ fn snap_sites<V: Snaps, K: Keeper>(
     keeper: &mut K,
 ) -> Result<(), KeepEnd>
     requires views { All (λ v. IsOf (V.known v) board.now) views.old }
-    requires some { 1 ≤ sites }
-    requires few { sites ≤ MAX_SITES }
     requires sites { length views.old ≡ sites }
     requires kept { length (K.rows keeper.old) ≡ sites }
     ensures looked { HaveLookedOn board.now (map V.known views.old) (map V.known views.new) }
@@ -118,8 +108,7 @@ pub fn site_pass<K: Keeper>(
     wanted: Wanted,
 ) -> Result<Analysis, KeepEnd>
     requires views { All (λ k. IsOf k board.now) views.old }
-    requires some { 1 ≤ length views.old }
-    requires few { length views.old ≤ MAX_SITES }
+    requires sites { 1 ≤ length views.old × length views.old ≤ MAX_SITES }
     requires kept { length (K.rows keeper.old) ≡ length views.old }
     ensures looked { HaveLookedOn board.now views.old views.new }
     ensures rows { ChangesRows board.now.plan (K.rows keeper.old) (K.rows keeper.new) views.new }

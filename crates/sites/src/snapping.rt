@@ -5,12 +5,11 @@ ghost use Rattle.board.specs.Seats.{IsOf};
 ghost use Rattle.board.specs.Views.{found_of};
 ghost use Rattle.phase_scan.specs.Collects.{FindsEvent, IfAsked, waiting_on};
 ghost use Rattle.phase_scan.specs.Tables.{event_for};
-ghost use Rattle.sites.specs.Rows.{AreOfSite, HasNumbers, HasPhaseNumbers, is_of_site};
-ghost use Rattle.sites.specs.Snaps.{CountsSnap, HasLookedOn, IsSnap, LoadsChosen, TellsSite};
+ghost use Rattle.sites.specs.Rows.{HasNumbers, HasPhaseNumbers, is_of_site};
+ghost use Rattle.sites.specs.Snaps.{HasLookedOn, IsSnapshot, LoadsChosen};
 ghost use Rattle.sites.specs.inside.Snapping.{FindsRow, FindsRows, FindsStatus};
 
 use crate::Snapshot;
-use crate::decoding::MAX_SITES;
 use armus_base::{Event, List, Member, NoMemory, Phase, PhaserId, Status, TaskId};
 use board::{Board, Loads, Seen, ViewSeat};
 use std::alloc::Global;
@@ -186,16 +185,11 @@ pub fn snap(
     sites: u32,
 ) -> Result<Snapshot, NoMemory>
     requires made { IsOf view.old board.now }
-    requires some { 1 ≤ sites }
-    requires few { sites ≤ MAX_SITES }
     requires site { site < sites }
     ensures made { IsOf view.new board.now }
     ensures looked { HasLookedOn view.old view.new }
     ensures site { IfOk result (λ s. s.site ≡ site) }
-    ensures snap { IfOk result (λ s. IsSnap board.now.plan sites site s.statuses view.old view.new) }
-    ensures loads { IfOk result (λ s. CountsSnap board.now.plan sites site s.statuses view.old view.new) }
-    ensures stored { IfOk result (λ s. AreOfSite sites site s.statuses) }
-    ensures tells { IfOk result (λ s. TellsSite board.now.plan sites site s.statuses view.old view.new) }
+    ensures snapshot { IfOk result (λ s. IsSnapshot board.now.plan sites site s.statuses view.old view.new) }
 {
     let events = load_awaits(alloc, view, board, site, sites)?;
     let statuses = load_rows(alloc, view, board, events.as_slice())?;

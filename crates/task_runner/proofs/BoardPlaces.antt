@@ -39,10 +39,10 @@ module _ (f : Frame) (mode : Mode) (tasks : List Working) (crew : IsCrew f (IsSe
 
   closed : IsClosed f.plan (seen now.view)
   closed = record {
-    root = goes.exact 0 ∙ known.closed.root;
+    root = goes.seen_now.exact 0 ∙ known.closed.root;
     forked = λ t j c ex l forks.
-        let was : (seen before.view).exact t ≡ true = sym (goes.exact t) ∙ ex in
-        goes.exact c ∙ known.closed.forked t j c was (subst (λ (b : Place). j < b.done) (goes.here t was) l) forks;
+        let was : (seen before.view).exact t ≡ true = sym (goes.seen_now.exact t) ∙ ex in
+        goes.seen_now.exact c ∙ known.closed.forked t j c was (subst (λ (b : Place). j < b.done) (goes.seen_now.here t was) l) forks;
   }
 
   past : (t : ℕ) → length f.plan.parents ≤ t → (seen now.view).places t ≡ first_place
@@ -63,7 +63,7 @@ module _ (f : Frame) (mode : Mode) (tasks : List Working) (crew : IsCrew f (IsSe
 
   -- each task stands where its seat stood
   pub stands : (w : Working) → Contains tasks w → a (number w) ≡ own_place w.seat.view
-  stands w i = let k = known.here w i in (λ j. same j (number w)) ∙ goes.here (number w) k.0 ∙ k.1
+  stands w i = let k = known.here w i in (λ j. same j (number w)) ∙ goes.seen_now.here (number w) k.0 ∙ k.1
 
   small : (t : ℕ) → forked_at f.plan (done_by a) t ≡ true → t < length f.plan.parents
   small t forked = elim (forked_at_is f.plan (done_by a) t forked) [
@@ -73,7 +73,7 @@ module _ (f : Frame) (mode : Mode) (tasks : List Working) (crew : IsCrew f (IsSe
 
   pub whose : (t : ℕ) → forked_at f.plan (done_by a) t ≡ true → (w : Working) × Contains tasks w × number w ≡ t
   whose t forked =
-      known.only t (sym (goes.exact t) ∙ exact_all t (small t forked) (subst (λ (b : ℕ → Place). forked_at f.plan (done_by b) t ≡ true) same forked))
+      known.only t (sym (goes.seen_now.exact t) ∙ exact_all t (small t forked) (subst (λ (b : ℕ → Place). forked_at f.plan (done_by b) t ≡ true) same forked))
 
   -- who is none of them has made no step
   first : (t : ℕ) → ((w : Working) → Contains tasks w → number w ≢ t) → a t ≡ first_place

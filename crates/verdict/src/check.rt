@@ -6,8 +6,8 @@ ghost use Rattle.verdict.specs.Cycles.{IsNext, IsNewAt, IsLink, IsCycle};
 use crate::Cycle;
 use armus_base::{Event, Status, TaskId};
 
-/// Whether the task of the status impedes the event: it is a member of the event's phaser with a phase below the event's.
-pub fn impedes(status: &Status, event: Event) -> bool
+// Whether the task of the status impedes the event: it is a member of the event's phaser with a phase below the event's.
+fn impedes(status: &Status, event: Event) -> bool
     ensures { IsTrue result ↔ Impedes status.now event }
 {
     status

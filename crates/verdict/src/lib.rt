@@ -5,6 +5,6 @@ mod check;
 mod found;
 mod walk;
 
-pub use check::{check_cycle, impedes};
+pub use check::check_cycle;
 pub use found::Cycle;
 pub use walk::cycle;

@@ -13,6 +13,11 @@ mark_of marks v = slice_index_or marks v Unvisited
 abbrev pub row_of : List (List ℕ) → ℕ → List ℕ
 row_of g v = slice_index_or g v []
 
+-- the nodes on the stack are a walk
+pub record IsWalkOfNodes (g : List (List ℕ)) (stack : List ℕ) : Type 0 where
+  pub nodes : All (λ v. v < length g) stack
+  pub chain : (k : ℕ) → k + 1 < length stack → HasEdge g (slice_index stack k) (slice_index stack (k + 1))
+
 -- each mark is right: an acyclic node stands in no closed set, a cyclic one reaches a cycle, and the nodes on the stack are a walk; the looked-at
 -- successors of each node stand in no closed set
 pub record IsSearch (g : List (List ℕ)) (marks : List Mark) (left : List ℕ) (stack : List ℕ) : Type 0 where
@@ -23,8 +28,7 @@ pub record IsSearch (g : List (List ℕ)) (marks : List Mark) (left : List ℕ) 
   pub cyclic : (v : ℕ) → mark_of marks v ≡ Cyclic → ReachesCycle (HasEdge g) v
   pub on_stack : (v : ℕ) → mark_of marks v ≡ OnStack → Contains stack v
   pub seen : (v k : ℕ) → slice_index left v ≤ k → k < length (row_of g v) → IsInClosedSet (HasEdge g) (slice_index (row_of g v) k) → ⊥
-  pub nodes : All (λ v. v < length g) stack
-  pub chain : (k : ℕ) → k + 1 < length stack → HasEdge g (slice_index stack k) (slice_index stack (k + 1))
+  pub walk : IsWalkOfNodes g stack
 
 -- whether the mark is that of a node that was not visited
 abbrev pub is_unvisited : Mark → Bool

@@ -1,6 +1,6 @@
-use Rattle.std.proofs.Common.{◌∙◌, ap, sym, subst, List}
+use Rattle.std.proofs.Common.{ap, sym, subst, List}
 use Rattle.armus_base.specs.declared.status.Status.{Status}
-use Rattle.board.specs.Seats.{Known, aim_at}
+use Rattle.board.specs.Seats.{aim_at}
 use Rattle.phase_scan.specs.Collects.{Collection}
 use Rattle.avoider.specs.OnBoard.{Judges}
 use Rattle.avoider.proofs.JudgedLists.{judges_so}
@@ -13,5 +13,4 @@ returns-clause-judges c =
     subst (λ (ss : List Status). Judges ss aim c.own_event-event.result c.in_ok-list.list c.args.seat.now c.supposed.new.seat)
     (ap (λ (v : Collection). v.statuses) (sym c.supposed.ensures.cells))
     (judges_so c.args.board.now c.collect.new.self.statuses c.in_ok-list.list aim c.own_event-event.result c.args.seat.now c.own_event-event.new.seat c.collect.new.by c.supposed.new.seat
-    c.requires.before.made same c.collect.ensures.goes_on c.collect.ensures.collect c.collect.ensures.collected
-    (c.collect.ensures.finds (ap (λ (k : Known). k.view.holds) same ∙ c.requires.before.locked)) c.in_ok-list.ensures.supposed c.own_event-event.ensures.event)
+    c.requires.before.made same c.collect.ensures.collected c.in_ok-list.ensures.supposed c.own_event-event.ensures.event)

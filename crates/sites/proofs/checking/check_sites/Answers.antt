@@ -1,4 +1,4 @@
-use Rattle.std.proofs.Common.{List, subst, sym}
+use Rattle.std.proofs.Common.{subst, sym}
 use Rattle.armus_base.specs.Statuses.{IsInOrder}
 use Rattle.adaptive.specs.Choice.{IsAnalysis}
 use Rattle.sites.proofs.checking.check_sites.Goals as goal

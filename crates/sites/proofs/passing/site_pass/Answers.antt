@@ -43,7 +43,7 @@ returns-in-Ok-clause-pass g c =
     subst (λ xs. HaveSnapped f (length before) (length before) before xs old rows) (map-id now) one in
     subst (λ r. IsSitePass f.plan f.mode wanted before now r a) (sym c.check_sites.ensures.rows)
     (site_passed f before now old rows (λ site k is. made_of (λ s. s) before f c.requires.views site k (subst (λ xs. slice_get xs site ≡ Some k) (sym (map-id before)) is))
-    c.tasks.ensures.checked c.requires.some snapped wanted a c.in-Ok.ensures.check)
+    c.tasks.ensures.checked c.requires.sites.0 snapped wanted a c.in-Ok.ensures.check)
 
 pub unreachable-requires : goal.unreachable-requires
 unreachable-requires g c =
@@ -57,5 +57,5 @@ unreachable-requires g c =
     let snapped : HaveSnapped f (length before) (length before) before now old rows =
     subst (λ xs. HaveSnapped f (length before) (length before) before xs old rows) (map-id now) one in
     put_not_bad f before now old rows (λ site k is. made_of (λ s. s) before f c.requires.views site k (subst (λ xs. slice_get xs site ≡ Some k) (sym (map-id before)) is))
-    c.tasks.ensures.checked c.requires.some snapped
+    c.tasks.ensures.checked c.requires.sites.0 snapped
     c.in-Err-Bad.field-0-0 (subst (IsSiteEnd (length before) rows) c.in-Err-Bad.field-0-is c.in-Err-Bad.ensures.end)

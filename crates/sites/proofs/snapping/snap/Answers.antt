@@ -31,8 +31,10 @@ returns c =
       made = c.load_rows.ensures.made;
       looked = looked_both before between now c.load_awaits.ensures.looked c.load_rows.ensures.looked;
       site = refl;
-      snap = is;
-      loads = counts_snap plan sites site c.from_vec.result before now is;
-      stored = snap_stored plan sites site c.from_vec.result before now checked is (subst (All HasNumbers) same rows.numbers);
-      tells = snap_told f sites site c.from_vec.result before now c.requires.made checked is;
+      snapshot = record {
+        snap = is;
+        loads = counts_snap plan sites site c.from_vec.result before now is;
+        stored = snap_stored plan sites site c.from_vec.result before now checked is (subst (All HasNumbers) same rows.numbers);
+        tells = snap_told f sites site c.from_vec.result before now c.requires.made checked is;
+      };
     }

@@ -30,7 +30,7 @@ end_from-requires-clause-reachable g c κs within =
     let made = subst (IsOf c.take_in_all.new.view) c.requires.board.0 c.take_in_all.ensures.made in
     subst (λ (xs : List KeptPlace). IsReachable plan (places_at plan xs)) (sym c.as_slice-then-whole.ensures.items)
     (reachable_places f plan c.requires.board.1 c.requires.board.2 tasks c.take_in_all.ensures.crew whole places are c.args.view c.take_in_all.new.view now c.requires.viewer
-    c.take_in_all.ensures.taken made c.pass.ensures.goes_on words last)
+    c.take_in_all.ensures.taken made c.pass.ensures.collected.goes_on words last)
 
 pub end_from-requires-clause-plain : goal.end_from-requires-clause-plain
 end_from-requires-clause-plain g c κs within = λ t place is.
@@ -45,7 +45,7 @@ end_from-requires-clause-plain g c κs within = λ t place is.
     let last = subst (λ (b : Frame). AreLastOf b.plan b.mode (seen now.view) words) c.requires.board.0 c.close.ensures.words in
     let made = subst (IsOf c.take_in_all.new.view) c.requires.board.0 c.take_in_all.ensures.made in
     plain_places f plan c.requires.board.1 c.requires.board.2 tasks c.take_in_all.ensures.crew whole places are c.args.view c.take_in_all.new.view now c.requires.viewer
-    c.take_in_all.ensures.taken made c.pass.ensures.goes_on words last t place (ap (λ (xs : List KeptPlace). slice_get xs t) (sym c.as_slice-then-whole.ensures.items) ∙ is)
+    c.take_in_all.ensures.taken made c.pass.ensures.collected.goes_on words last t place (ap (λ (xs : List KeptPlace). slice_get xs t) (sym c.as_slice-then-whole.ensures.items) ∙ is)
 
 pub end_of-requires-clause-plain : goal.end_of-requires-clause-plain
 end_of-requires-clause-plain g c κs within = opening_plain c.args.plan.now c.in_ok-start.field-0 c.in_ok-start.ensures.opening

@@ -1,7 +1,7 @@
 use Rattle.std.proofs.Common.{◌∙◌, ap, sym}
 use Rattle.phase_scan.specs.Collects.{Collection, IsCollect}
 use Rattle.phase_scan.specs.Tables.{statuses_of_findings}
-use Rattle.phase_scan.proofs.Collecting.{cells_count, cells_find, cells_go, cells_in_order, cells_settle, cells_tell, marks_stay, tables_collect}
+use Rattle.phase_scan.proofs.Collecting.{cells_collected, cells_in_order, marks_stay, tables_collect}
 use Rattle.phase_scan.proofs.cells.Cells.collect.Goals as goal
 
 the_collect : (g : _) (c : goal.After-load_rows g) →
@@ -27,30 +27,7 @@ invariant_of-self g c =
       room = c.self.invariant.room ∙ sym (rows.same.tasks ∙ awaits.tasks ∙ c.unmark.ensures.tasks);
     }
 
-pub returns-clause-goes_on : goal.returns-clause-goes_on
-returns-clause-goes_on g c =
-    cells_go c.args.board.now (statuses_of_findings c.load_rows.new.self) (g.L.Loads.known c.args.by.now) (g.L.Loads.known c.load_rows.new.by)
-    c.requires.made c.load_awaits.ensures.checked (the_collect g c)
-
-pub returns-clause-collect : goal.returns-clause-collect
-returns-clause-collect g c = the_collect g c
-
-pub returns-clause-loads : goal.returns-clause-loads
-returns-clause-loads g c =
-    cells_count c.args.board.now (statuses_of_findings c.load_rows.new.self) (g.L.Loads.known c.args.by.now) (g.L.Loads.known c.load_rows.new.by)
-    c.requires.made c.load_awaits.ensures.checked (the_collect g c)
-
 pub returns-clause-collected : goal.returns-clause-collected
 returns-clause-collected g c =
-    cells_tell c.args.board.now (statuses_of_findings c.load_rows.new.self) (g.L.Loads.known c.args.by.now) (g.L.Loads.known c.load_rows.new.by)
-    c.requires.made c.load_awaits.ensures.checked (the_collect g c)
-
-pub returns-clause-finds : goal.returns-clause-finds
-returns-clause-finds g c =
-    cells_find c.args.board.now (statuses_of_findings c.load_rows.new.self) (g.L.Loads.known c.args.by.now) (g.L.Loads.known c.load_rows.new.by)
-    c.requires.made c.load_awaits.ensures.checked (the_collect g c)
-
-pub returns-clause-settled : goal.returns-clause-settled
-returns-clause-settled g c =
-    cells_settle c.args.board.now (statuses_of_findings c.load_rows.new.self) (g.L.Loads.known c.args.by.now) (g.L.Loads.known c.load_rows.new.by)
+    cells_collected c.args.board.now (statuses_of_findings c.load_rows.new.self) (g.L.Loads.known c.args.by.now) (g.L.Loads.known c.load_rows.new.by)
     c.requires.made c.load_awaits.ensures.checked (the_collect g c)

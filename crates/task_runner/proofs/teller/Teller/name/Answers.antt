@@ -12,7 +12,7 @@ returns-clause-watches c =
     let p = c.pass.ensures in
     subst (λ (ds : List Dead). Watches c.args.board.now (record { collector = c.pass.new.self; view = c.pass.new.view; dead = ds })) (sym items)
     (watches_more c.args.board.now w c.pass.new.view c.pass.new.self c.pass.new.self.statuses c.in_ok-fresh.field-0 c.requires.detects
-    (subst (Watches c.args.board.now) (sym c.self.view_is) c.requires.watches) p.goes_on p.collect c.in_ok-fresh.ensures.verdict c.in_ok-fresh.ensures.named p.tasks p.phasers)
+    (subst (Watches c.args.board.now) (sym c.self.view_is) c.requires.watches) p.collected.goes_on p.collected.collect c.in_ok-fresh.ensures.pass.verdict c.in_ok-fresh.ensures.pass.named p.tasks p.phasers)
 
 pub returns-clause-named : goal.returns-clause-named
 returns-clause-named c =
