@@ -22,6 +22,7 @@ use Rattle.gen_text.proofs.Working.{CanGoOn, left_behind, works, ends}
 abbrev opened : ℕ → Parts
 opened n = record {
   parents = None ∷ [];
+  phasers = 2;
   starts = Some (record { body = generated_body n; first = 1; names = λ _. None }) ∷ [];
   members = with_member 0 1 true (with_member 0 0 true (λ _ _. false));
   names = assigned pb (a_phaser 1) (assigned pc (a_phaser 0) (λ _. None));
@@ -33,6 +34,7 @@ no_start n c l = get_or_past (opened n).starts c None l
 is_opened : (n : ℕ) → IsDrawing 0 (opened n)
 is_opened n = record {
   tasks = omega arith;
+  phasers = refl;
   names = record { first = refl; second = refl };
   own = record { first = refl; second = refl };
   fresh_start = no_start n;
@@ -101,7 +103,7 @@ plan_from (Err f) h = absurd h
 
 unfolds : (n : ℕ) → n < max_tasks → (plan : Plan) × (plan_of (generated_program n) ≡ Ok plan)
 unfolding plan_of
-unfolds n l = plan_from (unfold_tasks false max_tasks 0 (opening_state (generated_body n))) (all_tasks 1023 n l (omega arith))
+unfolds n l = plan_from (unfold_tasks false max_tasks 0 (opening_state (generated_body n))) (all_tasks 4095 n l (omega arith))
 
 pub accepted : GeneratedIsAccepted
 accepted n l = let u = unfolds n l in (generated_program n, is_text n (omega arith), u.0, u.1)

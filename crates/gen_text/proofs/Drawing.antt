@@ -4,7 +4,7 @@ use Rattle.std.specs.Prelude.{slice_index_or}
 use Rattle.std.proofs.lemmas.Bool.Decides.{nat_tests}
 use Rattle.std.proofs.lemmas.List.{length-append, get_or-set_other}
 use Rattle.std.proofs.Math.Seq.{get_or-append_seam}
-use Rattle.armus_base.specs.Limits.{max_tasks, max_ops}
+use Rattle.armus_base.specs.Limits.{max_cells, max_tasks, max_ops}
 use Rattle.armus_base.specs.Pieces.{times}
 use Rattle.pl_plan.specs.Unfolding.{Names, a_phaser, UnfoldingState, Start, task, with_member, make_visits, visits_of, visit, a_turn}
 use Rattle.pl_plan.proofs.Places.{at_set, at_more}
@@ -52,6 +52,7 @@ can_work_as on more (Some start) f g w = (w.0, w.1, record { first = f w.2.first
 -- behind the first i workers
 pub record IsDrawing (i : ℕ) (a : Parts) : Type 0 where
   pub tasks : length a.parents ≤ i + 1
+  pub phasers : a.phasers ≡ 2
   pub names : HasNames a.names
   pub own : IsOnBoth (a.members 0)
   pub fresh_start : (c : ℕ) → length a.parents ≤ c → slice_index_or a.starts c None ≡ None
@@ -110,6 +111,7 @@ module _ (i : ℕ) (a : Parts) (h : IsDrawing i a) where
   draws_one : IsDrawing (i + 1) turned
   draws_one = record {
     tasks = omega (arith, length-append a.parents (Some (task 0) ∷ []), h.tasks);
+    phasers = h.phasers;
     names = drawn_names;
     own = record { first = joined_more 0 0 h.own.first; second = joined_more 0 1 h.own.second };
     fresh_start = λ c l.
@@ -135,8 +137,10 @@ turn_draws :
 turn_draws i k a s h d few room =
     let Q : UnfoldingState → Type 0 = Drawing (k + 5) (i + 1) in
     let c : ℕ = length a.parents in
+    let cells : (c + 1) * (a.phasers + 1) ≤ max_cells =
+    subst (λ p. (c + 1) * (p + 1) ≤ max_cells) (sym d.phasers) (let fits : (c + 1) * 3 ≤ max_cells = omega (arith, d.tasks) in fits) in
     comes (Has (k + 1) a) Q 0 s _ _ (turn_fits 3 k a s h (omega arith) 0)
-    (λ s1 h1. comes (Has (k + 1 + 1) (drawn child a)) Q 0 s1 _ _ (new_task_fits 4 (k + 1) a s1 h1 (omega arith) child (omega (arith, d.tasks)))
+    (λ s1 h1. comes (Has (k + 1 + 1) (drawn child a)) Q 0 s1 _ _ (new_task_fits 4 (k + 1) a s1 h1 (omega arith) child (omega (arith, d.tasks)) cells)
     (λ s2 h2. comes (Has (k + 1 + 1 + 1) (registered c 0 (drawn child a))) Q 0 s2 _ _
     (reg_fits 5 (k + 1 + 1) (drawn child a) s2 h2 (omega arith) child c pc 0 refl d.names.first (new_parent i a d) (new_start i a d) d.own.first (new_first i a d))
     (λ s3 h3. comes (Has (k + 1 + 1 + 1 + 1) (registered c 1 (registered c 0 (drawn child a)))) Q 0 s3 _ _

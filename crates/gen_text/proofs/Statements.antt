@@ -1,13 +1,14 @@
 -- Each statement of a generated program succeeds where what it needs is there, and what it changes.
-use Rattle.std.proofs.Common.{◌≡◌, ℕ, ◌+◌, ◌<◌, true, false, not, Some, None, List, [], ◌∷◌, ◌++◌, length, arith, subst, refl, ap}
+use Rattle.std.proofs.Common.{◌≡◌, ℕ, ◌+◌, ◌*◌, ◌<◌, ◌≤◌, true, false, not, Some, None, List, [], ◌∷◌, ◌++◌, length, arith, subst, refl, ap}
 use Rattle.std.specs.Prelude.{slice_set, slice_index_or, nat_lt}
+use Rattle.std.proofs.lemmas.Bool.{le-leb}
 use Rattle.std.proofs.lemmas.Bool.Decides.{nat_tests}
 use Rattle.std.proofs.lemmas.List.Sums.{sum_by-append}
-use Rattle.armus_base.specs.Limits.{max_tasks, max_ops}
+use Rattle.armus_base.specs.Limits.{max_cells, max_tasks, max_ops}
 use Rattle.armus_base.specs.declared.op.Op.TheVariants as op
 use Rattle.armus_base.specs.declared.offset.Offset.TheVariants.{Here}
 use Rattle.pl_syntax.specs.Tree.{Tree, new_task, reg, dereg, adv, await}
-use Rattle.pl_plan.specs.Unfolding.{a_plain, a_fork, a_loop, a_turn, visit, make_visit, UnfoldingState, Start, a_task, a_phaser, task, phaser, add_op, act, act_fork, assigned, with_member, not_member, already_member, too_many_tasks}
+use Rattle.pl_plan.specs.Unfolding.{a_plain, a_fork, a_loop, a_turn, visit, make_visit, UnfoldingState, Start, a_task, a_phaser, task, phaser, add_op, act, act_fork, assigned, with_member, not_member, already_member, has_cells, too_many_cells, too_many_tasks}
 use Rattle.gen_text.proofs.Succeeding.{Succeeds, holds, names_task, names_phaser, is_member, is_own_child, Parts, parts_of, Has, op_fits, visit_fits}
 
 -- ---- changes
@@ -16,6 +17,7 @@ use Rattle.gen_text.proofs.Succeeding.{Succeeds, holds, names_task, names_phaser
 abbrev pub drawn : List ℕ → Parts → Parts
 drawn x a = record {
   parents = a.parents ++ Some (task 0) ∷ [];
+  phasers = a.phasers;
   starts = a.starts ++ None ∷ [];
   members = a.members;
   names = assigned x (a_task (length a.parents)) a.names;
@@ -77,13 +79,19 @@ module _ (n k : ℕ) (a : Parts) (s : UnfoldingState) (h : Has k a s) (few : k <
           (λ q. add_op t n (op.Drop (phaser q)) (record s { members = with_member t q false s.members; visits = s.visits + 1 })) e m
           (op_fits t n k (op.Drop (phaser p)) (record s { members = with_member t p false s.members; visits = s.visits + 1 }) (omega (arith, h.visits)) h.ops few)))
 
-  pub new_task_fits : (x : List ℕ) → length a.parents < max_tasks → Succeeds (Has (k + 1) (drawn x a)) (make_visit 0 (visit n (a_plain (new_task x))) s)
+  pub new_task_fits :
+      (x : List ℕ) → length a.parents < max_tasks → (length a.parents + 1) * (a.phasers + 1) ≤ max_cells →
+      Succeeds (Has (k + 1) (drawn x a)) (make_visit 0 (visit n (a_plain (new_task x))) s)
   unfolding act
   new_task_fits x =
-      subst (λ (b : Parts). length b.parents < max_tasks → Succeeds (Has (k + 1) (drawn x b)) (make_visit 0 (visit n (a_plain (new_task x))) s)) h.parts_are
-      (λ room. visit_fits (Has (k + 1) (drawn x (parts_of s))) 0 n k (a_plain (new_task x)) s h.visits few
+      subst
+      (λ (b : Parts). length b.parents < max_tasks → (length b.parents + 1) * (b.phasers + 1) ≤ max_cells →
+      Succeeds (Has (k + 1) (drawn x b)) (make_visit 0 (visit n (a_plain (new_task x))) s)) h.parts_are
+      (λ room cells. visit_fits (Has (k + 1) (drawn x (parts_of s))) 0 n k (a_plain (new_task x)) s h.visits few
       (holds (Has (k + 1) (drawn x (parts_of s))) n (nat_lt (length s.plan.parents) max_tasks) too_many_tasks _ (grind (arith, nat_tests))
-      (record { parts_are = refl; visits = omega (arith, h.visits); ops = omega (arith, sum_by-append length s.plan.codes ([] ∷ []), h.ops) })))
+      (holds (Has (k + 1) (drawn x (parts_of s))) n (has_cells (length s.plan.parents + 1) (length s.plan.makers)) too_many_cells _
+      (le-leb ((length s.plan.parents + 1) * (length s.plan.makers + 1)) max_cells cells)
+      (record { parts_are = refl; visits = omega (arith, h.visits); ops = omega (arith, sum_by-append length s.plan.codes ([] ∷ []), h.ops) }))))
 
   module _ (x : List ℕ) (c : ℕ) where
     pub reg_fits :

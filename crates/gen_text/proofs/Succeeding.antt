@@ -61,12 +61,13 @@ module _ (P : UnfoldingState → Type 0) (n : ℕ) where
 
 pub record Parts : Type 0 where
   pub parents : List (Option TaskId)
+  pub phasers : ℕ
   pub starts : List (Option Start)
   pub members : ℕ → ℕ → Bool
   pub names : Names
 
 abbrev pub parts_of : UnfoldingState → Parts
-parts_of s = record { parents = s.plan.parents; starts = s.starts; members = s.members; names = s.names }
+parts_of s = record { parents = s.plan.parents; phasers = length s.plan.makers; starts = s.starts; members = s.members; names = s.names }
 
 -- a state with these parts, and with so many visits and ops at most
 pub record Has (k : ℕ) (parts : Parts) (s : UnfoldingState) : Type 0 where

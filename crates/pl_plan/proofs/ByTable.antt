@@ -1,12 +1,12 @@
 -- A stage does what its tests, made row by row, say.
-use Rattle.std.proofs.Common.{◌≡◌, ℕ, ◌+◌, Bool, true, false, not, Some, None, Ok, Err, Option, List, [], ◌∷◌, ◌++◌, sym, ◌∙◌, ap, refl, inl, inr}
-use Rattle.std.specs.Prelude.{◌||◌, Contains, is_none, nat_lt, length, sum_by}
+use Rattle.std.proofs.Common.{◌≡◌, ℕ, ◌+◌, ◌*◌, Bool, true, false, not, Some, None, Ok, Err, Option, List, [], ◌∷◌, ◌++◌, sym, ◌∙◌, ap, refl, inl, inr}
+use Rattle.std.specs.Prelude.{◌||◌, Contains, is_none, nat_le, nat_lt, length, sum_by}
 use Rattle.armus_base.proofs.Elements.{Contains-cons_cases, Contains-head, Contains-tail, nothing_in_nil}
 use Rattle.armus_base.specs.declared.op.Op.{Op}
 use Rattle.armus_base.specs.declared.op.Op.TheVariants as op
 use Rattle.pl_syntax.specs.Tree.{new_task, new_phaser, reg, dereg, adv, await, skip}
 use Rattle.pl_plan.specs.Unfolding.{Coming, a_plain, a_fork, a_loop, a_turn, Visit, UnfoldingState, Start, Thing, a_task, a_phaser, Outcome, ◌>>=◌, fault, fault_unless, as_task, as_phaser, unforked_child, member_of, task, phaser, add_op, act, act_fork, come_to, count_visit, make_visit, with_member, with_members, with_new_phaser, with_start}
-use Rattle.pl_plan.specs.Tests.{Row, is_phaser, is_task, phaser_number, task_number, IsFirstFailing, Passes, drew, is_forked, table, first_unknown, first_of_other_kind, second_unknown, second_of_other_kind, not_drawn, forked_already, no_member, member_already, no_task_left, no_phaser_left, no_op_left}
+use Rattle.pl_plan.specs.Tests.{Row, is_phaser, is_task, phaser_number, task_number, IsFirstFailing, Passes, drew, is_forked, table, first_unknown, first_of_other_kind, second_unknown, second_of_other_kind, not_drawn, forked_already, no_member, member_already, no_task_left, no_phaser_left, no_cell_left, no_op_left}
 use Rattle.pl_plan.specs.Stages.{after_stage, done_at, comes, with_code}
 
 -- ---- the first row at fault, computed
@@ -147,15 +147,15 @@ step_member false p n rest done f e = refl
 -- the last test, of ops, and then the op
 step_op :
     (t n : ℕ) (o : Op) (s : UnfoldingState) →
-    add_op t n o s ≡ answer n (kind_or (not (nat_lt (sum_by length s.plan.codes) 262144)) 9 None) (with_code t o s)
+    add_op t n o s ≡ answer n (kind_or (not (nat_lt (sum_by length s.plan.codes) 1048576)) 9 None) (with_code t o s)
 unfolding add_op
-step_op t n o s = step (nat_lt (sum_by length s.plan.codes) 262144) 9 n None (with_code t o s) (Ok (with_code t o s)) refl
+step_op t n o s = step (nat_lt (sum_by length s.plan.codes) 1048576) 9 n None (with_code t o s) (Ok (with_code t o s)) refl
 
 -- what stands behind the test of visits
 abbrev behind_visits : List Row
 behind_visits =
     first_unknown ∷ first_of_other_kind ∷ second_unknown ∷ second_of_other_kind ∷ not_drawn ∷ forked_already ∷ no_member ∷ member_already
-    ∷ no_task_left ∷ no_phaser_left ∷ no_op_left ∷ []
+    ∷ no_task_left ∷ no_phaser_left ∷ no_cell_left ∷ no_op_left ∷ []
 
 -- the tests behind that of visits, and what is done
 abbrev IsByTable : ℕ → ℕ → Coming → UnfoldingState → Outcome UnfoldingState → Type 0
@@ -163,7 +163,7 @@ IsByTable t n c s o = o ≡ answer n (first_kind behind_visits s t c) (done_at t
 
 module _ (t n : ℕ) (s : UnfoldingState) where
   abbrev ops_left : Bool
-  ops_left = nat_lt (sum_by length s.plan.codes) 262144
+  ops_left = nat_lt (sum_by length s.plan.codes) 1048576
 
   -- dereg, adv, await
   member_by :
@@ -217,10 +217,17 @@ module _ (t n : ℕ) (s : UnfoldingState) where
   come_by : (c : Coming) → IsByTable t n c s (come_to t n c s)
   unfolding act act_fork
   come_by (a_plain (new_task x)) =
-      step (nat_lt (length s.plan.parents) 1024) 7 n None (done_at t n (a_plain (new_task x)) s) (Ok (done_at t n (a_plain (new_task x)) s)) refl
+      let cells = nat_le ((length s.plan.parents + 1) * (length s.plan.makers + 1)) 1048576 in
+      let done = done_at t n (a_plain (new_task x)) s in
+      step (nat_lt (length s.plan.parents) 4096) 7 n (kind_or (not cells) 11 None) done (fault_unless cells 11 n >>= λ _. Ok done)
+      (step cells 11 n None done (Ok done) refl)
   come_by (a_plain (new_phaser x)) =
-      step (nat_lt (length s.plan.makers) 256) 8 n (kind_or (not ops_left) 9 None) (done_at t n (a_plain (new_phaser x)) s)
-      (add_op t n (op.Make (phaser (length s.plan.makers))) (with_new_phaser t x s)) (step_op t n (op.Make (phaser (length s.plan.makers))) (with_new_phaser t x s))
+      let cells = nat_le (length s.plan.parents * (length s.plan.makers + 1 + 1)) 1048576 in
+      let done = done_at t n (a_plain (new_phaser x)) s in
+      let add = add_op t n (op.Make (phaser (length s.plan.makers))) (with_new_phaser t x s) in
+      let last = kind_or (not ops_left) 9 None in
+      step (nat_lt (length s.plan.makers) 1024) 8 n (kind_or (not cells) 11 last) done (fault_unless cells 11 n >>= λ _. add)
+      (step cells 11 n last done add (step_op t n (op.Make (phaser (length s.plan.makers))) (with_new_phaser t x s)))
   come_by (a_plain (reg x y)) = reg_by (s.names x) (s.names y)
   come_by (a_plain (dereg x)) = member_by (s.names x) (λ p. op.Drop (phaser p)) (λ p. with_member t p false s.members)
   come_by (a_plain (adv x)) = member_by (s.names x) (λ p. op.Adv (phaser p)) (λ p. s.members)
@@ -233,7 +240,7 @@ module _ (t n : ℕ) (s : UnfoldingState) where
 -- a visit answers by the table
 pub visit_by : (t : ℕ) (m : Visit) (s : UnfoldingState) → make_visit t m s ≡ answer m.statement (first_kind table s t m.coming) (after_stage (comes t m) s)
 unfolding count_visit
-visit_by t m s = by (nat_lt s.visits 1048576)
+visit_by t m s = by (nat_lt s.visits 4194304)
   where
     by :
         (b : Bool) →

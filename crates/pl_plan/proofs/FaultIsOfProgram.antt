@@ -9,7 +9,7 @@ use Rattle.pl_syntax.specs.Tree.{Tree, done, plain, fork, loop, Plain, new_task,
 use Rattle.pl_plan.specs.Limits.{max_visits}
 use Rattle.pl_plan.specs.declared.fault.CheckFault.{CheckFault}
 use Rattle.armus_base.specs.Pieces.{times}
-use Rattle.pl_plan.specs.Unfolding.{Coming, a_plain, a_fork, a_loop, a_turn, Visit, visit, visits_of, UnfoldingState, Start, Thing, a_task, a_phaser, Outcome, ◌>>=◌, fault_unless, as_task, as_phaser, is_parent, unforked_child, member_of, task, phaser, add_op, act, act_fork, come_to, count_visit, make_visit, make_visits, with_names, with_op, with_member, with_members, with_new_task, with_new_phaser, with_pieces, with_start, unfold_task, unfold_tasks, opening_state, plan_of, not_member, already_member, not_drawn_here, already_forked, too_many_tasks, too_many_phasers, too_many_ops, too_many_visits, leave, leave_below, ended}
+use Rattle.pl_plan.specs.Unfolding.{Coming, a_plain, a_fork, a_loop, a_turn, Visit, visit, visits_of, UnfoldingState, Start, Thing, a_task, a_phaser, Outcome, ◌>>=◌, fault_unless, as_task, as_phaser, is_parent, unforked_child, member_of, task, phaser, add_op, act, act_fork, come_to, count_visit, make_visit, make_visits, with_names, with_op, with_member, with_members, with_new_task, with_new_phaser, with_pieces, with_start, unfold_task, unfold_tasks, opening_state, plan_of, not_member, already_member, not_drawn_here, already_forked, has_cells, too_many_cells, too_many_tasks, too_many_phasers, too_many_ops, too_many_visits, leave, leave_below, ended}
 use Rattle.pl_plan.specs.Laws.{FaultIsOfProgram}
 use Rattle.pl_plan.proofs.Places.{at_set, at_more}
 
@@ -17,7 +17,7 @@ module _ (two : Bool) where
   -- a fault of a program with so many statements
   abbrev IsFaultOf : ℕ → CheckFault → Type 0
   IsFaultOf many f =
-      (1 ≤ f.kind) × (f.kind ≤ 10) × (f.statement ≤ many) × ((1 ≤ f.statement) ⊎ ((two ≡ true) × (f.kind ≡ 9) × (f.statement ≡ 0)))
+      (1 ≤ f.kind) × (f.kind ≤ 11) × (f.statement ≤ many) × ((1 ≤ f.statement) ⊎ ((two ≡ true) × (f.kind ≡ 9) × (f.statement ≡ 0)))
 
   -- the body of a start is a part of the program
   abbrev IsPart : ℕ → Option Start → Type 0
@@ -67,7 +67,7 @@ module _ (two : Bool) where
   -- ---- tests
 
   stays_fault_unless :
-      (many : ℕ) (b : Bool) (kind n : ℕ) (o : Outcome UnfoldingState) → 1 ≤ kind → kind ≤ 10 → 1 ≤ n → n ≤ many → Stays many o →
+      (many : ℕ) (b : Bool) (kind n : ℕ) (o : Outcome UnfoldingState) → 1 ≤ kind → kind ≤ 11 → 1 ≤ n → n ≤ many → Stays many o →
       Stays many (fault_unless b kind n >>= λ _. o)
   stays_fault_unless many true kind n o low high pos le h = h
   stays_fault_unless many false kind n o low high pos le h = (low, high, le, inl pos)
@@ -113,11 +113,14 @@ module _ (two : Bool) where
     stays_act : (x : Plain) → Stays many (act t n x s)
     unfolding act
     stays_act (new_task x) =
-        stays_fault_unless many (nat_lt (length s.plan.parents) max_tasks) too_many_tasks n (Ok (with_new_task t x s)) (omega arith) (omega arith) pos le
-        (λ c. subst (IsPart many) (sym (at_more s.starts None c)) (h c))
+        stays_fault_unless many (nat_lt (length s.plan.parents) max_tasks) too_many_tasks n _ (omega arith) (omega arith) pos le
+        (stays_fault_unless many (has_cells (length s.plan.parents + 1) (length s.plan.makers)) too_many_cells n (Ok (with_new_task t x s)) (omega arith)
+        (omega arith) pos le (λ c. subst (IsPart many) (sym (at_more s.starts None c)) (h c)))
     stays_act (new_phaser x) =
-        stays_fault_unless many (nat_lt (length s.plan.makers) max_phasers) too_many_phasers n (add_op t n (op.Make (phaser (length s.plan.makers))) (with_new_phaser t x s))
-        (omega arith) (omega arith) pos le (stays_op many t n (op.Make (phaser (length s.plan.makers))) (with_new_phaser t x s) pos le h)
+        stays_fault_unless many (nat_lt (length s.plan.makers) max_phasers) too_many_phasers n _ (omega arith) (omega arith) pos le
+        (stays_fault_unless many (has_cells (length s.plan.parents) (length s.plan.makers + 1)) too_many_cells n
+        (add_op t n (op.Make (phaser (length s.plan.makers))) (with_new_phaser t x s)) (omega arith) (omega arith) pos le
+        (stays_op many t n (op.Make (phaser (length s.plan.makers))) (with_new_phaser t x s) pos le h))
     stays_act (reg x y) =
         stays_task many n (s.names x) _ pos le
         (λ c. stays_phaser many n (s.names y) _ pos le

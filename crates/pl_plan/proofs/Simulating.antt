@@ -1,5 +1,5 @@
 -- What the checker does at a step is what the unfolding does there.
-use Rattle.std.proofs.Common.{◌≡◌, ℕ, ◌+◌, ◌<◌, ◌≤◌, Bool, true, false, not, List, [], ◌∷◌, ◌++◌, length, sym, ap, ◌∙◌, subst, refl, arith, Some, None, Ok, Option}
+use Rattle.std.proofs.Common.{◌≡◌, ℕ, ◌+◌, ◌<◌, ◌≤◌, Bool, true, false, not, List, [], ◌∷◌, ◌++◌, length, sym, ap, ap₂, ◌∙◌, subst, refl, arith, Some, None, Ok, Option}
 use Rattle.std.specs.Prelude.{slice_index_or, nat_lt, is_some, sum_by, if◌then◌else◌}
 use Rattle.std.proofs.lemmas.List.{length-append}
 use Rattle.pl_plan.specs.Limits.{max_visits}
@@ -14,7 +14,7 @@ use Rattle.pl_plan.specs.declared.step.Thing.TheVariants as a_thing
 use Rattle.pl_plan.specs.inside.Steps.{IsSpelled, IsList}
 use Rattle.pl_plan.specs.inside.Checker.{Checker, CheckerStart, IsInside, IsChecker, Keeps, slot_of, thing_at, with_task, with_maker, with_membership, started}
 use Rattle.pl_plan.specs.inside.CheckerSteps.{with_binding, thing_of, thing_named, member, checker_add, checker_new_task, checker_new_phaser, checker_unforked_child, checker_reg, checker_member, checker_dereg, checker_adv, checker_await, checker_fork, checker_count, checker_leave}
-use Rattle.pl_plan.specs.Unfolding.{UnfoldingState, Start, Thing, a_task, a_phaser, Outcome, ◌>>=◌, fault_unless, as_task, as_phaser, is_parent, unforked_child, member_of, task, phaser, add_op, act, act_fork, count_visit, with_member, with_members, assigned, not_member, already_member, not_drawn_here, already_forked, too_many_tasks, too_many_phasers, too_many_ops, too_many_visits, leave}
+use Rattle.pl_plan.specs.Unfolding.{UnfoldingState, Start, Thing, a_task, a_phaser, Outcome, ◌>>=◌, fault_unless, as_task, as_phaser, is_parent, unforked_child, member_of, task, phaser, add_op, act, act_fork, count_visit, with_member, with_members, assigned, not_member, already_member, not_drawn_here, already_forked, has_cells, too_many_cells, too_many_tasks, too_many_phasers, too_many_ops, too_many_visits, leave}
 use Rattle.pl_plan.specs.inside.Shows.{ShowsState, MaybeStartShows}
 use Rattle.pl_plan.specs.inside.Simulates.{Simulates, KeepsAll}
 use Rattle.pl_plan.proofs.Keeping.{fits_pushed, fits_marked, fits_started, fits_task, fits_maker, fits_binding, slotted_fits}
@@ -131,18 +131,21 @@ module _ (names : ℕ → List ℕ) (k : Checker) (s : UnfoldingState) (f : IsCh
   unfolding checker_new_task act
   simulates_new_task x here = simulates_fault_unless names (nat_lt (length k.parents) max_tasks) (nat_lt (length s.plan.parents) max_tasks) too_many_tasks n _ _
       (ap (λ xs. nat_lt (length xs) max_tasks) h.parents)
-      (λ e. (
+      (λ e. simulates_fault_unless names (has_cells (length k.parents + 1) (length k.makers)) (has_cells (length s.plan.parents + 1) (length s.plan.makers))
+      too_many_cells n _ _ (ap₂ (λ xs ys. has_cells (length xs + 1) (length ys)) h.parents h.makers) (λ room. (
         _,
         refl,
         shows_binding names x (a_thing.Task (task (length k.parents))) (a_task (length s.plan.parents)) (with_task t k) _
             (ap (λ xs. Some (a_task (length xs))) (sym h.parents)) here
             (omega (arith, f.room, length-append k.parents (Some (task t) ∷ []))) (fits_task k t (lt_true (length k.parents) max_tasks e) f) (shows_task names k s t h),
-      ))
+      )))
 
   pub simulates_new_phaser : (x : ℕ) → x < length k.slots → Simulates names (checker_new_phaser t n x k) (act t n (new_phaser (names x)) s)
   unfolding checker_new_phaser act
   simulates_new_phaser x here = simulates_fault_unless names (nat_lt (length k.makers) max_phasers) (nat_lt (length s.plan.makers) max_phasers) too_many_phasers
       n _ _ (ap (λ xs. nat_lt (length xs) max_phasers) h.makers) (λ e.
+      simulates_fault_unless names (has_cells (length k.parents) (length k.makers + 1)) (has_cells (length s.plan.parents) (length s.plan.makers + 1))
+      too_many_cells n _ _ (ap₂ (λ xs ys. has_cells (length xs) (length ys + 1)) h.parents h.makers) (λ room.
       let lt = lt_true (length k.makers) max_phasers e in
       let p = length k.makers in
       let v = a_thing.Phaser (phaser p) in
@@ -162,7 +165,7 @@ module _ (names : ℕ → List ℕ) (k : Checker) (s : UnfoldingState) (f : IsCh
         names = assigned (names x) (a_phaser (length s.plan.makers)) s.names;
       }))) (ap length (sym h.makers))
       (simulates_add names (with_membership t p true b) _ fk hm t n (op.Make (phaser p))
-      (let same = ap (λ (z : Checker). length z.codes) (slotted_fits x m here (omega (arith, f.room)) fm).same in omega (arith, has_code, same))))
+      (let same = ap (λ (z : Checker). length z.codes) (slotted_fits x m here (omega (arith, f.room)) fm).same in omega (arith, has_code, same)))))
 
   pub simulates_dereg : (x : ℕ) → x < length k.slots → Simulates names (checker_dereg t n x k) (act t n (dereg (names x)) s)
   unfolding checker_dereg act
@@ -295,13 +298,15 @@ module _ (k : Checker) (f : IsChecker k) where
   pub keeps_new_task : (t n x : ℕ) → x < length k.slots → KeepsAll k (checker_new_task t n x k)
   unfolding checker_new_task
   keeps_new_task t n x here = keeps_fault_unless k (nat_lt (length k.parents) max_tasks) too_many_tasks n _ (λ e.
+      keeps_fault_unless k (has_cells (length k.parents + 1) (length k.makers)) too_many_cells n _ (λ room.
       let more = length-append k.parents (Some (task t) ∷ []) in
       keeps_bound (with_task t k) x (a_thing.Task (task (length k.parents))) here (omega (arith, f.room)) (omega arith)
-      (record { fits = fits_task k t (lt_true (length k.parents) max_tasks e) f; more = omega arith; steps = refl; slots = refl }))
+      (record { fits = fits_task k t (lt_true (length k.parents) max_tasks e) f; more = omega arith; steps = refl; slots = refl })))
 
   pub keeps_new_phaser : (t n x : ℕ) → x < length k.slots → KeepsAll k (checker_new_phaser t n x k)
   unfolding checker_new_phaser
   keeps_new_phaser t n x here = keeps_fault_unless k (nat_lt (length k.makers) max_phasers) too_many_phasers n _ (λ e.
+      keeps_fault_unless k (has_cells (length k.parents) (length k.makers + 1)) too_many_cells n _ (λ room.
       let more = length-append k.makers (task t ∷ []) in
       let h = keeps_bound (with_maker t k) x (a_thing.Phaser (phaser (length k.makers))) here (omega (arith, f.room)) (omega arith)
       (record { fits = fits_maker k t (lt_true (length k.makers) max_phasers e) f; more = omega arith; steps = refl; slots = refl }) in
@@ -311,7 +316,7 @@ module _ (k : Checker) (f : IsChecker k) where
         more = h.more;
         steps = h.steps;
         slots = h.slots;
-      }))
+      })))
 
   pub keeps_dereg : (t n x : ℕ) → KeepsAll k (checker_dereg t n x k)
   unfolding checker_dereg

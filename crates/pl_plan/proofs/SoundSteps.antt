@@ -1,13 +1,13 @@
 -- Each visit keeps a state of the unfolding sound.
-use Rattle.std.proofs.Common.{◌≡◌, ◌≢◌, ℕ, zero, suc, ◌+◌, ◌<◌, ◌≤◌, Bool, true, false, not, Some, None, Ok, Err, Option, List, [], ◌∷◌, ◌++◌, length, arith, sym, ◌∙◌, ap, subst, refl, inl, inr, ◌⊎◌}
+use Rattle.std.proofs.Common.{◌≡◌, ◌≢◌, ℕ, zero, suc, ◌+◌, ◌*◌, ◌<◌, ◌≤◌, Bool, true, false, not, Some, None, Ok, Err, Option, List, [], ◌∷◌, ◌++◌, length, arith, sym, ◌∙◌, ap, subst, refl, inl, inr, ◌⊎◌}
 use Rattle.std.specs.Prelude.{slice_get, slice_set, slice_index_or, is_some, nat_lt, sum_by, if◌then◌else◌}
-use Rattle.std.proofs.lemmas.Bool.{cases_lt, cases_eq, false≢true, eqb-true, ltb-true}
+use Rattle.std.proofs.lemmas.Bool.{cases_lt, cases_eq, false≢true, eqb-true, leb-true, ltb-true}
 use Rattle.std.proofs.lemmas.Bool.Decides.{nat_tests}
 use Rattle.std.proofs.lemmas.List.{append-nil, length-append, length-set, get_or-set_same, get_or-set_other, get_or_past}
 use Rattle.std.proofs.lemmas.List.Sums.{sum_by-append}
 use Rattle.std.proofs.lemmas.Option.{slice_get-get_or}
 use Rattle.pl_plan.specs.Limits.{max_visits}
-use Rattle.armus_base.specs.Limits.{max_tasks, max_phasers, max_ops}
+use Rattle.armus_base.specs.Limits.{max_cells, max_tasks, max_phasers, max_ops}
 use Rattle.armus_base.specs.declared.ids.TaskId.{TaskId}
 use Rattle.armus_base.specs.declared.offset.Offset.{Offset}
 use Rattle.armus_base.specs.Offsets.{IsNear}
@@ -22,7 +22,7 @@ use Rattle.armus_base.proofs.Codes.{child_later, child_within, parent_is, phaser
 use Rattle.pl_syntax.specs.Tree.{Plain, new_task, new_phaser, reg, dereg, adv, await, skip, Tree, AreNear, PlainIsNear, count, done, plain, fork, loop}
 use Rattle.pl_plan.proofs.Places.{at_set, at_more}
 use Rattle.armus_base.specs.Pieces.{times}
-use Rattle.pl_plan.specs.Unfolding.{Coming, a_plain, a_fork, a_loop, a_turn, Visit, come_to, make_visit, make_visits, UnfoldingState, Start, Names, Thing, a_task, a_phaser, Outcome, ◌>>=◌, fault_unless, as_task, as_phaser, is_parent, unforked_child, member_of, task, phaser, add_op, act, act_fork, count_visit, with_op, with_member, assigned, not_member, already_member, not_drawn_here, already_forked, too_many_tasks, too_many_phasers, too_many_ops, too_many_visits, visit, visits_of, leave, leave_below, ended, with_members}
+use Rattle.pl_plan.specs.Unfolding.{Coming, a_plain, a_fork, a_loop, a_turn, Visit, come_to, make_visit, make_visits, UnfoldingState, Start, Names, Thing, a_task, a_phaser, Outcome, ◌>>=◌, fault_unless, as_task, as_phaser, is_parent, unforked_child, member_of, task, phaser, add_op, act, act_fork, count_visit, with_op, with_member, assigned, not_member, already_member, not_drawn_here, already_forked, has_cells, too_many_cells, too_many_tasks, too_many_phasers, too_many_ops, too_many_visits, visit, visits_of, leave, leave_below, ended, with_members}
 use Rattle.pl_plan.proofs.Growth.{own_steps, register_steps, last_phases, own_at, own_before, first_new, nobody_registers, stays_registered}
 use Rattle.pl_plan.proofs.Tables.{own_actions, other_actions, one_more_op, op_tables, with_maker, maker_new, makers_at_most, maker_tables, with_task, parent_new, parents_at_most, task_actions, task_tables, slice_get-last}
 use Rattle.pl_plan.proofs.Sound.{IsAt, IsActing, IsNew, HasStarts, HasMembers, is_begun, idle_phases, acts_on, NearStart}
@@ -193,6 +193,7 @@ module _ (t : ℕ) (s : UnfoldingState) (a : IsActing t s) where
         record {
           few_tasks = a.sound.checked.limits.few_tasks;
           few_phasers = a.sound.checked.limits.few_phasers;
+          few_cells = a.sound.checked.limits.few_cells;
           few_ops = omega (arith, one_more_op s.plan t o has_code, ltb-true (sum_by length s.plan.codes) max_ops e);
         }
 
@@ -510,10 +511,10 @@ module _ (t : ℕ) (s : UnfoldingState) (a : IsActing t s) where
       make_tables = op_tables (with_maker t s.plan) t make (maker_tables s.plan t a.sound.at.makers a.sound.checked.tables)
 
   make_acts :
-      (n : ℕ) (names : Names) → nat_lt (length s.plan.makers) max_phasers ≡ true →
+      (n : ℕ) (names : Names) → nat_lt (length s.plan.makers) max_phasers ≡ true → has_cells (length s.plan.parents) (length s.plan.makers + 1) ≡ true →
       OnState (IsActing t) (add_op t n make (state_of (with_maker t s.plan) s.starts (with_member t (length s.plan.makers) true s.members) names s.visits))
   unfolding add_op
-  make_acts n names room =
+  make_acts n names room cells =
       on_fault_unless (IsActing t) (nat_lt (sum_by length s.plan.codes) max_ops) too_many_ops n _
       (λ few. acts_on t s (state_of plan_made s.starts (with_member t (length s.plan.makers) true s.members) names s.visits) a grows_make
       (op_tables (with_maker t s.plan) t make (maker_tables s.plan t a.sound.at.makers a.sound.checked.tables)) make_new
@@ -521,6 +522,9 @@ module _ (t : ℕ) (s : UnfoldingState) (a : IsActing t s) where
         few_tasks = a.sound.checked.limits.few_tasks;
         few_phasers = omega (arith, length-append s.plan.makers (task t ∷ []), ltb-true (length s.plan.makers) max_phasers room);
         few_ops = omega (arith, one_more_op (with_maker t s.plan) t make has_code, ltb-true (sum_by length s.plan.codes) max_ops few);
+        few_cells =
+            subst (λ m. length s.plan.parents * (m + 1) ≤ max_cells) (sym (length-append s.plan.makers (task t ∷ [])))
+            (leb-true (length s.plan.parents * (length s.plan.makers + 1 + 1)) max_cells cells);
       })
       make_at
       (record {
@@ -574,8 +578,9 @@ module _ (t : ℕ) (s : UnfoldingState) (a : IsActing t s) where
       (let h = a.here in omega arith) parent)
       ∙ nobody_registers s.plan a.sound.checked t u (length (actions s.plan t)) l p
 
-  task_acts : (names : Names) → nat_lt (length s.plan.parents) max_tasks ≡ true → IsActing t (state_of (with_task t s.plan) (s.starts ++ None ∷ []) s.members names s.visits)
-  task_acts names room =
+  task_acts : (names : Names) → nat_lt (length s.plan.parents) max_tasks ≡ true → has_cells (length s.plan.parents + 1) (length s.plan.makers) ≡ true →
+      IsActing t (state_of (with_task t s.plan) (s.starts ++ None ∷ []) s.members names s.visits)
+  task_acts names room cells =
       acts_on t s (state_of (with_task t s.plan) (s.starts ++ None ∷ []) s.members names s.visits) a grows_task
       (task_tables s.plan t a.here a.sound.at.parents a.sound.checked.tables)
       (record {
@@ -588,6 +593,9 @@ module _ (t : ℕ) (s : UnfoldingState) (a : IsActing t s) where
         few_tasks = omega (arith, length-append s.plan.parents (Some (task t) ∷ []), ltb-true (length s.plan.parents) max_tasks room);
         few_phasers = a.sound.checked.limits.few_phasers;
         few_ops = omega (arith, sum_by-append length s.plan.codes ([] ∷ []), a.sound.checked.limits.few_ops);
+        few_cells =
+            subst (λ m. m * (length s.plan.makers + 1) ≤ max_cells) (sym (length-append s.plan.parents (Some (task t) ∷ [])))
+            (leb-true ((length s.plan.parents + 1) * (length s.plan.makers + 1)) max_cells cells);
       })
       task_at
       (record {
@@ -610,10 +618,13 @@ module _ (t : ℕ) (s : UnfoldingState) (a : IsActing t s) where
   act_keeps : (n : ℕ) (x : Plain) → PlainIsNear x → OnState (IsActing t) (act t n x s)
   unfolding act
   act_keeps n (new_task x) near =
-      on_fault_unless (IsActing t) (nat_lt (length s.plan.parents) max_tasks) too_many_tasks n _ (λ room. task_acts (assigned x (a_task (length s.plan.parents)) s.names) room)
+      on_fault_unless (IsActing t) (nat_lt (length s.plan.parents) max_tasks) too_many_tasks n _
+      (λ room. on_fault_unless (IsActing t) (has_cells (length s.plan.parents + 1) (length s.plan.makers)) too_many_cells n _
+      (λ cells. task_acts (assigned x (a_task (length s.plan.parents)) s.names) room cells))
   act_keeps n (new_phaser x) near =
       on_fault_unless (IsActing t) (nat_lt (length s.plan.makers) max_phasers) too_many_phasers n _
-      (λ room. make_acts n (assigned x (a_phaser (length s.plan.makers)) s.names) room)
+      (λ room. on_fault_unless (IsActing t) (has_cells (length s.plan.parents) (length s.plan.makers + 1)) too_many_cells n _
+      (λ cells. make_acts n (assigned x (a_phaser (length s.plan.makers)) s.names) room cells))
   act_keeps n (reg x y) near =
       on_task (IsActing t) n (s.names x) _
       (λ c. on_phaser (IsActing t) n (s.names y) _

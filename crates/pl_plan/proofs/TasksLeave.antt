@@ -16,7 +16,7 @@ use Rattle.pl_plan.specs.Unfolding.{◌>>=◌, Coming, Start, UnfoldingState, Vi
 use Rattle.pl_plan.specs.Unfolding.{a_fork, a_loop, a_plain, a_turn, act, act_fork, add_op, already_member, as_phaser, as_task, come_to, count_visit, ended}
 use Rattle.pl_plan.specs.Unfolding.{fault_unless, is_parent, leave, leave_below}
 use Rattle.armus_base.specs.Pieces.{times}
-use Rattle.pl_plan.specs.Unfolding.{make_visit, make_visits, member_of, not_drawn_here, not_member, opening_state, phaser, task, too_many_ops}
+use Rattle.pl_plan.specs.Unfolding.{make_visit, make_visits, member_of, not_drawn_here, not_member, opening_state, has_cells, phaser, task, too_many_cells, too_many_ops}
 use Rattle.pl_plan.specs.Unfolding.{too_many_phasers, too_many_tasks, too_many_visits}
 use Rattle.pl_plan.specs.Unfolding.{unfold_task, unfold_tasks, unforked_child, visit, visits_of, with_member, with_members, with_names, with_new_phaser}
 use Rattle.pl_plan.specs.Unfolding.{with_new_task, with_op, with_start}
@@ -158,13 +158,15 @@ module _ (P : Tree → Type 0) (parts : IsOfParts P) where
   acts_steps : (t n : ℕ) (x : Plain) (s r : UnfoldingState) → Kept s → t < length s.plan.codes → act t n x s ≡ Ok r → Steps t s r
   unfolding act
   acts_steps t n (new_task x) s r k here e =
-      let b = bind_ok (fault_unless (nat_lt (length s.plan.parents) max_tasks) too_many_tasks n) (λ room. Ok (with_new_task t x s)) r e in
-      let is : with_new_task t x s ≡ r = ok_is _ r b.2 in
+      let b = bind_ok (fault_unless (nat_lt (length s.plan.parents) max_tasks) too_many_tasks n) _ r e in
+      let c = bind_ok (fault_unless (has_cells (length s.plan.parents + 1) (length s.plan.makers)) too_many_cells n) (λ cells. Ok (with_new_task t x s)) r b.2 in
+      let is : with_new_task t x s ≡ r = ok_is _ r c.2 in
       let room : nat_lt (length s.plan.parents) max_tasks ≡ true = passed (nat_lt (length s.plan.parents) max_tasks) too_many_tasks n b.0 b.1 in
       subst (λ q. Steps t s q) is (steps_task t x s k here (ltb-true (length s.plan.parents) max_tasks room))
   acts_steps t n (new_phaser x) s r k here e =
       let b = bind_ok (fault_unless (nat_lt (length s.plan.makers) max_phasers) too_many_phasers n) _ r e in
-      steps_op_from t n _ s (with_new_phaser t x s) r (steps_same t s (with_new_phaser t x s) refl refl refl here k) b.2
+      let c = bind_ok (fault_unless (has_cells (length s.plan.parents) (length s.plan.makers + 1)) too_many_cells n) _ r b.2 in
+      steps_op_from t n _ s (with_new_phaser t x s) r (steps_same t s (with_new_phaser t x s) refl refl refl here k) c.2
   acts_steps t n (reg x y) s r k here e =
       let b = bind_ok (as_task n (s.names x)) _ r e in
       let c = bind_ok (as_phaser n (s.names y)) _ r b.2 in

@@ -67,7 +67,7 @@ module _ (two : Bool) where
   record IsKept (s : UnfoldingState) : Type 0 where
     drawn : (c u : ℕ) → is_parent u (slice_index_or s.plan.parents c None) ≡ true → u < c
     many : length s.starts ≡ length s.plan.parents
-    few : length s.plan.parents ≤ 1024
+    few : length s.plan.parents ≤ 4096
 
   -- one more stage of task t keeps that, and the starts of the tasks up to t
   record Keeps (t : ℕ) (s e : UnfoldingState) : Type 0 where
@@ -85,7 +85,7 @@ module _ (two : Bool) where
       kept = record {
         drawn = λ c u is. kept.drawn c u (subst (λ ps. is_parent u (slice_index_or ps c None) ≡ true) parents is);
         many = ap length starts ∙ kept.many ∙ ap length (sym parents);
-        few = subst (λ ps. length ps ≤ 1024) (sym parents) kept.few;
+        few = subst (λ ps. length ps ≤ 4096) (sym parents) kept.few;
       };
       more = omega (arith, ap length parents);
       starts = λ u l. ap (λ ss. slice_index_or ss u None) starts;
@@ -97,8 +97,8 @@ module _ (two : Bool) where
         drawn = drawn_more s.plan.parents t here kept.drawn;
         many = omega (arith, kept.many, length-append s.starts (None ∷ []), length-append s.plan.parents (Some (task t) ∷ []));
         few =
-            (let room : nat_lt (length s.plan.parents) 1024 ≡ true = not_false (nat_lt (length s.plan.parents) 1024) (passes _ (9, omega arith, refl)) in
-            omega (arith, ltb-true (length s.plan.parents) 1024 room, length-append s.plan.parents (Some (task t) ∷ [])));
+            (let room : nat_lt (length s.plan.parents) 4096 ≡ true = not_false (nat_lt (length s.plan.parents) 4096) (passes _ (9, omega arith, refl)) in
+            omega (arith, ltb-true (length s.plan.parents) 4096 room, length-append s.plan.parents (Some (task t) ∷ [])));
       };
       more = omega (arith, length-append s.plan.parents (Some (task t) ∷ []));
       starts = λ u l. at_more s.starts None u;
@@ -356,17 +356,17 @@ module _ (two : Bool) where
           is = ap (λ b. ended b t n o) form ∙ so;
         })
     ends_by true form before s o so kept here is own =
-        let all : before ++ (leaves_below t 256 ++ []) ≡ stages_below two (suc t) s =
-        ap (λ z. before ++ z) (append_nil (leaves_below t 256)) ∙ ap (λ b. before ++ ends_of b t) (sym form) ∙ own in
-        let whole : ended two t n o ≡ leave_below t n 256 s = ap (λ b. ended b t n o) form ∙ ap (λ o. o >>= leave_below t n 256) so in
-        elim (leaves_all 256 before [] s kept here is all) [
+        let all : before ++ (leaves_below t 1024 ++ []) ≡ stages_below two (suc t) s =
+        ap (λ z. before ++ z) (append_nil (leaves_below t 1024)) ∙ ap (λ b. before ++ ends_of b t) (sym form) ∙ own in
+        let whole : ended two t n o ≡ leave_below t n 1024 s = ap (λ b. ended b t n o) form ∙ ap (λ o. o >>= leave_below t n 1024) so in
+        elim (leaves_all 1024 before [] s kept here is all) [
           | inl l ↦ inl (record {
             end = l.end;
             leads = subst (λ b. StagesLead two before (ends_of b t) s l.end) (sym form) l.leads;
             keeps = l.keeps;
             is = whole ∙ l.is;
           })
-          | inr f ↦ inr (fails_so before s (leave_below t n 256 s) (ended two t n o) whole f)
+          | inr f ↦ inr (fails_so before s (leave_below t n 1024 s) (ended two t n o) whole f)
         ]
 
   -- ---- all tasks
@@ -459,9 +459,9 @@ module _ (two : Bool) where
         ends_fail false form start ms e f = fails_so before s (make_visits t ms e) (ended two t (start.first - 1) (make_visits t ms e))
             (ap (λ b. ended b t (start.first - 1) (make_visits t ms e)) form) f
         ends_fail true form start ms e f =
-            fails_so before s (make_visits t ms e >>= leave_below t (start.first - 1) 256) (ended two t (start.first - 1) (make_visits t ms e))
+            fails_so before s (make_visits t ms e >>= leave_below t (start.first - 1) 1024) (ended two t (start.first - 1) (make_visits t ms e))
             (ap (λ b. ended b t (start.first - 1) (make_visits t ms e)) form)
-            (fails_then before s (make_visits t ms e) (leave_below t (start.first - 1) 256) f)
+            (fails_then before s (make_visits t ms e) (leave_below t (start.first - 1) 1024) f)
 
     by_start : (o : Option Start) → slice_index_or s.starts t None ≡ o → Told before (t + 1 + n) s (unfold_task two t o s >>= unfold_tasks two n (t + 1))
     by_start None is =
@@ -552,23 +552,23 @@ module _ (two : Bool) where
 
 -- what the computation found
 abbrev Found : Program → Type 0
-Found program = Told program.two [] 1024 (opening_state program.body) (unfold_tasks program.two 1024 0 (opening_state program.body))
+Found program = Told program.two [] 4096 (opening_state program.body) (unfold_tasks program.two 4096 0 (opening_state program.body))
 
 found : (program : Program) → Found program
-found program = tasks program.two 1024 0 [] (opening_state program.body) (opening_kept program.two program.body) refl
+found program = tasks program.two 4096 0 [] (opening_state program.body) (opening_kept program.two program.body) refl
 
 -- the end of a whole unfolding has all stages
-through_all : (program : Program) (o : Outcome UnfoldingState) → (r : Through program.two [] 1024 (opening_state program.body) o) → all_stages program.two r.end ≡ r.stages
+through_all : (program : Program) (o : Outcome UnfoldingState) → (r : Through program.two [] 4096 (opening_state program.body) o) → all_stages program.two r.end ≡ r.stages
 through_all program o r =
-    let n = 1024 - length r.end.plan.parents in
+    let n = 4096 - length r.end.plan.parents in
     let few = r.kept.few in
     sym (stages_past program.two (length r.end.plan.parents) n r.end (omega (arith, r.kept.many)))
-    ∙ ap (λ m. stages_below program.two m r.end) (let e : length r.end.plan.parents + n ≡ 1024 = omega arith in e)
+    ∙ ap (λ m. stages_below program.two m r.end) (let e : length r.end.plan.parents + n ≡ 4096 = omega arith in e)
     ∙ r.all
 
 unfolds_of :
-    (program : Program) (o : Outcome UnfoldingState) (r : Through program.two [] 1024 (opening_state program.body) o) →
-    unfold_tasks program.two 1024 0 (opening_state program.body) ≡ o → Unfolds program (with_pieces r.end)
+    (program : Program) (o : Outcome UnfoldingState) (r : Through program.two [] 4096 (opening_state program.body) o) →
+    unfold_tasks program.two 4096 0 (opening_state program.body) ≡ o → Unfolds program (with_pieces r.end)
 unfolds_of program o r is = record {
   stages = r.stages;
   end = r.end;
@@ -592,21 +592,21 @@ err_same a b e = cc
 
 module _ (program : Program) where
   from_found :
-      (o : Outcome UnfoldingState) → Told program.two [] 1024 (opening_state program.body) o → unfold_tasks program.two 1024 0 (opening_state program.body) ≡ o →
+      (o : Outcome UnfoldingState) → Told program.two [] 4096 (opening_state program.body) o → unfold_tasks program.two 4096 0 (opening_state program.body) ≡ o →
       (plan : Plan) → planned o ≡ Ok plan → Unfolds program plan
   from_found o (inl r) is plan e = subst (λ p. Unfolds program p) (ok_same (with_pieces r.end) plan (ap planned (sym r.is) ∙ e)) (unfolds_of program o r is)
   from_found o (inr f) is plan e = absurd (let g = ap planned f.is in cc)
 
-  from_fails : (o : Outcome UnfoldingState) → Told program.two [] 1024 (opening_state program.body) o → (f : CheckFault) → planned o ≡ Err f → IsFirstCheckFault program f
+  from_fails : (o : Outcome UnfoldingState) → Told program.two [] 4096 (opening_state program.body) o → (f : CheckFault) → planned o ≡ Err f → IsFirstCheckFault program f
   from_fails o (inl r) g e = absurd (let h = ap planned r.is in cc)
   from_fails o (inr f) g e = subst (λ z. IsFirstCheckFault program z) (err_same f.fault_is g (ap planned (sym f.is) ∙ e)) (fault_of program o f)
 
   -- the plan is that of the end of the unfolding, with its pieces
-  same_plan : (plan : Plan) (u : Unfolds program plan) → unfold_tasks program.two 1024 0 (opening_state program.body) ≡ Ok u.end → with_pieces u.end ≡ plan
+  same_plan : (plan : Plan) (u : Unfolds program plan) → unfold_tasks program.two 4096 0 (opening_state program.body) ≡ Ok u.end → with_pieces u.end ≡ plan
   same_plan plan u is = ap (λ ps. record u.end.plan { pieces = ps }) (one_list_each program u.end is plan.pieces u.pieces) ∙ sym u.plan_is
 
   to_plan :
-      (o : Outcome UnfoldingState) → Told program.two [] 1024 (opening_state program.body) o → unfold_tasks program.two 1024 0 (opening_state program.body) ≡ o →
+      (o : Outcome UnfoldingState) → Told program.two [] 4096 (opening_state program.body) o → unfold_tasks program.two 4096 0 (opening_state program.body) ≡ o →
       (plan : Plan) → Unfolds program plan → planned o ≡ Ok plan
   to_plan o (inl r) is plan u =
       let same = one_way program.two [] r.stages u.stages (opening_state program.body) r.end u.end r.leads u.leads
@@ -620,7 +620,7 @@ module _ (program : Program) where
       subst (λ z. IsNextStage program.two u.stages f.stage z) same.1 (subst (λ b. IsNextStage program.two b f.stage f.there) same.0 f.next) in
       absurd (longer program.two u.stages f.stage next.0 (sym u.all ∙ next.1))
 
-  to_fault : (o : Outcome UnfoldingState) → Told program.two [] 1024 (opening_state program.body) o → (g : CheckFault) → IsFirstCheckFault program g → planned o ≡ Err g
+  to_fault : (o : Outcome UnfoldingState) → Told program.two [] 4096 (opening_state program.body) o → (g : CheckFault) → IsFirstCheckFault program g → planned o ≡ Err g
   to_fault o (inl r) g u =
       let same = one_way program.two [] r.stages u.stages (opening_state program.body) r.end u.there r.leads u.leads
       (all_blocks program.two r.stages r.end (through_all program o r))
@@ -641,13 +641,13 @@ module _ (program : Program) where
 pub plan_is_unfolded : PlanIsUnfolded
 unfolding plan_of
 plan_is_unfolded program plan = (
-  λ e. from_found program (unfold_tasks program.two 1024 0 (opening_state program.body)) (found program) refl plan e,
-  λ u. to_plan program (unfold_tasks program.two 1024 0 (opening_state program.body)) (found program) refl plan u,
+  λ e. from_found program (unfold_tasks program.two 4096 0 (opening_state program.body)) (found program) refl plan e,
+  λ u. to_plan program (unfold_tasks program.two 4096 0 (opening_state program.body)) (found program) refl plan u,
 )
 
 pub fault_is_first : FaultIsFirst
 unfolding plan_of
 fault_is_first program g = (
-  λ e. from_fails program (unfold_tasks program.two 1024 0 (opening_state program.body)) (found program) g e,
-  λ u. to_fault program (unfold_tasks program.two 1024 0 (opening_state program.body)) (found program) g u,
+  λ e. from_fails program (unfold_tasks program.two 4096 0 (opening_state program.body)) (found program) g e,
+  λ u. to_fault program (unfold_tasks program.two 4096 0 (opening_state program.body)) (found program) g u,
 )

@@ -17,7 +17,7 @@ use Rattle.pl_plan.specs.Limits.{max_visits}
 use Rattle.pl_plan.specs.Unfolding.{◌>>=◌, Names, Outcome, Thing, UnfoldingState, Visit}
 use Rattle.pl_plan.specs.Unfolding.{a_fork, a_loop, a_phaser, a_plain, a_task, a_turn, act, act_fork, add_op, already_member, as_phaser, as_task, come_to}
 use Rattle.pl_plan.specs.Unfolding.{count_visit, fault_unless}
-use Rattle.pl_plan.specs.Unfolding.{make_visit, make_visits, member_of, not_member, phaser, task, too_many_ops, too_many_phasers, too_many_tasks}
+use Rattle.pl_plan.specs.Unfolding.{make_visit, make_visits, member_of, not_member, has_cells, phaser, task, too_many_cells, too_many_ops, too_many_phasers, too_many_tasks}
 use Rattle.pl_plan.specs.Unfolding.{too_many_visits, unforked_child}
 use Rattle.pl_plan.specs.Unfolding.{visit, visits_of, with_member, with_members, with_new_phaser, with_new_task, with_op, with_start}
 use Rattle.pl_plan.specs.FoldedOps.{is_steady, is_steady_plain, makes_op}
@@ -88,12 +88,15 @@ by_none t x s r makes a = record { ops = []; adds = a; none = λ h. refl; one = 
 acts : (t n : ℕ) (x : Plain) (s r : UnfoldingState) → t < length s.plan.codes → act t n x s ≡ Ok r → Acts t x s r
 unfolding act
 acts t n (new_task x) s r here e =
-    let b = bind_ok (fault_unless (nat_lt (length s.plan.parents) max_tasks) too_many_tasks n) (λ room. Ok (with_new_task t x s)) r e in
-    let is : with_new_task t x s ≡ r = ok_is _ r b.2 in
+    let b = bind_ok (fault_unless (nat_lt (length s.plan.parents) max_tasks) too_many_tasks n) _ r e in
+    let c = bind_ok (fault_unless (has_cells (length s.plan.parents + 1) (length s.plan.makers)) too_many_cells n) (λ cells. Ok (with_new_task t x s)) r b.2 in
+    let is : with_new_task t x s ≡ r = ok_is _ r c.2 in
     by_none t (new_task x) s r refl (subst (λ q. Adds t s q []) is
     (record { here = simp length-append (omega arith); more = get_or_append_left s.plan.codes ([] ∷ []) [] t here ∙ sym (append-nil (code s t)) }))
 acts t n (new_phaser x) s r here e =
-    let b = bind_ok (fault_unless (nat_lt (length s.plan.makers) max_phasers) too_many_phasers n) _ r e in by_op t n (new_phaser x) _ s (with_new_phaser t x s) r refl refl here b.2
+    let b = bind_ok (fault_unless (nat_lt (length s.plan.makers) max_phasers) too_many_phasers n) _ r e in
+    let c = bind_ok (fault_unless (has_cells (length s.plan.parents) (length s.plan.makers + 1)) too_many_cells n) _ r b.2 in
+    by_op t n (new_phaser x) _ s (with_new_phaser t x s) r refl refl here c.2
 acts t n (reg x y) s r here e =
     let b = bind_ok (as_task n (s.names x)) _ r e in
     let c = bind_ok (as_phaser n (s.names y)) _ r b.2 in

@@ -12,11 +12,11 @@ use Rattle.pl_plan.specs.Stages.{Unfolds, IsFirstCheckFault}
 abbrev pub UnfoldedIsChecked : Type 0
 UnfoldedIsChecked = (program : Program) (plan : Plan) → AreNear program.body → plan_of program ≡ Ok plan → IsCheckedPlan plan
 
--- a fault has one of the ten kinds, and the number of a statement of the program; or in PL 2 it is the want of an op at the end of task 0, with number 0
+-- a fault has one of the eleven kinds, and the number of a statement of the program; or in PL 2 it is the want of an op at the end of task 0, with number 0
 abbrev pub FaultIsOfProgram : Type 0
 FaultIsOfProgram =
     (program : Program) (fault : CheckFault) → plan_of program ≡ Err fault →
-    (1 ≤ fault.kind) × (fault.kind ≤ 10) × (fault.statement ≤ count program.body)
+    (1 ≤ fault.kind) × (fault.kind ≤ 11) × (fault.statement ≤ count program.body)
     × ((1 ≤ fault.statement) ⊎ ((program.two ≡ true) × (fault.kind ≡ 9) × (fault.statement ≡ 0)))
 
 -- the plan of a program is the one to which it unfolds, by the relation

@@ -25,7 +25,7 @@ leaves_below t (suc p) = leaves_below t p ++ leaves t p ∷ []
 -- the last stages of a task: in PL 2 it leaves all phasers
 abbrev pub ends_of : Bool → ℕ → List Stage
 ends_of false t = []
-ends_of true t = leaves_below t 256
+ends_of true t = leaves_below t 1024
 
 -- the stages of task t, by that with which it was forked: it begins, comes to its statements, and ends; one that is not forked has none
 abbrev pub stages_of : Bool → ℕ → Option Start → List Stage
@@ -80,7 +80,7 @@ after_stage (leaves t p) s =
 
 -- an op is left
 abbrev pub has_op_left : UnfoldingState → Bool
-has_op_left s = nat_lt (sum_by length s.plan.codes) 262144
+has_op_left s = nat_lt (sum_by length s.plan.codes) 1048576
 
 -- no test of a stage fails
 abbrev pub StagePasses : Stage → UnfoldingState → Type 0

@@ -1,5 +1,5 @@
 -- The table of tests: which faults a coming to a statement may have, in the order in which they are tried.
-use Rattle.std.specs.Prelude.{◌≡◌, ℕ, Bool, true, false, not, ◌&&◌, ◌||◌, is_none, is_some, List, [], ◌∷◌, ◌++◌, length, slice_index_or, sum_by, Option, Some, None, nat_lt, Contains}
+use Rattle.std.specs.Prelude.{◌≡◌, ℕ, ◌+◌, ◌*◌, Bool, true, false, not, ◌&&◌, ◌||◌, is_none, is_some, List, [], ◌∷◌, ◌++◌, length, slice_index_or, sum_by, Option, Some, None, nat_le, nat_lt, Contains}
 use Rattle.pl_syntax.specs.Tree.{new_task, new_phaser, reg, dereg, adv, await}
 use Rattle.pl_plan.specs.Unfolding.{Coming, a_plain, a_fork, UnfoldingState, Thing, a_task, a_phaser, is_parent}
 
@@ -90,6 +90,12 @@ drew s t c = is_parent t (slice_index_or s.plan.parents c None)
 abbrev pub is_forked : UnfoldingState → ℕ → Bool
 is_forked s c = is_some (slice_index_or s.starts c None)
 
+-- how many cells there are with the new task or phaser: one for each task, and one for each task and phaser
+abbrev pub cells_with : UnfoldingState → Coming → ℕ
+cells_with s (a_plain (new_task x)) = (length s.plan.parents + 1) * (length s.plan.makers + 1)
+cells_with s (a_plain (new_phaser x)) = length s.plan.parents * (length s.plan.makers + 1 + 1)
+cells_with s c = 0
+
 -- ---- the table
 
 -- a row of the table: the kind of the fault, and whether it is one for task t that comes to this in the state before
@@ -100,9 +106,9 @@ pub record Row : Type 0 where
 abbrev row : ℕ → (UnfoldingState → ℕ → Coming → Bool) → Row
 row kind fails = record { kind = kind; fails = fails }
 
--- all, and turns: this visit is number 1,048,577
+-- all, and turns: this visit is number 4,194,305
 abbrev pub no_visit_left : Row
-no_visit_left = row 10 (λ s t c. not (nat_lt s.visits 1048576))
+no_visit_left = row 10 (λ s t c. not (nat_lt s.visits 4194304))
 
 -- fork, reg, dereg, adv, await: the name x is unknown
 abbrev pub first_unknown : Row
@@ -136,23 +142,27 @@ no_member = row 3 (λ s t c. (of_reg c || of_member c) && not (s.members t (phas
 abbrev pub member_already : Row
 member_already = row 4 (λ s t c. of_reg c && s.members (task_number (first_thing s c)) (phaser_wanted s c))
 
--- newTid: 1,024 tasks are there
+-- newTid: 4,096 tasks are there
 abbrev pub no_task_left : Row
-no_task_left = row 7 (λ s t c. of_new_task c && not (nat_lt (length s.plan.parents) 1024))
+no_task_left = row 7 (λ s t c. of_new_task c && not (nat_lt (length s.plan.parents) 4096))
 
--- newPhaser: 256 phasers are there
+-- newPhaser: 1,024 phasers are there
 abbrev pub no_phaser_left : Row
-no_phaser_left = row 8 (λ s t c. of_new_phaser c && not (nat_lt (length s.plan.makers) 256))
+no_phaser_left = row 8 (λ s t c. of_new_phaser c && not (nat_lt (length s.plan.makers) 1024))
 
--- newPhaser, fork, reg, dereg, adv, await: 262,144 ops are there
+-- newTid, newPhaser: the cells, with the new task or phaser counted, are more than 1,048,576
+abbrev pub no_cell_left : Row
+no_cell_left = row 11 (λ s t c. (of_new_task c || of_new_phaser c) && not (nat_le (cells_with s c) 1048576))
+
+-- newPhaser, fork, reg, dereg, adv, await: 1,048,576 ops are there
 abbrev pub no_op_left : Row
-no_op_left = row 9 (λ s t c. (of_new_phaser c || (of_child c || of_member c)) && not (nat_lt (sum_by length s.plan.codes) 262144))
+no_op_left = row 9 (λ s t c. (of_new_phaser c || (of_child c || of_member c)) && not (nat_lt (sum_by length s.plan.codes) 1048576))
 
 -- the rows, in the order in which they are tried
 abbrev pub table : List Row
 table =
     no_visit_left ∷ first_unknown ∷ first_of_other_kind ∷ second_unknown ∷ second_of_other_kind ∷ not_drawn ∷ forked_already ∷ no_member
-    ∷ member_already ∷ no_task_left ∷ no_phaser_left ∷ no_op_left ∷ []
+    ∷ member_already ∷ no_task_left ∷ no_phaser_left ∷ no_cell_left ∷ no_op_left ∷ []
 
 -- no row is at fault
 abbrev pub Passes : UnfoldingState → ℕ → Coming → Type 0

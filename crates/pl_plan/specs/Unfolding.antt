@@ -1,10 +1,10 @@
 -- The unfolding of a program: what each task comes to, what each visit does, and the plan or the first check fault.
 -- Read from the end: `plan_of` unfolds the tasks in order of number, and folds the code of each; a task's visits are those of its body; `act` has the
 -- tests of each statement in their order, and what it does.
-use Rattle.std.specs.Prelude.{ℕ, zero, suc, ◌+◌, ◌-◌, ◌==◌, Bool, true, false, not, ◌&&◌, if◌then◌else◌, is_some, List, [], ◌∷◌, ◌++◌, length, slice_set, slice_index_or, Option, Some, None, Result, Ok, Err, nat_lt, sum_by}
+use Rattle.std.specs.Prelude.{ℕ, zero, suc, ◌+◌, ◌-◌, ◌*◌, ◌==◌, Bool, true, false, not, ◌&&◌, if◌then◌else◌, is_some, List, [], ◌∷◌, ◌++◌, length, slice_set, slice_index_or, Option, Some, None, Result, Ok, Err, nat_le, nat_lt, sum_by}
 use Rattle.std.specs.Str.{bytes_eq}
 use Rattle.pl_plan.specs.Limits.{max_visits}
-use Rattle.armus_base.specs.Limits.{max_tasks, max_phasers, max_ops}
+use Rattle.armus_base.specs.Limits.{max_cells, max_tasks, max_phasers, max_ops}
 use Rattle.armus_base.specs.Finals.{list_below}
 use Rattle.armus_base.specs.Pieces.{times}
 use Rattle.armus_base.specs.declared.piece.Piece.{Piece}
@@ -126,6 +126,10 @@ too_many_ops = 9
 abbrev pub too_many_visits : ℕ
 too_many_visits = 10
 
+-- no cell more
+abbrev pub too_many_cells : ℕ
+too_many_cells = 11
+
 -- ---- tests
 
 -- the fault of this kind at statement n
@@ -172,6 +176,10 @@ add_op t n o s = do
 -- the members, with the answer v for task t and phaser p
 abbrev pub with_member : ℕ → ℕ → Bool → (ℕ → ℕ → Bool) → ℕ → ℕ → Bool
 with_member t p v members u q = if (u == t) && (q == p) then v else members u q
+
+-- there is room for so many tasks and phasers: each task has a cell, and one for each phaser
+abbrev pub has_cells : ℕ → ℕ → Bool
+has_cells tasks phasers = nat_le (tasks * (phasers + 1)) max_cells
 
 -- task t drew the task with this parent
 abbrev pub is_parent : ℕ → Option TaskId → Bool
@@ -223,9 +231,11 @@ with_start c start s = record s { starts = slice_set s.starts c (Some start) }
 unfoldable pub act : ℕ → ℕ → Plain → UnfoldingState → Outcome UnfoldingState
 act t n (new_task x) s = do
   room ← fault_unless (nat_lt (length s.plan.parents) max_tasks) too_many_tasks n
+  cells ← fault_unless (has_cells (length s.plan.parents + 1) (length s.plan.makers)) too_many_cells n
   Ok (with_new_task t x s)
 act t n (new_phaser x) s = do
   room ← fault_unless (nat_lt (length s.plan.makers) max_phasers) too_many_phasers n
+  cells ← fault_unless (has_cells (length s.plan.parents) (length s.plan.makers + 1)) too_many_cells n
   add_op t n (op.Make (phaser (length s.plan.makers))) (with_new_phaser t x s)
 act t n (reg x y) s = do
   c ← as_task n (s.names x)

@@ -1,11 +1,12 @@
--- Small programs with the plans to which they unfold, and with their first faults.
-use Rattle.std.specs.Prelude.{◌≡◌, ℕ, codes, true, false, List, [], ◌∷◌, Ok, Err, Some, None}
+-- Small programs with the plans to which they unfold, and with their first faults; and states at a limit.
+use Rattle.std.specs.Prelude.{◌≡◌, ℕ, ◌+◌, ◌*◌, ◌<◌, codes, true, false, List, [], ◌∷◌, length, Ok, Err, Some, None, sum_by}
 use Rattle.armus_base.specs.declared.offset.Offset.TheVariants.{Ahead, Back, Here}
 use Rattle.pl_syntax.specs.declared.tree.Program.{Program}
 use Rattle.pl_syntax.specs.Tree.{Tree, done, plain, fork, loop, new_task, new_phaser, reg, dereg, adv, await, skip}
 use Rattle.armus_base.specs.declared.op.Op.TheVariants as op
 use Rattle.armus_base.specs.Plans.{Plan, straight_plan}
-use Rattle.pl_plan.specs.Unfolding.{Outcome, plan_of, task, phaser}
+use Rattle.armus_base.specs.declared.op.Op.{Op}
+use Rattle.pl_plan.specs.Unfolding.{Outcome, UnfoldingState, act, add_op, count_visit, fault, phaser, plan_of, task}
 
 -- a program and what its unfolding answers
 pub record Example : Type 0 where
@@ -116,13 +117,48 @@ worked_faults =
     ∷ faults (plain (new_phaser p) (plain (new_task t) (loop 2 (plain (reg t p) done) done))) 4 4
     -- t = newTid(); fork(t) { adv(q); } adv(t);
     ∷ faults (plain (new_task t) (fork t (plain (adv q) done) (plain (adv t) done))) 2 4
-    -- loop 1024 { t = newTid(); }
-    ∷ faults (loop 1024 (plain (new_task t) done) done) 7 2
-    -- loop 257 { p = newPhaser(); }
-    ∷ faults (loop 257 (plain (new_phaser p) done) done) 8 2
     ∷ []
 
 -- each example's program unfolds to its answer
 abbrev pub AreWorked : List Example → Type 0
 AreWorked [] = Unit {0}
 AreWorked (e ∷ examples) = (plan_of e.program ≡ e.answer) × AreWorked examples
+
+-- ---- states at a limit, in which one step more is a fault
+
+-- at the limit of tasks no task is drawn
+abbrev pub NoTaskMore : Type 0
+NoTaskMore = (t n : ℕ) (x : List ℕ) (s : UnfoldingState) → length s.plan.parents ≡ 4096 → act t n (new_task x) s ≡ Err (fault 7 n)
+
+-- at that of phasers none is made
+abbrev pub NoPhaserMore : Type 0
+NoPhaserMore = (t n : ℕ) (x : List ℕ) (s : UnfoldingState) → length s.plan.makers ≡ 1024 → act t n (new_phaser x) s ≡ Err (fault 8 n)
+
+-- where the cells with one task more are too many, none is drawn
+abbrev pub NoTaskWithoutCells : Type 0
+NoTaskWithoutCells =
+    (t n : ℕ) (x : List ℕ) (s : UnfoldingState) → length s.plan.parents < 4096 →
+    1048576 < (length s.plan.parents + 1) * (length s.plan.makers + 1) → act t n (new_task x) s ≡ Err (fault 11 n)
+
+-- where those with one phaser more are, none is made
+abbrev pub NoPhaserWithoutCells : Type 0
+NoPhaserWithoutCells =
+    (t n : ℕ) (x : List ℕ) (s : UnfoldingState) → length s.plan.makers < 1024 →
+    1048576 < length s.plan.parents * (length s.plan.makers + 1 + 1) → act t n (new_phaser x) s ≡ Err (fault 11 n)
+
+-- at the limit of ops there is no op more
+abbrev pub NoOpMore : Type 0
+NoOpMore = (t n : ℕ) (o : Op) (s : UnfoldingState) → sum_by length s.plan.codes ≡ 1048576 → add_op t n o s ≡ Err (fault 9 n)
+
+-- at that of visits no visit
+abbrev pub NoVisitMore : Type 0
+NoVisitMore = (n : ℕ) (s : UnfoldingState) → s.visits ≡ 4194304 → count_visit n s ≡ Err (fault 10 n)
+
+-- the limits of the unfolding
+pub record LimitsHold : Type 0 where
+  pub tasks : NoTaskMore
+  pub phasers : NoPhaserMore
+  pub task_cells : NoTaskWithoutCells
+  pub phaser_cells : NoPhaserWithoutCells
+  pub ops : NoOpMore
+  pub visits : NoVisitMore

@@ -37,10 +37,13 @@ pub const TOO_MANY_OPS: u8 = 9;
 /// The kind of a visit after `MAX_VISITS` visits.
 pub const TOO_MANY_VISITS: u8 = 10;
 
+/// The kind of a `newTid` or `newPhaser` with which the tasks, times one more than the phasers, are above `MAX_CELLS`.
+pub const TOO_MANY_CELLS: u8 = 11;
+
 /// The first fault of a program's unfolding (this project's own).
 #[derive(Clone, Copy, Debug, PartialEq, Eq)]
 pub struct CheckFault {
-    /// Its kind, one of the ten constants above, from 1 to 10.
+    /// Its kind, one of the eleven constants above, from 1 to 11.
     pub kind: u8,
     /// The number of its statement, from 1 in the order in which the statements stand in the text. A turn of a loop has the loop's number,
     /// and the end of a task, where a text of PL 2 has no op left for what it leaves, the number of its fork, or 0 if it is the end of task 0.

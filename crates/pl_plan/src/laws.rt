@@ -3,14 +3,14 @@ ghost use Rattle.pl_plan.specs.Laws.{UnfoldedIsChecked, FaultIsOfProgram, PlanIs
 ghost use Rattle.pl_plan.specs.FoldingLaws.{OneListOfPieces, PiecesOfTexts, PiecesUnfoldToCode, PlanHasPieces, PlansOfTexts};
 ghost use Rattle.pl_plan.specs.FoldingLaws.{LeftPiecesUnfold, OneListLeft, SteadyLeavesFew};
 ghost use Rattle.pl_plan.specs.WorkedPieces.{HaveTheirPieces, folded_loops, other_loops};
-ghost use Rattle.pl_plan.specs.WorkedPrograms.{AreWorked, worked_faults, worked_plans};
+ghost use Rattle.pl_plan.specs.WorkedPrograms.{AreWorked, LimitsHold, worked_faults, worked_plans};
 
 /// The plan to which a program unfolds is a checked plan, where no await looks farther than a parsed one can.
 pub fn unfolded_is_checked()
     ensures { UnfoldedIsChecked }
 {}
 
-/// A check fault has one of the ten kinds, and the number of a statement of the program; or, in PL 2 and with the kind of an op too many, the number 0:
+/// A check fault has one of the eleven kinds, and the number of a statement of the program; or, in PL 2 and with the kind of an op too many, the number 0:
 /// the end of task 0.
 pub fn fault_is_of_program()
     ensures { FaultIsOfProgram }
@@ -24,10 +24,11 @@ pub fn unfolding_by_visits()
     ensures fault { FaultIsFirst }
 {}
 
-/// Small programs with their plans, and with first faults that tell the orders of the tests.
+/// Small programs with their plans, and with first faults that tell the orders of the tests; and one step more in a state at a limit.
 pub fn worked_programs()
     ensures plans { AreWorked worked_plans }
     ensures faults { AreWorked worked_faults }
+    ensures limits { LimitsHold }
 {}
 
 /// The pieces that a task's statements leave of the ops that they made are one list: whole loops, nested no deeper than the statements, that unfold to these

@@ -16,7 +16,7 @@ mod walk;
 
 pub use fault::{
     ALREADY_FORKED, ALREADY_MEMBER, CheckFault, NOT_DRAWN_HERE, NOT_MEMBER, OTHER_KIND, PlanEnd,
-    TOO_MANY_OPS, TOO_MANY_PHASERS, TOO_MANY_TASKS, TOO_MANY_VISITS, UNKNOWN_NAME,
+    TOO_MANY_CELLS, TOO_MANY_OPS, TOO_MANY_PHASERS, TOO_MANY_TASKS, TOO_MANY_VISITS, UNKNOWN_NAME,
 };
 pub use laws::{
     fault_is_of_program, left_pieces, pieces_of_codes, unfolded_is_checked, unfolding_by_visits,

@@ -2,17 +2,17 @@
 
 ghost use Rattle.std.specs.Prelude.{◌≡◌, ◌+◌, ◌*◌, ◌<◌, ◌≤◌, ◌^◌, ◌++◌, ◌∷◌, [], length, slice_index_or, OnOk, IfOk, None, false, is_some};
 ghost use Rattle.pl_plan.specs.inside.Checker.{IsChecker, slot_of};
-ghost use Rattle.pl_plan.specs.Unfolding.{as_task, as_phaser, fault_unless, is_parent};
+ghost use Rattle.pl_plan.specs.Unfolding.{as_task, as_phaser, fault_unless, has_cells, is_parent};
 ghost use Rattle.pl_plan.specs.inside.CheckerSteps.{GivesChecker, viewed, thing_named, member, with_binding, checker_add, checker_new_task, checker_new_phaser, checker_unforked_child, checker_reg, checker_member, checker_dereg, checker_adv, checker_await, checker_leave, checker_fork, checker_count, checker_act, HasNames};
 
 use crate::checker::Checker;
 use crate::fault::{
     ALREADY_FORKED, ALREADY_MEMBER, CheckFault, NOT_DRAWN_HERE, NOT_MEMBER, OTHER_KIND, PlanEnd,
-    TOO_MANY_OPS, TOO_MANY_PHASERS, TOO_MANY_TASKS, TOO_MANY_VISITS, UNKNOWN_NAME,
+    TOO_MANY_CELLS, TOO_MANY_OPS, TOO_MANY_PHASERS, TOO_MANY_TASKS, TOO_MANY_VISITS, UNKNOWN_NAME,
 };
 use crate::limits::MAX_VISITS;
 use crate::step::{NameId, Step, Thing};
-use armus_base::{MAX_OPS, MAX_PHASERS, MAX_TASKS, Offset, Op, PhaserId, TaskId};
+use armus_base::{MAX_CELLS, MAX_OPS, MAX_PHASERS, MAX_TASKS, Offset, Op, PhaserId, TaskId};
 use std::alloc::Global;
 
 // The fault of this kind, unless the test holds.
@@ -119,6 +119,15 @@ fn add(checker: &mut Checker, t: TaskId, n: u32, op: Op) -> Result<(), PlanEnd>
     Ok(())
 }
 
+// Whether there is room for the cells of so many tasks and phasers.
+fn has_cells(tasks: u32, phasers: u32) -> bool
+    requires few { tasks ≤ MAX_TASKS }
+    requires few_phasers { phasers ≤ MAX_PHASERS }
+    ensures { result ≡ has_cells tasks phasers }
+{
+    tasks * (phasers + 1) <= MAX_CELLS
+}
+
 // `x = newTid();`
 #[tactic(auto, unfolding(crate::specs::inside::CheckerSteps::checker_new_task))]
 pub(crate) fn new_task(
@@ -134,6 +143,8 @@ pub(crate) fn new_task(
 {
     let c = checker.tasks();
     fault_unless(c < MAX_TASKS, TOO_MANY_TASKS, n)?;
+    let cells = has_cells(c + 1, checker.phasers());
+    fault_unless(cells, TOO_MANY_CELLS, n)?;
     checker.push_task(alloc, t)?;
     bind(checker, x, Thing::Task(TaskId(c)));
     Ok(())
@@ -149,6 +160,8 @@ pub(crate) fn new_phaser(checker: &mut Checker, t: TaskId, n: u32, x: NameId) ->
 {
     let p = PhaserId(checker.phasers());
     fault_unless(p.0 < MAX_PHASERS, TOO_MANY_PHASERS, n)?;
+    let cells = has_cells(checker.tasks(), p.0 + 1);
+    fault_unless(cells, TOO_MANY_CELLS, n)?;
     checker.push_maker(t)?;
     bind(checker, x, Thing::Phaser(p));
     checker.mark(t, p, true);

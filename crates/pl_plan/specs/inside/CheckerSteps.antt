@@ -13,7 +13,7 @@ use Rattle.pl_plan.specs.declared.fault.PlanEnd.{PlanEnd}
 use Rattle.pl_plan.specs.declared.fault.PlanEnd.TheVariants as ends
 use Rattle.pl_plan.specs.declared.fault.CheckFault.{CheckFault}
 use Rattle.pl_plan.specs.inside.Checker.{Checker, thing_at, slotted, with_thing, with_task, with_maker, pushed, with_membership, started}
-use Rattle.pl_plan.specs.Unfolding.{Outcome, ◌>>=◌, fault_unless, as_task, as_phaser, unforked_child_by, task, phaser, Thing, a_task, a_phaser, not_member, already_member, too_many_tasks, too_many_phasers, too_many_ops, too_many_visits}
+use Rattle.pl_plan.specs.Unfolding.{Outcome, ◌>>=◌, fault_unless, as_task, as_phaser, unforked_child_by, task, phaser, Thing, a_task, a_phaser, not_member, already_member, has_cells, too_many_cells, too_many_tasks, too_many_phasers, too_many_ops, too_many_visits}
 
 -- what a thing is in the unfolding
 abbrev pub thing_of : code.Thing → Option Thing
@@ -43,12 +43,14 @@ checker_add t n o k = do
 unfoldable pub checker_new_task : ℕ → ℕ → ℕ → Checker → Outcome Checker
 checker_new_task t n x k = do
   room ← fault_unless (nat_lt (length k.parents) max_tasks) too_many_tasks n
+  cells ← fault_unless (has_cells (length k.parents + 1) (length k.makers)) too_many_cells n
   Ok (with_binding x (a_thing.Task (task (length k.parents))) (with_task t k))
 
 -- x = newPhaser()
 unfoldable pub checker_new_phaser : ℕ → ℕ → ℕ → Checker → Outcome Checker
 checker_new_phaser t n x k = do
   room ← fault_unless (nat_lt (length k.makers) max_phasers) too_many_phasers n
+  cells ← fault_unless (has_cells (length k.parents) (length k.makers + 1)) too_many_cells n
   checker_add t n (op.Make (phaser (length k.makers))) (with_membership t (length k.makers) true (with_binding x (a_thing.Phaser (phaser (length k.makers))) (with_maker t k)))
 
 -- task t drew task c, and task c is not forked

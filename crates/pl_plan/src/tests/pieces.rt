@@ -226,3 +226,72 @@ fn drops_behind_the_body(rt: HostRuntime) {
         expect_pieces(&rt, rt.alloc(), text, *ops, *t, wanted);
     }
 }
+
+// So often the same part.
+fn put(rt: &impl Abort, text: &mut Vec<u8>, part: &[u8], times: u32) {
+    for _ in 0..times {
+        if text.extend_from_slice(part).is_err() {
+            panic!(rt; "memory is ample");
+        }
+    }
+}
+
+// So many loops of one turn, and in them others of two, round `adv(p);`.
+fn nested(rt: &impl Abort, alloc: Global, once: u32, twice: u32) -> Vec<u8> {
+    let mut text = Vec::new(alloc);
+    put(rt, &mut text, b"p = newPhaser(); ", 1);
+    put(rt, &mut text, b"loop 1 { ", once);
+    put(rt, &mut text, b"loop 2 { ", twice);
+    put(rt, &mut text, b"adv(p); ", 1);
+    put(rt, &mut text, b"} ", twice);
+    put(rt, &mut text, b"} ", once);
+    text
+}
+
+#[test]
+fn loops_sixty_four_deep(rt: HostRuntime) -> Result<(), Fail> {
+    for (once, twice, ops) in [(64, 0, 2), (45, 19, 524_289)] {
+        let text = nested(&rt, rt.alloc(), once, twice);
+        assert!(rt; text.len() <= MAX_PARSED_BYTES);
+        let program = parse(rt.alloc(), &text)?;
+        let plan = plan(rt.alloc(), &program)?;
+        assert_eq!(rt; plan.ops(), ops);
+        assert!(rt; plan.tasks() == 1);
+        let pieces = plan.pieces(TaskId(0));
+        assert_eq!(rt; pieces.len(), 66);
+        for (i, piece) in pieces.iter().enumerate() {
+            let wanted = match i as u32 {
+                0 => makes(0),
+                65 => advances(0),
+                i => repeat(if i <= once { 1 } else { 2 }, 65 - i),
+            };
+            assert!(rt; *piece == wanted, "piece {i}");
+        }
+    }
+    Ok(())
+}
+
+#[test]
+fn a_loop_of_most_ops(rt: HostRuntime) -> Result<(), Fail> {
+    let mut text = Vec::new(rt.alloc());
+    put(&rt, &mut text, b"p = newPhaser(); loop 65535 { ", 1);
+    put(&rt, &mut text, b"adv(p); ", 16);
+    put(&rt, &mut text, b"} ", 1);
+    put(&rt, &mut text, b"adv(p); ", 15);
+    assert!(rt; text.len() <= MAX_PARSED_BYTES);
+    let program = parse(rt.alloc(), &text)?;
+    let plan = plan(rt.alloc(), &program)?;
+    assert_eq!(rt; plan.ops(), 1_048_576);
+    assert!(rt; plan.tasks() == 1);
+    let pieces = plan.pieces(TaskId(0));
+    assert_eq!(rt; pieces.len(), 33);
+    for (i, piece) in pieces.iter().enumerate() {
+        let wanted = match i {
+            0 => makes(0),
+            1 => repeat(65_535, 16),
+            _ => advances(0),
+        };
+        assert!(rt; *piece == wanted, "piece {i}");
+    }
+    Ok(())
+}
