@@ -167,10 +167,7 @@ module _ (plan : Plan) (t : ℕ) (old new : List Task) (cursors : List (List Op)
     where
       last : (xs : List (List Op)) (x : List Op) → slice_get (xs ++ x ∷ []) (length xs) ≡ Some x
       last [] x = refl
-      last (y ∷ xs) x = last_more y xs x (last xs x)
-        where
-          last_more : (y : List Op) (xs : List (List Op)) (x : List Op) → slice_get (xs ++ x ∷ []) (length xs) ≡ Some x → slice_get (y ∷ (xs ++ x ∷ [])) (suc (length xs)) ≡ Some x
-          last_more y xs x h = h
+      last (y ∷ xs) x = last xs x
 
       earlier : (xs : List (List Op)) (x : List Op) (u : ℕ) → u < length xs → slice_get (xs ++ x ∷ []) u ≡ slice_get xs u
       earlier [] x u l = absurd (omega arith)
