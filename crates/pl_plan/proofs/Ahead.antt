@@ -19,7 +19,7 @@ use Rattle.pl_plan.proofs.Turns.{turn, Turned}
 use Rattle.pl_plan.proofs.Onward.{respell, count_keeps, count_fails, plain_on, plain_fails, plain_names, fork_on, fork_fails, fork_bounds, loop_on, loop_fails, loop_bounds, loop_list, on_same, failed_same}
 
 end_follows : (from to t : ℕ) (old kk : Checker) (e : PlanEnd)
-    (fails : (f : CheckFault) → e ≡ ends.Check f → Failed (length old.slots) to t old.steps from old f) (r : Result (Unit {0}) PlanEnd) → r ≡ Err e →
+    (fails : (f : CheckFault) → e ≡ ends.Check f → Failed (length old.bindings.slots) to t old.steps from old f) (r : Result (Unit {0}) PlanEnd) → r ≡ Err e →
     FollowsFrom from to t old r kk
 end_follows from to t old kk ends.NoMemory fails r is names s tree sp h = subst (λ z. Follows z (make_visits t (visits_of (from + 1) tree) s) (ShowsState names kk)) (sym is) tt
 end_follows from to t old kk (ends.Check f) fails r is names s tree sp h = subst
@@ -31,23 +31,24 @@ gave e o k f g is = subst (λ z. GivesChecker {A = Unit {0}} (Err z) o k) is g
 went_err : (e : PlanEnd) (o : Outcome UnfoldingState) (shows : UnfoldingState → Type 0) (f : CheckFault) → Follows {A = Unit {0}} (Err e) o shows → e ≡ ends.Check f → o ≡ Err f
 went_err e o shows f g is = subst (λ z. Follows {A = Unit {0}} (Err z) o shows) is g
 
-module _ (from to t : ℕ) (old : Checker) (at : ℕ) (k : Checker) (old_runs : t < length old.parents) (inv : On (length old.slots) to t old.steps from old at k) (lt : at < to) where
+module _ (from to t : ℕ) (old : Checker) (at : ℕ) (k : Checker) (old_runs : t < length old.parents) (inv : On
+    (length old.bindings.slots) to t old.steps from old at k) (lt : at < to) where
   here_fits : IsChecker k
   here_fits = inv.keeps.fits
 
   run : t < length k.parents
   run = omega (arith, inv.keeps.more)
 
-  list : IsList (length k.slots) k.steps at to
+  list : IsList (length k.bindings.slots) k.steps at to
   list = (inv.list.0, inv.list.1, respell old k inv.list.0 at inv.list.1 to inv.keeps inv.list.2)
 
-  next_on : (at' : ℕ) (k' : Checker) → On (length k.slots) to t k.steps at k at' k' → On (length old.slots) to t old.steps from old at' k'
-  next_on at' k' h = on_through (length old.slots) to t old.steps from old at k at' k' inv
-      (on_same (length k.slots) (length old.slots) to t k.steps old.steps at k at' k' inv.keeps.slots inv.keeps.steps h)
+  next_on : (at' : ℕ) (k' : Checker) → On (length k.bindings.slots) to t k.steps at k at' k' → On (length old.bindings.slots) to t old.steps from old at' k'
+  next_on at' k' h = on_through (length old.bindings.slots) to t old.steps from old at k at' k' inv
+      (on_same (length k.bindings.slots) (length old.bindings.slots) to t k.steps old.steps at k at' k' inv.keeps.slots inv.keeps.steps h)
 
-  failed_from : (f : CheckFault) → Failed (length k.slots) to t k.steps at k f → Failed (length old.slots) to t old.steps from old f
-  failed_from f h = on_failed (length old.slots) to t old.steps from old at k f inv
-      (failed_same (length k.slots) (length old.slots) to t k.steps old.steps at k f inv.keeps.slots inv.keeps.steps h)
+  failed_from : (f : CheckFault) → Failed (length k.bindings.slots) to t k.steps at k f → Failed (length old.bindings.slots) to t old.steps from old f
+  failed_from f h = on_failed (length old.bindings.slots) to t old.steps from old at k f inv
+      (failed_same (length k.bindings.slots) (length old.bindings.slots) to t k.steps old.steps at k f inv.keeps.slots inv.keeps.steps h)
 
   pub ahead_count_fails : (e : PlanEnd) (k1 kk : Checker) → GivesChecker {A = Unit {0}} (Err e) (checker_count (at + 1) k) k1 →
       (r : Result (Unit {0}) PlanEnd) → r ≡ Err e → FollowsFrom from to t old r kk
@@ -66,11 +67,11 @@ module _ (from to t : ℕ) (old : Checker) (at : ℕ) (k : Checker) (old_runs : 
     pub steps1 : k1.steps ≡ old.steps
     steps1 = kept1.steps ∙ inv.keeps.steps
 
-    pub ahead_names : (step : Step) → step ≡ step_at k.steps at → IsPlain step → HasNames (length k1.slots) step
-    ahead_names step is p = subst (HasNames (length k1.slots)) (sym is) (plain_names to t at k here_fits run lt list k1 visited (subst IsPlain is p))
+    pub ahead_names : (step : Step) → step ≡ step_at k.steps at → IsPlain step → HasNames (length k1.bindings.slots) step
+    ahead_names step is p = subst (HasNames (length k1.bindings.slots)) (sym is) (plain_names to t at k here_fits run lt list k1 visited (subst IsPlain is p))
 
     pub ahead_plain : (step : Step) → step ≡ step_at k.steps at → IsPlain step → (k2 : Checker) → checker_act t (at + 1) step k1 ≡ Ok k2 →
-        On (length old.slots) to t old.steps from old (at + 1) k2
+        On (length old.bindings.slots) to t old.steps from old (at + 1) k2
     ahead_plain step is p k2 did = next_on (at + 1) k2
         (plain_on to t at k here_fits run lt list k1 visited (subst IsPlain is p) k2 (ap (λ z. checker_act t (at + 1) z k1) (sym is) ∙ did))
 
@@ -84,10 +85,10 @@ module _ (from to t : ℕ) (old : Checker) (at : ℕ) (k : Checker) (old_runs : 
       whole_k : to ≤ length k.steps
       whole_k = (let e = ap (λ z. length z) inv.keeps.steps in omega arith)
 
-      pub ahead_bounds : (x.0 < length k1.slots) × (at < after) × (after ≤ to)
+      pub ahead_bounds : (x.0 < length k1.bindings.slots) × (at < after) × (after ≤ to)
       ahead_bounds = fork_bounds to t at k here_fits run lt list k1 visited x after (sym is) whole_k
 
-      pub ahead_fork : (k2 : Checker) → checker_fork t (at + 1) x.0 after k1 ≡ Ok k2 → On (length old.slots) to t old.steps from old after k2
+      pub ahead_fork : (k2 : Checker) → checker_fork t (at + 1) x.0 after k1 ≡ Ok k2 → On (length old.bindings.slots) to t old.steps from old after k2
       ahead_fork k2 did = next_on after k2 (fork_on to t at k here_fits run lt list k1 visited x after (sym is) whole_k k2 did)
 
       pub ahead_fork_fails : (e : PlanEnd) (k2 kk : Checker) → GivesChecker {A = Unit {0}} (Err e) (checker_fork t (at + 1) x.0 after k1) k2 →
@@ -100,17 +101,17 @@ module _ (from to t : ℕ) (old : Checker) (at : ℕ) (k : Checker) (old_runs : 
       pub ahead_loop_bounds : (at < after) × (after ≤ to)
       ahead_loop_bounds = loop_bounds to t at k here_fits run lt list k1 visited i after steady (sym is)
 
-      pub ahead_loop_list : IsList (length k1.slots) k1.steps (at + 1) after
+      pub ahead_loop_list : IsList (length k1.bindings.slots) k1.steps (at + 1) after
       ahead_loop_list = loop_list to t at k here_fits run lt list k1 visited i after steady (sym is)
 
       pub ahead_loop : (k2 : Checker) → Keeps k1 k2 →
-          ((names : ℕ → List ℕ) (s : UnfoldingState) (tree : Tree) → IsSpelled (length k1.slots) names k1.steps (at + 1) tree after → ShowsState names k1 s →
+          ((names : ℕ → List ℕ) (s : UnfoldingState) (tree : Tree) → IsSpelled (length k1.bindings.slots) names k1.steps (at + 1) tree after → ShowsState names k1 s →
           (s' : UnfoldingState) × (make_visits t (times i (turn at tree)) s ≡ Ok s') × ShowsState names k2 s') →
-          On (length old.slots) to t old.steps from old after k2
+          On (length old.bindings.slots) to t old.steps from old after k2
       ahead_loop k2 keeps went = next_on after k2 (loop_on to t at k here_fits run lt list k1 visited i after steady (sym is) k2 keeps went)
 
       pub ahead_loop_fails : (e : PlanEnd) (k2 kk : Checker) →
-          ((names : ℕ → List ℕ) (s : UnfoldingState) (tree : Tree) → IsSpelled (length k1.slots) names k1.steps (at + 1) tree after → ShowsState names k1 s →
+          ((names : ℕ → List ℕ) (s : UnfoldingState) (tree : Tree) → IsSpelled (length k1.bindings.slots) names k1.steps (at + 1) tree after → ShowsState names k1 s →
           Follows {A = Unit {0}} (Err e) (make_visits t (times i (turn at tree)) s) (ShowsState names k2)) →
           (r : Result (Unit {0}) PlanEnd) → r ≡ Err e → FollowsFrom from to t old r kk
       ahead_loop_fails e k2 kk went = end_follows from to t old kk e (λ f ef. failed_from f (loop_fails to t at k here_fits run lt list k1 visited i after steady (sym is) f
@@ -120,19 +121,19 @@ module _ (from to t : ℕ) (old : Checker) (at : ℕ) (k : Checker) (old_runs : 
 
 abbrev pub TurnsGo : ℕ → ℕ → ℕ → ℕ → Checker → Result (Unit {0}) PlanEnd → Checker → Type 0
 TurnsGo at after t i old r kk =
-    (names : ℕ → List ℕ) (s : UnfoldingState) (tree : Tree) → IsSpelled (length old.slots) names old.steps (at + 1) tree after → ShowsState names old s →
+    (names : ℕ → List ℕ) (s : UnfoldingState) (tree : Tree) → IsSpelled (length old.bindings.slots) names old.steps (at + 1) tree after → ShowsState names old s →
     Follows r (make_visits t (times i (turn at tree)) s) (ShowsState names kk)
 
 turns_end : (at after t i : ℕ) (old kk : Checker) (e : PlanEnd) →
     ((f : CheckFault) → e ≡ ends.Check f → (names : ℕ → List ℕ) (s : UnfoldingState) (tree : Tree) →
-    IsSpelled (length old.slots) names old.steps (at + 1) tree after → ShowsState names old s → make_visits t (times i (turn at tree)) s ≡ Err f) →
+    IsSpelled (length old.bindings.slots) names old.steps (at + 1) tree after → ShowsState names old s → make_visits t (times i (turn at tree)) s ≡ Err f) →
     (r : Result (Unit {0}) PlanEnd) → r ≡ Err e → TurnsGo at after t i old r kk
 turns_end at after t i old kk ends.NoMemory fails r is names s tree sp h = subst (λ z. Follows z (make_visits t (times i (turn at tree)) s) (ShowsState names kk)) (sym is) tt
 turns_end at after t i old kk (ends.Check f) fails r is names s tree sp h = subst
     (λ z. Follows z (make_visits t (times i (turn at tree)) s) (ShowsState names kk)) (sym is) (fails f refl names s tree sp h)
 
 module _ (at after t i : ℕ) (old : Checker) (j : ℕ) (k : Checker) (inv : Turned at after t i old j k) where
-  pub turns_done : i ≤ j → (names : ℕ → List ℕ) (s : UnfoldingState) (tree : Tree) → IsSpelled (length old.slots) names old.steps (at + 1) tree after →
+  pub turns_done : i ≤ j → (names : ℕ → List ℕ) (s : UnfoldingState) (tree : Tree) → IsSpelled (length old.bindings.slots) names old.steps (at + 1) tree after →
       ShowsState names old s → (s' : UnfoldingState) × (make_visits t (times i (turn at tree)) s ≡ Ok s') × ShowsState names k s'
   unfolding make_visits
   turns_done le names s tree sp h =
@@ -175,7 +176,7 @@ module _ (at after t i : ℕ) (old : Checker) (j : ℕ) (k : Checker) (inv : Tur
           )
 
       pub turn_on : (k2 : Checker) → Keeps k1 k2 →
-          ((names : ℕ → List ℕ) (s : UnfoldingState) (tree : Tree) → IsSpelled (length k1.slots) names k1.steps (at + 1) tree after → ShowsState names k1 s →
+          ((names : ℕ → List ℕ) (s : UnfoldingState) (tree : Tree) → IsSpelled (length k1.bindings.slots) names k1.steps (at + 1) tree after → ShowsState names k1 s →
           (s' : UnfoldingState) × (make_visits t (visits_of (at + 1 + 1) tree) s ≡ Ok s') × ShowsState names k2 s') →
           Turned at after t i old (j + 1) k2
       turn_on k2 keeps went = record {
@@ -188,7 +189,7 @@ module _ (at after t i : ℕ) (old : Checker) (j : ℕ) (k : Checker) (inv : Tur
       }
 
       pub turn_fails : (e : PlanEnd) (k2 kk : Checker) →
-          ((names : ℕ → List ℕ) (s : UnfoldingState) (tree : Tree) → IsSpelled (length k1.slots) names k1.steps (at + 1) tree after → ShowsState names k1 s →
+          ((names : ℕ → List ℕ) (s : UnfoldingState) (tree : Tree) → IsSpelled (length k1.bindings.slots) names k1.steps (at + 1) tree after → ShowsState names k1 s →
           Follows {A = Unit {0}} (Err e) (make_visits t (visits_of (at + 1 + 1) tree) s) (ShowsState names k2)) →
           (r : Result (Unit {0}) PlanEnd) → r ≡ Err e → TurnsGo at after t i old r kk
       turn_fails e k2 kk went = turns_end at after t i old kk e (λ f ef names s tree sp h.
@@ -198,8 +199,8 @@ module _ (at after t i : ℕ) (old : Checker) (j : ℕ) (k : Checker) (inv : Tur
           (went names a.0 tree (respell old k1 names (at + 1) tree after turn_kept sp) a.2) ef in
           sym l.same ∙ a.1 ∙ ap (λ o. o >>= make_visits t (times (i - (j + 1)) (turn at tree))) w)
 
-pub turn_spelled : (a b : Checker) (names : ℕ → List ℕ) (i : ℕ) (tree : Tree) (to : ℕ) → Keeps a b → IsSpelled (length a.slots) names a.steps i tree to →
-    IsSpelled (length b.slots) names b.steps i tree to
+pub turn_spelled : (a b : Checker) (names : ℕ → List ℕ) (i : ℕ) (tree : Tree) (to : ℕ) → Keeps a b → IsSpelled (length a.bindings.slots) names a.steps i tree to →
+    IsSpelled (length b.bindings.slots) names b.steps i tree to
 turn_spelled = respell
 
 pub plain_is : (step : Step) → ((x : NameId) (a : ℕ) → step ≡ a_step.Fork x a → ⊥) → ((i a : ℕ) (steady : Bool) → step ≡ a_step.Loop i a steady → ⊥) → IsPlain step

@@ -17,7 +17,7 @@ use Rattle.pl_plan.proofs.Keeping.{length_padded, padded_same, things_same}
 use Rattle.pl_plan.proofs.Simulating as simulating
 
 keeps_begun_by : (k : Checker) → IsChecker k → (o : Option CheckerStart) →
-    StartFits (length k.parents) (length k.makers) k.slot_count (length k.slots) k.steps o → Keeps k (with_start_things o k)
+    StartFits (length k.parents) (length k.makers) k.bindings.slot_count (length k.bindings.slots) k.steps o → Keeps k (with_start_things o k)
 keeps_begun_by k f None h = simulating.keeps_itself k f
 keeps_begun_by k f (Some s) h = record {
   fits = record {
@@ -25,12 +25,9 @@ keeps_begun_by k f (Some s) h = record {
     codes_many = f.codes_many;
     few = f.few;
     few_makers = f.few_makers;
-    all = f.all;
-    below = f.below;
-    apart = f.apart;
-    room = f.room;
-    long = length_padded s.things h.short;
-    now = things_same (length k.parents) (length k.makers) k.slot_count s.things (padded s.things) (padded_same s.things) h.things;
+    members_many = f.members_many;
+    slots = record { below = f.slots.below; apart = f.slots.apart; room = f.slots.room; long = length_padded s.things h.short };
+    now = things_same (length k.parents) (length k.makers) k.bindings.slot_count s.things (padded s.things) (padded_same s.things) h.things;
     later = f.later;
   };
   more = omega arith;
@@ -44,14 +41,14 @@ keeps_begun k t f = keeps_begun_by k f (slice_index_or k.starts t None) (f.later
 -- the start in hand
 pub record Ready (k : Checker) (first after : ℕ) : Type 0 where
   pub within : after ≤ length k.steps
-  pub list : IsList (length k.slots) k.steps first after
+  pub list : IsList (length k.bindings.slots) k.steps first after
 
 range_is : (first after : ℕ) (s : CheckerStart) → Some (first, after) ≡ range_of (Some s) → (first ≡ s.first) × (after ≡ s.after)
 range_is first after s e =
     let p : ◌≡◌ {A = ℕ × ℕ} (first, after) (s.first, s.after) = cc in
     (ap (λ x. x.0) p, ap (λ x. x.1) p)
 
-ready_by : (k : Checker) (o : Option CheckerStart) (first after : ℕ) → StartFits (length k.parents) (length k.makers) k.slot_count (length k.slots) k.steps o →
+ready_by : (k : Checker) (o : Option CheckerStart) (first after : ℕ) → StartFits (length k.parents) (length k.makers) k.bindings.slot_count (length k.bindings.slots) k.steps o →
     Some (first, after) ≡ range_of o → Ready (with_start_things o k) first after
 ready_by k None first after h e = absurd cc
 ready_by k (Some s) first after h e =
@@ -61,8 +58,8 @@ ready_by k (Some s) first after h e =
       list = (
         h.list.0,
         h.list.1,
-        subst (λ a. IsSpelled (length k.slots) h.list.0 k.steps first h.list.1 a) (sym p.1)
-            (subst (λ a. IsSpelled (length k.slots) h.list.0 k.steps a h.list.1 s.after) (sym p.0) h.list.2),
+        subst (λ a. IsSpelled (length k.bindings.slots) h.list.0 k.steps first h.list.1 a) (sym p.1)
+            (subst (λ a. IsSpelled (length k.bindings.slots) h.list.0 k.steps a h.list.1 s.after) (sym p.0) h.list.2),
       );
     }
 
@@ -184,7 +181,7 @@ module _ (old : Checker) (t n p : ℕ) (k : Checker) (inv : Leaving old t n p k)
 module _ (two : Bool) where
   -- no start
   idle_by : (names : ℕ → List ℕ) (k : Checker) (s : UnfoldingState) (t : ℕ) (o : Option Start) (o' : Option CheckerStart) →
-      MaybeStartShows names k.slots k.steps o o' → None ≡ range_of o' → ShowsState names k s →
+      MaybeStartShows names k.bindings.slots k.steps o o' → None ≡ range_of o' → ShowsState names k s →
       (s' : UnfoldingState) × (unfold_task two t o s ≡ Ok s') × ShowsState names (with_start_things o' k) s'
   idle_by names k s t None None m e h = (s, refl, h)
   idle_by names k s t (Some a) (Some b) m e h = absurd cc
@@ -200,29 +197,26 @@ module _ (two : Bool) where
   -- a start
   abbrev pub Walked : (ℕ → List ℕ) → ℕ → Result (Unit {0}) PlanEnd → Checker → ℕ → ℕ → Checker → Type 0
   Walked names t r k first after new =
-      (s : UnfoldingState) (tree : Tree) → IsSpelled (length k.slots) names k.steps first tree after → ShowsState names k s →
+      (s : UnfoldingState) (tree : Tree) → IsSpelled (length k.bindings.slots) names k.steps first tree after → ShowsState names k s →
       Follows r (ended two t first (make_visits t (visits_of (first + 1) tree) s)) (ShowsState names new)
 
   busy_by : (names : ℕ → List ℕ) (k new : Checker) (s : UnfoldingState) (t first after : ℕ) (r : Result (Unit {0}) PlanEnd) (o : Option Start)
-      (o' : Option CheckerStart) → MaybeStartShows names k.slots k.steps o o' → Some (first, after) ≡ range_of o' → ShowsState names k s →
+      (o' : Option CheckerStart) → MaybeStartShows names k.bindings.slots k.steps o o' → Some (first, after) ≡ range_of o' → ShowsState names k s →
       Walked names t r (with_start_things o' k) first after new → Follows r (unfold_task two t o s) (ShowsState names new)
   busy_by names k new s t first after r None None m e h w = absurd cc
   busy_by names k new s t first after r None (Some b) m e h w = absurd m
   busy_by names k new s t first after r (Some a) None m e h w = absurd m
   busy_by names k new s t first after r (Some a) (Some b) m e h w =
       let p = range_is first after b e in
-      let sp = subst (λ i. IsSpelled (length k.slots) names k.steps i a.body after) (sym p.0)
-      (subst (λ i. IsSpelled (length k.slots) names k.steps b.first a.body i) (sym p.1) m.spelled) in
+      let sp = subst (λ i. IsSpelled (length k.bindings.slots) names k.steps i a.body after) (sym p.0)
+      (subst (λ i. IsSpelled (length k.bindings.slots) names k.steps b.first a.body i) (sym p.1) m.spelled) in
       let h' : ShowsState names (with_start_things (Some b) k) (with_names a.names s) = record {
         distinct = h.distinct;
-        parents = h.parents;
-        makers = h.makers;
-        codes = h.codes;
+        plan = h.plan;
         starts_many = h.starts_many;
         starts = h.starts;
         members = h.members;
-        named = λ x lt. m.named x lt ∙ ap thing_of (sym (padded_same b.things (slice_index_or k.slots x 0)));
-        ops = h.ops;
+        named = λ x lt. m.named x lt ∙ ap thing_of (sym (padded_same b.things (slice_index_or k.bindings.slots x 0)));
         visits = h.visits;
       } in
       let n : first + 1 ≡ a.first = ap (λ i. i + 1) p.0 ∙ sym m.first in

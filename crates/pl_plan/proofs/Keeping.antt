@@ -1,5 +1,5 @@
 -- What the checker keeps goes on to fit.
-use Rattle.std.proofs.Common.{◌≡◌, ℕ, ◌+◌, ◌-◌, ◌*◌, ◌<◌, ◌≤◌, Bool, true, false, List, [], ◌∷◌, ◌++◌, length, replicate, take, inl, inr, sym, ◌∙◌, subst, refl, arith, Some, None, Option}
+use Rattle.std.proofs.Common.{◌≡◌, ℕ, ◌+◌, ◌-◌, ◌<◌, ◌≤◌, Bool, true, false, List, [], ◌∷◌, ◌++◌, length, replicate, take, inl, inr, sym, ◌∙◌, subst, refl, arith, Some, None, Option}
 use Rattle.std.specs.Prelude.{slice_set, slice_index_or, nat_lt, if◌then◌else◌}
 use Rattle.std.proofs.lemmas.Bool.{cases_lt}
 use Rattle.std.proofs.lemmas.List.{length-set, length-append, length-take, length-replicate, get_or-set_same, get_or-set_other, get_or-take, get_or-replicate, get_or_past, get_or_append_left, get_or-append_right}
@@ -9,7 +9,7 @@ use Rattle.pl_plan.specs.declared.step.Step.{Step}
 use Rattle.pl_plan.specs.declared.step.Thing.{Thing}
 use Rattle.pl_plan.specs.declared.step.Thing.TheVariants.{Nothing, Task, Phaser}
 use Rattle.pl_plan.specs.inside.Steps.{IsList}
-use Rattle.pl_plan.specs.inside.Checker.{Checker, CheckerStart, IsThings, IsInside, StartFits, IsChecker, slot_of, slotted, with_thing, with_task, with_maker, pushed, with_membership, started, padded}
+use Rattle.pl_plan.specs.inside.Checker.{Checker, CheckerStart, IsThings, IsInside, StartFits, IsChecker, slot_of, marked, slotted, with_slot, with_thing, with_task, with_maker, pushed, with_membership, started, padded}
 use Rattle.pl_plan.specs.inside.CheckerSteps.{with_binding}
 use Rattle.pl_plan.proofs.Places.{at_set, at_more}
 
@@ -79,11 +79,8 @@ fits_pushed k t o f = record {
   codes_many = length-set k.codes t (slice_index_or k.codes t [] ++ o ∷ []) ∙ f.codes_many;
   few = f.few;
   few_makers = f.few_makers;
-  all = f.all;
-  below = f.below;
-  apart = f.apart;
-  room = f.room;
-  long = f.long;
+  members_many = f.members_many;
+  slots = f.slots;
   now = f.now;
   later = f.later;
 }
@@ -94,32 +91,27 @@ fits_marked k t p v f = record {
   codes_many = f.codes_many;
   few = f.few;
   few_makers = f.few_makers;
-  all = length-set k.members (max_phasers * t + p) v ∙ f.all;
-  below = f.below;
-  apart = f.apart;
-  room = f.room;
-  long = f.long;
+  members_many = length-set k.members t (marked p v (slice_index_or k.members t [])) ∙ f.members_many;
+  slots = f.slots;
   now = f.now;
   later = f.later;
 }
 
-pub fits_started : (k : Checker) (c first after : ℕ) → after ≤ length k.steps → IsList (length k.slots) k.steps first after → IsChecker k → IsChecker (started c first after k)
+pub fits_started : (k : Checker) (c first after : ℕ) → after ≤ length k.steps → IsList (length k.bindings.slots) k.steps first after → IsChecker k → IsChecker
+    (started c first after k)
 fits_started k c first after within list f = record {
   starts_many = length-set k.starts c (Some start) ∙ f.starts_many;
   codes_many = f.codes_many;
   few = f.few;
   few_makers = f.few_makers;
-  all = f.all;
-  below = f.below;
-  apart = f.apart;
-  room = f.room;
-  long = f.long;
+  members_many = f.members_many;
+  slots = f.slots;
   now = f.now;
-  later = λ d. at_set (StartFits (length k.parents) (length k.makers) k.slot_count (length k.slots) k.steps) k.starts c (Some start) None d
+  later = λ d. at_set (StartFits (length k.parents) (length k.makers) k.bindings.slot_count (length k.bindings.slots) k.steps) k.starts c (Some start) None d
       (λ e lt. record {
-        things = things_same (length k.parents) (length k.makers) k.slot_count k.things (take k.slot_count k.things)
-            (taken_same k.things k.slot_count f.now.free) f.now;
-        short = omega (arith, length-take k.slot_count k.things, f.long);
+        things = things_same (length k.parents) (length k.makers) k.bindings.slot_count k.bindings.things (take k.bindings.slot_count k.bindings.things)
+            (taken_same k.bindings.things k.bindings.slot_count f.now.free) f.now;
+        short = omega (arith, length-take k.bindings.slot_count k.bindings.things, f.slots.long);
         within = within;
         list = list;
       })
@@ -127,7 +119,7 @@ fits_started k c first after within list f = record {
 }
   where
     start : CheckerStart
-    start = record { first = first; after = after; things = take k.slot_count k.things }
+    start = record { first = first; after = after; things = take k.bindings.slot_count k.bindings.things }
 
 pub fits_task : (k : Checker) (t : ℕ) → length k.parents < max_tasks → IsChecker k → IsChecker (with_task t k)
 fits_task k t lt f = record {
@@ -135,16 +127,18 @@ fits_task k t lt f = record {
   codes_many = omega (arith, length-append k.codes ([] ∷ []), length-append k.parents (Some (record { 0 = t }) ∷ []), f.codes_many);
   few = omega (arith, length-append k.parents (Some (record { 0 = t }) ∷ []));
   few_makers = f.few_makers;
-  all = f.all;
-  below = f.below;
-  apart = f.apart;
-  room = omega (arith, length-append k.parents (Some (record { 0 = t }) ∷ []), f.room);
-  long = f.long;
-  now = things_more (length k.parents) (length k.makers) k.slot_count (length (with_task t k).parents) (length k.makers) k.slot_count k.things
+  members_many = omega (arith, length-append k.members ([] ∷ []), length-append k.parents (Some (record { 0 = t }) ∷ []), f.members_many);
+  slots = record {
+    below = f.slots.below;
+    apart = f.slots.apart;
+    room = omega (arith, length-append k.parents (Some (record { 0 = t }) ∷ []), f.slots.room);
+    long = f.slots.long;
+  };
+  now = things_more (length k.parents) (length k.makers) k.bindings.slot_count (length (with_task t k).parents) (length k.makers) k.bindings.slot_count k.bindings.things
       (omega (arith, length-append k.parents (Some (record { 0 = t }) ∷ []))) (omega arith) (omega arith) f.now;
-  later = λ c. subst (StartFits (length (with_task t k).parents) (length k.makers) k.slot_count (length k.slots) k.steps) (sym (at_more k.starts None c))
-      (start_more (length k.parents) (length k.makers) k.slot_count (length (with_task t k).parents) (length k.makers) k.slot_count (length k.slots)
-      (length k.slots) k.steps (slice_index_or k.starts c None) (omega (arith, length-append k.parents (Some (record { 0 = t }) ∷ []))) (omega arith)
+  later = λ c. subst (StartFits (length (with_task t k).parents) (length k.makers) k.bindings.slot_count (length k.bindings.slots) k.steps) (sym (at_more k.starts None c))
+      (start_more (length k.parents) (length k.makers) k.bindings.slot_count (length (with_task t k).parents) (length k.makers) k.bindings.slot_count (length k.bindings.slots)
+      (length k.bindings.slots) k.steps (slice_index_or k.starts c None) (omega (arith, length-append k.parents (Some (record { 0 = t }) ∷ []))) (omega arith)
       (omega arith) refl (f.later c));
 }
 
@@ -154,64 +148,71 @@ fits_maker k t lt f = record {
   codes_many = f.codes_many;
   few = f.few;
   few_makers = omega (arith, length-append k.makers (record { 0 = t } ∷ []));
-  all = f.all;
-  below = f.below;
-  apart = f.apart;
-  room = omega (arith, length-append k.makers (record { 0 = t } ∷ []), f.room);
-  long = f.long;
-  now = things_more (length k.parents) (length k.makers) k.slot_count (length k.parents) (length (with_maker t k).makers) k.slot_count k.things (omega arith)
+  members_many = f.members_many;
+  slots = record {
+    below = f.slots.below;
+    apart = f.slots.apart;
+    room = omega (arith, length-append k.makers (record { 0 = t } ∷ []), f.slots.room);
+    long = f.slots.long;
+  };
+  now = things_more (length k.parents) (length k.makers) k.bindings.slot_count (length k.parents) (length
+      (with_maker t k).makers) k.bindings.slot_count k.bindings.things (omega arith)
       (omega (arith, length-append k.makers (record { 0 = t } ∷ []))) (omega arith) f.now;
-  later = λ c. start_more (length k.parents) (length k.makers) k.slot_count (length k.parents) (length (with_maker t k).makers) k.slot_count (length k.slots)
-      (length k.slots) k.steps (slice_index_or k.starts c None) (omega arith) (omega (arith, length-append k.makers (record { 0 = t } ∷ []))) (omega arith) refl
+  later = λ c. start_more (length k.parents) (length k.makers) k.bindings.slot_count (length k.parents) (length (with_maker t k).makers) k.bindings.slot_count
+      (length k.bindings.slots)
+      (length k.bindings.slots) k.steps (slice_index_or k.starts c None) (omega arith) (omega (arith, length-append k.makers (record { 0 = t } ∷ []))) (omega arith) refl
       (f.later c);
 }
 
 -- ---- a slot
 
 abbrev new_slot : ℕ → Checker → Checker
-new_slot x k = record k { slots = slice_set k.slots x k.slot_count; slot_count = k.slot_count + 1 }
+new_slot x k = record k { bindings = with_slot x k.bindings }
 
-fits_new_slot : (k : Checker) (x : ℕ) → k.slot_count < length k.parents + length k.makers → IsChecker k → IsChecker (new_slot x k)
+fits_new_slot : (k : Checker) (x : ℕ) → k.bindings.slot_count < length k.parents + length k.makers → IsChecker k → IsChecker (new_slot x k)
 fits_new_slot k x room f = record {
   starts_many = f.starts_many;
   codes_many = f.codes_many;
   few = f.few;
   few_makers = f.few_makers;
-  all = f.all;
-  below = λ y. at_set (λ v. v < k.slot_count + 1) k.slots x k.slot_count 0 y (λ e lt. omega arith) (λ ne. omega (arith, f.below y)) (λ le. omega arith);
-  apart = λ y z. at_set (λ v. v ≡ slice_index_or (slice_set k.slots x k.slot_count) z 0 → 0 < v → y ≡ z) k.slots x k.slot_count 0 y
-      (λ e lt. at_set (λ w. k.slot_count ≡ w → 0 < k.slot_count → y ≡ z) k.slots x k.slot_count 0 z (λ e' _ _ _. omega arith)
-      (λ ne q _. absurd (omega (arith, f.below z))) (λ le q r. absurd (omega arith)))
-      (λ ne. at_set (λ w. slot_of k y ≡ w → 0 < slot_of k y → y ≡ z) k.slots x k.slot_count 0 z (λ e' _ q _. absurd (omega (arith, f.below y)))
-      (λ ne' q r. f.apart y z q r) (λ le q r. absurd (omega arith)))
-      (λ le q r. absurd (omega arith));
-  room = omega arith;
-  long = f.long;
-  now = things_more (length k.parents) (length k.makers) k.slot_count (length k.parents) (length k.makers) (k.slot_count + 1) k.things (omega arith)
+  members_many = f.members_many;
+  slots = record {
+    below = λ y. at_set (λ v. v < k.bindings.slot_count + 1) k.bindings.slots x k.bindings.slot_count 0 y (λ e lt. omega arith) (λ ne. omega
+        (arith, f.slots.below y)) (λ le. omega arith);
+    apart = λ y z. at_set (λ v. v ≡ slice_index_or (slice_set k.bindings.slots x k.bindings.slot_count) z 0 → 0 < v → y ≡ z) k.bindings.slots x k.bindings.slot_count 0 y
+        (λ e lt. at_set (λ w. k.bindings.slot_count ≡ w → 0 < k.bindings.slot_count → y ≡ z) k.bindings.slots x k.bindings.slot_count 0 z (λ e' _ _ _. omega arith)
+        (λ ne q _. absurd (omega (arith, f.slots.below z))) (λ le q r. absurd (omega arith)))
+        (λ ne. at_set (λ w. slot_of k y ≡ w → 0 < slot_of k y → y ≡ z) k.bindings.slots x k.bindings.slot_count 0 z (λ e' _ q _. absurd (omega (arith, f.slots.below y)))
+        (λ ne' q r. f.slots.apart y z q r) (λ le q r. absurd (omega arith)))
+        (λ le q r. absurd (omega arith));
+    room = omega arith;
+    long = f.slots.long;
+  };
+  now = things_more (length k.parents) (length k.makers) k.bindings.slot_count (length k.parents) (length k.makers) (k.bindings.slot_count + 1) k.bindings.things (omega arith)
       (omega arith) (omega arith) f.now;
-  later = λ c. start_more (length k.parents) (length k.makers) k.slot_count (length k.parents) (length k.makers) (k.slot_count + 1) (length k.slots)
-      (length (slice_set k.slots x k.slot_count)) k.steps (slice_index_or k.starts c None) (omega arith) (omega arith) (omega arith)
-      (sym (length-set k.slots x k.slot_count)) (f.later c);
+  later = λ c. start_more (length k.parents) (length k.makers) k.bindings.slot_count (length k.parents) (length k.makers) (k.bindings.slot_count + 1) (length k.bindings.slots)
+      (length (slice_set k.bindings.slots x k.bindings.slot_count)) k.steps (slice_index_or k.starts c None) (omega arith) (omega arith) (omega arith)
+      (sym (length-set k.bindings.slots x k.bindings.slot_count)) (f.later c);
 }
 
 -- what a slotted name has
 pub record Slotted (x : ℕ) (k new : Checker) : Type 0 where
   pub fits : IsChecker new
   pub has : 0 < slot_of new x
-  pub slots : length new.slots ≡ length k.slots
-  pub same : new ≡ record k { slots = new.slots; slot_count = new.slot_count }
+  pub slots : length new.bindings.slots ≡ length k.bindings.slots
+  pub same : new ≡ record k { bindings = record k.bindings { slots = new.bindings.slots; slot_count = new.bindings.slot_count } }
 
-slotted_by : (x : ℕ) (k : Checker) → x < length k.slots → k.slot_count < length k.parents + length k.makers → IsChecker k →
+slotted_by : (x : ℕ) (k : Checker) → x < length k.bindings.slots → k.bindings.slot_count < length k.parents + length k.makers → IsChecker k →
     (b : Bool) → nat_lt 0 (slot_of k x) ≡ b → Slotted x k (if b then k else new_slot x k)
 slotted_by x k here room f true e = record { fits = f; has = grind (arith, e); slots = refl; same = refl }
 slotted_by x k here room f false e = record {
   fits = fits_new_slot k x room f;
-  has = subst (λ v. 0 < v) (sym (get_or-set_same k.slots x k.slot_count 0 here)) (omega (arith, f.below x));
-  slots = length-set k.slots x k.slot_count;
+  has = subst (λ v. 0 < v) (sym (get_or-set_same k.bindings.slots x k.bindings.slot_count 0 here)) (omega (arith, f.slots.below x));
+  slots = length-set k.bindings.slots x k.bindings.slot_count;
   same = refl;
 }
 
-pub slotted_fits : (x : ℕ) (k : Checker) → x < length k.slots → k.slot_count < length k.parents + length k.makers → IsChecker k → Slotted x k (slotted x k)
+pub slotted_fits : (x : ℕ) (k : Checker) → x < length k.bindings.slots → k.bindings.slot_count < length k.parents + length k.makers → IsChecker k → Slotted x k (slotted x k)
 slotted_fits x k here room f = slotted_by x k here room f (nat_lt 0 (slot_of k x)) refl
 
 -- ---- a thing
@@ -222,20 +223,22 @@ fits_thing x v k has inside f = record {
   codes_many = f.codes_many;
   few = f.few;
   few_makers = f.few_makers;
-  all = f.all;
-  below = f.below;
-  apart = f.apart;
-  room = f.room;
-  long = length-set k.things (slot_of k x) v ∙ f.long;
+  members_many = f.members_many;
+  slots = record {
+    below = f.slots.below;
+    apart = f.slots.apart;
+    room = f.slots.room;
+    long = length-set k.bindings.things (slot_of k x) v ∙ f.slots.long;
+  };
   now = record {
-    none = get_or-set_other k.things (slot_of k x) 0 v Nothing (λ e. absurd (omega arith)) ∙ f.now.none;
-    free = λ n le. get_or-set_other k.things (slot_of k x) n v Nothing (λ e. absurd (omega (arith, f.below x))) ∙ f.now.free n le;
-    inside = λ n. at_set (IsInside (length k.parents) (length k.makers)) k.things (slot_of k x) v Nothing n (λ e lt. inside) (λ ne. f.now.inside n) (λ le. tt);
+    none = get_or-set_other k.bindings.things (slot_of k x) 0 v Nothing (λ e. absurd (omega arith)) ∙ f.now.none;
+    free = λ n le. get_or-set_other k.bindings.things (slot_of k x) n v Nothing (λ e. absurd (omega (arith, f.slots.below x))) ∙ f.now.free n le;
+    inside = λ n. at_set (IsInside (length k.parents) (length k.makers)) k.bindings.things (slot_of k x) v Nothing n (λ e lt. inside) (λ ne. f.now.inside n) (λ le. tt);
   };
   later = f.later;
 }
 
-pub fits_binding : (x : ℕ) (v : Thing) (k : Checker) → x < length k.slots → k.slot_count < length k.parents + length k.makers →
+pub fits_binding : (x : ℕ) (v : Thing) (k : Checker) → x < length k.bindings.slots → k.bindings.slot_count < length k.parents + length k.makers →
     IsInside (length k.parents) (length k.makers) v → IsChecker k → IsChecker (with_binding x v k)
 fits_binding x v k here room inside f =
     let s = slotted_fits x k here room f in

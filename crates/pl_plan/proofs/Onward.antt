@@ -17,22 +17,23 @@ use Rattle.pl_plan.proofs.Spelled.{spelled_count}
 use Rattle.pl_plan.proofs.Walks.{make_visits-append, simulates_acting, keeps_acting, names_of, On, Failed, simulates_ok, simulates_err, keeps_ok, IsPlain, plain_at, fork_at, loop_at, ForkAt, LoopAt}
 use Rattle.pl_plan.proofs.Turns.{turn}
 
-pub respell : (a b : Checker) (names : ℕ → List ℕ) (i : ℕ) (tree : Tree) (to : ℕ) → Keeps a b → IsSpelled (length a.slots) names a.steps i tree to →
-    IsSpelled (length b.slots) names b.steps i tree to
-respell a b names i tree to h e = subst (λ z. IsSpelled (length b.slots) names z i tree to) (sym h.steps) (subst (λ z. IsSpelled z names a.steps i tree to) (sym h.slots) e)
+pub respell : (a b : Checker) (names : ℕ → List ℕ) (i : ℕ) (tree : Tree) (to : ℕ) → Keeps a b → IsSpelled (length a.bindings.slots) names a.steps i tree to →
+    IsSpelled (length b.bindings.slots) names b.steps i tree to
+respell a b names i tree to h e = subst (λ z. IsSpelled (length b.bindings.slots) names z i tree to) (sym h.steps) (subst
+    (λ z. IsSpelled z names a.steps i tree to) (sym h.slots) e)
 
 pub count_keeps : (k k1 : Checker) (n : ℕ) → IsChecker k → checker_count n k ≡ Ok k1 → Keeps k k1
 count_keeps k k1 n f e = keeps_ok k (checker_count n k) k1 e (simulating.keeps_count k f n)
 
-module _ (to t at : ℕ) (k : Checker) (f : IsChecker k) (run : t < length k.parents) (lt : at < to) (list : IsList (length k.slots) k.steps at to) where
+module _ (to t at : ℕ) (k : Checker) (f : IsChecker k) (run : t < length k.parents) (lt : at < to) (list : IsList (length k.bindings.slots) k.steps at to) where
   -- no further visit
-  pub count_fails : (err : CheckFault) → checker_count (at + 1) k ≡ Err err → Failed (length k.slots) to t k.steps at k err
+  pub count_fails : (err : CheckFault) → checker_count (at + 1) k ≡ Err err → Failed (length k.bindings.slots) to t k.steps at k err
   unfolding make_visits
   count_fails err e names s tree sp h =
       let c = simulates_err names (checker_count (at + 1) k) err (count_visit (at + 1) s) e (simulating.simulates_count names k s f h (at + 1)) in
       first tree sp c
     where
-      first : (u : Tree) → IsSpelled (length k.slots) names k.steps at u to → count_visit (at + 1) s ≡ Err err → make_visits t (visits_of (at + 1) u) s ≡ Err err
+      first : (u : Tree) → IsSpelled (length k.bindings.slots) names k.steps at u to → count_visit (at + 1) s ≡ Err err → make_visits t (visits_of (at + 1) u) s ≡ Err err
       first done sp' c = absurd (omega arith)
       first (plain q rest) sp' c = ap (λ o. (o >>= act t (at + 1) q) >>= make_visits t (visits_of (at + 1 + 1) rest)) c
       first (fork x body rest) sp' c = ap (λ o. (o >>= act_fork t (at + 1) x body) >>= make_visits t (visits_of (at + 1 + 1 + count body) rest)) c
@@ -51,26 +52,26 @@ module _ (to t at : ℕ) (k : Checker) (f : IsChecker k) (run : t < length k.par
 
     -- ---- statements without a body
     module _ (is : IsPlain (step_at k.steps at)) where
-      pub plain_names : HasNames (length k1.slots) (step_at k.steps at)
+      pub plain_names : HasNames (length k1.bindings.slots) (step_at k.steps at)
       plain_names =
-          let p = plain_at (length k.slots) list.0 k.steps at to list.1 list.2 lt is in
-          subst (λ z. HasNames z (step_at k.steps at)) (sym k1_keeps.slots) (names_of (length k.slots) list.0 (step_at k.steps at) p.statement p.here)
+          let p = plain_at (length k.bindings.slots) list.0 k.steps at to list.1 list.2 lt is in
+          subst (λ z. HasNames z (step_at k.steps at)) (sym k1_keeps.slots) (names_of (length k.bindings.slots) list.0 (step_at k.steps at) p.statement p.here)
 
-      act_sim : (names : ℕ → List ℕ) (s1 : UnfoldingState) (c : Plain) → ShowsState names k1 s1 → IsStep (length k.slots) names (step_at k.steps at) c →
+      act_sim : (names : ℕ → List ℕ) (s1 : UnfoldingState) (c : Plain) → ShowsState names k1 s1 → IsStep (length k.bindings.slots) names (step_at k.steps at) c →
           Simulates names (checker_act t (at + 1) (step_at k.steps at) k1) (act t (at + 1) c s1)
       act_sim names s1 c h1 i = simulates_acting names k1 s1 k1_keeps.fits h1 t (at + 1) runs (step_at k.steps at) c
           (subst (λ z. IsStep z names (step_at k.steps at) c) (sym k1_keeps.slots) i)
 
-      pub plain_on : (k2 : Checker) → checker_act t (at + 1) (step_at k.steps at) k1 ≡ Ok k2 → On (length k.slots) to t k.steps at k (at + 1) k2
+      pub plain_on : (k2 : Checker) → checker_act t (at + 1) (step_at k.steps at) k1 ≡ Ok k2 → On (length k.bindings.slots) to t k.steps at k (at + 1) k2
       unfolding make_visits
       plain_on k2 did = record {
         within = omega arith;
         forward = omega arith;
-        list = (let p = plain_at (length k.slots) list.0 k.steps at to list.1 list.2 lt is in (list.0, p.rest, p.rest_there));
+        list = (let p = plain_at (length k.bindings.slots) list.0 k.steps at to list.1 list.2 lt is in (list.0, p.rest, p.rest_there));
         keeps = simulating.keeps_through k k1 k2 k1_keeps
             (keeps_ok k1 (checker_act t (at + 1) (step_at k.steps at) k1) k2 did (keeps_acting k1 k1_keeps.fits t (at + 1) (step_at k.steps at) plain_names));
         all = λ names s tree sp h.
-            let p = plain_at (length k.slots) names k.steps at to tree sp lt is in
+            let p = plain_at (length k.bindings.slots) names k.steps at to tree sp lt is in
             let m = visited_state names s h in
             let a = simulates_ok names (checker_act t (at + 1) (step_at k.steps at) k1) k2 (act t (at + 1) p.statement m.0) did (act_sim names m.0 p.statement m.2 p.here) in
             let rest = make_visits t (visits_of (at + 1 + 1) p.rest) in
@@ -83,10 +84,10 @@ module _ (to t at : ℕ) (k : Checker) (f : IsChecker k) (run : t < length k.par
             };
       }
 
-      pub plain_fails : (err : CheckFault) → checker_act t (at + 1) (step_at k.steps at) k1 ≡ Err err → Failed (length k.slots) to t k.steps at k err
+      pub plain_fails : (err : CheckFault) → checker_act t (at + 1) (step_at k.steps at) k1 ≡ Err err → Failed (length k.bindings.slots) to t k.steps at k err
       unfolding make_visits
       plain_fails err did names s tree sp h =
-          let p = plain_at (length k.slots) names k.steps at to tree sp lt is in
+          let p = plain_at (length k.bindings.slots) names k.steps at to tree sp lt is in
           let m = visited_state names s h in
           let a = simulates_err names (checker_act t (at + 1) (step_at k.steps at) k1) err (act t (at + 1) p.statement m.0) did (act_sim names m.0 p.statement m.2 p.here) in
           let rest = make_visits t (visits_of (at + 1 + 1) p.rest) in
@@ -94,19 +95,19 @@ module _ (to t at : ℕ) (k : Checker) (f : IsChecker k) (run : t < length k.par
 
     -- ---- forks
     module _ (x : NameId) (after : ℕ) (is : step_at k.steps at ≡ a_step.Fork x after) (whole : to ≤ length k.steps) where
-      some : ForkAt (length k.slots) list.0 k.steps at to x after list.1
-      some = fork_at (length k.slots) list.0 k.steps at to x after list.1 list.2 lt is
+      some : ForkAt (length k.bindings.slots) list.0 k.steps at to x after list.1
+      some = fork_at (length k.bindings.slots) list.0 k.steps at to x after list.1 list.2 lt is
 
-      pub fork_bounds : (x.0 < length k1.slots) × (at < after) × (after ≤ to)
+      pub fork_bounds : (x.0 < length k1.bindings.slots) × (at < after) × (after ≤ to)
       fork_bounds =
-          let b = spelled_count (length k.slots) list.0 k.steps (at + 1) some.body after some.body_there in
-          let r = spelled_count (length k.slots) list.0 k.steps after some.rest to some.rest_there in
+          let b = spelled_count (length k.bindings.slots) list.0 k.steps (at + 1) some.body after some.body_there in
+          let r = spelled_count (length k.bindings.slots) list.0 k.steps after some.rest to some.rest_there in
           let q = some.named.0 in
           let e = k1_keeps.slots in
           (omega arith, omega arith, omega arith)
 
       fork_sim : (names : ℕ → List ℕ) (s1 : UnfoldingState) (tree : Tree) → ShowsState names k1 s1 →
-          (p : ForkAt (length k.slots) names k.steps at to x after tree) →
+          (p : ForkAt (length k.bindings.slots) names k.steps at to x after tree) →
           Simulates names (checker_fork t (at + 1) x.0 after k1) (act_fork t (at + 1) p.name p.body s1)
       fork_sim names s1 tree h1 p = subst (λ y. Simulates names (checker_fork t (at + 1) x.0 after k1) (act_fork t (at + 1) y p.body s1)) p.named.1
           (simulating.simulates_fork names k1 s1 k1_keeps.fits h1 t (at + 1) runs x.0 after p.body (omega (arith, p.named.0, k1_keeps.slots))
@@ -116,14 +117,14 @@ module _ (to t at : ℕ) (k : Checker) (f : IsChecker k) (run : t < length k.par
       fork_keeps = simulating.keeps_fork k1 k1_keeps.fits t (at + 1) x.0 after (let e = ap (λ z. length z) k1_keeps.steps in
           omega (arith, fork_bounds.2)) (list.0, some.body, respell k k1 list.0 (at + 1) some.body after k1_keeps some.body_there)
 
-      fork_visits : (names : ℕ → List ℕ) (tree : Tree) (p : ForkAt (length k.slots) names k.steps at to x after tree) →
+      fork_visits : (names : ℕ → List ℕ) (tree : Tree) (p : ForkAt (length k.bindings.slots) names k.steps at to x after tree) →
           visits_of (at + 1) tree ≡ visit (at + 1) (a_fork p.name p.body) ∷ visits_of (after + 1) p.rest
       fork_visits names tree p =
-          let b = spelled_count (length k.slots) names k.steps (at + 1) p.body after p.body_there in
+          let b = spelled_count (length k.bindings.slots) names k.steps (at + 1) p.body after p.body_there in
           ap (visits_of (at + 1)) p.tree_is ∙ ap (λ m. visit (at + 1) (a_fork p.name p.body) ∷ visits_of m p.rest)
           (let e : at + 1 + 1 + count p.body ≡ after + 1 = omega arith in e)
 
-      pub fork_on : (k2 : Checker) → checker_fork t (at + 1) x.0 after k1 ≡ Ok k2 → On (length k.slots) to t k.steps at k after k2
+      pub fork_on : (k2 : Checker) → checker_fork t (at + 1) x.0 after k1 ≡ Ok k2 → On (length k.bindings.slots) to t k.steps at k after k2
       unfolding make_visits
       fork_on k2 did = record {
         within = fork_bounds.2;
@@ -131,7 +132,7 @@ module _ (to t at : ℕ) (k : Checker) (f : IsChecker k) (run : t < length k.par
         list = (list.0, some.rest, some.rest_there);
         keeps = simulating.keeps_through k k1 k2 k1_keeps (keeps_ok k1 (checker_fork t (at + 1) x.0 after k1) k2 did fork_keeps);
         all = λ names s tree sp h.
-            let p = fork_at (length k.slots) names k.steps at to x after tree sp lt is in
+            let p = fork_at (length k.bindings.slots) names k.steps at to x after tree sp lt is in
             let m = visited_state names s h in
             let a = simulates_ok names (checker_fork t (at + 1) x.0 after k1) k2 (act_fork t (at + 1) p.name p.body m.0) did (fork_sim names m.0 tree m.2 p) in
             let rest = make_visits t (visits_of (after + 1) p.rest) in
@@ -144,10 +145,10 @@ module _ (to t at : ℕ) (k : Checker) (f : IsChecker k) (run : t < length k.par
             };
       }
 
-      pub fork_fails : (err : CheckFault) → checker_fork t (at + 1) x.0 after k1 ≡ Err err → Failed (length k.slots) to t k.steps at k err
+      pub fork_fails : (err : CheckFault) → checker_fork t (at + 1) x.0 after k1 ≡ Err err → Failed (length k.bindings.slots) to t k.steps at k err
       unfolding make_visits
       fork_fails err did names s tree sp h =
-          let p = fork_at (length k.slots) names k.steps at to x after tree sp lt is in
+          let p = fork_at (length k.bindings.slots) names k.steps at to x after tree sp lt is in
           let m = visited_state names s h in
           let a = simulates_err names (checker_fork t (at + 1) x.0 after k1) err (act_fork t (at + 1) p.name p.body m.0) did (fork_sim names m.0 tree m.2 p) in
           let rest = make_visits t (visits_of (after + 1) p.rest) in
@@ -155,24 +156,24 @@ module _ (to t at : ℕ) (k : Checker) (f : IsChecker k) (run : t < length k.par
 
     -- ---- loops
     module _ (i after : ℕ) (steady : Bool) (is : step_at k.steps at ≡ a_step.Loop i after steady) where
-      one : LoopAt (length k.slots) list.0 k.steps at to i after steady list.1
-      one = loop_at (length k.slots) list.0 k.steps at to i after steady list.1 list.2 lt is
+      one : LoopAt (length k.bindings.slots) list.0 k.steps at to i after steady list.1
+      one = loop_at (length k.bindings.slots) list.0 k.steps at to i after steady list.1 list.2 lt is
 
       pub loop_bounds : (at < after) × (after ≤ to)
       loop_bounds =
-          let b = spelled_count (length k.slots) list.0 k.steps (at + 1) one.body after one.body_there in
-          let r = spelled_count (length k.slots) list.0 k.steps after one.rest to one.rest_there in
+          let b = spelled_count (length k.bindings.slots) list.0 k.steps (at + 1) one.body after one.body_there in
+          let r = spelled_count (length k.bindings.slots) list.0 k.steps after one.rest to one.rest_there in
           (omega arith, omega arith)
 
-      pub loop_list : IsList (length k1.slots) k1.steps (at + 1) after
+      pub loop_list : IsList (length k1.bindings.slots) k1.steps (at + 1) after
       loop_list = (list.0, one.body, respell k k1 list.0 (at + 1) one.body after k1_keeps one.body_there)
 
-      loop_all : (names : ℕ → List ℕ) (tree : Tree) (s : UnfoldingState) (p : LoopAt (length k.slots) names k.steps at to i after steady tree) →
+      loop_all : (names : ℕ → List ℕ) (tree : Tree) (s : UnfoldingState) (p : LoopAt (length k.bindings.slots) names k.steps at to i after steady tree) →
           (s1 : UnfoldingState) → count_visit (at + 1) s ≡ Ok s1 →
           make_visits t (visits_of (at + 1) tree) s ≡ (make_visits t (times i (turn at p.body)) s1 >>= make_visits t (visits_of (after + 1) p.rest))
       unfolding make_visits
       loop_all names tree s p s1 e =
-          let b = spelled_count (length k.slots) names k.steps (at + 1) p.body after p.body_there in
+          let b = spelled_count (length k.bindings.slots) names k.steps (at + 1) p.body after p.body_there in
           let n : at + 1 + 1 + count p.body ≡ after + 1 = omega arith in
           let ms = times i (turn at p.body) in
           ap (λ u. make_visits t (visits_of (at + 1) u) s) p.tree_is
@@ -181,16 +182,16 @@ module _ (to t at : ℕ) (k : Checker) (f : IsChecker k) (run : t < length k.par
           ∙ ap (λ m. make_visits t ms s1 >>= make_visits t (visits_of m p.rest)) n
 
       pub loop_on : (k2 : Checker) → Keeps k1 k2 →
-          ((names : ℕ → List ℕ) (s : UnfoldingState) (tree : Tree) → IsSpelled (length k1.slots) names k1.steps (at + 1) tree after → ShowsState names k1 s →
+          ((names : ℕ → List ℕ) (s : UnfoldingState) (tree : Tree) → IsSpelled (length k1.bindings.slots) names k1.steps (at + 1) tree after → ShowsState names k1 s →
           (s' : UnfoldingState) × (make_visits t (times i (turn at tree)) s ≡ Ok s') × ShowsState names k2 s') →
-          On (length k.slots) to t k.steps at k after k2
+          On (length k.bindings.slots) to t k.steps at k after k2
       loop_on k2 keeps went = record {
         within = loop_bounds.1;
         forward = omega (arith, loop_bounds.0);
         list = (list.0, one.rest, one.rest_there);
         keeps = simulating.keeps_through k k1 k2 k1_keeps keeps;
         all = λ names s tree sp h.
-            let p = loop_at (length k.slots) names k.steps at to i after steady tree sp lt is in
+            let p = loop_at (length k.bindings.slots) names k.steps at to i after steady tree sp lt is in
             let m = visited_state names s h in
             let w = went names m.0 p.body (respell k k1 names (at + 1) p.body after k1_keeps p.body_there) m.2 in
             let rest = make_visits t (visits_of (after + 1) p.rest) in
@@ -198,11 +199,11 @@ module _ (to t at : ℕ) (k : Checker) (f : IsChecker k) (run : t < length k.par
       }
 
       pub loop_fails : (err : CheckFault) →
-          ((names : ℕ → List ℕ) (s : UnfoldingState) (tree : Tree) → IsSpelled (length k1.slots) names k1.steps (at + 1) tree after → ShowsState names k1 s →
+          ((names : ℕ → List ℕ) (s : UnfoldingState) (tree : Tree) → IsSpelled (length k1.bindings.slots) names k1.steps (at + 1) tree after → ShowsState names k1 s →
           make_visits t (times i (turn at tree)) s ≡ Err err) →
-          Failed (length k.slots) to t k.steps at k err
+          Failed (length k.bindings.slots) to t k.steps at k err
       loop_fails err went names s tree sp h =
-          let p = loop_at (length k.slots) names k.steps at to i after steady tree sp lt is in
+          let p = loop_at (length k.bindings.slots) names k.steps at to i after steady tree sp lt is in
           let m = visited_state names s h in
           let w = went names m.0 p.body (respell k k1 names (at + 1) p.body after k1_keeps p.body_there) m.2 in
           let rest = make_visits t (visits_of (after + 1) p.rest) in

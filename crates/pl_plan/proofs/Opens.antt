@@ -1,9 +1,9 @@
 -- Before the first visit, and the plan at the end.
-use Rattle.std.proofs.Common.{◌≡◌, ℕ, ◌+◌, ◌*◌, ◌<◌, ◌≤◌, ◌⊎◌, inl, inr, List, [], ◌∷◌, length, Ok, Err, Result, Some, None, arith, sym, ◌∙◌, ap, subst, refl}
+use Rattle.std.proofs.Common.{◌≡◌, ℕ, zero, suc, ◌<◌, ◌≤◌, ◌⊎◌, false, inl, inr, List, [], ◌∷◌, length, Ok, Err, Result, Some, None, arith, sym, ◌∙◌, ap, subst, refl}
 use Rattle.std.specs.Prelude.{slice_index_or}
 use Rattle.std.proofs.lemmas.Bool.{cases_lt}
 use Rattle.std.proofs.lemmas.List.{get_or_past}
-use Rattle.armus_base.specs.Limits.{max_tasks, max_phasers}
+use Rattle.armus_base.specs.Limits.{max_tasks}
 use Rattle.armus_base.specs.Plans.{Plan}
 use Rattle.pl_syntax.specs.declared.tree.Program.{Program}
 use Rattle.pl_syntax.specs.Tree.{Tree}
@@ -11,7 +11,7 @@ use Rattle.pl_plan.specs.declared.step.Step.{Step}
 use Rattle.pl_plan.specs.declared.fault.PlanEnd.{PlanEnd}
 use Rattle.pl_plan.specs.declared.fault.PlanEnd.TheVariants as ends
 use Rattle.pl_plan.specs.inside.Steps.{IsSpelled}
-use Rattle.pl_plan.specs.inside.Checker.{Checker, CheckerStart}
+use Rattle.pl_plan.specs.inside.Checker.{Checker, CheckerStart, Counts}
 use Rattle.pl_plan.specs.inside.CheckerSteps.{thing_of}
 use Rattle.pl_plan.specs.inside.Opening.{IsOpeningChecker}
 use Rattle.pl_plan.specs.Planning.{GivesOutcome}
@@ -21,37 +21,40 @@ use Rattle.pl_plan.specs.inside.Shows.{ShowsState, MaybeStartShows, StartShows, 
 pub opens : (spelling : ℕ → List ℕ) (steps : List Step) (names : ℕ) (k : Checker) (tree : Tree) → IsOpeningChecker steps names k → IsNumbering names spelling →
     IsSpelled names spelling steps 0 tree (length steps) → ShowsState spelling k (opening_state tree)
 opens spelling steps names k tree o distinct spelled = record {
-  distinct = subst (λ n. IsNumbering n spelling) (sym o.slots_many) distinct;
-  parents = sym o.parents;
-  makers = sym o.makers;
-  codes = sym o.codes;
+  distinct = subst (λ n. IsNumbering n spelling) (sym o.bindings.slots_many) distinct;
+  plan = record { parents = sym o.parents; makers = sym o.makers; codes = sym o.codes; ops = ap (λ (c : Counts). c.ops) (sym o.counts) };
   starts_many = ap (λ xs. length xs) (sym o.starts);
-  starts = λ c. subst (λ xs. MaybeStartShows spelling k.slots k.steps (slice_index_or (Some start ∷ []) c None) (slice_index_or xs c None)) (sym o.starts) (by c (cases_lt c 1));
-  members = λ v q lt. sym (o.members (max_phasers * v + q));
-  named = λ x lt. ap thing_of (sym (o.things (slice_index_or k.slots x 0)));
-  ops = sym o.ops;
-  visits = sym o.visits;
+  starts = λ c. subst (λ xs. MaybeStartShows spelling k.bindings.slots k.steps (slice_index_or (Some start ∷ []) c None) (slice_index_or xs c None)) (sym o.starts)
+      (by c (cases_lt c 1));
+  members = λ v q. nobody v q ∙ ap (λ rows. slice_index_or (slice_index_or rows v []) q false) (sym o.members);
+  named = λ x lt. ap thing_of (sym (o.bindings.things (slice_index_or k.bindings.slots x 0)));
+  visits = ap (λ (c : Counts). c.visits) (sym o.counts);
 }
   where
+    nobody : (v q : ℕ) → false ≡ slice_index_or (slice_index_or ([] ∷ []) v []) q false
+    nobody zero q = refl
+    nobody (suc v) q = refl
+
     start : Start
     start = record { body = tree; first = 1; names = λ _. None }
 
     kept : CheckerStart
-    kept = record { first = 0; after = length steps; things = k.things }
+    kept = record { first = 0; after = length steps; things = k.bindings.things }
 
-    first_ : StartShows spelling k.slots k.steps start kept
+    first_ : StartShows spelling k.bindings.slots k.steps start kept
     first_ = record {
       first = refl;
-      spelled = subst (λ n. IsSpelled n spelling k.steps 0 tree (length steps)) (sym o.slots_many)
+      spelled = subst (λ n. IsSpelled n spelling k.steps 0 tree (length steps)) (sym o.bindings.slots_many)
           (subst (λ z. IsSpelled names spelling z 0 tree (length steps)) (sym o.steps_are) spelled);
-      named = λ x lt. ap thing_of (sym (o.things (slice_index_or k.slots x 0)));
+      named = λ x lt. ap thing_of (sym (o.bindings.things (slice_index_or k.bindings.slots x 0)));
     }
 
-    by : (c : ℕ) → (c < 1) ⊎ (1 ≤ c) → MaybeStartShows spelling k.slots k.steps (slice_index_or (Some start ∷ []) c None) (slice_index_or (Some kept ∷ []) c None)
-    by c (inl lt) = (let e : c ≡ 0 = omega arith in subst (λ i. MaybeStartShows spelling k.slots k.steps (slice_index_or (Some start ∷ []) i None) (slice_index_or (Some kept ∷ []) i None)) (sym e) first_)
-    by c (inr le) = subst (λ a. MaybeStartShows spelling k.slots k.steps a (slice_index_or (Some kept ∷ []) c None))
+    by : (c : ℕ) → (c < 1) ⊎ (1 ≤ c) → MaybeStartShows spelling k.bindings.slots k.steps (slice_index_or (Some start ∷ []) c None) (slice_index_or (Some kept ∷ []) c None)
+    by c (inl lt) = (let e : c ≡ 0 = omega arith in subst (λ i. MaybeStartShows spelling k.bindings.slots k.steps (slice_index_or (Some start ∷ []) i None)
+        (slice_index_or (Some kept ∷ []) i None)) (sym e) first_)
+    by c (inr le) = subst (λ a. MaybeStartShows spelling k.bindings.slots k.steps a (slice_index_or (Some kept ∷ []) c None))
         (sym (get_or_past (Some start ∷ []) c None le))
-        (subst (MaybeStartShows spelling k.slots k.steps None) (sym (get_or_past (Some kept ∷ []) c None le)) tt)
+        (subst (MaybeStartShows spelling k.bindings.slots k.steps None) (sym (get_or_past (Some kept ∷ []) c None le)) tt)
 
 pub plan_found : (program : Program) (s : UnfoldingState) (plan : Plan) → unfold_tasks program.two max_tasks 0 (opening_state program.body) ≡ Ok s →
     plan ≡ with_pieces s → plan_of program ≡ Ok plan

@@ -70,13 +70,13 @@ module _ (names : ℕ → List ℕ) (k : Checker) (program : Program) (fits : Is
     (w : (s : UnfoldingState) × (unfold_tasks program.two max_tasks 0 (opening_state program.body) ≡ Ok s) × ShowsState names k s)
     (steps : List Step) (kept : List (Option CheckerStart)) (codes : List (List Op)) (steps_are : steps ≡ k.steps) (kept_are : kept ≡ k.starts) (codes_are : codes ≡ k.codes) where
   same_codes : w.0.plan.codes ≡ codes
-  same_codes = w.2.codes ∙ sym codes_are
+  same_codes = w.2.plan.codes ∙ sym codes_are
 
-  starts_spell : SpellStarts (length k.slots) names steps w.0.starts kept
+  starts_spell : SpellStarts (length k.bindings.slots) names steps w.0.starts kept
   starts_spell t =
-      subst (λ zs. SpellsStart (length k.slots) names zs (slice_index_or w.0.starts t None) (slice_index_or kept t None)) (sym steps_are)
-      (subst (λ zs. SpellsStart (length k.slots) names k.steps (slice_index_or w.0.starts t None) (slice_index_or zs t None)) (sym kept_are)
-      (spells_start names k.slots k.steps (slice_index_or w.0.starts t None) (slice_index_or k.starts t None) (w.2.starts t)))
+      subst (λ zs. SpellsStart (length k.bindings.slots) names zs (slice_index_or w.0.starts t None) (slice_index_or kept t None)) (sym steps_are)
+      (subst (λ zs. SpellsStart (length k.bindings.slots) names k.steps (slice_index_or w.0.starts t None) (slice_index_or zs t None)) (sym kept_are)
+      (spells_start names k.bindings.slots k.steps (slice_index_or w.0.starts t None) (slice_index_or k.starts t None) (w.2.starts t)))
 
   -- its codes can be folded
   pub last_can_fold : CanBeFolded steps kept codes
@@ -85,10 +85,10 @@ module _ (names : ℕ → List ℕ) (k : Checker) (program : Program) (fits : Is
     trees = λ t.
         subst (λ zs. HasTreeAt zs (slice_index_or kept t None)) (sym steps_are)
         (subst (λ zs. HasTreeAt k.steps (slice_index_or zs t None)) (sym kept_are)
-        (tree_at (length k.parents) (length k.makers) k.slot_count (length k.slots) k.steps (slice_index_or k.starts t None) (fits.later t)));
+        (tree_at (length k.parents) (length k.makers) k.bindings.slot_count (length k.bindings.slots) k.steps (slice_index_or k.starts t None) (fits.later t)));
     few = λ t. subst (λ zs. length (slice_index_or zs t []) ≤ max_ops) same_codes ((end_fits program w.0 w.1).1 t);
     folded = (
-      length k.slots,
+      length k.bindings.slots,
       names,
       w.0.starts,
       starts_spell,
@@ -101,8 +101,8 @@ module _ (names : ℕ → List ℕ) (k : Checker) (program : Program) (fits : Is
       AreFolded steps kept codes lists → folded_plan parents makers lists ≡ with_pieces w.0
   last_plan parents makers lists p m folded =
       let pieces : lists ≡ (with_pieces w.0).pieces =
-      subst (λ zs. lists ≡ list_below (pieces_by w.0.starts zs) (length zs)) (sym same_codes) (folded (length k.slots) names w.0.starts starts_spell) in
-      ap (λ z. folded_plan z makers lists) (p ∙ sym w.2.parents) ∙ ap (λ z. folded_plan w.0.plan.parents z lists) (m ∙ sym w.2.makers)
+      subst (λ zs. lists ≡ list_below (pieces_by w.0.starts zs) (length zs)) (sym same_codes) (folded (length k.bindings.slots) names w.0.starts starts_spell) in
+      ap (λ z. folded_plan z makers lists) (p ∙ sym w.2.plan.parents) ∙ ap (λ z. folded_plan w.0.plan.parents z lists) (m ∙ sym w.2.plan.makers)
       ∙ ap (λ z. folded_plan w.0.plan.parents w.0.plan.makers z) pieces ∙ sym (end_plan program w.0 w.1 deep few)
 
   pub last_found : (plan : Plan) → plan ≡ with_pieces w.0 → plan_of program ≡ Ok plan

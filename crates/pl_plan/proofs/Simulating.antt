@@ -65,8 +65,8 @@ module _ (names : ℕ → List ℕ) (k : Checker) (s : UnfoldingState) (f : IsCh
       Simulates names (checker_unforked_child t n c k >>= λ _. g) (unforked_child t n c s >>= λ _. g')
   simulates_unforked_child t n c g g' r = by (is_parent t (slice_index_or k.parents c None)) (is_some (slice_index_or k.starts c None))
       (is_parent t (slice_index_or s.plan.parents c None)) (is_some (slice_index_or s.starts c None))
-      (ap (λ xs. is_parent t (slice_index_or xs c None)) h.parents)
-      (same_start names k.slots k.steps (slice_index_or s.starts c None) (slice_index_or k.starts c None) (h.starts c))
+      (ap (λ xs. is_parent t (slice_index_or xs c None)) h.plan.parents)
+      (same_start names k.bindings.slots k.steps (slice_index_or s.starts c None) (slice_index_or k.starts c None) (h.starts c))
     where
       by : (a b a' b' : Bool) → a' ≡ a → b' ≡ b → Simulates names ((fault_unless a not_drawn_here n >>= λ _. fault_unless (not b) already_forked n) >>= λ _. g)
           ((fault_unless a' not_drawn_here n >>= λ _. fault_unless (not b') already_forked n) >>= λ _. g')
@@ -78,29 +78,27 @@ module _ (names : ℕ → List ℕ) (k : Checker) (s : UnfoldingState) (f : IsCh
 
   pub simulates_add : (t n : ℕ) (o : Op) → t < length k.codes → Simulates names (checker_add t n o k) (add_op t n o s)
   unfolding checker_add add_op
-  simulates_add t n o here = simulates_fault_unless names (nat_lt k.ops max_ops) (nat_lt (sum_by length s.plan.codes) max_ops) too_many_ops n _ _
-      (ap (λ v. nat_lt v max_ops) h.ops) (λ e. (_, refl, shows_pushed names k s t o here h))
+  simulates_add t n o here = simulates_fault_unless names (nat_lt k.counts.ops max_ops) (nat_lt (sum_by length s.plan.codes) max_ops) too_many_ops n _ _
+      (ap (λ v. nat_lt v max_ops) h.plan.ops) (λ e. (_, refl, shows_pushed names k s t o here h))
 
   pub simulates_count : (n : ℕ) → Simulates names (checker_count n k) (count_visit n s)
   unfolding checker_count count_visit
-  simulates_count n = simulates_fault_unless names (nat_lt k.visits max_visits) (nat_lt s.visits max_visits) too_many_visits n _ _ (ap (λ v. nat_lt v max_visits) h.visits) (λ e. (
-    _,
-    refl,
-    record {
-      distinct = h.distinct;
-      parents = h.parents;
-      makers = h.makers;
-      codes = h.codes;
-      starts_many = h.starts_many;
-      starts = h.starts;
-      members = h.members;
-      named = h.named;
-      ops = h.ops;
-      visits = ap (λ m. m + 1) h.visits;
-    },
-  ))
+  simulates_count n = simulates_fault_unless names (nat_lt k.counts.visits max_visits) (nat_lt s.visits max_visits) too_many_visits n _ _ (ap
+      (λ v. nat_lt v max_visits) h.visits) (λ e. (
+        _,
+        refl,
+        record {
+          distinct = h.distinct;
+          plan = h.plan;
+          starts_many = h.starts_many;
+          starts = h.starts;
+          members = h.members;
+          named = h.named;
+          visits = ap (λ m. m + 1) h.visits;
+        },
+      ))
 
-  simulates_member : (t n x : ℕ) (g : ℕ → Outcome Checker) (g' : ℕ → Outcome UnfoldingState) → x < length k.slots →
+  simulates_member : (t n x : ℕ) (g : ℕ → Outcome Checker) (g' : ℕ → Outcome UnfoldingState) → x < length k.bindings.slots →
       ((p : ℕ) → p < length k.makers → Simulates names (g p) (g' p)) →
       Simulates names (checker_member t n x k >>= g) (member_of t n (s.names (names x)) s >>= g')
   unfolding checker_member member_of
@@ -119,7 +117,7 @@ module _ (names : ℕ → List ℕ) (k : Checker) (s : UnfoldingState) (f : IsCh
       by (Some (a_task c)) o' e i = ap (λ v. (as_phaser n v >>= λ p. fault_unless (s.members t p) not_member n >>= λ _. Ok p) >>= g') e
       by (Some (a_phaser p)) o' e i = subst (λ v. Simulates names ((fault_unless (member k t p) not_member n >>= λ _. Ok p) >>= g)
           ((as_phaser n v >>= λ q. fault_unless (s.members t q) not_member n >>= λ _. Ok q) >>= g')) (sym e)
-          (ends_ p (i p refl) (member k t p) (s.members t p) (h.members t p (omega (arith, i p refl, f.few_makers))))
+          (ends_ p (i p refl) (member k t p) (s.members t p) (h.members t p))
 
 -- ---- statements
 
@@ -127,57 +125,58 @@ module _ (names : ℕ → List ℕ) (k : Checker) (s : UnfoldingState) (f : IsCh
   has_code : t < length k.codes
   has_code = omega (arith, f.codes_many)
 
-  pub simulates_new_task : (x : ℕ) → x < length k.slots → Simulates names (checker_new_task t n x k) (act t n (new_task (names x)) s)
+  pub simulates_new_task : (x : ℕ) → x < length k.bindings.slots → Simulates names (checker_new_task t n x k) (act t n (new_task (names x)) s)
   unfolding checker_new_task act
   simulates_new_task x here = simulates_fault_unless names (nat_lt (length k.parents) max_tasks) (nat_lt (length s.plan.parents) max_tasks) too_many_tasks n _ _
-      (ap (λ xs. nat_lt (length xs) max_tasks) h.parents)
+      (ap (λ xs. nat_lt (length xs) max_tasks) h.plan.parents)
       (λ e. simulates_fault_unless names (has_cells (length k.parents + 1) (length k.makers)) (has_cells (length s.plan.parents + 1) (length s.plan.makers))
-      too_many_cells n _ _ (ap₂ (λ xs ys. has_cells (length xs + 1) (length ys)) h.parents h.makers) (λ room. (
+      too_many_cells n _ _ (ap₂ (λ xs ys. has_cells (length xs + 1) (length ys)) h.plan.parents h.plan.makers) (λ room. (
         _,
         refl,
         shows_binding names x (a_thing.Task (task (length k.parents))) (a_task (length s.plan.parents)) (with_task t k) _
-            (ap (λ xs. Some (a_task (length xs))) (sym h.parents)) here
-            (omega (arith, f.room, length-append k.parents (Some (task t) ∷ []))) (fits_task k t (lt_true (length k.parents) max_tasks e) f) (shows_task names k s t h),
+            (ap (λ xs. Some (a_task (length xs))) (sym h.plan.parents)) here
+            (omega (arith, f.slots.room, length-append k.parents (Some (task t) ∷ []))) (fits_task k t (lt_true (length k.parents) max_tasks e) f) (shows_task names k s t h),
       )))
 
-  pub simulates_new_phaser : (x : ℕ) → x < length k.slots → Simulates names (checker_new_phaser t n x k) (act t n (new_phaser (names x)) s)
+  pub simulates_new_phaser : (x : ℕ) → x < length k.bindings.slots → Simulates names (checker_new_phaser t n x k) (act t n (new_phaser (names x)) s)
   unfolding checker_new_phaser act
   simulates_new_phaser x here = simulates_fault_unless names (nat_lt (length k.makers) max_phasers) (nat_lt (length s.plan.makers) max_phasers) too_many_phasers
-      n _ _ (ap (λ xs. nat_lt (length xs) max_phasers) h.makers) (λ e.
+      n _ _ (ap (λ xs. nat_lt (length xs) max_phasers) h.plan.makers) (λ e.
       simulates_fault_unless names (has_cells (length k.parents) (length k.makers + 1)) (has_cells (length s.plan.parents) (length s.plan.makers + 1))
-      too_many_cells n _ _ (ap₂ (λ xs ys. has_cells (length xs) (length ys + 1)) h.parents h.makers) (λ room.
+      too_many_cells n _ _ (ap₂ (λ xs ys. has_cells (length xs) (length ys + 1)) h.plan.parents h.plan.makers) (λ room.
       let lt = lt_true (length k.makers) max_phasers e in
       let p = length k.makers in
       let v = a_thing.Phaser (phaser p) in
       let m = with_maker t k in
       let fm = fits_maker k t lt f in
       let more = length-append k.makers (task t ∷ []) in
-      let fb = fits_binding x v m here (omega (arith, f.room)) (omega arith) fm in
+      let fb = fits_binding x v m here (omega (arith, f.slots.room)) (omega arith) fm in
       let hb = shows_binding names x v (a_phaser (length s.plan.makers)) m (record s { plan = record s.plan { makers = s.plan.makers ++ task t ∷ [] } })
-      (ap (λ xs. Some (a_phaser (length xs))) (sym h.makers)) here (omega (arith, f.room)) fm (shows_maker names k s t h) in
+      (ap (λ xs. Some (a_phaser (length xs))) (sym h.plan.makers)) here (omega (arith, f.slots.room)) fm (shows_maker names k s t h) in
       let b = with_binding x v m in
-      let hm = shows_marked names b (record s { plan = record s.plan { makers = s.plan.makers ++ task t ∷ [] }; names = _ }) t p true (omega (arith, f.few)) lt fb.all hb in
+      let hm = shows_marked names b (record s { plan = record s.plan { makers = s.plan.makers ++ task t ∷ [] }; names = _ }) t p true
+      (omega (arith, running, f.members_many, ap (λ (z : Checker). length z.members) (slotted_fits x m here (omega (arith, f.slots.room)) fm).same)) hb in
       let fk = fits_marked b t p true fb in
       subst (λ q. Simulates names (checker_add t n (op.Make (phaser p)) (with_membership t p true b))
       (add_op t n (op.Make (phaser q)) (record s {
         plan = record s.plan { makers = s.plan.makers ++ task t ∷ [] };
         members = with_member t q true s.members;
         names = assigned (names x) (a_phaser (length s.plan.makers)) s.names;
-      }))) (ap length (sym h.makers))
+      }))) (ap length (sym h.plan.makers))
       (simulates_add names (with_membership t p true b) _ fk hm t n (op.Make (phaser p))
-      (let same = ap (λ (z : Checker). length z.codes) (slotted_fits x m here (omega (arith, f.room)) fm).same in omega (arith, has_code, same)))))
+      (let same = ap (λ (z : Checker). length z.codes) (slotted_fits x m here (omega (arith, f.slots.room)) fm).same in omega (arith, has_code, same)))))
 
-  pub simulates_dereg : (x : ℕ) → x < length k.slots → Simulates names (checker_dereg t n x k) (act t n (dereg (names x)) s)
+  pub simulates_dereg : (x : ℕ) → x < length k.bindings.slots → Simulates names (checker_dereg t n x k) (act t n (dereg (names x)) s)
   unfolding checker_dereg act
   simulates_dereg x here = simulates_member names k s f h t n x _ _ here (λ p lt.
       simulates_add names (with_membership t p false k) _ (fits_marked k t p false f)
-      (shows_marked names k s t p false (omega (arith, f.few)) (omega (arith, f.few_makers)) f.all h) t n (op.Drop (phaser p)) has_code)
+      (shows_marked names k s t p false (omega (arith, running, f.members_many)) h) t n (op.Drop (phaser p)) has_code)
 
-  pub simulates_adv : (x : ℕ) → x < length k.slots → Simulates names (checker_adv t n x k) (act t n (adv (names x)) s)
+  pub simulates_adv : (x : ℕ) → x < length k.bindings.slots → Simulates names (checker_adv t n x k) (act t n (adv (names x)) s)
   unfolding checker_adv act
   simulates_adv x here = simulates_member names k s f h t n x _ _ here (λ p lt. simulates_add names k s f h t n (op.Adv (phaser p)) has_code)
 
-  pub simulates_await : (x : ℕ) (off : Offset) → x < length k.slots → Simulates names (checker_await t n x off k) (act t n (await (names x) off) s)
+  pub simulates_await : (x : ℕ) (off : Offset) → x < length k.bindings.slots → Simulates names (checker_await t n x off k) (act t n (await (names x) off) s)
   unfolding checker_await act
   simulates_await x off here = simulates_member names k s f h t n x _ _ here (λ p lt. simulates_add names k s f h t n (op.Await (phaser p) off) has_code)
 
@@ -185,16 +184,16 @@ module _ (names : ℕ → List ℕ) (k : Checker) (s : UnfoldingState) (f : IsCh
   unfolding checker_leave leave
   simulates_leave p few =
       subst (λ (b : Bool). Simulates names (if member k t p then checker_add t n (op.Drop (phaser p)) (with_membership t p false k) else Ok k)
-      (if b then add_op t n (op.Drop (phaser p)) (with_members (with_member t p false s.members) s) else Ok s)) (sym (h.members t p few)) (by (member k t p))
+      (if b then add_op t n (op.Drop (phaser p)) (with_members (with_member t p false s.members) s) else Ok s)) (sym (h.members t p)) (by (member k t p))
     where
       by : (b : Bool) → Simulates names (if b then checker_add t n (op.Drop (phaser p)) (with_membership t p false k) else Ok k)
           (if b then add_op t n (op.Drop (phaser p)) (with_members (with_member t p false s.members) s) else Ok s)
       by true =
-          simulates_add names (with_membership t p false k) _ (fits_marked k t p false f) (shows_marked names k s t p false (omega (arith, f.few)) few f.all h) t n
+          simulates_add names (with_membership t p false k) _ (fits_marked k t p false f) (shows_marked names k s t p false (omega (arith, running, f.members_many)) h) t n
           (op.Drop (phaser p)) has_code
       by false = (s, refl, h)
 
-  pub simulates_reg : (x y : ℕ) → x < length k.slots → y < length k.slots → Simulates names (checker_reg t n x y k) (act t n (reg (names x) (names y)) s)
+  pub simulates_reg : (x y : ℕ) → x < length k.bindings.slots → y < length k.bindings.slots → Simulates names (checker_reg t n x y k) (act t n (reg (names x) (names y)) s)
   unfolding checker_reg act
   simulates_reg x y x_here y_here =
       simulates_task names n (thing_named k x) (s.names (names x)) _ _ (h.named x x_here) (λ c ec.
@@ -202,12 +201,12 @@ module _ (names : ℕ → List ℕ) (k : Checker) (s : UnfoldingState) (f : IsCh
       let ci = task_inside (length k.parents) (length k.makers) (thing_at k x) c (f.now.inside (slot_of k x)) ec in
       let pi_ = phaser_inside (length k.parents) (length k.makers) (thing_at k y) p (f.now.inside (slot_of k y)) ep in
       simulates_unforked_child names k s f h t n c _ _
-      (simulates_fault_unless names (member k t p) (s.members t p) not_member n _ _ (h.members t p (omega (arith, f.few_makers))) (λ _.
-      simulates_fault_unless names (not (member k c p)) (not (s.members c p)) already_member n _ _ (ap not (h.members c p (omega (arith, f.few_makers)))) (λ _.
+      (simulates_fault_unless names (member k t p) (s.members t p) not_member n _ _ (h.members t p) (λ _.
+      simulates_fault_unless names (not (member k c p)) (not (s.members c p)) already_member n _ _ (ap not (h.members c p)) (λ _.
       simulates_add names (with_membership c p true k) _ (fits_marked k c p true f)
-      (shows_marked names k s c p true (omega (arith, f.few)) (omega (arith, f.few_makers)) f.all h) t n (op.Reg (task c) (phaser p)) has_code)))))
+      (shows_marked names k s c p true (omega (arith, ci, f.members_many)) h) t n (op.Reg (task c) (phaser p)) has_code)))))
 
-  pub simulates_fork : (x after : ℕ) (body : Tree) → x < length k.slots → after ≤ length k.steps → IsSpelled (length k.slots) names k.steps n body after →
+  pub simulates_fork : (x after : ℕ) (body : Tree) → x < length k.bindings.slots → after ≤ length k.steps → IsSpelled (length k.bindings.slots) names k.steps n body after →
       Simulates names (checker_fork t n x after k) (act_fork t n (names x) body s)
   unfolding checker_fork act_fork
   simulates_fork x after body here within spelled =
@@ -240,7 +239,7 @@ keeps_two k true true i j n g h = h
 
 keeps_add : (k b : Checker) (t n : ℕ) (o : Op) → Keeps k b → KeepsAll k (checker_add t n o b)
 unfolding checker_add
-keeps_add k b t n o h = keeps_fault_unless k (nat_lt b.ops max_ops) too_many_ops n _
+keeps_add k b t n o h = keeps_fault_unless k (nat_lt b.counts.ops max_ops) too_many_ops n _
     (λ e. record { fits = fits_pushed b t o h.fits; more = h.more; steps = h.steps; slots = h.slots })
 
 module _ (k : Checker) (f : IsChecker k) where
@@ -249,17 +248,14 @@ module _ (k : Checker) (f : IsChecker k) where
 
   pub keeps_count : (n : ℕ) → KeepsAll k (checker_count n k)
   unfolding checker_count
-  keeps_count n = keeps_fault_unless k (nat_lt k.visits max_visits) too_many_visits n _ (λ e. record {
+  keeps_count n = keeps_fault_unless k (nat_lt k.counts.visits max_visits) too_many_visits n _ (λ e. record {
     fits = record {
       starts_many = f.starts_many;
       codes_many = f.codes_many;
       few = f.few;
       few_makers = f.few_makers;
-      all = f.all;
-      below = f.below;
-      apart = f.apart;
-      room = f.room;
-      long = f.long;
+      members_many = f.members_many;
+      slots = f.slots;
       now = f.now;
       later = f.later;
     };
@@ -284,7 +280,7 @@ module _ (k : Checker) (f : IsChecker k) where
   keeps_marked : (t p : ℕ) (v : Bool) → Keeps k (with_membership t p v k)
   keeps_marked t p v = record { fits = fits_marked k t p v f; more = omega arith; steps = refl; slots = refl }
 
-  keeps_bound : (m : Checker) (x : ℕ) (v : code.Thing) → x < length m.slots → m.slot_count < length m.parents + length m.makers →
+  keeps_bound : (m : Checker) (x : ℕ) (v : code.Thing) → x < length m.bindings.slots → m.bindings.slot_count < length m.parents + length m.makers →
       IsInside (length m.parents) (length m.makers) v → Keeps k m → Keeps k (with_binding x v m)
   keeps_bound m x v here room inside h =
       let sl = slotted_fits x m here room h.fits in
@@ -295,20 +291,20 @@ module _ (k : Checker) (f : IsChecker k) where
         slots = sl.slots ∙ h.slots;
       }
 
-  pub keeps_new_task : (t n x : ℕ) → x < length k.slots → KeepsAll k (checker_new_task t n x k)
+  pub keeps_new_task : (t n x : ℕ) → x < length k.bindings.slots → KeepsAll k (checker_new_task t n x k)
   unfolding checker_new_task
   keeps_new_task t n x here = keeps_fault_unless k (nat_lt (length k.parents) max_tasks) too_many_tasks n _ (λ e.
       keeps_fault_unless k (has_cells (length k.parents + 1) (length k.makers)) too_many_cells n _ (λ room.
       let more = length-append k.parents (Some (task t) ∷ []) in
-      keeps_bound (with_task t k) x (a_thing.Task (task (length k.parents))) here (omega (arith, f.room)) (omega arith)
+      keeps_bound (with_task t k) x (a_thing.Task (task (length k.parents))) here (omega (arith, f.slots.room)) (omega arith)
       (record { fits = fits_task k t (lt_true (length k.parents) max_tasks e) f; more = omega arith; steps = refl; slots = refl })))
 
-  pub keeps_new_phaser : (t n x : ℕ) → x < length k.slots → KeepsAll k (checker_new_phaser t n x k)
+  pub keeps_new_phaser : (t n x : ℕ) → x < length k.bindings.slots → KeepsAll k (checker_new_phaser t n x k)
   unfolding checker_new_phaser
   keeps_new_phaser t n x here = keeps_fault_unless k (nat_lt (length k.makers) max_phasers) too_many_phasers n _ (λ e.
       keeps_fault_unless k (has_cells (length k.parents) (length k.makers + 1)) too_many_cells n _ (λ room.
       let more = length-append k.makers (task t ∷ []) in
-      let h = keeps_bound (with_maker t k) x (a_thing.Phaser (phaser (length k.makers))) here (omega (arith, f.room)) (omega arith)
+      let h = keeps_bound (with_maker t k) x (a_thing.Phaser (phaser (length k.makers))) here (omega (arith, f.slots.room)) (omega arith)
       (record { fits = fits_maker k t (lt_true (length k.makers) max_phasers e) f; more = omega arith; steps = refl; slots = refl }) in
       keeps_add k (with_membership t (length k.makers) true (with_binding x (a_thing.Phaser (phaser (length k.makers))) (with_maker t k))) t n (op.Make (phaser (length k.makers)))
       (record {
@@ -346,7 +342,7 @@ module _ (k : Checker) (f : IsChecker k) where
       (keeps_fault_unless k (member k t p) not_member n _ (λ _. keeps_fault_unless k (not (member k c p)) already_member n _ (λ _.
       keeps_add k (with_membership c p true k) t n (op.Reg (task c) (phaser p)) (keeps_marked c p true))))))
 
-  pub keeps_fork : (t n x after : ℕ) → after ≤ length k.steps → IsList (length k.slots) k.steps n after → KeepsAll k (checker_fork t n x after k)
+  pub keeps_fork : (t n x after : ℕ) → after ≤ length k.steps → IsList (length k.bindings.slots) k.steps n after → KeepsAll k (checker_fork t n x after k)
   unfolding checker_fork
   keeps_fork t n x after within list =
       keeps_task k n (thing_named k x) _ (λ c ec.

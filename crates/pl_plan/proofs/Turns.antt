@@ -19,5 +19,5 @@ pub record TurnsLeft (names : ℕ → List ℕ) (t left : ℕ) (ms : List Visit)
 -- so many turns are done
 pub record Turned (at after t turns : ℕ) (old : Checker) (i : ℕ) (k : Checker) : Type 0 where
   pub keeps : Keeps old k
-  pub all : (names : ℕ → List ℕ) (s : UnfoldingState) (tree : Tree) → IsSpelled (length old.slots) names old.steps (at + 1) tree after → ShowsState names old s →
+  pub all : (names : ℕ → List ℕ) (s : UnfoldingState) (tree : Tree) → IsSpelled (length old.bindings.slots) names old.steps (at + 1) tree after → ShowsState names old s →
       TurnsLeft names t (turns - i) (turn at tree) (make_visits t (times turns (turn at tree)) s) k

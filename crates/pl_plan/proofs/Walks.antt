@@ -28,7 +28,7 @@ make_visits-append t (x ∷ xs) ys s = ap (λ f. make_visit t x s >>= f) (λ i s
 -- ---- a statement without a body
 
 pub simulates_acting : (names : ℕ → List ℕ) (k : Checker) (s : UnfoldingState) → IsChecker k → ShowsState names k s → (t n : ℕ) → t < length k.parents →
-    (step : Step) (c : Plain) → IsStep (length k.slots) names step c → Simulates names (checker_act t n step k) (act t n c s)
+    (step : Step) (c : Plain) → IsStep (length k.bindings.slots) names step c → Simulates names (checker_act t n step k) (act t n c s)
 unfolding act
 simulates_acting names k s f h t n r step (new_task x) e = subst (λ z. Simulates names (checker_act t n z k) (act t n (new_task x) s)) (sym e.1)
     (subst (λ y. Simulates names (checker_act t n (a_step.NewTask e.0) k) (act t n (new_task y) s)) e.2.1
@@ -50,7 +50,7 @@ simulates_acting names k s f h t n r step (await x off) e = subst (λ z. Simulat
     (simulating.simulates_await names k s f h t n r e.0.0 off e.2.0))
 simulates_acting names k s f h t n r step skip e = subst (λ z. Simulates names (checker_act t n z k) (act t n skip s)) (sym e) (s, refl, h)
 
-pub keeps_acting : (k : Checker) → IsChecker k → (t n : ℕ) (step : Step) → HasNames (length k.slots) step → KeepsAll k (checker_act t n step k)
+pub keeps_acting : (k : Checker) → IsChecker k → (t n : ℕ) (step : Step) → HasNames (length k.bindings.slots) step → KeepsAll k (checker_act t n step k)
 keeps_acting k f t n (a_step.NewTask x) h = simulating.keeps_new_task k f t n x.0 h
 keeps_acting k f t n (a_step.NewPhaser x) h = simulating.keeps_new_phaser k f t n x.0 h
 keeps_acting k f t n (a_step.Reg x y) h = simulating.keeps_reg k f t n x.0 y.0

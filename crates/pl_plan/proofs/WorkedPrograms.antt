@@ -1,5 +1,5 @@
 -- Small programs, unfolded by computation; and one step more at a limit.
-use Rattle.std.proofs.Common.{◌≡◌, ℕ, ◌+◌, ◌*◌, ◌<◌, Bool, true, false, Err, length, arith, ap, refl, ◌∙◌}
+use Rattle.std.proofs.Common.{◌≡◌, ℕ, ◌+◌, ◌*◌, Bool, true, false, Err, length, arith, ap, refl, ◌∙◌}
 use Rattle.std.specs.Prelude.{nat_le, nat_lt, sum_by}
 use Rattle.std.proofs.lemmas.Bool.Decides.{nat_tests}
 use Rattle.pl_plan.specs.Unfolding.{◌>>=◌, Outcome, UnfoldingState, fault, fault_unless}

@@ -5,7 +5,9 @@ ghost use Rattle.pl_plan.specs.inside.Steps.{step_at};
 ghost use Rattle.pl_plan.specs.inside.Opening.{IsOpeningChecker};
 ghost use Rattle.pl_plan.specs.declared.step.Thing.TheVariants.{Nothing};
 ghost use Rattle.pl_plan.specs.inside.Checker.{Checker as CheckerValue, IsChecker, IsThings, slot_of, thing_at, slotted, with_thing, with_task, with_maker, pushed, with_membership, started, with_start_things, range_of};
+ghost use Rattle.pl_plan.specs.inside.CheckerSteps.{member};
 
+use crate::membership::Membership;
 use crate::step::{NameId, Step, Thing};
 use armus_base::{List, MAX_PHASERS, MAX_TASKS, NoMemory, Op, PhaserId, TaskId};
 use std::alloc::{AllocError, AllocFailed, Global};
@@ -30,9 +32,23 @@ impl Model for Start {
     ghost view = { λ s. record { first = s.first; after = s.after; things = s.things.items } };
 }
 
-// What the checker keeps: the flat steps; the three lists of the plan so far; the starts of the tasks; one bit for each task and phaser, whether the
-// task is a member; a slot for each name, and the current task's things by slot; the counts of ops and visits. A visit reads one step and a few
-// entries, and compares no names; a fork copies the things in the slots that there are.
+// What the names stand for: a slot for each name, and the current task's things by slot.
+#[derive(Drop)]
+pub(crate) struct Bindings {
+    slots: Vec<u32>,
+    slot_count: u32,
+    things: Vec<Thing>,
+}
+
+// How many ops and visits there were.
+#[derive(Clone, Copy)]
+pub(crate) struct Counts {
+    ops: u32,
+    visits: u32,
+}
+
+// What the checker keeps: the flat steps; the three lists of the plan so far; the starts of the tasks; on which phasers each is a member; what the names
+// stand for; and the counts. A visit reads one step and a few entries, and compares no names; a fork copies the things in the slots that there are.
 #[derive(Drop)]
 pub(crate) struct Checker {
     steps: Vec<Step>,
@@ -40,12 +56,9 @@ pub(crate) struct Checker {
     makers: Vec<TaskId>,
     codes: Vec<List<Op>>,
     starts: Vec<Option<Start>>,
-    members: Vec<bool>,
-    slots: Vec<u32>,
-    slot_count: u32,
-    things: Vec<Thing>,
-    ops: u32,
-    visits: u32,
+    members: Vec<Membership>,
+    bindings: Bindings,
+    counts: Counts,
 }
 
 impl Model for Checker {
@@ -63,11 +76,8 @@ impl Model for Checker {
       codes = k.codes.items;
       starts = k.starts.items;
       members = k.members.items;
-      slots = k.slots.items;
-      slot_count = k.slot_count;
-      things = k.things.items;
-      ops = k.ops;
-      visits = k.visits;
+      bindings = record { slots = k.bindings.slots.items; slot_count = k.bindings.slot_count; things = k.bindings.things.items };
+      counts = record { ops = k.counts.ops; visits = k.counts.visits };
     } };
 }
 
@@ -90,16 +100,16 @@ impl Checker {
 
     // How many ops there are.
     pub(crate) fn ops(&self) -> u32
-        ensures { result ≡ self.now.ops }
+        ensures { result ≡ self.now.counts.ops }
     {
-        self.ops
+        self.counts.ops
     }
 
     // How many visits there were.
     pub(crate) fn visits(&self) -> u32
-        ensures { result ≡ self.now.visits }
+        ensures { result ≡ self.now.counts.visits }
     {
-        self.visits
+        self.counts.visits
     }
 
     // The step with this index.
@@ -120,49 +130,45 @@ impl Checker {
 
     // Whether `t` is a member of `p`.
     pub(crate) fn is_member(&self, t: TaskId, p: PhaserId) -> bool
-        requires all { length self.now.members ≡ MAX_TASKS * MAX_PHASERS }
-        requires task { t.0 < MAX_TASKS }
-        requires phaser { p.0 < MAX_PHASERS }
-        ensures { result ≡ slice_index_or self.now.members (MAX_PHASERS * t.0 + p.0) false }
+        requires { t.0 < length self.now.members }
+        ensures { result ≡ member self.now t.0 p.0 }
     {
-        self.members[(MAX_PHASERS * t.0 + p.0) as usize]
+        self.members[t.0 as usize].is_of(p)
     }
 
     // What the name stands for.
     pub(crate) fn thing(&self, x: NameId) -> Thing
         requires fits { IsChecker self.now }
-        requires here { x.0 < length self.now.slots }
+        requires here { x.0 < length self.now.bindings.slots }
         ensures { result ≡ thing_at self.now x.0 }
     {
-        self.things[self.slots[x.0 as usize] as usize]
+        self.bindings.things[self.bindings.slots[x.0 as usize] as usize]
     }
 
     // One visit more.
     pub(crate) fn count_visit(&mut self)
-        requires { self.old.visits < 2 ^ 31 }
-        ensures { self.new ≡ record self.old { visits = self.old.visits + 1 } }
+        requires { self.old.counts.visits < 2 ^ 31 }
+        ensures { self.new ≡ record self.old { counts = record self.old.counts { visits = self.old.counts.visits + 1 } } }
     {
-        self.visits += 1;
+        self.counts.visits += 1;
     }
 
     // Says whether `t` is a member of `p`.
-    pub(crate) fn mark(&mut self, t: TaskId, p: PhaserId, member: bool)
-        requires all { length self.old.members ≡ MAX_TASKS * MAX_PHASERS }
-        requires task { t.0 < MAX_TASKS }
-        requires phaser { p.0 < MAX_PHASERS }
-        ensures { self.new ≡ with_membership t.0 p.0 member self.old }
+    pub(crate) fn mark(&mut self, t: TaskId, p: PhaserId, member: bool) -> Result<(), AllocError>
+        requires { t.0 < length self.old.members }
+        ensures { OnOk result (self.new ≡ with_membership t.0 p.0 member self.old) }
     {
-        self.members[(MAX_PHASERS * t.0 + p.0) as usize] = member;
+        self.members[t.0 as usize].mark(p, member)
     }
 
     // The code of `t` goes on with this op.
     pub(crate) fn push_op(&mut self, t: TaskId, op: Op) -> Result<(), NoMemory>
         requires here { t.0 < length self.old.codes }
-        requires few { self.old.ops < 2 ^ 31 }
+        requires few { self.old.counts.ops < 2 ^ 31 }
         ensures { OnOk result (self.new ≡ pushed t.0 op self.old) }
     {
         self.codes[t.0 as usize].push(op)?;
-        self.ops += 1;
+        self.counts.ops += 1;
         Ok(())
     }
 
@@ -177,7 +183,10 @@ impl Checker {
     pub(crate) fn push_task(&mut self, alloc: Global, t: TaskId) -> Result<(), AllocError>
         ensures { OnOk result (self.new ≡ with_task t.0 self.old) }
     {
-        if self.parents.push(Some(t)).is_err() || self.codes.push(List::new(alloc)).is_err() {
+        if self.parents.push(Some(t)).is_err()
+            || self.codes.push(List::new(alloc)).is_err()
+            || self.members.push(Membership::new(alloc)).is_err()
+        {
             return Err(AllocError);
         }
         match self.starts.push(None) {
@@ -188,23 +197,23 @@ impl Checker {
 
     // The name's slot, if need be a new one. Slot 0 is no name's.
     pub(crate) fn give_slot(&mut self, x: NameId)
-        requires here { x.0 < length self.old.slots }
-        requires few { self.old.slot_count < 2 ^ 31 }
+        requires here { x.0 < length self.old.bindings.slots }
+        requires few { self.old.bindings.slot_count < 2 ^ 31 }
         ensures { self.new ≡ slotted x.0 self.old }
     {
-        if self.slots[x.0 as usize] == 0 {
-            self.slots[x.0 as usize] = self.slot_count;
-            self.slot_count += 1;
+        if self.bindings.slots[x.0 as usize] == 0 {
+            self.bindings.slots[x.0 as usize] = self.bindings.slot_count;
+            self.bindings.slot_count += 1;
         }
     }
 
     // The name stands for this.
     pub(crate) fn set_thing(&mut self, x: NameId, thing: Thing)
-        requires here { x.0 < length self.old.slots }
-        requires within { slot_of self.old x.0 < length self.old.things }
+        requires here { x.0 < length self.old.bindings.slots }
+        requires within { slot_of self.old x.0 < length self.old.bindings.things }
         ensures { self.new ≡ with_thing x.0 thing self.old }
     {
-        self.things[self.slots[x.0 as usize] as usize] = thing;
+        self.bindings.things[self.bindings.slots[x.0 as usize] as usize] = thing;
     }
 
     // `c` is forked with the steps from `first` on, before `after`, and with the things in the slots that there are now.
@@ -216,10 +225,13 @@ impl Checker {
         after: u32,
     ) -> Result<(), AllocError>
         requires here { c.0 < length self.old.starts }
-        requires slots { self.old.slot_count ≤ length self.old.things }
+        requires slots { self.old.bindings.slot_count ≤ length self.old.bindings.things }
         ensures { OnOk result (self.new ≡ started c.0 first after self.old) }
     {
-        let things = Vec::from_slice(alloc, &self.things[..self.slot_count as usize])?;
+        let things = Vec::from_slice(
+            alloc,
+            &self.bindings.things[..self.bindings.slot_count as usize],
+        )?;
         self.starts[c.0 as usize] = Some(Start {
             first,
             after,
@@ -256,7 +268,7 @@ impl Checker {
                     return Err(AllocError);
                 }
                 let range = (start.first, start.after);
-                self.things = things;
+                self.bindings.things = things;
                 Ok(Some(range))
             }
         }
@@ -277,9 +289,11 @@ impl Checker {
         let mut parents = Vec::new(alloc);
         let mut codes = Vec::new(alloc);
         let mut starts = Vec::new(alloc);
+        let mut members = Vec::new(alloc);
         if parents.push(None).is_err()
             || codes.push(List::new(alloc)).is_err()
             || starts.push(Some(start)).is_err()
+            || members.push(Membership::new(alloc)).is_err()
         {
             return Err(AllocError);
         }
@@ -289,12 +303,13 @@ impl Checker {
             makers: Vec::new(alloc),
             codes,
             starts,
-            members: no_members(alloc, (MAX_TASKS * MAX_PHASERS) as usize)?,
-            slots: no_slots(alloc, names)?,
-            slot_count: 1,
-            things,
-            ops: 0,
-            visits: 0,
+            members,
+            bindings: Bindings {
+                slots: no_slots(alloc, names)?,
+                slot_count: 1,
+                things,
+            },
+            counts: Counts { ops: 0, visits: 0 },
         })
     }
 
@@ -331,14 +346,6 @@ fn no_slots(alloc: Global, n: usize) -> Result<Vec<u32>, AllocError>
     ensures all { IfOk result (λ v. (i : ℕ) → slice_index_or v.items i 0 ≡ 0) }
 {
     vec![in alloc; 0; n]
-}
-
-// Nobody is a member.
-fn no_members(alloc: Global, n: usize) -> Result<Vec<bool>, AllocError>
-    ensures many { IfOk result (λ v. length v.items ≡ n) }
-    ensures all { IfOk result (λ v. (i : ℕ) → slice_index_or v.items i false ≡ false) }
-{
-    vec![in alloc; false; n]
 }
 
 // The three lists of a plan, with the flat steps and each task's start, by which the codes are folded.

@@ -6,6 +6,7 @@ mod fault;
 mod flatten;
 mod laws;
 mod limits;
+mod membership;
 mod pieces;
 mod planning;
 mod statements;

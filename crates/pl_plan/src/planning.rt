@@ -40,8 +40,8 @@ fn codes_of(
 ///
 /// Tasks are unfolded in order of their numbers, from task 0 with the whole program. `Check` comes exactly where the unfolding has a fault, with the
 /// first one; a body that is never unfolded is not checked. In PL 2 the code of each forked task ends with one Drop for each phaser of which it is then a
-/// member, in order of number. Codes are kept folded: a steady loop takes the memory of its body once. The time is linear in the visits, at most `MAX_VISITS`. The plan is a checked plan:
-/// it follows the rules of PL and the limits of `Plan`.
+/// member, in order of number. The codes are kept folded: a steady loop takes the memory of its body once. The time is linear in the visits, at most
+/// `MAX_VISITS`. The plan is a checked plan: it follows the rules of PL and the limits of `Plan`.
 pub fn plan(alloc: Global, program: &Program) -> Result<Plan, PlanEnd>
     requires few { count program.now.body < 2 ^ 32 }
     requires shallow { height program.now.body ≤ MAX_OPEN_BRACES }

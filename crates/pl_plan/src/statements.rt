@@ -39,7 +39,7 @@ pub(crate) fn count_visit(checker: &mut Checker, n: u32) -> Result<(), PlanEnd>
 // The task of this name.
 fn task_named(checker: &Checker, n: u32, x: NameId) -> Result<TaskId, CheckFault>
     requires fits { IsChecker checker.now }
-    requires here { x.0 < length checker.now.slots }
+    requires here { x.0 < length checker.now.bindings.slots }
     ensures exact { viewed (λ c. c.0) result ≡ as_task n (thing_named checker.now x.0) }
     ensures inside { IfOk result (λ c. c.0 < length checker.now.parents) }
 {
@@ -59,7 +59,7 @@ fn task_named(checker: &Checker, n: u32, x: NameId) -> Result<TaskId, CheckFault
 // The phaser of this name.
 fn phaser_named(checker: &Checker, n: u32, x: NameId) -> Result<PhaserId, CheckFault>
     requires fits { IsChecker checker.now }
-    requires here { x.0 < length checker.now.slots }
+    requires here { x.0 < length checker.now.bindings.slots }
     ensures exact { viewed (λ p. p.0) result ≡ as_phaser n (thing_named checker.now x.0) }
     ensures inside { IfOk result (λ p. p.0 < length checker.now.makers) }
 {
@@ -98,10 +98,10 @@ fn unforked_child(checker: &Checker, t: TaskId, n: u32, c: TaskId) -> Result<(),
 
 // The name stands for this.
 fn bind(checker: &mut Checker, x: NameId, thing: Thing)
-    requires here { x.0 < length checker.old.slots }
-    requires few { checker.old.slot_count < MAX_TASKS + MAX_PHASERS }
+    requires here { x.0 < length checker.old.bindings.slots }
+    requires few { checker.old.bindings.slot_count < MAX_TASKS + MAX_PHASERS }
     requires below { slot_of checker.old x.0 < MAX_TASKS + MAX_PHASERS }
-    requires long { length checker.old.things ≡ MAX_TASKS + MAX_PHASERS }
+    requires long { length checker.old.bindings.things ≡ MAX_TASKS + MAX_PHASERS }
     ensures { checker.new ≡ with_binding x.0 thing checker.old }
 {
     checker.give_slot(x);
@@ -138,7 +138,7 @@ pub(crate) fn new_task(
     x: NameId,
 ) -> Result<(), PlanEnd>
     requires fits { IsChecker checker.old }
-    requires here { x.0 < length checker.old.slots }
+    requires here { x.0 < length checker.old.bindings.slots }
     ensures { GivesChecker result (checker_new_task t.0 n x.0 checker.old) checker.new }
 {
     let c = checker.tasks();
@@ -155,7 +155,7 @@ pub(crate) fn new_task(
 pub(crate) fn new_phaser(checker: &mut Checker, t: TaskId, n: u32, x: NameId) -> Result<(), PlanEnd>
     requires fits { IsChecker checker.old }
     requires task { t.0 < length checker.old.parents }
-    requires here { x.0 < length checker.old.slots }
+    requires here { x.0 < length checker.old.bindings.slots }
     ensures { GivesChecker result (checker_new_phaser t.0 n x.0 checker.old) checker.new }
 {
     let p = PhaserId(checker.phasers());
@@ -164,7 +164,7 @@ pub(crate) fn new_phaser(checker: &mut Checker, t: TaskId, n: u32, x: NameId) ->
     fault_unless(cells, TOO_MANY_CELLS, n)?;
     checker.push_maker(t)?;
     bind(checker, x, Thing::Phaser(p));
-    checker.mark(t, p, true);
+    checker.mark(t, p, true)?;
     add(checker, t, n, Op::Make { p })
 }
 
@@ -179,8 +179,8 @@ pub(crate) fn register(
 ) -> Result<(), PlanEnd>
     requires fits { IsChecker checker.old }
     requires task { t.0 < length checker.old.parents }
-    requires x_here { x.0 < length checker.old.slots }
-    requires y_here { y.0 < length checker.old.slots }
+    requires x_here { x.0 < length checker.old.bindings.slots }
+    requires y_here { y.0 < length checker.old.bindings.slots }
     ensures { GivesChecker result (checker_reg t.0 n x.0 y.0 checker.old) checker.new }
 {
     let c = task_named(checker, n, x)?;
@@ -188,7 +188,7 @@ pub(crate) fn register(
     unforked_child(checker, t, n, c)?;
     fault_unless(checker.is_member(t, p), NOT_MEMBER, n)?;
     fault_unless(!checker.is_member(c, p), ALREADY_MEMBER, n)?;
-    checker.mark(c, p, true);
+    checker.mark(c, p, true)?;
     add(checker, t, n, Op::Reg { c, p })
 }
 
@@ -197,7 +197,7 @@ pub(crate) fn register(
 fn member_named(checker: &Checker, t: TaskId, n: u32, x: NameId) -> Result<PhaserId, CheckFault>
     requires fits { IsChecker checker.now }
     requires task { t.0 < length checker.now.parents }
-    requires here { x.0 < length checker.now.slots }
+    requires here { x.0 < length checker.now.bindings.slots }
     ensures exact { viewed (λ p. p.0) result ≡ checker_member t.0 n x.0 checker.now }
     ensures inside { IfOk result (λ p. p.0 < length checker.now.makers) }
 {
@@ -211,11 +211,11 @@ fn member_named(checker: &Checker, t: TaskId, n: u32, x: NameId) -> Result<Phase
 pub(crate) fn leave(checker: &mut Checker, t: TaskId, n: u32, x: NameId) -> Result<(), PlanEnd>
     requires fits { IsChecker checker.old }
     requires task { t.0 < length checker.old.parents }
-    requires here { x.0 < length checker.old.slots }
+    requires here { x.0 < length checker.old.bindings.slots }
     ensures { GivesChecker result (checker_dereg t.0 n x.0 checker.old) checker.new }
 {
     let p = member_named(checker, t, n, x)?;
-    checker.mark(t, p, false);
+    checker.mark(t, p, false)?;
     add(checker, t, n, Op::Drop { p })
 }
 
@@ -224,7 +224,7 @@ pub(crate) fn leave(checker: &mut Checker, t: TaskId, n: u32, x: NameId) -> Resu
 pub(crate) fn advance(checker: &mut Checker, t: TaskId, n: u32, x: NameId) -> Result<(), PlanEnd>
     requires fits { IsChecker checker.old }
     requires task { t.0 < length checker.old.parents }
-    requires here { x.0 < length checker.old.slots }
+    requires here { x.0 < length checker.old.bindings.slots }
     ensures { GivesChecker result (checker_adv t.0 n x.0 checker.old) checker.new }
 {
     let p = member_named(checker, t, n, x)?;
@@ -242,7 +242,7 @@ pub(crate) fn wait(
 ) -> Result<(), PlanEnd>
     requires fits { IsChecker checker.old }
     requires task { t.0 < length checker.old.parents }
-    requires here { x.0 < length checker.old.slots }
+    requires here { x.0 < length checker.old.bindings.slots }
     ensures { GivesChecker result (checker_await t.0 n x.0 off checker.old) checker.new }
 {
     let p = member_named(checker, t, n, x)?;
@@ -261,7 +261,7 @@ pub(crate) fn fork(
 ) -> Result<(), PlanEnd>
     requires fits { IsChecker checker.old }
     requires task { t.0 < length checker.old.parents }
-    requires here { x.0 < length checker.old.slots }
+    requires here { x.0 < length checker.old.bindings.slots }
     ensures { GivesChecker result (checker_fork t.0 n x.0 after checker.old) checker.new }
 {
     let c = task_named(checker, n, x)?;
@@ -286,7 +286,7 @@ pub(crate) fn leave_if_member(
     if !checker.is_member(t, p) {
         return Ok(());
     }
-    checker.mark(t, p, false);
+    checker.mark(t, p, false)?;
     add(checker, t, n, Op::Drop { p })
 }
 
@@ -300,7 +300,7 @@ pub(crate) fn act(
 ) -> Result<(), PlanEnd>
     requires fits { IsChecker checker.old }
     requires task { t.0 < length checker.old.parents }
-    requires here { HasNames (length checker.old.slots) step }
+    requires here { HasNames (length checker.old.bindings.slots) step }
     ensures { GivesChecker result (checker_act t.0 n step checker.old) checker.new }
 {
     match step {

@@ -20,8 +20,8 @@ const ONE_OP_TOO_MANY: &[u8] =
 const NO_OP_FOR_THE_END: &[u8] =
     b"pl 2; p = newPhaser(); loop 65535 { loop 2 { adv(p); adv(p); adv(p); adv(p); adv(p); adv(p); adv(p); adv(p); } } loop 15 { adv(p); }";
 
-const NO_OP_FOR_A_CHILD: &[u8] =
-    b"pl 2; p = newPhaser(); t = newTid(); reg(t, p); fork(t) { loop 65535 { loop 2 { adv(p); adv(p); adv(p); adv(p); adv(p); adv(p); adv(p); adv(p); } } loop 12 { adv(p); } } dereg(p);";
+const NO_OP_FOR_A_CHILD: &[u8] = b"pl 2; p = newPhaser(); t = newTid(); reg(t, p);
+    fork(t) { loop 65535 { loop 2 { adv(p); adv(p); adv(p); adv(p); adv(p); adv(p); adv(p); adv(p); } } loop 12 { adv(p); } } dereg(p);";
 
 const NO_OP_BEFORE_THE_LAST: &[u8] = b"pl 2; p = newPhaser(); t = newTid(); u = newTid(); reg(t, p);
     fork(t) { loop 65535 { loop 2 { adv(p); adv(p); adv(p); adv(p); adv(p); adv(p); adv(p); adv(p); } } loop 11 { adv(p); } } dereg(p); fork(u) { adv(z); }";

@@ -27,7 +27,7 @@ fn walk_turns(
     requires task { t.0 < length checker.old.parents }
     requires here { at < after }
     requires within { after ≤ length checker.old.steps }
-    requires list { IsList (length checker.old.slots) checker.old.steps (at + 1) after }
+    requires list { IsList (length checker.old.bindings.slots) checker.old.steps (at + 1) after }
     ensures follows { FollowsTurns at after t.0 turns checker.old result checker.new }
     ensures keeps { OnOk result (Keeps checker.old checker.new) }
 {
@@ -52,7 +52,7 @@ pub(crate) fn walk(
     requires small { length checker.old.steps < 2 ^ 32 }
     requires task { t.0 < length checker.old.parents }
     requires within { to ≤ length checker.old.steps }
-    requires list { IsList (length checker.old.slots) checker.old.steps from to }
+    requires list { IsList (length checker.old.bindings.slots) checker.old.steps from to }
     ensures follows { FollowsFrom from to t.0 checker.old result checker.new }
     ensures keeps { OnOk result (Keeps checker.old checker.new) }
 {

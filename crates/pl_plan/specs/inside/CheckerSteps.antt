@@ -1,5 +1,5 @@
 -- What the checker does at a step, as functions on what it keeps. The unfolding does not name them: laws in proofs/ tie the two.
-use Rattle.std.specs.Prelude.{◌≡◌, ℕ, ◌+◌, ◌*◌, ◌<◌, Bool, true, false, not, length, slice_index_or, Option, Some, None, Result, Ok, Err, nat_lt, is_some, if◌then◌else◌, zero, suc}
+use Rattle.std.specs.Prelude.{◌≡◌, ℕ, ◌+◌, ◌<◌, Bool, true, false, not, [], length, slice_index_or, Option, Some, None, Result, Ok, Err, nat_lt, is_some, if◌then◌else◌, zero, suc}
 use Rattle.pl_plan.specs.Limits.{max_visits}
 use Rattle.armus_base.specs.Limits.{max_tasks, max_phasers, max_ops}
 use Rattle.armus_base.specs.declared.offset.Offset.{Offset}
@@ -27,7 +27,7 @@ thing_named k x = thing_of (thing_at k x)
 
 -- task t is a member of phaser p
 abbrev pub member : Checker → ℕ → ℕ → Bool
-member k t p = slice_index_or k.members (max_phasers * t + p) false
+member k t p = slice_index_or (slice_index_or k.members t []) p false
 
 -- name x stands for this, with a slot of its own
 abbrev pub with_binding : ℕ → code.Thing → Checker → Checker
@@ -36,7 +36,7 @@ with_binding x v k = with_thing x v (slotted x k)
 -- an op of task t, at statement n
 unfoldable pub checker_add : ℕ → ℕ → Op → Checker → Outcome Checker
 checker_add t n o k = do
-  room ← fault_unless (nat_lt k.ops max_ops) too_many_ops n
+  room ← fault_unless (nat_lt k.counts.ops max_ops) too_many_ops n
   Ok (pushed t o k)
 
 -- x = newTid()
@@ -111,8 +111,8 @@ checker_fork t n x after k = do
 -- a visit
 unfoldable pub checker_count : ℕ → Checker → Outcome Checker
 checker_count n k = do
-  room ← fault_unless (nat_lt k.visits max_visits) too_many_visits n
-  Ok (record k { visits = k.visits + 1 })
+  room ← fault_unless (nat_lt k.counts.visits max_visits) too_many_visits n
+  Ok (record k { counts = record k.counts { visits = k.counts.visits + 1 } })
 
 -- a statement without a body
 abbrev pub checker_act : ℕ → ℕ → Step → Checker → Outcome Checker

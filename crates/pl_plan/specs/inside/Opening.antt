@@ -1,9 +1,17 @@
 -- What is kept before the first visit.
-use Rattle.std.specs.Prelude.{◌≡◌, ℕ, ◌+◌, ◌*◌, false, List, [], ◌∷◌, length, slice_index_or, Some, None}
+use Rattle.std.specs.Prelude.{◌≡◌, ℕ, ◌+◌, List, [], ◌∷◌, length, slice_index_or, Some, None}
 use Rattle.armus_base.specs.Limits.{max_tasks, max_phasers}
 use Rattle.pl_plan.specs.declared.step.Step.{Step}
 use Rattle.pl_plan.specs.declared.step.Thing.TheVariants as a_thing
-use Rattle.pl_plan.specs.inside.Checker.{Checker}
+use Rattle.pl_plan.specs.inside.Checker.{Bindings, Checker}
+
+-- no name has a slot, and there is nothing in any
+pub record AreOpeningBindings (names : ℕ) (b : Bindings) : Type 0 where
+  pub slots_many : length b.slots ≡ names
+  pub slots : (i : ℕ) → slice_index_or b.slots i 0 ≡ 0
+  pub slot_count : b.slot_count ≡ 1
+  pub things_many : length b.things ≡ max_tasks + max_phasers
+  pub things : (i : ℕ) → slice_index_or b.things i a_thing.Nothing ≡ a_thing.Nothing
 
 -- what is kept before the first visit: task 0 alone, forked with all steps; no name stands for anything, nobody is a member
 pub record IsOpeningChecker (steps : List Step) (names : ℕ) (k : Checker) : Type 0 where
@@ -11,13 +19,7 @@ pub record IsOpeningChecker (steps : List Step) (names : ℕ) (k : Checker) : Ty
   pub parents : k.parents ≡ None ∷ []
   pub makers : k.makers ≡ []
   pub codes : k.codes ≡ [] ∷ []
-  pub starts : k.starts ≡ Some (record { first = 0; after = length steps; things = k.things }) ∷ []
-  pub members_many : length k.members ≡ max_tasks * max_phasers
-  pub members : (i : ℕ) → slice_index_or k.members i false ≡ false
-  pub slots_many : length k.slots ≡ names
-  pub slots : (i : ℕ) → slice_index_or k.slots i 0 ≡ 0
-  pub slot_count : k.slot_count ≡ 1
-  pub things_many : length k.things ≡ max_tasks + max_phasers
-  pub things : (i : ℕ) → slice_index_or k.things i a_thing.Nothing ≡ a_thing.Nothing
-  pub ops : k.ops ≡ 0
-  pub visits : k.visits ≡ 0
+  pub starts : k.starts ≡ Some (record { first = 0; after = length steps; things = k.bindings.things }) ∷ []
+  pub members : k.members ≡ [] ∷ []
+  pub bindings : AreOpeningBindings names k.bindings
+  pub counts : k.counts ≡ record { ops = 0; visits = 0 }

@@ -1,7 +1,9 @@
 -- What is kept shows a state of the unfolding.
-use Rattle.std.specs.Prelude.{◌≡◌, ℕ, ◌+◌, ◌*◌, ◌<◌, false, List, ◌∷◌, length, slice_index_or, sum_by, Option, Some, None, Result, Ok, Err}
+use Rattle.std.specs.Prelude.{◌≡◌, ℕ, ◌+◌, ◌<◌, false, List, [], ◌∷◌, length, slice_index_or, sum_by, Option, Some, None, Result, Ok, Err}
 use Rattle.std.specs.Str.{bytes_eq}
-use Rattle.armus_base.specs.Limits.{max_phasers}
+use Rattle.armus_base.specs.Plans.{Plan}
+use Rattle.armus_base.specs.declared.ids.TaskId.{TaskId}
+use Rattle.armus_base.specs.declared.op.Op.{Op}
 use Rattle.pl_plan.specs.declared.step.Step.{Step}
 use Rattle.pl_plan.specs.declared.step.Thing as code
 use Rattle.pl_plan.specs.declared.step.Thing.TheVariants as a_thing
@@ -36,18 +38,22 @@ MaybeStartShows names slots steps (Some start) (Some kept) = StartShows names sl
 MaybeStartShows names slots steps None (Some kept) = ⊥
 MaybeStartShows names slots steps (Some start) None = ⊥
 
+-- these lists and this count of ops are those of the plan
+pub record ShowsPlan (drawn : List (Option TaskId)) (made : List TaskId) (written : List (List Op)) (count : ℕ) (plan : Plan) : Type 0 where
+  pub parents : plan.parents ≡ drawn
+  pub makers : plan.makers ≡ made
+  pub codes : plan.codes ≡ written
+  pub ops : sum_by length plan.codes ≡ count
+
 -- what is kept shows this state: the same plan, starts, members and visits, and each name of the text stands for the same thing
 pub record ShowsState (names : ℕ → List ℕ) (k : Checker) (s : UnfoldingState) : Type 0 where
-  pub distinct : IsNumbering (length k.slots) names
-  pub parents : s.plan.parents ≡ k.parents
-  pub makers : s.plan.makers ≡ k.makers
-  pub codes : s.plan.codes ≡ k.codes
+  pub distinct : IsNumbering (length k.bindings.slots) names
+  pub plan : ShowsPlan k.parents k.makers k.codes k.counts.ops s.plan
   pub starts_many : length s.starts ≡ length k.starts
-  pub starts : (c : ℕ) → MaybeStartShows names k.slots k.steps (slice_index_or s.starts c None) (slice_index_or k.starts c None)
-  pub members : (v q : ℕ) → q < max_phasers → s.members v q ≡ slice_index_or k.members (max_phasers * v + q) false
-  pub named : AreNamed names k.slots k.things s.names
-  pub ops : sum_by length s.plan.codes ≡ k.ops
-  pub visits : s.visits ≡ k.visits
+  pub starts : (c : ℕ) → MaybeStartShows names k.bindings.slots k.steps (slice_index_or s.starts c None) (slice_index_or k.starts c None)
+  pub members : (v q : ℕ) → s.members v q ≡ slice_index_or (slice_index_or k.members v []) q false
+  pub named : AreNamed names k.bindings.slots k.bindings.things s.names
+  pub visits : s.visits ≡ k.counts.visits
 
 -- where this is what the unfolding gives
 abbrev pub Follows : {A : Type 0} → Result A PlanEnd → Outcome UnfoldingState → (UnfoldingState → Type 0) → Type 0
@@ -58,11 +64,11 @@ Follows (Err ends.NoMemory) outcome shows = Unit {0}
 -- the steps from one index on, before another, follow the visits of the tree that they spell
 abbrev pub FollowsFrom : ℕ → ℕ → ℕ → Checker → Result (Unit {0}) PlanEnd → Checker → Type 0
 FollowsFrom from to t old r new =
-    (names : ℕ → List ℕ) (s : UnfoldingState) (tree : Tree) → IsSpelled (length old.slots) names old.steps from tree to → ShowsState names old s →
+    (names : ℕ → List ℕ) (s : UnfoldingState) (tree : Tree) → IsSpelled (length old.bindings.slots) names old.steps from tree to → ShowsState names old s →
     Follows r (make_visits t (visits_of (from + 1) tree) s) (ShowsState names new)
 
 -- the turns of the loop with this index follow the visits of its turns
 abbrev pub FollowsTurns : ℕ → ℕ → ℕ → ℕ → Checker → Result (Unit {0}) PlanEnd → Checker → Type 0
 FollowsTurns at after t turns old r new =
-    (names : ℕ → List ℕ) (s : UnfoldingState) (tree : Tree) → IsSpelled (length old.slots) names old.steps (at + 1) tree after → ShowsState names old s →
+    (names : ℕ → List ℕ) (s : UnfoldingState) (tree : Tree) → IsSpelled (length old.bindings.slots) names old.steps (at + 1) tree after → ShowsState names old s →
     Follows r (make_visits t (times turns (visit (at + 1) a_turn ∷ visits_of (at + 1 + 1) tree)) s) (ShowsState names new)

@@ -5,7 +5,7 @@ use Rattle.pl_plan.proofs.Ahead as a
 use Rattle.pl_plan.proofs.walk.+walk.Goals as goal
 
 pub walk-loop-at-init : goal.walk-loop-at-init
-walk-loop-at-init t c = on_start (length c.args.checker.now.slots) c.args.to c.args.t.0 c.args.checker.now.steps c.args.from c.args.checker.now c.requires.fits c.requires.list
+walk-loop-at-init t c = on_start (length c.args.checker.now.bindings.slots) c.args.to c.args.t.0 c.args.checker.now.steps c.args.from c.args.checker.now c.requires.fits c.requires.list
 
 pub walk-returns-in_err-count_visit-clause-follows : goal.walk-returns-in_err-count_visit-clause-follows
 walk-returns-in_err-count_visit-clause-follows t c =
@@ -106,7 +106,7 @@ walk-loop-at-preserved t c =
     (a.plain_is c.step-step.result c.in_default.not-Fork c.in_default.not-Loop) c.act.new.checker c.in_ok-act-in_default.ensures
 
 pub walk-returns-clause-follows : goal.walk-returns-clause-follows
-walk-returns-clause-follows t c = λ names s tree sp h. on_ended (length c.args.checker.now.slots) c.args.to c.args.t.0 c.args.checker.now.steps c.args.from
+walk-returns-clause-follows t c = λ names s tree sp h. on_ended (length c.args.checker.now.bindings.slots) c.args.to c.args.t.0 c.args.checker.now.steps c.args.from
     c.args.checker.now c.loop-at.at c.loop-at.checker names s tree c.loop-at-test.false sp h c.loop-at.invariant
 
 pub walk_turns-returns-in_err-count_visit-clause-follows : goal.walk_turns-returns-in_err-count_visit-clause-follows

@@ -10,7 +10,7 @@ abbrev pub decreases-walk_turns : goal.decreases-walk_turns
 decreases-walk_turns l = 2 * (l.after - l.at)
 
 abbrev pub invariant-walk-loop-at : goal.invariant-walk-loop-at
-invariant-walk-loop-at l = On (length l.fn.checker.slots) l.to l.t.0 l.fn.checker.steps l.from l.fn.checker l.at l.checker
+invariant-walk-loop-at l = On (length l.fn.checker.bindings.slots) l.to l.t.0 l.fn.checker.steps l.from l.fn.checker l.at l.checker
 
 abbrev pub decreases-walk-loop-at : goal.decreases-walk-loop-at
 decreases-walk-loop-at l = l.to - l.at
