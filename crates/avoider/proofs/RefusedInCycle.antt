@@ -76,7 +76,8 @@ module _ (w : WorldValue) (checked : IsCheckedPlan w.plan) (reach : IsReachable 
     dead_already =
         let first = get_or tasks 0 (record { 0 = t }) in
         let m : Contains tasks first = (0, cycle.some, get_or_default tasks 0 first (record { 0 = t }) cycle.some) in
-        nobody first.0 ((dead_on_asked w.plan (state_of w) asked (of_plan w checked reach) awaited_before first.0).0 (dead_by_list now first (tasks, m, cycle_deadlocked supposed now tasks events e cycle there)))
+        nobody first.0 ((dead_on_asked w.plan (state_of w) asked (of_plan w checked reach) awaited_before first.0).0
+        (dead_by_list now first (tasks, m, cycle_deadlocked supposed now tasks events e cycle there)))
 
   pub refused_in_cycle : IsCycle supposed tasks events → Contains tasks (record { 0 = t })
   refused_in_cycle cycle =

@@ -1,5 +1,5 @@
 // The walk from a task to a goal by nearest successors.
-ghost use Rattle.std.specs.Prelude.{◌≡◌, ◌≢◌, ℕ, IfOk};
+ghost use Rattle.std.specs.Prelude.{◌≢◌, ℕ, IfOk};
 ghost use Rattle.armus_base.specs.Relations.{Walk};
 ghost use Rattle.order_graph.specs.Adding.{IsNearest, IsNearestWalk};
 ghost use Rattle.order_graph.specs.Orders.{IsEdge, IsOrder, IsTaskOf};

@@ -107,7 +107,8 @@ module _ (before now : Known) (list : List Status) (checked : IsCheckedPlan befo
   pub finds_state : list ≡ statuses_on before.view.plan (state_at before.view.plan a) (is_awaited before.view.plan (state_at before.view.plan a))
   finds_state =
       c.statuses
-      ∙ statuses_same before.view.plan c.found (state_at before.view.plan a) (is_awaited before.view.plan c.found) event_so (λ t p l waits few on. phase_so t p ((l, refl), waits, few, on))
+      ∙ statuses_same before.view.plan c.found (state_at before.view.plan a) (is_awaited before.view.plan c.found) event_so
+      (λ t p l waits few on. phase_so t p ((l, refl), waits, few, on))
       ∙ ap (statuses_on before.view.plan (state_at before.view.plan a)) asked_same
 
 -- where a seat knows all tasks exactly, its places are the only ones that are possible

@@ -59,7 +59,8 @@ returns-clause-supposed c =
     c.requires.made c.id-t.ensures.seat c.id-t.ensures.task (tasks_are at.After-load_column) (column_loads at.After-supposed) c.supposed.ensures.seat
     (phasers_are at.After-load_column) c.self.invariant.marked c.in_ok-list.list
     (c.in_ok-list.ensures.statuses
-    ∙ ap (λ xs. given_below (status_found self.phasers (state_supposed (state_of_findings self) c.id-t.result.0 c.args.event (own_phase c.excludes_cycle.new.seat.view) (phase_in xs))
+    ∙ ap (λ xs. given_below (status_found self.phasers (state_supposed (state_of_findings self) c.id-t.result.0 c.args.event (own_phase c.excludes_cycle.new.seat.view)
+    (phase_in xs))
     (updated (awaited_in_findings self) c.args.event.p.0 true)) self.tasks) (column_is at.After-as_slice-column)))
 
 pub returns-then-excludes_cycle-clause-goes_on : goal.returns-then-excludes_cycle-clause-goes_on
