@@ -40,10 +40,10 @@ use Rattle.phase_scan.specs.Supposed.{IsSupposed}
 use Rattle.phase_scan.specs.Tables.{state_supposed}
 use Rattle.phase_scan.proofs.Columns.{ColumnLoad, column_goes, column_of}
 use Rattle.phase_scan.proofs.Farther.{far_before}
-use Rattle.phase_scan.proofs.Loads.{phase_load}
+use Rattle.phase_scan.proofs.Loads.{phase_load, prefix_both}
 use Rattle.phase_scan.proofs.Standing.{phases_begun_at, published_begun}
 use Rattle.phase_scan.proofs.Supposes.{own_phase_stays}
-use Rattle.phase_scan.proofs.Telling.{found_there, prefix_both}
+use Rattle.phase_scan.proofs.Telling.{found_there}
 use Rattle.phase_scan.specs.OffCycle.{ImpedesSome}
 
 is_lt : (a b : ℕ) → a < b → nat_lt a b ≡ true

@@ -36,13 +36,14 @@ module _ (list : List Status) (aim : Aim) (before now : Known) (t : ℕ) (seat :
   module _ (a : ℕ → Place) (lock : Option ℕ) (lawful : IsLawful true plan a lock) (has : HasLockWith plan t a lock (seen now.view))
       (far : IsAsFarOn plan (Some t) a (seen now.view)) where
     told : Decides (state_at plan a) t event supposed
-    told = decides list supposed aim event before judges.between now t seat own next judges.own judges.collected.goes_on judges.collected.tells (judges.collected.finds holds) judges.adds a lock avoiding lawful has
-        far
+    told = decides list supposed aim event before judges.between now t seat own next judges.own judges.collected.goes_on judges.collected.tells
+        (judges.collected.finds holds) judges.adds a lock avoiding lawful has far
 
     harmless : (ImpedesSome supposed t → ⊥) → WouldBeDead (state_at plan a) t event → ⊥
     harmless none =
         lives_impeding_nobody (state_at plan a) t event (nobody_dead_at plan a lock seat.checked lawful)
-        (would_impede_nobody list supposed aim event before judges.between now t seat own next judges.own judges.collected.goes_on judges.collected.tells (judges.collected.finds holds) judges.adds a lock avoiding
+        (would_impede_nobody list supposed aim event before judges.between now t seat own next judges.own judges.collected.goes_on judges.collected.tells
+        (judges.collected.finds holds) judges.adds a lock avoiding
         lawful has far none)
 
   pub each : (Holds : State → Type 0) → InEachWithLock plan t (seen now.view) Holds → InEachByLock now Holds
@@ -67,7 +68,8 @@ module _ (list : List Status) (aim : Aim) (before now : Known) (t : ℕ) (seat :
   lives_unimpeded none dead =
       let link = dead.deadlocked.each t dead.inside in
       let same : link.event ≡ event =
-      own_only list supposed aim event before judges.between now t seat own next judges.own judges.collected.goes_on judges.collected.tells (judges.collected.finds holds) judges.adds link.event link.waits in
+      own_only list supposed aim event before judges.between now t seat own next judges.own judges.collected.goes_on judges.collected.tells (judges.collected.finds holds)
+      judges.adds link.event link.waits in
       let (s, (k, few, here), task_is, (i, within, member)) = link.impedes in
       none (
         k,

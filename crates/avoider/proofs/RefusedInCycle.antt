@@ -1,5 +1,5 @@
 -- The refused task stands in the cycle: nobody else was dead without it.
-use Rattle.std.proofs.Common.{◌≡◌, ◌≢◌, ℕ, ◌+◌, ◌<◌, Bool, true, Some, None, List, [], ◌∷◌, length, get_or, arith, sym, ◌∙◌, ap, subst, refl, eq-eqb, ◌⊎◌, inl, inr}
+use Rattle.std.proofs.Common.{◌≡◌, ◌≢◌, ℕ, Bool, true, Some, None, List, [], ◌∷◌, length, get_or, sym, ◌∙◌, ap, subst, refl, eq-eqb, ◌⊎◌, inl, inr}
 use Rattle.std.specs.Prelude.{Contains}
 use Rattle.std.proofs.lemmas.Bool.{cases_eq}
 use Rattle.std.proofs.lemmas.List.{get_or_default}
@@ -11,16 +11,16 @@ use Rattle.armus_base.specs.CheckedPlans.{IsCheckedPlan}
 use Rattle.armus_base.specs.Deadlocks.{NobodyDead}
 use Rattle.armus_base.specs.Finals.{is_awaited, is_event_of, statuses_on}
 use Rattle.armus_base.specs.Runs.{IsReachable}
-use Rattle.armus_base.specs.Statuses.{Impedes}
 use Rattle.armus_base.proofs.DeadByStatuses.{dead_on_asked}
 use Rattle.armus_base.proofs.Fixed.{some_before_from}
 use Rattle.armus_base.proofs.Elements.{Contains-cons_cases, Contains-head, Contains-tail, nothing_in_nil}
 use Rattle.armus_base.proofs.StatusesAre.{listed_from, listed_is}
 use Rattle.armus_base.proofs.Steps.{updated_other}
-use Rattle.dep_state.proofs.DeadSets.{IsDeadlockedList, dead_by_list}
+use Rattle.dep_state.proofs.DeadSets.{dead_by_list}
 use Rattle.pl_core.specs.Stands.{IsAtAwaitOf}
 use Rattle.pl_core.specs.Worlds.{WorldValue, places_of, state_of}
-use Rattle.verdict.specs.Cycles.{IsCycle, IsNext}
+use Rattle.verdict.specs.Cycles.{IsCycle}
+use Rattle.avoider.proofs.CycleDead.{cycle_deadlocked}
 use Rattle.avoider.proofs.Supposing.{of_plan}
 
 none_is_some : (e : Event) → None ≡ Some e → ⊥
@@ -36,14 +36,6 @@ among_or_not (u ∷ ts) t =
         | inl m ↦ inl (Contains-tail u ts t m)
         | inr none ↦ inr (λ m. elim (Contains-cons_cases u ts t m) [ inl e ↦ other (ap (λ v. v.0) e) | inr later ↦ none later ])
       ]
-    ]
-
--- among n there is a place after each
-pub next_place_of : (n k : ℕ) → k < n → (j : ℕ) × (j < n) × IsNext n k j
-next_place_of n k l =
-    elim (cases_eq (k + 1) n) [
-      | inl last ↦ (0, omega arith, inl (last, refl))
-      | inr more ↦ (k + 1, omega arith, inr (omega arith, refl))
     ]
 
 module _ (w : WorldValue) (checked : IsCheckedPlan w.plan) (reach : IsReachable w.plan (places_of w)) (t : ℕ) (e : Event) (before : IsAtAwaitOf w t e)
@@ -80,30 +72,12 @@ module _ (w : WorldValue) (checked : IsCheckedPlan w.plan) (reach : IsReachable 
     there : (s : Status) (u : TaskId) → Contains supposed s → s.t ≡ u → Contains tasks u → Contains now s
     there s u m same among = there_already s m (λ own. other_task u among (ap (λ v. v.0) (sym same) ∙ own))
 
-    -- each task of the cycle is impeded by one of it already
-    keeps : IsDeadlockedList now tasks
-    keeps u m =
-        let link = cycle.each m.0 m.1 in
-        let waits = link.awaits u e in
-        let next = next_place_of (length tasks) m.0 m.1 in
-        let by = link.impeded next.0 u e next.2 in
-        let behind : Contains tasks (get_or tasks next.0 u) = (next.0, next.1, get_or_default tasks next.0 (get_or tasks next.0 u) u next.1) in (
-          waits.1,
-          there waits.1 u (waits.0, waits.2, waits.3) (waits.4.0 ∙ m.2) m,
-          waits.4.0 ∙ m.2,
-          (
-            by.1,
-            there by.1 (get_or tasks next.0 u) (by.0, by.2, by.3) by.4.0 behind,
-            subst (λ v. Contains tasks v) (sym by.4.0) behind,
-            subst (λ v. Impedes by.1 v) (sym waits.4.1) by.4.1,
-          ),
-        )
-
     dead_already : ⊥
     dead_already =
         let first = get_or tasks 0 (record { 0 = t }) in
         let m : Contains tasks first = (0, cycle.some, get_or_default tasks 0 first (record { 0 = t }) cycle.some) in
-        nobody first.0 ((dead_on_asked w.plan (state_of w) asked (of_plan w checked reach) awaited_before first.0).0 (dead_by_list now first (tasks, m, keeps)))
+        nobody first.0 ((dead_on_asked w.plan (state_of w) asked (of_plan w checked reach) awaited_before first.0).0
+        (dead_by_list now first (tasks, m, cycle_deadlocked supposed now tasks events e cycle there)))
 
   pub refused_in_cycle : IsCycle supposed tasks events → Contains tasks (record { 0 = t })
   refused_in_cycle cycle =

@@ -1,5 +1,5 @@
 // Decisions by an order that is kept from one await to the next.
-ghost use Rattle.std.specs.Prelude.{◌≡◌, List, length, Contains, IfOk, OnErr};
+ghost use Rattle.std.specs.Prelude.{◌≡◌, length, Contains, IfOk, OnErr};
 ghost use Rattle.armus_base.specs.Deadlocks.{NobodyDead};
 ghost use Rattle.armus_base.specs.Statuses.{IsInOrder};
 ghost use Rattle.armus_base.specs.declared.status.Status.{Status};

@@ -15,7 +15,7 @@ use Rattle.armus_base.specs.CheckedPlans.{IsCheckedPlan}
 use Rattle.armus_base.specs.Boards.{IsLawful}
 use Rattle.armus_base.specs.Deadlocks.{IsAtPhase, IsDeadBy, IsDeadIn, IsDeadlockedSet, IsImpededWithin, IsListedAt, IsListedOn, IsPublishedOn}
 use Rattle.armus_base.specs.Decisions.{HasFound}
-use Rattle.armus_base.specs.Seats.{IsAsFarOn, IsKnownDead, SeenBy}
+use Rattle.armus_base.specs.Seats.{IsAsFarOn, IsKnownDead}
 use Rattle.armus_base.proofs.BoardRuns.{lawful_is_reachable, nobody_is_known_dead}
 use Rattle.armus_base.proofs.LeastLawful.{least_lawful_exists}
 use Rattle.armus_base.proofs.Places.{precedes_trans}
@@ -30,16 +30,12 @@ use Rattle.phase_scan.specs.Collected.{IsCollected, IsListedAsIn}
 use Rattle.phase_scan.specs.Collecting.{HasCollected}
 use Rattle.phase_scan.specs.Settled.{KnowsAll, TellsState, seen_state}
 use Rattle.phase_scan.proofs.Collecting.{cells_listed, cells_possible}
-use Rattle.phase_scan.proofs.Farther.{IsPossible}
+use Rattle.phase_scan.proofs.Farther.{IsPossible, far_of_viewer}
 use Rattle.phase_scan.proofs.Standing.{dead_place, published_begun, same_phases}
 use Rattle.collector.specs.declared.verdict.Verdict.{Verdict}
 use Rattle.collector.specs.inside.Names.{AreFresh}
 use Rattle.collector.specs.Passes.{HasDeadOf, InEachState, IsKnownDeadTo, IsVerdict, is_named}
 use Rattle.collector.proofs.Fresh.{Contains-map, filter_inside}
-
--- what is as far on as what the seat of a task has seen is as far on as what a viewer has that has seen the same
-far_of_viewer : (plan : Plan) (own : Option ℕ) (a : ℕ → Place) (s : SeenBy) → IsAsFarOn plan own a s → IsAsFarOn plan None a s
-far_of_viewer plan own a s far = record { later = far.later; equal = far.equal; scanned = λ t is. absurd (cc) }
 
 module _ (before now : Known) (list : List Status) (checked : IsCheckedPlan before.view.plan) (goes : LoadsAlone before now)
     (listed : (t : ℕ) (e : Event) → IsListedOn list t e → t < length before.view.plan.parents) (possible : IsPossible before (λ s. Unit {0}))

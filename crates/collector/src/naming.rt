@@ -1,7 +1,6 @@
 // Who is named, and who is not named yet.
-ghost use Rattle.std.specs.Prelude.{◌≡◌, ℕ, ◌<◌, ◌⊎◌, ◌↔◌, true, Contains, All, IfOk, MatchOption, length, vec_len};
+ghost use Rattle.std.specs.Prelude.{◌≡◌, ◌<◌, true, All, IfOk, MatchOption, length, vec_len};
 ghost use Rattle.armus_base.specs.declared.event.Event.{Event as EventValue};
-ghost use Rattle.armus_base.specs.declared.ids.TaskId.{TaskId as TaskValue};
 ghost use Rattle.armus_base.specs.Deadlocks.{IsListedOn};
 ghost use Rattle.collector.specs.inside.Names.{AreFresh};
 ghost use Rattle.collector.specs.Passes.{NamesToo};

@@ -1,5 +1,5 @@
 // The walk to a cycle.
-ghost use Rattle.std.specs.Prelude.{◌≡◌, ◌^◌, ◌<◌, Bool, true, false, length, All, Contains, IfOk, IfSome, IfNone, slice_index, slice_index_or};
+ghost use Rattle.std.specs.Prelude.{◌≡◌, ◌^◌, ◌<◌, true, false, length, All, Contains, IfOk, IfSome, IfNone, slice_index, slice_index_or};
 ghost use Rattle.armus_base.specs.Relations.{IsWalkCycle};
 ghost use Rattle.digraph.specs.Graph.{Ascends, TellsCycles, graph_of};
 ghost use Rattle.digraph.specs.inside.Rows.{IsGraph};

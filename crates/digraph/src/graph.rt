@@ -21,9 +21,9 @@ pub struct Digraph {
 }
 
 impl Model for Digraph {
-    ghost use Rattle.std.specs.Prelude.{◌≡◌, ◌^◌, ◌<◌, ◌≤◌, List, ℕ, length};
+    ghost use Rattle.std.specs.Prelude.{◌≡◌, ◌<◌, List, ℕ, length};
     ghost use Rattle.digraph.specs.Graph.{graph_of};
-    ghost use Rattle.digraph.specs.inside.Rows.{IsGraph, IsDigraph, edge_count};
+    ghost use Rattle.digraph.specs.inside.Rows.{IsDigraph};
 
     ghost Value = { List (List ℕ) };
 

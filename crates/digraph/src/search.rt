@@ -1,9 +1,9 @@
 // A search of each node in turn for cycles that it reaches, along a stack of nodes.
-ghost use Rattle.std.specs.Prelude.{◌≡◌, ◌^◌, ℕ, ◌+◌, ◌*◌, ◌<◌, ◌≤◌, List, [], length, map, All, IfOk, OnOk, IfSome, IfNone, ◌-◌, vec_len, slice_index, count_by, sum};
+ghost use Rattle.std.specs.Prelude.{◌≡◌, ◌^◌, ℕ, ◌<◌, ◌≤◌, List, [], length, map, All, IfOk, OnOk, IfSome, IfNone, ◌-◌, slice_index, count_by};
 ghost use Rattle.armus_base.specs.Relations.{ReachesCycle};
 ghost use Rattle.digraph.specs.Graph.{TellsCycles, HasEdge, graph_of};
 ghost use Rattle.digraph.specs.inside.Rows.{IsGraph};
-ghost use Rattle.digraph.specs.inside.Search.{IsSearch, IsAhead, KeepsMarked, IsMarked, IsSettled, row_of, mark_of, is_unvisited, is_cyclic, work};
+ghost use Rattle.digraph.specs.inside.Search.{IsSearch, IsAhead, KeepsMarked, IsMarked, IsSettled, row_of, is_unvisited, is_cyclic, work};
 
 use std::alloc::{AllocError, Global};
 

@@ -1,9 +1,9 @@
 // The walk from a task to a goal by nearest successors.
-ghost use Rattle.std.specs.Prelude.{◌≡◌, ◌≢◌, ℕ, IfOk};
+ghost use Rattle.std.specs.Prelude.{◌≢◌, ℕ, IfOk};
 ghost use Rattle.armus_base.specs.Relations.{Walk};
 ghost use Rattle.order_graph.specs.Adding.{IsNearest, IsNearestWalk};
 ghost use Rattle.order_graph.specs.Orders.{IsEdge, IsOrder, IsTaskOf};
-ghost use Rattle.order_graph.specs.inside.Distances.{GoesOnTo, IsListedIn, TellDistances};
+ghost use Rattle.order_graph.specs.inside.Distances.{IsListedFurther, IsListedIn, TellDistances};
 
 use crate::Order;
 use crate::distances::nearest;
@@ -19,7 +19,7 @@ fn next(order: &Order, goal: TaskId, far: &[Option<u32>], t: TaskId) -> TaskId
     requires reaches { (n : ℕ) × Walk (IsEdge order.now) n t goal }
     requires other { t ≢ goal }
     ensures nearest { IsNearest order.now goal t result }
-    ensures goes_on { GoesOnTo order.now goal far.now t result }
+    ensures goes_on { IsListedFurther order.now goal far.now t result }
 {
     match nearest(order, goal, far, t) {
         Some(near) => near.next,

@@ -16,11 +16,11 @@ use Rattle.phase_scan.specs.Collects.{CountsLoads, IfAsked, IsAwaitedPhaser, IsC
 use Rattle.phase_scan.proofs.Telling.{are, loaded_of}
 
 -- how many numbers below n pass the test
-pub count_below : (ℕ → Bool) → ℕ → ℕ
+unfoldable pub count_below : (ℕ → Bool) → ℕ → ℕ
 count_below test zero = 0
 count_below test (suc n) = if test n then count_below test n + 1 else count_below test n
 
-counts_below : (test : ℕ → Bool) (n : ℕ) → IsCount (λ p. p < n × test p ≡ true) (count_below test n)
+pub counts_below : (test : ℕ → Bool) (n : ℕ) → IsCount (λ p. p < n × test p ≡ true) (count_below test n)
 unfolding count_below
 counts_below test zero = count_none (λ p. p < 0 × test p ≡ true) (λ p is. (let l = is.0 in omega arith))
 counts_below test (suc n) = by_test (test n) refl (counts_below test n)

@@ -2,6 +2,7 @@ pub mod Loads
 pub mod Chains
 pub mod Standing
 pub mod Farther
+pub mod FoundPlaces
 pub mod Telling
 pub mod Settling
 pub mod Finds

@@ -23,6 +23,9 @@ use Rattle.board.proofs.Ranges.{phaser_of_member}
 use Rattle.board.proofs.Loaded.{event_stays}
 use Rattle.phase_scan.specs.Looks.{LoadsAlone, InEachLawful, ScansTo}
 
+pub prefix_both : (a b c : Place) → IsPrefix a b → IsPrefix b c → IsPrefix a c
+prefix_both a b c x y = precedes_trans a.done b.done c.done a.dropped b.dropped c.dropped x y
+
 some_same : (u w : ℕ) → Some u ≡ Some w → u ≡ w
 some_same u w e = cc
 

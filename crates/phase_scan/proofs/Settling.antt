@@ -25,7 +25,8 @@ use Rattle.phase_scan.proofs.Loads.{goes_both}
 use Rattle.phase_scan.proofs.Farther.{possible_before}
 use Rattle.phase_scan.proofs.Keeping.{some_same}
 use Rattle.phase_scan.proofs.Tables.{given_below_same}
-use Rattle.phase_scan.proofs.Telling.{IsLoaded, await, awaits, phase, seat, some_possible}
+use Rattle.phase_scan.proofs.FoundPlaces.{IsLoaded, phase}
+use Rattle.phase_scan.proofs.Telling.{await, awaits, gathers, seat, some_possible}
 
 -- what an await word says is waiting just where its task is published
 waiting_is : (o r : Option Event) → waiting_on (found_by o r) ≡ o
@@ -90,9 +91,9 @@ module _ (before now : Known) (list : List Status) (checked : IsCheckedPlan befo
       x.finds.waits ∙ ap waiting_on (sym there)
       ∙ waiting_is ((state_at before.view.plan a).published t) ((state_at before.view.plan a).refused t)
 
-  phase_so : (t p : ℕ) → IsLoaded before now list checked some c t p → c.found.phases t p ≡ (state_at before.view.plan a).phases t p
+  phase_so : (t p : ℕ) → IsLoaded (gathers before now list checked some c) t p → c.found.phases t p ≡ (state_at before.view.plan a).phases t p
   phase_so t p is =
-      let y = phase before now list checked some c t p is in
+      let y = phase (gathers before now list checked some c) t p is in
       let goes = goes_both before c.between y.from (awaits before now list checked some c).goes y.goes_from in
       let was = possible_before before y.from y.to (λ r. r.phases t p ≡ c.found.phases t p) start goes y.load.load.was in
       sym (subst (λ (b : ℕ → Place). (state_at before.view.plan b).phases t p ≡ c.found.phases t p) (only was.places was.lock was.lawful was.far) was.holds)
@@ -106,7 +107,8 @@ module _ (before now : Known) (list : List Status) (checked : IsCheckedPlan befo
   pub finds_state : list ≡ statuses_on before.view.plan (state_at before.view.plan a) (is_awaited before.view.plan (state_at before.view.plan a))
   finds_state =
       c.statuses
-      ∙ statuses_same before.view.plan c.found (state_at before.view.plan a) (is_awaited before.view.plan c.found) event_so (λ t p l waits few on. phase_so t p (l, waits, few, on))
+      ∙ statuses_same before.view.plan c.found (state_at before.view.plan a) (is_awaited before.view.plan c.found) event_so
+      (λ t p l waits few on. phase_so t p ((l, refl), waits, few, on))
       ∙ ap (statuses_on before.view.plan (state_at before.view.plan a)) asked_same
 
 -- where a seat knows all tasks exactly, its places are the only ones that are possible

@@ -1,5 +1,5 @@
 // The cells of a collect.
-ghost use Rattle.std.specs.Prelude.{◌≡◌, ◌<◌, ◌≤◌, ◌*◌, [], true, IfOk, length};
+ghost use Rattle.std.specs.Prelude.{◌≡◌, ◌<◌, ◌≤◌, ◌*◌, [], IfOk, length};
 ghost use Rattle.armus_base.specs.Limits.{max_cells, max_tasks};
 ghost use Rattle.armus_base.specs.Statuses.{IsInOrder};
 ghost use Rattle.board.specs.Seats.{IsOf};

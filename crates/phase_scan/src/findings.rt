@@ -1,9 +1,8 @@
 // What the loads of a collect found.
-ghost use Rattle.std.specs.Prelude.{◌≡◌, ◌≢◌, ℕ, ◌+◌, ◌<◌, ◌≤◌, ◌*◌, ◌^◌, Some, None, false, ◌||◌, IfOk, IfSome, length, vec_len};
+ghost use Rattle.std.specs.Prelude.{◌≡◌, ℕ, ◌+◌, ◌<◌, ◌*◌, ◌^◌, Some, None, false, ◌||◌, IfOk, IfSome, length, vec_len};
 ghost use Rattle.armus_base.specs.CheckedPlans.{IsCheckedPlan};
 ghost use Rattle.armus_base.specs.Finals.{given_below, is_event_of, listed_phase};
-ghost use Rattle.armus_base.specs.Places.{some_before};
-ghost use Rattle.armus_base.specs.States.{updated, with_phase};
+ghost use Rattle.armus_base.specs.States.{updated};
 ghost use Rattle.board.specs.Seats.{IsOf};
 ghost use Rattle.board.specs.Views.{found_of};
 ghost use Rattle.phase_scan.specs.Collects.{LoadsRows, waiting_on};

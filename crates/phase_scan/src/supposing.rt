@@ -1,5 +1,5 @@
 // What was found, with the status that a task would have.
-ghost use Rattle.std.specs.Prelude.{◌≡◌, ◌≢◌, ℕ, ◌+◌, ◌<◌, ◌≤◌, Some, None, true, false, IfOk, is_some, length};
+ghost use Rattle.std.specs.Prelude.{◌≡◌, ◌+◌, ◌<◌, Some, None, IfOk, is_some, length};
 ghost use Rattle.armus_base.specs.Finals.{given_below, listed_phase};
 ghost use Rattle.armus_base.specs.States.{updated};
 ghost use Rattle.board.specs.Seats.{AnswersPhase, IsOf};
@@ -7,8 +7,9 @@ ghost use Rattle.board.specs.Steps.{own_phase};
 ghost use Rattle.phase_scan.specs.Collects.{IfAsked};
 ghost use Rattle.phase_scan.specs.inside.Nexts.{AreNexts};
 ghost use Rattle.phase_scan.specs.Supposed.{LoadsColumn};
-ghost use Rattle.phase_scan.specs.Tables.{awaited_in_findings, event_for, state_of_findings, state_supposed, status_found};
+ghost use Rattle.phase_scan.specs.Tables.{event_for};
 ghost use Rattle.phase_scan.specs.inside.Phases.{phase_in};
+ghost use Rattle.phase_scan.specs.inside.Supposing.{awaited_too, members_on, phases_with, status_supposed};
 
 use crate::findings::Findings;
 use crate::nexts::nexts_of;
@@ -80,7 +81,7 @@ impl Findings {
     ) -> Option<Member>
         requires task { t.0 < self.now.tasks }
         requires phaser { q.0 < self.now.phasers }
-        ensures { result ≡ listed_phase (updated (awaited_in_findings self.now) p.0 true) (updated ((state_of_findings self.now).phases t.0) p.0 found) q.0 }
+        ensures { result ≡ listed_phase (awaited_too self.now p.0) (phases_with self.now t.0 p.0 found) q.0 }
     {
         if q.0 != p.0 {
             return self.listed(t, q);
@@ -102,8 +103,8 @@ impl Findings {
     ) -> Result<Vec<Member>, NoMemory>
         requires task { t.0 < self.now.tasks }
         requires room { length nexts.now ≡ self.now.phasers + 1 }
-        requires nexts { AreNexts (updated (awaited_in_findings self.now) p.0 true) self.now.phasers nexts.now }
-        ensures { IfOk result (λ list. list.items ≡ given_below (listed_phase (updated (awaited_in_findings self.now) p.0 true) (updated ((state_of_findings self.now).phases t.0) p.0 found)) self.now.phasers) }
+        requires nexts { AreNexts (awaited_too self.now p.0) self.now.phasers nexts.now }
+        ensures { IfOk result (λ list. list.items ≡ members_on self.now p.0 (phases_with self.now t.0 p.0 found)) }
     {
         let mut members = Vec::new(alloc);
         let mut q = nexts[0];
@@ -129,7 +130,7 @@ impl Findings {
         requires phasers { self.now.phasers ≡ length board.now.plan.makers }
         requires phaser { q.0 < self.now.phasers }
         ensures seat { seat.new ≡ seat.old }
-        ensures listed { result ≡ listed_phase (updated (awaited_in_findings self.now) p.0 true) (own_phase seat.old.view) q.0 }
+        ensures listed { result ≡ listed_phase (awaited_too self.now p.0) (own_phase seat.old.view) q.0 }
     {
         if q.0 != p.0 {
             if !self.awaited[q.0 as usize] {
@@ -154,9 +155,9 @@ impl Findings {
         requires made { IsOf seat.old board.now }
         requires phasers { self.now.phasers ≡ length board.now.plan.makers }
         requires room { length nexts.now ≡ self.now.phasers + 1 }
-        requires nexts { AreNexts (updated (awaited_in_findings self.now) p.0 true) self.now.phasers nexts.now }
+        requires nexts { AreNexts (awaited_too self.now p.0) self.now.phasers nexts.now }
         ensures seat { seat.new ≡ seat.old }
-        ensures members { IfOk result (λ list. list.items ≡ given_below (listed_phase (updated (awaited_in_findings self.now) p.0 true) (own_phase seat.old.view)) self.now.phasers) }
+        ensures members { IfOk result (λ list. list.items ≡ members_on self.now p.0 (own_phase seat.old.view)) }
     {
         let mut members = Vec::new(alloc);
         let mut q = nexts[0];
@@ -187,9 +188,9 @@ impl Findings {
         requires task { u.0 < self.now.tasks }
         requires count { length column.now ≡ self.now.tasks }
         requires room { length nexts.now ≡ self.now.phasers + 1 }
-        requires nexts { AreNexts (updated (awaited_in_findings self.now) event.p.0 true) self.now.phasers nexts.now }
+        requires nexts { AreNexts (awaited_too self.now event.p.0) self.now.phasers nexts.now }
         ensures seat { seat.new ≡ seat.old }
-        ensures status { IfOk result (λ o. o ≡ status_found self.now.phasers (state_supposed (state_of_findings self.now) t.0 event (own_phase seat.old.view) (phase_in column.now)) (updated (awaited_in_findings self.now) event.p.0 true) u.0) }
+        ensures status { IfOk result (λ o. o ≡ status_supposed self.now t.0 event (own_phase seat.old.view) column.now u.0) }
     {
         if u.0 == t.0 {
             let phases = self.own_members(alloc, seat, board, event.p, nexts)?;
@@ -227,7 +228,7 @@ impl Findings {
         requires phasers { self.now.phasers ≡ length board.now.plan.makers }
         requires count { length column.now ≡ self.now.tasks }
         ensures seat { seat.new ≡ seat.old }
-        ensures statuses { IfOk result (λ list. list ≡ given_below (status_found self.now.phasers (state_supposed (state_of_findings self.now) t.0 event (own_phase seat.old.view) (phase_in column.now)) (updated (awaited_in_findings self.now) event.p.0 true)) self.now.tasks) }
+        ensures statuses { IfOk result (λ list. list ≡ given_below (status_supposed self.now t.0 event (own_phase seat.old.view) column.now) self.now.tasks) }
     {
         let nexts = nexts_of(alloc, self.awaited.as_slice(), Some(event.p))?;
         let mut statuses = Vec::new(alloc);

@@ -1,55 +1,26 @@
 -- How many loads a snap makes.
-use Rattle.std.proofs.Common.{◌≡◌, ℕ, zero, suc, ◌<◌, ◌+◌, ◌*◌, Bool, true, false, List, Option, Some, None, length, sym, refl, ap, ◌∙◌, subst, arith, inl, inr, length-append}
+use Rattle.std.proofs.Common.{◌≡◌, ℕ, zero, suc, ◌+◌, ◌*◌, Bool, true, false, List, Option, Some, None, length, sym, ap, ◌∙◌, subst, arith, length-append}
 use Rattle.std.specs.Prelude.{is_some, if◌then◌else◌, option_map, option_to_list}
-use Rattle.std.proofs.lemmas.Bool.{cases_eq}
 use Rattle.armus_base.specs.declared.event.Event.{Event}
 use Rattle.armus_base.specs.declared.status.Status.{Status}
 use Rattle.armus_base.specs.Plans.{Plan}
 use Rattle.armus_base.specs.States.{Phases, State}
-use Rattle.armus_base.specs.Counts.{IsCount}
 use Rattle.armus_base.specs.Finals.{given_below, status_of}
-use Rattle.armus_base.proofs.Counts.{count_more, count_none, count_same}
 use Rattle.board.specs.Seats.{Known}
 use Rattle.phase_scan.specs.Collects.{FindsEvent, IfAsked, LoadsRow, LoadsRows}
+use Rattle.phase_scan.proofs.Counting.{count_below, counts_below}
 use Rattle.sites.specs.Rows.{is_of_site}
 use Rattle.sites.specs.Snaps.{CountsSnap, IsSnap, LoadsChosen}
 use Rattle.sites.specs.inside.Snapping.{whole_status}
 
--- how many numbers below n pass the test
-passes_below : (ℕ → Bool) → ℕ → ℕ
-passes_below test zero = 0
-passes_below test (suc n) = if test n then passes_below test n + 1 else passes_below test n
-
-passes_counted : (test : ℕ → Bool) (n : ℕ) → IsCount (λ p. p < n × test p ≡ true) (passes_below test n)
-unfolding passes_below
-passes_counted test zero = count_none (λ p. p < 0 × test p ≡ true) (λ p is. (let l = is.0 in omega arith))
-passes_counted test (suc n) = by_test (test n) refl (passes_counted test n)
-  where
-    by_test :
-        (b : Bool) → test n ≡ b → IsCount (λ p. p < n × test p ≡ true) (passes_below test n) →
-        IsCount (λ p. p < suc n × test p ≡ true) (if b then passes_below test n + 1 else passes_below test n)
-    by_test true is counts =
-        count_more (λ p. p < n × test p ≡ true) (λ p. p < suc n × test p ≡ true) (passes_below test n) n counts
-        (λ here. (let l = here.0 in omega arith))
-        (λ p. (
-          λ (l, on). elim (cases_eq p n) [ inl e ↦ inr e | inr ne ↦ inl (omega arith, on) ],
-          λ either. elim either [ inl one ↦ (let l = one.0 in omega arith, one.1) | inr e ↦ (omega arith, ap test e ∙ is) ],
-        ))
-    by_test false is counts =
-        count_same (λ p. p < n × test p ≡ true) (λ p. p < suc n × test p ≡ true) (passes_below test n) counts
-        (λ p. (
-          λ (l, on). (omega arith, on),
-          λ (l, on). elim (cases_eq p n) [ inl e ↦ absurd (let off = ap test e ∙ is in cc) | inr ne ↦ (omega arith, on) ],
-        ))
-
-chosen_loads : (chosen : ℕ → Bool) (events : ℕ → Option Event) (n : ℕ) (k m : Known) → LoadsChosen chosen events n k m → m.view.loads ≡ k.view.loads + passes_below chosen n
-unfolding passes_below
+chosen_loads : (chosen : ℕ → Bool) (events : ℕ → Option Event) (n : ℕ) (k m : Known) → LoadsChosen chosen events n k m → m.view.loads ≡ k.view.loads + count_below chosen n
+unfolding count_below
 chosen_loads chosen events zero k m same = (let e = ap (λ (j : Known). j.view.loads) same in omega arith)
 chosen_loads chosen events (suc t) k m (between, before, made) = by_test (chosen_loads chosen events t k between before) (chosen t) made
   where
     by_test :
-        between.view.loads ≡ k.view.loads + passes_below chosen t → (b : Bool) → IfAsked b (FindsEvent t (events t)) between m →
-        m.view.loads ≡ k.view.loads + (if b then passes_below chosen t + 1 else passes_below chosen t)
+        between.view.loads ≡ k.view.loads + count_below chosen t → (b : Bool) → IfAsked b (FindsEvent t (events t)) between m →
+        m.view.loads ≡ k.view.loads + (if b then count_below chosen t + 1 else count_below chosen t)
     by_test rest true finds = (let l = finds.load.load.loads in omega arith)
     by_test rest false same = (let l = ap (λ (j : Known). j.view.loads) same in omega arith)
 
@@ -80,13 +51,13 @@ rows_loads plan found (suc t) k m (between, before, made) =
 pub counts_snap : (plan : Plan) (sites site : ℕ) (list : List Status) (before now : Known) → IsSnap plan sites site list before now → CountsSnap plan sites site list before now
 counts_snap plan sites site list before now c =
     record {
-      tasks = passes_below (is_of_site sites site) (length plan.parents);
-      own = passes_counted (is_of_site sites site) (length plan.parents);
+      tasks = count_below (is_of_site sites site) (length plan.parents);
+      own = counts_below (is_of_site sites site) (length plan.parents);
       loads =
           (let a = chosen_loads (is_of_site sites site) c.found.published (length plan.parents) before c.between c.awaits in
           let r = rows_loads plan c.found (length plan.parents) c.between now c.rows in
           let n = ap length c.statuses in
-          sums before.view.loads c.between.view.loads now.view.loads (passes_below (is_of_site sites site) (length plan.parents))
+          sums before.view.loads c.between.view.loads now.view.loads (count_below (is_of_site sites site) (length plan.parents))
           (length (given_below (status_of plan c.found (λ p. true)) (length plan.parents))) (length plan.makers) (length list) a r n);
     }
   where

@@ -10,7 +10,7 @@ use Rattle.armus_base.specs.Plans.{Plan}
 use Rattle.board.specs.Seats.{Frame, IsOf, Known}
 use Rattle.board.specs.Views.{seen}
 use Rattle.phase_scan.proofs.Tables.{slice_get-set_other, slice_get-set_same}
-use Rattle.phase_scan.proofs.Telling.{prefix_both}
+use Rattle.phase_scan.proofs.Loads.{prefix_both}
 use Rattle.sites.specs.Keeping.{held}
 use Rattle.sites.specs.Passes.{AreBacked, ChangesRows, HasSnapped, HaveLookedOn, IsBackedRow}
 use Rattle.sites.specs.Rows.{IsRowOf, row_bytes}

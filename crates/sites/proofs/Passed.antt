@@ -27,7 +27,7 @@ use Rattle.sites.specs.inside.Passing.{HaveSnapped}
 use Rattle.sites.proofs.Merging.{at_place, merged_dead, own_listed, own_part, own_phase_listed, part_is, phase_own, set_listed}
 use Rattle.sites.proofs.PassSteps.{is_there, some_one}
 use Rattle.sites.proofs.Snapped.{snap_possible}
-use Rattle.sites.proofs.TellingSites.{far_to_viewer}
+use Rattle.phase_scan.proofs.Farther.{far_of_viewer}
 
 module _ (f : Frame) (before now : List Known) (old rows : List (Option (List ℕ))) (made : (site : ℕ) (k : Known) → slice_get before site ≡ Some k →
     IsOf k f) (checked : IsCheckedPlan f.plan) (some : 1 ≤ length before) (s : HaveSnapped f (length before) (length before) before now old rows) where
@@ -111,7 +111,7 @@ module _ (f : Frame) (before now : List Known) (old rows : List (Option (List �
         let root : 0 < length f.plan.parents = slice_get_within f.plan.parents 0 None checked.tables.root in
         let first_of = made 0 p.first p.first_is in
         let w = snap_possible f sites 0 p.snapped.list p.first p.last first_of checked p.snapped.snapshot.snap 0 root (eq-eqb (0 % sites) 0 none) in
-        let far : IsAsFarOn p.first.view.plan None w.places (seen p.first.view) = far_to_viewer p.first.view.plan p.first.view.own w.places (seen p.first.view) w.far in
+        let far : IsAsFarOn p.first.view.plan None w.places (seen p.first.view) = far_of_viewer p.first.view.plan p.first.view.own w.places (seen p.first.view) w.far in
         let there : IsDeadlockedSet (IsPublishedOn (state_at f.plan w.places)) (IsAtPhase (state_at f.plan w.places)) tasks =
         knows p.first (at_place before 0 p.first p.first_is) w.places w.lock w.lawful far in
         let lawful : IsLawful (avoids f.mode) f.plan w.places w.lock =

@@ -26,7 +26,7 @@ use Rattle.phase_scan.proofs.Loads.{await_load, goes_both, phase_load}
 use Rattle.phase_scan.proofs.Tables.{given_below_same}
 use Rattle.sites.specs.Rows.{HasNumbers, HasPhaseNumbers}
 use Rattle.sites.specs.Snaps.{HasLookedOn, HasSeenLawful, LoadsChosen}
-use Rattle.sites.proofs.TellingSites.{far_to_viewer}
+use Rattle.phase_scan.proofs.Farther.{far_of_viewer}
 use Rattle.sites.specs.inside.Snapping.{FindsRow, FindsRows, FindsStatus, whole_status}
 
 -- looking, and looking on
@@ -43,7 +43,7 @@ seen_lawful k m Holds same was =
       lock = was.lock;
       lawful = subst (λ (d : Mode). IsLawful (avoids d) m.view.plan was.places was.lock) (sym same.mode)
           (subst (λ (q : Plan). IsLawful (avoids k.view.mode) q was.places was.lock) (sym same.plan) was.lawful);
-      far = far_to_viewer m.view.plan k.view.own was.places (seen m.view)
+      far = far_of_viewer m.view.plan k.view.own was.places (seen m.view)
           (subst (λ (q : Plan). IsAsFarOn q k.view.own was.places (seen m.view)) (sym same.plan) was.now_far);
     }
 

@@ -1,11 +1,10 @@
 // A check over the rows of all sites.
 ghost use Rattle.std.specs.Prelude.{List as Seq, ◌≡◌, ◌≤◌, ◌<◌, ℕ, Err, IfErr, IfOk, IsSomeAnd, OnOk, length};
 ghost use Rattle.std.specs.declared.option.Option.{Option};
-ghost use Rattle.armus_base.specs.Statuses.{IsInOrder};
 ghost use Rattle.sites.specs.Checks.{AreAll, IsCheck, IsSiteEnd, count_after_check};
 ghost use Rattle.sites.specs.Keeping.{held};
 ghost use Rattle.sites.specs.Rows.{IsBadRow};
-ghost use Rattle.sites.specs.inside.Gathering.{AreGathered, EndsAtSite, NoneBad, TakesRow};
+ghost use Rattle.sites.specs.inside.Gathering.{AreGathered, EndsAtSite, TakesRow};
 ghost use Rattle.sites.specs.declared.ends.DecodeEnd.TheVariants as decode_ends;
 
 use crate::decoding::{MAX_SITES, decode};

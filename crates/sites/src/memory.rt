@@ -1,7 +1,5 @@
 // Keepers in memory: one that fails at the calls that it is told, and one that never fails.
-ghost use Rattle.std.specs.Prelude.{◌≡◌, ◌≤◌, ◌<◌, ◌^◌, [], ◌++◌, true, length, Some, None, IfOk, OnErr, OnOk, replicate, slice_set};
-ghost use Rattle.armus_base.specs.Causes.{counted};
-ghost use Rattle.armus_base.specs.Fakes.{is_listed};
+ghost use Rattle.std.specs.Prelude.{◌≡◌, ◌≤◌, ◌<◌, length, Some, None, IfOk, OnErr, OnOk, replicate, slice_set};
 ghost use Rattle.sites.specs.Keeping.{count_after, held};
 ghost use Rattle.sites.specs.MemKeepers.{IsMemCall};
 

@@ -1,5 +1,4 @@
 // What a row stores, whatever it is of.
-ghost use Rattle.std.specs.Prelude.{◌≡◌};
 ghost use Rattle.sites.specs.inside.Reading.{GivesRead, front_event, items_at, front_number, phase_at, row_at, status_at};
 
 use crate::DecodeEnd;

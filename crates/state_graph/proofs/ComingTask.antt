@@ -5,7 +5,7 @@ use Rattle.std.proofs.lemmas.Bool.{cases_Bool, cases_eq, cases_lt}
 use Rattle.digraph.specs.Graph.{HasEdge}
 use Rattle.armus_base.proofs.Elements.{Contains-cons_cases, Contains-head, Contains-tail}
 use Rattle.dep_state.specs.Deps.{Deps, IsAwaitedBy, impeders_of}
-use Rattle.state_graph.specs.inside.Growing.{AreSized, IsBehind, IsFirstFrom, IsGrown, IsGrowing, IsNextAt, IsPairBetween, IsPassedPair, IsPassing}
+use Rattle.state_graph.specs.inside.Growing.{AreSized, IsFirstFrom, IsGrown, IsGrowing, IsNextAt, IsPairBetween, IsPassedPair, IsPassedUpTo, IsPassing}
 
 -- a flag that is set
 pub set_flag : (xs : List Bool) (i j : ℕ) → i < length xs → (get_or (set xs i true) j false ≡ true) ↔ ((j ≡ i) ⊎ (get_or xs j false ≡ true))
@@ -46,7 +46,7 @@ module _ (d : Deps) (k event : ℕ) (edges : List (List ℕ)) (seen : List Bool)
     known : (x : ℕ) → Contains left x → get_or now x false ≡ true
     known x c = elim ((lefts x).0 c) [ inl w ↦ still x ((h.waits k x (omega arith)).0 w).0 | inr (n) ↦ (flag x).1 (inl n.0) ]
 
-    passed : (i : ℕ) → get_or now i false ≡ true → (Contains left i × IsBehind (impeders_of d i) k (get_or next i 0)) ⊎ IsFirstFrom (impeders_of d i) (k + 1) (get_or next i 0)
+    passed : (i : ℕ) → get_or now i false ≡ true → (Contains left i × IsPassedUpTo (impeders_of d i) k (get_or next i 0)) ⊎ IsFirstFrom (impeders_of d i) (k + 1) (get_or next i 0)
     passed i on = elim (cases_Bool (get_or seen i false)) [
       | inr off ↦
           let e = new_one i on off in

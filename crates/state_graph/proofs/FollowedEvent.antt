@@ -6,7 +6,7 @@ use Rattle.std.proofs.lemmas.List.{get_or_past}
 use Rattle.digraph.specs.Graph.{HasEdge}
 use Rattle.armus_base.proofs.Elements.{Contains-cons_cases, Contains-head, Contains-tail}
 use Rattle.dep_state.specs.Deps.{Deps, IsAwaitedBy, impeders_of}
-use Rattle.state_graph.specs.inside.Growing.{AreSized, IsBehind, IsFirstFrom, IsGrown, IsGrowing, IsNextAt, IsPairBetween, IsPassedPair, IsPassing}
+use Rattle.state_graph.specs.inside.Growing.{AreSized, IsFirstFrom, IsGrown, IsGrowing, IsNextAt, IsPairBetween, IsPassedPair, IsPassedUpTo, IsPassing}
 
 -- one event is followed
 module _ (d : Deps) (k event : ℕ) (left : List ℕ) (edges : List (List ℕ)) (seen : List Bool) (next : List ℕ) (waiting : List (List ℕ))
@@ -43,7 +43,7 @@ module _ (d : Deps) (k event : ℕ) (left : List ℕ) (edges : List (List ℕ)) 
           after = λ lt. let a = p.after lt in omega arith;
         }
 
-    passed : (i : ℕ) → get_or seen i false ≡ true → (Contains left i × IsBehind (impeders_of d i) k (get_or (set next event at) i 0)) ⊎
+    passed : (i : ℕ) → get_or seen i false ≡ true → (Contains left i × IsPassedUpTo (impeders_of d i) k (get_or (set next event at) i 0)) ⊎
         IsFirstFrom (impeders_of d i) (k + 1) (get_or (set next event at) i 0)
     passed i s = elim (cases_eq i event) [
       | inl e ↦ inr (subst (λ j. IsFirstFrom (impeders_of d j) (k + 1) (get_or (set next event at) j 0)) (sym e) (rw here first))

@@ -10,7 +10,7 @@ use Rattle.armus_base.proofs.Counts.{count_same, count_unique, count_none}
 use Rattle.armus_base.proofs.Elements.{Contains-cons_cases, Contains-head, Contains-tail, nothing_in_nil}
 use Rattle.dep_state.specs.Deps.{Deps, AreRelations, IsAwaitedBy, impeders_of}
 use Rattle.state_graph.specs.StateEdges.{IsStatePair}
-use Rattle.state_graph.specs.inside.Growing.{AreSized, IsBehind, IsFirstFrom, IsGrown, IsGrowing, IsNextAt, IsPairBetween, IsPassedPair, IsPassing, IsStateCount, RowsAscend, StaysSmallBelow}
+use Rattle.state_graph.specs.inside.Growing.{AreSized, IsFirstFrom, IsGrown, IsGrowing, IsNextAt, IsPairBetween, IsPassedPair, IsPassedUpTo, IsPassing, IsStateCount, RowsAscend, StaysSmallBelow}
 use Rattle.digraph.proofs.AddedEdges.{no_edge}
 use Rattle.dep_state.proofs.TaskPlaces.{impeder_inside, row_some}
 

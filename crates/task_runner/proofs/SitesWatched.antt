@@ -30,7 +30,7 @@ use Rattle.board.specs.declared.mode.Mode.TheVariants.{Detect}
 use Rattle.board.specs.Seats.{Frame, IsNewSeat, IsOf, Known, nothing_seen}
 use Rattle.board.specs.Views.{avoids, seen}
 use Rattle.phase_scan.proofs.Standing.{phases_begun_at, published_begun}
-use Rattle.phase_scan.proofs.Telling.{prefix_both}
+use Rattle.phase_scan.proofs.Loads.{prefix_both}
 use Rattle.pl_core.specs.Stands.{IsEnabled}
 use Rattle.pl_core.specs.Worlds.{WorldValue, places_of, state_of}
 use Rattle.sites.specs.Checks.{part_of}

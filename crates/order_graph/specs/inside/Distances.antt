@@ -27,7 +27,7 @@ abbrev pub IsListedIn : OrderValue → TaskId → List (Option ℕ) → TaskId �
 IsListedIn o goal far t = IsTaskOf o t × (position_of o goal < length far + position_of o t)
 
 -- task c stands further up than t, and the list reaches as far ahead as it
-pub record GoesOnTo (o : OrderValue) (goal : TaskId) (far : List (Option ℕ)) (t c : TaskId) : Type 0 where
+pub record IsListedFurther (o : OrderValue) (goal : TaskId) (far : List (Option ℕ)) (t c : TaskId) : Type 0 where
   pub listed : IsListedIn o goal far c
   pub further : position_of o t < position_of o c
 

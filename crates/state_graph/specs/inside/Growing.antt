@@ -44,7 +44,7 @@ pub record IsGrown (d : Deps) (k : ℕ) (edges : List (List ℕ)) (seen : List B
   pub waits : (t e : ℕ) → k ≤ t → HasEdge waiting t e ↔ IsNextAt d seen next t e
 
 -- no more of a row is passed than the tasks up to k
-pub record IsBehind (row : List ℕ) (k n : ℕ) : Type 0 where
+pub record IsPassedUpTo (row : List ℕ) (k n : ℕ) : Type 0 where
   pub within : n ≤ length row
   pub before : (m : ℕ) → m < n → slice_index row m ≤ k
 
@@ -56,7 +56,7 @@ pub record IsGrowing (d : Deps) (k : ℕ) (left : List ℕ) (edges : List (List 
   pub known : (e : ℕ) → Contains left e → slice_index_or seen e false ≡ true
   pub passed :
       (i : ℕ) → slice_index_or seen i false ≡ true →
-      (Contains left i × IsBehind (impeders_of d i) k (slice_index next i)) ⊎ IsFirstFrom (impeders_of d i) (k + 1) (slice_index next i)
+      (Contains left i × IsPassedUpTo (impeders_of d i) k (slice_index next i)) ⊎ IsFirstFrom (impeders_of d i) (k + 1) (slice_index next i)
   pub pairs : (i j : ℕ) → HasEdge edges i j ↔ IsPassedPair d seen next i j
   pub waits : (t e : ℕ) → k < t → HasEdge waiting t e → IsNextAt d seen next t e
   pub left_or_waits : (t e : ℕ) → k < t → IsNextAt d seen next t e → Contains left e ⊎ HasEdge waiting t e

@@ -30,7 +30,8 @@ loads_alone c =
 given : (c : In_ok-supposed) (list : List Status) → c.in_ok-supposed.supposed ≡ Some list →
     Judges c.supposed_on_cycle.new.self.statuses (aim_at c.args.p.0 c.args.off) c.own_event-event.result list c.args.seat.now c.supposed_on_cycle.new.seat
 given c list is =
-    subst (JudgesOrExcludes c.supposed_on_cycle.new.self.statuses (aim_at c.args.p.0 c.args.off) c.own_event-event.result c.args.seat.now c.supposed_on_cycle.new.seat c.id-t.result.0)
+    subst (JudgesOrExcludes c.supposed_on_cycle.new.self.statuses (aim_at c.args.p.0 c.args.off) c.own_event-event.result c.args.seat.now c.supposed_on_cycle.new.seat
+    c.id-t.result.0)
     is (loads_tell c)
 
 pub death_of-requires : goal.death_of-requires
@@ -41,8 +42,11 @@ death_of-requires c =
 
 pub returns-in_ok-found-in-Some-clause-judged : goal.returns-in_ok-found-in-Some-clause-judged
 returns-in_ok-found-in-Some-clause-judged c =
-    judged_by c.supposed_on_cycle.new.self.statuses c.in-Some.list (aim_at c.args.p.0 c.args.off) c.own_event-event.result c.args.seat.now c.supposed_on_cycle.new.seat c.id-t.result.0
-    c.id-t.ensures.seat c.id-t.ensures.task c.requires.before.locked c.requires.before.next (loads_alone (goal.at.returns-in_ok-found-in-Some-clause-judged c).In_ok-supposed) (given (goal.at.returns-in_ok-found-in-Some-clause-judged c).In_ok-supposed c.in-Some.list c.in-Some.is) c.in_ok-found-in-Some.found
+    judged_by c.supposed_on_cycle.new.self.statuses c.in-Some.list (aim_at c.args.p.0 c.args.off) c.own_event-event.result c.args.seat.now c.supposed_on_cycle.new.seat
+    c.id-t.result.0
+    c.id-t.ensures.seat c.id-t.ensures.task c.requires.before.locked c.requires.before.next
+    (loads_alone (goal.at.returns-in_ok-found-in-Some-clause-judged c).In_ok-supposed) (given (goal.at.returns-in_ok-found-in-Some-clause-judged c).In_ok-supposed
+    c.in-Some.list c.in-Some.is) c.in_ok-found-in-Some.found
     (subst (λ (ss : List Status). IsOutcome ss c.id-t.result.0 c.in_ok-found-in-Some.found) c.as_slice.ensures.items c.in_ok-found-in-Some.ensures)
 
 pub returns-in-None-clause-judged : goal.returns-in-None-clause-judged
@@ -51,6 +55,7 @@ returns-in-None-clause-judged c =
     let now = c.supposed_on_cycle.new.seat in
     let list = c.supposed_on_cycle.new.self.statuses in
     let (supposed, judges, off) =
-    subst (JudgesOrExcludes list aim c.own_event-event.result c.args.seat.now now c.id-t.result.0) c.in-None.is (loads_tell (goal.at.returns-in-None-clause-judged c).In_ok-supposed) in
+    subst (JudgesOrExcludes list aim c.own_event-event.result c.args.seat.now now c.id-t.result.0) c.in-None.is
+    (loads_tell (goal.at.returns-in-None-clause-judged c).In_ok-supposed) in
     judged_off list supposed aim c.own_event-event.result c.args.seat.now now c.id-t.result.0 c.id-t.ensures.seat c.id-t.ensures.task c.requires.before.locked
     c.requires.before.next (loads_alone (goal.at.returns-in-None-clause-judged c).In_ok-supposed) judges off

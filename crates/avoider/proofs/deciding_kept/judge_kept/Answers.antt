@@ -32,5 +32,6 @@ returns-clause-judged c =
     let told = subst (λ ss. IsOutcome ss c.id-t.result.0 c.in_ok-found.found) c.as_slice.ensures.items c.in_ok-found.ensures.outcome in
     let pairs = subst (λ ss. HoldsOrOtherDead ss c.args.order.now c.death_kept.new.order c.in_ok-found.found) c.as_slice.ensures.items c.in_ok-found.ensures.pairs in
     judged_by_order c.gather.new.cells.statuses g.gathered.list (aim_at c.args.p.0 c.args.off) g.gathered.event c.args.seat.now c.gather.new.seat c.id-t.result.0
-    c.id-t.ensures.seat c.id-t.ensures.task c.requires.before.locked c.requires.before.next g.ensures.goes_on g.ensures.judges c.args.order.now c.death_kept.new.order c.in_ok-found.found told
+    c.id-t.ensures.seat c.id-t.ensures.task c.requires.before.locked c.requires.before.next g.ensures.goes_on g.ensures.judges c.args.order.now c.death_kept.new.order
+    c.in_ok-found.found told
     pairs

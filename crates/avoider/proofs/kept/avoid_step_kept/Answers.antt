@@ -28,7 +28,8 @@ returns-clause-pairs c =
     let at = c.event_before-event.ensures in
     let list = c.as_slice.ensures.items ∙ c.in_ok-list.ensures.statuses in
     let pairs = subst (λ ss. HoldsOrOtherDead ss c.args.order.now c.death_kept.new.order c.in_ok-found.found) list c.in_ok-found.ensures.pairs in
-    pairs_if_published c.args.world.now at.checked at.reachable c.args.t.0 c.requires.before.task c.event_before-event.result c.requires.before.nobody at.before c.carry_out.new.world
+    pairs_if_published c.args.world.now at.checked at.reachable c.args.t.0 c.requires.before.task c.event_before-event.result c.requires.before.nobody at.before
+    c.carry_out.new.world
     c.args.order.now c.death_kept.new.order c.in_ok-found.found pairs c.carry_out.result c.carry_out.ensures.as_found c.carry_out.ensures.decision
 
 pub statuses_if-requires : goal.statuses_if-requires

@@ -29,7 +29,8 @@ returns-clause-supposed c =
     let tasks : self.tasks ≡ length c.args.board.now.plan.parents = ap (λ (v : Collection). v.tasks) c.self.view_is ∙ c.requires.tasks in
     let phasers : self.phasers ≡ length c.args.board.now.plan.makers = ap (λ (v : Collection). v.phasers) c.self.view_is ∙ c.requires.phasers in
     let column : c.as_slice.result.now ≡ c.load_column.new.column =
-    c.as_slice.ensures.value ∙ read_back c.self.inside.column.len c.load_column.new.column _ (let many : c.self.inside.column.len ≡ length c.self.inside.column.items = c.self.inside.column.ok.0 in
+    c.as_slice.ensures.value ∙ read_back c.self.inside.column.len c.load_column.new.column _
+    (let many : c.self.inside.column.len ≡ length c.self.inside.column.items = c.self.inside.column.ok.0 in
     let room = c.self.invariant.room in let count = c.load_column.ensures.count in omega arith) in
     subst (λ (list : List Status). IsSupposed c.args.board.now.plan list c.args.event c.in_ok-list.list c.args.seat.now c.supposed.new.seat)
     (ap (λ (v : Collection). v.statuses) c.self.view_is)
@@ -37,5 +38,6 @@ returns-clause-supposed c =
     c.requires.made c.id-t.ensures.seat c.id-t.ensures.task tasks c.load_column.ensures.loads c.supposed.ensures.seat
     phasers c.self.invariant.marked c.in_ok-list.list
     (c.in_ok-list.ensures.statuses
-    ∙ ap (λ xs. given_below (status_found self.phasers (state_supposed (state_of_findings self) c.id-t.result.0 c.args.event (own_phase c.load_column.new.seat.view) (phase_in xs))
+    ∙ ap (λ xs. given_below (status_found self.phasers (state_supposed (state_of_findings self) c.id-t.result.0 c.args.event (own_phase c.load_column.new.seat.view)
+    (phase_in xs))
     (updated (awaited_in_findings self) c.args.event.p.0 true)) self.tasks) column))

@@ -1,0 +1,26 @@
+-- What was found, where a task has published an event.
+use Rattle.std.specs.Prelude.{ℕ, Bool, true, List, Option}
+use Rattle.armus_base.specs.declared.event.Event.{Event}
+use Rattle.armus_base.specs.declared.status.Member.{Member}
+use Rattle.armus_base.specs.declared.status.Status.{Status}
+use Rattle.armus_base.specs.Finals.{given_below, listed_phase}
+use Rattle.armus_base.specs.States.{Phases, updated}
+use Rattle.phase_scan.specs.declared.findings.Findings.{Findings}
+use Rattle.phase_scan.specs.Tables.{awaited_in_findings, state_of_findings, state_supposed, status_found}
+use Rattle.phase_scan.specs.inside.Phases.{phase_in}
+
+-- the phasers found awaited, and p
+abbrev pub awaited_too : Findings → ℕ → ℕ → Bool
+awaited_too f p = updated (awaited_in_findings f) p true
+
+-- the phases on these phasers, of a task that has these on all
+abbrev pub members_on : Findings → ℕ → Phases → List Member
+members_on f p phases = given_below (listed_phase (awaited_too f p) phases) f.phasers
+
+-- the phases of task t that were found, with this one on p
+abbrev pub phases_with : Findings → ℕ → ℕ → Option ℕ → Phases
+phases_with f t p found = updated ((state_of_findings f).phases t) p found
+
+-- the statuses by what was found, where task t has published the event and has these phases, with a column of phases on the event's phaser
+abbrev pub status_supposed : Findings → ℕ → Event → Phases → List (Option ℕ) → ℕ → Option Status
+status_supposed f t event own column = status_found f.phasers (state_supposed (state_of_findings f) t event own (phase_in column)) (awaited_too f event.p.0)
