@@ -22,13 +22,14 @@ use schedule::{ReplayEnd, Replayed, ScheduleFault, read_lines, replay_text, spli
 use std::alloc::Global;
 
 /// The most bytes of the input of `replay`: a text and a schedule.
-pub const MAX_REPLAY_BYTES: usize = 8_388_608;
+pub const MAX_REPLAY_BYTES: usize = 16_777_216;
 
-const _: () = prove!(MAX_REPLAY_BYTES <= MAX_PARSED_BYTES);
+const _: () = prove!(MAX_TEXT_BYTES + 1 <= MAX_PARSED_BYTES);
 
 // Whether the text is no longer than a text may be, where one last LF is not counted.
 fn is_short(text: &[u8]) -> bool
-    ensures { IsTrue result ↔ IsShort text.now }
+    ensures short { IsTrue result ↔ IsShort text.now }
+    ensures few { IsTrue result → length text.now ≤ MAX_TEXT_BYTES + 1 }
 {
     match text.split_last() {
         Some((last, front)) => {

@@ -100,17 +100,24 @@ fn line_of(bytes: &[u8]) -> Line
     }
 }
 
+// How many line ends there are.
+fn feeds(bytes: &[u8]) -> usize
+    ensures { result ≤ length bytes.now }
+{
+    bytes.iter().filter(|byte| **byte == b'\n').count()
+}
+
 /// Reads each line of a schedule. A line is ended by LF or by the end of the bytes, and an empty rest is no line.
 pub fn read_lines(alloc: Global, bytes: &[u8]) -> Result<List<Line>, NoMemory>
     requires short { length bytes.now < 2 ^ 32 }
     ensures lines { IfOk result (λ lines. IsSchedule bytes.now lines) }
 {
-    let mut lines = List::new(alloc);
+    let mut lines = Vec::with_capacity(alloc, feeds(bytes) + 1)?;
     let mut rest = bytes;
     while !rest.is_empty() {
         let (line, more) = first_line(rest);
         lines.push(line_of(line))?;
         rest = more;
     }
-    Ok(lines)
+    Ok(List::from_vec(lines))
 }

@@ -3,7 +3,7 @@ use super::{AVERAGING, expect, expect_on, repeated};
 use std::test::Fail;
 
 // Programs that are accepted, and the counts of their plans.
-const ACCEPTED: [(&str, &str); 6] = [
+const ACCEPTED: [(&str, &str); 10] = [
     ("", "tasks 1 phasers 0 ops 0\n"),
     (AVERAGING, "tasks 4 phasers 2 ops 43\n"),
     (
@@ -14,12 +14,28 @@ const ACCEPTED: [(&str, &str); 6] = [
         "loop 256 { p = newPhaser(); }",
         "tasks 1 phasers 256 ops 256\n",
     ),
+    (
+        "loop 1024 { t = newTid(); }",
+        "tasks 1025 phasers 0 ops 0\n",
+    ),
+    (
+        "loop 257 { p = newPhaser(); }",
+        "tasks 1 phasers 257 ops 257\n",
+    ),
+    (
+        "loop 255 { p = newPhaser(); } loop 4095 { t = newTid(); }",
+        "tasks 4096 phasers 255 ops 255\n",
+    ),
+    (
+        "loop 1023 { p = newPhaser(); } loop 1023 { t = newTid(); }",
+        "tasks 1024 phasers 1023 ops 1023\n",
+    ),
     ("p = newPhaser();", "tasks 1 phasers 1 ops 1\n"),
     ("skip\t;\r\nskip;", "tasks 1 phasers 0 ops 0\n"),
 ];
 
 // Texts with a fault, and what is told of it: kind and place in the syntax, kind and statement in the check.
-const REFUSED: [(&str, &str); 43] = [
+const REFUSED: [(&str, &str); 48] = [
     ("adv(P);", "refused syntax 1 at 4\n"),
     ("/", "refused syntax 1 at 0\n"),
     ("skip;\u{b}", "refused syntax 1 at 5\n"),
@@ -65,12 +81,37 @@ const REFUSED: [(&str, &str); 43] = [
         "refused check 6 statement 4\n",
     ),
     (
-        "loop 1024 { t = newTid(); }",
+        "loop 4096 { t = newTid(); }",
         "refused check 7 statement 2\n",
     ),
     (
-        "loop 257 { p = newPhaser(); }",
+        "loop 1025 { p = newPhaser(); }",
         "refused check 8 statement 2\n",
+    ),
+    // the tasks times one more than the phasers
+    (
+        "loop 256 { p = newPhaser(); } loop 4095 { t = newTid(); }",
+        "refused check 11 statement 4\n",
+    ),
+    (
+        "loop 1023 { t = newTid(); } loop 1024 { p = newPhaser(); }",
+        "refused check 11 statement 4\n",
+    ),
+    (
+        "loop 1024 { p = newPhaser(); } loop 1023 { t = newTid(); }",
+        "refused check 11 statement 4\n",
+    ),
+    (
+        "loop 4095 { t = newTid(); } loop 255 { p = newPhaser(); } t = newTid();",
+        "refused check 7 statement 5\n",
+    ),
+    (
+        "loop 1024 { p = newPhaser(); } loop 1022 { t = newTid(); } p = newPhaser();",
+        "refused check 8 statement 5\n",
+    ),
+    (
+        "loop 65535 { loop 63 { } }",
+        "refused check 10 statement 2\n",
     ),
     (
         "loop 65535 { loop 65535 { } }",
@@ -96,10 +137,6 @@ const REFUSED: [(&str, &str); 43] = [
     (
         "p = newPhaser(); t = newTid(); s = newTid(); fork(t) { reg(s, p); }",
         "refused check 5 statement 5\n",
-    ),
-    (
-        "loop 256 { p = newPhaser(); } loop 65472 { adv(p); adv(p); adv(p); adv(p); } p = newPhaser();",
-        "refused check 8 statement 8\n",
     ),
     ("t = newTid(); reg(q, t);", "refused check 1 statement 2\n"),
     (
@@ -137,13 +174,13 @@ fn rows_of_check(rt: HostRuntime) -> Result<(), Fail> {
 // Texts of repeated pieces at a limit, and one more: meetings, ops, open braces, bytes of a name, bytes that are no text.
 #[test]
 fn rows_at_limits(rt: HostRuntime) -> Result<(), Fail> {
-    let rows: [(&[(&[u8], usize)], &str, u8); 11] = [
+    let rows: [(&[(&[u8], usize)], &str, u8); 15] = [
         (
             &[
                 (b"loop 65535 { ", 1),
-                (b"skip;", 15),
+                (b"skip;", 63),
                 (b" }", 1),
-                (b"skip;", 15),
+                (b"skip;", 63),
             ],
             "tasks 1 phasers 0 ops 0\n",
             0,
@@ -151,43 +188,83 @@ fn rows_at_limits(rt: HostRuntime) -> Result<(), Fail> {
         (
             &[
                 (b"loop 65535 { ", 1),
-                (b"skip;", 15),
+                (b"skip;", 63),
                 (b" }", 1),
-                (b"skip;", 16),
+                (b"skip;", 64),
             ],
-            "refused check 10 statement 32\n",
+            "refused check 10 statement 128\n",
             3,
         ),
         (
             &[
                 (b"loop 65535 { ", 1),
-                (b"skip;", 15),
+                (b"skip;", 63),
                 (b" }", 1),
-                (b"skip;", 15),
+                (b"skip;", 63),
                 (b"adv(z);", 1),
             ],
-            "refused check 10 statement 32\n",
+            "refused check 10 statement 128\n",
             3,
         ),
         (
             &[
                 (b"p = newPhaser(); loop 65535 { ", 1),
-                (b"adv(p); ", 4),
+                (b"adv(p); ", 16),
                 (b"} ", 1),
-                (b"adv(p); ", 4),
+                (b"adv(p); ", 16),
             ],
-            "refused check 9 statement 10\n",
+            "refused check 9 statement 34\n",
             3,
         ),
         (
             &[
                 (b"p = newPhaser(); loop 65535 { ", 1),
-                (b"adv(p); ", 4),
+                (b"adv(p); ", 16),
                 (b"} ", 1),
-                (b"adv(p); ", 3),
+                (b"adv(p); ", 15),
             ],
-            "tasks 1 phasers 1 ops 262144\n",
+            "tasks 1 phasers 1 ops 1048576\n",
             0,
+        ),
+        // a steady loop without a piece is come to in full
+        (
+            &[(b"loop 65535 { loop 62 { } } ", 1), (b"skip;", 63)],
+            "tasks 1 phasers 0 ops 0\n",
+            0,
+        ),
+        // a phaser too many before an op too many, and before both the tasks times one more than the phasers
+        (
+            &[
+                (b"loop 1024 { p = newPhaser(); } loop 65472 { ", 1),
+                (b"adv(p); ", 16),
+                (b"} p = newPhaser();", 1),
+            ],
+            "refused check 8 statement 20\n",
+            3,
+        ),
+        (
+            &[
+                (
+                    b"loop 1023 { t = newTid(); } loop 1023 { p = newPhaser(); } loop 65472 { ",
+                    1,
+                ),
+                (b"adv(p); ", 16),
+                (b"} adv(p); p = newPhaser();", 1),
+            ],
+            "refused check 11 statement 23\n",
+            3,
+        ),
+        (
+            &[
+                (
+                    b"loop 1022 { t = newTid(); } loop 1023 { p = newPhaser(); } loop 65472 { ",
+                    1,
+                ),
+                (b"adv(p); ", 16),
+                (b"} adv(p); p = newPhaser();", 1),
+            ],
+            "refused check 9 statement 23\n",
+            3,
         ),
         (&[(b"loop 1{", 65)], "refused syntax 4 at 454\n", 3),
         (

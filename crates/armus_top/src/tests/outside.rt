@@ -115,13 +115,13 @@ fn a_long_input_is_refused(rt: HostRuntime) -> Result<(), Fail> {
         ("replay", &[(b" ", 1_048_577)], "refused length\n", 3),
         (
             "replay",
-            &[(b"%%\n", 1), (b"x", 8_388_605)],
+            &[(b"%%\n", 1), (b"x", 16_777_213)],
             "refused schedule 1 line 1\n",
             3,
         ),
         (
             "replay",
-            &[(b"%%\n", 1), (b"x", 8_388_606)],
+            &[(b"%%\n", 1), (b"x", 16_777_214)],
             "refused length\n",
             3,
         ),

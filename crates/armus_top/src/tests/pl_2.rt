@@ -95,19 +95,19 @@ fn rows_at_limits_in_pl_2(rt: HostRuntime) -> Result<(), Fail> {
         (
             &[
                 (b"pl 2; p = newPhaser(); loop 65535 { ", 1),
-                (b"adv(p); ", 4),
+                (b"adv(p); ", 16),
                 (b"} ", 1),
-                (b"adv(p); ", 2),
+                (b"adv(p); ", 14),
             ],
-            "tasks 1 phasers 1 ops 262144\n",
+            "tasks 1 phasers 1 ops 1048576\n",
             0,
         ),
         (
             &[
                 (b"pl 2; p = newPhaser(); loop 65535 { ", 1),
-                (b"adv(p); ", 4),
+                (b"adv(p); ", 16),
                 (b"} ", 1),
-                (b"adv(p); ", 3),
+                (b"adv(p); ", 15),
             ],
             "refused check 9 statement 0\n",
             3,
@@ -119,26 +119,26 @@ fn rows_at_limits_in_pl_2(rt: HostRuntime) -> Result<(), Fail> {
                     b"pl 2; p = newPhaser(); t = newTid(); fork(t) { adv(z); } loop 65535 { ",
                     1,
                 ),
-                (b"adv(p); ", 4),
+                (b"adv(p); ", 16),
                 (b"} ", 1),
-                (b"adv(p); ", 2),
+                (b"adv(p); ", 14),
             ],
             "refused check 9 statement 0\n",
             3,
         ),
         (
             &[
-                (b"pl 2; loop 256 { p = newPhaser(); } loop 65408 { ", 1),
-                (b"adv(p); ", 4),
+                (b"pl 2; loop 1024 { p = newPhaser(); } loop 65408 { ", 1),
+                (b"adv(p); ", 16),
                 (b"}", 1),
             ],
-            "tasks 1 phasers 256 ops 262144\n",
+            "tasks 1 phasers 1024 ops 1048576\n",
             0,
         ),
         (
             &[
-                (b"pl 2; loop 256 { p = newPhaser(); } loop 65408 { ", 1),
-                (b"adv(p); ", 4),
+                (b"pl 2; loop 1024 { p = newPhaser(); } loop 65408 { ", 1),
+                (b"adv(p); ", 16),
                 (b"} adv(p);", 1),
             ],
             "refused check 9 statement 0\n",
@@ -147,11 +147,11 @@ fn rows_at_limits_in_pl_2(rt: HostRuntime) -> Result<(), Fail> {
         (
             &[
                 (b"pl 2; p = newPhaser(); loop 65535 { ", 1),
-                (b"skip;", 15),
+                (b"skip;", 63),
                 (b" }", 1),
-                (b"skip;", 15),
+                (b"skip;", 63),
             ],
-            "refused check 10 statement 32\n",
+            "refused check 10 statement 128\n",
             3,
         ),
     ];
