@@ -16,7 +16,7 @@ use Rattle.pl_syntax.specs.Tree.{Tree, done, fork, height, loop, plain}
 use Rattle.pl_syntax.proofs.Writable.{text_is_writable}
 use Rattle.pl_plan.specs.Unfolding.{Start, UnfoldingState, code_pieces, opening_state, plan_of, unfold_tasks, with_pieces}
 use Rattle.pl_plan.specs.Folding.{HasBodyPieces, HasCodePieces, HasFewTurns, drops_of}
-use Rattle.pl_plan.specs.FoldingLaws.{LeftPiecesUnfold, OneListLeft, OneListOfPieces, PiecesOfTexts, PiecesUnfoldToCode, SteadyLeavesFew}
+use Rattle.pl_plan.specs.FoldingLaws.{LeftPiecesAreComputed, LeftPiecesUnfold, OneListLeft, OneListOfPieces, PiecesOfTexts, PiecesUnfoldToCode, SteadyLeavesFew}
 use Rattle.pl_plan.specs.FoldedOps.{Folding, body_pieces}
 use Rattle.pl_plan.proofs.Folds.{steady_few, UnfoldTo, leaves_computed, leaves_unfold, straight_unfolds, unfolds_append, unfolds_deeper}
 use Rattle.pl_plan.proofs.TasksLeave.{IsOfParts, OfStart, end_has, end_until, start_at}
@@ -137,6 +137,9 @@ left_pieces_unfold body ops ps few leaves = let u = leaves_unfold leaves few in 
 
 pub one_list_left : OneListLeft
 one_list_left body ops ps qs a b = ap (λ (f : Folding). f.pieces) (sym (leaves_computed a []) ∙ leaves_computed b [])
+
+pub left_pieces_are_computed : LeftPiecesAreComputed
+left_pieces_are_computed body ops behind ps leaves = leaves_computed leaves behind
 
 pub steady_leaves_few : SteadyLeavesFew
 steady_leaves_few body ops ps steady leaves = steady_few leaves steady

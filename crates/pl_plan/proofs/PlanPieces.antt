@@ -15,9 +15,9 @@ use Rattle.pl_syntax.specs.declared.tree.Program.{Program}
 use Rattle.pl_syntax.specs.Tree.{height}
 use Rattle.pl_syntax.proofs.Writable.{text_is_writable}
 use Rattle.pl_plan.specs.Unfolding.{UnfoldingState, code_pieces, opening_state, pieces_at, plan_of, unfold_tasks, with_pieces}
-use Rattle.pl_plan.specs.Folding.{HasCodePieces, HasFewTurns, HaveCodePieces}
+use Rattle.pl_plan.specs.Folding.{HasCodePieces, HasFewTurns, HasPieces, HaveCodePieces}
 use Rattle.pl_plan.specs.FoldingLaws.{PlanHasPieces, PlansOfTexts}
-use Rattle.pl_plan.proofs.CodePieces.{code_folds, code_has, end_fits, has_computed, one_list, writable_has_few_turns}
+use Rattle.pl_plan.proofs.CodePieces.{code_folds, code_has, end_fits, has_computed, one_list, one_list_of_pieces, writable_has_few_turns}
 use Rattle.pl_plan.proofs.TasksLeave.{start_at}
 use Rattle.pl_plan.proofs.VisitsLeave.{bind_ok, code, ok_is}
 
@@ -82,9 +82,9 @@ module _ (program : Program) (end : UnfoldingState) (e : unfold_tasks program.tw
 
 -- ---- of a program's plan
 
-pub plan_has_pieces : PlanHasPieces
+its_pieces : (program : Program) (plan : Plan) → plan_of program ≡ Ok plan → (t : ℕ) → HasPieces program t (pieces_of plan t)
 unfolding plan_of
-plan_has_pieces program plan e t =
+its_pieces program plan e t =
     let b = bind_ok (unfold_tasks program.two max_tasks 0 (opening_state program.body)) (λ s. Ok (with_pieces s)) plan e in
     let is : pieces_at b.0 t ≡ pieces_of plan t =
     sym (pieces_there program b.0 b.1 t) ∙ sym (unwrap_or-slice_get (with_pieces b.0).pieces t []) ∙ ap (λ p. pieces_of p t) (ok_is (with_pieces b.0) plan b.2) in
@@ -93,6 +93,12 @@ plan_has_pieces program plan e t =
       unfolds = b.1;
       pieces = subst (λ ps. HasCodePieces program.two (start_at b.0 t) (code b.0 t) ps) is (end_pieces program b.0 b.1 t);
     }
+
+pub plan_has_pieces : PlanHasPieces
+plan_has_pieces program plan e t ps = (
+  λ has. one_list_of_pieces program t ps (pieces_of plan t) has (its_pieces program plan e t),
+  λ same. subst (HasPieces program t) (sym same) (its_pieces program plan e t),
+)
 
 pub plans_of_texts : PlansOfTexts
 unfolding plan_of

@@ -1,5 +1,5 @@
 -- Laws of the pieces of a code.
-use Rattle.std.specs.Prelude.{◌≡◌, ℕ, ◌≤◌, true, Ok, List, [], length, slice_index_or}
+use Rattle.std.specs.Prelude.{◌≡◌, ℕ, ◌≤◌, ◌↔◌, true, Ok, List, [], ◌++◌, length, slice_index_or}
 use Rattle.armus_base.specs.declared.op.Op.{Op}
 use Rattle.armus_base.specs.declared.piece.Piece.{Piece}
 use Rattle.armus_base.specs.Pieces.{AreWhole, IsFolded, unfolded}
@@ -9,12 +9,13 @@ use Rattle.pl_syntax.specs.declared.tree.Program.{Program}
 use Rattle.pl_syntax.specs.Grammar.{IsText}
 use Rattle.pl_syntax.specs.Tree.{Tree, count, height}
 use Rattle.pl_plan.specs.Unfolding.{plan_of}
-use Rattle.pl_plan.specs.FoldedOps.{is_steady}
+use Rattle.pl_plan.specs.FoldedOps.{is_steady, pieces_in}
 use Rattle.pl_plan.specs.Folding.{HasFewTurns, HasPieces, LeavesPieces}
 
--- the pieces of a program's plan are those of its codes
+-- the pieces of a program's plan are those of its codes, and no others
 abbrev pub PlanHasPieces : Type 0
-PlanHasPieces = (program : Program) (plan : Plan) → plan_of program ≡ Ok plan → (t : ℕ) → HasPieces program t (pieces_of plan t)
+PlanHasPieces =
+    (program : Program) (plan : Plan) → plan_of program ≡ Ok plan → (t : ℕ) (ps : List Piece) → HasPieces program t ps ↔ (ps ≡ pieces_of plan t)
 
 -- and each code has one list of them
 abbrev pub OneListOfPieces : Type 0
@@ -46,6 +47,11 @@ LeftPiecesUnfold =
 -- and there is one list of them
 abbrev pub OneListLeft : Type 0
 OneListLeft = (body : Tree) (ops : List Op) (ps qs : List Piece) → LeavesPieces body ops ps → LeavesPieces body ops qs → ps ≡ qs
+
+-- which is computed from the body and its ops, whatever ops come behind
+abbrev pub LeftPiecesAreComputed : Type 0
+LeftPiecesAreComputed =
+    (body : Tree) (ops behind : List Op) (ps : List Piece) → LeavesPieces body ops ps → pieces_in body (ops ++ behind) ≡ record { pieces = ps; rest = behind }
 
 -- a steady body leaves no more pieces than it has statements, whatever turns its loops have
 abbrev pub SteadyLeavesFew : Type 0

@@ -1,7 +1,7 @@
 // The laws over the definition of the unfolding: each is the contract of a function with an empty body.
 ghost use Rattle.pl_plan.specs.Laws.{UnfoldedIsChecked, FaultIsOfProgram, PlanIsUnfolded, FaultIsFirst};
 ghost use Rattle.pl_plan.specs.FoldingLaws.{OneListOfPieces, PiecesOfTexts, PiecesUnfoldToCode, PlanHasPieces, PlansOfTexts};
-ghost use Rattle.pl_plan.specs.FoldingLaws.{LeftPiecesUnfold, OneListLeft, SteadyLeavesFew};
+ghost use Rattle.pl_plan.specs.FoldingLaws.{LeftPiecesAreComputed, LeftPiecesUnfold, OneListLeft, SteadyLeavesFew};
 ghost use Rattle.pl_plan.specs.WorkedPieces.{HaveTheirPieces, folded_loops, other_loops};
 ghost use Rattle.pl_plan.specs.WorkedPrograms.{AreWorked, LimitsHold, worked_faults, worked_plans};
 
@@ -36,6 +36,7 @@ pub fn worked_programs()
 pub fn left_pieces()
     ensures folded { LeftPiecesUnfold }
     ensures one { OneListLeft }
+    ensures computed { LeftPiecesAreComputed }
     ensures few { SteadyLeavesFew }
 {}
 
