@@ -22,7 +22,8 @@ module _ (op : Op) (rest : List Op) (k m : Known) (b : IsBefore op rest k) (goes
   left : drop (own_place k.view).done (actions k.view.plan (task_of k.view)) ≡ actions_of (op ∷ rest)
   left = b.left.left ∙ ap (λ o. left_of o (op ∷ rest)) b.idle
 
-  stepped : (x : Action) (xs : List Action) → begins op ≡ x → ((aim : Aim) → x ≢ Refuses aim) → drop (own_place k.view).done (actions k.view.plan (task_of k.view)) ≡ x ∷ xs → HasStepped k m x xs
+  stepped : (x : Action) (xs : List Action) → begins op ≡ x → ((aim : Aim) → x ≢ Refuses aim) →
+      drop (own_place k.view).done (actions k.view.plan (task_of k.view)) ≡ x ∷ xs → HasStepped k m x xs
   stepped x xs is n first =
       let place : own_place m.view ≡ next_place (own_place k.view).done (own_place k.view).dropped x =
       goes.place.1 ∙ ap (next_place (own_place k.view).done (own_place k.view).dropped) is in

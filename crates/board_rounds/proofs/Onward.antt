@@ -147,7 +147,8 @@ module _ (f : Frame) (ops : List Op) (events : ℕ) (k m : Known) (cs ds : List 
     -- the op has begun
     pub begun_makes : BeginsOp op k m Begun → MakesSome f 1 before now
     begun_makes is =
-        some_steps f (begins op ∷ []) k m cs ds new 1 (begins op) b.seat (before_next op rest k b) (begins_goes op k m is) grown seats (one_fork op) refl (omega arith) (omega arith)
+        some_steps f (begins op ∷ []) k m cs ds new 1 (begins op)
+        b.seat (before_next op rest k b) (begins_goes op k m is) grown seats (one_fork op) refl (omega arith) (omega arith)
 
     pub begun_come : BeginsOp op k m Begun → HasCome m rest (events + 1) false
     begun_come is =
@@ -193,7 +194,8 @@ module _ (f : Frame) (ops : List Op) (events : ℕ) (k m : Known) (cs ds : List 
           record {
             free = r.3.goes.same.holds ∙ w.free;
             events_are = w.events_are
-                ∙ sym (stays_done k.view.plan (task_of k.view) (next_place (own_place k.view).done (own_place k.view).dropped (Refuses r.1)) (drops_below (own_phase k.view) (length k.view.plan.makers)) (own_place m.view) first.1 steps.1 ∙ first.0);
+                ∙ sym (stays_done k.view.plan (task_of k.view) (next_place (own_place k.view).done (own_place k.view).dropped (Refuses r.1))
+                (drops_below (own_phase k.view) (length k.view.plan.makers)) (own_place m.view) first.1 steps.1 ∙ first.0);
             ops_are = λ e. absurd (false≢true (sym e));
             gone = λ _. r.3.left;
           }

@@ -23,7 +23,8 @@ has_left t w none = by_flag t.refused refl
     by_flag true e = absurd (false≢true (subst IsSome none (w.come.gone e).refused))
     by_flag false e = (e, w.come.ops_are e)
 
-module _ (f : Frame) (t : Inside) (m n : Known) (own : ℕ) (w : IsWorking t) (none : (own_place t.seat.view).dropped ≡ None) (own_is : t.seat.view.own ≡ Some own) (seat : IsSeat t.seat) (event : IsSome (event_of t.seat)) (goes : LoadsAlone t.seat m) (pass : MakesPass m n) where
+module _ (f : Frame) (t : Inside) (m n : Known) (own : ℕ) (w : IsWorking t) (none : (own_place t.seat.view).dropped ≡ None)
+    (own_is : t.seat.view.own ≡ Some own) (seat : IsSeat t.seat) (event : IsSome (event_of t.seat)) (goes : LoadsAlone t.seat m) (pass : MakesPass m n) where
   pub record Passed : Type 0 where
     pub working : IsWorking (record t { seat = n; events = t.events + 1 })
     pub fits : t.events + 1 < 2 ^ 32
@@ -39,9 +40,11 @@ module _ (f : Frame) (t : Inside) (m n : Known) (own : ℕ) (w : IsWorking t) (n
       let next = passes_next t.cursor m e.0 left is in
       let some =
       some_alone f (Passes e.0.p.0 ∷ []) t.seat n t.children.items 1 (Passes e.0.p.0) seat
-      (passes_next t.cursor t.seat e.0 was.1 e.1) (goes_then t.seat m n own (Passes e.0.p.0) own_is seat goes (goes_step m n (Passes e.0.p.0) next (λ p h. cc) step)) refl refl (omega arith) (omega arith) in
+      (passes_next t.cursor t.seat e.0 was.1 e.1)
+      (goes_then t.seat m n own (Passes e.0.p.0) own_is seat goes (goes_step m n (Passes e.0.p.0) next (λ p h. cc) step)) refl refl (omega arith) (omega arith) in
       let done : (own_place n.view).done ≡ (own_place t.seat.view).done + 1 =
-      ap (λ (x : Place). x.done) (stepped_place m n (Passes e.0.p.0) step) ∙ place_made (own_place m.view).done (own_place m.view).dropped (Passes e.0.p.0) left.unrefused (λ p h. cc)
+      ap (λ (x : Place). x.done) (stepped_place m n (Passes e.0.p.0) step)
+      ∙ place_made (own_place m.view).done (own_place m.view).dropped (Passes e.0.p.0) left.unrefused (λ p h. cc)
       ∙ (let same : (own_place m.view).done ≡ (own_place t.seat.view).done = ap (λ (x : Place). x.done) (own_stays t.seat m own own_is seat goes) in omega arith) in
       record {
         working = record {

@@ -17,4 +17,5 @@ returns-in-Some-clause-children c =
 
 pub returns-in_ok-make_step-in-None-clause-begins : goal.returns-in_ok-make_step-in-None-clause-begins
 returns-in_ok-make_step-in-None-clause-begins c =
-    goes_begins c.args.op c.args.seat.now c.make_step.new.seat (goes_step c.args.seat.now c.make_step.new.seat (begins c.args.op) c.requires.ready.next (no_refusal c.args.op) c.in_ok-make_step-in-None.ensures.step)
+    goes_begins c.args.op c.args.seat.now c.make_step.new.seat (goes_step c.args.seat.now c.make_step.new.seat (begins c.args.op) c.requires.ready.next
+    (no_refusal c.args.op) c.in_ok-make_step-in-None.ensures.step)

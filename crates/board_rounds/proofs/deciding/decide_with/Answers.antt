@@ -24,7 +24,8 @@ returns-in-Err-clause-attempt c =
     let next = ap (λ (k : Known). next_action k.view) same ∙ c.requires.ready.next in (
       subst (λ (k : Known). Goes [] k c.try_take.new.seat) same
           (goes_locked_out c.in-Err.field-0.holder.0 c.memberships-phasers.new.seat c.try_take.new.seat c.id.result.0 own seat avoiding c.in-Err.ensures.busy),
-      ends_locked_out c.in-Err.field-0.holder.0 c.memberships-phasers.new.seat c.try_take.new.seat c.id.result.0 own seat avoiding c.in-Err.ensures.busy (aim_at c.args.p.0 c.args.off) next,
+      ends_locked_out c.in-Err.field-0.holder.0 c.memberships-phasers.new.seat c.try_take.new.seat
+          c.id.result.0 own seat avoiding c.in-Err.ensures.busy (aim_at c.args.p.0 c.args.off) next,
     )
 
 pub returns-clause-attempt : goal.returns-clause-attempt
@@ -45,7 +46,8 @@ returns-clause-attempt c =
       | in-Refused w ↦
           rw w.result-is
           (subst (λ (k : Known). IsRefusedAt (aim_at c.args.p.0 c.args.off) c.memberships-phasers.result k now) same
-          (goes_refused first c.try_take.new.seat now c.id.result.0 (aim_at c.args.p.0 c.args.off) own free next c.in-Ok.ensures.taken _ _ (told _ w.in-Refused.is) c.memberships-phasers.result
+          (goes_refused first c.try_take.new.seat now c.id.result.0 (aim_at c.args.p.0 c.args.off)
+          own free next c.in-Ok.ensures.taken _ _ (told _ w.in-Refused.is) c.memberships-phasers.result
           (c.memberships-phasers.ensures.counted ∙ ap (λ (q : Plan). members_below (own_phase c.args.seat.now.view) (length q.makers)) (sym c.requires.ready.made.plan)
           ∙ ap (λ (k : Known). members_below (own_phase k.view) (length k.view.plan.makers)) (sym same))))
     ]

@@ -16,7 +16,8 @@ returns-in_default-clause-none g c = λ _.
     let idle = sym c.event.ensures ∙ no_event _ (sym c.is_some.ensures ∙ c.if-is_some.false) in
     let past = sym c.peek.ensures.next ∙ c.in_default.is in (
       acts_itself c.args.board.now c.args.self.now (subst (λ (w : Working). IsSeat w.seat) c.self.view_is c.id-t.ensures.seat),
-      subst (λ (w : Working). EndsTurn w.seat) c.self.view_is (is_done (ends_done c.self.inside.cursor c.self.inside.seat (c.self.invariant.come.ops_are c.if-self.false) idle past)),
+      subst (λ (w : Working). EndsTurn w.seat) c.self.view_is (is_done (ends_done c.self.inside.cursor c.self.inside.seat
+          (c.self.invariant.come.ops_are c.if-self.false) idle past)),
     )
 
 -- the task stands before the op, and is not refused
@@ -52,21 +53,24 @@ returns-in_err-begin-clause-err g c =
     let e = c.in_err-begin.ensures in
     failed c.from_residual.result _
     (subst (λ (w : Working). Acts c.args.board.now [] w (record { seat = c.begin.new.seat; children = c.begin.new.children.items })) c.self.view_is
-    (nothing_acts c.args.board.now c.self.inside.cursor c.self.inside.events c.self.inside.seat c.begin.new.seat c.self.inside.children.items c.begin.new.children.items c.in-Some.op _ (come g at) (before g at) e.same_children e.same))
+    (nothing_acts c.args.board.now c.self.inside.cursor c.self.inside.events c.self.inside.seat c.begin.new.seat c.self.inside.children.items
+    c.begin.new.children.items c.in-Some.op _ (come g at) (before g at) e.same_children e.same))
 
 pub returns-in-LockedOut-clause-none : goal.returns-in-LockedOut-clause-none
 returns-in-LockedOut-clause-none g c = λ _.
     let at = (goal.at.returns-in-LockedOut-clause-none g c).In-Some in
     let new = c.in_ok-begin.ensures.children in
     let tried = subst (λ a. BeginsOp c.in-Some.op c.self.inside.seat c.begin.new.seat a) c.in-LockedOut.is c.in_ok-begin.ensures.begins in
-    let r = locked_out c.args.board.now c.self.inside.cursor c.self.inside.events c.self.inside.seat c.begin.new.seat c.self.inside.children.items c.begin.new.children.items c.in-Some.op _ (come g at) (before g at) new.0 new.1 new.2 tried in
+    let r = locked_out c.args.board.now c.self.inside.cursor c.self.inside.events c.self.inside.seat c.begin.new.seat c.self.inside.children.items
+    c.begin.new.children.items c.in-Some.op _ (come g at) (before g at) new.0 new.1 new.2 tried in
     (subst (λ (w : Working). Acts c.args.board.now [] w (record { seat = c.begin.new.seat; children = c.begin.new.children.items })) c.self.view_is r.0.0, r.0.1)
 
 pub overflow_add-self : goal.overflow_add-self
 overflow_add-self g c =
     let at = (goal.at.overflow_add-self g c).In-Some in
     let new = c.in_ok-begin.ensures.children in
-    let fits = begun_fits c.args.board.now c.self.inside.cursor c.self.inside.events c.self.inside.seat c.begin.new.seat c.self.inside.children.items c.begin.new.children.items c.in-Some.op _ (come g at) (before g at) new.0 new.1 new.2 in
+    let fits = begun_fits c.args.board.now c.self.inside.cursor c.self.inside.events c.self.inside.seat c.begin.new.seat c.self.inside.children.items
+    c.begin.new.children.items c.in-Some.op _ (come g at) (before g at) new.0 new.1 new.2 in
     let few = c.self.invariant.begun in
     omega arith
 
@@ -74,7 +78,8 @@ pub overflow_add-self-in-Begun : goal.overflow_add-self-in-Begun
 overflow_add-self-in-Begun g c =
     let at = (goal.at.overflow_add-self-in-Begun g c).In-Some in
     let new = c.in_ok-begin.ensures.children in
-    let fits = begun_fits c.args.board.now c.self.inside.cursor c.self.inside.events c.self.inside.seat c.begin.new.seat c.self.inside.children.items c.begin.new.children.items c.in-Some.op _ (come g at) (before g at) new.0 new.1 new.2 in
+    let fits = begun_fits c.args.board.now c.self.inside.cursor c.self.inside.events c.self.inside.seat c.begin.new.seat c.self.inside.children.items
+    c.begin.new.children.items c.in-Some.op _ (come g at) (before g at) new.0 new.1 new.2 in
     omega arith
 
 pub invariant_of-self-in-Begun : goal.invariant_of-self-in-Begun
@@ -86,7 +91,8 @@ invariant_of-self-in-Begun g c =
     record {
       come = subst (λ (ops : List Op). HasCome c.begin.new.seat ops (c.self.inside.events + 1) c.self.inside.refused) (sym rest)
           (subst (HasCome c.begin.new.seat (drop 1 c.self.inside.cursor) (c.self.inside.events + 1)) (sym c.if-self.false)
-          (begun_come c.args.board.now c.self.inside.cursor c.self.inside.events c.self.inside.seat c.begin.new.seat c.self.inside.children.items c.begin.new.children.items c.in-Some.op _ (come g at) (before g at) new.0 new.1 new.2 tried));
+          (begun_come c.args.board.now c.self.inside.cursor c.self.inside.events c.self.inside.seat c.begin.new.seat c.self.inside.children.items
+          c.begin.new.children.items c.in-Some.op _ (come g at) (before g at) new.0 new.1 new.2 tried));
       begun = (let l = c.self.invariant.begun in omega arith);
     }
 
@@ -96,14 +102,16 @@ returns-in-Begun-clause-some g c =
     let new = c.in_ok-begin.ensures.children in
     let tried = subst (λ a. BeginsOp c.in-Some.op c.self.inside.seat c.begin.new.seat a) c.in-Begun.is c.in_ok-begin.ensures.begins in
     subst (λ (w : Working). MakesSome c.args.board.now 1 w (record { seat = c.begin.new.seat; children = c.begin.new.children.items })) c.self.view_is
-    (begun_makes c.args.board.now c.self.inside.cursor c.self.inside.events c.self.inside.seat c.begin.new.seat c.self.inside.children.items c.begin.new.children.items c.in-Some.op _ (come g at) (before g at) new.0 new.1 new.2 tried)
+    (begun_makes c.args.board.now c.self.inside.cursor c.self.inside.events c.self.inside.seat c.begin.new.seat c.self.inside.children.items
+    c.begin.new.children.items c.in-Some.op _ (come g at) (before g at) new.0 new.1 new.2 tried)
 
 pub overflow_add-result : goal.overflow_add-result
 overflow_add-result g c =
     let at = (goal.at.overflow_add-result g c).In-Some in
     let new = c.in_ok-begin.ensures.children in
     let tried = subst (λ a. BeginsOp c.in-Some.op c.self.inside.seat c.begin.new.seat a) c.in-Refused.is c.in_ok-begin.ensures.begins in
-    let fits = refused_fits c.args.board.now c.self.inside.cursor c.self.inside.events c.self.inside.seat c.begin.new.seat c.self.inside.children.items c.begin.new.children.items c.in-Some.op _ (come g at) (before g at) new.0 new.1 new.2 c.in-Refused.drops tried in
+    let fits = refused_fits c.args.board.now c.self.inside.cursor c.self.inside.events c.self.inside.seat c.begin.new.seat c.self.inside.children.items
+    c.begin.new.children.items c.in-Some.op _ (come g at) (before g at) new.0 new.1 new.2 c.in-Refused.drops tried in
     omega arith
 
 pub invariant_of-self-in-Refused : goal.invariant_of-self-in-Refused
@@ -113,7 +121,8 @@ invariant_of-self-in-Refused g c =
     let tried = subst (λ a. BeginsOp c.in-Some.op c.self.inside.seat c.begin.new.seat a) c.in-Refused.is c.in_ok-begin.ensures.begins in
     record {
       come =
-          refused_come c.args.board.now c.self.inside.cursor c.self.inside.events c.self.inside.seat c.begin.new.seat c.self.inside.children.items c.begin.new.children.items c.in-Some.op _ (come g at) (before g at) new.0 new.1 new.2 c.in-Refused.drops tried;
+          refused_come c.args.board.now c.self.inside.cursor c.self.inside.events c.self.inside.seat c.begin.new.seat c.self.inside.children.items
+          c.begin.new.children.items c.in-Some.op _ (come g at) (before g at) new.0 new.1 new.2 c.in-Refused.drops tried;
       begun = c.self.invariant.begun;
     }
 
@@ -123,7 +132,8 @@ returns-in-Refused-clause-some g c =
     let new = c.in_ok-begin.ensures.children in
     let tried = subst (λ a. BeginsOp c.in-Some.op c.self.inside.seat c.begin.new.seat a) c.in-Refused.is c.in_ok-begin.ensures.begins in
     subst (λ (w : Working). MakesSome c.args.board.now (c.in-Refused.drops + 1) w (record { seat = c.begin.new.seat; children = c.begin.new.children.items })) c.self.view_is
-    (refused_makes c.args.board.now c.self.inside.cursor c.self.inside.events c.self.inside.seat c.begin.new.seat c.self.inside.children.items c.begin.new.children.items c.in-Some.op _ (come g at) (before g at) new.0 new.1 new.2 c.in-Refused.drops tried)
+    (refused_makes c.args.board.now c.self.inside.cursor c.self.inside.events c.self.inside.seat c.begin.new.seat c.self.inside.children.items
+    c.begin.new.children.items c.in-Some.op _ (come g at) (before g at) new.0 new.1 new.2 c.in-Refused.drops tried)
 
 pub returns-then-self-clause-none : goal.returns-then-self-clause-none
 returns-then-self-clause-none g c = λ _. (
