@@ -1,5 +1,5 @@
 -- The ops of a code, and the children that they fork.
-use Rattle.std.proofs.Common.{◌≡◌, ◌<◌, ◌≤◌, ◌*◌, ℕ, List, Some, length, arith, sym, ◌∙◌, ap, subst}
+use Rattle.std.proofs.Common.{◌≡◌, ◌+◌, ◌<◌, ◌*◌, ◌∷◌, ℕ, List, Some, add-one, length, arith, drop, sym, ◌∙◌, ap}
 use Rattle.std.specs.Prelude.{slice_get, option_map}
 use Rattle.std.proofs.lemmas.Option.{slice_get_within}
 use Rattle.armus_base.specs.declared.ids.TaskId.{TaskId}
@@ -9,6 +9,7 @@ use Rattle.armus_base.specs.Limits.{max_ops}
 use Rattle.armus_base.specs.CheckedPlans.{IsCheckedPlan}
 use Rattle.armus_base.specs.Plans.{Forks, Plan, action_at, actions, code_of}
 use Rattle.armus_base.proofs.Codes.{child_within}
+use Rattle.board.proofs.Walking.{first_left, rest_left}
 use Rattle.pl_core.specs.inside.Ops.{action_of}
 use Rattle.pl_core.specs.Tasks.{actions_before}
 use Rattle.pl_core.proofs.OpCounts.{action_before}
@@ -25,6 +26,13 @@ pub child_is_task : (plan : Plan) (t k : ℕ) (c : TaskId) → IsCheckedPlan pla
 child_is_task plan t k c checked e =
     child_within plan t c.0 (checked.codes.well_formed t (actions_before (code_of plan t) k) (Forks c.0) (fork_there plan t k c e)).0
 
--- a task has few ops
-pub own_ops_fit : (plan : Plan) (t : ℕ) (ops : List Op) → IsCheckedPlan plan → ops ≡ code_of plan t → length ops ≤ 2 * max_ops
-own_ops_fit plan t ops checked is = subst (λ xs. length xs ≤ 2 * max_ops) (sym is) (few_own_ops plan t checked)
+-- what a task does next, and what is left behind it
+pub next_there : (plan : Plan) (t k : ℕ) (ops rest : List Op) (op : Op) → ops ≡ drop k (code_of plan t) → ops ≡ op ∷ rest → slice_get (code_of plan t) k ≡ Some op
+next_there plan t k ops rest op left is = first_left (code_of plan t) k op rest (sym left ∙ is)
+
+pub next_behind : (plan : Plan) (t k : ℕ) (ops rest : List Op) (op : Op) → ops ≡ drop k (code_of plan t) → ops ≡ op ∷ rest → rest ≡ drop (k + 1) (code_of plan t)
+next_behind plan t k ops rest op left is = sym (ap (λ n. drop n (code_of plan t)) (add-one k) ∙ rest_left (code_of plan t) k op rest (sym left ∙ is))
+
+-- few ops come before one that is there
+pub few_before : (plan : Plan) (t k : ℕ) (op : Op) → IsCheckedPlan plan → slice_get (code_of plan t) k ≡ Some op → k < 2 * max_ops
+few_before plan t k op checked is = (let few = few_own_ops plan t checked in let l = slice_get_within (code_of plan t) k op is in omega arith)

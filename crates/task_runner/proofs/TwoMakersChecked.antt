@@ -109,5 +109,5 @@ two_makers_checked =
             works = both_are_forked;
             draws = first_draws;
           };
-      limits = record { few_tasks = omega arith; few_phasers = omega arith; few_ops = omega arith };
+      limits = record { few_tasks = omega arith; few_phasers = omega arith; few_ops = omega arith; few_cells = omega arith };
     }

@@ -6,3 +6,4 @@ pub mod Watching
 pub mod Rests
 pub mod SiteRounds
 pub mod Pooled
+pub mod LiveTasks

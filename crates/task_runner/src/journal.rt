@@ -65,7 +65,6 @@ fn go_by_rounds<N: PlanName, R: Threads + Wait + Sync, G: Gate>(
         take_turns(
             rt,
             shared,
-            plan,
             gate,
             pace.workers(workers),
             tasks.as_mut_slice(),
@@ -75,7 +74,7 @@ fn go_by_rounds<N: PlanName, R: Threads + Wait + Sync, G: Gate>(
             break;
         }
         pace.note(made);
-        let children = forked_by(alloc, plan, tasks.as_slice())?;
+        let children = forked_by(alloc, plan, tasks.as_mut_slice())?;
         tasks.retain(|task| !task.is_done());
         for child in children {
             insert(&mut tasks, child)?;
@@ -85,46 +84,49 @@ fn go_by_rounds<N: PlanName, R: Threads + Wait + Sync, G: Gate>(
 }
 
 // Task 0, before its first step.
-fn first_task<N: PlanName>(plan: &Plan) -> LiveTask<N>
+fn first_task<'p, N: PlanName>(plan: &'p Plan) -> LiveTask<'p, N>
     requires plan { plan.now ≡ N.plan }
 {
     let _tasks = plan.tasks();
-    LiveTask::new(TaskId(0))
+    LiveTask::new(TaskId(0), plan)
 }
 
 // How many ops these tasks went on in their last turns, a begun await counted as one.
-fn steps_of<N: PlanName>(tasks: &[LiveTask<N>]) -> u32 {
-    let mut made = 0u32;
+fn steps_of<N: PlanName>(tasks: &[LiveTask<'_, N>]) -> u64 {
+    let mut made = 0u64;
     for task in tasks {
-        made = made.saturating_add(task.steps());
+        made = made.saturating_add(u64::from(task.steps()));
     }
     made
 }
 
 // The tasks that these forked in their last turns.
-fn forked_by<N: PlanName>(
+fn forked_by<'p, N: PlanName>(
     alloc: Global,
-    plan: &Plan,
-    tasks: &[LiveTask<N>],
-) -> Result<Vec<LiveTask<N>>, NoMemory>
+    plan: &'p Plan,
+    tasks: &mut [LiveTask<'p, N>],
+) -> Result<Vec<LiveTask<'p, N>>, NoMemory>
     requires plan { plan.now ≡ N.plan }
 {
     let mut children = Vec::new(alloc);
-    for task in tasks {
-        task.add_children(plan, &mut children)?;
+    for task in tasks.iter_mut() {
+        task.take_children(plan, &mut children)?;
     }
     Ok(children)
 }
 
 // Puts a task among those in order of number.
-fn insert<N: PlanName>(tasks: &mut Vec<LiveTask<N>>, task: LiveTask<N>) -> Result<(), NoMemory> {
+fn insert<'p, N: PlanName>(
+    tasks: &mut Vec<LiveTask<'p, N>>,
+    task: LiveTask<'p, N>,
+) -> Result<(), NoMemory> {
     let at = first_after(tasks.as_slice(), task.id());
     tasks.insert(at, task)?;
     Ok(())
 }
 
 // The place of the first task with a greater number.
-fn first_after<N: PlanName>(tasks: &[LiveTask<N>], t: TaskId) -> usize
+fn first_after<N: PlanName>(tasks: &[LiveTask<'_, N>], t: TaskId) -> usize
     ensures { result ≤ length tasks.now }
 {
     for (at, task) in tasks.iter().enumerate() {

@@ -16,7 +16,7 @@ use crate::board_name::BoardName;
 use crate::ending::{end_from, end_of};
 use crate::pooled_task::PooledTask;
 use adaptive::Wanted;
-use armus_base::{Final, Gate, List, NoMemory, Op, Plan};
+use armus_base::{Cursor, Final, Gate, List, NoMemory, Op, Plan};
 use board::{Board, ViewSeat};
 use collector::Collector;
 use pl_core::{Place, World};
@@ -124,20 +124,20 @@ fn have_forked_marked<N: BoardName>(
     ensures { result ≡ true → All (λ task. AreForksMarked (code_of plan.now (number task)) (done_of task) marks.now) tasks.now }
 {
     for task in tasks {
-        let code = plan.code(task.number());
-        if !are_forks_marked(code, task.place().events, marks) {
+        let cursor = plan.cursor(task.number());
+        if !are_forks_marked(cursor, task.place().events, marks) {
             return false;
         }
     }
     true
 }
 
-// Whether each task that is forked among the first actions of this code, so many, is marked.
-fn are_forks_marked(code: &[Op], done: u32, marks: &[bool]) -> bool
-    ensures { result ≡ true → AreForksMarked code.now done marks.now }
+// Whether each task that is forked among the first actions of these ops, so many, is marked.
+fn are_forks_marked(mut cursor: Cursor<'_>, done: u32, marks: &[bool]) -> bool
+    ensures { result ≡ true → AreForksMarked cursor.entry done marks.now }
 {
     let mut left = done;
-    for op in code {
+    'ops: while let Some(op) = cursor.next() {
         if left == 0 {
             return true;
         }
@@ -150,20 +150,20 @@ fn are_forks_marked(code: &[Op], done: u32, marks: &[bool]) -> bool
 }
 
 // Whether an op forks no task, or one that is marked.
-fn is_fork_marked(op: &Op, marks: &[bool]) -> bool
-    ensures { result ≡ true → (c : TaskId) → op.now ≡ Fork c → slice_get marks.now c.0 ≡ Some true }
+fn is_fork_marked(op: Op, marks: &[bool]) -> bool
+    ensures { result ≡ true → (c : TaskId) → op ≡ Fork c → slice_get marks.now c.0 ≡ Some true }
 {
-    match *op {
+    match op {
         Op::Fork { c } => is_marked(marks, c.0),
         _ => true,
     }
 }
 
 // How many actions an op is.
-fn actions_in(op: &Op) -> u32
-    ensures { result ≡ length (actions_of (op.now ∷ [])) }
+fn actions_in(op: Op) -> u32
+    ensures { result ≡ length (actions_of (op ∷ [])) }
 {
-    match *op {
+    match op {
         Op::Await { p: _, off: _ } => 2,
         _ => 1,
     }

@@ -1,5 +1,5 @@
 // Small plans for the tests.
-use armus_base::{Code, List, NoMemory, Offset, Op, PhaserId, Plan, TaskId};
+use armus_base::{Code, List, NoMemory, Offset, Op, PhaserId, Piece, Plan, TaskId};
 use std::alloc::Global;
 
 pub(crate) const A: PhaserId = PhaserId(0);
@@ -21,27 +21,27 @@ pub(crate) fn two_tasks(alloc: Global) -> Result<Plan, NoMemory> {
     let parents = vec![in alloc; None, Some(ROOT)]?;
     let makers = vec![in alloc; ROOT, ROOT]?;
     let first = vec![in alloc;
-        Op::Make { p: A },
-        Op::Make { p: B },
-        Op::Reg { c: FIRST, p: A },
-        Op::Reg { c: FIRST, p: B },
-        Op::Fork { c: FIRST },
-        Op::Adv { p: A },
-        Op::Await {
+        Piece::Op(Op::Make { p: A }),
+        Piece::Op(Op::Make { p: B }),
+        Piece::Op(Op::Reg { c: FIRST, p: A }),
+        Piece::Op(Op::Reg { c: FIRST, p: B }),
+        Piece::Op(Op::Fork { c: FIRST }),
+        Piece::Op(Op::Adv { p: A }),
+        Piece::Op(Op::Await {
             p: A,
             off: Offset::Here
-        },
+        }),
     ]?;
     let second = vec![in alloc;
-        Op::Adv { p: B },
-        Op::Await {
+        Piece::Op(Op::Adv { p: B }),
+        Piece::Op(Op::Await {
             p: B,
             off: Offset::Here
-        },
+        }),
     ]?;
     let codes = vec![in alloc;
-        Code::from_ops(List::from_vec(first)),
-        Code::from_ops(List::from_vec(second)),
+        Code::from_pieces(List::from_vec(first)),
+        Code::from_pieces(List::from_vec(second)),
     ]?;
     Ok(Plan::from_parts(
         List::from_vec(parents),
@@ -54,13 +54,16 @@ pub(crate) fn two_tasks(alloc: Global) -> Result<Plan, NoMemory> {
 pub(crate) fn two_makers(alloc: Global) -> Result<Plan, NoMemory> {
     let parents = vec![in alloc; None, Some(ROOT), Some(ROOT)]?;
     let makers = vec![in alloc; FIRST, SECOND]?;
-    let root = vec![in alloc; Op::Fork { c: FIRST }, Op::Fork { c: SECOND }]?;
-    let first = vec![in alloc; Op::Make { p: A }]?;
-    let second = vec![in alloc; Op::Make { p: B }]?;
+    let root = vec![in alloc;
+        Piece::Op(Op::Fork { c: FIRST }),
+        Piece::Op(Op::Fork { c: SECOND }),
+    ]?;
+    let first = vec![in alloc; Piece::Op(Op::Make { p: A })]?;
+    let second = vec![in alloc; Piece::Op(Op::Make { p: B })]?;
     let codes = vec![in alloc;
-        Code::from_ops(List::from_vec(root)),
-        Code::from_ops(List::from_vec(first)),
-        Code::from_ops(List::from_vec(second)),
+        Code::from_pieces(List::from_vec(root)),
+        Code::from_pieces(List::from_vec(first)),
+        Code::from_pieces(List::from_vec(second)),
     ]?;
     Ok(Plan::from_parts(
         List::from_vec(parents),

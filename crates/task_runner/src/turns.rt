@@ -1,9 +1,8 @@
 // One round of a recorded run.
 ghost use Rattle.std.specs.Thread.{IsSync};
-ghost use Rattle.std.specs.Prelude.{◌≡◌, length};
 
 use crate::live_task::LiveTask;
-use armus_base::{Gate, NoMemory, Plan};
+use armus_base::{Gate, NoMemory};
 use locked_world::{LockedWorld, PlanName};
 use std::sync::Wait;
 use std::thread::{Threads, join_mut};
@@ -13,15 +12,12 @@ use std::thread::{Threads, join_mut};
 pub(crate) fn take_turns<N: PlanName, R: Threads + Wait + Sync, G: Gate>(
     rt: &R,
     shared: &LockedWorld<'_, N>,
-    plan: &Plan,
     gate: &G,
     workers: u8,
-    tasks: &mut [LiveTask<N>],
-) -> Result<(), NoMemory>
-    requires plan { plan.now ≡ N.plan }
-{
+    tasks: &mut [LiveTask<'_, N>],
+) -> Result<(), NoMemory> {
     if workers < 2 || tasks.len() < 2 {
-        return take_turns_in_order(rt, shared, plan, gate, tasks);
+        return take_turns_in_order(rt, shared, gate, tasks);
     }
     let few = workers / 2;
     let rest = workers - few;
@@ -29,11 +25,11 @@ pub(crate) fn take_turns<N: PlanName, R: Threads + Wait + Sync, G: Gate>(
     let (first, second) = join_mut(
         rt,
         &mut || -> Result<(), NoMemory>
-            requires { IsSync R.row × (plan.now ≡ N.plan) }
-        { take_turns(rt, shared, plan, gate, few, front) },
+            requires { IsSync R.row }
+        { take_turns(rt, shared, gate, few, front) },
         &mut || -> Result<(), NoMemory>
-            requires { IsSync R.row × (plan.now ≡ N.plan) }
-        { take_turns(rt, shared, plan, gate, rest, back) },
+            requires { IsSync R.row }
+        { take_turns(rt, shared, gate, rest, back) },
     );
     first?;
     second
@@ -43,14 +39,11 @@ pub(crate) fn take_turns<N: PlanName, R: Threads + Wait + Sync, G: Gate>(
 fn take_turns_in_order<N: PlanName, R: Wait, G: Gate>(
     rt: &R,
     shared: &LockedWorld<'_, N>,
-    plan: &Plan,
     gate: &G,
-    tasks: &mut [LiveTask<N>],
-) -> Result<(), NoMemory>
-    requires plan { plan.now ≡ N.plan }
-{
-    for task in tasks {
-        task.act(rt, shared, plan, gate)?;
+    tasks: &mut [LiveTask<'_, N>],
+) -> Result<(), NoMemory> {
+    for task in tasks.iter_mut() {
+        task.act(rt, shared, gate)?;
     }
     Ok(())
 }

@@ -1,8 +1,20 @@
-use Rattle.std.proofs.Common.{◌≡◌, ◌++◌, ◌∙◌, Bool, List, Err, ap, append_assoc, rules}
+use Rattle.std.proofs.Common.{◌≡◌, ◌++◌, ◌∙◌, [], Bool, List, Err, ap, append-nil, append_assoc, refl, rules, sym}
 use Rattle.armus_base.specs.declared.status.Dead.{Dead}
 use Rattle.task_runner.specs.DetectRuns.{told}
-use Rattle.task_runner.proofs.TellingMore.{told_err, told_on, written_on}
+use Rattle.task_runner.proofs.TellingMore.{none_written, told_err, told_on, written_on}
 use Rattle.task_runner.proofs.detect_rounds.go_by_rounds.Goals as goal
+
+pub rounds-init : goal.rounds-init
+rounds-init g c =
+    let a = told g.K.Sink.taken g.K.Sink.faults c.args.out.now in
+    record {
+      under_way = c.requires.under_way;
+      sees = λ u. refl;
+      fresh = [];
+      dead = sym (append-nil c.args.teller.now.dead);
+      written = none_written a a refl;
+      silent = λ off. refl;
+    }
 
 pub returns-in_err-go_round-clause-told : goal.returns-in_err-go_round-clause-told
 returns-in_err-go_round-clause-told g c =

@@ -11,8 +11,8 @@ use Rattle.task_runner.specs.inside.Pooled.{AreForksMarked}
 use Rattle.task_runner.proofs.PooledTasks.{small}
 use Rattle.task_runner.proofs.pool_end.have_forked_marked.Goals as goal
 
-pub code-code-requires : goal.code-code-requires
-code-code-requires g c =
+pub cursor-cursor-requires : goal.cursor-cursor-requires
+cursor-cursor-requires g c =
     let w : Working = c.task-item.result in
     let l = small g.N.BoardName.board c.args.plan.now w.seat c.requires.plan c.number.ensures.seat in
     let n = c.number.ensures.number in
@@ -29,7 +29,7 @@ loop-task-preserved g c =
     let here : P w =
     subst (λ d. AreForksMarked (code_of c.args.plan.now (number w)) d c.args.marks.now) (ap (λ (p : KeptPlace). p.events) c.place.ensures)
     (subst (λ (ops : List Op). AreForksMarked ops c.place.result.events c.args.marks.now)
-    (c.code-code.ensures.code ∙ ap (code_of c.args.plan.now) c.number.ensures.number) (c.are_forks_marked.ensures c.if-not-are_forks_marked.false)) in
+    (c.cursor-cursor.ensures.code ∙ ap (code_of c.args.plan.now) c.number.ensures.number) (c.are_forks_marked.ensures c.if-not-are_forks_marked.false)) in
     subst (All P) (sym (grown ∙ ap (λ (v : Working). front ++ v ∷ []) (sym is))) (All-append P front (w ∷ []) c.loop-task.invariant (All-cons P w [] here (All-nil P)))
 
 pub returns : goal.returns

@@ -1,24 +1,27 @@
-use Rattle.std.proofs.Common.{◌≡◌, ◌∙◌, List, [], ◌∷◌, ap, subst, sym}
-use Rattle.armus_base.specs.declared.op.Op.{Op}
-use Rattle.armus_base.specs.CheckedPlans.{IsCheckedPlan}
+use Rattle.std.proofs.Common.{◌≡◌, ◌∙◌, List, [], ◌∷◌, ap, refl, subst, sym}
+use Rattle.armus_base.specs.declared.piece.Piece.{Piece}
+use Rattle.armus_base.specs.Pieces.{IsFolded}
 use Rattle.armus_base.specs.TwoTasks.{two_tasks}
+use Rattle.armus_base.proofs.FoldedPlans.{checked_parts}
+use Rattle.armus_base.proofs.FoldedTests.{folded_by_test}
 use Rattle.armus_base.proofs.TwoTasksChecked.{two_tasks_checked}
 use Rattle.task_runner.proofs.test_plans.two_tasks.Goals as goal
 
-abbrev head_code : List (List Op) → List Op
+abbrev head_code : List (List Piece) → List Piece
 head_code [] = []
 head_code (code ∷ rest) = code
 
+pub from_pieces-requires : goal.from_pieces-requires
+from_pieces-requires c = record { folded = subst IsFolded (sym (c.from_vec.ensures.items ∙ c.in_ok-first.ensures.items)) (folded_by_test (head_code two_tasks.pieces) refl) }
+
 pub from_parts-requires : goal.from_parts-requires
 from_parts-requires c =
-    let parents : c.from_vec-3.result ≡ two_tasks.parents = c.from_vec-3.ensures.items ∙ c.in_ok-parents.ensures.items in
-    let makers : c.from_vec-4.result ≡ two_tasks.makers = c.from_vec-4.ensures.items ∙ c.in_ok-makers.ensures.items in
-    let first = c.from_ops.ensures.ops ∙ c.from_vec.ensures.items ∙ c.in_ok-first.ensures.items in
-    let second = c.from_ops-2.ensures.ops ∙ c.from_vec-2.ensures.items ∙ c.in_ok-second.ensures.items in
-    let codes : c.from_vec-5.result ≡ two_tasks.codes =
-    c.from_vec-5.ensures.items ∙ c.in_ok-codes.ensures.items ∙ ap (λ k. k ∷ c.from_ops-2.result ∷ []) first ∙ ap (λ k. head_code two_tasks.codes ∷ k ∷ []) second in
+    let first = c.from_pieces.ensures.pieces ∙ c.from_vec.ensures.items ∙ c.in_ok-first.ensures.items in
+    let second = c.from_pieces-2.ensures.pieces ∙ c.from_vec-2.ensures.items ∙ c.in_ok-second.ensures.items in
     record {
-      checked = subst (λ ps. IsCheckedPlan (record { parents = ps; makers = c.from_vec-4.result; codes = c.from_vec-5.result })) (sym parents)
-          (subst (λ ms. IsCheckedPlan (record { parents = two_tasks.parents; makers = ms; codes = c.from_vec-5.result })) (sym makers)
-          (subst (λ cs. IsCheckedPlan (record { parents = two_tasks.parents; makers = two_tasks.makers; codes = cs })) (sym codes) two_tasks_checked));
+      checked =
+          checked_parts two_tasks two_tasks_checked refl c.from_vec-3.result c.from_vec-4.result c.from_vec-5.result
+          (c.from_vec-3.ensures.items ∙ c.in_ok-parents.ensures.items) (c.from_vec-4.ensures.items ∙ c.in_ok-makers.ensures.items)
+          (c.from_vec-5.ensures.items ∙ c.in_ok-codes.ensures.items ∙ ap (λ k. k ∷ c.from_pieces-2.result ∷ []) first
+          ∙ ap (λ k. head_code two_tasks.pieces ∷ k ∷ []) second);
     }
