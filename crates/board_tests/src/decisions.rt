@@ -23,7 +23,13 @@ const FIRST: Event = Event { p: A, n: 1 };
 const SECOND: Event = Event { p: B, n: 1 };
 
 /// Whether the walker makes so many steps, none of them of an await.
-pub fn steps(walker: &mut Walker, alloc: Global, board: &Board, plan: &Plan, count: u32) -> bool
+pub fn steps<'p>(
+    walker: &mut Walker<'p>,
+    alloc: Global,
+    board: &Board,
+    plan: &'p Plan,
+    count: u32,
+) -> bool
     requires made { IsOf walker.old board.now }
     requires plan { board.now.plan ≡ plan.now }
     ensures made { IsOf walker.new board.now }
@@ -36,7 +42,12 @@ pub fn steps(walker: &mut Walker, alloc: Global, board: &Board, plan: &Plan, cou
 }
 
 // The child that the walker forks next.
-fn forks(walker: &mut Walker, alloc: Global, board: &Board, plan: &Plan) -> Option<Walker>
+fn forks<'p>(
+    walker: &mut Walker<'p>,
+    alloc: Global,
+    board: &Board,
+    plan: &'p Plan,
+) -> Option<Walker<'p>>
     requires made { IsOf walker.old board.now }
     requires plan { board.now.plan ≡ plan.now }
     ensures made { IsOf walker.new board.now }
@@ -202,10 +213,10 @@ fn one_is_refused(alloc: Global, judging: Judging) -> Result<bool, NoMemory> {
     };
     let first = steps(&mut root, alloc, &board, &plan, 1);
     let second = steps(&mut child, alloc, &board, &plan, 1);
-    let Some((root, a, first_off)) = root.into_awaiting(&board, &plan) else {
+    let Some((root, a, first_off)) = root.into_awaiting(&board) else {
         return Ok(false);
     };
-    let Some((child, b, second_off)) = child.into_awaiting(&board, &plan) else {
+    let Some((child, b, second_off)) = child.into_awaiting(&board) else {
         return Ok(false);
     };
     let decided = both_are_decided(

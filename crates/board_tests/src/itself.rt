@@ -71,7 +71,7 @@ fn is_refused_on_board(alloc: Global, judging: Judging) -> Result<bool, NoMemory
     let plan = awaits_ahead(alloc)?;
     let (board, mut root, _) = begin_avoiding(alloc, &plan)?;
     let walked = decisions::steps(&mut root, alloc, &board, &plan, 2);
-    let Some((mut seat, p, off)) = root.into_awaiting(&board, &plan) else {
+    let Some((mut seat, p, off)) = root.into_awaiting(&board) else {
         return Ok(false);
     };
     let mut cells = Cells::start(alloc, board.tasks(), board.phasers())?;

@@ -44,10 +44,10 @@ fn lock_is_held(alloc: Global) -> Result<bool, NoMemory> {
         Ok(Some(child)) => child,
         _ => return Ok(false),
     };
-    let Some((mut first, _, _)) = root.into_awaiting(&board, &plan) else {
+    let Some((mut first, _, _)) = root.into_awaiting(&board) else {
         return Ok(false);
     };
-    let Some((mut second, _, _)) = child.into_awaiting(&board, &plan) else {
+    let Some((mut second, _, _)) = child.into_awaiting(&board) else {
         return Ok(false);
     };
     let turns = takes_turns(&board, &mut first, &mut second);

@@ -14,7 +14,7 @@ fn first_round<R: Threads + Sync>(
     alloc: Global,
     plan: &Plan,
     mode: Mode,
-) -> Result<(u32, usize), NoMemory> {
+) -> Result<(u64, usize), NoMemory> {
     let (board, seat, _) = Board::start(alloc, plan, mode)?;
     let mut tasks = Vec::new(alloc);
     tasks.push(Task::new(alloc, seat, plan))?;

@@ -89,7 +89,12 @@ fn holds_row(alloc: Global, keeper: &mut MemKeeper) -> bool
 }
 
 // Task 0 forks the other one and then waits; it answers the other one, and nothing where a step was not made.
-fn first_waits(root: &mut Walker, alloc: Global, board: &Board, plan: &Plan) -> Option<Walker>
+fn first_waits<'p>(
+    root: &mut Walker<'p>,
+    alloc: Global,
+    board: &Board,
+    plan: &'p Plan,
+) -> Option<Walker<'p>>
     requires made { IsOf root.old board.now }
     requires plan { board.now.plan ≡ plan.now }
     requires detects { board.now.mode ≡ Detect }
@@ -111,11 +116,11 @@ fn first_waits(root: &mut Walker, alloc: Global, board: &Board, plan: &Plan) -> 
 
 // Site 0 snaps and puts when its task waits and the other one does not yet, and then both rows are checked; site 1 snaps and puts once the other one waits
 // too. It answers whether the check names nobody, and what the second put answers.
-fn two_moments(
+fn two_moments<'p>(
     alloc: Global,
     board: &Board,
-    plan: &Plan,
-    child: &mut Walker,
+    plan: &'p Plan,
+    child: &mut Walker<'p>,
     view: &mut ViewSeat,
     other: &mut ViewSeat,
     keeper: &mut MemKeeper,

@@ -1,5 +1,5 @@
 // A task that walks along its code on a board.
-ghost use Rattle.std.specs.Prelude.{◌≡◌, ◌≢◌, ℕ, ◌+◌, ◌^◌, ◌<◌, Some, IfOk, IfSome, IsSome, IsNone, MatchOption, OnOk, OnErr, true, false, length, slice_get};
+ghost use Rattle.std.specs.Prelude.{◌≡◌, ◌≢◌, ◌<◌, Some, IfOk, IfSome, IsSome, IsNone, MatchOption, OnOk, OnErr, true, false, length};
 ghost use Rattle.armus_base.specs.Plans.{Action, Aim, Blocks};
 ghost use Rattle.armus_base.specs.Runs.{first_place};
 ghost use Rattle.board.specs.declared.mode.Mode.TheVariants.{Avoid, Detect};
@@ -9,7 +9,7 @@ ghost use Rattle.board.specs.Seats.{IsOf, MakesStep, aim_at, event_of};
 ghost use Rattle.board.specs.inside.Walking.{IsActionOfPlan, begins};
 ghost use Rattle.phase_scan.specs.Looks.{LoadsAlone, IsLook};
 
-use armus_base::{Event, NoMemory, Offset, Op, Phase, PhaserId, Plan, TaskId};
+use armus_base::{Cursor, Event, NoMemory, Offset, Op, Phase, PhaserId, Plan, TaskId};
 use board::{Board, Loads, Mode, Seen, TaskSeat, ViewSeat};
 use phase_scan::{Look, look};
 use std::alloc::Global;
@@ -24,53 +24,41 @@ pub enum Halt {
     Ended,
 }
 
-/// A task's seat, with the number of ops of the task's code that it has begun. Contracts see it as the seat.
+/// A task's seat, with a cursor at the first op of the task's code that is not begun. Contracts see it as the seat.
 #[derive(Drop)]
-pub struct Walker {
+pub struct Walker<'p> {
     seat: TaskSeat,
-    begun: usize,
+    cursor: Cursor<'p>,
 }
 
-impl Model for Walker {
+impl<'p> Model for Walker<'p> {
     ghost use Rattle.board.specs.Seats.{Known};
 
     ghost Value = { Known };
 
-    ghost use Rattle.board.specs.inside.Walking.{HasBegun};
+    ghost use Rattle.board.specs.inside.Walking.{HasLeft};
 
     ghost view = { λ w. w.seat };
 
-    ghost invariant = { λ w. HasBegun w.begun w.seat };
+    ghost invariant = { λ w. HasLeft w.cursor w.seat };
 }
 
 /// A board that avoids deadlock, task 0 at its opening, and a viewer.
-pub fn begin_avoiding(alloc: Global, plan: &Plan) -> Result<(Board, Walker, ViewSeat), NoMemory>
+pub fn begin_avoiding(alloc: Global, plan: &Plan) -> Result<(Board, Walker<'_>, ViewSeat), NoMemory>
     ensures board { IfOk result (λ r. (r.0.plan ≡ plan.now) × (r.0.mode ≡ Avoid)) }
     ensures seats { IfOk result (λ r. IsOf r.1 r.0 × IsOf r.2 r.0) }
 {
     let (board, seat, view) = Board::start(alloc, plan, Mode::Avoid)?;
-    Ok((board, Walker::of(seat), view))
+    Ok((board, Walker::of(seat, plan), view))
 }
 
 /// A board that detects deadlock, task 0 at its opening, and a viewer.
-pub fn begin(alloc: Global, plan: &Plan) -> Result<(Board, Walker, ViewSeat), NoMemory>
+pub fn begin(alloc: Global, plan: &Plan) -> Result<(Board, Walker<'_>, ViewSeat), NoMemory>
     ensures board { IfOk result (λ r. (r.0.plan ≡ plan.now) × (r.0.mode ≡ Detect)) }
     ensures seats { IfOk result (λ r. IsOf r.1 r.0 × IsOf r.2 r.0) }
 {
     let (board, seat, view) = Board::start(alloc, plan, Mode::Detect)?;
-    Ok((board, Walker::of(seat), view))
-}
-
-// The op at an index of a code.
-fn op_at(code: &[Op], index: usize) -> Option<Op>
-    ensures op { result ≡ slice_get code.now index }
-    ensures room { IfSome result (λ op. index + 1 < 2 ^ 64) }
-{
-    if index < code.len() {
-        Some(code[index])
-    } else {
-        None
-    }
+    Ok((board, Walker::of(seat, plan), view))
 }
 
 // Makes the step with which an op begins. It answers the seat of the child that it forks.
@@ -134,18 +122,25 @@ fn make_plain_step(seat: &mut TaskSeat, alloc: Global, board: &Board, op: Op) ->
     None
 }
 
-impl Walker {
+impl<'p> Walker<'p> {
     // A task that has made no step.
-    fn of(seat: TaskSeat) -> Walker
+    fn of(seat: TaskSeat, plan: &'p Plan) -> Walker<'p>
         requires first { own_place seat.view ≡ first_place }
         requires free { seat.view.holds ≡ false }
+        requires plan { seat.view.plan ≡ plan.now }
         ensures seat { result ≡ seat }
     {
-        Walker { seat, begun: 0 }
+        let cursor = plan.cursor(seat.id());
+        Walker { seat, cursor }
     }
 
     /// Makes the task's next step. It answers the child that it forks, and an error where it makes no step.
-    pub fn go(&mut self, alloc: Global, board: &Board, plan: &Plan) -> Result<Option<Walker>, Halt>
+    pub fn go(
+        &mut self,
+        alloc: Global,
+        board: &Board,
+        plan: &'p Plan,
+    ) -> Result<Option<Walker<'p>>, Halt>
         requires made { IsOf self.old board.now }
         requires plan { board.now.plan ≡ plan.now }
         requires detects { board.now.mode ≡ Detect }
@@ -157,12 +152,12 @@ impl Walker {
         if self.event().is_some() {
             return self.pass(board);
         }
-        let Some(op) = op_at(plan.code(self.seat.id()), self.begun) else {
+        let _ = self.seat.id();
+        let Some(op) = self.cursor.next() else {
             return Err(Halt::Ended);
         };
-        self.begun += 1;
         match make_step(&mut self.seat, alloc, board, op) {
-            Some(child) => Ok(Some(Walker::of(child))),
+            Some(child) => Ok(Some(Walker::of(child, plan))),
             None => Ok(None),
         }
     }
@@ -172,8 +167,8 @@ impl Walker {
         &mut self,
         alloc: Global,
         board: &Board,
-        plan: &Plan,
-    ) -> Result<Option<Walker>, Halt>
+        plan: &'p Plan,
+    ) -> Result<Option<Walker<'p>>, Halt>
         requires made { IsOf self.old board.now }
         requires plan { board.now.plan ≡ plan.now }
         ensures made { IsOf self.new board.now }
@@ -182,30 +177,32 @@ impl Walker {
         if self.event().is_some() {
             return Err(Halt::Waits);
         }
-        let Some(op) = op_at(plan.code(self.seat.id()), self.begun) else {
+        let _ = self.seat.id();
+        let Some(op) = self.cursor.peek() else {
             return Err(Halt::Ended);
         };
         if awaited(op).is_some() {
             return Err(Halt::Waits);
         }
-        self.begun += 1;
+        let _op = self.cursor.next();
         match make_plain_step(&mut self.seat, alloc, board, op) {
-            Some(child) => Ok(Some(Walker::of(child))),
+            Some(child) => Ok(Some(Walker::of(child, plan))),
             None => Ok(None),
         }
     }
 
     /// The seat of a task that stands before an await that is not published, the phaser that it awaits, and with which offset.
-    pub fn into_awaiting(self, board: &Board, plan: &Plan) -> Option<(TaskSeat, PhaserId, Offset)>
+    pub fn into_awaiting(self, board: &Board) -> Option<(TaskSeat, PhaserId, Offset)>
         requires made { IsOf self board.now }
-        requires plan { board.now.plan ≡ plan.now }
-        ensures seat { IfSome result (λ r. (r.0 ≡ self) × (r.0.view.holds ≡ false)) }
+        ensures seat { IfSome result (λ r. (r.0 ≡ self.entry) × (r.0.view.holds ≡ false)) }
         ensures next { IfSome result (λ r. (next_action r.0.view ≡ Some (Blocks (aim_at r.1.0 r.2))) × (r.1.0 < length board.now.plan.makers)) }
     {
         if self.event().is_some() {
             return None;
         }
-        let op = op_at(plan.code(self.seat.id()), self.begun)?;
+        let _ = board;
+        let _ = self.seat.id();
+        let op = self.cursor.peek()?;
         let aimed = awaited(op)?;
         Some((self.seat, aimed.0, aimed.1))
     }
@@ -222,7 +219,7 @@ impl Walker {
     }
 
     // Withdraws the event, if all tasks are scanned.
-    fn pass(&mut self, board: &Board) -> Result<Option<Walker>, Halt>
+    fn pass(&mut self, board: &Board) -> Result<Option<Walker<'p>>, Halt>
         requires made { IsOf self.old board.now }
         requires event { IsSome (event_of self.old) }
         ensures made { IsOf self.new board.now }
@@ -264,13 +261,13 @@ impl Walker {
 
     /// Ends the walk.
     pub fn into_seat(self) -> TaskSeat
-        ensures { result ≡ self }
+        ensures { result ≡ self.entry }
     {
         self.seat
     }
 }
 
-impl Loads for Walker {
+impl<'p> Loads for Walker<'p> {
     ghost known = { λ w. w };
 
     fn load_await(&mut self, board: &Board, t: TaskId) -> Seen {

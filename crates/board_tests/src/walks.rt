@@ -15,7 +15,13 @@ use std::test::Fail;
 const FIRST: Event = Event { p: A, n: 1 };
 
 /// Whether the walker makes so many steps.
-pub fn steps(walker: &mut Walker, alloc: Global, board: &Board, plan: &Plan, count: u32) -> bool
+pub fn steps<'p>(
+    walker: &mut Walker<'p>,
+    alloc: Global,
+    board: &Board,
+    plan: &'p Plan,
+    count: u32,
+) -> bool
     requires made { IsOf walker.old board.now }
     requires plan { board.now.plan ≡ plan.now }
     requires detects { board.now.mode ≡ Detect }
@@ -29,7 +35,12 @@ pub fn steps(walker: &mut Walker, alloc: Global, board: &Board, plan: &Plan, cou
 }
 
 /// The child that the walker forks next.
-pub fn forks(walker: &mut Walker, alloc: Global, board: &Board, plan: &Plan) -> Option<Walker>
+pub fn forks<'p>(
+    walker: &mut Walker<'p>,
+    alloc: Global,
+    board: &Board,
+    plan: &'p Plan,
+) -> Option<Walker<'p>>
     requires made { IsOf walker.old board.now }
     requires plan { board.now.plan ≡ plan.now }
     requires detects { board.now.mode ≡ Detect }
@@ -85,7 +96,7 @@ fn words_stay(alloc: Global) -> Result<bool, NoMemory> {
 }
 
 // Whether the phase of a task is found to be this, and so many tasks are scanned then.
-fn scans(walker: &mut Walker, board: &Board, t: TaskId, phase: Phase, scanned: u32) -> bool
+fn scans(walker: &mut Walker<'_>, board: &Board, t: TaskId, phase: Phase, scanned: u32) -> bool
     requires made { IsOf walker.old board.now }
     requires task { t.0 < length board.now.plan.parents }
     requires phaser { 0 < length board.now.plan.makers }
@@ -96,7 +107,7 @@ fn scans(walker: &mut Walker, board: &Board, t: TaskId, phase: Phase, scanned: u
 }
 
 /// Whether a look answers this, and so many tasks are scanned then.
-pub fn looks(walker: &mut Walker, board: &Board, answer: Look, scanned: u32) -> bool
+pub fn looks(walker: &mut Walker<'_>, board: &Board, answer: Look, scanned: u32) -> bool
     requires made { IsOf walker.old board.now }
     ensures made { IsOf walker.new board.now }
 {
@@ -141,12 +152,12 @@ fn late_member_is_scanned(alloc: Global) -> Result<bool, NoMemory> {
 }
 
 // Whether the task that waits passes once the last member has advanced, and all tasks end.
-fn passes(
+fn passes<'p>(
     alloc: Global,
-    plan: &Plan,
+    plan: &'p Plan,
     board: Board,
     mut view: ViewSeat,
-    walkers: (Walker, Walker, Walker),
+    walkers: (Walker<'p>, Walker<'p>, Walker<'p>),
 ) -> bool
     requires plan { board.plan ≡ plan.now }
     requires detects { board.mode ≡ Detect }

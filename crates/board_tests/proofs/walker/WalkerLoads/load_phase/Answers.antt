@@ -1,9 +1,9 @@
 use Rattle.std.proofs.Common.{◌≡◌}
-use Rattle.board.proofs.Walking.{begun_loaded}
+use Rattle.board.proofs.Walking.{left_loaded}
 use Rattle.board_tests.proofs.walker.WalkerLoads.load_phase.Goals as goal
 
 pub invariant_of-self : goal.invariant_of-self
 invariant_of-self c =
     let load = c.load_phase.ensures.answer.load in
-    begun_loaded c.self.inside.begun c.self.inside.seat c.load_phase.new.self c.id.result.0 (λ s. s.phases c.args.t.0 c.args.p.0 ≡ c.load_phase.result) c.self.invariant
+    left_loaded c.self.inside.cursor c.self.inside.seat c.load_phase.new.self c.id.result.0 (λ s. s.phases c.args.t.0 c.args.p.0 ≡ c.load_phase.result) c.self.invariant
     c.id.ensures.task c.id.ensures.seat load.same load.seen_now.exact load.was
