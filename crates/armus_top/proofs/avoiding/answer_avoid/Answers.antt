@@ -7,6 +7,5 @@ use Rattle.armus_top.proofs.avoiding.answer_avoid.Goals as goal
 pub returns-in-Ok-clause-done : goal.returns-in-Ok-clause-done
 returns-in-Ok-clause-done g c input plan_is =
     by_report (Avoid c.args.workers c.args.graph c.args.kept) input c.args.graph (IsAvoidOf input c.args.workers) (λ status text is. is)
-    c.options_of.result.wanted c.in-Ok.reported.has_deadlock c.in-Ok.reported.text c.as_slice.result.now _ (number_of_status c.status_of.result) _
-    c.options_of.ensures.wanted c.status_of.ensures
+    c.wanted_in.result c.in-Ok.reported.has_deadlock c.in-Ok.reported.text c.as_slice.result.now _ (number_of_status c.status_of.result) _ c.wanted_in.ensures c.status_of.ensures
     c.as_slice.ensures.items (c.in-Ok.ensures.run input plan_is) c.finish.ensures.done

@@ -18,7 +18,7 @@ returns-in-Ok-clause-done g c input plan_is =
     let after = telling c.write_report.new.out in
     reported input c.args.plan.now plan_is c.args.workers c.args.graph c.args.live before now after (number_of_status c.write_report.result) c.in-Ok.ran c.in-Ok.ensures.ran.end
     c.in-Ok.ensures.told (λ e. ap telling (c.in-Ok.ensures.silent e).0)
-    (subst (λ (w : Wanted). WritesReport c.in-Ok.ran.end w (between now after) (number_of_status c.write_report.result)) c.options_of.ensures.wanted c.write_report.ensures.done)
+    (subst (λ (w : Wanted). WritesReport c.in-Ok.ran.end w (between now after) (number_of_status c.write_report.result)) c.wanted_in.ensures c.write_report.ensures.done)
 
 pub returns-in-Err-Write-clause-done : goal.returns-in-Err-Write-clause-done
 returns-in-Err-Write-clause-done g c input plan_is =
