@@ -15,7 +15,7 @@ ghost use Rattle.armus_words.specs.declared.command.Command.TheVariants.{Avoid};
 
 use crate::input::input_of;
 use crate::programs::{MAX_TEXT_BYTES, checked_in};
-use crate::reported::{Reported, status_of, wanted_in};
+use crate::reported::{Reported, options_of, status_of};
 use crate::status::ExitStatus;
 use crate::writing::{answer_end, finish};
 use armus_base::{Final, Gate, NoMemory, Plan, Sink, Source, TaskEnd};
@@ -94,11 +94,7 @@ fn answer_avoid<R: Threads + Sync, K: Sink, G: Gate>(
         → Answered (Avoid workers graph kept) input (passage K.taken K.faults out.old out.new) (number_of_status result) }
     ensures silent { number_of_status result ≢ 4 }
 {
-    let options = RunOptions {
-        workers,
-        wanted: wanted_in(graph),
-        live: false,
-    };
+    let options = options_of(workers, graph, false);
     match avoid_and_report(rt, alloc, plan, &options, kept, gate) {
         Ok(reported) => finish(
             out,

@@ -12,7 +12,7 @@ ghost use Rattle.armus_words.specs.declared.command.Command.TheVariants.{Pool};
 
 use crate::input::input_of;
 use crate::programs::{MAX_TEXT_BYTES, checked_in};
-use crate::reported::wanted_in;
+use crate::reported::options_of;
 use crate::status::ExitStatus;
 use crate::writing::{answer_end, write_report};
 use armus_base::{Gate, NoMemory, Plan, Sink, Source};
@@ -20,7 +20,7 @@ use armus_words::Graph;
 use std::alloc::Global;
 use std::sync::Wait;
 use std::thread::Threads;
-use task_runner::{RunOptions, run_pool};
+use task_runner::run_pool;
 
 // Runs the plan by workers that claim its tasks, and writes the report of its end.
 fn answer_pool<R: Threads + Wait + Sync, K: Sink, G: Gate>(
@@ -38,11 +38,7 @@ fn answer_pool<R: Threads + Wait + Sync, K: Sink, G: Gate>(
         → Answered (Pool workers graph) input (passage K.taken K.faults out.old out.new) (number_of_status result) }
     ensures silent { number_of_status result ≢ 4 }
 {
-    let options = RunOptions {
-        workers,
-        wanted: wanted_in(graph),
-        live: false,
-    };
+    let options = options_of(workers, graph, false);
     match run_pool(rt, alloc, plan, &options, gate) {
         Ok(end) => write_report(alloc, &end, options.wanted, out),
         Err(NoMemory) => ExitStatus::OutOfMemory,

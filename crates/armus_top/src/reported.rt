@@ -7,6 +7,7 @@ use crate::status::ExitStatus;
 use adaptive::Wanted;
 use armus_base::List;
 use armus_words::Graph;
+use task_runner::RunOptions;
 
 /// A whole output, and whether a task is dead, or refused.
 #[derive(Drop)]
@@ -26,8 +27,8 @@ pub fn status_of(has_deadlock: bool) -> ExitStatus
     }
 }
 
-/// The graph that is wanted of a report.
-pub fn wanted_in(graph: Graph) -> Wanted
+// The graph that is wanted of a report.
+fn wanted_in(graph: Graph) -> Wanted
     ensures { result ≡ wanted_of graph }
 {
     match graph {
@@ -35,5 +36,18 @@ pub fn wanted_in(graph: Graph) -> Wanted
         Graph::Wfg => Wanted::Wfg,
         Graph::Sg => Wanted::Sg,
         Graph::Grg => Wanted::Grg,
+    }
+}
+
+/// How a run by so many workers is made that is reported by this graph: live, with a line for each dead task while it goes on.
+pub fn options_of(workers: u8, graph: Graph, live: bool) -> RunOptions
+    ensures workers { result.workers ≡ workers }
+    ensures wanted { result.wanted ≡ wanted_of graph }
+    ensures live { result.live ≡ live }
+{
+    RunOptions {
+        workers,
+        wanted: wanted_in(graph),
+        live,
     }
 }

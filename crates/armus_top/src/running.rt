@@ -15,7 +15,7 @@ ghost use Rattle.task_runner.specs.PlainRuns.{IsPlainEnd};
 
 use crate::input::input_of;
 use crate::programs::{MAX_TEXT_BYTES, checked_in};
-use crate::reported::wanted_in;
+use crate::reported::options_of;
 use crate::status::ExitStatus;
 use crate::writing::{answer_end, write_report};
 use armus_base::{Final, Gate, NoMemory, Plan, Sink, Source};
@@ -42,11 +42,7 @@ fn answer_without_sites<R: Threads + Sync, K: Sink, G: Gate>(
         → Answered (Run workers graph (kind_of live)) input (passage K.taken K.faults out.old out.new) (number_of_status result) }
     ensures silent { number_of_status result ≢ 4 }
 {
-    let options = RunOptions {
-        workers,
-        wanted: wanted_in(graph),
-        live,
-    };
+    let options = options_of(workers, graph, live);
     match run_detect(rt, alloc, plan, &options, gate, out) {
         Ok(ran) => write_report(alloc, &ran.end, options.wanted, out),
         Err(RunEnd::Write) => ExitStatus::WriteFailed,
@@ -103,11 +99,7 @@ fn answer_with_sites<R: Threads + Sync, K: Sink, G: Gate>(
         → Answered (Run workers graph (Sites sites)) input (passage K.taken K.faults out.old out.new) (number_of_status result) }
     ensures silent { number_of_status result ≢ 4 }
 {
-    let options = RunOptions {
-        workers,
-        wanted: wanted_in(graph),
-        live: false,
-    };
+    let options = options_of(workers, graph, false);
     match end_with_sites(rt, alloc, plan, &options, sites, gate) {
         Ok(end) => write_report(alloc, &end, options.wanted, out),
         Err(NoMemory) => ExitStatus::OutOfMemory,

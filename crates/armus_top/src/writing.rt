@@ -1,8 +1,7 @@
 // Writing a whole output.
-ghost use Rattle.std.specs.Prelude.{◌≡◌, ◌≢◌, ◌⊎◌};
-ghost use Rattle.std.specs.Io.KnownBytes.{Keeps};
+ghost use Rattle.std.specs.Prelude.{◌≡◌, ◌≢◌};
 ghost use Rattle.armus_base.specs.Statuses.{IsInOrder};
-ghost use Rattle.armus_top.specs.Headline.{IsSound, passage};
+ghost use Rattle.armus_top.specs.Headline.{passage};
 ghost use Rattle.armus_top.specs.inside.Status.{number_of_status};
 ghost use Rattle.armus_top.specs.inside.Writing.{Finished, Refuses, TellsEnd, WritesReport};
 
