@@ -14,7 +14,7 @@ use Rattle.armus_base.specs.declared.status.Status.{Status}
 use Rattle.armus_base.proofs.Elements.{nothing_in_nil}
 use Rattle.dep_state.proofs.DeadSets.{Contains-from_map, Contains-map}
 use Rattle.adaptive.specs.declared.standings.Standing.{Standing}
-use Rattle.adaptive.specs.inside.Standings.{AreStandingsOf, StandingsNeverFall, StandsAt, standing_at}
+use Rattle.adaptive.specs.inside.Standings.{AreStandingsOf, HasStanding, StandingsNeverFall, standing_at}
 use Rattle.dep_state.specs.inside.Made.{NotAfter}
 
 standing : ℕ → ℕ → ℕ → Standing
@@ -25,7 +25,7 @@ member p n = record { p = record { 0 = p }; n = n }
 
 -- these are the standings of the statuses below i
 abbrev pub AreBelow : List Status → ℕ → List Standing → Type 0
-AreBelow ss i xs = (k p n : ℕ) → Contains xs (record { at = record { p = record { 0 = p }; n = n }; status = k }) ↔ ((k < i) × StandsAt ss k p n)
+AreBelow ss i xs = (k p n : ℕ) → Contains xs (record { at = record { p = record { 0 = p }; n = n }; status = k }) ↔ ((k < i) × HasStanding ss k p n)
 
 pub none_below : (ss : List Status) → AreBelow ss 0 []
 none_below ss k p n = (λ m. absurd (nothing_in_nil _ m), λ h. absurd (let l = h.0 in omega arith))
@@ -49,7 +49,7 @@ module _ (ss : List Status) (i : ℕ) (s : Status) (inside : i < length ss) (is 
           let is_member = same_member from.0 p n (ap (λ x. x.at.p.0) from.2) (ap (λ x. x.at.n) from.2) in
           let there : (d : Status) → Contains (get_or ss i d).phases (member p n) =
           λ d. subst (λ v. Contains v.phases (member p n)) (sym (here d)) (subst (λ m. Contains s.phases m) is_member from.1) in
-          (omega (arith, same), subst (λ j. StandsAt ss j p n) same (inside, there))
+          (omega (arith, same), subst (λ j. HasStanding ss j p n) same (inside, there))
     ],
     λ h. elim (cases_eq k i) [
       | inl same ↦

@@ -9,7 +9,7 @@ use Rattle.armus_base.specs.Statuses.{IsInOrder}
 use Rattle.adaptive.specs.declared.columns.Column.{Column}
 use Rattle.adaptive.specs.declared.standings.Standing.{Standing}
 use Rattle.adaptive.specs.inside.Remaining.{AreFronts, count_remaining}
-use Rattle.adaptive.specs.inside.Standings.{IsRemaining, IsRemainingImpeder, IsUnimpeded, StandsAt, remains_at}
+use Rattle.adaptive.specs.inside.Standings.{HasStanding, IsRemaining, IsRemainingImpeder, IsUnimpeded, remains_at}
 
 -- a flag of a changed list: false where one was put to false, and as before elsewhere
 pub set_other : (xs : List Bool) (k j : ℕ) → j ≢ k → remains_at (set xs k false) j ≡ remains_at xs j
@@ -57,12 +57,12 @@ module _ (ss : List Status) (order : IsInOrder ss) (remains : List Bool) (are : 
       let event = ap (λ v. v.event) status ∙ own.3 in
       let by = link.impedes in
       let there = by.1 in
-      let stands : StandsAt ss there.0 link.event.p.0 link.phase = (
+      let stands : HasStanding ss there.0 link.event.p.0 link.phase = (
         there.1,
         λ v. subst (λ w. Contains w.phases (record { p = record { 0 = link.event.p.0 }; n = link.phase }))
             (sym (get_or_default ss there.0 v by.0 there.1 ∙ there.2)) by.3,
       ) in
-      let gone = unimpeded s there.0 link.phase (subst (λ e. StandsAt ss there.0 e.p.0 link.phase) (sym event) stands) (subst (λ e. link.phase < e.n) (sym event) link.below) in
+      let gone = unimpeded s there.0 link.phase (subst (λ e. HasStanding ss there.0 e.p.0 link.phase) (sym event) stands) (subst (λ e. link.phase < e.n) (sym event) link.below) in
       let number : (get_or ss there.0 by.0).t.0 ≡ link.by = ap (λ v. v.t.0) there.2 ∙ by.2 in
       are.gone there.0 by.0 there.1 gone
       (subst (λ t. IsDeadBy ss t) (sym number) (record { tasks = dead.tasks; inside = link.inside; deadlocked = dead.deadlocked }))

@@ -10,7 +10,7 @@ use Rattle.std.proofs.lemmas.Bool.{cases_Bool, cases_lt}
 use Rattle.armus_base.specs.Relations.{ReachesCycle, IsInClosedSet}
 use Rattle.digraph.specs.Graph.{HasEdge, graph_of, TellsCycles}
 use Rattle.digraph.specs.inside.Rows.{IsGraph}
-use Rattle.digraph.specs.inside.Search.{IsSearch, IsAhead, mark_of, row_of, is_unvisited, is_cyclic, IsSettled}
+use Rattle.digraph.specs.inside.Search.{AllAreMarked, IsAhead, IsSearch, is_cyclic, is_unvisited, mark_of, row_of}
 use Rattle.digraph.specs.declared.search.Mark.{Mark}
 use Rattle.digraph.specs.declared.search.Mark.TheVariants.{Unvisited, OnStack, Acyclic, Cyclic}
 use Rattle.digraph.proofs.SearchLemmas.{pop_step, push_step, look_step, nothing_left, back_edge, all_reach}
@@ -77,7 +77,7 @@ is_cyclic-not : (m : Mark) → is_cyclic m ≡ false → m ≡ Cyclic → ⊥
 is_cyclic-not m e f = let h : is_cyclic m ≡ true = ap is_cyclic f in absurd cc
 
 -- the marks tell which nodes reach a cycle
-pub tells : (g : List (List ℕ)) (marks : List Mark) → IsSettled g marks → TellsCycles g (map is_cyclic marks)
+pub tells : (g : List (List ℕ)) (marks : List Mark) → AllAreMarked g marks → TellsCycles g (map is_cyclic marks)
 tells g marks h =
     let at : (v : ℕ) → v < length g → get_or (map is_cyclic marks) v false ≡ is_cyclic (mark_of marks v) =
     λ v lt. get_or-map is_cyclic marks v Unvisited false (rw h.sized lt) in

@@ -3,7 +3,7 @@ ghost use Rattle.std.specs.Prelude.{◌≡◌, ◌^◌, ℕ, ◌<◌, ◌≤◌,
 ghost use Rattle.armus_base.specs.Relations.{ReachesCycle};
 ghost use Rattle.digraph.specs.Graph.{TellsCycles, HasEdge, graph_of};
 ghost use Rattle.digraph.specs.inside.Rows.{IsGraph};
-ghost use Rattle.digraph.specs.inside.Search.{IsSearch, IsAhead, KeepsMarked, IsMarked, IsSettled, row_of, is_unvisited, is_cyclic, work};
+ghost use Rattle.digraph.specs.inside.Search.{AllAreMarked, IsAhead, IsMarked, IsSearch, KeepsMarked, is_cyclic, is_unvisited, row_of, work};
 
 use std::alloc::{AllocError, Global};
 
@@ -118,7 +118,7 @@ fn settle(
 fn settle_all(alloc: Global, rows: &[Vec<u32>]) -> Result<Vec<Mark>, AllocError>
     requires graph { IsGraph (graph_of rows.now) }
     requires few { length rows.now < 2 ^ 32 }
-    ensures { IfOk result (λ marks. IsSettled (graph_of rows.now) marks.items) }
+    ensures { IfOk result (λ marks. AllAreMarked (graph_of rows.now) marks.items) }
 {
     let mut marks = vec![in alloc; Mark::Unvisited; rows.len()]?;
     let mut left: Vec<usize> = rows.iter().map(|row| row.len()).collect(alloc)?;

@@ -1,15 +1,14 @@
 -- The loads of a collect, one after the other: where they lead, and each of them.
-use Rattle.std.proofs.Common.{◌≡◌, ℕ, zero, suc, ◌<◌, ◌≤◌, Bool, true, false, Option, length, sym, refl, ap, ◌∙◌, subst, arith, inl, inr}
+use Rattle.std.proofs.Common.{◌≡◌, ℕ, zero, suc, ◌<◌, ◌≤◌, Bool, true, false, length, sym, refl, ap, ◌∙◌, subst, arith, inl, inr}
 use Rattle.std.specs.Prelude.{is_some}
 use Rattle.std.proofs.lemmas.Bool.{cases_eq}
-use Rattle.armus_base.specs.declared.event.Event.{Event}
 use Rattle.armus_base.specs.Plans.{Plan}
 use Rattle.armus_base.specs.States.{Phases, State}
 use Rattle.board.specs.Views.{seen}
 use Rattle.board.specs.Seats.{AnswersPhase, IsSeat, Known}
 use Rattle.phase_scan.specs.Looks.{LoadsAlone}
-use Rattle.phase_scan.specs.Collects.{FindsEvent, IfAsked, LoadsAwaits, LoadsRow, LoadsRows}
-use Rattle.phase_scan.proofs.Loads.{IsLoadOf, await_load, goes_both, goes_itself, phase_load}
+use Rattle.phase_scan.specs.Collects.{IfAsked, LoadsRow, LoadsRows}
+use Rattle.phase_scan.proofs.Loads.{IsLoadOf, goes_both, goes_itself, phase_load}
 
 -- loads of words of these tasks alone
 pub record GoesAt (Only : ℕ → Type 0) (k m : Known) : Type 0 where
@@ -42,67 +41,6 @@ module _ (plan : Plan) where
 
   small_of : (k : Known) (t : ℕ) → k.view.plan ≡ plan → t < length plan.parents → t < length k.view.plan.parents
   small_of k t of small = subst (λ (q : Plan). t < length q.parents) (sym of) small
-
-  -- the loads of await words
-  module _ (events : ℕ → Option Event) where
-    awaits_first : (n : ℕ) (k m : Known) → k.view.plan ≡ plan → n < length plan.parents → LoadsAwaits events (suc n) k m → IsSeat k
-    awaits_first zero k m of small (between, same, finds) =
-        let at : between.view.plan ≡ plan = ap (λ (j : Known). j.view.plan) same ∙ of in
-        subst IsSeat same (await_load between m 0 finds.answer (small_of between 0 at small) finds.load).first
-    awaits_first (suc n) k m of small (between, before, finds) = awaits_first n k between of (omega arith) before
-
-    pub awaits_go : (n : ℕ) (k m : Known) → k.view.plan ≡ plan → n ≤ length plan.parents → IsSeat k → LoadsAwaits events n k m → GoesAt (λ u. u < n) k m
-    awaits_go zero k m of few seat same = at_itself (λ u. u < 0) k m seat same
-    awaits_go (suc t) k m of few seat (between, before, finds) =
-        let goes = awaits_go t k between of (omega arith) seat before in
-        let small = small_of between t (still k between of goes.goes) (omega arith) in
-        at_both (λ u. u < suc t) k between m (at_wider (λ u. u < t) (λ u. u < suc t) k between (λ u l. omega arith) goes)
-        (at_load (λ u. u < suc t) t between m (omega arith) (await_load between m t finds.answer small finds.load))
-
-    pub awaits_seat : (k m : Known) → k.view.plan ≡ plan → 0 < length plan.parents → LoadsAwaits events (length plan.parents) k m → IsSeat k
-    awaits_seat k m of some loads = by_count (length plan.parents) refl loads
-      where
-        by_count : (n : ℕ) → length plan.parents ≡ n → LoadsAwaits events n k m → IsSeat k
-        by_count zero is loads = absurd (omega arith)
-        by_count (suc n) is loads = awaits_first n k m of (omega arith) loads
-
-    -- the load of the await word of one task among them
-    pub record AwaitLoad (t : ℕ) (k m : Known) : Type 0 where
-      pub from : Known
-      pub to : Known
-      pub goes_from : LoadsAlone k from
-      pub finds : FindsEvent t (events t) from to
-      pub small : t < length from.view.plan.parents
-      pub goes_to : LoadsAlone to m
-      pub stays : (seen m.view).places t ≡ (seen to.view).places t
-
-    pub await_of : (n : ℕ) (k m : Known) → k.view.plan ≡ plan → n ≤ length plan.parents → IsSeat k → LoadsAwaits events n k m → (t : ℕ) → t < n → AwaitLoad t k m
-    await_of zero k m of few seat loads t l = absurd (omega arith)
-    await_of (suc n) k m of few seat (between, before, finds) t l =
-        let goes = awaits_go n k between of (omega arith) seat before in
-        let small = small_of between n (still k between of goes.goes) (omega arith) in
-        let load = await_load between m n finds.answer small finds.load in
-        elim (cases_eq t n) [
-          | inl e ↦ record {
-            from = between;
-            to = m;
-            goes_from = goes.goes;
-            finds = subst (λ x. FindsEvent x (events x) between m) (sym e) finds;
-            small = subst (λ x. x < length between.view.plan.parents) (sym e) small;
-            goes_to = goes_itself m load.goes.kept;
-            stays = refl;
-          }
-          | inr ne ↦
-              let one = await_of n k between of (omega arith) seat before t (omega arith) in record {
-                from = one.from;
-                to = one.to;
-                goes_from = one.goes_from;
-                finds = one.finds;
-                small = one.small;
-                goes_to = goes_both one.to between m one.goes_to load.goes;
-                stays = load.others t ne ∙ one.stays;
-              }
-        ]
 
   -- the loads of phase words of one task
   module _ (asked : ℕ → Bool) (t : ℕ) (is_task : t < length plan.parents) (phases : Phases) where

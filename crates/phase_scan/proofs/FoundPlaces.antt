@@ -20,7 +20,8 @@ use Rattle.board.specs.Seats.{AnswersPhase, IsSeat, Known}
 use Rattle.phase_scan.specs.Looks.{LoadsAlone}
 use Rattle.phase_scan.specs.Collects.{LoadsRows, waiting_on}
 use Rattle.phase_scan.proofs.Loads.{goes_both, phase_load, prefix_both}
-use Rattle.phase_scan.proofs.Chains.{AwaitLoad, GoesAt, WaitsBelow, phase_of, row_of, rows_go}
+use Rattle.phase_scan.proofs.ChosenLoads.{AwaitLoad}
+use Rattle.phase_scan.proofs.Chains.{GoesAt, WaitsBelow, phase_of, row_of, rows_go}
 use Rattle.phase_scan.proofs.Farther.{IsPossible, possible_before}
 use Rattle.phase_scan.proofs.Standing.{means_there, published_begun, waits_unrefused, word_published, word_waits}
 
@@ -30,7 +31,7 @@ pub record Gathers (before between now : Known) (chosen asked : ℕ → Bool) (s
   pub checked : IsCheckedPlan before.view.plan
   pub seat : IsSeat before
   pub awaits : LoadsAlone before between
-  pub await : (t : ℕ) → t < length before.view.plan.parents → chosen t ≡ true → AwaitLoad before.view.plan state.published t before between
+  pub await : (t : ℕ) → t < length before.view.plan.parents → chosen t ≡ true → AwaitLoad state.published t before between
   pub own : (t : ℕ) (e : Event) → state.published t ≡ Some e → chosen t ≡ true
   pub loads : LoadsRows (length before.view.plan.makers) asked state (length before.view.plan.parents) between now
   pub are : AreStatuses before.view.plan state asked list
@@ -60,7 +61,7 @@ module _ {before between now : Known} {chosen asked : ℕ → Bool} {state : Sta
   IsOwn t = t < tasks × chosen t ≡ true
 
   abbrev pub Await : ℕ → Type 0
-  Await t = AwaitLoad plan state.published t before between
+  Await t = AwaitLoad state.published t before between
 
   -- where there is such a task, some lawful state was possible before
   pub possible_by : (t : ℕ) → IsOwn t → IsPossible before (λ s. Unit {0})

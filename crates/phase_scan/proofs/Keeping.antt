@@ -13,8 +13,9 @@ use Rattle.armus_base.proofs.Steps.{updated_other, updated_same, with_phase_othe
 use Rattle.board.specs.Views.{seen}
 use Rattle.board.specs.Steps.{IsSameSeat}
 use Rattle.board.specs.Seats.{AnswersAwait, AnswersPhase, Frame, IsOf, Known}
-use Rattle.phase_scan.specs.Collects.{FindsEvent, IfAsked, LoadsAwaits, LoadsRow, LoadsRows, waiting_on}
+use Rattle.phase_scan.specs.Collects.{IfAsked, LoadsAwaits, LoadsRow, LoadsRows, waiting_on}
 use Rattle.phase_scan.specs.inside.Nexts.{AreNexts, IsNextAsked}
+use Rattle.phase_scan.proofs.ChosenLoads.{chosen_same}
 use Rattle.phase_scan.proofs.Loads.{published_phaser}
 use Rattle.phase_scan.proofs.Standing.{waits_unrefused, word_published}
 
@@ -34,21 +35,13 @@ waits_within k m f t answer e of answers waits =
     subst (λ (q : Plan). e.p.0 < length q.makers) of.plan (published_phaser k.view.plan checked t b.done e on)
 
 -- the loads of await words, with one more
-awaits_same : (f g : ℕ → Option Event) (n : ℕ) (k m : Known) → ((t : ℕ) → t < n → f t ≡ g t) → LoadsAwaits f n k m → LoadsAwaits g n k m
-awaits_same f g zero k m same loads = loads
-awaits_same f g (suc n) k m same (between, before, finds) = (
-  between,
-  awaits_same f g n k between (λ t l. same t (omega arith)) before,
-  subst (λ o. FindsEvent n o between m) (same n (omega arith)) finds,
-)
-
 pub awaits_more :
     (f g : ℕ → Option Event) (t : ℕ) (event : Option Event) (answer : Found) (k j m : Known) → LoadsAwaits f t k j → AnswersAwait t answer j m →
     event ≡ waiting_on answer → g ≡ updated f t event → LoadsAwaits g (t + 1) k m
 awaits_more f g t event answer k j m before answers waits is =
     subst (λ n. LoadsAwaits g n k m) (sym (add-one t)) (
       j,
-      awaits_same f g t k j (λ u l. sym (updated_other f t u event (λ e. absurd (omega arith))) ∙ ap (λ h. h u) (sym is)) before,
+      chosen_same (λ u. true) f g t k j (λ u l. sym (updated_other f t u event (λ e. absurd (omega arith))) ∙ ap (λ h. h u) (sym is)) before,
       record { answer = answer; load = answers; waits = ap (λ h. h t) is ∙ updated_same f t t event refl ∙ waits },
     )
 

@@ -1,5 +1,6 @@
 pub mod Loads
 pub mod Chains
+pub mod ChosenLoads
 pub mod Standing
 pub mod Farther
 pub mod FoundPlaces

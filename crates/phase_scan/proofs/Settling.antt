@@ -94,7 +94,7 @@ module _ (before now : Known) (list : List Status) (checked : IsCheckedPlan befo
   phase_so : (t p : ℕ) → IsLoaded (gathers before now list checked some c) t p → c.found.phases t p ≡ (state_at before.view.plan a).phases t p
   phase_so t p is =
       let y = phase (gathers before now list checked some c) t p is in
-      let goes = goes_both before c.between y.from (awaits before now list checked some c).goes y.goes_from in
+      let goes = goes_both before c.between y.from (awaits before now list checked some c) y.goes_from in
       let was = possible_before before y.from y.to (λ r. r.phases t p ≡ c.found.phases t p) start goes y.load.load.was in
       sym (subst (λ (b : ℕ → Place). (state_at before.view.plan b).phases t p ≡ c.found.phases t p) (only was.places was.lock was.lawful was.far) was.holds)
 

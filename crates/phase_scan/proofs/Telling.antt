@@ -28,7 +28,7 @@ use Rattle.phase_scan.specs.Looks.{LoadsAlone, InEachLawful}
 use Rattle.phase_scan.specs.Collects.{IsCollect, waiting_on}
 use Rattle.phase_scan.specs.Collected.{HasItsPhases, IsCollected, IsKnownDeadBy, IsListedAsIn}
 use Rattle.phase_scan.proofs.Loads.{await_load, goes_both, prefix_both, published_phaser}
-use Rattle.phase_scan.proofs.Chains.{AwaitLoad, GoesAt, await_of, awaits_go, awaits_seat}
+use Rattle.phase_scan.proofs.ChosenLoads.{AwaitLoad, chosen_go, chosen_of, chosen_seat}
 use Rattle.phase_scan.proofs.Farther.{IsPossible, possible_before}
 use Rattle.phase_scan.proofs.FoundPlaces.{Gathers, IsLoaded, all_found, all_go, at, at_before, await_at, begun_later, found, found_after, listed, listed_there, not_first, phase, phase_at, possible_by, published_at}
 use Rattle.phase_scan.proofs.Standing.{dead_place, means_there, phases_begun_at, published_begun, same_or_not, same_phases, word_waits}
@@ -55,25 +55,25 @@ module _ (before now : Known) (list : List Status) (checked : IsCheckedPlan befo
   asked = is_awaited plan c.found
 
   pub seat : IsSeat before
-  seat = awaits_seat plan c.found.published before c.between refl some c.awaits
+  seat = chosen_seat plan (λ t. true) c.found.published tasks before c.between refl (omega arith) c.awaits 0 some refl
 
-  pub awaits : GoesAt (λ u. u < tasks) before c.between
-  awaits = awaits_go plan c.found.published tasks before c.between refl (omega arith) seat c.awaits
+  pub awaits : LoadsAlone before c.between
+  awaits = chosen_go plan (λ t. true) c.found.published tasks before c.between refl (omega arith) seat c.awaits
 
   between_plan : c.between.view.plan ≡ plan
-  between_plan = awaits.goes.same.plan
+  between_plan = awaits.same.plan
 
   pub are : AreStatuses plan c.found asked list
   are = subst (AreStatuses plan c.found asked) (sym c.statuses) (statuses_are plan c.found asked checked)
 
   -- the load of each await word
-  pub await : (t : ℕ) → t < tasks → AwaitLoad plan c.found.published t before c.between
-  await t l = await_of plan c.found.published tasks before c.between refl (omega arith) seat c.awaits t l
+  pub await : (t : ℕ) → t < tasks → AwaitLoad c.found.published t before c.between
+  await t l = chosen_of plan (λ t. true) c.found.published tasks before c.between refl (omega arith) seat c.awaits t l refl
 
   -- the await words of all tasks, and the phase words on the awaited phasers
   pub gathers : Gathers before c.between now (λ t. true) asked c.found list
   gathers =
-      record { checked = checked; seat = seat; awaits = awaits.goes; await = λ t l is. await t l; own = λ t e on. refl; loads = c.rows; are = are }
+      record { checked = checked; seat = seat; awaits = awaits; await = λ t l is. await t l; own = λ t e on. refl; loads = c.rows; are = are }
 
   -- a collect makes loads alone
   pub collect_goes : LoadsAlone before now
@@ -192,7 +192,7 @@ module _ (before now : Known) (list : List Status) (checked : IsCheckedPlan befo
         phases_listed t e is (state_at plan a) (λ f awaited.
             let loaded = loaded_of t e is f awaited in
             let y = phase gathers t f.p.0 loaded in
-            let goes = goes_both before c.between y.from awaits.goes y.goes_from in
+            let goes = goes_both before c.between y.from awaits y.goes_from in
             let was = possible_before before y.from y.to (λ s. s.phases t f.p.0 ≡ c.found.phases t f.p.0) seat goes y.load.load.was in
             let same = dead_place plan checked (avoids before.view.mode) t a was.places lock was.lock lawful was.lawful is_dead (known was.places was.lock was.lawful was.far) in
             let begun : 0 < (a t).done = published_begun plan checked t (a t).done e held.waits in

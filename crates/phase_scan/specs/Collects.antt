@@ -23,15 +23,20 @@ pub record FindsEvent (t : ℕ) (event : Option Event) (before now : Known) : Ty
   pub load : AnswersAwait t answer before now
   pub waits : event ≡ waiting_on answer
 
--- the loads of the await words of the first tasks, in order, which were found waiting on these events
-abbrev pub LoadsAwaits : (ℕ → Option Event) → ℕ → Known → Known → Type 0
-LoadsAwaits events zero before now = now ≡ before
-LoadsAwaits events (suc t) before now = (between : Known) × LoadsAwaits events t before between × FindsEvent t (events t) between now
-
 -- these loads, where they are asked for, and none elsewhere
 abbrev pub IfAsked : Bool → (Known → Known → Type 0) → Known → Known → Type 0
 IfAsked true Loads before now = Loads before now
 IfAsked false Loads before now = now ≡ before
+
+-- the loads of the await words of the chosen ones of the first tasks, in order, which were found waiting on these events
+abbrev pub LoadsChosen : (ℕ → Bool) → (ℕ → Option Event) → ℕ → Known → Known → Type 0
+LoadsChosen chosen events zero before now = now ≡ before
+LoadsChosen chosen events (suc t) before now =
+    (between : Known) × LoadsChosen chosen events t before between × IfAsked (chosen t) (FindsEvent t (events t)) between now
+
+-- the same of all of the first tasks
+abbrev pub LoadsAwaits : (ℕ → Option Event) → ℕ → Known → Known → Type 0
+LoadsAwaits = LoadsChosen (λ t. true)
 
 -- the loads of the phase words of task t on the asked ones of the first phasers, in order, which found these phases
 abbrev pub LoadsRow : (ℕ → Bool) → ℕ → Phases → ℕ → Known → Known → Type 0

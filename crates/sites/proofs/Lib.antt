@@ -5,7 +5,6 @@ pub mod Loop
 pub mod OneList
 pub mod Appending
 pub mod RowsRead
-pub mod ChosenLoads
 pub mod TellingSites
 pub mod CountingSnaps
 pub mod SnapSteps

@@ -19,13 +19,14 @@ use Rattle.board.specs.Steps.{IsSameSeat, WasSo}
 use Rattle.board.specs.Views.{avoids, seen}
 use Rattle.board.specs.Words.{found_in}
 use Rattle.phase_scan.specs.Looks.{LoadsAlone}
-use Rattle.phase_scan.specs.Collects.{FindsEvent, IfAsked, LoadsRow, LoadsRows}
+use Rattle.phase_scan.specs.Collects.{FindsEvent, IfAsked, LoadsChosen, LoadsRow, LoadsRows}
 use Rattle.phase_scan.specs.Tables.{event_for}
+use Rattle.phase_scan.proofs.ChosenLoads.{chosen_same}
 use Rattle.phase_scan.proofs.Keeping.{row_more, rows_more, rows_skip}
 use Rattle.phase_scan.proofs.Loads.{await_load, goes_both, phase_load}
 use Rattle.phase_scan.proofs.Tables.{given_below_same}
 use Rattle.sites.specs.Rows.{HasNumbers, HasPhaseNumbers}
-use Rattle.sites.specs.Snaps.{HasLookedOn, HasSeenLawful, LoadsChosen}
+use Rattle.sites.specs.Snaps.{HasLookedOn, HasSeenLawful}
 use Rattle.phase_scan.proofs.Farther.{far_of_viewer}
 use Rattle.sites.specs.inside.Snapping.{FindsRow, FindsRows, FindsStatus, whole_status}
 
@@ -56,16 +57,6 @@ pub looked_phase : (k m : Known) (f : Frame) (t p : ℕ) (answer : Option ℕ) �
 looked_phase k m f t p answer of small load =
     let goes = (phase_load k m t p answer (subst (λ (q : Plan). t < length q.parents) (sym of.plan) small) load).goes in
     inr (goes, seen_lawful k m (λ s. s.phases t p ≡ answer) goes.same load.load.was)
-
--- events that agree on the first tasks
-pub chosen_same :
-    (chosen : ℕ → Bool) (f g : ℕ → Option Event) (n : ℕ) (k m : Known) → ((t : ℕ) → t < n → f t ≡ g t) → LoadsChosen chosen f n k m → LoadsChosen chosen g n k m
-chosen_same chosen f g zero k m same loads = loads
-chosen_same chosen f g (suc n) k m same (between, before, made) = (
-  between,
-  chosen_same chosen f g n k between (λ t l. same t (omega arith)) before,
-  subst (λ o. IfAsked (chosen n) (FindsEvent n o) between m) (same n (omega arith)) made,
-)
 
 -- events of tasks with those of one task more
 pushed_before : (xs : List (Option Event)) (x : Option Event) (t : ℕ) → t < length xs → event_for (xs ++ x ∷ []) t ≡ event_for xs t

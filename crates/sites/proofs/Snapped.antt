@@ -14,11 +14,11 @@ use Rattle.armus_base.proofs.Below.{given_few}
 use Rattle.armus_base.proofs.StatusesAre.{statuses_are}
 use Rattle.board.specs.Seats.{Frame, IsOf, Known}
 use Rattle.sites.specs.Rows.{AreOfSite, HasNumbers, is_of_site}
-use Rattle.sites.specs.Snaps.{IsSnap, LoadsChosen, TellsSite}
+use Rattle.phase_scan.specs.Collects.{LoadsChosen}
+use Rattle.phase_scan.proofs.ChosenLoads.{chosen_same, chosen_seat}
+use Rattle.sites.specs.Snaps.{IsSnap, TellsSite}
 use Rattle.sites.specs.inside.Snapping.{FindsRows}
-use Rattle.sites.proofs.ChosenLoads.{chosen_seat}
 use Rattle.phase_scan.proofs.Farther.{IsPossible}
-use Rattle.sites.proofs.SnapSteps.{chosen_same}
 use Rattle.sites.proofs.TellingSites.{snap_tells, some_possible}
 
 -- the loads of the await words, and the rows

@@ -21,10 +21,10 @@ use Rattle.phase_scan.specs.Collects.{waiting_on}
 use Rattle.phase_scan.proofs.Loads.{goes_both}
 use Rattle.phase_scan.proofs.Farther.{IsPossible, far_of_viewer, possible_before}
 use Rattle.phase_scan.proofs.Standing.{dead_place, phases_begun_at, published_begun, word_waits}
+use Rattle.phase_scan.proofs.ChosenLoads.{chosen_go, chosen_of}
 use Rattle.phase_scan.proofs.FoundPlaces.{Gathers, IsLoaded, all_found, all_go, at, found, listed, listed_there, phase, possible_by}
 use Rattle.sites.specs.Rows.{is_of_site}
 use Rattle.sites.specs.Snaps.{InEachPlaces, IsBacked, IsDeadToViewer, IsListedWhole, IsListedWith, IsSnap, KnowsPlace, TellsSite}
-use Rattle.sites.proofs.ChosenLoads.{chosen_go, chosen_of}
 
 -- a snap of a site with a task: the viewer's seat was one before
 module _ (before now : Known) (sites site : ℕ) (list : List Status) (checked : IsCheckedPlan before.view.plan) (seat : IsSeat before)

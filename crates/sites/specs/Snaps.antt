@@ -1,6 +1,5 @@
 -- Snapshots: which loads a snap of a site makes, in order, and what the statuses that it finds tell.
-use Rattle.std.specs.Prelude.{◌≡◌, ℕ, ◌+◌, ◌*◌, ◌<◌, ◌⊎◌, ◌↔◌, Bool, true, false, List, Option, Some, None, length}
-use Rattle.std.proofs.Common.{zero, suc}
+use Rattle.std.specs.Prelude.{◌≡◌, ℕ, ◌+◌, ◌*◌, ◌<◌, ◌⊎◌, ◌↔◌, true, false, List, Option, Some, None, length}
 use Rattle.armus_base.specs.declared.event.Event.{Event}
 use Rattle.armus_base.specs.declared.status.Status.{Status}
 use Rattle.armus_base.specs.Plans.{Plan}
@@ -15,15 +14,9 @@ use Rattle.armus_base.specs.Finals.{statuses_of}
 use Rattle.armus_base.specs.Seats.{IsAsFarOn, IsKnownDead}
 use Rattle.board.specs.Seats.{Known}
 use Rattle.board.specs.Views.{avoids, seen}
-use Rattle.phase_scan.specs.Collects.{FindsEvent, IfAsked, LoadsRows}
+use Rattle.phase_scan.specs.Collects.{LoadsChosen, LoadsRows}
 use Rattle.phase_scan.specs.Looks.{LoadsAlone}
 use Rattle.sites.specs.Rows.{AreOfSite, is_of_site}
-
--- the loads of the await words of the chosen ones of the first tasks, in order, which were found waiting on these events
-abbrev pub LoadsChosen : (ℕ → Bool) → (ℕ → Option Event) → ℕ → Known → Known → Type 0
-LoadsChosen chosen events zero before now = now ≡ before
-LoadsChosen chosen events (suc t) before now =
-    (between : Known) × LoadsChosen chosen events t before between × IfAsked (chosen t) (FindsEvent t (events t)) between now
 
 -- A snap: first it loads the await words of the site's tasks, in order; then, for each task found waiting, in order, its phase words on all phasers,
 -- in order. What it found at different moments is written as if it were one state, and the list has its statuses.

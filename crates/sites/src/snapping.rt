@@ -3,10 +3,10 @@ ghost use Rattle.std.specs.Prelude.{◌≡◌, ◌≤◌, ◌<◌, ◌++◌, ℕ
 ghost use Rattle.armus_base.specs.CheckedPlans.{IsCheckedPlan};
 ghost use Rattle.board.specs.Seats.{IsOf};
 ghost use Rattle.board.specs.Views.{found_of};
-ghost use Rattle.phase_scan.specs.Collects.{FindsEvent, IfAsked, waiting_on};
+ghost use Rattle.phase_scan.specs.Collects.{FindsEvent, IfAsked, LoadsChosen, waiting_on};
 ghost use Rattle.phase_scan.specs.Tables.{event_for};
 ghost use Rattle.sites.specs.Rows.{HasNumbers, HasPhaseNumbers, is_of_site};
-ghost use Rattle.sites.specs.Snaps.{HasLookedOn, IsSnapshot, LoadsChosen};
+ghost use Rattle.sites.specs.Snaps.{HasLookedOn, IsSnapshot};
 ghost use Rattle.sites.specs.inside.Snapping.{FindsRow, FindsRows, FindsStatus};
 
 use crate::Snapshot;

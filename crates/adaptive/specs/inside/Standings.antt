@@ -12,12 +12,12 @@ abbrev pub standing_at : ℕ → Member → Standing
 standing_at k m = record { at = record { p = m.p; n = m.n }; status = k }
 
 -- the task of status k stands at phase n of phaser p
-abbrev pub StandsAt : List Status → ℕ → ℕ → ℕ → Type 0
-StandsAt ss k p n = (k < length ss) × ((s : Status) → Contains (slice_index_or ss k s).phases (record { p = record { 0 = p }; n = n }))
+abbrev pub HasStanding : List Status → ℕ → ℕ → ℕ → Type 0
+HasStanding ss k p n = (k < length ss) × ((s : Status) → Contains (slice_index_or ss k s).phases (record { p = record { 0 = p }; n = n }))
 
 -- these are the standings of the list's tasks
 pub record AreStandingsOf (ss : List Status) (standings : List Standing) : Type 0 where
-  pub exact : (k p n : ℕ) → Contains standings (record { at = record { p = record { 0 = p }; n = n }; status = k }) ↔ StandsAt ss k p n
+  pub exact : (k p n : ℕ) → Contains standings (record { at = record { p = record { 0 = p }; n = n }; status = k }) ↔ HasStanding ss k p n
 
 -- no standing is before one ahead of it
 abbrev pub StandingsNeverFall : List Standing → Type 0
@@ -39,11 +39,11 @@ IsFront standings remains p i =
 
 -- status k remains, and its task stands on the event's phaser at a phase below
 abbrev pub IsRemainingImpeder : List Status → List Bool → Event → ℕ → Type 0
-IsRemainingImpeder ss remains e k = (n : ℕ) × StandsAt ss k e.p.0 n × (n < e.n) × (remains_at remains k ≡ true)
+IsRemainingImpeder ss remains e k = (n : ℕ) × HasStanding ss k e.p.0 n × (n < e.n) × (remains_at remains k ≡ true)
 
 -- no status that remains is of a task that impedes the event
 abbrev pub IsUnimpeded : List Status → List Bool → Event → Type 0
-IsUnimpeded ss remains e = (k n : ℕ) → StandsAt ss k e.p.0 n → n < e.n → remains_at remains k ≡ false
+IsUnimpeded ss remains e = (k n : ℕ) → HasStanding ss k e.p.0 n → n < e.n → remains_at remains k ≡ false
 
 -- the standing is on an earlier phaser, or on this one and of a status that does not remain
 abbrev pub IsPassed : List Bool → ℕ → Standing → Type 0

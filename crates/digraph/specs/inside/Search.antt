@@ -57,7 +57,7 @@ abbrev pub KeepsMarked : List Mark → List Mark → Type 0
 KeepsMarked old now = (v : ℕ) → IsMarked old v → IsMarked now v
 
 -- each node is marked by whether it reaches a cycle
-pub record IsSettled (g : List (List ℕ)) (marks : List Mark) : Type 0 where
+pub record AllAreMarked (g : List (List ℕ)) (marks : List Mark) : Type 0 where
   pub sized : length marks ≡ length g
   pub acyclic : (v : ℕ) → v < length g → (mark_of marks v ≡ Cyclic → ⊥) → IsInClosedSet (HasEdge g) v → ⊥
   pub cyclic : (v : ℕ) → mark_of marks v ≡ Cyclic → ReachesCycle (HasEdge g) v

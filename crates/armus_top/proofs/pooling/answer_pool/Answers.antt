@@ -8,4 +8,4 @@ write_report-requires-clause-in_order g c κs outlives = plain_end_in_order c.ar
 pub returns-in-Ok-clause-done : goal.returns-in-Ok-clause-done
 returns-in-Ok-clause-done g c input plan_is =
     by_plain_end (Pool c.args.workers c.args.graph) c.args.graph input c.args.plan.now c.in-Ok.end _ _ _ (λ status text run. run) plan_is c.in-Ok.ensures.end
-    c.options_of.ensures.wanted c.write_report.ensures.done
+    c.options_of-options.ensures.wanted c.write_report.ensures.done

@@ -3,7 +3,8 @@ use Rattle.std.specs.Prelude.{None}
 use Rattle.board.specs.Seats.{IsOf}
 use Rattle.phase_scan.specs.Tables.{event_for}
 use Rattle.sites.specs.Rows.{is_of_site}
-use Rattle.sites.specs.Snaps.{HasLookedOn, LoadsChosen}
+use Rattle.phase_scan.specs.Collects.{LoadsChosen}
+use Rattle.sites.specs.Snaps.{HasLookedOn}
 use Rattle.sites.proofs.snapping.load_awaits.Given as goal
 
 abbrev pub invariant-loop-number : goal.invariant-loop-number

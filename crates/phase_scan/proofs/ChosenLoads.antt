@@ -1,14 +1,33 @@
--- The loads of a snap, one after the other: where they lead, and each of them.
+-- The loads of the await words of chosen tasks, one after the other: where they lead, and each of them.
 use Rattle.std.proofs.Common.{◌≡◌, ℕ, zero, suc, ◌<◌, ◌≤◌, Bool, true, false, Option, length, sym, refl, ap, ◌∙◌, subst, arith, inl, inr}
 use Rattle.std.proofs.lemmas.Bool.{cases_eq}
 use Rattle.armus_base.specs.declared.event.Event.{Event}
 use Rattle.armus_base.specs.Plans.{Plan}
+use Rattle.board.specs.Views.{seen}
 use Rattle.board.specs.Seats.{IsSeat, Known}
 use Rattle.phase_scan.specs.Looks.{LoadsAlone}
-use Rattle.phase_scan.specs.Collects.{FindsEvent, IfAsked}
-use Rattle.phase_scan.proofs.Chains.{AwaitLoad}
+use Rattle.phase_scan.specs.Collects.{FindsEvent, IfAsked, LoadsChosen}
 use Rattle.phase_scan.proofs.Loads.{IsLoadOf, await_load, goes_both, goes_itself}
-use Rattle.sites.specs.Snaps.{LoadsChosen}
+
+-- the load of the await word of task t, between others
+pub record AwaitLoad (events : ℕ → Option Event) (t : ℕ) (k m : Known) : Type 0 where
+  pub from : Known
+  pub to : Known
+  pub goes_from : LoadsAlone k from
+  pub finds : FindsEvent t (events t) from to
+  pub small : t < length from.view.plan.parents
+  pub goes_to : LoadsAlone to m
+  pub stays : (seen m.view).places t ≡ (seen to.view).places t
+
+-- events that agree on the first tasks
+pub chosen_same :
+    (chosen : ℕ → Bool) (f g : ℕ → Option Event) (n : ℕ) (k m : Known) → ((t : ℕ) → t < n → f t ≡ g t) → LoadsChosen chosen f n k m → LoadsChosen chosen g n k m
+chosen_same chosen f g zero k m same loads = loads
+chosen_same chosen f g (suc n) k m same (between, before, made) = (
+  between,
+  chosen_same chosen f g n k between (λ t l. same t (omega arith)) before,
+  subst (λ o. IfAsked (chosen n) (FindsEvent n o) between m) (same n (omega arith)) made,
+)
 
 module _ (plan : Plan) (chosen : ℕ → Bool) (events : ℕ → Option Event) where
   small_of : (k : Known) (t : ℕ) → k.view.plan ≡ plan → t < length plan.parents → t < length k.view.plan.parents
@@ -58,7 +77,7 @@ module _ (plan : Plan) (chosen : ℕ → Bool) (events : ℕ → Option Event) w
   -- the load of the await word of a chosen task
   pub chosen_of :
       (n : ℕ) (k m : Known) → k.view.plan ≡ plan → n ≤ length plan.parents → IsSeat k → LoadsChosen chosen events n k m → (t : ℕ) → t < n → chosen t ≡ true →
-      AwaitLoad plan events t k m
+      AwaitLoad events t k m
   chosen_of zero k m of few seat loads t l is = absurd (omega arith)
   chosen_of (suc n) k m of few seat (between, before, made) t l is =
       elim (cases_eq t n) [
@@ -83,7 +102,7 @@ module _ (plan : Plan) (chosen : ℕ → Bool) (events : ℕ → Option Event) w
       goes : LoadsAlone k between
       goes = chosen_go n k between of (omega arith) seat before
 
-      further : AwaitLoad plan events t k between → (b : Bool) → IfAsked b (FindsEvent n (events n)) between m → (t ≡ n → ⊥) → AwaitLoad plan events t k m
+      further : AwaitLoad events t k between → (b : Bool) → IfAsked b (FindsEvent n (events n)) between m → (t ≡ n → ⊥) → AwaitLoad events t k m
       further one true finds ne =
           let load = one_load n between m at (omega arith) finds in
           record {
@@ -95,4 +114,4 @@ module _ (plan : Plan) (chosen : ℕ → Bool) (events : ℕ → Option Event) w
             goes_to = goes_both one.to between m one.goes_to load.goes;
             stays = load.others t ne ∙ one.stays;
           }
-      further one false same ne = subst (AwaitLoad plan events t k) (sym same) one
+      further one false same ne = subst (AwaitLoad events t k) (sym same) one
