@@ -14,7 +14,7 @@ use Rattle.board.specs.declared.view.View.{View}
 use Rattle.board.specs.Views.{avoids, next_action, own_place, seen, task_of}
 use Rattle.board.specs.Steps.{own_phase}
 use Rattle.board.specs.Locking.{FindsHeld, FreesLock, TakesLock}
-use Rattle.board.specs.Seats.{IsSeat, Known, MakesStep}
+use Rattle.board.specs.Seats.{IsSeat, Known}
 use Rattle.board.proofs.Seated.{next_there}
 use Rattle.phase_scan.specs.Looks.{LoadsAlone}
 use Rattle.phase_scan.proofs.Columns.{column_goes}

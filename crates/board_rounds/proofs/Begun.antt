@@ -1,5 +1,5 @@
 -- An op that has begun.
-use Rattle.std.proofs.Common.{◌≡◌, ◌≢◌, ℕ, zero, suc, List, [], ◌∷◌, Option, Some, None, drop, refl, ap, ◌∙◌}
+use Rattle.std.proofs.Common.{◌≡◌, ◌≢◌, ℕ, suc, List, [], ◌∷◌, Some, drop, refl, ap, ◌∙◌}
 use Rattle.armus_base.specs.declared.op.Op.{Op}
 use Rattle.armus_base.specs.declared.op.Op.TheVariants.{Adv, Await, Drop, Fork, Make, Reg}
 use Rattle.armus_base.specs.Plans.{Action, Advances, Blocks, Drops, Forks, Makes, Passes, Refuses, Registers, actions, actions_of, Aim}
@@ -7,7 +7,7 @@ use Rattle.armus_base.specs.Places.{phases_after, published_after}
 use Rattle.armus_base.specs.Runs.{Place, next_place}
 use Rattle.armus_base.specs.States.{Phases, awaited}
 use Rattle.board.specs.Views.{next_action, own_place, task_of}
-use Rattle.board.specs.Seats.{Known, aim_at, event_of}
+use Rattle.board.specs.Seats.{Known, aim_at}
 use Rattle.board.specs.inside.Walking.{HasLeft, begins, left_of}
 use Rattle.armus_base.proofs.Codes.{awaited_is, awaited_some}
 use Rattle.board.proofs.Seated.{event_here, next_there, place_made}

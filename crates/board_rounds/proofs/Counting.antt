@@ -1,14 +1,13 @@
 -- How many events a task has made.
 use Rattle.std.proofs.Common.{◌≡◌, ℕ, suc, ◌<◌, ◌≤◌, ◌+◌, ◌-◌, List, [], ◌∷◌, ◌++◌, Option, Some, None, length, length-append, refl, sym, ap, ◌∙◌, arith, inl, inr}
 use Rattle.std.specs.Prelude.{is_some, if◌then◌else◌}
-use Rattle.armus_base.specs.Limits.{max_phasers}
 use Rattle.armus_base.specs.Plans.{Action, Advances, Blocks, Drops, Forks, Makes, Passes, Plan, Refuses, Registers, actions, in_code}
 use Rattle.armus_base.specs.Runs.{IsByCode, Place, next_place}
 use Rattle.armus_base.specs.CheckedPlans.{IsCheckedPlan}
 use Rattle.pl_core.proofs.StepKinds.{few_actions}
 use Rattle.board.specs.Views.{own_place, task_of}
 use Rattle.board.specs.Seats.{Frame, Known}
-use Rattle.board_rounds.specs.Turns.{Acts, AreChildSeats, CountsEvents, LeadsByCode, Working, max_events}
+use Rattle.board_rounds.specs.Turns.{Acts, CountsEvents, LeadsByCode, Working, max_events}
 use Rattle.board_rounds.specs.inside.Tasks.{MakesSome}
 use Rattle.board_rounds.specs.Crews.{progress_of}
 use Rattle.board_rounds.proofs.Advancing.{no_drop, task_further}

@@ -3,7 +3,7 @@ use Rattle.std.proofs.Common.{◌≡◌, ◌≢◌, ℕ, ◌<◌, ◌≤◌, Lis
 use Rattle.std.specs.Prelude.{IsSome, unwrap_or}
 use Rattle.std.proofs.lemmas.Bool.{cases_eq, false≢true}
 use Rattle.armus_base.specs.Limits.{max_phasers}
-use Rattle.armus_base.specs.Plans.{Action, Advances, Blocks, Drops, Forks, Makes, Passes, Plan, Refuses, Registers, action_at, Aim, actions}
+use Rattle.armus_base.specs.Plans.{Action, Advances, Blocks, Drops, Forks, Makes, Passes, Plan, Refuses, Registers, action_at, Aim}
 use Rattle.armus_base.specs.Runs.{IsByCode, IsPrefix, Place, moved, next_place}
 use Rattle.armus_base.specs.Seats.{SeenBy, seen_after_step}
 use Rattle.armus_base.proofs.Fixed.{action_within}

@@ -5,11 +5,11 @@ use Rattle.std.proofs.lemmas.Bool.{false≢true}
 use Rattle.armus_base.specs.declared.op.Op.{Op}
 use Rattle.armus_base.specs.declared.op.Op.TheVariants.{Adv, Await, Drop, Fork, Make, Reg}
 use Rattle.armus_base.specs.Limits.{max_phasers}
-use Rattle.armus_base.specs.Plans.{Aim, Action, Advances, Blocks, Drops, Forks, Makes, Passes, Plan, Refuses, Registers, actions, code_of}
+use Rattle.armus_base.specs.Plans.{Aim, Action, Advances, Blocks, Drops, Forks, Makes, Passes, Plan, Refuses, Registers, actions}
 use Rattle.armus_base.specs.Places.{published_after}
 use Rattle.armus_base.specs.Runs.{Place, next_place}
 use Rattle.armus_base.proofs.Fixed.{action_within}
-use Rattle.board.specs.Seats.{Frame, Known, event_of, aim_at, IsSeat}
+use Rattle.board.specs.Seats.{Frame, Known, event_of, aim_at}
 use Rattle.board.specs.Steps.{own_phase}
 use Rattle.board.specs.Views.{own_place, task_of}
 use Rattle.board.specs.inside.Walking.{HasLeft, begins, left_of}

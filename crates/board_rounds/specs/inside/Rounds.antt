@@ -1,5 +1,5 @@
 -- What a round of turns makes of the tasks, and of the seats of the children whom they forked.
-use Rattle.std.specs.Prelude.{false, map, flat_map, ◌≡◌, ℕ, ◌+◌, List, [], ◌++◌, All, Contains, length, sum_by}
+use Rattle.std.specs.Prelude.{false, map, flat_map, ◌≡◌, ℕ, List, [], ◌++◌, All, Contains, length, sum_by}
 use Rattle.std.specs.List.Sorted.{IsPermutation}
 use Rattle.armus_base.specs.Plans.{Action, Plan}
 use Rattle.armus_base.specs.Runs.{first_place}

@@ -1,10 +1,9 @@
 use denote.Exit.{no}
 use denote.Param.{param}
 use denote.Param.Send.{arg_send, param_send}
-use Rattle.std.proofs.Common.{◌≡◌, ◌≤◌, ◌<◌, ◌++◌, ◌+◌, ◌-◌, ◌*◌, ◌/◌, ◌∙◌, List, Ok, IfOk, All, map, length, length-append, rules, sym, ap, subst, arith}
-use Rattle.std.proofs.lemmas.List.{map-append}
+use Rattle.std.proofs.Common.{◌≡◌, ◌≤◌, ◌<◌, ◌++◌, ◌+◌, ◌-◌, ◌*◌, ◌/◌, ◌∙◌, Ok, IfOk, map, length, length-append, rules, ap, arith}
 use Rattle.armus_base.specs.Limits.{max_tasks}
-use Rattle.board_rounds.specs.Turns.{MayTakeTurn, TakesTurns, Working}
+use Rattle.board_rounds.specs.Turns.{TakesTurns}
 use Rattle.board_rounds.proofs.Crossing.{turns_send}
 use Rattle.board_rounds.proofs.Rounding.{both_each, over_both, ready_both, stopped, turns_on}
 use Rattle.board_rounds.proofs.rounds.+taking.Goals as goal

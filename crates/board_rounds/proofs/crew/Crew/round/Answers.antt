@@ -1,6 +1,6 @@
 use Rattle.std.proofs.Common.{◌<◌, sym, subst}
 use Rattle.board_rounds.specs.Crews.{AreTasksOf, Tasks, left_to}
-use Rattle.board_rounds.proofs.Rejoining.{live_few, live_none, live_ready, new_planned, whole_round}
+use Rattle.board_rounds.proofs.Rejoining.{live_few, live_none, live_ready, whole_round}
 use Rattle.board_rounds.proofs.crew.Crew.round.Goals as goal
 
 pub returns : goal.returns

@@ -1,5 +1,5 @@
-use Rattle.std.proofs.Common.{◌≡◌, ◌<◌, ◌≤◌, ◌+◌, ◌∙◌, ℕ, [], ◌∷◌, ◌++◌, rules, length, length-append, sym, refl, ap, subst, arith, append-nil}
-use Rattle.board.specs.Seats.{IsSeat, Known}
+use Rattle.std.proofs.Common.{◌≡◌, ◌<◌, ◌≤◌, ◌+◌, ◌∙◌, [], ◌++◌, rules, length, length-append, sym, refl, ap, subst, arith, append-nil}
+use Rattle.board.specs.Seats.{IsSeat}
 use Rattle.std.specs.Prelude.{IfSome}
 use Rattle.board_rounds.specs.Turns.{CountsEvents, Working}
 use Rattle.board_rounds.specs.inside.Tasks.{MakesSome}

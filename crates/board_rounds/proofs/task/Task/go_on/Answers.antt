@@ -1,4 +1,4 @@
-use Rattle.std.proofs.Common.{◌≡◌, ◌+◌, ◌∙◌, ℕ, [], List, Result, Ok, Err, OnErr, false, drop, sym, ap, subst, arith}
+use Rattle.std.proofs.Common.{◌+◌, ◌∙◌, [], List, Result, Ok, Err, OnErr, false, drop, sym, ap, subst, arith}
 use Rattle.armus_base.specs.declared.op.Op.{Op}
 use Rattle.board.specs.Seats.{IsOf, IsSeat, event_of}
 use Rattle.board.proofs.Walking.{IsBefore, before_next, before_of_plan, is_before, left_behind, next_left}

@@ -1,4 +1,4 @@
-use Rattle.std.proofs.Common.{◌+◌, ◌∙◌, [], ◌++◌, rules, length, length-append, sym, refl, ap, subst, arith}
+use Rattle.std.proofs.Common.{◌+◌, [], ◌++◌, rules, length-append, refl, subst, arith}
 use Rattle.board.specs.Seats.{IsSeat}
 use Rattle.board_rounds.specs.declared.task.Pause.{Pause}
 use Rattle.board_rounds.specs.Turns.{PausesAt, Working}
