@@ -1,4 +1,4 @@
-use Rattle.std.proofs.Common.{◌∙◌, ℕ, List, Option, true, length, sym, ap, subst}
+use Rattle.std.proofs.Common.{◌∙◌, List, true, length, sym, ap, subst}
 use Rattle.armus_base.specs.Boards.{IsLawful}
 use Rattle.armus_base.specs.Plans.{Plan}
 use Rattle.pl_core.specs.declared.place.Place.{Place as KeptPlace}

@@ -1,4 +1,4 @@
-use Rattle.std.proofs.Common.{◌≡◌, ◌∙◌, List, Option, ℕ, length, sym, subst}
+use Rattle.std.proofs.Common.{◌∙◌, sym, subst}
 use Rattle.task_runner.specs.inside.SiteRounds.{AreWatching}
 use Rattle.task_runner.proofs.site_rounds.go_by_site_rounds.Goals as goal
 

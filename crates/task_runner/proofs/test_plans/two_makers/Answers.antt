@@ -1,4 +1,4 @@
-use Rattle.std.proofs.Common.{◌≡◌, ◌∙◌, List, [], ◌∷◌, ap, refl}
+use Rattle.std.proofs.Common.{◌∙◌, List, [], ◌∷◌, ap, refl}
 use Rattle.armus_base.specs.declared.piece.Piece.{Piece}
 use Rattle.armus_base.proofs.FoldedPlans.{checked_parts}
 use Rattle.task_runner.proofs.TwoMakersChecked.{two_makers, two_makers_checked}
