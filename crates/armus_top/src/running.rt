@@ -9,7 +9,7 @@ ghost use Rattle.armus_top.specs.inside.Serving.{MayHaveSites, MayWork, kind_of}
 ghost use Rattle.armus_top.specs.inside.Status.{number_of_status};
 ghost use Rattle.armus_top.specs.inside.Writing.{Answered};
 ghost use Rattle.armus_words.specs.declared.command.Command.TheVariants.{Run};
-ghost use Rattle.armus_words.specs.declared.command.RunKind.TheVariants.{Sites};
+ghost use Rattle.armus_words.specs.declared.command.RunKind.TheVariants.{Plain, Sites};
 ghost use Rattle.armus_words.specs.declared.table.TheConstants.{MAX_SITES};
 ghost use Rattle.task_runner.specs.PlainRuns.{IsPlainEnd};
 
@@ -23,7 +23,7 @@ use armus_words::{Graph, RunKind};
 use sites::{KeepEnd, SafeKeeper};
 use std::alloc::Global;
 use std::thread::Threads;
-use task_runner::{RunEnd, RunOptions, run_detect, run_sites};
+use task_runner::{RunEnd, RunOptions, run_detect, run_plain, run_sites};
 
 // Runs the plan and writes the report of its end, behind live lines where they are wanted.
 fn answer_without_sites<R: Threads + Sync, K: Sink, G: Gate>(
@@ -47,6 +47,26 @@ fn answer_without_sites<R: Threads + Sync, K: Sink, G: Gate>(
         Ok(ran) => write_report(alloc, &ran.end, options.wanted, out),
         Err(RunEnd::Write) => ExitStatus::WriteFailed,
         Err(RunEnd::NoMemory) => ExitStatus::OutOfMemory,
+    }
+}
+
+// Runs the plan in one thread, and writes the report of its end.
+fn answer_alone<K: Sink, G: Gate>(
+    alloc: Global,
+    graph: Graph,
+    plan: &Plan,
+    out: &mut K,
+    gate: &G,
+) -> ExitStatus
+    requires checked { IsCheckedPlan plan.now }
+    ensures done { (input : Text) → IsPlanOf input plan.now
+        → Answered (Run 1 graph Plain) input (passage K.taken K.faults out.old out.new) (number_of_status result) }
+    ensures silent { number_of_status result ≢ 4 }
+{
+    let options = options_of(1, graph, false);
+    match run_plain(alloc, plan, gate) {
+        Ok(end) => write_report(alloc, &end, options.wanted, out),
+        Err(NoMemory) => ExitStatus::OutOfMemory,
     }
 }
 
@@ -125,6 +145,7 @@ fn answer_run<R: Threads + Sync, K: Sink, G: Gate>(
     ensures silent { number_of_status result ≢ 4 }
 {
     match kind {
+        RunKind::Plain if workers == 1 => answer_alone(alloc, graph, plan, out, gate),
         RunKind::Plain => answer_without_sites(rt, alloc, workers, graph, false, plan, out, gate),
         RunKind::Live => answer_without_sites(rt, alloc, workers, graph, true, plan, out, gate),
         RunKind::Sites { sites } => {

@@ -11,6 +11,15 @@ use armus_base::{Final, Gate, NoMemory, Plan};
 use pl_core::{Place, World};
 use std::alloc::Global;
 
+/// Runs the plan in one thread, without a board: in rounds each task goes on until it is done or waits, in order of number. The gate is called before each
+/// op.
+pub fn run_plain<G: Gate>(alloc: Global, plan: &Plan, gate: &G) -> Result<Final, NoMemory>
+    ensures end { IfOk result (λ end. IsPlainEnd plan.now end) }
+{
+    let world = World::start(alloc, plan)?;
+    end_of(alloc, world, plan, gate)
+}
+
 /// The end of the run whose tasks stand at these places, none refused. The gate is called before each op.
 pub(crate) fn end_from<G: Gate>(
     alloc: Global,
