@@ -164,16 +164,20 @@ ends_here (number k) ts e same = absurd cc
 
 -- ---- the reader's loop
 
--- what was found before the tokens that are left, and what is there to be found
+-- these offsets are those of the statements before the tokens that are left, and what begins in these is left to be found
+pub record Noted (text : List ℕ) (p : Program) (offsets : List ℕ) (may : Bool) (left : List Token) : Type 0 where
+  pub found : List (List Token)
+  pub begun : AllBeginAt text p found offsets
+  pub whole : found ++ beginnings may left ≡ statement_tokens p.body (the_end ∷ [])
+
+-- what was read, what was found there, and what is left to be read
 pub record Sought (text : List ℕ) (p : Program) (offsets : List ℕ) (may : Bool) (rest : List ℕ) : Type 0 where
   pub ahead : List Token
   pub left : List Token
   pub all : ahead ++ left ≡ sentence p.body
   pub reads : ReadsTokens p.two text ahead rest
   pub goes_on : Leads (scan_of p.two text) rest left []
-  pub found : List (List Token)
-  pub begun : AllBeginAt text p found offsets
-  pub whole : found ++ beginnings may left ≡ statement_tokens p.body (the_end ∷ [])
+  pub noted : Noted text p offsets may left
   pub ends : EndsOnce left
 
 -- before the first token
@@ -185,9 +189,7 @@ sought_first text p body header reads = record {
   all = refl;
   reads = header;
   goes_on = reads;
-  found = [];
-  begun = tt;
-  whole = sentence_begins p.body;
+  noted = record { found = []; begun = tt; whole = sentence_begins p.body };
   ends = tree_ends p.body (the_end ∷ []) refl;
 }
 
@@ -206,10 +208,10 @@ module _ (text : List ℕ) (p : Program) (rest : List ℕ) where
   pub sought_on : (offsets : List ℕ) (may : Bool) (t : Token) (after : List ℕ) → Sought text p offsets may rest →
       front (scan_of p.two text) rest ≡ Ok (t, after) → (t ≡ the_end → ⊥) →
       Sought text p (with_offset (begins_statement may t) (place (scan_of p.two text) rest) offsets) (is_boundary t) after
-  sought_on offsets may t after s here not_end = go_on s.left s.all s.goes_on s.whole s.ends
+  sought_on offsets may t after s here not_end = go_on s.left s.all s.goes_on s.noted.whole s.ends
     where
       go_on : (ts : List Token) → s.ahead ++ ts ≡ sentence p.body → Leads (scan_of p.two text) rest ts [] →
-          s.found ++ beginnings may ts ≡ statement_tokens p.body (the_end ∷ []) → EndsOnce ts →
+          s.noted.found ++ beginnings may ts ≡ statement_tokens p.body (the_end ∷ []) → EndsOnce ts →
           Sought text p (with_offset (begins_statement may t) (place (scan_of p.two text) rest) offsets) (is_boundary t) after
       go_on [] all l whole e = absurd e
       go_on (u ∷ us) all (m, there, l) whole e =
@@ -222,10 +224,12 @@ module _ (text : List ℕ) (p : Program) (rest : List ℕ) where
             all = append_assoc s.ahead (u ∷ []) us ∙ all;
             reads = reads_more p.two text s.ahead rest u m s.reads there;
             goes_on = l;
-            found = with_statement begins (u ∷ us) s.found;
-            begun = begun_with text p begins s.found offsets (u ∷ us) offset s.begun
-                (record { ahead = s.ahead; left = rest; all = all; reads = s.reads; offset_is = refl });
-            whole = sym (whole_with begins (u ∷ us) s.found (beginnings (is_boundary u) us)) ∙ whole;
+            noted = record {
+              found = with_statement begins (u ∷ us) s.noted.found;
+              begun = begun_with text p begins s.noted.found offsets (u ∷ us) offset s.noted.begun
+                  (record { ahead = s.ahead; left = rest; all = all; reads = s.reads; offset_is = refl });
+              whole = sym (whole_with begins (u ∷ us) s.noted.found (beginnings (is_boundary u) us)) ∙ whole;
+            };
             ends = ends_behind u us e (λ is. not_end (sym same.0 ∙ is));
           } in
           subst (λ x. Sought text p (with_offset (begins_statement may t) offset offsets) (is_boundary t) x) same.1
@@ -235,18 +239,18 @@ module _ (text : List ℕ) (p : Program) (rest : List ℕ) where
   pub sought_all : (offsets : List ℕ) (may : Bool) (t : Token) (after : List ℕ) → Sought text p offsets may rest →
       front (scan_of p.two text) rest ≡ Ok (t, after) → t ≡ the_end →
       AreOffsets text p (with_offset (begins_statement may t) (place (scan_of p.two text) rest) offsets)
-  sought_all offsets may t after s here at_end = find_all s.left s.goes_on s.whole s.ends
+  sought_all offsets may t after s here at_end = find_all s.left s.goes_on s.noted.whole s.ends
     where
       find_all : (ts : List Token) → Leads (scan_of p.two text) rest ts [] →
-          s.found ++ beginnings may ts ≡ statement_tokens p.body (the_end ∷ []) → EndsOnce ts →
+          s.noted.found ++ beginnings may ts ≡ statement_tokens p.body (the_end ∷ []) → EndsOnce ts →
           AreOffsets text p (with_offset (begins_statement may t) (place (scan_of p.two text) rest) offsets)
       find_all [] l whole e = absurd e
       find_all (u ∷ us) (m, there, l) whole e =
           let same = ok_pair (u, m) (t, after) (sym there ∙ here) in
           let last : u ∷ us ≡ the_end ∷ [] = cons_is u us (same.0 ∙ at_end) (ends_here u us e (same.0 ∙ at_end)) in
-          let found_all : s.found ≡ statement_tokens p.body (the_end ∷ []) =
-          sym (append-nil s.found) ∙ (ap (λ l. s.found ++ l) (sym (none_at_end may)) ∙ (ap (λ ts. s.found ++ beginnings may ts) (sym last) ∙ whole)) in
+          let found_all : s.noted.found ≡ statement_tokens p.body (the_end ∷ []) =
+          sym (append-nil s.noted.found) ∙ (ap (λ l. s.noted.found ++ l) (sym (none_at_end may)) ∙ (ap (λ ts. s.noted.found ++ beginnings may ts) (sym last) ∙ whole)) in
           let none : with_offset (begins_statement may t) (place (scan_of p.two text) rest) offsets ≡ offsets =
           ap (λ x. with_offset (begins_statement may x) (place (scan_of p.two text) rest) offsets) at_end
           ∙ ap (λ b. with_offset b (place (scan_of p.two text) rest) offsets) (end_begins_none may) in
-          subst (λ x. AreOffsets text p x) (sym none) (subst (λ owns. AllBeginAt text p owns offsets) found_all s.begun)
+          subst (λ x. AreOffsets text p x) (sym none) (subst (λ owns. AllBeginAt text p owns offsets) found_all s.noted.begun)
