@@ -1,0 +1,2 @@
+-- What a reader of the repository has to believe.
+pub mod Trees
