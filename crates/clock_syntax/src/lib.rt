@@ -11,3 +11,9 @@
 //! | `loop k { .. }` | runs this body k times |
 //! | `skip;` | does nothing |
 #![tactic(auto)]
+
+mod name;
+mod tree;
+
+pub use name::ClockName;
+pub use tree::{ClockBody, ClockProgram, ClockStmt};
