@@ -1,0 +1,6 @@
+//! The unfolding of a clock program: the moves of each activity, and the plan that stands for them, or the first fault.
+#![tactic(auto)]
+
+mod laws;
+
+pub use laws::worked_clock_programs;
