@@ -114,13 +114,13 @@ two_new x z P h k (suc (suc i)) y e = absurd cc
 
 -- ---- members
 
-member_other : (t p : ℕ) (v : Bool) (ms : ℕ → ℕ → Bool) (u q : ℕ) → u ≢ t → with_member t p v ms u q ≡ ms u q
+pub member_other : (t p : ℕ) (v : Bool) (ms : ℕ → ℕ → Bool) (u q : ℕ) → u ≢ t → with_member t p v ms u q ≡ ms u q
 member_other t p v ms u q n = grind (arith, nat_tests)
 
-member_elsewhere : (t p : ℕ) (v : Bool) (ms : ℕ → ℕ → Bool) (u q : ℕ) → q ≢ p → with_member t p v ms u q ≡ ms u q
+pub member_elsewhere : (t p : ℕ) (v : Bool) (ms : ℕ → ℕ → Bool) (u q : ℕ) → q ≢ p → with_member t p v ms u q ≡ ms u q
 member_elsewhere t p v ms u q n = grind (arith, nat_tests)
 
-member_here : (t p : ℕ) (v : Bool) (ms : ℕ → ℕ → Bool) → with_member t p v ms t p ≡ v
+pub member_here : (t p : ℕ) (v : Bool) (ms : ℕ → ℕ → Bool) → with_member t p v ms t p ≡ v
 member_here t p v ms = grind (arith, nat_tests)
 
 updated_here : (m : Phases) (p : ℕ) (w : Option ℕ) → updated m p w p ≡ w
@@ -163,7 +163,7 @@ some_value (Some n) e = (n, refl)
 
 -- ---- one op more
 
-abbrev state_of : Plan → List (Option Start) → (ℕ → ℕ → Bool) → Names → ℕ → UnfoldingState
+abbrev pub state_of : Plan → List (Option Start) → (ℕ → ℕ → Bool) → Names → ℕ → UnfoldingState
 state_of plan starts members names visits = record { plan = plan; starts = starts; members = members; names = names; visits = visits }
 
 module _ (t : ℕ) (s : UnfoldingState) (a : IsActing t s) where
@@ -272,7 +272,7 @@ module _ (t : ℕ) (s : UnfoldingState) (a : IsActing t s) where
         acts_on t s (state_of (with_op t o s.plan) starts members names visits) a grows_op (op_tables s.plan t o a.sound.checked.tables) new (limits_op few)
         at_op has_starts has_members
 
-  adv_acts : (p n : ℕ) → s.members t p ≡ true → OnState (IsActing t) (add_op t n (op.Adv (phaser p)) s)
+  pub adv_acts : (p n : ℕ) → s.members t p ≡ true → OnState (IsActing t) (add_op t n (op.Adv (phaser p)) s)
   unfolding add_op
   adv_acts p n e =
       on_fault_unless (IsActing t) (nat_lt (sum_by length s.plan.codes) max_ops) too_many_ops n _
@@ -283,7 +283,7 @@ module _ (t : ℕ) (s : UnfoldingState) (a : IsActing t s) where
       (same_starts (op.Adv (phaser p)) s.members s.names s.visits (λ i c f. one_new (Advances p) (λ i x. (c : ℕ) → x ≢ Forks c) (λ c g. cc) i (Forks c) f c refl))
       (own_members (op.Adv (phaser p)) s.starts s.members s.names s.visits (λ q. members_own q ∙ advanced_member (last_phases s.plan t) p q) (λ u q n. refl) (λ u m r. refl)))
 
-  dereg_acts : (p n : ℕ) → s.members t p ≡ true → OnState (IsActing t) (add_op t n (op.Drop (phaser p)) (record s { members = with_member t p false s.members }))
+  pub dereg_acts : (p n : ℕ) → s.members t p ≡ true → OnState (IsActing t) (add_op t n (op.Drop (phaser p)) (record s { members = with_member t p false s.members }))
   unfolding add_op
   dereg_acts p n e =
       on_fault_unless (IsActing t) (nat_lt (sum_by length s.plan.codes) max_ops) too_many_ops n _
@@ -296,7 +296,7 @@ module _ (t : ℕ) (s : UnfoldingState) (a : IsActing t s) where
       (own_members (op.Drop (phaser p)) s.starts (with_member t p false s.members) s.names s.visits
       (set_member t p false s.members (last_phases s.plan t) None members_own refl) (λ u q n. member_other t p false s.members u q n) (λ u m r. refl)))
 
-  await_acts : (p n : ℕ) (off : Offset) → IsNear off → s.members t p ≡ true → OnState (IsActing t) (add_op t n (op.Await (phaser p) off) s)
+  pub await_acts : (p n : ℕ) (off : Offset) → IsNear off → s.members t p ≡ true → OnState (IsActing t) (add_op t n (op.Await (phaser p) off) s)
   unfolding add_op
   await_acts p n off near e =
       on_fault_unless (IsActing t) (nat_lt (sum_by length s.plan.codes) max_ops) too_many_ops n _
@@ -367,7 +367,7 @@ module _ (t : ℕ) (s : UnfoldingState) (a : IsActing t s) where
               | inr other ↦ inl (ap is_some (sym (get_or-set_other s.starts c d (Some start) None other)) ∙ e)
             ]
 
-    fork_acts : (n : ℕ) (start : Start) → AreNear start.body → OnState (IsActing t) (add_op t n (op.Fork (task c)) (record s { starts = slice_set s.starts c (Some start) }))
+    pub fork_acts : (n : ℕ) (start : Start) → AreNear start.body → OnState (IsActing t) (add_op t n (op.Fork (task c)) (record s { starts = slice_set s.starts c (Some start) }))
     unfolding add_op
     fork_acts n start near =
         on_fault_unless (IsActing t) (nat_lt (sum_by length s.plan.codes) max_ops) too_many_ops n _
@@ -429,7 +429,7 @@ module _ (t : ℕ) (s : UnfoldingState) (a : IsActing t s) where
                     ∙ sym (ap (λ m. is_some (m q)) (register_here c p (last_phases s.plan t) (first_phases s.plan c))))
               ]
 
-      reg_acts : (n : ℕ) → OnState (IsActing t) (add_op t n (op.Reg (task c) (phaser p)) (record s { members = with_member c p true s.members }))
+      pub reg_acts : (n : ℕ) → OnState (IsActing t) (add_op t n (op.Reg (task c) (phaser p)) (record s { members = with_member c p true s.members }))
       unfolding add_op
       reg_acts n =
           on_fault_unless (IsActing t) (nat_lt (sum_by length s.plan.codes) max_ops) too_many_ops n _
@@ -510,7 +510,7 @@ module _ (t : ℕ) (s : UnfoldingState) (a : IsActing t s) where
       make_tables : HasTables plan_made
       make_tables = op_tables (with_maker t s.plan) t make (maker_tables s.plan t a.sound.at.makers a.sound.checked.tables)
 
-  make_acts :
+  pub make_acts :
       (n : ℕ) (names : Names) → nat_lt (length s.plan.makers) max_phasers ≡ true → has_cells (length s.plan.parents) (length s.plan.makers + 1) ≡ true →
       OnState (IsActing t) (add_op t n make (state_of (with_maker t s.plan) s.starts (with_member t (length s.plan.makers) true s.members) names s.visits))
   unfolding add_op
@@ -578,7 +578,7 @@ module _ (t : ℕ) (s : UnfoldingState) (a : IsActing t s) where
       (let h = a.here in omega arith) parent)
       ∙ nobody_registers s.plan a.sound.checked t u (length (actions s.plan t)) l p
 
-  task_acts : (names : Names) → nat_lt (length s.plan.parents) max_tasks ≡ true → has_cells (length s.plan.parents + 1) (length s.plan.makers) ≡ true →
+  pub task_acts : (names : Names) → nat_lt (length s.plan.parents) max_tasks ≡ true → has_cells (length s.plan.parents + 1) (length s.plan.makers) ≡ true →
       IsActing t (state_of (with_task t s.plan) (s.starts ++ None ∷ []) s.members names s.visits)
   task_acts names room cells =
       acts_on t s (state_of (with_task t s.plan) (s.starts ++ None ∷ []) s.members names s.visits) a grows_task

@@ -14,7 +14,7 @@ use Rattle.armus_base.specs.CheckedPlans.{HasTables}
 use Rattle.pl_plan.specs.Unfolding.{with_op, task}
 use Rattle.pl_plan.proofs.Growth.{slice_get-append, slice_get-behind}
 
-actions_of-append : (xs ys : List Op) → actions_of (xs ++ ys) ≡ actions_of xs ++ actions_of ys
+pub actions_of-append : (xs ys : List Op) → actions_of (xs ++ ys) ≡ actions_of xs ++ actions_of ys
 actions_of-append [] ys = refl
 actions_of-append (Make p ∷ xs) ys = ap (λ zs. Makes p.0 ∷ zs) (actions_of-append xs ys)
 actions_of-append (Reg c p ∷ xs) ys = ap (λ zs. Registers c.0 p.0 ∷ zs) (actions_of-append xs ys)

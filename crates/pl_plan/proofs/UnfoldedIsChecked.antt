@@ -17,7 +17,7 @@ use Rattle.pl_plan.proofs.Sound.{IsSound, IsActing, is_begun, NearStart}
 use Rattle.pl_plan.proofs.SoundSteps.{OnState, same_acts, comes_keep, end_keeps, visits_near}
 
 -- the next task
-next_sound : (t : ℕ) (s : UnfoldingState) → IsSound t s → IsSound (t + 1) s
+pub next_sound : (t : ℕ) (s : UnfoldingState) → IsSound t s → IsSound (t + 1) s
 next_sound t s h =
     record {
       checked = h.checked;
@@ -92,7 +92,7 @@ first_starts : (program : Tree) (c : ℕ) → 0 < c → is_begun (opening_state 
 first_starts program zero l = absurd (omega arith)
 first_starts program (suc c) l = refl
 
-sound_opening : (program : Tree) → AreNear program → IsSound 0 (opening_state program)
+pub sound_opening : (program : Tree) → AreNear program → IsSound 0 (opening_state program)
 sound_opening program near =
     record {
       checked = first_plan_is_checked;
