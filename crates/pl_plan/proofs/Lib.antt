@@ -32,3 +32,4 @@ pub mod FoldsOn
 pub mod PlanPieces
 pub mod Drawn
 pub mod FoldedCodes
+pub mod ForksKept

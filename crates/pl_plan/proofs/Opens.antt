@@ -14,7 +14,9 @@ use Rattle.pl_plan.specs.inside.Steps.{IsSpelled}
 use Rattle.pl_plan.specs.inside.Checker.{Checker, CheckerStart, Counts}
 use Rattle.pl_plan.specs.inside.CheckerSteps.{thing_of}
 use Rattle.pl_plan.specs.inside.Opening.{IsOpeningChecker}
+use Rattle.pl_plan.specs.Forks.{GivesUnfolded}
 use Rattle.pl_plan.specs.Planning.{GivesOutcome}
+use Rattle.pl_plan.specs.declared.planning.Unfolded.{Unfolded}
 use Rattle.pl_plan.specs.Unfolding.{UnfoldingState, Start, ◌>>=◌, opening_state, unfold_tasks, plan_of, with_pieces}
 use Rattle.pl_plan.specs.inside.Shows.{ShowsState, MaybeStartShows, StartShows, IsNumbering, Follows}
 
@@ -67,3 +69,10 @@ pub plan_fault : (program : Program) (e : PlanEnd) (shows : UnfoldingState → T
 unfolding plan_of
 plan_fault program ends.NoMemory shows g r is = subst (λ z. GivesOutcome z (plan_of program)) (sym is) tt
 plan_fault program (ends.Check f) shows g r is = subst (λ z. GivesOutcome z (plan_of program)) (sym is) (ap (λ o. o >>= λ s. Ok (with_pieces s)) g)
+
+pub unfold_fault : (program : Program) (e : PlanEnd) (shows : UnfoldingState → Type 0) →
+    Follows {A = Unit {0}} (Err e) (unfold_tasks program.two max_tasks 0 (opening_state program.body)) shows → (r : Result Unfolded PlanEnd) → r ≡ Err e →
+    GivesUnfolded r program
+unfolding plan_of
+unfold_fault program ends.NoMemory shows g r is = subst (λ z. GivesUnfolded z program) (sym is) tt
+unfold_fault program (ends.Check f) shows g r is = subst (λ z. GivesUnfolded z program) (sym is) (ap (λ o. o >>= λ s. Ok (with_pieces s)) g)

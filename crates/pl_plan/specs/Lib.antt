@@ -6,6 +6,7 @@ pub mod Folding
 pub mod Tests
 pub mod Stages
 pub mod Planning
+pub mod Forks
 -- What is proved of it.
 pub mod Laws
 pub mod FoldingLaws

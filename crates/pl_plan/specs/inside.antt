@@ -7,3 +7,4 @@ pub mod Simulates
 pub mod Opening
 pub mod Flattening
 pub mod FoldsSteps
+pub mod KeptForks

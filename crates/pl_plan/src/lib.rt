@@ -24,7 +24,7 @@ pub use laws::{
     worked_pieces, worked_programs,
 };
 pub use limits::MAX_VISITS;
-pub use planning::plan;
+pub use planning::{Unfolded, plan, unfold};
 
 #[cfg(test)]
 mod tests;
