@@ -1,5 +1,6 @@
 pub mod Places
 pub mod Keeping
+pub mod MemberRows
 pub mod Showing
 pub mod Simulating
 pub mod Walks

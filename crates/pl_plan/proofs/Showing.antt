@@ -1,10 +1,9 @@
 -- What the checker keeps shows the unfolding's state at each change.
-use Rattle.std.proofs.Common.{◌≡◌, ℕ, zero, suc, ◌+◌, ◌-◌, ◌<◌, ◌≤◌, ◌⊎◌, replicate, inl, inr, Bool, true, false, List, [], ◌∷◌, ◌++◌, length, take, sym, ap, ◌∙◌, subst, refl, arith, Some, None, Option}
+use Rattle.std.proofs.Common.{◌≡◌, ℕ, ◌+◌, ◌<◌, ◌⊎◌, inl, inr, Bool, true, false, List, [], ◌∷◌, ◌++◌, length, take, sym, ap, ◌∙◌, subst, refl, arith, Some, None, Option}
 use Rattle.std.specs.Prelude.{slice_set, slice_index_or, nat_lt, if◌then◌else◌, ◌==◌, ◌&&◌}
 use Rattle.std.proofs.lemmas.Slice.Eq.{bytes_eq-Decides}
-use Rattle.std.proofs.lemmas.Bool.{cases_lt}
 use Rattle.std.proofs.lemmas.Bool.Decides.{nat_tests}
-use Rattle.std.proofs.lemmas.List.{length-set, length-append, length-replicate, get_or-set_same, get_or-set_other, get_or_append_left, get_or-append_right, get_or_past}
+use Rattle.std.proofs.lemmas.List.{length-set, length-append, get_or-set_same, get_or-set_other}
 use Rattle.std.proofs.lemmas.List.Sums.{sum_by-set, sum_by-append}
 use Rattle.armus_base.specs.declared.op.Op.{Op}
 use Rattle.pl_syntax.specs.Tree.{Tree}
@@ -12,10 +11,12 @@ use Rattle.pl_plan.specs.declared.step.Step.{Step}
 use Rattle.pl_plan.specs.declared.step.Thing as code
 use Rattle.pl_plan.specs.declared.step.Thing.TheVariants as a_thing
 use Rattle.pl_plan.specs.inside.Steps.{IsSpelled}
-use Rattle.pl_plan.specs.inside.Checker.{Checker, CheckerStart, StartFits, IsChecker, slot_of, lengthened, marked, slotted, with_slot, with_thing, with_task, with_maker, pushed, with_membership, started}
+use Rattle.pl_plan.specs.inside.Checker.{Checker, CheckerStart, StartFits, IsChecker, slot_of, slotted, with_slot, with_thing, with_task, with_maker, pushed, with_membership, started}
 use Rattle.pl_plan.specs.inside.CheckerSteps.{with_binding, thing_of}
 use Rattle.pl_plan.specs.Unfolding.{UnfoldingState, Start, Names, Thing, assigned, with_op, with_member, with_members, with_start}
 use Rattle.pl_plan.specs.inside.Shows.{ShowsState, MaybeStartShows, AreNamed, IsNumbering}
+use Rattle.pl_plan.specs.MemberRows.{marked}
+use Rattle.pl_plan.proofs.MemberRows.{marked_same, marked_other}
 use Rattle.pl_plan.proofs.Places.{same_or, at_set, at_more}
 use Rattle.pl_plan.proofs.Keeping.{slotted_fits, taken_same}
 
@@ -55,29 +56,6 @@ is_other v t q p h = by (same_or v t) (same_or q p)
     by (inl a) (inr b) = grind (arith, nat_tests)
     by (inr a) (inl b) = grind (arith, nat_tests)
     by (inr a) (inr b) = grind (arith, nat_tests)
-
--- what a longer list of tests says
-long_at : (n q : ℕ) (row : List Bool) → slice_index_or (lengthened n row) q false ≡ slice_index_or row q false
-long_at n q row = by (cases_lt q (length row))
-  where
-    nothing_at : (m i : ℕ) → slice_index_or (replicate m false) i false ≡ false
-    nothing_at zero i = refl
-    nothing_at (suc m) zero = refl
-    nothing_at (suc m) (suc i) = nothing_at m i
-
-    by : (q < length row) ⊎ (length row ≤ q) → slice_index_or (lengthened n row) q false ≡ slice_index_or row q false
-    by (inl l) = get_or_append_left row (replicate (n - length row) false) false q l
-    by (inr l) =
-        get_or-append_right row (replicate (n - length row) false) (length row) q false refl l ∙ nothing_at (n - length row) (q - length row)
-        ∙ sym (get_or_past row q false l)
-
-marked_same : (p : ℕ) (v : Bool) (row : List Bool) → slice_index_or (marked p v row) p false ≡ v
-marked_same p v row =
-    get_or-set_same (lengthened (p + 1) row) p v false
-    (omega (arith, length-append row (replicate (p + 1 - length row) false), length-replicate (p + 1 - length row) false))
-
-marked_other : (p q : ℕ) (v : Bool) (row : List Bool) → (q ≡ p → ⊥) → slice_index_or (marked p v row) q false ≡ slice_index_or row q false
-marked_other p q v row n = get_or-set_other (lengthened (p + 1) row) p q v false n ∙ long_at (p + 1) q row
 
 pub shows_marked : (names : ℕ → List ℕ) (k : Checker) (s : UnfoldingState) (t p : ℕ) (m : Bool) → t < length k.members → ShowsState names k s →
     ShowsState names (with_membership t p m k) (with_members (with_member t p m s.members) s)

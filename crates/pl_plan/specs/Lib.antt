@@ -7,6 +7,7 @@ pub mod Tests
 pub mod Stages
 pub mod Planning
 pub mod Forks
+pub mod MemberRows
 -- What is proved of it.
 pub mod Laws
 pub mod FoldingLaws

@@ -24,6 +24,7 @@ pub use laws::{
     worked_pieces, worked_programs,
 };
 pub use limits::MAX_VISITS;
+pub use membership::Membership;
 pub use planning::{Unfolded, plan, unfold};
 
 #[cfg(test)]

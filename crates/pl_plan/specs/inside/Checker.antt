@@ -1,8 +1,9 @@
 -- What the checker keeps.
-use Rattle.std.specs.Prelude.{◌≡◌, ℕ, ◌+◌, ◌-◌, ◌<◌, ◌≤◌, Bool, false, List, [], ◌∷◌, ◌++◌, length, replicate, take, slice_set, slice_index_or, Option, Some, None, if◌then◌else◌, nat_lt}
+use Rattle.std.specs.Prelude.{◌≡◌, ℕ, ◌+◌, ◌-◌, ◌<◌, ◌≤◌, Bool, List, [], ◌∷◌, ◌++◌, length, replicate, take, slice_set, slice_index_or, Option, Some, None, if◌then◌else◌, nat_lt}
 use Rattle.armus_base.specs.Limits.{max_tasks, max_phasers}
 use Rattle.armus_base.specs.declared.ids.TaskId.{TaskId}
 use Rattle.armus_base.specs.declared.op.Op.{Op}
+use Rattle.pl_plan.specs.MemberRows.{marked}
 use Rattle.pl_plan.specs.declared.step.Step.{Step}
 use Rattle.pl_plan.specs.inside.Steps.{IsList}
 use Rattle.pl_plan.specs.declared.step.Thing.{Thing}
@@ -120,14 +121,6 @@ with_maker t k = record k { makers = k.makers ++ record { 0 = t } ∷ [] }
 abbrev pub pushed : ℕ → Op → Checker → Checker
 pushed t o k =
     record k { codes = slice_set k.codes t (slice_index_or k.codes t [] ++ o ∷ []); counts = record k.counts { ops = k.counts.ops + 1 } }
-
--- a list of at least n tests
-abbrev pub lengthened : ℕ → List Bool → List Bool
-lengthened n row = row ++ replicate (n - length row) false
-
--- whether a task is a member of phaser p
-abbrev pub marked : ℕ → Bool → List Bool → List Bool
-marked p v row = slice_set (lengthened (p + 1) row) p v
 
 -- whether task t is a member of phaser p
 abbrev pub with_membership : ℕ → ℕ → Bool → Checker → Checker
