@@ -7,7 +7,8 @@ use Rattle.clock_moves.specs.Unfolding.{act_async, act_close, act_finish, act_pl
 use Rattle.clock_moves.specs.WorkedClocks.{ArePlanned, ClockLimitsHold, HaveMoves, NoActivityMore, NoActivityWithoutCells, NoClockMore, NoClockOpMore, NoClockVisitMore, NoClockWithoutCells, NoEndMore, NoFinishMore, NoFinishWithoutCells, worked_clock_faults, worked_clock_plans, worked_moves}
 
 pub plans_worked : ArePlanned worked_clock_plans
-unfolding clock_plan_of clock_unfolded unfold_activities come_all count_clock_visit act_plain act_async act_finish act_close clock_of clocks_of next_clock next_activity move_at stop
+unfolding clock_plan_of clock_unfolded unfold_activities come_all count_clock_visit act_plain act_async act_finish act_close clock_of clocks_of next_clock
+    next_activity move_at stop
 plans_worked = (refl, (refl, (refl, (refl, (refl, (refl, (refl, tt)))))))
 
 pub moves_worked : HaveMoves worked_moves
@@ -15,7 +16,8 @@ unfolding clock_unfolded unfold_activities come_all count_clock_visit act_plain 
 moves_worked = (refl, (refl, (refl, tt)))
 
 pub faults_worked : ArePlanned worked_clock_faults
-unfolding clock_plan_of clock_unfolded unfold_activities come_all count_clock_visit act_plain act_async act_finish act_close clock_of clocks_of next_clock next_activity move_at stop
+unfolding clock_plan_of clock_unfolded unfold_activities come_all count_clock_visit act_plain act_async act_finish act_close clock_of clocks_of next_clock
+    next_activity move_at stop
 faults_worked =
     (refl, (refl, (refl, (refl, (refl, (refl, (refl, (refl, (refl, (refl, (refl, (refl, (refl, (refl, (refl, (refl, tt))))))))))))))))
 
