@@ -11,7 +11,7 @@ use Rattle.armus_base.specs.declared.ids.PhaserId.{PhaserId}
 use Rattle.armus_base.specs.declared.status.Member.{Member}
 use Rattle.armus_base.specs.declared.status.Status.{Status}
 use Rattle.armus_base.specs.Statuses.{Impedes}
-use Rattle.dep_state.specs.Deps.{IsBefore, rows_of}
+use Rattle.dep_state.specs.Deps.{IsEventBefore, rows_of}
 use Rattle.dep_state.specs.inside.Made.{NotAfter, IsFirstAfter, IsAdded, IsPhaseBelow, IsImpederRow, nth_event}
 use Rattle.dep_state.proofs.TaskPlaces.{row_at}
 use Rattle.dep_state.proofs.DistinctEvents.{before_not_after, before_then, not_before_itself}
@@ -102,13 +102,13 @@ test_false a b e = let h = (not_after_or a b).1 in rw e at h
 of_test : (a b : Event) → NotAfter a b → not_after_test a b ≡ true
 of_test a b h = elim (cases_Bool (not_after_test a b)) [ inl e ↦ e | inr e ↦ absurd (test_false a b e h) ]
 
-module _ (es : List Event) (x : Event) (up : AllPairs IsBefore es) where
+module _ (es : List Event) (x : Event) (up : AllPairs IsEventBefore es) where
   pub not_after_ahead : IsPartitionedBy (λ e. not_after_test e x) es
   not_after_ahead i j d le lt on =
       elim (cases_eq i j) [
         | inl e ↦ ap (λ k. not_after_test (get_or es k d) x) e ∙ on
         | inr ne ↦
-            let b : IsBefore (get_or es i d) (get_or es j d) = up i j d (omega arith) lt in
+            let b : IsEventBefore (get_or es i d) (get_or es j d) = up i j d (omega arith) lt in
             of_test (get_or es i d) x (before_not_after (get_or es i d) x (before_then (get_or es i d) (get_or es j d) x b (test_true (get_or es j d) x on)))
       ]
 
@@ -121,7 +121,8 @@ module _ (es : List Event) (x : Event) (up : AllPairs IsBefore es) where
       }
 
 -- an event of the list stands ahead of the first one after it
-pub place_ahead : (es : List Event) (x : Event) (n : ℕ) → AllPairs IsBefore es → IsFirstAfter es x n → Contains es x → (0 < n) × (n - 1 < length es) × (get_or es (n - 1) x ≡ x)
+pub place_ahead : (es : List Event) (x : Event) (n : ℕ) → AllPairs IsEventBefore es → IsFirstAfter es x n → Contains es x →
+    (0 < n) × (n - 1 < length es) × (get_or es (n - 1) x ≡ x)
 place_ahead es x n up point (p, lt, e) =
     let here : nth_event es p ≡ x = get_or_default es p none x lt ∙ e in
     let low : p < n = elim (cases_lt p n) [ inl l ↦ l | inr h ↦ absurd (point.from p h lt (subst (λ y. NotAfter y x) (sym here) (inr (refl, omega arith)))) ] in
@@ -131,7 +132,7 @@ place_ahead es x n up point (p, lt, e) =
       elim (cases_eq p (n - 1)) [
         | inl same ↦ subst (λ i. get_or es i x ≡ x) same e
         | inr ne ↦
-            let b : IsBefore (get_or es p x) (get_or es (n - 1) x) = up p (n - 1) x (omega arith) last in
+            let b : IsEventBefore (get_or es p x) (get_or es (n - 1) x) = up p (n - 1) x (omega arith) last in
             let a : NotAfter (get_or es (n - 1) x) x = subst (λ y. NotAfter y x) (get_or_default es (n - 1) none x last) (point.ahead (n - 1) (omega arith)) in
             absurd (not_before_itself (get_or es p x) x e (before_then (get_or es p x) (get_or es (n - 1) x) x b a))
       ],

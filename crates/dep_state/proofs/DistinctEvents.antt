@@ -1,7 +1,7 @@
 -- Events in order, each once.
 use Rattle.std.proofs.Common.{◌≡◌, ℕ, ◌+◌, ◌-◌, ◌<◌, ◌≤◌, false, List, [], ◌∷◌, ◌++◌, length, refl, sym, ap, ◌∙◌, subst, inl, inr, arith, get_or, take, Ordering, Less, Equal, Greater}
 use Rattle.std.specs.Prelude.{Contains, ◌↔◌, All, AllPairs, map}
-use Rattle.std.proofs.lemmas.Bool.{cases_eq, cases_order}
+use Rattle.std.proofs.lemmas.Bool.{cases_eq}
 use Rattle.std.proofs.lemmas.List.{get_or_default, get_or-take, length-take-le, take_more, length-append, length-map}
 use Rattle.std.proofs.lemmas.List.Elements.{Contains-append_left, Contains-push, Contains-push_cases, All-push}
 use Rattle.std.proofs.lemmas.List.Quantifiers.{all_pairs_push}
@@ -12,22 +12,22 @@ use Rattle.std.proofs.lemmas.Cmp.{ranked}
 use Rattle.std.proofs.lemmas.List.Sorted.{Contains-permutation, IsPermutation-sym, length_permutation}
 use Rattle.armus_base.specs.declared.status.Status.{Status}
 use Rattle.dep_state.proofs.DeadSets.{Contains-map, Contains-from_map}
-use Rattle.dep_state.specs.Deps.{IsBefore}
+use Rattle.dep_state.specs.Deps.{IsEventBefore}
 use Rattle.dep_state.specs.inside.Made.{NotAfter, NeverFalls, IsFresh, IsDistinctOf, IsEventsOf}
 
-pub not_after_then : (a b c : Event) → NotAfter a b → IsBefore b c → IsBefore a c
+pub not_after_then : (a b c : Event) → NotAfter a b → IsEventBefore b c → IsEventBefore a c
 not_after_then a b c (inl l) (inl m) = inl (omega arith)
 not_after_then a b c (inl l) (inr m) = inl (omega (arith, m.0))
 not_after_then a b c (inr l) (inl m) = inl (omega (arith, l.0))
 not_after_then a b c (inr l) (inr m) = inr (l.0 ∙ m.0, omega (arith, l.1, m.1))
 
-pub before_then : (a b c : Event) → IsBefore a b → NotAfter b c → IsBefore a c
+pub before_then : (a b c : Event) → IsEventBefore a b → NotAfter b c → IsEventBefore a c
 before_then a b c (inl l) (inl m) = inl (omega arith)
 before_then a b c (inl l) (inr m) = inl (omega (arith, m.0))
 before_then a b c (inr l) (inl m) = inl (omega (arith, l.0))
 before_then a b c (inr l) (inr m) = inr (l.0 ∙ m.0, omega (arith, l.1, m.1))
 
-pub before_not_after : (a b : Event) → IsBefore a b → NotAfter a b
+pub before_not_after : (a b : Event) → IsEventBefore a b → NotAfter a b
 before_not_after a b (inl l) = inl l
 before_not_after a b (inr l) = inr (l.0, omega (arith, l.1))
 
@@ -38,7 +38,7 @@ pub event_same : (a b : Event) → a.p.0 ≡ b.p.0 → a.n ≡ b.n → a ≡ b
 unfolding event_of
 event_same a b e f = ap (λ x. event_of x a.n) e ∙ ap (λ y. event_of b.p.0 y) f
 
-pub same_event : (a b : Event) → NotAfter a b → (IsBefore a b → ⊥) → a ≡ b
+pub same_event : (a b : Event) → NotAfter a b → (IsEventBefore a b → ⊥) → a ≡ b
 same_event a b (inl l) no_way = absurd (no_way (inl l))
 same_event a b (inr (e, le)) no_way =
     elim (cases_eq a.n b.n) [
@@ -64,7 +64,7 @@ never_falls es sorted k d lt =
 
 -- the events of the first i, each once
 pub record IsDistinctTo (all : List Event) (i : ℕ) (es : List Event) : Type 0 where
-  pub ordered : AllPairs IsBefore es
+  pub ordered : AllPairs IsEventBefore es
   pub exact : (e : Event) → Contains es e ↔ Contains (take i all) e
   pub few : length es ≤ i
   pub below : (d : Event) → 0 < i → All (λ e. NotAfter e (get_or all (i - 1) d)) es
@@ -87,17 +87,18 @@ module _ (all es : List Event) (i : ℕ) (h : IsDistinctTo all i es) (x : Event)
       let e : i + 1 - 1 ≡ i = omega arith in
       ap (λ j. get_or all j d) e ∙ get_or_default all i d x lt ∙ is
 
-  below_new : IsFresh all i → (k : ℕ) (d : Event) → k < length es → IsBefore (get_or es k d) x
+  below_new : IsFresh all i → (k : ℕ) (d : Event) → k < length es → IsEventBefore (get_or es k d) x
   below_new fresh k d in' =
       elim (fresh x) [
         | inl z ↦ absurd (omega (arith, h.few))
-        | inr before ↦ not_after_then (get_or es k d) (get_or all (i - 1) x) x (h.below x (omega (arith, h.few)) k d in') (subst (λ y. IsBefore (get_or all (i - 1) x) y) is before)
+        | inr before ↦ not_after_then (get_or es k d) (get_or all (i - 1) x) x (h.below x (omega (arith, h.few)) k d in')
+            (subst (λ y. IsEventBefore (get_or all (i - 1) x) y) is before)
       ]
 
   pub distinct_push : IsFresh all i → IsDistinctTo all (i + 1) (es ++ x ∷ [])
   distinct_push fresh =
       record {
-        ordered = all_pairs_push IsBefore es x h.ordered (below_new fresh);
+        ordered = all_pairs_push IsEventBefore es x h.ordered (below_new fresh);
         exact = λ e. rw more (
           λ c. elim (Contains-push_cases es x e c) [
             | inl l ↦ Contains-append_left (take i all) (x ∷ []) e ((h.exact e).0 l)
@@ -121,8 +122,8 @@ module _ (all es : List Event) (i : ℕ) (h : IsDistinctTo all i es) (x : Event)
       let step : NotAfter (get_or all (i - 1) x) x = subst (λ y. NotAfter (get_or all (i - 1) x) y) (ap (λ k. get_or all k x) j ∙ is) (rising (i - 1) x (omega arith)) in
       let same : get_or all (i - 1) x ≡ x =
       same_event (get_or all (i - 1) x) x step (λ b. stale
-      (λ d. inr (subst (λ y. IsBefore y (get_or all i d)) (get_or_default all (i - 1) x d (omega arith))
-      (subst (λ y. IsBefore (get_or all (i - 1) x) y) (sym is ∙ get_or_default all i x d lt) b)))) in
+      (λ d. inr (subst (λ y. IsEventBefore y (get_or all i d)) (get_or_default all (i - 1) x d (omega arith))
+      (subst (λ y. IsEventBefore (get_or all (i - 1) x) y) (sym is ∙ get_or_default all i x d lt) b)))) in
       let old : Contains (take i all) x = (i - 1, omega (arith, length-take-le i all (omega arith)), get_or-take i all (i - 1) x (omega arith) ∙ same) in
       record {
         ordered = h.ordered;
@@ -135,7 +136,7 @@ module _ (all es : List Event) (i : ℕ) (h : IsDistinctTo all i es) (x : Event)
       }
 
 -- no event is before itself
-pub not_before_itself : (a b : Event) → a ≡ b → IsBefore a b → ⊥
+pub not_before_itself : (a b : Event) → a ≡ b → IsEventBefore a b → ⊥
 not_before_itself a b e (inl l) = omega (arith, ap (λ x. x.p.0) e)
 not_before_itself a b e (inr r) = omega (arith, ap (λ x. x.n) e, r.1)
 

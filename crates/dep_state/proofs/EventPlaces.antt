@@ -6,7 +6,7 @@ use Rattle.std.proofs.lemmas.List.{get_or_default, length-map}
 use Rattle.armus_base.specs.declared.event.Event.{Event}
 use Rattle.armus_base.specs.declared.status.Status.{Status}
 use Rattle.armus_base.specs.Statuses.{Impedes, IsInOrder}
-use Rattle.dep_state.specs.Deps.{Deps, IsDepsOf, IsBefore, impeders_of}
+use Rattle.dep_state.specs.Deps.{Deps, IsDepsOf, IsEventBefore, impeders_of}
 
 -- an event stands at a place
 abbrev pub EventAt : Deps → ℕ → Event → Type 0
@@ -15,12 +15,12 @@ EventAt d i r = (i < length d.events) × (get_or d.events i r ≡ r)
 pub one_event : (d : Deps) (i : ℕ) (r q : Event) → EventAt d i r → EventAt d i q → r ≡ q
 one_event d i r q (lt, e) (lt', f) = sym e ∙ get_or_default d.events i r q lt ∙ f
 
-not_before_itself : (a b : Event) → a ≡ b → IsBefore a b → ⊥
+not_before_itself : (a b : Event) → a ≡ b → IsEventBefore a b → ⊥
 not_before_itself a b e (inl l) = omega (arith, ap (λ x. x.p.0) e)
 not_before_itself a b e (inr r) = omega (arith, ap (λ x. x.n) e, r.1)
 
 -- where events ascend, each stands at one place
-pub one_place_of_event : (es : List Event) (r : Event) (i j : ℕ) → AllPairs IsBefore es → i < length es → j < length es → get_or es i r ≡ r → get_or es j r ≡ r → i ≡ j
+pub one_place_of_event : (es : List Event) (r : Event) (i j : ℕ) → AllPairs IsEventBefore es → i < length es → j < length es → get_or es i r ≡ r → get_or es j r ≡ r → i ≡ j
 one_place_of_event es r i j up lt lt' e f =
     elim (cases_order i j) [
       | inl same ↦ same

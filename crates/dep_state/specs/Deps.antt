@@ -26,8 +26,8 @@ abbrev pub IsAwaitedBy : Deps → ℕ → ℕ → Type 0
 IsAwaitedBy d k i = (m : ℕ) × (m < k) × (slice_index d.awaits m ≡ i)
 
 -- events go by phaser and then by phase
-abbrev pub IsBefore : Event → Event → Type 0
-IsBefore a b = (a.p.0 < b.p.0) ⊎ ((a.p.0 ≡ b.p.0) × (a.n < b.n))
+abbrev pub IsEventBefore : Event → Event → Type 0
+IsEventBefore a b = (a.p.0 < b.p.0) ⊎ ((a.p.0 ≡ b.p.0) × (a.n < b.n))
 
 -- what the relations keep whatever the statuses: sizes, order, and places that are places
 pub record AreRelations (d : Deps) : Type 0 where
@@ -38,7 +38,7 @@ pub record AreRelations (d : Deps) : Type 0 where
   pub events_inside : All (λ e. e < length d.events) d.awaits
   pub tasks_inside : All (λ row. All (λ t. t < length d.tasks) row) d.impeders
   pub each_awaited : (i : ℕ) → i < length d.events → IsAwaitedBy d (length d.tasks) i
-  pub ordered : AllPairs IsBefore d.events
+  pub ordered : AllPairs IsEventBefore d.events
 
 -- the relations are those of the statuses
 pub record IsDepsOf (ss : List Status) (d : Deps) : Type 0 where

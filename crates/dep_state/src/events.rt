@@ -2,7 +2,7 @@
 ghost use Rattle.std.specs.Prelude.{◌≡◌, ◌<◌, ◌^◌, length, map, IfOk, AllPairs, Contains, slice_index_or, MatchBool};
 ghost use Rattle.armus_base.specs.Statuses.{IsAwaited, IsInOrder};
 ghost use Rattle.armus_base.specs.declared.status.Status.{Status};
-ghost use Rattle.dep_state.specs.Deps.{IsBefore};
+ghost use Rattle.dep_state.specs.Deps.{IsEventBefore};
 ghost use Rattle.dep_state.specs.inside.Made.{NeverFalls, NotAfter, IsFirstAfter, IsFresh, IsDistinctOf, IsEventsOf, IsPlacesOf};
 
 use armus_base::{Event, Status, TaskId};
@@ -24,7 +24,7 @@ fn awaited(alloc: Global, list: &[Status]) -> Result<Vec<Event>, AllocError>
 
 // Whether an event is before another.
 fn is_before(a: Event, b: Event) -> bool
-    ensures { MatchBool result (IsBefore a b) (¬ IsBefore a b) }
+    ensures { MatchBool result (IsEventBefore a b) (¬ IsEventBefore a b) }
 {
     a.p.0 < b.p.0 || (a.p.0 == b.p.0 && a.n < b.n)
 }
@@ -69,7 +69,7 @@ fn is_not_after(a: Event, b: Event) -> bool
 
 /// The place of the first event after a given one, which need not stand there.
 pub fn first_after(events: &[Event], event: Event) -> usize
-    requires { AllPairs IsBefore events.now }
+    requires { AllPairs IsEventBefore events.now }
     ensures { IsFirstAfter events.now event result }
 {
     events.partition_point(|other| is_not_after(*other, event))
@@ -77,7 +77,7 @@ pub fn first_after(events: &[Event], event: Event) -> usize
 
 /// Where an event stands: ahead of the first one after it.
 pub fn event_place(events: &[Event], event: Event) -> usize
-    requires ordered { AllPairs IsBefore events.now }
+    requires ordered { AllPairs IsEventBefore events.now }
     requires there { Contains events.now event }
     ensures inside { result < length events.now }
     ensures there { slice_index_or events.now result event ≡ event }

@@ -1,7 +1,7 @@
 // Which tasks impede each event: each task in turn is put into the rows of the events that it impedes, so the rows ascend.
 ghost use Rattle.std.specs.Prelude.{◌≡◌, ◌<◌, ◌^◌, [], length, replicate, IfOk, OnOk, AllPairs};
 ghost use Rattle.armus_base.specs.Statuses.{Impedes, IsInOrder};
-ghost use Rattle.dep_state.specs.Deps.{IsBefore, rows_of};
+ghost use Rattle.dep_state.specs.Deps.{IsEventBefore, rows_of};
 ghost use Rattle.dep_state.specs.inside.Made.{IsPhaseBelow, IsAdded, IsImpedersOf, nth_event};
 
 use crate::events::first_after;
@@ -24,7 +24,7 @@ fn add_phase(
     member: Member,
     k: u32,
 ) -> Result<(), AllocError>
-    requires ordered { AllPairs IsBefore events.now }
+    requires ordered { AllPairs IsEventBefore events.now }
     requires sized { length rows.old.items ≡ length events.now }
     ensures { OnOk result (IsAdded (λ i. IsPhaseBelow member (nth_event events.now i)) k (rows_of rows.old.items) (rows_of rows.new.items)) }
 {
@@ -48,7 +48,7 @@ fn add_task(
     k: u32,
 ) -> Result<(), AllocError>
     requires ascends { AllPairs (λ c d. c.p.0 < d.p.0) status.now.phases }
-    requires ordered { AllPairs IsBefore events.now }
+    requires ordered { AllPairs IsEventBefore events.now }
     requires sized { length rows.old.items ≡ length events.now }
     ensures { OnOk result (IsAdded (λ i. Impedes status.now (nth_event events.now i)) k (rows_of rows.old.items) (rows_of rows.new.items)) }
 {
@@ -77,7 +77,7 @@ pub fn all_impeders(
     events: &[Event],
 ) -> Result<Vec<Vec<u32>>, AllocError>
     requires order { IsInOrder list.now }
-    requires ordered { AllPairs IsBefore events.now }
+    requires ordered { AllPairs IsEventBefore events.now }
     ensures { IfOk result (λ rows. IsImpedersOf list.now events.now (length events.now) (rows_of rows.items)) }
 {
     let mut rows = empty_rows(alloc, events.len())?;

@@ -4,7 +4,7 @@ use Rattle.armus_base.specs.declared.event.Event.{Event}
 use Rattle.armus_base.specs.declared.status.Member.{Member}
 use Rattle.armus_base.specs.declared.status.Status.{Status}
 use Rattle.armus_base.specs.Statuses.{Impedes, IsAwaited}
-use Rattle.dep_state.specs.Deps.{IsBefore}
+use Rattle.dep_state.specs.Deps.{IsEventBefore}
 
 -- the places below n of the statuses whose tasks impede the event, ascending
 pub record IsImpederRow (ss : List Status) (e : Event) (n : ℕ) (row : List ℕ) : Type 0 where
@@ -22,11 +22,11 @@ NeverFalls es = (k : ℕ) (d : Event) → k + 1 < length es → NotAfter (slice_
 
 -- the event at i is the first, or is after the one ahead of it
 abbrev pub IsFresh : List Event → ℕ → Type 0
-IsFresh es i = (d : Event) → (i ≡ 0) ⊎ IsBefore (slice_index_or es (i - 1) d) (slice_index_or es i d)
+IsFresh es i = (d : Event) → (i ≡ 0) ⊎ IsEventBefore (slice_index_or es (i - 1) d) (slice_index_or es i d)
 
 -- the same events, ascending without repeats
 pub record IsDistinctOf (all es : List Event) : Type 0 where
-  pub ordered : AllPairs IsBefore es
+  pub ordered : AllPairs IsEventBefore es
   pub exact : (e : Event) → Contains es e ↔ Contains all e
   pub few : length es ≤ length all
 
@@ -53,7 +53,7 @@ pub record IsAdded (P : ℕ → Type 0) (k : ℕ) (old new : List (List ℕ)) : 
 
 -- the events that the statuses await, ascending without repeats
 pub record IsEventsOf (ss : List Status) (es : List Event) : Type 0 where
-  pub ordered : AllPairs IsBefore es
+  pub ordered : AllPairs IsEventBefore es
   pub exact : (e : Event) → Contains es e ↔ IsAwaited ss e
   pub few : length es ≤ length ss
 
