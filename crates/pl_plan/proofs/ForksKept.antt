@@ -4,7 +4,7 @@ use Rattle.std.proofs.lemmas.List.{ext_get_or, get_or-map, length-map}
 use Rattle.armus_base.specs.Limits.{max_tasks}
 use Rattle.pl_syntax.specs.declared.tree.Program.{Program}
 use Rattle.pl_plan.specs.declared.step.Step.{Step}
-use Rattle.pl_plan.specs.Forks.{fork_of, forks_of, starts_in, starts_of}
+use Rattle.pl_plan.specs.Forks.{fork_of, fork_statements, starts_in, starts_of}
 use Rattle.pl_plan.specs.Unfolding.{Start, UnfoldingState, opening_state, unfold_tasks}
 use Rattle.pl_plan.specs.inside.Checker.{Checker, CheckerStart}
 use Rattle.pl_plan.specs.inside.KeptForks.{kept_fork}
@@ -24,7 +24,7 @@ same_fork names slots steps (Some start) None h = absurd h
 
 pub forks_found : (names : ℕ → List ℕ) (k : Checker) (program : Program)
     (w : (s : UnfoldingState) × (unfold_tasks program.two max_tasks 0 (opening_state program.body) ≡ Ok s) × ShowsState names k s) →
-    (kept : List (Option CheckerStart)) → kept ≡ k.starts → map kept_fork kept ≡ forks_of program
+    (kept : List (Option CheckerStart)) → kept ≡ k.starts → map kept_fork kept ≡ fork_statements program
 forks_found names k program w kept is =
     let starts : List (Option Start) = w.0.starts in
     let many : length starts ≡ length k.starts = w.2.starts_many in

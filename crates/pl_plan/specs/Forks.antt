@@ -22,11 +22,11 @@ fork_of None = None
 fork_of (Some start) = Some (start.first - 1)
 
 -- the forks of a program's tasks, in order of number
-abbrev pub forks_of : Program → List (Option ℕ)
-forks_of program = map fork_of (starts_of program)
+abbrev pub fork_statements : Program → List (Option ℕ)
+fork_statements program = map fork_of (starts_of program)
 
 -- the plan and the forks, or the first fault, unless memory ran out
 abbrev pub GivesUnfolded : Result Unfolded PlanEnd → Program → Type 0
-GivesUnfolded (Ok u) program = (plan_of program ≡ Ok u.plan) × (u.forks.items ≡ forks_of program)
+GivesUnfolded (Ok u) program = (plan_of program ≡ Ok u.plan) × (u.forks.items ≡ fork_statements program)
 GivesUnfolded (Err (ends.Check f)) program = plan_of program ≡ Err f
 GivesUnfolded (Err ends.NoMemory) program = Unit {0}

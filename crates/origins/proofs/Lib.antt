@@ -1,0 +1,6 @@
+pub mod Statements
+pub mod Sought
+pub mod Pushed
+pub mod ForkBodies
+pub mod BodiesStand
+pub mod TasksVisits

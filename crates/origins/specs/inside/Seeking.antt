@@ -1,0 +1,10 @@
+-- What the search for an op's statement gives.
+use Rattle.std.specs.Prelude.{◌≡◌, ℕ, ◌+◌, List, length, Some}
+use Rattle.std.specs.List.{slice_get}
+use Rattle.origins.specs.declared.seeking.Sought.{Sought}
+use Rattle.origins.specs.declared.seeking.Sought.TheVariants.{Found, Left}
+
+-- the number at place i of the list; or the list is no longer than that, and so many places are left behind it
+abbrev pub IsSought : List ℕ → ℕ → Sought → Type 0
+IsSought ns i (Found n) = slice_get ns i ≡ Some n
+IsSought ns i (Left left) = i ≡ length ns + left

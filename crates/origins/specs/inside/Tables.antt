@@ -1,0 +1,35 @@
+-- What the tables of origins hold.
+use Rattle.std.specs.Prelude.{ℕ, ◌+◌, if◌then◌else◌, nat_le, ◌==◌, Bool, List, [], Option, Some, None}
+use Rattle.pl_syntax.specs.declared.tree.Program.{Program}
+use Rattle.pl_syntax.specs.Tree.{Tree, done, plain, fork, loop, count}
+use Rattle.pl_plan.specs.Unfolding.{Coming, Visit, visits_of}
+use Rattle.origins.specs.Origins.{comes_to_phaser, comes_to_task}
+use Rattle.origins.specs.declared.making.Made.{Made}
+use Rattle.origins.specs.declared.making.Made.TheVariants.{APhaser, ATask}
+
+-- coming to this makes such a thing
+abbrev pub makes_it : Made → Coming → Bool
+makes_it APhaser = comes_to_phaser
+makes_it ATask = comes_to_task
+
+-- the body of the fork with this number, among statements of which the first has number n
+abbrev pub fork_body : ℕ → Tree → ℕ → Option Tree
+fork_body n done f = None
+fork_body n (plain s rest) f = fork_body (n + 1) rest f
+fork_body n (fork x body rest) f =
+    if n == f then Some body else (if nat_le f (n + count body) then fork_body (n + 1) body f else fork_body (n + 1 + count body) rest f)
+fork_body n (loop k body rest) f = if nat_le f (n + count body) then fork_body (n + 1) body f else fork_body (n + 1 + count body) rest f
+
+-- the body of the fork with this number; for 0 the whole program
+abbrev pub forked_body : Tree → ℕ → Option Tree
+forked_body program f = if f == 0 then Some program else fork_body 1 program f
+
+-- the visits of this body, of which the first statement has number n
+abbrev pub visits_at : ℕ → Option Tree → List Visit
+visits_at n None = []
+visits_at n (Some body) = visits_of n body
+
+-- the visits of a task, by its fork
+abbrev pub visits_by_fork : Program → Option ℕ → List Visit
+visits_by_fork program None = []
+visits_by_fork program (Some f) = visits_at (f + 1) (forked_body program.body f)

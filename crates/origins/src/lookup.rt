@@ -1,0 +1,149 @@
+// The origins of a program's plan.
+
+ghost use Rattle.std.specs.Prelude.{◌≡◌, ◌+◌, ◌<◌, ◌^◌, ◌++◌, slice_index_or, IfOk, OnOk, None};
+ghost use Rattle.std.specs.List.{slice_get};
+ghost use Rattle.pl_syntax.specs.Tree.{count};
+ghost use Rattle.pl_plan.specs.Forks.{fork_statements};
+ghost use Rattle.origins.specs.Origins.{drawing_statement, end_origin, op_origin, statements_of_all, statements_where};
+ghost use Rattle.origins.specs.OriginTables.{AreOrigins};
+ghost use Rattle.origins.specs.inside.Tables.{makes_it, visits_by_fork};
+
+use crate::bodies::{body_at, last_of_body};
+use crate::making::{Made, push_of_body};
+use crate::seeking::{Sought, seek_in_body};
+use armus_base::{NoMemory, PhaserId, TaskId};
+use pl_syntax::Program;
+use std::alloc::Global;
+use std::marker::Model;
+
+/// From which statements of a program the ops, the phasers and the tasks of its plan come. A statement is told by its number, from 1 in the order in which
+/// statements stand in the text.
+///
+/// The tables have one number for each task and each phaser. The ops have none: that of an op is found in the body of its task, where a loop's body is gone
+/// through at most twice, whatever turns the loop has.
+#[derive(Drop)]
+pub struct Origins {
+    forks: Vec<Option<u32>>,
+    phasers: Vec<u32>,
+    tasks: Vec<u32>,
+}
+
+impl Model for Origins {
+    ghost use Rattle.origins.specs.OriginTables.{OriginTables};
+
+    ghost Value = { OriginTables };
+
+    ghost view = { λ o. record { forks = o.forks.items; phasers = o.phasers.items; tasks = o.tasks.items } };
+}
+
+// Those of the visits of a task with this fork that make such a thing.
+fn push_of_task(
+    made: Made,
+    program: &Program,
+    fork: Option<u32>,
+    out: &mut Vec<u32>,
+) -> Result<(), NoMemory>
+    requires { count program.now.body + 1 < 2 ^ 32 }
+    ensures { OnOk result (out.new.items ≡ out.old.items ++ statements_where (makes_it made) (visits_by_fork program.now fork)) }
+{
+    let Some(fork) = fork else {
+        return Ok(());
+    };
+    match body_at(program, fork) {
+        None => Ok(()),
+        Some(body) => push_of_body(made, body, fork + 1, out),
+    }
+}
+
+// Those of all tasks.
+fn made_by_all(
+    alloc: Global,
+    made: Made,
+    program: &Program,
+    forks: &[Option<u32>],
+) -> Result<Vec<u32>, NoMemory>
+    requires few { count program.now.body + 1 < 2 ^ 32 }
+    requires forks { forks.now ≡ fork_statements program.now }
+    ensures { IfOk result (λ v. v.items ≡ statements_of_all (makes_it made) program.now) }
+{
+    let mut out = Vec::new(alloc);
+    for fork in forks {
+        push_of_task(made, program, *fork, &mut out)?;
+    }
+    Ok(out)
+}
+
+impl Origins {
+    /// The origins of a program, by the forks that `unfold` of pl_plan answers for it. The time is linear in the visits of the unfolding.
+    pub fn new(
+        alloc: Global,
+        program: &Program,
+        forks: Vec<Option<u32>>,
+    ) -> Result<Origins, NoMemory>
+        requires few { count program.now.body + 1 < 2 ^ 32 }
+        requires forks { forks.items ≡ fork_statements program.now }
+        ensures { IfOk result (λ o. AreOrigins program.now o) }
+    {
+        let phasers = made_by_all(alloc, Made::APhaser, program, &forks)?;
+        let tasks = made_by_all(alloc, Made::ATask, program, &forks)?;
+        Ok(Origins {
+            forks,
+            phasers,
+            tasks,
+        })
+    }
+
+    /// The number of the statement from which op i of a task comes, counted from 0: none for an op with which the task leaves a phaser at its end, as it does in
+    /// PL 2, and where there is no such op.
+    pub fn op(&self, program: &Program, t: TaskId, i: u32) -> Option<u32>
+        requires few { count program.now.body + 1 < 2 ^ 32 }
+        requires origins { AreOrigins program.now self.now }
+        ensures { result ≡ op_origin program.now t.0 i }
+    {
+        let fork = self.fork(t)?;
+        let body = body_at(program, fork)?;
+        match seek_in_body(body, fork + 1, i) {
+            Sought::Found(n) => Some(n),
+            Sought::Left(_) => None,
+        }
+    }
+
+    /// The number of the statement that makes a phaser: none where there is no such phaser.
+    pub fn phaser(&self, p: PhaserId) -> Option<u32>
+        ensures { result ≡ slice_get self.now.phasers p.0 }
+    {
+        self.phasers.get(p.0 as usize).copied()
+    }
+
+    /// The number of the statement that draws a task: none for task 0, and where there is no such task.
+    pub fn task(&self, t: TaskId) -> Option<u32>
+        ensures { result ≡ drawing_statement self.now.tasks t.0 }
+    {
+        if t.0 == 0 {
+            return None;
+        }
+        self.tasks.get(t.0 as usize - 1).copied()
+    }
+
+    /// The number of the statement that forks a task: 0 for task 0, none for a task that is not forked, and where there is no such task.
+    pub fn fork(&self, t: TaskId) -> Option<u32>
+        ensures { result ≡ slice_index_or self.now.forks t.0 None }
+    {
+        match self.forks.get(t.0 as usize) {
+            Some(fork) => *fork,
+            None => None,
+        }
+    }
+
+    /// The number of the statement at which a task ends: that of its last visit, or of its fork where its body is empty; none for a task that is not forked,
+    /// and where there is no such task.
+    pub fn end(&self, program: &Program, t: TaskId) -> Option<u32>
+        requires few { count program.now.body + 1 < 2 ^ 32 }
+        requires origins { AreOrigins program.now self.now }
+        ensures { result ≡ end_origin program.now t.0 }
+    {
+        let fork = self.fork(t)?;
+        let body = body_at(program, fork)?;
+        Some(last_of_body(body, fork + 1, fork))
+    }
+}
