@@ -64,18 +64,20 @@ clocks_found n earlier (x ∷ xs) now ps e =
 -- ---- moves
 
 -- a move of the right number of ops
-moved : (t n : ℕ) (m : Move) (u v w : ClockUnfolding) → MayMake t u m v → v.ops ≡ u.ops → v.now.standing ≡ u.now.standing → move_at t n m v ≡ Ok w → MakesMove t u w
+moved : (t n : ℕ) (m : Move) (u v w : ClockUnfolding) → MayMake t u m v → v.ops ≡ u.ops → v.now.standing ≡ u.now.standing → move_at t n m v ≡ Ok w → (k : MakesMove t u w) × k.move ≡ m
 unfolding move_at
 moved t n m u v w may ops standing e =
     let a = bind_ok (fault_unless (nat_le (v.ops + length (ops_of v.now.standing m)) max_ops) too_many_clock_ops n) (λ _. Ok (with_move t m v)) w e in
-    let few = leb-true (v.ops + length (ops_of v.now.standing m)) max_ops (passed _ too_many_clock_ops n a.0 a.1) in
-    record {
-      move = m;
-      base = v;
-      may = may;
-      few = omega (arith, few, ops, ap (λ s. length (ops_of s m)) standing);
-      becomes = sym (ok_is _ _ a.2);
-    }
+    let few = leb-true (v.ops + length (ops_of v.now.standing m)) max_ops (passed _ too_many_clock_ops n a.0 a.1) in (
+      record {
+        move = m;
+        base = v;
+        may = may;
+        few = omega (arith, few, ops, ap (λ s. length (ops_of s m)) standing);
+        becomes = sym (ok_is _ _ a.2);
+      },
+      refl,
+    )
 
 record GivesClock (u : ClockUnfolding) (p : ℕ) : Type 0 where
   room : HasClockRoom u
@@ -115,53 +117,72 @@ activity_given n u c e =
 
 -- ---- statements
 
-module _ (P : ClockUnfolding → Type 0) (t n : ℕ) (u : ClockUnfolding) (was : P u) (moves : (w : ClockUnfolding) → MakesMove t u w → P w) where
-  plain_keeps : (x : ClockPlain) (w : ClockUnfolding) → act_plain t n x u ≡ Ok w → P w
+-- the kind of move that a part of a statement makes
+abbrev pub IsMoveOf : ClockPart → Move → Type 0
+IsMoveOf (a_plain x) (opens p) = Unit {0}
+IsMoveOf (a_plain x) (advances p) = Unit {0}
+IsMoveOf (a_plain x) (resumes p) = Unit {0}
+IsMoveOf (a_plain x) (drops p) = Unit {0}
+IsMoveOf (an_async xs body) (starts c ps f) = Unit {0}
+IsMoveOf a_finish (begins f) = Unit {0}
+IsMoveOf a_close (ends f) = Unit {0}
+IsMoveOf part m = ⊥
+
+module _ (P : ClockUnfolding → Type 0) (t n : ℕ) (u : ClockUnfolding) (was : P u) where
+  -- each move of that kind keeps it
+  abbrev pub KeptByMoves : ClockPart → Type 0
+  KeptByMoves part = (w : ClockUnfolding) (m : MakesMove t u w) → IsMoveOf part m.move → P w
+
+  kept : (part : ClockPart) → KeptByMoves part → (w : ClockUnfolding) (m : Move) → (k : MakesMove t u w) × k.move ≡ m → IsMoveOf part m → P w
+  kept part moves w m k kind = moves w k.0 (subst (IsMoveOf part) (sym k.1) kind)
+
+  plain_keeps : (x : ClockPlain) → KeptByMoves (a_plain x) → (w : ClockUnfolding) → act_plain t n x u ≡ Ok w → P w
   unfolding act_plain
-  plain_keeps (clock x) w e =
+  plain_keeps (clock x) moves w e =
       let a = bind_ok (next_clock n u) _ w e in
       let g = clock_given n u a.0 a.1 in
-      moves w (moved t n (opens a.0) u _ w (g.room, g.next, x, refl) refl refl a.2)
-  plain_keeps (advance x) w e =
+      kept (a_plain (clock x)) moves w (opens a.0) (moved t n (opens a.0) u _ w (g.room, g.next, x, refl) refl refl a.2) tt
+  plain_keeps (advance x) moves w e =
       let a = bind_ok (clock_of false n [] x u.now) _ w e in
-      moves w (moved t n (advances a.0) u u w (x, (clock_found false n [] x u.now a.0 a.1).clock, refl) refl refl a.2)
-  plain_keeps (resume x) w e =
+      kept (a_plain (advance x)) moves w (advances a.0) (moved t n (advances a.0) u u w (x, (clock_found false n [] x u.now a.0 a.1).clock, refl) refl refl a.2) tt
+  plain_keeps (resume x) moves w e =
       let a = bind_ok (clock_of true n [] x u.now) _ w e in
       let f = clock_found true n [] x u.now a.0 a.1 in
-      moves w (moved t n (resumes a.0) u u w (x, f.clock, f.rested refl, refl) refl refl a.2)
-  plain_keeps (drop x) w e =
+      kept (a_plain (resume x)) moves w (resumes a.0) (moved t n (resumes a.0) u u w (x, f.clock, f.rested refl, refl) refl refl a.2) tt
+  plain_keeps (drop x) moves w e =
       let a = bind_ok (clock_of false n [] x u.now) _ w e in
-      moves w (moved t n (drops a.0) u u w (x, (clock_found false n [] x u.now a.0 a.1).clock, refl) refl refl a.2)
-  plain_keeps skip w e = subst P (ok_is _ _ e) was
+      kept (a_plain (drop x)) moves w (drops a.0) (moved t n (drops a.0) u u w (x, (clock_found false n [] x u.now a.0 a.1).clock, refl) refl refl a.2) tt
+  plain_keeps skip moves w e = subst P (ok_is _ _ e) was
 
-  async_keeps : (xs : List (List ℕ)) (body : ClockTree) (w : ClockUnfolding) → act_async t n xs body u ≡ Ok w → P w
+  async_keeps :
+      (xs : List (List ℕ)) (body : ClockTree) → KeptByMoves (an_async xs body) → (w : ClockUnfolding) → act_async t n xs body u ≡ Ok w → P w
   unfolding act_async
-  async_keeps xs body w e =
+  async_keeps xs body moves w e =
       let a = bind_ok (clocks_of n [] xs u.now) _ w e in
       let b = bind_ok (next_activity n u) _ w a.2 in
       let g = activity_given n u b.0 b.1 in
-      moves w
-      (moved t n (starts b.0 a.0 (innermost u.now.governing)) u _ w (g.room, g.next, refl, xs, clocks_found n [] xs u.now a.0 a.1, n, body, refl) refl refl b.2)
+      kept (an_async xs body) moves w (starts b.0 a.0 (innermost u.now.governing))
+      (moved t n (starts b.0 a.0 (innermost u.now.governing)) u _ w (g.room, g.next, refl, xs, clocks_found n [] xs u.now a.0 a.1, n, body, refl) refl refl b.2) tt
 
-  finish_keeps : (w : ClockUnfolding) → act_finish t n u ≡ Ok w → P w
+  finish_keeps : KeptByMoves a_finish → (w : ClockUnfolding) → act_finish t n u ≡ Ok w → P w
   unfolding act_finish
-  finish_keeps w e =
+  finish_keeps moves w e =
       let a = bind_ok (next_clock n u) _ w e in
       let g = clock_given n u a.0 a.1 in
-      moves w (moved t n (begins a.0) u _ w (g.room, g.next, refl) refl refl a.2)
+      kept a_finish moves w (begins a.0) (moved t n (begins a.0) u _ w (g.room, g.next, refl) refl refl a.2) tt
 
-  close_keeps : (fs : List ℕ) → u.now.governing ≡ fs → (w : ClockUnfolding) → act_close t n fs u ≡ Ok w → P w
+  close_keeps : KeptByMoves a_close → (fs : List ℕ) → u.now.governing ≡ fs → (w : ClockUnfolding) → act_close t n fs u ≡ Ok w → P w
   unfolding act_close
-  close_keeps [] is w e = subst P (ok_is _ _ e) was
-  close_keeps (f ∷ fs) is w e = moves w (moved t n (ends f) u _ w (fs, is, refl) refl refl e)
+  close_keeps moves [] is w e = subst P (ok_is _ _ e) was
+  close_keeps moves (f ∷ fs) is w e = kept a_close moves w (ends f) (moved t n (ends f) u _ w (fs, is, refl) refl refl e) tt
 
-  pub act_keeps : (part : ClockPart) (w : ClockUnfolding) → clock_act t n part u ≡ Ok w → P w
-  act_keeps (a_plain x) w e = plain_keeps x w e
-  act_keeps (an_async xs body) w e = async_keeps xs body w e
-  act_keeps a_finish w e = finish_keeps w e
-  act_keeps a_close w e = close_keeps u.now.governing refl w e
-  act_keeps a_loop w e = subst P (ok_is _ _ e) was
-  act_keeps a_turn w e = subst P (ok_is _ _ e) was
+  pub act_keeps : (part : ClockPart) → KeptByMoves part → (w : ClockUnfolding) → clock_act t n part u ≡ Ok w → P w
+  act_keeps (a_plain x) moves w e = plain_keeps x moves w e
+  act_keeps (an_async xs body) moves w e = async_keeps xs body moves w e
+  act_keeps a_finish moves w e = finish_keeps moves w e
+  act_keeps a_close moves w e = close_keeps moves u.now.governing refl w e
+  act_keeps a_loop moves w e = subst P (ok_is _ _ e) was
+  act_keeps a_turn moves w e = subst P (ok_is _ _ e) was
 
 -- what a stop is
 pub record Stops (t : ℕ) (u w : ClockUnfolding) : Type 0 where
@@ -185,7 +206,7 @@ visit_counts P n u w was e =
     let a = bind_ok (fault_unless (nat_lt u.visits max_visits) too_many_clock_visits n) (λ _. Ok (with_visits (u.visits + 1) u)) w e in
     subst P (ok_is _ _ a.2) was
 
-coming_counts : (P : ClockUnfolding → Type 0) (n : ℕ) (part : ClockPart) (u w : ClockUnfolding) → P u → P (with_visits (u.visits + 1) u) → counted_coming n part u ≡ Ok w → P w
+pub coming_counts : (P : ClockUnfolding → Type 0) (n : ℕ) (part : ClockPart) (u w : ClockUnfolding) → P u → P (with_visits (u.visits + 1) u) → counted_coming n part u ≡ Ok w → P w
 coming_counts P n (a_plain x) u w was next e = visit_counts P n u w next e
 coming_counts P n (an_async xs body) u w was next e = visit_counts P n u w next e
 coming_counts P n a_finish u w was next e = visit_counts P n u w next e
@@ -200,7 +221,7 @@ module _ (P : ClockUnfolding → Type 0) (t : ℕ) (visits : (n : ℕ) (u : Cloc
   come_keeps m u w was e =
       let a = bind_ok (counted_coming m.statement m.part u) (clock_act t m.statement m.part) w e in
       let now = coming_counts P m.statement m.part u a.0 was (visits (u.visits + 1) u was) a.1 in
-      act_keeps P t m.statement a.0 now (λ z makes. moves a.0 z now makes) m.part w a.2
+      act_keeps P t m.statement a.0 now m.part (λ z makes kind. moves a.0 z now makes) w a.2
 
   pub comings_keep : (ms : List ClockComing) (u w : ClockUnfolding) → P u → come_all t ms u ≡ Ok w → P w
   unfolding come_all
