@@ -71,6 +71,12 @@ fits_maker (word k.Adv) e = absurd cc
 fits_maker (word k.Await) e = absurd cc
 fits_maker (word k.Loop) e = absurd cc
 fits_maker (word k.Skip) e = absurd cc
+fits_maker (word k.Clock) e = absurd cc
+fits_maker (word k.Async) e = absurd cc
+fits_maker (word k.Finish) e = absurd cc
+fits_maker (word k.Advance) e = absurd cc
+fits_maker (word k.Resume) e = absurd cc
+fits_maker (word k.Drop) e = absurd cc
 fits_maker (sign r) e = absurd cc
 fits_maker the_end e = absurd cc
 fits_maker (name x) e = absurd cc
@@ -310,6 +316,12 @@ splits (word k.Fork ∷ ts) [] d e = fork_of d ts (splits ts s_fork d e)
 splits (word k.Loop ∷ ts) [] d e = loop_of d ts (splits ts s_loop d e)
 splits (word k.NewTid ∷ ts) [] d e = absurd cc
 splits (word k.NewPhaser ∷ ts) [] d e = absurd cc
+splits (word k.Clock ∷ ts) [] d e = absurd cc
+splits (word k.Async ∷ ts) [] d e = absurd cc
+splits (word k.Finish ∷ ts) [] d e = absurd cc
+splits (word k.Advance ∷ ts) [] d e = absurd cc
+splits (word k.Resume ∷ ts) [] d e = absurd cc
+splits (word k.Drop ∷ ts) [] d e = absurd cc
 
 -- the machine comes to the end after a text of the grammar, and after no other tokens
 pub is_sentence : (ts : List Token) → run (at [] 0) ts ≡ Some over → (p : Tree) × (ts ≡ sentence p)

@@ -5,6 +5,7 @@ use Rattle.std.proofs.lemmas.Bool.Decides.{nat_tests}
 use Rattle.std.specs.Prelude.{IfOk}
 use Rattle.std.specs.Borrow.{Bor}
 use Rattle.std.proofs.lemmas.List.{length-drop}
+use Rattle.pl_syntax.specs.declared.scan.Language.{Language}
 use Rattle.pl_syntax.specs.declared.scan.Scan.{Scan}
 use Rattle.pl_syntax.specs.declared.limits.TheConstants.{MAX_NAME_BYTES}
 use Rattle.pl_syntax.specs.declared.fault.TheConstants.{NO_TOKEN, NO_NUMBER, TOO_LONG}
@@ -14,7 +15,7 @@ use Rattle.pl_syntax.specs.declared.token.Token.TheVariants as t
 use Rattle.pl_syntax.specs.declared.fault.SyntaxFault.{SyntaxFault}
 use Rattle.pl_syntax.specs.declared.token.Keyword.{Keyword}
 use Rattle.pl_syntax.specs.declared.token.Sign.{Sign}
-use Rattle.pl_syntax.specs.Words.{IsName, begins_with, keyword_of, has_name_form, number_of, is_digit, is_word_byte}
+use Rattle.pl_syntax.specs.Words.{IsNameIn, begins_with, keyword_in, has_name_form, number_of, is_digit, is_word_byte}
 use Rattle.pl_syntax.specs.inside.Seen.{front_seen, token_of, HasForm}
 use Rattle.pl_syntax.specs.Tokens.{Token, the_end, sign, word, name, number, front, token_here, after_gap, placed, word_token, letters_token, digits_token, name_token, sign_token, sign_of, after_comment, is_blank}
 
@@ -26,8 +27,8 @@ chosen false x y z e = inr (refl, e)
 abbrev Found : Token → Result Token ℕ
 Found t = Ok t
 
-name_of_form : (w v : List ℕ) → keyword_of w ≡ None → name_token w ≡ Found (name v) → IsName v
-name_of_form w v free e =
+name_of_form : (l : Language) (w v : List ℕ) → keyword_in l w ≡ None → name_token w ≡ Found (name v) → IsNameIn l v
+name_of_form l w v free e =
     elim (chosen (has_name_form w) _ _ (Found (name v)) e) [
       | inr p ↦ absurd (let q : Err NO_TOKEN ≡ Found (name v) = p.1 in cc)
       | inl p ↦ elim (chosen (nat_le (length w) MAX_NAME_BYTES) _ _ (Found (name v)) p.1) [
@@ -36,23 +37,23 @@ name_of_form w v free e =
             let r : Found (name w) ≡ Found (name v) = q.1 in
             let same : w ≡ v = cc in
             let short : length w ≤ MAX_NAME_BYTES = (let t = q.0 in grind (arith, nat_tests)) in
-            subst (λ (x : List ℕ). IsName x) same (record { form = p.0; short = short; free = free })
+            subst (λ (x : List ℕ). IsNameIn l x) same (record { form = p.0; short = short; free = free })
       ]
     ]
 
-name_of_letters : (w v : List ℕ) (o : Option Keyword) → keyword_of w ≡ o → letters_token w o ≡ Found (name v) → IsName v
-name_of_letters w v None free e = name_of_form w v free e
-name_of_letters w v (Some k) free e = absurd (let q : Found (word k) ≡ Found (name v) = e in cc)
+name_of_letters : (l : Language) (w v : List ℕ) (o : Option Keyword) → keyword_in l w ≡ o → letters_token w o ≡ Found (name v) → IsNameIn l v
+name_of_letters l w v None free e = name_of_form l w v free e
+name_of_letters l w v (Some k) free e = absurd (let q : Found (word k) ≡ Found (name v) = e in cc)
 
 no_name : (o : Option ℕ) (v : List ℕ) → digits_token o ≡ Found (name v) → ⊥
 no_name None v e = let q : Err NO_NUMBER ≡ Found (name v) = e in cc
 no_name (Some k) v e = let q : Found (number k) ≡ Found (name v) = e in cc
 
-name_of_word : (w v : List ℕ) → word_token w ≡ Found (name v) → IsName v
-name_of_word w v e =
+name_of_word : (l : Language) (w v : List ℕ) → word_token l w ≡ Found (name v) → IsNameIn l v
+name_of_word l w v e =
     elim (chosen (list_any is_digit (take 1 w)) _ _ (Found (name v)) e) [
       | inl p ↦ absurd (no_name (number_of w) v p.1)
-      | inr p ↦ name_of_letters w v (keyword_of w) refl p.1
+      | inr p ↦ name_of_letters l w v (keyword_in l w) refl p.1
     ]
 
 no_sign : (o : Option Sign) (v : List ℕ) → sign_token o ≡ Found (name v) → ⊥
@@ -68,16 +69,16 @@ pub was_found : (at : ℕ) (r : Result Token ℕ) (rest : List ℕ) (t : Token) 
 was_found at (Ok x) rest t left e = let h = ok_pair (x, rest) (t, left) e in (ap Found h.0, h.1)
 was_found at (Err kind) rest t left e = absurd cc
 
-name_here : (scan : Scan) (text w rest : List ℕ) → token_here scan text ≡ Ok (name w, rest) → IsName w
+name_here : (scan : Scan) (text w rest : List ℕ) → token_here scan text ≡ Ok (name w, rest) → IsNameIn scan.language w
 name_here scan [] w rest e = let h : the_end ≡ name w = (ok_pair (the_end, []) (name w, rest) e).0 in absurd cc
 name_here scan (b ∷ bs) w rest e =
     elim (chosen (is_word_byte b) _ _ _ e) [
-      | inl p ↦ name_of_word (take (prefix_len is_word_byte (b ∷ bs)) (b ∷ bs)) w (was_found _ _ _ (name w) rest p.1).0
+      | inl p ↦ name_of_word scan.language (take (prefix_len is_word_byte (b ∷ bs)) (b ∷ bs)) w (was_found _ _ _ (name w) rest p.1).0
       | inr p ↦ absurd (no_sign (sign_of scan.offsets b) w (was_found _ _ _ (name w) rest p.1).0)
     ]
 
 -- a token that is a name has its form
-pub name_in_front : (scan : Scan) (text w rest : List ℕ) → front scan text ≡ Ok (name w, rest) → IsName w
+pub name_in_front : (scan : Scan) (text w rest : List ℕ) → front scan text ≡ Ok (name w, rest) → IsNameIn scan.language w
 unfolding front
 name_in_front scan text w rest e = name_here scan (after_gap text) w rest e
 
@@ -105,7 +106,7 @@ progress_here scan [] t rest e f = absurd (f (sym (ok_pair (the_end, []) (t, res
 progress_here scan (b ∷ bs) t rest e f =
     elim (chosen (is_word_byte b) _ _ _ e) [
       | inl p ↦
-          let h : drop (prefix_len is_word_byte (b ∷ bs)) (b ∷ bs) ≡ rest = (was_found _ (word_token (take (prefix_len is_word_byte (b ∷ bs)) (b ∷ bs))) _ t rest p.1).1 in
+          let h : drop (prefix_len is_word_byte (b ∷ bs)) (b ∷ bs) ≡ rest = (was_found _ (word_token scan.language (take (prefix_len is_word_byte (b ∷ bs)) (b ∷ bs))) _ t rest p.1).1 in
           let k : prefix_len is_word_byte (b ∷ bs) ≡ 1 + prefix_len is_word_byte bs = rw p.0 refl in
           let l = length-drop (prefix_len is_word_byte (b ∷ bs)) (b ∷ bs) in
           let m = ap (λ (x : List ℕ). length x) h in
@@ -131,7 +132,7 @@ goes_on t f e = let g : true ≡ false = sym (ap ends_list e) ∙ f in cc
 pub progress : (scan : Scan) (text : List ℕ) (t : Token) (rest : List ℕ) → front scan text ≡ Ok (t, rest) → ends_list t ≡ false → length rest < length text
 progress scan text t rest e f = further scan text t rest e (goes_on t f)
 
-form_of : (scan : Scan) (text : List ℕ) (x : token.Token) (rest : List ℕ) → front scan text ≡ Ok (token_of x, rest) → HasForm x
+form_of : (scan : Scan) (text : List ℕ) (x : token.Token) (rest : List ℕ) → front scan text ≡ Ok (token_of x, rest) → HasForm scan.language x
 form_of scan text t.End rest e = tt
 form_of scan text (t.Sign s) rest e = tt
 form_of scan text (t.Word k) rest e = tt
@@ -139,7 +140,7 @@ form_of scan text (t.Name w) rest e = name_in_front scan text w.now rest e
 form_of scan text (t.Number k) rest e = tt
 
 -- what was found has its form
-pub form_seen : (scan : Scan) (text : List ℕ) (r : Result (token.Token × Bor (List ℕ)) SyntaxFault) → front_seen r ≡ front scan text → IfOk r (λ x. HasForm x.0)
+pub form_seen : (scan : Scan) (text : List ℕ) (r : Result (token.Token × Bor (List ℕ)) SyntaxFault) → front_seen r ≡ front scan text → IfOk r (λ x. HasForm scan.language x.0)
 form_seen scan text (Ok x) e = form_of scan text x.0 x.1.now (sym e)
 form_seen scan text (Err f) e = tt
 
@@ -151,7 +152,7 @@ here_le scan [] t rest e =
 here_le scan (b ∷ bs) t rest e =
     elim (chosen (is_word_byte b) _ _ _ e) [
       | inl p ↦
-          let h : drop (prefix_len is_word_byte (b ∷ bs)) (b ∷ bs) ≡ rest = (was_found _ (word_token (take (prefix_len is_word_byte (b ∷ bs)) (b ∷ bs))) _ t rest p.1).1 in
+          let h : drop (prefix_len is_word_byte (b ∷ bs)) (b ∷ bs) ≡ rest = (was_found _ (word_token scan.language (take (prefix_len is_word_byte (b ∷ bs)) (b ∷ bs))) _ t rest p.1).1 in
           let l = length-drop (prefix_len is_word_byte (b ∷ bs)) (b ∷ bs) in
           let m = ap (λ (x : List ℕ). length x) h in
           omega arith
@@ -185,11 +186,11 @@ no_end_digits : (o : Option ℕ) → digits_token o ≡ Found the_end → ⊥
 no_end_digits None e = let q : Err NO_NUMBER ≡ Found the_end = e in cc
 no_end_digits (Some k) e = let q : Found (number k) ≡ Found the_end = e in cc
 
-no_end_word : (w : List ℕ) → word_token w ≡ Found the_end → ⊥
-no_end_word w e =
+no_end_word : (l : Language) (w : List ℕ) → word_token l w ≡ Found the_end → ⊥
+no_end_word l w e =
     elim (chosen (list_any is_digit (take 1 w)) _ _ (Found the_end) e) [
       | inl p ↦ no_end_digits (number_of w) p.1
-      | inr p ↦ no_end_letters w (keyword_of w) p.1
+      | inr p ↦ no_end_letters w (keyword_in l w) p.1
     ]
 
 no_end_sign : (o : Option Sign) → sign_token o ≡ Found the_end → ⊥
@@ -200,7 +201,7 @@ end_here : (scan : Scan) (text rest : List ℕ) → token_here scan text ≡ Ok 
 end_here scan [] rest e = sym (ok_pair (the_end, []) (the_end, rest) e).1
 end_here scan (b ∷ bs) rest e =
     elim (chosen (is_word_byte b) _ _ _ e) [
-      | inl p ↦ absurd (no_end_word (take (prefix_len is_word_byte (b ∷ bs)) (b ∷ bs)) (was_found _ _ _ the_end rest p.1).0)
+      | inl p ↦ absurd (no_end_word scan.language (take (prefix_len is_word_byte (b ∷ bs)) (b ∷ bs)) (was_found _ _ _ the_end rest p.1).0)
       | inr p ↦ absurd (no_end_sign (sign_of scan.offsets b) (was_found _ _ _ the_end rest p.1).0)
     ]
 

@@ -33,7 +33,7 @@ same_rest xs ys =
 
 -- the same way of reading, of a text with so many bytes
 abbrev with_total : ℕ → Scan → Scan
-with_total n scan = record { total = n; offsets = scan.offsets }
+with_total n scan = record { total = n; offsets = scan.offsets; language = scan.language }
 
 -- a token before a line feed is that token, whatever stands behind the line feed
 here_before :
@@ -43,14 +43,14 @@ here_before scan n b bs ys t mid e =
     let w : List ℕ = b ∷ bs in
     let more : List ℕ = w ++ 10 ∷ ys in
     let at : ℕ = n - length more in
-    let words : Result (Token × List ℕ) SyntaxFault = placed at (word_token (word_of more)) (after_word more) in
+    let words : Result (Token × List ℕ) SyntaxFault = placed at (word_token scan.language (word_of more)) (after_word more) in
     let signs : Result (Token × List ℕ) SyntaxFault = placed at (sign_token (sign_of scan.offsets b)) (bs ++ 10 ∷ ys) in
     elim (chosen (is_word_byte b) _ _ _ e) [
       | inl p ↦
-          let f = was_found _ (word_token (word_of w)) (after_word w) t mid p.1 in
+          let f = was_found _ (word_token scan.language (word_of w)) (after_word w) t mid p.1 in
           ap (λ v. cond v words signs) p.0
-          ∙ ap (λ u. placed at (word_token u) (after_word more)) (same_word w ys)
-          ∙ ap (λ u. placed at (word_token (word_of w)) u) (same_rest w ys)
+          ∙ ap (λ u. placed at (word_token scan.language u) (after_word more)) (same_word w ys)
+          ∙ ap (λ u. placed at (word_token scan.language (word_of w)) u) (same_rest w ys)
           ∙ ap (λ r. placed at r (after_word w ++ 10 ∷ ys)) f.0
           ∙ ap (λ r. Ok (t, r ++ 10 ∷ ys)) f.1
       | inr p ↦
@@ -238,7 +238,7 @@ left_here scan (b ∷ bs) rest t mid e =
     elim (chosen (is_word_byte b) _ _ _ e) [
       | inl p ↦
           let text : List ℕ = (b ∷ bs) ++ 10 ∷ 37 ∷ rest in
-          let f = was_found _ (word_token (word_of text)) (after_word text) t mid p.1 in
+          let f = was_found _ (word_token scan.language (word_of text)) (after_word text) t mid p.1 in
           (after_word (b ∷ bs), rest, sym f.1 ∙ same_rest (b ∷ bs) (37 ∷ rest))
       | inr p ↦ let f = was_found _ (sign_token (sign_of scan.offsets b)) (bs ++ 10 ∷ 37 ∷ rest) t mid p.1 in (bs, rest, sym f.1)
     ]

@@ -6,6 +6,8 @@ use Rattle.std.proofs.lemmas.Bool.{cases_Bool}
 use Rattle.std.proofs.lemmas.List.{append-nil, take_at, drop_at, length-append}
 use Rattle.std.proofs.lemmas.List.Folds.{list_all-append}
 use Rattle.std.proofs.lemmas.Fmt.{decimal_by_steps, decimal_digit, decimal_nonempty, first_decimal, length-decimal-le}
+use Rattle.pl_syntax.specs.declared.scan.Language.{Language}
+use Rattle.pl_syntax.specs.declared.scan.Language.TheVariants.{Phasers}
 use Rattle.pl_syntax.specs.declared.scan.Scan.{Scan}
 use Rattle.pl_syntax.specs.declared.limits.TheConstants.{MAX_NAME_BYTES, MAX_DIGITS, MAX_NUMBER, MAX_OPEN_BRACES}
 use Rattle.armus_base.specs.declared.offset.Offset.{Offset}
@@ -13,10 +15,10 @@ use Rattle.armus_base.specs.declared.offset.Offset.TheVariants.{Ahead, Back, Her
 use Rattle.pl_syntax.specs.declared.tree.Program.{Program}
 use Rattle.pl_syntax.specs.declared.token.Keyword.TheVariants as k
 use Rattle.pl_syntax.specs.declared.token.Sign.TheVariants.{Equals, OpenParen, CloseParen, Comma, Semicolon, OpenBrace, CloseBrace, Plus, Minus}
-use Rattle.pl_syntax.specs.Words.{IsName, keyword_of, is_word_byte, is_name_byte, is_lower, is_digit, value_from, has_no_leading_zero, is_number, number_of}
+use Rattle.pl_syntax.specs.Words.{IsName, IsNameIn, keyword_in, keyword_of, is_word_byte, is_name_byte, is_lower, is_digit, value_from, has_no_leading_zero, is_number, number_of}
 use Rattle.pl_syntax.specs.Tokens.{Token, the_end, sign, word, name, number, front, Leads, after_gap, is_blank, token_here, placed, word_token, letters_token, name_token, sign_token, sign_of, digits_token}
 use Rattle.pl_syntax.specs.Tree.{Tree, done, plain, fork, loop, Plain, new_task, new_phaser, reg, dereg, adv, await, skip, height, AllHere}
-use Rattle.pl_syntax.specs.Grammar.{tokens, plain_tokens, sentence, scan_of, IsText}
+use Rattle.pl_syntax.specs.Grammar.{tokens, plain_tokens, sentence, IsText}
 use Rattle.pl_syntax.specs.Printed.{header_text, indented_line, printed_at, printed_of, IsWritable, TreeIsWritable}
 
 -- ---- blanks
@@ -60,7 +62,7 @@ Found : Token → Result Token ℕ
 Found t = Ok t
 
 -- a word that stands before another byte
-word_here : (scan : Scan) (b : ℕ) (bs : List ℕ) (c : ℕ) (r : List ℕ) (t : Token) → list_all is_word_byte (b ∷ bs) ≡ true → is_word_byte c ≡ false → word_token (b ∷ bs) ≡ Found t
+word_here : (scan : Scan) (b : ℕ) (bs : List ℕ) (c : ℕ) (r : List ℕ) (t : Token) → list_all is_word_byte (b ∷ bs) ≡ true → is_word_byte c ≡ false → word_token scan.language (b ∷ bs) ≡ Found t
     → token_here scan (b ∷ (bs ++ c ∷ r)) ≡ Ok (t, c ∷ r)
 unfolding Found
 word_here scan b bs c r t all ends is =
@@ -69,9 +71,9 @@ word_here scan b bs c r t all ends is =
     let at : ℕ = scan.total - length w in
     let h = and_parts (is_word_byte b) (list_all is_word_byte bs) all in
     let len : length (b ∷ bs) ≡ n = sym (word_prefix (b ∷ bs) c r all ends) in
-    ap (λ v. cond v (placed at (word_token (take n w)) (drop n w)) (placed at (sign_token (sign_of scan.offsets b)) (bs ++ c ∷ r))) h.0
-    ∙ ap (λ (u : List ℕ). placed at (word_token u) (drop n w)) (take_at (b ∷ bs) (c ∷ r) n len)
-    ∙ ap (λ (u : List ℕ). placed at (word_token (b ∷ bs)) u) (drop_at (b ∷ bs) (c ∷ r) n len)
+    ap (λ v. cond v (placed at (word_token scan.language (take n w)) (drop n w)) (placed at (sign_token (sign_of scan.offsets b)) (bs ++ c ∷ r))) h.0
+    ∙ ap (λ (u : List ℕ). placed at (word_token scan.language u) (drop n w)) (take_at (b ∷ bs) (c ∷ r) n len)
+    ∙ ap (λ (u : List ℕ). placed at (word_token scan.language (b ∷ bs)) u) (drop_at (b ∷ bs) (c ∷ r) n len)
     ∙ ap (λ (u : Result Token ℕ). placed at u (c ∷ r)) is
 
 no_gap : (b : ℕ) (t : List ℕ) → 48 ≤ b → after_gap (b ∷ t) ≡ b ∷ t
@@ -80,22 +82,22 @@ no_gap b t le =
     let q : (b == 47) ≡ false = grind (arith, nat_tests) in
     rw (p, q) refl
 
-name_is_word : (b : ℕ) (bs : List ℕ) → IsName (b ∷ bs) → 97 ≤ b → word_token (b ∷ bs) ≡ Found (name (b ∷ bs))
+name_is_word : (l : Language) (b : ℕ) (bs : List ℕ) → IsNameIn l (b ∷ bs) → 97 ≤ b → word_token l (b ∷ bs) ≡ Found (name (b ∷ bs))
 unfolding Found
-name_is_word b bs h le =
+name_is_word l b bs h le =
     let d : is_digit b ≡ false = grind (arith, nat_tests) in
     let s : nat_le (length (b ∷ bs)) MAX_NAME_BYTES ≡ true = (let q = h.short in grind (arith, nat_tests)) in
-    let letters : letters_token (b ∷ bs) (keyword_of (b ∷ bs)) ≡ name_token (b ∷ bs) = ap (letters_token (b ∷ bs)) h.free in
+    let letters : letters_token (b ∷ bs) (keyword_in l (b ∷ bs)) ≡ name_token (b ∷ bs) = ap (letters_token (b ∷ bs)) h.free in
     let named : name_token (b ∷ bs) ≡ Ok (name (b ∷ bs)) = rw (h.form, s) refl in
     rw d (letters ∙ named)
 
-name_front : (scan : Scan) (x : List ℕ) (c : ℕ) (r : List ℕ) → IsName x → is_word_byte c ≡ false → front scan (x ++ c ∷ r) ≡ Ok (name x, c ∷ r)
+name_front : (scan : Scan) (x : List ℕ) (c : ℕ) (r : List ℕ) → IsNameIn scan.language x → is_word_byte c ≡ false → front scan (x ++ c ∷ r) ≡ Ok (name x, c ∷ r)
 unfolding front
 name_front scan [] c r h ends = absurd (let q = h.form in cc)
 name_front scan (b ∷ bs) c r h ends =
     let p = and_parts (is_lower b) (list_all is_name_byte (b ∷ bs)) h.form in
     let low : 97 ≤ b = (let q = p.0 in grind (arith, nat_tests)) in
-    ap (token_here scan) (no_gap b (bs ++ c ∷ r) (omega arith)) ∙ word_here scan b bs c r (name (b ∷ bs)) (words_of_names (b ∷ bs) p.1) ends (name_is_word b bs h low)
+    ap (token_here scan) (no_gap b (bs ++ c ∷ r) (omega arith)) ∙ word_here scan b bs c r (name (b ∷ bs)) (words_of_names (b ∷ bs) p.1) ends (name_is_word scan.language b bs h low)
 
 -- ---- numbers
 
@@ -142,9 +144,9 @@ leads_well (suc n) (b ∷ bs) h e =
     let p : (b == 48) ≡ false = grind (arith, nat_tests) in
     rw p refl
 
-number_word : (n : ℕ) (b : ℕ) (bs : List ℕ) → n ≤ MAX_NUMBER → decimal n ≡ b ∷ bs → IsNumeral n (b ∷ bs) → word_token (b ∷ bs) ≡ Found (number n)
+number_word : (l : Language) (n : ℕ) (b : ℕ) (bs : List ℕ) → n ≤ MAX_NUMBER → decimal n ≡ b ∷ bs → IsNumeral n (b ∷ bs) → word_token l (b ∷ bs) ≡ Found (number n)
 unfolding Found
-number_word n b bs h e i =
+number_word l n b bs h e i =
     let d = and_parts (is_digit b) (list_all is_digit bs) i.digits in
     let short : length (b ∷ bs) ≤ MAX_DIGITS = subst (λ (x : List ℕ). length x ≤ MAX_DIGITS) e (length-decimal-le MAX_DIGITS n (omega arith) (omega arith) (omega arith)) in
     let s : nat_le (length (b ∷ bs)) MAX_DIGITS ≡ true = grind (arith, nat_tests) in
@@ -154,7 +156,7 @@ number_word n b bs h e i =
     (and_both (nat_le (length (b ∷ bs)) MAX_DIGITS) (nat_le (value_from 0 (b ∷ bs)) MAX_NUMBER) s v)) in
     let some : number_of (b ∷ bs) ≡ Some n = ap (λ v. cond v (Some (value_from 0 (b ∷ bs))) None) good ∙ ap (λ (m : ℕ). Some m) i.value in
     let any : list_any is_digit (take 1 (b ∷ bs)) ≡ true = rw d.0 refl in
-    ap (λ v. cond v (digits_token (number_of (b ∷ bs))) (letters_token (b ∷ bs) (keyword_of (b ∷ bs)))) any ∙ ap digits_token some
+    ap (λ v. cond v (digits_token (number_of (b ∷ bs))) (letters_token (b ∷ bs) (keyword_in l (b ∷ bs)))) any ∙ ap digits_token some
 
 number_front : (scan : Scan) (n c : ℕ) (r : List ℕ) → n ≤ MAX_NUMBER → is_word_byte c ≡ false → front scan (decimal n ++ c ∷ r) ≡ Ok (number n, c ∷ r)
 unfolding front
@@ -165,7 +167,7 @@ number_front scan n c r h ends = by_cases (decimal n) refl (numeral n (omega ari
     by_cases (b ∷ bs) e i =
         let d = and_parts (is_digit b) (list_all is_digit bs) i.digits in
         let low : 48 ≤ b = (let q = d.0 in grind (arith, nat_tests)) in
-        ap (token_here scan) (no_gap b (bs ++ c ∷ r) low) ∙ word_here scan b bs c r (number n) (words_of_digits (b ∷ bs) i.digits) ends (number_word n b bs h e i)
+        ap (token_here scan) (no_gap b (bs ++ c ∷ r) low) ∙ word_here scan b bs c r (number n) (words_of_digits (b ∷ bs) i.digits) ends (number_word scan.language n b bs h e i)
 
 -- the line of an await, and what follows it
 regroup : (d : ℕ) (x off more rest : List ℕ)
@@ -174,7 +176,11 @@ regroup d x off more rest = simp append_assoc
 
 -- ---- fixed tokens
 
-module _ (scan : Scan) where
+module _ (total : ℕ) (offsets : Bool) where
+  -- a text of PL is read
+  abbrev scan : Scan
+  scan = record { total = total; offsets = offsets; language = Phasers }
+
   fork_front : (t : List ℕ) → front scan (codes "fork(" ++ t) ≡ Ok (word k.Fork, 40 ∷ t)
   unfolding front keyword_of
   fork_front t = refl
@@ -493,25 +499,24 @@ module _ (scan : Scan) where
       (loop_line (2 * d) m (10 ∷ (printed_at (d + 1) b ++ after_body)) (tokens b (sign CloseBrace ∷ tokens p us)) end n.0 inner)
 
 -- the printed statements are read as themselves
-statements : (scan : Scan) (p : Tree) → TreeIsWritable p → (scan.offsets ≡ false → AllHere p) → Leads scan (printed_at 0 p) (sentence p) []
+statements : (total : ℕ) (offsets : Bool) (p : Tree) → TreeIsWritable p → (offsets ≡ false → AllHere p) → Leads (scan total offsets) (printed_at 0 p) (sentence p) []
 unfolding front
-statements scan p n here =
-    subst (λ (t : List ℕ). Leads scan t (sentence p) []) (append-nil (printed_at 0 p))
-    (reads scan p 0 [] (the_end ∷ []) [] n here (some_end scan) ([], refl, refl))
+statements total offsets p n here =
+    subst (λ (t : List ℕ). Leads (scan total offsets) t (sentence p) []) (append-nil (printed_at 0 p))
+    (reads total offsets p 0 [] (the_end ∷ []) [] n here (some_end total offsets) ([], refl, refl))
 
 in_form : (two : Bool) (p : Tree) → TreeIsWritable p → (two ≡ false → AllHere p) → height p ≤ MAX_OPEN_BRACES
     → IsText (header_text two ++ printed_at 0 p) (record { two = two; body = p })
-in_form false p n here h = record { reads = statements (scan_of false (printed_at 0 p)) p n here; shallow = h }
+in_form false p n here h = record { reads = statements (length (printed_at 0 p)) false p n here; shallow = h }
 in_form true p n here h =
     let rest : List ℕ = 10 ∷ printed_at 0 p in
     let text : List ℕ = header_text true ++ printed_at 0 p in
-    let one : Scan = scan_of false text in
-    let two : Scan = scan_of true text in
+    let total : ℕ = length text in
     record {
       reads = (
         rest,
-        (32 ∷ 50 ∷ 59 ∷ rest, pl_front one (50 ∷ 59 ∷ rest), (59 ∷ rest, two_front one rest, (rest, semicolon_front one rest, refl))),
-        new_line two (printed_at 0 p) (sentence p) [] (some_tree two p (the_end ∷ []) (some_end two)) (statements two p n here),
+        (32 ∷ 50 ∷ 59 ∷ rest, pl_front total false (50 ∷ 59 ∷ rest), (59 ∷ rest, two_front total false rest, (rest, semicolon_front total false rest, refl))),
+        new_line total true (printed_at 0 p) (sentence p) [] (some_tree total true p (the_end ∷ []) (some_end total true)) (statements total true p n here),
       );
       shallow = h;
     }

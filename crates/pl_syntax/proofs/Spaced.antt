@@ -4,13 +4,15 @@ use Rattle.std.specs.List.{list_all, list_any, prefix_len}
 use Rattle.std.proofs.lemmas.Bool.{eqb-true, false≢true}
 use Rattle.std.proofs.lemmas.Bool.Decides.{nat_tests}
 use Rattle.std.proofs.lemmas.List.{append-nil, drop_at, take_at, take-append-drop}
+use Rattle.pl_syntax.specs.declared.scan.Language.{Language}
+use Rattle.pl_syntax.specs.declared.scan.Language.TheVariants.{Phasers}
 use Rattle.pl_syntax.specs.declared.scan.Scan.{Scan}
 use Rattle.pl_syntax.specs.declared.limits.TheConstants.{MAX_NAME_BYTES}
 use Rattle.armus_base.specs.declared.offset.Offset.TheVariants.{Ahead, Back, Here}
 use Rattle.pl_syntax.specs.declared.token.Keyword.{Keyword}
 use Rattle.pl_syntax.specs.declared.token.Sign.{Sign}
 use Rattle.pl_syntax.specs.declared.token.Sign.TheVariants.{CloseBrace, Minus, Plus}
-use Rattle.pl_syntax.specs.Words.{begins_with, has_name_form, is_digit, is_word_byte, keyword_of, number_of}
+use Rattle.pl_syntax.specs.Words.{begins_with, has_name_form, is_digit, is_word_byte, keyword_in, number_of}
 use Rattle.pl_syntax.specs.Tokens.{Token, the_end, sign, word, name, number, front, Leads, after_gap, after_comment, is_blank, token_here, placed, word_token, letters_token, digits_token, sign_token, sign_of, word_of, after_word, kind_no_token, kind_no_number, kind_too_long}
 use Rattle.pl_syntax.specs.Tree.{Tree, done, plain, fork, loop, Plain, new_task, new_phaser, reg, dereg, adv, await, skip, AllHere, PlainIsHere}
 use Rattle.pl_syntax.specs.Grammar.{ReadsTokens, header, scan_of, tokens, plain_tokens, sentence}
@@ -246,11 +248,11 @@ letters_word w None t e =
       ]
     ]
 
-word_is_word : (w : List ℕ) (t : Token) → word_token w ≡ Found t → is_a_word t ≡ true
-word_is_word w t e =
+word_is_word : (l : Language) (w : List ℕ) (t : Token) → word_token l w ≡ Found t → is_a_word t ≡ true
+word_is_word l w t e =
     elim (chosen (list_any is_digit (take 1 w)) _ _ (Found t) e) [
       | inl p ↦ digits_word (number_of w) t p.1
-      | inr p ↦ letters_word w (keyword_of w) t p.1
+      | inr p ↦ letters_word w (keyword_in l w) t p.1
     ]
 
 -- a sign's byte is of no word, no blank and no slash
@@ -347,31 +349,31 @@ same_sign_of false b s near e =
     far : (r : Sign) → ◌≡◌ {A = Option Sign} (Some r) (Some s) → is_near (sign r) ≡ false → ⊥
     far r same not_near = (let is : r ≡ s = cc in let q : false ≡ true = sym not_near ∙ ap (λ (x : Sign). is_near (sign x)) is ∙ near refl in cc)
 
-spelled_here : (scan : Scan) (t : Token) (w rest : List ℕ) → (scan.offsets ≡ false → is_near t ≡ true) → IsSpelling t w → (is_a_word t ≡ true → Stops rest) →
+spelled_here : (scan : Scan) → scan.language ≡ Phasers → (t : Token) (w rest : List ℕ) → (scan.offsets ≡ false → is_near t ≡ true) → IsSpelling t w → (is_a_word t ≡ true → Stops rest) →
     token_here scan (after_gap (w ++ rest)) ≡ Ok (t, rest)
-spelled_here scan t w rest near (a_sign {s} {b} is) stops =
+spelled_here scan pl t w rest near (a_sign {s} {b} is) stops =
     let h = sign_byte b s is in
     let at = scan.total - length (b ∷ rest) in
     ap (token_here scan) (stays b rest h.1 h.2)
-    ∙ ap (λ v. cond v (placed at (word_token (word_of (b ∷ rest))) (after_word (b ∷ rest))) (placed at (sign_token (sign_of scan.offsets b)) rest)) h.0
+    ∙ ap (λ v. cond v (placed at (word_token scan.language (word_of (b ∷ rest))) (after_word (b ∷ rest))) (placed at (sign_token (sign_of scan.offsets b)) rest)) h.0
     ∙ ap (λ o. placed at (sign_token o) rest) (same_sign_of scan.offsets b s near is)
-spelled_here scan t w rest near (a_word {b = b} {bs = bs} all is) stops =
+spelled_here scan pl t w rest near (a_word {b = b} {bs = bs} all is) stops =
     let first = (and_is (is_word_byte b) (list_all is_word_byte bs) all).0 in
     let whole = b ∷ (bs ++ rest) in
     let at = scan.total - length whole in
-    let run : length (b ∷ bs) ≡ prefix_len is_word_byte whole = sym (word_run (b ∷ bs) rest all (stops (word_is_word (b ∷ bs) t is))) in
+    let run : length (b ∷ bs) ≡ prefix_len is_word_byte whole = sym (word_run (b ∷ bs) rest all (stops (word_is_word Phasers (b ∷ bs) t is))) in
     ap (token_here scan) (stays b (bs ++ rest) (word_no_blank b first) (word_no_slash b first))
-    ∙ ap (λ v. cond v (placed at (word_token (word_of whole)) (after_word whole)) (placed at (sign_token (sign_of scan.offsets b)) (bs ++ rest))) first
-    ∙ ap (λ (u : List ℕ). placed at (word_token u) (after_word whole)) (take_at (b ∷ bs) rest (prefix_len is_word_byte whole) run)
-    ∙ ap (λ (u : List ℕ). placed at (word_token (b ∷ bs)) u) (drop_at (b ∷ bs) rest (prefix_len is_word_byte whole) run)
+    ∙ ap (λ v. cond v (placed at (word_token scan.language (word_of whole)) (after_word whole)) (placed at (sign_token (sign_of scan.offsets b)) (bs ++ rest))) first
+    ∙ ap (λ (u : List ℕ). placed at (word_token scan.language u) (after_word whole)) (take_at (b ∷ bs) rest (prefix_len is_word_byte whole) run)
+    ∙ ap (λ (u : List ℕ). placed at (word_token scan.language (b ∷ bs)) u) (drop_at (b ∷ bs) rest (prefix_len is_word_byte whole) run)
+    ∙ ap (λ (l : Language). placed at (word_token l (b ∷ bs)) rest) pl
     ∙ ap (λ (u : Result Token ℕ). placed at u rest) is
 
-spelled_front :
-    (scan : Scan) (t : Token) (gap w rest : List ℕ) → (scan.offsets ≡ false → is_near t ≡ true) → IsGap false gap → IsSpelling t w → (is_a_word t ≡ true → Stops rest) →
+spelled_front : (scan : Scan) → scan.language ≡ Phasers → (t : Token) (gap w rest : List ℕ) → (scan.offsets ≡ false → is_near t ≡ true) → IsGap false gap → IsSpelling t w → (is_a_word t ≡ true → Stops rest) →
     front scan (gap ++ (w ++ rest)) ≡ Ok (t, rest)
 unfolding front
-spelled_front scan t gap w rest near is_gap spelled stops =
-    ap (token_here scan) (behind_gap gap (w ++ rest) is_gap) ∙ spelled_here scan t w rest near spelled stops
+spelled_front scan pl t gap w rest near is_gap spelled stops =
+    ap (token_here scan) (behind_gap gap (w ++ rest) is_gap) ∙ spelled_here scan pl t w rest near spelled stops
 
 end_front : (scan : Scan) (text : List ℕ) → IsGap true text → front scan text ≡ Ok (the_end, [])
 unfolding front
@@ -386,7 +388,7 @@ gap_stops at_end gap rest (left_open text e begins free) stops = refl
 
 sign_stops : (t : Token) (w rest : List ℕ) → IsSpelling t w → (is_a_word t ≡ true → ⊥) → Stops (w ++ rest)
 sign_stops t w rest (a_sign {s} {b} is) other = (sign_byte b s is).0
-sign_stops t w rest (a_word {b = b} {bs = bs} all is) other = absurd (other (word_is_word (b ∷ bs) t is))
+sign_stops t w rest (a_word {b = b} {bs = bs} all is) other = absurd (other (word_is_word Phasers (b ∷ bs) t is))
 
 spaced_stops : (ts : List Token) (text : List ℕ) → IsSpaced true ts text → Stops text
 spaced_stops [] text h = subst Stops (append-nil text) (gap_stops true text [] h (λ e. tt))
@@ -400,28 +402,26 @@ after_tokens behind [] = behind
 after_tokens behind (t ∷ ts) = after_tokens (is_a_word t) ts
 
 -- tokens that are spaced before others are read, and the others are spaced in what is left
-spaced_part :
-    (scan : Scan) (ts us : List Token) (behind : Bool) (text : List ℕ) → (scan.offsets ≡ false → list_all is_near ts ≡ true) →
+spaced_part : (scan : Scan) → scan.language ≡ Phasers → (ts us : List Token) (behind : Bool) (text : List ℕ) → (scan.offsets ≡ false → list_all is_near ts ≡ true) →
     IsSpaced behind (ts ++ us) text → (mid : List ℕ) × Leads scan text ts mid × IsSpaced (after_tokens behind ts) us mid
-spaced_part scan [] us behind text near h = (text, refl, h)
-spaced_part scan (t ∷ ts) us behind text near h =
-    let rest = spaced_part scan ts us (is_a_word t) h.2 (λ off. (and_is (is_near t) (list_all is_near ts) (near off)).1) h.7 in (
+spaced_part scan pl [] us behind text near h = (text, refl, h)
+spaced_part scan pl (t ∷ ts) us behind text near h =
+    let rest = spaced_part scan pl ts us (is_a_word t) h.2 (λ off. (and_is (is_near t) (list_all is_near ts) (near off)).1) h.7 in (
       rest.0,
       (
         h.2,
         ap (front scan) h.3
-            ∙ spelled_front scan t h.0 h.1 h.2 (λ off. (and_is (is_near t) (list_all is_near ts) (near off)).0) h.4 h.5
+            ∙ spelled_front scan pl t h.0 h.1 h.2 (λ off. (and_is (is_near t) (list_all is_near ts) (near off)).0) h.4 h.5
             (λ is. spaced_stops (ts ++ us) h.2 (subst (λ v. IsSpaced v (ts ++ us) h.2) is h.7)),
         rest.1,
       ),
       rest.2,
     )
 
-spaced_leads :
-    (scan : Scan) (ts : List Token) (behind : Bool) (text : List ℕ) → (scan.offsets ≡ false → list_all is_near ts ≡ true) → IsSpaced behind ts text →
+spaced_leads : (scan : Scan) → scan.language ≡ Phasers → (ts : List Token) (behind : Bool) (text : List ℕ) → (scan.offsets ≡ false → list_all is_near ts ≡ true) → IsSpaced behind ts text →
     Leads scan text (ts ++ the_end ∷ []) []
-spaced_leads scan ts behind text near h =
-    let all = spaced_part scan ts [] behind text near (subst (λ (x : List Token). IsSpaced behind x text) (sym (append-nil ts)) h) in
+spaced_leads scan pl ts behind text near h =
+    let all = spaced_part scan pl ts [] behind text near (subst (λ (x : List Token). IsSpaced behind x text) (sym (append-nil ts)) h) in
     Leads-append scan text ts all.0 (the_end ∷ []) [] all.1 ([], end_front scan all.0 all.2, refl)
 
 plain_near : (s : Plain) (rest : List Token) → PlainIsHere s → list_all is_near rest ≡ true → list_all is_near (plain_tokens s rest) ≡ true
@@ -518,19 +518,19 @@ sign_spelled offsets (Some s) b bs mid t is e rest =
       no_stop = λ yes stops. false≢true (sym no ∙ yes);
     }
 
-spelled_at : (scan : Scan) (b : ℕ) (bs mid : List ℕ) (t : Token) → token_here scan (b ∷ bs) ≡ Ok (t, mid) → Spelled t (b ∷ bs) mid
-spelled_at scan b bs mid t e =
+spelled_at : (scan : Scan) → scan.language ≡ Phasers → (b : ℕ) (bs mid : List ℕ) (t : Token) → token_here scan (b ∷ bs) ≡ Ok (t, mid) → Spelled t (b ∷ bs) mid
+spelled_at scan pl b bs mid t e =
     let text : List ℕ = b ∷ bs in
     elim (chosen (is_word_byte b) _ _ _ e) [
       | inl p ↦
-          let f = was_found _ (word_token (word_of text)) (after_word text) t mid p.1 in
+          let f = was_found _ (word_token scan.language (word_of text)) (after_word text) t mid p.1 in
           let run = run_is bs in
           record {
             spelling = b ∷ word_of bs;
             here =
                 ap (λ z. b ∷ z) (sym (take-append-drop (prefix_len is_word_byte bs) bs)) ∙ ap (λ z. b ∷ (word_of bs ++ z)) (sym (rest_cons b bs p.0) ∙ f.1);
             spelled =
-                a_word (ap (λ v. v && list_all is_word_byte (word_of bs)) p.0 ∙ run.1) (ap word_token (sym (word_cons b bs p.0)) ∙ f.0);
+                a_word (ap (λ v. v && list_all is_word_byte (word_of bs)) p.0 ∙ run.1) (ap (λ (l : Language). word_token l (b ∷ word_of bs)) (sym pl) ∙ ap (word_token scan.language) (sym (word_cons b bs p.0)) ∙ f.0);
             stops = λ yes. subst Stops (sym (rest_cons b bs p.0) ∙ f.1) run.0;
             no_stop = λ yes stops. false≢true (sym stops ∙ p.0);
           }
@@ -540,7 +540,7 @@ spelled_at scan b bs mid t e =
 no_end_at : (scan : Scan) (b : ℕ) (bs mid : List ℕ) → token_here scan (b ∷ bs) ≡ Ok (the_end, mid) → ⊥
 no_end_at scan b bs mid e =
     elim (chosen (is_word_byte b) _ _ _ e) [
-      | inl p ↦ false≢true (word_is_word (word_of (b ∷ bs)) the_end (was_found _ (word_token (word_of (b ∷ bs))) (after_word (b ∷ bs)) the_end mid p.1).0)
+      | inl p ↦ false≢true (word_is_word scan.language (word_of (b ∷ bs)) the_end (was_found _ (word_token scan.language (word_of (b ∷ bs))) (after_word (b ∷ bs)) the_end mid p.1).0)
       | inr p ↦ no_sign (sign_of scan.offsets b) (was_found _ (sign_token (sign_of scan.offsets b)) bs the_end mid p.1).0
     ]
   where
@@ -556,18 +556,17 @@ record Placed (t : Token) (text mid : List ℕ) : Type 0 where
   there : text ≡ gap ++ left
   spelled : Spelled t left mid
 
-placed_by :
-    (scan : Scan) (text mid left : List ℕ) (t : Token) → is_real t ≡ true → Split text → after_gap text ≡ left → token_here scan left ≡ Ok (t, mid) →
+placed_by : (scan : Scan) → scan.language ≡ Phasers → (text mid left : List ℕ) (t : Token) → is_real t ≡ true → Split text → after_gap text ≡ left → token_here scan left ≡ Ok (t, mid) →
     Placed t text mid
-placed_by scan text mid [] t real split is e =
+placed_by scan pl text mid [] t real split is e =
     absurd (let same : the_end ≡ t = (ok_pair (the_end, []) (t, mid) e).0 in false≢true (ap is_real same ∙ real))
-placed_by scan text mid (b ∷ bs) t real (inr s) is e = absurd (let no = sym is ∙ s.1 in cc)
-placed_by scan text mid (b ∷ bs) t real (inl s) is e =
-    record { gap = s.0; left = b ∷ bs; is_gap = s.1; there = s.2 ∙ ap (λ z. s.0 ++ z) is; spelled = spelled_at scan b bs mid t e }
+placed_by scan pl text mid (b ∷ bs) t real (inr s) is e = absurd (let no = sym is ∙ s.1 in cc)
+placed_by scan pl text mid (b ∷ bs) t real (inl s) is e =
+    record { gap = s.0; left = b ∷ bs; is_gap = s.1; there = s.2 ∙ ap (λ z. s.0 ++ z) is; spelled = spelled_at scan pl b bs mid t e }
 
-placed_in : (scan : Scan) (text mid : List ℕ) (t : Token) → is_real t ≡ true → front scan text ≡ Ok (t, mid) → Placed t text mid
+placed_in : (scan : Scan) → scan.language ≡ Phasers → (text mid : List ℕ) (t : Token) → is_real t ≡ true → front scan text ≡ Ok (t, mid) → Placed t text mid
 unfolding front
-placed_in scan text mid t real e = placed_by scan text mid (after_gap text) t real (both_split text).0 refl e
+placed_in scan pl text mid t real e = placed_by scan pl text mid (after_gap text) t real (both_split text).0 refl e
 
 end_by : (scan : Scan) (text mid left : List ℕ) → Split text → after_gap text ≡ left → token_here scan left ≡ Ok (the_end, mid) → IsGap true text
 end_by scan text mid (b ∷ bs) split is e = absurd (no_end_at scan b bs mid e)
@@ -579,14 +578,13 @@ unfolding front
 end_in scan text mid e = end_by scan text mid (after_gap text) (both_split text).0 refl e
 
 -- tokens that are read are spaced before what is left
-leads_before :
-    (scan : Scan) (ts us : List Token) (behind : Bool) (text mid : List ℕ) → list_all is_real ts ≡ true → (behind ≡ true → Stops text) →
+leads_before : (scan : Scan) → scan.language ≡ Phasers → (ts us : List Token) (behind : Bool) (text mid : List ℕ) → list_all is_real ts ≡ true → (behind ≡ true → Stops text) →
     Leads scan text ts mid → ((after_tokens behind ts ≡ true → Stops mid) → IsSpaced (after_tokens behind ts) us mid) → IsSpaced behind (ts ++ us) text
-leads_before scan [] us behind text mid real stops h rest =
+leads_before scan pl [] us behind text mid real stops h rest =
     subst (λ (m : List ℕ). IsSpaced behind us m) (sym h) (rest (λ is. subst Stops h (stops is)))
-leads_before scan (t ∷ ts) us behind text mid real stops h rest =
+leads_before scan pl (t ∷ ts) us behind text mid real stops h rest =
     let all = and_is (is_real t) (list_all is_real ts) real in
-    let at = placed_in scan text h.0 t all.0 h.1 in
+    let at = placed_in scan pl text h.0 t all.0 h.1 in
     let sp = at.spelled in (
       at.gap,
       sp.spelling,
@@ -595,40 +593,39 @@ leads_before scan (t ∷ ts) us behind text mid real stops h rest =
       at.is_gap,
       sp.spelled,
       λ word_before is none. sp.no_stop is (subst Stops (at.there ∙ ap (λ z. z ++ at.left) none) (stops word_before)),
-      leads_before scan ts us (is_a_word t) h.0 mid all.1 sp.stops h.2 rest,
+      leads_before scan pl ts us (is_a_word t) h.0 mid all.1 sp.stops h.2 rest,
     )
 
 -- the last ones up to the end
-leads_spaced :
-    (scan : Scan) (ts : List Token) (behind : Bool) (text : List ℕ) → list_all is_real ts ≡ true → (behind ≡ true → Stops text) →
+leads_spaced : (scan : Scan) → scan.language ≡ Phasers → (ts : List Token) (behind : Bool) (text : List ℕ) → list_all is_real ts ≡ true → (behind ≡ true → Stops text) →
     Leads scan text (ts ++ the_end ∷ []) [] → IsSpaced behind ts text
-leads_spaced scan ts behind text real stops h =
+leads_spaced scan pl ts behind text real stops h =
     let parts = Leads-split scan text ts (the_end ∷ []) [] h in
     subst (λ (x : List Token). IsSpaced behind x text) (append-nil ts)
-    (leads_before scan ts [] behind text parts.0 real stops parts.1 (λ no. end_in scan parts.0 parts.2.0 parts.2.1))
+    (leads_before scan pl ts [] behind text parts.0 real stops parts.1 (λ no. end_in scan parts.0 parts.2.0 parts.2.1))
 
 -- ---- the two forms
 
 form_spaced : (two : Bool) (text : List ℕ) (p : Tree) → ReadsTokens two text (sentence p) [] → IsSpaced false (all_tokens (record { two = two; body = p })) text
 form_spaced false text p h =
-    leads_spaced (scan_of false text) (tokens p []) false text (all_real p [] refl) (λ e. absurd (false≢true e))
+    leads_spaced (scan_of false text) refl (tokens p []) false text (all_real p [] refl) (λ e. absurd (false≢true e))
     (subst (λ ts. Leads (scan_of false text) text ts []) (tokens_append p [] (the_end ∷ [])) h)
 form_spaced true text p h =
-    leads_before (scan_of false text) header (tokens p []) false text h.0 refl (λ e. absurd (false≢true e)) h.1
-    (λ stops. leads_spaced (scan_of true text) (tokens p []) false h.0 (all_real p [] refl) (λ e. absurd (false≢true e))
+    leads_before (scan_of false text) refl header (tokens p []) false text h.0 refl (λ e. absurd (false≢true e)) h.1
+    (λ stops. leads_spaced (scan_of true text) refl (tokens p []) false h.0 (all_real p [] refl) (λ e. absurd (false≢true e))
     (subst (λ ts. Leads (scan_of true text) h.0 ts []) (tokens_append p [] (the_end ∷ [])) h.2))
 
 spaced_form : (two : Bool) (text : List ℕ) (p : Tree) → (two ≡ false → AllHere p) → IsSpaced false (all_tokens (record { two = two; body = p })) text →
     ReadsTokens two text (sentence p) []
 spaced_form false text p here h =
     subst (λ ts. Leads (scan_of false text) text ts []) (sym (tokens_append p [] (the_end ∷ [])))
-    (spaced_leads (scan_of false text) (tokens p []) false text (λ off. all_near p [] (here refl) refl) h)
+    (spaced_leads (scan_of false text) refl (tokens p []) false text (λ off. all_near p [] (here refl) refl) h)
 spaced_form true text p here h =
-    let head = spaced_part (scan_of false text) header (tokens p []) false text (λ off. refl) h in (
+    let head = spaced_part (scan_of false text) refl header (tokens p []) false text (λ off. refl) h in (
       head.0,
       head.1,
       subst (λ ts. Leads (scan_of true text) head.0 ts []) (sym (tokens_append p [] (the_end ∷ [])))
-          (spaced_leads (scan_of true text) (tokens p []) false head.0 (λ off. absurd (false≢true (sym off))) head.2),
+          (spaced_leads (scan_of true text) refl (tokens p []) false head.0 (λ off. absurd (false≢true (sym off))) head.2),
     )
 
 pub texts_are_spaced : TextsAreSpaced

@@ -464,4 +464,10 @@ module _ (scan : Scan) where
     statement_err d (sign Minus) before text f le lt here goes e = wrong (sign Minus) d before text f le here refl e
     statement_err d (word k.NewTid) before text f le lt here goes e = wrong (word k.NewTid) d before text f le here refl e
     statement_err d (word k.NewPhaser) before text f le lt here goes e = wrong (word k.NewPhaser) d before text f le here refl e
+    statement_err d (word k.Clock) before text f le lt here goes e = wrong (word k.Clock) d before text f le here refl e
+    statement_err d (word k.Async) before text f le lt here goes e = wrong (word k.Async) d before text f le here refl e
+    statement_err d (word k.Finish) before text f le lt here goes e = wrong (word k.Finish) d before text f le here refl e
+    statement_err d (word k.Advance) before text f le lt here goes e = wrong (word k.Advance) d before text f le here refl e
+    statement_err d (word k.Resume) before text f le lt here goes e = wrong (word k.Resume) d before text f le here refl e
+    statement_err d (word k.Drop) before text f le lt here goes e = wrong (word k.Drop) d before text f le here refl e
     statement_err d (number n) before text f le lt here goes e = wrong (number n) d before text f le here refl e

@@ -240,7 +240,7 @@ begins_one false ts b = inl b
 -- where the machine is stuck behind a start, there is a fault from it on
 stuck_here : (scan : Scan) (text : List ℕ) (f : SyntaxFault) (s : Stuck scan [] 0 text f)
     → ((t : Token) (rest : List ℕ) → front scan s.left ≡ Ok (t, rest) → step (at s.shapes s.deep) t ≡ None → Begins scan.offsets (s.before ++ t ∷ []) → ⊥)
-    → IsAtFault s.before scan s.left f
+    → IsAtFault (Begins scan.offsets) s.before scan s.left f
 stuck_here scan text f s stops = elim s.here [
   | inl e ↦ no_token (record { here = e })
   | inr (inl r) ↦ cannot_stand (record { token = r.token; rest = r.rest; here = r.here; stands_not = stops r.token r.rest r.here r.no_step; fault_is = r.fault_is })
@@ -380,7 +380,7 @@ module _ (text : List ℕ) (f : SyntaxFault) where
   }
 
   at_third : (x y : Token × List ℕ) → front (scan_of false text) text ≡ Ok x → is_pl x.0 ≡ true → front (scan_of false text) x.1 ≡ Ok y → is_two y.0 ≡ true
-      → IsAtFault (name (codes "pl") ∷ number 2 ∷ []) (scan_of false text) y.1 f → HasFault text f
+      → IsAtFault (Begins false) (name (codes "pl") ∷ number 2 ∷ []) (scan_of false text) y.1 f → HasFault text f
   at_third x y first pl second two here = record {
     two = false;
     before = name (codes "pl") ∷ number 2 ∷ [];
@@ -391,7 +391,7 @@ module _ (text : List ℕ) (f : SyntaxFault) where
     here = here;
   }
 
-  at_semicolon : (left : List ℕ) → sign_at (scan_of false text) Semicolon left ≡ Err f → IsAtFault (name (codes "pl") ∷ number 2 ∷ []) (scan_of false text) left f
+  at_semicolon : (left : List ℕ) → sign_at (scan_of false text) Semicolon left ≡ Err f → IsAtFault (Begins false) (name (codes "pl") ∷ number 2 ∷ []) (scan_of false text) left f
   unfolding sign_at
   at_semicolon left e =
       elim (bind_err (front (scan_of false text) left) (λ x. sign_in (scan_of false text) Semicolon left x.0 x.1) f e) [

@@ -1,17 +1,17 @@
 -- A text has one tree or one first fault, and not both.
-use Rattle.std.proofs.Common.{Bool, ◌≡◌, ℕ, ◌+◌, ◌≤◌, true, false, List, [], ◌∷◌, ◌++◌, Some, None, Result, Ok, Err, refl, sym, ap, subst, ◌∙◌, append_assoc, arith, ◌⊎◌, inl, inr}
+use Rattle.std.proofs.Common.{Bool, ◌≡◌, ℕ, ◌≤◌, true, false, List, [], ◌∷◌, ◌++◌, Some, None, refl, sym, ap, subst, ◌∙◌, append_assoc, arith, ◌⊎◌, inl, inr}
 use Rattle.pl_syntax.specs.declared.scan.Scan.{Scan}
 use Rattle.pl_syntax.specs.declared.limits.TheConstants.{MAX_OPEN_BRACES}
 use Rattle.armus_base.specs.declared.offset.Offset.TheVariants.{Ahead, Back, Here}
 use Rattle.pl_syntax.specs.declared.tree.Program.{Program}
 use Rattle.pl_syntax.specs.declared.token.Keyword.TheVariants as k
-use Rattle.pl_syntax.specs.declared.token.Sign.TheVariants.{OpenBrace, CloseBrace}
+use Rattle.pl_syntax.specs.declared.token.Sign.TheVariants.{CloseBrace}
 use Rattle.pl_syntax.specs.declared.fault.SyntaxFault.{SyntaxFault}
-use Rattle.pl_syntax.specs.Tokens.{Token, the_end, sign, word, name, front, Leads}
+use Rattle.pl_syntax.specs.Tokens.{Token, the_end, sign, word, name, Leads}
 use Rattle.pl_syntax.specs.Tree.{Tree, done, plain, fork, loop, Plain, new_task, new_phaser, reg, dereg, adv, await, skip, height}
-use Rattle.pl_syntax.specs.Grammar.{ReadsTokens, header, scan_of, tokens, plain_tokens, sentence, opened, open_after, StaysShallow, IsText, HasFault, Begins, IsAtFault, no_token, cannot_stand, too_deep}
+use Rattle.pl_syntax.specs.Grammar.{ReadsTokens, header, scan_of, tokens, plain_tokens, sentence, StaysShallow, IsText, HasFault, Begins, IsFirstFault, IsAtFault}
 use Rattle.pl_syntax.specs.inside.Reading.{ends_list}
-use Rattle.pl_syntax.proofs.Fronts.{ok_pair}
+use Rattle.pl_syntax.proofs.FirstFaults.{one_from, one_stretch, no_fault}
 use Rattle.pl_syntax.proofs.Machine.{at, run, run-append, run_sentence}
 use Rattle.pl_syntax.proofs.Forest.{runs_if}
 use Rattle.pl_syntax.proofs.Statements.{stays}
@@ -101,62 +101,10 @@ tree_one (loop n i p) (loop m j q) us vs a b e =
     let o = tree_one p q us vs a b outer in
     ((let g = h.0 in let w = o.0 in cc), o.1)
 
--- ---- readings of one text
-
--- two readings of one text are one, or one is the other and more
-abbrev Longer : Scan → List Token → List ℕ → List Token → List ℕ → Type 0
-Longer scan ts rest us end = (t : Token) × (vs : List Token) × (us ≡ ts ++ t ∷ vs) × Leads scan rest (t ∷ vs) end
-
-abbrev Compared : Scan → List Token → List ℕ → List Token → List ℕ → Type 0
-Compared scan ts rest us end = ((ts ≡ us) × (rest ≡ end)) ⊎ (Longer scan ts rest us end ⊎ Longer scan us end ts rest)
-
-more : (scan : Scan) (t : Token) (ts : List Token) (rest : List ℕ) (us : List Token) (end : List ℕ) → Compared scan ts rest us end → Compared scan (t ∷ ts) rest (t ∷ us) end
-more scan t ts rest us end (inl e) = inl (ap (λ (x : List Token). t ∷ x) e.0, e.1)
-more scan t ts rest us end (inr (inl l)) = inr (inl (l.0, l.1, ap (λ (x : List Token). t ∷ x) l.2, l.3))
-more scan t ts rest us end (inr (inr l)) = inr (inr (l.0, l.1, ap (λ (x : List Token). t ∷ x) l.2, l.3))
-
-compare : (scan : Scan) (text : List ℕ) (ts : List Token) (rest : List ℕ) (us : List Token) (end : List ℕ) → Leads scan text ts rest → Leads scan text us end →
-    Compared scan ts rest us end
-compare scan text [] rest [] end p q = inl (refl, sym p ∙ q)
-compare scan text [] rest (u ∷ us) end p q = inr (inl (u, us, refl, subst (λ (x : List ℕ). Leads scan x (u ∷ us) end) p q))
-compare scan text (t ∷ ts) rest [] end p q = inr (inr (t, ts, refl, subst (λ (x : List ℕ). Leads scan x (t ∷ ts) rest) q p))
-compare scan text (t ∷ ts) rest (u ∷ us) end p q =
-    let h = ok_pair (t, p.0) (u, q.0) (sym p.1 ∙ q.1) in
-    let c = compare scan p.0 ts rest us end p.2 (subst (λ (x : List ℕ). Leads scan x us end) (sym h.1) q.2) in
-    subst (λ (x : Token). Compared scan (t ∷ ts) rest (x ∷ us) end) h.0 (more scan t ts rest us end c)
-
--- ---- a fault stops every reading
-
-shallow_rest : (n : ℕ) (ts us : List Token) → StaysShallow n (ts ++ us) → StaysShallow (open_after n ts) us
-shallow_rest n [] us h = h
-shallow_rest n (t ∷ ts) us h = shallow_rest (opened t n) ts us h.1
-
-shallow_now : (n : ℕ) (ts : List Token) → StaysShallow n ts → n ≤ MAX_OPEN_BRACES
-shallow_now n [] h = h
-shallow_now n (t ∷ ts) h = h.0
-
 begins_front : (two : Bool) (ts us : List Token) → Begins two (ts ++ us) → Begins two ts
 begins_front true ts us b = (b.0, us ++ b.1, sym (append_assoc ts us b.1) ∙ b.2)
 begins_front false ts us (inl b) = inl (b.0, us ++ b.1, sym (append_assoc ts us b.1) ∙ b.2)
 begins_front false ts us (inr b) = inr (us ++ b.0, sym (append_assoc ts us b.0) ∙ b.1)
-
--- no reading goes past a fault
-stops_all : (scan : Scan) (before : List Token) (text : List ℕ) (f : SyntaxFault) (t : Token) (mid : List ℕ) (vs : List Token) → IsAtFault before scan text f
-    → front scan text ≡ Ok (t, mid) → Begins scan.offsets (before ++ t ∷ []) → StaysShallow 0 (before ++ t ∷ vs) → ⊥
-stops_all scan before text f t mid vs (no_token a) here b s = let h = a.here in let q : ◌≡◌ {A = Result (Token × List ℕ) SyntaxFault} (Err f) (Ok (t, mid)) = sym h ∙ here in cc
-stops_all scan before text f t mid vs (cannot_stand a) here b s =
-    let h = ok_pair (a.token, a.rest) (t, mid) (sym a.here ∙ here) in
-    a.stands_not (subst (λ (x : Token). Begins scan.offsets (before ++ x ∷ [])) (sym h.0) b)
-stops_all scan before text f t mid vs (too_deep a) here b s =
-    let h = ok_pair (sign OpenBrace, a.rest) (t, mid) (sym a.here ∙ here) in
-    let r = shallow_rest 0 before (t ∷ vs) s in
-    let g = shallow_now (opened t (open_after 0 before)) vs r.1 in
-    let o : opened t (open_after 0 before) ≡ open_after 0 before + 1 = ap (λ (x : Token). opened x (open_after 0 before)) (sym h.0) in
-    let full = a.full in
-    omega arith
-
-one_token : (two : Bool) (before : List Token) (t : Token) (vs : List Token) → Begins two (before ++ t ∷ vs) → Begins two (before ++ t ∷ [])
-one_token two before t vs b = begins_front two (before ++ t ∷ []) vs (subst (Begins two) (sym (append_assoc before (t ∷ []) vs)) b)
 
 -- ---- whole stretches of a text
 
@@ -200,61 +148,16 @@ whole_begins false us (statements two p) = inl (p, [], append-nil (sentence p))
 whole_begins false us a_header = inr ([], refl)
 
 -- two whole stretches from one start are one
-one_stretch : (scan : Scan) (text : List ℕ) (us : List Token) (end : List ℕ) (vs : List Token) (end' : List ℕ) → Whole scan.offsets us → Whole scan.offsets vs
-    → Leads scan text us end → Leads scan text vs end' → (us ≡ vs) × (end ≡ end')
-one_stretch scan text us end vs end' a b p q = elim (compare scan text us end vs end' p q) [
-  | inl e ↦ e
-  | inr (inl l) ↦ absurd (end_only scan.offsets us a l.0 l.1 (subst (Begins scan.offsets) l.2 (whole_begins scan.offsets vs b)))
-  | inr (inr l) ↦ absurd (end_only scan.offsets vs b l.0 l.1 (subst (Begins scan.offsets) l.2 (whole_begins scan.offsets us a)))
-]
-
--- ---- a fault, from a start on
-record From (scan : Scan) (start : List ℕ) (f : SyntaxFault) : Type 0 where
-  pub before : List Token
-  pub left : List ℕ
-  pub reads : Leads scan start before left
-  pub goes_on : (t : Token) × Begins scan.offsets (before ++ t ∷ [])
-  pub shallow : StaysShallow 0 before
-  pub here : IsAtFault before scan left f
-
-began : (scan : Scan) (start : List ℕ) (f : SyntaxFault) (b : From scan start f) → Begins scan.offsets b.before
-began scan start f b = begins_front scan.offsets b.before (b.goes_on.0 ∷ []) b.goes_on.1
+stretch :
+    (two : Bool) (scan : Scan) (text : List ℕ) (us : List Token) (end : List ℕ) (vs : List Token) (end' : List ℕ) → Whole two us → Whole two vs →
+    Leads scan text us end → Leads scan text vs end' → (us ≡ vs) × (end ≡ end')
+stretch two = one_stretch (Begins two) (begins_front two) (Whole two) (end_only two) (whole_begins two)
 
 -- no whole stretch has a fault
-no_fault : (scan : Scan) (start : List ℕ) (us : List Token) (end : List ℕ) (f : SyntaxFault) → Whole scan.offsets us → StaysShallow 0 us → Leads scan start us end
-    → From scan start f → ⊥
-no_fault scan start us end f whole shallow reads b = elim (compare scan start b.before b.left us end b.reads reads) [
-  | inl e ↦ end_only scan.offsets us whole b.goes_on.0 [] (subst (λ (x : List Token). Begins scan.offsets (x ++ b.goes_on.0 ∷ [])) e.0 b.goes_on.1)
-  | inr (inl l) ↦ stops_all scan b.before b.left f l.0 l.3.0 l.1 b.here l.3.1
-      (one_token scan.offsets b.before l.0 l.1 (subst (Begins scan.offsets) l.2 (whole_begins scan.offsets us whole))) (subst (StaysShallow 0) l.2 shallow)
-  | inr (inr l) ↦ end_only scan.offsets us whole l.0 l.1 (subst (Begins scan.offsets) l.2 (began scan start f b))
-]
-
-same_fault : (scan : Scan) (before : List Token) (text : List ℕ) (f g : SyntaxFault) → IsAtFault before scan text f → IsAtFault before scan text g → f ≡ g
-same_fault scan before text f g (no_token a) (no_token b) = let x = a.here in let y = b.here in
-    let q : ◌≡◌ {A = Result (Token × List ℕ) SyntaxFault} (Err f) (Err g) = sym x ∙ y in cc
-same_fault scan before text f g (no_token a) (cannot_stand b) = absurd (let q : Err f ≡ Ok (b.token, b.rest) = sym a.here ∙ b.here in cc)
-same_fault scan before text f g (no_token a) (too_deep b) = absurd (let q : Err f ≡ Ok (sign OpenBrace, b.rest) = sym a.here ∙ b.here in cc)
-same_fault scan before text f g (cannot_stand a) (no_token b) = absurd (let q : Err g ≡ Ok (a.token, a.rest) = sym b.here ∙ a.here in cc)
-same_fault scan before text f g (too_deep a) (no_token b) = absurd (let q : Err g ≡ Ok (sign OpenBrace, a.rest) = sym b.here ∙ a.here in cc)
-same_fault scan before text f g (cannot_stand a) (cannot_stand b) = a.fault_is ∙ sym b.fault_is
-same_fault scan before text f g (too_deep a) (too_deep b) = a.fault_is ∙ sym b.fault_is
-same_fault scan before text f g (cannot_stand a) (too_deep b) =
-    absurd (a.stands_not (subst (λ (x : Token). Begins scan.offsets (before ++ x ∷ [])) (ok_pair (sign OpenBrace, b.rest) (a.token, a.rest) (sym b.here ∙ a.here)).0 b.stands))
-same_fault scan before text f g (too_deep a) (cannot_stand b) =
-    absurd (b.stands_not (subst (λ (x : Token). Begins scan.offsets (before ++ x ∷ [])) (ok_pair (sign OpenBrace, a.rest) (b.token, b.rest) (sym a.here ∙ b.here)).0 a.stands))
-
-goes_past : (scan : Scan) (before : List Token) (left : List ℕ) (f : SyntaxFault) (us : List Token) (end : List ℕ) → IsAtFault before scan left f → Longer scan before left us end
-    → Begins scan.offsets us → StaysShallow 0 us → ⊥
-goes_past scan before left f us end a l b s =
-    stops_all scan before left f l.0 l.3.0 l.1 a l.3.1 (one_token scan.offsets before l.0 l.1 (subst (Begins scan.offsets) l.2 b)) (subst (StaysShallow 0) l.2 s)
-
-one_from : (scan : Scan) (start : List ℕ) (f g : SyntaxFault) → From scan start f → From scan start g → f ≡ g
-one_from scan start f g a b = elim (compare scan start a.before a.left b.before b.left a.reads b.reads) [
-  | inl e ↦ same_fault scan b.before b.left f g (subst (λ (x : List Token). IsAtFault x scan b.left f) e.0 (subst (λ (x : List ℕ). IsAtFault a.before scan x f) e.1 a.here)) b.here
-  | inr (inl l) ↦ absurd (goes_past scan a.before a.left f b.before b.left a.here l (began scan start g b) b.shallow)
-  | inr (inr l) ↦ absurd (goes_past scan b.before b.left g a.before a.left b.here l (began scan start f a) a.shallow)
-]
+sound :
+    (two : Bool) (scan : Scan) (start : List ℕ) (us : List Token) (end : List ℕ) (f : SyntaxFault) → Whole two us → StaysShallow 0 us →
+    Leads scan start us end → IsFirstFault (Begins two) scan start f → ⊥
+sound two = no_fault (Begins two) (begins_front two) (Whole two) (end_only two) (whole_begins two)
 
 -- ---- texts and faults of the two forms
 
@@ -276,12 +179,12 @@ form_of text p a = go p.two refl (a.reads)
 
 -- how a fault is found
 abbrev Faulty : List ℕ → SyntaxFault → Type 0
-Faulty text f = From (scan_of false text) text f ⊎ ((mid : List ℕ) × Header text mid × From (scan_of true text) mid f)
+Faulty text f = IsFirstFault (Begins false) (scan_of false text) text f ⊎ ((mid : List ℕ) × Header text mid × IsFirstFault (Begins true) (scan_of true text) mid f)
 
 faulty : (text : List ℕ) (f : SyntaxFault) → HasFault text f → Faulty text f
 faulty text f b = go b.two b.reads b.goes_on b.here
   where
-    go : (two : Bool) → ReadsTokens two text b.before b.left → ((t : Token) × Begins two (b.before ++ t ∷ [])) → IsAtFault b.before (scan_of two text) b.left f → Faulty text f
+    go : (two : Bool) → ReadsTokens two text b.before b.left → ((t : Token) × Begins two (b.before ++ t ∷ [])) → IsAtFault (Begins two) b.before (scan_of two text) b.left f → Faulty text f
     go false reads goes_on here = inl (record { before = b.before; left = b.left; reads = reads; goes_on = goes_on; shallow = b.shallow; here = here })
     go true reads goes_on here =
         inr (reads.0, reads.1, record { before = b.before; left = b.left; reads = reads.2; goes_on = goes_on; shallow = b.shallow; here = here })
@@ -290,17 +193,17 @@ header_shallow : StaysShallow 0 header
 header_shallow = (omega arith, (omega arith, (omega arith, omega arith)))
 
 one_header : (text mid mid' : List ℕ) → Header text mid → Header text mid' → mid ≡ mid'
-one_header text mid mid' p q = (one_stretch (scan_of false text) text header mid header mid' a_header a_header p q).1
+one_header text mid mid' p q = (stretch false (scan_of false text) text header mid header mid' a_header a_header p q).1
 
 two_forms : (text mid : List ℕ) (p : Tree) → Header text mid → Leads (scan_of false text) text (sentence p) [] → ⊥
 two_forms text mid p h r =
-    let e = (one_stretch (scan_of false text) text header mid (sentence p) [] a_header (statements false p) h r).0 in
+    let e = (stretch false (scan_of false text) text header mid (sentence p) [] a_header (statements false p) h r).0 in
     no_header p [] [] (append-nil header ∙ e ∙ sym (append-nil (sentence p)))
 
 one_body : (scan : Scan) (text : List ℕ) (p q : Tree) → Leads scan text (sentence p) [] → Leads scan text (sentence q) [] → p ≡ q
 one_body scan text p q a b =
     (tree_one p q (the_end ∷ []) (the_end ∷ []) refl refl
-    (one_stretch scan text (sentence p) [] (sentence q) [] (statements scan.offsets p) (statements scan.offsets q) a b).0).0
+    (stretch true scan text (sentence p) [] (sentence q) [] (statements true p) (statements true q) a b).0).0
 
 -- ---- the three laws
 
@@ -329,12 +232,12 @@ shallow_sentence p h = stays p 0 (the_end ∷ []) (omega arith) (omega arith, om
 pub text_or_fault : (text : List ℕ) (p : Program) (f : SyntaxFault) → IsText text p → HasFault text f → ⊥
 text_or_fault text p f a b = elim (form_of text p a) [
   | inl x ↦ elim (faulty text f b) [
-    | inl y ↦ no_fault (scan_of false text) text (sentence p.body) [] f (statements false p.body) (shallow_sentence p.body a.shallow) x.1 y
+    | inl y ↦ sound false (scan_of false text) text (sentence p.body) [] f (statements false p.body) (shallow_sentence p.body a.shallow) x.1 y
     | inr y ↦ two_forms text y.0 p.body y.1 x.1
   ]
   | inr x ↦ elim (faulty text f b) [
-    | inl y ↦ no_fault (scan_of false text) text header x.1 f a_header header_shallow x.2 y
-    | inr y ↦ no_fault (scan_of true text) y.0 (sentence p.body) [] f (statements true p.body) (shallow_sentence p.body a.shallow)
+    | inl y ↦ sound false (scan_of false text) text header x.1 f a_header header_shallow x.2 y
+    | inr y ↦ sound true (scan_of true text) y.0 (sentence p.body) [] f (statements true p.body) (shallow_sentence p.body a.shallow)
         (subst (λ (m : List ℕ). Leads (scan_of true text) m (sentence p.body) []) (one_header text x.1 y.0 x.2 y.1) x.3) y.2
   ]
 ]
@@ -342,11 +245,11 @@ text_or_fault text p f a b = elim (form_of text p a) [
 pub one_fault : (text : List ℕ) (f g : SyntaxFault) → HasFault text f → HasFault text g → f ≡ g
 one_fault text f g a b = elim (faulty text f a) [
   | inl x ↦ elim (faulty text g b) [
-    | inl y ↦ one_from (scan_of false text) text f g x y
-    | inr y ↦ absurd (no_fault (scan_of false text) text header y.0 f a_header header_shallow y.1 x)
+    | inl y ↦ one_from (Begins false) (begins_front false) (scan_of false text) text f g x y
+    | inr y ↦ absurd (sound false (scan_of false text) text header y.0 f a_header header_shallow y.1 x)
   ]
   | inr x ↦ elim (faulty text g b) [
-    | inl y ↦ absurd (no_fault (scan_of false text) text header x.0 g a_header header_shallow x.1 y)
-    | inr y ↦ one_from (scan_of true text) y.0 f g (subst (λ (m : List ℕ). From (scan_of true text) m f) (one_header text x.0 y.0 x.1 y.1) x.2) y.2
+    | inl y ↦ absurd (sound false (scan_of false text) text header x.0 g a_header header_shallow x.1 y)
+    | inr y ↦ one_from (Begins true) (begins_front true) (scan_of true text) y.0 f g (subst (λ (m : List ℕ). IsFirstFault (Begins true) (scan_of true text) m f) (one_header text x.0 y.0 x.1 y.1) x.2) y.2
   ]
 ]

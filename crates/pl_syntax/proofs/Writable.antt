@@ -1,7 +1,9 @@
 -- The tree of a text can be printed: its names are names, and its numbers are numbers.
-use Rattle.std.proofs.Common.{cond, sym, ◌==◌, ◌∙◌, ◌≡◌, ℕ, ◌≤◌, ◌&&◌, Bool, true, false, List, [], ◌∷◌, length, take, Option, Some, None, Result, Ok, Err, refl, ap, arith, nat_le, inl, inr}
+use Rattle.std.proofs.Common.{cond, subst, sym, ◌==◌, ◌∙◌, ◌≡◌, ℕ, ◌≤◌, ◌&&◌, Bool, true, false, List, [], ◌∷◌, length, take, Option, Some, None, Result, Ok, Err, refl, ap, arith, nat_le, inl, inr}
 use Rattle.std.specs.List.{list_any, list_all}
 use Rattle.std.proofs.lemmas.Bool.Decides.{nat_tests}
+use Rattle.pl_syntax.specs.declared.scan.Language.{Language}
+use Rattle.pl_syntax.specs.declared.scan.Language.TheVariants.{Phasers}
 use Rattle.pl_syntax.specs.declared.scan.Scan.{Scan}
 use Rattle.pl_syntax.specs.declared.limits.TheConstants.{MAX_NAME_BYTES, MAX_DIGITS, MAX_NUMBER}
 use Rattle.pl_syntax.specs.declared.fault.TheConstants.{NO_TOKEN, NO_NUMBER, TOO_LONG}
@@ -10,7 +12,7 @@ use Rattle.pl_syntax.specs.declared.tree.Program.{Program}
 use Rattle.pl_syntax.specs.declared.token.Keyword.{Keyword}
 use Rattle.pl_syntax.specs.declared.token.Sign.{Sign}
 use Rattle.pl_syntax.specs.declared.token.Sign.TheVariants.{CloseBrace, Minus, Plus}
-use Rattle.pl_syntax.specs.Words.{is_word_byte, is_digit, keyword_of, has_name_form, has_no_leading_zero, is_number, number_of, value_from}
+use Rattle.pl_syntax.specs.Words.{IsName, IsNameIn, is_word_byte, is_digit, keyword_in, has_name_form, has_no_leading_zero, is_number, number_of, value_from}
 use Rattle.pl_syntax.specs.Tokens.{Token, the_end, sign, word, name, number, front, after_gap, token_here, word_token, letters_token, digits_token, sign_token, sign_of, word_of, Leads}
 use Rattle.pl_syntax.specs.Tree.{Tree, done, plain, fork, loop, Plain, new_task, new_phaser, reg, dereg, adv, await, skip, AllHere, PlainIsHere}
 use Rattle.pl_syntax.specs.Grammar.{tokens, plain_tokens, sentence, scan_of, ReadsTokens, IsText}
@@ -60,11 +62,11 @@ some_number w n e =
           grind (arith, nat_tests)
     ]
 
-number_of_word : (w : List ℕ) (n : ℕ) → word_token w ≡ Found (number n) → n ≤ MAX_NUMBER
-number_of_word w n e =
+number_of_word : (l : Language) (w : List ℕ) (n : ℕ) → word_token l w ≡ Found (number n) → n ≤ MAX_NUMBER
+number_of_word l w n e =
     elim (chosen (list_any is_digit (take 1 w)) _ _ (Found (number n)) e) [
       | inl p ↦ some_number w n (digits_number (number_of w) n p.1)
-      | inr p ↦ absurd (letters_no_number w (keyword_of w) n p.1)
+      | inr p ↦ absurd (letters_no_number w (keyword_in l w) n p.1)
     ]
 
 no_sign : (o : Option Sign) (n : ℕ) → sign_token o ≡ Found (number n) → ⊥
@@ -75,7 +77,7 @@ number_here : (scan : Scan) (text : List ℕ) (n : ℕ) (rest : List ℕ) → to
 number_here scan [] n rest e = let h : the_end ≡ number n = (ok_pair (the_end, []) (number n, rest) e).0 in absurd cc
 number_here scan (b ∷ bs) n rest e =
     elim (chosen (is_word_byte b) _ _ _ e) [
-      | inl p ↦ number_of_word (word_of (b ∷ bs)) n (was_found _ _ _ (number n) rest p.1).0
+      | inl p ↦ number_of_word scan.language (word_of (b ∷ bs)) n (was_found _ _ _ (number n) rest p.1).0
       | inr p ↦ absurd (no_sign (sign_of scan.offsets b) n (was_found _ _ _ (number n) rest p.1).0)
     ]
 
@@ -101,11 +103,11 @@ digits_no_sign : (o : Option ℕ) (s : Sign) → digits_token o ≡ Found (sign 
 digits_no_sign None s e = let q : Err NO_NUMBER ≡ Found (sign s) = e in cc
 digits_no_sign (Some m) s e = let q : Found (number m) ≡ Found (sign s) = e in cc
 
-word_no_sign : (w : List ℕ) (s : Sign) → word_token w ≡ Found (sign s) → ⊥
-word_no_sign w s e =
+word_no_sign : (l : Language) (w : List ℕ) (s : Sign) → word_token l w ≡ Found (sign s) → ⊥
+word_no_sign l w s e =
     elim (chosen (list_any is_digit (take 1 w)) _ _ (Found (sign s)) e) [
       | inl p ↦ digits_no_sign (number_of w) s p.1
-      | inr p ↦ letters_no_sign w (keyword_of w) s p.1
+      | inr p ↦ letters_no_sign w (keyword_in l w) s p.1
     ]
 
 -- + or -
@@ -132,7 +134,7 @@ near_here : (scan : Scan) (text : List ℕ) (s : Sign) (rest : List ℕ) → sca
 near_here scan [] s rest off e = let h : the_end ≡ sign s = (ok_pair (the_end, []) (sign s, rest) e).0 in absurd cc
 near_here scan (b ∷ bs) s rest off e =
     elim (chosen (is_word_byte b) _ _ _ e) [
-      | inl p ↦ absurd (word_no_sign (word_of (b ∷ bs)) s (was_found _ _ _ (sign s) rest p.1).0)
+      | inl p ↦ absurd (word_no_sign scan.language (word_of (b ∷ bs)) s (was_found _ _ _ (sign s) rest p.1).0)
       | inr p ↦
           let is = sign_token_is (sign_of scan.offsets b) s (was_found _ _ _ (sign s) rest p.1).0 in
           ap is_far (sym is) ∙ ap (λ (o : Bool). is_far (sign_of o b)) off ∙ near_sign b
@@ -145,66 +147,70 @@ near_in_front scan text s rest off e = near_here scan (after_gap text) s rest of
 
 -- ---- trees
 
-plain_is_writable : (scan : Scan) (c : Plain) (text : List ℕ) (us : List Token) (end : List ℕ) → Leads scan text (plain_tokens c us) end
+-- a token of PL that is a name is a name of PL
+pl_name : (scan : Scan) → scan.language ≡ Phasers → (text w rest : List ℕ) → front scan text ≡ Ok (name w, rest) → IsName w
+pl_name scan pl text w rest e = subst (λ (l : Language). IsNameIn l w) pl (name_in_front scan text w rest e)
+
+plain_is_writable : (scan : Scan) → scan.language ≡ Phasers → (c : Plain) (text : List ℕ) (us : List Token) (end : List ℕ) → Leads scan text (plain_tokens c us) end
     → PlainIsWritable c × (scan.offsets ≡ false → PlainIsHere c) × (mid : List ℕ) × Leads scan mid us end
-plain_is_writable scan (new_task x) text us end h = let z = h.2.2.2.2.2 in (name_in_front scan text x h.0 h.1, λ off. tt, z.0, z.2)
-plain_is_writable scan (new_phaser x) text us end h = let z = h.2.2.2.2.2 in (name_in_front scan text x h.0 h.1, λ off. tt, z.0, z.2)
-plain_is_writable scan (reg x y) text us end h =
+plain_is_writable scan pl (new_task x) text us end h = let z = h.2.2.2.2.2 in (pl_name scan pl text x h.0 h.1, λ off. tt, z.0, z.2)
+plain_is_writable scan pl (new_phaser x) text us end h = let z = h.2.2.2.2.2 in (pl_name scan pl text x h.0 h.1, λ off. tt, z.0, z.2)
+plain_is_writable scan pl (reg x y) text us end h =
     let a = h.2 in
     let b = a.2 in
     let c = b.2 in
     let d = c.2 in
     let z = d.2.2 in
-    ((name_in_front scan a.0 x b.0 b.1, name_in_front scan c.0 y d.0 d.1), λ off. tt, z.0, z.2)
-plain_is_writable scan (dereg x) text us end h = let a = h.2 in let b = a.2 in let z = b.2.2 in (name_in_front scan a.0 x b.0 b.1, λ off. tt, z.0, z.2)
-plain_is_writable scan (adv x) text us end h = let a = h.2 in let b = a.2 in let z = b.2.2 in (name_in_front scan a.0 x b.0 b.1, λ off. tt, z.0, z.2)
-plain_is_writable scan (await x Here) text us end h =
-    let a = h.2 in let b = a.2 in let z = b.2.2 in ((name_in_front scan a.0 x b.0 b.1, tt), λ off. refl, z.0, z.2)
-plain_is_writable scan (await x (Back k)) text us end h =
+    ((pl_name scan pl a.0 x b.0 b.1, pl_name scan pl c.0 y d.0 d.1), λ off. tt, z.0, z.2)
+plain_is_writable scan pl (dereg x) text us end h = let a = h.2 in let b = a.2 in let z = b.2.2 in (pl_name scan pl a.0 x b.0 b.1, λ off. tt, z.0, z.2)
+plain_is_writable scan pl (adv x) text us end h = let a = h.2 in let b = a.2 in let z = b.2.2 in (pl_name scan pl a.0 x b.0 b.1, λ off. tt, z.0, z.2)
+plain_is_writable scan pl (await x Here) text us end h =
+    let a = h.2 in let b = a.2 in let z = b.2.2 in ((pl_name scan pl a.0 x b.0 b.1, tt), λ off. refl, z.0, z.2)
+plain_is_writable scan pl (await x (Back k)) text us end h =
     let a = h.2 in
     let b = a.2 in
     let s = b.2 in
     let n = s.2 in
     let z = n.2.2 in (
-      (name_in_front scan a.0 x b.0 b.1, number_in_front scan s.0 k n.0 n.1),
+      (pl_name scan pl a.0 x b.0 b.1, number_in_front scan s.0 k n.0 n.1),
       λ off. absurd (let near : true ≡ false = near_in_front scan b.0 Minus s.0 off s.1 in cc),
       z.0,
       z.2,
     )
-plain_is_writable scan (await x (Ahead k)) text us end h =
+plain_is_writable scan pl (await x (Ahead k)) text us end h =
     let a = h.2 in
     let b = a.2 in
     let s = b.2 in
     let n = s.2 in
     let z = n.2.2 in (
-      (name_in_front scan a.0 x b.0 b.1, number_in_front scan s.0 k n.0 n.1),
+      (pl_name scan pl a.0 x b.0 b.1, number_in_front scan s.0 k n.0 n.1),
       λ off. absurd (let near : true ≡ false = near_in_front scan b.0 Plus s.0 off s.1 in cc),
       z.0,
       z.2,
     )
-plain_is_writable scan skip text us end h = let z = h.2 in (tt, λ off. tt, z.0, z.2)
+plain_is_writable scan pl skip text us end h = let z = h.2 in (tt, λ off. tt, z.0, z.2)
 
-pub is_writable : (scan : Scan) (p : Tree) (text : List ℕ) (us : List Token) (end : List ℕ) → Leads scan text (tokens p us) end
+pub is_writable : (scan : Scan) → scan.language ≡ Phasers → (p : Tree) (text : List ℕ) (us : List Token) (end : List ℕ) → Leads scan text (tokens p us) end
     → TreeIsWritable p × (scan.offsets ≡ false → AllHere p) × (mid : List ℕ) × Leads scan mid us end
-is_writable scan done text us end h = (tt, λ off. tt, text, h)
-is_writable scan (plain c p) text us end h =
-    let a = plain_is_writable scan c text (tokens p us) end h in
-    let b = is_writable scan p a.2 us end a.3 in
+is_writable scan pl done text us end h = (tt, λ off. tt, text, h)
+is_writable scan pl (plain c p) text us end h =
+    let a = plain_is_writable scan pl c text (tokens p us) end h in
+    let b = is_writable scan pl p a.2 us end a.3 in
     ((a.0, b.0), λ off. (a.1 off, b.1 off), b.2, b.3)
-is_writable scan (fork x i p) text us end h =
+is_writable scan pl (fork x i p) text us end h =
     let a = h.2 in
     let b = a.2 in
     let d = b.2.2 in
-    let inner = is_writable scan i d.0 (sign CloseBrace ∷ tokens p us) end d.2 in
+    let inner = is_writable scan pl i d.0 (sign CloseBrace ∷ tokens p us) end d.2 in
     let z = inner.3 in
-    let outer = is_writable scan p z.0 us end z.2 in
-    ((name_in_front scan a.0 x b.0 b.1, inner.0, outer.0), λ off. (inner.1 off, outer.1 off), outer.2, outer.3)
-is_writable scan (loop n i p) text us end h =
+    let outer = is_writable scan pl p z.0 us end z.2 in
+    ((pl_name scan pl a.0 x b.0 b.1, inner.0, outer.0), λ off. (inner.1 off, outer.1 off), outer.2, outer.3)
+is_writable scan pl (loop n i p) text us end h =
     let a = h.2 in
     let d = a.2 in
-    let inner = is_writable scan i d.0 (sign CloseBrace ∷ tokens p us) end d.2 in
+    let inner = is_writable scan pl i d.0 (sign CloseBrace ∷ tokens p us) end d.2 in
     let z = inner.3 in
-    let outer = is_writable scan p z.0 us end z.2 in
+    let outer = is_writable scan pl p z.0 us end z.2 in
     ((number_in_front scan h.0 n a.0 a.1, inner.0, outer.0), λ off. (inner.1 off, outer.1 off), outer.2, outer.3)
 
 pub text_is_writable : (text : List ℕ) (p : Program) → IsText text p → IsWritable p
@@ -212,8 +218,8 @@ text_is_writable text p h = go p.two refl h.reads
   where
     go : (two : Bool) → p.two ≡ two → ReadsTokens two text (sentence p.body) [] → IsWritable p
     go false e reads =
-        let w = is_writable (scan_of false text) p.body text (the_end ∷ []) [] reads in
+        let w = is_writable (scan_of false text) refl p.body text (the_end ∷ []) [] reads in
         record { tree = w.0; here = λ one. w.1 refl }
     go true e reads =
-        let w = is_writable (scan_of true text) p.body reads.0 (the_end ∷ []) [] reads.2 in
+        let w = is_writable (scan_of true text) refl p.body reads.0 (the_end ∷ []) [] reads.2 in
         record { tree = w.0; here = λ one. absurd (let q : true ≡ false = sym e ∙ one in cc) }

@@ -6,6 +6,7 @@ use Rattle.pl_syntax.specs.declared.limits.TheConstants.{MAX_OPEN_BRACES}
 use Rattle.pl_syntax.specs.declared.fault.SyntaxFault.{SyntaxFault}
 use Rattle.pl_syntax.specs.declared.token.Keyword.TheVariants as k
 use Rattle.pl_syntax.specs.declared.token.Sign.TheVariants.{Equals, OpenParen, CloseParen, Comma, Semicolon, OpenBrace, CloseBrace, Plus, Minus}
+use Rattle.pl_syntax.specs.declared.scan.Language.TheVariants.{Phasers}
 use Rattle.pl_syntax.specs.declared.scan.Scan.{Scan}
 use Rattle.pl_syntax.specs.declared.tree.Program.{Program}
 use Rattle.pl_syntax.specs.Tokens.{Token, the_end, sign, word, name, number, kind_cannot_stand, kind_too_deep, front, place, Leads}
@@ -57,7 +58,7 @@ header = name (codes "pl") ∷ number 2 ∷ sign Semicolon ∷ []
 
 -- how a text is read in PL 1 and in PL 2
 abbrev pub scan_of : Bool → List ℕ → Scan
-scan_of two text = record { total = length text; offsets = two }
+scan_of two text = record { total = length text; offsets = two; language = Phasers }
 
 -- these tokens are the first ones of the text, in PL 2 those behind its header, and the rest is left: only behind the header are + and - signs
 abbrev pub ReadsTokens : Bool → List ℕ → List Token → List ℕ → Type 0
@@ -96,27 +97,37 @@ StaysShallow n (t ∷ ts) = (n ≤ MAX_OPEN_BRACES) × StaysShallow (opened t n)
 pub record IsNoToken (scan : Scan) (text : List ℕ) (fault : SyntaxFault) : Type 0 where
   pub here : front scan text ≡ Err fault
 
--- a token that cannot stand after those before it: kind 2
-pub record CannotStand (before : List Token) (scan : Scan) (text : List ℕ) (fault : SyntaxFault) : Type 0 where
+-- a token that cannot stand after those before it, since nothing of the grammar begins so: kind 2
+pub record CannotStand (Starts : List Token → Type 0) (before : List Token) (scan : Scan) (text : List ℕ) (fault : SyntaxFault) : Type 0 where
   pub token : Token
   pub rest : List ℕ
   pub here : front scan text ≡ Ok (token, rest)
-  pub stands_not : Begins scan.offsets (before ++ token ∷ []) → ⊥
+  pub stands_not : Starts (before ++ token ∷ []) → ⊥
   pub fault_is : fault ≡ record { at = place scan text; kind = kind_cannot_stand }
 
 -- a brace that could stand, if as many as may be were not open: kind 4
-pub record IsTooDeep (before : List Token) (scan : Scan) (text : List ℕ) (fault : SyntaxFault) : Type 0 where
+pub record IsTooDeep (Starts : List Token → Type 0) (before : List Token) (scan : Scan) (text : List ℕ) (fault : SyntaxFault) : Type 0 where
   pub rest : List ℕ
   pub here : front scan text ≡ Ok (sign OpenBrace, rest)
-  pub stands : Begins scan.offsets (before ++ sign OpenBrace ∷ [])
+  pub stands : Starts (before ++ sign OpenBrace ∷ [])
   pub full : open_after 0 before ≡ MAX_OPEN_BRACES
   pub fault_is : fault ≡ record { at = place scan text; kind = kind_too_deep }
 
--- behind the tokens before, the text goes on with a fault
-pub data IsAtFault (before : List Token) (scan : Scan) (text : List ℕ) (fault : SyntaxFault) : Type 0 where
-  no_token : IsNoToken scan text fault → IsAtFault before scan text fault
-  cannot_stand : CannotStand before scan text fault → IsAtFault before scan text fault
-  too_deep : IsTooDeep before scan text fault → IsAtFault before scan text fault
+-- behind the tokens before, the text goes on with a fault, where texts of the grammar begin with the tokens of Starts
+pub data IsAtFault (Starts : List Token → Type 0) (before : List Token) (scan : Scan) (text : List ℕ) (fault : SyntaxFault) : Type 0 where
+  no_token : IsNoToken scan text fault → IsAtFault Starts before scan text fault
+  cannot_stand : CannotStand Starts before scan text fault → IsAtFault Starts before scan text fault
+  too_deep : IsTooDeep Starts before scan text fault → IsAtFault Starts before scan text fault
+
+-- The first fault of what is read from a start on, behind tokens that are all right. Some token has to be able to follow them: else
+-- an accepted text would have a fault behind its end.
+pub record IsFirstFault (Starts : List Token → Type 0) (scan : Scan) (start : List ℕ) (fault : SyntaxFault) : Type 0 where
+  pub before : List Token
+  pub left : List ℕ
+  pub reads : Leads scan start before left
+  pub goes_on : (t : Token) × Starts (before ++ t ∷ [])
+  pub shallow : StaysShallow 0 before
+  pub here : IsAtFault Starts before scan left fault
 
 -- The first fault of a text, in PL 1 or behind the header of PL 2: behind tokens that are all right. Some token has to be able to follow them: else an
 -- accepted text would have a fault behind its end, and a whole header one of PL 1.
@@ -127,4 +138,4 @@ pub record HasFault (text : List ℕ) (fault : SyntaxFault) : Type 0 where
   pub reads : ReadsTokens two text before left
   pub goes_on : (t : Token) × Begins two (before ++ t ∷ [])
   pub shallow : StaysShallow 0 before
-  pub here : IsAtFault before (scan_of two text) left fault
+  pub here : IsAtFault (Begins two) before (scan_of two text) left fault

@@ -1,6 +1,7 @@
 -- How the tokens of a text may be spaced: blanks and comments stand between any two tokens, and between two words there has to be one.
 use Rattle.std.specs.Prelude.{◌≡◌, ℕ, ◌==◌, Bool, true, false, not, if◌then◌else◌, List, [], ◌∷◌, ◌++◌, Some, Ok}
 use Rattle.std.specs.List.{list_all}
+use Rattle.pl_syntax.specs.declared.scan.Language.TheVariants.{Phasers}
 use Rattle.pl_syntax.specs.declared.token.Sign.{Sign}
 use Rattle.pl_syntax.specs.Words.{begins_with, is_word_byte}
 use Rattle.pl_syntax.specs.declared.tree.Program.{Program}
@@ -22,7 +23,7 @@ pub data IsGap (at_end : Bool) : List ℕ → Type 0 where
 -- the bytes spell the token: a sign is one byte, and a word is a run of letters, digits and _ that is this token
 pub data IsSpelling : Token → List ℕ → Type 0 where
   a_sign : {s : Sign} {b : ℕ} → sign_of true b ≡ Some s → IsSpelling (sign s) (b ∷ [])
-  a_word : {t : Token} {b : ℕ} {bs : List ℕ} → list_all is_word_byte (b ∷ bs) ≡ true → word_token (b ∷ bs) ≡ Ok t → IsSpelling t (b ∷ bs)
+  a_word : {t : Token} {b : ℕ} {bs : List ℕ} → list_all is_word_byte (b ∷ bs) ≡ true → word_token Phasers (b ∷ bs) ≡ Ok t → IsSpelling t (b ∷ bs)
 
 -- keywords, names and numbers are words
 abbrev pub is_a_word : Token → Bool

@@ -4,11 +4,12 @@ use Rattle.std.specs.Prelude.{◌≡◌, ℕ, ◌-◌, ◌==◌, Bool, ◌&&◌,
 use Rattle.std.specs.List.{prefix_len, list_any}
 use Rattle.pl_syntax.specs.declared.limits.TheConstants.{MAX_NAME_BYTES}
 use Rattle.pl_syntax.specs.declared.fault.SyntaxFault.{SyntaxFault}
+use Rattle.pl_syntax.specs.declared.scan.Language.{Language}
 use Rattle.pl_syntax.specs.declared.scan.Scan.{Scan}
 use Rattle.pl_syntax.specs.declared.token.Keyword.{Keyword}
 use Rattle.pl_syntax.specs.declared.token.Sign.{Sign}
 use Rattle.pl_syntax.specs.declared.token.Sign.TheVariants.{Equals, OpenParen, CloseParen, Comma, Semicolon, OpenBrace, CloseBrace, Plus, Minus}
-use Rattle.pl_syntax.specs.Words.{is_word_byte, is_digit, keyword_of, has_name_form, number_of, begins_with}
+use Rattle.pl_syntax.specs.Words.{is_word_byte, is_digit, keyword_in, has_name_form, number_of, begins_with}
 
 -- a token; the end of the text is the last one
 pub data Token : Type 0 where
@@ -89,10 +90,10 @@ abbrev pub digits_token : Option ℕ → Result Token ℕ
 digits_token None = Err kind_no_number
 digits_token (Some k) = Ok (number k)
 
--- what a word is, or the kind of its fault
-abbrev pub word_token : List ℕ → Result Token ℕ
-word_token w =
-    if list_any is_digit (take 1 w) then digits_token (number_of w) else letters_token w (keyword_of w)
+-- what a word of a language is, or the kind of its fault
+abbrev pub word_token : Language → List ℕ → Result Token ℕ
+word_token language w =
+    if list_any is_digit (take 1 w) then digits_token (number_of w) else letters_token w (keyword_in language w)
 
 -- ---- the next token
 
@@ -118,7 +119,7 @@ abbrev pub token_here : Scan → List ℕ → Front
 token_here scan [] = Ok (the_end, [])
 token_here scan (b ∷ bs) =
     if is_word_byte b
-    then placed (scan.total - length (b ∷ bs)) (word_token (word_of (b ∷ bs))) (after_word (b ∷ bs))
+    then placed (scan.total - length (b ∷ bs)) (word_token scan.language (word_of (b ∷ bs))) (after_word (b ∷ bs))
     else placed (scan.total - length (b ∷ bs)) (sign_token (sign_of scan.offsets b)) bs
 
 -- the next token of a text of which this is left

@@ -4,7 +4,9 @@ use Rattle.std.specs.List.{list_all}
 use Rattle.std.specs.Str.{bytes_eq}
 use Rattle.pl_syntax.specs.declared.limits.TheConstants.{MAX_NAME_BYTES, MAX_DIGITS, MAX_NUMBER}
 use Rattle.pl_syntax.specs.declared.token.Keyword.{Keyword}
-use Rattle.pl_syntax.specs.declared.token.Keyword.TheVariants.{NewTid, NewPhaser, Fork, Reg, Dereg, Adv, Await, Loop, Skip}
+use Rattle.pl_syntax.specs.declared.token.Keyword.TheVariants.{NewTid, NewPhaser, Fork, Reg, Dereg, Adv, Await, Loop, Skip, Clock, Async, Finish, Advance, Resume, Drop}
+use Rattle.pl_syntax.specs.declared.scan.Language.{Language}
+use Rattle.pl_syntax.specs.declared.scan.Language.TheVariants.{Phasers, Clocks}
 
 -- ---- bytes
 
@@ -46,19 +48,38 @@ spelling_of Adv = codes "adv"
 spelling_of Await = codes "await"
 spelling_of Loop = codes "loop"
 spelling_of Skip = codes "skip"
+spelling_of Clock = codes "clock"
+spelling_of Async = codes "async"
+spelling_of Finish = codes "finish"
+spelling_of Advance = codes "advance"
+spelling_of Resume = codes "resume"
+spelling_of Drop = codes "drop"
 
--- all keywords
+-- all keywords of PL
 abbrev pub keywords : List Keyword
 keywords = NewTid ∷ NewPhaser ∷ Fork ∷ Reg ∷ Dereg ∷ Adv ∷ Await ∷ Loop ∷ Skip ∷ []
+
+-- all keywords of the language of clocks
+abbrev pub clock_keywords : List Keyword
+clock_keywords = Clock ∷ Async ∷ Finish ∷ Advance ∷ Resume ∷ Drop ∷ Loop ∷ Skip ∷ []
 
 -- the first of these keywords that is spelled so
 abbrev pub keyword_among : List Keyword → List ℕ → Option Keyword
 keyword_among [] w = None
 keyword_among (k ∷ ks) w = if bytes_eq w (spelling_of k) then Some k else keyword_among ks w
 
--- the keyword that is spelled so
+-- the keyword of PL that is spelled so
 unfoldable pub keyword_of : List ℕ → Option Keyword
 keyword_of w = keyword_among keywords w
+
+-- the keyword of the language of clocks that is spelled so
+unfoldable pub clock_keyword_of : List ℕ → Option Keyword
+clock_keyword_of w = keyword_among clock_keywords w
+
+-- the keyword of a language that is spelled so
+abbrev pub keyword_in : Language → List ℕ → Option Keyword
+keyword_in Phasers w = keyword_of w
+keyword_in Clocks w = clock_keyword_of w
 
 -- ---- names
 
@@ -67,11 +88,15 @@ abbrev pub has_name_form : List ℕ → Bool
 has_name_form [] = false
 has_name_form (b ∷ bs) = is_lower b && list_all is_name_byte (b ∷ bs)
 
--- a name has that form, is no longer than a name may be, and is no keyword
-pub record IsName (w : List ℕ) : Type 0 where
+-- a name of a language has that form, is no longer than a name may be, and is no keyword of the language
+pub record IsNameIn (language : Language) (w : List ℕ) : Type 0 where
   pub form : has_name_form w ≡ true
   pub short : length w ≤ MAX_NAME_BYTES
-  pub free : keyword_of w ≡ None
+  pub free : keyword_in language w ≡ None
+
+-- a name of PL
+abbrev pub IsName : List ℕ → Type 0
+IsName w = IsNameIn Phasers w
 
 -- ---- numbers
 

@@ -2,8 +2,9 @@
 
 ghost use Rattle.armus_base.specs.declared.offset.Offset.TheVariants.{Ahead, Back};
 ghost use Rattle.std.specs.Prelude.{if◌then◌else◌, ◌≡◌, ◌<◌, ◌≤◌, ◌^◌, length, IfOk, IsOk};
-ghost use Rattle.pl_syntax.specs.Words.{IsName};
-ghost use Rattle.pl_syntax.specs.inside.Reading.{result_seen, unexpected, sign_at, name_at, number_at, maker_at, in_parens_at, named_at, pair_at, drawn_at, opened_at, far_at, offset_at};
+ghost use Rattle.pl_syntax.specs.Words.{IsNameIn};
+ghost use Rattle.pl_syntax.specs.inside.Reading.{result_seen, unexpected, sign_at, name_at, number_at, maker_at, in_parens_at, named_at, pair_at, drawn_at, opened_at, far_at, offset_at, ends_list};
+ghost use Rattle.pl_syntax.specs.inside.Seen.{token_of};
 
 use crate::fault::{CANNOT_STAND, SyntaxFault, TOO_DEEP};
 use crate::lexer::{next, place};
@@ -44,7 +45,7 @@ pub fn name_at(scan: Scan, text: &[u8]) -> Result<(&[u8], &[u8]), SyntaxFault>
     requires within { length text.now ≤ scan.total }
     requires small { scan.total < 2 ^ 32 }
     ensures exact { result_seen (λ x. (x.0.now, x.1.now)) result ≡ name_at scan text.now }
-    ensures name { IfOk result (λ x. IsName x.0.now) }
+    ensures name { IfOk result (λ x. IsNameIn scan.language x.0.now) }
     ensures no_longer { IfOk result (λ x. length x.1.now ≤ length text.now) }
 {
     match next(scan, text)? {
@@ -88,7 +89,7 @@ pub fn in_parens_at(scan: Scan, text: &[u8]) -> Result<(&[u8], &[u8]), SyntaxFau
     requires within { length text.now ≤ scan.total }
     requires small { scan.total < 2 ^ 32 }
     ensures exact { result_seen (λ x. (x.0.now, x.1.now)) result ≡ in_parens_at scan text.now }
-    ensures name { IfOk result (λ x. IsName x.0.now) }
+    ensures name { IfOk result (λ x. IsNameIn scan.language x.0.now) }
     ensures no_longer { IfOk result (λ x. length x.1.now ≤ length text.now) }
 {
     let open = sign_at(scan, Sign::OpenParen, text)?;
@@ -103,7 +104,7 @@ pub fn named_at(scan: Scan, text: &[u8]) -> Result<(&[u8], &[u8]), SyntaxFault>
     requires within { length text.now ≤ scan.total }
     requires small { scan.total < 2 ^ 32 }
     ensures exact { result_seen (λ x. (x.0.now, x.1.now)) result ≡ named_at scan text.now }
-    ensures name { IfOk result (λ x. IsName x.0.now) }
+    ensures name { IfOk result (λ x. IsNameIn scan.language x.0.now) }
     ensures no_longer { IfOk result (λ x. length x.1.now ≤ length text.now) }
 {
     let (x, after) = in_parens_at(scan, text)?;
@@ -150,8 +151,8 @@ pub fn pair_at(scan: Scan, text: &[u8]) -> Result<(&[u8], &[u8], &[u8]), SyntaxF
     requires within { length text.now ≤ scan.total }
     requires small { scan.total < 2 ^ 32 }
     ensures exact { result_seen (λ x. (x.0.now, x.1.now, x.2.now)) result ≡ pair_at scan text.now }
-    ensures first { IfOk result (λ x. IsName x.0.now) }
-    ensures second { IfOk result (λ x. IsName x.1.now) }
+    ensures first { IfOk result (λ x. IsNameIn scan.language x.0.now) }
+    ensures second { IfOk result (λ x. IsNameIn scan.language x.1.now) }
     ensures no_longer { IfOk result (λ x. length x.2.now ≤ length text.now) }
 {
     let open = sign_at(scan, Sign::OpenParen, text)?;
@@ -196,5 +197,16 @@ pub fn opened_at(scan: Scan, depth: u32, text: &[u8]) -> Result<&[u8], SyntaxFau
             at: place(scan, text),
             kind: TOO_DEEP,
         })
+    }
+}
+
+/// Whether a list of statements ends before this token.
+pub fn ends_list(token: &Token) -> bool
+    ensures { result ≡ ends_list (token_of token.now) }
+{
+    match token {
+        Token::End => true,
+        Token::Sign(Sign::CloseBrace) => true,
+        _ => false,
     }
 }

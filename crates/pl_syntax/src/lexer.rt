@@ -94,7 +94,7 @@ fn token_here(scan: Scan, text: &[u8]) -> Result<(Token, &[u8]), SyntaxFault>
         [] => Ok((Token::End, text)),
         [b, ..] if is_word_byte(*b) => {
             let (word, rest) = text.split_at(word_len(text));
-            match word_token(word) {
+            match word_token(scan.language, word) {
                 Ok(token) => Ok((token, rest)),
                 Err(kind) => Err(SyntaxFault {
                     at: (scan.total - text.len()) as u32,
@@ -119,7 +119,7 @@ pub fn next(scan: Scan, text: &[u8]) -> Result<(Token, &[u8]), SyntaxFault>
     requires small { scan.total < 2 ^ 32 }
     ensures exact { front_seen result ≡ front scan text.now }
     ensures no_longer { IfOk result (λ x. length x.1.now ≤ length text.now) }
-    ensures name { IfOk result (λ x. HasForm x.0) }
+    ensures name { IfOk result (λ x. HasForm scan.language x.0) }
 {
     token_here(scan, after_gap(text))
 }

@@ -1,20 +1,22 @@
 //! The language PL as text: its statements, its reader and its printer.
+//!
+//! The four public modules are what another language is read with: how a text is read, its tokens, the next token, and readers of a few tokens.
 #![tactic(auto)]
 
-mod expect;
+pub mod expect;
 mod fault;
 mod laws;
-mod lexer;
+pub mod lexer;
 mod limits;
 mod name;
 mod offsets;
 mod printer;
 mod reader;
 mod round_trip;
-mod scan;
+pub mod scan;
 #[cfg(test)]
 mod tests;
-mod token;
+pub mod token;
 mod tree;
 mod word;
 

@@ -1,8 +1,10 @@
 // Names of tasks and phasers.
 
 ghost use Rattle.std.specs.Prelude.{◌≡◌, IfOk};
-ghost use Rattle.pl_syntax.specs.Words.{IsName};
+ghost use Rattle.pl_syntax.specs.declared.scan.Language.TheVariants.{Phasers};
+ghost use Rattle.pl_syntax.specs.Words.{IsName, IsNameIn};
 
+use crate::scan::Language;
 use armus_base::NoMemory;
 use std::alloc::Global;
 use std::marker::Model;
@@ -26,9 +28,10 @@ impl Model for Name {
 }
 
 impl Name {
-    // The name of these bytes.
-    pub(crate) fn new(alloc: Global, bytes: &[u8]) -> Result<Name, NoMemory>
-        requires { IsName bytes.now }
+    // The name of these bytes in PL.
+    pub(crate) fn new(alloc: Global, language: Language, bytes: &[u8]) -> Result<Name, NoMemory>
+        requires pl { language ≡ Phasers }
+        requires form { IsNameIn language bytes.now }
         ensures { IfOk result (λ x. x ≡ bytes.now) }
     {
         Ok(Name {

@@ -6,9 +6,9 @@ ghost use Rattle.pl_syntax.specs.Tokens.{Token as TokenValue, Leads, front, the_
 ghost use Rattle.pl_syntax.specs.inside.Beginnings.{begins_statement, is_boundary, with_offset};
 ghost use Rattle.pl_syntax.specs.inside.Seen.{token_of};
 
+use crate::expect::ends_list;
 use crate::lexer::{next, place};
-use crate::reader::ends_list;
-use crate::scan::Scan;
+use crate::scan::{Language, Scan};
 use crate::token::{Sign, Token};
 use crate::tree::Program;
 use armus_base::{List, NoMemory};
@@ -92,6 +92,7 @@ fn body_of<'a>(text: &'a [u8], program: &Program) -> &'a [u8]
     let scan = Scan {
         total: text.len(),
         offsets: false,
+        language: Language::Phasers,
     };
     behind_header(scan, text)
 }
@@ -112,6 +113,7 @@ fn offsets_behind(
     let scan = Scan {
         total: text.len(),
         offsets: program.two,
+        language: Language::Phasers,
     };
     let mut offsets = Vec::new(alloc);
     let mut may_begin = true;

@@ -1,7 +1,8 @@
 // From tokens to statements.
 
 ghost use Rattle.std.specs.Prelude.{false, ◌≡◌, ℕ, ◌+◌, ◌<◌, ◌≤◌, ◌^◌, length, IfOk, IfErr};
-ghost use Rattle.pl_syntax.specs.Words.{IsName};
+ghost use Rattle.pl_syntax.specs.declared.scan.Language.TheVariants.{Phasers};
+ghost use Rattle.pl_syntax.specs.Words.{IsNameIn};
 ghost use Rattle.pl_syntax.specs.declared.tree.Program.{Program as Parsed};
 ghost use Rattle.pl_syntax.specs.Tree.{count, done, AllHere};
 ghost use Rattle.pl_syntax.specs.Bodies.{followed_by, tree_of};
@@ -12,14 +13,14 @@ ghost use Rattle.pl_syntax.specs.Parsing.{GivesProgram, GivesFault, Explains};
 ghost use Rattle.pl_syntax.specs.inside.Reading.{Gives, drawing_at, reg_at, dereg_at, adv_at, await_at, skip_at, statement_in, statements_at, block_at, fork_at, loop_at, ends_list, result_seen, is_pl, is_two, header_at, body_at, program_at};
 
 use crate::expect::{
-    drawn_at, in_parens_at, name_at, named_at, number_at, offset_at, opened_at, pair_at, sign_at,
-    unexpected,
+    drawn_at, ends_list, in_parens_at, name_at, named_at, number_at, offset_at, opened_at, pair_at,
+    sign_at, unexpected,
 };
 use crate::fault::{ParseEnd, SyntaxFault};
 use crate::lexer::next;
 use crate::limits::{MAX_OPEN_BRACES, MAX_PARSED_BYTES};
 use crate::name::Name;
-use crate::scan::Scan;
+use crate::scan::{Language, Scan};
 use crate::token::{Keyword, Sign, Token};
 use crate::tree::{Body, Program, Stmt};
 use std::alloc::Global;
@@ -34,13 +35,14 @@ fn drawing_at<'a>(
 ) -> Result<(Stmt, &'a [u8]), ParseEnd>
     requires within { length text.now ≤ scan.total }
     requires small { scan.total < 2 ^ 32 }
-    requires name { IsName x.now }
+    requires pl { scan.language ≡ Phasers }
+    requires name { IsNameIn scan.language x.now }
     ensures exact { Gives (λ x. (x.0, x.1.now)) result (drawing_at scan x.now text.now) }
     ensures no_longer { IfOk result (λ x. length x.1.now ≤ length text.now) }
     ensures counted { IfOk result (λ x. count (followed_by x.0 done) + length x.1.now ≤ length text.now + 1) }
 {
     let (is_task, rest) = drawn_at(scan, text)?;
-    let x = Name::new(alloc, x)?;
+    let x = Name::new(alloc, scan.language, x)?;
     if is_task {
         Ok((Stmt::NewTask { x }, rest))
     } else {
@@ -53,13 +55,14 @@ fn drawing_at<'a>(
 fn reg_at(alloc: Global, scan: Scan, text: &[u8]) -> Result<(Stmt, &[u8]), ParseEnd>
     requires within { length text.now ≤ scan.total }
     requires small { scan.total < 2 ^ 32 }
+    requires pl { scan.language ≡ Phasers }
     ensures exact { Gives (λ x. (x.0, x.1.now)) result (reg_at scan text.now) }
     ensures no_longer { IfOk result (λ x. length x.1.now ≤ length text.now) }
     ensures counted { IfOk result (λ x. count (followed_by x.0 done) + length x.1.now ≤ length text.now + 1) }
 {
     let (x, y, rest) = pair_at(scan, text)?;
-    let x = Name::new(alloc, x)?;
-    let y = Name::new(alloc, y)?;
+    let x = Name::new(alloc, scan.language, x)?;
+    let y = Name::new(alloc, scan.language, y)?;
     Ok((Stmt::Reg { x, y }, rest))
 }
 
@@ -68,12 +71,13 @@ fn reg_at(alloc: Global, scan: Scan, text: &[u8]) -> Result<(Stmt, &[u8]), Parse
 fn dereg_at(alloc: Global, scan: Scan, text: &[u8]) -> Result<(Stmt, &[u8]), ParseEnd>
     requires within { length text.now ≤ scan.total }
     requires small { scan.total < 2 ^ 32 }
+    requires pl { scan.language ≡ Phasers }
     ensures exact { Gives (λ x. (x.0, x.1.now)) result (dereg_at scan text.now) }
     ensures no_longer { IfOk result (λ x. length x.1.now ≤ length text.now) }
     ensures counted { IfOk result (λ x. count (followed_by x.0 done) + length x.1.now ≤ length text.now + 1) }
 {
     let (x, rest) = named_at(scan, text)?;
-    let x = Name::new(alloc, x)?;
+    let x = Name::new(alloc, scan.language, x)?;
     Ok((Stmt::Dereg { x }, rest))
 }
 
@@ -82,12 +86,13 @@ fn dereg_at(alloc: Global, scan: Scan, text: &[u8]) -> Result<(Stmt, &[u8]), Par
 fn adv_at(alloc: Global, scan: Scan, text: &[u8]) -> Result<(Stmt, &[u8]), ParseEnd>
     requires within { length text.now ≤ scan.total }
     requires small { scan.total < 2 ^ 32 }
+    requires pl { scan.language ≡ Phasers }
     ensures exact { Gives (λ x. (x.0, x.1.now)) result (adv_at scan text.now) }
     ensures no_longer { IfOk result (λ x. length x.1.now ≤ length text.now) }
     ensures counted { IfOk result (λ x. count (followed_by x.0 done) + length x.1.now ≤ length text.now + 1) }
 {
     let (x, rest) = named_at(scan, text)?;
-    let x = Name::new(alloc, x)?;
+    let x = Name::new(alloc, scan.language, x)?;
     Ok((Stmt::Adv { x }, rest))
 }
 
@@ -96,6 +101,7 @@ fn adv_at(alloc: Global, scan: Scan, text: &[u8]) -> Result<(Stmt, &[u8]), Parse
 fn await_at(alloc: Global, scan: Scan, text: &[u8]) -> Result<(Stmt, &[u8]), ParseEnd>
     requires within { length text.now ≤ scan.total }
     requires small { scan.total < 2 ^ 32 }
+    requires pl { scan.language ≡ Phasers }
     ensures exact { Gives (λ x. (x.0, x.1.now)) result (await_at scan text.now) }
     ensures no_longer { IfOk result (λ x. length x.1.now ≤ length text.now) }
     ensures counted { IfOk result (λ x. count (followed_by x.0 done) + length x.1.now ≤ length text.now + 1) }
@@ -104,7 +110,7 @@ fn await_at(alloc: Global, scan: Scan, text: &[u8]) -> Result<(Stmt, &[u8]), Par
     let (x, after) = name_at(scan, open)?;
     let (off, close) = offset_at(scan, after)?;
     let rest = sign_at(scan, Sign::Semicolon, close)?;
-    let x = Name::new(alloc, x)?;
+    let x = Name::new(alloc, scan.language, x)?;
     Ok((Stmt::Await { x, off }, rest))
 }
 
@@ -121,23 +127,13 @@ fn skip_at(scan: Scan, text: &[u8]) -> Result<(Stmt, &[u8]), ParseEnd>
     Ok((Stmt::Skip, rest))
 }
 
-// Whether a list of statements ends before this token.
-pub(crate) fn ends_list(token: &Token) -> bool
-    ensures { result ≡ ends_list (token_of token.now) }
-{
-    match token {
-        Token::End => true,
-        Token::Sign(Sign::CloseBrace) => true,
-        _ => false,
-    }
-}
-
 // `{`, statements, `}`
 #[cycle(read)]
 #[tactic(auto, unfolding(crate::specs::inside::Reading::block_at))]
 fn block_at(alloc: Global, scan: Scan, depth: u32, text: &[u8]) -> Result<(Body, &[u8]), ParseEnd>
     requires within { length text.now ≤ scan.total }
     requires small { scan.total < 2 ^ 32 }
+    requires pl { scan.language ≡ Phasers }
     requires shallow { depth ≤ MAX_OPEN_BRACES }
     ensures exact { (n : ℕ) → length text.now < n → Gives (λ x. (x.0, x.1.now)) result (block_at (statements_at n scan) scan depth text.now) }
     ensures counted { IfOk result (λ x. count x.0 + length x.1.now ≤ length text.now) }
@@ -154,13 +150,14 @@ fn block_at(alloc: Global, scan: Scan, depth: u32, text: &[u8]) -> Result<(Body,
 fn fork_at(alloc: Global, scan: Scan, depth: u32, text: &[u8]) -> Result<(Stmt, &[u8]), ParseEnd>
     requires within { length text.now ≤ scan.total }
     requires small { scan.total < 2 ^ 32 }
+    requires pl { scan.language ≡ Phasers }
     requires shallow { depth ≤ MAX_OPEN_BRACES }
     ensures exact { (n : ℕ) → length text.now < n → Gives (λ x. (x.0, x.1.now)) result (fork_at (statements_at n scan) scan depth text.now) }
     ensures no_longer { IfOk result (λ x. length x.1.now ≤ length text.now) }
     ensures counted { IfOk result (λ x. count (followed_by x.0 done) + length x.1.now ≤ length text.now + 1) }
 {
     let (x, after) = in_parens_at(scan, text)?;
-    let x = Name::new(alloc, x)?;
+    let x = Name::new(alloc, scan.language, x)?;
     let (body, rest) = block_at(alloc, scan, depth, after)?;
     Ok((Stmt::Fork { x, body }, rest))
 }
@@ -171,6 +168,7 @@ fn fork_at(alloc: Global, scan: Scan, depth: u32, text: &[u8]) -> Result<(Stmt, 
 fn loop_at(alloc: Global, scan: Scan, depth: u32, text: &[u8]) -> Result<(Stmt, &[u8]), ParseEnd>
     requires within { length text.now ≤ scan.total }
     requires small { scan.total < 2 ^ 32 }
+    requires pl { scan.language ≡ Phasers }
     requires shallow { depth ≤ MAX_OPEN_BRACES }
     ensures exact { (n : ℕ) → length text.now < n → Gives (λ x. (x.0, x.1.now)) result (loop_at (statements_at n scan) scan depth text.now) }
     ensures no_longer { IfOk result (λ x. length x.1.now ≤ length text.now) }
@@ -194,8 +192,9 @@ fn statement_in<'a>(
     requires within { length text.now ≤ scan.total }
     requires before_within { length before.now ≤ scan.total }
     requires small { scan.total < 2 ^ 32 }
+    requires pl { scan.language ≡ Phasers }
     requires shallow { depth ≤ MAX_OPEN_BRACES }
-    requires name { HasForm token }
+    requires name { HasForm scan.language token }
     ensures exact { (n : ℕ) → length text.now < n → Gives (λ x. (x.0, x.1.now)) result (statement_in (statements_at n scan) scan depth (token_of token.entry) before.now text.now) }
     ensures no_longer { IfOk result (λ x. length x.1.now ≤ length text.now) }
     ensures counted { IfOk result (λ x. count (followed_by x.0 done) + length x.1.now ≤ length text.now + 1) }
@@ -223,6 +222,7 @@ fn statements_at(
 ) -> Result<(Vec<Stmt>, &[u8]), ParseEnd>
     requires within { length text.now ≤ scan.total }
     requires small { scan.total < 2 ^ 32 }
+    requires pl { scan.language ≡ Phasers }
     requires shallow { depth ≤ MAX_OPEN_BRACES }
     ensures exact { (n : ℕ) → length text.now < n → Gives (λ x. (x.0.items, x.1.now)) result (statements_at n scan depth text.now) }
     ensures counted { IfOk result (λ x. count (tree_of x.0.items) + length x.1.now ≤ length text.now) }
@@ -245,6 +245,7 @@ fn statements_at(
 fn body_at(alloc: Global, scan: Scan, text: &[u8]) -> Result<Body, ParseEnd>
     requires within { length text.now ≤ scan.total }
     requires small { scan.total < 2 ^ 32 }
+    requires pl { scan.language ≡ Phasers }
     ensures exact { Gives (λ x. x) result (body_at scan text.now) }
     ensures counted { IfOk result (λ body. count body ≤ length text.now) }
 {
@@ -307,6 +308,7 @@ fn program_at(alloc: Global, text: &[u8]) -> Result<Program, ParseEnd>
         Scan {
             total,
             offsets: false,
+            language: Language::Phasers,
         },
         text,
     )?;
@@ -315,6 +317,7 @@ fn program_at(alloc: Global, text: &[u8]) -> Result<Program, ParseEnd>
         Scan {
             total,
             offsets: two,
+            language: Language::Phasers,
         },
         rest,
     )?;

@@ -29,7 +29,7 @@ fn times(alloc: Global, n: u32, text: &[u8]) -> Result<Vec<u8>, Fail> {
 
 #[test]
 fn first_faults(rt: HostRuntime) {
-    let rows: [(&[u8], Option<(u32, u8)>); 24] = [
+    let rows: [(&[u8], Option<(u32, u8)>); 25] = [
         (b"", None),
         (b"p = newPhaser();\nadv(p", Some((22, CANNOT_STAND))),
         (b"adv(P);", Some((4, NO_TOKEN))),
@@ -46,6 +46,7 @@ fn first_faults(rt: HostRuntime) {
         (b"loop3{", Some((5, CANNOT_STAND))),
         (b"fork = newTid();", Some((5, CANNOT_STAND))),
         (b"newtid = newTid();", None),
+        (b"clock = newTid(); drop = newPhaser(); adv(drop);", None),
         (b"/", Some((0, NO_TOKEN))),
         (b"skip;/", Some((5, NO_TOKEN))),
         (b"}", Some((0, CANNOT_STAND))),

@@ -1,6 +1,6 @@
 // Tokens: the words and signs of a text.
 
-/// A word that names a statement or what it makes.
+/// A word that names a statement or what it makes: the first nine in PL, the last six and `loop` and `skip` in the language of clocks.
 #[derive(Clone, Copy, Debug, PartialEq, Eq)]
 pub enum Keyword {
     NewTid,
@@ -12,6 +12,12 @@ pub enum Keyword {
     Await,
     Loop,
     Skip,
+    Clock,
+    Async,
+    Finish,
+    Advance,
+    Resume,
+    Drop,
 }
 
 /// One of the nine bytes that are tokens by themselves; the last two are so in PL 2 alone.

@@ -3,12 +3,13 @@
 ghost use Rattle.std.specs.Prelude.{◌≡◌, ◌<◌, ◌≤◌, length, Some, None, true, nat_le, if◌then◌else◌};
 ghost use Rattle.std.specs.List.{list_all, list_any};
 ghost use Rattle.std.specs.Str.{bytes_eq};
-ghost use Rattle.pl_syntax.specs.Words.{is_word_byte, is_name_byte, is_lower, is_digit, keyword_of, has_name_form, has_no_leading_zero, number_of, value_from};
+ghost use Rattle.pl_syntax.specs.Words.{is_word_byte, is_name_byte, is_lower, is_digit, keyword_of, clock_keyword_of, keyword_in, has_name_form, has_no_leading_zero, number_of, value_from};
 ghost use Rattle.pl_syntax.specs.Tokens.{word_token};
 ghost use Rattle.pl_syntax.specs.inside.Seen.{token_seen};
 
 use crate::fault::{NO_NUMBER, NO_TOKEN, TOO_LONG};
 use crate::limits::{MAX_DIGITS, MAX_NAME_BYTES, MAX_NUMBER};
+use crate::scan::Language;
 use crate::token::{Keyword, Token};
 
 // A digit.
@@ -61,6 +62,7 @@ fn is_spelled(word: &[u8], spelling: &[u8]) -> bool
     word == spelling
 }
 
+// The keyword of PL that is spelled so.
 #[tactic(auto, unfolding(crate::specs::Words::keyword_of))]
 fn keyword_of(word: &[u8]) -> Option<Keyword>
     ensures { result ≡ keyword_of word.now }
@@ -93,6 +95,48 @@ fn keyword_of(word: &[u8]) -> Option<Keyword>
         return Some(Keyword::Skip);
     }
     None
+}
+
+// The keyword of the language of clocks that is spelled so.
+#[tactic(auto, unfolding(crate::specs::Words::clock_keyword_of))]
+fn clock_keyword_of(word: &[u8]) -> Option<Keyword>
+    ensures { result ≡ clock_keyword_of word.now }
+{
+    if is_spelled(word, b"clock") {
+        return Some(Keyword::Clock);
+    }
+    if is_spelled(word, b"async") {
+        return Some(Keyword::Async);
+    }
+    if is_spelled(word, b"finish") {
+        return Some(Keyword::Finish);
+    }
+    if is_spelled(word, b"advance") {
+        return Some(Keyword::Advance);
+    }
+    if is_spelled(word, b"resume") {
+        return Some(Keyword::Resume);
+    }
+    if is_spelled(word, b"drop") {
+        return Some(Keyword::Drop);
+    }
+    if is_spelled(word, b"loop") {
+        return Some(Keyword::Loop);
+    }
+    if is_spelled(word, b"skip") {
+        return Some(Keyword::Skip);
+    }
+    None
+}
+
+// The keyword of the language that is spelled so.
+fn keyword_in(language: Language, word: &[u8]) -> Option<Keyword>
+    ensures { result ≡ keyword_in language word.now }
+{
+    match language {
+        Language::Phasers => keyword_of(word),
+        Language::Clocks => clock_keyword_of(word),
+    }
 }
 
 fn are_digits(word: &[u8]) -> bool
@@ -132,9 +176,9 @@ fn value_of(word: &[u8]) -> Option<u16>
     Some(value as u16)
 }
 
-/// What a word is, or the kind of its fault.
-pub fn word_token(word: &[u8]) -> Result<Token, u8>
-    ensures { token_seen result ≡ word_token word.now }
+/// What a word of the language is, or the kind of its fault.
+pub fn word_token(language: Language, word: &[u8]) -> Result<Token, u8>
+    ensures { token_seen result ≡ word_token language word.now }
 {
     if let [b'0'..=b'9', ..] = word {
         return match number_of(word) {
@@ -142,7 +186,7 @@ pub fn word_token(word: &[u8]) -> Result<Token, u8>
             None => Err(NO_NUMBER),
         };
     }
-    if let Some(k) = keyword_of(word) {
+    if let Some(k) = keyword_in(language, word) {
         return Ok(Token::Word(k));
     }
     if !has_name_form(word) {

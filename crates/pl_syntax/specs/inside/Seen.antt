@@ -2,9 +2,10 @@
 use Rattle.std.specs.Prelude.{ℕ, List, Result, Ok, Err}
 use Rattle.std.specs.Borrow.{Bor}
 use Rattle.pl_syntax.specs.declared.fault.SyntaxFault.{SyntaxFault}
+use Rattle.pl_syntax.specs.declared.scan.Language.{Language}
 use Rattle.pl_syntax.specs.declared.token.Token as token
 use Rattle.pl_syntax.specs.declared.token.Token.TheVariants as t
-use Rattle.pl_syntax.specs.Words.{IsName}
+use Rattle.pl_syntax.specs.Words.{IsNameIn}
 use Rattle.pl_syntax.specs.Tokens.{Token, the_end, sign, word, name, number, Front}
 
 -- the reader's token as a token of the language
@@ -25,7 +26,7 @@ abbrev pub front_seen : Result (token.Token × Bor (List ℕ)) SyntaxFault → F
 front_seen (Ok x) = Ok (token_of x.0, x.1.now)
 front_seen (Err fault) = Err fault
 
--- a token that is a name has the form of one
-abbrev pub HasForm : token.Token → Type 0
-HasForm (t.Name w) = IsName w.now
-HasForm _ = Unit {0}
+-- a token that is a name has the form of one in the language
+abbrev pub HasForm : Language → token.Token → Type 0
+HasForm language (t.Name w) = IsNameIn language w.now
+HasForm language _ = Unit {0}
