@@ -128,7 +128,14 @@ IsMoveOf a_finish (begins f) = Unit {0}
 IsMoveOf a_close (ends f) = Unit {0}
 IsMoveOf part m = ⊥
 
-module _ (P : ClockUnfolding → Type 0) (t n : ℕ) (u : ClockUnfolding) (was : P u) where
+module _ (P : ClockUnfolding → Type 0) (t n : ℕ) (u : ClockUnfolding) where
+  -- a part at which nothing may come to pass; a close is one where no finish governs
+  abbrev pub MayRest : ClockPart → Type 0
+  MayRest (an_async xs body) = ⊥
+  MayRest a_finish = ⊥
+  MayRest a_close = u.now.governing ≡ []
+  MayRest part = Unit {0}
+
   -- each move of that kind keeps it
   abbrev pub KeptByMoves : ClockPart → Type 0
   KeptByMoves part = (w : ClockUnfolding) (m : MakesMove t u w) → IsMoveOf part m.move → P w
@@ -136,23 +143,23 @@ module _ (P : ClockUnfolding → Type 0) (t n : ℕ) (u : ClockUnfolding) (was :
   kept : (part : ClockPart) → KeptByMoves part → (w : ClockUnfolding) (m : Move) → (k : MakesMove t u w) × k.move ≡ m → IsMoveOf part m → P w
   kept part moves w m k kind = moves w k.0 (subst (IsMoveOf part) (sym k.1) kind)
 
-  plain_keeps : (x : ClockPlain) → KeptByMoves (a_plain x) → (w : ClockUnfolding) → act_plain t n x u ≡ Ok w → P w
+  plain_keeps : P u → (x : ClockPlain) → KeptByMoves (a_plain x) → (w : ClockUnfolding) → act_plain t n x u ≡ Ok w → P w
   unfolding act_plain
-  plain_keeps (clock x) moves w e =
+  plain_keeps was (clock x) moves w e =
       let a = bind_ok (next_clock n u) _ w e in
       let g = clock_given n u a.0 a.1 in
       kept (a_plain (clock x)) moves w (opens a.0) (moved t n (opens a.0) u _ w (g.room, g.next, x, refl) refl refl a.2) tt
-  plain_keeps (advance x) moves w e =
+  plain_keeps was (advance x) moves w e =
       let a = bind_ok (clock_of false n [] x u.now) _ w e in
       kept (a_plain (advance x)) moves w (advances a.0) (moved t n (advances a.0) u u w (x, (clock_found false n [] x u.now a.0 a.1).clock, refl) refl refl a.2) tt
-  plain_keeps (resume x) moves w e =
+  plain_keeps was (resume x) moves w e =
       let a = bind_ok (clock_of true n [] x u.now) _ w e in
       let f = clock_found true n [] x u.now a.0 a.1 in
       kept (a_plain (resume x)) moves w (resumes a.0) (moved t n (resumes a.0) u u w (x, f.clock, f.rested refl, refl) refl refl a.2) tt
-  plain_keeps (drop x) moves w e =
+  plain_keeps was (drop x) moves w e =
       let a = bind_ok (clock_of false n [] x u.now) _ w e in
       kept (a_plain (drop x)) moves w (drops a.0) (moved t n (drops a.0) u u w (x, (clock_found false n [] x u.now a.0 a.1).clock, refl) refl refl a.2) tt
-  plain_keeps skip moves w e = subst P (ok_is _ _ e) was
+  plain_keeps was skip moves w e = subst P (ok_is _ _ e) was
 
   async_keeps :
       (xs : List (List ℕ)) (body : ClockTree) → KeptByMoves (an_async xs body) → (w : ClockUnfolding) → act_async t n xs body u ≡ Ok w → P w
@@ -171,18 +178,18 @@ module _ (P : ClockUnfolding → Type 0) (t n : ℕ) (u : ClockUnfolding) (was :
       let g = clock_given n u a.0 a.1 in
       kept a_finish moves w (begins a.0) (moved t n (begins a.0) u _ w (g.room, g.next, refl) refl refl a.2) tt
 
-  close_keeps : KeptByMoves a_close → (fs : List ℕ) → u.now.governing ≡ fs → (w : ClockUnfolding) → act_close t n fs u ≡ Ok w → P w
+  close_keeps : (u.now.governing ≡ [] → P u) → KeptByMoves a_close → (fs : List ℕ) → u.now.governing ≡ fs → (w : ClockUnfolding) → act_close t n fs u ≡ Ok w → P w
   unfolding act_close
-  close_keeps moves [] is w e = subst P (ok_is _ _ e) was
-  close_keeps moves (f ∷ fs) is w e = kept a_close moves w (ends f) (moved t n (ends f) u _ w (fs, is, refl) refl refl e) tt
+  close_keeps rests moves [] is w e = subst P (ok_is _ _ e) (rests is)
+  close_keeps rests moves (f ∷ fs) is w e = kept a_close moves w (ends f) (moved t n (ends f) u _ w (fs, is, refl) refl refl e) tt
 
-  pub act_keeps : (part : ClockPart) → KeptByMoves part → (w : ClockUnfolding) → clock_act t n part u ≡ Ok w → P w
-  act_keeps (a_plain x) moves w e = plain_keeps x moves w e
-  act_keeps (an_async xs body) moves w e = async_keeps xs body moves w e
-  act_keeps a_finish moves w e = finish_keeps moves w e
-  act_keeps a_close moves w e = close_keeps moves u.now.governing refl w e
-  act_keeps a_loop moves w e = subst P (ok_is _ _ e) was
-  act_keeps a_turn moves w e = subst P (ok_is _ _ e) was
+  pub act_keeps : (part : ClockPart) → (MayRest part → P u) → KeptByMoves part → (w : ClockUnfolding) → clock_act t n part u ≡ Ok w → P w
+  act_keeps (a_plain x) rests moves w e = plain_keeps (rests tt) x moves w e
+  act_keeps (an_async xs body) rests moves w e = async_keeps xs body moves w e
+  act_keeps a_finish rests moves w e = finish_keeps moves w e
+  act_keeps a_close rests moves w e = close_keeps rests moves u.now.governing refl w e
+  act_keeps a_loop rests moves w e = subst P (ok_is _ _ e) (rests tt)
+  act_keeps a_turn rests moves w e = subst P (ok_is _ _ e) (rests tt)
 
 -- what a stop is
 pub record Stops (t : ℕ) (u w : ClockUnfolding) : Type 0 where
@@ -221,7 +228,7 @@ module _ (P : ClockUnfolding → Type 0) (t : ℕ) (visits : (n : ℕ) (u : Cloc
   come_keeps m u w was e =
       let a = bind_ok (counted_coming m.statement m.part u) (clock_act t m.statement m.part) w e in
       let now = coming_counts P m.statement m.part u a.0 was (visits (u.visits + 1) u was) a.1 in
-      act_keeps P t m.statement a.0 now m.part (λ z makes kind. moves a.0 z now makes) w a.2
+      act_keeps P t m.statement a.0 m.part (λ r. now) (λ z makes kind. moves a.0 z now makes) w a.2
 
   pub comings_keep : (ms : List ClockComing) (u w : ClockUnfolding) → P u → come_all t ms u ≡ Ok w → P w
   unfolding come_all
