@@ -6,3 +6,4 @@ pub mod Knows
 pub mod Unfolded
 pub mod Starting
 pub mod ClockPlanIsChecked
+pub mod ClockFaultIsOfText

@@ -64,7 +64,9 @@ clocks_found n earlier (x ∷ xs) now ps e =
 -- ---- moves
 
 -- a move of the right number of ops
-moved : (t n : ℕ) (m : Move) (u v w : ClockUnfolding) → MayMake t u m v → v.ops ≡ u.ops → v.now.standing ≡ u.now.standing → move_at t n m v ≡ Ok w → (k : MakesMove t u w) × k.move ≡ m
+moved :
+    (t n : ℕ) (m : Move) (u v w : ClockUnfolding) → MayMake t u m v → v.ops ≡ u.ops → v.now.standing ≡ u.now.standing → move_at t n m v ≡ Ok w →
+    (k : MakesMove t u w) × k.move ≡ m
 unfolding move_at
 moved t n m u v w may ops standing e =
     let a = bind_ok (fault_unless (nat_le (v.ops + length (ops_of v.now.standing m)) max_ops) too_many_clock_ops n) (λ _. Ok (with_move t m v)) w e in

@@ -1,10 +1,16 @@
 // The laws over the definition of the unfolding: each is the contract of a function with an empty body.
-ghost use Rattle.clock_moves.specs.Laws.{ClockPlanIsChecked};
+ghost use Rattle.clock_moves.specs.Laws.{ClockFaultIsOfText, ClockPlanIsChecked};
 ghost use Rattle.clock_moves.specs.WorkedClocks.{ArePlanned, ClockLimitsHold, HaveMoves, worked_clock_faults, worked_clock_plans, worked_moves};
 
 /// The plan to which a clock program unfolds is a checked plan.
 pub fn clock_plan_is_checked()
     ensures { ClockPlanIsChecked }
+{}
+
+/// A fault of a clock program has one of the nine kinds, and the number of a statement of the program; or, with the kind of an op too many, the number 0:
+/// the end of activity 0.
+pub fn clock_fault_is_of_text()
+    ensures { ClockFaultIsOfText }
 {}
 
 /// Small clock programs with their plans and moves, and with first faults that tell the orders of the tests; and one step more in a state at a limit.

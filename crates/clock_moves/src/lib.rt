@@ -3,4 +3,4 @@
 
 mod laws;
 
-pub use laws::{clock_plan_is_checked, worked_clock_programs};
+pub use laws::{clock_fault_is_of_text, clock_plan_is_checked, worked_clock_programs};
