@@ -4,3 +4,6 @@ pub mod Pushed
 pub mod ForkBodies
 pub mod BodiesStand
 pub mod TasksVisits
+pub mod CodesOfVisits
+pub mod Growing
+pub mod MadeByVisits

@@ -2,9 +2,14 @@
 #![tactic(auto)]
 
 mod bodies;
+mod laws;
 mod lookup;
 mod making;
 mod seeking;
 mod statement;
 
+pub use laws::{ops_have_origins, phasers_and_tasks_have_origins};
 pub use lookup::Origins;
+
+#[cfg(test)]
+mod tests;

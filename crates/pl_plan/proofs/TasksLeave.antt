@@ -46,11 +46,11 @@ module _ (P : Tree → Type 0) (parts : IsOfParts P) where
   OfStart None = Unit {0}
   OfStart (Some start) = P start.body
 
-  abbrev OfComing : Coming → Type 0
+  abbrev pub OfComing : Coming → Type 0
   OfComing (a_fork x body) = P body
   OfComing c = Unit {0}
 
-  abbrev OfVisits : List Visit → Type 0
+  abbrev pub OfVisits : List Visit → Type 0
   OfVisits [] = Unit {0}
   OfVisits (m ∷ ms) = OfComing m.coming × OfVisits ms
 
@@ -62,7 +62,7 @@ module _ (P : Tree → Type 0) (parts : IsOfParts P) where
   of_times zero xs a = tt
   of_times (suc k) xs a = of_more xs (times k xs) a (of_times k xs a)
 
-  of_body : (n : ℕ) (body : Tree) → P body → OfVisits (visits_of n body)
+  pub of_body : (n : ℕ) (body : Tree) → P body → OfVisits (visits_of n body)
   of_body n done h = tt
   of_body n (plain x rest) h = (tt, of_body (n + 1) rest (parts.of_plain x rest h))
   of_body n (fork x body rest) h = let both = parts.of_fork x body rest h in (both.0, of_body (n + 1 + count body) rest both.1)
@@ -83,13 +83,13 @@ module _ (P : Tree → Type 0) (parts : IsOfParts P) where
     pub bodies : (c : ℕ) → OfStart (start_at s c)
 
   -- what task t does to a state: the codes of the other tasks stay, and the starts of those up to t
-  record Steps (t : ℕ) (s r : UnfoldingState) : Type 0 where
-    kept : Kept r
-    here : t < length r.plan.codes
-    others : (u : ℕ) → (u ≡ t → ⊥) → code r u ≡ code s u
-    starts : (u : ℕ) → u ≤ t → start_at r u ≡ start_at s u
+  pub record Steps (t : ℕ) (s r : UnfoldingState) : Type 0 where
+    pub kept : Kept r
+    pub here : t < length r.plan.codes
+    pub others : (u : ℕ) → (u ≡ t → ⊥) → code r u ≡ code s u
+    pub starts : (u : ℕ) → u ≤ t → start_at r u ≡ start_at s u
 
-  steps_same : (t : ℕ) (s v : UnfoldingState) → v.plan.parents ≡ s.plan.parents → v.plan.codes ≡ s.plan.codes → v.starts ≡ s.starts → t < length s.plan.codes → Kept s → Steps t s v
+  pub steps_same : (t : ℕ) (s v : UnfoldingState) → v.plan.parents ≡ s.plan.parents → v.plan.codes ≡ s.plan.codes → v.starts ≡ s.starts → t < length s.plan.codes → Kept s → Steps t s v
   steps_same t s v parents codes starts here k = record {
     kept = record {
       codes = ap length codes ∙ k.codes ∙ ap length (sym parents);
@@ -104,10 +104,10 @@ module _ (P : Tree → Type 0) (parts : IsOfParts P) where
     starts = λ u l. ap (λ ss. slice_index_or ss u None) starts;
   }
 
-  steps_is : (t : ℕ) (s r : UnfoldingState) → s ≡ r → t < length s.plan.codes → Kept s → Steps t s r
+  pub steps_is : (t : ℕ) (s r : UnfoldingState) → s ≡ r → t < length s.plan.codes → Kept s → Steps t s r
   steps_is t s r e here k = subst (λ q. Steps t s q) e (steps_same t s s refl refl refl here k)
 
-  steps_more : (t : ℕ) (s u r : UnfoldingState) → Steps t s u → Steps t u r → Steps t s r
+  pub steps_more : (t : ℕ) (s u r : UnfoldingState) → Steps t s u → Steps t u r → Steps t s r
   steps_more t s u r a b = record { kept = b.kept; here = b.here; others = λ c n. b.others c n ∙ a.others c n; starts = λ c l. b.starts c l ∙ a.starts c l }
 
   -- one op more
@@ -228,7 +228,7 @@ module _ (P : Tree → Type 0) (parts : IsOfParts P) where
       let a = steps_same t s v refl refl refl here k in
       steps_more t s v r a (comes_steps t m.statement m.coming v r h a.kept a.here (subst (λ q. come_to t m.statement m.coming q ≡ Ok r) is b.2))
 
-  visits_steps : (t : ℕ) (ms : List Visit) (s r : UnfoldingState) → OfVisits ms → Kept s → t < length s.plan.codes → make_visits t ms s ≡ Ok r → Steps t s r
+  pub visits_steps : (t : ℕ) (ms : List Visit) (s r : UnfoldingState) → OfVisits ms → Kept s → t < length s.plan.codes → make_visits t ms s ≡ Ok r → Steps t s r
   visits_steps t [] s r h k here e = steps_is t s r (no_visit t s r e) here k
   visits_steps t (m ∷ ms) s r h k here e =
       let b = first_visit t m ms s r e in
@@ -238,10 +238,10 @@ module _ (P : Tree → Type 0) (parts : IsOfParts P) where
   -- ---- the end of a task
 
   -- from s to r task t leaves these phasers
-  record Leaving (t : ℕ) (s r : UnfoldingState) : Type 0 where
-    phasers : List ℕ
-    adds : Adds t s r (drops_of phasers)
-    steps : Steps t s r
+  pub record Leaving (t : ℕ) (s r : UnfoldingState) : Type 0 where
+    pub phasers : List ℕ
+    pub adds : Adds t s r (drops_of phasers)
+    pub steps : Steps t s r
 
   leaving_none : (t : ℕ) (s r : UnfoldingState) → s ≡ r → t < length s.plan.codes → Kept s → Leaving t s r
   leaving_none t s r e here k = record {
@@ -273,7 +273,7 @@ module _ (P : Tree → Type 0) (parts : IsOfParts P) where
         steps = steps_op_from t n (op.Drop (phaser p)) s v r (steps_same t s v refl refl refl here k) op_is;
       }
 
-  leaves_below : (t n p : ℕ) (s r : UnfoldingState) → Kept s → t < length s.plan.codes → leave_below t n p s ≡ Ok r → Leaving t s r
+  pub leaves_below : (t n p : ℕ) (s r : UnfoldingState) → Kept s → t < length s.plan.codes → leave_below t n p s ≡ Ok r → Leaving t s r
   unfolding leave_below
   leaves_below t n zero s r k here e = leaving_none t s r (ok_is s r e) here k
   leaves_below t n (suc p) s r k here e =
@@ -374,7 +374,7 @@ module _ (P : Tree → Type 0) (parts : IsOfParts P) where
     later = λ u l. h.later u (omega (arith, l));
   }
 
-  inside : (t : ℕ) (start : Start) (s : UnfoldingState) → Kept s → start_at s t ≡ Some start → t < length s.plan.codes
+  pub inside : (t : ℕ) (start : Start) (s : UnfoldingState) → Kept s → start_at s t ≡ Some start → t < length s.plan.codes
   inside t start s k is = elim (cases_lt t (length s.starts)) [
     | inl l ↦ omega (arith, l, k.starts, k.codes)
     | inr l ↦ absurd (let none = get_or_past s.starts t None l in cc)
@@ -405,7 +405,7 @@ module _ (P : Tree → Type 0) (parts : IsOfParts P) where
       subst (λ m. Until two m r) (let z : t + 1 + n ≡ t + suc n = omega arith in z)
       (next_until two n t s r h (λ m g f. tasks_until two n (t + 1) m r g f) (start_at s t) refl e)
 
-  opening_kept : (body : Tree) → P body → Kept (opening_state body)
+  pub opening_kept : (body : Tree) → P body → Kept (opening_state body)
   opening_kept body h = record { codes = refl; starts = refl; few_tasks = omega arith; few_ops = omega arith; drawn = none_drawn; bodies = first }
     where
       none_drawn : (c u : ℕ) → is_parent u (slice_index_or (opening_state body).plan.parents c None) ≡ true → u < c

@@ -142,7 +142,7 @@ pub no_visit : (t : ℕ) (s r : UnfoldingState) → make_visits t [] s ≡ Ok r 
 unfolding make_visits
 no_visit t s r e = ok_is s r e
 
-visits_cut : (t : ℕ) (xs ys : List Visit) (s r : UnfoldingState) → make_visits t (xs ++ ys) s ≡ Ok r →
+pub visits_cut : (t : ℕ) (xs ys : List Visit) (s r : UnfoldingState) → make_visits t (xs ++ ys) s ≡ Ok r →
     (u : UnfoldingState) × (make_visits t xs s ≡ Ok u) × (make_visits t ys u ≡ Ok r)
 unfolding make_visits
 visits_cut t [] ys s r e = (s, refl, e)

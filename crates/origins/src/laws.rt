@@ -1,0 +1,21 @@
+// The laws of origins: each is the contract of a function with an empty body.
+
+ghost use Rattle.origins.specs.OriginLaws.{CodesAreOfVisits, MakersAreOfVisits, OpsHaveOrigins, OriginsHaveOps, ParentsAreOfVisits, PhasersHaveOrigins, TasksHaveOrigins};
+
+/// Each code of a program's plan is made by its task's visits, op by op, each visit the op of its statement; behind these stand the Drops of the task's end, of
+/// which it has some in PL 2 alone. So each op has its origin, which is the statement of the visit that makes it, or is one of the end and has none; and each
+/// origin is that of an op.
+pub fn ops_have_origins()
+    ensures codes { CodesAreOfVisits }
+    ensures ops { OpsHaveOrigins }
+    ensures origins { OriginsHaveOps }
+{}
+
+/// The phasers of a program's plan are made, and its tasks from 1 on are drawn, by the tasks of which a visit does so, in the order of these visits. So each
+/// phaser and each of these tasks has its origin, which is the statement of such a visit of the phaser's maker or of the task's parent.
+pub fn phasers_and_tasks_have_origins()
+    ensures makers { MakersAreOfVisits }
+    ensures parents { ParentsAreOfVisits }
+    ensures phasers { PhasersHaveOrigins }
+    ensures tasks { TasksHaveOrigins }
+{}
