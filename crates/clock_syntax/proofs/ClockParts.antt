@@ -6,7 +6,7 @@ use Rattle.clock_syntax.specs.declared.tree.ClockStmt.TheVariants as s
 use Rattle.clock_syntax.specs.Trees.{ClockTree, done, clock_count}
 use Rattle.clock_syntax.specs.Bodies.{clock_followed_by, clock_tree_of}
 
-clock_count_first : (q : ClockStmt) (p : ClockTree) →
+pub clock_count_first : (q : ClockStmt) (p : ClockTree) →
     clock_count (clock_followed_by q p) ≡ clock_count (clock_followed_by q done) + clock_count p
 clock_count_first (s.Clock x) p = omega arith
 clock_count_first (s.Advance x) p = omega arith

@@ -25,6 +25,7 @@ pub use laws::{
 };
 pub use limits::MAX_VISITS;
 pub use membership::Membership;
+pub use pieces::push_each;
 pub use planning::{Unfolded, plan, unfold};
 
 #[cfg(test)]

@@ -167,8 +167,8 @@ fn fold_steps<'o>(
     Ok(left)
 }
 
-// One piece for each op.
-fn push_each(ops: &[Op], pieces: &mut Vec<Piece>) -> Result<(), NoMemory>
+/// Appends one piece for each op. After `NoMemory` some of them may be there.
+pub fn push_each(ops: &[Op], pieces: &mut Vec<Piece>) -> Result<(), NoMemory>
     ensures { OnOk result (pieces.new.items ≡ pieces.old.items ++ straight ops.now) }
 {
     for op in ops {
