@@ -7,3 +7,4 @@ pub mod Unfolded
 pub mod Starting
 pub mod ClockPlanIsChecked
 pub mod ClockFaultIsOfText
+pub mod ByClockTable

@@ -4,12 +4,12 @@ use Rattle.std.specs.Prelude.{nat_le, nat_lt}
 use Rattle.std.proofs.lemmas.Bool.Decides.{nat_tests}
 use Rattle.pl_plan.specs.Unfolding.{◌>>=◌, Outcome, fault, fault_unless}
 use Rattle.clock_moves.specs.Unfolding.{act_async, act_close, act_finish, act_plain, clock_of, clock_plan_of, clock_unfolded, clocks_of, come_all, count_clock_visit, move_at, next_activity, next_clock, stop, unfold_activities}
-use Rattle.clock_moves.specs.WorkedClocks.{ArePlanned, ClockLimitsHold, HaveMoves, NoActivityMore, NoActivityWithoutCells, NoClockMore, NoClockOpMore, NoClockVisitMore, NoClockWithoutCells, NoEndMore, NoFinishMore, NoFinishWithoutCells, worked_clock_faults, worked_clock_plans, worked_moves}
+use Rattle.clock_moves.specs.WorkedClocks.{ArePlanned, ClockLimitsHold, HaveMoves, NoActivityMore, NoActivityWithoutCells, NoClockMore, NoClockOpMore, NoClockVisitMore, NoClockWithoutCells, NoEndMore, NoFinishMore, NoFinishWithoutCells, NoVisitAtAnEnd, worked_clock_faults, worked_clock_plans, worked_moves}
 
 pub plans_worked : ArePlanned worked_clock_plans
 unfolding clock_plan_of clock_unfolded unfold_activities come_all count_clock_visit act_plain act_async act_finish act_close clock_of clocks_of next_clock
     next_activity move_at stop
-plans_worked = (refl, (refl, (refl, (refl, (refl, (refl, (refl, tt)))))))
+plans_worked = (refl, (refl, (refl, (refl, (refl, (refl, (refl, (refl, (refl, tt)))))))))
 
 pub moves_worked : HaveMoves worked_moves
 unfolding clock_unfolded unfold_activities come_all count_clock_visit act_plain act_async act_finish act_close clock_of clocks_of next_clock next_activity move_at stop
@@ -78,6 +78,10 @@ no_visit_more : NoClockVisitMore
 unfolding count_clock_visit
 no_visit_more n s e = fails_last (nat_lt s.visits 4194304) 9 n _ (grind (arith, nat_tests))
 
+no_visit_at_an_end : NoVisitAtAnEnd
+unfolding act_close
+no_visit_at_an_end t n s e none = ap (λ fs. act_close t n fs s) none
+
 pub limits_hold : ClockLimitsHold
 limits_hold = record {
   activities = no_activity_more;
@@ -85,5 +89,5 @@ limits_hold = record {
   activity_cells = no_activity_without_cells;
   clock_cells = (no_clock_without_cells, no_finish_without_cells);
   ops = (no_op_more, no_end_more);
-  visits = no_visit_more;
+  visits = (no_visit_more, no_visit_at_an_end);
 }

@@ -2,6 +2,7 @@
 pub mod Moves
 pub mod Unfolding
 pub mod Making
+pub mod ClockTests
 -- What is proved of it.
 pub mod Laws
 pub mod WorkedClocks

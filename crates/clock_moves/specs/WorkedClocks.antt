@@ -7,7 +7,7 @@ use Rattle.armus_base.specs.declared.op.Op.TheVariants as op
 use Rattle.armus_base.specs.Plans.{Plan, straight_plan}
 use Rattle.clock_syntax.specs.Trees.{ClockTree, clock, advance, resume, drop, skip, done, plain, async, finish, loop}
 use Rattle.clock_moves.specs.Moves.{Move, opens, starts, advances, resumes, drops, begins, ends, stops}
-use Rattle.clock_moves.specs.Unfolding.{ClockUnfolding, act_async, act_finish, act_plain, clock_plan_of, clock_unfolded, count_clock_visit, move_at}
+use Rattle.clock_moves.specs.Unfolding.{ClockUnfolding, a_close, act_async, act_finish, act_plain, clock_plan_of, clock_unfolded, come, coming, count_clock_visit, move_at}
 use Rattle.pl_plan.specs.Unfolding.{Outcome, ◌>>=◌, fault, phaser, task}
 
 -- a clock program and the answer of its unfolding
@@ -95,6 +95,14 @@ abbrev rebound : ClockTree
 rebound =
     plain (clock c) (loop 2 (plain (resume c) (plain (advance c) (plain (clock c) (plain (advance c) done)))) (loop 0 (plain (drop d) done) done))
 
+-- clock c; loop 2 { resume(c); advance(c); }
+abbrev resumed_again : ClockTree
+resumed_again = plain (clock c) (loop 2 (plain (resume c) (plain (advance c) done)) done)
+
+-- clock c; async(c) { resume(c); } resume(c);
+abbrev pending_apart : ClockTree
+pending_apart = plain (clock c) (async (c ∷ []) (plain (resume c) done) (plain (resume c) done))
+
 -- some programs with their plans
 abbrev pub worked_clock_plans : List ClockExample
 worked_clock_plans =
@@ -116,6 +124,9 @@ worked_clock_plans =
     ∷ clock_plans rebound [] (0 ∷ 0 ∷ 0 ∷ [])
     ((make_op 0 ∷ adv_op 0 ∷ await_op 0 ∷ make_op 1 ∷ adv_op 1 ∷ await_op 1 ∷ adv_op 1 ∷ await_op 1
     ∷ make_op 2 ∷ adv_op 2 ∷ await_op 2 ∷ drop_op 0 ∷ drop_op 1 ∷ drop_op 2 ∷ []) ∷ [])
+    ∷ clock_plans resumed_again [] (0 ∷ []) ((make_op 0 ∷ adv_op 0 ∷ await_op 0 ∷ adv_op 0 ∷ await_op 0 ∷ drop_op 0 ∷ []) ∷ [])
+    ∷ clock_plans pending_apart (0 ∷ []) (0 ∷ [])
+    ((make_op 0 ∷ reg_op 1 0 ∷ fork_op 1 ∷ adv_op 0 ∷ drop_op 0 ∷ []) ∷ (adv_op 0 ∷ drop_op 0 ∷ []) ∷ [])
     ∷ []
 
 -- some programs with their moves
@@ -227,6 +238,10 @@ NoEndMore = (t n f : ℕ) (s : ClockUnfolding) → s.ops ≡ 1048574 → move_at
 abbrev pub NoClockVisitMore : Type 0
 NoClockVisitMore = (n : ℕ) (s : ClockUnfolding) → s.visits ≡ 4194304 → count_clock_visit n s ≡ Err (fault 9 n)
 
+-- the end of a finish is none, and goes on
+abbrev pub NoVisitAtAnEnd : Type 0
+NoVisitAtAnEnd = (t n : ℕ) (s : ClockUnfolding) → s.visits ≡ 4194304 → s.now.governing ≡ [] → come t (coming n a_close) s ≡ Ok s
+
 -- the limits of the unfolding
 pub record ClockLimitsHold : Type 0 where
   pub activities : NoActivityMore
@@ -234,4 +249,4 @@ pub record ClockLimitsHold : Type 0 where
   pub activity_cells : NoActivityWithoutCells
   pub clock_cells : NoClockWithoutCells × NoFinishWithoutCells
   pub ops : NoClockOpMore × NoEndMore
-  pub visits : NoClockVisitMore
+  pub visits : NoClockVisitMore × NoVisitAtAnEnd

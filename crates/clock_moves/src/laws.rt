@@ -1,4 +1,5 @@
 // The laws over the definition of the unfolding: each is the contract of a function with an empty body.
+ghost use Rattle.clock_moves.specs.ClockTests.{ComesByTable, FaultsByTable, StopsWithRoom, StopsWithoutRoom};
 ghost use Rattle.clock_moves.specs.Laws.{ClockFaultIsOfText, ClockPlanIsChecked};
 ghost use Rattle.clock_moves.specs.WorkedClocks.{ArePlanned, ClockLimitsHold, HaveMoves, worked_clock_faults, worked_clock_plans, worked_moves};
 
@@ -11,6 +12,16 @@ pub fn clock_plan_is_checked()
 /// the end of activity 0.
 pub fn clock_fault_is_of_text()
     ensures { ClockFaultIsOfText }
+{}
+
+/// What a coming of the unfolding means, in other words than its computation: it passes the rows of a table of tests one by one and does what its statement
+/// says, or it answers the first row that is at fault, with the statement's number; and an activity ends where there is room for the ops that leave each of
+/// its clocks and finishes.
+pub fn clock_coming_by_table()
+    ensures answer { ComesByTable }
+    ensures fault { FaultsByTable }
+    ensures ends { StopsWithRoom }
+    ensures full { StopsWithoutRoom }
 {}
 
 /// Small clock programs with their plans and moves, and with first faults that tell the orders of the tests; and one step more in a state at a limit.

@@ -3,4 +3,6 @@
 
 mod laws;
 
-pub use laws::{clock_fault_is_of_text, clock_plan_is_checked, worked_clock_programs};
+pub use laws::{
+    clock_coming_by_table, clock_fault_is_of_text, clock_plan_is_checked, worked_clock_programs,
+};
