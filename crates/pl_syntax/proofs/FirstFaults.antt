@@ -5,7 +5,7 @@ use Rattle.pl_syntax.specs.declared.limits.TheConstants.{MAX_OPEN_BRACES}
 use Rattle.pl_syntax.specs.declared.token.Sign.TheVariants.{OpenBrace}
 use Rattle.pl_syntax.specs.declared.fault.SyntaxFault.{SyntaxFault}
 use Rattle.pl_syntax.specs.Tokens.{Token, sign, front, Leads}
-use Rattle.pl_syntax.specs.Grammar.{opened, open_after, StaysShallow, IsFirstFault, IsAtFault, no_token, cannot_stand, too_deep}
+use Rattle.pl_syntax.specs.Grammar.{opened, open_after, StaysShallow, IsFirstSyntaxFault, IsAtFault, no_token, cannot_stand, too_deep}
 use Rattle.pl_syntax.proofs.Fronts.{ok_pair}
 
 -- ---- readings of one text
@@ -61,7 +61,7 @@ module _ (Starts : List Token → Type 0) (begins_front : (ts us : List Token) �
   one_token : (before : List Token) (t : Token) (vs : List Token) → Starts (before ++ t ∷ vs) → Starts (before ++ t ∷ [])
   one_token before t vs b = begins_front (before ++ t ∷ []) vs (subst Starts (sym (append_assoc before (t ∷ []) vs)) b)
 
-  began : (scan : Scan) (start : List ℕ) (f : SyntaxFault) (b : IsFirstFault Starts scan start f) → Starts b.before
+  began : (scan : Scan) (start : List ℕ) (f : SyntaxFault) (b : IsFirstSyntaxFault Starts scan start f) → Starts b.before
   began scan start f b = begins_front b.before (b.goes_on.0 ∷ []) b.goes_on.1
 
   same_fault : (scan : Scan) (before : List Token) (text : List ℕ) (f g : SyntaxFault) → IsAtFault Starts before scan text f → IsAtFault Starts before scan text g → f ≡ g
@@ -83,7 +83,7 @@ module _ (Starts : List Token → Type 0) (begins_front : (ts us : List Token) �
   goes_past scan before left f us end a l b s =
       stops_all scan before left f l.0 l.3.0 l.1 a l.3.1 (one_token before l.0 l.1 (subst Starts l.2 b)) (subst (StaysShallow 0) l.2 s)
 
-  pub one_from : (scan : Scan) (start : List ℕ) (f g : SyntaxFault) → IsFirstFault Starts scan start f → IsFirstFault Starts scan start g → f ≡ g
+  pub one_from : (scan : Scan) (start : List ℕ) (f g : SyntaxFault) → IsFirstSyntaxFault Starts scan start f → IsFirstSyntaxFault Starts scan start g → f ≡ g
   one_from scan start f g a b = elim (compare scan start a.before a.left b.before b.left a.reads b.reads) [
     | inl e ↦ same_fault scan b.before b.left f g (subst (λ (x : List Token). IsAtFault Starts x scan b.left f) e.0 (subst (λ (x : List ℕ). IsAtFault Starts a.before scan x f) e.1 a.here)) b.here
     | inr (inl l) ↦ absurd (goes_past scan a.before a.left f b.before b.left a.here l (began scan start g b) b.shallow)
@@ -107,7 +107,7 @@ module _ (Starts : List Token → Type 0) (begins_front : (ts us : List Token) �
 
     -- no whole stretch has a fault
     pub no_fault : (scan : Scan) (start : List ℕ) (us : List Token) (end : List ℕ) (f : SyntaxFault) → Whole us → StaysShallow 0 us → Leads scan start us end
-        → IsFirstFault Starts scan start f → ⊥
+        → IsFirstSyntaxFault Starts scan start f → ⊥
     no_fault scan start us end f whole shallow reads b = elim (compare scan start b.before b.left us end b.reads reads) [
       | inl e ↦ end_only us whole b.goes_on.0 [] (subst (λ (x : List Token). Starts (x ++ b.goes_on.0 ∷ [])) e.0 b.goes_on.1)
       | inr (inl l) ↦ stops_all scan b.before b.left f l.0 l.3.0 l.1 b.here l.3.1

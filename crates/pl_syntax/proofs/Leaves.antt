@@ -12,8 +12,8 @@ use Rattle.pl_syntax.specs.Tokens.{Token, the_end, sign, word, name, number, fro
 use Rattle.pl_syntax.specs.inside.Reading.{◌>>=◌, sign_number, unexpected, sign_in, sign_at, name_in, name_at, number_in, number_at, maker_in, maker_at, opened_at}
 use Rattle.pl_syntax.specs.Grammar.{opened, open_after, StaysShallow}
 use Rattle.pl_syntax.proofs.Fronts.{chosen, ok_pair}
-use Rattle.pl_syntax.proofs.Machine.{then, Shape, a_sign, a_name, a_number, a_maker, State, at, fits, step, run, run-append}
-use Rattle.pl_syntax.proofs.Forest.{same_sign}
+use Rattle.pl_syntax.proofs.Machine.{Firsts, then, Shape, a_sign, a_name, a_number, a_maker, State, at, fits, step, run, run-append}
+use Rattle.pl_syntax.proofs.Nesting.{same_sign}
 
 abbrev Fault : Type 0
 Fault = SyntaxFault
@@ -45,64 +45,49 @@ StaysShallow-append n (t ∷ ts) us p q = (p.0, StaysShallow-append (opened t n)
 -- ---- where reading stops
 
 -- the token that is next fits no longer
-pub record Refused (scan : Scan) (ss : List Shape) (d : ℕ) (left : List ℕ) (f : Fault) : Type 0 where
+pub record Refused (scan : Scan) (g : Firsts) (ss : List Shape) (d : ℕ) (left : List ℕ) (f : Fault) : Type 0 where
   pub token : Token
   pub rest : List ℕ
   pub here : front scan left ≡ Ok (token, rest)
-  pub no_step : step (at ss d) token ≡ None
+  pub no_step : step g (at ss d) token ≡ None
   pub fault_is : f ≡ unexpected scan left
 
-pub record Full (scan : Scan) (ss : List Shape) (d : ℕ) (left : List ℕ) (f : Fault) : Type 0 where
+pub record Full (scan : Scan) (g : Firsts) (ss : List Shape) (d : ℕ) (left : List ℕ) (f : Fault) : Type 0 where
   pub rest : List ℕ
   pub here : front scan left ≡ Ok (sign OpenBrace, rest)
   pub next : State
-  pub steps : step (at ss d) (sign OpenBrace) ≡ Some next
+  pub steps : step g (at ss d) (sign OpenBrace) ≡ Some next
   pub full : d ≡ MAX_OPEN_BRACES
   pub fault_is : f ≡ record { at = place scan left; kind = TOO_DEEP }
 
 -- from this state, tokens lead to a fault
-pub record Stuck (scan : Scan) (ss : List Shape) (d : ℕ) (text : List ℕ) (f : Fault) : Type 0 where
+pub record Stuck (scan : Scan) (g : Firsts) (ss : List Shape) (d : ℕ) (text : List ℕ) (f : Fault) : Type 0 where
   pub before : List Token
   pub left : List ℕ
   pub shapes : List Shape
   pub deep : ℕ
   pub reads : Leads scan text before left
-  pub runs : run (at ss d) before ≡ Some (at shapes deep)
+  pub runs : run g (at ss d) before ≡ Some (at shapes deep)
   pub shallow : StaysShallow d before
-  pub here : (front scan left ≡ Err f) ⊎ (Refused scan shapes deep left f ⊎ Full scan shapes deep left f)
+  pub here : (front scan left ≡ Err f) ⊎ (Refused scan g shapes deep left f ⊎ Full scan g shapes deep left f)
 
 -- behind tokens that the machine takes
-pub behind : (scan : Scan) (ss : List Shape) (d : ℕ) (text : List ℕ) (ts : List Token) (ss' : List Shape) (d' : ℕ) (mid : List ℕ) (f : Fault)
-    → Leads scan text ts mid → run (at ss d) ts ≡ Some (at ss' d') → StaysShallow d ts → open_after d ts ≡ d' → Stuck scan ss' d' mid f → Stuck scan ss d text f
-behind scan ss d text ts ss' d' mid f leads runs shallow depth s = record {
+pub behind : (scan : Scan) (g : Firsts) (ss : List Shape) (d : ℕ) (text : List ℕ) (ts : List Token) (ss' : List Shape) (d' : ℕ) (mid : List ℕ) (f : Fault)
+    → Leads scan text ts mid → run g (at ss d) ts ≡ Some (at ss' d') → StaysShallow d ts → open_after d ts ≡ d' → Stuck scan g ss' d' mid f → Stuck scan g ss d text f
+behind scan g ss d text ts ss' d' mid f leads runs shallow depth s = record {
   before = ts ++ s.before;
   left = s.left;
   shapes = s.shapes;
   deep = s.deep;
   reads = Leads-append scan text ts mid s.before s.left leads s.reads;
-  runs = run-append (at ss d) ts s.before ∙ rw runs s.runs;
+  runs = run-append g (at ss d) ts s.before ∙ rw runs s.runs;
   shallow = StaysShallow-append d ts s.before shallow (subst (λ n. StaysShallow n s.before) (sym depth) s.shallow);
   here = s.here;
 }
 
 module _ (scan : Scan) where
-  -- no token at all
-  pub none_here : (ss : List Shape) (d : ℕ) (text : List ℕ) (f : Fault) → d ≤ MAX_OPEN_BRACES → front scan text ≡ Err f → Stuck scan ss d text f
-  none_here ss d text f le e = record { before = []; left = text; shapes = ss; deep = d; reads = refl; runs = refl; shallow = le; here = inl e }
-
-  pub refused : (ss : List Shape) (d : ℕ) (text : List ℕ) (f : Fault) → d ≤ MAX_OPEN_BRACES → Refused scan ss d text f → Stuck scan ss d text f
-  refused ss d text f le e = record { before = []; left = text; shapes = ss; deep = d; reads = refl; runs = refl; shallow = le; here = inr (inl e) }
-
-  full : (ss : List Shape) (d : ℕ) (text : List ℕ) (f : Fault) → d ≤ MAX_OPEN_BRACES → Full scan ss d text f → Stuck scan ss d text f
-  full ss d text f le e = record { before = []; left = text; shapes = ss; deep = d; reads = refl; runs = refl; shallow = le; here = inr (inr e) }
-
   fault_is : (f g : Fault) → ◌≡◌ {A = Result (List ℕ) Fault} (Err f) (Err g) → g ≡ f
   fault_is f g e = cc
-
-  -- a token that does not fit the shape
-  misfit : (s : Shape) (ss : List Shape) (d : ℕ) (text : List ℕ) (t : Token) (rest : List ℕ) (f : Fault) → d ≤ MAX_OPEN_BRACES →
-      front scan text ≡ Ok (t, rest) → fits s t ≡ false → f ≡ unexpected scan text → Stuck scan (s ∷ ss) d text f
-  misfit s ss d text t rest f le here misses is = refused (s ∷ ss) d text f le record { token = t; rest = rest; here = here; no_step = rw misses refl; fault_is = is }
 
   -- ---- a sign
 
@@ -128,14 +113,6 @@ module _ (scan : Scan) where
       let b = bind_ok (front scan text) (λ x. sign_in scan s text x.0 x.1) left e in
       let p = sign_in_ok s text b.0.0 b.0.1 left b.2 in
       b.1 ∙ ap (λ (x : Token). Ok (x, b.0.1)) p.0 ∙ ap (λ (x : List ℕ). Ok (sign s, x)) p.1
-
-  pub sign_err : (s : Sign) (ss : List Shape) (d : ℕ) (text : List ℕ) (f : Fault) → d ≤ MAX_OPEN_BRACES → sign_at scan s text ≡ Err f → Stuck scan (a_sign s ∷ ss) d text f
-  unfolding sign_at
-  sign_err s ss d text f le e =
-      elim (bind_err (front scan text) (λ x. sign_in scan s text x.0 x.1) f e) [
-        | inl p ↦ none_here (a_sign s ∷ ss) d text f le p
-        | inr b ↦ (let p = sign_in_err s text b.0.0 b.0.1 f b.2 in misfit (a_sign s) ss d text b.0.0 b.0.1 f le b.1 p.0 p.1)
-      ]
 
   -- ---- a name
 
@@ -163,14 +140,6 @@ module _ (scan : Scan) where
       let p = name_in_ok text b.0.0 b.0.1 y b.2 in
       b.1 ∙ ap (λ (x : Token). Ok (x, b.0.1)) p.0 ∙ ap (λ (x : List ℕ). Ok (name y.0, x)) p.1
 
-  pub name_err : (ss : List Shape) (d : ℕ) (text : List ℕ) (f : Fault) → d ≤ MAX_OPEN_BRACES → name_at scan text ≡ Err f → Stuck scan (a_name ∷ ss) d text f
-  unfolding name_at
-  name_err ss d text f le e =
-      elim (bind_err (front scan text) (λ x. name_in scan text x.0 x.1) f e) [
-        | inl p ↦ none_here (a_name ∷ ss) d text f le p
-        | inr b ↦ (let p = name_in_err text b.0.0 b.0.1 f b.2 in misfit a_name ss d text b.0.0 b.0.1 f le b.1 p.0 p.1)
-      ]
-
   -- ---- a number
 
   number_in_ok : (text : List ℕ) (t : Token) (rest : List ℕ) (y : ℕ × List ℕ) → number_in scan text t rest ≡ Ok y → (t ≡ number y.0) × (rest ≡ y.1)
@@ -193,14 +162,6 @@ module _ (scan : Scan) where
       let b = bind_ok (front scan text) (λ x. number_in scan text x.0 x.1) y e in
       let p = number_in_ok text b.0.0 b.0.1 y b.2 in
       b.1 ∙ ap (λ (x : Token). Ok (x, b.0.1)) p.0 ∙ ap (λ (x : List ℕ). Ok (number y.0, x)) p.1
-
-  pub number_err : (ss : List Shape) (d : ℕ) (text : List ℕ) (f : Fault) → d ≤ MAX_OPEN_BRACES → number_at scan text ≡ Err f → Stuck scan (a_number ∷ ss) d text f
-  unfolding number_at
-  number_err ss d text f le e =
-      elim (bind_err (front scan text) (λ x. number_in scan text x.0 x.1) f e) [
-        | inl p ↦ none_here (a_number ∷ ss) d text f le p
-        | inr b ↦ (let p = number_in_err text b.0.0 b.0.1 f b.2 in misfit a_number ss d text b.0.0 b.0.1 f le b.1 p.0 p.1)
-      ]
 
   -- ---- what makes a task or a phaser
 
@@ -225,14 +186,6 @@ module _ (scan : Scan) where
       let p = maker_in_ok text b.0.0 b.0.1 y b.2 in
       b.1 ∙ ap (λ (x : Token). Ok (x, b.0.1)) p.0 ∙ ap (λ (x : List ℕ). Ok (maker_of y.0, x)) p.1
 
-  pub maker_err : (ss : List Shape) (d : ℕ) (text : List ℕ) (f : Fault) → d ≤ MAX_OPEN_BRACES → maker_at scan text ≡ Err f → Stuck scan (a_maker ∷ ss) d text f
-  unfolding maker_at
-  maker_err ss d text f le e =
-      elim (bind_err (front scan text) (λ x. maker_in scan text x.0 x.1) f e) [
-        | inl p ↦ none_here (a_maker ∷ ss) d text f le p
-        | inr b ↦ (let p = maker_in_err text b.0.0 b.0.1 f b.2 in misfit a_maker ss d text b.0.0 b.0.1 f le b.1 p.0 p.1)
-      ]
-
   -- ---- a brace
 
   abbrev opens : List ℕ → Result (List ℕ) Fault
@@ -250,46 +203,7 @@ module _ (scan : Scan) where
         | inr p ↦ absurd (let q = p.1 in cc)
       ]
 
-  pub opened_err : (ss : List Shape) (d : ℕ) (text : List ℕ) (f : Fault) → d ≤ MAX_OPEN_BRACES → opened_at scan d text ≡ Err f → Stuck scan (a_sign OpenBrace ∷ ss) d text f
-  unfolding opened_at
-  opened_err ss d text f le e =
-      elim (bind_err (sign_at scan OpenBrace text) _ f e) [
-        | inl p ↦ sign_err OpenBrace ss d text f le p
-        | inr b ↦ elim (chosen (nat_lt d MAX_OPEN_BRACES) (opens b.0) (too_deep text) (Err f) b.2) [
-          | inl p ↦ absurd (let q = p.1 in cc)
-          | inr p ↦ full (a_sign OpenBrace ∷ ss) d text f le record {
-            rest = b.0;
-            here = sign_ok OpenBrace text b.0 b.1;
-            next = at ss (d + 1);
-            steps = refl;
-            full = (let q = p.0 in grind (arith, nat_tests));
-            fault_is = fault_is _ f p.1;
-          }
-        ]
-      ]
-
   -- ---- behind one token
-
-  pub after : (s : Shape) (t : Token) (ss : List Shape) (d d' : ℕ) (text mid : List ℕ) (f : Fault) → front scan text ≡ Ok (t, mid) → fits s t ≡ true →
-      opened t d ≡ d' → d ≤ MAX_OPEN_BRACES → d' ≤ MAX_OPEN_BRACES
-      → then s t ss ≡ ss → Stuck scan ss d' mid f → Stuck scan (s ∷ ss) d text f
-  after s t ss d d' text mid f here fit depth le le' same stuck =
-      behind scan (s ∷ ss) d text (t ∷ []) ss d' mid f (mid, here, refl) (rw (fit, same, depth) refl) (le, rw depth le') depth stuck
-
-  pub after_sign : (s : Sign) (ss : List Shape) (d : ℕ) (text mid : List ℕ) (f : Fault) → opened (sign s) d ≡ d → d ≤ MAX_OPEN_BRACES → sign_at scan s text ≡ Ok mid
-      → Stuck scan ss d mid f → Stuck scan (a_sign s ∷ ss) d text f
-  after_sign s ss d text mid f flat le e stuck = after (a_sign s) (sign s) ss d d text mid f (sign_ok s text mid e) (fits_itself s) flat le le refl stuck
-    where
-      fits_itself : (s : Sign) → fits (a_sign s) (sign s) ≡ true
-      fits_itself s = grind (arith, nat_tests)
-
-  pub after_name : (ss : List Shape) (d : ℕ) (text : List ℕ) (y : List ℕ × List ℕ) (f : Fault) → d ≤ MAX_OPEN_BRACES → name_at scan text ≡ Ok y →
-      Stuck scan ss d y.1 f → Stuck scan (a_name ∷ ss) d text f
-  after_name ss d text y f le e stuck = after a_name (name y.0) ss d d text y.1 f (name_ok text y e) refl refl le le refl stuck
-
-  pub after_number : (ss : List Shape) (d : ℕ) (text : List ℕ) (y : ℕ × List ℕ) (f : Fault) → d ≤ MAX_OPEN_BRACES → number_at scan text ≡ Ok y →
-      Stuck scan ss d y.1 f → Stuck scan (a_number ∷ ss) d text f
-  after_number ss d text y f le e stuck = after a_number (number y.0) ss d d text y.1 f (number_ok text y e) refl refl le le refl stuck
 
   maker_fits : (b : Bool) → fits a_maker (maker_of b) ≡ true
   maker_fits true = refl
@@ -299,10 +213,6 @@ module _ (scan : Scan) where
   maker_flat true d = refl
   maker_flat false d = refl
 
-  pub after_maker : (ss : List Shape) (d : ℕ) (text : List ℕ) (y : Bool × List ℕ) (f : Fault) → d ≤ MAX_OPEN_BRACES → maker_at scan text ≡ Ok y →
-      Stuck scan ss d y.1 f → Stuck scan (a_maker ∷ ss) d text f
-  after_maker ss d text y f le e stuck = after a_maker (maker_of y.0) ss d d text y.1 f (maker_ok text y e) (maker_fits y.0) (maker_flat y.0 d) le le refl stuck
-
   -- the token at which a sign was wanted
   pub sign_fault : (s : Sign) (text : List ℕ) (t : Token) (rest : List ℕ) (f : Fault) → front scan text ≡ Ok (t, rest) → sign_at scan s text ≡ Err f →
       (fits (a_sign s) t ≡ false) × (f ≡ unexpected scan text)
@@ -310,3 +220,96 @@ module _ (scan : Scan) where
   sign_fault s text t rest f here e =
       let g : sign_in scan s text t rest ≡ Err f = rw here at e in
       sign_in_err s text t rest f g
+
+  -- ---- where the machine of a grammar stops
+
+  module _ (g : Firsts) where
+    -- no token at all
+    pub none_here : (ss : List Shape) (d : ℕ) (text : List ℕ) (f : Fault) → d ≤ MAX_OPEN_BRACES → front scan text ≡ Err f → Stuck scan g ss d text f
+    none_here ss d text f le e = record { before = []; left = text; shapes = ss; deep = d; reads = refl; runs = refl; shallow = le; here = inl e }
+
+    pub refused : (ss : List Shape) (d : ℕ) (text : List ℕ) (f : Fault) → d ≤ MAX_OPEN_BRACES → Refused scan g ss d text f → Stuck scan g ss d text f
+    refused ss d text f le e = record { before = []; left = text; shapes = ss; deep = d; reads = refl; runs = refl; shallow = le; here = inr (inl e) }
+
+    full : (ss : List Shape) (d : ℕ) (text : List ℕ) (f : Fault) → d ≤ MAX_OPEN_BRACES → Full scan g ss d text f → Stuck scan g ss d text f
+    full ss d text f le e = record { before = []; left = text; shapes = ss; deep = d; reads = refl; runs = refl; shallow = le; here = inr (inr e) }
+
+    -- a token that does not fit the shape
+    misfit : (s : Shape) (ss : List Shape) (d : ℕ) (text : List ℕ) (t : Token) (rest : List ℕ) (f : Fault) → d ≤ MAX_OPEN_BRACES →
+        front scan text ≡ Ok (t, rest) → fits s t ≡ false → f ≡ unexpected scan text → Stuck scan g (s ∷ ss) d text f
+    misfit s ss d text t rest f le here misses is = refused (s ∷ ss) d text f le record { token = t; rest = rest; here = here; no_step = rw misses refl; fault_is = is }
+
+    pub sign_err : (s : Sign) (ss : List Shape) (d : ℕ) (text : List ℕ) (f : Fault) → d ≤ MAX_OPEN_BRACES → sign_at scan s text ≡ Err f → Stuck scan g (a_sign s ∷ ss) d text f
+    unfolding sign_at
+    sign_err s ss d text f le e =
+        elim (bind_err (front scan text) (λ x. sign_in scan s text x.0 x.1) f e) [
+          | inl p ↦ none_here (a_sign s ∷ ss) d text f le p
+          | inr b ↦ (let p = sign_in_err s text b.0.0 b.0.1 f b.2 in misfit (a_sign s) ss d text b.0.0 b.0.1 f le b.1 p.0 p.1)
+        ]
+
+    pub name_err : (ss : List Shape) (d : ℕ) (text : List ℕ) (f : Fault) → d ≤ MAX_OPEN_BRACES → name_at scan text ≡ Err f → Stuck scan g (a_name ∷ ss) d text f
+    unfolding name_at
+    name_err ss d text f le e =
+        elim (bind_err (front scan text) (λ x. name_in scan text x.0 x.1) f e) [
+          | inl p ↦ none_here (a_name ∷ ss) d text f le p
+          | inr b ↦ (let p = name_in_err text b.0.0 b.0.1 f b.2 in misfit a_name ss d text b.0.0 b.0.1 f le b.1 p.0 p.1)
+        ]
+
+    pub number_err : (ss : List Shape) (d : ℕ) (text : List ℕ) (f : Fault) → d ≤ MAX_OPEN_BRACES → number_at scan text ≡ Err f → Stuck scan g (a_number ∷ ss) d text f
+    unfolding number_at
+    number_err ss d text f le e =
+        elim (bind_err (front scan text) (λ x. number_in scan text x.0 x.1) f e) [
+          | inl p ↦ none_here (a_number ∷ ss) d text f le p
+          | inr b ↦ (let p = number_in_err text b.0.0 b.0.1 f b.2 in misfit a_number ss d text b.0.0 b.0.1 f le b.1 p.0 p.1)
+        ]
+
+    pub maker_err : (ss : List Shape) (d : ℕ) (text : List ℕ) (f : Fault) → d ≤ MAX_OPEN_BRACES → maker_at scan text ≡ Err f → Stuck scan g (a_maker ∷ ss) d text f
+    unfolding maker_at
+    maker_err ss d text f le e =
+        elim (bind_err (front scan text) (λ x. maker_in scan text x.0 x.1) f e) [
+          | inl p ↦ none_here (a_maker ∷ ss) d text f le p
+          | inr b ↦ (let p = maker_in_err text b.0.0 b.0.1 f b.2 in misfit a_maker ss d text b.0.0 b.0.1 f le b.1 p.0 p.1)
+        ]
+
+    pub opened_err : (ss : List Shape) (d : ℕ) (text : List ℕ) (f : Fault) → d ≤ MAX_OPEN_BRACES → opened_at scan d text ≡ Err f → Stuck scan g (a_sign OpenBrace ∷ ss) d text f
+    unfolding opened_at
+    opened_err ss d text f le e =
+        elim (bind_err (sign_at scan OpenBrace text) _ f e) [
+          | inl p ↦ sign_err OpenBrace ss d text f le p
+          | inr b ↦ elim (chosen (nat_lt d MAX_OPEN_BRACES) (opens b.0) (too_deep text) (Err f) b.2) [
+            | inl p ↦ absurd (let q = p.1 in cc)
+            | inr p ↦ full (a_sign OpenBrace ∷ ss) d text f le record {
+              rest = b.0;
+              here = sign_ok OpenBrace text b.0 b.1;
+              next = at ss (d + 1);
+              steps = refl;
+              full = (let q = p.0 in grind (arith, nat_tests));
+              fault_is = fault_is _ f p.1;
+            }
+          ]
+        ]
+
+    pub after : (s : Shape) (t : Token) (ss : List Shape) (d d' : ℕ) (text mid : List ℕ) (f : Fault) → front scan text ≡ Ok (t, mid) → fits s t ≡ true →
+        opened t d ≡ d' → d ≤ MAX_OPEN_BRACES → d' ≤ MAX_OPEN_BRACES
+        → then s t ss ≡ ss → Stuck scan g ss d' mid f → Stuck scan g (s ∷ ss) d text f
+    after s t ss d d' text mid f here fit depth le le' same stuck =
+        behind scan g (s ∷ ss) d text (t ∷ []) ss d' mid f (mid, here, refl) (rw (fit, same, depth) refl) (le, rw depth le') depth stuck
+
+    pub after_sign : (s : Sign) (ss : List Shape) (d : ℕ) (text mid : List ℕ) (f : Fault) → opened (sign s) d ≡ d → d ≤ MAX_OPEN_BRACES → sign_at scan s text ≡ Ok mid
+        → Stuck scan g ss d mid f → Stuck scan g (a_sign s ∷ ss) d text f
+    after_sign s ss d text mid f flat le e stuck = after (a_sign s) (sign s) ss d d text mid f (sign_ok s text mid e) (fits_itself s) flat le le refl stuck
+      where
+        fits_itself : (s : Sign) → fits (a_sign s) (sign s) ≡ true
+        fits_itself s = grind (arith, nat_tests)
+
+    pub after_name : (ss : List Shape) (d : ℕ) (text : List ℕ) (y : List ℕ × List ℕ) (f : Fault) → d ≤ MAX_OPEN_BRACES → name_at scan text ≡ Ok y →
+        Stuck scan g ss d y.1 f → Stuck scan g (a_name ∷ ss) d text f
+    after_name ss d text y f le e stuck = after a_name (name y.0) ss d d text y.1 f (name_ok text y e) refl refl le le refl stuck
+
+    pub after_number : (ss : List Shape) (d : ℕ) (text : List ℕ) (y : ℕ × List ℕ) (f : Fault) → d ≤ MAX_OPEN_BRACES → number_at scan text ≡ Ok y →
+        Stuck scan g ss d y.1 f → Stuck scan g (a_number ∷ ss) d text f
+    after_number ss d text y f le e stuck = after a_number (number y.0) ss d d text y.1 f (number_ok text y e) refl refl le le refl stuck
+
+    pub after_maker : (ss : List Shape) (d : ℕ) (text : List ℕ) (y : Bool × List ℕ) (f : Fault) → d ≤ MAX_OPEN_BRACES → maker_at scan text ≡ Ok y →
+        Stuck scan g ss d y.1 f → Stuck scan g (a_maker ∷ ss) d text f
+    after_maker ss d text y f le e stuck = after a_maker (maker_of y.0) ss d d text y.1 f (maker_ok text y e) (maker_fits y.0) (maker_flat y.0 d) le le refl stuck

@@ -1,6 +1,5 @@
 -- The same of statements, bodies and texts.
-use Rattle.std.proofs.Common.{◌≡◌, ℕ, suc, ◌+◌, ◌-◌, ◌<◌, ◌≤◌, Bool, true, false, not, List, [], ◌∷◌, ◌++◌, length, Some, None, Result, Ok, Err, refl, sym, ap, subst, ◌∙◌, add-one, arith, ◌⊎◌, inl, inr}
-use Rattle.std.proofs.lemmas.Bool.Decides.{nat_tests}
+use Rattle.std.proofs.Common.{◌≡◌, ℕ, ◌+◌, ◌-◌, ◌<◌, ◌≤◌, Bool, true, false, List, [], ◌∷◌, ◌++◌, length, None, Result, Ok, Err, refl, ap, subst, arith, inl, inr}
 use Rattle.pl_syntax.specs.declared.scan.Scan.{Scan}
 use Rattle.pl_syntax.specs.declared.limits.TheConstants.{MAX_OPEN_BRACES}
 use Rattle.armus_base.specs.declared.offset.Offset.{Offset}
@@ -13,37 +12,29 @@ use Rattle.pl_syntax.specs.declared.tree.Stmt.TheVariants as s
 use Rattle.pl_syntax.specs.Tokens.{Token, the_end, sign, word, name, number, front, Leads}
 use Rattle.pl_syntax.specs.Tree.{Tree, done, plain, fork, loop, Plain, new_task, new_phaser, reg, dereg, adv, await, skip, height}
 use Rattle.pl_syntax.specs.Bodies.{followed_by, tree_of}
-use Rattle.pl_syntax.specs.Grammar.{tokens, offset_tokens, plain_tokens, opened, StaysShallow}
-use Rattle.pl_syntax.specs.inside.Reading.{unexpected, Block, sign_at, name_at, number_at, offset_at, in_parens_at, named_at, pair_at, drawn_at, opened_at, drawn_stmt, drawing_at, reg_at, dereg_at, adv_at, await_at, skip_at, block_at, fork_at, loop_at, statement_in, ends_list}
-use Rattle.pl_syntax.proofs.Fronts.{progress, front_le}
-use Rattle.pl_syntax.proofs.Machine.{Shape, a_sign, a_name, an_offset, at, fits, first_step, run_tree, s_named, s_await, s_drawn, s_pair, s_fork, s_loop}
-use Rattle.pl_syntax.proofs.Leaves.{after_sign, after_name, name_ok, name_err, bind_ok, bind_err, ok_is, Stuck, behind, Leads-append, maker_of, sign_ok, sign_err, number_ok, number_err, opened_ok, opened_err, refused, after, after_number, sign_fault}
+use Rattle.pl_syntax.specs.Grammar.{tokens, offset_tokens, plain_tokens, StaysShallow}
+use Rattle.pl_syntax.specs.inside.Reading.{unexpected, Block, sign_at, name_at, number_at, offset_at, in_parens_at, named_at, pair_at, drawn_at, drawn_stmt, drawing_at, reg_at, dereg_at, adv_at, await_at, skip_at, block_at, fork_at, loop_at, statement_in, ends_list}
+use Rattle.pl_syntax.proofs.Fronts.{front_le}
+use Rattle.pl_syntax.proofs.Machine.{a_sign, a_name, an_offset, first_step, s_named, s_loop}
+use Rattle.pl_syntax.proofs.Begun.{firsts, run_tree, s_await, s_drawn, s_pair, s_fork}
+use Rattle.pl_syntax.proofs.Blocks as blocks
+use Rattle.pl_syntax.proofs.Blocks.{goes_first, leads_le, begun, block_ok, block_err}
+use Rattle.pl_syntax.proofs.Leaves.{after_sign, after_name, name_ok, name_err, bind_ok, bind_err, ok_is, Stuck, Leads-append, maker_of, sign_ok, sign_err, number_ok, number_err, refused, after_number}
 use Rattle.pl_syntax.proofs.Groups.{offset_leads, offset_err, after_offset, in_parens_ok, in_parens_err, after_parens, named_ok, named_err, pair_ok, pair_err, drawn_ok, drawn_err}
 
 -- ---- what was read
 
 -- a tree was read from the front, where d braces are open
-pub record Took (scan : Scan) (text : List ℕ) (p : Tree) (rest : List ℕ) (d : ℕ) : Type 0 where
-  pub leads : (us : List Token) (end : List ℕ) → Leads scan rest us end → Leads scan text (tokens p us) end
-  pub deep : height p + d ≤ MAX_OPEN_BRACES
-
--- a token before which a list ends is next
-pub record Stops (scan : Scan) (text : List ℕ) : Type 0 where
-  pub token : Token
-  pub rest : List ℕ
-  pub here : front scan text ≡ Ok (token, rest)
-  pub ends : ends_list token ≡ true
+abbrev pub Took : Scan → List ℕ → Tree → List ℕ → ℕ → Type 0
+Took scan text p rest d = blocks.Took Tree tokens height scan text p rest d
 
 -- a tree in braces was read
-pub record Inside (scan : Scan) (text : List ℕ) (p : Tree) (rest : List ℕ) (d : ℕ) : Type 0 where
-  pub leads : (us : List Token) (end : List ℕ) → Leads scan rest us end → Leads scan text (sign OpenBrace ∷ tokens p (sign CloseBrace ∷ us)) end
-  pub deep : height p + 1 + d ≤ MAX_OPEN_BRACES
+abbrev Inside : Scan → List ℕ → Tree → List ℕ → ℕ → Type 0
+Inside scan text p rest d = blocks.Inside Tree tokens height scan text p rest d
 
 -- what reads statements does so, on texts shorter than m
-pub record Lawful (scan : Scan) (body : Block) (m : ℕ) : Type 0 where
-  pub took : (d : ℕ) (text : List ℕ) (y : List Stmt × List ℕ) → d ≤ MAX_OPEN_BRACES → length text < m → body d text ≡ Ok y → Took scan text (tree_of y.0) y.1 d
-  pub stops : (d : ℕ) (text : List ℕ) (y : List Stmt × List ℕ) → d ≤ MAX_OPEN_BRACES → length text < m → body d text ≡ Ok y → Stops scan y.1
-  pub fails : (d : ℕ) (text : List ℕ) (f : SyntaxFault) → d ≤ MAX_OPEN_BRACES → length text < m → body d text ≡ Err f → Stuck scan [] d text f
+abbrev Lawful : Scan → Block → ℕ → Type 0
+Lawful scan body m = blocks.Lawful Stmt Tree tokens height tree_of firsts scan body m
 
 -- ---- trees
 
@@ -93,11 +84,7 @@ deep_first s.Skip p d a b = b
 deep_first (s.Fork x q) p d a b = omega arith
 deep_first (s.Loop n q) p d a b = omega arith
 
-abbrev goes_first : List Token → Bool
-goes_first [] = false
-goes_first (t ∷ ts) = not (ends_list t)
-
-tokens_go : (q : Stmt) → goes_first (tokens (followed_by q done) []) ≡ true
+pub tokens_go : (q : Stmt) → goes_first (tokens (followed_by q done) []) ≡ true
 tokens_go (s.NewTask x) = refl
 tokens_go (s.NewPhaser x) = refl
 tokens_go (s.Reg x y) = refl
@@ -109,42 +96,6 @@ tokens_go (s.Fork x b) = refl
 tokens_go (s.Loop n b) = refl
 
 module _ (scan : Scan) where
-  -- ---- how much is left
-
-  pub leads_le : (text : List ℕ) (ts : List Token) (rest : List ℕ) → Leads scan text ts rest → length rest ≤ length text
-  leads_le text [] rest h = let m = ap (λ (x : List ℕ). length x) h in omega arith
-  leads_le text (t ∷ ts) rest h = let a = front_le scan text t h.0 h.1 in let b = leads_le h.0 ts rest h.2 in omega arith
-
-  leads_lt : (text : List ℕ) (t : Token) (ts : List Token) (rest : List ℕ) → ends_list t ≡ false → Leads scan text (t ∷ ts) rest → length rest < length text
-  leads_lt text t ts rest e h = let a = progress scan text t h.0 h.1 e in let b = leads_le h.0 ts rest h.2 in omega arith
-
-  all_lt : (text : List ℕ) (ts : List Token) (rest : List ℕ) → goes_first ts ≡ true → Leads scan text ts rest → length rest < length text
-  all_lt text [] rest e h = absurd cc
-  all_lt text (t ∷ ts) rest e h = leads_lt text t ts rest (let g : not (ends_list t) ≡ true = e in grind (arith, nat_tests)) h
-
-  pub first_lt : (q : Stmt) (text rest : List ℕ) (d : ℕ) → Took scan text (followed_by q done) rest d → length rest < length text
-  first_lt q text rest d t = all_lt text (tokens (followed_by q done) []) rest (tokens_go q) (t.leads [] rest refl)
-
-  -- ---- behind a tree
-
-  pub behind_tree : (p : Tree) (d : ℕ) (text mid : List ℕ) (f : SyntaxFault) → Took scan text p mid d → Stuck scan [] d mid f → Stuck scan [] d text f
-  behind_tree p d text mid f t s = record {
-    before = tokens p s.before;
-    left = s.left;
-    shapes = s.shapes;
-    deep = s.deep;
-    reads = t.leads s.before s.left s.reads;
-    runs = run_tree p d s.before ∙ s.runs;
-    shallow = stays p d s.before t.deep s.shallow;
-    here = s.here;
-  }
-
-  -- behind the first token of a statement
-  begun : (t : Token) (ss : List Shape) (d : ℕ) (text mid : List ℕ) (f : SyntaxFault) → d ≤ MAX_OPEN_BRACES → front scan text ≡ Ok (t, mid) →
-      first_step d t ≡ Some (at ss d) → opened t d ≡ d → Stuck scan ss d mid f → Stuck scan [] d text f
-  begun t ss d text mid f le here steps flat stuck =
-      behind scan [] d text (t ∷ []) ss d mid f (mid, here, refl) (rw steps refl) (le, rw flat le) flat stuck
-
   -- ---- statements without a body
 
   plain_took : (c : Plain) (t : Token) (ts : List Token) (d : ℕ) (before text rest : List ℕ) → d ≤ MAX_OPEN_BRACES → front scan before ≡ Ok (t, text) →
@@ -177,11 +128,11 @@ module _ (scan : Scan) where
       (drawn_plain x b.0.0 d before text b.0.1 le here (drawn_ok scan text b.0 b.1))
 
   drawing_err : (x : List ℕ) (d : ℕ) (before text : List ℕ) (f : SyntaxFault) → d ≤ MAX_OPEN_BRACES → front scan before ≡ Ok (name x, text) →
-      drawing_at scan x text ≡ Err f → Stuck scan [] d before f
+      drawing_at scan x text ≡ Err f → Stuck scan firsts [] d before f
   unfolding drawing_at
   drawing_err x d before text f le here e =
       elim (bind_err (drawn_at scan text) _ f e) [
-        | inl p ↦ begun (name x) s_drawn d before text f le here refl refl (drawn_err scan d text f le p)
+        | inl p ↦ begun scan firsts (name x) s_drawn d before text f le here refl refl (drawn_err scan firsts d text f le p)
         | inr b ↦ absurd (let q = b.2 in cc)
       ]
 
@@ -195,11 +146,11 @@ module _ (scan : Scan) where
       (named_ok scan text b.0 b.1) (λ us. refl))
 
   dereg_err : (d : ℕ) (before text : List ℕ) (f : SyntaxFault) → d ≤ MAX_OPEN_BRACES → front scan before ≡ Ok (word k.Dereg, text) →
-      dereg_at scan text ≡ Err f → Stuck scan [] d before f
+      dereg_at scan text ≡ Err f → Stuck scan firsts [] d before f
   unfolding dereg_at
   dereg_err d before text f le here e =
       elim (bind_err (named_at scan text) _ f e) [
-        | inl p ↦ begun (word k.Dereg) s_named d before text f le here refl refl (named_err scan d text f le p)
+        | inl p ↦ begun scan firsts (word k.Dereg) s_named d before text f le here refl refl (named_err scan firsts d text f le p)
         | inr b ↦ absurd (let q = b.2 in cc)
       ]
 
@@ -211,11 +162,11 @@ module _ (scan : Scan) where
       (plain_took (adv b.0.0) (word k.Adv) (sign OpenParen ∷ name b.0.0 ∷ sign CloseParen ∷ sign Semicolon ∷ []) d before text b.0.1 le here
       (named_ok scan text b.0 b.1) (λ us. refl))
 
-  adv_err : (d : ℕ) (before text : List ℕ) (f : SyntaxFault) → d ≤ MAX_OPEN_BRACES → front scan before ≡ Ok (word k.Adv, text) → adv_at scan text ≡ Err f → Stuck scan [] d before f
+  adv_err : (d : ℕ) (before text : List ℕ) (f : SyntaxFault) → d ≤ MAX_OPEN_BRACES → front scan before ≡ Ok (word k.Adv, text) → adv_at scan text ≡ Err f → Stuck scan firsts [] d before f
   unfolding adv_at
   adv_err d before text f le here e =
       elim (bind_err (named_at scan text) _ f e) [
-        | inl p ↦ begun (word k.Adv) s_named d before text f le here refl refl (named_err scan d text f le p)
+        | inl p ↦ begun scan firsts (word k.Adv) s_named d before text f le here refl refl (named_err scan firsts d text f le p)
         | inr b ↦ absurd (let q = b.2 in cc)
       ]
 
@@ -242,21 +193,21 @@ module _ (scan : Scan) where
       offset_more (Ahead k) us = refl
 
   await_err : (d : ℕ) (before text : List ℕ) (f : SyntaxFault) → d ≤ MAX_OPEN_BRACES → front scan before ≡ Ok (word k.Await, text) →
-      await_at scan text ≡ Err f → Stuck scan [] d before f
+      await_at scan text ≡ Err f → Stuck scan firsts [] d before f
   unfolding await_at
   await_err d before text f le here e =
-      begun (word k.Await) s_await d before text f le here refl refl
+      begun scan firsts (word k.Await) s_await d before text f le here refl refl
       (elim (bind_err (sign_at scan OpenParen text) _ f e) [
-        | inl p ↦ sign_err scan OpenParen (a_name ∷ an_offset ∷ a_sign Semicolon ∷ []) d text f le p
-        | inr a ↦ after_sign scan OpenParen (a_name ∷ an_offset ∷ a_sign Semicolon ∷ []) d text a.0 f refl le a.1
+        | inl p ↦ sign_err scan firsts OpenParen (a_name ∷ an_offset ∷ a_sign Semicolon ∷ []) d text f le p
+        | inr a ↦ after_sign scan firsts OpenParen (a_name ∷ an_offset ∷ a_sign Semicolon ∷ []) d text a.0 f refl le a.1
             (elim (bind_err (name_at scan a.0) _ f a.2) [
-              | inl p ↦ name_err scan (an_offset ∷ a_sign Semicolon ∷ []) d a.0 f le p
-              | inr b ↦ after_name scan (an_offset ∷ a_sign Semicolon ∷ []) d a.0 b.0 f le b.1
+              | inl p ↦ name_err scan firsts (an_offset ∷ a_sign Semicolon ∷ []) d a.0 f le p
+              | inr b ↦ after_name scan firsts (an_offset ∷ a_sign Semicolon ∷ []) d a.0 b.0 f le b.1
                   (elim (bind_err (offset_at scan b.0.1) _ f b.2) [
-                    | inl p ↦ offset_err scan (a_sign Semicolon ∷ []) d b.0.1 f le p
-                    | inr o ↦ after_offset scan (a_sign Semicolon ∷ []) d b.0.1 o.0 f le o.1
+                    | inl p ↦ offset_err scan firsts (a_sign Semicolon ∷ []) d b.0.1 f le p
+                    | inr o ↦ after_offset scan firsts (a_sign Semicolon ∷ []) d b.0.1 o.0 f le o.1
                         (elim (bind_err (sign_at scan Semicolon o.0.1) _ f o.2) [
-                          | inl p ↦ sign_err scan Semicolon [] d o.0.1 f le p
+                          | inl p ↦ sign_err scan firsts Semicolon [] d o.0.1 f le p
                           | inr c ↦ absurd (let q = c.2 in cc)
                         ])
                   ])
@@ -271,11 +222,11 @@ module _ (scan : Scan) where
       (plain_took (reg b.0.0 b.0.1) (word k.Reg) (sign OpenParen ∷ name b.0.0 ∷ sign Comma ∷ name b.0.1 ∷ sign CloseParen ∷ sign Semicolon ∷ []) d before text
       b.0.2 le here (pair_ok scan text b.0 b.1) (λ us. refl))
 
-  reg_err : (d : ℕ) (before text : List ℕ) (f : SyntaxFault) → d ≤ MAX_OPEN_BRACES → front scan before ≡ Ok (word k.Reg, text) → reg_at scan text ≡ Err f → Stuck scan [] d before f
+  reg_err : (d : ℕ) (before text : List ℕ) (f : SyntaxFault) → d ≤ MAX_OPEN_BRACES → front scan before ≡ Ok (word k.Reg, text) → reg_at scan text ≡ Err f → Stuck scan firsts [] d before f
   unfolding reg_at
   reg_err d before text f le here e =
       elim (bind_err (pair_at scan text) _ f e) [
-        | inl p ↦ begun (word k.Reg) s_pair d before text f le here refl refl (pair_err scan d text f le p)
+        | inl p ↦ begun scan firsts (word k.Reg) s_pair d before text f le here refl refl (pair_err scan firsts d text f le p)
         | inr b ↦ absurd (let q = b.2 in cc)
       ]
 
@@ -287,76 +238,23 @@ module _ (scan : Scan) where
       (plain_took skip (word k.Skip) (sign Semicolon ∷ []) d before text b.0 le here (b.0, sign_ok scan Semicolon text b.0 b.1, refl) (λ us. refl))
 
   skip_err : (d : ℕ) (before text : List ℕ) (f : SyntaxFault) → d ≤ MAX_OPEN_BRACES → front scan before ≡ Ok (word k.Skip, text) → skip_at scan text ≡ Err f →
-      Stuck scan [] d before f
+      Stuck scan firsts [] d before f
   unfolding skip_at
   skip_err d before text f le here e =
       elim (bind_err (sign_at scan Semicolon text) _ f e) [
-        | inl p ↦ begun (word k.Skip) (a_sign Semicolon ∷ []) d before text f le here refl refl (sign_err scan Semicolon [] d text f le p)
+        | inl p ↦ begun scan firsts (word k.Skip) (a_sign Semicolon ∷ []) d before text f le here refl refl (sign_err scan firsts Semicolon [] d text f le p)
         | inr b ↦ absurd (let q = b.2 in cc)
       ]
 
   -- ---- bodies
 
-  not_close : (t : Token) (d : ℕ) → ends_list t ≡ true → (t ≡ sign CloseBrace) ⊎ (first_step (suc d) t ≡ None)
-  not_close the_end d e = inr refl
-  not_close (sign CloseBrace) d e = inl refl
-  not_close (sign Equals) d e = inr refl
-  not_close (sign OpenParen) d e = inr refl
-  not_close (sign CloseParen) d e = inr refl
-  not_close (sign Comma) d e = inr refl
-  not_close (sign Semicolon) d e = inr refl
-  not_close (sign OpenBrace) d e = inr refl
-  not_close (sign Plus) d e = inr refl
-  not_close (sign Minus) d e = inr refl
-  not_close (word w) d e = absurd cc
-  not_close (name w) d e = absurd cc
-  not_close (number w) d e = absurd cc
-
   module _ (body : Block) (m : ℕ) (law : Lawful scan body m) where
-    block_ok : (d : ℕ) (text : List ℕ) (y : Tree × List ℕ) → d ≤ MAX_OPEN_BRACES → length text < m → block_at body scan d text ≡ Ok y → Inside scan text y.0 y.1 d
-    unfolding block_at
-    block_ok d text y le lt e =
-        let a = bind_ok (opened_at scan d text) _ y e in
-        let b = bind_ok (body (d + 1) a.0) _ y a.2 in
-        let c = bind_ok (sign_at scan CloseBrace b.0.1) _ y b.2 in
-        let o = opened_ok scan d text a.0 a.1 in
-        let l = front_le scan text (sign OpenBrace) a.0 o.0 in
-        let t = law.took (d + 1) a.0 b.0 (let q = o.1 in omega arith) (omega arith) b.1 in
-        subst (λ (z : Tree × List ℕ). Inside scan text z.0 z.1 d) (ok_is (tree_of b.0.0, c.0) y c.2)
-        record {
-          leads = λ us end h. (a.0, o.0, t.leads (sign CloseBrace ∷ us) end (c.0, sign_ok scan CloseBrace b.0.1 c.0 c.1, h));
-          deep = (let q = t.deep in omega arith);
-        }
+    inside_ok : (d : ℕ) (text : List ℕ) (y : Tree × List ℕ) → d ≤ MAX_OPEN_BRACES → length text < m → block_at body scan d text ≡ Ok y → Inside scan text y.0 y.1 d
+    inside_ok d text y le lt e = block_ok Stmt Tree tokens height tree_of firsts scan run_tree stays body m law d text y le lt e
 
-    -- a token that does not close the body
-    unclosed : (d : ℕ) (text : List ℕ) (f : SyntaxFault) → d + 1 ≤ MAX_OPEN_BRACES → Stops scan text → sign_at scan CloseBrace text ≡ Err f → Stuck scan [] (d + 1) text f
-    unclosed d text f le st e =
-        let c = sign_fault scan CloseBrace text st.token st.rest f st.here e in
-        elim (not_close st.token d st.ends) [
-          | inl p ↦ absurd (let q : fits (a_sign CloseBrace) st.token ≡ true = rw p refl in let r : true ≡ false = sym q ∙ c.0 in cc)
-          | inr p ↦ refused scan [] (d + 1) text f le record { token = st.token; rest = st.rest; here = st.here; no_step = rw add-one p; fault_is = c.1 }
-        ]
-
-    block_err : (d : ℕ) (text : List ℕ) (f : SyntaxFault) → d ≤ MAX_OPEN_BRACES → length text < m → block_at body scan d text ≡ Err f → Stuck scan (a_sign OpenBrace ∷ []) d text f
-    unfolding block_at
-    block_err d text f le lt e =
-        elim (bind_err (opened_at scan d text) _ f e) [
-          | inl p ↦ opened_err scan [] d text f le p
-          | inr a ↦
-              let o = opened_ok scan d text a.0 a.1 in
-              let l = front_le scan text (sign OpenBrace) a.0 o.0 in
-              let le' : d + 1 ≤ MAX_OPEN_BRACES = (let q = o.1 in omega arith) in
-              let lt' : length a.0 < m = omega arith in
-              after scan (a_sign OpenBrace) (sign OpenBrace) [] d (d + 1) text a.0 f o.0 refl refl le le' refl
-              (elim (bind_err (body (d + 1) a.0) _ f a.2) [
-                | inl p ↦ law.fails (d + 1) a.0 f le' lt' p
-                | inr b ↦ behind_tree (tree_of b.0.0) (d + 1) a.0 b.0.1 f (law.took (d + 1) a.0 b.0 le' lt' b.1)
-                    (elim (bind_err (sign_at scan CloseBrace b.0.1) _ f b.2) [
-                      | inl p ↦ unclosed d b.0.1 f le' (law.stops (d + 1) a.0 b.0 le' lt' b.1) p
-                      | inr c ↦ absurd (let q = c.2 in cc)
-                    ])
-              ])
-        ]
+    inside_err : (d : ℕ) (text : List ℕ) (f : SyntaxFault) → d ≤ MAX_OPEN_BRACES → length text < m → block_at body scan d text ≡ Err f →
+        Stuck scan firsts (a_sign OpenBrace ∷ []) d text f
+    inside_err d text f le lt e = block_err Stmt Tree tokens height tree_of firsts scan run_tree stays body m law d text f le lt e
 
     fork_ok : (d : ℕ) (before text : List ℕ) (y : Stmt × List ℕ) → d ≤ MAX_OPEN_BRACES → length text < m → front scan before ≡ Ok (word k.Fork, text) →
         fork_at body scan d text ≡ Ok y → StmtTook before y d
@@ -365,8 +263,8 @@ module _ (scan : Scan) where
         let a = bind_ok (in_parens_at scan text) _ y e in
         let b = bind_ok (block_at body scan d a.0.1) _ y a.2 in
         let x = in_parens_ok scan text a.0 a.1 in
-        let l = leads_le text (sign OpenParen ∷ name a.0.0 ∷ sign CloseParen ∷ []) a.0.1 x in
-        let i = block_ok d a.0.1 b.0 le (omega arith) b.1 in
+        let l = leads_le scan text (sign OpenParen ∷ name a.0.0 ∷ sign CloseParen ∷ []) a.0.1 x in
+        let i = inside_ok d a.0.1 b.0 le (omega arith) b.1 in
         subst (λ (z : Stmt × List ℕ). Took scan before (followed_by z.0 done) z.1 d) (ok_is (s.Fork a.0.0 b.0.0, b.0.1) y b.2)
         record {
           leads = λ us end h. (
@@ -379,16 +277,16 @@ module _ (scan : Scan) where
         }
 
     fork_err : (d : ℕ) (before text : List ℕ) (f : SyntaxFault) → d ≤ MAX_OPEN_BRACES → length text < m → front scan before ≡ Ok (word k.Fork, text) →
-        fork_at body scan d text ≡ Err f → Stuck scan [] d before f
+        fork_at body scan d text ≡ Err f → Stuck scan firsts [] d before f
     unfolding fork_at
     fork_err d before text f le lt here e =
-        begun (word k.Fork) s_fork d before text f le here refl refl
+        begun scan firsts (word k.Fork) s_fork d before text f le here refl refl
         (elim (bind_err (in_parens_at scan text) _ f e) [
-          | inl p ↦ in_parens_err scan (a_sign OpenBrace ∷ []) d text f le p
-          | inr a ↦ after_parens scan (a_sign OpenBrace ∷ []) d text a.0 f le a.1
-              (let l = leads_le text (sign OpenParen ∷ name a.0.0 ∷ sign CloseParen ∷ []) a.0.1 (in_parens_ok scan text a.0 a.1) in
+          | inl p ↦ in_parens_err scan firsts (a_sign OpenBrace ∷ []) d text f le p
+          | inr a ↦ after_parens scan firsts (a_sign OpenBrace ∷ []) d text a.0 f le a.1
+              (let l = leads_le scan text (sign OpenParen ∷ name a.0.0 ∷ sign CloseParen ∷ []) a.0.1 (in_parens_ok scan text a.0 a.1) in
               elim (bind_err (block_at body scan d a.0.1) _ f a.2) [
-                | inl p ↦ block_err d a.0.1 f le (omega arith) p
+                | inl p ↦ inside_err d a.0.1 f le (omega arith) p
                 | inr b ↦ absurd (let q = b.2 in cc)
               ])
         ])
@@ -401,7 +299,7 @@ module _ (scan : Scan) where
         let b = bind_ok (block_at body scan d a.0.1) _ y a.2 in
         let x = number_ok scan text a.0 a.1 in
         let l = front_le scan text (number a.0.0) a.0.1 x in
-        let i = block_ok d a.0.1 b.0 le (omega arith) b.1 in
+        let i = inside_ok d a.0.1 b.0 le (omega arith) b.1 in
         subst (λ (z : Stmt × List ℕ). Took scan before (followed_by z.0 done) z.1 d) (ok_is (s.Loop a.0.0 b.0.0, b.0.1) y b.2)
         record {
           leads = λ us end h. (text, here, (a.0.1, x, i.leads us end h));
@@ -409,16 +307,16 @@ module _ (scan : Scan) where
         }
 
     loop_err : (d : ℕ) (before text : List ℕ) (f : SyntaxFault) → d ≤ MAX_OPEN_BRACES → length text < m → front scan before ≡ Ok (word k.Loop, text) →
-        loop_at body scan d text ≡ Err f → Stuck scan [] d before f
+        loop_at body scan d text ≡ Err f → Stuck scan firsts [] d before f
     unfolding loop_at
     loop_err d before text f le lt here e =
-        begun (word k.Loop) s_loop d before text f le here refl refl
+        begun scan firsts (word k.Loop) s_loop d before text f le here refl refl
         (elim (bind_err (number_at scan text) _ f e) [
-          | inl p ↦ number_err scan (a_sign OpenBrace ∷ []) d text f le p
-          | inr a ↦ after_number scan (a_sign OpenBrace ∷ []) d text a.0 f le a.1
+          | inl p ↦ number_err scan firsts (a_sign OpenBrace ∷ []) d text f le p
+          | inr a ↦ after_number scan firsts (a_sign OpenBrace ∷ []) d text a.0 f le a.1
               (let l = front_le scan text (number a.0.0) a.0.1 (number_ok scan text a.0 a.1) in
               elim (bind_err (block_at body scan d a.0.1) _ f a.2) [
-                | inl p ↦ block_err d a.0.1 f le (omega arith) p
+                | inl p ↦ inside_err d a.0.1 f le (omega arith) p
                 | inr b ↦ absurd (let q = b.2 in cc)
               ])
         ])
@@ -438,12 +336,12 @@ module _ (scan : Scan) where
     statement_ok d (word k.Loop) before text y le lt here e = loop_ok d before text y le lt here e
     statement_ok d _ before text y le lt here e = absurd cc
 
-    wrong : (t : Token) (d : ℕ) (before text : List ℕ) (f : SyntaxFault) → d ≤ MAX_OPEN_BRACES → front scan before ≡ Ok (t, text) → first_step d t ≡ None →
-        ◌≡◌ {A = Result (Stmt × List ℕ) SyntaxFault} (Err (unexpected scan before)) (Err f) → Stuck scan [] d before f
-    wrong t d before text f le here stops e = refused scan [] d before f le record { token = t; rest = text; here = here; no_step = stops; fault_is = cc }
+    wrong : (t : Token) (d : ℕ) (before text : List ℕ) (f : SyntaxFault) → d ≤ MAX_OPEN_BRACES → front scan before ≡ Ok (t, text) → first_step firsts d t ≡ None →
+        ◌≡◌ {A = Result (Stmt × List ℕ) SyntaxFault} (Err (unexpected scan before)) (Err f) → Stuck scan firsts [] d before f
+    wrong t d before text f le here stops e = refused scan firsts [] d before f le record { token = t; rest = text; here = here; no_step = stops; fault_is = cc }
 
     pub statement_err : (d : ℕ) (t : Token) (before text : List ℕ) (f : SyntaxFault) → d ≤ MAX_OPEN_BRACES → length text < m →
-        front scan before ≡ Ok (t, text) → ends_list t ≡ false → statement_in body scan d t before text ≡ Err f → Stuck scan [] d before f
+        front scan before ≡ Ok (t, text) → ends_list t ≡ false → statement_in body scan d t before text ≡ Err f → Stuck scan firsts [] d before f
     statement_err d (name x) before text f le lt here goes e = drawing_err x d before text f le here e
     statement_err d (word k.Reg) before text f le lt here goes e = reg_err d before text f le here e
     statement_err d (word k.Dereg) before text f le lt here goes e = dereg_err d before text f le here e

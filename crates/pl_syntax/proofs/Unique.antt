@@ -9,10 +9,11 @@ use Rattle.pl_syntax.specs.declared.token.Sign.TheVariants.{CloseBrace}
 use Rattle.pl_syntax.specs.declared.fault.SyntaxFault.{SyntaxFault}
 use Rattle.pl_syntax.specs.Tokens.{Token, the_end, sign, word, name, Leads}
 use Rattle.pl_syntax.specs.Tree.{Tree, done, plain, fork, loop, Plain, new_task, new_phaser, reg, dereg, adv, await, skip, height}
-use Rattle.pl_syntax.specs.Grammar.{ReadsTokens, header, scan_of, tokens, plain_tokens, sentence, StaysShallow, IsText, HasFault, Begins, IsFirstFault, IsAtFault}
+use Rattle.pl_syntax.specs.Grammar.{ReadsTokens, header, scan_of, tokens, plain_tokens, sentence, StaysShallow, IsText, HasFault, Begins, IsFirstSyntaxFault, IsAtFault}
 use Rattle.pl_syntax.specs.inside.Reading.{ends_list}
 use Rattle.pl_syntax.proofs.FirstFaults.{one_from, one_stretch, no_fault}
-use Rattle.pl_syntax.proofs.Machine.{at, run, run-append, run_sentence}
+use Rattle.pl_syntax.proofs.Machine.{at, run, run-append}
+use Rattle.pl_syntax.proofs.Begun.{firsts, run_sentence}
 use Rattle.pl_syntax.proofs.Forest.{runs_if}
 use Rattle.pl_syntax.proofs.Statements.{stays}
 use Rattle.std.proofs.lemmas.List.{append-nil}
@@ -129,7 +130,7 @@ data Whole : Bool → List Token → Type 0 where
 past_text : (p : Tree) (t : Token) (vs : List Token) → Begins true (sentence p ++ t ∷ vs) → ⊥
 past_text p t vs b =
     let r = runs_if (sentence p ++ t ∷ vs) b in
-    let q : run (at [] 0) (sentence p ++ t ∷ vs) ≡ None = run-append (at [] 0) (sentence p) (t ∷ vs) ∙ rw (run_sentence p) refl in
+    let q : run firsts (at [] 0) (sentence p ++ t ∷ vs) ≡ None = run-append firsts (at [] 0) (sentence p) (t ∷ vs) ∙ rw (run_sentence p) refl in
     let z : None ≡ Some r.0 = sym q ∙ r.1 in
     cc
 
@@ -156,7 +157,7 @@ stretch two = one_stretch (Begins two) (begins_front two) (Whole two) (end_only 
 -- no whole stretch has a fault
 sound :
     (two : Bool) (scan : Scan) (start : List ℕ) (us : List Token) (end : List ℕ) (f : SyntaxFault) → Whole two us → StaysShallow 0 us →
-    Leads scan start us end → IsFirstFault (Begins two) scan start f → ⊥
+    Leads scan start us end → IsFirstSyntaxFault (Begins two) scan start f → ⊥
 sound two = no_fault (Begins two) (begins_front two) (Whole two) (end_only two) (whole_begins two)
 
 -- ---- texts and faults of the two forms
@@ -179,7 +180,7 @@ form_of text p a = go p.two refl (a.reads)
 
 -- how a fault is found
 abbrev Faulty : List ℕ → SyntaxFault → Type 0
-Faulty text f = IsFirstFault (Begins false) (scan_of false text) text f ⊎ ((mid : List ℕ) × Header text mid × IsFirstFault (Begins true) (scan_of true text) mid f)
+Faulty text f = IsFirstSyntaxFault (Begins false) (scan_of false text) text f ⊎ ((mid : List ℕ) × Header text mid × IsFirstSyntaxFault (Begins true) (scan_of true text) mid f)
 
 faulty : (text : List ℕ) (f : SyntaxFault) → HasFault text f → Faulty text f
 faulty text f b = go b.two b.reads b.goes_on b.here
@@ -250,6 +251,6 @@ one_fault text f g a b = elim (faulty text f a) [
   ]
   | inr x ↦ elim (faulty text g b) [
     | inl y ↦ absurd (sound false (scan_of false text) text header x.0 g a_header header_shallow x.1 y)
-    | inr y ↦ one_from (Begins true) (begins_front true) (scan_of true text) y.0 f g (subst (λ (m : List ℕ). IsFirstFault (Begins true) (scan_of true text) m f) (one_header text x.0 y.0 x.1 y.1) x.2) y.2
+    | inr y ↦ one_from (Begins true) (begins_front true) (scan_of true text) y.0 f g (subst (λ (m : List ℕ). IsFirstSyntaxFault (Begins true) (scan_of true text) m f) (one_header text x.0 y.0 x.1 y.1) x.2) y.2
   ]
 ]

@@ -121,7 +121,7 @@ pub data IsAtFault (Starts : List Token → Type 0) (before : List Token) (scan 
 
 -- The first fault of what is read from a start on, behind tokens that are all right. Some token has to be able to follow them: else
 -- an accepted text would have a fault behind its end.
-pub record IsFirstFault (Starts : List Token → Type 0) (scan : Scan) (start : List ℕ) (fault : SyntaxFault) : Type 0 where
+pub record IsFirstSyntaxFault (Starts : List Token → Type 0) (scan : Scan) (start : List ℕ) (fault : SyntaxFault) : Type 0 where
   pub before : List Token
   pub left : List ℕ
   pub reads : Leads scan start before left

@@ -129,7 +129,7 @@ fn skip_at(scan: Scan, text: &[u8]) -> Result<(Stmt, &[u8]), ParseEnd>
 
 // `{`, statements, `}`
 #[cycle(read)]
-#[tactic(auto, unfolding(crate::specs::inside::Reading::block_at))]
+#[tactic(auto, unfolding(crate::specs::inside::Reading::braced_at))]
 fn block_at(alloc: Global, scan: Scan, depth: u32, text: &[u8]) -> Result<(Body, &[u8]), ParseEnd>
     requires within { length text.now ≤ scan.total }
     requires small { scan.total < 2 ^ 32 }
@@ -241,7 +241,7 @@ fn statements_at(
 }
 
 // The statements of a whole text, of which this is left behind the header.
-#[tactic(auto, unfolding(crate::specs::inside::Reading::body_at))]
+#[tactic(auto, unfolding(crate::specs::inside::Reading::whole_by))]
 fn body_at(alloc: Global, scan: Scan, text: &[u8]) -> Result<Body, ParseEnd>
     requires within { length text.now ≤ scan.total }
     requires small { scan.total < 2 ^ 32 }

@@ -209,17 +209,25 @@ skip_at scan text = do
   rest ← sign_at scan Semicolon text
   Ok (s.Skip, rest)
 
--- what reads statements, where so many braces are open
-abbrev pub Block : Type 0
-Block = ℕ → List ℕ → Result (List Stmt × List ℕ) SyntaxFault
+-- what reads statements of some kind, where so many braces are open
+abbrev pub BlockOf : Type 0 → Type 0
+BlockOf S = ℕ → List ℕ → Result (List S × List ℕ) SyntaxFault
 
--- `{`, statements, `}`
-unfoldable pub block_at : Block → Scan → ℕ → List ℕ → Result (Tree × List ℕ) SyntaxFault
-block_at body scan depth text = do
+-- `{`, statements, `}`, as the tree of the statements
+unfoldable pub braced_at : {S T : Type 0} → (List S → T) → BlockOf S → Scan → ℕ → List ℕ → Result (T × List ℕ) SyntaxFault
+braced_at tree body scan depth text = do
   open_ ← opened_at scan depth text
   inner ← body (depth + 1) open_
   close ← sign_at scan CloseBrace inner.1
-  Ok (tree_of inner.0, close)
+  Ok (tree inner.0, close)
+
+-- what reads statements of PL
+abbrev pub Block : Type 0
+Block = BlockOf Stmt
+
+-- the same of PL
+abbrev pub block_at : Block → Scan → ℕ → List ℕ → Result (Tree × List ℕ) SyntaxFault
+block_at body scan depth text = braced_at tree_of body scan depth text
 
 -- `fork(x) { .. }`, behind its first word
 unfoldable pub fork_at : Block → Scan → ℕ → List ℕ → Result (Stmt × List ℕ) SyntaxFault
@@ -253,29 +261,43 @@ ends_list the_end = true
 ends_list (sign CloseBrace) = true
 ends_list _ = false
 
--- The statements up to the end of a body or of the text. The number bounds how many there are; the length of the text is enough.
-unfoldable pub statements_at : ℕ → Scan → Block
-statements_at zero scan depth text = Ok ([], text)
-statements_at (suc n) scan depth text =
+-- What stands up to a token at which a list ends, each item read by this function. The number bounds how many there are; the length of the text is enough.
+unfoldable pub listed_by :
+    {S : Type 0} → (Token → Bool) → (BlockOf S → Scan → ℕ → Token → List ℕ → List ℕ → Result (S × List ℕ) SyntaxFault) → ℕ → Scan → BlockOf S
+listed_by closes one zero scan depth text = Ok ([], text)
+listed_by closes one (suc n) scan depth text =
     front scan text >>= λ x.
-    if ends_list x.0 then Ok ([], text)
-    else (statement_in (statements_at n scan) scan depth x.0 text x.1 >>= λ one.
-    statements_at n scan depth one.1 >>= λ more. Ok (one.0 ∷ more.0, more.1))
+    if closes x.0 then Ok ([], text)
+    else (one (listed_by closes one n scan) scan depth x.0 text x.1 >>= λ s.
+    listed_by closes one n scan depth s.1 >>= λ more. Ok (s.0 ∷ more.0, more.1))
+
+-- the statements up to the end of a body or of the text, each read by this function
+abbrev pub statements_by : {S : Type 0} → (BlockOf S → Scan → ℕ → Token → List ℕ → List ℕ → Result (S × List ℕ) SyntaxFault) → ℕ → Scan → BlockOf S
+statements_by one n scan depth text = listed_by ends_list one n scan depth text
 
 -- the tree of what was read, where this token is the end
-abbrev pub ended_at : Scan → List Stmt → List ℕ → Token → Result Tree SyntaxFault
-ended_at scan items text the_end = Ok (tree_of items)
-ended_at scan items text (sign _) = Err (unexpected scan text)
-ended_at scan items text (word _) = Err (unexpected scan text)
-ended_at scan items text (name _) = Err (unexpected scan text)
-ended_at scan items text (number _) = Err (unexpected scan text)
+abbrev pub ended_at : {S T : Type 0} → (List S → T) → Scan → List S → List ℕ → Token → Result T SyntaxFault
+ended_at tree scan items text the_end = Ok (tree items)
+ended_at tree scan items text (sign _) = Err (unexpected scan text)
+ended_at tree scan items text (word _) = Err (unexpected scan text)
+ended_at tree scan items text (name _) = Err (unexpected scan text)
+ended_at tree scan items text (number _) = Err (unexpected scan text)
 
--- the statements of a whole text, of which this is left behind the header
-unfoldable pub body_at : Scan → List ℕ → Result Tree SyntaxFault
-body_at scan text = do
-  all ← statements_at (length text + 1) scan 0 text
+-- the tree of the statements of a whole text
+unfoldable pub whole_by :
+    {S T : Type 0} → (List S → T) → (BlockOf S → Scan → ℕ → Token → List ℕ → List ℕ → Result (S × List ℕ) SyntaxFault) → Scan → List ℕ → Result T SyntaxFault
+whole_by tree one scan text = do
+  all ← statements_by one (length text + 1) scan 0 text
   last ← front scan all.1
-  ended_at scan all.0 all.1 last.0
+  ended_at tree scan all.0 all.1 last.0
+
+-- the statements of PL up to the end of a body or of the text
+abbrev pub statements_at : ℕ → Scan → Block
+statements_at n scan depth text = statements_by statement_in n scan depth text
+
+-- the statements of a whole text of PL, of which this is left behind the header
+abbrev pub body_at : Scan → List ℕ → Result Tree SyntaxFault
+body_at scan text = whole_by tree_of statement_in scan text
 
 -- this token is the name `pl`
 abbrev pub is_pl : Token → Bool
