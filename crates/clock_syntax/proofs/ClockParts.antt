@@ -1,5 +1,5 @@
 -- The part of a body from a statement on.
-use Rattle.std.proofs.Common.{◌≡◌, ℕ, ◌+◌, ◌<◌, ◌≤◌, List, length, drop, get_or, sym, ap, ◌∙◌, arith}
+use Rattle.std.proofs.Common.{◌≡◌, ℕ, ◌+◌, ◌<◌, ◌≤◌, List, [], ◌∷◌, ◌++◌, length, drop, get_or, sym, ap, ◌∙◌, arith}
 use Rattle.std.proofs.lemmas.List.{drop_more, drop_all}
 use Rattle.clock_syntax.specs.declared.tree.ClockStmt.{ClockStmt}
 use Rattle.clock_syntax.specs.declared.tree.ClockStmt.TheVariants as s
@@ -26,3 +26,13 @@ clock_counts items i q lt is =
 
 pub clock_nothing : (items : List ClockStmt) (i : ℕ) → length items ≤ i → clock_count (clock_tree_of (drop i items)) ≡ 0
 clock_nothing items i le = ap (λ (x : List ClockStmt). clock_count (clock_tree_of x)) (drop_all i items le)
+
+-- one statement more
+pub clock_count_push : (items : List ClockStmt) (q : ClockStmt) →
+    clock_count (clock_tree_of (items ++ q ∷ [])) ≡ clock_count (clock_tree_of items) + clock_count (clock_followed_by q done)
+clock_count_push [] q = omega arith
+clock_count_push (s ∷ ss) q =
+    let h = clock_count_push ss q in
+    let a = clock_count_first s (clock_tree_of (ss ++ q ∷ [])) in
+    let b = clock_count_first s (clock_tree_of ss) in
+    omega arith

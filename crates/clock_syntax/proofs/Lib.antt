@@ -1,1 +1,9 @@
 pub mod ClockParts
+pub mod ClockInjective
+pub mod ClockWorkedTexts
+pub mod ClockBegun
+pub mod ClockForest
+pub mod ClockNames
+pub mod ClockStatements
+pub mod ClockTexts
+pub mod ClockUnique

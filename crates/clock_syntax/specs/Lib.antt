@@ -1,5 +1,10 @@
 -- What a reader of the repository has to believe.
 pub mod Trees
+pub mod Grammar
+-- How the types of the program show as those.
 pub mod Bodies
--- How the program does it: sizes of bodies.
+-- What is promised.
+pub mod Parsing
+pub mod Laws
+-- How the program does it: private contracts alone cite these.
 pub mod inside

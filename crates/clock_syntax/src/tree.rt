@@ -34,7 +34,7 @@ pub enum ClockStmt {
     Finish {
         body: ClockBody,
     },
-    /// `advance(x);` signals on clock x, unless it is pending, and waits until the clock goes on.
+    /// `advance(x);` signals on clock x, unless it is pending, and waits until the clock has gone on since that signal.
     Advance {
         x: ClockName,
     },

@@ -1,0 +1,5 @@
+use Rattle.clock_syntax.proofs.ClockUnique.{one_clock_tree}
+use Rattle.clock_syntax.proofs.laws.clock_text_has_one_tree.Goals as goal
+
+pub returns : goal.returns
+returns c = one_clock_tree
