@@ -16,6 +16,8 @@ mod laws;
 mod limits;
 mod name;
 mod reader;
+#[cfg(test)]
+mod tests;
 mod tree;
 
 pub use laws::{
