@@ -7,3 +7,4 @@ pub mod TasksVisits
 pub mod CodesOfVisits
 pub mod Growing
 pub mod MadeByVisits
+pub mod WrittenStatements

@@ -1,6 +1,6 @@
 -- Laws of origins: what is made is made by the visit from whose statement it comes.
 use Rattle.pl_plan.specs.Forks.{starts_of}
-use Rattle.std.specs.Prelude.{length, ◌≡◌, ℕ, Bool, false, true, List, [], ◌++◌, filter, slice_index_or, Contains, Option, Some, None, Ok, suc, ◌+◌, ◌<◌, ◌∷◌, map}
+use Rattle.std.specs.Prelude.{length, ◌≡◌, ℕ, Bool, false, true, List, [], ◌++◌, filter, slice_index_or, Contains, Option, Some, None, Ok, suc, ◌+◌, ◌<◌, ◌∷◌, map, ◌-◌, ◌≤◌}
 use Rattle.std.specs.List.{AllZip, slice_get}
 use Rattle.armus_base.specs.declared.ids.TaskId.{TaskId}
 use Rattle.armus_base.specs.declared.ids.PhaserId.{PhaserId}
@@ -9,9 +9,9 @@ use Rattle.armus_base.specs.declared.op.Op.{Op}
 use Rattle.armus_base.specs.declared.op.Op.TheVariants.{Make, Reg, Fork, Adv, Drop, Await}
 use Rattle.armus_base.specs.Plans.{Plan}
 use Rattle.pl_syntax.specs.declared.tree.Program.{Program}
-use Rattle.pl_syntax.specs.Tree.{Tree, new_phaser, reg, dereg, adv, await}
+use Rattle.pl_syntax.specs.Tree.{Tree, new_phaser, reg, dereg, adv, await, done, plain, fork, loop}
 use Rattle.pl_plan.specs.Folding.{drops_of}
-use Rattle.pl_plan.specs.Unfolding.{Coming, Start, Visit, a_fork, a_plain, phaser, plan_of, task}
+use Rattle.pl_plan.specs.Unfolding.{Coming, Start, Visit, a_fork, a_plain, phaser, plan_of, task, a_loop, a_turn}
 use Rattle.origins.specs.Origins.{comes_to_op, op_origin, start_of, visits_by, visits_of_task, comes_to_phaser, comes_to_task, phaser_origin, task_origin, statements_where}
 
 -- ---- ops
@@ -106,3 +106,30 @@ abbrev pub TasksHaveOrigins : Type 0
 TasksHaveOrigins =
     (program : Program) (plan : Plan) → plan_of program ≡ Ok plan → (c : ℕ) → suc c < length plan.parents →
     (u : ℕ) × (slice_index_or plan.parents (suc c) None ≡ Some (task u)) × IsOfVisit program comes_to_task u (task_origin program (suc c))
+
+-- ---- the statements of the text
+
+-- all statements, in order of number, each as it is come to
+abbrev pub written_statements : Tree → List Coming
+written_statements done = []
+written_statements (plain s rest) = a_plain s ∷ written_statements rest
+written_statements (fork x body rest) = a_fork x body ∷ (written_statements body ++ written_statements rest)
+written_statements (loop k body rest) = a_loop ∷ (written_statements body ++ written_statements rest)
+
+-- the statement that is come to: that of a turn is its loop
+abbrev pub statement_of : Coming → Coming
+statement_of a_turn = a_loop
+statement_of c = c
+
+-- each visit is a coming to the statement that stands at its number
+abbrev pub VisitsAreOfText : Type 0
+VisitsAreOfText =
+    (program : Program) (t : ℕ) (m : Visit) → Contains (visits_of_task program t) m →
+    (1 ≤ m.statement) × (slice_get (written_statements program.body) (m.statement - 1) ≡ Some (statement_of m.coming))
+
+-- so each Await comes from an await, with its offset
+abbrev pub AwaitsComeFromAwaits : Type 0
+AwaitsComeFromAwaits =
+    (program : Program) (plan : Plan) → plan_of program ≡ Ok plan → (t i : ℕ) (p : PhaserId) (off : Offset) →
+    slice_get (slice_index_or plan.codes t []) i ≡ Some (Await p off) →
+    (n : ℕ) × (x : List ℕ) × (op_origin program t i ≡ Some (suc n)) × (slice_get (written_statements program.body) n ≡ Some (a_plain (await x off)))

@@ -8,7 +8,7 @@ mod making;
 mod seeking;
 mod statement;
 
-pub use laws::{ops_have_origins, phasers_and_tasks_have_origins};
+pub use laws::{ops_have_origins, phasers_and_tasks_have_origins, visits_are_of_text};
 pub use lookup::Origins;
 
 #[cfg(test)]

@@ -134,5 +134,6 @@ fn origins_of_many_turns(rt: HostRuntime) -> Result<(), Fail> {
     ];
     ops_have_origins();
     phasers_and_tasks_have_origins();
+    visits_are_of_text();
     expect_rows(&rt, rt.alloc(), MANY_TURNS, rows.as_slice())
 }

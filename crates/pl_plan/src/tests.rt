@@ -213,6 +213,17 @@ fn faults_before_others(rt: HostRuntime) {
 }
 
 #[test]
+fn forks_of_each_task(rt: HostRuntime) -> Result<(), Fail> {
+    assert!(rt; AVERAGING.len() <= MAX_PARSED_BYTES);
+    let program = parse(rt.alloc(), AVERAGING)?;
+    let unfolded = unfold(rt.alloc(), &program)?;
+    let wanted = [Some(0), Some(7), Some(7), Some(7)];
+    assert_eq!(rt; unfolded.plan.tasks(), 4);
+    assert_eq!(rt; unfolded.forks.as_slice(), wanted.as_slice());
+    Ok(())
+}
+
+#[test]
 fn ops_of_each_task(rt: HostRuntime) -> Result<(), Fail> {
     assert!(rt; AVERAGING.len() <= MAX_PARSED_BYTES);
     let program = parse(rt.alloc(), AVERAGING)?;
