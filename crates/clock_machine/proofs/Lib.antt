@@ -1,0 +1,17 @@
+pub mod Lawful
+pub mod Entries
+pub mod Cells
+pub mod Acting
+pub mod Matching
+pub mod Moving
+pub mod Registering
+pub mod Leaving
+pub mod Settling
+pub mod LastPhases
+pub mod Simulating
+pub mod Ending
+pub mod Bounded
+pub mod LawfulMoves
+pub mod ClockRuns
+pub mod ClockEnds
+pub mod WorkedRuns
