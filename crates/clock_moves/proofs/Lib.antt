@@ -8,3 +8,4 @@ pub mod Starting
 pub mod ClockPlanIsChecked
 pub mod ClockFaultIsOfText
 pub mod ByClockTable
+pub mod EachStops

@@ -1,6 +1,6 @@
 // The laws over the definition of the unfolding: each is the contract of a function with an empty body.
 ghost use Rattle.clock_moves.specs.ClockTests.{ComesByTable, FaultsByTable, StopsWithRoom, StopsWithoutRoom};
-ghost use Rattle.clock_moves.specs.Laws.{ClockFaultIsOfText, ClockPlanIsChecked};
+ghost use Rattle.clock_moves.specs.Laws.{ClockFaultIsOfText, ClockPlanIsChecked, EachActivityStops};
 ghost use Rattle.clock_moves.specs.WorkedClocks.{ArePlanned, ClockLimitsHold, HaveMoves, worked_clock_faults, worked_clock_plans, worked_moves};
 
 /// The plan to which a clock program unfolds is a checked plan.
@@ -12,6 +12,11 @@ pub fn clock_plan_is_checked()
 /// the end of activity 0.
 pub fn clock_fault_is_of_text()
     ensures { ClockFaultIsOfText }
+{}
+
+/// The unfolding goes through every activity that is started, to its end: the moves of each end with its one stop.
+pub fn each_activity_stops()
+    ensures { EachActivityStops }
 {}
 
 /// What a coming of the unfolding means, in other words than its computation: it passes the rows of a table of tests one by one and does what its statement
