@@ -9,3 +9,4 @@ pub mod ClockPlanIsChecked
 pub mod ClockFaultIsOfText
 pub mod ByClockTable
 pub mod EachStops
+pub mod ComesAreMoves

@@ -10,12 +10,12 @@ use Rattle.pl_plan.specs.declared.fault.CheckFault.{CheckFault}
 -- ---- what a part is about
 
 -- the names of a statement, without that which a clock is given
-abbrev pub names_in : ClockPart → List (List ℕ)
-names_in (a_plain (advance x)) = x ∷ []
-names_in (a_plain (resume x)) = x ∷ []
-names_in (a_plain (drop x)) = x ∷ []
-names_in (an_async xs body) = xs
-names_in part = []
+abbrev pub names_tested : ClockPart → List (List ℕ)
+names_tested (a_plain (advance x)) = x ∷ []
+names_tested (a_plain (resume x)) = x ∷ []
+names_tested (a_plain (drop x)) = x ∷ []
+names_tested (an_async xs body) = xs
+names_tested part = []
 
 -- async and resume want no clock that is pending
 abbrev pub wants_idle : ClockPart → Bool
@@ -112,7 +112,7 @@ no_clock_op_left part = clock_row 8 (λ u. not (ops_with u part == 0) && not (na
 abbrev pub clock_table : ClockPart → List ClockRow
 clock_table part =
     no_clock_visit_left part
-    ∷ (names_rows (wants_idle part) [] (names_in part)
+    ∷ (names_rows (wants_idle part) [] (names_tested part)
     ++ (no_activity_left part ∷ no_clock_left part ∷ no_clock_cell_left part ∷ no_clock_op_left part ∷ []))
 
 -- no row is at fault

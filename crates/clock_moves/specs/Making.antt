@@ -1,10 +1,11 @@
 -- Which move an activity may make, and what it changes.
-use Rattle.std.specs.Prelude.{◌≡◌, ℕ, ◌+◌, ◌*◌, ◌<◌, ◌≤◌, true, false, List, [], ◌∷◌, length, Some}
+use Rattle.std.specs.Prelude.{◌≡◌, ℕ, ◌+◌, ◌*◌, ◌<◌, ◌≤◌, ◌⊎◌, true, false, List, [], ◌∷◌, length, Ok, Some}
 use Rattle.std.specs.List.{list_any}
 use Rattle.std.specs.Str.{bytes_eq}
 use Rattle.clock_syntax.specs.Trees.{ClockTree}
 use Rattle.clock_moves.specs.Moves.{Move, advances, begins, drops, ends, opens, ops_of, resumes, starts, stops}
-use Rattle.clock_moves.specs.Unfolding.{ClockUnfolding, Current, governed_by, innermost, naming, start_at, with_activity, with_clock_made, with_move}
+use Rattle.clock_moves.specs.ClockTests.{visited}
+use Rattle.clock_moves.specs.Unfolding.{ClockComing, ClockUnfolding, Current, come, governed_by, innermost, naming, start_at, with_activity, with_clock_made, with_move}
 
 -- the name x stands for clock p, and the activity is registered on it
 pub record IsClockOf (now : Current) (x : List ℕ) (p : ℕ) : Type 0 where
@@ -49,3 +50,8 @@ pub record MakesMove (t : ℕ) (u w : ClockUnfolding) : Type 0 where
   pub may : MayMake t u move base
   pub few : u.ops + length (ops_of u.now.standing move) ≤ 1048576
   pub becomes : w ≡ with_move t move base
+
+-- a coming that answers an unfolding makes a move that the activity may make, or none: then only the visit is counted
+abbrev pub ComesAreMoves : Type 0
+ComesAreMoves =
+    (t : ℕ) (m : ClockComing) (u w : ClockUnfolding) → come t m u ≡ Ok w → (w ≡ visited m.part u) ⊎ MakesMove t (visited m.part u) w

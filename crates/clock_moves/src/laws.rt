@@ -1,6 +1,7 @@
 // The laws over the definition of the unfolding: each is the contract of a function with an empty body.
 ghost use Rattle.clock_moves.specs.ClockTests.{ComesByTable, FaultsByTable, StopsWithRoom, StopsWithoutRoom};
 ghost use Rattle.clock_moves.specs.Laws.{ClockFaultIsOfText, ClockPlanIsChecked, EachActivityStops};
+ghost use Rattle.clock_moves.specs.Making.{ComesAreMoves};
 ghost use Rattle.clock_moves.specs.WorkedClocks.{ArePlanned, ClockLimitsHold, HaveMoves, worked_clock_faults, worked_clock_plans, worked_moves};
 
 /// The plan to which a clock program unfolds is a checked plan.
@@ -21,12 +22,14 @@ pub fn each_activity_stops()
 
 /// What a coming of the unfolding means, in other words than its computation: it passes the rows of a table of tests one by one and does what its statement
 /// says, or it answers the first row that is at fault, with the statement's number; and an activity ends where there is room for the ops that leave each of
-/// its clocks and finishes.
+/// its clocks and finishes. Where a coming answers an unfolding, the move is one that the activity may make, by the clocks of its names, the finishes that
+/// govern it, and the room that is left.
 pub fn clock_coming_by_table()
     ensures answer { ComesByTable }
     ensures fault { FaultsByTable }
     ensures ends { StopsWithRoom }
     ensures full { StopsWithoutRoom }
+    ensures moves { ComesAreMoves }
 {}
 
 /// Small clock programs with their plans and moves, and with first faults that tell the orders of the tests; and one step more in a state at a limit.
