@@ -1,0 +1,2 @@
+pub mod ClockChecker
+pub mod ClockCheckerSteps
