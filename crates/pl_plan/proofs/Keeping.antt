@@ -10,13 +10,13 @@ use Rattle.pl_plan.specs.declared.step.Thing.{Thing}
 use Rattle.pl_plan.specs.declared.step.Thing.TheVariants.{Nothing, Task, Phaser}
 use Rattle.pl_plan.specs.inside.Steps.{IsList}
 use Rattle.pl_plan.specs.MemberRows.{marked}
-use Rattle.pl_plan.specs.inside.Checker.{Checker, CheckerStart, IsThings, IsInside, StartFits, IsChecker, slot_of, slotted, with_slot, with_thing, with_task, with_maker, pushed, with_membership, started, padded}
+use Rattle.pl_plan.specs.inside.Checker.{Checker, CheckerStart, IsThings, IsThingBelow, StartFits, IsChecker, slot_of, slotted, with_slot, with_thing, with_task, with_maker, pushed, with_membership, started, padded}
 use Rattle.pl_plan.specs.inside.CheckerSteps.{with_binding}
 use Rattle.pl_plan.proofs.Places.{at_set, at_more}
 
 -- ---- things stay inside where there are more
 
-inside_more : (a b a' b' : ℕ) (v : Thing) → a ≤ a' → b ≤ b' → IsInside a b v → IsInside a' b' v
+inside_more : (a b a' b' : ℕ) (v : Thing) → a ≤ a' → b ≤ b' → IsThingBelow a b v → IsThingBelow a' b' v
 inside_more a b a' b' Nothing p q h = tt
 inside_more a b a' b' (Task c) p q h = omega arith
 inside_more a b a' b' (Phaser c) p q h = omega arith
@@ -33,7 +33,7 @@ pub things_same : (a b n : ℕ) (vs ws : List Thing) → ((k : ℕ) → slice_in
 things_same a b n vs ws same h = record {
   none = same 0 ∙ h.none;
   free = λ k le. same k ∙ h.free k le;
-  inside = λ k. subst (IsInside a b) (sym (same k)) (h.inside k);
+  inside = λ k. subst (IsThingBelow a b) (sym (same k)) (h.inside k);
 }
 
 -- the things in the first n slots, where behind them is nothing
@@ -218,7 +218,7 @@ slotted_fits x k here room f = slotted_by x k here room f (nat_lt 0 (slot_of k x
 
 -- ---- a thing
 
-pub fits_thing : (x : ℕ) (v : Thing) (k : Checker) → 0 < slot_of k x → IsInside (length k.parents) (length k.makers) v → IsChecker k → IsChecker (with_thing x v k)
+pub fits_thing : (x : ℕ) (v : Thing) (k : Checker) → 0 < slot_of k x → IsThingBelow (length k.parents) (length k.makers) v → IsChecker k → IsChecker (with_thing x v k)
 fits_thing x v k has inside f = record {
   starts_many = f.starts_many;
   codes_many = f.codes_many;
@@ -234,13 +234,13 @@ fits_thing x v k has inside f = record {
   now = record {
     none = get_or-set_other k.bindings.things (slot_of k x) 0 v Nothing (λ e. absurd (omega arith)) ∙ f.now.none;
     free = λ n le. get_or-set_other k.bindings.things (slot_of k x) n v Nothing (λ e. absurd (omega (arith, f.slots.below x))) ∙ f.now.free n le;
-    inside = λ n. at_set (IsInside (length k.parents) (length k.makers)) k.bindings.things (slot_of k x) v Nothing n (λ e lt. inside) (λ ne. f.now.inside n) (λ le. tt);
+    inside = λ n. at_set (IsThingBelow (length k.parents) (length k.makers)) k.bindings.things (slot_of k x) v Nothing n (λ e lt. inside) (λ ne. f.now.inside n) (λ le. tt);
   };
   later = f.later;
 }
 
 pub fits_binding : (x : ℕ) (v : Thing) (k : Checker) → x < length k.bindings.slots → k.bindings.slot_count < length k.parents + length k.makers →
-    IsInside (length k.parents) (length k.makers) v → IsChecker k → IsChecker (with_binding x v k)
+    IsThingBelow (length k.parents) (length k.makers) v → IsChecker k → IsChecker (with_binding x v k)
 fits_binding x v k here room inside f =
     let s = slotted_fits x k here room f in
-    fits_thing x v (slotted x k) s.has (subst (λ n. IsInside (length n.parents) (length n.makers) v) (sym s.same) inside) s.fits
+    fits_thing x v (slotted x k) s.has (subst (λ n. IsThingBelow (length n.parents) (length n.makers) v) (sym s.same) inside) s.fits

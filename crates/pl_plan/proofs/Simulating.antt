@@ -12,7 +12,7 @@ use Rattle.pl_plan.specs.declared.step.Step.{Step}
 use Rattle.pl_plan.specs.declared.step.Thing as code
 use Rattle.pl_plan.specs.declared.step.Thing.TheVariants as a_thing
 use Rattle.pl_plan.specs.inside.Steps.{IsSpelled, IsList}
-use Rattle.pl_plan.specs.inside.Checker.{Checker, CheckerStart, IsInside, IsChecker, Keeps, slot_of, thing_at, with_task, with_maker, with_membership, started}
+use Rattle.pl_plan.specs.inside.Checker.{Checker, CheckerStart, IsThingBelow, IsChecker, Keeps, slot_of, thing_at, with_task, with_maker, with_membership, started}
 use Rattle.pl_plan.specs.inside.CheckerSteps.{with_binding, thing_of, thing_named, member, checker_add, checker_new_task, checker_new_phaser, checker_unforked_child, checker_reg, checker_member, checker_dereg, checker_adv, checker_await, checker_fork, checker_count, checker_leave}
 use Rattle.pl_plan.specs.Unfolding.{UnfoldingState, Start, Thing, a_task, a_phaser, Outcome, ◌>>=◌, fault_unless, as_task, as_phaser, is_parent, unforked_child, member_of, task, phaser, add_op, act, act_fork, count_visit, with_member, with_members, assigned, not_member, already_member, not_drawn_here, already_forked, has_cells, too_many_cells, too_many_tasks, too_many_phasers, too_many_ops, too_many_visits, leave}
 use Rattle.pl_plan.specs.inside.Shows.{ShowsState, MaybeStartShows}
@@ -39,12 +39,12 @@ simulates_phaser names n None o' f g e h = ap (λ v. as_phaser n v >>= g) e
 simulates_phaser names n (Some (a_task c)) o' f g e h = ap (λ v. as_phaser n v >>= g) e
 simulates_phaser names n (Some (a_phaser p)) o' f g e h = subst (λ v. Simulates names (f p) (as_phaser n v >>= g)) (sym e) (h p refl)
 
-task_inside : (a b : ℕ) (v : code.Thing) (c : ℕ) → IsInside a b v → thing_of v ≡ Some (a_task c) → c < a
+task_inside : (a b : ℕ) (v : code.Thing) (c : ℕ) → IsThingBelow a b v → thing_of v ≡ Some (a_task c) → c < a
 task_inside a b a_thing.Nothing c i e = absurd cc
 task_inside a b (a_thing.Phaser p) c i e = absurd cc
 task_inside a b (a_thing.Task d) c i e = (let q : d.0 ≡ c = cc in omega arith)
 
-phaser_inside : (a b : ℕ) (v : code.Thing) (p : ℕ) → IsInside a b v → thing_of v ≡ Some (a_phaser p) → p < b
+phaser_inside : (a b : ℕ) (v : code.Thing) (p : ℕ) → IsThingBelow a b v → thing_of v ≡ Some (a_phaser p) → p < b
 phaser_inside a b a_thing.Nothing p i e = absurd cc
 phaser_inside a b (a_thing.Task c) p i e = absurd cc
 phaser_inside a b (a_thing.Phaser q) p i e = (let r : q.0 ≡ p = cc in omega arith)
@@ -281,7 +281,7 @@ module _ (k : Checker) (f : IsChecker k) where
   keeps_marked t p v = record { fits = fits_marked k t p v f; more = omega arith; steps = refl; slots = refl }
 
   keeps_bound : (m : Checker) (x : ℕ) (v : code.Thing) → x < length m.bindings.slots → m.bindings.slot_count < length m.parents + length m.makers →
-      IsInside (length m.parents) (length m.makers) v → Keeps k m → Keeps k (with_binding x v m)
+      IsThingBelow (length m.parents) (length m.makers) v → Keeps k m → Keeps k (with_binding x v m)
   keeps_bound m x v here room inside h =
       let sl = slotted_fits x m here room h.fits in
       record {

@@ -46,8 +46,8 @@ drops n = Single (Drop (phaser n))
 abbrev registers : ℕ → Piece
 registers c = Single (Reg (task c) (phaser 0))
 
-abbrev forks : ℕ → Piece
-forks c = Single (Fork (task c))
+abbrev forks_task : ℕ → Piece
+forks_task c = Single (Fork (task c))
 
 -- a program of PL 1 whose one task has these pieces
 abbrev alone : Tree → List Piece → FoldedExample
@@ -94,7 +94,7 @@ forking_loop =
       program =
           record { two = false; body = with_phaser (loop 2 (plain (new_task t) (plain (reg t p) (fork t (loop 2 (plain (adv p) done) done) done))) done) };
       pieces =
-          (made 0 ∷ registers 1 ∷ forks 1 ∷ registers 2 ∷ forks 2 ∷ []) ∷ (Repeat 2 1 ∷ advances 0 ∷ []) ∷ (Repeat 2 1 ∷ advances 0 ∷ []) ∷ [];
+          (made 0 ∷ registers 1 ∷ forks_task 1 ∷ registers 2 ∷ forks_task 2 ∷ []) ∷ (Repeat 2 1 ∷ advances 0 ∷ []) ∷ (Repeat 2 1 ∷ advances 0 ∷ []) ∷ [];
     }
 
 -- one that makes its phaser each turn, with a steady loop inside: p = newPhaser(); loop 2 { p = newPhaser(); loop 2 { adv(p); } }
@@ -130,7 +130,7 @@ drops_behind =
                 (loop 2 (plain (adv p) (plain (await p Here) done)) done))));
           };
       pieces =
-          (made 0 ∷ registers 1 ∷ forks 1 ∷ Repeat 2 2 ∷ advances 0 ∷ awaits 0 ∷ drops 0 ∷ [])
+          (made 0 ∷ registers 1 ∷ forks_task 1 ∷ Repeat 2 2 ∷ advances 0 ∷ awaits 0 ∷ drops 0 ∷ [])
           ∷ (Repeat 2 2 ∷ advances 0 ∷ Single (Await (phaser 0) (Back 1)) ∷ drops 0 ∷ []) ∷ [];
     }
 

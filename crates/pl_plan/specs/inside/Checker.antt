@@ -46,16 +46,16 @@ abbrev pub thing_at : Checker → ℕ → Thing
 thing_at k x = slice_index_or k.bindings.things (slot_of k x) Nothing
 
 -- the number of a task or phaser is one of so many
-abbrev pub IsInside : ℕ → ℕ → Thing → Type 0
-IsInside tasks phasers Nothing = Unit {0}
-IsInside tasks phasers (Task c) = c.0 < tasks
-IsInside tasks phasers (Phaser p) = p.0 < phasers
+abbrev pub IsThingBelow : ℕ → ℕ → Thing → Type 0
+IsThingBelow tasks phasers Nothing = Unit {0}
+IsThingBelow tasks phasers (Task c) = c.0 < tasks
+IsThingBelow tasks phasers (Phaser p) = p.0 < phasers
 
 -- a list of things by slot; behind its end is nothing
 pub record IsThings (tasks phasers slot_count : ℕ) (things : List Thing) : Type 0 where
   pub none : slice_index_or things 0 Nothing ≡ Nothing
   pub free : (k : ℕ) → slot_count ≤ k → slice_index_or things k Nothing ≡ Nothing
-  pub inside : (k : ℕ) → IsInside tasks phasers (slice_index_or things k Nothing)
+  pub inside : (k : ℕ) → IsThingBelow tasks phasers (slice_index_or things k Nothing)
 
 -- a start's steps are a list of statements
 pub record IsStart (tasks phasers slot_count names : ℕ) (steps : List Step) (start : CheckerStart) : Type 0 where
