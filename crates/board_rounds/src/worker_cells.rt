@@ -21,11 +21,11 @@ pub struct WorkerCells {
 
 impl Model for WorkerCells {
     ghost use Rattle.std.specs.Prelude.{Bool};
-    ghost use Rattle.board_rounds.specs.inside.Workers.{Fit, has_cells};
+    ghost use Rattle.board_rounds.specs.inside.Workers.{Fit, holds_cells};
 
     ghost Value = { Bool };
 
-    ghost view = { has_cells };
+    ghost view = { holds_cells };
 
     ghost invariant = { Fit };
 }

@@ -11,7 +11,7 @@ use Rattle.armus_base.specs.Plans.{Plan, code_of}
 use Rattle.armus_base.proofs.Below.{length-list_below, list_below-at}
 use Rattle.pl_core.specs.declared.task.Task.{Task}
 use Rattle.pl_core.specs.inside.Changes.{after_fork, opening_tasks, unbegun}
-use Rattle.pl_core.specs.inside.Cursors.{AreAt, KeepsOps, moved_on, op_from, op_of}
+use Rattle.pl_core.specs.inside.Cursors.{AreAt, KeepsOtherCursors, moved_on, op_from, op_index_of}
 use Rattle.pl_core.specs.inside.Walks.{marked_by, with_forked}
 use Rattle.pl_core.proofs.Cells.{slice_get-set_other, slice_get-set_same}
 
@@ -35,19 +35,19 @@ gone_on None old new some none = none.1 ∙ sym (ap (drop 1) none.0)
 
 -- ---- the next ops of the tasks
 
-op_set_other : (tasks : List Task) (t u : ℕ) (task : Task) → u ≢ t → op_of (set tasks t task) u ≡ op_of tasks u
+op_set_other : (tasks : List Task) (t u : ℕ) (task : Task) → u ≢ t → op_index_of (set tasks t task) u ≡ op_index_of tasks u
 op_set_other tasks t u task n = ap op_from (slice_get-set_other tasks t u task n)
 
-pub op_set_same : (tasks : List Task) (t : ℕ) (task : Task) → t < length tasks → op_of (set tasks t task) t ≡ task.op
+pub op_set_same : (tasks : List Task) (t : ℕ) (task : Task) → t < length tasks → op_index_of (set tasks t task) t ≡ task.op
 op_set_same tasks t task l = ap op_from (slice_get-set_same tasks t task l)
 
-pub keeps_others : (tasks : List Task) (t : ℕ) (task : Task) → KeepsOps t tasks (set tasks t task)
+pub keeps_others : (tasks : List Task) (t : ℕ) (task : Task) → KeepsOtherCursors t tasks (set tasks t task)
 keeps_others tasks t task u n = op_set_other tasks t u task n
 
 -- a task that stays at its op
-pub op_set_kept : (tasks : List Task) (t : ℕ) (old task : Task) → slice_get tasks t ≡ Some old → task.op ≡ old.op → (u : ℕ) → op_of (set tasks t task) u ≡ op_of tasks u
+pub op_set_kept : (tasks : List Task) (t : ℕ) (old task : Task) → slice_get tasks t ≡ Some old → task.op ≡ old.op → (u : ℕ) → op_index_of (set tasks t task) u ≡ op_index_of tasks u
 op_set_kept tasks t old task read same u = elim (cases_eq u t) [
-  | inl e ↦ subst (λ v. op_of (set tasks t task) v ≡ op_of tasks v) (sym e) (ap op_from (slice_get-set_same tasks t task within) ∙ same ∙ ap op_from (sym read))
+  | inl e ↦ subst (λ v. op_index_of (set tasks t task) v ≡ op_index_of tasks v) (sym e) (ap op_from (slice_get-set_same tasks t task within) ∙ same ∙ ap op_from (sym read))
   | inr n ↦ op_set_other tasks t u task n
 ]
   where
@@ -55,24 +55,24 @@ op_set_kept tasks t old task read same u = elim (cases_eq u t) [
     within = slice_get_within tasks t old read
 
 -- a fork changes no task's op
-pub op_marked : (tasks : List Task) (op : Op) (u : ℕ) → op_of (marked_by tasks op) u ≡ op_of tasks u
+pub op_marked : (tasks : List Task) (op : Op) (u : ℕ) → op_index_of (marked_by tasks op) u ≡ op_index_of tasks u
 op_marked tasks (Make p) u = refl
 op_marked tasks (Reg c p) u = refl
 op_marked tasks (Fork c) u = go (slice_get tasks c.0) refl
   where
-    go : (o : Option Task) → slice_get tasks c.0 ≡ o → op_of (with_forked tasks c.0 o) u ≡ op_of tasks u
+    go : (o : Option Task) → slice_get tasks c.0 ≡ o → op_index_of (with_forked tasks c.0 o) u ≡ op_index_of tasks u
     go None e = refl
     go (Some child) e = op_set_kept tasks c.0 child (after_fork child) e refl u
 op_marked tasks (Adv p) u = refl
 op_marked tasks (Drop p) u = refl
 op_marked tasks (Await p off) u = refl
 
-unbegun_op : (n u : ℕ) → op_of (replicate n unbegun) u ≡ 0
+unbegun_op : (n u : ℕ) → op_index_of (replicate n unbegun) u ≡ 0
 unbegun_op zero u = refl
 unbegun_op (suc n) zero = refl
 unbegun_op (suc n) (suc u) = unbegun_op n u
 
-opening_op : (n u : ℕ) → op_of (opening_tasks n) u ≡ 0
+opening_op : (n u : ℕ) → op_index_of (opening_tasks n) u ≡ 0
 opening_op zero u = refl
 opening_op (suc n) zero = refl
 opening_op (suc n) (suc u) = unbegun_op n u
@@ -95,16 +95,16 @@ at_none plan tasks cursors none = record { one_each = ap length none; each = λ 
 
 module _ (plan : Plan) (n : ℕ) (old new : List Task) (cursors : List (List Op)) (at : AreAt plan n old cursors) where
   -- where no task comes to another op
-  pub at_same : ((u : ℕ) → op_of new u ≡ op_of old u) → AreAt plan n new cursors
+  pub at_same : ((u : ℕ) → op_index_of new u ≡ op_index_of old u) → AreAt plan n new cursors
   at_same same = record { one_each = at.one_each; each = λ u l. at.each u l ∙ ap (λ k. Some (drop k (code_of plan u))) (sym (same u)) }
 
-  module _ (t : ℕ) (others : KeepsOps t old new) where
+  module _ (t : ℕ) (others : KeepsOtherCursors t old new) where
     -- where task t comes to its next op
-    pub at_next : t < n → op_of new t ≡ op_of old t + 1 → AreAt plan n new (moved_on cursors t)
+    pub at_next : t < n → op_index_of new t ≡ op_index_of old t + 1 → AreAt plan n new (moved_on cursors t)
     at_next l next = record {
       one_each = length-set cursors t (drop 1 (get_or cursors t [])) ∙ at.one_each;
       each = λ u k. elim (cases_eq u t) [
-        | inl e ↦ subst (λ v. slice_get (moved_on cursors t) v ≡ Some (drop (op_of new v) (code_of plan v))) (sym e) own
+        | inl e ↦ subst (λ v. slice_get (moved_on cursors t) v ≡ Some (drop (op_index_of new v) (code_of plan v))) (sym e) own
         | inr e ↦
             slice_get-set_other cursors t u (drop 1 (get_or cursors t [])) e ∙ at.each u k ∙ ap (λ i. Some (drop i (code_of plan u))) (sym (others u e))
       ];
@@ -113,14 +113,14 @@ module _ (plan : Plan) (n : ℕ) (old new : List Task) (cursors : List (List Op)
         within : t < length cursors
         within = (let m = at.one_each in omega arith)
 
-        further : suc (op_of old t) ≡ op_of new t
+        further : suc (op_index_of old t) ≡ op_index_of new t
         further = omega arith
 
-        own : slice_get (moved_on cursors t) t ≡ Some (drop (op_of new t) (code_of plan t))
+        own : slice_get (moved_on cursors t) t ≡ Some (drop (op_index_of new t) (code_of plan t))
         own =
             slice_get-set_same cursors t (drop 1 (get_or cursors t [])) within
-            ∙ ap (λ ops. Some (drop 1 ops)) (get_or_from_slice_get cursors t (drop (op_of old t) (code_of plan t)) [] (at.each t l))
-            ∙ ap Some (one_less_left (code_of plan t) (op_of old t))
+            ∙ ap (λ ops. Some (drop 1 ops)) (get_or_from_slice_get cursors t (drop (op_index_of old t) (code_of plan t)) [] (at.each t l))
+            ∙ ap Some (one_less_left (code_of plan t) (op_index_of old t))
             ∙ ap (λ i. Some (drop i (code_of plan t))) further
 
 module _ (plan : Plan) (tasks : List Task) (cursors : List (List Op)) (at : AreAt plan (length plan.parents) tasks cursors)
@@ -150,14 +150,14 @@ module _ (plan : Plan) (tasks : List Task) (cursors : List (List Op)) (at : AreA
         ∙ next ∙ ap (λ o. op_from o + 1) (sym read))
 
 -- one task more
-module _ (plan : Plan) (t : ℕ) (old new : List Task) (cursors : List (List Op)) (at : AreAt plan t old cursors) (others : KeepsOps t old new) (cursor : List Op)
-    (own : cursor ≡ drop (op_of new t) (code_of plan t)) where
+module _ (plan : Plan) (t : ℕ) (old new : List Task) (cursors : List (List Op)) (at : AreAt plan t old cursors) (others : KeepsOtherCursors t old new) (cursor : List Op)
+    (own : cursor ≡ drop (op_index_of new t) (code_of plan t)) where
   pub at_more : AreAt plan (t + 1) new (cursors ++ cursor ∷ [])
   at_more = record {
     one_each = (let l = length-append cursors (cursor ∷ []) in let m = at.one_each in omega arith);
     each = λ u l. elim (cases_eq u t) [
       | inl e ↦
-          subst (λ v. slice_get (cursors ++ cursor ∷ []) v ≡ Some (drop (op_of new v) (code_of plan v))) (sym e)
+          subst (λ v. slice_get (cursors ++ cursor ∷ []) v ≡ Some (drop (op_index_of new v) (code_of plan v))) (sym e)
           (subst (λ v. slice_get (cursors ++ cursor ∷ []) v ≡ Some cursor) at.one_each (last cursors cursor) ∙ ap Some own)
       | inr e ↦
           let before : u < t = omega arith in
@@ -179,6 +179,6 @@ pub op_of_cursor :
     (plan : Plan) (n : ℕ) (tasks : List Task) (cursors : List (List Op)) → AreAt plan n tasks cursors → (t : ℕ) → t < n → (task : Task) → slice_get tasks t ≡ Some task →
     slice_get (get_or cursors t []) 0 ≡ slice_get (code_of plan t) task.op
 op_of_cursor plan n tasks cursors at t l task read =
-    ap (λ ops. slice_get ops 0) (get_or_from_slice_get cursors t (drop (op_of tasks t) (code_of plan t)) [] (at.each t l))
-    ∙ first_left (code_of plan t) (op_of tasks t)
+    ap (λ ops. slice_get ops 0) (get_or_from_slice_get cursors t (drop (op_index_of tasks t) (code_of plan t)) [] (at.each t l))
+    ∙ first_left (code_of plan t) (op_index_of tasks t)
     ∙ ap (λ o. slice_get (code_of plan t) (op_from o)) read

@@ -133,10 +133,8 @@ module _ (plan : Plan) (tasks : List Task) (table : PhaseTable) (kept : KeepsSta
         action = x;
         next = next;
         legal = legal;
-        place = task.place;
-        there = standing_there tasks t task read;
         plan = refl;
-        places = refl;
+        places = record { place = task.place; there = standing_there tasks t task read; changed = refl };
         run = (places_of old, refl, by_code, legal_there, sym moved_is);
         state = state_is;
       }

@@ -203,10 +203,8 @@ module _ (plan : Plan) (tasks : List Task) (table : PhaseTable) (kept : KeepsSta
       (record {
         aim = blocks.0;
         drops = lead.0;
-        place = task.place;
-        there = standing_there tasks t task read;
         plan = refl;
-        places = refl;
+        places = record { place = task.place; there = standing_there tasks t task read; changed = refl };
         run = subst (LeadsOn plan (places_of old) (drops_from t lead.0 ++ record { task = t; action = Refuses blocks.0 } ∷ [])) (sym seen) lead.1;
         left = left;
       })

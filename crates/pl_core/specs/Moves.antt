@@ -22,15 +22,19 @@ further a = record { events = a.events + 1; refused = a.refused }
 abbrev pub refused_there : KeptPlace → KeptPlace
 refused_there a = record { events = a.events; refused = true }
 
+-- the kept place of task t has changed by this, and no other task's
+pub record ChangesKeptPlace (old new : List KeptPlace) (t : ℕ) (change : KeptPlace → KeptPlace) : Type 0 where
+  pub place : KeptPlace
+  pub there : slice_get old t ≡ Some place
+  pub changed : new ≡ slice_set old t (change place)
+
 -- one step of task t: the next action of its code, which is legal; it leads to the places and to the state after it
 pub record IsWorldStep (old new : WorldValue) (t : ℕ) : Type 0 where
   pub action : Action
   pub next : action_by_code old t ≡ Some action
   pub legal : IsLegal old.plan (state_of old) t action
-  pub place : KeptPlace
-  pub there : slice_get old.places t ≡ Some place
   pub plan : new.plan ≡ old.plan
-  pub places : new.places ≡ slice_set old.places t (further place)
+  pub places : ChangesKeptPlace old.places new.places t further
   pub run : LeadsOn old.plan (places_of old) (record { task = t; action = action } ∷ []) (places_of new)
   pub state : state_of new ≡ after (state_of old) t action
 
@@ -42,9 +46,7 @@ drops_from t = map (λ p. record { task = t; action = Drops p })
 pub record MakesRefusal (old new : WorldValue) (t : ℕ) : Type 0 where
   pub aim : Aim
   pub drops : List ℕ  -- the last one first
-  pub place : KeptPlace
-  pub there : slice_get old.places t ≡ Some place
   pub plan : new.plan ≡ old.plan
-  pub places : new.places ≡ slice_set old.places t (refused_there place)
+  pub places : ChangesKeptPlace old.places new.places t refused_there
   pub run : LeadsOn old.plan (places_of old) (drops_from t drops ++ record { task = t; action = Refuses aim } ∷ []) (places_of new)
   pub left : (p : ℕ) → (state_of new).phases t p ≡ None

@@ -6,7 +6,7 @@ ghost use Rattle.pl_core.specs.inside.Effects.{HasRoomFor};
 ghost use Rattle.pl_core.specs.inside.Reachable.{AreReachable};
 ghost use Rattle.pl_core.specs.inside.Ops.{action_of, phases_moved};
 ghost use Rattle.pl_core.specs.inside.PhaseTables.{phases_in};
-ghost use Rattle.pl_core.specs.inside.Cursors.{AreAt, KeepsOps, op_of};
+ghost use Rattle.pl_core.specs.inside.Cursors.{AreAt, KeepsOtherCursors, op_index_of};
 ghost use Rattle.pl_core.specs.inside.Stops.{IsStopOf};
 ghost use Rattle.pl_core.specs.inside.Kept.{KeepsState};
 ghost use Rattle.pl_core.specs.Tables.{kept_places};
@@ -111,8 +111,8 @@ impl Walk {
         requires given { AreReachable plan.now places.now }
         requires walked { HasWalked plan.now places.now (walked (places_at plan.now places.now) t.0) t.0 self.old.tasks.items self.old.phases }
         ensures walked { HasWalked plan.now places.now (walked (places_at plan.now places.now) (t.0 + 1)) (t.0 + 1) self.new.tasks.items self.new.phases }
-        ensures cursor { result ≡ drop (op_of self.new.tasks.items t.0) (code_of plan.now t.0) }
-        ensures others { KeepsOps t.0 self.old.tasks.items self.new.tasks.items }
+        ensures cursor { result ≡ drop (op_index_of self.new.tasks.items t.0) (code_of plan.now t.0) }
+        ensures others { KeepsOtherCursors t.0 self.old.tasks.items self.new.tasks.items }
     {
         let mut cursor = plan.cursor(t);
         let stop = self.make_ops(plan, places, t, &mut cursor);
@@ -135,7 +135,7 @@ impl Walk {
         ensures stop { IsStopOf (code_of plan.now t.0) (places_at plan.now places.now t.0).done result }
         ensures cursor { cursor.new ≡ drop result.op (code_of plan.now t.0) }
         ensures walking { HasWalked plan.now places.now (walking (places_at plan.now places.now) t.0 (actions_before (code_of plan.now t.0) result.op)) t.0 self.new.tasks.items self.new.phases }
-        ensures others { KeepsOps t.0 self.old.tasks.items self.new.tasks.items }
+        ensures others { KeepsOtherCursors t.0 self.old.tasks.items self.new.tasks.items }
     {
         let mut left = place_within(places, t.0 as usize).events;
         let mut made = 0;
@@ -180,8 +180,8 @@ impl Walk {
         requires op { op ≡ slice_get (code_of plan.now t.0) stop.op }
         requires walking { HasWalked plan.now places.now (walking (places_at plan.now places.now) t.0 (actions_before (code_of plan.now t.0) stop.op)) t.0 self.old.tasks.items self.old.phases }
         ensures walked { HasWalked plan.now places.now (walked (places_at plan.now places.now) (t.0 + 1)) (t.0 + 1) self.new.tasks.items self.new.phases }
-        ensures stands { op_of self.new.tasks.items t.0 ≡ stop.op }
-        ensures others { KeepsOps t.0 self.old.tasks.items self.new.tasks.items }
+        ensures stands { op_index_of self.new.tasks.items t.0 ≡ stop.op }
+        ensures others { KeepsOtherCursors t.0 self.old.tasks.items self.new.tasks.items }
     {
         let at = t.0 as usize;
         let place = place_within(places, at);

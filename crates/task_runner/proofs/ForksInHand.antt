@@ -12,7 +12,7 @@ use Rattle.pl_core.proofs.Cells.{slice_get-set_other}
 use Rattle.board_rounds.specs.Turns.{Working}
 use Rattle.board_rounds.specs.Crews.{done_of, number}
 use Rattle.board_rounds.proofs.Between.{to_each}
-use Rattle.task_runner.specs.inside.Pooled.{AreForksMarked, AreWhole, IsInHand}
+use Rattle.task_runner.specs.inside.Pooled.{AreForksMarked, AreClosedUnderForks, ContainsTask}
 
 -- one op ahead of a code
 pub one_op :
@@ -48,8 +48,8 @@ unmarked (suc n) (suc t) is = unmarked n t is
 -- one more task is marked
 pub one_marked :
     (tasks : List Working) (w : Working) (first marks : List Bool) (n : ℕ) → n ≡ number w → n < length marks →
-    ((t : ℕ) → slice_get marks t ≡ Some true → IsInHand tasks t ⊎ (slice_get first t ≡ Some true)) →
-    (t : ℕ) → slice_get (set marks n true) t ≡ Some true → IsInHand (tasks ++ w ∷ []) t ⊎ (slice_get first t ≡ Some true)
+    ((t : ℕ) → slice_get marks t ≡ Some true → ContainsTask tasks t ⊎ (slice_get first t ≡ Some true)) →
+    (t : ℕ) → slice_get (set marks n true) t ≡ Some true → ContainsTask (tasks ++ w ∷ []) t ⊎ (slice_get first t ≡ Some true)
 one_marked tasks w first marks n num l before t is = elim (cases_eq t n) [
   | inl same ↦ inl (w, Contains-append_right tasks (w ∷ []) w (Contains-head w []), sym num ∙ sym same)
   | inr other ↦ elim (before t (sym (slice_get-set_other marks n t true other) ∙ is)) [
@@ -60,8 +60,8 @@ one_marked tasks w first marks n num l before t is = elim (cases_eq t n) [
 
 -- where only tasks in hand are marked, and all that were forked are
 pub whole_marked :
-    (plan : Plan) (tasks : List Working) (marks : List Bool) → ((t : ℕ) → slice_get marks t ≡ Some true → IsInHand tasks t) → slice_get marks 0 ≡ Some true →
-    All (λ task. AreForksMarked (code_of plan (number task)) (done_of task) marks) tasks → AreWhole plan tasks
+    (plan : Plan) (tasks : List Working) (marks : List Bool) → ((t : ℕ) → slice_get marks t ≡ Some true → ContainsTask tasks t) → slice_get marks 0 ≡ Some true →
+    All (λ task. AreForksMarked (code_of plan (number task)) (done_of task) marks) tasks → AreClosedUnderForks plan tasks
 unfolding action_at actions
 whole_marked plan tasks marks hand root all =
     record {

@@ -50,11 +50,11 @@ less_in_all old new t place next plan there places l =
 -- an event more
 pub step_leaves_less_left : (old new : WorldValue) (t : ℕ) → IsWorldStep old new t → left_in new < left_in old
 step_leaves_less_left old new t step =
-    let at : places_of old t ≡ place_from old.plan t (Some step.place) = place_is old.plan old.places t step.place step.there in
+    let at : places_of old t ≡ place_from old.plan t (Some step.places.place) = place_is old.plan old.places t step.places.place step.places.there in
     let left = has_left old.plan t (places_of old t).done step.action step.next in
     let done = ap (λ p. p.done) at in
-    less_in_all old new t step.place (further step.place) step.plan step.there step.places
-    (let l : step.place.events < length (actions old.plan t) = omega arith in fewer (length (actions old.plan t)) step.place.events step.place.refused l)
+    less_in_all old new t step.places.place (further step.places.place) step.plan step.places.there step.places.changed
+    (let l : step.places.place.events < length (actions old.plan t) = omega arith in fewer (length (actions old.plan t)) step.places.place.events step.places.place.refused l)
   where
     fewer : (n k : ℕ) (b : Bool) → k < n → (n - (k + 1)) + (if b then 0 else 1) < (n - k) + (if b then 0 else 1)
     fewer n k true l = omega arith
@@ -89,9 +89,9 @@ module _ (old new : WorldValue) (checked : IsCheckedPlan old.plan) (reach : IsRe
   decision_leaves_less : (d : Decision) → IsDecision old new t d → left_in new < left_in old
   decision_leaves_less (Published e) is = step_leaves_less_left old new t is.step
   decision_leaves_less (Refused c) is =
-      let r = is.refusal in
-      refused_leaves_less old new t r.place r.plan r.there r.places
-      (undropped_flag old t r.place r.there (unrefused_is_undropped old checked reach t is.before.0.unrefused))
+      let kept = is.refusal.places in
+      refused_leaves_less old new t kept.place is.refusal.plan kept.there kept.changed
+      (undropped_flag old t kept.place kept.there (unrefused_is_undropped old checked reach t is.before.0.unrefused))
 
   pub gone_on_leaves_less : HasGoneOn old new t → left_in new < left_in old
   gone_on_leaves_less gone = elim gone [ inl d ↦ decision_leaves_less d.0 d.1 | inr e ↦ step_leaves_less_left old new t e.step ]

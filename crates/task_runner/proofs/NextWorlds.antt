@@ -102,10 +102,8 @@ module _ (w : WorldValue) (checked : IsCheckedPlan w.plan) (reach : IsReachable 
           action = x;
           next = next;
           legal = legal;
-          place = place;
-          there = there;
           plan = refl;
-          places = refl;
+          places = record { place = place; there = there; changed = refl };
           run = (places_of w, refl, by_code, legal_there, sym moved_is);
           state = state_is;
         }

@@ -15,16 +15,16 @@ use Rattle.phase_scan.specs.Looks.{LoadsAlone}
 use Rattle.board_rounds.specs.Turns.{Working}
 use Rattle.board_rounds.specs.Crews.{ArePlacesOf, IsCrew, IsCrewSeat, IsSeatIn, KnowsTasks}
 use Rattle.board_rounds.specs.inside.Endings.{TakesAll}
-use Rattle.task_runner.specs.inside.Pooled.{AreWhole}
+use Rattle.task_runner.specs.inside.Pooled.{AreClosedUnderForks}
 use Rattle.task_runner.proofs.BoardEnds.{plain, reachable}
 use Rattle.task_runner.proofs.PooledTasks.{knows, whole_crew}
 
 module _ (f : Frame) (plan : Plan) (same : f.plan ≡ plan) (detects : f.mode ≡ Detect) (tasks : List Working) (each : All (λ (w : Working). IsCrewSeat f w.seat) tasks)
-    (whole : AreWhole plan tasks) (places : List KeptPlace) (are : ArePlacesOf plan tasks places) (first taken now : Known) (new : IsNewSeat f None nothing_seen first)
+    (whole : AreClosedUnderForks plan tasks) (places : List KeptPlace) (are : ArePlacesOf plan tasks places) (first taken now : Known) (new : IsNewSeat f None nothing_seen first)
     (takes : TakesAll (map (λ (w : Working). w.seat) tasks) first taken) (made : IsOf taken f) (goes : LoadsAlone taken now) (words : List ℕ)
     (last : AreLastOf f.plan f.mode (seen now.view) words) where
   crew : IsCrew f (IsSeatIn tasks)
-  crew = whole_crew f tasks each (subst (λ (q : Plan). AreWhole q tasks) (sym same) whole)
+  crew = whole_crew f tasks each (subst (λ (q : Plan). AreClosedUnderForks q tasks) (sym same) whole)
 
   known : KnowsTasks f tasks taken
   known = knows f tasks first taken crew takes (λ u. ap (λ (s : SeenBy). s.exact u) new.seen_is)

@@ -16,7 +16,7 @@ use Rattle.board_rounds.proofs.Crewing.{by_code_is, child_is, has_left, step_don
 use Rattle.board_rounds.proofs.Emptying.{contains_at}
 use Rattle.board_rounds.proofs.Goings.{of_on, same_task, task_is}
 use Rattle.board_rounds.proofs.Settling.{closed, taken_here, whose}
-use Rattle.task_runner.specs.inside.Pooled.{AreWhole, IsForked, IsInHand, IsPooled}
+use Rattle.task_runner.specs.inside.Pooled.{AreClosedUnderForks, IsForked, ContainsTask, IsPooled}
 
 pub all_from : {X : Type 0} (P : X → Type 0) (xs : List X) → ((x : X) → Contains xs x → P x) → All P xs
 all_from P xs each k d l = each (get_or xs k d) (contains_at xs k d l)
@@ -87,7 +87,7 @@ small f plan k same s =
     omega arith
 
 -- tasks among which are all that one of them has forked are a crew
-pub whole_crew : (f : Frame) (tasks : List Working) → All (λ (w : Working). IsCrewSeat f w.seat) tasks → AreWhole f.plan tasks → IsCrew f (IsSeatIn tasks)
+pub whole_crew : (f : Frame) (tasks : List Working) → All (λ (w : Working). IsCrewSeat f w.seat) tasks → AreClosedUnderForks f.plan tasks → IsCrew f (IsSeatIn tasks)
 whole_crew f tasks all whole =
     record {
       each = λ k at. subst (IsCrewSeat f) (sym at.2) (seat_of at.0 at.1);
@@ -101,7 +101,7 @@ whole_crew f tasks all whole =
     seat_of : (w : Working) → Contains tasks w → IsCrewSeat f w.seat
     seat_of = to_each (λ (w : Working). IsCrewSeat f w.seat) tasks all
 
-    has : (c : ℕ) → IsInHand tasks c → HasSeatOf (IsSeatIn tasks) c
+    has : (c : ℕ) → ContainsTask tasks c → HasSeatOf (IsSeatIn tasks) c
     has c hand =
         let s = seat_of hand.0 hand.1 in
         (hand.0.seat, (hand.0, hand.1, refl), s.own ∙ ap Some (sym (task_is hand.0.seat s.task s.own) ∙ hand.2))

@@ -33,24 +33,26 @@ has_left plan t k x e = slice_get_within (actions plan t) k x e
 
 pub step_leaves_less : (old new : WorldValue) (t : ℕ) → IsWorldStep old new t → remaining new < remaining old
 step_leaves_less old new t step =
-    let at : places_of old t ≡ place_from old.plan t (Some step.place) = place_is old.plan old.places t step.place step.there in
+    let at : places_of old t ≡ place_from old.plan t (Some step.places.place) = place_is old.plan old.places t step.places.place step.places.there in
     let left = has_left old.plan t (places_of old t).done step.action step.next in
     let done = ap (λ p. p.done) at in
-    let here : step.place.events < length (actions old.plan (0 + t)) = subst (λ n. step.place.events < length (actions old.plan n))
+    let here : step.places.place.events < length (actions old.plan (0 + t)) = subst (λ n. step.places.place.events < length (actions old.plan n))
     (let z : t ≡ 0 + t = omega arith in z) (omega arith) in
     subst (λ plan. remaining_from plan 0 new.places < remaining_from old.plan 0 old.places) (sym step.plan)
-    (subst (λ ps. remaining_from old.plan 0 ps < remaining_from old.plan 0 old.places) (sym step.places)
-    (less_after old.plan 0 old.places t step.place step.there here))
+    (subst (λ ps. remaining_from old.plan 0 ps < remaining_from old.plan 0 old.places) (sym step.places.changed)
+    (less_after old.plan 0 old.places t step.places.place step.places.there here))
 
 pub step_keeps_plain : (old new : WorldValue) (t : ℕ) → IsWorldStep old new t → NobodyRefused old → NobodyRefused new
 step_keeps_plain old new t step plain u place e =
-    let there : slice_get (set old.places t (further step.place)) u ≡ Some place = ap (λ ps. slice_get ps u) (sym step.places) ∙ e in
+    let there : slice_get (set old.places t (further step.places.place)) u ≡ Some place = ap (λ ps. slice_get ps u) (sym step.places.changed) ∙ e in
     elim (cases_eq u t) [
       | inl same ↦
-          let own : slice_get (set old.places t (further step.place)) t ≡ Some place = subst (λ v. slice_get (set old.places t (further step.place)) v ≡ Some place) same there in
-          let is : further step.place ≡ place = (let one = slice_get-set_same old.places t (further step.place) (slice_get_within old.places t step.place step.there) in cc) in
-          ap (λ p. p.refused) (sym is) ∙ plain t step.place step.there
-      | inr other ↦ plain u place (sym (slice_get-set_other old.places t u (further step.place) other) ∙ there)
+          let own : slice_get (set old.places t (further step.places.place)) t ≡ Some place =
+              subst (λ v. slice_get (set old.places t (further step.places.place)) v ≡ Some place) same there in
+          let within = slice_get_within old.places t step.places.place step.places.there in
+          let is : further step.places.place ≡ place = (let one = slice_get-set_same old.places t (further step.places.place) within in cc) in
+          ap (λ p. p.refused) (sym is) ∙ plain t step.places.place step.places.there
+      | inr other ↦ plain u place (sym (slice_get-set_other old.places t u (further step.places.place) other) ∙ there)
     ]
 
 -- a world that is the same or has less left has at most as much

@@ -10,7 +10,7 @@ ghost use Rattle.board_rounds.specs.Turns.{Working};
 ghost use Rattle.board_rounds.specs.Crews.{ArePlacesOf, IsCrewSeat, done_of, number};
 ghost use Rattle.board_rounds.specs.inside.Endings.{NotesPlaces, TakesAll};
 ghost use Rattle.task_runner.specs.PlainRuns.{IsPlainEnd};
-ghost use Rattle.task_runner.specs.inside.Pooled.{AreForksMarked, AreWhole, IsInHand};
+ghost use Rattle.task_runner.specs.inside.Pooled.{AreForksMarked, AreClosedUnderForks, ContainsTask};
 
 use crate::board_name::BoardName;
 use crate::ending::{end_from, end_of};
@@ -84,7 +84,7 @@ fn are_whole<N: BoardName>(
     tasks: &[PooledTask<'_, N>],
 ) -> Result<bool, NoMemory>
     requires plan { N.board.plan ≡ plan.now }
-    ensures whole { IfOk result (λ whole. whole ≡ true → AreWhole plan.now tasks.now) }
+    ensures whole { IfOk result (λ whole. whole ≡ true → AreClosedUnderForks plan.now tasks.now) }
 {
     let mut marks = vec![in alloc; false; plan.tasks() as usize]?;
     mark(tasks, &mut marks);
@@ -97,7 +97,7 @@ fn are_whole<N: BoardName>(
 // Marks the number of each of these tasks.
 fn mark<N: BoardName>(tasks: &[PooledTask<'_, N>], marks: &mut Vec<bool>)
     requires { length marks.old.items ≡ length N.board.plan.parents }
-    ensures { (t : ℕ) → slice_get marks.new.items t ≡ Some true → IsInHand tasks.now t ⊎ (slice_get marks.old.items t ≡ Some true) }
+    ensures { (t : ℕ) → slice_get marks.new.items t ≡ Some true → ContainsTask tasks.now t ⊎ (slice_get marks.old.items t ≡ Some true) }
 {
     for task in tasks {
         marks[task.number().0 as usize] = true;

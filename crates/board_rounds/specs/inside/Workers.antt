@@ -4,8 +4,8 @@ use Rattle.phase_scan.specs.Collects.{Collection}
 use Rattle.board_rounds.specs.declared.worker_cells.WorkerCells.TheInside.{Inside}
 
 -- whether a worker has cells
-abbrev pub has_cells : Inside → Bool
-has_cells worker = is_some worker.cells
+abbrev pub holds_cells : Inside → Bool
+holds_cells worker = is_some worker.cells
 
 -- they are for so many tasks and phasers
 abbrev pub Fit : Inside → Type 0

@@ -34,14 +34,14 @@ pub record AreAllWorkers (pool : PoolValue) (workers : List Hand) : Type 0 where
   pub idle : All (λ w. w.view.has ≡ []) workers
 
 -- one of these tasks has number t
-abbrev pub IsInHand : List Working → ℕ → Type 0
-IsInHand tasks t = (task : Working) × Contains tasks task × number task ≡ t
+abbrev pub ContainsTask : List Working → ℕ → Type 0
+ContainsTask tasks t = (task : Working) × Contains tasks task × number task ≡ t
 
 -- Task 0 is one of these tasks, and each task that one of them has forked is.
-pub record AreWhole (plan : Plan) (tasks : List Working) : Type 0 where
-  pub root : IsInHand tasks 0
+pub record AreClosedUnderForks (plan : Plan) (tasks : List Working) : Type 0 where
+  pub root : ContainsTask tasks 0
   pub forked :
-      (task : Working) → Contains tasks task → (j c : ℕ) → j < done_of task → action_at plan (number task) j ≡ Some (Forks c) → IsInHand tasks c
+      (task : Working) → Contains tasks task → (j c : ℕ) → j < done_of task → action_at plan (number task) j ≡ Some (Forks c) → ContainsTask tasks c
 
 -- each task that is forked among the first actions of this code, so many, is marked
 abbrev pub AreForksMarked : List Op → ℕ → List Bool → Type 0

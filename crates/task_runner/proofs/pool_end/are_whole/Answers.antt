@@ -4,7 +4,7 @@ use Rattle.std.proofs.lemmas.List.{length-replicate}
 use Rattle.armus_base.specs.Plans.{Plan, code_of}
 use Rattle.board_rounds.specs.Turns.{Working}
 use Rattle.board_rounds.specs.Crews.{done_of, number}
-use Rattle.task_runner.specs.inside.Pooled.{AreForksMarked, AreWhole, IsInHand}
+use Rattle.task_runner.specs.inside.Pooled.{AreForksMarked, AreClosedUnderForks, ContainsTask}
 use Rattle.task_runner.proofs.ForksInHand.{unmarked, whole_marked}
 use Rattle.task_runner.proofs.pool_end.are_whole.Goals as goal
 
@@ -19,13 +19,13 @@ returns g c = record { whole = all }
     first : c.in_ok-marks.marks.items ≡ replicate c.tasks.result false
     first = c.in_ok-marks.ensures.items_if_clones_equal (λ y e. e)
 
-    hand : (t : ℕ) → slice_get c.mark.new.marks.items t ≡ Some true → IsInHand c.args.tasks.now t
+    hand : (t : ℕ) → slice_get c.mark.new.marks.items t ≡ Some true → ContainsTask c.args.tasks.now t
     hand t is = elim (c.mark.ensures t is) [
       | inl here ↦ here
       | inr old ↦ absurd (unmarked c.tasks.result t (sym (ap (λ (ms : List Bool). slice_get ms t) first) ∙ old))
     ]
 
-    all : c.have_forked_marked.result ≡ true → AreWhole c.args.plan.now c.args.tasks.now
+    all : c.have_forked_marked.result ≡ true → AreClosedUnderForks c.args.plan.now c.args.tasks.now
     all whole =
         whole_marked c.args.plan.now c.args.tasks.now c.mark.new.marks.items hand
         (subst (λ (ms : List Bool). slice_get ms 0 ≡ Some true) c.as_slice.ensures.value (c.is_marked.ensures c.if-not-is_marked.false))

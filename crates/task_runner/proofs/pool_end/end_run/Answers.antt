@@ -8,7 +8,7 @@ use Rattle.board.specs.Seats.{Frame, IsOf}
 use Rattle.board.specs.Views.{seen}
 use Rattle.board_rounds.specs.Turns.{Working}
 use Rattle.board_rounds.specs.Crews.{ArePlacesOf}
-use Rattle.task_runner.specs.inside.Pooled.{AreWhole}
+use Rattle.task_runner.specs.inside.Pooled.{AreClosedUnderForks}
 use Rattle.task_runner.proofs.PoolEnds.{plain_places, reachable_places}
 use Rattle.task_runner.proofs.Rounds.{opening_plain}
 use Rattle.task_runner.proofs.pool_end.end_run.Goals as goal
@@ -24,7 +24,7 @@ end_from-requires-clause-reachable g c κs within =
     let places : List KeptPlace = c.in_ok-places.places in
     let now = c.pass.new.view in
     let words = c.close.result.words in
-    let whole = subst (λ (ws : List Working). AreWhole plan ws) c.as_slice-2.ensures.value (c.in_ok-whole.ensures.whole c.if-whole.true) in
+    let whole = subst (λ (ws : List Working). AreClosedUnderForks plan ws) c.as_slice-2.ensures.value (c.in_ok-whole.ensures.whole c.if-whole.true) in
     let are = subst (λ (ws : List Working). ArePlacesOf plan ws places) c.as_slice.ensures.value c.in_ok-places.ensures.places in
     let last = subst (λ (b : Frame). AreLastOf b.plan b.mode (seen now.view) words) c.requires.board.0 c.close.ensures.words in
     let made = subst (IsOf c.take_in_all.new.view) c.requires.board.0 c.take_in_all.ensures.made in
@@ -40,7 +40,7 @@ end_from-requires-clause-plain g c κs within = λ t place is.
     let places : List KeptPlace = c.in_ok-places.places in
     let now = c.pass.new.view in
     let words = c.close.result.words in
-    let whole = subst (λ (ws : List Working). AreWhole plan ws) c.as_slice-2.ensures.value (c.in_ok-whole.ensures.whole c.if-whole.true) in
+    let whole = subst (λ (ws : List Working). AreClosedUnderForks plan ws) c.as_slice-2.ensures.value (c.in_ok-whole.ensures.whole c.if-whole.true) in
     let are = subst (λ (ws : List Working). ArePlacesOf plan ws places) c.as_slice.ensures.value c.in_ok-places.ensures.places in
     let last = subst (λ (b : Frame). AreLastOf b.plan b.mode (seen now.view) words) c.requires.board.0 c.close.ensures.words in
     let made = subst (IsOf c.take_in_all.new.view) c.requires.board.0 c.take_in_all.ensures.made in

@@ -4,7 +4,7 @@ use Rattle.std.specs.Vec.{vec_len}
 use Rattle.std.proofs.lemmas.List.{length-set, take_more}
 use Rattle.board_rounds.specs.Turns.{Working}
 use Rattle.board_rounds.specs.Crews.{number}
-use Rattle.task_runner.specs.inside.Pooled.{IsInHand}
+use Rattle.task_runner.specs.inside.Pooled.{ContainsTask}
 use Rattle.task_runner.proofs.ForksInHand.{one_marked}
 use Rattle.task_runner.proofs.PooledTasks.{small}
 use Rattle.task_runner.proofs.pool_end.mark.Goals as goal
@@ -31,7 +31,7 @@ loop-task-preserved g c =
     let inside : number w < length b.plan.parents = small b b.plan w.seat refl c.number.ensures.seat in
     let within : c.number.result.0 < length marks = (let e = c.requires in let f = before.0 in let m = c.number.ensures.number in omega arith) in (
       length-set marks c.number.result.0 true ∙ before.0,
-      subst (λ (ws : List Working). (t : ℕ) → slice_get (set marks c.number.result.0 true) t ≡ Some true → IsInHand ws t ⊎ (slice_get c.args.marks.now.items t ≡ Some true))
+      subst (λ (ws : List Working). (t : ℕ) → slice_get (set marks c.number.result.0 true) t ≡ Some true → ContainsTask ws t ⊎ (slice_get c.args.marks.now.items t ≡ Some true))
           (sym (grown ∙ ap (λ (v : Working). take n c.args.tasks.now ++ v ∷ []) (sym is)))
           (one_marked (take n c.args.tasks.now) w c.args.marks.now.items marks c.number.result.0 c.number.ensures.number within before.1),
     )

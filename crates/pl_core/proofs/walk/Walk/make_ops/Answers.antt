@@ -3,7 +3,7 @@ use Rattle.std.specs.Prelude.{slice_get}
 use Rattle.std.proofs.lemmas.Option.{slice_get_within}
 use Rattle.armus_base.specs.declared.op.Op.{Op}
 use Rattle.armus_base.specs.Plans.{code_of}
-use Rattle.pl_core.specs.inside.Cursors.{op_of}
+use Rattle.pl_core.specs.inside.Cursors.{op_index_of}
 use Rattle.pl_core.specs.inside.Stops.{IsStopOf}
 use Rattle.pl_core.specs.Tasks.{actions_before}
 use Rattle.pl_core.specs.inside.Walks.{HasWalked, walking}
@@ -98,7 +98,7 @@ loop-op-preserved c =
           (sym c.make_op.ensures.tasks)
           (walk_more plan c.requires.walked.checked places c.requires.given t c.loop-op.self.tasks.items c.loop-op.self.phases k op is i.walking less
           c.make_op.new.self.phases c.make_op.ensures.rows c.make_op.ensures.columns c.make_op.ensures.moved made));
-      ops = λ u. ap (λ tasks. op_of tasks u) c.make_op.ensures.tasks ∙ op_marked c.loop-op.self.tasks.items op u ∙ i.ops u;
+      ops = λ u. ap (λ tasks. op_index_of tasks u) c.make_op.ensures.tasks ∙ op_marked c.loop-op.self.tasks.items op u ∙ i.ops u;
     }
 
 pub returns-clause-stop : goal.returns-clause-stop

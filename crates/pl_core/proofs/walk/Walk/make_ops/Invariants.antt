@@ -1,6 +1,6 @@
 use Rattle.std.proofs.Common.{◌≡◌, ◌≤◌, ◌+◌, ℕ, drop, length}
 use Rattle.pl_core.specs.Tasks.{actions_before}
-use Rattle.pl_core.specs.inside.Cursors.{op_of}
+use Rattle.pl_core.specs.inside.Cursors.{op_index_of}
 use Rattle.pl_core.specs.inside.Walks.{HasWalked, walking}
 use Rattle.pl_core.specs.Worlds.{places_at}
 use Rattle.armus_base.specs.Plans.{code_of}
@@ -14,7 +14,7 @@ invariant-loop-op l = record {
   cursor : l.cursor ≡ drop l.made (code_of l.plan l.t.0);
   walking :
       HasWalked l.plan l.places (walking (places_at l.plan l.places) l.t.0 (actions_before (code_of l.plan l.t.0) l.made)) l.t.0 l.self.tasks.items l.self.phases;
-  ops : (u : ℕ) → op_of l.self.tasks.items u ≡ op_of l.initial.self.tasks.items u;
+  ops : (u : ℕ) → op_index_of l.self.tasks.items u ≡ op_index_of l.initial.self.tasks.items u;
 }
 
 abbrev pub decreases-loop-op : goal.decreases-loop-op
