@@ -31,7 +31,7 @@ one_standing P (WasRefused e) s u h k = h ∙ sym k
 one_standing P WasNotForked s u h k = h ∙ sym k
 
 -- all tasks stand in one way
-one_standings : (P : ℕ → Type 0) (ends : List TaskEnd) (a b : List Standing) → AreStandings P ends a → AreStandings P ends b → a ≡ b
+pub one_standings : (P : ℕ → Type 0) (ends : List TaskEnd) (a b : List Standing) → AreStandings P ends a → AreStandings P ends b → a ≡ b
 one_standings P ends a b h k =
     same_lists a b (h.sized ∙ sym k.sized)
     (λ t d lt.
@@ -52,7 +52,7 @@ one_reported_cycle blocked a b (t, h, w) (u, k, v) =
     let e : t ≡ u = same_task t u (h.least u.0 k.dead) (k.least t.0 h.dead) in
     one_cycle (IsDeadStep blocked) (one_step blocked) u a b (subst (λ s. IsWalkCycle (IsDeadStep blocked) s a) e w) v
 
-one_cycle_text : (blocked : List Status) (a b : List ℕ) → IsCycleText blocked a → IsCycleText blocked b → a ≡ b
+pub one_cycle_text : (blocked : List Status) (a b : List ℕ) → IsCycleText blocked a → IsCycleText blocked b → a ≡ b
 one_cycle_text blocked a b (inl (none, q)) (inl (none', q')) = q ∙ sym q'
 one_cycle_text blocked a b (inl (none, q)) (inr (c, (t, h, w), q')) = absurd (none (t.0, h.dead))
 one_cycle_text blocked a b (inr (c, (t, h, w), q)) (inl (none, q')) = absurd (none (t.0, h.dead))

@@ -5,6 +5,7 @@ pub mod Standings
 pub mod Counts
 pub mod Lines
 pub mod Reports
+pub mod Outlines
 pub mod NamedDead
 -- How the program does it: private contracts alone cite these.
 pub mod inside

@@ -5,12 +5,14 @@ mod counts;
 mod laws;
 mod lines;
 mod live;
+mod outline;
 mod refusal;
 mod reports;
 mod standing;
 
 pub use laws::{counts_add_up, one_report, report_exists, some_dead_extend};
 pub use live::live_lines;
+pub use outline::{Outline, outline_of};
 pub use refusal::{Refusal, ScheduleFault, refusal_line};
 pub use reports::{FinalReport, any_dead, report, report_of};
 pub use standing::Standing;

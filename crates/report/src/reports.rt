@@ -14,7 +14,7 @@ use std::alloc::Global;
 use verdict::cycle;
 
 // The line of the cycle, where a task is dead.
-fn put_found_cycle(
+pub(crate) fn put_found_cycle(
     alloc: Global,
     out: &mut Vec<u8>,
     blocked: &[Status],

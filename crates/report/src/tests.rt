@@ -61,6 +61,23 @@ fn has_dead(rt: &impl Abort, alloc: Global, end: &Final, some: bool) -> Result<(
     Ok(())
 }
 
+fn has_outline(
+    rt: &impl Abort,
+    alloc: Global,
+    end: &Final,
+    standings: &[Standing],
+    counts: &str,
+    cycle: &str,
+) -> Result<(), Fail> {
+    assert!(rt; is_in_order(end.blocked.as_slice()));
+    let outline = outline_of(alloc, end)?;
+    assert_eq!(rt; outline.standings.as_slice(), standings);
+    assert_eq!(rt; outline.counts.as_slice(), counts.as_bytes());
+    assert_eq!(rt; outline.cycle.as_slice(), cycle.as_bytes());
+    assert_eq!(rt; outline.has_dead, !cycle.is_empty());
+    Ok(())
+}
+
 // Three workers wait on p0@1 for their parent, which waits on p1@1 for them.
 #[test]
 fn a_parent_that_never_leaves_its_workers_barrier(rt: HostRuntime) -> Result<(), Fail> {
@@ -83,6 +100,15 @@ fn a_parent_that_never_leaves_its_workers_barrier(rt: HostRuntime) -> Result<(),
         let whole = format!(in alloc; "{lines}{last}")?;
         has_report(&rt, alloc, &end, wanted, whole.as_str())?;
     }
+    let dead = Standing::Dead(event(0, 1));
+    has_outline(
+        &rt,
+        alloc,
+        &end,
+        &[Standing::Dead(event(1, 1)), dead, dead, dead],
+        "tasks 4 done 0 dead 4 held 0 refused 0 unforked 0\n",
+        "cycle t0 t1\n",
+    )?;
     has_dead(&rt, alloc, &end, true)
 }
 
