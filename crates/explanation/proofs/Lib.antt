@@ -1,0 +1,11 @@
+pub mod Noting
+pub mod Walks
+pub mod Pieces
+pub mod LineParts
+pub mod TaskTexts
+pub mod InPlan
+pub mod OkResults
+pub mod Told
+pub mod OneExplanation
+pub mod ExplanationExists
+pub mod ImpedersBehind

@@ -1,0 +1,20 @@
+//! An explanation of a run in the words of its text: which statement each task waits at, and who keeps it waiting.
+#![tactic(auto)]
+
+mod account;
+mod accounts;
+mod awaits;
+mod explaining;
+mod impeders;
+mod laws;
+mod lines;
+mod places;
+
+pub use account::Account;
+pub use explaining::{Explanation, explanation_of};
+pub use impeders::Impeder;
+pub use laws::{explanation_exists, impeders_are_behind, one_explanation};
+pub use places::TextPlace;
+
+#[cfg(test)]
+mod tests;
