@@ -12,7 +12,7 @@ use Rattle.armus_base.proofs.Elements.{Contains-cons_cases, Contains-head, Conta
 use Rattle.armus_base.proofs.Codes.{child_later, parent_is}
 use Rattle.board.specs.Views.{own_place, task_of}
 use Rattle.board.specs.Seats.{Frame, Known}
-use Rattle.board_rounds.specs.Turns.{Acts, AreChildSeats, EachActs, LeadsByCode, Working, forks_of, no_child, no_task, one_child, one_task}
+use Rattle.board_rounds.specs.Turns.{Acts, AreChildSeats, EachActs, LeadsByCode, Working, tasks_forked, no_child, no_task, one_child, one_task}
 use Rattle.board_rounds.specs.Crews.{IsForkedWithin, done_of, number, sum_below}
 use Rattle.board_rounds.specs.inside.Rounds.{emptied, fresh, fresh_of}
 use Rattle.board_rounds.proofs.Goings.{same_task}
@@ -48,12 +48,12 @@ wider plan t from from' to c l s = (s.0, (let m = s.1 in omega arith), s.2, s.3)
 next_more : (k : ℕ) (o : Option ℕ) (x : Action) → k ≤ (next_place k o x).done
 next_more k o x = elim (step_done k o x) [ inl s ↦ omega arith | inr s ↦ (let e = s.0 in omega arith) ]
 
-pub fork_stands : (plan : Plan) (t : ℕ) (a : Place) (own : List Action) (b : Place) (c : ℕ) → LeadsByCode plan t a own b → Contains (forks_of own) c → IsForkedWithin plan t a.done b.done c
+pub fork_stands : (plan : Plan) (t : ℕ) (a : Place) (own : List Action) (b : Place) (c : ℕ) → LeadsByCode plan t a own b → Contains (tasks_forked own) c → IsForkedWithin plan t a.done b.done c
 fork_stands plan t a [] b c steps i = absurd (nothing_in_nil c i)
 fork_stands plan t a (Forks d ∷ own) b c steps i =
     let f = fork_step a.done a.dropped plan t d steps.0 in
     let l = go_less plan t (next_place a.done a.dropped (Forks d)) own b steps.1 in
-    elim (Contains-cons_cases d (forks_of own) c i) [
+    elim (Contains-cons_cases d (tasks_forked own) c i) [
       | inl here ↦ (a.done, omega arith, (let e = f.1 in omega arith), f.0 ∙ ap (λ z. Some (Forks z)) here)
       | inr there ↦
           wider plan t a.done (next_place a.done a.dropped (Forks d)).done b.done c (next_more a.done a.dropped (Forks d))
@@ -72,7 +72,7 @@ pub forks_once : (plan : Plan) → IsCheckedPlan plan → (t i j c : ℕ) → i 
 forks_once plan checked t i j c l first second = (checked.codes.well_formed t j (Forks c) second).1 i l first
 
 -- so what one task forks in a round differs
-fork_differ : (plan : Plan) → IsCheckedPlan plan → (t : ℕ) (a : Place) (own : List Action) (b : Place) → LeadsByCode plan t a own b → Differ (forks_of own)
+fork_differ : (plan : Plan) → IsCheckedPlan plan → (t : ℕ) (a : Place) (own : List Action) (b : Place) → LeadsByCode plan t a own b → Differ (tasks_forked own)
 fork_differ plan checked t a [] b steps = tt
 fork_differ plan checked t a (Forks d ∷ own) b steps =
     let f = fork_step a.done a.dropped plan t d steps.0 in (
@@ -89,7 +89,7 @@ fork_differ plan checked t a (Refuses p ∷ own) b steps = fork_differ plan chec
 
 abbrev pub all_forks : List (List Action) → List ℕ
 all_forks [] = []
-all_forks (own ∷ owns) = forks_of own ++ all_forks owns
+all_forks (own ∷ owns) = tasks_forked own ++ all_forks owns
 
 same_number : (ws : List Working) (m v : Working) → Differ (map number ws) → Contains ws m → Contains ws v → number m ≡ number v → m ≡ v
 same_number [] m v d i j e = absurd (nothing_in_nil m i)
@@ -118,7 +118,7 @@ module _ (f : Frame) (checked : IsCheckedPlan f.plan) where
       {owns : List (List Action)} {olds news : List Working} (c : ℕ) → EachActs f owns olds news → ((w : Working) → Contains olds w → w.seat.view.plan ≡ f.plan) → Contains (all_forks owns) c →
       (w : Working) × (v : Working) × Contains olds w × IsForkedWithin f.plan (number w) (done_of w) (done_of v) c
   forker c no_task planned i = absurd (nothing_in_nil c i)
-  forker c (one_task {own = own} {owns = owns} {before = a} {now = b} {befores = olds} {nows = news} acts p) planned i = elim (Contains-append_cases (forks_of own) (all_forks owns) c i) [
+  forker c (one_task {own = own} {owns = owns} {before = a} {now = b} {befores = olds} {nows = news} acts p) planned i = elim (Contains-append_cases (tasks_forked own) (all_forks owns) c i) [
     | inl here ↦ (a, b, Contains-head a olds, fork_stands f.plan (number a) (own_place a.seat.view) own (own_place b.seat.view) c (leads_here own a b (planned a (Contains-head a olds)) acts) here)
     | inr there ↦ (let r = forker c p (λ w at. planned w (Contains-tail a olds w at)) there in (r.0, r.1, Contains-tail a olds r.0 r.2, r.3))
   ]
@@ -128,7 +128,7 @@ module _ (f : Frame) (checked : IsCheckedPlan f.plan) where
   forks_differ no_task planned d = tt
   forks_differ (one_task {own = own} {owns = owns} {before = a} {now = b} {befores = olds} {nows = news} acts p) planned d =
       let leads = leads_here own a b (planned a (Contains-head a olds)) acts in
-      differ_on (forks_of own) (all_forks owns) (fork_differ f.plan checked (number a) (own_place a.seat.view) own (own_place b.seat.view) leads)
+      differ_on (tasks_forked own) (all_forks owns) (fork_differ f.plan checked (number a) (own_place a.seat.view) own (own_place b.seat.view) leads)
       (forks_differ p (λ w at. planned w (Contains-tail a olds w at)) d.1)
       (λ c here there.
       let s = fork_stands f.plan (number a) (own_place a.seat.view) own (own_place b.seat.view) c leads here in
@@ -182,10 +182,10 @@ news_numbers :
     map number (flat_map fresh_of news) ≡ all_forks owns
 news_numbers no_task none = refl
 news_numbers {f = f} (one_task {own = own} {owns = owns} {before = a} {now = b} {befores = olds} {nows = news} acts p) none =
-    let seats : AreChildSeats f (forks_of own) b.children = subst (AreChildSeats f (forks_of own)) (sym (acts.children ∙ ap (λ ks. ks ++ acts.new) (none a (Contains-head a olds)))) acts.seats in
+    let seats : AreChildSeats f (tasks_forked own) b.children = subst (AreChildSeats f (tasks_forked own)) (sym (acts.children ∙ ap (λ ks. ks ++ acts.new) (none a (Contains-head a olds)))) acts.seats in
     map_on (fresh_of b) (flat_map fresh_of news)
     ∙ ap (λ ts. ts ++ map number (flat_map fresh_of news)) (child_numbers seats)
-    ∙ ap (λ ts. forks_of own ++ ts) (news_numbers p (λ w at. none w (Contains-tail a olds w at)))
+    ∙ ap (λ ts. tasks_forked own ++ ts) (news_numbers p (λ w at. none w (Contains-tail a olds w at)))
 
 module _ (f : Frame) (checked : IsCheckedPlan f.plan) (owns : List (List Action)) (olds news : List Working) (each : EachActs f owns olds news) (planned : (w : Working) → Contains olds w → w.seat.view.plan ≡ f.plan) (none : (w : Working) → Contains olds w → w.children ≡ []) (family : IsFamily f olds) where
   abbrev then_all : List Working
@@ -225,7 +225,7 @@ module _ (f : Frame) (checked : IsCheckedPlan f.plan) (owns : List (List Action)
     | inr new ↦
         let k = from_fresh news x new in
         let r = was k.0 each k.2 in
-        let seats : AreChildSeats f (forks_of r.1) k.0.children = subst (AreChildSeats f (forks_of r.1)) (sym (r.3.children ∙ ap (λ ks. ks ++ r.3.new) (none r.0 r.2))) r.3.seats in
+        let seats : AreChildSeats f (tasks_forked r.1) k.0.children = subst (AreChildSeats f (tasks_forked r.1)) (sym (r.3.children ∙ ap (λ ks. ks ++ r.3.new) (none r.0 r.2))) r.3.seats in
         let c = child_number k.1 seats k.3 in
         let same : number x ≡ c.0 = ap number (sym k.4) ∙ c.2 in
         let s = fork_stands f.plan (number r.0) (own_place r.0.seat.view) r.1 (own_place k.0.seat.view) c.0 (leads_here f checked r.1 r.0 k.0 (planned r.0 r.2) r.3) c.1 in

@@ -8,19 +8,19 @@ use Rattle.armus_base.specs.Runs.{IsByCode, Place, next_place}
 use Rattle.armus_base.proofs.Elements.{Contains-cons_cases, Contains-head, Contains-tail, nothing_in_nil}
 use Rattle.board.specs.Views.{own_place, task_of}
 use Rattle.board.specs.Seats.{Frame, Known}
-use Rattle.board_rounds.specs.Turns.{Acts, AreChildSeats, EachActs, Goes, IsChildSeat, LeadsByCode, Working, forks_of, no_child, no_task, one_child, one_task}
+use Rattle.board_rounds.specs.Turns.{Acts, AreChildSeats, EachActs, Goes, IsChildSeat, LeadsByCode, Working, tasks_forked, no_child, no_task, one_child, one_task}
 use Rattle.board_rounds.specs.Crews.{HasSeatOf, IsCrew, IsCrewSeat, IsSeatIn}
 use Rattle.board_rounds.specs.inside.Rounds.{IsAtStart, IsChildIn}
 use Rattle.board_rounds.proofs.Goings.{of_on, same_task}
 
 -- a fork between two places is one of the steps that lead from one to the other
-fork_first : (x : Action) (xs : List Action) (c : ℕ) → x ≡ Forks c → Contains (forks_of (x ∷ xs)) c
-fork_first x xs c is = subst (λ (y : Action). Contains (forks_of (y ∷ xs)) c) (sym is) (Contains-head c (forks_of xs))
+fork_first : (x : Action) (xs : List Action) (c : ℕ) → x ≡ Forks c → Contains (tasks_forked (x ∷ xs)) c
+fork_first x xs c is = subst (λ (y : Action). Contains (tasks_forked (y ∷ xs)) c) (sym is) (Contains-head c (tasks_forked xs))
 
-fork_rest : (x : Action) (xs : List Action) (c : ℕ) → Contains (forks_of xs) c → Contains (forks_of (x ∷ xs)) c
+fork_rest : (x : Action) (xs : List Action) (c : ℕ) → Contains (tasks_forked xs) c → Contains (tasks_forked (x ∷ xs)) c
 fork_rest (Makes p) xs c i = i
 fork_rest (Registers d p) xs c i = i
-fork_rest (Forks d) xs c i = Contains-tail d (forks_of xs) c i
+fork_rest (Forks d) xs c i = Contains-tail d (tasks_forked xs) c i
 fork_rest (Advances p) xs c i = i
 fork_rest (Drops p) xs c i = i
 fork_rest (Blocks p) xs c i = i
@@ -67,7 +67,7 @@ by_code_is plan t k (Some d) x e is = absurd (cc)
 
 forked_between :
     (plan : Plan) (t : ℕ) (a : Place) (own : List Action) (b : Place) (j c : ℕ) → LeadsByCode plan t a own b → a.done ≤ j → j < b.done → action_at plan t j ≡ Some (Forks c) →
-    Contains (forks_of own) c
+    Contains (tasks_forked own) c
 forked_between plan t a [] b j c same l m is = absurd (let e : b.done ≡ a.done = ap (λ (x : Place). x.done) same in omega arith)
 forked_between plan t a (x ∷ own) b j c steps l m is = elim (step_done a.done a.dropped x) [
   | inl stays ↦ fork_rest x own c (forked_between plan t (next_place a.done a.dropped x) own b j c steps.1 (omega arith) m is)
@@ -150,8 +150,8 @@ module _ (f : Frame) (owns : List (List Action)) (olds news : List Working) (Oth
     | inr other ↦ (has.0, inr other, has.2)
   ]
 
-  new_children : (w v : Working) (own : List Action) → Contains olds w → Acts f own w v → AreChildSeats f (forks_of own) v.children
-  new_children w v own i acts = subst (AreChildSeats f (forks_of own)) (sym (acts.children ∙ ap (λ ks. ks ++ acts.new) (none w i))) acts.seats
+  new_children : (w v : Working) (own : List Action) → Contains olds w → Acts f own w v → AreChildSeats f (tasks_forked own) v.children
+  new_children w v own i acts = subst (AreChildSeats f (tasks_forked own)) (sym (acts.children ∙ ap (λ ks. ks ++ acts.new) (none w i))) acts.seats
 
   each_after : (k : Known) → After k → IsCrewSeat f k
   each_after k at = elim at [
@@ -214,6 +214,6 @@ module _ (f : Frame) (owns : List (List Action)) (olds news : List Working) (eac
   pub starts : (k : Known) → IsChildIn news k → IsAtStart f.plan k
   starts k child =
       let r = was child.0 each child.1 in
-      let seats : AreChildSeats f (forks_of r.1) child.0.children = subst (AreChildSeats f (forks_of r.1)) (sym (r.3.children ∙ ap (λ ks. ks ++ r.3.new) (none r.0 r.2))) r.3.seats in
+      let seats : AreChildSeats f (tasks_forked r.1) child.0.children = subst (AreChildSeats f (tasks_forked r.1)) (sym (r.3.children ∙ ap (λ ks. ks ++ r.3.new) (none r.0 r.2))) r.3.seats in
       let s = child_is k seats child.2 in
       (s.1.first, s.1.free, s.1.of_board.plan)

@@ -15,7 +15,7 @@ use Rattle.board.specs.Seats.{Frame, IsOf, IsSeat, Known, MakesStep}
 use Rattle.board.proofs.Seated.{next_there}
 use Rattle.board.proofs.Walking.{moved_here}
 use Rattle.phase_scan.specs.Looks.{LoadsAlone}
-use Rattle.board_rounds.specs.Turns.{Acts, AreChildSeats, Goes, LeadsByCode, Working, forks_of, no_child, one_child}
+use Rattle.board_rounds.specs.Turns.{Acts, AreChildSeats, Goes, LeadsByCode, Working, tasks_forked, no_child, one_child}
 use Rattle.board_rounds.specs.inside.Tasks.{MakesSome}
 
 -- steps after steps
@@ -23,7 +23,7 @@ pub leads_on : (plan : Plan) (t : ℕ) (a : Place) (xs : List Action) (b : Place
 leads_on plan t a [] b ys c e q = subst (λ (z : Place). LeadsByCode plan t z ys c) e q
 leads_on plan t a (x ∷ xs) b ys c p q = (p.0, leads_on plan t (next_place a.done a.dropped x) xs b ys c p.1 q)
 
-pub forks_on : (xs ys : List Action) → forks_of (xs ++ ys) ≡ forks_of xs ++ forks_of ys
+pub forks_on : (xs ys : List Action) → tasks_forked (xs ++ ys) ≡ tasks_forked xs ++ tasks_forked ys
 forks_on [] ys = refl
 forks_on (Makes p ∷ xs) ys = forks_on xs ys
 forks_on (Registers c p ∷ xs) ys = forks_on xs ys
@@ -186,7 +186,7 @@ unrefused_next plan t k None xs e some = absurd (false≢true some)
 unrefused_next plan t k (Some d) xs e some = absurd (cc)
 
 -- and the children with them
-pub acts_alone : (f : Frame) (own : List Action) (k m : Known) (cs : List Known) → forks_of own ≡ [] → Goes own k m → (IsSome (own_place k.view).dropped → own ≡ []) → Acts f own (record { seat = k; children = cs }) (record { seat = m; children = cs })
+pub acts_alone : (f : Frame) (own : List Action) (k m : Known) (cs : List Known) → tasks_forked own ≡ [] → Goes own k m → (IsSome (own_place k.view).dropped → own ≡ []) → Acts f own (record { seat = k; children = cs }) (record { seat = m; children = cs })
 acts_alone f own k m cs none goes refused =
     record { goes = goes; refused = refused; new = []; children = sym (append-nil cs); seats = subst (λ ds. AreChildSeats f ds []) (sym none) no_child }
 
@@ -207,13 +207,13 @@ acts_on f a b c xs ys p q =
       goes = goes_on a.seat b.seat c.seat xs ys p.goes q.goes;
       new = p.new ++ q.new;
       children = q.children ∙ ap (λ ks. ks ++ q.new) p.children ∙ append_assoc a.children p.new q.new;
-      seats = subst (λ ds. AreChildSeats f ds (p.new ++ q.new)) (sym (forks_on xs ys)) (children_on (forks_of ys) q.new p.seats q.seats);
+      seats = subst (λ ds. AreChildSeats f ds (p.new ++ q.new)) (sym (forks_on xs ys)) (children_on (tasks_forked ys) q.new p.seats q.seats);
     }
 
 -- steps that begin with one of the code of a task that is not refused, and the seats of the children that it forks by them
 pub some_steps :
     (f : Frame) (own : List Action) (k m : Known) (cs ds new : List Known) (made : ℕ) (x : Action) → IsSeat k → next_action k.view ≡ Some x → Goes own k m →
-    ds ≡ cs ++ new → AreChildSeats f (forks_of own) new → length (forks_of own) ≤ 1 → made ≡ length own → 0 < made → made ≤ max_phasers + 1 →
+    ds ≡ cs ++ new → AreChildSeats f (tasks_forked own) new → length (tasks_forked own) ≤ 1 → made ≡ length own → 0 < made → made ≤ max_phasers + 1 →
     MakesSome f made (record { seat = k; children = cs }) (record { seat = m; children = ds })
 some_steps f own k m cs ds new made x seat next goes grown seats one counted some few =
     let there = next_there k.view x next in
@@ -230,7 +230,7 @@ some_steps f own k m cs ds new made x seat next goes grown seats one counted som
 -- steps that fork nobody
 pub some_alone :
     (f : Frame) (own : List Action) (k m : Known) (cs : List Known) (made : ℕ) (x : Action) → IsSeat k → next_action k.view ≡ Some x → Goes own k m →
-    forks_of own ≡ [] → made ≡ length own → 0 < made → made ≤ max_phasers + 1 →
+    tasks_forked own ≡ [] → made ≡ length own → 0 < made → made ≤ max_phasers + 1 →
     MakesSome f made (record { seat = k; children = cs }) (record { seat = m; children = cs })
 some_alone f own k m cs made x seat next goes none counted some few =
     some_steps f own k m cs cs [] made x seat next goes (sym (append-nil cs)) (subst (λ ds. AreChildSeats f ds []) (sym none) no_child) (let n = ap length none in omega arith) counted some few

@@ -15,7 +15,7 @@ use Rattle.board.proofs.Ranges.{phaser_of_member}
 use Rattle.pl_core.proofs.Refusing.{dropped_below}
 use Rattle.phase_scan.specs.Collects.{IfAsked}
 use Rattle.avoider.specs.OnBoard.{DropsBelow}
-use Rattle.board_rounds.specs.Turns.{Goes, HasLeftAll, forks_of}
+use Rattle.board_rounds.specs.Turns.{Goes, HasLeftAll, tasks_forked}
 use Rattle.board_rounds.specs.inside.Attempts.{drops_below}
 use Rattle.board_rounds.proofs.Goings.{forks_on, goes_itself, goes_made, goes_on, stepped_place}
 
@@ -35,14 +35,14 @@ drops_counted m zero = refl
 drops_counted m (suc q) = counted_more m q (drops_counted m q) (m q) refl
 
 -- none of them forks anybody
-pub drops_fork_nobody : (m : Phases) (q : ℕ) → forks_of (drops_below m q) ≡ []
+pub drops_fork_nobody : (m : Phases) (q : ℕ) → tasks_forked (drops_below m q) ≡ []
 drops_fork_nobody m zero = refl
 drops_fork_nobody m (suc q) =
     forks_on (drops_below m q) (if is_some (m q) then Drops q ∷ [] else [])
-    ∙ ap (λ cs. cs ++ forks_of (if is_some (m q) then Drops q ∷ [] else [])) (drops_fork_nobody m q)
+    ∙ ap (λ cs. cs ++ tasks_forked (if is_some (m q) then Drops q ∷ [] else [])) (drops_fork_nobody m q)
     ∙ one (is_some (m q))
   where
-    one : (b : Bool) → forks_of (if b then Drops q ∷ [] else []) ≡ []
+    one : (b : Bool) → tasks_forked (if b then Drops q ∷ [] else []) ≡ []
     one true = refl
     one false = refl
 

@@ -18,7 +18,7 @@ use Rattle.board.proofs.Walking.{IsBefore, before_next}
 use Rattle.board_rounds.specs.declared.deciding.Attempt.TheVariants.{Begun, LockedOut, Refused}
 use Rattle.board_rounds.specs.inside.Attempts.{BeginsOp, IsRefusedAt, drops_below}
 use Rattle.board_rounds.specs.inside.Tasks.{HasCome, MakesSome}
-use Rattle.board_rounds.specs.Turns.{Acts, AreChildSeats, EndsTurn, Goes, LeadsByCode, Working, forks_of}
+use Rattle.board_rounds.specs.Turns.{Acts, AreChildSeats, EndsTurn, Goes, LeadsByCode, Working, tasks_forked}
 use Rattle.board_rounds.proofs.Begun.{left_on}
 use Rattle.board_rounds.proofs.Goings.{acts_alone, same_task, some_steps}
 use Rattle.board_rounds.proofs.Halting.{events_fit, no_refusal}
@@ -71,7 +71,7 @@ no_seat : (f : Frame) (cs : List ℕ) (seats : List Known) → cs ≡ [] → Are
 no_seat f cs seats e are = subst (λ ds. AreChildSeats f ds seats) e are
 
 -- an op forks one task at most
-one_fork : (op : Op) → length (forks_of (begins op ∷ [])) ≤ 1
+one_fork : (op : Op) → length (tasks_forked (begins op ∷ [])) ≤ 1
 one_fork (Make p) = omega arith
 one_fork (Reg c p) = omega arith
 one_fork (Fork c) = omega arith
@@ -96,7 +96,7 @@ goes_begins (Adv p) k m goes = goes
 goes_begins (Drop p) k m goes = goes
 goes_begins (Await p off) k m goes = goes
 
-locked_goes : (op : Op) (k m : Known) → BeginsOp op k m LockedOut → (forks_of (begins op ∷ []) ≡ []) × Goes [] k m × EndsTurn m
+locked_goes : (op : Op) (k m : Known) → BeginsOp op k m LockedOut → (tasks_forked (begins op ∷ []) ≡ []) × Goes [] k m × EndsTurn m
 locked_goes (Make p) k m b = absurd b
 locked_goes (Reg c p) k m b = absurd b
 locked_goes (Fork c) k m b = absurd b
@@ -104,7 +104,7 @@ locked_goes (Adv p) k m b = absurd b
 locked_goes (Drop p) k m b = absurd b
 locked_goes (Await p off) k m b = (refl, b.0, b.1)
 
-refused_goes : (op : Op) (k m : Known) (n : ℕ) → BeginsOp op k m (Refused n) → (forks_of (begins op ∷ []) ≡ []) × (aim : Aim) × (begins op ≡ Blocks aim) × IsRefusedAt aim n k m
+refused_goes : (op : Op) (k m : Known) (n : ℕ) → BeginsOp op k m (Refused n) → (tasks_forked (begins op ∷ []) ≡ []) × (aim : Aim) × (begins op ≡ Blocks aim) × IsRefusedAt aim n k m
 refused_goes (Make p) k m n b = absurd b
 refused_goes (Reg c p) k m n b = absurd b
 refused_goes (Fork c) k m n b = absurd b
@@ -135,12 +135,12 @@ module _ (f : Frame) (ops : List Op) (events : ℕ) (k m : Known) (cs ds : List 
   pub nothing_acts : ds ≡ cs → Goes [] k m → Acts f [] before now
   nothing_acts same goes = subst (λ es. Acts f [] before (record { seat = m; children = es })) (sym same) (acts_alone f [] k m cs refl goes (λ _. refl))
 
-  module _ (new : List Known) (grown : ds ≡ cs ++ new) (seats : AreChildSeats f (forks_of (begins op ∷ [])) new) where
+  module _ (new : List Known) (grown : ds ≡ cs ++ new) (seats : AreChildSeats f (tasks_forked (begins op ∷ [])) new) where
     -- the lock was taken
     pub locked_out : BeginsOp op k m LockedOut → (Acts f [] before now × EndsTurn m) × HasCome m ops events false
     locked_out is =
         let r = locked_goes op k m is in (
-          (record { goes = r.1; refused = λ _. refl; new = new; children = grown; seats = no_seat f (forks_of (begins op ∷ [])) new r.0 seats }, r.2),
+          (record { goes = r.1; refused = λ _. refl; new = new; children = grown; seats = no_seat f (tasks_forked (begins op ∷ [])) new r.0 seats }, r.2),
           nothing_come r.1,
         )
 
@@ -171,7 +171,7 @@ module _ (f : Frame) (ops : List Op) (events : ℕ) (k m : Known) (cs ds : List 
 
     -- the task is refused
     module _ (n : ℕ) (is : BeginsOp op k m (Refused n)) where
-      abbrev r : (forks_of (begins op ∷ []) ≡ []) × (aim : Aim) × (begins op ≡ Blocks aim) × IsRefusedAt aim n k m
+      abbrev r : (tasks_forked (begins op ∷ []) ≡ []) × (aim : Aim) × (begins op ≡ Blocks aim) × IsRefusedAt aim n k m
       r = refused_goes op k m n is
 
       few : n ≤ max_phasers
@@ -180,7 +180,7 @@ module _ (f : Frame) (ops : List Op) (events : ℕ) (k m : Known) (cs ds : List 
       pub refused_makes : MakesSome f (n + 1) before now
       refused_makes =
           some_steps f (Refuses r.1 ∷ drops_below (own_phase k.view) (length k.view.plan.makers)) k m cs ds new (n + 1) (begins op) b.seat (before_next op rest k b) r.3.goes grown
-          (subst (λ es. AreChildSeats f es new) (sym (drops_fork_nobody (own_phase k.view) (length k.view.plan.makers))) (no_seat f (forks_of (begins op ∷ [])) new r.0 seats))
+          (subst (λ es. AreChildSeats f es new) (sym (drops_fork_nobody (own_phase k.view) (length k.view.plan.makers))) (no_seat f (tasks_forked (begins op ∷ [])) new r.0 seats))
           (let n = ap length (drops_fork_nobody (own_phase k.view) (length k.view.plan.makers)) in omega arith)
           (let c = r.3.counted in let l = drops_counted (own_phase k.view) (length k.view.plan.makers) in omega arith) (omega arith) (let l = few in omega arith)
 

@@ -25,10 +25,10 @@ LeadsByCode plan t a [] b = b ≡ a
 LeadsByCode plan t a (x ∷ xs) b = IsByCode plan t a.done a.dropped x × LeadsByCode plan t (next_place a.done a.dropped x) xs b
 
 -- the tasks that these steps fork, in order
-abbrev pub forks_of : List Action → List ℕ
-forks_of [] = []
-forks_of (Forks c ∷ xs) = c ∷ forks_of xs
-forks_of (x ∷ xs) = forks_of xs
+abbrev pub tasks_forked : List Action → List ℕ
+tasks_forked [] = []
+tasks_forked (Forks c ∷ xs) = c ∷ tasks_forked xs
+tasks_forked (x ∷ xs) = tasks_forked xs
 
 -- a seat of task c, which has made no step and is the only exact one
 pub record IsChildSeat (board : Frame) (c : ℕ) (seat : Known) : Type 0 where
@@ -59,7 +59,7 @@ pub record Acts (board : Frame) (own : List Action) (before now : Working) : Typ
   pub refused : IsSome (own_place before.seat.view).dropped → own ≡ []
   pub new : List Known
   pub children : now.children ≡ before.children ++ new
-  pub seats : AreChildSeats board (forks_of own) new
+  pub seats : AreChildSeats board (tasks_forked own) new
 
 -- how many events a task may make: two for each op, and a refusal and a drop of each phaser
 abbrev pub max_events : ℕ

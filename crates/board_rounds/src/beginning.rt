@@ -6,7 +6,7 @@ ghost use Rattle.board.specs.Views.{avoids, next_action};
 ghost use Rattle.board.specs.Seats.{Known, IsOf, MakesStep};
 ghost use Rattle.board.specs.inside.Walking.{begins};
 ghost use Rattle.board_rounds.specs.inside.Attempts.{BeginsOp, MayBegin};
-ghost use Rattle.board_rounds.specs.Turns.{AreChildSeats, Goes, forks_of};
+ghost use Rattle.board_rounds.specs.Turns.{AreChildSeats, Goes, tasks_forked};
 
 use crate::deciding::{Attempt, try_to_decide};
 use crate::worker_cells::WorkerCells;
@@ -58,7 +58,7 @@ fn make_step(
     requires ready { MayBegin board.now op seat.old }
     requires undecided { (p : PhaserId) (off : Offset) → op ≡ Await p off → avoids board.now.mode ≡ false }
     ensures step { OnOk result (MakesStep (begins op) seat.old seat.new) }
-    ensures children { OnOk result ((new : List Known) × (children.new.items ≡ children.old.items ++ new) × AreChildSeats board.now (forks_of (begins op ∷ [])) new) }
+    ensures children { OnOk result ((new : List Known) × (children.new.items ≡ children.old.items ++ new) × AreChildSeats board.now (tasks_forked (begins op ∷ [])) new) }
     ensures same { OnErr result (seat.new ≡ seat.old) }
     ensures same_children { OnErr result (children.new.items ≡ children.old.items) }
 {
@@ -89,7 +89,7 @@ pub(crate) fn begin(
 ) -> Result<Attempt, NoMemory>
     requires ready { MayBegin board.now op seat.old }
     ensures begins { IfOk result (BeginsOp op seat.old seat.new) }
-    ensures children { OnOk result ((new : List Known) × (children.new.items ≡ children.old.items ++ new) × AreChildSeats board.now (forks_of (begins op ∷ [])) new) }
+    ensures children { OnOk result ((new : List Known) × (children.new.items ≡ children.old.items ++ new) × AreChildSeats board.now (tasks_forked (begins op ∷ [])) new) }
     ensures same { OnErr result (Goes [] seat.old seat.new) }
     ensures same_children { OnErr result (children.new.items ≡ children.old.items) }
 {

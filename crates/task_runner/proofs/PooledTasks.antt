@@ -8,7 +8,7 @@ use Rattle.armus_base.specs.Seats.{seen_by_child}
 use Rattle.armus_base.proofs.Elements.{Contains-head}
 use Rattle.board.specs.Views.{own_place, seen, task_of}
 use Rattle.board.specs.Seats.{Frame, IsNewSeat, Known, nothing_seen}
-use Rattle.board_rounds.specs.Turns.{Acts, AreChildSeats, Goes, IsChildSeat, LeadsByCode, Working, forks_of}
+use Rattle.board_rounds.specs.Turns.{Acts, AreChildSeats, Goes, IsChildSeat, LeadsByCode, Working, tasks_forked}
 use Rattle.board_rounds.specs.Crews.{HasSeatOf, IsCrew, IsCrewSeat, IsSeatIn, KnowsTasks}
 use Rattle.board_rounds.specs.inside.Endings.{TakesAll}
 use Rattle.board_rounds.proofs.Between.{first_crew, from_map, in_map, seats_crew, to_each}
@@ -55,7 +55,7 @@ acted f own a b pooled acts = goes_crew f own a.seat b.seat pooled.seat acts.goe
 -- it has the seats of those that it forked, and no others
 pub forked : (f : Frame) (own : List Action) (a b : Working) → IsPooled f a → Acts f own a b → All (IsForked f) b.children
 forked f own a b pooled acts =
-    let seats : AreChildSeats f (forks_of own) b.children = subst (AreChildSeats f (forks_of own)) (sym (acts.children ∙ ap (λ ks. ks ++ acts.new) pooled.no_child)) acts.seats in
+    let seats : AreChildSeats f (tasks_forked own) b.children = subst (AreChildSeats f (tasks_forked own)) (sym (acts.children ∙ ap (λ ks. ks ++ acts.new) pooled.no_child)) acts.seats in
     all_from (IsForked f) b.children (λ k i. child_is k seats i)
 
 -- the seat of a task that was just forked

@@ -48,7 +48,7 @@ step_keeps_plain old new t step plain u place e =
     elim (cases_eq u t) [
       | inl same ↦
           let own : slice_get (set old.places t (further step.places.place)) t ≡ Some place =
-              subst (λ v. slice_get (set old.places t (further step.places.place)) v ≡ Some place) same there in
+          subst (λ v. slice_get (set old.places t (further step.places.place)) v ≡ Some place) same there in
           let within = slice_get_within old.places t step.places.place step.places.there in
           let is : further step.places.place ≡ place = (let one = slice_get-set_same old.places t (further step.places.place) within in cc) in
           ap (λ p. p.refused) (sym is) ∙ plain t step.places.place step.places.there

@@ -1,6 +1,6 @@
 use Rattle.std.proofs.Common.{[], ◌∷◌, Result, Ok, Err, OnOk, sym, subst, append-nil}
 use Rattle.board.specs.inside.Walking.{begins}
-use Rattle.board_rounds.specs.Turns.{AreChildSeats, forks_of, no_child}
+use Rattle.board_rounds.specs.Turns.{AreChildSeats, tasks_forked, no_child}
 use Rattle.board_rounds.proofs.Goings.{goes_step}
 use Rattle.board_rounds.proofs.Halting.{no_refusal}
 use Rattle.board_rounds.proofs.Onward.{goes_begins}
@@ -13,7 +13,7 @@ on_ok (Err e) p = tt
 pub returns-in-Some-clause-children : goal.returns-in-Some-clause-children
 returns-in-Some-clause-children c =
     on_ok c.try_to_decide.result
-    ([], sym (append-nil c.args.children.now.items), subst (λ o. AreChildSeats c.args.board.now (forks_of (begins o ∷ [])) []) (sym c.in-Some.ensures.awaits.0) no_child)
+    ([], sym (append-nil c.args.children.now.items), subst (λ o. AreChildSeats c.args.board.now (tasks_forked (begins o ∷ [])) []) (sym c.in-Some.ensures.awaits.0) no_child)
 
 pub returns-in_ok-make_step-in-None-clause-begins : goal.returns-in_ok-make_step-in-None-clause-begins
 returns-in_ok-make_step-in-None-clause-begins c =
