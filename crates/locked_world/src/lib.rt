@@ -10,6 +10,3 @@ pub use laws::{journal_fixes_run, journal_leads};
 pub use locked::LockedWorld;
 pub use logged::Logged;
 pub use name::PlanName;
-
-#[cfg(test)]
-mod tests;

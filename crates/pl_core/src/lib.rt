@@ -17,6 +17,3 @@ mod world;
 pub use place::Place;
 pub use stand::Stand;
 pub use world::World;
-
-#[cfg(test)]
-mod tests;

@@ -20,6 +20,3 @@ pub use replaying::replay;
 pub use split::split_input;
 pub use text::replay_text;
 pub use verdict::{PassVerdict, ReplayEnd, Replayed, ScheduleFault};
-
-#[cfg(test)]
-mod tests;

@@ -8,7 +8,6 @@ pub mod Left
 pub mod AvoidedSteps
 pub mod AvoidedEnds
 pub mod SerialEnds
-pub mod TwoMakersChecked
 pub mod DeadOrNot
 pub mod NextWorlds
 pub mod SerialExists

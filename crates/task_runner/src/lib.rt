@@ -39,16 +39,3 @@ pub use options::RunOptions;
 pub use pool::run_pool;
 pub use ran::{Ran, RunEnd};
 pub use site_runs::run_sites;
-
-#[cfg(test)]
-mod avoided_tests;
-#[cfg(test)]
-mod meeting;
-#[cfg(test)]
-mod pool_tests;
-#[cfg(test)]
-mod site_tests;
-#[cfg(test)]
-mod test_plans;
-#[cfg(test)]
-mod tests;

@@ -1,14 +1,14 @@
 // Runs over two sites of two tasks that wait for each other.
 ghost use Rattle.std.specs.Prelude.{◌≡◌, ◌<◌, length};
 
-use crate::test_plans::{A, B, two_tasks};
-use crate::{RunOptions, run_sites};
 use adaptive::Wanted;
 use armus_base::{Event, List, Plan, Still, TaskEnd};
+use board_tests::plans::{A, B, two_tasks};
 use sites::{KeepEnd, Keeper, MemKeeper};
 use std::alloc::Global;
 use std::test::Fail;
 use std::thread::Threads;
+use task_runner::{RunOptions, run_sites};
 
 // The row of site 0 at the end: one status, of task 0 on p0@1, with two phases: 1 of p0, 0 of p1.
 const FIRST_ROW: [u8; 36] = [

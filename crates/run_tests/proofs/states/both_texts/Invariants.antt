@@ -1,5 +1,5 @@
 use Rattle.std.proofs.Common.{◌≡◌}
-use Rattle.pl_core.proofs.tests.both_texts.Given as goal
+use Rattle.run_tests.proofs.states.both_texts.Given as goal
 
 abbrev pub invariant-loop-letter : goal.invariant-loop-letter
 invariant-loop-letter l = record { same : l.places.items ≡ l.world.places; plan : l.world.plan ≡ l.plan }

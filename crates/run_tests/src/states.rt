@@ -2,77 +2,12 @@
 ghost use Rattle.std.specs.Prelude.{◌≡◌, ℕ, ◌<◌, true, length};
 ghost use Rattle.pl_core.specs.Stands.{IsEnabled};
 
-use crate::walk::place_within;
-use crate::{Place, Stand, World};
-use armus_base::Piece::{Op as Single, Repeat};
-use armus_base::{
-    Code, Event, Final, List, NoMemory, Offset, Op, PhaserId, Plan, Status, TaskEnd, TaskId,
-};
+use crate::plans::one_loop;
+use armus_base::{Event, Final, PhaserId, Plan, Status, TaskEnd, TaskId};
+use board_tests::plans::{CHILD, ROOT, two_tasks};
+use pl_core::{Place, Stand, World};
 use std::alloc::Global;
 use std::test::Fail;
-
-const A: PhaserId = PhaserId(0);
-
-const B: PhaserId = PhaserId(1);
-
-const ROOT: TaskId = TaskId(0);
-
-const CHILD: TaskId = TaskId(1);
-
-// Task 0 makes two phasers, registers its child on both and forks it; it waits on the first, and the child on the second.
-fn two_tasks(alloc: Global) -> Result<Plan, NoMemory> {
-    let parents = vec![in alloc; None, Some(ROOT)]?;
-    let makers = vec![in alloc; ROOT, ROOT]?;
-    let first = vec![in alloc;
-        Single(Op::Make { p: A }),
-        Single(Op::Make { p: B }),
-        Single(Op::Reg { c: CHILD, p: A }),
-        Single(Op::Reg { c: CHILD, p: B }),
-        Single(Op::Fork { c: CHILD }),
-        Single(Op::Adv { p: A }),
-        Single(Op::Await {
-            p: A,
-            off: Offset::Here
-        }),
-    ]?;
-    let second = vec![in alloc;
-        Single(Op::Adv { p: B }),
-        Single(Op::Await {
-            p: B,
-            off: Offset::Here
-        }),
-    ]?;
-    let codes = vec![in alloc;
-        Code::from_pieces(List::from_vec(first)),
-        Code::from_pieces(List::from_vec(second)),
-    ]?;
-    Ok(Plan::from_parts(
-        List::from_vec(parents),
-        List::from_vec(makers),
-        List::from_vec(codes),
-    ))
-}
-
-// One task that makes a phaser, and then advances on it and awaits it three times.
-fn one_loop(alloc: Global) -> Result<Plan, NoMemory> {
-    let parents = vec![in alloc; None]?;
-    let makers = vec![in alloc; ROOT]?;
-    let pieces = vec![in alloc;
-        Single(Op::Make { p: A }),
-        Repeat { k: 3, len: 2 },
-        Single(Op::Adv { p: A }),
-        Single(Op::Await {
-            p: A,
-            off: Offset::Here
-        }),
-    ]?;
-    let codes = vec![in alloc; Code::from_pieces(List::from_vec(pieces))]?;
-    Ok(Plan::from_parts(
-        List::from_vec(parents),
-        List::from_vec(makers),
-        List::from_vec(codes),
-    ))
-}
 
 // An event, and whether it is reached.
 fn event_text(alloc: Global, world: &World, event: Event) -> Result<String, Fail> {
@@ -234,7 +169,7 @@ fn step_both(world: &mut World, places: &mut Vec<Place>, t: TaskId) -> bool
     if t.0 >= world.plan().tasks() || at >= places.len() {
         return false;
     }
-    let place = place_within(places, at);
+    let place = places[at];
     if place.events > 1000 || !world.enabled(t) {
         return false;
     }
@@ -256,7 +191,7 @@ fn refuse_both(world: &mut World, places: &mut Vec<Place>, t: TaskId) -> bool
     if t.0 >= world.plan().tasks() || at >= places.len() {
         return false;
     }
-    let place = place_within(places, at);
+    let place = places[at];
     match world.stand(t) {
         Stand::Await(_) => {
             world.refuse(t);

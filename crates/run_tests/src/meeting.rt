@@ -1,11 +1,15 @@
 // A gate for the tests of plans whose first two children have something to do.
-use crate::test_plans::{FIRST, SECOND};
-use armus_base::{Gate, Point};
+use armus_base::{Gate, Point, TaskId};
 use std::sync::atomic::{AtomicBool, Ordering};
 use std::thread::yield_now;
 
 // How often a task looks for another at the gate before it gives up.
 const MAX_LOOKS: u32 = 200_000_000;
+
+// The two children.
+const FIRST: TaskId = TaskId(1);
+
+const SECOND: TaskId = TaskId(2);
 
 /// A gate that holds tasks 1 and 2 before their first op until both are there.
 #[derive(Drop)]

@@ -1,9 +1,9 @@
 // The run that avoids deadlock over two tasks that would wait for each other.
-use crate::test_plans::{B, two_tasks};
-use crate::{RunOptions, run_avoid, run_avoid_kept};
 use adaptive::Wanted;
 use armus_base::{Event, Still, TaskEnd};
+use board_tests::plans::{B, two_tasks};
 use std::test::Fail;
+use task_runner::{RunOptions, run_avoid, run_avoid_kept};
 
 // The event of the child's await.
 const AWAITED: Event = Event { p: B, n: 1 };

@@ -1,62 +1,10 @@
 // Schedules over the empty text's plan, and over that of two tasks that wait for each other.
-use crate::{ReplayEnd, read_lines, replay, replay_text, split_input};
-use armus_base::Piece::Op as Single;
-use armus_base::{Code, List, NoMemory, Offset, Op, PhaserId, Plan, TaskId};
+use crate::plans::no_statement;
+use armus_base::Plan;
+use board_tests::plans::{B, CHILD, ROOT, two_tasks};
+use schedule::{ReplayEnd, read_lines, replay, replay_text, split_input};
 use std::alloc::Global;
 use std::test::Fail;
-
-const A: PhaserId = PhaserId(0);
-
-const B: PhaserId = PhaserId(1);
-
-const ROOT: TaskId = TaskId(0);
-
-const CHILD: TaskId = TaskId(1);
-
-// The plan of the empty text.
-fn empty_plan(alloc: Global) -> Result<Plan, NoMemory> {
-    let parents = vec![in alloc; None]?;
-    let codes = vec![in alloc; Code::from_pieces(List::new(alloc))]?;
-    Ok(Plan::from_parts(
-        List::from_vec(parents),
-        List::new(alloc),
-        List::from_vec(codes),
-    ))
-}
-
-// Task 0 makes two phasers, registers its child on both and forks it; it waits on the first, and the child on the second.
-fn two_tasks(alloc: Global) -> Result<Plan, NoMemory> {
-    let parents = vec![in alloc; None, Some(ROOT)]?;
-    let makers = vec![in alloc; ROOT, ROOT]?;
-    let first = vec![in alloc;
-        Single(Op::Make { p: A }),
-        Single(Op::Make { p: B }),
-        Single(Op::Reg { c: CHILD, p: A }),
-        Single(Op::Reg { c: CHILD, p: B }),
-        Single(Op::Fork { c: CHILD }),
-        Single(Op::Adv { p: A }),
-        Single(Op::Await {
-            p: A,
-            off: Offset::Here
-        }),
-    ]?;
-    let second = vec![in alloc;
-        Single(Op::Adv { p: B }),
-        Single(Op::Await {
-            p: B,
-            off: Offset::Here
-        }),
-    ]?;
-    let codes = vec![in alloc;
-        Code::from_pieces(List::from_vec(first)),
-        Code::from_pieces(List::from_vec(second)),
-    ]?;
-    Ok(Plan::from_parts(
-        List::from_vec(parents),
-        List::from_vec(makers),
-        List::from_vec(codes),
-    ))
-}
 
 // The text of the replay, or the line of its fault.
 fn outcome(alloc: Global, plan: &Plan, schedule: &str) -> Result<Vec<u8>, Fail> {
@@ -81,7 +29,7 @@ fn outcome(alloc: Global, plan: &Plan, schedule: &str) -> Result<Vec<u8>, Fail> 
 #[test]
 fn faults_and_ends(rt: HostRuntime) -> Result<(), Fail> {
     let alloc = rt.alloc();
-    let plan = empty_plan(alloc)?;
+    let plan = no_statement(alloc)?;
     for (schedule, want) in [
         ("t 0", "kind 2 line 1"),
         ("t 1", "kind 3 line 1"),

@@ -1,57 +1,15 @@
 // Two threads step a world of two tasks that wait for each other.
 ghost use Rattle.std.specs.Prelude.{◌≡◌, ◌<◌, length};
 
-use crate::{LockedWorld, Logged, PlanName};
-use armus_base::Piece::Op as Single;
-use armus_base::{Code, List, NoMemory, Offset, Op, PhaserId, Plan, TaskId};
+use armus_base::{List, NoMemory, Plan, TaskId};
+use board_tests::plans::{CHILD, ROOT, two_tasks};
+use locked_world::{LockedWorld, Logged, PlanName};
 use pl_core::Stand;
 use std::alloc::Global;
 use std::marker::Brand;
 use std::sync::Wait;
 use std::test::Fail;
 use std::thread::{Threads, join};
-
-const A: PhaserId = PhaserId(0);
-
-const B: PhaserId = PhaserId(1);
-
-const ROOT: TaskId = TaskId(0);
-
-const CHILD: TaskId = TaskId(1);
-
-// Task 0 makes two phasers, registers its child on both and forks it; it waits on the first, and the child on the second.
-fn two_tasks(alloc: Global) -> Result<Plan, NoMemory> {
-    let parents = vec![in alloc; None, Some(ROOT)]?;
-    let makers = vec![in alloc; ROOT, ROOT]?;
-    let first = vec![in alloc;
-        Single(Op::Make { p: A }),
-        Single(Op::Make { p: B }),
-        Single(Op::Reg { c: CHILD, p: A }),
-        Single(Op::Reg { c: CHILD, p: B }),
-        Single(Op::Fork { c: CHILD }),
-        Single(Op::Adv { p: A }),
-        Single(Op::Await {
-            p: A,
-            off: Offset::Here
-        }),
-    ]?;
-    let second = vec![in alloc;
-        Single(Op::Adv { p: B }),
-        Single(Op::Await {
-            p: B,
-            off: Offset::Here
-        }),
-    ]?;
-    let codes = vec![in alloc;
-        Code::from_pieces(List::from_vec(first)),
-        Code::from_pieces(List::from_vec(second)),
-    ]?;
-    Ok(Plan::from_parts(
-        List::from_vec(parents),
-        List::from_vec(makers),
-        List::from_vec(codes),
-    ))
-}
 
 // Up to five steps of a task, each under the lock.
 fn step_often<N: PlanName, R: Wait>(
