@@ -18,3 +18,6 @@ pub use fault::{
     UNKNOWN_CLOCK, clock_line,
 };
 pub use planning::clock_plan;
+
+#[cfg(test)]
+mod tests;
