@@ -14,13 +14,20 @@ use Rattle.armus_top.specs.declared.programs.InputEnd.TheVariants.{Refused, NoMe
 use Rattle.armus_top.specs.inside.Programs.{IsEnd}
 use Rattle.armus_top.specs.Commands.{IsAnswered, IsRefusedInput, limit_of, length_line, wanted_of}
 use Rattle.armus_top.specs.Headline.{Ends, GaveTooMuch, HasInput, IsSound, Passage, no_memory}
-use Rattle.armus_top.specs.inside.Writing.{Answered, Finished, Refuses, TellsEnd, nothing, part, wrote}
+use Rattle.armus_top.specs.inside.Writing.{Answered, Finished, LeavesOutput, Refuses, TellsEnd, nothing, part, wrote}
 use Rattle.armus_top.proofs.Ending.{by_finish}
 
 -- an answer with this status and text was written
 pub by_answer : (c : Command) (input text : Text) (out : Passage) (status number : ℕ) → IsAnswered c input status text → Finished out text status number
     → Answered c input out number
 by_answer c input text out status number is done = wrote status text (inl is) done
+
+-- one of these outputs was to be written, each of which the command is answered with
+pub by_output : (c : Command) (input : Text) (IsOutput : ℕ → Text → Type 0) (out : Passage) (number : ℕ)
+    → ((status : ℕ) (text : Text) → IsOutput status text → IsAnswered c input status text) → LeavesOutput IsOutput out number → Answered c input out number
+by_output c input IsOutput out number answers (wrote status text is done) = wrote status text (inl (answers status text is)) done
+by_output c input IsOutput out number answers (nothing six sound kept) = nothing six sound kept
+by_output c input IsOutput out number answers (part status text is six sound front) = part status text (inl (answers status text is)) six sound front
 
 -- memory was wanting before anything was written
 pub by_want : (c : Command) (input : Text) (out : Passage) (number : ℕ) → number ≡ 6 → IsSound out → Keeps out.before out.after → Answered c input out number

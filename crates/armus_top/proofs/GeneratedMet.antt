@@ -14,8 +14,10 @@ use Rattle.armus_words.specs.Words.{Text}
 use Rattle.pl_syntax.specs.Printed.{line}
 use Rattle.armus_top.specs.Generated.{IsFirstAndLast}
 use Rattle.armus_top.specs.Inputs.{MayGenerate}
+use Rattle.armus_top.specs.Programs.{IsChecked}
 use Rattle.armus_top.proofs.TwoLines.{more_lines, report_has_two}
 use Rattle.armus_top.proofs.WholeOutputs.{IsMet}
+use Rattle.armus_top.proofs.OnePlan.{checked_plan}
 use Rattle.armus_top.proofs.RunsMet.{run_met}
 
 -- bytes that are some have a last line
@@ -56,6 +58,7 @@ first_and_last end g (b ∷ bytes) is =
 pub gen_met : (count : ℕ) (input : Text) → MayGenerate (Gen count) → IsMet (Gen count) input
 gen_met count input may =
     let (program, reads, plan, unfolds) = generated_is_accepted count (omega (arith, may)) in
-    let (status, report, run) = run_met (generated_text count) plan (program, record { reads = reads; unfolds = unfolds }) wanted.Auto in
-    let (text, short) = first_and_last (final_of run.plan run.state) wanted.Auto report run.report_is in
-    (status, text, inl (record { report = report; run = run; short = short }))
+    let is : IsChecked (generated_text count) program plan = record { reads = reads; unfolds = unfolds } in
+    let (status, report, run) = run_met plan (checked_plan (generated_text count) plan (program, is)) wanted.Auto in
+    let (text, short) = first_and_last (final_of plan run.state) wanted.Auto report run.report_is in
+    (status, text, inl (record { plan = plan; plan_is = (program, is); report = report; run = run; short = short }))

@@ -1,4 +1,7 @@
 pub mod OnePlan
+pub mod OneClockPlan
+pub mod DirectEnds
+pub mod TellingClocks
 pub mod ReplayInputs
 pub mod TwoLines
 pub mod Ending

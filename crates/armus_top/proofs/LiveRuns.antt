@@ -6,6 +6,7 @@ use Rattle.std.proofs.KnownBytes.{Keeps-refl}
 use Rattle.std.proofs.lemmas.Grind.{flat_map-append}
 use Rattle.armus_base.specs.declared.ending.Final.{Final}
 use Rattle.armus_base.specs.declared.status.Dead.{Dead}
+use Rattle.armus_base.specs.CheckedPlans.{IsCheckedPlan}
 use Rattle.armus_base.specs.Finals.{final_of}
 use Rattle.armus_base.specs.Plans.{Plan}
 use Rattle.armus_base.specs.ReadAll.{TookFront}
@@ -18,19 +19,14 @@ use Rattle.task_runner.specs.DetectRuns.{AreDeadAtTheEnd, HasWritten, TellsRun, 
 use Rattle.task_runner.specs.PlainRuns.{IsPlainEnd}
 use Rattle.task_runner.specs.declared.ran.Ran.{Ran}
 use Rattle.task_runner.specs.declared.ran.RunEnd.TheVariants as ends
-use Rattle.armus_words.specs.declared.command.Command.TheVariants.{Run}
-use Rattle.armus_words.specs.declared.command.RunKind.TheVariants.{Plain, Live}
 use Rattle.armus_words.specs.declared.command.Graph.{Graph}
 use Rattle.armus_top.specs.Commands.{wanted_of}
 use Rattle.armus_top.specs.Headline.{Passage}
-use Rattle.armus_top.specs.Programs.{IsPlanOf}
-use Rattle.armus_top.specs.Runs.{IsLiveRunOf, IsRunOf}
+use Rattle.armus_top.specs.Runs.{IsLiveRunOf, IsRunOf, IsRunOutput, kind_of}
 use Rattle.armus_words.specs.Words.{Text}
-use Rattle.armus_top.specs.inside.Serving.{kind_of}
-use Rattle.armus_top.specs.inside.Writing.{Answered, WritesReport, nothing, part, wrote}
+use Rattle.armus_top.specs.inside.Writing.{LeavesOutput, WritesReport, nothing, part, wrote}
 use Rattle.armus_top.proofs.Ending.{by_pieces}
 use Rattle.armus_top.proofs.RunsMet.{run_met}
-use Rattle.armus_top.proofs.OnePlan.{one_plan}
 use Rattle.armus_top.proofs.Reporting.{by_plain_end, run_of}
 
 -- a sink between two moments
@@ -50,18 +46,16 @@ one_plain_end plan a b p q =
     let same : p.state ≡ q.state = sym p.final.there ∙ q.every p.final.steps p.final.run p.final.maximal in
     p.is_it ∙ ap (final_of plan) same ∙ sym q.is_it
 
-module _ (input : Text) (plan : Plan) (plan_is : IsPlanOf input plan) (workers : ℕ) (g : Graph) where
-  end_of_run : (status : ℕ) (report : Text) (r : IsRunOf input (wanted_of g) status report) → IsPlainEnd plan (final_of r.plan r.state)
-  end_of_run status report r =
-      let here : IsPlainEnd r.plan (final_of r.plan r.state) = record { state = r.state; final = r.final; every = r.every; is_it = refl } in
-      subst (λ p. IsPlainEnd p (final_of r.plan r.state)) (one_plan input r.plan plan r.plan_is plan_is) here
+module _ (plan : Plan) (checked : IsCheckedPlan plan) (g : Graph) where
+  end_of_run : (status : ℕ) (report : Text) (r : IsRunOf plan (wanted_of g) status report) → IsPlainEnd plan (final_of plan r.state)
+  end_of_run status report r = record { state = r.state; final = r.final; every = r.every; is_it = refl }
 
   -- lines of some dead tasks begin some whole output
   begun : (named : List Dead) → AreDeadAtTheEnd plan named
-      → (status : ℕ) × (text : Text) × IsLiveRunOf input (wanted_of g) status text × ((rest : Text) × (text ≡ live_text named ++ rest))
+      → (status : ℕ) × (text : Text) × IsLiveRunOf plan (wanted_of g) status text × ((rest : Text) × (text ≡ live_text named ++ rest))
   begun named dead =
-      let (status, report, r) = run_met input plan plan_is (wanted_of g) in
-      let end = final_of r.plan r.state in
+      let (status, report, r) = run_met plan checked (wanted_of g) in
+      let end = final_of plan r.state in
       let (more, all) = some_dead_extend end.blocked named (dead end (end_of_run status report r)) in (
         status,
         live_text (named ++ more) ++ report,
@@ -72,23 +66,23 @@ module _ (input : Text) (plan : Plan) (plan_is : IsPlanOf input plan) (workers :
   module _ (before now after : Told) (number : ℕ) where
     -- memory was wanting after the lines of some dead tasks
     wanting : (named : List Dead) → AreDeadAtTheEnd plan named → number ≡ 6 → HasWritten named before now → Keeps now.taken after.taken → after.faults ≡ now.faults
-        → Answered (Run workers g Live) input (between before after) number
+        → LeavesOutput (IsLiveRunOf plan (wanted_of g)) (between before after) number
     wanting named dead six written kept still =
         let (status, text, live, (rest, is)) = begun named dead in
-        part status text (inl live) six (still ∙ written.sound)
+        part status text live six (still ∙ written.sound)
         (subst (TookFront before.taken after.taken) (sym is)
         (front_after before.taken now.taken after.taken (live_text named) rest written.lines (no_front now.taken after.taken rest kept)))
 
   plain_report : (end : Final) (dead : Bool) (report : Text) → IsPlainEnd plan end → (IsTrue dead ↔ IsSomeDead end.blocked) → IsReport end (wanted_of g) report
-      → IsRunOf input (wanted_of g) (if dead then 1 else 0) report
-  plain_report end dead report is same reports = run_of input plan (wanted_of g) end dead report plan_is is same reports
+      → IsRunOf plan (wanted_of g) (if dead then 1 else 0) report
+  plain_report end dead report is same reports = run_of plan (wanted_of g) end dead report checked is same reports
 
   -- the report stands behind the lines of all dead tasks
   behind_lines : (end : Final) (dead : Bool) (report : Text) (named : List Dead) → IsPlainEnd plan end → AreTheDead end.blocked named
-      → (IsTrue dead ↔ IsSomeDead end.blocked) → IsReport end (wanted_of g) report → IsLiveRunOf input (wanted_of g) (if dead then 1 else 0) (live_text named ++ report)
+      → (IsTrue dead ↔ IsSomeDead end.blocked) → IsReport end (wanted_of g) report → IsLiveRunOf plan (wanted_of g) (if dead then 1 else 0) (live_text named ++ report)
   behind_lines end dead report named is are same reports =
       let r = plain_report end dead report is same reports in
-      let ends : end ≡ final_of r.plan r.state = one_plain_end plan end (final_of r.plan r.state) is (end_of_run _ report r) in
+      let ends : end ≡ final_of plan r.state = one_plain_end plan end (final_of plan r.state) is (end_of_run _ report r) in
       record { report = report; run = r; named = named; named_are = subst (λ e. AreTheDead e.blocked named) ends are; output_is = refl }
 
   some_of_all : (end : Final) (named : List Dead) → IsPlainEnd plan end → AreTheDead end.blocked named → AreDeadAtTheEnd plan named
@@ -96,32 +90,32 @@ module _ (input : Text) (plan : Plan) (plan_is : IsPlanOf input plan) (workers :
 
   module _ (before now after : Told) (number : ℕ) (end : Final) (is : IsPlainEnd plan end) where
     live_reported : (named : List Dead) → AreTheDead end.blocked named → HasWritten named before now → WritesReport end (wanted_of g) (between now after) number
-        → Answered (Run workers g Live) input (between before after) number
+        → LeavesOutput (IsLiveRunOf plan (wanted_of g)) (between before after) number
     live_reported named are written (inl (dead, report, same, reports, done)) =
-        wrote (if dead then 1 else 0) (live_text named ++ report) (inl (behind_lines end dead report named is are same reports))
+        wrote (if dead then 1 else 0) (live_text named ++ report) (behind_lines end dead report named is are same reports)
         (by_pieces (between before after) (between now after) (live_text named) report (if dead then 1 else 0) number written.sound refl refl written.lines done)
     live_reported named are written (inr (six, still, kept)) =
         wanting before now after number named (some_of_all end named is are) six written kept still
 
-    plain_reported : now ≡ before → WritesReport end (wanted_of g) (between now after) number → Answered (Run workers g Plain) input (between before after) number
+    plain_reported : now ≡ before → WritesReport end (wanted_of g) (between now after) number → LeavesOutput (IsRunOf plan (wanted_of g)) (between before after) number
     plain_reported same writes =
-        by_plain_end (Run workers g Plain) g input plan end (wanted_of g) (between before after) number (λ status text run. run) plan_is is refl
+        by_plain_end plan g end (wanted_of g) (between before after) number checked is refl
         (subst (λ (m : Told). WritesReport end (wanted_of g) (between m after) number) same writes)
 
   -- the run came to its end, and its report was written, or memory was wanting
   pub reported : (live : Bool) (before now after : Told) (number : ℕ) (ran : Ran) → IsPlainEnd plan ran.end → (live ≡ true → TellsRun plan before now (Ok ran))
-      → (live ≡ false → now ≡ before) → WritesReport ran.end (wanted_of g) (between now after) number → Answered (Run workers g (kind_of live)) input (between before after) number
+      → (live ≡ false → now ≡ before) → WritesReport ran.end (wanted_of g) (between now after) number → LeavesOutput (IsRunOutput (kind_of live) plan (wanted_of g)) (between before after) number
   reported true before now after number ran is tells silent written =
       let (named, are, lines) = tells refl in live_reported before now after number ran.end is named are lines written
   reported false before now after number ran is tells silent written = plain_reported before now after number ran.end is (silent refl) written
 
   -- the sink failed within the live lines
   pub unwritten : (live : Bool) (before now : Told) → (live ≡ true → TellsRun plan before now (Err ends.Write)) → (live ≡ false → IsNoWrite {A = Ran} (Err ends.Write))
-      → Answered (Run workers g (kind_of live)) input (between before now) 5
+      → LeavesOutput (IsRunOutput (kind_of live) plan (wanted_of g)) (between before now) 5
   unwritten true before now tells silent =
       let (named, dead, part_of) = tells refl in
       let (status, text, live, (rest, is)) = begun named dead in
-      wrote status text (inl live) (inr (
+      wrote status text live (inr (
         refl,
         part_of.failed,
         subst (TookFront before.taken now.taken) (sym is)
@@ -131,7 +125,7 @@ module _ (input : Text) (plan : Plan) (plan_is : IsPlanOf input plan) (workers :
 
   -- memory was wanting before the end of the run
   pub wanted_memory : (live : Bool) (before now : Told) → (live ≡ true → TellsRun plan before now (Err ends.NoMemory)) → (live ≡ false → now ≡ before)
-      → Answered (Run workers g (kind_of live)) input (between before now) 6
+      → LeavesOutput (IsRunOutput (kind_of live) plan (wanted_of g)) (between before now) 6
   wanted_memory true before now tells silent =
       let (named, dead, written) = tells refl in wanting before now now 6 named dead refl written (Keeps-refl now.taken) refl
   wanted_memory false before now tells silent =

@@ -5,7 +5,7 @@ use Rattle.armus_words.specs.Commands.{AreWorkers, IsCommand, IsRunKind, first_o
 use Rattle.armus_words.specs.inside.Form.{first_named}
 use Rattle.armus_words.proofs.Meaning.{first_is, one_meaning}
 use Rattle.armus_words.specs.declared.command.Command.{Command}
-use Rattle.armus_words.specs.declared.command.Command.TheVariants.{Check, Run, Avoid, Record, Replay, Gen, Pool}
+use Rattle.armus_words.specs.declared.command.Command.TheVariants.{Check, Run, Avoid, Record, Replay, Gen, Clock, Pool}
 use Rattle.armus_words.specs.declared.command.RunKind.{RunKind}
 use Rattle.armus_words.specs.declared.table.FirstWord.TheVariants as first
 use Rattle.armus_words.specs.Words.{Text}
@@ -46,6 +46,7 @@ means_plain words (Some (Avoid workers graph kept)) is other = workers_may _ wor
 means_plain words (Some (Record workers)) is other = absurd (other (_, _, is.form.words_are, inl refl))
 means_plain words (Some Replay) is other = tt
 means_plain words (Some (Gen count)) is other = tt
+means_plain words (Some (Clock workers graph live)) is other = workers_may _ workers is.values.0
 means_plain words (Some (Pool workers graph)) is other = absurd (other (_, _, is.form.words_are, inr refl))
 means_plain words None is other = tt
 
@@ -75,4 +76,5 @@ means_waiting words (Some c) is begins = by_first c is (record_or_pool c words i
     by_first (Record workers) is one = workers_may _ workers is.values
     by_first Replay is one = elim one [ inl e ↦ absurd (cc) | inr e ↦ absurd (cc) ]
     by_first (Gen count) is one = elim one [ inl e ↦ absurd (cc) | inr e ↦ absurd (cc) ]
+    by_first (Clock workers graph live) is one = elim one [ inl e ↦ absurd (cc) | inr e ↦ absurd (cc) ]
     by_first (Pool workers graph) is one = workers_may _ workers is.values.0

@@ -11,6 +11,7 @@ use Rattle.armus_base.specs.States.{State}
 use Rattle.armus_base.proofs.DeadByStatuses.{dead_by_statuses, run_is_of_plan}
 use Rattle.armus_base.proofs.Elements.{Contains-head, nothing_in_nil}
 use Rattle.armus_words.specs.declared.command.Command.TheVariants.{Replay}
+use Rattle.report.specs.Refusals.{refusal_text}
 use Rattle.report.specs.declared.refusal.Refusal.{Refusal}
 use Rattle.report.specs.declared.refusal.Refusal.TheVariants.{Length, Syntax, Check as Checked, Schedule}
 use Rattle.adaptive.proofs.DeadOrNot.{dead_list_exists}
@@ -86,8 +87,8 @@ not_short text long unclosed (inr (front, e, le)) = unclosed front e
 
 fault_of : (input text schedule : Text) → IsSplit input text schedule → IsShort text → (why : Refusal) → IsFaultOf text why → IsMet Replay input
 fault_of input text schedule split short Length is = absurd is
-fault_of input text schedule split short (Syntax f) is = refused Replay input (Syntax f) (text, schedule, split, (short, is))
-fault_of input text schedule split short (Checked f) is = refused Replay input (Checked f) (text, schedule, split, (short, is))
+fault_of input text schedule split short (Syntax f) is = refused Replay input (refusal_text (Syntax f)) (Syntax f, (text, schedule, split, (short, is)), refl)
+fault_of input text schedule split short (Checked f) is = refused Replay input (refusal_text (Checked f)) (Checked f, (text, schedule, split, (short, is)), refl)
 fault_of input text schedule split short (Schedule f) is = absurd is
 
 short_or_not : (text : Text) → IsShort text ⊎ (IsShort text → ⊥)
@@ -109,7 +110,7 @@ pub replay_met : (input : Text) → IsMet Replay input
 replay_met input =
     let (text, schedule, split) = input_is_split input in
     elim (short_or_not text) [
-      | inr long ↦ refused Replay input Length (text, schedule, split, long)
+      | inr long ↦ refused Replay input (refusal_text Length) (Length, (text, schedule, split, long), refl)
       | inl short ↦ elim (plan_or_refused text) [
         | inr one ↦ let (why, is) = one in fault_of input text schedule split short why is
         | inl one ↦
@@ -120,7 +121,8 @@ replay_met input =
             elim (lines_are_met plan lines is_checked) [
               | inr fault ↦
                   let (number, kind, first) = fault in
-                  refused Replay input (Schedule (record { line = number; kind = kind })) (text, schedule, split, (plan, lines, reads, first))
+                  let why : Refusal = Schedule (record { line = number; kind = kind }) in
+                  refused Replay input (refusal_text why) (why, (text, schedule, split, (plan, lines, reads, first)), refl)
               | inl leads ↦
                   let (a, led) = leads in
                   let (done, replayed) = replayed_exists plan lines a is_checked led in

@@ -14,15 +14,13 @@ use Rattle.armus_base.proofs.StatusesAre.{statuses_are}
 use Rattle.adaptive.specs.declared.analysis.Wanted.{Wanted}
 use Rattle.report.specs.Reports.{IsReport, IsSomeDead}
 use Rattle.task_runner.specs.PlainRuns.{IsPlainEnd}
-use Rattle.armus_words.specs.declared.command.Command.{Command}
 use Rattle.armus_words.specs.declared.command.Graph.{Graph}
 use Rattle.armus_words.specs.Words.{Text}
-use Rattle.armus_top.specs.Commands.{IsAnswered, wanted_of}
+use Rattle.armus_top.specs.Commands.{wanted_of}
 use Rattle.armus_top.specs.Headline.{Passage}
-use Rattle.armus_top.specs.inside.Writing.{Answered, WritesReport, nothing, wrote}
-use Rattle.armus_top.specs.Programs.{IsPlanOf, TellsDead}
+use Rattle.armus_top.specs.inside.Writing.{LeavesOutput, WritesReport, nothing, wrote}
+use Rattle.armus_top.specs.Programs.{TellsDead}
 use Rattle.armus_top.specs.Runs.{IsRunOf}
-use Rattle.armus_top.proofs.OnePlan.{checked_plan}
 
 pub plain_end_in_order : (plan : Plan) (end : Final) → IsCheckedPlan plan → IsPlainEnd plan end → IsInOrder end.blocked
 plain_end_in_order plan end checked is =
@@ -33,15 +31,12 @@ pub tells : (state : State) (final : Final) (dead : Bool) → ((t : ℕ) → IsD
 tells state final true same is = let some = is.0 refl in inl (refl, (some.0, (same some.0).0 some.1))
 tells state final false same is = inr (refl, λ t dead. let yes = is.1 (t, (same t).1 dead) in absurd (cc))
 
-pub run_of : (input : Text) (plan : Plan) (g : Wanted) (end : Final) (dead : Bool) (text : Text) → IsPlanOf input plan → IsPlainEnd plan end
-    → (IsTrue dead ↔ IsSomeDead end.blocked) → IsReport end g text → IsRunOf input g (if dead then 1 else 0) text
-run_of input plan g end dead text plan_is is is_dead reports =
-    let checked : IsCheckedPlan plan = checked_plan input plan plan_is in
+pub run_of : (plan : Plan) (g : Wanted) (end : Final) (dead : Bool) (text : Text) → IsCheckedPlan plan → IsPlainEnd plan end
+    → (IsTrue dead ↔ IsSomeDead end.blocked) → IsReport end g text → IsRunOf plan g (if dead then 1 else 0) text
+run_of plan g end dead text checked is is_dead reports =
     let state = is.state in
     let of_plan : IsOfPlan plan state = subst (λ (s : State). IsOfPlan plan s) is.final.there (run_is_of_plan plan is.final.steps checked is.final.run.0) in
     record {
-      plan = plan;
-      plan_is = plan_is;
       state = state;
       final = is.final;
       every = is.every;
@@ -50,11 +45,9 @@ run_of input plan g end dead text plan_is is is_dead reports =
       report_is = subst (λ (e : Final). IsReport e g text) is.is_it reports;
     }
 
--- the report of the end of a plain run was written, for a command that is answered with such a report, or memory was wanting
-pub by_plain_end : (c : Command) (g : Graph) (input : Text) (plan : Plan) (end : Final) (wanted : Wanted) (out : Passage) (number : ℕ)
-    → ((status : ℕ) (text : Text) → IsRunOf input (wanted_of g) status text → IsAnswered c input status text)
-    → IsPlanOf input plan → IsPlainEnd plan end → wanted ≡ wanted_of g → WritesReport end wanted out number → Answered c input out number
-by_plain_end c g input plan end wanted out number answers plan_is is wanted_is (inl (dead, report, same, reports, done)) =
-    let run = run_of input plan (wanted_of g) end dead report plan_is is same (subst (λ w. IsReport end w report) wanted_is reports) in
-    wrote (if dead then 1 else 0) report (inl (answers (if dead then 1 else 0) report run)) done
-by_plain_end c g input plan end wanted out number answers plan_is is wanted_is (inr (six, still, kept)) = nothing six still kept
+-- the report of the end of a plain run was written, or memory was wanting
+pub by_plain_end : (plan : Plan) (g : Graph) (end : Final) (wanted : Wanted) (out : Passage) (number : ℕ) → IsCheckedPlan plan → IsPlainEnd plan end
+    → wanted ≡ wanted_of g → WritesReport end wanted out number → LeavesOutput (IsRunOf plan (wanted_of g)) out number
+by_plain_end plan g end wanted out number checked is wanted_is (inl (dead, report, same, reports, done)) =
+    wrote (if dead then 1 else 0) report (run_of plan (wanted_of g) end dead report checked is same (subst (λ w. IsReport end w report) wanted_is reports)) done
+by_plain_end plan g end wanted out number checked is wanted_is (inr (six, still, kept)) = nothing six still kept

@@ -17,10 +17,12 @@ use Rattle.report.specs.NamedDead.{AreSomeDead}
 use Rattle.report.proofs.DeadExtend.{some_dead_extend}
 use Rattle.report.proofs.ReportExists.{report_exists}
 use Rattle.task_runner.proofs.SerialExists.{serial_run_ends}
+use Rattle.armus_words.specs.declared.command.RunKind.{RunKind}
+use Rattle.armus_words.specs.declared.command.RunKind.TheVariants.{Plain, Live, Sites}
 use Rattle.armus_words.specs.Words.{Text}
 use Rattle.armus_top.specs.Avoids.{IsAvoidOf}
 use Rattle.armus_top.specs.Programs.{IsPlanOf}
-use Rattle.armus_top.specs.Runs.{IsLiveRunOf, IsRunOf}
+use Rattle.armus_top.specs.Runs.{IsLiveRunOf, IsRunOf, IsRunOutput}
 use Rattle.armus_top.proofs.OnePlan.{checked_plan}
 use Rattle.armus_top.proofs.AvoidedReports.{never_dead}
 use Rattle.armus_top.proofs.WholeOutputs.{status_by, status_refused}
@@ -28,12 +30,9 @@ use Rattle.armus_top.proofs.WholeOutputs.{status_by, status_refused}
 nobody_named : {blocked : List Status} → AreSomeDead blocked []
 nobody_named = record { once = λ i j d l m e. absurd (omega arith); dead = λ d m. absurd (nothing_in_nil d m) }
 
-module _ (input : Text) (plan : Plan) (plan_is : IsPlanOf input plan) where
-  checked : IsCheckedPlan plan
-  checked = checked_plan input plan plan_is
-
-  pub run_met : (g : Wanted) → (status : ℕ) × (text : Text) × IsRunOf input g status text
-  run_met g =
+module _ (plan : Plan) (checked : IsCheckedPlan plan) (g : Wanted) where
+  pub run_met : (status : ℕ) × (text : Text) × IsRunOf plan g status text
+  run_met =
       let (h, run, maximal) = maximal_exists plan checked in
       let state = state_after h in
       let (text, reports) = report_exists (final_of plan state) g in
@@ -42,8 +41,6 @@ module _ (input : Text) (plan : Plan) (plan_is : IsPlanOf input plan) where
         status,
         text,
         record {
-          plan = plan;
-          plan_is = plan_is;
           state = state;
           final = record { steps = h; run = run; maximal = maximal; there = refl };
           every = λ other is ends. (one_end plan other h checked is run ends maximal).1;
@@ -52,11 +49,21 @@ module _ (input : Text) (plan : Plan) (plan_is : IsPlanOf input plan) where
         },
       )
 
-  pub live_met : (g : Wanted) → (status : ℕ) × (text : Text) × IsLiveRunOf input g status text
-  live_met g =
-      let (status, report, run) = run_met g in
-      let (named, are) = some_dead_extend (final_of run.plan run.state).blocked [] nobody_named in
+  live_met : (status : ℕ) × (text : Text) × IsLiveRunOf plan g status text
+  live_met =
+      let (status, report, run) = run_met in
+      let (named, are) = some_dead_extend (final_of plan run.state).blocked [] nobody_named in
       (status, live_text named ++ report, record { report = report; run = run; named = named; named_are = are; output_is = refl })
+
+  -- each kind of run has an output
+  pub output_met : (kind : RunKind) → (status : ℕ) × (text : Text) × IsRunOutput kind plan g status text
+  output_met Plain = run_met
+  output_met Live = live_met
+  output_met (Sites sites) = run_met
+
+module _ (input : Text) (plan : Plan) (plan_is : IsPlanOf input plan) where
+  checked : IsCheckedPlan plan
+  checked = checked_plan input plan plan_is
 
   pub avoid_met : (workers : ℕ) (g : Wanted) → (status : ℕ) × (text : Text) × IsAvoidOf input workers g status text
   avoid_met workers g =

@@ -16,11 +16,10 @@ use Rattle.pl_syntax.specs.declared.tree.Program.{Program}
 use Rattle.pl_syntax.proofs.Whole.{one_of_both}
 use Rattle.report.specs.declared.refusal.Refusal.{Refusal}
 use Rattle.report.specs.declared.refusal.Refusal.TheVariants.{Syntax, Check as Checked}
-use Rattle.report.specs.Refusals.{refusal_text}
 use Rattle.report.specs.Reports.{IsCycleText}
 use Rattle.armus_words.specs.Words.{Text}
 use Rattle.armus_top.specs.Avoids.{TellsRefused, ended_refused}
-use Rattle.armus_top.specs.Commands.{IsCause}
+use Rattle.armus_top.specs.Commands.{IsRefusedInput}
 use Rattle.armus_top.specs.Headline.{Answers}
 use Rattle.armus_top.specs.Programs.{IsFaultOf, IsPlanOf, TellsDead}
 
@@ -28,8 +27,8 @@ use Rattle.armus_top.specs.Programs.{IsFaultOf, IsPlanOf, TellsDead}
 abbrev pub IsMet : Command → Text → Type 0
 IsMet c input = (status : ℕ) × (text : Text) × Answers c input status text
 
-pub refused : (c : Command) (input : Text) (why : Refusal) → IsCause c input why → IsMet c input
-refused c input why is = (3, refusal_text why, inr (refl, (why, is, refl)))
+pub refused : (c : Command) (input text : Text) → IsRefusedInput c input text → IsMet c input
+refused c input text is = (3, text, inr (refl, is))
 
 abbrev HasPlanOrFault : Text → Type 0
 HasPlanOrFault text = ((plan : Plan) × IsPlanOf text plan) ⊎ ((why : Refusal) × IsFaultOf text why)

@@ -12,16 +12,17 @@ use Rattle.report.specs.declared.refusal.Refusal.TheVariants as refusal
 use Rattle.armus_words.specs.declared.command.Graph.{Graph}
 use Rattle.armus_words.specs.declared.command.Graph.TheVariants as graph
 use Rattle.armus_words.specs.declared.command.Command.{Command}
-use Rattle.armus_words.specs.declared.command.Command.TheVariants.{Check, Run, Avoid, Record, Replay, Gen, Pool}
-use Rattle.armus_words.specs.declared.command.RunKind.TheVariants.{Plain, Live, Sites}
+use Rattle.armus_words.specs.declared.command.Command.TheVariants.{Check, Run, Avoid, Record, Replay, Gen, Clock, Pool}
 use Rattle.armus_words.specs.Words.{Text}
 use Rattle.armus_top.specs.Texts.{plan_line}
-use Rattle.armus_top.specs.Programs.{IsChecked, IsFaultOf, IsPlanOf, TellsDead}
+use Rattle.armus_top.specs.Programs.{IsChecked, IsFaultOf, IsPlanOf}
+use Rattle.armus_top.specs.Clocks.{IsClockRefused}
+use Rattle.armus_top.specs.ClockRuns.{IsClockRunOf}
 use Rattle.armus_top.specs.Avoids.{IsAvoidOf}
 use Rattle.armus_top.specs.Generated.{IsGenOf}
 use Rattle.armus_top.specs.Records.{IsRecordOf}
 use Rattle.armus_top.specs.Replays.{IsReplayOf, IsReplayRefused}
-use Rattle.armus_top.specs.Runs.{IsLiveRunOf, IsRunOf}
+use Rattle.armus_top.specs.Runs.{IsRunOf, IsRunOutput, kind_of}
 use Rattle.armus_top.specs.declared.programs.TheConstants.{MAX_TEXT_BYTES}
 use Rattle.armus_top.specs.declared.replaying.TheConstants.{MAX_REPLAY_BYTES}
 
@@ -33,25 +34,27 @@ limit_of (Avoid workers g kept) = Some MAX_TEXT_BYTES
 limit_of (Record workers) = Some MAX_TEXT_BYTES
 limit_of Replay = Some MAX_REPLAY_BYTES
 limit_of (Gen count) = None
+limit_of (Clock workers g live) = Some MAX_TEXT_BYTES
 limit_of (Pool workers g) = Some MAX_TEXT_BYTES
 
 -- the line with which a longer input is refused
 abbrev pub length_line : Command → Text
 length_line c = refusal_text refusal.Length
 
--- why the command refuses this input; one that reads nothing refuses nothing
-abbrev pub IsCause : Command → Text → Refusal → Type 0
-IsCause (Check print) input why = IsFaultOf input why
-IsCause (Run workers g kind) input why = IsFaultOf input why
-IsCause (Avoid workers g kept) input why = IsFaultOf input why
-IsCause (Record workers) input why = IsFaultOf input why
-IsCause Replay input why = IsReplayRefused input why
-IsCause (Gen count) input why = ⊥
-IsCause (Pool workers g) input why = IsFaultOf input why
+-- an input is refused for one of these causes, with its line
+abbrev pub IsRefusedFor : (Refusal → Type 0) → Text → Type 0
+IsRefusedFor IsWhy text = (why : Refusal) × IsWhy why × (text ≡ refusal_text why)
 
--- the command refuses this input, with this line
+-- the command refuses this input, with this line; one that reads nothing refuses nothing
 abbrev pub IsRefusedInput : Command → Text → Text → Type 0
-IsRefusedInput c input text = (why : Refusal) × IsCause c input why × (text ≡ refusal_text why)
+IsRefusedInput (Check print) input text = IsRefusedFor (IsFaultOf input) text
+IsRefusedInput (Run workers g kind) input text = IsRefusedFor (IsFaultOf input) text
+IsRefusedInput (Avoid workers g kept) input text = IsRefusedFor (IsFaultOf input) text
+IsRefusedInput (Record workers) input text = IsRefusedFor (IsFaultOf input) text
+IsRefusedInput Replay input text = IsRefusedFor (IsReplayRefused input) text
+IsRefusedInput (Gen count) input text = ⊥
+IsRefusedInput (Clock workers g live) input text = IsClockRefused input text
+IsRefusedInput (Pool workers g) input text = IsRefusedFor (IsFaultOf input) text
 
 -- the graph that the words want, for the report
 abbrev pub wanted_of : Graph → Wanted
@@ -64,11 +67,10 @@ wanted_of graph.Grg = wanted.Grg
 abbrev pub IsAnswered : Command → Text → ℕ → Text → Type 0
 IsAnswered (Check false) input status text = (plan : Plan) × IsPlanOf input plan × (status ≡ 0) × (text ≡ plan_line plan)
 IsAnswered (Check true) input status text = (plan : Plan) × (program : Program) × IsChecked input program plan × (status ≡ 0) × (text ≡ printed_of program)
-IsAnswered (Run workers g Plain) input status text = IsRunOf input (wanted_of g) status text
-IsAnswered (Run workers g Live) input status text = IsLiveRunOf input (wanted_of g) status text
-IsAnswered (Run workers g (Sites sites)) input status text = IsRunOf input (wanted_of g) status text
+IsAnswered (Run workers g kind) input status text = (plan : Plan) × IsPlanOf input plan × IsRunOutput kind plan (wanted_of g) status text
 IsAnswered (Avoid workers g kept) input status text = IsAvoidOf input workers (wanted_of g) status text
 IsAnswered (Record workers) input status text = IsRecordOf input status text
 IsAnswered Replay input status text = IsReplayOf input status text
 IsAnswered (Gen count) input status text = IsGenOf count status text
-IsAnswered (Pool workers g) input status text = IsRunOf input (wanted_of g) status text
+IsAnswered (Clock workers g live) input status text = IsClockRunOf input (kind_of live) (wanted_of g) status text
+IsAnswered (Pool workers g) input status text = (plan : Plan) × IsPlanOf input plan × IsRunOf plan (wanted_of g) status text

@@ -1,7 +1,9 @@
 pub mod Texts
 pub mod Programs
+pub mod Clocks
 pub mod Replays
 pub mod Runs
+pub mod ClockRuns
 pub mod Avoids
 pub mod Records
 pub mod Generated

@@ -6,7 +6,7 @@ use Rattle.armus_words.specs.Words.{Text}
 
 -- what is written where the words are no command
 abbrev pub usage_line : Text
-usage_line = line (codes "usage: armus check|run|avoid|record|replay|gen|pool")
+usage_line = line (codes "usage: armus check|run|avoid|record|replay|gen|clock|pool")
 
 -- the counts of a plan
 abbrev pub plan_line : Plan → Text

@@ -4,3 +4,4 @@ pub mod Status
 pub mod Serving
 pub mod TwoLines
 pub mod Programs
+pub mod ClockEnds

@@ -1,9 +1,11 @@
 // The command `gen`.
 ghost use Rattle.std.specs.Prelude.{◌≡◌, ◌≢◌, ◌<◌, ◌∷◌, ◌++◌, [], IfOk, OnOk, List as Seq, ℕ, if◌then◌else◌, length};
+ghost use Rattle.armus_base.specs.Plans.{Plan};
 ghost use Rattle.adaptive.specs.declared.analysis.Wanted.{Wanted};
 ghost use Rattle.gen_text.specs.Generated.{generated_text};
 ghost use Rattle.schedule.specs.Lines.{IsCut};
 ghost use Rattle.pl_syntax.specs.Printed.{line};
+ghost use Rattle.armus_top.specs.Programs.{IsPlanOf};
 ghost use Rattle.armus_top.specs.Runs.{IsRunOf};
 ghost use Rattle.armus_top.specs.Generated.{IsFirstAndLast};
 ghost use Rattle.armus_top.specs.inside.TwoLines.{HasTwoLines};
@@ -78,7 +80,7 @@ fn run_generated<R: Threads + Sync, K: Sink, G: Gate>(
     out: &mut K,
     gate: &G,
 ) -> Result<FinalReport, InputEnd>
-    ensures run { IfOk result (λ r. IsRunOf (generated_text count) Wanted.Auto (if r.has_dead then 1 else 0) r.text) }
+    ensures run { IfOk result (λ r. (plan : Plan) × IsPlanOf (generated_text count) plan × IsRunOf plan Wanted.Auto (if r.has_dead then 1 else 0) r.text) }
     ensures unwritten { out.new ≡ out.old }
 {
     let text = gen_text(alloc, count)?;

@@ -3,6 +3,7 @@
 
 mod avoiding;
 mod checking;
+mod clocking;
 mod generating;
 mod input;
 mod laws;

@@ -1,13 +1,13 @@
 // The command `pool`.
 ghost use Rattle.std.specs.Prelude.{◌≡◌, ◌≢◌, ◌≤◌, Some, length};
 ghost use Rattle.armus_base.specs.CheckedPlans.{IsCheckedPlan};
-ghost use Rattle.armus_words.specs.Words.{Text};
-ghost use Rattle.armus_top.specs.Programs.{IsPlanOf};
+ghost use Rattle.armus_top.specs.Commands.{wanted_of};
+ghost use Rattle.armus_top.specs.Runs.{IsRunOf};
 ghost use Rattle.armus_top.specs.declared.programs.TheConstants.{MAX_TEXT_BYTES};
 ghost use Rattle.armus_top.specs.Headline.{Ends, passage};
 ghost use Rattle.armus_top.specs.inside.Serving.{MayWork};
 ghost use Rattle.armus_top.specs.inside.Status.{number_of_status};
-ghost use Rattle.armus_top.specs.inside.Writing.{Answered};
+ghost use Rattle.armus_top.specs.inside.Writing.{Answered, LeavesOutput};
 ghost use Rattle.armus_words.specs.declared.command.Command.TheVariants.{Pool};
 
 use crate::input::input_of;
@@ -34,8 +34,7 @@ fn answer_pool<R: Threads + Wait + Sync, K: Sink, G: Gate>(
 ) -> ExitStatus
     requires workers { MayWork workers }
     requires checked { IsCheckedPlan plan.now }
-    ensures done { (input : Text) → IsPlanOf input plan.now
-        → Answered (Pool workers graph) input (passage K.taken K.faults out.old out.new) (number_of_status result) }
+    ensures done { LeavesOutput (IsRunOf plan.now (wanted_of graph)) (passage K.taken K.faults out.old out.new) (number_of_status result) }
     ensures silent { number_of_status result ≢ 4 }
 {
     let options = options_of(workers, graph, false);

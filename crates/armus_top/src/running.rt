@@ -1,15 +1,15 @@
 // The command `run`.
 ghost use Rattle.std.specs.Prelude.{◌≡◌, ◌≢◌, ◌≤◌, Some, IfOk, false, length};
 ghost use Rattle.armus_base.specs.CheckedPlans.{IsCheckedPlan};
-ghost use Rattle.armus_top.specs.Programs.{IsPlanOf};
-ghost use Rattle.armus_words.specs.Words.{Text};
+ghost use Rattle.armus_top.specs.Commands.{wanted_of};
+ghost use Rattle.armus_top.specs.Runs.{IsRunOf, IsRunOutput, kind_of};
 ghost use Rattle.armus_top.specs.declared.programs.TheConstants.{MAX_TEXT_BYTES};
 ghost use Rattle.armus_top.specs.Headline.{Ends, passage};
-ghost use Rattle.armus_top.specs.inside.Serving.{MayHaveSites, MayWork, kind_of};
+ghost use Rattle.armus_top.specs.inside.Serving.{MayHaveSites, MayWork};
 ghost use Rattle.armus_top.specs.inside.Status.{number_of_status};
-ghost use Rattle.armus_top.specs.inside.Writing.{Answered};
+ghost use Rattle.armus_top.specs.inside.Writing.{Answered, LeavesOutput};
 ghost use Rattle.armus_words.specs.declared.command.Command.TheVariants.{Run};
-ghost use Rattle.armus_words.specs.declared.command.RunKind.TheVariants.{Plain, Sites};
+ghost use Rattle.armus_words.specs.declared.command.RunKind.TheVariants.{Sites};
 ghost use Rattle.armus_words.specs.declared.table.TheConstants.{MAX_SITES};
 ghost use Rattle.task_runner.specs.PlainRuns.{IsPlainEnd};
 
@@ -38,8 +38,7 @@ fn answer_without_sites<R: Threads + Sync, K: Sink, G: Gate>(
 ) -> ExitStatus
     requires workers { MayWork workers }
     requires checked { IsCheckedPlan plan.now }
-    ensures done { (input : Text) → IsPlanOf input plan.now
-        → Answered (Run workers graph (kind_of live)) input (passage K.taken K.faults out.old out.new) (number_of_status result) }
+    ensures done { LeavesOutput (IsRunOutput (kind_of live) plan.now (wanted_of graph)) (passage K.taken K.faults out.old out.new) (number_of_status result) }
     ensures silent { number_of_status result ≢ 4 }
 {
     let options = options_of(workers, graph, live);
@@ -59,8 +58,7 @@ fn answer_alone<K: Sink, G: Gate>(
     gate: &G,
 ) -> ExitStatus
     requires checked { IsCheckedPlan plan.now }
-    ensures done { (input : Text) → IsPlanOf input plan.now
-        → Answered (Run 1 graph Plain) input (passage K.taken K.faults out.old out.new) (number_of_status result) }
+    ensures done { LeavesOutput (IsRunOf plan.now (wanted_of graph)) (passage K.taken K.faults out.old out.new) (number_of_status result) }
     ensures silent { number_of_status result ≢ 4 }
 {
     let options = options_of(1, graph, false);
@@ -115,8 +113,7 @@ fn answer_with_sites<R: Threads + Sync, K: Sink, G: Gate>(
     requires workers { MayWork workers }
     requires sites { MayHaveSites (Sites sites) }
     requires checked { IsCheckedPlan plan.now }
-    ensures done { (input : Text) → IsPlanOf input plan.now
-        → Answered (Run workers graph (Sites sites)) input (passage K.taken K.faults out.old out.new) (number_of_status result) }
+    ensures done { LeavesOutput (IsRunOf plan.now (wanted_of graph)) (passage K.taken K.faults out.old out.new) (number_of_status result) }
     ensures silent { number_of_status result ≢ 4 }
 {
     let options = options_of(workers, graph, false);
@@ -126,8 +123,8 @@ fn answer_with_sites<R: Threads + Sync, K: Sink, G: Gate>(
     }
 }
 
-// Runs the plan, with what the kind says beside it, and writes the report of its end.
-fn answer_run<R: Threads + Sync, K: Sink, G: Gate>(
+/// Runs the plan, with what the kind says beside it, and writes the report of its end.
+pub fn answer_run<R: Threads + Sync, K: Sink, G: Gate>(
     rt: &R,
     alloc: Global,
     workers: u8,
@@ -140,8 +137,7 @@ fn answer_run<R: Threads + Sync, K: Sink, G: Gate>(
     requires workers { MayWork workers }
     requires sites { MayHaveSites kind }
     requires checked { IsCheckedPlan plan.now }
-    ensures done { (input : Text) → IsPlanOf input plan.now
-        → Answered (Run workers graph kind) input (passage K.taken K.faults out.old out.new) (number_of_status result) }
+    ensures done { LeavesOutput (IsRunOutput kind plan.now (wanted_of graph)) (passage K.taken K.faults out.old out.new) (number_of_status result) }
     ensures silent { number_of_status result ≢ 4 }
 {
     match kind {

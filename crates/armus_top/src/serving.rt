@@ -8,6 +8,7 @@ ghost use Rattle.armus_top.specs.inside.Writing.{Finished};
 
 use crate::avoiding::avoid;
 use crate::checking::check;
+use crate::clocking::clock;
 use crate::generating::generate;
 use crate::pooling::pool;
 use crate::recording::record;
@@ -21,7 +22,7 @@ use std::alloc::Global;
 use std::sync::Wait;
 use std::thread::Threads;
 
-const USAGE: &str = "usage: armus check|run|avoid|record|replay|gen|pool\n";
+const USAGE: &str = "usage: armus check|run|avoid|record|replay|gen|clock|pool\n";
 
 // No command.
 fn usage<K: Sink>(out: &mut K) -> ExitStatus
@@ -60,6 +61,11 @@ fn serve_plain<R: Threads + Sync, S: Source, K: Sink, G: Gate>(
         Command::Record { .. } | Command::Pool { .. } => unreachable!(),
         Command::Replay => replay(alloc, src, out),
         Command::Gen { count } => generate(rt, alloc, count, out, gate),
+        Command::Clock {
+            workers,
+            graph,
+            live,
+        } => clock(rt, alloc, workers, graph, live, src, out, gate),
     }
 }
 

@@ -1,6 +1,7 @@
 // The worked rows of the program, as tables: a file for each command, one for words that are none, and one for sources and sinks that fail.
 mod avoid;
 mod check;
+mod clock;
 mod generated;
 mod large;
 mod outside;

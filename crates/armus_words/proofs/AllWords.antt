@@ -6,7 +6,7 @@ use Rattle.armus_words.specs.Words.{Text, AreUses, AreWords, Use, StandsAlone, a
 use Rattle.armus_words.specs.Commands.{given_by}
 use Rattle.armus_words.specs.inside.Rules.{app_for}
 use Rattle.armus_words.specs.declared.table.FirstWord.{FirstWord}
-use Rattle.armus_words.specs.declared.table.FirstWord.TheVariants.{Check, Run, Avoid, Record, Replay, Gen, Pool}
+use Rattle.armus_words.specs.declared.table.FirstWord.TheVariants.{Check, Run, Avoid, Record, Replay, Gen, Clock, Pool}
 use Rattle.armus_words.proofs.Matches.{HoldsGiven, uses_given, uses_taken}
 use Rattle.armus_words.proofs.Generated.{gen_given, gen_taken}
 
@@ -37,6 +37,8 @@ form_reads Record words uses None form = rw form.words_are (with_options Record 
 form_reads Record words uses (Some v) form = absurd form.alone_fits
 form_reads Replay words uses None form = rw form.words_are (with_options Replay uses refl form.uses_fit)
 form_reads Replay words uses (Some v) form = absurd form.alone_fits
+form_reads Clock words uses None form = rw form.words_are (with_options Clock uses refl form.uses_fit)
+form_reads Clock words uses (Some v) form = absurd form.alone_fits
 form_reads Pool words uses None form = rw form.words_are (with_options Pool uses refl form.uses_fit)
 form_reads Pool words uses (Some v) form = absurd form.alone_fits
 form_reads Gen words uses None form = absurd form.alone_fits

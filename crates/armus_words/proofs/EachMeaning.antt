@@ -14,12 +14,12 @@ use Rattle.armus_words.specs.declared.table.FirstWord.TheVariants as first
 use Rattle.armus_words.specs.declared.command.Graph.{Graph}
 use Rattle.armus_words.specs.declared.command.Graph.TheVariants.{Auto, Wfg, Sg, Grg}
 use Rattle.armus_words.specs.declared.command.Command.{Command}
-use Rattle.armus_words.specs.declared.command.Command.TheVariants.{Check, Run, Avoid, Record, Replay, Gen, Pool}
+use Rattle.armus_words.specs.declared.command.Command.TheVariants.{Check, Run, Avoid, Record, Replay, Gen, Clock, Pool}
 use Rattle.armus_words.specs.declared.command.RunKind.{RunKind}
 use Rattle.armus_words.specs.declared.command.RunKind.TheVariants as kinds
 use Rattle.armus_words.specs.declared.table.TheConstants.{DEFAULT_WORKERS, MAX_GENERATED, MAX_SITES, MAX_WORKERS}
 use Rattle.armus_words.proofs.FormLemmas.{form_fits, form_from}
-use Rattle.armus_words.proofs.Meaning.{Begins, SameForm, avoid, begins_with, generate, pool, record_run, run, same_form}
+use Rattle.armus_words.proofs.Meaning.{Begins, SameForm, avoid, begins_with, clock, generate, pool, record_run, run, same_form}
 
 -- ---- the form
 
@@ -155,6 +155,9 @@ no_pool given none _ (pool w g) is = none w g is
 no_avoid : (given : Given) → ((w : ℕ) (g : Graph) → Works given w g → ⊥) → (c : Command) → Begins first.Avoid c → Reads c given → ⊥
 no_avoid given none _ (avoid w g k) is = none w g (is.0, is.1)
 
+no_clock : (given : Given) → ((w : ℕ) (g : Graph) → Works given w g → ⊥) → (c : Command) → Begins first.Clock c → Reads c given → ⊥
+no_clock given none _ (clock w g k) is = none w g (is.0, is.1)
+
 no_record : (given : Given) → ((w : ℕ) → AreWorkers given.workers w → ⊥) → (c : Command) → Begins first.Record c → Reads c given → ⊥
 no_record given none _ (record_run w) is = none w is
 
@@ -192,6 +195,8 @@ reads_or_not first.Record given =
 reads_or_not first.Replay given = inl (Replay, refl, tt)
 reads_or_not first.Gen given =
     elim (generated_or_not given.alone) [ inl is ↦ inl (Gen is.0, refl, is.1) | inr none ↦ inr (none_reads first.Gen given (no_gen given none)) ]
+reads_or_not first.Clock given =
+    elim (works_or_not given) [ inl is ↦ inl (Clock is.0 is.1 given.live, refl, (is.2.0, is.2.1, refl)) | inr none ↦ inr (none_reads first.Clock given (no_clock given none)) ]
 reads_or_not first.Pool given =
     elim (works_or_not given) [ inl is ↦ inl (Pool is.0 is.1, refl, is.2) | inr none ↦ inr (none_reads first.Pool given (no_pool given none)) ]
 

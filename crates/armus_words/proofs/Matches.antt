@@ -246,6 +246,7 @@ matches_are first.Avoid ws e = refl
 matches_are first.Record ws e = refl
 matches_are first.Replay ws e = refl
 matches_are first.Gen ws e = absurd (cc)
+matches_are first.Clock ws e = refl
 matches_are first.Pool ws e = refl
 
 -- what clap asks of the words, by the walk over them
@@ -265,6 +266,7 @@ takes_are first.Avoid ws e = refl
 takes_are first.Record ws e = refl
 takes_are first.Replay ws e = refl
 takes_are first.Gen ws e = absurd (cc)
+takes_are first.Clock ws e = refl
 takes_are first.Pool ws e = refl
 
 at_end : (f : FirstWord) (h : Held) (a b : Bool) → has_value_alone f ≡ false → a ≡ true → b ≡ true
@@ -277,6 +279,7 @@ at_end first.Avoid h a b e p q = rw (p, q) refl
 at_end first.Record h a b e p q = rw (p, q) refl
 at_end first.Replay h a b e p q = rw (p, q) refl
 at_end first.Gen h a b e p q = absurd (cc)
+at_end first.Clock h a b e p q = rw (p, q) refl
 at_end first.Pool h a b e p q = rw (p, q) refl
 
 pub uses_taken : (f : FirstWord) (us : List Use) → has_value_alone f ≡ false → AreUses (λ o. has_option o (options_of f)) us
@@ -300,4 +303,5 @@ simple first.Avoid = refl
 simple first.Record = refl
 simple first.Replay = refl
 simple first.Gen = refl
+simple first.Clock = refl
 simple first.Pool = refl

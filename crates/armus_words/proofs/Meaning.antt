@@ -17,7 +17,7 @@ use Rattle.armus_words.specs.declared.table.OptionWord.TheVariants.{Print, Worke
 use Rattle.armus_words.specs.declared.command.Graph.{Graph}
 use Rattle.armus_words.specs.declared.command.Graph.TheVariants.{Auto, Wfg, Sg, Grg}
 use Rattle.armus_words.specs.declared.command.Command.{Command}
-use Rattle.armus_words.specs.declared.command.Command.TheVariants.{Check, Run, Avoid, Record, Replay, Gen, Pool}
+use Rattle.armus_words.specs.declared.command.Command.TheVariants.{Check, Run, Avoid, Record, Replay, Gen, Clock, Pool}
 use Rattle.armus_words.specs.declared.command.RunKind.{RunKind}
 use Rattle.armus_words.specs.declared.command.RunKind.TheVariants as kinds
 
@@ -32,6 +32,7 @@ first_is first.Avoid = refl
 first_is first.Record = refl
 first_is first.Replay = refl
 first_is first.Gen = refl
+first_is first.Clock = refl
 first_is first.Pool = refl
 
 pub named_is : (o : OptionWord) → option_named (dashed o) ≡ Some o
@@ -173,6 +174,7 @@ pub data Begins : FirstWord → Command → Type 0 where
   record_run : (workers : ℕ) → Begins first.Record (Record workers)
   replay : Begins first.Replay Replay
   generate : (count : ℕ) → Begins first.Gen (Gen count)
+  clock : (workers : ℕ) (graph : Graph) (live : Bool) → Begins first.Clock (Clock workers graph live)
   pool : (workers : ℕ) (graph : Graph) → Begins first.Pool (Pool workers graph)
 
 begins : (c : Command) → Begins (first_of c) c
@@ -182,6 +184,7 @@ begins (Avoid workers graph kept) = avoid workers graph kept
 begins (Record workers) = record_run workers
 begins Replay = replay
 begins (Gen count) = generate count
+begins (Clock workers graph live) = clock workers graph live
 begins (Pool workers graph) = pool workers graph
 
 pub begins_with : (f : FirstWord) (c : Command) → first_of c ≡ f → Begins f c
@@ -205,6 +208,12 @@ same_avoid w v g h k l given p q =
     let graph_is : g ≡ h = one_graph given.graph g h p.1 q.1 in
     let kept_is : k ≡ l = p.2 ∙ sym q.2 in cc
 
+same_clock : (w v : ℕ) (g h : Graph) (k l : Bool) (given : Given) → Reads (Clock w g k) given → Reads (Clock v h l) given → Clock w g k ≡ Clock v h l
+same_clock w v g h k l given p q =
+    let workers_are : w ≡ v = one_workers given.workers w v p.0 q.0 in
+    let graph_is : g ≡ h = one_graph given.graph g h p.1 q.1 in
+    let live_is : k ≡ l = p.2 ∙ sym q.2 in cc
+
 one_reading : (f : FirstWord) (c d : Command) (given : Given) → Begins f c → Begins f d → Reads c given → Reads d given → c ≡ d
 one_reading _ _ _ given (check a) (check b) p q = ap Check (p ∙ sym q)
 one_reading _ _ _ given (run w g k) (run v h l) p q = same_run w v g h k l given p q
@@ -212,6 +221,7 @@ one_reading _ _ _ given (avoid w g k) (avoid v h l) p q = same_avoid w v g h k l
 one_reading _ _ _ given (record_run w) (record_run v) p q = ap Record (one_workers given.workers w v p q)
 one_reading _ _ _ given replay replay p q = refl
 one_reading _ _ _ given (generate n) (generate k) p q = ap Gen (one_generated given.alone n k p q)
+one_reading _ _ _ given (clock w g k) (clock v h l) p q = same_clock w v g h k l given p q
 one_reading _ _ _ given (pool w g) (pool v h) p q = same_pool w v g h given p q
 
 -- words have the form of one first word alone

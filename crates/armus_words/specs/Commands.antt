@@ -8,7 +8,7 @@ use Rattle.armus_words.specs.declared.table.OptionWord.TheVariants as option
 use Rattle.armus_words.specs.declared.command.Graph.{Graph}
 use Rattle.armus_words.specs.declared.command.Graph.TheVariants.{Auto, Wfg, Sg, Grg}
 use Rattle.armus_words.specs.declared.command.Command.{Command}
-use Rattle.armus_words.specs.declared.command.Command.TheVariants.{Check, Run, Avoid, Record, Replay, Gen, Pool}
+use Rattle.armus_words.specs.declared.command.Command.TheVariants.{Check, Run, Avoid, Record, Replay, Gen, Clock, Pool}
 use Rattle.armus_words.specs.declared.command.RunKind.{RunKind}
 use Rattle.armus_words.specs.declared.command.RunKind.TheVariants.{Plain, Live, Sites}
 use Rattle.armus_words.specs.declared.table.TheConstants.{MAX_WORKERS, DEFAULT_WORKERS, MAX_GENERATED, MAX_SITES}
@@ -21,6 +21,7 @@ first_of (Avoid workers graph kept) = first.Avoid
 first_of (Record workers) = first.Record
 first_of Replay = first.Replay
 first_of (Gen count) = first.Gen
+first_of (Clock workers graph live) = first.Clock
 first_of (Pool workers graph) = first.Pool
 
 -- the text writes this number in decimal digits, which is at least 1 and at most the given one
@@ -89,6 +90,7 @@ Reads (Avoid workers graph kept) given = AreWorkers given.workers workers × IsW
 Reads (Record workers) given = AreWorkers given.workers workers
 Reads Replay given = Unit {0}
 Reads (Gen count) given = IsGenerated given.alone count
+Reads (Clock workers graph live) given = AreWorkers given.workers workers × IsWantedGraph given.graph graph × (live ≡ given.live)
 Reads (Pool workers graph) given = AreWorkers given.workers workers × IsWantedGraph given.graph graph
 
 -- the words are this command

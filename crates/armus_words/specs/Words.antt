@@ -3,10 +3,10 @@ use Rattle.std.specs.Prelude.{◌≡◌, ◌≤◌, ℕ, Bool, true, false, ◌&
 use Rattle.std.specs.List.{list_all, list_any}
 use Rattle.std.specs.Str.{bytes_eq}
 use Rattle.armus_words.specs.declared.table.FirstWord.{FirstWord}
-use Rattle.armus_words.specs.declared.table.FirstWord.TheVariants.{Check, Run, Avoid, Record, Replay, Gen, Pool}
+use Rattle.armus_words.specs.declared.table.FirstWord.TheVariants.{Check, Run, Avoid, Record, Replay, Gen, Clock, Pool}
 use Rattle.armus_words.specs.declared.table.OptionWord.{OptionWord}
 use Rattle.armus_words.specs.declared.table.OptionWord.TheVariants.{Print, Workers, Graph, Live, Kept, Sites}
-use Rattle.armus_words.specs.declared.table.TheConstants.{CHECK, RUN, AVOID, RECORD, REPLAY, GEN, POOL, PRINT, WORKERS, GRAPH, LIVE, KEPT, SITES, MAX_VALUE_BYTES}
+use Rattle.armus_words.specs.declared.table.TheConstants.{CHECK, RUN, AVOID, RECORD, REPLAY, GEN, CLOCK, POOL, PRINT, WORKERS, GRAPH, LIVE, KEPT, SITES, MAX_VALUE_BYTES}
 
 -- a text is the list of its bytes
 abbrev pub Text : Type 0
@@ -22,6 +22,7 @@ first_word Avoid = AVOID.now
 first_word Record = RECORD.now
 first_word Replay = REPLAY.now
 first_word Gen = GEN.now
+first_word Clock = CLOCK.now
 first_word Pool = POOL.now
 
 -- the options of a command
@@ -32,6 +33,7 @@ options_of Avoid = Workers ∷ Graph ∷ Kept ∷ []
 options_of Record = Workers ∷ []
 options_of Replay = []
 options_of Gen = []
+options_of Clock = Workers ∷ Graph ∷ Live ∷ []
 options_of Pool = Workers ∷ Graph ∷ []
 
 -- a value stands by itself after the command's options
@@ -42,6 +44,7 @@ has_value_alone Avoid = false
 has_value_alone Record = false
 has_value_alone Replay = false
 has_value_alone Gen = true
+has_value_alone Clock = false
 has_value_alone Pool = false
 
 -- the name of an option, without its two hyphens

@@ -54,6 +54,12 @@ pub enum Command {
     Gen {
         count: u16,
     },
+    /// Runs a clock text by rounds and reports its final state; live, with a line for each dead task as soon as it is found.
+    Clock {
+        workers: u8,
+        graph: Graph,
+        live: bool,
+    },
     /// Runs a text without rounds, where each free worker claims the next task, and reports its final state.
     Pool {
         workers: u8,

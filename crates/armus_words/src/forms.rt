@@ -174,6 +174,12 @@ fn options_at(first: FirstWord) -> Free
             ..NONE
         },
         FirstWord::Replay | FirstWord::Gen => NONE,
+        FirstWord::Clock => Free {
+            workers: true,
+            graph: true,
+            live: true,
+            ..NONE
+        },
         FirstWord::Pool => Free {
             workers: true,
             graph: true,

@@ -99,6 +99,15 @@ fn command_of(first: FirstWord, values: &Values<'_>) -> Option<Command>
             let count = generated_in(values.alone)?;
             Some(Command::Gen { count })
         }
+        FirstWord::Clock => {
+            let workers = workers_in(values.workers)?;
+            let graph = wanted_in(values.graph)?;
+            Some(Command::Clock {
+                workers,
+                graph,
+                live: values.live,
+            })
+        }
         FirstWord::Pool => {
             let workers = workers_in(values.workers)?;
             let graph = wanted_in(values.graph)?;

@@ -35,6 +35,9 @@ pub const REPLAY: &str = "replay";
 /// The word of `gen`.
 pub const GEN: &str = "gen";
 
+/// The word of `clock`.
+pub const CLOCK: &str = "clock";
+
 /// The word of `pool`.
 pub const POOL: &str = "pool";
 
@@ -60,13 +63,14 @@ pub const SITES: &str = "sites";
 pub const ALONE: &str = "count";
 
 /// All first words.
-pub const FIRST_WORDS: [FirstWord; 7] = [
+pub const FIRST_WORDS: [FirstWord; 8] = [
     FirstWord::Check,
     FirstWord::Run,
     FirstWord::Avoid,
     FirstWord::Record,
     FirstWord::Replay,
     FirstWord::Gen,
+    FirstWord::Clock,
     FirstWord::Pool,
 ];
 
@@ -89,6 +93,7 @@ pub enum FirstWord {
     Record,
     Replay,
     Gen,
+    Clock,
     Pool,
 }
 
@@ -104,6 +109,7 @@ impl FirstWord {
             FirstWord::Record => RECORD,
             FirstWord::Replay => REPLAY,
             FirstWord::Gen => GEN,
+            FirstWord::Clock => CLOCK,
             FirstWord::Pool => POOL,
         }
     }
@@ -119,6 +125,7 @@ impl FirstWord {
             | FirstWord::Avoid
             | FirstWord::Record
             | FirstWord::Replay
+            | FirstWord::Clock
             | FirstWord::Pool => false,
         }
     }

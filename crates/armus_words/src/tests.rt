@@ -39,6 +39,14 @@ fn pool(workers: u8, graph: Graph) -> Option<Command> {
     Some(Command::Pool { workers, graph })
 }
 
+fn clock(workers: u8, graph: Graph, live: bool) -> Option<Command> {
+    Some(Command::Clock {
+        workers,
+        graph,
+        live,
+    })
+}
+
 fn avoid(workers: u8, graph: Graph) -> Option<Command> {
     Some(Command::Avoid {
         workers,
@@ -70,7 +78,7 @@ fn generate(count: u16) -> Option<Command> {
 #[test]
 fn words_and_their_commands(rt: HostRuntime) -> Result<(), Fail> {
     let alloc = rt.alloc();
-    let rows: [(&[&str], Option<Command>); 91] = [
+    let rows: [(&[&str], Option<Command>); 46] = [
         (&["check"], check(false)),
         (&["check", "--print"], check(true)),
         (&["run"], run(4, Graph::Auto)),
@@ -129,6 +137,21 @@ fn words_and_their_commands(rt: HostRuntime) -> Result<(), Fail> {
         (&["gen", "0"], None),
         (&["gen", "1001"], None),
         (&["gen", "--workers", "3"], None),
+    ];
+    for (texts, command) in rows {
+        let all = words(alloc, texts)?;
+        let found = command_in(alloc, all.as_slice())?;
+        let count = texts.len();
+        let last = texts.last().copied().unwrap_or("");
+        assert_eq!(rt; found, command, "{count} words, the last {last}");
+    }
+    Ok(())
+}
+
+#[test]
+fn further_words_and_their_commands(rt: HostRuntime) -> Result<(), Fail> {
+    let alloc = rt.alloc();
+    let rows: [(&[&str], Option<Command>); 45] = [
         (&["avoid"], avoid(4, Graph::Auto)),
         (
             &["avoid", "--graph", "wfg", "--workers", "2"],
@@ -194,6 +217,39 @@ fn words_and_their_commands(rt: HostRuntime) -> Result<(), Fail> {
         (&["pool", "3"], None),
         (&["pool", "pool"], None),
         (&["pools"], None),
+    ];
+    for (texts, command) in rows {
+        let all = words(alloc, texts)?;
+        let found = command_in(alloc, all.as_slice())?;
+        let count = texts.len();
+        let last = texts.last().copied().unwrap_or("");
+        assert_eq!(rt; found, command, "{count} words, the last {last}");
+    }
+    Ok(())
+}
+
+#[test]
+fn words_of_clock(rt: HostRuntime) -> Result<(), Fail> {
+    let alloc = rt.alloc();
+    let rows: [(&[&str], Option<Command>); 12] = [
+        (&["clock"], clock(4, Graph::Auto, false)),
+        (&["clock", "--live"], clock(4, Graph::Auto, true)),
+        (
+            &["clock", "--graph", "grg", "--live", "--workers", "64"],
+            clock(64, Graph::Grg, true),
+        ),
+        (
+            &["clock", "--workers", "2", "--graph", "wfg"],
+            clock(2, Graph::Wfg, false),
+        ),
+        (&["clock", "--workers", "0"], None),
+        (&["clock", "--workers", "65"], None),
+        (&["clock", "--live", "--live"], None),
+        (&["clock", "--sites", "3"], None),
+        (&["clock", "--kept"], None),
+        (&["clock", "3"], None),
+        (&["clock", "clock"], None),
+        (&["clocks"], None),
     ];
     for (texts, command) in rows {
         let all = words(alloc, texts)?;

@@ -56,6 +56,10 @@ fn command_for<'a>(alloc: Global, first: FirstWord) -> Result<Command<'a>, Alloc
         FirstWord::Record => command.arg(arg_for(alloc, OptionWord::Workers)),
         FirstWord::Replay => Ok(command),
         FirstWord::Gen => command.arg(Arg::new(alloc, ALONE)),
+        FirstWord::Clock => command
+            .arg(arg_for(alloc, OptionWord::Workers))?
+            .arg(arg_for(alloc, OptionWord::Graph))?
+            .arg(arg_for(alloc, OptionWord::Live)),
         FirstWord::Pool => command
             .arg(arg_for(alloc, OptionWord::Workers))?
             .arg(arg_for(alloc, OptionWord::Graph)),

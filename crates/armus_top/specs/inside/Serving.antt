@@ -1,7 +1,7 @@
 -- Which commands are served where.
-use Rattle.std.specs.Prelude.{◌≤◌, ℕ, Bool, true, false, Option, Some, None}
+use Rattle.std.specs.Prelude.{◌≤◌, ℕ, Option, Some, None}
 use Rattle.armus_words.specs.declared.command.Command.{Command}
-use Rattle.armus_words.specs.declared.command.Command.TheVariants.{Check, Run, Avoid, Record, Replay, Gen, Pool}
+use Rattle.armus_words.specs.declared.command.Command.TheVariants.{Check, Run, Avoid, Record, Replay, Gen, Clock, Pool}
 use Rattle.armus_words.specs.declared.command.RunKind.{RunKind}
 use Rattle.armus_words.specs.declared.command.RunKind.TheVariants.{Plain, Live, Sites}
 use Rattle.armus_words.specs.declared.table.TheConstants.{MAX_SITES, MAX_WORKERS}
@@ -16,11 +16,6 @@ MayHaveSites Plain = Unit {0}
 MayHaveSites Live = Unit {0}
 MayHaveSites (Sites sites) = (1 ≤ sites) × (sites ≤ MAX_SITES)
 
--- the kind of a run without sites: with live lines, or without
-abbrev pub kind_of : Bool → RunKind
-kind_of true = Live
-kind_of false = Plain
-
 -- the command waits for no thread, and a run of it may have its workers and its sites
 abbrev pub WaitsForNoThread : Command → Type 0
 WaitsForNoThread (Check print) = Unit {0}
@@ -29,6 +24,7 @@ WaitsForNoThread (Avoid workers g kept) = MayWork workers
 WaitsForNoThread (Record workers) = ⊥
 WaitsForNoThread Replay = Unit {0}
 WaitsForNoThread (Gen count) = Unit {0}
+WaitsForNoThread (Clock workers g live) = MayWork workers
 WaitsForNoThread (Pool workers g) = ⊥
 
 -- the command waits for threads, and a run of it may have its workers

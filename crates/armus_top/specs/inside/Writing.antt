@@ -27,11 +27,15 @@ abbrev pub TellsEnd : InputEnd → Passage → ℕ → Type 0
 TellsEnd (Refused why) out number = Refuses why out number
 TellsEnd NoMemory out number = (number ≡ 6) × IsSound out × Keeps out.before out.after
 
--- what a command leaves that works on this input: one of its outputs was written; or memory was wanting, and nothing was written, or some first bytes of an output
-pub data Answered (c : Command) (input : Text) (out : Passage) (number : ℕ) : Type 0 where
-  wrote : (status : ℕ) (text : Text) → Answers c input status text → Finished out text status number → Answered c input out number
-  nothing : number ≡ 6 → IsSound out → Keeps out.before out.after → Answered c input out number
-  part : (status : ℕ) (text : Text) → Answers c input status text → number ≡ 6 → IsSound out → TookFront out.before out.after text → Answered c input out number
+-- what is left where one of these outputs was to be written: it was; or memory was wanting, and nothing was written, or some first bytes of one
+pub data LeavesOutput (IsOutput : ℕ → Text → Type 0) (out : Passage) (number : ℕ) : Type 0 where
+  wrote : (status : ℕ) (text : Text) → IsOutput status text → Finished out text status number → LeavesOutput IsOutput out number
+  nothing : number ≡ 6 → IsSound out → Keeps out.before out.after → LeavesOutput IsOutput out number
+  part : (status : ℕ) (text : Text) → IsOutput status text → number ≡ 6 → IsSound out → TookFront out.before out.after text → LeavesOutput IsOutput out number
+
+-- what a command leaves that works on this input: one of its outputs
+abbrev pub Answered : Command → Text → Passage → ℕ → Type 0
+Answered c input out number = LeavesOutput (Answers c input) out number
 
 -- the report of the end and the status that tells whether a task is dead were written, or memory was wanting and nothing was
 abbrev pub WritesReport : Final → Wanted → Passage → ℕ → Type 0

@@ -32,7 +32,7 @@ fn rows_of_gen(rt: HostRuntime) -> Result<(), Fail> {
         (
             &["gen", "1001"],
             "",
-            "usage: armus check|run|avoid|record|replay|gen|pool\n",
+            "usage: armus check|run|avoid|record|replay|gen|clock|pool\n",
             2,
         ),
     ];

@@ -2,7 +2,7 @@
 use super::expect;
 use std::test::Fail;
 
-const USAGE: &str = "usage: armus check|run|avoid|record|replay|gen|pool\n";
+const USAGE: &str = "usage: armus check|run|avoid|record|replay|gen|clock|pool\n";
 
 #[test]
 fn words_that_are_no_command(rt: HostRuntime) -> Result<(), Fail> {

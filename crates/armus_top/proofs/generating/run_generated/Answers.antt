@@ -13,6 +13,9 @@ pub returns-in-Ok-clause-run : goal.returns-in-Ok-clause-run
 returns-in-Ok-clause-run g c =
     let plan = c.in_ok-checked.checked.plan in
     let report = c.in_ok-report_of-in-Ok.field-0 in
-    run_of (generated_text c.args.count) plan wanted.Auto c.in-Ok.ran.end report.has_dead report.text
-    (subst (λ t. IsPlanOf t plan) (c.as_slice.ensures.items ∙ c.in_ok-text.ensures.text) (c.in_ok-checked.checked.program, c.in_ok-checked.ensures.plan))
-    c.in-Ok.ensures.ran.end c.in_ok-report_of-in-Ok.ensures.dead c.in_ok-report_of-in-Ok.ensures.text
+    let plan_is = subst (λ t. IsPlanOf t plan) (c.as_slice.ensures.items ∙ c.in_ok-text.ensures.text) (c.in_ok-checked.checked.program, c.in_ok-checked.ensures.plan) in (
+      plan,
+      plan_is,
+      run_of plan wanted.Auto c.in-Ok.ran.end report.has_dead report.text (checked_plan (generated_text c.args.count) plan plan_is) c.in-Ok.ensures.ran.end
+          c.in_ok-report_of-in-Ok.ensures.dead c.in_ok-report_of-in-Ok.ensures.text,
+    )

@@ -1,0 +1,45 @@
+-- In the final state of a clock text's plan each task has ended as its activity stands at the ends of the direct machine.
+use Rattle.std.proofs.Common.{◌≡◌, ◌++◌, ℕ, [], refl, subst, sym}
+use Rattle.std.specs.Prelude.{Ok}
+use Rattle.armus_base.specs.Plans.{Plan}
+use Rattle.armus_base.specs.Runs.{IsFinal}
+use Rattle.armus_base.specs.States.{State}
+use Rattle.adaptive.specs.declared.analysis.Wanted.{Wanted}
+use Rattle.pl_plan.proofs.VisitsLeave.{bind_ok, ok_is}
+use Rattle.clock_syntax.specs.Trees.{ClockTree}
+use Rattle.clock_moves.specs.Unfolding.{ClockUnfolding, clock_plan_of, clock_unfolded, plan_of_moves}
+use Rattle.clock_machine.specs.Direct.{direct_opening}
+use Rattle.clock_machine.specs.Laws.{IsDirectEnd, moves_of}
+use Rattle.clock_machine.proofs.ClockEnds.{ends_are_those_of_tasks}
+use Rattle.clock_machine.proofs.ClockRuns.{runs_end}
+use Rattle.armus_words.specs.declared.command.RunKind.{RunKind}
+use Rattle.armus_words.specs.Words.{Text}
+use Rattle.armus_top.specs.Clocks.{IsClockPlanOf}
+use Rattle.armus_top.specs.ClockRuns.{HasDirectEnds, IsClockRunOf}
+use Rattle.armus_top.specs.Runs.{IsRunOutput}
+
+-- a program with a plan has an unfolding, whose plan it is
+unfolding_of : (program : ClockTree) (plan : Plan) → clock_plan_of program ≡ Ok plan → (u : ClockUnfolding) × (clock_unfolded program ≡ Ok u) × (plan_of_moves u ≡ plan)
+unfolding clock_plan_of
+unfolding_of program plan e =
+    let parts = bind_ok (clock_unfolded program) (λ s. Ok (plan_of_moves s)) plan e in (parts.0, parts.1, ok_is _ _ parts.2)
+
+direct_ends : (text : Text) (plan : Plan) → IsClockPlanOf text plan → (state : State) → IsFinal plan state → HasDirectEnds text state
+direct_ends text plan (program, reads, unfolds) state final =
+    let (u, opens, plan_is) = unfolding_of program plan unfolds in
+    let (more, r, run, rests) = runs_end program u [] (direct_opening (moves_of u)) opens refl in
+    let final_too : IsFinal (plan_of_moves u) state = subst (λ q. IsFinal q state) (sym plan_is) final in
+    record {
+      program = program;
+      reads = reads;
+      unfolded = u;
+      unfolds = opens;
+      some = (r, record { steps = more ++ []; run = run; at_rest = rests });
+      each = λ s t end below. ends_are_those_of_tasks program u s state t opens end final_too below;
+    }
+
+-- what is written of a run of the text's plan
+pub clock_run_of : (text : Text) (plan : Plan) (kind : RunKind) (g : Wanted) (status : ℕ) (output : Text) → IsClockPlanOf text plan
+    → IsRunOutput kind plan g status output → IsClockRunOf text kind g status output
+clock_run_of text plan kind g status output plan_is run =
+    record { plan = plan; plan_is = plan_is; run = run; direct = direct_ends text plan plan_is }
