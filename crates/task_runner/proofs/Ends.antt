@@ -8,7 +8,7 @@ use Rattle.armus_base.specs.declared.ending.Final.{Final}
 use Rattle.armus_base.specs.Finals.{final_of}
 use Rattle.armus_base.specs.Plans.{Aim, Action, Passes, Plan, Refuses, Drops}
 use Rattle.armus_base.specs.States.{IsActive, Step}
-use Rattle.armus_base.specs.Runs.{HasEnded, IsFinal, IsLegalRun, IsMaximal, IsPlain, IsReachable, is_done, is_waiting, next_place, places, state_after}
+use Rattle.armus_base.specs.Runs.{HasEnded, IsFinal, IsLegalRun, IsMaximal, IsPlain, IsPlainRun, IsReachable, is_done, is_waiting, next_place, places, state_after}
 use Rattle.armus_base.specs.Places.{refused_at}
 use Rattle.armus_base.specs.CheckedPlans.{IsCheckedPlan}
 use Rattle.armus_base.proofs.OneEnd.{one_end}
@@ -98,11 +98,15 @@ module _ (w : WorldValue) (checked : IsCheckedPlan w.plan) (reach : IsReachable 
       subst (λ s. HasEnded w.plan s (places reach.steps t) t) (sym same_state)
       (subst (λ p. HasEnded w.plan (state_of w) p t) (sym (reach.there t)) (ended t (ap (λ s. s.forked t) (sym same_state) ∙ forked)))
 
+  -- and plain
+  pub plain_there : IsPlainRun w.plan reach.steps
+  plain_there = (reach.run, unrefused_plain w.plan reach.steps reach.run (λ t. ap (λ p. p.dropped) (reach.there t) ∙ undropped_all w plain t))
+
   pub is_final : IsFinal w.plan (state_of w)
   is_final =
       record {
         steps = reach.steps;
-        run = (reach.run, unrefused_plain w.plan reach.steps reach.run (λ t. ap (λ p. p.dropped) (reach.there t) ∙ undropped_all w plain t));
+        run = plain_there;
         maximal = maximal_there;
         there = same_state;
       }

@@ -1,5 +1,6 @@
 pub mod Codes
 pub mod Ends
+pub mod EndWorlds
 pub mod RecordedEnds
 pub mod Remaining
 pub mod Rounds

@@ -3,9 +3,12 @@ ghost use Rattle.std.specs.Prelude.{◌≡◌, ℕ, Some, false, IfOk, length, s
 ghost use Rattle.armus_base.specs.Runs.{IsReachable};
 ghost use Rattle.pl_core.specs.declared.place.Place.{Place as KeptPlace};
 ghost use Rattle.pl_core.specs.Worlds.{places_at};
+ghost use Rattle.task_runner.specs.DetectRuns.{IsDetectRun};
+ghost use Rattle.task_runner.specs.EndWorlds.{IsWorldEnd};
 ghost use Rattle.task_runner.specs.PlainRuns.{IsPlainEnd};
 ghost use Rattle.task_runner.specs.inside.Turns.{NobodyRefused};
 
+use crate::Ran;
 use crate::world_round::round;
 use armus_base::{Final, Gate, NoMemory, Plan};
 use pl_core::{Place, World};
@@ -36,11 +39,53 @@ pub(crate) fn end_from<G: Gate>(
     end_of(alloc, world, plan, gate)
 }
 
-/// The end of the run that has come to this world, in which nobody is refused: turns go on by rounds in order of number until no task may go on. The gate
-/// is called before each op.
+/// The world in which a run ends, and the value of its state.
+#[derive(Drop)]
+pub struct WorldEnd<'p> {
+    /// The world: who stands where when no task may go on.
+    pub world: World<'p>,
+    /// The value of its state.
+    pub end: Final,
+}
+
+/// The world in which the run ends that has gone so far on a board: turns go on by rounds in order of number from the places at which its tasks stood
+/// there, until no task may go on. The gate is called before each op.
+pub fn end_world<'p, G: Gate>(
+    alloc: Global,
+    plan: &'p Plan,
+    ran: &Ran,
+    gate: &G,
+) -> Result<WorldEnd<'p>, NoMemory>
+    requires ran { IsDetectRun plan.now ran.now }
+    ensures end { IfOk result (IsWorldEnd plan.now) }
+{
+    let world = World::at(alloc, plan, ran.places.as_slice())?;
+    world_end(alloc, world, plan, gate)
+}
+
+// The world in which the run ends that has come to this world, in which nobody is refused: turns go on by rounds in order of number until no task may go
+// on. The gate is called before each op.
+fn world_end<'p, G: Gate>(
+    alloc: Global,
+    mut world: World<'p>,
+    plan: &Plan,
+    gate: &G,
+) -> Result<WorldEnd<'p>, NoMemory>
+    requires plan { world.plan ≡ plan.now }
+    requires plain { NobodyRefused world }
+    ensures end { IfOk result (IsWorldEnd plan.now) }
+{
+    let count = plan.tasks() as usize;
+    let mut forked = vec![in alloc; false; count]?;
+    while round(&mut world, &mut forked, gate) {}
+    let end = world.finish(alloc)?;
+    Ok(WorldEnd { world, end })
+}
+
+/// The end of the run that has come to this world, in which nobody is refused. The gate is called before each op.
 pub(crate) fn end_of<G: Gate>(
     alloc: Global,
-    mut world: World,
+    world: World,
     plan: &Plan,
     gate: &G,
 ) -> Result<Final, NoMemory>
@@ -48,8 +93,8 @@ pub(crate) fn end_of<G: Gate>(
     requires plain { NobodyRefused world }
     ensures end { IfOk result (λ end. IsPlainEnd plan.now end) }
 {
-    let count = plan.tasks() as usize;
-    let mut forked = vec![in alloc; false; count]?;
-    while round(&mut world, &mut forked, gate) {}
-    world.finish(alloc)
+    match world_end(alloc, world, plan, gate) {
+        Ok(ended) => Ok(ended.end),
+        Err(NoMemory) => Err(NoMemory),
+    }
 }

@@ -1,6 +1,6 @@
 use Rattle.std.proofs.Common.{◌≡◌, length}
 use Rattle.task_runner.specs.inside.Turns.{NobodyRefused, remaining}
-use Rattle.task_runner.proofs.ending.end_of.Given as goal
+use Rattle.task_runner.proofs.ending.world_end.Given as goal
 
 abbrev pub invariant-loop : goal.invariant-loop
 invariant-loop g l =
