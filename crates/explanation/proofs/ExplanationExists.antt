@@ -59,7 +59,7 @@ offsets_by text true body reads =
     let (left, ahead, (header, rest)) = two_body true text body refl reads in
     from_body text (record { two = true; body = body }) left header rest
 
-offsets_exist : (text : List ℕ) (p : Program) → IsText text p → (found : List ℕ) × AreOffsets text p found
+pub offsets_exist : (text : List ℕ) (p : Program) → IsText text p → (found : List ℕ) × AreOffsets text p found
 offsets_exist text p is = offsets_by text p.two p.body is.reads
 
 -- ---- the op at which a task stands

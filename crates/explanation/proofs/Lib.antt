@@ -9,3 +9,4 @@ pub mod Told
 pub mod OneExplanation
 pub mod ExplanationExists
 pub mod ImpedersBehind
+pub mod AwaitsAreWritten

@@ -1,5 +1,11 @@
 -- What is proved of explanations.
-use Rattle.std.specs.Prelude.{◌≡◌, ◌↔◌, ℕ, ◌<◌, Some, List, Contains, length}
+use Rattle.std.specs.Prelude.{◌≡◌, ◌↔◌, ℕ, suc, ◌<◌, Some, Ok, List, [], Contains, length, slice_get, slice_index_or}
+use Rattle.armus_base.specs.declared.ids.PhaserId.{PhaserId}
+use Rattle.armus_base.specs.declared.offset.Offset.{Offset}
+use Rattle.armus_base.specs.declared.op.Op.TheVariants.{Await}
+use Rattle.pl_plan.specs.Unfolding.{plan_of}
+use Rattle.origins.specs.Origins.{op_origin}
+use Rattle.explanation.specs.AwaitWords.{await_text, awaits_of}
 use Rattle.armus_base.specs.declared.event.Event.{Event}
 use Rattle.armus_base.specs.Plans.{Plan}
 use Rattle.armus_base.specs.Runs.{Place}
@@ -10,12 +16,12 @@ use Rattle.explanation.specs.Explanations.{IsExplanation}
 use Rattle.explanation.specs.Impeders.{impeders_in}
 use Rattle.explanation.specs.declared.impeders.Impeder.{Impeder}
 
--- there is one explanation of the places of a text's plan
+-- there is one explanation at most of the places of a text's plan
 abbrev pub OneExplanation : Type 0
 OneExplanation =
     (text : List ℕ) (p : Program) (plan : Plan) (a : ℕ → Place) (lines other : List ℕ) → IsExplanation text p plan a lines → IsExplanation text p plan a other → lines ≡ other
 
--- and there is one, of whatever places
+-- and there is one, of whatever places of whatever plan
 abbrev pub ExplanationExists : Type 0
 ExplanationExists = (text : List ℕ) (p : Program) (plan : Plan) (a : ℕ → Place) → IsText text p → (lines : List ℕ) × IsExplanation text p plan a lines
 
@@ -24,3 +30,9 @@ abbrev pub ImpedersAreBehind : Type 0
 ImpedersAreBehind =
     (plan : Plan) (s : State) (e : Event) (i : Impeder) → Contains (impeders_in plan s e) i ↔ (i.t.0 < length plan.parents × s.phases i.t.0 e.p.0 ≡ Some i.phase
     × i.phase < e.n)
+
+-- the statement from which an Await comes is an await, and its words are those of one with this offset
+abbrev pub AwaitsAreWritten : Type 0
+AwaitsAreWritten =
+    (p : Program) (plan : Plan) → plan_of p ≡ Ok plan → (t i : ℕ) (q : PhaserId) (off : Offset) → slice_get (slice_index_or plan.codes t []) i ≡ Some (Await q off) →
+    (n : ℕ) × (x : List ℕ) × (op_origin p t i ≡ Some (suc n)) × (slice_index_or (awaits_of p.body) n [] ≡ await_text x off)

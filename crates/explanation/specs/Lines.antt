@@ -28,6 +28,10 @@ line_words p = codes "line " ++ decimal p.line
 abbrev pub place_words : TextPlace → List ℕ
 place_words p = line_words p ++ codes ", column " ++ decimal p.column
 
+-- the line of a place: at line 3, column 7
+abbrev pub place_line : TextPlace → List ℕ
+place_line p = line (codes "at " ++ place_words p)
+
 -- the await at which task t waits, and its place: line 12, column 7: await(pc)
 abbrev pub await_words : Account → ℕ → List ℕ
 await_words a t =
@@ -53,9 +57,9 @@ abbrev pub more_line : ℕ → List ℕ
 more_line zero = []
 more_line (suc n) = line (codes "  and " ++ decimal (suc n) ++ codes " more")
 
--- the first three impeders, and how many more there are
+-- the first two impeders, and how many more there are: with the task's own line, three lines and a count
 abbrev pub impeder_lines : Account → List Standing → List Impeder → List ℕ
-impeder_lines a standings all = flat_map (impeder_line a standings) (take 3 all) ++ more_line (length all - 3)
+impeder_lines a standings all = flat_map (impeder_line a standings) (take 2 all) ++ more_line (length all - 2)
 
 -- where a task was forked: , forked at line 7,
 abbrev pub forked_words : Account → ℕ → List ℕ
@@ -74,7 +78,8 @@ waiting_line a t way e =
     line
     (task_word t ++ forked_words a (slice_index_or a.forked t 0) ++ codes " is " ++ way ++ codes " at " ++ await_words a t ++ awaited_words a e)
 
--- the lines of task t, if it is not done: how and where it waits, and who keeps it waiting; or that it was never forked
+-- the lines of task t: how and where it waits, and who keeps it waiting; or that it was never forked; none of a task that is done, and where nobody avoids
+-- nobody is refused
 abbrev pub explained_task : Account → Plan → State → List Standing → ℕ → Standing → List ℕ
 explained_task a plan s standings t Done = []
 explained_task a plan s standings t (Dead e) = waiting_line a t (codes "deadlocked") e ++ impeder_lines a standings (impeders_in plan s e)

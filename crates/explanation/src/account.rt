@@ -19,7 +19,7 @@ pub struct Account {
     pub forked: List<u32>,
     /// The statement that makes each phaser.
     pub made: List<u32>,
-    /// The last statement of each task.
+    /// The statement of each task's last visit, or its fork where its body is empty.
     pub last: List<u32>,
     /// The await at which each task waits; none for a task that does not wait.
     pub waiting: List<u32>,

@@ -54,7 +54,7 @@ fn lines_of(
     })
 }
 
-/// IsExplanation the state of a world in which no task may go on, where the world's plan is that of the text, of which this is the program. `forks` are the
+/// Explains the state of a world in which no task may go on, where the world's plan is that of the text, of which this is the program. `forks` are the
 /// statements that fork its tasks, as `unfold` of pl_plan answers them, and `end` is the value of the state. The only error is want of memory.
 pub fn explanation_of(
     alloc: Global,

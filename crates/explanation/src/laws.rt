@@ -1,5 +1,5 @@
 // Laws of explanations.
-ghost use Rattle.explanation.specs.Laws.{ExplanationExists, ImpedersAreBehind, OneExplanation};
+ghost use Rattle.explanation.specs.Laws.{AwaitsAreWritten, ExplanationExists, ImpedersAreBehind, OneExplanation};
 
 /// The places of a text's plan have one explanation at most.
 pub fn one_explanation()
@@ -14,4 +14,9 @@ pub fn explanation_exists()
 /// The impeders of an event are just the members of its phaser that are behind it.
 pub fn impeders_are_behind()
     ensures { ImpedersAreBehind }
+{}
+
+/// The statement from which an Await of a text's plan comes is an await, and its words are those of one with the same offset.
+pub fn awaits_are_written()
+    ensures { AwaitsAreWritten }
 {}

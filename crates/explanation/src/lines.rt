@@ -1,5 +1,5 @@
 // The lines of an explanation, each appended to a text.
-ghost use Rattle.std.specs.Prelude.{◌≡◌, ◌<◌, ◌++◌, OnOk, codes, flat_map, length, slice_index_or};
+ghost use Rattle.std.specs.Prelude.{◌≡◌, ◌<◌, ◌++◌, IfOk, OnOk, codes, flat_map, length, slice_index_or};
 ghost use Rattle.pl_core.specs.Worlds.{state_of};
 ghost use Rattle.explanation.specs.Impeders.{impeders_in};
 ghost use Rattle.explanation.specs.inside.Standing.{AllWaitInPlan, WaitsInPlan};
@@ -7,7 +7,7 @@ ghost use Rattle.pl_syntax.specs.Printed.{line};
 ghost use Rattle.report.specs.Words.{task_word};
 ghost use Rattle.report.specs.declared.standing.Standing.TheVariants.{Done};
 ghost use Rattle.explanation.specs.Lines.{await_words, awaited_words, explained_task, explained_tasks, forked_words, impeder_line, impeder_lines};
-ghost use Rattle.explanation.specs.Lines.{impeder_words, line_words, more_line, place_words, statement_place, waiting_line};
+ghost use Rattle.explanation.specs.Lines.{impeder_words, line_words, more_line, place_line, place_words, statement_place, waiting_line};
 
 use crate::account::{Account, number_at};
 use crate::impeders::{Impeder, impeders_in};
@@ -18,7 +18,7 @@ use report::Standing;
 use std::alloc::Global;
 
 /// The most impeders that have a line of their own.
-const MOST_NAMED: usize = 3;
+const MOST_NAMED: usize = 2;
 
 // A line's number.
 fn put_line(alloc: Global, out: &mut Vec<u8>, place: TextPlace) -> Result<(), NoMemory>
@@ -30,8 +30,8 @@ fn put_line(alloc: Global, out: &mut Vec<u8>, place: TextPlace) -> Result<(), No
     Ok(())
 }
 
-/// A place.
-pub(crate) fn put_place(alloc: Global, out: &mut Vec<u8>, place: TextPlace) -> Result<(), NoMemory>
+// A place.
+fn put_place(alloc: Global, out: &mut Vec<u8>, place: TextPlace) -> Result<(), NoMemory>
     ensures { OnOk result (out.new.items ≡ out.old.items ++ place_words place) }
 {
     let number = place.line;
@@ -39,6 +39,17 @@ pub(crate) fn put_place(alloc: Global, out: &mut Vec<u8>, place: TextPlace) -> R
     let text = format!(in alloc; "line {number}, column {column}")?;
     out.extend_from_slice(text.as_bytes())?;
     Ok(())
+}
+
+/// The line that tells a place of a text, as `at line 3, column 7`. The only error is want of memory.
+pub fn place_line(alloc: Global, place: TextPlace) -> Result<List<u8>, NoMemory>
+    ensures { IfOk result (λ text. text ≡ place_line place) }
+{
+    let mut out = Vec::new(alloc);
+    out.extend_from_slice(b"at ")?;
+    put_place(alloc, &mut out, place)?;
+    out.extend_from_slice(b"\n")?;
+    Ok(List::from_vec(out))
 }
 
 // The line's number of the statement whose number stands at this index.

@@ -53,7 +53,7 @@ fn place_further(text: &[u8], place: TextPlace, from: usize, to: usize) -> TextP
 }
 
 /// The place at which so many bytes of a text stand before, or all of them, if it has no more.
-pub(crate) fn text_place(text: &[u8], offset: usize) -> TextPlace
+pub fn text_place(text: &[u8], offset: usize) -> TextPlace
     requires short { length text.now < 2 ^ 32 - 1 }
     ensures { result ≡ text_place text.now offset }
 {

@@ -121,15 +121,14 @@ fn texts(rt: HostRuntime) -> Result<(), Fail> {
              cycle t0 t1\n",
             true,
         ),
-        // more than three that keep it waiting: one has ended in a loop, the others were never forked; and one that awaits the same in its second turn
+        // more than two that keep it waiting: one has ended in a loop, the others were never forked; and one that awaits the same in its second turn
         (
             "p = newPhaser();\nloop 4 {\n  t = newTid();\n  reg(t, p);\n}\nu = newTid();\nreg(u, p);\nfork(u) {\n  loop 2 {\n    skip;\n  }\n}\nloop 2 {\n  skip;\n  adv(p);\n}\nawait(p);\n",
             "tasks 6 done 1 dead 0 held 1 refused 0 unforked 4\n\
              t0 is held at line 17, column 1: await(p) waits for phase 2 of p0, made at line 1\n\
              \x20 t1 keeps it waiting with phase 0, was never forked, drawn at line 3\n\
              \x20 t2 keeps it waiting with phase 0, was never forked, drawn at line 3\n\
-             \x20 t3 keeps it waiting with phase 0, was never forked, drawn at line 3\n\
-             \x20 and 2 more\n\
+             \x20 and 3 more\n\
              t1, drawn at line 3, was never forked\n\
              t2, drawn at line 3, was never forked\n\
              t3, drawn at line 3, was never forked\n\
