@@ -1,10 +1,9 @@
 -- From what a command leaves on its input to what the call leaves.
-use Rattle.std.proofs.Common.{◌≡◌, ℕ, inl, inr, refl, sym, subst, Bool, if◌then◌else◌}
-use Rattle.std.specs.Prelude.{Some}
+use Rattle.std.proofs.Common.{◌≡◌, ℕ, inl, inr, refl, sym, ap, subst, Bool, if◌then◌else◌}
+use Rattle.std.specs.Prelude.{Option, Some, is_some}
 use Rattle.std.specs.Io.KnownBytes.{Keeps}
 use Rattle.report.specs.Refusals.{refusal_text}
 use Rattle.report.specs.declared.refusal.Refusal.{Refusal}
-use Rattle.report.specs.declared.refusal.Refusal.TheVariants as refusal
 use Rattle.adaptive.specs.declared.analysis.Wanted.{Wanted}
 use Rattle.armus_words.specs.declared.command.Command.{Command}
 use Rattle.armus_words.specs.declared.command.Graph.{Graph}
@@ -12,10 +11,11 @@ use Rattle.armus_words.specs.Words.{Text}
 use Rattle.armus_top.specs.declared.programs.InputEnd.{InputEnd}
 use Rattle.armus_top.specs.declared.programs.InputEnd.TheVariants.{Refused, NoMemory}
 use Rattle.armus_top.specs.inside.Programs.{IsEnd}
-use Rattle.armus_top.specs.Commands.{IsAnswered, IsRefusedInput, limit_of, length_line, wanted_of}
-use Rattle.armus_top.specs.Headline.{Ends, GaveTooMuch, HasInput, IsSound, Passage, no_memory}
-use Rattle.armus_top.specs.inside.Writing.{Answered, Finished, LeavesOutput, Refuses, TellsEnd, nothing, part, wrote}
-use Rattle.armus_top.proofs.Ending.{by_finish}
+use Rattle.armus_top.specs.Commands.{IsAnswered, IsRefusedInput, limit_of, wanted_of}
+use Rattle.armus_top.specs.Headline.{Answers, Ends, EndsWith, GaveTooMuch, HasInput, IsSound, Passage, Permits, reads_input}
+use Rattle.armus_top.specs.inside.Reading.{EndsUnread}
+use Rattle.armus_top.specs.inside.Writing.{Answered, Finished, LeavesOutput, TellsEnd, nothing, wrote}
+use Rattle.armus_top.proofs.WaysToEnd.{ends_left, ends_without_input, leaves_one_of_more}
 
 -- an answer with this status and text was written
 pub by_answer : (c : Command) (input text : Text) (out : Passage) (status number : ℕ) → IsAnswered c input status text → Finished out text status number
@@ -25,30 +25,25 @@ by_answer c input text out status number is done = wrote status text (inl is) do
 -- one of these outputs was to be written, each of which the command is answered with
 pub by_output : (c : Command) (input : Text) (IsOutput : ℕ → Text → Type 0) (out : Passage) (number : ℕ)
     → ((status : ℕ) (text : Text) → IsOutput status text → IsAnswered c input status text) → LeavesOutput IsOutput out number → Answered c input out number
-by_output c input IsOutput out number answers (wrote status text is done) = wrote status text (inl (answers status text is)) done
-by_output c input IsOutput out number answers (nothing six sound kept) = nothing six sound kept
-by_output c input IsOutput out number answers (part status text is six sound front) = part status text (inl (answers status text is)) six sound front
+by_output c input IsOutput out number answers left = leaves_one_of_more IsOutput (Answers c input) out number (λ status text is. inl (answers status text is)) left
 
 -- memory was wanting before anything was written
 pub by_want : (c : Command) (input : Text) (out : Passage) (number : ℕ) → number ≡ 6 → IsSound out → Keeps out.before out.after → Answered c input out number
 by_want c input out number six sound kept = nothing six sound kept
 
-ends_with_input : (c : Command) (src out : Passage) (input : Text) (number : ℕ) → HasInput (limit_of c) src input → Answered c input out number → IsSound src
-    → Ends (Some c) src out number
-ends_with_input c src out input number has (wrote status text answers done) still = by_finish (Some c) src out text status number done (inl (input, has, answers)) still
-ends_with_input c src out input number has (nothing six sound kept) still = no_memory six still sound (inl kept)
-ends_with_input c src out input number has (part status text answers six sound front) still = no_memory six still sound (inr (status, text, inl (input, has, answers), front))
-
 -- a command that had this input
 pub ends_by_answer : (c : Command) (src out : Passage) (input shown : Text) (number : ℕ) → shown ≡ input → HasInput (limit_of c) src input
     → Answered c shown out number → IsSound src → Ends (Some c) src out number
 ends_by_answer c src out input shown number same has answered still =
-    ends_with_input c src out input number has (subst (λ (t : Text). Answered c t out number) same answered) still
+    let left : Answered c input out number = subst (λ (t : Text). Answered c t out number) same answered in
+    ends_left (Permits (Some c) src) (reads_input (Some c)) src out number
+    (leaves_one_of_more (Answers c input) (Permits (Some c) src) out number (λ status text is. inl (input, has, is)) left) still
 
--- a command whose input was too long
-pub ends_too_long : (c : Command) (src out : Passage) (number : ℕ) → GaveTooMuch (limit_of c) src → Refuses refusal.Length out number → IsSound src → Ends (Some c) src out number
-ends_too_long c src out number much (inl done) still = by_finish (Some c) src out (length_line c) 3 number done (inr (much, refl, refl)) still
-ends_too_long c src out number much (inr (six, sound, kept)) still = no_memory six still sound (inl kept)
+-- a command that has no input
+pub ends_unread : (c : Command) (limit : ℕ) (src out : Passage) (number : ℕ) → limit_of c ≡ Some limit → EndsUnread limit src out number → Ends (Some c) src out number
+ends_unread c limit src out number is unread =
+    subst (λ (reads : Bool). EndsWith (Permits (Some c) src) reads src out number) (sym (ap is_some is))
+    (ends_without_input (Permits (Some c) src) limit src out number (λ much. inr (subst (λ (l : Option ℕ). GaveTooMuch l src) (sym is) much, refl, refl)) unread)
 
 -- a report was written, with the status that says what it tells
 pub by_report : (c : Command) (input : Text) (g : Graph) (IsIt : Wanted → ℕ → Text → Type 0)

@@ -8,10 +8,11 @@ use Rattle.armus_base.proofs.Fronts.{front_after}
 use Rattle.armus_base.specs.Causes.{Rose, counted}
 use Rattle.armus_top.specs.Commands.{limit_of, IsRefusedInput}
 use Rattle.armus_top.proofs.Inputs.{answered_small, never_both}
+use Rattle.armus_top.proofs.WaysToEnd.{ends_finished}
 use Rattle.armus_words.specs.Words.{Text}
 use Rattle.armus_top.specs.inside.Writing.{Finished}
 use Rattle.armus_top.specs.Headline.{Passage, Completes, Ends, GaveTooMuch, IsAccepted, HasInput, IsCall, IsCalm}
-use Rattle.armus_top.specs.Headline.{IsServed, IsSound, Offers, OffersTooMuch, Permits, whole, read_fault, write_fault, no_memory}
+use Rattle.armus_top.specs.Headline.{IsServed, IsSound, Offers, OffersTooMuch, Permits, reads_input, whole, read_fault, write_fault, no_memory}
 use Rattle.armus_words.specs.declared.command.Command.{Command}
 
 only : {d e : Command} → Some d ≡ Some e → d ≡ e
@@ -19,9 +20,7 @@ only h = cc
 
 pub by_finish : (c : Option Command) (src out : Passage) (text : Text) (status number : ℕ)
     → Finished out text status number → Permits c src status text → IsSound src → Ends c src out number
-by_finish c src out text status number (inl (same, took, sound)) permits still =
-    whole text (subst (λ n. Permits c src n text) (sym same) permits) took still sound
-by_finish c src out text status number (inr (five, failed, front)) permits still = write_fault five still failed (status, text, permits, front)
+by_finish c src out text status number done permits still = ends_finished (Permits c src) (reads_input c) src out text status number done permits still
 
 -- another name of the same text
 pub finished_as : (out : Passage) (text shown : Text) (status number : ℕ) → shown ≡ text → Finished out shown status number → Finished out text status number
@@ -56,16 +55,16 @@ known_front (Some ys) (Some zs) xs front e p =
     let joined : xs ≡ front ++ zs = same ∙ p in
     rw joined (simp length-append (omega arith))
 
-same_input : (l : Option ℕ) (src : Passage) (input read : Text) → Offers l src input → HasInput l src read → input ≡ read
+pub same_input : (l : Option ℕ) (src : Passage) (input read : Text) → Offers l src input → HasInput l src read → input ≡ read
 same_input (Some limit) src input read offers has = known_whole src.before src.after input read offers.0 has.0 has.1
 same_input None src input read offers has = offers ∙ sym has
 
-not_more : (l : Option ℕ) (src : Passage) (input : Text) → Offers l src input → GaveTooMuch l src → ⊥
+pub not_more : (l : Option ℕ) (src : Passage) (input : Text) → Offers l src input → GaveTooMuch l src → ⊥
 not_more (Some limit) src input offers (front, gave, much) =
     let more = known_front src.before src.after input front offers.0 gave in omega (arith, more, much, offers.1)
 not_more None src input offers much = much
 
-not_long : (l : Option ℕ) (src : Passage) (read : Text) → OffersTooMuch l src → HasInput l src read → ⊥
+pub not_long : (l : Option ℕ) (src : Passage) (read : Text) → OffersTooMuch l src → HasInput l src read → ⊥
 not_long (Some limit) src read (bytes, known, more) has =
     let same : bytes ≡ read = known_whole src.before src.after bytes read known has.0 has.1 in
     omega (arith, ap length same, more, has.2)
@@ -108,7 +107,7 @@ module _ (src : Passage) where
     long = λ command is more. three;
   }
 
-rose_from : (before now : ℕ) → now ≡ counted before → Rose before now
+pub rose_from : (before now : ℕ) → now ≡ counted before → Rose before now
 rose_from before now e = omega arith
 
 pub completes : (c : Option Command) (src out : Passage) (number : ℕ) → Ends c src out number → IsCalm src out number → Completes c src number

@@ -4,6 +4,7 @@ pub mod DirectEnds
 pub mod TellingClocks
 pub mod ReplayInputs
 pub mod TwoLines
+pub mod WaysToEnd
 pub mod Ending
 pub mod Inputs
 pub mod Meaning

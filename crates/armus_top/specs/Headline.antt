@@ -63,16 +63,25 @@ reads_input (Some c) = is_some (limit_of c)
 abbrev pub Took : Passage → Text → Type 0
 Took out text = Appends out.before out.after text
 
+-- some first bytes were taken of one of these outputs, each with its status
+abbrev pub TookPartOf : (ℕ → Text → Type 0) → Passage → Type 0
+TookPartOf outputs out = (status : ℕ) × (text : Text) × outputs status text × TookFront out.before out.after text
+
+-- How a call may end, and with which number, that may write one of these outputs, each with its status, and reads its source or not: the whole output, a
+-- fault of the source, a fault of the sink, want of memory. The program that explains runs ends so too.
+pub data EndsWith (outputs : ℕ → Text → Type 0) (reads : Bool) (src out : Passage) (number : ℕ) : Type 0 where
+  whole : (text : Text) → outputs number text → Took out text → IsSound src → IsSound out → EndsWith outputs reads src out number
+  read_fault : number ≡ 4 → reads ≡ true → HasCountedFault src → IsSound out → Keeps out.before out.after → EndsWith outputs reads src out number
+  write_fault : number ≡ 5 → IsSound src → HasCountedFault out → TookPartOf outputs out → EndsWith outputs reads src out number
+  no_memory : number ≡ 6 → IsSound src → IsSound out → Keeps out.before out.after ⊎ TookPartOf outputs out → EndsWith outputs reads src out number
+
 -- some first bytes of a permitted output were taken
 abbrev pub TookPart : Option Command → Passage → Passage → Type 0
-TookPart c src out = (status : ℕ) × (text : Text) × Permits c src status text × TookFront out.before out.after text
+TookPart c src out = TookPartOf (Permits c src) out
 
--- how a call may end, and with which number
-pub data Ends (c : Option Command) (src out : Passage) (number : ℕ) : Type 0 where
-  whole : (text : Text) → Permits c src number text → Took out text → IsSound src → IsSound out → Ends c src out number
-  read_fault : number ≡ 4 → reads_input c ≡ true → HasCountedFault src → IsSound out → Keeps out.before out.after → Ends c src out number
-  write_fault : number ≡ 5 → IsSound src → HasCountedFault out → TookPart c src out → Ends c src out number
-  no_memory : number ≡ 6 → IsSound src → IsSound out → Keeps out.before out.after ⊎ TookPart c src out → Ends c src out number
+-- how a call may end whose words mean this, and with which number
+abbrev pub Ends : Option Command → Passage → Passage → ℕ → Type 0
+Ends c src out number = EndsWith (Permits c src) (reads_input c) src out number
 
 -- the headline: the call ends as the command may that the words mean, or as where they mean none
 abbrev pub Serves : List Text → Passage → Passage → ℕ → Type 0

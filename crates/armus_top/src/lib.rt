@@ -4,6 +4,7 @@
 mod avoiding;
 mod checking;
 mod clocking;
+mod command_line;
 mod generating;
 mod input;
 mod laws;
@@ -18,10 +19,15 @@ mod status;
 mod top;
 mod writing;
 
+pub use command_line::command_words;
+pub use input::input_of;
 pub use laws::{each_call_is_met, each_input_is_met, records_replay, words_mean_one_command};
 pub use programs::MAX_TEXT_BYTES;
 pub use replaying::MAX_REPLAY_BYTES;
+pub use reported::status_of;
+pub use status::ExitStatus;
 pub use top::{armus, armus_journal, armus_plain};
+pub use writing::finish;
 
 #[cfg(test)]
 mod averaging_tests;

@@ -1,6 +1,6 @@
 use Rattle.std.proofs.Common.{refl}
 use Rattle.armus_words.specs.declared.command.Command.TheVariants.{Check}
-use Rattle.armus_top.proofs.Answering.{ends_by_answer}
+use Rattle.armus_top.proofs.Answering.{ends_by_answer, ends_unread}
 use Rattle.armus_top.proofs.checking.check.Goals as goal
 
 pub returns-in-Ok-clause-ends : goal.returns-in-Ok-clause-ends
@@ -9,4 +9,4 @@ returns-in-Ok-clause-ends g c =
     c.check_text.ensures.done c.in-Ok.ensures.read.1)
 
 pub returns-in-Err-clause-ends : goal.returns-in-Err-clause-ends
-returns-in-Err-clause-ends g c = c.in-Err.ensures.ends (Check c.args.print) refl
+returns-in-Err-clause-ends g c = ends_unread (Check c.args.print) _ _ _ _ refl c.in-Err.ensures.ends

@@ -1,6 +1,6 @@
 use Rattle.std.proofs.Common.{refl}
 use Rattle.armus_words.specs.declared.command.Command.TheVariants.{Clock}
-use Rattle.armus_top.proofs.Answering.{ends_by_answer}
+use Rattle.armus_top.proofs.Answering.{ends_by_answer, ends_unread}
 use Rattle.armus_top.proofs.clocking.clock.Goals as goal
 
 pub returns-in-Ok-clause-ends : goal.returns-in-Ok-clause-ends
@@ -9,4 +9,4 @@ returns-in-Ok-clause-ends g c =
     c.in-Ok.ensures.read.0 c.clock_text.ensures.done c.in-Ok.ensures.read.1)
 
 pub returns-in-Err-clause-ends : goal.returns-in-Err-clause-ends
-returns-in-Err-clause-ends g c = c.in-Err.ensures.ends (Clock c.args.workers c.args.graph c.args.live) refl
+returns-in-Err-clause-ends g c = ends_unread (Clock c.args.workers c.args.graph c.args.live) _ _ _ _ refl c.in-Err.ensures.ends
