@@ -1,0 +1,8 @@
+-- What a reader of the repository has to believe.
+pub mod Refused
+pub mod Explained
+pub mod Outputs
+-- What is proved of it.
+pub mod Laws
+-- How the program does it.
+pub mod inside
