@@ -1,0 +1,6 @@
+t = newTid();
+loop 2 {
+  fork(t) {
+    skip;
+  }
+}

@@ -1,0 +1,4 @@
+p = newPhaser();
+t = newTid();
+reg(t, p);
+	reg(t, p);

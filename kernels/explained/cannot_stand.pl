@@ -1,0 +1,3 @@
+t = newTid();
+fork(t) {
+  skip;

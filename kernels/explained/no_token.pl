@@ -1,0 +1,2 @@
+p = newPhaser();
+adv(P);

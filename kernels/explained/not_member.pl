@@ -1,0 +1,2 @@
+p = newPhaser();
+dereg(p); adv(p);

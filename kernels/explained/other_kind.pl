@@ -1,0 +1,1 @@
+t = newTid(); adv(t);

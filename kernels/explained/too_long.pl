@@ -1,0 +1,2 @@
+skip;
+a_name_of_thirty_three_characters = newTid();

@@ -1,0 +1,2 @@
+// Nobody has given q anything to stand for.
+adv(q);
