@@ -1,13 +1,13 @@
 -- The words of the statement from which an Await comes are those of an await with its offset.
-use Rattle.std.proofs.Common.{◌≡◌, ℕ, zero, suc, Some, Ok, List, [], ◌∷◌, ◌++◌, map, refl, sym, ap, ◌∙◌}
+use Rattle.std.proofs.Common.{◌≡◌, ℕ, zero, suc, Some, List, [], ◌∷◌, ◌++◌, map, refl, sym, ap, ◌∙◌}
 use Rattle.std.specs.Prelude.{slice_index_or}
 use Rattle.std.specs.List.{slice_get}
 use Rattle.std.proofs.lemmas.List.{map-append}
-use Rattle.pl_syntax.specs.Tree.{Plain, Tree, adv, await, dereg, done, fork, loop, new_phaser, new_task, plain, reg, skip}
-use Rattle.pl_plan.specs.Unfolding.{Coming, a_fork, a_loop, a_plain, a_turn}
+use Rattle.pl_syntax.specs.Tree.{Tree, await, done, fork, loop, plain}
+use Rattle.pl_plan.specs.Unfolding.{Coming, a_plain}
 use Rattle.origins.specs.OriginLaws.{written_statements}
 use Rattle.origins.proofs.WrittenStatements.{awaits_come_from_awaits}
-use Rattle.explanation.specs.AwaitWords.{await_text, awaits_of, words_of_plain}
+use Rattle.explanation.specs.AwaitWords.{awaits_of, words_of_plain}
 use Rattle.explanation.specs.Laws.{AwaitsAreWritten}
 
 -- the words of a statement, if it is an await

@@ -10,3 +10,4 @@ pub mod OneExplanation
 pub mod ExplanationExists
 pub mod ImpedersBehind
 pub mod AwaitsAreWritten
+pub mod WaitsAreWritten

@@ -1,5 +1,5 @@
 // Laws of explanations.
-ghost use Rattle.explanation.specs.Laws.{AwaitsAreWritten, ExplanationExists, ImpedersAreBehind, OneExplanation};
+ghost use Rattle.explanation.specs.Laws.{AwaitsAreWritten, ExplanationExists, ImpedersAreBehind, OneExplanation, WaitsAreWritten};
 
 /// The places of a text's plan have one explanation at most.
 pub fn one_explanation()
@@ -19,4 +19,9 @@ pub fn impeders_are_behind()
 /// The statement from which an Await of a text's plan comes is an await, and its words are those of one with the same offset.
 pub fn awaits_are_written()
     ensures { AwaitsAreWritten }
+{}
+
+/// In the account of a text, a task that waits has the number of a statement, and the words of that statement are those of an await.
+pub fn waits_are_written()
+    ensures { WaitsAreWritten }
 {}

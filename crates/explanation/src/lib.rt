@@ -13,7 +13,9 @@ mod places;
 pub use account::Account;
 pub use explaining::{Explanation, explanation_of};
 pub use impeders::Impeder;
-pub use laws::{awaits_are_written, explanation_exists, impeders_are_behind, one_explanation};
+pub use laws::{
+    awaits_are_written, explanation_exists, impeders_are_behind, one_explanation, waits_are_written,
+};
 pub use lines::place_line;
 pub use places::{TextPlace, text_place};
 
