@@ -14,7 +14,7 @@ use Rattle.explanation.specs.Lines.{place_line}
 use Rattle.explanation.specs.declared.explaining.Explanation.{Explanation}
 use Rattle.explanation.specs.declared.places.TextPlace.{TextPlace}
 use Rattle.armus_words.specs.Words.{Text}
-use Rattle.armus_top.specs.Headline.{EndsWith, GaveTooMuch, HasInput, IsSound, Passage, no_memory}
+use Rattle.armus_top.specs.Headline.{EndsWith, HasInput, IsSound, Passage, no_memory}
 use Rattle.armus_top.specs.Programs.{IsFaultOf, TellsDead}
 use Rattle.armus_top.specs.inside.Reading.{EndsUnread, memory_wanting, source_failed, too_long}
 use Rattle.armus_top.specs.inside.Writing.{Finished}
