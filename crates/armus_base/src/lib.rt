@@ -46,12 +46,3 @@ pub use read::read_all;
 pub use standard::{StdSink, StdSource};
 pub use status::{Dead, Member, Status};
 pub use write::write_text;
-
-#[cfg(test)]
-mod cursor_tests;
-#[cfg(test)]
-mod list_tests;
-#[cfg(test)]
-mod outside_tests;
-#[cfg(test)]
-mod plan_tests;

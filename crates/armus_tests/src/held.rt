@@ -1,8 +1,8 @@
 // The program with tasks that a gate holds: each row ends only where others go on meanwhile.
 use crate::holding::Holding;
-use armus_base::{List, MemSink, MemSource, Point, TaskId};
-use armus_top::armus;
-use std::alloc::{AllocError, Global};
+use crate::texts::{AMPLE, ended};
+use armus_base::{Point, TaskId};
+use std::alloc::Global;
 use std::process::Abort;
 use std::sync::Wait;
 use std::test::Fail;
@@ -25,46 +25,34 @@ fn op(t: u32, k: u32) -> Point {
     Point::Op { t: TaskId(t), k }
 }
 
-fn words_of(alloc: Global, texts: &[&str]) -> Result<Vec<String>, AllocError> {
-    let mut all = Vec::new(alloc);
-    for text in texts {
-        all.push(String::from_str(alloc, text)?)?;
-    }
-    Ok(all)
-}
-
 // The words on this text under this gate end with this status and one of these outputs, and nobody waited in vain.
 fn expect<R: Abort + Threads + Wait + Sync>(
     rt: &R,
     alloc: Global,
-    given: &[&str],
+    given: &str,
     text: &str,
     gate: &Holding,
     outputs: &[&str],
     status: u8,
 ) -> Result<(), Fail> {
-    let words = words_of(alloc, given)?;
-    let input = List::from_vec(text.as_bytes().to_vec(alloc)?);
-    let mut src = MemSource::new(input, 7, List::new(alloc));
-    let mut out = MemSink::new(alloc, 1000, 16, List::new(alloc))?;
-    let ended = armus(rt, alloc, words.as_slice(), &mut src, &mut out, gate);
-    assert_eq!(rt; ended, status);
-    assert!(rt; !gate.gave_up());
+    let input = text.as_bytes().to_vec(alloc)?;
+    let (found, end) = ended(rt, alloc, given, input, AMPLE, gate)?;
+    assert!(rt; end == status && !gate.gave_up());
     assert!(rt;
         outputs
             .iter()
-            .any(|output| output.as_bytes() == out.taken())
+            .any(|output| output.as_bytes() == found.as_slice())
     );
     Ok(())
 }
 
 // The words of the ways to run a kernel with two workers that report alike where nobody is dead.
-const RUNS: [&[&str]; 5] = [
-    &["run", "--workers", "2"],
-    &["run", "--sites", "2", "--workers", "2"],
-    &["pool", "--workers", "2"],
-    &["avoid", "--workers", "2"],
-    &["avoid", "--kept", "--workers", "2"],
+const RUNS: [&str; 5] = [
+    "run --workers 2",
+    "run --sites 2 --workers 2",
+    "pool --workers 2",
+    "avoid --workers 2",
+    "avoid --kept --workers 2",
 ];
 
 const THREE_DONE: &str = "tasks 3 done 3 dead 0 held 0 refused 0 unforked 0\ngraph sg 0\n";
@@ -90,7 +78,7 @@ fn two_tasks_of_a_record_act_side_by_side(rt: HostRuntime) -> Result<(), Fail> {
     expect(
         &rt,
         alloc,
-        &["record", "--workers", "2"],
+        "record --workers 2",
         TWO_MAKERS,
         &gate,
         &outputs,
@@ -125,7 +113,7 @@ fn dead_tasks_are_named_while_another_task_is_held(rt: HostRuntime) -> Result<()
     expect(
         &rt,
         rt.alloc(),
-        &["run", "--live", "--workers", "2"],
+        "run --live --workers 2",
         DEAD_BESIDE_OTHERS,
         &gate,
         &[output],

@@ -1,7 +1,15 @@
-//! Tests of the program that hold its tasks at a gate.
+//! Tests of the program: its worked rows, sources and sinks that fail, records that are replayed, and tasks that a gate holds.
 #![tactic(auto)]
 
 #[cfg(test)]
 mod held;
 #[cfg(test)]
 mod holding;
+#[cfg(test)]
+mod outside;
+#[cfg(test)]
+mod records;
+#[cfg(test)]
+mod rows;
+#[cfg(test)]
+mod texts;

@@ -28,8 +28,3 @@ pub use reported::status_of;
 pub use status::ExitStatus;
 pub use top::{armus, armus_journal, armus_plain};
 pub use writing::finish;
-
-#[cfg(test)]
-mod averaging_tests;
-#[cfg(test)]
-mod tests;

@@ -7,6 +7,3 @@
 mod laws;
 
 pub use laws::{clock_ends, clock_runs, no_clock_task_is_held, worked_clock_runs};
-
-#[cfg(test)]
-mod tests;

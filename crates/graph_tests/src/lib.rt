@@ -2,15 +2,10 @@
 #![tactic(auto)]
 
 #[cfg(test)]
-mod choice;
-#[cfg(test)]
-mod cycles;
-#[cfg(test)]
-mod dead;
-#[cfg(test)]
-mod graphs;
+mod answers;
 #[cfg(test)]
 mod orders;
 #[cfg(test)]
-mod relations;
-pub mod statuses;
+mod rows;
+#[cfg(test)]
+mod texts;

@@ -2,25 +2,28 @@
 ghost use Rattle.std.specs.Prelude.{All, IsTrue};
 ghost use Rattle.order_graph.specs.Orders.{IsTaskOf};
 
-use crate::statuses::status;
-use armus_base::{Status, TaskId};
+use crate::texts::{add_number, number, statuses};
+use armus_base::{NoMemory, TaskId};
 use dep_state::{DepState, is_in_order};
 use order_graph::{Added, Followed, Order};
 use std::alloc::{AllocError, Global};
-use std::process::Abort;
 use std::test::Fail;
 
-// The cycle that an edge would close; nothing where it was added.
-fn added(
-    rt: &impl Abort,
-    alloc: Global,
-    order: &mut Order,
-    a: u32,
-    b: u32,
-) -> Result<Vec<u32>, Fail> {
-    assert!(rt; a < order.tasks());
-    assert!(rt; b < order.tasks());
+// Edges that are added one after another to an order of so many tasks, with the cycle that each would close, and the tasks by position after all.
+const EDGES: &str = "\
+4 | 0 1, 2 1, 1 0, 1 3 | ; ; 0 1 ; ; 0 2 1 3\n\
+3 | 2 2 | 2 ; 0 1 2\n\
+5 | 4 3, 3 0, 0 4 | ; ; 4 3 0 ; 4 3 0 1 2\n\
+6 | 0 1, 1 2, 2 4, 0 3, 3 4, 4 0 | ; ; ; ; ; 0 3 4 ; 0 1 2 3 4 5\n\
+6 | 0 1, 0 2, 1 4, 2 3, 3 5, 4 5, 5 0 | ; ; ; ; ; ; 0 1 4 5 ; 0 1 2 3 4 5\n\
+";
+
+// The cycle that an edge would close; nothing where it was added, or is of no two tasks.
+fn added(alloc: Global, order: &mut Order, a: u32, b: u32) -> Result<Vec<u32>, NoMemory> {
     let mut numbers = Vec::new(alloc);
+    if a >= order.tasks() || b >= order.tasks() {
+        return Ok(numbers);
+    }
     if let Added::Cycle(list) = order.add(alloc, TaskId(a), TaskId(b))? {
         for t in list.as_slice() {
             numbers.push(t.0)?;
@@ -30,7 +33,7 @@ fn added(
 }
 
 // The tasks by position.
-fn by_position(rt: &impl Abort, alloc: Global, order: &Order) -> Result<Vec<u32>, Fail> {
+fn by_position(alloc: Global, order: &Order) -> Result<Vec<u32>, AllocError> {
     let mut tasks = vec![in alloc; 0; order.tasks() as usize]?;
     for t in 0..order.tasks() {
         if let Some(place) = tasks.get_mut(order.position(TaskId(t)) as usize) {
@@ -40,76 +43,34 @@ fn by_position(rt: &impl Abort, alloc: Global, order: &Order) -> Result<Vec<u32>
     Ok(tasks)
 }
 
-// Edges that are added one after another, each with the cycle that it would close, and the tasks by position after all.
-fn expect(
-    rt: &impl Abort,
-    alloc: Global,
-    tasks: u32,
-    rows: &[(u32, u32, &[u32])],
-    after: &[u32],
-) -> Result<(), Fail> {
-    let mut order = Order::start(alloc, tasks)?;
-    for (a, b, cycle) in rows {
-        let found = added(rt, alloc, &mut order, *a, *b)?;
-        assert_eq!(rt; found.as_slice(), *cycle);
+fn add_numbers(alloc: Global, text: &mut String, numbers: &[u32]) -> Result<(), AllocError> {
+    for n in numbers {
+        add_number(alloc, text, u64::from(*n))?;
     }
-    let found = by_position(rt, alloc, &order)?;
-    assert_eq!(rt; found.as_slice(), after);
     Ok(())
 }
 
-#[test]
-fn moves_as_little_as_it_can(rt: HostRuntime) -> Result<(), Fail> {
-    let none: &[u32] = &[];
-    let worked = [
-        (0, 1, none),
-        (2, 1, none),
-        (1, 0, [0, 1].as_slice()),
-        (1, 3, none),
-    ];
-    expect(
-        &rt,
-        rt.alloc(),
-        4,
-        worked.as_slice(),
-        [0, 2, 1, 3].as_slice(),
-    )?;
-    let itself = [(2, 2, [2].as_slice())];
-    expect(&rt, rt.alloc(), 3, itself.as_slice(), [0, 1, 2].as_slice())?;
-    let back = [(4, 3, none), (3, 0, none), (0, 4, [4, 3, 0].as_slice())];
-    expect(
-        &rt,
-        rt.alloc(),
-        5,
-        back.as_slice(),
-        [4, 3, 0, 1, 2].as_slice(),
-    )?;
-    Ok(())
+fn edges_text(alloc: Global, tasks: &str, edges: &str) -> Result<String, NoMemory> {
+    let mut text = String::new(alloc);
+    let mut order = Order::start(alloc, number(tasks))?;
+    for edge in edges.split(",") {
+        let (a, b) = edge.trim().split_once(" ").unwrap_or((edge, ""));
+        let cycle = added(alloc, &mut order, number(a), number(b))?;
+        add_numbers(alloc, &mut text, &cycle)?;
+        text.push_str("; ")?;
+    }
+    add_numbers(alloc, &mut text, &by_position(alloc, &order)?)?;
+    Ok(text)
 }
 
 #[test]
-fn finds_the_shortest_cycle(rt: HostRuntime) -> Result<(), Fail> {
-    let none: &[u32] = &[];
-    let ahead = [0, 1, 2, 3, 4, 5].as_slice();
-    let shorter = [
-        (0, 1, none),
-        (1, 2, none),
-        (2, 4, none),
-        (0, 3, none),
-        (3, 4, none),
-        (4, 0, [0, 3, 4].as_slice()),
-    ];
-    expect(&rt, rt.alloc(), 6, shorter.as_slice(), ahead)?;
-    let least = [
-        (0, 1, none),
-        (0, 2, none),
-        (1, 4, none),
-        (2, 3, none),
-        (3, 5, none),
-        (4, 5, none),
-        (5, 0, [0, 1, 4, 5].as_slice()),
-    ];
-    expect(&rt, rt.alloc(), 6, least.as_slice(), ahead)?;
+fn rows_of_edges(rt: HostRuntime) -> Result<(), Fail> {
+    for row in EDGES.lines() {
+        let (tasks, rest) = row.split_once("|").unwrap_or((row, ""));
+        let (edges, wanted) = rest.split_once("|").unwrap_or((rest, ""));
+        let found = edges_text(rt.alloc(), tasks.trim(), edges)?;
+        assert!(rt; found.as_str().trim() == wanted.trim(), "{row}");
+    }
     Ok(())
 }
 
@@ -201,39 +162,35 @@ fn next_random(seed: u64) -> u64 {
 }
 
 // One random step, on an order and on a table.
-fn step(
-    rt: &impl Abort,
-    alloc: Global,
-    order: &mut Order,
-    table: &mut Table,
-    seed: u64,
-) -> Result<(), Fail> {
+fn step(alloc: Global, order: &mut Order, table: &mut Table, seed: u64) -> Result<bool, NoMemory> {
     let a = (seed >> 33) as u32 % TASKS;
     let b = (seed >> 43) as u32 % TASKS;
-    assert!(rt; a < order.tasks());
-    assert!(rt; b < order.tasks());
+    if a >= order.tasks() || b >= order.tasks() {
+        return Ok(false);
+    }
     if (seed >> 53) % 3 == 0 {
         order.clear(TaskId(a), TaskId(b));
         set(table, a, b, false);
     } else {
         let wanted = cycle_in(alloc, table, a, b)?;
-        let found = added(rt, alloc, order, a, b)?;
-        assert_eq!(rt; found.as_slice(), wanted.as_slice());
+        let found = added(alloc, order, a, b)?;
         set(table, a, b, has(table, a, b) || found.is_empty());
+        return Ok(found == wanted);
     }
-    Ok(())
+    Ok(true)
 }
 
 // Whether the edges of an order are those of a table, and go up.
-fn agrees(rt: &impl Abort, order: &Order, table: &Table) -> Result<(), Fail> {
+fn agrees(order: &Order, table: &Table) -> bool {
+    let mut all = true;
     for a in 0..order.tasks() {
         for b in 0..order.tasks() {
             let there = order.has(TaskId(a), TaskId(b));
-            assert_eq!(rt; there, has(table, a, b));
-            assert!(rt; !there || order.position(TaskId(a)) < order.position(TaskId(b)));
+            let goes_up = !there || order.position(TaskId(a)) < order.position(TaskId(b));
+            all = all && goes_up && there == has(table, a, b);
         }
     }
-    Ok(())
+    all
 }
 
 #[test]
@@ -244,11 +201,19 @@ fn agrees_with_a_plain_search(rt: HostRuntime) -> Result<(), Fail> {
     let mut seed = 1;
     for _ in 0..3000 {
         seed = next_random(seed);
-        step(&rt, rt.alloc(), &mut order, &mut table, seed)?;
-        agrees(&rt, &order, &table)?;
+        assert!(rt; step(rt.alloc(), &mut order, &mut table, seed)?);
+        assert!(rt; agrees(&order, &table));
     }
     Ok(())
 }
+
+// Lists of statuses that an order follows one after another, and after each one the tasks by position.
+const LISTS: &str = "\
+0 0@1 0@1, 1 1@1 0@0 1@1, 2 2@1 1@0 2@1 | kept 0 1 2\n\
+0 0@1 0@1 1@0, 1 1@1 1@1 2@0, 2 2@1 2@1 | kept 2 1 0\n\
+0 0@2 0@1 | dead 2 1 0\n\
+| kept 2 1 0\n\
+";
 
 fn has_tasks(order: &Order, deps: &DepState) -> bool
     ensures { IsTrue result → All (IsTaskOf order.now) deps.now.tasks }
@@ -258,59 +223,31 @@ fn has_tasks(order: &Order, deps: &DepState) -> bool
 }
 
 // What an order answers to statuses, and its tasks by position after.
-fn followed(
-    rt: &impl Abort,
-    alloc: Global,
-    order: &mut Order,
-    statuses: &[(u32, (u32, u32), &[(u32, u32)])],
-) -> Result<Followed, Fail> {
-    let mut list: Vec<Status> = Vec::new(alloc);
-    for (t, event, phases) in statuses {
-        list.push(status(alloc, *t, *event, phases)?)?;
+fn followed(alloc: Global, order: &mut Order, text: &str) -> Result<String, NoMemory> {
+    let mut told = String::new(alloc);
+    let list = statuses(alloc, text)?;
+    if !is_in_order(&list) {
+        return Ok(told);
     }
-    assert!(rt; is_in_order(&list));
     let deps = DepState::of(alloc, &list)?;
-    assert!(rt; has_tasks(order, &deps));
-    Ok(order.follow(alloc, &deps)?)
+    if !has_tasks(order, &deps) {
+        return Ok(told);
+    }
+    told.push_str(match order.follow(alloc, &deps)? {
+        Followed::Kept => "kept ",
+        Followed::Dead => "dead ",
+    })?;
+    add_numbers(alloc, &mut told, &by_position(alloc, order)?)?;
+    Ok(told)
 }
 
 #[test]
 fn follows_statuses(rt: HostRuntime) -> Result<(), Fail> {
     let mut order = Order::start(rt.alloc(), 3)?;
-    // task 0 waits for 1, and 1 for 2
-    let chain = [
-        (0, (0, 1), [(0, 1)].as_slice()),
-        (1, (1, 1), [(0, 0), (1, 1)].as_slice()),
-        (2, (2, 1), [(1, 0), (2, 1)].as_slice()),
-    ];
-    assert_eq!(rt;
-        followed(&rt, rt.alloc(), &mut order, chain.as_slice())?,
-        Followed::Kept
-    );
-    assert_eq!(rt;
-        by_position(&rt, rt.alloc(), &order)?.as_slice(),
-        [0, 1, 2].as_slice()
-    );
-    // the other way round: the old edges go first
-    let other = [
-        (0, (0, 1), [(0, 1), (1, 0)].as_slice()),
-        (1, (1, 1), [(1, 1), (2, 0)].as_slice()),
-        (2, (2, 1), [(2, 1)].as_slice()),
-    ];
-    assert_eq!(rt;
-        followed(&rt, rt.alloc(), &mut order, other.as_slice())?,
-        Followed::Kept
-    );
-    assert_eq!(rt;
-        by_position(&rt, rt.alloc(), &order)?.as_slice(),
-        [2, 1, 0].as_slice()
-    );
-    // task 0 waits for itself
-    let dead = [(0, (0, 2), [(0, 1)].as_slice())];
-    assert_eq!(rt;
-        followed(&rt, rt.alloc(), &mut order, dead.as_slice())?,
-        Followed::Dead
-    );
-    assert_eq!(rt; followed(&rt, rt.alloc(), &mut order, &[])?, Followed::Kept);
+    for row in LISTS.lines() {
+        let (list, wanted) = row.split_once("|").unwrap_or((row, ""));
+        let found = followed(rt.alloc(), &mut order, list)?;
+        assert!(rt; found.as_str().trim() == wanted.trim(), "{row}");
+    }
     Ok(())
 }

@@ -1,0 +1,11 @@
+//! Tests of the lower crates, in a crate of their own: a crate with tests is proved once more with them.
+#![tactic(auto)]
+
+#[cfg(test)]
+mod averaging;
+#[cfg(test)]
+mod laws;
+#[cfg(test)]
+mod outside;
+#[cfg(test)]
+mod words;
