@@ -1,122 +1,90 @@
 // The program with tasks that a gate holds: each row ends only where others go on meanwhile.
 use crate::holding::Holding;
-use crate::texts::{AMPLE, ended};
-use armus_base::{Point, TaskId};
+use crate::texts::{AMPLE, bytes_of, ended, number};
+use armus_base::{NoMemory, Point, TaskId};
 use std::alloc::Global;
-use std::process::Abort;
 use std::sync::Wait;
 use std::test::Fail;
 use std::thread::Threads;
 
-// Task 0 forks two tasks, each of which makes a phaser.
-const TWO_MAKERS: &str =
-    "t = newTid(); fork(t) { x = newPhaser(); }\nt = newTid(); fork(t) { x = newPhaser(); }\n";
+// A row: the words of its calls; the points at which it holds, each until another one is reached; the text; the outputs that may come; the status. A point is
+// an op of a task, as 1.0, or the moment at which the detector has named so many tasks.
+//
+// Two makers are each held until the other one acts: a run that makes its workers' turns one after another waits in vain. An await is passed while another
+// task is held: awaits are not left to the end of the run. Dead tasks are named while another task is held, and a look of the detector stands beside a turn:
+// each is held until the other has come. A task passes its await by what a task has stored that is held: two runs that share nothing wait in vain. An await is
+// decided while another task is published. And a pool goes on with a child while the task that forked it is held, which no round does.
+const ROWS: &str = "\
+run --workers 2,run --live --workers 2,run --sites 2 --workers 2,pool --workers 2,avoid --workers 2,avoid --kept --workers 2$1.0 until 2.0,2.0 until 1.0$t = newTid(); fork(t) { x = newPhaser(); } t = newTid(); fork(t) { x = newPhaser(); }$tasks 3 done 3 dead 0 held 0 refused 0 unforked 0~graph sg 0~$0\n\
+record --workers 2$1.0 until 2.0,2.0 until 1.0$t = newTid(); fork(t) { x = newPhaser(); }~t = newTid(); fork(t) { x = newPhaser(); }~$t = newTid(); fork(t) { x = newPhaser(); }~t = newTid(); fork(t) { x = newPhaser(); }~%%~t 0~t 0~t 1~t 2~|t = newTid(); fork(t) { x = newPhaser(); }~t = newTid(); fork(t) { x = newPhaser(); }~%%~t 0~t 0~t 2~t 1~$0\n\
+run --workers 2,run --live --workers 2,run --sites 2 --workers 2,pool --workers 2,avoid --workers 2,avoid --kept --workers 2$2.0 until 1.2$t = newTid(); fork(t) { p = newPhaser(); await(p); adv(p); } t = newTid(); fork(t) { x = newPhaser(); }$tasks 3 done 3 dead 0 held 0 refused 0 unforked 0~graph sg 0~$0\n\
+run --live --workers 2$4.0 until named 2$a = newPhaser();~b = newPhaser();~t = newTid(); reg(t, a); reg(t, b);~fork(t) { adv(a); await(a); }~t = newTid(); reg(t, a); reg(t, b);~fork(t) { adv(b); await(b); }~t = newTid();~fork(t) { u = newTid(); fork(u) { c = newPhaser(); } }~dereg(a); dereg(b);~$dead t1 p0@1~dead t2 p1@1~tasks 5 done 3 dead 2 held 0 refused 0 unforked 0~t1 dead p0@1~t2 dead p1@1~cycle t1 t2~graph sg 2~$1\n\
+run --live --workers 2$0.0 until named 0,named 0 until 0.0$p = newPhaser(); t = newTid(); reg(t, p); fork(t) { adv(p); await(p); } adv(p); await(p);$tasks 2 done 2 dead 0 held 0 refused 0 unforked 0~graph sg 0~$0\n\
+clock --live --workers 2$0.0 until named 0,named 0 until 0.0$clock c; async(c) { advance(c); } advance(c);$tasks 2 done 2 dead 0 held 0 refused 0 unforked 0~graph sg 0~$0\n\
+run --workers 2,run --live --workers 2,run --sites 2 --workers 2,pool --workers 2,avoid --workers 2,avoid --kept --workers 2$1.0 until 2.1,2.1 until 1.2$p = newPhaser(); t = newTid(); reg(t, p); fork(t) { adv(p); await(p); x = newPhaser(); } t = newTid(); reg(t, p); fork(t) { adv(p); y = newPhaser(); } dereg(p);$tasks 3 done 3 dead 0 held 0 refused 0 unforked 0~graph sg 0~$0\n\
+avoid --workers 2,avoid --kept --workers 2$2.0 until 1.2$p = newPhaser(); t = newTid(); fork(t) { q = newPhaser(); await(q); adv(q); } t = newTid(); reg(t, p); fork(t) { adv(p); } adv(p); await(p);$tasks 3 done 3 dead 0 held 0 refused 0 unforked 0~graph sg 0~$0\n\
+pool --workers 2$0.1 until 1.0$t = newTid(); fork(t) { x = newPhaser(); } t = newTid(); fork(t) { x = newPhaser(); }$tasks 3 done 3 dead 0 held 0 refused 0 unforked 0~graph sg 0~$0\n\
+";
 
-// Tasks 1 and 2 wait for each other, and task 3 forks task 4 meanwhile.
-const DEAD_BESIDE_OTHERS: &str =
-    "a = newPhaser();\nb = newPhaser();\nt = newTid(); reg(t, a); reg(t, b);\nfork(t) { adv(a); await(a); }\nt = newTid(); reg(t, a); reg(t, b);\nfork(t) { adv(b); await(b); }\nt = newTid();\nfork(t) { u = newTid(); fork(u) { c = newPhaser(); } }\ndereg(a); dereg(b);\n";
-
-// Task 1 passes an await of its own, beside task 2.
-const PASSES_AN_AWAIT: &str =
-    "t = newTid(); fork(t) { p = newPhaser(); await(p); adv(p); } t = newTid(); fork(t) { x = newPhaser(); }";
-
-// Op k of a task.
-fn op(t: u32, k: u32) -> Point {
-    Point::Op { t: TaskId(t), k }
+fn point(text: &str) -> Point {
+    if let Some((_, count)) = text.split_once("named ") {
+        return Point::Named {
+            count: number(count),
+        };
+    }
+    let (t, k) = text.split_once(".").unwrap_or((text, ""));
+    Point::Op {
+        t: TaskId(number(t)),
+        k: number(k),
+    }
 }
 
-// The words on this text under this gate end with this status and one of these outputs, and nobody waited in vain.
-fn expect<R: Abort + Threads + Wait + Sync>(
+fn points(text: &str) -> (Point, Point) {
+    let (held, until) = text.split_once(" until ").unwrap_or((text, ""));
+    (point(held), point(until))
+}
+
+fn gate(text: &str) -> Holding {
+    let (first, second) = text.split_once(",").unwrap_or((text, text));
+    Holding::new(points(first), points(second))
+}
+
+// Whether a call ended with this status and one of these outputs.
+fn is_one_of(
+    alloc: Global,
+    found: &(Vec<u8>, u8),
+    outputs: &str,
+    status: &str,
+) -> Result<bool, NoMemory> {
+    let mut is_one = false;
+    for output in outputs.split("|") {
+        is_one = is_one || bytes_of(alloc, output)? == found.0;
+    }
+    Ok(is_one && u32::from(found.1) == number(status))
+}
+
+// Whether a call of these words is as its row says behind them, and nobody waited in vain.
+fn is_met<R: Threads + Wait + Sync>(
     rt: &R,
     alloc: Global,
-    given: &str,
-    text: &str,
-    gate: &Holding,
-    outputs: &[&str],
-    status: u8,
-) -> Result<(), Fail> {
-    let input = text.as_bytes().to_vec(alloc)?;
-    let (found, end) = ended(rt, alloc, given, input, AMPLE, gate)?;
-    assert!(rt; end == status && !gate.gave_up());
-    assert!(rt;
-        outputs
-            .iter()
-            .any(|output| output.as_bytes() == found.as_slice())
-    );
-    Ok(())
+    words: &str,
+    row: &str,
+) -> Result<bool, NoMemory> {
+    let (holds, rest) = row.split_once("$").unwrap_or((row, ""));
+    let (text, rest) = rest.split_once("$").unwrap_or((rest, ""));
+    let (outputs, status) = rest.split_once("$").unwrap_or((rest, ""));
+    let gate = gate(holds);
+    let found = ended(rt, alloc, words, bytes_of(alloc, text)?, AMPLE, &gate)?;
+    Ok(is_one_of(alloc, &found, outputs, status)? && !gate.gave_up())
 }
 
-// The words of the ways to run a kernel with two workers that report alike where nobody is dead.
-const RUNS: [&str; 5] = [
-    "run --workers 2",
-    "run --sites 2 --workers 2",
-    "pool --workers 2",
-    "avoid --workers 2",
-    "avoid --kept --workers 2",
-];
-
-const THREE_DONE: &str = "tasks 3 done 3 dead 0 held 0 refused 0 unforked 0\ngraph sg 0\n";
-
-// Two tasks that each wait for the other's first op: a run that makes its workers' turns one after another would wait in vain.
 #[test]
-fn two_tasks_act_side_by_side(rt: HostRuntime) -> Result<(), Fail> {
-    for given in RUNS {
-        let gate = Holding::both(op(1, 0), op(2, 0));
-        expect(&rt, rt.alloc(), given, TWO_MAKERS, &gate, &[THREE_DONE], 0)?;
+fn others_go_on_while_tasks_are_held(rt: HostRuntime) -> Result<(), Fail> {
+    for row in ROWS.lines() {
+        let (calls, rest) = row.split_once("$").unwrap_or((row, ""));
+        for words in calls.split(",") {
+            assert!(rt; is_met(&rt, rt.alloc(), words, rest)?, "{words}: {rest}");
+        }
     }
     Ok(())
-}
-
-// The same of a recorded run: behind the steps of task 0 stands one of each other task, in one of two orders.
-#[test]
-fn two_tasks_of_a_record_act_side_by_side(rt: HostRuntime) -> Result<(), Fail> {
-    let alloc = rt.alloc();
-    let gate = Holding::both(op(1, 0), op(2, 0));
-    let in_order = format!(in alloc; "{TWO_MAKERS}%%\nt 0\nt 0\nt 1\nt 2\n")?;
-    let second_first = format!(in alloc; "{TWO_MAKERS}%%\nt 0\nt 0\nt 2\nt 1\n")?;
-    let outputs = [in_order.as_str(), second_first.as_str()];
-    expect(
-        &rt,
-        alloc,
-        "record --workers 2",
-        TWO_MAKERS,
-        &gate,
-        &outputs,
-        0,
-    )
-}
-
-// A task passes an await while another one is held: awaits are not left to the end of the run.
-#[test]
-fn an_await_is_passed_while_another_task_is_held(rt: HostRuntime) -> Result<(), Fail> {
-    for given in RUNS {
-        let gate = Holding::until(op(2, 0), op(1, 2));
-        expect(
-            &rt,
-            rt.alloc(),
-            given,
-            PASSES_AN_AWAIT,
-            &gate,
-            &[THREE_DONE],
-            0,
-        )?;
-    }
-    Ok(())
-}
-
-// The detector names two dead tasks while another task is held: it goes beside the tasks, and its lines are written meanwhile.
-#[test]
-fn dead_tasks_are_named_while_another_task_is_held(rt: HostRuntime) -> Result<(), Fail> {
-    let gate = Holding::until(op(4, 0), Point::Named { count: 2 });
-    let output =
-        "dead t1 p0@1\ndead t2 p1@1\ntasks 5 done 3 dead 2 held 0 refused 0 unforked 0\nt1 dead p0@1\nt2 dead p1@1\ncycle t1 t2\ngraph sg 2\n";
-    expect(
-        &rt,
-        rt.alloc(),
-        "run --live --workers 2",
-        DEAD_BESIDE_OTHERS,
-        &gate,
-        &[output],
-        1,
-    )
 }

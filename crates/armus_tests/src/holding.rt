@@ -15,10 +15,10 @@ struct Hold {
 }
 
 impl Hold {
-    fn new(held: Point, until: Point) -> Hold {
+    fn new(points: (Point, Point)) -> Hold {
         Hold {
-            held,
-            until,
+            held: points.0,
+            until: points.1,
             came: AtomicBool::new(false),
         }
     }
@@ -44,20 +44,11 @@ pub struct Holding {
 }
 
 impl Holding {
-    /// A gate that holds at one point until another one has been passed or is reached.
-    pub fn until(held: Point, until: Point) -> Holding {
+    /// A gate that holds at two points, at each until another one is reached.
+    pub fn new(first: (Point, Point), second: (Point, Point)) -> Holding {
         Holding {
-            first: Hold::new(held, until),
-            second: Hold::new(held, until),
-            gave_up: AtomicBool::new(false),
-        }
-    }
-
-    /// A gate that holds at each of two points until the other one is reached.
-    pub fn both(one: Point, other: Point) -> Holding {
-        Holding {
-            first: Hold::new(one, other),
-            second: Hold::new(other, one),
+            first: Hold::new(first),
+            second: Hold::new(second),
             gave_up: AtomicBool::new(false),
         }
     }
