@@ -16,8 +16,6 @@ mod passes;
 pub mod plans;
 #[cfg(test)]
 mod rounds;
-#[cfg(test)]
-mod site_rows;
 pub mod walker;
 #[cfg(test)]
 mod walks;

@@ -1,8 +1,8 @@
 // Two threads step a world of two tasks that wait for each other.
 ghost use Rattle.std.specs.Prelude.{◌≡◌, ◌<◌, length};
 
+use crate::plans::named_plan;
 use armus_base::{List, NoMemory, Plan, TaskId};
-use board_tests::plans::{CHILD, ROOT, two_tasks};
 use locked_world::{LockedWorld, Logged, PlanName};
 use pl_core::Stand;
 use std::alloc::Global;
@@ -10,6 +10,11 @@ use std::marker::Brand;
 use std::sync::Wait;
 use std::test::Fail;
 use std::thread::{Threads, join};
+
+// The task that is the program, and the one that it forks.
+const ROOT: TaskId = TaskId(0);
+
+const CHILD: TaskId = TaskId(1);
 
 // Up to five steps of a task, each under the lock.
 fn step_often<N: PlanName, R: Wait>(
@@ -50,6 +55,23 @@ fn logged_by_two<'p, N: PlanName, R: Threads + Wait + Sync>(
     Ok(shared.into_logged())
 }
 
+// Whether the run goes on to its end by nine steps in all, and the child waits there.
+fn ends<N: PlanName>(logged: &mut Logged<'_, N>) -> Result<bool, NoMemory>
+    requires two { length N.plan.parents ≡ 2 }
+{
+    for _ in 0..9 {
+        logged.step(ROOT)?;
+        logged.step(CHILD)?;
+    }
+    if logged.journal().len() != 9 || logged.step(ROOT)? {
+        return Ok(false);
+    }
+    match logged.world().stand(CHILD) {
+        Stand::Waits(_) => Ok(true),
+        _ => Ok(false),
+    }
+}
+
 // The journal of a run to its end, which two threads begin.
 fn journal_by_two<N: PlanName, R: Threads + Wait + Sync>(
     rt: &R,
@@ -60,27 +82,33 @@ fn journal_by_two<N: PlanName, R: Threads + Wait + Sync>(
     requires two { length plan.now.parents ≡ 2 }
 {
     let mut logged: Logged<'_, N> = logged_by_two(rt, alloc, plan)?;
-    for _ in 0..9 {
-        logged.step(ROOT)?;
-        logged.step(CHILD)?;
-    }
-    if logged.journal().len() != 9 || logged.step(ROOT)? {
+    if !ends(&mut logged)? {
         return Ok(List::new(alloc));
     }
-    match logged.world().stand(CHILD) {
-        Stand::Waits(_) => Ok(logged.into_journal()),
-        _ => Ok(List::new(alloc)),
+    Ok(logged.into_journal())
+}
+
+// Whether the journal has nine steps, the first five of them by the task that is the program.
+fn is_of_nine<R: Threads + Wait + Sync>(
+    rt: &R,
+    alloc: Global,
+    plan: &Plan,
+) -> Result<bool, NoMemory> {
+    if plan.tasks() != 2 {
+        return Ok(false);
     }
+    let journal = journal_by_two::<Brand, R>(rt, alloc, plan)?;
+    Ok(journal.as_slice().len() == 9 && begins_with(journal.as_slice(), ROOT))
+}
+
+/// Whether the first five steps are by this task.
+pub(crate) fn begins_with(journal: &[TaskId], t: TaskId) -> bool {
+    journal.len() >= 5 && journal[..5] == [t, t, t, t, t]
 }
 
 #[test]
 fn nine_steps(rt: HostRuntime) -> Result<(), Fail> {
-    let alloc = rt.alloc();
-    let plan = two_tasks(alloc)?;
-    assert_eq!(rt; plan.tasks(), 2);
-    let journal = journal_by_two::<Brand, _>(&rt, alloc, &plan)?;
-    let journal = journal.as_slice();
-    assert_eq!(rt; journal.len(), 9);
-    assert!(rt; journal[..5] == [ROOT, ROOT, ROOT, ROOT, ROOT]);
+    let plan = named_plan(rt.alloc(), "two")?;
+    assert!(rt; is_of_nine(&rt, rt.alloc(), &plan)?);
     Ok(())
 }

@@ -1,20 +1,33 @@
-//! Tests of worlds in one thread and under a lock, of schedules, and of each kind of run: all over the same small plans.
+//! Tests of worlds in one thread and under a lock, of schedules, of pools and sites, and of each kind of run: all over the same small plans.
 #![tactic(auto)]
 
-#[cfg(test)]
-mod avoided_runs;
 #[cfg(test)]
 mod journals;
 #[cfg(test)]
 mod meeting;
-pub mod plans;
 #[cfg(test)]
-mod pool_runs;
+mod plans;
 #[cfg(test)]
-mod recorded_runs;
+mod pool_steps;
+#[cfg(test)]
+mod pool_threads;
+#[cfg(test)]
+mod runs;
 #[cfg(test)]
 mod schedules;
 #[cfg(test)]
+mod site_bytes;
+#[cfg(test)]
+mod site_desk;
+#[cfg(test)]
+mod site_keepers;
+#[cfg(test)]
+mod site_moments;
+#[cfg(test)]
 mod site_runs;
 #[cfg(test)]
+mod state_texts;
+#[cfg(test)]
 mod states;
+#[cfg(test)]
+mod texts;

@@ -1,30 +1,82 @@
-// Small plans beside those of the board's tests, by their texts too.
-ghost use Rattle.std.specs.Prelude.{◌≡◌, IfOk, length};
-
-use armus_base::{NoMemory, Plan};
-use board_tests::plans::small_plan;
+// Small plans, by a word for each, from their texts.
+use armus_base::{NoMemory, PhaserId, Plan, TaskId};
+use pl_plan::plan;
+use pl_syntax::parse;
 use std::alloc::Global;
+use std::test::Fail;
 
-/// The plan of the empty text.
-pub fn no_statement(alloc: Global) -> Result<Plan, NoMemory>
-    ensures { IfOk result (λ plan. (length plan.parents ≡ 1) × (length plan.makers ≡ 0)) }
-{
-    small_plan(alloc, b"".as_slice(), 1, 0)
+// A plan, who forks each of its tasks, and who makes each of its phasers.
+const ROWS: &str = "\
+none | -\n\
+two | - t0 p0 by t0 p1 by t0\n\
+loop | - p0 by t0\n\
+makers | - t0 t0 p0 by t1 p1 by t2\n\
+";
+
+// The text that a word stands for.
+fn text_of(word: &str) -> &'static str {
+    match word {
+        // Two tasks that wait for each other: the first on p, the second on q.
+        "two" => {
+            "p = newPhaser(); q = newPhaser(); t = newTid(); reg(t, p); reg(t, q); fork(t) { adv(q); await(q); } adv(p); await(p);"
+        }
+        "loop" => "p = newPhaser(); loop 3 { adv(p); await(p); }",
+        "makers" => {
+            "t = newTid(); u = newTid(); fork(t) { p = newPhaser(); } fork(u) { q = newPhaser(); }"
+        }
+        _ => "",
+    }
 }
 
-/// One task makes a phaser, and then advances on it and awaits it three times.
-pub fn one_loop(alloc: Global) -> Result<Plan, NoMemory>
-    ensures { IfOk result (λ plan. (length plan.parents ≡ 1) × (length plan.makers ≡ 1)) }
-{
-    let text = b"p = newPhaser(); loop 3 { adv(p); await(p); }";
-    small_plan(alloc, text.as_slice(), 1, 1)
+/// The plan that a word stands for; that of the empty text for any other word.
+pub(crate) fn named_plan(alloc: Global, word: &str) -> Result<Plan, NoMemory> {
+    let text = text_of(word.trim());
+    if text.len() > 1000 {
+        return Err(NoMemory);
+    }
+    let Ok(program) = parse(alloc, text.as_bytes()) else {
+        return Err(NoMemory);
+    };
+    match plan(alloc, &program) {
+        Ok(plan) => Ok(plan),
+        Err(_) => Err(NoMemory),
+    }
 }
 
-/// Task 0 forks two children, each of which makes a phaser.
-pub fn two_makers(alloc: Global) -> Result<Plan, NoMemory>
-    ensures { IfOk result (λ plan. (length plan.parents ≡ 3) × (length plan.makers ≡ 2)) }
-{
-    let text =
-        b"t = newTid(); u = newTid(); fork(t) { p = newPhaser(); } fork(u) { q = newPhaser(); }";
-    small_plan(alloc, text.as_slice(), 3, 2)
+fn add_parent(alloc: Global, text: &mut String, parent: Option<TaskId>) -> Result<(), NoMemory> {
+    match parent {
+        Some(t) => {
+            let t = t.0;
+            text.push_str(format!(in alloc; "t{t} ")?.as_str())?;
+        }
+        None => text.push_str("- ")?,
+    }
+    Ok(())
+}
+
+fn plan_text(alloc: Global, plan: &Plan) -> Result<String, NoMemory> {
+    let mut text = String::new(alloc);
+    for t in 0..plan.tasks() {
+        add_parent(alloc, &mut text, plan.parent(TaskId(t)))?;
+    }
+    for p in 0..plan.phasers() {
+        let t = plan.maker(PhaserId(p)).0;
+        text.push_str(format!(in alloc; "p{p} by t{t} ")?.as_str())?;
+    }
+    Ok(text)
+}
+
+fn is_met(alloc: Global, row: &str) -> Result<bool, NoMemory> {
+    let (word, wanted) = row.split_once("|").unwrap_or((row, ""));
+    let plan = named_plan(alloc, word)?;
+    let text = plan_text(alloc, &plan)?;
+    Ok(text.as_str().trim() == wanted.trim())
+}
+
+#[test]
+fn plans_by_their_texts(rt: HostRuntime) -> Result<(), Fail> {
+    for row in ROWS.lines() {
+        assert!(rt; is_met(rt.alloc(), row)?, "{row}");
+    }
+    Ok(())
 }

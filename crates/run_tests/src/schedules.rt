@@ -1,89 +1,119 @@
-// Schedules over the empty text's plan, and over that of two tasks that wait for each other.
-use crate::plans::no_statement;
-use armus_base::Plan;
-use board_tests::plans::{B, CHILD, ROOT, two_tasks};
-use schedule::{ReplayEnd, read_lines, replay, replay_text, split_input};
+// Schedules, and the text of each one's replay or the line of its fault. In a row a slash ends a line, and ^ stands for the byte 13.
+use crate::plans::named_plan;
+use armus_base::{NoMemory, Plan};
+use schedule::{Line, ReplayEnd, ScheduleFault, read_lines, replay, replay_text, split_input};
 use std::alloc::Global;
 use std::test::Fail;
 
+// A plan, what the replay says, and the schedule.
+const ROWS: &str = "\
+none | kind 2 line 1 |t 0\n\
+none | kind 3 line 1 |t 1\n\
+none | kind 3 line 1 |t 999999999\n\
+none | kind 1 line 1 |t 00\n\
+none | kind 1 line 1 |t  0\n\
+none | kind 1 line 1 |T 0\n\
+none | kind 1 line 1 |t 1000000000\n\
+none | kind 1 line 1 |/\n\
+none | kind 1 line 1 |l^\n\
+none | kind 5 line 2 |pass/pass\n\
+none | kind 4 line 3 |pass/l/l\n\
+none | end steps 0 passes 0 dead none/ |pass\n\
+none | pass 1 dead none/end steps 0 passes 1 dead none/ |pass/l/\n\
+two | pass 1 dead none/pass 2 dead t0 t1/end steps 9 passes 2 dead t0 t1/ |t 0/t 0/t 0/t 0/t 0/pass/l/t 0/t 0/t 1/t 1/l/l/pass/l/l/l/l/l/l/\n\
+";
+
+// The bytes that a row means.
+fn meant(alloc: Global, text: &str) -> Result<Vec<u8>, NoMemory> {
+    let mut bytes = Vec::new(alloc);
+    for b in text.bytes() {
+        bytes.push(match b {
+            b'/' => b'\n',
+            b'^' => b'\r',
+            _ => b,
+        })?;
+    }
+    Ok(bytes)
+}
+
+fn fault_text(alloc: Global, fault: &ScheduleFault) -> Result<Vec<u8>, NoMemory> {
+    let kind = fault.kind;
+    let line = fault.line;
+    Ok(format!(in alloc; "kind {kind} line {line}")?.into_bytes())
+}
+
 // The text of the replay, or the line of its fault.
-fn outcome(alloc: Global, plan: &Plan, schedule: &str) -> Result<Vec<u8>, Fail> {
-    if schedule.len() > 1000 {
-        return Ok(Vec::new(alloc));
+fn outcome(alloc: Global, plan: &Plan, lines: &[Line]) -> Result<Vec<u8>, NoMemory> {
+    if lines.len() > 1000 {
+        return Err(NoMemory);
     }
-    let lines = read_lines(alloc, schedule.as_bytes())?;
-    if lines.as_slice().len() > 1000 {
-        return Ok(Vec::new(alloc));
-    }
-    match replay(alloc, plan, lines.as_slice()) {
+    match replay(alloc, plan, lines) {
         Ok(done) => Ok(replay_text(alloc, &done)?.into_vec()),
-        Err(ReplayEnd::Schedule(fault)) => {
-            let kind = fault.kind;
-            let line = fault.line;
-            Ok(format!(in alloc; "kind {kind} line {line}")?.into_bytes())
-        }
-        Err(ReplayEnd::NoMemory) => Ok(Vec::new(alloc)),
+        Err(ReplayEnd::Schedule(fault)) => fault_text(alloc, &fault),
+        Err(ReplayEnd::NoMemory) => Err(NoMemory),
     }
+}
+
+// Whether the schedule has this outcome.
+fn says(alloc: Global, plan: &Plan, schedule: &[u8], wanted: &[u8]) -> Result<bool, NoMemory> {
+    if schedule.len() > 1000 {
+        return Err(NoMemory);
+    }
+    let lines = read_lines(alloc, schedule)?;
+    let found = outcome(alloc, plan, lines.as_slice())?;
+    Ok(found.as_slice() == wanted)
+}
+
+// Whether the schedule in the row has the outcome there.
+fn row_says(alloc: Global, plan: &Plan, schedule: &str, wanted: &str) -> Result<bool, NoMemory> {
+    let schedule = meant(alloc, schedule)?;
+    let wanted = meant(alloc, wanted)?;
+    says(alloc, plan, schedule.as_slice(), wanted.as_slice())
+}
+
+fn is_met(alloc: Global, row: &str) -> Result<bool, NoMemory> {
+    let (word, rest) = row.split_once("|").unwrap_or((row, ""));
+    let (wanted, schedule) = rest.split_once("|").unwrap_or((rest, ""));
+    let plan = named_plan(alloc, word)?;
+    row_says(alloc, &plan, schedule, wanted.trim())
 }
 
 #[test]
 fn faults_and_ends(rt: HostRuntime) -> Result<(), Fail> {
-    let alloc = rt.alloc();
-    let plan = no_statement(alloc)?;
-    for (schedule, want) in [
-        ("t 0", "kind 2 line 1"),
-        ("t 1", "kind 3 line 1"),
-        ("t 999999999", "kind 3 line 1"),
-        ("t 00", "kind 1 line 1"),
-        ("t  0", "kind 1 line 1"),
-        ("T 0", "kind 1 line 1"),
-        ("t 1000000000", "kind 1 line 1"),
-        ("\n", "kind 1 line 1"),
-        ("l\r", "kind 1 line 1"),
-        ("pass\npass", "kind 5 line 2"),
-        ("pass\nl\nl", "kind 4 line 3"),
-        ("pass", "end steps 0 passes 0 dead none\n"),
-        (
-            "pass\nl\n",
-            "pass 1 dead none\nend steps 0 passes 1 dead none\n",
-        ),
-    ] {
-        let found = outcome(alloc, &plan, schedule)?;
-        assert!(rt; found.as_slice() == want.as_bytes(), "at {schedule}");
+    for row in ROWS.lines() {
+        assert!(rt; is_met(rt.alloc(), row)?, "{row}");
     }
     Ok(())
 }
 
-#[test]
-fn both_tasks_are_named(rt: HostRuntime) -> Result<(), Fail> {
-    let alloc = rt.alloc();
-    let plan = two_tasks(alloc)?;
-    assert_eq!(rt; plan.tasks(), 2);
-    assert_eq!(rt; plan.phasers(), 2);
-    assert!(rt; plan.parent(ROOT).is_none() && plan.parent(CHILD) == Some(ROOT));
-    assert_eq!(rt; plan.maker(B), ROOT);
-    let schedule =
-        "t 0\nt 0\nt 0\nt 0\nt 0\npass\nl\nt 0\nt 0\nt 1\nt 1\nl\nl\npass\nl\nl\nl\nl\nl\nl\n";
-    let want = "pass 1 dead none\npass 2 dead t0 t1\nend steps 9 passes 2 dead t0 t1\n";
-    let found = outcome(alloc, &plan, schedule)?;
-    assert!(rt; found.as_slice() == want.as_bytes());
-    Ok(())
+// An input, its text, and its schedule.
+const INPUTS: &str = "\
+||\n\
+%%/l/||l/\n\
+skip;/%%/t 0/|skip;/|t 0/\n\
+skip;/%%|skip;/|\n\
+skip; %%/%%%/|skip; %%/%%%/|\n\
+a/%%/b/%%/|a/|b/%%/\n\
+";
+
+// Whether these are the bytes that a row means.
+fn is_meant(alloc: Global, bytes: &[u8], text: &str) -> Result<bool, NoMemory> {
+    let wanted = meant(alloc, text)?;
+    Ok(bytes == wanted.as_slice())
+}
+
+fn is_split(alloc: Global, row: &str) -> Result<bool, NoMemory> {
+    let (input, rest) = row.split_once("|").unwrap_or((row, ""));
+    let (text, schedule) = rest.split_once("|").unwrap_or((rest, ""));
+    let input = meant(alloc, input)?;
+    let found = split_input(input.as_slice());
+    Ok(is_meant(alloc, found.0, text)? && is_meant(alloc, found.1, schedule)?)
 }
 
 #[test]
-fn texts_are_split(rt: HostRuntime) {
-    for (input, text, schedule) in [
-        ("", "", ""),
-        ("%%\nl\n", "", "l\n"),
-        ("skip;\n%%\nt 0\n", "skip;\n", "t 0\n"),
-        ("skip;\n%%", "skip;\n", ""),
-        ("skip; %%\n%%%\n", "skip; %%\n%%%\n", ""),
-        ("a\n%%\nb\n%%\n", "a\n", "b\n%%\n"),
-    ] {
-        let found = split_input(input.as_bytes());
-        assert!(rt;
-            found.0 == text.as_bytes() && found.1 == schedule.as_bytes(),
-            "at {input}"
-        );
+fn inputs_are_split(rt: HostRuntime) -> Result<(), Fail> {
+    for row in INPUTS.lines() {
+        assert!(rt; is_split(rt.alloc(), row)?, "{row}");
     }
+    Ok(())
 }

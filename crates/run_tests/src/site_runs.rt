@@ -1,26 +1,42 @@
 // Runs over two sites of two tasks that wait for each other.
-ghost use Rattle.std.specs.Prelude.{◌≡◌, ◌<◌, length};
+ghost use Rattle.std.specs.Prelude.{◌≡◌, None, length, replicate};
 
-use adaptive::Wanted;
-use armus_base::{Event, List, Plan, Still, TaskEnd};
-use board_tests::plans::{A, B, two_tasks};
-use sites::{KeepEnd, Keeper, MemKeeper};
+use crate::plans::named_plan;
+use crate::runs::{final_text, options_of};
+use crate::site_desk::Desk;
+use armus_base::{List, NoMemory, Plan, Still};
+use sites::{KeepEnd, MemKeeper};
 use std::alloc::Global;
 use std::test::Fail;
 use std::thread::Threads;
-use task_runner::{RunOptions, run_sites};
+use task_runner::run_sites;
 
-// The row of site 0 at the end: one status, of task 0 on p0@1, with two phases: 1 of p0, 0 of p1.
-const FIRST_ROW: [u8; 36] = [
-    0, 0, 0, 1, 0, 0, 0, 0, 0, 0, 0, 0, 0, 0, 0, 1, 0, 0, 0, 2, 0, 0, 0, 0, 0, 0, 0, 1, 0, 0, 0, 1,
-    0, 0, 0, 0,
-];
+// How each task has ended and how many are blocked; then, for each site, the row at the end: for site 0 one status, of task 0 on p0@1, with two phases, 1 of p0 and
+// 0 of p1, and for site 1 one of task 1 on p1@1, with 0 of p0 and 1 of p1.
+const ENDS: &str = "blocked 0@1, blocked 1@1, 2 blocked";
 
-// The row of site 1: one status, of task 1 on p1@1, with two phases: 0 of p0, 1 of p1.
-const SECOND_ROW: [u8; 36] = [
-    0, 0, 0, 1, 0, 0, 0, 1, 0, 0, 0, 1, 0, 0, 0, 1, 0, 0, 0, 2, 0, 0, 0, 0, 0, 0, 0, 0, 0, 0, 0, 1,
-    0, 0, 0, 1,
-];
+const LAST_ROWS: &str = "\
+0 0 0 1 0 0 0 0 0 0 0 0 0 0 0 1 0 0 0 2 0 0 0 0 0 0 0 1 0 0 0 1 0 0 0 0; \
+0 0 0 1 0 0 0 1 0 0 0 1 0 0 0 1 0 0 0 2 0 0 0 0 0 0 0 0 0 0 0 1 0 0 0 1; \
+";
+
+// What the run ends in, or that the keeper failed.
+fn ran<R: Threads + Sync>(
+    rt: &R,
+    alloc: Global,
+    plan: &Plan,
+    workers: u32,
+    keeper: &mut MemKeeper,
+) -> Result<String, KeepEnd>
+    requires empty { keeper.old.rows ≡ replicate 2 None }
+    ensures kept { length keeper.new.rows ≡ 2 }
+{
+    let Some(options) = options_of(workers) else {
+        return Err(KeepEnd::NoMemory);
+    };
+    let end = run_sites(rt, alloc, plan, &options, 2, keeper, &Still)?;
+    Ok(final_text(alloc, &end)?)
+}
 
 // Whether the run fails where this call of its keeper does.
 fn fails_at<R: Threads + Sync>(
@@ -28,68 +44,62 @@ fn fails_at<R: Threads + Sync>(
     alloc: Global,
     plan: &Plan,
     call: u64,
-) -> Result<bool, Fail> {
-    let fails = List::from_vec(vec![in alloc; call]?);
+) -> Result<bool, NoMemory> {
+    let mut fails = List::new(alloc);
+    fails.push(call)?;
     let mut keeper = MemKeeper::new(alloc, 2, fails)?;
-    let options = RunOptions {
-        workers: 1,
-        wanted: Wanted::Auto,
-        live: false,
-    };
-    match run_sites(rt, alloc, plan, &options, 2, &mut keeper, &Still) {
+    match ran(rt, alloc, plan, 1, &mut keeper) {
         Err(KeepEnd::Fault) => Ok(true),
-        _ => Ok(false),
+        Err(KeepEnd::NoMemory) => Err(NoMemory),
+        Ok(_) => Ok(false),
     }
 }
 
-// Each pass makes two calls of `put` and two of `get`, and there is one pass at least, and as many calls at the end: each of them ends the run where it
-// fails, and no later one is made.
-#[test]
-fn each_call_of_the_keeper_counts(rt: HostRuntime) -> Result<(), Fail> {
-    let alloc = rt.alloc();
-    let plan = two_tasks(alloc)?;
-    let mut next = 1;
+// How many calls a run makes of its keeper, if each of the first calls ends the run where it fails, and no later one is made.
+fn calls<R: Threads + Sync>(rt: &R, alloc: Global, plan: &Plan) -> Result<Option<u64>, NoMemory> {
+    let mut made = 0;
     for call in 1..40 {
-        if fails_at(&rt, alloc, &plan, call)? {
-            assert_eq!(rt; call, next);
-            next = call + 1;
+        if fails_at(rt, alloc, plan, call)? {
+            if call != made + 1 {
+                return Ok(None);
+            }
+            made = call;
         }
     }
-    assert!(rt; next > 8);
-    assert_eq!(rt; next % 4, 1);
+    Ok(Some(made))
+}
+
+// Each pass makes two calls of `put` and two of `get`, and there is one pass at least, and as many calls at the end.
+#[test]
+fn each_call_of_the_keeper_counts(rt: HostRuntime) -> Result<(), Fail> {
+    let plan = named_plan(rt.alloc(), "two")?;
+    let made = calls(&rt, rt.alloc(), &plan)?.unwrap_or(0);
+    assert!(rt; made >= 8 && made % 4 == 0);
     Ok(())
 }
 
-// Whether this row is held of the site.
-fn holds(alloc: Global, keeper: &mut MemKeeper, site: u32, row: &[u8]) -> bool
-    requires { site < length keeper.old.rows }
-    ensures { length keeper.new.rows ≡ length keeper.old.rows }
+// Whether these are the last rows of the keeper.
+fn holds(alloc: Global, keeper: MemKeeper, wanted: &str) -> Result<bool, NoMemory>
+    requires { length keeper.rows ≡ 2 }
 {
-    match keeper.get(alloc, site) {
-        Ok(Some(held)) => held.as_slice() == row,
-        _ => false,
+    let mut desk = Desk::new(alloc, keeper, 2);
+    desk.call(alloc, "get 0")?;
+    desk.call(alloc, "get 1")?;
+    Ok(desk.told() == wanted)
+}
+
+// Whether a run by two workers ends so, and the last rows are those.
+fn ends_so<R: Threads + Sync>(rt: &R, alloc: Global, plan: &Plan) -> Result<bool, NoMemory> {
+    let mut keeper = MemKeeper::new(alloc, 2, List::new(alloc))?;
+    match ran(rt, alloc, plan, 2, &mut keeper) {
+        Ok(text) => Ok(text.as_str() == ENDS && holds(alloc, keeper, LAST_ROWS)?),
+        Err(_) => Ok(false),
     }
 }
 
 #[test]
 fn the_last_rows(rt: HostRuntime) -> Result<(), Fail> {
-    let alloc = rt.alloc();
-    let plan = two_tasks(alloc)?;
-    let mut keeper = MemKeeper::new(alloc, 2, List::new(alloc))?;
-    let options = RunOptions {
-        workers: 2,
-        wanted: Wanted::Auto,
-        live: false,
-    };
-    let end = run_sites(&rt, alloc, &plan, &options, 2, &mut keeper, &Still)
-        .ok()
-        .ok_or("no call fails")?;
-    let dead = [
-        TaskEnd::Blocked(Event { p: A, n: 1 }),
-        TaskEnd::Blocked(Event { p: B, n: 1 }),
-    ];
-    assert!(rt; end.ends.as_slice() == dead.as_slice());
-    assert!(rt; holds(alloc, &mut keeper, 0, &FIRST_ROW));
-    assert!(rt; holds(alloc, &mut keeper, 1, &SECOND_ROW));
+    let plan = named_plan(rt.alloc(), "two")?;
+    assert!(rt; ends_so(&rt, rt.alloc(), &plan)?);
     Ok(())
 }

@@ -25,6 +25,3 @@ pub use parts::put_parts;
 pub use passing::site_pass;
 pub use snapping::snap;
 pub use snapshot::Snapshot;
-
-#[cfg(test)]
-mod tests;

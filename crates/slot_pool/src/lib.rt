@@ -19,8 +19,3 @@ pub use named::Named;
 pub use pool::Pool;
 pub use room::NoRoom;
 pub use worker::Worker;
-
-#[cfg(test)]
-mod tests;
-#[cfg(test)]
-mod thread_tests;

@@ -2,10 +2,9 @@
 ghost use Rattle.std.specs.Prelude.{◌≡◌, ◌<◌, [], ◌∷◌};
 ghost use Rattle.slot_pool.specs.Hands.{IsOfPool, IsSameWorker};
 
-use crate::{Claim, Named, Pool, Worker};
 use armus_base::{List, TaskId};
+use slot_pool::{Claim, Named, Pool, Worker};
 use std::alloc::Global;
-use std::test::Fail;
 use std::thread::{Threads, join_mut};
 
 // A record of a task, which counts how often it was got.
@@ -85,24 +84,26 @@ fn work_both<R: Threads + Sync>(
     one.wrapping_add(other)
 }
 
+// A record that was never got.
+fn new_counter(task: u32) -> Counter
+    ensures { result.task.0 ≡ task }
+{
+    Counter {
+        task: TaskId(task),
+        count: 0,
+    }
+}
+
 // Two workers make so many claims each, of two tasks; whether as many were got as the records were got by their own count.
 fn run<R: Threads + Sync>(rt: &R, alloc: Global, claims: u32) -> Option<bool> {
-    let zero = Counter {
-        task: TaskId(0),
-        count: 0,
-    };
-    let one = Counter {
-        task: TaskId(1),
-        count: 0,
-    };
-    let Ok((pool, workers)) = Pool::start(alloc, 2, 2, zero) else {
+    let Ok((pool, workers)) = Pool::start(alloc, 2, 2, new_counter(0)) else {
         return None;
     };
     let mut workers = workers.into_vec();
     let mut second = workers.pop()?;
     let mut first = workers.pop()?;
-    let Ok(()) = first.place(&pool, one) else {
-        return Some(false);
+    let Ok(()) = first.place(&pool, new_counter(1)) else {
+        return None;
     };
     let got = work_both(rt, &pool, &mut first, &mut second, claims);
     let entries = close(alloc, pool, first, second)?;
@@ -141,10 +142,9 @@ fn counted(entries: &[Option<Counter>]) -> u32 {
 }
 
 #[test]
-fn who_has_a_record_has_it_alone(rt: HostRuntime) -> Result<(), Fail> {
+fn who_has_a_record_has_it_alone(rt: HostRuntime) {
     assert!(rt;
         run(&rt, rt.alloc(), 10_000) == Some(true),
         "two workers side by side"
     );
-    Ok(())
 }

@@ -1,7 +1,7 @@
 use Rattle.std.proofs.Common.{◌≡◌, ◌<◌, ◌∷◌, ◌++◌, [], List, sym, ap, ◌∙◌, subst}
 use Rattle.slot_pool.specs.Hands.{Hand, IsNumberOf}
 use Rattle.slot_pool.proofs.FirstWorkers.{pair_numbers}
-use Rattle.slot_pool.proofs.thread_tests.close.Goals as goal
+use Rattle.run_tests.proofs.pool_threads.close.Goals as goal
 
 pub close-requires-clause-all_workers : goal.close-requires-clause-all_workers
 close-requires-clause-all_workers c = λ k l.

@@ -1,6 +1,6 @@
 use Rattle.std.proofs.Common.{◌≡◌, []}
 use Rattle.slot_pool.specs.Hands.{IsSameWorker}
-use Rattle.slot_pool.proofs.thread_tests.work.Given as goal
+use Rattle.run_tests.proofs.pool_threads.work.Given as goal
 
 abbrev pub invariant-loop-claim : goal.invariant-loop-claim
 invariant-loop-claim l = IsSameWorker l.initial.worker l.worker × (l.worker.view.has ≡ [])

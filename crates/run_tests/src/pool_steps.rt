@@ -1,12 +1,18 @@
-// Calls of two workers one after the other, and what each of them answers.
+// Steps of two workers of a pool of four tasks, one after the other, and what each of them finds.
 ghost use Rattle.std.specs.Prelude.{◌≡◌, ◌<◌, [], ◌∷◌, map};
 ghost use Rattle.std.specs.Option.{option_to_list};
 ghost use Rattle.slot_pool.specs.Hands.{IsOfPool, IsSameWorker};
 
-use crate::{Claim, Named, Pool, Worker};
+use crate::texts::{first_word, number};
 use armus_base::{List, TaskId};
+use slot_pool::{Claim, Named, Pool, Worker};
 use std::alloc::Global;
-use std::test::Fail;
+
+// Steps, each with what it finds, and how many records are home at the end, unless a worker has one.
+const ROWS: &str = "\
+0 claim 0 -> got; 1 claim 0 -> held 0; 1 claim 1 -> empty; 0 place 1 -> placed; 0 put -> put; 1 claim 1 -> got; 1 place 1 -> back; 1 put -> put | 2\n\
+0 claim 1 -> empty; 0 place 1 -> placed; 0 claim 1 -> got; 0 place 1 -> back; 0 place 3 -> placed; 1 claim 1 -> held 0; 0 put -> put; 1 place 3 -> back; 1 claim 3 -> got | one is held\n\
+";
 
 // A record of a task.
 #[derive(Drop)]
@@ -22,16 +28,8 @@ impl Named for Token {
     }
 }
 
-// What a worker does: a claim of a task, a record of it placed, or what it has put back.
-#[derive(Clone, Copy, PartialEq, Eq)]
-enum Call {
-    Claim,
-    Place,
-    Put,
-}
-
-// What is found.
-#[derive(Clone, Copy, PartialEq, Eq)]
+// What a step finds.
+#[derive(Clone, Copy)]
 enum Found {
     Got,
     Held(u32),
@@ -93,60 +91,66 @@ fn place(pool: &Pool<Token>, hand: &mut Hand, task: TaskId) -> Found
     }
 }
 
-fn act(pool: &Pool<Token>, hand: &mut Hand, call: Call, task: TaskId) -> Found
+// What the worker finds at this step.
+fn step(pool: &Pool<Token>, hand: &mut Hand, call: &str, task: TaskId) -> Found
     requires made { IsOfPool hand.old.worker pool.now }
     requires task { task.0 < pool.now.tasks }
     ensures same { IsSameWorker hand.old.worker hand.new.worker }
 {
     match call {
-        Call::Claim => claim(pool, hand, task),
-        Call::Place => place(pool, hand, task),
-        Call::Put => put(pool, hand),
+        "claim" => claim(pool, hand, task),
+        "place" => place(pool, hand, task),
+        _ => put(pool, hand),
     }
 }
 
-// A call of the first worker or of the second.
-fn act_by(
-    pool: &Pool<Token>,
-    first: &mut Hand,
-    second: &mut Hand,
-    who: u8,
-    call: Call,
-    task: TaskId,
-) -> Found
-    requires first { IsOfPool first.old.worker pool.now }
-    requires second { IsOfPool second.old.worker pool.now }
-    requires task { task.0 < pool.now.tasks }
-    ensures first { IsSameWorker first.old.worker first.new.worker }
-    ensures second { IsSameWorker second.old.worker second.new.worker }
-{
-    if who == 0 {
-        act(pool, first, call, task)
-    } else {
-        act(pool, second, call, task)
+// Whether this is what is to be found.
+fn is_told(found: Found, wanted: &str) -> bool {
+    let (word, by) = first_word(wanted);
+    match found {
+        Found::Got => word == "got",
+        Found::Held(worker) => word == "held" && number(by) == worker,
+        Found::Empty => word == "empty",
+        Found::Placed => word == "placed",
+        Found::Back => word == "back",
+        Found::IsPut => word == "put",
+        Found::Amiss => false,
     }
 }
 
-// Whether each call in turn finds what it is to find.
-fn play(
-    pool: &Pool<Token>,
-    first: &mut Hand,
-    second: &mut Hand,
-    rows: &[(u8, Call, u32, Found)],
-) -> bool
+// Whether the step, by the first worker or by the second, finds what it is to find.
+fn is_met(pool: &Pool<Token>, first: &mut Hand, second: &mut Hand, text: &str) -> bool
     requires first { IsOfPool first.old.worker pool.now }
     requires second { IsOfPool second.old.worker pool.now }
     requires tasks { pool.now.tasks ≡ 4 }
     ensures first { IsSameWorker first.old.worker first.new.worker }
     ensures second { IsSameWorker second.old.worker second.new.worker }
 {
-    for &(who, call, task, found) in rows {
-        let task = TaskId(task.min(3));
-        if act_by(pool, first, second, who, call, task) != found {
-            return false;
-        }
+    let (made, wanted) = text.split_once(" -> ").unwrap_or((text, ""));
+    let (who, rest) = first_word(made);
+    let (call, task) = first_word(rest);
+    let task = TaskId(number(task) % 4);
+    let found = if who == "0" {
+        step(pool, first, call, task)
+    } else {
+        step(pool, second, call, task)
+    };
+    is_told(found, wanted)
+}
+
+// Whether each step in turn finds what it is to find.
+fn play(pool: &Pool<Token>, first: &mut Hand, second: &mut Hand, steps: &str) -> bool
+    requires first { IsOfPool first.old.worker pool.now }
+    requires second { IsOfPool second.old.worker pool.now }
+    requires tasks { pool.now.tasks ≡ 4 }
+    ensures first { IsSameWorker first.old.worker first.new.worker }
+    ensures second { IsSameWorker second.old.worker second.new.worker }
+{
+    let mut all = true;
+    for text in steps.split(";") {
+        all = is_met(pool, first, second, text.trim()) && all;
     }
-    true
+    all
 }
 
 // Closes a pool of two workers that have put what they had.
@@ -169,62 +173,43 @@ fn close(pool: Pool<Token>, alloc: Global, first: Hand, second: Hand) -> Option<
     Some(pool.close(List::from_vec(workers)))
 }
 
-// Plays the rows in a pool of two workers and four tasks; whether each finds what it is to find, and so many records are home at the end.
-fn run(alloc: Global, rows: &[(u8, Call, u32, Found)], home: usize) -> Option<bool> {
+// How many records are home.
+fn home(entries: &[Option<Token>]) -> usize {
+    entries.iter().filter(|entry| entry.is_some()).count()
+}
+
+// A worker that has nothing.
+fn idle(worker: Worker<Token>) -> Hand
+    requires { worker.view.has ≡ [] }
+    ensures { result.worker ≡ worker }
+{
+    Hand { worker, held: None }
+}
+
+// Plays the steps in a pool of two workers and four tasks: whether each finds what it is to find, and how many records are home at the end, unless a worker has
+// one.
+fn run(alloc: Global, steps: &str) -> Option<(bool, Option<usize>)> {
     let first = Token { task: TaskId(0) };
     let Ok((pool, workers)) = Pool::start(alloc, 4, 2, first) else {
         return None;
     };
     let mut workers = workers.into_vec();
-    let mut second = Hand {
-        worker: workers.pop()?,
-        held: None,
-    };
-    let mut first = Hand {
-        worker: workers.pop()?,
-        held: None,
-    };
-    let found = play(&pool, &mut first, &mut second, rows);
-    let entries = close(pool, alloc, first, second)?;
-    let counted = entries
-        .as_slice()
-        .iter()
-        .filter(|entry| entry.is_some())
-        .count();
-    Some(found && counted == home)
+    let mut second = idle(workers.pop()?);
+    let mut first = idle(workers.pop()?);
+    let found = play(&pool, &mut first, &mut second, steps);
+    match close(pool, alloc, first, second) {
+        Some(entries) => Some((found, Some(home(entries.as_slice())))),
+        None => Some((found, None)),
+    }
 }
 
 #[test]
-fn each_call_finds_what_is_there(rt: HostRuntime) -> Result<(), Fail> {
-    // A record is got, found held, found nowhere, placed and claimed; a second one comes back.
-    let two: [(u8, Call, u32, Found); 8] = [
-        (0, Call::Claim, 0, Found::Got),
-        (1, Call::Claim, 0, Found::Held(0)),
-        (1, Call::Claim, 1, Found::Empty),
-        (0, Call::Place, 1, Found::Placed),
-        (0, Call::Put, 0, Found::IsPut),
-        (1, Call::Claim, 1, Found::Got),
-        (1, Call::Place, 1, Found::Back),
-        (1, Call::Put, 1, Found::IsPut),
-    ];
-    assert!(rt; run(rt.alloc(), &two, 2) == Some(true), "two workers");
-    // Who has a task places another one; a task is claimed again by who knows it from a record that came back.
-    let one: [(u8, Call, u32, Found); 9] = [
-        (0, Call::Claim, 1, Found::Empty),
-        (0, Call::Place, 1, Found::Placed),
-        (0, Call::Claim, 1, Found::Got),
-        (0, Call::Place, 1, Found::Back),
-        (0, Call::Place, 3, Found::Placed),
-        (1, Call::Claim, 1, Found::Held(0)),
-        (0, Call::Put, 1, Found::IsPut),
-        (1, Call::Place, 3, Found::Back),
-        (1, Call::Claim, 3, Found::Got),
-    ];
-    assert!(rt;
-        run(rt.alloc(), &one, 3).is_none(),
-        "the second worker has something"
-    );
-    Ok(())
+fn each_step_finds_what_is_there(rt: HostRuntime) {
+    for row in ROWS.lines() {
+        let (steps, end) = row.split_once("|").unwrap_or((row, ""));
+        let wanted = if end.trim() == "2" { Some(2) } else { None };
+        assert!(rt; run(rt.alloc(), steps) == Some((true, wanted)), "{row}");
+    }
 }
 
 // The most tasks and workers: the first record is home, and no other.
@@ -233,21 +218,13 @@ fn full_pool(alloc: Global) -> Option<usize> {
     let Ok((pool, workers)) = Pool::start(alloc, 4096, 64, first) else {
         return None;
     };
-    let entries = pool.close(workers);
-    Some(
-        entries
-            .as_slice()
-            .iter()
-            .filter(|entry| entry.is_some())
-            .count(),
-    )
+    Some(home(pool.close(workers).as_slice()))
 }
 
 #[test]
-fn a_full_pool_has_its_first_record(rt: HostRuntime) -> Result<(), Fail> {
+fn a_full_pool_has_its_first_record(rt: HostRuntime) {
     assert!(rt;
         full_pool(rt.alloc()) == Some(1),
         "4,096 tasks and 64 workers"
     );
-    Ok(())
 }

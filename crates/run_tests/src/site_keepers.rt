@@ -1,0 +1,61 @@
+// Calls of keepers, one of which fails at some calls, and what they answer.
+use crate::site_desk::Desk;
+use crate::texts::{first_word, number};
+use armus_base::{List, NoMemory};
+use sites::{Keeper, MAX_SITES, MemKeeper, SafeKeeper};
+use std::alloc::Global;
+use std::test::Fail;
+
+// A keeper, how many sites it has and which calls fail, the calls, and what each answers.
+const ROWS: &str = "\
+mem 2 2 5 | put 1 7; put 0 8; get 0; get 1; get 1 | ok; fault; none; 7; fault;\n\
+safe 1 | put 0 1 2; put 0; get 0 | ok; ok; ;\n\
+";
+
+/// The numbers in a text.
+pub(crate) fn numbers(alloc: Global, text: &str) -> Result<List<u64>, NoMemory> {
+    let mut all = List::new(alloc);
+    for word in text.split_whitespace() {
+        all.push(u64::from(number(word)))?;
+    }
+    Ok(all)
+}
+
+// Whether these calls of the keeper answer so.
+fn plays<K: Keeper>(
+    alloc: Global,
+    desk: &mut Desk<K>,
+    calls: &str,
+    wanted: &str,
+) -> Result<bool, NoMemory> {
+    for call in calls.split(";") {
+        desk.call(alloc, call)?;
+    }
+    Ok(desk.told().trim() == wanted.trim())
+}
+
+fn is_met(alloc: Global, row: &str) -> Result<bool, NoMemory> {
+    let (kind, rest) = first_word(row);
+    let (given, rest) = rest.split_once("|").unwrap_or((rest, ""));
+    let (calls, wanted) = rest.split_once("|").unwrap_or((rest, ""));
+    let (sites, fails) = first_word(given);
+    let sites = number(sites);
+    if sites < 1 || sites > MAX_SITES {
+        return Ok(false);
+    }
+    if kind == "mem" {
+        let keeper = MemKeeper::new(alloc, sites, numbers(alloc, fails)?)?;
+        plays(alloc, &mut Desk::new(alloc, keeper, sites), calls, wanted)
+    } else {
+        let keeper = SafeKeeper::new(alloc, sites)?;
+        plays(alloc, &mut Desk::new(alloc, keeper, sites), calls, wanted)
+    }
+}
+
+#[test]
+fn calls_of_keepers(rt: HostRuntime) -> Result<(), Fail> {
+    for row in ROWS.lines() {
+        assert!(rt; is_met(rt.alloc(), row)?, "{row}");
+    }
+    Ok(())
+}

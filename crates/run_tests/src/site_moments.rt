@@ -1,0 +1,210 @@
+// Rows of two sites that are of different moments, and a pass over three sites.
+ghost use Rattle.std.specs.Prelude.{◌≡◌, All, IfOk, IfSome, length};
+ghost use Rattle.board.specs.declared.mode.Mode.TheVariants.{Detect};
+ghost use Rattle.board.specs.Seats.{IsOf};
+
+use crate::plans::named_plan;
+use crate::site_desk::{Desk, dead_text};
+use crate::site_keepers::numbers;
+use crate::texts::bytes_text;
+use adaptive::Wanted;
+use armus_base::{NoMemory, Plan};
+use board::{Board, ViewSeat};
+use board_tests::walker::{Walker, begin};
+use sites::{Keeper, MemKeeper, SafeKeeper, encode, site_pass, snap};
+use std::alloc::Global;
+use std::test::Fail;
+
+// Which calls of the keeper fail, and what its calls tell: site 0 puts when its task waits and the other one does not yet, and then both rows are checked; site 1
+// puts once the other one waits too, and then the row of site 0 is got and both are checked.
+const ROWS: &str = "\
+| ok; nobody; ok; 0 0 0 1 0 0 0 0 0 0 0 0 0 0 0 1 0 0 0 2 0 0 0 0 0 0 0 1 0 0 0 1 0 0 0 0; sg 2 t0 t1;\n\
+4 | ok; nobody; fault; 0 0 0 1 0 0 0 0 0 0 0 0 0 0 0 1 0 0 0 2 0 0 0 0 0 0 0 1 0 0 0 1 0 0 0 0; nobody;\n\
+";
+
+// Makes so many steps of a walker.
+fn go<'p>(
+    walker: &mut Walker<'p>,
+    alloc: Global,
+    board: &Board,
+    plan: &'p Plan,
+    count: u32,
+) -> Result<(), NoMemory>
+    requires made { IsOf walker.old board.now }
+    requires plan { (board.now.plan ≡ plan.now) × (board.now.mode ≡ Detect) }
+    ensures made { IsOf walker.new board.now }
+{
+    for _ in 0..count {
+        if walker.go(alloc, board, plan).is_err() {
+            return Err(NoMemory);
+        }
+    }
+    Ok(())
+}
+
+// The child that a walker forks next.
+fn forked<'p>(
+    walker: &mut Walker<'p>,
+    alloc: Global,
+    board: &Board,
+    plan: &'p Plan,
+) -> Result<Walker<'p>, NoMemory>
+    requires made { IsOf walker.old board.now }
+    requires plan { (board.now.plan ≡ plan.now) × (board.now.mode ≡ Detect) }
+    ensures made { IsOf walker.new board.now }
+    ensures child { IfOk result (λ child. IsOf child board.now) }
+{
+    match walker.go(alloc, board, plan) {
+        Ok(Some(child)) => Ok(child),
+        _ => Err(NoMemory),
+    }
+}
+
+// Task 0 forks the other one and then waits; it answers the other one.
+fn first_waits<'p>(
+    mut root: Walker<'p>,
+    alloc: Global,
+    board: &Board,
+    plan: &'p Plan,
+) -> Result<Walker<'p>, NoMemory>
+    requires made { IsOf root board.now }
+    requires plan { (board.now.plan ≡ plan.now) × (board.now.mode ≡ Detect) }
+    ensures child { IfOk result (λ child. IsOf child board.now) }
+{
+    go(&mut root, alloc, board, plan, 4)?;
+    let child = forked(&mut root, alloc, board, plan)?;
+    go(&mut root, alloc, board, plan, 2)?;
+    Ok(child)
+}
+
+// A snap of one of the two sites, put as its row.
+fn snap_and_put(
+    alloc: Global,
+    view: &mut ViewSeat,
+    board: &Board,
+    site: u32,
+    desk: &mut Desk<MemKeeper>,
+) -> Result<(), NoMemory>
+    requires made { IsOf view.old board.now }
+    ensures made { IsOf view.new board.now }
+{
+    if site >= 2 {
+        return Err(NoMemory);
+    }
+    let snapshot = snap(alloc, view, board, site, 2)?;
+    let row = encode(alloc, &snapshot)?;
+    desk.put(site, row.as_slice())
+}
+
+// The two moments, at which site 0 and site 1 put their rows.
+fn two_moments<'p>(
+    alloc: Global,
+    board: &Board,
+    plan: &'p Plan,
+    child: &mut Walker<'p>,
+    view: &mut ViewSeat,
+    desk: &mut Desk<MemKeeper>,
+) -> Result<(), NoMemory>
+    requires plan { (board.now.plan ≡ plan.now) × (board.now.mode ≡ Detect) }
+    requires child { IsOf child.old board.now }
+    requires view { IsOf view.old board.now }
+{
+    let mut other = view.split(alloc, board)?;
+    snap_and_put(alloc, view, board, 0, desk)?;
+    desk.call(alloc, "check")?;
+    go(child, alloc, board, plan, 2)?;
+    snap_and_put(alloc, &mut other, board, 1, desk)?;
+    desk.call(alloc, "get 0")?;
+    desk.call(alloc, "check")
+}
+
+// The same from the beginning.
+fn play(alloc: Global, plan: &Plan, desk: &mut Desk<MemKeeper>) -> Result<(), NoMemory> {
+    let (board, root, mut view) = begin(alloc, plan)?;
+    let mut child = first_waits(root, alloc, &board, plan)?;
+    two_moments(alloc, &board, plan, &mut child, &mut view, desk)
+}
+
+// Whether the calls of a keeper of which these calls fail tell this.
+fn tells(alloc: Global, plan: &Plan, fails: &str, wanted: &str) -> Result<bool, NoMemory> {
+    let keeper = MemKeeper::new(alloc, 2, numbers(alloc, fails)?)?;
+    let mut desk = Desk::new(alloc, keeper, 2);
+    play(alloc, plan, &mut desk)?;
+    Ok(desk.told().trim() == wanted.trim())
+}
+
+#[test]
+fn rows_of_two_moments(rt: HostRuntime) -> Result<(), Fail> {
+    let plan = named_plan(rt.alloc(), "two")?;
+    for row in ROWS.lines() {
+        let (fails, wanted) = row.split_once("|").unwrap_or((row, ""));
+        assert!(rt; tells(rt.alloc(), &plan, fails, wanted)?, "{row}");
+    }
+    Ok(())
+}
+
+// This viewer and two more that have seen the same.
+fn three_views(alloc: Global, board: &Board, mut view: ViewSeat) -> Result<Vec<ViewSeat>, NoMemory>
+    requires made { IsOf view board.now }
+    ensures count { IfOk result (λ views. length views.items ≡ 3) }
+    ensures made { IfOk result (λ views. All (λ k. IsOf k board.now) views.items) }
+{
+    let second = view.split(alloc, board)?;
+    let third = view.split(alloc, board)?;
+    let views = vec![in alloc; view, second, third]?;
+    Ok(views)
+}
+
+// What a pass over three sites names, by the keeper.
+fn pass(
+    alloc: Global,
+    board: &Board,
+    views: &mut Vec<ViewSeat>,
+    keeper: &mut SafeKeeper,
+) -> Result<String, NoMemory>
+    requires made { All (λ k. IsOf k board.now) views.old.items }
+    requires count { length views.old.items ≡ 3 }
+    requires kept { length keeper.old ≡ 3 }
+    ensures kept { length keeper.new ≡ 3 }
+{
+    match site_pass(alloc, views.as_mut_slice(), board, keeper, Wanted::Auto) {
+        Ok(analysis) => dead_text(alloc, &analysis),
+        Err(_) => Err(NoMemory),
+    }
+}
+
+// The row that is held of the last of three sites.
+fn last_row(alloc: Global, keeper: &mut SafeKeeper) -> Result<String, NoMemory>
+    requires kept { length keeper.old ≡ 3 }
+{
+    match keeper.get(alloc, 2) {
+        Ok(Some(row)) => bytes_text(alloc, row.as_slice()),
+        _ => Err(NoMemory),
+    }
+}
+
+// Whether a pass over three sites, of which the last has no task, names both tasks, and puts the row of no status for that site.
+fn pass_names_both(alloc: Global, board: &Board, view: ViewSeat) -> Result<bool, NoMemory>
+    requires made { IsOf view board.now }
+{
+    let mut views = three_views(alloc, board, view)?;
+    let mut keeper = SafeKeeper::new(alloc, 3)?;
+    let named = pass(alloc, board, &mut views, &mut keeper)?;
+    let row = last_row(alloc, &mut keeper)?;
+    Ok(named.as_str().trim() == "t0 t1" && row.as_str().trim() == "0 0 0 0")
+}
+
+// The same once both tasks wait.
+fn a_pass_names_both(alloc: Global, plan: &Plan) -> Result<bool, NoMemory> {
+    let (board, root, view) = begin(alloc, plan)?;
+    let mut child = first_waits(root, alloc, &board, plan)?;
+    go(&mut child, alloc, &board, plan, 2)?;
+    pass_names_both(alloc, &board, view)
+}
+
+#[test]
+fn a_pass_over_three_sites_names_both(rt: HostRuntime) -> Result<(), Fail> {
+    let plan = named_plan(rt.alloc(), "two")?;
+    assert!(rt; a_pass_names_both(rt.alloc(), &plan)?);
+    Ok(())
+}
