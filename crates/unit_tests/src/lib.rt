@@ -8,4 +8,12 @@ mod laws;
 #[cfg(test)]
 mod outside;
 #[cfg(test)]
+mod printed;
+#[cfg(test)]
+mod program_texts;
+#[cfg(test)]
+mod statements;
+#[cfg(test)]
+mod syntax;
+#[cfg(test)]
 mod words;
