@@ -8,6 +8,10 @@ mod laws;
 #[cfg(test)]
 mod outside;
 #[cfg(test)]
+mod pieces;
+#[cfg(test)]
+mod plans;
+#[cfg(test)]
 mod printed;
 #[cfg(test)]
 mod program_texts;
