@@ -4,7 +4,11 @@
 #[cfg(test)]
 mod averaging;
 #[cfg(test)]
+mod generated;
+#[cfg(test)]
 mod laws;
+#[cfg(test)]
+mod origins_of;
 #[cfg(test)]
 mod outside;
 #[cfg(test)]
