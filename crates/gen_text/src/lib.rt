@@ -6,6 +6,3 @@ mod text;
 
 pub use laws::gen_is_accepted;
 pub use text::{MAX_GENERATED_BYTES, gen_text};
-
-#[cfg(test)]
-mod tests;

@@ -10,6 +10,3 @@ mod statement;
 
 pub use laws::{ops_have_origins, phasers_and_tasks_have_origins, visits_are_of_text};
 pub use lookup::Origins;
-
-#[cfg(test)]
-mod tests;

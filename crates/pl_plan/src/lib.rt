@@ -27,6 +27,3 @@ pub use limits::MAX_VISITS;
 pub use membership::Membership;
 pub use pieces::push_each;
 pub use planning::{Unfolded, plan, unfold};
-
-#[cfg(test)]
-mod tests;

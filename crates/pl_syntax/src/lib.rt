@@ -14,8 +14,6 @@ mod printer;
 mod reader;
 mod round_trip;
 pub mod scan;
-#[cfg(test)]
-mod tests;
 pub mod token;
 mod tree;
 mod word;

@@ -4,8 +4,24 @@
 #[cfg(test)]
 mod averaging;
 #[cfg(test)]
+mod generated;
+#[cfg(test)]
 mod laws;
 #[cfg(test)]
+mod origins_of;
+#[cfg(test)]
 mod outside;
+#[cfg(test)]
+mod pieces;
+#[cfg(test)]
+mod plans;
+#[cfg(test)]
+mod printed;
+#[cfg(test)]
+mod program_texts;
+#[cfg(test)]
+mod statements;
+#[cfg(test)]
+mod syntax;
 #[cfg(test)]
 mod words;
