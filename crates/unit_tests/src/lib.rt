@@ -4,8 +4,14 @@
 #[cfg(test)]
 mod averaging;
 #[cfg(test)]
+mod endings;
+#[cfg(test)]
 mod laws;
 #[cfg(test)]
 mod outside;
+#[cfg(test)]
+mod reported;
+#[cfg(test)]
+mod row_texts;
 #[cfg(test)]
 mod words;
