@@ -4,6 +4,8 @@
 #[cfg(test)]
 mod averaging;
 #[cfg(test)]
+mod clock_plans;
+#[cfg(test)]
 mod clock_texts;
 #[cfg(test)]
 mod endings;
