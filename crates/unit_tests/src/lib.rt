@@ -10,6 +10,8 @@ mod clock_texts;
 #[cfg(test)]
 mod endings;
 #[cfg(test)]
+mod explanations;
+#[cfg(test)]
 mod laws;
 #[cfg(test)]
 mod outside;
