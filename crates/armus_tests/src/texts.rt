@@ -74,7 +74,7 @@ pub(crate) const AMPLE: Outside = Outside {
     room: 200_000,
 };
 
-fn call(alloc: Global, number: u64) -> Result<List<u64>, NoMemory> {
+pub(crate) fn call(alloc: Global, number: u64) -> Result<List<u64>, NoMemory> {
     let mut all = List::new(alloc);
     all.push(number)?;
     Ok(all)

@@ -7,6 +7,3 @@ pub use laws::{
     clock_coming_by_table, clock_fault_is_of_text, clock_plan_is_checked, each_activity_stops,
     worked_clock_programs,
 };
-
-#[cfg(test)]
-mod tests;

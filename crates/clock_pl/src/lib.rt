@@ -18,6 +18,3 @@ pub use fault::{
     UNKNOWN_CLOCK, clock_line,
 };
 pub use planning::clock_plan;
-
-#[cfg(test)]
-mod tests;

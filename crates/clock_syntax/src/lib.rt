@@ -16,8 +16,6 @@ mod laws;
 mod limits;
 mod name;
 mod reader;
-#[cfg(test)]
-mod tests;
 mod tree;
 
 pub use laws::{

@@ -5,8 +5,6 @@ mod cycle;
 mod graph;
 mod rows;
 mod search;
-#[cfg(test)]
-mod tests;
 
 pub use cycle::{least_marked, walk_cycle};
 pub use graph::Digraph;

@@ -8,6 +8,3 @@ mod top;
 
 pub use laws::{each_text_is_met, one_output};
 pub use top::explain;
-
-#[cfg(test)]
-mod tests;

@@ -18,6 +18,3 @@ pub use laws::{
 };
 pub use lines::place_line;
 pub use places::{TextPlace, text_place};
-
-#[cfg(test)]
-mod tests;

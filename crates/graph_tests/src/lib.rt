@@ -1,8 +1,10 @@
-//! Tests of all that is made of a list of statuses: its relations, three graphs, an order, the dead, and cycles.
+//! Tests of all that is made of a list of statuses: its relations, three graphs, an order, the dead, and cycles; and of the graph below.
 #![tactic(auto)]
 
 #[cfg(test)]
 mod answers;
+#[cfg(test)]
+mod digraphs;
 #[cfg(test)]
 mod orders;
 #[cfg(test)]

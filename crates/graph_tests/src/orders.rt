@@ -2,7 +2,7 @@
 ghost use Rattle.std.specs.Prelude.{All, IsTrue};
 ghost use Rattle.order_graph.specs.Orders.{IsTaskOf};
 
-use crate::texts::{add_number, number, statuses};
+use crate::texts::{add_numbers, number, statuses};
 use armus_base::{NoMemory, TaskId};
 use dep_state::{DepState, is_in_order};
 use order_graph::{Added, Followed, Order};
@@ -41,13 +41,6 @@ fn by_position(alloc: Global, order: &Order) -> Result<Vec<u32>, AllocError> {
         }
     }
     Ok(tasks)
-}
-
-fn add_numbers(alloc: Global, text: &mut String, numbers: &[u32]) -> Result<(), AllocError> {
-    for n in numbers {
-        add_number(alloc, text, u64::from(*n))?;
-    }
-    Ok(())
 }
 
 fn edges_text(alloc: Global, tasks: &str, edges: &str) -> Result<String, NoMemory> {

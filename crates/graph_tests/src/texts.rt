@@ -75,3 +75,14 @@ pub(crate) fn add_tasks(
     }
     Ok(())
 }
+
+pub(crate) fn add_numbers(
+    alloc: Global,
+    text: &mut String,
+    numbers: &[u32],
+) -> Result<(), AllocError> {
+    for n in numbers {
+        add_number(alloc, text, u64::from(*n))?;
+    }
+    Ok(())
+}

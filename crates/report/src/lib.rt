@@ -16,6 +16,3 @@ pub use outline::{Outline, outline_of};
 pub use refusal::{Refusal, ScheduleFault, refusal_line};
 pub use reports::{FinalReport, any_dead, report, report_of};
 pub use standing::Standing;
-
-#[cfg(test)]
-mod tests;

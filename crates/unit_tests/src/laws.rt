@@ -1,5 +1,9 @@
 // The laws of the clock dialect as calls: each is proved, and does nothing.
 use clock_machine::{clock_ends, clock_runs, no_clock_task_is_held, worked_clock_runs};
+use clock_moves::{
+    clock_coming_by_table, clock_fault_is_of_text, clock_plan_is_checked, each_activity_stops,
+    worked_clock_programs,
+};
 
 #[test]
 fn laws_are_called() {
@@ -7,4 +11,9 @@ fn laws_are_called() {
     clock_ends();
     no_clock_task_is_held();
     worked_clock_runs();
+    clock_plan_is_checked();
+    clock_fault_is_of_text();
+    each_activity_stops();
+    clock_coming_by_table();
+    worked_clock_programs();
 }

@@ -4,6 +4,14 @@
 #[cfg(test)]
 mod averaging;
 #[cfg(test)]
+mod clock_plans;
+#[cfg(test)]
+mod clock_texts;
+#[cfg(test)]
+mod endings;
+#[cfg(test)]
+mod explanations;
+#[cfg(test)]
 mod generated;
 #[cfg(test)]
 mod laws;
@@ -19,6 +27,10 @@ mod plans;
 mod printed;
 #[cfg(test)]
 mod program_texts;
+#[cfg(test)]
+mod reported;
+#[cfg(test)]
+mod row_texts;
 #[cfg(test)]
 mod statements;
 #[cfg(test)]

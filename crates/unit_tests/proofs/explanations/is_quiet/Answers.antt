@@ -1,7 +1,7 @@
 use Rattle.std.proofs.Common.{ap, arith, below_more, length}
 use Rattle.std.proofs.lemmas.Bool.{false≢true}
 use Rattle.pl_core.specs.Stands.{IsEnabled}
-use Rattle.explanation.proofs.tests.is_quiet.Goals as goal
+use Rattle.unit_tests.proofs.explanations.is_quiet.Goals as goal
 
 pub loop-t-preserved : goal.loop-t-preserved
 loop-t-preserved c = below_more (λ u. IsEnabled c.args.world.now u → ⊥) c.loop-t.t c.loop-t.invariant (λ goes. false≢true (c.if-enabled.ensures.enabled.1 goes))
