@@ -24,6 +24,10 @@ fn text_of(word: &str) -> &'static str {
         "makers" => {
             "t = newTid(); u = newTid(); fork(t) { p = newPhaser(); } fork(u) { q = newPhaser(); }"
         }
+        // Three workers average in two rounds; their parent never arrives at the phaser of their rounds.
+        "averaging" => {
+            "pc = newPhaser(); pb = newPhaser(); loop 3 { t = newTid(); reg(t, pc); reg(t, pb); fork(t) { loop 2 { skip; adv(pc); await(pc); skip; adv(pc); await(pc); } dereg(pc); dereg(pb); } } adv(pb); await(pb);"
+        }
         _ => "",
     }
 }

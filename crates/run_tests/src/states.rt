@@ -26,6 +26,7 @@ loop | 00000 | t0 awaits p0@2 reached impedes nobody op 4 + 2; /  /\n\
 loop | 000000 | t0 waits p0@2 reached op 4 + 2; / t0 p0@2 p0:2; /\n\
 loop | 0000000 | t0 ready op 5 + 2; /  /\n\
 loop | 0000000000 | t0 done op 7 . 3; /  / done\n\
+averaging | 01230123012301230123012301230123012301230123012301230123012301230123012301230123 | t0 waits p1@1 op 12 . 0 1;t1 waits p0@1 op 1 . 1 0;t2 waits p0@1 op 1 . 1 0;t3 waits p0@1 op 1 . 1 0; / t0 p1@1 p0:0 p1:1;t1 p0@1 p0:1 p1:0;t2 p0@1 p0:1 p1:0;t3 p0@1 p0:1 p1:0; / blocked blocked blocked blocked t0 p1@1 p0:0 p1:1;t1 p0@1 p0:1 p1:0;t2 p0@1 p0:1 p1:0;t3 p0@1 p0:1 p1:0;\n\
 ";
 
 // The place at this index.

@@ -1,6 +1,6 @@
 // Generated texts: a line for a number of workers, with the whole text and how much its plan has.
 use crate::plans::answer;
-use crate::program_texts::{bytes_of, number};
+use crate::row_texts::{bytes_of, number};
 use armus_base::NoMemory;
 use gen_text::{gen_is_accepted, gen_text};
 use std::alloc::Global;

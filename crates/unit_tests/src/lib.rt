@@ -2,8 +2,6 @@
 #![tactic(auto)]
 
 #[cfg(test)]
-mod averaging;
-#[cfg(test)]
 mod clock_plans;
 #[cfg(test)]
 mod clock_texts;

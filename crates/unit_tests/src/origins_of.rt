@@ -4,7 +4,8 @@ ghost use Rattle.origins.specs.OriginTables.{AreOrigins};
 ghost use Rattle.pl_syntax.specs.Tree.{count};
 
 use crate::plans::AVERAGING;
-use crate::program_texts::{number, program_of};
+use crate::program_texts::program_of;
+use crate::row_texts::number;
 use armus_base::{PhaserId, TaskId};
 use origins::{Origins, ops_have_origins, phasers_and_tasks_have_origins, visits_are_of_text};
 use pl_plan::{Unfolded, unfold};

@@ -1,5 +1,6 @@
 // Pieces: a line for each text, with the ops of its plan, a task and its pieces; a repeat has its turns and how many pieces it repeats.
-use crate::program_texts::{number, program_of};
+use crate::program_texts::program_of;
+use crate::row_texts::number;
 use armus_base::{Offset, Op, PhaserId, Piece, Plan, TaskId};
 use pl_plan::{PlanEnd, plan};
 use std::alloc::Global;

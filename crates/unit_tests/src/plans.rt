@@ -1,5 +1,6 @@
 // Plans: a line for each text, with how much its plan has, or its first check fault.
-use crate::program_texts::{number, program_of};
+use crate::program_texts::program_of;
+use crate::row_texts::number;
 use armus_base::{NoMemory, Plan, TaskId};
 use pl_plan::{
     CheckFault, PlanEnd, fault_is_of_program, left_pieces, pieces_of_codes, plan, unfold,

@@ -2,7 +2,7 @@
 ghost use Rattle.std.specs.Prelude.{◌≡◌, ◌≤◌, false};
 ghost use Rattle.pl_syntax.specs.Tree.{AllHere, height};
 
-use crate::program_texts::bytes_of;
+use crate::row_texts::bytes_of;
 use pl_syntax::{
     MAX_OPEN_BRACES, MAX_PARSED_BYTES, ParseEnd, Program, parse, print, print_and_parse,
 };

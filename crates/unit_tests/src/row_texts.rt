@@ -1,4 +1,4 @@
-// Numbers and bytes in rows. ~ stands for LF, and behind # stand pieces, each with how often it stands there.
+// Numbers and bytes in rows: ~ stands for LF and ! for the byte 255, and where a text has #, it is pieces, each behind the number of times that it stands there.
 use std::alloc::{AllocError, Global};
 
 pub(crate) fn number(text: &str) -> u32 {
@@ -11,11 +11,24 @@ pub(crate) fn number(text: &str) -> u32 {
     number
 }
 
-fn byte_of(letter: u8) -> u8 {
-    if letter == b'~' { b'\n' } else { letter }
+// Numbers with blanks between them.
+pub(crate) fn numbers(alloc: Global, text: &str) -> Result<Vec<u32>, AllocError> {
+    let mut all = Vec::new(alloc);
+    for word in text.split_whitespace() {
+        all.push(number(word))?;
+    }
+    Ok(all)
 }
 
-// Whether the bytes are those of a text in which ~ stands for LF.
+fn byte_of(letter: u8) -> u8 {
+    match letter {
+        b'~' => b'\n',
+        b'!' => 255,
+        other => other,
+    }
+}
+
+// Whether the bytes are those of a text without pieces.
 pub(crate) fn are_bytes_of(bytes: &[u8], text: &str) -> bool {
     let wanted = text.as_bytes();
     bytes.len() == wanted.len()

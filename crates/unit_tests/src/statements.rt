@@ -1,5 +1,5 @@
 // Statements: how many a worked kernel has, in all and at its own level; where those of a text begin; and the name in one.
-use crate::program_texts::{bytes_of, number, numbers};
+use crate::row_texts::{bytes_of, number, numbers};
 use pl_syntax::{MAX_PARSED_BYTES, ParseEnd, Program, Stmt, parse, statement_offsets};
 use std::alloc::Global;
 use std::test::Fail;

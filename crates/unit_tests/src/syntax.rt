@@ -1,5 +1,5 @@
 // First faults: a line for each text, with the kind of its fault and the place, or that it has none.
-use crate::program_texts::{bytes_of, number};
+use crate::row_texts::{bytes_of, number};
 use armus_base::NoMemory;
 use pl_syntax::{MAX_PARSED_BYTES, ParseEnd, parse};
 use std::alloc::Global;
