@@ -88,9 +88,8 @@ fn take_turns(world: &mut World, places: &mut Vec<Place>, turns: &str)
 {
     for letter in turns.bytes() {
         match letter {
-            b'0' => step_both(world, places, TaskId(0)),
-            b'1' => step_both(world, places, TaskId(1)),
-            _ => refuse_both(world, places, TaskId(1)),
+            b'r' => refuse_both(world, places, TaskId(1)),
+            digit => step_both(world, places, TaskId(u32::from(digit % 16))),
         }
     }
 }
