@@ -56,10 +56,10 @@ fn fails_at<R: Threads + Sync>(
 
 // How many calls a run makes of its keeper, if each of the first calls ends the run where it fails, and no later one is made.
 fn calls<R: Threads + Sync>(rt: &R, alloc: Global, plan: &Plan) -> Result<Option<u64>, NoMemory> {
-    let mut made = 0;
+    let mut made: u64 = 0;
     for call in 1..40 {
         if fails_at(rt, alloc, plan, call)? {
-            if call != made + 1 {
+            if call != made.wrapping_add(1) {
                 return Ok(None);
             }
             made = call;
