@@ -1,4 +1,5 @@
 // Small plans, by a word for each, from their texts.
+use crate::texts::add_task;
 use armus_base::{NoMemory, PhaserId, Plan, TaskId};
 use pl_plan::plan;
 use pl_syntax::parse;
@@ -8,9 +9,9 @@ use std::test::Fail;
 // A plan, who forks each of its tasks, and who makes each of its phasers.
 const ROWS: &str = "\
 none | -\n\
-two | - t0 p0 by t0 p1 by t0\n\
-loop | - p0 by t0\n\
-makers | - t0 t0 p0 by t1 p1 by t2\n\
+two | - t0 by t0 by t0\n\
+loop | - by t0\n\
+makers | - t0 t0 by t1 by t2\n\
 ";
 
 // The text that a word stands for.
@@ -49,31 +50,29 @@ pub(crate) fn named_plan(alloc: Global, word: &str) -> Result<Plan, NoMemory> {
 
 fn add_parent(alloc: Global, text: &mut String, parent: Option<TaskId>) -> Result<(), NoMemory> {
     match parent {
-        Some(t) => {
-            let t = t.0;
-            text.push_str(format!(in alloc; "t{t} ")?.as_str())?;
-        }
-        None => text.push_str("- ")?,
+        Some(t) => add_task(alloc, text, t),
+        None => Ok(text.push_str("-")?),
     }
-    Ok(())
 }
 
-fn plan_text(alloc: Global, plan: &Plan) -> Result<String, NoMemory> {
-    let mut text = String::new(alloc);
+fn add_plan(alloc: Global, text: &mut String, plan: &Plan) -> Result<(), NoMemory> {
     for t in 0..plan.tasks() {
-        add_parent(alloc, &mut text, plan.parent(TaskId(t)))?;
+        add_parent(alloc, text, plan.parent(TaskId(t)))?;
+        text.push_str(" ")?;
     }
     for p in 0..plan.phasers() {
-        let t = plan.maker(PhaserId(p)).0;
-        text.push_str(format!(in alloc; "p{p} by t{t} ")?.as_str())?;
+        text.push_str("by ")?;
+        add_task(alloc, text, plan.maker(PhaserId(p)))?;
+        text.push_str(" ")?;
     }
-    Ok(text)
+    Ok(())
 }
 
 fn is_met(alloc: Global, row: &str) -> Result<bool, NoMemory> {
     let (word, wanted) = row.split_once("|").unwrap_or((row, ""));
     let plan = named_plan(alloc, word)?;
-    let text = plan_text(alloc, &plan)?;
+    let mut text = String::new(alloc);
+    add_plan(alloc, &mut text, &plan)?;
     Ok(text.as_str().trim() == wanted.trim())
 }
 

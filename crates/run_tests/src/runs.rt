@@ -4,9 +4,9 @@ ghost use Rattle.std.specs.Prelude.{◌≡◌, ◌≤◌, IfSome, false};
 use crate::journals::begins_with;
 use crate::meeting::Meeting;
 use crate::plans::named_plan;
-use crate::texts::{event_text, first_word, number};
+use crate::texts::{add_event, add_number, first_word, number};
 use adaptive::Wanted;
-use armus_base::{Final, Gate, NoMemory, Plan, Still, TaskEnd, TaskId};
+use armus_base::{Final, Gate, List, NoMemory, Plan, Still, TaskEnd, TaskId};
 use std::alloc::Global;
 use std::sync::Wait;
 use std::test::Fail;
@@ -15,56 +15,57 @@ use task_runner::{RunOptions, run_avoid, run_avoid_kept, run_journal, run_pool};
 
 // A kind of run and a plan, the gate and how many workers there are, and how each task has ended, how many are blocked, and the journal.
 const ROWS: &str = "\
-pool two | still 1 | blocked 0@1, blocked 1@1, 2 blocked\n\
-pool two | still 3 | blocked 0@1, blocked 1@1, 2 blocked\n\
-pool two | still 64 | blocked 0@1, blocked 1@1, 2 blocked\n\
+pool two | still 1 | blocked p0@1, blocked p1@1, 2 blocked\n\
+pool two | still 3 | blocked p0@1, blocked p1@1, 2 blocked\n\
+pool two | still 64 | blocked p0@1, blocked p1@1, 2 blocked\n\
 pool makers | meeting 2 | done, done, done, 0 blocked\n\
-record two | still 1 | blocked 0@1, blocked 1@1, 2 blocked, 9 steps, the first by t0\n\
-record two | still 3 | blocked 0@1, blocked 1@1, 2 blocked, 9 steps, the first by t0\n\
+record two | still 1 | blocked p0@1, blocked p1@1, 2 blocked, 9 steps, the first by t0\n\
+record two | still 3 | blocked p0@1, blocked p1@1, 2 blocked, 9 steps, the first by t0\n\
 record makers | meeting 2 | done, done, done, 0 blocked, 4 steps\n\
-avoid two | still 1 | done, refused 1@1, 0 blocked\n\
-avoid two | still 64 | done, refused 1@1, 0 blocked\n\
-kept two | still 1 | done, refused 1@1, 0 blocked\n\
-kept two | still 3 | done, refused 1@1, 0 blocked\n\
+avoid two | still 1 | done, refused p1@1, 0 blocked\n\
+avoid two | still 64 | done, refused p1@1, 0 blocked\n\
+kept two | still 1 | done, refused p1@1, 0 blocked\n\
+kept two | still 3 | done, refused p1@1, 0 blocked\n\
 ";
 
 fn add_end(alloc: Global, text: &mut String, end: TaskEnd) -> Result<(), NoMemory> {
     match end {
-        TaskEnd::Done => text.push_str("done")?,
+        TaskEnd::Done => Ok(text.push_str("done")?),
         TaskEnd::Blocked(event) => {
             text.push_str("blocked ")?;
-            text.push_str(event_text(alloc, event)?.as_str())?;
+            add_event(alloc, text, event)
         }
         TaskEnd::Refused(event) => {
             text.push_str("refused ")?;
-            text.push_str(event_text(alloc, event)?.as_str())?;
+            add_event(alloc, text, event)
         }
-        TaskEnd::Unforked => text.push_str("unforked")?,
+        TaskEnd::Unforked => Ok(text.push_str("unforked")?),
     }
-    Ok(())
 }
 
 /// How each task has ended, and how many are blocked.
-pub(crate) fn final_text(alloc: Global, end: &Final) -> Result<String, NoMemory> {
-    let mut text = String::new(alloc);
+pub(crate) fn add_final(alloc: Global, text: &mut String, end: &Final) -> Result<(), NoMemory> {
     for end in end.ends.as_slice() {
-        add_end(alloc, &mut text, *end)?;
+        add_end(alloc, text, *end)?;
         text.push_str(", ")?;
     }
-    let count = end.blocked.as_slice().len();
-    text.push_str(format!(in alloc; "{count} blocked")?.as_str())?;
-    Ok(text)
+    add_number(alloc, text, end.blocked.as_slice().len() as u64)?;
+    text.push_str(" blocked")?;
+    Ok(())
 }
 
-// How many steps there are, and whether the first five are by task 0.
-fn journal_text(alloc: Global, journal: &[TaskId]) -> Result<String, NoMemory> {
-    let count = journal.len();
-    let first = if begins_with(journal, TaskId(0)) {
-        ", the first by t0"
-    } else {
-        ""
-    };
-    Ok(format!(in alloc; ", {count} steps{first}")?)
+// How many steps there are, and whether the first five are by task 0; nothing where there is no step.
+fn add_journal(alloc: Global, text: &mut String, journal: &[TaskId]) -> Result<(), NoMemory> {
+    if journal.is_empty() {
+        return Ok(());
+    }
+    text.push_str(", ")?;
+    add_number(alloc, text, journal.len() as u64)?;
+    text.push_str(" steps")?;
+    if begins_with(journal, TaskId(0)) {
+        text.push_str(", the first by t0")?;
+    }
+    Ok(())
 }
 
 /// A run with so many workers.
@@ -82,40 +83,32 @@ pub(crate) fn options_of(workers: u32) -> Option<RunOptions>
     })
 }
 
-fn recorded_text<R: Threads + Wait + Sync, G: Gate>(
-    rt: &R,
-    alloc: Global,
-    plan: &Plan,
-    options: &RunOptions,
-    gate: &G,
-) -> Result<String, NoMemory>
-    requires workers { 1 ≤ options.now.workers × options.now.workers ≤ 64 }
-    requires quiet { options.now.live ≡ false }
-{
-    let (end, journal) = run_journal(rt, alloc, plan, options, gate)?;
-    let mut text = final_text(alloc, &end)?;
-    text.push_str(journal_text(alloc, journal.as_slice())?.as_str())?;
-    Ok(text)
-}
-
-// What a run of this kind ends in.
-fn run_text<R: Threads + Wait + Sync, G: Gate>(
+// The end of a run of this kind, and the journal of one that is recorded.
+fn run<R: Threads + Wait + Sync, G: Gate>(
     rt: &R,
     alloc: Global,
     plan: &Plan,
     kind: &str,
     options: &RunOptions,
     gate: &G,
-) -> Result<String, NoMemory>
+) -> Result<(Final, List<TaskId>), NoMemory>
     requires workers { 1 ≤ options.now.workers × options.now.workers ≤ 64 }
     requires quiet { options.now.live ≡ false }
 {
-    match kind {
-        "pool" => final_text(alloc, &run_pool(rt, alloc, plan, options, gate)?),
-        "avoid" => final_text(alloc, &run_avoid(rt, alloc, plan, options, gate)?),
-        "kept" => final_text(alloc, &run_avoid_kept(rt, alloc, plan, options, gate)?),
-        _ => recorded_text(rt, alloc, plan, options, gate),
-    }
+    let end = match kind {
+        "pool" => run_pool(rt, alloc, plan, options, gate)?,
+        "avoid" => run_avoid(rt, alloc, plan, options, gate)?,
+        "kept" => run_avoid_kept(rt, alloc, plan, options, gate)?,
+        _ => return run_journal(rt, alloc, plan, options, gate),
+    };
+    Ok((end, List::new(alloc)))
+}
+
+fn run_text(alloc: Global, end: &Final, journal: &[TaskId]) -> Result<String, NoMemory> {
+    let mut text = String::new(alloc);
+    add_final(alloc, &mut text, end)?;
+    add_journal(alloc, &mut text, journal)?;
+    Ok(text)
 }
 
 // The same with the gate that is named.
@@ -131,14 +124,15 @@ fn gated_text<R: Threads + Wait + Sync>(
         return Err(NoMemory);
     };
     if name == "still" {
-        return run_text(rt, alloc, plan, kind, &options, &Still);
+        let (end, journal) = run(rt, alloc, plan, kind, &options, &Still)?;
+        return run_text(alloc, &end, journal.as_slice());
     }
     let gate = Meeting::new();
-    let text = run_text(rt, alloc, plan, kind, &options, &gate)?;
+    let (end, journal) = run(rt, alloc, plan, kind, &options, &gate)?;
     if gate.gave_up() {
         return Ok(String::from_str(alloc, "a task gave up")?);
     }
-    Ok(text)
+    run_text(alloc, &end, journal.as_slice())
 }
 
 fn is_met<R: Threads + Wait + Sync>(rt: &R, alloc: Global, row: &str) -> Result<bool, NoMemory> {

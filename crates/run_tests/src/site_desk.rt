@@ -1,10 +1,11 @@
 // A keeper, and the text of what its calls have answered.
 ghost use Rattle.std.specs.Prelude.{◌≡◌, ◌≤◌, ◌<◌, length};
+ghost use Rattle.sites.specs.declared.decoding.TheConstants.{MAX_SITES};
 
-use crate::texts::{bytes_of, bytes_text, first_word, number};
+use crate::texts::{add_number, add_task, bytes_of, bytes_text, first_word, number};
 use adaptive::{Analysis, Used, Wanted};
 use armus_base::NoMemory;
-use sites::{KeepEnd, Keeper, MAX_SITES, check_sites};
+use sites::{KeepEnd, Keeper, check_sites};
 use std::alloc::Global;
 
 /// A keeper of so many sites, and what it has told.
@@ -46,22 +47,22 @@ fn get_row<K: Keeper>(alloc: Global, keeper: &mut K, site: u32) -> Result<String
 pub(crate) fn dead_text(alloc: Global, analysis: &Analysis) -> Result<String, NoMemory> {
     let mut text = String::new(alloc);
     for t in analysis.dead.as_slice() {
-        let t = t.0;
-        text.push_str(format!(in alloc; " t{t}")?.as_str())?;
+        text.push_str(" ")?;
+        add_task(alloc, &mut text, *t)?;
     }
     Ok(text)
 }
 
-// By which graph, of how many edges, an analysis names whom.
-fn analysis_text(alloc: Global, analysis: &Analysis) -> Result<String, NoMemory> {
+// By which graph, of how many edges, an analysis is made.
+fn graph_text(alloc: Global, analysis: &Analysis) -> Result<String, NoMemory> {
     let graph = match analysis.used {
-        Used::Wfg => "wfg",
-        Used::Sg => "sg",
-        Used::Grg => "grg",
+        Used::Wfg => "wfg ",
+        Used::Sg => "sg ",
+        Used::Grg => "grg ",
     };
-    let edges = analysis.edges;
-    let dead = dead_text(alloc, analysis)?;
-    Ok(format!(in alloc; "{graph} {edges}{dead}")?)
+    let mut text = String::from_str(alloc, graph)?;
+    add_number(alloc, &mut text, analysis.edges)?;
+    Ok(text)
 }
 
 impl<K: Keeper> Desk<K> {
@@ -108,12 +109,18 @@ impl<K: Keeper> Desk<K> {
     fn check(&mut self, alloc: Global) -> Result<(), NoMemory> {
         match check_sites(alloc, &mut self.keeper, self.sites, Wanted::Auto) {
             Ok(analysis) if analysis.dead.as_slice().is_empty() => self.tell("nobody"),
-            Ok(analysis) => {
-                let text = analysis_text(alloc, &analysis)?;
-                self.tell(text.as_str())
-            }
+            Ok(analysis) => self.tell_names(alloc, &analysis),
             Err(_) => self.tell("no check"),
         }
+    }
+
+    // Tells by which graph an analysis names whom.
+    fn tell_names(&mut self, alloc: Global, analysis: &Analysis) -> Result<(), NoMemory> {
+        let graph = graph_text(alloc, analysis)?;
+        self.told.push_str(graph.as_str())?;
+        let dead = dead_text(alloc, analysis)?;
+        self.told.push_str(dead.as_str())?;
+        self.tell("")
     }
 
     /// Makes a call: `put` of a site and its bytes, `get` of a site, or `check`.

@@ -1,4 +1,4 @@
-// Rows of two sites that are of different moments, and a pass over three sites.
+// Rows of two sites that are of different moments, and a pass over three sites. A step that is not made ends as want of memory does: its test fails.
 ghost use Rattle.std.specs.Prelude.{◌≡◌, All, IfOk, IfSome, length};
 ghost use Rattle.board.specs.declared.mode.Mode.TheVariants.{Detect};
 ghost use Rattle.board.specs.Seats.{IsOf};

@@ -1,10 +1,10 @@
 // Runs over two sites of two tasks that wait for each other.
-ghost use Rattle.std.specs.Prelude.{◌≡◌, None, length, replicate};
+ghost use Rattle.std.specs.Prelude.{◌≡◌, None, OnOk, length, replicate};
 
 use crate::plans::named_plan;
-use crate::runs::{final_text, options_of};
+use crate::runs::{add_final, options_of};
 use crate::site_desk::Desk;
-use armus_base::{List, NoMemory, Plan, Still};
+use armus_base::{Final, List, NoMemory, Plan, Still};
 use sites::{KeepEnd, MemKeeper};
 use std::alloc::Global;
 use std::test::Fail;
@@ -13,7 +13,7 @@ use task_runner::run_sites;
 
 // How each task has ended and how many are blocked; then, for each site, the row at the end: for site 0 one status, of task 0 on p0@1, with two phases, 1 of p0 and
 // 0 of p1, and for site 1 one of task 1 on p1@1, with 0 of p0 and 1 of p1.
-const ENDS: &str = "blocked 0@1, blocked 1@1, 2 blocked";
+const ENDS: &str = "blocked p0@1, blocked p1@1, 2 blocked";
 
 const LAST_ROWS: &str = "\
 0 0 0 1 0 0 0 0 0 0 0 0 0 0 0 1 0 0 0 2 0 0 0 0 0 0 0 1 0 0 0 1 0 0 0 0; \
@@ -27,15 +27,14 @@ fn ran<R: Threads + Sync>(
     plan: &Plan,
     workers: u32,
     keeper: &mut MemKeeper,
-) -> Result<String, KeepEnd>
+) -> Result<Final, KeepEnd>
     requires empty { keeper.old.rows ≡ replicate 2 None }
-    ensures kept { length keeper.new.rows ≡ 2 }
+    ensures kept { OnOk result (length keeper.new.rows ≡ 2) }
 {
     let Some(options) = options_of(workers) else {
         return Err(KeepEnd::NoMemory);
     };
-    let end = run_sites(rt, alloc, plan, &options, 2, keeper, &Still)?;
-    Ok(final_text(alloc, &end)?)
+    run_sites(rt, alloc, plan, &options, 2, keeper, &Still)
 }
 
 // Whether the run fails where this call of its keeper does.
@@ -57,10 +56,10 @@ fn fails_at<R: Threads + Sync>(
 
 // How many calls a run makes of its keeper, if each of the first calls ends the run where it fails, and no later one is made.
 fn calls<R: Threads + Sync>(rt: &R, alloc: Global, plan: &Plan) -> Result<Option<u64>, NoMemory> {
-    let mut made = 0;
+    let mut made: u64 = 0;
     for call in 1..40 {
         if fails_at(rt, alloc, plan, call)? {
-            if call != made + 1 {
+            if call != made.wrapping_add(1) {
                 return Ok(None);
             }
             made = call;
@@ -88,11 +87,18 @@ fn holds(alloc: Global, keeper: MemKeeper, wanted: &str) -> Result<bool, NoMemor
     Ok(desk.told() == wanted)
 }
 
+// Whether the run has ended so.
+fn has_ended(alloc: Global, end: &Final, wanted: &str) -> Result<bool, NoMemory> {
+    let mut text = String::new(alloc);
+    add_final(alloc, &mut text, end)?;
+    Ok(text.as_str() == wanted)
+}
+
 // Whether a run by two workers ends so, and the last rows are those.
 fn ends_so<R: Threads + Sync>(rt: &R, alloc: Global, plan: &Plan) -> Result<bool, NoMemory> {
     let mut keeper = MemKeeper::new(alloc, 2, List::new(alloc))?;
     match ran(rt, alloc, plan, 2, &mut keeper) {
-        Ok(text) => Ok(text.as_str() == ENDS && holds(alloc, keeper, LAST_ROWS)?),
+        Ok(end) => Ok(has_ended(alloc, &end, ENDS)? && holds(alloc, keeper, LAST_ROWS)?),
         Err(_) => Ok(false),
     }
 }

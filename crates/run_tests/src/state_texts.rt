@@ -2,61 +2,62 @@
 ghost use Rattle.std.specs.Prelude.{◌≡◌, ℕ, ◌<◌, true, length};
 ghost use Rattle.pl_core.specs.Stands.{IsEnabled};
 
-use crate::texts::statuses_text;
+use crate::texts::{add_event, add_number, add_task, statuses_text};
 use armus_base::{Event, Final, NoMemory, Phase, PhaserId, TaskEnd, TaskId};
 use pl_core::{Stand, World};
 use std::alloc::Global;
 
 // An event, and whether it is reached.
-fn event_text(alloc: Global, world: &World, event: Event) -> Result<String, NoMemory> {
-    let p = event.p.0;
-    let n = event.n;
-    let is_reached = p < world.plan().phasers() && world.is_reached(event);
-    let reached = if is_reached { " reached" } else { "" };
-    Ok(format!(in alloc; "p{p}@{n}{reached}")?)
-}
-
-// Which published task impedes the event for a task.
-fn impeder_text(alloc: Global, world: &World, t: TaskId, event: Event) -> Result<String, NoMemory>
-    requires task { t.0 < length world.now.plan.parents }
-    requires phaser { event.p.0 < length world.now.plan.makers }
-{
-    match world.published_impeder(t, event) {
-        Some(u) => {
-            let by = u.0;
-            Ok(format!(in alloc; " impeded by t{by}")?)
-        }
-        None => Ok(String::new(alloc)),
+fn add_reached(
+    alloc: Global,
+    text: &mut String,
+    world: &World,
+    event: Event,
+) -> Result<(), NoMemory> {
+    add_event(alloc, text, event)?;
+    if event.p.0 < world.plan().phasers() && world.is_reached(event) {
+        text.push_str(" reached")?;
     }
+    Ok(())
 }
 
-// An event that a task awaits and has not published; whether the task impedes nobody, and which published task impedes it.
-fn await_text(alloc: Global, world: &World, t: TaskId, event: Event) -> Result<String, NoMemory>
+// Whether a task that awaits an event, and has not published it, impedes nobody, and which published task impedes it.
+fn add_impeder(
+    alloc: Global,
+    text: &mut String,
+    world: &World,
+    t: TaskId,
+    event: Event,
+) -> Result<(), NoMemory>
     requires task { t.0 < length world.now.plan.parents }
 {
-    let mut text = event_text(alloc, world, event)?;
-    if event.p.0 < world.plan().phasers() {
-        if world.impedes_nobody(t, event) {
-            text.push_str(" impedes nobody")?;
-        }
-        text.push_str(impeder_text(alloc, world, t, event)?.as_str())?;
+    if event.p.0 >= world.plan().phasers() {
+        return Ok(());
     }
-    Ok(text)
+    if world.impedes_nobody(t, event) {
+        text.push_str(" impedes nobody")?;
+    }
+    if let Some(u) = world.published_impeder(t, event) {
+        text.push_str(" impeded by ")?;
+        add_task(alloc, text, u)?;
+    }
+    Ok(())
 }
 
-// The event at which a task stands, if it stands at one.
-fn aim_text(alloc: Global, world: &World, t: TaskId) -> Result<String, NoMemory>
+// How a task stands, and at which event.
+fn add_stand(alloc: Global, text: &mut String, world: &World, t: TaskId) -> Result<(), NoMemory>
     requires task { t.0 < length world.now.plan.parents }
 {
-    match world.stand(t) {
-        Stand::Unforked | Stand::Done | Stand::Ready => Ok(String::new(alloc)),
-        Stand::Refused(event) => {
-            let p = event.p.0;
-            let n = event.n;
-            Ok(format!(in alloc; "p{p}@{n}")?)
+    let stand = world.stand(t);
+    text.push_str(stand_word(stand))?;
+    match stand {
+        Stand::Unforked | Stand::Done | Stand::Ready => Ok(()),
+        Stand::Refused(event) => add_event(alloc, text, event),
+        Stand::Await(event) => {
+            add_reached(alloc, text, world, event)?;
+            add_impeder(alloc, text, world, t, event)
         }
-        Stand::Await(event) => Ok(await_text(alloc, world, t, event)?),
-        Stand::Waits(event) => Ok(event_text(alloc, world, event)?),
+        Stand::Waits(event) => add_reached(alloc, text, world, event),
     }
 }
 
@@ -65,53 +66,49 @@ fn stand_word(stand: Stand) -> &'static str {
         Stand::Unforked => "unforked",
         Stand::Done => "done",
         Stand::Ready => "ready",
-        Stand::Refused(_) => "refused",
-        Stand::Await(_) => "awaits",
-        Stand::Waits(_) => "waits",
+        Stand::Refused(_) => "refused ",
+        Stand::Await(_) => "awaits ",
+        Stand::Waits(_) => "waits ",
     }
 }
 
-// How a task stands, the index of its op, and whether it may go on.
-fn add_task(alloc: Global, text: &mut String, world: &World, t: TaskId) -> Result<(), NoMemory>
+// The index of a task's op, and whether it may go on.
+fn add_op(alloc: Global, text: &mut String, world: &World, t: TaskId) -> Result<(), NoMemory>
     requires task { t.0 < length world.now.plan.parents }
 {
-    let number = t.0;
-    let word = stand_word(world.stand(t));
-    text.push_str(format!(in alloc; "t{number} {word} ")?.as_str())?;
-    let aim = aim_text(alloc, world, t)?;
-    text.push_str(aim.as_str())?;
-    if !aim.as_str().is_empty() {
-        text.push_str(" ")?;
-    }
-    let op = world.op(t);
-    let goes = if world.enabled(t) { "+" } else { "." };
-    text.push_str(format!(in alloc; "op {op} {goes}")?.as_str())?;
+    text.push_str(" op ")?;
+    add_number(alloc, text, u64::from(world.op(t)))?;
+    text.push_str(if world.enabled(t) { " +" } else { " ." })?;
     Ok(())
 }
 
 // A phase, or that the task is no member.
 fn add_phase(alloc: Global, text: &mut String, phase: Option<Phase>) -> Result<(), NoMemory> {
     match phase {
-        Some(n) => text.push_str(format!(in alloc; " {n}")?.as_str())?,
-        None => text.push_str(" -")?,
+        Some(n) => add_number(alloc, text, u64::from(n)),
+        None => Ok(text.push_str("-")?),
     }
-    Ok(())
 }
 
 fn add_phases(alloc: Global, text: &mut String, world: &World, t: TaskId) -> Result<(), NoMemory>
     requires task { t.0 < length world.now.plan.parents }
 {
     for p in 0..world.plan().phasers() {
+        text.push_str(" ")?;
         add_phase(alloc, text, world.phase(PhaserId(p), t))?;
     }
     Ok(())
 }
 
-// Each task with its phases.
+// Each task: how it stands, the index of its op, and its phases.
 fn add_tasks(alloc: Global, text: &mut String, world: &World) -> Result<(), NoMemory> {
-    for t in 0..world.plan().tasks() {
-        add_task(alloc, text, world, TaskId(t))?;
-        add_phases(alloc, text, world, TaskId(t))?;
+    for number in 0..world.plan().tasks() {
+        let t = TaskId(number);
+        add_task(alloc, text, t)?;
+        text.push_str(" ")?;
+        add_stand(alloc, text, world, t)?;
+        add_op(alloc, text, world, t)?;
+        add_phases(alloc, text, world, t)?;
         text.push_str(";")?;
     }
     Ok(())

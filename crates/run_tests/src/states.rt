@@ -86,8 +86,8 @@ fn take_turns(world: &mut World, places: &mut Vec<Place>, turns: &str)
     ensures same { places.new.items ≡ world.new.places }
     ensures plan { world.new.plan ≡ world.old.plan }
 {
-    for letter in turns.bytes() {
-        match letter {
+    for letter in turns.as_bytes() {
+        match *letter {
             b'r' => refuse_both(world, places, TaskId(1)),
             digit => step_both(world, places, TaskId(u32::from(digit % 16))),
         }

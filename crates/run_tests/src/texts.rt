@@ -1,5 +1,5 @@
 // Numbers, tasks and events as text.
-use armus_base::{Event, NoMemory, Status};
+use armus_base::{Event, NoMemory, Phase, PhaserId, Status, TaskId};
 use std::alloc::Global;
 
 pub(crate) fn number(text: &str) -> u32 {
@@ -18,10 +18,32 @@ pub(crate) fn first_word(text: &str) -> (&str, &str) {
     text.split_once(" ").unwrap_or((text, ""))
 }
 
-pub(crate) fn event_text(alloc: Global, event: Event) -> Result<String, NoMemory> {
-    let p = event.p.0;
-    let n = event.n;
-    Ok(format!(in alloc; "{p}@{n}")?)
+pub(crate) fn add_number(alloc: Global, text: &mut String, n: u64) -> Result<(), NoMemory> {
+    text.push_str(format!(in alloc; "{n}")?.as_str())?;
+    Ok(())
+}
+
+/// A phaser and a phase, and a sign between them.
+pub(crate) fn add_pair(
+    alloc: Global,
+    text: &mut String,
+    p: PhaserId,
+    sign: &str,
+    n: Phase,
+) -> Result<(), NoMemory> {
+    text.push_str("p")?;
+    add_number(alloc, text, u64::from(p.0))?;
+    text.push_str(sign)?;
+    add_number(alloc, text, u64::from(n))
+}
+
+pub(crate) fn add_event(alloc: Global, text: &mut String, event: Event) -> Result<(), NoMemory> {
+    add_pair(alloc, text, event.p, "@", event.n)
+}
+
+pub(crate) fn add_task(alloc: Global, text: &mut String, t: TaskId) -> Result<(), NoMemory> {
+    text.push_str("t")?;
+    add_number(alloc, text, u64::from(t.0))
 }
 
 /// Each status: its event and its phases.
@@ -34,14 +56,12 @@ pub(crate) fn statuses_text(alloc: Global, statuses: &[Status]) -> Result<String
 }
 
 fn add_status(alloc: Global, text: &mut String, status: &Status) -> Result<(), NoMemory> {
-    let t = status.t.0;
-    let p = status.event.p.0;
-    let n = status.event.n;
-    text.push_str(format!(in alloc; "t{t} p{p}@{n}")?.as_str())?;
+    add_task(alloc, text, status.t)?;
+    text.push_str(" ")?;
+    add_event(alloc, text, status.event)?;
     for member in status.phases.as_slice() {
-        let p = member.p.0;
-        let n = member.n;
-        text.push_str(format!(in alloc; " p{p}:{n}")?.as_str())?;
+        text.push_str(" ")?;
+        add_pair(alloc, text, member.p, ":", member.n)?;
     }
     text.push_str(";")?;
     Ok(())
@@ -59,7 +79,8 @@ pub(crate) fn bytes_of(alloc: Global, text: &str) -> Result<Vec<u8>, NoMemory> {
 pub(crate) fn bytes_text(alloc: Global, bytes: &[u8]) -> Result<String, NoMemory> {
     let mut text = String::new(alloc);
     for byte in bytes {
-        text.push_str(format!(in alloc; "{byte} ")?.as_str())?;
+        add_number(alloc, &mut text, u64::from(*byte))?;
+        text.push_str(" ")?;
     }
     Ok(text)
 }
