@@ -1,4 +1,5 @@
-// Pieces: a line for each text, with the ops of its plan, a task and its pieces; a repeat has its turns and how many pieces it repeats.
+// Pieces: a line for each text, with how many ops its plan has, a task and its pieces. `repeat:3x2` runs the two pieces behind it three times, `await:0+1` looks
+// one phase ahead, and `reg:1,0` makes task 1 a member of phaser 0.
 use crate::program_texts::program_of;
 use crate::row_texts::number;
 use armus_base::{Offset, Op, PhaserId, Piece, Plan, TaskId};
@@ -35,26 +36,20 @@ fn pair(text: &str, sign: &str) -> (u32, u32) {
     (number(first), number(second))
 }
 
-fn far(k: u32) -> u16 {
-    u16::try_from(k).unwrap_or(0)
+fn far(text: &str) -> u16 {
+    u16::try_from(number(text)).unwrap_or(0)
 }
 
 fn awaits(text: &str) -> Op {
-    let (ahead, k) = pair(text, "+");
-    if text.contains("+") {
-        return Op::Await {
-            p: PhaserId(ahead),
-            off: Offset::Ahead(far(k)),
-        };
-    }
-    let (p, k) = pair(text, "-");
-    let off = if text.contains("-") {
-        Offset::Back(far(k))
+    let (p, off) = if let Some((p, k)) = text.split_once("+") {
+        (p, Offset::Ahead(far(k)))
+    } else if let Some((p, k)) = text.split_once("-") {
+        (p, Offset::Back(far(k)))
     } else {
-        Offset::Here
+        (text, Offset::Here)
     };
     Op::Await {
-        p: PhaserId(p),
+        p: PhaserId(number(p)),
         off,
     }
 }

@@ -19,6 +19,7 @@ a = newPhaser();~b = newPhaser();~t = newTid(); reg(t, a); reg(t, b);~fork(t) { 
 t = newTid(); fork(t) { x = newPhaser(); }~t = newTid(); fork(t) { x = newPhaser(); }~$6 4\n\
 ";
 
+// Comments hold no statement.
 const OFFSETS: &str = "\
 $\n\
 skip;skip;$0 5\n\
