@@ -22,6 +22,3 @@ pub use seen::Seen;
 pub use task_seat::TaskSeat;
 pub use view_seat::ViewSeat;
 pub use words::Words;
-
-#[cfg(test)]
-mod tests;

@@ -2,22 +2,23 @@
 #![tactic(auto)]
 
 #[cfg(test)]
-mod decisions;
+mod acts;
 #[cfg(test)]
-mod halves;
+mod board_play;
 #[cfg(test)]
-mod itself;
+mod counting;
 #[cfg(test)]
-mod kept;
-#[cfg(test)]
-mod locks;
-#[cfg(test)]
-mod passes;
+mod endings;
 pub mod plans;
 #[cfg(test)]
 mod rounds;
+#[cfg(test)]
+mod rows;
+#[cfg(test)]
+mod telling;
+#[cfg(test)]
+mod texts;
 pub mod walker;
+pub mod walks;
 #[cfg(test)]
-mod walks;
-#[cfg(test)]
-mod worlds;
+mod world_play;

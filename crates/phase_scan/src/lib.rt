@@ -13,6 +13,3 @@ mod supposing;
 pub use answer::Look;
 pub use cells::Cells;
 pub use scan::look;
-
-#[cfg(test)]
-mod tests;

@@ -9,4 +9,9 @@ cursor-cursor-requires c =
 
 pub invariant_of-result : goal.invariant_of-result
 invariant_of-result c =
-    left_at_first c.args.seat c.id.result.0 c.args.plan.now c.cursor-cursor.result c.id.ensures.task c.requires.plan c.cursor-cursor.ensures.code c.requires.first c.requires.free
+    record {
+      free = c.requires.free;
+      left = λ undecided.
+          left_at_first c.args.seat c.id.result.0 c.args.plan.now c.cursor-cursor.result c.id.ensures.task c.requires.plan c.cursor-cursor.ensures.code c.requires.first
+          c.requires.free;
+    }

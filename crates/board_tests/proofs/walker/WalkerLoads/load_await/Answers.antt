@@ -1,4 +1,4 @@
-use Rattle.std.proofs.Common.{◌≡◌}
+use Rattle.std.proofs.Common.{◌≡◌, ◌∙◌}
 use Rattle.board.specs.Views.{found_of}
 use Rattle.board.specs.Words.{found_in}
 use Rattle.board.proofs.Walking.{left_loaded}
@@ -7,5 +7,9 @@ use Rattle.board_tests.proofs.walker.WalkerLoads.load_await.Goals as goal
 pub invariant_of-self : goal.invariant_of-self
 invariant_of-self c =
     let load = c.load_await.ensures.answer.load in
-    left_loaded c.self.inside.cursor c.self.inside.seat c.load_await.new.self c.id.result.0 (λ s. found_in s c.args.t.0 ≡ found_of c.load_await.result) c.self.invariant
-    c.id.ensures.task c.id.ensures.seat load.same load.seen_now.place.exact load.was
+    record {
+      free = load.same.holds ∙ c.self.invariant.free;
+      left = λ undecided.
+          left_loaded c.self.inside.cursor c.self.inside.seat c.load_await.new.self c.id.result.0 (λ s. found_in s c.args.t.0 ≡ found_of c.load_await.result)
+          (c.self.invariant.left undecided) c.id.ensures.task c.id.ensures.seat load.same load.seen_now.place.exact load.was;
+    }

@@ -1,0 +1,190 @@
+// A world in play: tasks go on in it, and their awaits are decided, step by step as a row says.
+ghost use Rattle.std.specs.Prelude.{◌≡◌, ◌<◌, length};
+
+use crate::telling::decision_is;
+use crate::texts::{add_event, cut, event, number};
+use adaptive::Wanted;
+use armus_base::{Final, NoMemory, Plan, TaskEnd, TaskId};
+use avoider::{Judge, Judging, avoid_step, avoid_step_kept, go_on};
+use order_graph::Order;
+use pl_core::{Stand, World};
+use std::alloc::{AllocError, Global};
+use std::marker::Model;
+
+/// A world in which nobody is dead, and an order of its tasks. Contracts see the world.
+#[derive(Drop)]
+pub(crate) struct WorldPlay<'p> {
+    world: World<'p>,
+    order: Order,
+}
+
+impl<'p> Model for WorldPlay<'p> {
+    ghost use Rattle.pl_core.specs.Worlds.{WorldValue};
+
+    ghost Value = { WorldValue };
+
+    ghost use Rattle.board_tests.specs.Rooms.{IsKept};
+
+    ghost view = { λ w. w.world };
+
+    ghost invariant = { λ w. IsKept w.world w.order };
+}
+
+impl<'p> WorldPlay<'p> {
+    /// The plan's opening state.
+    pub(crate) fn begin(alloc: Global, plan: &'p Plan) -> Result<WorldPlay<'p>, NoMemory> {
+        let world = World::start(alloc, plan)?;
+        let order = Order::start(alloc, plan.tasks())?;
+        Ok(WorldPlay { world, order })
+    }
+
+    /// Whether each step is as the row says.
+    pub(crate) fn plays(&mut self, alloc: Global, steps: &str) -> Result<bool, NoMemory> {
+        for step in steps.split(",") {
+            if !self.step(alloc, step)? {
+                return Ok(false);
+            }
+        }
+        Ok(true)
+    }
+
+    fn step(&mut self, alloc: Global, step: &str) -> Result<bool, NoMemory> {
+        let (who, rest) = cut(step);
+        let (verb, rest) = cut(rest);
+        match who {
+            "order" => Ok(self.has_edges(rest)),
+            "ends" => self.ends_so(alloc, rest),
+            _ => self.task_step(alloc, TaskId(number(who)), verb, rest),
+        }
+    }
+
+    fn task_step(
+        &mut self,
+        alloc: Global,
+        t: TaskId,
+        verb: &str,
+        rest: &str,
+    ) -> Result<bool, NoMemory> {
+        if t.0 >= self.world.plan().tasks() {
+            return Ok(false);
+        }
+        match verb {
+            "goes" => self.goes(alloc, t, number(rest)),
+            "decides" => self.decides(alloc, t, rest),
+            "keeps" => self.keeps(alloc, t, rest),
+            _ => Ok(self.stands(t, verb, rest)),
+        }
+    }
+
+    // Whether a task makes this many events.
+    fn goes(&mut self, alloc: Global, t: TaskId, count: u32) -> Result<bool, NoMemory>
+        requires { t.0 < length self.old.plan.parents }
+    {
+        let mut judge = Judge::new(Judging::Graph(Wanted::Auto));
+        for _ in 0..count {
+            if t.0 >= self.world.plan().tasks() || !self.world.enabled(t) {
+                return Ok(false);
+            }
+            go_on(alloc, &mut self.world, t, &mut judge)?;
+        }
+        Ok(true)
+    }
+
+    // Whether a task waits for an event, or stands before the await of it.
+    fn stands(&self, t: TaskId, verb: &str, rest: &str) -> bool
+        requires { t.0 < length self.now.plan.parents }
+    {
+        match self.world.stand(t) {
+            Stand::Waits(found) => verb == "waits" && found == event(rest),
+            Stand::Await(found) => verb == "awaits" && found == event(rest),
+            _ => false,
+        }
+    }
+
+    // Whether the await of a task is decided so.
+    fn decides(&mut self, alloc: Global, t: TaskId, wanted: &str) -> Result<bool, NoMemory>
+        requires { t.0 < length self.old.plan.parents }
+    {
+        match self.world.stand(t) {
+            Stand::Await(_) => {
+                let decision = avoid_step(alloc, &mut self.world, t, Wanted::Auto)?;
+                decision_is(alloc, &decision, wanted)
+            }
+            _ => Ok(false),
+        }
+    }
+
+    // Whether it is decided so by the order, which is kept.
+    fn keeps(&mut self, alloc: Global, t: TaskId, wanted: &str) -> Result<bool, NoMemory>
+        requires { t.0 < length self.old.plan.parents }
+    {
+        match self.world.stand(t) {
+            Stand::Await(_) => {
+                let decision = avoid_step_kept(alloc, &mut self.world, t, &mut self.order)?;
+                decision_is(alloc, &decision, wanted)
+            }
+            _ => Ok(false),
+        }
+    }
+
+    // Whether the edges of the order are just these.
+    fn has_edges(&self, edges: &str) -> bool {
+        let mut all = true;
+        for a in 0..self.order.tasks() {
+            for b in 0..self.order.tasks() {
+                let there = self.order.has(TaskId(a), TaskId(b));
+                all = all && there == is_among(edges, a, b);
+            }
+        }
+        all
+    }
+
+    // Whether no task may go on, and all have ended so.
+    fn ends_so(&self, alloc: Global, wanted: &str) -> Result<bool, NoMemory> {
+        match final_state(alloc, &self.world)? {
+            Some(end) => {
+                let text = ends_text(alloc, end.ends.as_slice())?;
+                Ok(end.blocked.as_slice().is_empty() && text.as_str().trim() == wanted)
+            }
+            None => Ok(false),
+        }
+    }
+}
+
+// The final state; none where a task may go on.
+fn final_state(alloc: Global, world: &World<'_>) -> Result<Option<Final>, NoMemory> {
+    for t in 0..world.plan().tasks() {
+        if world.enabled(TaskId(t)) {
+            return Ok(None);
+        }
+    }
+    Ok(Some(world.finish(alloc)?))
+}
+
+// Whether the edge from one task to another is one of these.
+fn is_among(edges: &str, a: u32, b: u32) -> bool {
+    edges.split(" ").any(|edge| {
+        let (from, to) = edge.split_once("-").unwrap_or((edge, ""));
+        !to.is_empty() && number(from) == a && number(to) == b
+    })
+}
+
+// How tasks have ended: a word and the event for each.
+fn ends_text(alloc: Global, ends: &[TaskEnd]) -> Result<String, AllocError> {
+    let mut text = String::new(alloc);
+    for end in ends {
+        match end {
+            TaskEnd::Done => text.push_str("done ")?,
+            TaskEnd::Unforked => text.push_str("unforked ")?,
+            TaskEnd::Blocked(event) => {
+                text.push_str("blocked ")?;
+                add_event(alloc, &mut text, *event)?;
+            }
+            TaskEnd::Refused(event) => {
+                text.push_str("refused ")?;
+                add_event(alloc, &mut text, *event)?;
+            }
+        }
+    }
+    Ok(text)
+}
