@@ -2,6 +2,8 @@
 #![tactic(auto)]
 
 #[cfg(test)]
+mod detected;
+#[cfg(test)]
 mod journals;
 #[cfg(test)]
 mod meeting;

@@ -12,6 +12,8 @@ none | -\n\
 two | - t0 by t0 by t0\n\
 loop | - by t0\n\
 makers | - t0 t0 by t1 by t2\n\
+averaging | - t0 t0 t0 by t0 by t0\n\
+ending | - t0 t0 t0 by t0 by t0\n\
 ";
 
 // The text that a word stands for.
@@ -28,6 +30,10 @@ fn text_of(word: &str) -> &'static str {
         // Three workers average in two rounds; their parent never arrives at the phaser of their rounds.
         "averaging" => {
             "pc = newPhaser(); pb = newPhaser(); loop 3 { t = newTid(); reg(t, pc); reg(t, pb); fork(t) { loop 2 { skip; adv(pc); await(pc); skip; adv(pc); await(pc); } dereg(pc); dereg(pb); } } adv(pb); await(pb);"
+        }
+        // The same where the parent leaves that phaser.
+        "ending" => {
+            "pc = newPhaser(); pb = newPhaser(); loop 3 { t = newTid(); reg(t, pc); reg(t, pb); fork(t) { loop 2 { skip; adv(pc); await(pc); skip; adv(pc); await(pc); } dereg(pc); dereg(pb); } } dereg(pc); adv(pb); await(pb);"
         }
         _ => "",
     }
