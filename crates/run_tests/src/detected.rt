@@ -1,5 +1,5 @@
 // A run on a board that detects deadlock: where its tasks stand at the end of its rounds, and what the words of the board say there, before it goes on in a world.
-ghost use Rattle.std.specs.Prelude.{◌≡◌, IfOk, length};
+ghost use Rattle.std.specs.Prelude.{◌≡◌, ◌<◌, IfOk, length};
 
 use crate::plans::named_plan;
 use crate::runs::options_of;

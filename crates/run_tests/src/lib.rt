@@ -24,6 +24,8 @@ mod site_desk;
 #[cfg(test)]
 mod site_keepers;
 #[cfg(test)]
+mod site_meeting;
+#[cfg(test)]
 mod site_moments;
 #[cfg(test)]
 mod site_runs;

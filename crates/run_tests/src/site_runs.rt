@@ -68,12 +68,12 @@ fn calls<R: Threads + Sync>(rt: &R, alloc: Global, plan: &Plan) -> Result<Option
     Ok(Some(made))
 }
 
-// Each pass makes two calls of `put` and two of `get`, and there is one pass at least, and as many calls at the end.
+// Three rounds by one worker: in the first task 0 comes to its await, in the second task 1 comes to its own, in the third nobody acts. A pass of two calls of
+// `put` and two of `get` stands beside each, and as many calls at the end.
 #[test]
 fn each_call_of_the_keeper_counts(rt: HostRuntime) -> Result<(), Fail> {
     let plan = named_plan(rt.alloc(), "two")?;
-    let made = calls(&rt, rt.alloc(), &plan)?.unwrap_or(0);
-    assert!(rt; made >= 8 && made % 4 == 0);
+    assert!(rt; calls(&rt, rt.alloc(), &plan)? == Some(16));
     Ok(())
 }
 
