@@ -1,8 +1,7 @@
 // What a walker does beside its steps: it looks, its await is decided, and what a row says of it.
-ghost use Rattle.std.specs.Prelude.{◌≡◌, ◌<◌, Some, true, false, length};
+ghost use Rattle.std.specs.Prelude.{◌≡◌, ◌<◌, Some, false, length};
 ghost use Rattle.armus_base.specs.Plans.{Blocks};
 ghost use Rattle.board.specs.declared.mode.Mode.TheVariants.{Avoid};
-ghost use Rattle.board.specs.Locking.{IsBeforeAwait};
 ghost use Rattle.board.specs.Views.{next_action};
 ghost use Rattle.board.specs.Seats.{IsOf, aim_at};
 ghost use Rattle.board_tests.specs.Rooms.{IsRoomFor};
@@ -59,17 +58,6 @@ impl<'p> Walker<'p> {
         };
         self.decided = true;
         decision_on(alloc, &mut self.seat, board, aim, cells, judge)
-    }
-
-    /// Whether it stands before an await that is not published.
-    pub(crate) fn is_before_await(&self, board: &Board) -> bool
-        requires made { IsOf self.now board.now }
-        ensures { result ≡ true → IsBeforeAwait self.now }
-    {
-        match self.awaits(board) {
-            Some(_) => true,
-            None => false,
-        }
     }
 
     // What a look at the awaited phaser answers; none where it is not published.

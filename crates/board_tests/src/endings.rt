@@ -35,7 +35,11 @@ fn word_is(words: &Words, counts: (u32, u32), part: &str) -> bool
 fn words_are(words: &Words, counts: (u32, u32), parts: &str) -> bool
     requires { (counts.0 ≡ length words.now.plan.parents) × (counts.1 ≡ length words.now.plan.makers) }
 {
-    parts.split(",").all(|part| word_is(words, counts, part))
+    let mut all = true;
+    for part in parts.split(",") {
+        all = word_is(words, counts, part) && all;
+    }
+    all
 }
 
 // Whether the board's words are these once the viewer has taken in each task and the board is closed.
@@ -78,9 +82,12 @@ fn lock_in_turns(board: &Board, root: Walker<'_>, child: Walker<'_>) -> bool
     if board.mode() != Mode::Avoid {
         return false;
     }
-    if !root.is_before_await(board) || !child.is_before_await(board) {
+    let Some(_aim) = root.awaits(board) else {
         return false;
-    }
+    };
+    let Some(_other) = child.awaits(board) else {
+        return false;
+    };
     takes_turns(board, &mut root.into_seat(), &mut child.into_seat())
 }
 

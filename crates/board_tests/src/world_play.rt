@@ -77,16 +77,21 @@ impl<'p> WorldPlay<'p> {
     }
 
     // Whether a task makes this many events.
-    fn goes(&mut self, alloc: Global, t: TaskId, count: u32) -> Result<bool, NoMemory>
-        requires { t.0 < length self.old.plan.parents }
-    {
+    fn goes(&mut self, alloc: Global, t: TaskId, count: u32) -> Result<bool, NoMemory> {
         let mut judge = Judge::new(Judging::Graph(Wanted::Auto));
         for _ in 0..count {
-            if t.0 >= self.world.plan().tasks() || !self.world.enabled(t) {
+            if !self.goes_once(alloc, t, &mut judge)? {
                 return Ok(false);
             }
-            go_on(alloc, &mut self.world, t, &mut judge)?;
         }
+        Ok(true)
+    }
+
+    fn goes_once(&mut self, alloc: Global, t: TaskId, judge: &mut Judge) -> Result<bool, NoMemory> {
+        if t.0 >= self.world.plan().tasks() || !self.world.enabled(t) {
+            return Ok(false);
+        }
+        go_on(alloc, &mut self.world, t, judge)?;
         Ok(true)
     }
 
@@ -161,12 +166,21 @@ fn final_state(alloc: Global, world: &World<'_>) -> Result<Option<Final>, NoMemo
     Ok(Some(world.finish(alloc)?))
 }
 
+// Whether a text is the edge from one task to another.
+fn is_edge(text: &str, a: u32, b: u32) -> bool {
+    match text.split_once("-") {
+        Some((from, to)) => number(from) == a && number(to) == b,
+        None => false,
+    }
+}
+
 // Whether the edge from one task to another is one of these.
 fn is_among(edges: &str, a: u32, b: u32) -> bool {
-    edges.split(" ").any(|edge| {
-        let (from, to) = edge.split_once("-").unwrap_or((edge, ""));
-        !to.is_empty() && number(from) == a && number(to) == b
-    })
+    let mut found = false;
+    for edge in edges.split(" ") {
+        found = is_edge(edge, a, b) || found;
+    }
+    found
 }
 
 // How tasks have ended: a word and the event for each.
