@@ -50,8 +50,9 @@ fn logged_by_two<'p, N: PlanName, R: Threads + Wait + Sync>(
             requires { length N.plan.parents ≡ 2 }
         { step_often(rt, lent, CHILD) },
     );
-    root?;
-    child?;
+    if root.is_err() || child.is_err() {
+        return Err(NoMemory);
+    }
     Ok(shared.into_logged())
 }
 

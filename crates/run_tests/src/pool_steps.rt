@@ -186,9 +186,8 @@ fn idle(worker: Worker<Token>) -> Hand
     Hand { worker, held: None }
 }
 
-// Plays the steps in a pool of two workers and four tasks: whether each finds what it is to find, and how many records are home at the end, unless a worker has
-// one.
-fn run(alloc: Global, steps: &str) -> Option<(bool, Option<usize>)> {
+// Whether the steps in a pool of two workers and four tasks find what they are to find, and so many records are home at the end, unless a worker has one.
+fn are_met(alloc: Global, steps: &str, end: &str) -> Option<bool> {
     let first = Token { task: TaskId(0) };
     let Ok((pool, workers)) = Pool::start(alloc, 4, 2, first) else {
         return None;
@@ -198,8 +197,8 @@ fn run(alloc: Global, steps: &str) -> Option<(bool, Option<usize>)> {
     let mut first = idle(workers.pop()?);
     let found = play(&pool, &mut first, &mut second, steps);
     match close(pool, alloc, first, second) {
-        Some(entries) => Some((found, Some(home(entries.as_slice())))),
-        None => Some((found, None)),
+        Some(entries) => Some(found && home(entries.as_slice()) == number(end) as usize),
+        None => Some(found && end == "one is held"),
     }
 }
 
@@ -207,8 +206,10 @@ fn run(alloc: Global, steps: &str) -> Option<(bool, Option<usize>)> {
 fn each_step_finds_what_is_there(rt: HostRuntime) {
     for row in ROWS.lines() {
         let (steps, end) = row.split_once("|").unwrap_or((row, ""));
-        let wanted = if end.trim() == "2" { Some(2) } else { None };
-        assert!(rt; run(rt.alloc(), steps) == Some((true, wanted)), "{row}");
+        assert!(rt;
+            are_met(rt.alloc(), steps, end.trim()) == Some(true),
+            "{row}"
+        );
     }
 }
 

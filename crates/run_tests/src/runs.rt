@@ -104,10 +104,41 @@ fn run<R: Threads + Wait + Sync, G: Gate>(
     Ok((end, List::new(alloc)))
 }
 
-fn run_text(alloc: Global, end: &Final, journal: &[TaskId]) -> Result<String, NoMemory> {
+// What the run ends in, and its journal.
+fn run_text<R: Threads + Wait + Sync, G: Gate>(
+    rt: &R,
+    alloc: Global,
+    plan: &Plan,
+    kind: &str,
+    options: &RunOptions,
+    gate: &G,
+) -> Result<String, NoMemory>
+    requires workers { 1 ≤ options.now.workers × options.now.workers ≤ 64 }
+    requires quiet { options.now.live ≡ false }
+{
+    let (end, journal) = run(rt, alloc, plan, kind, options, gate)?;
     let mut text = String::new(alloc);
-    add_final(alloc, &mut text, end)?;
-    add_journal(alloc, &mut text, journal)?;
+    add_final(alloc, &mut text, &end)?;
+    add_journal(alloc, &mut text, journal.as_slice())?;
+    Ok(text)
+}
+
+// The same with a gate at which two tasks meet.
+fn meeting_text<R: Threads + Wait + Sync>(
+    rt: &R,
+    alloc: Global,
+    plan: &Plan,
+    kind: &str,
+    options: &RunOptions,
+) -> Result<String, NoMemory>
+    requires workers { 1 ≤ options.now.workers × options.now.workers ≤ 64 }
+    requires quiet { options.now.live ≡ false }
+{
+    let gate = Meeting::new();
+    let mut text = run_text(rt, alloc, plan, kind, options, &gate)?;
+    if gate.gave_up() {
+        text.push_str(", a task gave up")?;
+    }
     Ok(text)
 }
 
@@ -124,15 +155,10 @@ fn gated_text<R: Threads + Wait + Sync>(
         return Err(NoMemory);
     };
     if name == "still" {
-        let (end, journal) = run(rt, alloc, plan, kind, &options, &Still)?;
-        return run_text(alloc, &end, journal.as_slice());
+        run_text(rt, alloc, plan, kind, &options, &Still)
+    } else {
+        meeting_text(rt, alloc, plan, kind, &options)
     }
-    let gate = Meeting::new();
-    let (end, journal) = run(rt, alloc, plan, kind, &options, &gate)?;
-    if gate.gave_up() {
-        return Ok(String::from_str(alloc, "a task gave up")?);
-    }
-    run_text(alloc, &end, journal.as_slice())
 }
 
 fn is_met<R: Threads + Wait + Sync>(rt: &R, alloc: Global, row: &str) -> Result<bool, NoMemory> {

@@ -43,8 +43,8 @@ fn get_row<K: Keeper>(alloc: Global, keeper: &mut K, site: u32) -> Result<String
     }
 }
 
-/// Those that an analysis names.
-pub(crate) fn dead_text(alloc: Global, analysis: &Analysis) -> Result<String, NoMemory> {
+// Those that an analysis names.
+fn dead_text(alloc: Global, analysis: &Analysis) -> Result<String, NoMemory> {
     let mut text = String::new(alloc);
     for t in analysis.dead.as_slice() {
         text.push_str(" ")?;

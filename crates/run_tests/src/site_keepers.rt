@@ -1,4 +1,6 @@
 // Calls of keepers, one of which fails at some calls, and what they answer.
+ghost use Rattle.std.specs.Prelude.{◌≤◌};
+
 use crate::site_desk::Desk;
 use crate::texts::{first_word, number};
 use armus_base::{List, NoMemory};
@@ -34,6 +36,28 @@ fn plays<K: Keeper>(
     Ok(desk.told().trim() == wanted.trim())
 }
 
+// The same of a new keeper that fails at these calls.
+fn mem_plays(
+    alloc: Global,
+    sites: u32,
+    fails: &str,
+    calls: &str,
+    wanted: &str,
+) -> Result<bool, NoMemory>
+    requires { 1 ≤ sites × sites ≤ MAX_SITES }
+{
+    let keeper = MemKeeper::new(alloc, sites, numbers(alloc, fails)?)?;
+    plays(alloc, &mut Desk::new(alloc, keeper, sites), calls, wanted)
+}
+
+// The same of a new keeper that never fails.
+fn safe_plays(alloc: Global, sites: u32, calls: &str, wanted: &str) -> Result<bool, NoMemory>
+    requires { 1 ≤ sites × sites ≤ MAX_SITES }
+{
+    let keeper = SafeKeeper::new(alloc, sites)?;
+    plays(alloc, &mut Desk::new(alloc, keeper, sites), calls, wanted)
+}
+
 fn is_met(alloc: Global, row: &str) -> Result<bool, NoMemory> {
     let (kind, rest) = first_word(row);
     let (given, rest) = rest.split_once("|").unwrap_or((rest, ""));
@@ -44,11 +68,9 @@ fn is_met(alloc: Global, row: &str) -> Result<bool, NoMemory> {
         return Ok(false);
     }
     if kind == "mem" {
-        let keeper = MemKeeper::new(alloc, sites, numbers(alloc, fails)?)?;
-        plays(alloc, &mut Desk::new(alloc, keeper, sites), calls, wanted)
+        mem_plays(alloc, sites, fails, calls, wanted)
     } else {
-        let keeper = SafeKeeper::new(alloc, sites)?;
-        plays(alloc, &mut Desk::new(alloc, keeper, sites), calls, wanted)
+        safe_plays(alloc, sites, calls, wanted)
     }
 }
 

@@ -1,14 +1,13 @@
 // Rows of two sites that are of different moments, and a pass over three sites. A step that is not made ends as want of memory does: its test fails.
-ghost use Rattle.std.specs.Prelude.{◌≡◌, All, IfOk, IfSome, length};
+ghost use Rattle.std.specs.Prelude.{◌≡◌, All, IfOk, OnOk, length};
 ghost use Rattle.board.specs.declared.mode.Mode.TheVariants.{Detect};
 ghost use Rattle.board.specs.Seats.{IsOf};
 
 use crate::plans::named_plan;
-use crate::site_desk::{Desk, dead_text};
+use crate::site_desk::Desk;
 use crate::site_keepers::numbers;
-use crate::texts::bytes_text;
 use adaptive::Wanted;
-use armus_base::{NoMemory, Plan};
+use armus_base::{NoMemory, Plan, TaskId};
 use board::{Board, ViewSeat};
 use board_tests::walker::{Walker, begin};
 use sites::{Keeper, MemKeeper, SafeKeeper, encode, site_pass, snap};
@@ -155,56 +154,54 @@ fn three_views(alloc: Global, board: &Board, mut view: ViewSeat) -> Result<Vec<V
     Ok(views)
 }
 
-// What a pass over three sites names, by the keeper.
-fn pass(
+// Whether a pass over three sites names both tasks.
+fn pass_names_both(
     alloc: Global,
     board: &Board,
-    views: &mut Vec<ViewSeat>,
+    view: ViewSeat,
     keeper: &mut SafeKeeper,
-) -> Result<String, NoMemory>
-    requires made { All (λ k. IsOf k board.now) views.old.items }
-    requires count { length views.old.items ≡ 3 }
+) -> Result<bool, NoMemory>
+    requires made { IsOf view board.now }
     requires kept { length keeper.old ≡ 3 }
-    ensures kept { length keeper.new ≡ 3 }
+    ensures kept { OnOk result (length keeper.new ≡ 3) }
 {
+    let mut views = three_views(alloc, board, view)?;
     match site_pass(alloc, views.as_mut_slice(), board, keeper, Wanted::Auto) {
-        Ok(analysis) => dead_text(alloc, &analysis),
+        Ok(analysis) => Ok(analysis.dead.as_slice() == [TaskId(0), TaskId(1)].as_slice()),
         Err(_) => Err(NoMemory),
     }
 }
 
-// The row that is held of the last of three sites.
-fn last_row(alloc: Global, keeper: &mut SafeKeeper) -> Result<String, NoMemory>
+// Whether the row of the last of three sites is the one of no status.
+fn last_is_empty(alloc: Global, keeper: &mut SafeKeeper) -> bool
     requires kept { length keeper.old ≡ 3 }
 {
     match keeper.get(alloc, 2) {
-        Ok(Some(row)) => bytes_text(alloc, row.as_slice()),
-        _ => Err(NoMemory),
+        Ok(Some(row)) => row.as_slice() == [0, 0, 0, 0].as_slice(),
+        _ => false,
     }
 }
 
 // Whether a pass over three sites, of which the last has no task, names both tasks, and puts the row of no status for that site.
-fn pass_names_both(alloc: Global, board: &Board, view: ViewSeat) -> Result<bool, NoMemory>
+fn three_sites_are_met(alloc: Global, board: &Board, view: ViewSeat) -> Result<bool, NoMemory>
     requires made { IsOf view board.now }
 {
-    let mut views = three_views(alloc, board, view)?;
     let mut keeper = SafeKeeper::new(alloc, 3)?;
-    let named = pass(alloc, board, &mut views, &mut keeper)?;
-    let row = last_row(alloc, &mut keeper)?;
-    Ok(named.as_str().trim() == "t0 t1" && row.as_str().trim() == "0 0 0 0")
+    let named = pass_names_both(alloc, board, view, &mut keeper)?;
+    Ok(named && last_is_empty(alloc, &mut keeper))
 }
 
 // The same once both tasks wait.
-fn a_pass_names_both(alloc: Global, plan: &Plan) -> Result<bool, NoMemory> {
+fn both_are_named(alloc: Global, plan: &Plan) -> Result<bool, NoMemory> {
     let (board, root, view) = begin(alloc, plan)?;
     let mut child = first_waits(root, alloc, &board, plan)?;
     go(&mut child, alloc, &board, plan, 2)?;
-    pass_names_both(alloc, &board, view)
+    three_sites_are_met(alloc, &board, view)
 }
 
 #[test]
 fn a_pass_over_three_sites_names_both(rt: HostRuntime) -> Result<(), Fail> {
     let plan = named_plan(rt.alloc(), "two")?;
-    assert!(rt; a_pass_names_both(rt.alloc(), &plan)?);
+    assert!(rt; both_are_named(rt.alloc(), &plan)?);
     Ok(())
 }
