@@ -335,6 +335,7 @@ check$#1#pl 2; p = newPhaser(); t = newTid(); fork(t) { adv(z); } loop 65535 { #
 check$#1#pl 2; loop 1024 { p = newPhaser(); } loop 65408 { #16#adv(p); #1#}$tasks 1 phasers 1024 ops 1048576~$0\n\
 check$#1#pl 2; loop 1024 { p = newPhaser(); } loop 65408 { #16#adv(p); #1#} adv(p);$refused check 9 statement 0~$3\n\
 check$#1#pl 2; p = newPhaser(); loop 65535 { #63#skip;#1# }#63#skip;$refused check 10 statement 128~$3\n\
+check$p = newPhaser(); loop 65535 { adv(p); adv(p); adv(p); adv(p); } adv(p); adv(p); adv(p); adv(p);$tasks 1 phasers 1 ops 262145~$0\n\
 ";
 
 // Texts that ask much.

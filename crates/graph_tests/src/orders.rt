@@ -11,6 +11,9 @@ use std::test::Fail;
 
 // Edges that are added one after another to an order of so many tasks, with the cycle that each would close, and the tasks by position after all.
 const EDGES: &str = "\
+4 | 0 1 | ; 0 1 2 3\n\
+4 | 0 1, 2 1 | ; ; 0 2 1 3\n\
+4 | 0 1, 2 1, 1 0 | ; ; 0 1 ; 0 2 1 3\n\
 4 | 0 1, 2 1, 1 0, 1 3 | ; ; 0 1 ; ; 0 2 1 3\n\
 3 | 2 2 | 2 ; 0 1 2\n\
 5 | 4 3, 3 0, 0 4 | ; ; 4 3 0 ; 4 3 0 1 2\n\

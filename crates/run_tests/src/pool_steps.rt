@@ -1,4 +1,4 @@
-// Steps of two workers of a pool of four tasks, one after the other, and what each of them finds.
+// Steps of two workers of a pool, one after the other, and what each of them finds.
 ghost use Rattle.std.specs.Prelude.{◌≡◌, ◌<◌, [], ◌∷◌, map};
 ghost use Rattle.std.specs.Option.{option_to_list};
 ghost use Rattle.slot_pool.specs.Hands.{IsOfPool, IsSameWorker};
@@ -8,10 +8,10 @@ use armus_base::{List, TaskId};
 use slot_pool::{Claim, Named, Pool, Worker};
 use std::alloc::Global;
 
-// Steps, each with what it finds, and how many records are home at the end, unless a worker has one.
+// How many tasks, the steps, each with what it finds, and how many records are home at the end, unless a worker has one.
 const ROWS: &str = "\
-0 claim 0 -> got; 1 claim 0 -> held 0; 1 claim 1 -> empty; 0 place 1 -> placed; 0 put -> put; 1 claim 1 -> got; 1 place 1 -> back; 1 put -> put | 2\n\
-0 claim 1 -> empty; 0 place 1 -> placed; 0 claim 1 -> got; 0 place 1 -> back; 0 place 3 -> placed; 1 claim 1 -> held 0; 0 put -> put; 1 place 3 -> back; 1 claim 3 -> got | one is held\n\
+2 | 0 claim 0 -> got; 1 claim 0 -> held 0; 1 claim 1 -> empty; 0 place 1 -> placed; 0 put -> put; 1 claim 1 -> got; 1 place 1 -> back; 1 put -> put | 2\n\
+4 | 0 claim 1 -> empty; 0 place 1 -> placed; 0 claim 1 -> got; 0 place 1 -> back; 0 place 3 -> placed; 1 claim 1 -> held 0; 0 put -> put; 1 place 3 -> back; 1 claim 3 -> got | one is held\n\
 ";
 
 // A record of a task.
@@ -37,7 +37,7 @@ enum Found {
     Placed,
     Back,
     IsPut,
-    // The worker has something, or nothing to put.
+    // The worker has something, or nothing to put, or another record came back.
     Amiss,
 }
 
@@ -87,7 +87,8 @@ fn place(pool: &Pool<Token>, hand: &mut Hand, task: TaskId) -> Found
 {
     match hand.worker.place(pool, Token { task }) {
         Ok(()) => Found::Placed,
-        Err(_) => Found::Back,
+        Err(back) if back.task == task => Found::Back,
+        Err(_) => Found::Amiss,
     }
 }
 
@@ -119,17 +120,18 @@ fn is_told(found: Found, wanted: &str) -> bool {
 }
 
 // Whether the step, by the first worker or by the second, finds what it is to find.
-fn is_met(pool: &Pool<Token>, first: &mut Hand, second: &mut Hand, text: &str) -> bool
+fn is_met(pool: &Pool<Token>, tasks: u32, first: &mut Hand, second: &mut Hand, text: &str) -> bool
     requires first { IsOfPool first.old.worker pool.now }
     requires second { IsOfPool second.old.worker pool.now }
-    requires tasks { pool.now.tasks ≡ 4 }
+    requires tasks { pool.now.tasks ≡ tasks }
+    requires some { 0 < tasks }
     ensures first { IsSameWorker first.old.worker first.new.worker }
     ensures second { IsSameWorker second.old.worker second.new.worker }
 {
     let (made, wanted) = text.split_once(" -> ").unwrap_or((text, ""));
     let (who, rest) = first_word(made);
     let (call, task) = first_word(rest);
-    let task = TaskId(number(task) % 4);
+    let task = TaskId(number(task) % tasks);
     let found = if who == "0" {
         step(pool, first, call, task)
     } else {
@@ -139,16 +141,17 @@ fn is_met(pool: &Pool<Token>, first: &mut Hand, second: &mut Hand, text: &str) -
 }
 
 // Whether each step in turn finds what it is to find.
-fn play(pool: &Pool<Token>, first: &mut Hand, second: &mut Hand, steps: &str) -> bool
+fn play(pool: &Pool<Token>, tasks: u32, first: &mut Hand, second: &mut Hand, steps: &str) -> bool
     requires first { IsOfPool first.old.worker pool.now }
     requires second { IsOfPool second.old.worker pool.now }
-    requires tasks { pool.now.tasks ≡ 4 }
+    requires tasks { pool.now.tasks ≡ tasks }
+    requires some { 0 < tasks }
     ensures first { IsSameWorker first.old.worker first.new.worker }
     ensures second { IsSameWorker second.old.worker second.new.worker }
 {
     let mut all = true;
     for text in steps.split(";") {
-        all = is_met(pool, first, second, text.trim()) && all;
+        all = is_met(pool, tasks, first, second, text.trim()) && all;
     }
     all
 }
@@ -186,16 +189,19 @@ fn idle(worker: Worker<Token>) -> Hand
     Hand { worker, held: None }
 }
 
-// Whether the steps in a pool of two workers and four tasks find what they are to find, and so many records are home at the end, unless a worker has one.
-fn are_met(alloc: Global, steps: &str, end: &str) -> Option<bool> {
+// Whether the steps in a pool of two workers and so many tasks find what they are to find, and so many records are home at the end, unless a worker has one.
+fn are_met(alloc: Global, tasks: u32, steps: &str, end: &str) -> Option<bool> {
+    if tasks < 1 || tasks > 4 {
+        return None;
+    }
     let first = Token { task: TaskId(0) };
-    let Ok((pool, workers)) = Pool::start(alloc, 4, 2, first) else {
+    let Ok((pool, workers)) = Pool::start(alloc, tasks, 2, first) else {
         return None;
     };
     let mut workers = workers.into_vec();
     let mut second = idle(workers.pop()?);
     let mut first = idle(workers.pop()?);
-    let found = play(&pool, &mut first, &mut second, steps);
+    let found = play(&pool, tasks, &mut first, &mut second, steps);
     match close(pool, alloc, first, second) {
         Some(entries) => Some(found && home(entries.as_slice()) == number(end) as usize),
         None => Some(found && end == "one is held"),
@@ -205,9 +211,11 @@ fn are_met(alloc: Global, steps: &str, end: &str) -> Option<bool> {
 #[test]
 fn each_step_finds_what_is_there(rt: HostRuntime) {
     for row in ROWS.lines() {
-        let (steps, end) = row.split_once("|").unwrap_or((row, ""));
+        let (tasks, rest) = row.split_once("|").unwrap_or((row, ""));
+        let (steps, end) = rest.split_once("|").unwrap_or((rest, ""));
+        let tasks = number(tasks.trim());
         assert!(rt;
-            are_met(rt.alloc(), steps, end.trim()) == Some(true),
+            are_met(rt.alloc(), tasks, steps, end.trim()) == Some(true),
             "{row}"
         );
     }

@@ -1,6 +1,5 @@
 pub mod Views
 pub mod Rule
-pub mod Steps
 pub mod Pools
 pub mod Workers
 pub mod Parting

@@ -5,7 +5,7 @@ use Rattle.atomic_table.specs.Seated.{TableId}
 use Rattle.atomic_table.specs.Table.{Allows, rest, step}
 use Rattle.slot_pool.specs.Views.{giving}
 use Rattle.slot_pool.specs.inside.Rule.{PoolHolds}
-use Rattle.slot_pool.specs.inside.Steps.{GivenBack}
+use Rattle.slot_pool.specs.Steps.{GivenBack}
 use Rattle.slot_pool.proofs.Members.{contains_first}
 use Rattle.slot_pool.proofs.Placing.{gives_home}
 use Rattle.slot_pool.proofs.Standing.{given_at_work}
