@@ -1,8 +1,10 @@
 -- The statuses of a collect, with that of the holder's own task, decide on its await in each state that it may be in.
-use Rattle.std.proofs.Common.{◌≡◌, ◌≢◌, ℕ, ◌<◌, Bool, true, List, Option, Some, None, length, sym, refl, ap, ◌∙◌, subst, arith, inl, inr, ◌⊎◌}
-use Rattle.std.specs.Prelude.{is_some, nat_lt, option_map, unwrap_or, IsSome}
+use Rattle.std.proofs.Common.{◌≡◌, ◌≢◌, ℕ, ◌<◌, Bool, true, List, Option, get_or, Some, None, length, sym, refl, ap, ◌∙◌, subst, arith, inl, inr, ◌⊎◌}
+use Rattle.std.specs.Prelude.{is_some, nat_lt, option_map, unwrap_or, Contains, IsSome}
 use Rattle.std.proofs.lemmas.Bool.{cases_Bool, cases_eq, cases_lt, false≢true}
+use Rattle.std.proofs.lemmas.List.{get_or_default}
 use Rattle.armus_base.specs.declared.event.Event.{Event}
+use Rattle.armus_base.specs.declared.ids.TaskId.{TaskId}
 use Rattle.armus_base.specs.declared.status.Status.{Status}
 use Rattle.armus_base.specs.Plans.{Aim, Blocks, Plan, action_at}
 use Rattle.armus_base.specs.Offsets.{target}
@@ -45,6 +47,9 @@ use Rattle.phase_scan.proofs.Standing.{phases_begun_at, published_begun}
 use Rattle.phase_scan.proofs.Supposes.{own_phase_stays}
 use Rattle.phase_scan.proofs.Telling.{found_there}
 use Rattle.phase_scan.specs.OffCycle.{ImpedesSome}
+use Rattle.verdict.specs.Cycles.{IsCycle}
+use Rattle.avoider.proofs.CycleDead.{cycle_deadlocked}
+use Rattle.avoider.proofs.FoundAlive.{among_or_not, no_deadlocked_list}
 
 is_lt : (a b : ℕ) → a < b → nat_lt a b ≡ true
 is_lt a b h = grind arith
@@ -460,6 +465,18 @@ module _ (list supposed : List Status) (aim : Aim) (event : Event) (before mid s
       where
         some_same : (x y : Found) → Some x ≡ Some y → x ≡ y
         some_same x y h = cc
+
+    -- each cycle of the statuses has the own task in it
+    pub stands_in_cycle : (tasks_of_cycle : List TaskId) (events : List Event) → IsCycle supposed tasks_of_cycle events → Contains tasks_of_cycle (record { 0 = t })
+    stands_in_cycle ts events cycle = elim (among_or_not ts (record { 0 = t })) [
+      | inl m ↦ m
+      | inr absent ↦
+          let first = get_or ts 0 (record { 0 = t }) in
+          absurd (no_deadlocked_list plan checked a lock lawful (λ u. u ≢ t) supposed at found' all_found ts first
+          (λ v m same. absent (subst (λ w. Contains ts w) (ap (λ k. record { 0 = k }) same) m))
+          (0, cycle.some, get_or_default ts 0 first (record { 0 = t }) cycle.some)
+          (cycle_deadlocked supposed supposed ts events event cycle (λ x v inside same among. inside)))
+    ]
 
     pub decides : Decides s t event supposed
     decides = list_in_hand_decides plan t aim event (seen store.view) supposed a lock checked has_all lawful has stands own_status others

@@ -1,3 +1,4 @@
+pub mod FoundAlive
 pub mod InHand
 pub mod JudgedLists
 pub mod Dropping

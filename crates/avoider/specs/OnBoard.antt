@@ -71,11 +71,12 @@ pub record HasPublished (list : List Status) (aim : Aim) (event : Event) (before
   pub freed : FreesLock stored now
 
 -- What the holder of the lock knows when it stores a refusal: with its event published its task would be dead in every state that it might be in, of which there
--- is one, as the cycle of the statuses explains, each of whose other tasks is published on its event in every such state.
+-- is one, as the cycle of the statuses explains, in which it stands, and each of whose other tasks is published on its event in every such state.
 pub record KnowsDeath (event : Event) (supposed : List Status) (cycle : Cycle) (store : Known) : Type 0 where
   pub dead : InEachByLock store (λ s. WouldBeDead s (task_of store.view) event)
   pub possible : IsPossibleByLock store
   pub explains : ExplainsDeath supposed (task_of store.view) cycle
+  pub stands : Contains cycle.tasks (record { 0 = task_of store.view })
   pub others :
       (u : TaskId) (e : Event) → Contains cycle.tasks u → u.0 ≢ task_of store.view → IsListedOn supposed u.0 e →
       InEachByLock store (λ s. s.published u.0 ≡ Some e)
