@@ -1,11 +1,17 @@
 -- What a decision leaves of a kept order.
-use Rattle.std.specs.Prelude.{List}
+use Rattle.std.specs.Prelude.{◌↔◌, List}
+use Rattle.armus_base.specs.declared.ids.TaskId.{TaskId}
 use Rattle.armus_base.specs.declared.event.Event.{Event}
 use Rattle.armus_base.specs.declared.status.Status.{Status}
-use Rattle.armus_base.specs.Plans.{Aim}
+use Rattle.armus_base.specs.CheckedPlans.{IsCheckedPlan}
+use Rattle.armus_base.specs.Finals.{statuses_of}
+use Rattle.armus_base.specs.Graphs.{WaitsFor}
+use Rattle.armus_base.specs.Plans.{Aim, Plan}
+use Rattle.armus_base.specs.States.{State}
 use Rattle.board.specs.Seats.{Known}
 use Rattle.order_graph.specs.Following.{ArePairs, StaysWhereOrdered}
 use Rattle.order_graph.specs.Orders.{OrderValue}
+use Rattle.pl_core.specs.Awaiting.{awaited_statuses}
 use Rattle.avoider.specs.OnBoard.{HasPublished}
 use Rattle.avoider.specs.declared.decision.Decision.{Decision}
 use Rattle.avoider.specs.declared.decision.Decision.TheVariants.{Published, Refused}
@@ -29,3 +35,7 @@ pub record HasPublishedByOrder (list : List Status) (aim : Aim) (event : Event) 
 abbrev pub HoldsIfPublishedOnBoard : List Status → Aim → Known → Known → OrderValue → OrderValue → Decision → Type 0
 HoldsIfPublishedOnBoard list aim before now old new (Published e) = HasPublishedByOrder list aim e before now old new
 HoldsIfPublishedOnBoard list aim before now old new (Refused c) = Unit {0}
+
+-- the statuses of a state have the same pairs of the wait-for graph, whether they list all phases or those on awaited phasers alone
+abbrev pub SamePairs : Type 0
+SamePairs = (plan : Plan) (s : State) → IsCheckedPlan plan → (t u : TaskId) → WaitsFor (awaited_statuses plan s) t u ↔ WaitsFor (statuses_of plan s) t u
