@@ -3,6 +3,7 @@ pub mod InHand
 pub mod JudgedLists
 pub mod Dropping
 pub mod CycleDead
+pub mod NoCycle
 pub mod SamePairs
 pub mod Decided
 pub mod Conclusions

@@ -6,13 +6,15 @@ use Rattle.armus_base.specs.declared.ids.TaskId.{TaskId}
 use Rattle.armus_base.specs.declared.status.Status.{Status}
 use Rattle.armus_base.specs.Avoidance.{LeavesNobodyDead}
 use Rattle.armus_base.specs.Deadlocks.{IsListedOn, WouldBeDead}
+use Rattle.armus_base.specs.Graphs.{WaitsFor}
 use Rattle.armus_base.specs.Plans.{Aim, Blocks, Drops, Refuses}
+use Rattle.armus_base.specs.Relations.{ReachesCycle}
 use Rattle.armus_base.specs.Seats.{InEachWithLock}
 use Rattle.armus_base.specs.States.{awaited, Phases, State}
 use Rattle.board.specs.Locking.{FreesLock, IsWithLock}
 use Rattle.board.specs.Seats.{Frame, IsOf, Known, MakesStep}
 use Rattle.board.specs.Steps.{own_phase}
-use Rattle.board.specs.Views.{next_action, seen, task_of}
+use Rattle.board.specs.Views.{avoids, next_action, seen, task_of}
 use Rattle.phase_scan.specs.Collecting.{HasCollected}
 use Rattle.phase_scan.specs.Collects.{Collection, IfAsked}
 use Rattle.phase_scan.specs.Looks.{LoadsAlone}
@@ -102,6 +104,12 @@ pub record HasRefused (list : List Status) (aim : Aim) (cycle : Cycle) (before n
 abbrev pub IsDecidedOnBoard : List Status → Aim → Known → Known → Decision → Type 0
 IsDecidedOnBoard list aim before now (Published e) = HasPublished list aim e before now
 IsDecidedOnBoard list aim before now (Refused c) = HasRefused list aim c before now
+
+-- on a board that avoids deadlock the statuses that a collect has found have no cycle of the wait-for graph
+abbrev pub CollectedHaveNoCycle : Type 0
+CollectedHaveNoCycle =
+    (list : List Status) (before now : Known) → avoids before.view.mode ≡ true → HasCollected before.view.plan list before now → (t : TaskId) →
+    ReachesCycle (WaitsFor list) t → ⊥
 
 -- nothing was decided: loads were made, and the lock was freed
 pub record IsUndecided (before now : Known) : Type 0 where
