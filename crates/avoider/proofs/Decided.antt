@@ -28,13 +28,14 @@ use Rattle.verdict.specs.Cycles.{IsCycle}
 use Rattle.verdict.specs.declared.found.Cycle.{Cycle}
 use Rattle.order_graph.specs.Orders.{OrderValue}
 use Rattle.avoider.specs.Decisions.{ExplainsDeath}
-use Rattle.avoider.specs.Kept.{HasPublishedByOrder}
+use Rattle.avoider.specs.Kept.{HasPublishedByOrder, HoldsPairs}
 use Rattle.avoider.specs.OnBoard.{DropsBelow, HasPublished, HasRefused, InEachByLock, Judges}
 use Rattle.avoider.specs.inside.Followings.{HoldsOrOtherDead}
 use Rattle.avoider.specs.inside.Judged.{IsJudged}
 use Rattle.avoider.proofs.CycleDead.{cycle_dead}
 use Rattle.avoider.proofs.Dropping.{kept_all, own_place_next, place_at}
 use Rattle.avoider.proofs.InHand.{decides, stands, stands_in_cycle}
+use Rattle.avoider.proofs.OtherPairs.{pairs_of_others}
 
 -- what comes next stays so while a seat makes loads alone
 pub next_stays : (k m : Known) (t : ℕ) → IsSeat k → k.view.own ≡ Some t → LoadsAlone k m → next_action m.view ≡ next_action k.view
@@ -198,13 +199,16 @@ module _ (list : List Status) (aim : Aim) (before now : Known) (found : Option C
       MakesStep (Blocks aim) now stored → FreesLock stored last → HasPublishedByOrder list aim e before last old new
   unfolding publishes_on
   publishes_by_order old new e stored last pairs none phaser phase possible step freed =
+      let pairs_held : HoldsPairs j.supposed old new = elim (subst (HoldsOrOtherDead j.supposed old new) none pairs) [
+        | inl is ↦ is
+        | inr (u, dead) ↦ absurd (nobody_dead none (with_lock_there possible) u dead)
+      ] in
       record {
         published = publishes_on e stored last none phaser phase possible step freed;
-        holds =
-            elim (subst (HoldsOrOtherDead j.supposed old new) none pairs) [
-              | inl holds ↦ holds
-              | inr (u, dead) ↦ absurd (nobody_dead none (with_lock_there possible) u dead)
-            ];
+        holds = pairs_held;
+        others = λ a b na nb.
+            let same = pairs_of_others list j.supposed aim j.event before now t seat own holds next j.judges a b (λ e. na (e ∙ sym is_t)) (λ e. nb (e ∙ sym is_t)) in
+            (λ edge. same.0 ((pairs_held.edges a b).0 edge), λ waits. (pairs_held.edges a b).1 (same.1 waits));
       }
 
   pub explained : (cycle : Cycle) → found ≡ Some cycle → ExplainsDeath j.supposed t cycle

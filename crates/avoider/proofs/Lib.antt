@@ -5,6 +5,7 @@ pub mod Dropping
 pub mod CycleDead
 pub mod NoCycle
 pub mod SamePairs
+pub mod OtherPairs
 pub mod Decided
 pub mod Conclusions
 pub mod Sending
