@@ -1,6 +1,6 @@
 -- A decision meets what the board asks of a publication and of a refusal.
 use Rattle.std.proofs.Common.{◌≡◌, ◌≢◌, ℕ, true, List, Option, Some, None, length, sym, ap, ◌∙◌, subst, inl, inr}
-use Rattle.std.specs.Prelude.{MatchOption, option_map, unwrap_or}
+use Rattle.std.specs.Prelude.{Contains, MatchOption, option_map, unwrap_or}
 use Rattle.armus_base.specs.declared.event.Event.{Event}
 use Rattle.armus_base.specs.declared.status.Status.{Status}
 use Rattle.armus_base.specs.Avoidance.{Avoids, LeavesNobodyDead}
@@ -24,16 +24,18 @@ use Rattle.board.proofs.Fitting.{moved_same}
 use Rattle.board.proofs.Seated.{next_there}
 use Rattle.phase_scan.specs.Looks.{LoadsAlone}
 use Rattle.phase_scan.proofs.Supposes.{own_phase_stays}
+use Rattle.verdict.specs.Cycles.{IsCycle}
 use Rattle.verdict.specs.declared.found.Cycle.{Cycle}
 use Rattle.order_graph.specs.Orders.{OrderValue}
 use Rattle.avoider.specs.Decisions.{ExplainsDeath}
-use Rattle.avoider.specs.Kept.{HasPublishedByOrder}
+use Rattle.avoider.specs.Kept.{HasPublishedByOrder, HoldsPairs}
 use Rattle.avoider.specs.OnBoard.{DropsBelow, HasPublished, HasRefused, InEachByLock, Judges}
 use Rattle.avoider.specs.inside.Followings.{HoldsOrOtherDead}
 use Rattle.avoider.specs.inside.Judged.{IsJudged}
 use Rattle.avoider.proofs.CycleDead.{cycle_dead}
 use Rattle.avoider.proofs.Dropping.{kept_all, own_place_next, place_at}
-use Rattle.avoider.proofs.InHand.{decides, stands}
+use Rattle.avoider.proofs.InHand.{decides, stands, stands_in_cycle}
+use Rattle.avoider.proofs.OtherPairs.{pairs_of_others}
 
 -- what comes next stays so while a seat makes loads alone
 pub next_stays : (k m : Known) (t : ℕ) → IsSeat k → k.view.own ≡ Some t → LoadsAlone k m → next_action m.view ≡ next_action k.view
@@ -102,6 +104,12 @@ module _ (list : List Status) (aim : Aim) (before now : Known) (found : Option C
 
     alive_here : (WouldBeDead (state_at plan a) t j.event → ⊥) → LeavesNobodyDead (state_at plan a) t j.event
     alive_here lives = publishing_leaves_nobody_dead (state_at plan a) t j.event (nobody_dead_at plan a lock seat.checked lawful) lives
+
+    in_cycle : (c : Cycle) → IsCycle j.supposed c.tasks c.events → Contains c.tasks (record { 0 = t })
+    in_cycle c links =
+        stands_in_cycle list j.supposed aim j.event before j.judges.between now t seat own next j.judges.own j.judges.collected.goes_on j.judges.collected.tells
+        (j.judges.collected.finds holds) j.judges.adds a lock
+        avoiding lawful has far c.tasks c.events links
 
   each : (Holds : State → Type 0) → InEachWithLock plan t (seen now.view) Holds → InEachByLock now Holds
   each Holds all = subst (λ (q : Plan). InEachWithLock q (task_of now.view) (seen now.view) Holds) (sym goes.same.plan)
@@ -191,13 +199,16 @@ module _ (list : List Status) (aim : Aim) (before now : Known) (found : Option C
       MakesStep (Blocks aim) now stored → FreesLock stored last → HasPublishedByOrder list aim e before last old new
   unfolding publishes_on
   publishes_by_order old new e stored last pairs none phaser phase possible step freed =
+      let pairs_held : HoldsPairs j.supposed old new = elim (subst (HoldsOrOtherDead j.supposed old new) none pairs) [
+        | inl is ↦ is
+        | inr (u, dead) ↦ absurd (nobody_dead none (with_lock_there possible) u dead)
+      ] in
       record {
         published = publishes_on e stored last none phaser phase possible step freed;
-        holds =
-            elim (subst (HoldsOrOtherDead j.supposed old new) none pairs) [
-              | inl holds ↦ holds
-              | inr (u, dead) ↦ absurd (nobody_dead none (with_lock_there possible) u dead)
-            ];
+        holds = pairs_held;
+        others = λ a b na nb.
+            let same = pairs_of_others list j.supposed aim j.event before now t seat own holds next j.judges a b (λ e. na (e ∙ sym is_t)) (λ e. nb (e ∙ sym is_t)) in
+            (λ edge. same.0 ((pairs_held.edges a b).0 edge), λ waits. (pairs_held.edges a b).1 (same.1 waits));
       }
 
   pub explained : (cycle : Cycle) → found ≡ Some cycle → ExplainsDeath j.supposed t cycle
@@ -219,6 +230,10 @@ module _ (list : List Status) (aim : Aim) (before now : Known) (found : Option C
           dead = all_dead why.among;
           possible = possible;
           explains = subst (λ u. ExplainsDeath j.supposed u cycle) (sym task) why;
+          stands =
+              let there = with_lock_there possible in
+              subst (λ u. Contains cycle.tasks (record { 0 = u })) (sym task)
+              (in_cycle there.places there.lock there.lawful there.with_seat there.far cycle why.links);
           others = λ u e m apart on. all_published u.0 e (λ same. apart (same ∙ sym task)) (cycle_dead j.supposed cycle.tasks cycle.events j.event why.links u m) on;
         };
         leaves = record {

@@ -1,12 +1,14 @@
 -- The statuses of a collect, with that of the holder's own task, decide on its await in each state that it may be in.
-use Rattle.std.proofs.Common.{◌≡◌, ◌≢◌, ℕ, ◌<◌, Bool, true, List, Option, Some, None, length, sym, refl, ap, ◌∙◌, subst, arith, inl, inr, ◌⊎◌}
-use Rattle.std.specs.Prelude.{is_some, nat_lt, option_map, unwrap_or, IsSome}
-use Rattle.std.proofs.lemmas.Bool.{cases_Bool, cases_eq, cases_lt, false≢true}
+use Rattle.std.proofs.Common.{◌≡◌, ◌≢◌, ℕ, ◌<◌, Bool, true, false, List, Option, get_or, Some, None, length, sym, refl, ap, ◌∙◌, subst, arith, inl, inr, ◌⊎◌, eq-eqb}
+use Rattle.std.specs.Prelude.{is_some, nat_lt, option_map, unwrap_or, Contains, IsSome, if◌then◌else◌}
+use Rattle.std.proofs.lemmas.Bool.{cases_Bool, cases_eq, cases_lt, eqb-true, false≢true}
+use Rattle.std.proofs.lemmas.List.{get_or_default}
 use Rattle.armus_base.specs.declared.event.Event.{Event}
+use Rattle.armus_base.specs.declared.ids.TaskId.{TaskId}
 use Rattle.armus_base.specs.declared.status.Status.{Status}
 use Rattle.armus_base.specs.Plans.{Aim, Blocks, Plan, action_at}
 use Rattle.armus_base.specs.Offsets.{target}
-use Rattle.armus_base.specs.States.{State, awaited, event_at, event_on, if_published, updated}
+use Rattle.armus_base.specs.States.{State, awaited, event_on, if_published, updated}
 use Rattle.armus_base.specs.Runs.{IsPrefix, Place, first_place}
 use Rattle.armus_base.specs.Places.{done_by, forked_at, kept, phases_at_place, published_after, refused_at, state_at}
 use Rattle.armus_base.specs.CheckedPlans.{IsCheckedPlan}
@@ -20,7 +22,7 @@ use Rattle.armus_base.specs.Statuses.{Impedes, IsAwaited}
 use Rattle.armus_base.proofs.Codes.{awaited_is}
 use Rattle.armus_base.proofs.KeepsFar.{prefixes_both}
 use Rattle.armus_base.proofs.FoundArePublished.{found_are_published}
-use Rattle.armus_base.proofs.Fixed.{phases_forked, some_before_from}
+use Rattle.armus_base.proofs.Fixed.{phases_forked, some_before_from, some_before_is}
 use Rattle.armus_base.proofs.ListDecides.{list_in_hand_decides}
 use Rattle.armus_base.proofs.ReachedLater.{later_done}
 use Rattle.armus_base.proofs.StatusesAre.{statuses_are}
@@ -36,7 +38,7 @@ use Rattle.board.proofs.Ranges.{phaser_of_member}
 use Rattle.board.proofs.Seated.{next_there, phase_here}
 use Rattle.phase_scan.specs.Looks.{LoadsAlone}
 use Rattle.phase_scan.specs.Collected.{HasFinds, IsCollected}
-use Rattle.phase_scan.specs.Supposed.{IsSupposed}
+use Rattle.phase_scan.specs.Supposed.{IsSupposed, phase_used}
 use Rattle.phase_scan.specs.Tables.{state_supposed}
 use Rattle.phase_scan.proofs.Columns.{ColumnLoad, column_goes, column_of}
 use Rattle.phase_scan.proofs.Farther.{far_before}
@@ -45,12 +47,20 @@ use Rattle.phase_scan.proofs.Standing.{phases_begun_at, published_begun}
 use Rattle.phase_scan.proofs.Supposes.{own_phase_stays}
 use Rattle.phase_scan.proofs.Telling.{found_there}
 use Rattle.phase_scan.specs.OffCycle.{ImpedesSome}
+use Rattle.verdict.specs.Cycles.{IsCycle}
+use Rattle.avoider.proofs.CycleDead.{cycle_deadlocked}
+use Rattle.avoider.proofs.FoundAlive.{among_or_not, no_deadlocked_list}
 
 is_lt : (a b : ℕ) → a < b → nat_lt a b ≡ true
 is_lt a b h = grind arith
 
 some_is_some : (o : Option Event) (e : Event) → o ≡ Some e → is_some o ≡ true
 some_is_some o e is = ap is_some is
+
+-- an event of a phaser
+event_of_phaser : (q : ℕ) (o : Option Event) → is_event_of q o ≡ true → (e : Event) × (o ≡ Some e) × (e.p.0 ≡ q)
+event_of_phaser q None is = absurd (false≢true is)
+event_of_phaser q (Some e) is = (e, refl, eqb-true e.p.0 q is)
 
 not_first : (b : Place) → 0 < b.done → b ≢ first_place
 not_first b begun same = (let none : b.done ≡ 0 = ap (λ (v : Place). v.done) same in omega arith)
@@ -95,8 +105,12 @@ module _ (list supposed : List Status) (aim : Aim) (event : Event) (before mid s
   abbrev asked_too : ℕ → Bool
   asked_too = updated asked p true
 
+  -- the phases on the event's phaser that count
+  abbrev used : ℕ → Option ℕ
+  used = phase_used (asked p) sup.found p sup.column
+
   abbrev found_too : State
-  found_too = state_supposed sup.found (task_of mid.view) event (own_phase mid.view) sup.column
+  found_too = state_supposed sup.found (task_of mid.view) event (own_phase mid.view) used
 
   are : AreStatuses plan sup.found asked list
   are = subst (AreStatuses plan sup.found asked) (sym sup.statuses) (statuses_are plan sup.found asked checked)
@@ -131,12 +145,12 @@ module _ (list supposed : List Status) (aim : Aim) (event : Event) (before mid s
       some_same : (x y : Event) → Some x ≡ Some y → y ≡ x
       some_same x y h = cc
 
-  on_other : (u : ℕ) (e : Event) → u ≢ t → IsListedOn supposed u e → IsListedOn list u e
+  pub on_other : (u : ℕ) (e : Event) → u ≢ t → IsListedOn supposed u e → IsListedOn list u e
   on_other u e n is =
       let at = (are_too.events u e).0 is in
       (are.events u e).1 (at.0, sym (updated_other sup.found.published (task_of mid.view) u (Some event) (apart_mid u n)) ∙ at.1)
 
-  other_on : (u : ℕ) (e : Event) → u ≢ t → IsListedOn list u e → IsListedOn supposed u e
+  pub other_on : (u : ℕ) (e : Event) → u ≢ t → IsListedOn list u e → IsListedOn supposed u e
   other_on u e n is =
       let at = (are.events u e).0 is in
       (are_too.events u e).1 (at.0, updated_other sup.found.published (task_of mid.view) u (Some event) (apart_mid u n) ∙ at.1)
@@ -144,11 +158,70 @@ module _ (list supposed : List Status) (aim : Aim) (event : Event) (before mid s
   -- which phases of whom
   phases_own : (q : ℕ) → found_too.phases t q ≡ own_phase before.view q
   phases_own q =
-      ap (λ m. m q) (updated_same (λ w. updated (sup.found.phases w) p (sup.column w)) (task_of mid.view) t (own_phase mid.view) task_mid)
+      ap (λ m. m q) (updated_same (λ w. updated (sup.found.phases w) p (used w)) (task_of mid.view) t (own_phase mid.view) task_mid)
       ∙ ap (λ m. m q) (own_phase_stays before mid t seat own goes)
 
-  phases_other : (u q : ℕ) → u ≢ t → found_too.phases u q ≡ updated (sup.found.phases u) p (sup.column u) q
-  phases_other u q n = ap (λ m. m q) (updated_other (λ w. updated (sup.found.phases w) p (sup.column w)) (task_of mid.view) u (own_phase mid.view) (apart_mid u n))
+  phases_other : (u q : ℕ) → u ≢ t → found_too.phases u q ≡ updated (sup.found.phases u) p (used u) q
+  phases_other u q n = ap (λ m. m q) (updated_other (λ w. updated (sup.found.phases w) p (used w)) (task_of mid.view) u (own_phase mid.view) (apart_mid u n))
+
+  -- of a task found waiting: the phase found where p was found awaited, and else the one loaded later
+  used_waiting : (u : ℕ) (e : Event) → sup.found.published u ≡ Some e → used u ≡ (if asked p then sup.found.phases u p else sup.column u)
+  used_waiting u e on = ap (λ o. if is_some o then (if asked p then sup.found.phases u p else sup.column u) else None) on
+
+  used_found : (u : ℕ) (e : Event) → sup.found.published u ≡ Some e → asked p ≡ true → used u ≡ sup.found.phases u p
+  used_found u e on is = used_waiting u e on ∙ ap (λ b. if b then sup.found.phases u p else sup.column u) is
+
+  used_loaded : (u : ℕ) (e : Event) → sup.found.published u ≡ Some e → asked p ≡ false → used u ≡ sup.column u
+  used_loaded u e on is = used_waiting u e on ∙ ap (λ b. if b then sup.found.phases u p else sup.column u) is
+
+  published_too : (u : ℕ) → u ≢ t → found_too.published u ≡ sup.found.published u
+  published_too u apart = updated_other sup.found.published (task_of mid.view) u (Some event) (apart_mid u apart)
+
+  -- on a phaser found awaited another task has the phases that were found
+  same_phase : (u q : ℕ) (e : Event) → u ≢ t → sup.found.published u ≡ Some e → asked q ≡ true → found_too.phases u q ≡ sup.found.phases u q
+  same_phase u q e apart on is = phases_other u q apart ∙ elim (cases_eq q p) [
+    | inl same ↦
+        updated_same (sup.found.phases u) p q (used u) same ∙ used_found u e on (ap asked (sym same) ∙ is) ∙ ap (sup.found.phases u) (sym same)
+    | inr other ↦ updated_other (sup.found.phases u) p q (used u) other
+  ]
+
+  asked_more : (q : ℕ) → asked q ≡ true → asked_too q ≡ true
+  asked_more q is = elim (cases_eq q p) [
+    | inl same ↦ updated_same asked p q true same
+    | inr other ↦ updated_other asked p q true other ∙ is
+  ]
+
+  -- so it is listed with them in both lists
+  pub listed_before : (u q n : ℕ) → u ≢ t → asked q ≡ true → IsListedAt supposed u q n → IsListedAt list u q n
+  listed_before u q n apart is at =
+      let h = (are_too.phases u q n).0 at in
+      let on : sup.found.published u ≡ Some h.event = sym (published_too u apart) ∙ h.published in
+      (are.phases u q n).1 (record {
+        task = h.task;
+        event = h.event;
+        published = on;
+        phaser = h.phaser;
+        asked_for = is;
+        phase = sym (same_phase u q h.event apart on is) ∙ h.phase;
+      })
+
+  pub listed_too : (u q n : ℕ) → u ≢ t → IsListedAt list u q n → IsListedAt supposed u q n
+  listed_too u q n apart at =
+      let h = (are.phases u q n).0 at in
+      (are_too.phases u q n).1 (record {
+        task = h.task;
+        event = h.event;
+        published = published_too u apart ∙ h.published;
+        phaser = h.phaser;
+        asked_for = asked_more q h.asked_for;
+        phase = same_phase u q h.event apart h.published h.asked_for ∙ h.phase;
+      })
+
+  -- the phaser on which another task waits was found awaited
+  pub asked_before : (v : ℕ) (e : Event) → v ≢ t → IsListedOn supposed v e → asked e.p.0 ≡ true
+  asked_before v e apart is =
+      let w = (are.events v e).0 (on_other v e apart is) in
+      some_before_from (λ x. is_event_of e.p.0 (sup.found.published x)) tasks v w.0 (ap (is_event_of e.p.0) w.1 ∙ eq-eqb e.p.0 e.p.0 refl)
 
   on_waits : (u : ℕ) (e : Event) → u ≢ t → IsListedOn supposed u e → (u < tasks) × (sup.found.published u ≡ Some e)
   on_waits u e n is = (are.events u e).0 (on_other u e n is)
@@ -287,14 +360,6 @@ module _ (list supposed : List Status) (aim : Aim) (event : Event) (before mid s
           updated_other asked p e.p.0 true other
           ∙ asked_before v e (λ own_too. other (ap (λ (x : Event). x.p.0) (own_only e (subst (λ w. IsListedOn supposed w e) own_too is)))) is
     ]
-      where
-        asked_before : (v : ℕ) (e : Event) → v ≢ t → IsListedOn supposed v e → asked e.p.0 ≡ true
-        asked_before v e n is =
-            let w = on_waits v e n is in
-            some_before_from (λ x. is_event_of e.p.0 (sup.found.published x)) tasks v w.0 (ap (is_event_of e.p.0) w.1 ∙ same_phaser e.p.0)
-          where
-            same_phaser : (k : ℕ) → is_event_of k (Some (event_at k 0)) ≡ true
-            same_phaser k = grind (arith)
 
     own_status : HasOwnStatus s t event supposed
     own_status = record {
@@ -314,82 +379,87 @@ module _ (list supposed : List Status) (aim : Aim) (event : Event) (before mid s
     }
 
     found' : ℕ → ℕ → Place
-    found' u = updated (collected.found u) p (place_down u)
+    found' u = if asked p then collected.found u else updated (collected.found u) p (place_down u)
+
+    found_where_asked : (u q : ℕ) → asked q ≡ true → found' u q ≡ collected.found u q
+    unfolding found'
+    found_where_asked u q is = elim (cases_Bool (asked p)) [
+      | inl on ↦ ap (λ b. (if b then collected.found u else updated (collected.found u) p (place_down u)) q) on
+      | inr off ↦
+          ap (λ b. (if b then collected.found u else updated (collected.found u) p (place_down u)) q) off
+          ∙ updated_other (collected.found u) p q (place_down u) (λ same. false≢true (sym off ∙ ap asked (sym same) ∙ is))
+    ]
+
+    found_where_loaded : (u : ℕ) → asked p ≡ false → found' u p ≡ place_down u
+    unfolding found'
+    found_where_loaded u off =
+        ap (λ b. (if b then collected.found u else updated (collected.found u) p (place_down u)) p) off ∙ updated_same (collected.found u) p p (place_down u) refl
 
     later_mid : (u : ℕ) → u < tasks → IsPrefix ((seen mid.view).places u) (a u)
     later_mid u l = prefix_both ((seen mid.view).places u) ((seen store.view).places u) (a u) (down.seen_now.later u) (far.later u l)
 
-    -- a phase listed of another task
-    other_at : (u q n : ℕ) → u ≢ t → q ≢ p → IsListedAt supposed u q n → IsListedAt list u q n
-    other_at u q n apart other is =
-        let h = (are_too.phases u q n).0 is in
-        (are.phases u q n).1 (record {
-          task = h.task;
-          event = h.event;
-          published = sym (updated_other sup.found.published (task_of mid.view) u (Some event) (apart_mid u apart)) ∙ h.published;
-          phaser = h.phaser;
-          asked_for = sym (updated_other asked p q true other) ∙ h.asked_for;
-          phase = sym (phases_other u q apart ∙ updated_other (sup.found.phases u) p q (sup.column u) other) ∙ h.phase;
-        })
+    -- a phase of another task that was loaded later
+    record IsLoaded (u n : ℕ) : Type 0 where
+      pub off : asked p ≡ false
+      pub waits : Waits u
+      pub loaded : sup.column u ≡ Some n
+      pub its_event : Event
+      pub on : IsListedOn list u its_event
 
-    at_other : (u q n : ℕ) → u ≢ t → q ≢ p → IsListedAt list u q n → IsListedAt supposed u q n
-    at_other u q n apart other is =
-        let h = (are.phases u q n).0 is in
-        (are_too.phases u q n).1 (record {
-          task = h.task;
-          event = h.event;
-          published = updated_other sup.found.published (task_of mid.view) u (Some event) (apart_mid u apart) ∙ h.published;
-          phaser = h.phaser;
-          asked_for = updated_other asked p q true other ∙ h.asked_for;
-          phase = phases_other u q apart ∙ updated_other (sup.found.phases u) p q (sup.column u) other ∙ h.phase;
-        })
-
-    -- one on the event's phaser
-    at_event : (u n : ℕ) → u ≢ t → IsListedAt supposed u p n → (Waits u) × (sup.column u ≡ Some n) × ((e : Event) × IsListedOn list u e)
+    -- each phase listed of another task was found by the collect, or was loaded later
+    listed_by : (u q n : ℕ) → u ≢ t → IsListedAt supposed u q n → (IsListedAt list u q n × asked q ≡ true) ⊎ ((q ≡ p) × IsLoaded u n)
     unfolding Waits
-    at_event u n apart is =
-        let h = (are_too.phases u p n).0 is in
-        let on : sup.found.published u ≡ Some h.event = sym (updated_other sup.found.published (task_of mid.view) u (Some event) (apart_mid u apart)) ∙ h.published in (
-          (h.task, ap is_some on),
-          sym (phases_other u p apart ∙ updated_same (sup.found.phases u) p p (sup.column u) refl) ∙ h.phase,
-          (h.event, (are.events u h.event).1 (h.task, on)),
-        )
+    listed_by u q n apart is = elim (cases_Bool (asked q)) [
+      | inl on ↦ inl (listed_before u q n apart on is, on)
+      | inr off ↦
+          let h = (are_too.phases u q n).0 is in
+          let on : sup.found.published u ≡ Some h.event = sym (published_too u apart) ∙ h.published in
+          elim (cases_eq q p) [
+            | inl same ↦
+                let off_p : asked p ≡ false = ap asked (sym same) ∙ off in
+                inr (
+                  same,
+                  record {
+                    off = off_p;
+                    waits = (h.task, ap is_some on);
+                    loaded = sym (used_loaded u h.event on off_p) ∙ sym (updated_same (sup.found.phases u) p q (used u) same) ∙ sym (phases_other u q apart) ∙ h.phase;
+                    its_event = h.event;
+                    on = (are.events u h.event).1 (h.task, on);
+                  },
+                )
+            | inr other ↦ absurd (false≢true (sym off ∙ sym (updated_other asked p q true other) ∙ h.asked_for))
+          ]
+    ]
 
     all_found : HasFound plan (λ u. u ≢ t) supposed at found' a
-    unfolding found'
     all_found = record {
       waiting = λ u e n is. waiting_at u e (on_other u e n is);
       before = λ u e n is.
           let l = on_other u e n is in
           prefix_both (at u) ((seen mid.view).places u) (a u) (at_mid u e l) (later_mid u (on_waits u e n is).0);
-      phases = λ u q m n is. elim (cases_eq q p) [
-        | inl same ↦
-            let w = at_event u m n (subst (λ r. IsListedAt supposed u r m) same is) in
-            let y = down_at u w.0 in
-            let place : found' u q ≡ (seen y.0.to.view).places u = updated_same (collected.found u) p q (place_down u) same ∙ y.1 in (
-              subst (IsPrefix (at u)) (sym place) (between u w.2.0 w.2.1 y.0).1,
-              ap (λ v. phases_at_place plan u v q) place ∙ ap (phases_at_place plan u ((seen y.0.to.view).places u)) same ∙ column_found u m w.2.0 w.2.1 y.0 w.1,
-            )
-        | inr other ↦
-            let old = collected.places.phases u q m tt (other_at u q m n other is) in
-            let place : found' u q ≡ collected.found u q = updated_other (collected.found u) p q (place_down u) other in (
-              subst (IsPrefix (at u)) (sym place) old.0,
-              ap (λ v. phases_at_place plan u v q) place ∙ old.1,
+      phases = λ u q m n is. elim (listed_by u q m n is) [
+        | inl (l, on) ↦
+            let old = collected.places.phases u q m tt l in
+            let place = found_where_asked u q on in
+            (subst (IsPrefix (at u)) (sym place) old.0, ap (λ v. phases_at_place plan u v q) place ∙ old.1)
+        | inr (same, w) ↦
+            let y = down_at u w.waits in
+            let place : found' u q ≡ (seen y.0.to.view).places u = ap (found' u) same ∙ found_where_loaded u w.off ∙ y.1 in (
+              subst (IsPrefix (at u)) (sym place) (between u w.its_event w.on y.0).1,
+              ap (λ v. phases_at_place plan u v q) place ∙ ap (phases_at_place plan u ((seen y.0.to.view).places u)) same ∙ column_found u m w.its_event w.on y.0 w.loaded,
             )
       ];
-      phases_before = λ u q m n is. elim (cases_eq q p) [
-        | inl same ↦
-            let w = at_event u m n (subst (λ r. IsListedAt supposed u r m) same is) in
-            let y = down_at u w.0 in
-            let place : found' u q ≡ (seen y.0.to.view).places u = updated_same (collected.found u) p q (place_down u) same ∙ y.1 in
-            let small_u : u < tasks = ((are.events u w.2.0).0 w.2.1).0 in
+      phases_before = λ u q m n is. elim (listed_by u q m n is) [
+        | inl (l, on) ↦
+            let small_u : u < tasks = ((are.phases u q m).0 l).task in
+            subst (λ v. IsPrefix v (a u)) (sym (found_where_asked u q on))
+            (prefix_both (collected.found u q) ((seen mid.view).places u) (a u) (collected.places.phases_before u q m tt l) (later_mid u small_u))
+        | inr (same, w) ↦
+            let y = down_at u w.waits in
+            let place : found' u q ≡ (seen y.0.to.view).places u = ap (found' u) same ∙ found_where_loaded u w.off ∙ y.1 in
+            let small_u : u < tasks = ((are.events u w.its_event).0 w.on).0 in
             subst (λ v. IsPrefix v (a u)) (sym place)
             (prefix_both ((seen y.0.to.view).places u) ((seen store.view).places u) (a u) (y.0.goes_to.seen_now.later u) (far.later u small_u))
-        | inr other ↦
-            let l = other_at u q m n other is in
-            let small_u : u < tasks = ((are.phases u q m).0 l).task in
-            subst (λ v. IsPrefix v (a u)) (sym (updated_other (collected.found u) p q (place_down u) other))
-            (prefix_both (collected.found u q) ((seen mid.view).places u) (a u) (collected.places.phases_before u q m tt l) (later_mid u small_u))
       ];
     }
 
@@ -415,33 +485,42 @@ module _ (list supposed : List Status) (aim : Aim) (event : Event) (before mid s
         ∙ ap (λ v. phases_at_place plan u v p) still
         ∙ column_exact u e is y here
 
+    -- where another task still stands where it was found waiting, its phase on a phaser found awaited is listed
+    phase_now : (u q n : ℕ) (f : Event) → u ≢ t → IsListedOn list u f → a u ≡ at u → asked q ≡ true → s.phases u q ≡ Some n → IsListedAt supposed u q n
+    phase_now u q n f apart l still on has_phase =
+        let (v, small_v, waits) = some_before_is (λ x. is_event_of q (sup.found.published x)) tasks on in
+        let (e, on_e, same) = event_of_phaser q (sup.found.published v) waits in
+        let (x, inside, of, event_is) = (are.events v e).1 (small_v, on_e) in
+        let awaited_too : IsAwaited list e = (x, inside, event_is) in
+        let exact = collected.exact a lock (subst (λ b. IsLawful b plan a lock) (sym avoiding) lawful) far_mid u f l still in
+        listed_too u q n apart (subst (λ r. IsListedAt list u r n) same ((exact e n awaited_too).0 (ap (s.phases u) same ∙ has_phase)))
+
     others : HasOtherStatuses plan s a t supposed
     others = record {
       at = at;
       found = found';
       found_there = all_found;
-      all = λ u v n e f apart is still on has_phase. elim (cases_eq e.p.0 p) [
-        | inl same ↦
-            let l = on_other u f apart is in
-            let w = (are.events u f).0 l in
-            let column_is : sup.column u ≡ Some n = sym (column_now u f apart l still) ∙ ap (s.phases u) (sym same) ∙ has_phase in
-            subst (λ r. IsListedAt supposed u r n) (sym same)
-            ((are_too.phases u p n).1 (record {
-              task = w.0;
-              event = f;
-              published = updated_other sup.found.published (task_of mid.view) u (Some event) (apart_mid u apart) ∙ w.1;
-              phaser = event_inside;
-              asked_for = updated_same asked p p true refl;
-              phase = phases_other u p apart ∙ updated_same (sup.found.phases u) p p (sup.column u) refl ∙ column_is;
-            }))
-        | inr other ↦
-            let l = on_other u f apart is in
-            let not_own : v ≢ t = λ own_too. other (ap (λ (x : Event). x.p.0) (own_only e (subst (λ w. IsListedOn supposed w e) own_too on))) in
-            let lv = on_other v e not_own on in
-            let awaited : IsAwaited list e = (lv.0, lv.1, lv.3) in
-            at_other u e.p.0 n apart other
-            (((collected.exact a lock (subst (λ b. IsLawful b plan a lock) (sym avoiding) lawful) far_mid u f l still) e n awaited).0 has_phase)
-      ];
+      all = λ u v n e f apart is still on has_phase.
+          let l = on_other u f apart is in
+          elim (cases_Bool (asked e.p.0)) [
+            | inl found_on ↦ phase_now u e.p.0 n f apart l still found_on has_phase
+            | inr off ↦ elim (cases_eq e.p.0 p) [
+              | inl same ↦
+                  let w = (are.events u f).0 l in
+                  let column_is : sup.column u ≡ Some n = sym (column_now u f apart l still) ∙ ap (s.phases u) (sym same) ∙ has_phase in
+                  subst (λ r. IsListedAt supposed u r n) (sym same)
+                  ((are_too.phases u p n).1 (record {
+                    task = w.0;
+                    event = f;
+                    published = published_too u apart ∙ w.1;
+                    phaser = event_inside;
+                    asked_for = updated_same asked p p true refl;
+                    phase = phases_other u p apart ∙ updated_same (sup.found.phases u) p p (used u) refl
+                        ∙ used_loaded u f w.1 (ap asked (sym same) ∙ off) ∙ column_is;
+                  }))
+              | inr other ↦ absurd (false≢true (sym off ∙ sym (updated_other asked p e.p.0 true other) ∙ asked_for v e on))
+            ]
+          ];
     }
 
     found_of : (u : ℕ) → u < tasks → (f : Found) × ((seen store.view).found u ≡ Some f) × ((e : Event) → f ≡ FoundWaiting e → IsListedOn list u e)
@@ -460,6 +539,18 @@ module _ (list supposed : List Status) (aim : Aim) (event : Event) (before mid s
       where
         some_same : (x y : Found) → Some x ≡ Some y → x ≡ y
         some_same x y h = cc
+
+    -- each cycle of the statuses has the own task in it
+    pub stands_in_cycle : (tasks_of_cycle : List TaskId) (events : List Event) → IsCycle supposed tasks_of_cycle events → Contains tasks_of_cycle (record { 0 = t })
+    stands_in_cycle ts events cycle = elim (among_or_not ts (record { 0 = t })) [
+      | inl m ↦ m
+      | inr absent ↦
+          let first = get_or ts 0 (record { 0 = t }) in
+          absurd (no_deadlocked_list plan checked a lock lawful (λ u. u ≢ t) supposed at found' all_found ts first
+          (λ v m same. absent (subst (λ w. Contains ts w) (ap (λ k. record { 0 = k }) same) m))
+          (0, cycle.some, get_or_default ts 0 first (record { 0 = t }) cycle.some)
+          (cycle_deadlocked supposed supposed ts events event cycle (λ x v inside same among. inside)))
+    ]
 
     pub decides : Decides s t event supposed
     decides = list_in_hand_decides plan t aim event (seen store.view) supposed a lock checked has_all lawful has stands own_status others

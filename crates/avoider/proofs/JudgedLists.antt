@@ -15,7 +15,7 @@ use Rattle.board.specs.Steps.{own_phase}
 use Rattle.board.specs.Seats.{Frame, IsOf, Known}
 use Rattle.phase_scan.specs.Collecting.{HasCollected}
 use Rattle.phase_scan.specs.Looks.{LoadsAlone}
-use Rattle.phase_scan.specs.Supposed.{IsSupposed}
+use Rattle.phase_scan.specs.Supposed.{IsSupposed, phase_used}
 use Rattle.phase_scan.specs.OffCycle.{IsOffCycle, SupposesOrExcludes}
 use Rattle.phase_scan.specs.Tables.{state_supposed}
 use Rattle.phase_scan.proofs.Loads.{goes_both}
@@ -28,7 +28,7 @@ supposed_ordered : (plan : Plan) (list : List Status) (event : Event) (supposed 
     IsSupposed plan list event supposed before now → IsInOrder supposed
 supposed_ordered plan list event supposed before now checked sup =
     subst IsInOrder (sym sup.supposed_are)
-    (statuses_are plan (state_supposed sup.found (task_of before.view) event (own_phase before.view) sup.column) (updated (is_awaited plan sup.found) event.p.0 true)
+    (statuses_are plan (state_supposed sup.found (task_of before.view) event (own_phase before.view) (phase_used (is_awaited plan sup.found event.p.0) sup.found event.p.0 sup.column)) (updated (is_awaited plan sup.found) event.p.0 true)
     checked).in_order
 
 -- the loads of a decision
@@ -80,7 +80,8 @@ pub judged_tasks :
     (s : Status) → Contains supposed s → s.t.0 < length before.view.plan.parents
 judged_tasks list supposed aim event before now checked j s m =
     let plan = before.view.plan in
-    let are = statuses_are plan (state_supposed j.adds.found (task_of j.between.view) event (own_phase j.between.view) j.adds.column)
+    let are = statuses_are plan (state_supposed j.adds.found (task_of j.between.view) event (own_phase j.between.view)
+    (phase_used (is_awaited plan j.adds.found event.p.0) j.adds.found event.p.0 j.adds.column))
     (updated (is_awaited plan j.adds.found) event.p.0 true) checked in
     ((are.events s.t.0 s.event).0 (s, subst (λ ss. Contains ss s) j.adds.supposed_are m, refl, refl)).0
 

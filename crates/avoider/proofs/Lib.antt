@@ -1,7 +1,11 @@
+pub mod FoundAlive
 pub mod InHand
 pub mod JudgedLists
 pub mod Dropping
 pub mod CycleDead
+pub mod NoCycle
+pub mod SamePairs
+pub mod OtherPairs
 pub mod Decided
 pub mod Conclusions
 pub mod Sending

@@ -1,7 +1,6 @@
 -- The refused task stands in the cycle: nobody else was dead without it.
-use Rattle.std.proofs.Common.{◌≡◌, ◌≢◌, ℕ, Bool, true, Some, None, List, [], ◌∷◌, length, get_or, sym, ◌∙◌, ap, subst, refl, eq-eqb, ◌⊎◌, inl, inr}
+use Rattle.std.proofs.Common.{◌≡◌, ◌≢◌, ℕ, Bool, true, Some, None, List, length, get_or, sym, ◌∙◌, ap, subst, refl, eq-eqb, inl, inr}
 use Rattle.std.specs.Prelude.{Contains}
-use Rattle.std.proofs.lemmas.Bool.{cases_eq}
 use Rattle.std.proofs.lemmas.List.{get_or_default}
 use Rattle.armus_base.specs.declared.event.Event.{Event}
 use Rattle.armus_base.specs.States.{if_published}
@@ -13,7 +12,6 @@ use Rattle.armus_base.specs.Finals.{is_awaited, is_event_of, statuses_on}
 use Rattle.armus_base.specs.Runs.{IsReachable}
 use Rattle.armus_base.proofs.DeadByStatuses.{dead_on_asked}
 use Rattle.armus_base.proofs.Fixed.{some_before_from}
-use Rattle.armus_base.proofs.Elements.{Contains-cons_cases, Contains-head, Contains-tail, nothing_in_nil}
 use Rattle.armus_base.proofs.StatusesAre.{listed_from, listed_is}
 use Rattle.armus_base.proofs.Steps.{updated_other}
 use Rattle.dep_state.proofs.DeadSets.{dead_by_list}
@@ -21,22 +19,11 @@ use Rattle.pl_core.specs.Stands.{IsAtAwaitOf}
 use Rattle.pl_core.specs.Worlds.{WorldValue, places_of, state_of}
 use Rattle.verdict.specs.Cycles.{IsCycle}
 use Rattle.avoider.proofs.CycleDead.{cycle_deadlocked}
+use Rattle.avoider.proofs.FoundAlive.{among_or_not}
 use Rattle.avoider.proofs.Supposing.{of_plan}
 
 none_is_some : (e : Event) → None ≡ Some e → ⊥
 none_is_some e is = absurd (cc)
-
--- a task stands in a list, or it does not
-among_or_not : (ts : List TaskId) (t : TaskId) → Contains ts t ⊎ (Contains ts t → ⊥)
-among_or_not [] t = inr (λ m. nothing_in_nil t m)
-among_or_not (u ∷ ts) t =
-    elim (cases_eq u.0 t.0) [
-      | inl same ↦ inl (subst (λ v. Contains (u ∷ ts) v) (ap (λ k. record { 0 = k }) same) (Contains-head u ts))
-      | inr other ↦ elim (among_or_not ts t) [
-        | inl m ↦ inl (Contains-tail u ts t m)
-        | inr none ↦ inr (λ m. elim (Contains-cons_cases u ts t m) [ inl e ↦ other (ap (λ v. v.0) e) | inr later ↦ none later ])
-      ]
-    ]
 
 module _ (w : WorldValue) (checked : IsCheckedPlan w.plan) (reach : IsReachable w.plan (places_of w)) (t : ℕ) (e : Event) (before : IsAtAwaitOf w t e)
     (nobody : NobodyDead (state_of w)) (tasks : List TaskId) (events : List Event) where

@@ -6,13 +6,15 @@ use Rattle.armus_base.specs.declared.ids.TaskId.{TaskId}
 use Rattle.armus_base.specs.declared.status.Status.{Status}
 use Rattle.armus_base.specs.Avoidance.{LeavesNobodyDead}
 use Rattle.armus_base.specs.Deadlocks.{IsListedOn, WouldBeDead}
+use Rattle.armus_base.specs.Graphs.{WaitsFor}
 use Rattle.armus_base.specs.Plans.{Aim, Blocks, Drops, Refuses}
+use Rattle.armus_base.specs.Relations.{ReachesCycle}
 use Rattle.armus_base.specs.Seats.{InEachWithLock}
 use Rattle.armus_base.specs.States.{awaited, Phases, State}
 use Rattle.board.specs.Locking.{FreesLock, IsWithLock}
 use Rattle.board.specs.Seats.{Frame, IsOf, Known, MakesStep}
 use Rattle.board.specs.Steps.{own_phase}
-use Rattle.board.specs.Views.{next_action, seen, task_of}
+use Rattle.board.specs.Views.{avoids, next_action, seen, task_of}
 use Rattle.phase_scan.specs.Collecting.{HasCollected}
 use Rattle.phase_scan.specs.Collects.{Collection, IfAsked}
 use Rattle.phase_scan.specs.Looks.{LoadsAlone}
@@ -71,11 +73,12 @@ pub record HasPublished (list : List Status) (aim : Aim) (event : Event) (before
   pub freed : FreesLock stored now
 
 -- What the holder of the lock knows when it stores a refusal: with its event published its task would be dead in every state that it might be in, of which there
--- is one, as the cycle of the statuses explains, each of whose other tasks is published on its event in every such state.
+-- is one, as the cycle of the statuses explains, in which it stands, and each of whose other tasks is published on its event in every such state.
 pub record KnowsDeath (event : Event) (supposed : List Status) (cycle : Cycle) (store : Known) : Type 0 where
   pub dead : InEachByLock store (λ s. WouldBeDead s (task_of store.view) event)
   pub possible : IsPossibleByLock store
   pub explains : ExplainsDeath supposed (task_of store.view) cycle
+  pub stands : Contains cycle.tasks (record { 0 = task_of store.view })
   pub others :
       (u : TaskId) (e : Event) → Contains cycle.tasks u → u.0 ≢ task_of store.view → IsListedOn supposed u.0 e →
       InEachByLock store (λ s. s.published u.0 ≡ Some e)
@@ -101,6 +104,12 @@ pub record HasRefused (list : List Status) (aim : Aim) (cycle : Cycle) (before n
 abbrev pub IsDecidedOnBoard : List Status → Aim → Known → Known → Decision → Type 0
 IsDecidedOnBoard list aim before now (Published e) = HasPublished list aim e before now
 IsDecidedOnBoard list aim before now (Refused c) = HasRefused list aim c before now
+
+-- on a board that avoids deadlock the statuses that a collect has found have no cycle of the wait-for graph
+abbrev pub CollectedHaveNoCycle : Type 0
+CollectedHaveNoCycle =
+    (list : List Status) (before now : Known) → avoids before.view.mode ≡ true → HasCollected before.view.plan list before now → (t : TaskId) →
+    ReachesCycle (WaitsFor list) t → ⊥
 
 -- nothing was decided: loads were made, and the lock was freed
 pub record IsUndecided (before now : Known) : Type 0 where

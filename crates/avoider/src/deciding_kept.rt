@@ -18,8 +18,8 @@ use std::alloc::Global;
 use verdict::Cycle;
 
 /// Decides as `decide` does, by an order of the board's tasks: it follows the statuses of the collect with the task's own, and only what differs from the
-/// last await is mended. After Published its edges are the pairs of the wait-for graph of these statuses: those that the cells hold and the own one, with
-/// the phases on `p` as they were loaded last. After `NoMemory` nothing is published or refused, and the edges may be any.
+/// last await is mended. After Published its edges are the pairs of the wait-for graph of these statuses, and between two other tasks the pairs of those
+/// that the cells hold. After `NoMemory` nothing is published or refused, and the edges may be any.
 pub fn decide_kept(
     alloc: Global,
     seat: &mut TaskSeat,

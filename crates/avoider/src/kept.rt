@@ -1,10 +1,10 @@
 // Decisions by an order that is kept from one await to the next.
 ghost use Rattle.std.specs.Prelude.{◌≡◌, length, Contains, IfOk, OnErr};
 ghost use Rattle.armus_base.specs.Deadlocks.{NobodyDead};
+ghost use Rattle.armus_base.specs.Finals.{statuses_of};
 ghost use Rattle.armus_base.specs.Statuses.{IsInOrder};
 ghost use Rattle.armus_base.specs.declared.status.Status.{Status};
 ghost use Rattle.order_graph.specs.Orders.{IsTaskOf};
-ghost use Rattle.pl_core.specs.Awaiting.{awaited_statuses};
 ghost use Rattle.pl_core.specs.Worlds.{state_of};
 ghost use Rattle.avoider.specs.Decisions.{IsBeforeStep, IsDecision, IsOutcome};
 ghost use Rattle.avoider.specs.Kept.{HoldsIfPublished};
@@ -35,7 +35,7 @@ pub fn avoid_step_kept(
     ensures nobody { NobodyDead (state_of world.new) }
     ensures same { OnErr result (world.new ≡ world.old) }
     ensures tasks { length order.new.positions ≡ length order.old.positions }
-    ensures pairs { IfOk result (HoldsIfPublished (awaited_statuses world.new.plan (state_of world.new)) order.old order.new) }
+    ensures pairs { IfOk result (HoldsIfPublished (statuses_of world.new.plan (state_of world.new)) order.old order.new) }
 {
     let event = event_before(world, t);
     let list = world.statuses_if(alloc, t, event)?;

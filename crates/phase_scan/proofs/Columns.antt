@@ -1,19 +1,23 @@
 -- Columns of phases, one load more, and what they leave as it was.
 use mathlib.Core.Path.{fun_ext}
 use Rattle.std.proofs.Common.{◌≡◌, ℕ, zero, suc, ◌<◌, ◌≤◌, ◌+◌, Bool, true, false, List, Option, None, length, set, sym, refl, ap, ◌∙◌, subst, arith, add-one, get_or-set_same, get_or-set_other, inl, inr}
-use Rattle.std.specs.Prelude.{◌++◌, is_some, take}
-use Rattle.std.proofs.lemmas.List.{take-append-le, take_all}
-use Rattle.std.proofs.lemmas.Bool.{cases_eq}
+use Rattle.std.specs.Prelude.{◌++◌, is_some, take, unwrap_or, vec_len, if◌then◌else◌}
+use Rattle.std.proofs.lemmas.List.{get_or_past, take-append-le, take_all}
+use Rattle.std.proofs.lemmas.Option.{slice_get_past}
+use Rattle.std.proofs.lemmas.Bool.{cases_eq, cases_lt}
 use Rattle.armus_base.specs.declared.event.Event.{Event}
 use Rattle.armus_base.specs.Plans.{Plan}
-use Rattle.armus_base.specs.States.{updated}
+use Rattle.armus_base.specs.States.{State, updated}
 use Rattle.armus_base.proofs.Steps.{updated_other, updated_same}
 use Rattle.board.specs.Views.{seen}
 use Rattle.board.specs.Seats.{AnswersPhase, IsSeat, Known}
 use Rattle.phase_scan.specs.Looks.{LoadsAlone}
 use Rattle.phase_scan.specs.Collects.{IfAsked}
-use Rattle.phase_scan.specs.Supposed.{LoadsColumn}
+use Rattle.phase_scan.specs.Supposed.{LoadsColumn, phase_used}
+use Rattle.phase_scan.specs.declared.findings.Findings.{Findings}
+use Rattle.phase_scan.specs.Tables.{awaited_in_findings, event_for, state_of_findings}
 use Rattle.phase_scan.specs.inside.Phases.{phase_in}
+use Rattle.phase_scan.specs.inside.Supposing.{KeepsColumn}
 use Rattle.phase_scan.proofs.Loads.{goes_both, goes_itself, phase_load}
 
 -- a write sets one phase of a column
@@ -111,3 +115,43 @@ module _ (events : ℕ → Option Event) (p : ℕ) where
                 goes_to = goes_both one.to between m one.goes_to last;
               }
         ]
+
+module _ (f : Findings) (p : ℕ) where
+  abbrev awaited : Bool
+  awaited = awaited_in_findings f p
+
+  abbrev s : State
+  s = state_of_findings f
+
+  -- with one task more, of which the phase that counts is kept
+  pub keeps_next :
+      (old new : List (Option ℕ)) (t : ℕ) (answer used : Option ℕ) (k j m : Known) → KeepsColumn f p old t k j →
+      IfAsked (is_some (event_for f.events.items t)) (AnswersPhase t p answer) j m → used ≡ phase_used awaited s p (λ u. answer) t →
+      phase_in new ≡ updated (phase_in old) t used → KeepsColumn f p new (t + 1) k m
+  keeps_next old new t answer used k j m before made counts is =
+      let loaded : ℕ → Option ℕ = updated before.loaded t answer in
+      record {
+        loaded = loaded;
+        loads = column_next (event_for f.events.items) p before.loaded loaded t answer k j m before.loads made refl;
+        kept = λ u l. elim (cases_eq u t) [
+          | inl e ↦
+              ap (λ g. g u) is ∙ updated_same (phase_in old) t u used e ∙ counts
+              ∙ ap (λ o. phase_used awaited s p (λ _. o) t) (sym (updated_same before.loaded t t answer refl)) ∙ ap (phase_used awaited s p loaded) (sym e)
+          | inr n ↦
+              ap (λ g. g u) is ∙ updated_other (phase_in old) t u used n ∙ before.kept u (omega arith)
+              ∙ ap (λ o. phase_used awaited s p (λ _. o) u) (sym (updated_other before.loaded t u answer n))
+        ];
+      }
+
+  none_past : (u : ℕ) (loaded : ℕ → Option ℕ) → f.tasks ≤ u → phase_used awaited s p loaded u ≡ None
+  none_past u loaded past =
+      let within : length f.events.items ≤ u = (let count = f.task_count in let counted : vec_len f.events ≡ length f.events.items = f.events.ok.0 in omega arith) in
+      ap (λ o. if is_some (unwrap_or o None) then (if awaited then s.phases u p else loaded u) else None) (slice_get_past f.events.items u within)
+
+  -- so the column has the phases that count
+  pub column_used :
+      (column : List (Option ℕ)) (k m : Known) → length column ≡ f.tasks → (x : KeepsColumn f p column f.tasks k m) → phase_in column ≡ phase_used awaited s p x.loaded
+  column_used column k m count x = fun_ext (λ u. elim (cases_lt u f.tasks) [
+    | inl l ↦ x.kept u l
+    | inr past ↦ get_or_past column u None (omega arith) ∙ sym (none_past u x.loaded past)
+  ])

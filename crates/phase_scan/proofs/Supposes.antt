@@ -12,13 +12,14 @@ use Rattle.board.specs.Views.{place_in, task_of}
 use Rattle.board.specs.Steps.{own_phase}
 use Rattle.board.specs.Seats.{Frame, IsOf, IsSeat, Known}
 use Rattle.phase_scan.specs.Looks.{LoadsAlone}
-use Rattle.phase_scan.specs.Supposed.{IsSupposed, LoadsColumn}
+use Rattle.phase_scan.specs.Supposed.{IsSupposed, LoadsColumn, phase_used}
 use Rattle.phase_scan.specs.OffCycle.{SupposesOrExcludes}
 use Rattle.phase_scan.specs.declared.findings.Findings.{Findings}
 use Rattle.phase_scan.specs.Tables.{awaited_in_findings, event_for, state_of_findings, state_supposed, status_found, statuses_of_findings}
 use Rattle.phase_scan.specs.inside.Behind.{ExcludesCycle}
 use Rattle.phase_scan.specs.inside.Phases.{phase_in}
-use Rattle.phase_scan.proofs.Columns.{column_goes}
+use Rattle.phase_scan.specs.inside.Supposing.{KeepsColumn}
+use Rattle.phase_scan.proofs.Columns.{column_goes, column_used}
 use Rattle.phase_scan.proofs.Excluding.{off_cycle}
 
 -- the own phases stay as they are while a seat makes loads alone
@@ -31,15 +32,14 @@ own_phase_stays k m t seat own goes =
     λ i. phases_at_place (goes.same.plan i) (task i) (here i)
 
 module _ (f : Frame) (before between now : Known) (fd : Findings) (event : Event) (column : List (Option ℕ)) (t : ℕ) (of : IsOf before f) (seat : IsSeat before)
-    (own : before.view.own ≡ Some t) (tasks : fd.tasks ≡ length f.plan.parents)
-    (loads : LoadsColumn (event_for fd.events.items) event.p.0 (phase_in column) fd.tasks before between) (same : now ≡ between) where
-  loads_here : LoadsColumn (event_for fd.events.items) event.p.0 (phase_in column) (length f.plan.parents) before now
+    (own : before.view.own ≡ Some t) (tasks : fd.tasks ≡ length f.plan.parents) (keeps : KeepsColumn fd event.p.0 column fd.tasks before between) (same : now ≡ between) where
+  loads_here : LoadsColumn (event_for fd.events.items) event.p.0 keeps.loaded (length f.plan.parents) before now
   loads_here =
-      subst (λ k. LoadsColumn (event_for fd.events.items) event.p.0 (phase_in column) (length f.plan.parents) before k) (sym same)
-      (subst (λ n. LoadsColumn (event_for fd.events.items) event.p.0 (phase_in column) n before between) tasks loads)
+      subst (λ k. LoadsColumn (event_for fd.events.items) event.p.0 keeps.loaded (length f.plan.parents) before k) (sym same)
+      (subst (λ n. LoadsColumn (event_for fd.events.items) event.p.0 keeps.loaded n before between) tasks keeps.loads)
 
   pub supposed_goes : LoadsAlone before now
-  supposed_goes = (column_goes (event_for fd.events.items) event.p.0 f.plan (phase_in column) (length f.plan.parents) before now of.plan (omega arith) seat loads_here).goes
+  supposed_goes = (column_goes (event_for fd.events.items) event.p.0 f.plan keeps.loaded (length f.plan.parents) before now of.plan (omega arith) seat loads_here).goes
 
   task : t ≡ task_of before.view
   task = sym (ap (λ o. unwrap_or o 0) own)
@@ -47,15 +47,24 @@ module _ (f : Frame) (before between now : Known) (fd : Findings) (event : Event
   phases : own_phase between.view ≡ own_phase before.view
   phases = ap (λ (k : Known). own_phase k.view) (sym same) ∙ own_phase_stays before now t seat own supposed_goes
 
-  module _ (phasers : fd.phasers ≡ length f.plan.makers)
+  module _ (count : length column ≡ fd.tasks) (phasers : fd.phasers ≡ length f.plan.makers)
       (marked : (p : ℕ) → awaited_in_findings fd p ≡ some_before (λ u. is_event_of p (event_for fd.events.items u)) fd.tasks) where
     asked : awaited_in_findings fd ≡ is_awaited f.plan (state_of_findings fd)
     asked = fun_ext (λ p. marked p ∙ ap (some_before (λ u. is_event_of p (event_for fd.events.items u))) tasks)
 
+    -- the phases on the event's phaser that count
+    abbrev counting : ℕ → Option ℕ
+    counting = phase_used (is_awaited f.plan (state_of_findings fd) event.p.0) (state_of_findings fd) event.p.0 keeps.loaded
+
+    used : phase_in column ≡ counting
+    used =
+        column_used fd event.p.0 column before between count keeps
+        ∙ ap (λ a. phase_used (a event.p.0) (state_of_findings fd) event.p.0 keeps.loaded) asked
+
     -- the statuses that are supposed, by the plan, the seat, and what was found
     abbrev these : List Status
     these =
-        statuses_on f.plan (state_supposed (state_of_findings fd) (task_of before.view) event (own_phase before.view) (phase_in column))
+        statuses_on f.plan (state_supposed (state_of_findings fd) (task_of before.view) event (own_phase before.view) counting)
         (updated (is_awaited f.plan (state_of_findings fd)) event.p.0 true)
 
     supposes_these : (list : List Status) → list ≡ these → IsSupposed f.plan (statuses_of_findings fd) event list before now
@@ -63,7 +72,7 @@ module _ (f : Frame) (before between now : Known) (fd : Findings) (event : Event
         let s = state_of_findings fd in
         record {
           found = s;
-          column = phase_in column;
+          column = keeps.loaded;
           statuses =
               ap (given_below (status_found fd.phasers s (awaited_in_findings fd))) tasks
               ∙ ap (λ n. given_below (status_found n s (awaited_in_findings fd)) (length f.plan.parents)) phasers
@@ -85,7 +94,7 @@ module _ (f : Frame) (before between now : Known) (fd : Findings) (event : Event
         (is
         ∙ ap (given_below (status_found fd.phasers found too)) tasks
         ∙ ap (λ n. given_below (status_found n found too) (length f.plan.parents)) phasers
-        ∙ (λ i. statuses_on f.plan (state_supposed s (task i) event (phases i) (phase_in column)) (updated (asked i) event.p.0 true)))
+        ∙ (λ i. statuses_on f.plan (state_supposed s (task i) event (phases i) (used i)) (updated (asked i) event.p.0 true)))
 
     pub excludes :
         IsCheckedPlan f.plan → ExcludesCycle (event_for fd.events.items) fd.tasks event (own_phase between.view) (phase_in column) →
@@ -93,9 +102,10 @@ module _ (f : Frame) (before between now : Known) (fd : Findings) (event : Event
     excludes checked off =
         let events = event_for fd.events.items in
         let own_off = subst (λ (m : Phases). ExcludesCycle events fd.tasks event m (phase_in column)) phases off in
-        let all_off = subst (λ n. ExcludesCycle events n event (own_phase before.view) (phase_in column)) tasks own_off in (
+        let tasks_off = subst (λ n. ExcludesCycle events n event (own_phase before.view) (phase_in column)) tasks own_off in
+        let all_off = subst (λ (g : ℕ → Option ℕ). ExcludesCycle events (length f.plan.parents) event (own_phase before.view) g) used tasks_off in (
           these,
           supposes_these these refl,
-          off_cycle f.plan checked (state_of_findings fd) (task_of before.view) event (own_phase before.view) (phase_in column)
+          off_cycle f.plan checked (state_of_findings fd) (task_of before.view) event (own_phase before.view) counting
               (updated (is_awaited f.plan (state_of_findings fd)) event.p.0 true) all_off,
         )

@@ -18,7 +18,7 @@ use std::marker::Model;
 #[derive(Drop)]
 pub struct Cells {
     found: Findings,
-    // of each task found waiting the phase that was loaded last on the phaser of an event; None for the others
+    // of each task found waiting the phase on the phaser of an event that counts; None for the others
     column: Vec<Option<Phase>>,
 }
 
@@ -75,7 +75,8 @@ impl Cells {
     }
 
     /// The statuses that the last collect found, and that of the seat's own task as if it had published the event, with phases on the event's phaser
-    /// too. First it loads the phase on that phaser of each task found waiting, in order, and then the own ones.
+    /// too. First it loads the phase on that phaser of each task found waiting, in order, and then the own ones. Where a task was found waiting on that
+    /// phaser, the collect has found the phases on it, and these count; else those that are loaded now.
     pub fn supposed(
         &mut self,
         alloc: Global,

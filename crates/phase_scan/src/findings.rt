@@ -43,6 +43,7 @@ fn waiting(seen: Seen) -> Option<Event>
 }
 
 impl Findings {
+    ghost use Rattle.phase_scan.specs.Supposed.{phase_used};
     ghost use Rattle.phase_scan.specs.Tables.{awaited_in_findings, event_for, state_of_findings, statuses_of_findings};
     ghost use Rattle.phase_scan.specs.inside.Filling.{HasSameEvents, KeepsAwaits, KeepsRow};
 
@@ -157,6 +158,22 @@ impl Findings {
             Some(n) => Some(Member { p, n }),
             None => None,
         }
+    }
+
+    /// The phase of a task on `p` that counts, if it was found waiting: where `p` was found awaited that which was found then, and else this one, which was
+    /// loaded later.
+    pub(crate) fn phase_used(&self, t: TaskId, p: PhaserId, loaded: Option<Phase>) -> Option<Phase>
+        requires task { t.0 < self.now.tasks }
+        requires phaser { p.0 < self.now.phasers }
+        ensures { result ≡ phase_used (awaited_in_findings self.now p.0) (state_of_findings self.now) p.0 (λ u. loaded) t.0 }
+    {
+        if self.events[t.0 as usize].is_none() {
+            return None;
+        }
+        if self.awaited[p.0 as usize] {
+            return self.phases.get(t.0 as usize, p.0 as usize);
+        }
+        loaded
     }
 
     // The phases of a task that were found on the phasers found awaited.

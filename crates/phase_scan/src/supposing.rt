@@ -6,10 +6,9 @@ ghost use Rattle.board.specs.Seats.{AnswersPhase, IsOf};
 ghost use Rattle.board.specs.Steps.{own_phase};
 ghost use Rattle.phase_scan.specs.Collects.{IfAsked};
 ghost use Rattle.phase_scan.specs.inside.Nexts.{AreNexts};
-ghost use Rattle.phase_scan.specs.Supposed.{LoadsColumn};
 ghost use Rattle.phase_scan.specs.Tables.{event_for};
 ghost use Rattle.phase_scan.specs.inside.Phases.{phase_in};
-ghost use Rattle.phase_scan.specs.inside.Supposing.{awaited_too, members_on, phases_with, status_supposed};
+ghost use Rattle.phase_scan.specs.inside.Supposing.{KeepsColumn, awaited_too, members_on, phases_with, status_supposed};
 
 use crate::findings::Findings;
 use crate::nexts::nexts_of;
@@ -49,7 +48,7 @@ impl Findings {
         }
     }
 
-    /// Loads the phase on `p` of each task found waiting, in order.
+    /// Loads the phase on `p` of each task found waiting, in order, and keeps of each the phase that counts.
     pub(crate) fn load_column(
         &self,
         column: &mut [Option<Phase>],
@@ -59,19 +58,22 @@ impl Findings {
     )
         requires made { IsOf seat.old board.now }
         requires tasks { self.now.tasks ≡ length board.now.plan.parents }
+        requires phasers { self.now.phasers ≡ length board.now.plan.makers }
         requires phaser { p.0 < length board.now.plan.makers }
         requires count { length column.old ≡ self.now.tasks }
         ensures made { IsOf seat.new board.now }
         ensures count { length column.new ≡ self.now.tasks }
-        ensures loads { LoadsColumn (event_for self.now.events.items) p.0 (phase_in column.new) self.now.tasks seat.old seat.new }
+        ensures keeps { KeepsColumn self.now p.0 column.new self.now.tasks seat.old seat.new }
     {
         for number in 0..self.tasks {
-            let found = self.load_waiting(seat, board, TaskId(number), p);
-            keep(column, TaskId(number), found);
+            let t = TaskId(number);
+            let loaded = self.load_waiting(seat, board, t, p);
+            let used = self.phase_used(t, p, loaded);
+            keep(column, t, used);
         }
     }
 
-    // The phase of a task on `q` that was found, where `q` was found awaited or is `p`, on which this was found.
+    // The phase of a task on `q` that was found, where `q` was found awaited or is `p`, on which this one counts.
     fn listed_with(
         &self,
         t: TaskId,

@@ -1,12 +1,14 @@
 -- What was found, where a task has published an event.
-use Rattle.std.specs.Prelude.{ℕ, Bool, true, List, Option}
+use Rattle.std.specs.Prelude.{◌≡◌, ℕ, ◌<◌, Bool, true, List, Option}
 use Rattle.armus_base.specs.declared.event.Event.{Event}
 use Rattle.armus_base.specs.declared.status.Member.{Member}
 use Rattle.armus_base.specs.declared.status.Status.{Status}
 use Rattle.armus_base.specs.Finals.{given_below, listed_phase}
 use Rattle.armus_base.specs.States.{Phases, updated}
 use Rattle.phase_scan.specs.declared.findings.Findings.{Findings}
-use Rattle.phase_scan.specs.Tables.{awaited_in_findings, state_of_findings, state_supposed, status_found}
+use Rattle.board.specs.Seats.{Known}
+use Rattle.phase_scan.specs.Supposed.{LoadsColumn, phase_used}
+use Rattle.phase_scan.specs.Tables.{awaited_in_findings, event_for, state_of_findings, state_supposed, status_found}
 use Rattle.phase_scan.specs.inside.Phases.{phase_in}
 
 -- the phasers found awaited, and p
@@ -20,6 +22,12 @@ members_on f p phases = given_below (listed_phase (awaited_too f p) phases) f.ph
 -- the phases of task t that were found, with this one on p
 abbrev pub phases_with : Findings → ℕ → ℕ → Option ℕ → Phases
 phases_with f t p found = updated ((state_of_findings f).phases t) p found
+
+-- The phases on p of the first tasks that were found waiting were loaded, in order, and the column has of each the phase that counts.
+pub record KeepsColumn (f : Findings) (p : ℕ) (column : List (Option ℕ)) (tasks : ℕ) (before now : Known) : Type 0 where
+  pub loaded : ℕ → Option ℕ
+  pub loads : LoadsColumn (event_for f.events.items) p loaded tasks before now
+  pub kept : (u : ℕ) → u < tasks → phase_in column u ≡ phase_used (awaited_in_findings f p) (state_of_findings f) p loaded u
 
 -- the statuses by what was found, where task t has published the event and has these phases, with a column of phases on the event's phaser
 abbrev pub status_supposed : Findings → ℕ → Event → Phases → List (Option ℕ) → ℕ → Option Status

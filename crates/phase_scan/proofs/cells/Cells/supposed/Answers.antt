@@ -15,13 +15,13 @@ pub returns-in_err-list-clause-goes_on : goal.returns-in_err-list-clause-goes_on
 returns-in_err-list-clause-goes_on c =
     let tasks : c.self.inside.found.tasks ≡ length c.args.board.now.plan.parents = ap (λ (v : Collection). v.tasks) c.self.view_is ∙ c.requires.tasks in
     supposed_goes c.args.board.now c.args.seat.now c.load_column.new.seat c.supposed.new.seat c.self.inside.found c.args.event c.load_column.new.column c.id-t.result.0
-    c.requires.made c.id-t.ensures.seat c.id-t.ensures.task tasks c.load_column.ensures.loads c.supposed.ensures.seat
+    c.requires.made c.id-t.ensures.seat c.id-t.ensures.task tasks c.load_column.ensures.keeps c.supposed.ensures.seat
 
 pub returns-clause-goes_on : goal.returns-clause-goes_on
 returns-clause-goes_on c =
     let tasks : c.self.inside.found.tasks ≡ length c.args.board.now.plan.parents = ap (λ (v : Collection). v.tasks) c.self.view_is ∙ c.requires.tasks in
     supposed_goes c.args.board.now c.args.seat.now c.load_column.new.seat c.supposed.new.seat c.self.inside.found c.args.event c.load_column.new.column c.id-t.result.0
-    c.requires.made c.id-t.ensures.seat c.id-t.ensures.task tasks c.load_column.ensures.loads c.supposed.ensures.seat
+    c.requires.made c.id-t.ensures.seat c.id-t.ensures.task tasks c.load_column.ensures.keeps c.supposed.ensures.seat
 
 pub returns-clause-supposed : goal.returns-clause-supposed
 returns-clause-supposed c =
@@ -35,8 +35,8 @@ returns-clause-supposed c =
     subst (λ (list : List Status). IsSupposed c.args.board.now.plan list c.args.event c.in_ok-list.list c.args.seat.now c.supposed.new.seat)
     (ap (λ (v : Collection). v.statuses) c.self.view_is)
     (supposes c.args.board.now c.args.seat.now c.load_column.new.seat c.supposed.new.seat self c.args.event c.load_column.new.column c.id-t.result.0
-    c.requires.made c.id-t.ensures.seat c.id-t.ensures.task tasks c.load_column.ensures.loads c.supposed.ensures.seat
-    phasers c.self.invariant.marked c.in_ok-list.list
+    c.requires.made c.id-t.ensures.seat c.id-t.ensures.task tasks c.load_column.ensures.keeps c.supposed.ensures.seat
+    c.load_column.ensures.count phasers c.self.invariant.marked c.in_ok-list.list
     (c.in_ok-list.ensures.statuses
     ∙ ap (λ xs. given_below (status_found self.phasers (state_supposed (state_of_findings self) c.id-t.result.0 c.args.event (own_phase c.load_column.new.seat.view)
     (phase_in xs))

@@ -7,7 +7,8 @@ use Rattle.board.specs.Steps.{own_phase}
 use Rattle.phase_scan.specs.Collects.{Collection}
 use Rattle.phase_scan.specs.Looks.{LoadsAlone}
 use Rattle.phase_scan.specs.OffCycle.{SupposesOrExcludes}
-use Rattle.phase_scan.specs.Supposed.{IsSupposed, LoadsColumn}
+use Rattle.phase_scan.specs.Supposed.{IsSupposed}
+use Rattle.phase_scan.specs.inside.Supposing.{KeepsColumn}
 use Rattle.phase_scan.specs.Tables.{awaited_in_findings, event_for, state_of_findings, state_supposed, status_found}
 use Rattle.phase_scan.specs.inside.Behind.{ExcludesCycle}
 use Rattle.phase_scan.specs.inside.Phases.{phase_in}
@@ -32,11 +33,11 @@ column_is c =
 
 -- its loads, from the seat before to the seat after the test of a cycle
 column_loads : (c : After-supposed) →
-    LoadsColumn (event_for c.self.inside.found.events.items) c.args.event.p.0 (phase_in c.load_column.new.column) c.self.inside.found.tasks c.args.seat.now
+    KeepsColumn c.self.inside.found c.args.event.p.0 c.load_column.new.column c.self.inside.found.tasks c.args.seat.now
     c.excludes_cycle.new.seat
 column_loads c =
-    subst (LoadsColumn (event_for c.self.inside.found.events.items) c.args.event.p.0 (phase_in c.load_column.new.column) c.self.inside.found.tasks c.args.seat.now)
-    (sym c.excludes_cycle.ensures.seat) c.load_column.ensures.loads
+    subst (KeepsColumn c.self.inside.found c.args.event.p.0 c.load_column.new.column c.self.inside.found.tasks c.args.seat.now)
+    (sym c.excludes_cycle.ensures.seat) c.load_column.ensures.keeps
 
 loads_alone : (c : After-supposed) → LoadsAlone c.args.seat.now c.supposed.new.seat
 loads_alone c =
@@ -57,7 +58,7 @@ returns-clause-supposed c =
     (ap (λ (v : Collection). v.statuses) c.self.view_is)
     (supposes c.args.board.now c.args.seat.now c.excludes_cycle.new.seat c.supposed.new.seat self c.args.event c.load_column.new.column c.id-t.result.0
     c.requires.made c.id-t.ensures.seat c.id-t.ensures.task (tasks_are at.After-load_column) (column_loads at.After-supposed) c.supposed.ensures.seat
-    (phasers_are at.After-load_column) c.self.invariant.marked c.in_ok-list.list
+    c.load_column.ensures.count (phasers_are at.After-load_column) c.self.invariant.marked c.in_ok-list.list
     (c.in_ok-list.ensures.statuses
     ∙ ap (λ xs. given_below (status_found self.phasers (state_supposed (state_of_findings self) c.id-t.result.0 c.args.event (own_phase c.excludes_cycle.new.seat.view)
     (phase_in xs))
@@ -66,7 +67,7 @@ returns-clause-supposed c =
 pub returns-then-excludes_cycle-clause-goes_on : goal.returns-then-excludes_cycle-clause-goes_on
 returns-then-excludes_cycle-clause-goes_on c =
     supposed_goes c.args.board.now c.args.seat.now c.load_column.new.seat c.excludes_cycle.new.seat c.self.inside.found c.args.event c.load_column.new.column c.id-t.result.0
-    c.requires.made c.id-t.ensures.seat c.id-t.ensures.task (tasks_are (goal.at.returns-then-excludes_cycle-clause-goes_on c).After-load_column) c.load_column.ensures.loads
+    c.requires.made c.id-t.ensures.seat c.id-t.ensures.task (tasks_are (goal.at.returns-then-excludes_cycle-clause-goes_on c).After-load_column) c.load_column.ensures.keeps
     c.excludes_cycle.ensures.seat
 
 pub returns-then-excludes_cycle-clause-supposed : goal.returns-then-excludes_cycle-clause-supposed
@@ -77,7 +78,7 @@ returns-then-excludes_cycle-clause-supposed c =
     subst (λ (list : List Status). SupposesOrExcludes c.args.board.now.plan list c.args.event None c.args.seat.now c.excludes_cycle.new.seat)
     (ap (λ (v : Collection). v.statuses) c.self.view_is)
     (excludes c.args.board.now c.args.seat.now c.load_column.new.seat c.excludes_cycle.new.seat self c.args.event c.load_column.new.column c.id-t.result.0
-    c.requires.made c.id-t.ensures.seat c.id-t.ensures.task (tasks_are at.After-load_column) c.load_column.ensures.loads c.excludes_cycle.ensures.seat
-    (phasers_are at.After-load_column) c.self.invariant.marked (subst IsCheckedPlan c.requires.made.plan c.id-t.ensures.seat.checked)
+    c.requires.made c.id-t.ensures.seat c.id-t.ensures.task (tasks_are at.After-load_column) c.load_column.ensures.keeps c.excludes_cycle.ensures.seat
+    c.load_column.ensures.count (phasers_are at.After-load_column) c.self.invariant.marked (subst IsCheckedPlan c.requires.made.plan c.id-t.ensures.seat.checked)
     (subst (λ (xs : List (Option ℕ)). ExcludesCycle (event_for self.events.items) self.tasks c.args.event (own_phase c.load_column.new.seat.view) (phase_in xs))
     (column_is at.After-as_slice-column) off))
