@@ -1,6 +1,6 @@
 -- What is true of a seat whose task's turn is over, and what its task has begun.
 use Rattle.std.proofs.Common.{◌≡◌, ◌≢◌, ℕ, zero, suc, ◌<◌, ◌+◌, ◌^◌, List, [], ◌∷◌, Option, Some, None, length, drop, sym, refl, ap, ◌∙◌, subst, arith, inl, inr, ◌⊎◌}
-use Rattle.std.specs.Prelude.{slice_get, is_some, false}
+use Rattle.std.specs.Prelude.{slice_get, is_some, not, Bool, IsTrue, true, false}
 use Rattle.std.proofs.lemmas.Bool.{false≢true}
 use Rattle.armus_base.specs.declared.event.Event.{Event}
 use Rattle.armus_base.specs.declared.op.Op.{Op}
@@ -88,10 +88,37 @@ ends_done ops k b idle past =
     b.left ∙ ap (λ o. left_of o ops) idle ∙ ap actions_of (none_left ops past) in
     record { idle = idle; unrefused = b.unrefused; past = none_there (actions k.view.plan (task_of k.view)) (own_place k.view).done none }
 
+all_there : {A : Type 0} (xs : List A) (k : ℕ) → slice_get xs k ≡ None → drop k xs ≡ []
+all_there [] zero e = refl
+all_there (x ∷ xs) zero e = absurd (cc)
+all_there [] (suc k) e = refl
+all_there (x ∷ xs) (suc k) e = all_there xs k e
+
+-- each op has an action
+no_action : (ops : List Op) → actions_of ops ≡ [] → slice_get ops 0 ≡ None
+no_action [] e = refl
+no_action (Make p ∷ ops) e = absurd (cc)
+no_action (Reg c p ∷ ops) e = absurd (cc)
+no_action (Fork c ∷ ops) e = absurd (cc)
+no_action (Adv p ∷ ops) e = absurd (cc)
+no_action (Drop p ∷ ops) e = absurd (cc)
+no_action (Await p off ∷ ops) e = absurd (cc)
+
+-- a task that is done has begun all its ops
+pub done_began : (ops : List Op) (k : Known) → HasLeft ops k → IsDone k → slice_get ops 0 ≡ None
+unfolding action_at
+done_began ops k b done =
+    no_action ops
+    (sym (b.left ∙ ap (λ o. left_of o ops) done.idle) ∙ all_there (actions k.view.plan (task_of k.view)) (own_place k.view).done done.past)
+
 -- where there is not some, there is none
 pub no_one : {A : Type 0} (o : Option A) → is_some o ≡ false → o ≡ None
 no_one None e = refl
 no_one (Some x) h = absurd (false≢true (sym h))
+
+pub true_for : (b : Bool) → not b ≡ false → IsTrue b
+true_for true e = refl
+true_for false e = absurd (false≢true (sym e))
 
 -- what an op begins with is no refusal
 pub no_refusal : (op : Op) (aim : Aim) → begins op ≢ Refuses aim

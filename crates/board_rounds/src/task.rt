@@ -1,5 +1,5 @@
 // A task of a run: its seat, how far it has come, and the seats of the children that it forked.
-ghost use Rattle.std.specs.Prelude.{◌≡◌, ◌+◌, ◌++◌, ◌≤◌, ◌<◌, ◌^◌, ℕ, [], ◌∷◌, List, Some, None, false, true, IfOk, IfSome, IsSome, OnOk, OnErr, length};
+ghost use Rattle.std.specs.Prelude.{◌≡◌, ◌↔◌, ◌+◌, ◌++◌, ◌≤◌, ◌<◌, ◌^◌, ℕ, [], ◌∷◌, List, Some, None, false, IfOk, IfSome, IsSome, IsTrue, OnOk, OnErr, length};
 ghost use Rattle.armus_base.specs.Plans.{Action};
 ghost use Rattle.armus_base.specs.Runs.{first_place};
 ghost use Rattle.board.specs.Views.{own_place};
@@ -111,7 +111,7 @@ impl<'p> Task<'p> {
 
     /// Whether it acts no more: its code is done, or it is refused.
     pub fn has_ended(&self) -> bool
-        ensures { result ≡ true → ActsNoMore self.now.seat }
+        ensures { IsTrue result ↔ ActsNoMore self.now.seat }
     {
         if self.refused {
             return true;
