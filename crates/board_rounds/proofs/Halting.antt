@@ -1,5 +1,5 @@
 -- What is true of a seat whose task's turn is over, and what its task has begun.
-use Rattle.std.proofs.Common.{◌≡◌, ◌≢◌, ℕ, zero, suc, ◌<◌, ◌+◌, ◌^◌, List, [], ◌∷◌, Option, Some, None, length, drop, sym, refl, ap, ◌∙◌, subst, arith, inl, inr, ◌⊎◌}
+use Rattle.std.proofs.Common.{◌≡◌, ◌≢◌, ℕ, zero, suc, ◌<◌, ◌≤◌, ◌+◌, ◌^◌, List, [], ◌∷◌, Option, Some, None, length, drop, sym, refl, ap, ◌∙◌, subst, arith, inl, inr, ◌⊎◌}
 use Rattle.std.specs.Prelude.{slice_get, is_some, not, Bool, IsTrue, true, false}
 use Rattle.std.proofs.lemmas.Bool.{false≢true}
 use Rattle.armus_base.specs.declared.event.Event.{Event}
@@ -19,7 +19,7 @@ use Rattle.board.specs.Seats.{IsSeat, Known, event_of}
 use Rattle.board.specs.Steps.{WasSo}
 use Rattle.board.specs.inside.Walking.{HasLeft, begins, left_of}
 use Rattle.phase_scan.specs.Looks.{FindsBehind, LoadsAlone}
-use Rattle.board_rounds.specs.Turns.{EndsTurn, IsDone, IsSeenBehind, is_behind}
+use Rattle.board_rounds.specs.Turns.{EndsTurn, IsDone, IsSeenBehind, is_behind, is_done, is_locked_out, is_refused}
 use Rattle.board_rounds.proofs.Goings.{own_stays, same_task}
 
 -- loads begin no op
@@ -57,7 +57,7 @@ found_within k m t p n seat was =
     member_within k.view.plan seat.checked reachable.steps reachable.run t p n (ap (λ s. s.phases t p) same ∙ was.holds)
 
 -- a member that was found behind ends the turn
-pub ends_behind : (k m : Known) (t n : ℕ) → IsSeat k → LoadsAlone k m → FindsBehind t n k m → EndsTurn m
+pub ends_behind : (k m : Known) (t n : ℕ) → IsSeat k → LoadsAlone k m → FindsBehind t n k m → EndsTurn k m
 ends_behind k m t n seat goes f =
     let load = f.load.load in
     let within : t < length m.view.plan.parents =
@@ -68,6 +68,16 @@ ends_behind k m t n seat goes f =
       | inl first ↦ inl first
       | inr far ↦ inr (n, (λ i. phases_at_place (load.same.plan i) t ((seen m.view).places t) f.event.p.0) ∙ load.there n refl far, f.below)
     ]))
+    (record { between = k; since = omega arith; task = t; phase = n; found = f })
+
+-- what ends the rest of a turn ends the turn
+pub ends_since : (a b m : Known) → a.view.loads ≤ b.view.loads → EndsTurn b m → EndsTurn a m
+ends_since a b m more (is_done done) = is_done done
+ends_since a b m more (is_refused left) = is_refused left
+ends_since a b m more (is_behind e published few behind found) =
+    is_behind e published few behind
+    (record { between = found.between; since = (let l = found.since in omega arith); task = found.task; phase = found.phase; found = found.found })
+ends_since a b m more (is_locked_out u mode at other may) = is_locked_out u mode at other may
 
 -- a list that has no first has nothing
 pub none_left : {A : Type 0} (xs : List A) → slice_get xs 0 ≡ None → xs ≡ []

@@ -96,7 +96,7 @@ goes_begins (Adv p) k m goes = goes
 goes_begins (Drop p) k m goes = goes
 goes_begins (Await p off) k m goes = goes
 
-locked_goes : (op : Op) (k m : Known) → BeginsOp op k m LockedOut → (tasks_forked (begins op ∷ []) ≡ []) × Goes [] k m × EndsTurn m
+locked_goes : (op : Op) (k m : Known) → BeginsOp op k m LockedOut → (tasks_forked (begins op ∷ []) ≡ []) × Goes [] k m × EndsTurn k m
 locked_goes (Make p) k m b = absurd b
 locked_goes (Reg c p) k m b = absurd b
 locked_goes (Fork c) k m b = absurd b
@@ -137,7 +137,7 @@ module _ (f : Frame) (ops : List Op) (events : ℕ) (k m : Known) (cs ds : List 
 
   module _ (new : List Known) (grown : ds ≡ cs ++ new) (seats : AreChildSeats f (tasks_forked (begins op ∷ [])) new) where
     -- the lock was taken
-    pub locked_out : BeginsOp op k m LockedOut → (Acts f [] before now × EndsTurn m) × HasCome m ops events false
+    pub locked_out : BeginsOp op k m LockedOut → (Acts f [] before now × EndsTurn k m) × HasCome m ops events false
     locked_out is =
         let r = locked_goes op k m is in (
           (record { goes = r.1; refused = λ _. refl; new = new; children = grown; seats = no_seat f (tasks_forked (begins op ∷ [])) new r.0 seats }, r.2),

@@ -30,5 +30,5 @@ pub(crate) trait TakeTurn {
         requires made { IsOf (working self.old).seat board.now }
         ensures acts { (own : List Action) × Acts board.now own (working self.old) (working self.new) × IfOk result (λ n. n ≡ length own) }
         ensures few { IfOk result (λ n. n ≤ max_events) }
-        ensures ends { OnOk result (EndsTurn (working self.new).seat) };
+        ensures ends { OnOk result (EndsTurn (working self.old).seat (working self.new).seat) };
 }

@@ -167,7 +167,7 @@ impl<'p> Task<'p> {
     ) -> Result<Option<u32>, NoMemory>
         requires made { IsOf self.old.seat board.now }
         ensures some { IfOk result (λ o. IfSome o (λ n. MakesSome board.now n self.old self.new)) }
-        ensures none { IfOk result (λ o. o ≡ None → Acts board.now [] self.old self.new × EndsTurn self.new.seat) }
+        ensures none { IfOk result (λ o. o ≡ None → Acts board.now [] self.old self.new × EndsTurn self.old.seat self.new.seat) }
         ensures err { OnErr result (Acts board.now [] self.old self.new) }
     {
         let t = self.seat.id();
@@ -203,7 +203,7 @@ impl<'p> Task<'p> {
         requires unrefused { (own_place self.old.seat.view).dropped ≡ None }
         requires event { IsSome (event_of self.old.seat) }
         ensures some { IfSome result (λ n. MakesSome board.now n self.old self.new) }
-        ensures none { result ≡ None → Acts board.now [] self.old self.new × EndsTurn self.new.seat }
+        ensures none { result ≡ None → Acts board.now [] self.old self.new × EndsTurn self.old.seat self.new.seat }
     {
         let _ = self.seat.id();
         match look(&mut self.seat, board) {

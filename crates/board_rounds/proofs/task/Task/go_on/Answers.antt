@@ -16,7 +16,7 @@ returns-in_default-clause-none g c = λ _.
     let idle = sym c.event.ensures ∙ no_event _ (sym c.is_some.ensures ∙ c.if-is_some.false) in
     let past = sym c.peek.ensures.next ∙ c.in_default.is in (
       acts_itself c.args.board.now c.args.self.now (subst (λ (w : Working). IsSeat w.seat) c.self.view_is c.id-t.ensures.seat),
-      subst (λ (w : Working). EndsTurn w.seat) c.self.view_is (is_done (ends_done c.self.inside.cursor c.self.inside.seat
+      subst (λ (w : Working). EndsTurn w.seat w.seat) c.self.view_is (is_done (ends_done c.self.inside.cursor c.self.inside.seat
           (c.self.invariant.come.ops_are c.if-self.false) idle past)),
     )
 
@@ -63,7 +63,8 @@ returns-in-LockedOut-clause-none g c = λ _.
     let tried = subst (λ a. BeginsOp c.in-Some.op c.self.inside.seat c.begin.new.seat a) c.in-LockedOut.is c.in_ok-begin.ensures.begins in
     let r = locked_out c.args.board.now c.self.inside.cursor c.self.inside.events c.self.inside.seat c.begin.new.seat c.self.inside.children.items
     c.begin.new.children.items c.in-Some.op _ (come g at) (before g at) new.0 new.1 new.2 tried in
-    (subst (λ (w : Working). Acts c.args.board.now [] w (record { seat = c.begin.new.seat; children = c.begin.new.children.items })) c.self.view_is r.0.0, r.0.1)
+    subst (λ (w : Working). Acts c.args.board.now [] w (record { seat = c.begin.new.seat; children = c.begin.new.children.items }) × EndsTurn w.seat c.begin.new.seat)
+    c.self.view_is r.0
 
 pub overflow_add-self : goal.overflow_add-self
 overflow_add-self g c =
@@ -138,5 +139,5 @@ returns-in-Refused-clause-some g c =
 pub returns-then-self-clause-none : goal.returns-then-self-clause-none
 returns-then-self-clause-none g c = λ _. (
   acts_itself c.args.board.now c.args.self.now (subst (λ (w : Working). IsSeat w.seat) c.self.view_is c.id-t.ensures.seat),
-  subst (λ (w : Working). EndsTurn w.seat) c.self.view_is (is_refused (c.self.invariant.come.gone c.if-self.true)),
+  subst (λ (w : Working). EndsTurn w.seat w.seat) c.self.view_is (is_refused (c.self.invariant.come.gone c.if-self.true)),
 )

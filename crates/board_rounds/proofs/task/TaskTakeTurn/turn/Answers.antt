@@ -4,6 +4,7 @@ use Rattle.board_rounds.specs.declared.task.Pause.{Pause}
 use Rattle.board_rounds.specs.Turns.{PausesAt, Working}
 use Rattle.board_rounds.proofs.Counting.{counts_nothing, few_events, forked_some, leaves_by}
 use Rattle.board_rounds.proofs.Goings.{acts_itself, acts_on, of_on}
+use Rattle.board_rounds.proofs.Halting.{ends_since}
 use Rattle.board_rounds.proofs.task.TaskTakeTurn.turn.Goals as goal
 
 pub turn-init : goal.turn-init
@@ -64,3 +65,8 @@ returns-in-TurnOver-clause-few g c =
     let a = c.in_ok-acted.ensures.acts in
     let l = few_events (c.turn.made + c.in_ok-acted.acted.events) c.act.new.self a.1.goes.kept.checked (c.in_ok-acted.ensures.few c.turn.made i.counts) in
     omega arith
+
+pub returns-in-TurnOver-clause-ends : goal.returns-in-TurnOver-clause-ends
+returns-in-TurnOver-clause-ends g c =
+    let over = subst (λ (p : Pause). PausesAt p c.turn.self c.act.new.self) c.in-TurnOver.is c.in_ok-acted.ensures.pause in
+    ends_since c.args.self.now.seat c.turn.self.seat c.act.new.self.seat c.turn.invariant.acts.goes.loads over.0
