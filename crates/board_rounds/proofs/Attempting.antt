@@ -191,3 +191,4 @@ module _ (h : ℕ) (a now : Known) (t : ℕ) (own : a.view.own ≡ Some t) (seat
       is_locked_out h (ap avoids found.meets.same.mode ∙ avoiding) (aim, next_still a now found.meets.same place ∙ next)
       (λ e. other (sym (e ∙ same_task a now found.meets.same ∙ task_is a t own)))
       (subst (λ (q : Plan). MayHold q h ((seen now.view).places h)) (sym found.meets.same.plan) found.meets.there)
+      (record { between = a; since = omega arith; found = found })

@@ -77,7 +77,8 @@ ends_since a b m more (is_refused left) = is_refused left
 ends_since a b m more (is_behind e published few behind found) =
     is_behind e published few behind
     (record { between = found.between; since = (let l = found.since in omega arith); task = found.task; phase = found.phase; found = found.found })
-ends_since a b m more (is_locked_out u mode at other may) = is_locked_out u mode at other may
+ends_since a b m more (is_locked_out u mode at other may held) =
+    is_locked_out u mode at other may (record { between = held.between; since = (let l = held.since in omega arith); found = held.found })
 
 -- a list that has no first has nothing
 pub none_left : {A : Type 0} (xs : List A) → slice_get xs 0 ≡ None → xs ≡ []

@@ -9,7 +9,7 @@ use Rattle.armus_base.specs.Seats.{MayHold}
 use Rattle.pl_core.specs.declared.place.Place.{Place as KeptPlace}
 use Rattle.board.specs.Views.{avoids, own_place, seen, task_of}
 use Rattle.board.specs.Steps.{IsSameSeat, own_phase}
-use Rattle.board.specs.Locking.{IsBeforeAwait}
+use Rattle.board.specs.Locking.{FindsHeld, IsBeforeAwait}
 use Rattle.board.specs.Seats.{Frame, IsOf, IsSeat, Known, event_of}
 use Rattle.phase_scan.specs.Looks.{FindsBehind}
 use Rattle.board_rounds.specs.declared.task.Pause.{Pause}
@@ -97,7 +97,8 @@ ActsNoMore seat = IsDone seat ⊎ HasLeftAll seat
 abbrev pub standing_of : Known → KeptPlace
 standing_of seat = record { events = (own_place seat.view).done; refused = is_some (own_place seat.view).dropped }
 
--- A look that was made since the seat stood as before, and whose last load is the seat's last one, found a member of its event's phaser behind.
+-- The seat's last load was that of a look, which found a member of its event's phaser behind; it had made as many loads when it began to look as it had
+-- before, or more.
 pub record FoundBehindSince (before now : Known) : Type 0 where
   pub between : Known
   pub since : before.view.loads ≤ between.view.loads
@@ -105,9 +106,15 @@ pub record FoundBehindSince (before now : Known) : Type 0 where
   pub phase : ℕ
   pub found : FindsBehind task phase between now
 
+-- The last that the seat did was a try for the lock, which found it held by task u; it had made as many loads then as it had before, or more.
+pub record FoundHeldSince (u : ℕ) (before now : Known) : Type 0 where
+  pub between : Known
+  pub since : before.view.loads ≤ between.view.loads
+  pub found : FindsHeld u between now
+
 -- How a turn ends that began where the seat stood before, by what the seat has seen: its task is done; or it is refused and a member of nothing; or it
 -- is published, and the task that is scanned next is seen behind, as a look of this turn found; or, where deadlock is avoided, it stands before an await
--- that it has not published, and another task is seen at a place at which it may hold the lock.
+-- that it has not published, and another task, which it found to hold the lock, is seen at a place at which it may hold it.
 pub data EndsTurn (before now : Known) : Type 0 where
   is_done : IsDone now → EndsTurn before now
   is_refused : HasLeftAll now → EndsTurn before now
@@ -116,7 +123,7 @@ pub data EndsTurn (before now : Known) : Type 0 where
       IsSeenBehind now e (seen now.view).scanned → FoundBehindSince before now → EndsTurn before now
   is_locked_out :
       (u : ℕ) → avoids now.view.mode ≡ true → IsBeforeAwait now → u ≢ task_of now.view →
-      MayHold now.view.plan u ((seen now.view).places u) → EndsTurn before now
+      MayHold now.view.plan u ((seen now.view).places u) → FoundHeldSince u before now → EndsTurn before now
 
 -- the seat stands where some turn of it has ended
 abbrev pub HasEndedTurn : Known → Type 0
