@@ -7,7 +7,7 @@ use Rattle.armus_base.specs.declared.op.Op.{Op}
 use Rattle.armus_base.specs.declared.op.Op.TheVariants.{Adv, Await, Drop, Fork, Make, Reg}
 use Rattle.armus_base.specs.CheckedPlans.{IsCheckedPlan}
 use Rattle.pl_core.proofs.StepKinds.{few_actions}
-use Rattle.armus_base.specs.Plans.{Aim, Plan, Refuses, action_at, actions, actions_of}
+use Rattle.armus_base.specs.Plans.{Aim, Plan, Refuses, action_at, actions, actions_of, code_of}
 use Rattle.armus_base.specs.Runs.{Place, first_place}
 use Rattle.armus_base.specs.Places.{phases_at_place}
 use Rattle.armus_base.specs.Seats.{own_event}
@@ -18,9 +18,27 @@ use Rattle.board.specs.Views.{avoids, own_place, seen, task_of}
 use Rattle.board.specs.Seats.{IsSeat, Known, event_of}
 use Rattle.board.specs.Steps.{WasSo}
 use Rattle.board.specs.inside.Walking.{HasLeft, begins, left_of}
+use Rattle.board.proofs.Walking.{left_at_first}
 use Rattle.phase_scan.specs.Looks.{FindsBehind, LoadsAlone}
 use Rattle.board_rounds.specs.Turns.{EndsTurn, IsDone, IsSeenBehind, is_behind, is_done, is_locked_out, is_refused}
+use Rattle.board_rounds.specs.inside.Tasks.{AreLeft}
 use Rattle.board_rounds.proofs.Goings.{own_stays, same_task}
+
+-- the same ops are left where the seat does not hold the lock
+pub left_free : (ops : List Op) (k : Known) → AreLeft ops k → k.view.holds ≡ false → HasLeft ops k
+left_free ops k left free = record { free = free; unrefused = left.unrefused; left = left.left }
+
+-- and where it may hold it
+pub left_there : (ops : List Op) (k : Known) → HasLeft ops k → AreLeft ops k
+left_there ops k left = record { unrefused = left.unrefused; left = left.left }
+
+-- to who has made no step its whole code is left
+pub left_first :
+    (k : Known) (t : ℕ) (plan : Plan) (ops : List Op) → k.view.own ≡ Some t → k.view.plan ≡ plan → ops ≡ code_of plan t → own_place k.view ≡ first_place → AreLeft ops k
+left_first k t plan ops own planned all first =
+    (let left : HasLeft ops (record k { view = record k.view { holds = false } }) =
+    left_at_first (record k { view = record k.view { holds = false } }) t plan ops own planned all first refl in
+    record { unrefused = left.unrefused; left = left.left })
 
 -- loads begin no op
 pub left_by_loads : (ops : List Op) (k m : Known) (t : ℕ) → k.view.own ≡ Some t → IsSeat k → HasLeft ops k → LoadsAlone k m → HasLeft ops m
@@ -92,7 +110,7 @@ none_there (x ∷ xs) zero e = absurd (cc)
 none_there (x ∷ xs) (suc k) e = none_there xs k e
 
 -- a task that has begun all its ops, and waits for nothing, is done
-pub ends_done : (ops : List Op) (k : Known) → HasLeft ops k → event_of k ≡ None → slice_get ops 0 ≡ None → IsDone k
+pub ends_done : (ops : List Op) (k : Known) → AreLeft ops k → event_of k ≡ None → slice_get ops 0 ≡ None → IsDone k
 unfolding action_at
 ends_done ops k b idle past =
     let none : drop (own_place k.view).done (actions k.view.plan (task_of k.view)) ≡ [] =
@@ -116,7 +134,7 @@ no_action (Drop p ∷ ops) e = absurd (cc)
 no_action (Await p off ∷ ops) e = absurd (cc)
 
 -- a task that is done has begun all its ops
-pub done_began : (ops : List Op) (k : Known) → HasLeft ops k → IsDone k → slice_get ops 0 ≡ None
+pub done_began : (ops : List Op) (k : Known) → AreLeft ops k → IsDone k → slice_get ops 0 ≡ None
 unfolding action_at
 done_began ops k b done =
     no_action ops

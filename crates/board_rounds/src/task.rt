@@ -67,7 +67,6 @@ impl<'p> Task<'p> {
     /// The task of a seat that has made no step, on a board of this plan. It stands before its first op, and has no child's seat.
     pub fn new(alloc: Global, seat: TaskSeat, plan: &'p Plan) -> Task<'p>
         requires first { own_place seat.view ≡ first_place }
-        requires free { seat.view.holds ≡ false }
         requires plan { seat.view.plan ≡ plan.now }
         ensures seat { result.seat ≡ seat }
         ensures no_child { result.children ≡ [] }
@@ -138,6 +137,7 @@ impl<'p> Task<'p> {
         gate: &C,
     ) -> Result<Acted, NoMemory>
         requires made { IsOf self.old.seat board.now }
+        requires free { self.old.seat.view.holds ≡ false }
         ensures acts { (own : List Action) × Acts board.now own self.old self.new × IfOk result (λ acted. acted.events ≡ length own) }
         ensures few { (n : ℕ) → CountsEvents n self.old → IfOk result (λ acted. CountsEvents (n + acted.events) self.new) }
         ensures pause { IfOk result (λ acted. PausesAt acted.pause self.old self.new) }
@@ -166,6 +166,7 @@ impl<'p> Task<'p> {
         gate: &C,
     ) -> Result<Option<u32>, NoMemory>
         requires made { IsOf self.old.seat board.now }
+        requires free { self.old.seat.view.holds ≡ false }
         ensures some { IfOk result (λ o. IfSome o (λ n. MakesSome board.now n self.old self.new)) }
         ensures none { IfOk result (λ o. o ≡ None → Acts board.now [] self.old self.new × EndsTurn self.old.seat self.new.seat) }
         ensures err { OnErr result (Acts board.now [] self.old self.new) }
@@ -200,6 +201,7 @@ impl<'p> Task<'p> {
     // Passes the await on which it is published, if its event is reached; answers how many events happened.
     fn pass(&mut self, board: &Board) -> Option<u32>
         requires made { IsOf self.old.seat board.now }
+        requires free { self.old.seat.view.holds ≡ false }
         requires unrefused { (own_place self.old.seat.view).dropped ≡ None }
         requires event { IsSome (event_of self.old.seat) }
         ensures some { IfSome result (λ n. MakesSome board.now n self.old self.new) }

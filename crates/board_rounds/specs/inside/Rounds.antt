@@ -1,5 +1,5 @@
 -- What a round of turns makes of the tasks, and of the seats of the children whom they forked.
-use Rattle.std.specs.Prelude.{false, map, flat_map, ◌≡◌, ℕ, List, [], ◌++◌, Contains, length, sum_by}
+use Rattle.std.specs.Prelude.{map, flat_map, ◌≡◌, ℕ, List, [], ◌++◌, Contains, length, sum_by}
 use Rattle.std.specs.List.Sorted.{IsPermutation}
 use Rattle.armus_base.specs.Plans.{Action, Plan}
 use Rattle.armus_base.specs.Runs.{first_place}
@@ -13,7 +13,7 @@ IsChildIn tasks seat = (task : Working) × Contains tasks task × Contains task.
 
 -- a seat of a board of this plan, whose task has made no step
 abbrev pub IsAtStart : Plan → Known → Type 0
-IsAtStart plan seat = own_place seat.view ≡ first_place × seat.view.holds ≡ false × seat.view.plan ≡ plan
+IsAtStart plan seat = own_place seat.view ≡ first_place × seat.view.plan ≡ plan
 
 -- a task whose children's seats were taken
 abbrev pub emptied : Working → Working

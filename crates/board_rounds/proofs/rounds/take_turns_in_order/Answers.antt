@@ -13,9 +13,8 @@ turn-requires g c =
     let working = g.T.TakeTurn.working in
     let n = c.loop-task.task-index in
     let less : n < length (map working c.loop-task.tasks) = (let t = c.loop-task-test.true in let s = c.loop-task.auto.tasks in let m = length-map c.loop-task.tasks working in omega arith) in
-    record {
-      made = (subst (MayTakeTurn c.args.board.now) (map_get working c.loop-task.tasks n c.task-item.result) (next_is (MayTakeTurn c.args.board.now) (working c.task-item.result) c.loop-task.invariant.so_far c.requires.ready less)).of_board;
-    }
+    let may = subst (MayTakeTurn c.args.board.now) (map_get working c.loop-task.tasks n c.task-item.result) (next_is (MayTakeTurn c.args.board.now) (working c.task-item.result) c.loop-task.invariant.so_far c.requires.ready less) in
+    record { made = may.of_board; free = may.free }
 
 pub returns-in_err-turn : goal.returns-in_err-turn
 returns-in_err-turn g c =

@@ -14,6 +14,7 @@ act-init g c =
       own = [];
       acts = acts_itself c.args.board.now w (subst (λ (x : Working). IsSeat x.seat) c.self.view_is c.id.ensures.seat);
       made = c.requires.made;
+      free = c.requires.free;
       counted = refl;
       counts = λ n h. subst (λ k. CountsEvents k w) (let z : n ≡ n + 0 = omega arith in z) h;
       nobody = refl;
@@ -79,6 +80,7 @@ act-preserved g c =
       own = i.own ++ m.own;
       acts = acts_on c.args.board.now c.args.self.now c.act.self c.go_on.new.self i.own m.own i.acts m.acts;
       made = of_on c.args.board.now m.own c.act.self.seat c.go_on.new.self.seat i.made m.acts.goes;
+      free = m.acts.goes.same.holds ∙ i.free;
       counted = (let l = length-append i.own m.own in let a = i.counted in let b = m.counted in omega arith);
       counts = λ n h.
           subst (λ k. CountsEvents k c.go_on.new.self) (let z : (n + c.act.events) + c.in-Some.more ≡ n + (c.act.events + c.in-Some.more) = omega arith in z)

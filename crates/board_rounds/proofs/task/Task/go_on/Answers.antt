@@ -1,4 +1,4 @@
-use Rattle.std.proofs.Common.{◌+◌, ◌∙◌, [], List, Result, Ok, Err, OnErr, false, drop, sym, ap, subst, arith}
+use Rattle.std.proofs.Common.{◌≡◌, ◌+◌, ◌∙◌, [], List, Result, Ok, Err, OnErr, false, drop, sym, ap, subst, arith}
 use Rattle.armus_base.specs.declared.op.Op.{Op}
 use Rattle.board.specs.Seats.{IsOf, IsSeat, event_of}
 use Rattle.board.proofs.Walking.{IsBefore, before_next, before_of_plan, is_before, left_behind, next_left}
@@ -6,7 +6,7 @@ use Rattle.board_rounds.specs.inside.Attempts.{BeginsOp}
 use Rattle.board_rounds.specs.inside.Tasks.{HasCome, MakesSome}
 use Rattle.board_rounds.specs.Turns.{Acts, EndsTurn, Working, is_done, is_refused}
 use Rattle.board_rounds.proofs.Goings.{acts_itself}
-use Rattle.board_rounds.proofs.Halting.{ends_done, no_event}
+use Rattle.board_rounds.proofs.Halting.{ends_done, left_free, no_event}
 use Rattle.board_rounds.proofs.Onward.{begun_come, begun_fits, begun_makes, locked_out, nothing_acts, refused_come, refused_fits, refused_makes}
 use Rattle.board_rounds.proofs.task.Task.go_on.Goals.{In-Some}
 use Rattle.board_rounds.proofs.task.Task.go_on.Goals as goal
@@ -20,11 +20,15 @@ returns-in_default-clause-none g c = λ _.
           (c.self.invariant.come.ops_are c.if-self.false) idle past)),
     )
 
+-- the seat does not hold the lock
+free : (g : _) (c : In-Some g) → c.self.inside.seat.view.holds ≡ false
+free g c = ap (λ (w : Working). w.seat.view.holds) c.self.view_is ∙ c.requires.free
+
 -- the task stands before the op, and is not refused
 before : (g : _) (c : In-Some g) → IsBefore c.in-Some.op (drop 1 c.self.inside.cursor) c.self.inside.seat
 before g c =
     is_before c.self.inside.seat c.args.self.now.seat c.id-t.result.0 c.self.inside.cursor _ _ c.in-Some.op (ap (λ (w : Working). w.seat) c.self.view_is)
-    (c.self.invariant.come.ops_are c.if-self.false) c.id-t.ensures.task c.id-t.ensures.seat (sym c.is_some.ensures ∙ c.if-is_some.false)
+    (left_free c.self.inside.cursor c.self.inside.seat (c.self.invariant.come.ops_are c.if-self.false) (free g c)) c.id-t.ensures.task c.id-t.ensures.seat (sym c.is_some.ensures ∙ c.if-is_some.false)
     (c.event.ensures ∙ ap (λ (w : Working). event_of w.seat) c.self.view_is) (next_left c.self.inside.cursor c.in-Some.op (sym c.peek.ensures.next ∙ c.in-Some.is))
 
 come : (g : _) (c : In-Some g) → HasCome c.self.inside.seat c.self.inside.cursor c.self.inside.events false
@@ -37,7 +41,7 @@ begin-requires g c =
     record {
       ready = record {
         made = made;
-        unlocked = c.self.invariant.come.free;
+        unlocked = free g at;
         next = before_next c.in-Some.op (drop 1 c.self.inside.cursor) c.self.inside.seat (before g at);
         plan = before_of_plan c.in-Some.op (drop 1 c.self.inside.cursor) c.self.inside.seat (before g at) c.args.board.now.plan made.plan;
       };

@@ -11,13 +11,15 @@ use Rattle.board_rounds.proofs.task.Task.pass.Goals as goal
 
 pub invariant_of-self-in-Reached : goal.invariant_of-self-in-Reached
 invariant_of-self-in-Reached c =
-    let p = passes c.args.board.now c.self.inside c.look.new.seat c.withdraw.new.self c.id.result.0 c.self.invariant (ap (λ (w : Working). (own_place w.seat.view).dropped) c.self.view_is ∙ c.requires.unrefused)
+    let p = passes c.args.board.now c.self.inside c.look.new.seat c.withdraw.new.self c.id.result.0 c.self.invariant (ap (λ (w : Working). w.seat.view.holds) c.self.view_is ∙ c.requires.free)
+    (ap (λ (w : Working). (own_place w.seat.view).dropped) c.self.view_is ∙ c.requires.unrefused)
     c.id.ensures.task c.id.ensures.seat (subst (λ (w : Working). IsSome (event_of w.seat)) (sym c.self.view_is) c.requires.event) c.look.ensures.goes_on c.withdraw.ensures.step in
     p.working
 
 pub overflow_add-self : goal.overflow_add-self
 overflow_add-self c =
-    let p = passes c.args.board.now c.self.inside c.look.new.seat c.withdraw.new.self c.id.result.0 c.self.invariant (ap (λ (w : Working). (own_place w.seat.view).dropped) c.self.view_is ∙ c.requires.unrefused)
+    let p = passes c.args.board.now c.self.inside c.look.new.seat c.withdraw.new.self c.id.result.0 c.self.invariant (ap (λ (w : Working). w.seat.view.holds) c.self.view_is ∙ c.requires.free)
+    (ap (λ (w : Working). (own_place w.seat.view).dropped) c.self.view_is ∙ c.requires.unrefused)
     c.id.ensures.task c.id.ensures.seat (subst (λ (w : Working). IsSome (event_of w.seat)) (sym c.self.view_is) c.requires.event) c.look.ensures.goes_on c.withdraw.ensures.step in
     (let l = p.fits in omega arith)
 
@@ -32,6 +34,7 @@ returns-in-Behind-clause-none c = λ _.
 
 pub returns-in-Reached-clause-some : goal.returns-in-Reached-clause-some
 returns-in-Reached-clause-some c =
-    let p = passes c.args.board.now c.self.inside c.look.new.seat c.withdraw.new.self c.id.result.0 c.self.invariant (ap (λ (w : Working). (own_place w.seat.view).dropped) c.self.view_is ∙ c.requires.unrefused)
+    let p = passes c.args.board.now c.self.inside c.look.new.seat c.withdraw.new.self c.id.result.0 c.self.invariant (ap (λ (w : Working). w.seat.view.holds) c.self.view_is ∙ c.requires.free)
+    (ap (λ (w : Working). (own_place w.seat.view).dropped) c.self.view_is ∙ c.requires.unrefused)
     c.id.ensures.task c.id.ensures.seat (subst (λ (w : Working). IsSome (event_of w.seat)) (sym c.self.view_is) c.requires.event) c.look.ensures.goes_on c.withdraw.ensures.step in
     subst (λ (w : Working). MakesSome c.args.board.now 1 w (record { seat = c.withdraw.new.self; children = c.self.inside.children.items })) c.self.view_is p.some

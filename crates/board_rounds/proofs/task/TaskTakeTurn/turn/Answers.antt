@@ -1,4 +1,4 @@
-use Rattle.std.proofs.Common.{◌+◌, [], ◌++◌, rules, length-append, refl, subst, arith}
+use Rattle.std.proofs.Common.{◌+◌, ◌∙◌, [], ◌++◌, rules, length-append, refl, subst, arith}
 use Rattle.board.specs.Seats.{IsSeat}
 use Rattle.board_rounds.specs.declared.task.Pause.{Pause}
 use Rattle.board_rounds.specs.Turns.{PausesAt, Working}
@@ -13,6 +13,7 @@ turn-init g c =
       own = [];
       acts = acts_itself c.args.board.now w (subst (λ (x : Working). IsSeat x.seat) c.self.view_is c.id.ensures.seat);
       made = c.requires.made;
+      free = c.requires.free;
       counted = refl;
       counts = counts_nothing w;
     }
@@ -46,6 +47,7 @@ turn-preserved g c =
       own = i.own ++ a.0;
       acts = acts_on c.args.board.now c.args.self.now c.turn.self c.act.new.self i.own a.0 i.acts a.1;
       made = of_on c.args.board.now a.0 c.turn.self.seat c.act.new.self.seat i.made a.1.goes;
+      free = a.1.goes.same.holds ∙ i.free;
       counted = (let l = length-append i.own a.0 in let m = i.counted in let n = a.2 in omega arith);
       counts = c.in_ok-acted.ensures.few c.turn.made i.counts;
     }
