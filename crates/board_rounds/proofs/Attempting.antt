@@ -47,6 +47,7 @@ goes_locked a b c d own free taken goes freed =
           subst (λ (v : View). IsPrefix ((seen a.view).places u) ((seen v).places u)) (sym freed.view)
           (subst (λ (v : View). IsPrefix ((seen v).places u) ((seen c.view).places u)) taken.view (goes.later u));
       exact = λ u. ap (λ (v : View). (seen v).exact u) freed.view ∙ goes.exact u ∙ ap (λ (v : View). (seen v).exact u) taken.view;
+      loads = (let first = ap (λ (v : View). v.loads) taken.view in let some = goes.loads in let last = ap (λ (v : View). v.loads) freed.view in omega arith);
       kept = freed.kept;
     }
 
@@ -175,10 +176,19 @@ module _ (h : ℕ) (a now : Known) (t : ℕ) (own : a.view.own ≡ Some t) (seat
 
   pub goes_locked_out : Goes [] a now
   goes_locked_out =
-      record { table = found.table; same = found.meets.same; place = place; later = later; exact = found.meets.seen_now.place.exact; kept = found.kept }
+      record {
+        table = found.table;
+        same = found.meets.same;
+        place = place;
+        later = later;
+        exact = found.meets.seen_now.place.exact;
+        loads = (let same = found.meets.loads in omega arith);
+        kept = found.kept;
+      }
 
-  pub ends_locked_out : (aim : Aim) → next_action a.view ≡ Some (Blocks aim) → EndsTurn now
+  pub ends_locked_out : (aim : Aim) → next_action a.view ≡ Some (Blocks aim) → EndsTurn a now
   ends_locked_out aim next =
       is_locked_out h (ap avoids found.meets.same.mode ∙ avoiding) (aim, next_still a now found.meets.same place ∙ next)
       (λ e. other (sym (e ∙ same_task a now found.meets.same ∙ task_is a t own)))
       (subst (λ (q : Plan). MayHold q h ((seen now.view).places h)) (sym found.meets.same.plan) found.meets.there)
+      (record { between = a; since = omega arith; found = found })

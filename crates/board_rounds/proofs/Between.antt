@@ -11,7 +11,7 @@ use Rattle.armus_base.specs.Runs.{Place}
 use Rattle.armus_base.specs.Seats.{SeenBy, seen_by_child}
 use Rattle.board.specs.Seats.{Frame, IsNewSeat, Known, nothing_seen}
 use Rattle.board.proofs.Walking.{new_first}
-use Rattle.board_rounds.specs.Turns.{Acts, AreChildSeats, EachActs, EndsTurn, MayTakeTurn, Working, no_task, one_task}
+use Rattle.board_rounds.specs.Turns.{Acts, AreChildSeats, EachActs, HasEndedTurn, MayTakeTurn, Working, no_task, one_task}
 use Rattle.board_rounds.proofs.Crewing.{crew_after, starts}
 use Rattle.board_rounds.proofs.Emptying.{contains_at}
 use Rattle.board_rounds.specs.Crews.{IsCrew, IsCrewSeat, IsSeatIn}
@@ -134,9 +134,9 @@ module _ (f : Frame) (owns : List (List Action)) (olds news : List Working) (eac
   then_none = all_from (λ (w : Working). w.children ≡ []) next (none_left news)
 
   -- without an event each task has come to the end of its turn
-  pub then_ends : 0 ≡ sum_by length owns → All (λ (w : Working). EndsTurn w.seat) news → (k : Known) → IsSeatIn next k → EndsTurn k
+  pub then_ends : 0 ≡ sum_by length owns → All (λ (w : Working). HasEndedTurn w.seat) news → (k : Known) → IsSeatIn next k → HasEndedTurn k
   then_ends still ends k at = elim (taken_from news k at) [
-    | inl seat ↦ subst EndsTurn (sym seat.2) (to_each (λ (w : Working). EndsTurn w.seat) news ends seat.0 seat.1)
+    | inl seat ↦ subst HasEndedTurn (sym seat.2) (to_each (λ (w : Working). HasEndedTurn w.seat) news ends seat.0 seat.1)
     | inr child ↦ absurd (nothing_in_nil k (subst (λ ks. Contains ks k) (quiet each still each_none child.0 child.1) child.2))
   ]
 

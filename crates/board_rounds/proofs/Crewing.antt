@@ -216,4 +216,4 @@ module _ (f : Frame) (owns : List (List Action)) (olds news : List Working) (eac
       let r = was child.0 each child.1 in
       let seats : AreChildSeats f (tasks_forked r.1) child.0.children = subst (AreChildSeats f (tasks_forked r.1)) (sym (r.3.children ∙ ap (λ ks. ks ++ r.3.new) (none r.0 r.2))) r.3.seats in
       let s = child_is k seats child.2 in
-      (s.1.first, s.1.free, s.1.of_board.plan)
+      (s.1.first, s.1.of_board.plan)

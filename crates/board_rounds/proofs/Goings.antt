@@ -76,6 +76,7 @@ goes_itself k seat =
       place = refl;
       later = λ u. let x : Place = (seen k.view).places u in precedes_itself x.done x.dropped;
       exact = λ u. refl;
+      loads = omega arith;
       kept = seat;
     }
 
@@ -92,6 +93,7 @@ goes_loads k m t own seat goes =
       place = own_stays k m t own seat goes;
       later = goes.seen_now.later;
       exact = goes.seen_now.exact;
+      loads = goes.loads;
       kept = goes.kept;
     }
 
@@ -149,6 +151,7 @@ goes_made k m x next step =
       place = (next, stepped_place k m x step);
       later = λ u. subst (λ (s : SeenBy). IsPrefix ((seen k.view).places u) (s.places u)) (sym step.seen_now) (step_later (task_of k.view) x (seen k.view) u);
       exact = λ u. ap (λ (s : SeenBy). s.exact u) step.seen_now ∙ step_exact (task_of k.view) x (seen k.view) u;
+      loads = (let same = step.loads in omega arith);
       kept = step.kept;
     }
 
@@ -173,6 +176,7 @@ goes_on k m n xs ys p q =
           let z : Place = (seen n.view).places u in
           precedes_trans x.done y.done z.done x.dropped y.dropped z.dropped (p.later u) (q.later u);
       exact = λ u. q.exact u ∙ p.exact u;
+      loads = (let first = p.loads in let then = q.loads in omega arith);
       kept = q.kept;
     }
 

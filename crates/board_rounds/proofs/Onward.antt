@@ -12,23 +12,22 @@ use Rattle.armus_base.proofs.Fixed.{action_within}
 use Rattle.board.specs.Seats.{Frame, Known, event_of, aim_at}
 use Rattle.board.specs.Steps.{own_phase}
 use Rattle.board.specs.Views.{own_place, task_of}
-use Rattle.board.specs.inside.Walking.{HasLeft, begins, left_of}
+use Rattle.board.specs.inside.Walking.{begins, left_of}
 use Rattle.board.proofs.Seated.{event_here, next_there, place_made}
 use Rattle.board.proofs.Walking.{IsBefore, before_next}
 use Rattle.board_rounds.specs.declared.deciding.Attempt.TheVariants.{Begun, LockedOut, Refused}
 use Rattle.board_rounds.specs.inside.Attempts.{BeginsOp, IsRefusedAt, drops_below}
-use Rattle.board_rounds.specs.inside.Tasks.{HasCome, MakesSome}
+use Rattle.board_rounds.specs.inside.Tasks.{AreLeft, HasCome, MakesSome}
 use Rattle.board_rounds.specs.Turns.{Acts, AreChildSeats, EndsTurn, Goes, LeadsByCode, Working, tasks_forked}
 use Rattle.board_rounds.proofs.Begun.{left_on}
 use Rattle.board_rounds.proofs.Goings.{acts_alone, same_task, some_steps}
-use Rattle.board_rounds.proofs.Halting.{events_fit, no_refusal}
+use Rattle.board_rounds.proofs.Halting.{events_fit, left_there, no_refusal}
 use Rattle.board_rounds.proofs.Leaving.{drops_counted, drops_fork_nobody, few_memberships}
 
 -- to who has made no step the same ops are left
-left_still : (ops : List Op) (t : ℕ) (k m : Known) → k.view.own ≡ Some t → HasLeft ops k → Goes [] k m → HasLeft ops m
+left_still : (ops : List Op) (t : ℕ) (k m : Known) → k.view.own ≡ Some t → AreLeft ops k → Goes [] k m → AreLeft ops m
 left_still ops t k m own b goes =
     record {
-      free = goes.same.holds ∙ b.free;
       unrefused = ap (λ (x : Place). x.dropped) place ∙ b.unrefused;
       left = (λ i. drop (place i).done (actions (goes.same.plan i) (task i))) ∙ b.left ∙ sym (ap (λ o. left_of o ops) event);
     }
@@ -96,7 +95,7 @@ goes_begins (Adv p) k m goes = goes
 goes_begins (Drop p) k m goes = goes
 goes_begins (Await p off) k m goes = goes
 
-locked_goes : (op : Op) (k m : Known) → BeginsOp op k m LockedOut → (tasks_forked (begins op ∷ []) ≡ []) × Goes [] k m × EndsTurn m
+locked_goes : (op : Op) (k m : Known) → BeginsOp op k m LockedOut → (tasks_forked (begins op ∷ []) ≡ []) × Goes [] k m × EndsTurn k m
 locked_goes (Make p) k m b = absurd b
 locked_goes (Reg c p) k m b = absurd b
 locked_goes (Fork c) k m b = absurd b
@@ -115,7 +114,6 @@ refused_goes (Await p off) k m n b = (refl, aim_at p.0 off, refl, b)
 -- nothing came of it
 still_come : (ops : List Op) (events t : ℕ) (k m : Known) → k.view.own ≡ Some t → HasCome k ops events false → Goes [] k m → HasCome m ops events false
 still_come ops events t k m own w goes = record {
-  free = goes.same.holds ∙ w.free;
   events_are = w.events_are ∙ sym (ap (λ (x : Place). x.done) goes.place);
   ops_are = λ e. left_still ops t k m own (w.ops_are e) goes;
   gone = λ e. absurd (false≢true e);
@@ -137,7 +135,7 @@ module _ (f : Frame) (ops : List Op) (events : ℕ) (k m : Known) (cs ds : List 
 
   module _ (new : List Known) (grown : ds ≡ cs ++ new) (seats : AreChildSeats f (tasks_forked (begins op ∷ [])) new) where
     -- the lock was taken
-    pub locked_out : BeginsOp op k m LockedOut → (Acts f [] before now × EndsTurn m) × HasCome m ops events false
+    pub locked_out : BeginsOp op k m LockedOut → (Acts f [] before now × EndsTurn k m) × HasCome m ops events false
     locked_out is =
         let r = locked_goes op k m is in (
           (record { goes = r.1; refused = λ _. refl; new = new; children = grown; seats = no_seat f (tasks_forked (begins op ∷ [])) new r.0 seats }, r.2),
@@ -154,12 +152,11 @@ module _ (f : Frame) (ops : List Op) (events : ℕ) (k m : Known) (cs ds : List 
     begun_come is =
         let goes = begins_goes op k m is in
         let n = left_on op rest k m b goes in record {
-          free = n.free;
           events_are = (let e = w.events_are in
               let d : (own_place m.view).done ≡ suc (own_place k.view).done =
               ap (λ (x : Place). x.done) goes.place.1 ∙ place_made (own_place k.view).done (own_place k.view).dropped (begins op) b.left.unrefused (no_refusal op) in
               omega arith);
-          ops_are = λ _. n;
+          ops_are = λ _. left_there rest m n;
           gone = λ e. absurd (false≢true e);
         }
 
@@ -192,7 +189,6 @@ module _ (f : Frame) (ops : List Op) (events : ℕ) (k m : Known) (cs ds : List 
           let steps = r.3.goes.place in
           let first = refused_done (own_place k.view).done (own_place k.view).dropped r.1 b.left.unrefused in
           record {
-            free = r.3.goes.same.holds ∙ w.free;
             events_are = w.events_are
                 ∙ sym (stays_done k.view.plan (task_of k.view) (next_place (own_place k.view).done (own_place k.view).dropped (Refuses r.1))
                 (drops_below (own_phase k.view) (length k.view.plan.makers)) (own_place m.view) first.1 steps.1 ∙ first.0);

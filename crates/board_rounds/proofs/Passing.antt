@@ -6,24 +6,23 @@ use Rattle.armus_base.specs.Plans.{Passes}
 use Rattle.armus_base.specs.Runs.{Place}
 use Rattle.board.specs.Seats.{Frame, IsSeat, Known, MakesPass, event_of}
 use Rattle.board.specs.Views.{own_place, task_of}
-use Rattle.board.specs.inside.Walking.{HasLeft}
 use Rattle.board.proofs.Seated.{place_made}
 use Rattle.board.proofs.Walking.{left_passed, passes_next, published_is}
 use Rattle.phase_scan.specs.Looks.{LoadsAlone}
 use Rattle.board_rounds.specs.declared.task.Task.TheInside.{Inside}
-use Rattle.board_rounds.specs.inside.Tasks.{IsWorking, MakesSome}
+use Rattle.board_rounds.specs.inside.Tasks.{AreLeft, IsWorking, MakesSome}
 use Rattle.board_rounds.proofs.Goings.{goes_step, goes_then, own_stays, some_alone, stepped_place}
-use Rattle.board_rounds.proofs.Halting.{events_fit, left_by_loads}
+use Rattle.board_rounds.proofs.Halting.{events_fit, left_by_loads, left_free, left_there}
 
 -- to whom is not refused its ops are left
-pub has_left : (t : Inside) → IsWorking t → (own_place t.seat.view).dropped ≡ None → (t.refused ≡ false) × HasLeft t.cursor t.seat
+pub has_left : (t : Inside) → IsWorking t → (own_place t.seat.view).dropped ≡ None → (t.refused ≡ false) × AreLeft t.cursor t.seat
 has_left t w none = by_flag t.refused refl
   where
-    by_flag : (b : Bool) → t.refused ≡ b → (t.refused ≡ false) × HasLeft t.cursor t.seat
+    by_flag : (b : Bool) → t.refused ≡ b → (t.refused ≡ false) × AreLeft t.cursor t.seat
     by_flag true e = absurd (false≢true (subst IsSome none (w.come.gone e).refused))
     by_flag false e = (e, w.come.ops_are e)
 
-module _ (f : Frame) (t : Inside) (m n : Known) (own : ℕ) (w : IsWorking t) (none : (own_place t.seat.view).dropped ≡ None)
+module _ (f : Frame) (t : Inside) (m n : Known) (own : ℕ) (w : IsWorking t) (free : t.seat.view.holds ≡ false) (none : (own_place t.seat.view).dropped ≡ None)
     (own_is : t.seat.view.own ≡ Some own) (seat : IsSeat t.seat) (event : IsSome (event_of t.seat)) (goes : LoadsAlone t.seat m) (pass : MakesPass m n) where
   pub record Passed : Type 0 where
     pub working : IsWorking (record t { seat = n; events = t.events + 1 })
@@ -36,11 +35,12 @@ module _ (f : Frame) (t : Inside) (m n : Known) (own : ℕ) (w : IsWorking t) (n
       let is : event_of m ≡ Some e.0 = goes.event ∙ e.1 in
       let step = pass e.0 is in
       let was = has_left t w none in
-      let left = left_by_loads t.cursor t.seat m own own_is seat was.1 goes in
+      let here = left_free t.cursor t.seat was.1 free in
+      let left = left_by_loads t.cursor t.seat m own own_is seat here goes in
       let next = passes_next t.cursor m e.0 left is in
       let some =
       some_alone f (Passes e.0.p.0 ∷ []) t.seat n t.children.items 1 (Passes e.0.p.0) seat
-      (passes_next t.cursor t.seat e.0 was.1 e.1)
+      (passes_next t.cursor t.seat e.0 here e.1)
       (goes_then t.seat m n own (Passes e.0.p.0) own_is seat goes (goes_step m n (Passes e.0.p.0) next (λ p h. cc) step)) refl refl (omega arith) (omega arith) in
       let done : (own_place n.view).done ≡ (own_place t.seat.view).done + 1 =
       ap (λ (x : Place). x.done) (stepped_place m n (Passes e.0.p.0) step)
@@ -49,9 +49,8 @@ module _ (f : Frame) (t : Inside) (m n : Known) (own : ℕ) (w : IsWorking t) (n
       record {
         working = record {
           come = record {
-            free = step.same.holds ∙ goes.same.holds ∙ w.come.free;
             events_are = (let n = w.come.events_are in omega arith);
-            ops_are = λ _. left_passed t.cursor m n e.0 own (goes.same.own ∙ own_is) left is step;
+            ops_are = λ _. left_there t.cursor n (left_passed t.cursor m n e.0 own (goes.same.own ∙ own_is) left is step);
             gone = λ e. absurd (false≢true (sym was.0 ∙ e));
           };
           begun = (let l = w.begun in omega arith);

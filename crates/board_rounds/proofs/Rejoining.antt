@@ -12,14 +12,14 @@ use Rattle.armus_base.specs.Limits.{max_tasks}
 use Rattle.armus_base.specs.Seats.{seen_by_child}
 use Rattle.armus_base.proofs.Elements.{Contains-cons_cases, nothing_in_nil}
 use Rattle.board.specs.Seats.{Frame, IsNewSeat, IsOf, Known, nothing_seen}
-use Rattle.board_rounds.specs.Turns.{ActsNoMore, EachActs, EndsTurn, MayTakeTurn, Working, is_done, is_refused}
+use Rattle.board_rounds.specs.Turns.{ActsNoMore, EachActs, HasEndedTurn, MayTakeTurn, Working, is_done, is_refused}
 use Rattle.board_rounds.specs.Crews.{AreTasksOf, IsCrewOf, Tasks, all_of, all_steps, left_to, number, progress_of}
 use Rattle.board_rounds.specs.inside.Rounds.{MakesRound, emptied, fresh_of}
 use Rattle.board_rounds.proofs.Advancing.{all_further, emptied_steps, few_tasks, within_all}
 use Rattle.board_rounds.proofs.Apart.{IsFamily, family_after}
 use Rattle.board_rounds.proofs.Between.{all_from, crew_ready, first_crew, then_crew, then_ends, then_none, to_each}
 use Rattle.board_rounds.proofs.Goings.{task_is}
-use Rattle.board_rounds.proofs.Rounding.{each_on, rest_each}
+use Rattle.board_rounds.proofs.Rounding.{each_ended, each_on, rest_each}
 use Rattle.board_rounds.proofs.Shuffling.{differ_once, once_differ, shuffled}
 
 pub all_push : (P : Working → Type 0) (ws : List Working) (w : Working) → All P ws → P w → All P (ws ++ w ∷ [])
@@ -82,9 +82,9 @@ zeros [] = refl
 zeros (w ∷ ws) = (let r = zeros ws in let s = sum_by-cons (length {A = Action}) (no_steps w) (map no_steps ws) in omega arith)
 
 -- whose task acts no more has ended its turn
-ends_now : (seat : Known) → ActsNoMore seat → EndsTurn seat
-ends_now seat (inl done) = is_done done
-ends_now seat (inr left) = is_refused left
+ends_now : (seat : Known) → ActsNoMore seat → HasEndedTurn seat
+ends_now seat (inl done) = (seat, is_done done)
+ends_now seat (inr left) = (seat, is_refused left)
 
 module _ (f : Frame) (live ended new : List Working) (made : ℕ) (tasks : AreTasksOf f (record { live = live; ended = ended })) (round : MakesRound f live new made) where
   abbrev olds : List Working
@@ -166,12 +166,12 @@ module _ (f : Frame) (live ended new : List Working) (made : ℕ) (tasks : AreTa
   pub round_further : 0 < made → sum_by progress_of olds < sum_by progress_of (new ++ ended)
   round_further l = (let e = events in let m = all_further each (omega arith) in let n = next_steps in omega arith)
 
-  pub round_quiet : made ≡ 0 → All (λ (w : Working). EndsTurn w.seat) (new ++ ended)
+  pub round_quiet : made ≡ 0 → All (λ (w : Working). HasEndedTurn w.seat) (new ++ ended)
   round_quiet z =
-      let ends : All (λ (w : Working). EndsTurn w.seat) turned =
-      All-append (λ (w : Working). EndsTurn w.seat) round.turned ended round.ends
-      (all_from (λ (w : Working). EndsTurn w.seat) ended (λ w i. ends_now w.seat (to_each (λ (v : Working). ActsNoMore v.seat) ended tasks.ended w i))) in
-      all_from (λ (w : Working). EndsTurn w.seat) (new ++ ended)
+      let ends : All (λ (w : Working). HasEndedTurn w.seat) turned =
+      All-append (λ (w : Working). HasEndedTurn w.seat) round.turned ended (each_ended round.ends)
+      (all_from (λ (w : Working). HasEndedTurn w.seat) ended (λ w i. ends_now w.seat (to_each (λ (v : Working). ActsNoMore v.seat) ended tasks.ended w i))) in
+      all_from (λ (w : Working). HasEndedTurn w.seat) (new ++ ended)
       (λ w i.
       then_ends f owns olds turned each whole.crew whole.no_child (sym z ∙ events) ends w.seat
       (w, Contains-permutation (new ++ ended) next w (IsPermutation-sym next (new ++ ended) moved) i, refl))
@@ -229,7 +229,7 @@ new_planned f plan before new made same tasks round =
 pub whole_round :
     (f : Frame) (plan : Plan) (before now : Tasks) (new : List Working) (made : ℕ) → f.plan ≡ plan → AreTasksOf f before → MakesRound f before.live new made →
     IsPermutation (new ++ before.ended) (all_of now) → All (λ (w : Working). ActsNoMore w.seat) now.ended →
-    AreTasksOf f now × (0 < made → left_to plan now < left_to plan before) × (made ≡ 0 → All (λ (w : Working). EndsTurn w.seat) (all_of now))
+    AreTasksOf f now × (0 < made → left_to plan now < left_to plan before) × (made ≡ 0 → All (λ (w : Working). HasEndedTurn w.seat) (all_of now))
 whole_round f plan before now new made same tasks round moved done =
     let middle = new ++ before.ended in
     let whole = shuffled f middle (all_of now) moved (after_round f before.live before.ended new made tasks round) in (
@@ -240,7 +240,7 @@ whole_round f plan before now new made same tasks round moved done =
           let bound = within_all f (is_checked f before.live before.ended new made tasks round) (all_of now) whole in
           let s : all_steps f.plan ≡ all_steps plan = ap all_steps same in
           omega arith),
-      (λ z. All-permutation (λ (w : Working). EndsTurn w.seat) middle (all_of now) moved (round_quiet f before.live before.ended new made tasks round z)),
+      (λ z. All-permutation (λ (w : Working). HasEndedTurn w.seat) middle (all_of now) moved (round_quiet f before.live before.ended new made tasks round z)),
     )
 
 -- task 0 alone

@@ -1,11 +1,10 @@
 -- Turns one after the other, and side by side.
 use Rattle.std.proofs.Common.{◌≡◌, ℕ, zero, suc, ◌+◌, ◌<◌, List, [], ◌∷◌, ◌++◌, Result, Ok, Err, IfOk, All, length, length-append, map, set, get_or, refl, ap, sym, subst, arith, false, ◌∙◌}
 use Rattle.std.proofs.lemmas.List.{map-append, map-id}
-use Rattle.std.proofs.lemmas.List.Elements.{All-append}
 use Rattle.std.proofs.lemmas.List.Sums.{sum_by-append}
 use Rattle.armus_base.specs.Plans.{Action}
 use Rattle.board.specs.Seats.{Frame}
-use Rattle.board_rounds.specs.Turns.{Acts, EachActs, EndsTurn, MayTakeTurn, TakesTurns, Working, no_task, one_task}
+use Rattle.board_rounds.specs.Turns.{Acts, EachActs, EachEndsTurn, EndsTurn, HasEndedTurn, MayTakeTurn, TakesTurns, Working, no_task, no_turn, one_task, one_turn}
 use Rattle.board_rounds.proofs.Goings.{acts_itself}
 
 -- what is read and written in a list, through a function
@@ -23,7 +22,7 @@ map_set f (x ∷ xs) (suc n) v = ap (λ ys. f x ∷ ys) (map_set f xs n v)
 pub data IsSoFar (f : Frame) : ℕ → List (List Action) → List Working → List Working → Type 0 where
   at_rest : {rest : List Working} → IsSoFar f 0 [] rest rest
   one_done :
-      {n : ℕ} {own : List Action} {owns : List (List Action)} {a b : Working} {olds news : List Working} → Acts f own a b → EndsTurn b.seat → IsSoFar f n owns olds news →
+      {n : ℕ} {own : List Action} {owns : List (List Action)} {a b : Working} {olds news : List Working} → Acts f own a b → EndsTurn a.seat b.seat → IsSoFar f n owns olds news →
       IsSoFar f (suc n) (own ∷ owns) (a ∷ olds) (b ∷ news)
 
 -- what is true of each of a list is true of the first, and of each of the others
@@ -51,14 +50,14 @@ next_is P d at_rest all l = first_is P d _ all l
 next_is P d (one_done acts ends p) all l = next_is P d p (all_rest P _ _ all) (omega arith)
 
 first_done :
-    (f : Frame) (own : List Action) (d w : Working) (rest : List Working) → 0 < length rest → Acts f own (get_or rest 0 d) w → EndsTurn w.seat → IsSoFar f 1 (own ∷ []) rest (set rest 0 w)
+    (f : Frame) (own : List Action) (d w : Working) (rest : List Working) → 0 < length rest → Acts f own (get_or rest 0 d) w → EndsTurn (get_or rest 0 d).seat w.seat → IsSoFar f 1 (own ∷ []) rest (set rest 0 w)
 first_done f own d w [] l acts ends = absurd (omega arith)
 first_done f own d w (b ∷ rest) l acts ends = one_done acts ends at_rest
 
 -- the next has had its turn
 pub next_done :
     {f : Frame} {n : ℕ} {owns : List (List Action)} {olds news : List Working} (own : List Action) (d w : Working) → IsSoFar f n owns olds news → n < length news →
-    Acts f own (get_or news n d) w → EndsTurn w.seat → IsSoFar f (suc n) (owns ++ own ∷ []) olds (set news n w)
+    Acts f own (get_or news n d) w → EndsTurn (get_or news n d).seat w.seat → IsSoFar f (suc n) (owns ++ own ∷ []) olds (set news n w)
 next_done own d w at_rest l acts ends = first_done _ own d w _ l acts ends
 next_done own d w (one_done acts' ends' p) l acts ends = one_done acts' ends' (next_done own d w p (omega arith) acts ends)
 
@@ -85,8 +84,8 @@ none_each : (f : Frame) (rest : List Working) → 0 ≡ length rest → EachActs
 none_each f [] e = no_task
 none_each f (w ∷ rest) e = absurd (omega arith)
 
-none_end : (rest : List Working) → 0 ≡ length rest → All (λ (w : Working). EndsTurn w.seat) rest
-none_end [] e = all_none (λ (w : Working). EndsTurn w.seat)
+none_end : (rest : List Working) → 0 ≡ length rest → EachEndsTurn rest rest
+none_end [] e = no_turn
 none_end (w ∷ rest) e = absurd (omega arith)
 
 -- all have had their turns
@@ -94,9 +93,9 @@ pub all_each : {f : Frame} {n : ℕ} {owns : List (List Action)} {olds news : Li
 all_each at_rest e = none_each _ _ e
 all_each (one_done acts ends p) e = one_task acts (all_each p (omega arith))
 
-pub all_end : {f : Frame} {n : ℕ} {owns : List (List Action)} {olds news : List Working} → IsSoFar f n owns olds news → n ≡ length news → All (λ (w : Working). EndsTurn w.seat) news
+pub all_end : {f : Frame} {n : ℕ} {owns : List (List Action)} {olds news : List Working} → IsSoFar f n owns olds news → n ≡ length news → EachEndsTurn olds news
 all_end at_rest e = none_end _ e
-all_end (one_done acts ends p) e = all_more (λ (w : Working). EndsTurn w.seat) _ _ ends (all_end p (omega arith))
+all_end (one_done acts ends p) e = one_turn ends (all_end p (omega arith))
 
 -- memory ran out
 pub stopped :
@@ -117,6 +116,15 @@ pub each_on :
 each_on owns' olds' news' no_task q = q
 each_on owns' olds' news' (one_task acts p) q = one_task acts (each_on owns' olds' news' p q)
 
+ends_on : {olds news olds' news' : List Working} → EachEndsTurn olds news → EachEndsTurn olds' news' → EachEndsTurn (olds ++ olds') (news ++ news')
+ends_on no_turn q = q
+ends_on (one_turn ends p) q = one_turn ends (ends_on p q)
+
+-- of each task a turn has ended then
+pub each_ended : {olds news : List Working} → EachEndsTurn olds news → All (λ (w : Working). HasEndedTurn w.seat) news
+each_ended no_turn = all_none (λ (w : Working). HasEndedTurn w.seat)
+each_ended (one_turn {before = before} ends p) = all_more (λ (w : Working). HasEndedTurn w.seat) _ _ (before.seat, ends) (each_ended p)
+
 pub turns_on :
     {E : Type 0} (f : Frame) (olds news olds' news' : List Working) (x y : Result ℕ E) (m n : ℕ) → x ≡ Ok m → y ≡ Ok n → TakesTurns f olds news x → TakesTurns f olds' news' y →
     TakesTurns {E = E} f (olds ++ olds') (news ++ news') (Ok (m + n))
@@ -128,7 +136,7 @@ turns_on f olds news olds' news' x y m n xs ys p' q' =
       each = each_on q.owns olds' news' p.each q.each;
       events = (let s = sum_by-append length p.owns q.owns in let a = p.events in let b = q.events in omega arith);
       few = (let s = length-append olds olds' in let a = p.few in let b = q.few in omega arith);
-      ends = All-append (λ (w : Working). EndsTurn w.seat) news news' p.ends q.ends;
+      ends = ends_on p.ends q.ends;
     }
 
 pub both_each :

@@ -6,7 +6,7 @@ use Rattle.armus_base.specs.Seats.{SeenBy}
 use Rattle.board.specs.Views.{own_place, seen, task_of}
 use Rattle.board.specs.Seats.{Frame, IsOf, IsSeat, Known}
 use Rattle.pl_core.specs.declared.place.Place.{Place as KeptPlace}
-use Rattle.board_rounds.specs.Turns.{ActsNoMore, EndsTurn, Working, standing_of}
+use Rattle.board_rounds.specs.Turns.{ActsNoMore, HasEndedTurn, Working, standing_of}
 
 -- task 0 is exact, and so is each task that an exact one forks before its place
 pub record IsClosed (plan : Plan) (seen : SeenBy) : Type 0 where
@@ -95,7 +95,7 @@ pub record AreTasksOf (board : Frame) (tasks : Tasks) : Type 0 where
 
 -- each of these tasks has come to the end of its turn
 pub record HaveEnded (tasks : List Working) : Type 0 where
-  pub each : All (λ task. EndsTurn task.seat) tasks
+  pub each : All (λ task. HasEndedTurn task.seat) tasks
 
 -- how much is left to these tasks of a plan
 abbrev pub left_to : Plan → Tasks → ℕ

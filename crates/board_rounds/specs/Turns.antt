@@ -1,5 +1,5 @@
 -- What the turns of tasks make of their seats and of their children's.
-use Rattle.std.specs.Prelude.{true, ◌≡◌, ◌≢◌, ℕ, ◌+◌, ◌<◌, ◌≤◌, ◌⊎◌, false, List, [], ◌∷◌, ◌++◌, Some, None, length, IsSome, is_some, Result, IfOk, OnOk, All, sum_by, ◌*◌}
+use Rattle.std.specs.Prelude.{true, ◌≡◌, ◌≢◌, ℕ, ◌+◌, ◌<◌, ◌≤◌, ◌⊎◌, false, List, [], ◌∷◌, ◌++◌, Some, None, length, IsSome, is_some, Result, IfOk, OnOk, sum_by, ◌*◌}
 use Rattle.armus_base.specs.declared.event.Event.{Event}
 use Rattle.armus_base.specs.Limits.{max_ops, max_phasers}
 use Rattle.armus_base.specs.Plans.{Plan, Action, Forks, action_at, actions}
@@ -9,8 +9,9 @@ use Rattle.armus_base.specs.Seats.{MayHold}
 use Rattle.pl_core.specs.declared.place.Place.{Place as KeptPlace}
 use Rattle.board.specs.Views.{avoids, own_place, seen, task_of}
 use Rattle.board.specs.Steps.{IsSameSeat, own_phase}
-use Rattle.board.specs.Locking.{IsBeforeAwait}
+use Rattle.board.specs.Locking.{FindsHeld, IsBeforeAwait}
 use Rattle.board.specs.Seats.{Frame, IsOf, IsSeat, Known, event_of}
+use Rattle.phase_scan.specs.Looks.{FindsBehind}
 use Rattle.board_rounds.specs.declared.task.Pause.{Pause}
 use Rattle.board_rounds.specs.declared.task.Pause.TheVariants.{Forked, TurnOver}
 
@@ -51,6 +52,7 @@ pub record Goes (own : List Action) (before now : Known) : Type 0 where
   pub place : LeadsByCode before.view.plan (task_of before.view) (own_place before.view) own (own_place now.view)
   pub later : (u : ℕ) → IsPrefix ((seen before.view).places u) ((seen now.view).places u)
   pub exact : (u : ℕ) → (seen now.view).exact u ≡ (seen before.view).exact u
+  pub loads : before.view.loads ≤ now.view.loads
   pub kept : IsSeat now
 
 -- a task has made these steps, of which a refused one makes none, and has the seats of the children that it forked by them
@@ -95,23 +97,42 @@ ActsNoMore seat = IsDone seat ⊎ HasLeftAll seat
 abbrev pub standing_of : Known → KeptPlace
 standing_of seat = record { events = (own_place seat.view).done; refused = is_some (own_place seat.view).dropped }
 
--- How a turn ends, by what the seat has seen: its task is done; or it is refused and a member of nothing; or it is published, and the task that is
--- scanned next is seen behind; or, where deadlock is avoided, it stands before an await that it has not published, and another task is seen at a place
--- at which it may hold the lock.
-pub data EndsTurn (seat : Known) : Type 0 where
-  is_done : IsDone seat → EndsTurn seat
-  is_refused : HasLeftAll seat → EndsTurn seat
+-- The seat's last load was that of a look, which found a member of its event's phaser behind; it had made as many loads when it began to look as it had
+-- before, or more.
+pub record FoundBehindSince (before now : Known) : Type 0 where
+  pub between : Known
+  pub since : before.view.loads ≤ between.view.loads
+  pub task : ℕ
+  pub phase : ℕ
+  pub found : FindsBehind task phase between now
+
+-- The last that the seat did was a try for the lock, which found it held by task u; it had made as many loads then as it had before, or more.
+pub record FoundHeldSince (u : ℕ) (before now : Known) : Type 0 where
+  pub between : Known
+  pub since : before.view.loads ≤ between.view.loads
+  pub found : FindsHeld u between now
+
+-- How a turn ends that began where the seat stood before, by what the seat has seen: its task is done; or it is refused and a member of nothing; or it
+-- is published, and the task that is scanned next is seen behind, as a look of this turn found; or, where deadlock is avoided, it stands before an await
+-- that it has not published, and another task, which it found to hold the lock, is seen at a place at which it may hold it.
+pub data EndsTurn (before now : Known) : Type 0 where
+  is_done : IsDone now → EndsTurn before now
+  is_refused : HasLeftAll now → EndsTurn before now
   is_behind :
-      (e : Event) → event_of seat ≡ Some e → (seen seat.view).scanned < length seat.view.plan.parents →
-      IsSeenBehind seat e (seen seat.view).scanned → EndsTurn seat
+      (e : Event) → event_of now ≡ Some e → (seen now.view).scanned < length now.view.plan.parents →
+      IsSeenBehind now e (seen now.view).scanned → FoundBehindSince before now → EndsTurn before now
   is_locked_out :
-      (u : ℕ) → avoids seat.view.mode ≡ true → IsBeforeAwait seat → u ≢ task_of seat.view →
-      MayHold seat.view.plan u ((seen seat.view).places u) → EndsTurn seat
+      (u : ℕ) → avoids now.view.mode ≡ true → IsBeforeAwait now → u ≢ task_of now.view →
+      MayHold now.view.plan u ((seen now.view).places u) → FoundHeldSince u before now → EndsTurn before now
+
+-- the seat stands where some turn of it has ended
+abbrev pub HasEndedTurn : Known → Type 0
+HasEndedTurn now = (before : Known) × EndsTurn before now
 
 -- Why a task acts no further: it has forked a task, whose seat is new among its children's; or its turn is over, and it has forked nobody.
 abbrev pub PausesAt : Pause → Working → Working → Type 0
 PausesAt Forked before now = (seat : Known) × now.children ≡ before.children ++ seat ∷ []
-PausesAt TurnOver before now = EndsTurn now.seat × now.children ≡ before.children
+PausesAt TurnOver before now = EndsTurn before.seat now.seat × now.children ≡ before.children
 
 -- a task of this board whose turn may come: its seat does not hold the lock
 pub record MayTakeTurn (board : Frame) (task : Working) : Type 0 where
@@ -126,10 +147,17 @@ pub data EachActs (board : Frame) : List (List Action) → List Working → List
       {own : List Action} {owns : List (List Action)} {before now : Working} {befores nows : List Working} →
       Acts board own before now → EachActs board owns befores nows → EachActs board (own ∷ owns) (before ∷ befores) (now ∷ nows)
 
+-- each task has come to the end of its turn
+pub data EachEndsTurn : List Working → List Working → Type 0 where
+  no_turn : EachEndsTurn [] []
+  one_turn :
+      {before now : Working} {befores nows : List Working} → EndsTurn before.seat now.seat → EachEndsTurn befores nows →
+      EachEndsTurn (before ∷ befores) (now ∷ nows)
+
 -- Each task has made its own steps. Where memory lasted, each has come to the end of its turn, and all their steps are counted.
 pub record TakesTurns {E : Type 0} (board : Frame) (befores nows : List Working) (counted : Result ℕ E) : Type 0 where
   pub owns : List (List Action)
   pub each : EachActs board owns befores nows
   pub events : IfOk counted (λ n. n ≡ sum_by length owns)
   pub few : IfOk counted (λ n. n ≤ length befores * max_events)
-  pub ends : OnOk counted (All (λ task. EndsTurn task.seat) nows)
+  pub ends : OnOk counted (EachEndsTurn befores nows)

@@ -195,7 +195,6 @@ fn add_children<'p>(
     children: &mut Vec<Task<'p>>,
 ) -> Result<(), NoMemory>
     requires first { All (λ seat. own_place seat.view ≡ first_place) task.old.children }
-    requires free { All (λ seat. seat.view.holds ≡ false) task.old.children }
     requires plan { All (λ seat. seat.view.plan ≡ plan.now) task.old.children }
     ensures task { OnOk result (task.new ≡ emptied task.old) }
     ensures children { OnOk result (children.new.items ≡ children.old.items ++ fresh_of task.old) }

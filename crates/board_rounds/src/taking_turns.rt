@@ -1,5 +1,5 @@
 // Whoever takes turns in a round on a board.
-ghost use Rattle.std.specs.Prelude.{◌≡◌, ◌≤◌, List, IfOk, OnOk, length};
+ghost use Rattle.std.specs.Prelude.{◌≡◌, ◌≤◌, List, false, IfOk, OnOk, length};
 ghost use Rattle.armus_base.specs.Plans.{Action};
 ghost use Rattle.board.specs.Seats.{IsOf};
 ghost use Rattle.board_rounds.specs.Turns.{Acts, EndsTurn, max_events};
@@ -28,7 +28,8 @@ pub(crate) trait TakeTurn {
         gate: &C,
     ) -> Result<u32, NoMemory>
         requires made { IsOf (working self.old).seat board.now }
+        requires free { (working self.old).seat.view.holds ≡ false }
         ensures acts { (own : List Action) × Acts board.now own (working self.old) (working self.new) × IfOk result (λ n. n ≡ length own) }
         ensures few { IfOk result (λ n. n ≤ max_events) }
-        ensures ends { OnOk result (EndsTurn (working self.new).seat) };
+        ensures ends { OnOk result (EndsTurn (working self.old).seat (working self.new).seat) };
 }

@@ -1,5 +1,5 @@
 // A task of a run: its seat, how far it has come, and the seats of the children that it forked.
-ghost use Rattle.std.specs.Prelude.{◌≡◌, ◌+◌, ◌++◌, ◌≤◌, ◌<◌, ◌^◌, ℕ, [], ◌∷◌, List, Some, None, false, true, IfOk, IfSome, IsSome, OnOk, OnErr, length};
+ghost use Rattle.std.specs.Prelude.{◌≡◌, ◌↔◌, ◌+◌, ◌++◌, ◌≤◌, ◌<◌, ◌^◌, ℕ, [], ◌∷◌, List, Some, None, false, IfOk, IfSome, IsSome, IsTrue, OnOk, OnErr, length};
 ghost use Rattle.armus_base.specs.Plans.{Action};
 ghost use Rattle.armus_base.specs.Runs.{first_place};
 ghost use Rattle.board.specs.Views.{own_place};
@@ -67,7 +67,6 @@ impl<'p> Task<'p> {
     /// The task of a seat that has made no step, on a board of this plan. It stands before its first op, and has no child's seat.
     pub fn new(alloc: Global, seat: TaskSeat, plan: &'p Plan) -> Task<'p>
         requires first { own_place seat.view ≡ first_place }
-        requires free { seat.view.holds ≡ false }
         requires plan { seat.view.plan ≡ plan.now }
         ensures seat { result.seat ≡ seat }
         ensures no_child { result.children ≡ [] }
@@ -111,7 +110,7 @@ impl<'p> Task<'p> {
 
     /// Whether it acts no more: its code is done, or it is refused.
     pub fn has_ended(&self) -> bool
-        ensures { result ≡ true → ActsNoMore self.now.seat }
+        ensures { IsTrue result ↔ ActsNoMore self.now.seat }
     {
         if self.refused {
             return true;
@@ -138,6 +137,7 @@ impl<'p> Task<'p> {
         gate: &C,
     ) -> Result<Acted, NoMemory>
         requires made { IsOf self.old.seat board.now }
+        requires free { self.old.seat.view.holds ≡ false }
         ensures acts { (own : List Action) × Acts board.now own self.old self.new × IfOk result (λ acted. acted.events ≡ length own) }
         ensures few { (n : ℕ) → CountsEvents n self.old → IfOk result (λ acted. CountsEvents (n + acted.events) self.new) }
         ensures pause { IfOk result (λ acted. PausesAt acted.pause self.old self.new) }
@@ -166,8 +166,9 @@ impl<'p> Task<'p> {
         gate: &C,
     ) -> Result<Option<u32>, NoMemory>
         requires made { IsOf self.old.seat board.now }
+        requires free { self.old.seat.view.holds ≡ false }
         ensures some { IfOk result (λ o. IfSome o (λ n. MakesSome board.now n self.old self.new)) }
-        ensures none { IfOk result (λ o. o ≡ None → Acts board.now [] self.old self.new × EndsTurn self.new.seat) }
+        ensures none { IfOk result (λ o. o ≡ None → Acts board.now [] self.old self.new × EndsTurn self.old.seat self.new.seat) }
         ensures err { OnErr result (Acts board.now [] self.old self.new) }
     {
         let t = self.seat.id();
@@ -200,10 +201,11 @@ impl<'p> Task<'p> {
     // Passes the await on which it is published, if its event is reached; answers how many events happened.
     fn pass(&mut self, board: &Board) -> Option<u32>
         requires made { IsOf self.old.seat board.now }
+        requires free { self.old.seat.view.holds ≡ false }
         requires unrefused { (own_place self.old.seat.view).dropped ≡ None }
         requires event { IsSome (event_of self.old.seat) }
         ensures some { IfSome result (λ n. MakesSome board.now n self.old self.new) }
-        ensures none { result ≡ None → Acts board.now [] self.old self.new × EndsTurn self.new.seat }
+        ensures none { result ≡ None → Acts board.now [] self.old self.new × EndsTurn self.old.seat self.new.seat }
     {
         let _ = self.seat.id();
         match look(&mut self.seat, board) {

@@ -18,7 +18,7 @@ use Rattle.board.specs.Views.{avoids, own_place, seen}
 use Rattle.board.specs.Words.{IsShown}
 use Rattle.board.proofs.Seated.{event_here}
 use Rattle.phase_scan.specs.Looks.{LoadsAlone}
-use Rattle.board_rounds.specs.Turns.{EndsTurn, Working, is_behind, is_done, is_locked_out, is_refused, standing_of}
+use Rattle.board_rounds.specs.Turns.{EndsTurn, HasEndedTurn, Working, is_behind, is_done, is_locked_out, is_refused, standing_of}
 use Rattle.board_rounds.specs.Crews.{ArePlacesOf, IsCrew, IsSeatIn, KnowsTasks, number}
 use Rattle.task_runner.specs.DetectRuns.{AreSettledPlaces}
 use Rattle.task_runner.proofs.BoardPlaces.{at_places, stands, whose}
@@ -78,31 +78,32 @@ module _ (f : Frame) (detects : f.mode ≡ Detect) (tasks : List Working) (crew 
       (subst (λ (o : Option ℕ). IsShown f.plan (state_at f.plan a) o words) (sym end.last.lawful.held ∙ no_holder end.last.lawful.entries end.last.lawful.run.1) end.last.shown)
 
   ended :
-      (w : Working) → Contains tasks w → EndsTurn w.seat → (action_at f.plan (number w) (own_place w.seat.view).done ≡ None)
+      (w : Working) → Contains tasks w → (since : Known) → EndsTurn since w.seat → (action_at f.plan (number w) (own_place w.seat.view).done ≡ None)
       ⊎ IsSome (published_after f.plan (number w) (own_place w.seat.view).done)
-  ended w i (is_done done) =
+  ended w i since (is_done done) =
       let s = crew.each w.seat (w, i, refl) in
       inl (ap (λ (q : Plan). action_at q (number w) (own_place w.seat.view).done) (sym s.of_board.plan) ∙ done.past)
-  ended w i (is_refused left) = absurd (false≢true (subst IsSome (unrefused w i) left.refused))
-  ended w i (is_locked_out u mode at other may) =
+  ended w i since (is_refused left) = absurd (false≢true (subst IsSome (unrefused w i) left.refused))
+  ended w i since (is_locked_out u mode at other may held) =
       let s = crew.each w.seat (w, i, refl) in
       absurd (false≢true (sym (ap avoids (s.of_board.mode ∙ detects)) ∙ mode))
-  ended w i (is_behind e published few behind) =
+  ended w i since (is_behind e published few behind found) =
       let s = crew.each w.seat (w, i, refl) in
       let is : published_after f.plan (number w) (own_place w.seat.view).done ≡ Some e =
       ap (λ (q : Plan). published_after q (number w) (own_place w.seat.view).done) (sym s.of_board.plan) ∙ sym (event_here w.seat s.task s.own) ∙ published in
       inr (subst (λ o. IsSome o) (sym is) refl)
 
   -- where all of them have come to the end of their turns
-  pub settled : All (λ (w : Working). EndsTurn w.seat) tasks → AreSettledPlaces f.plan (places_at f.plan places)
+  pub settled : All (λ (w : Working). HasEndedTurn w.seat) tasks → AreSettledPlaces f.plan (places_at f.plan places)
   settled ends =
       subst (AreSettledPlaces f.plan) (sym there)
       (λ t forked.
       let r = owner t forked in
       let place : own_place r.0.seat.view ≡ a t = sym (stood r.0 r.1) ∙ ap a r.2 in
-      let e = ended r.0 r.1 (all_each tasks ends r.0 r.1) in
+      let turn = all_each tasks ends r.0 r.1 in
+      let e = ended r.0 r.1 turn.0 turn.1 in
       subst (λ u. (action_at f.plan u (a t).done ≡ None) ⊎ IsSome (published_after f.plan u (a t).done)) r.2
       (subst (λ (b : Place). (action_at f.plan (number r.0) b.done ≡ None) ⊎ IsSome (published_after f.plan (number r.0) b.done)) place e))
     where
-      all_each : (ws : List Working) → All (λ (w : Working). EndsTurn w.seat) ws → (w : Working) → Contains ws w → EndsTurn w.seat
-      all_each ws all w i = subst (λ (v : Working). EndsTurn v.seat) i.2 (all i.0 w i.1)
+      all_each : (ws : List Working) → All (λ (w : Working). HasEndedTurn w.seat) ws → (w : Working) → Contains ws w → HasEndedTurn w.seat
+      all_each ws all w i = subst (λ (v : Working). HasEndedTurn v.seat) i.2 (all i.0 w i.1)

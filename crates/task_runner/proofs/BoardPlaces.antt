@@ -25,7 +25,7 @@ use Rattle.board.proofs.Closing.{some_task}
 use Rattle.board.proofs.Seated.{event_here, next_there}
 use Rattle.phase_scan.specs.Looks.{LoadsAlone}
 use Rattle.phase_scan.proofs.Loads.{goes_itself}
-use Rattle.board_rounds.specs.Turns.{EndsTurn, HasLeftAll, Working, is_behind, is_done, is_locked_out, is_refused, standing_of}
+use Rattle.board_rounds.specs.Turns.{EndsTurn, HasEndedTurn, HasLeftAll, Working, is_behind, is_done, is_locked_out, is_refused, standing_of}
 use Rattle.board_rounds.specs.Crews.{ArePlacesOf, IsClosed, IsCrew, IsCrewOf, IsSeatIn, KnowsTasks, number}
 use Rattle.board_rounds.proofs.Closed.{all_exact}
 
@@ -87,11 +87,11 @@ module _ (f : Frame) (mode : Mode) (tasks : List Working) (crew : IsCrew f (IsSe
       undropped (Some q) e = (let w = whose t (consistent.refused t q e).0 in absurd (none w.0 w.1 w.2))
 
   -- a task whose turn has ended, and that is refused, is a member of nothing
-  pub has_left : (w : Working) → Contains tasks w → EndsTurn w.seat → IsSome (own_place w.seat.view).dropped → HasLeftAll w.seat
-  has_left w i (is_done done) some = absurd (false≢true (subst IsSome done.unrefused some))
-  has_left w i (is_refused left) some = left
-  has_left w i (is_locked_out u mode at other may) some = absurd (false≢true (subst IsSome (next_there w.seat.view (Blocks at.0) at.1).0 some))
-  has_left w i (is_behind e published few behind) some =
+  pub has_left : (w : Working) → Contains tasks w → (since : Known) → EndsTurn since w.seat → IsSome (own_place w.seat.view).dropped → HasLeftAll w.seat
+  has_left w i since (is_done done) some = absurd (false≢true (subst IsSome done.unrefused some))
+  has_left w i since (is_refused left) some = left
+  has_left w i since (is_locked_out u mode at other may held) some = absurd (false≢true (subst IsSome (next_there w.seat.view (Blocks at.0) at.1).0 some))
+  has_left w i since (is_behind e published few behind found) some =
       let s = crew.each w.seat (w, i, refl) in
       let is : published_after f.plan (number w) (a (number w)).done ≡ Some e =
       ap (λ (b : Place). published_after f.plan (number w) b.done) (stands w i)
@@ -161,11 +161,13 @@ module _ (f : Frame) (mode : Mode) (tasks : List Working) (crew : IsCrew f (IsSe
 -- where all turns have ended, the places that the seats tell are lawful, and those of the board
 pub lawful_end :
     (f : Frame) (mode : Mode) (tasks : List Working) → IsCrewOf f tasks → (view : Known) → IsSeat view → KnowsTasks f tasks view → IsOf view f → (words : List ℕ) →
-    AreLastOf f.plan mode (seen view.view) words → All (λ (w : Working). EndsTurn w.seat) tasks → (places : List KeptPlace) → ArePlacesOf f.plan tasks places →
+    AreLastOf f.plan mode (seen view.view) words → All (λ (w : Working). HasEndedTurn w.seat) tasks → (places : List KeptPlace) → ArePlacesOf f.plan tasks places →
     (lock : Option ℕ) × IsLawful (avoids mode) f.plan (places_at f.plan places) lock
 lawful_end f mode tasks whole view seat known of words end ends places are =
     let still = goes_itself view seat in (
       end.last.lock,
       lawful_there f mode tasks whole.crew view view known still of words end places are
-          (λ w i. has_left f mode tasks whole.crew view view known still of words end w i (subst (λ (v : Working). EndsTurn v.seat) i.2 (ends i.0 w i.1))),
+          (λ w i.
+          let turn = subst (λ (v : Working). HasEndedTurn v.seat) i.2 (ends i.0 w i.1) in
+          has_left f mode tasks whole.crew view view known still of words end w i turn.0 turn.1),
     )

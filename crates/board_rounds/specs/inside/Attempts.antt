@@ -42,7 +42,7 @@ pub record IsRefusedAt (aim : Aim) (drops : ℕ) (before now : Known) : Type 0 w
 
 -- What came of an attempt at the await with this aim that comes next: the lock was found taken, and the turn is over; or it was published; or it was refused.
 abbrev pub IsAttempt : Aim → Known → Known → Attempt → Type 0
-IsAttempt aim before now LockedOut = Goes [] before now × EndsTurn now
+IsAttempt aim before now LockedOut = Goes [] before now × EndsTurn before now
 IsAttempt aim before now Begun = Goes (Blocks aim ∷ []) before now
 IsAttempt aim before now (Refused drops) = IsRefusedAt aim drops before now
 

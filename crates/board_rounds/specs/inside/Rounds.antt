@@ -1,11 +1,11 @@
 -- What a round of turns makes of the tasks, and of the seats of the children whom they forked.
-use Rattle.std.specs.Prelude.{false, map, flat_map, ◌≡◌, ℕ, List, [], ◌++◌, All, Contains, length, sum_by}
+use Rattle.std.specs.Prelude.{map, flat_map, ◌≡◌, ℕ, List, [], ◌++◌, Contains, length, sum_by}
 use Rattle.std.specs.List.Sorted.{IsPermutation}
 use Rattle.armus_base.specs.Plans.{Action, Plan}
 use Rattle.armus_base.specs.Runs.{first_place}
 use Rattle.board.specs.Views.{own_place}
 use Rattle.board.specs.Seats.{Frame, Known}
-use Rattle.board_rounds.specs.Turns.{EachActs, EndsTurn, Working}
+use Rattle.board_rounds.specs.Turns.{EachActs, EachEndsTurn, Working}
 
 -- the seat of a child which one of these tasks forked
 abbrev pub IsChildIn : List Working → Known → Type 0
@@ -13,7 +13,7 @@ IsChildIn tasks seat = (task : Working) × Contains tasks task × Contains task.
 
 -- a seat of a board of this plan, whose task has made no step
 abbrev pub IsAtStart : Plan → Known → Type 0
-IsAtStart plan seat = own_place seat.view ≡ first_place × seat.view.holds ≡ false × seat.view.plan ≡ plan
+IsAtStart plan seat = own_place seat.view ≡ first_place × seat.view.plan ≡ plan
 
 -- a task whose children's seats were taken
 abbrev pub emptied : Working → Working
@@ -34,5 +34,5 @@ pub record MakesRound (board : Frame) (before now : List Working) (made : ℕ) :
   pub turned : List Working
   pub each : EachActs board owns before turned
   pub events : made ≡ sum_by length owns
-  pub ends : All (λ task. EndsTurn task.seat) turned
+  pub ends : EachEndsTurn before turned
   pub joined : IsPermutation (map emptied turned ++ flat_map fresh_of turned) now

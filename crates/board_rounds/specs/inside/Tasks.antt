@@ -1,11 +1,11 @@
 -- What is true of each task.
-use Rattle.std.specs.Prelude.{◌≡◌, ℕ, Bool, true, false, ◌+◌, ◌<◌, ◌≤◌, List, length}
+use Rattle.std.specs.Prelude.{◌≡◌, ℕ, Bool, true, false, ◌+◌, ◌<◌, ◌≤◌, List, None, drop, length}
 use Rattle.armus_base.specs.declared.op.Op.{Op}
 use Rattle.armus_base.specs.Limits.{max_phasers}
 use Rattle.armus_base.specs.Plans.{Action, actions}
-use Rattle.board.specs.Seats.{Frame, Known}
+use Rattle.board.specs.Seats.{Frame, Known, event_of}
 use Rattle.board.specs.Views.{own_place, task_of}
-use Rattle.board.specs.inside.Walking.{HasLeft}
+use Rattle.board.specs.inside.Walking.{left_of}
 use Rattle.board_rounds.specs.declared.task.Task.TheInside.{Inside}
 use Rattle.board_rounds.specs.Turns.{Acts, HasLeftAll, Working}
 
@@ -13,12 +13,15 @@ use Rattle.board_rounds.specs.Turns.{Acts, HasLeftAll, Working}
 abbrev pub working_of : Inside → Working
 working_of t = record { seat = t.seat; children = t.children.items }
 
--- The seat's task has made so many events of its code, and does not hold the lock; and it is refused and a member of nothing, or has begun all ops but
--- these.
+-- the seat's task is not refused, and has begun all ops of its code but these
+pub record AreLeft (ops : List Op) (seat : Known) : Type 0 where
+  pub unrefused : (own_place seat.view).dropped ≡ None
+  pub left : drop (own_place seat.view).done (actions seat.view.plan (task_of seat.view)) ≡ left_of (event_of seat) ops
+
+-- The seat's task has made so many events of its code; and it is refused and a member of nothing, or has begun all ops but these.
 pub record HasCome (seat : Known) (ops : List Op) (events : ℕ) (refused : Bool) : Type 0 where
-  pub free : seat.view.holds ≡ false
   pub events_are : events ≡ (own_place seat.view).done
-  pub ops_are : refused ≡ false → HasLeft ops seat
+  pub ops_are : refused ≡ false → AreLeft ops seat
   pub gone : refused ≡ true → HasLeftAll seat
 
 -- its fields tell how far it has come, and each op that it has begun was an event

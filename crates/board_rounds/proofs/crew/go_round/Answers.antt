@@ -2,7 +2,7 @@ use Rattle.std.proofs.Common.{◌≡◌, ◌++◌, List, [], All, length, drop, 
 use Rattle.std.specs.List.{flat_map}
 use Rattle.std.specs.List.Sorted.{IsPermutation}
 use Rattle.armus_base.specs.Plans.{Plan}
-use Rattle.board_rounds.specs.Turns.{EachActs, MayTakeTurn, Working}
+use Rattle.board_rounds.specs.Turns.{EachActs, EachEndsTurn, MayTakeTurn, Working}
 use Rattle.board_rounds.specs.inside.Rounds.{IsAtStart, IsChildIn, emptied, fresh_of}
 use Rattle.board_rounds.proofs.Between.{take_front, to_each}
 use Rattle.board_rounds.proofs.Crewing.{starts}
@@ -31,7 +31,7 @@ returns g c =
         turned = c.take_turns.new.tasks;
         each = subst (λ (ws : List Working). EachActs c.args.board.now turns.owns ws c.take_turns.new.tasks) c.as_mut_slice-turned.ensures.value turns.each;
         events = turns.events;
-        ends = turns.ends;
+        ends = subst (λ (ws : List Working). EachEndsTurn ws c.take_turns.new.tasks) c.as_mut_slice-turned.ensures.value turns.ends;
         joined =
             subst (λ (ws : List Working). IsPermutation (map emptied ws ++ flat_map fresh_of ws) c.take_on.new.tasks.items) whole c.in_ok-take_on.ensures.joined;
       };

@@ -22,8 +22,7 @@ add_children-requires c =
       subst (λ (w : Working). Contains w.children (get_or (get_or c.loop-task.tasks n d).children k e)) (there d i.0) (contains_at (get_or c.loop-task.tasks n d).children k e less),
     ) in record {
       first = λ k e less. (start k e less).0;
-      free = λ k e less. (start k e less).1;
-      plan = λ k e less. (start k e less).2;
+      plan = λ k e less. (start k e less).1;
     }
 
 pub loop-task-preserved : goal.loop-task-preserved

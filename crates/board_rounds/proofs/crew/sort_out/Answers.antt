@@ -13,7 +13,7 @@ loop-task-preserved-in-Continue-1 c =
       same = subst (λ (ws : List Working). IsPermutation (E ++ Y) (c.loop-task.live.items ++ ws)) (sym c.in_ok-push.ensures.items) (one_ends E c.loop-task.yielded c.loop-task.live.items c.loop-task.ended.items c.in-Some.task i.same);
       ended =
           subst (λ (ws : List Working). All (λ (w : Working). ActsNoMore w.seat) ws) (sym c.in_ok-push.ensures.items)
-          (all_push (λ (w : Working). ActsNoMore w.seat) c.loop-task.ended.items c.in-Some.task i.ended (c.has_ended.ensures c.if-has_ended.true));
+          (all_push (λ (w : Working). ActsNoMore w.seat) c.loop-task.ended.items c.in-Some.task i.ended (c.has_ended.ensures.0 c.if-has_ended.true));
     }
 
 pub loop-task-preserved : goal.loop-task-preserved

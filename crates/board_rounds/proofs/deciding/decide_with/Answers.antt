@@ -6,7 +6,7 @@ use Rattle.board.specs.Steps.{own_phase}
 use Rattle.board.specs.Views.{avoids, next_action}
 use Rattle.avoider.specs.declared.decision.Decision.{Decision}
 use Rattle.avoider.specs.OnBoard.{IsDecidedOnBoard}
-use Rattle.board_rounds.specs.Turns.{Goes}
+use Rattle.board_rounds.specs.Turns.{EndsTurn, Goes}
 use Rattle.board_rounds.specs.inside.Attempts.{IsRefusedAt}
 use Rattle.board_rounds.proofs.Attempting.{ends_locked_out, goes_locked_out, goes_published, goes_refused}
 use Rattle.board_rounds.proofs.deciding.decide_with.Goals.{in-Published, in-Refused}
@@ -21,9 +21,9 @@ returns-in-Err-clause-attempt c =
     let own = ap (λ (k : Known). k.view.own) same ∙ c.id.ensures.task in
     let seat = subst IsSeat (sym same) c.id.ensures.seat in
     let avoiding = ap (λ (k : Known). avoids k.view.mode) same ∙ ap avoids c.requires.ready.made.mode ∙ c.requires.ready.avoids in
-    let next = ap (λ (k : Known). next_action k.view) same ∙ c.requires.ready.next in (
-      subst (λ (k : Known). Goes [] k c.try_take.new.seat) same
-          (goes_locked_out c.in-Err.field-0.holder.0 c.memberships-phasers.new.seat c.try_take.new.seat c.id.result.0 own seat avoiding c.in-Err.ensures.busy),
+    let next = ap (λ (k : Known). next_action k.view) same ∙ c.requires.ready.next in
+    subst (λ (k : Known). Goes [] k c.try_take.new.seat × EndsTurn k c.try_take.new.seat) same (
+      goes_locked_out c.in-Err.field-0.holder.0 c.memberships-phasers.new.seat c.try_take.new.seat c.id.result.0 own seat avoiding c.in-Err.ensures.busy,
       ends_locked_out c.in-Err.field-0.holder.0 c.memberships-phasers.new.seat c.try_take.new.seat
           c.id.result.0 own seat avoiding c.in-Err.ensures.busy (aim_at c.args.p.0 c.args.off) next,
     )

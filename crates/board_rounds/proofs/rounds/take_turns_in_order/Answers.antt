@@ -1,7 +1,7 @@
 use Rattle.std.proofs.Common.{◌≡◌, ◌<◌, [], ◌∷◌, ◌++◌, IfOk, List, map, rules, add-one, length, set, suc, sym, refl, subst, arith}
 use Rattle.std.proofs.lemmas.List.{length-map}
 use Rattle.std.proofs.lemmas.List.Sums.{sum_by_push}
-use Rattle.board_rounds.specs.Turns.{Acts, EachActs, MayTakeTurn, Working}
+use Rattle.board_rounds.specs.Turns.{Acts, EachActs, EndsTurn, MayTakeTurn, Working}
 use Rattle.board_rounds.proofs.Rounding.{IsSoFar, all_each, all_end, at_rest, map_get, map_set, next_done, next_is, next_stops, stopped}
 use Rattle.board_rounds.proofs.rounds.take_turns_in_order.Goals as goal
 
@@ -13,9 +13,8 @@ turn-requires g c =
     let working = g.T.TakeTurn.working in
     let n = c.loop-task.task-index in
     let less : n < length (map working c.loop-task.tasks) = (let t = c.loop-task-test.true in let s = c.loop-task.auto.tasks in let m = length-map c.loop-task.tasks working in omega arith) in
-    record {
-      made = (subst (MayTakeTurn c.args.board.now) (map_get working c.loop-task.tasks n c.task-item.result) (next_is (MayTakeTurn c.args.board.now) (working c.task-item.result) c.loop-task.invariant.so_far c.requires.ready less)).of_board;
-    }
+    let may = subst (MayTakeTurn c.args.board.now) (map_get working c.loop-task.tasks n c.task-item.result) (next_is (MayTakeTurn c.args.board.now) (working c.task-item.result) c.loop-task.invariant.so_far c.requires.ready less) in
+    record { made = may.of_board; free = may.free }
 
 pub returns-in_err-turn : goal.returns-in_err-turn
 returns-in_err-turn g c =
@@ -49,7 +48,8 @@ loop-task-preserved g c =
       so_far =
           subst (λ k. IsSoFar f k (i.owns ++ acts.0 ∷ []) (map working c.args.tasks.now) (map working (set c.loop-task.tasks n c.turn.new.self))) (sym (add-one n))
           (subst (λ (ws : List Working). IsSoFar f (suc n) (i.owns ++ acts.0 ∷ []) (map working c.args.tasks.now) ws) (sym (map_set working c.loop-task.tasks n c.turn.new.self))
-          (next_done acts.0 (working d) (working c.turn.new.self) i.so_far less now c.in_ok-turn.ensures.ends));
+          (next_done acts.0 (working d) (working c.turn.new.self) i.so_far less now
+          (subst (λ (w : Working). EndsTurn w.seat (working c.turn.new.self).seat) (sym (map_get working c.loop-task.tasks n d)) c.in_ok-turn.ensures.ends)));
       events = (let s = sum_by_push length i.owns acts.0 in let e = i.events in let k = acts.2 in omega arith);
       few = (let a = i.few in let k = c.in_ok-turn.ensures.few in omega arith);
     }

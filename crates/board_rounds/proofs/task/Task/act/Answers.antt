@@ -5,6 +5,7 @@ use Rattle.board_rounds.specs.Turns.{CountsEvents, Working}
 use Rattle.board_rounds.specs.inside.Tasks.{MakesSome}
 use Rattle.board_rounds.proofs.Counting.{counts_nothing, counts_on, counts_still, few_events, leaves_less}
 use Rattle.board_rounds.proofs.Goings.{acts_itself, acts_on, no_child_made, none_in, of_on, one_in}
+use Rattle.board_rounds.proofs.Halting.{ends_since}
 use Rattle.board_rounds.proofs.task.Task.act.Goals as goal
 
 pub act-init : goal.act-init
@@ -13,6 +14,7 @@ act-init g c =
       own = [];
       acts = acts_itself c.args.board.now w (subst (λ (x : Working). IsSeat x.seat) c.self.view_is c.id.ensures.seat);
       made = c.requires.made;
+      free = c.requires.free;
       counted = refl;
       counts = λ n h. subst (λ k. CountsEvents k w) (let z : n ≡ n + 0 = omega arith in z) h;
       nobody = refl;
@@ -78,6 +80,7 @@ act-preserved g c =
       own = i.own ++ m.own;
       acts = acts_on c.args.board.now c.args.self.now c.act.self c.go_on.new.self i.own m.own i.acts m.acts;
       made = of_on c.args.board.now m.own c.act.self.seat c.go_on.new.self.seat i.made m.acts.goes;
+      free = m.acts.goes.same.holds ∙ i.free;
       counted = (let l = length-append i.own m.own in let a = i.counted in let b = m.counted in omega arith);
       counts = λ n h.
           subst (λ k. CountsEvents k c.go_on.new.self) (let z : (n + c.act.events) + c.in-Some.more ≡ n + (c.act.events + c.in-Some.more) = omega arith in z)
@@ -109,4 +112,4 @@ pub returns-clause-pause : goal.returns-clause-pause
 returns-clause-pause g c =
     let i = c.act.invariant in
     let none = c.in_ok-more.ensures.none c.in_default.is in
-    (none.1, no_child_made c.args.board.now c.act.self c.go_on.new.self none.0 ∙ i.nobody)
+    (ends_since c.args.self.now.seat c.act.self.seat c.go_on.new.self.seat i.acts.goes.loads none.1, no_child_made c.args.board.now c.act.self c.go_on.new.self none.0 ∙ i.nobody)

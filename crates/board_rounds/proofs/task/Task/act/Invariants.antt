@@ -1,4 +1,4 @@
-use Rattle.std.proofs.Common.{◌≡◌, ◌+◌, ℕ, List, length}
+use Rattle.std.proofs.Common.{◌≡◌, ◌+◌, ℕ, List, false, length}
 use Rattle.armus_base.specs.Plans.{Action}
 use Rattle.board.specs.Seats.{IsOf}
 use Rattle.board_rounds.specs.Turns.{Acts, CountsEvents}
@@ -10,6 +10,7 @@ invariant-act g l = record {
   own : List Action;
   acts : Acts l.board own l.initial.self l.self;
   made : IsOf l.self.seat l.board;
+  free : l.self.seat.view.holds ≡ false;
   counted : l.events ≡ length own;
   counts : (n : ℕ) → CountsEvents n l.initial.self → CountsEvents (n + l.events) l.self;
   nobody : l.self.children ≡ l.initial.self.children;

@@ -1,4 +1,4 @@
-use Rattle.std.proofs.Common.{◌+◌, ◌∙◌, [], List, Result, Ok, Err, OnErr, false, drop, sym, ap, subst, arith}
+use Rattle.std.proofs.Common.{◌≡◌, ◌+◌, ◌∙◌, [], List, Result, Ok, Err, OnErr, false, drop, sym, ap, subst, arith}
 use Rattle.armus_base.specs.declared.op.Op.{Op}
 use Rattle.board.specs.Seats.{IsOf, IsSeat, event_of}
 use Rattle.board.proofs.Walking.{IsBefore, before_next, before_of_plan, is_before, left_behind, next_left}
@@ -6,7 +6,7 @@ use Rattle.board_rounds.specs.inside.Attempts.{BeginsOp}
 use Rattle.board_rounds.specs.inside.Tasks.{HasCome, MakesSome}
 use Rattle.board_rounds.specs.Turns.{Acts, EndsTurn, Working, is_done, is_refused}
 use Rattle.board_rounds.proofs.Goings.{acts_itself}
-use Rattle.board_rounds.proofs.Halting.{ends_done, no_event}
+use Rattle.board_rounds.proofs.Halting.{ends_done, left_free, no_event}
 use Rattle.board_rounds.proofs.Onward.{begun_come, begun_fits, begun_makes, locked_out, nothing_acts, refused_come, refused_fits, refused_makes}
 use Rattle.board_rounds.proofs.task.Task.go_on.Goals.{In-Some}
 use Rattle.board_rounds.proofs.task.Task.go_on.Goals as goal
@@ -16,15 +16,19 @@ returns-in_default-clause-none g c = λ _.
     let idle = sym c.event.ensures ∙ no_event _ (sym c.is_some.ensures ∙ c.if-is_some.false) in
     let past = sym c.peek.ensures.next ∙ c.in_default.is in (
       acts_itself c.args.board.now c.args.self.now (subst (λ (w : Working). IsSeat w.seat) c.self.view_is c.id-t.ensures.seat),
-      subst (λ (w : Working). EndsTurn w.seat) c.self.view_is (is_done (ends_done c.self.inside.cursor c.self.inside.seat
+      subst (λ (w : Working). EndsTurn w.seat w.seat) c.self.view_is (is_done (ends_done c.self.inside.cursor c.self.inside.seat
           (c.self.invariant.come.ops_are c.if-self.false) idle past)),
     )
+
+-- the seat does not hold the lock
+free : (g : _) (c : In-Some g) → c.self.inside.seat.view.holds ≡ false
+free g c = ap (λ (w : Working). w.seat.view.holds) c.self.view_is ∙ c.requires.free
 
 -- the task stands before the op, and is not refused
 before : (g : _) (c : In-Some g) → IsBefore c.in-Some.op (drop 1 c.self.inside.cursor) c.self.inside.seat
 before g c =
     is_before c.self.inside.seat c.args.self.now.seat c.id-t.result.0 c.self.inside.cursor _ _ c.in-Some.op (ap (λ (w : Working). w.seat) c.self.view_is)
-    (c.self.invariant.come.ops_are c.if-self.false) c.id-t.ensures.task c.id-t.ensures.seat (sym c.is_some.ensures ∙ c.if-is_some.false)
+    (left_free c.self.inside.cursor c.self.inside.seat (c.self.invariant.come.ops_are c.if-self.false) (free g c)) c.id-t.ensures.task c.id-t.ensures.seat (sym c.is_some.ensures ∙ c.if-is_some.false)
     (c.event.ensures ∙ ap (λ (w : Working). event_of w.seat) c.self.view_is) (next_left c.self.inside.cursor c.in-Some.op (sym c.peek.ensures.next ∙ c.in-Some.is))
 
 come : (g : _) (c : In-Some g) → HasCome c.self.inside.seat c.self.inside.cursor c.self.inside.events false
@@ -37,7 +41,7 @@ begin-requires g c =
     record {
       ready = record {
         made = made;
-        unlocked = c.self.invariant.come.free;
+        unlocked = free g at;
         next = before_next c.in-Some.op (drop 1 c.self.inside.cursor) c.self.inside.seat (before g at);
         plan = before_of_plan c.in-Some.op (drop 1 c.self.inside.cursor) c.self.inside.seat (before g at) c.args.board.now.plan made.plan;
       };
@@ -63,7 +67,8 @@ returns-in-LockedOut-clause-none g c = λ _.
     let tried = subst (λ a. BeginsOp c.in-Some.op c.self.inside.seat c.begin.new.seat a) c.in-LockedOut.is c.in_ok-begin.ensures.begins in
     let r = locked_out c.args.board.now c.self.inside.cursor c.self.inside.events c.self.inside.seat c.begin.new.seat c.self.inside.children.items
     c.begin.new.children.items c.in-Some.op _ (come g at) (before g at) new.0 new.1 new.2 tried in
-    (subst (λ (w : Working). Acts c.args.board.now [] w (record { seat = c.begin.new.seat; children = c.begin.new.children.items })) c.self.view_is r.0.0, r.0.1)
+    subst (λ (w : Working). Acts c.args.board.now [] w (record { seat = c.begin.new.seat; children = c.begin.new.children.items }) × EndsTurn w.seat c.begin.new.seat)
+    c.self.view_is r.0
 
 pub overflow_add-self : goal.overflow_add-self
 overflow_add-self g c =
@@ -138,5 +143,5 @@ returns-in-Refused-clause-some g c =
 pub returns-then-self-clause-none : goal.returns-then-self-clause-none
 returns-then-self-clause-none g c = λ _. (
   acts_itself c.args.board.now c.args.self.now (subst (λ (w : Working). IsSeat w.seat) c.self.view_is c.id-t.ensures.seat),
-  subst (λ (w : Working). EndsTurn w.seat) c.self.view_is (is_refused (c.self.invariant.come.gone c.if-self.true)),
+  subst (λ (w : Working). EndsTurn w.seat w.seat) c.self.view_is (is_refused (c.self.invariant.come.gone c.if-self.true)),
 )

@@ -2,7 +2,7 @@ use Rattle.std.proofs.Common.{◌<◌, arith, ap, length, subst, sym}
 use Rattle.std.proofs.lemmas.Bool.{false≢true}
 use Rattle.armus_base.specs.Plans.{Plan}
 use Rattle.armus_base.specs.Runs.{Place}
-use Rattle.board.proofs.Walking.{left_at_first}
+use Rattle.board_rounds.proofs.Halting.{left_first}
 use Rattle.board_rounds.proofs.task.Task.new.Goals as goal
 
 pub cursor-cursor-requires : goal.cursor-cursor-requires
@@ -13,11 +13,9 @@ pub invariant_of-result : goal.invariant_of-result
 invariant_of-result c =
     record {
       come = record {
-        free = c.requires.free;
         events_are = ap (λ (x : Place). x.done) (sym c.requires.first);
         ops_are = λ _.
-            left_at_first c.args.seat c.id.result.0 c.args.plan.now c.cursor-cursor.result c.id.ensures.task c.requires.plan c.cursor-cursor.ensures.code c.requires.first
-            c.requires.free;
+            left_first c.args.seat c.id.result.0 c.args.plan.now c.cursor-cursor.result c.id.ensures.task c.requires.plan c.cursor-cursor.ensures.code c.requires.first;
         gone = λ e. absurd (false≢true e);
       };
       begun = omega arith;

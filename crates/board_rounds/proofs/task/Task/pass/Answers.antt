@@ -2,7 +2,7 @@ use Rattle.std.proofs.Common.{◌∙◌, [], arith, refl, ap, subst, sym}
 use Rattle.std.specs.Prelude.{IsSome}
 use Rattle.board.specs.Seats.{event_of}
 use Rattle.board.specs.Views.{own_place}
-use Rattle.board_rounds.specs.Turns.{Acts, Working}
+use Rattle.board_rounds.specs.Turns.{Acts, EndsTurn, Working}
 use Rattle.board_rounds.specs.inside.Tasks.{MakesSome}
 use Rattle.board_rounds.proofs.Goings.{acts_alone, goes_loads}
 use Rattle.board_rounds.proofs.Halting.{ends_behind}
@@ -11,13 +11,15 @@ use Rattle.board_rounds.proofs.task.Task.pass.Goals as goal
 
 pub invariant_of-self-in-Reached : goal.invariant_of-self-in-Reached
 invariant_of-self-in-Reached c =
-    let p = passes c.args.board.now c.self.inside c.look.new.seat c.withdraw.new.self c.id.result.0 c.self.invariant (ap (λ (w : Working). (own_place w.seat.view).dropped) c.self.view_is ∙ c.requires.unrefused)
+    let p = passes c.args.board.now c.self.inside c.look.new.seat c.withdraw.new.self c.id.result.0 c.self.invariant (ap (λ (w : Working). w.seat.view.holds) c.self.view_is ∙ c.requires.free)
+    (ap (λ (w : Working). (own_place w.seat.view).dropped) c.self.view_is ∙ c.requires.unrefused)
     c.id.ensures.task c.id.ensures.seat (subst (λ (w : Working). IsSome (event_of w.seat)) (sym c.self.view_is) c.requires.event) c.look.ensures.goes_on c.withdraw.ensures.step in
     p.working
 
 pub overflow_add-self : goal.overflow_add-self
 overflow_add-self c =
-    let p = passes c.args.board.now c.self.inside c.look.new.seat c.withdraw.new.self c.id.result.0 c.self.invariant (ap (λ (w : Working). (own_place w.seat.view).dropped) c.self.view_is ∙ c.requires.unrefused)
+    let p = passes c.args.board.now c.self.inside c.look.new.seat c.withdraw.new.self c.id.result.0 c.self.invariant (ap (λ (w : Working). w.seat.view.holds) c.self.view_is ∙ c.requires.free)
+    (ap (λ (w : Working). (own_place w.seat.view).dropped) c.self.view_is ∙ c.requires.unrefused)
     c.id.ensures.task c.id.ensures.seat (subst (λ (w : Working). IsSome (event_of w.seat)) (sym c.self.view_is) c.requires.event) c.look.ensures.goes_on c.withdraw.ensures.step in
     (let l = p.fits in omega arith)
 
@@ -27,11 +29,12 @@ returns-in-Behind-clause-none c = λ _.
     let cs = c.self.inside.children.items in (
       subst (λ (w : Working). Acts c.args.board.now [] w (record { seat = c.look.new.seat; children = cs })) c.self.view_is
           (acts_alone c.args.board.now [] c.self.inside.seat c.look.new.seat cs refl (goes_loads c.self.inside.seat c.look.new.seat c.id.result.0 c.id.ensures.task c.id.ensures.seat goes) (λ _. refl)),
-      ends_behind c.self.inside.seat c.look.new.seat c.in-Behind.t.0 c.in-Behind.phase c.id.ensures.seat goes c.in-Behind.ensures.answer,
+      subst (λ (w : Working). EndsTurn w.seat c.look.new.seat) c.self.view_is (ends_behind c.self.inside.seat c.look.new.seat c.in-Behind.t.0 c.in-Behind.phase c.id.ensures.seat goes c.in-Behind.ensures.answer),
     )
 
 pub returns-in-Reached-clause-some : goal.returns-in-Reached-clause-some
 returns-in-Reached-clause-some c =
-    let p = passes c.args.board.now c.self.inside c.look.new.seat c.withdraw.new.self c.id.result.0 c.self.invariant (ap (λ (w : Working). (own_place w.seat.view).dropped) c.self.view_is ∙ c.requires.unrefused)
+    let p = passes c.args.board.now c.self.inside c.look.new.seat c.withdraw.new.self c.id.result.0 c.self.invariant (ap (λ (w : Working). w.seat.view.holds) c.self.view_is ∙ c.requires.free)
+    (ap (λ (w : Working). (own_place w.seat.view).dropped) c.self.view_is ∙ c.requires.unrefused)
     c.id.ensures.task c.id.ensures.seat (subst (λ (w : Working). IsSome (event_of w.seat)) (sym c.self.view_is) c.requires.event) c.look.ensures.goes_on c.withdraw.ensures.step in
     subst (λ (w : Working). MakesSome c.args.board.now 1 w (record { seat = c.withdraw.new.self; children = c.self.inside.children.items })) c.self.view_is p.some

@@ -1,9 +1,10 @@
-use Rattle.std.proofs.Common.{◌+◌, [], ◌++◌, rules, length-append, refl, subst, arith}
+use Rattle.std.proofs.Common.{◌+◌, ◌∙◌, [], ◌++◌, rules, length-append, refl, subst, arith}
 use Rattle.board.specs.Seats.{IsSeat}
 use Rattle.board_rounds.specs.declared.task.Pause.{Pause}
 use Rattle.board_rounds.specs.Turns.{PausesAt, Working}
 use Rattle.board_rounds.proofs.Counting.{counts_nothing, few_events, forked_some, leaves_by}
 use Rattle.board_rounds.proofs.Goings.{acts_itself, acts_on, of_on}
+use Rattle.board_rounds.proofs.Halting.{ends_since}
 use Rattle.board_rounds.proofs.task.TaskTakeTurn.turn.Goals as goal
 
 pub turn-init : goal.turn-init
@@ -12,6 +13,7 @@ turn-init g c =
       own = [];
       acts = acts_itself c.args.board.now w (subst (λ (x : Working). IsSeat x.seat) c.self.view_is c.id.ensures.seat);
       made = c.requires.made;
+      free = c.requires.free;
       counted = refl;
       counts = counts_nothing w;
     }
@@ -45,6 +47,7 @@ turn-preserved g c =
       own = i.own ++ a.0;
       acts = acts_on c.args.board.now c.args.self.now c.turn.self c.act.new.self i.own a.0 i.acts a.1;
       made = of_on c.args.board.now a.0 c.turn.self.seat c.act.new.self.seat i.made a.1.goes;
+      free = a.1.goes.same.holds ∙ i.free;
       counted = (let l = length-append i.own a.0 in let m = i.counted in let n = a.2 in omega arith);
       counts = c.in_ok-acted.ensures.few c.turn.made i.counts;
     }
@@ -64,3 +67,8 @@ returns-in-TurnOver-clause-few g c =
     let a = c.in_ok-acted.ensures.acts in
     let l = few_events (c.turn.made + c.in_ok-acted.acted.events) c.act.new.self a.1.goes.kept.checked (c.in_ok-acted.ensures.few c.turn.made i.counts) in
     omega arith
+
+pub returns-in-TurnOver-clause-ends : goal.returns-in-TurnOver-clause-ends
+returns-in-TurnOver-clause-ends g c =
+    let over = subst (λ (p : Pause). PausesAt p c.turn.self c.act.new.self) c.in-TurnOver.is c.in_ok-acted.ensures.pause in
+    ends_since c.args.self.now.seat c.turn.self.seat c.act.new.self.seat c.turn.invariant.acts.goes.loads over.0

@@ -1,4 +1,4 @@
-use Rattle.std.proofs.Common.{◌≡◌, List, length}
+use Rattle.std.proofs.Common.{◌≡◌, List, false, length}
 use Rattle.armus_base.specs.Plans.{Action}
 use Rattle.board.specs.Seats.{IsOf}
 use Rattle.board_rounds.specs.Turns.{Acts, CountsEvents}
@@ -10,6 +10,7 @@ invariant-turn g l = record {
   own : List Action;
   acts : Acts l.board own l.initial.self l.self;
   made : IsOf l.self.seat l.board;
+  free : l.self.seat.view.holds ≡ false;
   counted : l.made ≡ length own;
   counts : CountsEvents l.made l.self;
 }

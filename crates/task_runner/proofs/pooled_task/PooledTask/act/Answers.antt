@@ -8,7 +8,7 @@ use Rattle.task_runner.proofs.PooledTasks.{acted, forked}
 use Rattle.task_runner.proofs.pooled_task.PooledTask.act.Goals as goal
 
 pub act-requires : goal.act-requires
-act-requires g c = record { made = subst (IsOf c.self.inside.task.seat) (sym c.requires.board) c.self.invariant.seat.of_board }
+act-requires g c = record { made = subst (IsOf c.self.inside.task.seat) (sym c.requires.board) c.self.invariant.seat.of_board; free = c.self.invariant.seat.free }
 
 pub invariant_of-self : goal.invariant_of-self
 invariant_of-self g c =

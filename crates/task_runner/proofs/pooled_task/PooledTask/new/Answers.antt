@@ -5,9 +5,6 @@ use Rattle.board_rounds.specs.Crews.{IsCrewSeat}
 use Rattle.task_runner.proofs.PooledTasks.{small}
 use Rattle.task_runner.proofs.pooled_task.PooledTask.new.Goals as goal
 
-pub new-requires-clause-free : goal.new-requires-clause-free
-new-requires-clause-free g c = c.requires.seat.free
-
 pub new-requires-clause-plan : goal.new-requires-clause-plan
 new-requires-clause-plan g c = c.requires.seat.of_board.plan ∙ c.requires.plan
 
