@@ -20,6 +20,7 @@ pub mod Resting
 pub mod Crossing
 pub mod BoardPlaces
 pub mod BoardEnds
+pub mod LastPasses
 pub mod AvoidedRests
 pub mod TellingAll
 pub mod SitesWatched

@@ -222,12 +222,12 @@ none_written b n same = record { lines = subst (λ (t : Told). Appends b.taken t
 
 -- a pass by a teller that watches the board
 pub watches_more :
-    (f : Frame) (w : Telling) (now : Known) (collector : Watch) (list : List Status) (v : Verdict) → f.mode ≡ Detect → Watches f w → LoadsAlone w.view now →
+    (f : Frame) (w : Telling) (now : Known) (collector : Watch) (list : List Status) (v : Verdict) (last : List TaskId) → f.mode ≡ Detect → Watches f w → LoadsAlone w.view now →
     IsCollect f.plan list w.view now →
     IsVerdict w.collector.names list w.view now v → NamesToo v.dead w.collector.names collector.names → collector.tasks ≡ w.collector.tasks →
     collector.phasers ≡ w.collector.phasers →
-    Watches f (record { collector = collector; view = now; dead = w.dead ++ v.fresh })
-watches_more f w now collector list v detects watches goes collect verdict too tasks phasers =
+    Watches f (record { collector = collector; view = now; dead = w.dead ++ v.fresh; last = last })
+watches_more f w now collector list v last detects watches goes collect verdict too tasks phasers =
     let checked = subst IsCheckedPlan watches.made.plan watches.kept.checked in
     record {
       made = record { table = goes.table ∙ watches.made.table; plan = goes.same.plan ∙ watches.made.plan; mode = goes.same.mode ∙ watches.made.mode };
@@ -245,7 +245,7 @@ watches_more f w now collector list v detects watches goes collect verdict too t
 -- the viewer has taken seats in
 pub watches_taken :
     (f : Frame) (w : Telling) (now : Known) → Watches f w → IsOf now f → IsSameSeat w.view.view now.view → IsSeat now →
-    Watches f (record { collector = w.collector; view = now; dead = w.dead })
+    Watches f (record { collector = w.collector; view = now; dead = w.dead; last = w.last })
 watches_taken f w now watches made same kept =
     record { made = made; kept = kept; viewer = same.own ∙ watches.viewer; tasks = watches.tasks; phasers = watches.phasers; named = watches.named; dead = watches.dead }
 

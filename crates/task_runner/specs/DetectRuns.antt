@@ -4,12 +4,16 @@ use Rattle.std.specs.Io.KnownBytes.{Appends}
 use Rattle.armus_base.specs.declared.ending.Final.{Final}
 use Rattle.armus_base.specs.declared.status.Dead.{Dead}
 use Rattle.armus_base.specs.Causes.{counted}
+use Rattle.armus_base.specs.DeadLists.{IsDeadList}
+use Rattle.armus_base.specs.Finals.{is_awaited, statuses_on}
 use Rattle.armus_base.specs.ReadAll.{TookFront}
 use Rattle.armus_base.specs.Plans.{Plan, action_at}
 use Rattle.armus_base.specs.Runs.{Place}
 use Rattle.armus_base.specs.Places.{done_by, forked_at, published_after, state_at}
+use Rattle.armus_base.specs.States.{State}
 use Rattle.armus_base.specs.Boards.{IsLawful}
 use Rattle.board.specs.Words.{IsShown}
+use Rattle.collector.specs.Passes.{HasDeadOf}
 use Rattle.pl_core.specs.Worlds.{places_at}
 use Rattle.report.specs.Live.{live_text}
 use Rattle.report.specs.NamedDead.{AreSomeDead, AreTheDead}
@@ -23,15 +27,22 @@ abbrev pub AreSettledPlaces : Plan → (ℕ → Place) → Type 0
 AreSettledPlaces plan a =
     (t : ℕ) → forked_at plan (done_by a) t ≡ true → (action_at plan t (a t).done ≡ None) ⊎ IsSome (published_after plan t (a t).done)
 
+-- the state of the board when all tasks had ended their turns on it
+abbrev pub last_state : Plan → Ran → State
+last_state plan ran = state_at plan (places_at plan ran.places)
+
 -- The value is that of the one final state. The places, one for each task, are those of a lawful state of the board in which each forked task is done or
--- published, and the words are those of that state.
+-- published, and the words are those of that state. The pass after the rounds found the statuses of that state and named their dead, in order: just the tasks
+-- that are dead in it.
 pub record IsDetectRun (plan : Plan) (ran : Ran) : Type 0 where
   pub end : IsPlainEnd plan ran.end
   pub one_each : length ran.places ≡ length plan.parents
   pub lawful : IsLawful false plan (places_at plan ran.places) None
   pub settled : AreSettledPlaces plan (places_at plan ran.places)
   pub of_plan : ran.words.plan ≡ plan
-  pub words : IsShown plan (state_at plan (places_at plan ran.places)) None ran.words.words
+  pub words : IsShown plan (last_state plan ran) None ran.words.words
+  pub named : IsDeadList (statuses_on plan (last_state plan ran) (is_awaited plan (last_state plan ran))) ran.dead
+  pub dead : HasDeadOf (last_state plan ran) ran.dead
 
 -- what a sink tells: the bytes that it has taken, and its count of faults
 pub record Told : Type 0 where

@@ -6,7 +6,7 @@ ghost use Rattle.phase_scan.specs.Looks.{LoadsAlone};
 ghost use Rattle.board_rounds.specs.Crews.{HaveEnded, all_of};
 ghost use Rattle.task_runner.specs.DetectRuns.{IsDetectRun, IsNoWrite, TellsRun, told};
 ghost use Rattle.task_runner.specs.inside.DetectRounds.{IsUnderWay};
-ghost use Rattle.task_runner.specs.inside.Tellers.{TellsMore, TellsOn, Watches};
+ghost use Rattle.task_runner.specs.inside.Tellers.{HasPassed, TellsMore, TellsOn, Watches};
 
 use crate::detect_rounds::go_by_rounds;
 use crate::ending::end_from;
@@ -22,9 +22,9 @@ use std::thread::Threads;
 
 /// Runs the plan on a board that detects deadlock. Its tasks take turns by rounds, with the given number of workers, until a round without an event; with
 /// `live` a detector makes one pass beside each round, and each task that it is the first to name has its line. Then one viewer takes all seats in, the
-/// detector makes one more pass, and the board is closed; from the places at which its tasks stood the run goes on in one thread until no task may go on,
-/// and with `live` whoever is dead then and was not named has a line. The gate is called before each op and after each pass. `Write` comes only where the
-/// sink counted a fault. No call waits.
+/// detector makes one more pass, which names just the tasks that are dead by then, and the board is closed; from the places at which its tasks stood the run
+/// goes on in one thread until no task may go on, and with `live` whoever is dead then and was not named has a line. The gate is called before each op and
+/// after each pass. `Write` comes only where the sink counted a fault. No call waits.
 pub fn run_detect<R: Threads + Sync, G: Gate, K: Sink>(
     rt: &R,
     alloc: Global,
@@ -85,12 +85,17 @@ fn end_run<G: Gate, K: Sink>(
     };
     teller.take_in(&board, crew);
     last_pass(alloc, &board, options, gate, &mut teller, out)?;
-    let (words, dead) = teller.close(board);
+    let (words, told, dead) = teller.close(board);
     let Ok(end) = end_from(alloc, plan, places.as_slice(), gate) else {
         return Err(RunEnd::NoMemory);
     };
-    tell_rest(alloc, end.blocked.as_slice(), dead.as_slice(), options, out)?;
-    Ok(Ran { end, places, words })
+    tell_rest(alloc, end.blocked.as_slice(), told.as_slice(), options, out)?;
+    Ok(Ran {
+        end,
+        places,
+        words,
+        dead,
+    })
 }
 
 // The pass after the rounds; with `live` its lines are written.
@@ -106,6 +111,7 @@ fn last_pass<G: Gate, K: Sink>(
     requires detects { board.now.mode ≡ Detect }
     ensures watches { OnOk result (Watches board.now teller.new) }
     ensures goes_on { LoadsAlone teller.old.view teller.new.view }
+    ensures passed { OnOk result (HasPassed teller.old.view teller.new) }
     ensures told { options.now.live ≡ true → TellsMore board.now.plan teller.old.dead teller.new.dead (told K.taken K.faults out.old) (told K.taken K.faults out.new) result }
     ensures silent { options.now.live ≡ false → (out.new ≡ out.old) × IsNoWrite result }
 {

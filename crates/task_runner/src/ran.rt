@@ -1,5 +1,5 @@
 // What a run on a board answers.
-use armus_base::{Final, List};
+use armus_base::{Final, List, TaskId};
 use board::Words;
 use pl_core::Place;
 
@@ -12,6 +12,8 @@ pub struct Ran {
     pub places: List<Place>,
     /// The words of the board in that state.
     pub words: Words,
+    /// The tasks that the pass after the rounds named, in order: those that are dead in that state.
+    pub dead: List<TaskId>,
 }
 
 /// Why a run ended early.

@@ -9,14 +9,14 @@ ghost use Rattle.board.specs.Views.{seen};
 ghost use Rattle.phase_scan.specs.Looks.{LoadsAlone};
 ghost use Rattle.board_rounds.specs.Crews.{AreTasksOf, KnowsTasks, all_of};
 ghost use Rattle.task_runner.specs.DetectRuns.{told};
-ghost use Rattle.task_runner.specs.inside.Tellers.{TellsMore, Watches};
+ghost use Rattle.task_runner.specs.inside.Tellers.{HasPassed, TellsMore, Watches};
 
 use crate::RunEnd;
 use adaptive::Wanted;
-use armus_base::{Dead, Gate, List, NoMemory, Point, Sink, write_text};
+use armus_base::{Dead, Gate, List, NoMemory, Point, Sink, TaskId, write_text};
 use board::{Board, ViewSeat, Words};
 use board_rounds::Crew;
-use collector::Collector;
+use collector::{Collector, Verdict};
 use report::live_lines;
 use std::alloc::Global;
 use std::marker::Model;
@@ -28,6 +28,8 @@ pub(crate) struct Teller {
     view: ViewSeat,
     // the tasks that were named, with their events
     dead: Vec<Dead>,
+    // the dead tasks of the last pass, in order
+    last: List<TaskId>,
 }
 
 impl Model for Teller {
@@ -52,6 +54,7 @@ impl Teller {
             collector: Collector::start(alloc, board)?,
             view,
             dead: Vec::new(alloc),
+            last: List::new(alloc),
         })
     }
 
@@ -68,6 +71,7 @@ impl Teller {
         requires detects { board.now.mode ≡ Detect }
         ensures watches { OnOk result (Watches board.now self.new) }
         ensures goes_on { LoadsAlone self.old.view self.new.view }
+        ensures passed { OnOk result (HasPassed self.old.view self.new) }
         ensures told { TellsMore board.now.plan self.old.dead self.new.dead (told K.taken K.faults out.old) (told K.taken K.faults out.new) result }
     {
         let Ok(lines) = self.name(alloc, board, wanted) else {
@@ -93,13 +97,12 @@ impl Teller {
         ensures watches { OnOk result (Watches board.now self.new) }
         ensures named { IfOk result (λ lines. (fresh : List Dead) × (self.new.dead ≡ self.old.dead ++ fresh) × (lines ≡ live_text fresh)) }
         ensures goes_on { LoadsAlone self.old.view self.new.view }
+        ensures passed { OnOk result (HasPassed self.old.view self.new) }
     {
-        let fresh = self
-            .collector
-            .pass(alloc, &mut self.view, board, wanted)?
-            .fresh;
+        let Verdict { dead, fresh } = self.collector.pass(alloc, &mut self.view, board, wanted)?;
         let lines = live_lines(alloc, fresh.as_slice())?;
         self.dead.append(&mut fresh.into_vec())?;
+        self.last = dead;
         Ok(lines)
     }
 
@@ -115,13 +118,14 @@ impl Teller {
         crew.take_in(board, &mut self.view);
     }
 
-    /// Ends the board; answers its words, and the tasks that were named.
-    pub(crate) fn close(self, board: Board) -> (Words, Vec<Dead>)
+    /// Ends the board; answers its words, the tasks that were named, and those that the last pass named.
+    pub(crate) fn close(self, board: Board) -> (Words, Vec<Dead>, List<TaskId>)
         requires watches { Watches board self }
         ensures board { (result.0.plan ≡ board.plan) × (result.0.mode ≡ board.mode) }
         ensures words { AreLastOf board.plan board.mode (seen self.view.view) result.0.words }
         ensures dead { result.1.items ≡ self.dead }
+        ensures last { result.2 ≡ self.last }
     {
-        (board.close(self.view), self.dead)
+        (board.close(self.view), self.dead, self.last)
     }
 }

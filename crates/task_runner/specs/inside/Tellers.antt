@@ -2,21 +2,24 @@
 use Rattle.std.specs.Prelude.{◌≡◌, ◌↔◌, ℕ, ◌++◌, true, List, Contains, None, Result, Ok, Err, length, map}
 use Rattle.armus_base.specs.declared.ids.TaskId.{TaskId}
 use Rattle.armus_base.specs.declared.status.Dead.{Dead}
+use Rattle.armus_base.specs.DeadLists.{IsDeadList}
 use Rattle.armus_base.specs.Plans.{Plan}
 use Rattle.board.specs.Views.{seen}
 use Rattle.board.specs.Seats.{Frame, IsOf, IsSeat, Known}
-use Rattle.collector.specs.Passes.{Watch, is_named}
+use Rattle.phase_scan.specs.Settled.{KnowsAll, TellsState, seen_state}
+use Rattle.collector.specs.Passes.{HasDeadOf, Watch, is_named}
 use Rattle.task_runner.specs.DetectRuns.{AreDeadAtTheEnd, HasFailed, HasWritten, Told}
 use Rattle.report.specs.NamedDead.{AreTheDead}
 use Rattle.task_runner.specs.declared.ran.Ran.{Ran}
 use Rattle.task_runner.specs.declared.ran.RunEnd.{RunEnd}
 use Rattle.task_runner.specs.declared.ran.RunEnd.TheVariants.{Write, NoMemory}
 
--- a collector, its viewer, and the tasks that it has named
+-- a collector, its viewer, the tasks that it has named, and those that its last pass named
 pub record Telling : Type 0 where
   pub collector : Watch
   pub view : Known
   pub dead : List Dead
+  pub last : List TaskId
 
 -- it watches this board; the tasks of its list are those that its collector has named, each once, and dead at the end of every plain run
 pub record Watches (board : Frame) (teller : Telling) : Type 0 where
@@ -27,6 +30,13 @@ pub record Watches (board : Frame) (teller : Telling) : Type 0 where
   pub phasers : teller.collector.phasers ≡ length board.plan.makers
   pub named : (t : TaskId) → is_named teller.collector.names t.0 ≡ true ↔ Contains (map (λ d. d.t) teller.dead) t
   pub dead : AreDeadAtTheEnd board.plan teller.dead
+
+-- After a pass: it named the dead of the statuses that it found, in order. Where the viewer knew all tasks exactly before it, these are the statuses of the
+-- state that the board was in, and its dead tasks.
+pub record HasPassed (before : Known) (teller : Telling) : Type 0 where
+  pub named : IsDeadList teller.collector.statuses teller.last
+  pub statuses : KnowsAll before → TellsState teller.collector.statuses before
+  pub dead : KnowsAll before → HasDeadOf (seen_state before) teller.last
 
 -- Further tasks were told, and their lines written; or the sink counted a fault in them; or memory was wanting, after the lines of some of them. All are
 -- dead at the end, and none was told before.

@@ -1,8 +1,10 @@
 use Rattle.std.proofs.Common.{◌≡◌, ◌++◌, ◌∙◌, List, None, Ok, Err, false, sym, refl, ap, subst, rules}
 use Rattle.std.specs.Prelude.{slice_get}
+use Rattle.armus_base.specs.declared.ids.TaskId.{TaskId}
 use Rattle.armus_base.specs.declared.status.Dead.{Dead}
 use Rattle.armus_base.specs.Boards.{IsLawful}
 use Rattle.armus_base.specs.CheckedPlans.{IsCheckedPlan}
+use Rattle.armus_base.specs.DeadLists.{IsDeadList}
 use Rattle.armus_base.specs.Plans.{Plan}
 use Rattle.armus_base.specs.Places.{state_at}
 use Rattle.armus_base.specs.Runs.{IsReachable}
@@ -15,12 +17,14 @@ use Rattle.board.specs.Closing.{AreLastOf}
 use Rattle.board.specs.Seats.{IsOf}
 use Rattle.board.specs.Views.{seen}
 use Rattle.board.specs.Words.{IsShown}
+use Rattle.collector.specs.Passes.{HasDeadOf}
 use Rattle.board_rounds.specs.Crews.{ArePlacesOf, all_of}
 use Rattle.task_runner.specs.DetectRuns.{AreDeadAtTheEnd, AreSettledPlaces, told}
 use Rattle.task_runner.specs.inside.Rests.{TellsRest}
 use Rattle.task_runner.specs.inside.Tellers.{TellsMore}
 use Rattle.task_runner.specs.declared.ran.RunEnd.TheVariants.{NoMemory}
 use Rattle.task_runner.proofs.BoardEnds.{lawful, plain, reachable, settled, shown}
+use Rattle.task_runner.proofs.LastPasses.{dead_there, named_there, statuses_in}
 use Rattle.task_runner.proofs.TellingAll.{blocked_in_order, none_on, pass_err, rest_err, rest_ok}
 use Rattle.task_runner.proofs.detect.end_run.Goals as goal
 
@@ -118,6 +122,9 @@ returns-clause-ran g c =
     let last = subst (λ (m : Mode). AreLastOf f.plan m (seen now.view) words) c.requires.under_way.detects c.close-words.ensures.words in
     let places : List KeptPlace = c.in-Ok.places in
     let are = subst (λ (q : Plan). ArePlacesOf q tasks places) (sym c.requires.under_way.of_plan) c.in-Ok.ensures.places in
+    let dead = c.close-words.result.2 in
+    let is : dead ≡ c.last_pass.new.teller.last = c.close-words.ensures.last in
+    let passed = c.in_ok-last_pass.ensures.passed in
     record {
       end = c.in-Ok-end_from.ensures.end;
       one_each = c.in-Ok.ensures.places.one_each;
@@ -131,6 +138,14 @@ returns-clause-ran g c =
       words = subst (λ (q : Plan). IsShown q (state_at q (places_at q places)) None words) c.requires.under_way.of_plan
           (shown f c.requires.under_way.detects tasks c.requires.under_way.crew.all.crew places are before now c.take_in.ensures.known goes of
           words last);
+      named = subst (λ (ts : List TaskId). IsDeadList (statuses_in c.args.plan.now (state_at c.args.plan.now (places_at c.args.plan.now places))) ts) (sym is)
+          (subst (λ (q : Plan). IsDeadList (statuses_in q (state_at q (places_at q places))) c.last_pass.new.teller.last) c.requires.under_way.of_plan
+          (named_there f c.requires.under_way.detects tasks c.requires.under_way.crew.all.crew places are before now c.take_in.ensures.known goes of
+          words last c.take_in.ensures.watches.kept made c.last_pass.new.teller passed));
+      dead = subst (λ (ts : List TaskId). HasDeadOf (state_at c.args.plan.now (places_at c.args.plan.now places)) ts) (sym is)
+          (subst (λ (q : Plan). HasDeadOf (state_at q (places_at q places)) c.last_pass.new.teller.last) c.requires.under_way.of_plan
+          (dead_there f c.requires.under_way.detects tasks c.requires.under_way.crew.all.crew places are before now c.take_in.ensures.known goes of
+          words last c.take_in.ensures.watches.kept made c.last_pass.new.teller passed));
     }
 
 pub returns-clause-told : goal.returns-clause-told
@@ -142,6 +157,6 @@ returns-clause-told g c = λ live.
     let grown = t.1 ∙ ap (λ (ds : List Dead). ds ++ t.0) c.take_in.ensures.same in
     let dead : c.as_slice-3.result.now ≡ c.last_pass.new.teller.dead = search rules in
     rest_ok c.args.plan.now c.in-Ok-end_from.end c.in-Ok-end_from.ensures.end c.args.teller.dead c.last_pass.new.teller.dead t.0 grown a m n t.2
-    (record { end = c.in-Ok-end_from.end; places = c.in-Ok.places; words = c.close-words.result.0 }) refl
+    (record { end = c.in-Ok-end_from.end; places = c.in-Ok.places; words = c.close-words.result.0; dead = c.close-words.result.2 }) refl
     (subst (λ (ds : List Dead). TellsRest c.in-Ok-end_from.end.blocked ds m n (Ok tt)) dead
     (subst (λ (list : List Status). TellsRest list c.as_slice-3.result.now m n (Ok tt)) c.as_slice-2.ensures.items (c.in_ok-tell_rest.ensures.told live)))
