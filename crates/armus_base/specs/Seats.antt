@@ -125,10 +125,6 @@ seen_after_step t x seen = record seen { places = moved seen.places t x }
 abbrev pub seen_by_child : ℕ → SeenBy → SeenBy
 seen_by_child c seen = record { places = seen.places; exact = λ u. u == c; scanned = 0; found = λ _. None }
 
--- at each taking and each freeing of the lock nothing is found yet
-abbrev pub seen_after_lock : SeenBy → SeenBy
-seen_after_lock seen = record seen { found = λ _. None }
-
 -- the place seen of task t is another one now, and that of each other task is not
 pub record ChangesPlace (t : ℕ) (Changes : Place → Place → Type 0) (before now : SeenBy) : Type 0 where
   pub here : Changes (before.places t) (now.places t)

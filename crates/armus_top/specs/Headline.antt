@@ -1,5 +1,5 @@
 -- What a call of the program leaves. The headline is `Serves`: what the words mean, and how the call may end.
--- After it stands completeness: where nothing failed, the words and the input alone fix the status.
+-- After it stands completeness: where nothing failed and memory sufficed, the words and the input fix whether the status is 2, 3, or one of 0 and 1.
 use Rattle.std.specs.Prelude.{◌≡◌, ◌≢◌, ◌≤◌, ◌<◌, ◌⊎◌, ℕ, ◌+◌, Bool, true, false, List, [], length, Option, Some, None, is_some}
 use Rattle.std.specs.Io.KnownBytes.{Consumes, Appends, Keeps, IsAtEnd}
 use Rattle.armus_base.specs.Causes.{Rose, counted}
@@ -74,10 +74,6 @@ pub data EndsWith (outputs : ℕ → Text → Type 0) (reads : Bool) (src out : 
   read_fault : number ≡ 4 → reads ≡ true → HasCountedFault src → IsSound out → Keeps out.before out.after → EndsWith outputs reads src out number
   write_fault : number ≡ 5 → IsSound src → HasCountedFault out → TookPartOf outputs out → EndsWith outputs reads src out number
   no_memory : number ≡ 6 → IsSound src → IsSound out → Keeps out.before out.after ⊎ TookPartOf outputs out → EndsWith outputs reads src out number
-
--- some first bytes of a permitted output were taken
-abbrev pub TookPart : Option Command → Passage → Passage → Type 0
-TookPart c src out = TookPartOf (Permits c src) out
 
 -- how a call may end whose words mean this, and with which number
 abbrev pub Ends : Option Command → Passage → Passage → ℕ → Type 0

@@ -21,10 +21,6 @@ pub record KeepsOnly (t : TaskId) (wanted : List TaskId) (old new : OrderValue) 
   pub positions : new.positions ≡ old.positions
   pub edges : (x y : TaskId) → IsEdge new x y ↔ (IsEdge old x y × (x ≡ t → Contains wanted y))
 
--- there are also edges from t to the wanted tasks
-abbrev pub HasEdgesMore : TaskId → List TaskId → OrderValue → OrderValue → Type 0
-HasEdgesMore t wanted old new = (x y : TaskId) → IsEdge new x y ↔ (IsEdge old x y ⊎ ((x ≡ t) × Contains wanted y))
-
 -- from a position on the tasks stand in this order, and each other task where it stood
 pub record AreSettled (low : ℕ) (ts : List TaskId) (positions positions' : List ℕ) (at at' : List TaskId) : Type 0 where
   pub sized : length positions' ≡ length positions
