@@ -14,8 +14,8 @@ pub fn awaited_phasers_tell_all_pairs()
     ensures { SamePairs }
 {}
 
-/// On a board that avoids deadlock the statuses that a collect has found have no cycle of the wait-for graph. Those that a holder of the lock has found are
-/// the statuses of the others, since its own task is not published.
+/// On a board that avoids deadlock the statuses that a collect has found have no cycle of the wait-for graph, whoever collects. So those that a holder of the
+/// lock has found of the others have none.
 pub fn collected_statuses_have_no_cycle()
     ensures { CollectedHaveNoCycle }
 {}
