@@ -11,6 +11,7 @@ pub mod SnapSteps
 pub mod Snapped
 pub mod Gathered
 pub mod Merging
+pub mod OneState
 pub mod PassSteps
 pub mod Passed
 pub mod PuttingParts

@@ -19,7 +19,9 @@ pub use decoding::{MAX_SITES, decode};
 pub use encoding::encode;
 pub use ends::{DecodeEnd, KeepEnd, SiteEnd};
 pub use keeper::Keeper;
-pub use laws::{backed_rows_name_the_dead, one_list};
+pub use laws::{
+    backed_rows_name_the_dead, each_moment_is_lawful, one_list, viewers_have_one_state,
+};
 pub use memory::{MemKeeper, SafeKeeper};
 pub use parts::put_parts;
 pub use passing::site_pass;

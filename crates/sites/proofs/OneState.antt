@@ -1,0 +1,74 @@
+-- A lawful state that is as far on as what all viewers have seen.
+use Rattle.std.proofs.Common.{◌≡◌, ℕ, false, List, Some, None, sym, ◌∙◌, subst}
+use Rattle.std.specs.Prelude.{Contains}
+use Rattle.std.proofs.lemmas.Bool.{false≢true}
+use Rattle.armus_base.specs.Boards.{IsLawful, steps_of}
+use Rattle.armus_base.specs.CheckedPlans.{IsCheckedPlan}
+use Rattle.armus_base.specs.Plans.{Plan}
+use Rattle.armus_base.specs.Runs.{ArePrefixes, IsMaximal, IsPlainRun, Place, Precedes, places}
+use Rattle.armus_base.specs.Seats.{IsAsFarOn}
+use Rattle.armus_base.specs.States.{Step}
+use Rattle.armus_base.proofs.BoardRuns.{plain_is_lawful}
+use Rattle.armus_base.proofs.MaximalExists.{maximal_exists}
+use Rattle.armus_base.proofs.Members.{plain_undropped}
+use Rattle.armus_base.proofs.OneEnd.{below_maximal}
+use Rattle.armus_base.proofs.Places.{precedes_trans}
+use Rattle.board.specs.declared.mode.Mode.{Mode}
+use Rattle.board.specs.declared.mode.Mode.TheVariants.{Detect}
+use Rattle.board.specs.Seats.{Known}
+use Rattle.board.specs.Views.{avoids, seen}
+use Rattle.phase_scan.proofs.Farther.{far_of_viewer}
+use Rattle.sites.specs.PassLaws.{AreOfOneMoment, HaveSeenLawful, HasOnlyLooked}
+
+-- the state that the rule names is such a one
+pub moment_lawful : (plan : Plan) (mode : Mode) (views : List Known) → AreOfOneMoment plan mode views → HaveSeenLawful plan mode views
+moment_lawful plan mode views m =
+    record {
+      places = m.kept.places;
+      lock = m.kept.lock;
+      lawful = m.kept.lawful;
+      far = far;
+      dead = λ t dead. dead m.kept.places m.kept.lock m.kept.lawful far;
+    }
+  where
+    far : (k : Known) → Contains views k → IsAsFarOn plan None m.kept.places (seen k.view)
+    far k i =
+        let at = m.there k i in
+        far_of_viewer plan k.view.own m.kept.places (seen k.view) (m.kept.views at.0 k.view at.1.found at.1.live).far
+
+-- so is the one in which every plain run ends, where nobody is known exactly
+module _ (plan : Plan) (views : List Known) (checked : IsCheckedPlan plan) (each : (k : Known) → Contains views k → HasOnlyLooked plan k) (g : List Step)
+    (run : IsPlainRun plan g) (maximal : IsMaximal plan g) where
+  below : (h : List Step) → IsPlainRun plan h → ArePrefixes (places h) (places g)
+  below h plain t =
+      subst (λ o. Precedes (places h t).done o (places g t).done (places g t).dropped) (sym (plain_undropped plan h plain t))
+      (below_maximal plan checked g run maximal h plain t)
+
+  end_far : (k : Known) → Contains views k → IsAsFarOn plan None (places g) (seen k.view)
+  end_far k i =
+      let one = each k i in
+      let l : IsLawful false plan one.lawful.places one.lawful.lock = subst (λ (m : Mode). IsLawful (avoids m) plan one.lawful.places one.lawful.lock) one.detects
+      (subst (λ (q : Plan). IsLawful (avoids k.view.mode) q one.lawful.places one.lawful.lock) one.of_plan one.lawful.lawful) in
+      let near : IsAsFarOn plan None one.lawful.places (seen k.view) = subst (λ (q : Plan). IsAsFarOn q None one.lawful.places (seen k.view)) one.of_plan one.lawful.far in
+      record {
+        later = λ u small.
+            let x : Place = (seen k.view).places u in
+            let y : Place = one.lawful.places u in
+            let z : Place = places g u in
+            precedes_trans x.done y.done z.done x.dropped y.dropped z.dropped (near.later u small)
+            (subst (λ (v : Place). Precedes v.done v.dropped z.done z.dropped) (l.there u) (below (steps_of l.entries) l.run.0 u));
+        equal = λ u small is. absurd (false≢true (sym (one.none_exact u) ∙ is));
+        scanned = λ u is. absurd (none_some u is);
+      }
+    where
+      none_some : (u : ℕ) → None ≡ Some u → ⊥
+      none_some u e = cc
+
+  end_lawful : HaveSeenLawful plan Detect views
+  end_lawful =
+      let lawful = plain_is_lawful plan g run in
+      record { places = places g; lock = None; lawful = lawful; far = end_far; dead = λ t dead. dead (places g) None lawful end_far }
+
+pub viewers_lawful :
+    (plan : Plan) (views : List Known) → IsCheckedPlan plan → ((k : Known) → Contains views k → HasOnlyLooked plan k) → HaveSeenLawful plan Detect views
+viewers_lawful plan views checked each = (let m = maximal_exists plan checked in end_lawful plan views checked each m.0 m.1 m.2)
