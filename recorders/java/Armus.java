@@ -119,10 +119,14 @@ public final class Armus {
         }
     };
 
+    /** The program ends, and not by a signal; and with it each thread that does not wait. */
+    private static volatile boolean ends;
+
     static {
         Runtime.getRuntime().addShutdownHook(new Thread(new Runnable() {
             @Override
             public void run() {
+                ends = !isTold();
                 write();
             }
         }, "armus at the end"));
@@ -461,9 +465,10 @@ public final class Armus {
         return "";
     }
 
-    private static boolean isEnding(StackTraceElement[] frames) {
-        for (StackTraceElement frame : frames) {
-            if (frame.getClassName().equals("java.lang.Shutdown")) {
+    /** Whether a signal ends the program: Java has a thread for it then. */
+    private static boolean isTold() {
+        for (Thread thread : Thread.getAllStackTraces().keySet()) {
+            if (thread.getName().matches("SIG[A-Z]+ handler")) {
                 return true;
             }
         }
@@ -548,7 +553,7 @@ public final class Armus {
                     task.part(point);
                 }
                 task.now = log.thread.getStackTrace();
-                task.ended = !log.thread.isAlive() || isEnding(task.now);
+                task.ended = !log.thread.isAlive() || ends && !task.isInside();
                 if (!task.parts.isEmpty()) {
                     tasks.add(task);
                 }

@@ -26,7 +26,7 @@ _own = threading.local()
 _writing = threading.RLock()
 _process = os.getpid()
 _stopped = False     # Ctrl-C has been written, and what comes behind it is no part of the hang
-_ending = None       # the thread that ends the program
+_ends = False        # the program ends, and with it each thread that does not wait
 
 
 def _place():
@@ -172,7 +172,7 @@ class _Task:
     def __init__(self, log):
         self.log = log
         self.ops = list(log.ops)
-        self.ended = not log.thread.is_alive() or log.thread is _ending
+        self.ended = not log.thread.is_alive() or _ends and (not self.ops or self.ops[-1].done)
         self.at = {point: [] for point in log.said}
         for op in self.ops:
             self.at.setdefault(op.at, []).append(op)
@@ -288,8 +288,8 @@ def _watch(seconds):
 
 
 def _at_end():
-    global _ending
-    _ending = threading.current_thread()
+    global _ends
+    _ends = getattr(sys, 'last_type', None) is not KeyboardInterrupt
     write()
 
 
