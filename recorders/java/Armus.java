@@ -522,10 +522,12 @@ public final class Armus {
         }
     }
 
-    /** How one barrier stands: the turns below {@code turn} are complete, and those below {@code from} are left out. */
+    /** How one barrier stands: the turns below {@code turn} are complete, and those below {@code from} are left out; a phaser is steady where each thread comes
+     * once in each turn from its first one to its leave. */
     private static final class Stand {
         int from;
         int turn;
+        boolean steady;
         int unseen;
         String name;
     }
@@ -671,10 +673,13 @@ public final class Armus {
                         steady &= !left && (next < 0 || op.turn == next);
                         next = op.turn + 1;
                         left = op.kind == Kind.LEAVE;
+                    } else if (op.kind == Kind.WAIT && !op.done) {
+                        steady &= !left;
                     }
                 }
                 steady &= left || next < 0 || next >= stand.turn;
             }
+            stand.steady = steady;
             stand.from = steady ? 0 : stand.turn;
             if (phase < 0) {
                 stand.turn++;
@@ -765,7 +770,7 @@ public final class Armus {
                 String on = "(" + stand.name + ");" + place;
                 int turn = turn(op);
                 boolean written = op.kind != Kind.GONE && turn >= stand.from;
-                if (written && op.kind == Kind.LEAVE && stand.from == 0) {
+                if (written && op.kind == Kind.LEAVE && stand.steady) {
                     task.code.add("dereg" + on);
                     part.join = part.join < 0 ? turn : part.join;
                 } else if (written) {
@@ -834,7 +839,7 @@ public final class Armus {
                         continue;
                     }
                     int phase = phases.containsKey(point) ? phases.get(point) : stand.from;
-                    int least = join;
+                    int least = stand.unseen > 0 ? Math.min(join, Math.max(stand.turn, stand.from)) : join;
                     for (Task later : tasks.subList(i + 1, tasks.size())) {
                         Part part = later.parts.get(point);
                         least = part == null || part.join < 0 ? least : Math.min(least, part.join);
