@@ -130,13 +130,12 @@ public final class Armus {
                 write();
             }
         }, "armus at the end"));
-        final String idle = System.getenv("ARMUS_IDLE");
-        if (idle != null && !idle.isEmpty()) {
-            final long seconds = Long.parseLong(idle);
+        final long idle = idle();
+        if (idle >= 0) {
             Thread watcher = new Thread(new Runnable() {
                 @Override
                 public void run() {
-                    watch(seconds);
+                    watch(idle);
                 }
             }, "armus watcher");
             watcher.setDaemon(true);
@@ -383,6 +382,20 @@ public final class Armus {
         }
     }
 
+    /** The nanoseconds that ARMUS_IDLE says, or less than 0. */
+    private static long idle() {
+        String idle = System.getenv("ARMUS_IDLE");
+        if (idle == null || idle.isEmpty()) {
+            return -1;
+        }
+        try {
+            return (long) (Double.parseDouble(idle) * 1e9);
+        } catch (NumberFormatException e) {
+            System.err.println("armus: ARMUS_IDLE is no number of seconds: " + idle);
+            return -1;
+        }
+    }
+
     /** The number of all that threads did; as long as it stays, nothing moved. */
     private static long moves() {
         long all = 0;
@@ -392,7 +405,7 @@ public final class Armus {
         return all;
     }
 
-    private static void watch(long seconds) {
+    private static void watch(long idle) {
         long last = 0;
         long since = System.nanoTime();
         boolean written = true;
@@ -407,7 +420,7 @@ public final class Armus {
                 last = now;
                 since = System.nanoTime();
                 written = false;
-            } else if (!written && System.nanoTime() - since >= seconds * 1_000_000_000L) {
+            } else if (!written && System.nanoTime() - since >= idle) {
                 write();
                 written = true;
             }

@@ -306,8 +306,12 @@ def _begin():
             number = getattr(signal, name, None)
             if number is not None and signal.getsignal(number) == signal.SIG_DFL:
                 signal.signal(number, handler)
-    if os.environ.get('ARMUS_IDLE'):
-        threading.Thread(target=_watch, args=(float(os.environ['ARMUS_IDLE']),), name='armus watcher', daemon=True).start()
+    idle = os.environ.get('ARMUS_IDLE')
+    if idle:
+        try:
+            threading.Thread(target=_watch, args=(float(idle),), name='armus watcher', daemon=True).start()
+        except ValueError:
+            print('armus: ARMUS_IDLE is no number of seconds:', idle, file=sys.stderr)
 
 
 _begin()
