@@ -34,6 +34,6 @@ pub record ArePlayed (board : Frame) (plan : Plan) (seats : List Known) (view : 
   pub of_cells : IsRoomFor board cells
 
 -- nobody is dead in the world, and the order is of its tasks
-pub record IsKept (world : WorldValue) (order : OrderValue) : Type 0 where
+pub record IsWithOrder (world : WorldValue) (order : OrderValue) : Type 0 where
   pub nobody : NobodyDead (state_of world)
   pub tasks : length order.positions ≡ length world.plan.parents

@@ -23,11 +23,11 @@ impl<'p> Model for WorldPlay<'p> {
 
     ghost Value = { WorldValue };
 
-    ghost use Rattle.board_tests.specs.Rooms.{IsKept};
+    ghost use Rattle.board_tests.specs.Rooms.{IsWithOrder};
 
     ghost view = { λ w. w.world };
 
-    ghost invariant = { λ w. IsKept w.world w.order };
+    ghost invariant = { λ w. IsWithOrder w.world w.order };
 }
 
 impl<'p> WorldPlay<'p> {
