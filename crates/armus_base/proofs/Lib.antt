@@ -69,3 +69,10 @@ pub mod FoldedTests
 pub mod Sending
 pub mod WorkedPieces
 pub mod ByPlaces
+pub mod AvoidanceAgrees
+pub mod CycleIsDeadlocked
+pub mod NeverPassed
+pub mod ComesAsFar
+pub mod RefusedWasStuck
+pub mod RefusedEnds
+pub mod HeldHasEnd

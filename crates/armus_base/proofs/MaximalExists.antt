@@ -33,7 +33,7 @@ module _ (f g : ℕ → ℕ) (t : ℕ) (own : g t ≡ suc (f t)) (rest : (u : �
   sum_same zero l = refl
   sum_same (suc n) l = (let a = sum_same n (omega arith) in let b = rest n (λ e. absurd (omega arith)) in omega arith)
 
-  sum_more : (n : ℕ) → t < n → sum_below g n ≡ suc (sum_below f n)
+  pub sum_more : (n : ℕ) → t < n → sum_below g n ≡ suc (sum_below f n)
   unfolding sum_below
   sum_more zero l = absurd (omega arith)
   sum_more (suc n) l =

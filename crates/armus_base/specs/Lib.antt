@@ -26,6 +26,7 @@ pub mod DecisionLaws
 pub mod PlanLaws
 pub mod PieceLaws
 pub mod FinalLaws
+pub mod AgreementLaws
 pub mod TwoTasks
 pub mod Exclusions
 pub mod WorkedTexts

@@ -1,4 +1,5 @@
 // The laws over the definitions: each is the contract of a public function with an empty body.
+mod agreement;
 mod deadlocks;
 mod decisions;
 mod finals;
@@ -9,6 +10,10 @@ mod runs;
 mod seats;
 mod texts;
 
+pub use agreement::{
+    avoidance_agrees, cycle_is_deadlocked, dead_is_final, done_stays_done, held_has_end,
+    refused_was_stuck,
+};
 pub use deadlocks::{collected_is_dead, dead_stays, nobody_is_dead, only_blocks_kill};
 pub use decisions::list_decides;
 pub use finals::{final_is_of_state, statuses_are_of_state};
