@@ -45,4 +45,4 @@ pub use plan::{MAX_CELLS, MAX_OFFSET, MAX_OPS, MAX_PHASERS, MAX_TASKS, Plan};
 pub use read::read_all;
 pub use standard::{StdSink, StdSource};
 pub use status::{Dead, Member, Status};
-pub use write::write_text;
+pub use write::{Writes, write_text};

@@ -3,7 +3,7 @@ use Rattle.std.proofs.lemmas.List.{take_rest}
 use Rattle.std.specs.Io.KnownBytes.{Appends}
 use Rattle.std.proofs.KnownBytes.{Appends-trans}
 use lib.Seq.{take-add}
-use Rattle.armus_base.proofs.write.write_text.Goals as goal
+use Rattle.armus_base.proofs.write.AnyWrites.write_all.Goals as goal
 
 pub loop-at-preserved : goal.loop-at-preserved
 loop-at-preserved g c =
