@@ -26,7 +26,7 @@ module _ (plan : Plan) (checked : IsCheckedPlan plan) (h : List Step) (run : IsL
   fixed = places_fix plan checked h run
 
   -- a published task is forked, and its code goes on with the pass
-  published_tells : (t : ℕ) (e : Event) → (state_after h).published t ≡ Some e → (state_after h).forked t ≡ true × action_at plan t (places h t).done ≡ Some (Passes e.p.0)
+  pub published_tells : (t : ℕ) (e : Event) → (state_after h).published t ≡ Some e → (state_after h).forked t ≡ true × action_at plan t (places h t).done ≡ Some (Passes e.p.0)
   published_tells t e is =
       let published : published_after plan t (places h t).done ≡ Some e = sym (ap (λ s. s.published t) fixed.0) ∙ is in
       let at = published_after_is plan t (places h t).done e published in

@@ -1,6 +1,7 @@
 -- In the final state of a clock text's plan each task has ended as its activity stands at the ends of the direct machine.
 use Rattle.std.proofs.Common.{◌≡◌, ◌++◌, ℕ, [], refl, subst, sym}
 use Rattle.std.specs.Prelude.{Ok}
+use Rattle.armus_base.specs.Deadlocks.{IsHeld}
 use Rattle.armus_base.specs.Plans.{Plan}
 use Rattle.armus_base.specs.Runs.{IsFinal}
 use Rattle.armus_base.specs.States.{State}
@@ -10,7 +11,7 @@ use Rattle.clock_syntax.specs.Trees.{ClockTree}
 use Rattle.clock_moves.specs.Unfolding.{ClockUnfolding, clock_plan_of, clock_unfolded, plan_of_moves}
 use Rattle.clock_machine.specs.Direct.{direct_opening}
 use Rattle.clock_machine.specs.Laws.{IsDirectEnd, moves_of}
-use Rattle.clock_machine.proofs.ClockEnds.{ends_are_those_of_tasks}
+use Rattle.clock_machine.proofs.ClockEnds.{ends_are_those_of_tasks, no_task_is_held}
 use Rattle.clock_machine.proofs.ClockRuns.{runs_end}
 use Rattle.armus_words.specs.declared.command.RunKind.{RunKind}
 use Rattle.armus_words.specs.Words.{Text}
@@ -38,8 +39,13 @@ direct_ends text plan (program, reads, unfolds) state final =
       each = λ s t end below. ends_are_those_of_tasks program u s state t opens end final_too below;
     }
 
+unheld : (text : Text) (plan : Plan) → IsClockPlanOf text plan → (state : State) (t : ℕ) → IsFinal plan state → IsHeld state t → ⊥
+unheld text plan (program, reads, unfolds) state t final held =
+    let (u, opens, plan_is) = unfolding_of program plan unfolds in
+    no_task_is_held program u state t opens (subst (λ q. IsFinal q state) (sym plan_is) final) held
+
 -- what is written of a run of the text's plan
 pub clock_run_of : (text : Text) (plan : Plan) (kind : RunKind) (g : Wanted) (status : ℕ) (output : Text) → IsClockPlanOf text plan
     → IsRunOutput kind plan g status output → IsClockRunOf text kind g status output
 clock_run_of text plan kind g status output plan_is run =
-    record { plan = plan; plan_is = plan_is; run = run; direct = direct_ends text plan plan_is }
+    record { plan = plan; plan_is = plan_is; run = run; direct = direct_ends text plan plan_is; unheld = unheld text plan plan_is }

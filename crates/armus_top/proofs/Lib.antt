@@ -1,5 +1,6 @@
 pub mod OnePlan
 pub mod OneClockPlan
+pub mod OneRefusal
 pub mod DirectEnds
 pub mod TellingClocks
 pub mod ReplayInputs

@@ -1,5 +1,6 @@
 -- What `clock` writes.
 use Rattle.std.specs.Prelude.{◌≡◌, ◌<◌, ℕ, Ok}
+use Rattle.armus_base.specs.Deadlocks.{IsHeld}
 use Rattle.armus_base.specs.Finals.{end_of}
 use Rattle.armus_base.specs.Plans.{Plan}
 use Rattle.armus_base.specs.Runs.{IsFinal}
@@ -24,9 +25,10 @@ pub record HasDirectEnds (text : Text) (state : State) : Type 0 where
   pub some : (s : ClockState) × IsDirectEnd unfolded s
   pub each : (s : ClockState) (t : ℕ) → IsDirectEnd unfolded s → t < activities unfolded → StandsAs s t (end_of state t)
 
--- what is written of a run of this kind of the text's plan, whose final state, which the report tells, is that of the direct machine too
+-- what is written of a run of this kind of the text's plan, whose final state, which the report tells, is that of the direct machine too; in it no task is held
 pub record IsClockRunOf (text : Text) (kind : RunKind) (g : Wanted) (status : ℕ) (output : Text) : Type 0 where
   pub plan : Plan
   pub plan_is : IsClockPlanOf text plan
   pub run : IsRunOutput kind plan g status output
   pub direct : (state : State) → IsFinal plan state → HasDirectEnds text state
+  pub unheld : (state : State) (t : ℕ) → IsFinal plan state → IsHeld state t → ⊥

@@ -22,15 +22,10 @@ use Rattle.explanation.proofs.OneExplanation.{one_explanation}
 use Rattle.armus_words.specs.Words.{Text}
 use Rattle.armus_top.specs.Programs.{IsFaultOf, TellsDead}
 use Rattle.armus_top.proofs.OnePlan.{checked_plan, one_plan, plan_or_fault}
+use Rattle.armus_top.proofs.OneRefusal.{one_refusal, one_status}
 use Rattle.explain.specs.Explained.{IsExplanationOf}
 use Rattle.explain.specs.Laws.{OneOutput}
 use Rattle.explain.specs.Refused.{IsFaultPlace, IsRefusedWith, offset_of_statement}
-
-one_status : (state : State) (a b : ℕ) → TellsDead state a → TellsDead state b → a ≡ b
-one_status state a b (inl (x, some)) (inl (y, other)) = x ∙ sym y
-one_status state a b (inl (x, some)) (inr (y, nobody)) = absurd (nobody some.0 some.1)
-one_status state a b (inr (x, nobody)) (inl (y, some)) = absurd (nobody some.0 some.1)
-one_status state a b (inr (x, nobody)) (inr (y, none)) = x ∙ sym y
 
 one_explained : (text : Text) (status other : ℕ) (lines others : Text) → IsExplanationOf text status lines → IsExplanationOf text other others
     → (status ≡ other) × (lines ≡ others)
@@ -49,21 +44,6 @@ one_explained text status other lines others a b =
       one_status (state_after a.steps) status other a.status_is (subst (λ (s : State). TellsDead s other) (sym ends.1) b.status_is),
       one_explanation text a.program a.plan (places a.steps) lines others a.explains of_places,
     )
-
-one_refusal : (text : Text) (why other : Refusal) → IsFaultOf text why → IsFaultOf text other → why ≡ other
-one_refusal text (Syntax f) (Syntax g) a b = ap Syntax (one_fault text f g a b)
-one_refusal text (Syntax f) (Check g) a (p, reads, fails) = absurd (text_or_fault text p f reads a)
-one_refusal text (Check f) (Syntax g) (p, reads, fails) b = absurd (text_or_fault text p g reads b)
-one_refusal text (Check f) (Check g) (p, reads, fails) (q, others, faults) =
-    let failing : plan_of q ≡ Err f = subst (λ (x : Program). plan_of x ≡ Err f) (one_tree text p q reads others) fails in
-    let same : f ≡ g = cc in
-    ap Check same
-one_refusal text (Syntax f) Length a b = absurd b
-one_refusal text (Syntax f) (Schedule g) a b = absurd b
-one_refusal text (Check f) Length a b = absurd b
-one_refusal text (Check f) (Schedule g) a b = absurd b
-one_refusal text Length other a b = absurd a
-one_refusal text (Schedule f) other a b = absurd a
 
 one_place : (text : Text) (why : Refusal) (x y : TextPlace) → IsFaultPlace text why x → IsFaultPlace text why y → x ≡ y
 one_place text (Syntax f) x y a b = a ∙ sym b

@@ -55,7 +55,7 @@ no_bytes line rest (unended p some e nothing) = some (sym e)
 
 -- ---- all lines
 
-one_cut : (bytes : List ℕ) (lines others : List (List ℕ)) → IsCut bytes lines → IsCut bytes others → lines ≡ others
+pub one_cut : (bytes : List ℕ) (lines others : List (List ℕ)) → IsCut bytes lines → IsCut bytes others → lines ≡ others
 one_cut _ _ _ no_line no_line = refl
 one_cut _ _ _ no_line (a_line _ line rest lines first cut) = absurd (no_bytes line rest first)
 one_cut _ _ _ (a_line _ line rest lines first cut) no_line = absurd (no_bytes line rest first)

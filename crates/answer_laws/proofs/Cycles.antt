@@ -1,0 +1,86 @@
+-- The cycle of a report is a deadlocked set, and the graph changes the last line alone.
+use Rattle.std.proofs.Common.{◌≡◌, ◌∙◌, ◌++◌, ℕ, List, [], ap, inl, inr, sym, subst, refl, append_assoc}
+use Rattle.std.specs.Prelude.{◌↔◌}
+use Rattle.armus_base.specs.declared.ids.TaskId.{TaskId}
+use Rattle.armus_base.specs.declared.status.Status.{Status}
+use Rattle.armus_base.specs.AgreementLaws.{WaitsForEnded, has_task}
+use Rattle.armus_base.specs.CheckedPlans.{IsCheckedPlan}
+use Rattle.armus_base.specs.Deadlocks.{IsAtPhase, IsDeadBy, IsDeadIn, IsDeadlockedSet, IsHeld, IsPublishedOn}
+use Rattle.armus_base.specs.FinalLaws.{IsOfPlan}
+use Rattle.armus_base.specs.Finals.{final_of}
+use Rattle.armus_base.specs.Plans.{Plan}
+use Rattle.armus_base.specs.Runs.{IsFinal}
+use Rattle.armus_base.specs.States.{State}
+use Rattle.armus_base.proofs.CycleIsDeadlocked.{cycle_is_deadlocked_in, walk_cycle_waits}
+use Rattle.armus_base.proofs.DeadByStatuses.{dead_by_final, run_is_of_plan}
+use Rattle.armus_base.proofs.HeldHasEnd.{held_has_end}
+use Rattle.adaptive.specs.declared.analysis.Wanted.{Wanted}
+use Rattle.report.specs.Counts.{counts_of}
+use Rattle.report.specs.Lines.{counts_line, cycle_line, graph_line, task_lines}
+use Rattle.report.specs.Reports.{IsCycleText, IsReport, IsReportedCycle, IsSomeDead}
+use Rattle.report.specs.declared.standing.Standing.{Standing}
+use Rattle.report.proofs.OneReport.{one_cycle_text, one_standings}
+use Rattle.verdict.specs.Cycles.{IsDeadStep}
+use Rattle.armus_words.specs.Words.{Text}
+use Rattle.armus_top.specs.Programs.{TellsDead}
+use Rattle.armus_top.specs.Runs.{IsRunOf}
+use Rattle.armus_top.proofs.OneRefusal.{one_status}
+use Rattle.answer_laws.specs.Cycles.{CycleIsProof, GraphChangesLastLine, ShowsDeadlock, by_cycle, by_none}
+use Rattle.answer_laws.specs.Held.{HeldTasksHaveEnd}
+use Rattle.answer_laws.proofs.OneRun.{one_final}
+
+-- the tasks of a reported cycle are a deadlocked set of the state
+reported_is_deadlocked : (plan : Plan) (state : State) (cycle : List TaskId) → IsReportedCycle (final_of plan state).blocked cycle
+    → IsDeadlockedSet (IsPublishedOn state) (IsAtPhase state) (has_task cycle)
+reported_is_deadlocked plan state cycle (start, least, walk) =
+    cycle_is_deadlocked_in plan state cycle
+    (walk_cycle_waits (final_of plan state).blocked (IsDeadStep (final_of plan state).blocked) (λ t u (step : IsDeadStep _ t u). step.waits) start cycle walk)
+
+module _ (plan : Plan) (state : State) (of_plan : IsOfPlan plan state) where
+  same : (t : ℕ) → IsDeadBy (final_of plan state).blocked t ↔ IsDeadIn state t
+  same t = dead_by_final plan state t of_plan
+
+  shows : (text : Text) (status : ℕ) → IsCycleText (final_of plan state).blocked text → TellsDead state status → ShowsDeadlock state text status
+  shows text status (inl (none, is)) (inl (one, (t, dead))) = absurd (none (t, (same t).1 dead))
+  shows text status (inl (none, is)) (inr (zero, nobody)) = subst (ShowsDeadlock state text) (sym zero) (by_none is)
+  shows text status (inr (cycle, reported, is)) (inl (one, some)) =
+      subst (ShowsDeadlock state text) (sym one) (by_cycle cycle is (reported_is_deadlocked plan state cycle reported))
+  shows text status (inr (cycle, reported, is)) (inr (zero, nobody)) =
+      absurd (let least = reported.1 in nobody reported.0.0 ((same reported.0.0).0 least.dead))
+
+final_of_plan : (plan : Plan) (state : State) → IsCheckedPlan plan → IsFinal plan state → IsOfPlan plan state
+final_of_plan plan state checked final = subst (λ (x : State). IsOfPlan plan x) final.there (run_is_of_plan plan final.steps checked final.run.0)
+
+pub cycle_is_proof : CycleIsProof
+cycle_is_proof plan g status report run checked =
+    shows plan run.state (final_of_plan plan run.state checked run.final) run.report_is.cycle_text status run.report_is.cycle run.status_is
+
+-- ---- the last line
+
+-- what stands ahead of the last line
+abbrev ahead : List Standing → Text → Text
+ahead standings cycle = counts_line (counts_of standings) ++ task_lines standings ++ cycle
+
+lines_are : (a b c d : Text) → a ++ b ++ c ++ d ≡ (a ++ b ++ c) ++ d
+lines_are a b c d = simp append_assoc refl
+
+pub graph_changes_last_line : GraphChangesLastLine
+graph_changes_last_line plan g h a b p q checked r s =
+    let states : s.state ≡ r.state = one_final plan s.state r.state checked s.final r.final in
+    let blocked = (final_of plan r.state).blocked in
+    let x = r.report_is in
+    let y : IsReport (final_of plan r.state) h q = subst (λ (z : State). IsReport (final_of plan z) h q) states s.report_is in
+    let stands : y.standings ≡ x.standings = one_standings (IsDeadBy blocked) (final_of plan r.state).ends y.standings x.standings y.stand x.stand in
+    let cycles : y.cycle_text ≡ x.cycle_text = one_cycle_text blocked y.cycle_text x.cycle_text y.cycle x.cycle in
+    let front = ahead x.standings x.cycle_text in
+    let (used, m, used_is, count_is, last_is) = x.graph in
+    let (other, n, other_is, number_is, end_is) = y.graph in (
+      one_status r.state a b r.status_is (subst (λ (z : State). TellsDead z b) states s.status_is),
+      front, used, other, m, n,
+      x.lines ∙ lines_are (counts_line (counts_of x.standings)) (task_lines x.standings) x.cycle_text x.graph_text ∙ ap (λ t. front ++ t) last_is,
+      y.lines ∙ lines_are (counts_line (counts_of y.standings)) (task_lines y.standings) y.cycle_text y.graph_text
+      ∙ ap (λ z. ahead z y.cycle_text ++ y.graph_text) stands ∙ ap (λ z. ahead x.standings z ++ y.graph_text) cycles ∙ ap (λ t. front ++ t) end_is,
+    )
+
+pub held_tasks_have_end : HeldTasksHaveEnd
+held_tasks_have_end plan g status report run t checked held = held_has_end plan run.state t checked run.final held

@@ -1,0 +1,15 @@
+// Laws of answers: what the words and the input fix.
+ghost use Rattle.answer_laws.specs.OneAnswer.{OneAnswer, RunsReportAlike};
+ghost use Rattle.answer_laws.specs.Printed.{PrintingKeepsMeaning};
+
+/// The words and the input alone fix the status and the text of every command but `record`, and `avoid` with several workers; live lines may come in
+/// another order. So `run`, `run --sites` and `pool` write the same bytes, whatever their numbers of workers and of sites.
+pub fn one_answer()
+    ensures one { OneAnswer }
+    ensures alike { RunsReportAlike }
+{}
+
+/// What `check --print` writes of an input is answered as the input is, and printed again it is the same.
+pub fn printing_keeps_meaning()
+    ensures { PrintingKeepsMeaning }
+{}

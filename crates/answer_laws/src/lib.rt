@@ -1,0 +1,11 @@
+//! Laws of what the program answers: one answer for one input, avoidance agrees with the run, a cycle is the proof of a deadlock, and more. Each is the
+//! contract of a function with an empty body, over the definitions by which the top call answers.
+#![tactic(auto)]
+
+mod agreement;
+mod answers;
+mod reports;
+
+pub use agreement::{avoid_tells_as_run, replay_tells_as_run, who_gains_and_pays};
+pub use answers::{one_answer, printing_keeps_meaning};
+pub use reports::{cycle_is_proof, held_tasks_have_end};

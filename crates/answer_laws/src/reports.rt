@@ -1,0 +1,15 @@
+// Laws of the report of a run.
+ghost use Rattle.answer_laws.specs.Cycles.{CycleIsProof, GraphChangesLastLine};
+ghost use Rattle.answer_laws.specs.Held.{HeldTasksHaveEnd};
+
+/// The status of a run is 1 exactly where its report has a cycle line, and the tasks of that line are a deadlocked set of the state in which the run ends.
+/// The graph that is wanted changes the last line of a report alone.
+pub fn cycle_is_proof()
+    ensures proof { CycleIsProof }
+    ensures graph { GraphChangesLastLine }
+{}
+
+/// A task that a run reports as held waits, through held ones, for one that has ended or is unforked.
+pub fn held_tasks_have_end()
+    ensures { HeldTasksHaveEnd }
+{}
