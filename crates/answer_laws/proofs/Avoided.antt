@@ -1,13 +1,13 @@
 -- Avoidance and the run of one input.
-use Rattle.std.proofs.Common.{◌≡◌, ◌≢◌, ◌∙◌, ◌<◌, ℕ, Bool, ap, inl, inr, sym, subst, refl, true, false, length, cases_Bool}
+use Rattle.std.proofs.Common.{◌≡◌, ◌≢◌, ◌∙◌, ◌<◌, ℕ, Bool, ap, inl, inr, sym, subst, refl, true, false, length}
 use Rattle.std.specs.Prelude.{IsSome, None, Option, Some}
 use Rattle.armus_base.specs.declared.ending.TaskEnd.{TaskEnd}
 use Rattle.armus_base.specs.declared.ending.TaskEnd.TheVariants.{Done, Blocked, Refused, Unforked}
 use Rattle.armus_base.specs.declared.event.Event.{Event}
-use Rattle.armus_base.specs.AgreementLaws.{HasEndedRefused, IsStuckIn, OnlyForkedMembers}
+use Rattle.armus_base.specs.AgreementLaws.{HasEndedRefused, OnlyForkedMembers}
 use Rattle.armus_base.specs.Avoidance.{IsAvoidedFinal}
 use Rattle.armus_base.specs.CheckedPlans.{IsCheckedPlan}
-use Rattle.armus_base.specs.Deadlocks.{IsDeadIn, NobodyDead}
+use Rattle.armus_base.specs.Deadlocks.{NobodyDead}
 use Rattle.armus_base.specs.FinalLaws.{IsOfPlan}
 use Rattle.armus_base.specs.Finals.{end_by, end_of, final_of}
 use Rattle.armus_base.specs.Plans.{Plan}
@@ -22,7 +22,6 @@ use Rattle.armus_base.proofs.RefusedWasStuck.{refused_was_dead, refused_was_not_
 use Rattle.adaptive.specs.declared.analysis.Wanted.{Wanted}
 use Rattle.report.specs.Reports.{IsReport}
 use Rattle.report.proofs.OneReport.{one_report}
-use Rattle.armus_words.specs.declared.command.Command.{Command}
 use Rattle.armus_words.specs.declared.command.Command.TheVariants.{Avoid, Run}
 use Rattle.armus_words.specs.declared.command.Graph.{Graph}
 use Rattle.armus_words.specs.declared.command.RunKind.TheVariants.{Plain}
@@ -34,8 +33,7 @@ use Rattle.armus_top.specs.Programs.{IsPlanOf, TellsDead}
 use Rattle.armus_top.specs.Runs.{IsRunOf}
 use Rattle.armus_top.proofs.Inputs.{never_both}
 use Rattle.armus_top.proofs.OnePlan.{checked_plan, one_plan}
-use Rattle.answer_laws.specs.Avoided.{AvoidTellsAsRun, LeavesNobodyUnforked, StandsInBoth, WhoGainsAndPays}
-use Rattle.answer_laws.specs.ReportedRuns.{ReportsRun}
+use Rattle.answer_laws.specs.Avoided.{AvoidTellsAsRun, LeavesNobodyUnforked, WhoGainsAndPays}
 use Rattle.answer_laws.proofs.OneAnswer.{tells_run}
 use Rattle.answer_laws.proofs.OneRefused.{one_refused}
 
@@ -80,7 +78,7 @@ told_alike input workers g h a b p q r plan is run =
     let checked = checked_plan input r.plan r.plan_is in (
       statuses_agree r.plan checked s.state r.state s.final r.avoided a b r.status_is s.status_is,
       λ other same. bytes_agree r.plan checked s.state r.state s.final r.avoided (wanted_of g) b p q other s.status_is r.report_is
-      (subst (λ x. IsReport (final_of r.plan s.state) (wanted_of x) q) (sym same) s.report_is),
+          (subst (λ x. IsReport (final_of r.plan s.state) (wanted_of x) q) (sym same) s.report_is),
     )
 
 answers_agree : (workers : ℕ) (g h : Graph) (kept : Bool) (input : Text) (a b : ℕ) (p q : Text) → Answers (Avoid workers g kept) input a p
@@ -103,7 +101,7 @@ forked_by false other = absurd (other refl)
 
 module _ (plan : Plan) (checked : IsCheckedPlan plan) (f : State) (final : IsFinal plan f) (all : LeavesNobodyUnforked plan f) where
   forked_after : (t : ℕ) → t < length plan.parents → (o : Option Event) → (state_after final.steps).published t ≡ o → (state_after final.steps).forked t ≡ true
-  forked_after t below (Some e) is = (published_tells plan final.steps checked final.run.0 t e is).0
+  forked_after t below (Some e) is = (published_tells plan checked final.steps final.run.0 t e is).0
   forked_after t below None is =
       let unrefused : (state_after final.steps).refused t ≡ None = plain_unrefused plan checked final.steps final.run t in
       let ended : end_of (state_after final.steps) t ≡ end_by ((state_after final.steps).forked t) None None =

@@ -1,11 +1,10 @@
 -- The cycle of a report is a deadlocked set, and the graph changes the last line alone.
-use Rattle.std.proofs.Common.{◌≡◌, ◌∙◌, ◌++◌, ℕ, List, [], ap, inl, inr, sym, subst, refl, append_assoc}
+use Rattle.std.proofs.Common.{◌≡◌, ◌∙◌, ◌++◌, ℕ, List, ap, inl, inr, sym, subst, refl, append_assoc}
 use Rattle.std.specs.Prelude.{◌↔◌}
 use Rattle.armus_base.specs.declared.ids.TaskId.{TaskId}
-use Rattle.armus_base.specs.declared.status.Status.{Status}
-use Rattle.armus_base.specs.AgreementLaws.{WaitsForEnded, has_task}
+use Rattle.armus_base.specs.AgreementLaws.{has_task}
 use Rattle.armus_base.specs.CheckedPlans.{IsCheckedPlan}
-use Rattle.armus_base.specs.Deadlocks.{IsAtPhase, IsDeadBy, IsDeadIn, IsDeadlockedSet, IsHeld, IsPublishedOn}
+use Rattle.armus_base.specs.Deadlocks.{IsAtPhase, IsDeadBy, IsDeadIn, IsDeadlockedSet, IsPublishedOn}
 use Rattle.armus_base.specs.FinalLaws.{IsOfPlan}
 use Rattle.armus_base.specs.Finals.{final_of}
 use Rattle.armus_base.specs.Plans.{Plan}
@@ -14,16 +13,14 @@ use Rattle.armus_base.specs.States.{State}
 use Rattle.armus_base.proofs.CycleIsDeadlocked.{cycle_is_deadlocked_in, walk_cycle_waits}
 use Rattle.armus_base.proofs.DeadByStatuses.{dead_by_final, run_is_of_plan}
 use Rattle.armus_base.proofs.HeldHasEnd.{held_has_end}
-use Rattle.adaptive.specs.declared.analysis.Wanted.{Wanted}
 use Rattle.report.specs.Counts.{counts_of}
-use Rattle.report.specs.Lines.{counts_line, cycle_line, graph_line, task_lines}
-use Rattle.report.specs.Reports.{IsCycleText, IsReport, IsReportedCycle, IsSomeDead}
+use Rattle.report.specs.Lines.{counts_line, task_lines}
+use Rattle.report.specs.Reports.{IsCycleText, IsReport, IsReportedCycle}
 use Rattle.report.specs.declared.standing.Standing.{Standing}
 use Rattle.report.proofs.OneReport.{one_cycle_text, one_standings}
 use Rattle.verdict.specs.Cycles.{IsDeadStep}
 use Rattle.armus_words.specs.Words.{Text}
 use Rattle.armus_top.specs.Programs.{TellsDead}
-use Rattle.armus_top.specs.Runs.{IsRunOf}
 use Rattle.armus_top.proofs.OneRefusal.{one_status}
 use Rattle.answer_laws.specs.Cycles.{CycleIsProof, GraphChangesLastLine, ShowsDeadlock, by_cycle, by_none}
 use Rattle.answer_laws.specs.Held.{HeldTasksHaveEnd}
@@ -76,10 +73,14 @@ graph_changes_last_line plan g h a b p q checked r s =
     let (used, m, used_is, count_is, last_is) = x.graph in
     let (other, n, other_is, number_is, end_is) = y.graph in (
       one_status r.state a b r.status_is (subst (λ (z : State). TellsDead z b) states s.status_is),
-      front, used, other, m, n,
+      front,
+      used,
+      other,
+      m,
+      n,
       x.lines ∙ lines_are (counts_line (counts_of x.standings)) (task_lines x.standings) x.cycle_text x.graph_text ∙ ap (λ t. front ++ t) last_is,
       y.lines ∙ lines_are (counts_line (counts_of y.standings)) (task_lines y.standings) y.cycle_text y.graph_text
-      ∙ ap (λ z. ahead z y.cycle_text ++ y.graph_text) stands ∙ ap (λ z. ahead x.standings z ++ y.graph_text) cycles ∙ ap (λ t. front ++ t) end_is,
+          ∙ ap (λ z. ahead z y.cycle_text ++ y.graph_text) stands ∙ ap (λ z. ahead x.standings z ++ y.graph_text) cycles ∙ ap (λ t. front ++ t) end_is,
     )
 
 pub held_tasks_have_end : HeldTasksHaveEnd

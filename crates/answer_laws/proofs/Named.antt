@@ -1,11 +1,11 @@
 -- Whoever a replay names is dead at the end of the run of its text.
-use Rattle.std.proofs.Common.{◌≡◌, ◌∙◌, ◌++◌, ◌+◌, ◌<◌, ℕ, List, [], ◌∷◌, Bool, true, false, ap, inl, inr, sym, subst, refl, length, arith, if◌then◌else◌, ◌⊎◌}
-use Rattle.std.specs.Prelude.{◌==◌, Contains, None, Option, Some, slice_get}
+use Rattle.std.proofs.Common.{suc, ◌≡◌, ◌++◌, ◌+◌, ℕ, List, [], ◌∷◌, Bool, true, false, inl, inr, sym, subst, refl, length, arith, if◌then◌else◌}
+use Rattle.std.specs.Prelude.{◌==◌, Contains, None, Some, slice_get}
 use Rattle.std.proofs.lemmas.List.Elements.{Contains-append_cases, Contains-append_left, Contains-append_right}
 use Rattle.armus_base.specs.declared.ids.TaskId.{TaskId}
 use Rattle.armus_base.specs.CheckedPlans.{IsCheckedPlan}
 use Rattle.armus_base.specs.DeadLists.{IsDeadList}
-use Rattle.armus_base.specs.Deadlocks.{IsDeadBy, IsDeadIn, NobodyDead}
+use Rattle.armus_base.specs.Deadlocks.{IsDeadBy, IsDeadIn}
 use Rattle.armus_base.specs.Plans.{Action, Plan}
 use Rattle.armus_base.specs.Runs.{IsFinal, IsPlainRun, state_after}
 use Rattle.armus_base.specs.States.{State, Step}
@@ -13,19 +13,16 @@ use Rattle.armus_base.proofs.AvoidanceAgrees.{dead_is_final}
 use Rattle.armus_base.proofs.DeadStays.{dead_stays}
 use Rattle.armus_base.proofs.Elements.{Contains-cons_cases, Contains-head, nothing_in_nil}
 use Rattle.armus_base.proofs.Places.{step_later}
-use Rattle.adaptive.specs.declared.analysis.Wanted.{Wanted}
 use Rattle.schedule.specs.declared.lines.Line.{Line}
 use Rattle.schedule.specs.declared.lines.Line.TheVariants as line
 use Rattle.schedule.specs.declared.verdict.PassVerdict.{PassVerdict}
-use Rattle.schedule.specs.declared.verdict.Replayed.{Replayed}
 use Rattle.schedule.specs.Passes.{Loads, loads_of, statuses_found}
 use Rattle.schedule.specs.Replaying.{AreVerdicts, no_pass, one_pass}
-use Rattle.schedule.specs.Replays.{IsOwnNextStep, LinesLead, Progress, Takes, at_start, loaded, no_line, one_more}
+use Rattle.schedule.specs.Replays.{IsOwnNextStep, LinesLead, Progress, Takes, at_start, no_line, one_more}
 use Rattle.schedule.proofs.PassesNameTheDead.{passes_name_the_dead, plain_next}
 use Rattle.armus_words.specs.Words.{Text}
-use Rattle.armus_top.specs.Programs.{IsPlanOf, TellsDead}
+use Rattle.armus_top.specs.Programs.{TellsDead}
 use Rattle.armus_top.specs.Replays.{IsReplayOf}
-use Rattle.armus_top.specs.Runs.{IsRunOf}
 use Rattle.armus_top.proofs.OnePlan.{checked_plan}
 use Rattle.answer_laws.specs.Replayed.{IsNamed, ReplayTellsAsRun, at_end, by_pass}
 
@@ -88,8 +85,8 @@ module _ (plan : Plan) (checked : IsCheckedPlan plan) where
       let (n, counted, last) = last_is loads a.run in
       subst Keeps (sym is) (loaded_kept a kept more closes
       (λ t now dead.
-        (passes_name_the_dead plan (lines ++ line.Load ∷ []) b more checked all
-        (subst (λ (p : Progress). Contains p.passes more) (sym is) (closed_now a more closes now))).last a.run t n counted last dead))
+      (passes_name_the_dead plan (lines ++ line.Load ∷ []) b more checked all
+      (subst (λ (p : Progress). Contains p.passes more) (sym is) (closed_now a more closes now))).last a.run t n counted last dead))
   takes_kept lines a line.Unreadable b leads kept takes = absurd takes
 
   leads_kept : (lines : List Line) (a : Progress) → LinesLead plan lines a → Keeps a

@@ -1,15 +1,13 @@
 -- One answer for one input.
-use Rattle.std.proofs.Common.{◌≡◌, ◌∙◌, ◌++◌, ℕ, List, [], ◌∷◌, ap, inl, inr, sym, subst, refl, true, false}
+use Rattle.std.proofs.Common.{◌≡◌, ◌∙◌, ◌++◌, ℕ, Bool, [], ◌∷◌, ap, inl, inr, sym, subst, true, false}
 use Rattle.std.specs.Prelude.{Ok}
 use Rattle.armus_base.specs.CheckedPlans.{IsCheckedPlan}
 use Rattle.armus_base.specs.Finals.{final_of}
 use Rattle.armus_base.specs.Plans.{Plan}
 use Rattle.armus_base.specs.Runs.{state_after}
 use Rattle.armus_base.specs.Serial.{IsSerialAvoidedFinal}
-use Rattle.armus_base.specs.States.{State}
 use Rattle.armus_base.proofs.OneSerialEnd.{one_serial_end}
 use Rattle.adaptive.specs.declared.analysis.Wanted.{Wanted}
-use Rattle.pl_syntax.specs.declared.tree.Program.{Program}
 use Rattle.pl_syntax.specs.Printed.{line, printed_of}
 use Rattle.pl_syntax.proofs.Unique.{one_tree}
 use Rattle.report.specs.Reports.{IsReport}
@@ -22,9 +20,8 @@ use Rattle.armus_words.specs.declared.command.RunKind.TheVariants.{Plain, Live, 
 use Rattle.armus_words.specs.Words.{Text}
 use Rattle.armus_top.specs.Avoids.{IsAvoidOf, TellsRefused}
 use Rattle.armus_top.specs.Clocks.{IsClockPlanOf}
-use Rattle.armus_top.specs.ClockRuns.{IsClockRunOf}
 use Rattle.armus_top.specs.Commands.{IsAnswered, wanted_of}
-use Rattle.armus_top.specs.Generated.{IsFirstAndLast, IsGenOf}
+use Rattle.armus_top.specs.Generated.{IsFirstAndLast}
 use Rattle.armus_top.specs.Headline.{Answers}
 use Rattle.armus_top.specs.Programs.{IsPlanOf}
 use Rattle.armus_top.specs.Runs.{IsRunOf, IsRunOutput, kind_of}
@@ -39,7 +36,7 @@ use Rattle.clock_syntax.proofs.ClockUnique.{one_clock_tree}
 use Rattle.clock_moves.specs.Unfolding.{clock_plan_of}
 use Rattle.answer_laws.proofs.OneReplay.{same_ends}
 use Rattle.answer_laws.specs.OneAnswer.{FixesAnswer, OneAnswer, RunsReportAlike}
-use Rattle.answer_laws.specs.Outputs.{AreAlike, AreSameLines}
+use Rattle.answer_laws.specs.Outputs.{AreAlike}
 use Rattle.answer_laws.specs.ReportedRuns.{ReportsRun}
 use Rattle.answer_laws.proofs.OneRefused.{one_refused}
 use Rattle.answer_laws.proofs.OneReplay.{one_replay}

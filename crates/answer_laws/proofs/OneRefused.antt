@@ -1,5 +1,5 @@
 -- A command refuses an input with one line.
-use Rattle.std.proofs.Common.{◌≡◌, ◌∙◌, ℕ, ap, inl, inr, sym, subst, refl, true, false}
+use Rattle.std.proofs.Common.{◌≡◌, ◌∙◌, ap, inl, inr, sym, subst, refl}
 use Rattle.std.specs.Prelude.{Err}
 use Rattle.clock_syntax.specs.Trees.{ClockTree}
 use Rattle.clock_syntax.proofs.ClockUnique.{not_both_clocks, one_clock_fault, one_clock_tree}
@@ -32,7 +32,7 @@ refused_once input p q (why, is, line) (other, too, words) = one_line why other 
 -- ---- replays
 
 same_fault : (f g : ScheduleFault) → f.line ≡ g.line → f.kind ≡ g.kind → f ≡ g
-same_fault f g lines kinds = cc
+same_fault f g lines kinds = λ i. record { line = lines i; kind = kinds i }
 
 -- a fault of a text's schedule leaves no fault of the text
 not_text_too : (text schedule : Text) (why : Refusal) (fault : ScheduleFault) → IsFaultOf text why → IsReplayFault text schedule (refusal.Schedule fault) → ⊥

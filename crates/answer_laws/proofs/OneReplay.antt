@@ -1,6 +1,6 @@
 -- An input of `replay` has one answer.
-use Rattle.std.proofs.Common.{◌≡◌, ◌∙◌, ◌++◌, ℕ, List, [], ◌∷◌, ap, inl, inr, sym, subst, refl}
-use Rattle.std.specs.Prelude.{◌↔◌, Contains, AllPairs, length}
+use Rattle.std.proofs.Common.{◌≡◌, ◌∙◌, ◌++◌, ℕ, List, [], ◌∷◌, ap, sym, subst, refl}
+use Rattle.std.specs.Prelude.{length}
 use Rattle.armus_base.specs.declared.ids.TaskId.{TaskId}
 use Rattle.armus_base.specs.DeadLists.{IsDeadList}
 use Rattle.armus_base.specs.Plans.{Plan}
@@ -17,7 +17,7 @@ use Rattle.schedule.specs.Texts.{text_of}
 use Rattle.schedule.proofs.OneReplay.{one_progress}
 use Rattle.schedule.proofs.OneSchedule.{one_reading, one_split}
 use Rattle.armus_words.specs.Words.{Text}
-use Rattle.armus_top.specs.Programs.{IsPlanOf, TellsDead}
+use Rattle.armus_top.specs.Programs.{TellsDead}
 use Rattle.armus_top.specs.Replays.{IsReplayOf, IsReplayedBy}
 use Rattle.armus_top.proofs.OnePlan.{one_plan}
 use Rattle.armus_top.proofs.OneRefusal.{one_status}
@@ -50,7 +50,7 @@ one_dead_in s xs ys a b =
     same_ascending xs ys a.ascends b.ascends (λ t. (λ c. (b.exact t).1 ((a.exact t).0 c), λ c. (a.exact t).1 ((b.exact t).0 c)))
 
 one_verdict : (plan : Plan) (loads : Loads) (v w : PassVerdict) → IsDeadList (statuses_found plan loads) v.dead → IsDeadList (statuses_found plan loads) w.dead → v ≡ w
-one_verdict plan loads v w a b = (let same : v.dead ≡ w.dead = one_dead_list _ v.dead w.dead a b in cc)
+one_verdict plan loads v w a b = (let same : v.dead ≡ w.dead = one_dead_list (statuses_found plan loads) v.dead w.dead a b in λ i. record { dead = same i })
 
 -- the verdicts before the last pass, and its own
 record VerdictsBefore (plan : Plan) (passes : List Loads) (loads : Loads) (verdicts : List PassVerdict) : Type 0 where
@@ -97,7 +97,7 @@ one_replayed plan lines x y a b =
     let steps : x.steps ≡ y.steps = a.steps ∙ ap (λ (p : Progress). length p.run) (sym runs) ∙ sym b.steps in
     let dead : x.dead ≡ y.dead =
     one_dead_in (state_after a.progress.run) x.dead y.dead a.dead (subst (λ (p : Progress). AreDeadIn (state_after p.run) y.dead) runs b.dead) in
-    cc
+    λ i. record { verdicts = verdicts i; steps = steps i; dead = dead i }
 
 -- the same text and schedule
 one_by : (text schedule : Text) (x y : Replayed) (m n : ℕ) (a : IsReplayedBy text schedule x) (b : IsReplayedBy text schedule y)

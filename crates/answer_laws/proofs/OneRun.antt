@@ -1,14 +1,14 @@
 -- A plan has one run to report, and live lines of it differ in their order alone.
-use Rattle.std.proofs.Common.{◌≡◌, ◌∙◌, ◌++◌, ℕ, List, ap, inl, inr, sym, subst, refl, true, false}
-use Rattle.std.specs.Prelude.{◌↔◌, Contains, AllPairs}
-use Rattle.armus_base.specs.declared.ending.Final.{Final}
+use Rattle.std.proofs.Common.{◌≡◌, ◌∙◌, ◌++◌, ℕ, List, ap, sym, subst}
+use Rattle.std.specs.Prelude.{Contains}
+use Rattle.armus_base.specs.declared.ids.TaskId.{TaskId}
 use Rattle.armus_base.specs.declared.status.Dead.{Dead}
 use Rattle.armus_base.specs.declared.status.Status.{Status}
 use Rattle.armus_base.specs.CheckedPlans.{IsCheckedPlan}
 use Rattle.armus_base.specs.Deadlocks.{IsListedOn}
 use Rattle.armus_base.specs.Finals.{final_of, is_awaited}
 use Rattle.armus_base.specs.Plans.{Plan}
-use Rattle.armus_base.specs.Runs.{IsFinal, state_after}
+use Rattle.armus_base.specs.Runs.{IsFinal}
 use Rattle.armus_base.specs.States.{State}
 use Rattle.armus_base.specs.Statuses.{IsInOrder}
 use Rattle.armus_base.proofs.OneEnd.{one_end}
@@ -19,13 +19,11 @@ use Rattle.report.specs.Live.{live_text}
 use Rattle.report.specs.NamedDead.{AreTheDead}
 use Rattle.report.specs.Reports.{IsReport}
 use Rattle.report.proofs.OneReport.{one_report}
-use Rattle.armus_words.specs.declared.command.RunKind.{RunKind}
-use Rattle.armus_words.specs.declared.command.RunKind.TheVariants.{Plain, Live, Sites}
 use Rattle.armus_words.specs.Words.{Text}
 use Rattle.armus_top.specs.Programs.{TellsDead}
-use Rattle.armus_top.specs.Runs.{IsLiveRunOf, IsRunOf, IsRunOutput}
+use Rattle.armus_top.specs.Runs.{IsLiveRunOf, IsRunOf}
 use Rattle.armus_top.proofs.OneRefusal as told
-use Rattle.answer_laws.specs.Outputs.{AreSameLines, HaveSameLines}
+use Rattle.answer_laws.specs.Outputs.{HaveSameLines}
 
 -- a checked plan has one final state
 pub one_final : (plan : Plan) (f s : State) → IsCheckedPlan plan → IsFinal plan f → IsFinal plan s → f ≡ s
@@ -54,11 +52,11 @@ module _ (blocked : List Status) (ordered : IsInOrder blocked) where
       let events : c.event ≡ d.event = sym s_event ∙ ap (λ (x : Status). x.event) both ∙ u_event in
       dead_is c d same events
     where
-      task_is : (x y : _) → x.0 ≡ y.0 → x ≡ y
-      task_is x y e = ap (λ n. record { 0 = n }) e
+      task_is : (x y : TaskId) → x.0 ≡ y.0 → x ≡ y
+      task_is x y e = λ i. record { 0 = e i }
 
       dead_is : (x y : Dead) → x.t.0 ≡ y.t.0 → x.event ≡ y.event → x ≡ y
-      dead_is x y e f = (let t = task_is x.t y.t e in cc)
+      dead_is x y e f = λ i. record { t = task_is x.t y.t e i; event = f i }
 
   -- whoever one list of all the dead names, with its event, so does another
   named_too : (named others : List Dead) → AreTheDead blocked named → AreTheDead blocked others → (d : Dead) → Contains named d → Contains others d
@@ -75,13 +73,16 @@ one_live_run plan g a b p q checked r s =
     let states : s.run.state ≡ r.run.state = one_final plan s.run.state r.run.state checked s.run.final r.run.final in
     let blocked = (final_of plan r.run.state).blocked in
     let others : AreTheDead blocked s.named = subst (λ (x : State). AreTheDead (final_of plan x).blocked s.named) states s.named_are in
-    let ordered = in_order plan r.run.state checked in (both.0, record {
-      named = r.named;
-      others = s.named;
-      report = r.report;
-      first = r.output_is;
-      second = s.output_is ∙ ap (λ (x : Text). live_text s.named ++ x) (sym both.1);
-      once = r.named_are.some.once;
-      once_too = others.some.once;
-      same = λ d. (named_too blocked ordered r.named s.named r.named_are others d, named_too blocked ordered s.named r.named others r.named_are d);
-    })
+    let ordered = in_order plan r.run.state checked in (
+      both.0,
+      record {
+        named = r.named;
+        others = s.named;
+        report = r.report;
+        first = r.output_is;
+        second = s.output_is ∙ ap (λ (x : Text). live_text s.named ++ x) (sym both.1);
+        once = r.named_are.some.once;
+        once_too = others.some.once;
+        same = λ d. (named_too blocked ordered r.named s.named r.named_are others d, named_too blocked ordered s.named r.named others r.named_are d);
+      },
+    )

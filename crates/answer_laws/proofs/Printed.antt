@@ -1,6 +1,5 @@
 -- The printed form of a program means what its text means.
-use Rattle.std.proofs.Common.{◌≡◌, ◌∙◌, ℕ, ap, sym, subst, refl, true, false}
-use Rattle.std.specs.Prelude.{◌↔◌}
+use Rattle.std.proofs.Common.{ℕ, sym, subst, refl, true, false}
 use Rattle.armus_base.specs.Plans.{Plan}
 use Rattle.pl_syntax.specs.declared.tree.Program.{Program}
 use Rattle.pl_syntax.specs.Grammar.{IsText}
@@ -11,7 +10,6 @@ use Rattle.pl_syntax.proofs.Writable.{text_is_writable}
 use Rattle.armus_words.specs.declared.command.Command.{Command}
 use Rattle.armus_words.specs.declared.command.Command.TheVariants.{Check, Run, Avoid, Record, Replay, Gen, Clock, Pool}
 use Rattle.armus_words.specs.Words.{Text}
-use Rattle.armus_top.specs.Avoids.{IsAvoidOf}
 use Rattle.armus_top.specs.Commands.{IsAnswered}
 use Rattle.armus_top.specs.Programs.{IsChecked, IsPlanOf}
 use Rattle.answer_laws.specs.Printed.{GoesByProgram, PrintingKeepsMeaning}

@@ -1,16 +1,14 @@
 -- The cycle of a report is the proof of a deadlock, and the graph that is wanted changes the last line alone.
-use Rattle.std.specs.Prelude.{◌≡◌, ◌++◌, ◌⊎◌, ℕ, List, []}
+use Rattle.std.specs.Prelude.{◌≡◌, ◌++◌, ℕ, List, []}
 use Rattle.armus_base.specs.declared.ids.TaskId.{TaskId}
 use Rattle.armus_base.specs.AgreementLaws.{has_task}
 use Rattle.armus_base.specs.CheckedPlans.{IsCheckedPlan}
 use Rattle.armus_base.specs.Deadlocks.{IsAtPhase, IsDeadlockedSet, IsPublishedOn}
-use Rattle.armus_base.specs.Finals.{final_of}
 use Rattle.armus_base.specs.Plans.{Plan}
 use Rattle.armus_base.specs.States.{State}
 use Rattle.adaptive.specs.declared.analysis.Used.{Used}
 use Rattle.adaptive.specs.declared.analysis.Wanted.{Wanted}
 use Rattle.report.specs.Lines.{cycle_line, graph_line}
-use Rattle.report.specs.Reports.{IsReport}
 use Rattle.armus_words.specs.Words.{Text}
 use Rattle.armus_top.specs.Runs.{IsRunOf}
 

@@ -1,10 +1,9 @@
 -- The printed form of a program means what its text means.
-use Rattle.std.specs.Prelude.{◌≡◌, ◌≤◌, ◌↔◌, ℕ, true, length}
+use Rattle.std.specs.Prelude.{◌↔◌, ℕ, true}
 use Rattle.armus_words.specs.declared.command.Command.{Command}
 use Rattle.armus_words.specs.declared.command.Command.TheVariants.{Check, Run, Avoid, Record, Replay, Gen, Clock, Pool}
 use Rattle.armus_words.specs.Words.{Text}
 use Rattle.armus_top.specs.Commands.{IsAnswered}
-use Rattle.armus_top.specs.declared.programs.TheConstants.{MAX_TEXT_BYTES}
 
 -- the command's answer goes by the input's program alone: `record` writes the text itself
 abbrev pub GoesByProgram : Command → Type 0

@@ -3,7 +3,7 @@ use Rattle.std.specs.Prelude.{◌≡◌, ℕ, Contains}
 use Rattle.armus_base.specs.declared.ids.TaskId.{TaskId}
 use Rattle.armus_base.specs.Deadlocks.{IsDeadIn}
 use Rattle.adaptive.specs.declared.analysis.Wanted.{Wanted}
-use Rattle.schedule.specs.declared.replaying.Replayed.{Replayed}
+use Rattle.schedule.specs.declared.verdict.Replayed.{Replayed}
 use Rattle.schedule.specs.declared.verdict.PassVerdict.{PassVerdict}
 use Rattle.armus_words.specs.Words.{Text}
 use Rattle.armus_top.specs.Replays.{IsReplayOf}

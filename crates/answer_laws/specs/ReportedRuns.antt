@@ -1,5 +1,5 @@
 -- The commands that report the run of their input's plan and nothing beside: `run` without live lines, with sites or without, and `pool`.
-use Rattle.std.specs.Prelude.{◌≡◌, ◌×◌}
+use Rattle.std.specs.Prelude.{◌≡◌}
 use Rattle.armus_words.specs.declared.command.Command.{Command}
 use Rattle.armus_words.specs.declared.command.Command.TheVariants.{Check, Run, Avoid, Record, Replay, Gen, Clock, Pool}
 use Rattle.armus_words.specs.declared.command.Graph.{Graph}
