@@ -106,7 +106,8 @@ pub record FoundBehindSince (before now : Known) : Type 0 where
   pub phase : ℕ
   pub found : FindsBehind task phase between now
 
--- The last that the seat did was a try for the lock, which found it held by task u; it had made as many loads then as it had before, or more.
+-- The last that the seat did was a try for the lock, which found it held by task u and counts as a load; it had made as many loads when it tried as it had
+-- before, or more, so the try is one of this turn.
 pub record FoundHeldSince (u : ℕ) (before now : Known) : Type 0 where
   pub between : Known
   pub since : before.view.loads ≤ between.view.loads
