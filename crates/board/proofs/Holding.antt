@@ -1,10 +1,9 @@
 -- What a taking, a freeing, a try for the lock and a refusal make of a seat's own facts.
-use Rattle.std.proofs.Common.{◌≡◌, ℕ, ◌+◌, ◌<◌, ◌≤◌, Bool, true, false, Option, Some, None, length, sym, refl, ap, ◌∙◌, subst, arith, length-set}
+use Rattle.std.proofs.Common.{◌≡◌, ℕ, ◌<◌, ◌≤◌, Bool, true, false, Option, Some, None, length, sym, refl, ap, ◌∙◌, subst, length-set}
 use Rattle.std.specs.Prelude.{unwrap_or}
 use Rattle.std.proofs.lemmas.Bool.{false≢true}
 use Rattle.atomic_table.specs.Seated.{TableId}
 use Rattle.armus_base.specs.declared.event.Event.{Event}
-use Rattle.armus_base.specs.Limits.{max_tasks}
 use Rattle.armus_base.specs.Plans.{Aim, Plan, Refuses}
 use Rattle.armus_base.specs.Runs.{Place, next_place}
 use Rattle.armus_base.specs.Places.{published_after}
@@ -15,9 +14,8 @@ use Rattle.board.specs.Views.{action_after, avoids, next_action, own_place, plac
 use Rattle.board.specs.Steps.{after_action}
 use Rattle.board.specs.Seats.{Frame, IsOf, IsSeat, Known, MakesStep, event_of}
 use Rattle.board.specs.inside.Sitting.{IsSitting}
-use Rattle.board.specs.Locking.{FindsHeld, FreesLock, IsWithLock, MayRefuse, MeetsHolder, TakesLock, with_lock}
+use Rattle.board.specs.Locking.{FindsHeld, FreesLock, MayRefuse, MeetsHolder, with_lock}
 use Rattle.board.proofs.Sights.{seen_stepped}
-use Rattle.board.proofs.Loaded.{loaded_seat, loads_sitting}
 use Rattle.board.proofs.Seated.{event_here, place_next}
 
 -- a seat stays one with the lock or without it

@@ -171,22 +171,6 @@ holder_within plan mode s l h may = elim may [
       action_of_task plan l.checked h (l.places h).done (Blocks stands.0) stands.1
 ]
 
--- the loads of a view do not matter
-loads_fit :
-    (plan : Plan) (mode : Mode) (a : ℕ → Place) (lock : Option ℕ) (steppers : ℕ → Stepper) (j n : ℕ) (v : View) → SeatFits plan mode a lock steppers j v →
-    SeatFits plan mode a lock steppers j (record v { loads = n })
-loads_fit plan mode a lock steppers j n v f =
-    record {
-      plan_is = f.plan_is;
-      mode_is = f.mode_is;
-      count = f.count;
-      far = f.far;
-      own = λ u is. let o = f.own u is in record { within = o.within; exact = o.exact; alone = o.alone };
-      exact = f.exact;
-      holding = λ u is. let h = f.holding u is in record { holds = h.holds; held = h.held };
-      viewer = f.viewer;
-    }
-
 -- the compare-and-exchange of a try
 module _ (plan : Plan) (mode : Mode) (slots id : ℕ) (me : Me (Unit {0}) View) (t : ℕ) (own : me.0.own ≡ Some t) (live : me.0.spent ≡ false)
     (free : me.0.holds ≡ false) (avoiding : avoids mode ≡ true) (same : me.0.plan ≡ plan) where
@@ -212,12 +196,10 @@ module _ (plan : Plan) (mode : Mode) (slots id : ℕ) (me : Me (Unit {0}) View) 
       (λ u owned. let o = f.own u owned in subst (λ (p : Place). IsScanned (state_at plan l.places) v.sight.scanned (published_after plan u p.done))
       (sym (f.far.equal u o.within o.exact)) (f.far.scanned u owned))
       (λ x owned has. absurd (false≢true (sym free ∙ has))) in
-      let w : View = record (after_load h r.0 v.sight.scanned v.sight.found v) { loads = v.loads } in
-      let fits : SeatFits plan mode l.places l.lock l.steppers id w = loads_fit plan mode l.places l.lock l.steppers id v.loads
-      (after_load h r.0 v.sight.scanned v.sight.found v) loaded in
+      let w : View = after_load h r.0 v.sight.scanned v.sight.found v in
       let here = loaded_here h r.0 v.sight.scanned v.sight.found v inside in (
         w,
-        fits,
+        loaded,
         subst (λ (z : Plan × Mode). MeetsHolder z.0 z.1 h v w) (λ i. (sym same i, sym f.mode_is i))
             (record {
               within = small;
@@ -233,7 +215,7 @@ module _ (plan : Plan) (mode : Mode) (slots id : ℕ) (me : Me (Unit {0}) View) 
                 found = λ _. refl;
               };
               was = record {
-                was = record { places = l.places; lock = l.lock; lawful = l.lawful; before_far = f.far; now_far = fits.far; holds = tt };
+                was = record { places = l.places; lock = l.lock; lawful = l.lawful; before_far = f.far; now_far = loaded.far; holds = tt };
                 held = held;
               };
               there = subst (MayHold plan h) (sym here) (r.2 (undrops_holder (avoids mode) plan h));

@@ -1,6 +1,7 @@
 pub mod Words
 pub mod Views
 pub mod Rule
+pub mod RuleLaws
 pub mod Steps
 pub mod Closing
 pub mod Seats

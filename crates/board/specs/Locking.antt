@@ -28,7 +28,7 @@ pub record WasHeld (plan : Plan) (mode : Mode) (h : ℕ) (before now : View) : T
   pub was : WasSo plan mode (λ s. Unit {0}) before now
   pub held : was.lock ≡ Some h
 
--- one try for the lock that found it held by task h, which is another one: it teaches a place of h, and changes nothing else
+-- one try for the lock that found it held by task h, which is another one: it counts as a load, teaches a place of h, and changes nothing else
 pub record MeetsHolder (plan : Plan) (mode : Mode) (h : ℕ) (before now : View) : Type 0 where
   pub within : h < length plan.parents
   pub other : before.own ≢ Some h
@@ -36,7 +36,7 @@ pub record MeetsHolder (plan : Plan) (mode : Mode) (h : ℕ) (before now : View)
   pub was : WasHeld plan mode h before now
   pub there : MayHold plan h ((seen now).places h)
   pub same : IsSameSeat before now
-  pub loads : now.loads ≡ before.loads
+  pub loads : now.loads ≡ before.loads + 1
 
 -- a seat of the table: its view, and no slots
 abbrev Seat : Type 0

@@ -3,6 +3,7 @@
 
 mod board;
 mod busy;
+mod laws;
 mod loads;
 mod mode;
 mod numbers;
@@ -16,6 +17,7 @@ mod words;
 
 pub use board::Board;
 pub use busy::Busy;
+pub use laws::rule_tells_the_dead;
 pub use loads::Loads;
 pub use mode::Mode;
 pub use seen::Seen;

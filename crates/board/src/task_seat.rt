@@ -280,7 +280,7 @@ impl TaskSeat {
     }
 
     /// The board avoids deadlock, the next op is an Await that is not published, and the seat does not hold the lock: one compare-and-exchange takes
-    /// it. Busy exactly where another task held it, whose place is then seen as far as a holder of the lock must have come.
+    /// it. Busy exactly where another task held it, whose place is then seen as far as a holder of the lock must have come; such a try counts as a load.
     pub fn try_lock(&mut self, board: &Board) -> Result<(), Busy>
         requires made { IsOf self.old board.now }
         requires avoids { avoids self.old.view.mode ≡ true }

@@ -4,7 +4,6 @@ use Rattle.std.specs.Prelude.{Contains, IsSome, is_some, sum_by, if◌then◌els
 use Rattle.std.proofs.lemmas.Bool.{cases_lt}
 use Rattle.std.proofs.lemmas.List.Sums.{sum_by-cons}
 use Rattle.armus_base.specs.Plans.{Action, Advances, Blocks, Drops, Forks, Makes, Passes, Plan, Refuses, Registers, actions}
-use Rattle.armus_base.specs.Limits.{max_tasks}
 use Rattle.armus_base.specs.Runs.{Place, next_place}
 use Rattle.armus_base.specs.CheckedPlans.{IsCheckedPlan}
 use Rattle.armus_base.proofs.Elements.{Contains-head, Contains-tail}
@@ -145,16 +144,6 @@ module _ (f : Frame) (checked : IsCheckedPlan f.plan) (ws : List Working) (whole
       let s = whole.crew.each r.0.seat (r.0, r.1, refl) in
       subst (λ u. u < length f.plan.parents) (sym (task_is r.0.seat s.task s.own) ∙ r.2)
       (subst (λ (q : Plan). s.task < length q.parents) s.of_board.plan (s.kept.own s.task s.own).0)
-
-  -- they are no more than the plan has
-  pub few_tasks : length ws ≤ max_tasks
-  few_tasks =
-      let d = differ_sum (map number ws) (λ t. 1) (length f.plan.parents) (once_differ ws whole.once) number_within in
-      let a = over_numbers (λ t. 1) ws in
-      let b = ones ws in
-      let c = ones_below (length f.plan.parents) in
-      let l = checked.limits.few_tasks in
-      omega arith
 
   step_bound : (w : Working) → Contains ws w → progress_of w ≤ length (actions f.plan (number w)) + 1
   step_bound w i =

@@ -1,5 +1,5 @@
 -- What a round makes of all tasks of a run, the ended ones among them.
-use Rattle.std.proofs.Common.{◌≡◌, ℕ, suc, ◌<◌, ◌≤◌, List, [], ◌∷◌, ◌++◌, Some, length, map, get_or, sym, refl, ap, ◌∙◌, subst, arith, inl, inr, append-nil, append_assoc, length-append}
+use Rattle.std.proofs.Common.{◌≡◌, ℕ, suc, ◌<◌, ◌≤◌, List, [], ◌∷◌, ◌++◌, Some, length, map, get_or, sym, refl, ap, ◌∙◌, subst, arith, inl, inr, append-nil, append_assoc}
 use Rattle.std.specs.Prelude.{All, Contains, sum_by}
 use Rattle.std.specs.List.{flat_map}
 use Rattle.std.specs.List.Sorted.{IsPermutation}
@@ -8,14 +8,13 @@ use Rattle.std.proofs.lemmas.List.Sorted.{All-permutation, Contains-permutation,
 use Rattle.std.proofs.lemmas.List.Sums.{sum_by-append, sum_by-cons}
 use Rattle.armus_base.specs.Plans.{Action, Plan}
 use Rattle.armus_base.specs.CheckedPlans.{IsCheckedPlan}
-use Rattle.armus_base.specs.Limits.{max_tasks}
 use Rattle.armus_base.specs.Seats.{seen_by_child}
 use Rattle.armus_base.proofs.Elements.{Contains-cons_cases, nothing_in_nil}
 use Rattle.board.specs.Seats.{Frame, IsNewSeat, IsOf, Known, nothing_seen}
-use Rattle.board_rounds.specs.Turns.{ActsNoMore, EachActs, HasEndedTurn, MayTakeTurn, Working, is_done, is_refused}
+use Rattle.board_rounds.specs.Turns.{ActsNoMore, EachActs, HasEndedTurn, MayTakeTurn, Working, is_done, is_refused, in_32_bits}
 use Rattle.board_rounds.specs.Crews.{AreTasksOf, IsCrewOf, Tasks, all_of, all_steps, left_to, number, progress_of}
 use Rattle.board_rounds.specs.inside.Rounds.{MakesRound, emptied, fresh_of}
-use Rattle.board_rounds.proofs.Advancing.{all_further, emptied_steps, few_tasks, within_all}
+use Rattle.board_rounds.proofs.Advancing.{all_further, emptied_steps, within_all}
 use Rattle.board_rounds.proofs.Apart.{IsFamily, family_after}
 use Rattle.board_rounds.proofs.Between.{all_from, crew_ready, first_crew, then_crew, then_ends, then_none, to_each}
 use Rattle.board_rounds.proofs.Goings.{task_is}
@@ -105,7 +104,7 @@ module _ (f : Frame) (live ended new : List Working) (made : ℕ) (tasks : AreTa
   each : EachActs f owns olds turned
   each = each_on (map no_steps ended) ended ended round.each (rest_each f ended (all_from (MayTakeTurn f) ended (λ w i. ready w (Contains-append_right live ended w i))))
 
-  events : made ≡ sum_by length owns
+  events : made ≡ in_32_bits (sum_by length owns)
   events = (let s = sum_by-append (length {A = Action}) round.owns (map no_steps ended) in let z = zeros ended in let e = round.events in omega arith)
 
   none : (w : Working) → Contains olds w → w.children ≡ []
@@ -173,7 +172,7 @@ module _ (f : Frame) (live ended new : List Working) (made : ℕ) (tasks : AreTa
       (all_from (λ (w : Working). HasEndedTurn w.seat) ended (λ w i. ends_now w.seat (to_each (λ (v : Working). ActsNoMore v.seat) ended tasks.ended w i))) in
       all_from (λ (w : Working). HasEndedTurn w.seat) (new ++ ended)
       (λ w i.
-      then_ends f owns olds turned each whole.crew whole.no_child (sym z ∙ events) ends w.seat
+      then_ends f owns olds turned each whole.crew whole.no_child (let e = events in omega (arith, z)) ends w.seat
       (w, Contains-permutation (new ++ ended) next w (IsPermutation-sym next (new ++ ended) moved) i, refl))
 
 -- what a round asks of the tasks that live
@@ -186,13 +185,6 @@ module _ (f : Frame) (tasks : Tasks) (are : AreTasksOf f tasks) where
 
   pub live_none : All (λ (w : Working). w.children ≡ []) tasks.live
   live_none = lives (λ (w : Working). w.children ≡ []) (to_each (λ (w : Working). w.children ≡ []) (all_of tasks) are.all.no_child)
-
-  pub live_few : length tasks.live ≤ max_tasks
-  live_few =
-      (let root = are.all.crew.each are.all.crew.root.0 are.all.crew.root.1 in
-      let few = few_tasks f (subst IsCheckedPlan root.of_board.plan root.kept.checked) (all_of tasks) are.all in
-      let s = length-append tasks.live tasks.ended in
-      omega arith)
 
 -- what is true of each is true of those that live, and of those that have ended
 module _ (f : Frame) (tasks : Tasks) (are : AreTasksOf f tasks) where

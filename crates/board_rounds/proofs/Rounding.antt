@@ -1,10 +1,10 @@
 -- Turns one after the other, and side by side.
-use Rattle.std.proofs.Common.{◌≡◌, ℕ, zero, suc, ◌+◌, ◌<◌, List, [], ◌∷◌, ◌++◌, Result, Ok, Err, IfOk, All, length, length-append, map, set, get_or, refl, ap, sym, subst, arith, false, ◌∙◌}
+use Rattle.std.proofs.Common.{◌≡◌, ℕ, zero, suc, ◌+◌, ◌<◌, List, [], ◌∷◌, ◌++◌, Result, Ok, Err, IfOk, All, length, map, set, get_or, refl, ap, sym, subst, arith, false, ◌∙◌, sum_by}
 use Rattle.std.proofs.lemmas.List.{map-append, map-id}
 use Rattle.std.proofs.lemmas.List.Sums.{sum_by-append}
 use Rattle.armus_base.specs.Plans.{Action}
 use Rattle.board.specs.Seats.{Frame}
-use Rattle.board_rounds.specs.Turns.{Acts, EachActs, EachEndsTurn, EndsTurn, HasEndedTurn, MayTakeTurn, TakesTurns, Working, no_task, no_turn, one_task, one_turn}
+use Rattle.board_rounds.specs.Turns.{Acts, EachActs, EachEndsTurn, EndsTurn, HasEndedTurn, MayTakeTurn, TakesTurns, in_32_bits, Working, no_task, no_turn, one_task, one_turn}
 use Rattle.board_rounds.proofs.Goings.{acts_itself}
 
 -- what is read and written in a list, through a function
@@ -101,7 +101,7 @@ all_end (one_done acts ends p) e = one_turn ends (all_end p (omega arith))
 pub stopped :
     {E : Type 0} (f : Frame) (olds news : List Working) (r : Result ℕ E) → IfOk r (λ n. ⊥) → (owns : List (List Action)) × EachActs f owns olds news → TakesTurns f olds news r
 stopped f olds news (Ok n) bad p = absurd bad
-stopped f olds news (Err e) bad p = record { owns = p.0; each = p.1; events = tt; few = tt; ends = tt }
+stopped f olds news (Err e) bad p = record { owns = p.0; each = p.1; events = tt; ends = tt }
 
 -- no task has the lock then
 pub each_free : {f : Frame} {owns : List (List Action)} {olds news : List Working} → EachActs f owns olds news → All (MayTakeTurn f) olds → All (λ (w : Working). w.seat.view.holds ≡ false) news
@@ -125,17 +125,25 @@ pub each_ended : {olds news : List Working} → EachEndsTurn olds news → All (
 each_ended no_turn = all_none (λ (w : Working). HasEndedTurn w.seat)
 each_ended (one_turn {before = before} ends p) = all_more (λ (w : Working). HasEndedTurn w.seat) _ _ (before.seat, ends) (each_ended p)
 
+-- two counts that stand still at their end add up to one that does
+pub counts_add : (a b : ℕ) → in_32_bits (in_32_bits a + in_32_bits b) ≡ in_32_bits (a + b)
+counts_add a b = omega arith
+
+pub count_more : (a k : ℕ) → in_32_bits (in_32_bits a + k) ≡ in_32_bits (a + k)
+count_more a k = omega arith
+
 pub turns_on :
-    {E : Type 0} (f : Frame) (olds news olds' news' : List Working) (x y : Result ℕ E) (m n : ℕ) → x ≡ Ok m → y ≡ Ok n → TakesTurns f olds news x → TakesTurns f olds' news' y →
-    TakesTurns {E = E} f (olds ++ olds') (news ++ news') (Ok (m + n))
-turns_on f olds news olds' news' x y m n xs ys p' q' =
+    {E : Type 0} (f : Frame) (olds news olds' news' : List Working) (x y : Result ℕ E) (m n k : ℕ) → x ≡ Ok m → y ≡ Ok n → k ≡ in_32_bits (m + n) →
+    TakesTurns f olds news x → TakesTurns f olds' news' y → TakesTurns {E = E} f (olds ++ olds') (news ++ news') (Ok k)
+turns_on f olds news olds' news' x y m n k xs ys ks p' q' =
     let p = subst (TakesTurns f olds news) xs p' in
     let q = subst (TakesTurns f olds' news') ys q' in
     record {
       owns = p.owns ++ q.owns;
       each = each_on q.owns olds' news' p.each q.each;
-      events = (let s = sum_by-append length p.owns q.owns in let a = p.events in let b = q.events in omega arith);
-      few = (let s = length-append olds olds' in let a = p.few in let b = q.few in omega arith);
+      events =
+          ks ∙ ap (λ a. in_32_bits (a + n)) p.events ∙ ap (λ b. in_32_bits (in_32_bits (sum_by length p.owns) + b)) q.events
+          ∙ counts_add (sum_by length p.owns) (sum_by length q.owns) ∙ ap in_32_bits (sym (sum_by-append length p.owns q.owns));
       ends = ends_on p.ends q.ends;
     }
 

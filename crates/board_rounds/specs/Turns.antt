@@ -1,5 +1,5 @@
 -- What the turns of tasks make of their seats and of their children's.
-use Rattle.std.specs.Prelude.{true, ◌≡◌, ◌≢◌, ℕ, ◌+◌, ◌<◌, ◌≤◌, ◌⊎◌, false, List, [], ◌∷◌, ◌++◌, Some, None, length, IsSome, is_some, Result, IfOk, OnOk, sum_by, ◌*◌}
+use Rattle.std.specs.Prelude.{true, ◌≡◌, ◌≢◌, ℕ, ◌+◌, ◌<◌, ◌≤◌, ◌⊎◌, false, List, [], ◌∷◌, ◌++◌, Some, None, length, IsSome, is_some, Result, IfOk, OnOk, sum_by, ◌*◌, ◌-◌, ◌^◌, min}
 use Rattle.armus_base.specs.declared.event.Event.{Event}
 use Rattle.armus_base.specs.Limits.{max_ops, max_phasers}
 use Rattle.armus_base.specs.Plans.{Plan, Action, Forks, action_at, actions}
@@ -106,7 +106,8 @@ pub record FoundBehindSince (before now : Known) : Type 0 where
   pub phase : ℕ
   pub found : FindsBehind task phase between now
 
--- The last that the seat did was a try for the lock, which found it held by task u; it had made as many loads then as it had before, or more.
+-- The last that the seat did was a try for the lock, which found it held by task u and counts as a load; it had made as many loads when it tried as it had
+-- before, or more, so the try is one of this turn.
 pub record FoundHeldSince (u : ℕ) (before now : Known) : Type 0 where
   pub between : Known
   pub since : before.view.loads ≤ between.view.loads
@@ -154,10 +155,13 @@ pub data EachEndsTurn : List Working → List Working → Type 0 where
       {before now : Working} {befores nows : List Working} → EndsTurn before.seat now.seat → EachEndsTurn befores nows →
       EachEndsTurn (before ∷ befores) (now ∷ nows)
 
--- Each task has made its own steps. Where memory lasted, each has come to the end of its turn, and all their steps are counted.
+-- a count of 32 bits: so many, or the greatest number of 32 bits, at which it stands still
+abbrev pub in_32_bits : ℕ → ℕ
+in_32_bits n = min n (2 ^ 32 - 1)
+
+-- Each task has made its own steps. Where memory lasted, each has come to the end of its turn, and all their steps are counted, in 32 bits.
 pub record TakesTurns {E : Type 0} (board : Frame) (befores nows : List Working) (counted : Result ℕ E) : Type 0 where
   pub owns : List (List Action)
   pub each : EachActs board owns befores nows
-  pub events : IfOk counted (λ n. n ≡ sum_by length owns)
-  pub few : IfOk counted (λ n. n ≤ length befores * max_events)
+  pub events : IfOk counted (λ n. n ≡ in_32_bits (sum_by length owns))
   pub ends : OnOk counted (EachEndsTurn befores nows)

@@ -1,7 +1,6 @@
 // The tasks of a run on a board, from round to round.
 ghost use Rattle.std.specs.Prelude.{◌≡◌, ℕ, ◌++◌, ◌<◌, ◌≤◌, Some, [], false, map, flat_map, length, OnOk, IfOk, All};
 ghost use Rattle.std.specs.List.Sorted.{IsPermutation};
-ghost use Rattle.armus_base.specs.Limits.{max_tasks};
 ghost use Rattle.armus_base.specs.Runs.{first_place};
 ghost use Rattle.armus_base.specs.Seats.{seen_by_child};
 ghost use Rattle.board.specs.Seats.{IsNewSeat, IsOf, IsSeat, Known, nothing_seen};
@@ -84,7 +83,7 @@ impl<'p> Crew<'p> {
         plan: &'p Plan,
         workers: u8,
         gate: &G,
-    ) -> Result<u64, NoMemory>
+    ) -> Result<u32, NoMemory>
         requires plan { board.now.plan ≡ plan.now }
         requires tasks { AreTasksOf board.now self.old }
         ensures tasks { OnOk result (AreTasksOf board.now self.new) }
@@ -141,11 +140,10 @@ fn go_round<'p, R: Threads + Sync, G: Gate>(
     gate: &G,
     cells: &mut [WorkerCells],
     tasks: &mut Vec<Task<'p>>,
-) -> Result<u64, NoMemory>
+) -> Result<u32, NoMemory>
     requires plan { board.now.plan ≡ plan.now }
     requires ready { All (MayTakeTurn board.now) tasks.old.items }
     requires no_child { All (λ task. task.children ≡ []) tasks.old.items }
-    requires few { length tasks.old.items ≤ max_tasks }
     requires enough { workers ≤ length cells.old }
     requires cells { 1 ≤ length cells.old }
     ensures round { IfOk result (MakesRound board.now tasks.old.items tasks.new.items) }

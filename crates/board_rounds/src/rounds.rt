@@ -1,7 +1,6 @@
 // A round of turns by several workers.
 ghost use Rattle.std.specs.Thread.{IsSync};
 ghost use Rattle.std.specs.Prelude.{◌≡◌, ◌≤◌, All, false, length, map};
-ghost use Rattle.armus_base.specs.Limits.{max_tasks};
 ghost use Rattle.board_rounds.specs.Turns.{MayTakeTurn, TakesTurns};
 
 use crate::Task;
@@ -27,10 +26,9 @@ pub fn round<R: Threads + Sync, G: Gate>(
     wanted: Wanted,
     workers: u8,
     gate: &G,
-) -> Result<u64, NoMemory>
+) -> Result<u32, NoMemory>
     requires ready { All (MayTakeTurn board.now) tasks.old }
     requires plan { board.now.plan ≡ plan.now }
-    requires few { length tasks.old ≤ max_tasks }
     ensures turns { TakesTurns board.now tasks.old tasks.new result }
     ensures free { All (λ task. task.seat.view.holds ≡ false) tasks.new }
 {
@@ -53,9 +51,8 @@ pub(crate) fn take_turns<T: TakeTurn + Send, R: Threads + Sync, C: Calls + Sync>
     workers: u8,
     cells: &mut [WorkerCells],
     tasks: &mut [T],
-) -> Result<u64, NoMemory>
+) -> Result<u32, NoMemory>
     requires ready { All (MayTakeTurn board.now) (map T.working tasks.old) }
-    requires few { length tasks.old ≤ max_tasks }
     requires enough { workers ≤ length cells.old }
     requires cells { 1 ≤ length cells.old }
     ensures turns { TakesTurns board.now (map T.working tasks.old) (map T.working tasks.new) result }
@@ -77,9 +74,8 @@ fn take_turns_in_halves<T: TakeTurn + Send, R: Threads + Sync, C: Calls + Sync>(
     workers: u8,
     cells: &mut [WorkerCells],
     tasks: &mut [T],
-) -> Result<u64, NoMemory>
+) -> Result<u32, NoMemory>
     requires ready { All (MayTakeTurn board.now) (map T.working tasks.old) }
-    requires few { length tasks.old ≤ max_tasks }
     requires enough { workers ≤ length cells.old }
     requires several { 2 ≤ workers }
     ensures turns { TakesTurns board.now (map T.working tasks.old) (map T.working tasks.new) result }
@@ -90,16 +86,16 @@ fn take_turns_in_halves<T: TakeTurn + Send, R: Threads + Sync, C: Calls + Sync>(
     let (front, back) = tasks.split_at_mut(tasks.len() / 2);
     let (first, second) = join_mut(
         rt,
-        &mut || -> Result<u64, NoMemory>
-            requires { IsSync R.row × All (MayTakeTurn board.now) (map T.working front.now) × (length front.now ≤ max_tasks) × (few ≤ length front_cells.now) × (1 ≤ length front_cells.now) }
+        &mut || -> Result<u32, NoMemory>
+            requires { IsSync R.row × All (MayTakeTurn board.now) (map T.working front.now) × (few ≤ length front_cells.now) × (1 ≤ length front_cells.now) }
             ensures { TakesTurns board.entry.now (map T.working front.entry.now) (map T.working front.exit.now) result }
         { take_turns(rt, alloc, board, gate, few, front_cells, front) },
-        &mut || -> Result<u64, NoMemory>
-            requires { IsSync R.row × All (MayTakeTurn board.now) (map T.working back.now) × (length back.now ≤ max_tasks) × (rest ≤ length back_cells.now) × (1 ≤ length back_cells.now) }
+        &mut || -> Result<u32, NoMemory>
+            requires { IsSync R.row × All (MayTakeTurn board.now) (map T.working back.now) × (rest ≤ length back_cells.now) × (1 ≤ length back_cells.now) }
             ensures { TakesTurns board.entry.now (map T.working back.entry.now) (map T.working back.exit.now) result }
         { take_turns(rt, alloc, board, gate, rest, back_cells, back) },
     );
-    Ok(first? + second?)
+    Ok(first?.saturating_add(second?))
 }
 
 // One turn of each of these tasks, in order.
@@ -109,14 +105,13 @@ fn take_turns_in_order<T: TakeTurn, C: Calls>(
     gate: &C,
     cells: &mut WorkerCells,
     tasks: &mut [T],
-) -> Result<u64, NoMemory>
+) -> Result<u32, NoMemory>
     requires ready { All (MayTakeTurn board.now) (map T.working tasks.old) }
-    requires few { length tasks.old ≤ max_tasks }
     ensures turns { TakesTurns board.now (map T.working tasks.old) (map T.working tasks.new) result }
 {
-    let mut made = 0;
+    let mut made = 0u32;
     for task in tasks.iter_mut() {
-        made += u64::from(task.turn(alloc, board, cells, gate)?);
+        made = made.saturating_add(task.turn(alloc, board, cells, gate)?);
     }
     Ok(made)
 }

@@ -89,7 +89,7 @@ fn take_round<'p, R: Threads + Sync, G: Gate, K: Sink>(
     crew: &mut Crew<'p>,
     teller: &mut Teller,
     out: &mut K,
-) -> (Result<u64, NoMemory>, Result<(), RunEnd>)
+) -> (Result<u32, NoMemory>, Result<(), RunEnd>)
     requires under_way { IsUnderWay board.now plan.now crew.old teller.old }
     ensures tasks { OnOk result.0 (AreTasksOf board.now crew.new) }
     ensures further { IfOk result.0 (λ made. 0 < made → left_to plan.now crew.new < left_to plan.now crew.old) }
@@ -134,7 +134,7 @@ fn turn_and_tell<'p, R: Threads + Sync, G: Gate, K: Sink>(
     crew: &mut Crew<'p>,
     teller: &mut Teller,
     out: &mut K,
-) -> (Result<u64, NoMemory>, Result<(), RunEnd>)
+) -> (Result<u32, NoMemory>, Result<(), RunEnd>)
     requires under_way { IsUnderWay board.now plan.now crew.old teller.old }
     ensures tasks { OnOk result.0 (AreTasksOf board.now crew.new) }
     ensures further { IfOk result.0 (λ made. 0 < made → left_to plan.now crew.new < left_to plan.now crew.old) }
@@ -145,7 +145,7 @@ fn turn_and_tell<'p, R: Threads + Sync, G: Gate, K: Sink>(
 {
     join_mut(
         rt,
-        &mut || -> Result<u64, NoMemory>
+        &mut || -> Result<u32, NoMemory>
             requires { (board.now.plan ≡ plan.now) × (board.now.mode ≡ Detect) × AreTasksOf board.now crew.now }
         { crew.round(rt, alloc, board, plan, workers, gate) },
         &mut || -> Result<(), RunEnd>

@@ -92,10 +92,10 @@ fn first_task<'p, N: PlanName>(plan: &'p Plan) -> LiveTask<'p, N>
 }
 
 // How many ops these tasks went on in their last turns, a begun await counted as one.
-fn steps_of<N: PlanName>(tasks: &[LiveTask<'_, N>]) -> u64 {
-    let mut made = 0u64;
+fn steps_of<N: PlanName>(tasks: &[LiveTask<'_, N>]) -> u32 {
+    let mut made = 0u32;
     for task in tasks {
-        made = made.saturating_add(u64::from(task.steps()));
+        made = made.saturating_add(task.steps());
     }
     made
 }

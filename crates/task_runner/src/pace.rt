@@ -4,7 +4,7 @@
 const PATIENCE: u32 = 1_000;
 
 // a round of fewer events than this has little work
-const LITTLE: u64 = 64;
+const LITTLE: u32 = 64;
 
 /// How many rounds in a row had little work. To start threads takes longer than such a round, so after many of them rounds go by one worker, until one has
 /// more to do.
@@ -30,7 +30,7 @@ impl Pace {
     }
 
     /// Notes how many events a round had.
-    pub(crate) fn note(&mut self, events: u64) {
+    pub(crate) fn note(&mut self, events: u32) {
         self.little = if events < LITTLE {
             self.little.saturating_add(1)
         } else {

@@ -88,7 +88,7 @@ fn take_round<'p, R: Threads + Sync, G: Gate, K: Keeper>(
     crew: &mut Crew<'p>,
     views: &mut Vec<ViewSeat>,
     keeper: &mut K,
-) -> (Result<u64, NoMemory>, Result<(), KeepEnd>)
+) -> (Result<u32, NoMemory>, Result<(), KeepEnd>)
     requires plan { board.now.plan ≡ plan.now }
     requires tasks { AreTasksOf board.now crew.old }
     requires watching { AreWatching board.now (length (K.rows keeper.old)) views.old.items (K.rows keeper.old) }
@@ -121,7 +121,7 @@ fn turn_and_pass<'p, R: Threads + Sync, G: Gate, K: Keeper>(
     crew: &mut Crew<'p>,
     views: &mut Vec<ViewSeat>,
     keeper: &mut K,
-) -> (Result<u64, NoMemory>, Result<(), KeepEnd>)
+) -> (Result<u32, NoMemory>, Result<(), KeepEnd>)
     requires plan { board.now.plan ≡ plan.now }
     requires tasks { AreTasksOf board.now crew.old }
     requires watching { AreWatching board.now (length (K.rows keeper.old)) views.old.items (K.rows keeper.old) }
@@ -133,7 +133,7 @@ fn turn_and_pass<'p, R: Threads + Sync, G: Gate, K: Keeper>(
 {
     join_mut(
         rt,
-        &mut || -> Result<u64, NoMemory>
+        &mut || -> Result<u32, NoMemory>
             requires { (board.now.plan ≡ plan.now) × AreTasksOf board.now crew.now }
         { crew.round(rt, alloc, board, plan, workers, gate) },
         &mut || -> Result<(), KeepEnd>

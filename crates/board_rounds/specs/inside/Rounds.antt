@@ -5,7 +5,7 @@ use Rattle.armus_base.specs.Plans.{Action, Plan}
 use Rattle.armus_base.specs.Runs.{first_place}
 use Rattle.board.specs.Views.{own_place}
 use Rattle.board.specs.Seats.{Frame, Known}
-use Rattle.board_rounds.specs.Turns.{EachActs, EachEndsTurn, Working}
+use Rattle.board_rounds.specs.Turns.{EachActs, EachEndsTurn, Working, in_32_bits}
 
 -- the seat of a child which one of these tasks forked
 abbrev pub IsChildIn : List Working → Known → Type 0
@@ -33,6 +33,6 @@ pub record MakesRound (board : Frame) (before now : List Working) (made : ℕ) :
   pub owns : List (List Action)
   pub turned : List Working
   pub each : EachActs board owns before turned
-  pub events : made ≡ sum_by length owns
+  pub events : made ≡ in_32_bits (sum_by length owns)
   pub ends : EachEndsTurn before turned
   pub joined : IsPermutation (map emptied turned ++ flat_map fresh_of turned) now

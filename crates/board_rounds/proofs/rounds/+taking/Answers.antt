@@ -1,8 +1,7 @@
 use denote.Exit.{no}
 use denote.Param.{param}
 use denote.Param.Send.{arg_send, param_send}
-use Rattle.std.proofs.Common.{◌≡◌, ◌≤◌, ◌<◌, ◌++◌, ◌+◌, ◌-◌, ◌*◌, ◌/◌, ◌∙◌, Ok, IfOk, map, length, length-append, rules, ap, arith}
-use Rattle.armus_base.specs.Limits.{max_tasks}
+use Rattle.std.proofs.Common.{◌<◌, ◌++◌, ◌+◌, ◌-◌, ◌*◌, ◌/◌, Ok, IfOk, map, rules, arith}
 use Rattle.board_rounds.specs.Turns.{TakesTurns}
 use Rattle.board_rounds.proofs.Crossing.{turns_send}
 use Rattle.board_rounds.proofs.Rounding.{both_each, over_both, ready_both, stopped, turns_on}
@@ -20,10 +19,6 @@ take_turns_in_halves-join_mut-first-requires-after_bounds g t c κs within =
     let ready = ready_both c.args.board.now w c.args.tasks.now a b c.split_at_mut-front.ensures.value c.requires.ready in
     let front = ready.0 in
     let back = ready.1 in
-    let both : length c.args.tasks.now ≡ length a + length b = ap length c.split_at_mut-front.ensures.value ∙ length-append a b in
-    let few = c.requires.few in
-    let front_few : length a ≤ max_tasks = omega arith in
-    let back_few : length b ≤ max_tasks = omega arith in
     let several = c.requires.several in
     let front_less : 3 * (c.args.workers / 2) + 2 < 3 * c.args.workers = omega arith in
     let back_less : 3 * (c.args.workers - c.args.workers / 2) + 2 < 3 * c.args.workers = omega arith in
@@ -77,6 +72,6 @@ take_turns_in_halves-returns g t c =
     let back : TakesTurns f (map w b) (map w y) c.join_mut-first.result.1 = search rules in
     record {
       turns =
-          over_both f w c.args.tasks.now a b x y (Ok (c.in_ok-first.field-0 + c.in_ok-second.field-0)) c.split_at_mut-front.ensures.value
-          (turns_on f (map w a) (map w x) (map w b) (map w y) c.join_mut-first.result.0 c.join_mut-first.result.1 c.in_ok-first.field-0 c.in_ok-second.field-0 c.in_ok-first.was c.in_ok-second.was front back);
+          over_both f w c.args.tasks.now a b x y (Ok c.saturating_add.result) c.split_at_mut-front.ensures.value
+          (turns_on f (map w a) (map w x) (map w b) (map w y) c.join_mut-first.result.0 c.join_mut-first.result.1 c.in_ok-first.field-0 c.in_ok-second.field-0 c.saturating_add.result c.in_ok-first.was c.in_ok-second.was c.saturating_add.ensures front back);
     }

@@ -1,12 +1,12 @@
-use Rattle.std.proofs.Common.{◌≡◌, ◌<◌, [], ◌∷◌, ◌++◌, IfOk, List, map, rules, add-one, length, set, suc, sym, refl, subst, arith}
+use Rattle.std.proofs.Common.{◌≡◌, ◌∙◌, ◌+◌, ◌<◌, ap, sum_by, [], ◌∷◌, ◌++◌, IfOk, List, map, rules, add-one, length, set, suc, sym, refl, subst, arith}
 use Rattle.std.proofs.lemmas.List.{length-map}
 use Rattle.std.proofs.lemmas.List.Sums.{sum_by_push}
-use Rattle.board_rounds.specs.Turns.{Acts, EachActs, EndsTurn, MayTakeTurn, Working}
-use Rattle.board_rounds.proofs.Rounding.{IsSoFar, all_each, all_end, at_rest, map_get, map_set, next_done, next_is, next_stops, stopped}
+use Rattle.board_rounds.specs.Turns.{Acts, EachActs, EndsTurn, MayTakeTurn, Working, in_32_bits}
+use Rattle.board_rounds.proofs.Rounding.{IsSoFar, all_each, all_end, at_rest, count_more, map_get, map_set, next_done, next_is, next_stops, stopped}
 use Rattle.board_rounds.proofs.rounds.take_turns_in_order.Goals as goal
 
 pub loop-task-init : goal.loop-task-init
-loop-task-init g c = record { owns = []; so_far = at_rest; events = refl; few = omega arith }
+loop-task-init g c = record { owns = []; so_far = at_rest; events = refl }
 
 pub turn-requires : goal.turn-requires
 turn-requires g c =
@@ -50,8 +50,9 @@ loop-task-preserved g c =
           (subst (λ (ws : List Working). IsSoFar f (suc n) (i.owns ++ acts.0 ∷ []) (map working c.args.tasks.now) ws) (sym (map_set working c.loop-task.tasks n c.turn.new.self))
           (next_done acts.0 (working d) (working c.turn.new.self) i.so_far less now
           (subst (λ (w : Working). EndsTurn w.seat (working c.turn.new.self).seat) (sym (map_get working c.loop-task.tasks n d)) c.in_ok-turn.ensures.ends)));
-      events = (let s = sum_by_push length i.owns acts.0 in let e = i.events in let k = acts.2 in omega arith);
-      few = (let a = i.few in let k = c.in_ok-turn.ensures.few in omega arith);
+      events =
+          c.saturating_add-made.ensures ∙ ap (λ a. in_32_bits (a + c.in_ok-turn.field-0)) i.events ∙ count_more (sum_by length i.owns) c.in_ok-turn.field-0
+          ∙ ap (λ k. in_32_bits (sum_by length i.owns + k)) acts.2 ∙ ap in_32_bits (sym (sum_by_push length i.owns acts.0));
     }
 
 pub returns : goal.returns
@@ -65,7 +66,6 @@ returns g c =
         owns = i.owns;
         each = all_each i.so_far all;
         events = i.events;
-        few = (let n = c.loop-task.auto.tasks in let a = i.few in let k = length-map c.args.tasks.now working in omega arith);
         ends = all_end i.so_far all;
       };
     }

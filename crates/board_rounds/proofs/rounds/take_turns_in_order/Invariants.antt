@@ -1,7 +1,7 @@
-use Rattle.std.proofs.Common.{◌≡◌, ◌≤◌, ◌*◌, List, length, map}
+use Rattle.std.proofs.Common.{◌≡◌, List, length, map}
 use Rattle.std.specs.Prelude.{sum_by}
 use Rattle.armus_base.specs.Plans.{Action}
-use Rattle.board_rounds.specs.Turns.{max_events}
+use Rattle.board_rounds.specs.Turns.{in_32_bits}
 use Rattle.board_rounds.proofs.Rounding.{IsSoFar}
 use Rattle.board_rounds.proofs.rounds.take_turns_in_order.Given as goal
 
@@ -9,6 +9,5 @@ abbrev pub invariant-loop-task : goal.invariant-loop-task
 invariant-loop-task g l = record {
   owns : List (List Action);
   so_far : IsSoFar l.board l.task-index owns (map g.T.TakeTurn.working l.initial.tasks) (map g.T.TakeTurn.working l.tasks);
-  events : l.made ≡ sum_by length owns;
-  few : l.made ≤ l.task-index * max_events;
+  events : l.made ≡ in_32_bits (sum_by length owns);
 }

@@ -1,6 +1,6 @@
 use Rattle.std.proofs.Common.{◌<◌, sym, subst}
 use Rattle.board_rounds.specs.Crews.{AreTasksOf, Tasks, left_to}
-use Rattle.board_rounds.proofs.Rejoining.{live_few, live_none, live_ready, whole_round}
+use Rattle.board_rounds.proofs.Rejoining.{live_none, live_ready, whole_round}
 use Rattle.board_rounds.proofs.crew.Crew.round.Goals as goal
 
 pub returns : goal.returns
@@ -18,6 +18,3 @@ go_round-requires-clause-ready g c κs within = live_ready c.args.board.now (rec
 
 pub go_round-requires-clause-no_child : goal.go_round-requires-clause-no_child
 go_round-requires-clause-no_child g c κs within = live_none c.args.board.now (record { live = c.self.inside.live.items; ended = c.self.inside.ended.items }) (subst (AreTasksOf c.args.board.now) (sym c.self.view_is) c.requires.tasks)
-
-pub go_round-requires-clause-few : goal.go_round-requires-clause-few
-go_round-requires-clause-few g c κs within = live_few c.args.board.now (record { live = c.self.inside.live.items; ended = c.self.inside.ended.items }) (subst (AreTasksOf c.args.board.now) (sym c.self.view_is) c.requires.tasks)
