@@ -16,7 +16,8 @@ use Rattle.pl_core.specs.inside.Changes.{after_fork, after_op}
 use Rattle.pl_core.specs.inside.Effects.{HasRoomFor}
 use Rattle.pl_core.specs.Moves.{IsWorldStep, further}
 use Rattle.pl_core.specs.inside.Ops.{ChangesPhases, action_of, phases_moved}
-use Rattle.pl_core.specs.inside.PhaseTables.{phases_in}
+use Rattle.pl_core.specs.inside.PhaseTables.{KeepsCells, phases_in}
+use Rattle.pl_core.proofs.CellsStay.{enrols_made, enrols_registered}
 use Rattle.pl_core.specs.inside.KeptTasks.{IsKeptOf, event_in}
 use Rattle.pl_core.specs.Tasks.{actions_before}
 use Rattle.pl_core.specs.inside.Kept.{KeepsState}
@@ -126,17 +127,25 @@ module _ (plan : Plan) (tasks : List Task) (table : PhaseTable) (kept : KeepsSta
     phaser_bound : (p n : ℕ) → (state_of old).phases t p ≡ Some n → p < table.phasers
     phaser_bound p n e = (let l = phaser_of_member old kept.checked kept.reachable t p n e in let c = kept.columns in omega arith)
 
+    own_inside : t < length plan.parents
+    own_inside = (let l = slice_get_within tasks t task read in let one = kept.one_each in omega arith)
+
     pub room : HasRoomFor table t op
     room = go op next kind
       where
         go : (o : Op) → action_by_code old t ≡ Some (action_of o) → ChangesPhases o → HasRoomFor table t o
         go (Make p) n c =
             let l = legal_next plan tasks table kept t task read (Makes p.0) active n in
-            (let w = phaser_within plan t p.0 l.1 in let k = kept.columns in omega arith)
+            let w = phaser_within plan t p.0 l.1 in (
+              (let k = kept.columns in omega arith),
+              kept.cells t t p.0 own_inside own_inside w
+                  (let own = own_op (Makes p.0) n (λ aim e. absurd (cc)) in (task.op, own.0, own.1, enrols_made own.0 t p.0 own.2)),
+            )
         go (Reg d p) n c =
             let l = legal_next plan tasks table kept t task read (Registers d.0 p.0) active n in (
-              (let w = child_within plan t d.0 l.1 in let k = kept.rows in omega arith),
               phaser_bound p.0 l.3.0 l.3.1,
+              kept.cells t d.0 p.0 own_inside (child_within plan t d.0 l.1) (phaser_of_member old kept.checked kept.reachable t p.0 l.3.0 l.3.1)
+                  (let own = own_op (Registers d.0 p.0) n (λ aim e. absurd (cc)) in (task.op, own.0, own.1, enrols_registered own.0 t d.0 p.0 own.2)),
             )
         go (Adv p) n c =
             let l = legal_next plan tasks table kept t task read (Advances p.0) active n in (
@@ -149,14 +158,14 @@ module _ (plan : Plan) (tasks : List Task) (table : PhaseTable) (kept : KeepsSta
         go (Await p off) n c = absurd c
 
     pub change_stepped :
-        (table' : PhaseTable) → table'.tasks ≡ table.tasks → table'.phasers ≡ table.phasers →
+        (table' : PhaseTable) → KeepsCells table table' → table'.phasers ≡ table.phasers →
         phases_in table' ≡ phases_moved (phases_in table) t (action_of op) →
         KeepsState plan (set tasks t (after_op task)) table' × IsWorldStep old (world_from plan (set tasks t (after_op task))) t
-    change_stepped table' rows columns phases =
+    change_stepped table' cells columns phases =
         let x = action_of op in
         stepped_set plan tasks table kept t task read x next (legal x next (no_block op kind)) (after_op task) refl
         (own_after x next (no_block op kind) (ap (λ f. f t) (same_forked (state_of old) t op kind)) (ap (λ f. f t) (same_published (state_of old) t op kind) ∙ active.unpublished))
-        (no_fork op kind) table' rows columns
+        (no_fork op kind) table' cells columns
         (phases ∙ ap (λ f. phases_moved f t x) kept.phases ∙ phases_of_state (state_of old) t x)
 
   -- a fork
@@ -222,8 +231,8 @@ module _ (plan : Plan) (tasks : List Task) (table : PhaseTable) (kept : KeepsSta
 
       pub fork_stepped : KeepsState plan (set with_child t (after_op task)) table × IsWorldStep old (world_from plan (set with_child t (after_op task))) t
       fork_stepped = (
-        kept_after plan tasks table kept t task read (Forks c) next fork_legal (set with_child t (after_op task)) table same_places refl refl
+        kept_after plan tasks table kept t task read (Forks c) next fork_legal (set with_child t (after_op task)) table same_places (λ u q h. h) refl
             kept.phases (length-set with_child t (after_op task) ∙ length-set tasks c (after_fork child)) each,
-        makes_after plan tasks table kept t task read (Forks c) next fork_legal (set with_child t (after_op task)) table same_places refl refl
+        makes_after plan tasks table kept t task read (Forks c) next fork_legal (set with_child t (after_op task)) table same_places (λ u q h. h) refl
             kept.phases (length-set with_child t (after_op task) ∙ length-set tasks c (after_fork child)) each,
       )

@@ -1,4 +1,10 @@
 pub mod Cells
+pub mod CellOrder
+pub mod Tables
+pub mod Noted
+pub mod NewMembers
+pub mod Admitted
+pub mod CellsStay
 pub mod OpCounts
 pub mod Standing
 pub mod OneStep

@@ -16,7 +16,8 @@ use Rattle.pl_core.specs.declared.place.Place.{Place as PlaceValue}
 use Rattle.pl_core.specs.declared.task.Task.{Task}
 use Rattle.pl_core.specs.declared.phase_table.PhaseTable.{PhaseTable}
 use Rattle.pl_core.specs.Moves.{IsWorldStep, further}
-use Rattle.pl_core.specs.inside.PhaseTables.{phases_in}
+use Rattle.pl_core.specs.inside.PhaseTables.{KeepsCells, phases_in}
+use Rattle.pl_core.proofs.CellsStay.{cells_stay}
 use Rattle.pl_core.specs.inside.KeptTasks.{IsKeptOf, event_in}
 use Rattle.pl_core.specs.inside.Kept.{KeepsState}
 use Rattle.pl_core.specs.Tables.{kept_places, world_from}
@@ -140,7 +141,7 @@ module _ (plan : Plan) (tasks : List Task) (table : PhaseTable) (kept : KeepsSta
       }
 
   module _ (tasks' : List Task) (table' : PhaseTable) (same_places : kept_places tasks' ≡ set (kept_places tasks) t (further task.place))
-      (rows : table'.tasks ≡ table.tasks) (columns : table'.phasers ≡ table.phasers) (phases : phases_in table' ≡ (after (state_of old) t x).phases)
+      (cells : KeepsCells table table') (columns : table'.phasers ≡ table.phasers) (phases : phases_in table' ≡ (after (state_of old) t x).phases)
       (one_each : length tasks' ≡ length tasks) (each : (u : ℕ) (k : Task) → slice_get tasks' u ≡ Some k → IsKeptOf plan (after (state_of old) t x) u k) where
     seen : world_from plan tasks' ≡ new
     seen = ap (λ ps. record { plan = plan; places = ps }) same_places
@@ -154,7 +155,7 @@ module _ (plan : Plan) (tasks : List Task) (table : PhaseTable) (kept : KeepsSta
           checked = kept.checked;
           reachable = subst (λ v. IsReachable plan (places_of v)) (sym seen) (subst (IsReachable plan) (sym moved_is) reached.0);
           one_each = one_each ∙ kept.one_each;
-          rows = rows ∙ kept.rows;
+          cells = cells_stay plan table table' kept.cells cells;
           columns = columns ∙ kept.columns;
           phases = phases ∙ ap (λ s. s.phases) (sym state_seen);
           each = λ u k e. subst (λ s. IsKeptOf plan s u k) (sym state_seen) (each u k e);
@@ -180,9 +181,9 @@ module _ (plan : Plan) (tasks : List Task) (table : PhaseTable) (kept : KeepsSta
         ]
 
     pub stepped_set :
-        (table' : PhaseTable) → table'.tasks ≡ table.tasks → table'.phasers ≡ table.phasers → phases_in table' ≡ (after (state_of old) t x).phases →
+        (table' : PhaseTable) → KeepsCells table table' → table'.phasers ≡ table.phasers → phases_in table' ≡ (after (state_of old) t x).phases →
         KeepsState plan (set tasks t task') table' × IsWorldStep old (world_from plan (set tasks t task')) t
-    stepped_set table' rows columns phases = (
-      kept_after (set tasks t task') table' same_places_set rows columns phases (length-set tasks t task') each_set,
-      makes_after (set tasks t task') table' same_places_set rows columns phases (length-set tasks t task') each_set,
+    stepped_set table' cells columns phases = (
+      kept_after (set tasks t task') table' same_places_set cells columns phases (length-set tasks t task') each_set,
+      makes_after (set tasks t task') table' same_places_set cells columns phases (length-set tasks t task') each_set,
     )

@@ -16,6 +16,7 @@ use Rattle.pl_core.specs.declared.place.Place.{Place as KeptPlace}
 use Rattle.pl_core.specs.declared.task.Task.{Task}
 use Rattle.pl_core.specs.declared.phase_table.PhaseTable.{PhaseTable}
 use Rattle.pl_core.specs.inside.Changes.{opening_tasks, unbegun}
+use Rattle.pl_core.specs.inside.Enrolling.{HasCells}
 use Rattle.pl_core.specs.inside.PhaseTables.{phases_in}
 use Rattle.pl_core.specs.inside.KeptTasks.{IsKeptOf}
 use Rattle.pl_core.specs.inside.Kept.{KeepsState}
@@ -93,7 +94,7 @@ module _ (plan : Plan) (checked : IsCheckedPlan plan) where
             subst (IsKeptOf plan opening t) (sym is) (kept_unbegun t false (not_zero t other))
       ]
 
-  module _ (tasks : List Task) (table : PhaseTable) (tasks_are : tasks ≡ opening_tasks (length plan.parents)) (rows : table.tasks ≡ length plan.parents)
+  module _ (tasks : List Task) (table : PhaseTable) (tasks_are : tasks ≡ opening_tasks (length plan.parents)) (cells : HasCells plan table)
       (columns : table.phasers ≡ length plan.makers) (empty : phases_in table ≡ (λ _ _. None)) where
     seen : world_from plan tasks ≡ first_world
     seen = ap (world_from plan) tasks_are ∙ opening_seen
@@ -111,7 +112,7 @@ module _ (plan : Plan) (checked : IsCheckedPlan plan) where
           reachable = subst (λ w. IsReachable plan (places_of w)) (sym seen) (subst (IsReachable plan) (sym (first_places plan (length plan.parents))) reach);
           one_each = ap length tasks_are ∙ length-set (replicate (length plan.parents) unbegun) 0 (record unbegun { forked = true }) ∙
               length-replicate (length plan.parents) unbegun;
-          rows = rows;
+          cells = cells;
           columns = columns;
           phases = empty ∙ ap (λ s. s.phases) (sym state_seen);
           each = λ t task e. subst (λ s. IsKeptOf plan s t task) (sym state_seen)

@@ -16,7 +16,8 @@ use Rattle.pl_core.specs.declared.task.Task.{Task}
 use Rattle.pl_core.specs.declared.phase_table.PhaseTable.{PhaseTable}
 use Rattle.pl_core.specs.inside.Changes.{after_refusal}
 use Rattle.pl_core.specs.Moves.{LeadsOn, MakesRefusal, drops_from, refused_there}
-use Rattle.pl_core.specs.inside.PhaseTables.{phases_in}
+use Rattle.pl_core.specs.inside.PhaseTables.{KeepsCells, phases_in}
+use Rattle.pl_core.proofs.CellsStay.{cells_stay}
 use Rattle.pl_core.specs.Stands.{IsAtAwaitOf}
 use Rattle.pl_core.specs.inside.KeptTasks.{IsKeptOf, event_in}
 use Rattle.pl_core.specs.inside.Kept.{KeepsState}
@@ -171,14 +172,14 @@ module _ (plan : Plan) (tasks : List Task) (table : PhaseTable) (kept : KeepsSta
       ]
 
   pub refusal_kept :
-      (table' : PhaseTable) → table'.tasks ≡ table.tasks → table'.phasers ≡ table.phasers → phases_in table' ≡ updated (phases_in table) t (λ _. None) →
+      (table' : PhaseTable) → KeepsCells table table' → table'.phasers ≡ table.phasers → phases_in table' ≡ updated (phases_in table) t (λ _. None) →
       KeepsState plan (set tasks t (after_refusal task e)) table'
-  refusal_kept table' rows columns cleared =
+  refusal_kept table' cells columns cleared =
       record {
         checked = kept.checked;
         reachable = subst (λ v. IsReachable plan (places_of v)) (sym same_world) (subst (IsReachable plan) (sym seen) reach);
         one_each = length-set tasks t (after_refusal task e) ∙ kept.one_each;
-        rows = rows ∙ kept.rows;
+        cells = cells_stay plan table table' kept.cells cells;
         columns = columns ∙ kept.columns;
         phases = cleared ∙ fun_ext phases_of ∙ ap (λ v. (state_of v).phases) (sym same_world);
         each = λ u k h. subst (λ v. IsKeptOf plan (state_of v) u k) (sym same_world) (each u k h);

@@ -101,7 +101,7 @@ module _ (plan : Plan) (tasks : List Task) (table : PhaseTable) (kept : KeepsSta
     pub block_stepped : KeepsState plan (set tasks t (after_block task e)) table × IsWorldStep old (world_from plan (set tasks t (after_block task e))) t
     block_stepped =
         stepped_set plan tasks table kept t task read (Blocks blocks.0) blocks.1 block_legal (after_block task e) refl own_block (λ u e. absurd (cc))
-        table refl refl kept.phases
+        table (λ u q h. h) refl kept.phases
 
   -- a pass
   module _ (e : Event) (waits : (state_of old).published t ≡ Some e) (reached : IsReached (state_of old) e) where
@@ -151,4 +151,4 @@ module _ (plan : Plan) (tasks : List Task) (table : PhaseTable) (kept : KeepsSta
     pub pass_stepped : KeepsState plan (set tasks t (after_op task)) table × IsWorldStep old (world_from plan (set tasks t (after_op task))) t
     pass_stepped =
         stepped_set plan tasks table kept t task read (Passes e.p.0) passes_after pass_legal (after_op task) refl own_pass (λ u e. absurd (cc))
-        table refl refl kept.phases
+        table (λ u q h. h) refl kept.phases

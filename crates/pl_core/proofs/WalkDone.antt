@@ -16,6 +16,7 @@ use Rattle.pl_core.specs.declared.task.Task.{Task}
 use Rattle.pl_core.specs.declared.phase_table.PhaseTable.{PhaseTable}
 use Rattle.pl_core.specs.inside.Changes.{opening_tasks, unbegun}
 use Rattle.pl_core.specs.inside.Reachable.{AreReachable}
+use Rattle.pl_core.specs.inside.Enrolling.{HasCells}
 use Rattle.pl_core.specs.inside.PhaseTables.{phases_in}
 use Rattle.pl_core.specs.inside.Kept.{KeepsState}
 use Rattle.pl_core.specs.Tables.{kept_places, world_from}
@@ -27,7 +28,7 @@ use Rattle.pl_core.proofs.Walking.{walked_below, walked_from}
 
 -- before any task
 module _ (plan : Plan) (checked : IsCheckedPlan plan) (places : List KeptPlace) (tasks : List Task) (table : PhaseTable)
-    (tasks_are : tasks ≡ opening_tasks (length plan.parents)) (rows : table.tasks ≡ length plan.parents) (columns : table.phasers ≡ length plan.makers)
+    (tasks_are : tasks ≡ opening_tasks (length plan.parents)) (cells : HasCells plan table) (columns : table.phasers ≡ length plan.makers)
     (empty : phases_in table ≡ (λ _ _. None)) where
   state_first : opening ≡ state_at plan (walked (places_at plan places) 0)
   state_first = opening_fixed plan checked ∙ ap (state_at plan) (fun_ext (λ u. sym (walked_from (places_at plan places) 0 u (omega arith))))
@@ -37,7 +38,7 @@ module _ (plan : Plan) (checked : IsCheckedPlan plan) (places : List KeptPlace) 
       record {
         checked = checked;
         one_each = ap length tasks_are ∙ length-set (replicate (length plan.parents) unbegun) 0 (record unbegun { forked = true }) ∙ length-replicate (length plan.parents) unbegun;
-        rows = rows;
+        cells = cells;
         columns = columns;
         phases = empty ∙ ap (λ s. s.phases) state_first;
         forked = λ u task e.
@@ -93,7 +94,7 @@ module _ (plan : Plan) (places : List KeptPlace) (given : AreReachable plan plac
         checked = walk.checked;
         reachable = subst (IsReachable plan) (sym seen) given.reachable;
         one_each = walk.one_each;
-        rows = walk.rows;
+        cells = walk.cells;
         columns = walk.columns;
         phases = walk.phases ∙ ap (λ b. (state_at plan b).phases) all_walked ∙ ap (λ s. s.phases) (sym state_seen);
         each = λ u task e. subst (λ s. IsKeptOf plan s u task) (sym state_seen) (each u task e);

@@ -23,7 +23,8 @@ use Rattle.pl_core.specs.declared.task.Task.{Task}
 use Rattle.pl_core.specs.declared.phase_table.PhaseTable.{PhaseTable}
 use Rattle.pl_core.specs.inside.Reachable.{AreReachable}
 use Rattle.pl_core.specs.inside.Ops.{action_of}
-use Rattle.pl_core.specs.inside.PhaseTables.{phases_in}
+use Rattle.pl_core.specs.inside.PhaseTables.{KeepsCells, phases_in}
+use Rattle.pl_core.proofs.CellsStay.{cells_stay}
 use Rattle.pl_core.specs.inside.Stops.{IsStopOf}
 use Rattle.pl_core.specs.Tasks.{actions_before}
 use Rattle.pl_core.specs.inside.KeptTasks.{begun, event_in}
@@ -173,7 +174,7 @@ module _ (plan : Plan) (checked : IsCheckedPlan plan) (places : List KeptPlace) 
     task = record { place = place; op = stop.op; event = event; forked = was.forked }
 
     -- at its place the phases and the forked tasks are those of the state
-    module _ (table' : PhaseTable) (rows : table'.tasks ≡ table.tasks) (columns : table'.phasers ≡ table.phasers)
+    module _ (table' : PhaseTable) (cells : KeepsCells table table') (columns : table'.phasers ≡ table.phasers)
         (phases : phases_in table' ≡ cleared place.refused (phases_in table) t) where
       come :
           (b : ℕ → Place) → b ≡ walked a (suc t) → phases_in table' ≡ (state_at plan b).phases →
@@ -184,7 +185,7 @@ module _ (plan : Plan) (checked : IsCheckedPlan plan) (places : List KeptPlace) 
           (record {
             checked = checked;
             one_each = length-set tasks t task ∙ walk.one_each;
-            rows = rows ∙ walk.rows;
+            cells = cells_stay plan table table' walk.cells cells;
             columns = columns ∙ walk.columns;
             phases = phases_are;
             forked = λ u other e. elim (cases_eq u t) [

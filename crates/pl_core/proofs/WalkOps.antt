@@ -23,7 +23,8 @@ use Rattle.pl_core.specs.inside.Changes.{after_fork}
 use Rattle.pl_core.specs.inside.Effects.{HasRoomFor}
 use Rattle.pl_core.specs.inside.Reachable.{AreReachable}
 use Rattle.pl_core.specs.inside.Ops.{action_of, phases_moved}
-use Rattle.pl_core.specs.inside.PhaseTables.{phases_in}
+use Rattle.pl_core.specs.inside.PhaseTables.{KeepsCells, phases_in}
+use Rattle.pl_core.proofs.CellsStay.{cells_stay}
 use Rattle.pl_core.specs.Tasks.{actions_before}
 use Rattle.pl_core.specs.inside.Walks.{ForksBelow, IsPlaced, HasWalked, marked_by, walking, with_forked}
 use Rattle.pl_core.specs.Worlds.{places_at}
@@ -124,7 +125,7 @@ module _ (plan : Plan) (checked : IsCheckedPlan plan) (places : List KeptPlace) 
       record {
         checked = walk.checked;
         one_each = walk.one_each;
-        rows = walk.rows;
+        cells = walk.cells;
         columns = walk.columns;
         phases = walk.phases ∙ phases;
         forked = λ u task e. walk.forked u task e ∙ forked u;
@@ -155,27 +156,31 @@ module _ (plan : Plan) (checked : IsCheckedPlan plan) (places : List KeptPlace) 
           ap (λ f. f p) (sym (own_phases_here plan checked a given_consistent t k (omega arith) forked_there))
           ∙ ap (λ f. f t p) (sym walk.phases) ∙ e
 
-      fits : (p m : ℕ) → phases_in table t p ≡ Some m → m + 2 < 4294967296
+      fits : (p m : ℕ) → phases_in table t p ≡ Some m → m + 1 < 4294967296
       fits p m e =
           let f = phases_fit plan t k p m checked (own_row p m e) in
           let few = checked.limits.few_ops in
           omega arith
 
-      pub room : HasRoomFor table t op
-      room = go op next
+      pub room : t < length plan.parents → HasRoomFor table t op
+      room inside = go op is next
         where
-          go : (o : Op) → action_at plan t k ≡ Some (action_of o) → HasRoomFor table t o
-          go (Make p) e = (let w = phaser_within plan t p.0 (checked.codes.well_formed t k (Makes p.0) e).0 in let c = walk.columns in omega arith)
-          go (Reg c p) e =
-              let w = checked.codes.well_formed t k (Registers c.0 p.0) e in (
-                (let b = child_within plan t c.0 w.0 in let r = walk.rows in omega arith),
-                member_bound p.0 w.3.0 w.3.1,
+          go : (o : Op) → slice_get (code_of plan t) n ≡ Some o → action_at plan t k ≡ Some (action_of o) → HasRoomFor table t o
+          go (Make p) i e =
+              let w = phaser_within plan t p.0 (checked.codes.well_formed t k (Makes p.0) e).0 in (
+                (let c = walk.columns in omega arith),
+                walk.cells t t p.0 inside inside w (n, Make p, i, (refl, refl)),
               )
-          go (Fork c) e = tt
-          go (Adv p) e =
+          go (Reg c p) i e =
+              let w = checked.codes.well_formed t k (Registers c.0 p.0) e in (
+                member_bound p.0 w.3.0 w.3.1,
+                walk.cells t c.0 p.0 inside (child_within plan t c.0 w.0) (phaser_of_own plan checked t k p.0 w.3.0 w.3.1) (n, Reg c p, i, (refl, refl)),
+              )
+          go (Fork c) i e = tt
+          go (Adv p) i e =
               let w = checked.codes.well_formed t k (Advances p.0) e in (member_bound p.0 w.0 w.1, fits p.0)
-          go (Drop p) e = (let w = checked.codes.well_formed t k (Drops p.0) e in member_bound p.0 w.0 w.1)
-          go (Await p off) e = tt
+          go (Drop p) i e = (let w = checked.codes.well_formed t k (Drops p.0) e in member_bound p.0 w.0 w.1)
+          go (Await p off) i e = tt
 
       pub child_here : ForksBelow (length tasks) op
       child_here = go op next
@@ -192,7 +197,7 @@ module _ (plan : Plan) (checked : IsCheckedPlan plan) (places : List KeptPlace) 
           go (Drop p) e = tt
           go (Await p off) e = tt
 
-      module _ (table' : PhaseTable) (rows : table'.tasks ≡ table.tasks) (columns : table'.phasers ≡ table.phasers)
+      module _ (table' : PhaseTable) (cells : KeepsCells table table') (columns : table'.phasers ≡ table.phasers)
           (phases : phases_in table' ≡ phases_moved (phases_in table) t (action_of op)) where
         state_next : after (state_at plan (walking a t k)) t (action_of op) ≡ state_at plan (walking a t (suc k))
         state_next = stepped plan checked a given_consistent t k (omega arith) forked_there (action_of op) next (no_pass op)
@@ -203,7 +208,7 @@ module _ (plan : Plan) (checked : IsCheckedPlan plan) (places : List KeptPlace) 
             record {
               checked = walk.checked;
               one_each = length-marked tasks op ∙ walk.one_each;
-              rows = rows ∙ walk.rows;
+              cells = cells_stay plan table table' walk.cells cells;
               columns = columns ∙ walk.columns;
               phases =
                   phases

@@ -3,6 +3,8 @@ pub mod Cursors
 pub mod Effects
 pub mod Ops
 pub mod PhaseTables
+pub mod Enrolling
+pub mod Admitting
 pub mod Reading
 pub mod Stops
 pub mod Supposed

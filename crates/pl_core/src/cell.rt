@@ -1,39 +1,57 @@
-// Reads and writes of a flat table of phases.
-ghost use Rattle.std.specs.Prelude.{◌≡◌, ◌<◌, ◌+◌, ◌*◌, ◌^◌, length};
-ghost use Rattle.pl_core.specs.inside.Cells.{phase_of_cell, phases_of_cells, FitsCell};
+// The cells of one phaser: a cell for each task that is a member of it at some time.
+ghost use Rattle.std.specs.Prelude.{◌≡◌, ◌<◌, Some, length, slice_get, MatchOption, MatchBool};
+ghost use Rattle.pl_core.specs.inside.Cells.{Ascend, IsLowerBound, StandsAt, StandsIn, phase_at};
 
-// What a cell says.
-fn phase_of(cell: u32) -> Option<u32>
-    ensures phase { result ≡ phase_of_cell cell }
-    ensures fits { FitsCell result }
-{
-    if cell == 0 { None } else { Some(cell - 1) }
+use armus_base::Phase;
+
+/// A task, and its phase where it is a member.
+#[derive(Clone, Copy, Debug, PartialEq, Eq)]
+pub(crate) struct Cell {
+    pub(crate) task: u32,
+    pub(crate) phase: Option<Phase>,
 }
 
-/// The cell that says this.
-pub(crate) fn cell_of(phase: Option<u32>) -> u32
-    requires { FitsCell phase }
-    ensures { phase_of_cell result ≡ phase }
+// Whether the cell at a place is that of task `t`.
+fn is_at(cells: &[Cell], at: usize, t: u32) -> bool
+    ensures { MatchBool result (StandsAt cells.now at t) (StandsAt cells.now at t → ⊥) }
 {
-    match phase {
-        Some(n) => n + 1,
-        None => 0,
+    at < cells.len() && cells[at].task == t
+}
+
+// The place at which the cell of task `t` stands where the cells are those of consecutive tasks.
+fn guess(cells: &[Cell], t: u32) -> usize {
+    if cells.len() > 0 && cells[0].task <= t {
+        (t - cells[0].task) as usize
+    } else {
+        0
     }
 }
 
-/// The phase of task `t` on phaser `p`, in the cells of `tasks` rows of `phasers`.
-pub(crate) fn phase_in(
-    cells: &[u32],
-    tasks: usize,
-    phasers: usize,
-    t: usize,
-    p: usize,
-) -> Option<u32>
-    requires sized { length cells.now ≡ tasks * phasers }
-    requires task { t < tasks }
-    requires phaser { p < phasers }
-    ensures phase { result ≡ phases_of_cells phasers cells.now t p }
-    ensures fits { FitsCell result }
+// The first place from which on no task is below `t`.
+fn first_from(cells: &[Cell], t: u32) -> usize
+    requires { Ascend cells.now }
+    ensures { IsLowerBound cells.now t result }
 {
-    phase_of(cells[t * phasers + p])
+    cells.partition_point(|cell| cell.task < t)
+}
+
+/// The place of the cell of task `t`: one look where the cells are those of consecutive tasks, and else a binary search.
+pub(crate) fn place_of(cells: &[Cell], t: u32) -> Option<usize>
+    requires ascend { Ascend cells.now }
+    ensures { MatchOption result (StandsIn cells.now t → ⊥) (λ k. StandsAt cells.now k t) }
+{
+    let near = guess(cells, t);
+    if is_at(cells, near, t) {
+        return Some(near);
+    }
+    let at = first_from(cells, t);
+    if is_at(cells, at, t) { Some(at) } else { None }
+}
+
+/// The phase in the cell at a place.
+pub(crate) fn phase_at(cells: &[Cell], at: usize) -> Option<Phase>
+    requires { at < length cells.now }
+    ensures { result ≡ phase_at cells.now at }
+{
+    cells[at].phase
 }

@@ -3,14 +3,14 @@ ghost use Rattle.std.specs.Prelude.{◌≡◌, ℕ, ◌+◌, ◌<◌, ◌^◌, S
 ghost use Rattle.armus_base.specs.States.{next_phase};
 ghost use Rattle.pl_core.specs.inside.Effects.{HasRoomFor};
 ghost use Rattle.pl_core.specs.inside.Ops.{action_of, phases_moved};
-ghost use Rattle.pl_core.specs.inside.PhaseTables.{phases_in};
+ghost use Rattle.pl_core.specs.inside.PhaseTables.{KeepsCells, phases_in};
 
 use crate::phase_table::PhaseTable;
 use armus_base::{Op, Phase};
 
 // One phase more.
 fn raised(phase: Option<Phase>) -> Option<Phase>
-    requires { (n : ℕ) → phase ≡ Some n → n + 2 < 2 ^ 32 }
+    requires { (n : ℕ) → phase ≡ Some n → n + 1 < 2 ^ 32 }
     ensures { result ≡ next_phase phase }
 {
     match phase {
@@ -21,10 +21,10 @@ fn raised(phase: Option<Phase>) -> Option<Phase>
 
 /// The phases after task `t` has begun the op.
 pub(crate) fn move_phases(phases: &mut PhaseTable, t: usize, op: Op)
-    requires task { t < phases.old.tasks }
+    requires task { t < 2 ^ 32 }
     requires room { HasRoomFor phases.old t op }
-    ensures tasks { phases.new.tasks ≡ phases.old.tasks }
     ensures phasers { phases.new.phasers ≡ phases.old.phasers }
+    ensures cells { KeepsCells phases.old phases.new }
     ensures moved { phases_in phases.new ≡ phases_moved (phases_in phases.old) t (action_of op) }
 {
     match op {

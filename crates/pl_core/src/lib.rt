@@ -4,8 +4,10 @@
 mod cell;
 mod cursors;
 mod effect;
+mod enrolling;
 mod highest;
 mod least;
+mod members;
 mod phase_table;
 mod place;
 mod stand;

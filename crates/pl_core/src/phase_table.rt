@@ -1,76 +1,63 @@
-// The phases of all tasks in one flat table, and the least phase of each phaser's members.
-ghost use Rattle.std.specs.Prelude.{◌≡◌, ◌↔◌, ℕ, ◌<◌, ◌≤◌, ◌*◌, ◌^◌, None, Some, IfOk, IsTrue, vec_len};
-ghost use Rattle.pl_core.specs.inside.Cells.{FitsCell, phases_of_cells};
-ghost use Rattle.pl_core.specs.inside.LeastPhases.{AreLeast};
+// The phases of all tasks, phaser by phaser.
+ghost use Rattle.std.specs.Prelude.{◌≡◌, ◌↔◌, ℕ, ◌<◌, ◌≤◌, ◌^◌, None, Some, IfOk, IsTrue, length, vec_len};
 
-use crate::cell::{cell_of, phase_in};
-use crate::least::{Least, least_after, no_members};
-use armus_base::NoMemory;
+use crate::enrolling::{members_of_phasers, phasers_of_tasks};
+use crate::members::Members;
+use armus_base::{NoMemory, Plan};
 use std::alloc::Global;
 
-// A cell is 0 where the task is no member, and else one more than its phase. Each phaser's member with the least phase is found anew only when
-// that one goes on, so that whether an event is reached is one comparison.
+// For each phaser its members: as many cells as there are tasks that the plan makes members of it.
 #[derive(Drop)]
 pub(crate) struct PhaseTable {
-    tasks: usize,
     phasers: usize,
-    cells: Vec<u32>,
-    least: Vec<Option<Least>>,
-    ghost sized: { vec_len cells ≡ tasks * phasers },
-    ghost least_kept: { AreLeast (phases_of_cells phasers cells.items) tasks phasers least.items },
+    rows: Vec<Members>,
+    ghost sized: { vec_len rows ≡ phasers },
 }
 
 impl PhaseTable {
     ghost use Rattle.armus_base.specs.States.{updated, with_phase};
-    ghost use Rattle.pl_core.specs.inside.PhaseTables.{phases_in};
+    ghost use Rattle.pl_core.specs.inside.Enrolling.{HasCells};
+    ghost use Rattle.pl_core.specs.inside.PhaseTables.{HasCell, KeepsCells, phases_in};
 
-    /// No task is a member of anything.
-    pub(crate) fn new(alloc: Global, tasks: usize, phasers: usize) -> Result<PhaseTable, NoMemory>
-        requires fits { tasks * phasers < 2 ^ 32 }
-        ensures tasks { IfOk result (λ table. table.tasks ≡ tasks) }
-        ensures phasers { IfOk result (λ table. table.phasers ≡ phasers) }
+    /// The table for a plan, in which no task is a member of anything.
+    pub(crate) fn of(alloc: Global, plan: &Plan) -> Result<PhaseTable, NoMemory>
+        ensures phasers { IfOk result (λ table. table.phasers ≡ length plan.now.makers) }
         ensures empty { IfOk result (λ table. phases_in table ≡ (λ _ _. None)) }
+        ensures cells { IfOk result (λ table. HasCells plan.now table) }
     {
-        let cells = vec![in alloc; 0u32; tasks * phasers]?;
-        let least = no_members(alloc, phasers)?;
-        Ok(PhaseTable {
-            tasks,
-            phasers,
-            cells,
-            least,
-        })
+        let enrolled = phasers_of_tasks(alloc, plan)?;
+        let phasers = plan.phasers() as usize;
+        let rows = members_of_phasers(alloc, &enrolled, phasers)?;
+        Ok(PhaseTable { phasers, rows })
     }
 
     /// The phase of task `t` on phaser `p`.
     pub(crate) fn get(&self, t: usize, p: usize) -> Option<u32>
-        requires task { t < self.now.tasks }
+        requires task { t < 2 ^ 32 }
         requires phaser { p < self.now.phasers }
         ensures phase { result ≡ phases_in self.now t p }
-        ensures fits { FitsCell result }
     {
-        phase_in(&self.cells, self.tasks, self.phasers, t, p)
+        self.rows[p].get(t as u32)
     }
 
     /// Sets the phase of task `t` on phaser `p`.
     pub(crate) fn set(&mut self, t: usize, p: usize, phase: Option<u32>)
-        requires task { t < self.old.tasks }
+        requires task { t < 2 ^ 32 }
         requires phaser { p < self.old.phasers }
-        requires fits { FitsCell phase }
-        ensures tasks { self.new.tasks ≡ self.old.tasks }
+        requires cell { (n : ℕ) → phase ≡ Some n → HasCell self.old t p }
         ensures phasers { self.new.phasers ≡ self.old.phasers }
         ensures set { phases_in self.new ≡ with_phase (phases_in self.old) t p phase }
+        ensures cells { KeepsCells self.old self.new }
     {
-        let before = self.least[p];
-        self.cells[t * self.phasers + p] = cell_of(phase);
-        self.least[p] = least_after(&self.cells, self.tasks, self.phasers, t, p, before);
+        self.rows[p].set(t as u32, phase);
     }
 
     /// Takes task `t` off all phasers.
     pub(crate) fn clear(&mut self, t: usize)
-        requires task { t < self.old.tasks }
-        ensures tasks { self.new.tasks ≡ self.old.tasks }
+        requires task { t < 2 ^ 32 }
         ensures phasers { self.new.phasers ≡ self.old.phasers }
         ensures cleared { phases_in self.new ≡ updated (phases_in self.old) t (λ _. None) }
+        ensures cells { KeepsCells self.old self.new }
     {
         for p in 0..self.phasers {
             self.set(t, p, None);
@@ -80,11 +67,8 @@ impl PhaseTable {
     /// Whether each member of phaser `p` has phase `n` at least.
     pub(crate) fn is_reached(&self, p: usize, n: u32) -> bool
         requires phaser { p < self.now.phasers }
-        ensures { IsTrue result ↔ ((u m : ℕ) → u < self.now.tasks → phases_in self.now u p ≡ Some m → n ≤ m) }
+        ensures { IsTrue result ↔ ((u m : ℕ) → phases_in self.now u p ≡ Some m → n ≤ m) }
     {
-        match self.least[p] {
-            None => true,
-            Some(member) => n <= member.phase,
-        }
+        self.rows[p].is_reached(n)
     }
 }

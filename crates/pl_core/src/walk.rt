@@ -5,7 +5,7 @@ ghost use Rattle.armus_base.specs.States.{updated};
 ghost use Rattle.pl_core.specs.inside.Effects.{HasRoomFor};
 ghost use Rattle.pl_core.specs.inside.Reachable.{AreReachable};
 ghost use Rattle.pl_core.specs.inside.Ops.{action_of, phases_moved};
-ghost use Rattle.pl_core.specs.inside.PhaseTables.{phases_in};
+ghost use Rattle.pl_core.specs.inside.PhaseTables.{KeepsCells, phases_in};
 ghost use Rattle.pl_core.specs.inside.Cursors.{AreAt, KeepsOtherCursors, op_index_of};
 ghost use Rattle.pl_core.specs.inside.Stops.{IsStopOf};
 ghost use Rattle.pl_core.specs.inside.Kept.{KeepsState};
@@ -46,7 +46,7 @@ fn mark_forked(tasks: &mut Vec<Task>, op: Op)
 
 // The event of the await before which a task stands.
 fn event_of(phases: &PhaseTable, t: usize, op: Option<Op>) -> Option<Event>
-    requires task { t < phases.now.tasks }
+    requires task { t < 2 ^ 32 }
     requires phaser { AwaitsBelow phases.now.phasers op }
     requires near { AwaitsNear (phases_in phases.now t) op }
     ensures { result ≡ event_of_op op (phases_in phases.now t) }
@@ -65,9 +65,9 @@ fn event_of(phases: &PhaseTable, t: usize, op: Option<Op>) -> Option<Event>
 
 // Takes a refused task off all phasers.
 fn clear_refused(phases: &mut PhaseTable, t: usize, refused: bool)
-    requires task { t < phases.old.tasks }
-    ensures tasks { phases.new.tasks ≡ phases.old.tasks }
+    requires task { t < 2 ^ 32 }
     ensures phasers { phases.new.phasers ≡ phases.old.phasers }
+    ensures cells { KeepsCells phases.old phases.new }
     ensures cleared { phases_in phases.new ≡ (if refused then updated (phases_in phases.old) t (λ _. None) else phases_in phases.old) }
 {
     if refused {
@@ -95,7 +95,7 @@ impl Walk {
         ensures cursors { IfOk result (λ w. AreAt plan.now (length plan.now.parents) w.0.tasks.items w.1.items) }
     {
         let count = plan.tasks() as usize;
-        let phases = PhaseTable::new(alloc, count, plan.phasers() as usize)?;
+        let phases = PhaseTable::of(alloc, plan)?;
         let tasks = first_tasks(alloc, count)?;
         let mut walk = Walk { tasks, phases };
         let mut cursors = Vec::new(alloc);
@@ -160,11 +160,10 @@ impl Walk {
 
     // Makes one op of a task.
     fn make_op(&mut self, t: TaskId, op: Op)
-        requires task { t.0 < self.old.phases.tasks }
         requires child { ForksBelow (length self.old.tasks.items) op }
         requires room { HasRoomFor self.old.phases t.0 op }
         ensures tasks { self.new.tasks.items ≡ marked_by self.old.tasks.items op }
-        ensures rows { self.new.phases.tasks ≡ self.old.phases.tasks }
+        ensures cells { KeepsCells self.old.phases self.new.phases }
         ensures columns { self.new.phases.phasers ≡ self.old.phases.phasers }
         ensures moved { phases_in self.new.phases ≡ phases_moved (phases_in self.old.phases) t.0 (action_of op) }
     {
@@ -198,7 +197,6 @@ impl Walk {
 
     // The event of a task's op, if the task is published or refused there.
     fn event(&self, t: TaskId, op: Option<Op>, begun: bool, refused: bool) -> Option<Event>
-        requires task { t.0 < self.now.phases.tasks }
         requires phaser { AwaitsBelow self.now.phases.phasers op }
         requires near { begun || refused ≡ true → AwaitsNear (phases_in self.now.phases t.0) op }
         ensures { result ≡ (if begun || refused then event_of_op op (phases_in self.now.phases t.0) else None) }

@@ -51,7 +51,7 @@ impl<'p> World<'p> {
         ensures opening { IfOk result (λ world. IsOpeningWorld plan.now world) }
     {
         let count = plan.tasks() as usize;
-        let phases = PhaseTable::new(alloc, count, plan.phasers() as usize)?;
+        let phases = PhaseTable::of(alloc, plan)?;
         let tasks = first_tasks(alloc, count)?;
         let cursors = first_cursors(alloc, plan)?;
         let highest = highest_of(alloc, &tasks, plan.phasers() as usize)?;

@@ -1,18 +1,33 @@
--- The cells of the flat table of phases.
-use Rattle.std.specs.Prelude.{ℕ, ◌+◌, ◌*◌, ◌<◌, ◌^◌, List, Option, Some, None, option_and_then, slice_get, nat_lt, if◌then◌else◌}
-use Rattle.std.proofs.Common.{zero, suc}
-use Rattle.armus_base.specs.States.{Phases}
+-- The cells of a phaser: tasks, each with its phase where it is a member.
+use Rattle.std.specs.Prelude.{◌≡◌, ◌==◌, ℕ, ◌<◌, ◌≤◌, List, [], ◌∷◌, Option, Some, None, option_and_then, slice_get, if◌then◌else◌}
+use Rattle.pl_core.specs.declared.cell.Cell.{Cell}
 
--- what a cell says: 0 for no member, and else one more than the phase
-abbrev pub phase_of_cell : ℕ → Option ℕ
-phase_of_cell zero = None
-phase_of_cell (suc n) = Some n
+-- the tasks of the cells ascend
+abbrev pub Ascend : List Cell → Type 0
+Ascend cs = (j k : ℕ) (c d : Cell) → j < k → slice_get cs j ≡ Some c → slice_get cs k ≡ Some d → c.task < d.task
 
--- the phase fits a cell
-abbrev pub FitsCell : Option ℕ → Type 0
-FitsCell None = Unit {0}
-FitsCell (Some n) = n + 1 < 2 ^ 32
+-- no task of the cells has number n or a greater one
+abbrev pub AreBelow : ℕ → List Cell → Type 0
+AreBelow n cs = (k : ℕ) (c : Cell) → slice_get cs k ≡ Some c → c.task < n
 
--- the phases that the cells of a table of so many phasers say
-unfoldable pub phases_of_cells : ℕ → List ℕ → ℕ → Phases
-phases_of_cells phasers cells t p = if nat_lt p phasers then option_and_then phase_of_cell (slice_get cells (t * phasers + p)) else None
+-- the cell at k is that of task t
+abbrev pub StandsAt : List Cell → ℕ → ℕ → Type 0
+StandsAt cs k t = (c : Cell) × (slice_get cs k ≡ Some c) × (c.task ≡ t)
+
+-- task t has a cell
+abbrev pub StandsIn : List Cell → ℕ → Type 0
+StandsIn cs t = (k : ℕ) × StandsAt cs k t
+
+-- the tasks ahead of this place are below t, and those from it on are not
+pub record IsLowerBound (cs : List Cell) (t at : ℕ) : Type 0 where
+  pub ahead : (k : ℕ) (c : Cell) → k < at → slice_get cs k ≡ Some c → c.task < t
+  pub from : (k : ℕ) (c : Cell) → at ≤ k → slice_get cs k ≡ Some c → t ≤ c.task
+
+-- the phase in the cell at k
+abbrev pub phase_at : List Cell → ℕ → Option ℕ
+phase_at cs k = option_and_then (λ c. c.phase) (slice_get cs k)
+
+-- the phase of task t
+abbrev pub phase_among : List Cell → ℕ → Option ℕ
+phase_among [] t = None
+phase_among (c ∷ cs) t = if c.task == t then c.phase else phase_among cs t

@@ -5,6 +5,7 @@ use Rattle.armus_base.specs.Runs.{IsReachable}
 use Rattle.armus_base.specs.CheckedPlans.{IsCheckedPlan}
 use Rattle.pl_core.specs.declared.task.Task.{Task}
 use Rattle.pl_core.specs.declared.phase_table.PhaseTable.{PhaseTable}
+use Rattle.pl_core.specs.inside.Enrolling.{HasCells}
 use Rattle.pl_core.specs.inside.PhaseTables.{phases_in}
 use Rattle.pl_core.specs.inside.KeptTasks.{IsKeptOf}
 use Rattle.pl_core.specs.Worlds.{places_of, state_of}
@@ -15,7 +16,7 @@ pub record KeepsState (plan : Plan) (tasks : List Task) (table : PhaseTable) : T
   pub checked : IsCheckedPlan plan
   pub reachable : IsReachable plan (places_of (world_from plan tasks))
   pub one_each : length tasks ≡ length plan.parents
-  pub rows : table.tasks ≡ length plan.parents
+  pub cells : HasCells plan table
   pub columns : table.phasers ≡ length plan.makers
   pub phases : phases_in table ≡ (state_of (world_from plan tasks)).phases
   pub each : (t : ℕ) (task : Task) → slice_get tasks t ≡ Some task → IsKeptOf plan (state_of (world_from plan tasks)) t task

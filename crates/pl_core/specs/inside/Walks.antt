@@ -14,6 +14,7 @@ use Rattle.pl_core.specs.declared.task.Task.{Task}
 use Rattle.pl_core.specs.declared.phase_table.PhaseTable.{PhaseTable}
 use Rattle.pl_core.specs.inside.Changes.{after_fork}
 use Rattle.pl_core.specs.inside.Ops.{action_of}
+use Rattle.pl_core.specs.inside.Enrolling.{HasCells}
 use Rattle.pl_core.specs.inside.PhaseTables.{phases_in}
 use Rattle.pl_core.specs.Tasks.{actions_before}
 use Rattle.pl_core.specs.inside.KeptTasks.{begun, event_in}
@@ -38,7 +39,7 @@ pub record IsPlaced (plan : Plan) (places : List KeptPlace) (u : ℕ) (task : Ta
 pub record HasWalked (plan : Plan) (places : List KeptPlace) (b : ℕ → Place) (t : ℕ) (tasks : List Task) (table : PhaseTable) : Type 0 where
   pub checked : IsCheckedPlan plan
   pub one_each : length tasks ≡ length plan.parents
-  pub rows : table.tasks ≡ length plan.parents
+  pub cells : HasCells plan table
   pub columns : table.phasers ≡ length plan.makers
   pub phases : phases_in table ≡ (state_at plan b).phases
   pub forked : (u : ℕ) (task : Task) → slice_get tasks u ≡ Some task → task.forked ≡ forked_at plan (done_by b) u

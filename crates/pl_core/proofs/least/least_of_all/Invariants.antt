@@ -1,6 +1,6 @@
-use Rattle.pl_core.specs.inside.Cells.{phases_of_cells}
+use Rattle.pl_core.specs.inside.Cells.{phase_at}
 use Rattle.pl_core.specs.inside.LeastPhases.{IsLeastBelow}
 use Rattle.pl_core.proofs.least.least_of_all.Given as goal
 
-abbrev pub invariant-loop-t : goal.invariant-loop-t
-invariant-loop-t l = IsLeastBelow (phases_of_cells l.phasers l.cells) l.p l.t l.least
+abbrev pub invariant-loop-at : goal.invariant-loop-at
+invariant-loop-at l = IsLeastBelow (phase_at l.cells) l.at l.least

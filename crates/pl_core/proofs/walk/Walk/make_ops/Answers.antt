@@ -63,6 +63,7 @@ make_op-requires-clause-room c =
     let less = made_less (code_of plan t) c.loop-op.made (places_at plan places t).done c.loop-op.left c.events_in-size.result c.in-Some.op is i.left
     c.events_in-size.ensures c.if-left-size.false in
     room plan c.requires.walked.checked places c.requires.given t c.loop-op.self.tasks.items c.loop-op.self.phases c.loop-op.made c.in-Some.op is i.walking less
+    c.requires.task
 
 pub overflow_add-made : goal.overflow_add-made
 overflow_add-made c =
@@ -97,7 +98,7 @@ loop-op-preserved c =
           (subst (λ xs. HasWalked plan places (walking (places_at plan places) t (actions_before (code_of plan t) (suc k))) t xs c.make_op.new.self.phases)
           (sym c.make_op.ensures.tasks)
           (walk_more plan c.requires.walked.checked places c.requires.given t c.loop-op.self.tasks.items c.loop-op.self.phases k op is i.walking less
-          c.make_op.new.self.phases c.make_op.ensures.rows c.make_op.ensures.columns c.make_op.ensures.moved made));
+          c.make_op.new.self.phases c.make_op.ensures.cells c.make_op.ensures.columns c.make_op.ensures.moved made));
       ops = λ u. ap (λ tasks. op_index_of tasks u) c.make_op.ensures.tasks ∙ op_marked c.loop-op.self.tasks.items op u ∙ i.ops u;
     }
 

@@ -35,7 +35,7 @@ returns-clause-walked c =
     let read = subst (λ xs. slice_get xs t ≡ Some was) c.deref.ensures.value c.task_at-forked.ensures in
     let stood = walk_stands plan c.requires.walking.checked places c.requires.given t place c.place_within-place.ensures c.args.stop c.requires.stop
     c.args.self.now.tasks.items c.args.self.now.phases c.requires.walking was read
-    c.clear_refused.new.phases c.clear_refused.ensures.tasks c.clear_refused.ensures.phasers c.clear_refused.ensures.cleared in
+    c.clear_refused.new.phases c.clear_refused.ensures.cells c.clear_refused.ensures.phasers c.clear_refused.ensures.cleared in
     subst (λ n. HasWalked plan places (walked (places_at plan places) n) n
     (set c.args.self.now.tasks.items t (record { place = place; op = c.args.stop.op; event = c.event-event.result; forked = was.forked }))
     c.clear_refused.new.phases) (sym (add-one t))

@@ -12,7 +12,7 @@ loop-t-init c = record {
   walked =
       walk_start c.args.plan.now c.tasks-count.ensures.checked c.args.places.now c.in_ok-tasks.tasks.items c.in_ok-phases.phases
       (c.in_ok-tasks.ensures ∙ ap opening_tasks c.tasks-count.ensures.counted)
-      (c.in_ok-phases.ensures.tasks ∙ c.tasks-count.ensures.counted) (c.in_ok-phases.ensures.phasers ∙ c.phasers.ensures.counted) c.in_ok-phases.ensures.empty;
+      c.in_ok-phases.ensures.cells c.in_ok-phases.ensures.phasers c.in_ok-phases.ensures.empty;
   cursors = at_none c.args.plan.now c.in_ok-tasks.tasks.items c.new-cursors.result.items c.new-cursors.ensures.items;
 }
 

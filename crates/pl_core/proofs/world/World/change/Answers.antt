@@ -37,7 +37,7 @@ invariant_of-self c =
     let active = subst (λ (w : WorldValue). IsActive (state_of w) c.args.t.0) (sym c.self.view_is) c.requires.active in
     let next = subst (λ (w : WorldValue). action_by_code w c.args.t.0 ≡ Some (action_of c.args.op)) (sym c.self.view_is) c.requires.next in
     let stepped = change_stepped c.self.inside.plan.now c.self.inside.tasks.items c.self.inside.phases c.self.invariant.kept c.args.t.0 c.task_at-task.result
-    read active c.args.op next c.requires.kind c.move_phases.new.phases c.move_phases.ensures.tasks c.move_phases.ensures.phasers
+    read active c.args.op next c.requires.kind c.move_phases.new.phases c.move_phases.ensures.cells c.move_phases.ensures.phasers
     c.move_phases.ensures.moved in
     record {
       kept = subst (λ task. KeepsState c.self.inside.plan.now (set c.self.inside.tasks.items c.args.t.0 task) c.move_phases.new.phases) (sym c.after_op.ensures) stepped.0;
@@ -56,7 +56,7 @@ returns c =
     let active = subst (λ (w : WorldValue). IsActive (state_of w) c.args.t.0) (sym c.self.view_is) c.requires.active in
     let next = subst (λ (w : WorldValue). action_by_code w c.args.t.0 ≡ Some (action_of c.args.op)) (sym c.self.view_is) c.requires.next in
     let stepped = change_stepped c.self.inside.plan.now c.self.inside.tasks.items c.self.inside.phases c.self.invariant.kept c.args.t.0 c.task_at-task.result
-    read active c.args.op next c.requires.kind c.move_phases.new.phases c.move_phases.ensures.tasks c.move_phases.ensures.phasers
+    read active c.args.op next c.requires.kind c.move_phases.new.phases c.move_phases.ensures.cells c.move_phases.ensures.phasers
     c.move_phases.ensures.moved in
     subst (λ w. IsWorldStep w (world_from c.self.inside.plan.now (set c.self.inside.tasks.items c.args.t.0 c.after_op.result)) c.args.t.0) c.self.view_is
     (subst (λ task. IsWorldStep (world_from c.self.inside.plan.now c.self.inside.tasks.items)

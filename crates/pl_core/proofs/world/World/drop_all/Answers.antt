@@ -19,7 +19,7 @@ invariant_of-self c =
       kept =
           subst (λ k. KeepsState c.self.inside.plan.now (set c.self.inside.tasks.items c.args.t.0 k) c.clear.new.self) (sym c.after_refusal.ensures)
           (refusal_kept c.self.inside.plan.now c.self.inside.tasks.items c.self.inside.phases c.self.invariant.kept c.args.t.0 task read c.args.event before
-          c.clear.new.self c.clear.ensures.tasks c.clear.ensures.phasers c.clear.ensures.cleared);
+          c.clear.new.self c.clear.ensures.cells c.clear.ensures.phasers c.clear.ensures.cleared);
       cursors =
           stays c.self.inside.plan.now c.self.inside.tasks.items c.self.inside.cursors.items c.self.invariant.cursors c.self.invariant.kept.one_each c.args.t.0 task read c.after_refusal.result
           (ap (λ v. v.op) c.after_refusal.ensures);
