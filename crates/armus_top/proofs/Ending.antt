@@ -12,7 +12,7 @@ use Rattle.armus_top.proofs.WaysToEnd.{ends_finished}
 use Rattle.armus_words.specs.Words.{Text}
 use Rattle.armus_top.specs.inside.Writing.{Finished}
 use Rattle.armus_top.specs.Headline.{Passage, Completes, Ends, GaveTooMuch, IsAccepted, HasInput, IsCall, IsCalm}
-use Rattle.armus_top.specs.Headline.{IsServed, IsSound, Offers, OffersTooMuch, Permits, reads_input, whole, read_fault, write_fault, no_memory}
+use Rattle.armus_top.specs.Headline.{IsServed, IsSound, Offers, OffersTooMuch, Permits, limit_for, writes_lines, whole, read_fault, write_fault, no_memory}
 use Rattle.armus_words.specs.declared.command.Command.{Command}
 
 only : {d e : Command} → Some d ≡ Some e → d ≡ e
@@ -20,7 +20,8 @@ only h = cc
 
 pub by_finish : (c : Option Command) (src out : Passage) (text : Text) (status number : ℕ)
     → Finished out text status number → Permits c src status text → IsSound src → Ends c src out number
-by_finish c src out text status number done permits still = ends_finished (Permits c src) (reads_input c) src out text status number done permits still
+by_finish c src out text status number done permits still =
+    ends_finished (Permits c src) (limit_for c) (writes_lines c) src out text status number done permits still
 
 -- another name of the same text
 pub finished_as : (out : Passage) (text shown : Text) (status number : ℕ) → shown ≡ text → Finished out shown status number → Finished out text status number
@@ -112,9 +113,9 @@ rose_from before now e = omega arith
 
 pub completes : (c : Option Command) (src out : Passage) (number : ℕ) → Ends c src out number → IsCalm src out number → Completes c src number
 completes c src out number (whole text permits took still sound) calm = fixed src c number text permits
-completes c src out number (read_fault four does failed sound kept) calm = absurd (calm.source (rose_from src.faults_before src.faults_after failed))
+completes c src out number (read_fault four does failed read sound kept) calm = absurd (calm.source (rose_from src.faults_before src.faults_after failed))
 completes c src out number (write_fault five still failed part) calm = absurd (calm.sink (rose_from out.faults_before out.faults_after failed))
-completes c src out number (no_memory six still sound part) calm = absurd (calm.memory six)
+completes c src out number (no_memory six still read sound part) calm = absurd (calm.memory six)
 
 pub served_by : {words : List Text} {src out : Passage} {same_source same_sink : Type 0} {number : ℕ} → IsCall words src out same_source same_sink number
     → IsServed words src out same_source same_sink number

@@ -2,14 +2,16 @@ pub mod OnePlan
 pub mod OneClockPlan
 pub mod OneRefusal
 pub mod DirectEnds
-pub mod TellingClocks
+pub mod Served
 pub mod ReplayInputs
 pub mod TwoLines
+pub mod GeneratedRuns
 pub mod WaysToEnd
 pub mod Ending
 pub mod Inputs
 pub mod Meaning
 pub mod Answering
+pub mod InputRead
 pub mod Reporting
 pub mod AvoidedReports
 pub mod RecordedTexts

@@ -1,4 +1,4 @@
--- From what a run tells before its report, and the report, to what the command leaves.
+-- From the live lines of a run, and the report behind them, to what the command leaves.
 use Rattle.std.proofs.Common.{◌≡◌, ◌∙◌, ◌++◌, [], ℕ, List, inl, inr, refl, sym, subst, ap, arith, append-nil, append_assoc, Bool, true, false, if◌then◌else◌}
 use Rattle.std.specs.Prelude.{◌↔◌, IsTrue, Option, Some, None, Ok, Err}
 use Rattle.std.specs.Io.KnownBytes.{Appends, Keeps}
@@ -15,19 +15,21 @@ use Rattle.report.specs.Live.{live_line, live_text}
 use Rattle.report.specs.NamedDead.{AreSomeDead, AreTheDead}
 use Rattle.report.specs.Reports.{IsReport, IsSomeDead}
 use Rattle.report.proofs.DeadExtend.{some_dead_extend}
-use Rattle.task_runner.specs.DetectRuns.{AreDeadAtTheEnd, HasWritten, TellsRun, Told, IsNoWrite}
+use Rattle.task_runner.specs.DetectRuns.{AreDeadAtTheEnd, HasWritten, TellsRun, Told}
 use Rattle.task_runner.specs.PlainRuns.{IsPlainEnd}
 use Rattle.task_runner.specs.declared.ran.Ran.{Ran}
 use Rattle.task_runner.specs.declared.ran.RunEnd.TheVariants as ends
-use Rattle.armus_words.specs.declared.command.Graph.{Graph}
-use Rattle.armus_top.specs.Commands.{wanted_of}
+use Rattle.adaptive.specs.declared.analysis.Wanted.{Wanted}
+use Rattle.armus_top.specs.declared.output.Output.{Output}
 use Rattle.armus_top.specs.Headline.{Passage}
-use Rattle.armus_top.specs.Runs.{IsLiveRunOf, IsRunOf, IsRunOutput, kind_of}
+use Rattle.armus_top.specs.Runs.{IsLiveRunOf, IsRunOf}
 use Rattle.armus_words.specs.Words.{Text}
-use Rattle.armus_top.specs.inside.Writing.{LeavesOutput, WritesReport, nothing, part, wrote}
+use Rattle.armus_top.specs.inside.Answers.{ReportsEnd}
+use Rattle.armus_top.specs.inside.Status.{number_of_status}
+use Rattle.armus_top.specs.inside.Writing.{Finished, LeavesOutput, part, wrote}
 use Rattle.armus_top.proofs.Ending.{by_pieces}
 use Rattle.armus_top.proofs.RunsMet.{run_met}
-use Rattle.armus_top.proofs.Reporting.{by_plain_end, run_of}
+use Rattle.armus_top.proofs.Reporting.{run_of}
 
 -- a sink between two moments
 abbrev pub between : Told → Told → Passage
@@ -46,15 +48,15 @@ one_plain_end plan a b p q =
     let same : p.state ≡ q.state = sym p.final.there ∙ q.every p.final.steps p.final.run p.final.maximal in
     p.is_it ∙ ap (final_of plan) same ∙ sym q.is_it
 
-module _ (plan : Plan) (checked : IsCheckedPlan plan) (g : Graph) where
-  end_of_run : (status : ℕ) (report : Text) (r : IsRunOf plan (wanted_of g) status report) → IsPlainEnd plan (final_of plan r.state)
+module _ (plan : Plan) (checked : IsCheckedPlan plan) (wanted : Wanted) where
+  end_of_run : (status : ℕ) (report : Text) (r : IsRunOf plan wanted status report) → IsPlainEnd plan (final_of plan r.state)
   end_of_run status report r = record { state = r.state; final = r.final; every = r.every; is_it = refl }
 
   -- lines of some dead tasks begin some whole output
   begun : (named : List Dead) → AreDeadAtTheEnd plan named
-      → (status : ℕ) × (text : Text) × IsLiveRunOf plan (wanted_of g) status text × ((rest : Text) × (text ≡ live_text named ++ rest))
+      → (status : ℕ) × (text : Text) × IsLiveRunOf plan wanted status text × ((rest : Text) × (text ≡ live_text named ++ rest))
   begun named dead =
-      let (status, report, r) = run_met plan checked (wanted_of g) in
+      let (status, report, r) = run_met plan checked wanted in
       let end = final_of plan r.state in
       let (more, all) = some_dead_extend end.blocked named (dead end (end_of_run status report r)) in (
         status,
@@ -66,20 +68,20 @@ module _ (plan : Plan) (checked : IsCheckedPlan plan) (g : Graph) where
   module _ (before now after : Told) (number : ℕ) where
     -- memory was wanting after the lines of some dead tasks
     wanting : (named : List Dead) → AreDeadAtTheEnd plan named → number ≡ 6 → HasWritten named before now → Keeps now.taken after.taken → after.faults ≡ now.faults
-        → LeavesOutput (IsLiveRunOf plan (wanted_of g)) (between before after) number
+        → LeavesOutput true (IsLiveRunOf plan wanted) (between before after) number
     wanting named dead six written kept still =
         let (status, text, live, (rest, is)) = begun named dead in
-        part status text live six (still ∙ written.sound)
+        part refl status text live six (still ∙ written.sound)
         (subst (TookFront before.taken after.taken) (sym is)
         (front_after before.taken now.taken after.taken (live_text named) rest written.lines (no_front now.taken after.taken rest kept)))
 
-  plain_report : (end : Final) (dead : Bool) (report : Text) → IsPlainEnd plan end → (IsTrue dead ↔ IsSomeDead end.blocked) → IsReport end (wanted_of g) report
-      → IsRunOf plan (wanted_of g) (if dead then 1 else 0) report
-  plain_report end dead report is same reports = run_of plan (wanted_of g) end dead report checked is same reports
+  plain_report : (end : Final) (dead : Bool) (report : Text) → IsPlainEnd plan end → (IsTrue dead ↔ IsSomeDead end.blocked) → IsReport end wanted report
+      → IsRunOf plan wanted (if dead then 1 else 0) report
+  plain_report end dead report is same reports = run_of plan wanted end dead report checked is same reports
 
   -- the report stands behind the lines of all dead tasks
   behind_lines : (end : Final) (dead : Bool) (report : Text) (named : List Dead) → IsPlainEnd plan end → AreTheDead end.blocked named
-      → (IsTrue dead ↔ IsSomeDead end.blocked) → IsReport end (wanted_of g) report → IsLiveRunOf plan (wanted_of g) (if dead then 1 else 0) (live_text named ++ report)
+      → (IsTrue dead ↔ IsSomeDead end.blocked) → IsReport end wanted report → IsLiveRunOf plan wanted (if dead then 1 else 0) (live_text named ++ report)
   behind_lines end dead report named is are same reports =
       let r = plain_report end dead report is same reports in
       let ends : end ≡ final_of plan r.state = one_plain_end plan end (final_of plan r.state) is (end_of_run _ report r) in
@@ -89,31 +91,28 @@ module _ (plan : Plan) (checked : IsCheckedPlan plan) (g : Graph) where
   some_of_all end named is are other ends = subst (λ e. AreSomeDead e.blocked named) (one_plain_end plan end other is ends) are.some
 
   module _ (before now after : Told) (number : ℕ) (end : Final) (is : IsPlainEnd plan end) where
-    live_reported : (named : List Dead) → AreTheDead end.blocked named → HasWritten named before now → WritesReport end (wanted_of g) (between now after) number
-        → LeavesOutput (IsLiveRunOf plan (wanted_of g)) (between before after) number
-    live_reported named are written (inl (dead, report, same, reports, done)) =
-        wrote (if dead then 1 else 0) (live_text named ++ report) (behind_lines end dead report named is are same reports)
-        (by_pieces (between before after) (between now after) (live_text named) report (if dead then 1 else 0) number written.sound refl refl written.lines done)
-    live_reported named are written (inr (six, still, kept)) =
-        wanting before now after number named (some_of_all end named is are) six written kept still
+    reported_behind : (named : List Dead) → AreTheDead end.blocked named → HasWritten named before now → (o : Output) → ReportsEnd end wanted o
+        → Finished (between now after) o.text (number_of_status o.status) number → LeavesOutput true (IsLiveRunOf plan wanted) (between before after) number
+    reported_behind named are written o (dead, status, same, reports) done =
+        wrote (number_of_status o.status) (live_text named ++ o.text)
+        (subst (λ n. IsLiveRunOf plan wanted n (live_text named ++ o.text)) (sym status) (behind_lines end dead o.text named is are same reports))
+        (by_pieces (between before after) (between now after) (live_text named) o.text (number_of_status o.status) number written.sound refl refl written.lines done)
 
-    plain_reported : now ≡ before → WritesReport end (wanted_of g) (between now after) number → LeavesOutput (IsRunOf plan (wanted_of g)) (between before after) number
-    plain_reported same writes =
-        by_plain_end plan g end (wanted_of g) (between before after) number checked is refl
-        (subst (λ (m : Told). WritesReport end (wanted_of g) (between m after) number) same writes)
+  -- the run came to its end, and its report was written
+  pub reported : (before now after : Told) (number : ℕ) (ran : Ran) (o : Output) → IsPlainEnd plan ran.end → TellsRun plan before now (Ok ran)
+      → ReportsEnd ran.end wanted o → Finished (between now after) o.text (number_of_status o.status) number
+      → LeavesOutput true (IsLiveRunOf plan wanted) (between before after) number
+  reported before now after number ran o is (named, are, lines) reports done = reported_behind before now after number ran.end is named are lines o reports done
 
-  -- the run came to its end, and its report was written, or memory was wanting
-  pub reported : (live : Bool) (before now after : Told) (number : ℕ) (ran : Ran) → IsPlainEnd plan ran.end → (live ≡ true → TellsRun plan before now (Ok ran))
-      → (live ≡ false → now ≡ before) → WritesReport ran.end (wanted_of g) (between now after) number → LeavesOutput (IsRunOutput (kind_of live) plan (wanted_of g)) (between before after) number
-  reported true before now after number ran is tells silent written =
-      let (named, are, lines) = tells refl in live_reported before now after number ran.end is named are lines written
-  reported false before now after number ran is tells silent written = plain_reported before now after number ran.end is (silent refl) written
+  -- the run came to its end, and memory was wanting for its report
+  pub unreported : (before now : Told) (ran : Ran) → IsPlainEnd plan ran.end → TellsRun plan before now (Ok ran)
+      → LeavesOutput true (IsLiveRunOf plan wanted) (between before now) 6
+  unreported before now ran is (named, are, lines) =
+      wanting before now now 6 named (some_of_all ran.end named is are) refl lines (Keeps-refl now.taken) refl
 
   -- the sink failed within the live lines
-  pub unwritten : (live : Bool) (before now : Told) → (live ≡ true → TellsRun plan before now (Err ends.Write)) → (live ≡ false → IsNoWrite {A = Ran} (Err ends.Write))
-      → LeavesOutput (IsRunOutput (kind_of live) plan (wanted_of g)) (between before now) 5
-  unwritten true before now tells silent =
-      let (named, dead, part_of) = tells refl in
+  pub unwritten : (before now : Told) → TellsRun plan before now (Err ends.Write) → LeavesOutput true (IsLiveRunOf plan wanted) (between before now) 5
+  unwritten before now (named, dead, part_of) =
       let (status, text, live, (rest, is)) = begun named dead in
       wrote status text live (inr (
         refl,
@@ -121,13 +120,7 @@ module _ (plan : Plan) (checked : IsCheckedPlan plan) (g : Graph) where
         subst (TookFront before.taken now.taken) (sym is)
             (front_of_more before.taken now.taken (live_text named) rest part_of.front),
       ))
-  unwritten false before now tells silent = absurd (silent refl)
 
   -- memory was wanting before the end of the run
-  pub wanted_memory : (live : Bool) (before now : Told) → (live ≡ true → TellsRun plan before now (Err ends.NoMemory)) → (live ≡ false → now ≡ before)
-      → LeavesOutput (IsRunOutput (kind_of live) plan (wanted_of g)) (between before now) 6
-  wanted_memory true before now tells silent =
-      let (named, dead, written) = tells refl in wanting before now now 6 named dead refl written (Keeps-refl now.taken) refl
-  wanted_memory false before now tells silent =
-      let same = silent refl in
-      nothing refl (ap (λ (m : Told). m.faults) same) (subst (λ (m : Told). Keeps before.taken m.taken) (sym same) (Keeps-refl before.taken))
+  pub wanted_memory : (before now : Told) → TellsRun plan before now (Err ends.NoMemory) → LeavesOutput true (IsLiveRunOf plan wanted) (between before now) 6
+  wanted_memory before now (named, dead, written) = wanting before now now 6 named dead refl written (Keeps-refl now.taken) refl

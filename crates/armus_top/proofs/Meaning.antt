@@ -8,9 +8,9 @@ use Rattle.armus_words.specs.declared.command.Command.{Command}
 use Rattle.armus_words.specs.declared.command.Command.TheVariants.{Check, Run, Avoid, Record, Replay, Gen, Clock, Pool}
 use Rattle.armus_words.specs.declared.command.RunKind.{RunKind}
 use Rattle.armus_words.specs.declared.table.FirstWord.TheVariants as first
-use Rattle.armus_words.specs.Words.{Text}
+use Rattle.armus_words.specs.Words.{HaveForm, Text}
 use Rattle.armus_top.specs.Meanings.{BeginsRecordOrPool, Means}
-use Rattle.armus_top.specs.inside.Serving.{MayHaveSites, MayWork, MeansPlain, MeansWaiting}
+use Rattle.armus_top.specs.inside.Serving.{MayHaveSites, MayWork, WaitsForNoThread, WaitsForThreads}
 use Rattle.armus_top.specs.Headline.{Ends, IsCall, Passage, Serves, reads_input}
 
 pub serves_by : (words : List Text) (src out : Passage) (number : ℕ) (meaning : Option Command) → Means words meaning → Ends meaning src out number
@@ -20,11 +20,13 @@ serves_by words src out number meaning is ends = λ c means.
 
 -- a call that ended as the command may that the words mean
 pub call_by : (words : List Text) (src out : Passage) (same_source same_sink : Type 0) (number : ℕ) (meaning : Option Command) → Means words meaning
-    → Ends meaning src out number → (reads_input meaning ≡ false → same_source) → (number ≡ 4 → same_sink) → IsCall words src out same_source same_sink number
-call_by words src out same_source same_sink number meaning is ends same silent = record {
+    → Ends meaning src out number → (reads_input meaning ≡ false → same_source) → (number ≡ 4 → same_sink) → (number ≡ 6 → HaveForm words)
+    → IsCall words src out same_source same_sink number
+call_by words src out same_source same_sink number meaning is ends same silent formed = record {
   serves = serves_by words src out number meaning is ends;
   unread = λ c means no. same (subst (λ (m : Option Command). reads_input m ≡ false) (one_meaning words c meaning means is) no);
   silent = silent;
+  formed = formed;
 }
 
 workers_may : (given : Option Text) (workers : ℕ) → AreWorkers given workers → MayWork workers
@@ -37,18 +39,21 @@ kinds_may true None kind is = subst MayHaveSites (sym is) tt
 kinds_may false (Some text) kind (sites, same, is) = subst MayHaveSites (sym same) (is.from_one, is.to_most)
 kinds_may true (Some text) kind is = absurd is
 
--- words that begin with neither `record` nor `pool` mean a command that waits for no thread, or none
-pub means_plain : (words : List Text) (meaning : Option Command) → Means words meaning → (BeginsRecordOrPool words → ⊥) → MeansPlain meaning
-means_plain words (Some (Check print)) is other = tt
-means_plain words (Some (Run workers graph kind)) is other =
+-- words that mean a command have the form of one
+pub form_of : (words : List Text) (c : Command) → IsCommand words c → HaveForm words
+form_of words c is = (first_of c, is.uses, is.alone, is.form)
+
+-- words that begin with neither `record` nor `pool` mean a command that waits for no thread
+pub means_plain : (words : List Text) (c : Command) → IsCommand words c → (BeginsRecordOrPool words → ⊥) → WaitsForNoThread c
+means_plain words (Check print) is other = tt
+means_plain words (Run workers graph kind) is other =
     let (few, wants, kind_is) = is.values in (workers_may _ workers few, kinds_may _ _ kind kind_is)
-means_plain words (Some (Avoid workers graph kept)) is other = workers_may _ workers is.values.0
-means_plain words (Some (Record workers)) is other = absurd (other (_, _, is.form.words_are, inl refl))
-means_plain words (Some Replay) is other = tt
-means_plain words (Some (Gen count)) is other = tt
-means_plain words (Some (Clock workers graph live)) is other = workers_may _ workers is.values.0
-means_plain words (Some (Pool workers graph)) is other = absurd (other (_, _, is.form.words_are, inr refl))
-means_plain words None is other = tt
+means_plain words (Avoid workers graph kept) is other = workers_may _ workers is.values.0
+means_plain words (Record workers) is other = absurd (other (_, _, is.form.words_are, inl refl))
+means_plain words Replay is other = tt
+means_plain words (Gen count) is other = tt
+means_plain words (Clock workers graph live) is other = workers_may _ workers is.values.0
+means_plain words (Pool workers graph) is other = absurd (other (_, _, is.form.words_are, inr refl))
 
 head_is : {x y : Text} {xs ys : List Text} → x ∷ xs ≡ y ∷ ys → x ≡ y
 head_is e = cc
@@ -64,12 +69,11 @@ record_or_pool c words is (word, rest, begins, inl same) =
 record_or_pool c words is (word, rest, begins, inr same) =
     let named : Some (first_of c) ≡ Some first.Pool = named_by c words word rest is begins ∙ ap first_named same ∙ first_is first.Pool in inr (cc)
 
--- words that begin with one of the two mean its command, or none
-pub means_waiting : (words : List Text) (meaning : Option Command) → Means words meaning → BeginsRecordOrPool words → MeansWaiting meaning
-means_waiting words None is begins = tt
-means_waiting words (Some c) is begins = by_first c is (record_or_pool c words is begins)
+-- words that begin with one of the two and mean a command mean one that waits for threads
+pub means_waiting : (words : List Text) (c : Command) → IsCommand words c → BeginsRecordOrPool words → WaitsForThreads c
+means_waiting words c is begins = by_first c is (record_or_pool c words is begins)
   where
-    by_first : (c : Command) → IsCommand words c → (first_of c ≡ first.Record) ⊎ (first_of c ≡ first.Pool) → MeansWaiting (Some c)
+    by_first : (c : Command) → IsCommand words c → (first_of c ≡ first.Record) ⊎ (first_of c ≡ first.Pool) → WaitsForThreads c
     by_first (Check print) is one = elim one [ inl e ↦ absurd (cc) | inr e ↦ absurd (cc) ]
     by_first (Run workers graph kind) is one = elim one [ inl e ↦ absurd (cc) | inr e ↦ absurd (cc) ]
     by_first (Avoid workers graph kept) is one = elim one [ inl e ↦ absurd (cc) | inr e ↦ absurd (cc) ]

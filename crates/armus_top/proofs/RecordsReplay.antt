@@ -174,9 +174,9 @@ module _ (workers : ℕ) (src out : Passage) (number : ℕ) (small : number ≤ 
   wrote : (old bytes : Text) → out.before ≡ Some old → out.after ≡ Some (old ++ bytes) → Ends (Some (Record workers)) src out number → Wrote bytes
   wrote old bytes before after (whole text permits took still sound) =
       subst Wrote (sym (known_more out.before out.after old bytes text before after took)) (wrote_by text permits)
-  wrote old bytes before after (read_fault four does failed sound kept) = absurd (omega arith)
+  wrote old bytes before after (read_fault four does failed read sound kept) = absurd (omega arith)
   wrote old bytes before after (write_fault five still failed part) = absurd (omega arith)
-  wrote old bytes before after (no_memory six still sound part) = absurd (omega arith)
+  wrote old bytes before after (no_memory six still read sound part) = absurd (omega arith)
 
 pub writes_replayable : (words : List Text) (src out : Passage) (number : ℕ) → Serves words src out number → WritesReplayable words src out number
 writes_replayable words src out number serves workers old bytes means small before after =

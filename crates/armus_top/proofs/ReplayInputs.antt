@@ -12,11 +12,11 @@ use Rattle.schedule.specs.Replaying.{AreDeadIn}
 use Rattle.schedule.proofs.OneSchedule.{one_reading, one_split}
 use Rattle.schedule.proofs.OneReplay.{never_both}
 use Rattle.armus_words.specs.Words.{Text}
-use Rattle.armus_top.specs.inside.Programs.{IsEnd}
+use Rattle.armus_top.specs.inside.Answers.{IsEnd}
 use Rattle.armus_top.specs.Programs.{IsFaultOf, TellsDead}
 use Rattle.armus_top.specs.Replays.{IsReplayedBy, IsReplayFault, IsReplayOf, IsReplayRefused, IsShort}
-use Rattle.armus_top.specs.declared.programs.InputEnd.{InputEnd}
-use Rattle.armus_top.specs.declared.programs.InputEnd.TheVariants.{Refused, NoMemory}
+use Rattle.armus_top.specs.declared.output.InputEnd.{InputEnd}
+use Rattle.armus_top.specs.declared.output.InputEnd.TheVariants.{Clock, Refused, NoMemory}
 use Rattle.armus_top.proofs.OnePlan.{checked_plan, one_plan, plan_or_fault}
 
 -- ---- no input is both refused and replayed
@@ -44,6 +44,7 @@ end_of_text text schedule (Refused Length) short is = absurd is
 end_of_text text schedule (Refused (Syntax f)) short is = (short, is)
 end_of_text text schedule (Refused (Check f)) short is = (short, is)
 end_of_text text schedule (Refused (Schedule f)) short is = absurd is
+end_of_text text schedule (Clock f) short is = absurd is
 end_of_text text schedule NoMemory short is = tt
 
 -- whether the list of a state's dead tasks has one tells whether a task is dead

@@ -1,6 +1,7 @@
 -- The report of the end of a plain run is that of the one state in which every maximal plain run ends.
 use Rattle.std.proofs.Common.{◌≡◌, ℕ, inl, inr, refl, sym, subst, Bool, true, false, if◌then◌else◌}
-use Rattle.std.specs.Prelude.{◌↔◌, IsTrue}
+use Rattle.std.specs.Prelude.{◌↔◌, Err, IfOk, IsTrue, Ok, Result}
+use Rattle.armus_base.specs.declared.errors.NoMemory.{NoMemory}
 use Rattle.armus_base.specs.declared.ending.Final.{Final}
 use Rattle.armus_base.specs.CheckedPlans.{IsCheckedPlan}
 use Rattle.armus_base.specs.Deadlocks.{IsDeadBy, IsDeadIn}
@@ -14,11 +15,10 @@ use Rattle.armus_base.proofs.StatusesAre.{statuses_are}
 use Rattle.adaptive.specs.declared.analysis.Wanted.{Wanted}
 use Rattle.report.specs.Reports.{IsReport, IsSomeDead}
 use Rattle.task_runner.specs.PlainRuns.{IsPlainEnd}
-use Rattle.armus_words.specs.declared.command.Graph.{Graph}
 use Rattle.armus_words.specs.Words.{Text}
-use Rattle.armus_top.specs.Commands.{wanted_of}
-use Rattle.armus_top.specs.Headline.{Passage}
-use Rattle.armus_top.specs.inside.Writing.{LeavesOutput, WritesReport, nothing, wrote}
+use Rattle.armus_top.specs.declared.output.Output.{Output}
+use Rattle.armus_top.specs.inside.Answers.{ReportsEnd}
+use Rattle.armus_top.specs.inside.Status.{number_of_status}
 use Rattle.armus_top.specs.Programs.{TellsDead}
 use Rattle.armus_top.specs.Runs.{IsRunOf}
 
@@ -45,9 +45,14 @@ run_of plan g end dead text checked is is_dead reports =
       report_is = subst (λ (e : Final). IsReport e g text) is.is_it reports;
     }
 
--- the report of the end of a plain run was written, or memory was wanting
-pub by_plain_end : (plan : Plan) (g : Graph) (end : Final) (wanted : Wanted) (out : Passage) (number : ℕ) → IsCheckedPlan plan → IsPlainEnd plan end
-    → wanted ≡ wanted_of g → WritesReport end wanted out number → LeavesOutput (IsRunOf plan (wanted_of g)) out number
-by_plain_end plan g end wanted out number checked is wanted_is (inl (dead, report, same, reports, done)) =
-    wrote (if dead then 1 else 0) report (run_of plan (wanted_of g) end dead report checked is same (subst (λ w. IsReport end w report) wanted_is reports)) done
-by_plain_end plan g end wanted out number checked is wanted_is (inr (six, still, kept)) = nothing six still kept
+-- an output that reports the end of a plain run is that of the run
+pub run_by_report : (plan : Plan) (wanted : Wanted) (end : Final) (o : Output) → IsCheckedPlan plan → IsPlainEnd plan end → ReportsEnd end wanted o
+    → IsRunOf plan wanted (number_of_status o.status) o.text
+run_by_report plan wanted end o checked is (dead, status, same, reports) =
+    subst (λ n. IsRunOf plan wanted n o.text) (sym status) (run_of plan wanted end dead o.text checked is same reports)
+
+-- the same, unless memory was wanting
+pub reports_run : (plan : Plan) (wanted : Wanted) (end : Final) (r : Result Output NoMemory) → IsCheckedPlan plan → IsPlainEnd plan end → IfOk r (ReportsEnd end wanted)
+    → IfOk r (λ o. IsRunOf plan wanted (number_of_status o.status) o.text)
+reports_run plan wanted end (Ok o) checked is reports = run_by_report plan wanted end o checked is reports
+reports_run plan wanted end (Err e) checked is reports = tt

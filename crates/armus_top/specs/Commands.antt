@@ -1,6 +1,6 @@
 -- The table of commands: how long an input may be, which inputs are refused and with which line, and what is answered.
 -- A command joins by a case of each definition; the headline does not change.
-use Rattle.std.specs.Prelude.{◌≡◌, ℕ, true, false, Option, Some, None}
+use Rattle.std.specs.Prelude.{◌≡◌, ℕ, Bool, true, false, Option, Some, None}
 use Rattle.armus_base.specs.Plans.{Plan}
 use Rattle.pl_syntax.specs.declared.tree.Program.{Program}
 use Rattle.pl_syntax.specs.Printed.{printed_of}
@@ -13,6 +13,8 @@ use Rattle.armus_words.specs.declared.command.Graph.{Graph}
 use Rattle.armus_words.specs.declared.command.Graph.TheVariants as graph
 use Rattle.armus_words.specs.declared.command.Command.{Command}
 use Rattle.armus_words.specs.declared.command.Command.TheVariants.{Check, Run, Avoid, Record, Replay, Gen, Clock, Pool}
+use Rattle.armus_words.specs.declared.command.RunKind.{RunKind}
+use Rattle.armus_words.specs.declared.command.RunKind.TheVariants.{Plain, Live, Sites}
 use Rattle.armus_words.specs.Words.{Text}
 use Rattle.armus_top.specs.Texts.{plan_line}
 use Rattle.armus_top.specs.Programs.{IsChecked, IsFaultOf, IsPlanOf}
@@ -36,6 +38,23 @@ limit_of Replay = Some MAX_REPLAY_BYTES
 limit_of (Gen count) = None
 limit_of (Clock workers g live) = Some MAX_TEXT_BYTES
 limit_of (Pool workers g) = Some MAX_TEXT_BYTES
+
+-- the run writes live lines
+abbrev pub is_live : RunKind → Bool
+is_live Plain = false
+is_live Live = true
+is_live (Sites sites) = false
+
+-- the command writes lines while it runs
+abbrev pub writes_live : Command → Bool
+writes_live (Check print) = false
+writes_live (Run workers g kind) = is_live kind
+writes_live (Avoid workers g kept) = false
+writes_live (Record workers) = false
+writes_live Replay = false
+writes_live (Gen count) = false
+writes_live (Clock workers g live) = live
+writes_live (Pool workers g) = false
 
 -- the line with which a longer input is refused
 abbrev pub length_line : Command → Text

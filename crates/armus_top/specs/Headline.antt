@@ -1,13 +1,13 @@
 -- What a call of the program leaves. The headline is `Serves`: what the words mean, and how the call may end.
 -- After it stands completeness: where nothing failed and memory sufficed, the words and the input fix whether the status is 2, 3, or one of 0 and 1.
-use Rattle.std.specs.Prelude.{◌≡◌, ◌≢◌, ◌≤◌, ◌<◌, ◌⊎◌, ℕ, ◌+◌, Bool, true, false, List, [], length, Option, Some, None, is_some}
+use Rattle.std.specs.Prelude.{◌≡◌, ◌≢◌, ◌≤◌, ◌<◌, ◌⊎◌, ℕ, ◌+◌, Bool, true, false, List, [], length, Option, Some, None, IsSome, is_some}
 use Rattle.std.specs.Io.KnownBytes.{Consumes, Appends, Keeps, IsAtEnd}
 use Rattle.armus_base.specs.Causes.{Rose, counted}
 use Rattle.armus_base.specs.ReadAll.{ReadFront, TookFront}
-use Rattle.armus_words.specs.Words.{Text}
+use Rattle.armus_words.specs.Words.{HaveForm, Text}
 use Rattle.armus_top.specs.Texts.{usage_line}
 use Rattle.armus_top.specs.Meanings.{Means}
-use Rattle.armus_top.specs.Commands.{limit_of, length_line, IsRefusedInput, IsAnswered}
+use Rattle.armus_top.specs.Commands.{limit_of, length_line, writes_live, IsRefusedInput, IsAnswered}
 use Rattle.armus_words.specs.declared.command.Command.{Command}
 
 -- a source or a sink at the beginning and at the end of a call: the bytes left or taken, where it tells them, and its faults
@@ -54,10 +54,19 @@ Permits None src status text = (status ≡ 2) × (text ≡ usage_line)
 Permits (Some c) src status text = ((input : Text) × HasInput (limit_of c) src input × Answers c input status text)
     ⊎ (GaveTooMuch (limit_of c) src × (status ≡ 3) × (text ≡ length_line c))
 
+-- the most bytes of the input, where the words mean a command that reads one
+abbrev pub limit_for : Option Command → Option ℕ
+limit_for None = None
+limit_for (Some c) = limit_of c
+
 -- the words mean a command that reads its input
 abbrev pub reads_input : Option Command → Bool
-reads_input None = false
-reads_input (Some c) = is_some (limit_of c)
+reads_input c = is_some (limit_for c)
+
+-- the words mean a command that writes lines while it runs
+abbrev pub writes_lines : Option Command → Bool
+writes_lines None = false
+writes_lines (Some c) = writes_live c
 
 -- the whole text was taken
 abbrev pub Took : Passage → Text → Type 0
@@ -67,27 +76,39 @@ Took out text = Appends out.before out.after text
 abbrev pub TookPartOf : (ℕ → Text → Type 0) → Passage → Type 0
 TookPartOf outputs out = (status : ℕ) × (text : Text) × outputs status text × TookFront out.before out.after text
 
--- How a call may end, and with which number, that may write one of these outputs, each with its status, and reads its source or not: the whole output, a
--- fault of the source, a fault of the sink, want of memory. The program that explains runs ends so too.
-pub data EndsWith (outputs : ℕ → Text → Type 0) (reads : Bool) (src out : Passage) (number : ℕ) : Type 0 where
-  whole : (text : Text) → outputs number text → Took out text → IsSound src → IsSound out → EndsWith outputs reads src out number
-  read_fault : number ≡ 4 → reads ≡ true → HasCountedFault src → IsSound out → Keeps out.before out.after → EndsWith outputs reads src out number
-  write_fault : number ≡ 5 → IsSound src → HasCountedFault out → TookPartOf outputs out → EndsWith outputs reads src out number
-  no_memory : number ≡ 6 → IsSound src → IsSound out → Keeps out.before out.after ⊎ TookPartOf outputs out → EndsWith outputs reads src out number
+-- no more than one byte over the limit was read; where nothing is to be read, nothing was
+abbrev pub ReadNoMore : Option ℕ → Passage → Type 0
+ReadNoMore (Some limit) src = ReadFront src.before src.after (λ bytes. length bytes ≤ limit + 1)
+ReadNoMore None src = Keeps src.before src.after
+
+-- nothing was taken; or, where lines are written while it runs, some first bytes of one of these outputs
+abbrev pub TookNothing : (ℕ → Text → Type 0) → Bool → Passage → Type 0
+TookNothing outputs lines out = Keeps out.before out.after ⊎ ((lines ≡ true) × TookPartOf outputs out)
+
+-- How a call may end, and with which number, that may write one of these outputs, each with its status, reads an input with this limit, or none, and writes
+-- lines while it runs or not: the whole output, a fault of the source, a fault of the sink, want of memory. The program that explains runs ends so too.
+pub data EndsWith (outputs : ℕ → Text → Type 0) (limit : Option ℕ) (lines : Bool) (src out : Passage) (number : ℕ) : Type 0 where
+  whole : (text : Text) → outputs number text → Took out text → IsSound src → IsSound out → EndsWith outputs limit lines src out number
+  read_fault : number ≡ 4 → IsSome limit → HasCountedFault src → ReadNoMore limit src → IsSound out → Keeps out.before out.after
+      → EndsWith outputs limit lines src out number
+  write_fault : number ≡ 5 → IsSound src → HasCountedFault out → TookPartOf outputs out → EndsWith outputs limit lines src out number
+  no_memory : number ≡ 6 → IsSound src → ReadNoMore limit src → IsSound out → TookNothing outputs lines out → EndsWith outputs limit lines src out number
 
 -- how a call may end whose words mean this, and with which number
 abbrev pub Ends : Option Command → Passage → Passage → ℕ → Type 0
-Ends c src out number = EndsWith (Permits c src) (reads_input c) src out number
+Ends c src out number = EndsWith (Permits c src) (limit_for c) (writes_lines c) src out number
 
 -- the headline: the call ends as the command may that the words mean, or as where they mean none
 abbrev pub Serves : List Text → Passage → Passage → ℕ → Type 0
 Serves words src out number = (meaning : Option Command) → Means words meaning → Ends meaning src out number
 
--- the headline, and what the two objects are left as: a source that is not read stays the value that it was, and so does the sink after a fault of the source
+-- The headline, and what the two objects are left as: a source that is not read stays the value that it was, and so does the sink after a fault of the source.
+-- Memory is wanting only where the words have the form of a command.
 pub record IsCall (words : List Text) (src out : Passage) (same_source same_sink : Type 0) (number : ℕ) : Type 0 where
   pub serves : Serves words src out number
   pub unread : (c : Option Command) → Means words c → reads_input c ≡ false → same_source
   pub silent : number ≡ 4 → same_sink
+  pub formed : number ≡ 6 → HaveForm words
 
 -- the source tells its bytes and has this input for the command
 abbrev pub Offers : Option ℕ → Passage → Text → Type 0

@@ -3,5 +3,4 @@ pub mod Reading
 pub mod Status
 pub mod Serving
 pub mod TwoLines
-pub mod Programs
-pub mod ClockEnds
+pub mod Answers

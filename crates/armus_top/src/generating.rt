@@ -1,5 +1,5 @@
 // The command `gen`.
-ghost use Rattle.std.specs.Prelude.{◌≡◌, ◌≢◌, ◌<◌, ◌∷◌, ◌++◌, [], IfOk, OnOk, List as Seq, ℕ, if◌then◌else◌, length};
+ghost use Rattle.std.specs.Prelude.{◌≡◌, ◌<◌, ◌∷◌, ◌++◌, [], IfOk, OnOk, List as Seq, ℕ, length};
 ghost use Rattle.armus_base.specs.Plans.{Plan};
 ghost use Rattle.adaptive.specs.declared.analysis.Wanted.{Wanted};
 ghost use Rattle.gen_text.specs.Generated.{generated_text};
@@ -7,25 +7,21 @@ ghost use Rattle.schedule.specs.Lines.{IsCut};
 ghost use Rattle.pl_syntax.specs.Printed.{line};
 ghost use Rattle.armus_top.specs.Programs.{IsPlanOf};
 ghost use Rattle.armus_top.specs.Runs.{IsRunOf};
-ghost use Rattle.armus_top.specs.Generated.{IsFirstAndLast};
-ghost use Rattle.armus_top.specs.inside.TwoLines.{HasTwoLines};
-ghost use Rattle.armus_top.specs.Headline.{passage};
+ghost use Rattle.armus_top.specs.Generated.{IsFirstAndLast, IsGenOf};
 ghost use Rattle.armus_top.specs.inside.Status.{number_of_status};
-ghost use Rattle.armus_top.specs.inside.Writing.{Answered};
-ghost use Rattle.armus_words.specs.declared.command.Command.TheVariants.{Gen};
+ghost use Rattle.armus_top.specs.inside.TwoLines.{HasTwoLines};
 
-use crate::programs::{InputEnd, checked_in};
-use crate::reported::status_of;
-use crate::status::ExitStatus;
-use crate::writing::finish;
+use crate::output::Output;
+use crate::programs::checked_in;
+use crate::running::run;
 use adaptive::Wanted;
-use armus_base::{Gate, List, NoMemory, Sink};
+use armus_base::{Gate, List, NoMemory};
+use armus_words::RunKind;
 use gen_text::gen_text;
-use report::{FinalReport, report_of};
 use schedule::first_line;
 use std::alloc::{AllocError, Global};
 use std::thread::Threads;
-use task_runner::{RunOptions, run_detect};
+use task_runner::RunOptions;
 
 // How many workers run a generated text.
 const GENERATED_WORKERS: u8 = 8;
@@ -72,48 +68,42 @@ fn first_and_last(alloc: Global, report: &[u8]) -> Result<List<u8>, NoMemory>
     two_lines(alloc, first, last)
 }
 
-// The report of the run of the generated text.
-fn run_generated<R: Threads + Sync, K: Sink, G: Gate>(
+// The report of the run of the generated text. That text is read, checked and run as one that a user gives; it is never refused, by the law
+// `gen_is_accepted`, so the one end without an answer is want of memory.
+fn run_generated<R: Threads + Sync, G: Gate>(
     rt: &R,
     alloc: Global,
     count: u16,
-    out: &mut K,
     gate: &G,
-) -> Result<FinalReport, InputEnd>
-    ensures run { IfOk result (λ r. (plan : Plan) × IsPlanOf (generated_text count) plan × IsRunOf plan Wanted.Auto (if r.has_dead then 1 else 0) r.text) }
-    ensures unwritten { out.new ≡ out.old }
+) -> Result<Output, NoMemory>
+    ensures run { IfOk result (λ o. (plan : Plan) × IsPlanOf (generated_text count) plan × IsRunOf plan Wanted.Auto (number_of_status o.status) o.text) }
 {
     let text = gen_text(alloc, count)?;
-    let checked = checked_in(alloc, text.as_slice())?;
+    let checked = match checked_in(alloc, text.as_slice()) {
+        Ok(checked) => checked,
+        Err(_) => return Err(NoMemory),
+    };
     let options = RunOptions {
         workers: GENERATED_WORKERS,
         wanted: Wanted::Auto,
         live: false,
     };
-    match run_detect(rt, alloc, &checked.plan, &options, gate, out) {
-        Ok(ran) => Ok(report_of(alloc, &ran.end, Wanted::Auto)?),
-        Err(_) => Err(InputEnd::NoMemory),
-    }
+    run(rt, alloc, &checked.plan, &options, RunKind::Plain, gate)
 }
 
-/// Writes the first and the last line of the report of the run of a generated text. That text is read, checked and run as one that a user gives; it
-/// is never refused, by the law `gen_is_accepted`, so the one end without an answer is want of memory.
-pub fn generate<R: Threads + Sync, K: Sink, G: Gate>(
+/// The first and the last line of the report of the run of a generated text.
+pub(crate) fn generate<R: Threads + Sync, G: Gate>(
     rt: &R,
     alloc: Global,
     count: u16,
-    out: &mut K,
     gate: &G,
-) -> ExitStatus
-    ensures done { Answered (Gen count) [] (passage K.taken K.faults out.old out.new) (number_of_status result) }
-    ensures silent { number_of_status result ≢ 4 }
+) -> Result<Output, NoMemory>
+    ensures run { IfOk result (λ o. IsGenOf count (number_of_status o.status) o.text) }
 {
-    let report = match run_generated(rt, alloc, count, out, gate) {
-        Ok(report) => report,
-        Err(_) => return ExitStatus::OutOfMemory,
-    };
-    match first_and_last(alloc, report.text.as_slice()) {
-        Ok(text) => finish(out, text.as_slice(), status_of(report.has_dead)),
-        Err(_) => ExitStatus::OutOfMemory,
-    }
+    let report = run_generated(rt, alloc, count, gate)?;
+    let text = first_and_last(alloc, report.text.as_slice())?;
+    Ok(Output {
+        text,
+        status: report.status,
+    })
 }

@@ -1,11 +1,15 @@
-// From a text to its program and its plan.
+// From an input to its program and its plan.
 ghost use Rattle.std.specs.Prelude.{◌≡◌, ◌≤◌, false, length, IfOk, IfErr};
 ghost use Rattle.pl_syntax.specs.Tree.{AllHere};
 ghost use Rattle.pl_syntax.specs.declared.limits.TheConstants.{MAX_PARSED_BYTES};
-ghost use Rattle.armus_top.specs.Programs.{IsChecked, IsFaultOf};
-ghost use Rattle.armus_top.specs.inside.Programs.{IsEnd};
+ghost use Rattle.armus_top.specs.Clocks.{IsClockPlanOf};
+ghost use Rattle.armus_top.specs.Programs.{IsChecked, IsFaultOf, IsPlanOf};
+ghost use Rattle.armus_top.specs.inside.Answers.{IsClockEnd, IsEnd};
 
-use armus_base::{NoMemory, Plan};
+use crate::output::InputEnd;
+use armus_base::Plan;
+use clock_pl::{ClockEnd, clock_plan};
+use clock_syntax::clock_parse;
 use pl_plan::{PlanEnd, plan};
 use pl_syntax::{ParseEnd, Program, parse};
 use report::Refusal;
@@ -13,25 +17,6 @@ use std::alloc::Global;
 
 /// The most bytes of a text.
 pub const MAX_TEXT_BYTES: usize = 1_048_576;
-
-/// Why there is no answer to an input.
-#[derive(Clone, Copy, Debug, PartialEq, Eq)]
-pub enum InputEnd {
-    /// It is refused.
-    Refused(Refusal),
-    /// Memory ran out.
-    NoMemory,
-}
-
-impl From<NoMemory> for InputEnd {
-    ghost use Rattle.armus_top.specs.declared.programs.InputEnd.TheVariants as ends;
-
-    ghost from_gives = { λ _ e. e ≡ ends.NoMemory };
-
-    fn from(_: NoMemory) -> Self {
-        InputEnd::NoMemory
-    }
-}
 
 /// The program of a text, and the plan to which it unfolds.
 #[derive(Drop)]
@@ -57,4 +42,32 @@ pub fn checked_in(alloc: Global, text: &[u8]) -> Result<Checked, InputEnd>
         Err(PlanEnd::Check(fault)) => Err(InputEnd::Refused(Refusal::Check(fault))),
         Err(PlanEnd::NoMemory) => Err(InputEnd::NoMemory),
     }
+}
+
+/// The plan of a clock text, or why there is none.
+pub(crate) fn clock_plan_in(alloc: Global, text: &[u8]) -> Result<Plan, InputEnd>
+    requires short { length text.now ≤ MAX_TEXT_BYTES }
+    ensures plan { IfOk result (IsClockPlanOf text.now) }
+    ensures refused { IfErr result (IsClockEnd text.now) }
+{
+    let program = match clock_parse(alloc, text) {
+        Ok(program) => program,
+        Err(ParseEnd::Syntax(fault)) => return Err(InputEnd::Refused(Refusal::Syntax(fault))),
+        Err(ParseEnd::NoMemory) => return Err(InputEnd::NoMemory),
+    };
+    match clock_plan(alloc, &program) {
+        Ok(plan) => Ok(plan),
+        Err(ClockEnd::Clock(fault)) => Err(InputEnd::Clock(fault)),
+        Err(ClockEnd::NoMemory) => Err(InputEnd::NoMemory),
+    }
+}
+
+/// The plan of a text, or why there is none.
+pub(crate) fn text_plan_in(alloc: Global, text: &[u8]) -> Result<Plan, InputEnd>
+    requires short { length text.now ≤ MAX_TEXT_BYTES }
+    ensures plan { IfOk result (IsPlanOf text.now) }
+    ensures refused { IfErr result (IsEnd (IsFaultOf text.now)) }
+{
+    let checked = checked_in(alloc, text)?;
+    Ok(checked.plan)
 }

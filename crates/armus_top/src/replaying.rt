@@ -1,21 +1,13 @@
 // The command `replay`.
-ghost use Rattle.std.specs.Prelude.{◌≡◌, ◌≢◌, ◌≤◌, ◌<◌, ◌+◌, ◌↔◌, Some, IfErr, IfOk, IsTrue, length};
-ghost use Rattle.schedule.specs.Split.{IsSplit};
-ghost use Rattle.armus_words.specs.Words.{Text};
-ghost use Rattle.armus_top.specs.inside.Programs.{IsEnd};
-ghost use Rattle.armus_top.specs.Replays.{IsReplayFault, IsReplayedBy, IsShort};
+ghost use Rattle.std.specs.Prelude.{◌≡◌, ◌≤◌, ◌<◌, ◌+◌, ◌↔◌, IfErr, IfOk, IsTrue, length};
+ghost use Rattle.armus_top.specs.Replays.{IsReplayFault, IsReplayOf, IsReplayedBy, IsShort};
 ghost use Rattle.armus_top.specs.declared.replaying.TheConstants.{MAX_REPLAY_BYTES};
-ghost use Rattle.armus_top.specs.Headline.{Ends, passage};
-ghost use Rattle.armus_top.specs.inside.Status.{number_of_status};
-ghost use Rattle.armus_top.specs.inside.Writing.{Answered};
+ghost use Rattle.armus_top.specs.inside.Answers.{IsEnd, IsEndOf};
 ghost use Rattle.armus_words.specs.declared.command.Command.TheVariants.{Replay};
+ghost use Rattle.armus_top.specs.inside.Status.{number_of_status};
 
-use crate::input::input_of;
-use crate::programs::{InputEnd, MAX_TEXT_BYTES, checked_in};
-use crate::reported::status_of;
-use crate::status::ExitStatus;
-use crate::writing::{answer_end, finish};
-use armus_base::{Sink, Source};
+use crate::output::{InputEnd, Output, status_of};
+use crate::programs::{MAX_TEXT_BYTES, checked_in};
 use pl_syntax::MAX_PARSED_BYTES;
 use report::Refusal;
 use schedule::{ReplayEnd, Replayed, ScheduleFault, read_lines, replay_text, split_input};
@@ -64,10 +56,7 @@ fn replayed_in(alloc: Global, text: &[u8], schedule: &[u8]) -> Result<Replayed, 
         Ok(checked) => checked,
         Err(end) => return Err(end),
     };
-    let lines = match read_lines(alloc, schedule) {
-        Ok(lines) => lines,
-        Err(_) => return Err(InputEnd::NoMemory),
-    };
+    let lines = read_lines(alloc, schedule)?;
     match schedule::replay(alloc, &checked.plan, lines.as_slice()) {
         Ok(done) => Ok(done),
         Err(ReplayEnd::Schedule(fault)) => Err(InputEnd::Refused(line_refused(fault))),
@@ -82,38 +71,17 @@ fn has_dead(done: &Replayed) -> bool
     !done.dead.as_slice().is_empty()
 }
 
-// The text of a replay.
-fn answer_replayed<K: Sink>(alloc: Global, done: &Replayed, out: &mut K) -> ExitStatus
-    ensures done { (input text schedule : Text) → IsSplit input text schedule → IsReplayedBy text schedule done.now
-        → Answered Replay input (passage K.taken K.faults out.old out.new) (number_of_status result) }
-    ensures silent { number_of_status result ≢ 4 }
-{
-    match replay_text(alloc, done) {
-        Ok(text) => finish(out, text.as_slice(), status_of(has_dead(done))),
-        Err(_) => ExitStatus::OutOfMemory,
-    }
-}
-
-// What `replay` answers on an input.
-fn replay_input<K: Sink>(alloc: Global, input: &[u8], out: &mut K) -> ExitStatus
+/// What the passes and the end of the replay of a text with a schedule say, or why there is no answer.
+pub(crate) fn replay(alloc: Global, input: &[u8]) -> Result<Output, InputEnd>
     requires short { length input.now ≤ MAX_REPLAY_BYTES }
-    ensures done { Answered Replay input.now (passage K.taken K.faults out.old out.new) (number_of_status result) }
-    ensures silent { number_of_status result ≡ 4 → out.new ≡ out.old }
+    ensures answer { IfOk result (λ o. IsReplayOf input.now (number_of_status o.status) o.text) }
+    ensures refused { IfErr result (IsEndOf Replay input.now) }
 {
     let (text, schedule) = split_input(input);
-    match replayed_in(alloc, text, schedule) {
-        Ok(done) => answer_replayed(alloc, &done, out),
-        Err(end) => answer_end(alloc, end, out),
-    }
-}
-
-/// Reads a text with a schedule and writes what its passes and its end say.
-pub fn replay<S: Source, K: Sink>(alloc: Global, src: &mut S, out: &mut K) -> ExitStatus
-    ensures ends { Ends (Some Replay) (passage S.left S.faults src.old src.new) (passage K.taken K.faults out.old out.new) (number_of_status result) }
-    ensures silent { number_of_status result ≡ 4 → out.new ≡ out.old }
-{
-    match input_of(alloc, MAX_REPLAY_BYTES, src, out) {
-        Ok(input) => replay_input(alloc, input.as_slice(), out),
-        Err(status) => status,
-    }
+    let done = replayed_in(alloc, text, schedule)?;
+    let text = replay_text(alloc, &done)?;
+    Ok(Output {
+        text,
+        status: status_of(has_dead(&done)),
+    })
 }

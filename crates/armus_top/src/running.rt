@@ -1,72 +1,23 @@
-// The command `run`.
-ghost use Rattle.std.specs.Prelude.{◌≡◌, ◌≢◌, ◌≤◌, Some, IfOk, false, length};
+// The commands `run` and `clock`.
+ghost use Rattle.std.specs.Prelude.{◌≡◌, ◌≢◌, ◌≤◌, IfOk, false, true};
 ghost use Rattle.armus_base.specs.CheckedPlans.{IsCheckedPlan};
-ghost use Rattle.armus_top.specs.Commands.{wanted_of};
-ghost use Rattle.armus_top.specs.Runs.{IsRunOf, IsRunOutput, kind_of};
-ghost use Rattle.armus_top.specs.declared.programs.TheConstants.{MAX_TEXT_BYTES};
-ghost use Rattle.armus_top.specs.Headline.{Ends, passage};
+ghost use Rattle.armus_top.specs.Runs.{IsLiveRunOf, IsRunOf};
+ghost use Rattle.armus_top.specs.Headline.{passage};
 ghost use Rattle.armus_top.specs.inside.Serving.{MayHaveSites, MayWork};
 ghost use Rattle.armus_top.specs.inside.Status.{number_of_status};
-ghost use Rattle.armus_top.specs.inside.Writing.{Answered, LeavesOutput};
-ghost use Rattle.armus_words.specs.declared.command.Command.TheVariants.{Run};
-ghost use Rattle.armus_words.specs.declared.command.RunKind.TheVariants.{Sites};
+ghost use Rattle.armus_top.specs.inside.Writing.{LeavesOutput};
 ghost use Rattle.armus_words.specs.declared.table.TheConstants.{MAX_SITES};
 ghost use Rattle.task_runner.specs.PlainRuns.{IsPlainEnd};
 
-use crate::input::input_of;
-use crate::programs::{MAX_TEXT_BYTES, checked_in};
-use crate::reported::options_of;
+use crate::output::{Output, reported};
 use crate::status::ExitStatus;
-use crate::writing::{answer_end, write_report};
-use armus_base::{Final, Gate, NoMemory, Plan, Sink, Source};
-use armus_words::{Graph, RunKind};
+use crate::writing::finish;
+use armus_base::{Final, Gate, List, MemSink, NoMemory, Plan, Sink};
+use armus_words::RunKind;
 use sites::{KeepEnd, SafeKeeper};
 use std::alloc::Global;
 use std::thread::Threads;
 use task_runner::{RunEnd, RunOptions, run_detect, run_plain, run_sites};
-
-// Runs the plan and writes the report of its end, behind live lines where they are wanted.
-fn answer_without_sites<R: Threads + Sync, K: Sink, G: Gate>(
-    rt: &R,
-    alloc: Global,
-    workers: u8,
-    graph: Graph,
-    live: bool,
-    plan: &Plan,
-    out: &mut K,
-    gate: &G,
-) -> ExitStatus
-    requires workers { MayWork workers }
-    requires checked { IsCheckedPlan plan.now }
-    ensures done { LeavesOutput (IsRunOutput (kind_of live) plan.now (wanted_of graph)) (passage K.taken K.faults out.old out.new) (number_of_status result) }
-    ensures silent { number_of_status result ≢ 4 }
-{
-    let options = options_of(workers, graph, live);
-    match run_detect(rt, alloc, plan, &options, gate, out) {
-        Ok(ran) => write_report(alloc, &ran.end, options.wanted, out),
-        Err(RunEnd::Write) => ExitStatus::WriteFailed,
-        Err(RunEnd::NoMemory) => ExitStatus::OutOfMemory,
-    }
-}
-
-// Runs the plan in one thread, and writes the report of its end.
-fn answer_alone<K: Sink, G: Gate>(
-    alloc: Global,
-    graph: Graph,
-    plan: &Plan,
-    out: &mut K,
-    gate: &G,
-) -> ExitStatus
-    requires checked { IsCheckedPlan plan.now }
-    ensures done { LeavesOutput (IsRunOf plan.now (wanted_of graph)) (passage K.taken K.faults out.old out.new) (number_of_status result) }
-    ensures silent { number_of_status result ≢ 4 }
-{
-    let options = options_of(1, graph, false);
-    match run_plain(alloc, plan, gate) {
-        Ok(end) => write_report(alloc, &end, options.wanted, out),
-        Err(NoMemory) => ExitStatus::OutOfMemory,
-    }
-}
 
 // The end of the run of the plan with passes over this many sites, whose rows stand in memory.
 fn end_with_sites<R: Threads + Sync, G: Gate>(
@@ -99,98 +50,88 @@ fn end_with_sites<R: Threads + Sync, G: Gate>(
     }
 }
 
-// Runs the plan with passes over this many sites, and writes the report of its end.
-fn answer_with_sites<R: Threads + Sync, K: Sink, G: Gate>(
+// The end of the run of the plan on a board.
+fn end_on_board<R: Threads + Sync, G: Gate>(
     rt: &R,
     alloc: Global,
-    workers: u8,
-    graph: Graph,
-    sites: u8,
     plan: &Plan,
-    out: &mut K,
+    options: &RunOptions,
     gate: &G,
-) -> ExitStatus
-    requires workers { MayWork workers }
-    requires sites { MayHaveSites (Sites sites) }
-    requires checked { IsCheckedPlan plan.now }
-    ensures done { LeavesOutput (IsRunOf plan.now (wanted_of graph)) (passage K.taken K.faults out.old out.new) (number_of_status result) }
-    ensures silent { number_of_status result ≢ 4 }
+) -> Result<Final, NoMemory>
+    requires workers { MayWork options.now.workers }
+    requires quiet { options.now.live ≡ false }
+    ensures end { IfOk result (λ end. IsPlainEnd plan.now end) }
 {
-    let options = options_of(workers, graph, false);
-    match end_with_sites(rt, alloc, plan, &options, sites, gate) {
-        Ok(end) => write_report(alloc, &end, options.wanted, out),
-        Err(NoMemory) => ExitStatus::OutOfMemory,
+    // nothing is written where no live lines are wanted
+    let mut unwritten = MemSink::new(alloc, 0, 1, List::from_vec(Vec::new(alloc)))?;
+    match run_detect(rt, alloc, plan, options, gate, &mut unwritten) {
+        Ok(ran) => Ok(ran.end),
+        Err(RunEnd::NoMemory) => Err(NoMemory),
+        Err(RunEnd::Write) => unreachable!(),
     }
 }
 
-/// Runs the plan, with what the kind says beside it, and writes the report of its end.
-pub fn answer_run<R: Threads + Sync, K: Sink, G: Gate>(
+// The end of the run of the plan, with what the kind says beside it.
+fn end_of_run<R: Threads + Sync, G: Gate>(
     rt: &R,
     alloc: Global,
-    workers: u8,
-    graph: Graph,
-    kind: RunKind,
     plan: &Plan,
-    out: &mut K,
+    options: &RunOptions,
+    kind: RunKind,
     gate: &G,
-) -> ExitStatus
-    requires workers { MayWork workers }
+) -> Result<Final, NoMemory>
+    requires workers { MayWork options.now.workers }
+    requires quiet { options.now.live ≡ false }
     requires sites { MayHaveSites kind }
-    requires checked { IsCheckedPlan plan.now }
-    ensures done { LeavesOutput (IsRunOutput kind plan.now (wanted_of graph)) (passage K.taken K.faults out.old out.new) (number_of_status result) }
-    ensures silent { number_of_status result ≢ 4 }
+    ensures end { IfOk result (λ end. IsPlainEnd plan.now end) }
 {
     match kind {
-        RunKind::Plain if workers == 1 => answer_alone(alloc, graph, plan, out, gate),
-        RunKind::Plain => answer_without_sites(rt, alloc, workers, graph, false, plan, out, gate),
-        RunKind::Live => answer_without_sites(rt, alloc, workers, graph, true, plan, out, gate),
-        RunKind::Sites { sites } => {
-            answer_with_sites(rt, alloc, workers, graph, sites, plan, out, gate)
-        }
+        RunKind::Plain if options.workers == 1 => run_plain(alloc, plan, gate),
+        RunKind::Plain | RunKind::Live => end_on_board(rt, alloc, plan, options, gate),
+        RunKind::Sites { sites } => end_with_sites(rt, alloc, plan, options, sites, gate),
     }
 }
 
-// What `run` answers on a text.
-fn run_text<R: Threads + Sync, K: Sink, G: Gate>(
+/// The report of the run of a plan, with passes over sites beside it where the kind has them.
+pub(crate) fn run<R: Threads + Sync, G: Gate>(
     rt: &R,
     alloc: Global,
-    workers: u8,
-    graph: Graph,
+    plan: &Plan,
+    options: &RunOptions,
     kind: RunKind,
-    text: &[u8],
-    out: &mut K,
     gate: &G,
-) -> ExitStatus
-    requires workers { MayWork workers }
+) -> Result<Output, NoMemory>
+    requires checked { IsCheckedPlan plan.now }
+    requires workers { MayWork options.now.workers }
+    requires quiet { options.now.live ≡ false }
     requires sites { MayHaveSites kind }
-    requires short { length text.now ≤ MAX_TEXT_BYTES }
-    ensures done { Answered (Run workers graph kind) text.now (passage K.taken K.faults out.old out.new) (number_of_status result) }
-    ensures silent { number_of_status result ≡ 4 → out.new ≡ out.old }
+    ensures run { IfOk result (λ o. IsRunOf plan.now options.now.wanted (number_of_status o.status) o.text) }
 {
-    match checked_in(alloc, text) {
-        Ok(checked) => answer_run(rt, alloc, workers, graph, kind, &checked.plan, out, gate),
-        Err(end) => answer_end(alloc, end, out),
-    }
+    let end = end_of_run(rt, alloc, plan, options, kind, gate)?;
+    reported(alloc, &end, options.wanted)
 }
 
-/// Reads a text and writes the report of its run by rounds, with what the kind says beside them: live, with a line for each dead task as soon as it is found.
-pub fn run<R: Threads + Sync, S: Source, K: Sink, G: Gate>(
+/// Runs a plan and writes the report of its end behind a line for each dead task, which is written as soon as it is found.
+pub(crate) fn run_live<R: Threads + Sync, K: Sink, G: Gate>(
     rt: &R,
     alloc: Global,
-    workers: u8,
-    graph: Graph,
-    kind: RunKind,
-    src: &mut S,
+    plan: &Plan,
+    options: &RunOptions,
     out: &mut K,
     gate: &G,
 ) -> ExitStatus
-    requires workers { MayWork workers }
-    requires sites { MayHaveSites kind }
-    ensures ends { Ends (Some (Run workers graph kind)) (passage S.left S.faults src.old src.new) (passage K.taken K.faults out.old out.new) (number_of_status result) }
-    ensures silent { number_of_status result ≡ 4 → out.new ≡ out.old }
+    requires checked { IsCheckedPlan plan.now }
+    requires workers { MayWork options.now.workers }
+    requires live { options.now.live ≡ true }
+    ensures done { LeavesOutput true (IsLiveRunOf plan.now options.now.wanted) (passage K.taken K.faults out.old out.new) (number_of_status result) }
+    ensures silent { number_of_status result ≢ 4 }
 {
-    match input_of(alloc, MAX_TEXT_BYTES, src, out) {
-        Ok(input) => run_text(rt, alloc, workers, graph, kind, input.as_slice(), out, gate),
-        Err(status) => status,
+    match run_detect(rt, alloc, plan, options, gate, out) {
+        Ok(ran) => match reported(alloc, &ran.end, options.wanted) {
+            Ok(report) => finish(out, report.text.as_slice(), report.status),
+            Err(NoMemory) => ExitStatus::OutOfMemory,
+        },
+        Err(RunEnd::Write) => ExitStatus::WriteFailed,
+        Err(RunEnd::NoMemory) => ExitStatus::OutOfMemory,
     }
 }

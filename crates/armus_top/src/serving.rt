@@ -1,130 +1,184 @@
-// Serving a command.
-ghost use Rattle.std.specs.Prelude.{◌≡◌, ◌≢◌, Some, false};
-ghost use Rattle.armus_top.specs.inside.Serving.{MeansPlain, MeansWaiting, WaitsForNoThread, WaitsForThreads};
-ghost use Rattle.armus_top.specs.Headline.{Ends, passage, reads_input};
+// Serving a command on its input.
+ghost use Rattle.std.specs.Prelude.{◌≡◌, ◌≢◌, IfErr, IfOk, false, true};
+ghost use Rattle.armus_top.specs.Commands.{IsAnswered, limit_of, writes_live};
+ghost use Rattle.armus_top.specs.Headline.{passage};
+ghost use Rattle.armus_top.specs.Inputs.{FitsLimit};
+ghost use Rattle.armus_top.specs.inside.Answers.{IsEndOf};
+ghost use Rattle.armus_top.specs.inside.Serving.{WaitsForNoThread, WaitsForThreads};
 ghost use Rattle.armus_top.specs.inside.Status.{number_of_status};
-ghost use Rattle.armus_top.specs.Texts.{usage_line};
-ghost use Rattle.armus_top.specs.inside.Writing.{Finished};
+ghost use Rattle.armus_top.specs.inside.Writing.{Answered};
 
 use crate::avoiding::avoid;
 use crate::checking::check;
-use crate::clocking::clock;
 use crate::generating::generate;
+use crate::options::options_of;
+use crate::output::{InputEnd, Output};
 use crate::pooling::pool;
+use crate::programs::{clock_plan_in, text_plan_in};
 use crate::recording::record;
 use crate::replaying::replay;
-use crate::running::run;
+use crate::running::{run, run_live};
 use crate::status::ExitStatus;
-use crate::writing::finish;
-use armus_base::{Gate, Sink, Source};
-use armus_words::Command;
+use crate::writing::write_answer;
+use armus_base::{Gate, Sink};
+use armus_words::{Command, Graph, RunKind};
 use std::alloc::Global;
 use std::sync::Wait;
 use std::thread::Threads;
 
-const USAGE: &str = "usage: armus check|run|avoid|record|replay|gen|clock|pool\n";
-
-// No command.
-fn usage<K: Sink>(out: &mut K) -> ExitStatus
-    ensures done { Finished (passage K.taken K.faults out.old out.new) usage_line 2 (number_of_status result) }
-    ensures silent { number_of_status result ≢ 4 }
-{
-    finish(out, USAGE.as_bytes(), ExitStatus::Usage)
-}
-
-// Serves a command that waits for no thread.
-fn serve_plain<R: Threads + Sync, S: Source, K: Sink, G: Gate>(
+// What a command answers on its input that waits for no thread and writes no live lines.
+fn answer<R: Threads + Sync, G: Gate>(
     rt: &R,
     alloc: Global,
-    command: Command,
-    src: &mut S,
-    out: &mut K,
+    command: &Command,
+    input: &[u8],
     gate: &G,
-) -> ExitStatus
-    requires plain { WaitsForNoThread command }
-    ensures ends { Ends (Some command) (passage S.left S.faults src.old src.new) (passage K.taken K.faults out.old out.new) (number_of_status result) }
-    ensures unread { reads_input (Some command) ≡ false → src.new ≡ src.old }
-    ensures silent { number_of_status result ≡ 4 → out.new ≡ out.old }
+) -> Result<Output, InputEnd>
+    requires plain { WaitsForNoThread command.now }
+    requires quiet { writes_live command.now ≡ false }
+    requires fits { FitsLimit (limit_of command.now) input.now }
+    ensures answer { IfOk result (λ o. IsAnswered command.now input.now (number_of_status o.status) o.text) }
+    ensures refused { IfErr result (IsEndOf command.now input.now) }
 {
-    match command {
-        Command::Check { print } => check(alloc, print, src, out),
+    match *command {
+        Command::Check { print } => check(alloc, print, input),
+        Command::Replay => replay(alloc, input),
+        Command::Gen { count } => Ok(generate(rt, alloc, count, gate)?),
         Command::Run {
             workers,
             graph,
             kind,
-        } => run(rt, alloc, workers, graph, kind, src, out, gate),
+        } => {
+            let plan = text_plan_in(alloc, input)?;
+            let options = options_of(workers, graph, false);
+            Ok(run(rt, alloc, &plan, &options, kind, gate)?)
+        }
+        Command::Clock { workers, graph, .. } => {
+            let plan = clock_plan_in(alloc, input)?;
+            let options = options_of(workers, graph, false);
+            Ok(run(rt, alloc, &plan, &options, RunKind::Plain, gate)?)
+        }
         Command::Avoid {
             workers,
             graph,
             kept,
-        } => avoid(rt, alloc, workers, graph, kept, src, out, gate),
+        } => {
+            let plan = text_plan_in(alloc, input)?;
+            let options = options_of(workers, graph, false);
+            Ok(avoid(rt, alloc, &plan, &options, kept, gate)?)
+        }
         Command::Record { .. } | Command::Pool { .. } => unreachable!(),
-        Command::Replay => replay(alloc, src, out),
-        Command::Gen { count } => generate(rt, alloc, count, out, gate),
-        Command::Clock {
-            workers,
-            graph,
-            live,
-        } => clock(rt, alloc, workers, graph, live, src, out, gate),
     }
 }
 
-/// Serves what words mean that begin neither with `record` nor with `pool`: a command that waits for no thread, or none.
-pub fn serve<R: Threads + Sync, S: Source, K: Sink, G: Gate>(
+// What a command answers on its input that waits for threads.
+fn answer_waiting<R: Threads + Wait + Sync, G: Gate>(
     rt: &R,
     alloc: Global,
-    meaning: Option<Command>,
-    src: &mut S,
-    out: &mut K,
+    command: &Command,
+    input: &[u8],
     gate: &G,
-) -> ExitStatus
-    requires plain { MeansPlain meaning }
-    ensures ends { Ends meaning (passage S.left S.faults src.old src.new) (passage K.taken K.faults out.old out.new) (number_of_status result) }
-    ensures unread { reads_input meaning ≡ false → src.new ≡ src.old }
-    ensures silent { number_of_status result ≡ 4 → out.new ≡ out.old }
+) -> Result<Output, InputEnd>
+    requires waiting { WaitsForThreads command.now }
+    requires fits { FitsLimit (limit_of command.now) input.now }
+    ensures answer { IfOk result (λ o. IsAnswered command.now input.now (number_of_status o.status) o.text) }
+    ensures refused { IfErr result (IsEndOf command.now input.now) }
 {
-    match meaning {
-        Some(command) => serve_plain(rt, alloc, command, src, out, gate),
-        None => usage(out),
-    }
-}
-
-// Serves a command that waits for threads.
-fn serve_record_or_pool<R: Threads + Wait + Sync, S: Source, K: Sink, G: Gate>(
-    rt: &R,
-    alloc: Global,
-    command: Command,
-    src: &mut S,
-    out: &mut K,
-    gate: &G,
-) -> ExitStatus
-    requires waiting { WaitsForThreads command }
-    ensures ends { Ends (Some command) (passage S.left S.faults src.old src.new) (passage K.taken K.faults out.old out.new) (number_of_status result) }
-    ensures silent { number_of_status result ≡ 4 → out.new ≡ out.old }
-{
-    match command {
-        Command::Record { workers } => record(rt, alloc, workers, src, out, gate),
-        Command::Pool { workers, graph } => pool(rt, alloc, workers, graph, src, out, gate),
+    match *command {
+        Command::Record { workers } => {
+            let plan = text_plan_in(alloc, input)?;
+            let options = options_of(workers, Graph::Auto, false);
+            Ok(record(rt, alloc, &plan, &options, input, gate)?)
+        }
+        Command::Pool { workers, graph } => {
+            let plan = text_plan_in(alloc, input)?;
+            let options = options_of(workers, graph, false);
+            Ok(pool(rt, alloc, &plan, &options, gate)?)
+        }
         _ => unreachable!(),
     }
 }
 
-/// Serves what words mean that begin with `record` or `pool`: such a command, which waits for threads, or none.
-pub fn serve_waiting<R: Threads + Wait + Sync, S: Source, K: Sink, G: Gate>(
+// Serves a command that writes live lines, on its input.
+fn serve_live<R: Threads + Sync, K: Sink, G: Gate>(
     rt: &R,
     alloc: Global,
-    meaning: Option<Command>,
-    src: &mut S,
+    command: &Command,
+    input: &[u8],
     out: &mut K,
     gate: &G,
 ) -> ExitStatus
-    requires waiting { MeansWaiting meaning }
-    ensures ends { Ends meaning (passage S.left S.faults src.old src.new) (passage K.taken K.faults out.old out.new) (number_of_status result) }
-    ensures unread { reads_input meaning ≡ false → src.new ≡ src.old }
-    ensures silent { number_of_status result ≡ 4 → out.new ≡ out.old }
+    requires plain { WaitsForNoThread command.now }
+    requires live { writes_live command.now ≡ true }
+    requires fits { FitsLimit (limit_of command.now) input.now }
+    ensures done { Answered command.now input.now (passage K.taken K.faults out.old out.new) (number_of_status result) }
+    ensures silent { number_of_status result ≢ 4 }
 {
-    match meaning {
-        Some(command) => serve_record_or_pool(rt, alloc, command, src, out, gate),
-        None => usage(out),
+    match *command {
+        Command::Run { workers, graph, .. } => match text_plan_in(alloc, input) {
+            Ok(plan) => {
+                let options = options_of(workers, graph, true);
+                run_live(rt, alloc, &plan, &options, out, gate)
+            }
+            Err(end) => write_answer(alloc, Err(end), out),
+        },
+        Command::Clock { workers, graph, .. } => match clock_plan_in(alloc, input) {
+            Ok(plan) => {
+                let options = options_of(workers, graph, true);
+                run_live(rt, alloc, &plan, &options, out, gate)
+            }
+            Err(end) => write_answer(alloc, Err(end), out),
+        },
+        _ => unreachable!(),
     }
+}
+
+// Whether a command writes live lines.
+fn writes_live(command: &Command) -> bool
+    ensures { result ≡ writes_live command.now }
+{
+    match command {
+        Command::Run { kind, .. } => matches!(kind, RunKind::Live),
+        Command::Clock { live, .. } => *live,
+        _ => false,
+    }
+}
+
+/// Serves a command on its input that waits for no thread.
+pub(crate) fn serve<R: Threads + Sync, K: Sink, G: Gate>(
+    rt: &R,
+    alloc: Global,
+    command: &Command,
+    input: &[u8],
+    out: &mut K,
+    gate: &G,
+) -> ExitStatus
+    requires plain { WaitsForNoThread command.now }
+    requires fits { FitsLimit (limit_of command.now) input.now }
+    ensures done { Answered command.now input.now (passage K.taken K.faults out.old out.new) (number_of_status result) }
+    ensures silent { number_of_status result ≢ 4 }
+{
+    if writes_live(command) {
+        return serve_live(rt, alloc, command, input, out, gate);
+    }
+    let answer = answer(rt, alloc, command, input, gate);
+    write_answer(alloc, answer, out)
+}
+
+/// Serves a command on its input that waits for threads.
+pub(crate) fn serve_waiting<R: Threads + Wait + Sync, K: Sink, G: Gate>(
+    rt: &R,
+    alloc: Global,
+    command: &Command,
+    input: &[u8],
+    out: &mut K,
+    gate: &G,
+) -> ExitStatus
+    requires waiting { WaitsForThreads command.now }
+    requires fits { FitsLimit (limit_of command.now) input.now }
+    ensures done { Answered command.now input.now (passage K.taken K.faults out.old out.new) (number_of_status result) }
+    ensures silent { number_of_status result ≢ 4 }
+{
+    let answer = answer_waiting(rt, alloc, command, input, gate);
+    write_answer(alloc, answer, out)
 }

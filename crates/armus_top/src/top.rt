@@ -4,35 +4,15 @@ ghost use Rattle.std.specs.Str.{bytes_eq};
 ghost use Rattle.armus_words.specs.declared.table.TheConstants.{POOL, RECORD};
 ghost use Rattle.armus_top.specs.Meanings.{BeginsRecordOrPool};
 ghost use Rattle.armus_top.specs.Replayable.{WritesReplayable};
-ghost use Rattle.armus_top.specs.inside.Status.{number_of_status};
-ghost use Rattle.armus_top.specs.Headline.{IsCall, IsServed, passage};
+ghost use Rattle.armus_top.specs.Headline.{IsServed, passage};
 
+use crate::requests::{Request, request_of};
 use crate::serving::{serve, serve_waiting};
-use crate::status::ExitStatus;
 use armus_base::{Gate, Sink, Source};
-use armus_words::{POOL, RECORD, command_in};
+use armus_words::{POOL, RECORD};
 use std::alloc::Global;
 use std::sync::Wait;
 use std::thread::Threads;
-
-// The status of a call whose first word is neither `record` nor `pool`, by its words.
-fn status_for<R: Threads + Sync, S: Source, K: Sink, G: Gate>(
-    rt: &R,
-    alloc: Global,
-    words: &[String],
-    src: &mut S,
-    out: &mut K,
-    gate: &G,
-) -> ExitStatus
-    requires plain { BeginsRecordOrPool (map string_bytes words.now) → ⊥ }
-    ensures call { IsCall (map string_bytes words.now) (passage S.left S.faults src.old src.new) (passage K.taken K.faults out.old out.new)
-        (src.new ≡ src.old) (out.new ≡ out.old) (number_of_status result) }
-{
-    match command_in(alloc, words) {
-        Ok(meaning) => serve(rt, alloc, meaning, src, out, gate),
-        Err(_) => ExitStatus::OutOfMemory,
-    }
-}
 
 /// The program where the first word is neither `record` nor `pool`: every command that waits for no thread.
 ///
@@ -51,25 +31,12 @@ pub fn armus_plain<R: Threads + Sync, S: Source, K: Sink, G: Gate>(
     ensures served { IsServed (map string_bytes words.now) (passage S.left S.faults src.old src.new) (passage K.taken K.faults out.old out.new)
         (src.new ≡ src.old) (out.new ≡ out.old) result }
 {
-    status_for(rt, alloc, words, src, out, gate).code()
-}
-
-// The status of a call whose first word is `record` or `pool`, by its words.
-fn status_waiting<R: Threads + Wait + Sync, S: Source, K: Sink, G: Gate>(
-    rt: &R,
-    alloc: Global,
-    words: &[String],
-    src: &mut S,
-    out: &mut K,
-    gate: &G,
-) -> ExitStatus
-    requires waiting { BeginsRecordOrPool (map string_bytes words.now) }
-    ensures call { IsCall (map string_bytes words.now) (passage S.left S.faults src.old src.new) (passage K.taken K.faults out.old out.new)
-        (src.new ≡ src.old) (out.new ≡ out.old) (number_of_status result) }
-{
-    match command_in(alloc, words) {
-        Ok(meaning) => serve_waiting(rt, alloc, meaning, src, out, gate),
-        Err(_) => ExitStatus::OutOfMemory,
+    match request_of(alloc, words, src, out) {
+        Ok(request) => {
+            let Request { command, input } = request;
+            serve(rt, alloc, &command, input.as_slice(), out, gate).code()
+        }
+        Err(status) => status.code(),
     }
 }
 
@@ -88,7 +55,13 @@ pub fn armus_journal<R: Threads + Wait + Sync, S: Source, K: Sink, G: Gate>(
         (src.new ≡ src.old) (out.new ≡ out.old) result }
     ensures replays { WritesReplayable (map string_bytes words.now) (passage S.left S.faults src.old src.new) (passage K.taken K.faults out.old out.new) result }
 {
-    status_waiting(rt, alloc, words, src, out, gate).code()
+    match request_of(alloc, words, src, out) {
+        Ok(request) => {
+            let Request { command, input } = request;
+            serve_waiting(rt, alloc, &command, input.as_slice(), out, gate).code()
+        }
+        Err(status) => status.code(),
+    }
 }
 
 // Whether the word is `record` or `pool`.

@@ -1,16 +1,17 @@
-// Writing a whole output.
+// Writing what a command answers.
 ghost use Rattle.std.specs.Prelude.{◌≡◌, ◌≢◌};
-ghost use Rattle.armus_base.specs.Statuses.{IsInOrder};
+ghost use Rattle.armus_words.specs.declared.command.Command.{Command as Asked};
+ghost use Rattle.armus_words.specs.Words.{Text};
 ghost use Rattle.armus_top.specs.Headline.{passage};
+ghost use Rattle.armus_top.specs.inside.Answers.{AnswersBy, IsEndOf};
 ghost use Rattle.armus_top.specs.inside.Status.{number_of_status};
-ghost use Rattle.armus_top.specs.inside.Writing.{Finished, Refuses, TellsEnd, WritesReport};
+ghost use Rattle.armus_top.specs.inside.Writing.{Answered, Finished, Refuses, RefusesClocks};
 
-use crate::programs::InputEnd;
-use crate::reported::status_of;
+use crate::output::{InputEnd, Output};
 use crate::status::ExitStatus;
-use adaptive::Wanted;
-use armus_base::{Final, NoMemory, Sink, write_text};
-use report::{Refusal, refusal_line, report_of};
+use armus_base::{Sink, write_text};
+use clock_pl::{ClockFault, clock_line};
+use report::{Refusal, refusal_line};
 use std::alloc::Global;
 
 /// Writes the text and answers the status, or `WriteFailed` where a write failed.
@@ -25,9 +26,9 @@ pub fn finish<K: Sink>(out: &mut K, text: &[u8], status: ExitStatus) -> ExitStat
 }
 
 /// Writes the line that says why an input is refused.
-pub fn refuse<K: Sink>(alloc: Global, why: &Refusal, out: &mut K) -> ExitStatus
+pub(crate) fn refuse<K: Sink>(alloc: Global, why: &Refusal, out: &mut K) -> ExitStatus
     ensures done { Refuses why.now (passage K.taken K.faults out.old out.new) (number_of_status result) }
-    ensures silent { number_of_status result ≡ 4 → out.new ≡ out.old }
+    ensures silent { number_of_status result ≢ 4 }
 {
     match refusal_line(alloc, why) {
         Ok(line) => finish(out, line.as_slice(), ExitStatus::Refused),
@@ -35,25 +36,42 @@ pub fn refuse<K: Sink>(alloc: Global, why: &Refusal, out: &mut K) -> ExitStatus
     }
 }
 
-/// Tells why there is no answer.
-pub fn answer_end<K: Sink>(alloc: Global, end: InputEnd, out: &mut K) -> ExitStatus
-    ensures done { TellsEnd end (passage K.taken K.faults out.old out.new) (number_of_status result) }
-    ensures silent { number_of_status result ≡ 4 → out.new ≡ out.old }
+// Writes the line of a fault of the unfolding of a clock text.
+fn refuse_clocks<K: Sink>(alloc: Global, fault: &ClockFault, out: &mut K) -> ExitStatus
+    ensures done { RefusesClocks fault.now (passage K.taken K.faults out.old out.new) (number_of_status result) }
+    ensures silent { number_of_status result ≢ 4 }
+{
+    match clock_line(alloc, fault) {
+        Ok(line) => finish(out, line.as_slice(), ExitStatus::Refused),
+        Err(_) => ExitStatus::OutOfMemory,
+    }
+}
+
+// Writes the line that says why a command has no answer.
+fn write_end<K: Sink>(alloc: Global, end: InputEnd, out: &mut K) -> ExitStatus
+    ensures done { (command : Asked) (input : Text) → IsEndOf command input end
+        → Answered command input (passage K.taken K.faults out.old out.new) (number_of_status result) }
+    ensures silent { number_of_status result ≢ 4 }
 {
     match end {
         InputEnd::Refused(why) => refuse(alloc, &why, out),
+        InputEnd::Clock(fault) => refuse_clocks(alloc, &fault, out),
         InputEnd::NoMemory => ExitStatus::OutOfMemory,
     }
 }
 
-/// Writes the report of the end of a run, with the status that tells whether a task is dead.
-pub fn write_report<K: Sink>(alloc: Global, end: &Final, wanted: Wanted, out: &mut K) -> ExitStatus
-    requires in_order { IsInOrder end.now.blocked }
-    ensures done { WritesReport end.now wanted (passage K.taken K.faults out.old out.new) (number_of_status result) }
-    ensures silent { number_of_status result ≢ 4 }
+/// Writes what a command answers: its output, or the line that says why there is none. Where memory is wanting nothing is written.
+pub(crate) fn write_answer<K: Sink>(
+    alloc: Global,
+    answer: Result<Output, InputEnd>,
+    out: &mut K,
+) -> ExitStatus
+    ensures done { (command : Asked) (input : Text) → AnswersBy command input answer
+        → Answered command input (passage K.taken K.faults out.old out.new) (number_of_status result) }
+    ensures silent { (command : Asked) (input : Text) → AnswersBy command input answer → number_of_status result ≢ 4 }
 {
-    match report_of(alloc, end, wanted) {
-        Ok(report) => finish(out, report.text.as_slice(), status_of(report.has_dead)),
-        Err(NoMemory) => ExitStatus::OutOfMemory,
+    match answer {
+        Ok(output) => finish(out, output.text.as_slice(), output.status),
+        Err(end) => write_end(alloc, end, out),
     }
 }

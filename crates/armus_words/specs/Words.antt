@@ -135,6 +135,10 @@ pub record AreWords (words : List Text) (first : FirstWord) (uses : List Use) (a
   pub uses_fit : AreUses (λ o. has_option o (options_of first)) uses
   pub alone_fits : StandsAlone (has_value_alone first) alone
 
+-- the words have the form of a command, whatever the values in them are
+abbrev pub HaveForm : List Text → Type 0
+HaveForm words = (first : FirstWord) × (uses : List Use) × (alone : Option Text) × AreWords words first uses alone
+
 -- the value of an option, where it is used
 abbrev pub value_of : OptionWord → List Use → Option Text
 value_of o [] = None

@@ -1,6 +1,7 @@
 // The command that the words mean.
-ghost use Rattle.std.specs.Prelude.{◌≡◌, ℕ, IfOk, IfSome, IfNone, map, option_map, string_bytes};
+ghost use Rattle.std.specs.Prelude.{◌≡◌, ℕ, IfErr, IfOk, IfSome, IfNone, map, option_map, string_bytes};
 ghost use Rattle.armus_words.specs.Commands.{AreWorkers, IsGenerated, IsRunKind, IsWantedGraph, Means, Reads, first_of};
+ghost use Rattle.armus_words.specs.Words.{HaveForm};
 ghost use Rattle.armus_words.specs.inside.Rules.{given_of};
 ghost use Rattle.armus_words.specs.declared.command.Command.{Command};
 ghost use Rattle.armus_words.specs.declared.command.Graph.{Graph};
@@ -119,6 +120,7 @@ fn command_of(first: FirstWord, values: &Values<'_>) -> Option<Command>
 /// The command that the words mean, if they mean one. The words are the command line without the program's name.
 pub fn command_in(alloc: Global, words: &[String]) -> Result<Option<Command>, AllocError>
     ensures means { IfOk result (Means (map string_bytes words.now)) }
+    ensures formed { IfErr result (λ _. HaveForm (map string_bytes words.now)) }
 {
     let first = match first_word_in(words) {
         Some(first) => first,

@@ -1,5 +1,5 @@
 -- Which commands are served where.
-use Rattle.std.specs.Prelude.{◌≤◌, ℕ, Option, Some, None}
+use Rattle.std.specs.Prelude.{◌≤◌, ℕ}
 use Rattle.armus_words.specs.declared.command.Command.{Command}
 use Rattle.armus_words.specs.declared.command.Command.TheVariants.{Check, Run, Avoid, Record, Replay, Gen, Clock, Pool}
 use Rattle.armus_words.specs.declared.command.RunKind.{RunKind}
@@ -32,13 +32,3 @@ abbrev pub WaitsForThreads : Command → Type 0
 WaitsForThreads (Record workers) = MayWork workers
 WaitsForThreads (Pool workers g) = MayWork workers
 WaitsForThreads _ = ⊥
-
--- words mean such a command that waits for no thread, or none
-abbrev pub MeansPlain : Option Command → Type 0
-MeansPlain (Some c) = WaitsForNoThread c
-MeansPlain None = Unit {0}
-
--- words mean such a command that waits for threads, or none
-abbrev pub MeansWaiting : Option Command → Type 0
-MeansWaiting (Some c) = WaitsForThreads c
-MeansWaiting None = Unit {0}

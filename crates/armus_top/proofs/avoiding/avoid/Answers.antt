@@ -1,12 +1,16 @@
-use Rattle.std.proofs.Common.{refl}
-use Rattle.armus_words.specs.declared.command.Command.TheVariants.{Avoid}
-use Rattle.armus_top.proofs.Answering.{ends_by_answer, ends_unread}
+use Rattle.std.proofs.Common.{subst, sym}
+use Rattle.armus_top.specs.Avoids.{IsAvoidOf}
+use Rattle.armus_top.proofs.AvoidedReports.{avoid_of, avoided_end_in_order}
 use Rattle.armus_top.proofs.avoiding.avoid.Goals as goal
 
-pub returns-in-Ok-clause-ends : goal.returns-in-Ok-clause-ends
-returns-in-Ok-clause-ends g c =
-    rw (← c.in-Ok.ensures.unwritten) (ends_by_answer (Avoid c.args.workers c.args.graph c.args.kept) _ _ c.in-Ok.input c.as_slice.result.now _ c.as_slice.ensures.items
-    c.in-Ok.ensures.read.0 c.avoid_text.ensures.done c.in-Ok.ensures.read.1)
+pub report-requires : goal.report-requires
+report-requires g c = avoided_end_in_order c.args.plan.now _ c.requires.checked c.in_ok-end.ensures.end
 
-pub returns-in-Err-clause-ends : goal.returns-in-Err-clause-ends
-returns-in-Err-clause-ends g c = ends_unread (Avoid c.args.workers c.args.graph c.args.kept) _ _ _ _ refl c.in-Err.ensures.ends
+pub returns : goal.returns
+returns g c = record {
+  run = λ input plan_is.
+      subst (λ n. IsAvoidOf input c.args.options.now.workers c.args.options.now.wanted n c.in_ok-text.text) (sym c.status_of-status.ensures)
+      (avoid_of input c.args.plan.now c.args.options.now.wanted _ _ _ plan_is c.any_refused.ensures c.in_ok-text.ensures c.args.options.now.workers
+      c.in_ok-end.ensures.end
+      c.in_ok-end.ensures.serial);
+}

@@ -1,12 +1,17 @@
-use Rattle.std.proofs.Common.{refl}
-use Rattle.armus_words.specs.declared.command.Command.TheVariants.{Record}
-use Rattle.armus_top.proofs.Answering.{ends_by_answer, ends_unread}
+use Rattle.std.proofs.Common.{subst, sym}
+use Rattle.armus_top.specs.Records.{IsRecordOf}
+use Rattle.armus_top.proofs.OnePlan.{checked_plan}
+use Rattle.armus_top.proofs.Reporting.{plain_end_in_order}
+use Rattle.armus_top.proofs.RecordedTexts.{record_of}
 use Rattle.armus_top.proofs.recording.record.Goals as goal
 
-pub returns-in-Ok-clause-ends : goal.returns-in-Ok-clause-ends
-returns-in-Ok-clause-ends g c =
-    rw (← c.in-Ok.ensures.unwritten) (ends_by_answer (Record c.args.workers) _ _ c.in-Ok.input c.as_slice.result.now _ c.as_slice.ensures.items c.in-Ok.ensures.read.0
-    c.record_text.ensures.done c.in-Ok.ensures.read.1)
+pub any_dead-requires : goal.any_dead-requires
+any_dead-requires g c = plain_end_in_order c.args.plan.now _ (checked_plan _ _ c.requires.plan) c.in_ok-end.ensures.recorded.end
 
-pub returns-in-Err-clause-ends : goal.returns-in-Err-clause-ends
-returns-in-Err-clause-ends g c = ends_unread (Record c.args.workers) _ _ _ _ refl c.in-Err.ensures.ends
+pub returns : goal.returns
+returns g c =
+    record {
+      «record» = subst (λ n. IsRecordOf c.args.text.now n c.in_ok-text.text) (sym c.status_of-status.ensures)
+          (record_of c.args.text.now c.args.plan.now _ _ _ _ _ (checked_plan _ _ c.requires.plan) c.in_ok-end.ensures.recorded c.as_slice.ensures.items
+          c.in_ok-any_dead.ensures c.in_ok-text.ensures.record c.requires.plan);
+    }

@@ -4,7 +4,7 @@ use Rattle.armus_top.proofs.replaying.replayed_in.Goals as goal
 
 pub replay-requires : goal.replay-requires
 replay-requires c =
-    let within = schedule_within c.args.schedule.now c.in-Ok-read_lines.lines c.in-Ok-read_lines.ensures.lines in
+    let within = schedule_within c.args.schedule.now c.in_ok-lines.lines c.in_ok-lines.ensures.lines in
     let same = ap length c.as_slice.ensures.items in
     let short = c.requires.short in
     record { few = omega arith }

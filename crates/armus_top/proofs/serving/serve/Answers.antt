@@ -1,8 +1,12 @@
-use Rattle.std.proofs.Common.{refl}
-use Rattle.std.specs.Prelude.{None}
-use Rattle.armus_top.specs.Texts.{usage_line}
-use Rattle.armus_top.proofs.Ending.{by_finish}
+use Rattle.armus_top.proofs.Served.{answers_by}
 use Rattle.armus_top.proofs.serving.serve.Goals as goal
 
-pub returns-in-None-clause-ends : goal.returns-in-None-clause-ends
-returns-in-None-clause-ends g c = rw c.in-None.is (by_finish None _ _ usage_line 2 _ c.usage.ensures.done (refl, refl) refl)
+pub returns-clause-done : goal.returns-clause-done
+returns-clause-done g c =
+    c.write_answer.ensures.done c.args.command.now c.args.input.now
+    (answers_by c.args.command.now c.args.input.now c.answer-answer.result c.answer-answer.ensures.answer c.answer-answer.ensures.refused)
+
+pub returns-clause-silent : goal.returns-clause-silent
+returns-clause-silent g c =
+    c.write_answer.ensures.silent c.args.command.now c.args.input.now
+    (answers_by c.args.command.now c.args.input.now c.answer-answer.result c.answer-answer.ensures.answer c.answer-answer.ensures.refused)
