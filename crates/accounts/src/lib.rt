@@ -1,0 +1,6 @@
+//! What is known of the tasks of a text where its run has ended: where they were drawn, forked and ended, and where they wait.
+#![tactic(auto)]
+
+mod account;
+
+pub use account::{Account, Drawn, Ended, Forked, TaskAccount, Turn, Waiting};
