@@ -1,0 +1,6 @@
+mod Lines
+mod Found
+mod Building
+mod Prefixes
+mod Comments
+mod Names

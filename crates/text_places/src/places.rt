@@ -1,5 +1,6 @@
 // The places of a text's bytes.
-ghost use Rattle.std.specs.Prelude.{◌≡◌, ◌+◌, ◌-◌, ◌<◌, ◌≤◌, ◌^◌, ◌++◌, IfOk, OnOk, length, count_by, option_map};
+ghost use Rattle.std.specs.Prelude.{◌≡◌, ◌+◌, ◌-◌, ◌<◌, ◌≤◌, ◌^◌, ◌++◌, IfOk, OnOk, length, count_by, not, option_map};
+ghost use Rattle.std.specs.List.{prefix_len};
 ghost use Rattle.text_places.specs.PlaceWords.{front_words, place_words};
 ghost use Rattle.armus_base.specs.Finals.{list_below};
 ghost use Rattle.text_places.specs.NamedPlaces.{moved, named_in};
@@ -48,15 +49,23 @@ fn line_count(text: &[u8]) -> usize
     text.iter().filter(|b| **b == b'\n').count() + 1
 }
 
+// How many bytes stand before the first line feed.
+fn line_length(text: &[u8]) -> usize
+    ensures length { result ≡ prefix_len (λ b. not (is_line_feed b)) text.now }
+    ensures within { result ≤ length text.now }
+{
+    text.iter().take_while(|b| **b != b'\n').count()
+}
+
 // The line that begins at this byte.
 fn line_from(text: &[u8], begin: usize) -> &[u8]
     requires { begin ≤ length text.now }
     ensures line { result.now ≡ line_from text.now begin }
     ensures within { begin + length result.now ≤ length text.now }
 {
-    let rest = &text[begin..];
-    let end = rest.iter().take_while(|b| **b != b'\n').count();
-    &rest[..end]
+    let (_, rest) = text.split_at(begin);
+    let (line, _) = rest.split_at(line_length(rest));
+    line
 }
 
 // The lines of a text.
