@@ -62,20 +62,20 @@ begin_more text p (f ∷ found) [] own offset all one = absurd all
 begin_more text p (f ∷ found) (o ∷ offsets) own offset all one = (all.0, begin_more text p found offsets own offset all.1 one)
 
 -- with or without one more
-abbrev with_statement : Bool → List Token → List (List Token) → List (List Token)
+abbrev pub with_statement : Bool → List Token → List (List Token) → List (List Token)
 with_statement begins own found = if begins then found ++ own ∷ [] else found
 
-begun_with : (text : List ℕ) (p : Program) (begins : Bool) (found : List (List Token)) (offsets : List ℕ) (own : List Token) (offset : ℕ) →
+pub begun_with : (text : List ℕ) (p : Program) (begins : Bool) (found : List (List Token)) (offsets : List ℕ) (own : List Token) (offset : ℕ) →
     AllBeginAt text p found offsets → BeginAt text p own offset → AllBeginAt text p (with_statement begins own found) (with_offset begins offset offsets)
 begun_with text p true found offsets own offset all one = begin_more text p found offsets own offset all one
 begun_with text p false found offsets own offset all one = all
 
-whole_with : (begins : Bool) (own : List Token) (found more : List (List Token)) →
+pub whole_with : (begins : Bool) (own : List Token) (found more : List (List Token)) →
     found ++ (if begins then own ∷ more else more) ≡ with_statement begins own found ++ more
 whole_with true own found more = sym (append_assoc found (own ∷ []) more)
 whole_with false own found more = refl
 
-end_begins_none : (may : Bool) → begins_statement may the_end ≡ false
+pub end_begins_none : (may : Bool) → begins_statement may the_end ≡ false
 end_begins_none true = refl
 end_begins_none false = refl
 
@@ -83,7 +83,7 @@ none_at_end : (may : Bool) → beginnings may (the_end ∷ []) ≡ []
 none_at_end true = refl
 none_at_end false = refl
 
-cons_is : (u : Token) (us : List Token) → u ≡ the_end → us ≡ [] → u ∷ us ≡ the_end ∷ []
+pub cons_is : (u : Token) (us : List Token) → u ≡ the_end → us ≡ [] → u ∷ us ≡ the_end ∷ []
 cons_is u us a b = cc
 
 -- ---- reading
@@ -142,20 +142,20 @@ plain_ends (await x (Back k)) ts e = e
 plain_ends (await x (Ahead k)) ts e = e
 plain_ends skip ts e = e
 
-tree_ends : (p : Tree) (ts : List Token) → EndsOnce ts → EndsOnce (tokens p ts)
+pub tree_ends : (p : Tree) (ts : List Token) → EndsOnce ts → EndsOnce (tokens p ts)
 tree_ends done ts e = e
 tree_ends (plain s more) ts e = plain_ends s (tokens more ts) (tree_ends more ts e)
 tree_ends (fork x body more) ts e = tree_ends body (sign CloseBrace ∷ tokens more ts) (tree_ends more ts e)
 tree_ends (loop k body more) ts e = tree_ends body (sign CloseBrace ∷ tokens more ts) (tree_ends more ts e)
 
-ends_behind : (t : Token) (ts : List Token) → EndsOnce (t ∷ ts) → (t ≡ the_end → ⊥) → EndsOnce ts
+pub ends_behind : (t : Token) (ts : List Token) → EndsOnce (t ∷ ts) → (t ≡ the_end → ⊥) → EndsOnce ts
 ends_behind the_end ts e not_end = absurd (not_end refl)
 ends_behind (sign s) ts e not_end = e
 ends_behind (word k) ts e not_end = e
 ends_behind (name x) ts e not_end = e
 ends_behind (number k) ts e not_end = e
 
-ends_here : (t : Token) (ts : List Token) → EndsOnce (t ∷ ts) → t ≡ the_end → ts ≡ []
+pub ends_here : (t : Token) (ts : List Token) → EndsOnce (t ∷ ts) → t ≡ the_end → ts ≡ []
 ends_here the_end ts e same = e
 ends_here (sign s) ts e same = absurd cc
 ends_here (word k) ts e same = absurd cc

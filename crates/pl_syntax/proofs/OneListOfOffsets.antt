@@ -9,7 +9,7 @@ use Rattle.pl_syntax.proofs.Beginnings.{one_rest_of_text}
 
 module _ (text : List ℕ) (p : Program) where
   -- tokens that stand last begin at one place
-  one_offset : (own : List Token) (m n : ℕ) → BeginAt text p own m → BeginAt text p own n → m ≡ n
+  pub one_offset : (own : List Token) (m n : ℕ) → BeginAt text p own m → BeginAt text p own n → m ≡ n
   one_offset own m n a b =
       let same : a.ahead ≡ b.ahead = append_cancel_right a.ahead b.ahead own (a.all ∙ sym b.all) in
       let left : a.left ≡ b.left = one_rest_of_text p.two text b.ahead a.left b.left (subst (λ ts. ReadsTokens p.two text ts a.left) same a.reads) b.reads in

@@ -6,6 +6,7 @@ pub mod Grammar
 pub mod Printed
 pub mod Spacing
 pub mod StatementOffsets
+pub mod BodyEnds
 -- How the types of the program show as those.
 pub mod Bodies
 -- What is promised.

@@ -1,5 +1,6 @@
 // What holds of the definitions of this crate: each law is the contract of a public function with an empty body.
 
+ghost use Rattle.pl_syntax.specs.BodyEnds.{HasOneListOfEnds};
 ghost use Rattle.pl_syntax.specs.StatementOffsets.{HasOneListOfOffsets};
 ghost use Rattle.pl_syntax.specs.Laws.{HasOneTree, HasOneFault, HasNotBoth, HasOneOfBoth, TreesFixBodies, PrintedIsText, TextsAreWritable, LineFeedChangesNothing, NoLineIsAMark, ReadsTexts, TextsAreSpaced};
 
@@ -43,7 +44,8 @@ pub fn texts_are_spaced()
     ensures worked { ReadsTexts }
 {}
 
-/// A text's program has one list of the offsets at which its statements begin.
+/// A text's program has one list of the offsets at which its statements begin, and one of those at which their bodies end.
 pub fn text_has_one_list_of_offsets()
-    ensures { HasOneListOfOffsets }
+    ensures offsets { HasOneListOfOffsets }
+    ensures ends { HasOneListOfEnds }
 {}

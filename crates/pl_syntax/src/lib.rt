@@ -3,6 +3,7 @@
 //! The four public modules are what another language is read with: how a text is read, its tokens, the next token, and readers of a few tokens.
 #![tactic(auto)]
 
+mod ends;
 pub mod expect;
 mod fault;
 mod laws;
@@ -18,6 +19,7 @@ pub mod token;
 mod tree;
 mod word;
 
+pub use ends::body_ends;
 pub use fault::{CANNOT_STAND, NO_NUMBER, NO_TOKEN, ParseEnd, SyntaxFault, TOO_DEEP, TOO_LONG};
 pub use laws::{
     printed_is_text, text_has_free_lines, text_has_one_fault, text_has_one_list_of_offsets,

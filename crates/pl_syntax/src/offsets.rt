@@ -15,7 +15,7 @@ use armus_base::{List, NoMemory};
 use std::alloc::Global;
 
 // The next token, where there is one, and the bytes after it.
-fn token_at(scan: Scan, text: &[u8]) -> (Token, &[u8])
+pub(crate) fn token_at(scan: Scan, text: &[u8]) -> (Token, &[u8])
     requires within { length text.now ≤ scan.total }
     requires small { scan.total < 2 ^ 32 }
     requires some { (token : TokenValue) × (rest : Seq ℕ) × (front scan text.now ≡ Ok (token, rest)) }
@@ -41,7 +41,7 @@ fn is_boundary(token: &Token) -> bool
 }
 
 // Whether the token is the end of the text.
-fn is_end(token: &Token) -> bool
+pub(crate) fn is_end(token: &Token) -> bool
     ensures { IsTrue result ↔ (token_of token.now ≡ the_end) }
 {
     matches!(token, Token::End)
@@ -69,7 +69,7 @@ fn begins_statement(may_begin: bool, token: &Token) -> bool
 }
 
 // One offset more, where there is a statement.
-fn push_if(offsets: &mut Vec<u32>, begins: bool, offset: u32) -> Result<(), NoMemory>
+pub(crate) fn push_if(offsets: &mut Vec<u32>, begins: bool, offset: u32) -> Result<(), NoMemory>
     ensures { OnOk result (offsets.new.items ≡ with_offset begins offset offsets.old.items) }
 {
     if begins {
@@ -79,7 +79,7 @@ fn push_if(offsets: &mut Vec<u32>, begins: bool, offset: u32) -> Result<(), NoMe
 }
 
 // What is left of a text behind its header, where it has one.
-fn body_of<'a>(text: &'a [u8], program: &Program) -> &'a [u8]
+pub(crate) fn body_of<'a>(text: &'a [u8], program: &Program) -> &'a [u8]
     requires short { length text.now < 2 ^ 32 }
     requires is_text { IsText text.now program.now }
     ensures header { ReadsTokens program.now.two text.now [] result.now }
