@@ -12,7 +12,7 @@ use Rattle.pl_syntax.specs.declared.tree.Program.{Program}
 use Rattle.pl_syntax.specs.Tree.{Tree, new_phaser, reg, dereg, adv, await, done, plain, fork, loop}
 use Rattle.pl_plan.specs.Folding.{drops_of}
 use Rattle.pl_plan.specs.Unfolding.{Coming, Start, Visit, a_fork, a_plain, phaser, plan_of, task, a_loop, a_turn}
-use Rattle.origins.specs.Origins.{comes_to_op, op_origin, start_of, visits_by, visits_of_task, comes_to_phaser, comes_to_task, phaser_origin, task_origin, statements_where}
+use Rattle.origins.specs.Origins.{comes_to_op, op_origin, start_of, visits_by, visits_of_task, comes_to_phaser, comes_to_task, phaser_origin, task_origin, statements_where, written_statements}
 
 -- ---- ops
 
@@ -108,13 +108,6 @@ TasksHaveOrigins =
     (u : ℕ) × (slice_index_or plan.parents (suc c) None ≡ Some (task u)) × IsOfVisit program comes_to_task u (task_origin program (suc c))
 
 -- ---- the statements of the text
-
--- all statements, in order of number, each as it is come to
-abbrev pub written_statements : Tree → List Coming
-written_statements done = []
-written_statements (plain s rest) = a_plain s ∷ written_statements rest
-written_statements (fork x body rest) = a_fork x body ∷ (written_statements body ++ written_statements rest)
-written_statements (loop k body rest) = a_loop ∷ (written_statements body ++ written_statements rest)
 
 -- the statement that is come to: that of a turn is its loop
 abbrev pub statement_of : Coming → Coming
