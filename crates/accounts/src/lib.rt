@@ -2,5 +2,6 @@
 #![tactic(auto)]
 
 mod account;
+mod facts;
 
 pub use account::{Account, Drawn, Ended, Forked, TaskAccount, Turn, Waiting};

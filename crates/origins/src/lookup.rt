@@ -198,11 +198,13 @@ impl<'p> Origins<'p> {
         ensures { IfOk result (λ turns. turns ≡ op_turns program.now t.0 i) }
     {
         let mut turns = Vec::new(alloc);
-        if let Some(fork) = self.fork(t) {
-            if let Some(body) = body_at(program, &self.statements, fork) {
-                put_turns(body, fork + 1, i, &mut turns)?;
-            }
-        }
+        let Some(fork) = self.fork(t) else {
+            return Ok(List::new(alloc));
+        };
+        let Some(body) = body_at(program, &self.statements, fork) else {
+            return Ok(List::new(alloc));
+        };
+        put_turns(body, fork + 1, i, &mut turns)?;
         Ok(List::from_vec(turns))
     }
 }

@@ -45,13 +45,7 @@ fn place_in_turns(k: u16, body: &Body, n: u32, i: u32) -> Option<(u32, u32)>
 
 // Appends the turns of op i of a loop that is statement `at`.
 #[cycle(turns)]
-fn put_turn(
-    k: u16,
-    body: &Body,
-    at: u32,
-    i: u32,
-    out: &mut Vec<LoopTurn>,
-) -> Result<(), NoMemory>
+fn put_turn(k: u16, body: &Body, at: u32, i: u32, out: &mut Vec<LoopTurn>) -> Result<(), NoMemory>
     requires { at + 1 + count body.now < 2 ^ 32 }
     ensures { OnOk result (out.new.items ≡ out.old.items ++ turns_of (slice_get (making_op (turned_visits at (loop k body.now done))) i)) }
 {
