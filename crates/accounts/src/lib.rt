@@ -2,6 +2,9 @@
 #![tactic(auto)]
 
 mod account;
+mod accounts;
 mod facts;
+mod waiting;
 
+pub use accounts::account_of;
 pub use account::{Account, Drawn, Ended, Forked, TaskAccount, Turn, Waiting};

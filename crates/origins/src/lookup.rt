@@ -132,6 +132,13 @@ impl<'p> Origins<'p> {
         self.phasers.get(p.0 as usize).copied()
     }
 
+    /// The numbers of the statements that make the phasers, in order of the phasers' numbers.
+    pub fn phasers(&self) -> &[u32]
+        ensures { result.now ≡ self.now.phasers }
+    {
+        &self.phasers
+    }
+
     /// The number of the statement that draws a task: none for task 0, and where there is no such task.
     pub fn task(&self, t: TaskId) -> Option<u32>
         ensures { result ≡ drawing_statement self.now.tasks t.0 }
