@@ -1,2 +1,4 @@
 pub mod Awaiting
 pub mod Told
+pub mod OneAccount
+pub mod Witnesses

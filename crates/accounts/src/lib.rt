@@ -4,7 +4,9 @@
 mod account;
 mod accounts;
 mod facts;
+mod laws;
 mod waiting;
 
 pub use accounts::account_of;
+pub use laws::{one_account, statements_have_places, tasks_are_of_text};
 pub use account::{Account, Drawn, Ended, Forked, TaskAccount, Turn, Waiting};
