@@ -1,8 +1,8 @@
 -- The places of a text's plan have one account at most.
-use Rattle.std.proofs.Common.{◌≡◌, ℕ, zero, suc, ◌+◌, ◌<◌, ◌≤◌, List, [], ◌∷◌, Option, Some, None, length, map, refl, sym, ap, subst, ◌∙◌, inl, inr, arith}
+use Rattle.std.proofs.Common.{◌≡◌, ℕ, zero, suc, ◌+◌, ◌<◌, ◌≤◌, List, [], ◌∷◌, Option, Some, None, length, map, sym, ap, subst, ◌∙◌, inl, inr, arith}
 use Rattle.std.specs.Prelude.{slice_index_or}
 use Rattle.std.proofs.lemmas.Bool.{cases_lt}
-use Rattle.std.proofs.lemmas.List.{get_or_default, same_lists}
+use Rattle.std.proofs.lemmas.List.{same_lists}
 use Rattle.armus_base.specs.declared.ending.TaskEnd.{TaskEnd}
 use Rattle.armus_base.specs.declared.ending.TaskEnd.TheVariants.{Blocked, Done, Refused, Unforked}
 use Rattle.armus_base.specs.declared.event.Event.{Event}
@@ -19,7 +19,7 @@ use Rattle.pl_syntax.proofs.OneListOfOffsets.{one_list_of_offsets}
 use Rattle.origins.specs.Origins.{op_origin, phaser_origins, statement_in, written_statements}
 use Rattle.origins.specs.Turns.{op_turns}
 use Rattle.text_places.specs.declared.place.TextPlace.{TextPlace}
-use Rattle.accounts.specs.Accounts.{IsAccount, IsLayout, IsTaskAccount, IsWait, IsWaiting, Layout, drawn_of, ended_of, forked_of, placed_turns, statement_place, words_of}
+use Rattle.accounts.specs.Accounts.{IsLayout, IsTaskAccount, IsWait, IsWaiting, Layout, placed_turns, statement_place, words_of}
 use Rattle.accounts.specs.Laws.{OneAccount}
 use Rattle.accounts.specs.declared.account.Account.{Account}
 use Rattle.accounts.specs.declared.account.Drawn.{Drawn}

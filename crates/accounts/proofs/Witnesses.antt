@@ -1,5 +1,5 @@
 -- Who waits has the await of the text, and who is drawn has the name that stands there.
-use Rattle.std.proofs.Common.{◌≡◌, ℕ, suc, ◌+◌, ◌-◌, ◌<◌, ◌≤◌, List, [], ◌∷◌, ◌++◌, Option, Some, None, Ok, true, length, refl, sym, ap, subst, ◌∙◌, arith, length-append}
+use Rattle.std.proofs.Common.{◌≡◌, ℕ, suc, ◌-◌, List, [], ◌∷◌, Option, Some, None, Ok, true, length, refl, sym, ap, subst, ◌∙◌, arith, length-append}
 use Rattle.std.specs.Prelude.{option_map, slice_index_or}
 use Rattle.std.specs.List.{slice_get}
 use Rattle.armus_base.specs.declared.ending.TaskEnd.{TaskEnd}
@@ -8,26 +8,24 @@ use Rattle.armus_base.specs.declared.event.Event.{Event}
 use Rattle.armus_base.specs.declared.offset.Offset.{Offset}
 use Rattle.armus_base.specs.Finals.{end_of}
 use Rattle.armus_base.specs.Places.{state_at}
-use Rattle.armus_base.specs.Plans.{Plan, code_of}
+use Rattle.armus_base.specs.Plans.{Plan}
 use Rattle.armus_base.specs.Runs.{Place}
-use Rattle.pl_plan.specs.Unfolding.{Coming, Visit, a_fork, a_loop, a_plain, a_turn, plan_of}
+use Rattle.pl_plan.specs.Unfolding.{Coming, a_fork, a_loop, a_plain, a_turn, plan_of}
 use Rattle.pl_syntax.specs.BodyEnds.{AllEndAt, end_tokens}
 use Rattle.pl_syntax.specs.Grammar.{tokens}
 use Rattle.pl_syntax.specs.StatementOffsets.{AllBeginAt, statement_tokens}
 use Rattle.pl_syntax.specs.Tokens.{Token, sign, the_end}
-use Rattle.pl_syntax.specs.Tree.{Plain, Tree, adv, await, count, dereg, done, fork, loop, new_phaser, new_task, plain, reg, skip}
+use Rattle.pl_syntax.specs.Tree.{Tree, adv, await, count, dereg, done, fork, loop, new_phaser, new_task, plain, reg, skip}
 use Rattle.pl_syntax.specs.declared.token.Sign.TheVariants.{CloseBrace}
 use Rattle.pl_syntax.specs.declared.tree.Program.{Program}
-use Rattle.origins.specs.OriginLaws.{IsOfVisit, statement_of}
-use Rattle.origins.specs.Origins.{comes_to_task, op_origin, statement_in, task_origin, written_statements}
+use Rattle.origins.specs.OriginLaws.{statement_of}
+use Rattle.origins.specs.Origins.{comes_to_task, statement_in, written_statements}
 use Rattle.origins.proofs.MadeByVisits.{tasks_have_origins}
 use Rattle.origins.proofs.WrittenStatements.{visits_are_of_text}
-use Rattle.accounts.specs.Accounts.{IsAccount, IsLayout, IsTaskAccount, IsWait, IsWaiting, Layout, drawn_of, name_of, statement_place, words_of}
+use Rattle.accounts.specs.Accounts.{IsWait, Layout, drawn_of, name_of, statement_place, words_of}
 use Rattle.accounts.specs.AwaitWords.{await_text}
 use Rattle.accounts.specs.Laws.{DrawnHaveNames, StatementsHavePlaces, WaitersHaveAwaits}
-use Rattle.accounts.specs.declared.account.Account.{Account}
 use Rattle.accounts.specs.declared.account.Drawn.{Drawn}
-use Rattle.accounts.specs.declared.account.TaskAccount.{TaskAccount}
 use Rattle.accounts.specs.declared.account.Waiting.{Waiting}
 use Rattle.accounts.proofs.Awaiting.{waits_at_await}
 

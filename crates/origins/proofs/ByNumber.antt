@@ -1,15 +1,15 @@
 -- The body of a fork is that of the statement with its number.
-use Rattle.std.proofs.Common.{◌≡◌, ◌⊎◌, ℕ, zero, suc, ◌+◌, ◌-◌, ◌<◌, ◌≤◌, Option, Some, None, List, [], ◌∷◌, ◌++◌, length, get_or, refl, sym, ap, subst, ◌∙◌, arith, inl, inr}
+use Rattle.std.proofs.Common.{◌≡◌, ◌⊎◌, ℕ, zero, suc, ◌+◌, ◌-◌, ◌<◌, ◌≤◌, Option, Some, None, List, ◌∷◌, ◌++◌, length, get_or, refl, sym, ap, ◌∙◌, arith, inl, inr}
 use Rattle.std.specs.Borrow.{Bor}
 use Rattle.std.specs.Prelude.{MatchOption, if◌then◌else◌, option_map}
 use Rattle.std.specs.List.{slice_get}
-use Rattle.std.proofs.lemmas.Bool.{cases_eq, cases_lt, ne_eqb}
+use Rattle.std.proofs.lemmas.Bool.{cases_lt, ne_eqb}
 use Rattle.std.proofs.lemmas.List.{length-map}
 use Rattle.std.proofs.lemmas.Option.{slice_get-get_or, slice_get-map, slice_get_past}
 use Rattle.pl_syntax.specs.declared.tree.Body.{Body}
 use Rattle.pl_syntax.specs.declared.tree.Stmt.{Stmt}
 use Rattle.pl_syntax.specs.Tree.{Tree, count, done, fork, loop, plain}
-use Rattle.pl_plan.specs.Unfolding.{Coming, a_fork, a_loop, a_plain}
+use Rattle.pl_plan.specs.Unfolding.{Coming, a_fork, a_loop}
 use Rattle.pl_plan.proofs.Growth.{slice_get-append, slice_get-behind}
 use Rattle.origins.specs.Origins.{statement_in, written_statements}
 use Rattle.origins.specs.inside.Tables.{body_of, coming_of, comings_of, fork_body, forked_body}

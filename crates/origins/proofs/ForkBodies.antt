@@ -5,13 +5,12 @@ use Rattle.std.proofs.lemmas.Bool.{cases_eq, cases_lt, eq-eqb, le-leb, lt-leb, n
 use Rattle.std.proofs.lemmas.List.{drop_all, map-append}
 use Rattle.armus_base.specs.Pieces.{times}
 use Rattle.pl_syntax.specs.declared.tree.Stmt.{Stmt}
-use Rattle.pl_syntax.specs.declared.tree.Stmt.TheVariants as s
 use Rattle.pl_syntax.specs.Tree.{Tree, count, done, fork, loop, plain}
 use Rattle.pl_syntax.specs.Bodies.{followed_by, tree_of}
 use Rattle.pl_plan.specs.Unfolding.{Visit, a_turn, visit, visits_of}
 use Rattle.origins.specs.Origins.{last_or}
 use Rattle.origins.specs.inside.Tables.{forked_body, fork_body}
-use Rattle.origins.proofs.Statements.{IsAt, at_next, at_start, at_within, rest_is, visits_next}
+use Rattle.origins.proofs.Statements.{IsAt, at_next, at_start, at_within, visits_next}
 
 -- ---- the statements of visits, and the last of them
 

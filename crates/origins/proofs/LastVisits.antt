@@ -1,5 +1,5 @@
 -- The last visit of a body, where it has one.
-use Rattle.std.proofs.Common.{◌≡◌, ℕ, ◌+◌, Option, Some, None, List, [], ◌∷◌, refl, sym, ap, ◌∙◌, arith}
+use Rattle.std.proofs.Common.{◌≡◌, ℕ, Some, None, refl, ap, arith}
 use Rattle.pl_syntax.specs.Tree.{Tree, count, done, fork, loop, plain}
 use Rattle.pl_plan.specs.Unfolding.{visits_of}
 use Rattle.origins.specs.Origins.{last_of, last_or}

@@ -12,7 +12,7 @@ use Rattle.pl_syntax.specs.declared.tree.Stmt.{Stmt}
 use Rattle.pl_syntax.specs.declared.tree.Stmt.TheVariants as s
 use Rattle.pl_syntax.specs.Tree.{Tree, count, done, fork, loop, plain}
 use Rattle.pl_syntax.specs.Bodies.{followed_by, tree_of}
-use Rattle.pl_plan.specs.Unfolding.{Coming, Start, Visit, a_fork, a_loop, a_plain, a_turn, visit, visits_of}
+use Rattle.pl_plan.specs.Unfolding.{Start, Visit, a_fork, a_loop, a_plain, a_turn, visit, visits_of}
 use Rattle.pl_plan.proofs.Growth.{slice_get-append, slice_get-behind}
 use Rattle.origins.specs.declared.turns.LoopTurn.{LoopTurn}
 use Rattle.origins.specs.declared.seeking.Sought.TheVariants.{Found, Left}

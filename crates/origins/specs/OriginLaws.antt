@@ -9,7 +9,7 @@ use Rattle.armus_base.specs.declared.op.Op.{Op}
 use Rattle.armus_base.specs.declared.op.Op.TheVariants.{Make, Reg, Fork, Adv, Drop, Await}
 use Rattle.armus_base.specs.Plans.{Plan}
 use Rattle.pl_syntax.specs.declared.tree.Program.{Program}
-use Rattle.pl_syntax.specs.Tree.{Tree, new_phaser, reg, dereg, adv, await, done, plain, fork, loop}
+use Rattle.pl_syntax.specs.Tree.{Tree, new_phaser, reg, dereg, adv, await}
 use Rattle.pl_plan.specs.Folding.{drops_of}
 use Rattle.pl_plan.specs.Unfolding.{Coming, Start, Visit, a_fork, a_plain, phaser, plan_of, task, a_loop, a_turn}
 use Rattle.origins.specs.Turns.{TurnedVisit, turned_visits_of_task}

@@ -1,4 +1,4 @@
-use Rattle.std.proofs.Common.{◌≡◌, ◌∙◌, refl, sym, ap}
+use Rattle.std.proofs.Common.{◌∙◌, refl, sym, ap}
 use Rattle.pl_core.specs.Worlds.{places_of, state_of}
 use Rattle.origins.specs.Origins.{statement_in}
 use Rattle.accounts.specs.Accounts.{words_of}

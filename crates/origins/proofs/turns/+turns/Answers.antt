@@ -1,4 +1,4 @@
-use Rattle.std.proofs.Common.{◌≡◌, ◌++◌, ◌∙◌, refl, sym, ap, arith, append-nil}
+use Rattle.std.proofs.Common.{◌++◌, ◌∙◌, refl, sym, ap, arith, append-nil}
 use Rattle.std.specs.List.{slice_get}
 use Rattle.std.proofs.lemmas.Result.{on_ok_weaker}
 use Rattle.pl_syntax.specs.Bodies.{followed_by}
