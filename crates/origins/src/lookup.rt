@@ -182,7 +182,7 @@ impl<'p> Origins<'p> {
         if body.statements() == 0 {
             return None;
         }
-        Some(last_of_body(body, fork + 1, fork))
+        Some(last_of_body(body, fork + 1, 0))
     }
 
     /// The statement with this number, and none where there is no such statement.

@@ -27,5 +27,5 @@ pub returns : goal.returns
 returns c =
     let visits = visits_found c.args.program.now c.args.self.now.forks c.args.t.0 c.in_ok-fork.fork c.requires.origins.forks c.in_ok-fork.ensures
     c.in_ok-body.body.now c.in_ok-body.ensures in
-    has_last (c.in_ok-fork.fork + 1) c.in_ok-body.body.now c.in_ok-fork.fork c.last_of_body.result
+    has_last (c.in_ok-fork.fork + 1) c.in_ok-body.body.now 0 c.last_of_body.result
     (λ none. c.if-statements-eq0.false (c.statements.ensures ∙ none)) c.last_of_body.ensures ∙ sym (ap (λ ms. last_of (numbers_of ms)) visits)
