@@ -2,3 +2,4 @@ pub mod Awaiting
 pub mod Told
 pub mod OneAccount
 pub mod Witnesses
+pub mod Forkers

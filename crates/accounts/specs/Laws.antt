@@ -1,15 +1,16 @@
 -- What is proved of accounts.
-use Rattle.std.specs.Prelude.{◌≡◌, ℕ, suc, ◌<◌, Some, Ok, List, length, slice_index_or}
+use Rattle.std.specs.Prelude.{◌≡◌, ℕ, suc, ◌<◌, Some, Ok, List, MatchOption, length, slice_index_or}
 use Rattle.std.specs.List.{slice_get}
 use Rattle.armus_base.specs.declared.ending.TaskEnd.TheVariants.{Blocked}
 use Rattle.armus_base.specs.declared.event.Event.{Event}
 use Rattle.armus_base.specs.declared.offset.Offset.{Offset}
+use Rattle.armus_base.specs.CheckedPlans.{HasFork}
 use Rattle.armus_base.specs.Finals.{end_of}
 use Rattle.armus_base.specs.Places.{state_at}
-use Rattle.armus_base.specs.Plans.{Plan}
+use Rattle.armus_base.specs.Plans.{Plan, parent_of}
 use Rattle.armus_base.specs.Runs.{Place}
 use Rattle.pl_plan.specs.Unfolding.{a_plain, plan_of}
-use Rattle.pl_syntax.specs.Tree.{await, count, new_task}
+use Rattle.pl_syntax.specs.Tree.{AreNear, await, count, new_task}
 use Rattle.pl_syntax.specs.declared.tree.Program.{Program}
 use Rattle.origins.specs.Origins.{written_statements}
 use Rattle.accounts.specs.Accounts.{IsAccount, IsLayout, Layout, statement_place}
@@ -44,3 +45,10 @@ DrawnHaveNames =
     (t : ℕ) (d : TaskAccount) → suc t < length plan.parents →
     (drawn : Drawn) × (n : ℕ) × (x : List ℕ) × ((slice_index_or account.tasks (suc t) d).drawn ≡ Some drawn)
     × (slice_get (written_statements p.body) n ≡ Some (a_plain (new_task x))) × (drawn.name ≡ x) × (drawn.at ≡ statement_place known.layout (suc n))
+
+-- a task from 1 on is told to be forked just where the code of its parent forks it, and by this parent
+abbrev pub ForkersFork : Type 0
+ForkersFork =
+    (text : List ℕ) (p : Program) (plan : Plan) (a : ℕ → Place) (account : Account) → AreNear p.body → plan_of p ≡ Ok plan → IsAccount text p plan a account →
+    (t : ℕ) (d : TaskAccount) → 0 < t → t < length plan.parents →
+    MatchOption (slice_index_or account.tasks t d).fork (HasFork plan t → ⊥) (λ f. HasFork plan t × (f.by.0 ≡ parent_of plan t))

@@ -44,7 +44,7 @@ module _ (program : Program) where
       let is : start.body ≡ b = cc in
       ap (λ m. turned_visits m start.body) (sym n) ∙ ap (turned_visits (f + 1)) is
 
-  fork_by_start : (t : ℕ) → slice_index_or (fork_statements program) t None ≡ fork_of (start_of program t)
+  pub fork_by_start : (t : ℕ) → slice_index_or (fork_statements program) t None ≡ fork_of (start_of program t)
   fork_by_start t = by (cases_lt t (length (starts_of program)))
     where
       by : (t < length (starts_of program)) ⊎ (length (starts_of program) ≤ t) → slice_index_or (fork_statements program) t None ≡ fork_of (start_of program t)
