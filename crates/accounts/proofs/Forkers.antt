@@ -1,24 +1,19 @@
 -- Who is told to be forked is forked by the task that drew it.
-use Rattle.std.proofs.Common.{◌≡◌, ℕ, suc, ◌<◌, List, Option, Some, None, Ok, length, refl, sym, ap, subst, ◌∙◌, arith}
+use Rattle.std.proofs.Common.{◌≡◌, ℕ, Option, Some, None, refl, sym, ap, subst, ◌∙◌}
 use Rattle.std.specs.Prelude.{MatchOption, slice_get, slice_index_or}
 use Rattle.std.proofs.lemmas.Option.{get_or_from_slice_get}
-use Rattle.armus_base.specs.CheckedPlans.{HasFork, IsCheckedPlan}
+use Rattle.armus_base.specs.CheckedPlans.{HasFork}
 use Rattle.armus_base.specs.Plans.{Plan, number_or_zero, parent_of}
-use Rattle.armus_base.specs.Runs.{Place}
 use Rattle.armus_base.specs.declared.ids.TaskId.{TaskId}
 use Rattle.pl_plan.specs.Forks.{fork_of}
-use Rattle.pl_plan.specs.Unfolding.{Start, plan_of}
+use Rattle.pl_plan.specs.Unfolding.{Start}
 use Rattle.pl_plan.proofs.ForkedByParents.{forked_is_started, started_is_forked}
 use Rattle.pl_plan.proofs.UnfoldedIsChecked.{unfolded_is_checked}
-use Rattle.pl_syntax.specs.Tree.{AreNear}
-use Rattle.pl_syntax.specs.declared.tree.Program.{Program}
-use Rattle.origins.specs.Origins.{fork_origin, start_of}
+use Rattle.origins.specs.Origins.{start_of}
 use Rattle.origins.proofs.TasksVisits.{fork_by_start}
-use Rattle.accounts.specs.Accounts.{IsAccount, Layout, forked_by, forked_of}
+use Rattle.accounts.specs.Accounts.{Layout, forked_by}
 use Rattle.accounts.specs.Laws.{ForkersFork}
-use Rattle.accounts.specs.declared.account.Account.{Account}
 use Rattle.accounts.specs.declared.account.Forked.{Forked}
-use Rattle.accounts.specs.declared.account.TaskAccount.{TaskAccount}
 
 -- what is told, by its start and its parent
 told :

@@ -1,5 +1,5 @@
 -- A task has a start just where the code of its parent forks it.
-use Rattle.std.proofs.Common.{◌≡◌, ℕ, ◌<◌, Bool, true, false, Option, Some, None, Ok, Err, refl, sym, ap, subst, ◌∙◌}
+use Rattle.std.proofs.Common.{◌≡◌, ℕ, ◌<◌, Some, None, Ok, Err, ap, subst}
 use Rattle.std.specs.Prelude.{is_some, slice_index_or}
 use Rattle.armus_base.specs.CheckedPlans.{HasFork}
 use Rattle.armus_base.specs.Limits.{max_tasks}
