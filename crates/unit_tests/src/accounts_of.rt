@@ -8,7 +8,7 @@ ghost use Rattle.pl_syntax.specs.Tree.{count};
 use crate::explanations::{is_quiet, run};
 use crate::row_texts::{are_bytes_of, bytes_of};
 use accounts::{
-    Account, TaskAccount, Waiting, account_of, one_account, statements_have_places,
+    Account, TaskAccount, Waiting, account_of, forkers_fork, one_account, statements_have_places,
     tasks_are_of_text,
 };
 use armus_base::{NoMemory, Plan};
@@ -27,7 +27,7 @@ const ROWS: &str = "\
 skip;~|t0: end 2:1 last 1:1~\n\
 pc = newPhaser();\r~pb = newPhaser();\r~loop 3 {\r~\tt = newTid();\r~\treg(t, pc);\r~\treg(t, pb);\r~\tfork(t) {\r~\t\tloop 2 {\r~\t\t\tadv(pc); await(pc);\r~\t\t}\r~\t\tdereg(pc); dereg(pb);\r~\t}\r~}\r~adv(pb);\r~await(pb);\r~|p0: 1:1~p1: 2:1~t0: end 16:1 last 15:1 wait 15:1 await(pb) p1@1 1~t1: t 4:2 fork 7:2 t0 end 12:2 last 11:14 wait 9:13 await(pc) p0@1 1 1@8:3~t2: t 4:2 fork 7:2 t0 end 12:2 last 11:14 wait 9:13 await(pc) p0@1 1 1@8:3~t3: t 4:2 fork 7:2 t0 end 12:2 last 11:14 wait 9:13 await(pc) p0@1 1 1@8:3~\n\
 pl 2; p = newPhaser(); a = newTid(); reg(a, p); fork(a) { } b = newTid();~c = newTid(); reg(c, p); fork(c) { loop 0 { skip; } }~loop 2 { skip; loop 3 { loop 0 { adv(p); } adv(p); await(p - 2); } loop 1 { } }~await(p + 7);|p0: 1:7~t0: end 4:14 last 4:1 wait 4:1 await(p + 7) p0@13 6~t1: a 1:24 fork 1:49 t0 end 1:59~t2: b 1:61~t3: c 2:1 fork 2:26 t0 end 2:53 last 2:36~\n\
-p = newPhaser(); //@\t x.c:7 \t\r~loop 3 {~t = newTid(); reg(t, p); fork(t) { //@ a/b.c:9~adv(p); await(p); // no //@ q.c:1~} //@ end!:3~} //@no~adv(p); await(p); //@ 9:9 x~await(p); //@ 7~|p0: x.c:7~t0: end 7 last 7~t1: t a/b.c:9 fork a/b.c:9 t0 end end!:3 last 4:9~t2: t a/b.c:9 fork a/b.c:9 t0 end end!:3 last 4:9~t3: t a/b.c:9 fork a/b.c:9 t0 end end!:3 last 4:9~\n\
+p = newPhaser(); //@\t x.c:7 \t\r~loop 3 {~t = newTid(); reg(t, p); fork(t) { //@ a/b.c:9~adv(p); await(p); // no //@ q.c:1~} //@ end!:3~} //@no~adv(p); await(p); //@ 9:9 x~await(p); //@ 7~|p0: x.c:7~t0: end 9:1 last 7~t1: t a/b.c:9 fork a/b.c:9 t0 end end!:3 last 4:9~t2: t a/b.c:9 fork a/b.c:9 t0 end end!:3 last 4:9~t3: t a/b.c:9 fork a/b.c:9 t0 end end!:3 last 4:9~\n\
 ";
 
 // Appends a place, behind a word.
@@ -172,6 +172,7 @@ fn accounts_of_texts(rt: HostRuntime) -> Result<(), Fail> {
 
 #[test]
 fn laws_of_accounts_are_called() {
+    forkers_fork();
     one_account();
     statements_have_places();
     tasks_are_of_text();
