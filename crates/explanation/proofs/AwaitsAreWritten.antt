@@ -5,7 +5,7 @@ use Rattle.std.specs.List.{slice_get}
 use Rattle.std.proofs.lemmas.List.{map-append}
 use Rattle.pl_syntax.specs.Tree.{Tree, await, done, fork, loop, plain}
 use Rattle.pl_plan.specs.Unfolding.{Coming, a_plain}
-use Rattle.origins.specs.OriginLaws.{written_statements}
+use Rattle.origins.specs.Origins.{written_statements}
 use Rattle.origins.proofs.WrittenStatements.{awaits_come_from_awaits}
 use Rattle.explanation.specs.AwaitWords.{awaits_of, words_of_plain}
 use Rattle.explanation.specs.Laws.{AwaitsAreWritten}

@@ -5,13 +5,12 @@ use Rattle.std.proofs.lemmas.Bool.{cases_eq, cases_lt, eq-eqb, le-leb, lt-leb, n
 use Rattle.std.proofs.lemmas.List.{drop_all, map-append}
 use Rattle.armus_base.specs.Pieces.{times}
 use Rattle.pl_syntax.specs.declared.tree.Stmt.{Stmt}
-use Rattle.pl_syntax.specs.declared.tree.Stmt.TheVariants as s
 use Rattle.pl_syntax.specs.Tree.{Tree, count, done, fork, loop, plain}
 use Rattle.pl_syntax.specs.Bodies.{followed_by, tree_of}
 use Rattle.pl_plan.specs.Unfolding.{Visit, a_turn, visit, visits_of}
 use Rattle.origins.specs.Origins.{last_or}
 use Rattle.origins.specs.inside.Tables.{forked_body, fork_body}
-use Rattle.origins.proofs.Statements.{IsAt, at_next, at_start, at_within, rest_is, visits_next}
+use Rattle.origins.proofs.Statements.{IsAt, at_next, at_start, at_within, visits_next}
 
 -- ---- the statements of visits, and the last of them
 
@@ -153,82 +152,6 @@ found_inside (fork x body rest) b n f e =
     in_fork n f x body rest b (λ g. found_inside body b (n + 1) f g) (λ g. found_inside rest b (n + 1 + count body) f g) e
 found_inside (loop k body rest) b n f e =
     in_loop n f k body rest b (λ g. found_inside body b (n + 1) f g) (λ g. found_inside rest b (n + 1 + count body) f g) e
-
--- ---- statement by statement
-
--- a fork that is not behind the first statement
-first_only : (q : Stmt) (rest : Tree) (n f : ℕ) → f < n + count (followed_by q done) → fork_body n (followed_by q rest) f ≡ fork_body n (followed_by q done) f
-first_only (s.NewTask x) rest n f lt = none_before rest (n + 1) f lt
-first_only (s.NewPhaser x) rest n f lt = none_before rest (n + 1) f lt
-first_only (s.Reg x y) rest n f lt = none_before rest (n + 1) f lt
-first_only (s.Dereg x) rest n f lt = none_before rest (n + 1) f lt
-first_only (s.Adv x) rest n f lt = none_before rest (n + 1) f lt
-first_only (s.Await x off) rest n f lt = none_before rest (n + 1) f lt
-first_only s.Skip rest n f lt = none_before rest (n + 1) f lt
-first_only (s.Fork x body) rest n f lt = by (cases_eq n f)
-  where
-    by : (n ≡ f) ⊎ (n ≡ f → ⊥) → fork_body n (fork x body rest) f ≡ fork_body n (fork x body done) f
-    by (inl same) = fork_here n f x body rest same ∙ sym (fork_here n f x body done same)
-    by (inr other) = fork_inside n f x body rest other (omega (arith, lt)) ∙ sym (fork_inside n f x body done other (omega (arith, lt)))
-first_only (s.Loop k body) rest n f lt = loop_inside n f k body rest (omega (arith, lt)) ∙ sym (loop_inside n f k body done (omega (arith, lt)))
-
--- one that is
-behind_first : (q : Stmt) (rest : Tree) (n f : ℕ) → n + count (followed_by q done) ≤ f →
-    fork_body n (followed_by q rest) f ≡ fork_body (n + count (followed_by q done)) rest f
-behind_first (s.NewTask x) rest n f le = refl
-behind_first (s.NewPhaser x) rest n f le = refl
-behind_first (s.Reg x y) rest n f le = refl
-behind_first (s.Dereg x) rest n f le = refl
-behind_first (s.Adv x) rest n f le = refl
-behind_first (s.Await x off) rest n f le = refl
-behind_first s.Skip rest n f le = refl
-behind_first (s.Fork x body) rest n f le =
-    fork_behind n f x body rest (omega (arith, le))
-    ∙ ap (λ m. fork_body m rest f) (let e : n + 1 + count body ≡ n + count (followed_by (s.Fork x body) done) = omega arith in e)
-behind_first (s.Loop k body) rest n f le =
-    loop_behind n f k body rest (omega (arith, le))
-    ∙ ap (λ m. fork_body m rest f) (let e : n + 1 + count body ≡ n + count (followed_by (s.Loop k body) done) = omega arith in e)
-
--- the fork is found from the j-th statement on
-pub record FindsOn (items : List Stmt) (j : ℕ) (body : Tree) (n f at : ℕ) : Type 0 where
-  pub numbers : IsAt items j body n at
-  pub same : fork_body at (tree_of (drop j items)) f ≡ fork_body n body f
-
-pub finds_start : (items : List Stmt) (body : Tree) (n f : ℕ) → tree_of items ≡ body → FindsOn items 0 body n f n
-finds_start items body n f e = record { numbers = at_start items body n e; same = ap (λ b. fork_body n b f) e }
-
-module _ (items : List Stmt) (j : ℕ) (body : Tree) (n f at : ℕ) (q : Stmt) (lt : j < length items) (is : q ≡ get_or items j q) (h : FindsOn items j body n f at) where
-  pub finds_within : at + count (followed_by q done) ≤ n + count body
-  finds_within = at_within items j body n at q lt is h.numbers
-
-  pub finds_here : (many : ℕ) → many ≡ count (followed_by q done) → f < at + many → fork_body at (followed_by q done) f ≡ fork_body n body f
-  finds_here many all here =
-      sym (first_only q (tree_of (drop (j + 1) items)) at f (subst (λ m. f < at + m) all here)) ∙ sym (ap (λ b. fork_body at b f) (rest_is items j q lt is)) ∙ h.same
-
-  pub finds_next : (many : ℕ) → many ≡ count (followed_by q done) → at + many ≤ f → FindsOn items (j + 1) body n f (at + many)
-  finds_next many all behind = subst (λ m. FindsOn items (j + 1) body n f (at + m)) (sym all) (record {
-    numbers = at_next items j body n at q lt is h.numbers;
-    same = sym (behind_first q (tree_of (drop (j + 1) items)) at f (subst (λ m. at + m ≤ f) all behind)) ∙ sym (ap (λ b. fork_body at b f) (rest_is items j q lt is)) ∙ h.same;
-  })
-
-pub finds_end : (items : List Stmt) (j : ℕ) (body : Tree) (n f at : ℕ) → length items ≤ j → FindsOn items j body n f at → fork_body n body f ≡ None
-finds_end items j body n f at le h = sym h.same ∙ ap (λ (ts : List Stmt). fork_body at (tree_of ts) f) (drop_all j items le)
-
--- ---- a statement with a body, alone
-
-pub fork_alone : (n f : ℕ) (x : List ℕ) (body : Tree) → (n ≡ f → ⊥) → fork_body n (fork x body done) f ≡ fork_body (n + 1) body f
-fork_alone n f x body other = by (cases_lt (n + count body) f)
-  where
-    by : (n + count body < f) ⊎ (f ≤ n + count body) → fork_body n (fork x body done) f ≡ fork_body (n + 1) body f
-    by (inl behind) = fork_behind n f x body done behind ∙ sym (none_behind body (n + 1) f (omega (arith, behind)))
-    by (inr inside) = fork_inside n f x body done other inside
-
-pub loop_alone : (n f k : ℕ) (body : Tree) → fork_body n (loop k body done) f ≡ fork_body (n + 1) body f
-loop_alone n f k body = by (cases_lt (n + count body) f)
-  where
-    by : (n + count body < f) ⊎ (f ≤ n + count body) → fork_body n (loop k body done) f ≡ fork_body (n + 1) body f
-    by (inl behind) = loop_behind n f k body done behind ∙ sym (none_behind body (n + 1) f (omega (arith, behind)))
-    by (inr inside) = loop_inside n f k body done inside
 
 -- a body that is found has its numbers within those of the program
 pub body_within : (whole b : Tree) (f : ℕ) → forked_body whole f ≡ Some b → f + 1 + count b ≤ 1 + count whole

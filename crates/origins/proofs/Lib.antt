@@ -8,3 +8,7 @@ pub mod CodesOfVisits
 pub mod Growing
 pub mod MadeByVisits
 pub mod WrittenStatements
+pub mod NotingStatements
+pub mod ByNumber
+pub mod LastVisits
+pub mod TurnedVisits

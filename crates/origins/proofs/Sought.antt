@@ -50,7 +50,7 @@ get_times (suc a) (suc k) xs j n lt e =
     ap (slice_get (xs ++ times k xs)) (let z : suc a * length xs + j ≡ length xs + (a * length xs + j) = omega arith in z)
     ∙ get_right xs (times k xs) (a * length xs + j) ∙ get_times a k xs j n (omega (arith, lt)) e
 
-turns_below : (a k m : ℕ) → a * m < k * m → a < k
+pub turns_below : (a k m : ℕ) → a * m < k * m → a < k
 turns_below a k m lt = elim (cases_lt a k) [ inl below ↦ below | inr above ↦ absurd (let e = mul-le-mul_right m above in omega (arith, e, lt)) ]
 
 -- the op is among the turns, where a turn has some op and there are so many turns

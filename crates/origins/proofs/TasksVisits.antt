@@ -10,6 +10,7 @@ use Rattle.pl_syntax.specs.Tree.{Tree}
 use Rattle.pl_plan.specs.Forks.{fork_of, fork_statements, starts_of}
 use Rattle.pl_plan.specs.Unfolding.{Coming, Start, visits_of}
 use Rattle.origins.specs.Origins.{last_statement, last_or, start_of, statements_of_all, statements_where, visits_by}
+use Rattle.origins.specs.Turns.{turned_by, turned_visits}
 use Rattle.origins.specs.inside.Tables.{forked_body, visits_at, visits_by_fork}
 use Rattle.origins.proofs.BodiesStand.{StandsAt, start_stands}
 use Rattle.origins.proofs.ForkBodies.{numbers_of}
@@ -33,7 +34,17 @@ module _ (program : Program) where
       let there : forked_body program.body f ≡ Some start.body = ap (forked_body program.body) z ∙ h.1 in
       cc
 
-  fork_by_start : (t : ℕ) → slice_index_or (fork_statements program) t None ≡ fork_of (start_of program t)
+  turned_same :
+      (o : Option Start) (f : ℕ) (b : Tree) → StandsAt program.body o → Some f ≡ fork_of o → forked_body program.body f ≡ Some b → turned_by o ≡ turned_visits (f + 1) b
+  turned_same None f b h e there = absurd (cc)
+  turned_same (Some start) f b h e there =
+      let z : f ≡ start.first - 1 = cc in
+      let n : f + 1 ≡ start.first = omega (arith, z, h.0.numbered) in
+      let same : Some start.body ≡ Some b = sym (ap (forked_body program.body) z ∙ h.1) ∙ there in
+      let is : start.body ≡ b = cc in
+      ap (λ m. turned_visits m start.body) (sym n) ∙ ap (turned_visits (f + 1)) is
+
+  pub fork_by_start : (t : ℕ) → slice_index_or (fork_statements program) t None ≡ fork_of (start_of program t)
   fork_by_start t = by (cases_lt t (length (starts_of program)))
     where
       by : (t < length (starts_of program)) ⊎ (length (starts_of program) ≤ t) → slice_index_or (fork_statements program) t None ≡ fork_of (start_of program t)
@@ -50,6 +61,10 @@ module _ (program : Program) where
     pub visits_found : (b : Tree) → forked_body program.body f ≡ Some b → visits_by (start_of program t) ≡ visits_of (f + 1) b
     visits_found b e =
         sym (visits_same (start_of program t) (start_stands program t)) ∙ ap (visits_by_fork program) (sym started) ∙ ap (visits_at (f + 1)) e
+
+    -- the same with their turns
+    pub turned_found : (b : Tree) → forked_body program.body f ≡ Some b → turned_by (start_of program t) ≡ turned_visits (f + 1) b
+    turned_found b e = turned_same (start_of program t) f b (start_stands program t) started e
 
     pub end_found : (b : Tree) (last : ℕ) → forked_body program.body f ≡ Some b → last ≡ last_or f (numbers_of (visits_of (f + 1) b)) →
         Some last ≡ last_statement (start_of program t)

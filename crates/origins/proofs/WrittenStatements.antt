@@ -10,8 +10,8 @@ use Rattle.armus_base.specs.declared.op.Op.TheVariants.{Await, Drop}
 use Rattle.pl_syntax.specs.declared.tree.Program.{Program}
 use Rattle.pl_syntax.specs.Tree.{Plain, Tree, await, count, done, fork, loop, plain}
 use Rattle.pl_plan.specs.Unfolding.{Coming, Start, Visit, a_fork, a_loop, a_plain, a_turn, phaser, visit, visits_of}
-use Rattle.origins.specs.Origins.{op_origin, start_of, visits_by, visits_of_task}
-use Rattle.origins.specs.OriginLaws.{AwaitsComeFromAwaits, ComesFrom, MakesOp, VisitsAreOfText, statement_of, written_statements}
+use Rattle.origins.specs.Origins.{op_origin, start_of, visits_by, visits_of_task, written_statements}
+use Rattle.origins.specs.OriginLaws.{AwaitsComeFromAwaits, ComesFrom, MakesOp, VisitsAreOfText, statement_of}
 use Rattle.origins.specs.OriginLaws as law
 use Rattle.origins.specs.inside.Tables.{fork_body, forked_body}
 use Rattle.origins.proofs.BodiesStand.{StandsAt, start_stands}
@@ -19,7 +19,7 @@ use Rattle.origins.proofs.CodesOfVisits.{ops_have_origins}
 use Rattle.origins.proofs.ForkBodies.{fork_behind, fork_here, fork_inside, loop_behind, loop_inside}
 use Rattle.origins.proofs.MadeByVisits.{get_behind}
 
-count_written : (tree : Tree) → length (written_statements tree) ≡ count tree
+pub count_written : (tree : Tree) → length (written_statements tree) ≡ count tree
 count_written done = refl
 count_written (plain s rest) = omega (arith, count_written rest)
 count_written (fork x body rest) =

@@ -1,5 +1,6 @@
 -- What a reader of the repository has to believe.
 pub mod Origins
+pub mod Turns
 pub mod OriginTables
 -- What is proved of it.
 pub mod OriginLaws

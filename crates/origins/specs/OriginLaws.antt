@@ -9,10 +9,11 @@ use Rattle.armus_base.specs.declared.op.Op.{Op}
 use Rattle.armus_base.specs.declared.op.Op.TheVariants.{Make, Reg, Fork, Adv, Drop, Await}
 use Rattle.armus_base.specs.Plans.{Plan}
 use Rattle.pl_syntax.specs.declared.tree.Program.{Program}
-use Rattle.pl_syntax.specs.Tree.{Tree, new_phaser, reg, dereg, adv, await, done, plain, fork, loop}
+use Rattle.pl_syntax.specs.Tree.{Tree, new_phaser, reg, dereg, adv, await}
 use Rattle.pl_plan.specs.Folding.{drops_of}
 use Rattle.pl_plan.specs.Unfolding.{Coming, Start, Visit, a_fork, a_plain, phaser, plan_of, task, a_loop, a_turn}
-use Rattle.origins.specs.Origins.{comes_to_op, op_origin, start_of, visits_by, visits_of_task, comes_to_phaser, comes_to_task, phaser_origin, task_origin, statements_where}
+use Rattle.origins.specs.Turns.{TurnedVisit, turned_visits_of_task}
+use Rattle.origins.specs.Origins.{comes_to_op, op_origin, start_of, visits_by, visits_of_task, comes_to_phaser, comes_to_task, phaser_origin, task_origin, statements_where, written_statements}
 
 -- ---- ops
 
@@ -109,13 +110,6 @@ TasksHaveOrigins =
 
 -- ---- the statements of the text
 
--- all statements, in order of number, each as it is come to
-abbrev pub written_statements : Tree → List Coming
-written_statements done = []
-written_statements (plain s rest) = a_plain s ∷ written_statements rest
-written_statements (fork x body rest) = a_fork x body ∷ (written_statements body ++ written_statements rest)
-written_statements (loop k body rest) = a_loop ∷ (written_statements body ++ written_statements rest)
-
 -- the statement that is come to: that of a turn is its loop
 abbrev pub statement_of : Coming → Coming
 statement_of a_turn = a_loop
@@ -133,3 +127,9 @@ AwaitsComeFromAwaits =
     (program : Program) (plan : Plan) → plan_of program ≡ Ok plan → (t i : ℕ) (p : PhaserId) (off : Offset) →
     slice_get (slice_index_or plan.codes t []) i ≡ Some (Await p off) →
     (n : ℕ) × (x : List ℕ) × (op_origin program t i ≡ Some (suc n)) × (slice_get (written_statements program.body) n ≡ Some (a_plain (await x off)))
+
+-- ---- turns
+
+-- the visits of a task with their turns are its visits; so op i with its turns is op i
+abbrev pub TurnsAreOfVisits : Type 0
+TurnsAreOfVisits = (program : Program) (t : ℕ) → map (λ (v : TurnedVisit). v.visit) (turned_visits_of_task program t) ≡ visits_of_task program t

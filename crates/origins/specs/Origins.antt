@@ -1,9 +1,9 @@
 -- From which statements the ops, the phasers and the tasks of a program's plan come: each from that of the visit that makes it.
 -- Statements are told by their numbers, from 1 in the order in which they stand in the text.
-use Rattle.std.specs.Prelude.{ℕ, zero, suc, ◌-◌, Bool, true, false, List, [], ◌∷◌, map, filter, slice_index_or, Option, Some, None}
+use Rattle.std.specs.Prelude.{ℕ, zero, suc, ◌-◌, ◌++◌, Bool, true, false, List, [], ◌∷◌, map, filter, slice_index_or, Option, Some, None}
 use Rattle.std.specs.List.{flat_map, slice_get}
 use Rattle.pl_syntax.specs.declared.tree.Program.{Program}
-use Rattle.pl_syntax.specs.Tree.{new_phaser, new_task}
+use Rattle.pl_syntax.specs.Tree.{Tree, done, fork, loop, new_phaser, new_task, plain}
 use Rattle.pl_plan.specs.Unfolding.{Coming, Start, Visit, a_fork, a_loop, a_plain, a_turn, visits_of}
 use Rattle.pl_plan.specs.FoldedOps.{makes_op}
 use Rattle.pl_plan.specs.Forks.{fork_statements, starts_of}
@@ -90,6 +90,15 @@ abbrev pub last_or : ℕ → List ℕ → ℕ
 last_or n [] = n
 last_or n (m ∷ ms) = last_or m ms
 
+-- the last of these numbers, if there is one
+abbrev pub last_of : List ℕ → Option ℕ
+last_of [] = None
+last_of (n ∷ ns) = Some (last_or n ns)
+
+-- the statement of the last visit of task t; none where it has no visit
+abbrev pub last_origin : Program → ℕ → Option ℕ
+last_origin program t = last_of (map (λ (m : Visit). m.statement) (visits_of_task program t))
+
 -- the statement at which a task ends, by its start: that of its last visit, or where it has none, that of its fork
 abbrev pub last_statement : Option Start → Option ℕ
 last_statement None = None
@@ -98,3 +107,17 @@ last_statement (Some start) = Some (last_or (start.first - 1) (map (λ (m : Visi
 -- the statement at which task t ends; none for one that is not forked
 abbrev pub end_origin : Program → ℕ → Option ℕ
 end_origin program t = last_statement (start_of program t)
+
+-- ---- the statements of the text
+
+-- all statements, in order of number, each as it is come to
+abbrev pub written_statements : Tree → List Coming
+written_statements done = []
+written_statements (plain s rest) = a_plain s ∷ written_statements rest
+written_statements (fork x body rest) = a_fork x body ∷ (written_statements body ++ written_statements rest)
+written_statements (loop k body rest) = a_loop ∷ (written_statements body ++ written_statements rest)
+
+-- the statement with this number, if there is one: they are counted from 1
+abbrev pub statement_in : List Coming → ℕ → Option Coming
+statement_in statements zero = None
+statement_in statements (suc n) = slice_get statements n

@@ -1,61 +1,49 @@
 // The body of a fork, and where a body ends.
 
-ghost use Rattle.std.specs.Prelude.{◌≡◌, ℕ, ◌+◌, ◌<◌, ◌^◌, map, None, Some, MatchOption};
+ghost use Rattle.std.specs.Prelude.{◌≡◌, ℕ, ◌+◌, ◌<◌, ◌^◌, map, None, Some, MatchOption, option_map};
 ghost use Rattle.armus_base.specs.Pieces.{times};
 ghost use Rattle.pl_syntax.specs.Tree.{count, done};
 ghost use Rattle.pl_syntax.specs.Bodies.{followed_by};
 ghost use Rattle.pl_plan.specs.Unfolding.{Visit, visits_of};
-ghost use Rattle.origins.specs.Origins.{last_or};
-ghost use Rattle.origins.specs.inside.Tables.{fork_body, forked_body};
+ghost use Rattle.origins.specs.Origins.{last_or, statement_in, written_statements};
+ghost use Rattle.origins.specs.inside.Tables.{body_of, coming_of, comings_of, forked_body};
 
 use crate::statement::statements_in;
 use pl_syntax::{Body, Program, Stmt};
 
-// The body of the fork with this number, in a statement with number n.
-#[cycle(find)]
-fn body_in_statement(stmt: &Stmt, n: u32, fork: u32) -> Option<&Body>
-    requires { n + count (followed_by stmt.now done) < 2 ^ 32 }
-    ensures { MatchOption result (fork_body n (followed_by stmt.now done) fork ≡ None) (λ b. fork_body n (followed_by stmt.now done) fork ≡ Some b.now) }
+// The statement with this number, from 1 on.
+pub(crate) fn statement_at<'p>(statements: &[&'p Stmt], n: u32) -> Option<&'p Stmt>
+    ensures { option_map (λ stmt. coming_of stmt.now) result ≡ statement_in (comings_of statements.now) n }
+{
+    if n == 0 || n as usize > statements.len() {
+        return None;
+    }
+    Some(statements[n as usize - 1])
+}
+
+// The body of a statement, where it is a fork.
+fn body_of(stmt: &Stmt) -> Option<&Body>
+    ensures { option_map (λ body. body.now) result ≡ body_of (Some (coming_of stmt.now)) }
 {
     match stmt {
-        Stmt::Fork { x: _, body } => {
-            if n == fork {
-                return Some(body);
-            }
-            body_of_fork(body, n + 1, fork)
-        }
-        Stmt::Loop { k: _, body } => body_of_fork(body, n + 1, fork),
+        Stmt::Fork { x: _, body } => Some(body),
         _ => None,
     }
 }
 
-// The same among the statements of a body of which the first one has number n.
-#[cycle(find)]
-fn body_of_fork(body: &Body, n: u32, fork: u32) -> Option<&Body>
-    requires { n + count body.now < 2 ^ 32 }
-    ensures { MatchOption result (fork_body n body.now fork ≡ None) (λ b. fork_body n body.now fork ≡ Some b.now) }
-{
-    let mut at = n;
-    for stmt in body.as_slice() {
-        let many = statements_in(stmt);
-        if fork < at + many {
-            return body_in_statement(stmt, at, fork);
-        }
-        at += many;
-    }
-    None
-}
-
 // The body of the fork with this number; for 0 the whole program.
-pub(crate) fn body_at(program: &Program, fork: u32) -> Option<&Body>
-    requires { count program.now.body + 1 < 2 ^ 32 }
+pub(crate) fn body_at<'p>(
+    program: &'p Program,
+    statements: &[&'p Stmt],
+    fork: u32,
+) -> Option<&'p Body>
+    requires { comings_of statements.now ≡ written_statements program.now.body }
     ensures { MatchOption result (forked_body program.now.body fork ≡ None) (λ b. forked_body program.now.body fork ≡ Some b.now) }
 {
     if fork == 0 {
-        Some(&program.body)
-    } else {
-        body_of_fork(&program.body, 1, fork)
+        return Some(&program.body);
     }
+    body_of(statement_at(statements, fork)?)
 }
 
 // The statement of the last visit of a statement with number n.

@@ -1,6 +1,6 @@
 // The laws of origins: each is the contract of a function with an empty body.
 
-ghost use Rattle.origins.specs.OriginLaws.{AwaitsComeFromAwaits, CodesAreOfVisits, MakersAreOfVisits, OpsHaveOrigins, OriginsHaveOps, ParentsAreOfVisits, PhasersHaveOrigins, TasksHaveOrigins, VisitsAreOfText};
+ghost use Rattle.origins.specs.OriginLaws.{AwaitsComeFromAwaits, CodesAreOfVisits, MakersAreOfVisits, OpsHaveOrigins, OriginsHaveOps, ParentsAreOfVisits, PhasersHaveOrigins, TasksHaveOrigins, TurnsAreOfVisits, VisitsAreOfText};
 
 /// Each code of a program's plan is made by its task's visits, op by op, each visit the op of its statement; behind these stand the Drops of the task's end, of
 /// which it has some in PL 2 alone. So each op has its origin, which is the statement of the visit that makes it, or is one of the end and has none; and each
@@ -20,8 +20,10 @@ pub fn phasers_and_tasks_have_origins()
     ensures tasks { TasksHaveOrigins }
 {}
 
-/// Each visit is a coming to the statement that stands in the text at its number. So an Await comes from an `await`, with its offset.
+/// Each visit is a coming to the statement that stands in the text at its number. So an Await comes from an `await`, with its offset. And the
+/// visits with the turns of loops in which they are made are the visits.
 pub fn visits_are_of_text()
     ensures visits { VisitsAreOfText }
     ensures awaits { AwaitsComeFromAwaits }
+    ensures turns { TurnsAreOfVisits }
 {}

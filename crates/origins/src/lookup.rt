@@ -1,55 +1,68 @@
 // The origins of a program's plan.
 
-ghost use Rattle.std.specs.Prelude.{◌≡◌, ◌+◌, ◌<◌, ◌^◌, ◌++◌, slice_index_or, IfOk, OnOk, None};
+ghost use Rattle.std.specs.Prelude.{◌≡◌, ◌+◌, ◌<◌, ◌^◌, ◌++◌, slice_index_or, IfOk, OnOk, None, option_map};
 ghost use Rattle.std.specs.List.{slice_get};
 ghost use Rattle.pl_syntax.specs.Tree.{count};
 ghost use Rattle.pl_plan.specs.Forks.{fork_statements};
-ghost use Rattle.origins.specs.Origins.{drawing_statement, end_origin, op_origin, statements_of_all, statements_where};
+ghost use Rattle.origins.specs.Origins.{drawing_statement, end_origin, last_origin, op_origin, statement_in, statements_of_all, statements_where, written_statements};
 ghost use Rattle.origins.specs.OriginTables.{AreOrigins};
-ghost use Rattle.origins.specs.inside.Tables.{makes_it, visits_by_fork};
+ghost use Rattle.origins.specs.Turns.{op_turns};
+ghost use Rattle.origins.specs.inside.Tables.{coming_of, comings_of, makes_it, visits_by_fork};
 
-use crate::bodies::{body_at, last_of_body};
+use crate::bodies::{body_at, last_of_body, statement_at};
 use crate::making::{Made, push_of_body};
 use crate::seeking::{Sought, seek_in_body};
-use armus_base::{NoMemory, PhaserId, TaskId};
-use pl_syntax::Program;
+use crate::table::statements_of;
+use crate::turns::{LoopTurn, put_turns};
+use armus_base::{List, NoMemory, PhaserId, TaskId};
+use pl_syntax::{Program, Stmt};
 use std::alloc::Global;
 use std::marker::Model;
 
 /// From which statements of a program the ops, the phasers and the tasks of its plan come. A statement is told by its number, from 1 in the order in which
 /// statements stand in the text.
 ///
-/// The tables have one number for each task and each phaser. The ops have none: that of an op is found in the body of its task, where a loop's body is gone
-/// through at most twice, whatever turns the loop has.
+/// The tables have each statement, by its number, and one number for each task and each phaser. The ops have none: that of an op is found in the body of its
+/// task, where a loop's body is gone through at most twice, whatever turns the loop has.
 #[derive(Drop)]
-pub struct Origins {
+pub struct Origins<'p> {
+    statements: Vec<&'p Stmt>,
     forks: Vec<Option<u32>>,
     phasers: Vec<u32>,
     tasks: Vec<u32>,
 }
 
-impl Model for Origins {
+impl<'p> Model for Origins<'p> {
     ghost use Rattle.origins.specs.OriginTables.{OriginTables};
 
     ghost Value = { OriginTables };
 
-    ghost view = { λ o. record { forks = o.forks.items; phasers = o.phasers.items; tasks = o.tasks.items } };
+    ghost use Rattle.std.specs.Coded.{codes};
+    ghost use Rattle.pl_syntax.specs.Tree.{plain_code, tree_code};
+
+    ghost coded = { Prim.hlevel (codes, plain_code, tree_code) };
+
+    ghost use Rattle.origins.specs.inside.Tables.{comings_of};
+
+    ghost view = { λ o. record { statements = comings_of o.statements.items; forks = o.forks.items; phasers = o.phasers.items; tasks = o.tasks.items } };
 }
 
 // Those of the visits of a task with this fork that make such a thing.
 fn push_of_task(
     made: Made,
     program: &Program,
+    statements: &[&Stmt],
     fork: Option<u32>,
     out: &mut Vec<u32>,
 ) -> Result<(), NoMemory>
-    requires { count program.now.body + 1 < 2 ^ 32 }
+    requires few { count program.now.body + 1 < 2 ^ 32 }
+    requires statements { comings_of statements.now ≡ written_statements program.now.body }
     ensures { OnOk result (out.new.items ≡ out.old.items ++ statements_where (makes_it made) (visits_by_fork program.now fork)) }
 {
     let Some(fork) = fork else {
         return Ok(());
     };
-    match body_at(program, fork) {
+    match body_at(program, statements, fork) {
         None => Ok(()),
         Some(body) => push_of_body(made, body, fork + 1, out),
     }
@@ -60,33 +73,37 @@ fn made_by_all(
     alloc: Global,
     made: Made,
     program: &Program,
+    statements: &[&Stmt],
     forks: &[Option<u32>],
 ) -> Result<Vec<u32>, NoMemory>
     requires few { count program.now.body + 1 < 2 ^ 32 }
+    requires statements { comings_of statements.now ≡ written_statements program.now.body }
     requires forks { forks.now ≡ fork_statements program.now }
     ensures { IfOk result (λ v. v.items ≡ statements_of_all (makes_it made) program.now) }
 {
     let mut out = Vec::new(alloc);
     for fork in forks {
-        push_of_task(made, program, *fork, &mut out)?;
+        push_of_task(made, program, statements, *fork, &mut out)?;
     }
     Ok(out)
 }
 
-impl Origins {
+impl<'p> Origins<'p> {
     /// The origins of a program, by the forks that `unfold` of pl_plan answers for it. The time is linear in the visits of the unfolding.
     pub fn new(
         alloc: Global,
-        program: &Program,
+        program: &'p Program,
         forks: Vec<Option<u32>>,
-    ) -> Result<Origins, NoMemory>
+    ) -> Result<Origins<'p>, NoMemory>
         requires few { count program.now.body + 1 < 2 ^ 32 }
         requires forks { forks.items ≡ fork_statements program.now }
         ensures { IfOk result (λ o. AreOrigins program.now o) }
     {
-        let phasers = made_by_all(alloc, Made::APhaser, program, &forks)?;
-        let tasks = made_by_all(alloc, Made::ATask, program, &forks)?;
+        let statements = statements_of(alloc, &program.body)?;
+        let phasers = made_by_all(alloc, Made::APhaser, program, &statements, &forks)?;
+        let tasks = made_by_all(alloc, Made::ATask, program, &statements, &forks)?;
         Ok(Origins {
+            statements,
             forks,
             phasers,
             tasks,
@@ -101,7 +118,7 @@ impl Origins {
         ensures { result ≡ op_origin program.now t.0 i }
     {
         let fork = self.fork(t)?;
-        let body = body_at(program, fork)?;
+        let body = body_at(program, &self.statements, fork)?;
         match seek_in_body(body, fork + 1, i) {
             Sought::Found(n) => Some(n),
             Sought::Left(_) => None,
@@ -113,6 +130,13 @@ impl Origins {
         ensures { result ≡ slice_get self.now.phasers p.0 }
     {
         self.phasers.get(p.0 as usize).copied()
+    }
+
+    /// The numbers of the statements that make the phasers, in order of the phasers' numbers.
+    pub fn phasers(&self) -> &[u32]
+        ensures { result.now ≡ self.now.phasers }
+    {
+        &self.phasers
     }
 
     /// The number of the statement that draws a task: none for task 0, and where there is no such task.
@@ -143,7 +167,51 @@ impl Origins {
         ensures { result ≡ end_origin program.now t.0 }
     {
         let fork = self.fork(t)?;
-        let body = body_at(program, fork)?;
+        let body = body_at(program, &self.statements, fork)?;
         Some(last_of_body(body, fork + 1, fork))
+    }
+    /// The number of the statement of a task's last visit: none for a task that makes no visit, and where there is no such task. For a turn of a loop it is that
+    /// of the loop.
+    pub fn last(&self, program: &Program, t: TaskId) -> Option<u32>
+        requires few { count program.now.body + 1 < 2 ^ 32 }
+        requires origins { AreOrigins program.now self.now }
+        ensures { result ≡ last_origin program.now t.0 }
+    {
+        let fork = self.fork(t)?;
+        let body = body_at(program, &self.statements, fork)?;
+        if body.statements() == 0 {
+            return None;
+        }
+        Some(last_of_body(body, fork + 1, 0))
+    }
+
+    /// The statement with this number, and none where there is no such statement.
+    pub fn statement(&self, n: u32) -> Option<&'p Stmt>
+        ensures { option_map (λ stmt. coming_of stmt.now) result ≡ statement_in self.now.statements n }
+    {
+        statement_at(&self.statements, n)
+    }
+    /// In which turns of loops op i of a task is made, counted from 0: one turn for each loop around its statement within the task's code, from outside in; none
+    /// for an op with which the task leaves a phaser at its end, and where there is no such op.
+    pub fn turns(
+        &self,
+        alloc: Global,
+        program: &Program,
+        t: TaskId,
+        i: u32,
+    ) -> Result<List<LoopTurn>, NoMemory>
+        requires few { count program.now.body + 1 < 2 ^ 32 }
+        requires origins { AreOrigins program.now self.now }
+        ensures { IfOk result (λ turns. turns ≡ op_turns program.now t.0 i) }
+    {
+        let mut turns = Vec::new(alloc);
+        let Some(fork) = self.fork(t) else {
+            return Ok(List::new(alloc));
+        };
+        let Some(body) = body_at(program, &self.statements, fork) else {
+            return Ok(List::new(alloc));
+        };
+        put_turns(body, fork + 1, i, &mut turns)?;
+        Ok(List::from_vec(turns))
     }
 }

@@ -44,7 +44,7 @@ fn seek_in_turns(k: u16, body: &Body, n: u32, i: u32) -> Sought
 
 // In a statement with number n.
 #[cycle(seek)]
-fn seek_in_statement(stmt: &Stmt, n: u32, i: u32) -> Sought
+pub(crate) fn seek_in_statement(stmt: &Stmt, n: u32, i: u32) -> Sought
     requires { n + count (followed_by stmt.now done) < 2 ^ 32 }
     ensures { IsSought (statements_where comes_to_op (visits_of n (followed_by stmt.now done))) i result }
 {

@@ -34,3 +34,4 @@ pub mod PlanPieces
 pub mod Drawn
 pub mod FoldedCodes
 pub mod ForksKept
+pub mod ForkedByParents

@@ -9,6 +9,7 @@ use Rattle.armus_base.specs.Places.{first_phases, phases_after}
 use Rattle.armus_base.specs.CheckedPlans.{IsCheckedPlan, first_plan}
 use Rattle.armus_base.proofs.CheckedByCodes.{checked_by_codes}
 use Rattle.armus_base.proofs.PlanGrows.{first_plan_is_checked}
+use Rattle.pl_syntax.specs.declared.tree.Program.{Program}
 use Rattle.pl_syntax.specs.Tree.{Tree, AreNear}
 use Rattle.pl_plan.specs.Unfolding.{UnfoldingState, Start, Outcome, ◌>>=◌, unfold_task, unfold_tasks, opening_state, plan_of, visits_of, with_names, with_pieces, make_visits}
 use Rattle.pl_plan.specs.Laws.{UnfoldedIsChecked}
@@ -35,8 +36,12 @@ next_sound t s h =
       near = h.near;
     }
 
+-- a state that is sound at some task
+abbrev pub SoundSomewhere : UnfoldingState → Type 0
+SoundSomewhere s = (t : ℕ) × IsSound t s
+
 on_more : (t : ℕ) (o : Outcome UnfoldingState) (f : UnfoldingState → Outcome UnfoldingState) → OnState (IsActing t) o →
-    ((s : UnfoldingState) → IsSound (t + 1) s → OnState (λ r. IsCheckedPlan r.plan) (f s)) → OnState (λ r. IsCheckedPlan r.plan) (o >>= f)
+    ((s : UnfoldingState) → IsSound (t + 1) s → OnState SoundSomewhere (f s)) → OnState SoundSomewhere (o >>= f)
 on_more t (Ok s) f h k = k s (next_sound t s h.sound)
 on_more t (Err e) f h k = tt
 
@@ -49,8 +54,8 @@ begun_inside t s h e =
 
 task_keeps :
     (two : Bool) (t : ℕ) (s : UnfoldingState) (rest : UnfoldingState → Outcome UnfoldingState) → IsSound t s →
-    ((s' : UnfoldingState) → IsSound (t + 1) s' → OnState (λ r. IsCheckedPlan r.plan) (rest s')) → (o : Option Start) → slice_index_or s.starts t None ≡ o →
-    OnState (λ r. IsCheckedPlan r.plan) (unfold_task two t o s >>= rest)
+    ((s' : UnfoldingState) → IsSound (t + 1) s' → OnState SoundSomewhere (rest s')) → (o : Option Start) → slice_index_or s.starts t None ≡ o →
+    OnState SoundSomewhere (unfold_task two t o s >>= rest)
 task_keeps two t s rest h then None e = then s (next_sound t s h)
 task_keeps two t s rest h then (Some start) e =
     let begun : is_begun s t ≡ true = ap is_some e in
@@ -60,9 +65,9 @@ task_keeps two t s rest h then (Some start) e =
     (same_acts t s start.names s.visits (record { sound = h; here = begun_inside t s h begun; begun = begun }))))
     then
 
-tasks_keep : (two : Bool) (n t : ℕ) (s : UnfoldingState) → IsSound t s → OnState (λ r. IsCheckedPlan r.plan) (unfold_tasks two n t s)
+tasks_keep : (two : Bool) (n t : ℕ) (s : UnfoldingState) → IsSound t s → OnState SoundSomewhere (unfold_tasks two n t s)
 unfolding unfold_tasks
-tasks_keep two zero t s h = h.checked
+tasks_keep two zero t s h = (t, h)
 tasks_keep two (suc n) t s h = task_keeps two t s (unfold_tasks two n (t + 1)) h (tasks_keep two n (t + 1)) (slice_index_or s.starts t None) refl
 
 no_first_actions : (t : ℕ) → actions first_plan t ≡ []
@@ -114,12 +119,15 @@ sound_opening program near =
     near_first zero = near
     near_first (suc c) = tt
 
-plan_is : (o : Outcome UnfoldingState) (plan : Plan) → OnState (λ r. IsCheckedPlan r.plan) o → (o >>= λ s. Ok (with_pieces s)) ≡ Ok plan → IsCheckedPlan plan
-plan_is (Ok s) plan h e = subst IsCheckedPlan (let q : with_pieces s ≡ plan = cc in q) (checked_by_codes s.plan (with_pieces s).pieces h)
+plan_is : (o : Outcome UnfoldingState) (plan : Plan) → OnState SoundSomewhere o → (o >>= λ s. Ok (with_pieces s)) ≡ Ok plan → IsCheckedPlan plan
+plan_is (Ok s) plan h e = subst IsCheckedPlan (let q : with_pieces s ≡ plan = cc in q) (checked_by_codes s.plan (with_pieces s).pieces h.1.checked)
 plan_is (Err f) plan h e = absurd cc
+
+-- the state at the end is sound
+pub sound_at_end : (program : Program) → AreNear program.body → OnState SoundSomewhere (unfold_tasks program.two max_tasks 0 (opening_state program.body))
+sound_at_end program near = tasks_keep program.two max_tasks 0 (opening_state program.body) (sound_opening program.body near)
 
 pub unfolded_is_checked : UnfoldedIsChecked
 unfolding plan_of
 unfolded_is_checked program plan near e =
-    plan_is (unfold_tasks program.two max_tasks 0 (opening_state program.body)) plan
-    (tasks_keep program.two max_tasks 0 (opening_state program.body) (sound_opening program.body near)) e
+    plan_is (unfold_tasks program.two max_tasks 0 (opening_state program.body)) plan (sound_at_end program near) e

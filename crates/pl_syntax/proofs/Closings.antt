@@ -1,12 +1,12 @@
 -- The closing braces of a text are found where its reader notes them.
-use Rattle.std.proofs.Common.{◌≡◌, ℕ, Bool, true, false, if◌then◌else◌, List, [], ◌∷◌, ◌++◌, Ok, refl, sym, ap, subst, ◌∙◌, append_assoc, append-nil}
+use Rattle.std.proofs.Common.{◌≡◌, ℕ, List, [], ◌∷◌, ◌++◌, Ok, refl, sym, ap, subst, ◌∙◌, append_assoc, append-nil}
 use Rattle.armus_base.specs.declared.offset.Offset.TheVariants.{Ahead, Back, Here}
 use Rattle.pl_syntax.specs.declared.token.Sign.TheVariants.{CloseBrace}
 use Rattle.pl_syntax.specs.declared.tree.Program.{Program}
-use Rattle.pl_syntax.specs.Tokens.{Token, the_end, sign, word, name, number, front, place, Leads}
+use Rattle.pl_syntax.specs.Tokens.{Token, the_end, sign, front, place, Leads}
 use Rattle.pl_syntax.specs.Tree.{Tree, done, plain, fork, loop, Plain, new_task, new_phaser, reg, dereg, adv, await, skip}
 use Rattle.pl_syntax.specs.Grammar.{ReadsTokens, plain_tokens, scan_of, sentence, tokens}
-use Rattle.pl_syntax.specs.StatementOffsets.{AllBeginAt, BeginAt}
+use Rattle.pl_syntax.specs.StatementOffsets.{AllBeginAt}
 use Rattle.pl_syntax.specs.inside.Beginnings.{with_offset}
 use Rattle.pl_syntax.specs.inside.Closings.{brace_tokens, closes, closings}
 use Rattle.pl_syntax.proofs.Fronts.{ok_pair}

@@ -1,5 +1,5 @@
 -- The body of each statement ends at its brace.
-use Rattle.std.proofs.Common.{◌≡◌, ℕ, zero, suc, ◌+◌, ◌<◌, ◌≤◌, List, [], ◌∷◌, ◌++◌, length, drop, get_or, Option, Some, None, refl, sym, ap, subst, ◌∙◌, append_assoc, append-nil, length-append, arith}
+use Rattle.std.proofs.Common.{◌≡◌, ℕ, ◌+◌, ◌<◌, ◌≤◌, List, [], ◌∷◌, ◌++◌, length, drop, get_or, Option, Some, None, refl, sym, ap, subst, ◌∙◌, append_assoc, append-nil, length-append, arith}
 use Rattle.std.specs.Prelude.{slice_get}
 use Rattle.std.proofs.Math.ListN.{set}
 use Rattle.std.proofs.Math.Seq.{drop-append-add, get_or-append_seam, set-append_seam}
@@ -14,7 +14,7 @@ use Rattle.pl_syntax.specs.BodyEnds.{AllEndAt, AreEnds, EndsAt, end_tokens}
 use Rattle.pl_syntax.specs.Tokens.{Token, the_end, sign}
 use Rattle.pl_syntax.specs.Tree.{Tree, count, done, plain, fork, loop}
 use Rattle.pl_syntax.specs.Grammar.{tokens}
-use Rattle.pl_syntax.specs.StatementOffsets.{AllBeginAt, BeginAt}
+use Rattle.pl_syntax.specs.StatementOffsets.{AllBeginAt}
 use Rattle.pl_syntax.specs.inside.Closings.{bodies, brace_tokens, ends_by}
 use Rattle.pl_syntax.proofs.Parts.{counts}
 

@@ -1,6 +1,6 @@
 -- The table grows line by line.
-use Rattle.std.proofs.Common.{◌≡◌, ℕ, suc, cond, ◌+◌, ◌<◌, ◌≤◌, ◌++◌, ◌∷◌, [], List, Option, length, sym, ap, subst, refl, inl, inr, ◌∙◌, arith, length-append}
-use Rattle.std.specs.Prelude.{count_by, take}
+use Rattle.std.proofs.Common.{◌≡◌, ℕ, suc, cond, ◌+◌, ◌<◌, ◌≤◌, ◌++◌, ◌∷◌, [], List, Option, length, sym, ap, ◌∙◌, arith, length-append}
+use Rattle.std.specs.Prelude.{count_by}
 use Rattle.std.proofs.lemmas.List.{take_all}
 use Rattle.std.proofs.lemmas.List.Sums.{sum_by-take-le}
 use Rattle.armus_base.specs.Finals.{list_below}
@@ -9,7 +9,7 @@ use Rattle.text_places.specs.declared.places.Line.{Line}
 use Rattle.text_places.specs.NamedPlaces.{moved, named_in}
 use Rattle.text_places.specs.TextPlaces.{is_line_feed, line_from}
 use Rattle.text_places.specs.inside.Rows.{begin_of, line_count, row_at, rows_of}
-use Rattle.text_places.proofs.Lines.{IsBegin, begins, further, line_ends, next_begins}
+use Rattle.text_places.proofs.Lines.{IsBegin, begins, further, next_begins}
 
 -- the first lines of a text are kept, and the next one begins at this byte
 pub record AreKept (text : List ℕ) (rows : List Line) (begin : ℕ) : Type 0 where

@@ -1,5 +1,5 @@
 -- The comment of a line begins with the first `//` in it.
-use Rattle.std.proofs.Common.{◌≡◌, ◌⊎◌, ℕ, ◌+◌, ◌≤◌, ◌==◌, ◌&&◌, ◌++◌, ◌∷◌, [], List, Bool, true, false, length, cond, if◌then◌else◌, sym, ap, subst, refl, inl, inr, ◌∙◌, arith, eqb}
+use Rattle.std.proofs.Common.{◌≡◌, ◌⊎◌, ℕ, ◌≤◌, ◌==◌, ◌&&◌, ◌++◌, ◌∷◌, [], List, Bool, true, false, length, if◌then◌else◌, ap, refl, inl, inr, arith}
 use Rattle.std.proofs.lemmas.Bool.{and_from, and_parts, eq-eqb, eqb-true, both_ways}
 use Rattle.pl_syntax.specs.Words.{begins_with}
 use Rattle.text_places.specs.NamedPlaces.{comment_of}

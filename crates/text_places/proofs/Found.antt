@@ -1,20 +1,19 @@
 -- The line of a byte, by the table.
-use Rattle.std.proofs.Common.{◌≡◌, ℕ, zero, suc, ◌+◌, ◌-◌, ◌<◌, ◌≤◌, ◌++◌, List, Bool, true, false, length, take, drop, get_or, min, leb, not, cond, sym, ap, subst, refl, inl, inr, ◌∙◌, arith}
+use Rattle.std.proofs.Common.{◌≡◌, ℕ, zero, suc, ◌+◌, ◌-◌, ◌<◌, ◌≤◌, ◌++◌, List, true, false, length, take, drop, get_or, min, leb, not, cond, sym, ap, subst, inl, inr, ◌∙◌, arith}
 use Rattle.std.proofs.lemmas.Bool.{cases_lt, leb-false, leb-true}
 use Rattle.std.specs.Prelude.{count_by, reverse}
-use Rattle.std.specs.List.{prefix_len, take_while}
+use Rattle.std.specs.List.{take_while}
 use Rattle.std.specs.List.Sorted.{IsNonDecreasingBy, IsPartitionPoint}
 use Rattle.std.proofs.lemmas.List.{drop_all, length-take, take_all}
 use Rattle.std.proofs.lemmas.List.Sums.{count_by-le-length, sum_by-take-le}
 use Rattle.std.proofs.lemmas.Option.{get_or_from_slice_get}
 use Rattle.armus_base.proofs.Below.{length-list_below, list_below-at}
 use Rattle.text_places.specs.declared.place.TextPlace.{TextPlace}
-use Rattle.text_places.specs.declared.named.Span.{Span}
 use Rattle.text_places.specs.declared.places.Line.{Line}
 use Rattle.text_places.specs.NamedPlaces.{moved, named_in}
 use Rattle.text_places.specs.TextPlaces.{is_line_feed, line_at, line_before, line_begin, line_from, place_by, text_place}
 use Rattle.text_places.specs.inside.Rows.{begin_of, line_count, row_at, rows_of}
-use Rattle.text_places.proofs.Lines.{IsBegin, begins, begins_ascend, further, line_ends, line_within, next_begins}
+use Rattle.text_places.proofs.Lines.{begins, begins_ascend, further, line_ends, line_within, next_begins}
 
 -- a row of the table
 pub row_is : (text : List ℕ) (i : ℕ) (d : Line) → i < line_count text → get_or (rows_of text) i d ≡ row_at text i

@@ -1,11 +1,10 @@
 -- A line names just the place that is found in it.
-use Rattle.std.proofs.Common.{◌≡◌, ℕ, suc, ◌+◌, ◌-◌, ◌<◌, ◌≤◌, ◌==◌, ◌&&◌, ◌||◌, ◌++◌, ◌∷◌, [], List, Option, Some, None, Bool, true, false, not, nat_le, length, take, drop, cond, if◌then◌else◌, sym, ap, subst, refl, inl, inr, ◌∙◌, arith, append_assoc, length-append, codes, option_map, unwrap_or}
-use Rattle.std.proofs.lemmas.Bool.{and_from, and_parts, both_ways, cases_Bool, eqb-true, false_from_ne_true, le-leb, leb-true, or_cases}
+use Rattle.std.proofs.Common.{◌≡◌, ℕ, ◌+◌, ◌-◌, ◌≤◌, ◌==◌, ◌++◌, ◌∷◌, [], List, Option, Some, None, Bool, true, false, nat_le, length, take, drop, if◌then◌else◌, sym, ap, refl, inl, inr, ◌∙◌, arith, append_assoc, length-append, codes, option_map, unwrap_or}
+use Rattle.std.proofs.lemmas.Bool.{and_from, and_parts, both_ways, eqb-true, false_from_ne_true, le-leb, leb-true, or_cases}
 use Rattle.std.proofs.Math.Seq.{drop-append_seam, drop-append-add}
 use Rattle.std.specs.List.{list_all, prefix_len}
-use Rattle.std.proofs.lemmas.List.{append_cancel_left, drop-drop, length-take, take-append-drop}
+use Rattle.std.proofs.lemmas.List.{drop-drop, length-take, take-append-drop}
 use Rattle.std.proofs.lemmas.List.Sums.{prefix_len-le-length}
-use Rattle.pl_syntax.specs.Words.{begins_with}
 use Rattle.text_places.specs.declared.named.Span.{Span}
 use Rattle.text_places.specs.NamedPlaces.{NamesPlace, comment_of, is_gap, is_named, is_place_byte, is_trailing, max_place_bytes, moved, name_behind, name_in, named_in, span_if}
 use Rattle.text_places.proofs.Comments.{IsAhead, IsComment, comment_splits}

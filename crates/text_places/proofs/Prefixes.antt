@@ -1,6 +1,6 @@
 -- The longest prefix of which each element passes.
-use Rattle.std.proofs.Common.{◌≡◌, ℕ, suc, ◌+◌, ◌≤◌, ◌++◌, ◌∷◌, [], List, Bool, true, false, length, take, drop, cond, sym, ap, refl, ◌∙◌, arith}
-use Rattle.std.proofs.lemmas.Bool.{and_from, and_parts, cases_Bool}
+use Rattle.std.proofs.Common.{◌≡◌, ℕ, suc, ◌+◌, ◌++◌, ◌∷◌, [], List, Bool, true, false, length, take, cond, ap, refl, ◌∙◌, arith}
+use Rattle.std.proofs.lemmas.Bool.{and_from, and_parts}
 use Rattle.std.specs.List.{list_all, prefix_len}
 
 -- the first of these, if there is one, does not pass

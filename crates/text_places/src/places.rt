@@ -130,6 +130,21 @@ impl<'t> TextPlaces<'t> {
         self.lines[index].place(index as u32, offset)
     }
 
+    /// Where the end of the text stands.
+    pub fn end(&self) -> TextPlace
+        ensures place { result ≡ text_place self.now (length self.now) }
+    {
+        self.at(self.text.len() as u32)
+    }
+
+    /// The text.
+    pub fn text(&self) -> &'t [u8]
+        ensures text { result.now ≡ self.now }
+        ensures short { length self.now < 2 ^ 32 - 1 }
+    {
+        self.text
+    }
+
     /// Appends a place of the text as it is written: `20:7`, or the name of a place of another program.
     pub fn put(&self, alloc: Global, out: &mut Vec<u8>, place: TextPlace) -> Result<(), NoMemory>
         ensures written { OnOk result (out.new.items ≡ out.old.items ++ place_words self.now place) }

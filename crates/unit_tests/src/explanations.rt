@@ -37,7 +37,7 @@ fn step_all(world: &mut World)
 }
 
 // Whether no task may go on.
-fn is_quiet(world: &World) -> bool
+pub(crate) fn is_quiet(world: &World) -> bool
     ensures { result ≡ true → (t : ℕ) → t < length world.now.plan.parents → IsEnabled world.now t → ⊥ }
 {
     for t in 0..world.plan().tasks() {
@@ -49,7 +49,7 @@ fn is_quiet(world: &World) -> bool
 }
 
 // The state that so many steps of each task lead to.
-fn run(world: &mut World, rounds: u32)
+pub(crate) fn run(world: &mut World, rounds: u32)
     ensures { world.new.plan ≡ world.old.plan }
 {
     for _ in 0..rounds {

@@ -2,6 +2,8 @@
 #![tactic(auto)]
 
 #[cfg(test)]
+mod accounts_of;
+#[cfg(test)]
 mod clock_plans;
 #[cfg(test)]
 mod clock_texts;

@@ -1,8 +1,11 @@
 -- What the tables of origins hold.
-use Rattle.std.specs.Prelude.{ℕ, ◌+◌, if◌then◌else◌, nat_le, ◌==◌, Bool, List, [], Option, Some, None}
+use Rattle.std.specs.Prelude.{ℕ, ◌+◌, if◌then◌else◌, nat_le, ◌==◌, Bool, List, [], map, Option, Some, None}
 use Rattle.pl_syntax.specs.declared.tree.Program.{Program}
-use Rattle.pl_syntax.specs.Tree.{Tree, done, plain, fork, loop, count}
-use Rattle.pl_plan.specs.Unfolding.{Coming, Visit, visits_of}
+use Rattle.std.specs.Borrow.{Bor}
+use Rattle.pl_syntax.specs.declared.tree.Stmt.{Stmt}
+use Rattle.pl_syntax.specs.declared.tree.Stmt.TheVariants as s
+use Rattle.pl_syntax.specs.Tree.{Tree, done, plain, fork, loop, count, new_task, new_phaser, reg, dereg, adv, await, skip}
+use Rattle.pl_plan.specs.Unfolding.{Coming, Visit, a_fork, a_loop, a_plain, visits_of}
 use Rattle.origins.specs.Origins.{comes_to_phaser, comes_to_task}
 use Rattle.origins.specs.declared.making.Made.{Made}
 use Rattle.origins.specs.declared.making.Made.TheVariants.{APhaser, ATask}
@@ -33,3 +36,26 @@ visits_at n (Some body) = visits_of n body
 abbrev pub visits_by_fork : Program → Option ℕ → List Visit
 visits_by_fork program None = []
 visits_by_fork program (Some f) = visits_at (f + 1) (forked_body program.body f)
+
+-- ---- statements by their numbers
+
+-- a statement as it is come to
+abbrev pub coming_of : Stmt → Coming
+coming_of (s.NewTask x) = a_plain (new_task x)
+coming_of (s.NewPhaser x) = a_plain (new_phaser x)
+coming_of (s.Reg x y) = a_plain (reg x y)
+coming_of (s.Dereg x) = a_plain (dereg x)
+coming_of (s.Adv x) = a_plain (adv x)
+coming_of (s.Await x off) = a_plain (await x off)
+coming_of s.Skip = a_plain skip
+coming_of (s.Fork x body) = a_fork x body
+coming_of (s.Loop k body) = a_loop
+
+-- statements that are kept, as they are come to
+abbrev pub comings_of : List (Bor Stmt) → List Coming
+comings_of rows = map (λ (row : Bor Stmt). coming_of row.now) rows
+
+-- the body of a statement, where it is a fork
+abbrev pub body_of : Option Coming → Option Tree
+body_of (Some (a_fork x body)) = Some body
+body_of _ = None

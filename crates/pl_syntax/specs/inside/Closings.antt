@@ -1,5 +1,5 @@
 -- The closing braces of a text, in order, and which statement's body each of them closes.
-use Rattle.std.specs.Prelude.{ℕ, ◌+◌, Bool, true, false, if◌then◌else◌, List, [], ◌∷◌, ◌++◌, drop, Option, Some, None, slice_get}
+use Rattle.std.specs.Prelude.{ℕ, ◌+◌, Bool, true, false, if◌then◌else◌, List, [], ◌∷◌, ◌++◌, drop, Option, None, slice_get}
 use Rattle.pl_syntax.specs.declared.token.Sign.TheVariants.{CloseBrace}
 use Rattle.pl_syntax.specs.Tokens.{Token, sign}
 use Rattle.pl_syntax.specs.Tree.{Tree, done, plain, fork, loop}

@@ -1,5 +1,5 @@
 use Rattle.std.proofs.Common.{arith}
-use Rattle.pl_syntax.proofs.EndsByBraces.{all_noted, ended_empty, ended_one, fewer_here, noting_begins, noting_on}
+use Rattle.pl_syntax.proofs.EndsByBraces.{ended_empty, ended_one}
 use Rattle.pl_syntax.proofs.ends.+note.Goals as goal
 
 pub note_ended-returns-in-empty-clause-ends : goal.note_ended-returns-in-empty-clause-ends

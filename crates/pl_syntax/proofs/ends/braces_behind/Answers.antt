@@ -1,6 +1,6 @@
 use Rattle.std.proofs.Common.{◌≡◌, refl, sym, subst, ap, ◌∙◌, arith}
 use Rattle.pl_syntax.specs.Grammar.{scan_of}
-use Rattle.pl_syntax.specs.Tokens.{place, the_end}
+use Rattle.pl_syntax.specs.Tokens.{place}
 use Rattle.pl_syntax.specs.inside.Seen.{token_of}
 use Rattle.pl_syntax.specs.inside.Beginnings.{with_offset}
 use Rattle.pl_syntax.specs.inside.Closings.{closes}

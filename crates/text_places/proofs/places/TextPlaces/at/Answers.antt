@@ -4,7 +4,7 @@ use Rattle.std.specs.List.Sorted.{IsNonDecreasingBy}
 use Rattle.text_places.specs.TextPlaces.{place_by, text_place}
 use Rattle.text_places.specs.declared.places.Line.{Line}
 use Rattle.text_places.specs.inside.Rows.{row_at}
-use Rattle.text_places.proofs.Found.{StandsIn, lines_fit, parted, place_at_end, placed_in, row_before, rows_ascend}
+use Rattle.text_places.proofs.Found.{lines_fit, parted, place_at_end, placed_in, row_before, rows_ascend}
 use Rattle.text_places.proofs.places.TextPlaces.at.Goals as goal
 
 pub overflow_sub-index : goal.overflow_sub-index

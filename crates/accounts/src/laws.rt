@@ -1,0 +1,24 @@
+// What holds of accounts: each law is the contract of a function with an empty body.
+
+ghost use Rattle.accounts.specs.Laws.{DrawnHaveNames, ForkersFork, OneAccount, StatementsHavePlaces, WaitersHaveAwaits};
+
+/// A text with its program, its plan and the places to which a run has come has one account at most.
+pub fn one_account()
+    ensures { OneAccount }
+{}
+
+/// Each statement of a text has a place, and an answer where its body ends.
+pub fn statements_have_places()
+    ensures { StatementsHavePlaces }
+{}
+
+/// A task from 1 on is told to be forked just where the code of the task that drew it forks it, and by that task. Awaits of a text look no farther than they may.
+pub fn forkers_fork()
+    ensures { ForkersFork }
+{}
+
+/// A task that waits has the words and the place of an await of the text; and each task but task 0 has the name and the place of a `newTid` of the text.
+pub fn tasks_are_of_text()
+    ensures awaits { WaitersHaveAwaits }
+    ensures names { DrawnHaveNames }
+{}

@@ -1,0 +1,12 @@
+//! What is known of the tasks of a text where its run has ended: where they were drawn, forked and ended, and where they wait.
+#![tactic(auto)]
+
+mod account;
+mod accounts;
+mod facts;
+mod laws;
+mod waiting;
+
+pub use account::{Account, Drawn, Ended, Forked, TaskAccount, Turn, Waiting};
+pub use accounts::account_of;
+pub use laws::{forkers_fork, one_account, statements_have_places, tasks_are_of_text};
