@@ -1,0 +1,60 @@
+// Texts with a syntax fault: the file, the text and its lines. ~ stands for LF, ! for CR, and ^^ for a caret.
+use crate::rows::{are_bytes_of, bytes_of};
+use armus_base::NoMemory;
+use pl_syntax::{MAX_PARSED_BYTES, ParseEnd, parse};
+use refusals::syntax_refusal;
+use std::alloc::Global;
+use std::test::Fail;
+use text_places::TextPlaces;
+
+const ROWS: &str = "\
+k.pl$b = newPhaser(); /* the barrier */~$k.pl:1:18: '/' begins no token (syntax 1, byte 17)~    b = newPhaser(); /* the barrier */~                     ^~  hint: a comment begins with // and ends with its line~\n\
+k.pl$b = newPhaser();~adv(b);~await(b - 1);~$k.pl:3:9: '-' begins no token (syntax 1, byte 33)~    await(b - 1);~            ^~  hint: + and - need pl 2; at the beginning of the text~\n\
+k.pl$loop 2 {~\t\tmyBarrier = newPhaser();~}~$k.pl:2:3: 'myBarrier' is no name: a name has lower-case letters, digits and _, and begins with a letter (syntax 1, byte 11)~    \t\tmyBarrier = newPhaser();~    \t\t^~  hint: only newTid and newPhaser have capitals~\n\
+k.pl$b = newPhaser()~adv(b);~$k.pl:2:1: ';' is wanted here, not 'adv' (syntax 2, byte 16)~    adv(b);~    ^~\n\
+k.pl$b = newPhaser();~loop 3 { adv(b); await(b);~$k.pl:3:1: a statement or '}' is wanted here, not the end of the text (syntax 2, byte 44)~  the brace at 2:8 is not closed~\n\
+k.clock$clock c;~async(c) { advance(c); }~advance(c);~$k.clock:1:7: '=' is wanted here, not 'c' (syntax 2, byte 6)~    clock c;~          ^~  hint: this may be a text of clocks: armus clock reads those~\n\
+$b = newPhaser();~if (rank == 0) { adv(b); }~$2:4: '=' is wanted here, not '(' (syntax 2, byte 20)~    if (rank == 0) { adv(b); }~       ^~  hint: a statement is x = newTid(), x = newPhaser(), fork, reg, dereg, adv, await, loop or skip~\n\
+$loop 100000 { skip; }~$1:6: '100000' is no number: a number is 0 to 65535, without leading zeros (syntax 3, byte 5)~    loop 100000 { skip; }~         ^~\n\
+$loop 1 { loop 1 { loop 1 { loop 1 { loop 1 { loop 1 { loop 1 { loop 1 {~loop 1 { loop 1 { loop 1 { loop 1 { loop 1 { loop 1 { loop 1 { loop 1 {~loop 1 { loop 1 { loop 1 { loop 1 { loop 1 { loop 1 { loop 1 { loop 1 {~loop 1 { loop 1 { loop 1 { loop 1 { loop 1 { loop 1 { loop 1 { loop 1 {~loop 1 { loop 1 { loop 1 { loop 1 { loop 1 { loop 1 { loop 1 { loop 1 {~loop 1 { loop 1 { loop 1 { loop 1 { loop 1 { loop 1 { loop 1 { loop 1 {~loop 1 { loop 1 { loop 1 { loop 1 { loop 1 { loop 1 { loop 1 { loop 1 {~loop 1 { loop 1 { loop 1 { loop 1 { loop 1 { loop 1 { loop 1 { loop 1 {~loop 1 { skip; }~$9:8: this brace is the 65th that is open: at most 64 may be (syntax 4, byte 583)~    loop 1 { skip; }~           ^~\n\
+$a_name_of_thirty_three_characters = newTid();~$1:1: 'a_name_of_thirty_three_characters' has 33 bytes: a name has at most 32 (syntax 5, byte 0)~    a_name_of_thirty_three_characters = newTid();~    ^~\n\
+";
+
+// Whether these are the lines of a text.
+fn is_refused_so(
+    alloc: Global,
+    file: Option<&[u8]>,
+    text: &[u8],
+    lines: &str,
+) -> Result<bool, NoMemory> {
+    if text.len() > MAX_PARSED_BYTES {
+        return Ok(false);
+    }
+    let places = TextPlaces::new(alloc, text)?;
+    match parse(alloc, text) {
+        Err(ParseEnd::Syntax(fault)) => {
+            let found = syntax_refusal(alloc, text, &places, file, fault)?;
+            Ok(are_bytes_of(found.as_slice(), lines))
+        }
+        _ => Ok(false),
+    }
+}
+
+fn is_met(alloc: Global, row: &str) -> Result<bool, NoMemory> {
+    let (file, rest) = row.split_once("$").unwrap_or((row, ""));
+    let (text, lines) = rest.split_once("$").unwrap_or((rest, ""));
+    let bytes = bytes_of(alloc, text)?;
+    if file.is_empty() {
+        is_refused_so(alloc, None, bytes.as_slice(), lines)
+    } else {
+        is_refused_so(alloc, Some(file.as_bytes()), bytes.as_slice(), lines)
+    }
+}
+
+#[test]
+fn refusals_of_texts(rt: HostRuntime) -> Result<(), Fail> {
+    for row in ROWS.lines() {
+        assert!(rt; is_met(rt.alloc(), row)?, "{row}");
+    }
+    Ok(())
+}
