@@ -1,11 +1,16 @@
-// Texts in rows: ~ stands for LF and ! for the byte 195.
+// Texts in rows: ~ stands for LF, & for CR, and the signs [ ] | ! # for the bytes 239, 187, 191, 195 and 188.
 use armus_base::NoMemory;
 use std::alloc::Global;
 
 fn byte_of(letter: u8) -> u8 {
     match letter {
         b'~' => b'\n',
+        b'&' => b'\r',
+        b'[' => 239,
+        b']' => 187,
+        b'|' => 191,
         b'!' => 195,
+        b'#' => 188,
         other => other,
     }
 }
