@@ -1,0 +1,4 @@
+pub mod Pieces
+pub mod Offsets
+pub mod RefusalLines
+pub mod OneRefusal

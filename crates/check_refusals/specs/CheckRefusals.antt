@@ -1,0 +1,40 @@
+-- The lines of a text that is refused for its first check fault.
+use Rattle.std.specs.Prelude.{◌≡◌, ℕ, List, ◌++◌, length, codes, decimal, Option}
+use Rattle.pl_syntax.specs.declared.tree.Program.{Program}
+use Rattle.pl_syntax.specs.Printed.{line}
+use Rattle.pl_syntax.specs.StatementOffsets.{AreOffsets}
+use Rattle.pl_plan.specs.declared.fault.CheckFault.{CheckFault}
+use Rattle.text_places.specs.PlaceWords.{front_words}
+use Rattle.text_places.specs.declared.place.TextPlace.{TextPlace}
+use Rattle.refusals.specs.CaretLines.{caret_lines}
+use Rattle.check_scenes.specs.declared.scene.Scene.{Scene}
+use Rattle.check_scenes.specs.Scenes.{IsScene}
+use Rattle.check_refusals.specs.MatterNotes.{matter_note}
+use Rattle.check_refusals.specs.MatterWords.{matter_words}
+use Rattle.check_refusals.specs.StatementPlaces.{statement_offset, statement_place}
+use Rattle.check_refusals.specs.Whereabouts.{whereabouts}
+
+-- the numbers of a fault, as `armus run` writes them
+abbrev pub check_numbers : CheckFault → List ℕ
+check_numbers fault = codes " (check " ++ decimal fault.kind ++ codes ", statement " ++ decimal fault.statement ++ codes ")"
+
+-- the first line: a place, what is wrong there, and the numbers
+abbrev pub check_line : List ℕ → Option (List ℕ) → TextPlace → Scene → List ℕ
+check_line text file place scene =
+    line (front_words text file place ++ codes ": " ++ matter_words scene.task scene.matter ++ check_numbers scene.fault)
+
+-- all lines, by the offsets of the statements
+abbrev pub check_lines : Option (List ℕ) → List ℕ → List ℕ → Scene → List ℕ
+check_lines file text offsets scene =
+    check_line text file (statement_place text offsets (length text) scene.fault.statement) scene
+    ++ caret_lines text (statement_offset offsets (length text) scene.fault.statement)
+    ++ whereabouts text offsets (length text) scene.task scene.forked scene.turns
+    ++ matter_note text offsets (length text) scene.forked scene.matter
+
+-- the lines of a text, of a file or not, that has this program and is refused for its first check fault
+pub record IsCheckRefusal (file : Option (List ℕ)) (text : List ℕ) (program : Program) (lines : List ℕ) : Type 0 where
+  pub scene : Scene
+  pub is_scene : IsScene program scene
+  pub offsets : List ℕ
+  pub are_offsets : AreOffsets text program offsets
+  pub lines_are : lines ≡ check_lines file text offsets scene

@@ -1,0 +1,7 @@
+// Laws of refusals.
+ghost use Rattle.check_refusals.specs.Laws.{HasOneCheckRefusal};
+
+/// A text, of a file or not, is refused in one way for a check fault.
+pub fn text_has_one_check_refusal()
+    ensures { HasOneCheckRefusal }
+{}

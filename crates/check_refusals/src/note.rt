@@ -1,0 +1,142 @@
+// The note on what is wrong at a check fault.
+ghost use Rattle.std.specs.Prelude.{◌≡◌, ◌++◌, OnOk, codes};
+ghost use Rattle.check_refusals.specs.MatterNotes.{line_at, matter_note};
+ghost use Rattle.check_refusals.specs.NameWords.{phaser_words, task_words};
+
+use crate::names::{put_phaser, put_task};
+use crate::statements::Statements;
+use armus_base::NoMemory;
+use check_scenes::{Matter, NamedPhaser, NamedTask};
+use std::alloc::Global;
+use text_places::{TextPlace, TextPlaces};
+
+// Words and a place, as a line.
+fn put_line_at(
+    alloc: Global,
+    out: &mut Vec<u8>,
+    places: &TextPlaces,
+    words: &[u8],
+    place: TextPlace,
+) -> Result<(), NoMemory>
+    ensures { OnOk result (out.new.items ≡ out.old.items ++ line_at places.now words.now place) }
+{
+    out.extend_from_slice(b"  ")?;
+    out.extend_from_slice(words)?;
+    places.put(alloc, out, place)?;
+    out.extend_from_slice(b"\n")?;
+    Ok(())
+}
+
+// Where a phaser was made, as a line.
+fn put_made(
+    alloc: Global,
+    out: &mut Vec<u8>,
+    places: &TextPlaces,
+    phaser: &NamedPhaser,
+    place: TextPlace,
+) -> Result<(), NoMemory>
+    ensures { OnOk result (out.new.items ≡ out.old.items ++ line_at places.now (phaser_words phaser.now ++ codes " made at ") place) }
+{
+    let mut words = Vec::new(alloc);
+    put_phaser(alloc, &mut words, phaser)?;
+    words.extend_from_slice(b" made at ")?;
+    put_line_at(alloc, out, places, &words, place)
+}
+
+// A task, words and a place, as a line.
+fn put_task_at(
+    alloc: Global,
+    out: &mut Vec<u8>,
+    places: &TextPlaces,
+    task: &NamedTask,
+    verb: &[u8],
+    place: TextPlace,
+) -> Result<(), NoMemory>
+    ensures { OnOk result (out.new.items ≡ out.old.items ++ line_at places.now (task_words task.now ++ verb.now) place) }
+{
+    let mut words = Vec::new(alloc);
+    put_task(alloc, &mut words, task)?;
+    words.extend_from_slice(verb)?;
+    put_line_at(alloc, out, places, &words, place)
+}
+
+/// Appends the note on what is wrong, where the current task was forked by this statement.
+pub(crate) fn put_note(
+    alloc: Global,
+    out: &mut Vec<u8>,
+    statements: &Statements,
+    forked_by: u32,
+    matter: &Matter,
+) -> Result<(), NoMemory>
+    ensures { OnOk result (out.new.items ≡ out.old.items ++ matter_note statements.now.places statements.now.offsets statements.now.end forked_by matter.now) }
+{
+    let places = &statements.places;
+    match matter {
+        Matter::TaskWanted {
+            name: _,
+            verb: _,
+            phaser,
+            made,
+        } => put_made(alloc, out, places, phaser, statements.place(*made)),
+        Matter::PhaserWanted {
+            name: _,
+            verb: _,
+            task,
+            drawn,
+        } => {
+            put_task_at(
+                alloc,
+                out,
+                places,
+                task,
+                b" drawn at ",
+                statements.place(*drawn),
+            )
+        }
+        Matter::HasLeft { phaser: _, left } => {
+            put_line_at(alloc, out, places, b"it left at ", statements.place(*left))
+        }
+        Matter::NeverMember { phaser: _ } => {
+            put_line_at(
+                alloc,
+                out,
+                places,
+                b"it was not registered before its fork at ",
+                statements.place(forked_by),
+            )
+        }
+        Matter::AlreadyMember {
+            task: _,
+            phaser: _,
+            registered,
+        } => {
+            put_line_at(
+                alloc,
+                out,
+                places,
+                b"it was registered at ",
+                statements.place(*registered),
+            )
+        }
+        Matter::NotDrawnHere { task: _, by, drawn } => {
+            put_task_at(
+                alloc,
+                out,
+                places,
+                by,
+                b" drew it at ",
+                statements.place(*drawn),
+            )
+        }
+        Matter::AlreadyForked { task: _, forked } => {
+            put_line_at(
+                alloc,
+                out,
+                places,
+                b"it was forked at ",
+                statements.place(*forked),
+            )
+        }
+        _ => Ok(()),
+    }
+}

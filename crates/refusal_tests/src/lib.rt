@@ -1,0 +1,7 @@
+//! Tests of the lines of refused texts.
+#![tactic(auto)]
+
+#[cfg(test)]
+mod rows;
+#[cfg(test)]
+mod syntax;

@@ -1,0 +1,11 @@
+pub mod Pieces
+pub mod LineParts
+pub mod Places
+pub mod Braces
+pub mod Steps
+pub mod Walked
+pub mod Reaching
+pub mod Header
+pub mod OneStand
+pub mod RefusalLines
+pub mod SomeStand

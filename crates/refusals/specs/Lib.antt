@@ -1,0 +1,13 @@
+-- What a reader of the repository has to believe.
+pub mod QuotedWords
+pub mod CaretLines
+pub mod Wanted
+pub mod Stands
+pub mod SyntaxSentences
+pub mod Hints
+pub mod SyntaxRefusals
+pub mod LengthRefusals
+-- What is proved of it.
+pub mod Laws
+-- How the program does it: private contracts alone cite these.
+pub mod inside

@@ -1,0 +1,23 @@
+//! The lines of a text with a syntax fault: where it is, what is wrong there, the line with a caret, and what may help.
+#![tactic(auto)]
+
+mod caret;
+mod hint;
+mod laws;
+mod length;
+mod notes;
+mod sentence;
+mod shape;
+mod stand;
+mod syntax;
+mod walk;
+mod wanted;
+mod word;
+
+pub use caret::put_line_and_caret;
+pub use laws::{fault_has_one_stand, text_has_one_syntax_refusal};
+pub use length::length_refusal;
+pub use stand::{Behind, Stand};
+pub use syntax::syntax_refusal;
+pub use wanted::Wanted;
+pub use word::put_quoted;

@@ -1,0 +1,24 @@
+// What is known of the place of a fault.
+use crate::wanted::Wanted;
+
+/// Which name stands before a place.
+#[derive(Clone, Copy, Debug, PartialEq, Eq)]
+pub enum Behind {
+    /// A word with which a statement of the language of clocks begins.
+    ClockWord,
+    /// `pl`.
+    Header,
+    /// Another name, no name, or nothing.
+    Other,
+}
+
+/// What the grammar says of a place of a text.
+#[derive(Clone, Copy, Debug, PartialEq, Eq)]
+pub struct Stand {
+    /// Which tokens may stand there.
+    pub wanted: Wanted,
+    /// Which name stands before it.
+    pub behind: Behind,
+    /// Where the innermost brace stands that is open there, as the number of bytes before it.
+    pub brace: Option<u32>,
+}
