@@ -134,13 +134,14 @@ pub fn analyse(alloc: Global, list: &[Status], wanted: Wanted) -> Result<Analysi
     }
 }
 
-/// The dead tasks of the statuses, in order of number, where nothing else is asked: without a graph for `Auto`, and by the graph that is wanted by name.
+/// The dead tasks of the statuses, in order of number, where nothing else is asked: by the state graph or the resource
+/// graph where that is wanted by name, and else without a graph.
 pub fn dead_by(alloc: Global, list: &[Status], wanted: Wanted) -> Result<List<TaskId>, NoMemory>
     requires { IsInOrder list.now }
     ensures { IfOk result (IsDeadList list.now) }
 {
     match wanted {
-        Wanted::Auto => dead_of(alloc, list),
+        Wanted::Auto | Wanted::Wfg => dead_of(alloc, list),
         _ => {
             let analysis = analyse(alloc, list, wanted)?;
             Ok(analysis.dead)
