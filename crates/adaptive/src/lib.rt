@@ -8,6 +8,7 @@ mod dead;
 mod front;
 mod remaining;
 mod standings;
+mod waits;
 
 pub use analysis::{Analysis, Used, Wanted};
 pub use choice::{analyse, dead_by};

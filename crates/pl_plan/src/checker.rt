@@ -1,6 +1,6 @@
 // What the checker keeps, and its changes.
 
-ghost use Rattle.std.specs.Prelude.{◌≡◌, ◌+◌, ◌*◌, ◌<◌, ◌≤◌, ◌^◌, ◌++◌, ◌∷◌, [], length, replicate, slice_index_or, OnOk, IfOk, None, false, is_some, ℕ};
+ghost use Rattle.std.specs.Prelude.{◌≡◌, ◌+◌, ◌*◌, ◌<◌, ◌≤◌, ◌^◌, ◌++◌, ◌∷◌, [], length, replicate, slice_index_or, OnOk, IfOk, None, false, is_some, take, ℕ};
 ghost use Rattle.pl_plan.specs.inside.Steps.{step_at};
 ghost use Rattle.pl_plan.specs.inside.Opening.{IsOpeningChecker};
 ghost use Rattle.pl_plan.specs.declared.step.Thing.TheVariants.{Nothing};
@@ -12,16 +12,17 @@ use crate::step::{NameId, Step, Thing};
 use armus_base::{List, MAX_PHASERS, MAX_TASKS, NoMemory, Op, PhaserId, TaskId};
 use std::alloc::{AllocError, AllocFailed, Global};
 use std::marker::Model;
+use std::rc::Rc;
 
 // How many slots there may be: each assignment draws a task or makes a phaser.
 const MAX_SLOTS: usize = (MAX_TASKS + MAX_PHASERS) as usize;
 
-// With what a task was forked: where its steps begin and end, and its names' things by slot.
+// With what a task was forked: where its steps begin and end, and its names' things by slot, which tasks share that were forked with the same ones.
 #[derive(Drop)]
 pub(crate) struct Start {
     pub first: u32,
     pub after: u32,
-    pub things: Vec<Thing>,
+    pub things: Rc<Vec<Thing>>,
 }
 
 impl Model for Start {
@@ -29,15 +30,17 @@ impl Model for Start {
 
     ghost Value = { CheckerStart };
 
-    ghost view = { λ s. record { first = s.first; after = s.after; things = s.things.items } };
+    ghost view = { λ s. record { first = s.first; after = s.after; things = s.things.value.items } };
 }
 
-// What the names stand for: a slot for each name, and the current task's things by slot.
+// What the names stand for: a slot for each name, and the current task's things by slot. What the last fork was given is shared with the next one,
+// where no name has come to stand for something else since.
 #[derive(Drop)]
 pub(crate) struct Bindings {
     slots: Vec<u32>,
     slot_count: u32,
     things: Vec<Thing>,
+    shared: Option<Rc<Vec<Thing>>>,
 }
 
 // How many ops and visits there were.
@@ -48,7 +51,8 @@ pub(crate) struct Counts {
 }
 
 // What the checker keeps: the flat steps; the three lists of the plan so far; the starts of the tasks; on which phasers each is a member; what the names
-// stand for; and the counts. A visit reads one step and a few entries, and compares no names; a fork copies the things in the slots that there are.
+// stand for; and the counts. A visit reads one step and a few entries, and compares no names; a fork copies the things in the slots that there are, where
+// a name has come to stand for something else since the last fork.
 #[derive(Drop)]
 pub(crate) struct Checker {
     steps: Vec<Step>,
@@ -79,6 +83,10 @@ impl Model for Checker {
       bindings = record { slots = k.bindings.slots.items; slot_count = k.bindings.slot_count; things = k.bindings.things.items };
       counts = record { ops = k.counts.ops; visits = k.counts.visits };
     } };
+
+    ghost use Rattle.std.specs.Prelude.{◌≡◌, IfSome, take};
+
+    ghost invariant = { λ k. IfSome k.bindings.shared (λ rc. rc.value.items ≡ take k.bindings.slot_count k.bindings.things.items) };
 }
 
 impl Checker {
@@ -204,6 +212,7 @@ impl Checker {
         if self.bindings.slots[x.0 as usize] == 0 {
             self.bindings.slots[x.0 as usize] = self.bindings.slot_count;
             self.bindings.slot_count += 1;
+            self.bindings.shared = None;
         }
     }
 
@@ -214,6 +223,7 @@ impl Checker {
         ensures { self.new ≡ with_thing x.0 thing self.old }
     {
         self.bindings.things[self.bindings.slots[x.0 as usize] as usize] = thing;
+        self.bindings.shared = None;
     }
 
     // `c` is forked with the steps from `first` on, before `after`, and with the things in the slots that there are now.
@@ -228,16 +238,33 @@ impl Checker {
         requires slots { self.old.bindings.slot_count ≤ length self.old.bindings.things }
         ensures { OnOk result (self.new ≡ started c.0 first after self.old) }
     {
-        let things = Vec::from_slice(
-            alloc,
-            &self.bindings.things[..self.bindings.slot_count as usize],
-        )?;
+        let things = self.share(alloc)?;
         self.starts[c.0 as usize] = Some(Start {
             first,
             after,
             things,
         });
         Ok(())
+    }
+
+    // The things in the slots that there are now, as a fork keeps them: those of the last fork, if they are the same.
+    fn share(&mut self, alloc: Global) -> Result<Rc<Vec<Thing>>, AllocError>
+        requires slots { self.old.bindings.slot_count ≤ length self.old.bindings.things }
+        ensures same { self.new ≡ self.old }
+        ensures things { IfOk result (λ rc. rc.value.items ≡ take self.old.bindings.slot_count self.old.bindings.things) }
+    {
+        if let Some(things) = &self.bindings.shared {
+            return things.clone();
+        }
+        let things = Vec::from_slice(
+            alloc,
+            &self.bindings.things[..self.bindings.slot_count as usize],
+        )?;
+        let Ok(things) = Rc::new(alloc, things) else {
+            return Err(AllocError);
+        };
+        self.bindings.shared = Some(things.clone()?);
+        Ok(things)
     }
 
     // Whether `c` is forked.
@@ -269,6 +296,7 @@ impl Checker {
                 }
                 let range = (start.first, start.after);
                 self.bindings.things = things;
+                self.bindings.shared = None;
                 Ok(Some(range))
             }
         }
@@ -281,10 +309,13 @@ impl Checker {
     {
         let after = steps.len() as u32;
         let things = no_things(alloc, MAX_SLOTS)?;
+        let Ok(first) = Rc::new(alloc, Vec::from_slice(alloc, &things)?) else {
+            return Err(AllocError);
+        };
         let start = Start {
             first: 0,
             after,
-            things: Vec::from_slice(alloc, &things)?,
+            things: first,
         };
         let mut parents = Vec::new(alloc);
         let mut codes = Vec::new(alloc);
@@ -308,6 +339,7 @@ impl Checker {
                 slots: no_slots(alloc, names)?,
                 slot_count: 1,
                 things,
+                shared: None,
             },
             counts: Counts { ops: 0, visits: 0 },
         })
