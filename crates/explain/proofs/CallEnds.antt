@@ -1,6 +1,6 @@
 -- From what is left of a text, or without one, to all that is said of a call.
 use Rattle.std.proofs.Common.{◌≡◌, ◌⊎◌, ℕ, Bool, true, false, arith, inl, inr, refl, subst}
-use Rattle.std.specs.Prelude.{Some}
+use Rattle.std.specs.Prelude.{None, Some}
 use Rattle.armus_words.specs.Words.{Text}
 use Rattle.armus_top.specs.Headline.{HasInput, IsSound, Passage}
 use Rattle.armus_top.specs.declared.programs.TheConstants.{MAX_TEXT_BYTES}
@@ -27,7 +27,7 @@ module _ (src out : Passage) (same_source same_sink : Type 0) where
       → Finished out shown 2 number → IsExplainCall words src out same_source same_sink number
   call_with_words false shown number some same still shown_is done = absurd (cc)
   call_with_words true shown number some same still shown_is done =
-      let ends = ends_finished (MayWrite true src) false src out shown 2 number done (refl, shown_is) still in
+      let ends = ends_finished (MayWrite true src) None false src out shown 2 number done (refl, shown_is) still in
       let either = two_or_five out shown number done in
       record {
         ends = ends;

@@ -1,6 +1,6 @@
 -- Where nothing failed, the words and the text fix the status.
 use Rattle.std.proofs.Common.{◌≡◌, ◌≤◌, ℕ, Bool, true, false, arith, inl, inr, subst, sym}
-use Rattle.std.specs.Prelude.{Some, not}
+use Rattle.std.specs.Prelude.{Some}
 use Rattle.armus_base.specs.Runs.{state_after}
 use Rattle.armus_base.specs.States.{State}
 use Rattle.armus_words.specs.Words.{Text}
@@ -10,7 +10,7 @@ use Rattle.armus_top.specs.declared.programs.TheConstants.{MAX_TEXT_BYTES}
 use Rattle.armus_top.proofs.Ending.{not_long, not_more, rose_from, same_input}
 use Rattle.armus_top.proofs.OnePlan.{plan_or_fault}
 use Rattle.explain.specs.Explained.{IsExplanationOf}
-use Rattle.explain.specs.Outputs.{FixesStatus, MayWrite}
+use Rattle.explain.specs.Outputs.{FixesStatus, MayWrite, text_limit}
 use Rattle.explain.specs.Refused.{IsRefusedWith}
 
 small : (state : State) (status : ℕ) → TellsDead state status → status ≤ 1
@@ -52,9 +52,9 @@ module _ (src : Passage) where
     long = λ none more. three;
   }
 
-pub completes : (words : Bool) (src out : Passage) (number : ℕ) → EndsWith (MayWrite words src) (not words) src out number → IsCalm src out number
+pub completes : (words : Bool) (src out : Passage) (number : ℕ) → EndsWith (MayWrite words src) (text_limit words) false src out number → IsCalm src out number
     → FixesStatus words src number
 completes words src out number (whole lines is took still sound) calm = fixed src words number lines is
-completes words src out number (read_fault four does failed sound kept) calm = absurd (calm.source (rose_from src.faults_before src.faults_after failed))
+completes words src out number (read_fault four does failed read sound kept) calm = absurd (calm.source (rose_from src.faults_before src.faults_after failed))
 completes words src out number (write_fault five still failed part) calm = absurd (calm.sink (rose_from out.faults_before out.faults_after failed))
-completes words src out number (no_memory six still sound part) calm = absurd (calm.memory six)
+completes words src out number (no_memory six still read sound part) calm = absurd (calm.memory six)

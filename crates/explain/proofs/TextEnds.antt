@@ -14,7 +14,7 @@ use Rattle.explanation.specs.Lines.{place_line}
 use Rattle.explanation.specs.declared.explaining.Explanation.{Explanation}
 use Rattle.explanation.specs.declared.places.TextPlace.{TextPlace}
 use Rattle.armus_words.specs.Words.{Text}
-use Rattle.armus_top.specs.Headline.{EndsWith, HasInput, IsSound, Passage, no_memory}
+use Rattle.armus_top.specs.Headline.{EndsWith, HasInput, IsSound, Passage, ReadNoMore, no_memory}
 use Rattle.armus_top.specs.Programs.{IsFaultOf, TellsDead}
 use Rattle.armus_top.specs.inside.Reading.{EndsUnread, memory_wanting, source_failed, too_long}
 use Rattle.armus_top.specs.inside.Writing.{Finished}
@@ -52,14 +52,17 @@ refusal_left text why place shown out number fault at shown_is done = inl (3, sh
 
 -- how the call ends whose text was read
 pub ends_of_text : (text : Text) (src out : Passage) (number : ℕ) → HasInput (Some MAX_TEXT_BYTES) src text → IsSound src → FinishesText text out number
-    → EndsWith (MayWrite false src) true src out number
+    → EndsWith (MayWrite false src) (Some MAX_TEXT_BYTES) false src out number
 ends_of_text text src out number has still (inl (status, lines, answers, done)) =
-    ends_finished (MayWrite false src) true src out lines status number done (inl (text, has, answers)) still
-ends_of_text text src out number has still (inr (six, sound, kept)) = no_memory six still sound (inl kept)
+    ends_finished (MayWrite false src) (Some MAX_TEXT_BYTES) false src out lines status number done (inl (text, has, answers)) still
+ends_of_text text src out number has still (inr (six, sound, kept)) =
+    let read : ReadNoMore (Some MAX_TEXT_BYTES) src = (text, has.0, omega (arith, has.2)) in
+    no_memory six still read sound (inl kept)
 
 -- how the call ends that could not read its text
-pub ends_without_text : (src out : Passage) (number : ℕ) → EndsUnread MAX_TEXT_BYTES src out number → EndsWith (MayWrite false src) true src out number
-ends_without_text src out number unread = ends_without_input (MayWrite false src) MAX_TEXT_BYTES src out number (λ much. inr (much, refl, refl)) unread
+pub ends_without_text : (src out : Passage) (number : ℕ) → EndsUnread MAX_TEXT_BYTES src out number
+    → EndsWith (MayWrite false src) (Some MAX_TEXT_BYTES) false src out number
+ends_without_text src out number unread = ends_without_input (MayWrite false src) MAX_TEXT_BYTES false src out number (λ much. inr (much, refl, refl)) unread
 
 -- a whole output has a status of 3 at most
 at_most_three : (text : Text) (status : ℕ) (lines : Text) → AnswersText text status lines → status ≤ 3
@@ -82,5 +85,5 @@ unwritten_of_text text out number (inr (same, sound, kept)) six = kept
 pub unwritten_without_text : (src out : Passage) (number : ℕ) → EndsUnread MAX_TEXT_BYTES src out number → number ≡ 6 → Keeps out.before out.after
 unwritten_without_text src out number (too_long much still (inl done)) six = absurd (finished_not_six out _ 3 number done (omega arith) six)
 unwritten_without_text src out number (too_long much still (inr (same, sound, kept))) six = kept
-unwritten_without_text src out number (source_failed four failed sound kept) six = kept
-unwritten_without_text src out number (memory_wanting same still sound kept) six = kept
+unwritten_without_text src out number (source_failed four failed read sound kept) six = kept
+unwritten_without_text src out number (memory_wanting same still read sound kept) six = kept

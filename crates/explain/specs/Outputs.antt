@@ -1,5 +1,5 @@
 -- What a call of the program that explains runs leaves.
-use Rattle.std.specs.Prelude.{◌≡◌, ◌≤◌, ◌⊎◌, ℕ, Bool, true, false, not, Some, List, [], ◌∷◌, codes}
+use Rattle.std.specs.Prelude.{◌≡◌, ◌≤◌, ◌⊎◌, ℕ, Bool, true, false, Some, List, [], ◌∷◌, codes, Option, None}
 use Rattle.std.specs.Io.KnownBytes.{Keeps}
 use Rattle.pl_syntax.specs.Printed.{line}
 use Rattle.report.specs.Refusals.{refusal_text}
@@ -30,6 +30,11 @@ MayWrite true src status lines = (status ≡ 2) × (lines ≡ explain_usage)
 MayWrite false src status lines = ((text : Text) × HasInput (Some MAX_TEXT_BYTES) src text × AnswersText text status lines)
     ⊎ (GaveTooMuch (Some MAX_TEXT_BYTES) src × (status ≡ 3) × (lines ≡ refusal_text Length))
 
+-- the most bytes of a text, where one is read
+abbrev pub text_limit : Bool → Option ℕ
+text_limit true = None
+text_limit false = Some MAX_TEXT_BYTES
+
 -- 2 where there are words, 0 or 1 for an accepted text, and 3 for a refused or a too long one
 pub record FixesStatus (words : Bool) (src : Passage) (number : ℕ) : Type 0 where
   pub usage : words ≡ true → number ≡ 2
@@ -40,7 +45,7 @@ pub record FixesStatus (words : Bool) (src : Passage) (number : ℕ) : Type 0 wh
 -- all that is said of a call: how it ends; that with words the source stays as it was and memory suffices; that the sink stays as it was after a fault of the
 -- source, and takes nothing where memory is wanting; and its status, where nothing failed
 pub record IsExplainCall (words : Bool) (src out : Passage) (same_source same_sink : Type 0) (number : ℕ) : Type 0 where
-  pub ends : EndsWith (MayWrite words src) (not words) src out number
+  pub ends : EndsWith (MayWrite words src) (text_limit words) false src out number
   pub unread : words ≡ true → same_source × ((number ≡ 2) ⊎ (number ≡ 5))
   pub silent : number ≡ 4 → same_sink
   pub unwritten : number ≡ 6 → Keeps out.before out.after
