@@ -1,0 +1,8 @@
+use Rattle.std.proofs.Common.{◌≡◌, false, map, take}
+use Rattle.std.specs.List.{list_any}
+use Rattle.explained_tasks.specs.Sayings.{same_said}
+use Rattle.explained_tasks.specs.inside.SayingValues.{said_by}
+use Rattle.explained_tasks.proofs.impeder_lines.is_among.Given as goal
+
+abbrev pub invariant-loop-s : goal.invariant-loop-s
+invariant-loop-s l = list_any (λ said. same_said said (said_by l.saying)) (map said_by (take l.s-index l.sayings)) ≡ false

@@ -1,0 +1,37 @@
+-- The explanation of the state in which a run has ended.
+use Rattle.std.specs.Prelude.{◌≡◌, ℕ, Bool, List, Option, ◌++◌}
+use Rattle.accounts.specs.declared.account.Account.{Account}
+use Rattle.armus_base.specs.Deadlocks.{IsDeadBy}
+use Rattle.armus_base.specs.declared.ending.Final.{Final}
+use Rattle.armus_base.specs.States.{Phases}
+use Rattle.report.specs.Counts.{counts_of}
+use Rattle.report.specs.Lines.{counts_line}
+use Rattle.report.specs.Standings.{AreStandings}
+use Rattle.report.specs.declared.standing.Standing.{Standing}
+use Rattle.explained_tasks.specs.declared.outcome.Verdict.{Verdict}
+use Rattle.explained_tasks.specs.Facts.{FactsValue}
+use Rattle.explained_tasks.specs.Paragraphs.{paragraphs}
+use Rattle.explained_tasks.specs.VerdictWords.{verdict_line}
+use Rattle.explained_tasks.specs.Verdicts.{IsVerdict, shown_of, somebody_waits}
+
+-- the lines with this verdict: how many tasks stand in each way, the verdict, and the paragraphs
+abbrev pub explained_by : FactsValue → (ℕ → Phases) → List ℕ → Verdict → List ℕ
+explained_by f phases counts v = counts ++ verdict_line f v ++ paragraphs f phases (shown_of v)
+
+-- these lines explain what is known in a state with these phases, behind this line of counts, and tell whether somebody waits for ever
+pub record Explains (f : FactsValue) (phases : ℕ → Phases) (counts : List ℕ) (lines : List ℕ) (waits : Bool) : Type 0 where
+  pub verdict : Verdict
+  pub found : IsVerdict f phases verdict
+  pub is_it : lines ≡ explained_by f phases counts verdict
+  pub tells : waits ≡ somebody_waits verdict
+
+-- what is known of a text with this account, of a file with this name, where its tasks stand so
+abbrev pub facts_of : List ℕ → Option (List ℕ) → Account → List Standing → FactsValue
+facts_of text file account standings = record { text = text; file = file; account = account; standings = standings }
+
+-- The lines explain how a run has ended, in a state with these phases, and tell whether somebody waits for ever: the standings and the line that counts them
+-- are those of the report.
+pub record IsExplanation (text : List ℕ) (file : Option (List ℕ)) (account : Account) (end : Final) (phases : ℕ → Phases) (lines : List ℕ) (waits : Bool) : Type 0 where
+  pub standings : List Standing
+  pub stand : AreStandings (IsDeadBy end.blocked) end.ends standings
+  pub explains : Explains (facts_of text file account standings) phases (counts_line (counts_of standings)) lines waits

@@ -1,0 +1,4 @@
+pub mod SayingValues
+pub mod WalkEnds
+pub mod Grouped
+pub mod GroupTexts

@@ -1,0 +1,126 @@
+// The explanation of the state in which a run has ended.
+ghost use Rattle.std.specs.Prelude.{◌≡◌, ◌<◌, ◌^◌, IfOk, length, option_copied};
+ghost use Rattle.armus_base.specs.Statuses.{IsInOrder};
+ghost use Rattle.explained_tasks.specs.Explanations.{Explains, IsExplanation, facts_of};
+ghost use Rattle.explained_tasks.specs.Fitting.{FitsEnd, FitsPlan, WaitForSome};
+ghost use Rattle.pl_core.specs.Worlds.{state_of};
+ghost use Rattle.explained_tasks.specs.Verdicts.{shown_of, somebody_waits};
+
+use crate::facts::Facts;
+use crate::outcome::Verdict;
+use accounts::Account;
+use armus_base::{Final, List, NoMemory, TaskId};
+use pl_core::World;
+use report::{Outline, outline_of};
+use std::alloc::Global;
+use text_places::TextPlaces;
+
+/// The explanation of a run, and whether somebody waits for ever.
+#[derive(Drop)]
+pub struct Explanation {
+    /// The lines of the explanation.
+    pub lines: List<u8>,
+    /// Whether a task waits.
+    pub has_waiting: bool,
+}
+
+// The shown tasks.
+fn shown_of(alloc: Global, verdict: &Verdict) -> Result<Vec<TaskId>, NoMemory>
+    ensures { IfOk result (λ v. v.items ≡ shown_of verdict.now) }
+{
+    let mut shown = Vec::new(alloc);
+    match verdict {
+        Verdict::Nobody => {}
+        Verdict::Circle(tasks) => shown.extend_from_slice(tasks.as_slice())?,
+        Verdict::Chain(held, last) => {
+            shown.push(*held)?;
+            shown.push(*last)?;
+        }
+    }
+    Ok(shown)
+}
+
+// Whether a task waits, by the verdict.
+fn has_waiting(verdict: &Verdict) -> bool
+    ensures { result ≡ somebody_waits verdict.now }
+{
+    match verdict {
+        Verdict::Nobody => false,
+        _ => true,
+    }
+}
+
+impl<'a> Facts<'a> {
+    ghost use Rattle.explained_tasks.specs.Explanations.{Explains};
+    ghost use Rattle.explained_tasks.specs.Fitting.{FitsPlan, WaitForSome};
+
+    /// Explains what is known, behind this line of counts.
+    pub(crate) fn explanation(
+        &self,
+        world: &World,
+        counts: List<u8>,
+    ) -> Result<Explanation, NoMemory>
+        requires fits { FitsPlan self.now world.now.plan }
+        requires wait { WaitForSome self.now (state_of world.now).phases }
+        ensures { IfOk result (λ e. Explains self.now (state_of world.now).phases counts e.lines e.has_waiting) }
+    {
+        let verdict = self.verdict(world)?;
+        let shown = shown_of(self.alloc, &verdict)?;
+        let mut out = counts.into_vec();
+        self.put_verdict(&mut out, &verdict)?;
+        self.put_paragraphs(&mut out, world, &shown)?;
+        Ok(Explanation {
+            lines: List::from_vec(out),
+            has_waiting: has_waiting(&verdict),
+        })
+    }
+}
+
+// Explains what is known, where the standings and the line of counts are those of an outline.
+fn explain_outline(
+    alloc: Global,
+    places: &TextPlaces,
+    file: Option<&[u8]>,
+    account: &Account,
+    world: &World,
+    outline: Outline,
+) -> Result<Explanation, NoMemory>
+    requires few { length outline.standings < 2 ^ 32 }
+    requires fits { FitsPlan (facts_of places.now (option_copied file) account.now outline.standings) world.now.plan }
+    requires wait { WaitForSome (facts_of places.now (option_copied file) account.now outline.standings) (state_of world.now).phases }
+    ensures { IfOk result (λ e. Explains (facts_of places.now (option_copied file.entry) account.now outline.standings) (state_of world.now).phases outline.counts e.lines e.has_waiting) }
+{
+    let Outline {
+        standings,
+        counts,
+        cycle: _,
+        has_dead: _,
+    } = outline;
+    let facts = Facts {
+        alloc,
+        places,
+        file,
+        account,
+        standings: standings.as_slice(),
+    };
+    facts.explanation(world, counts)
+}
+
+/// Explains the state of a world in which no task may go on, of the text with these places and this account; `file` is the name of the text's file, if it
+/// comes from one, and `end` is the value of the state. The only error is want of memory.
+pub fn explanation_of(
+    alloc: Global,
+    places: &TextPlaces,
+    file: Option<&[u8]>,
+    account: &Account,
+    world: &World,
+    end: &Final,
+) -> Result<Explanation, NoMemory>
+    requires order { IsInOrder end.now.blocked }
+    requires few { length world.now.plan.parents < 2 ^ 32 }
+    requires fits { FitsEnd places.now (option_copied file) account.now world.now.plan end.now (state_of world.now).phases }
+    ensures { IfOk result (λ e. IsExplanation places.now (option_copied file.entry) account.now end.now (state_of world.now).phases e.lines e.has_waiting) }
+{
+    let outline = outline_of(alloc, end)?;
+    explain_outline(alloc, places, file, account, world, outline)
+}
