@@ -1,6 +1,7 @@
 -- The cycle of a report is a deadlocked set, and the graph changes the last line alone.
 use Rattle.std.proofs.Common.{◌≡◌, ◌∙◌, ◌++◌, ℕ, List, ap, inl, inr, sym, subst, refl, append_assoc}
 use Rattle.std.specs.Prelude.{◌↔◌}
+use Rattle.armus_base.specs.declared.ending.Final.{Final}
 use Rattle.armus_base.specs.declared.ids.TaskId.{TaskId}
 use Rattle.armus_base.specs.AgreementLaws.{has_task}
 use Rattle.armus_base.specs.CheckedPlans.{IsCheckedPlan}
@@ -9,6 +10,7 @@ use Rattle.armus_base.specs.FinalLaws.{IsOfPlan}
 use Rattle.armus_base.specs.Finals.{final_of}
 use Rattle.armus_base.specs.Plans.{Plan}
 use Rattle.armus_base.specs.Runs.{IsFinal}
+use Rattle.armus_base.specs.Serial.{IsSerialAvoidedFinal}
 use Rattle.armus_base.specs.States.{State}
 use Rattle.armus_base.proofs.CycleIsDeadlocked.{cycle_is_deadlocked_in, walk_cycle_waits}
 use Rattle.armus_base.proofs.DeadByStatuses.{dead_by_final, run_is_of_plan}
@@ -20,11 +22,14 @@ use Rattle.report.specs.declared.standing.Standing.{Standing}
 use Rattle.report.proofs.OneReport.{one_cycle_text, one_standings}
 use Rattle.verdict.specs.Cycles.{IsDeadStep}
 use Rattle.armus_words.specs.Words.{Text}
+use Rattle.adaptive.specs.declared.analysis.Wanted.{Wanted}
+use Rattle.armus_top.specs.Avoids.{TellsRefused}
 use Rattle.armus_top.specs.Programs.{TellsDead}
-use Rattle.armus_top.proofs.OneRefusal.{one_status}
-use Rattle.answer_laws.specs.Cycles.{CycleIsProof, GraphChangesLastLine, ShowsDeadlock, by_cycle, by_none}
+use Rattle.armus_top.proofs.OnePlan.{checked_plan, one_plan}
+use Rattle.armus_top.proofs.OneRefusal.{one_refused_status, one_status}
+use Rattle.answer_laws.specs.Cycles.{CycleIsProof, DifferInGraph, GraphChangesLastLine, GraphChangesNoRefusal, ShowsDeadlock, by_cycle, by_none}
 use Rattle.answer_laws.specs.Held.{HeldTasksHaveEnd}
-use Rattle.answer_laws.proofs.OneRun.{one_final}
+use Rattle.answer_laws.proofs.OneRun.{one_final, one_serial_state}
 
 -- the tasks of a reported cycle are a deadlocked set of the state
 reported_is_deadlocked : (plan : Plan) (state : State) (cycle : List TaskId) → IsReportedCycle (final_of plan state).blocked cycle
@@ -61,18 +66,14 @@ ahead standings cycle = counts_line (counts_of standings) ++ task_lines standing
 lines_are : (a b c d : Text) → a ++ b ++ c ++ d ≡ (a ++ b ++ c) ++ d
 lines_are a b c d = simp append_assoc refl
 
-pub graph_changes_last_line : GraphChangesLastLine
-graph_changes_last_line plan g h a b p q checked r s =
-    let states : s.state ≡ r.state = one_final plan s.state r.state checked s.final r.final in
-    let blocked = (final_of plan r.state).blocked in
-    let x = r.report_is in
-    let y : IsReport (final_of plan r.state) h q = subst (λ (z : State). IsReport (final_of plan z) h q) states s.report_is in
-    let stands : y.standings ≡ x.standings = one_standings (IsDeadBy blocked) (final_of plan r.state).ends y.standings x.standings y.stand x.stand in
-    let cycles : y.cycle_text ≡ x.cycle_text = one_cycle_text blocked y.cycle_text x.cycle_text y.cycle x.cycle in
+-- reports of one final state by two graphs
+differ_in_graph : (end : Final) (g h : Wanted) (p q : Text) → IsReport end g p → IsReport end h q → DifferInGraph p q
+differ_in_graph end g h p q x y =
+    let stands : y.standings ≡ x.standings = one_standings (IsDeadBy end.blocked) end.ends y.standings x.standings y.stand x.stand in
+    let cycles : y.cycle_text ≡ x.cycle_text = one_cycle_text end.blocked y.cycle_text x.cycle_text y.cycle x.cycle in
     let front = ahead x.standings x.cycle_text in
     let (used, m, used_is, count_is, last_is) = x.graph in
     let (other, n, other_is, number_is, end_is) = y.graph in (
-      one_status r.state a b r.status_is (subst (λ (z : State). TellsDead z b) states s.status_is),
       front,
       used,
       other,
@@ -81,6 +82,26 @@ graph_changes_last_line plan g h a b p q checked r s =
       x.lines ∙ lines_are (counts_line (counts_of x.standings)) (task_lines x.standings) x.cycle_text x.graph_text ∙ ap (λ t. front ++ t) last_is,
       y.lines ∙ lines_are (counts_line (counts_of y.standings)) (task_lines y.standings) y.cycle_text y.graph_text
           ∙ ap (λ z. ahead z y.cycle_text ++ y.graph_text) stands ∙ ap (λ z. ahead x.standings z ++ y.graph_text) cycles ∙ ap (λ t. front ++ t) end_is,
+    )
+
+pub graph_changes_last_line : GraphChangesLastLine
+graph_changes_last_line plan g h a b p q checked r s =
+    let states : s.state ≡ r.state = one_final plan s.state r.state checked s.final r.final in
+    let reports : IsReport (final_of plan r.state) h q = subst (λ (z : State). IsReport (final_of plan z) h q) states s.report_is in (
+      one_status r.state a b r.status_is (subst (λ (z : State). TellsDead z b) states s.status_is),
+      differ_in_graph (final_of plan r.state) g h p q r.report_is reports,
+    )
+
+pub graph_changes_no_refusal : GraphChangesNoRefusal
+graph_changes_no_refusal input g h a b p q r s =
+    let plans : s.plan ≡ r.plan = one_plan input s.plan r.plan s.plan_is r.plan_is in
+    let serial : IsSerialAvoidedFinal r.plan s.state = subst (λ x. IsSerialAvoidedFinal x s.state) plans (s.serial refl) in
+    let states : s.state ≡ r.state = one_serial_state r.plan s.state r.state (checked_plan input r.plan r.plan_is) serial (r.serial refl) in
+    let tells : TellsRefused r.plan r.state b = subst (λ x. TellsRefused r.plan x b) states (subst (λ x. TellsRefused x s.state b) plans s.status_is) in
+    let reports : IsReport (final_of r.plan r.state) h q =
+    subst (λ x. IsReport (final_of r.plan x) h q) states (subst (λ x. IsReport (final_of x s.state) h q) plans s.report_is) in (
+      one_refused_status r.plan r.state a b r.status_is tells,
+      differ_in_graph (final_of r.plan r.state) g h p q r.report_is reports,
     )
 
 pub held_tasks_have_end : HeldTasksHaveEnd

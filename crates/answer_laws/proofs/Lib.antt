@@ -6,3 +6,4 @@ pub mod Avoided
 pub mod Cycles
 pub mod Named
 pub mod Printed
+pub mod LiveLines

@@ -4,9 +4,7 @@ use Rattle.std.specs.Prelude.{Ok}
 use Rattle.armus_base.specs.CheckedPlans.{IsCheckedPlan}
 use Rattle.armus_base.specs.Finals.{final_of}
 use Rattle.armus_base.specs.Plans.{Plan}
-use Rattle.armus_base.specs.Runs.{state_after}
 use Rattle.armus_base.specs.Serial.{IsSerialAvoidedFinal}
-use Rattle.armus_base.proofs.OneSerialEnd.{one_serial_end}
 use Rattle.adaptive.specs.declared.analysis.Wanted.{Wanted}
 use Rattle.pl_syntax.specs.Printed.{line, printed_of}
 use Rattle.pl_syntax.proofs.Unique.{one_tree}
@@ -40,7 +38,7 @@ use Rattle.answer_laws.specs.Outputs.{AreAlike}
 use Rattle.answer_laws.specs.ReportedRuns.{ReportsRun}
 use Rattle.answer_laws.proofs.OneRefused.{one_refused}
 use Rattle.answer_laws.proofs.OneReplay.{one_replay}
-use Rattle.answer_laws.proofs.OneRun.{one_live_run, one_run}
+use Rattle.answer_laws.proofs.OneRun.{one_live_run, one_run, one_serial_state}
 
 -- the same text is alike
 alike : (c : Command) (p q : Text) → p ≡ q → AreAlike c p q
@@ -65,16 +63,14 @@ one_serial : (input : Text) (g : Wanted) (workers a b : ℕ) (p q : Text) → wo
 one_serial input g workers a b p q one r s =
     let plans : s.plan ≡ r.plan = one_plan input s.plan r.plan s.plan_is r.plan_is in
     let serial : IsSerialAvoidedFinal r.plan s.state = subst (λ x. IsSerialAvoidedFinal x s.state) plans (s.serial one) in
-    let first = r.serial one in
-    let ends = one_serial_end r.plan first.steps serial.steps (checked_plan input r.plan r.plan_is) first.ended serial.ended in
-    let states : s.state ≡ r.state = sym serial.there ∙ sym (ap state_after ends) ∙ first.there in
+    let states : s.state ≡ r.state = one_serial_state r.plan s.state r.state (checked_plan input r.plan r.plan_is) serial (r.serial one) in
     let tells : TellsRefused r.plan r.state b = subst (λ x. TellsRefused r.plan x b) states (subst (λ x. TellsRefused x s.state b) plans s.status_is) in
     let reports : IsReport (final_of r.plan r.state) g q =
     subst (λ x. IsReport (final_of r.plan x) g q) states (subst (λ x. IsReport (final_of x s.state) g q) plans s.report_is) in
     (one_refused_status r.plan r.state a b r.status_is tells, one_report (final_of r.plan r.state) g p q r.report_is reports)
 
 -- a clock text has one plan
-one_clock_plan : (text : Text) (plan other : Plan) → IsClockPlanOf text plan → IsClockPlanOf text other → plan ≡ other
+pub one_clock_plan : (text : Text) (plan other : Plan) → IsClockPlanOf text plan → IsClockPlanOf text other → plan ≡ other
 one_clock_plan text plan other (program, reads, unfolds) (second, reads_too, unfolds_too) =
     let too : clock_plan_of program ≡ Ok other =
     subst (λ (x : ClockTree). clock_plan_of x ≡ Ok other) (one_clock_tree text second program reads_too reads) unfolds_too in

@@ -8,10 +8,12 @@ use Rattle.armus_base.specs.CheckedPlans.{IsCheckedPlan}
 use Rattle.armus_base.specs.Deadlocks.{IsListedOn}
 use Rattle.armus_base.specs.Finals.{final_of, is_awaited}
 use Rattle.armus_base.specs.Plans.{Plan}
-use Rattle.armus_base.specs.Runs.{IsFinal}
+use Rattle.armus_base.specs.Runs.{IsFinal, state_after}
+use Rattle.armus_base.specs.Serial.{IsSerialAvoidedFinal}
 use Rattle.armus_base.specs.States.{State}
 use Rattle.armus_base.specs.Statuses.{IsInOrder}
 use Rattle.armus_base.proofs.OneEnd.{one_end}
+use Rattle.armus_base.proofs.OneSerialEnd.{one_serial_end}
 use Rattle.armus_base.proofs.StatusesAre.{statuses_are}
 use Rattle.dep_state.proofs.DeadSets.{one_status}
 use Rattle.adaptive.specs.declared.analysis.Wanted.{Wanted}
@@ -29,6 +31,11 @@ use Rattle.answer_laws.specs.Outputs.{HaveSameLines}
 pub one_final : (plan : Plan) (f s : State) → IsCheckedPlan plan → IsFinal plan f → IsFinal plan s → f ≡ s
 one_final plan f s checked a b =
     let ends = one_end plan a.steps b.steps checked a.run b.run a.maximal b.maximal in sym a.there ∙ ends.1 ∙ b.there
+
+-- the serial avoided run of a checked plan ends in one state
+pub one_serial_state : (plan : Plan) (f s : State) → IsCheckedPlan plan → IsSerialAvoidedFinal plan f → IsSerialAvoidedFinal plan s → f ≡ s
+one_serial_state plan f s checked a b =
+    let ends = one_serial_end plan a.steps b.steps checked a.ended b.ended in sym a.there ∙ ap state_after ends ∙ b.there
 
 pub one_run : (plan : Plan) (g : Wanted) (a b : ℕ) (p q : Text) → IsCheckedPlan plan → IsRunOf plan g a p → IsRunOf plan g b q → (a ≡ b) × (p ≡ q)
 one_run plan g a b p q checked r s =

@@ -12,6 +12,7 @@ use Rattle.armus_words.specs.declared.command.Command.TheVariants.{Check, Run, A
 use Rattle.armus_words.specs.Words.{Text}
 use Rattle.armus_top.specs.Commands.{IsAnswered}
 use Rattle.armus_top.specs.Programs.{IsChecked, IsPlanOf}
+use Rattle.armus_top.proofs.Inputs.{never_both}
 use Rattle.answer_laws.specs.Printed.{GoesByProgram, PrintingKeepsMeaning}
 
 -- ---- two texts of one program
@@ -49,8 +50,11 @@ pub printing_keeps_meaning : PrintingKeepsMeaning
 printing_keeps_meaning input printed status (plan, program, is, zero, text) =
     let forms : IsText (printed_of program) program =
     prints_text program (text_is_writable input program is.reads) is.reads.shallow in
-    let reads : IsText printed program = subst (λ t. IsText t program) (sym text) forms in (
-      (plan, program, record { reads = reads; unfolds = is.unfolds }, refl, text),
+    let reads : IsText printed program = subst (λ t. IsText t program) (sym text) forms in
+    let answer : IsAnswered (Check true) printed 0 printed = (plan, program, record { reads = reads; unfolds = is.unfolds }, refl, text) in (
+      answer,
+      λ other. (plan_too program printed input reads is.reads other, plan_too program input printed is.reads reads other),
+      λ workers refusal refused. never_both (Check true) printed refusal printed 0 refused answer,
       λ c number output goes. (
         answered_too program printed input reads is.reads c number output goes,
         answered_too program input printed is.reads reads c number output goes,

@@ -6,3 +6,4 @@ pub mod Cycles
 pub mod Held
 pub mod Replayed
 pub mod Printed
+pub mod LiveLines

@@ -1,4 +1,5 @@
 // Laws of answers: what the words and the input fix.
+ghost use Rattle.answer_laws.specs.LiveLines.{LiveClockTellsAsClock, LiveRunTellsAsRun};
 ghost use Rattle.answer_laws.specs.OneAnswer.{OneAnswer, RunsReportAlike};
 ghost use Rattle.answer_laws.specs.Printed.{PrintingKeepsMeaning};
 
@@ -9,7 +10,13 @@ pub fn one_answer()
     ensures alike { RunsReportAlike }
 {}
 
-/// What `check --print` writes of an input is answered as the input is, and printed again it is the same.
+/// A run with live lines has the status of one without, and writes the same behind them; so it is with `clock`.
+pub fn live_tells_as_run()
+    ensures run { LiveRunTellsAsRun }
+    ensures clock { LiveClockTellsAsClock }
+{}
+
+/// What `check --print` writes of an input has its plan, is answered as it is, and printed again it is the same.
 pub fn printing_keeps_meaning()
     ensures { PrintingKeepsMeaning }
 {}

@@ -1,12 +1,13 @@
 // Laws of the report of a run.
-ghost use Rattle.answer_laws.specs.Cycles.{CycleIsProof, GraphChangesLastLine};
+ghost use Rattle.answer_laws.specs.Cycles.{CycleIsProof, GraphChangesLastLine, GraphChangesNoRefusal};
 ghost use Rattle.answer_laws.specs.Held.{HeldTasksHaveEnd};
 
 /// The status of a run is 1 exactly where its report has a cycle line, and the tasks of that line are a deadlocked set of the state in which the run ends.
-/// The graph that is wanted changes the last line of a report alone.
+/// The graph that is wanted changes the last line of a report alone, of a run and of one with avoidance and one worker.
 pub fn cycle_is_proof()
     ensures proof { CycleIsProof }
     ensures graph { GraphChangesLastLine }
+    ensures refusals { GraphChangesNoRefusal }
 {}
 
 /// A task that a run reports as held waits, through held ones, for one that has ended or is unforked.

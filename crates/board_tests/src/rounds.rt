@@ -30,5 +30,5 @@ pub(crate) fn has_first_round<R: Threads + Sync>(
     let turned = tasks.as_mut_slice();
     let made = round(rt, alloc, turned, &board, plan, Wanted::Auto, 2, &Still)?;
     let is_forked = forked(alloc, &mut tasks) == number(children) as usize;
-    Ok(made == u64::from(number(events)) && is_forked)
+    Ok(made == number(events) && is_forked)
 }
