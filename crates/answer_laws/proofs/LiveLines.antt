@@ -1,5 +1,5 @@
 -- A run with live lines and one without have one status and one report.
-use Rattle.std.proofs.Common.{◌≡◌, ◌∙◌, ◌++◌, ℕ, [], ap, inl, inr, sym, subst, true, false}
+use Rattle.std.proofs.Common.{◌≡◌, ◌∙◌, ◌++◌, ℕ, [], ap, arith, inl, inr, sym, subst, true, false}
 use Rattle.armus_base.specs.CheckedPlans.{IsCheckedPlan}
 use Rattle.armus_base.specs.Plans.{Plan}
 use Rattle.adaptive.specs.declared.analysis.Wanted.{Wanted}
@@ -25,7 +25,7 @@ tells_too plan g a b p q checked r s =
 
 -- an output without lines
 no_lines : (p q : Text) → p ≡ q → StandsBehindLines p q
-no_lines p q same = ([], tt, same)
+no_lines p q same = ([], λ i j d l lt. absurd (omega arith), same)
 
 pub live_run_tells_as_run : LiveRunTellsAsRun
 live_run_tells_as_run workers others g input a b p q (inl (plan, is, r)) (inl (other, too, s)) =
