@@ -20,11 +20,11 @@ use Rattle.pl_plan.proofs.PlanPieces.{end_has_pieces, one_list_each}
 module _ (two : Bool) where
   -- ---- lists of stages
 
-  append_nil : {X : Type 0} (xs : List X) → xs ++ [] ≡ xs
+  pub append_nil : {X : Type 0} (xs : List X) → xs ++ [] ≡ xs
   append_nil [] = refl
   append_nil (x ∷ xs) = ap (λ z. x ∷ z) (append_nil xs)
 
-  leads_more :
+  pub leads_more :
       (before xs ys : List Stage) (s m e : UnfoldingState) → StagesLead two before xs s m → StagesLead two (before ++ xs) ys m e → StagesLead two before (xs ++ ys) s e
   leads_more before [] ys s m e l r =
       subst (λ z. StagesLead two before ys z e) (sym l) (subst (λ b. StagesLead two b ys m e) (append_nil before) r)
@@ -35,7 +35,7 @@ module _ (two : Bool) where
   )
 
   -- the stages of more tasks begin with those of fewer
-  stages_more : (n k : ℕ) (s : UnfoldingState) → (rest : List Stage) × (stages_below two (n + k) s ≡ stages_below two n s ++ rest)
+  pub stages_more : (n k : ℕ) (s : UnfoldingState) → (rest : List Stage) × (stages_below two (n + k) s ≡ stages_below two n s ++ rest)
   stages_more n zero s = ([], subst (λ m. stages_below two m s ≡ stages_below two n s ++ []) (let e : n ≡ n + 0 = omega arith in e) (sym (append_nil (stages_below two n s))))
   stages_more n (suc k) s =
       let before = stages_more n k s in
@@ -46,7 +46,7 @@ module _ (two : Bool) where
       )
 
   -- where the same tasks have the same starts, they have the same stages
-  stages_same :
+  pub stages_same :
       (n : ℕ) (s e : UnfoldingState) → ((u : ℕ) → u < n → slice_index_or e.starts u None ≡ slice_index_or s.starts u None) → stages_below two n e ≡ stages_below two n s
   stages_same zero s e same = refl
   stages_same (suc n) s e same =
@@ -64,23 +64,23 @@ module _ (two : Bool) where
   -- ---- what a stage keeps
 
   -- a task is drawn by one before it, and each has a start or none
-  record IsKept (s : UnfoldingState) : Type 0 where
-    drawn : (c u : ℕ) → is_parent u (slice_index_or s.plan.parents c None) ≡ true → u < c
-    many : length s.starts ≡ length s.plan.parents
-    few : length s.plan.parents ≤ 4096
+  pub record IsKept (s : UnfoldingState) : Type 0 where
+    pub drawn : (c u : ℕ) → is_parent u (slice_index_or s.plan.parents c None) ≡ true → u < c
+    pub many : length s.starts ≡ length s.plan.parents
+    pub few : length s.plan.parents ≤ 4096
 
   -- one more stage of task t keeps that, and the starts of the tasks up to t
-  record Keeps (t : ℕ) (s e : UnfoldingState) : Type 0 where
-    kept : IsKept e
-    more : length s.plan.parents ≤ length e.plan.parents
-    starts : (u : ℕ) → u ≤ t → slice_index_or e.starts u None ≡ slice_index_or s.starts u None
+  pub record Keeps (t : ℕ) (s e : UnfoldingState) : Type 0 where
+    pub kept : IsKept e
+    pub more : length s.plan.parents ≤ length e.plan.parents
+    pub starts : (u : ℕ) → u ≤ t → slice_index_or e.starts u None ≡ slice_index_or s.starts u None
 
   not_false : (b : Bool) → not b ≡ false → b ≡ true
   not_false true e = refl
   not_false false e = absurd (false≢true (sym e))
 
   module _ (t n : ℕ) (s : UnfoldingState) (kept : IsKept s) (here : t < length s.plan.parents) where
-    same_kept : (e : UnfoldingState) → e.plan.parents ≡ s.plan.parents → e.starts ≡ s.starts → Keeps t s e
+    pub same_kept : (e : UnfoldingState) → e.plan.parents ≡ s.plan.parents → e.starts ≡ s.starts → Keeps t s e
     same_kept e parents starts = record {
       kept = record {
         drawn = λ c u is. kept.drawn c u (subst (λ ps. is_parent u (slice_index_or ps c None) ≡ true) parents is);
@@ -91,7 +91,7 @@ module _ (two : Bool) where
       starts = λ u l. ap (λ ss. slice_index_or ss u None) starts;
     }
 
-    keeps : (c : Coming) → Passes s t c → Keeps t s (after_stage (comes t (record { statement = n; coming = c })) s)
+    pub keeps : (c : Coming) → Passes s t c → Keeps t s (after_stage (comes t (record { statement = n; coming = c })) s)
     keeps (a_plain (new_task x)) passes = record {
       kept = record {
         drawn = drawn_more s.plan.parents t here kept.drawn;
@@ -136,18 +136,18 @@ module _ (two : Bool) where
     is : make_visits t ms s ≡ Ok end
 
   -- or to the first fault
-  record Fails (before : List Stage) (s : UnfoldingState) (o : Outcome UnfoldingState) : Type 0 where
-    done : List Stage
-    there : UnfoldingState
-    leads : StagesLead two before done s there
-    stage : Stage
-    next : IsNextStage two (before ++ done) stage there
-    fault_is : CheckFault
-    fails : FailsAt there stage fault_is
-    is : o ≡ Err fault_is
+  pub record Fails (before : List Stage) (s : UnfoldingState) (o : Outcome UnfoldingState) : Type 0 where
+    pub done : List Stage
+    pub there : UnfoldingState
+    pub leads : StagesLead two before done s there
+    pub stage : Stage
+    pub next : IsNextStage two (before ++ done) stage there
+    pub fault_is : CheckFault
+    pub fails : FailsAt there stage fault_is
+    pub is : o ≡ Err fault_is
 
   -- the next stage of all is the next one of task t
-  next_of :
+  pub next_of :
       (before : List Stage) (t : ℕ) (v : Stage) (rest : List Stage) (s : UnfoldingState) → t < length s.plan.parents →
       before ++ (v ∷ rest) ≡ stages_below two (suc t) s → IsNextStage two before v s
   next_of before t v rest s here own =
@@ -157,7 +157,7 @@ module _ (two : Bool) where
       ap (λ m. stages_below two m s) (let e : length s.plan.parents ≡ suc t + n = omega arith in e) ∙ more.1 in
       (rest ++ more.0, whole ∙ ap (λ z. z ++ more.0) (sym own) ∙ append_assoc before (v ∷ rest) more.0)
 
-  keeps_on : (t : ℕ) (s m e : UnfoldingState) → Keeps t s m → Keeps t m e → Keeps t s e
+  pub keeps_on : (t : ℕ) (s m e : UnfoldingState) → Keeps t s m → Keeps t m e → Keeps t s e
   keeps_on t s m e a b =
       record { kept = b.kept; more = omega (arith, a.more, b.more); starts = λ u l. b.starts u l ∙ a.starts u l }
 
@@ -258,14 +258,14 @@ module _ (two : Bool) where
     n = start.first - 1
 
     -- one phaser
-    record LeftOne (before : List Stage) (p : ℕ) (s : UnfoldingState) : Type 0 where
-      end : UnfoldingState
-      passes : StagePasses (leaves t p) s
-      after_is : after_stage (leaves t p) s ≡ end
-      keeps : Keeps t s end
-      is : leave t n p s ≡ Ok end
+    pub record LeftOne (before : List Stage) (p : ℕ) (s : UnfoldingState) : Type 0 where
+      pub end : UnfoldingState
+      pub passes : StagePasses (leaves t p) s
+      pub after_is : after_stage (leaves t p) s ≡ end
+      pub keeps : Keeps t s end
+      pub is : leave t n p s ≡ Ok end
 
-    leaves_one :
+    pub leaves_one :
         (before : List Stage) (p : ℕ) (s : UnfoldingState) → IsKept s → t < length s.plan.parents → slice_index_or s.starts t None ≡ Some start →
         IsNextStage two before (leaves t p) s → LeftOne before p s ⊎ Fails before s (leave t n p s)
     unfolding leave add_op
@@ -485,7 +485,7 @@ module _ (two : Bool) where
       subst (λ m. Told before m s (unfold_task two t (slice_index_or s.starts t None) s >>= unfold_tasks two n (t + 1))) (let z : t + 1 + n ≡ t + suc n = omega arith in z)
       (by_start n t before s kept own (λ b e k w. tasks n (t + 1) b e k w) (slice_index_or s.starts t None) refl)
 
-  opening_kept : (program : Tree) → IsKept (opening_state program)
+  pub opening_kept : (program : Tree) → IsKept (opening_state program)
   opening_kept program = record { drawn = none_drawn; many = refl; few = omega arith }
     where
       none_drawn : (c u : ℕ) → is_parent u (slice_index_or (opening_state program).plan.parents c None) ≡ true → u < c
@@ -494,18 +494,18 @@ module _ (two : Bool) where
 
   -- ---- there is one list of stages
 
-  append_same : (before : List Stage) (v w : Stage) (r q : List Stage) → before ++ (v ∷ r) ≡ before ++ (w ∷ q) → v ≡ w
+  pub append_same : (before : List Stage) (v w : Stage) (r q : List Stage) → before ++ (v ∷ r) ≡ before ++ (w ∷ q) → v ≡ w
   append_same [] v w r q e = cc
   append_same (b ∷ before) v w r q e = append_same before v w r q (let rest : before ++ (v ∷ r) ≡ before ++ (w ∷ q) = cc in rest)
 
-  next_same : (before : List Stage) (v w : Stage) (s : UnfoldingState) → IsNextStage two before v s → IsNextStage two before w s → v ≡ w
+  pub next_same : (before : List Stage) (v w : Stage) (s : UnfoldingState) → IsNextStage two before v s → IsNextStage two before w s → v ≡ w
   next_same before v w s a b = append_same before v w a.0 b.0 (sym a.1 ∙ b.1)
 
   -- behind these stages there is no further one that passes
-  abbrev IsBlocked : List Stage → UnfoldingState → Type 0
+  abbrev pub IsBlocked : List Stage → UnfoldingState → Type 0
   IsBlocked before s = (v : Stage) → IsNextStage two before v s → StagePasses v s → ⊥
 
-  one_way :
+  pub one_way :
       (before xs ys : List Stage) (s d e : UnfoldingState) → StagesLead two before xs s d → StagesLead two before ys s e → IsBlocked (before ++ xs) d → IsBlocked (before ++ ys) e →
       xs ≡ ys × d ≡ e
   one_way before [] [] s d e a b ends ends' = (refl, sym a ∙ b)
@@ -526,10 +526,10 @@ module _ (two : Bool) where
   longer : (run : List Stage) (v : Stage) (rest : List Stage) → run ≡ run ++ (v ∷ rest) → ⊥
   longer run v rest e = absurd (omega (arith, ap length e, length-append run (v ∷ rest)))
 
-  all_blocks : (run : List Stage) (s : UnfoldingState) → all_stages two s ≡ run → IsBlocked run s
+  pub all_blocks : (run : List Stage) (s : UnfoldingState) → all_stages two s ≡ run → IsBlocked run s
   all_blocks run s all v next passes = longer run v next.0 (sym all ∙ next.1)
 
-  fault_blocks : (run : List Stage) (s : UnfoldingState) (v : Stage) (f : CheckFault) → IsNextStage two run v s → FailsAt s v f → IsBlocked run s
+  pub fault_blocks : (run : List Stage) (s : UnfoldingState) (v : Stage) (f : CheckFault) → IsNextStage two run v s → FailsAt s v f → IsBlocked run s
   fault_blocks run s v f next fails w other passes = at_fault v f fails (subst (λ z. StagePasses z s) (next_same run w v s other next) passes)
     where
       at_fault : (v : Stage) (f : CheckFault) → FailsAt s v f → StagePasses v s → ⊥
@@ -539,7 +539,7 @@ module _ (two : Bool) where
       at_fault (leaves t p) f (at_end start is member full same) passes = false≢true (sym full ∙ passes member)
 
   -- a stage has one fault
-  one_fault : (s : UnfoldingState) (v : Stage) (f g : CheckFault) → FailsAt s v f → FailsAt s v g → f ≡ g
+  pub one_fault : (s : UnfoldingState) (v : Stage) (f g : CheckFault) → FailsAt s v f → FailsAt s v g → f ≡ g
   one_fault s (begins t) f g x y = elim x [ ]
   one_fault s (comes t m) f g (at_visit a is) (at_visit b is') =
       let kinds : f.kind ≡ g.kind =

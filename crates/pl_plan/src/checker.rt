@@ -6,6 +6,7 @@ ghost use Rattle.pl_plan.specs.inside.Opening.{IsOpeningChecker};
 ghost use Rattle.pl_plan.specs.declared.step.Thing.TheVariants.{Nothing};
 ghost use Rattle.pl_plan.specs.inside.Checker.{Checker as CheckerValue, IsChecker, IsThings, slot_of, thing_at, slotted, with_thing, with_task, with_maker, pushed, with_membership, started, with_start_things, range_of};
 ghost use Rattle.pl_plan.specs.inside.CheckerSteps.{member};
+ghost use Rattle.pl_plan.specs.inside.KeptForks.{kept_fork};
 
 use crate::membership::Membership;
 use crate::step::{NameId, Step, Thing};
@@ -17,9 +18,9 @@ use std::rc::Rc;
 // How many slots there may be: each assignment draws a task or makes a phaser.
 const MAX_SLOTS: usize = (MAX_TASKS + MAX_PHASERS) as usize;
 
-// With what a task was forked: where its steps begin and end, and its names' things by slot, which tasks share that were forked with the same ones.
+/// With what a task was forked: where its steps begin and end, and its names' things by slot, which tasks share that were forked with the same ones.
 #[derive(Drop)]
-pub(crate) struct Start {
+pub struct Start {
     pub first: u32,
     pub after: u32,
     pub things: Rc<Vec<Thing>>,
@@ -50,11 +51,11 @@ pub(crate) struct Counts {
     visits: u32,
 }
 
-// What the checker keeps: the flat steps; the three lists of the plan so far; the starts of the tasks; on which phasers each is a member; what the names
-// stand for; and the counts. A visit reads one step and a few entries, and compares no names; a fork copies the things in the slots that there are, where
-// a name has come to stand for something else since the last fork.
+/// What the checker keeps: the flat steps; the three lists of the plan so far; the starts of the tasks; on which phasers each is a member; what the names
+/// stand for; and the counts. A visit reads one step and a few entries, and compares no names; a fork copies the things in the slots that there are, where
+/// a name has come to stand for something else since the last fork.
 #[derive(Drop)]
-pub(crate) struct Checker {
+pub struct Checker {
     steps: Vec<Step>,
     parents: Vec<Option<TaskId>>,
     makers: Vec<TaskId>,
@@ -90,62 +91,62 @@ impl Model for Checker {
 }
 
 impl Checker {
-    // How many tasks are drawn.
-    pub(crate) fn tasks(&self) -> u32
+    /// How many tasks are drawn.
+    pub fn tasks(&self) -> u32
         requires { IsChecker self.now }
         ensures { result ≡ length self.now.parents }
     {
         self.parents.len() as u32
     }
 
-    // How many phasers are made.
-    pub(crate) fn phasers(&self) -> u32
+    /// How many phasers are made.
+    pub fn phasers(&self) -> u32
         requires { IsChecker self.now }
         ensures { result ≡ length self.now.makers }
     {
         self.makers.len() as u32
     }
 
-    // How many ops there are.
-    pub(crate) fn ops(&self) -> u32
+    /// How many ops there are.
+    pub fn ops(&self) -> u32
         ensures { result ≡ self.now.counts.ops }
     {
         self.counts.ops
     }
 
-    // How many visits there were.
-    pub(crate) fn visits(&self) -> u32
+    /// How many visits there were.
+    pub fn visits(&self) -> u32
         ensures { result ≡ self.now.counts.visits }
     {
         self.counts.visits
     }
 
-    // The step with this index.
-    pub(crate) fn step(&self, i: u32) -> Step
+    /// The step with this index.
+    pub fn step(&self, i: u32) -> Step
         requires { i < length self.now.steps }
         ensures { result ≡ step_at self.now.steps i }
     {
         self.steps[i as usize]
     }
 
-    // The task that drew `c`.
-    pub(crate) fn parent(&self, c: TaskId) -> Option<TaskId>
+    /// The task that drew `c`.
+    pub fn parent(&self, c: TaskId) -> Option<TaskId>
         requires { c.0 < length self.now.parents }
         ensures { result ≡ slice_index_or self.now.parents c.0 None }
     {
         self.parents[c.0 as usize]
     }
 
-    // Whether `t` is a member of `p`.
-    pub(crate) fn is_member(&self, t: TaskId, p: PhaserId) -> bool
+    /// Whether `t` is a member of `p`.
+    pub fn is_member(&self, t: TaskId, p: PhaserId) -> bool
         requires { t.0 < length self.now.members }
         ensures { result ≡ member self.now t.0 p.0 }
     {
         self.members[t.0 as usize].is_of(p)
     }
 
-    // What the name stands for.
-    pub(crate) fn thing(&self, x: NameId) -> Thing
+    /// What the name stands for.
+    pub fn thing(&self, x: NameId) -> Thing
         requires fits { IsChecker self.now }
         requires here { x.0 < length self.now.bindings.slots }
         ensures { result ≡ thing_at self.now x.0 }
@@ -153,24 +154,24 @@ impl Checker {
         self.bindings.things[self.bindings.slots[x.0 as usize] as usize]
     }
 
-    // One visit more.
-    pub(crate) fn count_visit(&mut self)
+    /// One visit more.
+    pub fn count_visit(&mut self)
         requires { self.old.counts.visits < 2 ^ 31 }
         ensures { self.new ≡ record self.old { counts = record self.old.counts { visits = self.old.counts.visits + 1 } } }
     {
         self.counts.visits += 1;
     }
 
-    // Says whether `t` is a member of `p`.
-    pub(crate) fn mark(&mut self, t: TaskId, p: PhaserId, member: bool) -> Result<(), AllocError>
+    /// Says whether `t` is a member of `p`.
+    pub fn mark(&mut self, t: TaskId, p: PhaserId, member: bool) -> Result<(), AllocError>
         requires { t.0 < length self.old.members }
         ensures { OnOk result (self.new ≡ with_membership t.0 p.0 member self.old) }
     {
         self.members[t.0 as usize].mark(p, member)
     }
 
-    // The code of `t` goes on with this op.
-    pub(crate) fn push_op(&mut self, t: TaskId, op: Op) -> Result<(), NoMemory>
+    /// The code of `t` goes on with this op.
+    pub fn push_op(&mut self, t: TaskId, op: Op) -> Result<(), NoMemory>
         requires here { t.0 < length self.old.codes }
         requires few { self.old.counts.ops < 2 ^ 31 }
         ensures { OnOk result (self.new ≡ pushed t.0 op self.old) }
@@ -180,15 +181,15 @@ impl Checker {
         Ok(())
     }
 
-    // `t` makes a phaser.
-    pub(crate) fn push_maker(&mut self, t: TaskId) -> Result<(), AllocFailed<TaskId>>
+    /// `t` makes a phaser.
+    pub fn push_maker(&mut self, t: TaskId) -> Result<(), AllocFailed<TaskId>>
         ensures { OnOk result (self.new ≡ with_maker t.0 self.old) }
     {
         self.makers.push(t)
     }
 
-    // `t` draws a task.
-    pub(crate) fn push_task(&mut self, alloc: Global, t: TaskId) -> Result<(), AllocError>
+    /// `t` draws a task.
+    pub fn push_task(&mut self, alloc: Global, t: TaskId) -> Result<(), AllocError>
         ensures { OnOk result (self.new ≡ with_task t.0 self.old) }
     {
         if self.parents.push(Some(t)).is_err()
@@ -203,8 +204,8 @@ impl Checker {
         }
     }
 
-    // The name's slot, if need be a new one. Slot 0 is no name's.
-    pub(crate) fn give_slot(&mut self, x: NameId)
+    /// The name's slot, if need be a new one. Slot 0 is no name's.
+    pub fn give_slot(&mut self, x: NameId)
         requires here { x.0 < length self.old.bindings.slots }
         requires few { self.old.bindings.slot_count < 2 ^ 31 }
         ensures { self.new ≡ slotted x.0 self.old }
@@ -216,8 +217,8 @@ impl Checker {
         }
     }
 
-    // The name stands for this.
-    pub(crate) fn set_thing(&mut self, x: NameId, thing: Thing)
+    /// The name stands for this.
+    pub fn set_thing(&mut self, x: NameId, thing: Thing)
         requires here { x.0 < length self.old.bindings.slots }
         requires within { slot_of self.old x.0 < length self.old.bindings.things }
         ensures { self.new ≡ with_thing x.0 thing self.old }
@@ -226,8 +227,8 @@ impl Checker {
         self.bindings.shared = None;
     }
 
-    // `c` is forked with the steps from `first` on, before `after`, and with the things in the slots that there are now.
-    pub(crate) fn set_start(
+    /// `c` is forked with the steps from `first` on, before `after`, and with the things in the slots that there are now.
+    pub fn set_start(
         &mut self,
         alloc: Global,
         c: TaskId,
@@ -267,20 +268,27 @@ impl Checker {
         Ok(things)
     }
 
-    // Whether `c` is forked.
-    pub(crate) fn is_forked(&self, c: TaskId) -> bool
+    /// Whether `c` is forked.
+    pub fn is_forked(&self, c: TaskId) -> bool
         requires { c.0 < length self.now.starts }
         ensures { result ≡ is_some (slice_index_or self.now.starts c.0 None) }
     {
         self.starts[c.0 as usize].is_some()
     }
 
-    // The task begins with the things of its start; where its steps begin and end, if it is forked.
-    pub(crate) fn begin(
-        &mut self,
-        alloc: Global,
-        t: TaskId,
-    ) -> Result<Option<(u32, u32)>, AllocError>
+    /// The number of the statement that forked `c`, from 1; 0 for task 0; none where `c` is not forked.
+    pub fn forked_by(&self, c: TaskId) -> Option<u32>
+        requires { c.0 < length self.now.starts }
+        ensures { result ≡ kept_fork (slice_index_or self.now.starts c.0 None) }
+    {
+        match &self.starts[c.0 as usize] {
+            None => None,
+            Some(start) => Some(start.first),
+        }
+    }
+
+    /// The task begins with the things of its start; where its steps begin and end, if it is forked.
+    pub fn begin(&mut self, alloc: Global, t: TaskId) -> Result<Option<(u32, u32)>, AllocError>
         requires fits { IsChecker self.old }
         requires here { t.0 < length self.old.starts }
         ensures range { IfOk result (λ r. r ≡ range_of (slice_index_or self.old.starts t.0 None)) }
@@ -302,8 +310,8 @@ impl Checker {
         }
     }
 
-    // What is kept before the first visit.
-    pub(crate) fn new(alloc: Global, steps: Vec<Step>, names: usize) -> Result<Checker, AllocError>
+    /// What is kept before the first visit.
+    pub fn new(alloc: Global, steps: Vec<Step>, names: usize) -> Result<Checker, AllocError>
         requires { length steps.items < 2 ^ 32 }
         ensures { IfOk result (λ k. IsOpeningChecker steps.items names k) }
     {
@@ -345,8 +353,8 @@ impl Checker {
         })
     }
 
-    // The three lists of the plan, and what its codes are folded by.
-    pub(crate) fn into_parts(self) -> Parts
+    /// The three lists of the plan, and what its codes are folded by.
+    pub fn into_parts(self) -> Parts
         ensures steps { result.steps.items ≡ self.steps }
         ensures parents { result.parents.items ≡ self.parents }
         ensures makers { result.makers.items ≡ self.makers }
@@ -380,9 +388,9 @@ fn no_slots(alloc: Global, n: usize) -> Result<Vec<u32>, AllocError>
     vec![in alloc; 0; n]
 }
 
-// The three lists of a plan, with the flat steps and each task's start, by which the codes are folded.
+/// The three lists of a plan, with the flat steps and each task's start, by which the codes are folded.
 #[derive(Drop)]
-pub(crate) struct Parts {
+pub struct Parts {
     pub steps: Vec<Step>,
     pub parents: Vec<Option<TaskId>>,
     pub makers: Vec<TaskId>,

@@ -14,8 +14,8 @@ use armus_base::{NoMemory, Offset};
 use indexmap::IndexSet;
 use pl_syntax::{Body, Stmt};
 
-// The number of a name, in the order of first sight.
-pub(crate) fn number<'p>(names: &mut IndexSet<&'p [u8]>, name: &'p [u8]) -> Result<NameId, NoMemory>
+/// The number of a name, in the order of first sight.
+pub fn number<'p>(names: &mut IndexSet<&'p [u8]>, name: &'p [u8]) -> Result<NameId, NoMemory>
     ensures found { IfOk result (λ i. i.0 < length names.new.keys) }
     ensures spelled { IfOk result (λ i. spelling names.new.keys i.0 ≡ name.now) }
     ensures more { OnOk result (IsMore names.old.keys names.new.keys) }
@@ -48,9 +48,9 @@ fn as_written(off: Offset) -> Offset
     }
 }
 
-// A statement, and its body's statements behind it.
+/// A statement, and its body's statements behind it.
 #[cycle(flatten)]
-pub(crate) fn flatten_statement<'p>(
+pub fn flatten_statement<'p>(
     names: &mut IndexSet<&'p [u8]>,
     steps: &mut Vec<Step>,
     stmt: &'p Stmt,
@@ -109,9 +109,9 @@ pub(crate) fn flatten_statement<'p>(
     }
 }
 
-// The statements of a body, one after the other.
+/// The statements of a body, one after the other.
 #[cycle(flatten)]
-pub(crate) fn flatten_body<'p>(
+pub fn flatten_body<'p>(
     names: &mut IndexSet<&'p [u8]>,
     steps: &mut Vec<Step>,
     body: &'p Body,

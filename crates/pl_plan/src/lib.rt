@@ -1,17 +1,17 @@
 //! The plan of a program: what its statements come to, task by task, or the first check fault.
 #![tactic(auto)]
 
-mod checker;
+pub mod checker;
 mod fault;
-mod flatten;
+pub mod flatten;
 mod laws;
 mod limits;
 mod membership;
 mod pieces;
 mod planning;
-mod statements;
+pub mod statements;
 mod steady;
-mod step;
+pub mod step;
 mod tasks;
 mod walk;
 

@@ -26,9 +26,9 @@ fn fault_unless(holds: bool, kind: u8, n: u32) -> Result<(), CheckFault>
     }
 }
 
-// A visit, or its fault.
+/// A visit, or its fault.
 #[tactic(auto, unfolding(crate::specs::inside::CheckerSteps::checker_count))]
-pub(crate) fn count_visit(checker: &mut Checker, n: u32) -> Result<(), PlanEnd>
+pub fn count_visit(checker: &mut Checker, n: u32) -> Result<(), PlanEnd>
     ensures { GivesChecker result (checker_count n checker.old) checker.new }
 {
     fault_unless(checker.visits() < MAX_VISITS, TOO_MANY_VISITS, n)?;
@@ -128,9 +128,9 @@ fn has_cells(tasks: u32, phasers: u32) -> bool
     tasks * (phasers + 1) <= MAX_CELLS
 }
 
-// `x = newTid();`
+/// `x = newTid();`
 #[tactic(auto, unfolding(crate::specs::inside::CheckerSteps::checker_new_task))]
-pub(crate) fn new_task(
+pub fn new_task(
     alloc: Global,
     checker: &mut Checker,
     t: TaskId,
@@ -150,9 +150,9 @@ pub(crate) fn new_task(
     Ok(())
 }
 
-// `x = newPhaser();`
+/// `x = newPhaser();`
 #[tactic(auto, unfolding(crate::specs::inside::CheckerSteps::checker_new_phaser))]
-pub(crate) fn new_phaser(checker: &mut Checker, t: TaskId, n: u32, x: NameId) -> Result<(), PlanEnd>
+pub fn new_phaser(checker: &mut Checker, t: TaskId, n: u32, x: NameId) -> Result<(), PlanEnd>
     requires fits { IsChecker checker.old }
     requires task { t.0 < length checker.old.parents }
     requires here { x.0 < length checker.old.bindings.slots }
@@ -168,9 +168,9 @@ pub(crate) fn new_phaser(checker: &mut Checker, t: TaskId, n: u32, x: NameId) ->
     add(checker, t, n, Op::Make { p })
 }
 
-// `reg(x, y);`
+/// `reg(x, y);`
 #[tactic(auto, unfolding(crate::specs::inside::CheckerSteps::checker_reg))]
-pub(crate) fn register(
+pub fn register(
     checker: &mut Checker,
     t: TaskId,
     n: u32,
@@ -206,9 +206,9 @@ fn member_named(checker: &Checker, t: TaskId, n: u32, x: NameId) -> Result<Phase
     Ok(p)
 }
 
-// `dereg(x);`
+/// `dereg(x);`
 #[tactic(auto, unfolding(crate::specs::inside::CheckerSteps::checker_dereg))]
-pub(crate) fn leave(checker: &mut Checker, t: TaskId, n: u32, x: NameId) -> Result<(), PlanEnd>
+pub fn leave(checker: &mut Checker, t: TaskId, n: u32, x: NameId) -> Result<(), PlanEnd>
     requires fits { IsChecker checker.old }
     requires task { t.0 < length checker.old.parents }
     requires here { x.0 < length checker.old.bindings.slots }
@@ -219,9 +219,9 @@ pub(crate) fn leave(checker: &mut Checker, t: TaskId, n: u32, x: NameId) -> Resu
     add(checker, t, n, Op::Drop { p })
 }
 
-// `adv(x);`
+/// `adv(x);`
 #[tactic(auto, unfolding(crate::specs::inside::CheckerSteps::checker_adv))]
-pub(crate) fn advance(checker: &mut Checker, t: TaskId, n: u32, x: NameId) -> Result<(), PlanEnd>
+pub fn advance(checker: &mut Checker, t: TaskId, n: u32, x: NameId) -> Result<(), PlanEnd>
     requires fits { IsChecker checker.old }
     requires task { t.0 < length checker.old.parents }
     requires here { x.0 < length checker.old.bindings.slots }
@@ -231,15 +231,9 @@ pub(crate) fn advance(checker: &mut Checker, t: TaskId, n: u32, x: NameId) -> Re
     add(checker, t, n, Op::Adv { p })
 }
 
-// `await(x);`, `await(x - k);` or `await(x + k);`
+/// `await(x);`, `await(x - k);` or `await(x + k);`
 #[tactic(auto, unfolding(crate::specs::inside::CheckerSteps::checker_await))]
-pub(crate) fn wait(
-    checker: &mut Checker,
-    t: TaskId,
-    n: u32,
-    x: NameId,
-    off: Offset,
-) -> Result<(), PlanEnd>
+pub fn wait(checker: &mut Checker, t: TaskId, n: u32, x: NameId, off: Offset) -> Result<(), PlanEnd>
     requires fits { IsChecker checker.old }
     requires task { t.0 < length checker.old.parents }
     requires here { x.0 < length checker.old.bindings.slots }
@@ -249,9 +243,9 @@ pub(crate) fn wait(
     add(checker, t, n, Op::Await { p, off })
 }
 
-// `fork(x) { .. }`, whose body's steps stand before `after`.
+/// `fork(x) { .. }`, whose body's steps stand before `after`.
 #[tactic(auto, unfolding(crate::specs::inside::CheckerSteps::checker_fork))]
-pub(crate) fn fork(
+pub fn fork(
     alloc: Global,
     checker: &mut Checker,
     t: TaskId,
@@ -270,14 +264,9 @@ pub(crate) fn fork(
     add(checker, t, n, Op::Fork { c })
 }
 
-// The task leaves the phaser at its end, if it is a member.
+/// The task leaves the phaser at its end, if it is a member.
 #[tactic(auto, unfolding(crate::specs::inside::CheckerSteps::checker_leave))]
-pub(crate) fn leave_if_member(
-    checker: &mut Checker,
-    t: TaskId,
-    n: u32,
-    p: PhaserId,
-) -> Result<(), PlanEnd>
+pub fn leave_if_member(checker: &mut Checker, t: TaskId, n: u32, p: PhaserId) -> Result<(), PlanEnd>
     requires fits { IsChecker checker.old }
     requires task { t.0 < length checker.old.parents }
     requires phaser { p.0 < MAX_PHASERS }
@@ -290,8 +279,8 @@ pub(crate) fn leave_if_member(
     add(checker, t, n, Op::Drop { p })
 }
 
-// A statement without a body.
-pub(crate) fn act(
+/// A statement without a body.
+pub fn act(
     alloc: Global,
     checker: &mut Checker,
     t: TaskId,

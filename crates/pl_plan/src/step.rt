@@ -2,13 +2,13 @@
 
 use armus_base::{Offset, PhaserId, TaskId};
 
-// The number of a name, in the order of first sight.
+/// The number of a name, in the order of first sight.
 #[derive(Clone, Copy, Debug)]
-pub(crate) struct NameId(pub u32);
+pub struct NameId(pub u32);
 
-// A statement: the step with index i is that with number i + 1. What stands after a body begins at `after`. A loop knows whether its body is steady.
+/// A statement: the step with index i is that with number i + 1. What stands after a body begins at `after`. A loop knows whether its body is steady.
 #[derive(Clone, Copy, Debug)]
-pub(crate) enum Step {
+pub enum Step {
     NewTask { x: NameId },
     NewPhaser { x: NameId },
     Fork { x: NameId, after: u32 },
@@ -20,9 +20,9 @@ pub(crate) enum Step {
     Loop { k: u16, after: u32, steady: bool },
 }
 
-// What a name stands for.
+/// What a name stands for.
 #[derive(Clone, Copy, Debug)]
-pub(crate) enum Thing {
+pub enum Thing {
     Nothing,
     Task(TaskId),
     Phaser(PhaserId),
