@@ -1,0 +1,3 @@
+pub mod PointComings
+pub mod UnfoldsByPoints
+pub mod WorkedTexts
