@@ -1,3 +1,6 @@
 pub mod PointComings
 pub mod UnfoldsByPoints
 pub mod WorkedTexts
+pub mod Rows
+pub mod AddsMoves
+pub mod Numbers

@@ -3,4 +3,5 @@ pub mod TextMachine
 -- What is proved of it, and of the unfolding.
 pub mod ProgramPoints
 pub mod ClockUnfolds
+pub mod TextNumbers
 pub mod WorkedTexts

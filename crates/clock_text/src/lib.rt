@@ -6,4 +6,4 @@
 
 mod laws;
 
-pub use laws::{clock_unfolding_by_points, worked_clock_texts};
+pub use laws::{clock_unfolding_by_points, numbers_are_named, worked_clock_texts};

@@ -1,0 +1,62 @@
+-- The numbers that an unfolding gives to the activities, clocks and finishes of a program that are named by where they come from.
+use Rattle.std.specs.Prelude.{◌≡◌, ℕ, ◌<◌, List, [], ◌∷◌, ◌++◌, length, slice_index_or, Ok}
+use Rattle.clock_syntax.specs.Trees.{ClockTree}
+use Rattle.clock_moves.specs.Moves.{Move, begins, opens, starts}
+use Rattle.clock_moves.specs.Unfolding.{ClockUnfolding, activities, clock_unfolded}
+use Rattle.clock_text.specs.TextMachine.{Activity, Made}
+
+-- the activity that a move starts, if it starts one
+abbrev pub child_of : Move → List ℕ
+child_of (starts c ps f) = c ∷ []
+child_of m = []
+
+-- the clock or finish that it makes
+abbrev pub made_of : Move → List ℕ
+made_of (opens p) = p ∷ []
+made_of (begins f) = f ∷ []
+made_of m = []
+
+-- the activities that these moves start, in order
+abbrev pub started_by : List Move → List ℕ
+started_by [] = []
+started_by (m ∷ ms) = child_of m ++ started_by ms
+
+-- the clocks and finishes that they make, in order
+abbrev pub made_by : List Move → List ℕ
+made_by [] = []
+made_by (m ∷ ms) = made_of m ++ made_by ms
+
+-- the moves of activity t
+abbrev pub moves_by : ClockUnfolding → ℕ → List Move
+moves_by u t = slice_index_or u.moves t []
+
+-- The number of an activity: the first one has number 0; the one that a starts after k others has the number that a starts behind k others in its moves.
+abbrev pub number_in : ClockUnfolding → Activity → ℕ
+number_in u [] = 0
+number_in u (k ∷ a) = slice_index_or (started_by (moves_by u (number_in u a))) k 0
+
+-- the number of a clock or finish: the one that its maker makes behind so many others in its moves
+abbrev pub made_in : ClockUnfolding → Made → ℕ
+made_in u p = slice_index_or (made_by (moves_by u (number_in u p.maker))) p.before 0
+
+-- there is such an activity
+abbrev pub IsActivityIn : ClockUnfolding → Activity → Type 0
+IsActivityIn u [] = Unit {0}
+IsActivityIn u (k ∷ a) = IsActivityIn u a × k < length (started_by (moves_by u (number_in u a)))
+
+-- there is such a clock or finish
+abbrev pub IsMadeIn : ClockUnfolding → Made → Type 0
+IsMadeIn u p = IsActivityIn u p.maker × p.before < length (made_by (moves_by u (number_in u p.maker)))
+
+-- ---- what is proved of them
+
+-- each number of an activity has one name
+abbrev pub EachNumberIsNamed : Type 0
+EachNumberIsNamed =
+    (p : ClockTree) (u : ClockUnfolding) (t : ℕ) → clock_unfolded p ≡ Ok u → t < activities u →
+    (a : Activity) × IsActivityIn u a × (number_in u a ≡ t) × ((b : Activity) → IsActivityIn u b → number_in u b ≡ t → b ≡ a)
+
+-- two clocks or finishes have two numbers
+abbrev pub MadeHaveOneName : Type 0
+MadeHaveOneName =
+    (p : ClockTree) (u : ClockUnfolding) (q r : Made) → clock_unfolded p ≡ Ok u → IsMadeIn u q → IsMadeIn u r → made_in u q ≡ made_in u r → q ≡ r
