@@ -94,7 +94,7 @@ module _ (t : ℕ) (u v : ClockUnfolding) (m : Move) (here : t < length v.moves)
   as_many = length-set v.moves t (moves_at v t ++ m ∷ [])
 
   -- one that starts nobody and makes nothing
-  adds_move : length v.moves ≡ length u.moves → child_of m ≡ [] → made_of m ≡ [] → v.parents ≡ u.parents → v.makers ≡ u.makers → v.starts ≡ u.starts → Adds t u (with_move t m v) (m ∷ [])
+  pub adds_move : length v.moves ≡ length u.moves → child_of m ≡ [] → made_of m ≡ [] → v.parents ≡ u.parents → v.makers ≡ u.makers → v.starts ≡ u.starts → Adds t u (with_move t m v) (m ∷ [])
   adds_move moves none nothing parents makers beginnings =
       record {
         own = own_move;

@@ -4,3 +4,5 @@ pub mod WorkedTexts
 pub mod Rows
 pub mod AddsMoves
 pub mod Numbers
+pub mod Makes
+pub mod EachMakes

@@ -37,20 +37,20 @@ same_first_made (suc t) u v same =
     omega (arith, same_first_made t u v (λ a l. same a (omega arith)), ap (λ ms. length (made_by ms)) (same t (omega arith)))
 
 -- the rows of activity a
-record HasRows (u : ClockUnfolding) (a : ℕ) : Type 0 where
-  started : started_by (moves_at u a) ≡ row (first_child u a) (length (started_by (moves_at u a)))
-  made : made_by (moves_at u a) ≡ row (first_made u a) (length (made_by (moves_at u a)))
-  ahead : a < first_child u a
+pub record HasRows (u : ClockUnfolding) (a : ℕ) : Type 0 where
+  pub started : started_by (moves_at u a) ≡ row (first_child u a) (length (started_by (moves_at u a)))
+  pub made : made_by (moves_at u a) ≡ row (first_made u a) (length (made_by (moves_at u a)))
+  pub ahead : a < first_child u a
 
 -- the activities below t have ended, each with its rows, and the others have not begun
-record AreRows (t : ℕ) (u : ClockUnfolding) : Type 0 where
-  moves_many : length u.moves ≡ length u.parents
-  starts_many : length u.starts ≡ length u.parents
-  parents : length u.parents ≡ first_child u t
-  makers : length u.makers ≡ first_made u t
-  rows : (a : ℕ) → a < t → HasRows u a
-  idle : (a : ℕ) → t ≤ a → moves_at u a ≡ []
-  within : t ≤ length u.parents
+pub record AreRows (t : ℕ) (u : ClockUnfolding) : Type 0 where
+  pub moves_many : length u.moves ≡ length u.parents
+  pub starts_many : length u.starts ≡ length u.parents
+  pub parents : length u.parents ≡ first_child u t
+  pub makers : length u.makers ≡ first_made u t
+  pub rows : (a : ℕ) → a < t → HasRows u a
+  pub idle : (a : ℕ) → t ≤ a → moves_at u a ≡ []
+  pub within : t ≤ length u.parents
 
 rows_as : (xs : List ℕ) (n k : ℕ) → xs ≡ row n k → xs ≡ row n (length xs)
 rows_as xs n k is = is ∙ ap (row n) (sym (row_length n k) ∙ ap length (sym is))
@@ -94,7 +94,7 @@ module _ (t : ℕ) (u v : ClockUnfolding) (h : AreRows t u) (here : t < length u
         ahead = omega (arith, here, h.parents, children);
       }
 
-  next_rows : AreRows (suc t) v
+  pub next_rows : AreRows (suc t) v
   next_rows =
       record {
         moves_many = omega (arith, a.moves_many, a.parents, h.moves_many);
@@ -106,12 +106,12 @@ module _ (t : ℕ) (u v : ClockUnfolding) (h : AreRows t u) (here : t < length u
         within = omega (arith, here, a.parents);
       }
 
-past_end : {A : Type 0} (xs : List A) (k : ℕ) → slice_get xs k ≡ None → length xs ≤ k
+pub past_end : {A : Type 0} (xs : List A) (k : ℕ) → slice_get xs k ≡ None → length xs ≤ k
 past_end [] k e = omega arith
 past_end (y ∷ xs) zero e = absurd cc
 past_end (y ∷ xs) (suc k) e = omega (arith, past_end xs k e)
 
-known_rows : (t : ℕ) (u : ClockUnfolding) (start : ClockStart) → AreRows t u → AreRows t (with_known start.known u)
+pub known_rows : (t : ℕ) (u : ClockUnfolding) (start : ClockStart) → AreRows t u → AreRows t (with_known start.known u)
 known_rows t u start h =
     record {
       moves_many = h.moves_many;
@@ -131,7 +131,7 @@ known_rows t u start h =
       within = h.within;
     }
 
-all_rows : (t : ℕ) (u w : ClockUnfolding) → AreRows t u → UnfoldsFrom t u w → AreRows (length w.parents) w
+pub all_rows : (t : ℕ) (u w : ClockUnfolding) → AreRows t u → UnfoldsFrom t u w → AreRows (length w.parents) w
 all_rows t u w h (no_more none) =
     subst (λ n. AreRows n u) (omega (arith, h.within, h.starts_many, past_end u.starts t none)) h
 all_rows t u w h (one_more {v = v} start is goes rest) =
@@ -140,7 +140,7 @@ all_rows t u w h (one_more {v = v} start is goes rest) =
     let a = goes_adds t (first_point start) (with_known start.known u) v (omega (arith, here, h.moves_many)) goes in
     all_rows (t + 1) v w (subst (λ n. AreRows n v) (omega arith) (next_rows t (with_known start.known u) v began here a.0 a.1)) rest
 
-opening_rows : (p : ClockTree) → AreRows 0 (clock_opening p)
+pub opening_rows : (p : ClockTree) → AreRows 0 (clock_opening p)
 opening_rows p =
     record {
       moves_many = refl;
@@ -159,7 +159,7 @@ opening_rows p =
 -- ---- names
 
 module _ (p : ClockTree) (u : ClockUnfolding) (e : clock_unfolded p ≡ Ok u) where
-  unfolded_rows : AreRows (activities u) u
+  pub unfolded_rows : AreRows (activities u) u
   unfolded_rows = all_rows 0 (clock_opening p) u (opening_rows p) ((unfolding_is_unfolded p u).0 e)
 
   grows : (a n : ℕ) → first_child u a ≤ first_child u (a + n)
