@@ -6,3 +6,5 @@ pub mod AddsMoves
 pub mod Numbers
 pub mod Makes
 pub mod EachMakes
+pub mod Tables
+pub mod Corresponding
