@@ -8,3 +8,5 @@ pub mod Makes
 pub mod EachMakes
 pub mod Tables
 pub mod Corresponding
+pub mod Changing
+pub mod Stepped
