@@ -10,3 +10,4 @@ pub mod Tables
 pub mod Corresponding
 pub mod Changing
 pub mod Stepped
+pub mod OnOneClock
