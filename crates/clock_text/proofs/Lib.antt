@@ -11,3 +11,4 @@ pub mod Corresponding
 pub mod Changing
 pub mod Stepped
 pub mod OnOneClock
+pub mod BehindSignals

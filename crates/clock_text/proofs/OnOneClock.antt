@@ -41,7 +41,7 @@ module _ (u : ClockUnfolding) (names : HaveNames u) (s : TextState) (m : ClockSt
   abbrev x : Acting
   x = s.acting a
 
-  inside : IsActivityIn u a
+  pub inside : IsActivityIn u a
   inside = h.holds.inside a there
 
   -- ---- lists that only lose the actor
@@ -140,10 +140,10 @@ module _ (u : ClockUnfolding) (names : HaveNames u) (s : TextState) (m : ClockSt
         ap (λ (f : Made → Clock). is_in a (f q).enrolled) clocks ∙ clock_same s p (signalled_by a k) (λ (z : Clock). z.enrolled) (λ c. refl) q a
 
     -- what is remembered of this clock, and of another one
-    remembered_here : (o : Option ℕ) → (if is_made p p then o else x.remembers p) ≡ o
+    pub remembered_here : (o : Option ℕ) → (if is_made p p then o else x.remembers p) ≡ o
     remembered_here o = ap (λ b. if b then o else x.remembers p) (made_itself p)
 
-    remembered_other : (o : Option ℕ) (q : Made) → q ≢ p → (if is_made p q then o else x.remembers q) ≡ x.remembers q
+    pub remembered_other : (o : Option ℕ) (q : Made) → q ≢ p → (if is_made p q then o else x.remembers q) ≡ x.remembers q
     remembered_other o q n = ap (λ b. if b then o else x.remembers q) (other_made p q (λ e. n (sym e)))
 
     module _ (c : Continuation) (left : List Move) (point : ProgramPoint) (ns : ClockNames) (standing : Standing) (rest_is : x.rest ≡ c) (left_is : m.left t ≡ left)
