@@ -12,3 +12,5 @@ pub mod Changing
 pub mod Stepped
 pub mod OnOneClock
 pub mod BehindSignals
+pub mod NextNames
+pub mod MakingOne
