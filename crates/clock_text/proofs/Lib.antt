@@ -14,3 +14,4 @@ pub mod OnOneClock
 pub mod BehindSignals
 pub mod NextNames
 pub mod MakingOne
+pub mod OnFinishes
