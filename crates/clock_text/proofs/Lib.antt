@@ -15,3 +15,4 @@ pub mod BehindSignals
 pub mod NextNames
 pub mod MakingOne
 pub mod OnFinishes
+pub mod Starting
