@@ -16,3 +16,4 @@ pub mod NextNames
 pub mod MakingOne
 pub mod OnFinishes
 pub mod Starting
+pub mod StartingOne

@@ -26,23 +26,23 @@ use Rattle.clock_text.proofs.Tables.{Agrees, HaveNames, bytes_itself, entry_agre
 -- ---- several clocks
 
 -- one of these clocks
-abbrev stands_in : Made → List Made → Bool
+abbrev pub stands_in : Made → List Made → Bool
 stands_in q ps = list_any (λ p. is_made p q) ps
 
-enrols_acting : (k : Activity) (ps : List Made) (s : TextState) → (enrols_on k ps s).acting ≡ s.acting
+pub enrols_acting : (k : Activity) (ps : List Made) (s : TextState) → (enrols_on k ps s).acting ≡ s.acting
 enrols_acting k [] s = refl
 enrols_acting k (p ∷ ps) s = enrols_acting k ps (with_clock p (enrolled_with k (s.clock_of p)) s)
 
-enrols_there : (k : Activity) (ps : List Made) (s : TextState) → (enrols_on k ps s).there ≡ s.there
+pub enrols_there : (k : Activity) (ps : List Made) (s : TextState) → (enrols_on k ps s).there ≡ s.there
 enrols_there k [] s = refl
 enrols_there k (p ∷ ps) s = enrols_there k ps (with_clock p (enrolled_with k (s.clock_of p)) s)
 
-enrols_open : (k : Activity) (ps : List Made) (s : TextState) → (enrols_on k ps s).open_set ≡ s.open_set
+pub enrols_open : (k : Activity) (ps : List Made) (s : TextState) → (enrols_on k ps s).open_set ≡ s.open_set
 enrols_open k [] s = refl
 enrols_open k (p ∷ ps) s = enrols_open k ps (with_clock p (enrolled_with k (s.clock_of p)) s)
 
 -- who is in a list of a clock then
-enrols_in :
+pub enrols_in :
     (side : Clock → List Activity) (k : Activity) → ((c : Clock) → side (enrolled_with k c) ≡ k ∷ side c) → (ps : List Made) (s : TextState) (q : Made) (b : Activity) →
     is_in b (side ((enrols_on k ps s).clock_of q)) ≡ (if stands_in q ps && bytes_eq k b then true else is_in b (side (s.clock_of q)))
 enrols_in side k is [] s q b = refl
@@ -64,12 +64,12 @@ enrols_in side k is (p ∷ ps) s q b =
 
 module _ (u : ClockUnfolding) (names : HaveNames u) where
   -- the tables of clocks and finishes agree
-  record Tables (s : TextState) (m : ClockState) : Type 0 where
-    phase : (p : Made) → IsMadeIn u p → (s.clock_of p).phase ≡ m.phase (made_in u p)
-    enrolled : Agrees u (λ p a. is_in a (s.clock_of p).enrolled) m.enrolled
-    unsignalled : Agrees u (λ p a. is_in a (s.clock_of p).unsignalled) m.unsignalled
+  pub record Tables (s : TextState) (m : ClockState) : Type 0 where
+    pub phase : (p : Made) → IsMadeIn u p → (s.clock_of p).phase ≡ m.phase (made_in u p)
+    pub enrolled : Agrees u (λ p a. is_in a (s.clock_of p).enrolled) m.enrolled
+    pub unsignalled : Agrees u (λ p a. is_in a (s.clock_of p).unsignalled) m.unsignalled
 
-  enrols_agree : (k : Activity) → IsActivityIn u k → (ps : List Made) → ((p : Made) → stands_in p ps ≡ true → IsMadeIn u p) → (s : TextState) (m : ClockState) → Tables s m →
+  pub enrols_agree : (k : Activity) → IsActivityIn u k → (ps : List Made) → ((p : Made) → stands_in p ps ≡ true → IsMadeIn u p) → (s : TextState) (m : ClockState) → Tables s m →
       Tables (enrols_on k ps s) (enrolling_all (number_in u k) (map (made_in u) ps) m)
   enrols_agree k is [] made s m h = h
   enrols_agree k is (p ∷ ps) made s m h =
@@ -91,7 +91,7 @@ module _ (u : ClockUnfolding) (names : HaveNames u) where
       right false y e = e
 
   -- registrations of another activity leave the other tables
-  enrols_leave : (k : ℕ) (ps : List ℕ) (m : ClockState) →
+  pub enrols_leave : (k : ℕ) (ps : List ℕ) (m : ClockState) →
       ((enrolling_all k ps m).open_set ≡ m.open_set) × ((enrolling_all k ps m).remembered ≡ m.remembered) × ((enrolling_all k ps m).started ≡ m.started)
       × ((enrolling_all k ps m).left ≡ m.left)
   enrols_leave k [] m = (refl, refl, refl, refl)
