@@ -17,3 +17,4 @@ pub mod MakingOne
 pub mod OnFinishes
 pub mod Starting
 pub mod StartingOne
+pub mod Stepping

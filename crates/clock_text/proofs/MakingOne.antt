@@ -39,7 +39,7 @@ module _ (u : ClockUnfolding) (names : HaveNames u) (s : TextState) (m : ClockSt
 
   module _ (name : List ℕ) (q : ℕ) (move : left ≡ opens q ∷ ms) (finishes : Finishes u d)
       (makes_on : Makes u at (λ z. if bytes_eq name z then Some q else ns z) (registered_on q standing) ms) where
-    number : made_in u p ≡ q
+    pub number : made_in u p ≡ q
     number = next_number u a x here (m.left t) (registered u s a) (h.acts a there) (opens q) ms (left_is ∙ move) q true refl refl
 
     made : IsMadeIn u p

@@ -43,8 +43,8 @@ module _ (u : ClockUnfolding) (names : HaveNames u) (s : TextState) (m : ClockSt
       abbrev f : Made
       f = next_made a s
 
-      number : made_in u f ≡ q
-      number = next_number u a x here (m.left t) (registered u s a) (h.acts a there) (begins q) ms (left_is ∙ move) q false refl refl
+      pub begun_number : made_in u f ≡ q
+      begun_number = next_number u a x here (m.left t) (registered u s a) (h.acts a there) (begins q) ms (left_is ∙ move) q false refl refl
 
       finish : IsFinish u f
       finish = (
@@ -95,7 +95,7 @@ module _ (u : ClockUnfolding) (names : HaveNames u) (s : TextState) (m : ClockSt
                     named = knows.named;
                     clocks = knows.clocks;
                     members = λ r is.
-                        ap (λ k. if made_in u r == k then true else standing.members (made_in u r)) (sym number)
+                        ap (λ k. if made_in u r == k then true else standing.members (made_in u r)) (sym begun_number)
                         ∙ ap (λ b. if b then true else standing.members (made_in u r)) (apart r f is finish) ∙ knows.members r is;
                     pending = λ r is differs. knows.pending r is (λ e. absurd (let z = sym target ∙ e in cc));
                     finishes = finishes finish;
