@@ -18,3 +18,5 @@ pub mod OnFinishes
 pub mod Starting
 pub mod StartingOne
 pub mod Stepping
+pub mod TextRuns
+pub mod TextEnds

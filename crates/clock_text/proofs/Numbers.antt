@@ -239,7 +239,7 @@ module _ (p : ClockTree) (u : ClockUnfolding) (e : clock_unfolded p ≡ Ok u) wh
         child_is k starter.0 (number_inside starter.0 starter.1) few ∙ ap (λ t. first_child u t + k) starter.2 ∙ omega (arith, r.2),
       )
 
-  number_is_named : (t : ℕ) → t < activities u → (a : Activity) × IsActivityIn u a × (number_in u a ≡ t) × ((b : Activity) → IsActivityIn u b → number_in u b ≡ t → b ≡ a)
+  pub number_is_named : (t : ℕ) → t < activities u → (a : Activity) × IsActivityIn u a × (number_in u a ≡ t) × ((b : Activity) → IsActivityIn u b → number_in u b ≡ t → b ≡ a)
   number_is_named t l =
       let n = named (suc t) t (omega arith) l in
       (n.0, n.1, n.2, λ b is same. one_name b n.0 is n.1 (same ∙ sym n.2))

@@ -4,4 +4,5 @@ pub mod TextMachine
 pub mod ProgramPoints
 pub mod ClockUnfolds
 pub mod TextNumbers
+pub mod TextLaws
 pub mod WorkedTexts

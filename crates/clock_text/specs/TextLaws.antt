@@ -1,0 +1,64 @@
+-- Laws of the machine on the text: its runs are those of the machine on moves, and so its ends are those of the plan's tasks.
+use Rattle.std.specs.Prelude.{◌≡◌, ℕ, ◌+◌, true, List, [], ◌∷◌, Option, Some, None, Ok}
+use Rattle.std.specs.List.{list_any}
+use Rattle.std.specs.Str.{bytes_eq}
+use Rattle.armus_base.specs.declared.ending.TaskEnd.{TaskEnd}
+use Rattle.armus_base.specs.declared.ending.TaskEnd.TheVariants.{Done, Blocked, Unforked}
+use Rattle.armus_base.specs.Finals.{end_of}
+use Rattle.armus_base.specs.Runs.{IsFinal}
+use Rattle.armus_base.specs.States.{State, event_at}
+use Rattle.clock_syntax.specs.Trees.{ClockTree}
+use Rattle.clock_moves.specs.Unfolding.{ClockUnfolding, clock_unfolded, plan_of_moves}
+use Rattle.clock_machine.specs.Direct.{ClockState}
+use Rattle.clock_machine.specs.Laws.{IsDirectRun}
+use Rattle.clock_text.specs.TextMachine.{Activity, IsTextEnd, IsTextRun, Made, Stand, TextState, at_advance, at_end, elsewhere, ended, fails, is_there, stand_of, text_step, unstarted}
+use Rattle.clock_text.specs.TextNumbers.{IsActivityIn, IsMadeIn, made_in, number_in}
+
+-- ---- runs
+
+-- The machine on moves in state m stands for the machine on the text in state s: the same activities are started, each remembers the same, and each clock and
+-- finish has the same phase and the same sets.
+pub record IsToldBy (u : ClockUnfolding) (s : TextState) (m : ClockState) : Type 0 where
+  pub inside : (a : Activity) → is_there s a ≡ true → IsActivityIn u a
+  pub started : (a : Activity) → IsActivityIn u a → is_there s a ≡ m.started (number_in u a)
+  pub phase : (p : Made) → IsMadeIn u p → (s.clock_of p).phase ≡ m.phase (made_in u p)
+  pub enrolled : (p : Made) (a : Activity) → IsMadeIn u p → IsActivityIn u a →
+      list_any (bytes_eq a) (s.clock_of p).enrolled ≡ m.enrolled (made_in u p) (number_in u a)
+  pub unsignalled : (p : Made) (a : Activity) → IsMadeIn u p → IsActivityIn u a →
+      list_any (bytes_eq a) (s.clock_of p).unsignalled ≡ m.unsignalled (made_in u p) (number_in u a)
+  pub open_set : (p : Made) (a : Activity) → IsMadeIn u p → IsActivityIn u a → list_any (bytes_eq a) (s.open_set p) ≡ m.open_set (made_in u p) (number_in u a)
+  pub remembers : (p : Made) (a : Activity) → IsMadeIn u p → IsActivityIn u a → (s.acting a).remembers p ≡ m.remembered (made_in u p) (number_in u a)
+
+-- these are the numbers of some of these activities, in the same order: those whose steps are steps of the machine on moves too
+pub data AreSteps (u : ClockUnfolding) : List Activity → List ℕ → Type 0 where
+  no_step : AreSteps u [] []
+  a_step : {as_before : List Activity} {ts : List ℕ} (a : Activity) → AreSteps u as_before ts → AreSteps u (a ∷ as_before) (number_in u a ∷ ts)
+  of_text_alone : {as_before : List Activity} {ts : List ℕ} (a : Activity) → AreSteps u as_before ts → AreSteps u (a ∷ as_before) ts
+
+-- each run of the machine on the text is one of the machine on moves
+abbrev pub TextRunsAreDirect : Type 0
+TextRunsAreDirect =
+    (p : ClockTree) (u : ClockUnfolding) (steps : List Activity) (s : TextState) → clock_unfolded p ≡ Ok u → IsTextRun p steps s →
+    (ts : List ℕ) × (m : ClockState) × AreSteps u steps ts × IsDirectRun u ts m × IsToldBy u s m
+
+-- on a program without fault no run comes to a statement at fault
+abbrev pub NoRunFails : Type 0
+NoRunFails =
+    (p : ClockTree) (u : ClockUnfolding) (steps : List Activity) (s : TextState) (a : Activity) (k : ℕ) → clock_unfolded p ≡ Ok u → IsTextRun p steps s →
+    text_step a s ≡ fails k → ⊥
+
+-- ---- ends
+
+-- the end of the task of an activity that stands so and cannot go, by the numbers of the clocks and finishes
+abbrev pub end_as : (Made → ℕ) → Stand → Option TaskEnd
+end_as number unstarted = Some Unforked
+end_as number ended = Some Done
+end_as number (at_advance p k) = Some (Blocked (event_at (number p) (k + 1)))
+end_as number (at_end f) = Some (Blocked (event_at (number f) 1))
+end_as number elsewhere = None
+
+-- at each end of the machine each activity stands as its task has ended in the plan's final state; so all ends are alike
+abbrev pub TextEndsAreThoseOfTasks : Type 0
+TextEndsAreThoseOfTasks =
+    (p : ClockTree) (u : ClockUnfolding) (s : TextState) (σ : State) (a : Activity) → clock_unfolded p ≡ Ok u → IsTextEnd p s → IsFinal (plan_of_moves u) σ →
+    IsActivityIn u a → end_as (made_in u) (stand_of s a) ≡ Some (end_of σ (number_in u a))
