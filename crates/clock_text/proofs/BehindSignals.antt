@@ -1,19 +1,19 @@
 -- The step behind an advance's signal, and a drop.
-use Rattle.std.proofs.Common.{◌≡◌, ◌≢◌, ℕ, zero, suc, ◌+◌, ◌<◌, ◌≤◌, Bool, true, false, not, Option, Some, None, List, [], ◌∷◌, ◌++◌, length, arith, sym, ◌∙◌, ap, subst, refl, ◌⊎◌, inl, inr}
+use Rattle.std.proofs.Common.{◌≡◌, ◌≢◌, ℕ, Bool, true, false, Option, Some, None, List, [], ◌∷◌, arith, sym, ◌∙◌, ap, subst, refl, ◌⊎◌, inl, inr}
 use Rattle.std.specs.Str.{bytes_eq}
 use Rattle.std.specs.Prelude.{◌&&◌, ◌==◌, if◌then◌else◌, is_some}
-use Rattle.clock_machine.specs.Direct.{ClockState, departing, forgetting, going, with_entry}
+use Rattle.clock_machine.specs.Direct.{ClockState, departing, forgetting, going}
 use Rattle.clock_moves.specs.Moves.{Move, Standing, advances, drops, unregistered_from, with_pending}
 use Rattle.clock_moves.specs.Unfolding.{ClockNames, ClockUnfolding}
 use Rattle.clock_text.specs.ProgramPoints.{ProgramPoint}
-use Rattle.clock_text.specs.TextMachine.{Acting, Activity, Clock, Continuation, Made, TextState, acts, departs, goes_to, is_made, is_there, left_by, remembering, with_clock}
+use Rattle.clock_text.specs.TextMachine.{Acting, Activity, Clock, Continuation, Made, TextState, departs, goes_to, is_made, is_there, left_by, remembering, with_clock}
 use Rattle.clock_text.specs.TextNumbers.{IsActivityIn, made_in, number_in}
-use Rattle.clock_text.proofs.Changing.{Changes, ListsChange, acts_other, acts_own, agrees_same, changed, clock_entry, phase_same, remember_entry}
-use Rattle.clock_text.proofs.Corresponding.{ActsAs, Corresponds, Finishes, Fits, IsClock, Knows, Stands, Tells, bottom, registered, target_at}
+use Rattle.clock_text.proofs.Changing.{acts_other, acts_own, changed, clock_entry, phase_same, remember_entry}
+use Rattle.clock_text.proofs.Corresponding.{ActsAs, Corresponds, Finishes, Fits, IsClock, Knows, bottom, registered, target_at}
 use Rattle.clock_text.proofs.Makes.{Makes}
-use Rattle.clock_text.proofs.OnOneClock.{inside, left_other, left_own, less, lists_less, made_kept, remembered_here, remembered_other}
-use Rattle.clock_text.proofs.Stepped.{done_more, same_lists}
-use Rattle.clock_text.proofs.Tables.{Agrees, HaveNames, entry_agrees, in_without, bytes_itself, is_in, made_itself, other_bytes, same_made}
+use Rattle.clock_text.proofs.OnOneClock.{inside, left_other, left_own, less, lists_less, made_kept}
+use Rattle.clock_text.proofs.Stepped.{done_more}
+use Rattle.clock_text.proofs.Tables.{HaveNames, entry_agrees, in_without, bytes_itself, is_in, made_itself, other_bytes, same_made}
 
 module _ (u : ClockUnfolding) (names : HaveNames u) (s : TextState) (m : ClockState) (h : Corresponds u s m) (a : Activity) (there : is_there s a ≡ true)
     (p : Made) (clock : IsClock u p) where
@@ -154,7 +154,7 @@ module _ (u : ClockUnfolding) (names : HaveNames u) (s : TextState) (m : ClockSt
               (λ q b e. less (is_made p q && bytes_eq a b) (is_in b (s.clock_of q).enrolled) (sym (left_enrolled q b) ∙ e))
               (λ q b e. less (is_made p q && bytes_eq a b) (is_in b (s.clock_of q).unsignalled) (sym (left_unsignalled q b) ∙ e))
               (λ q b e. left_enrolled q b ∙ ap (λ z. if is_made p q && z then false else is_in b (s.clock_of q).enrolled) (other_bytes a b (λ z. e (sym z)))
-                  ∙ neither (is_made p q) (is_in b (s.clock_of q).enrolled))
+              ∙ neither (is_made p q) (is_in b (s.clock_of q).enrolled))
               refl (made_kept u names s m h a there v y own other (omega arith))
               (ap (λ (z : Acting). bottom u z.rest) own ∙ bottoms ∙ ap (bottom u) (sym rest_is));
           started = omega (arith, ap (λ (z : Acting). z.started) own);

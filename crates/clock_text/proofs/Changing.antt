@@ -1,13 +1,13 @@
 -- Where one activity acts: what stays of the others, and which tables change at one entry.
-use Rattle.std.proofs.Common.{◌≡◌, ◌≢◌, ℕ, zero, suc, ◌+◌, ◌<◌, ◌≤◌, Bool, true, false, not, Option, Some, None, List, [], ◌∷◌, ◌++◌, length, arith, sym, ◌∙◌, ap, subst, refl, ◌⊎◌, inl, inr}
+use Rattle.std.proofs.Common.{◌≡◌, ◌≢◌, ℕ, ◌<◌, ◌≤◌, Bool, true, false, Option, Some, List, ◌∷◌, arith, sym, ◌∙◌, ap, subst, refl, ◌⊎◌, inl, inr}
 use Rattle.std.specs.List.{list_any}
 use Rattle.std.specs.Str.{bytes_eq}
 use Rattle.std.specs.Prelude.{◌&&◌, if◌then◌else◌}
 use Rattle.std.proofs.lemmas.Bool.{false≢true}
 use Rattle.clock_machine.specs.Direct.{ClockState}
 use Rattle.clock_moves.specs.Unfolding.{ClockUnfolding}
-use Rattle.clock_text.specs.TextMachine.{Acting, Activity, Clock, Made, TextState, acts, beginning, is_made, is_there, over, with_clock}
-use Rattle.clock_text.specs.TextNumbers.{IsActivityIn, IsMadeIn, made_in, number_in}
+use Rattle.clock_text.specs.TextMachine.{Acting, Activity, Clock, Made, TextState, acts, is_made, is_there, with_clock}
+use Rattle.clock_text.specs.TextNumbers.{IsActivityIn, number_in}
 use Rattle.clock_text.proofs.Corresponding.{ActsAs, Corresponds, Holds, Tells, bottom, on_same, registered}
 use Rattle.clock_text.proofs.Tables.{Agrees, HaveNames, bytes_itself, is_in, made_same, other_bytes, same_bytes}
 
@@ -133,9 +133,9 @@ module _ (u : ClockUnfolding) (names : HaveNames u) (s : TextState) (m : ClockSt
         record {
           inside = λ b e. h.holds.inside b (sym (was_there b) ∙ e);
           enrolled_in = λ p b e.
-              elim (c.lists.enrolled_in p b e) [ | inl old ↦ was_there b ∙ h.holds.enrolled_in p b old | inr same ↦ actor_there b same ];
+              elim (c.lists.enrolled_in p b e) [ inl old ↦ was_there b ∙ h.holds.enrolled_in p b old | inr same ↦ actor_there b same ];
           unsignalled_in = λ p b e.
-              elim (c.lists.unsignalled_in p b e) [ | inl old ↦ was_there b ∙ h.holds.unsignalled_in p b old | inr same ↦ actor_there b same ];
+              elim (c.lists.unsignalled_in p b e) [ inl old ↦ was_there b ∙ h.holds.unsignalled_in p b old | inr same ↦ actor_there b same ];
           open_in = λ p b e. was_there b ∙ h.holds.open_in p b (c.lists.open_in p b e);
           under = λ p b e.
               let before = h.holds.under p b (c.lists.open_in p b e) in

@@ -1,8 +1,7 @@
 -- When a state of the machine on moves stands for one of the machine on the text, and that it does so when the clocks have gone on in both.
-use Rattle.std.proofs.Common.{◌≡◌, ◌≢◌, ℕ, zero, suc, ◌+◌, ◌<◌, ◌≤◌, Bool, true, false, not, Option, Some, None, List, [], ◌∷◌, ◌++◌, length, append_assoc, append-nil, arith, sym, ◌∙◌, ap, subst, refl, ◌⊎◌, inl, inr}
+use Rattle.std.proofs.Common.{◌≡◌, ◌≢◌, ℕ, ◌+◌, ◌<◌, ◌≤◌, Bool, true, false, not, Option, Some, None, List, [], ◌∷◌, ◌++◌, length, sym, ◌∙◌, ap, refl, ◌⊎◌, inl, inr}
 use Rattle.std.specs.Prelude.{◌&&◌, if◌then◌else◌, is_some, slice_index_or}
 use Rattle.std.specs.Option.{option_map}
-use Rattle.std.proofs.lemmas.Bool.{false≢true}
 use Rattle.armus_base.specs.Places.{some_before}
 use Rattle.clock_syntax.specs.Trees.{ClockTree, advance, plain}
 use Rattle.clock_machine.specs.Direct.{ClockState, is_through, settled}

@@ -1,5 +1,5 @@
 -- Each activity of an unfolding makes its moves from the first point of its text on.
-use Rattle.std.proofs.Common.{◌≡◌, ℕ, zero, suc, ◌+◌, ◌<◌, ◌≤◌, Some, None, Ok, List, [], ◌∷◌, ◌++◌, length, arith, sym, ◌∙◌, ap, subst, refl, inl, inr}
+use Rattle.std.proofs.Common.{◌≡◌, ℕ, ◌+◌, ◌<◌, ◌≤◌, Some, Ok, ◌++◌, length, arith, sym, ◌∙◌, ap, subst, refl, inl, inr}
 use Rattle.std.specs.Prelude.{slice_get}
 use Rattle.std.proofs.lemmas.Bool.{cases_eq}
 use Rattle.std.proofs.lemmas.Option.{slice_get_within}
@@ -9,8 +9,8 @@ use Rattle.clock_moves.specs.Unfolding.{ClockStart, ClockUnfolding, activities, 
 use Rattle.clock_moves.proofs.MoveCodes.{moves_at}
 use Rattle.clock_text.specs.ClockUnfolds.{UnfoldsFrom, no_more, one_more}
 use Rattle.clock_text.specs.ProgramPoints.{first_point}
-use Rattle.clock_text.proofs.AddsMoves.{Adds, goes_adds}
-use Rattle.clock_text.proofs.Makes.{Makes, MakesAll, goes_makes}
+use Rattle.clock_text.proofs.AddsMoves.{goes_adds}
+use Rattle.clock_text.proofs.Makes.{Makes, goes_makes}
 use Rattle.clock_text.proofs.Numbers.{AreRows, known_rows, next_rows, opening_rows, past_end}
 use Rattle.clock_text.proofs.UnfoldsByPoints.{unfolding_is_unfolded}
 
@@ -30,7 +30,7 @@ leaves t u w h (one_more {v = v} start is goes rest) =
       moves = λ k l. next.moves k (omega arith) ∙ a.1.others k (λ e. absurd (omega arith));
       starts = λ k s e.
           next.starts k s
-              (ap (λ zs. slice_get zs k) a.1.starts_are ∙ slice_get-append u.starts a.1.later k (slice_get_within u.starts k s e) ∙ e);
+          (ap (λ zs. slice_get zs k) a.1.starts_are ∙ slice_get-append u.starts a.1.later k (slice_get_within u.starts k s e) ∙ e);
     }
 
 -- an activity begins with this, and makes its moves

@@ -20,3 +20,5 @@ pub mod StartingOne
 pub mod Stepping
 pub mod TextRuns
 pub mod TextEnds
+pub mod Spending
+pub mod TextRunsEnd

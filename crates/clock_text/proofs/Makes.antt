@@ -1,19 +1,17 @@
 -- Which moves an activity makes from a point of its text on, by its names and by how it stands alone; and that those of an unfolding are such.
-use Rattle.std.proofs.Common.{◌≡◌, ◌≢◌, ℕ, zero, suc, ◌+◌, ◌<◌, ◌≤◌, Bool, true, false, not, Option, Some, None, Ok, List, [], ◌∷◌, ◌++◌, length, append_assoc, append-nil, arith, sym, ◌∙◌, ap, subst, refl, ◌⊎◌, inl, inr}
+use Rattle.std.proofs.Common.{◌≡◌, ℕ, zero, suc, ◌+◌, ◌<◌, Bool, true, false, not, Option, Some, None, List, [], ◌∷◌, ◌++◌, length, arith, sym, ◌∙◌, ap, subst, refl}
 use Rattle.std.specs.List.{list_any}
 use Rattle.std.specs.Str.{bytes_eq}
-use Rattle.std.specs.Prelude.{◌&&◌, ◌==◌, Contains, if◌then◌else◌, is_none, map, option_to_list, slice_get, unwrap_or}
-use Rattle.std.proofs.lemmas.Bool.{cases_lt, false≢true}
+use Rattle.std.specs.Prelude.{◌&&◌, ◌==◌, if◌then◌else◌, is_none, map, option_to_list, slice_get, unwrap_or}
+use Rattle.std.proofs.lemmas.Bool.{false≢true}
 use Rattle.std.proofs.lemmas.Option.{slice_get_within}
-use Rattle.std.proofs.lemmas.List.{length-append}
 use Rattle.clock_syntax.specs.Trees.{ClockPlain, ClockTree, advance, async, clock, clock_count, done, drop, finish, loop, plain, resume, skip}
 use Rattle.pl_plan.proofs.Growth.{slice_get-append}
 use Rattle.pl_plan.proofs.Tables.{slice_get-last}
 use Rattle.clock_moves.specs.ClockTests.{ClockRow, PassesClockTable, after_end, clock_named, clock_table, left_at_end, names_rows, no_activity_left, no_clock_cell_left, no_clock_left, no_clock_op_left, visited}
 use Rattle.clock_moves.specs.Moves.{Move, Standing, advances, begins, drops, ends, opens, registered_on, resumes, starts, stops, unregistered_from, with_pending}
 use Rattle.clock_moves.specs.Unfolding.{ClockComing, ClockNames, ClockPart, ClockStart, ClockUnfolding, a_close, a_finish, a_loop, a_plain, a_turn, an_async, coming, innermost, start_at}
-use Rattle.clock_moves.proofs.MoveCodes.{moves_at}
-use Rattle.clock_text.specs.ClockUnfolds.{ComesTo, GoesToEnd, after_part, comes, stops_there}
+use Rattle.clock_text.specs.ClockUnfolds.{GoesToEnd, after_part, comes, stops_there}
 use Rattle.clock_text.specs.ProgramPoints.{ProgramPoint, before, behind, closing, finishes_around, last, part_at, turning}
 use Rattle.clock_text.proofs.AddsMoves.{Adds, adds_both, adds_move, move_of_end, moves_of_part, part_adds}
 
@@ -205,34 +203,34 @@ module _ (u : ClockUnfolding) (t : ℕ) (v : ClockUnfolding) (here : t < length 
       by_part own j same f =
           subst
           (λ (m : ClockComing).
-              PassesClockTable (clock_table m.part) v → MakesBehind m.part m.statement (before (i + 1) more rest) ms →
-              Makes u (before i (plain s more) rest) v.now.names v.now.standing (moves_of_part m.part v ++ ms)) same f
+          PassesClockTable (clock_table m.part) v → MakesBehind m.part m.statement (before (i + 1) more rest) ms →
+          Makes u (before i (plain s more) rest) v.now.names v.now.standing (moves_of_part m.part v ++ ms)) same f
   part_makes (before i (async xs body more) rest) n part ms is governs passes stays makes =
       subst
       (λ (m : ClockComing).
-          PassesClockTable (clock_table m.part) v → StaysBehind m.part m.statement →
-          MakesBehind m.part m.statement (before (i + 1 + clock_count body) more rest) ms →
-          Makes u (before i (async xs body more) rest) v.now.names v.now.standing (moves_of_part m.part v ++ ms))
+      PassesClockTable (clock_table m.part) v → StaysBehind m.part m.statement →
+      MakesBehind m.part m.statement (before (i + 1 + clock_count body) more rest) ms →
+      Makes u (before i (async xs body more) rest) v.now.names v.now.standing (moves_of_part m.part v ++ ms))
       (some_is (coming i (an_async xs body)) (coming n part) is)
       (λ p s m. async_makes i xs body more rest ms p governs s m) passes stays makes
   part_makes (before i (finish body more) rest) n part ms is governs passes stays makes =
       subst
       (λ (m : ClockComing).
-          MakesBehind m.part m.statement (before (i + 1) body (closing i (length v.makers) (before (i + 1 + clock_count body) more rest))) ms →
-          Makes u (before i (finish body more) rest) v.now.names v.now.standing (moves_of_part m.part v ++ ms))
+      MakesBehind m.part m.statement (before (i + 1) body (closing i (length v.makers) (before (i + 1 + clock_count body) more rest))) ms →
+      Makes u (before i (finish body more) rest) v.now.names v.now.standing (moves_of_part m.part v ++ ms))
       (some_is (coming i a_finish) (coming n part) is) (λ m. begins_one (length v.makers) m) makes
   part_makes (before i (loop k body more) rest) n part ms is governs passes stays makes =
       subst
       (λ (m : ClockComing).
-          MakesBehind m.part m.statement (turning i k body (before (i + 1 + clock_count body) more rest)) ms →
-          Makes u (before i (loop k body more) rest) v.now.names v.now.standing (moves_of_part m.part v ++ ms))
+      MakesBehind m.part m.statement (turning i k body (before (i + 1 + clock_count body) more rest)) ms →
+      Makes u (before i (loop k body more) rest) v.now.names v.now.standing (moves_of_part m.part v ++ ms))
       (some_is (coming i a_loop) (coming n part) is) (λ m. loops m) makes
   part_makes (turning i zero body rest) n part ms is governs passes stays makes = has_turned (part_makes rest n part ms is governs passes stays makes)
   part_makes (turning i (suc k) body rest) n part ms is governs passes stays makes =
       subst
       (λ (m : ClockComing).
-          MakesBehind m.part m.statement (before (i + 1) body (turning i k body rest)) ms →
-          Makes u (turning i (suc k) body rest) v.now.names v.now.standing (moves_of_part m.part v ++ ms))
+      MakesBehind m.part m.statement (before (i + 1) body (turning i k body rest)) ms →
+      Makes u (turning i (suc k) body rest) v.now.names v.now.standing (moves_of_part m.part v ++ ms))
       (some_is (coming i a_turn) (coming n part) is) (λ m. turns_on m) makes
   part_makes (closing i f rest) n part ms is governs passes stays makes =
       subst
@@ -247,8 +245,8 @@ module _ (u : ClockUnfolding) (t : ℕ) (v : ClockUnfolding) (here : t < length 
       by_governing fs same =
           subst
           (λ gs.
-              Makes u rest (after_end t gs (visited a_close v)).now.names (after_end t gs (visited a_close v)).now.standing ms →
-              Makes u (closing i f rest) v.now.names v.now.standing (move_of_end gs ++ ms)) (sym same)
+          Makes u rest (after_end t gs (visited a_close v)).now.names (after_end t gs (visited a_close v)).now.standing ms →
+          Makes u (closing i f rest) v.now.names v.now.standing (move_of_end gs ++ ms)) (sym same)
           (λ m. close_makes i f rest ms governs m)
   part_makes (last i f) n part ms is governs passes stays makes = absurd cc
 
@@ -282,7 +280,7 @@ goes_makes u t point v w here many stays (comes m is passes rest) =
     let r = goes_makes u t (behind (length v.makers) point) x w (omega (arith, here, first.moves_many)) (omega (arith, many, first.starts_many, first.parents)) stays rest in
     let kept : (k : ℕ) (start : ClockStart) → slice_get x.starts k ≡ Some start → slice_get u.starts k ≡ Some start =
     λ k start e. stays k start
-        (ap (λ zs. slice_get zs k) r.adds.starts_are ∙ slice_get-append x.starts r.adds.later k (slice_get_within x.starts k start e) ∙ e) in
+    (ap (λ zs. slice_get zs k) r.adds.starts_are ∙ slice_get-append x.starts r.adds.later k (slice_get_within x.starts k start e) ∙ e) in
     record {
       moves = moves_of_part m.part v ++ r.moves;
       adds = adds_both t v x w (moves_of_part m.part v) r.moves first r.adds;

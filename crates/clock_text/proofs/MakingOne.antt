@@ -1,23 +1,23 @@
 -- A clock that is made, a finish that begins, and one that ends.
-use Rattle.std.proofs.Common.{◌≡◌, ◌≢◌, ℕ, zero, suc, ◌+◌, ◌<◌, ◌≤◌, Bool, true, false, not, Option, Some, None, List, [], ◌∷◌, ◌++◌, length, arith, sym, ◌∙◌, ap, subst, refl, ◌⊎◌, inl, inr}
+use Rattle.std.proofs.Common.{◌≡◌, ◌≢◌, ℕ, ◌+◌, ◌≤◌, Bool, true, false, Some, None, List, [], ◌∷◌, arith, sym, ◌∙◌, ap, subst, refl, ◌⊎◌, inl, inr}
 use Rattle.std.specs.Str.{bytes_eq}
-use Rattle.std.specs.Prelude.{◌&&◌, ◌==◌, if◌then◌else◌, is_some}
+use Rattle.std.specs.Prelude.{◌&&◌, ◌==◌, if◌then◌else◌}
 use Rattle.std.specs.Option.{option_map}
-use Rattle.std.proofs.lemmas.Bool.{eq-eqb, false≢true}
+use Rattle.std.proofs.lemmas.Bool.{false≢true}
 use Rattle.armus_base.specs.States.{updated}
 use Rattle.clock_machine.specs.Direct.{ClockState, going, opening_clock}
-use Rattle.clock_moves.specs.Moves.{Move, Standing, begins, ends, opens, registered_on, unregistered_from}
+use Rattle.clock_moves.specs.Moves.{Move, Standing, opens, registered_on}
 use Rattle.clock_moves.specs.Unfolding.{ClockNames, ClockUnfolding}
 use Rattle.clock_text.specs.ProgramPoints.{ProgramPoint}
-use Rattle.clock_text.specs.TextMachine.{Acting, Activity, Clock, Continuation, Made, TextState, acts, goes_to, is_made, is_there, makes, makes_clock, next_made, with_clock}
+use Rattle.clock_text.specs.TextMachine.{Acting, Activity, Clock, Continuation, Made, TextState, goes_to, is_made, is_there, makes_clock, next_made, with_clock}
 use Rattle.clock_text.specs.TextNumbers.{IsActivityIn, IsMadeIn, made_in, number_in}
-use Rattle.clock_text.proofs.Changing.{Changes, ListsChange, acts_other, acts_own, agrees_same, changed, clock_entry, remember_same, this_or_other}
-use Rattle.clock_text.proofs.Corresponding.{ActsAs, Corresponds, Finishes, Fits, IsClock, IsFinish, Knows, Stands, Tells, bottom, is_clock, registered, target_at}
+use Rattle.clock_text.proofs.Changing.{acts_other, acts_own, agrees_same, changed, clock_entry, remember_same, this_or_other}
+use Rattle.clock_text.proofs.Corresponding.{ActsAs, Corresponds, Finishes, Fits, IsClock, Knows, Tells, bottom, is_clock, registered, target_at}
 use Rattle.clock_text.proofs.Makes.{Makes}
 use Rattle.clock_text.proofs.NextNames.{next_is_made, next_kind, next_number}
-use Rattle.clock_text.proofs.OnOneClock.{inside, left_other, left_own, lists_less, made_kept}
+use Rattle.clock_text.proofs.OnOneClock.{inside, left_other, left_own}
 use Rattle.clock_text.proofs.Stepped.{done_more}
-use Rattle.clock_text.proofs.Tables.{HaveNames, bytes_itself, entry_agrees, in_more, is_in, made_itself, made_same, other_bytes, other_made, same_made}
+use Rattle.clock_text.proofs.Tables.{HaveNames, bytes_itself, entry_agrees, in_more, is_in, other_bytes, other_made, same_made}
 
 module _ (u : ClockUnfolding) (names : HaveNames u) (s : TextState) (m : ClockState) (h : Corresponds u s m) (a : Activity) (there : is_there s a ≡ true)
     (c : Continuation) (left : List Move) (ns : ClockNames) (standing : Standing) (rest_is : (s.acting a).rest ≡ c) (left_is : m.left (number_in u a) ≡ left)
@@ -113,7 +113,7 @@ module _ (u : ClockUnfolding) (names : HaveNames u) (s : TextState) (m : ClockSt
     gained false o c e = inl e
 
     actor_is : (b : Activity) → bytes_eq a b ≡ true → b ≡ a
-    actor_is b e = elim (this_or_other a b) [ | inl same ↦ same | inr n ↦ absurd (false≢true (sym (other_bytes a b (λ z. n (sym z))) ∙ e)) ]
+    actor_is b e = elim (this_or_other a b) [ inl same ↦ same | inr n ↦ absurd (false≢true (sym (other_bytes a b (λ z. n (sym z))) ∙ e)) ]
 
     not_new : (r : Made) (b : Activity) → is_made p r ≡ false →
         ((v.clock_of r).enrolled ≡ (s.clock_of r).enrolled) × ((v.clock_of r).unsignalled ≡ (s.clock_of r).unsignalled)
@@ -157,9 +157,9 @@ module _ (u : ClockUnfolding) (names : HaveNames u) (s : TextState) (m : ClockSt
           other_left = λ b is e. left_other u names a b ms m here is e;
           lists = record {
             enrolled_in = λ r b e.
-                elim (gained (is_made p r) (is_in b (s.clock_of r).enrolled) (bytes_eq a b) (sym (new_enrolled r b) ∙ e)) [ | inl old ↦ inl old | inr g ↦ inr (actor_is b g) ];
+                elim (gained (is_made p r) (is_in b (s.clock_of r).enrolled) (bytes_eq a b) (sym (new_enrolled r b) ∙ e)) [ inl old ↦ inl old | inr g ↦ inr (actor_is b g) ];
             unsignalled_in = λ r b e.
-                elim (gained (is_made p r) (is_in b (s.clock_of r).unsignalled) (bytes_eq a b) (sym (new_unsignalled r b) ∙ e)) [ | inl old ↦ inl old | inr g ↦ inr (actor_is b g) ];
+                elim (gained (is_made p r) (is_in b (s.clock_of r).unsignalled) (bytes_eq a b) (sym (new_unsignalled r b) ∙ e)) [ inl old ↦ inl old | inr g ↦ inr (actor_is b g) ];
             open_in = λ r b e. e;
             others = λ r b n.
                 new_enrolled r b ∙ ap (λ z. if is_made p r && z then true else is_in b (s.clock_of r).enrolled) (other_bytes a b (λ z. n (sym z)))

@@ -1,12 +1,12 @@
 -- What an activity makes or starts next has the number that its next move has.
-use Rattle.std.proofs.Common.{◌≡◌, ℕ, zero, suc, ◌+◌, ◌<◌, ◌≤◌, Bool, true, false, List, [], ◌∷◌, ◌++◌, length, append_assoc, arith, sym, ◌∙◌, ap, subst, refl}
+use Rattle.std.proofs.Common.{◌≡◌, ℕ, suc, Bool, false, List, [], ◌∷◌, ◌++◌, length, append_assoc, arith, sym, ◌∙◌, ap, refl}
 use Rattle.std.specs.Prelude.{slice_index_or}
 use Rattle.std.proofs.Math.Seq.{get_or-append_seam}
 use Rattle.std.proofs.lemmas.List.{length-append}
 use Rattle.clock_moves.specs.Moves.{Move, advances, begins, drops, ends, opens, resumes, starts, stops}
 use Rattle.clock_moves.specs.Unfolding.{ClockUnfolding}
 use Rattle.clock_moves.proofs.MoveCodes.{moves_at}
-use Rattle.clock_text.specs.TextMachine.{Acting, Activity, Made, TextState, next_made}
+use Rattle.clock_text.specs.TextMachine.{Acting, Activity, Made}
 use Rattle.clock_text.specs.TextNumbers.{IsActivityIn, IsMadeIn, child_of, made_by, made_in, made_of, number_in, started_by}
 use Rattle.clock_text.proofs.AddsMoves.{made-append, started-append}
 use Rattle.clock_text.proofs.Corresponding.{ActsAs, is_clock, kind_of, kinds_by}

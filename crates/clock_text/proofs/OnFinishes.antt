@@ -1,17 +1,16 @@
 -- A finish that begins, one that ends, and the end of an activity.
-use Rattle.std.proofs.Common.{◌≡◌, ◌≢◌, ℕ, zero, suc, ◌+◌, ◌<◌, ◌≤◌, Bool, true, false, not, Option, Some, None, List, [], ◌∷◌, ◌++◌, length, arith, sym, ◌∙◌, ap, subst, refl, ◌⊎◌, inl, inr}
-use Rattle.std.specs.List.{list_any}
+use Rattle.std.proofs.Common.{◌≡◌, ◌≢◌, ℕ, ◌+◌, Bool, true, false, Option, Some, None, List, [], ◌∷◌, arith, sym, ◌∙◌, ap, subst, refl, inl, inr}
 use Rattle.std.specs.Str.{bytes_eq}
-use Rattle.std.specs.Prelude.{◌&&◌, ◌==◌, if◌then◌else◌, is_some}
+use Rattle.std.specs.Prelude.{◌==◌, if◌then◌else◌}
 use Rattle.std.proofs.lemmas.Bool.{false≢true}
-use Rattle.clock_machine.specs.Direct.{ClockState, departing_all, going, with_column}
+use Rattle.clock_machine.specs.Direct.{ClockState, departing_all, going}
 use Rattle.clock_moves.specs.Moves.{Move, Standing, begins, ends, registered_on, stops, unregistered_from}
 use Rattle.clock_moves.specs.Unfolding.{ClockNames, ClockUnfolding}
 use Rattle.clock_text.specs.ProgramPoints.{ProgramPoint}
-use Rattle.clock_text.specs.TextMachine.{Acting, Activity, Clock, Continuation, Made, TextState, acts, departs_from_all, goes_to, is_made, is_there, leaves, left_by, makes, next_made, over, with_open_set, without}
-use Rattle.clock_text.specs.TextNumbers.{IsActivityIn, IsMadeIn, made_in, number_in}
-use Rattle.clock_text.proofs.Changing.{Changes, ListsChange, acts_other, acts_own, agrees_same, changed, remember_same, this_or_other}
-use Rattle.clock_text.proofs.Corresponding.{ActsAs, Corresponds, Finishes, Fits, IsClock, IsFinish, Knows, Stands, Tells, bottom, is_clock, registered, target_at}
+use Rattle.clock_text.specs.TextMachine.{Acting, Activity, Clock, Continuation, Made, TextState, departs_from_all, goes_to, is_made, is_there, leaves, left_by, makes, next_made, over, with_open_set, without}
+use Rattle.clock_text.specs.TextNumbers.{IsActivityIn, made_in, number_in}
+use Rattle.clock_text.proofs.Changing.{acts_other, acts_own, agrees_same, changed, remember_same}
+use Rattle.clock_text.proofs.Corresponding.{ActsAs, Corresponds, Finishes, Fits, IsClock, IsFinish, Knows, bottom, is_clock, registered, target_at}
 use Rattle.clock_text.proofs.Makes.{Makes}
 use Rattle.clock_text.proofs.NextNames.{next_is_made, next_kind, next_number}
 use Rattle.clock_text.proofs.OnOneClock.{inside, left_other, left_own, less, lists_less, made_kept}

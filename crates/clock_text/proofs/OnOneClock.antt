@@ -1,16 +1,15 @@
 -- Steps on one clock: a signal, the step behind it, a resume and a drop.
-use Rattle.std.proofs.Common.{◌≡◌, ◌≢◌, ℕ, zero, suc, ◌+◌, ◌<◌, ◌≤◌, Bool, true, false, not, Option, Some, None, List, [], ◌∷◌, ◌++◌, length, arith, sym, ◌∙◌, ap, subst, refl, ◌⊎◌, inl, inr}
+use Rattle.std.proofs.Common.{◌≡◌, ◌≢◌, ℕ, ◌≤◌, Bool, true, false, Option, Some, None, List, [], ◌∷◌, arith, sym, ◌∙◌, ap, subst, refl, inl, inr}
 use Rattle.std.specs.Str.{bytes_eq}
-use Rattle.std.specs.Prelude.{◌&&◌, ◌==◌, if◌then◌else◌, is_some, nat_lt}
-use Rattle.std.specs.Option.{option_map}
+use Rattle.std.specs.Prelude.{◌&&◌, ◌==◌, if◌then◌else◌, is_some}
 use Rattle.std.proofs.lemmas.Bool.{eq-eqb, false≢true}
-use Rattle.clock_machine.specs.Direct.{ClockState, advance_of, departing, forgetting, going, move_of, signalling, with_entry}
-use Rattle.clock_moves.specs.Moves.{Move, Standing, advances, drops, resumes, unregistered_from, with_pending}
-use Rattle.clock_moves.specs.Unfolding.{ClockNames, ClockUnfolding, activities}
+use Rattle.clock_machine.specs.Direct.{ClockState, going, signalling, with_entry}
+use Rattle.clock_moves.specs.Moves.{Move, Standing, resumes, with_pending}
+use Rattle.clock_moves.specs.Unfolding.{ClockNames, ClockUnfolding}
 use Rattle.clock_text.specs.ProgramPoints.{ProgramPoint}
-use Rattle.clock_text.specs.TextMachine.{Acting, Activity, Clock, Continuation, Made, TextState, acts, departs, goes_to, is_made, is_there, left_by, remembering, signalled_by, signals, with_clock}
-use Rattle.clock_text.specs.TextNumbers.{IsActivityIn, IsMadeIn, made_in, number_in}
-use Rattle.clock_text.proofs.Changing.{Changes, ListsChange, acts_other, acts_own, agrees_same, changed, clock_entry, clock_same, phase_same, remember_entry, remember_same, this_or_other}
+use Rattle.clock_text.specs.TextMachine.{Acting, Activity, Clock, Continuation, Made, TextState, goes_to, is_made, is_there, signalled_by, signals, with_clock}
+use Rattle.clock_text.specs.TextNumbers.{IsActivityIn, made_in, number_in}
+use Rattle.clock_text.proofs.Changing.{ListsChange, acts_other, acts_own, agrees_same, changed, clock_entry, clock_same, phase_same, remember_entry, this_or_other}
 use Rattle.clock_text.proofs.Corresponding.{ActsAs, Corresponds, Finishes, Fits, IsClock, Knows, Stands, Tells, bottom, registered, target_at}
 use Rattle.clock_text.proofs.Makes.{Makes}
 use Rattle.clock_text.proofs.Stepped.{done_more}
@@ -127,7 +126,7 @@ module _ (u : ClockUnfolding) (names : HaveNames u) (s : TextState) (m : ClockSt
         lists_less v
         (λ q b e. sym (enrolled_kept q b) ∙ e)
         (λ q b e. less (is_made p q && bytes_eq a b) (is_in b (s.clock_of q).unsignalled)
-            (sym (signal_unsignalled q b) ∙ sym (ap (λ (f : Made → Clock). is_in b (f q).unsignalled) clocks) ∙ e))
+        (sym (signal_unsignalled q b) ∙ sym (ap (λ (f : Made → Clock). is_in b (f q).unsignalled) clocks) ∙ e))
         (λ q b n. enrolled_kept q b) sets (made_kept v y own other made) (ap (λ (z : Acting). bottom u z.rest) own ∙ bottoms)
       where
         enrolled_kept : (q : Made) (b : Activity) → is_in b (v.clock_of q).enrolled ≡ is_in b (s.clock_of q).enrolled

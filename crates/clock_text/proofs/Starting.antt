@@ -1,27 +1,17 @@
 -- An activity that is started, in both machines.
-use Rattle.std.proofs.Common.{◌≡◌, ◌≢◌, ℕ, zero, suc, ◌+◌, ◌<◌, ◌≤◌, Bool, true, false, not, Option, Some, None, List, [], ◌∷◌, ◌++◌, length, arith, sym, ◌∙◌, ap, subst, refl, ◌⊎◌, inl, inr}
+use Rattle.std.proofs.Common.{◌≡◌, ℕ, Bool, true, false, Some, None, List, [], ◌∷◌, ◌∙◌, ap, refl}
 use Rattle.std.specs.List.{list_any}
 use Rattle.std.specs.Str.{bytes_eq}
-use Rattle.std.specs.Prelude.{◌&&◌, ◌||◌, ◌==◌, if◌then◌else◌, is_some, map, option_to_list, slice_get}
+use Rattle.std.specs.Prelude.{◌&&◌, ◌||◌, if◌then◌else◌, map}
 use Rattle.std.specs.Option.{option_map}
-use Rattle.std.proofs.lemmas.Bool.{eqb-true, eq-eqb, false≢true}
-use Rattle.armus_base.specs.States.{updated}
-use Rattle.clock_syntax.specs.Trees.{ClockTree}
-use Rattle.clock_machine.specs.Direct.{ClockState, enrolling, enrolling_all, going, joining, starting, with_entry}
-use Rattle.clock_moves.specs.Moves.{Move, Standing, starts}
-use Rattle.clock_moves.specs.Unfolding.{ClockNames, ClockStart, ClockUnfolding, innermost}
-use Rattle.clock_moves.proofs.MoveCodes.{moves_at}
-use Rattle.clock_text.specs.ProgramPoints.{ProgramPoint, before, finishes_around, first_point, last}
-use Rattle.clock_text.specs.TextMachine.{Acting, Activity, Clock, Continuation, Made, TextState, acts, beginning, closes, enrolled_with, enrols_on, governing, is_made, is_there, leaves, over, reads, starts_one, turns, with_clock, with_open_set}
+use Rattle.clock_machine.specs.Direct.{ClockState, enrolling, enrolling_all}
+use Rattle.clock_moves.specs.Unfolding.{ClockUnfolding, innermost}
+use Rattle.clock_text.specs.ProgramPoints.{ProgramPoint, finishes_around}
+use Rattle.clock_text.specs.TextMachine.{Activity, Clock, Continuation, Made, TextState, closes, enrolled_with, enrols_on, governing, is_made, leaves, over, reads, turns, with_clock}
 use Rattle.clock_text.specs.TextNumbers.{IsActivityIn, IsMadeIn, made_in, number_in}
-use Rattle.clock_text.proofs.Changing.{acts_other, acts_own, clock_entry, phase_same, this_or_other}
-use Rattle.clock_text.proofs.Corresponding.{ActsAs, Corresponds, Finishes, Fits, Holds, IsClock, IsFinish, Knows, Stands, Tells, bottom, closes_so, is_clock, leaves_so, on_same, reads_so, registered, target_at, turns_so}
-use Rattle.clock_text.proofs.EachMakes.{IsMade}
-use Rattle.clock_text.proofs.Makes.{AreNamed, IsStart, Makes}
-use Rattle.clock_text.proofs.NextNames.{next_child, next_is_there}
-use Rattle.clock_text.proofs.OnOneClock.{inside, left_other, left_own}
-use Rattle.clock_text.proofs.Stepped.{StandFor, done_more}
-use Rattle.clock_text.proofs.Tables.{Agrees, HaveNames, bytes_itself, entry_agrees, in_more, is_in, made_itself, made_same, other_bytes, other_made, same_activity, same_bytes, same_made, same_test}
+use Rattle.clock_text.proofs.Changing.{clock_entry, phase_same}
+use Rattle.clock_text.proofs.Corresponding.{Finishes, Fits, closes_so, leaves_so, reads_so, turns_so}
+use Rattle.clock_text.proofs.Tables.{Agrees, HaveNames, entry_agrees, in_more, is_in, made_itself}
 
 -- ---- several clocks
 
@@ -49,7 +39,7 @@ enrols_in side k is [] s q b = refl
 enrols_in side k is (p ∷ ps) s q b =
     enrols_in side k is ps (with_clock p (enrolled_with k (s.clock_of p)) s) q b
     ∙ ap (λ z. if stands_in q ps && bytes_eq k b then true else z)
-        (clock_entry s p (enrolled_with k (s.clock_of p)) side k true (λ c. ap (is_in c) (is (s.clock_of p)) ∙ in_more k c (side (s.clock_of p))) q b)
+    (clock_entry s p (enrolled_with k (s.clock_of p)) side k true (λ c. ap (is_in c) (is (s.clock_of p)) ∙ in_more k c (side (s.clock_of p))) q b)
     ∙ either (is_made p q) (stands_in q ps) (bytes_eq k b) (is_in b (side (s.clock_of q)))
   where
     either : (x y z o : Bool) → (if y && z then true else (if x && z then true else o)) ≡ (if (x || y) && z then true else o)

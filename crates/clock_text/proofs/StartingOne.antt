@@ -1,21 +1,21 @@
 -- An activity that starts another one, in both machines.
-use Rattle.std.proofs.Common.{◌≡◌, ◌≢◌, ℕ, zero, suc, ◌+◌, ◌<◌, ◌≤◌, Bool, true, false, not, Option, Some, None, List, [], ◌∷◌, ◌++◌, length, arith, sym, ◌∙◌, ap, subst, refl, ◌⊎◌, inl, inr}
+use Rattle.std.proofs.Common.{◌≡◌, ◌≢◌, ℕ, ◌+◌, ◌<◌, ◌≤◌, Bool, true, false, Option, Some, None, List, [], ◌∷◌, ◌++◌, arith, sym, ◌∙◌, ap, subst, refl, ◌⊎◌, inl, inr}
 use Rattle.std.specs.List.{list_any}
 use Rattle.std.specs.Str.{bytes_eq}
-use Rattle.std.specs.Prelude.{◌-◌, ◌&&◌, ◌||◌, ◌==◌, if◌then◌else◌, is_some, map, option_to_list, slice_get}
+use Rattle.std.specs.Prelude.{◌-◌, ◌&&◌, ◌||◌, ◌==◌, if◌then◌else◌, map, option_to_list, slice_get}
 use Rattle.std.specs.Option.{option_map}
 use Rattle.std.proofs.lemmas.Bool.{eqb-true, eq-eqb, false≢true}
 use Rattle.armus_base.specs.States.{updated}
 use Rattle.clock_syntax.specs.Trees.{ClockTree}
-use Rattle.clock_machine.specs.Direct.{ClockState, enrolling, enrolling_all, going, joining, starting, with_entry}
+use Rattle.clock_machine.specs.Direct.{ClockState, enrolling_all, going, joining, starting, with_entry}
 use Rattle.clock_moves.specs.Moves.{Move, Standing, starts}
 use Rattle.clock_moves.specs.Unfolding.{ClockNames, ClockStart, ClockUnfolding, activities, innermost}
 use Rattle.clock_moves.proofs.MoveCodes.{moves_at}
-use Rattle.clock_text.specs.ProgramPoints.{ProgramPoint, before, finishes_around, first_point, last}
-use Rattle.clock_text.specs.TextMachine.{Acting, Activity, Clock, Continuation, Made, TextState, acts, beginning, closes, enrolled_with, enrols_on, governing, is_made, is_there, leaves, over, reads, starts_one, turns, with_clock, with_open_set}
+use Rattle.clock_text.specs.ProgramPoints.{ProgramPoint, before, first_point, last}
+use Rattle.clock_text.specs.TextMachine.{Acting, Activity, Clock, Continuation, Made, TextState, acts, beginning, enrols_on, governing, is_made, is_there, leaves, over, reads, with_open_set}
 use Rattle.clock_text.specs.TextNumbers.{IsActivityIn, IsMadeIn, made_in, number_in}
-use Rattle.clock_text.proofs.Changing.{acts_other, acts_own, clock_entry, phase_same, this_or_other}
-use Rattle.clock_text.proofs.Corresponding.{ActsAs, Corresponds, Finishes, Fits, Holds, IsClock, IsFinish, Knows, Stands, Tells, bottom, closes_so, is_clock, leaves_so, on_same, reads_so, registered, target_at, turns_so}
+use Rattle.clock_text.proofs.Changing.{acts_other, acts_own, this_or_other}
+use Rattle.clock_text.proofs.Corresponding.{ActsAs, Corresponds, Finishes, Fits, Holds, IsClock, IsFinish, Knows, Tells, bottom, is_clock, leaves_so, on_same, reads_so, registered, target_at}
 use Rattle.clock_text.proofs.EachMakes.{IsMade}
 use Rattle.clock_text.proofs.Makes.{AreNamed, IsStart, Makes}
 use Rattle.clock_text.proofs.NextNames.{next_child, next_is_there}
@@ -227,7 +227,7 @@ module _ (u : ClockUnfolding) (names : HaveNames u) (each : (t : ℕ) → t < ac
     open_agrees (Some g) is q b y e =
         open_is q b ∙ ap (λ (o : Option Made). if governs_so o q && bytes_eq k b then true else is_in b (s.open_set q)) is
         ∙ entry_agrees u names (λ q b. is_in b (s.open_set q)) (λ q b. if is_made g q && bytes_eq k b then true else is_in b (s.open_set q)) m.open_set g k true
-            (finish_made g is) inside_too (λ q b. refl) h.tells.open_set q b y e
+        (finish_made g is) inside_too (λ q b. refl) h.tells.open_set q b y e
         ∙ ap (λ (o : ℕ → ℕ → Bool). with_entry o (made_in u g) (number_in u k) true (made_in u q) (number_in u b)) (sym (enrols_leave u names number ps m).0)
         ∙ ap (λ i. with_entry registered_all.open_set (made_in u g) i true (made_in u q) (number_in u b)) number_of
       where
@@ -428,7 +428,7 @@ module _ (u : ClockUnfolding) (names : HaveNames u) (each : (t : ℕ) → t < ac
     left_same b y l =
         left_other u names a b ms (starting number (joining (option_map (made_in u) f) number registered_all)) here y l
         ∙ ap (λ (g : ℕ → List Move). g (number_in u b))
-            ((joined_leaves (option_map (made_in u) f) number registered_all).5 ∙ (enrols_leave u names number ps m).3)
+        ((joined_leaves (option_map (made_in u) f) number registered_all).5 ∙ (enrols_leave u names number ps m).3)
 
     -- the new one begins with all its moves
     own_moves : n.left (number_in u k) ≡ moves_at u (number_in u k)

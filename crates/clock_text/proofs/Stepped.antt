@@ -1,21 +1,19 @@
 -- What a step of the machine on the text leaves in both machines; and the steps that only the machine on the text makes.
-use Rattle.std.proofs.Common.{◌≡◌, ◌≢◌, ℕ, zero, suc, ◌+◌, ◌<◌, ◌≤◌, Bool, true, false, not, Option, Some, None, Result, Ok, Err, List, [], ◌∷◌, ◌++◌, length, append_assoc, append-nil, arith, sym, ◌∙◌, ap, subst, refl, ◌⊎◌, inl, inr}
+use Rattle.std.proofs.Common.{◌≡◌, ℕ, ◌+◌, ◌≤◌, Bool, true, false, not, Option, Some, None, Result, Ok, Err, List, [], ◌∷◌, ◌++◌, length, append_assoc, arith, sym, ◌∙◌, ap, subst, refl, ◌⊎◌, inl, inr}
 use Rattle.std.specs.List.{list_any}
 use Rattle.std.specs.Str.{bytes_eq}
 use Rattle.std.specs.Prelude.{◌&&◌, if◌then◌else◌, is_some}
 use Rattle.std.specs.Option.{option_map}
-use Rattle.std.proofs.lemmas.Bool.{false≢true}
 use Rattle.std.proofs.lemmas.List.{length-append}
 use Rattle.clock_machine.specs.Direct.{ClockState, clock_step, move_of, settled}
 use Rattle.clock_moves.specs.Moves.{Move, Standing}
 use Rattle.clock_moves.specs.Unfolding.{ClockNames, ClockUnfolding, activities}
-use Rattle.clock_moves.proofs.MoveCodes.{moves_at}
 use Rattle.clock_text.specs.ProgramPoints.{ProgramPoint}
-use Rattle.clock_text.specs.TextMachine.{Acting, Activity, Continuation, Made, TextState, TextStep, acts, and_clocks, clock_here, clock_or_kind, clocks_go_on, clocks_here, fails, goes, goes_on, goes_to, is_there, or_fails, over, then_clocks, waits}
-use Rattle.clock_text.specs.TextNumbers.{IsActivityIn, made_by, made_in, number_in, started_by}
+use Rattle.clock_text.specs.TextMachine.{Acting, Activity, Continuation, Made, TextState, TextStep, and_clocks, clock_here, clock_or_kind, clocks_go_on, clocks_here, goes, goes_on, goes_to, is_there, or_fails, over, then_clocks}
+use Rattle.clock_text.specs.TextNumbers.{made_by, number_in, started_by}
 use Rattle.clock_text.proofs.AddsMoves.{made-append, started-append}
-use Rattle.clock_text.proofs.Changing.{Changes, ListsChange, acts_other, acts_own, agrees_same, changed, remember_same}
-use Rattle.clock_text.proofs.Corresponding.{ActsAs, Corresponds, Finishes, Fits, Holds, IsSteady, Knows, Stands, Tells, bottom, corresponds_on, registered, steady_behind, target_at}
+use Rattle.clock_text.proofs.Changing.{ListsChange, acts_other, acts_own, agrees_same, changed, remember_same}
+use Rattle.clock_text.proofs.Corresponding.{ActsAs, Corresponds, Finishes, Fits, IsSteady, Knows, Stands, bottom, corresponds_on, registered, steady_behind, target_at}
 use Rattle.clock_text.proofs.Makes.{Makes}
 use Rattle.clock_text.proofs.Tables.{HaveNames, is_in, same_bytes}
 
@@ -44,7 +42,7 @@ module _ (s : TextState) (a : Activity) where
       by (Some q) is e =
           is
           ∙ ap (λ z. Some z)
-              (last q (list_any (bytes_eq a) (s.clock_of q).enrolled) (list_any (bytes_eq x) earlier) (idle && is_some ((s.acting a).remembers q)) e)
+          (last q (list_any (bytes_eq a) (s.clock_of q).enrolled) (list_any (bytes_eq x) earlier) (idle && is_some ((s.acting a).remembers q)) e)
 
   -- these names stand for these clocks
   abbrev pub StandFor : List (List ℕ) → List Made → Type 0
@@ -133,7 +131,7 @@ module _ (u : ClockUnfolding) (names : HaveNames u) (s : TextState) (m : ClockSt
         open_in = λ p b e. ap (λ (f : Made → _). is_in b (f p)) (sym sets) ∙ e;
         others = λ p b n. ap (λ (f : Made → _). is_in b (f p).enrolled) clocks;
         fresh = λ p b l.
-            let before = h.holds.fresh p b (elim (made p) [ | inl e ↦ omega (arith, e) | inr k ↦ omega (arith, k) ]) in (
+            let before = h.holds.fresh p b (elim (made p) [ inl e ↦ omega (arith, e) | inr k ↦ omega (arith, k) ]) in (
               ap (λ (f : Made → _). is_in b (f p).enrolled) clocks ∙ before.0,
               ap (λ (f : Made → _). is_in b (f p).unsignalled) clocks ∙ before.1,
             );

@@ -1,22 +1,19 @@
 -- Each step of the machine on the text is one of the machine on moves, or it is silent there.
-use Rattle.std.proofs.Common.{◌≡◌, ◌≢◌, ℕ, zero, suc, ◌+◌, ◌<◌, ◌≤◌, Bool, true, false, not, Option, Some, None, Result, Ok, Err, List, [], ◌∷◌, length, arith, sym, ◌∙◌, ap, subst, refl, ◌⊎◌, inl, inr}
-use Rattle.std.specs.Str.{bytes_eq}
+use Rattle.std.proofs.Common.{◌≡◌, ℕ, suc, ◌+◌, ◌<◌, Bool, true, false, not, Option, Some, None, List, [], ◌∷◌, sym, ◌∙◌, ap, subst, refl, ◌⊎◌, inl, inr}
 use Rattle.std.specs.Prelude.{if◌then◌else◌, nat_lt}
 use Rattle.std.specs.Option.{option_map}
-use Rattle.std.proofs.lemmas.Bool.{false≢true}
-use Rattle.armus_base.specs.Places.{some_before}
 use Rattle.clock_syntax.specs.Trees.{ClockTree, advance, async, clock, clock_count, done, drop, finish, loop, plain, resume, skip}
 use Rattle.clock_machine.specs.Direct.{ClockState, advance_of, departing, departing_all, enrolling_all, forgetting, going, joining, move_of, opening_clock, signalling, starting}
 use Rattle.clock_moves.specs.Moves.{Move, Standing, advances, begins, drops, ends, opens, registered_on, resumes, starts, stops, unregistered_from, with_pending}
 use Rattle.clock_moves.specs.Unfolding.{ClockNames, ClockUnfolding, activities, innermost}
 use Rattle.clock_text.specs.ProgramPoints.{ProgramPoint, before, closing, finishes_around, turning}
-use Rattle.clock_text.specs.TextMachine.{Acting, Activity, Continuation, Made, TextState, TextStep, advance_on, clock_here, clocks_here, closes, departs, departs_from_all, does, goes, goes_to, governing, is_empty, is_there, makes, leaves, makes_clock, next_made, over, reads, remembering, signals, text_step, then_clocks, turns, waits, with_open_set, without}
+use Rattle.clock_text.specs.TextMachine.{Acting, Activity, Continuation, Made, TextState, advance_on, clock_here, clocks_here, closes, departs, departs_from_all, does, goes, goes_to, governing, is_empty, is_there, makes, leaves, makes_clock, next_made, over, reads, remembering, signals, text_step, then_clocks, turns, waits, with_open_set, without}
 use Rattle.clock_text.specs.TextMachine.{starts_one as starts_one_text}
 use Rattle.clock_text.specs.TextNumbers.{IsActivityIn, made_in, number_in}
 use Rattle.clock_text.proofs.BehindSignals.{drops_now, passes_now}
-use Rattle.clock_text.proofs.Corresponding.{ActsAs, Corresponds, Fits, IsClock, IsSteady, Knows, Stands, closes_so, leaves_so, reads_so, registered, turns_so}
+use Rattle.clock_text.proofs.Corresponding.{Corresponds, Fits, IsClock, IsSteady, Knows, Stands, closes_so, leaves_so, reads_so, registered, turns_so}
 use Rattle.clock_text.proofs.EachMakes.{IsMade}
-use Rattle.clock_text.proofs.Makes.{AreNamed, IsStart, Makes, advances_on, begins_one, drops_from, ends_one, has_read, has_turned, loops, opens_one, resumes_on, skips, starts_one, stops_here, turns_on}
+use Rattle.clock_text.proofs.Makes.{IsStart, Makes, advances_on, begins_one, drops_from, ends_one, has_read, has_turned, loops, opens_one, resumes_on, skips, starts_one, stops_here, turns_on}
 use Rattle.clock_text.proofs.MakingOne.{number, opens_now}
 use Rattle.clock_text.proofs.NextNames.{next_number}
 use Rattle.clock_text.proofs.OnFinishes.{begins_now, ends_now, stops_now}
@@ -123,8 +120,8 @@ module _ (u : ClockUnfolding) (names : HaveNames u) (each : (t : ℕ) → t < ac
           real u names s m h steady a there (goes_to a rest s) r (going t ms m)
           (ap (λ zs. move_of T t zs m) left_is
           ∙ ap (λ z. if z then None else Some (going t ms m))
-              (empties u names (s.open_set f) (m.open_set (made_in u f)) (λ b o. h.holds.inside b (h.holds.open_in f b o)) (λ b y. h.tells.open_set f b knows.finishes.0.0 y)
-              ∙ ap not e))
+          (empties u names (s.open_set f) (m.open_set (made_in u f)) (λ b o. h.holds.inside b (h.holds.open_in f b o)) (λ b y. h.tells.open_set f b knows.finishes.0.0 y)
+          ∙ ap not e))
           (ends_now u names s m h a there (closes f rest) (ends (made_in u f) ∷ ms) ns standing rest_is left_is knows refl rest point ms fits refl f knows.finishes.0 refl
           knows.finishes.1 makes_on)
           (sym (ap (λ z. then_clocks (if z then goes (goes_to a rest s) else waits)) e) ∙ step)

@@ -1,19 +1,19 @@
 -- Where no activity goes, each stands as its task has ended; and none comes to a fault.
-use Rattle.std.proofs.Common.{◌≡◌, ◌≢◌, ℕ, zero, suc, ◌+◌, ◌<◌, ◌≤◌, Bool, true, false, not, Option, Some, None, Result, Ok, Err, List, [], ◌∷◌, length, arith, sym, ◌∙◌, ap, subst, refl, ◌⊎◌, inl, inr}
+use Rattle.std.proofs.Common.{◌≡◌, ℕ, ◌+◌, ◌≤◌, Bool, true, false, not, Option, Some, None, Ok, List, [], ◌∷◌, arith, sym, ◌∙◌, ap, subst, refl, ◌⊎◌, inl, inr}
 use Rattle.std.specs.Prelude.{if◌then◌else◌, nat_lt, unwrap_or}
 use Rattle.std.proofs.lemmas.Option.{slice_get_past}
 use Rattle.std.specs.Option.{option_map}
 use Rattle.std.proofs.lemmas.Bool.{cases_lt, false≢true}
 use Rattle.armus_base.specs.declared.ending.TaskEnd.{TaskEnd}
-use Rattle.armus_base.specs.declared.ending.TaskEnd.TheVariants.{Done, Blocked, Unforked}
+use Rattle.armus_base.specs.declared.ending.TaskEnd.TheVariants.{Blocked}
 use Rattle.armus_base.specs.Finals.{end_of}
 use Rattle.armus_base.specs.Runs.{IsFinal}
 use Rattle.armus_base.specs.States.{State, event_at}
-use Rattle.clock_syntax.specs.Trees.{ClockTree, advance, async, clock, done, drop, finish, loop, plain, resume, skip}
+use Rattle.clock_syntax.specs.Trees.{ClockTree, advance, async, drop, plain, resume}
 use Rattle.clock_machine.proofs.Bounded.{step_within}
 use Rattle.clock_machine.proofs.ClockEnds.{ends_are_those_of_tasks}
 use Rattle.clock_machine.specs.Direct.{ClockState, IsClockEnd, StandsAs, advance_of, clock_step, going, has_ended, forgetting, move_of, settled, unstarted, waits_at_advance, waits_at_end}
-use Rattle.clock_machine.specs.Laws.{IsDirectEnd, IsDirectRun, moves_of}
+use Rattle.clock_machine.specs.Laws.{IsDirectEnd, moves_of}
 use Rattle.clock_moves.specs.Moves.{Move, Standing, advances, ends}
 use Rattle.clock_moves.specs.Unfolding.{ClockNames, ClockUnfolding, activities, clock_unfolded, plan_of_moves}
 use Rattle.clock_text.specs.ProgramPoints.{ProgramPoint}
@@ -21,7 +21,7 @@ use Rattle.clock_text.specs.TextLaws.{NoRunFails, TextEndsAreThoseOfTasks, TextR
 use Rattle.clock_text.specs.TextMachine as text
 use Rattle.clock_text.specs.TextMachine.{Acting, Activity, Continuation, IsAtRest, IsTextEnd, IsTextRun, Made, TextState, TextStep, advance_on, clock_here, closes, departs, does, fails, goes, goes_to, is_empty, is_there, leaves, or_fails, over, reads, remembering, signals, stand_at, stand_of, stand_on, stand_with, text_step, then_clocks, turns, waits}
 use Rattle.clock_text.specs.TextNumbers.{IsActivityIn, IsMadeIn, made_in, number_in}
-use Rattle.clock_text.proofs.Corresponding.{ActsAs, Corresponds, Fits, IsClock, Knows, Stands, closes_so, leaves_so, reads_so, registered, turns_so}
+use Rattle.clock_text.proofs.Corresponding.{Corresponds, Fits, IsClock, Knows, Stands, closes_so, leaves_so, reads_so, registered, turns_so}
 use Rattle.clock_text.proofs.Makes.{Makes, advances_on, begins_one, drops_from, ends_one, has_read, has_turned, loops, opens_one, resumes_on, skips, starts_one, stops_here, turns_on}
 use Rattle.clock_text.proofs.Numbers.{unfolded_rows}
 use Rattle.clock_text.proofs.OnOneClock.{inside}
@@ -142,8 +142,8 @@ module _ (u : ClockUnfolding) (names : HaveNames u) (s : TextState) (m : ClockSt
             step_by None
             (ap (λ zs. move_of (activities u) t zs m) left
             ∙ ap (λ b. if b then None else Some (going t ms m))
-                (empties u names (s.open_set f) (m.open_set (made_in u f)) (λ b o. h.holds.inside b (h.holds.open_in f b o)) (λ b y. h.tells.open_set f b made y)
-                ∙ ap not empty))
+            (empties u names (s.open_set f) (m.open_set (made_in u f)) (λ b o. h.holds.inside b (h.holds.open_in f b o)) (λ b y. h.tells.open_set f b made y)
+            ∙ ap not empty))
             refl
 
     started : m.started t ≡ true

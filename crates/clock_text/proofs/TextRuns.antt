@@ -1,28 +1,28 @@
 -- The runs of the machine on the text, from its opening on, are runs of the machine on moves; and none comes to a fault.
-use Rattle.std.proofs.Common.{◌≡◌, ◌≢◌, ℕ, zero, suc, ◌+◌, ◌-◌, ◌<◌, ◌≤◌, Bool, true, false, not, Option, Some, None, Result, Ok, Err, List, [], ◌∷◌, ◌++◌, length, arith, sym, ◌∙◌, ap, subst, refl, ◌⊎◌, inl, inr}
+use Rattle.std.proofs.Common.{◌≡◌, ℕ, ◌<◌, Bool, true, false, not, Option, Some, None, Ok, Err, List, [], ◌∷◌, sym, ◌∙◌, ap, subst, refl, ◌⊎◌, inl, inr}
 use Rattle.std.specs.List.{list_any}
 use Rattle.std.specs.Str.{bytes_eq}
-use Rattle.std.specs.Prelude.{◌&&◌, ◌||◌, ◌==◌, if◌then◌else◌, is_some, nat_lt, slice_get, unwrap_or}
+use Rattle.std.specs.Prelude.{◌&&◌, ◌||◌, ◌==◌, if◌then◌else◌, is_some}
 use Rattle.std.specs.Option.{option_map}
 use Rattle.std.proofs.lemmas.Bool.{false≢true}
 use Rattle.std.proofs.lemmas.Option.{unwrap_or-slice_get}
-use Rattle.clock_syntax.specs.Trees.{ClockTree, advance, async, clock, done, drop, finish, loop, plain, resume, skip}
-use Rattle.clock_machine.specs.Direct.{ClockState, clock_run, clock_step, direct_opening, step_from}
+use Rattle.clock_syntax.specs.Trees.{ClockTree}
+use Rattle.clock_machine.specs.Direct.{ClockState, clock_step, direct_opening, step_from}
 use Rattle.clock_machine.specs.Laws.{IsDirectRun, moves_of}
-use Rattle.clock_moves.specs.Moves.{Move, Standing}
+use Rattle.clock_moves.specs.Moves.{Standing}
 use Rattle.clock_moves.specs.Unfolding.{ClockNames, ClockStart, ClockUnfolding, activities, clock_unfolded}
 use Rattle.clock_moves.proofs.MoveCodes.{moves_at}
-use Rattle.clock_text.specs.ProgramPoints.{ProgramPoint, before, first_point, last}
-use Rattle.clock_text.specs.TextLaws.{AreSteps, IsToldBy, NoRunFails, TextRunsAreDirect, a_step, no_step, of_text_alone}
-use Rattle.clock_text.specs.TextMachine.{Acting, Activity, Continuation, IsTextRun, Made, TextState, TextStep, advance_on, and_clocks, and_step, clock_here, clock_or_kind, clocks_here, does, fails, goes, goes_to, is_there, leaves, over, reads, remembering, signals, text_opening, text_run, text_step, then_clocks, waits}
-use Rattle.clock_text.specs.TextNumbers.{IsActivityIn, IsMadeIn, made_in, number_in}
-use Rattle.clock_text.proofs.Corresponding.{ActsAs, Corresponds, Fits, Holds, IsClock, IsSteady, Knows, Stands, Tells, closes_so, leaves_so, reads_so, registered, target_at, turns_so}
+use Rattle.clock_text.specs.ProgramPoints.{before, first_point, last}
+use Rattle.clock_text.specs.TextLaws.{AreSteps, IsToldBy, a_step, no_step, of_text_alone}
+use Rattle.clock_text.specs.TextMachine.{Acting, Activity, Continuation, IsTextRun, Made, TextState, TextStep, and_clocks, and_step, clock_here, clock_or_kind, clocks_here, does, fails, goes, is_there, leaves, over, reads, text_opening, text_run, text_step, then_clocks, waits}
+use Rattle.clock_text.specs.TextNumbers.{IsActivityIn, made_in, number_in}
+use Rattle.clock_text.proofs.Corresponding.{ActsAs, Corresponds, Holds, IsClock, IsSteady, Knows, leaves_so, reads_so, registered, target_at}
 use Rattle.clock_text.proofs.EachMakes.{IsMade, is_made, root_begins, whole}
-use Rattle.clock_text.proofs.Makes.{AreNamed, IsStart, Makes, advances_on, begins_one, drops_from, ends_one, has_read, has_turned, loops, opens_one, resumes_on, skips, starts_one, stops_here, turns_on}
+use Rattle.clock_text.proofs.Makes.{AreNamed, Makes}
 use Rattle.clock_text.proofs.Numbers.{made_have_one, number_inside, number_is_named, one_name}
 use Rattle.clock_text.proofs.Stepped.{Stepped}
 use Rattle.clock_text.proofs.Stepping.{steps_alike}
-use Rattle.clock_text.proofs.Tables.{HaveNames, bytes_itself, bytes_swap, is_in, other_bytes, same_activity, same_bytes}
+use Rattle.clock_text.proofs.Tables.{HaveNames, bytes_swap, is_in, same_activity, same_bytes}
 
 goes_is : (s r : TextState) → ◌≡◌ {A = TextStep} (goes s) (goes r) → s ≡ r
 goes_is s r e = cc

@@ -1,5 +1,5 @@
 -- Laws of the machine on the text: its runs are those of the machine on moves, and so its ends are those of the plan's tasks.
-use Rattle.std.specs.Prelude.{◌≡◌, ℕ, ◌+◌, true, List, [], ◌∷◌, Option, Some, None, Ok}
+use Rattle.std.specs.Prelude.{◌≡◌, ℕ, ◌+◌, ◌*◌, ◌≤◌, true, List, [], ◌∷◌, ◌++◌, length, Option, Some, None, Ok}
 use Rattle.std.specs.List.{list_any}
 use Rattle.std.specs.Str.{bytes_eq}
 use Rattle.armus_base.specs.declared.ending.TaskEnd.{TaskEnd}
@@ -7,11 +7,11 @@ use Rattle.armus_base.specs.declared.ending.TaskEnd.TheVariants.{Done, Blocked, 
 use Rattle.armus_base.specs.Finals.{end_of}
 use Rattle.armus_base.specs.Runs.{IsFinal}
 use Rattle.armus_base.specs.States.{State, event_at}
-use Rattle.clock_syntax.specs.Trees.{ClockTree}
+use Rattle.clock_syntax.specs.Trees.{ClockPlain, ClockTree, advance, async, clock, done, drop, finish, loop, plain, resume, skip}
 use Rattle.clock_moves.specs.Unfolding.{ClockUnfolding, clock_unfolded, plan_of_moves}
 use Rattle.clock_machine.specs.Direct.{ClockState}
 use Rattle.clock_machine.specs.Laws.{IsDirectRun}
-use Rattle.clock_text.specs.TextMachine.{Activity, IsTextEnd, IsTextRun, Made, Stand, TextState, at_advance, at_end, elsewhere, ended, fails, is_there, stand_of, text_step, unstarted}
+use Rattle.clock_text.specs.TextMachine.{Activity, IsAtRest, IsTextEnd, IsTextRun, Made, Stand, TextState, at_advance, at_end, elsewhere, ended, fails, is_there, stand_of, text_step, unstarted}
 use Rattle.clock_text.specs.TextNumbers.{IsActivityIn, IsMadeIn, made_in, number_in}
 
 -- ---- runs
@@ -46,6 +46,33 @@ abbrev pub NoRunFails : Type 0
 NoRunFails =
     (p : ClockTree) (u : ClockUnfolding) (steps : List Activity) (s : TextState) (a : Activity) (k : ℕ) → clock_unfolded p ≡ Ok u → IsTextRun p steps s →
     text_step a s ≡ fails k → ⊥
+
+-- how many steps a statement without a body takes at most: an advance has a signal and a step behind it
+abbrev pub steps_at : ClockPlain → ℕ
+steps_at (clock x) = 1
+steps_at (advance x) = 2
+steps_at (resume x) = 1
+steps_at (drop x) = 1
+steps_at skip = 1
+
+-- how many steps these statements take at most, those of the activities that they start among them
+abbrev pub most_steps : ClockTree → ℕ
+most_steps done = 1
+most_steps (plain s more) = steps_at s + most_steps more
+most_steps (async xs body more) = 2 + most_steps body + most_steps more
+most_steps (finish body more) = 2 + most_steps body + most_steps more
+most_steps (loop k body more) = 2 + k * (1 + most_steps body) + most_steps more
+
+-- a run has so many steps at most, and one for the end of the first activity
+abbrev pub TextRunsAreBounded : Type 0
+TextRunsAreBounded =
+    (p : ClockTree) (u : ClockUnfolding) (steps : List Activity) (s : TextState) → clock_unfolded p ≡ Ok u → IsTextRun p steps s → length steps ≤ most_steps p + 1
+
+-- each run can be continued until no activity goes
+abbrev pub TextRunsEnd : Type 0
+TextRunsEnd =
+    (p : ClockTree) (u : ClockUnfolding) (steps : List Activity) (s : TextState) → clock_unfolded p ≡ Ok u → IsTextRun p steps s →
+    (more : List Activity) × (r : TextState) × IsTextRun p (more ++ steps) r × IsAtRest r
 
 -- ---- ends
 

@@ -1,5 +1,6 @@
 // The laws of clock programs on the text: each is the contract of a function with an empty body.
 ghost use Rattle.clock_text.specs.ClockUnfolds.{ClockFaultIsFirst, UnfoldingIsUnfolded};
+ghost use Rattle.clock_text.specs.TextLaws.{NoRunFails, TextEndsAreThoseOfTasks, TextRunsAreBounded, TextRunsAreDirect, TextRunsEnd};
 ghost use Rattle.clock_text.specs.TextNumbers.{EachNumberIsNamed, MadeHaveOneName};
 ghost use Rattle.clock_text.specs.WorkedTexts.{ComeToEnds, ComeToFaults, faulty_texts, worked_texts};
 
@@ -10,14 +11,31 @@ pub fn clock_unfolding_by_points()
     ensures fault { ClockFaultIsFirst }
 {}
 
-/// Small programs on the machine on the text, with how their activities stand where none can go; and small programs with a statement at fault.
-pub fn worked_clock_texts()
-    ensures ends { ComeToEnds worked_texts }
-    ensures faults { ComeToFaults faulty_texts }
-{}
-
 /// Each number of an activity of an unfolding has one name by where the activity comes from, and two clocks or finishes have two numbers.
 pub fn numbers_are_named()
     ensures activities { EachNumberIsNamed }
     ensures made { MadeHaveOneName }
+{}
+
+/// Each run of the machine on the text of a program without fault is one of the machine on moves, but for the steps by which the text alone goes on: the same
+/// activities are started, and each clock and finish has the same phase and the same sets. No run comes to a statement at fault; each is bounded by the text,
+/// and can be continued until no activity goes.
+pub fn clock_text_runs()
+    ensures direct { TextRunsAreDirect }
+    ensures fails { NoRunFails }
+    ensures bounded { TextRunsAreBounded }
+    ensures end { TextRunsEnd }
+{}
+
+/// Where no activity of the machine on the text goes, each stands as its task has ended in the final state of the program's plan: it has ended where the task is
+/// done; it waits at an advance of a clock and remembers phase k where the task is blocked on phase k + 1 of its phaser; it waits at the end of a finish where
+/// the task is blocked on phase 1 of that; and it is not started where the task is unforked. So all these ends are alike.
+pub fn clock_text_ends()
+    ensures { TextEndsAreThoseOfTasks }
+{}
+
+/// Small programs on the machine on the text, with how their activities stand where none can go; and small programs with a statement at fault.
+pub fn worked_clock_texts()
+    ensures ends { ComeToEnds worked_texts }
+    ensures faults { ComeToFaults faulty_texts }
 {}

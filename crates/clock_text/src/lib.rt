@@ -6,4 +6,7 @@
 
 mod laws;
 
-pub use laws::{clock_unfolding_by_points, numbers_are_named, worked_clock_texts};
+pub use laws::{
+    clock_text_ends, clock_text_runs, clock_unfolding_by_points, numbers_are_named,
+    worked_clock_texts,
+};

@@ -1,5 +1,3 @@
-use Rattle.clock_text.proofs.EachMakes.{is_made}
-use Rattle.clock_text.proofs.TextEnds.{text_ends_are_those_of_tasks}
 use Rattle.clock_text.proofs.Numbers.{each_number_is_named, made_have_one_name}
 use Rattle.clock_text.proofs.laws.numbers_are_named.Goals as goal
 
