@@ -59,6 +59,11 @@ clock --live$clock fork; drop(fork);$tasks 1 done 1 dead 0 held 0 refused 0 unfo
 clock$clock c; drop(d);$refused clock 1 statement 2~$3\n\
 clock$c = newPhaser();$refused syntax 2 at 0~$3\n\
 clock$clock clock;$refused syntax 2 at 6~$3\n\
+clock$clock c; finish { async() { } finish { async(c) { async(c) { advance(c); } } } drop(c); }$tasks 4 done 2 dead 2 held 0 refused 0 unforked 0~t0 dead p2@1~t3 dead p0@1~cycle t0 t3~graph sg 2~$1\n\
+clock$clock c; async(c) { loop 2 { advance(c); } } loop 1 { advance(c); } finish { async(c) { loop 2 { advance(c); } } resume(c); }$tasks 3 done 1 dead 2 held 0 refused 0 unforked 0~t0 dead p1@1~t2 dead p0@3~cycle t0 t2~graph sg 2~$1\n\
+clock$clock c; finish { async(c) { loop 2 { advance(c); } } loop 2 { advance(c); clock c; } }$tasks 2 done 0 dead 2 held 0 refused 0 unforked 0~t0 dead p1@1~t1 dead p0@2~cycle t0 t1~graph sg 2~$1\n\
+clock$clock c; finish { async(c) { resume(c); advance(c); } advance(c); }$tasks 2 done 2 dead 0 held 0 refused 0 unforked 0~graph sg 0~$0\n\
+clock$clock c; resume(c); drop(c); clock c; resume(c); clock c; resume(c); advance(c);$tasks 1 done 1 dead 0 held 0 refused 0 unforked 0~graph sg 0~$0\n\
 gen 1$$tasks 2 done 2 dead 0 held 0 refused 0 unforked 0~graph sg 0~$0\n\
 gen 3$not read$tasks 4 done 0 dead 4 held 0 refused 0 unforked 0~graph sg 2~$1\n\
 gen 999$$tasks 1000 done 0 dead 1000 held 0 refused 0 unforked 0~graph sg 2~$1\n\

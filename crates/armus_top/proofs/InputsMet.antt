@@ -16,7 +16,7 @@ use Rattle.armus_top.specs.Inputs.{EachInputIsMet, FitsLimit, MayGenerate}
 use Rattle.armus_top.specs.Programs.{IsFaultOf, IsPlanOf}
 use Rattle.armus_top.specs.Runs.{IsRunOutput, kind_of}
 use Rattle.armus_top.proofs.OnePlan.{checked_plan}
-use Rattle.armus_top.proofs.DirectEnds.{clock_run_of}
+use Rattle.armus_top.proofs.TextEnds.{clock_run_of}
 use Rattle.armus_top.proofs.OneClockPlan.{checked_clock_plan, clock_plan_or_line}
 use Rattle.armus_top.proofs.WholeOutputs.{IsMet, refused, plan_or_refused}
 use Rattle.armus_top.proofs.RunsMet.{avoid_met, output_met}

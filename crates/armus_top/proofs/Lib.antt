@@ -1,7 +1,7 @@
 pub mod OnePlan
 pub mod OneClockPlan
 pub mod OneRefusal
-pub mod DirectEnds
+pub mod TextEnds
 pub mod Served
 pub mod ReplayInputs
 pub mod TwoLines

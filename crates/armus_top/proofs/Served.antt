@@ -26,7 +26,7 @@ use Rattle.armus_top.specs.inside.Reading.{EndsUnread, IsReadFor}
 use Rattle.armus_top.specs.inside.Status.{number_of_status}
 use Rattle.armus_top.specs.inside.Writing.{Answered, Finished, LeavesOutput}
 use Rattle.armus_top.proofs.Answering.{ends_by_answer, ends_unread}
-use Rattle.armus_top.proofs.DirectEnds.{clock_run_of}
+use Rattle.armus_top.proofs.TextEnds.{clock_run_of}
 use Rattle.armus_top.proofs.Ending.{by_finish}
 use Rattle.armus_top.proofs.Meaning.{call_by, form_of}
 use Rattle.armus_top.proofs.WaysToEnd.{leaves_one_of_more}

@@ -1,34 +1,31 @@
 -- What `clock` writes.
-use Rattle.std.specs.Prelude.{◌≡◌, ◌<◌, ℕ, Ok}
+use Rattle.std.specs.Prelude.{◌≡◌, ℕ, Ok}
 use Rattle.armus_base.specs.Deadlocks.{IsHeld}
-use Rattle.armus_base.specs.Finals.{end_of}
 use Rattle.armus_base.specs.Plans.{Plan}
 use Rattle.armus_base.specs.Runs.{IsFinal}
 use Rattle.armus_base.specs.States.{State}
 use Rattle.adaptive.specs.declared.analysis.Wanted.{Wanted}
 use Rattle.clock_syntax.specs.Trees.{ClockTree}
 use Rattle.clock_syntax.specs.Grammar.{IsClockText}
-use Rattle.clock_moves.specs.Unfolding.{ClockUnfolding, activities, clock_unfolded}
-use Rattle.clock_machine.specs.Direct.{ClockState, StandsAs}
-use Rattle.clock_machine.specs.Laws.{IsDirectEnd}
+use Rattle.clock_moves.specs.Unfolding.{ClockUnfolding, clock_unfolded}
+use Rattle.clock_text.specs.TextLaws.{EndsAreTold}
 use Rattle.armus_words.specs.declared.command.RunKind.{RunKind}
 use Rattle.armus_words.specs.Words.{Text}
 use Rattle.armus_top.specs.Clocks.{IsClockPlanOf}
 use Rattle.armus_top.specs.Runs.{IsRunOutput}
 
--- the direct machine on the text's program comes to an end, and at each of its ends every activity stands as its task has ended in the state
-pub record HasDirectEnds (text : Text) (state : State) : Type 0 where
+-- the machine on the text's program comes to an end, and at each of its ends every activity stands as its task has ended in the state
+pub record HasTextEnds (text : Text) (state : State) : Type 0 where
   pub program : ClockTree
   pub reads : IsClockText text program
   pub unfolded : ClockUnfolding
   pub unfolds : clock_unfolded program ≡ Ok unfolded
-  pub some : (s : ClockState) × IsDirectEnd unfolded s
-  pub each : (s : ClockState) (t : ℕ) → IsDirectEnd unfolded s → t < activities unfolded → StandsAs s t (end_of state t)
+  pub told : EndsAreTold program unfolded state
 
--- what is written of a run of this kind of the text's plan, whose final state, which the report tells, is that of the direct machine too; in it no task is held
+-- what is written of a run of this kind of the text's plan, whose final state, which the report tells, is that of the machine on the text too; in it no task is held
 pub record IsClockRunOf (text : Text) (kind : RunKind) (g : Wanted) (status : ℕ) (output : Text) : Type 0 where
   pub plan : Plan
   pub plan_is : IsClockPlanOf text plan
   pub run : IsRunOutput kind plan g status output
-  pub direct : (state : State) → IsFinal plan state → HasDirectEnds text state
+  pub ends : (state : State) → IsFinal plan state → HasTextEnds text state
   pub unheld : (state : State) (t : ℕ) → IsFinal plan state → IsHeld state t → ⊥

@@ -22,3 +22,4 @@ pub mod TextRuns
 pub mod TextEnds
 pub mod Spending
 pub mod TextRunsEnd
+pub mod TextEndsTold

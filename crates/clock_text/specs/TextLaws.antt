@@ -1,5 +1,5 @@
 -- Laws of the machine on the text: its runs are those of the machine on moves, and so its ends are those of the plan's tasks.
-use Rattle.std.specs.Prelude.{◌≡◌, ℕ, ◌+◌, ◌*◌, ◌≤◌, true, List, [], ◌∷◌, ◌++◌, length, Option, Some, None, Ok}
+use Rattle.std.specs.Prelude.{◌≡◌, ℕ, ◌+◌, ◌*◌, ◌<◌, ◌≤◌, true, List, [], ◌∷◌, ◌++◌, length, Option, Some, None, Ok}
 use Rattle.std.specs.List.{list_any}
 use Rattle.std.specs.Str.{bytes_eq}
 use Rattle.armus_base.specs.declared.ending.TaskEnd.{TaskEnd}
@@ -8,7 +8,7 @@ use Rattle.armus_base.specs.Finals.{end_of}
 use Rattle.armus_base.specs.Runs.{IsFinal}
 use Rattle.armus_base.specs.States.{State, event_at}
 use Rattle.clock_syntax.specs.Trees.{ClockPlain, ClockTree, advance, async, clock, done, drop, finish, loop, plain, resume, skip}
-use Rattle.clock_moves.specs.Unfolding.{ClockUnfolding, clock_unfolded, plan_of_moves}
+use Rattle.clock_moves.specs.Unfolding.{ClockUnfolding, activities, clock_unfolded, plan_of_moves}
 use Rattle.clock_machine.specs.Direct.{ClockState}
 use Rattle.clock_machine.specs.Laws.{IsDirectRun}
 use Rattle.clock_text.specs.TextMachine.{Activity, IsAtRest, IsTextEnd, IsTextRun, Made, Stand, TextState, at_advance, at_end, elsewhere, ended, fails, is_there, stand_of, text_step, unstarted}
@@ -83,6 +83,18 @@ end_as number ended = Some Done
 end_as number (at_advance p k) = Some (Blocked (event_at (number p) (k + 1)))
 end_as number (at_end f) = Some (Blocked (event_at (number f) 1))
 end_as number elsewhere = None
+
+-- the machine comes to an end; at each of its ends each activity stands as its task has ended in this state; who is there is an activity of the unfolding; and each
+-- number of a task is that of an activity
+pub record EndsAreTold (p : ClockTree) (u : ClockUnfolding) (σ : State) : Type 0 where
+  pub some : (s : TextState) × IsTextEnd p s
+  pub each : (s : TextState) (a : Activity) → IsTextEnd p s → IsActivityIn u a → end_as (made_in u) (stand_of s a) ≡ Some (end_of σ (number_in u a))
+  pub inside : (s : TextState) (a : Activity) → IsTextEnd p s → is_there s a ≡ true → IsActivityIn u a
+  pub named : (t : ℕ) → t < activities u → (a : Activity) × IsActivityIn u a × (number_in u a ≡ t)
+
+-- the ends of the machine on a program are told so by each final state of its plan
+abbrev pub TextEndsAreTold : Type 0
+TextEndsAreTold = (p : ClockTree) (u : ClockUnfolding) (σ : State) → clock_unfolded p ≡ Ok u → IsFinal (plan_of_moves u) σ → EndsAreTold p u σ
 
 -- at each end of the machine each activity stands as its task has ended in the plan's final state; so all ends are alike
 abbrev pub TextEndsAreThoseOfTasks : Type 0

@@ -1,6 +1,6 @@
 // The laws of clock programs on the text: each is the contract of a function with an empty body.
 ghost use Rattle.clock_text.specs.ClockUnfolds.{ClockFaultIsFirst, UnfoldingIsUnfolded};
-ghost use Rattle.clock_text.specs.TextLaws.{NoRunFails, TextEndsAreThoseOfTasks, TextRunsAreBounded, TextRunsAreDirect, TextRunsEnd};
+ghost use Rattle.clock_text.specs.TextLaws.{NoRunFails, TextEndsAreThoseOfTasks, TextEndsAreTold, TextRunsAreBounded, TextRunsAreDirect, TextRunsEnd};
 ghost use Rattle.clock_text.specs.TextNumbers.{EachNumberIsNamed, MadeHaveOneName};
 ghost use Rattle.clock_text.specs.WorkedTexts.{ComeToEnds, ComeToFaults, faulty_texts, worked_texts};
 
@@ -29,9 +29,10 @@ pub fn clock_text_runs()
 
 /// Where no activity of the machine on the text goes, each stands as its task has ended in the final state of the program's plan: it has ended where the task is
 /// done; it waits at an advance of a clock and remembers phase k where the task is blocked on phase k + 1 of its phaser; it waits at the end of a finish where
-/// the task is blocked on phase 1 of that; and it is not started where the task is unforked. So all these ends are alike.
+/// the task is blocked on phase 1 of that; and it is not started where the task is unforked. So all these ends are alike; and there is one.
 pub fn clock_text_ends()
-    ensures { TextEndsAreThoseOfTasks }
+    ensures of_tasks { TextEndsAreThoseOfTasks }
+    ensures told { TextEndsAreTold }
 {}
 
 /// Small programs on the machine on the text, with how their activities stand where none can go; and small programs with a statement at fault.

@@ -4,6 +4,9 @@ use clock_moves::{
     clock_coming_by_table, clock_fault_is_of_text, clock_plan_is_checked, each_activity_stops,
     worked_clock_programs,
 };
+use clock_text::{
+    clock_text_ends, clock_text_runs, clock_unfolding_by_points, numbers_are_named, worked_clock_texts,
+};
 
 #[test]
 fn laws_are_called() {
@@ -16,4 +19,9 @@ fn laws_are_called() {
     each_activity_stops();
     clock_coming_by_table();
     worked_clock_programs();
+    clock_unfolding_by_points();
+    numbers_are_named();
+    clock_text_runs();
+    clock_text_ends();
+    worked_clock_texts();
 }

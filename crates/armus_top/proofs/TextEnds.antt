@@ -1,5 +1,5 @@
--- In the final state of a clock text's plan each task has ended as its activity stands at the ends of the direct machine.
-use Rattle.std.proofs.Common.{◌≡◌, ◌++◌, ℕ, [], refl, subst, sym}
+-- In the final state of a clock text's plan each task has ended as its activity stands at the ends of the machine on the text.
+use Rattle.std.proofs.Common.{◌≡◌, ℕ, subst, sym}
 use Rattle.std.specs.Prelude.{Ok}
 use Rattle.armus_base.specs.Deadlocks.{IsHeld}
 use Rattle.armus_base.specs.Plans.{Plan}
@@ -9,14 +9,12 @@ use Rattle.adaptive.specs.declared.analysis.Wanted.{Wanted}
 use Rattle.pl_plan.proofs.VisitsLeave.{bind_ok, ok_is}
 use Rattle.clock_syntax.specs.Trees.{ClockTree}
 use Rattle.clock_moves.specs.Unfolding.{ClockUnfolding, clock_plan_of, clock_unfolded, plan_of_moves}
-use Rattle.clock_machine.specs.Direct.{direct_opening}
-use Rattle.clock_machine.specs.Laws.{IsDirectEnd, moves_of}
-use Rattle.clock_machine.proofs.ClockEnds.{ends_are_those_of_tasks, no_task_is_held}
-use Rattle.clock_machine.proofs.ClockRuns.{runs_end}
+use Rattle.clock_machine.proofs.ClockEnds.{no_task_is_held}
+use Rattle.clock_text.proofs.TextEndsTold.{text_ends_are_told}
 use Rattle.armus_words.specs.declared.command.RunKind.{RunKind}
 use Rattle.armus_words.specs.Words.{Text}
 use Rattle.armus_top.specs.Clocks.{IsClockPlanOf}
-use Rattle.armus_top.specs.ClockRuns.{HasDirectEnds, IsClockRunOf}
+use Rattle.armus_top.specs.ClockRuns.{HasTextEnds, IsClockRunOf}
 use Rattle.armus_top.specs.Runs.{IsRunOutput}
 
 -- a program with a plan has an unfolding, whose plan it is
@@ -25,18 +23,15 @@ unfolding clock_plan_of
 unfolding_of program plan e =
     let parts = bind_ok (clock_unfolded program) (λ s. Ok (plan_of_moves s)) plan e in (parts.0, parts.1, ok_is _ _ parts.2)
 
-direct_ends : (text : Text) (plan : Plan) → IsClockPlanOf text plan → (state : State) → IsFinal plan state → HasDirectEnds text state
-direct_ends text plan (program, reads, unfolds) state final =
+text_ends : (text : Text) (plan : Plan) → IsClockPlanOf text plan → (state : State) → IsFinal plan state → HasTextEnds text state
+text_ends text plan (program, reads, unfolds) state final =
     let (u, opens, plan_is) = unfolding_of program plan unfolds in
-    let (more, r, run, rests) = runs_end program u [] (direct_opening (moves_of u)) opens refl in
-    let final_too : IsFinal (plan_of_moves u) state = subst (λ q. IsFinal q state) (sym plan_is) final in
     record {
       program = program;
       reads = reads;
       unfolded = u;
       unfolds = opens;
-      some = (r, record { steps = more ++ []; run = run; at_rest = rests });
-      each = λ s t end below. ends_are_those_of_tasks program u s state t opens end final_too below;
+      told = text_ends_are_told program u state opens (subst (λ q. IsFinal q state) (sym plan_is) final);
     }
 
 unheld : (text : Text) (plan : Plan) → IsClockPlanOf text plan → (state : State) (t : ℕ) → IsFinal plan state → IsHeld state t → ⊥
@@ -48,4 +43,4 @@ unheld text plan (program, reads, unfolds) state t final held =
 pub clock_run_of : (text : Text) (plan : Plan) (kind : RunKind) (g : Wanted) (status : ℕ) (output : Text) → IsClockPlanOf text plan
     → IsRunOutput kind plan g status output → IsClockRunOf text kind g status output
 clock_run_of text plan kind g status output plan_is run =
-    record { plan = plan; plan_is = plan_is; run = run; direct = direct_ends text plan plan_is; unheld = unheld text plan plan_is }
+    record { plan = plan; plan_is = plan_is; run = run; ends = text_ends text plan plan_is; unheld = unheld text plan plan_is }
