@@ -14,3 +14,16 @@ pub mod MembersAre
 pub mod GroupTexts
 pub mod GroupsAre
 pub mod SomebodyWaits
+pub mod AccountTold
+pub mod ImpedersAre
+pub mod FitsEnds
+pub mod RestsAtEnd
+pub mod OneVerdict
+pub mod TasksThat
+pub mod VerdictExists
+pub mod OneExplanation
+pub mod ExplanationExists
+pub mod WalksMapped
+pub mod DeadNexts
+pub mod DeadlockShown
+pub mod EachToldOnce

@@ -16,7 +16,7 @@ use Rattle.explained_tasks.specs.declared.situation.Situation.TheVariants.{Deadl
 use Rattle.explained_tasks.specs.Facts.{FactsValue, fork_of, is_deadlocked, is_held, situation_of, wait_of}
 use Rattle.explained_tasks.specs.Impeders.{impeder_by, impeders_by, impeders_of}
 use Rattle.explained_tasks.specs.Nexts.{first_or, least_that, next_by, next_of}
-use Rattle.explained_tasks.specs.Fitting.{FitsPlan}
+use Rattle.explained_tasks.specs.inside.Fitting.{FitsPlan}
 
 -- what is found in a list is an element
 pub find_contains : {A : Type 0} (p : A → Bool) (xs : List A) (x : A) → find p xs ≡ Some x → Contains xs x

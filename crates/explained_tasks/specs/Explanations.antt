@@ -3,6 +3,10 @@ use Rattle.std.specs.Prelude.{◌≡◌, ℕ, Bool, List, Option, ◌++◌}
 use Rattle.accounts.specs.declared.account.Account.{Account}
 use Rattle.armus_base.specs.Deadlocks.{IsDeadBy}
 use Rattle.armus_base.specs.declared.ending.Final.{Final}
+use Rattle.armus_base.specs.Finals.{final_of}
+use Rattle.armus_base.specs.Places.{state_at}
+use Rattle.armus_base.specs.Plans.{Plan}
+use Rattle.armus_base.specs.Runs.{Place}
 use Rattle.armus_base.specs.States.{Phases}
 use Rattle.report.specs.Counts.{counts_of}
 use Rattle.report.specs.Lines.{counts_line}
@@ -11,6 +15,7 @@ use Rattle.report.specs.declared.standing.Standing.{Standing}
 use Rattle.explained_tasks.specs.declared.outcome.Verdict.{Verdict}
 use Rattle.explained_tasks.specs.Facts.{FactsValue}
 use Rattle.explained_tasks.specs.Paragraphs.{paragraphs}
+use Rattle.explained_tasks.specs.RunEnds.{IsAccountOf}
 use Rattle.explained_tasks.specs.VerdictWords.{verdict_line}
 use Rattle.explained_tasks.specs.Verdicts.{IsVerdict, shown_of, somebody_waits}
 
@@ -35,3 +40,9 @@ pub record IsExplanation (text : List ℕ) (file : Option (List ℕ)) (account :
   pub standings : List Standing
   pub stand : AreStandings (IsDeadBy end.blocked) end.ends standings
   pub explains : Explains (facts_of text file account standings) phases (counts_line (counts_of standings)) lines waits
+
+-- the lines explain how the tasks of the text's plan stand at these places, to which a run has come, and tell whether somebody waits for ever
+pub record IsExplanationAt (file : Option (List ℕ)) (text : List ℕ) (plan : Plan) (a : ℕ → Place) (lines : List ℕ) (waits : Bool) : Type 0 where
+  pub account : Account
+  pub is_account : IsAccountOf text plan a account
+  pub explains : IsExplanation text file account (final_of plan (state_at plan a)) (state_at plan a).phases lines waits

@@ -1,5 +1,6 @@
 -- What is known, and how the tasks stand.
 pub mod Facts
+pub mod RunEnds
 pub mod Impeders
 pub mod Nexts
 -- The words.
@@ -15,8 +16,6 @@ pub mod ImpederLines
 pub mod Paragraphs
 -- The whole.
 pub mod Explanations
--- What the call asks of what it is given.
-pub mod Fitting
 -- What is proved of it.
 pub mod Laws
 -- How the program does it: private contracts alone cite these.

@@ -1,9 +1,10 @@
 // The explanation of the state in which a run has ended.
 ghost use Rattle.std.specs.Prelude.{◌≡◌, ◌<◌, ◌^◌, IfOk, length, option_copied};
-ghost use Rattle.armus_base.specs.Statuses.{IsInOrder};
-ghost use Rattle.explained_tasks.specs.Explanations.{Explains, IsExplanation, facts_of};
-ghost use Rattle.explained_tasks.specs.Fitting.{FitsEnd, FitsPlan, WaitForSome};
-ghost use Rattle.pl_core.specs.Worlds.{state_of};
+ghost use Rattle.armus_base.specs.Finals.{final_of};
+ghost use Rattle.explained_tasks.specs.Explanations.{Explains, IsExplanationAt, facts_of};
+ghost use Rattle.explained_tasks.specs.RunEnds.{IsAccountOf, WaitersStay};
+ghost use Rattle.explained_tasks.specs.inside.Fitting.{FitsPlan, WaitForSome};
+ghost use Rattle.pl_core.specs.Worlds.{places_of, state_of};
 ghost use Rattle.explained_tasks.specs.Verdicts.{shown_of, somebody_waits};
 
 use crate::facts::Facts;
@@ -52,7 +53,7 @@ fn has_waiting(verdict: &Verdict) -> bool
 
 impl<'a> Facts<'a> {
     ghost use Rattle.explained_tasks.specs.Explanations.{Explains};
-    ghost use Rattle.explained_tasks.specs.Fitting.{FitsPlan, WaitForSome};
+    ghost use Rattle.explained_tasks.specs.inside.Fitting.{FitsPlan, WaitForSome};
 
     /// Explains what is known, behind this line of counts.
     pub(crate) fn explanation(
@@ -106,8 +107,8 @@ fn explain_outline(
     facts.explanation(world, counts)
 }
 
-/// Explains the state of a world in which no task may go on, of the text with these places and this account; `file` is the name of the text's file, if it
-/// comes from one, and `end` is the value of the state. The only error is want of memory.
+/// Explains the state of a world in which no task that waits may go on. The world's plan is that of the text with these places, of which this is the account;
+/// `file` is the name of the text's file, if it comes from one, and `end` is the value of the state. The only error is want of memory.
 pub fn explanation_of(
     alloc: Global,
     places: &TextPlaces,
@@ -116,11 +117,12 @@ pub fn explanation_of(
     world: &World,
     end: &Final,
 ) -> Result<Explanation, NoMemory>
-    requires order { IsInOrder end.now.blocked }
-    requires few { length world.now.plan.parents < 2 ^ 32 }
-    requires fits { FitsEnd places.now (option_copied file) account.now world.now.plan end.now (state_of world.now).phases }
-    ensures { IfOk result (λ e. IsExplanation places.now (option_copied file.entry) account.now end.now (state_of world.now).phases e.lines e.has_waiting) }
+    requires account { IsAccountOf places.now world.now.plan (places_of world.now) account.now }
+    requires rest { WaitersStay world.now.plan (places_of world.now) }
+    requires end { end.now ≡ final_of world.now.plan (state_of world.now) }
+    ensures { IfOk result (λ e. IsExplanationAt (option_copied file.entry) places.now world.now.plan (places_of world.now) e.lines e.has_waiting) }
 {
+    let _plan = world.plan();
     let outline = outline_of(alloc, end)?;
     explain_outline(alloc, places, file, account, world, outline)
 }

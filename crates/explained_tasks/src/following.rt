@@ -77,7 +77,7 @@ fn task_in(impeder: Option<&Impeder>) -> Option<TaskId>
 impl<'a> Facts<'a> {
     ghost use Rattle.explained_tasks.specs.Facts.{fork_of, situation_of};
     ghost use Rattle.explained_tasks.specs.Nexts.{least_that, next_by, next_of};
-    ghost use Rattle.explained_tasks.specs.Fitting.{FitsPlan};
+    ghost use Rattle.explained_tasks.specs.inside.Fitting.{FitsPlan};
 
     // The least deadlocked one of these impeders.
     fn least_deadlocked(&self, impeders: &[Impeder]) -> Option<TaskId>

@@ -148,7 +148,7 @@ impl<'a> Facts<'a> {
     ghost use Rattle.explained_tasks.specs.ImpederLines.{forkers_of, is_forker_of, group_line, impeder_lines, lines_by, rest_line};
     ghost use Rattle.explained_tasks.specs.ImpederLines.{rest_of};
     ghost use Rattle.explained_tasks.specs.inside.Grouped.{AddsTold, AreImpederGroups, IsSized, impeder_told, said_in};
-    ghost use Rattle.explained_tasks.specs.Fitting.{FitsPlan};
+    ghost use Rattle.explained_tasks.specs.inside.Fitting.{FitsPlan};
 
     // For each task whether it is the forker of one of these.
     fn forker_marks(&self, tasks: &[TaskId]) -> Result<Vec<bool>, NoMemory>

@@ -44,7 +44,7 @@ fn impeders_in(alloc: Global, world: &World, event: Event) -> Result<Vec<Impeder
 
 impl<'a> Facts<'a> {
     ghost use Rattle.explained_tasks.specs.Impeders.{impeders_of};
-    ghost use Rattle.explained_tasks.specs.Fitting.{FitsPlan};
+    ghost use Rattle.explained_tasks.specs.inside.Fitting.{FitsPlan};
 
     /// The tasks that impede the event that a task awaits, in order of number.
     pub(crate) fn impeders(&self, world: &World, t: TaskId) -> Result<Vec<Impeder>, NoMemory>

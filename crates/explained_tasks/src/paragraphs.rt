@@ -28,7 +28,7 @@ impl<'a> Facts<'a> {
     ghost use Rattle.explained_tasks.specs.inside.Grouped.{AddsTold, AreParagraphs, IsSized, own_told, said_in};
     ghost use Rattle.explained_tasks.specs.inside.GroupTexts.{paragraph_text, texts_in};
     ghost use Rattle.std.specs.Prelude.{length};
-    ghost use Rattle.explained_tasks.specs.Fitting.{FitsPlan};
+    ghost use Rattle.explained_tasks.specs.inside.Fitting.{FitsPlan};
 
     // Appends the lines that say this of these tasks.
     fn put_own_lines(

@@ -44,7 +44,7 @@ fn chain_of(path: &[TaskId], t: TaskId) -> Verdict
 impl<'a> Facts<'a> {
     ghost use Rattle.explained_tasks.specs.Facts.{is_deadlocked, is_waiting, situation_of, tasks_that};
     ghost use Rattle.explained_tasks.specs.Verdicts.{IsVerdict, IsVerdictFrom, start_of};
-    ghost use Rattle.explained_tasks.specs.Fitting.{FitsPlan, WaitForSome};
+    ghost use Rattle.explained_tasks.specs.inside.Fitting.{FitsPlan, WaitForSome};
 
     /// The least deadlocked task.
     pub(crate) fn least_dead(&self) -> Option<TaskId>
