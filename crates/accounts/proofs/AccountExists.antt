@@ -11,7 +11,7 @@ use Rattle.armus_base.specs.Runs.{IsReachable, Place}
 use Rattle.armus_base.proofs.Below.{length-list_below}
 use Rattle.pl_plan.specs.Unfolding.{plan_of}
 use Rattle.pl_syntax.specs.declared.tree.Program.{Program}
-use Rattle.origins.specs.Origins.{op_origin, phaser_origins, statement_in, written_statements}
+use Rattle.origins.specs.Origins.{phaser_origins, statement_in, written_statements}
 use Rattle.origins.specs.Turns.{op_turns}
 use Rattle.accounts.specs.Accounts.{IsTaskAccount, IsWait, Layout, drawn_of, ended_of, forked_of, placed_turns, statement_place, words_of}
 use Rattle.accounts.specs.Laws.{AccountExists}

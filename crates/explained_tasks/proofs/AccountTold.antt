@@ -1,5 +1,5 @@
 -- What an account tells of a task's wait and of its fork.
-use Rattle.std.proofs.Common.{◌≡◌, ℕ, zero, suc, ◌<◌, Bool, Option, Some, None, List, [], ◌∷◌, length, arith, ap, sym, ◌∙◌, subst, refl}
+use Rattle.std.proofs.Common.{◌≡◌, ℕ, zero, suc, ◌<◌, Option, Some, None, List, [], ◌∷◌, length, arith, ap, sym, ◌∙◌, refl}
 use Rattle.std.specs.Prelude.{option_and_then, slice_get, slice_index_or}
 use Rattle.std.proofs.lemmas.Option.{get_or_from_slice_get}
 use Rattle.armus_base.specs.declared.ending.TaskEnd.{TaskEnd}
@@ -7,16 +7,12 @@ use Rattle.armus_base.specs.declared.ending.TaskEnd.TheVariants.{Blocked, Done, 
 use Rattle.armus_base.specs.declared.event.Event.{Event}
 use Rattle.armus_base.specs.declared.ids.TaskId.{TaskId}
 use Rattle.armus_base.specs.CheckedPlans.{IsCheckedPlan}
-use Rattle.armus_base.specs.Finals.{end_of}
-use Rattle.armus_base.specs.Places.{state_at}
 use Rattle.armus_base.specs.Plans.{Plan}
 use Rattle.armus_base.specs.Runs.{Place}
 use Rattle.pl_syntax.specs.declared.tree.Program.{Program}
 use Rattle.origins.specs.Origins.{fork_origin}
-use Rattle.accounts.specs.Accounts.{IsAccount, IsWait, Layout, forked_by, forked_of}
-use Rattle.accounts.specs.declared.account.Account.{Account}
+use Rattle.accounts.specs.Accounts.{IsWait, Layout, forked_by, forked_of}
 use Rattle.accounts.specs.declared.account.Forked.{Forked}
-use Rattle.accounts.specs.declared.account.TaskAccount.{TaskAccount}
 use Rattle.accounts.specs.declared.account.Waiting.{Waiting}
 use Rattle.accounts.proofs.Forkers.{parent_is}
 

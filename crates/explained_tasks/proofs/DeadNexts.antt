@@ -1,8 +1,7 @@
 -- The next of a deadlocked task is the least dead task that impedes it.
-use Rattle.std.proofs.Common.{◌≡◌, ℕ, ◌<◌, ◌≤◌, Bool, true, false, Option, Some, None, List, [], ◌∷◌, length, arith, sym, ◌∙◌, ap, subst, refl, inl, inr, ◌⊎◌, eq-eqb, cond}
+use Rattle.std.proofs.Common.{◌≡◌, ℕ, ◌<◌, ◌≤◌, true, Option, Some, None, List, length, sym, ◌∙◌, ap, subst, refl, inl, inr, eq-eqb}
 use Rattle.std.specs.Prelude.{AllPairs, Contains, option_map}
 use Rattle.std.specs.List.{find}
-use Rattle.std.proofs.lemmas.Bool.{cases_Bool}
 use Rattle.armus_base.specs.declared.ending.TaskEnd.TheVariants.{Blocked}
 use Rattle.armus_base.specs.declared.event.Event.{Event}
 use Rattle.armus_base.specs.declared.ids.PhaserId.{PhaserId}
@@ -17,8 +16,6 @@ use Rattle.armus_base.specs.Plans.{Plan}
 use Rattle.armus_base.specs.Runs.{Place}
 use Rattle.armus_base.specs.States.{State}
 use Rattle.armus_base.specs.Statuses.{Impedes}
-use Rattle.armus_base.proofs.Below.{given_ascends}
-use Rattle.armus_base.proofs.Elements.{Contains-cons_cases, nothing_in_nil}
 use Rattle.armus_base.proofs.Fixed.{some_before_from}
 use Rattle.armus_base.proofs.StatusesAre.{statuses_are}
 use Rattle.dep_state.proofs.DeadSets.{same_task}
@@ -26,13 +23,12 @@ use Rattle.report.proofs.CycleExists.{same_phaser}
 use Rattle.verdict.specs.Cycles.{IsDeadStep}
 use Rattle.explained_tasks.specs.declared.impeders.Impeder.{Impeder}
 use Rattle.explained_tasks.specs.declared.situation.Situation.{Situation}
-use Rattle.explained_tasks.specs.declared.situation.Situation.TheVariants.{Deadlocked, Held}
 use Rattle.explained_tasks.specs.Facts.{FactsValue, fork_of, is_deadlocked, situation_of}
-use Rattle.explained_tasks.specs.Impeders.{impeders_in, impeders_of}
+use Rattle.explained_tasks.specs.Impeders.{impeders_of}
 use Rattle.explained_tasks.specs.Laws.{IsDeadAndWaitsFor}
 use Rattle.explained_tasks.specs.Nexts.{IsNext, least_that, next_by}
 use Rattle.explained_tasks.specs.RunEnds.{AreFactsAt}
-use Rattle.explained_tasks.proofs.FitsEnds.{WaitsSo, all_stand, blocked_is, checked_here, dead_in_state, dead_is, impeder_here, impeders_here, of_plan_here, published_is, waiting_is}
+use Rattle.explained_tasks.proofs.FitsEnds.{checked_here, dead_in_state, dead_is, impeder_here, impeders_here, of_plan_here, published_is, waiting_is}
 use Rattle.explained_tasks.proofs.ImpedersAre.{found_passes, impeder, impeder_is, impeders_ascend, least_found}
 use Rattle.explained_tasks.proofs.NextInside.{find_contains}
 use Rattle.explained_tasks.proofs.Starts.{deadlocked_waits}

@@ -1,7 +1,7 @@
 -- Where a task is dead, the verdict is the report's cycle, and the lines of a deadlocked task begin with those that are deadlocked.
-use Rattle.std.proofs.Common.{◌≡◌, ℕ, ◌+◌, ◌<◌, Bool, true, false, Option, Some, None, IsSome, List, [], ◌∷◌, ◌++◌, length, length-append, arith, sym, ◌∙◌, ap, subst, refl, inl, inr, ◌⊎◌, eq-eqb}
+use Rattle.std.proofs.Common.{◌≡◌, ℕ, ◌+◌, ◌<◌, true, Option, Some, None, IsSome, List, [], ◌∷◌, ◌++◌, length, length-append, arith, sym, ◌∙◌, ap, subst, refl, eq-eqb}
 use borrow.Author.Tests.{eqb-true}
-use Rattle.std.specs.Prelude.{Contains, codes, filter, map, slice_get}
+use Rattle.std.specs.Prelude.{Contains, filter, map, slice_get}
 use Rattle.std.proofs.lemmas.Bool.{false≢true}
 use Rattle.std.proofs.lemmas.List.{get_or-append-add}
 use Rattle.armus_base.specs.declared.ids.TaskId.{TaskId}

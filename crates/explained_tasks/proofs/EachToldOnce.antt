@@ -1,6 +1,6 @@
 -- The impeders that are told in lines and those of the rest are all impeders, each once, and nothing is said twice.
 use Rattle.std.proofs.Common.{◌≡◌, ℕ, suc, zero, ◌<◌, Bool, true, false, Some, None, Option, List, [], ◌∷◌, ◌++◌, length, arith, sym, ◌∙◌, ap, subst, refl, inl, inr, ◌⊎◌}
-use Rattle.std.specs.Prelude.{AllPairs, Contains, filter, flat_map, if◌then◌else◌, map, not, take, ◌||◌, ◌↔◌}
+use Rattle.std.specs.Prelude.{AllPairs, Contains, filter, flat_map, if◌then◌else◌, map, not, take, ◌||◌}
 use Rattle.std.specs.List.{list_any}
 use Rattle.std.proofs.lemmas.Bool.{cases_Bool}
 use Rattle.std.proofs.lemmas.List.Elements.{Contains-append_cases, Contains-append_left, Contains-append_right}

@@ -1,10 +1,9 @@
 -- The end of each maximal run of a text's plan has an explanation.
-use Rattle.std.proofs.Common.{◌≡◌, ℕ, Bool, List, refl}
-use Rattle.std.specs.Prelude.{Option}
+use Rattle.std.proofs.Common.{refl}
 use Rattle.adaptive.specs.declared.analysis.Wanted.TheVariants.{Auto}
 use Rattle.armus_base.specs.Finals.{final_of}
 use Rattle.armus_base.specs.Places.{state_at}
-use Rattle.armus_base.specs.Runs.{IsReachable, places}
+use Rattle.armus_base.specs.Runs.{places}
 use Rattle.accounts.proofs.AccountExists.{account_exists}
 use Rattle.accounts.proofs.TextsAreNear.{text_is_checked}
 use Rattle.report.specs.Counts.{counts_of}

@@ -1,7 +1,6 @@
 -- The account of a text fits the end of its run.
-use Rattle.std.proofs.Common.{◌≡◌, ℕ, ◌<◌, ◌≤◌, Bool, true, false, Option, Some, None, Ok, List, [], ◌∷◌, length, arith, sym, ◌∙◌, ap, subst, refl, inl, inr, ◌⊎◌}
+use Rattle.std.proofs.Common.{◌≡◌, ℕ, ◌<◌, true, Option, Some, None, List, [], ◌∷◌, length, arith, sym, ◌∙◌, ap, subst, refl, inl, inr, ◌⊎◌}
 use Rattle.std.specs.Prelude.{Contains, IsSome, option_map, slice_get, slice_index_or}
-use Rattle.std.specs.List.{find}
 use Rattle.std.proofs.lemmas.Bool.{cases_lt}
 use Rattle.std.proofs.lemmas.List.{get_or_past}
 use Rattle.armus_base.specs.declared.ending.TaskEnd.{TaskEnd}
@@ -14,15 +13,15 @@ use Rattle.armus_base.specs.FinalLaws.{IsOfPlan}
 use Rattle.armus_base.specs.Finals.{end_by, end_of, final_of, list_below}
 use Rattle.armus_base.specs.Places.{state_at}
 use Rattle.armus_base.specs.Plans.{Plan}
-use Rattle.armus_base.specs.Runs.{IsReachable, Place, state_after}
+use Rattle.armus_base.specs.Runs.{IsReachable, Place}
 use Rattle.armus_base.specs.States.{State}
 use Rattle.armus_base.proofs.Below.{length-list_below}
 use Rattle.armus_base.proofs.DeadByStatuses.{dead_by_final, run_is_of_plan}
-use Rattle.armus_base.proofs.Elements.{Contains-head, nothing_in_nil}
+use Rattle.armus_base.proofs.Elements.{nothing_in_nil}
 use Rattle.armus_base.proofs.Reachable.{reachable_is_fixed}
-use Rattle.report.specs.Standings.{AreStandings, Stands}
+use Rattle.report.specs.Standings.{Stands}
 use Rattle.report.specs.declared.standing.Standing.{Standing}
-use Rattle.report.specs.declared.standing.Standing.TheVariants.{Done, Dead, Held as WaitsAlive, Refused, Unforked}
+use Rattle.report.specs.declared.standing.Standing.TheVariants.{Done, Unforked}
 use Rattle.accounts.specs.Accounts.{IsWait}
 use Rattle.accounts.specs.declared.account.Forked.{Forked}
 use Rattle.accounts.specs.declared.account.TaskAccount.{TaskAccount}
@@ -35,7 +34,7 @@ use Rattle.explained_tasks.specs.declared.situation.Situation.{Situation}
 use Rattle.explained_tasks.specs.declared.situation.Situation.TheVariants.{Deadlocked, Held}
 use Rattle.explained_tasks.specs.Facts.{FactsValue, fork_of, is_deadlocked, is_held, is_waiting, situation_by, situation_of, wait_of}
 use Rattle.explained_tasks.specs.Impeders.{impeders_by, impeders_in, impeders_of}
-use Rattle.explained_tasks.specs.Nexts.{first_or, least_that, next_by, next_of}
+use Rattle.explained_tasks.specs.Nexts.{first_or, least_that, next_by}
 use Rattle.explained_tasks.specs.RunEnds.{AreFactsAt, IsAccountOf, WaitersStay}
 use Rattle.explained_tasks.specs.inside.Fitting.{FitsPlan, WaitForSome}
 use Rattle.explained_tasks.proofs.AccountTold.{blocked_tells, forker_before, part_of, part_there, wait_tells}

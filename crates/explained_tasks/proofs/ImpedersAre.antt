@@ -1,11 +1,10 @@
 -- The impeders of an event are those that impede it, and their list ascends.
-use Rattle.std.proofs.Common.{◌≡◌, ℕ, zero, suc, ◌<◌, ◌≤◌, Bool, true, false, Option, Some, None, List, [], ◌∷◌, arith, sym, ◌∙◌, ap, subst, refl, inl, inr, ◌⊎◌, cond}
-use Rattle.std.specs.Prelude.{AllPairs, Contains, IsSome, option_map, nat_lt, slice_get, if◌then◌else◌}
+use Rattle.std.proofs.Common.{◌≡◌, ℕ, suc, ◌<◌, ◌≤◌, Bool, true, false, Option, Some, None, List, [], ◌∷◌, arith, sym, ◌∙◌, ap, subst, refl, inl, inr, ◌⊎◌, cond}
+use Rattle.std.specs.Prelude.{AllPairs, Contains, nat_lt, if◌then◌else◌}
 use Rattle.std.specs.List.{find}
-use Rattle.std.proofs.lemmas.Bool.{cases_Bool, cases_lt}
+use Rattle.std.proofs.lemmas.Bool.{cases_Bool}
 use Rattle.std.proofs.lemmas.Bool.Decides.{nat_tests}
 use Rattle.armus_base.specs.declared.event.Event.{Event}
-use Rattle.armus_base.specs.declared.ids.TaskId.{TaskId}
 use Rattle.armus_base.specs.States.{Phases}
 use Rattle.armus_base.proofs.Below.{given_ascends, given_from, given_is}
 use Rattle.armus_base.proofs.Elements.{Contains-cons_cases, nothing_in_nil}

@@ -1,5 +1,5 @@
 -- There is one explanation of the end of a text's run.
-use Rattle.std.proofs.Common.{◌≡◌, ℕ, Bool, List, ◌++◌, sym, ap, ◌∙◌, subst}
+use Rattle.std.proofs.Common.{◌≡◌, ℕ, Bool, List, sym, ap, ◌∙◌, subst}
 use Rattle.std.specs.Prelude.{Option}
 use Rattle.armus_base.specs.declared.ending.Final.{Final}
 use Rattle.armus_base.specs.Finals.{final_of}
@@ -14,7 +14,6 @@ use Rattle.report.specs.Counts.{counts_of}
 use Rattle.report.specs.Lines.{counts_line}
 use Rattle.report.specs.declared.standing.Standing.{Standing}
 use Rattle.report.proofs.OneReport.{one_standings}
-use Rattle.explained_tasks.specs.declared.outcome.Verdict.{Verdict}
 use Rattle.explained_tasks.specs.Explanations.{Explains, IsExplanation, explained_by, facts_of}
 use Rattle.explained_tasks.specs.Facts.{FactsValue}
 use Rattle.explained_tasks.specs.Laws.{OneExplanation}

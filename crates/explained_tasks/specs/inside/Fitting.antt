@@ -1,5 +1,5 @@
 -- What is known fits the plan and the state of the run.
-use Rattle.std.specs.Prelude.{◌≡◌, ℕ, ◌<◌, true, IsSome, List, Option, Some, length}
+use Rattle.std.specs.Prelude.{◌≡◌, ℕ, ◌<◌, true, IsSome, Some, length}
 use Rattle.armus_base.specs.Plans.{Plan}
 use Rattle.armus_base.specs.States.{Phases}
 use Rattle.accounts.specs.declared.account.Forked.{Forked}

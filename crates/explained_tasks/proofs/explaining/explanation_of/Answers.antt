@@ -1,5 +1,5 @@
-use Rattle.std.proofs.Common.{◌≡◌, ◌<◌, ◌^◌, ℕ, List, subst, sym, length, arith}
-use Rattle.std.specs.Prelude.{option_copied, true}
+use Rattle.std.proofs.Common.{◌<◌, ◌^◌, ℕ, List, subst, sym, length, arith}
+use Rattle.std.specs.Prelude.{option_copied}
 use Rattle.std.proofs.lemmas.Result.{IfOk-weaker}
 use Rattle.armus_base.specs.declared.ending.Final.{Final}
 use Rattle.armus_base.specs.Deadlocks.{IsDeadBy}
@@ -9,7 +9,7 @@ use Rattle.armus_base.proofs.StatusesAre.{statuses_are}
 use Rattle.pl_core.specs.Worlds.{places_of, state_of}
 use Rattle.report.specs.Standings.{AreStandings}
 use Rattle.explained_tasks.specs.declared.explaining.Explanation.{Explanation}
-use Rattle.explained_tasks.specs.Explanations.{Explains, IsExplanation, IsExplanationAt, facts_of}
+use Rattle.explained_tasks.specs.Explanations.{Explains, IsExplanationAt, facts_of}
 use Rattle.explained_tasks.specs.RunEnds.{AreFactsAt}
 use Rattle.explained_tasks.proofs.FitsEnds.{fits_plan, waits_for_some}
 use Rattle.explained_tasks.proofs.explaining.explanation_of.Goals as goal
