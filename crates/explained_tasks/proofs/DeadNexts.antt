@@ -21,12 +21,12 @@ use Rattle.armus_base.proofs.StatusesAre.{statuses_are}
 use Rattle.dep_state.proofs.DeadSets.{same_task}
 use Rattle.report.proofs.CycleExists.{same_phaser}
 use Rattle.verdict.specs.Cycles.{IsDeadStep}
-use Rattle.explained_tasks.specs.declared.impeders.Impeder.{Impeder}
-use Rattle.explained_tasks.specs.declared.situation.Situation.{Situation}
-use Rattle.explained_tasks.specs.Facts.{FactsValue, fork_of, is_deadlocked, situation_of}
-use Rattle.explained_tasks.specs.Impeders.{impeders_of}
+use Rattle.task_sayings.specs.declared.impeders.Impeder.{Impeder}
+use Rattle.task_sayings.specs.declared.situation.Situation.{Situation}
+use Rattle.task_sayings.specs.Facts.{FactsValue, fork_of, is_deadlocked, situation_of}
+use Rattle.task_sayings.specs.Impeders.{impeders_of}
 use Rattle.explained_tasks.specs.Laws.{IsDeadAndWaitsFor}
-use Rattle.explained_tasks.specs.Nexts.{IsNext, least_that, next_by}
+use Rattle.task_sayings.specs.Nexts.{IsNext, least_that, next_by}
 use Rattle.explained_tasks.specs.RunEnds.{AreFactsAt}
 use Rattle.explained_tasks.proofs.FitsEnds.{checked_here, dead_in_state, dead_is, impeder_here, impeders_here, of_plan_here, published_is, waiting_is}
 use Rattle.explained_tasks.proofs.ImpedersAre.{found_passes, impeder, impeder_is, impeders_ascend, least_found}

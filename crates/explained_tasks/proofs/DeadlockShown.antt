@@ -15,25 +15,25 @@ use Rattle.armus_base.specs.Runs.{Place}
 use Rattle.armus_base.specs.States.{State}
 use Rattle.report.specs.Reports.{IsLeastDead, IsReportedCycle, IsSomeDead}
 use Rattle.verdict.specs.Cycles.{IsDeadStep}
-use Rattle.explained_tasks.specs.declared.impeders.Impeder.{Impeder}
+use Rattle.task_sayings.specs.declared.impeders.Impeder.{Impeder}
 use Rattle.explained_tasks.specs.declared.outcome.Verdict.{Verdict}
 use Rattle.explained_tasks.specs.declared.outcome.Verdict.TheVariants.{Nobody, Circle, Chain}
-use Rattle.explained_tasks.specs.declared.situation.Situation.{Situation}
-use Rattle.explained_tasks.specs.declared.situation.Situation.TheVariants.{Deadlocked, Held, HasEnded, NotForkedYet, NeverForked}
-use Rattle.explained_tasks.specs.Facts.{FactsValue, fork_of, is_deadlocked, is_waiting, situation_of, tasks_that}
-use Rattle.explained_tasks.specs.Groups.{each_once}
+use Rattle.task_sayings.specs.declared.situation.Situation.{Situation}
+use Rattle.task_sayings.specs.declared.situation.Situation.TheVariants.{Deadlocked, Held, HasEnded, NotForkedYet, NeverForked}
+use Rattle.task_sayings.specs.Facts.{FactsValue, fork_of, is_deadlocked, is_waiting, situation_of, tasks_that}
+use Rattle.task_sayings.specs.Groups.{each_once}
 use Rattle.explained_tasks.specs.ImpederLines.{is_task, told_of}
-use Rattle.explained_tasks.specs.Impeders.{impeders_of}
+use Rattle.task_sayings.specs.Impeders.{impeders_of}
 use Rattle.explained_tasks.specs.Laws.{DeadlockIsReported, DeadlockStandsFirst, IsDeadAndWaitsFor, ShownAreDead, ShowsCircle}
-use Rattle.explained_tasks.specs.Nexts.{IsNext, first_or, next_by, next_of}
+use Rattle.task_sayings.specs.Nexts.{IsNext, first_or, next_by, next_of}
 use Rattle.explained_tasks.specs.RunEnds.{AreFactsAt}
-use Rattle.explained_tasks.specs.Sayings.{Said, impeder_said, impeder_words, same_said}
+use Rattle.task_sayings.specs.Sayings.{Said, impeder_said, impeder_words, same_said}
 use Rattle.explained_tasks.specs.Verdicts.{IsVerdictFrom, IsWalkTo, start_of}
 use Rattle.explained_tasks.proofs.DeadNexts.{dead_waits, deadlocked_dead, next_dead, next_found, next_is_step}
-use Rattle.explained_tasks.proofs.Filters.{passed_from, passed_is}
+use Rattle.task_sayings.proofs.Filters.{passed_from, passed_is}
 use Rattle.explained_tasks.proofs.FitsEnds.{all_stand, dead_is, next_of_dead}
 use Rattle.explained_tasks.proofs.NextInside.{find_contains, first_contains}
-use Rattle.explained_tasks.proofs.SameSaid.{same_said_is}
+use Rattle.task_sayings.proofs.SameSaid.{same_said_is}
 use Rattle.explained_tasks.proofs.Starts.{that_is}
 use Rattle.explained_tasks.proofs.TasksThat.{some_first, that_has, that_least}
 use Rattle.explained_tasks.proofs.WalksMapped.{all_keep, circle_back, circle_steps, cycle_maps}

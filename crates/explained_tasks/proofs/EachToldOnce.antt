@@ -10,18 +10,18 @@ use Rattle.armus_base.specs.States.{Phases}
 use Rattle.armus_base.proofs.Elements.{Contains-cons_cases, Contains-head, Contains-tail, nothing_in_nil}
 use Rattle.accounts.specs.declared.account.Waiting.{Waiting}
 use Rattle.dep_state.proofs.DeadSets.{same_task}
-use Rattle.explained_tasks.specs.declared.impeders.Impeder.{Impeder}
-use Rattle.explained_tasks.specs.Facts.{FactsValue, wait_of}
+use Rattle.task_sayings.specs.declared.impeders.Impeder.{Impeder}
+use Rattle.task_sayings.specs.Facts.{FactsValue, wait_of}
 use Rattle.explained_tasks.specs.ImpederLines.{group_of, is_task, rest_of, told_of}
-use Rattle.explained_tasks.specs.Impeders.{impeders_by, impeders_in, impeders_of}
+use Rattle.task_sayings.specs.Impeders.{impeders_by, impeders_in, impeders_of}
 use Rattle.explained_tasks.specs.Laws.{EachImpederIsTold, IsImpededBy, NothingIsSaidTwice, named_impeders, told_in_lines}
-use Rattle.explained_tasks.specs.Nexts.{next_of}
+use Rattle.task_sayings.specs.Nexts.{next_of}
 use Rattle.explained_tasks.specs.Paragraphs.{explained_tasks, shown_waiting}
-use Rattle.explained_tasks.specs.Sayings.{Said, impeder_said, own_said, same_said}
-use Rattle.explained_tasks.proofs.EachOnce.{AreOnce, are_once}
-use Rattle.explained_tasks.proofs.Filters.{has_map, passed_from, passed_is}
+use Rattle.task_sayings.specs.Sayings.{Said, impeder_said, own_said, same_said}
+use Rattle.task_sayings.proofs.EachOnce.{AreOnce, are_once}
+use Rattle.task_sayings.proofs.Filters.{has_map, passed_from, passed_is}
 use Rattle.explained_tasks.proofs.ImpedersAre.{impeder, impeder_is, impeder_there, impeders_ascend}
-use Rattle.explained_tasks.proofs.SameSaid.{same_said_is, same_said_itself}
+use Rattle.task_sayings.proofs.SameSaid.{same_said_is, same_said_itself}
 
 -- ---- nothing is said twice
 

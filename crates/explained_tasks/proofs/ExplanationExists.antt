@@ -9,7 +9,8 @@ use Rattle.accounts.proofs.TextsAreNear.{text_is_checked}
 use Rattle.report.specs.Counts.{counts_of}
 use Rattle.report.specs.Lines.{counts_line}
 use Rattle.report.proofs.ReportExists.{report_exists}
-use Rattle.explained_tasks.specs.Explanations.{explained_by, facts_of}
+use Rattle.explained_tasks.specs.Explanations.{explained_by}
+use Rattle.task_sayings.specs.Facts.{facts_of}
 use Rattle.explained_tasks.specs.Laws.{ExplanationExists}
 use Rattle.explained_tasks.specs.RunEnds.{AreFactsAt, IsAccountOf}
 use Rattle.explained_tasks.specs.Verdicts.{somebody_waits}

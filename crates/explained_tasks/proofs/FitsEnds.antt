@@ -29,14 +29,15 @@ use Rattle.accounts.specs.declared.account.Waiting.{Waiting}
 use Rattle.accounts.proofs.Awaiting.{event_of_plan, published_of}
 use Rattle.accounts.proofs.TextsAreNear.{text_is_checked}
 use Rattle.accounts.proofs.Told.{list_at}
-use Rattle.explained_tasks.specs.declared.impeders.Impeder.{Impeder}
-use Rattle.explained_tasks.specs.declared.situation.Situation.{Situation}
-use Rattle.explained_tasks.specs.declared.situation.Situation.TheVariants.{Deadlocked, Held}
-use Rattle.explained_tasks.specs.Facts.{FactsValue, fork_of, is_deadlocked, is_held, is_waiting, situation_by, situation_of, wait_of}
-use Rattle.explained_tasks.specs.Impeders.{impeders_by, impeders_in, impeders_of}
-use Rattle.explained_tasks.specs.Nexts.{first_or, least_that, next_by}
+use Rattle.task_sayings.specs.declared.impeders.Impeder.{Impeder}
+use Rattle.task_sayings.specs.declared.situation.Situation.{Situation}
+use Rattle.task_sayings.specs.declared.situation.Situation.TheVariants.{Deadlocked, Held}
+use Rattle.task_sayings.specs.Facts.{FactsValue, fork_of, is_deadlocked, is_held, is_waiting, situation_by, situation_of, wait_of}
+use Rattle.task_sayings.specs.Impeders.{impeders_by, impeders_in, impeders_of}
+use Rattle.task_sayings.specs.Nexts.{first_or, least_that, next_by}
 use Rattle.explained_tasks.specs.RunEnds.{AreFactsAt, IsAccountOf, WaitersStay}
-use Rattle.explained_tasks.specs.inside.Fitting.{FitsPlan, WaitForSome}
+use Rattle.task_sayings.specs.Fitting.{FitsPlan}
+use Rattle.explained_tasks.specs.inside.Fitting.{WaitForSome}
 use Rattle.explained_tasks.proofs.AccountTold.{blocked_tells, forker_before, part_of, part_there, wait_tells}
 use Rattle.explained_tasks.proofs.ImpedersAre.{impeder, impeder_there, some_found}
 

@@ -8,8 +8,8 @@ use Rattle.armus_base.specs.declared.event.Event.{Event}
 use Rattle.armus_base.specs.States.{Phases}
 use Rattle.armus_base.proofs.Below.{given_ascends, given_from, given_is}
 use Rattle.armus_base.proofs.Elements.{Contains-cons_cases, nothing_in_nil}
-use Rattle.explained_tasks.specs.declared.impeders.Impeder.{Impeder}
-use Rattle.explained_tasks.specs.Impeders.{impeder_by, impeders_in}
+use Rattle.task_sayings.specs.declared.impeders.Impeder.{Impeder}
+use Rattle.task_sayings.specs.Impeders.{impeder_by, impeders_in}
 
 -- task u with this phase
 abbrev pub impeder : ℕ → ℕ → Impeder

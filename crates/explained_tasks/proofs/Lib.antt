@@ -1,15 +1,8 @@
-pub mod Texts
 pub mod Pieces
 pub mod FirstThat
 pub mod VerdictWalks
 pub mod NextInside
-pub mod Filters
 pub mod Starts
-pub mod EachOnce
-pub mod SameSaid
-pub mod GroupedTasks
-pub mod Noted
-pub mod Bridges
 pub mod MembersAre
 pub mod GroupTexts
 pub mod GroupsAre

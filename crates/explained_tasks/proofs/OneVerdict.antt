@@ -8,8 +8,8 @@ use Rattle.armus_base.specs.States.{Phases}
 use Rattle.verdict.proofs.OneCycle.{one_cycle}
 use Rattle.explained_tasks.specs.declared.outcome.Verdict.{Verdict}
 use Rattle.explained_tasks.specs.declared.outcome.Verdict.TheVariants.{Nobody, Circle, Chain}
-use Rattle.explained_tasks.specs.Facts.{FactsValue}
-use Rattle.explained_tasks.specs.Nexts.{IsNext, next_of}
+use Rattle.task_sayings.specs.Facts.{FactsValue}
+use Rattle.task_sayings.specs.Nexts.{IsNext, next_of}
 use Rattle.explained_tasks.specs.Verdicts.{IsVerdict, IsVerdictFrom, IsWalkTo, start_of}
 
 -- what stands at a place of a list that is put together

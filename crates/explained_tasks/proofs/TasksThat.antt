@@ -6,9 +6,9 @@ use Rattle.std.proofs.lemmas.List.Elements.{Contains-append_left, Contains-appen
 use Rattle.armus_base.specs.declared.ids.TaskId.{TaskId}
 use Rattle.armus_base.specs.Finals.{list_below}
 use Rattle.armus_base.proofs.Elements.{Contains-cons_cases, Contains-head, nothing_in_nil}
-use Rattle.explained_tasks.specs.declared.situation.Situation.{Situation}
-use Rattle.explained_tasks.specs.Facts.{FactsValue, situation_of, tasks_that}
-use Rattle.explained_tasks.proofs.Filters.{below_is, passed_from, passed_is}
+use Rattle.task_sayings.specs.declared.situation.Situation.{Situation}
+use Rattle.task_sayings.specs.Facts.{FactsValue, situation_of, tasks_that}
+use Rattle.task_sayings.proofs.Filters.{below_is, passed_from, passed_is}
 use Rattle.explained_tasks.proofs.FirstThat.{first_stays}
 use Rattle.explained_tasks.proofs.NextInside.{first_contains}
 

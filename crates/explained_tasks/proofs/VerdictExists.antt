@@ -15,10 +15,11 @@ use Rattle.adaptive.proofs.Deciding.{told_in}
 use Rattle.report.proofs.CycleExists.{told_task}
 use Rattle.explained_tasks.specs.declared.outcome.Verdict.{Verdict}
 use Rattle.explained_tasks.specs.declared.outcome.Verdict.TheVariants.{Nobody, Circle, Chain}
-use Rattle.explained_tasks.specs.Facts.{FactsValue, is_waiting, situation_of}
-use Rattle.explained_tasks.specs.Nexts.{IsNext, next_of}
+use Rattle.task_sayings.specs.Facts.{FactsValue, is_waiting, situation_of}
+use Rattle.task_sayings.specs.Nexts.{IsNext, next_of}
 use Rattle.explained_tasks.specs.Verdicts.{IsVerdict, IsVerdictFrom, start_of}
-use Rattle.explained_tasks.specs.inside.Fitting.{FitsPlan, WaitForSome}
+use Rattle.task_sayings.specs.Fitting.{FitsPlan}
+use Rattle.explained_tasks.specs.inside.Fitting.{WaitForSome}
 use Rattle.explained_tasks.proofs.NextInside.{next_inside}
 use Rattle.explained_tasks.proofs.Starts.{start_waits}
 use Rattle.explained_tasks.proofs.TasksThat.{task_below}

@@ -13,7 +13,7 @@ use Rattle.report.specs.Lines.{counts_line}
 use Rattle.report.specs.Standings.{AreStandings}
 use Rattle.report.specs.declared.standing.Standing.{Standing}
 use Rattle.explained_tasks.specs.declared.outcome.Verdict.{Verdict}
-use Rattle.explained_tasks.specs.Facts.{FactsValue}
+use Rattle.task_sayings.specs.Facts.{FactsValue, facts_of}
 use Rattle.explained_tasks.specs.Paragraphs.{paragraphs}
 use Rattle.explained_tasks.specs.RunEnds.{IsAccountOf}
 use Rattle.explained_tasks.specs.VerdictWords.{verdict_line}
@@ -29,10 +29,6 @@ pub record Explains (f : FactsValue) (phases : ℕ → Phases) (counts : List �
   pub found : IsVerdict f phases verdict
   pub is_it : lines ≡ explained_by f phases counts verdict
   pub tells : waits ≡ somebody_waits verdict
-
--- what is known of a text with this account, of a file with this name, where its tasks stand so
-abbrev pub facts_of : List ℕ → Option (List ℕ) → Account → List Standing → FactsValue
-facts_of text file account standings = record { text = text; file = file; account = account; standings = standings }
 
 -- The lines explain how a run has ended, in a state with these phases, and tell whether somebody waits for ever: the standings and the line that counts them
 -- are those of the report.

@@ -15,18 +15,18 @@ use Rattle.pl_syntax.specs.Grammar.{IsText}
 use Rattle.pl_syntax.specs.declared.tree.Program.{Program}
 use Rattle.accounts.specs.declared.account.Waiting.{Waiting}
 use Rattle.report.specs.Reports.{IsReportedCycle, IsSomeDead}
-use Rattle.explained_tasks.specs.declared.impeders.Impeder.{Impeder}
+use Rattle.task_sayings.specs.declared.impeders.Impeder.{Impeder}
 use Rattle.explained_tasks.specs.declared.outcome.Verdict.{Verdict}
 use Rattle.explained_tasks.specs.declared.outcome.Verdict.TheVariants.{Circle}
-use Rattle.explained_tasks.specs.declared.situation.Situation.TheVariants.{Deadlocked}
+use Rattle.task_sayings.specs.declared.situation.Situation.TheVariants.{Deadlocked}
 use Rattle.explained_tasks.specs.Explanations.{IsExplanationAt}
-use Rattle.explained_tasks.specs.Facts.{FactsValue, is_waiting, situation_of, tasks_that, wait_of}
+use Rattle.task_sayings.specs.Facts.{FactsValue, is_waiting, situation_of, tasks_that, wait_of}
 use Rattle.explained_tasks.specs.ImpederLines.{group_of, rest_of, told_of}
-use Rattle.explained_tasks.specs.Impeders.{impeders_of}
-use Rattle.explained_tasks.specs.Nexts.{next_of}
+use Rattle.task_sayings.specs.Impeders.{impeders_of}
+use Rattle.task_sayings.specs.Nexts.{next_of}
 use Rattle.explained_tasks.specs.Paragraphs.{explained_tasks, sayings_of, tasks_of}
 use Rattle.explained_tasks.specs.RunEnds.{AreFactsAt}
-use Rattle.explained_tasks.specs.Sayings.{Said, impeder_said, own_said, same_said}
+use Rattle.task_sayings.specs.Sayings.{Said, impeder_said, own_said, same_said}
 use Rattle.explained_tasks.specs.Verdicts.{IsVerdict, somebody_waits}
 
 -- ---- one explanation

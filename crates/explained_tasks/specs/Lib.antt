@@ -1,17 +1,9 @@
--- What is known, and how the tasks stand.
-pub mod Facts
+-- Where a run has ended.
 pub mod RunEnds
-pub mod Impeders
-pub mod Nexts
--- The words.
-pub mod TaskLists
-pub mod Places
-pub mod Sayings
 -- The verdict.
 pub mod Verdicts
 pub mod VerdictWords
 -- The paragraphs.
-pub mod Groups
 pub mod ImpederLines
 pub mod Paragraphs
 -- The whole.

@@ -12,7 +12,7 @@ use Rattle.pl_syntax.specs.declared.tree.Program.{Program}
 use Rattle.accounts.specs.Accounts.{IsAccount}
 use Rattle.accounts.specs.declared.account.Account.{Account}
 use Rattle.report.specs.Standings.{AreStandings}
-use Rattle.explained_tasks.specs.Facts.{FactsValue}
+use Rattle.task_sayings.specs.Facts.{FactsValue}
 
 -- this is the account of the text, whose plan this is, where the plan has been run up to these places
 pub record IsAccountOf (text : List ℕ) (plan : Plan) (a : ℕ → Place) (account : Account) : Type 0 where

@@ -1,4 +1,3 @@
-pub mod SayingValues
 pub mod Fitting
 pub mod WalkEnds
 pub mod Grouped

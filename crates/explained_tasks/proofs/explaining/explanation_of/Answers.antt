@@ -9,7 +9,8 @@ use Rattle.armus_base.proofs.StatusesAre.{statuses_are}
 use Rattle.pl_core.specs.Worlds.{places_of, state_of}
 use Rattle.report.specs.Standings.{AreStandings}
 use Rattle.explained_tasks.specs.declared.explaining.Explanation.{Explanation}
-use Rattle.explained_tasks.specs.Explanations.{Explains, IsExplanationAt, facts_of}
+use Rattle.explained_tasks.specs.Explanations.{Explains, IsExplanationAt}
+use Rattle.task_sayings.specs.Facts.{facts_of}
 use Rattle.explained_tasks.specs.RunEnds.{AreFactsAt}
 use Rattle.explained_tasks.proofs.FitsEnds.{fits_plan, waits_for_some}
 use Rattle.explained_tasks.proofs.explaining.explanation_of.Goals as goal
