@@ -90,7 +90,7 @@ at_await (Await p off ∷ ops) (suc (suc k)) (suc n) aim e at =
           omega (arith, under, more, same);
     })
 
-published_of : (forked : Bool) (published refused : Option Event) (e : Event) → end_by forked published refused ≡ Blocked e → published ≡ Some e
+pub published_of : (forked : Bool) (published refused : Option Event) (e : Event) → end_by forked published refused ≡ Blocked e → published ≡ Some e
 published_of forked (Some x) refused e is = let same : x ≡ e = cc in ap Some same
 published_of forked None (Some x) e is = absurd (cc)
 published_of true None None e is = absurd (cc)

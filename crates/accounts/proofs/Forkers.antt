@@ -8,12 +8,12 @@ use Rattle.armus_base.specs.declared.ids.TaskId.{TaskId}
 use Rattle.pl_plan.specs.Forks.{fork_of}
 use Rattle.pl_plan.specs.Unfolding.{Start}
 use Rattle.pl_plan.proofs.ForkedByParents.{forked_is_started, started_is_forked}
-use Rattle.pl_plan.proofs.UnfoldedIsChecked.{unfolded_is_checked}
 use Rattle.origins.specs.Origins.{start_of}
 use Rattle.origins.proofs.TasksVisits.{fork_by_start}
 use Rattle.accounts.specs.Accounts.{Layout, forked_by}
 use Rattle.accounts.specs.Laws.{ForkersFork}
 use Rattle.accounts.specs.declared.account.Forked.{Forked}
+use Rattle.accounts.proofs.TextsAreNear.{text_is_checked, text_is_near}
 
 -- what is told, by its start and its parent
 told :
@@ -23,13 +23,14 @@ told :
 told l plan t None u forked started parent = λ fork. started fork refl
 told l plan t (Some start) u forked started parent = (forked start refl, parent)
 
-parent_is : (plan : Plan) (t : ℕ) (u : TaskId) → slice_get plan.parents t ≡ Some (Some u) → u.0 ≡ parent_of plan t
+pub parent_is : (plan : Plan) (t : ℕ) (u : TaskId) → slice_get plan.parents t ≡ Some (Some u) → u.0 ≡ parent_of plan t
 unfolding parent_of
 parent_is plan t u is = sym (ap number_or_zero is)
 
 pub forkers_fork : ForkersFork
-forkers_fork text p plan a account near unfolds known t d pos lt =
-    let checked = unfolded_is_checked p plan near unfolds in
+forkers_fork text p plan a account unfolds known t d pos lt =
+    let near = text_is_near text p known.reads in
+    let checked = text_is_checked text p plan known.reads unfolds in
     let (u, drawn) = checked.tables.drawn t pos lt in
     let parent : slice_index_or plan.parents t None ≡ Some u = get_or_from_slice_get plan.parents t (Some u) None drawn in
     let here : (slice_index_or account.tasks t d).fork ≡ forked_by known.layout (fork_of (start_of p t)) (Some u) =

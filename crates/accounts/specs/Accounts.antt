@@ -12,6 +12,7 @@ use Rattle.armus_base.specs.Runs.{Place}
 use Rattle.pl_core.specs.Tasks.{IsAtOp}
 use Rattle.pl_plan.specs.Unfolding.{Coming, a_plain}
 use Rattle.pl_syntax.specs.BodyEnds.{AreEnds}
+use Rattle.pl_syntax.specs.Grammar.{IsText}
 use Rattle.pl_syntax.specs.StatementOffsets.{AreOffsets}
 use Rattle.pl_syntax.specs.Tree.{await, new_task}
 use Rattle.pl_syntax.specs.declared.tree.Program.{Program}
@@ -130,8 +131,9 @@ pub record IsTaskAccount (l : Layout) (p : Program) (plan : Plan) (a : ℕ → P
   pub ended : account.ended ≡ ended_of l p t
   pub wait : IsWait l p plan a t (end_of (state_at plan a) t) account.wait
 
--- the account of the text of this program, whose plan has been run up to these places
+-- the account of the text, which is that of this program, whose plan has been run up to these places
 pub record IsAccount (text : List ℕ) (p : Program) (plan : Plan) (a : ℕ → Place) (account : Account) : Type 0 where
+  pub reads : IsText text p
   pub layout : Layout
   pub of_text : layout.text ≡ text
   pub is_layout : IsLayout p layout

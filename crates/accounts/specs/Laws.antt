@@ -8,9 +8,10 @@ use Rattle.armus_base.specs.CheckedPlans.{HasFork}
 use Rattle.armus_base.specs.Finals.{end_of}
 use Rattle.armus_base.specs.Places.{state_at}
 use Rattle.armus_base.specs.Plans.{Plan, parent_of}
-use Rattle.armus_base.specs.Runs.{Place}
+use Rattle.armus_base.specs.Runs.{IsReachable, Place}
 use Rattle.pl_plan.specs.Unfolding.{a_plain, plan_of}
-use Rattle.pl_syntax.specs.Tree.{AreNear, await, count, new_task}
+use Rattle.pl_syntax.specs.Grammar.{IsText}
+use Rattle.pl_syntax.specs.Tree.{await, count, new_task}
 use Rattle.pl_syntax.specs.declared.tree.Program.{Program}
 use Rattle.origins.specs.Origins.{written_statements}
 use Rattle.accounts.specs.Accounts.{IsAccount, IsLayout, Layout, statement_place}
@@ -25,6 +26,12 @@ abbrev pub OneAccount : Type 0
 OneAccount =
     (text : List ℕ) (p : Program) (plan : Plan) (a : ℕ → Place) (account other : Account) → IsAccount text p plan a account → IsAccount text p plan a other →
     account ≡ other
+
+-- and there is one, of all places to which a run of its plan leads
+abbrev pub AccountExists : Type 0
+AccountExists =
+    (text : List ℕ) (p : Program) (plan : Plan) (a : ℕ → Place) → IsText text p → plan_of p ≡ Ok plan → IsReachable plan a →
+    (account : Account) × IsAccount text p plan a account
 
 -- a layout has an offset for each statement, and one answer for each where its body ends
 abbrev pub StatementsHavePlaces : Type 0
@@ -49,6 +56,6 @@ DrawnHaveNames =
 -- a task from 1 on is told to be forked just where the code of its parent forks it, and by this parent
 abbrev pub ForkersFork : Type 0
 ForkersFork =
-    (text : List ℕ) (p : Program) (plan : Plan) (a : ℕ → Place) (account : Account) → AreNear p.body → plan_of p ≡ Ok plan → IsAccount text p plan a account →
+    (text : List ℕ) (p : Program) (plan : Plan) (a : ℕ → Place) (account : Account) → plan_of p ≡ Ok plan → IsAccount text p plan a account →
     (t : ℕ) (d : TaskAccount) → 0 < t → t < length plan.parents →
     MatchOption (slice_index_or account.tasks t d).fork (HasFork plan t → ⊥) (λ f. HasFork plan t × (f.by.0 ≡ parent_of plan t))

@@ -9,4 +9,6 @@ mod waiting;
 
 pub use account::{Account, Drawn, Ended, Forked, TaskAccount, Turn, Waiting};
 pub use accounts::account_of;
-pub use laws::{forkers_fork, one_account, statements_have_places, tasks_are_of_text};
+pub use laws::{
+    account_exists, forkers_fork, one_account, statements_have_places, tasks_are_of_text,
+};

@@ -1,6 +1,7 @@
 -- The lines of a text that is refused for its first check fault.
 use Rattle.std.specs.Prelude.{◌≡◌, ℕ, List, ◌++◌, length, codes, decimal, Option}
 use Rattle.pl_syntax.specs.declared.tree.Program.{Program}
+use Rattle.pl_syntax.specs.Grammar.{IsText}
 use Rattle.pl_syntax.specs.Printed.{line}
 use Rattle.pl_syntax.specs.StatementOffsets.{AreOffsets}
 use Rattle.pl_plan.specs.declared.fault.CheckFault.{CheckFault}
@@ -33,6 +34,7 @@ check_lines file text offsets scene =
 
 -- the lines of a text, of a file or not, that has this program and is refused for its first check fault
 pub record IsCheckRefusal (file : Option (List ℕ)) (text : List ℕ) (program : Program) (lines : List ℕ) : Type 0 where
+  pub reads : IsText text program
   pub scene : Scene
   pub is_scene : IsScene program scene
   pub offsets : List ℕ

@@ -1,6 +1,7 @@
 // The lines of a text with a check fault.
 ghost use Rattle.std.specs.Prelude.{◌≡◌, ◌≤◌, ◌<◌, ◌^◌, ◌++◌, IfOk, OnOk, length, option_map};
 ghost use Rattle.pl_syntax.specs.declared.tree.Program.{Program as ProgramValue};
+ghost use Rattle.pl_syntax.specs.Grammar.{IsText};
 ghost use Rattle.pl_syntax.specs.Printed.{line};
 ghost use Rattle.pl_syntax.specs.StatementOffsets.{AreOffsets};
 ghost use Rattle.check_scenes.specs.Scenes.{IsScene};
@@ -57,6 +58,7 @@ pub fn check_refusal(
     file: Option<&[u8]>,
     scene: &Scene,
 ) -> Result<List<u8>, NoMemory>
+    requires reads { IsText text.now program.now }
     requires scene { IsScene program.now scene.now }
     requires places { statements.now.places ≡ text.now }
     requires offsets { AreOffsets text.now program.now statements.now.offsets }

@@ -2,10 +2,10 @@
 use Rattle.std.proofs.Common.{◌≡◌, ℕ, zero, suc, ◌+◌, ◌<◌, List, [], ◌∷◌, ◌++◌, length, get_or, take, arith, sym, ◌∙◌, ap, subst, refl, append_assoc, flat_map, Vec, Global, add-one}
 use Rattle.std.specs.Prelude.{map}
 use Rattle.armus_base.specs.declared.ids.TaskId.{TaskId}
-use Rattle.explained_tasks.specs.Sayings.{Said}
+use Rattle.task_sayings.specs.Sayings.{Said}
 use Rattle.explained_tasks.specs.inside.GroupTexts.{texts_in}
-use Rattle.explained_tasks.specs.inside.SayingValues.{said_by}
-use Rattle.explained_tasks.specs.declared.saying.Saying.{Saying}
+use Rattle.task_sayings.specs.SayingValues.{said_by}
+use Rattle.task_sayings.specs.declared.saying.Saying.{Saying}
 
 module _ (text : Said → List TaskId → List ℕ) where
   -- of one more saying and its group

@@ -6,17 +6,18 @@ use Rattle.std.proofs.lemmas.List.{length-map, map-append}
 use Rattle.std.proofs.lemmas.List.Elements.{filter_more}
 use Rattle.armus_base.specs.declared.ids.TaskId.{TaskId}
 use Rattle.armus_base.specs.States.{Phases}
-use Rattle.explained_tasks.specs.declared.grouping.Grouping.{Grouping}
-use Rattle.explained_tasks.specs.declared.impeders.Impeder.{Impeder}
-use Rattle.explained_tasks.specs.declared.saying.Saying.{Saying}
-use Rattle.explained_tasks.specs.Facts.{FactsValue}
-use Rattle.explained_tasks.specs.Groups.{each_once}
+use Rattle.task_sayings.specs.declared.grouping.Grouping.{Grouping}
+use Rattle.task_sayings.specs.declared.impeders.Impeder.{Impeder}
+use Rattle.task_sayings.specs.declared.saying.Saying.{Saying}
+use Rattle.task_sayings.specs.Facts.{FactsValue}
+use Rattle.task_sayings.specs.Groups.{each_once}
 use Rattle.explained_tasks.specs.ImpederLines.{group_line, group_of, lines_by, rest_line, rest_of, told_of}
 use Rattle.explained_tasks.specs.Paragraphs.{explained_tasks, paragraph, paragraphs, sayings_of, tasks_of}
-use Rattle.explained_tasks.specs.Sayings.{Said, impeder_said, same_said}
-use Rattle.explained_tasks.specs.inside.Grouped.{AreImpederGroups, AreParagraphs, IsGrouped, IsSized, Told, impeder_told, members_of, own_told}
+use Rattle.task_sayings.specs.Sayings.{Said, impeder_said, same_said}
+use Rattle.task_sayings.specs.Grouped.{IsGrouped, IsSized, Told, members_of}
+use Rattle.explained_tasks.specs.inside.Grouped.{AreImpederGroups, AreParagraphs, impeder_told, own_told}
 use Rattle.explained_tasks.specs.inside.GroupTexts.{paragraph_text, texts_in}
-use Rattle.explained_tasks.specs.inside.SayingValues.{said_by}
+use Rattle.task_sayings.specs.SayingValues.{said_by}
 use Rattle.explained_tasks.proofs.GroupTexts.{map_first, map_same, texts_are}
 use Rattle.explained_tasks.proofs.MembersAre.{members_by, own_tasks}
 

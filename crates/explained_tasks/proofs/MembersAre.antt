@@ -2,10 +2,11 @@
 use Rattle.std.proofs.Common.{◌≡◌, Bool, true, false, List, [], ◌∷◌, ap, refl}
 use Rattle.std.specs.Prelude.{filter, if◌then◌else◌, map}
 use Rattle.armus_base.specs.declared.ids.TaskId.{TaskId}
-use Rattle.explained_tasks.specs.declared.impeders.Impeder.{Impeder}
-use Rattle.explained_tasks.specs.Facts.{FactsValue}
-use Rattle.explained_tasks.specs.Sayings.{Said, impeder_said, own_said, same_said}
-use Rattle.explained_tasks.specs.inside.Grouped.{Told, impeder_told, members_of, own_told, said_in}
+use Rattle.task_sayings.specs.declared.impeders.Impeder.{Impeder}
+use Rattle.task_sayings.specs.Facts.{FactsValue}
+use Rattle.task_sayings.specs.Sayings.{Said, impeder_said, own_said, same_said}
+use Rattle.task_sayings.specs.Grouped.{Told, members_of}
+use Rattle.explained_tasks.specs.inside.Grouped.{impeder_told, own_told, said_in}
 
 -- what is said of tasks that are told
 pub said_of_told : (f : FactsValue) (xs : List TaskId) → said_in (map (own_told f) xs) ≡ map (λ (t : TaskId). own_said f t.0) xs

@@ -10,13 +10,13 @@ use Rattle.armus_base.proofs.Below.{given_is}
 use Rattle.armus_base.proofs.Elements.{Contains-head, Contains-tail}
 use Rattle.accounts.specs.declared.account.Forked.{Forked}
 use Rattle.accounts.specs.declared.account.Waiting.{Waiting}
-use Rattle.explained_tasks.specs.declared.impeders.Impeder.{Impeder}
-use Rattle.explained_tasks.specs.declared.situation.Situation.{Situation}
-use Rattle.explained_tasks.specs.declared.situation.Situation.TheVariants.{Deadlocked, Held, HasEnded, NotForkedYet, NeverForked}
-use Rattle.explained_tasks.specs.Facts.{FactsValue, fork_of, is_deadlocked, is_held, situation_of, wait_of}
-use Rattle.explained_tasks.specs.Impeders.{impeder_by, impeders_by, impeders_of}
-use Rattle.explained_tasks.specs.Nexts.{first_or, least_that, next_by, next_of}
-use Rattle.explained_tasks.specs.Fitting.{FitsPlan}
+use Rattle.task_sayings.specs.declared.impeders.Impeder.{Impeder}
+use Rattle.task_sayings.specs.declared.situation.Situation.{Situation}
+use Rattle.task_sayings.specs.declared.situation.Situation.TheVariants.{Deadlocked, Held, HasEnded, NotForkedYet, NeverForked}
+use Rattle.task_sayings.specs.Facts.{FactsValue, fork_of, is_deadlocked, is_held, situation_of, wait_of}
+use Rattle.task_sayings.specs.Impeders.{impeder_by, impeders_by, impeders_of}
+use Rattle.task_sayings.specs.Nexts.{first_or, least_that, next_by, next_of}
+use Rattle.task_sayings.specs.Fitting.{FitsPlan}
 
 -- what is found in a list is an element
 pub find_contains : {A : Type 0} (p : A → Bool) (xs : List A) (x : A) → find p xs ≡ Some x → Contains xs x

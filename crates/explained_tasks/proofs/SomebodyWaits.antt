@@ -7,11 +7,11 @@ use Rattle.armus_base.specs.States.{Phases}
 use Rattle.armus_base.proofs.Elements.{nothing_in_nil}
 use Rattle.explained_tasks.specs.declared.outcome.Verdict.{Verdict}
 use Rattle.explained_tasks.specs.declared.outcome.Verdict.TheVariants.{Nobody, Circle, Chain}
-use Rattle.explained_tasks.specs.Facts.{FactsValue, is_deadlocked, is_waiting, situation_of, tasks_that}
+use Rattle.task_sayings.specs.Facts.{FactsValue, is_deadlocked, is_waiting, situation_of, tasks_that}
 use Rattle.explained_tasks.specs.Laws.{SomebodyWaits}
-use Rattle.explained_tasks.specs.Nexts.{first_or}
+use Rattle.task_sayings.specs.Nexts.{first_or}
 use Rattle.explained_tasks.specs.Verdicts.{IsVerdictFrom, somebody_waits, start_of}
-use Rattle.explained_tasks.proofs.Filters.{passed_from, passed_is}
+use Rattle.task_sayings.proofs.Filters.{passed_from, passed_is}
 use Rattle.explained_tasks.proofs.NextInside.{first_contains}
 use Rattle.explained_tasks.proofs.Starts.{deadlocked_waits}
 

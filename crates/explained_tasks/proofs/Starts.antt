@@ -3,12 +3,12 @@ use Rattle.std.proofs.Common.{◌≡◌, ℕ, ◌<◌, Bool, true, Option, Some,
 use Rattle.std.specs.Prelude.{Contains, slice_get}
 use Rattle.armus_base.specs.declared.ids.TaskId.{TaskId}
 use Rattle.armus_base.specs.Finals.{list_below}
-use Rattle.explained_tasks.specs.declared.situation.Situation.{Situation}
-use Rattle.explained_tasks.specs.declared.situation.Situation.TheVariants.{Deadlocked, Held, HasEnded, NotForkedYet, NeverForked}
-use Rattle.explained_tasks.specs.Facts.{FactsValue, is_deadlocked, is_waiting, situation_of, tasks_that}
-use Rattle.explained_tasks.specs.Nexts.{first_or}
+use Rattle.task_sayings.specs.declared.situation.Situation.{Situation}
+use Rattle.task_sayings.specs.declared.situation.Situation.TheVariants.{Deadlocked, Held, HasEnded, NotForkedYet, NeverForked}
+use Rattle.task_sayings.specs.Facts.{FactsValue, is_deadlocked, is_waiting, situation_of, tasks_that}
+use Rattle.task_sayings.specs.Nexts.{first_or}
 use Rattle.explained_tasks.specs.Verdicts.{start_of}
-use Rattle.explained_tasks.proofs.Filters.{below_is, passed_is}
+use Rattle.task_sayings.proofs.Filters.{below_is, passed_is}
 use Rattle.explained_tasks.proofs.NextInside.{first_contains}
 
 -- a task that is deadlocked waits

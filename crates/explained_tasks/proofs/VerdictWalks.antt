@@ -10,8 +10,8 @@ use Rattle.armus_base.specs.States.{Phases}
 use Rattle.armus_base.proofs.WalkCycles.{IsWalk-push, walk_done, IsWalkTo as Goes}
 use Rattle.explained_tasks.specs.declared.outcome.Verdict.{Verdict}
 use Rattle.explained_tasks.specs.declared.outcome.Verdict.TheVariants.{Nobody, Circle, Chain}
-use Rattle.explained_tasks.specs.Facts.{FactsValue}
-use Rattle.explained_tasks.specs.Nexts.{IsNext, next_of}
+use Rattle.task_sayings.specs.Facts.{FactsValue}
+use Rattle.task_sayings.specs.Nexts.{IsNext, next_of}
 use Rattle.explained_tasks.specs.Verdicts.{IsVerdictFrom}
 use Rattle.explained_tasks.specs.inside.WalkEnds.{ClosesIn, EndsIn}
 

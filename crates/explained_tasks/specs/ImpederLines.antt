@@ -6,14 +6,14 @@ use Rattle.armus_base.specs.Finals.{list_below}
 use Rattle.armus_base.specs.States.{Phases}
 use Rattle.pl_syntax.specs.Printed.{line}
 use Rattle.accounts.specs.declared.account.Forked.{Forked}
-use Rattle.explained_tasks.specs.declared.impeders.Impeder.{Impeder}
-use Rattle.explained_tasks.specs.Facts.{FactsValue, fork_of}
-use Rattle.explained_tasks.specs.Groups.{each_once}
-use Rattle.explained_tasks.specs.Impeders.{impeders_of}
-use Rattle.explained_tasks.specs.Nexts.{next_of}
-use Rattle.explained_tasks.specs.Places.{said_of}
-use Rattle.explained_tasks.specs.Sayings.{Forking, Said, impeder_said, same_said}
-use Rattle.explained_tasks.specs.TaskLists.{by_number, list_words}
+use Rattle.task_sayings.specs.declared.impeders.Impeder.{Impeder}
+use Rattle.task_sayings.specs.Facts.{FactsValue, fork_of}
+use Rattle.task_sayings.specs.Groups.{each_once}
+use Rattle.task_sayings.specs.Impeders.{impeders_of}
+use Rattle.task_sayings.specs.Nexts.{next_of}
+use Rattle.task_sayings.specs.Places.{said_of}
+use Rattle.task_sayings.specs.Sayings.{Forking, Said, impeder_said, same_said}
+use Rattle.task_sayings.specs.TaskLists.{by_number, list_words}
 
 -- u is the forker of a task with this fork
 abbrev pub is_forked_by : ℕ → Option Forked → Bool

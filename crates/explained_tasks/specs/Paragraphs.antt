@@ -3,11 +3,11 @@ use Rattle.std.specs.Prelude.{ℕ, List, [], ◌∷◌, ◌++◌, codes, filter,
 use Rattle.armus_base.specs.declared.ids.TaskId.{TaskId}
 use Rattle.armus_base.specs.States.{Phases}
 use Rattle.pl_syntax.specs.Printed.{line}
-use Rattle.explained_tasks.specs.Facts.{FactsValue, is_unforked, is_waiting, situation_of, tasks_that}
-use Rattle.explained_tasks.specs.Groups.{each_once}
+use Rattle.task_sayings.specs.Facts.{FactsValue, is_unforked, is_waiting, situation_of, tasks_that}
+use Rattle.task_sayings.specs.Groups.{each_once}
 use Rattle.explained_tasks.specs.ImpederLines.{forkers_of, forking_words, impeder_lines}
-use Rattle.explained_tasks.specs.Sayings.{Said, own_said, same_said}
-use Rattle.explained_tasks.specs.TaskLists.{by_number, list_words}
+use Rattle.task_sayings.specs.Sayings.{Said, own_said, same_said}
+use Rattle.task_sayings.specs.TaskLists.{by_number, list_words}
 
 -- the tasks that are not done: first those that wait, then those that were not forked
 abbrev pub explained_tasks : FactsValue → List TaskId

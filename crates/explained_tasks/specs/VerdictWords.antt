@@ -4,12 +4,12 @@ use Rattle.std.proofs.Common.{suc}
 use Rattle.std.specs.List.{enumerate_from}
 use Rattle.armus_base.specs.declared.ids.TaskId.{TaskId}
 use Rattle.pl_syntax.specs.Printed.{line}
-use Rattle.explained_tasks.specs.declared.situation.Situation.{Situation}
-use Rattle.explained_tasks.specs.declared.situation.Situation.TheVariants.{HasEnded, NotForkedYet}
+use Rattle.task_sayings.specs.declared.situation.Situation.{Situation}
+use Rattle.task_sayings.specs.declared.situation.Situation.TheVariants.{HasEnded, NotForkedYet}
 use Rattle.explained_tasks.specs.declared.outcome.Verdict.{Verdict}
 use Rattle.explained_tasks.specs.declared.outcome.Verdict.TheVariants.{Nobody, Circle, Chain}
-use Rattle.explained_tasks.specs.Facts.{FactsValue, is_deadlocked, is_waiting, situation_of, tasks_that}
-use Rattle.explained_tasks.specs.Places.{end_place, fork_place, named_task, wait_place}
+use Rattle.task_sayings.specs.Facts.{FactsValue, is_deadlocked, is_waiting, situation_of, tasks_that}
+use Rattle.task_sayings.specs.Places.{end_place, fork_place, named_task, wait_place}
 
 -- a shown task that stands so: t3 (worker) at 20:7 where it waits, else its name
 abbrev pub shown_as : FactsValue → ℕ → Situation → List ℕ

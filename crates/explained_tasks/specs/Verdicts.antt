@@ -5,8 +5,8 @@ use Rattle.armus_base.specs.Relations.{IsWalk, IsWalkCycle}
 use Rattle.armus_base.specs.States.{Phases}
 use Rattle.explained_tasks.specs.declared.outcome.Verdict.{Verdict}
 use Rattle.explained_tasks.specs.declared.outcome.Verdict.TheVariants.{Nobody, Circle, Chain}
-use Rattle.explained_tasks.specs.Facts.{FactsValue, is_deadlocked, is_waiting, tasks_that}
-use Rattle.explained_tasks.specs.Nexts.{IsNext, first_or, next_of}
+use Rattle.task_sayings.specs.Facts.{FactsValue, is_deadlocked, is_waiting, tasks_that}
+use Rattle.task_sayings.specs.Nexts.{IsNext, first_or, next_of}
 
 -- the task with which the walk begins: the least deadlocked one, or else the least that waits, which is then held
 abbrev pub start_of : FactsValue → Option TaskId

@@ -1,4 +1,4 @@
-pub mod SayingValues
+pub mod Fitting
 pub mod WalkEnds
 pub mod Grouped
 pub mod GroupTexts

@@ -1,18 +1,24 @@
 // The explanation of the state in which a run has ended.
+ghost use Rattle.explained_tasks.specs.Explanations.{Explains, IsExplanationAt};
 ghost use Rattle.std.specs.Prelude.{◌≡◌, ◌<◌, ◌^◌, IfOk, length, option_copied};
-ghost use Rattle.armus_base.specs.Statuses.{IsInOrder};
-ghost use Rattle.explained_tasks.specs.Explanations.{Explains, IsExplanation, facts_of};
-ghost use Rattle.explained_tasks.specs.Fitting.{FitsEnd, FitsPlan, WaitForSome};
-ghost use Rattle.pl_core.specs.Worlds.{state_of};
+ghost use Rattle.armus_base.specs.Finals.{final_of};
+ghost use Rattle.task_sayings.specs.Facts.{facts_of};
+ghost use Rattle.explained_tasks.specs.RunEnds.{IsAccountOf, WaitersStay};
+ghost use Rattle.task_sayings.specs.Fitting.{FitsPlan};
+ghost use Rattle.explained_tasks.specs.inside.Fitting.{WaitForSome};
+ghost use Rattle.pl_core.specs.Worlds.{places_of, state_of};
 ghost use Rattle.explained_tasks.specs.Verdicts.{shown_of, somebody_waits};
 
-use crate::facts::Facts;
 use crate::outcome::Verdict;
+use crate::paragraphs::put_paragraphs;
+use crate::verdict_line::put_verdict;
+use crate::walk::verdict_of;
 use accounts::Account;
 use armus_base::{Final, List, NoMemory, TaskId};
 use pl_core::World;
 use report::{Outline, outline_of};
 use std::alloc::Global;
+use task_sayings::Facts;
 use text_places::TextPlaces;
 
 /// The explanation of a run, and whether somebody waits for ever.
@@ -50,30 +56,25 @@ fn has_waiting(verdict: &Verdict) -> bool
     }
 }
 
-impl<'a> Facts<'a> {
-    ghost use Rattle.explained_tasks.specs.Explanations.{Explains};
-    ghost use Rattle.explained_tasks.specs.Fitting.{FitsPlan, WaitForSome};
-
-    /// Explains what is known, behind this line of counts.
-    pub(crate) fn explanation(
-        &self,
-        world: &World,
-        counts: List<u8>,
-    ) -> Result<Explanation, NoMemory>
-        requires fits { FitsPlan self.now world.now.plan }
-        requires wait { WaitForSome self.now (state_of world.now).phases }
-        ensures { IfOk result (λ e. Explains self.now (state_of world.now).phases counts e.lines e.has_waiting) }
-    {
-        let verdict = self.verdict(world)?;
-        let shown = shown_of(self.alloc, &verdict)?;
-        let mut out = counts.into_vec();
-        self.put_verdict(&mut out, &verdict)?;
-        self.put_paragraphs(&mut out, world, &shown)?;
-        Ok(Explanation {
-            lines: List::from_vec(out),
-            has_waiting: has_waiting(&verdict),
-        })
-    }
+/// Explains what is known, behind this line of counts.
+pub(crate) fn explain_facts(
+    facts: &Facts,
+    world: &World,
+    counts: List<u8>,
+) -> Result<Explanation, NoMemory>
+    requires fits { FitsPlan facts.now world.now.plan }
+    requires wait { WaitForSome facts.now (state_of world.now).phases }
+    ensures { IfOk result (λ e. Explains facts.now (state_of world.now).phases counts e.lines e.has_waiting) }
+{
+    let verdict = verdict_of(facts, world)?;
+    let shown = shown_of(facts.alloc(), &verdict)?;
+    let mut out = counts.into_vec();
+    put_verdict(facts, &mut out, &verdict)?;
+    put_paragraphs(facts, &mut out, world, &shown)?;
+    Ok(Explanation {
+        lines: List::from_vec(out),
+        has_waiting: has_waiting(&verdict),
+    })
 }
 
 // Explains what is known, where the standings and the line of counts are those of an outline.
@@ -96,18 +97,12 @@ fn explain_outline(
         cycle: _,
         has_dead: _,
     } = outline;
-    let facts = Facts {
-        alloc,
-        places,
-        file,
-        account,
-        standings: standings.as_slice(),
-    };
-    facts.explanation(world, counts)
+    let facts = Facts::new(alloc, places, file, account, standings.as_slice());
+    explain_facts(&facts, world, counts)
 }
 
-/// Explains the state of a world in which no task may go on, of the text with these places and this account; `file` is the name of the text's file, if it
-/// comes from one, and `end` is the value of the state. The only error is want of memory.
+/// Explains the state of a world in which no task that waits may go on. The world's plan is that of the text with these places, of which this is the account;
+/// `file` is the name of the text's file, if it comes from one, and `end` is the value of the state. The only error is want of memory.
 pub fn explanation_of(
     alloc: Global,
     places: &TextPlaces,
@@ -116,11 +111,12 @@ pub fn explanation_of(
     world: &World,
     end: &Final,
 ) -> Result<Explanation, NoMemory>
-    requires order { IsInOrder end.now.blocked }
-    requires few { length world.now.plan.parents < 2 ^ 32 }
-    requires fits { FitsEnd places.now (option_copied file) account.now world.now.plan end.now (state_of world.now).phases }
-    ensures { IfOk result (λ e. IsExplanation places.now (option_copied file.entry) account.now end.now (state_of world.now).phases e.lines e.has_waiting) }
+    requires account { IsAccountOf places.now world.now.plan (places_of world.now) account.now }
+    requires rest { WaitersStay world.now.plan (places_of world.now) }
+    requires end { end.now ≡ final_of world.now.plan (state_of world.now) }
+    ensures { IfOk result (λ e. IsExplanationAt (option_copied file.entry) places.now world.now.plan (places_of world.now) e.lines e.has_waiting) }
 {
+    let _plan = world.plan();
     let outline = outline_of(alloc, end)?;
     explain_outline(alloc, places, file, account, world, outline)
 }

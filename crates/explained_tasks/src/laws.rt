@@ -1,5 +1,15 @@
 // Laws of explanations.
-ghost use Rattle.explained_tasks.specs.Laws.{EachHasAParagraph, SaysWhatIsSo, SomebodyWaits};
+ghost use Rattle.explained_tasks.specs.Laws.{DeadlockIsReported, DeadlockStandsFirst, EachHasAParagraph, EachImpederIsTold, ExplanationExists, NothingIsSaidTwice, OneExplanation, SaysWhatIsSo, ShownAreDead, SomebodyWaits};
+
+/// The places of a text's plan have one explanation at most.
+pub fn one_explanation()
+    ensures { OneExplanation }
+{}
+
+/// The end of each maximal run of a text's plan has an explanation.
+pub fn explanation_exists()
+    ensures { ExplanationExists }
+{}
 
 /// Each task that is not done stands in a paragraph.
 pub fn each_has_a_paragraph()
@@ -11,7 +21,28 @@ pub fn says_what_is_so()
     ensures { SaysWhatIsSo }
 {}
 
+/// Nothing is said in two paragraphs.
+pub fn nothing_is_said_twice()
+    ensures { NothingIsSaidTwice }
+{}
+
+/// The impeders of a task are all named in its paragraph, each once, and nobody else is.
+pub fn each_impeder_is_told()
+    ensures { EachImpederIsTold }
+{}
+
+/// In the paragraph of a deadlocked task a group of deadlocked impeders stands first.
+pub fn deadlock_stands_first()
+    ensures { DeadlockStandsFirst }
+{}
+
 /// Somebody waits for ever just where a task waits.
 pub fn somebody_waits()
     ensures { SomebodyWaits }
+{}
+
+/// Where a task is dead, the verdict shows the cycle of the report: its tasks are dead, and each is impeded by the one behind it, the last by the first.
+pub fn deadlock_is_shown()
+    ensures reported { DeadlockIsReported }
+    ensures dead { ShownAreDead }
 {}

@@ -1,15 +1,18 @@
 // The walk along the nexts.
-ghost use Rattle.std.specs.Prelude.{◌≡◌, ◌<◌, ℕ, true, Contains, IfOk, Some, length, slice_get, slice_index_or};
+ghost use Rattle.task_sayings.specs.Facts.{is_deadlocked, is_waiting, situation_of, tasks_that};
+ghost use Rattle.explained_tasks.specs.Verdicts.{IsVerdict, IsVerdictFrom, start_of};
+ghost use Rattle.task_sayings.specs.Fitting.{FitsPlan};
+ghost use Rattle.explained_tasks.specs.inside.Fitting.{WaitForSome};
+ghost use Rattle.std.specs.Prelude.{◌≡◌, ◌<◌, ℕ, Contains, IfOk, Some, true, length, slice_get, slice_index_or};
 ghost use Rattle.armus_base.specs.declared.ids.TaskId.{TaskId};
 ghost use Rattle.explained_tasks.specs.inside.WalkEnds.{ClosesIn, EndsIn};
 ghost use Rattle.pl_core.specs.Worlds.{state_of};
 
-use crate::facts::Facts;
-use crate::following::{first_or, is_deadlocked, is_waiting};
 use crate::outcome::Verdict;
 use armus_base::{List, NoMemory, TaskId};
 use pl_core::World;
 use std::alloc::Global;
+use task_sayings::{Facts, first_or, is_deadlocked, is_waiting};
 
 // Where a task stands in a list that has it.
 fn place(path: &[TaskId], t: TaskId) -> usize
@@ -41,74 +44,68 @@ fn chain_of(path: &[TaskId], t: TaskId) -> Verdict
     Verdict::Chain(path[path.len() - 1], t)
 }
 
-impl<'a> Facts<'a> {
-    ghost use Rattle.explained_tasks.specs.Facts.{is_deadlocked, is_waiting, situation_of, tasks_that};
-    ghost use Rattle.explained_tasks.specs.Verdicts.{IsVerdict, IsVerdictFrom, start_of};
-    ghost use Rattle.explained_tasks.specs.Fitting.{FitsPlan, WaitForSome};
-
-    /// The least deadlocked task.
-    pub(crate) fn least_dead(&self) -> Option<TaskId>
-        ensures { result ≡ slice_get (tasks_that is_deadlocked self.now) 0 }
-    {
-        for t in 0..self.count() {
-            if is_deadlocked(self.situation(TaskId(t))) {
-                return Some(TaskId(t));
-            }
+/// The least deadlocked task.
+pub(crate) fn least_dead(facts: &Facts) -> Option<TaskId>
+    ensures { result ≡ slice_get (tasks_that is_deadlocked facts.now) 0 }
+{
+    for t in 0..facts.count() {
+        if is_deadlocked(facts.situation(TaskId(t))) {
+            return Some(TaskId(t));
         }
-        None
     }
+    None
+}
 
-    // The least task that waits.
-    fn least_waiting(&self) -> Option<TaskId>
-        ensures { result ≡ slice_get (tasks_that is_waiting self.now) 0 }
-    {
-        for t in 0..self.count() {
-            if is_waiting(self.situation(TaskId(t))) {
-                return Some(TaskId(t));
-            }
+// The least task that waits.
+fn least_waiting(facts: &Facts) -> Option<TaskId>
+    ensures { result ≡ slice_get (tasks_that is_waiting facts.now) 0 }
+{
+    for t in 0..facts.count() {
+        if is_waiting(facts.situation(TaskId(t))) {
+            return Some(TaskId(t));
         }
-        None
     }
+    None
+}
 
-    // The task with which the walk begins.
-    fn start(&self) -> Option<TaskId>
-        ensures { result ≡ start_of self.now }
-    {
-        first_or(self.least_dead(), self.least_waiting())
+// The task with which the walk begins.
+fn start(facts: &Facts) -> Option<TaskId>
+    ensures { result ≡ start_of facts.now }
+{
+    first_or(least_dead(facts), least_waiting(facts))
+}
+
+// What the walk from a task that waits shows.
+fn walk_from(facts: &Facts, world: &World, start: TaskId) -> Result<Verdict, NoMemory>
+    requires fits { FitsPlan facts.now world.now.plan }
+    requires wait { WaitForSome facts.now (state_of world.now).phases }
+    requires inside { start.0 < length world.now.plan.parents }
+    requires waits { is_waiting (situation_of facts.now start.0) ≡ true }
+    ensures { IfOk result (IsVerdictFrom facts.now (state_of world.now).phases (Some start)) }
+{
+    let mut seen = vec![in facts.alloc(); false; world.plan().tasks() as usize]?;
+    let mut path: Vec<TaskId> = Vec::new(facts.alloc());
+    let mut t = start;
+    'walk: while !seen[t.0 as usize] {
+        let next = match facts.next(world, t)? {
+            Some(next) => next,
+            None => return Ok(chain_of(&path, t)),
+        };
+        seen[t.0 as usize] = true;
+        path.push(t)?;
+        t = next;
     }
+    circle_of(facts.alloc(), &path, t)
+}
 
-    // What the walk from a task that waits shows.
-    fn walk_from(&self, world: &World, start: TaskId) -> Result<Verdict, NoMemory>
-        requires fits { FitsPlan self.now world.now.plan }
-        requires wait { WaitForSome self.now (state_of world.now).phases }
-        requires inside { start.0 < length world.now.plan.parents }
-        requires waits { is_waiting (situation_of self.now start.0) ≡ true }
-        ensures { IfOk result (IsVerdictFrom self.now (state_of world.now).phases (Some start)) }
-    {
-        let mut seen = vec![in self.alloc; false; world.plan().tasks() as usize]?;
-        let mut path: Vec<TaskId> = Vec::new(self.alloc);
-        let mut t = start;
-        'walk: while !seen[t.0 as usize] {
-            let next = match self.next(world, t)? {
-                Some(next) => next,
-                None => return Ok(chain_of(&path, t)),
-            };
-            seen[t.0 as usize] = true;
-            path.push(t)?;
-            t = next;
-        }
-        circle_of(self.alloc, &path, t)
-    }
-
-    /// The verdict.
-    pub(crate) fn verdict(&self, world: &World) -> Result<Verdict, NoMemory>
-        requires fits { FitsPlan self.now world.now.plan }
-        requires wait { WaitForSome self.now (state_of world.now).phases }
-        ensures { IfOk result (IsVerdict self.now (state_of world.now).phases) }
-    {
-        match self.start() {
-            Some(start) => self.walk_from(world, start),
-            None => Ok(Verdict::Nobody),
-        }
+/// The verdict.
+pub(crate) fn verdict_of(facts: &Facts, world: &World) -> Result<Verdict, NoMemory>
+    requires fits { FitsPlan facts.now world.now.plan }
+    requires wait { WaitForSome facts.now (state_of world.now).phases }
+    ensures { IfOk result (IsVerdict facts.now (state_of world.now).phases) }
+{
+    match start(facts) {
+        Some(start) => walk_from(facts, world, start),
+        None => Ok(Verdict::Nobody),
     }
 }

@@ -8,8 +8,8 @@ ghost use Rattle.pl_syntax.specs.Tree.{count};
 use crate::explanations::{is_quiet, run};
 use crate::row_texts::{are_bytes_of, bytes_of};
 use accounts::{
-    Account, TaskAccount, Waiting, account_of, forkers_fork, one_account, statements_have_places,
-    tasks_are_of_text,
+    Account, TaskAccount, Waiting, account_exists, account_of, forkers_fork, one_account,
+    statements_have_places, tasks_are_of_text,
 };
 use armus_base::{NoMemory, Plan};
 use pl_core::World;
@@ -172,6 +172,7 @@ fn accounts_of_texts(rt: HostRuntime) -> Result<(), Fail> {
 
 #[test]
 fn laws_of_accounts_are_called() {
+    account_exists();
     forkers_fork();
     one_account();
     statements_have_places();

@@ -2,6 +2,7 @@
 use Rattle.std.specs.Prelude.{◌≡◌, ℕ, ◌+◌, ◌<◌, ◌^◌, List, length, slice_index_or}
 use Rattle.armus_base.specs.Plans.{Plan}
 use Rattle.armus_base.specs.Runs.{Place}
+use Rattle.pl_syntax.specs.Grammar.{IsText}
 use Rattle.pl_syntax.specs.Tree.{count}
 use Rattle.pl_syntax.specs.declared.tree.Program.{Program}
 use Rattle.origins.specs.OriginTables.{AreOrigins}
@@ -15,6 +16,7 @@ layout_of f = record { text = f.places.now; offsets = f.offsets; ends = f.ends }
 
 -- what is kept is known of the program
 pub record IsKnown (f : TextFacts) : Type 0 where
+  pub reads : IsText f.places.now f.program.now
   pub layout : IsLayout f.program.now (layout_of f)
   pub origins : AreOrigins f.program.now f.origins
   pub few : count f.program.now.body + 1 < 2 ^ 32

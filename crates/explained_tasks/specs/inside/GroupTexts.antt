@@ -3,11 +3,11 @@ use Rattle.std.specs.Prelude.{ℕ, List, [], ◌∷◌, ◌++◌}
 use Rattle.std.proofs.Common.{Global, Vec}
 use Rattle.armus_base.specs.declared.ids.TaskId.{TaskId}
 use Rattle.armus_base.specs.States.{Phases}
-use Rattle.explained_tasks.specs.Facts.{FactsValue}
+use Rattle.task_sayings.specs.Facts.{FactsValue}
 use Rattle.explained_tasks.specs.Paragraphs.{lines_of_impeders, own_lines}
-use Rattle.explained_tasks.specs.Sayings.{Said}
-use Rattle.explained_tasks.specs.inside.SayingValues.{said_by}
-use Rattle.explained_tasks.specs.declared.saying.Saying.{Saying}
+use Rattle.task_sayings.specs.Sayings.{Said}
+use Rattle.task_sayings.specs.SayingValues.{said_by}
+use Rattle.task_sayings.specs.declared.saying.Saying.{Saying}
 
 -- what is written of each saying with its group
 abbrev pub texts_in : (Said → List TaskId → List ℕ) → List Saying → List (Vec TaskId Global) → List ℕ

@@ -12,6 +12,7 @@ returns c =
     let scene = c.args.scene.now in
     record {
       lines = record {
+        reads = c.requires.reads;
         scene = scene;
         is_scene = c.requires.scene;
         offsets = st.offsets;

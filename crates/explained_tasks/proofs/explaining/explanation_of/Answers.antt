@@ -1,34 +1,65 @@
-use Rattle.std.proofs.Common.{◌<◌, ◌^◌, ℕ, List, subst, length, arith}
+use Rattle.std.proofs.Common.{◌<◌, ◌^◌, ℕ, List, subst, sym, length, arith}
 use Rattle.std.specs.Prelude.{option_copied}
 use Rattle.std.proofs.lemmas.Result.{IfOk-weaker}
-use Rattle.pl_core.specs.Worlds.{state_of}
+use Rattle.armus_base.specs.declared.ending.Final.{Final}
+use Rattle.armus_base.specs.Deadlocks.{IsDeadBy}
+use Rattle.armus_base.specs.Finals.{is_awaited}
+use Rattle.armus_base.specs.Statuses.{IsInOrder}
+use Rattle.armus_base.proofs.StatusesAre.{statuses_are}
+use Rattle.pl_core.specs.Worlds.{places_of, state_of}
+use Rattle.report.specs.Standings.{AreStandings}
 use Rattle.explained_tasks.specs.declared.explaining.Explanation.{Explanation}
-use Rattle.explained_tasks.specs.Explanations.{Explains, IsExplanation, facts_of}
+use Rattle.explained_tasks.specs.Explanations.{Explains, IsExplanationAt}
+use Rattle.task_sayings.specs.Facts.{facts_of}
+use Rattle.explained_tasks.specs.RunEnds.{AreFactsAt}
+use Rattle.explained_tasks.proofs.FitsEnds.{fits_plan, waits_for_some}
 use Rattle.explained_tasks.proofs.explaining.explanation_of.Goals as goal
 
+pub outline_of-requires : goal.outline_of-requires
+outline_of-requires c =
+    let plan = c.args.world.now.plan in
+    let s = state_of c.args.world.now in
+    subst (λ (end : Final). IsInOrder end.blocked) (sym c.requires.end) (statuses_are plan s (is_awaited plan s) c.plan-plan.ensures.checked).in_order
+
 pub explain_outline-requires : goal.explain_outline-requires
+unfolding state_of
 explain_outline-requires c =
+    let plan = c.args.world.now.plan in
+    let a = places_of c.args.world.now in
     let o = c.in_ok-outline.outline in
-    let stand = c.in_ok-outline.ensures.stand in
-    let fits = c.requires.fits.tasks o.standings stand in
+    let f = facts_of c.args.places.now (option_copied c.args.file) c.args.account.now o.standings in
+    let at : AreFactsAt plan a f =
+    record {
+      account = c.requires.account;
+      reachable = c.plan-plan.ensures.reachable;
+      stand = subst (λ (end : Final). AreStandings (IsDeadBy end.blocked) end.ends o.standings) c.requires.end c.in_ok-outline.ensures.stand;
+    } in
+    let fits = fits_plan plan a f at in
     let sized = fits.sized in
-    let few = c.requires.few in
+    let few = c.plan-plan.ensures.checked.limits.few_tasks in
     let small : length o.standings < 2 ^ 32 = omega arith in
-    record { few = small; fits = fits; wait = c.requires.fits.waits o.standings stand }
+    record { few = small; fits = fits; wait = waits_for_some plan a f at c.requires.rest }
 
 pub returns : goal.returns
+unfolding state_of
 returns c =
-    let phases = (state_of c.args.world.now).phases in
-    let end = c.args.end.now in
+    let plan = c.args.world.now.plan in
+    let s = state_of c.args.world.now in
+    let text = c.args.places.now in
+    let file = option_copied c.args.file in
+    let account = c.args.account.now in
     let o = c.in_ok-outline.outline in
     IfOk-weaker c.explain_outline.result
-    (λ (e : Explanation). Explains (facts_of c.args.places.now (option_copied c.args.file) c.args.account.now o.standings) phases o.counts e.lines e.has_waiting)
-    (λ (e : Explanation). IsExplanation c.args.places.now (option_copied c.args.file) c.args.account.now end phases e.lines e.has_waiting)
+    (λ (e : Explanation). Explains (facts_of text file account o.standings) s.phases o.counts e.lines e.has_waiting)
+    (λ (e : Explanation). IsExplanationAt file text plan (places_of c.args.world.now) e.lines e.has_waiting)
     (λ e is. record {
-      standings = o.standings;
-      stand = c.in_ok-outline.ensures.stand;
-      explains =
-          subst (λ (t : List ℕ). Explains (facts_of c.args.places.now (option_copied c.args.file) c.args.account.now o.standings) phases t e.lines e.has_waiting)
-          c.in_ok-outline.ensures.counts is;
+      account = account;
+      is_account = c.requires.account;
+      explains = record {
+        standings = o.standings;
+        stand = subst (λ (end : Final). AreStandings (IsDeadBy end.blocked) end.ends o.standings) c.requires.end c.in_ok-outline.ensures.stand;
+        explains =
+            subst (λ (t : List ℕ). Explains (facts_of text file account o.standings) s.phases t e.lines e.has_waiting) c.in_ok-outline.ensures.counts is;
+      };
     })
     c.explain_outline.ensures

@@ -1,5 +1,5 @@
 use Rattle.std.proofs.Common.{◌∙◌}
-use Rattle.explained_tasks.proofs.Bridges.{same_saying}
+use Rattle.task_sayings.proofs.Bridges.{same_saying}
 use Rattle.explained_tasks.proofs.impeder_lines.is_same.Goals as goal
 
 pub returns : goal.returns

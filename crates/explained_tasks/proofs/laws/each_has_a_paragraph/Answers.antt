@@ -2,10 +2,10 @@ use Rattle.std.proofs.Common.{map, ◌++◌}
 use Rattle.std.proofs.lemmas.List.Elements.{Contains-append_right}
 use Rattle.armus_base.specs.declared.ids.TaskId.{TaskId}
 use Rattle.explained_tasks.specs.Paragraphs.{explained_tasks, shown_waiting}
-use Rattle.explained_tasks.specs.Sayings.{own_said, same_said}
-use Rattle.explained_tasks.proofs.EachOnce.{once_has}
-use Rattle.explained_tasks.proofs.Filters.{has_map, passed_from}
-use Rattle.explained_tasks.proofs.SameSaid.{same_said_is, same_said_itself}
+use Rattle.task_sayings.specs.Sayings.{own_said, same_said}
+use Rattle.task_sayings.proofs.EachOnce.{once_has}
+use Rattle.task_sayings.proofs.Filters.{has_map, passed_from}
+use Rattle.task_sayings.proofs.SameSaid.{same_said_is, same_said_itself}
 use Rattle.explained_tasks.proofs.laws.each_has_a_paragraph.Goals as goal
 
 pub returns : goal.returns

@@ -1,8 +1,8 @@
 use Rattle.armus_base.specs.declared.ids.TaskId.{TaskId}
 use Rattle.explained_tasks.specs.Paragraphs.{explained_tasks}
-use Rattle.explained_tasks.specs.Sayings.{own_said, same_said}
-use Rattle.explained_tasks.proofs.Filters.{passed_is}
-use Rattle.explained_tasks.proofs.SameSaid.{same_said_is}
+use Rattle.task_sayings.specs.Sayings.{own_said, same_said}
+use Rattle.task_sayings.proofs.Filters.{passed_is}
+use Rattle.task_sayings.proofs.SameSaid.{same_said_is}
 use Rattle.explained_tasks.proofs.laws.says_what_is_so.Goals as goal
 
 pub returns : goal.returns

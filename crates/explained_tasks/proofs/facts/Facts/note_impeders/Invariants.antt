@@ -1,9 +1,0 @@
-use Rattle.std.proofs.Common.{[], map, take}
-use Rattle.explained_tasks.specs.inside.Grouped.{AddsTold, IsSized, impeder_told, said_in}
-use Rattle.explained_tasks.proofs.facts.Facts.note_impeders.Given as goal
-
-abbrev pub invariant-loop-impeder : goal.invariant-loop-impeder
-invariant-loop-impeder l = record {
-  noted : AddsTold (said_in (map (impeder_told l.self) (take l.impeder-index l.impeders))) [] l.initial.groups l.groups;
-  sized : IsSized l.initial.groups → IsSized l.groups;
-}

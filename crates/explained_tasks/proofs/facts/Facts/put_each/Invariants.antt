@@ -1,9 +1,0 @@
-use Rattle.std.proofs.Common.{map, take}
-use Rattle.explained_tasks.specs.inside.Grouped.{AddsTold, IsSized, own_told, said_in}
-use Rattle.explained_tasks.proofs.facts.Facts.put_each.Given as goal
-
-abbrev pub invariant-loop-t : goal.invariant-loop-t
-invariant-loop-t l = record {
-  put : AddsTold (said_in (map (own_told l.self) (take l.t-index l.tasks))) (map (own_told l.self) (take l.t-index l.tasks)) l.initial.groups l.groups;
-  sized : IsSized l.groups;
-}

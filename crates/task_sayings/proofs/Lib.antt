@@ -1,0 +1,7 @@
+pub mod Texts
+pub mod Filters
+pub mod EachOnce
+pub mod SameSaid
+pub mod GroupedTasks
+pub mod Noted
+pub mod Bridges

@@ -1,0 +1,21 @@
+//! What is said of the tasks of a text where its run has ended: how each stands, who impedes it, who is its next, and in which words.
+#![tactic(auto)]
+
+mod facts;
+mod following;
+mod grouping;
+mod impeders;
+mod saying;
+mod sayings;
+mod situation;
+mod task_lists;
+mod words;
+
+pub use facts::Facts;
+pub use following::{first_or, is_deadlocked, is_unforked, is_waiting};
+pub use grouping::Grouping;
+pub use impeders::Impeder;
+pub use saying::{ForkingWords, Saying};
+pub use situation::Situation;
+pub use task_lists::{Run, put_list};
+pub use words::{put_by_number, put_kept, put_number, put_words};
