@@ -10,7 +10,7 @@ ghost use Rattle.task_runner.specs.inside.Turns.{NobodyRefused};
 
 use crate::Ran;
 use crate::world_round::round;
-use armus_base::{Final, Gate, NoMemory, Plan};
+use armus_base::{Final, Gate, NoMemory, Plan, Still};
 use pl_core::{Place, World};
 use std::alloc::Global;
 
@@ -61,6 +61,15 @@ pub fn end_world<'p, G: Gate>(
 {
     let world = World::at(alloc, plan, ran.places.as_slice())?;
     world_end(alloc, world, plan, gate)
+}
+
+/// Runs the plan in one thread, without a board, and answers the world in which the run ends: in rounds each task goes on until it is done or waits, in order
+/// of number.
+pub fn run_to_world<'p>(alloc: Global, plan: &'p Plan) -> Result<WorldEnd<'p>, NoMemory>
+    ensures end { IfOk result (IsWorldEnd plan.now) }
+{
+    let world = World::start(alloc, plan)?;
+    world_end(alloc, world, plan, &Still)
 }
 
 // The world in which the run ends that has come to this world, in which nobody is refused: turns go on by rounds in order of number until no task may go
