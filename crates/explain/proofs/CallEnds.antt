@@ -1,65 +1,108 @@
--- From what is left of a text, or without one, to all that is said of a call.
-use Rattle.std.proofs.Common.{◌≡◌, ◌⊎◌, ℕ, Bool, true, false, arith, inl, inr, refl, subst}
-use Rattle.std.specs.Prelude.{None, Some}
+-- From what is there before anything is written to all that is said of a call.
+use Rattle.std.proofs.Common.{◌≡◌, ◌∙◌, ◌≤◌, ◌⊎◌, ℕ, Bool, true, false, Option, arith, inl, inr, refl, subst}
+use Rattle.std.specs.Prelude.{None, Some, if◌then◌else◌}
+use Rattle.std.proofs.KnownBytes.{Keeps-refl}
 use Rattle.armus_words.specs.Words.{Text}
-use Rattle.armus_top.specs.Headline.{HasInput, IsSound, Passage}
+use Rattle.armus_top.specs.Headline.{EndsWith, HasCountedFault, IsSound, Passage, ReadNoMore, no_memory, read_fault}
 use Rattle.armus_top.specs.declared.programs.TheConstants.{MAX_TEXT_BYTES}
-use Rattle.armus_top.specs.inside.Reading.{EndsUnread}
 use Rattle.armus_top.specs.inside.Writing.{Finished}
 use Rattle.armus_top.proofs.WaysToEnd.{ends_finished}
-use Rattle.explain.specs.Outputs.{IsExplainCall, MayWrite, explain_usage}
-use Rattle.explain.specs.inside.Ending.{FinishesText}
-use Rattle.explain.proofs.Completing.{completes}
-use Rattle.explain.proofs.TextEnds.{ends_of_text, ends_without_text, unwritten_of_text, unwritten_without_text}
+use Rattle.armus_top.specs.inside.Status.{number_of_status}
+use Rattle.explain.specs.declared.answer.Answer.{Answer}
+use Rattle.explain.specs.Outputs.{IsExplainCall, MayWrite, text_limit}
+use Rattle.explain.specs.Requests.{Asked, explanation, help, nothing, version}
+use Rattle.explain.specs.inside.Ending.{AnswersSource}
+use Rattle.explain.proofs.Fixing.{completes}
 
-two_or_five : (out : Passage) (shown : Text) (number : ℕ) → Finished out shown 2 number → (number ≡ 2) ⊎ (number ≡ 5)
-two_or_five out shown number (inl (two, took, sound)) = inl two
-two_or_five out shown number (inr (five, failed, front)) = inr five
+-- a status by a flag is small
+small : (b : Bool) → (if b then 1 else 0) ≤ 1
+small true = omega arith
+small false = omega arith
 
-neither : (number : ℕ) → (number ≡ 2) ⊎ (number ≡ 5) → (number ≡ 4) ⊎ (number ≡ 6) → ⊥
-neither number (inl two) (inl four) = omega (arith, two, four)
-neither number (inl two) (inr six) = omega (arith, two, six)
-neither number (inr five) (inl four) = omega (arith, five, four)
-neither number (inr five) (inr six) = omega (arith, five, six)
+-- a whole output has a status of 3 at most
+at_most_three : (asked : Asked) (src : Passage) (status : ℕ) (lines : Text) → MayWrite asked src status lines → status ≤ 3
+at_most_three (explanation file) src status lines (inl (text, has, inl is)) = (let few = small is.waits in omega (arith, is.status_is, few))
+at_most_three (explanation file) src status lines (inl (text, has, inr (three, refused))) = omega (arith, three)
+at_most_three (explanation file) src status lines (inr (much, three, line)) = omega (arith, three)
+at_most_three help src status lines is = (let zero = is.0 in omega (arith, zero))
+at_most_three version src status lines is = (let zero = is.0 in omega (arith, zero))
+at_most_three nothing src status lines is = (let two = is.0 in omega (arith, two))
+
+-- the number after an output was to be written is its status, or 5
+status_or_five : (out : Passage) (lines : Text) (status number : ℕ) → Finished out lines status number → (number ≡ status) ⊎ (number ≡ 5)
+status_or_five out lines status number (inl (same, took, sound)) = inl same
+status_or_five out lines status number (inr (five, failed, front)) = inr five
+
+not_other : (status number other : ℕ) → (number ≡ status) ⊎ (number ≡ 5) → status ≤ 3 → (other ≡ 4) ⊎ (other ≡ 6) → number ≡ other → ⊥
+not_other status number other (inl same) few (inl four) is = omega (arith, same, few, four, is)
+not_other status number other (inl same) few (inr six) is = omega (arith, same, few, six, is)
+not_other status number other (inr five) few (inl four) is = omega (arith, five, four, is)
+not_other status number other (inr five) few (inr six) is = omega (arith, five, six, is)
 
 module _ (src out : Passage) (same_source same_sink : Type 0) where
-  pub call_with_words : (words : Bool) (shown : Text) (number : ℕ) → words ≡ true → same_source → IsSound src → shown ≡ explain_usage
-      → Finished out shown 2 number → IsExplainCall words src out same_source same_sink number
-  call_with_words false shown number some same still shown_is done = absurd (cc)
-  call_with_words true shown number some same still shown_is done =
-      let ends = ends_finished (MayWrite true src) None false src out shown 2 number done (refl, shown_is) still in
-      let either = two_or_five out shown number done in
+  -- an output that may be written was to be written
+  pub call_finished : (asked : Asked) (lines : Text) (status number : ℕ) → MayWrite asked src status lines → IsSound src
+      → (text_limit asked ≡ None → same_source × ((status ≡ 0) ⊎ (status ≡ 2))) → Finished out lines status number
+      → IsExplainCall asked src out same_source same_sink number
+  call_finished asked lines status number may still unread done =
+      let ends = ends_finished (MayWrite asked src) (text_limit asked) false src out lines status number done may still in
+      let either = status_or_five out lines status number done in
+      let few = at_most_three asked src status lines may in
       record {
         ends = ends;
-        unread = λ _. (same, either);
-        silent = λ four. absurd (neither number either (inl four));
-        unwritten = λ six. absurd (neither number either (inr six));
-        complete = completes true src out number ends;
+        unread = λ none. let (same, is) = unread none in (same, by_status either is);
+        silent = λ four. absurd (not_other status number 4 either few (inl refl) four);
+        unwritten = λ six. absurd (not_other status number 6 either few (inr refl) six);
+        complete = completes asked src out number ends;
       }
+    where
+      by_status : (number ≡ status) ⊎ (number ≡ 5) → (status ≡ 0) ⊎ (status ≡ 2) → (number ≡ 0) ⊎ (number ≡ 2) ⊎ (number ≡ 5)
+      by_status (inl same) (inl zero) = inl (same ∙ zero)
+      by_status (inl same) (inr two) = inr (inl (same ∙ two))
+      by_status (inr five) is = inr (inr five)
 
-  pub call_with_text : (words : Bool) (text shown : Text) (number : ℕ) → words ≡ false → (number ≡ 4 → same_sink) → shown ≡ text
-      → HasInput (Some MAX_TEXT_BYTES) src text → IsSound src → FinishesText shown out number → IsExplainCall words src out same_source same_sink number
-  call_with_text true text shown number none silent same has still left = absurd (cc)
-  call_with_text false text shown number none silent same has still left =
-      let own : FinishesText text out number = subst (λ (t : Text). FinishesText t out number) same left in
-      let ends = ends_of_text text src out number has still own in
-      record {
-        ends = ends;
-        unread = λ some. absurd (cc);
-        silent = silent;
-        unwritten = unwritten_of_text text out number own;
-        complete = completes false src out number ends;
-      }
+  -- an output that takes no text was to be written
+  pub call_told : (own asked : Asked) (lines : Text) (status number : ℕ) → own ≡ asked → MayWrite own src status lines → IsSound src
+      → (status ≡ 0) ⊎ (status ≡ 2) → same_source → Finished out lines status number → IsExplainCall asked src out same_source same_sink number
+  call_told own asked lines status number same may still is source done =
+      subst (λ (a : Asked). IsExplainCall a src out same_source same_sink number) same (call_finished own lines status number may still (λ _. (source, is)) done)
 
-  pub call_without_text : (words : Bool) (number : ℕ) → words ≡ false → (number ≡ 4 → same_sink) → EndsUnread MAX_TEXT_BYTES src out number
-      → IsExplainCall words src out same_source same_sink number
-  call_without_text true number none silent unread = absurd (cc)
-  call_without_text false number none silent unread =
-      let ends = ends_without_text src out number unread in
-      record {
-        ends = ends;
-        unread = λ some. absurd (cc);
-        silent = silent;
-        unwritten = unwritten_without_text src out number unread;
-        complete = completes false src out number ends;
-      }
+  -- an output for what the source gave was to be written
+  pub call_answered : (file read : Option Text) (answer : Answer) (lines : Text) (number : ℕ) → read ≡ file → AnswersSource read src answer
+      → lines ≡ answer.lines → Finished out lines (number_of_status answer.status) number → IsExplainCall (explanation file) src out same_source same_sink number
+  call_answered file read answer lines number same (may, still) lines_are done =
+      let status = number_of_status answer.status in
+      let own : MayWrite (explanation file) src status answer.lines = subst (λ (f : Option Text). MayWrite (explanation f) src status answer.lines) same may in
+      let wrote : Finished out answer.lines status number = subst (λ (t : Text). Finished out t status number) lines_are done in
+      call_finished (explanation file) answer.lines status number own still (λ none. absurd (cc)) wrote
+
+-- nothing was written, where the source failed
+pub call_failed : (src : Passage) (bytes : Option Text) (faults : ℕ) (same_source same_sink : Type 0) (file : Option Text) (number : ℕ) → number ≡ 4 → same_sink
+    → HasCountedFault src → ReadNoMore (Some MAX_TEXT_BYTES) src
+    → IsExplainCall (explanation file) src (record { before = bytes; after = bytes; faults_before = faults; faults_after = faults }) same_source same_sink number
+call_failed src bytes faults same_source same_sink file number four same failed read =
+    let out : Passage = record { before = bytes; after = bytes; faults_before = faults; faults_after = faults } in
+    let ends : EndsWith (MayWrite (explanation file) src) (Some MAX_TEXT_BYTES) false src out number = read_fault four refl failed read refl (Keeps-refl bytes) in
+    record {
+      ends = ends;
+      unread = λ none. absurd (cc);
+      silent = λ _. same;
+      unwritten = λ six. absurd (omega (arith, four, six));
+      complete = completes (explanation file) src out number ends;
+    }
+
+-- nor where memory was wanting
+pub call_wanting : (src : Passage) (bytes : Option Text) (faults : ℕ) (same_source same_sink : Type 0) (file : Option Text) (number : ℕ) → number ≡ 6 → IsSound src
+    → ReadNoMore (Some MAX_TEXT_BYTES) src
+    → IsExplainCall (explanation file) src (record { before = bytes; after = bytes; faults_before = faults; faults_after = faults }) same_source same_sink number
+call_wanting src bytes faults same_source same_sink file number six still read =
+    let out : Passage = record { before = bytes; after = bytes; faults_before = faults; faults_after = faults } in
+    let ends : EndsWith (MayWrite (explanation file) src) (Some MAX_TEXT_BYTES) false src out number =
+    no_memory six still read refl (inl (Keeps-refl bytes)) in
+    record {
+      ends = ends;
+      unread = λ none. absurd (cc);
+      silent = λ four. absurd (omega (arith, four, six));
+      unwritten = λ _. Keeps-refl bytes;
+      complete = completes (explanation file) src out number ends;
+    }

@@ -1,6 +1,6 @@
 pub mod EndExplained
-pub mod TextEnds
-pub mod Completing
+pub mod Waiting
+pub mod Fixing
 pub mod CallEnds
 pub mod OneOutput
 pub mod EachText

@@ -1,20 +1,44 @@
--- What is written where the run of a text is explained.
-use Rattle.std.specs.Prelude.{ℕ, List}
+-- What is written where a text is explained.
+use Rattle.std.specs.Prelude.{◌≡◌, ℕ, Bool, if◌then◌else◌, List, Option, Some}
+use Rattle.armus_base.specs.declared.event.Event.{Event}
 use Rattle.armus_base.specs.Plans.{Plan}
 use Rattle.armus_base.specs.Runs.{IsMaximal, IsPlainRun, places, state_after}
-use Rattle.armus_base.specs.States.{Step}
-use Rattle.pl_syntax.specs.declared.tree.Program.{Program}
-use Rattle.explanation.specs.Explanations.{IsExplanation}
+use Rattle.armus_base.specs.States.{State, Step}
+use Rattle.explained_tasks.specs.Explanations.{IsExplanationAt}
 use Rattle.armus_words.specs.Words.{Text}
-use Rattle.armus_top.specs.Programs.{IsChecked, TellsDead}
+use Rattle.armus_top.specs.Programs.{IsPlanOf}
 
--- the lines explain how the tasks of the text's plan stand at the end of a maximal plain run, and the status tells whether one is dead there
-pub record IsExplanationOf (text : Text) (status : ℕ) (lines : Text) : Type 0 where
-  pub program : Program
-  pub plan : Plan
-  pub checked : IsChecked text program plan
-  pub steps : List Step
+-- these steps are a run of the text's plan up to its end: a plain one that is maximal
+pub record IsRunOf (text : Text) (plan : Plan) (steps : List Step) : Type 0 where
+  pub plan_is : IsPlanOf text plan
   pub run : IsPlainRun plan steps
   pub maximal : IsMaximal plan steps
-  pub explains : IsExplanation text program plan (places steps) lines
-  pub status_is : TellsDead (state_after steps) status
+
+-- the lines explain how the tasks stand where a run of the text, of the file with this name or of none, has ended; and the status is 1 where by them somebody
+-- waits for ever, else 0
+pub record IsExplanationOf (file : Option Text) (text : Text) (status : ℕ) (lines : Text) : Type 0 where
+  pub plan : Plan
+  pub steps : List Step
+  pub ended : IsRunOf text plan steps
+  pub waits : Bool
+  pub explains : IsExplanationAt file text plan (places steps) lines waits
+  pub status_is : status ≡ (if waits then 1 else 0)
+
+-- task t waits in the state
+abbrev pub WaitsIn : State → ℕ → Type 0
+WaitsIn state t = (e : Event) × (state.published t ≡ Some e)
+
+-- the text is not refused, and this holds of its final state, in which a run of it ends
+pub record EndsSo (text : Text) (Holds : State → Type 0) : Type 0 where
+  pub plan : Plan
+  pub steps : List Step
+  pub ended : IsRunOf text plan steps
+  pub holds : Holds (state_after steps)
+
+-- a task of its final state waits
+abbrev pub SomebodyWaits : Text → Type 0
+SomebodyWaits text = EndsSo text (λ state. (t : ℕ) × WaitsIn state t)
+
+-- no task of its final state waits
+abbrev pub NobodyWaits : Text → Type 0
+NobodyWaits text = EndsSo text (λ state. (t : ℕ) → WaitsIn state t → ⊥)

@@ -1,6 +1,7 @@
 -- What a reader of the repository has to believe.
-pub mod Refused
+pub mod Requests
 pub mod Explained
+pub mod Refused
 pub mod Outputs
 -- What is proved of it.
 pub mod Laws

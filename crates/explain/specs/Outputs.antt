@@ -1,52 +1,52 @@
--- What a call of the program that explains runs leaves.
-use Rattle.std.specs.Prelude.{◌≡◌, ◌≤◌, ◌⊎◌, ℕ, Bool, true, false, Some, List, [], ◌∷◌, codes, Option, None}
+-- What a call of the program that explains texts leaves.
+use Rattle.std.specs.Prelude.{◌≡◌, ◌⊎◌, ◌↔◌, ℕ, false, Some, Option, None}
 use Rattle.std.specs.Io.KnownBytes.{Keeps}
-use Rattle.pl_syntax.specs.Printed.{line}
-use Rattle.report.specs.Refusals.{refusal_text}
-use Rattle.report.specs.declared.refusal.Refusal.TheVariants.{Length}
+use Rattle.refusals.specs.LengthRefusals.{length_refusal}
 use Rattle.armus_words.specs.Words.{Text}
 use Rattle.armus_top.specs.Headline.{EndsWith, GaveTooMuch, HasInput, IsCalm, Offers, OffersTooMuch, Passage}
 use Rattle.armus_top.specs.declared.programs.TheConstants.{MAX_TEXT_BYTES}
-use Rattle.explain.specs.Explained.{IsExplanationOf}
-use Rattle.explain.specs.Refused.{IsRefusedWith}
+use Rattle.explain.specs.Explained.{IsExplanationOf, NobodyWaits, SomebodyWaits}
+use Rattle.explain.specs.Refused.{HasSomeFault, IsRefusedWith}
+use Rattle.explain.specs.Requests.{Asked, explanation, help, help_lines, nothing, usage_line, version, version_line}
 
--- there are words
-abbrev pub has_words : {A : Type 0} → List A → Bool
-has_words [] = false
-has_words (word ∷ more) = true
+-- a whole output for this text, of the file with this name or of none, with its status: 0 or 1 with its explanation, or 3 with the lines of a refusal
+abbrev pub AnswersText : Option Text → Text → ℕ → Text → Type 0
+AnswersText file text status lines = IsExplanationOf file text status lines ⊎ ((status ≡ 3) × IsRefusedWith file text lines)
 
--- what is written where there are words
-abbrev pub explain_usage : Text
-explain_usage = line (codes "usage: armus_explain")
-
--- a whole output for this text, with its status: 0 or 1 with its explanation, or 3 with the lines of a refusal
-abbrev pub AnswersText : Text → ℕ → Text → Type 0
-AnswersText text status lines = IsExplanationOf text status lines ⊎ ((status ≡ 3) × IsRefusedWith text lines)
-
--- What may be written, with which status. Where there are words: 2 with the usage line. Where there are none, and the source has given a text: its output.
--- Where the source gives more than a text may have: 3 with one line.
-abbrev pub MayWrite : Bool → Passage → ℕ → Text → Type 0
-MayWrite true src status lines = (status ≡ 2) × (lines ≡ explain_usage)
-MayWrite false src status lines = ((text : Text) × HasInput (Some MAX_TEXT_BYTES) src text × AnswersText text status lines)
-    ⊎ (GaveTooMuch (Some MAX_TEXT_BYTES) src × (status ≡ 3) × (lines ≡ refusal_text Length))
+-- What may be written, with which status, where this is asked for. For an explanation: the output of the text that the source has given, or, where it gives
+-- more than a text may have, 3 with one line. The lines of help and of the version with 0, and the line of usage with 2.
+abbrev pub MayWrite : Asked → Passage → ℕ → Text → Type 0
+MayWrite (explanation file) src status lines =
+    ((text : Text) × HasInput (Some MAX_TEXT_BYTES) src text × AnswersText file text status lines)
+    ⊎ (GaveTooMuch (Some MAX_TEXT_BYTES) src × (status ≡ 3) × (lines ≡ length_refusal file))
+MayWrite help src status lines = (status ≡ 0) × (lines ≡ help_lines)
+MayWrite version src status lines = (status ≡ 0) × (lines ≡ version_line)
+MayWrite nothing src status lines = (status ≡ 2) × (lines ≡ usage_line)
 
 -- the most bytes of a text, where one is read
-abbrev pub text_limit : Bool → Option ℕ
-text_limit true = None
-text_limit false = Some MAX_TEXT_BYTES
+abbrev pub text_limit : Asked → Option ℕ
+text_limit (explanation file) = Some MAX_TEXT_BYTES
+text_limit asked = None
 
--- 2 where there are words, 0 or 1 for an accepted text, and 3 for a refused or a too long one
-pub record FixesStatus (words : Bool) (src : Passage) (number : ℕ) : Type 0 where
-  pub usage : words ≡ true → number ≡ 2
-  pub accepted : (text : Text) → words ≡ false → Offers (Some MAX_TEXT_BYTES) src text → ((lines : Text) → IsRefusedWith text lines → ⊥) → number ≤ 1
-  pub refused : (text lines : Text) → words ≡ false → Offers (Some MAX_TEXT_BYTES) src text → IsRefusedWith text lines → number ≡ 3
-  pub long : words ≡ false → OffersTooMuch (Some MAX_TEXT_BYTES) src → number ≡ 3
+-- the status of a text that is not too long: 3 exactly where it is refused, 1 exactly where a task of its final state waits, and 0 exactly where none does
+pub record IsStatusOf (text : Text) (number : ℕ) : Type 0 where
+  pub refused : (number ≡ 3) ↔ HasSomeFault text
+  pub somebody : (number ≡ 1) ↔ SomebodyWaits text
+  pub nobody : (number ≡ 0) ↔ NobodyWaits text
 
--- all that is said of a call: how it ends; that with words the source stays as it was and memory suffices; that the sink stays as it was after a fault of the
--- source, and takes nothing where memory is wanting; and its status, where nothing failed
-pub record IsExplainCall (words : Bool) (src out : Passage) (same_source same_sink : Type 0) (number : ℕ) : Type 0 where
-  pub ends : EndsWith (MayWrite words src) (text_limit words) false src out number
-  pub unread : words ≡ true → same_source × ((number ≡ 2) ⊎ (number ≡ 5))
+-- where this is asked for, and the source tells its bytes, these fix the status
+abbrev pub FixesStatus : Asked → Passage → ℕ → Type 0
+FixesStatus (explanation file) src number =
+    ((text : Text) → Offers (Some MAX_TEXT_BYTES) src text → IsStatusOf text number) × (OffersTooMuch (Some MAX_TEXT_BYTES) src → number ≡ 3)
+FixesStatus help src number = number ≡ 0
+FixesStatus version src number = number ≡ 0
+FixesStatus nothing src number = number ≡ 2
+
+-- All that is said of a call: how it ends; that the source stays as it was where nothing is to be read, and then memory suffices and no source fails; that
+-- the sink stays as it was after a fault of the source, and takes nothing where memory is wanting; and its status, where nothing failed.
+pub record IsExplainCall (asked : Asked) (src out : Passage) (same_source same_sink : Type 0) (number : ℕ) : Type 0 where
+  pub ends : EndsWith (MayWrite asked src) (text_limit asked) false src out number
+  pub unread : text_limit asked ≡ None → same_source × ((number ≡ 0) ⊎ (number ≡ 2) ⊎ (number ≡ 5))
   pub silent : number ≡ 4 → same_sink
   pub unwritten : number ≡ 6 → Keeps out.before out.after
-  pub complete : IsCalm src out number → FixesStatus words src number
+  pub complete : IsCalm src out number → FixesStatus asked src number

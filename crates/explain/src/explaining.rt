@@ -1,134 +1,53 @@
-// The explanation of a text, or why it is refused.
-ghost use Rattle.std.specs.Prelude.{◌≡◌, ◌≢◌, ◌≤◌, Ok, IfOk, false, length};
+// The explanation of a text that is not refused.
+ghost use Rattle.std.specs.Prelude.{◌≡◌, ◌≤◌, Ok, IfOk, length};
 ghost use Rattle.pl_plan.specs.Forks.{fork_statements};
 ghost use Rattle.pl_plan.specs.Unfolding.{plan_of};
 ghost use Rattle.pl_syntax.specs.Grammar.{IsText};
 ghost use Rattle.pl_syntax.specs.Tree.{count};
-ghost use Rattle.armus_top.specs.Headline.{passage};
 ghost use Rattle.armus_top.specs.declared.programs.TheConstants.{MAX_TEXT_BYTES};
 ghost use Rattle.armus_top.specs.inside.Status.{number_of_status};
-ghost use Rattle.explain.specs.inside.Ending.{FinishesText, IsEndExplanation};
+ghost use Rattle.explain.specs.Explained.{IsExplanationOf};
+ghost use Rattle.explain.specs.inside.Requested.{named};
 
-use crate::refusing::{refuse_check, refuse_syntax};
-use adaptive::Wanted;
-use armus_base::{Gate, NoMemory, Sink};
-use armus_top::{ExitStatus, finish, status_of};
-use explanation::{Explanation, explanation_of};
-use pl_plan::{PlanEnd, Unfolded, unfold};
-use pl_syntax::{ParseEnd, Program, parse};
+use crate::answer::Answer;
+use accounts::account_of;
+use armus_base::NoMemory;
+use armus_top::status_of;
+use explained_tasks::explanation_of;
+use pl_plan::Unfolded;
+use pl_syntax::Program;
 use std::alloc::Global;
-use std::thread::Threads;
-use task_runner::{RunEnd, RunOptions, end_world, run_detect};
+use task_runner::run_to_world;
+use text_places::TextPlaces;
 
-/// How many workers make the run that is explained, as those of `run` where no words say how many.
-const WORKERS: u8 = 4;
-
-// How the run is made.
-fn options() -> RunOptions
-    ensures workers { result.workers ≡ 4 }
-    ensures live { result.live ≡ false }
-{
-    RunOptions {
-        workers: WORKERS,
-        wanted: Wanted::Auto,
-        live: false,
-    }
-}
-
-// Runs the plan of the text's program, and explains its end; nothing is written.
-fn explanation_in<R: Threads + Sync, K: Sink, G: Gate>(
-    rt: &R,
+/// The explanation of the text with these places and this program, which unfolds to this plan.
+pub(crate) fn explain_unfolded(
     alloc: Global,
-    text: &[u8],
+    places: &TextPlaces,
+    file: Option<&[u8]>,
     program: &Program,
     unfolded: Unfolded,
-    out: &mut K,
-    gate: &G,
-) -> Result<Explanation, NoMemory>
-    requires short { length text.now ≤ MAX_TEXT_BYTES }
-    requires few { count program.now.body ≤ length text.now }
-    requires reads { IsText text.now program.now }
+) -> Result<Answer, NoMemory>
+    requires short { length places.now ≤ MAX_TEXT_BYTES }
+    requires few { count program.now.body ≤ length places.now }
+    requires reads { IsText places.now program.now }
     requires plan { plan_of program.now ≡ Ok unfolded.plan }
     requires forks { unfolded.forks.items ≡ fork_statements program.now }
-    ensures explains { IfOk result (IsEndExplanation text.now program.now unfolded.plan) }
-    ensures unwritten { out.new ≡ out.old }
+    ensures explains { IfOk result (λ a. IsExplanationOf (named file.entry) places.now (number_of_status a.status) a.lines) }
 {
     let Unfolded { plan, forks } = unfolded;
-    let ran = match run_detect(rt, alloc, &plan, &options(), gate, out) {
-        Ok(ran) => ran,
-        Err(RunEnd::Write) => unreachable!(),
-        Err(RunEnd::NoMemory) => return Err(NoMemory),
-    };
-    let ended = end_world(alloc, &plan, &ran, gate)?;
-    let explanation = explanation_of(alloc, text, program, forks, &ended.world, &ended.end)?;
-    Ok(explanation)
-}
-
-// Explains the run of a text whose program unfolds to this plan.
-fn explain_plan<R: Threads + Sync, K: Sink, G: Gate>(
-    rt: &R,
-    alloc: Global,
-    text: &[u8],
-    program: &Program,
-    unfolded: Unfolded,
-    out: &mut K,
-    gate: &G,
-) -> ExitStatus
-    requires short { length text.now ≤ MAX_TEXT_BYTES }
-    requires few { count program.now.body ≤ length text.now }
-    requires reads { IsText text.now program.now }
-    requires plan { plan_of program.now ≡ Ok unfolded.plan }
-    requires forks { unfolded.forks.items ≡ fork_statements program.now }
-    ensures done { FinishesText text.now (passage K.taken K.faults out.old out.new) (number_of_status result) }
-    ensures silent { number_of_status result ≢ 4 }
-{
-    match explanation_in(rt, alloc, text, program, unfolded, out, gate) {
-        Ok(explanation) => finish(
-            out,
-            explanation.lines.as_slice(),
-            status_of(explanation.has_dead),
-        ),
-        Err(NoMemory) => ExitStatus::OutOfMemory,
-    }
-}
-
-// Explains the run of a text that is this program, or tells its first check fault.
-fn explain_program<R: Threads + Sync, K: Sink, G: Gate>(
-    rt: &R,
-    alloc: Global,
-    text: &[u8],
-    program: &Program,
-    out: &mut K,
-    gate: &G,
-) -> ExitStatus
-    requires short { length text.now ≤ MAX_TEXT_BYTES }
-    requires few { count program.now.body ≤ length text.now }
-    requires reads { IsText text.now program.now }
-    ensures done { FinishesText text.now (passage K.taken K.faults out.old out.new) (number_of_status result) }
-    ensures silent { number_of_status result ≢ 4 }
-{
-    match unfold(alloc, program) {
-        Ok(unfolded) => explain_plan(rt, alloc, text, program, unfolded, out, gate),
-        Err(PlanEnd::Check(fault)) => refuse_check(alloc, text, program, fault, out),
-        Err(PlanEnd::NoMemory) => ExitStatus::OutOfMemory,
-    }
-}
-
-/// Explains the run of a text, or tells its first fault.
-pub(crate) fn explain_text<R: Threads + Sync, K: Sink, G: Gate>(
-    rt: &R,
-    alloc: Global,
-    text: &[u8],
-    out: &mut K,
-    gate: &G,
-) -> ExitStatus
-    requires short { length text.now ≤ MAX_TEXT_BYTES }
-    ensures done { FinishesText text.now (passage K.taken K.faults out.old out.new) (number_of_status result) }
-    ensures silent { number_of_status result ≢ 4 }
-{
-    match parse(alloc, text) {
-        Ok(program) => explain_program(rt, alloc, text, &program, out, gate),
-        Err(ParseEnd::Syntax(fault)) => refuse_syntax(alloc, text, fault, out),
-        Err(ParseEnd::NoMemory) => ExitStatus::OutOfMemory,
-    }
+    let ended = run_to_world(alloc, &plan)?;
+    let account = account_of(
+        alloc,
+        places,
+        program,
+        forks,
+        &ended.world,
+        ended.end.ends.as_slice(),
+    )?;
+    let explanation = explanation_of(alloc, places, file, &account, &ended.world, &ended.end)?;
+    Ok(Answer {
+        lines: explanation.lines,
+        status: status_of(explanation.has_waiting),
+    })
 }

@@ -1,102 +1,103 @@
-// The lines of a refused text.
-ghost use Rattle.std.specs.Prelude.{◌≡◌, ◌≢◌, ◌≤◌, ◌++◌, IfOk, length};
-ghost use Rattle.pl_syntax.specs.Grammar.{IsText};
-ghost use Rattle.report.specs.Refusals.{refusal_text};
-ghost use Rattle.report.specs.declared.refusal.Refusal.TheVariants.{Check, Syntax};
-ghost use Rattle.explanation.specs.Lines.{place_line};
-ghost use Rattle.armus_top.specs.Headline.{passage};
-ghost use Rattle.armus_top.specs.Programs.{IsFaultOf};
+// The lines of a text that is refused.
+ghost use Rattle.std.specs.Prelude.{◌≡◌, ◌≤◌, Err, IfOk, length};
+ghost use Rattle.check_scenes.specs.Scenes.{IsScene};
+ghost use Rattle.pl_plan.specs.Unfolding.{plan_of};
+ghost use Rattle.pl_plan.specs.declared.fault.CheckFault.{CheckFault as Fault};
+ghost use Rattle.pl_syntax.specs.Grammar.{HasFault, IsText};
+ghost use Rattle.pl_syntax.specs.Tree.{count};
+ghost use Rattle.refusals.specs.LengthRefusals.{length_refusal};
 ghost use Rattle.armus_top.specs.declared.programs.TheConstants.{MAX_TEXT_BYTES};
 ghost use Rattle.armus_top.specs.inside.Status.{number_of_status};
-ghost use Rattle.explain.specs.Refused.{IsFaultPlace, offset_of_statement};
-ghost use Rattle.explain.specs.inside.Ending.{FinishesText};
+ghost use Rattle.explain.specs.inside.Ending.{IsAnswerTo};
+ghost use Rattle.explain.specs.inside.Requested.{named};
 
-use armus_base::{List, NoMemory, Sink};
-use armus_top::{ExitStatus, finish};
-use explanation::{TextPlace, place_line, text_place};
-use pl_plan::CheckFault;
+use crate::answer::Answer;
+use armus_base::{List, NoMemory};
+use armus_top::ExitStatus;
+use check_refusals::{Statements, check_refusal};
+use check_scenes::{Scene, scene_of};
 use pl_syntax::{Program, SyntaxFault, statement_offsets};
-use report::{Refusal, refusal_line};
+use refusals::{length_refusal, syntax_refusal};
 use std::alloc::Global;
+use text_places::TextPlaces;
 
-// The lines of a refusal at this place.
-fn refusal_lines(alloc: Global, why: &Refusal, place: TextPlace) -> Result<List<u8>, NoMemory>
-    ensures { IfOk result (λ lines. lines ≡ refusal_text why.now ++ place_line place) }
+// A refusal with these lines.
+fn refused(lines: List<u8>) -> Answer
+    ensures lines { result.lines ≡ lines }
+    ensures status { number_of_status result.status ≡ 3 }
 {
-    let mut lines = refusal_line(alloc, why)?.into_vec();
-    let second = place_line(alloc, place)?;
-    lines.extend_from_slice(second.as_slice())?;
-    Ok(List::from_vec(lines))
-}
-
-// Tells why a text is refused, and where.
-fn refuse_at<K: Sink>(
-    alloc: Global,
-    text: &[u8],
-    why: &Refusal,
-    place: TextPlace,
-    out: &mut K,
-) -> ExitStatus
-    requires why { IsFaultOf text.now why.now }
-    requires place { IsFaultPlace text.now why.now place }
-    ensures done { FinishesText text.now (passage K.taken K.faults out.old out.new) (number_of_status result) }
-    ensures silent { number_of_status result ≢ 4 }
-{
-    match refusal_lines(alloc, why, place) {
-        Ok(lines) => finish(out, lines.as_slice(), ExitStatus::Refused),
-        Err(NoMemory) => ExitStatus::OutOfMemory,
+    Answer {
+        lines,
+        status: ExitStatus::Refused,
     }
 }
 
-/// Tells the first syntax fault of a text.
-pub(crate) fn refuse_syntax<K: Sink>(
+/// The refusal of a text that is too long.
+pub(crate) fn refuse_length(alloc: Global, file: Option<&[u8]>) -> Result<Answer, NoMemory>
+    ensures lines { IfOk result (λ a. a.lines ≡ length_refusal (named file.entry)) }
+    ensures status { IfOk result (λ a. number_of_status a.status ≡ 3) }
+{
+    Ok(refused(length_refusal(alloc, file)?))
+}
+
+/// The refusal of a text for its first syntax fault.
+pub(crate) fn refuse_syntax(
     alloc: Global,
     text: &[u8],
+    places: &TextPlaces,
+    file: Option<&[u8]>,
     fault: SyntaxFault,
-    out: &mut K,
-) -> ExitStatus
+) -> Result<Answer, NoMemory>
     requires short { length text.now ≤ MAX_TEXT_BYTES }
-    requires fault { IsFaultOf text.now (Syntax fault) }
-    ensures done { FinishesText text.now (passage K.taken K.faults out.old out.new) (number_of_status result) }
-    ensures silent { number_of_status result ≢ 4 }
+    requires places { places.now ≡ text.now }
+    requires fault { HasFault text.now fault }
+    ensures answers { IfOk result (IsAnswerTo (named file.entry) text.now) }
 {
-    let place = text_place(text, fault.at as usize);
-    refuse_at(alloc, text, &Refusal::Syntax(fault), place, out)
+    Ok(refused(syntax_refusal(alloc, text, places, file, fault)?))
 }
 
-// How many bytes stand before a statement.
-fn offset_of_statement(text: &[u8], offsets: &[u32], statement: u32) -> usize
-    ensures { result ≡ offset_of_statement text.now offsets.now statement }
-{
-    if statement == 0 {
-        return text.len();
-    }
-    match offsets.get(statement as usize - 1) {
-        Some(offset) => *offset as usize,
-        None => text.len(),
-    }
-}
-
-/// Tells the first check fault of a text, of which this is the program.
-pub(crate) fn refuse_check<K: Sink>(
+// The refusal of a text of this program, of whose first check fault this is known.
+fn refuse_scene(
     alloc: Global,
     text: &[u8],
+    places: TextPlaces,
+    file: Option<&[u8]>,
     program: &Program,
-    fault: CheckFault,
-    out: &mut K,
-) -> ExitStatus
+    scene: &Scene,
+) -> Result<Answer, NoMemory>
     requires short { length text.now ≤ MAX_TEXT_BYTES }
+    requires places { places ≡ text.now }
     requires reads { IsText text.now program.now }
-    requires fault { IsFaultOf text.now (Check fault) }
-    ensures done { FinishesText text.now (passage K.taken K.faults out.old out.new) (number_of_status result) }
-    ensures silent { number_of_status result ≢ 4 }
+    requires scene { IsScene program.now scene.now }
+    ensures answers { IfOk result (IsAnswerTo (named file.entry) text.now) }
 {
-    match statement_offsets(alloc, text, program) {
-        Ok(offsets) => {
-            let offset = offset_of_statement(text, offsets.as_slice(), fault.statement);
-            let place = text_place(text, offset);
-            refuse_at(alloc, text, &Refusal::Check(fault), place, out)
-        }
-        Err(NoMemory) => ExitStatus::OutOfMemory,
+    let offsets = statement_offsets(alloc, text, program)?;
+    let statements = Statements {
+        places,
+        offsets,
+        end: text.len() as u32,
+    };
+    let lines = check_refusal(alloc, text, program, &statements, file, scene)?;
+    Ok(refused(lines))
+}
+
+/// The refusal of a text of this program for its first check fault.
+pub(crate) fn refuse_check(
+    alloc: Global,
+    text: &[u8],
+    places: TextPlaces,
+    file: Option<&[u8]>,
+    program: &Program,
+) -> Result<Answer, NoMemory>
+    requires short { length text.now ≤ MAX_TEXT_BYTES }
+    requires places { places ≡ text.now }
+    requires few { count program.now.body ≤ length text.now }
+    requires reads { IsText text.now program.now }
+    requires fails { (fault : Fault) × (plan_of program.now ≡ Err fault) }
+    ensures answers { IfOk result (IsAnswerTo (named file.entry) text.now) }
+{
+    match scene_of(alloc, program)? {
+        Some(scene) => refuse_scene(alloc, text, places, file, program, &scene),
+        None => unreachable!(),
     }
 }

@@ -1,48 +1,73 @@
 // The top call.
-ghost use Rattle.std.specs.Prelude.{◌≡◌};
+ghost use Rattle.std.specs.Prelude.{◌≡◌, map, string_bytes};
 ghost use Rattle.armus_top.specs.Headline.{passage};
-ghost use Rattle.explain.specs.Outputs.{IsExplainCall, has_words};
+ghost use Rattle.armus_top.specs.inside.Status.{number_of_status};
+ghost use Rattle.explain.specs.Outputs.{IsExplainCall};
+ghost use Rattle.explain.specs.Requests.{asked, explanation};
+ghost use Rattle.explain.specs.inside.Requested.{named};
 
-use crate::explaining::explain_text;
-use armus_base::{Gate, Sink, Source};
-use armus_top::{ExitStatus, MAX_TEXT_BYTES, finish, input_of};
+use crate::answer::AnswerEnd;
+use crate::answering::answer_source;
+use crate::request::{Request, request_of};
+use armus_base::{Sink, Source};
+use armus_top::{ExitStatus, finish};
 use std::alloc::Global;
-use std::thread::Threads;
 
-const USAGE: &str = "usage: armus_explain\n";
+const USAGE: &str = "usage: armus_explain [run] [FILE]\n";
 
-// Whether there are words.
-fn has_words(words: &[String]) -> bool
-    ensures { result ≡ has_words words.now }
+const VERSION: &str = "armus_explain 1.0.0\n";
+
+const HELP: &str = "\
+usage: armus_explain [run] [FILE]
+Reads a PL text from FILE, or from standard input where there is none, and tells
+which of its tasks wait for ever, where, for whom, and why.
+A text that is refused gets the place of its first fault and what is wrong there.
+Status: 0 nobody waits for ever, 1 somebody does, 2 other words than these,
+3 the text is refused, 4 it cannot be read, 5 it cannot be written, 6 no memory.
+";
+
+// The bytes of a name, where there is one.
+fn name_bytes(file: Option<&str>) -> Option<&[u8]>
+    ensures { named result ≡ named file.entry }
 {
-    match words {
-        [] => false,
-        [_, ..] => true,
+    match file {
+        Some(name) => Some(name.as_bytes()),
+        None => None,
     }
 }
 
-/// The program that explains the run of a text.
-///
-/// Where there are words, of whatever kind, it writes its usage line and answers 2. Else it reads a text of at most `MAX_TEXT_BYTES` bytes from `src`, runs
-/// it as `run` of `armus` does, with four workers, writes the explanation of the state in which the run ends to `out`, and answers 0 where no task is dead
-/// and 1 where one is. It answers 3 where the text is refused, with the line that `run` gives and the place of its first fault in a second one; and where the
-/// text is too long, with one line. It answers 4 and 5 where the source or the sink failed, and 6 for want of memory, with nothing written.
-pub fn explain<R: Threads + Sync, S: Source, K: Sink, G: Gate>(
-    rt: &R,
+// Writes the explanation or the refusal of what the source gives.
+fn explain_source<S: Source, K: Sink>(
     alloc: Global,
-    words: &[String],
+    file: Option<&str>,
     src: &mut S,
     out: &mut K,
-    gate: &G,
-) -> u8
-    ensures { IsExplainCall (has_words words.now) (passage S.left S.faults src.old src.new) (passage K.taken K.faults out.old out.new)
+) -> ExitStatus
+    ensures call { IsExplainCall (explanation (named file.entry)) (passage S.left S.faults src.old src.new) (passage K.taken K.faults out.old out.new)
+        (src.new ≡ src.old) (out.new ≡ out.old) (number_of_status result) }
+{
+    match answer_source(alloc, name_bytes(file), src) {
+        Ok(answer) => finish(out, answer.lines.as_slice(), answer.status),
+        Err(AnswerEnd::Fault) => ExitStatus::ReadFailed,
+        Err(AnswerEnd::NoMemory) => ExitStatus::OutOfMemory,
+    }
+}
+
+/// The program that explains a text.
+///
+/// Where the words ask for an explanation, it reads a text of at most `MAX_TEXT_BYTES` bytes from `src`, which is the file that the words name, or else
+/// standard input. It runs the text's plan to its end, writes the explanation of how its tasks stand there to `out`, and answers 0 where no task waits and 1
+/// where one does. Of a text that is refused, or too long, it writes why and where, and answers 3. It writes the lines of help or of the version and answers
+/// 0, where the words ask for them, and for all other words the line of usage, and answers 2; nothing is read then. It answers 4 and 5 where the source or the
+/// sink failed, and 6 for want of memory, with nothing written.
+pub fn explain<S: Source, K: Sink>(alloc: Global, words: &[String], src: &mut S, out: &mut K) -> u8
+    ensures call { IsExplainCall (asked (map string_bytes words.now)) (passage S.left S.faults src.old src.new) (passage K.taken K.faults out.old out.new)
         (src.new ≡ src.old) (out.new ≡ out.old) result }
 {
-    if has_words(words) {
-        return finish(out, USAGE.as_bytes(), ExitStatus::Usage).code();
-    }
-    match input_of(alloc, MAX_TEXT_BYTES, src, out) {
-        Ok(text) => explain_text(rt, alloc, text.as_slice(), out, gate).code(),
-        Err(status) => status.code(),
+    match request_of(words) {
+        Request::Explain(file) => explain_source(alloc, file, src, out).code(),
+        Request::Help => finish(out, HELP.as_bytes(), ExitStatus::NoDeadlock).code(),
+        Request::Version => finish(out, VERSION.as_bytes(), ExitStatus::NoDeadlock).code(),
+        Request::Usage => finish(out, USAGE.as_bytes(), ExitStatus::Usage).code(),
     }
 }

@@ -1,27 +1,24 @@
--- How the program does it: private contracts alone cite these.
-use Rattle.std.specs.Prelude.{◌≡◌, ◌⊎◌, ℕ, List, if◌then◌else◌}
-use Rattle.std.specs.Io.KnownBytes.{Keeps}
-use Rattle.armus_base.specs.Plans.{Plan}
-use Rattle.armus_base.specs.Runs.{IsMaximal, IsPlainRun, places, state_after}
-use Rattle.armus_base.specs.States.{Step}
-use Rattle.explanation.specs.Explanations.{IsExplanation}
-use Rattle.explanation.specs.declared.explaining.Explanation.{Explanation}
-use Rattle.pl_syntax.specs.declared.tree.Program.{Program}
+-- What the program has before it writes.
+use Rattle.std.specs.Prelude.{Option, Some}
 use Rattle.armus_words.specs.Words.{Text}
-use Rattle.armus_top.specs.Headline.{IsSound, Passage}
-use Rattle.armus_top.specs.Programs.{TellsDead}
-use Rattle.armus_top.specs.inside.Writing.{Finished}
-use Rattle.explain.specs.Outputs.{AnswersText}
+use Rattle.armus_top.specs.Headline.{HasCountedFault, IsSound, Passage, ReadNoMore}
+use Rattle.armus_top.specs.declared.programs.TheConstants.{MAX_TEXT_BYTES}
+use Rattle.armus_top.specs.inside.Status.{number_of_status}
+use Rattle.explain.specs.declared.answer.Answer.{Answer}
+use Rattle.explain.specs.declared.answer.AnswerEnd.{AnswerEnd}
+use Rattle.explain.specs.declared.answer.AnswerEnd.TheVariants.{Fault, NoMemory}
+use Rattle.explain.specs.Outputs.{AnswersText, MayWrite}
+use Rattle.explain.specs.Requests.{explanation}
 
--- the lines explain how tasks stand at the end of a maximal plain run of the plan, and it is told whether one is dead there
-pub record IsEndExplanation (text : Text) (p : Program) (plan : Plan) (explanation : Explanation) : Type 0 where
-  pub steps : List Step
-  pub run : IsPlainRun plan steps
-  pub maximal : IsMaximal plan steps
-  pub explains : IsExplanation text p plan (places steps) explanation.lines
-  pub dead : TellsDead (state_after steps) (if explanation.has_dead then 1 else 0)
+-- it is a whole output for this text
+abbrev pub IsAnswerTo : Option Text → Text → Answer → Type 0
+IsAnswerTo file text answer = AnswersText file text (number_of_status answer.status) answer.lines
 
--- what is left where a text was read: its whole output was to be written; or memory was wanting, and nothing was written
-abbrev pub FinishesText : Text → Passage → ℕ → Type 0
-FinishesText text out number = ((status : ℕ) × (lines : Text) × AnswersText text status lines × Finished out lines status number)
-    ⊎ ((number ≡ 6) × IsSound out × Keeps out.before out.after)
+-- it is a whole output for what the source gave, which did not fail
+abbrev pub AnswersSource : Option Text → Passage → Answer → Type 0
+AnswersSource file src answer = MayWrite (explanation file) src (number_of_status answer.status) answer.lines × IsSound src
+
+-- there is no output: the source failed, or memory was wanting
+abbrev pub EndsUnanswered : Passage → AnswerEnd → Type 0
+EndsUnanswered src Fault = HasCountedFault src × ReadNoMore (Some MAX_TEXT_BYTES) src
+EndsUnanswered src NoMemory = IsSound src × ReadNoMore (Some MAX_TEXT_BYTES) src

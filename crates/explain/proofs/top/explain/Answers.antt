@@ -1,22 +1,25 @@
-use Rattle.std.proofs.Common.{◌∙◌, refl, sym}
-use Rattle.explain.specs.Outputs.{has_words}
-use Rattle.explain.proofs.CallEnds.{call_with_text, call_with_words, call_without_text}
+use Rattle.std.proofs.Common.{inl, inr, map, refl, string_bytes}
+use Rattle.explain.specs.Requests.{asked, help, nothing, version}
+use Rattle.explain.proofs.CallEnds.{call_told}
 use Rattle.explain.proofs.top.explain.Goals as goal
 
-pub returns-then-has_words : goal.returns-then-has_words
-returns-then-has_words g c =
-    rw c.code.ensures
-    (call_with_words _ _ _ _ (has_words c.args.words.now) c.as_bytes.result.now _ (sym c.has_words.ensures ∙ c.if-has_words.true) refl refl c.as_bytes.ensures.value
-    c.finish.ensures.done)
+pub returns-in-Help : goal.returns-in-Help
+returns-in-Help g c = record {
+  call = rw c.code-in-Help.ensures
+      (call_told _ _ _ _ help (asked (map string_bytes c.args.words.now)) c.as_bytes.result.now 0 _ c.in-Help.ensures.asked (refl, c.as_bytes.ensures.value) refl
+      (inl refl) refl c.finish.ensures.done);
+}
 
-pub returns-in-Ok : goal.returns-in-Ok
-returns-in-Ok g c =
-    rw c.code-in-Ok.ensures
-    (rw (← c.in-Ok.ensures.unwritten)
-    (call_with_text _ _ _ _ (has_words c.args.words.now) c.in-Ok.text c.as_slice.result.now _ (sym c.has_words.ensures ∙ c.if-has_words.false)
-    (λ four. absurd (c.explain_text.ensures.silent four)) c.as_slice.ensures.items c.in-Ok.ensures.read.0 c.in-Ok.ensures.read.1 c.explain_text.ensures.done))
+pub returns-in-Version : goal.returns-in-Version
+returns-in-Version g c = record {
+  call = rw c.code-in-Version.ensures
+      (call_told _ _ _ _ version (asked (map string_bytes c.args.words.now)) c.as_bytes-in-Version.result.now 0 _ c.in-Version.ensures.asked
+      (refl, c.as_bytes-in-Version.ensures.value) refl (inl refl) refl c.finish-in-Version.ensures.done);
+}
 
-pub returns-in-Err : goal.returns-in-Err
-returns-in-Err g c =
-    rw c.code-in-Err.ensures
-    (call_without_text _ _ _ _ (has_words c.args.words.now) _ (sym c.has_words.ensures ∙ c.if-has_words.false) c.in-Err.ensures.silent c.in-Err.ensures.ends)
+pub returns-in-Usage : goal.returns-in-Usage
+returns-in-Usage g c = record {
+  call = rw c.code-in-Usage.ensures
+      (call_told _ _ _ _ nothing (asked (map string_bytes c.args.words.now)) c.as_bytes-in-Usage.result.now 2 _ c.in-Usage.ensures.asked
+      (refl, c.as_bytes-in-Usage.ensures.value) refl (inr refl) refl c.finish-in-Usage.ensures.done);
+}

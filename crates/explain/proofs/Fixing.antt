@@ -1,0 +1,108 @@
+-- What is asked for and what the source gives fix the status.
+use Rattle.std.proofs.Common.{◌≡◌, ℕ, Bool, true, false, List, Option, arith, inl, inr, refl, subst, sym}
+use Rattle.std.specs.Prelude.{◌↔◌, Some, if◌then◌else◌}
+use Rattle.armus_base.specs.Plans.{Plan}
+use Rattle.armus_base.specs.Runs.{IsMaximal, IsPlainRun, state_after}
+use Rattle.armus_base.specs.States.{State, Step}
+use Rattle.armus_base.proofs.OneEnd.{one_end}
+use Rattle.pl_plan.proofs.Unfolds.{fault_is_first}
+use Rattle.report.specs.declared.refusal.Refusal.TheVariants.{Check, Syntax}
+use Rattle.armus_words.specs.Words.{Text}
+use Rattle.armus_top.specs.Headline.{EndsWith, IsCalm, Passage, no_memory, read_fault, whole, write_fault}
+use Rattle.armus_top.specs.declared.programs.TheConstants.{MAX_TEXT_BYTES}
+use Rattle.armus_top.proofs.Ending.{not_long, not_more, rose_from, same_input}
+use Rattle.armus_top.proofs.OnePlan.{checked_plan, one_plan, plan_or_fault}
+use Rattle.explain.specs.Explained.{EndsSo, IsExplanationOf, IsRunOf, WaitsIn}
+use Rattle.explain.specs.Outputs.{AnswersText, FixesStatus, IsStatusOf, MayWrite, text_limit}
+use Rattle.explain.specs.Refused.{HasSomeFault, IsRefusedWith}
+use Rattle.explain.specs.Requests.{Asked, explanation, help, nothing, version}
+use Rattle.explain.proofs.Waiting.{tells_waiting}
+
+-- a text that is refused with some lines has a fault
+pub refused_has : (file : Option Text) (text lines : Text) → IsRefusedWith file text lines → HasSomeFault text
+refused_has file text lines (inl (fault, is)) = (Syntax fault, is.is_stand.found)
+refused_has file text lines (inr (program, is)) = (Check is.scene.fault, (program, is.reads, (fault_is_first program is.scene.fault).1 is.is_scene.found))
+
+-- a text that is explained has none
+pub explained_or_fault : (file : Option Text) (text : Text) (status : ℕ) (lines : Text) → IsExplanationOf file text status lines → HasSomeFault text → ⊥
+explained_or_fault file text status lines is (why, fault) = (let (program, checked) = is.ended.plan_is in plan_or_fault text why program is.plan fault checked)
+
+-- a text one of whose runs ends has none
+ends_or_fault : (text : Text) (Holds : State → Type 0) → EndsSo text Holds → HasSomeFault text → ⊥
+ends_or_fault text Holds is (why, fault) = (let (program, checked) = is.ended.plan_is in plan_or_fault text why program is.plan fault checked)
+
+-- all runs of a text end in one state
+one_state : (text : Text) (Holds : State → Type 0) (plan : Plan) (steps : List Step) → IsRunOf text plan steps → EndsSo text Holds → Holds (state_after steps)
+one_state text Holds plan steps one is =
+    let plans : is.plan ≡ plan = one_plan text is.plan plan is.ended.plan_is one.plan_is in
+    let run : IsPlainRun plan is.steps = subst (λ (q : Plan). IsPlainRun q is.steps) plans is.ended.run in
+    let maximal : IsMaximal plan is.steps = subst (λ (q : Plan). IsMaximal q is.steps) plans is.ended.maximal in
+    let ends = one_end plan is.steps steps (checked_plan text plan one.plan_is) run one.run maximal one.maximal in
+    subst Holds ends.1 is.holds
+
+module _ (file : Option Text) (text : Text) (number : ℕ) (lines : Text) where
+  -- the status of a text that is explained
+  explained_status : (is : IsExplanationOf file text number lines) → (waits : Bool) → number ≡ (if waits then 1 else 0)
+      → ((waits ≡ true) ↔ ((t : ℕ) × WaitsIn (state_after is.steps) t)) → IsStatusOf text number
+  explained_status is true one tells = record {
+    refused = (λ three. absurd (omega (arith, one, three)), λ fault. absurd (explained_or_fault file text number lines is fault));
+    somebody = (λ _. record { plan = is.plan; steps = is.steps; ended = is.ended; holds = tells.0 refl }, λ _. one);
+    nobody = (
+      λ zero. absurd (omega (arith, one, zero)),
+      λ none.
+          absurd (let nobody = one_state text (λ state. (t : ℕ) → WaitsIn state t → ⊥) is.plan is.steps is.ended none in
+          let (t, waits) = tells.0 refl in nobody t waits),
+    );
+  }
+  explained_status is false zero tells = record {
+    refused = (λ three. absurd (omega (arith, zero, three)), λ fault. absurd (explained_or_fault file text number lines is fault));
+    somebody = (
+      λ one. absurd (omega (arith, one, zero)),
+      λ some.
+          absurd (let one = tells.1 (one_state text (λ state. (t : ℕ) × WaitsIn state t) is.plan is.steps is.ended some) in cc),
+    );
+    nobody = (
+      λ _. record {
+        plan = is.plan;
+        steps = is.steps;
+        ended = is.ended;
+        holds = λ t waits. absurd (let one = tells.1 (t, waits) in cc);
+      },
+      λ _. zero,
+    );
+  }
+
+  -- the status of a text that is refused
+  refused_status : number ≡ 3 → IsRefusedWith file text lines → IsStatusOf text number
+  refused_status three refused =
+      let fault = refused_has file text lines refused in
+      record {
+        refused = (λ _. fault, λ _. three);
+        somebody = (λ one. absurd (omega (arith, one, three)), λ some. absurd (ends_or_fault text _ some fault));
+        nobody = (λ zero. absurd (omega (arith, zero, three)), λ none. absurd (ends_or_fault text _ none fault));
+      }
+
+  pub status_of_text : AnswersText file text number lines → IsStatusOf text number
+  status_of_text (inl is) = explained_status is is.waits is.status_is (tells_waiting file text is.plan is.steps lines is.waits is.ended is.explains)
+  status_of_text (inr (three, refused)) = refused_status three refused
+
+module _ (src : Passage) where
+  fixed : (asked : Asked) (number : ℕ) (lines : Text) → MayWrite asked src number lines → FixesStatus asked src number
+  fixed (explanation file) number lines (inl (read, has, is)) = (
+    λ text offers. subst (λ (t : Text). IsStatusOf t number) (sym (same_input (Some MAX_TEXT_BYTES) src text read offers has)) (status_of_text file read number lines is),
+    λ more. absurd (not_long (Some MAX_TEXT_BYTES) src read more has),
+  )
+  fixed (explanation file) number lines (inr (much, three, line)) = (
+    λ text offers. absurd (not_more (Some MAX_TEXT_BYTES) src text offers much),
+    λ more. three,
+  )
+  fixed help number lines is = is.0
+  fixed version number lines is = is.0
+  fixed nothing number lines is = is.0
+
+pub completes : (asked : Asked) (src out : Passage) (number : ℕ) → EndsWith (MayWrite asked src) (text_limit asked) false src out number → IsCalm src out number
+    → FixesStatus asked src number
+completes asked src out number (whole lines is took still sound) calm = fixed src asked number lines is
+completes asked src out number (read_fault four does failed read sound kept) calm = absurd (calm.source (rose_from src.faults_before src.faults_after failed))
+completes asked src out number (write_fault five still failed part) calm = absurd (calm.sink (rose_from out.faults_before out.faults_after failed))
+completes asked src out number (no_memory six still read sound part) calm = absurd (calm.memory six)

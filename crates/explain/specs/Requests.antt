@@ -1,0 +1,52 @@
+-- What the words behind the program's name ask for, and the lines that do not come of a text.
+use Rattle.std.specs.Prelude.{Bool, false, not, ◌==◌, if◌then◌else◌, List, [], ◌∷◌, ◌++◌, codes, Option, Some, None}
+use Rattle.std.specs.Str.{bytes_eq}
+use Rattle.pl_syntax.specs.Printed.{line}
+use Rattle.armus_words.specs.Words.{Text}
+
+-- what may be asked for: to explain a text, of the file with this name or of standard input; the lines of help; the line of the version; or nothing
+pub data Asked : Type 0 where
+  explanation : Option Text → Asked
+  help : Asked
+  version : Asked
+  nothing : Asked
+
+-- the word can name a file: it is not empty and does not begin with a hyphen
+abbrev pub names_file : Text → Bool
+names_file [] = false
+names_file (first ∷ more) = not (first == 45)
+
+-- what a word asks for that stands where a file is named
+abbrev pub file_asked : Text → Asked
+file_asked word = if names_file word then explanation (Some word) else nothing
+
+-- what one word asks for
+abbrev pub word_asked : Text → Asked
+word_asked word =
+    if bytes_eq word (codes "run") then explanation None
+    else (if bytes_eq word (codes "--help") then help else (if bytes_eq word (codes "--version") then version else file_asked word))
+
+-- what the words ask for
+abbrev pub asked : List Text → Asked
+asked [] = explanation None
+asked (word ∷ []) = word_asked word
+asked (word ∷ file ∷ []) = if bytes_eq word (codes "run") then file_asked file else nothing
+asked words = nothing
+
+-- the line of usage
+abbrev pub usage_line : Text
+usage_line = line (codes "usage: armus_explain [run] [FILE]")
+
+-- the lines of help
+abbrev pub help_lines : Text
+help_lines =
+    usage_line
+    ++ line (codes "Reads a PL text from FILE, or from standard input where there is none, and tells")
+    ++ line (codes "which of its tasks wait for ever, where, for whom, and why.")
+    ++ line (codes "A text that is refused gets the place of its first fault and what is wrong there.")
+    ++ line (codes "Status: 0 nobody waits for ever, 1 somebody does, 2 other words than these,")
+    ++ line (codes "3 the text is refused, 4 it cannot be read, 5 it cannot be written, 6 no memory.")
+
+-- the line of the version
+abbrev pub version_line : Text
+version_line = line (codes "armus_explain 1.0.0")

@@ -1,0 +1,32 @@
+// A whole output, or why there is none.
+use armus_base::{List, NoMemory};
+use armus_top::ExitStatus;
+
+/// A whole output, and its status.
+#[derive(Drop)]
+pub(crate) struct Answer {
+    /// What is written.
+    pub(crate) lines: List<u8>,
+    /// How the call ends that writes it.
+    pub(crate) status: ExitStatus,
+}
+
+/// Why there is no output.
+#[derive(Clone, Copy, Debug, PartialEq, Eq)]
+pub(crate) enum AnswerEnd {
+    /// The source failed.
+    Fault,
+    /// Memory ran out.
+    NoMemory,
+}
+
+impl From<NoMemory> for AnswerEnd {
+    ghost use Rattle.std.specs.Prelude.{◌≡◌};
+    ghost use Rattle.explain.specs.declared.answer.AnswerEnd.TheVariants as ends;
+
+    ghost from_gives = { λ _ e. e ≡ ends.NoMemory };
+
+    fn from(_: NoMemory) -> Self {
+        AnswerEnd::NoMemory
+    }
+}

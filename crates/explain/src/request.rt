@@ -1,0 +1,83 @@
+// What the words ask for.
+ghost use Rattle.std.specs.Prelude.{◌≡◌, [], ◌∷◌, map, string_bytes};
+ghost use Rattle.explain.specs.Requests.{asked, file_asked, names_file, word_asked};
+ghost use Rattle.explain.specs.inside.Requested.{requested};
+
+const RUN: &str = "run";
+
+const HELP: &str = "--help";
+
+const VERSION: &str = "--version";
+
+/// What the words ask for.
+#[derive(Clone, Copy, Debug)]
+pub enum Request<'w> {
+    /// To explain a text, from the file with this name, or from standard input.
+    Explain(Option<&'w str>),
+    /// The lines of help.
+    Help,
+    /// The line of the version.
+    Version,
+    /// Nothing: they are no such words.
+    Usage,
+}
+
+// Whether a word can be the name of a file.
+fn names_file(word: &str) -> bool
+    ensures { result ≡ names_file word.now }
+{
+    match word.as_bytes() {
+        [] => false,
+        [first, ..] => *first != b'-',
+    }
+}
+
+// What a word asks for that can only be the name of a file.
+fn file_or_usage(word: &str) -> Request<'_>
+    ensures { requested result ≡ file_asked word.now }
+{
+    if names_file(word) {
+        Request::Explain(Some(word))
+    } else {
+        Request::Usage
+    }
+}
+
+// What one word asks for.
+fn word_request(word: &str) -> Request<'_>
+    ensures { requested result ≡ word_asked word.now }
+{
+    if word == RUN {
+        return Request::Explain(None);
+    }
+    if word == HELP {
+        return Request::Help;
+    }
+    if word == VERSION {
+        return Request::Version;
+    }
+    file_or_usage(word)
+}
+
+// What two words ask for.
+fn words_request<'w>(word: &'w str, file: &'w str) -> Request<'w>
+    ensures { requested result ≡ asked (word.now ∷ file.now ∷ []) }
+{
+    if word == RUN {
+        file_or_usage(file)
+    } else {
+        Request::Usage
+    }
+}
+
+/// What the words ask for.
+pub fn request_of(words: &[String]) -> Request<'_>
+    ensures asked { requested result ≡ asked (map string_bytes words.now) }
+{
+    match words {
+        [] => Request::Explain(None),
+        [word] => word_request(word.as_str()),
+        [word, file] => words_request(word.as_str(), file.as_str()),
+        _ => Request::Usage,
+    }
+}
