@@ -11,7 +11,7 @@ use report::Refusal;
 use std::alloc::Global;
 
 /// The whole input, of at most `limit` bytes, or how a call ends that cannot have it. An input that is longer is told in a line.
-pub fn input_of<S: Source, K: Sink>(
+pub(crate) fn input_of<S: Source, K: Sink>(
     alloc: Global,
     limit: usize,
     src: &mut S,

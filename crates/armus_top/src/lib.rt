@@ -21,7 +21,6 @@ mod top;
 mod writing;
 
 pub use command_line::command_words;
-pub use input::input_of;
 pub use laws::{each_call_is_met, each_input_is_met, records_replay, words_mean_one_command};
 pub use output::status_of;
 pub use programs::MAX_TEXT_BYTES;

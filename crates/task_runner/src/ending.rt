@@ -3,12 +3,10 @@ ghost use Rattle.std.specs.Prelude.{◌≡◌, ℕ, Some, false, IfOk, length, s
 ghost use Rattle.armus_base.specs.Runs.{IsReachable};
 ghost use Rattle.pl_core.specs.declared.place.Place.{Place as KeptPlace};
 ghost use Rattle.pl_core.specs.Worlds.{places_at};
-ghost use Rattle.task_runner.specs.DetectRuns.{IsDetectRun};
 ghost use Rattle.task_runner.specs.EndWorlds.{IsWorldEnd};
 ghost use Rattle.task_runner.specs.PlainRuns.{IsPlainEnd};
 ghost use Rattle.task_runner.specs.inside.Turns.{NobodyRefused};
 
-use crate::Ran;
 use crate::world_round::round;
 use armus_base::{Final, Gate, NoMemory, Plan, Still};
 use pl_core::{Place, World};
@@ -46,21 +44,6 @@ pub struct WorldEnd<'p> {
     pub world: World<'p>,
     /// The value of its state.
     pub end: Final,
-}
-
-/// The world in which the run ends that has gone so far on a board: turns go on by rounds in order of number from the places at which its tasks stood
-/// there, until no task may go on. The gate is called before each op.
-pub fn end_world<'p, G: Gate>(
-    alloc: Global,
-    plan: &'p Plan,
-    ran: &Ran,
-    gate: &G,
-) -> Result<WorldEnd<'p>, NoMemory>
-    requires ran { IsDetectRun plan.now ran.now }
-    ensures end { IfOk result (IsWorldEnd plan.now) }
-{
-    let world = World::at(alloc, plan, ran.places.as_slice())?;
-    world_end(alloc, world, plan, gate)
 }
 
 /// Runs the plan in one thread, without a board, and answers the world in which the run ends: in rounds each task goes on until it is done or waits, in order

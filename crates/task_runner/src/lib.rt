@@ -32,7 +32,7 @@ mod world_round;
 pub use avoided::{run_avoid, run_avoid_kept};
 pub use board_rounds::{Task, round};
 pub use detect::run_detect;
-pub use ending::{WorldEnd, end_world, run_plain, run_to_world};
+pub use ending::{WorldEnd, run_plain, run_to_world};
 pub use journal::run_journal;
 pub use laws::serial_run_ends;
 pub use options::RunOptions;

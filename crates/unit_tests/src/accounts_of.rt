@@ -5,7 +5,7 @@ ghost use Rattle.pl_plan.specs.Unfolding.{plan_of};
 ghost use Rattle.pl_syntax.specs.Grammar.{IsText};
 ghost use Rattle.pl_syntax.specs.Tree.{count};
 
-use crate::explanations::{is_quiet, run};
+use crate::ended_worlds::{is_quiet, run};
 use crate::row_texts::{are_bytes_of, bytes_of};
 use accounts::{
     Account, TaskAccount, Waiting, account_exists, account_of, forkers_fork, one_account,

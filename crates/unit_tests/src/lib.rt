@@ -8,9 +8,9 @@ mod clock_plans;
 #[cfg(test)]
 mod clock_texts;
 #[cfg(test)]
-mod endings;
+mod ended_worlds;
 #[cfg(test)]
-mod explanations;
+mod endings;
 #[cfg(test)]
 mod generated;
 #[cfg(test)]
