@@ -21,8 +21,8 @@ use Rattle.report.specs.Standings.{AreStandings, Stands}
 use Rattle.report.specs.declared.standing.Standing.{Standing}
 use Rattle.report.specs.declared.standing.Standing.TheVariants as way
 use Rattle.explained_tasks.specs.Explanations.{Explains, IsExplanationAt}
-use Rattle.explained_tasks.specs.Facts.{FactsValue, fork_of, is_waiting, situation_by, situation_of, tasks_that}
-use Rattle.explained_tasks.proofs.Filters.{passed_from}
+use Rattle.task_sayings.specs.Facts.{FactsValue, fork_of, is_waiting, situation_by, situation_of, tasks_that}
+use Rattle.task_sayings.proofs.Filters.{passed_from}
 use Rattle.explained_tasks.proofs.SomebodyWaits.{waits}
 use Rattle.explained_tasks.proofs.Starts.{that_is}
 use Rattle.explained_tasks.proofs.TasksThat.{task_below}
