@@ -1,4 +1,4 @@
-// A thread that arrives twice in one turn.
+// Two threads at a Phaser of two (Java): one arrives twice in a turn. To see: the other is held.
 //
 // Java: `new Phaser(2)`; main calls `arrive()` twice, which Java takes for the
 // two parties, so the first turn is over. Then the other thread calls

@@ -1,4 +1,4 @@
-// Averaging: three workers compute the mean of their neighbours in rounds.
+// Workers that average their neighbours in rounds (Java, X10): the parent stays a party. To see: all four deadlocked.
 //
 // All of them share the phaser pc, and meet twice in each round: once when
 // everybody has read, once when everybody has written. The parent waits for

@@ -1,6 +1,6 @@
-// `armus check` counts what a kernel unfolds to: its tasks, its phasers and
-// its ops. Of the 43 ops of this kernel, that of averaging.pl, the parent
-// makes 13: two phasers, six registrations, three forks, an adv and an await.
+// Workers that average in rounds (Java, X10), with their parent's mistake. To see: the counts of `armus check`.
+// These are its tasks, its phasers and its ops. Of the 43 ops the parent makes
+// 13: two phasers, six registrations, three forks, an adv and an await.
 // Each worker makes 10: four advs, four awaits, and the two deregs.
 pc = newPhaser();
 pb = newPhaser();

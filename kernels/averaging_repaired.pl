@@ -1,6 +1,6 @@
-// The kernel of averaging.pl, repaired: the parent leaves pc when it has
-// forked the workers. Now pc is a barrier of the workers alone, each of
-// them comes to its end, and the parent passes pb.
+// Workers that average in rounds (Java, X10), repaired. To see: all come to their end.
+// The kernel of averaging.pl, but the parent leaves pc when it has forked the
+// workers. Now pc is a barrier of the workers alone, and the parent passes pb.
 pc = newPhaser();
 pb = newPhaser();
 loop 3 {

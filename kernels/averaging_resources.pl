@@ -1,7 +1,7 @@
-// The kernel of averaging.pl once more, analysed by the general resource
-// graph. Another graph shows the same deadlock: only the last line of the
-// report changes. Each of the four tasks has an edge to the event that it
-// awaits; pb@1 is impeded by the three workers, pc@1 by the parent: 8 edges.
+// Workers that average in rounds (Java, X10), by the general resource graph. To see: another last line.
+// The kernel of averaging.pl. Another graph shows the same deadlock: only the
+// last line of the report changes. Each of the four tasks has an edge to the
+// event that it awaits; pb@1 is impeded by the three workers, pc@1 by the parent.
 pc = newPhaser();
 pb = newPhaser();
 loop 3 {

@@ -1,4 +1,4 @@
-// A barrier in a branch.
+// A parallel region (OpenMP): all but the master meet a barrier in a branch. To see: a deadlock with the region's end.
 //
 // OpenMP: all threads of a team but its master call a function with
 // `#pragma omp barrier` in it, and then all come to another one. The team's

@@ -1,4 +1,4 @@
-// A producer that may run ahead, but no farther than two items.
+// A bounded buffer of two places (Java's BlockingQueue): nothing is wrong. To see: an await that looks back.
 //
 // put counts what the producer has made, and got what the consumer has taken:
 // both are members of both, and the producer's own phase on got counts its

@@ -1,4 +1,4 @@
-// A member that ends without leaving.
+// A Phaser of parent and child (Java): the child ends and does not leave. To see: the parent held, no deadlock.
 //
 // The child ends as a member of p, at phase 0, and stays one for ever: it
 // will never come to phase 1. The parent waits in vain, but nobody whom it

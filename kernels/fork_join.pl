@@ -1,5 +1,5 @@
-// Fork and join: the parent forks four children and waits until the last of
-// them has ended.
+// Fork and join of four children (X10's finish, Go's WaitGroup): nothing is wrong. To see: all come to their end.
+// The parent forks them and waits until the last of them has ended.
 //
 // One phaser is enough. Every child is a member of it and leaves it as its
 // last deed; the parent advances and waits. It is at phase 1, and each child

@@ -1,4 +1,4 @@
-// Latches with several who wait.
+// Two latches with several who wait (Java's CountDownLatch): nothing is wrong. To see: who arrives, and who waits.
 //
 // Java: two latches of one, `start` and `x`. Main counts `start` down; one
 // waits for it and counts `x` down; two waits for `x` and then for `start`.

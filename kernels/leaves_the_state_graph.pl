@@ -1,4 +1,4 @@
-// A kernel for which the wait-for graph is taken.
+// Four threads at four Phasers (Java): each waits at one of its own. To see: the wait-for graph is taken.
 //
 // Four tasks are members of four phasers, and each waits at one of its own.
 // Every task impedes the event of each other one, so every event has an edge

@@ -1,4 +1,4 @@
-// Tasks that need the round before, and not this one.
+// Rounds that need the round before (Java, C): nothing is wrong. To see: an await that looks one phase back.
 //
 // Both advance in each round and wait until everybody has come to the round
 // before. So nobody is more than one round ahead of the other, and nobody

@@ -1,4 +1,4 @@
-// A name that is overwritten too early.
+// A worker that leaves a Phaser by its variable (Java): the variable is overwritten before. To see: the parent held.
 //
 // The worker leaves a phaser by its name. Here it gives the name a new
 // phaser first, so `dereg(step);` leaves the new one, and the worker ends as

@@ -1,4 +1,4 @@
-// A collective that one rank misses.
+// Three ranks and three barriers (MPI): rank 2 skips one. To see: a deadlock with MPI_Finalize.
 //
 // MPI: three ranks, and three steps with `MPI_Barrier(MPI_COMM_WORLD)`. Rank 2
 // has nothing to do in the second step and skips its barrier, so it comes to

@@ -1,4 +1,4 @@
-// A party that is missing.
+// A CyclicBarrier of four (Java) with three workers: a party is missing. To see: three held, and one never forked.
 //
 // Java: `new CyclicBarrier(4)`, and three workers; the fourth party was meant
 // to be main, or a worker that nobody starts. (It is the same with

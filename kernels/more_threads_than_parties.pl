@@ -1,4 +1,4 @@
-// A barrier with more threads than parties.
+// A CyclicBarrier of two (Java) with three threads: one is too many. To see: the third held.
 //
 // Java: `new CyclicBarrier(2)`, and three threads that come to it once. Two
 // pass, whichever they are, and the third waits for a fourth. A phaser waits

@@ -1,6 +1,6 @@
-// Two barriers in opposite order, the classic deadlock of two locks told
-// with barriers: both tasks are parties of left and of right, but one meets
-// at left first and the other at right.
+// Two barriers of two (Java, pthreads), met in opposite order. To see: a deadlock of two.
+// It is the classic deadlock of two locks, told with barriers: both tasks are
+// parties of left and of right, but one meets at left first.
 //
 // The parent waits at left for the child, which stands at right and waits
 // there for the parent.

@@ -1,4 +1,4 @@
-// A pipeline of three stages that hand five items on.
+// Three stages that hand five items on (Java's queues): nothing is wrong. To see: a stage that runs ahead.
 //
 // Between two stages stands a phaser: ab between the first and the second,
 // bc between the second and the third. The stage ahead advances on it when

@@ -1,4 +1,4 @@
-// A pool that is smaller than its barrier.
+// A pool of two threads with three jobs that meet at a CyclicBarrier (Java). To see: a deadlock of the three.
 //
 // Java: `Executors.newFixedThreadPool(2)`, and three jobs that meet at
 // `new CyclicBarrier(3)`. The third job waits for a thread of the pool, which

@@ -1,4 +1,4 @@
-// A party that is registered behind an arrival.
+// A Phaser that gains a party behind an arrival (Java): nothing is wrong. To see: where `reg` stands in PL.
 //
 // Java: `new Phaser(2)` for main and b; main calls `arrive()`, then
 // `register()` for c, starts b and c, which call `arriveAndAwaitAdvance()`,

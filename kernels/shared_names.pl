@@ -1,4 +1,4 @@
-// Nested forks, and what names mean in them.
+// Nested threads and their variables (Java, Go): nothing is wrong. To see: what a name means in whom.
 //
 // A forked body begins with a copy of its parent's names, as they are at the
 // fork. So `meet` is one phaser, p0, for the parent, the child and the

@@ -1,5 +1,5 @@
-// A split-phase barrier: a task says that it has arrived (adv), does work
-// that needs nobody else, and only then waits for the others (await).
+// A barrier that is split (C++'s std::barrier, MPI_Ibarrier): nothing is wrong. To see: work between adv and await.
+// A task says that it has arrived, does work of its own, and only then waits.
 //
 // The parent is a party of the barrier like its two children. Nobody is
 // stuck: all three advance three times, and leave.

@@ -1,4 +1,4 @@
-// A group that one of its members does not leave.
+// Three goroutines in a WaitGroup (Go): one returns without Done. To see: main held.
 //
 // Go: `wg.Add(1)` three times, and one of the three goroutines returns without
 // `wg.Done()`; main waits at `wg.Wait()`. Who is counted is a member, and

@@ -1,4 +1,4 @@
-// A task that waits behind a cycle.
+// Three threads at Phasers (Java): two wait for each other, and main for one of them. To see: a dead task on no cycle.
 //
 // t1 waits at a for t2, and t2 waits at b for t1: they are the cycle. The
 // parent, t0, waits at c for t1, which will never come. Nobody waits for the

@@ -1,6 +1,6 @@
-// A kernel that is refused: only a task that drew another may register or
-// fork it, and only before the fork. Here t2 wants to fork t1, which the
-// parent drew: fault 5, at the fifth statement in the order of the text.
+// A thread that starts its sibling (Java): PL has no form for it. To see: a refusal, check 5.
+// Only a task that drew another may register or fork it, and only before the
+// fork. Here t2 wants to fork t1, which the parent drew, at the fifth statement.
 p = newPhaser();
 s = newTid();
 t = newTid();

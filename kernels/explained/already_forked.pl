@@ -1,6 +1,0 @@
-t = newTid();
-loop 2 {
-  fork(t) {
-    skip;
-  }
-}

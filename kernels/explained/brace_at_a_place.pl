@@ -1,0 +1,2 @@
+loop 2 { //@ Main.java:1
+skip;

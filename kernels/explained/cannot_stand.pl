@@ -1,3 +1,0 @@
-t = newTid();
-fork(t) {
-  skip;

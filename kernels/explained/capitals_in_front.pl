@@ -1,0 +1,2 @@
+PL 2;
+b = newPhaser();

@@ -1,0 +1,1 @@
+loop 2 { skip;

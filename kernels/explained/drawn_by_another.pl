@@ -1,0 +1,3 @@
+b = newPhaser();
+t = newTid(); u = newTid(); reg(u, b);
+fork(t) { fork(u) { adv(b); } }

@@ -1,0 +1,3 @@
+p = newPhaser();
+t = newTid(); reg(t, p);
+fork(t) { reg(t, p); }

@@ -1,0 +1,3 @@
+p = newPhaser();
+t = newTid(); reg(t, p);
+fork(t) { adv(p); await(p); }

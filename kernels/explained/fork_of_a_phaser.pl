@@ -1,0 +1,2 @@
+b = newPhaser();
+fork(b) { }

@@ -1,0 +1,2 @@
+t = newTid();
+fork(t) adv(b);

@@ -1,0 +1,1 @@
+fork = newTid();

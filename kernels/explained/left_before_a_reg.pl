@@ -1,0 +1,4 @@
+p = newPhaser();
+t = newTid();
+dereg(p);
+reg(t, p);

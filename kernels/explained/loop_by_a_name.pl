@@ -1,0 +1,2 @@
+n = newTid();
+loop n { skip; }

@@ -1,0 +1,2 @@
+b = newPhaser();
+c = b;

@@ -1,0 +1,1 @@
+a_name_of_thirty_three_characters = newTid();

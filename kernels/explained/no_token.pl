@@ -1,2 +1,0 @@
-p = newPhaser();
-adv(P);

@@ -1,0 +1,5 @@
+p = newPhaser();
+t = newTid(); reg(t, p);
+fork(t) { dereg(p); }
+spare = newTid();
+adv(p); await(p);

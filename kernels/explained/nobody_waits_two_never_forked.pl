@@ -1,0 +1,2 @@
+loop 2 { spare = newTid(); }
+other = newTid();

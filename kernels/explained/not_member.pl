@@ -1,2 +1,0 @@
-p = newPhaser();
-dereg(p); adv(p);

@@ -1,0 +1,3 @@
+pl 2;
+b = newPhaser();
+await(b, 1);

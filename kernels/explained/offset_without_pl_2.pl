@@ -1,0 +1,3 @@
+b = newPhaser();
+adv(b);
+await(b - 1);

@@ -1,1 +1,0 @@
-t = newTid(); adv(t);

@@ -1,0 +1,2 @@
+loop 4080 { t = newTid(); }
+loop 257 { p = newPhaser(); }

@@ -1,0 +1,1 @@
+pl 2 b = newPhaser();

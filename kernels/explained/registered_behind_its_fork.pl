@@ -1,0 +1,3 @@
+b = newPhaser(); t = newTid();
+fork(t) { skip; }
+reg(t, b);

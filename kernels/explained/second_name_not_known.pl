@@ -1,0 +1,2 @@
+t = newTid();
+reg(t, b);

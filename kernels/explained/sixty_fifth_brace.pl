@@ -1,0 +1,9 @@
+loop 1 { loop 1 { loop 1 { loop 1 { loop 1 { loop 1 { loop 1 { loop 1 {
+loop 1 { loop 1 { loop 1 { loop 1 { loop 1 { loop 1 { loop 1 { loop 1 {
+loop 1 { loop 1 { loop 1 { loop 1 { loop 1 { loop 1 { loop 1 { loop 1 {
+loop 1 { loop 1 { loop 1 { loop 1 { loop 1 { loop 1 { loop 1 { loop 1 {
+loop 1 { loop 1 { loop 1 { loop 1 { loop 1 { loop 1 { loop 1 { loop 1 {
+loop 1 { loop 1 { loop 1 { loop 1 { loop 1 { loop 1 { loop 1 { loop 1 {
+loop 1 { loop 1 { loop 1 { loop 1 { loop 1 { loop 1 { loop 1 { loop 1 {
+loop 1 { loop 1 { loop 1 { loop 1 { loop 1 { loop 1 { loop 1 { loop 1 {
+loop 1 { skip; }

@@ -1,0 +1,3 @@
+t = newTid();
+u = newTid();
+reg(t, u);

@@ -1,0 +1,3 @@
+clock c;
+async(c) { advance(c); }
+advance(c);

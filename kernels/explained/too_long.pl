@@ -1,2 +1,0 @@
-skip;
-a_name_of_thirty_three_characters = newTid();

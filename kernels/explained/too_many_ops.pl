@@ -1,0 +1,4 @@
+p = newPhaser();
+loop 17 {
+  loop 65535 { adv(p); }
+}

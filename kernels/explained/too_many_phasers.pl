@@ -1,0 +1,1 @@
+loop 1025 { p = newPhaser(); }

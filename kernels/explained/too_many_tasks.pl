@@ -1,0 +1,1 @@
+loop 4096 { t = newTid(); }

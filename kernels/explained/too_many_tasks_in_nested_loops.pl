@@ -1,0 +1,1 @@
+loop 64 { loop 64 { t = newTid(); } }

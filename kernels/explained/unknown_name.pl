@@ -1,2 +1,0 @@
-// Nobody has given q anything to stand for.
-adv(q);

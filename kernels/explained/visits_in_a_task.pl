@@ -1,0 +1,4 @@
+t = newTid();
+fork(t) {
+  loop 65535 { loop 65535 { } }
+}

@@ -1,0 +1,4 @@
+pl 2;
+p = newPhaser();
+adv(p);
+await(p + 1);

@@ -1,0 +1,3 @@
+loop 2 {
+		myBarrier = newPhaser();
+}
