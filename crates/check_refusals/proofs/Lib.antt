@@ -2,3 +2,4 @@ pub mod Pieces
 pub mod Offsets
 pub mod RefusalLines
 pub mod OneRefusal
+pub mod TextRefusals

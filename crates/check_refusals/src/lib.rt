@@ -10,5 +10,5 @@ mod statements;
 mod whereabouts;
 
 pub use check::check_refusal;
-pub use laws::text_has_one_check_refusal;
+pub use laws::{text_has_check_refusal, text_has_one_check_refusal};
 pub use statements::Statements;

@@ -1,1 +1,14 @@
 pub mod OneScene
+pub mod Last
+pub mod Coming
+pub mod NotesFitting
+pub mod FrameVisits
+pub mod LapCounts
+pub mod LapsOn
+pub mod SoughtSteps
+pub mod SoughtEnds
+pub mod SoughtTasks
+pub mod LoopsAround
+pub mod SoughtFirst
+pub mod ScenesTold
+pub mod SceneOfFault

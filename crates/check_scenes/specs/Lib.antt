@@ -2,3 +2,5 @@
 pub mod Deeds
 pub mod Turns
 pub mod Scenes
+-- How the program finds it: what it keeps, and what that tells of the stages so far.
+pub mod inside

@@ -1,9 +1,11 @@
 -- What is known of the first fault of a program's unfolding, by the stages before it.
-use Rattle.std.specs.Prelude.{◌≡◌, ℕ, ◌+◌, ◌==◌, ◌||◌, if◌then◌else◌, List, [], ◌∷◌, ◌++◌, length, slice_index_or, Option, Some, None}
+use Rattle.std.specs.Prelude.{◌≡◌, ℕ, ◌+◌, ◌==◌, ◌||◌, if◌then◌else◌, List, [], ◌∷◌, ◌++◌, length, slice_index_or, Option, Some, None, Ok}
 use Rattle.armus_base.specs.declared.ids.TaskId.{TaskId}
+use Rattle.armus_base.specs.Plans.{Plan}
 use Rattle.pl_syntax.specs.declared.tree.Program.{Program}
 use Rattle.pl_syntax.specs.Tree.{adv, await, dereg, new_task, reg}
-use Rattle.pl_plan.specs.Unfolding.{Coming, Thing, UnfoldingState, a_fork, a_phaser, a_plain, a_task, already_forked, already_member, not_drawn_here, not_member, opening_state, other_kind, phaser, task, too_many_cells, too_many_ops, too_many_phasers, too_many_tasks, unknown_name}
+use Rattle.pl_plan.specs.Unfolding.{Coming, Thing, UnfoldingState, a_fork, a_phaser, a_plain, a_task, already_forked, already_member, not_drawn_here, not_member, opening_state, other_kind, phaser, plan_of, task, too_many_cells, too_many_ops, too_many_phasers, too_many_tasks, unknown_name}
+use Rattle.pl_plan.specs.declared.fault.CheckFault.{CheckFault}
 use Rattle.pl_plan.specs.Tests.{first_thing, is_task, phaser_wanted, task_number}
 use Rattle.pl_plan.specs.Stages.{IsFirstCheckFault, Stage, begins, comes, leaves}
 use Rattle.check_scenes.specs.declared.scene.LoopTurn.{LoopTurn}
@@ -136,3 +138,12 @@ pub record IsScene (program : Program) (scene : Scene) : Type 0 where
 -- the first fault of a program is known in one way
 abbrev pub HasOneScene : Type 0
 HasOneScene = (program : Program) (a b : Scene) → IsScene program a → IsScene program b → a ≡ b
+
+-- the scene of a program's first fault; where there is none, the program has a plan
+abbrev pub TellsScene : Program → Option Scene → Type 0
+TellsScene program (Some scene) = IsScene program scene
+TellsScene program None = (plan : Plan) × (plan_of program ≡ Ok plan)
+
+-- each program with a first check fault has a scene
+abbrev pub HasScene : Type 0
+HasScene = (program : Program) (fault : CheckFault) → IsFirstCheckFault program fault → (scene : Scene) × IsScene program scene × (scene.fault ≡ fault)

@@ -5,7 +5,8 @@ use clock_moves::{
     worked_clock_programs,
 };
 use clock_text::{
-    clock_text_ends, clock_text_runs, clock_unfolding_by_points, numbers_are_named, worked_clock_texts,
+    clock_text_ends, clock_text_runs, clock_unfolding_by_points, numbers_are_named,
+    worked_clock_texts,
 };
 
 #[test]

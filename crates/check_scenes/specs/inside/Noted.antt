@@ -1,0 +1,128 @@
+-- What is noted of the stages that passed, and what the notes tell.
+use Rattle.std.specs.Prelude.{◌≡◌, ℕ, ◌+◌, ◌<◌, ◌≤◌, ◌==◌, Bool, ◌&&◌, if◌then◌else◌, List, [], ◌∷◌, ◌++◌, length, slice_set, slice_index_or, Option, Some, None}
+use Rattle.pl_plan.specs.declared.step.NameId.{NameId}
+use Rattle.pl_plan.specs.declared.step.Step.{Step}
+use Rattle.pl_plan.specs.declared.step.Step.TheVariants as a_step
+use Rattle.pl_plan.specs.declared.step.Thing as code
+use Rattle.pl_plan.specs.declared.step.Thing.TheVariants as a_thing
+use Rattle.pl_plan.specs.Unfolding.{UnfoldingState}
+use Rattle.pl_plan.specs.Stages.{Stage}
+use Rattle.check_scenes.specs.Deeds as deeds
+use Rattle.check_scenes.specs.Deeds.{drew, forked, last_that, left, made, name_given, or_else, registered, statement_in}
+use Rattle.check_scenes.specs.Turns.{turn_in, visits_among}
+use Rattle.check_scenes.specs.declared.notes.Deed.{Deed}
+use Rattle.check_scenes.specs.declared.notes.Lap.{Lap}
+use Rattle.check_scenes.specs.declared.notes.Note.{Note}
+use Rattle.check_scenes.specs.declared.sight.Sight.{Sight}
+
+-- ---- notes
+
+-- a deed of this kind, on one or two things
+abbrev pub a_deed : ℕ → ℕ → ℕ → Deed
+a_deed kind first second = record { kind = kind; first = first; second = second }
+
+-- two deeds are one
+abbrev pub same_deed : Deed → Deed → Bool
+same_deed a b = (a.kind == b.kind) && ((a.first == b.first) && (a.second == b.second))
+
+-- the last note of this deed
+abbrev pub last_noted : Deed → List Note → Option Note
+last_noted deed [] = None
+last_noted deed (x ∷ xs) = or_else (if same_deed x.deed deed then Some x else None) (last_noted deed xs)
+
+-- the number of a task, and 0 of what is none
+abbrev pub task_in : code.Thing → ℕ
+task_in a_thing.Nothing = 0
+task_in (a_thing.Task c) = c.0
+task_in (a_thing.Phaser p) = 0
+
+-- the number of a phaser, and 0 of what is none
+abbrev pub phaser_in : code.Thing → ℕ
+phaser_in a_thing.Nothing = 0
+phaser_in (a_thing.Task c) = 0
+phaser_in (a_thing.Phaser p) = p.0
+
+-- the notes of a visit that passes, which are one or none, by its step
+abbrev pub notes_at : Sight → Step → List Note
+notes_at v (a_step.NewTask x) = record { deed = a_deed 0 v.tasks 0; statement = v.item.at + 1; name = Some x } ∷ []
+notes_at v (a_step.NewPhaser x) = record { deed = a_deed 1 v.phasers 0; statement = v.item.at + 1; name = Some x } ∷ []
+notes_at v (a_step.Fork x after) = record { deed = a_deed 2 (task_in v.x) 0; statement = v.item.at + 1; name = None } ∷ []
+notes_at v (a_step.Reg x y) = record { deed = a_deed 3 (task_in v.x) (phaser_in v.y); statement = v.item.at + 1; name = None } ∷ []
+notes_at v (a_step.Dereg x) = record { deed = a_deed 4 v.t.0 (phaser_in v.x); statement = v.item.at + 1; name = None } ∷ []
+notes_at v (a_step.Adv x) = []
+notes_at v (a_step.Await x off) = []
+notes_at v a_step.Skip = []
+notes_at v (a_step.Loop k after steady) = []
+
+-- the notes with those of this visit
+abbrev pub with_notes : Sight → List Note → List Note
+with_notes v notes = notes ++ notes_at v v.item.step
+
+-- ---- laps
+
+-- no turn of task 0
+abbrev pub no_lap : Lap
+no_lap = record { task = record { 0 = 0 }; turn = 0 }
+
+-- the turn of a lap, where it is one of task t
+abbrev pub turn_by : ℕ → Lap → ℕ
+turn_by t lap = if lap.task.0 == t then lap.turn else 0
+
+-- in which turn task t is of the loop whose step has this index
+abbrev pub turn_at : List Lap → ℕ → ℕ → ℕ
+turn_at laps t at = turn_by t (slice_index_or laps at no_lap)
+
+-- the laps with this visit, by its step
+abbrev pub laps_at : Sight → Step → List Lap → List Lap
+laps_at v (a_step.Loop k after steady) laps = slice_set laps v.item.at (record { task = v.t; turn = 0 })
+laps_at v (a_step.NewTask x) laps = laps
+laps_at v (a_step.NewPhaser x) laps = laps
+laps_at v (a_step.Fork x after) laps = laps
+laps_at v (a_step.Reg x y) laps = laps
+laps_at v (a_step.Dereg x) laps = laps
+laps_at v (a_step.Adv x) laps = laps
+laps_at v (a_step.Await x off) laps = laps
+laps_at v a_step.Skip laps = laps
+
+-- the laps with this visit
+abbrev pub with_lap : Sight → List Lap → List Lap
+with_lap v laps =
+    if v.item.turn then slice_set laps v.item.at (record { task = v.t; turn = turn_at laps v.t.0 v.item.at + 1 }) else laps_at v v.item.step laps
+
+-- ---- what they tell
+
+-- the bytes of a name, if there is one
+abbrev pub name_by : (ℕ → List ℕ) → Option NameId → List ℕ
+name_by names None = []
+name_by names (Some x) = names x.0
+
+-- a note tells of this stage
+abbrev pub MarkTells : (ℕ → List ℕ) → Option Note → Option Stage → Type 0
+MarkTells names None None = Unit {0}
+MarkTells names (Some note) (Some v) = (statement_in (Some v) ≡ note.statement) × (name_given (Some v) ≡ name_by names note.name)
+MarkTells names None (Some v) = ⊥
+MarkTells names (Some note) None = ⊥
+
+-- the deed that is noted, and the one of the definitions
+pub data Means : Deed → deeds.Deed → Type 0 where
+  means_drew : {c : ℕ} → Means (a_deed 0 c 0) (drew c)
+  means_made : {p : ℕ} → Means (a_deed 1 p 0) (made p)
+  means_forked : {c : ℕ} → Means (a_deed 2 c 0) (forked c)
+  means_registered : {c p : ℕ} → Means (a_deed 3 c p) (registered c p)
+  means_left : {u p : ℕ} → Means (a_deed 4 u p) (left u p)
+
+-- the notes tell the last stage that did a thing, of these stages behind this state
+abbrev pub Tells : (ℕ → List ℕ) → UnfoldingState → List Stage → List Note → Type 0
+Tells names first stages notes = (d : Deed) (did : deeds.Deed) → Means d did → MarkTells names (last_noted d notes) (last_that did first stages)
+
+-- the laps tell the turns in which task t is
+abbrev pub TurnsTold : ℕ → List Stage → List Lap → Type 0
+TurnsTold t stages laps = (at : ℕ) → turn_at laps t at ≡ turn_in (at + 1) (visits_among t stages)
+
+-- the laps while task t is unfolded, of so many steps and behind so many visits: none is of a later task, and no visit is one of a later task
+pub record LapsTell (t steps visits : ℕ) (stages : List Stage) (laps : List Lap) : Type 0 where
+  pub many : length laps ≡ steps
+  pub earlier : (at : ℕ) → (slice_index_or laps at no_lap).task.0 ≤ t
+  pub few : (at : ℕ) → (slice_index_or laps at no_lap).turn ≤ visits
+  pub later : (u : ℕ) → t < u → visits_among u stages ≡ []
+  pub turns : TurnsTold t stages laps
