@@ -4,7 +4,7 @@ ghost use Rattle.armus_top.specs.Headline.{passage};
 ghost use Rattle.armus_top.specs.inside.Status.{number_of_status};
 ghost use Rattle.explain.specs.Outputs.{IsExplainCall};
 ghost use Rattle.explain.specs.Requests.{asked, explanation};
-ghost use Rattle.explain.specs.inside.Requested.{named};
+ghost use Rattle.explain.specs.Requested.{named};
 
 use crate::answer::AnswerEnd;
 use crate::answering::answer_source;
