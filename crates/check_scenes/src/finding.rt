@@ -137,8 +137,8 @@ fn find_scene(
 
 /// What is known of the first check fault of a program; none where it has a plan. The only error is want of memory.
 ///
-/// The way to the fault takes time linear in the visits, at most `MAX_VISITS`, and keeps for each task that is drawn or forked, each phaser that is made,
-/// and each registration and leaving the number of its statement.
+/// The walk to the fault makes at most `MAX_VISITS` visits, and keeps for each task that is drawn or forked, each phaser that is made, and each registration
+/// and leaving the number of its statement.
 pub fn scene_of(alloc: Global, program: &Program) -> Result<Option<Scene>, NoMemory>
     requires few { count program.now.body < 2 ^ 32 }
     requires shallow { height program.now.body ≤ MAX_OPEN_BRACES }

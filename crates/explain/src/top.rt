@@ -59,7 +59,7 @@ fn explain_source<S: Source, K: Sink>(
 /// standard input. It runs the text's plan to its end, writes the explanation of how its tasks stand there to `out`, and answers 0 where no task waits and 1
 /// where one does. Of a text that is refused, or too long, it writes why and where, and answers 3. It writes the lines of help or of the version and answers
 /// 0, where the words ask for them, and for all other words the line of usage, and answers 2; nothing is read then. It answers 4 and 5 where the source or the
-/// sink failed, and 6 for want of memory, with nothing written.
+/// sink failed, and 6 for want of memory; after 4 and 6 nothing was written, and after 5 at most first bytes were.
 pub fn explain<S: Source, K: Sink>(alloc: Global, words: &[String], src: &mut S, out: &mut K) -> u8
     ensures call { IsExplainCall (asked (map string_bytes words.now)) (passage S.left S.faults src.old src.new) (passage K.taken K.faults out.old out.new)
         (src.new ≡ src.old) (out.new ≡ out.old) result }

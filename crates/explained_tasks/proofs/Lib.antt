@@ -21,3 +21,4 @@ pub mod DeadNexts
 pub mod DeadlockShown
 pub mod ForkersWait
 pub mod EachToldOnce
+pub mod WaitingAlike

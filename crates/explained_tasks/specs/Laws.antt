@@ -56,6 +56,13 @@ EachHasAParagraph =
 abbrev pub SaysWhatIsSo : Type 0
 SaysWhatIsSo = (f : FactsValue) (said : Said) (t : TaskId) → Contains (tasks_of f said) t → (said ≡ own_said f t.0) × Contains (explained_tasks f) t
 
+-- the tasks of the paragraph of a task that waits stand as it does, and have its impeders and its next
+abbrev pub WaitAlike : Type 0
+WaitAlike =
+    (f : FactsValue) (phases : ℕ → Phases) (said : Said) (t u : TaskId) → Contains (tasks_of f said) t → Contains (tasks_of f said) u →
+    is_waiting (situation_of f t.0) ≡ true →
+    (situation_of f u.0 ≡ situation_of f t.0) × (impeders_of f phases u.0 ≡ impeders_of f phases t.0) × (next_of f phases u.0 ≡ next_of f phases t.0)
+
 -- nothing is said in two paragraphs
 abbrev pub NothingIsSaidTwice : Type 0
 NothingIsSaidTwice = (f : FactsValue) (shown : List TaskId) → IsDistinct (sayings_of f shown)
