@@ -88,7 +88,7 @@ module _ (n : ℕ) (names : ℕ → List ℕ) (steps : List Step) where
     pub frames_are : (rest : List Visit) → FramesAre n names steps fs rest → FramesAre n names steps new (left ++ rest)
 
   abbrev turns_of : Frame → Tree → List Visit
-  turns_of f body = times f.left (visit (f.lap + 1) a_turn ∷ visits_of (f.lap + 1 + 1) body)
+  turns_of f body = times f.left (visit (f.of_loop + 1) a_turn ∷ visits_of (f.of_loop + 1 + 1) body)
 
   -- the frame stands behind a statement
   behind : (f : Frame) (own : List Visit) (is : FrameIs n names steps f own) (at : ℕ) (rest : Tree) → IsSpelled n names steps at rest f.to →
@@ -188,9 +188,9 @@ module _ (n : ℕ) (names : ℕ → List ℕ) (steps : List Step) where
             within = omega (arith, lt, is.within);
             frames_are = λ others are.
                 subst (λ z. FramesAre n names steps (frames_at f z fs) ((turns ++ own) ++ others)) (sym e.1)
-                (subst (λ z. FramesAre n names steps ((fs ++ record f { at = e.0 } ∷ []) ++ record { at = e.0; to = e.0; lap = f.at; left = i } ∷ []) z)
+                (subst (λ z. FramesAre n names steps ((fs ++ record f { at = e.0 } ∷ []) ++ record { at = e.0; to = e.0; of_loop = f.at; left = i } ∷ []) z)
                 (sym (append_assoc turns own others))
-                (frames_push (fs ++ record f { at = e.0 } ∷ []) (record { at = e.0; to = e.0; lap = f.at; left = i }) turns (own ++ others)
+                (frames_push (fs ++ record f { at = e.0 } ∷ []) (record { at = e.0; to = e.0; of_loop = f.at; left = i }) turns (own ++ others)
                 (record {
                   rest = done;
                   rest_there = refl;
@@ -215,21 +215,21 @@ module _ (n : ℕ) (names : ℕ → List ℕ) (steps : List Step) where
 
   pub nothing_on : (f : Frame) (ms : List Visit) → FrameIs n names steps f ms → f.to ≤ f.at → f.left ≡ 0 → ms ≡ []
   nothing_on f ms is le none =
-      at_end f ms is le ∙ ap (λ z. times z (visit (f.lap + 1) a_turn ∷ visits_of (f.lap + 1 + 1) is.body)) none
+      at_end f ms is le ∙ ap (λ z. times z (visit (f.of_loop + 1) a_turn ∷ visits_of (f.of_loop + 1 + 1) is.body)) none
 
   pub turn_on : (f : Frame) (ms : List Visit) (fs : List Frame) (left : ℕ) → FrameIs n names steps f ms → f.to ≤ f.at → f.left ≡ suc left →
-      WentOn f ms (an_item f.lap true a_step.Skip) fs (fs ++ record f { at = f.lap + 1; left = left } ∷ [])
+      WentOn f ms (an_item f.of_loop true a_step.Skip) fs (fs ++ record f { at = f.of_loop + 1; left = left } ∷ [])
   turn_on f ms fs left is le some =
-      let one : List Visit = visits_of (f.lap + 1 + 1) is.body in
-      let others : List Visit = times left (visit (f.lap + 1) a_turn ∷ one) in
+      let one : List Visit = visits_of (f.of_loop + 1 + 1) is.body in
+      let others : List Visit = times left (visit (f.of_loop + 1) a_turn ∷ one) in
       record {
-        visit_is = visit (f.lap + 1) a_turn;
+        visit_is = visit (f.of_loop + 1) a_turn;
         comes_to = to_turn;
         left = one ++ others;
-        visits_are = at_end f ms is le ∙ ap (λ z. times z (visit (f.lap + 1) a_turn ∷ one)) some;
-        within = (let e = spelled_count n names steps (f.lap + 1) is.body f.to (is.body_there (omega (arith, some))) in omega (arith, e, is.within));
+        visits_are = at_end f ms is le ∙ ap (λ z. times z (visit (f.of_loop + 1) a_turn ∷ one)) some;
+        within = (let e = spelled_count n names steps (f.of_loop + 1) is.body f.to (is.body_there (omega (arith, some))) in omega (arith, e, is.within));
         frames_are = λ rest are.
-            frames_push fs (record f { at = f.lap + 1; left = left }) (one ++ others) rest
+            frames_push fs (record f { at = f.of_loop + 1; left = left }) (one ++ others) rest
             (record {
               rest = is.body;
               rest_there = is.body_there (omega (arith, some));
@@ -252,24 +252,24 @@ module _ (n : ℕ) (names : ℕ → List ℕ) (steps : List Step) where
       by true lt left left_is =
           let same : an_item f.at false (step_at steps f.at) ≡ item =
           (let e : Some (an_item f.at false (step_at steps f.at)) ≡ Some item =
-          sym (ap (λ b. if b then Some (an_item f.at false (step_at steps f.at)) else (if f.left == 0 then None else Some (an_item f.lap true a_step.Skip))) lt) ∙ next in some_is e) in
+          sym (ap (λ b. if b then Some (an_item f.at false (step_at steps f.at)) else (if f.left == 0 then None else Some (an_item f.of_loop true a_step.Skip))) lt) ∙ next in some_is e) in
           subst (λ z. WentOn f ms z fs (frames_after steps f fs)) same
           (subst (λ b. WentOn f ms (an_item f.at false (step_at steps f.at)) fs
-          (if b then frames_at f (step_at steps f.at) fs else (if f.left == 0 then fs else fs ++ record f { at = f.lap + 1; left = f.left - 1 } ∷ []))) (sym lt)
+          (if b then frames_at f (step_at steps f.at) fs else (if f.left == 0 then fs else fs ++ record f { at = f.of_loop + 1; left = f.left - 1 } ∷ []))) (sym lt)
           (statement_on f ms fs few (ltb-true f.at f.to lt) is))
       by false ge zero left_is =
-          absurd (let e = sym (ap (λ b. if b then Some (an_item f.at false (step_at steps f.at)) else (if f.left == 0 then None else Some (an_item f.lap true a_step.Skip))) ge
-          ∙ ap (λ (i : ℕ). if i == 0 then None else Some (an_item f.lap true a_step.Skip)) left_is) ∙ next in none_is item e)
+          absurd (let e = sym (ap (λ b. if b then Some (an_item f.at false (step_at steps f.at)) else (if f.left == 0 then None else Some (an_item f.of_loop true a_step.Skip))) ge
+          ∙ ap (λ (i : ℕ). if i == 0 then None else Some (an_item f.of_loop true a_step.Skip)) left_is) ∙ next in none_is item e)
       by false ge (suc left) left_is =
-          let e : Some (an_item f.lap true a_step.Skip) ≡ Some item =
-          sym (ap (λ b. if b then Some (an_item f.at false (step_at steps f.at)) else (if f.left == 0 then None else Some (an_item f.lap true a_step.Skip))) ge
-          ∙ ap (λ (c : Bool). if c then None else Some (an_item f.lap true a_step.Skip)) (some_left left left_is)) ∙ next in
+          let e : Some (an_item f.of_loop true a_step.Skip) ≡ Some item =
+          sym (ap (λ b. if b then Some (an_item f.at false (step_at steps f.at)) else (if f.left == 0 then None else Some (an_item f.of_loop true a_step.Skip))) ge
+          ∙ ap (λ (c : Bool). if c then None else Some (an_item f.of_loop true a_step.Skip)) (some_left left left_is)) ∙ next in
           let less : f.left - 1 ≡ left = omega (arith, left_is) in
           subst (λ z. WentOn f ms z fs (frames_after steps f fs)) (some_is e)
-          (subst (λ b. WentOn f ms (an_item f.lap true a_step.Skip) fs
-          (if b then frames_at f (step_at steps f.at) fs else (if f.left == 0 then fs else fs ++ record f { at = f.lap + 1; left = f.left - 1 } ∷ []))) (sym ge)
-          (subst (λ (c : Bool). WentOn f ms (an_item f.lap true a_step.Skip) fs (if c then fs else fs ++ record f { at = f.lap + 1; left = f.left - 1 } ∷ [])) (sym (some_left left left_is))
-          (subst (λ i. WentOn f ms (an_item f.lap true a_step.Skip) fs (fs ++ record f { at = f.lap + 1; left = i } ∷ [])) (sym less)
+          (subst (λ b. WentOn f ms (an_item f.of_loop true a_step.Skip) fs
+          (if b then frames_at f (step_at steps f.at) fs else (if f.left == 0 then fs else fs ++ record f { at = f.of_loop + 1; left = f.left - 1 } ∷ []))) (sym ge)
+          (subst (λ (c : Bool). WentOn f ms (an_item f.of_loop true a_step.Skip) fs (if c then fs else fs ++ record f { at = f.of_loop + 1; left = f.left - 1 } ∷ [])) (sym (some_left left left_is))
+          (subst (λ i. WentOn f ms (an_item f.of_loop true a_step.Skip) fs (fs ++ record f { at = f.of_loop + 1; left = i } ∷ [])) (sym less)
           (turn_on f ms fs left is (not_less f.at f.to ge) left_is))))
 
   pub idled : (f : Frame) (ms : List Visit) (fs : List Frame) → FrameIs n names steps f ms → next_item steps f ≡ None → (ms ≡ []) × (frames_after steps f fs ≡ fs)
@@ -277,16 +277,16 @@ module _ (n : ℕ) (names : ℕ → List ℕ) (steps : List Step) where
     where
       by : (b : Bool) → nat_lt f.at f.to ≡ b → (left : ℕ) → f.left ≡ left → (ms ≡ []) × (frames_after steps f fs ≡ fs)
       by true lt left left_is =
-          absurd (let e = sym next ∙ ap (λ b. if b then Some (an_item f.at false (step_at steps f.at)) else (if f.left == 0 then None else Some (an_item f.lap true a_step.Skip))) lt in
+          absurd (let e = sym next ∙ ap (λ b. if b then Some (an_item f.at false (step_at steps f.at)) else (if f.left == 0 then None else Some (an_item f.of_loop true a_step.Skip))) lt in
           none_is (an_item f.at false (step_at steps f.at)) e)
       by false ge zero left_is = (
         nothing_on f ms is (not_less f.at f.to ge) left_is,
-        ap (λ b. if b then frames_at f (step_at steps f.at) fs else (if f.left == 0 then fs else fs ++ record f { at = f.lap + 1; left = f.left - 1 } ∷ [])) ge
-            ∙ ap (λ (c : Bool). if c then fs else fs ++ record f { at = f.lap + 1; left = f.left - 1 } ∷ []) (eq-eqb f.left 0 left_is),
+        ap (λ b. if b then frames_at f (step_at steps f.at) fs else (if f.left == 0 then fs else fs ++ record f { at = f.of_loop + 1; left = f.left - 1 } ∷ [])) ge
+            ∙ ap (λ (c : Bool). if c then fs else fs ++ record f { at = f.of_loop + 1; left = f.left - 1 } ∷ []) (eq-eqb f.left 0 left_is),
       )
       by false ge (suc left) left_is =
-          absurd (let e = sym next ∙ (ap (λ b. if b then Some (an_item f.at false (step_at steps f.at)) else (if f.left == 0 then None else Some (an_item f.lap true a_step.Skip))) ge
-          ∙ ap (λ (c : Bool). if c then None else Some (an_item f.lap true a_step.Skip)) (some_left left left_is)) in none_is (an_item f.lap true a_step.Skip) e)
+          absurd (let e = sym next ∙ (ap (λ b. if b then Some (an_item f.at false (step_at steps f.at)) else (if f.left == 0 then None else Some (an_item f.of_loop true a_step.Skip))) ge
+          ∙ ap (λ (c : Bool). if c then None else Some (an_item f.of_loop true a_step.Skip)) (some_left left left_is)) in none_is (an_item f.of_loop true a_step.Skip) e)
 
 -- ---- how many there are
 
@@ -295,7 +295,7 @@ some_few fs f = omega (arith, length-append fs (f ∷ []))
 
 at_few : (f : Frame) (step : Step) (fs : List Frame) → length (frames_at f step fs) ≤ length fs + 2
 at_few f (a_step.Loop k after steady) fs =
-    let inner : Frame = record { at = after; to = after; lap = f.at; left = k } in
+    let inner : Frame = record { at = after; to = after; of_loop = f.at; left = k } in
     omega (arith, length-append (fs ++ record f { at = after } ∷ []) (inner ∷ []), length-append fs (record f { at = after } ∷ []))
 at_few f (a_step.Fork x after) fs = some_few fs (record f { at = after })
 at_few f (a_step.NewTask x) fs = some_few fs (record f { at = f.at + 1 })
@@ -309,7 +309,7 @@ at_few f a_step.Skip fs = some_few fs (record f { at = f.at + 1 })
 pub frames_few : (steps : List Step) (f : Frame) (fs : List Frame) → length (frames_after steps f fs) ≤ length fs + 2
 frames_few steps f fs = by (nat_lt f.at f.to) (f.left == 0)
   where
-    by : (b c : Bool) → length (if b then frames_at f (step_at steps f.at) fs else (if c then fs else fs ++ record f { at = f.lap + 1; left = f.left - 1 } ∷ [])) ≤ length fs + 2
+    by : (b c : Bool) → length (if b then frames_at f (step_at steps f.at) fs else (if c then fs else fs ++ record f { at = f.of_loop + 1; left = f.left - 1 } ∷ [])) ≤ length fs + 2
     by true c = at_few f (step_at steps f.at) fs
     by false true = omega arith
-    by false false = some_few fs (record f { at = f.lap + 1; left = f.left - 1 })
+    by false false = some_few fs (record f { at = f.of_loop + 1; left = f.left - 1 })

@@ -3,8 +3,8 @@ pub mod Last
 pub mod Coming
 pub mod NotesFitting
 pub mod FrameVisits
-pub mod LapCounts
-pub mod LapsOn
+pub mod TurnCounts
+pub mod LastTurnsOn
 pub mod SoughtSteps
 pub mod SoughtEnds
 pub mod SoughtTasks

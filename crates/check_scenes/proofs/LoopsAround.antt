@@ -7,9 +7,9 @@ use Rattle.pl_plan.specs.declared.step.Step.{Step}
 use Rattle.pl_plan.specs.inside.Steps.{IsList, IsSpelled, IsStep, step_at}
 use Rattle.pl_plan.proofs.Spelled.{spelled_count}
 use Rattle.check_scenes.specs.Turns.{loops_around}
-use Rattle.check_scenes.specs.declared.notes.Lap.{Lap}
+use Rattle.check_scenes.specs.declared.notes.LastTurn.{LastTurn}
 use Rattle.check_scenes.specs.declared.scene.LoopTurn.{LoopTurn}
-use Rattle.check_scenes.specs.inside.Told.{TurnsTold, behind, enters, turn_told}
+use Rattle.check_scenes.specs.inside.Told.{AreTurns, behind, enters, turn_told}
 
 plain_enters : (n : ℕ) (names : ℕ → List ℕ) (step : Step) (c : Plain) (at s : ℕ) → IsStep n names step c → enters step at s ≡ None
 plain_enters n names step (new_task x) at s h = ap (λ z. enters z at s) h.1
@@ -110,19 +110,19 @@ module _ (n : ℕ) (names : ℕ → List ℕ) (steps : List Step) (s at to : ℕ
 -- ---- the loop
 
 -- these turns, and those of what is left, are all
-pub record Nears (steps : List Step) (laps : List Lap) (t s first after at to : ℕ) (turns : List LoopTurn) : Type 0 where
+pub record Nears (steps : List Step) (last_turns : List LastTurn) (t s first after at to : ℕ) (turns : List LoopTurn) : Type 0 where
   pub within : to ≤ length steps
   pub some : (count : ℕ) × IsList count steps at to
   pub all : (n : ℕ) (names : ℕ → List ℕ) (tree : Tree) → IsSpelled n names steps first tree after →
       (rest : Tree) × IsSpelled n names steps at rest to
-      × (map (turn_told laps t) (loops_around (first + 1) tree s) ≡ turns ++ map (turn_told laps t) (loops_around (at + 1) rest s))
+      × (map (turn_told last_turns t) (loops_around (first + 1) tree s) ≡ turns ++ map (turn_told last_turns t) (loops_around (at + 1) rest s))
 
-module _ (steps : List Step) (laps : List Lap) (t s first after : ℕ) where
-  pub nears_start : after ≤ length steps → (count : ℕ) × IsList count steps first after → Nears steps laps t s first after first after []
+module _ (steps : List Step) (last_turns : List LastTurn) (t s first after : ℕ) where
+  pub nears_start : after ≤ length steps → (count : ℕ) × IsList count steps first after → Nears steps last_turns t s first after first after []
   nears_start within some = record { within = within; some = some; all = λ n names tree e. (tree, e, refl) }
 
-  module _ (at to : ℕ) (turns : List LoopTurn) (now : Nears steps laps t s first after at to turns) (lt : at < to) where
-    pub nears_inside : (end : ℕ) → enters (step_at steps at) at s ≡ Some end → Nears steps laps t s first after (at + 1) end (turns ++ turn_told laps t (at + 1) ∷ [])
+  module _ (at to : ℕ) (turns : List LoopTurn) (now : Nears steps last_turns t s first after at to turns) (lt : at < to) where
+    pub nears_inside : (end : ℕ) → enters (step_at steps at) at s ≡ Some end → Nears steps last_turns t s first after (at + 1) end (turns ++ turn_told last_turns t (at + 1) ∷ [])
     nears_inside end is =
         let some = now.some in
         let i = inside some.0 some.1.0 steps s at to some.1.1 end some.1.2 lt is in
@@ -134,15 +134,15 @@ module _ (steps : List Step) (laps : List Lap) (t s first after : ℕ) where
               let j = inside n names steps s at to a.0 end a.1 lt is in (
                 j.body,
                 j.there,
-                a.2 ∙ ap (λ ls. turns ++ map (turn_told laps t) ls) j.loops_are
-                    ∙ sym (append_assoc turns (turn_told laps t (at + 1) ∷ []) (map (turn_told laps t) (loops_around (at + 1 + 1) j.body s))),
+                a.2 ∙ ap (λ ls. turns ++ map (turn_told last_turns t) ls) j.loops_are
+                    ∙ sym (append_assoc turns (turn_told last_turns t (at + 1) ∷ []) (map (turn_told last_turns t) (loops_around (at + 1 + 1) j.body s))),
               );
         }
 
     pub inside_within : (end : ℕ) → enters (step_at steps at) at s ≡ Some end → end ≤ to
     inside_within end is = (let some = now.some in let i = inside some.0 some.1.0 steps s at to some.1.1 end some.1.2 lt is in i.within)
 
-    pub nears_outside : enters (step_at steps at) at s ≡ None → Nears steps laps t s first after (behind (step_at steps at) at) to turns
+    pub nears_outside : enters (step_at steps at) at s ≡ None → Nears steps last_turns t s first after (behind (step_at steps at) at) to turns
     nears_outside is =
         let some = now.some in
         let i = outside some.0 some.1.0 steps s at to some.1.1 some.1.2 lt is in
@@ -152,18 +152,18 @@ module _ (steps : List Step) (laps : List Lap) (t s first after : ℕ) where
           all = λ n names tree e.
               let a = now.all n names tree e in
               let j = outside n names steps s at to a.0 a.1 lt is in
-              (j.rest, j.there, a.2 ∙ ap (λ ls. turns ++ map (turn_told laps t) ls) j.loops_are);
+              (j.rest, j.there, a.2 ∙ ap (λ ls. turns ++ map (turn_told last_turns t) ls) j.loops_are);
         }
 
     pub outside_further : enters (step_at steps at) at s ≡ None → at < behind (step_at steps at) at
     outside_further is = (let some = now.some in let i = outside some.0 some.1.0 steps s at to some.1.1 some.1.2 lt is in i.further)
 
-  pub nears_end : (at to : ℕ) (turns : List LoopTurn) → Nears steps laps t s first after at to turns → to ≤ at → TurnsTold steps first after laps t s turns
+  pub nears_end : (at to : ℕ) (turns : List LoopTurn) → Nears steps last_turns t s first after at to turns → to ≤ at → AreTurns steps first after last_turns t s turns
   nears_end at to turns now ge n names tree e =
       let a = now.all n names tree e in
       sym (a.2 ∙ ap (λ ls. turns ++ ls) (none a.0 a.1) ∙ append-nil turns)
     where
-      none : (rest : Tree) → IsSpelled n names steps at rest to → map (turn_told laps t) (loops_around (at + 1) rest s) ≡ []
+      none : (rest : Tree) → IsSpelled n names steps at rest to → map (turn_told last_turns t) (loops_around (at + 1) rest s) ≡ []
       none done h = refl
       none (plain c rest) h = absurd (let x = spelled_count n names steps at (plain c rest) to h in omega (arith, x, ge))
       none (fork y body rest) h = absurd (let x = spelled_count n names steps at (fork y body rest) to h in omega (arith, x, ge))

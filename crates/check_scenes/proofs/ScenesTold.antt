@@ -19,7 +19,7 @@ use Rattle.check_scenes.specs.Deeds.{drew, forked, left, made, name_given, regis
 use Rattle.check_scenes.specs.Scenes.{IsScene, Past, about, about_cells, about_drawn, about_member, about_name, about_names, about_registered, about_visit, done_by, drawn_at, forked_at, made_at, named_phaser, named_task, parent_number, task_of, turns_around}
 use Rattle.check_scenes.specs.Turns.{loops_around, loops_of, turn_in, turns_in, visits_among}
 use Rattle.check_scenes.specs.declared.frames.Item.{Item}
-use Rattle.check_scenes.specs.declared.notes.Lap.{Lap}
+use Rattle.check_scenes.specs.declared.notes.LastTurn.{LastTurn}
 use Rattle.check_scenes.specs.declared.notes.Note.{Note}
 use Rattle.check_scenes.specs.declared.scene.LoopTurn.{LoopTurn}
 use Rattle.check_scenes.specs.declared.scene.Matter.{Matter}
@@ -248,14 +248,14 @@ turns_same f h same first (loop k body rest) s l =
 first_failing : (s : UnfoldingState) (t : ℕ) (m : Visit) (f : CheckFault) → FailsAt s (comes t m) f → first_kind table s t m.coming ≡ Some f.kind
 first_failing s t m f (at_visit first is) = kind_some s t m.coming f.kind first
 
-module _ (g : Source) (stop : Stop) (notes : List Note) (laps : List Lap) (st : Stopped g stop notes laps) where
+module _ (g : Source) (stop : Stop) (notes : List Note) (last_turns : List LastTurn) (st : Stopped g stop notes last_turns) where
   abbrev past : Past
   past = record { first = opening_state g.program.body; stages = st.stages; there = st.there }
 
-  pub can_be_told : PlaceCanBeTold laps g.steps stop.first stop.after stop.place
+  pub can_be_told : PlaceCanBeTold last_turns g.steps stop.first stop.after stop.place
   can_be_told = by stop.place st.place
     where
-      by : (place : Place) → IsAt g place stop.first stop.after st.stages st.stage st.there laps → PlaceCanBeTold laps g.steps stop.first stop.after place
+      by : (place : Place) → IsAt g place stop.first stop.after st.stages st.stage st.there last_turns → PlaceCanBeTold last_turns g.steps stop.first stop.after place
       by (p.Visit sight) at =
           let k = at.kept in
           let steps = at.shown.steps_are in
@@ -270,7 +270,7 @@ module _ (g : Source) (stop : Stop) (notes : List Note) (laps : List Lap) (st : 
           }
       by (p.End t q) at = tt
 
-  visit_scene : (scene : Scene) (sight : Sight) → AtVisit g sight stop.first stop.after st.stages st.stage st.there laps → VisitScene g.names notes laps g.steps stop sight scene → IsScene g.program scene
+  visit_scene : (scene : Scene) (sight : Sight) → AtVisit g sight stop.first stop.after st.stages st.stage st.there last_turns → VisitScene g.names notes last_turns g.steps stop sight scene → IsScene g.program scene
   visit_scene scene sight at told =
       let t = sight.t.0 in
       let k = at.kept in
@@ -281,13 +281,13 @@ module _ (g : Source) (stop : Stop) (notes : List Note) (laps : List Lap) (st : 
       (first_failing st.there t m_ stop.fault fails) in
       let number : m_.statement ≡ sight.item.at + 1 = statement_is (length k.bindings.slots) g.names g.steps sight.item m_ at.seen.comes_to in
       let visits = visits_among t (st.stages ++ comes t m_ ∷ []) in
-      let turn_is : (n : ℕ) → 1 ≤ n → turn_told laps t n ≡ record { statement = n; turn = turn_in n visits } =
+      let turn_is : (n : ℕ) → 1 ≤ n → turn_told last_turns t n ≡ record { statement = n; turn = turn_in n visits } =
       λ n l. ap (λ i. record { statement = n; turn = i })
       (at.turns (n - 1) ∙ ap (λ z. turn_in (n - 1 + 1) (visits_among t (st.stages ++ z ∷ []))) at.stage_is
       ∙ ap (λ i. turn_in i visits) (let e : n - 1 + 1 ≡ n = omega (arith, l) in e)) in
       let turns : scene.turns ≡ turns_around past (comes t m_) =
       told.turns_are (length k.bindings.slots) g.names at.started.start.body at.started.spelled
-      ∙ turns_same (turn_told laps t) (λ n. record { statement = n; turn = turn_in n visits }) turn_is (stop.first + 1) at.started.start.body (sight.item.at + 1) (omega arith)
+      ∙ turns_same (turn_told last_turns t) (λ n. record { statement = n; turn = turn_in n visits }) turn_is (stop.first + 1) at.started.start.body (sight.item.at + 1) (omega arith)
       ∙ ap (λ i. map (λ n. record { statement = n; turn = turn_in n visits }) (loops_around i at.started.start.body (sight.item.at + 1))) (sym at.started.first_is)
       ∙ ap (λ i. map (λ n. record { statement = n; turn = turn_in n visits }) (loops_around at.started.start.first at.started.start.body i)) (sym number)
       ∙ ap (λ o. turns_in (loops_of o m_.statement) visits) (sym at.started.start_is) in
@@ -325,9 +325,9 @@ module _ (g : Source) (stop : Stop) (notes : List Note) (laps : List Lap) (st : 
             told.matter_is ∙ ap m.TooManyOpsAtEnd (sym (phaser_same g.names notes past st.told q)) ∙ ap (λ z. about past scene.fault.kind z) (sym stage_is);
       }
 
-  pub scene_is : (scene : Scene) → PlaceScene g.names notes laps g.steps stop stop.place scene → IsScene g.program scene
+  pub scene_is : (scene : Scene) → PlaceScene g.names notes last_turns g.steps stop stop.place scene → IsScene g.program scene
   scene_is scene told = by stop.place st.place told
     where
-      by : (place : Place) → IsAt g place stop.first stop.after st.stages st.stage st.there laps → PlaceScene g.names notes laps g.steps stop place scene → IsScene g.program scene
+      by : (place : Place) → IsAt g place stop.first stop.after st.stages st.stage st.there last_turns → PlaceScene g.names notes last_turns g.steps stop place scene → IsScene g.program scene
       by (p.Visit sight) at told = visit_scene scene sight at told
       by (p.End t q) at told = end_scene scene t.0 q.0 at told

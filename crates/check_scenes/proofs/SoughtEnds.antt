@@ -20,13 +20,13 @@ use Rattle.pl_plan.proofs.Walks.{keeps_ok}
 use Rattle.check_scenes.specs.Deeds as deeds
 use Rattle.check_scenes.specs.Turns.{turn_in, visits_among}
 use Rattle.check_scenes.specs.declared.notes.Deed.{Deed}
-use Rattle.check_scenes.specs.declared.notes.Lap.{Lap}
+use Rattle.check_scenes.specs.declared.notes.LastTurn.{LastTurn}
 use Rattle.check_scenes.specs.declared.notes.Note.{Note}
 use Rattle.check_scenes.specs.declared.seek.Place.TheVariants as p
 use Rattle.check_scenes.specs.declared.seek.Stop.{Stop}
-use Rattle.check_scenes.specs.inside.Noted.{LapsTell, Means, Tells, means_drew, means_forked, means_left, means_made, means_registered}
+use Rattle.check_scenes.specs.inside.Noted.{LastTurnsTell, Means, Tells, means_drew, means_forked, means_left, means_made, means_registered}
 use Rattle.check_scenes.specs.inside.Seeks.{HasLeaving, IsAt, Leaving, Source, Stands, Stopped}
-use Rattle.check_scenes.proofs.LapCounts.{among_append}
+use Rattle.check_scenes.proofs.TurnCounts.{among_append}
 use Rattle.check_scenes.proofs.Last.{tells_more}
 use Rattle.check_scenes.proofs.SoughtSteps.{start_later}
 
@@ -58,8 +58,8 @@ leaves_quiet t q = record { unnoted = unnoted; unvisited = λ u. refl }
 among_quiet : (u : ℕ) (xs : List Stage) (v : Stage) → IsQuiet v → visits_among u (xs ++ v ∷ []) ≡ visits_among u xs
 among_quiet u xs v quiet = among_append u xs (v ∷ []) ∙ ap (λ z. visits_among u xs ++ z) (quiet.unvisited u) ∙ append-nil (visits_among u xs)
 
-pub quiet_laps : (t steps visits : ℕ) (xs : List Stage) (laps : List Lap) (v : Stage) → IsQuiet v → LapsTell t steps visits xs laps → LapsTell t steps visits (xs ++ v ∷ []) laps
-quiet_laps t steps visits xs laps v quiet tell =
+pub quiet_last_turns : (t steps visits : ℕ) (xs : List Stage) (last_turns : List LastTurn) (v : Stage) → IsQuiet v → LastTurnsTell t steps visits xs last_turns → LastTurnsTell t steps visits (xs ++ v ∷ []) last_turns
+quiet_last_turns t steps visits xs last_turns v quiet tell =
     record {
       many = tell.many;
       earlier = tell.earlier;
@@ -80,10 +80,10 @@ module _ (g : Source) where
 
   -- a stage of which nothing is noted passed
   unfoldable pub quiet_on :
-      (t : ℕ) (k : Checker) (notes : List Note) (laps : List Lap) (st : Stands g t k notes laps) (v : Stage) → IsQuiet v → IsNextStage two st.stages v st.state →
+      (t : ℕ) (k : Checker) (notes : List Note) (last_turns : List LastTurn) (st : Stands g t k notes last_turns) (v : Stage) → IsQuiet v → IsNextStage two st.stages v st.state →
       StagePasses v st.state → (e : UnfoldingState) → after_stage v st.state ≡ e → unfolds.IsKept two e → e.visits ≡ st.state.visits → (new : Checker) → Keeps k new →
-      ShowsState g.names new e → Stands g t new notes laps
-  quiet_on t k notes laps st v quiet next passes e is kept visits new keeps shows =
+      ShowsState g.names new e → Stands g t new notes last_turns
+  quiet_on t k notes last_turns st v quiet next passes e is kept visits new keeps shows =
       record {
         stages = st.stages ++ v ∷ [];
         state = e;
@@ -101,10 +101,10 @@ module _ (g : Source) where
         told =
             subst (λ ns. Tells g.names (opening_state g.program.body) (st.stages ++ v ∷ []) ns) (append-nil notes)
             (tells_more g.names two st.stages (opening_state g.program.body) st.state v notes [] st.past.leads st.told (λ d did means. quiet.unnoted st.state d did means));
-        laps_tell =
-            subst (λ (ss : List Step). LapsTell t (length ss) e.visits (st.stages ++ v ∷ []) laps) (sym keeps.steps)
-            (subst (λ i. LapsTell t (length k.steps) i (st.stages ++ v ∷ []) laps) (sym visits)
-            (quiet_laps t (length k.steps) st.state.visits st.stages laps v quiet st.laps_tell));
+        last_turns_tell =
+            subst (λ (ss : List Step). LastTurnsTell t (length ss) e.visits (st.stages ++ v ∷ []) last_turns) (sym keeps.steps)
+            (subst (λ i. LastTurnsTell t (length k.steps) i (st.stages ++ v ∷ []) last_turns) (sym visits)
+            (quiet_last_turns t (length k.steps) st.state.visits st.stages last_turns v quiet st.last_turns_tell));
       }
 
   -- ---- the end of a task
@@ -176,7 +176,7 @@ module _ (g : Source) where
             ∙ append_assoc (leaves_below t q) (leaves t q ∷ r.0) (leaves t (q + 1 + d) ∷ []),
       )
 
-  module _ (t : TaskId) (first after q : ℕ) (k : Checker) (notes : List Note) (laps : List Lap) (now : Leaving g t.0 first after q k notes laps) (few : q < 1024) where
+  module _ (t : TaskId) (first after q : ℕ) (k : Checker) (notes : List Note) (last_turns : List LastTurn) (now : Leaving g t.0 first after q k notes last_turns) (few : q < 1024) where
     run : t.0 < length k.parents
     run = subst (λ (ps : List (Option TaskId)). t.0 < length ps) now.stands.shown.shows.plan.parents now.here
 
@@ -194,7 +194,7 @@ module _ (g : Source) where
     number : first ≡ now.started.start.first - 1
     number = omega (arith, now.started.first_is)
 
-    pub leaving_on : (new : Checker) → checker_leave t.0 first q k ≡ Ok new → Leaving g t.0 first after (q + 1) new notes laps
+    pub leaving_on : (new : Checker) → checker_leave t.0 first q k ≡ Ok new → Leaving g t.0 first after (q + 1) new notes last_turns
     unfolding quiet_on
     leaving_on new is =
         let sim : Simulates g.names (Ok new) (leave t.0 first q now.stands.state) =
@@ -204,7 +204,7 @@ module _ (g : Source) where
         let past = left_past t.0 first q now.stands.state sim.0 sim.1 in
         let kept = unfolds.same_kept two t.0 0 now.stands.state now.stands.past.kept now.here sim.0 past.parents past.starts in
         record {
-          stands = quiet_on t.0 k notes laps now.stands (leaves t.0 q) (leaves_quiet t.0 q) next past.passes sim.0 past.is kept.kept past.visits new keeps sim.2;
+          stands = quiet_on t.0 k notes last_turns now.stands (leaves t.0 q) (leaves_quiet t.0 q) next past.passes sim.0 past.is kept.kept past.visits new keeps sim.2;
           here = omega (arith, now.here, kept.more);
           started =
               start_later g t.0 first after (length k.bindings.slots) (length new.bindings.slots) now.stands.state sim.0 keeps.slots
@@ -216,7 +216,7 @@ module _ (g : Source) where
         }
 
     pub leaving_stop :
-        (f : CheckFault) → checker_leave t.0 first q k ≡ Err f → (stop : Stop) (q' : PhaserId) → q'.0 ≡ q → stop.fault ≡ f → stop.place ≡ p.End t q' → Stopped g stop notes laps
+        (f : CheckFault) → checker_leave t.0 first q k ≡ Err f → (stop : Stop) (q' : PhaserId) → q'.0 ≡ q → stop.fault ≡ f → stop.place ≡ p.End t q' → Stopped g stop notes last_turns
     leaving_stop f is stop q' same fault_is place =
         let sim : leave t.0 first q now.stands.state ≡ Err f =
         subst (λ o. Simulates g.names o (leave t.0 first q now.stands.state)) is
@@ -231,11 +231,11 @@ module _ (g : Source) where
               (left_fails t.0 first q now.stands.state f now.started.start now.started.start_is number sim);
           told = now.stands.told;
           place =
-              subst (λ z. IsAt g z stop.first stop.after now.stands.stages (leaves t.0 q) now.stands.state laps) (sym place)
+              subst (λ z. IsAt g z stop.first stop.after now.stands.stages (leaves t.0 q) now.stands.state last_turns) (sym place)
               (ap (λ i. leaves t.0 i) (sym same));
         }
 
 -- a task ends: there is something that is unfolded so, and whatever was, still is
-pub record GoesAway (t first after : ℕ) (old : Checker) (old_notes : List Note) (old_laps : List Lap) (q : ℕ) (k : Checker) (notes : List Note) (laps : List Lap) : Type 0 where
-  pub some : HasLeaving t first after q k notes laps
-  pub all : (g : Source) → Leaving g t first after 0 old old_notes old_laps → Leaving g t first after q k notes laps
+pub record GoesAway (t first after : ℕ) (old : Checker) (old_notes : List Note) (old_last_turns : List LastTurn) (q : ℕ) (k : Checker) (notes : List Note) (last_turns : List LastTurn) : Type 0 where
+  pub some : HasLeaving t first after q k notes last_turns
+  pub all : (g : Source) → Leaving g t first after 0 old old_notes old_last_turns → Leaving g t first after q k notes last_turns

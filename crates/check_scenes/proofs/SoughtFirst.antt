@@ -18,9 +18,9 @@ use Rattle.pl_plan.specs.inside.Opening.{IsOpeningChecker}
 use Rattle.pl_plan.specs.inside.Steps.{IsList, IsSpelled}
 use Rattle.pl_plan.proofs.Planned.{as_many_steps, opens_flat}
 use Rattle.pl_plan.proofs.Unfolds as unfolds
-use Rattle.check_scenes.specs.declared.notes.Lap.{Lap}
+use Rattle.check_scenes.specs.declared.notes.LastTurn.{LastTurn}
 use Rattle.check_scenes.specs.declared.notes.Note.{Note}
-use Rattle.check_scenes.specs.inside.Noted.{LapsTell, MarkTells, last_noted, no_lap, turn_by}
+use Rattle.check_scenes.specs.inside.Noted.{LastTurnsTell, MarkTells, last_noted, no_turn, turn_by}
 use Rattle.check_scenes.specs.inside.Seeks.{Before, HasSource, Passed, Source}
 
 -- ---- what is kept first fits
@@ -73,28 +73,28 @@ module _ (steps : List Step) (names : ℕ) (k : Checker) (o : IsOpeningChecker s
             (start_fits c (cases_lt c 1));
       }
 
--- ---- no laps
+-- ---- no last turns
 
-lap_of_none : (n at : ℕ) → slice_index_or (replicate n no_lap) at no_lap ≡ no_lap
-lap_of_none n at = elim (cases_lt at n) [
-  | inl l ↦ get_or-replicate n at no_lap no_lap l
-  | inr l ↦ get_or_past (replicate n no_lap) at no_lap (let m = length-replicate n no_lap in omega (arith, m, l))
+turn_of_none : (n at : ℕ) → slice_index_or (replicate n no_turn) at no_turn ≡ no_turn
+turn_of_none n at = elim (cases_lt at n) [
+  | inl l ↦ get_or-replicate n at no_turn no_turn l
+  | inr l ↦ get_or_past (replicate n no_turn) at no_turn (let m = length-replicate n no_turn in omega (arith, m, l))
 ]
 
-none_tell : (n : ℕ) (laps : List Lap) → laps ≡ replicate n no_lap → LapsTell 0 n 0 [] laps
-none_tell n laps is = subst (λ ls. LapsTell 0 n 0 [] ls) (sym is) (record {
-  many = length-replicate n no_lap;
-  earlier = λ at. omega (arith, ap (λ (l : Lap). l.task.0) (lap_of_none n at));
-  few = λ at. omega (arith, ap (λ (l : Lap). l.turn) (lap_of_none n at));
+none_tell : (n : ℕ) (last_turns : List LastTurn) → last_turns ≡ replicate n no_turn → LastTurnsTell 0 n 0 [] last_turns
+none_tell n last_turns is = subst (λ ls. LastTurnsTell 0 n 0 [] ls) (sym is) (record {
+  many = length-replicate n no_turn;
+  earlier = λ at. omega (arith, ap (λ (l : LastTurn). l.task.0) (turn_of_none n at));
+  few = λ at. omega (arith, ap (λ (l : LastTurn). l.turn) (turn_of_none n at));
   later = λ u l. refl;
-  turns = λ at. ap (turn_by 0) (lap_of_none n at);
+  turns = λ at. ap (turn_by 0) (turn_of_none n at);
 })
 
 -- ---- the first task is the next one
 
-module _ (program : Program) (a b : List (Bor (List ℕ))) (old steps : List Step) (names : ℕ) (k : Checker) (notes : List Note) (laps : List Lap)
+module _ (program : Program) (a b : List (Bor (List ℕ))) (old steps : List Step) (names : ℕ) (k : Checker) (notes : List Note) (last_turns : List LastTurn)
     (empty : old ≡ []) (many : names ≡ length b) (adds : AddsSteps a b old steps program.body) (o : IsOpeningChecker steps names k) (few : count program.body < 2 ^ 32)
-    (none : notes ≡ []) (no_laps : laps ≡ replicate (length steps) no_lap) where
+    (none : notes ≡ []) (no_turns : last_turns ≡ replicate (length steps) no_turn) where
   abbrev source : Source
   source = record { program = program; names = spelling b; steps = steps }
 
@@ -107,7 +107,7 @@ module _ (program : Program) (a b : List (Bor (List ℕ))) (old steps : List Ste
       (subst (λ n. IsSpelled n (spelling b) steps 0 program.body (length steps)) (sym (o.bindings.slots_many ∙ many))
       (subst (λ z. IsSpelled (length b) (spelling b) steps z program.body (length steps)) (ap length empty) adds.spelled))
 
-  pub first_before : Before source 0 k notes laps
+  pub first_before : Before source 0 k notes last_turns
   first_before = record {
     stands = record {
       stages = [];
@@ -120,12 +120,12 @@ module _ (program : Program) (a b : List (Bor (List ℕ))) (old steps : List Ste
         small = omega (arith, few_steps, ap length o.steps_are);
       };
       told = λ d did means. subst (λ ns. MarkTells (spelling b) (last_noted d ns) None) (sym none) tt;
-      laps_tell = none_tell (length k.steps) laps (no_laps ∙ ap (λ (ss : List Step). replicate (length ss) no_lap) (sym o.steps_are));
+      last_turns_tell = none_tell (length k.steps) last_turns (no_turns ∙ ap (λ (ss : List Step). replicate (length ss) no_turn) (sym o.steps_are));
     };
     own = refl;
   }
 
-  pub has_first : HasSource program.two (spelling b) steps k notes laps
+  pub has_first : HasSource program.two (spelling b) steps k notes last_turns
   has_first = (program, refl, first_before)
 
 -- ---- where all pass, there is a plan

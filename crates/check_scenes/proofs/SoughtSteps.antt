@@ -16,17 +16,17 @@ use Rattle.pl_plan.specs.inside.Steps.{IsSpelled}
 use Rattle.pl_plan.proofs.Unfolds as unfolds
 use Rattle.check_scenes.specs.declared.frames.Frame.{Frame}
 use Rattle.check_scenes.specs.declared.frames.Item.{Item}
-use Rattle.check_scenes.specs.declared.notes.Lap.{Lap}
+use Rattle.check_scenes.specs.declared.notes.LastTurn.{LastTurn}
 use Rattle.check_scenes.specs.declared.notes.Note.{Note}
 use Rattle.check_scenes.specs.declared.seek.Place.TheVariants as p
 use Rattle.check_scenes.specs.declared.seek.Stop.{Stop}
 use Rattle.check_scenes.specs.inside.Framed.{Comes, FramesAre, frames_after, next_item}
-use Rattle.check_scenes.specs.inside.Noted.{LapsTell, Tells, TurnsTold, turn_at, with_lap, with_notes, notes_at}
+use Rattle.check_scenes.specs.inside.Noted.{LastTurnsTell, Tells, TurnsTold, turn_at, with_last_turn, with_notes, notes_at}
 use Rattle.check_scenes.specs.inside.Seen.{checker_come, sight_of}
 use Rattle.check_scenes.specs.inside.Seeks.{AtVisit, CameTo, HasMidst, HasStart, IsAt, IsShown, Midst, Source, Stands, Stopped}
 use Rattle.check_scenes.proofs.Coming.{came_fails, came_past, has_names, CamePast}
 use Rattle.check_scenes.proofs.FrameVisits.{Popped, WentOn, frames_few, frames_pop, idled, went_on}
-use Rattle.check_scenes.proofs.LapsOn.{laps_on, turn_few, turns_on}
+use Rattle.check_scenes.proofs.LastTurnsOn.{last_turns_on, turn_few, turns_on}
 use Rattle.check_scenes.proofs.Last.{tells_more}
 use Rattle.check_scenes.proofs.NotesFitting.{notes_fit}
 
@@ -70,7 +70,7 @@ module _ (g : Source) where
         within = h.within;
       }
 
-  module _ (t : TaskId) (k : Checker) (notes : List Note) (laps : List Lap) (st : Stands g t.0 k notes laps) (here : t.0 < length st.state.plan.parents)
+  module _ (t : TaskId) (k : Checker) (notes : List Note) (last_turns : List LastTurn) (st : Stands g t.0 k notes last_turns) (here : t.0 < length st.state.plan.parents)
       (item : Item) (m : Visit) (c : Comes (length k.bindings.slots) g.names g.steps item m) (next : IsNextStage two st.stages (comes t.0 m) st.state) where
     c_kept : Comes (length k.bindings.slots) g.names k.steps item m
     c_kept = subst (λ ss. Comes (length k.bindings.slots) g.names ss item m) (sym st.shown.steps_are) c
@@ -79,8 +79,8 @@ module _ (g : Source) where
     run = subst (λ (ps : List (Option TaskId)). t.0 < length ps) st.shown.shows.plan.parents here
 
     -- it passed
-    pub record CameOn (new : Checker) (new_notes : List Note) (new_laps : List Lap) : Type 0 where
-      pub stands : Stands g t.0 new new_notes new_laps
+    pub record CameOn (new : Checker) (new_notes : List Note) (new_last_turns : List LastTurn) : Type 0 where
+      pub stands : Stands g t.0 new new_notes new_last_turns
       pub keeps : Keeps k new
       pub kept : unfolds.Keeps two t.0 st.state stands.state
       pub stages_are : stands.stages ≡ st.stages ++ comes t.0 m ∷ []
@@ -88,16 +88,16 @@ module _ (g : Source) where
       pub visit_left : st.state.visits < 4194304
 
     pub came_on :
-        (new : Checker) (new_notes : List Note) (new_laps : List Lap) → item.at < length g.steps → checker_come t.0 item.at item.step k ≡ Ok new →
-        new_notes ≡ with_notes (sight_of k t item) notes → new_laps ≡ with_lap (sight_of k t item) laps → CameOn new new_notes new_laps
-    came_on new new_notes new_laps within is notes_are laps_are =
+        (new : Checker) (new_notes : List Note) (new_last_turns : List LastTurn) → item.at < length g.steps → checker_come t.0 item.at item.step k ≡ Ok new →
+        new_notes ≡ with_notes (sight_of k t item) notes → new_last_turns ≡ with_last_turn (sight_of k t item) last_turns → CameOn new new_notes new_last_turns
+    came_on new new_notes new_last_turns within is notes_are last_turns_are =
         let past : CamePast g.names k st.state st.shown.fits st.shown.shows t.0 run m new =
         came_past g.names k st.state st.shown.fits st.shown.shows t.0 run item m new c_kept is in
         let e = after_stage (comes t.0 m) st.state in
         let kept = unfolds.keeps two t.0 m.statement st.state st.past.kept here m.coming past.passes in
         let one_more = visits_after t.0 m.statement m.coming st.state in
         let left = visit_left st.state t.0 m.coming past.passes in
-        let in_laps : item.at < length laps = omega (arith, within, st.laps_tell.many, ap length st.shown.steps_are) in
+        let in_last_turns : item.at < length last_turns = omega (arith, within, st.last_turns_tell.many, ap length st.shown.steps_are) in
         record {
           stands = record {
             stages = st.stages ++ comes t.0 m ∷ [];
@@ -111,11 +111,11 @@ module _ (g : Source) where
             told = subst (λ ns. Tells g.names (opening_state g.program.body) (st.stages ++ comes t.0 m ∷ []) ns) (sym notes_are)
                 (tells_more g.names two st.stages (opening_state g.program.body) st.state (comes t.0 m) notes (notes_at (sight_of k t item) item.step) st.past.leads st.told
                 (notes_fit g.names k st.state st.shown.shows t item m c_kept));
-            laps_tell =
-                subst (λ (ss : List Step). LapsTell t.0 (length ss) e.visits (st.stages ++ comes t.0 m ∷ []) new_laps) (sym past.keeps.steps)
-                (subst (λ v. LapsTell t.0 (length k.steps) v (st.stages ++ comes t.0 m ∷ []) new_laps) (sym one_more)
-                (subst (λ ls. LapsTell t.0 (length k.steps) (st.state.visits + 1) (st.stages ++ comes t.0 m ∷ []) ls) (sym laps_are)
-                (laps_on t (length k.steps) st.state.visits st.stages laps st.laps_tell k (length k.bindings.slots) g.names g.steps item m c in_laps)));
+            last_turns_tell =
+                subst (λ (ss : List Step). LastTurnsTell t.0 (length ss) e.visits (st.stages ++ comes t.0 m ∷ []) new_last_turns) (sym past.keeps.steps)
+                (subst (λ v. LastTurnsTell t.0 (length k.steps) v (st.stages ++ comes t.0 m ∷ []) new_last_turns) (sym one_more)
+                (subst (λ ls. LastTurnsTell t.0 (length k.steps) (st.state.visits + 1) (st.stages ++ comes t.0 m ∷ []) ls) (sym last_turns_are)
+                (last_turns_on t (length k.steps) st.state.visits st.stages last_turns st.last_turns_tell k (length k.bindings.slots) g.names g.steps item m c in_last_turns)));
           };
           keeps = past.keeps;
           kept = kept;
@@ -126,12 +126,12 @@ module _ (g : Source) where
 
     -- it is at fault
     pub came_stop :
-        (first after : ℕ) → HasStart g t.0 first after (length k.bindings.slots) st.state → (stop : Stop) (new_notes : List Note) (new_laps : List Lap) → item.at < length g.steps →
-        checker_come t.0 item.at item.step k ≡ Err stop.fault → new_notes ≡ notes → new_laps ≡ with_lap (sight_of k t item) laps → stop.place ≡ p.Visit (sight_of k t item) →
-        stop.first ≡ first → stop.after ≡ after → Stopped g stop new_notes new_laps
-    came_stop first after started stop new_notes new_laps within is notes_are laps_are place first_is after_is =
-        let in_laps : item.at < length laps = omega (arith, within, st.laps_tell.many, ap length st.shown.steps_are) in
-        let there : AtVisit g (sight_of k t item) first after st.stages (comes t.0 m) st.state new_laps =
+        (first after : ℕ) → HasStart g t.0 first after (length k.bindings.slots) st.state → (stop : Stop) (new_notes : List Note) (new_last_turns : List LastTurn) → item.at < length g.steps →
+        checker_come t.0 item.at item.step k ≡ Err stop.fault → new_notes ≡ notes → new_last_turns ≡ with_last_turn (sight_of k t item) last_turns → stop.place ≡ p.Visit (sight_of k t item) →
+        stop.first ≡ first → stop.after ≡ after → Stopped g stop new_notes new_last_turns
+    came_stop first after started stop new_notes new_last_turns within is notes_are last_turns_are place first_is after_is =
+        let in_last_turns : item.at < length last_turns = omega (arith, within, st.last_turns_tell.many, ap length st.shown.steps_are) in
+        let there : AtVisit g (sight_of k t item) first after st.stages (comes t.0 m) st.state new_last_turns =
         record {
           visit = m;
           stage_is = refl;
@@ -140,10 +140,10 @@ module _ (g : Source) where
           seen = record { sight_is = refl; comes_to = c; here = within };
           started = started;
           many =
-              (let tell = laps_on t (length k.steps) st.state.visits st.stages laps st.laps_tell k (length k.bindings.slots) g.names g.steps item m c in_laps in
-              ap length laps_are ∙ tell.many ∙ ap length st.shown.steps_are);
-          turns = subst (λ ls. TurnsTold t.0 (st.stages ++ comes t.0 m ∷ []) ls) (sym laps_are)
-              (turns_on t st.stages laps st.laps_tell.turns k (length k.bindings.slots) g.names g.steps item m c in_laps);
+              (let tell = last_turns_on t (length k.steps) st.state.visits st.stages last_turns st.last_turns_tell k (length k.bindings.slots) g.names g.steps item m c in_last_turns in
+              ap length last_turns_are ∙ tell.many ∙ ap length st.shown.steps_are);
+          turns = subst (λ ls. TurnsTold t.0 (st.stages ++ comes t.0 m ∷ []) ls) (sym last_turns_are)
+              (turns_on t st.stages last_turns st.last_turns_tell.turns k (length k.bindings.slots) g.names g.steps item m c in_last_turns);
         } in
         record {
           stages = st.stages;
@@ -154,15 +154,15 @@ module _ (g : Source) where
           fails = came_fails g.names k st.state st.shown.fits st.shown.shows t.0 run item m stop.fault c_kept is;
           told = subst (λ ns. Tells g.names (opening_state g.program.body) st.stages ns) (sym notes_are) st.told;
           place =
-              subst (λ z. IsAt g z stop.first stop.after st.stages (comes t.0 m) st.state new_laps) (sym place)
-              (subst (λ z. AtVisit g (sight_of k t item) z stop.after st.stages (comes t.0 m) st.state new_laps) (sym first_is)
-              (subst (λ z. AtVisit g (sight_of k t item) first z st.stages (comes t.0 m) st.state new_laps) (sym after_is) there));
+              subst (λ z. IsAt g z stop.first stop.after st.stages (comes t.0 m) st.state new_last_turns) (sym place)
+              (subst (λ z. AtVisit g (sight_of k t item) z stop.after st.stages (comes t.0 m) st.state new_last_turns) (sym first_is)
+              (subst (λ z. AtVisit g (sight_of k t item) first z st.stages (comes t.0 m) st.state new_last_turns) (sym after_is) there));
         }
 
   -- ---- in the midst of a task
 
-  module _ (t : TaskId) (first after : ℕ) (fs : List Frame) (f : Frame) (k : Checker) (notes : List Note) (laps : List Lap)
-      (now : Midst g t.0 first after (fs ++ f ∷ []) k notes laps) where
+  module _ (t : TaskId) (first after : ℕ) (fs : List Frame) (f : Frame) (k : Checker) (notes : List Note) (last_turns : List LastTurn)
+      (now : Midst g t.0 first after (fs ++ f ∷ []) k notes last_turns) where
     popped : Popped (length k.bindings.slots) g.names g.steps fs f now.visits
     popped = frames_pop (length k.bindings.slots) g.names g.steps fs f now.visits now.frames_are
 
@@ -172,10 +172,10 @@ module _ (g : Source) where
     pub frame_within : f.to ≤ length k.steps
     frame_within = subst (λ (ss : List Step). f.to ≤ length ss) (sym now.stands.shown.steps_are) popped.is.within
 
-    pub frame_small : f.lap + 1 < 2 ^ 32
+    pub frame_small : f.of_loop + 1 < 2 ^ 32
     frame_small = popped.is.small
 
-    pub midst_idle : next_item k.steps f ≡ None → Midst g t.0 first after (frames_after k.steps f fs) k notes laps
+    pub midst_idle : next_item k.steps f ≡ None → Midst g t.0 first after (frames_after k.steps f fs) k notes last_turns
     midst_idle none =
         let idle = idled (length k.bindings.slots) g.names g.steps f popped.own fs popped.is (ap (λ ss. next_item ss f) (sym now.stands.shown.steps_are) ∙ none) in
         record {
@@ -217,18 +217,18 @@ module _ (g : Source) where
       pub item_small : item.at + 1 < 2 ^ 32
       item_small = omega (arith, went.within, few_steps)
 
-      pub item_here : item.at < length laps
-      item_here = omega (arith, went.within, now.stands.laps_tell.many, ap length now.stands.shown.steps_are)
+      pub item_here : item.at < length last_turns
+      item_here = omega (arith, went.within, now.stands.last_turns_tell.many, ap length now.stands.shown.steps_are)
 
-      pub item_few : turn_at laps t.0 item.at + 1 < 2 ^ 32
+      pub item_few : turn_at last_turns t.0 item.at + 1 < 2 ^ 32
       item_few =
-          let l = turn_few t.0 (length k.steps) now.stands.state.visits now.stands.stages laps now.stands.laps_tell item.at in
+          let l = turn_few t.0 (length k.steps) now.stands.state.visits now.stands.stages last_turns now.stands.last_turns_tell item.at in
           omega (arith, l, now.stands.past.few)
 
-      on : (new : Checker) (new_notes : List Note) (new_laps : List Lap) →
-          CameOn t k notes laps now.stands now.here item went.visit_is went.comes_to next new new_notes new_laps →
-          Midst g t.0 first after (frames_after k.steps f fs) new new_notes new_laps
-      on new new_notes new_laps came =
+      on : (new : Checker) (new_notes : List Note) (new_last_turns : List LastTurn) →
+          CameOn t k notes last_turns now.stands now.here item went.visit_is went.comes_to next new new_notes new_last_turns →
+          Midst g t.0 first after (frames_after k.steps f fs) new new_notes new_last_turns
+      on new new_notes new_last_turns came =
           let starts = came.kept.starts in
           record {
             stands = came.stands;
@@ -246,35 +246,35 @@ module _ (g : Source) where
                 ∙ sym (unfolds.stages_same two (suc t.0) now.stands.state came.stands.state (λ u l. starts u (omega (arith, l))));
           }
 
-      came_now : (new : Checker) (new_notes : List Note) (new_laps : List Lap) → CameTo t item first after (Ok None) k notes laps new new_notes new_laps →
-          CameOn t k notes laps now.stands now.here item went.visit_is went.comes_to next new new_notes new_laps
-      came_now new new_notes new_laps came =
-          came_on t k notes laps now.stands now.here item went.visit_is went.comes_to next new new_notes new_laps went.within came.0 came.1 came.2
+      came_now : (new : Checker) (new_notes : List Note) (new_last_turns : List LastTurn) → CameTo t item first after (Ok None) k notes last_turns new new_notes new_last_turns →
+          CameOn t k notes last_turns now.stands now.here item went.visit_is went.comes_to next new new_notes new_last_turns
+      came_now new new_notes new_last_turns came =
+          came_on t k notes last_turns now.stands now.here item went.visit_is went.comes_to next new new_notes new_last_turns went.within came.0 came.1 came.2
 
-      pub midst_on : (new : Checker) (new_notes : List Note) (new_laps : List Lap) → CameTo t item first after (Ok None) k notes laps new new_notes new_laps →
-          Midst g t.0 first after (frames_after k.steps f fs) new new_notes new_laps
-      midst_on new new_notes new_laps came = on new new_notes new_laps (came_now new new_notes new_laps came)
+      pub midst_on : (new : Checker) (new_notes : List Note) (new_last_turns : List LastTurn) → CameTo t item first after (Ok None) k notes last_turns new new_notes new_last_turns →
+          Midst g t.0 first after (frames_after k.steps f fs) new new_notes new_last_turns
+      midst_on new new_notes new_last_turns came = on new new_notes new_last_turns (came_now new new_notes new_last_turns came)
 
       -- so many visits more may come
-      pub visits_on : (new : Checker) (new_notes : List Note) (new_laps : List Lap) → CameTo t item first after (Ok None) k notes laps new new_notes new_laps →
+      pub visits_on : (new : Checker) (new_notes : List Note) (new_last_turns : List LastTurn) → CameTo t item first after (Ok None) k notes last_turns new new_notes new_last_turns →
           (new.counts.visits ≡ k.counts.visits + 1) × (k.counts.visits < 4194304)
-      visits_on new new_notes new_laps came =
-          let c = came_now new new_notes new_laps came in
+      visits_on new new_notes new_last_turns came =
+          let c = came_now new new_notes new_last_turns came in
           let before = now.stands.shown.shows.visits in
           let behind = c.stands.shown.shows.visits in
           (omega (arith, before, behind, c.visits_are), omega (arith, before, c.visit_left))
 
-      pub midst_stop : (stop : Stop) (new : Checker) (new_notes : List Note) (new_laps : List Lap) → CameTo t item first after (Ok (Some stop)) k notes laps new new_notes new_laps →
-          Stopped g stop new_notes new_laps
-      midst_stop stop new new_notes new_laps came =
-          came_stop t k notes laps now.stands now.here item went.visit_is went.comes_to next first after now.started stop new_notes new_laps went.within
+      pub midst_stop : (stop : Stop) (new : Checker) (new_notes : List Note) (new_last_turns : List LastTurn) → CameTo t item first after (Ok (Some stop)) k notes last_turns new new_notes new_last_turns →
+          Stopped g stop new_notes new_last_turns
+      midst_stop stop new new_notes new_last_turns came =
+          came_stop t k notes last_turns now.stands now.here item went.visit_is went.comes_to next first after now.started stop new_notes new_last_turns went.within
           came.0 came.1 came.2 came.3 came.4 came.5
 
       pub visits_fall :
-          (new : Checker) (new_notes : List Note) (new_laps : List Lap) → CameTo t item first after (Ok None) k notes laps new new_notes new_laps →
+          (new : Checker) (new_notes : List Note) (new_last_turns : List LastTurn) → CameTo t item first after (Ok None) k notes last_turns new new_notes new_last_turns →
           3 * (4194305 - new.counts.visits) + length (frames_after k.steps f fs) < 3 * (4194305 - k.counts.visits) + length (fs ++ f ∷ [])
-      visits_fall new new_notes new_laps came =
-          let on = visits_on new new_notes new_laps came in
+      visits_fall new new_notes new_last_turns came =
+          let on = visits_on new new_notes new_last_turns came in
           let few = frames_few k.steps f fs in
           omega (arith, on.0, on.1, few, length-append fs (f ∷ []))
 
@@ -288,15 +288,15 @@ module _ (g : Source) where
 -- ---- the loop over the frames
 
 -- a task goes on: there is something that is unfolded so, and whatever was, still is
-pub record GoesOn (t first after : ℕ) (was : List Frame) (old : Checker) (old_notes : List Note) (old_laps : List Lap) (frames : List Frame) (k : Checker) (notes : List Note)
-    (laps : List Lap) : Type 0 where
-  pub some : HasMidst t first after frames k notes laps
-  pub all : (g : Source) → Midst g t first after was old old_notes old_laps → Midst g t first after frames k notes laps
+pub record GoesOn (t first after : ℕ) (was : List Frame) (old : Checker) (old_notes : List Note) (old_last_turns : List LastTurn) (frames : List Frame) (k : Checker) (notes : List Note)
+    (last_turns : List LastTurn) : Type 0 where
+  pub some : HasMidst t first after frames k notes last_turns
+  pub all : (g : Source) → Midst g t first after was old old_notes old_last_turns → Midst g t first after frames k notes last_turns
 
 pub goes_further :
-    (t first after : ℕ) (was : List Frame) (old : Checker) (old_notes : List Note) (old_laps : List Lap) (frames : List Frame) (k : Checker) (notes : List Note) (laps : List Lap)
-    (new_frames : List Frame) (new : Checker) (new_notes : List Note) (new_laps : List Lap) → GoesOn t first after was old old_notes old_laps frames k notes laps →
-    ((g : Source) → Midst g t first after frames k notes laps → Midst g t first after new_frames new new_notes new_laps) →
-    GoesOn t first after was old old_notes old_laps new_frames new new_notes new_laps
-goes_further t first after was old old_notes old_laps frames k notes laps new_frames new new_notes new_laps go on =
+    (t first after : ℕ) (was : List Frame) (old : Checker) (old_notes : List Note) (old_last_turns : List LastTurn) (frames : List Frame) (k : Checker) (notes : List Note) (last_turns : List LastTurn)
+    (new_frames : List Frame) (new : Checker) (new_notes : List Note) (new_last_turns : List LastTurn) → GoesOn t first after was old old_notes old_last_turns frames k notes last_turns →
+    ((g : Source) → Midst g t first after frames k notes last_turns → Midst g t first after new_frames new new_notes new_last_turns) →
+    GoesOn t first after was old old_notes old_last_turns new_frames new new_notes new_last_turns
+goes_further t first after was old old_notes old_last_turns frames k notes last_turns new_frames new new_notes new_last_turns go on =
     record { some = (go.some.0, on go.some.0 go.some.1); all = λ g m. on g (go.all g m) }

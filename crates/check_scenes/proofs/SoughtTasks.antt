@@ -16,29 +16,29 @@ use Rattle.pl_plan.proofs.Beginning.{kept_begun, ready}
 use Rattle.pl_plan.proofs.Keeping.{padded_same}
 use Rattle.pl_plan.proofs.Unfolds as unfolds
 use Rattle.check_scenes.specs.Turns.{turn_in}
-use Rattle.check_scenes.specs.declared.notes.Lap.{Lap}
+use Rattle.check_scenes.specs.declared.notes.LastTurn.{LastTurn}
 use Rattle.check_scenes.specs.declared.notes.Note.{Note}
 use Rattle.check_scenes.specs.declared.seek.Stop.{Stop}
 use Rattle.armus_base.specs.declared.errors.NoMemory.{NoMemory}
-use Rattle.check_scenes.specs.inside.Noted.{LapsTell, no_lap, turn_by}
+use Rattle.check_scenes.specs.inside.Noted.{LastTurnsTell, no_turn, turn_by}
 use Rattle.check_scenes.specs.inside.Seeks.{Before, HasBefore, Leaving, Midst, Passed, SoughtEnd, SoughtTask, Source, Stands, whole}
 use Rattle.check_scenes.proofs.SoughtEnds.{begins_quiet, quiet_on}
 
--- the laps of the next task
-next_laps : (t steps visits : ℕ) (xs : List Stage) (laps : List Lap) → LapsTell t steps visits xs laps → LapsTell (t + 1) steps visits xs laps
-next_laps t steps visits xs laps tell =
+-- the last turns of the next task
+next_last_turns : (t steps visits : ℕ) (xs : List Stage) (last_turns : List LastTurn) → LastTurnsTell t steps visits xs last_turns → LastTurnsTell (t + 1) steps visits xs last_turns
+next_last_turns t steps visits xs last_turns tell =
     record {
       many = tell.many;
       earlier = λ at. omega (arith, tell.earlier at);
       few = tell.few;
       later = λ u l. tell.later u (omega (arith, l));
-      turns = λ at. none (slice_index_or laps at no_lap) (tell.earlier at) ∙ ap (turn_in (at + 1)) (sym (tell.later (t + 1) (omega arith)));
+      turns = λ at. none (slice_index_or last_turns at no_turn) (tell.earlier at) ∙ ap (turn_in (at + 1)) (sym (tell.later (t + 1) (omega arith)));
     }
   where
-    none : (lap : Lap) → lap.task.0 ≤ t → turn_by (t + 1) lap ≡ 0
-    none lap low = elim (eqb_tells lap.task.0 (t + 1)) [
+    none : (last : LastTurn) → last.task.0 ≤ t → turn_by (t + 1) last ≡ 0
+    none last low = elim (eqb_tells last.task.0 (t + 1)) [
       | inl y ↦ absurd (let e = y.1 in omega (arith, e, low))
-      | inr n ↦ ap (λ (b : Bool). if b then lap.turn else 0) n.0
+      | inr n ↦ ap (λ (b : Bool). if b then last.turn else 0) n.0
     ]
 
 -- by the start that is kept
@@ -95,8 +95,8 @@ module _ (g : Source) where
 
   -- the next task
   pub next_before :
-      (t : ℕ) (k : Checker) (notes : List Note) (laps : List Lap) (st : Stands g t k notes laps) → st.stages ≡ stages_below two (suc t) st.state → Before g (t + 1) k notes laps
-  next_before t k notes laps st own =
+      (t : ℕ) (k : Checker) (notes : List Note) (last_turns : List LastTurn) (st : Stands g t k notes last_turns) → st.stages ≡ stages_below two (suc t) st.state → Before g (t + 1) k notes last_turns
+  next_before t k notes last_turns st own =
       record {
         stands = record {
           stages = st.stages;
@@ -104,18 +104,18 @@ module _ (g : Source) where
           past = st.past;
           shown = st.shown;
           told = st.told;
-          laps_tell = next_laps t (length k.steps) st.state.visits st.stages laps st.laps_tell;
+          last_turns_tell = next_last_turns t (length k.steps) st.state.visits st.stages last_turns st.last_turns_tell;
         };
         own = own ∙ ap (λ i. stages_below two i st.state) (let e : suc t ≡ t + 1 = omega arith in e);
       }
 
-  module _ (t : TaskId) (k : Checker) (notes : List Note) (laps : List Lap) (now : Before g t.0 k notes laps) where
+  module _ (t : TaskId) (k : Checker) (notes : List Note) (last_turns : List LastTurn) (now : Before g t.0 k notes last_turns) where
     -- a task that is not forked
-    pub task_idle : (new : Checker) → None ≡ range_of (slice_index_or k.starts t.0 None) → new ≡ with_start_things (slice_index_or k.starts t.0 None) k → Before g (t.0 + 1) new notes laps
+    pub task_idle : (new : Checker) → None ≡ range_of (slice_index_or k.starts t.0 None) → new ≡ with_start_things (slice_index_or k.starts t.0 None) k → Before g (t.0 + 1) new notes last_turns
     task_idle new none is =
         let n = none_by g.names k (slice_index_or now.stands.state.starts t.0 None) (slice_index_or k.starts t.0 None) (now.stands.shown.shows.starts t.0) none in
-        subst (λ z. Before g (t.0 + 1) z notes laps) (sym (is ∙ n.1))
-        (next_before t.0 k notes laps now.stands
+        subst (λ z. Before g (t.0 + 1) z notes last_turns) (sym (is ∙ n.1))
+        (next_before t.0 k notes last_turns now.stands
         (now.own ∙ sym (append-nil (stages_below two t.0 now.stands.state)) ∙ ap (λ o. stages_below two t.0 now.stands.state ++ stages_of two t.0 o) (sym n.0)))
 
     module _ (here : t.0 < length k.parents) (first after : ℕ) (new : Checker) (range : Some (first, after) ≡ range_of (slice_index_or k.starts t.0 None))
@@ -143,13 +143,13 @@ module _ (g : Source) where
       abbrev begun : UnfoldingState
       begun = with_names f.start.names now.stands.state
 
-      stands : Stands g t.0 new notes laps
+      stands : Stands g t.0 new notes last_turns
       stands =
-          quiet_on g t.0 k notes laps now.stands (begins t.0) (begins_quiet t.0) next tt begun (ap (λ o. with_start_names o now.stands.state) f.start_is)
+          quiet_on g t.0 k notes last_turns now.stands (begins t.0) (begins_quiet t.0) next tt begun (ap (λ o. with_start_names o now.stands.state) f.start_is)
           (record { drawn = now.stands.past.kept.drawn; many = now.stands.past.kept.many; few = now.stands.past.kept.few }) refl new keeps
           (subst (λ z. ShowsState g.names z begun) (sym is) f.shows)
 
-      pub task_begins : Midst g t.0 first after (whole first after ∷ []) new notes laps
+      pub task_begins : Midst g t.0 first after (whole first after ∷ []) new notes last_turns
       unfolding quiet_on stands
       task_begins =
           let r = ready k new t.0 first after now.stands.shown.fits range is in
@@ -184,15 +184,15 @@ module _ (g : Source) where
 
   -- ---- the end of a task
 
-  pub task_ends : (t first after : ℕ) (k : Checker) (notes : List Note) (laps : List Lap) → two ≡ false → Midst g t first after [] k notes laps → Before g (t + 1) k notes laps
-  task_ends t first after k notes laps one m =
-      next_before t k notes laps m.stands
+  pub task_ends : (t first after : ℕ) (k : Checker) (notes : List Note) (last_turns : List LastTurn) → two ≡ false → Midst g t first after [] k notes last_turns → Before g (t + 1) k notes last_turns
+  task_ends t first after k notes last_turns one m =
+      next_before t k notes last_turns m.stands
       (sym (append-nil m.stands.stages) ∙ ap (λ b. m.stands.stages ++ ends_of b t) (sym one)
       ∙ ap (λ ms. m.stands.stages ++ (map (λ v. comes t v) ms ++ ends_of two t)) (sym m.frames_are) ∙ m.own)
 
   pub task_leaves :
-      (t first after : ℕ) (k : Checker) (notes : List Note) (laps : List Lap) → two ≡ true → Midst g t first after [] k notes laps → Leaving g t first after 0 k notes laps
-  task_leaves t first after k notes laps form m =
+      (t first after : ℕ) (k : Checker) (notes : List Note) (last_turns : List LastTurn) → two ≡ true → Midst g t first after [] k notes last_turns → Leaving g t first after 0 k notes last_turns
+  task_leaves t first after k notes last_turns form m =
       record {
         stands = m.stands;
         here = m.here;
@@ -203,8 +203,8 @@ module _ (g : Source) where
             ∙ ap (λ ms. m.stands.stages ++ (map (λ v. comes t v) ms ++ ends_of two t)) (sym m.frames_are) ∙ m.own;
       }
 
-  pub task_left : (t first after : ℕ) (k : Checker) (notes : List Note) (laps : List Lap) → Leaving g t first after 1024 k notes laps → Before g (t + 1) k notes laps
-  task_left t first after k notes laps m = next_before t k notes laps m.stands (m.left ∙ m.own)
+  pub task_left : (t first after : ℕ) (k : Checker) (notes : List Note) (last_turns : List LastTurn) → Leaving g t first after 1024 k notes last_turns → Before g (t + 1) k notes last_turns
+  task_left t first after k notes last_turns m = next_before t k notes last_turns m.stands (m.left ∙ m.own)
 
   -- ---- all tasks
 
@@ -215,8 +215,8 @@ module _ (g : Source) where
       ∙ ap (λ o. stages_below two (n + d) s ++ stages_of two (n + d) o) (get_or_past s.starts (n + d) None (omega (arith, l)))
       ∙ append-nil (stages_below two (n + d) s) ∙ stages_past n d s l
 
-  pub all_passed : (t : ℕ) (k : Checker) (notes : List Note) (laps : List Lap) → Before g t k notes laps → length k.parents ≤ t → Passed g
-  all_passed t k notes laps now all =
+  pub all_passed : (t : ℕ) (k : Checker) (notes : List Note) (last_turns : List LastTurn) → Before g t k notes last_turns → length k.parents ≤ t → Passed g
+  all_passed t k notes last_turns now all =
       let s = now.stands.state in
       let many : length s.plan.parents ≡ length k.parents = ap length now.stands.shown.shows.plan.parents in
       record {
@@ -229,13 +229,13 @@ module _ (g : Source) where
       }
 
   pub ends_task :
-      (t first after : ℕ) (r : Result (Option Stop) NoMemory) (k : Checker) (notes : List Note) (laps : List Lap) → SoughtEnd g t first after r k notes laps →
-      SoughtTask g (t + 1) r k notes laps
-  ends_task t first after (Ok None) k notes laps h = task_left t first after k notes laps h
-  ends_task t first after (Ok (Some stop)) k notes laps h = h
-  ends_task t first after (Err e) k notes laps h = tt
+      (t first after : ℕ) (r : Result (Option Stop) NoMemory) (k : Checker) (notes : List Note) (last_turns : List LastTurn) → SoughtEnd g t first after r k notes last_turns →
+      SoughtTask g (t + 1) r k notes last_turns
+  ends_task t first after (Ok None) k notes last_turns h = task_left t first after k notes last_turns h
+  ends_task t first after (Ok (Some stop)) k notes last_turns h = h
+  ends_task t first after (Err e) k notes last_turns h = tt
 
 -- the tasks go on: there is something that is unfolded so, and whatever was, still is
-pub record GoesThrough (two : Bool) (old : Checker) (old_notes : List Note) (old_laps : List Lap) (t : ℕ) (k : Checker) (notes : List Note) (laps : List Lap) : Type 0 where
-  pub some : HasBefore two t k notes laps
-  pub all : (g : Source) → g.program.two ≡ two → Before g 0 old old_notes old_laps → Before g t k notes laps
+pub record GoesThrough (two : Bool) (old : Checker) (old_notes : List Note) (old_last_turns : List LastTurn) (t : ℕ) (k : Checker) (notes : List Note) (last_turns : List LastTurn) : Type 0 where
+  pub some : HasBefore two t k notes last_turns
+  pub all : (g : Source) → g.program.two ≡ two → Before g 0 old old_notes old_last_turns → Before g t k notes last_turns

@@ -2,9 +2,9 @@
 
 ghost use Rattle.std.specs.Prelude.{◌≡◌, ◌+◌, ◌<◌, ◌≤◌, ◌^◌, ℕ, length, IfOk};
 ghost use Rattle.pl_plan.specs.inside.Steps.{IsList, step_at};
-ghost use Rattle.check_scenes.specs.inside.Told.{TurnsTold, behind, enters, turn_told};
+ghost use Rattle.check_scenes.specs.inside.Told.{AreTurns, behind, enters, turn_told};
 
-use crate::notes::{Lap, turn_of};
+use crate::notes::{LastTurn, turn_of};
 use crate::scene::LoopTurn;
 use armus_base::{List, NoMemory, TaskId};
 use pl_plan::step::Step;
@@ -56,14 +56,14 @@ fn behind(step: Step, at: u32) -> u32
 }
 
 // The turn of a loop by the index of its step.
-fn turn_told(laps: &[Lap], t: TaskId, at: u32) -> LoopTurn
-    requires here { at < length laps.now }
+fn turn_told(last_turns: &[LastTurn], t: TaskId, at: u32) -> LoopTurn
+    requires here { at < length last_turns.now }
     requires small { at + 1 < 2 ^ 32 }
-    ensures { result ≡ turn_told laps.now t.0 (at + 1) }
+    ensures { result ≡ turn_told last_turns.now t.0 (at + 1) }
 {
     LoopTurn {
         statement: at + 1,
-        turn: turn_of(laps, t, at),
+        turn: turn_of(last_turns, t, at),
     }
 }
 
@@ -72,22 +72,22 @@ pub(crate) fn turns_told(
     alloc: Global,
     steps: &[Step],
     range: (u32, u32),
-    laps: &[Lap],
+    last_turns: &[LastTurn],
     t: TaskId,
     n: u32,
 ) -> Result<List<LoopTurn>, NoMemory>
     requires few { length steps.now < 2 ^ 32 }
-    requires many { length laps.now ≡ length steps.now }
+    requires many { length last_turns.now ≡ length steps.now }
     requires within { range.1 ≤ length steps.now }
     requires list { (count : ℕ) × IsList count steps.now range.0 range.1 }
-    ensures { IfOk result (TurnsTold steps.now range.0 range.1 laps.now t.0 n) }
+    ensures { IfOk result (AreTurns steps.now range.0 range.1 last_turns.now t.0 n) }
 {
     let mut turns = List::new(alloc);
     let (mut at, mut to) = range;
     while at < to {
         let step = step_of(steps, at);
         if let Some(end) = enters(step, at, n) {
-            turns.push(turn_told(laps, t, at))?;
+            turns.push(turn_told(last_turns, t, at))?;
             to = end;
             at += 1;
             continue;

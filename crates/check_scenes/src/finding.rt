@@ -6,12 +6,12 @@ ghost use Rattle.pl_plan.specs.inside.Numbers.{spelling};
 ghost use Rattle.pl_plan.specs.inside.Opening.{IsOpeningChecker};
 ghost use Rattle.check_scenes.specs.Scenes.{TellsScene};
 ghost use Rattle.pl_syntax.specs.declared.tree.Program.{Program as ProgramValue};
-ghost use Rattle.check_scenes.specs.inside.Noted.{no_lap};
+ghost use Rattle.check_scenes.specs.inside.Noted.{no_turn};
 ghost use Rattle.check_scenes.specs.inside.Seeks.{Before, HasSource, a_source};
 ghost use Rattle.check_scenes.specs.inside.Told.{CanBeTold, EndScene, PlaceCanBeTold, PlaceScene, VisitScene};
 
 use crate::around::turns_told;
-use crate::notes::Lap;
+use crate::notes::LastTurn;
 use crate::scene::{Matter, Scene};
 use crate::seek::{Place, Seeker, Stop, seek_tasks};
 use crate::sight::Sight;
@@ -33,14 +33,14 @@ fn visit_scene(
     stop: Stop,
     sight: Sight,
 ) -> Result<Scene, NoMemory>
-    requires { CanBeTold seeker.now.laps.items steps.now stop.first stop.after sight }
-    ensures { IfOk result (VisitScene (spelling names.now) seeker.now.notes seeker.now.laps.items steps.now stop sight) }
+    requires { CanBeTold seeker.now.last_turns.items steps.now stop.first stop.after sight }
+    ensures { IfOk result (VisitScene (spelling names.now) seeker.now.notes seeker.now.last_turns.items steps.now stop sight) }
 {
     let notes = seeker.notes.as_slice();
     let task = task_told(alloc, names, notes, sight.t.0)?;
     let range = (stop.first, stop.after);
     let n = sight.item.at + 1;
-    let turns = turns_told(alloc, steps, range, &seeker.laps, sight.t, n)?;
+    let turns = turns_told(alloc, steps, range, &seeker.last_turns, sight.t, n)?;
     let matter = visit_told(alloc, names, notes, stop.fault.kind, sight)?;
     Ok(Scene {
         fault: stop.fault,
@@ -82,8 +82,8 @@ fn place_scene(
     steps: &[Step],
     stop: Stop,
 ) -> Result<Scene, NoMemory>
-    requires { PlaceCanBeTold seeker.now.laps.items steps.now stop.first stop.after stop.place }
-    ensures { IfOk result (PlaceScene (spelling names.now) seeker.now.notes seeker.now.laps.items steps.now stop stop.place) }
+    requires { PlaceCanBeTold seeker.now.last_turns.items steps.now stop.first stop.after stop.place }
+    ensures { IfOk result (PlaceScene (spelling names.now) seeker.now.notes seeker.now.last_turns.items steps.now stop stop.place) }
 {
     match stop.place {
         Place::Visit(sight) => visit_scene(alloc, names, seeker, steps, stop, sight),
@@ -91,15 +91,15 @@ fn place_scene(
     }
 }
 
-// No lap of any loop.
-fn no_laps(alloc: Global, n: usize) -> Result<Vec<Lap>, AllocError>
-    ensures { IfOk result (λ v. v.items ≡ replicate n no_lap) }
+// No turn of any loop.
+fn no_turns(alloc: Global, n: usize) -> Result<Vec<LastTurn>, AllocError>
+    ensures { IfOk result (λ v. v.items ≡ replicate n no_turn) }
 {
-    let lap = Lap {
+    let last = LastTurn {
         task: TaskId(0),
         turn: 0,
     };
-    vec![in alloc; lap; n]
+    vec![in alloc; last; n]
 }
 
 // What is kept before the first visit.
@@ -107,13 +107,13 @@ fn new_seeker(alloc: Global, steps: Vec<Step>, names: usize) -> Result<Seeker, N
     requires { length steps.items < 2 ^ 32 }
     ensures checker { IfOk result (λ s. IsOpeningChecker steps.items names s.checker) }
     ensures notes { IfOk result (λ s. s.notes ≡ []) }
-    ensures laps { IfOk result (λ s. s.laps.items ≡ replicate (length steps.items) no_lap) }
+    ensures last_turns { IfOk result (λ s. s.last_turns.items ≡ replicate (length steps.items) no_turn) }
 {
-    let laps = no_laps(alloc, steps.len())?;
+    let last_turns = no_turns(alloc, steps.len())?;
     Ok(Seeker {
         checker: Checker::new(alloc, steps, names)?,
         notes: List::new(alloc),
-        laps,
+        last_turns,
     })
 }
 
@@ -125,9 +125,9 @@ fn find_scene(
     seeker: &mut Seeker,
     two: bool,
 ) -> Result<Option<Scene>, NoMemory>
-    requires next { HasSource two (spelling names.now) steps.now seeker.old.checker seeker.old.notes seeker.old.laps.items }
+    requires next { HasSource two (spelling names.now) steps.now seeker.old.checker seeker.old.notes seeker.old.last_turns.items }
     ensures { (program : ProgramValue) → program.two ≡ two →
-        Before (a_source program (spelling names.now) steps.now) 0 seeker.old.checker seeker.old.notes seeker.old.laps.items → IfOk result (TellsScene program) }
+        Before (a_source program (spelling names.now) steps.now) 0 seeker.old.checker seeker.old.notes seeker.old.last_turns.items → IfOk result (TellsScene program) }
 {
     match seek_tasks(alloc, seeker, two)? {
         None => Ok(None),
@@ -137,8 +137,8 @@ fn find_scene(
 
 /// What is known of the first check fault of a program; none where it has a plan. The only error is want of memory.
 ///
-/// The way to the fault takes time linear in the visits, at most `MAX_VISITS`, and keeps for each task that is drawn or forked, each phaser that is made,
-/// and each registration and leaving the number of its statement.
+/// The walk to the fault makes at most `MAX_VISITS` visits, and keeps for each task that is drawn or forked, each phaser that is made, and each registration
+/// and leaving the number of its statement.
 pub fn scene_of(alloc: Global, program: &Program) -> Result<Option<Scene>, NoMemory>
     requires few { count program.now.body < 2 ^ 32 }
     requires shallow { height program.now.body ≤ MAX_OPEN_BRACES }

@@ -20,7 +20,7 @@ pub(crate) struct Item {
 pub(crate) struct Frame {
     pub at: u32,
     pub to: u32,
-    pub lap: u32,
+    pub of_loop: u32,
     pub left: u16,
 }
 
@@ -49,7 +49,7 @@ fn push_on(frames: &mut Vec<Frame>, frame: Frame, step: Step) -> Result<(), NoMe
                 Frame {
                     at: after,
                     to: after,
-                    lap: frame.at,
+                    of_loop: frame.at,
                     left: k,
                 },
             )
@@ -72,7 +72,7 @@ pub(crate) fn go_on(
     frame: Frame,
 ) -> Result<Option<Item>, NoMemory>
     requires within { frame.to ≤ length checker.now.steps }
-    requires small { frame.lap + 1 < 2 ^ 32 }
+    requires small { frame.of_loop + 1 < 2 ^ 32 }
     ensures item { IfOk result (λ item. item ≡ next_item checker.now.steps frame) }
     ensures frames { OnOk result (frames.new.items ≡ frames_after checker.now.steps frame frames.old.items) }
 {
@@ -91,13 +91,13 @@ pub(crate) fn go_on(
     push(
         frames,
         Frame {
-            at: frame.lap + 1,
+            at: frame.of_loop + 1,
             left: frame.left - 1,
             ..frame
         },
     )?;
     Ok(Some(Item {
-        at: frame.lap,
+        at: frame.of_loop,
         turn: true,
         step: Step::Skip,
     }))

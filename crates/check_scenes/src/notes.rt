@@ -1,7 +1,7 @@
 // What is noted of the visits that passed: which statement was the last to do a thing, and in which turns a task is.
 
 ghost use Rattle.std.specs.Prelude.{◌≡◌, ◌<◌, ◌+◌, ◌^◌, ◌++◌, ◌∷◌, [], length, OnOk};
-ghost use Rattle.check_scenes.specs.inside.Noted.{a_deed, last_noted, phaser_in, same_deed, task_in, turn_at, with_lap, with_notes};
+ghost use Rattle.check_scenes.specs.inside.Noted.{a_deed, last_noted, phaser_in, same_deed, task_in, turn_at, with_last_turn, with_notes};
 
 use crate::sight::Sight;
 use armus_base::{List, NoMemory, TaskId};
@@ -26,7 +26,7 @@ pub(crate) struct Note {
 
 /// The last task that was in a loop, and in which turn.
 #[derive(Clone, Copy)]
-pub(crate) struct Lap {
+pub(crate) struct LastTurn {
     pub task: TaskId,
     pub turn: u32,
 }
@@ -123,25 +123,25 @@ fn put_deed(
 }
 
 /// In which turn task `t` is of the loop whose step has this index.
-pub(crate) fn turn_of(laps: &[Lap], t: TaskId, at: u32) -> u32
-    requires { at < length laps.now }
-    ensures { result ≡ turn_at laps.now t.0 at }
+pub(crate) fn turn_of(last_turns: &[LastTurn], t: TaskId, at: u32) -> u32
+    requires { at < length last_turns.now }
+    ensures { result ≡ turn_at last_turns.now t.0 at }
 {
-    let lap = laps[at as usize];
-    if lap.task.0 == t.0 { lap.turn } else { 0 }
+    let last = last_turns[at as usize];
+    if last.task.0 == t.0 { last.turn } else { 0 }
 }
 
 /// Counts a visit: one to a loop begins it anew, and one that begins a turn is one turn more.
-pub(crate) fn count_lap(laps: &mut Vec<Lap>, sight: Sight)
-    requires here { sight.item.at < length laps.old.items }
-    requires few { turn_at laps.old.items sight.t.0 sight.item.at + 1 < 2 ^ 32 }
-    ensures { laps.new.items ≡ with_lap sight laps.old.items }
+pub(crate) fn count_turn(last_turns: &mut Vec<LastTurn>, sight: Sight)
+    requires here { sight.item.at < length last_turns.old.items }
+    requires few { turn_at last_turns.old.items sight.t.0 sight.item.at + 1 < 2 ^ 32 }
+    ensures { last_turns.new.items ≡ with_last_turn sight last_turns.old.items }
 {
     let at = sight.item.at as usize;
     let task = sight.t;
     if sight.item.turn {
-        let turn = turn_of(laps, task, sight.item.at) + 1;
-        laps[at] = Lap { task, turn };
+        let turn = turn_of(last_turns, task, sight.item.at) + 1;
+        last_turns[at] = LastTurn { task, turn };
         return;
     }
     if let Step::Loop {
@@ -150,6 +150,6 @@ pub(crate) fn count_lap(laps: &mut Vec<Lap>, sight: Sight)
         steady: _,
     } = sight.item.step
     {
-        laps[at] = Lap { task, turn: 0 };
+        last_turns[at] = LastTurn { task, turn: 0 };
     }
 }

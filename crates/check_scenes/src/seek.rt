@@ -7,7 +7,7 @@ ghost use Rattle.check_scenes.specs.inside.Noted.{turn_at};
 ghost use Rattle.check_scenes.specs.inside.Seeks.{Before, CameTo, HasBefore, HasLeaving, HasMidst, Leaving, Midst, SoughtAll, SoughtEnd, SoughtTask, SoughtVisits, Source, whole};
 
 use crate::frames::{Frame, Item, go_on};
-use crate::notes::{Lap, Note, count_lap, put_note};
+use crate::notes::{LastTurn, Note, count_turn, put_note};
 use crate::sight::{Sight, leave, look, visit};
 use armus_base::{List, MAX_PHASERS, NoMemory, PhaserId, TaskId};
 use pl_plan::CheckFault;
@@ -30,12 +30,12 @@ pub(crate) struct Stop {
     pub after: u32,
 }
 
-/// What is kept on the way: what the checker keeps; what the visits did; and for each step that is a loop the last lap.
+/// What is kept on the way: what the checker keeps; what the visits did; and for each step that is a loop the last turn.
 #[derive(Drop)]
 pub(crate) struct Seeker {
     pub checker: Checker,
     pub notes: List<Note>,
-    pub laps: Vec<Lap>,
+    pub last_turns: Vec<LastTurn>,
 }
 
 // A coming to a step. What the fault may need is looked at before.
@@ -51,12 +51,12 @@ fn come_to(
     requires task { t.0 < length seeker.old.checker.parents }
     requires names { HasNames (length seeker.old.checker.bindings.slots) item.step }
     requires small { item.at + 1 < 2 ^ 32 }
-    requires here { item.at < length seeker.old.laps.items }
-    requires few { turn_at seeker.old.laps.items t.0 item.at + 1 < 2 ^ 32 }
-    ensures { CameTo t item first after result seeker.old.checker seeker.old.notes seeker.old.laps.items seeker.new.checker seeker.new.notes seeker.new.laps.items }
+    requires here { item.at < length seeker.old.last_turns.items }
+    requires few { turn_at seeker.old.last_turns.items t.0 item.at + 1 < 2 ^ 32 }
+    ensures { CameTo t item first after result seeker.old.checker seeker.old.notes seeker.old.last_turns.items seeker.new.checker seeker.new.notes seeker.new.last_turns.items }
 {
     let sight = look(&seeker.checker, t, item);
-    count_lap(&mut seeker.laps, sight);
+    count_turn(&mut seeker.last_turns, sight);
     if let Some(fault) = visit(alloc, &mut seeker.checker, t, item)? {
         return Ok(Some(Stop {
             fault,
@@ -77,15 +77,15 @@ fn seek_visits(
     first: u32,
     after: u32,
 ) -> Result<Option<Stop>, NoMemory>
-    requires begun { HasMidst t.0 first after (whole first after ∷ []) seeker.old.checker seeker.old.notes seeker.old.laps.items }
-    ensures { (g : Source) → Midst g t.0 first after (whole first after ∷ []) seeker.old.checker seeker.old.notes seeker.old.laps.items →
-        SoughtVisits g t.0 first after result seeker.new.checker seeker.new.notes seeker.new.laps.items }
+    requires begun { HasMidst t.0 first after (whole first after ∷ []) seeker.old.checker seeker.old.notes seeker.old.last_turns.items }
+    ensures { (g : Source) → Midst g t.0 first after (whole first after ∷ []) seeker.old.checker seeker.old.notes seeker.old.last_turns.items →
+        SoughtVisits g t.0 first after result seeker.new.checker seeker.new.notes seeker.new.last_turns.items }
 {
     let mut frames = Vec::new(alloc);
     frames.push(Frame {
         at: first,
         to: after,
-        lap: 0,
+        of_loop: 0,
         left: 0,
     })?;
     'frames: while let Some(frame) = frames.pop() {
@@ -106,9 +106,9 @@ fn seek_end(
     first: u32,
     after: u32,
 ) -> Result<Option<Stop>, NoMemory>
-    requires done { HasLeaving t.0 first after 0 seeker.old.checker seeker.old.notes seeker.old.laps.items }
-    ensures { (g : Source) → Leaving g t.0 first after 0 seeker.old.checker seeker.old.notes seeker.old.laps.items →
-        SoughtEnd g t.0 first after result seeker.new.checker seeker.new.notes seeker.new.laps.items }
+    requires done { HasLeaving t.0 first after 0 seeker.old.checker seeker.old.notes seeker.old.last_turns.items }
+    ensures { (g : Source) → Leaving g t.0 first after 0 seeker.old.checker seeker.old.notes seeker.old.last_turns.items →
+        SoughtEnd g t.0 first after result seeker.new.checker seeker.new.notes seeker.new.last_turns.items }
 {
     for p in 0..MAX_PHASERS {
         if let Some(fault) = leave(&mut seeker.checker, t, first, PhaserId(p))? {
@@ -130,10 +130,10 @@ fn seek_task(
     two: bool,
     t: TaskId,
 ) -> Result<Option<Stop>, NoMemory>
-    requires next { HasBefore two t.0 seeker.old.checker seeker.old.notes seeker.old.laps.items }
+    requires next { HasBefore two t.0 seeker.old.checker seeker.old.notes seeker.old.last_turns.items }
     requires here { t.0 < length seeker.old.checker.parents }
-    ensures { (g : Source) → g.program.two ≡ two → Before g t.0 seeker.old.checker seeker.old.notes seeker.old.laps.items →
-        SoughtTask g (t.0 + 1) result seeker.new.checker seeker.new.notes seeker.new.laps.items }
+    ensures { (g : Source) → g.program.two ≡ two → Before g t.0 seeker.old.checker seeker.old.notes seeker.old.last_turns.items →
+        SoughtTask g (t.0 + 1) result seeker.new.checker seeker.new.notes seeker.new.last_turns.items }
 {
     let Some((first, after)) = seeker.checker.begin(alloc, t)? else {
         return Ok(None);
@@ -153,9 +153,9 @@ pub(crate) fn seek_tasks(
     seeker: &mut Seeker,
     two: bool,
 ) -> Result<Option<Stop>, NoMemory>
-    requires next { HasBefore two 0 seeker.old.checker seeker.old.notes seeker.old.laps.items }
-    ensures { (g : Source) → g.program.two ≡ two → Before g 0 seeker.old.checker seeker.old.notes seeker.old.laps.items →
-        SoughtAll g result seeker.new.notes seeker.new.laps.items }
+    requires next { HasBefore two 0 seeker.old.checker seeker.old.notes seeker.old.last_turns.items }
+    ensures { (g : Source) → g.program.two ≡ two → Before g 0 seeker.old.checker seeker.old.notes seeker.old.last_turns.items →
+        SoughtAll g result seeker.new.notes seeker.new.last_turns.items }
 {
     let mut t = 0;
     while t < seeker.checker.tasks() {

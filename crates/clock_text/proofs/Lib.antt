@@ -4,6 +4,7 @@ pub mod WorkedTexts
 pub mod Rows
 pub mod AddsMoves
 pub mod Numbers
+pub mod MadeKinds
 pub mod Makes
 pub mod EachMakes
 pub mod Tables

@@ -14,14 +14,16 @@ use Rattle.clock_machine.proofs.Bounded.{step_within}
 use Rattle.clock_machine.proofs.ClockEnds.{ends_are_those_of_tasks}
 use Rattle.clock_machine.specs.Direct.{ClockState, IsClockEnd, StandsAs, advance_of, clock_step, going, has_ended, forgetting, move_of, settled, unstarted, waits_at_advance, waits_at_end}
 use Rattle.clock_machine.specs.Laws.{IsDirectEnd, moves_of}
+use Rattle.clock_moves.proofs.MoveCodes.{moves_at}
 use Rattle.clock_moves.specs.Moves.{Move, Standing, advances, ends}
 use Rattle.clock_moves.specs.Unfolding.{ClockNames, ClockUnfolding, activities, clock_unfolded, plan_of_moves}
 use Rattle.clock_text.specs.ProgramPoints.{ProgramPoint}
-use Rattle.clock_text.specs.TextLaws.{NoRunFails, TextEndsAreThoseOfTasks, TextRunsAreDirect, end_as}
+use Rattle.clock_text.specs.TextLaws.{NoRunFails, TextEndsAreThoseOfTasks, TextRunsAreDirect, WaitsAtOne, end_as}
 use Rattle.clock_text.specs.TextMachine as text
 use Rattle.clock_text.specs.TextMachine.{Acting, Activity, Continuation, IsAtRest, IsTextEnd, IsTextRun, Made, TextState, TextStep, advance_on, clock_here, closes, departs, does, fails, goes, goes_to, is_empty, is_there, leaves, or_fails, over, reads, remembering, signals, stand_at, stand_of, stand_on, stand_with, text_step, then_clocks, turns, waits}
 use Rattle.clock_text.specs.TextNumbers.{IsActivityIn, IsMadeIn, made_in, number_in}
-use Rattle.clock_text.proofs.Corresponding.{Corresponds, Fits, IsClock, Knows, Stands, closes_so, leaves_so, reads_so, registered, turns_so}
+use Rattle.clock_text.proofs.Corresponding.{Corresponds, Fits, IsClock, IsFinish, Knows, Stands, closes_so, leaves_so, reads_so, registered, turns_so}
+use Rattle.clock_text.proofs.MadeKinds.{begun_there, opened_there}
 use Rattle.clock_text.proofs.Makes.{Makes, advances_on, begins_one, drops_from, ends_one, has_read, has_turned, loops, opens_one, resumes_on, skips, starts_one, stops_here, turns_on}
 use Rattle.clock_text.proofs.Numbers.{unfolded_rows}
 use Rattle.clock_text.proofs.OnOneClock.{inside}
@@ -44,7 +46,7 @@ module _ (u : ClockUnfolding) (names : HaveNames u) (s : TextState) (m : ClockSt
         x.names name ≡ Some q → x.remembers q ≡ Some k → IsClock u q → m.left t ≡ advances (made_in u q) ∷ ms → nat_lt k (s.clock_of q).phase ≡ false → ActsOrRests o
     closes_now :
         (f : Made) (rest : Continuation) (ms : List Move) → o ≡ waits → x.rest ≡ closes f rest → m.left t ≡ ends (made_in u f) ∷ ms → is_empty (s.open_set f) ≡ false →
-        IsMadeIn u f → ActsOrRests o
+        IsFinish u f → ActsOrRests o
 
   -- at an advance, by what is remembered and by the phase
   at_an_advance :
@@ -59,7 +61,7 @@ module _ (u : ClockUnfolding) (names : HaveNames u) (s : TextState) (m : ClockSt
       by false e = advances_so name more rest q k ms refl rest_is named memory fine left_is e
 
   at_an_end :
-      (f : Made) (rest : Continuation) (ms : List Move) → x.rest ≡ closes f rest → m.left t ≡ ends (made_in u f) ∷ ms → IsMadeIn u f → (b : Bool) →
+      (f : Made) (rest : Continuation) (ms : List Move) → x.rest ≡ closes f rest → m.left t ≡ ends (made_in u f) ∷ ms → IsFinish u f → (b : Bool) →
       is_empty (s.open_set f) ≡ b → ActsOrRests (then_clocks (if b then goes (goes_to a rest s) else waits))
   at_an_end f rest ms rest_is left_is made true e = goes_now _ refl
   at_an_end f rest ms rest_is left_is made false e = closes_now f rest ms refl rest_is left_is e made
@@ -92,7 +94,7 @@ module _ (u : ClockUnfolding) (names : HaveNames u) (s : TextState) (m : ClockSt
       goes_now _ (ap (λ o. then_clocks (or_fails (λ qs. goes (text.starts_one a body qs (reads more rest) s)) o)) g.1)
   classified (reads_so fits) (begins_one q makes_on) knows rest_is left_is = goes_now _ refl
   classified (closes_so {f = f} {rest = rest} fits) (ends_one {ms = ms} makes_on) knows rest_is left_is =
-      at_an_end f rest ms rest_is left_is knows.finishes.0.0 (is_empty (s.open_set f)) refl
+      at_an_end f rest ms rest_is left_is knows.finishes.0 (is_empty (s.open_set f)) refl
   classified leaves_so (stops_here ps) knows rest_is left_is = goes_now _ refl
 
   acts_or_rests : ActsOrRests (text_step a s)
@@ -142,7 +144,7 @@ module _ (u : ClockUnfolding) (names : HaveNames u) (s : TextState) (m : ClockSt
             step_by None
             (ap (λ zs. move_of (activities u) t zs m) left
             ∙ ap (λ b. if b then None else Some (going t ms m))
-            (empties u names (s.open_set f) (m.open_set (made_in u f)) (λ b o. h.holds.inside b (h.holds.open_in f b o)) (λ b y. h.tells.open_set f b made y)
+            (empties u names (s.open_set f) (m.open_set (made_in u f)) (λ b o. h.holds.inside b (h.holds.open_in f b o)) (λ b y. h.tells.open_set f b made.0 y)
             ∙ ap not empty))
             refl
 
@@ -152,6 +154,18 @@ module _ (u : ClockUnfolding) (names : HaveNames u) (s : TextState) (m : ClockSt
     -- the stand of an activity that is there
     stand_is : (c : Continuation) → x.rest ≡ c → stand_of s a ≡ stand_with true x c
     stand_is c is = ap (λ b. stand_with b x x.rest) there ∙ ap (stand_with true x) is
+
+    pub waits_at_one : WaitsAtOne u (stand_of s a)
+    waits_at_one = by acts_or_rests
+      where
+        by : ActsOrRests (text_step a s) → WaitsAtOne u (stand_of s a)
+        by (goes_now v is) = absurd (rests v is)
+        by (ended_so rest left) = subst (WaitsAtOne u) (sym (stand_is over rest)) tt
+        by (advances_so name more rest q k ms o rest_is named memory fine left late) =
+            subst (WaitsAtOne u) (sym (stand_is (reads (plain (advance name) more) rest) rest_is ∙ ap (stand_at x) named ∙ ap (stand_on q) memory))
+            (fine.0, opened_there (moves_at u (number_in u q.maker)) q.before fine.0.1 fine.1)
+        by (closes_now f rest ms o rest_is left empty fine) =
+            subst (WaitsAtOne u) (sym (stand_is (closes f rest) rest_is)) (fine.0, begun_there (moves_at u (number_in u f.maker)) f.before fine.0.1 fine.1)
 
     pub stands_so : (e : TaskEnd) → StandsAs m t e → end_as (made_in u) (stand_of s a) ≡ Some e
     stands_so e st = by acts_or_rests e st
@@ -237,6 +251,16 @@ module _ (p : ClockTree) (u : ClockUnfolding) (e : clock_unfolded p ≡ Ok u) wh
           unstarted_so k (has_ended on z) = absurd (false≢true (sym not_started ∙ on))
           unstarted_so k (waits_at_advance q j ms on is memory) = absurd (false≢true (sym not_started ∙ on))
           unstarted_so k (waits_at_end f ms on is) = absurd (false≢true (sym not_started ∙ on))
+
+  pub waits_at_one_made : (s : TextState) (a : Activity) → IsTextEnd p s → IsActivityIn u a → WaitsAtOne u (stand_of s a)
+  waits_at_one_made s a end x = let r = runs p u e end.steps s end.run in by (is_there s a) refl r
+    where
+      by : (b : Bool) → is_there s a ≡ b → Runs p u e end.steps s → WaitsAtOne u (stand_of s a)
+      by true there r = waits_at_one u names s r.m r.both a there (λ v step. end.at_rest a v step)
+      by false none r =
+          subst (WaitsAtOne u) (sym (
+          ap (λ b. stand_with b (s.acting a) (s.acting a).rest) none ∙ ap (λ (y : Acting). stand_with false y y.rest) (r.both.holds.unstarted a none)
+          )) tt
 
 pub text_runs_are_direct : TextRunsAreDirect
 text_runs_are_direct p u steps s e run =

@@ -10,7 +10,7 @@ use Rattle.clock_text.specs.ProgramPoints.{ProgramPoint, behind, finishes_around
 
 -- ---- unfoldings
 
--- activity t comes to this part at this point: the finishes that govern are those around the point, and no row is at fault
+-- who stands at this point comes to this part there, and the finishes that govern are those around the point
 pub record ComesTo (point : ProgramPoint) (m : ClockComing) (u : ClockUnfolding) : Type 0 where
   pub part : part_at point ≡ Some m
   pub governs : u.now.governing ≡ finishes_around point

@@ -12,7 +12,7 @@ use Rattle.clock_moves.specs.Unfolding.{ClockUnfolding, activities, clock_unfold
 use Rattle.clock_machine.specs.Direct.{ClockState}
 use Rattle.clock_machine.specs.Laws.{IsDirectRun}
 use Rattle.clock_text.specs.TextMachine.{Activity, IsAtRest, IsTextEnd, IsTextRun, Made, Stand, TextState, at_advance, at_end, elsewhere, ended, fails, is_there, stand_of, text_step, unstarted}
-use Rattle.clock_text.specs.TextNumbers.{IsActivityIn, IsMadeIn, made_in, number_in}
+use Rattle.clock_text.specs.TextNumbers.{IsActivityIn, IsClockIn, IsFinishIn, IsMadeIn, made_in, number_in}
 
 -- ---- runs
 
@@ -29,7 +29,7 @@ pub record IsToldBy (u : ClockUnfolding) (s : TextState) (m : ClockState) : Type
   pub open_set : (p : Made) (a : Activity) → IsMadeIn u p → IsActivityIn u a → list_any (bytes_eq a) (s.open_set p) ≡ m.open_set (made_in u p) (number_in u a)
   pub remembers : (p : Made) (a : Activity) → IsMadeIn u p → IsActivityIn u a → (s.acting a).remembers p ≡ m.remembered (made_in u p) (number_in u a)
 
--- these are the numbers of some of these activities, in the same order: those whose steps are steps of the machine on moves too
+-- these are the numbers of some of these activities, in the same order
 pub data AreSteps (u : ClockUnfolding) : List Activity → List ℕ → Type 0 where
   no_step : AreSteps u [] []
   a_step : {as_before : List Activity} {ts : List ℕ} (a : Activity) → AreSteps u as_before ts → AreSteps u (a ∷ as_before) (number_in u a ∷ ts)
@@ -84,11 +84,20 @@ end_as number (at_advance p k) = Some (Blocked (event_at (number p) (k + 1)))
 end_as number (at_end f) = Some (Blocked (event_at (number f) 1))
 end_as number elsewhere = None
 
--- the machine comes to an end; at each of its ends each activity stands as its task has ended in this state; who is there is an activity of the unfolding; and each
--- number of a task is that of an activity
+-- an activity that stands so waits at an advance of a clock of the unfolding, or at the end of one of its finishes, if it waits
+abbrev pub WaitsAtOne : ClockUnfolding → Stand → Type 0
+WaitsAtOne u (at_advance p k) = IsClockIn u p
+WaitsAtOne u (at_end f) = IsFinishIn u f
+WaitsAtOne u unstarted = Unit {0}
+WaitsAtOne u ended = Unit {0}
+WaitsAtOne u elsewhere = Unit {0}
+
+-- The machine comes to an end. At each of its ends each activity stands as its task has ended in this state, and who waits, waits at a clock or finish of the
+-- unfolding; who is there is an activity of the unfolding; and each number of a task is that of an activity.
 pub record EndsAreTold (p : ClockTree) (u : ClockUnfolding) (σ : State) : Type 0 where
   pub some : (s : TextState) × IsTextEnd p s
   pub each : (s : TextState) (a : Activity) → IsTextEnd p s → IsActivityIn u a → end_as (made_in u) (stand_of s a) ≡ Some (end_of σ (number_in u a))
+  pub waits : (s : TextState) (a : Activity) → IsTextEnd p s → IsActivityIn u a → WaitsAtOne u (stand_of s a)
   pub inside : (s : TextState) (a : Activity) → IsTextEnd p s → is_there s a ≡ true → IsActivityIn u a
   pub named : (t : ℕ) → t < activities u → (a : Activity) × IsActivityIn u a × (number_in u a ≡ t)
 

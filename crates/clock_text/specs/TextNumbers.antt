@@ -1,5 +1,5 @@
 -- The numbers that an unfolding gives to the activities, clocks and finishes of a program that are named by where they come from.
-use Rattle.std.specs.Prelude.{◌≡◌, ℕ, ◌<◌, List, [], ◌∷◌, ◌++◌, length, slice_index_or, Ok}
+use Rattle.std.specs.Prelude.{◌≡◌, ℕ, ◌<◌, List, [], ◌∷◌, ◌++◌, Contains, length, slice_index_or, Ok}
 use Rattle.clock_syntax.specs.Trees.{ClockTree}
 use Rattle.clock_moves.specs.Moves.{Move, begins, opens, starts}
 use Rattle.clock_moves.specs.Unfolding.{ClockUnfolding, activities, clock_unfolded}
@@ -47,6 +47,14 @@ IsActivityIn u (k ∷ a) = IsActivityIn u a × k < length (started_by (moves_by 
 -- there is such a clock or finish
 abbrev pub IsMadeIn : ClockUnfolding → Made → Type 0
 IsMadeIn u p = IsActivityIn u p.maker × p.before < length (made_by (moves_by u (number_in u p.maker)))
+
+-- there is such a clock: its maker opens it
+abbrev pub IsClockIn : ClockUnfolding → Made → Type 0
+IsClockIn u p = IsMadeIn u p × Contains (moves_by u (number_in u p.maker)) (opens (made_in u p))
+
+-- there is such a finish: its maker begins it
+abbrev pub IsFinishIn : ClockUnfolding → Made → Type 0
+IsFinishIn u f = IsMadeIn u f × Contains (moves_by u (number_in u f.maker)) (begins (made_in u f))
 
 -- ---- what is proved of them
 

@@ -22,7 +22,7 @@ abbrev second : Activity
 second = 1 ∷ []
 
 abbrev grandchild : Activity
-grandchild = 0 ∷ 0 ∷ []
+grandchild = 0 ∷ second
 
 -- what activity a makes behind k others
 abbrev made : Activity → ℕ → Made
@@ -109,9 +109,9 @@ under_two_finishes = record {
   program =
       plain (clock c) (finish (async [] done (finish (async (c ∷ []) (async (c ∷ []) (plain (advance c) done) done) done) (plain (drop c) done))) done);
   far = 10;
-  turns = root ∷ first ∷ second ∷ (0 ∷ 1 ∷ []) ∷ root ∷ [];
+  turns = root ∷ first ∷ second ∷ grandchild ∷ root ∷ [];
   stands =
-      (root, at_end (made root 2)) ∷ (first, ended) ∷ (second, ended) ∷ (0 ∷ 1 ∷ [], at_advance (made root 0) 0) ∷ (grandchild, unstarted) ∷ [];
+      (root, at_end (made root 2)) ∷ (first, ended) ∷ (second, ended) ∷ (grandchild, at_advance (made root 0) 0) ∷ (0 ∷ first, unstarted) ∷ [];
 }
 
 -- what comes behind a deadlock is never started:

@@ -1,5 +1,6 @@
 -- What a reader of the repository has to believe.
 pub mod Requests
+pub mod Requested
 pub mod Explained
 pub mod Refused
 pub mod Outputs

@@ -5,7 +5,7 @@ ghost use Rattle.pl_syntax.specs.Tree.{count};
 ghost use Rattle.armus_top.specs.Headline.{passage};
 ghost use Rattle.armus_top.specs.declared.programs.TheConstants.{MAX_TEXT_BYTES};
 ghost use Rattle.explain.specs.inside.Ending.{AnswersSource, EndsUnanswered, IsAnswerTo};
-ghost use Rattle.explain.specs.inside.Requested.{named};
+ghost use Rattle.explain.specs.Requested.{named};
 
 use crate::answer::{Answer, AnswerEnd};
 use crate::explaining::explain_unfolded;

@@ -7,7 +7,7 @@ ghost use Rattle.pl_syntax.specs.Tree.{count};
 ghost use Rattle.armus_top.specs.declared.programs.TheConstants.{MAX_TEXT_BYTES};
 ghost use Rattle.armus_top.specs.inside.Status.{number_of_status};
 ghost use Rattle.explain.specs.Explained.{IsExplanationOf};
-ghost use Rattle.explain.specs.inside.Requested.{named};
+ghost use Rattle.explain.specs.Requested.{named};
 
 use crate::answer::Answer;
 use accounts::account_of;

@@ -9,7 +9,7 @@ ghost use Rattle.refusals.specs.LengthRefusals.{length_refusal};
 ghost use Rattle.armus_top.specs.declared.programs.TheConstants.{MAX_TEXT_BYTES};
 ghost use Rattle.armus_top.specs.inside.Status.{number_of_status};
 ghost use Rattle.explain.specs.inside.Ending.{IsAnswerTo};
-ghost use Rattle.explain.specs.inside.Requested.{named};
+ghost use Rattle.explain.specs.Requested.{named};
 
 use crate::answer::Answer;
 use armus_base::{List, NoMemory};

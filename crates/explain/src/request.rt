@@ -1,7 +1,7 @@
 // What the words ask for.
 ghost use Rattle.std.specs.Prelude.{◌≡◌, [], ◌∷◌, map, string_bytes};
 ghost use Rattle.explain.specs.Requests.{asked, file_asked, names_file, word_asked};
-ghost use Rattle.explain.specs.inside.Requested.{requested};
+ghost use Rattle.explain.specs.Requested.{requested};
 
 const RUN: &str = "run";
 

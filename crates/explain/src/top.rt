@@ -4,7 +4,7 @@ ghost use Rattle.armus_top.specs.Headline.{passage};
 ghost use Rattle.armus_top.specs.inside.Status.{number_of_status};
 ghost use Rattle.explain.specs.Outputs.{IsExplainCall};
 ghost use Rattle.explain.specs.Requests.{asked, explanation};
-ghost use Rattle.explain.specs.inside.Requested.{named};
+ghost use Rattle.explain.specs.Requested.{named};
 
 use crate::answer::AnswerEnd;
 use crate::answering::answer_source;
@@ -59,7 +59,7 @@ fn explain_source<S: Source, K: Sink>(
 /// standard input. It runs the text's plan to its end, writes the explanation of how its tasks stand there to `out`, and answers 0 where no task waits and 1
 /// where one does. Of a text that is refused, or too long, it writes why and where, and answers 3. It writes the lines of help or of the version and answers
 /// 0, where the words ask for them, and for all other words the line of usage, and answers 2; nothing is read then. It answers 4 and 5 where the source or the
-/// sink failed, and 6 for want of memory, with nothing written.
+/// sink failed, and 6 for want of memory; after 4 and 6 nothing was written, and after 5 at most first bytes were.
 pub fn explain<S: Source, K: Sink>(alloc: Global, words: &[String], src: &mut S, out: &mut K) -> u8
     ensures call { IsExplainCall (asked (map string_bytes words.now)) (passage S.left S.faults src.old src.new) (passage K.taken K.faults out.old out.new)
         (src.new ≡ src.old) (out.new ≡ out.old) result }

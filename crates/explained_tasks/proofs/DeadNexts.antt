@@ -58,7 +58,7 @@ module _ (plan : Plan) (a : ℕ → Place) (f : FactsValue) (at : AreFactsAt pla
       elim so [ inl (dead, same) ↦ dead | inr (alive, same) ↦ absurd (let held = ap is_deadlocked same in cc) ]
 
   -- an impeder of a task that is blocked impedes its event
-  impedes : (t : ℕ) (e : Event) → t < length plan.parents → end_of s t ≡ Blocked e → (i : Impeder) → Contains (imps t) i → (s.phases i.t.0 e.p.0 ≡ Some i.phase) × (i.phase < e.n)
+  pub impedes : (t : ℕ) (e : Event) → t < length plan.parents → end_of s t ≡ Blocked e → (i : Impeder) → Contains (imps t) i → (s.phases i.t.0 e.p.0 ≡ Some i.phase) × (i.phase < e.n)
   impedes t e lt ended i there =
       let is = impeder_is (length f.standings) s.phases e i (subst (λ xs. Contains xs i) (impeders_here plan a f at t e lt ended) there) in (is.1, is.2)
 

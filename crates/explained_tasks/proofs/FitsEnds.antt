@@ -94,7 +94,7 @@ module _ (plan : Plan) (a : ℕ → Place) (f : FactsValue) (at : AreFactsAt pla
   all_stand = at.stand.sized ∙ length-list_below (end_of s) n
 
   -- each task stands as it has ended
-  stands_here : (t : ℕ) → t < n → Stands (IsDeadHere t) (end_of s t) (slice_index_or f.standings t Done)
+  pub stands_here : (t : ℕ) → t < n → Stands (IsDeadHere t) (end_of s t) (slice_index_or f.standings t Done)
   stands_here t lt =
       subst (λ (end : TaskEnd). Stands (IsDeadHere t) end (slice_index_or f.standings t Done)) (list_at (end_of s) n t (list_below (end_of s) n) EndsDone refl lt)
       (at.stand.each t EndsDone Done (omega (arith, lt, length-list_below (end_of s) n)))

@@ -19,4 +19,6 @@ pub mod ExplanationExists
 pub mod WalksMapped
 pub mod DeadNexts
 pub mod DeadlockShown
+pub mod ForkersWait
 pub mod EachToldOnce
+pub mod WaitingAlike

@@ -1,5 +1,5 @@
 -- What is proved of explanations.
-use Rattle.std.specs.Prelude.{◌≡◌, ◌↔◌, ℕ, ◌-◌, ◌<◌, Bool, true, List, ◌++◌, Contains, Ok, Option, Some, flat_map, length, slice_get, slice_index_or, take}
+use Rattle.std.specs.Prelude.{◌≡◌, ◌↔◌, ◌⊎◌, ℕ, ◌-◌, ◌<◌, Bool, true, List, ◌++◌, Contains, Ok, Option, Some, flat_map, length, slice_get, slice_index_or, take}
 use Rattle.armus_base.specs.declared.event.Event.{Event}
 use Rattle.armus_base.specs.declared.ids.TaskId.{TaskId}
 use Rattle.armus_base.specs.Counts.{IsDistinct}
@@ -8,7 +8,7 @@ use Rattle.armus_base.specs.Finals.{final_of}
 use Rattle.armus_base.specs.Places.{state_at}
 use Rattle.armus_base.specs.Plans.{Plan}
 use Rattle.armus_base.specs.Relations.{IsWalk}
-use Rattle.armus_base.specs.Runs.{IsLegalRun, IsMaximal, Place, places}
+use Rattle.armus_base.specs.Runs.{IsLegalRun, IsMaximal, IsPlainRun, Place, places}
 use Rattle.armus_base.specs.States.{Phases, State, Step}
 use Rattle.pl_plan.specs.Unfolding.{plan_of}
 use Rattle.pl_syntax.specs.Grammar.{IsText}
@@ -17,13 +17,14 @@ use Rattle.accounts.specs.declared.account.Waiting.{Waiting}
 use Rattle.report.specs.Reports.{IsReportedCycle, IsSomeDead}
 use Rattle.task_sayings.specs.declared.impeders.Impeder.{Impeder}
 use Rattle.explained_tasks.specs.declared.outcome.Verdict.{Verdict}
-use Rattle.explained_tasks.specs.declared.outcome.Verdict.TheVariants.{Circle}
-use Rattle.task_sayings.specs.declared.situation.Situation.TheVariants.{Deadlocked}
+use Rattle.explained_tasks.specs.declared.outcome.Verdict.TheVariants.{Chain, Circle}
+use Rattle.task_sayings.specs.declared.situation.Situation.{Situation}
+use Rattle.task_sayings.specs.declared.situation.Situation.TheVariants.{Deadlocked, HasEnded, Held, NeverForked, NotForkedYet}
 use Rattle.explained_tasks.specs.Explanations.{IsExplanationAt}
 use Rattle.task_sayings.specs.Facts.{FactsValue, is_waiting, situation_of, tasks_that, wait_of}
 use Rattle.explained_tasks.specs.ImpederLines.{group_of, rest_of, told_of}
 use Rattle.task_sayings.specs.Impeders.{impeders_of}
-use Rattle.task_sayings.specs.Nexts.{next_of}
+use Rattle.task_sayings.specs.Nexts.{IsNext, next_of}
 use Rattle.explained_tasks.specs.Paragraphs.{explained_tasks, sayings_of, tasks_of}
 use Rattle.explained_tasks.specs.RunEnds.{AreFactsAt}
 use Rattle.task_sayings.specs.Sayings.{Said, impeder_said, own_said, same_said}
@@ -54,6 +55,13 @@ EachHasAParagraph =
 -- what a paragraph says is what is said of each of its tasks, so a task stands in one paragraph only, and each of these is not done
 abbrev pub SaysWhatIsSo : Type 0
 SaysWhatIsSo = (f : FactsValue) (said : Said) (t : TaskId) → Contains (tasks_of f said) t → (said ≡ own_said f t.0) × Contains (explained_tasks f) t
+
+-- the tasks of the paragraph of a task that waits stand as it does, and have its impeders and its next
+abbrev pub WaitAlike : Type 0
+WaitAlike =
+    (f : FactsValue) (phases : ℕ → Phases) (said : Said) (t u : TaskId) → Contains (tasks_of f said) t → Contains (tasks_of f said) u →
+    is_waiting (situation_of f t.0) ≡ true →
+    (situation_of f u.0 ≡ situation_of f t.0) × (impeders_of f phases u.0 ≡ impeders_of f phases t.0) × (next_of f phases u.0 ≡ next_of f phases t.0)
 
 -- nothing is said in two paragraphs
 abbrev pub NothingIsSaidTwice : Type 0
@@ -105,6 +113,30 @@ DeadlockIsReported =
 -- task t is dead in this state, and task u impedes the event that it awaits
 abbrev pub IsDeadAndWaitsFor : State → TaskId → TaskId → Type 0
 IsDeadAndWaitsFor s t u = IsDeadIn s t.0 × (e : Event) × (s.published t.0 ≡ Some e) × (m : ℕ) × (s.phases u.0 e.p.0 ≡ Some m) × (m < e.n)
+
+-- no impeder of a held task is deadlocked
+abbrev pub HeldAreNotImpededByDead : Type 0
+HeldAreNotImpededByDead =
+    (plan : Plan) (a : ℕ → Place) (f : FactsValue) (t : ℕ) (i : Impeder) → AreFactsAt plan a f → situation_of f t ≡ Held →
+    Contains (impeders_of f (state_at plan a).phases t) i → situation_of f i.t.0 ≡ Deadlocked → ⊥
+
+-- a task that stands so has not come to its end, and somebody forks it: it waits, or is not forked yet
+pub record IsToCome (s : Situation) : Type 0 where
+  pub not_ended : s ≡ HasEnded → ⊥
+  pub not_never : s ≡ NeverForked → ⊥
+
+-- at the end of a maximal run who would fork a task that is not forked yet waits, or is not forked yet itself
+abbrev pub ForkersAreToCome : Type 0
+ForkersAreToCome =
+    (plan : Plan) (steps : List Step) (f : FactsValue) (t u : TaskId) → IsPlainRun plan steps → IsMaximal plan steps → AreFactsAt plan (places steps) f →
+    situation_of f t.0 ≡ NotForkedYet → IsNext f (state_at plan (places steps)).phases t u → IsToCome (situation_of f u.0)
+
+-- and where the walk comes to an end, it is a held task that waits for one that has ended or is never forked
+abbrev pub ChainsEnd : Type 0
+ChainsEnd =
+    (plan : Plan) (steps : List Step) (f : FactsValue) (held last : TaskId) → IsPlainRun plan steps → IsMaximal plan steps → AreFactsAt plan (places steps) f →
+    IsVerdict f (state_at plan (places steps)).phases (Chain held last) →
+    (situation_of f held.0 ≡ Held) × ((situation_of f last.0 ≡ HasEnded) ⊎ (situation_of f last.0 ≡ NeverForked))
 
 -- there are tasks, each of them stands so to the one behind it, and the last to the first
 pub record ShowsCircle (R : TaskId → TaskId → Type 0) (shown : List TaskId) : Type 0 where

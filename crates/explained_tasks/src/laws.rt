@@ -1,5 +1,5 @@
 // Laws of explanations.
-ghost use Rattle.explained_tasks.specs.Laws.{DeadlockIsReported, DeadlockStandsFirst, EachHasAParagraph, EachImpederIsTold, ExplanationExists, NothingIsSaidTwice, OneExplanation, SaysWhatIsSo, ShownAreDead, SomebodyWaits};
+ghost use Rattle.explained_tasks.specs.Laws.{ChainsEnd, DeadlockIsReported, DeadlockStandsFirst, EachHasAParagraph, EachImpederIsTold, ExplanationExists, ForkersAreToCome, HeldAreNotImpededByDead, NothingIsSaidTwice, OneExplanation, SaysWhatIsSo, ShownAreDead, SomebodyWaits, WaitAlike};
 
 /// The places of a text's plan have one explanation at most.
 pub fn one_explanation()
@@ -19,6 +19,11 @@ pub fn each_has_a_paragraph()
 /// A paragraph says of each of its tasks what is so, and each of them is not done.
 pub fn says_what_is_so()
     ensures { SaysWhatIsSo }
+{}
+
+/// All tasks of the paragraph of a task that waits stand as it does, with its impeders and its next.
+pub fn wait_alike()
+    ensures { WaitAlike }
 {}
 
 /// Nothing is said in two paragraphs.
@@ -45,4 +50,16 @@ pub fn somebody_waits()
 pub fn deadlock_is_shown()
     ensures reported { DeadlockIsReported }
     ensures dead { ShownAreDead }
+{}
+
+/// No impeder of a held task is deadlocked.
+pub fn held_are_not_impeded_by_dead()
+    ensures { HeldAreNotImpededByDead }
+{}
+
+/// At the end of a maximal run who would fork a task that is not forked yet waits, or is not forked yet itself; and where the walk comes to an end, a held task
+/// waits for one that has ended or is never forked.
+pub fn walks_end()
+    ensures forkers { ForkersAreToCome }
+    ensures chains { ChainsEnd }
 {}

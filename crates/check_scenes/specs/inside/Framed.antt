@@ -19,7 +19,7 @@ an_item at turn step = record { at = at; turn = turn; step = step }
 -- the frames behind a coming to a step
 abbrev pub frames_at : Frame → Step → List Frame → List Frame
 frames_at f (a_step.Loop k after steady) frames =
-    (frames ++ record f { at = after } ∷ []) ++ record { at = after; to = after; lap = f.at; left = k } ∷ []
+    (frames ++ record f { at = after } ∷ []) ++ record { at = after; to = after; of_loop = f.at; left = k } ∷ []
 frames_at f (a_step.Fork x after) frames = frames ++ record f { at = after } ∷ []
 frames_at f (a_step.NewTask x) frames = frames ++ record f { at = f.at + 1 } ∷ []
 frames_at f (a_step.NewPhaser x) frames = frames ++ record f { at = f.at + 1 } ∷ []
@@ -33,22 +33,22 @@ frames_at f a_step.Skip frames = frames ++ record f { at = f.at + 1 } ∷ []
 abbrev pub frames_after : List Step → Frame → List Frame → List Frame
 frames_after steps f frames =
     if nat_lt f.at f.to then frames_at f (step_at steps f.at) frames
-    else (if f.left == 0 then frames else frames ++ record f { at = f.lap + 1; left = f.left - 1 } ∷ [])
+    else (if f.left == 0 then frames else frames ++ record f { at = f.of_loop + 1; left = f.left - 1 } ∷ [])
 
 -- the coming with which it goes on, if there is one
 abbrev pub next_item : List Step → Frame → Option Item
 next_item steps f =
-    if nat_lt f.at f.to then Some (an_item f.at false (step_at steps f.at)) else (if f.left == 0 then None else Some (an_item f.lap true a_step.Skip))
+    if nat_lt f.at f.to then Some (an_item f.at false (step_at steps f.at)) else (if f.left == 0 then None else Some (an_item f.of_loop true a_step.Skip))
 
 -- the visits that a frame has left: those of its statements from one on, and the turns of its loop
 pub record FrameIs (n : ℕ) (names : ℕ → List ℕ) (steps : List Step) (f : Frame) (ms : List Visit) : Type 0 where
   pub rest : Tree
   pub rest_there : IsSpelled n names steps f.at rest f.to
   pub body : Tree
-  pub body_there : 0 < f.left → IsSpelled n names steps (f.lap + 1) body f.to
+  pub body_there : 0 < f.left → IsSpelled n names steps (f.of_loop + 1) body f.to
   pub within : f.to ≤ length steps
-  pub small : f.lap + 1 < 2 ^ 32
-  pub visits_are : ms ≡ visits_of (f.at + 1) rest ++ times f.left (visit (f.lap + 1) a_turn ∷ visits_of (f.lap + 1 + 1) body)
+  pub small : f.of_loop + 1 < 2 ^ 32
+  pub visits_are : ms ≡ visits_of (f.at + 1) rest ++ times f.left (visit (f.of_loop + 1) a_turn ∷ visits_of (f.of_loop + 1 + 1) body)
 
 -- the visits that frames have left, from outside in: the innermost one is first to go on
 abbrev pub FramesAre : ℕ → (ℕ → List ℕ) → List Step → List Frame → List Visit → Type 0

@@ -11,7 +11,7 @@ use Rattle.check_scenes.specs.Deeds as deeds
 use Rattle.check_scenes.specs.Deeds.{drew, forked, last_that, left, made, name_given, or_else, registered, statement_in}
 use Rattle.check_scenes.specs.Turns.{turn_in, visits_among}
 use Rattle.check_scenes.specs.declared.notes.Deed.{Deed}
-use Rattle.check_scenes.specs.declared.notes.Lap.{Lap}
+use Rattle.check_scenes.specs.declared.notes.LastTurn.{LastTurn}
 use Rattle.check_scenes.specs.declared.notes.Note.{Note}
 use Rattle.check_scenes.specs.declared.sight.Sight.{Sight}
 
@@ -58,36 +58,36 @@ notes_at v (a_step.Loop k after steady) = []
 abbrev pub with_notes : Sight → List Note → List Note
 with_notes v notes = notes ++ notes_at v v.item.step
 
--- ---- laps
+-- ---- last turns
 
--- no turn of task 0
-abbrev pub no_lap : Lap
-no_lap = record { task = record { 0 = 0 }; turn = 0 }
+-- before the first turn
+abbrev pub no_turn : LastTurn
+no_turn = record { task = record { 0 = 0 }; turn = 0 }
 
--- the turn of a lap, where it is one of task t
-abbrev pub turn_by : ℕ → Lap → ℕ
-turn_by t lap = if lap.task.0 == t then lap.turn else 0
+-- the number of a last turn, where it is one of task t, and else 0
+abbrev pub turn_by : ℕ → LastTurn → ℕ
+turn_by t last = if last.task.0 == t then last.turn else 0
 
 -- in which turn task t is of the loop whose step has this index
-abbrev pub turn_at : List Lap → ℕ → ℕ → ℕ
-turn_at laps t at = turn_by t (slice_index_or laps at no_lap)
+abbrev pub turn_at : List LastTurn → ℕ → ℕ → ℕ
+turn_at last_turns t at = turn_by t (slice_index_or last_turns at no_turn)
 
--- the laps with this visit, by its step
-abbrev pub laps_at : Sight → Step → List Lap → List Lap
-laps_at v (a_step.Loop k after steady) laps = slice_set laps v.item.at (record { task = v.t; turn = 0 })
-laps_at v (a_step.NewTask x) laps = laps
-laps_at v (a_step.NewPhaser x) laps = laps
-laps_at v (a_step.Fork x after) laps = laps
-laps_at v (a_step.Reg x y) laps = laps
-laps_at v (a_step.Dereg x) laps = laps
-laps_at v (a_step.Adv x) laps = laps
-laps_at v (a_step.Await x off) laps = laps
-laps_at v a_step.Skip laps = laps
+-- the last turns with this visit, by its step
+abbrev pub last_turns_at : Sight → Step → List LastTurn → List LastTurn
+last_turns_at v (a_step.Loop k after steady) last_turns = slice_set last_turns v.item.at (record { task = v.t; turn = 0 })
+last_turns_at v (a_step.NewTask x) last_turns = last_turns
+last_turns_at v (a_step.NewPhaser x) last_turns = last_turns
+last_turns_at v (a_step.Fork x after) last_turns = last_turns
+last_turns_at v (a_step.Reg x y) last_turns = last_turns
+last_turns_at v (a_step.Dereg x) last_turns = last_turns
+last_turns_at v (a_step.Adv x) last_turns = last_turns
+last_turns_at v (a_step.Await x off) last_turns = last_turns
+last_turns_at v a_step.Skip last_turns = last_turns
 
--- the laps with this visit
-abbrev pub with_lap : Sight → List Lap → List Lap
-with_lap v laps =
-    if v.item.turn then slice_set laps v.item.at (record { task = v.t; turn = turn_at laps v.t.0 v.item.at + 1 }) else laps_at v v.item.step laps
+-- the last turns with this visit
+abbrev pub with_last_turn : Sight → List LastTurn → List LastTurn
+with_last_turn v last_turns =
+    if v.item.turn then slice_set last_turns v.item.at (record { task = v.t; turn = turn_at last_turns v.t.0 v.item.at + 1 }) else last_turns_at v v.item.step last_turns
 
 -- ---- what they tell
 
@@ -115,14 +115,14 @@ pub data Means : Deed → deeds.Deed → Type 0 where
 abbrev pub Tells : (ℕ → List ℕ) → UnfoldingState → List Stage → List Note → Type 0
 Tells names first stages notes = (d : Deed) (did : deeds.Deed) → Means d did → MarkTells names (last_noted d notes) (last_that did first stages)
 
--- the laps tell the turns in which task t is
-abbrev pub TurnsTold : ℕ → List Stage → List Lap → Type 0
-TurnsTold t stages laps = (at : ℕ) → turn_at laps t at ≡ turn_in (at + 1) (visits_among t stages)
+-- the last turns tell the turns in which task t is
+abbrev pub TurnsTold : ℕ → List Stage → List LastTurn → Type 0
+TurnsTold t stages last_turns = (at : ℕ) → turn_at last_turns t at ≡ turn_in (at + 1) (visits_among t stages)
 
--- the laps while task t is unfolded, of so many steps and behind so many visits: none is of a later task, and no visit is one of a later task
-pub record LapsTell (t steps visits : ℕ) (stages : List Stage) (laps : List Lap) : Type 0 where
-  pub many : length laps ≡ steps
-  pub earlier : (at : ℕ) → (slice_index_or laps at no_lap).task.0 ≤ t
-  pub few : (at : ℕ) → (slice_index_or laps at no_lap).turn ≤ visits
+-- the last turns while task t is unfolded, of so many steps and behind so many visits: none is of a later task, and no visit is one of a later task
+pub record LastTurnsTell (t steps visits : ℕ) (stages : List Stage) (last_turns : List LastTurn) : Type 0 where
+  pub many : length last_turns ≡ steps
+  pub earlier : (at : ℕ) → (slice_index_or last_turns at no_turn).task.0 ≤ t
+  pub few : (at : ℕ) → (slice_index_or last_turns at no_turn).turn ≤ visits
   pub later : (u : ℕ) → t < u → visits_among u stages ≡ []
-  pub turns : TurnsTold t stages laps
+  pub turns : TurnsTold t stages last_turns

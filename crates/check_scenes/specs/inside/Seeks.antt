@@ -12,14 +12,14 @@ use Rattle.pl_plan.specs.Stages.{FailsAt, IsNextStage, all_stages, Stage, Stages
 use Rattle.pl_plan.proofs.Unfolds.{IsKept}
 use Rattle.check_scenes.specs.declared.frames.Frame.{Frame}
 use Rattle.check_scenes.specs.declared.frames.Item.{Item}
-use Rattle.check_scenes.specs.declared.notes.Lap.{Lap}
+use Rattle.check_scenes.specs.declared.notes.LastTurn.{LastTurn}
 use Rattle.check_scenes.specs.declared.notes.Note.{Note}
 use Rattle.check_scenes.specs.declared.seek.Place.{Place}
 use Rattle.check_scenes.specs.declared.seek.Place.TheVariants as p
 use Rattle.check_scenes.specs.declared.seek.Stop.{Stop}
 use Rattle.check_scenes.specs.declared.sight.Sight.{Sight}
 use Rattle.check_scenes.specs.inside.Framed.{Comes, FramesAre}
-use Rattle.check_scenes.specs.inside.Noted.{LapsTell, Tells, TurnsTold, with_lap, with_notes}
+use Rattle.check_scenes.specs.inside.Noted.{LastTurnsTell, Tells, TurnsTold, with_last_turn, with_notes}
 use Rattle.check_scenes.specs.inside.Seen.{checker_come, sight_of}
 
 -- what is unfolded: a program, the bytes of its names by their numbers, and its steps
@@ -42,14 +42,14 @@ module _ (g : Source) where
     pub steps_are : k.steps ≡ g.steps
     pub small : length k.steps < 2 ^ 32
 
-  -- Behind some stages, while task t is unfolded: what is kept shows the state, and the notes and laps tell of the stages.
-  pub record Stands (t : ℕ) (k : Checker) (notes : List Note) (laps : List Lap) : Type 0 where
+  -- Behind some stages, while task t is unfolded: what is kept shows the state, and the notes and last turns tell of the stages.
+  pub record Stands (t : ℕ) (k : Checker) (notes : List Note) (last_turns : List LastTurn) : Type 0 where
     pub stages : List Stage
     pub state : UnfoldingState
     pub past : IsPast stages state
     pub shown : IsShown k state
     pub told : Tells g.names (opening_state g.program.body) stages notes
-    pub laps_tell : LapsTell t (length k.steps) state.visits stages laps
+    pub last_turns_tell : LastTurnsTell t (length k.steps) state.visits stages last_turns
 
   -- task t began with the steps from one index on, before another
   pub record HasStart (t first after n : ℕ) (state : UnfoldingState) : Type 0 where
@@ -60,13 +60,13 @@ module _ (g : Source) where
     pub within : after ≤ length g.steps
 
   -- task t is the next one
-  pub record Before (t : ℕ) (k : Checker) (notes : List Note) (laps : List Lap) : Type 0 where
-    pub stands : Stands t k notes laps
+  pub record Before (t : ℕ) (k : Checker) (notes : List Note) (last_turns : List LastTurn) : Type 0 where
+    pub stands : Stands t k notes last_turns
     pub own : stands.stages ≡ stages_below g.program.two t stands.state
 
   -- task t has the visits of these frames left
-  pub record Midst (t first after : ℕ) (frames : List Frame) (k : Checker) (notes : List Note) (laps : List Lap) : Type 0 where
-    pub stands : Stands t k notes laps
+  pub record Midst (t first after : ℕ) (frames : List Frame) (k : Checker) (notes : List Note) (last_turns : List LastTurn) : Type 0 where
+    pub stands : Stands t k notes last_turns
     pub here : t < length stands.state.plan.parents
     pub started : HasStart t first after (length k.bindings.slots) stands.state
     pub visits : List Visit
@@ -74,8 +74,8 @@ module _ (g : Source) where
     pub own : stands.stages ++ (map (λ m. comes t m) visits ++ ends_of g.program.two t) ≡ stages_below g.program.two (suc t) stands.state
 
   -- task t has no visit left, and leaves the phasers from number p on
-  pub record Leaving (t first after p : ℕ) (k : Checker) (notes : List Note) (laps : List Lap) : Type 0 where
-    pub stands : Stands t k notes laps
+  pub record Leaving (t first after p : ℕ) (k : Checker) (notes : List Note) (last_turns : List LastTurn) : Type 0 where
+    pub stands : Stands t k notes last_turns
     pub here : t < length stands.state.plan.parents
     pub started : HasStart t first after (length k.bindings.slots) stands.state
     pub earlier : List Stage
@@ -88,24 +88,24 @@ module _ (g : Source) where
     pub comes_to : Comes (length kept.bindings.slots) g.names g.steps sight.item visit
     pub here : sight.item.at < length g.steps
 
-  -- the fault is at a visit, before which this was looked at; the laps count that visit
-  pub record AtVisit (sight : Sight) (first after : ℕ) (stages : List Stage) (stage : Stage) (there : UnfoldingState) (laps : List Lap) : Type 0 where
+  -- the fault is at a visit, before which this was looked at; the last turns count that visit
+  pub record AtVisit (sight : Sight) (first after : ℕ) (stages : List Stage) (stage : Stage) (there : UnfoldingState) (last_turns : List LastTurn) : Type 0 where
     pub visit : Visit
     pub stage_is : stage ≡ comes sight.t.0 visit
     pub kept : Checker
     pub shown : IsShown kept there
     pub seen : IsSeen sight kept visit
     pub started : HasStart sight.t.0 first after (length kept.bindings.slots) there
-    pub many : length laps ≡ length g.steps
-    pub turns : TurnsTold sight.t.0 (stages ++ stage ∷ []) laps
+    pub many : length last_turns ≡ length g.steps
+    pub turns : TurnsTold sight.t.0 (stages ++ stage ∷ []) last_turns
 
   -- where the fault stands
-  abbrev pub IsAt : Place → ℕ → ℕ → List Stage → Stage → UnfoldingState → List Lap → Type 0
-  IsAt (p.Visit sight) first after stages stage there laps = AtVisit sight first after stages stage there laps
-  IsAt (p.End t q) first after stages stage there laps = stage ≡ leaves t.0 q.0
+  abbrev pub IsAt : Place → ℕ → ℕ → List Stage → Stage → UnfoldingState → List LastTurn → Type 0
+  IsAt (p.Visit sight) first after stages stage there last_turns = AtVisit sight first after stages stage there last_turns
+  IsAt (p.End t q) first after stages stage there last_turns = stage ≡ leaves t.0 q.0
 
   -- behind some stages, of which the notes tell, the next one is at fault
-  pub record Stopped (stop : Stop) (notes : List Note) (laps : List Lap) : Type 0 where
+  pub record Stopped (stop : Stop) (notes : List Note) (last_turns : List LastTurn) : Type 0 where
     pub stages : List Stage
     pub there : UnfoldingState
     pub past : IsPast stages there
@@ -113,25 +113,25 @@ module _ (g : Source) where
     pub next : IsNextStage g.program.two stages stage there
     pub fails : FailsAt there stage stop.fault
     pub told : Tells g.names (opening_state g.program.body) stages notes
-    pub place : IsAt stop.place stop.first stop.after stages stage there laps
+    pub place : IsAt stop.place stop.first stop.after stages stage there last_turns
 
   -- the visits of a task passed, or one of them is at fault
-  abbrev pub SoughtVisits : ℕ → ℕ → ℕ → Result (Option Stop) NoMemory → Checker → List Note → List Lap → Type 0
-  SoughtVisits t first after (Ok None) k notes laps = Midst t first after [] k notes laps
-  SoughtVisits t first after (Ok (Some stop)) k notes laps = Stopped stop notes laps
-  SoughtVisits t first after (Err e) k notes laps = Unit {0}
+  abbrev pub SoughtVisits : ℕ → ℕ → ℕ → Result (Option Stop) NoMemory → Checker → List Note → List LastTurn → Type 0
+  SoughtVisits t first after (Ok None) k notes last_turns = Midst t first after [] k notes last_turns
+  SoughtVisits t first after (Ok (Some stop)) k notes last_turns = Stopped stop notes last_turns
+  SoughtVisits t first after (Err e) k notes last_turns = Unit {0}
 
   -- the end of a task passed, or is at fault
-  abbrev pub SoughtEnd : ℕ → ℕ → ℕ → Result (Option Stop) NoMemory → Checker → List Note → List Lap → Type 0
-  SoughtEnd t first after (Ok None) k notes laps = Leaving t first after 1024 k notes laps
-  SoughtEnd t first after (Ok (Some stop)) k notes laps = Stopped stop notes laps
-  SoughtEnd t first after (Err e) k notes laps = Unit {0}
+  abbrev pub SoughtEnd : ℕ → ℕ → ℕ → Result (Option Stop) NoMemory → Checker → List Note → List LastTurn → Type 0
+  SoughtEnd t first after (Ok None) k notes last_turns = Leaving t first after 1024 k notes last_turns
+  SoughtEnd t first after (Ok (Some stop)) k notes last_turns = Stopped stop notes last_turns
+  SoughtEnd t first after (Err e) k notes last_turns = Unit {0}
 
   -- the next task is this one, or there is a fault before
-  abbrev pub SoughtTask : ℕ → Result (Option Stop) NoMemory → Checker → List Note → List Lap → Type 0
-  SoughtTask t (Ok None) k notes laps = Before t k notes laps
-  SoughtTask t (Ok (Some stop)) k notes laps = Stopped stop notes laps
-  SoughtTask t (Err e) k notes laps = Unit {0}
+  abbrev pub SoughtTask : ℕ → Result (Option Stop) NoMemory → Checker → List Note → List LastTurn → Type 0
+  SoughtTask t (Ok None) k notes last_turns = Before t k notes last_turns
+  SoughtTask t (Ok (Some stop)) k notes last_turns = Stopped stop notes last_turns
+  SoughtTask t (Err e) k notes last_turns = Unit {0}
 
   -- the stages are all, and pass
   pub record Passed : Type 0 where
@@ -141,40 +141,40 @@ module _ (g : Source) where
     pub all : all_stages g.program.two state ≡ stages
 
   -- all tasks passed, or there is a fault
-  abbrev pub SoughtAll : Result (Option Stop) NoMemory → List Note → List Lap → Type 0
-  SoughtAll (Ok None) notes laps = Passed
-  SoughtAll (Ok (Some stop)) notes laps = Stopped stop notes laps
-  SoughtAll (Err e) notes laps = Unit {0}
+  abbrev pub SoughtAll : Result (Option Stop) NoMemory → List Note → List LastTurn → Type 0
+  SoughtAll (Ok None) notes last_turns = Passed
+  SoughtAll (Ok (Some stop)) notes last_turns = Stopped stop notes last_turns
+  SoughtAll (Err e) notes last_turns = Unit {0}
 
 -- the frame of all statements of a task
 abbrev pub whole : ℕ → ℕ → Frame
-whole first after = record { at = first; to = after; lap = 0; left = 0 }
+whole first after = record { at = first; to = after; of_loop = 0; left = 0 }
 
 -- something is unfolded so that task t has the visits of these frames left
-abbrev pub HasMidst : ℕ → ℕ → ℕ → List Frame → Checker → List Note → List Lap → Type 0
-HasMidst t first after frames k notes laps = (g : Source) × Midst g t first after frames k notes laps
+abbrev pub HasMidst : ℕ → ℕ → ℕ → List Frame → Checker → List Note → List LastTurn → Type 0
+HasMidst t first after frames k notes last_turns = (g : Source) × Midst g t first after frames k notes last_turns
 
 -- or so that it leaves the phasers from number p on
-abbrev pub HasLeaving : ℕ → ℕ → ℕ → ℕ → Checker → List Note → List Lap → Type 0
-HasLeaving t first after p k notes laps = (g : Source) × Leaving g t first after p k notes laps
+abbrev pub HasLeaving : ℕ → ℕ → ℕ → ℕ → Checker → List Note → List LastTurn → Type 0
+HasLeaving t first after p k notes last_turns = (g : Source) × Leaving g t first after p k notes last_turns
 
 -- or so that it is the next one
-abbrev pub HasBefore : Bool → ℕ → Checker → List Note → List Lap → Type 0
-HasBefore two t k notes laps = (g : Source) × (g.program.two ≡ two) × Before g t k notes laps
+abbrev pub HasBefore : Bool → ℕ → Checker → List Note → List LastTurn → Type 0
+HasBefore two t k notes last_turns = (g : Source) × (g.program.two ≡ two) × Before g t k notes last_turns
 
 -- what is unfolded of a program, by the names and the steps
 abbrev pub a_source : Program → (ℕ → List ℕ) → List Step → Source
 a_source program names steps = record { program = program; names = names; steps = steps }
 
 -- the first task of a program is the next one
-abbrev pub HasSource : Bool → (ℕ → List ℕ) → List Step → Checker → List Note → List Lap → Type 0
-HasSource two names steps k notes laps = (program : Program) × (program.two ≡ two) × Before (a_source program names steps) 0 k notes laps
+abbrev pub HasSource : Bool → (ℕ → List ℕ) → List Step → Checker → List Note → List LastTurn → Type 0
+HasSource two names steps k notes last_turns = (program : Program) × (program.two ≡ two) × Before (a_source program names steps) 0 k notes last_turns
 
 -- a coming to a step passed, or is at fault: what is then kept, noted and counted
-abbrev pub CameTo : TaskId → Item → ℕ → ℕ → Result (Option Stop) NoMemory → Checker → List Note → List Lap → Checker → List Note → List Lap → Type 0
-CameTo t item first after (Ok None) k notes laps new new_notes new_laps =
-    (checker_come t.0 item.at item.step k ≡ Ok new) × (new_notes ≡ with_notes (sight_of k t item) notes) × (new_laps ≡ with_lap (sight_of k t item) laps)
-CameTo t item first after (Ok (Some stop)) k notes laps new new_notes new_laps =
-    (checker_come t.0 item.at item.step k ≡ Err stop.fault) × (new_notes ≡ notes) × (new_laps ≡ with_lap (sight_of k t item) laps)
+abbrev pub CameTo : TaskId → Item → ℕ → ℕ → Result (Option Stop) NoMemory → Checker → List Note → List LastTurn → Checker → List Note → List LastTurn → Type 0
+CameTo t item first after (Ok None) k notes last_turns new new_notes new_last_turns =
+    (checker_come t.0 item.at item.step k ≡ Ok new) × (new_notes ≡ with_notes (sight_of k t item) notes) × (new_last_turns ≡ with_last_turn (sight_of k t item) last_turns)
+CameTo t item first after (Ok (Some stop)) k notes last_turns new new_notes new_last_turns =
+    (checker_come t.0 item.at item.step k ≡ Err stop.fault) × (new_notes ≡ notes) × (new_last_turns ≡ with_last_turn (sight_of k t item) last_turns)
     × (stop.place ≡ p.Visit (sight_of k t item)) × (stop.first ≡ first) × (stop.after ≡ after)
-CameTo t item first after (Err e) k notes laps new new_notes new_laps = Unit {0}
+CameTo t item first after (Err e) k notes last_turns new new_notes new_last_turns = Unit {0}

@@ -9,7 +9,7 @@ use Rattle.pl_plan.specs.declared.step.Thing.TheVariants as a_thing
 use Rattle.pl_plan.specs.inside.Steps.{IsList, IsSpelled}
 use Rattle.pl_syntax.specs.Tree.{Tree}
 use Rattle.check_scenes.specs.Turns.{loops_around}
-use Rattle.check_scenes.specs.declared.notes.Lap.{Lap}
+use Rattle.check_scenes.specs.declared.notes.LastTurn.{LastTurn}
 use Rattle.check_scenes.specs.declared.notes.Note.{Note}
 use Rattle.check_scenes.specs.declared.scene.LoopTurn.{LoopTurn}
 use Rattle.check_scenes.specs.declared.scene.Matter.{Matter}
@@ -134,9 +134,9 @@ module _ (names : ℕ → List ℕ) (notes : List Note) where
 
 -- ---- loops
 
--- a loop, by its number, with the turn that the laps have
-abbrev pub turn_told : List Lap → ℕ → ℕ → LoopTurn
-turn_told laps t n = record { statement = n; turn = turn_at laps t (n - 1) }
+-- a loop, by its number, with the last turn that is kept of it
+abbrev pub turn_told : List LastTurn → ℕ → ℕ → LoopTurn
+turn_told last_turns t n = record { statement = n; turn = turn_at last_turns t (n - 1) }
 
 -- the end of a loop around statement n, if the step with this index is one
 abbrev pub enters : Step → ℕ → ℕ → Option ℕ
@@ -163,18 +163,18 @@ behind (a_step.Await x off) at = at + 1
 behind a_step.Skip at = at + 1
 
 -- the turns of the loops around statement n, in the statements of these steps from one index on, before another
-abbrev pub TurnsTold : List Step → ℕ → ℕ → List Lap → ℕ → ℕ → List LoopTurn → Type 0
-TurnsTold steps first after laps t n turns =
-    (count : ℕ) (names : ℕ → List ℕ) (tree : Tree) → IsSpelled count names steps first tree after → turns ≡ map (turn_told laps t) (loops_around (first + 1) tree n)
+abbrev pub AreTurns : List Step → ℕ → ℕ → List LastTurn → ℕ → ℕ → List LoopTurn → Type 0
+AreTurns steps first after last_turns t n turns =
+    (count : ℕ) (names : ℕ → List ℕ) (tree : Tree) → IsSpelled count names steps first tree after → turns ≡ map (turn_told last_turns t) (loops_around (first + 1) tree n)
 
 -- ---- scenes
 
 -- what is told of a fault at a visit
-pub record VisitScene (names : ℕ → List ℕ) (notes : List Note) (laps : List Lap) (steps : List Step) (stop : Stop) (sight : Sight) (scene : Scene) : Type 0 where
+pub record VisitScene (names : ℕ → List ℕ) (notes : List Note) (last_turns : List LastTurn) (steps : List Step) (stop : Stop) (sight : Sight) (scene : Scene) : Type 0 where
   pub fault_is : scene.fault ≡ stop.fault
   pub task_is : scene.task ≡ task_told names notes sight.t.0
   pub forked_is : scene.forked ≡ statement_noted (last_noted (a_deed 2 sight.t.0 0) notes)
-  pub turns_are : TurnsTold steps stop.first stop.after laps sight.t.0 (sight.item.at + 1) scene.turns
+  pub turns_are : AreTurns steps stop.first stop.after last_turns sight.t.0 (sight.item.at + 1) scene.turns
   pub matter_is : scene.matter ≡ visit_told names notes stop.fault.kind sight
 
 -- what is told of a fault at the end of a task
@@ -186,14 +186,14 @@ pub record EndScene (names : ℕ → List ℕ) (notes : List Note) (stop : Stop)
   pub matter_is : scene.matter ≡ m.TooManyOpsAtEnd (phaser_told names notes p)
 
 -- what is told of a fault
-abbrev pub PlaceScene : (ℕ → List ℕ) → List Note → List Lap → List Step → Stop → Place → Scene → Type 0
-PlaceScene names notes laps steps stop (p.Visit sight) scene = VisitScene names notes laps steps stop sight scene
-PlaceScene names notes laps steps stop (p.End t q) scene = EndScene names notes stop t.0 q.0 scene
+abbrev pub PlaceScene : (ℕ → List ℕ) → List Note → List LastTurn → List Step → Stop → Place → Scene → Type 0
+PlaceScene names notes last_turns steps stop (p.Visit sight) scene = VisitScene names notes last_turns steps stop sight scene
+PlaceScene names notes last_turns steps stop (p.End t q) scene = EndScene names notes stop t.0 q.0 scene
 
 -- what has to be so that it can be told
-pub record CanBeTold (laps : List Lap) (steps : List Step) (first after : ℕ) (sight : Sight) : Type 0 where
+pub record CanBeTold (last_turns : List LastTurn) (steps : List Step) (first after : ℕ) (sight : Sight) : Type 0 where
   pub few : length steps < 2 ^ 32
-  pub many : length laps ≡ length steps
+  pub many : length last_turns ≡ length steps
   pub within : after ≤ length steps
   pub list : (count : ℕ) × IsList count steps first after
   pub tasks : sight.tasks ≤ 4096
@@ -201,6 +201,6 @@ pub record CanBeTold (laps : List Lap) (steps : List Step) (first after : ℕ) (
   pub small : sight.item.at + 1 < 2 ^ 32
 
 -- the same of a fault
-abbrev pub PlaceCanBeTold : List Lap → List Step → ℕ → ℕ → Place → Type 0
-PlaceCanBeTold laps steps first after (p.Visit sight) = CanBeTold laps steps first after sight
-PlaceCanBeTold laps steps first after (p.End t q) = Unit {0}
+abbrev pub PlaceCanBeTold : List LastTurn → List Step → ℕ → ℕ → Place → Type 0
+PlaceCanBeTold last_turns steps first after (p.Visit sight) = CanBeTold last_turns steps first after sight
+PlaceCanBeTold last_turns steps first after (p.End t q) = Unit {0}

@@ -5,8 +5,8 @@ use Rattle.check_scenes.proofs.seek.seek_visits.Given as goal
 
 abbrev pub invariant-frames : goal.invariant-frames
 invariant-frames l =
-    GoesOn l.t.0 l.first l.after (whole l.first l.after ∷ []) l.fn.seeker.checker l.fn.seeker.notes l.fn.seeker.laps.items l.frames.items l.seeker.checker l.seeker.notes
-    l.seeker.laps.items
+    GoesOn l.t.0 l.first l.after (whole l.first l.after ∷ []) l.fn.seeker.checker l.fn.seeker.notes l.fn.seeker.last_turns.items l.frames.items l.seeker.checker l.seeker.notes
+    l.seeker.last_turns.items
 
 abbrev pub decreases-frames : goal.decreases-frames
 decreases-frames l = 3 * (4194305 - l.seeker.checker.counts.visits) + length l.frames.items

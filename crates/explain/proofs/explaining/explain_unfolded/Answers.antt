@@ -1,5 +1,5 @@
 use Rattle.armus_top.specs.inside.Status.{number_of_status}
-use Rattle.explain.specs.inside.Requested.{named}
+use Rattle.explain.specs.Requested.{named}
 use Rattle.explain.proofs.EndExplained.{end_explained, waiters_stay}
 use Rattle.explain.proofs.explaining.explain_unfolded.Goals as goal
 

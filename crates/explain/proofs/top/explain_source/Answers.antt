@@ -1,4 +1,4 @@
-use Rattle.explain.specs.inside.Requested.{named}
+use Rattle.explain.specs.Requested.{named}
 use Rattle.explain.proofs.CallEnds.{call_answered}
 use Rattle.explain.proofs.top.explain_source.Goals as goal
 

@@ -1,4 +1,4 @@
--- What the program makes of words.
+-- What a request of the program asks for.
 use Rattle.std.specs.Prelude.{Option, option_map}
 use Rattle.std.specs.Borrow.{Bor}
 use Rattle.armus_words.specs.Words.{Text}
