@@ -5,3 +5,4 @@ pub mod SameSaid
 pub mod GroupedTasks
 pub mod Noted
 pub mod Bridges
+pub mod TaskListsSay

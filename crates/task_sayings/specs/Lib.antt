@@ -12,3 +12,5 @@ pub mod Sayings
 pub mod Groups
 pub mod SayingValues
 pub mod Grouped
+-- What is proved of them.
+pub mod Laws

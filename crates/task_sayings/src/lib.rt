@@ -5,6 +5,7 @@ mod facts;
 mod following;
 mod grouping;
 mod impeders;
+mod laws;
 mod saying;
 mod sayings;
 mod situation;
