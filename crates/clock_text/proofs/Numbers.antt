@@ -10,7 +10,7 @@ use Rattle.clock_moves.proofs.MoveCodes.{moves_at}
 use Rattle.clock_text.specs.ClockUnfolds.{UnfoldsFrom, no_more, one_more}
 use Rattle.clock_text.specs.ProgramPoints.{first_point}
 use Rattle.clock_text.specs.TextMachine.{Activity, Made}
-use Rattle.clock_text.specs.TextNumbers.{EachNumberIsNamed, IsActivityIn, IsMadeIn, MadeHaveOneName, made_by, made_in, number_in, started_by}
+use Rattle.clock_text.specs.TextNumbers.{EachMadeIsNamed, EachNumberIsNamed, IsActivityIn, IsMadeIn, MadeHaveOneName, made_by, made_in, number_in, started_by}
 use Rattle.clock_text.proofs.AddsMoves.{Adds, goes_adds}
 use Rattle.clock_text.proofs.Rows.{row, row_at, row_length}
 use Rattle.clock_text.proofs.UnfoldsByPoints.{unfolding_is_unfolded}
@@ -244,6 +244,27 @@ module _ (p : ClockTree) (u : ClockUnfolding) (e : clock_unfolded p ≡ Ok u) wh
       let n = named (suc t) t (omega arith) l in
       (n.0, n.1, n.2, λ b is same. one_name b n.0 is n.1 (same ∙ sym n.2))
 
+  -- the activity in whose row the number of a clock or finish stands
+  in_made_row : (n k : ℕ) → k < first_made u n → (t : ℕ) × (t < n) × (first_made u t ≤ k) × (k < first_made u (suc t))
+  in_made_row zero k l = absurd (omega (arith, l))
+  in_made_row (suc n) k l =
+      elim (cases_lt k (first_made u n)) [
+        | inl before ↦ let r = in_made_row n k before in (r.0, omega (arith, r.1), r.2, r.3)
+        | inr behind ↦ (n, omega arith, behind, l)
+      ]
+
+  pub made_is_named : (k : ℕ) → k < length u.makers → (q : Made) × IsMadeIn u q × (made_in u q ≡ k)
+  made_is_named k l =
+      let r = in_made_row (activities u) k (omega (arith, l, unfolded_rows.makers)) in
+      let maker = number_is_named r.0 r.1 in
+      let before = k - first_made u r.0 in
+      let few : before < length (made_by (moves_at u (number_in u maker.0))) =
+      subst (λ t. before < length (made_by (moves_at u t))) (sym maker.2) (omega (arith, r.2, r.3)) in (
+        record { maker = maker.0; before = before },
+        (maker.1, few),
+        made_is (number_in u maker.0) before (number_inside maker.0 maker.1) few ∙ ap (λ t. first_made u t + before) maker.2 ∙ omega (arith, r.2),
+      )
+
   pub made_have_one : (q r : Made) → IsMadeIn u q → IsMadeIn u r → made_in u q ≡ made_in u r → q ≡ r
   made_have_one q r x y same =
       let t = number_in u q.maker in
@@ -265,6 +286,9 @@ module _ (p : ClockTree) (u : ClockUnfolding) (e : clock_unfolded p ≡ Ok u) wh
 
 pub each_number_is_named : EachNumberIsNamed
 each_number_is_named p u t e l = number_is_named p u e t l
+
+pub each_made_is_named : EachMadeIsNamed
+each_made_is_named p u k e l = made_is_named p u e k l
 
 pub made_have_one_name : MadeHaveOneName
 made_have_one_name p u q r e x y same = made_have_one p u e q r x y same

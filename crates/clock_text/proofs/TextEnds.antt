@@ -21,7 +21,7 @@ use Rattle.clock_text.specs.ProgramPoints.{ProgramPoint}
 use Rattle.clock_text.specs.TextLaws.{NoRunFails, TextEndsAreThoseOfTasks, TextRunsAreDirect, WaitsAtOne, end_as}
 use Rattle.clock_text.specs.TextMachine as text
 use Rattle.clock_text.specs.TextMachine.{Acting, Activity, Continuation, IsAtRest, IsTextEnd, IsTextRun, Made, TextState, TextStep, advance_on, clock_here, closes, departs, does, fails, goes, goes_to, is_empty, is_there, leaves, or_fails, over, reads, remembering, signals, stand_at, stand_of, stand_on, stand_with, text_step, then_clocks, turns, waits}
-use Rattle.clock_text.specs.TextNumbers.{IsActivityIn, IsMadeIn, made_in, number_in}
+use Rattle.clock_text.specs.TextNumbers.{IsActivityIn, made_in, number_in}
 use Rattle.clock_text.proofs.Corresponding.{Corresponds, Fits, IsClock, IsFinish, Knows, Stands, closes_so, leaves_so, reads_so, registered, turns_so}
 use Rattle.clock_text.proofs.MadeKinds.{begun_there, opened_there}
 use Rattle.clock_text.proofs.Makes.{Makes, advances_on, begins_one, drops_from, ends_one, has_read, has_turned, loops, opens_one, resumes_on, skips, starts_one, stops_here, turns_on}

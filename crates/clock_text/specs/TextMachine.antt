@@ -101,13 +101,15 @@ remembering a p v s = acts a (record (s.acting a) { remembers = λ q. if is_made
 abbrev pub with_clock : Made → Clock → TextState → TextState
 with_clock p k s = record s { clock_of = λ q. if is_made p q then k else s.clock_of q }
 
--- a clock with activity a in both sets, without it in the second, and without it in both
+-- a clock with activity a in both sets: it is registered, and has not signalled in this phase
 abbrev pub enrolled_with : Activity → Clock → Clock
 enrolled_with a k = record k { enrolled = a ∷ k.enrolled; unsignalled = a ∷ k.unsignalled }
 
+-- without it among those that have not signalled
 abbrev pub signalled_by : Activity → Clock → Clock
 signalled_by a k = record k { unsignalled = without a k.unsignalled }
 
+-- without it in both sets
 abbrev pub left_by : Activity → Clock → Clock
 left_by a k = record k { enrolled = without a k.enrolled; unsignalled = without a k.unsignalled }
 

@@ -64,6 +64,10 @@ EachNumberIsNamed =
     (p : ClockTree) (u : ClockUnfolding) (t : ℕ) → clock_unfolded p ≡ Ok u → t < activities u →
     (a : Activity) × IsActivityIn u a × (number_in u a ≡ t) × ((b : Activity) → IsActivityIn u b → number_in u b ≡ t → b ≡ a)
 
+-- each number of a clock or finish has a name
+abbrev pub EachMadeIsNamed : Type 0
+EachMadeIsNamed = (p : ClockTree) (u : ClockUnfolding) (k : ℕ) → clock_unfolded p ≡ Ok u → k < length u.makers → (q : Made) × IsMadeIn u q × (made_in u q ≡ k)
+
 -- two clocks or finishes have two numbers
 abbrev pub MadeHaveOneName : Type 0
 MadeHaveOneName =

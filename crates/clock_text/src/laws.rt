@@ -1,7 +1,7 @@
 // The laws of clock programs on the text: each is the contract of a function with an empty body.
 ghost use Rattle.clock_text.specs.ClockUnfolds.{ClockFaultIsFirst, UnfoldingIsUnfolded};
 ghost use Rattle.clock_text.specs.TextLaws.{NoRunFails, TextEndsAreThoseOfTasks, TextEndsAreTold, TextRunsAreBounded, TextRunsAreDirect, TextRunsEnd};
-ghost use Rattle.clock_text.specs.TextNumbers.{EachNumberIsNamed, MadeHaveOneName};
+ghost use Rattle.clock_text.specs.TextNumbers.{EachMadeIsNamed, EachNumberIsNamed, MadeHaveOneName};
 ghost use Rattle.clock_text.specs.WorkedTexts.{ComeToEnds, ComeToFaults, faulty_texts, worked_texts};
 
 /// A clock program has just the unfolding in which each activity, in order of number, goes from point to point of its text up to its end, the finishes that
@@ -11,9 +11,10 @@ pub fn clock_unfolding_by_points()
     ensures fault { ClockFaultIsFirst }
 {}
 
-/// Each number of an activity of an unfolding has one name by where the activity comes from, and two clocks or finishes have two numbers.
+/// Each number of an activity of an unfolding has one name by where the activity comes from, and each number of a clock or finish one by who makes it.
 pub fn numbers_are_named()
     ensures activities { EachNumberIsNamed }
+    ensures named { EachMadeIsNamed }
     ensures made { MadeHaveOneName }
 {}
 

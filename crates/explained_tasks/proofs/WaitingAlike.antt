@@ -1,6 +1,6 @@
 -- Of whom the same is said as of a task that waits, who stands as it does, and has its impeders and its next.
-use Rattle.std.proofs.Common.{◌≡◌, ℕ, Bool, true, false, Option, Some, None, List, [], arith, sym, ◌∙◌, ap, refl}
-use Rattle.std.specs.Prelude.{Contains, length, option_map, slice_get, slice_index_or}
+use Rattle.std.proofs.Common.{◌≡◌, ℕ, Bool, true, Option, Some, None, List, [], arith, sym, ◌∙◌, ap, refl}
+use Rattle.std.specs.Prelude.{length, option_map, slice_index_or}
 use Rattle.std.proofs.lemmas.Bool.{false≢true}
 use Rattle.armus_base.specs.declared.event.Event.{Event}
 use Rattle.armus_base.specs.declared.ids.TaskId.{TaskId}
@@ -9,14 +9,14 @@ use Rattle.accounts.specs.declared.account.Waiting.{Waiting}
 use Rattle.task_sayings.specs.declared.impeders.Impeder.{Impeder}
 use Rattle.task_sayings.specs.declared.situation.Situation.{Situation}
 use Rattle.task_sayings.specs.declared.situation.Situation.TheVariants.{Deadlocked, Held, HasEnded, NeverForked, NotForkedYet}
-use Rattle.task_sayings.specs.Facts.{FactsValue, fork_of, is_deadlocked, is_held, is_waiting, situation_of, wait_of}
+use Rattle.task_sayings.specs.Facts.{FactsValue, fork_of, is_waiting, situation_of, wait_of}
 use Rattle.task_sayings.specs.Impeders.{impeders_by, impeders_in, impeders_of}
-use Rattle.task_sayings.specs.Nexts.{first_or, least_that, next_by, next_of}
+use Rattle.task_sayings.specs.Nexts.{next_by, next_of}
 use Rattle.task_sayings.specs.Sayings.{Said, own_said, said_as, same_said}
 use Rattle.task_sayings.proofs.Filters.{passed_is}
 use Rattle.task_sayings.proofs.SameSaid.{same_said_is}
 use Rattle.explained_tasks.specs.Laws.{WaitAlike}
-use Rattle.explained_tasks.specs.Paragraphs.{explained_tasks, tasks_of}
+use Rattle.explained_tasks.specs.Paragraphs.{explained_tasks}
 
 -- the first byte of what is said behind the name
 abbrev first_byte : Said → ℕ
