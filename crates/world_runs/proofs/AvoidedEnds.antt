@@ -1,21 +1,20 @@
 -- Who may not go on has come to an end, and what a round adds to a run.
 use mathlib.Core.Path.{fun_ext}
-use Rattle.std.proofs.Common.{◌≡◌, ℕ, suc, ◌+◌, Bool, true, false, ◌++◌, Option, Some, None, length, add-one, sym, ◌∙◌, ap, subst, refl}
+use Rattle.std.proofs.Common.{◌≡◌, ℕ, suc, ◌+◌, Bool, true, false, List, ◌++◌, Option, Some, None, length, add-one, sym, ◌∙◌, ap, subst, refl}
 use Rattle.std.specs.Prelude.{IsSome, MatchBool, slice_get}
 use Rattle.armus_base.specs.declared.event.Event.{Event}
 use Rattle.armus_base.specs.CheckedPlans.{IsCheckedPlan}
 use Rattle.armus_base.specs.Places.{done_by, kept, phases_after, phases_at, refused_at}
-use Rattle.armus_base.specs.Plans.{Action, Passes}
+use Rattle.armus_base.specs.Plans.{Action, Passes, Plan}
 use Rattle.armus_base.specs.Runs.{HasEnded, IsReachable, Place, is_done, is_refused, is_waiting, places, state_after}
 use Rattle.armus_base.specs.Serial.{IsTurn, RoundBelow}
-use Rattle.armus_base.specs.States.{IsActive}
+use Rattle.armus_base.specs.States.{IsActive, Step}
 use Rattle.armus_base.proofs.Fixed.{phases_forked}
 use Rattle.pl_core.specs.declared.place.Place.{Place as KeptPlace}
-use Rattle.pl_core.specs.declared.stand.Stand.TheVariants.{Refused, Waits}
 use Rattle.pl_core.specs.Stands.{IsEnabled}
 use Rattle.pl_core.specs.Worlds.{WorldValue, dropped_at, memberships, action_by_code, place_from, places_at, places_of, state_of}
 use Rattle.pl_core.proofs.Bounds.{phaser_of_member}
-use Rattle.pl_core.proofs.GoingOn.{goes_on, legal_when_active, legal_when_reached, passes_when_waiting}
+use Rattle.pl_core.proofs.GoingOn.{legal_when_active, legal_when_reached, passes_when_waiting}
 use Rattle.pl_core.proofs.Refusing.{dropped_below}
 use Rattle.pl_core.proofs.Standing.{place_is}
 use Rattle.world_runs.specs.inside.AvoidedRounds.{GoesOnTo, HasPart, HasRoundBelow, LeadsTo}
@@ -75,25 +74,22 @@ module _ (w : WorldValue) (checked : IsCheckedPlan w.plan) (reach : IsReachable 
       by_published (Some event) e =
           is_waiting event e (λ reached. stuck (Passes event.p.0, passes_when_waiting w checked reach t event e, legal_when_reached w checked reach t event e reached))
 
-  -- and who has come to an end may not go on
-  pub ended_stops : HasEnded w.plan (state_of w) (places_of w t) t → IsEnabled w t → ⊥
-  ended_stops (is_done none) enabled = absurd (let next = enabled.1 in cc)
-  ended_stops (is_waiting e published unreached) enabled = unreached ((goes_on w checked reach t (Waits e) published).0 enabled)
-  ended_stops (is_refused some left) enabled = by_event ((state_of w).refused t) refl
-    where
-      by_event : (o : Option Event) → (state_of w).refused t ≡ o → ⊥
-      by_event None none = absurd (let no : IsSome {T = Event} None = subst (λ (o : Option Event). IsSome o) none some in cc)
-      by_event (Some e) is = (goes_on w checked reach t (Refused e) is).0 enabled
+-- a run that leads to the world tells that its places are reachable
+pub reached_by : (plan : Plan) (h : List Step) (w : WorldValue) → LeadsTo plan h w → IsReachable w.plan (places_of w)
+reached_by plan h w leads =
+    subst (λ q. IsReachable q (places_of w)) (sym leads.plan_is) (record { steps = h; run = leads.run; there = λ t. ap (λ a. a t) leads.there })
 
 -- the turn of a task that may not go on any more
 pub turn_taken :
-    (old new : WorldValue) (t : ℕ) (moved : Bool) → IsCheckedPlan new.plan → IsReachable new.plan (places_of new) → new.plan ≡ old.plan →
-    (state_of old).forked t ≡ true → GoesOnTo old new t moved → (IsEnabled new t → ⊥) → HasPart old new t true moved
-turn_taken old new t moved checked reach plan forked goes stuck h leads =
+    (old new : WorldValue) (t : ℕ) (moved : Bool) → IsCheckedPlan old.plan → new.plan ≡ old.plan → (state_of old).forked t ≡ true →
+    GoesOnTo old new t moved → (IsEnabled new t → ⊥) → HasPart old new t true moved
+turn_taken old new t moved checked_old plan forked goes stuck h leads =
     let run = goes h leads in
+    let checked = subst IsCheckedPlan (sym plan) checked_old in
+    let reach = reached_by old.plan (run.0 ++ h) new run.1 in
     let there : LeadsTo new.plan (run.0 ++ h) new = subst (λ q. LeadsTo q (run.0 ++ h) new) (sym plan) run.1 in
     let state = leads_state new.plan checked (run.0 ++ h) new there in
-    let before = leads_state old.plan (subst IsCheckedPlan plan checked) h old leads in
+    let before = leads_state old.plan checked_old h old leads in
     let still = forked_later run.0 h t (ap (λ s. s.forked t) before ∙ forked) in
     let ended = ended_here new checked reach t (ap (λ s. s.forked t) (sym state) ∙ still) stuck in
     let at_run : HasEnded new.plan (state_after (run.0 ++ h)) (places (run.0 ++ h) t) t =

@@ -1,10 +1,8 @@
 -- An avoided run goes on by rounds in order of number until nobody may go on.
 use mathlib.Core.Path.{fun_ext}
 use Rattle.std.proofs.Common.{◌≡◌, ℕ, zero, suc, Bool, true, false, None, List, [], ◌∷◌, ◌++◌, length, arith, sym, ◌∙◌, ap, subst}
-use Rattle.std.specs.Prelude.{MatchBool, Option, Result, Ok, Err, IfOk}
+use Rattle.std.specs.Prelude.{MatchBool, Option}
 use Rattle.std.proofs.lemmas.Option.{slice_get_within}
-use Rattle.armus_base.specs.declared.ending.Final.{Final}
-use Rattle.armus_base.specs.declared.errors.NoMemory.{NoMemory}
 use Rattle.armus_base.specs.Avoidance.{Avoids, IsAvoidedRun}
 use Rattle.armus_base.specs.Boards.{IsLawful, steps_of}
 use Rattle.armus_base.specs.CheckedPlans.{IsCheckedPlan}
@@ -21,9 +19,12 @@ use Rattle.armus_base.proofs.SerialIsAvoided.{publishing_leaves_nobody_dead}
 use Rattle.pl_core.specs.declared.place.Place.{Place as KeptPlace}
 use Rattle.pl_core.specs.GivenPlaces.{IsAtPlaces}
 use Rattle.pl_core.specs.Worlds.{WorldValue, places_at, state_of}
+use Rattle.avoider.specs.Decisions.{HasGoneOn}
 use Rattle.world_runs.specs.AvoidedRuns.{IsAvoidedEnd}
-use Rattle.world_runs.specs.inside.AvoidedRounds.{HasRoundBelow, LeadsTo}
+use Rattle.world_runs.specs.declared.world_end.WorldEnd.{WorldEnd}
+use Rattle.world_runs.specs.inside.WorldRounds.{HasEndedBy}
 use Rattle.world_runs.proofs.AvoidedSteps.{leads_state}
+use Rattle.world_runs.proofs.JudgedRuns.{HasEndOf, HasRunOf, end_there}
 
 -- a decided step avoids deadlock
 decided_avoids : (s : State) (t : ℕ) (x : Action) → NobodyDead s → IsDecided s t x → Avoids s t x
@@ -57,11 +58,9 @@ module _ (plan : Plan) (checked : IsCheckedPlan plan) where
   round_avoided zero h g avoided round = subst (λ v. IsAvoidedRun plan v) (sym round) avoided
   round_avoided (suc k) h g avoided round = last_turn k round.0 g (round_avoided k h round.0 avoided round.1) ((state_after h).forked k) round.2
 
--- an avoided run that leads to the world
-pub record HasAvoidedRun (plan : Plan) (w : WorldValue) : Type 0 where
-  pub steps : List Step
-  pub run : IsAvoidedRun plan steps
-  pub leads : LeadsTo plan steps w
+-- an avoided run leads to the world
+abbrev pub HasAvoidedRun : Plan → WorldValue → Type 0
+HasAvoidedRun plan = HasRunOf (IsAvoidedRun plan) plan
 
 -- one leads to lawful places
 pub avoided_there :
@@ -80,57 +79,28 @@ avoided_there plan given w at lock lawful = record {
 pub avoided_nobody : (plan : Plan) (w : WorldValue) → IsCheckedPlan plan → HasAvoidedRun plan w → NobodyDead (state_of w)
 avoided_nobody plan w checked r = subst NobodyDead (leads_state plan checked r.steps w r.leads) (nobody_is_dead plan r.steps checked r.run)
 
--- a round leads it on
-pub avoided_more :
-    (plan : Plan) (old new : WorldValue) (moved : Bool) → IsCheckedPlan plan → old.plan ≡ plan → HasAvoidedRun plan old → HasRoundBelow old new (length old.plan.parents) moved →
-    HasAvoidedRun plan new
-avoided_more plan old new moved checked is avoided round =
-    let there : LeadsTo old.plan avoided.steps old = subst (λ q. LeadsTo q avoided.steps old) (sym is) avoided.leads in
-    let run = round avoided.steps there in
-    record {
-      steps = run.0;
-      run = round_avoided plan checked (length plan.parents) avoided.steps run.0 avoided.run (subst (λ q. RoundBelow q (length q.parents) avoided.steps run.0) is run.2);
-      leads = subst (λ q. LeadsTo q run.0 new) is run.1;
-    }
-
--- and where it has made no event, it has ended
-pub record HasAvoidedEnd (plan : Plan) (w : WorldValue) : Type 0 where
-  pub steps : List Step
-  pub run : IsAvoidedRun plan steps
-  pub round : RoundBelow plan (length plan.parents) steps steps
-  pub leads : LeadsTo plan steps w
-
-pub avoided_ended :
-    (plan : Plan) (old new : WorldValue) (moved : Bool) → old.plan ≡ plan → moved ≡ false → HasAvoidedRun plan old → HasRoundBelow old new (length old.plan.parents) moved →
-    HasAvoidedEnd plan new
-avoided_ended plan old new moved is unmoved avoided round =
-    let there : LeadsTo old.plan avoided.steps old = subst (λ q. LeadsTo q avoided.steps old) (sym is) avoided.leads in
-    let run = round avoided.steps there in
-    let same = run.3 unmoved in
-    record {
-      steps = avoided.steps;
-      run = avoided.run;
-      round =
-          subst (λ q. RoundBelow q (length q.parents) avoided.steps avoided.steps) is
-          (subst (λ g. RoundBelow old.plan (length old.plan.parents) avoided.steps g) same run.2);
-      leads = subst (λ q. LeadsTo q avoided.steps new) is (subst (λ g. LeadsTo old.plan g new) same run.1);
-    }
-
 -- the value of the end
-pub avoided_end :
-    (plan : Plan) (w : WorldValue) → IsCheckedPlan plan → HasAvoidedEnd plan w → NobodyDead (state_of w) → (r : Result Final NoMemory) →
-    IfOk r (λ end. end ≡ final_of w.plan (state_of w)) → IfOk r (λ end. IsAvoidedEnd plan end)
-avoided_end plan w checked end nobody (Ok value) is = record {
-  state = state_of w;
+avoided_value :
+    (plan : Plan) (e : WorldEnd) → IsCheckedPlan plan → HasEndOf (IsAvoidedRun plan) plan e.world → NobodyDead (state_of e.world) →
+    e.end ≡ final_of e.world.plan (state_of e.world) → IsAvoidedEnd plan e.end
+avoided_value plan e checked end nobody is = record {
+  state = state_of e.world;
   final = record {
     steps = end.steps;
     run = end.run;
     maximal = λ t forked.
         round_ended plan (length plan.parents) end.steps end.steps end.round (omega arith) t
         (forked_within plan (slice_get_within plan.parents 0 None checked.tables.root) end.steps (avoided_legal plan end.steps end.run) t forked) forked;
-    there = leads_state plan checked end.steps w end.leads;
+    there = leads_state plan checked end.steps e.world end.leads;
   };
   nobody = nobody;
-  is_it = is ∙ ap (λ q. final_of q (state_of w)) end.leads.plan_is;
+  is_it = is ∙ ap (λ q. final_of q (state_of e.world)) end.leads.plan_is;
 }
-avoided_end plan w checked end nobody (Err e) is = is
+
+-- what rounds come to from where an avoided run has led is the end of one
+pub avoided_end :
+    (plan : Plan) (w : WorldValue) (e : WorldEnd) → HasAvoidedRun plan w → HasEndedBy HasGoneOn (λ v. NobodyDead (state_of v)) w e → IsAvoidedEnd plan e.end
+avoided_end plan w e run by =
+    let checked = subst IsCheckedPlan (by.same_plan ∙ run.leads.plan_is) by.checked in
+    avoided_value plan e checked
+    (end_there (IsAvoidedRun plan) plan (round_avoided plan checked (length plan.parents)) checked by.rounds by.last run) by.kept by.value

@@ -1,10 +1,8 @@
 -- Where no task can go on and none is refused, a maximal plain run has ended.
 use Rattle.std.proofs.Common.{◌≡◌, ℕ, ◌<◌, true, false, List, [], ◌∷◌, Option, Some, None, length, sym, ◌∙◌, ap, subst, refl, inl, inr}
-use Rattle.std.specs.Prelude.{slice_get, Result, Ok, Err, IfOk, OnOk}
-use Rattle.armus_base.specs.declared.errors.NoMemory.{NoMemory}
+use Rattle.std.specs.Prelude.{slice_get}
 use Rattle.std.proofs.lemmas.Bool.{cases_eq, cases_lt}
 use Rattle.armus_base.specs.declared.event.Event.{Event}
-use Rattle.armus_base.specs.declared.ending.Final.{Final}
 use Rattle.armus_base.specs.Finals.{final_of}
 use Rattle.armus_base.specs.Plans.{Aim, Action, Passes, Plan, Refuses, Drops}
 use Rattle.armus_base.specs.States.{IsActive, Step}
@@ -119,11 +117,3 @@ module _ (w : WorldValue) (checked : IsCheckedPlan w.plan) (reach : IsReachable 
         every = λ h run maximal. (one_end w.plan h is_final.steps checked run is_final.run maximal is_final.maximal).1 ∙ is_final.there;
         is_it = refl;
       }
-
-pub plain_end_if_ok :
-    (w : WorldValue) (plan : Plan) → w.plan ≡ plan → NobodyRefused w → ((t : ℕ) → t < length w.plan.parents → IsEnabled w t → ⊥) → (r : Result Final NoMemory) →
-    IfOk r (λ end. end ≡ final_of w.plan (state_of w)) → OnOk r (IsCheckedPlan w.plan) → OnOk r (IsReachable w.plan (places_of w)) →
-    IfOk r (λ end. IsPlainEnd plan end)
-plain_end_if_ok w plan same plain quiet (Ok end) is checked reach =
-    subst (λ p. IsPlainEnd p end) same (subst (IsPlainEnd w.plan) (sym is) (plain_end w checked reach plain quiet))
-plain_end_if_ok w plan same plain quiet (Err e) is checked reach = is

@@ -1,8 +1,9 @@
 -- Each event and each refusal leaves less.
 use Rattle.std.proofs.Common.{◌≡◌, ℕ, zero, suc, ◌<◌, ◌≤◌, ◌+◌, ◌-◌, Bool, true, false, List, [], ◌∷◌, Some, None, length, set, arith, sym, ◌∙◌, ap, subst, refl, inl, inr}
 use Rattle.std.specs.Prelude.{if◌then◌else◌, slice_get}
+use Rattle.std.proofs.lemmas.Option.{slice_get_within}
 use Rattle.armus_base.specs.CheckedPlans.{IsCheckedPlan}
-use Rattle.armus_base.specs.Plans.{Plan, actions}
+use Rattle.armus_base.specs.Plans.{Action, Plan, action_at, actions}
 use Rattle.armus_base.specs.Runs.{IsReachable}
 use Rattle.armus_base.proofs.NextIsLegal.{unrefused_undropped}
 use Rattle.armus_base.proofs.Reachable.{reachable_is_fixed}
@@ -13,8 +14,12 @@ use Rattle.pl_core.proofs.Standing.{place_is}
 use Rattle.avoider.specs.declared.decision.Decision.{Decision}
 use Rattle.avoider.specs.declared.decision.Decision.TheVariants.{Published, Refused}
 use Rattle.avoider.specs.Decisions.{HasGoneOn, IsDecision}
-use Rattle.world_runs.specs.inside.AvoidedRounds.{left_at, left_from, left_in}
-use Rattle.world_runs.proofs.Remaining.{has_left}
+use Rattle.world_runs.specs.inside.Turns.{left_at, left_from, left_in}
+
+-- a task that has a next action has made fewer than it has
+has_left : (plan : Plan) (t k : ℕ) (x : Action) → action_at plan t k ≡ Some x → k < length (actions plan t)
+unfolding action_at
+has_left plan t k x e = slice_get_within (actions plan t) k x e
 
 -- one task with less left
 less_left :

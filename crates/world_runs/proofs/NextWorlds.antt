@@ -28,7 +28,8 @@ use Rattle.pl_core.proofs.OneStep.{places_set_other, places_set_same, regular}
 use Rattle.pl_core.proofs.Refusing.{dropping, drops_lead}
 use Rattle.pl_core.proofs.Standing.{place_is}
 use Rattle.avoider.proofs.Supposing.{blocks_next, supposed_of_plan}
-use Rattle.world_runs.specs.inside.AvoidedRounds.{LeadsTo, left_in}
+use Rattle.world_runs.specs.inside.AvoidedRounds.{LeadsTo}
+use Rattle.world_runs.specs.inside.Turns.{left_in}
 use Rattle.world_runs.proofs.AvoidedSteps.{leads_run, leads_state, refusal_goes_on, step_adds}
 use Rattle.world_runs.proofs.DeadOrNot.{dead_or_not}
 use Rattle.world_runs.proofs.Left.{refused_leaves_less, step_leaves_less_left, undropped_flag, unrefused_is_undropped}

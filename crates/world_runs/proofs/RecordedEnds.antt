@@ -69,12 +69,15 @@ pub step_if_true : (made : Bool) (old new : LoggedValue) (t : TaskId) → MatchB
 step_if_true true old new t step e = step
 step_if_true false old new t step e = absurd (false≢true e)
 
+-- and a false one none
+pub same_if_false : (made : Bool) (old new : LoggedValue) (t : TaskId) → MatchBool made (LogsStep old new t) (new ≡ old) → made ≡ false → new ≡ old
+same_if_false true old new t step e = absurd (false≢true (sym e))
+same_if_false false old new t same e = same
+
 -- one task more that is not enabled
-pub quiet_more :
-    (old new : LoggedValue) (t : ℕ) → new ≡ old → (IsEnabled new.world t → ⊥) → ((u : ℕ) → u < t → IsEnabled old.world u → ⊥) →
-    (u : ℕ) → u < t + 1 → IsEnabled old.world u → ⊥
-quiet_more old new t same ended before u l =
+pub stuck_more : (w : WorldValue) (t : ℕ) → (IsEnabled w t → ⊥) → ((u : ℕ) → u < t → IsEnabled w u → ⊥) → (u : ℕ) → u < t + 1 → IsEnabled w u → ⊥
+stuck_more w t stuck before u l =
     elim (cases_eq u t) [
-      | inl is ↦ subst (λ v. IsEnabled old.world v → ⊥) (sym is) (subst (λ (v : LoggedValue). IsEnabled v.world t → ⊥) same ended)
+      | inl is ↦ subst (λ v. IsEnabled w v → ⊥) (sym is) stuck
       | inr other ↦ before u (omega arith)
     ]

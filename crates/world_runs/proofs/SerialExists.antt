@@ -1,27 +1,24 @@
 -- The serial avoided run of a checked plan ends: less is left in each round that has an event.
-use Rattle.std.proofs.Common.{◌≡◌, ℕ, zero, suc, ◌<◌, ◌≤◌, Bool, true, false, List, ◌++◌, length, replicate, add-one, arith, sym, ◌∙◌, ap, subst, refl, inl, inr}
+use Rattle.std.proofs.Common.{◌≡◌, ℕ, zero, suc, ◌<◌, ◌≤◌, Bool, true, false, ◌++◌, length, replicate, add-one, arith, sym, ◌∙◌, ap, subst, refl, inl, inr}
 use Rattle.std.specs.Prelude.{◌||◌}
 use Rattle.std.proofs.lemmas.Bool.{cases_Bool, false≢true}
 use Rattle.std.proofs.lemmas.List.{length-replicate}
 use Rattle.armus_base.specs.CheckedPlans.{IsCheckedPlan}
 use Rattle.armus_base.specs.Plans.{Plan}
 use Rattle.armus_base.specs.Runs.{IsReachable, state_after}
-use Rattle.armus_base.specs.States.{Step}
+use Rattle.armus_base.specs.Serial.{IsSerialAvoidedRun}
 use Rattle.pl_core.specs.Stands.{IsEnabled}
 use Rattle.pl_core.specs.Worlds.{WorldValue, places_of, state_of}
 use Rattle.pl_core.proofs.Opening.{opening_is}
 use Rattle.world_runs.specs.AvoidedRuns.{SerialRunEnds}
-use Rattle.world_runs.specs.inside.AvoidedRounds.{GoesOnTo, HasPart, HasRoundBelow, LeadsTo, left_in}
-use Rattle.world_runs.proofs.AvoidedEnds.{forked_still, leads_there, round_begun, round_more, turn_left_out, turn_taken}
+use Rattle.world_runs.specs.inside.AvoidedRounds.{GoesOnTo, HasPart, HasRoundBelow}
+use Rattle.world_runs.specs.inside.Turns.{left_in}
+use Rattle.world_runs.proofs.AvoidedEnds.{forked_still, leads_there, reached_by, round_begun, round_more, turn_left_out, turn_taken}
 use Rattle.world_runs.proofs.AvoidedSteps.{goes_more, goes_none}
 use Rattle.world_runs.proofs.Left.{left_at_most}
 use Rattle.world_runs.proofs.NextWorlds.{GoesOnInto, next_or_not}
-use Rattle.world_runs.proofs.SerialEnds.{HasSerialEnd, HasSerialRun, serial_begun, serial_ended, serial_more}
-
--- a run that leads to the world tells that its places are reachable
-reached_by : (plan : Plan) (h : List Step) (w : WorldValue) → LeadsTo plan h w → IsReachable w.plan (places_of w)
-reached_by plan h w leads =
-    subst (λ q. IsReachable q (places_of w)) (sym leads.plan_is) (record { steps = h; run = leads.run; there = λ t. ap (λ a. a t) leads.there })
+use Rattle.world_runs.proofs.JudgedRuns.{run_ended, run_more}
+use Rattle.world_runs.proofs.SerialEnds.{HasSerialEnd, HasSerialRun, serial_begun, serial_kept}
 
 -- the part of task t in a round
 record HasTurned (old : WorldValue) (t : ℕ) (has : Bool) : Type 0 where
@@ -58,7 +55,7 @@ module _ (old : WorldValue) (checked : IsCheckedPlan old.plan) (sized : length o
         sized = so.sized;
         less = so.less;
         still = so.still;
-        part = turn_taken old mid t moved (checked_at mid so.plan) so.reach so.plan forked so.goes stuck;
+        part = turn_taken old mid t moved checked so.plan forked so.goes stuck;
       }
 
   one_more : (mid new : WorldValue) (moved : Bool) → IsTurning old mid t moved → GoesOnInto mid new t → IsTurning old new t true
@@ -153,10 +150,10 @@ module _ (plan : Plan) (checked : IsCheckedPlan plan) (w : WorldValue) (sized : 
   sized_after = one_round.sized ∙ sized ∙ ap (λ q. length q.parents) (sym one_round.plan)
 
   serial_after : HasSerialRun plan one_round.new
-  serial_after = serial_more plan w one_round.new one_round.moved serial.leads.plan_is serial one_round.round
+  serial_after = run_more (IsSerialAvoidedRun plan) plan (serial_kept plan) w one_round.new one_round.moved serial one_round.round
 
   ended_after : one_round.moved ≡ false → HasSerialEnd plan one_round.new
-  ended_after unmoved = serial_ended plan w one_round.new one_round.moved serial.leads.plan_is unmoved serial one_round.round
+  ended_after unmoved = run_ended (IsSerialAvoidedRun plan) plan (serial_kept plan) w one_round.new one_round.moved unmoved serial one_round.round
 
 -- from a world to which the serial run leads, it goes on to its end
 run_from :
@@ -185,5 +182,5 @@ serial_run_ends plan checked =
     run_from plan checked (left_in (first_world plan)) (first_world plan) (length-replicate (length plan.parents) (record { events = 0; refused = false }))
     (serial_begun plan (first_world plan) (opening_is plan checked)) (omega arith) in (
       state_after run.1.steps,
-      record { steps = run.1.steps; ended = run.1.ended; there = refl },
+      record { steps = run.1.steps; ended = (run.1.run, run.1.round); there = refl },
     )

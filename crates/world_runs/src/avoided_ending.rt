@@ -4,7 +4,7 @@ ghost use Rattle.armus_base.specs.Boards.{IsLawful};
 ghost use Rattle.pl_core.specs.Worlds.{places_at};
 ghost use Rattle.world_runs.specs.AvoidedRuns.{IsAvoidedEnd, IsSerialEnd};
 
-use crate::avoided_round::avoided_round;
+use crate::world_ending::end_by;
 use armus_base::{Final, Gate, NoMemory, Plan};
 use avoider::{Judge, Judging};
 use pl_core::{Place, World};
@@ -21,12 +21,9 @@ pub fn run_serial_avoid<G: Gate>(
     ensures end { IfOk result (λ end. IsAvoidedEnd plan.now end) }
     ensures serial { IfOk result (λ end. IsSerialEnd plan.now end) }
 {
-    let mut world = World::start(alloc, plan)?;
-    let mut judge = Judge::new(judging);
-    let count = plan.tasks() as usize;
-    let mut forked = vec![in alloc; false; count]?;
-    'rounds: while avoided_round(alloc, &mut world, &mut forked, &mut judge, gate)? {}
-    world.finish(alloc)
+    let world = World::start(alloc, plan)?;
+    let ended = end_by(alloc, world, &mut Judge::new(judging), gate)?;
+    Ok(ended.end)
 }
 
 /// The end of an avoided run whose tasks stand at these places, which are lawful on a board that avoids deadlock: turns go on by rounds in order of number
@@ -42,10 +39,9 @@ pub fn avoided_end_from<G: Gate>(
     requires lawful { (lock : Option ℕ) × IsLawful true plan.now (places_at plan.now places.now) lock }
     ensures end { IfOk result (λ end. IsAvoidedEnd plan.now end) }
 {
-    let count = plan.tasks() as usize;
-    let mut world = World::at(alloc, plan, places)?;
-    let mut judge = Judge::new(judging);
-    let mut forked = vec![in alloc; false; count]?;
-    'rounds: while avoided_round(alloc, &mut world, &mut forked, &mut judge, gate)? {}
-    world.finish(alloc)
+    let world = World::at(alloc, plan, places)?;
+    // the plan is checked
+    let _plan = world.plan();
+    let ended = end_by(alloc, world, &mut Judge::new(judging), gate)?;
+    Ok(ended.end)
 }

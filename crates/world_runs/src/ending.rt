@@ -6,10 +6,10 @@ ghost use Rattle.pl_core.specs.declared.place.Place.{Place as KeptPlace};
 ghost use Rattle.pl_core.specs.Worlds.{places_at};
 ghost use Rattle.world_runs.specs.EndWorlds.{IsWorldEnd};
 ghost use Rattle.world_runs.specs.PlainRuns.{IsPlainEnd};
-ghost use Rattle.world_runs.specs.inside.Turns.{NobodyRefused};
 
 use crate::WorldEnd;
-use crate::world_round::round;
+use crate::plain_step::PlainStep;
+use crate::world_ending::end_by;
 use armus_base::{Final, Gate, NoMemory, Plan, Still};
 use pl_core::{Place, World};
 use std::alloc::Global;
@@ -20,7 +20,7 @@ pub fn run_plain<G: Gate>(alloc: Global, plan: &Plan, gate: &G) -> Result<Final,
     ensures end { IfOk result (λ end. IsPlainEnd plan.now end) }
 {
     let world = World::start(alloc, plan)?;
-    let ended = world_end(alloc, world, plan, gate)?;
+    let ended = end_by(alloc, world, &mut PlainStep, gate)?;
     Ok(ended.end)
 }
 
@@ -54,7 +54,8 @@ pub fn world_end_from<'p, G: Gate>(
     ensures checked { OnOk result (IsCheckedPlan plan.now) }
 {
     let world = World::at(alloc, plan, places)?;
-    world_end(alloc, world, plan, gate)
+    let ended = end_by(alloc, world, &mut PlainStep, gate)?;
+    Ok(ended)
 }
 
 /// Runs the plan in one thread, without a board, and answers the world in which the run ends: in rounds each task goes on until it is done or waits, in order
@@ -63,25 +64,6 @@ pub fn run_to_world<'p>(alloc: Global, plan: &'p Plan) -> Result<WorldEnd<'p>, N
     ensures end { IfOk result (IsWorldEnd plan.now) }
 {
     let world = World::start(alloc, plan)?;
-    world_end(alloc, world, plan, &Still)
-}
-
-// The world in which the run ends that has come to this world, in which nobody is refused: turns go on by rounds in order of number until no task may go
-// on. The gate is called before each op.
-fn world_end<'p, G: Gate>(
-    alloc: Global,
-    mut world: World<'p>,
-    plan: &Plan,
-    gate: &G,
-) -> Result<WorldEnd<'p>, NoMemory>
-    requires plan { world.plan ≡ plan.now }
-    requires plain { NobodyRefused world }
-    ensures end { IfOk result (IsWorldEnd plan.now) }
-    ensures checked { OnOk result (IsCheckedPlan plan.now) }
-{
-    let count = plan.tasks() as usize;
-    let mut forked = vec![in alloc; false; count]?;
-    while round(&mut world, &mut forked, gate) {}
-    let end = world.finish(alloc)?;
-    Ok(WorldEnd { world, end })
+    let ended = end_by(alloc, world, &mut PlainStep, &Still)?;
+    Ok(ended)
 }

@@ -2,10 +2,10 @@
 ghost use Rattle.std.specs.Prelude.{◌≡◌, ◌≤◌, IfOk, false, length};
 ghost use Rattle.world_runs.specs.RecordedRuns.{IsRecordedRun};
 
-use crate::{Pace, RunOptions};
 use crate::live_task::LiveTask;
 use crate::recorded_ending::finish;
 use crate::recorded_round::take_turns;
+use crate::{Pace, RunOptions};
 use armus_base::{Final, Gate, List, NoMemory, Plan, TaskId};
 use locked_world::{LockedWorld, PlanName};
 use std::alloc::Global;

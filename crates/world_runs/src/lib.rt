@@ -2,16 +2,18 @@
 #![tactic(auto)]
 
 mod avoided_ending;
-mod avoided_round;
 mod ending;
 mod journal;
 mod laws;
 mod live_task;
+mod next_step;
 mod options;
 mod pace;
+mod plain_step;
 mod recorded_ending;
 mod recorded_round;
 mod world_end;
+mod world_ending;
 mod world_round;
 
 pub use avoided_ending::{avoided_end_from, run_serial_avoid};

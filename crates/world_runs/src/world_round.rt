@@ -1,29 +1,36 @@
 // Rounds of turns in a world.
-ghost use Rattle.std.specs.Prelude.{◌≡◌, ℕ, ◌<◌, ◌≤◌, ◌↔◌, IsTrue, true, false, length};
+ghost use Rattle.std.specs.Prelude.{◌≡◌, ◌<◌, ◌↔◌, IfOk, IsTrue, length};
 ghost use Rattle.armus_base.specs.CheckedPlans.{IsCheckedPlan};
 ghost use Rattle.armus_base.specs.Runs.{IsReachable};
 ghost use Rattle.pl_core.specs.Worlds.{places_of, state_of};
 ghost use Rattle.pl_core.specs.Stands.{IsEnabled};
-ghost use Rattle.world_runs.specs.inside.Turns.{NobodyRefused, TellsForked, remaining};
+ghost use Rattle.world_runs.specs.inside.Turns.{TellsForked};
+ghost use Rattle.world_runs.specs.inside.WorldRounds.{HasTurnIf, IsRoundBy, IsTurnBy, LeavesLess};
 
-use armus_base::{Gate, Point, TaskId};
+use crate::next_step::NextStep;
+use armus_base::{Gate, NoMemory, Point, TaskId};
 use pl_core::{Stand, World};
+use std::alloc::Global;
 
-/// One turn of each task that is forked now, in order of number; answers whether an event happened.
-pub(crate) fn round<G: Gate>(world: &mut World, forked: &mut [bool], gate: &G) -> bool
+/// One turn of each task that is forked now, in order of number, by such steps; answers whether one was made. The gate is called before each op.
+pub(crate) fn round<S: NextStep, G: Gate>(
+    alloc: Global,
+    world: &mut World,
+    forked: &mut [bool],
+    step: &mut S,
+    gate: &G,
+) -> Result<bool, NoMemory>
     requires forked_len { length forked.old ≡ length world.old.plan.parents }
-    requires plain { NobodyRefused world.old }
-    ensures plan { world.new.plan ≡ world.old.plan }
-    ensures plain { NobodyRefused world.new }
-    ensures moved { result ≡ true → remaining world.new < remaining world.old }
-    ensures quiet { result ≡ false → (t : ℕ) → t < length world.new.plan.parents → IsEnabled world.new t → ⊥ }
+    requires keeps { S.keeps world.old }
+    ensures left { IfOk result (LeavesLess S.keeps world.old world.new) }
+    ensures round { IfOk result (IsRoundBy S.makes world.old world.new) }
 {
     mark_forked(world, forked);
-    turns(world, forked, gate)
+    turns(alloc, world, forked, step, gate)
 }
 
-/// Notes which tasks are forked.
-pub(crate) fn mark_forked(world: &World, forked: &mut [bool])
+// Notes which tasks are forked.
+fn mark_forked(world: &World, forked: &mut [bool])
     requires len { length forked.old ≡ length world.now.plan.parents }
     ensures forked { TellsForked world.now forked.new }
 {
@@ -43,57 +50,72 @@ fn is_forked(world: &World, t: TaskId) -> bool
     }
 }
 
-// One turn of each noted task, in order of number; answers whether an event happened.
-fn turns<G: Gate>(world: &mut World, forked: &[bool], gate: &G) -> bool
+// One turn of each noted task, in order of number; answers whether a step was made.
+fn turns<S: NextStep, G: Gate>(
+    alloc: Global,
+    world: &mut World,
+    forked: &[bool],
+    step: &mut S,
+    gate: &G,
+) -> Result<bool, NoMemory>
     requires forked { TellsForked world.old forked.now }
     requires forked_len { length forked.now ≡ length world.old.plan.parents }
-    requires plain { NobodyRefused world.old }
-    ensures plan { world.new.plan ≡ world.old.plan }
-    ensures plain { NobodyRefused world.new }
-    ensures moved { result ≡ true → remaining world.new < remaining world.old }
-    ensures quiet { result ≡ false → (t : ℕ) → t < length world.new.plan.parents → IsEnabled world.new t → ⊥ }
+    requires keeps { S.keeps world.old }
+    ensures left { IfOk result (LeavesLess S.keeps world.old world.new) }
+    ensures round { IfOk result (IsRoundBy S.makes world.old world.new) }
 {
     let mut moved = false;
     for t in 0..world.plan().tasks() {
-        let acted = turn_if(forked[t as usize], world, TaskId(t), gate);
+        let acted = turn_if(forked[t as usize], alloc, world, TaskId(t), step, gate)?;
         moved = moved || acted;
     }
-    moved
+    Ok(moved)
 }
 
-// The turn of a task, if it was forked before the round.
-fn turn_if<G: Gate>(forked: bool, world: &mut World, t: TaskId, gate: &G) -> bool
+// The turn of a task, if it was forked before the round; answers whether a step was made.
+fn turn_if<S: NextStep, G: Gate>(
+    forked: bool,
+    alloc: Global,
+    world: &mut World,
+    t: TaskId,
+    step: &mut S,
+    gate: &G,
+) -> Result<bool, NoMemory>
     requires task { t.0 < length world.old.plan.parents }
-    requires plain { NobodyRefused world.old }
-    ensures plan { world.new.plan ≡ world.old.plan }
-    ensures plain { NobodyRefused world.new }
-    ensures moved { result ≡ true → remaining world.new < remaining world.old }
-    ensures still { result ≡ false → world.new ≡ world.old }
-    ensures ended { forked ≡ true → IsEnabled world.new t.0 → ⊥ }
+    requires keeps { S.keeps world.old }
+    ensures left { IfOk result (LeavesLess S.keeps world.old world.new) }
+    ensures turn { IfOk result (HasTurnIf S.makes t.0 forked world.old world.new) }
 {
-    if forked { turn(world, t, gate) } else { false }
+    if forked {
+        turn(alloc, world, t, step, gate)
+    } else {
+        Ok(false)
+    }
 }
 
-// The turn of a task: it acts until it is done or waits on an event that is not reached.
-fn turn<G: Gate>(world: &mut World, t: TaskId, gate: &G) -> bool
+// The turn of a task: it goes on until it may not; answers whether a step was made.
+fn turn<S: NextStep, G: Gate>(
+    alloc: Global,
+    world: &mut World,
+    t: TaskId,
+    step: &mut S,
+    gate: &G,
+) -> Result<bool, NoMemory>
     requires task { t.0 < length world.old.plan.parents }
-    requires plain { NobodyRefused world.old }
-    ensures plan { world.new.plan ≡ world.old.plan }
-    ensures plain { NobodyRefused world.new }
-    ensures moved { result ≡ true → remaining world.new < remaining world.old }
-    ensures still { result ≡ false → world.new ≡ world.old }
-    ensures ended { IsEnabled world.new t.0 → ⊥ }
+    requires keeps { S.keeps world.old }
+    ensures left { IfOk result (LeavesLess S.keeps world.old world.new) }
+    ensures turn { IfOk result (IsTurnBy S.makes t.0 world.old world.new) }
 {
     let mut moved = false;
-    while may_go_on(world, t, gate) {
-        world.step(t);
+    'turn: while may_go_on(world, t, gate) {
+        step.make(alloc, world, t)?;
         moved = true;
     }
-    moved
+    Ok(moved)
 }
 
-/// Whether the task may go on; before an op it calls the gate.
-pub(crate) fn may_go_on<G: Gate>(world: &World, t: TaskId, gate: &G) -> bool
+// Whether the task may go on; before an op it calls the gate.
+fn may_go_on<G: Gate>(world: &World, t: TaskId, gate: &G) -> bool
     requires task { t.0 < length world.now.plan.parents }
     ensures enabled { IsTrue result ↔ IsEnabled world.now t.0 }
     ensures checked { IsCheckedPlan world.now.plan }

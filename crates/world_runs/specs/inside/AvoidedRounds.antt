@@ -1,11 +1,9 @@
--- Rounds of avoided runs in a world: how each run goes on, and how much is left to it.
-use Rattle.std.specs.Prelude.{◌≡◌, ℕ, ◌+◌, ◌-◌, Bool, false, List, [], ◌∷◌, ◌++◌, if◌then◌else◌, length, MatchBool}
-use Rattle.std.proofs.Common.{suc}
-use Rattle.armus_base.specs.Plans.{Plan, actions}
+-- Rounds of avoided runs in a world: how each run that leads there goes on.
+use Rattle.std.specs.Prelude.{◌≡◌, ℕ, Bool, false, List, [], ◌++◌, MatchBool}
+use Rattle.armus_base.specs.Plans.{Plan}
 use Rattle.armus_base.specs.Runs.{IsLegalRun, places}
 use Rattle.armus_base.specs.Serial.{GoesOn, IsTurn, RoundBelow}
 use Rattle.armus_base.specs.States.{Step}
-use Rattle.pl_core.specs.declared.place.Place.{Place}
 use Rattle.pl_core.specs.Worlds.{WorldValue, places_of}
 
 -- the run leads to the world: it is legal, and its places are those of the world
@@ -31,16 +29,3 @@ abbrev pub HasRoundBelow : WorldValue → WorldValue → ℕ → Bool → Type 0
 HasRoundBelow old new k moved =
     (h : List Step) → LeadsTo old.plan h old →
     (g : List Step) × LeadsTo old.plan g new × RoundBelow old.plan k h g × (moved ≡ false → g ≡ h)
-
--- how many actions task t at this place has left, and one more if it may still be refused
-abbrev pub left_at : Plan → ℕ → Place → ℕ
-left_at plan t place = (length (actions plan t) - place.events) + (if place.refused then 0 else 1)
-
--- the sum of these from task t on
-abbrev pub left_from : Plan → ℕ → List Place → ℕ
-left_from plan t [] = 0
-left_from plan t (place ∷ rest) = left_at plan t place + left_from plan (suc t) rest
-
--- the sum over all tasks; it falls with each event
-abbrev pub left_in : WorldValue → ℕ
-left_in w = left_from w.plan 0 w.places

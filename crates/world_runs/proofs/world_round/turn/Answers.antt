@@ -1,19 +1,21 @@
-use Rattle.std.proofs.Common.{◌∙◌, arith}
+use Rattle.std.proofs.Common.{inr, refl, sym, true}
 use Rattle.std.proofs.lemmas.Bool.{false≢true}
-use Rattle.std.proofs.Common.{sym}
-use Rattle.world_runs.proofs.Remaining.{at_most_before, step_keeps_plain, step_leaves_less}
+use Rattle.world_runs.specs.inside.WorldRounds.{stays, steps}
+use Rattle.world_runs.proofs.WorldRounds.{leaves_none, leaves_on}
 use Rattle.world_runs.proofs.world_round.turn.Goals as goal
 
-pub loop-moved-smaller : goal.loop-moved-smaller
-loop-moved-smaller g c = step_leaves_less c.loop-moved.world c.step.new.self c.args.t.0 c.step.ensures
+pub turn-init : goal.turn-init
+turn-init g c = record { left = leaves_none g.S.NextStep.keeps c.args.world.now c.requires.keeps; goes = stays }
 
-pub loop-moved-preserved : goal.loop-moved-preserved
-loop-moved-preserved g c =
-    let less = step_leaves_less c.loop-moved.world c.step.new.self c.args.t.0 c.step.ensures in
-    let most = at_most_before c.args.world.now c.loop-moved.world c.loop-moved.moved c.loop-moved.invariant.moved c.loop-moved.invariant.still in
+pub turn-smaller : goal.turn-smaller
+turn-smaller g c = c.in_ok-make.ensures.left.less refl
+
+pub turn-preserved : goal.turn-preserved
+turn-preserved g c =
+    let inv = c.turn.invariant in
+    let made = c.in_ok-make.ensures in
     record {
-      plan = c.step.ensures.plan ∙ c.loop-moved.invariant.plan;
-      plain = step_keeps_plain c.loop-moved.world c.step.new.self c.args.t.0 c.step.ensures c.loop-moved.invariant.plain;
-      moved = λ _. omega arith;
-      still = λ e. absurd (false≢true (sym e));
+      left = leaves_on g.S.NextStep.keeps c.args.world.now c.turn.world c.make.new.world c.turn.moved true true inv.left made.left (λ _. inr refl)
+          (λ e. absurd (false≢true (sym e)));
+      goes = steps inv.goes made.made;
     }

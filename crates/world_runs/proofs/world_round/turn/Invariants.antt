@@ -1,15 +1,13 @@
-use Rattle.std.proofs.Common.{◌≡◌, ◌<◌, false, true}
-use Rattle.world_runs.specs.inside.Turns.{NobodyRefused, remaining}
+use Rattle.world_runs.specs.inside.Turns.{left_in}
+use Rattle.world_runs.specs.inside.WorldRounds.{GoesBy, LeavesLess}
 use Rattle.world_runs.proofs.world_round.turn.Given as goal
 
-abbrev pub invariant-loop-moved : goal.invariant-loop-moved
-invariant-loop-moved g l =
+abbrev pub invariant-turn : goal.invariant-turn
+invariant-turn g l =
     record {
-      plan : l.world.plan ≡ l.initial.world.plan;
-      plain : NobodyRefused l.world;
-      moved : l.moved ≡ true → remaining l.world < remaining l.initial.world;
-      still : l.moved ≡ false → l.world ≡ l.initial.world;
+      left : LeavesLess g.S.NextStep.keeps l.initial.world l.world l.moved;
+      goes : GoesBy g.S.NextStep.makes l.t.0 l.initial.world l.world l.moved;
     }
 
-abbrev pub decreases-loop-moved : goal.decreases-loop-moved
-decreases-loop-moved g l = remaining l.world
+abbrev pub decreases-turn : goal.decreases-turn
+decreases-turn g l = left_in l.world
