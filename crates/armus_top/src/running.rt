@@ -7,7 +7,7 @@ ghost use Rattle.armus_top.specs.inside.Serving.{MayHaveSites, MayWork};
 ghost use Rattle.armus_top.specs.inside.Status.{number_of_status};
 ghost use Rattle.armus_top.specs.inside.Writing.{LeavesOutput};
 ghost use Rattle.armus_words.specs.declared.table.TheConstants.{MAX_SITES};
-ghost use Rattle.task_runner.specs.PlainRuns.{IsPlainEnd};
+ghost use Rattle.world_runs.specs.PlainRuns.{IsPlainEnd};
 
 use crate::output::{Output, reported};
 use crate::status::ExitStatus;

@@ -4,17 +4,16 @@ ghost use Rattle.board.specs.declared.mode.Mode.TheVariants.{Avoid};
 ghost use Rattle.board.specs.Seats.{IsOf, IsSeat};
 ghost use Rattle.board.specs.Views.{seen};
 ghost use Rattle.board_rounds.specs.Crews.{AreTasksOf, HaveEnded, all_of, left_to};
-ghost use Rattle.task_runner.specs.AvoidedRuns.{IsAvoidedEnd};
+ghost use Rattle.world_runs.specs.AvoidedRuns.{IsAvoidedEnd};
 
 use crate::RunOptions;
-use crate::avoided_rest::avoided_end_from;
-use crate::pace::Pace;
 use armus_base::{Final, Gate, NoMemory, Plan};
 use avoider::Judging;
 use board::{Board, Mode, ViewSeat};
 use board_rounds::Crew;
 use std::alloc::Global;
 use std::thread::Threads;
+use world_runs::{Pace, avoided_end_from};
 
 /// Runs the plan on a board that avoids deadlock. Its tasks take turns by rounds, with the given number of workers, until a round without an event; in its
 /// turn a task decides on each await under the lock of the board. Then one viewer takes all seats in and the board is closed; from the places at which its

@@ -9,7 +9,6 @@ ghost use Rattle.task_runner.specs.inside.DetectRounds.{IsUnderWay};
 ghost use Rattle.task_runner.specs.inside.Tellers.{HasPassed, TellsMore, TellsOn, Watches};
 
 use crate::detect_rounds::go_by_rounds;
-use crate::ending::end_from;
 use crate::rest::tell_rest;
 use crate::teller::Teller;
 use crate::{Ran, RunEnd, RunOptions};
@@ -19,6 +18,7 @@ use board::{Board, Mode};
 use board_rounds::Crew;
 use std::alloc::Global;
 use std::thread::Threads;
+use world_runs::end_from;
 
 /// Runs the plan on a board that detects deadlock. Its tasks take turns by rounds, with the given number of workers, until a round without an event; with
 /// `live` a detector makes one pass beside each round, and each task that it is the first to name has its line. Then one viewer takes all seats in, the

@@ -7,7 +7,6 @@ ghost use Rattle.task_runner.specs.DetectRuns.{IsNoWrite, told};
 ghost use Rattle.task_runner.specs.inside.DetectRounds.{IsUnderWay};
 ghost use Rattle.task_runner.specs.inside.Tellers.{SeesOn, TellsMore, Watches};
 
-use crate::pace::Pace;
 use crate::teller::Teller;
 use crate::{RunEnd, RunOptions};
 use adaptive::Wanted;
@@ -16,6 +15,7 @@ use board::Board;
 use board_rounds::Crew;
 use std::alloc::Global;
 use std::thread::{Threads, join_mut};
+use world_runs::Pace;
 
 /// Rounds until one in which no event happens. With `live` a pass goes beside each, whose lines are written before the next round.
 pub(crate) fn go_by_rounds<'p, R: Threads + Sync, G: Gate, K: Sink>(

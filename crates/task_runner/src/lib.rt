@@ -3,17 +3,9 @@
 
 mod avoided;
 mod avoided_board;
-mod avoided_rest;
 mod board_name;
 mod detect;
 mod detect_rounds;
-mod ending;
-mod finishing;
-mod journal;
-mod laws;
-mod live_task;
-mod options;
-mod pace;
 mod pool;
 mod pool_end;
 mod pool_worker;
@@ -24,18 +16,15 @@ mod site_rounds;
 mod site_runs;
 mod sweep;
 mod teller;
-mod turns;
 mod whole_ending;
 mod works_on_pool;
-mod world_round;
 
 pub use avoided::{run_avoid, run_avoid_kept};
 pub use board_rounds::{Task, round};
 pub use detect::run_detect;
-pub use ending::{WorldEnd, run_plain, run_to_world};
-pub use journal::run_journal;
-pub use laws::serial_run_ends;
-pub use options::RunOptions;
 pub use pool::run_pool;
 pub use ran::{Ran, RunEnd};
 pub use site_runs::run_sites;
+pub use world_runs::{
+    RunOptions, WorldEnd, run_journal, run_plain, run_to_world, serial_run_ends,
+};

@@ -4,7 +4,7 @@ ghost use Rattle.armus_base.specs.Seats.{seen_by_child};
 ghost use Rattle.board.specs.declared.mode.Mode.TheVariants.{Detect};
 ghost use Rattle.board.specs.Seats.{IsNewSeat, nothing_seen};
 ghost use Rattle.slot_pool.specs.Hands.{IsOfPool, IsSameWorker};
-ghost use Rattle.task_runner.specs.PlainRuns.{IsPlainEnd};
+ghost use Rattle.world_runs.specs.PlainRuns.{IsPlainEnd};
 ghost use Rattle.task_runner.specs.inside.Pooled.{AreAllWorkers};
 
 use crate::RunOptions;

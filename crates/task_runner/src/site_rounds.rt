@@ -5,7 +5,6 @@ ghost use Rattle.sites.specs.Keeping.{count_after};
 ghost use Rattle.task_runner.specs.inside.SiteRounds.{AreWatching};
 
 use crate::RunOptions;
-use crate::pace::Pace;
 use adaptive::Wanted;
 use armus_base::{Gate, NoMemory, Plan};
 use board::{Board, ViewSeat};
@@ -13,6 +12,7 @@ use board_rounds::Crew;
 use sites::{KeepEnd, Keeper, site_pass};
 use std::alloc::Global;
 use std::thread::{Threads, join_mut};
+use world_runs::Pace;
 
 /// Rounds until one in which no event happens, each with one pass over all sites.
 pub(crate) fn go_by_site_rounds<'p, R: Threads + Sync, G: Gate, K: Keeper>(

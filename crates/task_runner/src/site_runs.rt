@@ -8,7 +8,7 @@ ghost use Rattle.board.specs.Views.{seen};
 ghost use Rattle.board_rounds.specs.Crews.{AreTasksOf, HaveEnded, all_of};
 ghost use Rattle.sites.specs.Keeping.{count_after};
 ghost use Rattle.sites.specs.Parts.{HoldParts, PutsParts};
-ghost use Rattle.task_runner.specs.PlainRuns.{IsPlainEnd};
+ghost use Rattle.world_runs.specs.PlainRuns.{IsPlainEnd};
 ghost use Rattle.task_runner.specs.SiteRuns.{HoldFinal, HoldRowsOfRun};
 ghost use Rattle.task_runner.specs.inside.SiteRounds.{IsWholeEnd};
 

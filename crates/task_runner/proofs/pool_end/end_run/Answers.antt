@@ -10,7 +10,6 @@ use Rattle.board_rounds.specs.Turns.{Working}
 use Rattle.board_rounds.specs.Crews.{ArePlacesOf}
 use Rattle.task_runner.specs.inside.Pooled.{AreClosedUnderForks}
 use Rattle.task_runner.proofs.PoolEnds.{plain_places, reachable_places}
-use Rattle.task_runner.proofs.Rounds.{opening_plain}
 use Rattle.task_runner.proofs.pool_end.end_run.Goals as goal
 
 pub end_from-requires-clause-one_each : goal.end_from-requires-clause-one_each
@@ -46,6 +45,3 @@ end_from-requires-clause-plain g c κs within = λ t place is.
     let made = subst (IsOf c.take_in_all.new.view) c.requires.board.0 c.take_in_all.ensures.made in
     plain_places f plan c.requires.board.1 c.requires.board.2 tasks c.take_in_all.ensures.crew whole places are c.args.view c.take_in_all.new.view now c.requires.viewer
     c.take_in_all.ensures.taken made c.pass.ensures.collected.goes_on words last t place (ap (λ (xs : List KeptPlace). slice_get xs t) (sym c.as_slice-then-whole.ensures.items) ∙ is)
-
-pub end_of-requires-clause-plain : goal.end_of-requires-clause-plain
-end_of-requires-clause-plain g c κs within = opening_plain c.args.plan.now c.in_ok-start.field-0 c.in_ok-start.ensures.opening

@@ -1,0 +1,3 @@
+pub mod Turns
+pub mod AvoidedRounds
+pub mod LiveTasks
