@@ -1,3 +1,4 @@
+pub mod BoardRuns
 pub mod Tellers
 pub mod DetectRounds
 pub mod Watching

@@ -3,19 +3,22 @@
 
 mod avoided;
 mod avoided_board;
+mod beside;
 mod board_name;
+mod board_run;
 mod detect;
-mod detect_rounds;
+mod leaving;
+mod nothing;
 mod pool;
 mod pool_end;
 mod pool_worker;
 mod pooled_task;
 mod ran;
 mod rest;
-mod site_rounds;
 mod site_runs;
 mod sweep;
 mod teller;
+mod viewers;
 mod whole_ending;
 mod works_on_pool;
 
@@ -25,6 +28,4 @@ pub use detect::run_detect;
 pub use pool::run_pool;
 pub use ran::{Ran, RunEnd};
 pub use site_runs::run_sites;
-pub use world_runs::{
-    RunOptions, WorldEnd, run_journal, run_plain, run_to_world, serial_run_ends,
-};
+pub use world_runs::{RunOptions, WorldEnd, run_journal, run_to_world, serial_run_ends};
