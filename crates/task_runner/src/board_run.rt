@@ -3,7 +3,7 @@ ghost use Rattle.std.specs.Prelude.{◌≡◌, ◌<◌, ◌⊎◌, Some, Ok, Err
 ghost use Rattle.armus_base.specs.Seats.{seen_by_child};
 ghost use Rattle.board.specs.Seats.{IsNewSeat, nothing_seen};
 ghost use Rattle.board_rounds.specs.Crews.{HaveEnded, all_of, left_to};
-ghost use Rattle.task_runner.specs.inside.BoardRuns.{IsOnBoard};
+ghost use Rattle.task_runner.specs.inside.BoardRuns.{HasHadRound, IsOnBoard};
 
 use crate::RunOptions;
 use crate::beside::Beside;
@@ -125,40 +125,15 @@ impl<'p> BoardRun<'p> {
         requires on_board { IsOnBoard board.now self.old.plan.now self.old.crew }
         requires fits { B.fits board.now beside.old out.old }
         ensures given { (self.new.plan ≡ self.old.plan) × (self.new.options ≡ self.old.options) }
-        ensures on_board { OnOk result.0 (IsOnBoard board.now self.new.plan.now self.new.crew) }
-        ensures further { IfOk result.0 (λ made. 0 < made.events → left_to board.now.plan self.new.crew < left_to board.now.plan self.old.crew) }
-        ensures quiet { IfOk result.0 (λ made. made.events ≡ 0 → HaveEnded (all_of self.new.crew)) }
-        ensures still { IfOk result.0 (λ made. made.forked ≡ false → HaveEnded (all_of self.new.crew)) }
-        ensures fits { OnOk result.1 (B.fits board.now beside.new out.new) }
-        ensures passes { B.passes board.now beside.old out.old beside.new out.new result.1 }
-    {
-        if beside.is_there() && self.pace.wants_threads() {
-            return self.turn_and_pass(rt, board, gate, beside, out);
-        }
-        let made = self.round(rt, board, gate);
-        (made, beside.pass(self.alloc, board, gate, out))
-    }
-
-    // A round, and a pass beside it.
-    fn turn_and_pass<R: Threads + Sync, G: Gate, O: Send, B: Beside<O> + Send>(
-        &mut self,
-        rt: &R,
-        board: &Board,
-        gate: &G,
-        beside: &mut B,
-        out: &mut O,
-    ) -> (Result<Rounded, NoMemory>, Result<(), B::Early>)
-        requires on_board { IsOnBoard board.now self.old.plan.now self.old.crew }
-        requires fits { B.fits board.now beside.old out.old }
-        ensures given { (self.new.plan ≡ self.old.plan) × (self.new.options ≡ self.old.options) }
-        ensures on_board { OnOk result.0 (IsOnBoard board.now self.new.plan.now self.new.crew) }
-        ensures further { IfOk result.0 (λ made. 0 < made.events → left_to board.now.plan self.new.crew < left_to board.now.plan self.old.crew) }
-        ensures quiet { IfOk result.0 (λ made. made.events ≡ 0 → HaveEnded (all_of self.new.crew)) }
-        ensures still { IfOk result.0 (λ made. made.forked ≡ false → HaveEnded (all_of self.new.crew)) }
+        ensures round { IfOk result.0 (HasHadRound board.now self.new.plan.now self.old.crew self.new.crew) }
         ensures fits { OnOk result.1 (B.fits board.now beside.new out.new) }
         ensures passes { B.passes board.now beside.old out.old beside.new out.new result.1 }
     {
         let alloc = self.alloc;
+        if !beside.is_there() || !self.pace.wants_threads() {
+            let made = self.round(rt, board, gate);
+            return (made, beside.pass(alloc, board, gate, out));
+        }
         join_mut(
             rt,
             &mut || -> Result<Rounded, NoMemory>
@@ -179,13 +154,12 @@ impl<'p> BoardRun<'p> {
     ) -> Result<Rounded, NoMemory>
         requires on_board { IsOnBoard board.now self.old.plan.now self.old.crew }
         ensures given { (self.new.plan ≡ self.old.plan) × (self.new.options ≡ self.old.options) }
-        ensures on_board { OnOk result (IsOnBoard board.now self.new.plan.now self.new.crew) }
-        ensures further { IfOk result (λ made. 0 < made.events → left_to board.now.plan self.new.crew < left_to board.now.plan self.old.crew) }
-        ensures quiet { IfOk result (λ made. made.events ≡ 0 → HaveEnded (all_of self.new.crew)) }
-        ensures still { IfOk result (λ made. made.forked ≡ false → HaveEnded (all_of self.new.crew)) }
+        ensures round { IfOk result (HasHadRound board.now self.new.plan.now self.old.crew self.new.crew) }
     {
         let workers = self.pace.workers(self.options.workers);
-        self.crew
-            .round(rt, self.alloc, board, self.plan, workers, gate)
+        let made = self
+            .crew
+            .round(rt, self.alloc, board, self.plan, workers, gate)?;
+        Ok(made)
     }
 }

@@ -3,7 +3,7 @@ use denote.Param.{param}
 use denote.Param.Send.{arg_send, param_send}
 use Rattle.std.proofs.Common.{rules}
 use Rattle.task_runner.proofs.Crossing.{turn_send}
-use Rattle.task_runner.proofs.board_run.BoardRun.turn_and_pass.Goals as goal
+use Rattle.task_runner.proofs.board_run.BoardRun.take_round.Goals as goal
 
 pub join_mut-requires-send-F : goal.join_mut-requires-send-F
 join_mut-requires-send-F g c κs within =
