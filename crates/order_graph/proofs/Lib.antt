@@ -1,3 +1,6 @@
+mod TaskBits
+mod WordBits
+mod RowBits
 mod ListPairs
 mod TaskRows
 mod Climbing
@@ -9,3 +12,4 @@ mod OrderRows
 mod MendedLists
 mod MendedOrders
 mod PairEdges
+mod WaitSets

@@ -1,7 +1,7 @@
 use Rattle.std.proofs.Common.{◌≡◌, length, take}
 use Rattle.order_graph.specs.Orders.{IsOrder}
 use Rattle.order_graph.specs.inside.Steps.{AddsAll, ToWanted}
-use Rattle.order_graph.proofs.following.add_row.Given as goal
+use Rattle.order_graph.proofs.following.add_edges.Given as goal
 
 abbrev pub invariant-loop-b : goal.invariant-loop-b
 invariant-loop-b l = record {
