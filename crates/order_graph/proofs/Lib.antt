@@ -11,5 +11,5 @@ pub mod Sending
 mod OrderRows
 mod MendedLists
 mod MendedOrders
-mod PairEdges
+pub mod PairEdges
 mod WaitSets
