@@ -5,5 +5,8 @@ pub mod OneAnswer
 pub mod Avoided
 pub mod Cycles
 pub mod Named
+pub mod OnePlan
 pub mod Printed
 pub mod LiveLines
+pub mod TasksLeft
+pub mod EndedLeave

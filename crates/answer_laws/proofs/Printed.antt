@@ -1,5 +1,5 @@
 -- The printed form of a program means what its text means.
-use Rattle.std.proofs.Common.{ℕ, sym, subst, refl, true, false}
+use Rattle.std.proofs.Common.{ℕ, [], sym, subst, refl, true, false}
 use Rattle.armus_base.specs.Plans.{Plan}
 use Rattle.pl_syntax.specs.declared.tree.Program.{Program}
 use Rattle.pl_syntax.specs.Grammar.{IsText}
@@ -14,6 +14,7 @@ use Rattle.armus_top.specs.Commands.{IsAnswered}
 use Rattle.armus_top.specs.Programs.{IsChecked, IsPlanOf}
 use Rattle.armus_top.proofs.Inputs.{never_both}
 use Rattle.answer_laws.specs.Printed.{GoesByProgram, PrintingKeepsMeaning}
+use Rattle.answer_laws.proofs.OnePlan.{record_goes_by_plan, replay_goes_by_plan, texts_have_no_schedule}
 
 -- ---- two texts of one program
 
@@ -51,12 +52,20 @@ printing_keeps_meaning input printed status (plan, program, is, zero, text) =
     let forms : IsText (printed_of program) program =
     prints_text program (text_is_writable input program is.reads) is.reads.shallow in
     let reads : IsText printed program = subst (λ t. IsText t program) (sym text) forms in
-    let answer : IsAnswered (Check true) printed 0 printed = (plan, program, record { reads = reads; unfolds = is.unfolds }, refl, text) in (
-      answer,
-      λ other. (plan_too program printed input reads is.reads other, plan_too program input printed is.reads reads other),
-      λ workers refusal refused. never_both (Check true) printed refusal printed 0 refused answer,
-      λ c number output goes. (
+    let answer : IsAnswered (Check true) printed 0 printed = (plan, program, record { reads = reads; unfolds = is.unfolds }, refl, text) in
+    let from_printed = plan_too program printed input reads is.reads in
+    let from_input = plan_too program input printed is.reads reads in
+    let one_of_printed = texts_have_no_schedule printed plan (program, record { reads = reads; unfolds = is.unfolds }) in
+    let one_of_input = texts_have_no_schedule input plan (program, is) in
+    record {
+      plan = λ other. (from_printed other, from_input other);
+      again = answer;
+      answered = λ c number output goes. (
         answered_too program printed input reads is.reads c number output goes,
         answered_too program input printed is.reads reads c number output goes,
-      ),
-    )
+      );
+      accepted = λ workers refusal refused. never_both (Check true) printed refusal printed 0 refused answer;
+      recorded = λ number written r. record_goes_by_plan input printed number written r (λ other. (from_input other, from_printed other));
+      replayed = λ short short_too number report.
+          replay_goes_by_plan printed input printed input [] number report one_of_printed one_of_input short_too short (λ other. (from_printed other, from_input other));
+    }

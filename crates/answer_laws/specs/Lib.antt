@@ -5,5 +5,6 @@ pub mod Avoided
 pub mod Cycles
 pub mod Held
 pub mod Replayed
+pub mod OnePlan
 pub mod Printed
 pub mod LiveLines

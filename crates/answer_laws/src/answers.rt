@@ -1,6 +1,7 @@
 // Laws of answers: what the words and the input fix.
 ghost use Rattle.answer_laws.specs.LiveLines.{LiveClockTellsAsClock, LiveRunTellsAsRun};
 ghost use Rattle.answer_laws.specs.OneAnswer.{OneAnswer, RunsReportAlike};
+ghost use Rattle.answer_laws.specs.OnePlan.{RecordGoesByPlan, ReplayGoesByPlan, TextsHaveNoSchedule};
 ghost use Rattle.answer_laws.specs.Printed.{PrintingKeepsMeaning};
 
 /// The words and the input alone fix the status and the text of every command but `record`, and `avoid` with several workers; live lines may come in
@@ -16,7 +17,15 @@ pub fn live_tells_as_run()
     ensures clock { LiveClockTellsAsClock }
 {}
 
-/// What `check --print` writes of an input has its plan, is answered as it is, and printed again it is the same.
+/// What `check --print` writes of an input has its plan, is answered and replayed as it is, and has each of its journals recorded behind it, where it is no
+/// longer than a text may be; and printed again it is the same.
 pub fn printing_keeps_meaning()
     ensures { PrintingKeepsMeaning }
+{}
+
+/// Texts of one plan are replayed alike, behind one schedule, and recorded with the same journals; a text alone has an empty schedule.
+pub fn texts_go_by_plan()
+    ensures replay { ReplayGoesByPlan }
+    ensures alone { TextsHaveNoSchedule }
+    ensures journals { RecordGoesByPlan }
 {}

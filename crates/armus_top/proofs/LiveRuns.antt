@@ -16,7 +16,7 @@ use Rattle.report.specs.NamedDead.{AreSomeDead, AreTheDead}
 use Rattle.report.specs.Reports.{IsReport, IsSomeDead}
 use Rattle.report.proofs.DeadExtend.{some_dead_extend}
 use Rattle.task_runner.specs.DetectRuns.{AreDeadAtTheEnd, HasWritten, TellsRun, Told}
-use Rattle.task_runner.specs.PlainRuns.{IsPlainEnd}
+use Rattle.world_runs.specs.PlainRuns.{IsPlainEnd}
 use Rattle.task_runner.specs.declared.ran.Ran.{Ran}
 use Rattle.task_runner.specs.declared.ran.RunEnd.TheVariants as ends
 use Rattle.adaptive.specs.declared.analysis.Wanted.{Wanted}

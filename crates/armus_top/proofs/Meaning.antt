@@ -11,7 +11,7 @@ use Rattle.armus_words.specs.declared.table.FirstWord.TheVariants as first
 use Rattle.armus_words.specs.Words.{HaveForm, Text}
 use Rattle.armus_top.specs.Meanings.{BeginsRecordOrPool, Means}
 use Rattle.armus_top.specs.inside.Serving.{MayHaveSites, MayWork, WaitsForNoThread, WaitsForThreads}
-use Rattle.armus_top.specs.Headline.{Ends, IsCall, Passage, Serves, reads_input}
+use Rattle.armus_top.specs.Headline.{Ends, IsCall, Passage, Serves, reads_input, writes_lines}
 
 pub serves_by : (words : List Text) (src out : Passage) (number : ℕ) (meaning : Option Command) → Means words meaning → Ends meaning src out number
     → Serves words src out number
@@ -20,12 +20,14 @@ serves_by words src out number meaning is ends = λ c means.
 
 -- a call that ended as the command may that the words mean
 pub call_by : (words : List Text) (src out : Passage) (same_source same_sink : Type 0) (number : ℕ) (meaning : Option Command) → Means words meaning
-    → Ends meaning src out number → (reads_input meaning ≡ false → same_source) → (number ≡ 4 → same_sink) → (number ≡ 6 → HaveForm words)
+    → Ends meaning src out number → (reads_input meaning ≡ false → same_source) → (number ≡ 4 → same_sink)
+    → (writes_lines meaning ≡ false → number ≡ 6 → same_sink) → (number ≡ 6 → HaveForm words)
     → IsCall words src out same_source same_sink number
-call_by words src out same_source same_sink number meaning is ends same silent formed = record {
+call_by words src out same_source same_sink number meaning is ends same silent unwritten formed = record {
   serves = serves_by words src out number meaning is ends;
   unread = λ c means no. same (subst (λ (m : Option Command). reads_input m ≡ false) (one_meaning words c meaning means is) no);
   silent = silent;
+  unwritten = λ c means no. unwritten (subst (λ (m : Option Command). writes_lines m ≡ false) (one_meaning words c meaning means is) no);
   formed = formed;
 }
 

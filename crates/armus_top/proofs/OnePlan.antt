@@ -6,6 +6,7 @@ use Rattle.armus_base.specs.Plans.{Plan}
 use Rattle.pl_plan.proofs.UnfoldedIsChecked.{unfolded_is_checked}
 use Rattle.pl_syntax.specs.declared.tree.Program.{Program}
 use Rattle.pl_syntax.specs.Tree.{AreNear, Plain, new_task, new_phaser, reg, dereg, adv, await, skip, PlainIsNear, Tree, done, plain, fork, loop}
+use Rattle.pl_syntax.specs.Grammar.{IsText}
 use Rattle.pl_syntax.specs.Printed.{PlainIsWritable, TreeIsWritable}
 use Rattle.pl_syntax.proofs.Unique.{one_tree, text_or_fault}
 use Rattle.pl_syntax.proofs.Writable.{text_is_writable}
@@ -48,6 +49,10 @@ near (plain s rest) w = (plain_near s w.0, near rest w.1)
 near (fork x body rest) w = (near body w.1, near rest w.2)
 near (loop k body rest) w = (near body w.1, near rest w.2)
 
+-- no await of a text's program looks farther than it may
+pub program_is_near : (text : Text) (program : Program) → IsText text program → AreNear program.body
+program_is_near text program reads = near program.body (text_is_writable text program reads).tree
+
 -- the plan of a text is checked
 pub checked_plan : (text : Text) (plan : Plan) → IsPlanOf text plan → IsCheckedPlan plan
-checked_plan text plan (program, is) = unfolded_is_checked program plan (near program.body (text_is_writable text program is.reads).tree) is.unfolds
+checked_plan text plan (program, is) = unfolded_is_checked program plan (program_is_near text program is.reads) is.unfolds

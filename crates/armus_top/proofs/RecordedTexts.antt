@@ -11,7 +11,7 @@ use Rattle.armus_base.specs.Runs.{state_after}
 use Rattle.armus_base.proofs.DeadByStatuses.{dead_by_final, run_is_of_plan}
 use Rattle.report.specs.Reports.{IsSomeDead}
 use Rattle.schedule.specs.Records.{IsRecord}
-use Rattle.task_runner.specs.RecordedRuns.{IsRecordedRun}
+use Rattle.world_runs.specs.RecordedRuns.{IsRecordedRun}
 use Rattle.armus_words.specs.Words.{Text}
 use Rattle.armus_top.specs.Programs.{IsPlanOf}
 use Rattle.armus_top.specs.Records.{IsRecordOf}

@@ -55,7 +55,8 @@ ended_or_not (b ∷ bs) =
       | inr unclosed ↦ inr (λ is. elim is [ inl e ↦ absurd (cc) | inr ends ↦ unclosed ends.0 ends.1 ])
     ]
 
-closed_exists : (text : Text) → (closed : Text) × IsClosedText text closed
+-- so each text has a closed form
+pub closed_exists : (text : Text) → (closed : Text) × IsClosedText text closed
 closed_exists text = elim (ended_or_not text) [ inl ends ↦ (text, inl (refl, ends)) | inr unclosed ↦ (line text, inr (refl, unclosed)) ]
 
 pub record_met : (input : Text) (plan : Plan) (plan_is : IsPlanOf input plan) → (status : ℕ) × (text : Text) × IsRecordOf input status text

@@ -16,7 +16,7 @@ use Rattle.report.specs.Live.{live_text}
 use Rattle.report.specs.NamedDead.{AreSomeDead}
 use Rattle.report.proofs.DeadExtend.{some_dead_extend}
 use Rattle.report.proofs.ReportExists.{report_exists}
-use Rattle.task_runner.proofs.SerialExists.{serial_run_ends}
+use Rattle.world_runs.proofs.SerialExists.{serial_run_ends}
 use Rattle.armus_words.specs.declared.command.RunKind.{RunKind}
 use Rattle.armus_words.specs.declared.command.RunKind.TheVariants.{Plain, Live, Sites}
 use Rattle.armus_words.specs.Words.{Text}

@@ -113,16 +113,18 @@ fits_read c src input shown same read = subst (λ t. FitsLimit (limit_of c) t) (
 
 -- a command was served on its input
 pub call_served : (words : List Text) (c : Command) (src out : Passage) (same_source same_sink : Type 0) (number : ℕ) → IsCommand words c
-    → Ends (Some c) src out number → (limit_of c ≡ None → same_source) → (number ≡ 4 → same_sink) → IsCall words src out same_source same_sink number
-call_served words c src out same_source same_sink number means ends same silent =
-    call_by words src out same_source same_sink number (Some c) means ends (λ off. same (none_of (limit_of c) off)) silent (λ six. form_of words c means)
+    → Ends (Some c) src out number → (limit_of c ≡ None → same_source) → (number ≡ 4 → same_sink) → (writes_live c ≡ false → number ≡ 6 → same_sink)
+    → IsCall words src out same_source same_sink number
+call_served words c src out same_source same_sink number means ends same silent unwritten =
+    call_by words src out same_source same_sink number (Some c) means ends (λ off. same (none_of (limit_of c) off)) silent unwritten
+    (λ six. form_of words c means)
 
 -- words that mean no command had the usage line written
 pub call_of_usage : (words : List Text) (src out : Passage) (same_source same_sink : Type 0) (number : ℕ) → Means words None → same_source → IsSound src
     → Finished out usage_line 2 number → IsCall words src out same_source same_sink number
 call_of_usage words src out same_source same_sink number means same still done =
     call_by words src out same_source same_sink number None means (by_finish None src out usage_line 2 number done (refl, refl) still) (λ off. same)
-    (λ four. absurd (not_four done four)) (λ six. absurd (not_six done six))
+    (λ four. absurd (not_four done four)) (λ off six. absurd (not_six done six)) (λ six. absurd (not_six done six))
   where
     not_four : Finished out usage_line 2 number → number ≢ 4
     not_four (inl (two, took, sound)) four = omega arith

@@ -102,12 +102,13 @@ Ends c src out number = EndsWith (Permits c src) (limit_for c) (writes_lines c) 
 abbrev pub Serves : List Text → Passage → Passage → ℕ → Type 0
 Serves words src out number = (meaning : Option Command) → Means words meaning → Ends meaning src out number
 
--- The headline, and what the two objects are left as: a source that is not read stays the value that it was, and so does the sink after a fault of the source.
--- Memory is wanting only where the words have the form of a command.
+-- The headline, and what the two objects are left as: a source that is not read stays the value that it was, and so does the sink after a fault of the source,
+-- and where memory is wanting, but for a command that writes lines while it runs. Memory is wanting only where the words have the form of a command.
 pub record IsCall (words : List Text) (src out : Passage) (same_source same_sink : Type 0) (number : ℕ) : Type 0 where
   pub serves : Serves words src out number
   pub unread : (c : Option Command) → Means words c → reads_input c ≡ false → same_source
   pub silent : number ≡ 4 → same_sink
+  pub unwritten : (c : Option Command) → Means words c → writes_lines c ≡ false → number ≡ 6 → same_sink
   pub formed : number ≡ 6 → HaveForm words
 
 -- the source tells its bytes and has this input for the command

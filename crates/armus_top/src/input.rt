@@ -21,6 +21,7 @@ pub(crate) fn input_of<S: Source, K: Sink>(
     ensures unwritten { IfOk result (λ _. out.new ≡ out.old) }
     ensures ends { IfErr result (λ status. EndsUnread limit (passage S.left S.faults src.old src.new) (passage K.taken K.faults out.old out.new) (number_of_status status)) }
     ensures silent { IfErr result (λ status. number_of_status status ≡ 4 → out.new ≡ out.old) }
+    ensures short { IfErr result (λ status. number_of_status status ≡ 6 → out.new ≡ out.old) }
 {
     match read_all(alloc, src, limit) {
         Ok(input) => Ok(input),

@@ -52,6 +52,7 @@ fn input_for<S: Source, K: Sink>(
     ensures unwritten { IfOk result (λ _. out.new ≡ out.old) }
     ensures ends { IfErr result (λ status. Ends (Some command.now) (passage S.left S.faults src.old src.new) (passage K.taken K.faults out.old out.new) (number_of_status status)) }
     ensures silent { IfErr result (λ status. number_of_status status ≡ 4 → out.new ≡ out.old) }
+    ensures short { IfErr result (λ status. number_of_status status ≡ 6 → out.new ≡ out.old) }
 {
     match limit_of(command) {
         Some(limit) => input_of(alloc, limit, src, out),

@@ -7,7 +7,7 @@ ghost use Rattle.armus_top.specs.inside.Serving.{MayHaveSites, MayWork};
 ghost use Rattle.armus_top.specs.inside.Status.{number_of_status};
 ghost use Rattle.armus_top.specs.inside.Writing.{LeavesOutput};
 ghost use Rattle.armus_words.specs.declared.table.TheConstants.{MAX_SITES};
-ghost use Rattle.task_runner.specs.PlainRuns.{IsPlainEnd};
+ghost use Rattle.world_runs.specs.PlainRuns.{IsPlainEnd};
 
 use crate::output::{Output, reported};
 use crate::status::ExitStatus;
@@ -17,7 +17,7 @@ use armus_words::RunKind;
 use sites::{KeepEnd, SafeKeeper};
 use std::alloc::Global;
 use std::thread::Threads;
-use task_runner::{RunEnd, RunOptions, run_detect, run_plain, run_sites};
+use task_runner::{RunEnd, RunOptions, run_detect, run_sites};
 
 // The end of the run of the plan with passes over this many sites, whose rows stand in memory.
 fn end_with_sites<R: Threads + Sync, G: Gate>(
@@ -86,7 +86,6 @@ fn end_of_run<R: Threads + Sync, G: Gate>(
     ensures end { IfOk result (λ end. IsPlainEnd plan.now end) }
 {
     match kind {
-        RunKind::Plain if options.workers == 1 => run_plain(alloc, plan, gate),
         RunKind::Plain | RunKind::Live => end_on_board(rt, alloc, plan, options, gate),
         RunKind::Sites { sites } => end_with_sites(rt, alloc, plan, options, sites, gate),
     }

@@ -157,6 +157,7 @@ pub(crate) fn serve<R: Threads + Sync, K: Sink, G: Gate>(
     requires fits { FitsLimit (limit_of command.now) input.now }
     ensures done { Answered command.now input.now (passage K.taken K.faults out.old out.new) (number_of_status result) }
     ensures silent { number_of_status result ≢ 4 }
+    ensures unwritten { writes_live command.now ≡ false → number_of_status result ≡ 6 → out.new ≡ out.old }
 {
     if writes_live(command) {
         return serve_live(rt, alloc, command, input, out, gate);
@@ -178,6 +179,7 @@ pub(crate) fn serve_waiting<R: Threads + Wait + Sync, K: Sink, G: Gate>(
     requires fits { FitsLimit (limit_of command.now) input.now }
     ensures done { Answered command.now input.now (passage K.taken K.faults out.old out.new) (number_of_status result) }
     ensures silent { number_of_status result ≢ 4 }
+    ensures unwritten { number_of_status result ≡ 6 → out.new ≡ out.old }
 {
     let answer = answer_waiting(rt, alloc, command, input, gate);
     write_answer(alloc, answer, out)

@@ -18,6 +18,7 @@ use std::alloc::Global;
 pub fn finish<K: Sink>(out: &mut K, text: &[u8], status: ExitStatus) -> ExitStatus
     ensures done { Finished (passage K.taken K.faults out.old out.new) text.now (number_of_status status) (number_of_status result) }
     ensures status { number_of_status result ≡ 4 → number_of_status status ≡ 4 }
+    ensures memory { number_of_status result ≡ 6 → number_of_status status ≡ 6 }
 {
     match write_text(out, text) {
         Ok(()) => status,
@@ -29,6 +30,7 @@ pub fn finish<K: Sink>(out: &mut K, text: &[u8], status: ExitStatus) -> ExitStat
 pub(crate) fn refuse<K: Sink>(alloc: Global, why: &Refusal, out: &mut K) -> ExitStatus
     ensures done { Refuses why.now (passage K.taken K.faults out.old out.new) (number_of_status result) }
     ensures silent { number_of_status result ≢ 4 }
+    ensures unwritten { number_of_status result ≡ 6 → out.new ≡ out.old }
 {
     match refusal_line(alloc, why) {
         Ok(line) => finish(out, line.as_slice(), ExitStatus::Refused),
@@ -40,6 +42,7 @@ pub(crate) fn refuse<K: Sink>(alloc: Global, why: &Refusal, out: &mut K) -> Exit
 fn refuse_clocks<K: Sink>(alloc: Global, fault: &ClockFault, out: &mut K) -> ExitStatus
     ensures done { RefusesClocks fault.now (passage K.taken K.faults out.old out.new) (number_of_status result) }
     ensures silent { number_of_status result ≢ 4 }
+    ensures unwritten { number_of_status result ≡ 6 → out.new ≡ out.old }
 {
     match clock_line(alloc, fault) {
         Ok(line) => finish(out, line.as_slice(), ExitStatus::Refused),
@@ -52,6 +55,7 @@ fn write_end<K: Sink>(alloc: Global, end: InputEnd, out: &mut K) -> ExitStatus
     ensures done { (command : Asked) (input : Text) → IsEndOf command input end
         → Answered command input (passage K.taken K.faults out.old out.new) (number_of_status result) }
     ensures silent { number_of_status result ≢ 4 }
+    ensures unwritten { number_of_status result ≡ 6 → out.new ≡ out.old }
 {
     match end {
         InputEnd::Refused(why) => refuse(alloc, &why, out),
@@ -69,6 +73,7 @@ pub(crate) fn write_answer<K: Sink>(
     ensures done { (command : Asked) (input : Text) → AnswersBy command input answer
         → Answered command input (passage K.taken K.faults out.old out.new) (number_of_status result) }
     ensures silent { (command : Asked) (input : Text) → AnswersBy command input answer → number_of_status result ≢ 4 }
+    ensures unwritten { (command : Asked) (input : Text) → AnswersBy command input answer → number_of_status result ≡ 6 → out.new ≡ out.old }
 {
     match answer {
         Ok(output) => finish(out, output.text.as_slice(), output.status),

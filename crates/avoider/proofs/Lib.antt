@@ -18,3 +18,4 @@ pub mod OneOutcome
 pub mod OnNoCycle
 pub mod LivesByLoads
 pub mod ToldByLoads
+pub mod WorldWaits

@@ -1,3 +1,4 @@
 pub mod Judged
 pub mod Concluded
 pub mod Followings
+pub mod Waiting

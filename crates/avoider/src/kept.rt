@@ -1,19 +1,22 @@
 // Decisions by an order that is kept from one await to the next.
-ghost use Rattle.std.specs.Prelude.{◌≡◌, length, Contains, IfOk, OnErr};
+ghost use Rattle.std.specs.Prelude.{◌≡◌, ◌<◌, length, Contains, IfOk, OnErr, OnOk};
 ghost use Rattle.armus_base.specs.Deadlocks.{NobodyDead};
 ghost use Rattle.armus_base.specs.Finals.{statuses_of};
 ghost use Rattle.armus_base.specs.Statuses.{IsInOrder};
 ghost use Rattle.armus_base.specs.declared.status.Status.{Status};
-ghost use Rattle.order_graph.specs.Orders.{IsTaskOf};
+ghost use Rattle.armus_base.specs.CheckedPlans.{IsCheckedPlan};
+ghost use Rattle.order_graph.specs.Following.{AnswersFollow};
+ghost use Rattle.order_graph.specs.Orders.{IsOrder, IsTaskOf};
 ghost use Rattle.pl_core.specs.Worlds.{state_of};
-ghost use Rattle.avoider.specs.Decisions.{IsBeforeStep, IsDecision, IsOutcome};
+ghost use Rattle.avoider.specs.Decisions.{IsBeforeStep, IsDecision, IsOutcome, supposed_statuses};
 ghost use Rattle.avoider.specs.Kept.{HoldsIfPublished};
 ghost use Rattle.avoider.specs.inside.Followings.{HoldsOrOtherDead};
 
 use crate::Decision;
 use crate::step::{carry_out, death_of, event_before};
+use crate::waiting::waits_if;
 use adaptive::Wanted;
-use armus_base::{NoMemory, Status, TaskId};
+use armus_base::{Event, NoMemory, Status, TaskId};
 use dep_state::DepState;
 use order_graph::{Followed, Order};
 use pl_core::World;
@@ -38,9 +41,59 @@ pub fn avoid_step_kept(
     ensures pairs { IfOk result (HoldsIfPublished (statuses_of world.new.plan (state_of world.new)) order.old order.new) }
 {
     let event = event_before(world, t);
-    let list = world.statuses_if(alloc, t, event)?;
-    let found = death_kept(alloc, order, list.as_slice(), t)?;
+    let found = death_in_world(alloc, order, world, t, event)?;
     Ok(carry_out(world, t, event, found))
+}
+
+// The cycle of the statuses with the task's own, where the task is dead by them; they are made only where the order cannot follow them.
+fn death_in_world(
+    alloc: Global,
+    order: &mut Order,
+    world: &World,
+    t: TaskId,
+    event: Event,
+) -> Result<Option<Cycle>, NoMemory>
+    requires checked { IsCheckedPlan world.now.plan }
+    requires task { t.0 < length world.now.plan.parents }
+    requires phaser { event.p.0 < length world.now.plan.makers }
+    requires tasks { length order.old.positions ≡ length world.now.plan.parents }
+    ensures tasks { length order.new.positions ≡ length order.old.positions }
+    ensures outcome { IfOk result (IsOutcome (supposed_statuses world.now t.0 event) t.0) }
+    ensures pairs { IfOk result (HoldsOrOtherDead (supposed_statuses world.now t.0 event) order.old order.new) }
+{
+    match follow_world(alloc, order, world, t, event)? {
+        Followed::Kept => Ok(None),
+        Followed::Dead => {
+            let list = world.statuses_if(alloc, t, event)?;
+            death_of(alloc, list.as_slice(), t, Wanted::Wfg)
+        }
+    }
+}
+
+// The order follows the statuses with the task's own, by the relations of them where many events are awaited.
+fn follow_world(
+    alloc: Global,
+    order: &mut Order,
+    world: &World,
+    t: TaskId,
+    event: Event,
+) -> Result<Followed, NoMemory>
+    requires checked { IsCheckedPlan world.now.plan }
+    requires task { t.0 < length world.now.plan.parents }
+    requires phaser { event.p.0 < length world.now.plan.makers }
+    requires tasks { length order.old.positions ≡ length world.now.plan.parents }
+    ensures tasks { length order.new.positions ≡ length order.old.positions }
+    ensures order { OnOk result (IsOrder order.new) }
+    ensures followed { IfOk result (AnswersFollow (supposed_statuses world.now t.0 event) order.old order.new) }
+{
+    match waits_if(alloc, world, t, event)? {
+        Some(waits) => order.follow_waits(alloc, &waits),
+        None => {
+            let list = world.statuses_if(alloc, t, event)?;
+            let deps = DepState::of(alloc, list.as_slice())?;
+            order.follow(alloc, &deps)
+        }
+    }
 }
 
 // The cycle of the statuses, where the task is dead by them. Nothing is searched where the order can follow them: nobody is dead then.

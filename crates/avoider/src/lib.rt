@@ -12,6 +12,7 @@ mod kept;
 pub mod laws;
 mod lock;
 mod step;
+mod waiting;
 
 pub use deciding::decide;
 pub use deciding_kept::decide_kept;

@@ -32,7 +32,7 @@ global_sync = search (sendable, crosses, heap.the_send, heap.the_sync) depth 30
 
 -- a worker's cells may be handed to a thread
 pub worker_cells_send : IsSend rooms.the_row
-worker_cells_send = search (sendable, crosses, cells_send, judge_send) depth 30
+worker_cells_send = search (sendable, crosses, cells_send, judge_send) depth 30 fits 20000
 
 pub turns_send :
     (ν : Sym) (a b c h i j k : NamedLft) (X Y Z : RattleType) (one : One X.mir) (other : One Y.mir) (third : One Z.mir) → IsSync X → IsSync Y → IsSend Z →

@@ -1,5 +1,5 @@
 -- What a round makes of all tasks of a run, the ended ones among them.
-use Rattle.std.proofs.Common.{◌≡◌, ℕ, suc, ◌<◌, ◌≤◌, List, [], ◌∷◌, ◌++◌, Some, length, map, get_or, sym, refl, ap, ◌∙◌, subst, arith, inl, inr, append-nil, append_assoc}
+use Rattle.std.proofs.Common.{◌≡◌, ℕ, zero, suc, ◌<◌, ◌≤◌, List, [], ◌∷◌, ◌++◌, Some, length, map, get_or, sym, refl, ap, ◌∙◌, subst, arith, inl, inr, append-nil, append_assoc}
 use Rattle.std.specs.Prelude.{All, Contains, sum_by}
 use Rattle.std.specs.List.{flat_map}
 use Rattle.std.specs.List.Sorted.{IsPermutation}
@@ -234,6 +234,21 @@ whole_round f plan before now new made same tasks round moved done =
           omega arith),
       (λ z. All-permutation (λ (w : Working). HasEndedTurn w.seat) middle (all_of now) moved (round_quiet f before.live before.ended new made tasks round z)),
     )
+
+-- whose turn has ended has ended it without the seats of its children
+pub emptied_end : (ws : List Working) → All (λ (w : Working). HasEndedTurn w.seat) ws → All (λ (w : Working). HasEndedTurn w.seat) (map emptied ws)
+emptied_end [] all k d l = absurd (omega arith)
+emptied_end (w ∷ ws) all zero d l = all 0 w (omega arith)
+emptied_end (w ∷ ws) all (suc k) d l = emptied_end ws (λ j e m. all (suc j) e (omega arith)) k d (omega arith)
+
+-- where nobody was forked, all have come to the end of their turns
+pub whole_still :
+    (f : Frame) (before now : Tasks) (new : List Working) → AreTasksOf f before → All (λ (w : Working). HasEndedTurn w.seat) new →
+    IsPermutation (new ++ before.ended) (all_of now) → All (λ (w : Working). HasEndedTurn w.seat) (all_of now)
+whole_still f before now new tasks ends moved =
+    All-permutation (λ (w : Working). HasEndedTurn w.seat) (new ++ before.ended) (all_of now) moved
+    (All-append (λ (w : Working). HasEndedTurn w.seat) new before.ended ends
+    (all_from (λ (w : Working). HasEndedTurn w.seat) before.ended (λ w i. ends_now w.seat (to_each (λ (v : Working). ActsNoMore v.seat) before.ended tasks.ended w i))))
 
 -- task 0 alone
 pub first_tasks : (f : Frame) (w : Working) → IsNewSeat f (Some 0) (seen_by_child 0 nothing_seen) w.seat → w.children ≡ [] → AreTasksOf f (record { live = w ∷ []; ended = [] })

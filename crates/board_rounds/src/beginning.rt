@@ -77,6 +77,14 @@ fn make_step(
     Ok(())
 }
 
+// How many words an op loads where nothing is decided: an await one of each task.
+fn loads_of(op: Op, board: &Board) -> u64 {
+    match op {
+        Op::Await { p: _, off: _ } => u64::from(board.tasks()),
+        _ => 0,
+    }
+}
+
 /// Makes the step with which an op begins, and keeps the seat of a child that it forks. An await on which is to be decided is published only if it would
 /// deadlock nobody, and else refused; nothing is done where the lock is taken.
 pub(crate) fn begin(
@@ -97,6 +105,7 @@ pub(crate) fn begin(
     match await_to_decide(op, board) {
         Some((p, off)) => try_to_decide(seat, alloc, board, p, off, cells),
         None => {
+            cells.note_loads(loads_of(op, board));
             make_step(seat, children, alloc, board, op)?;
             Ok(Attempt::Begun)
         }

@@ -6,7 +6,7 @@ ghost use Rattle.armus_base.specs.Seats.{seen_by_child};
 ghost use Rattle.board.specs.Seats.{IsNewSeat, IsOf, IsSeat, Known, nothing_seen};
 ghost use Rattle.board.specs.Steps.{IsSameSeat};
 ghost use Rattle.board.specs.Views.{own_place, seen};
-ghost use Rattle.board_rounds.specs.Turns.{ActsNoMore, MayTakeTurn, Working};
+ghost use Rattle.board_rounds.specs.Turns.{ActsNoMore, HasEndedTurn, MayTakeTurn, Working};
 ghost use Rattle.board_rounds.specs.Crews.{ArePlacesOf, AreTasksOf, HaveEnded, KnowsTasks, all_of, left_to};
 ghost use Rattle.board_rounds.specs.inside.Rounds.{IsAtStart, IsChildIn, MakesRound, emptied, fresh, fresh_of};
 
@@ -21,6 +21,15 @@ use pl_core::Place;
 use std::alloc::Global;
 use std::marker::Model;
 use std::thread::Threads;
+
+/// What a round was.
+#[derive(Clone, Copy, Debug, PartialEq, Eq)]
+pub struct Rounded {
+    /// How many events happened in it, up to 2^32 - 1.
+    pub events: u32,
+    /// Whether a task was forked in it.
+    pub forked: bool,
+}
 
 /// The tasks of a run on a board: those that live, in order of number, and those that act no more.
 #[derive(Drop)]
@@ -74,7 +83,7 @@ impl<'p> Crew<'p> {
     }
 
     /// One round: each task that lives has one turn, by so many workers. What a worker judges by is kept from its first round on. After it the children whom
-    /// they forked live too. It answers how many events happened.
+    /// they forked live too. Where nobody was forked, each task has come to the end of its turn.
     pub fn round<R: Threads + Sync, G: Gate>(
         &mut self,
         rt: &R,
@@ -83,12 +92,13 @@ impl<'p> Crew<'p> {
         plan: &'p Plan,
         workers: u8,
         gate: &G,
-    ) -> Result<u32, NoMemory>
+    ) -> Result<Rounded, NoMemory>
         requires plan { board.now.plan ≡ plan.now }
         requires tasks { AreTasksOf board.now self.old }
         ensures tasks { OnOk result (AreTasksOf board.now self.new) }
-        ensures further { IfOk result (λ made. 0 < made → left_to plan.now self.new < left_to plan.now self.old) }
-        ensures quiet { IfOk result (λ made. made ≡ 0 → HaveEnded (all_of self.new)) }
+        ensures further { IfOk result (λ made. 0 < made.events → left_to plan.now self.new < left_to plan.now self.old) }
+        ensures quiet { IfOk result (λ made. made.events ≡ 0 → HaveEnded (all_of self.new)) }
+        ensures still { IfOk result (λ made. made.forked ≡ false → HaveEnded (all_of self.new)) }
     {
         provide(&mut self.cells, workers, self.judging)?;
         let cells = self.cells.as_mut_slice();
@@ -96,6 +106,16 @@ impl<'p> Crew<'p> {
         let made = go_round(rt, alloc, board, plan, workers, gate, cells, live)?;
         retire(alloc, &mut self.live, &mut self.ended)?;
         Ok(made)
+    }
+
+    /// How many words the awaits so far have loaded, as a board is defined, up to 2^64 - 1: for each that was published one of each task, and for each on
+    /// which was decided those of its collect.
+    pub fn loads(&self) -> u64 {
+        let mut loads = 0u64;
+        for cells in self.cells.as_slice() {
+            loads = loads.saturating_add(cells.loads());
+        }
+        loads
     }
 
     /// The place of each task of the plan.
@@ -140,32 +160,34 @@ fn go_round<'p, R: Threads + Sync, G: Gate>(
     gate: &G,
     cells: &mut [WorkerCells],
     tasks: &mut Vec<Task<'p>>,
-) -> Result<u32, NoMemory>
+) -> Result<Rounded, NoMemory>
     requires plan { board.now.plan ≡ plan.now }
     requires ready { All (MayTakeTurn board.now) tasks.old.items }
     requires no_child { All (λ task. task.children ≡ []) tasks.old.items }
     requires enough { workers ≤ length cells.old }
     requires cells { 1 ≤ length cells.old }
-    ensures round { IfOk result (MakesRound board.now tasks.old.items tasks.new.items) }
+    ensures round { IfOk result (λ made. MakesRound board.now tasks.old.items tasks.new.items made.events) }
+    ensures still { IfOk result (λ made. made.forked ≡ false → All (λ task. HasEndedTurn task.seat) tasks.new.items) }
 {
     let turned = tasks.as_mut_slice();
-    let made = take_turns(rt, &alloc, board, gate, workers, cells, turned)?;
-    take_on(alloc, plan, tasks)?;
-    Ok(made)
+    let events = take_turns(rt, &alloc, board, gate, workers, cells, turned)?;
+    let forked = take_on(alloc, plan, tasks)?;
+    Ok(Rounded { events, forked })
 }
 
-// Makes tasks of the children's seats that these tasks have, and puts them among them, in order of number.
-fn take_on<'p>(alloc: Global, plan: &'p Plan, tasks: &mut Vec<Task<'p>>) -> Result<(), NoMemory>
+// Makes tasks of the children's seats that these tasks have, and puts them among them, in order of number; answers whether there were any.
+fn take_on<'p>(alloc: Global, plan: &'p Plan, tasks: &mut Vec<Task<'p>>) -> Result<bool, NoMemory>
     requires start { (seat : Known) → IsChildIn tasks.old.items seat → IsAtStart plan.now seat }
     ensures joined { OnOk result (IsPermutation (map emptied tasks.old.items ++ flat_map fresh_of tasks.old.items) tasks.new.items) }
+    ensures none { IfOk result (λ forked. forked ≡ false → tasks.new.items ≡ map emptied tasks.old.items) }
 {
     let mut children = new_tasks(alloc, plan, tasks.as_mut_slice())?;
     if children.is_empty() {
-        return Ok(());
+        return Ok(false);
     }
     tasks.append(&mut children)?;
     tasks.sort_by_key(|task| task.id().0)?;
-    Ok(())
+    Ok(true)
 }
 
 // Makes tasks of the children's seats that these tasks have, in order.

@@ -42,8 +42,17 @@ pub(crate) fn try_to_decide(
     let _ = seat.id();
     let (mut own, mut judge) = cells.take(alloc, board)?;
     let tried = decide_with(seat, alloc, board, p, off, &mut own, &mut judge);
+    cells.note_loads(loads_of(&tried, &own));
     cells.keep(board, own, judge);
     tried
+}
+
+// How many words a try to decide loaded: those of the collect, and one where the lock was taken.
+fn loads_of(tried: &Result<Attempt, NoMemory>, cells: &Cells) -> u64 {
+    match tried {
+        Ok(Attempt::LockedOut) => 1,
+        _ => cells.loads(),
+    }
 }
 
 // The same with these cells and this judge.

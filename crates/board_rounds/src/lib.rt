@@ -12,7 +12,7 @@ mod task;
 mod worker_cells;
 
 pub use calling::Calls;
-pub use crew::Crew;
+pub use crew::{Crew, Rounded};
 pub use rounds::round;
 pub use task::{Acted, Pause, Task};
 pub use worker_cells::WorkerCells;

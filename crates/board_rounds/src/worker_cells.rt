@@ -17,6 +17,8 @@ pub struct WorkerCells {
     cells: Option<Cells>,
     judging: Judging,
     judge: Judge,
+    // how many words were loaded for the awaits that were begun with these
+    loads: u64,
 }
 
 impl Model for WorkerCells {
@@ -39,7 +41,21 @@ impl WorkerCells {
             cells: None,
             judging,
             judge: Judge::new(judging),
+            loads: 0,
         }
+    }
+
+    /// How many words were loaded for the awaits that were begun with these cells, as a board is defined, up to 2^64 - 1: for each that was published one of
+    /// each task, and for each on which was decided those of its collect.
+    pub fn loads(&self) -> u64 {
+        self.loads
+    }
+
+    /// So many words more were loaded.
+    pub(crate) fn note_loads(&mut self, loads: u64)
+        ensures same { self.new ≡ self.old }
+    {
+        self.loads = self.loads.saturating_add(loads);
     }
 
     /// Takes the cells and the judge out, and makes the cells where there are none for this board.

@@ -11,12 +11,11 @@ ghost use Rattle.clock_pl.specs.inside.ClockCheckerSteps.{GivesClockChecker, Giv
 
 use crate::checker::{Checker, Start};
 use crate::fault::{ClockEnd, LISTED_TWICE, STILL_PENDING};
-use crate::known::{Known, registered_on};
+use crate::known::registered_on;
 use crate::statements::{add_ops, fault_unless, next_activity, registered_clock};
 use armus_base::{List, NoMemory, Op, PhaserId, TaskId};
 use clock_syntax::{ClockBody, ClockName};
 use indexmap::IndexSet;
-use pl_plan::Membership;
 use std::alloc::{AllocError, Global};
 
 // Whether the name was not listed yet; then it is listed.
@@ -90,24 +89,24 @@ fn start_ops(alloc: Global, c: TaskId, on: &[PhaserId]) -> Result<Vec<Op>, Alloc
 // With what an activity is started at statement `n`, on these clocks and this finish.
 fn start_on<'p>(
     alloc: Global,
-    checker: &Checker<'p>,
+    checker: &mut Checker<'p>,
     n: u32,
     body: &'p ClockBody,
     on: &[PhaserId],
 ) -> Result<Start<'p>, NoMemory>
     requires { n + clock_count body.now < 2 ^ 32 }
-    ensures { IfOk result (λ start. start ≡ kept_start_at n body.now on.now checker.now.known) }
+    ensures same { checker.new ≡ checker.old }
+    ensures start { IfOk result (λ start. start ≡ kept_start_at n body.now on.now checker.old.known) }
 {
-    let known = Known {
-        clocks: checker.clocks_of_names(alloc)?,
-        members: registered_on(alloc, on)?,
-        pending: Membership::new(alloc),
-        governing: with_finish(checker, List::new(alloc))?.into_vec(),
-    };
+    let clocks = checker.share(alloc)?;
+    let members = registered_on(alloc, on)?;
+    let governing = with_finish(checker, List::new(alloc))?.into_vec();
     Ok(Start {
         body,
         before: n,
-        known,
+        clocks,
+        members,
+        governing,
     })
 }
 

@@ -16,18 +16,21 @@ use indexmap::IndexSet;
 use pl_plan::Membership;
 use std::alloc::{AllocError, Global};
 use std::marker::Model;
+use std::rc::Rc;
 
-// With what an activity is started: its body, how many statements stand before that in the text, and what is known of it. Its statements have numbers of
-// 32 bits.
+// With what an activity is started: its body, how many statements stand before that in the text, and what is known of it, where nothing is pending. The
+// clocks of the names are shared by activities that were started with the same ones. Its statements have numbers of 32 bits.
 #[derive(Drop)]
 pub(crate) struct Start<'p> {
     pub body: &'p ClockBody,
     pub before: u32,
-    pub known: Known,
+    pub clocks: Rc<Vec<Option<PhaserId>>>,
+    pub members: Membership,
+    pub governing: Vec<PhaserId>,
 }
 
 impl<'p> Model for Start<'p> {
-    ghost use Rattle.std.specs.Prelude.{◌+◌, ◌<◌, ◌^◌};
+    ghost use Rattle.std.specs.Prelude.{◌+◌, ◌<◌, ◌^◌, []};
     ghost use Rattle.std.specs.Coded.{codes};
     ghost use Rattle.clock_syntax.specs.Trees.{clock_count, clock_tree_code};
     ghost use Rattle.clock_pl.specs.inside.ClockChecker.{KeptStart};
@@ -36,9 +39,27 @@ impl<'p> Model for Start<'p> {
 
     ghost coded = { Prim.hlevel (codes, clock_tree_code) };
 
-    ghost view = { λ s. record { body = s.body.now; before = s.before; known = s.known } };
+    ghost view = { λ s. record {
+      body = s.body.now;
+      before = s.before;
+      known = record { clocks = s.clocks.value.items; members = s.members; pending = []; governing = s.governing.items };
+    } };
 
     ghost invariant = { λ s. s.before + clock_count s.body.now < 2 ^ 32 };
+}
+
+impl<'p> Start<'p> {
+    // What is known of the activity, in memory of its own.
+    fn known(&self, alloc: Global) -> Result<Known, AllocError>
+        ensures { IfOk result (λ k. k ≡ self.now.known) }
+    {
+        Ok(Known {
+            clocks: Vec::from_slice(alloc, &self.clocks)?,
+            members: self.members.copied(alloc)?,
+            pending: Membership::new(alloc),
+            governing: Vec::from_slice(alloc, &self.governing)?,
+        })
+    }
 }
 
 // How many ops and visits there were.
@@ -49,7 +70,8 @@ pub(crate) struct Counts {
 }
 
 // What the checker keeps: the names that have stood for a clock; the three lists of the plan so far; with what each activity is started; which activity is
-// unfolded, and what is known of it; and the counts. A statement looks its name up and reads a few entries; an async copies the clocks of the names.
+// unfolded, and what is known of it; and the counts. A statement looks its name up and reads a few entries; an async copies the clocks of the names, where a
+// name has come to stand for something else since the last one.
 #[derive(Drop)]
 pub(crate) struct Checker<'p> {
     names: IndexSet<&'p [u8]>,
@@ -59,11 +81,12 @@ pub(crate) struct Checker<'p> {
     starts: Vec<Start<'p>>,
     activity: TaskId,
     known: Known,
+    shared: Option<Rc<Vec<Option<PhaserId>>>>,
     counts: Counts,
 }
 
 impl<'p> Model for Checker<'p> {
-    ghost use Rattle.std.specs.Prelude.{◌<◌, ◌≤◌, length};
+    ghost use Rattle.std.specs.Prelude.{◌≡◌, ◌<◌, ◌≤◌, IfSome, length};
     ghost use Rattle.std.specs.Coded.{codes as codings};
     ghost use Rattle.armus_base.specs.Limits.{max_tasks, max_phasers, max_ops};
     ghost use Rattle.clock_syntax.specs.Trees.{clock_tree_code};
@@ -86,7 +109,8 @@ impl<'p> Model for Checker<'p> {
 
     ghost invariant = { λ k.
         (length k.parents.items ≤ max_tasks) × (length k.makers.items ≤ max_phasers) × (k.counts.ops ≤ max_ops)
-        × (k.activity.0 < length k.codes.items) × (length k.starts.items ≤ length k.codes.items) × (length k.starts.items ≤ length k.parents.items) };
+        × (k.activity.0 < length k.codes.items) × (length k.starts.items ≤ length k.codes.items) × (length k.starts.items ≤ length k.parents.items)
+        × IfSome k.shared (λ rc. rc.value.items ≡ k.known.clocks) };
 }
 
 impl<'p> Checker<'p> {
@@ -100,10 +124,15 @@ impl<'p> Checker<'p> {
         let mut starts = Vec::new(alloc);
         parents.push(None)?;
         codes.push(List::new(alloc))?;
+        let Ok(clocks) = Rc::new(alloc, Vec::new(alloc)) else {
+            return Err(NoMemory);
+        };
         starts.push(Start {
             body,
             before: 0,
-            known: Known::nothing(alloc),
+            clocks,
+            members: Membership::new(alloc),
+            governing: Vec::new(alloc),
         })?;
         Ok(Checker {
             names: IndexSet::new(alloc),
@@ -113,6 +142,7 @@ impl<'p> Checker<'p> {
             starts,
             activity: TaskId(0),
             known: Known::nothing(alloc),
+            shared: None,
             counts: Counts { ops: 0, visits: 0 },
         })
     }
@@ -225,6 +255,7 @@ impl<'p> Checker<'p> {
         ensures { OnOk result (self.new ≡ with_kept_name x.now p.0 self.old) }
     {
         let i = number(&mut self.names, x)?;
+        self.shared = None;
         lengthen_clocks(&mut self.known.clocks, i + 1)?;
         self.known.clocks[i] = Some(p);
         Ok(())
@@ -244,11 +275,20 @@ impl<'p> Checker<'p> {
         self.known.pending.mark(p, is)
     }
 
-    // The clocks of the names, in memory of their own.
-    pub(crate) fn clocks_of_names(&self, alloc: Global) -> Result<Vec<Option<PhaserId>>, AllocError>
-        ensures { IfOk result (λ clocks. clocks.items ≡ self.now.known.clocks) }
+    // The clocks of the names, as an async keeps them: those of the last one, if they are the same.
+    pub(crate) fn share(&mut self, alloc: Global) -> Result<Rc<Vec<Option<PhaserId>>>, AllocError>
+        ensures same { self.new ≡ self.old }
+        ensures clocks { IfOk result (λ rc. rc.value.items ≡ self.old.known.clocks) }
     {
-        Vec::from_slice(alloc, &self.known.clocks)
+        if let Some(clocks) = &self.shared {
+            return clocks.clone();
+        }
+        let clocks = Vec::from_slice(alloc, &self.known.clocks)?;
+        let Ok(clocks) = Rc::new(alloc, clocks) else {
+            return Err(AllocError);
+        };
+        self.shared = Some(clocks.clone()?);
+        Ok(clocks)
     }
 
     // The finish that governs the activity, if one does.
@@ -289,9 +329,10 @@ impl<'p> Checker<'p> {
     {
         let start = &self.starts[t as usize];
         let (body, before) = (start.body, start.before);
-        let known = start.known.copied(alloc)?;
+        let known = start.known(alloc)?;
         self.activity = TaskId(t);
         self.known = known;
+        self.shared = None;
         Ok((body, before))
     }
 

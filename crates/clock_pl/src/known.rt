@@ -38,18 +38,6 @@ impl Known {
             governing: Vec::new(alloc),
         }
     }
-
-    // The same in memory of its own.
-    pub(crate) fn copied(&self, alloc: Global) -> Result<Known, AllocError>
-        ensures { IfOk result (λ k. k ≡ self.now) }
-    {
-        Ok(Known {
-            clocks: Vec::from_slice(alloc, &self.clocks)?,
-            members: self.members.copied(alloc)?,
-            pending: self.pending.copied(alloc)?,
-            governing: Vec::from_slice(alloc, &self.governing)?,
-        })
-    }
 }
 
 // With nothing behind the end, up to n clocks at least.

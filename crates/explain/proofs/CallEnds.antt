@@ -1,5 +1,5 @@
 -- From what is there before anything is written to all that is said of a call.
-use Rattle.std.proofs.Common.{◌≡◌, ◌∙◌, ◌≤◌, ◌⊎◌, ℕ, Bool, true, false, Option, arith, inl, inr, refl, subst}
+use Rattle.std.proofs.Common.{◌≡◌, ◌∙◌, ◌≤◌, ◌⊎◌, ℕ, Bool, true, false, Option, arith, inl, inr, refl, subst, sym}
 use Rattle.std.specs.Prelude.{None, Some, if◌then◌else◌}
 use Rattle.std.proofs.KnownBytes.{Keeps-refl}
 use Rattle.armus_words.specs.Words.{Text}
@@ -10,8 +10,10 @@ use Rattle.armus_top.proofs.WaysToEnd.{ends_finished}
 use Rattle.armus_top.specs.inside.Status.{number_of_status}
 use Rattle.explain.specs.declared.answer.Answer.{Answer}
 use Rattle.explain.specs.Outputs.{IsExplainCall, MayWrite, text_limit}
-use Rattle.explain.specs.Requests.{Asked, explanation, help, nothing, version}
-use Rattle.explain.specs.inside.Ending.{AnswersSource}
+use Rattle.explain.specs.Requests.{Asked, explanation, help, nothing, steps, version}
+use Rattle.explain.specs.declared.answer.Wanted.{Wanted}
+use Rattle.explain.specs.declared.answer.Wanted.TheVariants.{Explanation, Steps}
+use Rattle.explain.specs.inside.Ending.{AnswersSource, asked_for}
 use Rattle.explain.proofs.Fixing.{completes}
 
 -- a status by a flag is small
@@ -24,9 +26,17 @@ at_most_three : (asked : Asked) (src : Passage) (status : ℕ) (lines : Text) �
 at_most_three (explanation file) src status lines (inl (text, has, inl is)) = (let few = small is.waits in omega (arith, is.status_is, few))
 at_most_three (explanation file) src status lines (inl (text, has, inr (three, refused))) = omega (arith, three)
 at_most_three (explanation file) src status lines (inr (much, three, line)) = omega (arith, three)
+at_most_three (steps file) src status lines (inl (text, has, inl is)) = (let few = small is.waits in omega (arith, is.status_is, few))
+at_most_three (steps file) src status lines (inl (text, has, inr (three, refused))) = omega (arith, three)
+at_most_three (steps file) src status lines (inr (much, three, line)) = omega (arith, three)
 at_most_three help src status lines is = (let zero = is.0 in omega (arith, zero))
 at_most_three version src status lines is = (let zero = is.0 in omega (arith, zero))
 at_most_three nothing src status lines is = (let two = is.0 in omega (arith, two))
+
+-- where a text is read, it has a limit
+limited : (wanted : Wanted) (file : Option Text) → text_limit (asked_for wanted file) ≡ Some MAX_TEXT_BYTES
+limited Explanation file = refl
+limited Steps file = refl
 
 -- the number after an output was to be written is its status, or 5
 status_or_five : (out : Passage) (lines : Text) (status number : ℕ) → Finished out lines status number → (number ≡ status) ⊎ (number ≡ 5)
@@ -68,41 +78,47 @@ module _ (src out : Passage) (same_source same_sink : Type 0) where
       subst (λ (a : Asked). IsExplainCall a src out same_source same_sink number) same (call_finished own lines status number may still (λ _. (source, is)) done)
 
   -- an output for what the source gave was to be written
-  pub call_answered : (file read : Option Text) (answer : Answer) (lines : Text) (number : ℕ) → read ≡ file → AnswersSource read src answer
-      → lines ≡ answer.lines → Finished out lines (number_of_status answer.status) number → IsExplainCall (explanation file) src out same_source same_sink number
-  call_answered file read answer lines number same (may, still) lines_are done =
+  pub call_answered : (wanted : Wanted) (file read : Option Text) (answer : Answer) (lines : Text) (number : ℕ) → read ≡ file
+      → AnswersSource wanted read src answer → lines ≡ answer.lines → Finished out lines (number_of_status answer.status) number
+      → IsExplainCall (asked_for wanted file) src out same_source same_sink number
+  call_answered wanted file read answer lines number same (may, still) lines_are done =
       let status = number_of_status answer.status in
-      let own : MayWrite (explanation file) src status answer.lines = subst (λ (f : Option Text). MayWrite (explanation f) src status answer.lines) same may in
+      let own : MayWrite (asked_for wanted file) src status answer.lines = subst (λ (f : Option Text). MayWrite (asked_for wanted f) src status answer.lines) same may in
       let wrote : Finished out answer.lines status number = subst (λ (t : Text). Finished out t status number) lines_are done in
-      call_finished (explanation file) answer.lines status number own still (λ none. absurd (cc)) wrote
+      call_finished (asked_for wanted file) answer.lines status number own still (λ none. absurd (let limit = limited wanted file in cc)) wrote
 
--- nothing was written, where the source failed
-pub call_failed : (src : Passage) (bytes : Option Text) (faults : ℕ) (same_source same_sink : Type 0) (file : Option Text) (number : ℕ) → number ≡ 4 → same_sink
-    → HasCountedFault src → ReadNoMore (Some MAX_TEXT_BYTES) src
-    → IsExplainCall (explanation file) src (record { before = bytes; after = bytes; faults_before = faults; faults_after = faults }) same_source same_sink number
-call_failed src bytes faults same_source same_sink file number four same failed read =
-    let out : Passage = record { before = bytes; after = bytes; faults_before = faults; faults_after = faults } in
-    let ends : EndsWith (MayWrite (explanation file) src) (Some MAX_TEXT_BYTES) false src out number = read_fault four refl failed read refl (Keeps-refl bytes) in
-    record {
-      ends = ends;
-      unread = λ none. absurd (cc);
-      silent = λ _. same;
-      unwritten = λ six. absurd (omega (arith, four, six));
-      complete = completes (explanation file) src out number ends;
-    }
+module _ (src : Passage) (bytes : Option Text) (faults : ℕ) (same_source same_sink : Type 0) (wanted : Wanted) (file : Option Text) (number : ℕ) where
+  abbrev same_out : Passage
+  same_out = record { before = bytes; after = bytes; faults_before = faults; faults_after = faults }
 
--- nor where memory was wanting
-pub call_wanting : (src : Passage) (bytes : Option Text) (faults : ℕ) (same_source same_sink : Type 0) (file : Option Text) (number : ℕ) → number ≡ 6 → IsSound src
-    → ReadNoMore (Some MAX_TEXT_BYTES) src
-    → IsExplainCall (explanation file) src (record { before = bytes; after = bytes; faults_before = faults; faults_after = faults }) same_source same_sink number
-call_wanting src bytes faults same_source same_sink file number six still read =
-    let out : Passage = record { before = bytes; after = bytes; faults_before = faults; faults_after = faults } in
-    let ends : EndsWith (MayWrite (explanation file) src) (Some MAX_TEXT_BYTES) false src out number =
-    no_memory six still read refl (inl (Keeps-refl bytes)) in
-    record {
-      ends = ends;
-      unread = λ none. absurd (cc);
-      silent = λ four. absurd (omega (arith, four, six));
-      unwritten = λ _. Keeps-refl bytes;
-      complete = completes (explanation file) src out number ends;
-    }
+  -- how it ends, by the limit of a text
+  ends_there : EndsWith (MayWrite (asked_for wanted file) src) (Some MAX_TEXT_BYTES) false src same_out number
+      → EndsWith (MayWrite (asked_for wanted file) src) (text_limit (asked_for wanted file)) false src same_out number
+  ends_there =
+      subst (λ (limit : Option ℕ). EndsWith (MayWrite (asked_for wanted file) src) limit false src same_out number) (sym (limited wanted file))
+
+  -- nothing was written, where the source failed
+  pub call_failed : number ≡ 4 → same_sink → HasCountedFault src → ReadNoMore (Some MAX_TEXT_BYTES) src
+      → IsExplainCall (asked_for wanted file) src same_out same_source same_sink number
+  call_failed four same failed read =
+      let ends = ends_there (read_fault four refl failed read refl (Keeps-refl bytes)) in
+      record {
+        ends = ends;
+        unread = λ none. absurd (let limit = limited wanted file in cc);
+        silent = λ _. same;
+        unwritten = λ six. absurd (omega (arith, four, six));
+        complete = completes (asked_for wanted file) src same_out number ends;
+      }
+
+  -- nor where memory was wanting
+  pub call_wanting : number ≡ 6 → same_sink → IsSound src → ReadNoMore (Some MAX_TEXT_BYTES) src
+      → IsExplainCall (asked_for wanted file) src same_out same_source same_sink number
+  call_wanting six same still read =
+      let ends = ends_there (no_memory six still read refl (inl (Keeps-refl bytes))) in
+      record {
+        ends = ends;
+        unread = λ none. absurd (let limit = limited wanted file in cc);
+        silent = λ four. absurd (omega (arith, four, six));
+        unwritten = λ _. (same, Keeps-refl bytes);
+        complete = completes (asked_for wanted file) src same_out number ends;
+      }

@@ -63,7 +63,7 @@ module _ (file : Option Text) (text : Text) where
         }),
       )
 
-  refused : (why : Refusal) → IsFaultOf text why → (lines : Text) × IsRefusedWith file text lines
+  pub refused : (why : Refusal) → IsFaultOf text why → (lines : Text) × IsRefusedWith file text lines
   refused (Syntax fault) is = let (lines, refuses) = some_refusal file text fault is in (lines, inl (fault, refuses))
   refused (Check fault) (program, reads, fails) =
       let (scene, is_scene) = scene_exists program fault fails in

@@ -13,9 +13,10 @@ use Rattle.armus_top.specs.declared.programs.TheConstants.{MAX_TEXT_BYTES}
 use Rattle.armus_top.proofs.Ending.{not_long, not_more, rose_from, same_input}
 use Rattle.armus_top.proofs.OnePlan.{checked_plan, one_plan, plan_or_fault}
 use Rattle.explain.specs.Explained.{EndsSo, IsExplanationOf, IsRunOf, WaitsIn}
-use Rattle.explain.specs.Outputs.{AnswersText, FixesStatus, IsStatusOf, MayWrite, text_limit}
+use Rattle.explain.specs.Outputs.{AnswersSteps, AnswersText, FixesStatus, FixesTextStatus, IsStatusOf, MayAnswer, MayWrite, text_limit}
+use Rattle.explain.specs.Stepped.{AreStepsOf}
 use Rattle.explain.specs.Refused.{HasSomeFault, IsRefusedWith}
-use Rattle.explain.specs.Requests.{Asked, explanation, help, nothing, version}
+use Rattle.explain.specs.Requests.{Asked, explanation, help, nothing, steps, version}
 use Rattle.explain.proofs.Waiting.{tells_waiting}
 
 -- a text that is refused with some lines has a fault
@@ -32,12 +33,12 @@ ends_or_fault : (text : Text) (Holds : State → Type 0) → EndsSo text Holds �
 ends_or_fault text Holds is (why, fault) = (let (program, checked) = is.ended.plan_is in plan_or_fault text why program is.plan fault checked)
 
 -- all runs of a text end in one state
-one_state : (text : Text) (Holds : State → Type 0) (plan : Plan) (steps : List Step) → IsRunOf text plan steps → EndsSo text Holds → Holds (state_after steps)
-one_state text Holds plan steps one is =
+one_state : (text : Text) (Holds : State → Type 0) (plan : Plan) (h : List Step) → IsRunOf text plan h → EndsSo text Holds → Holds (state_after h)
+one_state text Holds plan h one is =
     let plans : is.plan ≡ plan = one_plan text is.plan plan is.ended.plan_is one.plan_is in
     let run : IsPlainRun plan is.steps = subst (λ (q : Plan). IsPlainRun q is.steps) plans is.ended.run in
     let maximal : IsMaximal plan is.steps = subst (λ (q : Plan). IsMaximal q is.steps) plans is.ended.maximal in
-    let ends = one_end plan is.steps steps (checked_plan text plan one.plan_is) run one.run maximal one.maximal in
+    let ends = one_end plan is.steps h (checked_plan text plan one.plan_is) run one.run maximal one.maximal in
     subst Holds ends.1 is.holds
 
 module _ (file : Option Text) (text : Text) (number : ℕ) (lines : Text) where
@@ -86,16 +87,41 @@ module _ (file : Option Text) (text : Text) (number : ℕ) (lines : Text) where
   status_of_text (inl is) = explained_status is is.waits is.status_is (tells_waiting file text is.plan is.steps lines is.waits is.ended is.explains)
   status_of_text (inr (three, refused)) = refused_status three refused
 
+-- steps end with an explanation
+pub steps_explained : (file : Option Text) (text : Text) (status : ℕ) (lines : Text) → (is : AreStepsOf file text status lines)
+    → IsExplanationOf file text status is.explanation
+steps_explained file text status lines is = record {
+  plan = is.plan;
+  steps = is.steps;
+  ended = is.ended;
+  waits = is.waits;
+  explains = is.explains;
+  status_is = is.status_is;
+}
+
+-- so their status is that of the explanation
+status_of_steps : (file : Option Text) (text : Text) (number : ℕ) (lines : Text) → AnswersSteps file text number lines → IsStatusOf text number
+status_of_steps file text number lines (inl is) = status_of_text file text number is.explanation (inl (steps_explained file text number lines is))
+status_of_steps file text number lines (inr refused) = status_of_text file text number lines (inr refused)
+
 module _ (src : Passage) where
-  fixed : (asked : Asked) (number : ℕ) (lines : Text) → MayWrite asked src number lines → FixesStatus asked src number
-  fixed (explanation file) number lines (inl (read, has, is)) = (
-    λ text offers. subst (λ (t : Text). IsStatusOf t number) (sym (same_input (Some MAX_TEXT_BYTES) src text read offers has)) (status_of_text file read number lines is),
+  -- a text that is answered with a status fixes this
+  text_fixed : (file : Option Text) (Answers : Text → ℕ → Text → Type 0) (number : ℕ) (lines : Text)
+      → ((text : Text) → Answers text number lines → IsStatusOf text number) → MayAnswer file Answers src number lines → FixesTextStatus src number
+  text_fixed file Answers number lines tells (inl (read, has, is)) = (
+    λ text offers. subst (λ (t : Text). IsStatusOf t number) (sym (same_input (Some MAX_TEXT_BYTES) src text read offers has)) (tells read is),
     λ more. absurd (not_long (Some MAX_TEXT_BYTES) src read more has),
   )
-  fixed (explanation file) number lines (inr (much, three, line)) = (
+  text_fixed file Answers number lines tells (inr (much, three, line)) = (
     λ text offers. absurd (not_more (Some MAX_TEXT_BYTES) src text offers much),
     λ more. three,
   )
+
+  fixed : (asked : Asked) (number : ℕ) (lines : Text) → MayWrite asked src number lines → FixesStatus asked src number
+  fixed (explanation file) number lines may =
+      text_fixed file (AnswersText file) number lines (λ text is. status_of_text file text number lines is) may
+  fixed (steps file) number lines may =
+      text_fixed file (AnswersSteps file) number lines (λ text is. status_of_steps file text number lines is) may
   fixed help number lines is = is.0
   fixed version number lines is = is.0
   fixed nothing number lines is = is.0

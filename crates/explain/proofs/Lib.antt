@@ -1,6 +1,11 @@
 pub mod EndExplained
+pub mod EndStepped
 pub mod Waiting
 pub mod Fixing
 pub mod CallEnds
 pub mod OneOutput
 pub mod EachText
+pub mod Agreement
+pub mod SourceAnswers
+pub mod OneStepsOutput
+pub mod EachSteps

@@ -20,7 +20,7 @@ use Rattle.explain.proofs.Fixing.{explained_or_fault, refused_has}
 one_status : (x y : Bool) (status other : ℕ) → status ≡ (if x then 1 else 0) → other ≡ (if y then 1 else 0) → x ≡ y → status ≡ other
 one_status x y status other is are same = is ∙ ap (λ (w : Bool). if w then 1 else 0) same ∙ sym are
 
-one_explained : (file : Option Text) (text : Text) (status other : ℕ) (lines others : Text) → IsExplanationOf file text status lines
+pub one_explained : (file : Option Text) (text : Text) (status other : ℕ) (lines others : Text) → IsExplanationOf file text status lines
     → IsExplanationOf file text other others → (status ≡ other) × (lines ≡ others)
 one_explained file text status other lines others a b =
     let plans : b.plan ≡ a.plan = one_plan text b.plan a.plan b.ended.plan_is a.ended.plan_is in
@@ -36,7 +36,7 @@ one_explained file text status other lines others a b =
       same.0,
     )
 
-one_refused : (file : Option Text) (text lines others : Text) → IsRefusedWith file text lines → IsRefusedWith file text others → lines ≡ others
+pub one_refused : (file : Option Text) (text lines others : Text) → IsRefusedWith file text lines → IsRefusedWith file text others → lines ≡ others
 one_refused file text lines others (inl (f, a)) (inl (g, b)) = one_syntax_refusal file text f g lines others a b
 one_refused file text lines others (inl (f, a)) (inr (q, b)) = absurd (text_or_fault text q f b.reads a.is_stand.found)
 one_refused file text lines others (inr (p, a)) (inl (g, b)) = absurd (text_or_fault text p g a.reads b.is_stand.found)

@@ -2,9 +2,11 @@
 pub mod Requests
 pub mod Requested
 pub mod Explained
+pub mod Stepped
 pub mod Refused
 pub mod Outputs
 -- What is proved of it.
 pub mod Laws
+pub mod Agreement
 -- How the program does it.
 pub mod inside

@@ -6,19 +6,30 @@ use Rattle.armus_words.specs.Words.{Text}
 use Rattle.armus_top.specs.Headline.{EndsWith, GaveTooMuch, HasInput, IsCalm, Offers, OffersTooMuch, Passage}
 use Rattle.armus_top.specs.declared.programs.TheConstants.{MAX_TEXT_BYTES}
 use Rattle.explain.specs.Explained.{IsExplanationOf, NobodyWaits, SomebodyWaits}
+use Rattle.explain.specs.Stepped.{AreStepsOf}
 use Rattle.explain.specs.Refused.{HasSomeFault, IsRefusedWith}
-use Rattle.explain.specs.Requests.{Asked, explanation, help, help_lines, nothing, usage_line, version, version_line}
+use Rattle.explain.specs.Requests.{Asked, explanation, help, help_lines, nothing, steps, usage_line, version, version_line}
 
 -- a whole output for this text, of the file with this name or of none, with its status: 0 or 1 with its explanation, or 3 with the lines of a refusal
 abbrev pub AnswersText : Option Text → Text → ℕ → Text → Type 0
 AnswersText file text status lines = IsExplanationOf file text status lines ⊎ ((status ≡ 3) × IsRefusedWith file text lines)
 
--- What may be written, with which status, where this is asked for. For an explanation: the output of the text that the source has given, or, where it gives
--- more than a text may have, 3 with one line. The lines of help and of the version with 0, and the line of usage with 2.
-abbrev pub MayWrite : Asked → Passage → ℕ → Text → Type 0
-MayWrite (explanation file) src status lines =
-    ((text : Text) × HasInput (Some MAX_TEXT_BYTES) src text × AnswersText file text status lines)
+-- the same where the steps of the text's run are wanted: 0 or 1 with them and with its explanation, or 3 with the lines of a refusal
+abbrev pub AnswersSteps : Option Text → Text → ℕ → Text → Type 0
+AnswersSteps file text status lines = AreStepsOf file text status lines ⊎ ((status ≡ 3) × IsRefusedWith file text lines)
+
+-- what may be written where a text is read that is answered so: the output of the text that the source has given, or, where it gives more than a text may have, 3
+-- with one line
+abbrev pub MayAnswer : Option Text → (Text → ℕ → Text → Type 0) → Passage → ℕ → Text → Type 0
+MayAnswer file Answers src status lines =
+    ((text : Text) × HasInput (Some MAX_TEXT_BYTES) src text × Answers text status lines)
     ⊎ (GaveTooMuch (Some MAX_TEXT_BYTES) src × (status ≡ 3) × (lines ≡ length_refusal file))
+
+-- What may be written, with which status, where this is asked for. For an explanation and for steps: such an output. The lines of help and of the version with 0,
+-- and the line of usage with 2.
+abbrev pub MayWrite : Asked → Passage → ℕ → Text → Type 0
+MayWrite (explanation file) src status lines = MayAnswer file (AnswersText file) src status lines
+MayWrite (steps file) src status lines = MayAnswer file (AnswersSteps file) src status lines
 MayWrite help src status lines = (status ≡ 0) × (lines ≡ help_lines)
 MayWrite version src status lines = (status ≡ 0) × (lines ≡ version_line)
 MayWrite nothing src status lines = (status ≡ 2) × (lines ≡ usage_line)
@@ -26,6 +37,7 @@ MayWrite nothing src status lines = (status ≡ 2) × (lines ≡ usage_line)
 -- the most bytes of a text, where one is read
 abbrev pub text_limit : Asked → Option ℕ
 text_limit (explanation file) = Some MAX_TEXT_BYTES
+text_limit (steps file) = Some MAX_TEXT_BYTES
 text_limit asked = None
 
 -- the status of a text that is not too long: 3 exactly where it is refused, 1 exactly where a task of its final state waits, and 0 exactly where none does
@@ -34,19 +46,24 @@ pub record IsStatusOf (text : Text) (number : ℕ) : Type 0 where
   pub somebody : (number ≡ 1) ↔ SomebodyWaits text
   pub nobody : (number ≡ 0) ↔ NobodyWaits text
 
+-- where the source tells its bytes, these fix the status of what is told of them as a text
+abbrev pub FixesTextStatus : Passage → ℕ → Type 0
+FixesTextStatus src number =
+    ((text : Text) → Offers (Some MAX_TEXT_BYTES) src text → IsStatusOf text number) × (OffersTooMuch (Some MAX_TEXT_BYTES) src → number ≡ 3)
+
 -- where this is asked for, and the source tells its bytes, these fix the status
 abbrev pub FixesStatus : Asked → Passage → ℕ → Type 0
-FixesStatus (explanation file) src number =
-    ((text : Text) → Offers (Some MAX_TEXT_BYTES) src text → IsStatusOf text number) × (OffersTooMuch (Some MAX_TEXT_BYTES) src → number ≡ 3)
+FixesStatus (explanation file) src number = FixesTextStatus src number
+FixesStatus (steps file) src number = FixesTextStatus src number
 FixesStatus help src number = number ≡ 0
 FixesStatus version src number = number ≡ 0
 FixesStatus nothing src number = number ≡ 2
 
 -- All that is said of a call: how it ends; that the source stays as it was where nothing is to be read, and then memory suffices and no source fails; that
--- the sink stays as it was after a fault of the source, and takes nothing where memory is wanting; and its status, where nothing failed.
+-- the sink stays as it was after a fault of the source, and where memory is wanting; and its status, where nothing failed.
 pub record IsExplainCall (asked : Asked) (src out : Passage) (same_source same_sink : Type 0) (number : ℕ) : Type 0 where
   pub ends : EndsWith (MayWrite asked src) (text_limit asked) false src out number
   pub unread : text_limit asked ≡ None → same_source × ((number ≡ 0) ⊎ (number ≡ 2) ⊎ (number ≡ 5))
   pub silent : number ≡ 4 → same_sink
-  pub unwritten : number ≡ 6 → Keeps out.before out.after
+  pub unwritten : number ≡ 6 → same_sink × Keeps out.before out.after
   pub complete : IsCalm src out number → FixesStatus asked src number

@@ -2,7 +2,7 @@
 use Rattle.std.specs.Prelude.{Option, option_map}
 use Rattle.std.specs.Borrow.{Bor}
 use Rattle.armus_words.specs.Words.{Text}
-use Rattle.explain.specs.Requests.{Asked, explanation, help, nothing, version}
+use Rattle.explain.specs.Requests.{Asked, explanation, help, nothing, steps, version}
 use Rattle.explain.specs.declared.request.Request as request
 use Rattle.explain.specs.declared.request.Request.TheVariants as r
 
@@ -13,6 +13,7 @@ named file = option_map (λ f. f.now) file
 -- what the request asks for
 abbrev pub requested : request.Request → Asked
 requested (r.Explain file) = explanation (named file)
+requested (r.Steps file) = steps (named file)
 requested r.Help = help
 requested r.Version = version
 requested r.Usage = nothing

@@ -4,9 +4,11 @@ use Rattle.std.specs.Str.{bytes_eq}
 use Rattle.pl_syntax.specs.Printed.{line}
 use Rattle.armus_words.specs.Words.{Text}
 
--- what may be asked for: to explain a text, of the file with this name or of standard input; the lines of help; the line of the version; or nothing
+-- what may be asked for: to explain a text, of the file with this name or of standard input; to show the steps of its run before; the lines of help; the line of
+-- the version; or nothing
 pub data Asked : Type 0 where
   explanation : Option Text → Asked
+  steps : Option Text → Asked
   help : Asked
   version : Asked
   nothing : Asked
@@ -16,26 +18,28 @@ abbrev pub names_file : Text → Bool
 names_file [] = false
 names_file (first ∷ more) = not (first == 45)
 
--- what a word asks for that stands where a file is named
-abbrev pub file_asked : Text → Asked
-file_asked word = if names_file word then explanation (Some word) else nothing
+-- what a word asks for that stands where the file is named of which this is wanted
+abbrev pub file_asked : (Option Text → Asked) → Text → Asked
+file_asked wanted word = if names_file word then wanted (Some word) else nothing
 
 -- what one word asks for
 abbrev pub word_asked : Text → Asked
 word_asked word =
     if bytes_eq word (codes "run") then explanation None
-    else (if bytes_eq word (codes "--help") then help else (if bytes_eq word (codes "--version") then version else file_asked word))
+    else (if bytes_eq word (codes "steps") then steps None
+    else (if bytes_eq word (codes "--help") then help else (if bytes_eq word (codes "--version") then version else file_asked explanation word)))
 
 -- what the words ask for
 abbrev pub asked : List Text → Asked
 asked [] = explanation None
 asked (word ∷ []) = word_asked word
-asked (word ∷ file ∷ []) = if bytes_eq word (codes "run") then file_asked file else nothing
+asked (word ∷ file ∷ []) =
+    if bytes_eq word (codes "run") then file_asked explanation file else (if bytes_eq word (codes "steps") then file_asked steps file else nothing)
 asked words = nothing
 
 -- the line of usage
 abbrev pub usage_line : Text
-usage_line = line (codes "usage: armus_explain [run] [FILE]")
+usage_line = line (codes "usage: armus_explain [run|steps] [FILE]")
 
 -- the lines of help
 abbrev pub help_lines : Text
@@ -43,6 +47,8 @@ help_lines =
     usage_line
     ++ line (codes "Reads a PL text from FILE, or from standard input where there is none, and tells")
     ++ line (codes "which of its tasks wait for ever, where, for whom, and why.")
+    ++ line (codes "With steps it first shows the run in which the task with the least number that may")
+    ++ line (codes "go on makes the next step: a line for each step, and at most 10000 of them.")
     ++ line (codes "A text that is refused gets the place of its first fault and what is wrong there.")
     ++ line (codes "Status: 0 nobody waits for ever, 1 somebody does, 2 other words than these,")
     ++ line (codes "3 the text is refused, 4 it cannot be read, 5 it cannot be written, 6 no memory.")

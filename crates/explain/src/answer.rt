@@ -11,6 +11,15 @@ pub(crate) struct Answer {
     pub(crate) status: ExitStatus,
 }
 
+/// Which output is wanted of a text.
+#[derive(Clone, Copy, Debug, PartialEq, Eq)]
+pub(crate) enum Wanted {
+    /// Its explanation.
+    Explanation,
+    /// The steps of its run, and then its explanation.
+    Steps,
+}
+
 /// Why there is no output.
 #[derive(Clone, Copy, Debug, PartialEq, Eq)]
 pub(crate) enum AnswerEnd {

@@ -1,5 +1,7 @@
 // The whole output for a text, in memory.
-ghost use Rattle.std.specs.Prelude.{◌≡◌, ◌≤◌, IfErr, IfOk, length};
+ghost use Rattle.std.specs.Prelude.{◌≡◌, ◌≤◌, IfErr, IfOk, Ok, length};
+ghost use Rattle.pl_plan.specs.Forks.{fork_statements};
+ghost use Rattle.pl_plan.specs.Unfolding.{plan_of};
 ghost use Rattle.pl_syntax.specs.Grammar.{IsText};
 ghost use Rattle.pl_syntax.specs.Tree.{count};
 ghost use Rattle.armus_top.specs.Headline.{passage};
@@ -7,19 +9,43 @@ ghost use Rattle.armus_top.specs.declared.programs.TheConstants.{MAX_TEXT_BYTES}
 ghost use Rattle.explain.specs.inside.Ending.{AnswersSource, EndsUnanswered, IsAnswerTo};
 ghost use Rattle.explain.specs.Requested.{named};
 
-use crate::answer::{Answer, AnswerEnd};
+use crate::answer::{Answer, AnswerEnd, Wanted};
 use crate::explaining::explain_unfolded;
 use crate::refusing::{refuse_check, refuse_length, refuse_syntax};
+use crate::showing::step_unfolded;
 use armus_base::{NoMemory, ReadEnd, Source, read_all};
 use armus_top::MAX_TEXT_BYTES;
-use pl_plan::{PlanEnd, unfold};
+use pl_plan::{PlanEnd, Unfolded, unfold};
 use pl_syntax::{ParseEnd, Program, parse};
 use std::alloc::Global;
 use text_places::TextPlaces;
 
+// The whole output for the text of this program, which unfolds to this plan.
+fn answer_unfolded(
+    alloc: Global,
+    wanted: Wanted,
+    places: &TextPlaces,
+    file: Option<&[u8]>,
+    program: &Program,
+    unfolded: Unfolded,
+) -> Result<Answer, NoMemory>
+    requires short { length places.now ≤ MAX_TEXT_BYTES }
+    requires few { count program.now.body ≤ length places.now }
+    requires reads { IsText places.now program.now }
+    requires plan { plan_of program.now ≡ Ok unfolded.plan }
+    requires forks { unfolded.forks.items ≡ fork_statements program.now }
+    ensures answers { IfOk result (IsAnswerTo wanted (named file.entry) places.now) }
+{
+    match wanted {
+        Wanted::Explanation => explain_unfolded(alloc, places, file, program, unfolded),
+        Wanted::Steps => step_unfolded(alloc, places, file, program, unfolded),
+    }
+}
+
 // The whole output for the text of this program.
 fn answer_program(
     alloc: Global,
+    wanted: Wanted,
     text: &[u8],
     places: TextPlaces,
     file: Option<&[u8]>,
@@ -29,23 +55,28 @@ fn answer_program(
     requires places { places ≡ text.now }
     requires few { count program.now.body ≤ length text.now }
     requires reads { IsText text.now program.now }
-    ensures answers { IfOk result (IsAnswerTo (named file.entry) text.now) }
+    ensures answers { IfOk result (IsAnswerTo wanted (named file.entry) text.now) }
 {
     match unfold(alloc, program) {
-        Ok(unfolded) => explain_unfolded(alloc, &places, file, program, unfolded),
+        Ok(unfolded) => answer_unfolded(alloc, wanted, &places, file, program, unfolded),
         Err(PlanEnd::Check(_)) => refuse_check(alloc, text, places, file, program),
         Err(PlanEnd::NoMemory) => Err(NoMemory),
     }
 }
 
 // The whole output for a text.
-fn answer_text(alloc: Global, file: Option<&[u8]>, text: &[u8]) -> Result<Answer, NoMemory>
+fn answer_text(
+    alloc: Global,
+    wanted: Wanted,
+    file: Option<&[u8]>,
+    text: &[u8],
+) -> Result<Answer, NoMemory>
     requires short { length text.now ≤ MAX_TEXT_BYTES }
-    ensures answers { IfOk result (IsAnswerTo (named file.entry) text.now) }
+    ensures answers { IfOk result (IsAnswerTo wanted (named file.entry) text.now) }
 {
     let places = TextPlaces::new(alloc, text)?;
     match parse(alloc, text) {
-        Ok(program) => answer_program(alloc, text, places, file, &program),
+        Ok(program) => answer_program(alloc, wanted, text, places, file, &program),
         Err(ParseEnd::Syntax(fault)) => refuse_syntax(alloc, text, &places, file, fault),
         Err(ParseEnd::NoMemory) => Err(NoMemory),
     }
@@ -54,15 +85,16 @@ fn answer_text(alloc: Global, file: Option<&[u8]>, text: &[u8]) -> Result<Answer
 /// The whole output for what the source gives, the text of a file with this name or of none, or why there is none.
 pub(crate) fn answer_source<S: Source>(
     alloc: Global,
+    wanted: Wanted,
     file: Option<&[u8]>,
     src: &mut S,
 ) -> Result<Answer, AnswerEnd>
-    ensures answers { IfOk result (AnswersSource (named file.entry) (passage S.left S.faults src.old src.new)) }
+    ensures answers { IfOk result (AnswersSource wanted (named file.entry) (passage S.left S.faults src.old src.new)) }
     ensures ends { IfErr result (EndsUnanswered (passage S.left S.faults src.old src.new)) }
 {
     match read_all(alloc, src, MAX_TEXT_BYTES) {
         Ok(text) => {
-            let answer = answer_text(alloc, file, text.as_slice())?;
+            let answer = answer_text(alloc, wanted, file, text.as_slice())?;
             Ok(answer)
         }
         Err(ReadEnd::TooLong) => {

@@ -17,8 +17,8 @@ use explained_tasks::explanation_of;
 use pl_plan::Unfolded;
 use pl_syntax::Program;
 use std::alloc::Global;
-use task_runner::run_to_world;
 use text_places::TextPlaces;
+use world_runs::run_to_world;
 
 /// The explanation of the text with these places and this program, which unfolds to this plan.
 pub(crate) fn explain_unfolded(

@@ -8,7 +8,7 @@ ghost use Rattle.pl_syntax.specs.Tree.{count};
 ghost use Rattle.refusals.specs.LengthRefusals.{length_refusal};
 ghost use Rattle.armus_top.specs.declared.programs.TheConstants.{MAX_TEXT_BYTES};
 ghost use Rattle.armus_top.specs.inside.Status.{number_of_status};
-ghost use Rattle.explain.specs.inside.Ending.{IsAnswerTo};
+ghost use Rattle.explain.specs.inside.Ending.{IsRefusalOf};
 ghost use Rattle.explain.specs.Requested.{named};
 
 use crate::answer::Answer;
@@ -51,7 +51,7 @@ pub(crate) fn refuse_syntax(
     requires short { length text.now ≤ MAX_TEXT_BYTES }
     requires places { places.now ≡ text.now }
     requires fault { HasFault text.now fault }
-    ensures answers { IfOk result (IsAnswerTo (named file.entry) text.now) }
+    ensures refusal { IfOk result (IsRefusalOf (named file.entry) text.now) }
 {
     Ok(refused(syntax_refusal(alloc, text, places, file, fault)?))
 }
@@ -69,7 +69,7 @@ fn refuse_scene(
     requires places { places ≡ text.now }
     requires reads { IsText text.now program.now }
     requires scene { IsScene program.now scene.now }
-    ensures answers { IfOk result (IsAnswerTo (named file.entry) text.now) }
+    ensures refusal { IfOk result (IsRefusalOf (named file.entry) text.now) }
 {
     let offsets = statement_offsets(alloc, text, program)?;
     let statements = Statements {
@@ -94,7 +94,7 @@ pub(crate) fn refuse_check(
     requires few { count program.now.body ≤ length text.now }
     requires reads { IsText text.now program.now }
     requires fails { (fault : Fault) × (plan_of program.now ≡ Err fault) }
-    ensures answers { IfOk result (IsAnswerTo (named file.entry) text.now) }
+    ensures refusal { IfOk result (IsRefusalOf (named file.entry) text.now) }
 {
     match scene_of(alloc, program)? {
         Some(scene) => refuse_scene(alloc, text, places, file, program, &scene),

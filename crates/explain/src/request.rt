@@ -1,9 +1,11 @@
 // What the words ask for.
 ghost use Rattle.std.specs.Prelude.{◌≡◌, [], ◌∷◌, map, string_bytes};
-ghost use Rattle.explain.specs.Requests.{asked, file_asked, names_file, word_asked};
+ghost use Rattle.explain.specs.Requests.{asked, explanation, file_asked, names_file, steps, word_asked};
 ghost use Rattle.explain.specs.Requested.{requested};
 
 const RUN: &str = "run";
+
+const STEPS: &str = "steps";
 
 const HELP: &str = "--help";
 
@@ -14,6 +16,8 @@ const VERSION: &str = "--version";
 pub enum Request<'w> {
     /// To explain a text, from the file with this name, or from standard input.
     Explain(Option<&'w str>),
+    /// To show its run step by step, and to explain it, likewise.
+    Steps(Option<&'w str>),
     /// The lines of help.
     Help,
     /// The line of the version.
@@ -32,12 +36,23 @@ fn names_file(word: &str) -> bool
     }
 }
 
-// What a word asks for that can only be the name of a file.
+// What a word asks for that can only be the name of a file to be explained.
 fn file_or_usage(word: &str) -> Request<'_>
-    ensures { requested result ≡ file_asked word.now }
+    ensures { requested result ≡ file_asked explanation word.now }
 {
     if names_file(word) {
         Request::Explain(Some(word))
+    } else {
+        Request::Usage
+    }
+}
+
+// What a word asks for that can only be the name of a file of which the steps are asked for.
+fn steps_or_usage(word: &str) -> Request<'_>
+    ensures { requested result ≡ file_asked steps word.now }
+{
+    if names_file(word) {
+        Request::Steps(Some(word))
     } else {
         Request::Usage
     }
@@ -49,6 +64,9 @@ fn word_request(word: &str) -> Request<'_>
 {
     if word == RUN {
         return Request::Explain(None);
+    }
+    if word == STEPS {
+        return Request::Steps(None);
     }
     if word == HELP {
         return Request::Help;
@@ -64,7 +82,10 @@ fn words_request<'w>(word: &'w str, file: &'w str) -> Request<'w>
     ensures { requested result ≡ asked (word.now ∷ file.now ∷ []) }
 {
     if word == RUN {
-        file_or_usage(file)
+        return file_or_usage(file);
+    }
+    if word == STEPS {
+        steps_or_usage(file)
     } else {
         Request::Usage
     }

@@ -3,24 +3,27 @@ ghost use Rattle.std.specs.Prelude.{◌≡◌, map, string_bytes};
 ghost use Rattle.armus_top.specs.Headline.{passage};
 ghost use Rattle.armus_top.specs.inside.Status.{number_of_status};
 ghost use Rattle.explain.specs.Outputs.{IsExplainCall};
-ghost use Rattle.explain.specs.Requests.{asked, explanation};
+ghost use Rattle.explain.specs.Requests.{asked};
+ghost use Rattle.explain.specs.inside.Ending.{asked_for};
 ghost use Rattle.explain.specs.Requested.{named};
 
-use crate::answer::AnswerEnd;
+use crate::answer::{AnswerEnd, Wanted};
 use crate::answering::answer_source;
 use crate::request::{Request, request_of};
 use armus_base::{Sink, Source};
 use armus_top::{ExitStatus, finish};
 use std::alloc::Global;
 
-const USAGE: &str = "usage: armus_explain [run] [FILE]\n";
+const USAGE: &str = "usage: armus_explain [run|steps] [FILE]\n";
 
 const VERSION: &str = "armus_explain 1.0.0\n";
 
 const HELP: &str = "\
-usage: armus_explain [run] [FILE]
+usage: armus_explain [run|steps] [FILE]
 Reads a PL text from FILE, or from standard input where there is none, and tells
 which of its tasks wait for ever, where, for whom, and why.
+With steps it first shows the run in which the task with the least number that may
+go on makes the next step: a line for each step, and at most 10000 of them.
 A text that is refused gets the place of its first fault and what is wrong there.
 Status: 0 nobody waits for ever, 1 somebody does, 2 other words than these,
 3 the text is refused, 4 it cannot be read, 5 it cannot be written, 6 no memory.
@@ -39,14 +42,15 @@ fn name_bytes(file: Option<&str>) -> Option<&[u8]>
 // Writes the explanation or the refusal of what the source gives.
 fn explain_source<S: Source, K: Sink>(
     alloc: Global,
+    wanted: Wanted,
     file: Option<&str>,
     src: &mut S,
     out: &mut K,
 ) -> ExitStatus
-    ensures call { IsExplainCall (explanation (named file.entry)) (passage S.left S.faults src.old src.new) (passage K.taken K.faults out.old out.new)
+    ensures call { IsExplainCall (asked_for wanted (named file.entry)) (passage S.left S.faults src.old src.new) (passage K.taken K.faults out.old out.new)
         (src.new ≡ src.old) (out.new ≡ out.old) (number_of_status result) }
 {
-    match answer_source(alloc, name_bytes(file), src) {
+    match answer_source(alloc, wanted, name_bytes(file), src) {
         Ok(answer) => finish(out, answer.lines.as_slice(), answer.status),
         Err(AnswerEnd::Fault) => ExitStatus::ReadFailed,
         Err(AnswerEnd::NoMemory) => ExitStatus::OutOfMemory,
@@ -57,7 +61,8 @@ fn explain_source<S: Source, K: Sink>(
 ///
 /// Where the words ask for an explanation, it reads a text of at most `MAX_TEXT_BYTES` bytes from `src`, which is the file that the words name, or else
 /// standard input. It runs the text's plan to its end, writes the explanation of how its tasks stand there to `out`, and answers 0 where no task waits and 1
-/// where one does. Of a text that is refused, or too long, it writes why and where, and answers 3. It writes the lines of help or of the version and answers
+/// where one does. Where they ask for steps, it writes a line for each of the first steps of the serial plain run before. Of a text that is refused, or too
+/// long, it writes why and where, and answers 3. It writes the lines of help or of the version and answers
 /// 0, where the words ask for them, and for all other words the line of usage, and answers 2; nothing is read then. It answers 4 and 5 where the source or the
 /// sink failed, and 6 for want of memory; after 4 and 6 nothing was written, and after 5 at most first bytes were.
 pub fn explain<S: Source, K: Sink>(alloc: Global, words: &[String], src: &mut S, out: &mut K) -> u8
@@ -65,7 +70,10 @@ pub fn explain<S: Source, K: Sink>(alloc: Global, words: &[String], src: &mut S,
         (src.new ≡ src.old) (out.new ≡ out.old) result }
 {
     match request_of(words) {
-        Request::Explain(file) => explain_source(alloc, file, src, out).code(),
+        Request::Explain(file) => {
+            explain_source(alloc, Wanted::Explanation, file, src, out).code()
+        }
+        Request::Steps(file) => explain_source(alloc, Wanted::Steps, file, src, out).code(),
         Request::Help => finish(out, HELP.as_bytes(), ExitStatus::NoDeadlock).code(),
         Request::Version => finish(out, VERSION.as_bytes(), ExitStatus::NoDeadlock).code(),
         Request::Usage => finish(out, USAGE.as_bytes(), ExitStatus::Usage).code(),

@@ -1,3 +1,6 @@
+mod TaskBits
+mod WordBits
+mod RowBits
 mod ListPairs
 mod TaskRows
 mod Climbing
@@ -8,4 +11,5 @@ pub mod Sending
 mod OrderRows
 mod MendedLists
 mod MendedOrders
-mod PairEdges
+pub mod PairEdges
+mod WaitSets

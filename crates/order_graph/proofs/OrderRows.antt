@@ -1,36 +1,20 @@
 -- One row of an order's successors is replaced.
 use Rattle.std.proofs.Common.{◌≡◌, ℕ, ◌<◌, List, [], length, refl, sym, ap, ◌∙◌, subst, ◌⊎◌, inl, inr, arith, get_or, set, length-set, get_or-set_same, get_or-set_other}
-use Rattle.std.specs.Prelude.{Contains, ◌↔◌, All, Vec, OnErr, Result, Ok, Err}
-use Rattle.std.specs.Global.{Global}
+use Rattle.std.specs.Prelude.{Contains, ◌↔◌, All, OnErr, Result, Ok, Err}
 use Rattle.std.proofs.lemmas.Bool.{cases_eq}
-use Rattle.std.proofs.lemmas.List.{length-map, map-set, set-get_or}
+use Rattle.std.proofs.lemmas.List.{get_or_default, set-get_or}
 use Rattle.std.proofs.lemmas.List.Elements.{All-set, Contains-get_or}
 use Rattle.armus_base.specs.declared.ids.TaskId.{TaskId}
-use Rattle.dep_state.specs.Deps.{rows_of}
 use Rattle.dep_state.specs.Picks.{Ascend}
 use Rattle.dep_state.proofs.DeadSets.{same_task}
-use Rattle.dep_state.proofs.TaskPlaces.{row_at}
 use Rattle.order_graph.specs.Adding.{HasEdgeMore, HasNoEdge}
 use Rattle.order_graph.specs.Orders.{OrderValue, IsEdge, IsOrder, IsTaskOf, position_of, successors_of}
 use Rattle.order_graph.specs.inside.Rows.{KeepsOnly, order_of}
-use Rattle.order_graph.proofs.Climbing.{climbs, row_ascends, to_task}
+use Rattle.order_graph.proofs.Climbing.{climbs, to_task}
 
 -- the order with this row of successors of a
 abbrev pub with_row : OrderValue → TaskId → List TaskId → OrderValue
 with_row o a row = record { edges = set o.edges a.0 row; positions = o.positions }
-
--- one row of the memory is replaced
-module _ (rows : List (Vec TaskId Global)) (positions : List ℕ) (a : TaskId) (old new : Vec TaskId Global) (lt : a.0 < length rows) (was : old ≡ get_or rows a.0 old) where
-  pub old_row : successors_of (order_of rows positions) a ≡ old.items
-  old_row = row_at rows a.0 old lt was
-
-  pub order_set : order_of (set rows a.0 new) positions ≡ with_row (order_of rows positions) a new.items
-  order_set = ap (λ (e : List (List TaskId)). let o : OrderValue = record { edges = e; positions = positions } in o) (map-set (λ r. r.items) rows a.0 new)
-
-  pub order_same : new.items ≡ old.items → order_of (set rows a.0 new) positions ≡ order_of rows positions
-  order_same e =
-      ap (λ (e : List (List TaskId)). let o : OrderValue = record { edges = e; positions = positions } in o) (
-      map-set (λ r. r.items) rows a.0 new ∙ ap (set (rows_of rows) a.0) (e ∙ sym old_row) ∙ set-get_or (rows_of rows) a.0 [])
 
 module _ (o : OrderValue) (ok : IsOrder o) (a : TaskId) (task : IsTaskOf o a) (row : List TaskId) where
   row_here : a.0 < length o.edges
@@ -132,49 +116,42 @@ module _ (o : OrderValue) (ok : IsOrder o) (a : TaskId) (task : IsTaskOf o a) (r
   keep_edges wanted fewer = record { positions = refl; edges = row_fewer (Contains wanted) fewer }
 
 -- the same of an order in memory
-module _ (rows : List (Vec TaskId Global)) (positions : List ℕ) (a : TaskId) (old : Vec TaskId Global) (ok : IsOrder (order_of rows positions))
+module _ (rows : List (List TaskId)) (positions : List ℕ) (a : TaskId) (old : List TaskId) (ok : IsOrder (order_of rows positions))
     (task : IsTaskOf (order_of rows positions) a) (was : old ≡ get_or rows a.0 old) where
   in_rows : a.0 < length rows
-  in_rows = omega (arith, task, ok.sized, length-map rows (λ r. r.items))
+  in_rows = omega (arith, task, ok.sized)
 
-  pub is_row : successors_of (order_of rows positions) a ≡ old.items
-  is_row = old_row rows positions a old old in_rows was
+  pub is_row : successors_of (order_of rows positions) a ≡ old
+  is_row = get_or_default rows a.0 [] old in_rows ∙ sym was
 
-  pub memory_ascends : Ascend old.items
-  memory_ascends = rw (← is_row) (row_ascends (order_of rows positions) ok a task)
-
-  pub memory_tasks : All (λ t. t.0 < length positions) old.items
-  memory_tasks = rw (← is_row) (ok.are_tasks a.0 [] (rw length-map in_rows))
-
-  module _ (new : Vec TaskId Global) where
-    is_set : order_of (set rows a.0 new) positions ≡ with_row (order_of rows positions) a new.items
-    is_set = order_set rows positions a old new in_rows was
-
-    pub memory_same : new.items ≡ old.items → order_of (set rows a.0 new) positions ≡ order_of rows positions
-    memory_same = order_same rows positions a old new in_rows was
+  module _ (new : List TaskId) where
+    pub memory_same : new ≡ old → order_of (set rows a.0 new) positions ≡ order_of rows positions
+    memory_same e =
+        ap (λ (s : List (List TaskId)). let o : OrderValue = record { edges = s; positions = positions } in o) (
+        ap (set rows a.0) (e ∙ sym is_row) ∙ set-get_or rows a.0 [])
 
     module _ (b : TaskId) where
       pub memory_put_order :
-          get_or positions a.0 0 < get_or positions b.0 0 → IsTaskOf (order_of rows positions) b → Ascend new.items →
-          ((u : TaskId) → Contains new.items u → Contains old.items u ⊎ (u ≡ b)) → IsOrder (order_of (set rows a.0 new) positions)
-      memory_put_order up to ascends within = rw is_set (put_order (order_of rows positions) ok a task new.items b up ascends to (λ u. rw is_row (within u)))
+          get_or positions a.0 0 < get_or positions b.0 0 → IsTaskOf (order_of rows positions) b → Ascend new →
+          ((u : TaskId) → Contains new u → Contains old u ⊎ (u ≡ b)) → IsOrder (order_of (set rows a.0 new) positions)
+      memory_put_order up to ascends within = put_order (order_of rows positions) ok a task new b up ascends to (λ u. rw is_row (within u))
 
       pub memory_put_edge :
-          get_or positions a.0 0 < get_or positions b.0 0 → ((u : TaskId) → Contains new.items u ↔ (Contains old.items u ⊎ (u ≡ b))) →
+          get_or positions a.0 0 < get_or positions b.0 0 → ((u : TaskId) → Contains new u ↔ (Contains old u ⊎ (u ≡ b))) →
           HasEdgeMore a b (order_of rows positions) (order_of (set rows a.0 new) positions)
-      memory_put_edge up more = rw is_set (put_edge (order_of rows positions) ok a task new.items b up (λ u. rw is_row (more u)))
+      memory_put_edge up more = put_edge (order_of rows positions) ok a task new b up (λ u. rw is_row (more u))
 
       pub memory_clear :
-          ((u : TaskId) → Contains new.items u ↔ (Contains old.items u × (u ≡ b → ⊥))) → HasNoEdge a b (order_of rows positions) (order_of (set rows a.0 new) positions)
-      memory_clear fewer = rw is_set (clear_edge (order_of rows positions) ok a task new.items b (λ u. rw is_row (fewer u)))
+          ((u : TaskId) → Contains new u ↔ (Contains old u × (u ≡ b → ⊥))) → HasNoEdge a b (order_of rows positions) (order_of (set rows a.0 new) positions)
+      memory_clear fewer = clear_edge (order_of rows positions) ok a task new b (λ u. rw is_row (fewer u))
 
-    pub memory_fewer_order : Ascend new.items → ((u : TaskId) → Contains new.items u → Contains old.items u) → IsOrder (order_of (set rows a.0 new) positions)
-    memory_fewer_order ascends fewer = rw is_set (fewer_order (order_of rows positions) ok a task new.items ascends (λ u. rw is_row (fewer u)))
+    pub memory_fewer_order : Ascend new → ((u : TaskId) → Contains new u → Contains old u) → IsOrder (order_of (set rows a.0 new) positions)
+    memory_fewer_order ascends fewer = fewer_order (order_of rows positions) ok a task new ascends (λ u. rw is_row (fewer u))
 
     pub memory_keep :
-        (wanted : List TaskId) → ((u : TaskId) → Contains new.items u ↔ (Contains old.items u × Contains wanted u)) →
+        (wanted : List TaskId) → ((u : TaskId) → Contains new u ↔ (Contains old u × Contains wanted u)) →
         KeepsOnly a wanted (order_of rows positions) (order_of (set rows a.0 new) positions)
-    memory_keep wanted fewer = rw is_set (keep_edges (order_of rows positions) ok a task new.items wanted (λ u. rw is_row (fewer u)))
+    memory_keep wanted fewer = keep_edges (order_of rows positions) ok a task new wanted (λ u. rw is_row (fewer u))
 
 -- what holds whatever a call answers holds where it is an Err
 pub on_err_holds : {T E P : Type 0} (r : Result T E) → P → OnErr r P

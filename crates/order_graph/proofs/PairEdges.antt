@@ -1,60 +1,59 @@
--- Edges that become the pairs of a wait-for graph.
+-- Edges that become the pairs of a relation.
 use Rattle.std.proofs.Common.{◌≡◌, ℕ, suc, ◌+◌, ◌-◌, ◌<◌, List, [], ◌∷◌, ◌++◌, length, refl, sym, ap, ◌∙◌, subst, ◌⊎◌, inl, inr, arith, get_or, take, drop}
-use Rattle.std.specs.Prelude.{Contains, ◌↔◌, map}
+use Rattle.std.specs.Prelude.{Contains, ◌↔◌}
 use Rattle.std.proofs.lemmas.Bool.{cases_eq, cases_lt}
 use Rattle.std.proofs.lemmas.List.{ext_get_or, get_or_default, take-append-drop, take_more}
 use Rattle.std.proofs.lemmas.List.Elements.{Contains-append_left, Contains-push, Contains-push_cases}
 use Rattle.armus_base.specs.declared.ids.TaskId.{TaskId}
-use Rattle.armus_base.specs.declared.status.Status.{Status}
-use Rattle.armus_base.specs.Graphs.{WaitsFor}
-use Rattle.armus_base.specs.Relations.{IsWalk, Walk}
+use Rattle.armus_base.specs.Relations.{IsWalk, ReachesCycle, Walk}
 use Rattle.armus_base.proofs.Walks.{reaches_own}
-use Rattle.dep_state.specs.Deps.{Deps, IsDepsOf}
-use Rattle.dep_state.proofs.DeadSets.{Contains-map, same_task}
+use Rattle.dep_state.proofs.DeadSets.{same_task}
 use Rattle.order_graph.specs.Adding.{HasEdgeMore, IsNearest, IsNearestWalk}
-use Rattle.order_graph.specs.Following.{AnswersFollow, FindsCycle, HasFollowed}
+use Rattle.order_graph.specs.Following.{AnswersFollowing, Follows, StopsAtCycle}
 use Rattle.order_graph.specs.declared.answers.Followed.{Followed}
 use Rattle.order_graph.specs.declared.answers.Followed.TheVariants.{Kept, Dead}
 use Rattle.order_graph.specs.Orders.{OrderValue, IsEdge, IsOrder, position_of}
+use Rattle.order_graph.specs.Waits.{Awaits, own_set}
+use Rattle.order_graph.specs.declared.waits.Waits.{Waits}
 use Rattle.order_graph.specs.inside.Rows.{KeepsOnly}
-use Rattle.order_graph.specs.inside.Steps.{AddsAll, AnswersRows, KeepsPairs, PairsFrom, StopsAt, ToWanted}
+use Rattle.order_graph.specs.inside.Steps.{AddsAll, AnswersEdges, KeepsPairs, PairsBelow, StopsAt, ToWanted}
 use Rattle.order_graph.proofs.Climbing.{from_task, no_cycle, walk_along}
 
 -- of the edges from the first n tasks just the pairs are left
-abbrev pub KeepsPairsBelow : List Status → ℕ → OrderValue → OrderValue → Type 0
-KeepsPairsBelow ss n old new = (a b : TaskId) → IsEdge new a b ↔ (IsEdge old a b × (a.0 < n → WaitsFor ss a b))
+abbrev pub KeepsPairsBelow : (TaskId → TaskId → Type 0) → ℕ → OrderValue → OrderValue → Type 0
+KeepsPairsBelow Pair n old new = (a b : TaskId) → IsEdge new a b ↔ (IsEdge old a b × (a.0 < n → Pair a b))
 
-pub keeps_below_none : (ss : List Status) (o : OrderValue) → KeepsPairsBelow ss 0 o o
-keeps_below_none ss o a b = (λ h. (h, λ lt. absurd (omega arith)), λ (h, w). h)
+module _ (Pair : TaskId → TaskId → Type 0) where
+  pub keeps_below_none : (o : OrderValue) → KeepsPairsBelow Pair 0 o o
+  keeps_below_none o a b = (λ h. (h, λ lt. absurd (omega arith)), λ (h, w). h)
 
--- one more task
-pub keeps_below_more :
-    (ss : List Status) (t : TaskId) (wanted : List TaskId) (old mid new : OrderValue) → KeepsPairsBelow ss t.0 old mid → KeepsOnly t wanted mid new →
-    ((b : TaskId) → Contains wanted b ↔ WaitsFor ss t b) → KeepsPairsBelow ss (t.0 + 1) old new
-keeps_below_more ss t wanted old mid new below only is a b = (
-  λ h.
-      let (m, on) = (only.edges a b).0 h in
-      let (o, w) = (below a b).0 m in (
-        o,
-        λ lt. elim (cases_eq a.0 t.0) [
-          | inl e ↦ let same : a ≡ t = same_task a t e in subst (λ x. WaitsFor ss x b) (sym same) ((is b).0 (on same))
-          | inr ne ↦ w (omega arith)
-        ],
-      ),
-  λ (o, w). (only.edges a b).1 ((below a b).1 (o, λ lt. w (omega arith)), λ e. (is b).1 (subst (λ x. WaitsFor ss x b) e (w (omega (arith, ap (λ (x : TaskId). x.0) e))))),
-)
+  -- one more task
+  pub keeps_below_more :
+      (t : TaskId) (wanted : List TaskId) (old mid new : OrderValue) → KeepsPairsBelow Pair t.0 old mid → KeepsOnly t wanted mid new →
+      ((b : TaskId) → Contains wanted b ↔ Pair t b) → KeepsPairsBelow Pair (t.0 + 1) old new
+  keeps_below_more t wanted old mid new below only is a b = (
+    λ h.
+        let (m, on) = (only.edges a b).0 h in
+        let (o, w) = (below a b).0 m in (
+          o,
+          λ lt. elim (cases_eq a.0 t.0) [
+            | inl e ↦ let same : a ≡ t = same_task a t e in subst (λ x. Pair x b) (sym same) ((is b).0 (on same))
+            | inr ne ↦ w (omega arith)
+          ],
+        ),
+    λ (o, w). (only.edges a b).1 ((below a b).1 (o, λ lt. w (omega arith)), λ e. (is b).1 (subst (λ x. Pair x b) e (w (omega (arith, ap (λ (x : TaskId). x.0) e))))),
+  )
 
-pub keeps_below_all :
-    (ss : List Status) (n : ℕ) (old new : OrderValue) → IsOrder old → n ≡ length old.positions → new.positions ≡ old.positions → KeepsPairsBelow ss n old new →
-    KeepsPairs ss old new
-keeps_below_all ss n old new ok all same below =
-    record {
-      positions = same;
-      edges = λ a b. (
-        λ h. let (o, w) = (below a b).0 h in (o, w (omega (arith, from_task old ok a b o))),
-        λ (o, w). (below a b).1 (o, λ lt. w),
-      );
-    }
+  pub keeps_below_all :
+      (n : ℕ) (old new : OrderValue) → IsOrder old → n ≡ length old.positions → new.positions ≡ old.positions → KeepsPairsBelow Pair n old new → KeepsPairs Pair old new
+  keeps_below_all n old new ok all same below =
+      record {
+        positions = same;
+        edges = λ a b. (
+          λ h. let (o, w) = (below a b).0 h in (o, w (omega (arith, from_task old ok a b o))),
+          λ (o, w). (below a b).1 (o, λ lt. w),
+        );
+      }
 
 -- nothing had to be added
 pub adds_none : (Adds : TaskId → TaskId → Type 0) (old : OrderValue) → ((a b : TaskId) → Adds a b → IsEdge old a b) → AddsAll Adds old old
@@ -151,56 +150,60 @@ in_whole ts i t m = rw take-append-drop at (Contains-append_left (take i ts) (dr
 
 -- the pairs of one more task
 pub pairs_more :
-    (ss : List Status) (ts : List TaskId) (i : ℕ) (t : TaskId) (wanted : List TaskId) → i < length ts → t ≡ get_or ts i t → ((b : TaskId) → Contains wanted b ↔ WaitsFor ss t b) →
-    (x y : TaskId) → PairsFrom ss (take (i + 1) ts) x y ↔ (PairsFrom ss (take i ts) x y ⊎ ToWanted t wanted x y)
-pairs_more ss ts i t wanted lt at is x y =
-    let e : take (i + 1) ts ≡ take i ts ++ t ∷ [] = rw at (take_more ts i t lt) in
-    rw e (
-      λ (m, w). elim (Contains-push_cases (take i ts) t x m) [
-        | inl l ↦ inl (l, w)
-        | inr f ↦ inr (sym f, (is y).1 (subst (λ z. WaitsFor ss z y) (sym f) w))
-      ],
-      λ h. elim h [
-        | inl (l, w) ↦ (Contains-append_left (take i ts) (t ∷ []) x l, w)
-        | inr (f, m) ↦ (
-          subst (λ z. Contains (take i ts ++ t ∷ []) z) (sym f) (Contains-push (take i ts) t),
-          subst (λ z. WaitsFor ss z y) (sym f) ((is y).0 m),
-        )
-      ],
-    )
+    (Pair : TaskId → TaskId → Type 0) (t : TaskId) (wanted : List TaskId) → ((b : TaskId) → Contains wanted b ↔ Pair t b) → (x y : TaskId) →
+    PairsBelow Pair (t.0 + 1) x y ↔ (PairsBelow Pair t.0 x y ⊎ ToWanted t wanted x y)
+pairs_more Pair t wanted is x y = (
+  λ (lt, w). elim (cases_eq x.0 t.0) [
+    | inl e ↦ let same : x ≡ t = same_task x t e in inr (same, (is y).1 (subst (λ z. Pair z y) same w))
+    | inr ne ↦ inl (omega arith, w)
+  ],
+  λ h. elim h [
+    | inl (lt, w) ↦ (omega arith, w)
+    | inr (e, m) ↦ (omega (arith, ap (λ (z : TaskId). z.0) e), subst (λ z. Pair z y) (sym e) ((is y).0 m))
+  ],
+)
 
-module _ (ss : List Status) (d : Deps) (is : IsDepsOf ss d) (old mid new : OrderValue) (kept : KeepsPairs ss old mid) where
+-- a relation with the same pairs reaches the same cycles
+same_cycle : (R S : TaskId → TaskId → Type 0) → ((a b : TaskId) → R a b → S a b) → (t : TaskId) → ReachesCycle R t → ReachesCycle S t
+same_cycle R S more t h =
+    record {
+      node = h.node;
+      steps = h.steps;
+      walk = walk_along R S more h.steps t h.node h.walk;
+      more = h.more;
+      cycle = walk_along R S more (suc h.more) h.node h.node h.cycle;
+    }
+
+module _ (Pair : TaskId → TaskId → Type 0) (n : ℕ) (old mid new : OrderValue) (below : (a b : TaskId) → Pair a b → a.0 < n) (kept : KeepsPairs Pair old mid) where
   -- all pairs were added
-  pub followed : AddsAll (PairsFrom ss d.tasks) mid new → IsOrder new → HasFollowed ss old new
+  followed : AddsAll (PairsBelow Pair n) mid new → IsOrder new → Follows Pair old new
   followed adds ok =
-      let edges : (a b : TaskId) → IsEdge new a b ↔ WaitsFor ss a b =
+      let edges : (a b : TaskId) → IsEdge new a b ↔ Pair a b =
       λ a b. (
         λ h. elim ((adds.edges a b).0 h) [ inl m ↦ ((kept.edges a b).0 m).1 | inr p ↦ p.1 ],
-        λ w. let (s, i, st, rest) = w in
-            (adds.edges a b).1 (inr (rw is.tasks (subst (λ z. Contains (map (λ v. v.t) ss) z) st (Contains-map (λ v. v.t) ss s i)), w)),
+        λ w. (adds.edges a b).1 (inr (below a b w, w)),
       ) in
       record {
         edges = edges;
-        no_cycle = λ t h. no_cycle new ok t (record {
-          node = h.node;
-          steps = h.steps;
-          walk = walk_along (WaitsFor ss) (IsEdge new) (λ a b w. (edges a b).1 w) h.steps t h.node h.walk;
-          more = h.more;
-          cycle = walk_along (WaitsFor ss) (IsEdge new) (λ a b w. (edges a b).1 w) (suc h.more) h.node h.node h.cycle;
-        });
+        no_cycle = λ t h. no_cycle new ok t (same_cycle Pair (IsEdge new) (λ a b w. (edges a b).1 w) t h);
         stays = λ up. adds.stays (λ a b p. subst (λ (q : List ℕ). get_or q a.0 0 < get_or q b.0 0) (sym kept.positions) (up a b p.1)) ∙ kept.positions;
       }
 
   -- some pairs were added, and another one closes a cycle
-  pub finds_cycle : StopsAt (PairsFrom ss d.tasks) mid new → FindsCycle ss old new
+  finds_cycle : StopsAt (PairsBelow Pair n) mid new → StopsAtCycle Pair old new
   finds_cycle stop =
-      let some : (a b : TaskId) → IsEdge new a b → WaitsFor ss a b = λ a b h. elim (stop.some a b h) [ inl m ↦ ((kept.edges a b).0 m).1 | inr p ↦ p.1 ] in
-      let (t, b, n, p, w) = stop.cycle in
+      let some : (a b : TaskId) → IsEdge new a b → Pair a b = λ a b h. elim (stop.some a b h) [ inl m ↦ ((kept.edges a b).0 m).1 | inr p ↦ p.1 ] in
+      let (t, b, k, p, w) = stop.cycle in
       record {
-        cycle = (b, reaches_own (WaitsFor ss) n b t (walk_along (IsEdge new) (WaitsFor ss) some n b t w) p.1);
+        cycle = (b, reaches_own Pair k b t (walk_along (IsEdge new) Pair some k b t w) p.1);
         some = some;
         kept = λ x y h v. stop.kept x y ((kept.edges x y).1 (h, v));
       }
+
+  -- what came of all pairs is what a call answers that follows them
+  pub answers_following : IsOrder new → (f : Followed) → AnswersEdges (PairsBelow Pair n) mid new f → AnswersFollowing Pair old new f
+  answers_following ok Kept adds = followed adds ok
+  answers_following ok Dead stop = finds_cycle stop
 
 -- edges to the first wanted tasks, and the one to the next, are edges to wanted tasks
 pub wanted_so_far :
@@ -208,15 +211,48 @@ pub wanted_so_far :
     ToWanted t (take i wanted) x y ⊎ IsOne t b x y → ToWanted t wanted x y
 wanted_so_far t b wanted i lt at x y h = let (s, m) = (wanted_more t b wanted i lt at x y).1 h in (s, in_whole wanted (i + 1) y m)
 
--- pairs of the first tasks, and those of the next, are pairs
-pub pairs_so_far :
-    (ss : List Status) (ts : List TaskId) (i : ℕ) (t : TaskId) (wanted : List TaskId) → i < length ts → t ≡ get_or ts i t → ((b : TaskId) → Contains wanted b ↔ WaitsFor ss t b) →
-    (x y : TaskId) → PairsFrom ss (take i ts) x y ⊎ ToWanted t wanted x y → PairsFrom ss ts x y
-pairs_so_far ss ts i t wanted lt at is x y h = let (m, w) = (pairs_more ss ts i t wanted lt at is x y).1 h in (in_whole ts (i + 1) x m, w)
+-- what follows a relation follows one with the same pairs
+pub follows_same :
+    (R S : TaskId → TaskId → Type 0) (old new : OrderValue) → ((a b : TaskId) → R a b ↔ S a b) → (f : Followed) → AnswersFollowing R old new f → AnswersFollowing S old new f
+follows_same R S old new is Kept h =
+    record {
+      edges = λ a b. (λ e. (is a b).0 ((h.edges a b).0 e), λ w. (h.edges a b).1 ((is a b).1 w));
+      no_cycle = λ t c. h.no_cycle t (same_cycle S R (λ a b w. (is a b).1 w) t c);
+      stays = λ up. h.stays (λ a b w. up a b ((is a b).0 w));
+    }
+follows_same R S old new is Dead h =
+    let (t, c) = h.cycle in
+    record {
+      cycle = (t, same_cycle R S (λ a b w. (is a b).0 w) t c);
+      some = λ a b e. (is a b).0 (h.some a b e);
+      kept = λ a b e w. h.kept a b e ((is a b).1 w);
+    }
 
--- what came of all pairs is what `follow` answers
-pub answers_follow :
-    (ss : List Status) (d : Deps) → IsDepsOf ss d → (old mid new : OrderValue) → KeepsPairs ss old mid → IsOrder new → (f : Followed) →
-    AnswersRows ss d.tasks mid new f → AnswersFollow ss old new f
-answers_follow ss d is old mid new kept ok Kept adds = followed ss d is old mid new kept adds ok
-answers_follow ss d is old mid new kept ok Dead stop = finds_cycle ss d is old mid new kept stop
+-- the edges that were missing, and those that were there, are all that were wanted
+pub answers_missing :
+    (t : TaskId) (missing wanted : List TaskId) (old new : OrderValue) → ((b : TaskId) → Contains missing b → Contains wanted b) →
+    ((b : TaskId) → Contains wanted b → Contains missing b ⊎ IsEdge old t b) → (f : Followed) → AnswersEdges (ToWanted t missing) old new f →
+    AnswersEdges (ToWanted t wanted) old new f
+answers_missing t missing wanted old new within all Kept adds =
+    record {
+      edges = λ a b. (
+        λ h. elim ((adds.edges a b).0 h) [ inl o ↦ inl o | inr w ↦ inr (w.0, within b w.1) ],
+        λ h. (adds.edges a b).1 (elim h [
+          | inl o ↦ inl o
+          | inr w ↦ elim (all b w.1) [ inl m ↦ inr (w.0, m) | inr o ↦ inl (subst (λ x. IsEdge old x b) (sym w.0) o) ]
+        ]),
+      );
+      stays = λ up. adds.stays (λ a b w. up a b (w.0, within b w.1));
+    }
+answers_missing t missing wanted old new within all Dead stop =
+    let (a, b, n, w, walk) = stop.cycle in
+    record {
+      some = λ x y h. elim (stop.some x y h) [ inl o ↦ inl o | inr m ↦ inr (m.0, within y m.1) ];
+      kept = stop.kept;
+      cycle = (a, b, n, (w.0, within b w.1), walk);
+    }
+
+-- a task's own set has just the tasks for which it waits
+pub own_pairs :
+    (w : Waits) (t : TaskId) → t.0 < length w.own.items → (set : List TaskId) → set ≡ own_set w t → (b : TaskId) → Contains set b ↔ Awaits w t b
+own_pairs w t lt set is b = (λ m. (lt, subst (λ ts. Contains {X = TaskId} ts b) is m), λ (l, m). subst (λ ts. Contains {X = TaskId} ts b) (sym is) m)

@@ -1,5 +1,6 @@
 pub mod Orders
 pub mod Adding
 pub mod Following
+pub mod Waits
 pub mod Laws
 pub mod inside

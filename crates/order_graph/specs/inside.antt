@@ -1,3 +1,5 @@
+pub mod Bits
+pub mod Gathered
 pub mod Rows
 pub mod Distances
 pub mod Mending

@@ -54,36 +54,51 @@ fn nearer(best: Option<Near>, next: TaskId, found: Option<u32>) -> Option<Near>
 }
 
 /// The nearest successor of a task, if one reaches the goal.
-pub(crate) fn nearest(order: &Order, goal: TaskId, far: &[Option<u32>], t: TaskId) -> Option<Near>
+pub(crate) fn nearest(
+    alloc: Global,
+    order: &Order,
+    goal: TaskId,
+    far: &[Option<u32>],
+    t: TaskId,
+) -> Result<Option<Near>, AllocError>
+    requires order { IsOrder order.now }
     requires goal { IsTaskOf order.now goal }
     requires task { IsTaskOf order.now t }
     requires listed { (c : TaskId) → IsEdge order.now t c → IsListedIn order.now goal far.now c }
     requires tells { TellDistances order.now goal far.now }
-    ensures { TellsNearest order.now goal (successors_of order.now t) result }
+    ensures { IfOk result (TellsNearest order.now goal (successors_of order.now t)) }
 {
+    let successors = order.row(t).tasks(alloc)?;
     let mut best = None;
-    for next in order.successors(t) {
+    for next in &successors {
         let found = distance_in(order, goal, far, *next);
         best = nearer(best, *next, found);
     }
-    best
+    Ok(best)
 }
 
 // The distance of the task that is one position ahead of those whose distances are known.
-fn distance(order: &Order, goal: TaskId, far: &[Option<u32>], t: TaskId) -> Option<u32>
+fn distance(
+    alloc: Global,
+    order: &Order,
+    goal: TaskId,
+    far: &[Option<u32>],
+    t: TaskId,
+) -> Result<Option<u32>, AllocError>
     requires order { IsOrder order.now }
     requires goal { IsTaskOf order.now goal }
     requires task { IsTaskOf order.now t }
     requires ahead { position_of order.now goal ≤ length far.now + position_of order.now t }
     requires tells { TellDistances order.now goal far.now }
-    ensures { TellsDistance order.now goal t result }
+    ensures { IfOk result (TellsDistance order.now goal t) }
 {
     if t == goal {
-        return Some(0);
+        return Ok(Some(0));
     }
-    match nearest(order, goal, far, t) {
-        Some(near) => Some(near.left + 1),
-        None => None,
+    let found = nearest(alloc, order, goal, far, t)?;
+    match found {
+        Some(near) => Ok(Some(near.left + 1)),
+        None => Ok(None),
     }
 }
 
@@ -103,7 +118,7 @@ pub(crate) fn distances(
     let mut far = Vec::with_capacity(alloc, stretch.len())?;
     for k in 0..stretch.len() {
         let t = stretch[stretch.len() - 1 - k];
-        let found = distance(order, goal, &far, t);
+        let found = distance(alloc, order, goal, &far, t)?;
         far.push(found)?;
     }
     Ok(far)

@@ -8,9 +8,13 @@ mod following;
 pub mod laws;
 mod mending;
 mod order;
-mod rows;
+mod row;
 mod settling;
+mod waits;
 mod walk;
+mod words;
 
 pub use answers::{Added, Followed};
 pub use order::Order;
+pub use row::Row;
+pub use waits::Waits;

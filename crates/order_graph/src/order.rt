@@ -4,16 +4,17 @@ ghost use Rattle.armus_base.specs.declared.ids.TaskId.{TaskId};
 ghost use Rattle.armus_base.specs.declared.status.Status.{Status};
 ghost use Rattle.armus_base.specs.Statuses.{IsInOrder};
 ghost use Rattle.dep_state.specs.Deps.{IsDepsOf};
-ghost use Rattle.dep_state.specs.Picks.{Ascend};
 ghost use Rattle.order_graph.specs.Adding.{AnswersAdd, HasEdgeMore, HasNoEdge};
-ghost use Rattle.order_graph.specs.Following.{AnswersFollow};
+ghost use Rattle.order_graph.specs.Following.{AnswersFollow, AnswersFollowing};
 ghost use Rattle.order_graph.specs.Orders.{IsEdge, IsNewOrder, IsOrder, IsTaskOf, position_of, successors_of};
+ghost use Rattle.order_graph.specs.Waits.{AreWaitsAmong, Awaits};
 ghost use Rattle.order_graph.specs.inside.Distances.{NeverReaches};
 ghost use Rattle.order_graph.specs.inside.Mending.{IsMended, IsStretch};
 ghost use Rattle.order_graph.specs.inside.Rows.{KeepsOnly};
 
 use crate::mending::{Found, look};
-use crate::{Added, Followed, following, rows, settling};
+use crate::waits::waits_of;
+use crate::{Added, Followed, Row, Waits, following, settling};
 use armus_base::{List, NoMemory, TaskId};
 use dep_state::DepState;
 use std::alloc::{AllocError, Global};
@@ -25,7 +26,7 @@ use std::marker::Model;
 pub struct Order {
     positions: Vec<u32>,
     at: Vec<TaskId>,
-    rows: Vec<Vec<TaskId>>,
+    rows: Vec<Row>,
 }
 
 impl Model for Order {
@@ -51,7 +52,7 @@ impl Order {
         for t in 0..tasks {
             positions.push(t)?;
             at.push(TaskId(t))?;
-            rows.push(Vec::new(alloc))?;
+            rows.push(Row::none(alloc))?;
         }
         Ok(Order {
             positions,
@@ -84,7 +85,7 @@ impl Order {
         ensures edge { MatchBool result (IsEdge self.now a b) (¬ IsEdge self.now a b) }
         ensures order { IsOrder self.now }
     {
-        rows::is_in(self.successors(a), b)
+        self.rows[a.0 as usize].has(b)
     }
 
     /// Adds the edge from `a` to `b`. Kept: it is there, no other edge has changed, and only tasks between the two positions have moved, none where
@@ -117,7 +118,7 @@ impl Order {
         ensures cleared { HasNoEdge a b self.old self.new }
         ensures order { IsOrder self.new }
     {
-        rows::take_out(&mut self.rows[a.0 as usize], b);
+        self.rows[a.0 as usize].take_out(b);
     }
 
     /// Makes the edges the pairs of the wait-for graph: takes away each edge that is no pair, and adds the pairs that are missing. Kept comes exactly
@@ -129,16 +130,26 @@ impl Order {
         ensures order { IsOrder self.new }
         ensures followed { (ss : List Status) → IsInOrder ss → IsDepsOf ss deps.now → IfOk result (AnswersFollow ss self.old self.new) }
     {
-        following::drop_others(self, deps);
-        following::add_missing(alloc, self, deps)
+        let waits = waits_of(alloc, self.tasks(), deps)?;
+        self.follow_waits(alloc, &waits)
     }
 
-    // The tasks to which there is an edge from a task, in order of number.
-    pub(crate) fn successors(&self, a: TaskId) -> &[TaskId]
+    /// Makes the edges the pairs of these waits, as `follow` does those of relations. A row is compared word by word with that which it is to be, and
+    /// only where they differ edges are added one by one.
+    pub fn follow_waits(&mut self, alloc: Global, waits: &Waits) -> Result<Followed, NoMemory>
+        requires { AreWaitsAmong (length self.old.positions) waits.now }
+        ensures tasks { length self.new.positions ≡ length self.old.positions }
+        ensures order { IsOrder self.new }
+        ensures followed { IfOk result (AnswersFollowing (Awaits waits.now) self.old self.new) }
+    {
+        following::drop_others(self, waits);
+        following::add_missing(alloc, self, waits)
+    }
+
+    // The tasks to which there is an edge from a task.
+    pub(crate) fn row(&self, a: TaskId) -> &Row
         requires { IsTaskOf self.now a }
         ensures row { result.now ≡ successors_of self.now a }
-        ensures ascends { Ascend result.now }
-        ensures tasks { All (IsTaskOf self.now) result.now }
         ensures order { IsOrder self.now }
     {
         &self.rows[a.0 as usize]
@@ -166,7 +177,7 @@ impl Order {
         ensures order { IsOrder self.new }
         ensures err { OnErr result (self.new ≡ self.old) }
     {
-        rows::put(&mut self.rows[a.0 as usize], b)
+        self.rows[a.0 as usize].put(b)
     }
 
     // Adds an edge that goes down, and puts the tasks between its ends into an order in which it goes up.
@@ -181,18 +192,17 @@ impl Order {
         ensures err { OnErr result (self.new ≡ self.old) }
     {
         let low = self.positions[b.0 as usize];
-        rows::put(&mut self.rows[a.0 as usize], b)?;
+        self.rows[a.0 as usize].put(b)?;
         settling::settle(&mut self.positions, &mut self.at, low, ts);
         Ok(())
     }
 
     // Takes the edges from a task away that do not lead to wanted tasks.
-    pub(crate) fn keep_only(&mut self, t: TaskId, wanted: &[TaskId])
+    pub(crate) fn keep_only(&mut self, t: TaskId, wanted: &Row)
         requires task { IsTaskOf self.old t }
-        requires wanted { Ascend wanted.now }
         ensures kept { KeepsOnly t wanted.now self.old self.new }
         ensures order { IsOrder self.new }
     {
-        rows::keep_common(&mut self.rows[t.0 as usize], wanted);
+        self.rows[t.0 as usize].keep_common(wanted);
     }
 }

@@ -11,18 +11,25 @@ use armus_base::TaskId;
 use std::alloc::{AllocError, Global};
 
 // The nearest successor of a task that reaches the goal and is not the goal.
-fn next(order: &Order, goal: TaskId, far: &[Option<u32>], t: TaskId) -> TaskId
+fn next(
+    alloc: Global,
+    order: &Order,
+    goal: TaskId,
+    far: &[Option<u32>],
+    t: TaskId,
+) -> Result<TaskId, AllocError>
     requires order { IsOrder order.now }
     requires goal { IsTaskOf order.now goal }
     requires listed { IsListedIn order.now goal far.now t }
     requires tells { TellDistances order.now goal far.now }
     requires reaches { (n : ℕ) × Walk (IsEdge order.now) n t goal }
     requires other { t ≢ goal }
-    ensures nearest { IsNearest order.now goal t result }
-    ensures goes_on { IsListedFurther order.now goal far.now t result }
+    ensures nearest { IfOk result (IsNearest order.now goal t) }
+    ensures goes_on { IfOk result (IsListedFurther order.now goal far.now t) }
 {
-    match nearest(order, goal, far, t) {
-        Some(near) => near.next,
+    let found = nearest(alloc, order, goal, far, t)?;
+    match found {
+        Some(near) => Ok(near.next),
         None => unreachable!(),
     }
 }
@@ -46,7 +53,7 @@ pub(crate) fn nearest_walk(
     let mut t = start;
     'walk: while t != goal {
         list.push(t)?;
-        t = next(order, goal, far, t);
+        t = next(alloc, order, goal, far, t)?;
     }
     list.push(t)?;
     Ok(list)

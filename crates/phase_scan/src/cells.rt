@@ -66,6 +66,12 @@ impl Cells {
         self.found.load_rows(by, board);
     }
 
+    /// How many words the last collect loaded, up to 2^64 - 1: the await word of each task, and of each one found waiting a phase on each phaser found
+    /// awaited.
+    pub fn loads(&self) -> u64 {
+        self.found.loads()
+    }
+
     /// The statuses that the last collect found, in order: of each task found waiting, with its phases on the phasers found awaited.
     pub fn statuses(&self, alloc: Global) -> Result<List<Status>, NoMemory>
         ensures statuses { IfOk result (λ list. list ≡ self.now.statuses) }

@@ -145,6 +145,23 @@ impl Findings {
         }
     }
 
+    /// How many words were loaded, up to 2^64 - 1.
+    pub(crate) fn loads(&self) -> u64 {
+        let rows = self.waiting_tasks();
+        let columns = self.awaited_phasers();
+        u64::from(self.tasks).saturating_add(rows.saturating_mul(columns))
+    }
+
+    // How many tasks were found waiting.
+    fn waiting_tasks(&self) -> u64 {
+        self.events.iter().filter(|event| event.is_some()).count() as u64
+    }
+
+    // How many phasers were found awaited.
+    fn awaited_phasers(&self) -> u64 {
+        self.awaited.iter().filter(|awaited| **awaited).count() as u64
+    }
+
     // The phase of a task that was found on a phaser found awaited.
     pub(crate) fn listed(&self, t: TaskId, p: PhaserId) -> Option<Member>
         requires task { t.0 < self.now.tasks }

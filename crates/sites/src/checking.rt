@@ -8,6 +8,7 @@ ghost use Rattle.sites.specs.inside.Gathering.{AreGathered, EndsAtSite, TakesRow
 ghost use Rattle.sites.specs.declared.ends.DecodeEnd.TheVariants as decode_ends;
 
 use crate::decoding::{MAX_SITES, decode};
+use crate::keeper::Keeps;
 use crate::{DecodeEnd, KeepEnd, Keeper, SiteEnd};
 use adaptive::{Analysis, Wanted, analyse};
 use armus_base::{List, NoMemory, Status};
@@ -39,7 +40,7 @@ fn take_row(
 }
 
 // Appends the statuses that a site stores.
-fn take_site<K: Keeper>(
+fn take_site<K: Keeps>(
     alloc: Global,
     keeper: &mut K,
     site: u32,
@@ -49,13 +50,13 @@ fn take_site<K: Keeper>(
     requires some { 1 ≤ sites }
     requires few { sites ≤ MAX_SITES }
     requires site { site < sites }
-    requires kept { length (K.rows keeper.old) ≡ sites }
-    ensures rows { K.rows keeper.new ≡ K.rows keeper.old }
-    ensures count { K.faults keeper.new ≡ count_after_check result (K.faults keeper.old) }
-    ensures ok { OnOk result (TakesRow sites site (held (K.rows keeper.old) site) all.old.items all.new.items) }
-    ensures end { IfErr result (EndsAtSite sites (K.rows keeper.old) site) }
+    requires kept { length (K.kept keeper.old) ≡ sites }
+    ensures rows { K.kept keeper.new ≡ K.kept keeper.old }
+    ensures count { K.failures keeper.new ≡ count_after_check result (K.failures keeper.old) }
+    ensures ok { OnOk result (TakesRow sites site (held (K.kept keeper.old) site) all.old.items all.new.items) }
+    ensures end { IfErr result (EndsAtSite sites (K.kept keeper.old) site) }
 {
-    let row = match keeper.get(alloc, site) {
+    let row = match keeper.get_row(alloc, site) {
         Ok(row) => row,
         Err(KeepEnd::Fault) => return Err(SiteEnd::Fault),
         Err(KeepEnd::NoMemory) => return Err(SiteEnd::NoMemory),
@@ -68,14 +69,14 @@ fn take_site<K: Keeper>(
 }
 
 // The statuses that the sites store, site after site.
-fn gather<K: Keeper>(alloc: Global, keeper: &mut K, sites: u32) -> Result<Vec<Status>, SiteEnd>
+fn gather<K: Keeps>(alloc: Global, keeper: &mut K, sites: u32) -> Result<Vec<Status>, SiteEnd>
     requires some { 1 ≤ sites }
     requires few { sites ≤ MAX_SITES }
-    requires kept { length (K.rows keeper.old) ≡ sites }
-    ensures rows { K.rows keeper.new ≡ K.rows keeper.old }
-    ensures count { K.faults keeper.new ≡ count_after_check result (K.faults keeper.old) }
-    ensures ok { IfOk result (λ all. AreGathered sites (K.rows keeper.old) sites all.items) }
-    ensures end { IfErr result (IsSiteEnd sites (K.rows keeper.old)) }
+    requires kept { length (K.kept keeper.old) ≡ sites }
+    ensures rows { K.kept keeper.new ≡ K.kept keeper.old }
+    ensures count { K.failures keeper.new ≡ count_after_check result (K.failures keeper.old) }
+    ensures ok { IfOk result (λ all. AreGathered sites (K.kept keeper.old) sites all.items) }
+    ensures end { IfErr result (IsSiteEnd sites (K.kept keeper.old)) }
 {
     let mut all = Vec::new(alloc);
     for site in 0..sites {
@@ -110,6 +111,24 @@ pub fn check_sites<K: Keeper>(
     ensures count { K.faults keeper.new ≡ count_after_check result (K.faults keeper.old) }
     ensures check { IfOk result (IsCheck sites (K.rows keeper.old) wanted) }
     ensures end { IfErr result (IsSiteEnd sites (K.rows keeper.old)) }
+{
+    check_rows(alloc, keeper, sites, wanted)
+}
+
+/// The same, wherever the rows are kept.
+pub(crate) fn check_rows<K: Keeps>(
+    alloc: Global,
+    keeper: &mut K,
+    sites: u32,
+    wanted: Wanted,
+) -> Result<Analysis, SiteEnd>
+    requires some { 1 ≤ sites }
+    requires few { sites ≤ MAX_SITES }
+    requires kept { length (K.kept keeper.old) ≡ sites }
+    ensures rows { K.kept keeper.new ≡ K.kept keeper.old }
+    ensures count { K.failures keeper.new ≡ count_after_check result (K.failures keeper.old) }
+    ensures check { IfOk result (IsCheck sites (K.kept keeper.old) wanted) }
+    ensures end { IfErr result (IsSiteEnd sites (K.kept keeper.old)) }
 {
     let all = gather(alloc, keeper, sites)?;
     let list = in_order(all, sites)?;

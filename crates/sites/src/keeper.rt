@@ -30,3 +30,44 @@ pub trait Keeper: Send {
         ensures rows { rows self.new ≡ rows self.old }
         ensures count { faults self.new ≡ count_after result (faults self.old) };
 }
+
+/// Where rows are kept: each keeper. A method of a trait may not call a function over `Keeper`, which may be sent to a thread; it may call one over `Keeps`.
+pub trait Keeps {
+    ghost use Rattle.std.specs.Prelude.{List as Seq, ℕ};
+    ghost use Rattle.std.specs.declared.option.Option.{Option};
+
+    /// For each of its sites, in order, the row that is held of it, if one is.
+    ghost kept: { Self → Seq (Option (Seq ℕ)) };
+
+    /// How often it has failed, up to 2^64 - 1.
+    ghost failures: { Self → ℕ };
+
+    /// Holds this row of the site from now on. Fault comes exactly where the count of failures rises, by one; after any error each site's row is as
+    /// before.
+    fn put_row(&mut self, site: u32, row: &[u8]) -> Result<(), KeepEnd>
+        requires site { site < length (kept self.old) }
+        ensures ok { OnOk result (kept self.new ≡ slice_set (kept self.old) site (Some row.now)) }
+        ensures err { OnErr result (kept self.new ≡ kept self.old) }
+        ensures count { failures self.new ≡ count_after result (failures self.old) };
+
+    /// The row that is held of the site; None where there is none. No row changes. Fault comes exactly where the count of failures rises, by one.
+    fn get_row(&mut self, alloc: Global, site: u32) -> Result<Option<List<u8>>, KeepEnd>
+        requires site { site < length (kept self.old) }
+        ensures found { IfOk result (λ row. row ≡ held (kept self.old) site) }
+        ensures rows { kept self.new ≡ kept self.old }
+        ensures count { failures self.new ≡ count_after result (failures self.old) };
+}
+
+impl<K: Keeper> Keeps for K {
+    ghost kept = { K.rows };
+
+    ghost failures = { K.faults };
+
+    fn put_row(&mut self, site: u32, row: &[u8]) -> Result<(), KeepEnd> {
+        self.put(site, row)
+    }
+
+    fn get_row(&mut self, alloc: Global, site: u32) -> Result<Option<List<u8>>, KeepEnd> {
+        self.get(alloc, site)
+    }
+}

@@ -18,12 +18,12 @@ pub use checking::check_sites;
 pub use decoding::{MAX_SITES, decode};
 pub use encoding::encode;
 pub use ends::{DecodeEnd, KeepEnd, SiteEnd};
-pub use keeper::Keeper;
+pub use keeper::{Keeper, Keeps};
 pub use laws::{
     backed_rows_name_the_dead, each_moment_is_lawful, one_list, viewers_have_one_state,
 };
 pub use memory::{MemKeeper, SafeKeeper};
 pub use parts::put_parts;
-pub use passing::site_pass;
+pub use passing::{pass_over, site_pass};
 pub use snapping::snap;
 pub use snapshot::Snapshot;

@@ -6,9 +6,10 @@ ghost use Rattle.sites.specs.Passes.{AreBacked, ChangesRows, HaveLookedOn, IsSit
 ghost use Rattle.sites.specs.Snaps.{HasLookedOn, IsSnapshot};
 ghost use Rattle.sites.specs.inside.Passing.{HaveSnapped, PutsSnap};
 
-use crate::checking::check_sites;
+use crate::checking::check_rows;
 use crate::decoding::MAX_SITES;
 use crate::encoding::encode;
+use crate::keeper::Keeps;
 use crate::snapping::snap;
 use crate::{KeepEnd, Keeper, SiteEnd, Snapshot};
 use adaptive::{Analysis, Wanted};
@@ -51,7 +52,7 @@ impl Snaps for ViewSeat {
 }
 
 // A snap of a site, put as its row.
-fn snap_site<V: Snaps, K: Keeper>(
+fn snap_site<V: Snaps, K: Keeps>(
     alloc: Global,
     view: &mut V,
     board: &Board,
@@ -61,21 +62,21 @@ fn snap_site<V: Snaps, K: Keeper>(
 ) -> Result<(), KeepEnd>
     requires made { IsOf (V.known view.old) board.now }
     requires site { site < sites }
-    requires kept { length (K.rows keeper.old) ≡ sites }
+    requires kept { length (K.kept keeper.old) ≡ sites }
     ensures made { IsOf (V.known view.new) board.now }
     ensures looked { HasLookedOn (V.known view.old) (V.known view.new) }
-    ensures count { K.faults keeper.new ≡ count_after result (K.faults keeper.old) }
-    ensures ok { OnOk result (PutsSnap board.now.plan sites site (V.known view.old) (V.known view.new) (K.rows keeper.old) (K.rows keeper.new)) }
-    ensures err { OnErr result (K.rows keeper.new ≡ K.rows keeper.old) }
+    ensures count { K.failures keeper.new ≡ count_after result (K.failures keeper.old) }
+    ensures ok { OnOk result (PutsSnap board.now.plan sites site (V.known view.old) (V.known view.new) (K.kept keeper.old) (K.kept keeper.new)) }
+    ensures err { OnErr result (K.kept keeper.new ≡ K.kept keeper.old) }
 {
     let snapshot = view.snap_of(alloc, board, site, sites)?;
     let row = encode(alloc, &snapshot)?;
-    keeper.put(site, row.as_slice())?;
+    keeper.put_row(site, row.as_slice())?;
     Ok(())
 }
 
 // A snap of each site, in order.
-fn snap_sites<V: Snaps, K: Keeper>(
+fn snap_sites<V: Snaps, K: Keeps>(
     alloc: Global,
     views: &mut [V],
     board: &Board,
@@ -84,11 +85,11 @@ fn snap_sites<V: Snaps, K: Keeper>(
 ) -> Result<(), KeepEnd>
     requires views { All (λ v. IsOf (V.known v) board.now) views.old }
     requires sites { length views.old ≡ sites }
-    requires kept { length (K.rows keeper.old) ≡ sites }
+    requires kept { length (K.kept keeper.old) ≡ sites }
     ensures looked { HaveLookedOn board.now (map V.known views.old) (map V.known views.new) }
-    ensures rows { ChangesRows board.now.plan (K.rows keeper.old) (K.rows keeper.new) (map V.known views.new) }
-    ensures count { K.faults keeper.new ≡ count_after result (K.faults keeper.old) }
-    ensures ok { OnOk result (HaveSnapped board.now sites sites (map V.known views.old) (map V.known views.new) (K.rows keeper.old) (K.rows keeper.new)) }
+    ensures rows { ChangesRows board.now.plan (K.kept keeper.old) (K.kept keeper.new) (map V.known views.new) }
+    ensures count { K.failures keeper.new ≡ count_after result (K.failures keeper.old) }
+    ensures ok { OnOk result (HaveSnapped board.now sites sites (map V.known views.old) (map V.known views.new) (K.kept keeper.old) (K.kept keeper.new)) }
 {
     for site in 0..sites {
         snap_site(alloc, &mut views[site as usize], board, site, sites, keeper)?;
@@ -116,10 +117,30 @@ pub fn site_pass<K: Keeper>(
     ensures count { K.faults keeper.new ≡ count_after result (K.faults keeper.old) }
     ensures pass { IfOk result (IsSitePass board.now.plan board.now.mode wanted views.old views.new (K.rows keeper.new)) }
 {
+    pass_over(alloc, views, board, keeper, wanted)
+}
+
+/// The same, wherever the rows are kept.
+pub fn pass_over<K: Keeps>(
+    alloc: Global,
+    views: &mut [ViewSeat],
+    board: &Board,
+    keeper: &mut K,
+    wanted: Wanted,
+) -> Result<Analysis, KeepEnd>
+    requires views { All (λ k. IsOf k board.now) views.old }
+    requires sites { 1 ≤ length views.old × length views.old ≤ MAX_SITES }
+    requires kept { length (K.kept keeper.old) ≡ length views.old }
+    ensures looked { HaveLookedOn board.now views.old views.new }
+    ensures rows { ChangesRows board.now.plan (K.kept keeper.old) (K.kept keeper.new) views.new }
+    ensures backed { AreBacked board.now.plan (K.kept keeper.old) views.old → AreBacked board.now.plan (K.kept keeper.new) views.new }
+    ensures count { K.failures keeper.new ≡ count_after result (K.failures keeper.old) }
+    ensures pass { IfOk result (IsSitePass board.now.plan board.now.mode wanted views.old views.new (K.kept keeper.new)) }
+{
     let _ = board.tasks();
     let sites = views.len() as u32;
     snap_sites(alloc, views, board, sites, keeper)?;
-    match check_sites(alloc, keeper, sites, wanted) {
+    match check_rows(alloc, keeper, sites, wanted) {
         Ok(analysis) => Ok(analysis),
         Err(SiteEnd::Fault) => Err(KeepEnd::Fault),
         Err(SiteEnd::NoMemory) => Err(KeepEnd::NoMemory),

@@ -18,7 +18,7 @@ use Rattle.armus_base.proofs.Members.{plain_undropped}
 use Rattle.armus_base.proofs.OneEnd.{below_maximal}
 use Rattle.armus_base.proofs.Stepping.{places_fix}
 use Rattle.armus_base.proofs.StatusesAre.{statuses_are}
-use Rattle.task_runner.specs.PlainRuns.{IsPlainEnd}
+use Rattle.world_runs.specs.PlainRuns.{IsPlainEnd}
 
 module _ (plan : Plan) (checked : IsCheckedPlan plan) (h : List Step) (run : IsPlainRun plan h) (end : Final) (is_end : IsPlainEnd plan end) where
   abbrev g : List Step

@@ -1,18 +1,3 @@
-pub mod Codes
-pub mod Ends
-pub mod EndWorlds
-pub mod RecordedEnds
-pub mod Remaining
-pub mod Rounds
-pub mod ForkedTasks
-pub mod Left
-pub mod AvoidedSteps
-pub mod AvoidedEnds
-pub mod SerialEnds
-pub mod DeadOrNot
-pub mod NextWorlds
-pub mod SerialExists
-pub mod SerialEndTells
 pub mod DeadAtEnd
 pub mod Possible
 pub mod TellingMore
@@ -21,7 +6,6 @@ pub mod Crossing
 pub mod BoardPlaces
 pub mod BoardEnds
 pub mod LastPasses
-pub mod AvoidedRests
 pub mod TellingAll
 pub mod SitesWatched
 pub mod PooledTasks

@@ -13,17 +13,17 @@ use Rattle.armus_base.specs.Boards.{IsLawful}
 use Rattle.armus_base.specs.CheckedPlans.{IsCheckedPlan}
 use Rattle.armus_base.specs.Deadlocks.{IsListedAt, IsListedOn}
 use Rattle.armus_base.specs.FinalLaws.{AreStatuses}
-use Rattle.armus_base.specs.Finals.{final_of, status_of, statuses_of}
+use Rattle.armus_base.specs.Finals.{status_of, statuses_of}
 use Rattle.armus_base.specs.Places.{phases_at_place, published_after, state_at}
 use Rattle.armus_base.specs.Plans.{Plan}
-use Rattle.armus_base.specs.Runs.{IsPrefix, IsReachable, Place, first_place}
+use Rattle.armus_base.specs.Runs.{IsPrefix, Place, first_place, state_after}
 use Rattle.armus_base.specs.Seats.{IsAsFarOn, SeenBy}
 use Rattle.armus_base.specs.Statuses.{IsInOrder}
 use Rattle.armus_base.proofs.Below.{given_few}
 use Rattle.armus_base.proofs.BoardRuns.{opening_is_lawful, plain_is_lawful}
 use Rattle.armus_base.proofs.FoundArePublished.{published_within}
-use Rattle.armus_base.proofs.OneEnd.{one_end}
 use Rattle.armus_base.proofs.Places.{precedes_itself}
+use Rattle.armus_base.proofs.Reachable.{reachable_is_fixed}
 use Rattle.armus_base.proofs.StatusesAre.{statuses_are}
 use Rattle.board.specs.declared.mode.Mode.{Mode}
 use Rattle.board.specs.declared.mode.Mode.TheVariants.{Detect}
@@ -31,8 +31,7 @@ use Rattle.board.specs.Seats.{Frame, IsNewSeat, IsOf, Known, nothing_seen}
 use Rattle.board.specs.Views.{avoids, seen}
 use Rattle.phase_scan.proofs.Standing.{phases_begun_at, published_begun}
 use Rattle.phase_scan.proofs.Loads.{prefix_both}
-use Rattle.pl_core.specs.Stands.{IsEnabled}
-use Rattle.pl_core.specs.Worlds.{WorldValue, places_of, state_of}
+use Rattle.pl_core.specs.Worlds.{places_of, state_of}
 use Rattle.sites.specs.Checks.{part_of}
 use Rattle.sites.specs.Keeping.{held}
 use Rattle.sites.specs.Parts.{HoldParts, PutsParts}
@@ -41,10 +40,10 @@ use Rattle.sites.specs.Rows.{IsRowOf, is_of_site}
 use Rattle.sites.specs.Snaps.{HasLookedOn, HasSeenLawful, IsBacked}
 use Rattle.sites.proofs.Gathered.{passed_is}
 use Rattle.sites.proofs.PassSteps.{is_there, some_one}
+use Rattle.world_runs.specs.EndWorlds.{IsWorldEnd}
+use Rattle.world_runs.specs.declared.world_end.WorldEnd.{WorldEnd}
 use Rattle.task_runner.specs.SiteRuns.{HoldFinal, HoldRowsOfRun, IsRowOfRun}
 use Rattle.task_runner.specs.inside.SiteRounds.{AreWatching, IsWholeEnd}
-use Rattle.task_runner.specs.inside.Turns.{NobodyRefused}
-use Rattle.task_runner.proofs.Ends.{is_final, undropped_all, unrefused_plain}
 
 -- before the first pass no row is held
 none_held : (n site : ℕ) → held (replicate n None) site ≡ None
@@ -234,35 +233,34 @@ exact_backed plan a ss checked lawful ss_is =
         let begun = published_begun plan checked u (a u).done is.0.event (published u is.0.event tt (is.0, is.1, is.2, refl)) in
         ap (λ m. m p) (sym (phases_begun_at plan checked false a None lawful u begun)) ∙ ((are.phases u p n).0 is).phase
 
--- where no task may go on and none is refused: the final state, and its statuses
+-- of the world in which a run ends: the final state, and its statuses
 pub whole_end :
-    (w : WorldValue) (plan : Plan) → w.plan ≡ plan → IsCheckedPlan w.plan → IsReachable w.plan (places_of w) → NobodyRefused w →
-    ((t : ℕ) → t < length w.plan.parents → IsEnabled w t → ⊥) → (end : Final) (list : List Status) → end ≡ final_of w.plan (state_of w) →
-    list ≡ statuses_of w.plan (state_of w) → IsWholeEnd plan end list
+    (plan : Plan) (e : WorldEnd) (list : List Status) → IsCheckedPlan plan → IsWorldEnd plan e → list ≡ statuses_of e.world.plan (state_of e.world) → IsWholeEnd plan e.end list
 unfolding state_of
-whole_end w plan same checked reach plain quiet end list end_is list_is =
-    let final = is_final w checked reach plain quiet in
-    subst (λ (p : Plan). IsWholeEnd p end list) same record {
-      plain = record {
-        state = state_of w;
-        final = final;
-        every = λ h run maximal. (one_end w.plan h final.steps checked run final.run maximal final.maximal).1 ∙ final.there;
-        is_it = end_is;
-      };
-      statuses = list_is;
-      in_order = subst IsInOrder (sym list_is) (statuses_are w.plan (state_of w) (λ p. true) checked).in_order;
+whole_end plan e list checked of list_is =
+    record {
+      plain = of.plain;
+      statuses = list_here ∙ ap (statuses_of plan) (sym same ∙ of.plain.every of.world.steps of.world.run of.world.maximal);
+      in_order = subst IsInOrder (sym list_here) (statuses_are plan (state_at plan a) (λ p. true) checked).in_order;
       few =
-          (let count = ap length list_is in let few = given_few (status_of w.plan (state_of w) (λ p. true)) (length w.plan.parents) in
+          (let count = ap length list_here in let few = given_few (status_of plan (state_at plan a) (λ p. true)) (length plan.parents) in
           let limit = checked.limits.few_tasks in omega arith);
-      places = places_of w;
+      places = a;
       lawful = there;
-      backed = exact_backed w.plan (places_of w) list checked there list_is;
+      backed = exact_backed plan a list checked there list_here;
     }
   where
-    there : IsLawful false w.plan (places_of w) None
-    there =
-        let unrefused = unrefused_plain w.plan reach.steps reach.run (λ t. ap (λ (b : Place). b.dropped) (reach.there t) ∙ undropped_all w plain t) in
-        subst (λ (b : ℕ → Place). IsLawful false w.plan b None) (fun_ext reach.there) (plain_is_lawful w.plan reach.steps (reach.run, unrefused))
+    a : ℕ → Place
+    a = places_of e.world
+
+    list_here : list ≡ statuses_of plan (state_at plan a)
+    list_here = subst (λ (q : Plan). list ≡ statuses_of q (state_at q (places_of e.world))) of.world.plan_is list_is
+
+    same : state_after of.world.steps ≡ state_at plan a
+    same = (reachable_is_fixed plan a checked (record { steps = of.world.steps; run = of.world.run.0; there = of.world.there })).0
+
+    there : IsLawful false plan a None
+    there = subst (λ (b : ℕ → Place). IsLawful false plan b None) (fun_ext of.world.there) (plain_is_lawful plan of.world.steps of.world.run)
 
 -- the keeper holds it
 pub final_held :

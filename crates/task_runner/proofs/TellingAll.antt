@@ -8,7 +8,7 @@ use Rattle.armus_base.specs.Plans.{Plan}
 use Rattle.armus_base.specs.Statuses.{IsInOrder}
 use Rattle.armus_base.proofs.StatusesAre.{statuses_are}
 use Rattle.report.specs.NamedDead.{AreSomeDead, AreTheDead}
-use Rattle.task_runner.specs.PlainRuns.{IsPlainEnd}
+use Rattle.world_runs.specs.PlainRuns.{IsPlainEnd}
 use Rattle.task_runner.specs.DetectRuns.{AreDeadAtTheEnd, HasWritten, TellsRun, Told}
 use Rattle.task_runner.specs.inside.Rests.{TellsRest}
 use Rattle.task_runner.specs.inside.Tellers.{TellsMore, TellsOn}

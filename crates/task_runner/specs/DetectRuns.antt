@@ -17,7 +17,7 @@ use Rattle.collector.specs.Passes.{HasDeadOf}
 use Rattle.pl_core.specs.Worlds.{places_at}
 use Rattle.report.specs.Live.{live_text}
 use Rattle.report.specs.NamedDead.{AreSomeDead, AreTheDead}
-use Rattle.task_runner.specs.PlainRuns.{IsPlainEnd}
+use Rattle.world_runs.specs.PlainRuns.{IsPlainEnd}
 use Rattle.task_runner.specs.declared.ran.Ran.{Ran}
 use Rattle.task_runner.specs.declared.ran.RunEnd.{RunEnd}
 use Rattle.task_runner.specs.declared.ran.RunEnd.TheVariants.{Write, NoMemory}

@@ -1,9 +1,7 @@
-pub mod Turns
-pub mod AvoidedRounds
+pub mod BoardRuns
 pub mod Tellers
 pub mod DetectRounds
 pub mod Watching
 pub mod Rests
 pub mod SiteRounds
 pub mod Pooled
-pub mod LiveTasks

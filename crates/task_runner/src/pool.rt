@@ -4,7 +4,7 @@ ghost use Rattle.armus_base.specs.Seats.{seen_by_child};
 ghost use Rattle.board.specs.declared.mode.Mode.TheVariants.{Detect};
 ghost use Rattle.board.specs.Seats.{IsNewSeat, nothing_seen};
 ghost use Rattle.slot_pool.specs.Hands.{IsOfPool, IsSameWorker};
-ghost use Rattle.task_runner.specs.PlainRuns.{IsPlainEnd};
+ghost use Rattle.world_runs.specs.PlainRuns.{IsPlainEnd};
 ghost use Rattle.task_runner.specs.inside.Pooled.{AreAllWorkers};
 
 use crate::RunOptions;
@@ -25,7 +25,7 @@ use std::thread;
 use std::thread::Threads;
 
 /// Runs the plan on a board that detects deadlock, without rounds: each worker that is free claims the next task that no other has, gives it one turn, and
-/// puts it back, until a sweep over all tasks in which it made no event and found no task with another worker. A task that is forked can be claimed at once.
+/// puts it back, until a sweep over all tasks in which it made no event and found no task with another worker, or until the board costs too much. A task that is forked can be claimed at once.
 /// Then one viewer takes all seats in, a detector makes one pass, and the board is closed; from the places at which the tasks stood the run goes on in one
 /// thread until no task may go on. The gate is called before each op. Workers may go on for each other: the call may wait, and what it answers holds if it
 /// returns. `NoMemory` comes where memory was wanting, for the call or for one of its workers.
@@ -41,43 +41,53 @@ pub fn run_pool<R: Threads + Wait + Sync, G: Gate>(
     ensures end { IfOk result (λ end. IsPlainEnd plan.now end) }
 {
     let (board, seat, view) = Board::start(alloc, plan, Mode::Detect)?;
-    run_on::<Brand, R, G>(rt, alloc, plan, options, gate, board, seat, view)
+    let run = PoolRun {
+        alloc,
+        plan,
+        options: *options,
+        board,
+        view,
+    };
+    run_on::<Brand, R, G>(rt, run, seat, gate)
+}
+
+/// A run without rounds, but for its workers.
+#[derive(Drop)]
+pub(crate) struct PoolRun<'p> {
+    pub(crate) alloc: Global,
+    pub(crate) plan: &'p Plan,
+    pub(crate) options: RunOptions,
+    pub(crate) board: Board,
+    pub(crate) view: ViewSeat,
 }
 
 // The run on the board that N names, which has just started.
 fn run_on<N: BoardName + Send, R: Threads + Wait + Sync, G: Gate>(
     rt: &R,
-    alloc: Global,
-    plan: &Plan,
-    options: &RunOptions,
-    gate: &G,
-    board: Board,
+    run: PoolRun<'_>,
     seat: TaskSeat,
-    view: ViewSeat,
+    gate: &G,
 ) -> Result<Final, NoMemory>
-    requires workers { 1 ≤ options.now.workers × options.now.workers ≤ 64 }
-    requires board { (board ≡ N.board) × (N.board.plan ≡ plan.now) × (N.board.mode ≡ Detect) }
+    requires workers { 1 ≤ run.options.workers × run.options.workers ≤ 64 }
+    requires board { (run.board ≡ N.board) × (N.board.plan ≡ run.plan.now) × (N.board.mode ≡ Detect) }
     requires seat { IsNewSeat N.board (Some 0) (seen_by_child 0 nothing_seen) seat }
-    requires viewer { IsNewSeat N.board None nothing_seen view }
-    ensures end { IfOk result (λ end. IsPlainEnd plan.now end) }
+    requires viewer { IsNewSeat N.board None nothing_seen run.view }
+    ensures end { IfOk result (λ end. IsPlainEnd run.entry.plan.now end) }
 {
+    let (alloc, plan) = (run.alloc, run.plan);
     let first: PooledTask<'_, N> = PooledTask::new(alloc, seat, plan);
-    let count = u32::from(options.workers);
+    let count = u32::from(run.options.workers);
     let Ok((pool, workers)) = Pool::start(alloc, plan.tasks(), count, first) else {
         return Err(NoMemory);
     };
-    let workers = engage(
-        alloc,
-        plan,
-        workers.into_vec(),
-        Judging::Graph(options.wanted),
-    )?;
-    let workers = work_all(rt, alloc, &board, &pool, gate, workers)?;
+    let judging = Judging::Graph(run.options.wanted);
+    let workers = engage(alloc, plan, workers.into_vec(), judging)?;
+    let workers = work_all(rt, alloc, &run.board, &pool, gate, workers)?;
     let mut tasks = Vec::new(alloc);
     let workers = dismiss(alloc, workers, &mut tasks)?;
     let entries = pool.close(workers).into_vec();
     take_out(entries, &mut tasks)?;
-    end_run(alloc, board, view, plan, options.wanted, gate, tasks)
+    end_run(run, gate, tasks)
 }
 
 // Workers that have made no turn yet.
@@ -90,9 +100,10 @@ fn engage<'p, N: BoardName>(
     requires plan { N.board.plan ≡ plan.now }
     ensures { IfOk result (λ v. v.items ≡ workers.entry.items) }
 {
+    let count = workers.len() as u64;
     let mut engaged = Vec::new(alloc);
     for worker in workers {
-        engaged.push(PoolWorker::new(alloc, worker, plan, judging))?;
+        engaged.push(PoolWorker::new(alloc, worker, plan, count, judging))?;
     }
     Ok(engaged)
 }

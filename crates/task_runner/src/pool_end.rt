@@ -9,44 +9,47 @@ ghost use Rattle.board.specs.Steps.{IsSameSeat};
 ghost use Rattle.board_rounds.specs.Turns.{Working};
 ghost use Rattle.board_rounds.specs.Crews.{ArePlacesOf, IsCrewSeat, done_of, number};
 ghost use Rattle.board_rounds.specs.inside.Endings.{NotesPlaces, TakesAll};
-ghost use Rattle.task_runner.specs.PlainRuns.{IsPlainEnd};
+ghost use Rattle.world_runs.specs.PlainRuns.{IsPlainEnd};
 ghost use Rattle.task_runner.specs.inside.Pooled.{AreForksMarked, AreClosedUnderForks, ContainsTask};
 
 use crate::board_name::BoardName;
-use crate::ending::{end_from, end_of};
+use crate::pool::PoolRun;
 use crate::pooled_task::PooledTask;
-use adaptive::Wanted;
 use armus_base::{Cursor, Final, Gate, List, NoMemory, Op, Plan};
 use board::{Board, ViewSeat};
 use collector::Collector;
-use pl_core::{Place, World};
+use pl_core::Place;
 use std::alloc::Global;
+use world_runs::{end_from, run_plain};
 
 /// Ends the run of these tasks: a viewer takes their seats in, a detector makes one pass, and the board is closed; the run goes on in one thread from the
 /// places at which the tasks stood, or from the opening where one that was forked is not among them.
 pub(crate) fn end_run<N: BoardName, G: Gate>(
-    alloc: Global,
-    board: Board,
-    mut view: ViewSeat,
-    plan: &Plan,
-    wanted: Wanted,
+    run: PoolRun<'_>,
     gate: &G,
     tasks: Vec<PooledTask<'_, N>>,
 ) -> Result<Final, NoMemory>
-    requires board { (board ≡ N.board) × (N.board.plan ≡ plan.now) × (N.board.mode ≡ Detect) }
-    requires viewer { IsNewSeat N.board None nothing_seen view }
-    ensures end { IfOk result (λ end. IsPlainEnd plan.now end) }
+    requires board { (run.board ≡ N.board) × (N.board.plan ≡ run.plan.now) × (N.board.mode ≡ Detect) }
+    requires viewer { IsNewSeat N.board None nothing_seen run.view }
+    ensures end { IfOk result (λ end. IsPlainEnd run.entry.plan.now end) }
 {
+    let PoolRun {
+        alloc,
+        plan,
+        options,
+        board,
+        mut view,
+    } = run;
     let places = places_of(alloc, plan, tasks.as_slice())?;
     let whole = are_whole(alloc, plan, tasks.as_slice())?;
     take_in_all(&board, &mut view, tasks);
     let mut collector = Collector::start(alloc, &board)?;
-    let _ = collector.pass(alloc, &mut view, &board, wanted)?;
+    let _ = collector.pass(alloc, &mut view, &board, options.wanted)?;
     let _ = board.close(view);
     if whole {
         return end_from(alloc, plan, places.as_slice(), gate);
     }
-    end_of(alloc, World::start(alloc, plan)?, plan, gate)
+    run_plain(alloc, plan, gate)
 }
 
 // The place of each task of the plan.

@@ -4,6 +4,7 @@ ghost use Rattle.board_rounds.specs.Crews.{number};
 ghost use Rattle.slot_pool.specs.Hands.{IsOfPool, IsSameWorker};
 
 use crate::board_name::BoardName;
+use crate::leaving::are_many;
 use crate::pooled_task::PooledTask;
 use crate::sweep::Sweep;
 use crate::works_on_pool::WorksOnPool;
@@ -23,6 +24,8 @@ pub(crate) struct PoolWorker<'p, N: BoardName> {
     worker: Worker<PooledTask<'p, N>>,
     // of the board
     plan: &'p Plan,
+    // how many workers the pool has
+    workers: u64,
     cells: WorkerCells,
     // the tasks that were handed back to it
     returned: Vec<PooledTask<'p, N>>,
@@ -63,11 +66,12 @@ impl<'p, N: BoardName> WorksOnPool<PooledTask<'p, N>> for PoolWorker<'p, N> {
 }
 
 impl<'p, N: BoardName> PoolWorker<'p, N> {
-    /// A worker that has made no turn.
+    /// One of so many workers, which has made no turn.
     pub(crate) fn new(
         alloc: Global,
         worker: Worker<PooledTask<'p, N>>,
         plan: &'p Plan,
+        workers: u64,
         judging: Judging,
     ) -> PoolWorker<'p, N>
         requires plan { N.board.plan ≡ plan.now }
@@ -76,6 +80,7 @@ impl<'p, N: BoardName> PoolWorker<'p, N> {
         PoolWorker {
             worker,
             plan,
+            workers,
             cells: WorkerCells::new(judging),
             returned: Vec::new(alloc),
             wants_memory: false,
@@ -98,10 +103,10 @@ impl<'p, N: BoardName> PoolWorker<'p, N> {
         ensures idle { self.new.view.has ≡ [] }
     {
         match self.sweep(alloc, board, pool, gate) {
-            Ok(Sweep::Moved) => true,
+            Ok(Sweep::Moved) => !self.costs_too_much(),
             Ok(Sweep::Held) => {
                 yield_now();
-                true
+                !self.costs_too_much()
             }
             Ok(Sweep::Quiet) => false,
             Err(NoMemory) => {
@@ -109,6 +114,11 @@ impl<'p, N: BoardName> PoolWorker<'p, N> {
                 false
             }
         }
+    }
+
+    // Whether the board costs too much: the awaits of all workers, if each has loaded as many words as this one.
+    fn costs_too_much(&self) -> bool {
+        are_many(self.cells.loads().saturating_mul(self.workers))
     }
 
     // Visits each task, in order of number.

@@ -5,21 +5,22 @@ ghost use Rattle.armus_base.specs.Statuses.{IsInOrder};
 ghost use Rattle.board.specs.declared.mode.Mode.TheVariants.{Detect};
 ghost use Rattle.board.specs.Seats.{IsNewSeat, IsOf, IsSeat};
 ghost use Rattle.board.specs.Views.{seen};
-ghost use Rattle.board_rounds.specs.Crews.{AreTasksOf, HaveEnded, all_of};
+ghost use Rattle.board_rounds.specs.Crews.{HaveEnded, all_of};
 ghost use Rattle.sites.specs.Keeping.{count_after};
 ghost use Rattle.sites.specs.Parts.{HoldParts, PutsParts};
-ghost use Rattle.task_runner.specs.PlainRuns.{IsPlainEnd};
+ghost use Rattle.world_runs.specs.PlainRuns.{IsPlainEnd};
 ghost use Rattle.task_runner.specs.SiteRuns.{HoldFinal, HoldRowsOfRun};
+ghost use Rattle.task_runner.specs.inside.BoardRuns.{IsOnBoard};
 ghost use Rattle.task_runner.specs.inside.SiteRounds.{IsWholeEnd};
 
 use crate::RunOptions;
-use crate::site_rounds::go_by_site_rounds;
+use crate::board_run::BoardRun;
+use crate::viewers::Viewers;
 use crate::whole_ending::whole_end_from;
 use adaptive::{Analysis, Wanted};
 use armus_base::{Final, Gate, List, NoMemory, Plan, Status};
 use avoider::Judging;
 use board::{Board, Mode, ViewSeat};
-use board_rounds::Crew;
 use sites::{KeepEnd, Keeper, MAX_SITES, SiteEnd, check_sites, put_parts};
 use std::alloc::Global;
 use std::thread::Threads;
@@ -49,13 +50,12 @@ pub fn run_sites<R: Threads + Sync, G: Gate, K: Keeper>(
     ensures count { K.faults keeper.new ≡ count_after result (K.faults keeper.old) }
 {
     let (board, seat, mut view) = Board::start(alloc, plan, Mode::Detect)?;
-    let mut views = split_views(alloc, &board, &mut view, sites)?;
-    let judging = Judging::Graph(options.wanted);
-    let mut crew = Crew::start(alloc, &board, seat, plan, judging)?;
-    go_by_site_rounds(
-        rt, alloc, &board, plan, options, gate, &mut crew, &mut views, keeper,
-    )?;
-    let (end, statuses) = end_of_board(alloc, board, view, plan, gate, crew)?;
+    let views = split_views(alloc, &board, &mut view, sites)?;
+    let wanted = options.wanted;
+    let mut viewers = Viewers { views, wanted };
+    let mut run = BoardRun::start(alloc, &board, seat, plan, options, Judging::Graph(wanted))?;
+    run.go(rt, &board, gate, &mut viewers, keeper)?;
+    let (end, statuses) = end_of_board(run, board, view, gate)?;
     put_final(alloc, keeper, statuses.as_slice(), sites, options.wanted)?;
     Ok(end)
 }
@@ -82,22 +82,25 @@ fn split_views(
 
 // Ends the run of these tasks, which have all come to the end of their turns: its final state, and the statuses of that with all their phases.
 fn end_of_board<G: Gate>(
-    alloc: Global,
+    run: BoardRun<'_>,
     board: Board,
     mut view: ViewSeat,
-    plan: &Plan,
     gate: &G,
-    crew: Crew<'_>,
 ) -> Result<(Final, List<Status>), NoMemory>
-    requires plan { board.plan ≡ plan.now }
+    requires on_board { IsOnBoard board run.plan.now run.crew }
     requires detects { board.mode ≡ Detect }
-    requires tasks { AreTasksOf board crew }
-    requires ends { HaveEnded (all_of crew) }
+    requires ends { HaveEnded (all_of run.crew) }
     requires made { IsOf view board }
     requires kept { IsSeat view }
     requires unknown { (u : ℕ) → (seen view.view).exact u ≡ false }
-    ensures end { IfOk result (λ r. IsWholeEnd plan.now r.0 r.1) }
+    ensures end { IfOk result (λ r. IsWholeEnd run.entry.plan.now r.0 r.1) }
 {
+    let BoardRun {
+        alloc,
+        plan,
+        crew,
+        ..
+    } = run;
     let places = crew.places(alloc, &board, plan)?;
     crew.take_in(&board, &mut view);
     let _ = board.close(view);

@@ -12,10 +12,11 @@ ghost use Rattle.task_runner.specs.DetectRuns.{told};
 ghost use Rattle.task_runner.specs.inside.Tellers.{HasPassed, TellsMore, Watches};
 
 use crate::RunEnd;
+use crate::beside::Beside;
 use adaptive::Wanted;
-use armus_base::{Dead, Gate, List, NoMemory, Point, Sink, TaskId, write_text};
+use armus_base::{Dead, List, NoMemory, Point, TaskId, Writes};
 use board::{Board, ViewSeat, Words};
-use board_rounds::Crew;
+use board_rounds::{Calls, Crew};
 use collector::{Collector, Verdict};
 use report::live_lines;
 use std::alloc::Global;
@@ -30,6 +31,8 @@ pub(crate) struct Teller {
     dead: Vec<Dead>,
     // the dead tasks of the last pass, in order
     last: List<TaskId>,
+    // the graph that is wanted
+    wanted: Wanted,
 }
 
 impl Model for Teller {
@@ -44,7 +47,12 @@ impl Model for Teller {
 
 impl Teller {
     /// Before the first pass.
-    pub(crate) fn start(alloc: Global, board: &Board, view: ViewSeat) -> Result<Teller, NoMemory>
+    pub(crate) fn start(
+        alloc: Global,
+        board: &Board,
+        view: ViewSeat,
+        wanted: Wanted,
+    ) -> Result<Teller, NoMemory>
         requires new { IsNewSeat board.now None nothing_seen view }
         ensures watches { IfOk result (Watches board.now) }
         ensures nobody { IfOk result (λ teller. teller.dead ≡ []) }
@@ -55,16 +63,16 @@ impl Teller {
             view,
             dead: Vec::new(alloc),
             last: List::new(alloc),
+            wanted,
         })
     }
 
     /// One pass, and a line for each task that it is the first to name. After the lines it calls the gate.
-    pub(crate) fn tell<G: Gate, K: Sink>(
+    pub(crate) fn tell<C: Calls, K: Writes>(
         &mut self,
         alloc: Global,
         board: &Board,
-        wanted: Wanted,
-        gate: &G,
+        gate: &C,
         out: &mut K,
     ) -> Result<(), RunEnd>
         requires watches { Watches board.now self.old }
@@ -72,26 +80,21 @@ impl Teller {
         ensures watches { OnOk result (Watches board.now self.new) }
         ensures goes_on { LoadsAlone self.old.view self.new.view }
         ensures passed { OnOk result (HasPassed self.old.view self.new) }
-        ensures told { TellsMore board.now.plan self.old.dead self.new.dead (told K.taken K.faults out.old) (told K.taken K.faults out.new) result }
+        ensures told { TellsMore board.now.plan self.old.dead self.new.dead (told K.bytes K.failures out.old) (told K.bytes K.failures out.new) result }
     {
-        let Ok(lines) = self.name(alloc, board, wanted) else {
+        let Ok(lines) = self.name(alloc, board) else {
             return Err(RunEnd::NoMemory);
         };
-        let Ok(()) = write_text(out, lines.as_slice()) else {
+        let Ok(()) = out.write_all(lines.as_slice()) else {
             return Err(RunEnd::Write);
         };
         let count = u32::try_from(self.dead.len()).unwrap_or(u32::MAX);
-        gate.at(Point::Named { count });
+        gate.call(Point::Named { count });
         Ok(())
     }
 
     /// One pass; answers the lines of the tasks that it is the first to name.
-    pub(crate) fn name(
-        &mut self,
-        alloc: Global,
-        board: &Board,
-        wanted: Wanted,
-    ) -> Result<List<u8>, NoMemory>
+    pub(crate) fn name(&mut self, alloc: Global, board: &Board) -> Result<List<u8>, NoMemory>
         requires watches { Watches board.now self.old }
         requires detects { board.now.mode ≡ Detect }
         ensures watches { OnOk result (Watches board.now self.new) }
@@ -99,6 +102,7 @@ impl Teller {
         ensures goes_on { LoadsAlone self.old.view self.new.view }
         ensures passed { OnOk result (HasPassed self.old.view self.new) }
     {
+        let wanted = self.wanted;
         let Verdict { dead, fresh } = self.collector.pass(alloc, &mut self.view, board, wanted)?;
         let lines = live_lines(alloc, fresh.as_slice())?;
         self.dead.append(&mut fresh.into_vec())?;
@@ -127,5 +131,47 @@ impl Teller {
         ensures last { result.2 ≡ self.last }
     {
         (board.close(self.view), self.dead, self.last)
+    }
+}
+
+impl<K: Writes> Beside<K> for Teller {
+    ghost use Rattle.std.specs.Prelude.{◌≡◌, Result, Ok, Err};
+    ghost use Rattle.std.proofs.Common.{refl, subst, ◌∙◌};
+    ghost use Rattle.board.specs.declared.mode.Mode.TheVariants.{Detect};
+    ghost use Rattle.task_runner.specs.declared.ran.RunEnd.TheVariants.{NoMemory};
+    ghost use Rattle.task_runner.specs.DetectRuns.{AreDeadAtTheEnd, told};
+    ghost use Rattle.task_runner.specs.inside.Tellers.{SeesOn, TellsAfter, Watches};
+
+    type Early = RunEnd;
+
+    ghost fits = { λ f x a. Watches f x × (f.mode ≡ Detect) };
+
+    ghost passes = { λ f x a y b r. SeesOn x.view y.view × TellsAfter f.plan x.dead y.dead (told K.bytes K.failures a) (told K.bytes K.failures b) r };
+
+    ghost no_memory = { NoMemory };
+
+    ghost none = { λ f x a fits. ((λ u. refl), (λ first start so_far. so_far)) };
+
+    ghost more = { λ f x y z a b c r p q. ((λ u. q.0 u ∙ p.0 u), (λ first start so_far. q.1 first start (p.1 first start so_far))) };
+
+    ghost wanting = { λ f x y a b fits p. (p.0, (λ first start so_far. let t = p.1 first start so_far in (t.0, subst (AreDeadAtTheEnd f.plan) t.1 fits.0.dead, t.2))) };
+
+    fn is_there(&self) -> bool {
+        true
+    }
+
+    fn pass<C: Calls>(
+        &mut self,
+        alloc: Global,
+        board: &Board,
+        gate: &C,
+        out: &mut K,
+    ) -> Result<(), RunEnd> {
+        self.tell(alloc, board, gate, out)
+    }
+
+    fn early(error: NoMemory) -> RunEnd {
+        let _ = error;
+        RunEnd::NoMemory
     }
 }

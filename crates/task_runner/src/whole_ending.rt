@@ -4,12 +4,11 @@ ghost use Rattle.armus_base.specs.Runs.{IsReachable};
 ghost use Rattle.pl_core.specs.declared.place.Place.{Place as KeptPlace};
 ghost use Rattle.pl_core.specs.Worlds.{places_at};
 ghost use Rattle.task_runner.specs.inside.SiteRounds.{IsWholeEnd};
-ghost use Rattle.task_runner.specs.inside.Turns.{NobodyRefused};
 
-use crate::world_round::round;
 use armus_base::{Final, Gate, List, NoMemory, Plan, Status};
-use pl_core::{Place, World};
+use pl_core::Place;
 use std::alloc::Global;
+use world_runs::world_end_from;
 
 /// The end of the run whose tasks stand at these places, none refused, and the statuses of its final state with all their phases. The gate is called
 /// before each op.
@@ -24,26 +23,7 @@ pub(crate) fn whole_end_from<G: Gate>(
     requires plain { (t : ℕ) (place : KeptPlace) → slice_get places.now t ≡ Some place → place.refused ≡ false }
     ensures end { IfOk result (λ r. IsWholeEnd plan.now r.0 r.1) }
 {
-    let world = World::at(alloc, plan, places)?;
-    whole_end_of(alloc, world, plan, gate)
-}
-
-// The end of the run that has come to this world, in which nobody is refused, and the statuses of its final state: turns go on by rounds in order of number
-// until no task may go on.
-fn whole_end_of<G: Gate>(
-    alloc: Global,
-    mut world: World,
-    plan: &Plan,
-    gate: &G,
-) -> Result<(Final, List<Status>), NoMemory>
-    requires plan { world.plan ≡ plan.now }
-    requires plain { NobodyRefused world }
-    ensures end { IfOk result (λ r. IsWholeEnd plan.now r.0 r.1) }
-{
-    let count = plan.tasks() as usize;
-    let mut forked = vec![in alloc; false; count]?;
-    while round(&mut world, &mut forked, gate) {}
-    let end = world.finish(alloc)?;
-    let statuses = world.statuses(alloc)?;
-    Ok((end, statuses))
+    let ended = world_end_from(alloc, plan, places, gate)?;
+    let statuses = ended.world.statuses(alloc)?;
+    Ok((ended.end, statuses))
 }

@@ -20,8 +20,8 @@ pub(crate) trait WorksOnPool<Q: Named> {
     // The worker as contracts see it.
     ghost hand: { Self → Hand };
 
-    /// Sweeps over the pool until a sweep in which it made no event and found no record with another worker, or until it meets want of memory. The gate is
-    /// called before each op.
+    /// Sweeps over the pool until a sweep in which it made no event and found no record with another worker, or until the board costs too much, or until it
+    /// meets want of memory. The gate is called before each op.
     fn work<R: Wait, C: Calls>(
         &mut self,
         rt: &R,

@@ -1,13 +1,11 @@
 -- The memory of an order: the task at each position beside each task's position, and rows of successors.
-use Rattle.std.specs.Prelude.{◌≡◌, ◌↔◌, ◌⊎◌, ℕ, ◌+◌, ◌<◌, ◌≤◌, List, Vec, length, Contains, slice_index, slice_index_or}
-use Rattle.std.specs.Global.{Global}
+use Rattle.std.specs.Prelude.{◌≡◌, ◌↔◌, ◌⊎◌, ℕ, ◌+◌, ◌<◌, ◌≤◌, List, length, Contains, slice_index, slice_index_or}
 use Rattle.armus_base.specs.declared.ids.TaskId.{TaskId}
-use Rattle.dep_state.specs.Deps.{rows_of}
 use Rattle.order_graph.specs.Orders.{OrderValue, IsEdge}
 
 -- the order that rows and positions are
-abbrev pub order_of : List (Vec TaskId Global) → List ℕ → OrderValue
-order_of rows positions = record { edges = rows_of rows; positions = positions }
+abbrev pub order_of : List (List TaskId) → List ℕ → OrderValue
+order_of rows positions = record { edges = rows; positions = positions }
 
 -- each task stands at its position, and each position is that of the task there
 pub record AreInverse (positions : List ℕ) (at : List TaskId) : Type 0 where

@@ -1,17 +1,15 @@
--- What is left to be done before an order has followed statuses.
+-- What is left to be done before an order has followed a relation.
 use Rattle.std.specs.Prelude.{◌≡◌, ◌↔◌, ◌⊎◌, ℕ, ◌<◌, List, Contains}
 use Rattle.armus_base.specs.declared.ids.TaskId.{TaskId}
-use Rattle.armus_base.specs.declared.status.Status.{Status}
-use Rattle.armus_base.specs.Graphs.{WaitsFor}
 use Rattle.armus_base.specs.Relations.{Walk}
 use Rattle.order_graph.specs.Orders.{OrderValue, IsEdge, position_of}
 use Rattle.order_graph.specs.declared.answers.Followed.{Followed}
 use Rattle.order_graph.specs.declared.answers.Followed.TheVariants.{Kept, Dead}
 
 -- of the edges just the pairs are left, and no task has moved
-pub record KeepsPairs (ss : List Status) (old new : OrderValue) : Type 0 where
+pub record KeepsPairs (Pair : TaskId → TaskId → Type 0) (old new : OrderValue) : Type 0 where
   pub positions : new.positions ≡ old.positions
-  pub edges : (a b : TaskId) → IsEdge new a b ↔ (IsEdge old a b × WaitsFor ss a b)
+  pub edges : (a b : TaskId) → IsEdge new a b ↔ (IsEdge old a b × Pair a b)
 
 -- There are also the edges of Adds. Where each of them went up in the old order, no task has moved.
 pub record AddsAll (Adds : TaskId → TaskId → Type 0) (old new : OrderValue) : Type 0 where
@@ -28,16 +26,11 @@ pub record StopsAt (Adds : TaskId → TaskId → Type 0) (old new : OrderValue) 
 abbrev pub ToWanted : TaskId → List TaskId → TaskId → TaskId → Type 0
 ToWanted t wanted a b = (a ≡ t) × Contains wanted b
 
--- pairs from these tasks
-abbrev pub PairsFrom : List Status → List TaskId → TaskId → TaskId → Type 0
-PairsFrom ss ts a b = Contains ts a × WaitsFor ss a b
+-- pairs from the tasks below n
+abbrev pub PairsBelow : (TaskId → TaskId → Type 0) → ℕ → TaskId → TaskId → Type 0
+PairsBelow Pair n a b = (a.0 < n) × Pair a b
 
--- what came of the edges from t to the wanted tasks
-abbrev pub AnswersRow : TaskId → List TaskId → OrderValue → OrderValue → Followed → Type 0
-AnswersRow t wanted old new Kept = AddsAll (ToWanted t wanted) old new
-AnswersRow t wanted old new Dead = StopsAt (ToWanted t wanted) old new
-
--- what came of the pairs from these tasks
-abbrev pub AnswersRows : List Status → List TaskId → OrderValue → OrderValue → Followed → Type 0
-AnswersRows ss ts old new Kept = AddsAll (PairsFrom ss ts) old new
-AnswersRows ss ts old new Dead = StopsAt (PairsFrom ss ts) old new
+-- what came of edges that were to be added
+abbrev pub AnswersEdges : (TaskId → TaskId → Type 0) → OrderValue → OrderValue → Followed → Type 0
+AnswersEdges Adds old new Kept = AddsAll Adds old new
+AnswersEdges Adds old new Dead = StopsAt Adds old new

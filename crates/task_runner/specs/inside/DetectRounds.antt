@@ -3,12 +3,12 @@ use Rattle.std.specs.Prelude.{◌≡◌}
 use Rattle.armus_base.specs.Plans.{Plan}
 use Rattle.board.specs.declared.mode.Mode.TheVariants.{Detect}
 use Rattle.board.specs.Seats.{Frame}
-use Rattle.board_rounds.specs.Crews.{AreTasksOf, Tasks}
+use Rattle.board_rounds.specs.Crews.{Tasks}
+use Rattle.task_runner.specs.inside.BoardRuns.{IsOnBoard}
 use Rattle.task_runner.specs.inside.Tellers.{Telling, Watches}
 
--- the board is of this plan and detects deadlock, the tasks are those of a run on it, and the teller watches it
+-- the tasks are those of a run on this board of the plan, the board detects deadlock, and the teller watches it
 pub record IsUnderWay (board : Frame) (plan : Plan) (tasks : Tasks) (teller : Telling) : Type 0 where
-  pub of_plan : board.plan ≡ plan
+  pub on_board : IsOnBoard board plan tasks
   pub detects : board.mode ≡ Detect
-  pub crew : AreTasksOf board tasks
   pub watches : Watches board teller

@@ -11,7 +11,7 @@ use Rattle.armus_base.specs.Statuses.{IsInOrder}
 use Rattle.board.specs.Seats.{Frame, IsOf, Known}
 use Rattle.sites.specs.Passes.{AreBacked}
 use Rattle.sites.specs.Snaps.{HasSeenLawful, IsBacked}
-use Rattle.task_runner.specs.PlainRuns.{IsPlainEnd}
+use Rattle.world_runs.specs.PlainRuns.{IsPlainEnd}
 
 -- The viewers of so many sites, and the rows that their keeper holds: each viewer is one of this board, and what it has seen was so in some lawful state;
 -- each row that is held stores statuses of its site that are backed by what the viewer of the site has seen.

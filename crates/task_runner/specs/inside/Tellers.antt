@@ -45,6 +45,11 @@ TellsMore plan before now b n (Ok x) = (fresh : List Dead) × now ≡ before ++ 
 TellsMore plan before now b n (Err Write) = (fresh : List Dead) × AreDeadAtTheEnd plan (before ++ fresh) × HasFailed fresh b n
 TellsMore plan before now b n (Err NoMemory) = (fresh : List Dead) × AreDeadAtTheEnd plan (before ++ fresh) × HasWritten fresh b n
 
+-- From wherever on the tasks of the first list were told before, those of the second one are told now.
+abbrev pub TellsAfter : {A : Type 0} → Plan → List Dead → List Dead → Told → Told → Result A RunEnd → Type 0
+TellsAfter plan before now b n result =
+    (first : List Dead) (start : Told) → TellsMore {A = Unit {0}} plan first before start b (Ok tt) → TellsMore plan first now start n result
+
 -- the viewer knows the same tasks exactly as before
 abbrev pub SeesOn : Known → Known → Type 0
 SeesOn before now = (u : ℕ) → (seen now.view).exact u ≡ (seen before.view).exact u

@@ -18,4 +18,4 @@ pub returns-in-Err-input_for-clause-ends : goal.returns-in-Err-input_for-clause-
 returns-in-Err-input_for-clause-ends g c =
     let means = subst (Means (map string_bytes c.args.words.now)) c.in-Ok-Some.field-0-is c.in-Ok-Some.ensures.means in
     call_served (map string_bytes c.args.words.now) c.in-Ok-Some.command _ _ _ _ (number_of_status c.in-Err-input_for.status) means c.in-Err-input_for.ensures.ends
-    c.in-Err-input_for.ensures.same c.in-Err-input_for.ensures.silent
+    c.in-Err-input_for.ensures.same c.in-Err-input_for.ensures.silent (λ off. c.in-Err-input_for.ensures.short)

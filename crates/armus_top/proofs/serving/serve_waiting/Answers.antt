@@ -10,3 +10,8 @@ pub returns-clause-silent : goal.returns-clause-silent
 returns-clause-silent g c =
     c.write_answer.ensures.silent c.args.command.now c.args.input.now
     (answers_by c.args.command.now c.args.input.now c.answer_waiting-answer.result c.answer_waiting-answer.ensures.answer c.answer_waiting-answer.ensures.refused)
+
+pub returns-clause-unwritten : goal.returns-clause-unwritten
+returns-clause-unwritten g c =
+    c.write_answer.ensures.unwritten c.args.command.now c.args.input.now
+    (answers_by c.args.command.now c.args.input.now c.answer_waiting-answer.result c.answer_waiting-answer.ensures.answer c.answer_waiting-answer.ensures.refused)

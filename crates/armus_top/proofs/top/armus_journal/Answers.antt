@@ -1,4 +1,4 @@
-use Rattle.std.proofs.Common.{map, string_bytes}
+use Rattle.std.proofs.Common.{◌∙◌, map, string_bytes}
 use Rattle.std.specs.Prelude.{Some}
 use Rattle.armus_top.specs.Headline.{passage}
 use Rattle.armus_top.specs.inside.Status.{number_of_status}
@@ -21,7 +21,8 @@ returns-in-Ok-clause-served g c =
     let r = c.in-Ok.request in
     rw c.code.ensures (served_by (call_served (map string_bytes c.args.words.now) r.command _ _ _ _ (number_of_status c.serve_waiting.result) c.in-Ok.ensures.means
     (rw (← c.in-Ok.ensures.unwritten) (ends_by_answer r.command _ _ r.input c.as_slice.result.now _ c.as_slice.ensures.items c.in-Ok.ensures.read
-    c.serve_waiting.ensures.done)) c.in-Ok.ensures.same (λ four. absurd (c.serve_waiting.ensures.silent four))))
+    c.serve_waiting.ensures.done)) c.in-Ok.ensures.same (λ four. absurd (c.serve_waiting.ensures.silent four))
+    (λ off six. c.serve_waiting.ensures.unwritten six ∙ c.in-Ok.ensures.unwritten)))
 
 pub returns-in-Ok-clause-replays : goal.returns-in-Ok-clause-replays
 returns-in-Ok-clause-replays g c =

@@ -1,4 +1,4 @@
-use Rattle.std.proofs.Common.{map, string_bytes}
+use Rattle.std.proofs.Common.{◌∙◌, map, string_bytes}
 use Rattle.armus_top.specs.inside.Status.{number_of_status}
 use Rattle.armus_top.proofs.Answering.{ends_by_answer}
 use Rattle.armus_top.proofs.Ending.{served_by}
@@ -19,7 +19,8 @@ returns-in-Ok g c =
     record {
       served = rw c.code.ensures (served_by (call_served (map string_bytes c.args.words.now) r.command _ _ _ _ (number_of_status c.serve.result) c.in-Ok.ensures.means
           (rw (← c.in-Ok.ensures.unwritten) (ends_by_answer r.command _ _ r.input c.as_slice.result.now _ c.as_slice.ensures.items c.in-Ok.ensures.read
-          c.serve.ensures.done)) c.in-Ok.ensures.same (λ four. absurd (c.serve.ensures.silent four))));
+          c.serve.ensures.done)) c.in-Ok.ensures.same (λ four. absurd (c.serve.ensures.silent four))
+          (λ off six. c.serve.ensures.unwritten off six ∙ c.in-Ok.ensures.unwritten)));
     }
 
 pub returns-in-Err : goal.returns-in-Err

@@ -19,5 +19,11 @@ returns-in-Ok-clause-silent g c command input is four =
     let same = c.finish.ensures.status four in
     absurd (omega arith)
 
+pub returns-in-Ok-clause-unwritten : goal.returns-in-Ok-clause-unwritten
+returns-in-Ok-clause-unwritten g c command input is six =
+    let small = answered_small command input c.in-Ok.output.text (number_of_status c.in-Ok.output.status) (subst (AnswersBy command input) c.in-Ok.is is) in
+    let same = c.finish.ensures.memory six in
+    absurd (omega arith)
+
 pub returns-in-Err-clause-done : goal.returns-in-Err-clause-done
 returns-in-Err-clause-done g c command input is = c.write_end.ensures.done command input (subst (AnswersBy command input) c.in-Err.is is)

@@ -8,6 +8,6 @@ loop-k-preserved c =
     let (task, at) = ahead_of_end c.args.order.now b c.args.goal c.args.stretch.now is c.loop-k.k (record { 0 = 0 }) (omega arith) in
     record {
       sized = omega (arith, c.loop-k.invariant.sized, c.in_ok-push.ensures.len);
-      tells = rw c.in_ok-push.ensures.items (tells_more c.args.order.now c.requires.order c.args.goal c.loop-k.far.items _ c.distance-found.result
-          c.loop-k.invariant.tells task (omega (arith, at, c.loop-k.invariant.sized)) c.distance-found.ensures);
+      tells = rw c.in_ok-push.ensures.items (tells_more c.args.order.now c.requires.order c.args.goal c.loop-k.far.items _ c.in_ok-found.found
+          c.loop-k.invariant.tells task (omega (arith, at, c.loop-k.invariant.sized)) c.in_ok-found.ensures);
     }

@@ -1,34 +1,27 @@
-use Rattle.std.proofs.Common.{◌≡◌, ◌<◌, ◌+◌, ◌∙◌, arith, get_or, length, take}
-use Rattle.std.proofs.lemmas.List.{get_or_default}
+use Rattle.std.proofs.Common.{get_or, subst, inl, inr}
+use Rattle.std.specs.Prelude.{All, Contains}
+use Rattle.std.proofs.lemmas.List.Elements.{All-contains, Contains-get_or}
+use Rattle.std.proofs.lemmas.Result.{IfOk-weaker}
 use Rattle.armus_base.specs.declared.ids.TaskId.{TaskId}
-use Rattle.order_graph.specs.inside.Steps.{ToWanted}
-use Rattle.order_graph.proofs.PairEdges.{IsOne, adds_both, adds_one, adds_stop, stops_one, wanted_more, wanted_so_far}
+use Rattle.order_graph.specs.Orders.{IsTaskOf}
+use Rattle.order_graph.specs.inside.Steps.{AnswersEdges, ToWanted}
+use Rattle.order_graph.proofs.PairEdges.{answers_missing}
 use Rattle.order_graph.proofs.following.add_row.Goals as goal
 
-pub returns-in-Cycle-clause-row : goal.returns-in-Cycle-clause-row
-returns-in-Cycle-clause-row c =
-    let i = c.loop-b.b-index in
-    let none : TaskId = record { 0 = 0 } in
-    let b : TaskId = get_or c.args.wanted.now i none in
-    let lt : i < length c.args.wanted.now = omega arith in
-    let at : b ≡ get_or c.args.wanted.now i b = get_or_default c.args.wanted.now i none b lt in
-    let added = rw c.in-Cycle.is at c.in_ok-add.ensures.added in
-    adds_stop (ToWanted c.args.t (take i c.args.wanted.now)) (IsOne c.args.t b) (ToWanted c.args.t c.args.wanted.now) c.args.order.now c.loop-b.order c.add.new.self
-    c.loop-b.invariant.adds (rw added.0 (stops_one c.args.t b c.loop-b.order c.in-Cycle.field-0 added.1)) (wanted_so_far c.args.t b c.args.wanted.now i lt at)
+pub add_edges-requires-clause-wanted : goal.add_edges-requires-clause-wanted
+add_edges-requires-clause-wanted c =
+    let missing = c.in_ok-missing.missing.items in
+    let tasks : All (IsTaskOf c.args.order.now) missing = λ k d lt. All-contains (IsTaskOf c.args.order.now) c.args.wanted.now (get_or missing k d) c.requires.wanted (c.in_ok-missing.ensures.within (get_or missing k d)
+    (Contains-get_or missing k d lt)).0 in
+    rw c.deref.ensures.value tasks
 
-pub loop-b-preserved : goal.loop-b-preserved
-loop-b-preserved c =
-    let inv = c.loop-b.invariant in
-    let i = c.loop-b.b-index in
-    let none : TaskId = record { 0 = 0 } in
-    let b : TaskId = get_or c.args.wanted.now i none in
-    let lt : i < length c.args.wanted.now = omega arith in
-    let at : b ≡ get_or c.args.wanted.now i b = get_or_default c.args.wanted.now i none b lt in
-    let added = rw c.in-Kept.is at c.in_ok-add.ensures.added in
-    record {
-      order = c.in_ok-add.ensures.order;
-      tasks = added.tasks ∙ inv.tasks;
-      adds = adds_both (ToWanted c.args.t (take i c.args.wanted.now)) (IsOne c.args.t b) (ToWanted c.args.t (take (i + 1) c.args.wanted.now)) c.args.order.now
-          c.loop-b.order c.add.new.self inv.adds
-          (adds_one c.args.t b c.loop-b.order c.add.new.self added) (wanted_more c.args.t b c.args.wanted.now i lt at);
-    }
+pub returns-clause-row : goal.returns-clause-row
+returns-clause-row c =
+    let missing = c.in_ok-missing.missing.items in
+    let wanted = c.args.wanted.now in
+    let old = c.args.order.now in
+    let new = c.add_edges.new.order in
+    IfOk-weaker c.add_edges.result (AnswersEdges (ToWanted c.args.t missing) old new) (AnswersEdges (ToWanted c.args.t wanted) old new)
+    (answers_missing c.args.t missing wanted old new (λ b m. (c.in_ok-missing.ensures.within b m).0)
+    (λ b m. elim (c.in_ok-missing.ensures.all b m) [ inl l ↦ inl l | inr r ↦ inr (subst (λ ts. Contains {X = TaskId} ts b) c.row-row.ensures.row r) ]))
+    (rw c.deref.ensures.value at c.add_edges.ensures.row)

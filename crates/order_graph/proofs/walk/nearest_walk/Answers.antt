@@ -9,11 +9,11 @@ walk-init c =
 
 pub walk-preserved : goal.walk-preserved
 walk-preserved c =
-    let near = c.next-t.ensures.nearest in
+    let near = c.in_ok-t.ensures.nearest in
     record {
-      listed = c.next-t.ensures.goes_on.listed;
+      listed = c.in_ok-t.ensures.goes_on.listed;
       reaches = (near.left, near.walk);
-      way = rw c.in_ok-push.ensures.items (way_more c.args.order.now c.args.start c.args.goal c.walk.list.items c.walk.t c.walk.invariant.way c.next-t.result near);
+      way = rw c.in_ok-push.ensures.items (way_more c.args.order.now c.args.start c.args.goal c.walk.list.items c.walk.t c.walk.invariant.way c.in_ok-t.t near);
     }
 
 pub returns : goal.returns

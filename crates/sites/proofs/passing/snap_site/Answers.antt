@@ -6,7 +6,7 @@ returns-clause-ok g c =
     let row_is = c.as_slice.ensures.items ∙ c.in_ok-row.ensures.row in
     record {
       row = c.as_slice.result.now;
-      rows = c.in_ok-put.ensures.ok;
+      rows = c.in_ok-put_row.ensures.ok;
       snapped = record {
         list = c.in_ok-snapshot.snapshot.statuses;
         snapshot = c.in_ok-snapshot.ensures.snapshot;

@@ -17,15 +17,15 @@ avoided_end_from-requires-clause-one_each g c κs within = ap length c.as_slice.
 pub avoided_end_from-requires-clause-lawful : goal.avoided_end_from-requires-clause-lawful
 avoided_end_from-requires-clause-lawful g c κs within =
     let f = c.args.board in
-    let tasks = all_of c.args.crew in
+    let tasks = all_of c.args.run.crew in
     let view = c.take_in.new.view in
     let words = c.close.result.words in
     let last = subst (λ (m : Mode). AreLastOf f.plan m (seen view.view) words) c.requires.avoids c.close.ensures.words in
     let places : List KeptPlace = c.in_ok-places.places in
-    let are = subst (λ (q : Plan). ArePlacesOf q tasks places) (sym c.requires.plan) c.in_ok-places.ensures.places in
-    let end = lawful_end f Avoid tasks c.requires.tasks.all view (c.take_in.ensures.kept c.requires.kept) c.take_in.ensures.known c.take_in.ensures.made words
+    let are = subst (λ (q : Plan). ArePlacesOf q tasks places) (sym c.requires.on_board.of_plan) c.in_ok-places.ensures.places in
+    let end = lawful_end f Avoid tasks c.requires.on_board.crew.all view (c.take_in.ensures.kept c.requires.kept) c.take_in.ensures.known c.take_in.ensures.made words
     last c.requires.ends.each places are in (
       end.0,
-      subst (λ (xs : List KeptPlace). IsLawful true c.args.plan.now (places_at c.args.plan.now xs) end.0) (sym c.as_slice.ensures.items)
-          (subst (λ (q : Plan). IsLawful true q (places_at q places) end.0) c.requires.plan end.1),
+      subst (λ (xs : List KeptPlace). IsLawful true c.args.run.plan.now (places_at c.args.run.plan.now xs) end.0) (sym c.as_slice.ensures.items)
+          (subst (λ (q : Plan). IsLawful true q (places_at q places) end.0) c.requires.on_board.of_plan end.1),
     )

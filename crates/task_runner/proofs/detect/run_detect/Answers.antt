@@ -4,7 +4,8 @@ use Rattle.armus_base.specs.Seats.{SeenBy}
 use Rattle.board.specs.Seats.{Known}
 use Rattle.board.specs.Views.{seen}
 use Rattle.task_runner.specs.DetectRuns.{told}
-use Rattle.task_runner.specs.inside.Tellers.{TellsMore}
+use Rattle.task_runner.specs.inside.Tellers.{TellsMore, TellsOn}
+use Rattle.world_runs.specs.declared.options.RunOptions.{RunOptions}
 use Rattle.task_runner.proofs.TellingAll.{run_err, run_on}
 use Rattle.task_runner.proofs.detect.run_detect.Goals as goal
 
@@ -28,5 +29,7 @@ returns-clause-told g c = λ live.
     let a = told g.K.Sink.taken g.K.Sink.faults c.args.out.now in
     let m = told g.K.Sink.taken g.K.Sink.faults c.go_by_rounds.new.out in
     let n = told g.K.Sink.taken g.K.Sink.faults c.end_run.new.out in
+    let same : c.go_by_rounds.new.run.plan.now ≡ c.args.plan.now = search rules in
+    let options : c.go_by_rounds.new.run.options ≡ c.args.options.now = c.go_by_rounds.ensures.given.1 ∙ c.in-Ok-start.ensures.given.1 in
     run_on c.args.plan.now c.in-Ok-start-2.teller.dead c.go_by_rounds.new.teller.dead t.0 a m n c.end_run.result c.in-Ok-start-2.ensures.nobody t.1 t.2
-    (c.end_run.ensures.told live)
+    (subst (λ (q : Plan). TellsOn q c.go_by_rounds.new.teller.dead m n c.end_run.result) same (c.end_run.ensures.told (ap (λ (o : RunOptions). o.live) options ∙ live)))

@@ -10,7 +10,6 @@ use Rattle.board_rounds.specs.Turns.{Working}
 use Rattle.board_rounds.specs.Crews.{ArePlacesOf}
 use Rattle.task_runner.specs.inside.Pooled.{AreClosedUnderForks}
 use Rattle.task_runner.proofs.PoolEnds.{plain_places, reachable_places}
-use Rattle.task_runner.proofs.Rounds.{opening_plain}
 use Rattle.task_runner.proofs.pool_end.end_run.Goals as goal
 
 pub end_from-requires-clause-one_each : goal.end_from-requires-clause-one_each
@@ -19,7 +18,7 @@ end_from-requires-clause-one_each g c κs within = ap length c.as_slice-then-who
 pub end_from-requires-clause-reachable : goal.end_from-requires-clause-reachable
 end_from-requires-clause-reachable g c κs within =
     let f : Frame = g.N.BoardName.board in
-    let plan = c.args.plan.now in
+    let plan = c.args.run.plan.now in
     let tasks : List Working = c.args.tasks.items in
     let places : List KeptPlace = c.in_ok-places.places in
     let now = c.pass.new.view in
@@ -29,13 +28,13 @@ end_from-requires-clause-reachable g c κs within =
     let last = subst (λ (b : Frame). AreLastOf b.plan b.mode (seen now.view) words) c.requires.board.0 c.close.ensures.words in
     let made = subst (IsOf c.take_in_all.new.view) c.requires.board.0 c.take_in_all.ensures.made in
     subst (λ (xs : List KeptPlace). IsReachable plan (places_at plan xs)) (sym c.as_slice-then-whole.ensures.items)
-    (reachable_places f plan c.requires.board.1 c.requires.board.2 tasks c.take_in_all.ensures.crew whole places are c.args.view c.take_in_all.new.view now c.requires.viewer
+    (reachable_places f plan c.requires.board.1 c.requires.board.2 tasks c.take_in_all.ensures.crew whole places are c.args.run.view c.take_in_all.new.view now c.requires.viewer
     c.take_in_all.ensures.taken made c.pass.ensures.collected.goes_on words last)
 
 pub end_from-requires-clause-plain : goal.end_from-requires-clause-plain
 end_from-requires-clause-plain g c κs within = λ t place is.
     let f : Frame = g.N.BoardName.board in
-    let plan = c.args.plan.now in
+    let plan = c.args.run.plan.now in
     let tasks : List Working = c.args.tasks.items in
     let places : List KeptPlace = c.in_ok-places.places in
     let now = c.pass.new.view in
@@ -44,8 +43,5 @@ end_from-requires-clause-plain g c κs within = λ t place is.
     let are = subst (λ (ws : List Working). ArePlacesOf plan ws places) c.as_slice.ensures.value c.in_ok-places.ensures.places in
     let last = subst (λ (b : Frame). AreLastOf b.plan b.mode (seen now.view) words) c.requires.board.0 c.close.ensures.words in
     let made = subst (IsOf c.take_in_all.new.view) c.requires.board.0 c.take_in_all.ensures.made in
-    plain_places f plan c.requires.board.1 c.requires.board.2 tasks c.take_in_all.ensures.crew whole places are c.args.view c.take_in_all.new.view now c.requires.viewer
+    plain_places f plan c.requires.board.1 c.requires.board.2 tasks c.take_in_all.ensures.crew whole places are c.args.run.view c.take_in_all.new.view now c.requires.viewer
     c.take_in_all.ensures.taken made c.pass.ensures.collected.goes_on words last t place (ap (λ (xs : List KeptPlace). slice_get xs t) (sym c.as_slice-then-whole.ensures.items) ∙ is)
-
-pub end_of-requires-clause-plain : goal.end_of-requires-clause-plain
-end_of-requires-clause-plain g c κs within = opening_plain c.args.plan.now c.in_ok-start.field-0 c.in_ok-start.ensures.opening

@@ -1,6 +1,9 @@
-use Rattle.std.proofs.Common.{◌∙◌, ap, sym}
-use Rattle.std.specs.Prelude.{slice_get}
+use Rattle.task_runner.proofs.SitesWatched.{whole_end}
 use Rattle.task_runner.proofs.whole_ending.whole_end_from.Goals as goal
 
-pub whole_end_of-requires-clause-plain : goal.whole_end_of-requires-clause-plain
-whole_end_of-requires-clause-plain g c κs within = λ t place is. c.requires.plain t place (ap (λ ps. slice_get ps t) (sym c.in_ok-world.ensures.at.places) ∙ is)
+pub returns : goal.returns
+returns g c =
+    record {
+      end = whole_end c.args.plan.now c.in_ok-ended.ended c.in_ok-statuses.statuses c.in_ok-ended.ensures.checked c.in_ok-ended.ensures.end
+          c.in_ok-statuses.ensures.statuses;
+    }

@@ -1,33 +1,27 @@
-use Rattle.std.proofs.Common.{◌≡◌, ◌++◌, arith, length, ◌∙◌, get_or, set, take, drop, ◌⊎◌}
+use Rattle.std.proofs.Common.{◌≡◌, ◌++◌, arith, length, ◌∙◌, get_or, take, drop, ◌⊎◌}
 use Rattle.std.specs.Prelude.{Contains, ◌↔◌}
-use Rattle.std.proofs.lemmas.List.{get_or_default, map-set, with_items_is}
+use Rattle.std.proofs.lemmas.List.{get_or_default, with_items_is}
 use Rattle.std.proofs.lemmas.List.Elements.{Contains-get_or}
-use Rattle.dep_state.specs.Deps.{rows_of}
 use Rattle.armus_base.specs.declared.ids.TaskId.{TaskId}
 use Rattle.order_graph.specs.Orders.{IsTaskOf, OrderValue, successors_of}
 use Rattle.order_graph.specs.inside.Rows.{AreSettled, order_of}
-use Rattle.order_graph.proofs.OrderRows.{is_row, memory_ascends, memory_same, on_err_holds}
+use Rattle.order_graph.proofs.OrderRows.{is_row, memory_same, on_err_holds}
 use Rattle.order_graph.proofs.MendedOrders.{inverse_now, mended_edge, mended_order}
 use Rattle.order_graph.proofs.order.Order.mend.Goals as goal
-
-pub put-requires : goal.put-requires
-put-requires c =
-    memory_ascends c.self.inside.rows.items c.self.inside.positions.items c.args.a c.index_mut.result.now c.self.invariant.0
-    (rw (← c.self.view_is) at c.requires.from) c.index_mut.ensures.value
 
 -- where no edge was put the order is as before
 pub invariant_of-self : goal.invariant_of-self
 invariant_of-self c =
     rw (
     memory_same c.self.inside.rows.items c.self.inside.positions.items c.args.a c.index_mut.result.now c.self.invariant.0
-    (rw (← c.self.view_is) at c.requires.from) c.index_mut.ensures.value c.put.new.row c.in_err-put.ensures.err
+    (rw (← c.self.view_is) at c.requires.from) c.index_mut.ensures.value c.put.new.self c.in_err-put.ensures.err
     ) c.self.invariant
 
 pub returns-in_err-put-clause-err : goal.returns-in_err-put-clause-err
 returns-in_err-put-clause-err c =
     on_err_holds c.from_residual.result (
     memory_same c.self.inside.rows.items c.self.inside.positions.items c.args.a c.index_mut.result.now c.self.invariant.0
-    (rw (← c.self.view_is) at c.requires.from) c.index_mut.ensures.value c.put.new.row c.in_err-put.ensures.err ∙ c.self.view_is)
+    (rw (← c.self.view_is) at c.requires.from) c.index_mut.ensures.value c.put.new.self c.in_err-put.ensures.err ∙ c.self.view_is)
 
 pub settle-requires-clause-tasks : goal.settle-requires-clause-tasks
 settle-requires-clause-tasks c k d lt =
@@ -62,10 +56,7 @@ module _ (c : goal.After-self-3-1) where
   tasks : take c.self.inside.at.len (c.settle.new.at ++ drop (length c.settle.new.at) c.self.inside.at.items) ≡ c.settle.new.at
   tasks = with_items_is c.self.inside.at c.settle.new.at (omega (arith, c.settle.ensures.at_sized, c.deref_mut-2.ensures.len))
 
-  rows : rows_of (set c.self.inside.rows.items c.args.a.0 c.put.new.row) ≡ set (rows_of c.self.inside.rows.items) c.args.a.0 c.put.new.row.items
-  rows = map-set (λ r. r.items) c.self.inside.rows.items c.args.a.0 c.put.new.row
-
-  members : (u : TaskId) → Contains c.put.new.row.items u ↔ (Contains (successors_of before c.args.a) u ⊎ (u ≡ c.args.b))
+  members : (u : TaskId) → Contains c.put.new.self u ↔ (Contains (successors_of before c.args.a) u ⊎ (u ≡ c.args.b))
   unfolding before
   members u =
       rw (is_row c.self.inside.rows.items c.self.inside.positions.items c.args.a c.index_mut.result.now c.self.invariant.0 from c.index_mut.ensures.value)
@@ -77,9 +68,9 @@ invariant_of-self-2 c =
     let none = rw (← c.self.view_is) at c.requires.no_walk in
     let down = rw (← c.self.view_is) at c.requires.down in
     let mended = rw (← c.self.view_is) at c.requires.mended in
-    rw (positions c, tasks c, rows c) (
+    rw (positions c, tasks c) (
       mended_order (before c) c.self.invariant.0 c.self.inside.at.items c.self.invariant.1 c.args.a c.args.b (from c) (to c) down none c.args.ts.now mended
-          c.settle.new.positions c.settle.new.at (settled c) c.put.new.row.items c.put.ensures.ascends (members c),
+          c.settle.new.positions c.settle.new.at (settled c) c.put.new.self c.put.ensures.ascends (members c),
       inverse_now (before c) c.self.invariant.0 c.self.inside.at.items c.self.invariant.1 c.args.a c.args.b (from c) (to c) down none c.args.ts.now mended
           c.settle.new.positions c.settle.new.at (settled c),
     )
@@ -90,9 +81,9 @@ returns-clause-ok c =
     let none = rw (← c.self.view_is) at c.requires.no_walk in
     let down = rw (← c.self.view_is) at c.requires.down in
     let mended = rw (← c.self.view_is) at c.requires.mended in
-    rw (← c.self.view_is, positions c, rows c) (
+    rw (← c.self.view_is, positions c) (
     mended_edge (before c) c.self.invariant.0 c.self.inside.at.items c.self.invariant.1 c.args.a c.args.b (from c) (to c) down none c.args.ts.now mended
-    c.settle.new.positions c.settle.new.at (settled c) c.put.new.row.items c.put.ensures.ascends (members c))
+    c.settle.new.positions c.settle.new.at (settled c) c.put.new.self c.put.ensures.ascends (members c))
 
 pub returns-in_err-put-clause-order : goal.returns-in_err-put-clause-order
 returns-in_err-put-clause-order c = (invariant_of-self c).0

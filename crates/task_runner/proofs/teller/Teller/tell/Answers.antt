@@ -8,15 +8,15 @@ pub returns-in_default-clause-told : goal.returns-in_default-clause-told
 returns-in_default-clause-told g c =
     ([], subst (AreDeadAtTheEnd c.args.board.now.plan) (sym (append-nil c.args.self.now.dead)) c.requires.watches.dead, none_written _ _ refl)
 
-pub returns-in_default-write_text-clause-told : goal.returns-in_default-write_text-clause-told
-returns-in_default-write_text-clause-told g c =
+pub returns-in_default-write_all-clause-told : goal.returns-in_default-write_all-clause-told
+returns-in_default-write_all-clause-told g c =
     let named = c.in-Ok.ensures.named in
     let text : c.as_slice.result.now ≡ c.in-Ok.lines = search rules in (
       named.0,
       subst (AreDeadAtTheEnd c.args.board.now.plan) named.1 c.in-Ok.ensures.watches.dead,
       record {
-        front = subst (λ (bytes : List ℕ). TookFront (g.K.Sink.taken c.args.out.now) (g.K.Sink.taken c.write_text.new.out) bytes) (text ∙ named.2)
-            c.in_default-write_text.ensures.err;
-        failed = c.in_default-write_text.ensures.cause.once;
+        front = subst (λ (bytes : List ℕ). TookFront (g.K.Writes.bytes c.args.out.now) (g.K.Writes.bytes c.write_all.new.self) bytes) (text ∙ named.2)
+            c.in_default-write_all.ensures.err;
+        failed = c.in_default-write_all.ensures.cause.once;
       },
     )

@@ -1,0 +1,118 @@
+-- An explanation of a text and the report of its run agree.
+use Rattle.std.proofs.Common.{◌≡◌, ◌∙◌, ◌++◌, ℕ, Bool, List, Option, true, ap, append_assoc, arith, inl, inr, refl, subst, sym}
+use Rattle.std.specs.Prelude.{if◌then◌else◌}
+use Rattle.armus_base.specs.Deadlocks.{IsDeadBy, IsDeadIn}
+use Rattle.armus_base.specs.declared.ids.TaskId.{TaskId}
+use Rattle.armus_base.specs.FinalLaws.{IsOfPlan}
+use Rattle.armus_base.specs.Finals.{final_of}
+use Rattle.armus_base.specs.Places.{state_at}
+use Rattle.armus_base.specs.Plans.{Plan}
+use Rattle.armus_base.specs.Runs.{Place, places}
+use Rattle.armus_base.specs.States.{State}
+use Rattle.armus_base.proofs.DeadByStatuses.{dead_by_final, run_is_of_plan}
+use Rattle.armus_base.proofs.Stepping.{places_fix}
+use Rattle.adaptive.specs.declared.analysis.Wanted.{Wanted}
+use Rattle.explained_tasks.specs.declared.outcome.Verdict.TheVariants.{Circle}
+use Rattle.explained_tasks.specs.Paragraphs.{paragraphs}
+use Rattle.explained_tasks.specs.RunEnds.{AreFactsAt}
+use Rattle.explained_tasks.specs.VerdictWords.{verdict_line}
+use Rattle.explained_tasks.specs.Verdicts.{shown_of, somebody_waits}
+use Rattle.explained_tasks.proofs.DeadlockShown.{deadlock_is_reported}
+use Rattle.explained_tasks.proofs.RestsAtEnd.{leads_there}
+use Rattle.report.specs.Counts.{counts_of}
+use Rattle.report.specs.Lines.{counts_line, cycle_line, task_lines}
+use Rattle.report.specs.Reports.{IsCycleText, IsSomeDead}
+use Rattle.report.specs.Standings.{AreStandings}
+use Rattle.report.proofs.OneReport.{one_cycle_text, one_standings}
+use Rattle.task_sayings.specs.Facts.{FactsValue, facts_of}
+use Rattle.armus_words.specs.Words.{Text}
+use Rattle.armus_top.specs.Programs.{TellsDead}
+use Rattle.armus_top.specs.Runs.{IsRunOf as IsReportedRun}
+use Rattle.armus_top.proofs.OnePlan.{checked_plan}
+use Rattle.explain.specs.Agreement.{BeginAlike, ExplainsAsRun}
+use Rattle.explain.specs.Explained.{IsExplanationOf}
+
+some_dead : (state : State) (number : ℕ) → TellsDead state number → number ≡ 1 → (t : ℕ) × IsDeadIn state t
+some_dead state number (inl (one, dead)) is = dead
+some_dead state number (inr (zero, nobody)) is = absurd (omega (arith, zero, is))
+
+first_of_three : (a b c : List ℕ) → a ++ b ++ c ≡ a ++ (b ++ c)
+first_of_three a b c = append_assoc a b c
+
+first_of_four : (a b c d : List ℕ) → a ++ b ++ c ++ d ≡ a ++ (b ++ c ++ d)
+first_of_four a b c d = simp append_assoc refl
+
+module _ (file : Option Text) (text : Text) (status number : ℕ) (lines report : Text) (g : Wanted) (e : IsExplanationOf file text status lines)
+    (run : IsReportedRun e.plan g number report) where
+  abbrev plan : Plan
+  plan = e.plan
+
+  abbrev a : ℕ → Place
+  a = places e.steps
+
+  -- the state that is explained is the one that is reported
+  same_state : run.state ≡ state_at plan a
+  same_state = sym (run.every e.steps e.ended.run e.ended.maximal) ∙ (places_fix plan (checked_plan text plan e.ended.plan_is) e.steps e.ended.run.0).0
+
+  of_plan : IsOfPlan plan run.state
+  of_plan =
+      subst (IsOfPlan plan) (run.every e.steps e.ended.run e.ended.maximal)
+      (run_is_of_plan plan e.steps (checked_plan text plan e.ended.plan_is) e.ended.run.0)
+
+  stands : run.report_is.standings ≡ e.explains.explains.standings
+  stands =
+      let x = e.explains.explains in
+      one_standings (IsDeadBy (final_of plan run.state).blocked) (final_of plan run.state).ends run.report_is.standings x.standings run.report_is.stand
+      (subst (λ (s : State). AreStandings (IsDeadBy (final_of plan s).blocked) (final_of plan s).ends x.standings) (sym same_state) x.stand)
+
+  begin_alike : BeginAlike lines report
+  begin_alike =
+      let x = e.explains.explains in
+      let f = facts_of text file e.explains.account x.standings in
+      let v = x.explains.verdict in
+      let r = run.report_is in
+      record {
+        standings = x.standings;
+        rest = verdict_line f v ++ paragraphs f (state_at plan a).phases (shown_of v);
+        others = task_lines r.standings ++ r.cycle_text ++ r.graph_text;
+        lines_are = x.explains.is_it
+            ∙ first_of_three (counts_line (counts_of x.standings)) (verdict_line f v) (paragraphs f (state_at plan a).phases (shown_of v));
+        report_is = r.lines ∙ first_of_four (counts_line (counts_of r.standings)) (task_lines r.standings) r.cycle_text r.graph_text
+            ∙ ap (λ s. counts_line (counts_of s) ++ (task_lines r.standings ++ r.cycle_text ++ r.graph_text)) stands;
+      }
+
+  abbrev facts : FactsValue
+  facts = facts_of text file e.explains.account e.explains.explains.standings
+
+  facts_at : AreFactsAt plan a facts
+  facts_at =
+      record { account = e.explains.is_account; reachable = leads_there plan e.steps e.ended.run.0; stand = e.explains.explains.stand }
+
+  -- some task is dead where the report has status 1
+  dead_there : number ≡ 1 → IsSomeDead (final_of plan (state_at plan a)).blocked
+  dead_there one =
+      let (t, dead) = some_dead run.state number run.status_is one in
+      subst (λ (s : State). IsSomeDead (final_of plan s).blocked) same_state (t, (dead_by_final plan run.state t of_plan).1 dead)
+
+  shows_cycle : number ≡ 1 → (cycle : List TaskId) × (run.report_is.cycle_text ≡ cycle_line cycle) × (e.explains.explains.explains.verdict ≡ Circle cycle)
+  shows_cycle one =
+      let x = e.explains.explains.explains in
+      let (cycle, is, reported) = deadlock_is_reported plan a facts x.verdict facts_at x.found (dead_there one) in
+      let told : IsCycleText (final_of plan (state_at plan a)).blocked run.report_is.cycle_text =
+      subst (λ (s : State). IsCycleText (final_of plan s).blocked run.report_is.cycle_text) same_state run.report_is.cycle in
+      (cycle, one_cycle_text (final_of plan (state_at plan a)).blocked run.report_is.cycle_text (cycle_line cycle) told (inr (cycle, reported, refl)), is)
+
+  status_too : number ≡ 1 → status ≡ 1
+  status_too one =
+      let x = e.explains.explains.explains in
+      let (cycle, line, is) = shows_cycle one in
+      let waits : e.waits ≡ true = x.tells ∙ ap somebody_waits is in
+      e.status_is ∙ ap (λ (b : Bool). if b then 1 else 0) waits
+
+pub explains_as_run : ExplainsAsRun
+explains_as_run file text status number lines report g e run = (
+  begin_alike file text status number lines report g e run,
+  λ one.
+      let (cycle, line, is) = shows_cycle file text status number lines report g e run one in
+      (status_too file text status number lines report g e run one, cycle, line, is),
+)

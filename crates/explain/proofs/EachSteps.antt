@@ -1,0 +1,46 @@
+-- Each text has an output with the steps of its run.
+use Rattle.std.proofs.Common.{◌≡◌, ◌++◌, ℕ, Option, inl, inr, refl}
+use Rattle.std.specs.Prelude.{if◌then◌else◌}
+use Rattle.armus_base.specs.Plans.{Plan}
+use Rattle.explained_tasks.proofs.ExplanationExists.{explanation_exists}
+use Rattle.step_lines.proofs.SerialExists.{serial_run_exists}
+use Rattle.step_lines.proofs.SerialIsPlain.{serial_is_plain}
+use Rattle.step_lines.proofs.ShowingExists.{showing_exists}
+use Rattle.armus_words.specs.Words.{Text}
+use Rattle.armus_top.specs.Programs.{IsPlanOf}
+use Rattle.armus_top.proofs.OnePlan.{checked_plan}
+use Rattle.armus_top.proofs.WholeOutputs.{plan_or_refused}
+use Rattle.explain.specs.Laws.{EachTextHasSteps}
+use Rattle.explain.specs.Outputs.{AnswersSteps}
+use Rattle.explain.proofs.EachText.{refused}
+
+stepped : (file : Option Text) (text : Text) (plan : Plan) → IsPlanOf text plan → (status : ℕ) × (lines : Text) × AnswersSteps file text status lines
+stepped file text plan (program, checked) =
+    let (steps, whole) = serial_run_exists plan (checked_plan text plan (program, checked)) in
+    let run = serial_is_plain plan steps whole.serial in
+    let (shown, are_shown) = showing_exists text program plan steps checked.reads in
+    let (lines, waits, explains) = explanation_exists file text program plan steps checked.reads checked.unfolds run.0 whole.maximal in (
+      (if waits then 1 else 0),
+      shown ++ lines,
+      inl (record {
+        plan = plan;
+        steps = steps;
+        ended = record { plan_is = (program, checked); run = run; maximal = whole.maximal };
+        serial = whole.serial;
+        program = program;
+        shown = shown;
+        are_shown = are_shown;
+        explanation = lines;
+        waits = waits;
+        explains = explains;
+        status_is = refl;
+        lines_are = refl;
+      }),
+    )
+
+pub each_text_has_steps : EachTextHasSteps
+each_text_has_steps file text =
+    elim (plan_or_refused text) [
+      | inl one ↦ let (plan, is) = one in stepped file text plan is
+      | inr one ↦ let (why, is) = one in let (lines, refuses) = refused file text why is in (3, lines, inr (refl, refuses))
+    ]

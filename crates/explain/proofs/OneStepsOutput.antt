@@ -1,0 +1,44 @@
+-- A text has one output with the steps of its run, with one status.
+use Rattle.std.proofs.Common.{◌≡◌, ◌∙◌, ◌++◌, ℕ, List, Option, ap, inl, inr, subst, sym}
+use Rattle.armus_base.specs.Plans.{Plan}
+use Rattle.armus_base.specs.Runs.{IsMaximal}
+use Rattle.armus_base.specs.States.{Step}
+use Rattle.step_lines.specs.SerialRuns.{IsSerialRun, IsWholeSerialRun}
+use Rattle.step_lines.specs.ShownSteps.{AreShown}
+use Rattle.step_lines.proofs.OneSerialRun.{one_serial_run}
+use Rattle.step_lines.proofs.OneShowing.{one_showing}
+use Rattle.armus_words.specs.Words.{Text}
+use Rattle.armus_top.proofs.OnePlan.{checked_plan, one_plan}
+use Rattle.explain.specs.Laws.{OneStepsOutput}
+use Rattle.explain.specs.Stepped.{AreStepsOf}
+use Rattle.explain.proofs.Fixing.{explained_or_fault, refused_has, steps_explained}
+use Rattle.explain.proofs.OneOutput.{one_explained, one_refused}
+
+one_stepped : (file : Option Text) (text : Text) (status other : ℕ) (lines others : Text) → AreStepsOf file text status lines → AreStepsOf file text other others
+    → (status ≡ other) × (lines ≡ others)
+one_stepped file text status other lines others a b =
+    let plans : b.plan ≡ a.plan = one_plan text b.plan a.plan b.ended.plan_is a.ended.plan_is in
+    let serial : IsSerialRun a.plan b.steps = subst (λ (q : Plan). IsSerialRun q b.steps) plans b.serial in
+    let maximal : IsMaximal a.plan b.steps = subst (λ (q : Plan). IsMaximal q b.steps) plans b.ended.maximal in
+    let whole : IsWholeSerialRun a.plan b.steps = record { serial = serial; maximal = maximal } in
+    let own : IsWholeSerialRun a.plan a.steps = record { serial = a.serial; maximal = a.ended.maximal } in
+    let steps : b.steps ≡ a.steps = one_serial_run a.plan b.steps a.steps (checked_plan text a.plan a.ended.plan_is) whole own in
+    let by_plan : AreShown text b.program a.plan b.steps b.shown = subst (λ (q : Plan). AreShown text b.program q b.steps b.shown) plans b.are_shown in
+    let by_steps : AreShown text b.program a.plan a.steps b.shown = subst (λ (h : List Step). AreShown text b.program a.plan h b.shown) steps by_plan in
+    let shown : b.shown ≡ a.shown = one_showing text b.program a.program a.plan a.steps b.shown a.shown by_steps a.are_shown in
+    let same = one_explained file text status other a.explanation b.explanation (steps_explained file text status lines a)
+    (steps_explained file text other others b) in (
+      same.0,
+      a.lines_are
+          ∙ ap (λ (s : Text). s ++ a.explanation) (sym shown)
+          ∙ ap (λ (x : Text). b.shown ++ x) same.1
+          ∙ sym b.lines_are,
+    )
+
+pub one_steps_output : OneStepsOutput
+one_steps_output file text status other lines others (inl a) (inl b) = one_stepped file text status other lines others a b
+one_steps_output file text status other lines others (inl a) (inr (three, b)) =
+    absurd (explained_or_fault file text status a.explanation (steps_explained file text status lines a) (refused_has file text others b))
+one_steps_output file text status other lines others (inr (three, a)) (inl b) =
+    absurd (explained_or_fault file text other b.explanation (steps_explained file text other others b) (refused_has file text lines a))
+one_steps_output file text status other lines others (inr (three, a)) (inr (too, b)) = (three ∙ sym too, one_refused file text lines others a b)

@@ -1,0 +1,28 @@
+-- An explanation of a text and the report of its run agree.
+use Rattle.std.specs.Prelude.{◌≡◌, ◌++◌, ℕ, List, Option}
+use Rattle.armus_base.specs.declared.ids.TaskId.{TaskId}
+use Rattle.adaptive.specs.declared.analysis.Wanted.{Wanted}
+use Rattle.explained_tasks.specs.declared.outcome.Verdict.TheVariants.{Circle}
+use Rattle.report.specs.Counts.{counts_of}
+use Rattle.report.specs.declared.standing.Standing.{Standing}
+use Rattle.report.specs.Lines.{counts_line, cycle_line}
+use Rattle.armus_words.specs.Words.{Text}
+use Rattle.armus_top.specs.Runs.{IsRunOf as IsReportedRun}
+use Rattle.explain.specs.Explained.{IsExplanationOf}
+
+-- both begin with the same line, which counts how the tasks stand
+pub record BeginAlike (lines report : Text) : Type 0 where
+  pub standings : List Standing
+  pub rest : Text
+  pub others : Text
+  pub lines_are : lines ≡ counts_line (counts_of standings) ++ rest
+  pub report_is : report ≡ counts_line (counts_of standings) ++ others
+
+-- A report of the run of the explained text, whatever graph is wanted, begins as its explanation does. Where the report has status 1, so has the explanation,
+-- and its verdict shows the tasks that the report's cycle line names.
+abbrev pub ExplainsAsRun : Type 0
+ExplainsAsRun =
+    (file : Option Text) (text : Text) (status number : ℕ) (lines report : Text) (g : Wanted) (e : IsExplanationOf file text status lines)
+    (run : IsReportedRun e.plan g number report) →
+    BeginAlike lines report
+    × (number ≡ 1 → (status ≡ 1) × (cycle : List TaskId) × (run.report_is.cycle_text ≡ cycle_line cycle) × (e.explains.explains.explains.verdict ≡ Circle cycle))

@@ -1,0 +1,27 @@
+-- What is written where the steps of a text's run are shown.
+use Rattle.std.specs.Prelude.{◌≡◌, ◌++◌, ℕ, Bool, if◌then◌else◌, List, Option}
+use Rattle.armus_base.specs.Plans.{Plan}
+use Rattle.armus_base.specs.Runs.{places}
+use Rattle.armus_base.specs.States.{Step}
+use Rattle.explained_tasks.specs.Explanations.{IsExplanationAt}
+use Rattle.pl_syntax.specs.declared.tree.Program.{Program}
+use Rattle.step_lines.specs.SerialRuns.{IsSerialRun}
+use Rattle.step_lines.specs.ShownSteps.{AreShown}
+use Rattle.armus_words.specs.Words.{Text}
+use Rattle.explain.specs.Explained.{IsRunOf}
+
+-- The lines show the steps of the serial plain run of a text, of the file with this name or of none, and then explain how its tasks stand where this run has
+-- ended; and the status is 1 where by them somebody waits for ever, else 0.
+pub record AreStepsOf (file : Option Text) (text : Text) (status : ℕ) (lines : Text) : Type 0 where
+  pub plan : Plan
+  pub steps : List Step
+  pub ended : IsRunOf text plan steps
+  pub serial : IsSerialRun plan steps
+  pub program : Program
+  pub shown : Text
+  pub are_shown : AreShown text program plan steps shown
+  pub explanation : Text
+  pub waits : Bool
+  pub explains : IsExplanationAt file text plan (places steps) explanation waits
+  pub status_is : status ≡ (if waits then 1 else 0)
+  pub lines_are : lines ≡ shown ++ explanation

@@ -1,0 +1,109 @@
+-- What changes of words make of their bits.
+use Rattle.std.proofs.Common.{◌≡◌, ◌≢◌, ℕ, ◌+◌, ◌-◌, ◌*◌, ◌/◌, ◌%◌, ◌^◌, ◌<◌, ◌≤◌, Bool, true, false, List, [], ◌∷◌, ◌++◌, length, refl, sym, ap, ◌∙◌, inl, inr, arith, get_or, set, min, bit_and, bit_or, length-set, get_or-set_same, get_or-set_other}
+use Rattle.std.specs.Prelude.{MatchBool}
+use Rattle.std.specs.Int.{bit_at, w64}
+use Rattle.std.proofs.Math.Dec.{eqb}
+use Rattle.std.proofs.lemmas.Bool.{cases_eq, cases_lt, eqb-true, eq-eqb}
+use Rattle.std.proofs.lemmas.List.{append-nil, get_or_append_left, get_or_past, get_or_push, length_push}
+use Rattle.std.proofs.lemmas.Nat.Bits.{bit_at_and, bit_at_clear_other, bit_at_clear_same, bit_at_not, bit_at_set_other, bit_at_set_same, bit_at-zero, shr_and_one}
+use Rattle.order_graph.specs.inside.Bits.{IsWithBit, bit_less, bit_of, tasks_by}
+use Rattle.order_graph.proofs.TaskBits.{by_more, by_past, not_one, past_words}
+
+-- the test `(word >> i) & 1 == 1`
+pub says_bit : (word i : ℕ) (r : Bool) → r ≡ eqb (bit_and (word / 2 ^ i) 1) 1 → MatchBool r (bit_at word i ≡ 1) (bit_at word i ≡ 0)
+says_bit word i true e = sym (shr_and_one word i) ∙ eqb-true (bit_and (word / 2 ^ i) 1) 1 (sym e)
+says_bit word i false e =
+    not_one word i (λ on. let t : eqb (bit_and (word / 2 ^ i) 1) 1 ≡ true = eq-eqb (bit_and (word / 2 ^ i) 1) 1 (shr_and_one word i ∙ on) in absurd cc)
+
+-- the word with bit n is replaced
+module _ (words : List ℕ) (n : ℕ) (room : n / 64 < length words) where
+  set_word :
+      (word bit : ℕ) → bit_at word (n % 64) ≡ bit → ((i : ℕ) → i < 64 → i ≢ n % 64 → bit_at word i ≡ bit_at (get_or words (n / 64) 0) i) →
+      IsWithBit words n bit (set words (n / 64) word)
+  set_word word bit here others =
+      record {
+        sized = length-set words (n / 64) word;
+        here = ap (λ w. bit_at w (n % 64)) (get_or-set_same words (n / 64) word 0 room) ∙ here;
+        others = λ m ne. elim (cases_eq (m / 64) (n / 64)) [
+          | inl e ↦
+              let apart : m % 64 ≢ n % 64 = λ f. ne (omega arith) in
+              ap (λ k. bit_at (get_or (set words (n / 64) word) k 0) (m % 64)) e ∙
+              ap (λ w. bit_at w (m % 64)) (get_or-set_same words (n / 64) word 0 room) ∙ others (m % 64) (omega arith) apart ∙
+              ap (λ k. bit_at (get_or words k 0) (m % 64)) (sym e)
+          | inr f ↦ ap (λ w. bit_at w (m % 64)) (get_or-set_other words (n / 64) (m / 64) word 0 f)
+        ];
+      }
+
+  pub with_set : IsWithBit words n 1 (set words (n / 64) (bit_or (get_or words (n / 64) 0) (1 * 2 ^ (n % 64) % 18446744073709551616)))
+  with_set =
+      let old : ℕ = get_or words (n / 64) 0 in
+      set_word (bit_or old (1 * 2 ^ (n % 64) % 18446744073709551616)) 1 (bit_at_set_same w64 old (n % 64) (omega arith))
+      (λ i lt ne. bit_at_set_other w64 old (n % 64) (omega arith) i ne)
+
+  pub with_clear :
+      IsWithBit words n 0 (set words (n / 64) (bit_and (get_or words (n / 64) 0) (18446744073709551615 - 1 * 2 ^ (n % 64) % 18446744073709551616)))
+  with_clear =
+      let old : ℕ = get_or words (n / 64) 0 in
+      set_word (bit_and old (18446744073709551615 - 1 * 2 ^ (n % 64) % 18446744073709551616)) 0 (bit_at_clear_same w64 old (n % 64) (omega arith))
+      (λ i lt ne. bit_at_clear_other w64 old (n % 64) (omega arith) i lt ne)
+
+-- behind the words there is no bit to clear
+pub with_clear_past : (words : List ℕ) (n : ℕ) → length words ≤ n / 64 → IsWithBit words n 0 words
+with_clear_past words n past = record { sized = refl; here = past_words words n (omega arith); others = λ m ne. refl }
+
+-- a word more in which no bit is 1
+pub push_zero : (words : List ℕ) (k : ℕ) → get_or (words ++ 0 ∷ []) k 0 ≡ get_or words k 0
+push_zero words k =
+    elim (cases_lt k (length words)) [
+      | inl lt ↦ get_or_append_left words (0 ∷ []) 0 k lt
+      | inr past ↦ elim (cases_eq k (length words)) [
+        | inl e ↦ get_or_push words 0 0 k (sym e) ∙ sym (get_or_past words k 0 past)
+        | inr ne ↦ get_or_past (words ++ 0 ∷ []) k 0 (let l : length (words ++ 0 ∷ []) ≡ length words + 1 = length_push words 0 in omega arith) ∙
+            sym (get_or_past words k 0 past)
+      ]
+    ]
+
+-- words that are the same have the same bits
+pub same_words : (words other : List ℕ) (end : ℕ) → length words ≤ end → length other ≤ end → ((j : ℕ) → j < end → get_or words j 0 ≡ get_or other j 0) → (n : ℕ) →
+    bit_of words n ≡ bit_of other n
+same_words words other end le le' same n =
+    ap (λ w. bit_at w (n % 64)) (elim (cases_lt (n / 64) end) [
+      | inl lt ↦ same (n / 64) lt
+      | inr past ↦ get_or_past words (n / 64) 0 (omega arith) ∙ sym (get_or_past other (n / 64) 0 (omega arith))
+    ])
+
+-- words of which each was and-ed with one of others
+pub common_words : (old new other : List ℕ) → length new ≡ length old → ((j : ℕ) → j < length old → get_or new j 0 ≡ bit_and (get_or old j 0) (get_or other j 0)) → (n : ℕ) →
+    bit_of new n ≡ min (bit_of old n) (bit_of other n)
+common_words old new other sized each n =
+    elim (cases_lt (n / 64) (length old)) [
+      | inl lt ↦ ap (λ w. bit_at w (n % 64)) (each (n / 64) lt) ∙ bit_at_and (get_or old (n / 64) 0) (get_or other (n / 64) 0) (n % 64)
+      | inr past ↦
+          let a : bit_of new n ≡ 0 = past_words new n (omega arith) in
+          let b : bit_of old n ≡ 0 = past_words old n (omega arith) in
+          omega arith
+    ]
+
+-- the bits of a word that are 0 in another one
+pub less_bits : (word other : ℕ) → other < 2 ^ 64 → (i : ℕ) → i < 64 → bit_at (bit_and word (18446744073709551615 - other)) i ≡ min (bit_at word i) (1 - bit_at other i)
+less_bits word other small i lt = bit_at_and word (18446744073709551615 - other) i ∙ ap (min (bit_at word i)) (bit_at_not w64 other i small lt)
+
+-- the bits of one word of those that are 1 in the first words and 0 in the others
+pub less_word :
+    (words other : List ℕ) (k word : ℕ) → ((i : ℕ) → i < 64 → bit_at word i ≡ min (bit_at (get_or words k 0) i) (1 - bit_at (get_or other k 0) i)) → (i : ℕ) → i < 64 →
+    bit_less words other (64 * k + i) ≡ bit_at word i
+less_word words other k word are i lt =
+    let d : (64 * k + i) / 64 ≡ k = omega arith in
+    let m : (64 * k + i) % 64 ≡ i = omega arith in
+    rw (d, m) (sym (are i lt))
+
+-- a word in which no bit is 1 adds no task
+pub skip_word : (bits : ℕ → ℕ) (k word : ℕ) → word ≡ 0 → ((i : ℕ) → i < 64 → bits (64 * k + i) ≡ bit_at word i) → tasks_by bits (64 * k + 64) ≡ tasks_by bits (64 * k)
+skip_word bits k word clear are = by_past bits (64 * k) 64 (λ i lt. are i lt ∙ ap (λ w. bit_at w i) clear ∙ bit_at-zero i)
+
+-- one bit more of a word
+pub push_one : (bits : ℕ → ℕ) (n : ℕ) → bits n ≡ 1 → tasks_by bits (n + 1) ≡ tasks_by bits n ++ (record { 0 = n }) ∷ []
+push_one bits n on = by_more bits n 1 on
+
+pub push_none : (bits : ℕ → ℕ) (n : ℕ) → bits n ≡ 0 → tasks_by bits (n + 1) ≡ tasks_by bits n
+push_none bits n off = by_more bits n 0 off ∙ append-nil (tasks_by bits n)

@@ -1,0 +1,204 @@
+-- One more step of a run.
+use Rattle.std.proofs.Common.{◌≡◌, ◌∙◌, ℕ, suc, ◌+◌, ◌-◌, ◌*◌, ◌<◌, ◌≤◌, List, [], ◌∷◌, ◌++◌, Some, length, length-append, drop, ap, arith, inl, inr, refl, subst, sym}
+use Rattle.std.proofs.lemmas.Bool.{cases_lt}
+use Rattle.armus_base.specs.CheckedPlans.{IsCheckedPlan}
+use Rattle.armus_base.specs.declared.ending.Final.{Final}
+use Rattle.armus_base.specs.Finals.{final_of}
+use Rattle.armus_base.specs.Limits.{max_ops}
+use Rattle.armus_base.specs.Plans.{Action, Plan, action_at, code_of}
+use Rattle.armus_base.specs.Runs.{IsMaximal, IsPlainRun, Place, places, state_after}
+use Rattle.armus_base.specs.States.{Step}
+use Rattle.armus_base.proofs.Again.{in_code_plain}
+use Rattle.armus_base.proofs.MaximalExists.{ends_or_goes}
+use Rattle.armus_base.proofs.Members.{by_code_next, plain_undropped}
+use Rattle.armus_base.proofs.Tasks.{action_of_task}
+use Rattle.pl_core.specs.Moves.{IsWorldStep}
+use Rattle.pl_core.specs.Stands.{IsEnabled}
+use Rattle.pl_core.specs.Tasks.{IsAtOp}
+use Rattle.pl_core.specs.Worlds.{IsOpeningWorld, WorldValue, action_by_code, state_of}
+use Rattle.pl_syntax.specs.declared.tree.Program.{Program}
+use Rattle.locked_world.specs.Journals.{journal_of}
+use Rattle.schedule.specs.Replays.{IsOwnNextStep}
+use Rattle.schedule.specs.inside.Following.{IsAt}
+use Rattle.schedule.proofs.Following.{state_is}
+use Rattle.schedule.proofs.JournalFits.{journal_fits_plan}
+use Rattle.schedule.proofs.LineByLine.{enabled_from, opening_is, step_follows}
+use Rattle.accounts.specs.Accounts.{Layout}
+use Rattle.task_sayings.specs.Places.{said_of}
+use Rattle.step_lines.specs.SerialRuns.{IsSerialRun, MayGoOn}
+use Rattle.step_lines.specs.ShownSteps.{AreLinesOf, IsLineOf, first_steps, most_shown, rest_line}
+use Rattle.step_lines.specs.StepWords.{step_line}
+use Rattle.step_lines.specs.SteppedRuns.{IsSteppedRun}
+use Rattle.step_lines.specs.declared.facts.StepFacts.{StepFacts}
+use Rattle.step_lines.specs.declared.stepping.SteppedRun.{SteppedRun}
+use Rattle.step_lines.specs.declared.stepping.Stepping.{Stepping}
+use Rattle.step_lines.specs.inside.Known.{IsKnown, layout_of}
+use Rattle.step_lines.specs.inside.SoFar.{GoesOnWith, IsSoFar, next_line}
+
+-- ---- which steps are shown
+
+-- one more of those that are shown
+shown_more : (e : Step) (h : List Step) → length h < most_shown → first_steps most_shown (e ∷ h) ≡ e ∷ h
+shown_more e h l =
+    let none : length (e ∷ h) - most_shown ≡ 0 = let one : length (e ∷ h) ≡ suc (length h) = refl in omega (arith, l, one) in
+    ap (λ n. drop n (e ∷ h)) none
+
+shown_all : (h : List Step) → length h < most_shown → first_steps most_shown h ≡ h
+shown_all h l = let none : length h - most_shown ≡ 0 = omega (arith, l) in ap (λ n. drop n h) none
+
+-- one more that is not shown
+shown_same : (e : Step) (h : List Step) → most_shown ≤ length h → first_steps most_shown (e ∷ h) ≡ first_steps most_shown h
+shown_same e h l =
+    let more : length (e ∷ h) - most_shown ≡ suc (length h - most_shown) = let one : length (e ∷ h) ≡ suc (length h) = refl in omega (arith, l, one) in
+    ap (λ n. drop n (e ∷ h)) more
+
+-- ---- a world that follows a run
+
+-- a task that may go on after a run is enabled in a world at its end
+enabled_there : (w : WorldValue) (h : List Step) (t : ℕ) → IsAt w h → MayGoOn w.plan h t → IsEnabled w t
+enabled_there w h t at (x, by_code, legal) = enabled_from w.plan w h t x refl at (record { by_code = by_code; legal = legal })
+
+-- the last step of a plain run is the next by its task's code
+pub own_next : (plan : Plan) (e : Step) (h : List Step) → IsPlainRun plan (e ∷ h) → action_at plan e.task (places h e.task).done ≡ Some e.action
+own_next plan e h run =
+    by_code_next plan e.task (places h e.task).done (places h e.task).dropped e.action (plain_undropped plan h (run.0.0, run.1.0) e.task) run.0.1.by_code
+    ∙ ap Some (in_code_plain e.action run.1.1)
+
+-- so after the steps before it, it may be made
+pub last_may_go_on : (plan : Plan) (e : Step) (h : List Step) → IsPlainRun plan (e ∷ h) → MayGoOn plan h e.task
+last_may_go_on plan e h run = (e.action, own_next plan e h run, run.0.1.legal)
+
+-- the line of the next step is that of the step
+line_there : (l : Layout) (p : Program) (w : WorldValue) (h : List Step) (t number : ℕ) (x : Action) (old new : List ℕ) → IsAt w h
+    → action_at w.plan t (places h t).done ≡ Some x → number ≡ length h + 1 → GoesOnWith l p number w t old new
+    → (line : List ℕ) × IsLineOf l p w.plan h (record { task = t; action = x }) line × (new ≡ old ++ line)
+line_there l p w h t number x old new at next counted goes = (
+  step_line l p (length h + 1) (state_after h) t x goes.op,
+  record { op = goes.op; stands = subst (λ (a : ℕ → Place). IsAtOp (code_of w.plan t) (a t).done goes.op) at.there goes.stands; line_is = refl },
+  goes.is ∙ ap (λ (line : List ℕ). old ++ line) is,
+)
+  where
+    by_code : action_by_code w t ≡ Some x
+    by_code = ap (λ (a : ℕ → Place). action_at w.plan t (a t).done) at.there ∙ next
+
+    is : next_line l p number w t goes.op ≡ step_line l p (length h + 1) (state_after h) t x goes.op
+    is =
+        ap (said_of (λ y. step_line l p number (state_of w) t y goes.op)) by_code
+        ∙ ap (λ n. step_line l p n (state_of w) t x goes.op) counted
+        ∙ ap (λ s. step_line l p (length h + 1) s t x goes.op) (state_is w h at)
+
+-- ---- one more step
+
+module _ (l : Layout) (p : Program) (old new : Stepping) (t : ℕ) (h : List Step) (so_far : IsSoFar l p h old) (makes : IsWorldStep old.world new.world t)
+    (least : (u : ℕ) → u < t → IsEnabled old.world u → ⊥) (counted : new.steps ≡ old.steps + 1)
+    (shown : old.steps < most_shown → GoesOnWith l p (old.steps + 1) old.world t old.lines.items new.lines.items)
+    (rest : most_shown ≤ old.steps → new.lines.items ≡ old.lines.items) where
+  follows : (x : Action) × IsOwnNextStep old.world.plan h t x × IsAt new.world (record { task = t; action = x } ∷ h)
+  follows = step_follows old.world.plan old.world new.world h t refl so_far.at makes
+
+  abbrev e : Step
+  e = record { task = t; action = follows.0 }
+
+  next : action_at old.world.plan t (places h t).done ≡ Some follows.0
+  next = follows.1.by_code
+
+  at : IsAt new.world (e ∷ h)
+  at = follows.2
+
+  run : IsPlainRun old.world.plan (e ∷ h)
+  run = subst (λ (q : Plan). IsPlainRun q (e ∷ h)) makes.plan at.run
+
+  serial : IsSerialRun old.world.plan (e ∷ h)
+  serial = (so_far.serial, record { next = run.0.1; plain = run.1.1; least = λ u less may. least u less (enabled_there old.world h u so_far.at may) })
+
+  lines : AreLinesOf l p old.world.plan (first_steps most_shown (e ∷ h)) new.lines.items
+  lines = elim (cases_lt old.steps most_shown) [
+    | inl below ↦
+        let few : length h < most_shown = subst (λ n. n < most_shown) so_far.counted below in
+        let before : AreLinesOf l p old.world.plan h old.lines.items =
+        subst (λ (g : List Step). AreLinesOf l p old.world.plan g old.lines.items) (shown_all h few) so_far.lines in
+        let (line, is_line, is) = line_there l p old.world h t (old.steps + 1) follows.0 old.lines.items new.lines.items so_far.at next
+        (ap (λ n. n + 1) so_far.counted) (shown below) in
+        subst (λ (g : List Step). AreLinesOf l p old.world.plan g new.lines.items) (sym (shown_more (record { task = t; action = follows.0 }) h few))
+        (old.lines.items, line, before, is_line, is)
+    | inr above ↦
+        let many : most_shown ≤ length h = subst (λ n. most_shown ≤ n) so_far.counted above in
+        let same : AreLinesOf l p old.world.plan (first_steps most_shown h) new.lines.items =
+        subst (AreLinesOf l p old.world.plan (first_steps most_shown h)) (sym (rest above)) so_far.lines in
+        subst (λ (g : List Step). AreLinesOf l p old.world.plan g new.lines.items) (sym (shown_same (record { task = t; action = follows.0 }) h many)) same
+  ]
+
+  pub one_more : (d : Step) × IsSoFar l p (d ∷ h) new
+  one_more = (
+    e,
+    record {
+      at = at;
+      serial = subst (λ (q : Plan). IsSerialRun q (e ∷ h)) (sym makes.plan) serial;
+      counted = counted ∙ ap (λ n. n + 1) so_far.counted ∙ one;
+      lines = subst (λ (q : Plan). AreLinesOf l p q (first_steps most_shown (e ∷ h)) new.lines.items) (sym makes.plan) lines;
+    },
+  )
+    where
+      one : length h + 1 ≡ length (e ∷ h)
+      one = omega arith
+
+-- ---- the beginning, and the end
+
+pub none_yet : (l : Layout) (p : Program) (plan : Plan) (s : Stepping) → IsCheckedPlan plan → IsOpeningWorld plan s.world → s.steps ≡ 0 → s.lines.items ≡ []
+    → IsSoFar l p [] s
+none_yet l p plan s checked opens none empty = record { at = opening_is plan s.world checked opens; serial = tt; counted = none; lines = empty }
+
+journal_length : (h : List Step) → length (journal_of h) ≡ length h
+journal_length [] = refl
+journal_length (e ∷ h) =
+    let more = length-append (journal_of h) (record { 0 = e.task } ∷ []) in
+    let rest = journal_length h in
+    omega (arith, more, rest)
+
+-- a run has no more steps than its plan has actions
+pub few_steps : (l : Layout) (p : Program) (h : List Step) (s : Stepping) → IsSoFar l p h s → s.steps ≤ 2 * max_ops
+few_steps l p h s so_far =
+    let fits = (journal_fits_plan s.world.plan (journal_of h) h so_far.at.checked (record { run = so_far.at.run; tasks = refl })).few in
+    let same = journal_length h in
+    omega (arith, fits, same, so_far.counted)
+
+-- where no task may go on, the run is whole
+pub whole_there : (w : WorldValue) (h : List Step) → IsAt w h → ((t : ℕ) → t < length w.plan.parents → IsEnabled w t → ⊥) → IsMaximal w.plan h
+whole_there w h at quiet t forked = elim (ends_or_goes w.plan at.checked h at.run t) [
+  | inl ends ↦ ends forked
+  | inr (e, run) ↦
+      absurd (quiet e.task (action_of_task w.plan at.checked e.task (places h e.task).done e.action (own_next w.plan e h run))
+      (enabled_there w h e.task at (last_may_go_on w.plan e h run)))
+]
+
+-- a run that has come to its end
+module _ (facts : StepFacts) (known : IsKnown facts) (plan : Plan) (run : Stepping) (h : List Step)
+    (so_far : IsSoFar (layout_of facts) facts.program.now h run) (same : run.world.plan ≡ plan)
+    (quiet : (t : ℕ) → t < length run.world.plan.parents → IsEnabled run.world t → ⊥) (lines : List ℕ) (end : Final)
+    (lines_are : lines ≡ run.lines.items ++ rest_line (run.steps - most_shown)) (end_is : end ≡ final_of run.world.plan (state_of run.world)) where
+  by_facts : IsSteppedRun facts.places.now facts.program.now run.world.plan (record { lines = lines; world = run.world; end = end })
+  by_facts = record {
+    steps = h;
+    whole = record { serial = so_far.serial; maximal = whole_there run.world h so_far.at quiet };
+    shown = record {
+      reads = known.reads;
+      layout = layout_of facts;
+      of_text = refl;
+      is_layout = known.layout;
+      shown = run.lines.items;
+      each = so_far.lines;
+      lines_are = lines_are ∙ ap (λ n. run.lines.items ++ rest_line (n - most_shown)) so_far.counted;
+    };
+    plan_is = refl;
+    there = so_far.at.there;
+    end_is = end_is;
+  }
+
+  pub stepped_run : (text : List ℕ) (p : Program) → facts.places.now ≡ text → facts.program.now ≡ p
+      → IsSteppedRun text p plan (record { lines = lines; world = run.world; end = end })
+  stepped_run text p text_is program_is =
+      let s : SteppedRun = record { lines = lines; world = run.world; end = end } in
+      let by_plan : IsSteppedRun facts.places.now facts.program.now plan s =
+      subst (λ (q : Plan). IsSteppedRun facts.places.now facts.program.now q s) same by_facts in
+      let by_text : IsSteppedRun text facts.program.now plan s = subst (λ (t : List ℕ). IsSteppedRun t facts.program.now plan s) text_is by_plan in
+      subst (λ (r : Program). IsSteppedRun text r plan s) program_is by_text

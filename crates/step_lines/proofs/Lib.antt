@@ -1,0 +1,11 @@
+pub mod AtOp
+pub mod Ready
+pub mod Phases
+pub mod Pieces
+pub mod LineSaid
+pub mod GoingOn
+pub mod SerialIsPlain
+pub mod OneSerialRun
+pub mod OneShowing
+pub mod ShowingExists
+pub mod SerialExists

@@ -1,0 +1,11 @@
+//! A run of a text's plan, step by step: a line for each step of the serial plain run, with its task, its place, its statement, and what it changes.
+#![tactic(auto)]
+
+mod changes;
+mod facts;
+mod laws;
+mod stepping;
+mod words;
+
+pub use laws::{one_serial_run, one_showing, serial_run_replays};
+pub use stepping::{MOST_SHOWN, SteppedRun, step_through};

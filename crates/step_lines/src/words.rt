@@ -1,0 +1,172 @@
+// The words for tasks and phasers, and for where a step is made.
+ghost use Rattle.std.specs.Prelude.{◌≡◌, ◌++◌, OnOk, codes, option_map};
+ghost use Rattle.pl_syntax.specs.Printed.{offset_text};
+ghost use Rattle.origins.specs.Origins.{fork_origin, op_origin};
+ghost use Rattle.origins.specs.inside.Tables.{coming_of};
+ghost use Rattle.text_places.specs.PlaceWords.{place_words};
+ghost use Rattle.accounts.specs.Accounts.{end_place};
+ghost use Rattle.accounts.specs.AwaitWords.{await_text};
+ghost use Rattle.task_sayings.specs.Places.{said_of};
+ghost use Rattle.step_lines.specs.StepWords.{given_name, name_words, phaser_words, statement_words, task_words, whence_words};
+ghost use Rattle.step_lines.specs.inside.Known.{IsKnown, layout_of};
+
+use crate::facts::StepFacts;
+use armus_base::{NoMemory, Offset, PhaserId, TaskId};
+use pl_syntax::{Name, Stmt};
+use std::alloc::Global;
+use task_sayings::{put_number, put_words};
+
+// Appends the name to which a statement gives a task or a phaser.
+fn put_given(out: &mut Vec<u8>, stmt: Option<&Stmt>) -> Result<(), NoMemory>
+    ensures { OnOk result (out.new.items ≡ out.old.items ++ given_name (option_map (λ s. coming_of s.now) stmt.entry)) }
+{
+    match stmt {
+        Some(Stmt::NewTask { x }) => put_words(out, x.as_bytes()),
+        Some(Stmt::NewPhaser { x }) => put_words(out, x.as_bytes()),
+        _ => Ok(()),
+    }
+}
+
+// Appends how far an await looks back or ahead.
+fn put_offset(alloc: Global, out: &mut Vec<u8>, off: Offset) -> Result<(), NoMemory>
+    ensures { OnOk result (out.new.items ≡ out.old.items ++ offset_text off) }
+{
+    match off {
+        Offset::Here => Ok(()),
+        Offset::Back(k) => {
+            put_words(out, b" - ")?;
+            put_number(alloc, out, u32::from(k))
+        }
+        Offset::Ahead(k) => {
+            put_words(out, b" + ")?;
+            put_number(alloc, out, u32::from(k))
+        }
+    }
+}
+
+// Appends a call with one name.
+fn put_call(out: &mut Vec<u8>, front: &[u8], x: &Name) -> Result<(), NoMemory>
+    ensures { OnOk result (out.new.items ≡ out.old.items ++ (front.now ++ x.now ++ codes ")")) }
+{
+    put_words(out, front)?;
+    put_words(out, x.as_bytes())?;
+    put_words(out, b")")
+}
+
+// Appends a `newPhaser`.
+fn put_new_phaser(out: &mut Vec<u8>, x: &Name) -> Result<(), NoMemory>
+    ensures { OnOk result (out.new.items ≡ out.old.items ++ (x.now ++ codes " = newPhaser()")) }
+{
+    put_words(out, x.as_bytes())?;
+    put_words(out, b" = newPhaser()")
+}
+
+// Appends a `reg`.
+fn put_reg(out: &mut Vec<u8>, x: &Name, y: &Name) -> Result<(), NoMemory>
+    ensures { OnOk result (out.new.items ≡ out.old.items ++ (codes "reg(" ++ x.now ++ codes ", " ++ y.now ++ codes ")")) }
+{
+    put_words(out, b"reg(")?;
+    put_words(out, x.as_bytes())?;
+    put_words(out, b", ")?;
+    put_words(out, y.as_bytes())?;
+    put_words(out, b")")
+}
+
+// Appends an `await`.
+fn put_await(alloc: Global, out: &mut Vec<u8>, x: &Name, off: Offset) -> Result<(), NoMemory>
+    ensures { OnOk result (out.new.items ≡ out.old.items ++ await_text x.now off) }
+{
+    put_words(out, b"await(")?;
+    put_words(out, x.as_bytes())?;
+    put_offset(alloc, out, off)?;
+    put_words(out, b")")
+}
+
+// Appends a statement that makes an op, without its semicolon and its body.
+fn put_statement(alloc: Global, out: &mut Vec<u8>, stmt: Option<&Stmt>) -> Result<(), NoMemory>
+    ensures { OnOk result (out.new.items ≡ out.old.items ++ statement_words (option_map (λ s. coming_of s.now) stmt.entry)) }
+{
+    match stmt {
+        Some(Stmt::NewPhaser { x }) => put_new_phaser(out, x),
+        Some(Stmt::Reg { x, y }) => put_reg(out, x, y),
+        Some(Stmt::Dereg { x }) => put_call(out, b"dereg(", x),
+        Some(Stmt::Adv { x }) => put_call(out, b"adv(", x),
+        Some(Stmt::Await { x, off }) => put_await(alloc, out, x, *off),
+        Some(Stmt::Fork { x, body: _ }) => put_call(out, b"fork(", x),
+        _ => Ok(()),
+    }
+}
+
+impl<'a> StepFacts<'a> {
+    // Appends the name that this statement gives, behind a number.
+    fn put_name(&self, out: &mut Vec<u8>, origin: Option<u32>) -> Result<(), NoMemory>
+        requires known { IsKnown self.now }
+        ensures { OnOk result (out.new.items ≡ out.old.items ++ said_of (name_words self.now.program.now) origin) }
+    {
+        match origin {
+            Some(n) => {
+                put_words(out, b" (")?;
+                put_given(out, self.origins.statement(n))?;
+                put_words(out, b")")
+            }
+            None => Ok(()),
+        }
+    }
+
+    // Appends a task.
+    pub(crate) fn put_task(&self, out: &mut Vec<u8>, t: TaskId) -> Result<(), NoMemory>
+        requires known { IsKnown self.now }
+        ensures { OnOk result (out.new.items ≡ out.old.items ++ task_words self.now.program.now t.0) }
+    {
+        put_words(out, b"t")?;
+        put_number(self.alloc, out, t.0)?;
+        self.put_name(out, self.origins.task(t))
+    }
+
+    // Appends a phaser.
+    pub(crate) fn put_phaser(&self, out: &mut Vec<u8>, p: PhaserId) -> Result<(), NoMemory>
+        requires known { IsKnown self.now }
+        ensures { OnOk result (out.new.items ≡ out.old.items ++ phaser_words self.now.program.now p.0) }
+    {
+        put_words(out, b"p")?;
+        put_number(self.alloc, out, p.0)?;
+        self.put_name(out, self.origins.phaser(p))
+    }
+
+    // Appends the place of a statement and what it says.
+    fn put_at_statement(&self, out: &mut Vec<u8>, n: u32) -> Result<(), NoMemory>
+        requires known { IsKnown self.now }
+        ensures { OnOk result (out.new.items ≡ out.old.items ++ whence_words (layout_of self.now) self.now.program.now 0 (Some n)) }
+    {
+        self.places.put(self.alloc, out, self.statement(n))?;
+        put_words(out, b": ")?;
+        put_statement(self.alloc, out, self.origins.statement(n))
+    }
+
+    // Appends the place where the code of a task ends.
+    fn put_end_place(&self, out: &mut Vec<u8>, t: TaskId) -> Result<(), NoMemory>
+        requires known { IsKnown self.now }
+        ensures { OnOk result (out.new.items ≡ out.old.items
+            ++ said_of (λ f. place_words self.now.places.now (end_place (layout_of self.now) f)) (fork_origin self.now.program.now t.0)) }
+    {
+        match self.origins.fork(t) {
+            Some(f) => self.places.put(self.alloc, out, self.end(f)),
+            None => Ok(()),
+        }
+    }
+
+    // Appends where a task makes op i of its code, and at which statement.
+    pub(crate) fn put_whence(&self, out: &mut Vec<u8>, t: TaskId, i: u32) -> Result<(), NoMemory>
+        requires known { IsKnown self.now }
+        ensures { OnOk result (out.new.items ≡ out.old.items
+            ++ whence_words (layout_of self.now) self.now.program.now t.0 (op_origin self.now.program.now t.0 i)) }
+    {
+        match self.origins.op(self.program, t, i) {
+            Some(n) => self.put_at_statement(out, n),
+            None => {
+                self.put_end_place(out, t)?;
+                put_words(out, b": end")
+            }
+        }
+    }
+}

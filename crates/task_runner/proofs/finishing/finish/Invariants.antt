@@ -1,8 +1,0 @@
-use Rattle.task_runner.specs.inside.Turns.{remaining}
-use Rattle.task_runner.proofs.finishing.finish.Given as goal
-
-abbrev pub invariant-loop-logged : goal.invariant-loop-logged
-invariant-loop-logged g l = Unit {0}
-
-abbrev pub decreases-loop-logged : goal.decreases-loop-logged
-decreases-loop-logged g l = remaining l.logged.world

@@ -1,4 +1,0 @@
-use Rattle.task_runner.proofs.journal.run_journal.Given as goal
-
-abbrev pub ghosts-run_named : goal.ghosts-run_named
-ghosts-run_named g a = record { plan = a.plan.now }

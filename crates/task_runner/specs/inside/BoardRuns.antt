@@ -1,0 +1,19 @@
+-- A run on a board, between its rounds.
+use Rattle.std.specs.Prelude.{◌≡◌, ◌<◌, false}
+use Rattle.armus_base.specs.Plans.{Plan}
+use Rattle.board.specs.Seats.{Frame}
+use Rattle.board_rounds.specs.declared.crew.Rounded.{Rounded}
+use Rattle.board_rounds.specs.Crews.{AreTasksOf, HaveEnded, Tasks, all_of, left_to}
+
+-- the board is of this plan, and the tasks are those of a run on it
+pub record IsOnBoard (board : Frame) (plan : Plan) (tasks : Tasks) : Type 0 where
+  pub of_plan : board.plan ≡ plan
+  pub crew : AreTasksOf board tasks
+
+-- The tasks after a round: where an event happened in it less is left to them, and where none did, or nobody was forked, all have come to the end of their
+-- turns.
+pub record HasHadRound (board : Frame) (plan : Plan) (before now : Tasks) (made : Rounded) : Type 0 where
+  pub on_board : IsOnBoard board plan now
+  pub further : 0 < made.events → left_to board.plan now < left_to board.plan before
+  pub quiet : made.events ≡ 0 → HaveEnded (all_of now)
+  pub still : made.forked ≡ false → HaveEnded (all_of now)

@@ -1,0 +1,53 @@
+// What goes beside the rounds of a run on a board.
+ghost use Rattle.std.specs.Prelude.{◌≡◌, OnOk};
+
+use armus_base::NoMemory;
+use board::Board;
+use board_rounds::Calls;
+use std::alloc::Global;
+
+/// Who makes a pass beside each round of a run on a board, and works on something in it.
+pub(crate) trait Beside<O> {
+    ghost use Rattle.std.specs.Prelude.{Result, Ok, Err};
+    ghost use Rattle.board.specs.Seats.{Frame};
+
+    /// Why a pass ends a run early.
+    type Early;
+
+    // it may make a pass beside a run on this board, with this to work on
+    ghost fits: { Frame → Self → O → Type 0 };
+
+    // what passes have made of both, of which the last one has answered this
+    ghost passes: { Frame → Self → O → Self → O → Result (Unit {0}) Self.Early → Type 0 };
+
+    // the end for want of memory
+    ghost no_memory: { Self.Early };
+
+    /// Whether there is a pass at all, for which the run stays on its board.
+    fn is_there(&self) -> bool;
+
+    /// One pass. It may call the gate.
+    fn pass<C: Calls>(
+        &mut self,
+        alloc: Global,
+        board: &Board,
+        gate: &C,
+        out: &mut O,
+    ) -> Result<(), Self::Early>
+        requires fits { fits board.now self.old out.old }
+        ensures fits { OnOk result (fits board.now self.new out.new) }
+        ensures passes { passes board.now self.old out.old self.new out.new result };
+
+    /// The end of a run whose round wanted memory.
+    fn early(error: NoMemory) -> Self::Early
+        ensures { result ≡ no_memory };
+
+    // no pass leaves both as they were
+    ghost none: { (f : Frame) (x : Self) (a : O) → fits f x a → passes f x a x a (Ok tt) };
+
+    // passes go on after passes
+    ghost more: { (f : Frame) (x y z : Self) (a b c : O) (r : Result (Unit {0}) Self.Early) → passes f x a y b (Ok tt) → passes f y b z c r → passes f x a z c r };
+
+    // a round may want memory beside a pass that did not
+    ghost wanting: { (f : Frame) (x y : Self) (a b : O) → fits f y b → passes f x a y b (Ok tt) → passes f x a y b (Err no_memory) };
+}

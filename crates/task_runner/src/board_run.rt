@@ -1,0 +1,165 @@
+// The rounds of a run on a board, with a pass beside each or with none.
+ghost use Rattle.std.specs.Prelude.{◌≡◌, ◌<◌, ◌⊎◌, Some, Ok, Err, true, false, IfOk, IfErr, OnOk};
+ghost use Rattle.armus_base.specs.Seats.{seen_by_child};
+ghost use Rattle.board.specs.Seats.{IsNewSeat, nothing_seen};
+ghost use Rattle.board_rounds.specs.Crews.{HaveEnded, all_of, left_to};
+ghost use Rattle.task_runner.specs.inside.BoardRuns.{HasHadRound, IsOnBoard};
+
+use crate::RunOptions;
+use crate::beside::Beside;
+use crate::leaving::goes_on;
+use armus_base::{Gate, NoMemory, Plan};
+use avoider::Judging;
+use board::{Board, TaskSeat};
+use board_rounds::{Crew, Rounded};
+use std::alloc::Global;
+use std::thread::{Threads, join_mut};
+use world_runs::Pace;
+
+/// The tasks of a run on a board, and what their rounds need.
+#[derive(Drop)]
+pub(crate) struct BoardRun<'p> {
+    pub(crate) alloc: Global,
+    pub(crate) plan: &'p Plan,
+    pub(crate) options: RunOptions,
+    pub(crate) crew: Crew<'p>,
+    pace: Pace,
+}
+
+impl<'p> BoardRun<'p> {
+    /// Task 0 alone, whose seat this is, before its first step. Awaits are judged so where deadlock is avoided.
+    pub(crate) fn start(
+        alloc: Global,
+        board: &Board,
+        seat: TaskSeat,
+        plan: &'p Plan,
+        options: &RunOptions,
+        judging: Judging,
+    ) -> Result<BoardRun<'p>, NoMemory>
+        requires plan { board.now.plan ≡ plan.now }
+        requires new { IsNewSeat board.now (Some 0) (seen_by_child 0 nothing_seen) seat }
+        ensures on_board { IfOk result (λ run. IsOnBoard board.now run.plan.now run.crew) }
+        ensures given { IfOk result (λ run. (run.plan.now ≡ plan.now) × (run.options ≡ options.now)) }
+    {
+        Ok(BoardRun {
+            alloc,
+            plan,
+            options: *options,
+            crew: Crew::start(alloc, board, seat, plan, judging)?,
+            pace: Pace::new(),
+        })
+    }
+
+    /// Rounds until all tasks have come to the end of their turns: until one in which no event happens or, where there is no pass beside them, one in which
+    /// nobody was forked once the board costs too much.
+    pub(crate) fn go<R: Threads + Sync, G: Gate, O: Send, B: Beside<O> + Send>(
+        &mut self,
+        rt: &R,
+        board: &Board,
+        gate: &G,
+        beside: &mut B,
+        out: &mut O,
+    ) -> Result<(), B::Early>
+        requires on_board { IsOnBoard board.now self.old.plan.now self.old.crew }
+        requires fits { B.fits board.now beside.old out.old }
+        ensures given { (self.new.plan ≡ self.old.plan) × (self.new.options ≡ self.old.options) }
+        ensures on_board { OnOk result (IsOnBoard board.now self.new.plan.now self.new.crew) }
+        ensures ends { OnOk result (HaveEnded (all_of self.new.crew)) }
+        ensures fits { OnOk result (B.fits board.now beside.new out.new) }
+        ensures passes { B.passes board.now beside.old out.old beside.new out.new result }
+    {
+        'rounds: while self.go_round(rt, board, gate, beside, out)? {}
+        Ok(())
+    }
+
+    // One round, and a pass; answers whether another one is to come.
+    fn go_round<R: Threads + Sync, G: Gate, O: Send, B: Beside<O> + Send>(
+        &mut self,
+        rt: &R,
+        board: &Board,
+        gate: &G,
+        beside: &mut B,
+        out: &mut O,
+    ) -> Result<bool, B::Early>
+        requires on_board { IsOnBoard board.now self.old.plan.now self.old.crew }
+        requires fits { B.fits board.now beside.old out.old }
+        ensures given { (self.new.plan ≡ self.old.plan) × (self.new.options ≡ self.old.options) }
+        ensures on_board { OnOk result (IsOnBoard board.now self.new.plan.now self.new.crew) }
+        ensures further { IfOk result (λ more. more ≡ true → left_to board.now.plan self.new.crew < left_to board.now.plan self.old.crew) }
+        ensures ends { IfOk result (λ more. more ≡ false → HaveEnded (all_of self.new.crew)) }
+        ensures fits { OnOk result (B.fits board.now beside.new out.new) }
+        ensures passes { OnOk result (B.passes board.now beside.old out.old beside.new out.new (Ok tt)) }
+        ensures early { IfErr result (λ e. B.passes board.now beside.old out.old beside.new out.new (Err e)) }
+    {
+        let (made, passed) = self.take_round(rt, board, gate, beside, out);
+        passed?;
+        match made {
+            Ok(made) => {
+                self.pace.note(made.events);
+                Ok(self.is_followed(made, beside.is_there()))
+            }
+            Err(error) => Err(B::early(error)),
+        }
+    }
+
+    // Whether another round is to come after this one, with a pass beside it or not.
+    fn is_followed(&self, made: Rounded, with_pass: bool) -> bool
+        ensures moved { result ≡ true → 0 < made.events }
+        ensures ended { result ≡ false → (made.events ≡ 0) ⊎ (made.forked ≡ false) }
+    {
+        if with_pass {
+            return made.events > 0;
+        }
+        goes_on(made, self.crew.loads())
+    }
+
+    // A round and a pass: beside the round, or after it on the same thread where there is little work.
+    fn take_round<R: Threads + Sync, G: Gate, O: Send, B: Beside<O> + Send>(
+        &mut self,
+        rt: &R,
+        board: &Board,
+        gate: &G,
+        beside: &mut B,
+        out: &mut O,
+    ) -> (Result<Rounded, NoMemory>, Result<(), B::Early>)
+        requires on_board { IsOnBoard board.now self.old.plan.now self.old.crew }
+        requires fits { B.fits board.now beside.old out.old }
+        ensures given { (self.new.plan ≡ self.old.plan) × (self.new.options ≡ self.old.options) }
+        ensures round { IfOk result.0 (HasHadRound board.now self.new.plan.now self.old.crew self.new.crew) }
+        ensures fits { OnOk result.1 (B.fits board.now beside.new out.new) }
+        ensures passes { B.passes board.now beside.old out.old beside.new out.new result.1 }
+    {
+        let alloc = self.alloc;
+        if !beside.is_there() || !self.pace.wants_threads() {
+            let made = self.round(rt, board, gate);
+            return (made, beside.pass(alloc, board, gate, out));
+        }
+        join_mut(
+            rt,
+            &mut || -> Result<Rounded, NoMemory>
+                requires { IsOnBoard board.now self.now.plan.now self.now.crew }
+            { self.round(rt, board, gate) },
+            &mut || -> Result<(), B::Early>
+                requires { B.fits board.now beside.now out.now }
+            { beside.pass(alloc, board, gate, out) },
+        )
+    }
+
+    // One round.
+    fn round<R: Threads + Sync, G: Gate>(
+        &mut self,
+        rt: &R,
+        board: &Board,
+        gate: &G,
+    ) -> Result<Rounded, NoMemory>
+        requires on_board { IsOnBoard board.now self.old.plan.now self.old.crew }
+        ensures given { (self.new.plan ≡ self.old.plan) × (self.new.options ≡ self.old.options) }
+        ensures round { IfOk result (HasHadRound board.now self.new.plan.now self.old.crew self.new.crew) }
+    {
+        let workers = self.pace.workers(self.options.workers);
+        let made = self
+            .crew
+            .round(rt, self.alloc, board, self.plan, workers, gate)?;
+        Ok(made)
+    }
+}

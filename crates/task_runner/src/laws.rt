@@ -1,7 +1,0 @@
-// Laws of runs.
-ghost use Rattle.task_runner.specs.AvoidedRuns.{SerialRunEnds};
-
-/// The serial avoided run of a checked plan ends: there is a state in which it does.
-pub fn serial_run_ends()
-    ensures { SerialRunEnds }
-{}

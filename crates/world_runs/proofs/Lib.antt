@@ -1,0 +1,16 @@
+pub mod Codes
+pub mod Ends
+pub mod EndWorlds
+pub mod RecordedEnds
+pub mod PlainWorlds
+pub mod WorldRounds
+pub mod ForkedTasks
+pub mod Left
+pub mod AvoidedSteps
+pub mod AvoidedEnds
+pub mod JudgedRuns
+pub mod SerialEnds
+pub mod DeadOrNot
+pub mod NextWorlds
+pub mod SerialExists
+pub mod AvoidedRests

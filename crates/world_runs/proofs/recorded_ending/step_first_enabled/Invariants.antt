@@ -1,0 +1,10 @@
+use Rattle.std.proofs.Common.{◌≡◌, ◌<◌, ℕ}
+use Rattle.pl_core.specs.Stands.{IsEnabled}
+use Rattle.world_runs.proofs.recorded_ending.step_first_enabled.Given as goal
+
+abbrev pub invariant-loop-t : goal.invariant-loop-t
+invariant-loop-t g l =
+    record {
+      same : l.logged ≡ l.initial.logged;
+      quiet : (u : ℕ) → u < l.t → IsEnabled l.initial.logged.world u → ⊥;
+    }

@@ -1,0 +1,16 @@
+use Rattle.std.proofs.Common.{◌≡◌, length}
+use Rattle.world_runs.specs.inside.Turns.{left_in}
+use Rattle.world_runs.specs.inside.WorldRounds.{GoesByRounds}
+use Rattle.world_runs.proofs.world_ending.end_by.Given as goal
+
+abbrev pub invariant-rounds : goal.invariant-rounds
+invariant-rounds g l =
+    record {
+      plan : l.world.plan ≡ l.initial.world.plan;
+      keeps : g.S.NextStep.keeps l.world;
+      forked : length l.forked.items ≡ length l.initial.world.plan.parents;
+      rounds : GoesByRounds g.S.NextStep.makes l.initial.world l.world;
+    }
+
+abbrev pub decreases-rounds : goal.decreases-rounds
+decreases-rounds g l = left_in l.world

@@ -1,0 +1,13 @@
+use Rattle.world_runs.specs.inside.Turns.{left_in}
+use Rattle.world_runs.specs.inside.WorldRounds.{GoesBy, LeavesLess}
+use Rattle.world_runs.proofs.world_round.turn.Given as goal
+
+abbrev pub invariant-turn : goal.invariant-turn
+invariant-turn g l =
+    record {
+      left : LeavesLess g.S.NextStep.keeps l.initial.world l.world l.moved;
+      goes : GoesBy g.S.NextStep.makes l.t.0 l.initial.world l.world l.moved;
+    }
+
+abbrev pub decreases-turn : goal.decreases-turn
+decreases-turn g l = left_in l.world

@@ -1,0 +1,5 @@
+pub mod PlainRuns
+pub mod EndWorlds
+pub mod RecordedRuns
+pub mod AvoidedRuns
+pub mod inside

@@ -1,0 +1,4 @@
+pub mod Turns
+pub mod AvoidedRounds
+pub mod LiveTasks
+pub mod WorldRounds

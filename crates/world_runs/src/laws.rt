@@ -1,0 +1,7 @@
+// Laws of runs.
+ghost use Rattle.world_runs.specs.AvoidedRuns.{SerialRunEnds};
+
+/// The serial avoided run of a checked plan ends: there is a state in which it does.
+pub fn serial_run_ends()
+    ensures { SerialRunEnds }
+{}

@@ -1,0 +1,25 @@
+//! Runs of a plan in a world, without a board: rounds of turns, plain and avoided, their ends, and the run that is recorded.
+#![tactic(auto)]
+
+mod avoided_ending;
+mod ending;
+mod journal;
+mod laws;
+mod live_task;
+mod next_step;
+mod options;
+mod pace;
+mod plain_step;
+mod recorded_ending;
+mod recorded_round;
+mod world_end;
+mod world_ending;
+mod world_round;
+
+pub use avoided_ending::{avoided_end_from, run_serial_avoid};
+pub use ending::{end_from, run_plain, run_to_world, world_end_from};
+pub use journal::run_journal;
+pub use laws::serial_run_ends;
+pub use options::RunOptions;
+pub use pace::Pace;
+pub use world_end::WorldEnd;
