@@ -13,18 +13,18 @@ use Rattle.pl_plan.specs.Unfolding.{plan_of}
 use Rattle.pl_syntax.specs.declared.tree.Program.{Program}
 use Rattle.origins.specs.Origins.{phaser_origins, statement_in, written_statements}
 use Rattle.origins.specs.Turns.{op_turns}
-use Rattle.accounts.specs.Accounts.{IsTaskAccount, IsWait, Layout, drawn_of, ended_of, forked_of, placed_turns, statement_place, words_of}
-use Rattle.accounts.specs.Laws.{AccountExists}
+use Rattle.accounts.specs.Accounts.{IsTaskAccount, HasWait, Layout, drawn_of, ended_of, forked_of, placed_turns, statement_place, words_of}
+use Rattle.accounts.specs.calls.Laws.{AccountExists}
 use Rattle.accounts.specs.declared.account.TaskAccount.{TaskAccount}
 use Rattle.accounts.specs.declared.account.Waiting.{Waiting}
 use Rattle.accounts.proofs.AtSomeOp.{at_some_op}
 use Rattle.accounts.proofs.Awaiting.{waiter_is_member, waits_at_await}
 use Rattle.accounts.proofs.LayoutExists.{layout_exists}
-use Rattle.accounts.proofs.TextsAreNear.{text_is_checked}
+use Rattle.pl_plan.proofs.TextsAreNear.{text_is_checked}
 use Rattle.accounts.proofs.Told.{list_at}
 
 module _ (l : Layout) (p : Program) (plan : Plan) (a : ℕ → Place) (unfolds : plan_of p ≡ Ok plan) (checked : IsCheckedPlan plan) (reach : IsReachable plan a) where
-  wait_by : (t : ℕ) (end : TaskEnd) → end_of (state_at plan a) t ≡ end → (w : Option Waiting) × IsWait l p plan a t end w
+  wait_by : (t : ℕ) (end : TaskEnd) → end_of (state_at plan a) t ≡ end → (w : Option Waiting) × HasWait l p plan a t end w
   wait_by t (Blocked e) ended =
       let (op, at) = at_some_op (code_of plan t) (a t).done in
       let (n, x, off, origin, statement) = waits_at_await p plan a t op e unfolds ended at in

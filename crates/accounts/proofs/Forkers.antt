@@ -11,9 +11,9 @@ use Rattle.pl_plan.proofs.ForkedByParents.{forked_is_started, started_is_forked}
 use Rattle.origins.specs.Origins.{start_of}
 use Rattle.origins.proofs.TasksVisits.{fork_by_start}
 use Rattle.accounts.specs.Accounts.{Layout, forked_by}
-use Rattle.accounts.specs.Laws.{ForkersFork}
+use Rattle.accounts.specs.calls.Laws.{ForkersFork}
 use Rattle.accounts.specs.declared.account.Forked.{Forked}
-use Rattle.accounts.proofs.TextsAreNear.{text_is_checked, text_is_near}
+use Rattle.pl_plan.proofs.TextsAreNear.{text_is_checked, text_is_near}
 
 -- what is told, by its start and its parent
 told :

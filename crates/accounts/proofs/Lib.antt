@@ -3,7 +3,6 @@ pub mod Told
 pub mod OneAccount
 pub mod Witnesses
 pub mod Forkers
-pub mod TextsAreNear
 pub mod LayoutExists
 pub mod AtSomeOp
 pub mod AccountExists

@@ -19,8 +19,8 @@ use Rattle.pl_syntax.proofs.OneListOfOffsets.{one_list_of_offsets}
 use Rattle.origins.specs.Origins.{op_origin, phaser_origins, statement_in, written_statements}
 use Rattle.origins.specs.Turns.{op_turns}
 use Rattle.text_places.specs.declared.place.TextPlace.{TextPlace}
-use Rattle.accounts.specs.Accounts.{IsLayout, IsTaskAccount, IsWait, IsWaiting, Layout, placed_turns, statement_place, words_of}
-use Rattle.accounts.specs.Laws.{OneAccount}
+use Rattle.accounts.specs.Accounts.{IsLayout, IsTaskAccount, HasWait, IsWaiting, Layout, placed_turns, statement_place, words_of}
+use Rattle.accounts.specs.calls.Laws.{OneAccount}
 use Rattle.accounts.specs.declared.account.Account.{Account}
 use Rattle.accounts.specs.declared.account.Drawn.{Drawn}
 use Rattle.accounts.specs.declared.account.Ended.{Ended}
@@ -91,7 +91,7 @@ module _ (l : Layout) (p : Program) (plan : Plan) (a : ℕ → Place) (t : ℕ) 
       (x.words ∙ (ap (λ n. words_of (statement_in (written_statements p.body) n)) number ∙ sym y.words)) (x.event ∙ sym y.event) phase
       (x.turns ∙ (ap (λ k. placed_turns l (op_turns p t k)) same ∙ sym y.turns))
 
-  one_wait : (end : TaskEnd) (v w : Option Waiting) → IsWait l p plan a t end v → IsWait l p plan a t end w → v ≡ w
+  one_wait : (end : TaskEnd) (v w : Option Waiting) → HasWait l p plan a t end v → HasWait l p plan a t end w → v ≡ w
   one_wait (Blocked e) (Some v) (Some w) x y = ap Some (one_waiting e v w x y)
   one_wait (Blocked e) None w x y = absurd x
   one_wait (Blocked e) (Some v) None x y = absurd y

@@ -18,13 +18,13 @@ use Rattle.pl_syntax.specs.Tokens.{Token, sign, the_end}
 use Rattle.pl_syntax.specs.Tree.{Tree, adv, await, count, dereg, done, fork, loop, new_phaser, new_task, plain, reg, skip}
 use Rattle.pl_syntax.specs.declared.token.Sign.TheVariants.{CloseBrace}
 use Rattle.pl_syntax.specs.declared.tree.Program.{Program}
-use Rattle.origins.specs.OriginLaws.{statement_of}
+use Rattle.origins.specs.calls.OriginLaws.{statement_of}
 use Rattle.origins.specs.Origins.{comes_to_task, statement_in, written_statements}
 use Rattle.origins.proofs.MadeByVisits.{tasks_have_origins}
 use Rattle.origins.proofs.WrittenStatements.{visits_are_of_text}
-use Rattle.accounts.specs.Accounts.{IsWait, Layout, drawn_of, name_of, statement_place, words_of}
+use Rattle.accounts.specs.Accounts.{HasWait, Layout, drawn_of, drawn_name, statement_place, words_of}
 use Rattle.accounts.specs.AwaitWords.{await_text}
-use Rattle.accounts.specs.Laws.{DrawnHaveNames, StatementsHavePlaces, WaitersHaveAwaits}
+use Rattle.accounts.specs.calls.Laws.{DrawnHaveNames, StatementsHavePlaces, WaitersHaveAwaits}
 use Rattle.accounts.specs.declared.account.Drawn.{Drawn}
 use Rattle.accounts.specs.declared.account.Waiting.{Waiting}
 use Rattle.accounts.proofs.Awaiting.{waits_at_await}
@@ -78,7 +78,7 @@ statements_have_places p l is = (
 
 waiting_is :
     (l : Layout) (p : Program) (plan : Plan) (a : ℕ → Place) (t : ℕ) (e : Event) (o : Option Waiting) → plan_of p ≡ Ok plan →
-    end_of (state_at plan a) t ≡ Blocked e → IsWait l p plan a t (Blocked e) o →
+    end_of (state_at plan a) t ≡ Blocked e → HasWait l p plan a t (Blocked e) o →
     (w : Waiting) × (n : ℕ) × (x : List ℕ) × (off : Offset) × (o ≡ Some w) × (slice_get (written_statements p.body) n ≡ Some (a_plain (await x off)))
     × (w.words ≡ await_text x off) × (w.at ≡ statement_place l (suc n))
 waiting_is l p plan a t e None unfolds ended is = absurd is
@@ -100,7 +100,7 @@ pub waiters_have_awaits : WaitersHaveAwaits
 waiters_have_awaits text p plan a account unfolds known t d lt e ended =
     let task = known.each t d lt in
     waiting_is known.layout p plan a t e (slice_index_or account.tasks t d).wait unfolds ended
-    (subst (λ (end : TaskEnd). IsWait known.layout p plan a t end (slice_index_or account.tasks t d).wait) ended task.wait)
+    (subst (λ (end : TaskEnd). HasWait known.layout p plan a t end (slice_index_or account.tasks t d).wait) ended task.wait)
 
 -- ---- who is drawn
 
@@ -125,8 +125,8 @@ drawn_have_names text p plan a account unfolds known t d lt =
     let n = origin.by.statement - 1 in
     let number : origin.by.statement ≡ suc n = omega (arith, some) in
     let statement : slice_get (written_statements p.body) n ≡ Some (a_plain (new_task x)) = stands ∙ ap (λ c. Some (statement_of c)) is in
-    let drawn : Drawn = record { at = statement_place known.layout (suc n); name = name_of (slice_get (written_statements p.body) n) } in
+    let drawn : Drawn = record { at = statement_place known.layout (suc n); name = drawn_name (slice_get (written_statements p.body) n) } in
     let task = known.each (suc t) d lt in
     let here : drawn_of known.layout p (suc t) ≡ Some drawn =
-    ap (option_map (λ m. record { at = statement_place known.layout m; name = name_of (statement_in (written_statements p.body) m) })) (origin.is ∙ ap Some number) in
-    (drawn, n, x, task.drawn ∙ here, statement, ap name_of statement, refl)
+    ap (option_map (λ m. record { at = statement_place known.layout m; name = drawn_name (statement_in (written_statements p.body) m) })) (origin.is ∙ ap Some number) in
+    (drawn, n, x, task.drawn ∙ here, statement, ap drawn_name statement, refl)

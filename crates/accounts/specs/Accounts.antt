@@ -69,14 +69,14 @@ end_place l f = place_or_end l.text (brace_of (numbered l.ends f))
 -- ---- tasks
 
 -- the name that stands before a `newTid`
-abbrev pub name_of : Option Coming → List ℕ
-name_of (Some (a_plain (new_task x))) = x
-name_of _ = []
+abbrev pub drawn_name : Option Coming → List ℕ
+drawn_name (Some (a_plain (new_task x))) = x
+drawn_name _ = []
 
 -- where task t is drawn, and the name there
 abbrev pub drawn_of : Layout → Program → ℕ → Option Drawn
 drawn_of l p t =
-    option_map (λ n. record { at = statement_place l n; name = name_of (statement_in (written_statements p.body) n) }) (task_origin p t)
+    option_map (λ n. record { at = statement_place l n; name = drawn_name (statement_in (written_statements p.body) n) }) (task_origin p t)
 
 -- where a task is forked, by its fork and by the task that drew it, which forks it
 abbrev pub forked_by : Layout → Option ℕ → Option TaskId → Option Forked
@@ -115,12 +115,12 @@ pub record IsWaiting (l : Layout) (p : Program) (plan : Plan) (a : ℕ → Place
   pub turns : w.turns ≡ placed_turns l (op_turns p t op)
 
 -- a task has a wait just where it has ended so
-abbrev pub IsWait : Layout → Program → Plan → (ℕ → Place) → ℕ → TaskEnd → Option Waiting → Type 0
-IsWait l p plan a t (Blocked e) (Some w) = IsWaiting l p plan a t e w
-IsWait l p plan a t (Blocked e) None = ⊥
-IsWait l p plan a t Done w = w ≡ None
-IsWait l p plan a t (Refused e) w = w ≡ None
-IsWait l p plan a t Unforked w = w ≡ None
+abbrev pub HasWait : Layout → Program → Plan → (ℕ → Place) → ℕ → TaskEnd → Option Waiting → Type 0
+HasWait l p plan a t (Blocked e) (Some w) = IsWaiting l p plan a t e w
+HasWait l p plan a t (Blocked e) None = ⊥
+HasWait l p plan a t Done w = w ≡ None
+HasWait l p plan a t (Refused e) w = w ≡ None
+HasWait l p plan a t Unforked w = w ≡ None
 
 -- ---- the account
 
@@ -129,7 +129,7 @@ pub record IsTaskAccount (l : Layout) (p : Program) (plan : Plan) (a : ℕ → P
   pub drawn : account.drawn ≡ drawn_of l p t
   pub fork : account.fork ≡ forked_of l p plan t
   pub ended : account.ended ≡ ended_of l p t
-  pub wait : IsWait l p plan a t (end_of (state_at plan a) t) account.wait
+  pub wait : HasWait l p plan a t (end_of (state_at plan a) t) account.wait
 
 -- the account of the text, which is that of this program, whose plan has been run up to these places
 pub record IsAccount (text : List ℕ) (p : Program) (plan : Plan) (a : ℕ → Place) (account : Account) : Type 0 where

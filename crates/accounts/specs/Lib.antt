@@ -1,6 +1,6 @@
 pub mod AwaitWords
 pub mod Accounts
--- What is proved of it.
-pub mod Laws
 -- How the program does it: private contracts alone cite these.
 pub mod inside
+-- Words of contracts further down, which no promise of a program needs.
+pub mod calls

@@ -3,13 +3,13 @@ ghost use Rattle.std.specs.Prelude.{◌≡◌, ℕ, ◌+◌, ◌<◌, ◌^◌, I
 ghost use Rattle.armus_base.specs.CheckedPlans.{IsCheckedPlan};
 ghost use Rattle.armus_base.specs.Finals.{end_of, list_below};
 ghost use Rattle.armus_base.specs.Runs.{IsReachable};
-ghost use Rattle.pl_core.specs.Worlds.{places_of, state_of};
+ghost use Rattle.pl_core.specs.calls.Worlds.{places_of, state_of};
 ghost use Rattle.pl_plan.specs.Forks.{fork_statements};
 ghost use Rattle.pl_plan.specs.Unfolding.{plan_of};
 ghost use Rattle.pl_syntax.specs.Grammar.{IsText};
 ghost use Rattle.pl_syntax.specs.Tree.{count};
 ghost use Rattle.origins.specs.Origins.{phaser_origins};
-ghost use Rattle.accounts.specs.Accounts.{IsAccount, IsTaskAccount, IsWait, statement_place};
+ghost use Rattle.accounts.specs.Accounts.{IsAccount, IsTaskAccount, HasWait, statement_place};
 ghost use Rattle.accounts.specs.inside.Facts.{AreTold, IsKnown, layout_of};
 
 use crate::account::{Account, TaskAccount, Waiting};
@@ -35,7 +35,7 @@ fn wait_of(
     requires reachable { IsReachable world.now.plan (places_of world.now) }
     requires task { t.0 < length world.now.plan.parents }
     requires end { end_of (state_of world.now) t.0 ≡ end.now }
-    ensures { IfOk result (IsWait (layout_of facts.now) facts.now.program.now world.now.plan (places_of world.now) t.0 end.now) }
+    ensures { IfOk result (HasWait (layout_of facts.now) facts.now.program.now world.now.plan (places_of world.now) t.0 end.now) }
 {
     match end {
         TaskEnd::Blocked(event) => Ok(Some(waiting_of(alloc, facts, world, t, *event)?)),

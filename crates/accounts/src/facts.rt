@@ -5,7 +5,7 @@ ghost use Rattle.pl_syntax.specs.Grammar.{IsText};
 ghost use Rattle.pl_syntax.specs.Tree.{count};
 ghost use Rattle.origins.specs.Origins.{last_origin};
 ghost use Rattle.origins.specs.inside.Tables.{coming_of};
-ghost use Rattle.accounts.specs.Accounts.{brace_of, drawn_of, end_place, ended_of, forked_of, name_of, numbered, place_or_end, statement_place};
+ghost use Rattle.accounts.specs.Accounts.{brace_of, drawn_of, end_place, ended_of, forked_of, drawn_name, numbered, place_or_end, statement_place};
 ghost use Rattle.accounts.specs.inside.Facts.{IsKnown, layout_of};
 
 use crate::account::{Drawn, Ended, Forked};
@@ -60,7 +60,7 @@ fn end_at(ends: &[Option<u32>], n: u32) -> Option<u32>
 
 // The name before a `newTid`.
 fn name_of(alloc: Global, stmt: Option<&Stmt>) -> Result<List<u8>, NoMemory>
-    ensures { IfOk result (λ name. name ≡ name_of (option_map (λ s. coming_of s.now) stmt.entry)) }
+    ensures { IfOk result (λ name. name ≡ drawn_name (option_map (λ s. coming_of s.now) stmt.entry)) }
 {
     match stmt {
         Some(Stmt::NewTask { x }) => Ok(List::from_vec(Vec::from_slice(alloc, x.as_bytes())?)),

@@ -1,6 +1,6 @@
 // What holds of accounts: each law is the contract of a function with an empty body.
 
-ghost use Rattle.accounts.specs.Laws.{AccountExists, DrawnHaveNames, ForkersFork, OneAccount, StatementsHavePlaces, WaitersHaveAwaits};
+ghost use Rattle.accounts.specs.calls.Laws.{AccountExists, DrawnHaveNames, ForkersFork, OneAccount, StatementsHavePlaces, WaitersHaveAwaits};
 
 /// A text with its program, its plan and the places to which a run has come has one account at most.
 pub fn one_account()

@@ -7,7 +7,7 @@ ghost use Rattle.armus_base.specs.Runs.{IsReachable};
 ghost use Rattle.origins.specs.Origins.{op_origin, statement_in, written_statements};
 ghost use Rattle.origins.specs.Turns.{op_turns};
 ghost use Rattle.origins.specs.inside.Tables.{coming_of};
-ghost use Rattle.pl_core.specs.Worlds.{places_of, state_of};
+ghost use Rattle.pl_core.specs.calls.Worlds.{places_of, state_of};
 ghost use Rattle.pl_plan.specs.Unfolding.{plan_of};
 ghost use Rattle.pl_syntax.specs.Printed.{offset_text};
 ghost use Rattle.accounts.specs.Accounts.{IsWaiting, placed_turns, words_of};

@@ -5,7 +5,7 @@ use Rattle.armus_base.specs.Counts.{IsCount}
 use Rattle.armus_base.specs.Graphs.{StateCount, StateEdge, StaysSmall}
 use Rattle.armus_base.specs.declared.event.Event.{Event}
 use Rattle.armus_base.specs.declared.status.Status.{Status}
-use Rattle.state_graph.specs.BoundedEnds.{IsFirstLarge}
+use Rattle.state_graph.specs.calls.BoundedEnds.{IsFirstLarge}
 
 pub not_small : (ss : List Status) (m k n : ℕ) → IsFirstLarge (take m ss) k n → length (take m ss) ≤ m → length (take m ss) ≤ length ss → StaysSmall ss → ⊥
 not_small ss m k n large short within small =

@@ -2,9 +2,10 @@
 use Rattle.std.proofs.Common.{◌≡◌, ℕ, List, sym, subst, arith}
 use Rattle.armus_base.specs.declared.status.Status.{Status}
 use Rattle.armus_base.specs.Graphs.{StaysSmall}
-use Rattle.state_graph.specs.BoundedEnds.{IsFirstLarge}
+use Rattle.state_graph.specs.calls.BoundedEnds.{IsFirstLarge}
 use Rattle.adaptive.specs.inside.ByGraph.{IsAnalysisBy}
-use Rattle.adaptive.specs.Choice.{IsAnalysis, IsUsed, IsChoice, IsEdgeCount}
+use Rattle.adaptive.specs.calls.Choice.{IsAnalysis}
+use Rattle.adaptive.specs.Choice.{IsUsed, IsChoice, IsEdgeCount}
 use Rattle.adaptive.specs.declared.analysis.Wanted.{Wanted}
 use Rattle.adaptive.specs.declared.analysis.Wanted.TheVariants.{Auto}
 use Rattle.adaptive.specs.declared.analysis.Used.{Used}

@@ -6,12 +6,13 @@ use Rattle.armus_base.specs.declared.event.Event.{Event}
 use Rattle.armus_base.specs.declared.ids.TaskId.{TaskId}
 use Rattle.armus_base.specs.declared.status.Member.{Member}
 use Rattle.armus_base.specs.declared.status.Status.{Status}
-use Rattle.armus_base.specs.Deadlocks.{WaitsOn, HasPhase, IsDead, IsDeadBy, IsDeadlockedSet, IsImpededWithin, IsListedOn, IsListedAt}
+use Rattle.armus_base.specs.Deadlocks.{WaitsOn, HasPhase, IsDead, IsDeadBy, IsImpededWithin, IsListedOn, IsListedAt}
 use Rattle.armus_base.specs.DeadLists.{IsDeadList}
 use Rattle.armus_base.specs.Finals.{given_below}
 use Rattle.armus_base.specs.States.{updated}
 use Rattle.armus_base.proofs.Below.{given_ascends, given_from, given_is}
 use Rattle.armus_base.proofs.Elements.{nothing_in_nil, Contains-cons_cases}
+use Rattle.armus_base.proofs.Impeded.{HaveAll, have_still}
 use Rattle.armus_base.proofs.Steps.{updated_is, updated_other, updated_same}
 use Rattle.armus_base.proofs.Tasks.{all_or_one}
 use Rattle.adaptive.proofs.Deciding.{Told, told_less, told_number, told_same, told_some_both, told_true}
@@ -59,10 +60,6 @@ module _ (W : WaitsOn) (H : HasPhase) (n : ℕ) (waits_within : (u : ℕ) (e : E
   abbrev Impeded : (ℕ → Bool) → ℕ → Type 0
   Impeded mark u = IsImpededWithin W H mark u
 
-  -- the marks have each deadlocked set
-  abbrev HaveAll : (ℕ → Bool) → Type 0
-  HaveAll mark = (tasks : ℕ → Bool) → IsDeadlockedSet W H tasks → (u : ℕ) → tasks u ≡ true → mark u ≡ true
-
   -- each marked task is impeded by a marked one, or one is not
   stuck_or_all : (mark : ℕ → Bool) → ((u : ℕ) → u < n → mark u ≡ true → Impeded mark u) ⊎ ((u : ℕ) × (u < n) × (mark u ≡ true) × (Impeded mark u → ⊥))
   stuck_or_all mark =
@@ -78,32 +75,14 @@ module _ (W : WaitsOn) (H : HasPhase) (n : ℕ) (waits_within : (u : ℕ) (e : E
             | inr off ↦ inl (λ on. absurd (false≢true (sym off ∙ on)))
           ]
 
-  -- marks of which one that is not impeded is taken away
-  module _ (mark : ℕ → Bool) (have : HaveAll mark) (u : ℕ) (free : Impeded mark u → ⊥) where
-    have_still : HaveAll (updated mark u false)
-    have_still tasks deadlocked v inside =
-        elim (cases_eq v u) [
-          | inl same ↦
-              let held = deadlocked.each v inside in
-              absurd (free (subst (Impeded mark) same
-              (record {
-                event = held.event;
-                waits = held.waits;
-                by = held.by;
-                inside = have tasks deadlocked held.by held.inside;
-                phase = held.phase;
-                impedes = held.impedes;
-                below = held.below;
-              })))
-          | inr other ↦ updated_other mark u v false other ∙ have tasks deadlocked v inside
-        ]
-
+  -- marks of which one is taken away
+  module _ (mark : ℕ → Bool) (u : ℕ) where
     within_still : ((v : ℕ) → mark v ≡ true → v < n) → (v : ℕ) → updated mark u false v ≡ true → v < n
     within_still within v on =
         elim (updated_is mark u v false true on) [ inl own ↦ absurd (false≢true own.1) | inr other ↦ within v other.1 ]
 
   -- where each marked task is impeded by a marked one, the marked ones are dead, and only they
-  by_marks : (mark : ℕ → Bool) → HaveAll mark → ((u : ℕ) → mark u ≡ true → u < n) → ((u : ℕ) → u < n → mark u ≡ true → Impeded mark u) → (t : ℕ) → Told (IsDead W H t)
+  by_marks : (mark : ℕ → Bool) → HaveAll W H mark → ((u : ℕ) → mark u ≡ true → u < n) → ((u : ℕ) → u < n → mark u ≡ true → Impeded mark u) → (t : ℕ) → Told (IsDead W H t)
   by_marks mark have within all t =
       elim (cases_Bool (mark t)) [
         | inl on ↦ inl (record { tasks = mark; inside = on; deadlocked = record { some = (t, on); each = λ u i. all u (within u i) i } })
@@ -111,7 +90,7 @@ module _ (W : WaitsOn) (H : HasPhase) (n : ℕ) (waits_within : (u : ℕ) (e : E
       ]
 
   dead_by_marks :
-      (fuel : ℕ) (mark : ℕ → Bool) → marked mark n ≤ fuel → HaveAll mark → ((u : ℕ) → mark u ≡ true → u < n) → (t : ℕ) → Told (IsDead W H t)
+      (fuel : ℕ) (mark : ℕ → Bool) → marked mark n ≤ fuel → HaveAll W H mark → ((u : ℕ) → mark u ≡ true → u < n) → (t : ℕ) → Told (IsDead W H t)
   dead_by_marks zero mark few have within t =
       elim (stuck_or_all mark) [
         | inl all ↦ by_marks mark have within all t
@@ -121,8 +100,8 @@ module _ (W : WaitsOn) (H : HasPhase) (n : ℕ) (waits_within : (u : ℕ) (e : E
       elim (stuck_or_all mark) [
         | inl all ↦ by_marks mark have within all t
         | inr one ↦
-            dead_by_marks fuel (updated mark one.0 false) (let less = less_marked mark one.0 one.2 n one.1 in omega arith) (have_still mark have one.0 one.3)
-            (within_still mark have one.0 one.3 within) t
+            dead_by_marks fuel (updated mark one.0 false) (let less = less_marked mark one.0 one.2 n one.1 in omega arith) (have_still W H mark have one.0 one.3)
+            (within_still mark one.0 within) t
       ]
 
   abbrev all_tasks : ℕ → Bool

@@ -8,8 +8,9 @@ use Rattle.armus_base.specs.Deadlocks.{IsDeadBy}
 use Rattle.armus_base.specs.declared.ids.TaskId.{TaskId}
 use Rattle.armus_base.specs.declared.status.Member.{Member}
 use Rattle.armus_base.specs.declared.status.Status.{Status}
-use Rattle.armus_base.specs.Statuses.{Impedes, IsInOrder}
-use Rattle.dep_state.specs.Picks.{Ascend, IsPick}
+use Rattle.armus_base.specs.Statuses.{Impedes}
+use Rattle.armus_base.specs.calls.Statuses.{IsInOrder}
+use Rattle.dep_state.specs.calls.Picks.{Ascend, IsPick}
 use Rattle.dep_state.proofs.DeadSets.{IsDeadlockedList, dead_by_list, dead_in_list}
 use Rattle.dep_state.proofs.TaskPlaces.{element}
 use Rattle.adaptive.specs.declared.standings.Standing.{Standing}

@@ -5,12 +5,10 @@ use Rattle.armus_base.specs.declared.ids.TaskId.{TaskId}
 use Rattle.armus_base.specs.declared.event.Event.{Event}
 use Rattle.armus_base.specs.declared.status.Status.{Status}
 use Rattle.armus_base.specs.Graphs.{WaitsFor, StateEdge, Resource, ResourceEdge, StaysSmall}
-use Rattle.armus_base.specs.DeadLists.{IsDeadList}
 use Rattle.adaptive.specs.declared.analysis.Wanted.{Wanted}
 use Rattle.adaptive.specs.declared.analysis.Wanted.TheVariants.{Auto, Wfg as WantWfg, Sg as WantSg, Grg as WantGrg}
 use Rattle.adaptive.specs.declared.analysis.Used.{Used}
 use Rattle.adaptive.specs.declared.analysis.Used.TheVariants.{Wfg, Sg, Grg}
-use Rattle.adaptive.specs.declared.analysis.Analysis.{Analysis}
 
 -- the whole graph has n edges
 abbrev pub IsEdgeCount : List Status → Used → ℕ → Type 0
@@ -30,9 +28,3 @@ IsUsed ss Auto used = IsChoice ss used
 IsUsed ss WantWfg used = used ≡ Wfg
 IsUsed ss WantSg used = used ≡ Sg
 IsUsed ss WantGrg used = used ≡ Grg
-
--- the dead tasks, whatever graph is used; the graph that is used, and its number of edges
-pub record IsAnalysis (ss : List Status) (wanted : Wanted) (a : Analysis) : Type 0 where
-  pub dead : IsDeadList ss a.dead
-  pub used : IsUsed ss wanted a.used
-  pub edges : IsEdgeCount ss a.used a.edges

@@ -1,15 +1,15 @@
 // Which graph is used, and what it says.
 ghost use Rattle.std.specs.Prelude.{◌≡◌, ℕ, ◌<◌, List, IfOk, IsTrue};
 ghost use Rattle.armus_base.specs.Graphs.{StaysSmall};
-ghost use Rattle.state_graph.specs.BoundedEnds.{IsFirstLarge};
+ghost use Rattle.state_graph.specs.calls.BoundedEnds.{IsFirstLarge};
 ghost use Rattle.adaptive.specs.declared.analysis.Wanted.TheVariants.{Auto};
 ghost use Rattle.armus_base.specs.DeadLists.{IsDeadList};
-ghost use Rattle.armus_base.specs.Statuses.{IsInOrder};
+ghost use Rattle.armus_base.specs.calls.Statuses.{IsInOrder};
 ghost use Rattle.armus_base.specs.declared.status.Status.{Status};
-ghost use Rattle.dep_state.specs.Deps.{IsDepsOf};
-ghost use Rattle.state_graph.specs.StateEdges.{IsStateGraphOf};
+ghost use Rattle.dep_state.specs.calls.Deps.{IsDepsOf};
+ghost use Rattle.state_graph.specs.calls.StateEdges.{IsStateGraphOf};
 ghost use Rattle.adaptive.specs.inside.ByGraph.{IsAnalysisBy};
-ghost use Rattle.adaptive.specs.Choice.{IsAnalysis};
+ghost use Rattle.adaptive.specs.calls.Choice.{IsAnalysis};
 ghost use Rattle.adaptive.specs.declared.analysis.Used.TheVariants.{Wfg, Sg, Grg};
 
 use crate::analysis::{Analysis, Used, Wanted};

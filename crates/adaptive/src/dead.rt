@@ -1,7 +1,7 @@
 // The dead tasks of a list of statuses, without a graph.
 ghost use Rattle.std.specs.Prelude.{◌≡◌, ◌<◌, ◌^◌, IfOk, length, map};
 ghost use Rattle.armus_base.specs.DeadLists.{IsDeadList};
-ghost use Rattle.armus_base.specs.Statuses.{IsInOrder};
+ghost use Rattle.armus_base.specs.calls.Statuses.{IsInOrder};
 ghost use Rattle.armus_base.specs.declared.status.Status.{Status};
 ghost use Rattle.adaptive.specs.inside.Remaining.{IsRemainingOf};
 

@@ -1,7 +1,7 @@
 // The statuses that remain when each is taken away whose event no remaining task impedes: those are the dead ones.
 ghost use Rattle.std.specs.Prelude.{◌≡◌, ℕ, ◌+◌, ◌<◌, true, false, MatchBool, length, slice_index_or, slice_set};
 ghost use Rattle.armus_base.specs.declared.status.Status.{Status};
-ghost use Rattle.armus_base.specs.Statuses.{IsInOrder};
+ghost use Rattle.armus_base.specs.calls.Statuses.{IsInOrder};
 ghost use Rattle.adaptive.specs.inside.Standings.{IsRemainingImpeder, IsUnimpeded, remains_at};
 
 use crate::columns::{Column, front_of, keep_front};

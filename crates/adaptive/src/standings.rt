@@ -1,7 +1,7 @@
 // Who stands at which phase, phaser by phaser.
 ghost use Rattle.std.specs.Prelude.{◌≡◌, ◌++◌, ◌<◌, ◌^◌, IfOk, OnOk, length, map};
 ghost use Rattle.armus_base.specs.declared.status.Status.{Status};
-ghost use Rattle.armus_base.specs.Statuses.{IsInOrder};
+ghost use Rattle.armus_base.specs.calls.Statuses.{IsInOrder};
 ghost use Rattle.adaptive.specs.inside.Standings.{AreStandingsOf, StandingsNeverFall, standing_at};
 
 use armus_base::{Event, Member, Status};

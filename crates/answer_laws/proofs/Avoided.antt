@@ -4,11 +4,11 @@ use Rattle.std.specs.Prelude.{IsSome, None, Option, Some}
 use Rattle.armus_base.specs.declared.ending.TaskEnd.{TaskEnd}
 use Rattle.armus_base.specs.declared.ending.TaskEnd.TheVariants.{Done, Blocked, Refused, Unforked}
 use Rattle.armus_base.specs.declared.event.Event.{Event}
-use Rattle.armus_base.specs.AgreementLaws.{HasEndedRefused, OnlyForkedMembers}
+use Rattle.armus_base.specs.calls.AgreementLaws.{HasEndedRefused, OnlyForkedMembers}
 use Rattle.armus_base.specs.Avoidance.{IsAvoidedFinal}
 use Rattle.armus_base.specs.CheckedPlans.{IsCheckedPlan}
 use Rattle.armus_base.specs.Deadlocks.{NobodyDead}
-use Rattle.armus_base.specs.FinalLaws.{IsOfPlan}
+use Rattle.armus_base.specs.calls.FinalLaws.{IsOfPlan}
 use Rattle.armus_base.specs.Finals.{end_by, end_of, final_of}
 use Rattle.armus_base.specs.Plans.{Plan}
 use Rattle.armus_base.specs.Runs.{IsFinal, state_after}
@@ -33,7 +33,8 @@ use Rattle.armus_top.specs.Programs.{IsPlanOf, TellsDead}
 use Rattle.armus_top.specs.Runs.{IsRunOf}
 use Rattle.armus_top.proofs.Inputs.{never_both}
 use Rattle.armus_top.proofs.OnePlan.{checked_plan, one_plan}
-use Rattle.answer_laws.specs.Avoided.{AvoidTellsAsRun, LeavesNobodyUnforked, WhoGainsAndPays}
+use Rattle.answer_laws.specs.Avoided.{AvoidTellsAsRun}
+use Rattle.answer_laws.specs.calls.Avoided.{LeavesNobodyUnforked, WhoGainsAndPays}
 use Rattle.answer_laws.proofs.OneAnswer.{tells_run}
 use Rattle.answer_laws.proofs.OneRefused.{one_refused}
 

@@ -6,7 +6,7 @@ use Rattle.armus_base.specs.declared.ids.TaskId.{TaskId}
 use Rattle.armus_base.specs.AgreementLaws.{has_task}
 use Rattle.armus_base.specs.CheckedPlans.{IsCheckedPlan}
 use Rattle.armus_base.specs.Deadlocks.{IsAtPhase, IsDeadBy, IsDeadIn, IsDeadlockedSet, IsPublishedOn}
-use Rattle.armus_base.specs.FinalLaws.{IsOfPlan}
+use Rattle.armus_base.specs.calls.FinalLaws.{IsOfPlan}
 use Rattle.armus_base.specs.Finals.{final_of}
 use Rattle.armus_base.specs.Plans.{Plan}
 use Rattle.armus_base.specs.Runs.{IsFinal}
@@ -27,7 +27,8 @@ use Rattle.armus_top.specs.Avoids.{TellsRefused}
 use Rattle.armus_top.specs.Programs.{TellsDead}
 use Rattle.armus_top.proofs.OnePlan.{checked_plan, one_plan}
 use Rattle.armus_top.proofs.OneRefusal.{one_refused_status, one_status}
-use Rattle.answer_laws.specs.Cycles.{CycleIsProof, DifferInGraph, GraphChangesLastLine, GraphChangesNoRefusal, ShowsDeadlock, by_cycle, by_none}
+use Rattle.answer_laws.specs.Cycles.{CycleIsProof, ShowsDeadlock, by_cycle, by_none}
+use Rattle.answer_laws.specs.calls.Cycles.{DifferInGraph, GraphChangesLastLine, GraphChangesNoRefusal}
 use Rattle.answer_laws.specs.Held.{HeldTasksHaveEnd}
 use Rattle.answer_laws.proofs.OneRun.{one_final, one_serial_state}
 

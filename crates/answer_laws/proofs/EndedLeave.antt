@@ -9,7 +9,7 @@ use Rattle.armus_base.specs.AgreementLaws.{WaitsForEnded, WaitsForTask}
 use Rattle.armus_base.specs.AgreementLaws as ended
 use Rattle.armus_base.specs.CheckedPlans.{IsCheckedPlan}
 use Rattle.armus_base.specs.Finals.{end_of}
-use Rattle.armus_base.specs.FinalLaws.{Tells}
+use Rattle.armus_base.specs.calls.FinalLaws.{Tells}
 use Rattle.armus_base.specs.Limits.{max_phasers, max_tasks}
 use Rattle.armus_base.specs.Places.{done_by, first_phases, kept, own_phases, own_step, phases_after, phases_at, state_at}
 use Rattle.armus_base.specs.Plans.{Action, Forks, Plan, action_at, actions, parent_of}
@@ -26,7 +26,8 @@ use Rattle.pl_plan.proofs.Growth.{last_phases}
 use Rattle.pl_plan.proofs.Sound.{is_begun}
 use Rattle.armus_words.specs.Words.{Text}
 use Rattle.armus_top.specs.Programs.{IsChecked}
-use Rattle.armus_top.proofs.OnePlan.{checked_plan, program_is_near}
+use Rattle.pl_plan.proofs.TextsAreNear.{text_is_near}
+use Rattle.armus_top.proofs.OnePlan.{checked_plan}
 use Rattle.answer_laws.specs.Held.{EndedHaveLeft, HeldWaitForUnforked, WaitsForUnforked, at_unforked, by_held}
 use Rattle.answer_laws.proofs.TasksLeft.{IsEndInTwo, end_in_two}
 
@@ -113,7 +114,7 @@ pub ended_have_left : EndedHaveLeft
 ended_have_left text program plan f u p is two final done =
     let checked = checked_plan text plan (program, is) in
     let h = final.steps in
-    let end = end_in_two program plan (program_is_near text program is.reads) two is.unfolds in
+    let end = end_in_two program plan (text_is_near text program is.reads) two is.unfolds in
     let end_is : end_of (state_after h) u ≡ Done = subst (λ (s : State). end_of s u ≡ Done) (sym final.there) done in
     let tells : Tells plan h u Done = subst (Tells plan h u) end_is (ends_tell plan h u checked final.run.0 final.maximal) in
     subst (λ (s : State). s.phases u p ≡ None) final.there (left_there plan checked end h final.run final.maximal u p tells)

@@ -12,7 +12,7 @@ use Rattle.armus_top.specs.Runs.{IsLiveRunOf, IsRunOf}
 use Rattle.armus_top.proofs.Inputs.{never_both}
 use Rattle.armus_top.proofs.OneClockPlan.{checked_clock_plan}
 use Rattle.armus_top.proofs.OnePlan.{checked_plan, one_plan}
-use Rattle.answer_laws.specs.LiveLines.{LiveClockTellsAsClock, LiveRunTellsAsRun, StandsBehindLines}
+use Rattle.answer_laws.specs.calls.LiveLines.{LiveClockTellsAsClock, LiveRunTellsAsRun, StandsBehindLines}
 use Rattle.answer_laws.proofs.OneAnswer.{one_clock_plan}
 use Rattle.answer_laws.proofs.OneRefused.{one_refused}
 use Rattle.answer_laws.proofs.OneRun.{one_run}

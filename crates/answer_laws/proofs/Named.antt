@@ -24,7 +24,7 @@ use Rattle.armus_words.specs.Words.{Text}
 use Rattle.armus_top.specs.Programs.{TellsDead}
 use Rattle.armus_top.specs.Replays.{IsReplayOf}
 use Rattle.armus_top.proofs.OnePlan.{checked_plan}
-use Rattle.answer_laws.specs.Replayed.{IsNamed, ReplayTellsAsRun, at_end, by_pass}
+use Rattle.answer_laws.specs.calls.Replayed.{IsNamedInReplay, ReplayTellsAsRun, at_end, by_pass}
 
 module _ (plan : Plan) (checked : IsCheckedPlan plan) where
   -- so far: the run is plain, and whoever a closed pass names is dead after it
@@ -115,7 +115,7 @@ module _ (input : Text) (a : ℕ) (p : Text) (replay : IsReplayOf input a p) whe
   kept = leads_kept replay.by.plan the_checked replay.by.lines replay.by.replayed.progress replay.by.replayed.leads
 
   -- whoever is named is dead after the replayed steps
-  dead_after : (t : TaskId) → IsNamed replay.done t → IsDeadIn (state_after replay.by.replayed.progress.run) t.0
+  dead_after : (t : TaskId) → IsNamedInReplay replay.done t → IsDeadIn (state_after replay.by.replayed.progress.run) t.0
   dead_after t (by_pass v verdict named) =
       let (loads, closed, is) = pass_of replay.by.plan the_checked replay.by.replayed.progress.passes replay.done.verdicts replay.by.replayed.verdicts v verdict in
       kept.lasting loads closed t.0 ((is.exact t).0 named)

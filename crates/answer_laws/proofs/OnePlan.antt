@@ -4,7 +4,8 @@ use Rattle.pl_syntax.specs.declared.tree.Program.{Program}
 use Rattle.pl_syntax.specs.Grammar.{IsText}
 use Rattle.pl_syntax.proofs.LineFeeds.{no_line_is_a_mark}
 use Rattle.schedule.specs.Lines.{IsFirstLine, ended, unended}
-use Rattle.schedule.specs.Records.{HasNoMark, recorded}
+use Rattle.schedule.specs.calls.Records.{HasNoMark}
+use Rattle.schedule.specs.Records.{recorded}
 use Rattle.schedule.specs.Split.{IsSplit, at_mark, mark, more_text, no_text}
 use Rattle.schedule.proofs.LinesExist.{input_is_split}
 use Rattle.schedule.proofs.OneSchedule.{one_split}
@@ -12,7 +13,7 @@ use Rattle.armus_words.specs.Words.{Text}
 use Rattle.armus_top.specs.Programs.{IsPlanOf}
 use Rattle.armus_top.specs.Replays.{IsReplayOf, IsReplayedBy, IsShort}
 use Rattle.armus_top.proofs.RecordsMet.{closed_exists}
-use Rattle.answer_laws.specs.OnePlan.{HaveOnePlan, RecordGoesByPlan, ReplayGoesByPlan, TextsHaveNoSchedule}
+use Rattle.answer_laws.specs.calls.OnePlan.{HaveOnePlan, RecordGoesByPlan, ReplayGoesByPlan, TextsHaveNoSchedule}
 
 -- ---- a text without a mark is all text
 

@@ -13,7 +13,7 @@ use Rattle.armus_words.specs.Words.{Text}
 use Rattle.armus_top.specs.Commands.{IsAnswered}
 use Rattle.armus_top.specs.Programs.{IsChecked, IsPlanOf}
 use Rattle.armus_top.proofs.Inputs.{never_both}
-use Rattle.answer_laws.specs.Printed.{GoesByProgram, PrintingKeepsMeaning}
+use Rattle.answer_laws.specs.calls.Printed.{GoesByProgram, PrintingKeepsMeaning}
 use Rattle.answer_laws.proofs.OnePlan.{record_goes_by_plan, replay_goes_by_plan, texts_have_no_schedule}
 
 -- ---- two texts of one program

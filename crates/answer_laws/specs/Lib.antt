@@ -4,7 +4,5 @@ pub mod OneAnswer
 pub mod Avoided
 pub mod Cycles
 pub mod Held
-pub mod Replayed
-pub mod OnePlan
-pub mod Printed
-pub mod LiveLines
+-- Words of contracts further down, which no promise of a program needs.
+pub mod calls

@@ -1,6 +1,7 @@
 // Laws of agreement between what two commands answer for one input.
-ghost use Rattle.answer_laws.specs.Avoided.{AvoidTellsAsRun, WhoGainsAndPays};
-ghost use Rattle.answer_laws.specs.Replayed.{ReplayTellsAsRun};
+ghost use Rattle.answer_laws.specs.Avoided.{AvoidTellsAsRun};
+ghost use Rattle.answer_laws.specs.calls.Avoided.{WhoGainsAndPays};
+ghost use Rattle.answer_laws.specs.calls.Replayed.{ReplayTellsAsRun};
 
 /// `avoid`, with whatever workers, and `run` have one status for one input; and where it is not 1, and the graph is the same, they write the same bytes.
 pub fn avoid_tells_as_run()

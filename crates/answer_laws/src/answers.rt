@@ -1,8 +1,8 @@
 // Laws of answers: what the words and the input fix.
-ghost use Rattle.answer_laws.specs.LiveLines.{LiveClockTellsAsClock, LiveRunTellsAsRun};
+ghost use Rattle.answer_laws.specs.calls.LiveLines.{LiveClockTellsAsClock, LiveRunTellsAsRun};
 ghost use Rattle.answer_laws.specs.OneAnswer.{OneAnswer, RunsReportAlike};
-ghost use Rattle.answer_laws.specs.OnePlan.{RecordGoesByPlan, ReplayGoesByPlan, TextsHaveNoSchedule};
-ghost use Rattle.answer_laws.specs.Printed.{PrintingKeepsMeaning};
+ghost use Rattle.answer_laws.specs.calls.OnePlan.{RecordGoesByPlan, ReplayGoesByPlan, TextsHaveNoSchedule};
+ghost use Rattle.answer_laws.specs.calls.Printed.{PrintingKeepsMeaning};
 
 /// The words and the input alone fix the status and the text of every command but `record`, and `avoid` with several workers; live lines may come in
 /// another order. So `run`, `run --sites` and `pool` write the same bytes, whatever their numbers of workers and of sites.

@@ -1,5 +1,6 @@
 // Laws of the report of a run.
-ghost use Rattle.answer_laws.specs.Cycles.{CycleIsProof, GraphChangesLastLine, GraphChangesNoRefusal};
+ghost use Rattle.answer_laws.specs.Cycles.{CycleIsProof};
+ghost use Rattle.answer_laws.specs.calls.Cycles.{GraphChangesLastLine, GraphChangesNoRefusal};
 ghost use Rattle.answer_laws.specs.Held.{EndedHaveLeft, HeldTasksHaveEnd, HeldWaitForUnforked};
 
 /// The status of a run is 1 exactly where its report has a cycle line, and the tasks of that line are a deadlocked set of the state in which the run ends.

@@ -4,8 +4,10 @@ use Rattle.std.proofs.lemmas.Bool.{cases_Bool}
 use Rattle.armus_base.specs.declared.event.Event.{Event}
 use Rattle.armus_base.specs.Plans.{Action, Advances, Blocks, Drops, Forks, Makes, Passes, Plan, Refuses, Registers, action_at, in_code, Aim}
 use Rattle.armus_base.specs.States.{IsLegal, IsReached, State, Step, event_at}
-use Rattle.armus_base.specs.Runs.{ArePrefixes, IsByCode, IsPlainRun, Precedes, places, state_after}
-use Rattle.armus_base.specs.Places.{IsConsistent, done_by, published_after, refused_at, state_at}
+use Rattle.armus_base.specs.calls.Runs.{ArePrefixes, Precedes}
+use Rattle.armus_base.specs.Runs.{IsByCode, IsPlainRun, places, state_after}
+use Rattle.armus_base.specs.calls.Places.{IsConsistent}
+use Rattle.armus_base.specs.Places.{done_by, published_after, refused_at, state_at}
 use Rattle.armus_base.specs.CheckedPlans.{IsCheckedPlan}
 use Rattle.armus_base.proofs.Fixed.{forked_later}
 use Rattle.armus_base.proofs.Stepping.{places_fix, acting_forked}

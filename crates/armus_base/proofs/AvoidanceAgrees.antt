@@ -2,9 +2,9 @@
 use Rattle.std.proofs.Common.{◌≡◌, ◌≢◌, ℕ, false, Option, Some, None, List, [], ◌∷◌, sym, ◌∙◌, ap, subst, refl, ◌⊎◌, inl, inr}
 use Rattle.std.specs.Prelude.{IsSome}
 use Rattle.std.proofs.lemmas.Bool.{cases_eq, false≢true}
-use Rattle.armus_base.specs.AgreementLaws.{AvoidedEndsAlike, DeadIsFinal, DeadIsFinalAtLawful, FinalIsAvoided, RefusedWhereDead, SomebodyDead, SomebodyRefused}
+use Rattle.armus_base.specs.calls.AgreementLaws.{AvoidedEndsAlike, DeadIsFinal, DeadIsFinalAtLawful, FinalIsAvoided, RefusedWhereDead, SomebodyDead, SomebodyRefused}
 use Rattle.armus_base.specs.Avoidance.{Avoids, IsAvoidedFinal, IsAvoidedRun}
-use Rattle.armus_base.specs.Boards.{steps_of}
+use Rattle.armus_base.specs.calls.Boards.{steps_of}
 use Rattle.armus_base.specs.CheckedPlans.{IsCheckedPlan}
 use Rattle.armus_base.specs.Deadlocks.{IsDeadIn, NobodyDead}
 use Rattle.armus_base.specs.Places.{refused_at}

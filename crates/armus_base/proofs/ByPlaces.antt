@@ -5,8 +5,8 @@ use Rattle.std.proofs.lemmas.Bool.{cases_lt}
 use Rattle.std.proofs.lemmas.Option.{slice_get_within}
 use Rattle.armus_base.specs.declared.piece.Piece.{Piece}
 use Rattle.armus_base.specs.declared.piece.Piece.TheVariants.{Op as Single, Repeat}
-use Rattle.armus_base.specs.Pieces.{AreNested, AreWhole, IsLoop}
-use Rattle.armus_base.specs.PieceLaws.{IsWholeByPlaces, WholeByPlaces, repeats_round}
+use Rattle.armus_base.specs.calls.Pieces.{AreNested, AreWhole, IsLoop}
+use Rattle.armus_base.specs.calls.PieceLaws.{IsWholeByPlaces, WholeByPlaces, repeats_round}
 
 by_cases : {X Y R : Type 0} → (X → R) → (Y → R) → X ⊎ Y → R
 by_cases f g (inl x) = f x

@@ -4,7 +4,7 @@ use Rattle.armus_base.specs.declared.piece.Piece.{Piece}
 use Rattle.armus_base.specs.Plans.{Action, Advances, Blocks, Drops, Forks, Makes, Passes, Plan, Refuses, Registers, action_at, actions, maker_of, parent_of}
 use Rattle.armus_base.specs.Places.{first_phases, first_phases_by, own_phases, phases_after, registered}
 use Rattle.armus_base.specs.CheckedPlans.{HasCodes, HasTables, IsWellFormed}
-use Rattle.armus_base.specs.PlanLaws.{CheckedByCodes}
+use Rattle.armus_base.specs.calls.PlanLaws.{CheckedByCodes}
 
 module _ (plan : Plan) (pieces : List (List Piece)) where
   abbrev changed : Plan

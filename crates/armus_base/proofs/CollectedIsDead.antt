@@ -6,11 +6,13 @@ use Rattle.std.proofs.lemmas.Bool.{cases_eq, cases_order}
 use Rattle.armus_base.specs.declared.event.Event.{Event}
 use Rattle.armus_base.specs.Plans.{Plan, action_at, parent_of}
 use Rattle.armus_base.specs.States.{IsReached, Step, event_at}
-use Rattle.armus_base.specs.Runs.{ArePrefixes, IsLegalRun, IsPrefix, Place, Precedes, places, state_after}
-use Rattle.armus_base.specs.Places.{IsConsistent, done_by, forked_at, kept, phases_after, phases_at, published_after, state_at}
+use Rattle.armus_base.specs.calls.Runs.{ArePrefixes, IsPrefix, Precedes}
+use Rattle.armus_base.specs.Runs.{IsLegalRun, Place, places, state_after}
+use Rattle.armus_base.specs.calls.Places.{IsConsistent}
+use Rattle.armus_base.specs.Places.{done_by, forked_at, kept, phases_after, phases_at, published_after, state_at}
 use Rattle.armus_base.specs.CheckedPlans.{IsCheckedPlan}
 use Rattle.armus_base.specs.Deadlocks.{HasPhase, IsAtPhase, IsDeadlockedSet, IsImpededWithin, IsListedAt, IsListedOn, IsPublishedOn, WaitsOn}
-use Rattle.armus_base.specs.DeadlockLaws.{CollectedIsDead}
+use Rattle.armus_base.specs.calls.DeadlockLaws.{CollectedIsDead}
 use Rattle.armus_base.proofs.Fixed.{forked_at_is, forked_at_from, forked_later, root_forked, phases_forked}
 use Rattle.armus_base.proofs.Stepping.{places_fix}
 use Rattle.armus_base.proofs.ReachedLater.{reached_later, later_done}

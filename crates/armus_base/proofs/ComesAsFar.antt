@@ -6,14 +6,16 @@ use Rattle.std.proofs.lemmas.Option.{slice_get_cases, slice_get_within}
 use Rattle.armus_base.specs.declared.ending.TaskEnd.{TaskEnd}
 use Rattle.armus_base.specs.declared.ending.TaskEnd.TheVariants.{Done, Blocked, Refused, Unforked}
 use Rattle.armus_base.specs.declared.event.Event.{Event}
-use Rattle.armus_base.specs.AgreementLaws.{AvoidedComesAsFar, DoneStaysDone, furthest}
+use Rattle.armus_base.specs.calls.AgreementLaws.{AvoidedComesAsFar, DoneStaysDone, furthest}
 use Rattle.armus_base.specs.Avoidance.{Avoids, IsAvoidedRun}
 use Rattle.armus_base.specs.CheckedPlans.{IsCheckedPlan}
-use Rattle.armus_base.specs.FinalLaws.{Tells}
+use Rattle.armus_base.specs.calls.FinalLaws.{Tells}
 use Rattle.armus_base.specs.Finals.{end_of}
-use Rattle.armus_base.specs.Places.{IsConsistent, done_by, kept, made_at, makes, own_step, phases_after, phases_at, published_after, refused_at, register_step, registered_by, state_at, forked_at}
+use Rattle.armus_base.specs.calls.Places.{IsConsistent}
+use Rattle.armus_base.specs.Places.{done_by, kept, made_at, makes, own_step, phases_after, phases_at, published_after, refused_at, register_step, registered_by, state_at, forked_at}
 use Rattle.armus_base.specs.Plans.{Action, Aim, Blocks, Forks, Makes, Passes, Plan, Refuses, action_at, actions, in_code, maker_of, parent_of}
-use Rattle.armus_base.specs.Runs.{ArePrefixes, IsMaximal, IsNextStep, IsPlainRun, Place, is_done, is_refused, is_waiting, next_place, places, state_after}
+use Rattle.armus_base.specs.calls.Runs.{ArePrefixes}
+use Rattle.armus_base.specs.Runs.{IsMaximal, IsNextStep, IsPlainRun, Place, is_done, is_refused, is_waiting, next_place, places, state_after}
 use Rattle.armus_base.specs.States.{IsReached, Step}
 use Rattle.armus_base.proofs.AvoidanceAgrees.{blocking, dead_by_block, next_block}
 use Rattle.armus_base.proofs.Codes.{passes_next}

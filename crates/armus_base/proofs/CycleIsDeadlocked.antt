@@ -6,11 +6,13 @@ use Rattle.std.proofs.lemmas.List.{get_or-append-add}
 use Rattle.std.proofs.lemmas.List.Elements.{Contains-get_or}
 use Rattle.armus_base.specs.declared.ids.TaskId.{TaskId}
 use Rattle.armus_base.specs.declared.status.Status.{Status}
-use Rattle.armus_base.specs.AgreementLaws.{CycleIsDeadlocked, CycleIsDeadlockedIn, IsWaitCycle, WalkCycleWaits, has_task}
+use Rattle.armus_base.specs.calls.AgreementLaws.{CycleIsDeadlocked, CycleIsDeadlockedIn, IsWaitCycle, WalkCycleWaits}
+use Rattle.armus_base.specs.AgreementLaws.{has_task}
 use Rattle.armus_base.specs.Deadlocks.{IsImpededWithin, IsListedAt, IsListedOn}
 use Rattle.armus_base.specs.Finals.{final_of, is_awaited}
 use Rattle.armus_base.specs.Graphs.{WaitsFor}
-use Rattle.armus_base.specs.Relations.{IsWalkCycle, KeepsOn}
+use Rattle.armus_base.specs.Relations.{IsWalkCycle}
+use Rattle.armus_base.specs.calls.Relations.{KeepsOn}
 use Rattle.armus_base.proofs.Elements.{Contains-cons_cases, Contains-head, Contains-tail, nothing_in_nil}
 use Rattle.armus_base.proofs.StatusesAre.{events_are, phases_are}
 

@@ -4,7 +4,7 @@ use Rattle.std.specs.Prelude.{◌↔◌}
 use Rattle.std.proofs.lemmas.Option.{slice_get_within}
 use Rattle.armus_base.specs.declared.event.Event.{Event}
 use Rattle.armus_base.specs.Deadlocks.{IsDeadBy, IsDeadIn}
-use Rattle.armus_base.specs.FinalLaws.{DeadByFinal, DeadByStatuses, IsOfPlan, RunIsOfPlan}
+use Rattle.armus_base.specs.calls.FinalLaws.{DeadByFinal, DeadByStatuses, IsOfPlan, RunIsOfPlan}
 use Rattle.armus_base.specs.Finals.{is_awaited, is_event_of, statuses_on}
 use Rattle.armus_base.specs.Plans.{Action, Advances, Blocks, Drops, Forks, Makes, Passes, Plan, Refuses, Registers}
 use Rattle.armus_base.specs.Runs.{IsLegalRun, state_after}

@@ -3,9 +3,10 @@ use Rattle.std.proofs.Common.{◌≡◌, ℕ, ◌<◌, ◌≤◌, true, Some, No
 use Rattle.armus_base.specs.declared.event.Event.{Event}
 use Rattle.armus_base.specs.States.{State}
 use Rattle.armus_base.specs.Runs.{places, state_after}
-use Rattle.armus_base.specs.Places.{IsConsistent, done_by, kept, phases_after, phases_at, published_after, state_at}
+use Rattle.armus_base.specs.calls.Places.{IsConsistent}
+use Rattle.armus_base.specs.Places.{done_by, kept, phases_after, phases_at, published_after, state_at}
 use Rattle.armus_base.specs.Deadlocks.{IsAtPhase, IsPublishedOn}
-use Rattle.armus_base.specs.DeadlockLaws.{DeadStays}
+use Rattle.armus_base.specs.calls.DeadlockLaws.{DeadStays}
 use Rattle.armus_base.proofs.Fixed.{phases_forked}
 use Rattle.armus_base.proofs.Stepping.{places_fix}
 use Rattle.armus_base.proofs.ReachedLater.{later_done}

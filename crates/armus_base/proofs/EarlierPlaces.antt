@@ -4,10 +4,12 @@ use Rattle.std.proofs.lemmas.Bool.{cases_eq, cases_lt}
 use Rattle.armus_base.specs.declared.event.Event.{Event}
 use Rattle.armus_base.specs.Plans.{Action, Advances, Blocks, Drops, Forks, Makes, Passes, Plan, Refuses, Registers, parent_of}
 use Rattle.armus_base.specs.States.{IsReached, State, Step, after, event_at}
-use Rattle.armus_base.specs.Runs.{IsLegalRun, IsPlainRun, Precedes, places, state_after}
-use Rattle.armus_base.specs.Places.{IsConsistent, done_by, forked_at, kept, phases_after, phases_at, published_after, registered_by, state_at}
+use Rattle.armus_base.specs.Runs.{IsLegalRun, IsPlainRun, places, state_after}
+use Rattle.armus_base.specs.calls.Runs.{Precedes}
+use Rattle.armus_base.specs.calls.Places.{IsConsistent}
+use Rattle.armus_base.specs.Places.{done_by, forked_at, kept, phases_after, phases_at, published_after, registered_by, state_at}
 use Rattle.armus_base.specs.CheckedPlans.{IsCheckedPlan}
-use Rattle.armus_base.specs.SeatLaws.{EarlierPlaces}
+use Rattle.armus_base.specs.calls.SeatLaws.{EarlierPlaces}
 use Rattle.armus_base.proofs.Steps.{updated_same, updated_other, reached_stays}
 use Rattle.armus_base.proofs.Fixed.{forked_at_is, forked_at_from, root_forked, registered_none, registered_steady, phases_idle, phases_begun}
 use Rattle.armus_base.proofs.Stepping.{places_fix, acting_forked}

@@ -4,9 +4,10 @@ use Rattle.std.specs.Prelude.{IsSome}
 use Rattle.std.proofs.lemmas.Bool.{false≢true}
 use Rattle.armus_base.specs.declared.event.Event.{Event}
 use Rattle.armus_base.specs.CheckedPlans.{IsCheckedPlan}
-use Rattle.armus_base.specs.FinalLaws.{EndsAre, EndsTell, Tells}
+use Rattle.armus_base.specs.calls.FinalLaws.{EndsAre, EndsTell, Tells}
 use Rattle.armus_base.specs.Finals.{end_by, end_of}
-use Rattle.armus_base.specs.Places.{IsConsistent, published_after, refused_at, state_at}
+use Rattle.armus_base.specs.calls.Places.{IsConsistent}
+use Rattle.armus_base.specs.Places.{published_after, refused_at, state_at}
 use Rattle.armus_base.specs.Plans.{Passes, Plan, action_at}
 use Rattle.armus_base.specs.Runs.{HasEnded, IsLegalRun, is_done, is_refused, is_waiting, places, state_after}
 use Rattle.armus_base.specs.States.{IsReached, Step}

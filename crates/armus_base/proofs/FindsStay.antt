@@ -4,8 +4,8 @@ use Rattle.std.proofs.lemmas.Bool.{cases_eq}
 use Rattle.armus_base.specs.declared.event.Event.{Event}
 use Rattle.armus_base.specs.Plans.{Advances, Blocks, Drops, Forks, Makes, Passes, Refuses, Registers}
 use Rattle.armus_base.specs.States.{State, after, awaited, event_at}
-use Rattle.armus_base.specs.Seats.{Found, FoundIdle, FoundRefused, StillAgrees, FoundWaiting}
-use Rattle.armus_base.specs.DecisionLaws.{FindsStay}
+use Rattle.armus_base.specs.calls.Seats.{Found, FoundIdle, FoundRefused, StillAgrees, FoundWaiting}
+use Rattle.armus_base.specs.calls.DecisionLaws.{FindsStay}
 use Rattle.armus_base.proofs.Steps.{updated_same, updated_other}
 
 agrees_same :

@@ -5,7 +5,7 @@ use Rattle.std.proofs.lemmas.Bool.{false≢true}
 use Rattle.armus_base.specs.Limits.{max_ops}
 use Rattle.armus_base.specs.declared.piece.Piece.{Piece}
 use Rattle.armus_base.specs.declared.piece.Piece.TheVariants.{Op as Single, Repeat}
-use Rattle.armus_base.specs.Pieces.{AreNested, IsFolded, IsLoop, max_open_repeats, max_turns, unfolded}
+use Rattle.armus_base.specs.calls.Pieces.{AreNested, IsFolded, IsLoop, max_open_repeats, max_turns, unfolded}
 use Rattle.armus_base.proofs.RunTests.{both}
 
 abbrev is_loop : ℕ → ℕ → ℕ → Bool

@@ -6,11 +6,12 @@ use Rattle.armus_base.specs.declared.event.Event.{Event}
 use Rattle.armus_base.specs.declared.status.Status.{Status}
 use Rattle.armus_base.specs.Plans.{Blocks, Plan}
 use Rattle.armus_base.specs.Runs.{Place}
-use Rattle.armus_base.specs.Places.{IsConsistent, refused_at, state_at}
+use Rattle.armus_base.specs.calls.Places.{IsConsistent}
+use Rattle.armus_base.specs.Places.{refused_at, state_at}
 use Rattle.armus_base.specs.CheckedPlans.{IsCheckedPlan}
 use Rattle.armus_base.specs.Deadlocks.{IsListedOn}
-use Rattle.armus_base.specs.Seats.{Found, FoundIdle, FoundRefused, StillAgrees, FoundWaiting}
-use Rattle.armus_base.specs.DecisionLaws.{FoundArePublished}
+use Rattle.armus_base.specs.calls.Seats.{Found, FoundIdle, FoundRefused, StillAgrees, FoundWaiting}
+use Rattle.armus_base.specs.calls.DecisionLaws.{FoundArePublished}
 use Rattle.armus_base.proofs.Published.{published_after_is, published_undropped}
 use Rattle.armus_base.proofs.Tasks.{action_of_task}
 use Rattle.armus_base.proofs.Reachable.{reachable_is_fixed}

@@ -4,16 +4,18 @@ use Rattle.std.specs.Prelude.{if◌then◌else◌, is_some, IsSome}
 use Rattle.std.proofs.lemmas.Bool.{cases_Bool, cases_eq, cases_lt, false≢true}
 use Rattle.armus_base.specs.declared.ending.TaskEnd.TheVariants.{Done, Unforked}
 use Rattle.armus_base.specs.declared.event.Event.{Event}
-use Rattle.armus_base.specs.AgreementLaws.{HeldHasEnd, WaitsForEnded, WaitsForTask, at_end, by_held}
+use Rattle.armus_base.specs.calls.AgreementLaws.{HeldHasEnd}
+use Rattle.armus_base.specs.AgreementLaws.{WaitsForEnded, WaitsForTask, at_end, by_held}
 use Rattle.armus_base.specs.CheckedPlans.{IsCheckedPlan}
-use Rattle.armus_base.specs.Deadlocks.{IsAtPhase, IsDeadIn, IsDeadlockedSet, IsHeld, IsImpededWithin, IsPublishedOn}
-use Rattle.armus_base.specs.FinalLaws.{Tells}
+use Rattle.armus_base.specs.Deadlocks.{IsAtPhase, IsDeadIn, IsHeld, IsImpededWithin, IsPublishedOn}
+use Rattle.armus_base.specs.calls.FinalLaws.{Tells}
 use Rattle.armus_base.specs.Finals.{end_by, end_of}
 use Rattle.armus_base.specs.Plans.{Plan}
 use Rattle.armus_base.specs.Runs.{IsMaximal, IsPlainRun, state_after}
 use Rattle.armus_base.specs.States.{State, Step, updated}
 use Rattle.armus_base.proofs.AvoidanceAgrees.{plain_unrefused}
 use Rattle.armus_base.proofs.DeadByStatuses.{run_is_of_plan}
+use Rattle.armus_base.proofs.Impeded.{HaveAll, have_still, impeded_or_not}
 use Rattle.armus_base.proofs.EndsTell.{ends_tell}
 use Rattle.armus_base.proofs.MaximalExists.{sum_below, sum_more}
 use Rattle.armus_base.proofs.Steps.{updated_is, updated_other, updated_same}
@@ -27,44 +29,6 @@ module _ (s : State) (n : ℕ) (published_within : (u : ℕ) (e : Event) → s.p
   abbrev Within : (ℕ → Bool) → ℕ → Type 0
   Within mark u = IsImpededWithin (IsPublishedOn s) (IsAtPhase s) mark u
 
-  -- whether a task is impeded by a marked one
-  module _ (mark : ℕ → Bool) where
-    abbrev Clear : Event → ℕ → Type 0
-    Clear e v = mark v ≡ true → (m : ℕ) → s.phases v e.p.0 ≡ Some m → m < e.n → ⊥
-
-    abbrev Impedes : Event → ℕ → Type 0
-    Impedes e v = (mark v ≡ true) × (m : ℕ) × (s.phases v e.p.0 ≡ Some m) × (m < e.n)
-
-    clear_or_not : (e : Event) (v : ℕ) → Clear e v ⊎ Impedes e v
-    clear_or_not e v = by_mark (mark v) refl (s.phases v e.p.0) refl
-      where
-        by_mark : (b : Bool) → mark v ≡ b → (o : Option ℕ) → s.phases v e.p.0 ≡ o → Clear e v ⊎ Impedes e v
-        by_mark false off o is = inl (λ on. absurd (false≢true (sym off ∙ on)))
-        by_mark true on None is = inl (λ _ m at. absurd (cc))
-        by_mark true on (Some m) is =
-            elim (cases_lt m e.n) [
-              | inl below ↦ inr (on, m, is, below)
-              | inr above ↦ inl (λ _ k at l. let same : m ≡ k = (let both : Some m ≡ Some k = sym is ∙ at in cc) in absurd (omega arith))
-            ]
-
-    within_or_not : (u : ℕ) → Within mark u ⊎ (Within mark u → ⊥)
-    within_or_not u = by_event (s.published u) refl
-      where
-        by_event : (o : Option Event) → s.published u ≡ o → Within mark u ⊎ (Within mark u → ⊥)
-        by_event None is = inr (λ held. absurd (let waits = held.waits in cc))
-        by_event (Some e) is =
-            elim (all_or_one (Clear e) (Impedes e) (clear_or_not e) n) [
-              | inl all ↦ inr (λ held.
-                  let same : held.event ≡ e = (let both : Some held.event ≡ Some e = sym held.waits ∙ is in cc) in
-                  all held.by (member_within held.by held.event.p.0 held.phase held.impedes) held.inside held.phase
-                  (ap (λ f. s.phases held.by f.p.0) (sym same) ∙ held.impedes) (subst (λ f. held.phase < f.n) same held.below))
-              | inr one ↦ inl (record { event = e; waits = is; by = one.0; inside = one.2.0; phase = one.2.1; impedes = one.2.2; below = one.2.3 })
-            ]
-
-  -- each deadlocked set is marked
-  abbrev HaveAll : (ℕ → Bool) → Type 0
-  HaveAll mark = (tasks : ℕ → Bool) → IsDeadlockedSet (IsPublishedOn s) (IsAtPhase s) tasks → (u : ℕ) → tasks u ≡ true → mark u ≡ true
-
   -- each published task that is not marked waits for one that has ended
   abbrev HaveEnds : (ℕ → Bool) → Type 0
   HaveEnds mark = (u : ℕ) (e : Event) → s.published u ≡ Some e → mark u ≡ false → WaitsForEnded s u
@@ -73,25 +37,7 @@ module _ (s : State) (n : ℕ) (published_within : (u : ℕ) (e : Event) → s.p
   counted mark u = if mark u then 1 else 0
 
   -- marks of which one that is not impeded by another one is taken away
-  module _ (mark : ℕ → Bool) (have : HaveAll mark) (ends : HaveEnds mark) (u : ℕ) (on : mark u ≡ true) (free : Within mark u → ⊥) where
-    have_still : HaveAll (updated mark u false)
-    have_still tasks deadlocked v inside =
-        elim (cases_eq v u) [
-          | inl same ↦
-              let held = deadlocked.each v inside in
-              absurd (free (subst (Within mark) same
-              (record {
-                event = held.event;
-                waits = held.waits;
-                by = held.by;
-                inside = have tasks deadlocked held.by held.inside;
-                phase = held.phase;
-                impedes = held.impedes;
-                below = held.below;
-              })))
-          | inr other ↦ updated_other mark u v false other ∙ have tasks deadlocked v inside
-        ]
-
+  module _ (mark : ℕ → Bool) (have : HaveAll (IsPublishedOn s) (IsAtPhase s) mark) (ends : HaveEnds mark) (u : ℕ) (on : mark u ≡ true) (free : Within mark u → ⊥) where
     -- whoever impedes it is not marked: it has ended, or is held and waits for one that has
     own_end : (e : Event) → s.published u ≡ Some e → WaitsForEnded s u
     own_end e is =
@@ -136,7 +82,7 @@ module _ (s : State) (n : ℕ) (published_within : (u : ℕ) (e : Event) → s.p
       test : (u : ℕ) → (mark u ≡ true → Within mark u) ⊎ ((mark u ≡ true) × (Within mark u → ⊥))
       test u =
           elim (cases_Bool (mark u)) [
-            | inl on ↦ elim (within_or_not mark u) [ inl held ↦ inl (λ _. held) | inr free ↦ inr (on, free) ]
+            | inl on ↦ elim (impeded_or_not s n member_within mark u) [ inl held ↦ inl (λ _. held) | inr free ↦ inr (on, free) ]
             | inr off ↦ inl (λ on. absurd (false≢true (sym off ∙ on)))
           ]
 
@@ -157,7 +103,7 @@ module _ (s : State) (n : ℕ) (published_within : (u : ℕ) (e : Event) → s.p
 
   -- a held task, by marks that are taken away one by one
   held_by_marks :
-      (fuel : ℕ) (mark : ℕ → Bool) → sum_below (counted mark) n ≤ fuel → HaveAll mark → HaveEnds mark → ((u : ℕ) → mark u ≡ true → u < n) →
+      (fuel : ℕ) (mark : ℕ → Bool) → sum_below (counted mark) n ≤ fuel → HaveAll (IsPublishedOn s) (IsAtPhase s) mark → HaveEnds mark → ((u : ℕ) → mark u ≡ true → u < n) →
       (t : ℕ) (e : Event) → s.published t ≡ Some e → (IsDeadIn s t → ⊥) → WaitsForEnded s t
   held_by_marks zero mark few have ends within t e is alive =
       elim (stuck_or_free mark) [
@@ -169,7 +115,7 @@ module _ (s : State) (n : ℕ) (published_within : (u : ℕ) (e : Event) → s.p
         | inl all ↦ by_marks mark ends within all t e is alive
         | inr one ↦
             let less = fewer mark have ends one.0 one.2 one.3 one.1 in
-            held_by_marks fuel (updated mark one.0 false) (omega arith) (have_still mark have ends one.0 one.2 one.3)
+            held_by_marks fuel (updated mark one.0 false) (omega arith) (have_still (IsPublishedOn s) (IsAtPhase s) mark have one.0 one.3)
             (ends_still mark have ends one.0 one.2 one.3) (within_still mark have ends one.0 one.2 one.3 within) t e is alive
       ]
 

@@ -4,14 +4,17 @@ use Rattle.std.specs.Prelude.{◌==◌, ◌&&◌, if◌then◌else◌}
 use Rattle.std.proofs.lemmas.Bool.{cases_eq, cases_lt, eqb-true, false≢true, lt-ltb}
 use Rattle.armus_base.specs.declared.event.Event.{Event}
 use Rattle.armus_base.specs.Plans.{Blocks, Plan}
-use Rattle.armus_base.specs.States.{IsReachedBelow, State}
-use Rattle.armus_base.specs.Runs.{IsPrefix, Place, Precedes, first_place}
-use Rattle.armus_base.specs.Places.{IsConsistent, done_by, forked_at, kept, phases_at_place, published_after, state_at}
+use Rattle.armus_base.specs.calls.States.{IsReachedBelow}
+use Rattle.armus_base.specs.States.{State}
+use Rattle.armus_base.specs.calls.Runs.{IsPrefix, Precedes}
+use Rattle.armus_base.specs.Runs.{Place, first_place}
+use Rattle.armus_base.specs.calls.Places.{IsConsistent, phases_at_place}
+use Rattle.armus_base.specs.Places.{done_by, forked_at, kept, published_after, state_at}
 use Rattle.armus_base.specs.CheckedPlans.{IsCheckedPlan}
-use Rattle.armus_base.specs.Boards.{IsLawful}
-use Rattle.armus_base.specs.Seats.{ChangesPlace, IsAsFarOn, IsExactOf, IsLongestPrefix, IsScanned, MayHold, SeenBy, await_word, has_blocked, has_refused, is_not_behind, own_event, scanned_after, stands_before}
-use Rattle.armus_base.specs.PlaceLaws.{HolderIsTask}
-use Rattle.armus_base.specs.SeatLaws.{AwaitLoadKeepsFar, BusyKeepsFar, PhaseLoadKeepsFar}
+use Rattle.armus_base.specs.calls.Boards.{IsLawful}
+use Rattle.armus_base.specs.calls.Seats.{ChangesPlace, IsAsFarOn, IsExactOf, IsLongestPrefix, IsScanned, MayHold, SeenBy, await_word, has_blocked, has_refused, is_not_behind, own_event, scanned_after, stands_before}
+use Rattle.armus_base.specs.calls.PlaceLaws.{HolderIsTask}
+use Rattle.armus_base.specs.calls.SeatLaws.{AwaitLoadKeepsFar, BusyKeepsFar, PhaseLoadKeepsFar}
 use Rattle.armus_base.proofs.BoardRuns.{lawful_is_reachable}
 use Rattle.armus_base.proofs.Fixed.{phases_forked}
 use Rattle.armus_base.proofs.HolderMayHold.{holder_may_hold}

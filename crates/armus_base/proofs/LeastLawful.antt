@@ -1,13 +1,14 @@
 -- The least lawful state of a board that detects deadlock.
 use mathlib.Core.Path.{fun_ext}
 use Rattle.std.proofs.Common.{◌≡◌, ℕ, false, None, Option, sym, subst}
-use Rattle.armus_base.specs.Boards.{IsLawful, steps_of}
+use Rattle.armus_base.specs.calls.Boards.{IsLawful, steps_of}
 use Rattle.armus_base.specs.Deadlocks.{IsDeadIn}
 use Rattle.armus_base.specs.Places.{state_at}
 use Rattle.armus_base.specs.Plans.{Plan}
-use Rattle.armus_base.specs.Runs.{ArePrefixes, IsPrefix, Place, places, state_after}
-use Rattle.armus_base.specs.SeatLaws.{EarlierIsLawful, LeastLawfulExists}
-use Rattle.armus_base.specs.Seats.{IsAsFarOn}
+use Rattle.armus_base.specs.calls.Runs.{ArePrefixes, IsPrefix}
+use Rattle.armus_base.specs.Runs.{Place, places, state_after}
+use Rattle.armus_base.specs.calls.SeatLaws.{EarlierIsLawful, LeastLawfulExists}
+use Rattle.armus_base.specs.calls.Seats.{IsAsFarOn}
 use Rattle.armus_base.proofs.BoardRuns.{plain_is_lawful}
 use Rattle.armus_base.proofs.EarlierPlaces.{earlier_places}
 use Rattle.armus_base.proofs.KnownAreLeastDead.{known_are_least_dead}

@@ -38,7 +38,6 @@ pub mod KnownAreLeastDead
 pub mod LeastLawful
 pub mod PlanGrows
 pub mod CheckedByCodes
-pub mod FoldedPlans
 pub mod PhasesFit
 pub mod TwoTasksChecked
 pub mod LoopChecked
@@ -76,3 +75,5 @@ pub mod ComesAsFar
 pub mod RefusedWasStuck
 pub mod RefusedEnds
 pub mod HeldHasEnd
+pub mod MemberPhasers
+pub mod Impeded

@@ -4,8 +4,8 @@ use Rattle.std.proofs.lemmas.Bool.{cases_eq}
 use Rattle.armus_base.specs.declared.event.Event.{Event}
 use Rattle.armus_base.specs.Places.{refused_at, published_after, state_at}
 use Rattle.armus_base.specs.States.{State}
-use Rattle.armus_base.specs.Seats.{StillAgrees, await_word, found_by}
-use Rattle.armus_base.specs.DecisionLaws.{ListInHandAvoids, LoadKeepsLock}
+use Rattle.armus_base.specs.calls.Seats.{StillAgrees, await_word, found_by}
+use Rattle.armus_base.specs.calls.DecisionLaws.{ListInHandAvoids, LoadKeepsLock}
 use Rattle.armus_base.proofs.BoardRuns.{nobody_dead_at}
 use Rattle.armus_base.proofs.ListDecides.{list_in_hand_decides}
 use Rattle.armus_base.proofs.SerialIsAvoided.{publishing_leaves_nobody_dead}

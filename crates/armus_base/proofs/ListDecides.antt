@@ -6,12 +6,14 @@ use Rattle.armus_base.specs.declared.event.Event.{Event}
 use Rattle.armus_base.specs.declared.status.Status.{Status}
 use Rattle.armus_base.specs.Plans.{Blocks, Plan}
 use Rattle.armus_base.specs.States.{State, Step, awaited, updated}
-use Rattle.armus_base.specs.Runs.{IsByCode, IsLegalRun, IsPrefix, Place, places, state_after}
-use Rattle.armus_base.specs.Places.{IsConsistent, done_by, kept, phases_at_place, published_after, state_at}
+use Rattle.armus_base.specs.Runs.{IsByCode, IsLegalRun, Place, places, state_after}
+use Rattle.armus_base.specs.calls.Runs.{IsPrefix}
+use Rattle.armus_base.specs.calls.Places.{IsConsistent, phases_at_place}
+use Rattle.armus_base.specs.Places.{done_by, kept, published_after, state_at}
 use Rattle.armus_base.specs.CheckedPlans.{IsCheckedPlan}
 use Rattle.armus_base.specs.Deadlocks.{IsAtPhase, IsDeadBy, IsDeadIn, IsDeadlockedSet, IsListedAt, IsListedOn, IsPublishedOn, WouldBeDead}
-use Rattle.armus_base.specs.Decisions.{Decides, IsEnoughToDecide}
-use Rattle.armus_base.specs.DecisionLaws.{ListDecides, ListInHandDecides}
+use Rattle.armus_base.specs.calls.Decisions.{Decides, IsEnoughToDecide}
+use Rattle.armus_base.specs.calls.DecisionLaws.{ListDecides, ListInHandDecides}
 use Rattle.std.specs.Prelude.{◌==◌, if◌then◌else◌}
 use Rattle.armus_base.proofs.Steps.{updated_is, updated_same, updated_other}
 use Rattle.armus_base.proofs.Places.{precedes_itself}

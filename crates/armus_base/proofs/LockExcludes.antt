@@ -2,8 +2,8 @@
 use Rattle.std.proofs.Common.{◌≡◌, ℕ, Some, List, [], ◌∷◌, ◌++◌, subst, refl, ◌⊎◌, inl, inr}
 use Rattle.std.specs.Prelude.{Contains}
 use Rattle.armus_base.specs.Plans.{Plan}
-use Rattle.armus_base.specs.Boards.{Does, Entry, Frees, IsLocked, Takes, holder}
-use Rattle.armus_base.specs.PlaceLaws.{TakersFree}
+use Rattle.armus_base.specs.calls.Boards.{Does, Entry, Frees, IsLocked, Takes, holder}
+use Rattle.armus_base.specs.calls.PlaceLaws.{TakersFree}
 use Rattle.armus_base.proofs.Elements.{Contains-head, Contains-tail}
 
 -- after a taking its task holds the lock, or it has freed it

@@ -3,7 +3,8 @@ use Rattle.std.proofs.Common.{◌≡◌, ℕ, zero, suc, ◌<◌, ◌≤◌, [],
 use Rattle.armus_base.specs.declared.offset.Offset.TheVariants.{Here}
 use Rattle.armus_base.specs.declared.op.Op.TheVariants.{Adv, Await, Make}
 use Rattle.armus_base.specs.declared.piece.Piece.TheVariants.{Op as Single, Repeat}
-use Rattle.armus_base.specs.Plans.{Action, Makes, Plan, action_at, actions, folded_plan, maker_of, parent_of}
+use Rattle.armus_base.specs.Plans.{Action, Makes, Plan, action_at, actions, maker_of, parent_of}
+use Rattle.armus_base.specs.calls.Plans.{folded_plan}
 use Rattle.armus_base.specs.Places.{first_phases, phases_after}
 use Rattle.armus_base.specs.CheckedPlans.{HasFork, IsCheckedPlan, IsWellFormed, NotBefore}
 

@@ -7,7 +7,7 @@ use Rattle.armus_base.specs.States.{IsLegal, Step}
 use Rattle.armus_base.specs.Runs.{HasEnded, IsByCode, IsMaximal, IsPlainRun, is_done, is_waiting, places, state_after}
 use Rattle.armus_base.specs.Places.{done_by, refused_at}
 use Rattle.armus_base.specs.CheckedPlans.{IsCheckedPlan}
-use Rattle.armus_base.specs.RunLaws.{MaximalExists}
+use Rattle.armus_base.specs.calls.RunLaws.{MaximalExists}
 use Rattle.armus_base.proofs.Stepping.{places_fix}
 use Rattle.armus_base.proofs.Codes.{no_refusal}
 use Rattle.armus_base.proofs.Members.{plain_undropped, plain_step, other_step}

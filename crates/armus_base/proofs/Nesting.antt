@@ -5,7 +5,8 @@ use Rattle.std.specs.Prelude.{slice_get}
 use Rattle.armus_base.specs.declared.op.Op.{Op}
 use Rattle.armus_base.specs.declared.piece.Piece.{Piece}
 use Rattle.armus_base.specs.declared.piece.Piece.TheVariants.{Op as Single, Repeat}
-use Rattle.armus_base.specs.Pieces.{AreNested, IsFolded, max_open_repeats, ops_between, times}
+use Rattle.armus_base.specs.calls.Pieces.{AreNested, IsFolded, max_open_repeats, ops_between}
+use Rattle.armus_base.specs.Pieces.{times}
 
 -- ---- the first of the pieces
 

@@ -1,12 +1,14 @@
 -- A plain run makes no step of a task behind the place at which some run has it dead.
 use Rattle.std.proofs.Common.{◌≡◌, ℕ, suc, ◌<◌, ◌≤◌, max, Bool, true, Some, None, List, [], ◌∷◌, arith, sym, ◌∙◌, ap, subst, inl, inr}
 use Rattle.std.proofs.lemmas.Bool.{cases_eq, cases_lt}
-use Rattle.armus_base.specs.AgreementLaws.{DeadIsNeverPassed}
+use Rattle.armus_base.specs.calls.AgreementLaws.{DeadIsNeverPassed}
 use Rattle.armus_base.specs.CheckedPlans.{IsCheckedPlan}
 use Rattle.armus_base.specs.Deadlocks.{IsAtPhase, IsDeadlockedSet, IsPublishedOn}
-use Rattle.armus_base.specs.Places.{IsConsistent, done_by, kept, phases_after, phases_at, published_after, state_at}
+use Rattle.armus_base.specs.calls.Places.{IsConsistent}
+use Rattle.armus_base.specs.Places.{done_by, kept, phases_after, phases_at, published_after, state_at}
 use Rattle.armus_base.specs.Plans.{Plan}
-use Rattle.armus_base.specs.Runs.{ArePrefixes, IsLegalRun, IsPlainRun, Place, Precedes, places, state_after}
+use Rattle.armus_base.specs.calls.Runs.{ArePrefixes, Precedes}
+use Rattle.armus_base.specs.Runs.{IsLegalRun, IsPlainRun, Place, places, state_after}
 use Rattle.armus_base.specs.States.{IsReached, Step, event_at}
 use Rattle.armus_base.proofs.Fixed.{forked_later, phases_forked}
 use Rattle.armus_base.proofs.Members.{member_made, only_passes, other_step, plain_step, plain_undropped, published_member}

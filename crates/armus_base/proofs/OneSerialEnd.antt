@@ -5,9 +5,10 @@ use Rattle.std.proofs.lemmas.Bool.{cases_eq, cases_lt, cases_order, false≢true
 use Rattle.armus_base.specs.declared.event.Event.{Event}
 use Rattle.armus_base.specs.CheckedPlans.{IsCheckedPlan}
 use Rattle.armus_base.specs.Deadlocks.{WouldBeDead}
-use Rattle.armus_base.specs.Places.{IsConsistent, state_at}
+use Rattle.armus_base.specs.calls.Places.{IsConsistent}
+use Rattle.armus_base.specs.Places.{state_at}
 use Rattle.armus_base.specs.Plans.{Action, Advances, Blocks, Drops, Forks, Makes, Passes, Plan, Refuses, Registers, action_at, in_code, Aim}
-use Rattle.armus_base.specs.RunLaws.{OneSerialEnd}
+use Rattle.armus_base.specs.calls.RunLaws.{OneSerialEnd}
 use Rattle.armus_base.specs.Runs.{HasEnded, IsByCode, IsDrop, IsLegalRun, IsNextStep, is_done, is_refused, is_waiting, places, state_after}
 use Rattle.armus_base.specs.Serial.{GoesOn, IsDecided, IsSerialAvoidedEnd, IsSerialAvoidedRun, IsTurn, RoundBelow, opens, rounds}
 use Rattle.armus_base.specs.States.{IsLegal, State, Step}

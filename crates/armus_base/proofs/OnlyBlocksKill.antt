@@ -6,7 +6,7 @@ use Rattle.armus_base.specs.States.{IsLegal, State, Step, after, next_phase}
 use Rattle.armus_base.specs.Runs.{IsLegalRun, places, state_after}
 use Rattle.armus_base.specs.Places.{published_after}
 use Rattle.armus_base.specs.CheckedPlans.{IsCheckedPlan}
-use Rattle.armus_base.specs.DeadlockLaws.{OnlyBlocksKill}
+use Rattle.armus_base.specs.calls.DeadlockLaws.{OnlyBlocksKill}
 use Rattle.armus_base.proofs.Steps.{updated_is, with_phase_is}
 use Rattle.armus_base.proofs.Stepping.{places_fix, unforked_idle}
 use Rattle.armus_base.proofs.NextIsLegal.{unforked}

@@ -15,7 +15,7 @@ use Rattle.armus_base.specs.Plans.{Action, Advances, Blocks, Drops, Forks, Makes
 use Rattle.armus_base.specs.States.{Phases, awaited, next_phase, updated}
 use Rattle.armus_base.specs.Places.{first_phases, own_step, phases_after, published_after, register_step, registered_by}
 use Rattle.armus_base.specs.CheckedPlans.{IsCheckedPlan}
-use Rattle.armus_base.specs.PlanLaws.{AwaitedPhasesFit, PhasesFit}
+use Rattle.armus_base.specs.calls.PlanLaws.{AwaitedPhasesFit, PhasesFit}
 use Rattle.armus_base.proofs.Codes.{awaited_is}
 use Rattle.armus_base.proofs.Steps.{updated_is, next_phase_is}
 use Rattle.armus_base.proofs.Published.{published_after_is}

@@ -9,7 +9,8 @@ use Rattle.armus_base.specs.declared.piece.Piece.{Piece}
 use Rattle.armus_base.specs.declared.piece.Piece.TheVariants.{Op as Single, Repeat}
 use Rattle.armus_base.specs.declared.cursor.frame.Frame.{Frame}
 use Rattle.armus_base.specs.declared.cursor.position.Position.{Position}
-use Rattle.armus_base.specs.Pieces.{AreNested, IsFolded, max_open_repeats, ops_between, times, unfolded}
+use Rattle.armus_base.specs.calls.Pieces.{AreNested, IsFolded, max_open_repeats, ops_between, unfolded}
+use Rattle.armus_base.specs.Pieces.{times}
 use Rattle.armus_base.specs.inside.Positions.{AreOpen, IsBefore, IsFirst, IsInside, IsSettled, KeepsOps, StandsAt}
 use Rattle.armus_base.specs.inside.Positions.{end_of, entered, op_of, open_frames, ops_behind, ops_left, repeat_of}
 use Rattle.armus_base.proofs.Unfolding.{nested_within}

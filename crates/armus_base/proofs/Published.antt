@@ -4,8 +4,10 @@ use Rattle.std.proofs.lemmas.Bool.{cases_lt}
 use Rattle.armus_base.specs.declared.event.Event.{Event}
 use Rattle.armus_base.specs.Plans.{Action, Aim, Blocks, Drops, Passes, Plan, Refuses, action_at}
 use Rattle.armus_base.specs.States.{Phases, Step, awaited}
-use Rattle.armus_base.specs.Runs.{ArePrefixes, IsPrefix, Place, Precedes, next_place, places}
-use Rattle.armus_base.specs.Places.{IsConsistent, done_by, kept, members_below, phases_after, published_after}
+use Rattle.armus_base.specs.calls.Runs.{ArePrefixes, IsPrefix, Precedes}
+use Rattle.armus_base.specs.Runs.{Place, next_place, places}
+use Rattle.armus_base.specs.calls.Places.{IsConsistent}
+use Rattle.armus_base.specs.Places.{done_by, kept, members_below, phases_after, published_after}
 use Rattle.armus_base.proofs.Steps.{updated_same}
 use Rattle.armus_base.proofs.Fixed.{kept_below, kept_above}
 use Rattle.armus_base.proofs.Codes.{passes_next, awaited_is}

@@ -5,7 +5,7 @@ use Rattle.std.proofs.lemmas.Bool.{false≢true}
 use Rattle.std.proofs.lemmas.Option.{slice_get_within}
 use Rattle.armus_base.specs.declared.ending.TaskEnd.TheVariants.{Refused}
 use Rattle.armus_base.specs.declared.event.Event.{Event}
-use Rattle.armus_base.specs.AgreementLaws.{RefusedEnds}
+use Rattle.armus_base.specs.calls.AgreementLaws.{RefusedEnds}
 use Rattle.armus_base.specs.Finals.{end_by}
 use Rattle.armus_base.specs.Runs.{IsLegalRun, places}
 use Rattle.armus_base.proofs.ForkedTasks.{forked_within}

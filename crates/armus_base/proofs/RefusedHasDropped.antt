@@ -3,7 +3,7 @@ use Rattle.std.proofs.Common.{◌≡◌, ℕ, zero, suc, ◌<◌, ◌≤◌, Opt
 use Rattle.std.proofs.lemmas.Bool.{cases_lt}
 use Rattle.armus_base.specs.States.{Phases}
 use Rattle.armus_base.specs.Places.{done_by, kept, members_below, phases_after, state_at}
-use Rattle.armus_base.specs.PlaceLaws.{RefusedHasDropped}
+use Rattle.armus_base.specs.calls.PlaceLaws.{RefusedHasDropped}
 use Rattle.armus_base.proofs.Fixed.{kept_above, members_below-none, members_below-suc, phases_forked}
 use Rattle.armus_base.proofs.LawfulPlaces.{HasRoom, has_room}
 use Rattle.armus_base.proofs.Reachable.{reachable_is_fixed}

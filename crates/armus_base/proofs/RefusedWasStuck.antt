@@ -5,15 +5,17 @@ use Rattle.std.proofs.lemmas.Bool.Decides.{nat_tests}
 use Rattle.std.proofs.lemmas.Bool.{and_from, cases_Bool, cases_eq, cases_lt, false≢true, lt-ltb, or_cases, or_left, or_right}
 use Rattle.armus_base.specs.declared.ending.TaskEnd.TheVariants.{Done}
 use Rattle.armus_base.specs.declared.event.Event.{Event}
-use Rattle.armus_base.specs.AgreementLaws.{IsStuckIn, OnlyForkedMembers, RefusedWasDead, RefusedWasNotDone, RefusedWasStuck, furthest}
+use Rattle.armus_base.specs.calls.AgreementLaws.{IsStuckIn, OnlyForkedMembers, RefusedWasDead, RefusedWasNotDone, RefusedWasStuck, furthest}
 use Rattle.armus_base.specs.Avoidance.{Avoids, IsAvoidedRun}
 use Rattle.armus_base.specs.CheckedPlans.{IsCheckedPlan}
 use Rattle.armus_base.specs.Deadlocks.{IsAtPhase, IsDeadIn, IsDeadlockedSet, IsPublishedOn}
-use Rattle.armus_base.specs.FinalLaws.{Tells}
+use Rattle.armus_base.specs.calls.FinalLaws.{Tells}
 use Rattle.armus_base.specs.Finals.{end_by}
-use Rattle.armus_base.specs.Places.{IsConsistent, done_by, forked_at, kept, made_at, makes, phases_after, phases_at, published_after, refused_at, registered_by, state_at}
+use Rattle.armus_base.specs.calls.Places.{IsConsistent}
+use Rattle.armus_base.specs.Places.{done_by, forked_at, kept, made_at, makes, phases_after, phases_at, published_after, refused_at, registered_by, state_at}
 use Rattle.armus_base.specs.Plans.{Action, Aim, Blocks, Drops, Forks, Makes, Passes, Plan, Refuses, action_at, in_code, maker_of, parent_of}
-use Rattle.armus_base.specs.Runs.{ArePrefixes, IsByCode, IsLegalRun, IsMaximal, IsNextStep, IsPlainRun, Place, Precedes, is_done, is_refused, is_waiting, next_place, places, state_after}
+use Rattle.armus_base.specs.calls.Runs.{ArePrefixes, Precedes}
+use Rattle.armus_base.specs.Runs.{IsByCode, IsLegalRun, IsMaximal, IsNextStep, IsPlainRun, Place, is_done, is_refused, is_waiting, next_place, places, state_after}
 use Rattle.armus_base.specs.States.{IsReached, State, Step, event_at, updated}
 use Rattle.armus_base.proofs.AvoidanceAgrees.{blocking, next_block, plain_unrefused}
 use Rattle.armus_base.proofs.Codes.{maker_is, passes_next}

@@ -7,7 +7,7 @@ use Rattle.armus_base.specs.declared.ids.TaskId.{TaskId}
 use Rattle.armus_base.specs.Places.{some_before}
 use Rattle.armus_base.specs.Plans.{Action, Advances, Blocks, Drops, Forks, Makes, Passes, Plan, Refuses, Registers, action_at, in_code, Aim}
 use Rattle.armus_base.specs.Runs.{HasEnded, IsByCode, IsMaximal, IsPlainRun, Place, is_done, is_waiting, places, state_after}
-use Rattle.armus_base.specs.Serial.{next_step, scheduled}
+use Rattle.armus_base.specs.calls.Serial.{next_step, scheduled}
 use Rattle.armus_base.specs.States.{IsActive, IsLegal, State, Step}
 use Rattle.armus_base.proofs.Fixed.{some_before_is}
 use Rattle.armus_base.proofs.ForkedTasks.{forked_within}

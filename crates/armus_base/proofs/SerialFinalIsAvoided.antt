@@ -5,7 +5,7 @@ use Rattle.std.proofs.lemmas.Bool.{cases_eq, MatchBool-at_true}
 use Rattle.std.proofs.lemmas.List.{nil_from_length}
 use Rattle.std.proofs.lemmas.Option.{slice_get_within}
 use Rattle.armus_base.specs.Plans.{Plan}
-use Rattle.armus_base.specs.RunLaws.{SerialFinalIsAvoided}
+use Rattle.armus_base.specs.calls.RunLaws.{SerialFinalIsAvoided}
 use Rattle.armus_base.specs.Runs.{HasEnded, places, state_after}
 use Rattle.armus_base.specs.Serial.{IsTurn, RoundBelow}
 use Rattle.armus_base.specs.States.{Step}

@@ -10,7 +10,7 @@ use Rattle.armus_base.specs.CheckedPlans.{IsCheckedPlan}
 use Rattle.armus_base.specs.Deadlocks.{NobodyDead, WouldBeDead}
 use Rattle.armus_base.specs.Avoidance.{Avoids, IsAvoidedRun, LeavesNobodyDead}
 use Rattle.armus_base.specs.Serial.{GoesOn, IsDecided, IsSerialAvoidedRun, IsTurn, RoundBelow, opens, rounds}
-use Rattle.armus_base.specs.RunLaws.{SerialIsAvoided}
+use Rattle.armus_base.specs.calls.RunLaws.{SerialIsAvoided}
 use Rattle.armus_base.proofs.Steps.{updated_other}
 use Rattle.armus_base.proofs.NobodyIsDead.{nobody_is_dead}
 
@@ -79,7 +79,7 @@ module _ (plan : Plan) (checked : IsCheckedPlan plan) where
       (turn_avoided k r turn.own before (subst (λ v. IsLegalRun plan v) turn.there turn.run) turn.goes_on)
   last_turn k r g before false same = subst (λ v. IsAvoidedRun plan v) (sym same) before
 
-  round_avoided : (k : ℕ) (h g : List Step) → IsAvoidedRun plan h → RoundBelow plan k h g → IsAvoidedRun plan g
+  pub round_avoided : (k : ℕ) (h g : List Step) → IsAvoidedRun plan h → RoundBelow plan k h g → IsAvoidedRun plan g
   round_avoided zero h g avoided round = subst (λ v. IsAvoidedRun plan v) (sym round) avoided
   round_avoided (suc k) h g avoided round =
       last_turn k round.0 g (round_avoided k h round.0 avoided round.1) ((state_after h).forked k) round.2

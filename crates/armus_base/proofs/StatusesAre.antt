@@ -7,11 +7,11 @@ use Rattle.armus_base.specs.declared.status.Member.{Member}
 use Rattle.armus_base.specs.declared.status.Status.{Status}
 use Rattle.armus_base.specs.CheckedPlans.{IsCheckedPlan}
 use Rattle.armus_base.specs.Deadlocks.{IsListedAt, IsListedOn}
-use Rattle.armus_base.specs.FinalLaws.{AreStatuses, HasAskedPhase, StatusesAre}
+use Rattle.armus_base.specs.calls.FinalLaws.{AreStatuses, HasAskedPhase, StatusesAre}
 use Rattle.armus_base.specs.Finals.{given_below, listed_phase, status_of, statuses_on}
 use Rattle.armus_base.specs.Plans.{Plan}
 use Rattle.armus_base.specs.States.{Phases, State}
-use Rattle.armus_base.specs.Statuses.{IsInOrder}
+use Rattle.armus_base.specs.calls.Statuses.{IsInOrder}
 use Rattle.armus_base.proofs.Below.{contains_at, given_ascends, given_few, given_from, given_is}
 
 -- the phase n on p

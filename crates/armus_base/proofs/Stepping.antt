@@ -6,8 +6,10 @@ use Rattle.std.proofs.lemmas.Bool.{cases_eq, eq-eqb, or_left, ne_eqb, cond-true,
 use Rattle.armus_base.specs.declared.event.Event.{Event}
 use Rattle.armus_base.specs.Plans.{Action, Advances, Blocks, Drops, Forks, Makes, Passes, Plan, Refuses, Registers, action_at, maker_of, parent_of, Aim}
 use Rattle.armus_base.specs.States.{IsLegal, Phases, State, Step, after, awaited, next_phase, opening, updated, with_phase}
-use Rattle.armus_base.specs.Runs.{IsAtAwait, IsByCode, IsLegalRun, Place, first_place, moved, next_place, places, state_after}
-use Rattle.armus_base.specs.Places.{IsConsistent, done_by, forked_at, forks, kept, made_at, makes, members_below, own_step, phases_after, phases_at, published_after, refused_at, register_step, registered_by, state_at}
+use Rattle.armus_base.specs.calls.Runs.{IsAtAwait}
+use Rattle.armus_base.specs.Runs.{IsByCode, IsLegalRun, Place, first_place, moved, next_place, places, state_after}
+use Rattle.armus_base.specs.calls.Places.{IsConsistent}
+use Rattle.armus_base.specs.Places.{done_by, forked_at, forks, kept, made_at, makes, members_below, own_step, phases_after, phases_at, published_after, refused_at, register_step, registered_by, state_at}
 use Rattle.armus_base.specs.CheckedPlans.{IsCheckedPlan}
 use Rattle.armus_base.proofs.Steps.{updated_same, updated_other}
 use Rattle.armus_base.proofs.Codes.{parent_is, maker_is, no_refusal, awaited_some}

@@ -4,12 +4,13 @@ use Rattle.std.specs.Prelude.{nat_lt}
 use Rattle.std.proofs.lemmas.Bool.{ltb-true}
 use Rattle.std.proofs.lemmas.Bool.Decides.{nat_tests}
 use Rattle.armus_base.specs.declared.event.Event.{Event}
-use Rattle.armus_base.specs.Plans.{Advances, Drops, Passes, Refuses, action_at, actions, maker_of, parent_of, here}
+use Rattle.armus_base.specs.Plans.{Advances, Drops, Passes, Refuses, action_at, actions, maker_of, parent_of}
+use Rattle.armus_base.specs.calls.Plans.{here}
 use Rattle.armus_base.specs.States.{IsReached, event_at, updated}
 use Rattle.armus_base.specs.Runs.{IsLegalRun, is_done, is_refused, is_waiting, state_after}
 use Rattle.armus_base.specs.Deadlocks.{IsAtPhase, IsImpededWithin, IsPublishedOn, WouldBeDead}
 use Rattle.armus_base.specs.Serial.{IsSerialAvoidedEnd, IsTurn, RoundBelow, opens, rounds}
-use Rattle.armus_base.specs.TwoTasks.{all_turns, before_block, does, first_turn, second_turn, two_tasks}
+use Rattle.armus_base.specs.calls.TwoTasks.{all_turns, before_block, does, first_turn, second_turn, two_tasks}
 use Rattle.armus_base.proofs.Steps.{updated_is}
 
 of_some_phaser : (n : ℕ) (e : Event) → Some (event_at 0 n) ≡ Some e → 0 ≡ e.p.0

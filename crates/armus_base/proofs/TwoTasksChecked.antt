@@ -4,7 +4,7 @@ use Rattle.armus_base.specs.declared.ids.TaskId.{TaskId}
 use Rattle.armus_base.specs.Plans.{Action, Forks, Makes, Registers, action_at, actions, maker_of, parent_of}
 use Rattle.armus_base.specs.Places.{first_phases, phases_after}
 use Rattle.armus_base.specs.CheckedPlans.{HasFork, IsCheckedPlan, IsWellFormed, NotBefore}
-use Rattle.armus_base.specs.TwoTasks.{two_tasks}
+use Rattle.armus_base.specs.calls.TwoTasks.{two_tasks}
 use Rattle.std.specs.Prelude.{slice_get}
 
 make_first : NotBefore two_tasks 0 0 (Makes 0)

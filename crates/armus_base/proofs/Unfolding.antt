@@ -4,7 +4,8 @@ use Rattle.armus_base.specs.declared.op.Op.{Op}
 use Rattle.armus_base.specs.declared.piece.Piece.{Piece}
 use Rattle.armus_base.specs.declared.piece.Piece.TheVariants.{Op as Single, Repeat}
 use Rattle.armus_base.specs.Limits.{max_ops}
-use Rattle.armus_base.specs.Pieces.{AreNested, AreWhole, IsFolded, StandFor, nothing, max_open_repeats, op, repeat, ops_between, straight, times, unfolded}
+use Rattle.armus_base.specs.calls.Pieces.{AreNested, AreWhole, IsFolded, StandFor, nothing, max_open_repeats, op, repeat, ops_between, unfolded}
+use Rattle.armus_base.specs.Pieces.{straight, times}
 
 -- ---- the pieces themselves
 

@@ -2,7 +2,7 @@
 use Rattle.std.proofs.Common.{ℕ, zero, suc, List, [], ◌∷◌, ◌++◌, refl, sym, subst, inl, inr, arith}
 use Rattle.std.specs.Prelude.{Contains}
 use Rattle.std.proofs.lemmas.List.Elements.{Contains-append_left, Contains-append_right, Contains-append_cases}
-use Rattle.armus_base.specs.Relations.{Walk, ReachesCycle, IsInClosedSet}
+use Rattle.armus_base.specs.calls.Relations.{Walk, ReachesCycle, IsInClosedSet}
 use Rattle.armus_base.proofs.Elements.{Contains-head, Contains-tail, Contains-cons_cases}
 
 module _ {X : Type 0} (R : X → X → Type 0) where

@@ -2,7 +2,8 @@
 use Rattle.std.proofs.Common.{◌≡◌, ℕ, zero, suc, ◌≤◌, List, [], ◌∷◌, ◌++◌, length, ap, ◌∙◌, arith, append-nil}
 use Rattle.armus_base.specs.declared.piece.Piece.{Piece}
 use Rattle.armus_base.specs.declared.piece.Piece.TheVariants.{Op as Single, Repeat}
-use Rattle.armus_base.specs.Pieces.{AreNested, AreWhole, max_turns, times, unfolded}
+use Rattle.armus_base.specs.calls.Pieces.{AreNested, AreWhole, max_turns, unfolded}
+use Rattle.armus_base.specs.Pieces.{times}
 use Rattle.armus_base.proofs.Nesting.{nested_order, none_between}
 
 -- ---- nested deeper

@@ -4,18 +4,20 @@ use Rattle.std.specs.Prelude.{Contains, IsSome}
 use Rattle.armus_base.specs.declared.event.Event.{Event}
 use Rattle.armus_base.specs.declared.status.Member.{Member}
 use Rattle.armus_base.specs.declared.status.Status.{Status}
-use Rattle.armus_base.specs.Plans.{Advances, action_at, actions, maker_of, parent_of, here}
+use Rattle.armus_base.specs.Plans.{Advances, action_at, actions, maker_of, parent_of}
+use Rattle.armus_base.specs.calls.Plans.{here}
 use Rattle.armus_base.specs.States.{Step, event_at}
 use Rattle.armus_base.specs.Runs.{IsLegalRun, places, state_after}
-use Rattle.armus_base.specs.Places.{first_phases, phases_after, phases_at_place, published_after, registered_by, state_at}
+use Rattle.armus_base.specs.Places.{first_phases, phases_after, published_after, registered_by, state_at}
+use Rattle.armus_base.specs.calls.Places.{phases_at_place}
 use Rattle.armus_base.specs.Avoidance.{IsAvoidedRun}
-use Rattle.armus_base.specs.Boards.{IsLawful, IsLocked}
+use Rattle.armus_base.specs.calls.Boards.{IsLawful, IsLocked}
 use Rattle.armus_base.specs.Deadlocks.{IsDeadBy, IsListedAt, IsListedOn, WouldBeDead}
-use Rattle.armus_base.specs.Decisions.{Decides, HasAllFound, HasOtherStatuses, HasOwnStatus, StandsBefore}
-use Rattle.armus_base.specs.Seats.{FoundIdle, FoundWaiting, HasLockWith, IsAsFarOn, IsScanned, SeenBy, StillAgrees}
-use Rattle.armus_base.specs.TwoTasks.{all_turns, before_block, does, first_holds, first_turn, second_holds, two_tasks}
-use Rattle.armus_base.specs.WorkedDecisions.{DecidesAlive, DecidesDead, having_found}
-use Rattle.armus_base.specs.WorkedTexts.{at, status, two_tasks_end}
+use Rattle.armus_base.specs.calls.Decisions.{Decides, HasAllFound, HasOtherStatuses, HasOwnStatus, StandsBefore}
+use Rattle.armus_base.specs.calls.Seats.{FoundIdle, FoundWaiting, HasLockWith, IsAsFarOn, IsScanned, SeenBy, StillAgrees}
+use Rattle.armus_base.specs.calls.TwoTasks.{all_turns, before_block, does, first_holds, first_turn, second_holds, two_tasks}
+use Rattle.armus_base.specs.calls.WorkedDecisions.{DecidesAlive, DecidesDead, having_found}
+use Rattle.armus_base.specs.calls.WorkedTexts.{at, status, two_tasks_end}
 use Rattle.armus_base.proofs.Elements.{Contains-cons_cases, nothing_in_nil}
 use Rattle.armus_base.proofs.ListDecides.{list_in_hand_decides}
 use Rattle.armus_base.proofs.BoardRuns.{nobody_dead_at}

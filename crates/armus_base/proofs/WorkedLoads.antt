@@ -1,13 +1,15 @@
 -- What single loads of the second of the two tasks show.
 use Rattle.std.proofs.Common.{◌≡◌, ℕ, zero, suc, ◌≤◌, Bool, true, Option, Some, None, arith, sym, subst, refl}
 use Rattle.armus_base.specs.declared.event.Event.{Event}
-use Rattle.armus_base.specs.Plans.{Plan, action_at, actions, maker_of, parent_of, here}
+use Rattle.armus_base.specs.Plans.{Plan, action_at, actions, maker_of, parent_of}
+use Rattle.armus_base.specs.calls.Plans.{here}
 use Rattle.armus_base.specs.States.{event_at}
-use Rattle.armus_base.specs.Runs.{IsAtAwait, IsPrefix, Place, Precedes, first_place}
+use Rattle.armus_base.specs.calls.Runs.{IsAtAwait, IsPrefix, Precedes}
+use Rattle.armus_base.specs.Runs.{Place, first_place}
 use Rattle.armus_base.specs.Places.{first_phases, phases_after, published_after, registered_by}
-use Rattle.armus_base.specs.Seats.{FoundIdle, FoundRefused, IsLongestPrefix, IsPlaceOf, IsPrefixOfAll, MayHold, await_word, found_by, has_blocked, has_refused, stands_before}
-use Rattle.armus_base.specs.TwoTasks.{two_tasks}
-use Rattle.armus_base.specs.WorkedDecisions.{Shows, WorkedLoads}
+use Rattle.armus_base.specs.calls.Seats.{FoundIdle, FoundRefused, IsLongestPrefix, IsPlaceOf, IsPrefixOfAll, MayHold, await_word, found_by, has_blocked, has_refused, stands_before}
+use Rattle.armus_base.specs.calls.TwoTasks.{two_tasks}
+use Rattle.armus_base.specs.calls.WorkedDecisions.{Shows, WorkedLoads}
 use Rattle.armus_base.proofs.KeepsFar.{one_longest_prefix}
 
 -- a place with the meaning, at or after where the task was, that is a prefix of all such places is what a load shows

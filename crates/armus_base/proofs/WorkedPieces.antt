@@ -5,8 +5,9 @@ use Rattle.armus_base.specs.declared.op.Op.{Op}
 use Rattle.armus_base.specs.declared.piece.Piece.{Piece}
 use Rattle.armus_base.specs.declared.piece.Piece.TheVariants.{Op as Single, Repeat}
 use Rattle.armus_base.specs.Limits.{max_ops}
-use Rattle.armus_base.specs.Pieces.{AreWhole, IsFolded, max_open_repeats, times, unfolded}
-use Rattle.armus_base.specs.WorkedPieces.{AreFoldedTo, ExcludesPieces, advance, in_a_loop, in_a_loop_ops, looped_by, three_deep, three_deep_ops, wait}
+use Rattle.armus_base.specs.calls.Pieces.{AreWhole, IsFolded, max_open_repeats, unfolded}
+use Rattle.armus_base.specs.Pieces.{times}
+use Rattle.armus_base.specs.calls.WorkedPieces.{AreFoldedTo, ExcludesPieces, advance, in_a_loop, in_a_loop_ops, looped_by, three_deep, three_deep_ops, wait}
 use Rattle.armus_base.proofs.FoldedTests.{folded_by_test}
 use Rattle.armus_base.proofs.WholeLoops.{unfolded_loop}
 

@@ -4,9 +4,9 @@ use Rattle.std.specs.Prelude.{[], ◌∷◌}
 use Rattle.armus_base.specs.Finals.{final_of}
 use Rattle.armus_base.specs.Plans.{action_at, actions}
 use Rattle.armus_base.specs.Runs.{IsPlainRun, state_after}
-use Rattle.armus_base.specs.Serial.{scheduled}
-use Rattle.armus_base.specs.TwoTasks.{all_turns, two_tasks}
-use Rattle.armus_base.specs.WorkedTexts.{EndsIn, averaging, averaging_end, averaging_schedule, awaits_ahead, awaits_ahead_end, awaits_ahead_schedule, behind_a_cycle, behind_a_cycle_end, behind_a_cycle_schedule, ended_member, ended_member_end, ended_member_schedule, looks_back, looks_back_end, looks_back_schedule, three_tasks, three_tasks_end, three_tasks_schedule, two_tasks_avoided, two_tasks_end, two_tasks_schedule, unforked_member, unforked_member_end, unforked_member_schedule}
+use Rattle.armus_base.specs.calls.Serial.{scheduled}
+use Rattle.armus_base.specs.calls.TwoTasks.{all_turns, two_tasks}
+use Rattle.armus_base.specs.calls.WorkedTexts.{EndsIn, averaging, averaging_end, averaging_schedule, awaits_ahead, awaits_ahead_end, awaits_ahead_schedule, behind_a_cycle, behind_a_cycle_end, behind_a_cycle_schedule, ended_member, ended_member_end, ended_member_schedule, looks_back, looks_back_end, looks_back_schedule, three_tasks, three_tasks_end, three_tasks_schedule, two_tasks_avoided, two_tasks_end, two_tasks_schedule, unforked_member, unforked_member_end, unforked_member_schedule}
 use Rattle.armus_base.proofs.DeadTests.{dead_if}
 use Rattle.armus_base.proofs.RunTests.{maximal_if, run_if}
 

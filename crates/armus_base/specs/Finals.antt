@@ -47,10 +47,6 @@ status_of plan s asked t =
 abbrev pub statuses_on : Plan → State → (ℕ → Bool) → List Status
 statuses_on plan s asked = given_below (status_of plan s asked) (length plan.parents)
 
--- the statuses of the published tasks, in order of number, each with all its phases
-abbrev pub statuses_of : Plan → State → List Status
-statuses_of plan s = statuses_on plan s (λ p. true)
-
 -- the event is one of phaser p
 abbrev pub is_event_of : ℕ → Option Event → Bool
 is_event_of p None = false

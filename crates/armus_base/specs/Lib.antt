@@ -9,32 +9,16 @@ pub mod CheckedPlans
 pub mod Deadlocks
 pub mod DeadLists
 pub mod Avoidance
-pub mod Boards
-pub mod Seats
-pub mod Decisions
 pub mod Serial
 pub mod Counts
 pub mod Relations
 pub mod Statuses
 pub mod Graphs
 pub mod Finals
-pub mod RunLaws
-pub mod DeadlockLaws
-pub mod PlaceLaws
-pub mod SeatLaws
-pub mod DecisionLaws
-pub mod PlanLaws
-pub mod PieceLaws
-pub mod FinalLaws
 pub mod AgreementLaws
-pub mod TwoTasks
-pub mod Exclusions
-pub mod WorkedTexts
-pub mod WorkedDecisions
-pub mod WorkedPieces
 pub mod Causes
-pub mod Outside
 pub mod ReadAll
-pub mod Fakes
 -- How the program does it: private contracts alone cite these.
 pub mod inside
+-- Words of contracts further down, which no promise of a program needs.
+pub mod calls

@@ -1,9 +1,9 @@
 -- Places: how many of its own steps each task has made, and the state that they fix.
-use Rattle.std.specs.Prelude.{◌≡◌, ℕ, ◌<◌, Bool, true, false, Option, Some, None, ◌==◌, ◌||◌, if◌then◌else◌, length, nat_lt, is_some}
+use Rattle.std.specs.Prelude.{ℕ, Bool, false, Option, Some, None, ◌==◌, ◌||◌, if◌then◌else◌, length, nat_lt, is_some}
 use Rattle.armus_base.specs.declared.event.Event.{Event}
 use Rattle.std.proofs.Common.{zero, suc}
 use Rattle.armus_base.specs.Plans.{Plan, Action, Makes, Registers, Forks, Advances, Drops, parent_of, maker_of, actions, action_at}
-use Rattle.armus_base.specs.Runs.{Place, IsAtAwait}
+use Rattle.armus_base.specs.Runs.{Place}
 use Rattle.armus_base.specs.States.{State, Phases, updated, next_phase, awaited}
 
 -- the phases of a task after this action of its own
@@ -98,11 +98,6 @@ abbrev pub published_after : Plan → ℕ → ℕ → Option Event
 published_after plan t zero = None
 published_after plan t (suc k) = awaited_at plan t k
 
--- The phases of task t at a place that is not its first: the plan fixes them. At its first place these are the phases with which it begins, of
--- which its parent may not have registered all yet.
-abbrev pub phases_at_place : Plan → ℕ → Place → Phases
-phases_at_place plan t place = kept place.dropped (phases_after plan t place.done)
-
 -- the event at which task t is refused that stands at this place
 abbrev pub refused_at : Plan → ℕ → ℕ → Option ℕ → Option Event
 refused_at plan t k None = None
@@ -118,9 +113,3 @@ state_at plan a =
       published = λ t. published_after plan t (a t).done;
       refused = λ t. refused_at plan t (a t).done (a t).dropped;
     }
-
--- only a forked task has begun, and only one that stands before an await is refused
-pub record IsConsistent (plan : Plan) (a : ℕ → Place) : Type 0 where
-  pub begun : (t : ℕ) → 0 < (a t).done → forked_at plan (done_by a) t ≡ true
-  pub refused :
-      (t q : ℕ) → (a t).dropped ≡ Some q → forked_at plan (done_by a) t ≡ true × IsAtAwait plan t (a t)

@@ -3,11 +3,10 @@ use Rattle.std.specs.Prelude.{◌≡◌, ℕ, List, [], ◌∷◌, Option, Some,
 use Rattle.std.specs.Option.{option_map}
 use Rattle.armus_base.specs.declared.ids.TaskId.{TaskId}
 use Rattle.armus_base.specs.declared.offset.Offset.{Offset}
-use Rattle.armus_base.specs.declared.offset.Offset.TheVariants.{Here}
 use Rattle.armus_base.specs.declared.op.Op.{Op}
 use Rattle.armus_base.specs.declared.op.Op.TheVariants.{Make, Reg, Fork, Adv, Drop, Await}
 use Rattle.armus_base.specs.declared.piece.Piece.{Piece}
-use Rattle.armus_base.specs.Pieces.{straight, unfolded}
+use Rattle.armus_base.specs.Pieces.{straight}
 
 -- a plan: the parent of each task, the maker of each phaser, each task's code, and each task's pieces, which stand for its code
 pub record Plan : Type 0 where
@@ -15,10 +14,6 @@ pub record Plan : Type 0 where
   pub makers : List TaskId
   pub codes : List (List Op)
   pub pieces : List (List Piece)
-
--- the plan whose codes are kept as these pieces
-abbrev pub folded_plan : List (Option TaskId) → List TaskId → List (List Piece) → Plan
-folded_plan parents makers pieces = record { parents = parents; makers = makers; codes = map unfolded pieces; pieces = pieces }
 
 -- the plan of these codes, with one piece for each op
 abbrev pub straight_plan : List (Option TaskId) → List TaskId → List (List Op) → Plan
@@ -28,10 +23,6 @@ straight_plan parents makers codes = record { parents = parents; makers = makers
 pub record Aim : Type 0 where
   pub phaser : ℕ
   pub off : Offset
-
--- the own phase on phaser p
-abbrev pub here : ℕ → Aim
-here p = record { phaser = p; off = Here }
 
 -- what a task does in one step
 pub data Action : Type 0 where
@@ -83,10 +74,6 @@ maker_of plan p = number_or_zero (option_map Some (slice_get plan.makers p))
 -- the code of task t
 abbrev pub code_of : Plan → ℕ → List Op
 code_of plan t = unwrap_or (slice_get plan.codes t) []
-
--- the pieces of task t
-abbrev pub pieces_of : Plan → ℕ → List Piece
-pieces_of plan t = unwrap_or (slice_get plan.pieces t) []
 
 -- the actions of task t, in order
 unfoldable pub actions : Plan → ℕ → List Action

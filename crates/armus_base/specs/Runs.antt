@@ -1,8 +1,8 @@
 -- Runs: lists of steps, the last one first, and the places to which they lead.
-use Rattle.std.specs.Prelude.{◌≡◌, ◌≢◌, ℕ, ◌≤◌, true, List, [], ◌∷◌, Option, Some, None, IsSome}
+use Rattle.std.specs.Prelude.{◌≡◌, ◌≢◌, ℕ, true, List, [], ◌∷◌, Option, Some, None, IsSome}
 use Rattle.std.proofs.Common.{suc}
 use Rattle.armus_base.specs.declared.event.Event.{Event}
-use Rattle.armus_base.specs.Plans.{Plan, Action, Aim, Drops, Blocks, Refuses, in_code, action_at}
+use Rattle.armus_base.specs.Plans.{Plan, Action, Aim, Drops, Refuses, in_code, action_at}
 use Rattle.armus_base.specs.States.{State, Step, opening, after, updated, IsLegal, IsReached}
 
 -- the state after these steps, the last one first
@@ -45,10 +45,6 @@ abbrev pub IsByCode : Plan → ℕ → ℕ → Option ℕ → Action → Type 0
 IsByCode plan t k None x = action_at plan t k ≡ Some (in_code x)
 IsByCode plan t k (Some q) x = IsDrop x
 
--- the code of task t goes on at this place with an await that it has not published
-abbrev pub IsAtAwait : Plan → ℕ → Place → Type 0
-IsAtAwait plan t place = (a : Aim) × action_at plan t place.done ≡ Some (Blocks a)
-
 -- the step is legal after h, and the next one by its task's code
 pub record IsNextStep (plan : Plan) (h : List Step) (e : Step) : Type 0 where
   pub legal : IsLegal plan (state_after h) e.task e.action
@@ -67,20 +63,6 @@ IsPlain (e ∷ h) = IsPlain h × ((a : Aim) → e.action ≢ Refuses a)
 -- a plain run: a legal run in which nobody is refused
 abbrev pub IsPlainRun : Plan → List Step → Type 0
 IsPlainRun plan h = IsLegalRun plan h × IsPlain h
-
--- the place (k, o) is a prefix of the place (j, r)
-abbrev pub Precedes : ℕ → Option ℕ → ℕ → Option ℕ → Type 0
-Precedes k None j r = k ≤ j
-Precedes k (Some p) j None = ⊥
-Precedes k (Some p) j (Some q) = k ≡ j × p ≤ q
-
--- place a is a prefix of place b: one and the same, or b is further on
-abbrev pub IsPrefix : Place → Place → Type 0
-IsPrefix a b = Precedes a.done a.dropped b.done b.dropped
-
--- each place of a is a prefix of that of b
-abbrev pub ArePrefixes : (ℕ → Place) → (ℕ → Place) → Type 0
-ArePrefixes a b = (t : ℕ) → IsPrefix (a t) (b t)
 
 -- places to which a legal run leads; since such a run may refuse anywhere, no board has them all lawful
 pub record IsReachable (plan : Plan) (a : ℕ → Place) : Type 0 where

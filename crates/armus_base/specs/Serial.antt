@@ -1,8 +1,8 @@
 -- The run that avoids deadlock with one worker, and schedules.
-use Rattle.std.specs.Prelude.{◌≡◌, ℕ, List, [], ◌∷◌, ◌++◌, Option, Some, None, length, MatchBool}
+use Rattle.std.specs.Prelude.{◌≡◌, ℕ, List, [], ◌∷◌, ◌++◌, Some, length, MatchBool}
 use Rattle.std.proofs.Common.{zero, suc}
 use Rattle.armus_base.specs.declared.event.Event.{Event}
-use Rattle.armus_base.specs.Plans.{Plan, Action, Blocks, Refuses, action_at}
+use Rattle.armus_base.specs.Plans.{Plan, Action, Blocks, Refuses}
 use Rattle.armus_base.specs.States.{State, Step, awaited}
 use Rattle.armus_base.specs.Runs.{state_after, places, IsLegalRun, HasEnded}
 use Rattle.armus_base.specs.Deadlocks.{WouldBeDead}
@@ -46,13 +46,3 @@ pub record IsSerialAvoidedFinal (plan : Plan) (s : State) : Type 0 where
   pub steps : List Step
   pub ended : IsSerialAvoidedEnd plan steps
   pub there : state_after steps ≡ s
-
--- the step that task t makes next by its code
-abbrev pub next_step : ℕ → Option Action → List Step
-next_step t None = []
-next_step t (Some x) = record { task = t; action = x } ∷ []
-
--- the steps of a schedule of tasks, the last one first, each the next by its task's code, legal or not (a means to write small runs)
-abbrev pub scheduled : Plan → List ℕ → List Step
-scheduled plan [] = []
-scheduled plan (t ∷ ts) = let h = scheduled plan ts in next_step t (action_at plan t (places h t).done) ++ h

@@ -72,10 +72,6 @@ if_published s t e = record s { published = updated s.published t (Some e) }
 abbrev pub IsReached : State → Event → Type 0
 IsReached s e = (u m : ℕ) → s.phases u e.p.0 ≡ Some m → e.n ≤ m
 
--- every member of the event's phaser with a number below k has its phase at least
-abbrev pub IsReachedBelow : State → ℕ → Event → Type 0
-IsReachedBelow s k e = (u m : ℕ) → u < k → s.phases u e.p.0 ≡ Some m → e.n ≤ m
-
 -- task t is a member of p
 abbrev pub IsMember : State → ℕ → ℕ → Type 0
 IsMember s t p = (n : ℕ) × (s.phases t p ≡ Some n)

@@ -1,5 +1,5 @@
 -- Statuses of blocked tasks: which of them impede which events.
-use Rattle.std.specs.Prelude.{◌≡◌, ℕ, ◌^◌, ◌<◌, List, length, Contains, Any, AllPairs, slice_index_or}
+use Rattle.std.specs.Prelude.{◌≡◌, ◌<◌, List, Contains, Any}
 use Rattle.armus_base.specs.declared.event.Event.{Event}
 use Rattle.armus_base.specs.declared.status.Status.{Status}
 
@@ -10,10 +10,3 @@ Impedes s e = Any (λ m. (m.p ≡ e.p) × (m.n < e.n)) s.phases
 -- a task of the list awaits the event
 abbrev pub IsAwaited : List Status → Event → Type 0
 IsAwaited ss e = (s : Status) × Contains ss s × (s.event ≡ e)
-
--- tasks ascend without repeats, and so do the phasers in each status; there are fewer than 2^31 statuses, each with fewer phases
-pub record IsInOrder (ss : List Status) : Type 0 where
-  pub tasks : (j k : ℕ) (c d : Status) → j < k → k < length ss → (slice_index_or ss j c).t.0 < (slice_index_or ss k d).t.0
-  pub phasers : (k : ℕ) (s : Status) → k < length ss → AllPairs (λ c d. c.p.0 < d.p.0) (slice_index_or ss k s).phases
-  pub few : length ss < 2 ^ 31
-  pub few_phases : (k : ℕ) (s : Status) → k < length ss → length (slice_index_or ss k s).phases < 2 ^ 31

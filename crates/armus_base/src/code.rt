@@ -1,6 +1,6 @@
 // The code of a task.
 ghost use Rattle.std.specs.Prelude.{◌≡◌, length};
-ghost use Rattle.armus_base.specs.Pieces.{IsFolded, unfolded};
+ghost use Rattle.armus_base.specs.calls.Pieces.{IsFolded, unfolded};
 
 use crate::{Cursor, List, Piece};
 use std::marker::Model;
@@ -14,7 +14,7 @@ pub struct Code {
 impl Model for Code {
     ghost use Rattle.std.specs.Prelude.{List as Seq};
     ghost use Rattle.armus_base.specs.declared.piece.Piece.{Piece as PieceValue};
-    ghost use Rattle.armus_base.specs.Pieces.{IsFolded};
+    ghost use Rattle.armus_base.specs.calls.Pieces.{IsFolded};
 
     ghost Value = { Seq PieceValue };
 

@@ -1,6 +1,6 @@
 // A walk over the ops that pieces stand for.
 ghost use Rattle.std.specs.Prelude.{◌≡◌, ◌∷◌, [], IfNone, IfSome, slice_get};
-ghost use Rattle.armus_base.specs.Pieces.{IsFolded, unfolded};
+ghost use Rattle.armus_base.specs.calls.Pieces.{IsFolded, unfolded};
 ghost use Rattle.armus_base.specs.inside.Positions.{op_of};
 
 mod frame;

@@ -2,9 +2,9 @@
 ghost use Rattle.std.specs.Prelude.{◌≡◌, ◌≤◌, ◌<◌, ◌+◌, ◌-◌, [], ◌++◌, length, drop, take, min, Some, IfOk, OnErr, Contains};
 ghost use Rattle.std.specs.Io.{ReadsAtMost};
 ghost use Rattle.std.specs.Io.KnownBytes.{ReadConsumes, WriteAppends};
-ghost use Rattle.armus_base.specs.Causes.{HasCause};
-ghost use Rattle.armus_base.specs.Outside.{TakesSome};
-ghost use Rattle.armus_base.specs.Fakes.{MemReads, MemWrites};
+ghost use Rattle.armus_base.specs.calls.Causes.{HasCause};
+ghost use Rattle.armus_base.specs.calls.Outside.{TakesSome};
+ghost use Rattle.armus_base.specs.calls.Fakes.{MemReads, MemWrites};
 
 use crate::{Failed, List, NoMemory, Sink, Source};
 use std::alloc::Global;
@@ -36,7 +36,7 @@ pub struct MemSource {
 
 impl Model for MemSource {
     ghost use Rattle.std.specs.Prelude.{◌≤◌, length, drop};
-    ghost use Rattle.armus_base.specs.Fakes.{MemRead};
+    ghost use Rattle.armus_base.specs.calls.Fakes.{MemRead};
 
     ghost Value = { MemRead };
 
@@ -141,7 +141,7 @@ pub struct MemSink {
 
 impl Model for MemSink {
     ghost use Rattle.std.specs.Prelude.{◌≤◌, length, vec_len, vec_capacity};
-    ghost use Rattle.armus_base.specs.Fakes.{MemWrite};
+    ghost use Rattle.armus_base.specs.calls.Fakes.{MemWrite};
 
     ghost Value = { MemWrite };
 

@@ -3,8 +3,8 @@ ghost use Rattle.std.specs.Prelude.{List, ℕ};
 ghost use Rattle.std.specs.Io.{ReadsAtMost};
 ghost use Rattle.std.specs.Io.KnownBytes.{ReadConsumes, WriteAppends};
 ghost use Rattle.std.specs.declared.option.Option.{Option};
-ghost use Rattle.armus_base.specs.Causes.{HasCause};
-ghost use Rattle.armus_base.specs.Outside.{TakesSome};
+ghost use Rattle.armus_base.specs.calls.Causes.{HasCause};
+ghost use Rattle.armus_base.specs.calls.Outside.{TakesSome};
 
 use crate::{Failed, TaskId};
 

@@ -1,7 +1,8 @@
 // Plans: what runs.
 ghost use Rattle.std.specs.Prelude.{◌≡◌, ◌<◌, ◌↔◌, None, Some, length, slice_get, sum_by};
-ghost use Rattle.armus_base.specs.Pieces.{IsFolded, unfolded};
-ghost use Rattle.armus_base.specs.Plans.{code_of, folded_plan, pieces_of};
+ghost use Rattle.armus_base.specs.calls.Pieces.{IsFolded, unfolded};
+ghost use Rattle.armus_base.specs.Plans.{code_of};
+ghost use Rattle.armus_base.specs.calls.Plans.{folded_plan, pieces_of};
 ghost use Rattle.armus_base.specs.CheckedPlans.{IsCheckedPlan};
 
 use crate::{Code, Cursor, List, PhaserId, Piece, TaskId};
@@ -32,7 +33,8 @@ pub struct Plan {
 }
 
 impl Model for Plan {
-    ghost use Rattle.armus_base.specs.Plans.{Plan as PlanValue, folded_plan};
+    ghost use Rattle.armus_base.specs.Plans.{Plan as PlanValue};
+    ghost use Rattle.armus_base.specs.calls.Plans.{folded_plan};
     ghost use Rattle.armus_base.specs.CheckedPlans.{IsCheckedPlan};
 
     ghost Value = { PlanValue };

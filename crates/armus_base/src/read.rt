@@ -1,5 +1,5 @@
 // Reading a source to its end.
-ghost use Rattle.armus_base.specs.ReadAll.{ReadsAll, TellsFault};
+ghost use Rattle.armus_base.specs.calls.ReadAll.{ReadsAll, TellsFault};
 
 use crate::{List, ReadEnd, Source};
 use std::alloc::Global;

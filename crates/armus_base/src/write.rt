@@ -1,7 +1,7 @@
 // Writing a whole text.
 ghost use Rattle.std.specs.Prelude.{◌≡◌, [], OnOk, OnErr};
 ghost use Rattle.std.specs.Io.KnownBytes.{Appends};
-ghost use Rattle.armus_base.specs.Causes.{HasCause};
+ghost use Rattle.armus_base.specs.calls.Causes.{HasCause};
 ghost use Rattle.armus_base.specs.ReadAll.{TookFront};
 
 use crate::{Sink, WriteFault};

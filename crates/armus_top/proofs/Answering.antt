@@ -1,7 +1,7 @@
 -- From what a command answers to what the call leaves.
 use Rattle.std.proofs.Common.{◌≡◌, ◌⊎◌, ℕ, Bool, inl, inr, refl, sym, ap, subst}
 use Rattle.std.specs.Prelude.{Err, None, Ok, Option, Result, Some}
-use Rattle.clock_pl.specs.ClockPlanning.{as_fault}
+use Rattle.clock_pl.specs.calls.ClockPlanning.{as_fault}
 use Rattle.report.specs.Refusals.{refusal_text}
 use Rattle.report.specs.declared.refusal.Refusal.{Refusal}
 use Rattle.report.specs.declared.refusal.Refusal.TheVariants as refusal
@@ -14,7 +14,7 @@ use Rattle.armus_top.specs.declared.output.InputEnd.TheVariants.{Clock, NoMemory
 use Rattle.armus_top.specs.declared.output.Output.{Output}
 use Rattle.armus_top.specs.Commands.{IsAnswered, IsRefusedInput, limit_of, writes_live}
 use Rattle.armus_top.specs.Headline.{Answers, Ends, EndsWith, GaveTooMuch, HasInput, IsSound, Passage, Permits, limit_for, writes_lines}
-use Rattle.armus_top.specs.inside.Answers.{AnswersBy, IsClockEnd, IsEnd, IsEndOf}
+use Rattle.armus_top.specs.inside.Answers.{AnswersBy, IsClockInputEnd, IsEnd, IsEndOf}
 use Rattle.armus_top.specs.inside.Reading.{EndsUnread, IsReadFor}
 use Rattle.armus_top.specs.inside.Status.{number_of_status}
 use Rattle.armus_top.specs.inside.Writing.{Answered, Finished, LeavesNothing, LeavesOutput, Refuses, RefusesClocks, nothing, wrote}
@@ -28,7 +28,7 @@ end_of_text c input IsWhy (Clock fault) refused is = absurd is
 end_of_text c input IsWhy NoMemory refused is = tt
 
 -- so it is of a clock text
-pub end_of_clocks : (workers : ℕ) (g : Graph) (live : Bool) (input : Text) (end : InputEnd) → IsClockEnd input end → IsEndOf (command.Clock workers g live) input end
+pub end_of_clocks : (workers : ℕ) (g : Graph) (live : Bool) (input : Text) (end : InputEnd) → IsClockInputEnd input end → IsEndOf (command.Clock workers g live) input end
 end_of_clocks workers g live input (Refused (refusal.Syntax fault)) is = inl (fault, is, refl)
 end_of_clocks workers g live input (Refused (refusal.Check fault)) is = absurd is
 end_of_clocks workers g live input (Refused refusal.Length) is = absurd is

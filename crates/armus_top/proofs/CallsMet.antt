@@ -10,8 +10,9 @@ use Rattle.armus_words.specs.Words.{Text}
 use Rattle.armus_top.specs.Texts.{usage_line}
 use Rattle.armus_top.specs.Commands.{length_line, limit_of}
 use Rattle.armus_top.specs.Headline.{HasInput, Passage, Permits}
-use Rattle.armus_top.specs.Inputs.{EachCallIsMet, FitsLimit, HasGiven, MayGenerate}
-use Rattle.armus_top.specs.Meanings.{Means}
+use Rattle.armus_top.specs.Inputs.{EachCallIsMet, HasGiven}
+use Rattle.armus_top.specs.calls.Inputs.{FitsLimit, MayGenerate}
+use Rattle.armus_words.specs.Commands.{Means}
 use Rattle.armus_top.proofs.InputsMet.{each_input_is_met}
 
 fits_of : (limit : Option ℕ) (src : Passage) (input : Text) → HasInput limit src input → FitsLimit limit input

@@ -13,7 +13,7 @@ use Rattle.schedule.proofs.LinesExist.{first_exists}
 use Rattle.armus_words.specs.Words.{Text}
 use Rattle.pl_syntax.specs.Printed.{line}
 use Rattle.armus_top.specs.Generated.{IsFirstAndLast}
-use Rattle.armus_top.specs.Inputs.{MayGenerate}
+use Rattle.armus_top.specs.calls.Inputs.{MayGenerate}
 use Rattle.armus_top.specs.Programs.{IsChecked}
 use Rattle.armus_top.proofs.TwoLines.{more_lines, report_has_two}
 use Rattle.armus_top.proofs.WholeOutputs.{IsMet}

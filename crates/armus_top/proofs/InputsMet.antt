@@ -12,7 +12,7 @@ use Rattle.report.specs.declared.refusal.Refusal.{Refusal}
 use Rattle.armus_words.specs.Words.{Text}
 use Rattle.armus_top.specs.Texts.{plan_line}
 use Rattle.armus_top.specs.Commands.{IsRefusedInput, limit_of, wanted_of}
-use Rattle.armus_top.specs.Inputs.{EachInputIsMet, FitsLimit, MayGenerate}
+use Rattle.armus_top.specs.calls.Inputs.{EachInputIsMet, FitsLimit, MayGenerate}
 use Rattle.armus_top.specs.Programs.{IsFaultOf, IsPlanOf}
 use Rattle.armus_top.specs.Runs.{IsRunOutput, kind_of}
 use Rattle.armus_top.proofs.OnePlan.{checked_plan}

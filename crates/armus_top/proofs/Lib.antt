@@ -11,7 +11,6 @@ pub mod Ending
 pub mod Inputs
 pub mod Meaning
 pub mod Answering
-pub mod InputRead
 pub mod Reporting
 pub mod AvoidedReports
 pub mod RecordedTexts

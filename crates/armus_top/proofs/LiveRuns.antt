@@ -15,8 +15,8 @@ use Rattle.report.specs.Live.{live_line, live_text}
 use Rattle.report.specs.NamedDead.{AreSomeDead, AreTheDead}
 use Rattle.report.specs.Reports.{IsReport, IsSomeDead}
 use Rattle.report.proofs.DeadExtend.{some_dead_extend}
-use Rattle.task_runner.specs.DetectRuns.{AreDeadAtTheEnd, HasWritten, TellsRun, Told}
-use Rattle.world_runs.specs.PlainRuns.{IsPlainEnd}
+use Rattle.task_runner.specs.calls.DetectRuns.{AreDeadAtTheEnd, HasWritten, TellsRun, SinkValue}
+use Rattle.world_runs.specs.calls.PlainRuns.{IsPlainEnd}
 use Rattle.task_runner.specs.declared.ran.Ran.{Ran}
 use Rattle.task_runner.specs.declared.ran.RunEnd.TheVariants as ends
 use Rattle.adaptive.specs.declared.analysis.Wanted.{Wanted}
@@ -32,7 +32,7 @@ use Rattle.armus_top.proofs.RunsMet.{run_met}
 use Rattle.armus_top.proofs.Reporting.{run_of}
 
 -- a sink between two moments
-abbrev pub between : Told → Told → Passage
+abbrev pub between : SinkValue → SinkValue → Passage
 between before now = record { before = before.taken; after = now.taken; faults_before = before.faults; faults_after = now.faults }
 
 no_bytes : (a b : Option Text) → Keeps a b → Appends a b []
@@ -65,7 +65,7 @@ module _ (plan : Plan) (checked : IsCheckedPlan plan) (wanted : Wanted) where
         (live_text more ++ report, ap (λ t. t ++ report) (flat_map-append live_line named more) ∙ append_assoc (live_text named) (live_text more) report),
       )
 
-  module _ (before now after : Told) (number : ℕ) where
+  module _ (before now after : SinkValue) (number : ℕ) where
     -- memory was wanting after the lines of some dead tasks
     wanting : (named : List Dead) → AreDeadAtTheEnd plan named → number ≡ 6 → HasWritten named before now → Keeps now.taken after.taken → after.faults ≡ now.faults
         → LeavesOutput true (IsLiveRunOf plan wanted) (between before after) number
@@ -90,7 +90,7 @@ module _ (plan : Plan) (checked : IsCheckedPlan plan) (wanted : Wanted) where
   some_of_all : (end : Final) (named : List Dead) → IsPlainEnd plan end → AreTheDead end.blocked named → AreDeadAtTheEnd plan named
   some_of_all end named is are other ends = subst (λ e. AreSomeDead e.blocked named) (one_plain_end plan end other is ends) are.some
 
-  module _ (before now after : Told) (number : ℕ) (end : Final) (is : IsPlainEnd plan end) where
+  module _ (before now after : SinkValue) (number : ℕ) (end : Final) (is : IsPlainEnd plan end) where
     reported_behind : (named : List Dead) → AreTheDead end.blocked named → HasWritten named before now → (o : Output) → ReportsEnd end wanted o
         → Finished (between now after) o.text (number_of_status o.status) number → LeavesOutput true (IsLiveRunOf plan wanted) (between before after) number
     reported_behind named are written o (dead, status, same, reports) done =
@@ -99,19 +99,19 @@ module _ (plan : Plan) (checked : IsCheckedPlan plan) (wanted : Wanted) where
         (by_pieces (between before after) (between now after) (live_text named) o.text (number_of_status o.status) number written.sound refl refl written.lines done)
 
   -- the run came to its end, and its report was written
-  pub reported : (before now after : Told) (number : ℕ) (ran : Ran) (o : Output) → IsPlainEnd plan ran.end → TellsRun plan before now (Ok ran)
+  pub reported : (before now after : SinkValue) (number : ℕ) (ran : Ran) (o : Output) → IsPlainEnd plan ran.end → TellsRun plan before now (Ok ran)
       → ReportsEnd ran.end wanted o → Finished (between now after) o.text (number_of_status o.status) number
       → LeavesOutput true (IsLiveRunOf plan wanted) (between before after) number
   reported before now after number ran o is (named, are, lines) reports done = reported_behind before now after number ran.end is named are lines o reports done
 
   -- the run came to its end, and memory was wanting for its report
-  pub unreported : (before now : Told) (ran : Ran) → IsPlainEnd plan ran.end → TellsRun plan before now (Ok ran)
+  pub unreported : (before now : SinkValue) (ran : Ran) → IsPlainEnd plan ran.end → TellsRun plan before now (Ok ran)
       → LeavesOutput true (IsLiveRunOf plan wanted) (between before now) 6
   unreported before now ran is (named, are, lines) =
       wanting before now now 6 named (some_of_all ran.end named is are) refl lines (Keeps-refl now.taken) refl
 
   -- the sink failed within the live lines
-  pub unwritten : (before now : Told) → TellsRun plan before now (Err ends.Write) → LeavesOutput true (IsLiveRunOf plan wanted) (between before now) 5
+  pub unwritten : (before now : SinkValue) → TellsRun plan before now (Err ends.Write) → LeavesOutput true (IsLiveRunOf plan wanted) (between before now) 5
   unwritten before now (named, dead, part_of) =
       let (status, text, live, (rest, is)) = begun named dead in
       wrote status text live (inr (
@@ -122,5 +122,5 @@ module _ (plan : Plan) (checked : IsCheckedPlan plan) (wanted : Wanted) where
       ))
 
   -- memory was wanting before the end of the run
-  pub wanted_memory : (before now : Told) → TellsRun plan before now (Err ends.NoMemory) → LeavesOutput true (IsLiveRunOf plan wanted) (between before now) 6
+  pub wanted_memory : (before now : SinkValue) → TellsRun plan before now (Err ends.NoMemory) → LeavesOutput true (IsLiveRunOf plan wanted) (between before now) 6
   wanted_memory before now (named, dead, written) = wanting before now now 6 named dead refl written (Keeps-refl now.taken) refl

@@ -9,7 +9,8 @@ use Rattle.armus_words.specs.declared.command.Command.TheVariants.{Check, Run, A
 use Rattle.armus_words.specs.declared.command.RunKind.{RunKind}
 use Rattle.armus_words.specs.declared.table.FirstWord.TheVariants as first
 use Rattle.armus_words.specs.Words.{HaveForm, Text}
-use Rattle.armus_top.specs.Meanings.{BeginsRecordOrPool, Means}
+use Rattle.armus_words.specs.Commands.{Means}
+use Rattle.armus_top.specs.calls.Meanings.{BeginsRecordOrPool}
 use Rattle.armus_top.specs.inside.Serving.{MayHaveSites, MayWork, WaitsForNoThread, WaitsForThreads}
 use Rattle.armus_top.specs.Headline.{Ends, IsCall, Passage, Serves, reads_input, writes_lines}
 

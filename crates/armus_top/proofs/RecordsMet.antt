@@ -1,7 +1,7 @@
 -- Each plan has a record.
 use Rattle.std.proofs.Common.{ℕ, ◌≡◌, ◌≢◌, ◌⊎◌, [], ◌∷◌, inl, inr, refl, sym, ap}
 use Rattle.std.proofs.lemmas.Bool.{cases_eq}
-use Rattle.armus_base.specs.FinalLaws.{IsOfPlan}
+use Rattle.armus_base.specs.calls.FinalLaws.{IsOfPlan}
 use Rattle.armus_base.specs.Finals.{final_of}
 use Rattle.armus_base.specs.Plans.{Plan}
 use Rattle.armus_base.specs.Runs.{state_after}

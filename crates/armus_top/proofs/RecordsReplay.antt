@@ -18,7 +18,8 @@ use Rattle.schedule.specs.Lines.{IsSchedule}
 use Rattle.schedule.specs.Replays.{IsFirstFault}
 use Rattle.schedule.specs.Replaying.{AreDeadIn, IsReplayed}
 use Rattle.schedule.specs.Split.{IsSplit, mark}
-use Rattle.schedule.specs.Records.{FitsPlan, HasNoMark, IsClosedText, step_lines, step_of}
+use Rattle.schedule.specs.calls.Records.{FitsPlan, HasNoMark, step_of}
+use Rattle.schedule.specs.Records.{IsClosedText, step_lines}
 use Rattle.schedule.proofs.JournalFits.{journal_fits_plan}
 use Rattle.schedule.proofs.JournalReplays.{journal_replays}
 use Rattle.schedule.proofs.OneSchedule.{one_reading, one_split}
@@ -26,7 +27,8 @@ use Rattle.schedule.proofs.RecordIsRead.{record_is_read}
 use Rattle.armus_words.specs.Words.{Text}
 use Rattle.armus_top.specs.Programs.{IsPlanOf, TellsDead}
 use Rattle.armus_top.specs.Records.{IsRecordOf}
-use Rattle.armus_top.specs.Replayable.{IsReplayable, RecordsReplay, WritesReplayable}
+use Rattle.armus_top.specs.Replayable.{IsReplayable, WritesReplayable}
+use Rattle.armus_top.specs.calls.Replayable.{RecordsReplay}
 use Rattle.armus_top.specs.Commands.{limit_of}
 use Rattle.armus_top.specs.Headline.{Ends, HasInput, Passage, Permits, Serves, no_memory, read_fault, whole, write_fault}
 use Rattle.armus_words.specs.declared.command.Command.TheVariants.{Record}

@@ -6,15 +6,15 @@ use Rattle.armus_base.specs.declared.ending.Final.{Final}
 use Rattle.armus_base.specs.CheckedPlans.{IsCheckedPlan}
 use Rattle.armus_base.specs.Deadlocks.{IsDeadBy, IsDeadIn}
 use Rattle.armus_base.specs.Finals.{final_of, is_awaited}
-use Rattle.armus_base.specs.FinalLaws.{IsOfPlan}
+use Rattle.armus_base.specs.calls.FinalLaws.{IsOfPlan}
 use Rattle.armus_base.specs.Plans.{Plan}
 use Rattle.armus_base.specs.States.{State}
-use Rattle.armus_base.specs.Statuses.{IsInOrder}
+use Rattle.armus_base.specs.calls.Statuses.{IsInOrder}
 use Rattle.armus_base.proofs.DeadByStatuses.{dead_by_final, run_is_of_plan}
 use Rattle.armus_base.proofs.StatusesAre.{statuses_are}
 use Rattle.adaptive.specs.declared.analysis.Wanted.{Wanted}
 use Rattle.report.specs.Reports.{IsReport, IsSomeDead}
-use Rattle.world_runs.specs.PlainRuns.{IsPlainEnd}
+use Rattle.world_runs.specs.calls.PlainRuns.{IsPlainEnd}
 use Rattle.armus_words.specs.Words.{Text}
 use Rattle.armus_top.specs.declared.output.Output.{Output}
 use Rattle.armus_top.specs.inside.Answers.{ReportsEnd}

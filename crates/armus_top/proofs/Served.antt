@@ -16,8 +16,8 @@ use Rattle.armus_top.specs.declared.status.ExitStatus.{ExitStatus}
 use Rattle.armus_top.specs.Clocks.{IsClockPlanOf}
 use Rattle.armus_top.specs.Commands.{IsAnswered, limit_of, wanted_of, writes_live}
 use Rattle.armus_top.specs.Headline.{Answers, Ends, HasInput, IsCall, IsSound, Passage, reads_input}
-use Rattle.armus_top.specs.Inputs.{FitsLimit}
-use Rattle.armus_top.specs.Meanings.{Means}
+use Rattle.armus_top.specs.calls.Inputs.{FitsLimit}
+use Rattle.armus_words.specs.Commands.{Means}
 use Rattle.armus_top.specs.Programs.{IsPlanOf}
 use Rattle.armus_top.specs.Runs.{IsLiveRunOf, IsRunOf}
 use Rattle.armus_top.specs.Texts.{usage_line}

@@ -1,7 +1,7 @@
 -- What `avoid` reports.
 use Rattle.std.specs.Prelude.{◌≡◌, ◌<◌, ◌⊎◌, ℕ, Bool, true, false, List, ◌++◌, length}
 use Rattle.armus_base.specs.declared.ending.TaskEnd.{TaskEnd}
-use Rattle.armus_base.specs.declared.ending.TaskEnd.TheVariants.{Done, Blocked, Refused, Unforked}
+use Rattle.armus_base.specs.declared.ending.TaskEnd.TheVariants.{Refused}
 use Rattle.armus_base.specs.Avoidance.{IsAvoidedFinal}
 use Rattle.armus_base.specs.Deadlocks.{NobodyDead}
 use Rattle.armus_base.specs.Finals.{end_of, final_of}

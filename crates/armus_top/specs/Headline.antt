@@ -6,7 +6,7 @@ use Rattle.armus_base.specs.Causes.{Rose, counted}
 use Rattle.armus_base.specs.ReadAll.{ReadFront, TookFront}
 use Rattle.armus_words.specs.Words.{HaveForm, Text}
 use Rattle.armus_top.specs.Texts.{usage_line}
-use Rattle.armus_top.specs.Meanings.{Means}
+use Rattle.armus_words.specs.Commands.{Means}
 use Rattle.armus_top.specs.Commands.{limit_of, length_line, writes_live, IsRefusedInput, IsAnswered}
 use Rattle.armus_words.specs.declared.command.Command.{Command}
 
@@ -16,15 +16,6 @@ pub record Passage : Type 0 where
   pub after : Option Text
   pub faults_before : ℕ
   pub faults_after : ℕ
-
--- the passage of an object of the outside, by its two meanings
-abbrev pub passage : {D : Type 0} → (D → Option Text) → (D → ℕ) → D → D → Passage
-passage bytes faults old new = record {
-  before = bytes old;
-  after = bytes new;
-  faults_before = faults old;
-  faults_after = faults new;
-}
 
 -- no fault was counted
 abbrev pub IsSound : Passage → Type 0

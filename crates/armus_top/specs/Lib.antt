@@ -7,9 +7,10 @@ pub mod ClockRuns
 pub mod Avoids
 pub mod Records
 pub mod Generated
-pub mod Meanings
 pub mod Commands
 pub mod Headline
 pub mod Replayable
 pub mod Inputs
 pub mod inside
+-- Words of contracts further down, which no promise of a program needs.
+pub mod calls

@@ -7,10 +7,9 @@ use Rattle.armus_words.specs.declared.command.Command.TheVariants.{Record, Repla
 use Rattle.armus_words.specs.Words.{Text}
 use Rattle.armus_top.specs.Headline.{HasInput, IsAccepted, Passage}
 use Rattle.armus_top.specs.Commands.{limit_of}
-use Rattle.armus_top.specs.Meanings.{Means}
+use Rattle.armus_words.specs.Commands.{Means}
 use Rattle.armus_top.specs.Records.{IsRecordOf}
 use Rattle.armus_top.specs.Replays.{IsReplayOf}
-use Rattle.armus_top.specs.declared.programs.TheConstants.{MAX_TEXT_BYTES}
 use Rattle.armus_top.specs.declared.replaying.TheConstants.{MAX_REPLAY_BYTES}
 
 -- the bytes are an input of `replay`: not too long and not refused, and whatever it is answered has this status and names just these dead tasks
@@ -19,12 +18,6 @@ pub record IsReplayable (bytes : Text) (status : ℕ) (dead : ℕ → Type 0) : 
   pub accepted : IsAccepted Replay bytes
   pub status_same : (other : ℕ) (report : Text) → IsReplayOf bytes other report → other ≡ status
   pub dead_same : (other : ℕ) (report : Text) (r : IsReplayOf bytes other report) (t : TaskId) → Contains r.done.dead t ↔ dead t.0
-
--- so is each record of a text that is no longer than a text may be
-abbrev pub RecordsReplay : Type 0
-RecordsReplay =
-    (input : Text) (status : ℕ) (text : Text) (r : IsRecordOf input status text) → length input ≤ MAX_TEXT_BYTES →
-    IsReplayable text status (IsDeadIn (state_after r.steps))
 
 -- Where the words mean `record`, the status is 0 or 1 and the sink tells its bytes: what was written is the record of the input, and such an input of `replay`.
 abbrev pub WritesReplayable : List Text → Passage → Passage → ℕ → Type 0

@@ -1,5 +1,5 @@
 -- The lines that the top call writes beside reports, refusals and printed programs.
-use Rattle.std.specs.Prelude.{ℕ, List, [], ◌∷◌, ◌++◌, length, codes, decimal, sum_by}
+use Rattle.std.specs.Prelude.{ℕ, [], ◌++◌, length, codes, decimal, sum_by}
 use Rattle.armus_base.specs.Plans.{Plan}
 use Rattle.pl_syntax.specs.Printed.{line}
 use Rattle.armus_words.specs.Words.{Text}

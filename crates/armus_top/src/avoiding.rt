@@ -7,7 +7,7 @@ ghost use Rattle.armus_top.specs.Programs.{IsPlanOf};
 ghost use Rattle.armus_top.specs.Avoids.{IsAvoidOf, ended_refused};
 ghost use Rattle.armus_top.specs.inside.Serving.{MayWork};
 ghost use Rattle.armus_top.specs.inside.Status.{number_of_status};
-ghost use Rattle.world_runs.specs.AvoidedRuns.{IsAvoidedEnd, IsSerialEnd};
+ghost use Rattle.world_runs.specs.calls.AvoidedRuns.{IsAvoidedEnd, IsSerialEnd};
 
 use crate::output::{Output, status_of};
 use armus_base::{Final, Gate, NoMemory, Plan, TaskEnd};

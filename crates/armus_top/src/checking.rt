@@ -1,7 +1,8 @@
 // The command `check`.
 ghost use Rattle.std.specs.Prelude.{◌≡◌, ◌≤◌, IfOk, IfErr, false, if◌then◌else◌, length};
 ghost use Rattle.pl_syntax.specs.Printed.{printed_of};
-ghost use Rattle.pl_syntax.specs.Tree.{AllHere, height};
+ghost use Rattle.pl_syntax.specs.calls.Tree.{AllHere};
+ghost use Rattle.pl_syntax.specs.Tree.{height};
 ghost use Rattle.pl_syntax.specs.declared.limits.TheConstants.{MAX_OPEN_BRACES};
 ghost use Rattle.armus_top.specs.Commands.{IsAnswered};
 ghost use Rattle.armus_top.specs.Texts.{plan_line};

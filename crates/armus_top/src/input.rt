@@ -1,6 +1,6 @@
 // Reading the input of a command.
 ghost use Rattle.std.specs.Prelude.{◌≡◌, ◌≢◌, IfErr, IfOk};
-ghost use Rattle.armus_top.specs.Headline.{passage};
+ghost use Rattle.armus_top.specs.calls.Headline.{passage};
 ghost use Rattle.armus_top.specs.inside.Reading.{EndsUnread, IsRead};
 ghost use Rattle.armus_top.specs.inside.Status.{number_of_status};
 

@@ -1,6 +1,6 @@
 // What a command answers on its input: a whole output with its status, or why there is none.
 ghost use Rattle.std.specs.Prelude.{◌≡◌, IfOk, if◌then◌else◌};
-ghost use Rattle.armus_base.specs.Statuses.{IsInOrder};
+ghost use Rattle.armus_base.specs.calls.Statuses.{IsInOrder};
 ghost use Rattle.armus_top.specs.inside.Answers.{ReportsEnd};
 ghost use Rattle.armus_top.specs.inside.Status.{number_of_status};
 

@@ -1,10 +1,10 @@
 // From an input to its program and its plan.
 ghost use Rattle.std.specs.Prelude.{◌≡◌, ◌≤◌, false, length, IfOk, IfErr};
-ghost use Rattle.pl_syntax.specs.Tree.{AllHere};
+ghost use Rattle.pl_syntax.specs.calls.Tree.{AllHere};
 ghost use Rattle.pl_syntax.specs.declared.limits.TheConstants.{MAX_PARSED_BYTES};
 ghost use Rattle.armus_top.specs.Clocks.{IsClockPlanOf};
 ghost use Rattle.armus_top.specs.Programs.{IsChecked, IsFaultOf, IsPlanOf};
-ghost use Rattle.armus_top.specs.inside.Answers.{IsClockEnd, IsEnd};
+ghost use Rattle.armus_top.specs.inside.Answers.{IsClockInputEnd, IsEnd};
 
 use crate::output::InputEnd;
 use armus_base::Plan;
@@ -48,7 +48,7 @@ pub fn checked_in(alloc: Global, text: &[u8]) -> Result<Checked, InputEnd>
 pub(crate) fn clock_plan_in(alloc: Global, text: &[u8]) -> Result<Plan, InputEnd>
     requires short { length text.now ≤ MAX_TEXT_BYTES }
     ensures plan { IfOk result (IsClockPlanOf text.now) }
-    ensures refused { IfErr result (IsClockEnd text.now) }
+    ensures refused { IfErr result (IsClockInputEnd text.now) }
 {
     let program = match clock_parse(alloc, text) {
         Ok(program) => program,

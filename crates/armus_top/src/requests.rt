@@ -1,8 +1,9 @@
 // The command that words mean, and its input.
 ghost use Rattle.std.specs.Prelude.{◌≡◌, IfErr, IfOk, None, Some, map, string_bytes};
 ghost use Rattle.armus_top.specs.Commands.{limit_of};
-ghost use Rattle.armus_top.specs.Headline.{Ends, IsCall, passage};
-ghost use Rattle.armus_top.specs.Meanings.{Means};
+ghost use Rattle.armus_top.specs.Headline.{Ends, IsCall};
+ghost use Rattle.armus_top.specs.calls.Headline.{passage};
+ghost use Rattle.armus_words.specs.Commands.{Means};
 ghost use Rattle.armus_top.specs.inside.Reading.{IsReadFor};
 ghost use Rattle.armus_top.specs.inside.Status.{number_of_status};
 

@@ -2,12 +2,12 @@
 ghost use Rattle.std.specs.Prelude.{◌≡◌, ◌≢◌, ◌≤◌, IfOk, false, true};
 ghost use Rattle.armus_base.specs.CheckedPlans.{IsCheckedPlan};
 ghost use Rattle.armus_top.specs.Runs.{IsLiveRunOf, IsRunOf};
-ghost use Rattle.armus_top.specs.Headline.{passage};
+ghost use Rattle.armus_top.specs.calls.Headline.{passage};
 ghost use Rattle.armus_top.specs.inside.Serving.{MayHaveSites, MayWork};
 ghost use Rattle.armus_top.specs.inside.Status.{number_of_status};
 ghost use Rattle.armus_top.specs.inside.Writing.{LeavesOutput};
 ghost use Rattle.armus_words.specs.declared.table.TheConstants.{MAX_SITES};
-ghost use Rattle.world_runs.specs.PlainRuns.{IsPlainEnd};
+ghost use Rattle.world_runs.specs.calls.PlainRuns.{IsPlainEnd};
 
 use crate::output::{Output, reported};
 use crate::status::ExitStatus;

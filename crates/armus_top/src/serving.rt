@@ -1,8 +1,8 @@
 // Serving a command on its input.
 ghost use Rattle.std.specs.Prelude.{◌≡◌, ◌≢◌, IfErr, IfOk, false, true};
 ghost use Rattle.armus_top.specs.Commands.{IsAnswered, limit_of, writes_live};
-ghost use Rattle.armus_top.specs.Headline.{passage};
-ghost use Rattle.armus_top.specs.Inputs.{FitsLimit};
+ghost use Rattle.armus_top.specs.calls.Headline.{passage};
+ghost use Rattle.armus_top.specs.calls.Inputs.{FitsLimit};
 ghost use Rattle.armus_top.specs.inside.Answers.{IsEndOf};
 ghost use Rattle.armus_top.specs.inside.Serving.{WaitsForNoThread, WaitsForThreads};
 ghost use Rattle.armus_top.specs.inside.Status.{number_of_status};

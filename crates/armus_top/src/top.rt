@@ -2,9 +2,10 @@
 ghost use Rattle.std.specs.Prelude.{◌≡◌, ◌↔◌, ◌||◌, IsTrue, false, map, string_bytes};
 ghost use Rattle.std.specs.Str.{bytes_eq};
 ghost use Rattle.armus_words.specs.declared.table.TheConstants.{POOL, RECORD};
-ghost use Rattle.armus_top.specs.Meanings.{BeginsRecordOrPool};
+ghost use Rattle.armus_top.specs.calls.Meanings.{BeginsRecordOrPool};
 ghost use Rattle.armus_top.specs.Replayable.{WritesReplayable};
-ghost use Rattle.armus_top.specs.Headline.{IsServed, passage};
+ghost use Rattle.armus_top.specs.Headline.{IsServed};
+ghost use Rattle.armus_top.specs.calls.Headline.{passage};
 
 use crate::requests::{Request, request_of};
 use crate::serving::{serve, serve_waiting};

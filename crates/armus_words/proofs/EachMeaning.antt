@@ -7,7 +7,8 @@ use Rattle.std.specs.Str.Parse.{AllDigits, IsNumeral, digits_value}
 use Rattle.std.proofs.lemmas.Bool.{cases_lt}
 use Rattle.std.proofs.lemmas.Slice.Eq.{bytes_eq-Decides}
 use Rattle.armus_words.specs.Words.{Text, Use, AreWords, has_value_alone}
-use Rattle.armus_words.specs.Commands.{AreWorkers, EachMeaning, Given, IsCommand, IsGenerated, IsRunKind, IsWantedGraph, IsNumber, Means, Reads, first_of, given_by, graph_word}
+use Rattle.armus_words.specs.Commands.{AreWorkers, Given, IsCommand, IsGenerated, IsRunKind, IsWantedGraph, IsNumber, Means, Reads, first_of, given_by, graph_word}
+use Rattle.armus_words.specs.calls.Commands.{EachMeaning}
 use Rattle.armus_words.specs.inside.Form.{first_named, fits, free_at}
 use Rattle.armus_words.specs.declared.table.FirstWord.{FirstWord}
 use Rattle.armus_words.specs.declared.table.FirstWord.TheVariants as first

@@ -24,9 +24,6 @@ gen_rules = filled_from 1 (new_rule (codes "count") ∷ help_rule ∷ [])
 abbrev gen_shape : Shape
 gen_shape = (built gen_app).top
 
-rules_built : gen_shape.rules ≡ gen_rules
-rules_built = refl
-
 value_met : (v : Text) (h : Held) → starts_plain v → word_met gen_rules [] false idle 1 v h ≡ (h, value)
 value_met v h plain =
     ap (λ (b : Bool). if b then (h, trailing 1) else long_or_other gen_rules idle v (long_of v) h) (no_dashes gen_rules v plain)

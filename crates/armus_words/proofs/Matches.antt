@@ -95,9 +95,6 @@ pick : (b : Bool) (r : Row) (found : Option Row) → (b ≡ true → text_in (So
 pick true r found e f = e refl
 pick false r found e f = f refl
 
-flag_text : (rules : List Rule) (p : OptionWord) → wants_value p ≡ false → text_in (Some (use_row rules (flag p))) ≡ Some (codes "true")
-flag_text rules p e = refl
-
 used_flag : (rules : List Rule) (free : OptionWord → Bool) (o : OptionWord) (us : List Use) → wants_value o ≡ false → AreUses free us → is_used o us ≡ true
     → text_in (find_row (name_of o) (map (use_row rules) us)) ≡ Some (codes "true")
 used_flag rules free o [] w uses is = absurd (cc)

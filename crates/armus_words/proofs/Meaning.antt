@@ -9,7 +9,8 @@ use Rattle.std.proofs.lemmas.Grind.{common_steps}
 use Rattle.armus_words.specs.Words.{Text, Use, valued, flag, AreUses, AreWords, IsValue, StandsAlone}
 use Rattle.armus_words.specs.Words.{all_words, dashed, first_word, has_value_alone, is_value_byte, name_of, use_words, wants_value, without}
 use Rattle.armus_words.specs.inside.Form.{first_named, option_named}
-use Rattle.armus_words.specs.Commands.{AreWorkers, Given, IsCommand, IsGenerated, IsRunKind, IsWantedGraph, IsNumber, OneMeaning, Reads, first_of, given_by, graph_word}
+use Rattle.armus_words.specs.Commands.{AreWorkers, Given, IsCommand, IsGenerated, IsRunKind, IsWantedGraph, IsNumber, Reads, first_of, given_by, graph_word}
+use Rattle.armus_words.specs.calls.Commands.{OneMeaning}
 use Rattle.armus_words.specs.declared.table.FirstWord.{FirstWord}
 use Rattle.armus_words.specs.declared.table.FirstWord.TheVariants as first
 use Rattle.armus_words.specs.declared.table.OptionWord.{OptionWord}

@@ -104,11 +104,3 @@ pub record IsCommand (words : List Text) (c : Command) : Type 0 where
 abbrev pub Means : List Text → Option Command → Type 0
 Means words (Some c) = IsCommand words c
 Means words None = (c : Command) → IsCommand words c → ⊥
-
--- the law: words mean one command at most
-abbrev pub OneMeaning : Type 0
-OneMeaning = (words : List Text) (c d : Option Command) → Means words c → Means words d → c ≡ d
-
--- the law: words have a meaning
-abbrev pub EachMeaning : Type 0
-EachMeaning = (words : List Text) → (c : Option Command) × Means words c

@@ -1,3 +1,5 @@
 pub mod Words
 pub mod Commands
 pub mod inside
+-- Words of contracts further down, which no promise of a program needs.
+pub mod calls

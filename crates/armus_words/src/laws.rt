@@ -1,5 +1,5 @@
 // The laws of words and commands.
-ghost use Rattle.armus_words.specs.Commands.{EachMeaning, OneMeaning};
+ghost use Rattle.armus_words.specs.calls.Commands.{EachMeaning, OneMeaning};
 
 /// Words mean one command, or none, and never both: there is one meaning at most.
 pub fn words_mean_one_command()

@@ -5,13 +5,13 @@ use Rattle.std.specs.Result.{ForOk}
 use Rattle.armus_base.specs.declared.errors.NoMemory.{NoMemory}
 use Rattle.armus_base.specs.declared.status.Status.{Status}
 use Rattle.armus_base.specs.Plans.{Aim, Blocks}
-use Rattle.board.specs.Views.{avoids, next_action}
-use Rattle.board.specs.Seats.{IsSeat, Known}
-use Rattle.order_graph.specs.Orders.{OrderValue}
-use Rattle.phase_scan.specs.Looks.{LoadsAlone}
+use Rattle.board.specs.calls.Views.{avoids, next_action}
+use Rattle.board.specs.calls.Seats.{IsSeat, Known}
+use Rattle.order_graph.specs.calls.Orders.{OrderValue}
+use Rattle.phase_scan.specs.calls.Looks.{LoadsAlone}
 use Rattle.verdict.specs.declared.found.Cycle.{Cycle}
-use Rattle.avoider.specs.Kept.{HoldsIfPublishedOnBoard}
-use Rattle.avoider.specs.OnBoard.{IsDecidedOnBoard}
+use Rattle.avoider.specs.calls.Kept.{HoldsIfPublishedOnBoard}
+use Rattle.avoider.specs.calls.OnBoard.{IsDecidedOnBoard}
 use Rattle.avoider.specs.declared.decision.Decision.{Decision}
 use Rattle.avoider.specs.declared.decision.Decision.TheVariants.{Published, Refused}
 use Rattle.avoider.specs.inside.Concluded.{Concludes, IsConcluded, MayConclude}

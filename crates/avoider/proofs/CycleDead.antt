@@ -9,10 +9,10 @@ use Rattle.armus_base.specs.declared.status.Status.{Status}
 use Rattle.armus_base.specs.Deadlocks.{IsDeadBy}
 use Rattle.armus_base.specs.Statuses.{Impedes}
 use Rattle.dep_state.proofs.DeadSets.{IsDeadlockedList, dead_by_list}
-use Rattle.verdict.specs.Cycles.{IsCycle, IsNext}
+use Rattle.verdict.specs.calls.Cycles.{IsCycle, IsNextPlace}
 
 -- among n there is a place after each
-next_place_of : (n k : ℕ) → k < n → (j : ℕ) × (j < n) × IsNext n k j
+next_place_of : (n k : ℕ) → k < n → (j : ℕ) × (j < n) × IsNextPlace n k j
 next_place_of n k l =
     elim (cases_eq (k + 1) n) [
       | inl last ↦ (0, omega arith, inl (last, refl))

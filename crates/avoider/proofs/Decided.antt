@@ -4,32 +4,33 @@ use Rattle.std.specs.Prelude.{Contains, MatchOption, option_map, unwrap_or}
 use Rattle.armus_base.specs.declared.event.Event.{Event}
 use Rattle.armus_base.specs.declared.status.Status.{Status}
 use Rattle.armus_base.specs.Avoidance.{Avoids, LeavesNobodyDead}
-use Rattle.armus_base.specs.Boards.{IsLawful}
+use Rattle.armus_base.specs.calls.Boards.{IsLawful}
 use Rattle.armus_base.specs.Deadlocks.{IsDeadBy, IsListedOn, WouldBeDead}
-use Rattle.armus_base.specs.Decisions.{Decides}
-use Rattle.armus_base.specs.Places.{kept, phases_after, phases_at_place, state_at}
+use Rattle.armus_base.specs.calls.Decisions.{Decides}
+use Rattle.armus_base.specs.Places.{kept, phases_after, state_at}
+use Rattle.armus_base.specs.calls.Places.{phases_at_place}
 use Rattle.armus_base.specs.Plans.{Aim, Blocks, Plan, Refuses}
 use Rattle.armus_base.specs.Runs.{Place, next_place}
-use Rattle.armus_base.specs.Seats.{HasLockWith, InEachWithLock, IsAsFarOn, SeenBy}
+use Rattle.armus_base.specs.calls.Seats.{HasLockWith, InEachWithLock, IsAsFarOn, SeenBy}
 use Rattle.armus_base.specs.Offsets.{target}
 use Rattle.armus_base.specs.States.{State, awaited, event_at, event_on}
 use Rattle.armus_base.proofs.BoardRuns.{nobody_dead_at}
 use Rattle.armus_base.proofs.SerialIsAvoided.{publishing_leaves_nobody_dead}
 use Rattle.board.specs.declared.view.View.{View}
-use Rattle.board.specs.Views.{avoids, action_after, next_action, own_place, place_in, seen, task_of}
-use Rattle.board.specs.Steps.{own_phase}
-use Rattle.board.specs.Locking.{FreesLock, IsWithLock, MayRefuse}
-use Rattle.board.specs.Seats.{IsSeat, Known, MakesStep, MayPublish}
+use Rattle.board.specs.calls.Views.{avoids, action_after, next_action, own_place, place_in, seen, task_of}
+use Rattle.board.specs.calls.Steps.{own_phase}
+use Rattle.board.specs.calls.Locking.{FreesLock, IsWithLock, MayRefuse}
+use Rattle.board.specs.calls.Seats.{IsSeat, Known, MakesStep, MayPublish}
 use Rattle.board.proofs.Fitting.{moved_same}
 use Rattle.board.proofs.Seated.{next_there}
-use Rattle.phase_scan.specs.Looks.{LoadsAlone}
+use Rattle.phase_scan.specs.calls.Looks.{LoadsAlone}
 use Rattle.phase_scan.proofs.Supposes.{own_phase_stays}
-use Rattle.verdict.specs.Cycles.{IsCycle}
+use Rattle.verdict.specs.calls.Cycles.{IsCycle}
 use Rattle.verdict.specs.declared.found.Cycle.{Cycle}
-use Rattle.order_graph.specs.Orders.{OrderValue}
-use Rattle.avoider.specs.Decisions.{ExplainsDeath}
-use Rattle.avoider.specs.Kept.{HasPublishedByOrder, HoldsPairs}
-use Rattle.avoider.specs.OnBoard.{DropsBelow, HasPublished, HasRefused, InEachByLock, Judges}
+use Rattle.order_graph.specs.calls.Orders.{OrderValue}
+use Rattle.avoider.specs.calls.Decisions.{ExplainsDeath}
+use Rattle.avoider.specs.calls.Kept.{HasPublishedByOrder, HoldsPairs}
+use Rattle.avoider.specs.calls.OnBoard.{DropsBelow, HasPublished, HasRefused, InEachByLock, Judges}
 use Rattle.avoider.specs.inside.Followings.{HoldsOrOtherDead}
 use Rattle.avoider.specs.inside.Judged.{IsJudged}
 use Rattle.avoider.proofs.CycleDead.{cycle_dead}

@@ -4,18 +4,19 @@ use Rattle.std.proofs.Common.{◌≡◌, ℕ, ◌+◌, false, Some, None, add-on
 use Rattle.std.specs.Prelude.{is_some, unwrap_or, IsSome}
 use Rattle.armus_base.specs.Plans.{Action, Drops}
 use Rattle.armus_base.specs.Runs.{Place, next_place}
-use Rattle.armus_base.specs.Places.{kept, members_below, phases_after, phases_at_place}
+use Rattle.armus_base.specs.Places.{kept, members_below, phases_after}
+use Rattle.armus_base.specs.calls.Places.{phases_at_place}
 use Rattle.armus_base.specs.States.{Phases}
-use Rattle.armus_base.specs.Seats.{SeenBy}
+use Rattle.armus_base.specs.calls.Seats.{SeenBy}
 use Rattle.armus_base.proofs.Fixed.{kept_above, members_below-none, members_below-suc}
-use Rattle.board.specs.Views.{own_place, place_in, seen, task_of}
-use Rattle.board.specs.Seats.{Frame, IsOf, Known, MakesStep, MayDrop}
-use Rattle.board.specs.Seats.{refused as refused_drops}
-use Rattle.board.specs.Steps.{own_phase}
+use Rattle.board.specs.calls.Views.{own_place, place_in, seen, task_of}
+use Rattle.board.specs.calls.Seats.{Frame, IsOf, Known, MakesStep, MayDrop}
+use Rattle.board.specs.calls.Seats.{refused as refused_drops}
+use Rattle.board.specs.calls.Steps.{own_phase}
 use Rattle.board.proofs.Fitting.{moved_same}
 use Rattle.pl_core.proofs.Refusing.{dropped_below}
-use Rattle.phase_scan.specs.Collects.{IfAsked}
-use Rattle.avoider.specs.OnBoard.{DropsBelow}
+use Rattle.phase_scan.specs.calls.Collects.{IfAsked}
+use Rattle.avoider.specs.calls.OnBoard.{DropsBelow}
 
 -- who has dropped nothing since its refusal has all its phases
 pub kept_all : (m : Phases) → kept (Some 0) m ≡ m
@@ -37,17 +38,6 @@ pub record IsDropping (f : Frame) (first : Known) (q : ℕ) (now : Known) : Type
   pub task : task_of now.view ≡ task_of first.view
   pub place : own_place now.view ≡ place_at (own_place first.view).done (members_below (own_phase first.view) q)
   pub drops : DropsBelow (own_phase first.view) q first now
-
-pub begins_dropping : (f : Frame) (first : Known) → IsOf first f → first.view.holds ≡ false → (own_place first.view).dropped ≡ Some 0 → IsDropping f first 0 first
-begins_dropping f first of free refused =
-    record {
-      of = of;
-      free = free;
-      plan = refl;
-      task = refl;
-      place = λ i. record { done = (own_place first.view).done; dropped = refused i };
-      drops = refl;
-    }
 
 module _ (f : Frame) (first : Known) (q : ℕ) (now : Known) (refused : (own_place first.view).dropped ≡ Some 0) (d : IsDropping f first q now) where
   abbrev m : Phases

@@ -5,7 +5,7 @@ use Rattle.std.proofs.lemmas.Bool.{cases_lt}
 use Rattle.std.proofs.lemmas.List.{get_or_past}
 use Rattle.std.proofs.lemmas.List.Elements.{All-contains, All-map, Contains-get_or}
 use Rattle.armus_base.proofs.Elements.{nothing_in_nil}
-use Rattle.armus_base.specs.Relations.{IsInClosedSet, KeepsOn}
+use Rattle.armus_base.specs.calls.Relations.{IsInClosedSet, KeepsOn}
 use Rattle.armus_base.specs.CheckedPlans.{IsCheckedPlan}
 use Rattle.armus_base.specs.Deadlocks.{IsDeadBy, NobodyDead, WouldBeDead}
 use Rattle.armus_base.specs.Finals.{is_awaited}
@@ -20,17 +20,17 @@ use Rattle.armus_base.proofs.DeadByStatuses.{dead_by_final}
 use Rattle.armus_base.proofs.SerialIsAvoided.{publishing_leaves_nobody_dead}
 use Rattle.armus_base.proofs.StatusesAre.{statuses_are}
 use Rattle.armus_base.proofs.Walks.{closed_from_reaches}
-use Rattle.dep_state.specs.Deps.{Deps, IsDepsOf}
+use Rattle.dep_state.specs.calls.Deps.{Deps, IsDepsOf}
 use Rattle.dep_state.proofs.DeadSets.{dead_by_list, dead_in_list, dead_to_waits, waits_to_dead}
-use Rattle.order_graph.specs.Following.{FindsCycle, HasFollowed}
-use Rattle.order_graph.specs.Orders.{OrderValue, IsEdge, IsOrder, IsTaskOf, position_of, successors_of}
-use Rattle.pl_core.specs.Moves.{IsWorldStep}
-use Rattle.pl_core.specs.Awaiting.{awaited_statuses}
-use Rattle.pl_core.specs.Stands.{IsAtAwaitOf}
-use Rattle.pl_core.specs.Worlds.{WorldValue, places_of, state_of}
+use Rattle.order_graph.specs.calls.Following.{FindsCycle, HasFollowed}
+use Rattle.order_graph.specs.calls.Orders.{OrderValue, IsEdge, IsOrder, IsTaskOf, position_of, successors_of}
+use Rattle.pl_core.specs.calls.Moves.{IsWorldStep}
+use Rattle.pl_core.specs.calls.Awaiting.{awaited_statuses}
+use Rattle.pl_core.specs.calls.Stands.{IsAtAwaitOf}
+use Rattle.pl_core.specs.calls.Worlds.{WorldValue, places_of, state_of}
 use Rattle.verdict.specs.declared.found.Cycle.{Cycle}
-use Rattle.avoider.specs.Decisions.{IsDecision, IsPublished, supposed_statuses}
-use Rattle.avoider.specs.Kept.{HoldsIfPublished, HoldsPairs}
+use Rattle.avoider.specs.calls.Decisions.{IsDecision, IsPublished, supposed_statuses}
+use Rattle.avoider.specs.calls.Kept.{HoldsIfPublished, HoldsPairs}
 use Rattle.avoider.specs.declared.decision.Decision.{Decision}
 use Rattle.avoider.specs.declared.decision.Decision.TheVariants.{Published, Refused}
 use Rattle.avoider.specs.inside.Followings.{HoldsOrOtherDead}

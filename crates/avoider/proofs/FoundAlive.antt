@@ -7,10 +7,10 @@ use Rattle.armus_base.specs.declared.ids.PhaserId.{PhaserId}
 use Rattle.armus_base.specs.declared.ids.TaskId.{TaskId}
 use Rattle.armus_base.specs.declared.status.Member.{Member}
 use Rattle.armus_base.specs.declared.status.Status.{Status}
-use Rattle.armus_base.specs.Boards.{IsLawful, steps_of}
+use Rattle.armus_base.specs.calls.Boards.{IsLawful, steps_of}
 use Rattle.armus_base.specs.CheckedPlans.{IsCheckedPlan}
 use Rattle.armus_base.specs.Deadlocks.{IsDeadIn, IsDeadlockedSet, IsListedAt, IsListedOn}
-use Rattle.armus_base.specs.Decisions.{HasFound}
+use Rattle.armus_base.specs.calls.Decisions.{HasFound}
 use Rattle.armus_base.specs.Plans.{Plan}
 use Rattle.armus_base.specs.Runs.{Place, places}
 use Rattle.armus_base.proofs.BoardRuns.{board_legal, lawful_state, nobody_dead_at}

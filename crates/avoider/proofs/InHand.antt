@@ -9,14 +9,16 @@ use Rattle.armus_base.specs.declared.status.Status.{Status}
 use Rattle.armus_base.specs.Plans.{Aim, Blocks, Plan, action_at}
 use Rattle.armus_base.specs.Offsets.{target}
 use Rattle.armus_base.specs.States.{State, awaited, event_on, if_published, updated}
-use Rattle.armus_base.specs.Runs.{IsPrefix, Place, first_place}
-use Rattle.armus_base.specs.Places.{done_by, forked_at, kept, phases_at_place, published_after, refused_at, state_at}
+use Rattle.armus_base.specs.calls.Runs.{IsPrefix}
+use Rattle.armus_base.specs.Runs.{Place, first_place}
+use Rattle.armus_base.specs.Places.{done_by, forked_at, kept, published_after, refused_at, state_at}
+use Rattle.armus_base.specs.calls.Places.{phases_at_place}
 use Rattle.armus_base.specs.CheckedPlans.{IsCheckedPlan}
-use Rattle.armus_base.specs.Boards.{IsLawful}
-use Rattle.armus_base.specs.Seats.{Found, FoundWaiting, HasLockWith, IsAsFarOn}
+use Rattle.armus_base.specs.calls.Boards.{IsLawful}
+use Rattle.armus_base.specs.calls.Seats.{Found, FoundWaiting, HasLockWith, IsAsFarOn}
 use Rattle.armus_base.specs.Deadlocks.{IsListedAt, IsListedOn}
-use Rattle.armus_base.specs.Decisions.{Decides, HasAllFound, HasFound, HasOtherStatuses, HasOwnStatus, StandsBefore}
-use Rattle.armus_base.specs.FinalLaws.{AreStatuses}
+use Rattle.armus_base.specs.calls.Decisions.{Decides, HasAllFound, HasFound, HasOtherStatuses, HasOwnStatus, StandsBefore}
+use Rattle.armus_base.specs.calls.FinalLaws.{AreStatuses}
 use Rattle.armus_base.specs.Finals.{is_awaited, is_event_of}
 use Rattle.armus_base.specs.Statuses.{Impedes, IsAwaited}
 use Rattle.armus_base.proofs.Codes.{awaited_is}
@@ -27,35 +29,32 @@ use Rattle.armus_base.proofs.ListDecides.{list_in_hand_decides}
 use Rattle.armus_base.proofs.ReachedLater.{later_done}
 use Rattle.armus_base.proofs.StatusesAre.{statuses_are}
 use Rattle.armus_base.proofs.Steps.{updated_other, updated_same}
-use Rattle.pl_core.specs.HighestPhases.{ImpedesNobody}
+use Rattle.pl_core.specs.calls.HighestPhases.{ImpedesNobody}
 use Rattle.board.specs.declared.mode.Mode.TheVariants.{Avoid}
-use Rattle.board.specs.Views.{avoids, next_action, own_place, place_in, seen, task_of}
-use Rattle.board.specs.Steps.{own_phase}
-use Rattle.board.specs.Seats.{IsSeat, Known}
+use Rattle.board.specs.calls.Views.{avoids, next_action, own_place, place_in, seen, task_of}
+use Rattle.board.specs.calls.Steps.{own_phase}
+use Rattle.board.specs.calls.Seats.{IsSeat, Known}
 use Rattle.board.proofs.Acting.{nothing_published}
 use Rattle.board.proofs.Forking.{lock_forked}
-use Rattle.board.proofs.Ranges.{phaser_of_member}
+use Rattle.armus_base.proofs.MemberPhasers.{phaser_of_member}
 use Rattle.board.proofs.Seated.{next_there, phase_here}
-use Rattle.phase_scan.specs.Looks.{LoadsAlone}
-use Rattle.phase_scan.specs.Collected.{HasFinds, IsCollected}
-use Rattle.phase_scan.specs.Supposed.{IsSupposed, phase_used}
-use Rattle.phase_scan.specs.Tables.{state_supposed}
+use Rattle.phase_scan.specs.calls.Looks.{LoadsAlone}
+use Rattle.phase_scan.specs.calls.Collected.{HasFinds, IsCollected}
+use Rattle.phase_scan.specs.calls.Supposed.{IsSupposed, phase_used}
+use Rattle.phase_scan.specs.calls.Tables.{state_supposed}
 use Rattle.phase_scan.proofs.Columns.{ColumnLoad, column_goes, column_of}
 use Rattle.phase_scan.proofs.Farther.{far_before}
 use Rattle.phase_scan.proofs.Loads.{phase_load, prefix_both}
 use Rattle.phase_scan.proofs.Standing.{phases_begun_at, published_begun}
 use Rattle.phase_scan.proofs.Supposes.{own_phase_stays}
 use Rattle.phase_scan.proofs.Telling.{found_there}
-use Rattle.phase_scan.specs.OffCycle.{ImpedesSome}
-use Rattle.verdict.specs.Cycles.{IsCycle}
+use Rattle.phase_scan.specs.calls.OffCycle.{ImpedesSome}
+use Rattle.verdict.specs.calls.Cycles.{IsCycle}
 use Rattle.avoider.proofs.CycleDead.{cycle_deadlocked}
 use Rattle.avoider.proofs.FoundAlive.{among_or_not, no_deadlocked_list}
 
 is_lt : (a b : ℕ) → a < b → nat_lt a b ≡ true
 is_lt a b h = grind arith
-
-some_is_some : (o : Option Event) (e : Event) → o ≡ Some e → is_some o ≡ true
-some_is_some o e is = ap is_some is
 
 -- an event of a phaser
 event_of_phaser : (q : ℕ) (o : Option Event) → is_event_of q o ≡ true → (e : Event) × (o ≡ Some e) × (e.p.0 ≡ q)

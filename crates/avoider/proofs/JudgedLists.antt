@@ -8,20 +8,20 @@ use Rattle.armus_base.specs.CheckedPlans.{IsCheckedPlan}
 use Rattle.armus_base.specs.Deadlocks.{WouldBeDead}
 use Rattle.armus_base.specs.Finals.{is_awaited}
 use Rattle.armus_base.specs.States.{awaited, updated}
-use Rattle.armus_base.specs.Statuses.{IsInOrder}
+use Rattle.armus_base.specs.calls.Statuses.{IsInOrder}
 use Rattle.armus_base.proofs.StatusesAre.{statuses_are}
-use Rattle.board.specs.Views.{task_of}
-use Rattle.board.specs.Steps.{own_phase}
-use Rattle.board.specs.Seats.{Frame, IsOf, Known}
-use Rattle.phase_scan.specs.Collecting.{HasCollected}
-use Rattle.phase_scan.specs.Looks.{LoadsAlone}
-use Rattle.phase_scan.specs.Supposed.{IsSupposed, phase_used}
-use Rattle.phase_scan.specs.OffCycle.{IsOffCycle, SupposesOrExcludes}
-use Rattle.phase_scan.specs.Tables.{state_supposed}
+use Rattle.board.specs.calls.Views.{task_of}
+use Rattle.board.specs.calls.Steps.{own_phase}
+use Rattle.board.specs.calls.Seats.{Frame, IsOf, Known}
+use Rattle.phase_scan.specs.calls.Collecting.{HasCollected}
+use Rattle.phase_scan.specs.calls.Looks.{LoadsAlone}
+use Rattle.phase_scan.specs.calls.Supposed.{IsSupposed, phase_used}
+use Rattle.phase_scan.specs.calls.OffCycle.{IsOffCycle, SupposesOrExcludes}
+use Rattle.phase_scan.specs.calls.Tables.{state_supposed}
 use Rattle.phase_scan.proofs.Loads.{goes_both}
 use Rattle.verdict.specs.declared.found.Cycle.{Cycle}
-use Rattle.avoider.specs.Decisions.{ExplainsDeath}
-use Rattle.avoider.specs.OnBoard.{InEachByLock, Judges}
+use Rattle.avoider.specs.calls.Decisions.{ExplainsDeath}
+use Rattle.avoider.specs.calls.OnBoard.{InEachByLock, Judges}
 use Rattle.avoider.specs.inside.Judged.{IsJudged}
 
 supposed_ordered : (plan : Plan) (list : List Status) (event : Event) (supposed : List Status) (before now : Known) → IsCheckedPlan plan →

@@ -3,20 +3,20 @@ use Rattle.std.proofs.Common.{◌≡◌, ℕ, true, List, Option, Some, arith, a
 use Rattle.std.specs.Prelude.{unwrap_or}
 use Rattle.armus_base.specs.declared.event.Event.{Event}
 use Rattle.armus_base.specs.declared.status.Status.{Status}
-use Rattle.armus_base.specs.Boards.{IsLawful}
+use Rattle.armus_base.specs.calls.Boards.{IsLawful}
 use Rattle.armus_base.specs.Deadlocks.{IsDeadBy, WouldBeDead}
-use Rattle.armus_base.specs.Decisions.{Decides}
+use Rattle.armus_base.specs.calls.Decisions.{Decides}
 use Rattle.armus_base.specs.Places.{state_at}
 use Rattle.armus_base.specs.Plans.{Aim, Blocks, Plan}
 use Rattle.armus_base.specs.Runs.{Place}
-use Rattle.armus_base.specs.Seats.{HasLockWith, InEachWithLock, IsAsFarOn}
+use Rattle.armus_base.specs.calls.Seats.{HasLockWith, InEachWithLock, IsAsFarOn}
 use Rattle.armus_base.specs.States.{State}
 use Rattle.armus_base.proofs.BoardRuns.{nobody_dead_at}
-use Rattle.board.specs.Views.{avoids, next_action, seen, task_of}
-use Rattle.board.specs.Seats.{IsSeat, Known}
-use Rattle.phase_scan.specs.Looks.{LoadsAlone}
-use Rattle.phase_scan.specs.OffCycle.{ImpedesSome, IsImpeded}
-use Rattle.avoider.specs.OnBoard.{InEachByLock, Judges}
+use Rattle.board.specs.calls.Views.{avoids, next_action, seen, task_of}
+use Rattle.board.specs.calls.Seats.{IsSeat, Known}
+use Rattle.phase_scan.specs.calls.Looks.{LoadsAlone}
+use Rattle.phase_scan.specs.calls.OffCycle.{ImpedesSome, IsImpeded}
+use Rattle.avoider.specs.calls.OnBoard.{InEachByLock, Judges}
 use Rattle.avoider.proofs.InHand.{decides, own_only, would_impede_nobody}
 use Rattle.avoider.proofs.OnNoCycle.{lives_impeding_nobody}
 

@@ -5,29 +5,29 @@ use Rattle.std.proofs.lemmas.Option.{slice_get_within}
 use Rattle.armus_base.specs.declared.event.Event.{Event}
 use Rattle.armus_base.specs.declared.ids.TaskId.{TaskId}
 use Rattle.armus_base.specs.declared.status.Status.{Status}
-use Rattle.armus_base.specs.Boards.{IsLawful}
+use Rattle.armus_base.specs.calls.Boards.{IsLawful}
 use Rattle.armus_base.specs.CheckedPlans.{IsCheckedPlan}
-use Rattle.armus_base.specs.Decisions.{HasFound}
-use Rattle.armus_base.specs.FinalLaws.{AreStatuses}
+use Rattle.armus_base.specs.calls.Decisions.{HasFound}
+use Rattle.armus_base.specs.calls.FinalLaws.{AreStatuses}
 use Rattle.armus_base.specs.Finals.{is_awaited}
 use Rattle.armus_base.specs.Graphs.{WaitsFor}
 use Rattle.armus_base.specs.Plans.{Plan}
-use Rattle.armus_base.specs.Relations.{ReachesCycle}
-use Rattle.armus_base.specs.Runs.{IsPrefix}
-use Rattle.armus_base.specs.Seats.{IsAsFarOn}
+use Rattle.armus_base.specs.calls.Relations.{ReachesCycle}
+use Rattle.armus_base.specs.calls.Runs.{IsPrefix}
+use Rattle.armus_base.specs.calls.Seats.{IsAsFarOn}
 use Rattle.armus_base.specs.States.{Phases, State}
 use Rattle.armus_base.proofs.StatusesAre.{statuses_are}
 use Rattle.armus_base.proofs.Walks.{closed_from_reaches}
 use Rattle.board.specs.declared.mode.Mode.{Mode}
-use Rattle.board.specs.Views.{avoids, seen}
-use Rattle.board.specs.Steps.{IsSameSeat, WasSo}
-use Rattle.board.specs.Seats.{AnswersPhase, Known}
+use Rattle.board.specs.calls.Views.{avoids, seen}
+use Rattle.board.specs.calls.Steps.{IsSameSeat, WasSo}
+use Rattle.board.specs.calls.Seats.{AnswersPhase, Known}
 use Rattle.dep_state.proofs.DeadSets.{waits_to_dead}
-use Rattle.phase_scan.specs.Collecting.{HasCollected}
-use Rattle.phase_scan.specs.Collects.{IfAsked, LoadsAwaits, LoadsRow, LoadsRows}
+use Rattle.phase_scan.specs.calls.Collecting.{HasCollected}
+use Rattle.phase_scan.specs.calls.Collects.{IfAsked, LoadsAwaits, LoadsRow, LoadsRows}
 use Rattle.phase_scan.proofs.Farther.{IsPossible}
 use Rattle.phase_scan.proofs.Loads.{prefix_both}
-use Rattle.avoider.specs.OnBoard.{CollectedHaveNoCycle}
+use Rattle.avoider.specs.calls.OnBoard.{CollectedHaveNoCycle}
 use Rattle.avoider.proofs.FoundAlive.{no_deadlocked_list}
 
 -- some lawful state is as far on as what the seat has seen

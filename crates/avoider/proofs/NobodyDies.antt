@@ -10,11 +10,11 @@ use Rattle.armus_base.specs.States.{IsLegal, Step, after}
 use Rattle.armus_base.proofs.OnlyBlocksKill.{only_blocks_kill}
 use Rattle.armus_base.proofs.Reachable.{reachable_is_fixed, reachable_steps}
 use Rattle.armus_base.proofs.SerialIsAvoided.{block_leaves_nobody_dead}
-use Rattle.pl_core.specs.Moves.{LeadsOn, MakesRefusal, IsWorldStep, drops_from}
+use Rattle.pl_core.specs.calls.Moves.{LeadsOn, MakesRefusal, IsWorldStep, drops_from}
 use Rattle.pl_core.specs.declared.stand.Stand.{Stand}
 use Rattle.pl_core.specs.declared.stand.Stand.TheVariants.{Unforked, Done, Refused, Ready, Await, Waits}
-use Rattle.pl_core.specs.Stands.{IsAtAwaitOf, StandsSo}
-use Rattle.pl_core.specs.Worlds.{IsOpeningWorld, WorldValue, action_by_code, places_of, state_of}
+use Rattle.pl_core.specs.calls.Stands.{IsAtAwaitOf, StandsSo}
+use Rattle.pl_core.specs.calls.Worlds.{IsOpeningWorld, WorldValue, action_by_code, places_of, state_of}
 use Rattle.pl_core.proofs.Refusing.{leads_reachable}
 use Rattle.avoider.proofs.Supposing.{blocks_next}
 

@@ -5,7 +5,7 @@ use Rattle.armus_base.specs.declared.event.Event.{Event}
 use Rattle.armus_base.specs.Deadlocks.{IsAtPhase, IsImpededWithin, IsPublishedOn, NobodyDead, WouldBeDead}
 use Rattle.armus_base.specs.States.{IsReached, State, if_published}
 use Rattle.armus_base.proofs.Steps.{updated_other, updated_same}
-use Rattle.pl_core.specs.HighestPhases.{ImpedesNobody, IsPublishedImpeder}
+use Rattle.pl_core.specs.calls.HighestPhases.{ImpedesNobody, IsPublishedImpeder}
 
 -- a set without one task
 without_in : (u t : ℕ) (x : Bool) → u ≢ t → x ≡ true → (if u == t then false else x) ≡ true

@@ -10,12 +10,13 @@ use Rattle.armus_base.specs.declared.status.Status.{Status}
 use Rattle.armus_base.specs.DeadLists.{IsDeadList}
 use Rattle.armus_base.specs.Deadlocks.{IsDeadBy}
 use Rattle.armus_base.specs.Relations.{IsWalkCycle}
-use Rattle.armus_base.specs.Statuses.{IsInOrder}
+use Rattle.armus_base.specs.calls.Statuses.{IsInOrder}
 use Rattle.dep_state.proofs.DeadSets.{one_status}
-use Rattle.verdict.specs.Cycles.{HaveEvents, IsDeadStep}
+use Rattle.verdict.specs.calls.Cycles.{HaveEvents}
+use Rattle.verdict.specs.Cycles.{IsDeadStep}
 use Rattle.verdict.specs.declared.found.Cycle.{Cycle}
 use Rattle.verdict.proofs.OneCycle.{one_cycle}
-use Rattle.avoider.specs.Decisions.{ExplainsDeath, OneOutcome}
+use Rattle.avoider.specs.calls.Decisions.{ExplainsDeath, OneOutcome}
 
 -- equal numbers are one task
 same_task : (t u : TaskId) → t.0 ≤ u.0 → u.0 ≤ t.0 → t ≡ u

@@ -6,9 +6,9 @@ use Rattle.armus_base.specs.declared.ids.TaskId.{TaskId}
 use Rattle.armus_base.specs.declared.status.Status.{Status}
 use Rattle.armus_base.specs.Graphs.{WaitsFor}
 use Rattle.armus_base.specs.Plans.{Aim, Blocks}
-use Rattle.board.specs.Views.{next_action}
-use Rattle.board.specs.Seats.{IsSeat, Known}
-use Rattle.avoider.specs.OnBoard.{Judges}
+use Rattle.board.specs.calls.Views.{next_action}
+use Rattle.board.specs.calls.Seats.{IsSeat, Known}
+use Rattle.avoider.specs.calls.OnBoard.{Judges}
 use Rattle.avoider.proofs.InHand.{asked_before, listed_before, listed_too, on_other, other_on}
 use Rattle.avoider.proofs.SamePairs.{IsPair, pair_from, pair_is}
 

@@ -15,9 +15,9 @@ use Rattle.armus_base.proofs.Fixed.{some_before_from}
 use Rattle.armus_base.proofs.StatusesAre.{listed_from, listed_is}
 use Rattle.armus_base.proofs.Steps.{updated_other}
 use Rattle.dep_state.proofs.DeadSets.{dead_by_list}
-use Rattle.pl_core.specs.Stands.{IsAtAwaitOf}
-use Rattle.pl_core.specs.Worlds.{WorldValue, places_of, state_of}
-use Rattle.verdict.specs.Cycles.{IsCycle}
+use Rattle.pl_core.specs.calls.Stands.{IsAtAwaitOf}
+use Rattle.pl_core.specs.calls.Worlds.{WorldValue, places_of, state_of}
+use Rattle.verdict.specs.calls.Cycles.{IsCycle}
 use Rattle.avoider.proofs.CycleDead.{cycle_deadlocked}
 use Rattle.avoider.proofs.FoundAlive.{among_or_not}
 use Rattle.avoider.proofs.Supposing.{of_plan}

@@ -8,16 +8,17 @@ use Rattle.armus_base.specs.declared.status.Member.{Member}
 use Rattle.armus_base.specs.declared.status.Status.{Status}
 use Rattle.armus_base.specs.CheckedPlans.{IsCheckedPlan}
 use Rattle.armus_base.specs.Deadlocks.{IsListedAt, IsListedOn}
-use Rattle.armus_base.specs.FinalLaws.{AreStatuses}
-use Rattle.armus_base.specs.Finals.{is_awaited, is_event_of, statuses_of}
+use Rattle.armus_base.specs.calls.FinalLaws.{AreStatuses}
+use Rattle.armus_base.specs.Finals.{is_awaited, is_event_of}
+use Rattle.armus_base.specs.calls.Finals.{statuses_of}
 use Rattle.armus_base.specs.Graphs.{WaitsFor}
 use Rattle.armus_base.specs.Plans.{Plan}
 use Rattle.armus_base.specs.States.{State}
 use Rattle.armus_base.proofs.Fixed.{some_before_from}
 use Rattle.armus_base.proofs.StatusesAre.{statuses_are}
-use Rattle.order_graph.specs.Orders.{OrderValue}
-use Rattle.pl_core.specs.Awaiting.{awaited_statuses}
-use Rattle.avoider.specs.Kept.{HoldsIfPublished, SamePairs}
+use Rattle.order_graph.specs.calls.Orders.{OrderValue}
+use Rattle.pl_core.specs.calls.Awaiting.{awaited_statuses}
+use Rattle.avoider.specs.calls.Kept.{HoldsIfPublished, SamePairs}
 use Rattle.avoider.specs.declared.decision.Decision.{Decision}
 use Rattle.avoider.specs.declared.decision.Decision.TheVariants.{Published, Refused}
 

@@ -4,20 +4,20 @@ use Rattle.std.specs.Prelude.{◌↔◌}
 use Rattle.armus_base.specs.declared.event.Event.{Event}
 use Rattle.armus_base.specs.CheckedPlans.{IsCheckedPlan}
 use Rattle.armus_base.specs.Deadlocks.{IsDeadBy, WouldBeDead}
-use Rattle.armus_base.specs.FinalLaws.{IsOfPlan}
+use Rattle.armus_base.specs.calls.FinalLaws.{IsOfPlan}
 use Rattle.armus_base.specs.Finals.{is_awaited}
 use Rattle.armus_base.specs.Plans.{Aim, Blocks}
 use Rattle.armus_base.specs.Runs.{IsReachable}
 use Rattle.armus_base.specs.States.{awaited, if_published}
-use Rattle.armus_base.specs.Statuses.{IsInOrder}
+use Rattle.armus_base.specs.calls.Statuses.{IsInOrder}
 use Rattle.armus_base.proofs.Codes.{awaited_is}
 use Rattle.armus_base.proofs.DeadByStatuses.{dead_by_final, run_is_of_plan}
 use Rattle.armus_base.proofs.Reachable.{reachable_is_fixed}
 use Rattle.armus_base.proofs.StatusesAre.{statuses_are}
 use Rattle.armus_base.proofs.Steps.{updated_is}
-use Rattle.pl_core.specs.Stands.{IsAtAwaitOf}
-use Rattle.pl_core.specs.Awaiting.{awaited_statuses}
-use Rattle.pl_core.specs.Worlds.{WorldValue, action_by_code, places_of, state_of}
+use Rattle.pl_core.specs.calls.Stands.{IsAtAwaitOf}
+use Rattle.pl_core.specs.calls.Awaiting.{awaited_statuses}
+use Rattle.pl_core.specs.calls.Worlds.{WorldValue, action_by_code, places_of, state_of}
 use Rattle.pl_core.proofs.Bounds.{phaser_of_member}
 use Rattle.pl_core.proofs.StepKinds.{awaits_block}
 

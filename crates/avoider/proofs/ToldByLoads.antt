@@ -5,14 +5,14 @@ use Rattle.armus_base.specs.declared.event.Event.{Event}
 use Rattle.armus_base.specs.declared.status.Status.{Status}
 use Rattle.armus_base.specs.Deadlocks.{IsDeadBy, WouldBeDead}
 use Rattle.armus_base.specs.Plans.{Aim, Blocks}
-use Rattle.board.specs.Views.{next_action, task_of}
-use Rattle.board.specs.Seats.{IsSeat, Known}
-use Rattle.phase_scan.specs.Looks.{LoadsAlone}
-use Rattle.order_graph.specs.Orders.{OrderValue}
+use Rattle.board.specs.calls.Views.{next_action, task_of}
+use Rattle.board.specs.calls.Seats.{IsSeat, Known}
+use Rattle.phase_scan.specs.calls.Looks.{LoadsAlone}
+use Rattle.order_graph.specs.calls.Orders.{OrderValue}
 use Rattle.verdict.specs.declared.found.Cycle.{Cycle}
-use Rattle.avoider.specs.Decisions.{ExplainsDeath, IsOutcome}
-use Rattle.phase_scan.specs.OffCycle.{IsOffCycle}
-use Rattle.avoider.specs.OnBoard.{InEachByLock, Judges}
+use Rattle.avoider.specs.calls.Decisions.{ExplainsDeath, IsOutcome}
+use Rattle.phase_scan.specs.calls.OffCycle.{IsOffCycle}
+use Rattle.avoider.specs.calls.OnBoard.{InEachByLock, Judges}
 use Rattle.avoider.specs.inside.Followings.{HoldsOrOtherDead}
 use Rattle.avoider.specs.inside.Judged.{IsJudged, IsJudgedByOrder}
 use Rattle.avoider.proofs.LivesByLoads.{lives_by_statuses, lives_harmless, lives_unimpeded}

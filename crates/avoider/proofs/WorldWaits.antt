@@ -7,9 +7,10 @@ use Rattle.std.proofs.lemmas.List.Elements.{All-contains, Contains-get_or}
 use Rattle.armus_base.proofs.Elements.{nothing_in_nil}
 use Rattle.armus_base.specs.CheckedPlans.{IsCheckedPlan}
 use Rattle.armus_base.specs.Finals.{is_awaited}
-use Rattle.armus_base.specs.FinalLaws.{AreStatuses, IsOfPlan}
+use Rattle.armus_base.specs.calls.FinalLaws.{AreStatuses, IsOfPlan}
 use Rattle.armus_base.specs.Graphs.{WaitsFor}
-use Rattle.armus_base.specs.Places.{IsConsistent, refused_at}
+use Rattle.armus_base.specs.calls.Places.{IsConsistent}
+use Rattle.armus_base.specs.Places.{refused_at}
 use Rattle.armus_base.specs.Plans.{Plan}
 use Rattle.armus_base.specs.Runs.{IsReachable}
 use Rattle.armus_base.specs.States.{State}
@@ -19,16 +20,16 @@ use Rattle.armus_base.proofs.Published.{published_after_is, published_undropped}
 use Rattle.armus_base.proofs.Reachable.{reachable_is_fixed}
 use Rattle.armus_base.proofs.StatusesAre.{statuses_are}
 use Rattle.dep_state.proofs.DeadSets.{same_task}
-use Rattle.order_graph.specs.Waits.{AreWaitsAmong, Awaits}
+use Rattle.order_graph.specs.calls.Waits.{AreWaitsAmong, Awaits}
 use Rattle.order_graph.specs.declared.waits.Waits.{Waits}
-use Rattle.pl_core.specs.Awaiting.{awaited_statuses}
-use Rattle.pl_core.specs.HighestPhases.{IsPublishedImpeder}
-use Rattle.pl_core.specs.Stands.{StandsSo}
-use Rattle.pl_core.specs.Worlds.{WorldValue, places_of, state_of}
+use Rattle.pl_core.specs.calls.Awaiting.{awaited_statuses}
+use Rattle.pl_core.specs.calls.HighestPhases.{IsPublishedImpeder}
+use Rattle.pl_core.specs.calls.Stands.{StandsSo}
+use Rattle.pl_core.specs.calls.Worlds.{WorldValue, places_of, state_of}
 use Rattle.pl_core.specs.declared.stand.Stand.{Stand}
 use Rattle.pl_core.specs.declared.stand.Stand.TheVariants.{Unforked, Done, Refused, Ready, Await, Waits as Waiting}
 use Rattle.pl_core.proofs.GoingOn.{passes_when_waiting}
-use Rattle.avoider.specs.inside.Waiting.{AreImpederSets, AreImpeders, HavePlaces, IsPlaceOf}
+use Rattle.avoider.specs.inside.Waiting.{AreImpederSets, AreImpeders, HavePlaces, IsPlaceOfEvent}
 use Rattle.avoider.proofs.SamePairs.{IsPair, awaited_by, pair_from, pair_is}
 
 -- who does not wait is not published
@@ -61,15 +62,15 @@ module _ (w : WorldValue) (checked : IsCheckedPlan w.plan) (reach : IsReachable 
 
 -- one task more
 pub places_more :
-    (s : State) (u place : ℕ) (before events : List Event) (own : List ℕ) → HavePlaces s u before own → ((o : Option Event) (n : ℕ) → IsPlaceOf before o n → IsPlaceOf events o n) →
-    IsPlaceOf events (s.published u) place → HavePlaces s (u + 1) events (own ++ place ∷ [])
+    (s : State) (u place : ℕ) (before events : List Event) (own : List ℕ) → HavePlaces s u before own → ((o : Option Event) (n : ℕ) → IsPlaceOfEvent before o n → IsPlaceOfEvent events o n) →
+    IsPlaceOfEvent events (s.published u) place → HavePlaces s (u + 1) events (own ++ place ∷ [])
 places_more s u place before events own have grows is =
     record {
       sized = length_push own place ∙ ap (λ n. n + 1) have.sized;
       each = λ v lt. elim (cases_eq v u) [
         | inl e ↦
             let at : slice_index (own ++ place ∷ []) v ≡ place = get_or_push own place 0 v (have.sized ∙ sym e) in
-            subst (λ x. IsPlaceOf events (s.published x) (slice_index (own ++ place ∷ []) v)) (sym e) (rw at is)
+            subst (λ x. IsPlaceOfEvent events (s.published x) (slice_index (own ++ place ∷ []) v)) (sym e) (rw at is)
         | inr ne ↦
             let at : slice_index (own ++ place ∷ []) v ≡ slice_index own v = get_or_append_left own (place ∷ []) 0 v (omega (arith, have.sized)) in
             rw at (grows (s.published v) (slice_index own v) (have.each v (omega arith)))
@@ -132,7 +133,7 @@ module _ (plan : Plan) (s : State) (checked : IsCheckedPlan plan) (of' : IsOfPla
   own_impeders : (a : TaskId) (e : Event) → a.0 < length plan.parents → s.published a.0 ≡ Some e → AreImpeders s (length plan.parents) e (get_or w.sets.items (slice_index w.own.items a.0) [])
   own_impeders a e lt p =
       let n : ℕ = slice_index w.own.items a.0 in
-      let place : IsPlaceOf events (Some e) n = subst (λ o. IsPlaceOf events o n) p (have.each a.0 lt) in
+      let place : IsPlaceOfEvent events (Some e) n = subst (λ o. IsPlaceOfEvent events o n) p (have.each a.0 lt) in
       let (some, le, at) = place in
       let back : n - 1 + 1 ≡ n = omega arith in
       subst (λ j. AreImpeders s (length plan.parents) e (get_or w.sets.items j [])) back
@@ -141,7 +142,7 @@ module _ (plan : Plan) (s : State) (checked : IsCheckedPlan plan) (of' : IsOfPla
   -- and that of one that awaits none is empty
   own_empty : (a b : TaskId) → a.0 < length plan.parents → s.published a.0 ≡ None → Contains (get_or w.sets.items (slice_index w.own.items a.0) []) b → ⊥
   own_empty a b lt p m =
-      let none : slice_index w.own.items a.0 ≡ 0 = subst (λ o. IsPlaceOf events o (slice_index w.own.items a.0)) p (have.each a.0 lt) in
+      let none : slice_index w.own.items a.0 ≡ 0 = subst (λ o. IsPlaceOfEvent events o (slice_index w.own.items a.0)) p (have.each a.0 lt) in
       nothing_in_nil b (subst (λ r. Contains {X = TaskId} r b) (ap (λ j. get_or w.sets.items j []) none ∙ sets.first) m)
 
   pair_of : (a b : TaskId) (e : Event) → a.0 < length plan.parents → s.published a.0 ≡ Some e → b.0 < length plan.parents → IsPublishedImpeder s e b.0 → IsPair (awaited_statuses plan s) a.0 b.0
@@ -184,7 +185,7 @@ module _ (plan : Plan) (s : State) (checked : IsCheckedPlan plan) (of' : IsOfPla
             set_tasks i u lt (subst (λ r. Contains {X = TaskId} r u) (get_or_default w.sets.items i z [] lt) (Contains-get_or (get_or w.sets.items i z) k y l));
       }
     where
-      place_inside : (o : Option Event) (n : ℕ) → IsPlaceOf events o n → n < length w.sets.items
+      place_inside : (o : Option Event) (n : ℕ) → IsPlaceOfEvent events o n → n < length w.sets.items
       place_inside None n is = omega (arith, is, sets.sized)
       place_inside (Some e) n is = omega (arith, is.1, sets.sized)
 

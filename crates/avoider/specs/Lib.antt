@@ -1,4 +1,3 @@
-pub mod Decisions
-pub mod OnBoard
-pub mod Kept
 pub mod inside
+-- Words of contracts further down, which no promise of a program needs.
+pub mod calls

@@ -2,10 +2,10 @@
 ghost use Rattle.std.specs.Prelude.{◌≡◌, ◌<◌, Some, true, false, length};
 ghost use Rattle.std.specs.Result.{ForOk};
 ghost use Rattle.armus_base.specs.Plans.{Blocks};
-ghost use Rattle.board.specs.Seats.{IsOf, aim_at};
-ghost use Rattle.board.specs.Steps.{own_phase};
-ghost use Rattle.board.specs.Views.{next_action, own_place};
-ghost use Rattle.avoider.specs.OnBoard.{DropsBelow};
+ghost use Rattle.board.specs.calls.Seats.{IsOf, aim_at};
+ghost use Rattle.board.specs.calls.Steps.{own_phase};
+ghost use Rattle.board.specs.calls.Views.{next_action, own_place};
+ghost use Rattle.avoider.specs.calls.OnBoard.{DropsBelow};
 ghost use Rattle.avoider.specs.inside.Concluded.{Concludes, MayConclude};
 
 use crate::Decision;

@@ -1,8 +1,8 @@
 // The decision on the await of a task that holds the lock of a board.
 ghost use Rattle.std.specs.Prelude.{◌≡◌, false, IfOk, OnErr};
-ghost use Rattle.board.specs.Seats.{IsOf, aim_at};
-ghost use Rattle.phase_scan.specs.Looks.{LoadsAlone};
-ghost use Rattle.avoider.specs.OnBoard.{HasSameRoom, IsBeforeDecision, IsDecidedOnBoard, IsUndecided};
+ghost use Rattle.board.specs.calls.Seats.{IsOf, aim_at};
+ghost use Rattle.phase_scan.specs.calls.Looks.{LoadsAlone};
+ghost use Rattle.avoider.specs.calls.OnBoard.{HasSameRoom, IsBeforeDecision, IsDecidedOnBoard, IsUndecided};
 ghost use Rattle.avoider.specs.inside.Judged.{IsJudged};
 
 use crate::Decision;

@@ -1,9 +1,9 @@
 // The decision by a kept order, on the await of a task that holds the lock of a board.
 ghost use Rattle.std.specs.Prelude.{◌≡◌, false, length, IfOk, OnErr};
-ghost use Rattle.board.specs.Seats.{IsOf, aim_at};
-ghost use Rattle.phase_scan.specs.Looks.{LoadsAlone};
-ghost use Rattle.avoider.specs.Kept.{HoldsIfPublishedOnBoard};
-ghost use Rattle.avoider.specs.OnBoard.{HasSameRoom, IsBeforeDecision, IsDecidedOnBoard, IsUndecided};
+ghost use Rattle.board.specs.calls.Seats.{IsOf, aim_at};
+ghost use Rattle.phase_scan.specs.calls.Looks.{LoadsAlone};
+ghost use Rattle.avoider.specs.calls.Kept.{HoldsIfPublishedOnBoard};
+ghost use Rattle.avoider.specs.calls.OnBoard.{HasSameRoom, IsBeforeDecision, IsDecidedOnBoard, IsUndecided};
 ghost use Rattle.avoider.specs.inside.Judged.{IsJudgedByOrder};
 
 use crate::Decision;

@@ -1,9 +1,9 @@
 // The next event of a task in a run that avoids deadlock.
 ghost use Rattle.std.specs.Prelude.{◌≡◌, ◌<◌, length, OnErr, OnOk};
 ghost use Rattle.armus_base.specs.Deadlocks.{NobodyDead};
-ghost use Rattle.pl_core.specs.Stands.{IsEnabled};
-ghost use Rattle.pl_core.specs.Worlds.{state_of};
-ghost use Rattle.avoider.specs.Decisions.{HasGoneOn};
+ghost use Rattle.pl_core.specs.calls.Stands.{IsEnabled};
+ghost use Rattle.pl_core.specs.calls.Worlds.{state_of};
+ghost use Rattle.avoider.specs.calls.Decisions.{HasGoneOn};
 
 use crate::Judge;
 use armus_base::{NoMemory, TaskId};

@@ -2,11 +2,11 @@
 ghost use Rattle.std.specs.Prelude.{◌≡◌, ◌<◌, Some, length, IfOk};
 ghost use Rattle.armus_base.specs.Plans.{Blocks};
 ghost use Rattle.armus_base.specs.States.{awaited};
-ghost use Rattle.board.specs.Seats.{IsOf, aim_at};
-ghost use Rattle.board.specs.Steps.{own_phase};
-ghost use Rattle.board.specs.Views.{next_action};
-ghost use Rattle.phase_scan.specs.Looks.{LoadsAlone};
-ghost use Rattle.avoider.specs.OnBoard.{HasSameRoom, IsBeforeDecision, Judges};
+ghost use Rattle.board.specs.calls.Seats.{IsOf, aim_at};
+ghost use Rattle.board.specs.calls.Steps.{own_phase};
+ghost use Rattle.board.specs.calls.Views.{next_action};
+ghost use Rattle.phase_scan.specs.calls.Looks.{LoadsAlone};
+ghost use Rattle.avoider.specs.calls.OnBoard.{HasSameRoom, IsBeforeDecision, Judges};
 
 use armus_base::{Event, List, NoMemory, Offset, PhaserId, Status};
 use board::{Board, TaskSeat};

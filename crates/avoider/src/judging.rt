@@ -1,10 +1,10 @@
 // By what the awaits of a run are judged.
 ghost use Rattle.std.specs.Prelude.{◌≡◌, false, length, IfOk, OnErr};
 ghost use Rattle.armus_base.specs.Deadlocks.{NobodyDead};
-ghost use Rattle.board.specs.Seats.{IsOf, aim_at};
-ghost use Rattle.pl_core.specs.Worlds.{state_of};
-ghost use Rattle.avoider.specs.Decisions.{IsBeforeStep, IsDecision};
-ghost use Rattle.avoider.specs.OnBoard.{HasSameRoom, IsBeforeDecision, IsDecidedOnBoard, IsUndecided};
+ghost use Rattle.board.specs.calls.Seats.{IsOf, aim_at};
+ghost use Rattle.pl_core.specs.calls.Worlds.{state_of};
+ghost use Rattle.avoider.specs.calls.Decisions.{IsBeforeStep, IsDecision};
+ghost use Rattle.avoider.specs.calls.OnBoard.{HasSameRoom, IsBeforeDecision, IsDecidedOnBoard, IsUndecided};
 
 use crate::{Decision, avoid_step, avoid_step_kept, decide, decide_kept, release};
 use adaptive::Wanted;

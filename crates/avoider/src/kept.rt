@@ -1,15 +1,15 @@
 // Decisions by an order that is kept from one await to the next.
 ghost use Rattle.std.specs.Prelude.{◌≡◌, ◌<◌, length, Contains, IfOk, OnErr, OnOk};
 ghost use Rattle.armus_base.specs.Deadlocks.{NobodyDead};
-ghost use Rattle.armus_base.specs.Finals.{statuses_of};
-ghost use Rattle.armus_base.specs.Statuses.{IsInOrder};
+ghost use Rattle.armus_base.specs.calls.Finals.{statuses_of};
+ghost use Rattle.armus_base.specs.calls.Statuses.{IsInOrder};
 ghost use Rattle.armus_base.specs.declared.status.Status.{Status};
 ghost use Rattle.armus_base.specs.CheckedPlans.{IsCheckedPlan};
-ghost use Rattle.order_graph.specs.Following.{AnswersFollow};
-ghost use Rattle.order_graph.specs.Orders.{IsOrder, IsTaskOf};
-ghost use Rattle.pl_core.specs.Worlds.{state_of};
-ghost use Rattle.avoider.specs.Decisions.{IsBeforeStep, IsDecision, IsOutcome, supposed_statuses};
-ghost use Rattle.avoider.specs.Kept.{HoldsIfPublished};
+ghost use Rattle.order_graph.specs.calls.Following.{AnswersFollow};
+ghost use Rattle.order_graph.specs.calls.Orders.{IsOrder, IsTaskOf};
+ghost use Rattle.pl_core.specs.calls.Worlds.{state_of};
+ghost use Rattle.avoider.specs.calls.Decisions.{IsBeforeStep, IsDecision, IsOutcome, supposed_statuses};
+ghost use Rattle.avoider.specs.calls.Kept.{HoldsIfPublished};
 ghost use Rattle.avoider.specs.inside.Followings.{HoldsOrOtherDead};
 
 use crate::Decision;

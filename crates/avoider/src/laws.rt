@@ -1,7 +1,7 @@
 // Laws of decisions.
-ghost use Rattle.avoider.specs.Decisions.{OneOutcome};
-ghost use Rattle.avoider.specs.Kept.{SamePairs};
-ghost use Rattle.avoider.specs.OnBoard.{CollectedHaveNoCycle};
+ghost use Rattle.avoider.specs.calls.Decisions.{OneOutcome};
+ghost use Rattle.avoider.specs.calls.Kept.{SamePairs};
+ghost use Rattle.avoider.specs.calls.OnBoard.{CollectedHaveNoCycle};
 
 /// The statuses on which a decision rests tell one outcome, whichever graph of them is asked: whether the task is refused, and the cycle of the
 /// refusal.

@@ -1,8 +1,8 @@
 // The lock of a board that avoids deadlock.
 ghost use Rattle.std.specs.Prelude.{◌≡◌, true, false, IfErr, OnOk};
-ghost use Rattle.board.specs.Locking.{FindsHeld, FreesLock, IsBeforeAwait, TakesLock};
-ghost use Rattle.board.specs.Seats.{IsOf};
-ghost use Rattle.board.specs.Views.{avoids};
+ghost use Rattle.board.specs.calls.Locking.{FindsHeld, FreesLock, IsBeforeAwait, TakesLock};
+ghost use Rattle.board.specs.calls.Seats.{IsOf};
+ghost use Rattle.board.specs.calls.Views.{avoids};
 
 use board::{Board, Busy, TaskSeat};
 

@@ -3,11 +3,11 @@ ghost use Rattle.std.specs.Prelude.{◌≡◌, ◌<◌, length, IfOk, IsTrue, Ma
 ghost use Rattle.armus_base.specs.CheckedPlans.{IsCheckedPlan};
 ghost use Rattle.armus_base.specs.Deadlocks.{NobodyDead, WouldBeDead};
 ghost use Rattle.armus_base.specs.Runs.{IsReachable};
-ghost use Rattle.armus_base.specs.Statuses.{IsInOrder};
+ghost use Rattle.armus_base.specs.calls.Statuses.{IsInOrder};
 ghost use Rattle.armus_base.specs.declared.event.Event.{Event};
-ghost use Rattle.pl_core.specs.Stands.{IsAtAwaitOf};
-ghost use Rattle.pl_core.specs.Worlds.{places_of, state_of};
-ghost use Rattle.avoider.specs.Decisions.{IsBeforeStep, IsDecision, IsOutcome, supposed_statuses};
+ghost use Rattle.pl_core.specs.calls.Stands.{IsAtAwaitOf};
+ghost use Rattle.pl_core.specs.calls.Worlds.{places_of, state_of};
+ghost use Rattle.avoider.specs.calls.Decisions.{IsBeforeStep, IsDecision, IsOutcome, supposed_statuses};
 ghost use Rattle.avoider.specs.declared.decision.Decision.TheVariants.{Published, Refused};
 
 use crate::Decision;

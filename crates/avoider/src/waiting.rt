@@ -6,11 +6,11 @@ ghost use Rattle.armus_base.specs.Runs.{IsReachable};
 ghost use Rattle.armus_base.specs.States.{if_published};
 ghost use Rattle.armus_base.specs.declared.event.Event.{Event};
 ghost use Rattle.armus_base.specs.declared.ids.TaskId.{TaskId};
-ghost use Rattle.order_graph.specs.Waits.{AreWaitsAmong, Awaits};
-ghost use Rattle.pl_core.specs.HighestPhases.{IsPublishedImpeder};
-ghost use Rattle.pl_core.specs.Worlds.{places_of, state_of};
-ghost use Rattle.avoider.specs.Decisions.{supposed_statuses};
-ghost use Rattle.avoider.specs.inside.Waiting.{AreImpederSets, AreImpeders, ArePlaces, IsPlaceOf};
+ghost use Rattle.order_graph.specs.calls.Waits.{AreWaitsAmong, Awaits};
+ghost use Rattle.pl_core.specs.calls.HighestPhases.{IsPublishedImpeder};
+ghost use Rattle.pl_core.specs.calls.Worlds.{places_of, state_of};
+ghost use Rattle.avoider.specs.calls.Decisions.{supposed_statuses};
+ghost use Rattle.avoider.specs.inside.Waiting.{AreImpederSets, AreImpeders, ArePlaces, IsPlaceOfEvent};
 
 use armus_base::{Event, NoMemory, TaskId};
 use order_graph::{Row, Waits};
@@ -47,8 +47,8 @@ fn published(world: &World, u: TaskId, t: TaskId, event: Event) -> Option<Event>
 fn place_of(events: &mut Vec<Event>, event: Event) -> Result<u32, AllocError>
     requires few { length events.old.items ≤ 16 }
     ensures few { length events.new.items ≤ 17 }
-    ensures place { IfOk result (IsPlaceOf events.new.items (Some event)) }
-    ensures grows { (o : Option Event) (n : ℕ) → IsPlaceOf events.old.items o n → IsPlaceOf events.new.items o n }
+    ensures place { IfOk result (IsPlaceOfEvent events.new.items (Some event)) }
+    ensures grows { (o : Option Event) (n : ℕ) → IsPlaceOfEvent events.old.items o n → IsPlaceOfEvent events.new.items o n }
     ensures within { (e : Event) → Contains events.new.items e → Contains events.old.items e ⊎ (e ≡ event) }
 {
     for at in 0..events.len() {
@@ -64,8 +64,8 @@ fn place_of(events: &mut Vec<Event>, event: Event) -> Result<u32, AllocError>
 fn place_if(events: &mut Vec<Event>, awaited: Option<Event>) -> Result<u32, AllocError>
     requires few { length events.old.items ≤ 16 }
     ensures few { length events.new.items ≤ 17 }
-    ensures place { IfOk result (IsPlaceOf events.new.items awaited) }
-    ensures grows { (o : Option Event) (n : ℕ) → IsPlaceOf events.old.items o n → IsPlaceOf events.new.items o n }
+    ensures place { IfOk result (IsPlaceOfEvent events.new.items awaited) }
+    ensures grows { (o : Option Event) (n : ℕ) → IsPlaceOfEvent events.old.items o n → IsPlaceOfEvent events.new.items o n }
     ensures within { (e : Event) → Contains events.new.items e → Contains events.old.items e ⊎ (awaited ≡ Some e) }
 {
     match awaited {

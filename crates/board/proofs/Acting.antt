@@ -9,9 +9,10 @@ use Rattle.armus_base.specs.declared.event.Event.{Event}
 use Rattle.armus_base.specs.Plans.{Aim, Action, Advances, Blocks, Drops, Forks, Makes, Passes, Plan, Refuses, Registers, action_at, in_code}
 use Rattle.armus_base.specs.States.{IsActive, IsLegal, State, after}
 use Rattle.armus_base.specs.Runs.{IsByCode, Place, moved}
-use Rattle.armus_base.specs.Places.{done_by, forked_at, kept, phases_at_place, published_after, refused_at, state_at}
+use Rattle.armus_base.specs.Places.{done_by, forked_at, kept, published_after, refused_at, state_at}
+use Rattle.armus_base.specs.calls.Places.{phases_at_place}
 use Rattle.armus_base.specs.Avoidance.{Avoids}
-use Rattle.armus_base.specs.Boards.{MayDo, steps_of}
+use Rattle.armus_base.specs.calls.Boards.{MayDo, steps_of}
 use Rattle.armus_base.proofs.Codes.{no_refusal}
 use Rattle.armus_base.proofs.Fixed.{phases_forked}
 use Rattle.armus_base.proofs.Published.{published_passes}
@@ -19,10 +20,10 @@ use Rattle.armus_base.proofs.NextIsLegal.{next_is_legal}
 use Rattle.armus_base.proofs.BoardRuns.{board_legal, lawful_state}
 use Rattle.board.specs.declared.mode.Mode.{Mode}
 use Rattle.board.specs.declared.view.View.{View}
-use Rattle.board.specs.Words.{IsShown}
-use Rattle.board.specs.Views.{action_after, avoids, next_action, own_place, place_in, task_of}
-use Rattle.board.specs.Rule.{SeatFits, IsKeptBy, by_seat, not_yet}
-use Rattle.board.specs.Steps.{after_action, next_view}
+use Rattle.board.specs.calls.Words.{IsShown}
+use Rattle.board.specs.calls.Views.{action_after, avoids, next_action, own_place, place_in, task_of}
+use Rattle.board.specs.calls.Rule.{SeatFits, IsKeptBy, by_seat, not_yet}
+use Rattle.board.specs.calls.Steps.{after_action, next_view}
 use Rattle.board.proofs.Seating.{one_goes_on, seated_stays}
 use Rattle.board.proofs.Fitting.{IsStep, other_fits, own_fits, state_next, step_lawful}
 

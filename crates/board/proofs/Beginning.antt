@@ -8,13 +8,13 @@ use Rattle.atomic_table.specs.Seated.{TableId}
 use Rattle.armus_base.specs.Runs.{Place, first_place}
 use Rattle.armus_base.specs.Places.{published_after}
 use Rattle.armus_base.specs.CheckedPlans.{IsCheckedPlan}
-use Rattle.armus_base.specs.Seats.{seen_by_child}
+use Rattle.armus_base.specs.calls.Seats.{seen_by_child}
 use Rattle.board.specs.declared.mode.Setting.{Setting}
 use Rattle.board.specs.declared.view.View.{View}
-use Rattle.board.specs.Rule.{first_view}
-use Rattle.board.specs.Views.{is_among, place_in}
-use Rattle.board.specs.Steps.{viewer}
-use Rattle.board.specs.Seats.{Frame, IsNewSeat, IsSeat, nothing_seen}
+use Rattle.board.specs.calls.Rule.{first_view}
+use Rattle.board.specs.calls.Views.{is_among, place_in}
+use Rattle.board.specs.calls.Steps.{viewer}
+use Rattle.board.specs.calls.Seats.{Frame, IsNewSeat, IsSeat, nothing_seen}
 use Rattle.board.specs.inside.Sitting.{IsSitting}
 use Rattle.board.proofs.Closing.{first_places, some_task}
 

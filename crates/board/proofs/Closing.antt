@@ -10,11 +10,13 @@ use lib.ListN.{get_elem?}
 use Rattle.atomic_table.specs.Table.{Final, Seen, State as TableState, opening as opens}
 use Rattle.armus_base.specs.Plans.{Action, Plan, action_at, actions, parent_of}
 use Rattle.armus_base.specs.States.{updated}
-use Rattle.armus_base.specs.Runs.{IsPrefix, Place, first_place}
-use Rattle.armus_base.specs.Places.{IsConsistent, done_by, forked_at, forks, published_after, some_before, state_at}
+use Rattle.armus_base.specs.calls.Runs.{IsPrefix}
+use Rattle.armus_base.specs.Runs.{Place, first_place}
+use Rattle.armus_base.specs.calls.Places.{IsConsistent}
+use Rattle.armus_base.specs.Places.{done_by, forked_at, forks, published_after, some_before, state_at}
 use Rattle.armus_base.specs.CheckedPlans.{IsCheckedPlan}
-use Rattle.armus_base.specs.Boards.{IsLawful}
-use Rattle.armus_base.specs.Seats.{IsAsFarOn, IsPlaceOf, SeenBy}
+use Rattle.armus_base.specs.calls.Boards.{IsLawful}
+use Rattle.armus_base.specs.calls.Seats.{IsAsFarOn, IsPlaceOf, SeenBy}
 use Rattle.armus_base.proofs.Steps.{updated_other, updated_same}
 use Rattle.armus_base.proofs.Fixed.{root_forked}
 use Rattle.armus_base.proofs.Tasks.{no_action}
@@ -25,10 +27,10 @@ use Rattle.armus_base.proofs.Reachable.{reachable_is_fixed}
 use Rattle.board.specs.declared.mode.Mode.{Mode}
 use Rattle.board.specs.declared.mode.Setting.{Setting}
 use Rattle.board.specs.declared.view.View.{View}
-use Rattle.board.specs.Words.{IsShown, word_count}
-use Rattle.board.specs.Views.{avoids, is_among, place_in, seen}
-use Rattle.board.specs.Rule.{SeatFits, IsKept, IsKeptBy, IsThere, Stepper, by_seat, first_view, no_more, not_yet}
-use Rattle.board.specs.Closing.{AreAllExact, AreLastOf}
+use Rattle.board.specs.calls.Words.{IsShown, word_count}
+use Rattle.board.specs.calls.Views.{avoids, is_among, place_in, seen}
+use Rattle.board.specs.calls.Rule.{SeatFits, IsKept, IsKeptBy, IsThere, Stepper, by_seat, first_view, no_more, not_yet}
+use Rattle.board.specs.calls.Closing.{AreAllExact, AreLastOf}
 use Rattle.board.proofs.Showing.{shows_opening}
 use Rattle.board.proofs.Fitting.{none_scanned, seat_ends, seats_same}
 use Rattle.board.proofs.Forking.{first_before}

@@ -8,15 +8,16 @@ use Rattle.atomic_table.specs.Table.{Allows, Joins, Me, State as TableState, kee
 use Rattle.atomic_table.proofs.Lists.{at_set}
 use Rattle.armus_base.specs.Plans.{Plan}
 use Rattle.armus_base.specs.States.{updated}
-use Rattle.armus_base.specs.Runs.{IsPrefix, Place, Precedes, first_place}
-use Rattle.armus_base.specs.Seats.{IsLonger}
+use Rattle.armus_base.specs.calls.Runs.{IsPrefix, Precedes}
+use Rattle.armus_base.specs.Runs.{Place, first_place}
+use Rattle.armus_base.specs.calls.Seats.{IsLonger}
 use Rattle.armus_base.proofs.Steps.{updated_other, updated_same}
 use Rattle.armus_base.proofs.KeepsFar.{prefixes_both}
 use Rattle.board.specs.declared.mode.Mode.{Mode}
 use Rattle.board.specs.declared.view.View.{View}
-use Rattle.board.specs.Views.{is_among, place_in, task_of}
-use Rattle.board.specs.Rule.{SeatFits, IsKeptBy, Owns, Stepper, by_seat, no_more, not_yet}
-use Rattle.board.specs.Steps.{Counted, are_ahead, are_of_one_run, both, is_prefix, longer, longer_places, may_join, precedes, spent_view, with_seat}
+use Rattle.board.specs.calls.Views.{is_among, place_in, task_of}
+use Rattle.board.specs.calls.Rule.{SeatFits, IsKeptBy, Owns, Stepper, by_seat, no_more, not_yet}
+use Rattle.board.specs.calls.Steps.{Counted, are_ahead, are_of_one_run, both, is_prefix, longer, longer_places, may_join, precedes, spent_view, with_seat}
 use Rattle.board.proofs.Seating.{GoesOnAs, as_before, seated_ends}
 use Rattle.board.proofs.Fitting.{seats_same}
 use Rattle.board.proofs.Acting.{sits}

@@ -4,13 +4,15 @@ use Rattle.std.specs.Prelude.{unwrap_or}
 use Rattle.std.proofs.lemmas.Bool.{cases_eq}
 use Rattle.armus_base.specs.declared.event.Event.{Event}
 use Rattle.armus_base.specs.Plans.{Aim, Action, Advances, Blocks, Drops, Forks, Makes, Passes, Plan, Refuses, Registers}
-use Rattle.armus_base.specs.States.{IsLegal, IsReachedBelow, State, Step, after}
-use Rattle.armus_base.specs.Runs.{IsByCode, IsPrefix, Place, moved, next_place}
+use Rattle.armus_base.specs.States.{IsLegal, State, Step, after}
+use Rattle.armus_base.specs.calls.States.{IsReachedBelow}
+use Rattle.armus_base.specs.Runs.{IsByCode, Place, moved, next_place}
+use Rattle.armus_base.specs.calls.Runs.{IsPrefix}
 use Rattle.armus_base.specs.Places.{published_after, state_at}
 use Rattle.armus_base.specs.CheckedPlans.{IsCheckedPlan}
 use Rattle.armus_base.specs.Avoidance.{Avoids}
-use Rattle.armus_base.specs.Boards.{Does, Entry, Frees, HasNoLock, IsLawful, MayDo, Takes, holder, steps_of}
-use Rattle.armus_base.specs.Seats.{HasLockWith, IsScanned, SeenBy, StillAgrees}
+use Rattle.armus_base.specs.calls.Boards.{Does, Entry, Frees, HasNoLock, IsLawful, MayDo, Takes, holder, steps_of}
+use Rattle.armus_base.specs.calls.Seats.{HasLockWith, IsScanned, SeenBy, StillAgrees}
 use Rattle.armus_base.proofs.Steps.{updated_other, updated_same}
 use Rattle.armus_base.proofs.Places.{next_later, precedes_itself, precedes_trans}
 use Rattle.armus_base.proofs.Members.{member_made, published_member}
@@ -21,9 +23,9 @@ use Rattle.armus_base.proofs.Reachable.{reachable_steps}
 use Rattle.board.specs.declared.mode.Mode.{Mode}
 use Rattle.board.specs.declared.mode.Mode.TheVariants.{Avoid, Detect}
 use Rattle.board.specs.declared.view.View.{View}
-use Rattle.board.specs.Views.{avoids, is_among, own_place, place_in, seen, task_of}
-use Rattle.board.specs.Rule.{SeatFits, Stepper, by_seat, no_more}
-use Rattle.board.specs.Steps.{after_action, scanned_next}
+use Rattle.board.specs.calls.Views.{avoids, is_among, own_place, place_in, seen, task_of}
+use Rattle.board.specs.calls.Rule.{SeatFits, Stepper, by_seat, no_more}
+use Rattle.board.specs.calls.Steps.{after_action, scanned_next}
 use Rattle.board.proofs.Sights.{set_place}
 
 -- an action that may come next on this board

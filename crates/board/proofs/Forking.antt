@@ -8,10 +8,11 @@ use Rattle.atomic_table.specs.Table.{Allows, Me, Splits, State as TableState, ke
 use Rattle.atomic_table.proofs.Lists.{at_last, at_set}
 use Rattle.armus_base.specs.Plans.{Aim, Action, Advances, Blocks, Drops, Forks, Makes, Passes, Plan, Refuses, Registers}
 use Rattle.armus_base.specs.States.{State, after, updated}
-use Rattle.armus_base.specs.Runs.{IsPrefix, Place, Precedes, first_place, moved, state_after}
+use Rattle.armus_base.specs.calls.Runs.{IsPrefix, Precedes}
+use Rattle.armus_base.specs.Runs.{Place, first_place, moved, state_after}
 use Rattle.armus_base.specs.Places.{done_by, forked_at, published_after, state_at}
 use Rattle.armus_base.specs.CheckedPlans.{IsCheckedPlan}
-use Rattle.armus_base.specs.Boards.{Does, Entry, Frees, IsLawful, IsLocked, Takes, holder, steps_of}
+use Rattle.armus_base.specs.calls.Boards.{Does, Entry, Frees, IsLawful, IsLocked, Takes, holder, steps_of}
 use Rattle.armus_base.proofs.Steps.{updated_other, updated_same}
 use Rattle.armus_base.proofs.Codes.{child_later, child_within}
 use Rattle.armus_base.proofs.Stepping.{unforked_idle, unforked_undropped}
@@ -20,10 +21,10 @@ use Rattle.armus_base.proofs.Reachable.{reachable_is_fixed}
 use Rattle.board.specs.declared.mode.Mode.{Mode}
 use Rattle.board.specs.declared.mode.Mode.TheVariants.{Avoid, Detect}
 use Rattle.board.specs.declared.view.View.{View}
-use Rattle.board.specs.Words.{IsShown}
-use Rattle.board.specs.Views.{avoids, is_among, next_action, place_in}
-use Rattle.board.specs.Rule.{SeatFits, IsKeptBy, Stepper, by_seat, no_more, not_yet}
-use Rattle.board.specs.Steps.{Unforked, another, child, forked_by, next_view, viewer}
+use Rattle.board.specs.calls.Words.{IsShown}
+use Rattle.board.specs.calls.Views.{avoids, is_among, next_action, place_in}
+use Rattle.board.specs.calls.Rule.{SeatFits, IsKeptBy, Stepper, by_seat, no_more, not_yet}
+use Rattle.board.specs.calls.Steps.{Unforked, another, child, child_forked, next_view, viewer}
 use Rattle.board.proofs.Seating.{as_before, both_go_on, one_comes, one_goes_on, seated_born, seated_stays}
 use Rattle.board.proofs.Showing.{shows_same}
 use Rattle.board.proofs.Fitting.{moved_other, none_scanned, other_fits, own_fits, state_next, step_lawful, unheld}
@@ -148,7 +149,7 @@ forks plan mode id v t c own live free next s l found =
     let mine : SeatFits plan mode a' l.lock l.steppers id (next_view v) =
     subst (SeatFits plan mode a' l.lock l.steppers id) (next_view_is v (Forks c) next)
     (own_fits plan mode l.places l.lock t (Forks c) l.checked l.lawful is_step l.steppers id v own si.fits) in
-    let is_c : forked_by (next_action v) ≡ c = ap forked_by next in
+    let is_c : child_forked (next_action v) ≡ c = ap child_forked next in
     let consistent = (reachable_is_fixed plan l.places l.checked (lawful_is_reachable (avoids mode) plan l.places l.lock l.lawful)).1 in
     let idle : a' c ≡ first_place =
     moved_other l.places t (Forks c) c (λ e. omega arith)
@@ -163,18 +164,18 @@ forks plan mode id v t c own live free next s l found =
       far = record {
         later = mine.far.later;
         equal = λ u w is.
-            let same : u ≡ c = one_among (forked_by (next_action v)) u is ∙ is_c in
+            let same : u ≡ c = one_among (child_forked (next_action v)) u is ∙ is_c in
             subst (λ x. a' x ≡ place_in (next_view v).sight.places x) (sym same)
             (idle ∙ sym (first_before (place_in (next_view v).sight.places c) (a' c) (mine.far.later c small) idle));
         scanned = λ u _. none_scanned (state_at plan a') (published_after plan u (place_in (next_view v).sight.places u).done);
       };
-      own = λ u e. let same : u ≡ c = some_same u (forked_by (next_action v)) (sym e) ∙ is_c in record {
+      own = λ u e. let same : u ≡ c = some_same u (child_forked (next_action v)) (sym e) ∙ is_c in record {
         within = subst (λ x. x < length plan.parents) (sym same) small;
-        exact = subst (λ x. is_among (forked_by (next_action v) ∷ []) x ≡ true) (some_same (forked_by (next_action v)) u e) (among_one (forked_by (next_action v)));
+        exact = subst (λ x. is_among (child_forked (next_action v) ∷ []) x ≡ true) (some_same (child_forked (next_action v)) u e) (among_one (child_forked (next_action v)));
         alone = updated_same l.steppers c u (by_seat k) same;
       };
-      exact = λ u is. inl (ap Some (sym (one_among (forked_by (next_action v)) u is)));
-      holding = λ u e. let same : u ≡ c = some_same u (forked_by (next_action v)) (sym e) ∙ is_c in record {
+      exact = λ u is. inl (ap Some (sym (one_among (child_forked (next_action v)) u is)));
+      holding = λ u e. let same : u ≡ c = some_same u (child_forked (next_action v)) (sym e) ∙ is_c in record {
         holds = λ has. absurd (false≢true has);
         held = λ lock. absurd (false≢true (sym is_step.legal.2 ∙ lock_forked plan mode l.places l.lock l.checked l.lawful c (lock ∙ ap Some same)));
       };

@@ -7,14 +7,14 @@ use Rattle.armus_base.specs.declared.event.Event.{Event}
 use Rattle.armus_base.specs.Plans.{Aim, Plan, Refuses}
 use Rattle.armus_base.specs.Runs.{Place, next_place}
 use Rattle.armus_base.specs.Places.{published_after}
-use Rattle.armus_base.specs.Seats.{AvoidsByWhatIsSeen}
+use Rattle.armus_base.specs.calls.Seats.{AvoidsByWhatIsSeen}
 use Rattle.board.specs.declared.mode.Mode.{Mode}
 use Rattle.board.specs.declared.view.View.{View}
-use Rattle.board.specs.Views.{action_after, avoids, next_action, own_place, place_in, seen, task_of}
-use Rattle.board.specs.Steps.{after_action}
-use Rattle.board.specs.Seats.{Frame, IsOf, IsSeat, Known, MakesStep, event_of}
+use Rattle.board.specs.calls.Views.{action_after, avoids, next_action, own_place, place_in, seen, task_of}
+use Rattle.board.specs.calls.Steps.{after_action}
+use Rattle.board.specs.calls.Seats.{Frame, IsOf, IsSeat, Known, MakesStep, event_of}
 use Rattle.board.specs.inside.Sitting.{IsSitting}
-use Rattle.board.specs.Locking.{FindsHeld, FreesLock, MayRefuse, MeetsHolder, with_lock}
+use Rattle.board.specs.calls.Locking.{FindsHeld, FreesLock, MayRefuse, MeetsHolder, with_lock}
 use Rattle.board.proofs.Sights.{seen_stepped}
 use Rattle.board.proofs.Seated.{event_here, place_next}
 
@@ -46,10 +46,6 @@ pub frees_lock :
     (table table' : TableId) (v w : View) → IsSeat (record { table = table; view = v }) → w ≡ with_lock false v → table' ≡ table →
     FreesLock (record { table = table; view = v }) (record { table = table'; view = w })
 frees_lock table table' v w seat is same = record { view = is; table = same; kept = locked_seat table table' v w false (λ has. absurd (false≢true has)) seat is }
-
-few_met : (table : TableId) (v w : View) (mode : Mode) (h : ℕ) → IsSeat (record { table = table; view = v }) → MeetsHolder v.plan mode h v w →
-    (seen w).scanned ≤ length v.plan.parents
-few_met table v w mode h seat m = subst (λ k. k ≤ length v.plan.parents) (sym m.seen_now.scanned) seat.few
 
 -- the place after a refusal
 refused_done : (k : ℕ) (o : Option ℕ) (aim : Aim) → (next_place k o (Refuses aim)).done ≡ k

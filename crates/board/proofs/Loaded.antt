@@ -10,13 +10,13 @@ use Rattle.armus_base.specs.States.{State}
 use Rattle.armus_base.specs.Runs.{Place}
 use Rattle.armus_base.specs.Places.{published_after}
 use Rattle.armus_base.specs.CheckedPlans.{IsCheckedPlan}
-use Rattle.armus_base.specs.Seats.{Found, is_not_behind, own_event, scanned_after}
+use Rattle.armus_base.specs.calls.Seats.{Found, is_not_behind, own_event, scanned_after}
 use Rattle.board.specs.declared.mode.Mode.{Mode}
 use Rattle.board.specs.declared.view.View.{View}
-use Rattle.board.specs.Words.{IsInRange, await_index, await_number, phase_index, phase_number}
-use Rattle.board.specs.Views.{avoids, seen}
-use Rattle.board.specs.Steps.{IsSameSeat, LoadsAwait, LoadsPhase, Looked, WasSo, Watched}
-use Rattle.board.specs.Seats.{AnswersAwait, AnswersPhase, Frame, IsOf, IsSeat, event_of}
+use Rattle.board.specs.calls.Words.{IsInRange, await_index, await_number, phase_index, phase_number}
+use Rattle.board.specs.calls.Views.{avoids, seen}
+use Rattle.board.specs.calls.Steps.{IsSameSeat, LoadsAwait, LoadsPhase, Looked, WasSo, Watched}
+use Rattle.board.specs.calls.Seats.{AnswersAwait, AnswersPhase, Frame, IsOf, IsSeat, event_of}
 use Rattle.board.specs.inside.Sitting.{IsSitting}
 
 -- a seat stays one after a load

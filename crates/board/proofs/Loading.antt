@@ -1,7 +1,7 @@
 -- A load keeps the rule, and teaches the longest place that all places with the loaded meaning have in common.
-use Rattle.std.proofs.Common.{◌≡◌, ◌≢◌, ℕ, zero, suc, ◌+◌, ◌^◌, ◌<◌, ◌≤◌, Bool, true, false, List, ◌∷◌, Option, Some, None, length, get_or, set, sym, refl, ap, ◌∙◌, subst, arith, inl, inr, ◌⊎◌, length-set, eqb-true, lt-ltb}
+use Rattle.std.proofs.Common.{◌≡◌, ◌≢◌, ℕ, zero, suc, ◌+◌, ◌^◌, ◌<◌, ◌≤◌, Bool, true, false, List, ◌∷◌, Option, Some, None, length, get_or, set, sym, refl, ap, ◌∙◌, subst, arith, inl, inr, ◌⊎◌, length-set, eqb-true}
 use Rattle.std.specs.Prelude.{if◌then◌else◌, ◌==◌, ◌&&◌}
-use Rattle.std.proofs.lemmas.Bool.{cases_eq, cases_lt, false≢true}
+use Rattle.std.proofs.lemmas.Bool.{cases_eq}
 use Rattle.std.proofs.lemmas.List.{set-get_or}
 use mathlib.Core.Option.{none, some}
 use lib.ListN.{get_elem?}
@@ -10,25 +10,27 @@ use Rattle.atomic_table.proofs.Lists.{at_set}
 use Rattle.armus_base.specs.Limits.{max_ops}
 use Rattle.armus_base.specs.declared.event.Event.{Event}
 use Rattle.armus_base.specs.Plans.{Plan}
-use Rattle.armus_base.specs.States.{IsReachedBelow, State}
-use Rattle.armus_base.specs.Runs.{IsPrefix, Place, Precedes, first_place}
-use Rattle.armus_base.specs.Places.{IsConsistent, done_by, forked_at, kept, phases_after, phases_at_place, published_after, refused_at, state_at}
-use Rattle.armus_base.specs.Seats.{Found, FoundIdle, IsLongestPrefix, IsPlaceOf, IsScanned, FoundRefused, StillAgrees, FoundWaiting, await_word, found_by, is_not_behind, own_event, scanned_after}
+use Rattle.armus_base.specs.States.{State}
+use Rattle.armus_base.specs.calls.Runs.{IsPrefix, Precedes}
+use Rattle.armus_base.specs.Runs.{Place, first_place}
+use Rattle.armus_base.specs.calls.Places.{IsConsistent, phases_at_place}
+use Rattle.armus_base.specs.Places.{done_by, forked_at, kept, phases_after, published_after, refused_at, state_at}
+use Rattle.armus_base.specs.calls.Seats.{Found, FoundIdle, IsLongestPrefix, IsPlaceOf, IsScanned, FoundRefused, StillAgrees, FoundWaiting, await_word, found_by, own_event, scanned_after}
 use Rattle.armus_base.proofs.Fixed.{phases_forked}
 use Rattle.armus_base.proofs.Steps.{updated_other, updated_same}
 use Rattle.armus_base.proofs.Published.{kept_is}
 use Rattle.armus_base.proofs.LawfulPlaces.{lawful_places_are_of}
-use Rattle.armus_base.proofs.KeepsFar.{prefixes_both}
+use Rattle.armus_base.proofs.KeepsFar.{prefixes_both, scan_goes}
 use Rattle.armus_base.proofs.BoardRuns.{lawful_is_reachable}
 use Rattle.armus_base.proofs.Reachable.{reachable_is_fixed}
 use Rattle.board.specs.declared.mode.Mode.{Mode}
 use Rattle.board.specs.declared.seen.Seen.{Seen}
 use Rattle.board.specs.declared.seen.Seen.TheVariants.{Idle, Refused, Waits}
 use Rattle.board.specs.declared.view.View.{View}
-use Rattle.board.specs.Words.{IsInRange, IsShown, await_index, await_number, found_in, phase_index, phase_number}
-use Rattle.board.specs.Views.{avoids, found_of, is_among, last_found, place_in, seen, task_of}
-use Rattle.board.specs.Rule.{SeatFits, IsKeptBy}
-use Rattle.board.specs.Steps.{LoadsAwait, LoadsPhase, Looked, Recalled, Watched}
+use Rattle.board.specs.calls.Words.{IsInRange, IsShown, await_index, await_number, found_in, phase_index, phase_number}
+use Rattle.board.specs.calls.Views.{avoids, found_of, is_among, last_found, place_in, seen, task_of}
+use Rattle.board.specs.calls.Rule.{SeatFits, IsKeptBy}
+use Rattle.board.specs.calls.Steps.{LoadsAwait, LoadsPhase, Looked, Recalled, Watched}
 use Rattle.board.proofs.Seating.{GoesOnAs, as_before, one_goes_on, seated_stays}
 use Rattle.board.proofs.Showing.{phases_apart}
 use Rattle.board.proofs.Sights.{set_place}
@@ -305,30 +307,6 @@ not_first a b later n is = n (by_parts a.done a.dropped refl refl (subst (λ (x 
         some_not : (k : ℕ) (o : Option ℕ) (d : ℕ) → o ≡ Some d → Precedes k o 0 None → ⊥
         some_not k None d e h = cc
         some_not k (Some c) d e h = h
-
--- a load of the awaited phaser's word of the task that is scanned next, where it is not behind
-scan_goes : (st : State) (o : Option Event) (k t p : ℕ) → IsScanned st k o → IsScanned st (scanned_after o k t p (st.phases t p)) o
-scan_goes st None k t p old = tt
-scan_goes st (Some e) k t p old = by_test (e.p.0 == p) (t == k) (is_not_behind (st.phases t p) e) refl refl refl
-  where
-    not_behind : (o : Option ℕ) (m : ℕ) → o ≡ Some m → is_not_behind o e ≡ true → e.n ≤ m
-    not_behind None m is h = absurd (cc)
-    not_behind (Some i) m is h = elim (cases_lt i e.n) [
-      | inl l ↦ absurd (false≢true (sym (ap (λ b. if b then false else true) (lt-ltb i e.n l)) ∙ h))
-      | inr l ↦ (let same : i ≡ m = (cc) in omega arith)
-    ]
-
-    by_test :
-        (x y z : Bool) → (e.p.0 == p) ≡ x → (t == k) ≡ y → is_not_behind (st.phases t p) e ≡ z → IsReachedBelow st (if x && y && z then suc k else k) e
-    by_test false y z a b c = old
-    by_test true false z a b c = old
-    by_test true true false a b c = old
-    by_test true true true a b c = λ u m lt h. elim (cases_eq u k) [
-      | inr n ↦ old u m (omega arith) h
-      | inl uk ↦
-          let same : st.phases t p ≡ Some m = ap (λ w. st.phases w p) (eqb-true t k b ∙ sym uk) ∙ ap (st.phases u) (sym (eqb-true e.p.0 p a)) ∙ h in
-          not_behind (st.phases t p) m same c
-    ]
 
 -- a phase stays so where a task was not yet refused
 undrops_phase : (avoids : Bool) (plan : Plan) (t p n : ℕ) (answer : Option ℕ) → answer ≡ Some n → (b : Place) → IsPlaceOf avoids plan t b →

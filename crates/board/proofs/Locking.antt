@@ -9,10 +9,11 @@ use Rattle.atomic_table.proofs.Lists.{at_set, exchanged}
 use Rattle.armus_base.specs.declared.event.Event.{Event}
 use Rattle.armus_base.specs.Plans.{Aim, Blocks, Plan}
 use Rattle.armus_base.specs.States.{IsActive, State}
-use Rattle.armus_base.specs.Runs.{IsAtAwait, Place}
+use Rattle.armus_base.specs.calls.Runs.{IsAtAwait}
+use Rattle.armus_base.specs.Runs.{Place}
 use Rattle.armus_base.specs.Places.{published_after, refused_at, state_at}
-use Rattle.armus_base.specs.Boards.{IsLawful}
-use Rattle.armus_base.specs.Seats.{IsAsFarOn, IsLongestPrefix, IsPlaceOf, IsScanned, MayHold, has_blocked, has_refused, stands_before}
+use Rattle.armus_base.specs.calls.Boards.{IsLawful}
+use Rattle.armus_base.specs.calls.Seats.{IsAsFarOn, IsLongestPrefix, IsPlaceOf, IsScanned, MayHold, has_blocked, has_refused, stands_before}
 use Rattle.armus_base.proofs.Published.{published_after_is}
 use Rattle.armus_base.proofs.Tasks.{action_of_task}
 use Rattle.armus_base.proofs.HolderMayHold.{holder_may_hold}
@@ -21,10 +22,10 @@ use Rattle.armus_base.proofs.BoardRuns.{freeing_is_lawful, lawful_is_reachable, 
 use Rattle.armus_base.proofs.Reachable.{reachable_is_fixed}
 use Rattle.board.specs.declared.mode.Mode.{Mode}
 use Rattle.board.specs.declared.view.View.{View}
-use Rattle.board.specs.Words.{IsShown, await_index, holder_number, phase_index}
-use Rattle.board.specs.Views.{avoids, next_action, seen, task_of}
-use Rattle.board.specs.Rule.{SeatFits, IsKeptBy, Stepper, by_seat}
-use Rattle.board.specs.Locking.{Freed, IsWithLock, MeetsHolder, Tried, with_lock}
+use Rattle.board.specs.calls.Words.{IsShown, await_index, holder_number, phase_index}
+use Rattle.board.specs.calls.Views.{avoids, next_action, seen, task_of}
+use Rattle.board.specs.calls.Rule.{SeatFits, IsKeptBy, Stepper, by_seat}
+use Rattle.board.specs.calls.Locking.{Freed, IsWithLock, MeetsHolder, Tried, with_lock}
 use Rattle.board.proofs.Seating.{one_goes_on, seated_stays}
 use Rattle.board.proofs.Fitting.{seats_same, unheld}
 use Rattle.board.proofs.Acting.{comes_next, not_held, nothing_published, sits}

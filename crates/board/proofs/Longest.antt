@@ -3,10 +3,11 @@ use Rattle.std.proofs.Common.{◌≡◌, ℕ, zero, suc, ◌<◌, ◌≤◌, Boo
 use Rattle.std.specs.Prelude.{if◌then◌else◌, is_some}
 use Rattle.std.proofs.lemmas.Bool.{cases_eq, cases_lt}
 use Rattle.armus_base.specs.Plans.{Aim, Action, Advances, Blocks, Drops, Forks, Makes, Passes, Plan, Refuses, Registers, action_at, actions}
-use Rattle.armus_base.specs.Runs.{IsAtAwait, IsPrefix, Place, Precedes}
+use Rattle.armus_base.specs.calls.Runs.{IsAtAwait, IsPrefix, Precedes}
+use Rattle.armus_base.specs.Runs.{Place}
 use Rattle.armus_base.specs.Places.{members_below, phases_after}
 use Rattle.armus_base.specs.States.{Phases}
-use Rattle.armus_base.specs.Seats.{IsLongestPrefix, IsPlaceOf}
+use Rattle.armus_base.specs.calls.Seats.{IsLongestPrefix, IsPlaceOf}
 use Rattle.armus_base.proofs.Places.{precedes_itself, precedes_trans}
 
 pub place_of : ℕ → Option ℕ → Place

@@ -3,10 +3,11 @@ use Rattle.std.proofs.Common.{◌≡◌, ℕ, zero, suc, ◌+◌, ◌-◌, ◌/�
 use Rattle.std.proofs.lemmas.Nat.{div-mul-add, mod-mul-add}
 use mathlib.Core.Option.{some, some-injective, some-ne-none}
 use lib.ListN.{get_elem?}
-use Rattle.armus_base.specs.Limits.{max_awaited, max_ops, max_phasers}
+use Rattle.armus_base.specs.calls.Limits.{max_awaited}
+use Rattle.armus_base.specs.Limits.{max_ops, max_phasers}
 use Rattle.armus_base.specs.declared.event.Event.{Event}
-use Rattle.armus_base.specs.Seats.{Found, FoundIdle, FoundRefused, FoundWaiting}
-use Rattle.board.specs.Words.{IsInRange, await_number, event_number, phase_number}
+use Rattle.armus_base.specs.calls.Seats.{Found, FoundIdle, FoundRefused, FoundWaiting}
+use Rattle.board.specs.calls.Words.{IsInRange, await_number, event_number, phase_number}
 
 -- the phaser and the phase of an event's number
 pub phaser_in : (e : Event) → e.n ≤ max_awaited → event_number e / 4294967296 ≡ e.p.0 + 1

@@ -10,19 +10,20 @@ use Rattle.armus_base.specs.Plans.{Aim, Action, Advances, Blocks, Drops, Forks, 
 use Rattle.armus_base.specs.Offsets.{target}
 use Rattle.armus_base.specs.States.{awaited, event_at, event_on, next_phase}
 use Rattle.armus_base.specs.Runs.{Place, first_place, next_place}
-use Rattle.armus_base.specs.Places.{kept, own_step, phases_after, phases_at_place, published_after}
+use Rattle.armus_base.specs.Places.{kept, own_step, phases_after, published_after}
+use Rattle.armus_base.specs.calls.Places.{phases_at_place}
 use Rattle.armus_base.specs.Limits.{max_ops}
 use Rattle.armus_base.specs.CheckedPlans.{IsWellFormed}
 use Rattle.armus_base.proofs.Published.{kept_is}
 use Rattle.armus_base.proofs.PhasesFit.{phases_fit}
-use Rattle.armus_base.specs.Seats.{AvoidsByWhatIsSeen, own_event, seen_by_child}
+use Rattle.armus_base.specs.calls.Seats.{AvoidsByWhatIsSeen, own_event, seen_by_child}
 use Rattle.armus_base.proofs.Steps.{updated_other, updated_same}
 use Rattle.armus_base.proofs.Codes.{child_later, child_within}
 use Rattle.board.specs.declared.view.View.{View}
-use Rattle.board.specs.Views.{avoids, is_among, next_action, own_place, place_in, seen, task_of}
-use Rattle.board.specs.Words.{phase_index}
-use Rattle.board.specs.Steps.{after_action, child, forked_by, next_view, own_phase, scanned_next}
-use Rattle.board.specs.Seats.{Frame, IsNewSeat, IsOf, IsSeat, Known, MakesStep, MayPublish, event_of}
+use Rattle.board.specs.calls.Views.{avoids, is_among, next_action, own_place, place_in, seen, task_of}
+use Rattle.board.specs.calls.Words.{phase_index}
+use Rattle.board.specs.calls.Steps.{after_action, child, child_forked, next_view, own_phase, scanned_next}
+use Rattle.board.specs.calls.Seats.{Frame, IsNewSeat, IsOf, IsSeat, Known, MakesStep, MayPublish, event_of}
 use Rattle.board.specs.inside.ByMembers.{IsByMember, NeedsMember}
 use Rattle.board.specs.inside.Sitting.{IsSitting}
 use Rattle.board.proofs.Sights.{seen_stepped, set_place}
@@ -344,7 +345,7 @@ pub child_seen : (v : View) (c : ℕ) → next_action v ≡ Some (Forks c) → s
 child_seen v c next =
     λ i. record {
       places = place_in (next_view v).sight.places;
-      exact = (ap (λ o. is_among (forked_by o ∷ [])) next ∙ exact_one c) i;
+      exact = (ap (λ o. is_among (child_forked o ∷ [])) next ∙ exact_one c) i;
       scanned = 0;
       found = λ _. None;
     }
@@ -355,7 +356,7 @@ pub child_new : (k : Known) (f : Frame) (table : TableId) (w : View) (c : ℕ) �
 child_new k f table w c of t next is seat =
     record {
       of_board = new_of k f table w of t (ap (λ (u : View). u.plan) is) (ap (λ (u : View). u.mode) is);
-      own_is = ap (λ (u : View). u.own) is ∙ ap (λ o. Some (forked_by o)) next;
+      own_is = ap (λ (u : View). u.own) is ∙ ap (λ o. Some (child_forked o)) next;
       seen_is = ap seen is ∙ child_seen k.view c next;
       free = ap (λ (u : View). u.holds) is;
       loads = ap (λ (u : View). u.loads) is;
@@ -380,7 +381,7 @@ child_place v c within next apart =
 pub child_first : (v w : View) (c : ℕ) → task_of v < length v.sight.places → next_action v ≡ Some (Forks c) → place_in v.sight.places c ≡ first_place →
     c ≢ task_of v → w ≡ child v → own_place w ≡ first_place
 child_first v w c within next unseen apart is =
-    ap own_place is ∙ ap (λ o. place_in (next_view v).sight.places (forked_by o)) next ∙ child_place v c within next apart ∙ unseen
+    ap own_place is ∙ ap (λ o. place_in (next_view v).sight.places (child_forked o)) next ∙ child_place v c within next apart ∙ unseen
 
 pub child_sitting : (table table' : TableId) (v w : View) (t n c : ℕ) (o : Option Event) → IsSitting t n o (record { table = table; view = v }) →
     next_action v ≡ Some (Forks c) → place_in v.sight.places c ≡ first_place → c ≢ task_of v →
@@ -388,7 +389,7 @@ pub child_sitting : (table table' : TableId) (v w : View) (t n c : ℕ) (o : Opt
 child_sitting table table' v w t n c o s next unseen apart is =
     subst (λ (u : View). IsSitting c 0 None (record { table = table'; view = u })) (sym is)
     (record {
-      task = ap (λ o. Some (forked_by o)) next;
+      task = ap (λ o. Some (child_forked o)) next;
       seat = child_seat;
       scanned_is = refl;
       event = sym no_event;
@@ -414,16 +415,16 @@ child_sitting table table' v w t n c o s next unseen apart is =
       count = (seat_next table table' v (next_view v) s.seat refl).count;
       few = omega arith;
       own = λ u e.
-          let same : c ≡ u = some_same c u (sym (ap (λ o. Some (forked_by o)) next) ∙ e) in (
+          let same : c ≡ u = some_same c u (sym (ap (λ o. Some (child_forked o)) next) ∙ e) in (
             subst (λ x. x < length v.plan.parents) same small,
-            subst (λ x. is_among (forked_by (next_action v) ∷ []) x ≡ true) (ap forked_by next ∙ same) (among_one (forked_by (next_action v))),
+            subst (λ x. is_among (child_forked (next_action v) ∷ []) x ≡ true) (ap child_forked next ∙ same) (among_one (child_forked (next_action v))),
           );
       lock = λ has. absurd (false≢true has);
     }
 
     no_event : event_of (record { table = table'; view = child v }) ≡ None
     no_event =
-        ap (λ o. published_after v.plan (forked_by o) (place_in (next_view v).sight.places (forked_by o)).done) next
+        ap (λ o. published_after v.plan (child_forked o) (place_in (next_view v).sight.places (child_forked o)).done) next
         ∙ ap (λ (b : Place). published_after v.plan c b.done) (child_place v c within next apart ∙ unseen)
 
 -- the event that is published

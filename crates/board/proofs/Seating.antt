@@ -10,8 +10,8 @@ use Rattle.armus_base.specs.Places.{done_by, forked_at}
 use Rattle.armus_base.specs.States.{updated}
 use Rattle.armus_base.proofs.Steps.{updated_other, updated_same}
 use Rattle.board.specs.declared.view.View.{View}
-use Rattle.board.specs.Views.{is_among}
-use Rattle.board.specs.Rule.{AreSeated, IsThere, Stepper, by_seat, no_more, not_yet}
+use Rattle.board.specs.calls.Views.{is_among}
+use Rattle.board.specs.calls.Rule.{AreSeated, IsThere, Stepper, by_seat, no_more, not_yet}
 
 -- it is the view of the same task's seat, or of the same viewer, and knows exactly what it knew exactly
 pub record GoesOnAs (v w : View) : Type 0 where

@@ -5,7 +5,7 @@ use Rattle.std.proofs.lemmas.Nat.{div-mul-add}
 use Rattle.std.proofs.lemmas.List.{length-replicate, get_or-replicate}
 use Rattle.armus_base.specs.Plans.{Plan}
 use Rattle.armus_base.specs.States.{State, opening}
-use Rattle.board.specs.Words.{IsShown, await_index, await_number, found_in, phase_index, phase_number, word_count}
+use Rattle.board.specs.calls.Words.{IsShown, await_index, await_number, found_in, phase_index, phase_number, word_count}
 
 pub rows_apart : (w t p u q : ℕ) → p < w → q < w → t * w + p ≡ u * w + q → (t ≡ u) × (p ≡ q)
 rows_apart w t p u q a b e =

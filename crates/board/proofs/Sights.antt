@@ -5,11 +5,11 @@ use Rattle.std.proofs.lemmas.Bool.{cases_eq}
 use Rattle.armus_base.specs.Plans.{Action, Advances, Blocks, Drops, Forks, Makes, Passes, Refuses, Registers}
 use Rattle.armus_base.specs.States.{updated}
 use Rattle.armus_base.specs.Runs.{Place, first_place, next_place}
-use Rattle.armus_base.specs.Seats.{seen_after_step}
+use Rattle.armus_base.specs.calls.Seats.{seen_after_step}
 use Rattle.armus_base.proofs.Steps.{updated_other, updated_same}
 use Rattle.board.specs.declared.view.View.{View}
-use Rattle.board.specs.Views.{own_place, place_in, seen, task_of}
-use Rattle.board.specs.Steps.{after_action}
+use Rattle.board.specs.calls.Views.{own_place, place_in, seen, task_of}
+use Rattle.board.specs.calls.Steps.{after_action}
 
 -- one place in a list of places
 pub set_place : (places : List Place) (t : ℕ) (a : Place) → t < length places → place_in (set places t a) ≡ updated (place_in places) t a

@@ -10,10 +10,11 @@ use Rattle.armus_base.specs.Plans.{Aim, Action, Advances, Blocks, Drops, Makes, 
 use Rattle.armus_base.specs.Offsets.{target}
 use Rattle.armus_base.specs.States.{State, after, awaited, event_at, event_on, next_phase, updated}
 use Rattle.armus_base.specs.Runs.{IsByCode, Place, next_place}
-use Rattle.armus_base.specs.Places.{phases_at_place, published_after, refused_at, state_at}
-use Rattle.armus_base.specs.Boards.{IsLawful, MayDo}
+use Rattle.armus_base.specs.calls.Places.{phases_at_place}
+use Rattle.armus_base.specs.Places.{published_after, refused_at, state_at}
+use Rattle.armus_base.specs.calls.Boards.{IsLawful, MayDo}
 use Rattle.armus_base.specs.Avoidance.{Avoids}
-use Rattle.armus_base.specs.Seats.{AvoidsByWhatIsSeen, FoundRefused, IsAsFarOn, found_by, own_event}
+use Rattle.armus_base.specs.calls.Seats.{AvoidsByWhatIsSeen, FoundRefused, IsAsFarOn, found_by, own_event}
 use Rattle.armus_base.proofs.Steps.{updated_other, updated_same, with_phase_other, with_phase_same}
 use Rattle.armus_base.proofs.Codes.{mapped_is}
 use Rattle.armus_base.proofs.Published.{published_passes, published_undropped}
@@ -22,11 +23,11 @@ use Rattle.armus_base.proofs.BoardRuns.{lawful_is_reachable}
 use Rattle.armus_base.proofs.AllScannedIsReached.{all_scanned_is_reached}
 use Rattle.board.specs.declared.mode.Mode.{Mode}
 use Rattle.board.specs.declared.view.View.{View}
-use Rattle.board.specs.Words.{IsShown, await_index, await_number, event_number, found_in, phase_index, phase_number}
-use Rattle.board.specs.Views.{action_after, avoids, next_action, own_place, place_in, seen, task_of}
-use Rattle.board.specs.Rule.{IsKeptBy}
-use Rattle.board.specs.Locking.{IsWithLock, Published, Refused}
-use Rattle.board.specs.Steps.{Acted, Withdrawn, after_action, next_view, own_phase}
+use Rattle.board.specs.calls.Words.{IsShown, await_index, await_number, event_number, found_in, phase_index, phase_number}
+use Rattle.board.specs.calls.Views.{action_after, avoids, next_action, own_place, place_in, seen, task_of}
+use Rattle.board.specs.calls.Rule.{IsKeptBy}
+use Rattle.board.specs.calls.Locking.{IsWithLock, Published, Refused}
+use Rattle.board.specs.calls.Steps.{Acted, Withdrawn, after_action, next_view, own_phase}
 use Rattle.board.proofs.Showing.{shows_await, shows_phase}
 use Rattle.board.proofs.Fitting.{IsStep}
 use Rattle.board.proofs.Acting.{Sits, acts_kept, avoids_else, by_code_so, comes_next, comes_so, may_do, nothing_published, next_view_is, not_held, own_phases_so, sits, steps_by_code}

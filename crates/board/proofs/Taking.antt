@@ -3,11 +3,11 @@ use Rattle.std.proofs.Common.{◌≡◌, ℕ, true, [], ◌∷◌, Option, Some,
 use Rattle.std.specs.Prelude.{◌&&◌, ◌||◌}
 use Rattle.atomic_table.specs.Seated.{TableId}
 use Rattle.armus_base.specs.Plans.{Plan}
-use Rattle.armus_base.specs.Seats.{IsSeenAfterTakingIn}
+use Rattle.armus_base.specs.calls.Seats.{IsSeenAfterTakingIn}
 use Rattle.board.specs.declared.view.View.{View}
-use Rattle.board.specs.Views.{is_among, place_in, seen, task_of}
-use Rattle.board.specs.Steps.{are_ahead, are_of_one_run, both, longer_places, may_join, with_seat}
-use Rattle.board.specs.Seats.{IsSeat, TakesIn}
+use Rattle.board.specs.calls.Views.{is_among, place_in, seen, task_of}
+use Rattle.board.specs.calls.Steps.{are_ahead, are_of_one_run, both, longer_places, may_join, with_seat}
+use Rattle.board.specs.calls.Seats.{IsSeat, TakesIn}
 use Rattle.board.proofs.Closing.{some_task}
 use Rattle.board.proofs.Ending.{ahead_at, among_last, both_true, longer_at, longer_count, longer_left, longer_right, was_joined}
 

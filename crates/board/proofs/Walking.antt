@@ -10,14 +10,14 @@ use Rattle.armus_base.specs.States.{Phases, State, awaited}
 use Rattle.armus_base.specs.Runs.{Place, first_place, next_place}
 use Rattle.armus_base.specs.Places.{phases_after, published_after}
 use Rattle.armus_base.specs.CheckedPlans.{IsCheckedPlan, IsWellFormed}
-use Rattle.armus_base.specs.Seats.{SeenBy, own_event, seen_after_step, seen_by_child}
+use Rattle.armus_base.specs.calls.Seats.{SeenBy, own_event, seen_after_step, seen_by_child}
 use Rattle.armus_base.proofs.Codes.{awaited_is, awaited_some, child_within, phaser_within}
 use Rattle.armus_base.proofs.Steps.{updated_same}
-use Rattle.board.specs.Views.{action_after, next_action, own_place, seen, task_of}
-use Rattle.board.specs.Seats.{Frame, aim_at, IsNewSeat, IsSeat, Known, MakesStep, event_of, nothing_seen}
+use Rattle.board.specs.calls.Views.{action_after, next_action, own_place, seen, task_of}
+use Rattle.board.specs.calls.Seats.{Frame, aim_at, IsNewSeat, IsSeat, Known, MakesStep, event_of, nothing_seen}
 use Rattle.board.specs.inside.Walking.{HasLeft, IsActionOfPlan, begins, left_of}
-use Rattle.board.specs.Steps.{IsSameSeat, WasSo}
-use Rattle.board.proofs.Ranges.{phaser_of_member}
+use Rattle.board.specs.calls.Steps.{IsSameSeat, WasSo}
+use Rattle.armus_base.proofs.MemberPhasers.{phaser_of_member}
 use Rattle.board.proofs.Loaded.{event_stays, own_stays}
 use Rattle.board.proofs.Seated.{event_here, next_there, not_awaited, place_made}
 

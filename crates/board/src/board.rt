@@ -2,12 +2,12 @@
 ghost use Rattle.std.specs.Prelude.{◌≡◌, ◌+◌, ◌*◌, ◌<◌, ◌≤◌, [], Some, None, replicate, length, IfOk};
 ghost use Rattle.armus_base.specs.CheckedPlans.{IsCheckedPlan};
 ghost use Rattle.armus_base.specs.Limits.{max_tasks, max_phasers};
-ghost use Rattle.armus_base.specs.Seats.{seen_by_child};
-ghost use Rattle.board.specs.Words.{await_index, phase_index, word_count};
-ghost use Rattle.board.specs.Views.{seen};
-ghost use Rattle.board.specs.Closing.{AreLastOf};
+ghost use Rattle.armus_base.specs.calls.Seats.{seen_by_child};
+ghost use Rattle.board.specs.calls.Words.{await_index, phase_index, word_count};
+ghost use Rattle.board.specs.calls.Views.{seen};
+ghost use Rattle.board.specs.calls.Closing.{AreLastOf};
 ghost use Rattle.board.specs.inside.FirstViews.{IsFirstView};
-ghost use Rattle.board.specs.Seats.{IsOf, IsNewSeat, nothing_seen};
+ghost use Rattle.board.specs.calls.Seats.{IsOf, IsNewSeat, nothing_seen};
 
 use crate::mode::{Mode, Setting};
 use crate::rule::{Cells, Place};
@@ -30,11 +30,11 @@ pub struct Board {
 }
 
 impl Model for Board {
-    ghost use Rattle.board.specs.Seats.{Frame};
+    ghost use Rattle.board.specs.calls.Seats.{Frame};
 
     ghost Value = { Frame };
 
-    ghost use Rattle.board.specs.Boarding.{frame_of};
+    ghost use Rattle.board.specs.calls.Boarding.{frame_of};
     ghost use Rattle.board.specs.inside.Boards.{IsBoard};
 
     ghost view = { frame_of };

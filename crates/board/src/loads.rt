@@ -1,7 +1,7 @@
 // Loads of any task's words, by the seat of a task or of a viewer.
 ghost use Rattle.std.specs.Prelude.{◌≡◌, ◌<◌, length};
-ghost use Rattle.board.specs.Seats.{Known, IsOf, AnswersAwait, AnswersPhase};
-ghost use Rattle.board.specs.Views.{found_of};
+ghost use Rattle.board.specs.calls.Seats.{Known, IsOf, AnswersAwait, AnswersPhase};
+ghost use Rattle.board.specs.calls.Views.{found_of};
 
 use crate::board::Board;
 use crate::seen::Seen;

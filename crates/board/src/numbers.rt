@@ -1,10 +1,11 @@
 // Events and phases as numbers in words.
 ghost use Rattle.std.specs.Prelude.{◌≡◌, ◌<◌, ◌≤◌, ◌^◌, ℕ, Option};
 ghost use Rattle.armus_base.specs.declared.event.Event.{Event as EventValue};
-ghost use Rattle.armus_base.specs.Seats.{Found, FoundRefused};
-ghost use Rattle.armus_base.specs.Limits.{max_awaited, max_phasers};
-ghost use Rattle.board.specs.Words.{event_number, await_number, phase_number, IsInRange};
-ghost use Rattle.board.specs.Views.{found_of};
+ghost use Rattle.armus_base.specs.calls.Seats.{Found, FoundRefused};
+ghost use Rattle.armus_base.specs.calls.Limits.{max_awaited};
+ghost use Rattle.armus_base.specs.Limits.{max_phasers};
+ghost use Rattle.board.specs.calls.Words.{event_number, await_number, phase_number, IsInRange};
+ghost use Rattle.board.specs.calls.Views.{found_of};
 
 use crate::seen::Seen;
 use armus_base::{Event, Phase, PhaserId};

@@ -6,7 +6,7 @@ use atomic_table::{Join, Play, Split};
 pub(crate) struct Acts;
 
 impl Play<(), View> for Acts {
-    ghost use Rattle.board.specs.Steps.{Acted};
+    ghost use Rattle.board.specs.calls.Steps.{Acted};
 
     ghost then = { Acted };
 }
@@ -15,7 +15,7 @@ impl Play<(), View> for Acts {
 pub(crate) struct Withdraws;
 
 impl Play<(), View> for Withdraws {
-    ghost use Rattle.board.specs.Steps.{Withdrawn};
+    ghost use Rattle.board.specs.calls.Steps.{Withdrawn};
 
     ghost then = { Withdrawn };
 }
@@ -24,7 +24,7 @@ impl Play<(), View> for Withdraws {
 pub(crate) struct Tries;
 
 impl Play<(), View> for Tries {
-    ghost use Rattle.board.specs.Locking.{Tried};
+    ghost use Rattle.board.specs.calls.Locking.{Tried};
 
     ghost then = { Tried };
 }
@@ -33,7 +33,7 @@ impl Play<(), View> for Tries {
 pub(crate) struct Frees;
 
 impl Play<(), View> for Frees {
-    ghost use Rattle.board.specs.Locking.{Freed};
+    ghost use Rattle.board.specs.calls.Locking.{Freed};
 
     ghost then = { Freed };
 }
@@ -42,7 +42,7 @@ impl Play<(), View> for Frees {
 pub(crate) struct Publishes;
 
 impl Play<(), View> for Publishes {
-    ghost use Rattle.board.specs.Locking.{Published};
+    ghost use Rattle.board.specs.calls.Locking.{Published};
 
     ghost then = { Published };
 }
@@ -51,7 +51,7 @@ impl Play<(), View> for Publishes {
 pub(crate) struct Refuses;
 
 impl Play<(), View> for Refuses {
-    ghost use Rattle.board.specs.Locking.{Refused};
+    ghost use Rattle.board.specs.calls.Locking.{Refused};
 
     ghost then = { Refused };
 }
@@ -60,7 +60,7 @@ impl Play<(), View> for Refuses {
 pub(crate) struct Recalls;
 
 impl Play<(), View> for Recalls {
-    ghost use Rattle.board.specs.Steps.{Recalled};
+    ghost use Rattle.board.specs.calls.Steps.{Recalled};
 
     ghost then = { Recalled };
 }
@@ -69,7 +69,7 @@ impl Play<(), View> for Recalls {
 pub(crate) struct Looks;
 
 impl Play<(), View> for Looks {
-    ghost use Rattle.board.specs.Steps.{Looked};
+    ghost use Rattle.board.specs.calls.Steps.{Looked};
 
     ghost then = { Looked };
 }
@@ -78,7 +78,7 @@ impl Play<(), View> for Looks {
 pub(crate) struct Watches;
 
 impl Play<(), View> for Watches {
-    ghost use Rattle.board.specs.Steps.{Watched};
+    ghost use Rattle.board.specs.calls.Steps.{Watched};
 
     ghost then = { Watched };
 }
@@ -87,7 +87,7 @@ impl Play<(), View> for Watches {
 pub(crate) struct Counts;
 
 impl Play<(), View> for Counts {
-    ghost use Rattle.board.specs.Steps.{Counted};
+    ghost use Rattle.board.specs.calls.Steps.{Counted};
 
     ghost then = { Counted };
 }
@@ -96,7 +96,7 @@ impl Play<(), View> for Counts {
 pub(crate) struct SeesUnforked;
 
 impl Play<(), View> for SeesUnforked {
-    ghost use Rattle.board.specs.Steps.{Unforked};
+    ghost use Rattle.board.specs.calls.Steps.{Unforked};
 
     ghost then = { Unforked };
 }
@@ -105,7 +105,7 @@ impl Play<(), View> for SeesUnforked {
 pub(crate) struct SplitsChild;
 
 impl Split<View> for SplitsChild {
-    ghost use Rattle.board.specs.Steps.{next_view, child};
+    ghost use Rattle.board.specs.calls.Steps.{next_view, child};
 
     ghost left = { next_view };
 
@@ -116,7 +116,7 @@ impl Split<View> for SplitsChild {
 pub(crate) struct Copies;
 
 impl Split<View> for Copies {
-    ghost use Rattle.board.specs.Steps.{another};
+    ghost use Rattle.board.specs.calls.Steps.{another};
 
     ghost left = { λ v. v };
 
@@ -127,7 +127,7 @@ impl Split<View> for Copies {
 pub(crate) struct Opens;
 
 impl Split<View> for Opens {
-    ghost use Rattle.board.specs.Steps.{viewer};
+    ghost use Rattle.board.specs.calls.Steps.{viewer};
 
     ghost left = { λ v. v };
 
@@ -138,7 +138,7 @@ impl Split<View> for Opens {
 pub(crate) struct JoinsSeat;
 
 impl Join<View> for JoinsSeat {
-    ghost use Rattle.board.specs.Steps.{both, spent_view};
+    ghost use Rattle.board.specs.calls.Steps.{both, spent_view};
 
     ghost both = { both };
 

@@ -8,7 +8,7 @@ use std::alloc::Global;
 pub struct Law;
 
 impl TableRule<(), View, Setting> for Law {
-    ghost use Rattle.board.specs.Rule.{IsKept, first_view};
+    ghost use Rattle.board.specs.calls.Rule.{IsKept, first_view};
 
     ghost holds = { IsKept };
 

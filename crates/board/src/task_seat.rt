@@ -3,15 +3,15 @@ ghost use Rattle.std.specs.Prelude.{◌≡◌, ◌+◌, ◌<◌, ◌≤◌, [], 
 ghost use Rattle.armus_base.specs.Limits.{max_tasks, max_ops};
 ghost use Rattle.armus_base.specs.Offsets.{target};
 ghost use Rattle.armus_base.specs.Plans.{Makes, Registers, Forks, Advances, Drops, Blocks, Refuses as RefusesAction};
-ghost use Rattle.armus_base.specs.Seats.{is_not_behind, seen_by_child, scanned_after};
+ghost use Rattle.armus_base.specs.calls.Seats.{is_not_behind, seen_by_child, scanned_after};
 ghost use Rattle.armus_base.specs.Runs.{first_place};
-ghost use Rattle.board.specs.Views.{avoids, found_of, next_action, own_place, seen, task_of};
-ghost use Rattle.board.specs.Rule.{first_view};
-ghost use Rattle.board.specs.Steps.{own_phase, viewer};
-ghost use Rattle.board.specs.Seats.{Known, IsOf, IsSeat, IsNewSeat, MakesStep, MayPublish, MayDrop, MakesPass, AnswersAwait, AnswersPhase, aim_at, event_of, nothing_seen};
+ghost use Rattle.board.specs.calls.Views.{avoids, found_of, next_action, own_place, seen, task_of};
+ghost use Rattle.board.specs.calls.Rule.{first_view};
+ghost use Rattle.board.specs.calls.Steps.{own_phase, viewer};
+ghost use Rattle.board.specs.calls.Seats.{Known, IsOf, IsSeat, IsNewSeat, MakesStep, MayPublish, MayDrop, MakesPass, AnswersAwait, AnswersPhase, aim_at, event_of, nothing_seen};
 ghost use Rattle.board.specs.inside.ByMembers.{NeedsMember};
 ghost use Rattle.board.specs.inside.FirstViews.{IsFirstView};
-ghost use Rattle.board.specs.Locking.{FindsHeld, FreesLock, IsWithLock, MayRefuse, IsBeforeAwait, TakesLock};
+ghost use Rattle.board.specs.calls.Locking.{FindsHeld, FreesLock, IsWithLock, MayRefuse, IsBeforeAwait, TakesLock};
 
 use crate::board::Board;
 use crate::busy::Busy;
@@ -36,11 +36,11 @@ pub struct TaskSeat {
 }
 
 impl Model for TaskSeat {
-    ghost use Rattle.board.specs.Seats.{Known};
+    ghost use Rattle.board.specs.calls.Seats.{Known};
 
     ghost Value = { Known };
 
-    ghost use Rattle.board.specs.Sitting.{known_of};
+    ghost use Rattle.board.specs.calls.Sitting.{known_of};
     ghost use Rattle.board.specs.inside.Sitting.{Sits};
 
     ghost view = { known_of };

@@ -1,7 +1,7 @@
 // The seat of a viewer.
 ghost use Rattle.std.specs.Prelude.{◌≡◌, ◌<◌, [], None, false, length, IfOk, IsOk};
-ghost use Rattle.board.specs.Views.{found_of, seen};
-ghost use Rattle.board.specs.Seats.{Known, IsOf, IsSeat, IsNewSeat, AnswersAwait, AnswersPhase, TakesIn};
+ghost use Rattle.board.specs.calls.Views.{found_of, seen};
+ghost use Rattle.board.specs.calls.Seats.{Known, IsOf, IsSeat, IsNewSeat, AnswersAwait, AnswersPhase, TakesIn};
 
 use crate::board::Board;
 use crate::numbers::{phase_of, seen_of};
@@ -20,11 +20,11 @@ pub struct ViewSeat {
 }
 
 impl Model for ViewSeat {
-    ghost use Rattle.board.specs.Seats.{Known};
+    ghost use Rattle.board.specs.calls.Seats.{Known};
 
     ghost Value = { Known };
 
-    ghost use Rattle.board.specs.Viewing.{known_of};
+    ghost use Rattle.board.specs.calls.Viewing.{known_of};
     ghost use Rattle.board.specs.inside.Viewing.{Views};
 
     ghost view = { known_of };

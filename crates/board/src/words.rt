@@ -3,9 +3,9 @@ ghost use Rattle.std.specs.Prelude.{◌≡◌, ◌<◌, length, slice_index};
 ghost use Rattle.std.specs.Mem.Slots.{slots_items, slots_len, IsFull};
 ghost use Rattle.armus_base.specs.CheckedPlans.{IsCheckedPlan};
 ghost use Rattle.armus_base.specs.Places.{state_at};
-ghost use Rattle.board.specs.Words.{await_index, await_number, found_in, phase_index, phase_number, word_count};
-ghost use Rattle.board.specs.Views.{found_of};
-ghost use Rattle.board.specs.Closing.{AreLawful};
+ghost use Rattle.board.specs.calls.Words.{await_index, await_number, found_in, phase_index, phase_number, word_count};
+ghost use Rattle.board.specs.calls.Views.{found_of};
+ghost use Rattle.board.specs.calls.Closing.{AreLawful};
 
 use crate::mode::Setting;
 use crate::numbers::{phase_of, seen_of};
@@ -24,12 +24,12 @@ pub struct Words {
 }
 
 impl Model for Words {
-    ghost use Rattle.board.specs.Ended.{Ended, ended_of};
+    ghost use Rattle.board.specs.calls.Ended.{Ended, ended_value};
     ghost use Rattle.board.specs.inside.EndedBoards.{IsEndedBoard};
 
     ghost Value = { Ended };
 
-    ghost view = { ended_of };
+    ghost view = { ended_value };
 
     ghost invariant = { IsEndedBoard };
 }

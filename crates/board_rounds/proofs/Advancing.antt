@@ -7,10 +7,10 @@ use Rattle.armus_base.specs.Plans.{Action, Advances, Blocks, Drops, Forks, Makes
 use Rattle.armus_base.specs.Runs.{Place, next_place}
 use Rattle.armus_base.specs.CheckedPlans.{IsCheckedPlan}
 use Rattle.armus_base.proofs.Elements.{Contains-head, Contains-tail}
-use Rattle.board.specs.Views.{own_place, task_of}
-use Rattle.board.specs.Seats.{Frame}
-use Rattle.board_rounds.specs.Turns.{Acts, EachActs, LeadsByCode, Working, no_task, one_task}
-use Rattle.board_rounds.specs.Crews.{IsCrewOf, all_steps, number, progress_of, sum_below}
+use Rattle.board.specs.calls.Views.{own_place, task_of}
+use Rattle.board.specs.calls.Seats.{Frame}
+use Rattle.board_rounds.specs.calls.Turns.{Acts, EachActs, LeadsByCode, Working, no_task, one_task}
+use Rattle.board_rounds.specs.calls.TaskSeats.{AreTaskSeatsOf, all_steps, number, progress_of, sum_below}
 use Rattle.board_rounds.specs.inside.Rounds.{emptied}
 use Rattle.board_rounds.proofs.Apart.{differ_sum, sum_over}
 use Rattle.board_rounds.proofs.Between.{from_map}
@@ -129,25 +129,21 @@ ones : (ws : List Working) → sum_by (λ (w : Working). 1) ws ≡ length ws
 ones [] = refl
 ones (w ∷ ws) = (let x = sum_by-cons (λ (v : Working). 1) w ws in let r = ones ws in omega arith)
 
-ones_below : (n : ℕ) → sum_below (λ t. 1) n ≡ n
-ones_below zero = refl
-ones_below (suc n) = (let r = ones_below n in omega arith)
-
 at_most_one : (o : Option ℕ) → (if is_some o then 1 else 0) ≤ 1
 at_most_one None = omega arith
 at_most_one (Some d) = omega arith
 
-module _ (f : Frame) (checked : IsCheckedPlan f.plan) (ws : List Working) (whole : IsCrewOf f ws) where
+module _ (f : Frame) (checked : IsCheckedPlan f.plan) (ws : List Working) (whole : AreTaskSeatsOf f ws) where
   number_within : (t : ℕ) → Contains (map number ws) t → t < length f.plan.parents
   number_within t i =
       let r = from_map number ws t i in
-      let s = whole.crew.each r.0.seat (r.0, r.1, refl) in
+      let s = whole.board_tasks.each r.0.seat (r.0, r.1, refl) in
       subst (λ u. u < length f.plan.parents) (sym (task_is r.0.seat s.task s.own) ∙ r.2)
       (subst (λ (q : Plan). s.task < length q.parents) s.of_board.plan (s.kept.own s.task s.own).0)
 
   step_bound : (w : Working) → Contains ws w → progress_of w ≤ length (actions f.plan (number w)) + 1
   step_bound w i =
-      let s = whole.crew.each w.seat (w, i, refl) in
+      let s = whole.board_tasks.each w.seat (w, i, refl) in
       let l = s.within in
       let m = at_most_one (own_place w.seat.view).dropped in
       omega arith

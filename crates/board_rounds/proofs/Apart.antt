@@ -1,4 +1,4 @@
--- No two tasks of a crew are one: whoever is forked in a round has no seat before it.
+-- No two tasks of a board_tasks are one: whoever is forked in a round has no seat before it.
 use Rattle.std.proofs.Common.{◌≡◌, ℕ, zero, suc, ◌<◌, ◌≤◌, ◌+◌, List, [], ◌∷◌, ◌++◌, Option, Some, None, map, sym, refl, ap, ◌∙◌, subst, arith, inl, inr, ◌⊎◌}
 use Rattle.std.specs.Prelude.{Contains, unwrap_or}
 use Rattle.std.proofs.lemmas.List.Elements.{Contains-append_cases, Contains-append_left}
@@ -10,14 +10,14 @@ use Rattle.armus_base.specs.Runs.{IsByCode, Place, next_place}
 use Rattle.armus_base.specs.CheckedPlans.{IsCheckedPlan}
 use Rattle.armus_base.proofs.Elements.{Contains-cons_cases, Contains-head, Contains-tail, nothing_in_nil}
 use Rattle.armus_base.proofs.Codes.{child_later, parent_is}
-use Rattle.board.specs.Views.{own_place, task_of}
-use Rattle.board.specs.Seats.{Frame, Known}
-use Rattle.board_rounds.specs.Turns.{Acts, AreChildSeats, EachActs, LeadsByCode, Working, tasks_forked, no_child, no_task, one_child, one_task}
-use Rattle.board_rounds.specs.Crews.{IsForkedWithin, done_of, number, sum_below}
+use Rattle.board.specs.calls.Views.{own_place, task_of}
+use Rattle.board.specs.calls.Seats.{Frame, Known}
+use Rattle.board_rounds.specs.calls.Turns.{Acts, AreChildSeats, EachActs, LeadsByCode, Working, tasks_forked, no_child, no_task, one_child, one_task}
+use Rattle.board_rounds.specs.calls.TaskSeats.{IsForkedWithin, done_of, number, sum_below}
 use Rattle.board_rounds.specs.inside.Rounds.{emptied, fresh, fresh_of}
 use Rattle.board_rounds.proofs.Goings.{same_task}
 use Rattle.board_rounds.proofs.Between.{from_fresh, from_map, in_map}
-use Rattle.board_rounds.proofs.Crewing.{became, step_done, was}
+use Rattle.board_rounds.proofs.TaskSeatsKept.{became, step_done, was}
 use Rattle.std.specs.List.{flat_map}
 
 -- these numbers differ pairwise

@@ -4,25 +4,26 @@ use Rattle.std.proofs.lemmas.Bool.{cases_eq}
 use Rattle.armus_base.specs.declared.event.Event.{Event}
 use Rattle.armus_base.specs.declared.status.Status.{Status}
 use Rattle.armus_base.specs.Plans.{Aim, Action, Blocks, Plan, Refuses, action_at}
-use Rattle.armus_base.specs.Runs.{IsByCode, IsPrefix, Place, next_place}
+use Rattle.armus_base.specs.Runs.{IsByCode, Place, next_place}
+use Rattle.armus_base.specs.calls.Runs.{IsPrefix}
 use Rattle.armus_base.specs.Places.{kept, members_below, phases_after}
-use Rattle.armus_base.specs.Boards.{IsLawful}
-use Rattle.armus_base.specs.Seats.{MayHold}
+use Rattle.armus_base.specs.calls.Boards.{IsLawful}
+use Rattle.armus_base.specs.calls.Seats.{MayHold}
 use Rattle.armus_base.specs.States.{Phases}
 use Rattle.armus_base.proofs.Places.{precedes_itself}
 use Rattle.board.specs.declared.view.View.{View}
-use Rattle.board.specs.Views.{avoids, next_action, own_place, seen, task_of}
-use Rattle.board.specs.Steps.{own_phase}
-use Rattle.board.specs.Locking.{FindsHeld, FreesLock, TakesLock}
-use Rattle.board.specs.Seats.{IsSeat, Known}
+use Rattle.board.specs.calls.Views.{avoids, next_action, own_place, seen, task_of}
+use Rattle.board.specs.calls.Steps.{own_phase}
+use Rattle.board.specs.calls.Locking.{FindsHeld, FreesLock, TakesLock}
+use Rattle.board.specs.calls.Seats.{IsSeat, Known}
 use Rattle.board.proofs.Seated.{next_there}
-use Rattle.phase_scan.specs.Looks.{LoadsAlone}
+use Rattle.phase_scan.specs.calls.Looks.{LoadsAlone}
 use Rattle.phase_scan.proofs.Columns.{column_goes}
 use Rattle.phase_scan.proofs.Loads.{goes_both, longest_later}
 use Rattle.phase_scan.proofs.Supposes.{own_phase_stays}
 use Rattle.verdict.specs.declared.found.Cycle.{Cycle}
-use Rattle.avoider.specs.OnBoard.{HasPublished, HasRefused, IsUndecided, Judges}
-use Rattle.board_rounds.specs.Turns.{EndsTurn, Goes, LeadsByCode, is_locked_out}
+use Rattle.avoider.specs.calls.OnBoard.{HasPublished, HasRefused, IsUndecided, Judges}
+use Rattle.board_rounds.specs.calls.Turns.{EndsTurn, Goes, LeadsByCode, is_locked_out}
 use Rattle.board_rounds.specs.inside.Attempts.{IsRefusedAt, drops_below}
 use Rattle.board_rounds.proofs.Goings.{goes_loads, goes_made, goes_on, goes_step, goes_then, next_still, own_stays, same_task, stepped_place, task_is}
 use Rattle.board_rounds.proofs.Leaving.{drops_go, has_left_all}

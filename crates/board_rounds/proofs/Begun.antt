@@ -6,13 +6,13 @@ use Rattle.armus_base.specs.Plans.{Action, Advances, Blocks, Drops, Forks, Makes
 use Rattle.armus_base.specs.Places.{phases_after, published_after}
 use Rattle.armus_base.specs.Runs.{Place, next_place}
 use Rattle.armus_base.specs.States.{Phases, awaited}
-use Rattle.board.specs.Views.{next_action, own_place, task_of}
-use Rattle.board.specs.Seats.{Known, aim_at}
+use Rattle.board.specs.calls.Views.{next_action, own_place, task_of}
+use Rattle.board.specs.calls.Seats.{Known, aim_at}
 use Rattle.board.specs.inside.Walking.{HasLeft, begins, left_of}
 use Rattle.armus_base.proofs.Codes.{awaited_is, awaited_some}
 use Rattle.board.proofs.Seated.{event_here, next_there, place_made}
 use Rattle.board.proofs.Walking.{HasStepped, IsBefore, before_next, left_published, left_then, place_undropped, rest_left}
-use Rattle.board_rounds.specs.Turns.{Goes}
+use Rattle.board_rounds.specs.calls.Turns.{Goes}
 use Rattle.board_rounds.proofs.Goings.{same_task}
 
 module _ (op : Op) (rest : List Op) (k m : Known) (b : IsBefore op rest k) (goes : Goes (begins op ∷ []) k m) where

@@ -1,4 +1,4 @@
--- The crew from round to round.
+-- The board_tasks from round to round.
 use Rattle.std.proofs.Common.{◌≡◌, ℕ, zero, suc, List, [], ◌∷◌, ◌++◌, Some, length, map, take, get_or, sym, refl, ap, ◌∙◌, subst, arith, inl, inr, ◌⊎◌, eqb-true}
 use Rattle.std.specs.List.{flat_map}
 use Rattle.std.specs.Prelude.{All, Contains, sum_by}
@@ -6,24 +6,24 @@ use Rattle.std.proofs.lemmas.List.Elements.{Contains-append_cases, Contains-appe
 use Rattle.std.proofs.lemmas.List.Sums.{sum_by-cons}
 use Rattle.armus_base.proofs.Elements.{Contains-cons_cases, Contains-head, Contains-tail, nothing_in_nil}
 use Rattle.armus_base.specs.Plans.{Action}
-use Rattle.board.specs.Views.{own_place}
+use Rattle.board.specs.calls.Views.{own_place}
 use Rattle.armus_base.specs.Runs.{Place}
-use Rattle.armus_base.specs.Seats.{SeenBy, seen_by_child}
-use Rattle.board.specs.Seats.{Frame, IsNewSeat, Known, nothing_seen}
+use Rattle.armus_base.specs.calls.Seats.{SeenBy, seen_by_child}
+use Rattle.board.specs.calls.Seats.{Frame, IsNewSeat, Known, nothing_seen}
 use Rattle.board.proofs.Walking.{new_first}
-use Rattle.board_rounds.specs.Turns.{Acts, AreChildSeats, EachActs, HasEndedTurn, MayTakeTurn, Working, no_task, one_task}
-use Rattle.board_rounds.proofs.Crewing.{crew_after, starts}
+use Rattle.board_rounds.specs.calls.Turns.{Acts, AreChildSeats, EachActs, HasEndedTurn, MayTakeTurn, Working, no_task, one_task}
+use Rattle.board_rounds.proofs.TaskSeatsKept.{task_seats_after, starts}
 use Rattle.board_rounds.proofs.Emptying.{contains_at}
-use Rattle.board_rounds.specs.Crews.{IsCrew, IsCrewSeat, IsSeatIn}
+use Rattle.board_rounds.specs.calls.TaskSeats.{AreTaskSeats, IsTaskSeat, IsSeatIn}
 use Rattle.board_rounds.specs.inside.Rounds.{IsAtStart, IsChildIn, emptied, fresh, fresh_of}
 
--- a crew by other words
-pub crew_same : (f : Frame) (P Q : Known → Type 0) → ((k : Known) → P k → Q k) → ((k : Known) → Q k → P k) → IsCrew f P → IsCrew f Q
-crew_same f P Q to from crew =
+-- a board_tasks by other words
+pub task_seats_same : (f : Frame) (P Q : Known → Type 0) → ((k : Known) → P k → Q k) → ((k : Known) → Q k → P k) → AreTaskSeats f P → AreTaskSeats f Q
+task_seats_same f P Q to from board_tasks =
     record {
-      each = λ k q. crew.each k (from k q);
-      root = (crew.root.0, to crew.root.0 crew.root.1, crew.root.2);
-      forked = λ k q j c l is. let r = crew.forked k (from k q) j c l is in (r.0, to r.0 r.1, r.2);
+      each = λ k q. board_tasks.each k (from k q);
+      root = (board_tasks.root.0, to board_tasks.root.0 board_tasks.root.1, board_tasks.root.2);
+      forked = λ k q j c l is. let r = board_tasks.forked k (from k q) j c l is in (r.0, to r.0 r.1, r.2);
     }
 
 pub in_map : {X Y : Type 0} (g : X → Y) (xs : List X) (x : X) → Contains xs x → Contains (map g xs) (g x)
@@ -107,12 +107,12 @@ take_front [] rest n e = ap (λ k. take k rest) e
 take_front (w ∷ ws) rest zero e = absurd (omega arith)
 take_front (w ∷ ws) rest (suc n) e = ap (λ vs. w ∷ vs) (take_front ws rest n (omega arith))
 
--- each task of a crew may take its turn
-pub crew_ready : (f : Frame) (ws : List Working) → IsCrew f (IsSeatIn ws) → All (MayTakeTurn f) ws
-crew_ready f ws crew = all_from (MayTakeTurn f) ws (λ w i. let s = crew.each w.seat (w, i, refl) in record { of_board = s.of_board; kept = s.kept; free = s.free })
+-- each task of a board_tasks may take its turn
+pub task_seats_ready : (f : Frame) (ws : List Working) → AreTaskSeats f (IsSeatIn ws) → All (MayTakeTurn f) ws
+task_seats_ready f ws board_tasks = all_from (MayTakeTurn f) ws (λ w i. let s = board_tasks.each w.seat (w, i, refl) in record { of_board = s.of_board; kept = s.kept; free = s.free })
 
 -- a whole round: the turns, and then the children are taken on
-module _ (f : Frame) (owns : List (List Action)) (olds news : List Working) (each : EachActs f owns olds news) (crew : IsCrew f (IsSeatIn olds)) (none : All (λ (w : Working). w.children ≡ []) olds) where
+module _ (f : Frame) (owns : List (List Action)) (olds news : List Working) (each : EachActs f owns olds news) (board_tasks : AreTaskSeats f (IsSeatIn olds)) (none : All (λ (w : Working). w.children ≡ []) olds) where
   each_none : (w : Working) → Contains olds w → w.children ≡ []
   each_none = to_each (λ (w : Working). w.children ≡ []) olds none
 
@@ -122,13 +122,13 @@ module _ (f : Frame) (owns : List (List Action)) (olds news : List Working) (eac
   abbrev next : List Working
   next = map emptied news ++ flat_map fresh_of news
 
-  pub then_crew : IsCrew f (IsSeatIn next)
-  then_crew =
-      crew_same f (λ k. (IsSeatIn news k ⊎ IsChildIn news k) ⊎ ⊥) (IsSeatIn next)
+  pub then_task_seats : AreTaskSeats f (IsSeatIn next)
+  then_task_seats =
+      task_seats_same f (λ k. (IsSeatIn news k ⊎ IsChildIn news k) ⊎ ⊥) (IsSeatIn next)
       (λ k p. elim p [ inl at ↦ taken_on news k at | inr no_way ↦ absurd no_way ])
       (λ k q. inl (taken_from news k q))
-      (crew_after f owns olds news (λ k. ⊥) each each_none
-      (crew_same f (IsSeatIn olds) (λ k. IsSeatIn olds k ⊎ ⊥) (λ k p. inl p) (λ k q. elim q [ inl p ↦ p | inr no_way ↦ absurd no_way ]) crew))
+      (task_seats_after f owns olds news (λ k. ⊥) each each_none
+      (task_seats_same f (IsSeatIn olds) (λ k. IsSeatIn olds k ⊎ ⊥) (λ k p. inl p) (λ k q. elim q [ inl p ↦ p | inr no_way ↦ absurd no_way ]) board_tasks))
 
   pub then_none : All (λ (w : Working). w.children ≡ []) next
   then_none = all_from (λ (w : Working). w.children ≡ []) next (none_left news)
@@ -140,11 +140,11 @@ module _ (f : Frame) (owns : List (List Action)) (olds news : List Working) (eac
     | inr child ↦ absurd (nothing_in_nil k (subst (λ ks. Contains ks k) (quiet each still each_none child.0 child.1) child.2))
   ]
 
--- task 0 alone is a crew
-pub first_crew : (f : Frame) (w : Working) → IsNewSeat f (Some 0) (seen_by_child 0 nothing_seen) w.seat → IsCrew f (IsSeatIn (w ∷ []))
-first_crew f w new =
+-- task 0 alone is a board_tasks
+pub first_task_seats : (f : Frame) (w : Working) → IsNewSeat f (Some 0) (seen_by_child 0 nothing_seen) w.seat → AreTaskSeats f (IsSeatIn (w ∷ []))
+first_task_seats f w new =
     record {
-      each = λ k at. subst (IsCrewSeat f) (sym (only k at)) (record {
+      each = λ k at. subst (IsTaskSeat f) (sym (only k at)) (record {
         of_board = new.of_board;
         kept = new.kept;
         free = new.free;
@@ -163,13 +163,13 @@ first_crew f w new =
       | inr there ↦ absurd (nothing_in_nil at.0 there)
     ]
 
--- the crew by its seats alone
+-- the board_tasks by its seats alone
 pub seat_there : (ws : List Working) (k : Known) → IsSeatIn ws k → Contains (map (λ (w : Working). w.seat) ws) k
 seat_there ws k at = subst (λ z. Contains (map (λ (w : Working). w.seat) ws) z) (sym at.2) (in_map (λ (w : Working). w.seat) ws at.0 at.1)
 
 pub seat_from : (ws : List Working) (k : Known) → Contains (map (λ (w : Working). w.seat) ws) k → IsSeatIn ws k
 seat_from ws k i = let r = from_map (λ (w : Working). w.seat) ws k i in (r.0, r.1, sym r.2)
 
-pub seats_crew : (f : Frame) (ws : List Working) (ks : List Known) → ks ≡ map (λ (w : Working). w.seat) ws → IsCrew f (IsSeatIn ws) → IsCrew f (λ k. Contains ks k)
-seats_crew f ws ks is crew =
-    crew_same f (IsSeatIn ws) (λ k. Contains ks k) (λ k p. subst (λ zs. Contains zs k) (sym is) (seat_there ws k p)) (λ k q. seat_from ws k (subst (λ zs. Contains zs k) is q)) crew
+pub seats_of_tasks : (f : Frame) (ws : List Working) (ks : List Known) → ks ≡ map (λ (w : Working). w.seat) ws → AreTaskSeats f (IsSeatIn ws) → AreTaskSeats f (λ k. Contains ks k)
+seats_of_tasks f ws ks is board_tasks =
+    task_seats_same f (IsSeatIn ws) (λ k. Contains ks k) (λ k p. subst (λ zs. Contains zs k) (sym is) (seat_there ws k p)) (λ k q. seat_from ws k (subst (λ zs. Contains zs k) is q)) board_tasks

@@ -2,19 +2,21 @@
 use Rattle.std.proofs.Common.{◌≡◌, ℕ, zero, suc, ◌<◌, ◌≤◌, true, Option, Some, None, length, sym, ap, subst, arith, inl, inr}
 use Rattle.std.proofs.lemmas.Bool.{cases_eq, cases_lt}
 use Rattle.armus_base.specs.Plans.{Plan, parent_of}
-use Rattle.armus_base.specs.Runs.{Place, Precedes, first_place}
-use Rattle.armus_base.specs.Places.{IsConsistent, done_by, forked_at}
+use Rattle.armus_base.specs.Runs.{Place, first_place}
+use Rattle.armus_base.specs.calls.Runs.{Precedes}
+use Rattle.armus_base.specs.calls.Places.{IsConsistent}
+use Rattle.armus_base.specs.Places.{done_by, forked_at}
 use Rattle.armus_base.specs.CheckedPlans.{IsCheckedPlan}
-use Rattle.armus_base.specs.Boards.{IsLawful}
-use Rattle.armus_base.specs.Seats.{IsAsFarOn, SeenBy}
+use Rattle.armus_base.specs.calls.Boards.{IsLawful}
+use Rattle.armus_base.specs.calls.Seats.{IsAsFarOn, SeenBy}
 use Rattle.armus_base.proofs.Fixed.{forked_at_is, forked_later}
 use Rattle.armus_base.proofs.BoardRuns.{lawful_is_reachable}
 use Rattle.armus_base.proofs.Reachable.{reachable_is_fixed}
 use Rattle.board.specs.declared.mode.Mode.{Mode}
-use Rattle.board.specs.Views.{avoids}
-use Rattle.board.specs.Closing.{AreAllExact}
+use Rattle.board.specs.calls.Views.{avoids}
+use Rattle.board.specs.calls.Closing.{AreAllExact}
 use Rattle.board.proofs.Closing.{exact_places}
-use Rattle.board_rounds.specs.Crews.{IsClosed}
+use Rattle.board_rounds.specs.calls.TaskSeats.{IsClosed}
 
 less_done : (k : ℕ) (o : Option ℕ) (j : ℕ) (r : Option ℕ) → Precedes k o j r → k ≤ j
 less_done k None j r l = l

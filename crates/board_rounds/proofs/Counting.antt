@@ -5,13 +5,13 @@ use Rattle.armus_base.specs.Plans.{Action, Advances, Blocks, Drops, Forks, Makes
 use Rattle.armus_base.specs.Runs.{IsByCode, Place, next_place}
 use Rattle.armus_base.specs.CheckedPlans.{IsCheckedPlan}
 use Rattle.pl_core.proofs.StepKinds.{few_actions}
-use Rattle.board.specs.Views.{own_place, task_of}
-use Rattle.board.specs.Seats.{Frame, Known}
-use Rattle.board_rounds.specs.Turns.{Acts, CountsEvents, LeadsByCode, Working, max_events}
+use Rattle.board.specs.calls.Views.{own_place, task_of}
+use Rattle.board.specs.calls.Seats.{Frame, Known}
+use Rattle.board_rounds.specs.calls.Turns.{Acts, CountsEvents, LeadsByCode, Working, max_events}
 use Rattle.board_rounds.specs.inside.Tasks.{MakesSome}
-use Rattle.board_rounds.specs.Crews.{progress_of}
+use Rattle.board_rounds.specs.calls.TaskSeats.{progress_of}
 use Rattle.board_rounds.proofs.Advancing.{no_drop, task_further}
-use Rattle.board_rounds.proofs.Crewing.{by_code_is, has_left}
+use Rattle.board_rounds.proofs.TaskSeatsKept.{by_code_is, has_left}
 use Rattle.board_rounds.proofs.Goings.{no_seats, same_task}
 
 -- how many events lead to a place

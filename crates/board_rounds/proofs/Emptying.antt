@@ -2,7 +2,7 @@
 use Rattle.std.proofs.Common.{◌≡◌, ℕ, zero, suc, ◌<◌, List, [], ◌∷◌, length, map, set, get_or, sym, refl, ap, subst, arith}
 use Rattle.std.specs.Prelude.{Contains}
 use Rattle.armus_base.proofs.Elements.{Contains-head, Contains-tail}
-use Rattle.board_rounds.specs.Turns.{Working}
+use Rattle.board_rounds.specs.calls.Turns.{Working}
 use Rattle.board_rounds.specs.inside.Rounds.{emptied}
 
 pub data IsEmptiedUpTo : ℕ → List Working → List Working → Type 0 where

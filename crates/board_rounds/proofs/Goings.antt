@@ -4,18 +4,19 @@ use Rattle.std.specs.Prelude.{IsSome, unwrap_or}
 use Rattle.std.proofs.lemmas.Bool.{cases_eq, false≢true}
 use Rattle.armus_base.specs.Limits.{max_phasers}
 use Rattle.armus_base.specs.Plans.{Action, Advances, Blocks, Drops, Forks, Makes, Passes, Plan, Refuses, Registers, action_at, Aim}
-use Rattle.armus_base.specs.Runs.{IsByCode, IsPrefix, Place, moved, next_place}
-use Rattle.armus_base.specs.Seats.{SeenBy, seen_after_step}
+use Rattle.armus_base.specs.Runs.{IsByCode, Place, moved, next_place}
+use Rattle.armus_base.specs.calls.Runs.{IsPrefix}
+use Rattle.armus_base.specs.calls.Seats.{SeenBy, seen_after_step}
 use Rattle.armus_base.proofs.Fixed.{action_within}
 use Rattle.armus_base.proofs.Places.{next_later, precedes_itself, precedes_trans}
 use Rattle.armus_base.proofs.Steps.{updated_other, updated_same}
-use Rattle.board.specs.Views.{action_after, next_action, own_place, seen, task_of}
-use Rattle.board.specs.Steps.{IsSameSeat}
-use Rattle.board.specs.Seats.{Frame, IsOf, IsSeat, Known, MakesStep}
+use Rattle.board.specs.calls.Views.{action_after, next_action, own_place, seen, task_of}
+use Rattle.board.specs.calls.Steps.{IsSameSeat}
+use Rattle.board.specs.calls.Seats.{Frame, IsOf, IsSeat, Known, MakesStep}
 use Rattle.board.proofs.Seated.{next_there}
 use Rattle.board.proofs.Walking.{moved_here}
-use Rattle.phase_scan.specs.Looks.{LoadsAlone}
-use Rattle.board_rounds.specs.Turns.{Acts, AreChildSeats, Goes, LeadsByCode, Working, tasks_forked, no_child, one_child}
+use Rattle.phase_scan.specs.calls.Looks.{LoadsAlone}
+use Rattle.board_rounds.specs.calls.Turns.{Acts, AreChildSeats, Goes, LeadsByCode, Working, tasks_forked, no_child, one_child}
 use Rattle.board_rounds.specs.inside.Tasks.{MakesSome}
 
 -- steps after steps

@@ -9,18 +9,18 @@ use Rattle.armus_base.specs.CheckedPlans.{IsCheckedPlan}
 use Rattle.pl_core.proofs.StepKinds.{few_actions}
 use Rattle.armus_base.specs.Plans.{Aim, Plan, Refuses, action_at, actions, actions_of, code_of}
 use Rattle.armus_base.specs.Runs.{Place, first_place}
-use Rattle.armus_base.specs.Places.{phases_at_place}
-use Rattle.armus_base.specs.Seats.{own_event}
+use Rattle.armus_base.specs.calls.Places.{phases_at_place}
+use Rattle.armus_base.specs.calls.Seats.{own_event}
 use Rattle.armus_base.proofs.BoardRuns.{lawful_is_reachable}
 use Rattle.armus_base.proofs.Reachable.{reachable_is_fixed}
 use Rattle.armus_base.proofs.Tasks.{member_within}
-use Rattle.board.specs.Views.{avoids, own_place, seen, task_of}
-use Rattle.board.specs.Seats.{IsSeat, Known, event_of}
-use Rattle.board.specs.Steps.{WasSo}
+use Rattle.board.specs.calls.Views.{avoids, own_place, seen, task_of}
+use Rattle.board.specs.calls.Seats.{IsSeat, Known, event_of}
+use Rattle.board.specs.calls.Steps.{WasSo}
 use Rattle.board.specs.inside.Walking.{HasLeft, begins, left_of}
 use Rattle.board.proofs.Walking.{left_at_first}
-use Rattle.phase_scan.specs.Looks.{FindsBehind, LoadsAlone}
-use Rattle.board_rounds.specs.Turns.{EndsTurn, IsDone, IsSeenBehind, is_behind, is_done, is_locked_out, is_refused}
+use Rattle.phase_scan.specs.calls.Looks.{FindsBehind, LoadsAlone}
+use Rattle.board_rounds.specs.calls.Turns.{EndsTurn, IsDone, IsSeenBehind, is_behind, is_done, is_locked_out, is_refused}
 use Rattle.board_rounds.specs.inside.Tasks.{AreLeft}
 use Rattle.board_rounds.proofs.Goings.{own_stays, same_task}
 

@@ -5,17 +5,18 @@ use Rattle.std.proofs.lemmas.Bool.{cases_lt}
 use Rattle.armus_base.specs.Limits.{max_phasers}
 use Rattle.armus_base.specs.Plans.{Drops, Plan}
 use Rattle.armus_base.specs.Runs.{IsByCode, Place, next_place}
-use Rattle.armus_base.specs.Places.{kept, members_below, phases_after, phases_at_place}
+use Rattle.armus_base.specs.Places.{kept, members_below, phases_after}
+use Rattle.armus_base.specs.calls.Places.{phases_at_place}
 use Rattle.armus_base.specs.States.{Phases}
 use Rattle.armus_base.specs.CheckedPlans.{IsCheckedPlan}
 use Rattle.armus_base.proofs.Fixed.{kept_above, kept_below, members_below-none, members_below-suc}
-use Rattle.board.specs.Views.{own_place, task_of}
-use Rattle.board.specs.Seats.{IsSeat, Known, MakesStep}
-use Rattle.board.proofs.Ranges.{phaser_of_member}
+use Rattle.board.specs.calls.Views.{own_place, task_of}
+use Rattle.board.specs.calls.Seats.{IsSeat, Known, MakesStep}
+use Rattle.armus_base.proofs.MemberPhasers.{phaser_of_member}
 use Rattle.pl_core.proofs.Refusing.{dropped_below}
-use Rattle.phase_scan.specs.Collects.{IfAsked}
-use Rattle.avoider.specs.OnBoard.{DropsBelow}
-use Rattle.board_rounds.specs.Turns.{Goes, HasLeftAll, tasks_forked}
+use Rattle.phase_scan.specs.calls.Collects.{IfAsked}
+use Rattle.avoider.specs.calls.OnBoard.{DropsBelow}
+use Rattle.board_rounds.specs.calls.Turns.{Goes, HasLeftAll, tasks_forked}
 use Rattle.board_rounds.specs.inside.Attempts.{drops_below}
 use Rattle.board_rounds.proofs.Goings.{forks_on, goes_itself, goes_made, goes_on, stepped_place}
 

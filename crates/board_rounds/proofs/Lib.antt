@@ -3,7 +3,7 @@ pub mod Halting
 pub mod Rounding
 pub mod Crossing
 pub mod Closed
-pub mod Crewing
+pub mod TaskSeatsKept
 pub mod Settling
 pub mod Emptying
 pub mod Between

@@ -8,12 +8,12 @@ use Rattle.armus_base.specs.Plans.{Plan}
 use Rattle.armus_base.proofs.Elements.{Contains-cons_cases, Contains-head, nothing_in_nil}
 use Rattle.pl_core.specs.declared.place.Place.{Place as KeptPlace}
 use Rattle.pl_core.proofs.Cells.{slice_get-set_other, slice_get-set_same}
-use Rattle.board.specs.Seats.{Frame, Known, TakesIn}
-use Rattle.board.specs.Views.{seen, task_of}
-use Rattle.board_rounds.specs.Turns.{Working, standing_of}
-use Rattle.board_rounds.specs.Crews.{ArePlacesOf, IsCrewOf, KnowsTasks, number}
+use Rattle.board.specs.calls.Seats.{Frame, Known, TakesIn}
+use Rattle.board.specs.calls.Views.{seen, task_of}
+use Rattle.board_rounds.specs.calls.Turns.{Working, standing_of}
+use Rattle.board_rounds.specs.calls.TaskSeats.{ArePlacesOf, AreTaskSeatsOf, KnowsTasks, number}
 use Rattle.board_rounds.specs.inside.Endings.{NotesPlaces, TakesAll}
-use Rattle.board_rounds.proofs.Between.{from_map, in_map, seats_crew}
+use Rattle.board_rounds.proofs.Between.{from_map, in_map, seats_of_tasks}
 use Rattle.board_rounds.proofs.Settling.{closed, taken_here, takes_more, whose}
 
 pub none_noted : (places : List KeptPlace) → NotesPlaces [] places places
@@ -95,14 +95,14 @@ pub tasks_taken : (xs ys : List Working) (a b c : Known) → TakesAll (map seat_
 tasks_taken xs ys a b c p q = subst (λ ks. TakesAll ks a c) (sym (seats_more xs ys)) (takes_on (map seat_of xs) (map seat_of ys) a b c p q)
 
 -- a viewer that has taken them all in knows them
-pub knows : (f : Frame) (tasks : List Working) (a b : Known) → IsCrewOf f tasks → TakesAll (map seat_of tasks) a b → ((u : ℕ) → (seen a.view).exact u ≡ false) → KnowsTasks f tasks b
+pub knows : (f : Frame) (tasks : List Working) (a b : Known) → AreTaskSeatsOf f tasks → TakesAll (map seat_of tasks) a b → ((u : ℕ) → (seen a.view).exact u ≡ false) → KnowsTasks f tasks b
 knows f tasks a b whole takes unknown =
     let seats = map seat_of tasks in
-    let crew = seats_crew f tasks seats refl whole.crew in
+    let board_tasks = seats_of_tasks f tasks seats refl whole.board_tasks in
     record {
-      closed = closed f seats a b crew takes unknown;
+      closed = closed f seats a b board_tasks takes unknown;
       here = λ w i. taken_here seats a b w.seat takes (in_map seat_of tasks w i);
-      only = λ u is. let k = whose f seats a b crew takes unknown u is in let w = from_map seat_of tasks k.0 k.1 in (w.0, w.1, ap (λ (m : Known). task_of m.view) w.2 ∙ k.2);
+      only = λ u is. let k = whose f seats a b board_tasks takes unknown u is in let w = from_map seat_of tasks k.0 k.1 in (w.0, w.1, ap (λ (m : Known). task_of m.view) w.2 ∙ k.2);
     }
 
 pub all_opening : (n : ℕ) (p : KeptPlace) (t : ℕ) → t < n → slice_get (replicate n p) t ≡ Some p

@@ -9,16 +9,16 @@ use Rattle.armus_base.specs.Plans.{Aim, Action, Advances, Blocks, Drops, Forks, 
 use Rattle.armus_base.specs.Places.{published_after}
 use Rattle.armus_base.specs.Runs.{Place, next_place}
 use Rattle.armus_base.proofs.Fixed.{action_within}
-use Rattle.board.specs.Seats.{Frame, Known, event_of, aim_at}
-use Rattle.board.specs.Steps.{own_phase}
-use Rattle.board.specs.Views.{own_place, task_of}
+use Rattle.board.specs.calls.Seats.{Frame, Known, event_of, aim_at}
+use Rattle.board.specs.calls.Steps.{own_phase}
+use Rattle.board.specs.calls.Views.{own_place, task_of}
 use Rattle.board.specs.inside.Walking.{begins, left_of}
 use Rattle.board.proofs.Seated.{event_here, next_there, place_made}
 use Rattle.board.proofs.Walking.{IsBefore, before_next}
 use Rattle.board_rounds.specs.declared.deciding.Attempt.TheVariants.{Begun, LockedOut, Refused}
 use Rattle.board_rounds.specs.inside.Attempts.{BeginsOp, IsRefusedAt, drops_below}
 use Rattle.board_rounds.specs.inside.Tasks.{AreLeft, HasCome, MakesSome}
-use Rattle.board_rounds.specs.Turns.{Acts, AreChildSeats, EndsTurn, Goes, LeadsByCode, Working, tasks_forked}
+use Rattle.board_rounds.specs.calls.Turns.{Acts, AreChildSeats, EndsTurn, Goes, LeadsByCode, Working, tasks_forked}
 use Rattle.board_rounds.proofs.Begun.{left_on}
 use Rattle.board_rounds.proofs.Goings.{acts_alone, same_task, some_steps}
 use Rattle.board_rounds.proofs.Halting.{events_fit, left_there, no_refusal}

@@ -4,11 +4,11 @@ use Rattle.std.specs.Prelude.{IsSome}
 use Rattle.std.proofs.lemmas.Bool.{false≢true}
 use Rattle.armus_base.specs.Plans.{Passes}
 use Rattle.armus_base.specs.Runs.{Place}
-use Rattle.board.specs.Seats.{Frame, IsSeat, Known, MakesPass, event_of}
-use Rattle.board.specs.Views.{own_place, task_of}
+use Rattle.board.specs.calls.Seats.{Frame, IsSeat, Known, MakesPass, event_of}
+use Rattle.board.specs.calls.Views.{own_place, task_of}
 use Rattle.board.proofs.Seated.{place_made}
 use Rattle.board.proofs.Walking.{left_passed, passes_next, published_is}
-use Rattle.phase_scan.specs.Looks.{LoadsAlone}
+use Rattle.phase_scan.specs.calls.Looks.{LoadsAlone}
 use Rattle.board_rounds.specs.declared.task.Task.TheInside.{Inside}
 use Rattle.board_rounds.specs.inside.Tasks.{AreLeft, IsWorking, MakesSome}
 use Rattle.board_rounds.proofs.Goings.{goes_step, goes_then, own_stays, some_alone, stepped_place}

@@ -8,15 +8,15 @@ use Rattle.std.proofs.lemmas.List.Sorted.{All-permutation, Contains-permutation,
 use Rattle.std.proofs.lemmas.List.Sums.{sum_by-append, sum_by-cons}
 use Rattle.armus_base.specs.Plans.{Action, Plan}
 use Rattle.armus_base.specs.CheckedPlans.{IsCheckedPlan}
-use Rattle.armus_base.specs.Seats.{seen_by_child}
+use Rattle.armus_base.specs.calls.Seats.{seen_by_child}
 use Rattle.armus_base.proofs.Elements.{Contains-cons_cases, nothing_in_nil}
-use Rattle.board.specs.Seats.{Frame, IsNewSeat, IsOf, Known, nothing_seen}
-use Rattle.board_rounds.specs.Turns.{ActsNoMore, EachActs, HasEndedTurn, MayTakeTurn, Working, is_done, is_refused, in_32_bits}
-use Rattle.board_rounds.specs.Crews.{AreTasksOf, IsCrewOf, Tasks, all_of, all_steps, left_to, number, progress_of}
+use Rattle.board.specs.calls.Seats.{Frame, IsNewSeat, IsOf, Known, nothing_seen}
+use Rattle.board_rounds.specs.calls.Turns.{ActsNoMore, EachActs, HasEndedTurn, MayTakeTurn, Working, is_done, is_refused, in_32_bits}
+use Rattle.board_rounds.specs.calls.TaskSeats.{AreTasksOf, AreTaskSeatsOf, Tasks, all_of, all_steps, left_to, number, progress_of}
 use Rattle.board_rounds.specs.inside.Rounds.{MakesRound, emptied, fresh_of}
 use Rattle.board_rounds.proofs.Advancing.{all_further, emptied_steps, within_all}
 use Rattle.board_rounds.proofs.Apart.{IsFamily, family_after}
-use Rattle.board_rounds.proofs.Between.{all_from, crew_ready, first_crew, then_crew, then_ends, then_none, to_each}
+use Rattle.board_rounds.proofs.Between.{all_from, task_seats_ready, first_task_seats, then_task_seats, then_ends, then_none, to_each}
 use Rattle.board_rounds.proofs.Goings.{task_is}
 use Rattle.board_rounds.proofs.Rounding.{each_ended, each_on, rest_each}
 use Rattle.board_rounds.proofs.Shuffling.{differ_once, once_differ, shuffled}
@@ -36,9 +36,6 @@ one_ends E Y L D x p =
     subst (λ zs. IsPermutation zs (L ++ (D ++ x ∷ []))) (append_assoc E Y (x ∷ []))
     (IsPermutation-push_more (E ++ Y) (L ++ D) (L ++ (D ++ x ∷ [])) x p
     (subst (λ zs. IsPermutation (x ∷ (L ++ D)) zs) (append_assoc L D (x ∷ [])) (IsPermutation-sym ((L ++ D) ++ x ∷ []) (x ∷ (L ++ D)) (IsPermutation-to_front (L ++ D) x))))
-
-pub none_moved : (E : List Working) → IsPermutation (E ++ []) ([] ++ E)
-none_moved E = subst (λ zs. IsPermutation zs E) (sym (append-nil E)) (IsPermutation-refl E)
 
 pub all_moved : (E A zs : List Working) → IsPermutation (E ++ A) zs → IsPermutation (A ++ E) zs
 all_moved E A zs p = IsPermutation-trans (A ++ E) (E ++ A) zs (IsPermutation-append_comm A E) p
@@ -92,11 +89,11 @@ module _ (f : Frame) (live ended new : List Working) (made : ℕ) (tasks : AreTa
   abbrev turned : List Working
   turned = round.turned ++ ended
 
-  whole : IsCrewOf f olds
+  whole : AreTaskSeatsOf f olds
   whole = tasks.all
 
   ready : (w : Working) → Contains olds w → MayTakeTurn f w
-  ready w i = to_each (MayTakeTurn f) olds (crew_ready f olds whole.crew) w i
+  ready w i = to_each (MayTakeTurn f) olds (task_seats_ready f olds whole.board_tasks) w i
 
   abbrev owns : List (List Action)
   owns = round.owns ++ map no_steps ended
@@ -114,10 +111,10 @@ module _ (f : Frame) (live ended new : List Working) (made : ℕ) (tasks : AreTa
   ended_none = all_from (λ (w : Working). w.children ≡ []) ended (λ w i. none w (Contains-append_right live ended w i))
 
   planned : (w : Working) → Contains olds w → w.seat.view.plan ≡ f.plan
-  planned w i = (whole.crew.each w.seat (w, i, refl)).of_board.plan
+  planned w i = (whole.board_tasks.each w.seat (w, i, refl)).of_board.plan
 
   pub is_checked : IsCheckedPlan f.plan
-  is_checked = (let root = whole.crew.each whole.crew.root.0 whole.crew.root.1 in subst IsCheckedPlan root.of_board.plan root.kept.checked)
+  is_checked = (let root = whole.board_tasks.each whole.board_tasks.root.0 whole.board_tasks.root.1 in subst IsCheckedPlan root.of_board.plan root.kept.checked)
 
   family : IsFamily f olds
   family = record { differ = once_differ olds whole.once; origin = whole.origin }
@@ -128,10 +125,10 @@ module _ (f : Frame) (live ended new : List Working) (made : ℕ) (tasks : AreTa
   after : IsFamily f next
   after = family_after f is_checked owns olds turned each planned none family
 
-  next_whole : IsCrewOf f next
+  next_whole : AreTaskSeatsOf f next
   next_whole = record {
-    crew = then_crew f owns olds turned each whole.crew whole.no_child;
-    no_child = then_none f owns olds turned each whole.crew whole.no_child;
+    board_tasks = then_task_seats f owns olds turned each whole.board_tasks whole.no_child;
+    no_child = then_none f owns olds turned each whole.board_tasks whole.no_child;
     once = differ_once next after.differ;
     origin = after.origin;
   }
@@ -152,7 +149,7 @@ module _ (f : Frame) (live ended new : List Working) (made : ℕ) (tasks : AreTa
       (swap_last (map emptied round.turned) ended (flat_map fresh_of round.turned))
       (IsPermutation-append_left ended joined new round.joined))
 
-  pub after_round : IsCrewOf f (new ++ ended)
+  pub after_round : AreTaskSeatsOf f (new ++ ended)
   after_round = shuffled f next (new ++ ended) moved next_whole
 
   next_steps : sum_by progress_of turned ≤ sum_by progress_of (new ++ ended)
@@ -172,7 +169,7 @@ module _ (f : Frame) (live ended new : List Working) (made : ℕ) (tasks : AreTa
       (all_from (λ (w : Working). HasEndedTurn w.seat) ended (λ w i. ends_now w.seat (to_each (λ (v : Working). ActsNoMore v.seat) ended tasks.ended w i))) in
       all_from (λ (w : Working). HasEndedTurn w.seat) (new ++ ended)
       (λ w i.
-      then_ends f owns olds turned each whole.crew whole.no_child (let e = events in omega (arith, z)) ends w.seat
+      then_ends f owns olds turned each whole.board_tasks whole.no_child (let e = events in omega (arith, z)) ends w.seat
       (w, Contains-permutation (new ++ ended) next w (IsPermutation-sym next (new ++ ended) moved) i, refl))
 
 -- what a round asks of the tasks that live
@@ -181,7 +178,7 @@ module _ (f : Frame) (tasks : Tasks) (are : AreTasksOf f tasks) where
   lives P each = all_from P tasks.live (λ w i. each w (Contains-append_left tasks.live tasks.ended w i))
 
   pub live_ready : All (MayTakeTurn f) tasks.live
-  live_ready = lives (MayTakeTurn f) (to_each (MayTakeTurn f) (all_of tasks) (crew_ready f (all_of tasks) are.all.crew))
+  live_ready = lives (MayTakeTurn f) (to_each (MayTakeTurn f) (all_of tasks) (task_seats_ready f (all_of tasks) are.all.board_tasks))
 
   pub live_none : All (λ (w : Working). w.children ≡ []) tasks.live
   live_none = lives (λ (w : Working). w.children ≡ []) (to_each (λ (w : Working). w.children ≡ []) (all_of tasks) are.all.no_child)
@@ -195,7 +192,7 @@ module _ (f : Frame) (tasks : Tasks) (are : AreTasksOf f tasks) where
   )
 
   pub both_of : All (λ (w : Working). IsOf w.seat f) tasks.live × All (λ (w : Working). IsOf w.seat f) tasks.ended
-  both_of = of_both (λ (w : Working). IsOf w.seat f) (λ w i. (are.all.crew.each w.seat (w, i, refl)).of_board)
+  both_of = of_both (λ (w : Working). IsOf w.seat f) (λ w i. (are.all.board_tasks.each w.seat (w, i, refl)).of_board)
 
   pub both_none : All (λ (w : Working). w.children ≡ []) tasks.live × All (λ (w : Working). w.children ≡ []) tasks.ended
   both_none = of_both (λ (w : Working). w.children ≡ []) (to_each (λ (w : Working). w.children ≡ []) (all_of tasks) are.all.no_child)
@@ -204,18 +201,10 @@ module _ (f : Frame) (tasks : Tasks) (are : AreTasksOf f tasks) where
   both_within n e =
       of_both (λ (w : Working). number w < n)
       (λ w i.
-      let s = are.all.crew.each w.seat (w, i, refl) in
+      let s = are.all.board_tasks.each w.seat (w, i, refl) in
       let l : s.task < length f.plan.parents = subst (λ (q : Plan). s.task < length q.parents) s.of_board.plan (s.kept.own s.task s.own).0 in
       let t = task_is w.seat s.task s.own in
       omega arith)
-
-pub new_planned :
-    (f : Frame) (plan : Plan) (before : Tasks) (new : List Working) (made : ℕ) → f.plan ≡ plan → AreTasksOf f before → MakesRound f before.live new made →
-    All (λ (w : Working). w.seat.view.plan ≡ plan) new
-new_planned f plan before new made same tasks round =
-    let whole = after_round f before.live before.ended new made tasks round in
-    all_from (λ (w : Working). w.seat.view.plan ≡ plan) new
-    (λ w i. (whole.crew.each w.seat (w, Contains-append_left new before.ended w i, refl)).of_board.plan ∙ same)
 
 -- and once the tasks that have done their code are among the ended ones
 pub whole_round :
@@ -254,7 +243,7 @@ whole_still f before now new tasks ends moved =
 pub first_tasks : (f : Frame) (w : Working) → IsNewSeat f (Some 0) (seen_by_child 0 nothing_seen) w.seat → w.children ≡ [] → AreTasksOf f (record { live = w ∷ []; ended = [] })
 first_tasks f w new none = record {
   all = record {
-    crew = first_crew f w new;
+    board_tasks = first_task_seats f w new;
     no_child = all_from (λ (v : Working). v.children ≡ []) (w ∷ []) (λ v i. ap (λ (x : Working). x.children) (sym (only v i)) ∙ none);
     once = differ_once (w ∷ []) ((λ i. nothing_in_nil (number w) i), tt);
     origin = λ v i. inl (ap number (sym (only v i)) ∙ task_is w.seat 0 new.own_is);

@@ -3,8 +3,8 @@ use Rattle.std.proofs.Common.{◌≡◌, ℕ, zero, suc, ◌+◌, ◌<◌, List,
 use Rattle.std.proofs.lemmas.List.{map-append, map-id}
 use Rattle.std.proofs.lemmas.List.Sums.{sum_by-append}
 use Rattle.armus_base.specs.Plans.{Action}
-use Rattle.board.specs.Seats.{Frame}
-use Rattle.board_rounds.specs.Turns.{Acts, EachActs, EachEndsTurn, EndsTurn, HasEndedTurn, MayTakeTurn, TakesTurns, in_32_bits, Working, no_task, no_turn, one_task, one_turn}
+use Rattle.board.specs.calls.Seats.{Frame}
+use Rattle.board_rounds.specs.calls.Turns.{Acts, EachActs, EachEndsTurn, EndsTurn, HasEndedTurn, MayTakeTurn, TakesTurns, in_32_bits, Working, no_task, no_turn, one_task, one_turn}
 use Rattle.board_rounds.proofs.Goings.{acts_itself}
 
 -- what is read and written in a list, through a function

@@ -1,13 +1,13 @@
--- What a viewer knows that has taken in all seats of a crew.
+-- What a viewer knows that has taken in all seats of a board_tasks.
 use Rattle.std.proofs.Common.{◌≡◌, ℕ, ◌<◌, Bool, true, false, List, [], ◌∷◌, ◌++◌, sym, refl, ap, ◌∙◌, subst, inl, inr, ◌⊎◌, eq-eqb, eqb-true}
 use Rattle.std.specs.Prelude.{Contains, unwrap_or, ◌==◌, ◌||◌}
 use Rattle.std.proofs.lemmas.Bool.{false≢true}
 use Rattle.armus_base.specs.Plans.{action_at}
 use Rattle.armus_base.specs.Runs.{Place}
 use Rattle.armus_base.proofs.Elements.{Contains-cons_cases, Contains-head, Contains-tail, nothing_in_nil}
-use Rattle.board.specs.Views.{own_place, seen, task_of}
-use Rattle.board.specs.Seats.{Frame, IsSeat, Known, TakesIn}
-use Rattle.board_rounds.specs.Crews.{HasSeatOf, IsClosed, IsCrew}
+use Rattle.board.specs.calls.Views.{own_place, seen, task_of}
+use Rattle.board.specs.calls.Seats.{Frame, IsSeat, Known, TakesIn}
+use Rattle.board_rounds.specs.calls.TaskSeats.{HasSeatOf, IsClosed, AreTaskSeats}
 use Rattle.board_rounds.specs.inside.Endings.{TakesAll}
 
 -- one more
@@ -73,7 +73,7 @@ exact_from (s ∷ seats) a b u takes is = elim (exact_from seats takes.0 b u tak
   | inr r ↦ inr (r.0, Contains-tail s seats r.0 r.1, r.2)
 ]
 
-module _ (f : Frame) (seats : List Known) (before now : Known) (crew : IsCrew f (λ k. Contains seats k)) (takes : TakesAll seats before now) (unknown : (u : ℕ) → (seen before.view).exact u ≡ false) where
+module _ (f : Frame) (seats : List Known) (before now : Known) (board_tasks : AreTaskSeats f (λ k. Contains seats k)) (takes : TakesAll seats before now) (unknown : (u : ℕ) → (seen before.view).exact u ≡ false) where
   -- whose seat it is that made a task exact
   pub whose : (u : ℕ) → (seen now.view).exact u ≡ true → (k : Known) × Contains seats k × (task_of k.view ≡ u)
   whose u is = elim (exact_from seats before now u takes is) [
@@ -81,7 +81,7 @@ module _ (f : Frame) (seats : List Known) (before now : Known) (crew : IsCrew f 
     | inr r ↦ (
       r.0,
       r.1,
-      (let s = crew.each r.0 r.1 in let task : task_of r.0.view ≡ s.task = ap (λ o. unwrap_or o 0) s.own in elim r.2 [
+      (let s = board_tasks.each r.0 r.1 in let task : task_of r.0.view ≡ s.task = ap (λ o. unwrap_or o 0) s.own in elim r.2 [
         | inl alone ↦ task ∙ sym (s.alone u alone)
         | inr own ↦ sym own
       ]),
@@ -94,10 +94,10 @@ module _ (f : Frame) (seats : List Known) (before now : Known) (crew : IsCrew f 
 
   pub closed : IsClosed f.plan (seen now.view)
   closed = record {
-    root = has_exact 0 crew.root;
+    root = has_exact 0 board_tasks.root;
     forked = λ t j c is l forks.
         let w = whose t is in
         let place : (seen now.view).places t ≡ own_place w.0.view = subst (λ u. (seen now.view).places u ≡ own_place w.0.view) w.2 (taken_here seats before now w.0 takes w.1).1 in
         has_exact c
-        (crew.forked w.0 w.1 j c (subst (λ (x : Place). j < x.done) place l) (ap (λ u. action_at f.plan u j) w.2 ∙ forks));
+        (board_tasks.forked w.0 w.1 j c (subst (λ (x : Place). j < x.done) place l) (ap (λ u. action_at f.plan u j) w.2 ∙ forks));
   }

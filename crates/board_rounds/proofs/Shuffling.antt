@@ -6,18 +6,18 @@ use Rattle.std.proofs.lemmas.Bool.{cases_eq, cases_Bool}
 use Rattle.std.proofs.lemmas.List.Sorted.{All-permutation, Contains-permutation, IsPermutation-sym, sum_by-IsPermutation}
 use Rattle.std.proofs.lemmas.List.Sums.{sum_by-cons}
 use Rattle.armus_base.proofs.Elements.{Contains-cons_cases, Contains-head, Contains-tail, nothing_in_nil}
-use Rattle.board.specs.Seats.{Frame}
-use Rattle.board_rounds.specs.Turns.{Working}
-use Rattle.board_rounds.specs.Crews.{IsCrewOf, IsSeatIn, how_many, number}
+use Rattle.board.specs.calls.Seats.{Frame}
+use Rattle.board_rounds.specs.calls.Turns.{Working}
+use Rattle.board_rounds.specs.calls.TaskSeats.{AreTaskSeatsOf, IsSeatIn, how_many, number}
 use Rattle.board_rounds.proofs.Apart.{Differ}
-use Rattle.board_rounds.proofs.Between.{crew_same}
+use Rattle.board_rounds.proofs.Between.{task_seats_same}
 
-pub shuffled : (f : Frame) (xs ys : List Working) → IsPermutation xs ys → IsCrewOf f xs → IsCrewOf f ys
+pub shuffled : (f : Frame) (xs ys : List Working) → IsPermutation xs ys → AreTaskSeatsOf f xs → AreTaskSeatsOf f ys
 shuffled f xs ys p whole =
     let q = IsPermutation-sym xs ys p in
     record {
-      crew =
-          crew_same f (IsSeatIn xs) (IsSeatIn ys) (λ k at. (at.0, Contains-permutation xs ys at.0 p at.1, at.2)) (λ k at. (at.0, Contains-permutation ys xs at.0 q at.1, at.2)) whole.crew;
+      board_tasks =
+          task_seats_same f (IsSeatIn xs) (IsSeatIn ys) (λ k at. (at.0, Contains-permutation xs ys at.0 p at.1, at.2)) (λ k at. (at.0, Contains-permutation ys xs at.0 q at.1, at.2)) whole.board_tasks;
       no_child = All-permutation (λ (w : Working). w.children ≡ []) xs ys p whole.no_child;
       once = λ t. let e = sum_by-IsPermutation (λ (w : Working). if number w == t then 1 else 0) xs ys p in let l = whole.once t in omega arith;
       origin = λ w i. elim (whole.origin w (Contains-permutation ys xs w q i)) [

@@ -2,5 +2,5 @@ pub mod Tasks
 pub mod Attempts
 pub mod Rounds
 pub mod Endings
-pub mod Crewed
+pub mod TasksOf
 pub mod Workers

@@ -2,11 +2,11 @@
 ghost use Rattle.std.specs.Prelude.{◌≡◌, ◌++◌, ◌<◌, [], ◌∷◌, List, Some, None, false, true, IfOk, IfSome, OnOk, OnErr};
 ghost use Rattle.armus_base.specs.Plans.{Forks};
 ghost use Rattle.armus_base.specs.declared.op.Op.TheVariants.{Await};
-ghost use Rattle.board.specs.Views.{avoids, next_action};
-ghost use Rattle.board.specs.Seats.{Known, IsOf, MakesStep};
+ghost use Rattle.board.specs.calls.Views.{avoids, next_action};
+ghost use Rattle.board.specs.calls.Seats.{Known, IsOf, MakesStep};
 ghost use Rattle.board.specs.inside.Walking.{begins};
 ghost use Rattle.board_rounds.specs.inside.Attempts.{BeginsOp, MayBegin};
-ghost use Rattle.board_rounds.specs.Turns.{AreChildSeats, Goes, tasks_forked};
+ghost use Rattle.board_rounds.specs.calls.Turns.{AreChildSeats, Goes, tasks_forked};
 
 use crate::deciding::{Attempt, try_to_decide};
 use crate::worker_cells::WorkerCells;

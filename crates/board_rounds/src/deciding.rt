@@ -2,11 +2,11 @@
 ghost use Rattle.std.specs.Prelude.{◌≡◌, ◌≤◌, ◌+◌, [], length, IfOk, OnErr};
 ghost use Rattle.armus_base.specs.Limits.{max_phasers};
 ghost use Rattle.armus_base.specs.Places.{members_below};
-ghost use Rattle.board.specs.Seats.{IsOf, aim_at};
-ghost use Rattle.avoider.specs.OnBoard.{HasSameRoom};
-ghost use Rattle.board.specs.Steps.{own_phase};
+ghost use Rattle.board.specs.calls.Seats.{IsOf, aim_at};
+ghost use Rattle.avoider.specs.calls.OnBoard.{HasSameRoom};
+ghost use Rattle.board.specs.calls.Steps.{own_phase};
 ghost use Rattle.board_rounds.specs.inside.Attempts.{IsAttempt, MayDecide};
-ghost use Rattle.board_rounds.specs.Turns.{Goes};
+ghost use Rattle.board_rounds.specs.calls.Turns.{Goes};
 
 use crate::worker_cells::WorkerCells;
 use armus_base::{NoMemory, Offset, PhaserId};

@@ -1,9 +1,9 @@
 // The end of a run on a board: where its tasks stand, and their seats.
 ghost use Rattle.std.specs.Prelude.{◌≡◌, ◌<◌, ℕ, [], All, length, map};
-ghost use Rattle.board.specs.Seats.{IsOf};
-ghost use Rattle.board.specs.Steps.{IsSameSeat};
-ghost use Rattle.board_rounds.specs.Turns.{Working};
-ghost use Rattle.board_rounds.specs.Crews.{number};
+ghost use Rattle.board.specs.calls.Seats.{IsOf};
+ghost use Rattle.board.specs.calls.Steps.{IsSameSeat};
+ghost use Rattle.board_rounds.specs.calls.Turns.{Working};
+ghost use Rattle.board_rounds.specs.calls.TaskSeats.{number};
 ghost use Rattle.board_rounds.specs.inside.Endings.{NotesPlaces, TakesAll};
 
 use crate::Task;

@@ -2,8 +2,8 @@
 #![tactic(auto)]
 
 mod beginning;
+mod board_tasks;
 mod calling;
-mod crew;
 mod deciding;
 mod ending;
 mod rounds;
@@ -11,8 +11,8 @@ mod taking_turns;
 mod task;
 mod worker_cells;
 
+pub use board_tasks::{BoardTasks, Rounded};
 pub use calling::Calls;
-pub use crew::{Crew, Rounded};
 pub use rounds::round;
 pub use task::{Acted, Pause, Task};
 pub use worker_cells::WorkerCells;

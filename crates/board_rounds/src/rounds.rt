@@ -1,7 +1,7 @@
 // A round of turns by several workers.
 ghost use Rattle.std.specs.Thread.{IsSync};
 ghost use Rattle.std.specs.Prelude.{◌≡◌, ◌≤◌, All, false, length, map};
-ghost use Rattle.board_rounds.specs.Turns.{MayTakeTurn, TakesTurns};
+ghost use Rattle.board_rounds.specs.calls.Turns.{MayTakeTurn, TakesTurns};
 
 use crate::Task;
 use crate::calling::Calls;

@@ -1,8 +1,8 @@
 // Whoever takes turns in a round on a board.
 ghost use Rattle.std.specs.Prelude.{◌≡◌, ◌≤◌, List, false, IfOk, OnOk, length};
 ghost use Rattle.armus_base.specs.Plans.{Action};
-ghost use Rattle.board.specs.Seats.{IsOf};
-ghost use Rattle.board_rounds.specs.Turns.{Acts, EndsTurn, max_events};
+ghost use Rattle.board.specs.calls.Seats.{IsOf};
+ghost use Rattle.board_rounds.specs.calls.Turns.{Acts, EndsTurn, max_events};
 
 use crate::calling::Calls;
 use crate::worker_cells::WorkerCells;
@@ -13,7 +13,7 @@ use std::alloc::Global;
 /// A task that takes turns. A round is proved for any type of them: what a slice of tasks holds after it was split is known only where the type of its
 /// elements names no lifetime, or is a parameter.
 pub(crate) trait TakeTurn {
-    ghost use Rattle.board_rounds.specs.Turns.{Working};
+    ghost use Rattle.board_rounds.specs.calls.Turns.{Working};
 
     // The task as contracts see it.
     ghost working: { Self → Working };

@@ -2,9 +2,9 @@
 ghost use Rattle.std.specs.Prelude.{◌≡◌, ◌↔◌, ◌+◌, ◌++◌, ◌≤◌, ◌<◌, ◌^◌, ℕ, [], ◌∷◌, List, Some, None, false, IfOk, IfSome, IsSome, IsTrue, OnOk, OnErr, length};
 ghost use Rattle.armus_base.specs.Plans.{Action};
 ghost use Rattle.armus_base.specs.Runs.{first_place};
-ghost use Rattle.board.specs.Views.{own_place};
-ghost use Rattle.board.specs.Seats.{IsOf, event_of};
-ghost use Rattle.board_rounds.specs.Turns.{Acts, ActsNoMore, CountsEvents, EndsTurn, PausesAt, standing_of};
+ghost use Rattle.board.specs.calls.Views.{own_place};
+ghost use Rattle.board.specs.calls.Seats.{IsOf, event_of};
+ghost use Rattle.board_rounds.specs.calls.Turns.{Acts, ActsNoMore, CountsEvents, EndsTurn, PausesAt, standing_of};
 ghost use Rattle.board_rounds.specs.inside.Tasks.{MakesSome};
 
 use crate::beginning::begin;
@@ -52,7 +52,7 @@ pub struct Task<'p> {
 }
 
 impl<'p> Model for Task<'p> {
-    ghost use Rattle.board_rounds.specs.Turns.{Working};
+    ghost use Rattle.board_rounds.specs.calls.Turns.{Working};
 
     ghost Value = { Working };
 

@@ -2,9 +2,9 @@
 ghost use Rattle.std.specs.Prelude.{◌≡◌, ◌<◌, Some, false, length};
 ghost use Rattle.armus_base.specs.Plans.{Blocks};
 ghost use Rattle.board.specs.declared.mode.Mode.TheVariants.{Avoid};
-ghost use Rattle.board.specs.Views.{next_action};
-ghost use Rattle.board.specs.Seats.{IsOf, aim_at};
-ghost use Rattle.board_tests.specs.Rooms.{IsRoomFor};
+ghost use Rattle.board.specs.calls.Views.{next_action};
+ghost use Rattle.board.specs.calls.Seats.{IsOf, aim_at};
+ghost use Rattle.board_tests.specs.calls.Rooms.{IsRoomFor};
 
 use crate::texts::{cut, event, look, number, phase, seen};
 use crate::walker::{Halt, Walker};

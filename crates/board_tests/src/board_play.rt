@@ -27,11 +27,11 @@ pub(crate) struct BoardPlay<'p> {
 }
 
 impl<'p> Model for BoardPlay<'p> {
-    ghost use Rattle.board.specs.Seats.{Frame};
+    ghost use Rattle.board.specs.calls.Seats.{Frame};
 
     ghost Value = { Frame };
 
-    ghost use Rattle.board_tests.specs.Rooms.{ArePlayed};
+    ghost use Rattle.board_tests.specs.calls.Rooms.{ArePlayed};
 
     ghost view = { λ b. b.board };
 

@@ -1,8 +1,8 @@
 // How a row ends: with the words of the closed board, with turns at its lock, or with seats that go to two threads.
 ghost use Rattle.std.specs.Prelude.{◌≡◌, ◌<◌, All, false, length};
 ghost use Rattle.board.specs.declared.mode.Mode.TheVariants.{Avoid};
-ghost use Rattle.board.specs.Locking.{IsBeforeAwait};
-ghost use Rattle.board.specs.Seats.{IsOf};
+ghost use Rattle.board.specs.calls.Locking.{IsBeforeAwait};
+ghost use Rattle.board.specs.calls.Seats.{IsOf};
 
 use crate::board_play::BoardPlay;
 use crate::texts::{cut, number, phase, seen};

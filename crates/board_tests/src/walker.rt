@@ -3,8 +3,8 @@ ghost use Rattle.std.specs.Prelude.{◌≡◌, ◌≢◌, ◌<◌, Some, IfOk, I
 ghost use Rattle.armus_base.specs.Plans.{Aim, Blocks};
 ghost use Rattle.armus_base.specs.Runs.{first_place};
 ghost use Rattle.board.specs.declared.mode.Mode.TheVariants.{Detect};
-ghost use Rattle.board.specs.Views.{avoids, next_action, own_place};
-ghost use Rattle.board.specs.Seats.{IsOf, MakesStep, aim_at, event_of};
+ghost use Rattle.board.specs.calls.Views.{avoids, next_action, own_place};
+ghost use Rattle.board.specs.calls.Seats.{IsOf, MakesStep, aim_at, event_of};
 ghost use Rattle.board.specs.inside.Walking.{IsActionOfPlan, begins};
 
 use armus_base::{Cursor, Event, NoMemory, Offset, Op, Phase, PhaserId, Plan, TaskId};
@@ -31,11 +31,11 @@ pub struct Walker<'p> {
 }
 
 impl<'p> Model for Walker<'p> {
-    ghost use Rattle.board.specs.Seats.{Known};
+    ghost use Rattle.board.specs.calls.Seats.{Known};
 
     ghost Value = { Known };
 
-    ghost use Rattle.board_tests.specs.Rooms.{Walks};
+    ghost use Rattle.board_tests.specs.calls.Rooms.{Walks};
 
     ghost view = { λ w. w.seat };
 

@@ -1,6 +1,6 @@
 // Walkers that make several steps.
 ghost use Rattle.std.specs.Prelude.{◌≡◌, IfSome};
-ghost use Rattle.board.specs.Seats.{IsOf};
+ghost use Rattle.board.specs.calls.Seats.{IsOf};
 
 use crate::walker::Walker;
 use armus_base::Plan;

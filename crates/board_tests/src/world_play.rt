@@ -19,11 +19,11 @@ pub(crate) struct WorldPlay<'p> {
 }
 
 impl<'p> Model for WorldPlay<'p> {
-    ghost use Rattle.pl_core.specs.Worlds.{WorldValue};
+    ghost use Rattle.pl_core.specs.calls.Worlds.{WorldValue};
 
     ghost Value = { WorldValue };
 
-    ghost use Rattle.board_tests.specs.Rooms.{IsWithOrder};
+    ghost use Rattle.board_tests.specs.calls.Rooms.{IsWithOrder};
 
     ghost view = { λ w. w.world };
 

@@ -6,7 +6,7 @@ use Rattle.pl_syntax.proofs.Unique.{one_tree}
 use Rattle.check_scenes.specs.Scenes.{IsScene}
 use Rattle.check_scenes.proofs.OneScene.{one_scene}
 use Rattle.check_refusals.specs.CheckRefusals.{check_lines}
-use Rattle.check_refusals.specs.Laws.{HasOneCheckRefusal}
+use Rattle.check_refusals.specs.calls.Laws.{HasOneCheckRefusal}
 
 pub one_refusal : HasOneCheckRefusal
 one_refusal file text p q xs ys x y =

@@ -4,9 +4,9 @@ use Rattle.std.specs.Prelude.{Option, min}
 use Rattle.text_places.specs.declared.place.TextPlace.{TextPlace}
 use Rattle.refusals.specs.CaretLines.{caret_lines}
 use Rattle.check_scenes.specs.declared.scene.Scene.{Scene}
-use Rattle.check_refusals.specs.CheckRefusals.{check_line, check_lines}
+use Rattle.check_refusals.specs.CheckRefusals.{check_fault_line, check_lines}
 use Rattle.check_refusals.specs.MatterNotes.{matter_note}
-use Rattle.check_refusals.specs.StatementPlaces.{statement_offset, statement_place}
+use Rattle.check_refusals.specs.StatementPlaces.{statement_offset, place_of_statement}
 use Rattle.check_refusals.specs.Whereabouts.{whereabouts}
 use Rattle.check_refusals.proofs.Pieces.{four_from_none}
 
@@ -20,11 +20,11 @@ module _ (file : Option (List ℕ)) (text offsets : List ℕ) (s : Scene) (place
   note_is : matter_note placed offsets end s.forked s.matter ≡ matter_note text offsets (length text) s.forked s.matter
   note_is = ap (λ x. matter_note x offsets end s.forked s.matter) same ∙ ap (λ x. matter_note text offsets x s.forked s.matter) ends
 
-  line_is : (place : TextPlace) → place ≡ statement_place placed offsets end n →
-      check_line placed file place s ≡ check_line text file (statement_place text offsets (length text) n) s
+  line_is : (place : TextPlace) → place ≡ place_of_statement placed offsets end n →
+      check_fault_line placed file place s ≡ check_fault_line text file (place_of_statement text offsets (length text) n) s
   line_is place e =
-      ap (λ x. check_line x file place s) same
-      ∙ ap (λ x. check_line text file x s) (e ∙ (ap (λ x. statement_place x offsets end n) same ∙ ap (λ x. statement_place text offsets x n) ends))
+      ap (λ x. check_fault_line x file place s) same
+      ∙ ap (λ x. check_fault_line text file x s) (e ∙ (ap (λ x. place_of_statement x offsets end n) same ∙ ap (λ x. place_of_statement text offsets x n) ends))
 
   caret_is : (at : ℕ) → at ≡ statement_offset offsets end n → statement_offset offsets (length text) n ≤ length text →
       caret_lines text (min at (length text)) ≡ caret_lines text (statement_offset offsets (length text) n)
@@ -33,8 +33,8 @@ module _ (file : Option (List ℕ)) (text offsets : List ℕ) (s : Scene) (place
       let least : min at (length text) ≡ at = omega arith in
       ap (caret_lines text) (least ∙ same_at)
 
-  pub lines_are : (place : TextPlace) (at : ℕ) (o o1 o2 o3 o4 : List ℕ) → place ≡ statement_place placed offsets end n → at ≡ statement_offset offsets end n →
-      statement_offset offsets (length text) n ≤ length text → o ≡ [] → o1 ≡ o ++ check_line placed file place s → o2 ≡ o1 ++ caret_lines text (min at (length text)) →
+  pub lines_are : (place : TextPlace) (at : ℕ) (o o1 o2 o3 o4 : List ℕ) → place ≡ place_of_statement placed offsets end n → at ≡ statement_offset offsets end n →
+      statement_offset offsets (length text) n ≤ length text → o ≡ [] → o1 ≡ o ++ check_fault_line placed file place s → o2 ≡ o1 ++ caret_lines text (min at (length text)) →
       o3 ≡ o2 ++ whereabouts placed offsets end s.task s.forked s.turns → o4 ≡ o3 ++ matter_note placed offsets end s.forked s.matter →
       o4 ≡ check_lines file text offsets s
   lines_are place at o o1 o2 o3 o4 p e fits none a b c d =

@@ -12,7 +12,7 @@ use Rattle.check_scenes.specs.declared.scene.Scene.{Scene}
 use Rattle.check_scenes.specs.Scenes.{IsScene}
 use Rattle.check_refusals.specs.MatterNotes.{matter_note}
 use Rattle.check_refusals.specs.MatterWords.{matter_words}
-use Rattle.check_refusals.specs.StatementPlaces.{statement_offset, statement_place}
+use Rattle.check_refusals.specs.StatementPlaces.{statement_offset, place_of_statement}
 use Rattle.check_refusals.specs.Whereabouts.{whereabouts}
 
 -- the numbers of a fault, as `armus run` writes them
@@ -20,14 +20,14 @@ abbrev pub check_numbers : CheckFault → List ℕ
 check_numbers fault = codes " (check " ++ decimal fault.kind ++ codes ", statement " ++ decimal fault.statement ++ codes ")"
 
 -- the first line: a place, what is wrong there, and the numbers
-abbrev pub check_line : List ℕ → Option (List ℕ) → TextPlace → Scene → List ℕ
-check_line text file place scene =
+abbrev pub check_fault_line : List ℕ → Option (List ℕ) → TextPlace → Scene → List ℕ
+check_fault_line text file place scene =
     line (front_words text file place ++ codes ": " ++ matter_words scene.task scene.matter ++ check_numbers scene.fault)
 
 -- all lines, by the offsets of the statements
 abbrev pub check_lines : Option (List ℕ) → List ℕ → List ℕ → Scene → List ℕ
 check_lines file text offsets scene =
-    check_line text file (statement_place text offsets (length text) scene.fault.statement) scene
+    check_fault_line text file (place_of_statement text offsets (length text) scene.fault.statement) scene
     ++ caret_lines text (statement_offset offsets (length text) scene.fault.statement)
     ++ whereabouts text offsets (length text) scene.task scene.forked scene.turns
     ++ matter_note text offsets (length text) scene.forked scene.matter

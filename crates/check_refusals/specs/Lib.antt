@@ -5,5 +5,5 @@ pub mod MatterWords
 pub mod MatterNotes
 pub mod Whereabouts
 pub mod CheckRefusals
--- What is proved of it.
-pub mod Laws
+-- Words of contracts further down, which no promise of a program needs.
+pub mod calls

@@ -8,5 +8,5 @@ abbrev pub statement_offset : List ℕ → ℕ → ℕ → ℕ
 statement_offset offsets end n = if n == 0 then end else slice_index_or offsets (n - 1) end
 
 -- the place of that byte
-abbrev pub statement_place : List ℕ → List ℕ → ℕ → ℕ → TextPlace
-statement_place text offsets end n = text_place text (statement_offset offsets end n)
+abbrev pub place_of_statement : List ℕ → List ℕ → ℕ → ℕ → TextPlace
+place_of_statement text offsets end n = text_place text (statement_offset offsets end n)

@@ -5,26 +5,26 @@ use Rattle.text_places.specs.PlaceWords.{place_words}
 use Rattle.check_scenes.specs.declared.scene.LoopTurn.{LoopTurn}
 use Rattle.check_scenes.specs.declared.scene.NamedTask.{NamedTask}
 use Rattle.check_refusals.specs.NameWords.{task_words}
-use Rattle.check_refusals.specs.StatementPlaces.{statement_place}
+use Rattle.check_refusals.specs.StatementPlaces.{place_of_statement}
 
 -- in t1 (t), forked at 3:1
-abbrev pub forked_words : List ℕ → List ℕ → ℕ → NamedTask → ℕ → List ℕ
-forked_words text offsets end task forked =
-    codes "in " ++ task_words task ++ codes ", forked at " ++ place_words text (statement_place text offsets end forked)
+abbrev pub forked_at_words : List ℕ → List ℕ → ℕ → NamedTask → ℕ → List ℕ
+forked_at_words text offsets end task forked =
+    codes "in " ++ task_words task ++ codes ", forked at " ++ place_words text (place_of_statement text offsets end forked)
 
 -- turn 2 of the loop at 5:3
-abbrev pub turn_words : List ℕ → List ℕ → ℕ → LoopTurn → List ℕ
-turn_words text offsets end turn =
-    (codes "turn " ++ decimal turn.turn ++ codes " of the loop at ") ++ place_words text (statement_place text offsets end turn.statement)
+abbrev pub loop_turn_words : List ℕ → List ℕ → ℕ → LoopTurn → List ℕ
+loop_turn_words text offsets end turn =
+    (codes "turn " ++ decimal turn.turn ++ codes " of the loop at ") ++ place_words text (place_of_statement text offsets end turn.statement)
 
 -- turns, each behind a semicolon
 abbrev pub more_turns : List ℕ → List ℕ → ℕ → List LoopTurn → List ℕ
-more_turns text offsets end turns = flat_map (λ turn. codes "; " ++ turn_words text offsets end turn) turns
+more_turns text offsets end turns = flat_map (λ turn. codes "; " ++ loop_turn_words text offsets end turn) turns
 
 -- turns with semicolons between them
 abbrev pub turns_words : List ℕ → List ℕ → ℕ → List LoopTurn → List ℕ
 turns_words text offsets end [] = []
-turns_words text offsets end (turn ∷ more) = turn_words text offsets end turn ++ more_turns text offsets end more
+turns_words text offsets end (turn ∷ more) = loop_turn_words text offsets end turn ++ more_turns text offsets end more
 
 -- there are none
 abbrev pub is_none : List LoopTurn → Bool
@@ -35,7 +35,7 @@ is_none (turn ∷ more) = false
 abbrev pub whereabouts_words : List ℕ → List ℕ → ℕ → NamedTask → ℕ → List LoopTurn → List ℕ
 whereabouts_words text offsets end task forked turns =
     if task.t.0 == 0 then turns_words text offsets end turns
-    else (forked_words text offsets end task forked ++ more_turns text offsets end turns)
+    else (forked_at_words text offsets end task forked ++ more_turns text offsets end turns)
 
 -- the note; there is none for task 0 outside of loops
 abbrev pub whereabouts : List ℕ → List ℕ → ℕ → NamedTask → ℕ → List LoopTurn → List ℕ

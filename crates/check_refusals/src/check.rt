@@ -5,7 +5,7 @@ ghost use Rattle.pl_syntax.specs.Grammar.{IsText};
 ghost use Rattle.pl_syntax.specs.Printed.{line};
 ghost use Rattle.pl_syntax.specs.StatementOffsets.{AreOffsets};
 ghost use Rattle.check_scenes.specs.Scenes.{IsScene};
-ghost use Rattle.check_refusals.specs.CheckRefusals.{IsCheckRefusal, check_line, check_numbers};
+ghost use Rattle.check_refusals.specs.CheckRefusals.{IsCheckRefusal, check_fault_line, check_numbers};
 ghost use Rattle.check_refusals.specs.StatementPlaces.{statement_offset};
 
 use crate::matter::put_matter;
@@ -40,7 +40,7 @@ fn put_first_line(
     place: TextPlace,
     scene: &Scene,
 ) -> Result<(), NoMemory>
-    ensures { OnOk result (out.new.items ≡ out.old.items ++ check_line places.now (option_map (λ f. f.now) file.entry) place scene.now) }
+    ensures { OnOk result (out.new.items ≡ out.old.items ++ check_fault_line places.now (option_map (λ f. f.now) file.entry) place scene.now) }
 {
     places.put_front(alloc, out, file, place)?;
     out.extend_from_slice(b": ")?;

@@ -1,5 +1,5 @@
 // Laws of refusals.
-ghost use Rattle.check_refusals.specs.Laws.{HasCheckRefusal, HasOneCheckRefusal};
+ghost use Rattle.check_refusals.specs.calls.Laws.{HasCheckRefusal, HasOneCheckRefusal};
 
 /// A text, of a file or not, is refused in one way for a check fault.
 pub fn text_has_one_check_refusal()

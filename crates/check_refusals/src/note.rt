@@ -1,6 +1,6 @@
 // The note on what is wrong at a check fault.
 ghost use Rattle.std.specs.Prelude.{◌≡◌, ◌++◌, OnOk, codes};
-ghost use Rattle.check_refusals.specs.MatterNotes.{line_at, matter_note};
+ghost use Rattle.check_refusals.specs.MatterNotes.{note_line, matter_note};
 ghost use Rattle.check_refusals.specs.NameWords.{phaser_words, task_words};
 
 use crate::names::{put_phaser, put_task};
@@ -18,7 +18,7 @@ fn put_line_at(
     words: &[u8],
     place: TextPlace,
 ) -> Result<(), NoMemory>
-    ensures { OnOk result (out.new.items ≡ out.old.items ++ line_at places.now words.now place) }
+    ensures { OnOk result (out.new.items ≡ out.old.items ++ note_line places.now words.now place) }
 {
     out.extend_from_slice(b"  ")?;
     out.extend_from_slice(words)?;
@@ -35,7 +35,7 @@ fn put_made(
     phaser: &NamedPhaser,
     place: TextPlace,
 ) -> Result<(), NoMemory>
-    ensures { OnOk result (out.new.items ≡ out.old.items ++ line_at places.now (phaser_words phaser.now ++ codes " made at ") place) }
+    ensures { OnOk result (out.new.items ≡ out.old.items ++ note_line places.now (phaser_words phaser.now ++ codes " made at ") place) }
 {
     let mut words = Vec::new(alloc);
     put_phaser(alloc, &mut words, phaser)?;
@@ -52,7 +52,7 @@ fn put_task_at(
     verb: &[u8],
     place: TextPlace,
 ) -> Result<(), NoMemory>
-    ensures { OnOk result (out.new.items ≡ out.old.items ++ line_at places.now (task_words task.now ++ verb.now) place) }
+    ensures { OnOk result (out.new.items ≡ out.old.items ++ note_line places.now (task_words task.now ++ verb.now) place) }
 {
     let mut words = Vec::new(alloc);
     put_task(alloc, &mut words, task)?;

@@ -1,6 +1,6 @@
 // Where the statements of a text stand.
 ghost use Rattle.std.specs.Prelude.{◌≡◌, slice_index_or};
-ghost use Rattle.check_refusals.specs.StatementPlaces.{statement_offset, statement_place};
+ghost use Rattle.check_refusals.specs.StatementPlaces.{statement_offset, place_of_statement};
 
 use armus_base::List;
 use text_places::{TextPlace, TextPlaces};
@@ -37,7 +37,7 @@ impl<'t> Statements<'t> {
 
     /// The place of statement n; of the end of the text for 0.
     pub(crate) fn place(&self, n: u32) -> TextPlace
-        ensures { result ≡ statement_place self.now.places self.now.offsets self.now.end n }
+        ensures { result ≡ place_of_statement self.now.places self.now.offsets self.now.end n }
     {
         self.places.at(self.offset(n))
     }

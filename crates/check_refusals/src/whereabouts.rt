@@ -2,7 +2,7 @@
 ghost use Rattle.std.specs.Prelude.{◌≡◌, ◌++◌, [], OnOk, codes, decimal, flat_map};
 ghost use Rattle.text_places.specs.PlaceWords.{place_words};
 ghost use Rattle.check_refusals.specs.NameWords.{task_words};
-ghost use Rattle.check_refusals.specs.Whereabouts.{forked_words, is_none, more_turns, turn_words, turns_words, whereabouts, whereabouts_words};
+ghost use Rattle.check_refusals.specs.Whereabouts.{forked_at_words, is_none, more_turns, loop_turn_words, turns_words, whereabouts, whereabouts_words};
 
 use crate::names::put_task;
 use crate::statements::Statements;
@@ -35,7 +35,7 @@ fn put_forked(
     task: &NamedTask,
     forked: u32,
 ) -> Result<(), NoMemory>
-    ensures { OnOk result (out.new.items ≡ out.old.items ++ forked_words statements.now.places statements.now.offsets statements.now.end task.now forked) }
+    ensures { OnOk result (out.new.items ≡ out.old.items ++ forked_at_words statements.now.places statements.now.offsets statements.now.end task.now forked) }
 {
     put_forked_at(
         alloc,
@@ -76,7 +76,7 @@ fn put_turn(
     statements: &Statements,
     turn: LoopTurn,
 ) -> Result<(), NoMemory>
-    ensures { OnOk result (out.new.items ≡ out.old.items ++ turn_words statements.now.places statements.now.offsets statements.now.end turn) }
+    ensures { OnOk result (out.new.items ≡ out.old.items ++ loop_turn_words statements.now.places statements.now.offsets statements.now.end turn) }
 {
     put_turn_at(
         alloc,
@@ -94,7 +94,7 @@ fn put_next_turn(
     statements: &Statements,
     turn: LoopTurn,
 ) -> Result<(), NoMemory>
-    ensures { OnOk result (out.new.items ≡ out.old.items ++ (codes "; " ++ turn_words statements.now.places statements.now.offsets statements.now.end turn)) }
+    ensures { OnOk result (out.new.items ≡ out.old.items ++ (codes "; " ++ loop_turn_words statements.now.places statements.now.offsets statements.now.end turn)) }
 {
     out.extend_from_slice(b"; ")?;
     put_turn(alloc, out, statements, turn)

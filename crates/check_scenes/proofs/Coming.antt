@@ -18,7 +18,7 @@ use Rattle.pl_plan.proofs.Simulating as simulating
 use Rattle.pl_plan.proofs.Walks.{keeps_acting, keeps_ok, simulates_acting}
 use Rattle.check_scenes.specs.declared.frames.Item.{Item}
 use Rattle.check_scenes.specs.inside.Framed.{Comes, to_adv, to_await, to_dereg, to_fork, to_loop, to_new_phaser, to_new_task, to_reg, to_skip, to_turn}
-use Rattle.check_scenes.specs.inside.Seen.{checker_come}
+use Rattle.check_scenes.specs.inside.Seen.{visit_checked}
 
 pub has_names : (n : ℕ) (names : ℕ → List ℕ) (steps : List Step) (item : Item) (m : Visit) → Comes n names steps item m → HasNames n item.step
 has_names n names steps i m (to_new_task x l) = l
@@ -85,7 +85,7 @@ module _ (names : ℕ → List ℕ) (k : Checker) (s : UnfoldingState) (f : IsCh
       (λ k1 s1 keeps shows. subst (λ o. Simulates names o (come_to t (at + 1) c s1)) (sym (ks k1)) (s1, ss s1, shows))
 
   pub simulates_come :
-      (item : Item) (m : Visit) → Comes (length k.bindings.slots) names k.steps item m → Simulates names (checker_come t item.at item.step k) (make_visit t m s)
+      (item : Item) (m : Visit) → Comes (length k.bindings.slots) names k.steps item m → Simulates names (visit_checked t item.at item.step k) (make_visit t m s)
   simulates_come i m (to_new_task {at} x l) = plain_sim at (a_step.NewTask x) (new_task (names x.0)) (x, refl, (l, refl))
   simulates_come i m (to_new_phaser {at} x l) = plain_sim at (a_step.NewPhaser x) (new_phaser (names x.0)) (x, refl, (l, refl))
   simulates_come i m (to_reg {at} x y l r) = plain_sim at (a_step.Reg x y) (reg (names x.0) (names y.0)) (x, y, refl, (l, refl), (r, refl))
@@ -104,7 +104,7 @@ module _ (names : ℕ → List ℕ) (k : Checker) (s : UnfoldingState) (f : IsCh
   plain_keeps at step l =
       keeps_count_then (at + 1) (checker_act t (at + 1) step) (λ k1 keeps. keeps_acting k1 keeps.fits t (at + 1) step (subst (λ n. HasNames n step) (sym keeps.slots) l))
 
-  pub keeps_come : (item : Item) (m : Visit) → Comes (length k.bindings.slots) names k.steps item m → KeepsAll k (checker_come t item.at item.step k)
+  pub keeps_come : (item : Item) (m : Visit) → Comes (length k.bindings.slots) names k.steps item m → KeepsAll k (visit_checked t item.at item.step k)
   keeps_come i m (to_new_task {at} x l) = plain_keeps at (a_step.NewTask x) l
   keeps_come i m (to_new_phaser {at} x l) = plain_keeps at (a_step.NewPhaser x) l
   keeps_come i m (to_reg {at} x y l r) = plain_keeps at (a_step.Reg x y) (l, r)
@@ -133,7 +133,7 @@ module _ (names : ℕ → List ℕ) (k : Checker) (s : UnfoldingState) (f : IsCh
   err_is : (a b : CheckFault) → ◌≡◌ {A = Outcome UnfoldingState} (Err a) (Err b) → a ≡ b
   err_is a b e = cc
 
-  pub came_past : (item : Item) (m : Visit) (new : Checker) → Comes (length k.bindings.slots) names k.steps item m → checker_come t item.at item.step k ≡ Ok new → CamePast m new
+  pub came_past : (item : Item) (m : Visit) (new : Checker) → Comes (length k.bindings.slots) names k.steps item m → visit_checked t item.at item.step k ≡ Ok new → CamePast m new
   came_past item m new c is =
       by (first_kind table s t m.coming) refl (subst (λ o. Simulates names o (make_visit t m s)) is (simulates_come item m c))
     where
@@ -142,14 +142,14 @@ module _ (names : ℕ → List ℕ) (k : Checker) (s : UnfoldingState) (f : IsCh
           let same : shows.0 ≡ after_stage (comes t m) s =
           ok_is shows.0 (after_stage (comes t m) s) (sym shows.1 ∙ visit_by t m s ∙ ap (λ o. answer m.statement o (after_stage (comes t m) s)) none) in
           record {
-            keeps = keeps_ok k (checker_come t item.at item.step k) new is (keeps_come item m c);
+            keeps = keeps_ok k (visit_checked t item.at item.step k) new is (keeps_come item m c);
             passes = passes_if s t m.coming none;
             shows = subst (λ z. ShowsState names new z) same shows.2;
           }
       by (Some kind) some shows =
           absurd (let e = sym shows.1 ∙ visit_by t m s ∙ ap (λ o. answer m.statement o (after_stage (comes t m) s)) some in cc)
 
-  pub came_fails : (item : Item) (m : Visit) (f : CheckFault) → Comes (length k.bindings.slots) names k.steps item m → checker_come t item.at item.step k ≡ Err f → FailsAt s (comes t m) f
+  pub came_fails : (item : Item) (m : Visit) (f : CheckFault) → Comes (length k.bindings.slots) names k.steps item m → visit_checked t item.at item.step k ≡ Err f → FailsAt s (comes t m) f
   came_fails item m g c is =
       by (first_kind table s t m.coming) refl (subst (λ o. Simulates names o (make_visit t m s)) is (simulates_come item m c))
     where

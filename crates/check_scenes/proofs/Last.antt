@@ -5,10 +5,10 @@ use Rattle.std.proofs.lemmas.List.{take_more}
 use Rattle.pl_plan.specs.Unfolding.{UnfoldingState}
 use Rattle.pl_plan.specs.Stages.{Stage, StagesLead, after_stage}
 use Rattle.check_scenes.specs.Deeds as deeds
-use Rattle.check_scenes.specs.Deeds.{last_that, name_given, or_else, statement_in}
+use Rattle.check_scenes.specs.Deeds.{last_that, name_given, or_else, stage_statement}
 use Rattle.check_scenes.specs.declared.notes.Deed.{Deed}
 use Rattle.check_scenes.specs.declared.notes.Note.{Note}
-use Rattle.check_scenes.specs.inside.Noted.{MarkTells, Means, Tells, last_noted, name_by, same_deed}
+use Rattle.check_scenes.specs.inside.Noted.{MarkTells, MeansDeed, NotesTell, last_noted, name_by, same_deed}
 
 pub else_else : {A : Type 0} (a b c : Option A) → or_else a (or_else b c) ≡ or_else (or_else a b) c
 else_else a b None = refl
@@ -42,7 +42,7 @@ that_more two did before (x ∷ xs) first s v leads =
 abbrev pub NotesFit : (ℕ → List ℕ) → UnfoldingState → Stage → List Note → Deed → deeds.Deed → Type 0
 NotesFit names s v [] d did = did s v ≡ false
 NotesFit names s v (n ∷ ns) d did =
-    (ns ≡ []) × (did s v ≡ same_deed n.deed d) × (statement_in (Some v) ≡ n.statement) × (name_given (Some v) ≡ name_by names n.name)
+    (ns ≡ []) × (did s v ≡ same_deed n.deed d) × (stage_statement (Some v) ≡ n.statement) × (name_given (Some v) ≡ name_by names n.name)
 
 module _ (names : ℕ → List ℕ) where
   marks_else : (a b : Option Note) (x y : Option Stage) → MarkTells names a x → MarkTells names b y → MarkTells names (or_else a b) (or_else x y)
@@ -51,14 +51,14 @@ module _ (names : ℕ → List ℕ) where
   marks_else a None x (Some v) p q = absurd q
   marks_else a (Some n) x None p q = absurd q
 
-  mark_of : (b : Bool) (n : Note) (v : Stage) → statement_in (Some v) ≡ n.statement → name_given (Some v) ≡ name_by names n.name →
+  mark_of : (b : Bool) (n : Note) (v : Stage) → stage_statement (Some v) ≡ n.statement → name_given (Some v) ≡ name_by names n.name →
       MarkTells names (if b then Some n else None) (if b then Some v else None)
   mark_of true n v p q = (p, q)
   mark_of false n v p q = tt
 
   pub tells_more :
-      (two : Bool) (xs : List Stage) (first s : UnfoldingState) (v : Stage) (notes new : List Note) → StagesLead two [] xs first s → Tells names first xs notes →
-      ((d : Deed) (did : deeds.Deed) → Means d did → NotesFit names s v new d did) → Tells names first (xs ++ v ∷ []) (notes ++ new)
+      (two : Bool) (xs : List Stage) (first s : UnfoldingState) (v : Stage) (notes new : List Note) → StagesLead two [] xs first s → NotesTell names first xs notes →
+      ((d : Deed) (did : deeds.Deed) → MeansDeed d did → NotesFit names s v new d did) → NotesTell names first (xs ++ v ∷ []) (notes ++ new)
   tells_more two xs first s v notes [] leads tells fits d did means =
       subst (λ z. MarkTells names (last_noted d z) (last_that did first (xs ++ v ∷ []))) (sym (nil_right notes))
       (subst (λ o. MarkTells names (last_noted d notes) o) (sym (that_more two did [] xs first s v leads))

@@ -9,7 +9,7 @@ use Rattle.pl_plan.proofs.Spelled.{spelled_count}
 use Rattle.check_scenes.specs.Turns.{loops_around}
 use Rattle.check_scenes.specs.declared.notes.LastTurn.{LastTurn}
 use Rattle.check_scenes.specs.declared.scene.LoopTurn.{LoopTurn}
-use Rattle.check_scenes.specs.inside.Told.{AreTurns, behind, enters, turn_told}
+use Rattle.check_scenes.specs.inside.Told.{AreTurns, index_behind, enters, turn_told}
 
 plain_enters : (n : ℕ) (names : ℕ → List ℕ) (step : Step) (c : Plain) (at s : ℕ) → IsStep n names step c → enters step at s ≡ None
 plain_enters n names step (new_task x) at s h = ap (λ z. enters z at s) h.1
@@ -20,14 +20,14 @@ plain_enters n names step (adv x) at s h = ap (λ z. enters z at s) h.1
 plain_enters n names step (await x off) at s h = ap (λ z. enters z at s) h.1
 plain_enters n names step skip at s h = ap (λ z. enters z at s) h
 
-plain_behind : (n : ℕ) (names : ℕ → List ℕ) (step : Step) (c : Plain) (at : ℕ) → IsStep n names step c → behind step at ≡ at + 1
-plain_behind n names step (new_task x) at h = ap (λ z. behind z at) h.1
-plain_behind n names step (new_phaser x) at h = ap (λ z. behind z at) h.1
-plain_behind n names step (reg x y) at h = ap (λ z. behind z at) h.2
-plain_behind n names step (dereg x) at h = ap (λ z. behind z at) h.1
-plain_behind n names step (adv x) at h = ap (λ z. behind z at) h.1
-plain_behind n names step (await x off) at h = ap (λ z. behind z at) h.1
-plain_behind n names step skip at h = ap (λ z. behind z at) h
+plain_behind : (n : ℕ) (names : ℕ → List ℕ) (step : Step) (c : Plain) (at : ℕ) → IsStep n names step c → index_behind step at ≡ at + 1
+plain_behind n names step (new_task x) at h = ap (λ z. index_behind z at) h.1
+plain_behind n names step (new_phaser x) at h = ap (λ z. index_behind z at) h.1
+plain_behind n names step (reg x y) at h = ap (λ z. index_behind z at) h.2
+plain_behind n names step (dereg x) at h = ap (λ z. index_behind z at) h.1
+plain_behind n names step (adv x) at h = ap (λ z. index_behind z at) h.1
+plain_behind n names step (await x off) at h = ap (λ z. index_behind z at) h.1
+plain_behind n names step skip at h = ap (λ z. index_behind z at) h
 
 some_is : {a b : ℕ} → ◌≡◌ {A = Option ℕ} (Some a) (Some b) → a ≡ b
 some_is e = cc
@@ -75,7 +75,7 @@ module _ (n : ℕ) (names : ℕ → List ℕ) (steps : List Step) (s at to : ℕ
         loops_are = ap (λ (b : Bool). if b then (at + 1) ∷ loops_around (at + 1 + 1) body s else loops_around (at + 1 + 1 + count body) rest s) test;
       }
 
-  pub outside : (tree : Tree) → IsSpelled n names steps at tree to → at < to → enters (step_at steps at) at s ≡ None → Outside tree (behind (step_at steps at) at)
+  pub outside : (tree : Tree) → IsSpelled n names steps at tree to → at < to → enters (step_at steps at) at s ≡ None → Outside tree (index_behind (step_at steps at) at)
   outside done e lt is = absurd (omega (arith, e, lt))
   outside (plain c rest) e lt is =
       subst (λ i. Outside (plain c rest) i) (sym (plain_behind n names (step_at steps at) c at e.0))
@@ -83,7 +83,7 @@ module _ (n : ℕ) (names : ℕ → List ℕ) (steps : List Step) (s at to : ℕ
   outside (fork x body rest) e lt is =
       let inner = spelled_count n names steps (at + 1) body e.1 e.4 in
       let outer = spelled_count n names steps e.1 rest to e.5 in
-      subst (λ i. Outside (fork x body rest) i) (sym (ap (λ z. behind z at) e.2))
+      subst (λ i. Outside (fork x body rest) i) (sym (ap (λ z. index_behind z at) e.2))
       (record {
         rest = rest;
         there = e.5;
@@ -96,7 +96,7 @@ module _ (n : ℕ) (names : ℕ → List ℕ) (steps : List Step) (s at to : ℕ
       let outer = spelled_count n names steps e.0 rest to e.4 in
       let l = loop_passes (nat_lt (at + 1) s && nat_le s e.0) e.0 (sym (ap (λ z. enters z at s) e.1) ∙ is) in
       let test : nat_lt (at + 1) s && nat_le s (at + 1 + count body) ≡ false = ap (λ i. nat_lt (at + 1) s && nat_le s i) (sym inner) ∙ l in
-      subst (λ i. Outside (loop k body rest) i) (sym (ap (λ z. behind z at) e.1))
+      subst (λ i. Outside (loop k body rest) i) (sym (ap (λ z. index_behind z at) e.1))
       (record {
         rest = rest;
         there = e.4;
@@ -142,7 +142,7 @@ module _ (steps : List Step) (last_turns : List LastTurn) (t s first after : ℕ
     pub inside_within : (end : ℕ) → enters (step_at steps at) at s ≡ Some end → end ≤ to
     inside_within end is = (let some = now.some in let i = inside some.0 some.1.0 steps s at to some.1.1 end some.1.2 lt is in i.within)
 
-    pub nears_outside : enters (step_at steps at) at s ≡ None → Nears steps last_turns t s first after (behind (step_at steps at) at) to turns
+    pub nears_outside : enters (step_at steps at) at s ≡ None → Nears steps last_turns t s first after (index_behind (step_at steps at) at) to turns
     nears_outside is =
         let some = now.some in
         let i = outside some.0 some.1.0 steps s at to some.1.1 some.1.2 lt is in
@@ -155,7 +155,7 @@ module _ (steps : List Step) (last_turns : List LastTurn) (t s first after : ℕ
               (j.rest, j.there, a.2 ∙ ap (λ ls. turns ++ map (turn_told last_turns t) ls) j.loops_are);
         }
 
-    pub outside_further : enters (step_at steps at) at s ≡ None → at < behind (step_at steps at) at
+    pub outside_further : enters (step_at steps at) at s ≡ None → at < index_behind (step_at steps at) at
     outside_further is = (let some = now.some in let i = outside some.0 some.1.0 steps s at to some.1.1 some.1.2 lt is in i.further)
 
   pub nears_end : (at to : ℕ) (turns : List LoopTurn) → Nears steps last_turns t s first after at to turns → to ≤ at → AreTurns steps first after last_turns t s turns

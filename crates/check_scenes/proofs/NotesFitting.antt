@@ -15,7 +15,7 @@ use Rattle.check_scenes.specs.Deeds as deeds
 use Rattle.check_scenes.specs.declared.frames.Item.{Item}
 use Rattle.check_scenes.specs.declared.notes.Deed.{Deed}
 use Rattle.check_scenes.specs.inside.Framed.{Comes, to_adv, to_await, to_dereg, to_fork, to_loop, to_new_phaser, to_new_task, to_reg, to_skip, to_turn}
-use Rattle.check_scenes.specs.inside.Noted.{Means, means_drew, means_forked, means_left, means_made, means_registered, notes_at, phaser_in, task_in}
+use Rattle.check_scenes.specs.inside.Noted.{MeansDeed, means_drew, means_forked, means_left, means_made, means_registered, notes_at, phaser_in, task_in}
 use Rattle.check_scenes.specs.inside.Seen.{sight_of}
 use Rattle.check_scenes.proofs.Last.{NotesFit}
 
@@ -41,7 +41,7 @@ module _ (names : ℕ → List ℕ) (k : Checker) (s : UnfoldingState) (h : Show
   phaser_named x l = ap phaser_number (h.named x.0 l) ∙ phaser_same (thing_at k x.0)
 
   pub notes_fit :
-      (item : Item) (m : Visit) → Comes (length k.bindings.slots) names k.steps item m → (d : Deed) (did : deeds.Deed) → Means d did →
+      (item : Item) (m : Visit) → Comes (length k.bindings.slots) names k.steps item m → (d : Deed) (did : deeds.Deed) → MeansDeed d did →
       NotesFit names s (comes t.0 m) (notes_at (sight_of k t item) item.step) d did
   notes_fit i m (to_new_task x l) d did (means_drew {c}) =
       (refl, ap (λ (ps : List (Option TaskId)). length ps == c) h.plan.parents ∙ and_true (length k.parents == c), refl, refl)

@@ -5,7 +5,8 @@ use Rattle.pl_plan.specs.declared.fault.CheckFault.{CheckFault}
 use Rattle.pl_plan.specs.Unfolding.{UnfoldingState, opening_state}
 use Rattle.pl_plan.specs.Stages.{FailsAt, IsFirstCheckFault, IsNextStage, Stage}
 use Rattle.pl_plan.proofs.Unfolds.{fault_blocks, next_same, one_fault, one_way}
-use Rattle.check_scenes.specs.Scenes.{HasOneScene, Past, about, forked_at, named_task, past_of, task_of, turns_around}
+use Rattle.check_scenes.specs.calls.Scenes.{HasOneScene}
+use Rattle.check_scenes.specs.Scenes.{Past, about, forked_at, named_task, past_of, current_task, turns_around}
 
 -- where a program's first fault stands is one
 record SamePlace (program : Program) (f g : CheckFault) (a : IsFirstCheckFault program f) (b : IsFirstCheckFault program g) : Type 0 where
@@ -35,9 +36,9 @@ one_scene program a b p q =
     let pasts : past_of program a p.found ≡ past_of program b q.found =
     past_is (opening_state program.body) p.found.stages q.found.stages p.found.there q.found.there same.stages same.there in
     let tasks : a.task ≡ b.task =
-    p.task_is ∙ (ap (λ x. named_task x (task_of p.found.stage)) pasts ∙ (ap (λ v. named_task (past_of program b q.found) (task_of v)) same.stage ∙ sym q.task_is)) in
+    p.task_is ∙ (ap (λ x. named_task x (current_task p.found.stage)) pasts ∙ (ap (λ v. named_task (past_of program b q.found) (current_task v)) same.stage ∙ sym q.task_is)) in
     let forks : a.forked ≡ b.forked =
-    p.forked_is ∙ (ap (λ x. forked_at x (task_of p.found.stage)) pasts ∙ (ap (λ v. forked_at (past_of program b q.found) (task_of v)) same.stage ∙ sym q.forked_is)) in
+    p.forked_is ∙ (ap (λ x. forked_at x (current_task p.found.stage)) pasts ∙ (ap (λ v. forked_at (past_of program b q.found) (current_task v)) same.stage ∙ sym q.forked_is)) in
     let turns : a.turns ≡ b.turns =
     p.turns_are ∙ (ap (λ x. turns_around x p.found.stage) pasts ∙ (ap (λ v. turns_around (past_of program b q.found) v) same.stage ∙ sym q.turns_are)) in
     let matters : a.matter ≡ b.matter =

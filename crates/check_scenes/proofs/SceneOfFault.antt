@@ -1,15 +1,16 @@
 -- A first check fault has a scene.
 use Rattle.std.proofs.Common.{refl}
 use Rattle.pl_plan.specs.Unfolding.{opening_state}
-use Rattle.check_scenes.specs.Scenes.{HasScene, Past, about, forked_at, named_task, task_of, turns_around}
+use Rattle.check_scenes.specs.calls.Scenes.{HasScene}
+use Rattle.check_scenes.specs.Scenes.{Past, about, forked_at, named_task, current_task, turns_around}
 
 pub has_scene : HasScene
 has_scene program fault found =
     let past : Past = record { first = opening_state program.body; stages = found.stages; there = found.there } in (
       record {
         fault = fault;
-        task = named_task past (task_of found.stage);
-        forked = forked_at past (task_of found.stage);
+        task = named_task past (current_task found.stage);
+        forked = forked_at past (current_task found.stage);
         turns = turns_around past found.stage;
         matter = about past fault.kind found.stage;
       },

@@ -15,8 +15,8 @@ use Rattle.pl_plan.specs.inside.Checker.{Checker, thing_at}
 use Rattle.pl_plan.specs.inside.CheckerSteps.{thing_of}
 use Rattle.pl_plan.specs.inside.Shows.{ShowsState}
 use Rattle.pl_plan.proofs.ByTable.{first_kind, kind_or, kind_some}
-use Rattle.check_scenes.specs.Deeds.{drew, forked, left, made, name_given, registered, statement_in}
-use Rattle.check_scenes.specs.Scenes.{IsScene, Past, about, about_cells, about_drawn, about_member, about_name, about_names, about_registered, about_visit, done_by, drawn_at, forked_at, made_at, named_phaser, named_task, parent_number, task_of, turns_around}
+use Rattle.check_scenes.specs.Deeds.{did_draw, did_fork, did_leave, did_make, name_given, did_register, stage_statement}
+use Rattle.check_scenes.specs.Scenes.{IsScene, Past, about, about_cells, about_drawn, about_member, about_name, about_names, about_registered, about_visit, done_by, drawn_at, forked_at, made_at, named_phaser, named_task, parent_number, current_task, turns_around}
 use Rattle.check_scenes.specs.Turns.{loops_around, loops_of, turn_in, turns_in, visits_among}
 use Rattle.check_scenes.specs.declared.frames.Item.{Item}
 use Rattle.check_scenes.specs.declared.notes.LastTurn.{LastTurn}
@@ -32,7 +32,7 @@ use Rattle.check_scenes.specs.declared.seek.Place.TheVariants as p
 use Rattle.check_scenes.specs.declared.seek.Stop.{Stop}
 use Rattle.check_scenes.specs.declared.sight.Sight.{Sight}
 use Rattle.check_scenes.specs.inside.Framed.{Comes, to_adv, to_await, to_dereg, to_fork, to_loop, to_new_phaser, to_new_task, to_reg, to_skip, to_turn}
-use Rattle.check_scenes.specs.inside.Noted.{MarkTells, Tells, a_deed, last_noted, means_drew, means_forked, means_left, means_made, means_registered, task_in}
+use Rattle.check_scenes.specs.inside.Noted.{MarkTells, NotesTell, a_deed, last_noted, means_drew, means_forked, means_left, means_made, means_registered, task_in}
 use Rattle.check_scenes.specs.inside.Seeks.{AtVisit, IsAt, Source, Stopped}
 use Rattle.check_scenes.specs.inside.Seen.{sight_of}
 use Rattle.check_scenes.specs.inside.Told.{EndScene, PlaceCanBeTold, PlaceScene, VisitScene, cells_told, drawn_told, forked_told, member_told, name_noted, names_told, parent_told, phaser_told, reg_told, registered_told, statement_noted, task_told, thing_told, turn_told, visit_told, wanted_told}
@@ -41,7 +41,7 @@ use Rattle.check_scenes.proofs.NotesFitting.{phaser_named, task_named}
 
 -- ---- notes
 
-statement_same : (names : ℕ → List ℕ) (o : Option Note) (x : Option Stage) → MarkTells names o x → statement_in x ≡ statement_noted o
+statement_same : (names : ℕ → List ℕ) (o : Option Note) (x : Option Stage) → MarkTells names o x → stage_statement x ≡ statement_noted o
 statement_same names None None tells = refl
 statement_same names (Some note) (Some stage) tells = tells.0
 statement_same names None (Some stage) tells = absurd tells
@@ -73,24 +73,24 @@ four_give : (P : ℕ → Type 0) (a b c d : Bool) (i j l n kind : ℕ) → kind_
 four_give P a b c d i j l n kind e p q r s =
     kind_gives P a i (kind_or b j (kind_or c l (kind_or d n None))) kind e p (λ e. three_give P b c d j l n kind e q r s)
 
-module _ (names : ℕ → List ℕ) (notes : List Note) (past : Past) (told : Tells names past.first past.stages notes) where
+module _ (names : ℕ → List ℕ) (notes : List Note) (past : Past) (told : NotesTell names past.first past.stages notes) where
   drawn_same : (c : ℕ) → drawn_at past c ≡ statement_noted (last_noted (a_deed 0 c 0) notes)
-  drawn_same c = statement_same names (last_noted (a_deed 0 c 0) notes) (done_by past (drew c)) (told (a_deed 0 c 0) (drew c) means_drew)
+  drawn_same c = statement_same names (last_noted (a_deed 0 c 0) notes) (done_by past (did_draw c)) (told (a_deed 0 c 0) (did_draw c) means_drew)
 
   made_same : (q : ℕ) → made_at past q ≡ statement_noted (last_noted (a_deed 1 q 0) notes)
-  made_same q = statement_same names (last_noted (a_deed 1 q 0) notes) (done_by past (made q)) (told (a_deed 1 q 0) (made q) means_made)
+  made_same q = statement_same names (last_noted (a_deed 1 q 0) notes) (done_by past (did_make q)) (told (a_deed 1 q 0) (did_make q) means_made)
 
   pub forked_same : (c : ℕ) → forked_at past c ≡ statement_noted (last_noted (a_deed 2 c 0) notes)
-  forked_same c = statement_same names (last_noted (a_deed 2 c 0) notes) (done_by past (forked c)) (told (a_deed 2 c 0) (forked c) means_forked)
+  forked_same c = statement_same names (last_noted (a_deed 2 c 0) notes) (done_by past (did_fork c)) (told (a_deed 2 c 0) (did_fork c) means_forked)
 
   pub task_same : (c : ℕ) → named_task past c ≡ task_told names notes c
   task_same c =
-      let e = name_same names (last_noted (a_deed 0 c 0) notes) (done_by past (drew c)) (told (a_deed 0 c 0) (drew c) means_drew) in
+      let e = name_same names (last_noted (a_deed 0 c 0) notes) (done_by past (did_draw c)) (told (a_deed 0 c 0) (did_draw c) means_drew) in
       ap (λ name. record { t = task c; name = name }) e
 
   pub phaser_same : (q : ℕ) → named_phaser past q ≡ phaser_told names notes q
   phaser_same q =
-      let e = name_same names (last_noted (a_deed 1 q 0) notes) (done_by past (made q)) (told (a_deed 1 q 0) (made q) means_made) in
+      let e = name_same names (last_noted (a_deed 1 q 0) notes) (done_by past (did_make q)) (told (a_deed 1 q 0) (did_make q) means_made) in
       ap (λ name. record { p = phaser q; name = name }) e
 
   thing_same : (verb : Verb) (x : List ℕ) (thing : code.Thing) → about_name past verb x (thing_of thing) ≡ thing_told names notes verb x thing
@@ -104,15 +104,15 @@ module _ (names : ℕ → List ℕ) (notes : List Note) (past : Past) (told : Te
   member_by q None (Some stage) tells = absurd tells
   member_by q (Some note) None tells = absurd tells
 
-  member_same : (t q q' : ℕ) → q ≡ q' → about_member past q (done_by past (left t q)) ≡ member_told names notes q' (last_noted (a_deed 4 t q') notes)
+  member_same : (t q q' : ℕ) → q ≡ q' → about_member past q (done_by past (did_leave t q)) ≡ member_told names notes q' (last_noted (a_deed 4 t q') notes)
   member_same t q q' e =
-      ap (λ z. about_member past z (done_by past (left t z))) e
-      ∙ member_by q' (last_noted (a_deed 4 t q') notes) (done_by past (left t q')) (told (a_deed 4 t q') (left t q') means_left)
+      ap (λ z. about_member past z (done_by past (did_leave t z))) e
+      ∙ member_by q' (last_noted (a_deed 4 t q') notes) (done_by past (did_leave t q')) (told (a_deed 4 t q') (did_leave t q') means_left)
 
   registered_same : (c c' q q' : ℕ) → c ≡ c' → q ≡ q' → about_registered past c q ≡ registered_told names notes c' q'
   registered_same c c' q q' e f =
       ap (λ z. about_registered past z q) e ∙ ap (λ z. about_registered past c' z) f
-      ∙ (let s = statement_same names (last_noted (a_deed 3 c' q') notes) (done_by past (registered c' q')) (told (a_deed 3 c' q') (registered c' q') means_registered) in
+      ∙ (let s = statement_same names (last_noted (a_deed 3 c' q') notes) (done_by past (did_register c' q')) (told (a_deed 3 c' q') (did_register c' q') means_registered) in
       λ i. m.AlreadyMember (task_same c' i) (phaser_same q' i) (s i))
 
   parent_same : (o : Option TaskId) → parent_number past o ≡ parent_told o
@@ -170,14 +170,14 @@ module _ (names : ℕ → List ℕ) (notes : List Note) (past : Past) (told : Te
         about_visit past kind t.0 c ≡ visit_told names notes kind s
     named_same kind c s mine named wanted first parent cells =
         let t_is : t.0 ≡ s.t.0 = ap (λ (u : TaskId). u.0) (sym mine) in
-        let member = ap (λ u. about_member past (phaser_wanted past.there c) (done_by past (left u (phaser_wanted past.there c)))) t_is
+        let member = ap (λ u. about_member past (phaser_wanted past.there c) (done_by past (did_leave u (phaser_wanted past.there c)))) t_is
         ∙ member_same s.t.0 (phaser_wanted past.there c) (wanted_told s s.item.step) wanted in
-        let registered = registered_same (task_number (first_thing past.there c)) (task_in s.x) (phaser_wanted past.there c) (wanted_told s s.item.step) first wanted in
+        let did_register = registered_same (task_number (first_thing past.there c)) (task_in s.x) (phaser_wanted past.there c) (wanted_told s s.item.step) first wanted in
         let drawn = drawn_here (task_number (first_thing past.there c)) (task_in s.x) s.parent first parent in
         let forks = forked_here (task_number (first_thing past.there c)) (task_in s.x) first in
         λ i. if (kind == unknown_name) || (kind == other_kind) then named i
         else (if kind == not_member then member i
-        else (if kind == already_member then registered i
+        else (if kind == already_member then did_register i
         else (if kind == not_drawn_here then drawn i
         else (if kind == already_forked then forks i
         else (if kind == 7 then m.TooManyTasks
@@ -300,8 +300,8 @@ module _ (g : Source) (stop : Stop) (notes : List Note) (last_turns : List LastT
           next = st.next;
           fails = subst (λ f. FailsAt st.there st.stage f) (sym told.fault_is) st.fails;
         };
-        task_is = told.task_is ∙ sym (task_same g.names notes past st.told t) ∙ ap (λ z. named_task past (task_of z)) (sym at.stage_is);
-        forked_is = told.forked_is ∙ sym (forked_same g.names notes past st.told t) ∙ ap (λ z. forked_at past (task_of z)) (sym at.stage_is);
+        task_is = told.task_is ∙ sym (task_same g.names notes past st.told t) ∙ ap (λ z. named_task past (current_task z)) (sym at.stage_is);
+        forked_is = told.forked_is ∙ sym (forked_same g.names notes past st.told t) ∙ ap (λ z. forked_at past (current_task z)) (sym at.stage_is);
         turns_are = turns ∙ ap (turns_around past) (sym at.stage_is);
         matter_is =
             told.matter_is ∙ sym matter ∙ ap (λ z. about past stop.fault.kind z) (sym at.stage_is) ∙ ap (λ (f : CheckFault). about past f.kind st.stage) (sym told.fault_is);
@@ -318,8 +318,8 @@ module _ (g : Source) (stop : Stop) (notes : List Note) (last_turns : List LastT
           next = st.next;
           fails = subst (λ f. FailsAt st.there st.stage f) (sym told.fault_is) st.fails;
         };
-        task_is = told.task_is ∙ sym (task_same g.names notes past st.told t) ∙ ap (λ z. named_task past (task_of z)) (sym stage_is);
-        forked_is = told.forked_is ∙ sym (forked_same g.names notes past st.told t) ∙ ap (λ z. forked_at past (task_of z)) (sym stage_is);
+        task_is = told.task_is ∙ sym (task_same g.names notes past st.told t) ∙ ap (λ z. named_task past (current_task z)) (sym stage_is);
+        forked_is = told.forked_is ∙ sym (forked_same g.names notes past st.told t) ∙ ap (λ z. forked_at past (current_task z)) (sym stage_is);
         turns_are = told.turns_are ∙ ap (turns_around past) (sym stage_is);
         matter_is =
             told.matter_is ∙ ap m.TooManyOpsAtEnd (sym (phaser_same g.names notes past st.told q)) ∙ ap (λ z. about past scene.fault.kind z) (sym stage_is);

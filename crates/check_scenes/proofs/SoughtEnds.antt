@@ -24,7 +24,7 @@ use Rattle.check_scenes.specs.declared.notes.LastTurn.{LastTurn}
 use Rattle.check_scenes.specs.declared.notes.Note.{Note}
 use Rattle.check_scenes.specs.declared.seek.Place.TheVariants as p
 use Rattle.check_scenes.specs.declared.seek.Stop.{Stop}
-use Rattle.check_scenes.specs.inside.Noted.{LastTurnsTell, Means, Tells, means_drew, means_forked, means_left, means_made, means_registered}
+use Rattle.check_scenes.specs.inside.Noted.{LastTurnsTell, MeansDeed, NotesTell, means_drew, means_forked, means_left, means_made, means_registered}
 use Rattle.check_scenes.specs.inside.Seeks.{HasLeaving, IsAt, Leaving, Source, Stands, Stopped}
 use Rattle.check_scenes.proofs.TurnCounts.{among_append}
 use Rattle.check_scenes.proofs.Last.{tells_more}
@@ -32,13 +32,13 @@ use Rattle.check_scenes.proofs.SoughtSteps.{start_later}
 
 -- nothing is noted of a stage, and it is no visit
 pub record IsQuiet (v : Stage) : Type 0 where
-  pub unnoted : (s : UnfoldingState) (d : Deed) (did : deeds.Deed) → Means d did → did s v ≡ false
+  pub unnoted : (s : UnfoldingState) (d : Deed) (did : deeds.Deed) → MeansDeed d did → did s v ≡ false
   pub unvisited : (u : ℕ) → visits_among u (v ∷ []) ≡ []
 
 pub begins_quiet : (t : ℕ) → IsQuiet (begins t)
 begins_quiet t = record { unnoted = unnoted; unvisited = λ u. refl }
   where
-    unnoted : (s : UnfoldingState) (d : Deed) (did : deeds.Deed) → Means d did → did s (begins t) ≡ false
+    unnoted : (s : UnfoldingState) (d : Deed) (did : deeds.Deed) → MeansDeed d did → did s (begins t) ≡ false
     unnoted s d did means_drew = refl
     unnoted s d did means_made = refl
     unnoted s d did means_forked = refl
@@ -48,7 +48,7 @@ begins_quiet t = record { unnoted = unnoted; unvisited = λ u. refl }
 leaves_quiet : (t q : ℕ) → IsQuiet (leaves t q)
 leaves_quiet t q = record { unnoted = unnoted; unvisited = λ u. refl }
   where
-    unnoted : (s : UnfoldingState) (d : Deed) (did : deeds.Deed) → Means d did → did s (leaves t q) ≡ false
+    unnoted : (s : UnfoldingState) (d : Deed) (did : deeds.Deed) → MeansDeed d did → did s (leaves t q) ≡ false
     unnoted s d did means_drew = refl
     unnoted s d did means_made = refl
     unnoted s d did means_forked = refl
@@ -99,7 +99,7 @@ module _ (g : Source) where
           small = subst (λ (ss : List Step). length ss < 2 ^ 32) (sym keeps.steps) st.shown.small;
         };
         told =
-            subst (λ ns. Tells g.names (opening_state g.program.body) (st.stages ++ v ∷ []) ns) (append-nil notes)
+            subst (λ ns. NotesTell g.names (opening_state g.program.body) (st.stages ++ v ∷ []) ns) (append-nil notes)
             (tells_more g.names two st.stages (opening_state g.program.body) st.state v notes [] st.past.leads st.told (λ d did means. quiet.unnoted st.state d did means));
         last_turns_tell =
             subst (λ (ss : List Step). LastTurnsTell t (length ss) e.visits (st.stages ++ v ∷ []) last_turns) (sym keeps.steps)

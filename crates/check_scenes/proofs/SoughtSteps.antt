@@ -21,8 +21,8 @@ use Rattle.check_scenes.specs.declared.notes.Note.{Note}
 use Rattle.check_scenes.specs.declared.seek.Place.TheVariants as p
 use Rattle.check_scenes.specs.declared.seek.Stop.{Stop}
 use Rattle.check_scenes.specs.inside.Framed.{Comes, FramesAre, frames_after, next_item}
-use Rattle.check_scenes.specs.inside.Noted.{LastTurnsTell, Tells, TurnsTold, turn_at, with_last_turn, with_notes, notes_at}
-use Rattle.check_scenes.specs.inside.Seen.{checker_come, sight_of}
+use Rattle.check_scenes.specs.inside.Noted.{LastTurnsTell, NotesTell, TurnsTold, turn_at, with_last_turn, with_notes, notes_at}
+use Rattle.check_scenes.specs.inside.Seen.{visit_checked, sight_of}
 use Rattle.check_scenes.specs.inside.Seeks.{AtVisit, CameTo, HasMidst, HasStart, IsAt, IsShown, Midst, Source, Stands, Stopped}
 use Rattle.check_scenes.proofs.Coming.{came_fails, came_past, has_names, CamePast}
 use Rattle.check_scenes.proofs.FrameVisits.{Popped, WentOn, frames_few, frames_pop, idled, went_on}
@@ -88,7 +88,7 @@ module _ (g : Source) where
       pub visit_left : st.state.visits < 4194304
 
     pub came_on :
-        (new : Checker) (new_notes : List Note) (new_last_turns : List LastTurn) → item.at < length g.steps → checker_come t.0 item.at item.step k ≡ Ok new →
+        (new : Checker) (new_notes : List Note) (new_last_turns : List LastTurn) → item.at < length g.steps → visit_checked t.0 item.at item.step k ≡ Ok new →
         new_notes ≡ with_notes (sight_of k t item) notes → new_last_turns ≡ with_last_turn (sight_of k t item) last_turns → CameOn new new_notes new_last_turns
     came_on new new_notes new_last_turns within is notes_are last_turns_are =
         let past : CamePast g.names k st.state st.shown.fits st.shown.shows t.0 run m new =
@@ -108,7 +108,7 @@ module _ (g : Source) where
               few = omega (arith, left, one_more);
             };
             shown = shown_steps k new st.state e st.shown past.keeps past.shows;
-            told = subst (λ ns. Tells g.names (opening_state g.program.body) (st.stages ++ comes t.0 m ∷ []) ns) (sym notes_are)
+            told = subst (λ ns. NotesTell g.names (opening_state g.program.body) (st.stages ++ comes t.0 m ∷ []) ns) (sym notes_are)
                 (tells_more g.names two st.stages (opening_state g.program.body) st.state (comes t.0 m) notes (notes_at (sight_of k t item) item.step) st.past.leads st.told
                 (notes_fit g.names k st.state st.shown.shows t item m c_kept));
             last_turns_tell =
@@ -127,7 +127,7 @@ module _ (g : Source) where
     -- it is at fault
     pub came_stop :
         (first after : ℕ) → HasStart g t.0 first after (length k.bindings.slots) st.state → (stop : Stop) (new_notes : List Note) (new_last_turns : List LastTurn) → item.at < length g.steps →
-        checker_come t.0 item.at item.step k ≡ Err stop.fault → new_notes ≡ notes → new_last_turns ≡ with_last_turn (sight_of k t item) last_turns → stop.place ≡ p.Visit (sight_of k t item) →
+        visit_checked t.0 item.at item.step k ≡ Err stop.fault → new_notes ≡ notes → new_last_turns ≡ with_last_turn (sight_of k t item) last_turns → stop.place ≡ p.Visit (sight_of k t item) →
         stop.first ≡ first → stop.after ≡ after → Stopped g stop new_notes new_last_turns
     came_stop first after started stop new_notes new_last_turns within is notes_are last_turns_are place first_is after_is =
         let in_last_turns : item.at < length last_turns = omega (arith, within, st.last_turns_tell.many, ap length st.shown.steps_are) in
@@ -152,7 +152,7 @@ module _ (g : Source) where
           stage = comes t.0 m;
           next = next;
           fails = came_fails g.names k st.state st.shown.fits st.shown.shows t.0 run item m stop.fault c_kept is;
-          told = subst (λ ns. Tells g.names (opening_state g.program.body) st.stages ns) (sym notes_are) st.told;
+          told = subst (λ ns. NotesTell g.names (opening_state g.program.body) st.stages ns) (sym notes_are) st.told;
           place =
               subst (λ z. IsAt g z stop.first stop.after st.stages (comes t.0 m) st.state new_last_turns) (sym place)
               (subst (λ z. AtVisit g (sight_of k t item) z stop.after st.stages (comes t.0 m) st.state new_last_turns) (sym first_is)

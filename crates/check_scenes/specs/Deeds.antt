@@ -20,29 +20,29 @@ of_dereg (a_plain (dereg x)) = true
 of_dereg c = false
 
 -- it drew task c
-abbrev pub drew : ℕ → Deed
-drew c s (comes t m) = of_new_task m.coming && (length s.plan.parents == c)
-drew c s v = false
+abbrev pub did_draw : ℕ → Deed
+did_draw c s (comes t m) = of_new_task m.coming && (length s.plan.parents == c)
+did_draw c s v = false
 
 -- it made phaser p
-abbrev pub made : ℕ → Deed
-made p s (comes t m) = of_new_phaser m.coming && (length s.plan.makers == p)
-made p s v = false
+abbrev pub did_make : ℕ → Deed
+did_make p s (comes t m) = of_new_phaser m.coming && (length s.plan.makers == p)
+did_make p s v = false
 
 -- it forked task c
-abbrev pub forked : ℕ → Deed
-forked c s (comes t m) = of_fork m.coming && (task_number (first_thing s m.coming) == c)
-forked c s v = false
+abbrev pub did_fork : ℕ → Deed
+did_fork c s (comes t m) = of_fork m.coming && (task_number (first_thing s m.coming) == c)
+did_fork c s v = false
 
 -- it registered task c at phaser p
-abbrev pub registered : ℕ → ℕ → Deed
-registered c p s (comes t m) = of_reg m.coming && ((task_number (first_thing s m.coming) == c) && (phaser_wanted s m.coming == p))
-registered c p s v = false
+abbrev pub did_register : ℕ → ℕ → Deed
+did_register c p s (comes t m) = of_reg m.coming && ((task_number (first_thing s m.coming) == c) && (phaser_wanted s m.coming == p))
+did_register c p s v = false
 
 -- by it task t left phaser p
-abbrev pub left : ℕ → ℕ → Deed
-left u p s (comes t m) = of_dereg m.coming && ((t == u) && (phaser_wanted s m.coming == p))
-left u p s v = false
+abbrev pub did_leave : ℕ → ℕ → Deed
+did_leave u p s (comes t m) = of_dereg m.coming && ((t == u) && (phaser_wanted s m.coming == p))
+did_leave u p s v = false
 
 -- the second, or else the first
 abbrev pub or_else : {A : Type 0} → Option A → Option A → Option A
@@ -55,9 +55,9 @@ last_that did s [] = None
 last_that did s (v ∷ vs) = or_else (if did s v then Some v else None) (last_that did (after_stage v s) vs)
 
 -- the statement of a stage, and 0 where there is none
-abbrev pub statement_in : Option Stage → ℕ
-statement_in (Some (comes t m)) = m.statement
-statement_in o = 0
+abbrev pub stage_statement : Option Stage → ℕ
+stage_statement (Some (comes t m)) = m.statement
+stage_statement o = 0
 
 -- the name that a stage gave to what it drew or made
 abbrev pub name_given : Option Stage → List ℕ

@@ -1,11 +1,9 @@
 -- What is known of the first fault of a program's unfolding, by the stages before it.
-use Rattle.std.specs.Prelude.{◌≡◌, ℕ, ◌+◌, ◌==◌, ◌||◌, if◌then◌else◌, List, [], ◌∷◌, ◌++◌, length, slice_index_or, Option, Some, None, Ok}
+use Rattle.std.specs.Prelude.{◌≡◌, ℕ, ◌+◌, ◌==◌, ◌||◌, if◌then◌else◌, List, [], ◌∷◌, ◌++◌, length, slice_index_or, Option, Some, None}
 use Rattle.armus_base.specs.declared.ids.TaskId.{TaskId}
-use Rattle.armus_base.specs.Plans.{Plan}
 use Rattle.pl_syntax.specs.declared.tree.Program.{Program}
 use Rattle.pl_syntax.specs.Tree.{adv, await, dereg, new_task, reg}
-use Rattle.pl_plan.specs.Unfolding.{Coming, Thing, UnfoldingState, a_fork, a_phaser, a_plain, a_task, already_forked, already_member, not_drawn_here, not_member, opening_state, other_kind, phaser, plan_of, task, too_many_cells, too_many_ops, too_many_phasers, too_many_tasks, unknown_name}
-use Rattle.pl_plan.specs.declared.fault.CheckFault.{CheckFault}
+use Rattle.pl_plan.specs.Unfolding.{Coming, Thing, UnfoldingState, a_fork, a_phaser, a_plain, a_task, already_forked, already_member, not_drawn_here, not_member, opening_state, other_kind, phaser, task, too_many_cells, too_many_ops, too_many_phasers, too_many_tasks, unknown_name}
 use Rattle.pl_plan.specs.Tests.{first_thing, is_task, phaser_wanted, task_number}
 use Rattle.pl_plan.specs.Stages.{IsFirstCheckFault, Stage, begins, comes, leaves}
 use Rattle.check_scenes.specs.declared.scene.LoopTurn.{LoopTurn}
@@ -16,14 +14,14 @@ use Rattle.check_scenes.specs.declared.scene.NamedTask.{NamedTask}
 use Rattle.check_scenes.specs.declared.scene.Scene.{Scene}
 use Rattle.check_scenes.specs.declared.scene.Verb.{Verb}
 use Rattle.check_scenes.specs.declared.scene.Verb.TheVariants as v
-use Rattle.check_scenes.specs.Deeds.{Deed, drew, forked, last_that, left, made, name_given, registered, statement_in}
+use Rattle.check_scenes.specs.Deeds.{Deed, did_draw, did_fork, last_that, did_leave, did_make, name_given, did_register, stage_statement}
 use Rattle.check_scenes.specs.Turns.{loops_of, turns_in, visits_among}
 
 -- the current task of a stage
-abbrev pub task_of : Stage → ℕ
-task_of (begins t) = t
-task_of (comes t m) = t
-task_of (leaves t p) = t
+abbrev pub current_task : Stage → ℕ
+current_task (begins t) = t
+current_task (comes t m) = t
+current_task (leaves t p) = t
 
 -- the unfolding before a fault: its first state, the stages, and the state after them
 pub record Past : Type 0 where
@@ -38,22 +36,22 @@ module _ (past : Past) where
 
   -- task c, with the name of the visit that drew it
   abbrev pub named_task : ℕ → NamedTask
-  named_task c = record { t = task c; name = name_given (done_by (drew c)) }
+  named_task c = record { t = task c; name = name_given (done_by (did_draw c)) }
 
   -- phaser p, with the name of the visit that made it
   abbrev pub named_phaser : ℕ → NamedPhaser
-  named_phaser p = record { p = phaser p; name = name_given (done_by (made p)) }
+  named_phaser p = record { p = phaser p; name = name_given (done_by (did_make p)) }
 
   -- the statement of that visit
   abbrev pub drawn_at : ℕ → ℕ
-  drawn_at c = statement_in (done_by (drew c))
+  drawn_at c = stage_statement (done_by (did_draw c))
 
   abbrev pub made_at : ℕ → ℕ
-  made_at p = statement_in (done_by (made p))
+  made_at p = stage_statement (done_by (did_make p))
 
   -- the statement of the visit that forked task c, and 0 for task 0
   abbrev pub forked_at : ℕ → ℕ
-  forked_at c = statement_in (done_by (forked c))
+  forked_at c = stage_statement (done_by (did_fork c))
 
   -- the task that drew task c
   abbrev pub parent_number : Option TaskId → ℕ
@@ -81,11 +79,11 @@ module _ (past : Past) where
   -- task t is no member of phaser p: it has left it, or it never was one
   abbrev pub about_member : ℕ → Option Stage → Matter
   about_member p None = m.NeverMember (named_phaser p)
-  about_member p (Some stage) = m.HasLeft (named_phaser p) (statement_in (Some stage))
+  about_member p (Some stage) = m.HasLeft (named_phaser p) (stage_statement (Some stage))
 
   -- task c is a member of phaser p
   abbrev pub about_registered : ℕ → ℕ → Matter
-  about_registered c p = m.AlreadyMember (named_task c) (named_phaser p) (statement_in (done_by (registered c p)))
+  about_registered c p = m.AlreadyMember (named_task c) (named_phaser p) (stage_statement (done_by (did_register c p)))
 
   -- another task drew task c
   abbrev pub about_drawn : ℕ → Matter
@@ -101,7 +99,7 @@ module _ (past : Past) where
   abbrev pub about_visit : ℕ → ℕ → Coming → Matter
   about_visit kind t c =
       if (kind == unknown_name) || (kind == other_kind) then about_names c
-      else (if kind == not_member then about_member (phaser_wanted past.there c) (done_by (left t (phaser_wanted past.there c)))
+      else (if kind == not_member then about_member (phaser_wanted past.there c) (done_by (did_leave t (phaser_wanted past.there c)))
       else (if kind == already_member then about_registered (task_number (first_thing past.there c)) (phaser_wanted past.there c)
       else (if kind == not_drawn_here then about_drawn (task_number (first_thing past.there c))
       else (if kind == already_forked
@@ -130,20 +128,7 @@ past_of program scene found = record { first = opening_state program.body; stage
 -- what is known of the first fault of a program is so by the stages before it
 pub record IsScene (program : Program) (scene : Scene) : Type 0 where
   pub found : IsFirstCheckFault program scene.fault
-  pub task_is : scene.task ≡ named_task (past_of program scene found) (task_of found.stage)
-  pub forked_is : scene.forked ≡ forked_at (past_of program scene found) (task_of found.stage)
+  pub task_is : scene.task ≡ named_task (past_of program scene found) (current_task found.stage)
+  pub forked_is : scene.forked ≡ forked_at (past_of program scene found) (current_task found.stage)
   pub turns_are : scene.turns ≡ turns_around (past_of program scene found) found.stage
   pub matter_is : scene.matter ≡ about (past_of program scene found) scene.fault.kind found.stage
-
--- the first fault of a program is known in one way
-abbrev pub HasOneScene : Type 0
-HasOneScene = (program : Program) (a b : Scene) → IsScene program a → IsScene program b → a ≡ b
-
--- the scene of a program's first fault; where there is none, the program has a plan
-abbrev pub TellsScene : Program → Option Scene → Type 0
-TellsScene program (Some scene) = IsScene program scene
-TellsScene program None = (plan : Plan) × (plan_of program ≡ Ok plan)
-
--- each program with a first check fault has a scene
-abbrev pub HasScene : Type 0
-HasScene = (program : Program) (fault : CheckFault) → IsFirstCheckFault program fault → (scene : Scene) × IsScene program scene × (scene.fault ≡ fault)

@@ -2,7 +2,7 @@
 
 ghost use Rattle.std.specs.Prelude.{◌≡◌, ◌+◌, ◌<◌, ◌≤◌, ◌^◌, ℕ, length, IfOk};
 ghost use Rattle.pl_plan.specs.inside.Steps.{IsList, step_at};
-ghost use Rattle.check_scenes.specs.inside.Told.{AreTurns, behind, enters, turn_told};
+ghost use Rattle.check_scenes.specs.inside.Told.{AreTurns, index_behind, enters, turn_told};
 
 use crate::notes::{LastTurn, turn_of};
 use crate::scene::LoopTurn;
@@ -42,7 +42,7 @@ fn enters(step: Step, at: u32, n: u32) -> Option<u32>
 // The index behind a statement with its body.
 fn behind(step: Step, at: u32) -> u32
     requires { at + 1 < 2 ^ 32 }
-    ensures { result ≡ behind step at }
+    ensures { result ≡ index_behind step at }
 {
     match step {
         Step::Loop {

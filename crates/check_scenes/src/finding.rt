@@ -4,7 +4,7 @@ ghost use Rattle.std.specs.Prelude.{◌≡◌, ◌<◌, ◌≤◌, ◌^◌, [], 
 ghost use Rattle.pl_syntax.specs.Tree.{count, height};
 ghost use Rattle.pl_plan.specs.inside.Numbers.{spelling};
 ghost use Rattle.pl_plan.specs.inside.Opening.{IsOpeningChecker};
-ghost use Rattle.check_scenes.specs.Scenes.{TellsScene};
+ghost use Rattle.check_scenes.specs.calls.Scenes.{TellsScene};
 ghost use Rattle.pl_syntax.specs.declared.tree.Program.{Program as ProgramValue};
 ghost use Rattle.check_scenes.specs.inside.Noted.{no_turn};
 ghost use Rattle.check_scenes.specs.inside.Seeks.{Before, HasSource, a_source};

@@ -1,5 +1,5 @@
 // Laws of scenes.
-ghost use Rattle.check_scenes.specs.Scenes.{HasOneScene, HasScene};
+ghost use Rattle.check_scenes.specs.calls.Scenes.{HasOneScene, HasScene};
 
 /// The first fault of a program is known in one way only.
 pub fn fault_has_one_scene()

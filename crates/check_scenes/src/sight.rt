@@ -3,7 +3,7 @@
 ghost use Rattle.std.specs.Prelude.{◌≡◌, ◌+◌, ◌<◌, ◌^◌, length};
 ghost use Rattle.pl_plan.specs.inside.Checker.{IsChecker, IsThingBelow};
 ghost use Rattle.pl_plan.specs.inside.CheckerSteps.{GivesChecker, HasNames, checker_leave};
-ghost use Rattle.check_scenes.specs.inside.Seen.{IsOneOf, VisitGives, checker_come, checker_do, fault_in, first_of, parent_seen, second_of, sight_of, thing_seen};
+ghost use Rattle.check_scenes.specs.inside.Seen.{IsOneOf, VisitGives, visit_checked, checker_do, fault_in, first_name_of, parent_seen, second_of, sight_of, thing_seen};
 
 use crate::frames::Item;
 use armus_base::{MAX_PHASERS, NoMemory, PhaserId, TaskId};
@@ -28,7 +28,7 @@ pub(crate) struct Sight {
 
 // The first name of a step.
 fn first_of(step: Step) -> Option<NameId>
-    ensures { result ≡ first_of step }
+    ensures { result ≡ first_name_of step }
 {
     match step {
         Step::Fork { x, after: _ } => Some(x),
@@ -79,7 +79,7 @@ fn parent_seen(checker: &Checker, thing: Thing) -> Option<TaskId>
 pub(crate) fn look(checker: &Checker, t: TaskId, item: Item) -> Sight
     requires fits { IsChecker checker.now }
     requires task { t.0 < length checker.now.parents }
-    requires first { IsOneOf (length checker.now.bindings.slots) (first_of item.step) }
+    requires first { IsOneOf (length checker.now.bindings.slots) (first_name_of item.step) }
     requires second { IsOneOf (length checker.now.bindings.slots) (second_of item.step) }
     ensures { result ≡ sight_of checker.now t item }
 {
@@ -121,7 +121,7 @@ fn come(alloc: Global, checker: &mut Checker, t: TaskId, at: u32, step: Step) ->
     requires task { t.0 < length checker.old.parents }
     requires names { HasNames (length checker.old.bindings.slots) step }
     requires small { at + 1 < 2 ^ 32 }
-    ensures { GivesChecker result (checker_come t.0 at step checker.old) checker.new }
+    ensures { GivesChecker result (visit_checked t.0 at step checker.old) checker.new }
 {
     count_visit(checker, at + 1)?;
     act_or_fork(alloc, checker, t, at + 1, step)
@@ -148,7 +148,7 @@ pub(crate) fn visit(
     requires task { t.0 < length checker.old.parents }
     requires names { HasNames (length checker.old.bindings.slots) item.step }
     requires small { item.at + 1 < 2 ^ 32 }
-    ensures { VisitGives result (checker_come t.0 item.at item.step checker.old) checker.new }
+    ensures { VisitGives result (visit_checked t.0 item.at item.step checker.old) checker.new }
 {
     match come(alloc, checker, t, item.at, item.step) {
         Ok(()) => Ok(None),

@@ -9,7 +9,7 @@ use Rattle.armus_base.specs.Places.{some_before}
 use Rattle.armus_base.proofs.Steps.{updated_other, updated_same}
 use Rattle.armus_base.proofs.Tasks.{all_or_one}
 use Rattle.clock_moves.specs.Moves.{Move, opens, starts, advances, resumes, drops, begins, ends, stops}
-use Rattle.clock_machine.specs.Direct.{ClockState, IsClockEnd, advance_of, clock_run, clock_step, direct_opening, enrolling, enrolling_all, forgetting, going, joining, departing_all, move_of, settled, signalling, starting, step_from, with_entry}
+use Rattle.clock_machine.specs.calls.Direct.{ClockState, IsClockEnd, advance_of, clock_run, clock_step, direct_opening, enrolling, enrolling_all, forgetting, going, joining, departing_all, move_of, settled, signalling, starting, step_from, with_entry}
 use Rattle.clock_machine.proofs.Entries.{column_other, entry_at, entry_other, some_is}
 
 -- how many steps an activity may make that has these moves left and remembers this

@@ -184,17 +184,6 @@ drops_finish_at (gone_on h) e f = absurd (cc)
 drops_finish_at begun e f = outside
 drops_finish_at governed e f = absurd (cc)
 
--- an activity that is no member is in none of the sets
-pub none_outside :
-    {c b : Bool} {n : ℕ} {r u : Bool} {m : Option ℕ} {o : Bool} {w : Option ℕ} →
-    AgreesAt c b n r u m o w → w ≡ None → r ≡ false × u ≡ false × m ≡ None × o ≡ false
-none_outside outside e = (refl, refl, refl, refl)
-none_outside unsignalling e = absurd (cc)
-none_outside signalled e = absurd (cc)
-none_outside (gone_on h) e = absurd (cc)
-none_outside begun e = absurd (cc)
-none_outside governed e = absurd (cc)
-
 -- the maker of a new clock, and of a new finish
 pub opens_at :
     {c b : Bool} {n : ℕ} {r u : Bool} {m : Option ℕ} {o : Bool} {w : Option ℕ} →

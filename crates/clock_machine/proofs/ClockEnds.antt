@@ -17,8 +17,8 @@ use Rattle.armus_base.proofs.Stepping.{places_fix}
 use Rattle.clock_syntax.specs.Trees.{ClockTree}
 use Rattle.clock_moves.specs.Moves.{Move, advances, ends}
 use Rattle.clock_moves.specs.Unfolding.{ClockUnfolding, activities, clock_unfolded, plan_of_moves}
-use Rattle.clock_machine.specs.Direct.{ClockState, StandsAs, direct_opening, has_ended, unstarted, waits_at_advance, waits_at_end}
-use Rattle.clock_machine.specs.Laws.{DirectEndsAreExact, DirectEndsAreThoseOfTasks, EndsExactly, HasEndedIn, IsDirectEnd, IsDirectRun, NoClockTaskIsHeld, NoneIsUnforkedUnderDone, StartedAreForked, WaitsAtAdvance, WaitsAtEnd, moves_of}
+use Rattle.clock_machine.specs.calls.Direct.{ClockState, StandsAs, direct_opening, has_ended, unstarted, waits_at_advance, waits_at_end}
+use Rattle.clock_machine.specs.calls.Laws.{DirectEndsAreExact, DirectEndsAreThoseOfTasks, EndsExactly, HasEndedIn, IsDirectEnd, IsDirectRun, NoClockTaskIsHeld, NoneIsUnforkedUnderDone, StartedAreForked, WaitsAtAdvance, WaitsAtEnd, moves_of}
 use Rattle.clock_machine.proofs.Lawful.{AreLawfulMoves, ClockKinds}
 use Rattle.clock_machine.proofs.ClockRuns.{is_clock, is_finish, runs_end}
 use Rattle.clock_machine.proofs.Ending.{blocked_is_dead, child_of_done, final_is, stands_last}

@@ -8,8 +8,8 @@ use Rattle.armus_base.specs.States.{Step}
 use Rattle.armus_base.proofs.Elements.{Contains-cons_cases}
 use Rattle.clock_moves.specs.Moves.{Move, Standing, after_move, begins, opens}
 use Rattle.clock_moves.specs.Unfolding.{ClockUnfolding, activities, plan_of_moves}
-use Rattle.clock_machine.specs.Direct.{ClockState}
-use Rattle.clock_machine.specs.Laws.{AgreesOnClock, AgreesOnFinish, DirectRunsAreBounded, DirectRunsEnd, DirectRunsMatch, IsClockIn, IsFinishIn, IsMatchedBy, moves_of}
+use Rattle.clock_machine.specs.calls.Direct.{ClockState}
+use Rattle.clock_machine.specs.calls.Laws.{AgreesOnClock, AgreesOnFinish, DirectRunsAreBounded, DirectRunsEnd, DirectRunsMatch, IsClockNumber, IsFinishNumber, IsMatchedBy, moves_of}
 use Rattle.clock_machine.proofs.Lawful.{AreLawfulMoves, ClockKinds, IsLawfulMove}
 use Rattle.clock_machine.proofs.Bounded.{bounded_run, run_ends}
 use Rattle.clock_machine.proofs.Cells.{finish_phase, forgot_unsignalled, member_open, open_phase, registered_is, remembers_below, signalled_phase, unsignalled_phase}
@@ -47,10 +47,10 @@ member_is None e = absurd (false≢true e)
 member_is (Some j) e = (j, refl)
 
 module _ (u : ClockUnfolding) (clock : ClockKinds) (of : IsPlanOfMoves (plan_of_moves u) clock (moves_of u)) where
-  pub is_clock : (p : ℕ) → IsClockIn u p → clock.is p ≡ true
+  pub is_clock : (p : ℕ) → IsClockNumber u p → clock.is p ≡ true
   is_clock p has = opened_clock clock (maker_of (plan_of_moves u)) has.0 p (moves_of u has.0) (clock.first has.0) (of.lawful has.0) has.1
 
-  pub is_finish : (f : ℕ) → IsFinishIn u f → clock.is f ≡ false
+  pub is_finish : (f : ℕ) → IsFinishNumber u f → clock.is f ≡ false
   is_finish f has = begun_finish clock (maker_of (plan_of_moves u)) has.0 f (moves_of u has.0) (clock.first has.0) (of.lawful has.0) has.1
 
   module _ (s : ClockState) (h : List Step) (m : Matches (plan_of_moves u) clock s h) where

@@ -11,7 +11,8 @@ use Rattle.armus_base.specs.declared.offset.Offset.TheVariants.{Here}
 use Rattle.armus_base.specs.Offsets.{target}
 use Rattle.armus_base.specs.Deadlocks.{IsAtPhase, IsDeadIn, IsImpededWithin, IsPublishedOn}
 use Rattle.armus_base.specs.Finals.{end_by, end_of}
-use Rattle.armus_base.specs.Plans.{Action, Advances, Blocks, Drops, Forks, Passes, Plan, action_at, actions, actions_of, here, maker_of, parent_of}
+use Rattle.armus_base.specs.Plans.{Action, Advances, Blocks, Drops, Forks, Passes, Plan, action_at, actions, actions_of, maker_of, parent_of}
+use Rattle.armus_base.specs.calls.Plans.{here}
 use Rattle.armus_base.specs.States.{IsReached, State, Step, awaited, event_at, event_on, next_phase}
 use Rattle.armus_base.specs.Runs.{HasEnded, IsFinal, IsMaximal, IsPlainRun, is_done, is_waiting, places, state_after}
 use Rattle.armus_base.specs.Places.{done_by, some_before}
@@ -23,7 +24,7 @@ use Rattle.armus_base.proofs.Steps.{updated_other, updated_same, with_phase_othe
 use Rattle.armus_base.proofs.Stepping.{places_fix}
 use Rattle.armus_base.proofs.Tasks.{member_within}
 use Rattle.clock_moves.specs.Moves.{Move, after_move, code_from, opens, starts, advances, resumes, drops, begins, ends, stops}
-use Rattle.clock_machine.specs.Direct.{ClockState, IsClockEnd, StandsAs, advance_of, clock_step, forgetting, going, has_ended, move_of, settled, unstarted, waits_at_advance, waits_at_end}
+use Rattle.clock_machine.specs.calls.Direct.{ClockState, IsClockEnd, StandsAs, advance_of, clock_step, forgetting, going, has_ended, move_of, settled, unstarted, waits_at_advance, waits_at_end}
 use Rattle.clock_machine.proofs.Lawful.{AreLawfulMoves, ClockKinds}
 use Rattle.clock_machine.proofs.Acting.{actions_left, next_legal_here, step_of, unrefused}
 use Rattle.clock_machine.proofs.Cells.{finish_phase, member_enrolled, open_phase, remembers_below, unsignalled_phase}

@@ -3,7 +3,7 @@ use Rattle.std.proofs.Common.{◌≡◌, ◌≢◌, ℕ, zero, suc, Option, Some
 use Rattle.std.specs.Prelude.{slice_get}
 use Rattle.std.proofs.lemmas.Bool.{cases_eq}
 use Rattle.std.proofs.lemmas.Bool.Decides.{nat_tests}
-use Rattle.clock_machine.specs.Direct.{with_column, with_entry}
+use Rattle.clock_machine.specs.calls.Direct.{with_column, with_entry}
 
 pub entry_at : {A : Type 0} (f : ℕ → ℕ → A) (p t : ℕ) (v : A) (q u : ℕ) → q ≡ p → u ≡ t → with_entry f p t v q u ≡ v
 entry_at f p t v q u e g = grind (arith, nat_tests)

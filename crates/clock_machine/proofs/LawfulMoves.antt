@@ -20,7 +20,7 @@ use Rattle.pl_plan.proofs.VisitsLeave.{bind_ok, ok_is}
 use Rattle.clock_syntax.specs.Trees.{ClockTree, async, clock_count, done, finish, loop, plain}
 use Rattle.clock_moves.specs.Moves.{Move, Standing, after_move, code_from, code_of_moves, no_standing, ops_of, opens, starts, advances, resumes, drops, begins, ends, stops}
 use Rattle.clock_moves.specs.Unfolding.{ClockComing, ClockPart, ClockStart, ClockUnfolding, Current, a_close, a_finish, a_loop, a_plain, a_turn, an_async, clock_act, clock_opening, clock_plan_of, clock_unfolded, come, come_all, coming, comings_of, counted_coming, governed_by, innermost, naming, nothing_known, numbers_of, plan_of_moves, standing_on, start_at, stop, unfold_activities, unfold_started, with_activity, with_clock_made, with_known, with_move}
-use Rattle.clock_moves.specs.Making.{AreClocksOf, MayMake}
+use Rattle.clock_moves.specs.calls.Making.{AreClocksOf, MayMake}
 use Rattle.clock_moves.proofs.ClockPlanIsChecked.{IsBetween, activity_keeps, begins_known, clock_plan_is_checked, move_keeps, opening_between, unfolded_between, visits_keep}
 use Rattle.clock_moves.proofs.Making.{IsMoveOf, MayRest, Stops, act_keeps, coming_counts, stopped, with_visits}
 use Rattle.clock_moves.proofs.MoveCodes.{SamePending, moves_at, same_after, same_ops, stood, stood-append}

@@ -7,7 +7,8 @@ use Rattle.armus_base.specs.declared.op.Op.{Op}
 use Rattle.armus_base.specs.declared.op.Op.TheVariants as op
 use Rattle.armus_base.specs.declared.offset.Offset.TheVariants.{Here}
 use Rattle.armus_base.specs.Offsets.{target}
-use Rattle.armus_base.specs.Plans.{Action, Advances, Blocks, Drops, Passes, Plan, actions, actions_of, here, maker_of}
+use Rattle.armus_base.specs.Plans.{Action, Advances, Blocks, Drops, Passes, Plan, actions, actions_of, maker_of}
+use Rattle.armus_base.specs.calls.Plans.{here}
 use Rattle.armus_base.specs.States.{IsReached, State, Step, awaited, event_at, event_on, next_phase}
 use Rattle.armus_base.specs.Runs.{IsPlainRun, places, state_after}
 use Rattle.armus_base.specs.Places.{done_by, kept, phases_after, phases_at, some_before}
@@ -19,7 +20,7 @@ use Rattle.armus_base.proofs.Stepping.{places_fix}
 use Rattle.armus_base.proofs.Tasks.{done_within_code, member_within}
 use Rattle.pl_plan.specs.Unfolding.{phaser}
 use Rattle.clock_machine.proofs.Lawful.{ClockKinds}
-use Rattle.clock_machine.specs.Direct.{ClockState, forgetting, departing_all, with_column, with_entry}
+use Rattle.clock_machine.specs.calls.Direct.{ClockState, forgetting, departing_all, with_column, with_entry}
 use Rattle.clock_machine.proofs.Acting.{actions_left, next_legal_here, step_of, unrefused}
 use Rattle.clock_machine.proofs.Cells.{AgreesAt, agrees_from, drops_finish_at, finish_phase, forgets_at, is_least, member_open, outside, remembers_below}
 use Rattle.clock_machine.proofs.Entries.{column_at, column_other, entry_at, entry_other, everywhere}

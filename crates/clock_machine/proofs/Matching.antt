@@ -8,7 +8,7 @@ use Rattle.armus_base.specs.Places.{first_phases}
 use Rattle.armus_base.specs.CheckedPlans.{IsCheckedPlan}
 use Rattle.armus_base.proofs.Members.{other_step}
 use Rattle.clock_moves.specs.Moves.{Move, Standing, code_from}
-use Rattle.clock_machine.specs.Direct.{ClockState}
+use Rattle.clock_machine.specs.calls.Direct.{ClockState}
 use Rattle.clock_machine.proofs.Lawful.{AreLawfulMoves, ClockKinds}
 use Rattle.clock_machine.proofs.Acting.{actions_left, acts_legally, step_of, then_left}
 use Rattle.clock_machine.proofs.Cells.{AgreesAt}

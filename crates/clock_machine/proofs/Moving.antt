@@ -13,7 +13,7 @@ use Rattle.armus_base.proofs.Members.{member_made}
 use Rattle.armus_base.proofs.Steps.{updated_other, updated_same, with_phase_other, with_phase_same}
 use Rattle.armus_base.proofs.Stepping.{places_fix}
 use Rattle.clock_machine.proofs.Lawful.{ClockKinds}
-use Rattle.clock_machine.specs.Direct.{ClockState, departing, opening_clock, signalling, with_entry}
+use Rattle.clock_machine.specs.calls.Direct.{ClockState, departing, opening_clock, signalling, with_entry}
 use Rattle.clock_machine.proofs.Acting.{next_legal_here, step_of}
 use Rattle.clock_machine.proofs.Cells.{AgreesAt, agrees_from, begins_at, leaves_at, opens_at, outside_at, signals_at}
 use Rattle.clock_machine.proofs.Entries.{entry_at, entry_other, everywhere}

@@ -15,7 +15,7 @@ use Rattle.armus_base.proofs.Members.{other_step, plain_undropped}
 use Rattle.armus_base.proofs.Stepping.{places_fix, unforked_idle}
 use Rattle.armus_base.proofs.Steps.{updated_other, updated_same, with_phase_other, with_phase_same}
 use Rattle.pl_plan.specs.Unfolding.{phaser, task}
-use Rattle.clock_machine.specs.Direct.{ClockState, enrolling, enrolling_all, joining, starting, with_entry}
+use Rattle.clock_machine.specs.calls.Direct.{ClockState, enrolling, enrolling_all, joining, starting, with_entry}
 use Rattle.clock_machine.proofs.Lawful.{AreIdleClocks, ClockKinds, IsFinishIfAny}
 use Rattle.clock_machine.proofs.Acting.{step_of}
 use Rattle.clock_machine.proofs.Cells.{AgreesAt, agrees_from, enrols_at, finish_phase, joins_at}

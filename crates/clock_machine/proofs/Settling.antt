@@ -12,7 +12,7 @@ use Rattle.armus_base.proofs.Steps.{updated_other}
 use Rattle.armus_base.proofs.Tasks.{member_within}
 use Rattle.clock_moves.specs.Moves.{Move}
 use Rattle.clock_machine.proofs.Lawful.{ClockKinds}
-use Rattle.clock_machine.specs.Direct.{ClockState, going, is_through, settled}
+use Rattle.clock_machine.specs.calls.Direct.{ClockState, going, is_through, settled}
 use Rattle.clock_machine.proofs.Acting.{actions_left}
 use Rattle.clock_machine.proofs.Cells.{AgreesAt, enrolled_member, goes_on_at, unsignalled_phase}
 use Rattle.clock_machine.proofs.Matching.{HasLeft, Matches, Midst, arrives, goes_first}

@@ -1,7 +1,7 @@
 -- Small runs of the direct machine, by computation.
 use Rattle.std.proofs.Common.{refl}
-use Rattle.clock_machine.specs.Direct.{has_ended, unstarted, waits_at_advance, waits_at_end}
-use Rattle.clock_machine.specs.WorkedRuns.{AreStuck, EndSo, stuck_runs, worked_runs}
+use Rattle.clock_machine.specs.calls.Direct.{has_ended, unstarted, waits_at_advance, waits_at_end}
+use Rattle.clock_machine.specs.calls.WorkedRuns.{AreStuck, EndSo, stuck_runs, worked_runs}
 
 pub runs_worked : EndSo worked_runs
 runs_worked = (

@@ -1,5 +1,2 @@
--- What a reader of the repository has to believe.
-pub mod Direct
--- What is proved of it.
-pub mod Laws
-pub mod WorkedRuns
+-- Words of contracts further down, which no promise of a program needs.
+pub mod calls

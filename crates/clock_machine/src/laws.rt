@@ -1,7 +1,7 @@
 // The laws of the direct machine: each is the contract of a function with an empty body.
-ghost use Rattle.clock_machine.specs.Laws.{DirectEndsAreExact, DirectEndsAreThoseOfTasks, DirectRunsAreBounded, DirectRunsEnd, DirectRunsMatch};
-ghost use Rattle.clock_machine.specs.Laws.{NoClockTaskIsHeld, NoneIsUnforkedUnderDone, StartedAreForked};
-ghost use Rattle.clock_machine.specs.WorkedRuns.{AreStuck, EndSo, stuck_runs, worked_runs};
+ghost use Rattle.clock_machine.specs.calls.Laws.{DirectEndsAreExact, DirectEndsAreThoseOfTasks, DirectRunsAreBounded, DirectRunsEnd, DirectRunsMatch};
+ghost use Rattle.clock_machine.specs.calls.Laws.{NoClockTaskIsHeld, NoneIsUnforkedUnderDone, StartedAreForked};
+ghost use Rattle.clock_machine.specs.calls.WorkedRuns.{AreStuck, EndSo, stuck_runs, worked_runs};
 
 /// Each run of the direct machine on a program without fault has at most two steps for each move, can be continued until no activity can make a step, and has
 /// a run of the program's plan that stands for it: the same activities are started and forked, a clock's activities are its phaser's members, those that have

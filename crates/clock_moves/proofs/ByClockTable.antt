@@ -16,7 +16,7 @@ use Rattle.pl_plan.specs.declared.fault.CheckFault.{CheckFault}
 use Rattle.clock_syntax.specs.Trees.{ClockPlain, ClockTree, advance, clock, drop, resume, skip}
 use Rattle.clock_moves.specs.Moves.{Move, advances, begins, drops, ends, opens, ops_of, resumes, starts, stops}
 use Rattle.clock_moves.specs.Unfolding.{ClockPart, ClockUnfolding, a_close, a_finish, a_loop, a_plain, a_turn, an_async, act_async, act_close, act_finish, act_plain, as_clock, clock_act, clock_of, clocks_of, come, coming, count_clock_visit, governed_by, innermost, listed_twice, move_at, next_activity, next_clock, not_registered, start_at, still_pending, stop, naming, too_many_activities, too_many_clock_cells, too_many_clock_ops, too_many_clock_visits, too_many_clocks, with_activity, with_clock_made, with_move}
-use Rattle.clock_moves.specs.ClockTests.{ClockRow, ComesByTable, FaultsByTable, IsFirstClockFault, StopsWithRoom, StopsWithoutRoom, PassesClockTable, after_end, clock_done, clock_named, clock_table, left_at_end, name_rows, names_tested, wants_idle, names_rows, no_activity_left, no_clock_cell_left, no_clock_left, no_clock_op_left, ops_of_end, ops_with, visited}
+use Rattle.clock_moves.specs.calls.ClockTests.{ClockRow, ComesByTable, FaultsByTable, IsFirstClockFault, StopsWithRoom, StopsWithoutRoom, PassesClockTable, after_end, clock_done, clock_named, clock_table, left_at_end, name_rows, names_tested, wants_idle, names_rows, no_activity_left, no_clock_cell_left, no_clock_left, no_clock_op_left, ops_of_end, ops_with, visited}
 
 -- ---- the first row at fault, computed
 

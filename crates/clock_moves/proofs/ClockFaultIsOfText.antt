@@ -14,7 +14,7 @@ use Rattle.pl_plan.specs.declared.fault.CheckFault.{CheckFault}
 use Rattle.pl_plan.proofs.Growth.{slice_get-append}
 use Rattle.pl_plan.proofs.Tables.{slice_get-last}
 use Rattle.clock_syntax.specs.Trees.{ClockPlain, ClockTree, advance, async, clock, clock_count, done, drop, finish, loop, plain, resume, skip}
-use Rattle.clock_moves.specs.Laws.{ClockFaultIsOfText}
+use Rattle.clock_moves.specs.calls.Laws.{ClockFaultIsOfText}
 use Rattle.clock_moves.specs.Moves.{Move, advances, begins, drops, ends, opens, ops_of, resumes, starts, stops}
 use Rattle.clock_moves.specs.Unfolding.{ClockComing, ClockPart, ClockStart, ClockUnfolding, Current, a_close, a_finish, a_loop, a_plain, a_turn, an_async, act_async, act_close, act_finish, act_plain, as_clock, clock_act, clock_of, clock_opening, clock_plan_of, clock_unfolded, clocks_of, come, come_all, coming, comings_of, count_clock_visit, counted_coming, governed_by, innermost, listed_twice, move_at, naming, next_activity, next_clock, not_registered, nothing_known, numbers_of, plan_of_moves, start_at, still_pending, stop, too_many_activities, too_many_clock_cells, too_many_clock_ops, too_many_clock_visits, too_many_clocks, unfold_activities, unfold_started, with_activity, with_clock_made, with_known, with_move}
 

@@ -14,10 +14,10 @@ use Rattle.pl_plan.proofs.SoundSteps.{state_of}
 use Rattle.pl_plan.proofs.UnfoldedIsChecked.{next_sound, sound_opening}
 use Rattle.pl_plan.proofs.VisitsLeave.{bind_ok, ok_is}
 use Rattle.clock_syntax.specs.Trees.{ClockTree}
-use Rattle.clock_moves.specs.Laws.{ClockPlanIsChecked}
+use Rattle.clock_moves.specs.calls.Laws.{ClockPlanIsChecked}
 use Rattle.clock_moves.specs.Moves.{Move, advances, begins, code_of_moves, drops, ends, no_standing, opens, ops_of, resumes, starts, stops}
 use Rattle.clock_moves.specs.Unfolding.{ClockStart, ClockUnfolding, clock_opening, clock_plan_of, clock_unfolded, come_all, comings_of, governed_by, innermost, naming, nothing_known, numbers_of, plan_of_moves, start_at, stop, unfold_activities, unfold_started, with_activity, with_clock_made, with_known, with_move}
-use Rattle.clock_moves.specs.Making.{MakesMove, MayMake}
+use Rattle.clock_moves.specs.calls.Making.{MakesMove, MayMake}
 use Rattle.clock_moves.proofs.Knows.{knows_nothing}
 use Rattle.clock_moves.proofs.Making.{Stops, comings_keep, stopped, with_visits}
 use Rattle.clock_moves.proofs.MoveCodes.{moves_at, plan_more, plan_now, stood}

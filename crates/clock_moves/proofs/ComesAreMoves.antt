@@ -4,9 +4,9 @@ use Rattle.std.specs.Prelude.{nat_lt}
 use Rattle.pl_plan.specs.Limits.{max_visits}
 use Rattle.pl_plan.specs.Unfolding.{fault_unless}
 use Rattle.pl_plan.proofs.VisitsLeave.{bind_ok, ok_is}
-use Rattle.clock_moves.specs.ClockTests.{visited}
+use Rattle.clock_moves.specs.calls.ClockTests.{visited}
 use Rattle.clock_moves.specs.Unfolding.{ClockPart, ClockUnfolding, a_close, a_finish, a_loop, a_plain, a_turn, an_async, clock_act, count_clock_visit, counted_coming, too_many_clock_visits}
-use Rattle.clock_moves.specs.Making.{ComesAreMoves, MakesMove}
+use Rattle.clock_moves.specs.calls.Making.{ComesAreMoves, MakesMove}
 use Rattle.clock_moves.proofs.Making.{act_keeps}
 
 counts_one : (n : ℕ) (u z : ClockUnfolding) → count_clock_visit n u ≡ Ok z → z ≡ record u { visits = u.visits + 1 }

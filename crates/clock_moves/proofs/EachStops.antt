@@ -9,10 +9,10 @@ use Rattle.armus_base.proofs.Elements.{Contains-cons_cases, nothing_in_nil}
 use Rattle.armus_base.specs.Limits.{max_tasks}
 use Rattle.pl_plan.proofs.Places.{at_more}
 use Rattle.pl_plan.proofs.VisitsLeave.{bind_ok, ok_is}
-use Rattle.clock_moves.specs.Laws.{EachActivityStops, HoldsNoStop}
+use Rattle.clock_moves.specs.calls.Laws.{EachActivityStops, HoldsNoStop}
 use Rattle.clock_moves.specs.Moves.{Move, advances, begins, code_of_moves, drops, ends, opens, resumes, starts, stops}
 use Rattle.clock_moves.specs.Unfolding.{ClockStart, ClockUnfolding, clock_opening, clock_unfolded, come_all, comings_of, numbers_of, stop, unfold_activities, unfold_started, with_known, with_move}
-use Rattle.clock_moves.specs.Making.{MakesMove, MayMake}
+use Rattle.clock_moves.specs.calls.Making.{MakesMove, MayMake}
 use Rattle.clock_moves.proofs.ClockPlanIsChecked.{IsBetween, begins_known, move_keeps, opening_between, passes_over, stops_between, visits_keep}
 use Rattle.clock_moves.proofs.Making.{Stops, comings_keep, stopped}
 use Rattle.clock_moves.proofs.MoveCodes.{moves_at}

@@ -7,7 +7,7 @@ use Rattle.std.proofs.lemmas.Bool.{cases_eq, eq-eqb, eqb-true, false≢true, ne_
 use Rattle.std.proofs.lemmas.Slice.Eq.{bytes_eq-Decides}
 use Rattle.armus_base.specs.States.{updated}
 use Rattle.clock_moves.specs.Unfolding.{ClockNames, Current, innermost, nothing_known, standing_on}
-use Rattle.clock_moves.specs.Making.{AreClocksOf}
+use Rattle.clock_moves.specs.calls.Making.{AreClocksOf}
 
 -- p is none of these
 abbrev pub IsApart : ℕ → List ℕ → Type 0

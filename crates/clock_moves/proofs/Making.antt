@@ -8,7 +8,7 @@ use Rattle.armus_base.specs.Limits.{max_ops, max_phasers, max_tasks}
 use Rattle.clock_syntax.specs.Trees.{ClockPlain, ClockTree, advance, clock, drop, resume, skip}
 use Rattle.clock_moves.specs.Moves.{Move, advances, begins, drops, ends, opens, ops_of, resumes, starts, stops}
 use Rattle.clock_moves.specs.Unfolding.{ClockComing, ClockPart, ClockUnfolding, Current, a_close, a_finish, a_loop, a_plain, a_turn, an_async, act_async, act_close, act_finish, act_plain, as_clock, clock_act, clock_of, clocks_of, come, come_all, count_clock_visit, counted_coming, innermost, listed_twice, move_at, next_activity, next_clock, not_registered, numbers_of, still_pending, stop, too_many_activities, too_many_clock_cells, too_many_clock_ops, too_many_clock_visits, too_many_clocks, with_move}
-use Rattle.clock_moves.specs.Making.{AreClocksOf, HasActivityRoom, HasClockRoom, IsClockOf, MakesMove, MayMake}
+use Rattle.clock_moves.specs.calls.Making.{AreClocksOf, HasActivityRoom, HasClockRoom, IsClockOf, MakesMove, MayMake}
 use Rattle.pl_plan.specs.Limits.{max_visits}
 use Rattle.pl_plan.specs.Unfolding.{fault_unless, has_cells}
 use Rattle.pl_plan.proofs.VisitsLeave.{bind_ok, ok_is}

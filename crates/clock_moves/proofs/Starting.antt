@@ -17,7 +17,7 @@ use Rattle.pl_plan.proofs.Tables.{slice_get-last, with_task}
 use Rattle.clock_syntax.specs.Trees.{ClockTree}
 use Rattle.clock_moves.specs.Moves.{code_of_moves, no_standing, ops_of, starts}
 use Rattle.clock_moves.specs.Unfolding.{ClockStart, ClockUnfolding, Current, innermost, start_at, with_activity, with_move}
-use Rattle.clock_moves.specs.Making.{AreClocksOf, HasActivityRoom}
+use Rattle.clock_moves.specs.calls.Making.{AreClocksOf, HasActivityRoom}
 use Rattle.clock_moves.proofs.Knows.{AreMembers, IsApart, Knows, knows_start}
 use Rattle.clock_moves.proofs.MoveCodes.{plan_now, stood}
 use Rattle.clock_moves.proofs.PlanSteps.{Acts, CanRegister, can_register-append, fork_more, map-append, no_names, ops_parents, regs, regs_more, sum_ops, task_more, with_all, with_all_other, with_ops, with_ops-append}

@@ -12,7 +12,7 @@ use Rattle.pl_plan.specs.Unfolding.{Start, phaser, task, with_member}
 use Rattle.pl_plan.proofs.SoundSteps.{member_other}
 use Rattle.clock_moves.specs.Moves.{Move, advances, after_move, begins, code_of_moves, drops, ends, no_standing, opens, ops_of, resumes}
 use Rattle.clock_moves.specs.Unfolding.{ClockStart, ClockUnfolding, governed_by, naming, with_clock_made, with_move}
-use Rattle.clock_moves.specs.Making.{HasClockRoom, IsClockOf}
+use Rattle.clock_moves.specs.calls.Making.{HasClockRoom, IsClockOf}
 use Rattle.clock_moves.proofs.Knows.{AreMembers, Knows, knows_clock, knows_end, knows_finish, knows_less, knows_more, knows_pending}
 use Rattle.clock_moves.proofs.MoveCodes.{SamePending, moves_at, pending_more, plan_more, plan_now, stood}
 use Rattle.clock_moves.proofs.PlanSteps.{Acts, adv_more, await_more, drop_more, make_more, no_names, one_more, sum_ops, with_ops}

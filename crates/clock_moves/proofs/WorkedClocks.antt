@@ -4,7 +4,7 @@ use Rattle.std.specs.Prelude.{nat_le, nat_lt}
 use Rattle.std.proofs.lemmas.Bool.Decides.{nat_tests}
 use Rattle.pl_plan.specs.Unfolding.{◌>>=◌, Outcome, fault, fault_unless}
 use Rattle.clock_moves.specs.Unfolding.{act_async, act_close, act_finish, act_plain, clock_of, clock_plan_of, clock_unfolded, clocks_of, come_all, count_clock_visit, move_at, next_activity, next_clock, stop, unfold_activities}
-use Rattle.clock_moves.specs.WorkedClocks.{ArePlanned, ClockLimitsHold, HaveMoves, NoActivityMore, NoActivityWithoutCells, NoClockMore, NoClockOpMore, NoClockVisitMore, NoClockWithoutCells, NoEndMore, NoFinishMore, NoFinishWithoutCells, NoVisitAtAnEnd, worked_clock_faults, worked_clock_plans, worked_moves}
+use Rattle.clock_moves.specs.calls.WorkedClocks.{ArePlanned, ClockLimitsHold, HaveMoves, NoActivityMore, NoActivityWithoutCells, NoClockMore, NoClockOpMore, NoClockVisitMore, NoClockWithoutCells, NoEndMore, NoFinishMore, NoFinishWithoutCells, NoVisitAtAnEnd, worked_clock_faults, worked_clock_plans, worked_moves}
 
 pub plans_worked : ArePlanned worked_clock_plans
 unfolding clock_plan_of clock_unfolded unfold_activities come_all count_clock_visit act_plain act_async act_finish act_close clock_of clocks_of next_clock

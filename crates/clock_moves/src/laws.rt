@@ -1,8 +1,8 @@
 // The laws over the definition of the unfolding: each is the contract of a function with an empty body.
-ghost use Rattle.clock_moves.specs.ClockTests.{ComesByTable, FaultsByTable, StopsWithRoom, StopsWithoutRoom};
-ghost use Rattle.clock_moves.specs.Laws.{ClockFaultIsOfText, ClockPlanIsChecked, EachActivityStops};
-ghost use Rattle.clock_moves.specs.Making.{ComesAreMoves};
-ghost use Rattle.clock_moves.specs.WorkedClocks.{ArePlanned, ClockLimitsHold, HaveMoves, worked_clock_faults, worked_clock_plans, worked_moves};
+ghost use Rattle.clock_moves.specs.calls.ClockTests.{ComesByTable, FaultsByTable, StopsWithRoom, StopsWithoutRoom};
+ghost use Rattle.clock_moves.specs.calls.Laws.{ClockFaultIsOfText, ClockPlanIsChecked, EachActivityStops};
+ghost use Rattle.clock_moves.specs.calls.Making.{ComesAreMoves};
+ghost use Rattle.clock_moves.specs.calls.WorkedClocks.{ArePlanned, ClockLimitsHold, HaveMoves, worked_clock_faults, worked_clock_plans, worked_moves};
 
 /// The plan to which a clock program unfolds is a checked plan.
 pub fn clock_plan_is_checked()

@@ -7,8 +7,10 @@ use Rattle.std.proofs.lemmas.List.{get_or_past, map-append}
 use Rattle.std.proofs.lemmas.List.Sums.{get_or-le-sum_by}
 use Rattle.armus_base.specs.CheckedPlans.{IsCheckedPlan}
 use Rattle.armus_base.specs.Limits.{max_tasks}
-use Rattle.armus_base.specs.Pieces.{IsFolded, straight, unfolded}
-use Rattle.armus_base.specs.Plans.{Plan, folded_plan, straight_plan}
+use Rattle.armus_base.specs.calls.Pieces.{IsFolded, unfolded}
+use Rattle.armus_base.specs.Pieces.{straight}
+use Rattle.armus_base.specs.Plans.{Plan, straight_plan}
+use Rattle.armus_base.specs.calls.Plans.{folded_plan}
 use Rattle.armus_base.specs.declared.ids.TaskId.{TaskId}
 use Rattle.armus_base.specs.declared.op.Op.{Op}
 use Rattle.armus_base.specs.declared.piece.Piece.{Piece}
@@ -16,7 +18,7 @@ use Rattle.armus_base.proofs.Unfolding.{straight_is_folded, unfolded-straight}
 use Rattle.clock_syntax.specs.Trees.{ClockTree}
 use Rattle.clock_moves.specs.Unfolding.{clock_plan_of}
 use Rattle.clock_moves.proofs.ClockPlanIsChecked.{clock_plan_is_checked}
-use Rattle.clock_pl.specs.ClockPlanning.{GivesClockPlan, as_fault}
+use Rattle.clock_pl.specs.calls.ClockPlanning.{GivesClockPlan, as_fault}
 use Rattle.clock_pl.specs.declared.fault.ClockEnd.{ClockEnd}
 use Rattle.clock_pl.specs.declared.fault.ClockEnd.TheVariants as ends_by
 use Rattle.clock_pl.specs.inside.ClockChecker.{ClockChecker}

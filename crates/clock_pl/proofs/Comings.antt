@@ -6,14 +6,14 @@ use Rattle.armus_base.specs.Pieces.{times}
 use Rattle.clock_syntax.specs.declared.tree.ClockStmt.{ClockStmt}
 use Rattle.clock_syntax.specs.declared.tree.ClockStmt.TheVariants as s
 use Rattle.clock_syntax.specs.Trees.{ClockTree, done, clock_count, clock, advance, resume, drop as dropped, skip}
-use Rattle.clock_syntax.specs.Bodies.{clock_followed_by, clock_tree_of}
+use Rattle.clock_syntax.specs.calls.Bodies.{clock_followed_by, clock_tree_of}
 use Rattle.clock_syntax.proofs.ClockParts.{clock_count_first, clock_counts}
 use Rattle.clock_moves.specs.Unfolding.{ClockComing, a_plain, an_async, a_close, a_finish, a_loop, a_turn, coming, comings_of}
 use Rattle.pl_plan.specs.Unfolding.{Outcome, ◌>>=◌}
 use Rattle.pl_plan.specs.declared.fault.CheckFault.{CheckFault}
 use Rattle.clock_pl.specs.declared.fault.ClockEnd.{ClockEnd}
 use Rattle.clock_pl.specs.declared.fault.ClockEnd.TheVariants as ends_by
-use Rattle.clock_pl.specs.ClockPlanning.{as_fault}
+use Rattle.clock_pl.specs.calls.ClockPlanning.{as_fault}
 use Rattle.clock_pl.specs.inside.ClockChecker.{ClockChecker}
 use Rattle.clock_pl.specs.inside.ClockCheckerSteps.{GivesClockChecker, checker_async, checker_close, checker_come, checker_come_all, checker_finish, checker_open, checker_statement, checker_visit}
 use Rattle.clock_pl.proofs.Listing.{bind_same, bind_bind}

@@ -16,7 +16,7 @@ use Rattle.pl_plan.specs.Unfolding.{Outcome, ◌>>=◌, fault_unless, phaser}
 use Rattle.pl_plan.specs.declared.fault.CheckFault.{CheckFault}
 use Rattle.clock_pl.specs.declared.fault.ClockEnd.{ClockEnd}
 use Rattle.clock_pl.specs.declared.fault.ClockEnd.TheVariants as ends_by
-use Rattle.clock_pl.specs.ClockPlanning.{as_fault}
+use Rattle.clock_pl.specs.calls.ClockPlanning.{as_fault}
 use Rattle.clock_pl.specs.inside.ClockChecker.{ClockChecker, current}
 use Rattle.clock_pl.specs.inside.ClockCheckerSteps.{GivesValue, checker_async, checker_move, checker_next_activity, checker_ops, innermost_alone, kept_start_at, start_ops, stop_op, stop_ops, with_kept_activity}
 
@@ -64,9 +64,6 @@ clocks_of_same n a b (x ∷ xs) now h =
 -- the clocks of all names are those of so many, and then those of the rest behind the listed ones
 pub record Listed (n : ℕ) (names : List (List ℕ)) (now : Current) (listed : List (List ℕ)) (i : ℕ) (clocks : List PhaserId) : Type 0 where
   pub all : clocks_of n [] names now ≡ (clocks_of n listed (drop i names) now >>= λ ps. Ok (map (λ (p : PhaserId). p.0) clocks ++ ps))
-
-pub listed_first : (n : ℕ) (names : List (List ℕ)) (now : Current) → Listed n names now [] 0 []
-listed_first n names now = record { all = sym (bind_ok (clocks_of n [] names now)) }
 
 module _ (n : ℕ) (names : List (List ℕ)) (now : Current) (listed : List (List ℕ)) (i : ℕ) (clocks : List PhaserId) (h : Listed n names now listed i clocks) where
   module _ (x : List ℕ) (d : List ℕ) (lt : i < length names) (is : x ≡ get_or names i d) where
@@ -120,13 +117,6 @@ mapped_more f xs i d lt = sym (ap (map f) (take_more xs i d lt) ∙ map-append f
 pub regs_more : (c : TaskId) (on : List PhaserId) (i : ℕ) (ops new : List Op) (d : PhaserId) → i < length on → ops ≡ map (λ p. Reg c p) (take i on) →
     new ≡ ops ++ Reg c (get_or on i d) ∷ [] → new ≡ map (λ p. Reg c p) (take (i + 1) on)
 regs_more c on i ops new d lt h e = e ∙ ap (λ xs. xs ++ Reg c (get_or on i d) ∷ []) h ∙ mapped_more (λ p. Reg c p) on i d lt
-
-pub stops_more : (members : ℕ → Bool) (p : ℕ) → stop_ops members p ++ stop_op p (members p) ≡ stop_ops members (p + 1)
-stops_more members p = by (members p) ∙ ap (stop_ops members) (let e : suc p ≡ p + 1 = omega arith in e)
-  where
-    by : (v : Bool) → stop_ops members p ++ stop_op p v ≡ map (λ q. Drop (phaser q)) (numbers_of members p ++ option_to_list (if v then Some p else None))
-    by true = sym (map-append (λ q. Drop (phaser q)) (numbers_of members p) (p ∷ []))
-    by false = sym (map-append (λ q. Drop (phaser q)) (numbers_of members p) [])
 
 -- ---- an async
 

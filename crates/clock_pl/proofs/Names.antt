@@ -8,35 +8,35 @@ use Rattle.std.proofs.lemmas.Bool.{cases_lt, false≢true}
 use Rattle.std.proofs.lemmas.List.{length-map, length-set, length-append, length-replicate, get_or-set_same, get_or-set_other, get_or_append_left, get_or-append_right, get_or_past}
 use Rattle.std.proofs.lemmas.Slice.Eq.{bytes_eq-Decides}
 use Rattle.armus_base.specs.declared.ids.PhaserId.{PhaserId}
-use Rattle.clock_pl.specs.inside.ClockChecker.{numbered_clock, clock_by_name, clocks_lengthened, clocks_with, names_with, clock_number, spelled}
+use Rattle.clock_pl.specs.inside.ClockChecker.{numbered_clock, clock_by_name, clocks_lengthened, clocks_with, names_with, clock_number, spelled_names}
 
 -- tests of spellings are tests of keys
-pub place_spelled : (x : List ℕ) (keys : List (Bor (List ℕ))) → position_or_len (λ (b : Bor (List ℕ)). bytes_eq x b.now) keys ≡ position_or_len (bytes_eq x) (spelled keys)
+pub place_spelled : (x : List ℕ) (keys : List (Bor (List ℕ))) → position_or_len (λ (b : Bor (List ℕ)). bytes_eq x b.now) keys ≡ position_or_len (bytes_eq x) (spelled_names keys)
 place_spelled x [] = refl
 place_spelled x (k ∷ ks) = ap (λ n. cond (not (bytes_eq x k.now)) (1 + n) 0) (place_spelled x ks)
 
-pub any_spelled : (x : List ℕ) (keys : List (Bor (List ℕ))) → list_any (λ (b : Bor (List ℕ)). bytes_eq x b.now) keys ≡ list_any (bytes_eq x) (spelled keys)
+pub any_spelled : (x : List ℕ) (keys : List (Bor (List ℕ))) → list_any (λ (b : Bor (List ℕ)). bytes_eq x b.now) keys ≡ list_any (bytes_eq x) (spelled_names keys)
 any_spelled x [] = refl
 any_spelled x (k ∷ ks) = ap (λ n. bytes_eq x k.now || n) (any_spelled x ks)
 
-pub position_spelled : (x : List ℕ) (keys : List (Bor (List ℕ))) → position (λ (b : Bor (List ℕ)). bytes_eq x b.now) keys ≡ position (bytes_eq x) (spelled keys)
+pub position_spelled : (x : List ℕ) (keys : List (Bor (List ℕ))) → position (λ (b : Bor (List ℕ)). bytes_eq x b.now) keys ≡ position (bytes_eq x) (spelled_names keys)
 position_spelled x keys =
     ap (λ n. cond (nat_lt n (length keys)) (Some n) None) (place_spelled x keys)
-    ∙ ap (λ n. cond (nat_lt (position_or_len (bytes_eq x) (spelled keys)) n) (Some (position_or_len (bytes_eq x) (spelled keys))) None)
+    ∙ ap (λ n. cond (nat_lt (position_or_len (bytes_eq x) (spelled_names keys)) n) (Some (position_or_len (bytes_eq x) (spelled_names keys))) None)
     (sym (length-map keys (λ (b : Bor (List ℕ)). b.now)))
 
-spelled_push : (keys : List (Bor (List ℕ))) (k : Bor (List ℕ)) → spelled (keys ++ k ∷ []) ≡ spelled keys ++ k.now ∷ []
+spelled_push : (keys : List (Bor (List ℕ))) (k : Bor (List ℕ)) → spelled_names (keys ++ k ∷ []) ≡ spelled_names keys ++ k.now ∷ []
 spelled_push [] k = refl
 spelled_push (q ∷ keys) k = ap (λ xs. q.now ∷ xs) (spelled_push keys k)
 
 -- the keys with one that may be new
 pub spelled_with : (keys : List (Bor (List ℕ))) (k : Bor (List ℕ)) →
-    spelled (if list_any (λ (b : Bor (List ℕ)). bytes_eq k.now b.now) keys then keys else keys ++ k ∷ []) ≡ names_with k.now (spelled keys)
+    spelled_names (if list_any (λ (b : Bor (List ℕ)). bytes_eq k.now b.now) keys then keys else keys ++ k ∷ []) ≡ names_with k.now (spelled_names keys)
 spelled_with keys k = by (list_any (λ (b : Bor (List ℕ)). bytes_eq k.now b.now) keys) (any_spelled k.now keys)
   where
-    by : (v : Bool) → v ≡ list_any (bytes_eq k.now) (spelled keys) → spelled (if v then keys else keys ++ k ∷ []) ≡ names_with k.now (spelled keys)
-    by true e = ap (λ v. if v then spelled keys else spelled keys ++ k.now ∷ []) e
-    by false e = spelled_push keys k ∙ ap (λ v. if v then spelled keys else spelled keys ++ k.now ∷ []) e
+    by : (v : Bool) → v ≡ list_any (bytes_eq k.now) (spelled_names keys) → spelled_names (if v then keys else keys ++ k ∷ []) ≡ names_with k.now (spelled_names keys)
+    by true e = ap (λ v. if v then spelled_names keys else spelled_names keys ++ k.now ∷ []) e
+    by false e = spelled_push keys k ∙ ap (λ v. if v then spelled_names keys else spelled_names keys ++ k.now ∷ []) e
 
 -- ---- the place of a name
 

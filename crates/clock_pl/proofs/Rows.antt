@@ -2,7 +2,7 @@
 use Rattle.std.proofs.Common.{◌≡◌, ℕ, ◌+◌, ◌<◌, true, Bool, List, [], ◌∷◌, ◌++◌, take, length, get_or, ap, sym, ◌∙◌, refl}
 use Rattle.std.proofs.lemmas.List.{take_more}
 use Rattle.armus_base.specs.declared.ids.PhaserId.{PhaserId}
-use Rattle.pl_plan.specs.MemberRows.{marked}
+use Rattle.pl_plan.specs.calls.MemberRows.{marked}
 use Rattle.clock_pl.specs.inside.ClockChecker.{marked_all}
 
 pub marked_all_push : (ps : List PhaserId) (p : PhaserId) (row : List Bool) → marked_all (ps ++ p ∷ []) row ≡ marked p.0 true (marked_all ps row)

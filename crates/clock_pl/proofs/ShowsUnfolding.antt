@@ -12,7 +12,7 @@ use Rattle.clock_syntax.specs.Trees.{ClockTree}
 use Rattle.clock_moves.specs.Moves.{Move, advances, after_move, begins, code_of_moves, drops, ends, no_standing, opens, ops_of, resumes, starts, stops}
 use Rattle.clock_moves.specs.Unfolding.{ClockStart, ClockUnfolding, Current, governed_by, innermost, naming, start_at, with_activity, with_clock_made, with_known, with_move}
 use Rattle.clock_moves.proofs.MoveCodes.{SamePending, code_more, pending_more, stood}
-use Rattle.pl_plan.specs.MemberRows.{marked}
+use Rattle.pl_plan.specs.calls.MemberRows.{marked}
 use Rattle.pl_plan.specs.Unfolding.{phaser, task}
 use Rattle.pl_plan.proofs.MemberRows.{marked_same, marked_other}
 use Rattle.pl_plan.proofs.Places.{same_or, at_more}

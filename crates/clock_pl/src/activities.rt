@@ -6,7 +6,7 @@ ghost use Rattle.std.specs.Str.{bytes_eq};
 ghost use Rattle.armus_base.specs.declared.ids.PhaserId.{PhaserId};
 ghost use Rattle.clock_syntax.specs.Trees.{clock_count};
 ghost use Rattle.clock_moves.specs.Unfolding.{clock_of, clocks_of};
-ghost use Rattle.clock_pl.specs.inside.ClockChecker.{current, spelled};
+ghost use Rattle.clock_pl.specs.inside.ClockChecker.{current, spelled_names};
 ghost use Rattle.clock_pl.specs.inside.ClockCheckerSteps.{GivesClockChecker, GivesValue, checker_async, checker_stop, innermost_alone, kept_start_at, start_ops, stop_op, stop_ops};
 
 use crate::checker::{Checker, Start};
@@ -20,8 +20,8 @@ use std::alloc::{AllocError, Global};
 
 // Whether the name was not listed yet; then it is listed.
 fn list_once<'n>(listed: &mut IndexSet<&'n [u8]>, x: &'n [u8]) -> Result<bool, AllocError>
-    ensures fresh { IfOk result (λ b. b ≡ not (list_any (bytes_eq x.now) (spelled listed.old.keys))) }
-    ensures listed { IfOk result (λ b. IsTrue b → spelled listed.new.keys ≡ spelled listed.old.keys ++ x.now ∷ []) }
+    ensures fresh { IfOk result (λ b. b ≡ not (list_any (bytes_eq x.now) (spelled_names listed.old.keys))) }
+    ensures listed { IfOk result (λ b. IsTrue b → spelled_names listed.new.keys ≡ spelled_names listed.old.keys ++ x.now ∷ []) }
 {
     let (_, fresh) = listed.insert_full(x)?;
     Ok(fresh)
@@ -35,8 +35,8 @@ fn clock_once<'n>(
     listed: &mut IndexSet<&'n [u8]>,
     x: &'n [u8],
 ) -> Result<PhaserId, ClockEnd>
-    ensures exact { GivesValue (λ (p : PhaserId). p.0) result (clock_of true n (spelled listed.old.keys) x.now (current checker.now)) }
-    ensures listed { OnOk result (spelled listed.new.keys ≡ spelled listed.old.keys ++ x.now ∷ []) }
+    ensures exact { GivesValue (λ (p : PhaserId). p.0) result (clock_of true n (spelled_names listed.old.keys) x.now (current checker.now)) }
+    ensures listed { OnOk result (spelled_names listed.new.keys ≡ spelled_names listed.old.keys ++ x.now ∷ []) }
 {
     let p = registered_clock(checker, n, x)?;
     let fresh = list_once(listed, x)?;

@@ -2,11 +2,11 @@
 
 ghost use Rattle.std.specs.Prelude.{◌≡◌, ◌+◌, ◌<◌, ◌≤◌, ◌^◌, ◌++◌, ◌∷◌, [], length, slice_set, slice_index_or, OnOk, IfOk, None, false, slice_get, Some, IfSome, List, ℕ};
 ghost use Rattle.armus_base.specs.declared.ids.PhaserId.{PhaserId};
-ghost use Rattle.pl_plan.specs.MemberRows.{marked};
+ghost use Rattle.pl_plan.specs.calls.MemberRows.{marked};
 ghost use Rattle.std.specs.List.{position, position_or_len};
 ghost use Rattle.std.specs.Str.{bytes_eq};
 ghost use Rattle.clock_syntax.specs.Trees.{clock_count};
-ghost use Rattle.clock_pl.specs.inside.ClockChecker.{ClockChecker as ClockCheckerValue, KeptStart, clock_by_name, clock_number, names_with, spelled};
+ghost use Rattle.clock_pl.specs.inside.ClockChecker.{ClockChecker as ClockCheckerValue, KeptStart, clock_by_name, clock_number, names_with, spelled_names};
 ghost use Rattle.clock_pl.specs.inside.ClockCheckerSteps.{with_ops, with_known_changed, with_kept_clock, with_kept_name, with_governing, with_kept_activity, with_activity_begun, opening_checker};
 
 use crate::known::{Known, lengthen_clocks};
@@ -32,7 +32,8 @@ pub(crate) struct Start<'p> {
 impl<'p> Model for Start<'p> {
     ghost use Rattle.std.specs.Prelude.{◌+◌, ◌<◌, ◌^◌, []};
     ghost use Rattle.std.specs.Coded.{codes};
-    ghost use Rattle.clock_syntax.specs.Trees.{clock_count, clock_tree_code};
+    ghost use Rattle.clock_syntax.specs.Trees.{clock_count};
+    ghost use Rattle.clock_syntax.specs.calls.Trees.{clock_tree_code};
     ghost use Rattle.clock_pl.specs.inside.ClockChecker.{KeptStart};
 
     ghost Value = { KeptStart };
@@ -89,15 +90,15 @@ impl<'p> Model for Checker<'p> {
     ghost use Rattle.std.specs.Prelude.{◌≡◌, ◌<◌, ◌≤◌, IfSome, length};
     ghost use Rattle.std.specs.Coded.{codes as codings};
     ghost use Rattle.armus_base.specs.Limits.{max_tasks, max_phasers, max_ops};
-    ghost use Rattle.clock_syntax.specs.Trees.{clock_tree_code};
-    ghost use Rattle.clock_pl.specs.inside.ClockChecker.{ClockChecker, spelled};
+    ghost use Rattle.clock_syntax.specs.calls.Trees.{clock_tree_code};
+    ghost use Rattle.clock_pl.specs.inside.ClockChecker.{ClockChecker, spelled_names};
 
     ghost Value = { ClockChecker };
 
     ghost coded = { Prim.hlevel (codings, clock_tree_code) };
 
     ghost view = { λ k. record {
-      names = spelled k.names.keys;
+      names = spelled_names k.names.keys;
       parents = k.parents.items;
       makers = k.makers.items;
       codes = k.codes.items;
@@ -366,7 +367,7 @@ pub(crate) struct Lists {
 
 // The number of a name, if it has stood for a clock.
 fn number_of_name(names: &IndexSet<&[u8]>, x: &[u8]) -> Option<usize>
-    ensures { result ≡ position (bytes_eq x.now) (spelled names.now.keys) }
+    ensures { result ≡ position (bytes_eq x.now) (spelled_names names.now.keys) }
 {
     names.get_index_of(x)
 }
@@ -383,9 +384,9 @@ fn clock_of_number(clocks: &[Option<PhaserId>], i: usize) -> Option<PhaserId>
 
 // The number of a name, in the order in which names first stood for a clock; if need be a new one.
 fn number<'p>(names: &mut IndexSet<&'p [u8]>, x: &'p [u8]) -> Result<usize, AllocError>
-    ensures index { IfOk result (λ i. i ≡ position_or_len (bytes_eq x.now) (spelled names.old.keys)) }
+    ensures index { IfOk result (λ i. i ≡ position_or_len (bytes_eq x.now) (spelled_names names.old.keys)) }
     ensures few { IfOk result (λ i. i < 2 ^ 32) }
-    ensures keys { OnOk result (spelled names.new.keys ≡ names_with x.now (spelled names.old.keys)) }
+    ensures keys { OnOk result (spelled_names names.new.keys ≡ names_with x.now (spelled_names names.old.keys)) }
 {
     let (i, _) = names.insert_full(x)?;
     if i >= 1 << 32 {

@@ -1,10 +1,11 @@
 // The plan of a clock program.
 
 ghost use Rattle.std.specs.Prelude.{◌≡◌, ◌<◌, ◌≤◌, ◌^◌, [], length, map, IfOk, slice_get, slice_index_or, ℕ};
-ghost use Rattle.armus_base.specs.Pieces.{IsFolded, straight};
+ghost use Rattle.armus_base.specs.calls.Pieces.{IsFolded};
+ghost use Rattle.armus_base.specs.Pieces.{straight};
 ghost use Rattle.clock_syntax.specs.Trees.{clock_count};
 ghost use Rattle.clock_moves.specs.Unfolding.{clock_plan_of};
-ghost use Rattle.clock_pl.specs.ClockPlanning.{GivesClockPlan};
+ghost use Rattle.clock_pl.specs.calls.ClockPlanning.{GivesClockPlan};
 ghost use Rattle.clock_pl.specs.inside.ClockCheckerSteps.{GivesClockChecker, checker_activities, checker_started};
 
 use crate::activities::stop;

@@ -3,7 +3,7 @@ use Rattle.std.proofs.Common.{◌≡◌, List, [], ◌∷◌, refl, sym, ap, ◌
 use Rattle.clock_syntax.specs.declared.tree.ClockStmt.{ClockStmt}
 use Rattle.clock_syntax.specs.declared.tree.ClockStmt.TheVariants as s
 use Rattle.clock_syntax.specs.Trees.{ClockTree, done, plain, async, finish, loop, clock, advance, resume, drop, skip}
-use Rattle.clock_syntax.specs.Bodies.{clock_followed_by, clock_tree_of}
+use Rattle.clock_syntax.specs.calls.Bodies.{clock_followed_by, clock_tree_of}
 
 -- the statements of a tree
 abbrev stmts_of : ClockTree → List ClockStmt

@@ -4,7 +4,7 @@ use Rattle.std.proofs.lemmas.List.{drop_more, drop_all}
 use Rattle.clock_syntax.specs.declared.tree.ClockStmt.{ClockStmt}
 use Rattle.clock_syntax.specs.declared.tree.ClockStmt.TheVariants as s
 use Rattle.clock_syntax.specs.Trees.{ClockTree, done, clock_count}
-use Rattle.clock_syntax.specs.Bodies.{clock_followed_by, clock_tree_of}
+use Rattle.clock_syntax.specs.calls.Bodies.{clock_followed_by, clock_tree_of}
 
 pub clock_count_first : (q : ClockStmt) (p : ClockTree) →
     clock_count (clock_followed_by q p) ≡ clock_count (clock_followed_by q done) + clock_count p

@@ -17,7 +17,7 @@ use Rattle.pl_syntax.proofs.Blocks.{goes_first, leads_le, begun, block_ok, block
 use Rattle.clock_syntax.specs.declared.tree.ClockStmt.{ClockStmt}
 use Rattle.clock_syntax.specs.declared.tree.ClockStmt.TheVariants as s
 use Rattle.clock_syntax.specs.Trees.{ClockPlain, clock, advance, resume, drop, skip, ClockTree, done, plain, async, finish, loop, clock_height}
-use Rattle.clock_syntax.specs.Bodies.{clock_followed_by, clock_tree_of}
+use Rattle.clock_syntax.specs.calls.Bodies.{clock_followed_by, clock_tree_of}
 use Rattle.clock_syntax.specs.Grammar.{names_tokens, clock_plain_tokens, clock_tokens}
 use Rattle.clock_syntax.specs.inside.ClockReading.{ClockBlock, clock_at, advance_at, resume_at, drop_at, clock_skip_at, names_at, async_at, finish_at, clock_loop_at, clock_statement_in}
 use Rattle.clock_syntax.proofs.ClockBegun.{clock_firsts, run_clock_tree, s_clock, s_body, s_async}

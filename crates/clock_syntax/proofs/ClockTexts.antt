@@ -8,9 +8,9 @@ use Rattle.pl_syntax.proofs.Blocks.{whole_ok, whole_err}
 use Rattle.pl_syntax.proofs.Stopped.{first_fault}
 use Rattle.clock_syntax.specs.declared.tree.ClockStmt.{ClockStmt}
 use Rattle.clock_syntax.specs.Trees.{ClockTree, done, clock_height}
-use Rattle.clock_syntax.specs.Bodies.{clock_followed_by, clock_tree_of}
+use Rattle.clock_syntax.specs.calls.Bodies.{clock_followed_by, clock_tree_of}
 use Rattle.clock_syntax.specs.Grammar.{clock_tokens, clock_scan, ClockBegins, IsClockText, HasClockFault}
-use Rattle.clock_syntax.specs.Parsing.{GivesClockProgram, GivesClockFault, ExplainsClocks}
+use Rattle.clock_syntax.specs.calls.Parsing.{GivesClockProgram, GivesClockFault, ExplainsClocks}
 use Rattle.clock_syntax.specs.inside.ClockReading.{clock_statement_in, clock_program_at}
 use Rattle.clock_syntax.proofs.ClockBegun.{clock_firsts, run_clock_tree}
 use Rattle.clock_syntax.proofs.ClockForest.{clocks_begin_if, clocks_run_if}

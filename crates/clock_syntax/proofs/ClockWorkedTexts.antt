@@ -2,7 +2,7 @@
 use Rattle.std.proofs.Common.{refl, arith}
 use Rattle.pl_syntax.specs.Tokens.{front}
 use Rattle.pl_syntax.specs.Words.{clock_keyword_of}
-use Rattle.clock_syntax.specs.Laws.{ReadsClockTexts}
+use Rattle.clock_syntax.specs.calls.Laws.{ReadsClockTexts}
 
 pub reads_clock_texts : ReadsClockTexts
 unfolding front clock_keyword_of

@@ -8,12 +8,7 @@ use Rattle.pl_syntax.specs.declared.token.Keyword.TheVariants as k
 use Rattle.pl_syntax.specs.declared.token.Sign.TheVariants.{OpenParen, CloseParen, Comma, Semicolon, OpenBrace, CloseBrace}
 use Rattle.pl_syntax.specs.Tokens.{Token, the_end, sign, word, name, number, Leads}
 use Rattle.pl_syntax.specs.Grammar.{with_name, IsFirstSyntaxFault}
-use Rattle.pl_syntax.specs.Words.{IsNameIn}
 use Rattle.clock_syntax.specs.Trees.{ClockPlain, clock, advance, resume, drop, skip, ClockTree, done, plain, async, finish, loop, clock_height}
-
--- a name of a clock has the form of names of PL, and is no keyword of the language of clocks
-abbrev pub IsClockName : List ℕ → Type 0
-IsClockName w = IsNameIn Clocks w
 
 -- ---- the grammar: the tokens of each statement, before the tokens that follow it
 

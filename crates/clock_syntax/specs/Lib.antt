@@ -1,10 +1,7 @@
 -- What a reader of the repository has to believe.
 pub mod Trees
 pub mod Grammar
--- How the types of the program show as those.
-pub mod Bodies
--- What is promised.
-pub mod Parsing
-pub mod Laws
 -- How the program does it: private contracts alone cite these.
 pub mod inside
+-- Words of contracts further down, which no promise of a program needs.
+pub mod calls

@@ -1,6 +1,6 @@
 // What holds of the definitions of this crate: each law is the contract of a public function with an empty body.
 
-ghost use Rattle.clock_syntax.specs.Laws.{HasOneClockTree, HasOneClockFault, HasNotBothClocks, HasClockTreeOrFault, TreesFixClockBodies, ReadsClockTexts};
+ghost use Rattle.clock_syntax.specs.calls.Laws.{HasOneClockTree, HasOneClockFault, HasNotBothClocks, HasClockTreeOrFault, TreesFixClockBodies, ReadsClockTexts};
 
 /// The grammar is unambiguous: a text has at most one tree.
 pub fn clock_text_has_one_tree()

@@ -2,8 +2,8 @@
 
 ghost use Rattle.std.specs.Prelude.{◌≡◌, IfOk};
 ghost use Rattle.pl_syntax.specs.declared.scan.Language.TheVariants.{Clocks};
-ghost use Rattle.pl_syntax.specs.Words.{IsNameIn};
-ghost use Rattle.clock_syntax.specs.Grammar.{IsClockName};
+ghost use Rattle.pl_syntax.specs.calls.Words.{IsNameIn};
+ghost use Rattle.clock_syntax.specs.calls.Grammar.{IsClockName};
 
 use armus_base::NoMemory;
 use pl_syntax::scan::Language;
@@ -19,7 +19,7 @@ pub struct ClockName {
 
 impl Model for ClockName {
     ghost use Rattle.std.specs.Prelude.{List, ℕ};
-    ghost use Rattle.clock_syntax.specs.Grammar.{IsClockName};
+    ghost use Rattle.clock_syntax.specs.calls.Grammar.{IsClockName};
 
     ghost Value = { List ℕ };
 

@@ -4,13 +4,13 @@ ghost use Rattle.std.specs.Prelude.{◌≡◌, ℕ, ◌+◌, ◌<◌, ◌≤◌,
 ghost use Rattle.pl_syntax.specs.declared.limits.TheConstants.{MAX_OPEN_BRACES};
 ghost use Rattle.pl_syntax.specs.declared.fault.SyntaxFault.{SyntaxFault as Fault};
 ghost use Rattle.pl_syntax.specs.declared.scan.Language.TheVariants.{Clocks};
-ghost use Rattle.pl_syntax.specs.Words.{IsNameIn};
+ghost use Rattle.pl_syntax.specs.calls.Words.{IsNameIn};
 ghost use Rattle.pl_syntax.specs.inside.Seen.{token_of, HasForm};
 ghost use Rattle.pl_syntax.specs.inside.Reading.{Gives, braced_at, whole_by};
 ghost use Rattle.clock_syntax.specs.Trees.{ClockTree as Tree, clock_count, done};
-ghost use Rattle.clock_syntax.specs.Bodies.{clock_followed_by, clock_tree_of};
+ghost use Rattle.clock_syntax.specs.calls.Bodies.{clock_followed_by, clock_tree_of};
 ghost use Rattle.clock_syntax.specs.Grammar.{IsClockText, HasClockFault};
-ghost use Rattle.clock_syntax.specs.Parsing.{GivesClockProgram, GivesClockFault, ExplainsClocks};
+ghost use Rattle.clock_syntax.specs.calls.Parsing.{GivesClockProgram, GivesClockFault, ExplainsClocks};
 ghost use Rattle.clock_syntax.specs.inside.ClockReading.{clock_at, advance_at, resume_at, drop_at, clock_skip_at, closes_names, comma_name, later_names_at, names_behind, names_at, async_at, finish_at, clock_loop_at, clock_statement_in, clock_statements_at, clock_program_at, NameBlock as Names};
 
 use crate::limits::MAX_CLOCK_BYTES;

@@ -2,7 +2,7 @@
 
 ghost use Rattle.std.specs.Prelude.{◌≡◌, ◌<◌, ◌^◌};
 ghost use Rattle.clock_syntax.specs.Trees.{clock_count, done};
-ghost use Rattle.clock_syntax.specs.Bodies.{clock_followed_by, clock_tree_of};
+ghost use Rattle.clock_syntax.specs.calls.Bodies.{clock_followed_by, clock_tree_of};
 
 use crate::name::ClockName;
 use armus_base::List;
@@ -57,13 +57,14 @@ pub enum ClockStmt {
 
 impl Model for ClockBody {
     ghost use Rattle.std.specs.Prelude.{◌≡◌};
-    ghost use Rattle.clock_syntax.specs.Trees.{ClockTree, clock_tree_code, clock_count};
+    ghost use Rattle.clock_syntax.specs.Trees.{ClockTree, clock_count};
+    ghost use Rattle.clock_syntax.specs.calls.Trees.{clock_tree_code};
 
     ghost Value = { ClockTree };
 
     ghost coded = { clock_tree_code };
 
-    ghost use Rattle.clock_syntax.specs.Bodies.{clock_tree_of};
+    ghost use Rattle.clock_syntax.specs.calls.Bodies.{clock_tree_of};
 
     ghost view = { λ b. clock_tree_of b.items.items };
 

@@ -4,12 +4,12 @@ use Rattle.std.specs.Prelude.{map}
 use Rattle.std.proofs.lemmas.List.{get_or-set_other, get_or-set_same, length-append, length-set}
 use Rattle.clock_syntax.specs.Trees.{ClockPlain, advance, clock, drop, resume, skip}
 use Rattle.pl_plan.proofs.Places.{at_more}
-use Rattle.clock_moves.specs.ClockTests.{after_end, clock_named, left_at_end, visited}
+use Rattle.clock_moves.specs.calls.ClockTests.{after_end, clock_named, left_at_end, visited}
 use Rattle.clock_moves.specs.Moves.{Move, advances, begins, drops, ends, opens, resumes, starts, stops}
 use Rattle.clock_moves.specs.Unfolding.{ClockPart, ClockStart, ClockUnfolding, a_close, a_finish, a_loop, a_plain, a_turn, an_async, coming, governed_by, innermost, naming, start_at, with_activity, with_clock_made, with_move}
 use Rattle.clock_moves.proofs.MoveCodes.{moves_at}
-use Rattle.clock_text.specs.ClockUnfolds.{GoesToEnd, after_part, comes, stops_there}
-use Rattle.clock_text.specs.ProgramPoints.{ProgramPoint, behind}
+use Rattle.clock_text.specs.calls.ClockUnfolds.{GoesToEnd, after_part, comes, stops_there}
+use Rattle.clock_text.specs.calls.ProgramPoints.{ProgramPoint, behind}
 use Rattle.clock_text.specs.TextNumbers.{child_of, made_by, made_of, started_by}
 use Rattle.clock_text.proofs.Rows.{row, row_more}
 

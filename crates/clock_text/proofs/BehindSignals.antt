@@ -2,10 +2,10 @@
 use Rattle.std.proofs.Common.{◌≡◌, ◌≢◌, ℕ, Bool, true, false, Option, Some, None, List, [], ◌∷◌, arith, sym, ◌∙◌, ap, subst, refl, ◌⊎◌, inl, inr}
 use Rattle.std.specs.Str.{bytes_eq}
 use Rattle.std.specs.Prelude.{◌&&◌, ◌==◌, if◌then◌else◌, is_some}
-use Rattle.clock_machine.specs.Direct.{ClockState, departing, forgetting, going}
+use Rattle.clock_machine.specs.calls.Direct.{ClockState, departing, forgetting, going}
 use Rattle.clock_moves.specs.Moves.{Move, Standing, advances, drops, unregistered_from, with_pending}
 use Rattle.clock_moves.specs.Unfolding.{ClockNames, ClockUnfolding}
-use Rattle.clock_text.specs.ProgramPoints.{ProgramPoint}
+use Rattle.clock_text.specs.calls.ProgramPoints.{ProgramPoint}
 use Rattle.clock_text.specs.TextMachine.{Acting, Activity, Clock, Continuation, Made, TextState, departs, goes_to, is_made, is_there, left_by, remembering, with_clock}
 use Rattle.clock_text.specs.TextNumbers.{IsActivityIn, made_in, number_in}
 use Rattle.clock_text.proofs.Changing.{acts_other, acts_own, changed, clock_entry, phase_same, remember_entry}

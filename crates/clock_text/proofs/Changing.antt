@@ -4,7 +4,7 @@ use Rattle.std.specs.List.{list_any}
 use Rattle.std.specs.Str.{bytes_eq}
 use Rattle.std.specs.Prelude.{◌&&◌, if◌then◌else◌}
 use Rattle.std.proofs.lemmas.Bool.{false≢true}
-use Rattle.clock_machine.specs.Direct.{ClockState}
+use Rattle.clock_machine.specs.calls.Direct.{ClockState}
 use Rattle.clock_moves.specs.Unfolding.{ClockUnfolding}
 use Rattle.clock_text.specs.TextMachine.{Acting, Activity, Clock, Made, TextState, acts, is_made, is_there, with_clock}
 use Rattle.clock_text.specs.TextNumbers.{IsActivityIn, number_in}

@@ -4,11 +4,11 @@ use Rattle.std.specs.Prelude.{◌&&◌, if◌then◌else◌, is_some, slice_inde
 use Rattle.std.specs.Option.{option_map}
 use Rattle.armus_base.specs.Places.{some_before}
 use Rattle.clock_syntax.specs.Trees.{ClockTree, advance, plain}
-use Rattle.clock_machine.specs.Direct.{ClockState, is_through, settled}
+use Rattle.clock_machine.specs.calls.Direct.{ClockState, is_through, settled}
 use Rattle.clock_moves.specs.Moves.{Move, Standing, begins, opens}
 use Rattle.clock_moves.specs.Unfolding.{ClockNames, ClockUnfolding, activities}
 use Rattle.clock_moves.proofs.MoveCodes.{moves_at}
-use Rattle.clock_text.specs.ProgramPoints.{ProgramPoint, before, closing, last, turning}
+use Rattle.clock_text.specs.calls.ProgramPoints.{ProgramPoint, before, closing, last, turning}
 use Rattle.clock_text.specs.TextMachine.{Acting, Activity, Clock, Continuation, Made, TextState, beginning, clocks_go_on, closes, goes_on, is_empty, is_there, leaves, over, reads, turns}
 use Rattle.clock_text.specs.TextNumbers.{IsActivityIn, IsMadeIn, made_by, made_in, number_in, started_by}
 use Rattle.clock_text.proofs.Makes.{Makes}

@@ -7,8 +7,8 @@ use Rattle.clock_syntax.specs.Trees.{ClockTree}
 use Rattle.pl_plan.proofs.Growth.{slice_get-append}
 use Rattle.clock_moves.specs.Unfolding.{ClockStart, ClockUnfolding, activities, clock_opening, clock_unfolded, nothing_known, with_known}
 use Rattle.clock_moves.proofs.MoveCodes.{moves_at}
-use Rattle.clock_text.specs.ClockUnfolds.{UnfoldsFrom, no_more, one_more}
-use Rattle.clock_text.specs.ProgramPoints.{first_point}
+use Rattle.clock_text.specs.calls.ClockUnfolds.{UnfoldsFrom, no_more, one_more}
+use Rattle.clock_text.specs.calls.ProgramPoints.{first_point}
 use Rattle.clock_text.proofs.AddsMoves.{goes_adds}
 use Rattle.clock_text.proofs.Makes.{Makes, goes_makes}
 use Rattle.clock_text.proofs.Numbers.{AreRows, known_rows, next_rows, opening_rows, past_end}

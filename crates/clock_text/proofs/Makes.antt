@@ -8,11 +8,11 @@ use Rattle.std.proofs.lemmas.Option.{slice_get_within}
 use Rattle.clock_syntax.specs.Trees.{ClockPlain, ClockTree, advance, async, clock, clock_count, done, drop, finish, loop, plain, resume, skip}
 use Rattle.pl_plan.proofs.Growth.{slice_get-append}
 use Rattle.pl_plan.proofs.Tables.{slice_get-last}
-use Rattle.clock_moves.specs.ClockTests.{ClockRow, PassesClockTable, after_end, clock_named, clock_table, left_at_end, names_rows, no_activity_left, no_clock_cell_left, no_clock_left, no_clock_op_left, visited}
+use Rattle.clock_moves.specs.calls.ClockTests.{ClockRow, PassesClockTable, after_end, clock_named, clock_table, left_at_end, names_rows, no_activity_left, no_clock_cell_left, no_clock_left, no_clock_op_left, visited}
 use Rattle.clock_moves.specs.Moves.{Move, Standing, advances, begins, drops, ends, opens, registered_on, resumes, starts, stops, unregistered_from, with_pending}
 use Rattle.clock_moves.specs.Unfolding.{ClockComing, ClockNames, ClockPart, ClockStart, ClockUnfolding, a_close, a_finish, a_loop, a_plain, a_turn, an_async, coming, innermost, start_at}
-use Rattle.clock_text.specs.ClockUnfolds.{GoesToEnd, after_part, comes, stops_there}
-use Rattle.clock_text.specs.ProgramPoints.{ProgramPoint, before, behind, closing, finishes_around, last, part_at, turning}
+use Rattle.clock_text.specs.calls.ClockUnfolds.{GoesToEnd, after_part, comes, stops_there}
+use Rattle.clock_text.specs.calls.ProgramPoints.{ProgramPoint, before, behind, closing, finishes_around, last, part_at, turning}
 use Rattle.clock_text.proofs.AddsMoves.{Adds, adds_both, adds_move, move_of_end, moves_of_part, part_adds}
 
 -- ---- names

@@ -5,11 +5,11 @@ use Rattle.std.specs.Prelude.{◌&&◌, ◌==◌, if◌then◌else◌}
 use Rattle.std.specs.Option.{option_map}
 use Rattle.std.proofs.lemmas.Bool.{false≢true}
 use Rattle.armus_base.specs.States.{updated}
-use Rattle.clock_machine.specs.Direct.{ClockState, going, opening_clock}
+use Rattle.clock_machine.specs.calls.Direct.{ClockState, going, opening_clock}
 use Rattle.clock_moves.specs.Moves.{Move, Standing, opens, registered_on}
 use Rattle.clock_moves.specs.Unfolding.{ClockNames, ClockUnfolding}
-use Rattle.clock_text.specs.ProgramPoints.{ProgramPoint}
-use Rattle.clock_text.specs.TextMachine.{Acting, Activity, Clock, Continuation, Made, TextState, goes_to, is_made, is_there, makes_clock, next_made, with_clock}
+use Rattle.clock_text.specs.calls.ProgramPoints.{ProgramPoint}
+use Rattle.clock_text.specs.TextMachine.{Acting, Activity, Clock, Continuation, Made, TextState, goes_to, is_made, is_there, opens_clock, next_made, with_clock}
 use Rattle.clock_text.specs.TextNumbers.{IsActivityIn, IsMadeIn, made_in, number_in}
 use Rattle.clock_text.proofs.Changing.{acts_other, acts_own, agrees_same, changed, clock_entry, remember_same, this_or_other}
 use Rattle.clock_text.proofs.Corresponding.{ActsAs, Corresponds, Finishes, Fits, IsClock, Knows, Tells, bottom, is_clock, registered, target_at}
@@ -58,7 +58,7 @@ module _ (u : ClockUnfolding) (names : HaveNames u) (s : TextState) (m : ClockSt
     w = goes_to a d s
 
     abbrev v : TextState
-    v = makes_clock a name p w
+    v = opens_clock a name p w
 
     own : v.acting a ≡ named_so
     own =

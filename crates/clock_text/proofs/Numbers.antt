@@ -7,10 +7,11 @@ use Rattle.clock_syntax.specs.Trees.{ClockTree}
 use Rattle.clock_moves.specs.Moves.{Move}
 use Rattle.clock_moves.specs.Unfolding.{ClockStart, ClockUnfolding, activities, clock_opening, clock_unfolded, with_known}
 use Rattle.clock_moves.proofs.MoveCodes.{moves_at}
-use Rattle.clock_text.specs.ClockUnfolds.{UnfoldsFrom, no_more, one_more}
-use Rattle.clock_text.specs.ProgramPoints.{first_point}
+use Rattle.clock_text.specs.calls.ClockUnfolds.{UnfoldsFrom, no_more, one_more}
+use Rattle.clock_text.specs.calls.ProgramPoints.{first_point}
 use Rattle.clock_text.specs.TextMachine.{Activity, Made}
-use Rattle.clock_text.specs.TextNumbers.{EachMadeIsNamed, EachNumberIsNamed, IsActivityIn, IsMadeIn, MadeHaveOneName, made_by, made_in, number_in, started_by}
+use Rattle.clock_text.specs.calls.TextNumbers.{EachMadeIsNamed, EachNumberIsNamed, MadeHaveOneName}
+use Rattle.clock_text.specs.TextNumbers.{IsActivityIn, IsMadeIn, made_by, made_in, number_in, started_by}
 use Rattle.clock_text.proofs.AddsMoves.{Adds, goes_adds}
 use Rattle.clock_text.proofs.Rows.{row, row_at, row_length}
 use Rattle.clock_text.proofs.UnfoldsByPoints.{unfolding_is_unfolded}

@@ -3,11 +3,11 @@ use Rattle.std.proofs.Common.{◌≡◌, ◌≢◌, ℕ, ◌+◌, Bool, true, fa
 use Rattle.std.specs.Str.{bytes_eq}
 use Rattle.std.specs.Prelude.{◌==◌, if◌then◌else◌}
 use Rattle.std.proofs.lemmas.Bool.{false≢true}
-use Rattle.clock_machine.specs.Direct.{ClockState, departing_all, going}
+use Rattle.clock_machine.specs.calls.Direct.{ClockState, departing_all, going}
 use Rattle.clock_moves.specs.Moves.{Move, Standing, begins, ends, registered_on, stops, unregistered_from}
 use Rattle.clock_moves.specs.Unfolding.{ClockNames, ClockUnfolding}
-use Rattle.clock_text.specs.ProgramPoints.{ProgramPoint}
-use Rattle.clock_text.specs.TextMachine.{Acting, Activity, Clock, Continuation, Made, TextState, departs_from_all, goes_to, is_made, is_there, leaves, left_by, makes, next_made, over, with_open_set, without}
+use Rattle.clock_text.specs.calls.ProgramPoints.{ProgramPoint}
+use Rattle.clock_text.specs.TextMachine.{Acting, Activity, Clock, Continuation, Made, TextState, departs_from_all, goes_to, is_made, is_there, leaves, left_by, has_made, next_made, over, with_open_set, without_activity}
 use Rattle.clock_text.specs.TextNumbers.{IsActivityIn, made_in, number_in}
 use Rattle.clock_text.proofs.Changing.{acts_other, acts_own, agrees_same, changed, remember_same}
 use Rattle.clock_text.proofs.Corresponding.{ActsAs, Corresponds, Finishes, Fits, IsClock, IsFinish, Knows, bottom, is_clock, registered, target_at}
@@ -51,9 +51,9 @@ module _ (u : ClockUnfolding) (names : HaveNames u) (s : TextState) (m : ClockSt
         next_kind u a x here (m.left t) (registered u s a) (h.acts a there) (begins q) ms (left_is ∙ move) q false refl refl,
       )
 
-      pub begins_now : Corresponds u (goes_to a d (makes a s)) (going t ms m)
+      pub begins_now : Corresponds u (goes_to a d (has_made a s)) (going t ms m)
       begins_now =
-          let w = makes a s in
+          let w = has_made a s in
           let v = goes_to a d w in
           let y : Acting = record x { rest = d; made = x.made + 1 } in
           let own : v.acting a ≡ y = acts_own a (record (w.acting a) { rest = d }) w ∙ ap (λ (z : Acting). record z { rest = d }) (acts_own a (record x { made = x.made + 1 }) s) in
@@ -159,20 +159,20 @@ module _ (u : ClockUnfolding) (names : HaveNames u) (s : TextState) (m : ClockSt
     abbrev w : TextState
     w = departs_from_all a s
 
-    same_acting : (f : Option Made) (r : TextState) → (with_open_set f (without a) r).acting ≡ r.acting
+    same_acting : (f : Option Made) (r : TextState) → (with_open_set f (without_activity a) r).acting ≡ r.acting
     same_acting None r = refl
     same_acting (Some g) r = refl
 
-    same_clocks : (f : Option Made) (r : TextState) → (with_open_set f (without a) r).clock_of ≡ r.clock_of
+    same_clocks : (f : Option Made) (r : TextState) → (with_open_set f (without_activity a) r).clock_of ≡ r.clock_of
     same_clocks None r = refl
     same_clocks (Some g) r = refl
 
-    same_there : (f : Option Made) (r : TextState) → (with_open_set f (without a) r).there ≡ r.there
+    same_there : (f : Option Made) (r : TextState) → (with_open_set f (without_activity a) r).there ≡ r.there
     same_there None r = refl
     same_there (Some g) r = refl
 
     abbrev z : TextState
-    z = with_open_set f (without a) w
+    z = with_open_set f (without_activity a) w
 
     abbrev v : TextState
     v = goes_to a over z
@@ -218,7 +218,7 @@ module _ (u : ClockUnfolding) (names : HaveNames u) (s : TextState) (m : ClockSt
         not_in g is n false e same = refl
 
         by_made : (g : Made) → f ≡ Some g → (k : Bool) → is_made g q ≡ k →
-            is_in b (if k then without a (s.open_set g) else s.open_set q) ≡ (if bytes_eq a b then false else is_in b (s.open_set q))
+            is_in b (if k then without_activity a (s.open_set g) else s.open_set q) ≡ (if bytes_eq a b then false else is_in b (s.open_set q))
         by_made g is true e = in_without a b (s.open_set g) ∙ ap (λ k. if bytes_eq a b then false else is_in b (s.open_set k)) (made_same g q e)
         by_made g is false e =
             none_there (is_in b (s.open_set q)) refl
@@ -228,7 +228,7 @@ module _ (u : ClockUnfolding) (names : HaveNames u) (s : TextState) (m : ClockSt
             some_made : (g q : Made) → ◌≡◌ {A = Option Made} (Some g) (Some q) → g ≡ q
             some_made g q e = cc
 
-        by : (g : Option Made) → f ≡ g → is_in b ((with_open_set g (without a) w).open_set q) ≡ (if bytes_eq a b then false else is_in b (s.open_set q))
+        by : (g : Option Made) → f ≡ g → is_in b ((with_open_set g (without_activity a) w).open_set q) ≡ (if bytes_eq a b then false else is_in b (s.open_set q))
         by None is =
             none_there (is_in b (s.open_set q)) refl (not_in None is (λ k. absurd cc) (is_in b (s.open_set q)) refl) (bytes_eq a b) refl
         by (Some g) is = by_made g is (is_made g q) refl

@@ -3,10 +3,10 @@ use Rattle.std.proofs.Common.{◌≡◌, ◌≢◌, ℕ, ◌≤◌, Bool, true, 
 use Rattle.std.specs.Str.{bytes_eq}
 use Rattle.std.specs.Prelude.{◌&&◌, ◌==◌, if◌then◌else◌, is_some}
 use Rattle.std.proofs.lemmas.Bool.{eq-eqb, false≢true}
-use Rattle.clock_machine.specs.Direct.{ClockState, going, signalling, with_entry}
+use Rattle.clock_machine.specs.calls.Direct.{ClockState, going, signalling, with_entry}
 use Rattle.clock_moves.specs.Moves.{Move, Standing, resumes, with_pending}
 use Rattle.clock_moves.specs.Unfolding.{ClockNames, ClockUnfolding}
-use Rattle.clock_text.specs.ProgramPoints.{ProgramPoint}
+use Rattle.clock_text.specs.calls.ProgramPoints.{ProgramPoint}
 use Rattle.clock_text.specs.TextMachine.{Acting, Activity, Clock, Continuation, Made, TextState, goes_to, is_made, is_there, signalled_by, signals, with_clock}
 use Rattle.clock_text.specs.TextNumbers.{IsActivityIn, made_in, number_in}
 use Rattle.clock_text.proofs.Changing.{ListsChange, acts_other, acts_own, agrees_same, changed, clock_entry, clock_same, phase_same, remember_entry, this_or_other}

@@ -3,10 +3,10 @@ use Rattle.std.proofs.Common.{◌≡◌, ℕ, zero, suc, ◌+◌, Option, Some, 
 use Rattle.std.specs.Prelude.{map, option_to_list, slice_get}
 use Rattle.armus_base.specs.Pieces.{times}
 use Rattle.clock_syntax.specs.Trees.{ClockPlain, ClockTree, advance, async, clock, clock_count, done, drop, finish, loop, plain, resume, skip}
-use Rattle.clock_moves.specs.ClockTests.{after_end, clock_named, visited}
+use Rattle.clock_moves.specs.calls.ClockTests.{after_end, clock_named, visited}
 use Rattle.clock_moves.specs.Unfolding.{ClockComing, ClockPart, ClockStart, ClockUnfolding, Current, a_close, a_finish, a_loop, a_plain, a_turn, an_async, clock_opening, coming, comings_of, innermost, nothing_known, start_at}
-use Rattle.clock_text.specs.ClockUnfolds.{after_part}
-use Rattle.clock_text.specs.ProgramPoints.{ProgramPoint, before, behind, closing, finishes_around, first_point, last, part_at, starter_of, turning}
+use Rattle.clock_text.specs.calls.ClockUnfolds.{after_part}
+use Rattle.clock_text.specs.calls.ProgramPoints.{ProgramPoint, before, behind, closing, finishes_around, first_point, last, part_at, starter_of, turning}
 
 -- ---- the list
 

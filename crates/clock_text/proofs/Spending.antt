@@ -4,8 +4,8 @@ use Rattle.std.specs.Str.{bytes_eq}
 use Rattle.std.specs.Prelude.{◌||◌, if◌then◌else◌, is_some, nat_lt}
 use Rattle.std.proofs.lemmas.Bool.{false≢true}
 use Rattle.clock_syntax.specs.Trees.{ClockTree, advance, async, clock, done, drop, finish, loop, plain, resume, skip}
-use Rattle.clock_text.specs.TextLaws.{most_steps}
-use Rattle.clock_text.specs.TextMachine.{Acting, Activity, Continuation, Made, TextState, TextStep, acts, advance_on, beginning, clock_here, clocks_go_on, clocks_here, closes, departs, departs_from_all, does, enrols_on, goes, goes_to, governing, is_empty, is_made, is_there, leaves, left_by, makes, makes_clock, next_made, over, reads, remembering, signalled_by, signals, starts_one, then_clocks, turns, waits, with_clock, with_open_set, without}
+use Rattle.clock_text.specs.calls.TextLaws.{most_steps}
+use Rattle.clock_text.specs.TextMachine.{Acting, Activity, Continuation, Made, TextState, TextStep, acts, advance_on, beginning, clock_here, clocks_go_on, clocks_here, closes, departs, departs_from_all, does_next, enrols_on, goes, goes_to, governing, is_empty, is_made, is_there, leaves, left_by, has_made, opens_clock, next_made, over, reads, remembering, signalled_by, signals, starts_one, then_clocks, turns, waits, with_clock, with_open_set, without_activity}
 use Rattle.clock_text.proofs.Changing.{acts_other, acts_own, this_or_other}
 use Rattle.clock_text.proofs.Starting.{enrols_acting, enrols_there}
 use Rattle.clock_text.proofs.Stepped.{clock_found, found}
@@ -233,15 +233,15 @@ module _ (s : TextState) (a : Activity) where
           step
       by false step = absurd cc
 
-  pub spends : (c : Continuation) → x.rest ≡ c → is_there s a ≡ true → is_there s (x.started ∷ a) ≡ false → (r : TextState) → then_clocks (does a c s) ≡ goes r → Spends r
+  pub spends : (c : Continuation) → x.rest ≡ c → is_there s a ≡ true → is_there s (x.started ∷ a) ≡ false → (r : TextState) → then_clocks (does_next a c s) ≡ goes r → Spends r
   spends (reads done rest) is there none r step = behind (goes_to a rest s) r (to (reads done rest) is rest refl (omega arith)) step
   spends (reads (plain (clock y) more) rest) is there none r step =
       let w : TextState = goes_to a (reads more rest) s in
       let p = next_made a s in
       let named : Acting = record (w.acting a) { names = λ z. if bytes_eq y z then Some p else (w.acting a).names z; made = (w.acting a).made + 1 } in
       let opened : TextState = with_clock p (record { phase = 0; enrolled = a ∷ []; unsignalled = a ∷ [] }) w in
-      behind (makes_clock a y p w) r
-      (goes_down (makes_clock a y p w) (reads more rest) refl
+      behind (opens_clock a y p w) r
+      (goes_down (opens_clock a y p w) (reads more rest) refl
       (λ b n. acts_other a named opened b n ∙ acts_other a (record x { rest = reads more rest }) s b n)
       (ap (λ (z : Acting). z.rest) (acts_own a named opened) ∙ ap (λ (z : Acting). z.rest) (acts_own a (record x { rest = reads more rest }) s))
       (omega (arith, worth_is (reads (plain (clock y) more) rest) is)))
@@ -270,8 +270,8 @@ module _ (s : TextState) (a : Activity) where
       behind (starts_one a body g.0 (reads more rest) s) r (starts xs body more rest g.0 is none there) g.2
   spends (reads (finish body more) rest) is there none r step =
       let d : Continuation = reads body (closes (next_made a s) (reads more rest)) in
-      behind (goes_to a d (makes a s)) r
-      (to_from (reads (finish body more) rest) is (makes a s) d refl (acts_other a (record x { made = x.made + 1 }) s)
+      behind (goes_to a d (has_made a s)) r
+      (to_from (reads (finish body more) rest) is (has_made a s) d refl (acts_other a (record x { made = x.made + 1 }) s)
       (omega (arith, worth_is (reads (finish body more) rest) is)))
       step
   spends (reads (loop k body more) rest) is there none r step =
@@ -290,9 +290,9 @@ module _ (s : TextState) (a : Activity) where
       by true step = behind (goes_to a rest s) r (to (closes f rest) is rest refl (omega arith)) step
       by false step = absurd cc
   spends (leaves f) is there none r step =
-      behind (goes_to a over (with_open_set f (without a) (departs_from_all a s))) r
-      (to_from (leaves f) is (with_open_set f (without a) (departs_from_all a s)) over (open_there f (without a) (departs_from_all a s))
-      (λ b n. ap (λ (g : Activity → Acting). g b) (open_acting f (without a) (departs_from_all a s))
+      behind (goes_to a over (with_open_set f (without_activity a) (departs_from_all a s))) r
+      (to_from (leaves f) is (with_open_set f (without_activity a) (departs_from_all a s)) over (open_there f (without_activity a) (departs_from_all a s))
+      (λ b n. ap (λ (g : Activity → Acting). g b) (open_acting f (without_activity a) (departs_from_all a s))
       ∙ acts_other a (record x { remembers = λ q. None }) (record s { clock_of = λ q. left_by a (s.clock_of q) }) b n)
       (omega (arith, worth_is (leaves f) is)))
       step

@@ -4,9 +4,9 @@ use Rattle.std.specs.List.{list_any}
 use Rattle.std.specs.Str.{bytes_eq}
 use Rattle.std.specs.Prelude.{◌&&◌, ◌||◌, if◌then◌else◌, map}
 use Rattle.std.specs.Option.{option_map}
-use Rattle.clock_machine.specs.Direct.{ClockState, enrolling, enrolling_all}
+use Rattle.clock_machine.specs.calls.Direct.{ClockState, enrolling, enrolling_all}
 use Rattle.clock_moves.specs.Unfolding.{ClockUnfolding, innermost}
-use Rattle.clock_text.specs.ProgramPoints.{ProgramPoint, finishes_around}
+use Rattle.clock_text.specs.calls.ProgramPoints.{ProgramPoint, finishes_around}
 use Rattle.clock_text.specs.TextMachine.{Activity, Clock, Continuation, Made, TextState, closes, enrolled_with, enrols_on, governing, is_made, leaves, over, reads, turns, with_clock}
 use Rattle.clock_text.specs.TextNumbers.{IsActivityIn, IsMadeIn, made_in, number_in}
 use Rattle.clock_text.proofs.Changing.{clock_entry, phase_same}

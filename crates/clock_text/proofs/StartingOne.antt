@@ -7,11 +7,11 @@ use Rattle.std.specs.Option.{option_map}
 use Rattle.std.proofs.lemmas.Bool.{eqb-true, eq-eqb, false≢true}
 use Rattle.armus_base.specs.States.{updated}
 use Rattle.clock_syntax.specs.Trees.{ClockTree}
-use Rattle.clock_machine.specs.Direct.{ClockState, enrolling_all, going, joining, starting, with_entry}
+use Rattle.clock_machine.specs.calls.Direct.{ClockState, enrolling_all, going, joining, starting, with_entry}
 use Rattle.clock_moves.specs.Moves.{Move, Standing, starts}
 use Rattle.clock_moves.specs.Unfolding.{ClockNames, ClockStart, ClockUnfolding, activities, innermost}
 use Rattle.clock_moves.proofs.MoveCodes.{moves_at}
-use Rattle.clock_text.specs.ProgramPoints.{ProgramPoint, before, first_point, last}
+use Rattle.clock_text.specs.calls.ProgramPoints.{ProgramPoint, before, first_point, last}
 use Rattle.clock_text.specs.TextMachine.{Acting, Activity, Clock, Continuation, Made, TextState, acts, beginning, enrols_on, governing, is_made, is_there, leaves, over, reads, with_open_set}
 use Rattle.clock_text.specs.TextNumbers.{IsActivityIn, IsMadeIn, made_in, number_in}
 use Rattle.clock_text.proofs.Changing.{acts_other, acts_own, this_or_other}

@@ -5,10 +5,10 @@ use Rattle.std.specs.Str.{bytes_eq}
 use Rattle.std.specs.Prelude.{◌&&◌, if◌then◌else◌, is_some}
 use Rattle.std.specs.Option.{option_map}
 use Rattle.std.proofs.lemmas.List.{length-append}
-use Rattle.clock_machine.specs.Direct.{ClockState, clock_step, move_of, settled}
+use Rattle.clock_machine.specs.calls.Direct.{ClockState, clock_step, move_of, settled}
 use Rattle.clock_moves.specs.Moves.{Move, Standing}
 use Rattle.clock_moves.specs.Unfolding.{ClockNames, ClockUnfolding, activities}
-use Rattle.clock_text.specs.ProgramPoints.{ProgramPoint}
+use Rattle.clock_text.specs.calls.ProgramPoints.{ProgramPoint}
 use Rattle.clock_text.specs.TextMachine.{Acting, Activity, Continuation, Made, TextState, TextStep, and_clocks, clock_here, clock_or_kind, clocks_go_on, clocks_here, goes, goes_on, goes_to, is_there, or_fails, over, then_clocks}
 use Rattle.clock_text.specs.TextNumbers.{made_by, number_in, started_by}
 use Rattle.clock_text.proofs.AddsMoves.{made-append, started-append}

@@ -3,11 +3,11 @@ use Rattle.std.proofs.Common.{◌≡◌, ℕ, suc, ◌+◌, ◌<◌, Bool, true,
 use Rattle.std.specs.Prelude.{if◌then◌else◌, nat_lt}
 use Rattle.std.specs.Option.{option_map}
 use Rattle.clock_syntax.specs.Trees.{ClockTree, advance, async, clock, clock_count, done, drop, finish, loop, plain, resume, skip}
-use Rattle.clock_machine.specs.Direct.{ClockState, advance_of, departing, departing_all, enrolling_all, forgetting, going, joining, move_of, opening_clock, signalling, starting}
+use Rattle.clock_machine.specs.calls.Direct.{ClockState, advance_of, departing, departing_all, enrolling_all, forgetting, going, joining, move_of, opening_clock, signalling, starting}
 use Rattle.clock_moves.specs.Moves.{Move, Standing, advances, begins, drops, ends, opens, registered_on, resumes, starts, stops, unregistered_from, with_pending}
 use Rattle.clock_moves.specs.Unfolding.{ClockNames, ClockUnfolding, activities, innermost}
-use Rattle.clock_text.specs.ProgramPoints.{ProgramPoint, before, closing, finishes_around, turning}
-use Rattle.clock_text.specs.TextMachine.{Acting, Activity, Continuation, Made, TextState, advance_on, clock_here, clocks_here, closes, departs, departs_from_all, does, goes, goes_to, governing, is_empty, is_there, makes, leaves, makes_clock, next_made, over, reads, remembering, signals, text_step, then_clocks, turns, waits, with_open_set, without}
+use Rattle.clock_text.specs.calls.ProgramPoints.{ProgramPoint, before, closing, finishes_around, turning}
+use Rattle.clock_text.specs.TextMachine.{Acting, Activity, Continuation, Made, TextState, advance_on, clock_here, clocks_here, closes, departs, departs_from_all, does_next, goes, goes_to, governing, is_empty, is_there, has_made, leaves, opens_clock, next_made, over, reads, remembering, signals, text_step, then_clocks, turns, waits, with_open_set, without_activity}
 use Rattle.clock_text.specs.TextMachine.{starts_one as starts_one_text}
 use Rattle.clock_text.specs.TextNumbers.{IsActivityIn, made_in, number_in}
 use Rattle.clock_text.proofs.BehindSignals.{drops_now, passes_now}
@@ -131,7 +131,7 @@ module _ (u : ClockUnfolding) (names : HaveNames u) (each : (t : ℕ) → t < ac
 
   by_makes :
       {point : ProgramPoint} {c : Continuation} {ns : ClockNames} {standing : Standing} {left : List Move} → Fits u point c → Makes u point ns standing left →
-      Knows u x c ns standing (registered u s a) → x.rest ≡ c → m.left t ≡ left → (r : TextState) → then_clocks (does a c s) ≡ goes r → Step r
+      Knows u x c ns standing (registered u s a) → x.rest ≡ c → m.left t ≡ left → (r : TextState) → then_clocks (does_next a c s) ≡ goes r → Step r
   by_makes {ns = ns} {standing = standing} {left = left} (reads_so {point = point} {rest = rest} fits) (has_read makes_on) knows rest_is left_is r step =
       silent u names s m h steady a there (goes_to a rest s) r
       (moves_on u names s m h steady a there (reads done rest) left (before 0 done point) ns standing rest_is left_is knows rest point fits makes_on knows.finishes refl refl)
@@ -160,7 +160,7 @@ module _ (u : ClockUnfolding) (names : HaveNames u) (each : (t : ℕ) → t < ac
       let d : Continuation = reads more rest in
       let at : ProgramPoint = before (n + 1) more point in
       let of = number u names s m h a there c (opens q ∷ ms) ns standing rest_is left_is knows refl d at ms (reads_so fits) refl name q refl knows.finishes makes_on in
-      real u names s m h steady a there (makes_clock a name (next_made a s) (goes_to a d s)) r (going t ms (opening_clock t (made_in u (next_made a s)) m))
+      real u names s m h steady a there (opens_clock a name (next_made a s) (goes_to a d s)) r (going t ms (opening_clock t (made_in u (next_made a s)) m))
       (ap (λ zs. move_of T t zs m) left_is ∙ ap (λ z. Some (going t ms (opening_clock t z m))) (sym of))
       (opens_now u names s m h a there c (opens q ∷ ms) ns standing rest_is left_is knows refl d at ms (reads_so fits) refl name q refl knows.finishes makes_on)
       step
@@ -211,7 +211,7 @@ module _ (u : ClockUnfolding) (names : HaveNames u) (each : (t : ℕ) → t < ac
       let behind : ProgramPoint = before (n + 1 + clock_count body) more point in
       let at : ProgramPoint = before (n + 1) body (closing n (made_in u f) behind) in
       let of : made_in u f ≡ q = begun_of c ns standing knows rest_is q ms left_is in
-      real u names s m h steady a there (goes_to a d (makes a s)) r (going t ms m)
+      real u names s m h steady a there (goes_to a d (has_made a s)) r (going t ms m)
       (ap (λ zs. move_of T t zs m) left_is)
       (begins_now u names s m h a there c (begins q ∷ ms) ns standing rest_is left_is knows refl d at ms (reads_so (closes_so (reads_so fits))) refl q refl
       (λ fin. (fin, knows.finishes)) (subst (λ z. Makes u (before (n + 1) body (closing n z behind)) ns (registered_on q standing) ms) (sym of) makes_on))
@@ -219,14 +219,14 @@ module _ (u : ClockUnfolding) (names : HaveNames u) (each : (t : ℕ) → t < ac
   by_makes {ns = ns} {standing = standing} (closes_so {n = n} {f = f} {point = point} {rest = rest} fits) (ends_one {ms = ms} makes_on) knows rest_is left_is r step =
       closes_case n f rest point ns standing ms fits makes_on knows rest_is left_is r step
   by_makes {ns = ns} {standing = standing} (leaves_so {f = f}) (stops_here ps) knows rest_is left_is r step =
-      real u names s m h steady a there (goes_to a over (with_open_set f (without a) (departs_from_all a s))) r (going t [] (departing_all t m))
+      real u names s m h steady a there (goes_to a over (with_open_set f (without_activity a) (departs_from_all a s))) r (going t [] (departing_all t m))
       (ap (λ zs. move_of T t zs m) left_is)
       (stops_now u names s m h a there (leaves f) (stops ps ∷ []) ns standing rest_is left_is knows refl f refl ps refl)
       step
 
   by_stands :
       (((x.rest ≡ over) × (m.left t ≡ [])) ⊎ Stands u x x.rest (m.left t) (registered u s a)) → (r : TextState) → text_step a s ≡ goes r → Step r
-  by_stands (inl ended) r step = absurd (let z = sym (ap (λ c. then_clocks (does a c s)) ended.0) ∙ step in cc)
+  by_stands (inl ended) r step = absurd (let z = sym (ap (λ c. then_clocks (does_next a c s)) ended.0) ∙ step in cc)
   by_stands (inr st) r step = by_makes st.fits st.makes st.knows refl refl r step
 
   pub steps_alike : (r : TextState) → text_step a s ≡ goes r → Step r

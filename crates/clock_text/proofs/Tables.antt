@@ -6,9 +6,9 @@ use Rattle.std.specs.Prelude.{◌&&◌, ◌||◌, ◌==◌, if◌then◌else◌}
 use Rattle.std.proofs.lemmas.Bool.{cases_eq, eq-eqb, eqb-true, false≢true}
 use Rattle.std.proofs.lemmas.Slice.Eq.{bytes_eq-Decides}
 use Rattle.armus_base.specs.Places.{some_before}
-use Rattle.clock_machine.specs.Direct.{with_column, with_entry}
+use Rattle.clock_machine.specs.calls.Direct.{with_column, with_entry}
 use Rattle.clock_moves.specs.Unfolding.{ClockUnfolding, activities}
-use Rattle.clock_text.specs.TextMachine.{Activity, Made, is_empty, is_made, without}
+use Rattle.clock_text.specs.TextMachine.{Activity, Made, is_empty, is_made, without_activity}
 use Rattle.clock_text.specs.TextNumbers.{IsActivityIn, IsMadeIn, made_in, number_in}
 
 -- ---- tests of names
@@ -77,7 +77,7 @@ in_more a b xs = ap (λ c. c || is_in b xs) (bytes_swap b a) ∙ by (bytes_eq a 
     by true = refl
     by false = refl
 
-pub in_without : (a b : Activity) (xs : List Activity) → is_in b (without a xs) ≡ (if bytes_eq a b then false else is_in b xs)
+pub in_without : (a b : Activity) (xs : List Activity) → is_in b (without_activity a xs) ≡ (if bytes_eq a b then false else is_in b xs)
 in_without a b [] = by (bytes_eq a b)
   where
     by : (c : Bool) → false ≡ (if c then false else false)
@@ -100,12 +100,12 @@ in_without a b (x ∷ xs) = by (bytes_eq a x) refl (in_without a b xs)
         let differ : bytes_eq b x ≡ false = other_bytes b x (λ s. absurd (false≢true (sym e ∙ (bytes_eq-Decides a b).1 (same_bytes a x g ∙ sym s)))) in
         ap (λ z. if bytes_eq a b then false else z) (sym (ap (λ z. z || is_in b xs) differ))
 
-    by : (c : Bool) → bytes_eq a x ≡ c → is_in b (without a xs) ≡ (if bytes_eq a b then false else is_in b xs) →
-        is_in b (if bytes_eq a x then without a xs else (x ∷ without a xs)) ≡ (if bytes_eq a b then false else (bytes_eq b x || is_in b xs))
-    by true e h = ap (λ z. is_in b (if z then without a xs else (x ∷ without a xs))) e ∙ h ∙ same (bytes_eq a b) refl e
+    by : (c : Bool) → bytes_eq a x ≡ c → is_in b (without_activity a xs) ≡ (if bytes_eq a b then false else is_in b xs) →
+        is_in b (if bytes_eq a x then without_activity a xs else (x ∷ without_activity a xs)) ≡ (if bytes_eq a b then false else (bytes_eq b x || is_in b xs))
+    by true e h = ap (λ z. is_in b (if z then without_activity a xs else (x ∷ without_activity a xs))) e ∙ h ∙ same (bytes_eq a b) refl e
     by false e h =
-        ap (λ z. is_in b (if z then without a xs else (x ∷ without a xs))) e
-        ∙ last (bytes_eq a b) (bytes_eq b x) refl refl e (is_in b (without a xs)) h
+        ap (λ z. is_in b (if z then without_activity a xs else (x ∷ without_activity a xs))) e
+        ∙ last (bytes_eq a b) (bytes_eq b x) refl refl e (is_in b (without_activity a xs)) h
 
 -- ---- tests below a number
 

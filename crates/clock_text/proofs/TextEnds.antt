@@ -12,15 +12,16 @@ use Rattle.armus_base.specs.States.{State, event_at}
 use Rattle.clock_syntax.specs.Trees.{ClockTree, advance, async, drop, plain, resume}
 use Rattle.clock_machine.proofs.Bounded.{step_within}
 use Rattle.clock_machine.proofs.ClockEnds.{ends_are_those_of_tasks}
-use Rattle.clock_machine.specs.Direct.{ClockState, IsClockEnd, StandsAs, advance_of, clock_step, going, has_ended, forgetting, move_of, settled, unstarted, waits_at_advance, waits_at_end}
-use Rattle.clock_machine.specs.Laws.{IsDirectEnd, moves_of}
+use Rattle.clock_machine.specs.calls.Direct.{ClockState, IsClockEnd, StandsAs, advance_of, clock_step, going, has_ended, forgetting, move_of, settled, unstarted, waits_at_advance, waits_at_end}
+use Rattle.clock_machine.specs.calls.Laws.{IsDirectEnd, moves_of}
 use Rattle.clock_moves.proofs.MoveCodes.{moves_at}
 use Rattle.clock_moves.specs.Moves.{Move, Standing, advances, ends}
 use Rattle.clock_moves.specs.Unfolding.{ClockNames, ClockUnfolding, activities, clock_unfolded, plan_of_moves}
-use Rattle.clock_text.specs.ProgramPoints.{ProgramPoint}
-use Rattle.clock_text.specs.TextLaws.{NoRunFails, TextEndsAreThoseOfTasks, TextRunsAreDirect, WaitsAtOne, end_as}
+use Rattle.clock_text.specs.calls.ProgramPoints.{ProgramPoint}
+use Rattle.clock_text.specs.calls.TextLaws.{NoRunFails, TextEndsAreThoseOfTasks, TextRunsAreDirect}
+use Rattle.clock_text.specs.TextLaws.{WaitsAtOne, end_as}
 use Rattle.clock_text.specs.TextMachine as text
-use Rattle.clock_text.specs.TextMachine.{Acting, Activity, Continuation, IsAtRest, IsTextEnd, IsTextRun, Made, TextState, TextStep, advance_on, clock_here, closes, departs, does, fails, goes, goes_to, is_empty, is_there, leaves, or_fails, over, reads, remembering, signals, stand_at, stand_of, stand_on, stand_with, text_step, then_clocks, turns, waits}
+use Rattle.clock_text.specs.TextMachine.{Acting, Activity, Continuation, IsAtRest, IsTextEnd, IsTextRun, Made, TextState, TextStep, advance_on, clock_here, closes, departs, does_next, fails, goes, goes_to, is_empty, is_there, leaves, or_fails, over, reads, remembering, signals, stand_at, stand_of, stand_on, stand_with, text_step, then_clocks, turns, waits}
 use Rattle.clock_text.specs.TextNumbers.{IsActivityIn, made_in, number_in}
 use Rattle.clock_text.proofs.Corresponding.{Corresponds, Fits, IsClock, IsFinish, Knows, Stands, closes_so, leaves_so, reads_so, registered, turns_so}
 use Rattle.clock_text.proofs.MadeKinds.{begun_there, opened_there}
@@ -68,7 +69,7 @@ module _ (u : ClockUnfolding) (names : HaveNames u) (s : TextState) (m : ClockSt
 
   classified :
       {point : ProgramPoint} {c : Continuation} {ns : ClockNames} {standing : Standing} {left : List Move} → Fits u point c → Makes u point ns standing left →
-      Knows u x c ns standing (registered u s a) → x.rest ≡ c → m.left t ≡ left → ActsOrRests (then_clocks (does a c s))
+      Knows u x c ns standing (registered u s a) → x.rest ≡ c → m.left t ≡ left → ActsOrRests (then_clocks (does_next a c s))
   classified (reads_so fits) (has_read makes_on) knows rest_is left_is = goes_now _ refl
   classified (turns_so fits) (has_turned makes_on) knows rest_is left_is = goes_now _ refl
   classified (reads_so fits) (skips makes_on) knows rest_is left_is = goes_now _ refl
@@ -109,7 +110,7 @@ module _ (u : ClockUnfolding) (names : HaveNames u) (s : TextState) (m : ClockSt
     where
       by : ActsOrRests (text_step a s) → ⊥
       by (goes_now v is) = absurd (let z = sym is ∙ e in cc)
-      by (ended_so rest left) = absurd (let z = sym (ap (λ c. then_clocks (does a c s)) rest) ∙ e in cc)
+      by (ended_so rest left) = absurd (let z = sym (ap (λ c. then_clocks (does_next a c s)) rest) ∙ e in cc)
       by (advances_so name more rest q k2 ms is rest_is named memory fine left late) = absurd (let z = sym is ∙ e in cc)
       by (closes_now f rest ms is rest_is left empty made) = absurd (let z = sym is ∙ e in cc)
 

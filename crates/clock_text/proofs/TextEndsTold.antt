@@ -1,6 +1,6 @@
 -- What the final state of a plan tells of the ends of the machine on the text.
 use Rattle.std.proofs.Common.{[], ◌++◌, refl}
-use Rattle.clock_text.specs.TextLaws.{TextEndsAreTold}
+use Rattle.clock_text.specs.calls.TextLaws.{TextEndsAreTold}
 use Rattle.clock_text.specs.TextMachine.{text_opening}
 use Rattle.clock_text.proofs.Numbers.{number_is_named}
 use Rattle.clock_text.proofs.TextEnds.{text_ends_are_those_of_tasks, text_runs_are_direct, waits_at_one_made}

@@ -7,14 +7,14 @@ use Rattle.std.specs.Option.{option_map}
 use Rattle.std.proofs.lemmas.Bool.{false≢true}
 use Rattle.std.proofs.lemmas.Option.{unwrap_or-slice_get}
 use Rattle.clock_syntax.specs.Trees.{ClockTree}
-use Rattle.clock_machine.specs.Direct.{ClockState, clock_step, direct_opening, step_from}
-use Rattle.clock_machine.specs.Laws.{IsDirectRun, moves_of}
+use Rattle.clock_machine.specs.calls.Direct.{ClockState, clock_step, direct_opening, step_from}
+use Rattle.clock_machine.specs.calls.Laws.{IsDirectRun, moves_of}
 use Rattle.clock_moves.specs.Moves.{Standing}
 use Rattle.clock_moves.specs.Unfolding.{ClockNames, ClockStart, ClockUnfolding, activities, clock_unfolded}
 use Rattle.clock_moves.proofs.MoveCodes.{moves_at}
-use Rattle.clock_text.specs.ProgramPoints.{before, first_point, last}
-use Rattle.clock_text.specs.TextLaws.{AreSteps, IsToldBy, a_step, no_step, of_text_alone}
-use Rattle.clock_text.specs.TextMachine.{Acting, Activity, Continuation, IsTextRun, Made, TextState, TextStep, and_clocks, and_step, clock_here, clock_or_kind, clocks_here, does, fails, goes, is_there, leaves, over, reads, text_opening, text_run, text_step, then_clocks, waits}
+use Rattle.clock_text.specs.calls.ProgramPoints.{before, first_point, last}
+use Rattle.clock_text.specs.calls.TextLaws.{AreSteps, IsToldBy, a_step, no_step, of_text_alone}
+use Rattle.clock_text.specs.TextMachine.{Acting, Activity, Continuation, IsTextRun, Made, TextState, TextStep, and_clocks, and_step, clock_here, clock_or_kind, clocks_here, does_next, fails, goes, is_there, leaves, over, reads, text_opening, text_run, text_step, then_clocks, waits}
 use Rattle.clock_text.specs.TextNumbers.{IsActivityIn, made_in, number_in}
 use Rattle.clock_text.proofs.Corresponding.{ActsAs, Corresponds, Holds, IsClock, IsSteady, Knows, leaves_so, reads_so, registered, target_at}
 use Rattle.clock_text.proofs.EachMakes.{IsMade, is_made, root_begins, whole}
@@ -140,7 +140,7 @@ module _ (p : ClockTree) (u : ClockUnfolding) (e : clock_unfolded p ≡ Ok u) wh
 
   -- who is not there makes no step
   pub none_goes : (s : TextState) (a : Activity) → Holds u s → is_there s a ≡ false → text_step a s ≡ waits
-  none_goes s a holds is = ap (λ (x : Acting). then_clocks (does a x.rest s)) (holds.unstarted a is)
+  none_goes s a holds is = ap (λ (x : Acting). then_clocks (does_next a x.rest s)) (holds.unstarted a is)
 
   steps_on : (steps : List Activity) (a : Activity) (v r : TextState) → Runs steps v → text_step a v ≡ goes r → Runs (a ∷ steps) r
   steps_on steps a v r h step = by (is_there v a) refl

@@ -5,7 +5,7 @@ use Rattle.std.specs.Prelude.{◌||◌}
 use Rattle.std.proofs.lemmas.Bool.{false≢true}
 use Rattle.clock_syntax.specs.Trees.{ClockTree}
 use Rattle.clock_moves.specs.Unfolding.{ClockUnfolding, clock_unfolded}
-use Rattle.clock_text.specs.TextLaws.{TextRunsAreBounded, TextRunsEnd}
+use Rattle.clock_text.specs.calls.TextLaws.{TextRunsAreBounded, TextRunsEnd}
 use Rattle.clock_text.specs.TextMachine.{Activity, IsAtRest, IsTextRun, TextState, TextStep, and_step, fails, goes, is_there, text_opening, text_run, text_step, waits}
 use Rattle.clock_text.proofs.Spending.{spends, total_falls, total_of, worth}
 use Rattle.clock_text.proofs.Tables.{is_in, same_bytes}

@@ -7,14 +7,14 @@ use Rattle.clock_syntax.specs.Trees.{ClockTree}
 use Rattle.pl_plan.proofs.VisitsLeave.{bind_ok}
 use Rattle.pl_plan.specs.Unfolding.{Outcome, ◌>>=◌}
 use Rattle.pl_plan.specs.declared.fault.CheckFault.{CheckFault}
-use Rattle.clock_moves.specs.ClockTests.{left_at_end}
+use Rattle.clock_moves.specs.calls.ClockTests.{left_at_end}
 use Rattle.clock_moves.specs.Moves.{stops}
 use Rattle.clock_moves.specs.Unfolding.{ClockComing, ClockStart, ClockUnfolding, clock_opening, clock_unfolded, come, come_all, stop, unfold_activities, unfold_activity, unfold_started, with_known, with_move}
 use Rattle.clock_moves.proofs.ByClockTable.{comes_by_table, faults_by_table, stops_with_room, stops_without_room}
 use Rattle.clock_moves.proofs.ClockPlanIsChecked.{IsBetween, activity_keeps, opening_between}
 use Rattle.clock_moves.proofs.Unfolded.{as_forked}
-use Rattle.clock_text.specs.ClockUnfolds.{ClockFaultIsFirst, ComesTo, FailsFrom, FailsOnTheWay, GoesToEnd, UnfoldingIsUnfolded, UnfoldsFrom, after_part, at_end, at_part, comes, in_a_later_one, in_this_one, later, no_more, one_more, stops_there}
-use Rattle.clock_text.specs.ProgramPoints.{ProgramPoint, behind, finishes_around, first_point, part_at, starter_of}
+use Rattle.clock_text.specs.calls.ClockUnfolds.{ClockFaultIsFirst, ComesTo, FailsFrom, FailsOnTheWay, GoesToEnd, UnfoldingIsUnfolded, UnfoldsFrom, after_part, at_end, at_part, comes, in_a_later_one, in_this_one, later, no_more, one_more, stops_there}
+use Rattle.clock_text.specs.calls.ProgramPoints.{ProgramPoint, behind, finishes_around, first_point, part_at, starter_of}
 use Rattle.clock_text.proofs.PointComings.{HaveOneFinish, HasOneFinish, comings_at, first_left, governs_on, none_left, one_finish_on, opening_finishes, starter_stays, whole_body}
 
 abbrev Unfolded : Type 0
@@ -22,9 +22,6 @@ Unfolded = Outcome ClockUnfolding
 
 same_ok : (x y : ClockUnfolding) → ◌≡◌ {A = Unfolded} (Ok x) (Ok y) → x ≡ y
 same_ok x y e = cc
-
-same_err : (x y : CheckFault) → ◌≡◌ {A = Unfolded} (Err x) (Err y) → x ≡ y
-same_err x y e = cc
 
 -- the first of two is at fault, or the second is
 data FailsIn (o : Unfolded) (g : ClockUnfolding → Unfolded) (fault : CheckFault) : Type 0 where

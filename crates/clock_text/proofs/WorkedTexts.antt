@@ -1,6 +1,6 @@
 -- Small programs on the machine on the text, by computation.
 use Rattle.std.proofs.Common.{refl}
-use Rattle.clock_text.specs.WorkedTexts.{ComeToEnds, ComeToFaults, faulty_texts, worked_texts}
+use Rattle.clock_text.specs.calls.WorkedTexts.{ComeToEnds, ComeToFaults, faulty_texts, worked_texts}
 
 pub texts_worked : ComeToEnds worked_texts
 texts_worked = (

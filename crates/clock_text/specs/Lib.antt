@@ -1,8 +1,7 @@
 -- What a reader of the repository has to believe.
 pub mod TextMachine
 -- What is proved of it, and of the unfolding.
-pub mod ProgramPoints
-pub mod ClockUnfolds
 pub mod TextNumbers
 pub mod TextLaws
-pub mod WorkedTexts
+-- Words of contracts further down, which no promise of a program needs.
+pub mod calls

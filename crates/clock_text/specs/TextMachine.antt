@@ -81,9 +81,9 @@ is_empty [] = true
 is_empty (a ∷ as_well) = false
 
 -- these activities without activity a
-abbrev pub without : Activity → List Activity → List Activity
-without a [] = []
-without a (b ∷ bs) = if bytes_eq a b then without a bs else (b ∷ without a bs)
+abbrev pub without_activity : Activity → List Activity → List Activity
+without_activity a [] = []
+without_activity a (b ∷ bs) = if bytes_eq a b then without_activity a bs else (b ∷ without_activity a bs)
 
 -- activity a stands so
 abbrev pub acts : Activity → Acting → TextState → TextState
@@ -107,11 +107,11 @@ enrolled_with a k = record k { enrolled = a ∷ k.enrolled; unsignalled = a ∷ 
 
 -- without it among those that have not signalled
 abbrev pub signalled_by : Activity → Clock → Clock
-signalled_by a k = record k { unsignalled = without a k.unsignalled }
+signalled_by a k = record k { unsignalled = without_activity a k.unsignalled }
 
 -- without it in both sets
 abbrev pub left_by : Activity → Clock → Clock
-left_by a k = record k { enrolled = without a k.enrolled; unsignalled = without a k.unsignalled }
+left_by a k = record k { enrolled = without_activity a k.enrolled; unsignalled = without_activity a k.unsignalled }
 
 -- activity a is registered on each of these clocks
 abbrev pub enrols_on : Activity → List Made → TextState → TextState
@@ -140,12 +140,12 @@ abbrev pub next_made : Activity → TextState → Made
 next_made a s = record { maker = a; before = (s.acting a).made }
 
 -- activity a has made one more
-abbrev pub makes : Activity → TextState → TextState
-makes a s = acts a (record (s.acting a) { made = (s.acting a).made + 1 }) s
+abbrev pub has_made : Activity → TextState → TextState
+has_made a s = acts a (record (s.acting a) { made = (s.acting a).made + 1 }) s
 
 -- activity a makes clock p, and calls it x: it has phase 0, and its maker in both sets
-abbrev pub makes_clock : Activity → List ℕ → Made → TextState → TextState
-makes_clock a x p s =
+abbrev pub opens_clock : Activity → List ℕ → Made → TextState → TextState
+opens_clock a x p s =
     acts a (record (s.acting a) { names = λ y. if bytes_eq x y then Some p else (s.acting a).names y; made = (s.acting a).made + 1 })
     (with_clock p (record { phase = 0; enrolled = a ∷ []; unsignalled = a ∷ [] }) s)
 
@@ -200,24 +200,24 @@ advance_on a rest s p (Some k) = if nat_lt k (s.clock_of p).phase then goes (goe
 
 -- activity a at a statement without a body, behind which this is still to do
 abbrev pub does_plain : Activity → ClockPlain → Continuation → TextState → TextStep
-does_plain a (clock x) rest s = goes (makes_clock a x (next_made a s) (goes_to a rest s))
+does_plain a (clock x) rest s = goes (opens_clock a x (next_made a s) (goes_to a rest s))
 does_plain a (advance x) rest s = or_fails (λ p. advance_on a rest s p ((s.acting a).remembers p)) (clock_here false [] x a s)
 does_plain a (resume x) rest s = or_fails (λ p. goes (goes_to a rest (signals a p s))) (clock_here true [] x a s)
 does_plain a (drop x) rest s = or_fails (λ p. goes (goes_to a rest (departs a p s))) (clock_here false [] x a s)
 does_plain a skip rest s = goes (goes_to a rest s)
 
 -- activity a, which has this still to do
-abbrev pub does : Activity → Continuation → TextState → TextStep
-does a (reads done rest) s = goes (goes_to a rest s)
-does a (reads (plain p more) rest) s = does_plain a p (reads more rest) s
-does a (reads (async xs body more) rest) s = or_fails (λ ps. goes (starts_one a body ps (reads more rest) s)) (clocks_here [] xs a s)
-does a (reads (finish body more) rest) s = goes (goes_to a (reads body (closes (next_made a s) (reads more rest))) (makes a s))
-does a (reads (loop k body more) rest) s = goes (goes_to a (turns k body (reads more rest)) s)
-does a (turns zero body rest) s = goes (goes_to a rest s)
-does a (turns (suc k) body rest) s = goes (goes_to a (reads body (turns k body rest)) s)
-does a (closes f rest) s = if is_empty (s.open_set f) then goes (goes_to a rest s) else waits
-does a (leaves f) s = goes (goes_to a over (with_open_set f (without a) (departs_from_all a s)))
-does a over s = waits
+abbrev pub does_next : Activity → Continuation → TextState → TextStep
+does_next a (reads done rest) s = goes (goes_to a rest s)
+does_next a (reads (plain p more) rest) s = does_plain a p (reads more rest) s
+does_next a (reads (async xs body more) rest) s = or_fails (λ ps. goes (starts_one a body ps (reads more rest) s)) (clocks_here [] xs a s)
+does_next a (reads (finish body more) rest) s = goes (goes_to a (reads body (closes (next_made a s) (reads more rest))) (has_made a s))
+does_next a (reads (loop k body more) rest) s = goes (goes_to a (turns k body (reads more rest)) s)
+does_next a (turns zero body rest) s = goes (goes_to a rest s)
+does_next a (turns (suc k) body rest) s = goes (goes_to a (reads body (turns k body rest)) s)
+does_next a (closes f rest) s = if is_empty (s.open_set f) then goes (goes_to a rest s) else waits
+does_next a (leaves f) s = goes (goes_to a over (with_open_set f (without_activity a) (departs_from_all a s)))
+does_next a over s = waits
 
 -- a clock that has a registered activity, and of which each has signalled, goes to the next phase, in which none has
 abbrev pub goes_on : Clock → Clock
@@ -235,7 +235,7 @@ then_clocks (fails k) = fails k
 
 -- a step of activity a
 abbrev pub text_step : Activity → TextState → TextStep
-text_step a s = then_clocks (does a (s.acting a).rest s)
+text_step a s = then_clocks (does_next a (s.acting a).rest s)
 
 -- and one behind another
 abbrev pub and_step : Activity → TextStep → TextStep

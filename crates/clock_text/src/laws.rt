@@ -1,8 +1,8 @@
 // The laws of clock programs on the text: each is the contract of a function with an empty body.
-ghost use Rattle.clock_text.specs.ClockUnfolds.{ClockFaultIsFirst, UnfoldingIsUnfolded};
-ghost use Rattle.clock_text.specs.TextLaws.{NoRunFails, TextEndsAreThoseOfTasks, TextEndsAreTold, TextRunsAreBounded, TextRunsAreDirect, TextRunsEnd};
-ghost use Rattle.clock_text.specs.TextNumbers.{EachMadeIsNamed, EachNumberIsNamed, MadeHaveOneName};
-ghost use Rattle.clock_text.specs.WorkedTexts.{ComeToEnds, ComeToFaults, faulty_texts, worked_texts};
+ghost use Rattle.clock_text.specs.calls.ClockUnfolds.{ClockFaultIsFirst, UnfoldingIsUnfolded};
+ghost use Rattle.clock_text.specs.calls.TextLaws.{NoRunFails, TextEndsAreThoseOfTasks, TextEndsAreTold, TextRunsAreBounded, TextRunsAreDirect, TextRunsEnd};
+ghost use Rattle.clock_text.specs.calls.TextNumbers.{EachMadeIsNamed, EachNumberIsNamed, MadeHaveOneName};
+ghost use Rattle.clock_text.specs.calls.WorkedTexts.{ComeToEnds, ComeToFaults, faulty_texts, worked_texts};
 
 /// A clock program has just the unfolding in which each activity, in order of number, goes from point to point of its text up to its end, the finishes that
 /// govern it are those around the point, and no row of the table of tests fails; and it has just the first fault that stands on this way.

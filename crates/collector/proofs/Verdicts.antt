@@ -9,32 +9,33 @@ use Rattle.armus_base.specs.declared.event.Event.{Event}
 use Rattle.armus_base.specs.declared.status.Status.{Status}
 use Rattle.armus_base.specs.Plans.{Plan}
 use Rattle.armus_base.specs.States.{State}
-use Rattle.armus_base.specs.Runs.{IsPrefix, Place}
+use Rattle.armus_base.specs.calls.Runs.{IsPrefix}
+use Rattle.armus_base.specs.Runs.{Place}
 use Rattle.armus_base.specs.Places.{published_after, state_at}
 use Rattle.armus_base.specs.CheckedPlans.{IsCheckedPlan}
-use Rattle.armus_base.specs.Boards.{IsLawful}
+use Rattle.armus_base.specs.calls.Boards.{IsLawful}
 use Rattle.armus_base.specs.Deadlocks.{IsAtPhase, IsDeadBy, IsDeadIn, IsDeadlockedSet, IsImpededWithin, IsListedAt, IsListedOn, IsPublishedOn}
-use Rattle.armus_base.specs.Decisions.{HasFound}
-use Rattle.armus_base.specs.Seats.{IsAsFarOn, IsKnownDead}
+use Rattle.armus_base.specs.calls.Decisions.{HasFound}
+use Rattle.armus_base.specs.calls.Seats.{IsAsFarOn, IsKnownDead}
 use Rattle.armus_base.proofs.BoardRuns.{lawful_is_reachable, nobody_is_known_dead}
 use Rattle.armus_base.proofs.LeastLawful.{least_lawful_exists}
 use Rattle.armus_base.proofs.Places.{precedes_trans}
-use Rattle.armus_base.specs.FinalLaws.{IsOfPlan}
+use Rattle.armus_base.specs.calls.FinalLaws.{IsOfPlan}
 use Rattle.armus_base.proofs.DeadByStatuses.{dead_by_final, run_is_of_plan}
 use Rattle.armus_base.proofs.Reachable.{collected_is_dead_at_reachable, reachable_is_fixed}
 use Rattle.board.specs.declared.mode.Mode.{Mode}
-use Rattle.board.specs.Views.{avoids, seen}
-use Rattle.board.specs.Seats.{Frame, IsOf, Known}
-use Rattle.phase_scan.specs.Looks.{LoadsAlone}
-use Rattle.phase_scan.specs.Collected.{IsCollected, IsListedAsIn}
-use Rattle.phase_scan.specs.Collecting.{HasCollected}
-use Rattle.phase_scan.specs.Settled.{KnowsAll, TellsState, seen_state}
+use Rattle.board.specs.calls.Views.{avoids, seen}
+use Rattle.board.specs.calls.Seats.{Frame, IsOf, Known}
+use Rattle.phase_scan.specs.calls.Looks.{LoadsAlone}
+use Rattle.phase_scan.specs.calls.Collected.{IsCollected, IsListedAsIn}
+use Rattle.phase_scan.specs.calls.Collecting.{HasCollected}
+use Rattle.phase_scan.specs.calls.Settled.{KnowsAll, TellsState, seen_state}
 use Rattle.phase_scan.proofs.Collecting.{cells_listed, cells_possible}
 use Rattle.phase_scan.proofs.Farther.{IsPossible, far_of_viewer}
 use Rattle.phase_scan.proofs.Standing.{dead_place, published_begun, same_phases}
 use Rattle.collector.specs.declared.verdict.Verdict.{Verdict}
 use Rattle.collector.specs.inside.Names.{AreFresh}
-use Rattle.collector.specs.Passes.{HasDeadOf, InEachState, IsKnownDeadTo, IsVerdict, is_named}
+use Rattle.collector.specs.calls.Passes.{HasDeadOf, InEachState, IsKnownDeadTo, IsPassVerdict, was_named}
 use Rattle.collector.proofs.Fresh.{Contains-map, filter_inside}
 
 module _ (before now : Known) (list : List Status) (checked : IsCheckedPlan before.view.plan) (goes : LoadsAlone before now)
@@ -167,7 +168,7 @@ module _ (before now : Known) (list : List Status) (checked : IsCheckedPlan befo
   -- the verdict on the statuses
   pub is_verdict :
       (names : List Bool) (verdict : Verdict) → IsDeadList list verdict.dead → AreFresh names list verdict.dead verdict.fresh →
-      IsVerdict names list before now verdict
+      IsPassVerdict names list before now verdict
   is_verdict names verdict dead fresh =
       record {
         dead = dead;
@@ -177,7 +178,7 @@ module _ (before now : Known) (list : List Status) (checked : IsCheckedPlan befo
         events = λ d inside.
             let on = All-contains (λ (v : Dead). IsListedOn list v.t.0 v.event) verdict.fresh d fresh.events inside in
             let named : Contains (map (λ (v : Dead). v.t) verdict.fresh) d.t = Contains-map (λ (v : Dead). v.t) verdict.fresh d inside in
-            let one : Contains verdict.dead d.t = filter_inside (λ t. not (is_named names t.0)) verdict.dead d.t (subst (λ xs. Contains xs d.t) fresh.tasks named) in
+            let one : Contains verdict.dead d.t = filter_inside (λ t. not (was_named names t.0)) verdict.dead d.t (subst (λ xs. Contains xs d.t) fresh.tasks named) in
             named_event d.t.0 d.event ((dead.exact d.t).0 one) on;
       }
 
@@ -212,7 +213,7 @@ module _ (f : Frame) (before now : Known) (list : List Status) (of : IsOf before
   possible = cells_possible f list before now of checked c.collect
 
   pub pass_verdict :
-      (names : List Bool) (verdict : Verdict) → IsDeadList list verdict.dead → AreFresh names list verdict.dead verdict.fresh → IsVerdict names list before now verdict
+      (names : List Bool) (verdict : Verdict) → IsDeadList list verdict.dead → AreFresh names list verdict.dead verdict.fresh → IsPassVerdict names list before now verdict
   pass_verdict = is_verdict before now list own c.goes_on within_own possible c.tells
 
   pub pass_listed : (dead : List TaskId) → IsDeadList list dead → All (λ t. (e : Event) × IsListedOn list t.0 e) dead

@@ -1,9 +1,9 @@
 // The passes of a detector beside running tasks.
 ghost use Rattle.std.specs.Prelude.{◌≡◌, ℕ, false, [], IfOk, OnErr, length};
-ghost use Rattle.armus_base.specs.Statuses.{IsInOrder};
-ghost use Rattle.board.specs.Seats.{IsOf};
-ghost use Rattle.phase_scan.specs.Collecting.{HasCollected};
-ghost use Rattle.collector.specs.Passes.{IsPass, is_named};
+ghost use Rattle.armus_base.specs.calls.Statuses.{IsInOrder};
+ghost use Rattle.board.specs.calls.Seats.{IsOf};
+ghost use Rattle.phase_scan.specs.calls.Collecting.{HasCollected};
+ghost use Rattle.collector.specs.calls.Passes.{IsPass, was_named};
 
 use crate::naming::{fresh, name};
 use crate::verdict::Verdict;
@@ -22,11 +22,11 @@ pub struct Collector {
 }
 
 impl Model for Collector {
-    ghost use Rattle.collector.specs.Passes.{Watch};
+    ghost use Rattle.collector.specs.calls.Passes.{Watch};
 
     ghost Value = { Watch };
 
-    ghost use Rattle.collector.specs.Collectors.{watch_of};
+    ghost use Rattle.collector.specs.calls.Collectors.{watch_of};
     ghost use Rattle.collector.specs.inside.Collectors.{IsCollector};
 
     ghost view = { watch_of };
@@ -39,7 +39,7 @@ impl Collector {
     pub fn start(alloc: Global, board: &Board) -> Result<Collector, NoMemory>
         ensures tasks { IfOk result (λ c. c.tasks ≡ length board.now.plan.parents) }
         ensures phasers { IfOk result (λ c. c.phasers ≡ length board.now.plan.makers) }
-        ensures nobody { IfOk result (λ c. (t : ℕ) → is_named c.names t ≡ false) }
+        ensures nobody { IfOk result (λ c. (t : ℕ) → was_named c.names t ≡ false) }
         ensures nothing { IfOk result (λ c. c.statuses ≡ []) }
     {
         let tasks = board.tasks();

@@ -3,7 +3,7 @@ ghost use Rattle.std.specs.Prelude.{◌≡◌, ◌<◌, true, All, IfOk, MatchOp
 ghost use Rattle.armus_base.specs.declared.event.Event.{Event as EventValue};
 ghost use Rattle.armus_base.specs.Deadlocks.{IsListedOn};
 ghost use Rattle.collector.specs.inside.Names.{AreFresh};
-ghost use Rattle.collector.specs.Passes.{NamesToo};
+ghost use Rattle.collector.specs.calls.Passes.{NamesToo};
 
 use armus_base::{Dead, Event, List, NoMemory, Status, TaskId};
 use std::alloc::Global;

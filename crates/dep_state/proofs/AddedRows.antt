@@ -11,7 +11,7 @@ use Rattle.armus_base.specs.declared.ids.PhaserId.{PhaserId}
 use Rattle.armus_base.specs.declared.status.Member.{Member}
 use Rattle.armus_base.specs.declared.status.Status.{Status}
 use Rattle.armus_base.specs.Statuses.{Impedes}
-use Rattle.dep_state.specs.Deps.{IsEventBefore, rows_of}
+use Rattle.dep_state.specs.calls.Deps.{IsEventBefore, rows_of}
 use Rattle.dep_state.specs.inside.Made.{NotAfter, IsFirstAfter, IsAdded, IsPhaseBelow, IsImpederRow, nth_event}
 use Rattle.dep_state.proofs.TaskPlaces.{row_at}
 use Rattle.dep_state.proofs.DistinctEvents.{before_not_after, before_then, not_before_itself}

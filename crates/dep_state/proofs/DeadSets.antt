@@ -8,12 +8,13 @@ use Rattle.armus_base.specs.declared.ids.PhaserId.{PhaserId}
 use Rattle.armus_base.specs.declared.status.Member.{Member}
 use Rattle.std.proofs.lemmas.List.{get_or_default, get_or-map, length-map}
 use Rattle.std.proofs.lemmas.List.Elements.{Contains-append_left, Contains-append_right, Contains-append_cases}
-use Rattle.armus_base.specs.Relations.{KeepsOn, IsInClosedSet}
+use Rattle.armus_base.specs.calls.Relations.{KeepsOn, IsInClosedSet}
 use Rattle.armus_base.proofs.Elements.{Contains-head, Contains-tail, Contains-cons_cases}
 use Rattle.armus_base.specs.declared.ids.TaskId.{TaskId}
 use Rattle.armus_base.specs.declared.event.Event.{Event}
 use Rattle.armus_base.specs.declared.status.Status.{Status}
-use Rattle.armus_base.specs.Statuses.{Impedes, IsInOrder}
+use Rattle.armus_base.specs.Statuses.{Impedes}
+use Rattle.armus_base.specs.calls.Statuses.{IsInOrder}
 use Rattle.armus_base.specs.Graphs.{WaitsFor, StateEdge, Resource, task, event, ResourceEdge}
 
 -- a deadlocked set as a list: each task of it has an event in the list of statuses that some task of the set impedes

@@ -12,7 +12,7 @@ use Rattle.std.proofs.lemmas.Cmp.{ranked}
 use Rattle.std.proofs.lemmas.List.Sorted.{Contains-permutation, IsPermutation-sym, length_permutation}
 use Rattle.armus_base.specs.declared.status.Status.{Status}
 use Rattle.dep_state.proofs.DeadSets.{Contains-map, Contains-from_map}
-use Rattle.dep_state.specs.Deps.{IsEventBefore}
+use Rattle.dep_state.specs.calls.Deps.{IsEventBefore}
 use Rattle.dep_state.specs.inside.Made.{NotAfter, NeverFalls, IsFresh, IsDistinctOf, IsEventsOf}
 
 pub not_after_then : (a b c : Event) → NotAfter a b → IsEventBefore b c → IsEventBefore a c

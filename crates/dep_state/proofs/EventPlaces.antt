@@ -5,8 +5,9 @@ use Rattle.std.proofs.lemmas.Bool.{cases_order}
 use Rattle.std.proofs.lemmas.List.{get_or_default, length-map}
 use Rattle.armus_base.specs.declared.event.Event.{Event}
 use Rattle.armus_base.specs.declared.status.Status.{Status}
-use Rattle.armus_base.specs.Statuses.{Impedes, IsInOrder}
-use Rattle.dep_state.specs.Deps.{Deps, IsDepsOf, IsEventBefore, impeders_of}
+use Rattle.armus_base.specs.Statuses.{Impedes}
+use Rattle.armus_base.specs.calls.Statuses.{IsInOrder}
+use Rattle.dep_state.specs.calls.Deps.{Deps, IsDepsOf, IsEventBefore, impeders_of}
 
 -- an event stands at a place
 abbrev pub EventAt : Deps → ℕ → Event → Type 0

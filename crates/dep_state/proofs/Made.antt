@@ -7,10 +7,10 @@ use Rattle.std.proofs.lemmas.List.Elements.{All-push}
 use Rattle.armus_base.specs.declared.event.Event.{Event}
 use Rattle.armus_base.specs.declared.status.Status.{Status}
 use Rattle.dep_state.specs.inside.Made.{IsEventsOf, IsPlacesOf, IsImpedersOf}
-use Rattle.armus_base.specs.Statuses.{IsInOrder}
+use Rattle.armus_base.specs.calls.Statuses.{IsInOrder}
 use Rattle.dep_state.proofs.TaskPlaces.{element}
 use Rattle.dep_state.proofs.EventPlaces.{one_place_of_event}
-use Rattle.dep_state.specs.Deps.{Deps, IsDepsOf}
+use Rattle.dep_state.specs.calls.Deps.{Deps, IsDepsOf}
 
 pub left_of : {X : Type 0} (xs ys : List X) (k : ℕ) (d : X) → k < length xs → get_or (xs ++ ys) k d ≡ get_or xs k d
 left_of [] ys k d lt = absurd (omega arith)

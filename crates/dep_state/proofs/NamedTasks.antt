@@ -6,10 +6,10 @@ use Rattle.std.proofs.lemmas.List.{get_or_default, get_or-map, length-map, map-a
 use Rattle.armus_base.specs.declared.ids.TaskId.{TaskId}
 use Rattle.armus_base.specs.declared.event.Event.{Event}
 use Rattle.armus_base.specs.declared.status.Status.{Status}
-use Rattle.armus_base.specs.Statuses.{IsInOrder}
-use Rattle.dep_state.specs.Deps.{Deps, IsDepsOf, impeders_of, rows_of}
+use Rattle.armus_base.specs.calls.Statuses.{IsInOrder}
+use Rattle.dep_state.specs.calls.Deps.{Deps, IsDepsOf, impeders_of, rows_of}
 use Rattle.dep_state.specs.inside.Names.{named}
-use Rattle.dep_state.specs.Picks.{IsImpederList}
+use Rattle.dep_state.specs.calls.Picks.{IsImpederList}
 use Rattle.dep_state.proofs.DeadSets.{Contains-map, Contains-from_map}
 use Rattle.dep_state.proofs.EventPlaces.{EventAt, impeded_at}
 use Rattle.dep_state.proofs.TaskPlaces.{impeder_inside, tasks_ascend, task_stands, stands_task}

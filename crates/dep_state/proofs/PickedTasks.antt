@@ -9,7 +9,7 @@ use Rattle.std.proofs.lemmas.List.Elements.{Contains-append_left, Contains-push,
 use Rattle.std.proofs.lemmas.List.Quantifiers.{all_pairs_push}
 use Rattle.armus_base.specs.declared.ids.TaskId.{TaskId}
 use Rattle.armus_base.specs.Finals.{given_below}
-use Rattle.dep_state.specs.Picks.{Ascend, picked_at}
+use Rattle.dep_state.specs.calls.Picks.{Ascend, picked_at}
 
 -- t stands at a place before n whose answer is true
 abbrev pub IsPicked : List TaskId → List Bool → ℕ → TaskId → Type 0

@@ -4,7 +4,7 @@ use Rattle.std.specs.Prelude.{Contains, ◌↔◌}
 use Rattle.armus_base.proofs.Elements.{nothing_in_nil}
 use Rattle.armus_base.proofs.Elements.{Contains-head, Contains-tail, Contains-cons_cases}
 use Rattle.armus_base.specs.declared.ids.TaskId.{TaskId}
-use Rattle.dep_state.specs.Picks.{Ascend}
+use Rattle.dep_state.specs.calls.Picks.{Ascend}
 
 head_below : (x : TaskId) (xs : List TaskId) (t : TaskId) → Ascend (x ∷ xs) → Contains xs t → x.0 < t.0
 head_below x xs t up (k, lt, e) =

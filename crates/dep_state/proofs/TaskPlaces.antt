@@ -7,11 +7,11 @@ use Rattle.std.proofs.lemmas.List.{get_or_default, get_or-map, get_or_past, leng
 use Rattle.std.proofs.lemmas.List.Elements.{All-contains}
 use Rattle.armus_base.specs.declared.ids.TaskId.{TaskId}
 use Rattle.armus_base.specs.declared.status.Status.{Status}
-use Rattle.armus_base.specs.Statuses.{IsInOrder}
+use Rattle.armus_base.specs.calls.Statuses.{IsInOrder}
 use Rattle.armus_base.specs.DeadLists.{IsDeadList}
 use Rattle.armus_base.proofs.Elements.{nothing_in_nil}
-use Rattle.dep_state.specs.Deps.{Deps, IsDepsOf, AreRelations, impeders_of, rows_of}
-use Rattle.dep_state.specs.Picks.{Ascend, IsPick}
+use Rattle.dep_state.specs.calls.Deps.{Deps, IsDepsOf, AreRelations, impeders_of, rows_of}
+use Rattle.dep_state.specs.calls.Picks.{Ascend, IsPick}
 use Rattle.dep_state.proofs.DeadSets.{IsDead, dead_by_list, dead_in_list}
 
 -- a row of a list of rows

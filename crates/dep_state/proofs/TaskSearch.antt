@@ -5,7 +5,7 @@ use Rattle.std.specs.List.Sorted.{IsNonDecreasingBy}
 use Rattle.std.proofs.lemmas.Bool.{cases_eq, cases_lt}
 use Rattle.std.proofs.lemmas.List.{get_or_default}
 use Rattle.armus_base.specs.declared.ids.TaskId.{TaskId}
-use Rattle.dep_state.specs.Picks.{Ascend, IsTaskAt}
+use Rattle.dep_state.specs.calls.Picks.{Ascend, IsTaskAt}
 use Rattle.dep_state.specs.inside.LowerBounds.{IsLowerBound}
 
 -- the numbers of ascending tasks never fall

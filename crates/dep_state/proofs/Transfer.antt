@@ -1,7 +1,7 @@
 -- A closed set of one relation gives one of another, along a correspondence.
 use Rattle.std.proofs.Common.{◌≡◌, subst}
 use Rattle.std.specs.Prelude.{Contains}
-use Rattle.armus_base.specs.Relations.{IsInClosedSet}
+use Rattle.armus_base.specs.calls.Relations.{IsInClosedSet}
 use Rattle.dep_state.proofs.DeadSets.{Image, image}
 
 -- Q gives each x at most one y, and one where x has a successor; it takes each step of R to a step of S

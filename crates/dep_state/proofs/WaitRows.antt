@@ -6,10 +6,11 @@ use Rattle.std.proofs.lemmas.List.Elements.{All-map}
 use Rattle.armus_base.specs.declared.ids.TaskId.{TaskId}
 use Rattle.armus_base.specs.declared.status.Status.{Status}
 use Rattle.armus_base.specs.Graphs.{WaitsFor}
-use Rattle.armus_base.specs.Statuses.{Impedes, IsInOrder}
-use Rattle.dep_state.specs.Deps.{Deps, IsDepsOf, AreRelations, impeders_of}
+use Rattle.armus_base.specs.Statuses.{Impedes}
+use Rattle.armus_base.specs.calls.Statuses.{IsInOrder}
+use Rattle.dep_state.specs.calls.Deps.{Deps, IsDepsOf, AreRelations, impeders_of}
 use Rattle.dep_state.specs.inside.Names.{IsNamed, named}
-use Rattle.dep_state.specs.Picks.{Ascend}
+use Rattle.dep_state.specs.calls.Picks.{Ascend}
 use Rattle.dep_state.proofs.DeadSets.{one_status}
 use Rattle.dep_state.proofs.EventPlaces.{awaited_at}
 use Rattle.dep_state.proofs.NamedTasks.{name_at, named_impeders}

@@ -3,9 +3,9 @@ ghost use Rattle.std.specs.Prelude.{◌≡◌, ◌↔◌, ◌<◌, ◌^◌, List
 ghost use Rattle.armus_base.specs.declared.ids.TaskId.{TaskId};
 ghost use Rattle.armus_base.specs.declared.status.Status.{Status};
 ghost use Rattle.armus_base.specs.Graphs.{WaitsFor};
-ghost use Rattle.armus_base.specs.Statuses.{IsInOrder};
-ghost use Rattle.dep_state.specs.Deps.{AreRelations, IsDepsOf, impeders_of};
-ghost use Rattle.dep_state.specs.Picks.{Ascend, IsImpederList, HasNoStatus, HasEvent};
+ghost use Rattle.armus_base.specs.calls.Statuses.{IsInOrder};
+ghost use Rattle.dep_state.specs.calls.Deps.{AreRelations, IsDepsOf, impeders_of};
+ghost use Rattle.dep_state.specs.calls.Picks.{Ascend, IsImpederList, HasNoStatus, HasEvent};
 
 use crate::{events, impeders, names, search};
 use armus_base::{Event, NoMemory, Status, TaskId};
@@ -25,9 +25,9 @@ pub struct DepState {
 
 impl Model for DepState {
     ghost use Rattle.std.specs.Prelude.{All};
-    ghost use Rattle.dep_state.specs.Deps.{Deps, AreRelations, rows_of};
+    ghost use Rattle.dep_state.specs.calls.Deps.{Deps, AreRelations, rows_of};
     ghost use Rattle.dep_state.specs.inside.Names.{IsNamed};
-    ghost use Rattle.dep_state.specs.Picks.{Ascend};
+    ghost use Rattle.dep_state.specs.calls.Picks.{Ascend};
 
     ghost Value = { Deps };
 

@@ -1,8 +1,9 @@
 // The events that the statuses await, each once and in order, and where each one's event stands.
 ghost use Rattle.std.specs.Prelude.{◌≡◌, ◌<◌, ◌^◌, length, map, IfOk, AllPairs, Contains, slice_index_or, MatchBool};
-ghost use Rattle.armus_base.specs.Statuses.{IsAwaited, IsInOrder};
+ghost use Rattle.armus_base.specs.Statuses.{IsAwaited};
+ghost use Rattle.armus_base.specs.calls.Statuses.{IsInOrder};
 ghost use Rattle.armus_base.specs.declared.status.Status.{Status};
-ghost use Rattle.dep_state.specs.Deps.{IsEventBefore};
+ghost use Rattle.dep_state.specs.calls.Deps.{IsEventBefore};
 ghost use Rattle.dep_state.specs.inside.Made.{NeverFalls, NotAfter, IsFirstAfter, IsFresh, IsDistinctOf, IsEventsOf, IsPlacesOf};
 
 use armus_base::{Event, Status, TaskId};

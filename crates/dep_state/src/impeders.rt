@@ -1,7 +1,8 @@
 // Which tasks impede each event: each task in turn is put into the rows of the events that it impedes, so the rows ascend.
 ghost use Rattle.std.specs.Prelude.{◌≡◌, ◌<◌, ◌^◌, [], length, replicate, IfOk, OnOk, AllPairs};
-ghost use Rattle.armus_base.specs.Statuses.{Impedes, IsInOrder};
-ghost use Rattle.dep_state.specs.Deps.{IsEventBefore, rows_of};
+ghost use Rattle.armus_base.specs.Statuses.{Impedes};
+ghost use Rattle.armus_base.specs.calls.Statuses.{IsInOrder};
+ghost use Rattle.dep_state.specs.calls.Deps.{IsEventBefore, rows_of};
 ghost use Rattle.dep_state.specs.inside.Made.{IsPhaseBelow, IsAdded, IsImpedersOf, nth_event};
 
 use crate::events::first_after;

@@ -1,7 +1,7 @@
 // The names of the tasks at places.
 ghost use Rattle.std.specs.Prelude.{◌≡◌, ◌<◌, length, map, All, IfOk};
 ghost use Rattle.dep_state.specs.inside.Names.{named, IsNamed};
-ghost use Rattle.dep_state.specs.Deps.{rows_of};
+ghost use Rattle.dep_state.specs.calls.Deps.{rows_of};
 
 use armus_base::TaskId;
 use std::alloc::{AllocError, Global};

@@ -1,6 +1,6 @@
 // The order that a list of statuses keeps.
 ghost use Rattle.std.specs.Prelude.{◌↔◌, ◌<◌, ◌^◌, length, All, AllPairs, IsTrue, MatchBool};
-ghost use Rattle.armus_base.specs.Statuses.{IsInOrder};
+ghost use Rattle.armus_base.specs.calls.Statuses.{IsInOrder};
 ghost use Rattle.dep_state.specs.inside.Order.{HasOrderedPhases, HaveOrderedTasks, IsOrderedPhases};
 
 use armus_base::{Member, Status};

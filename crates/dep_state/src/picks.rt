@@ -1,6 +1,6 @@
 // Tasks picked by an answer for each.
 ghost use Rattle.std.specs.Prelude.{◌≤◌, length, IfOk};
-ghost use Rattle.dep_state.specs.Picks.{IsPick};
+ghost use Rattle.dep_state.specs.calls.Picks.{IsPick};
 
 use armus_base::TaskId;
 use std::alloc::{AllocError, Global};

@@ -1,6 +1,6 @@
 // Where a task stands in an ascending list.
 ghost use Rattle.std.specs.Prelude.{Contains, MatchBool, MatchOption};
-ghost use Rattle.dep_state.specs.Picks.{Ascend, IsTaskAt};
+ghost use Rattle.dep_state.specs.calls.Picks.{Ascend, IsTaskAt};
 ghost use Rattle.dep_state.specs.inside.LowerBounds.{IsLowerBound};
 
 use armus_base::TaskId;

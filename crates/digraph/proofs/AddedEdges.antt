@@ -4,7 +4,7 @@ use Rattle.std.specs.Prelude.{Contains, ◌↔◌}
 use Rattle.std.proofs.lemmas.Bool.{cases_eq, cases_lt}
 use Rattle.std.proofs.lemmas.List.{take_more, get_or-replicate, get_or_past, length-replicate, take-append-drop}
 use Rattle.std.proofs.lemmas.List.Elements.{Contains-append_left, Contains-push, Contains-push_cases}
-use Rattle.digraph.specs.Graph.{HasEdge, AddsEdge, AddsSomeEdges}
+use Rattle.digraph.specs.calls.Graph.{HasEdge, AddsEdge, AddsSomeEdges}
 use Rattle.armus_base.proofs.Elements.{nothing_in_nil}
 
 module _ (old mid now : List (List ℕ)) (from : ℕ) (to : List ℕ) (n : ℕ) (lt : n < length to) where

@@ -3,10 +3,10 @@ use Rattle.std.proofs.Common.{◌≡◌, ℕ, ◌<◌, Bool, true, false, List, 
 use Rattle.std.specs.Prelude.{◌↔◌, All}
 use Rattle.std.proofs.lemmas.Bool.{cases_eq}
 use Rattle.std.proofs.lemmas.List.Elements.{All-contains}
-use Rattle.digraph.specs.Graph.{HasEdge, TellsCycles}
+use Rattle.digraph.specs.calls.Graph.{HasEdge, TellsCycles}
 use Rattle.digraph.specs.inside.Rows.{IsGraph}
 use Rattle.digraph.specs.inside.Search.{row_of}
-use Rattle.digraph.specs.Cycle.{IsLeastSuccessor, IsLeastMarked}
+use Rattle.digraph.specs.calls.Cycle.{IsLeastSuccessor, IsLeastMarked}
 
 -- a flag that is set
 pub set_flag : (xs : List Bool) (i j : ℕ) → i < length xs → (get_or (set xs i true) j false ≡ true) ↔ ((j ≡ i) ⊎ (get_or xs j false ≡ true))

@@ -9,7 +9,7 @@ use Rattle.std.proofs.lemmas.List.Sorted.{searched}
 use Rattle.std.proofs.lemmas.Result.{MatchResult-at_err}
 use Rattle.std.specs.List.Sorted.{IsBinarySearchResult}
 use Rattle.std.specs.Ordering.{nat_cmp}
-use Rattle.digraph.specs.Graph.{HasEdge, AddsEdge, graph_of, Ascends}
+use Rattle.digraph.specs.calls.Graph.{HasEdge, AddsEdge, graph_of, Ascends}
 use Rattle.digraph.specs.inside.Rows.{IsGraph, IsRow, edge_count, IsDigraph}
 use Rattle.armus_base.proofs.Counts.{count_more, count_same, count_none}
 use Rattle.armus_base.proofs.Elements.{nothing_in_nil}

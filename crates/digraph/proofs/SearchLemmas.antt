@@ -4,8 +4,8 @@ use Rattle.std.specs.Prelude.{Contains, All}
 use Rattle.std.proofs.lemmas.Bool.{cases_eq, cases_lt}
 use Rattle.std.proofs.lemmas.List.{get_or_append_left, get_or_at, get_or_default}
 use Rattle.std.proofs.lemmas.List.Elements.{Contains-append_left, Contains-push, Contains-push_cases, All-contains, All-push}
-use Rattle.armus_base.specs.Relations.{Walk, ReachesCycle, IsInClosedSet}
-use Rattle.digraph.specs.Graph.{HasEdge}
+use Rattle.armus_base.specs.calls.Relations.{Walk, ReachesCycle, IsInClosedSet}
+use Rattle.digraph.specs.calls.Graph.{HasEdge}
 use Rattle.digraph.specs.inside.Search.{IsSearch, row_of}
 use Rattle.digraph.specs.declared.search.Mark.{Mark}
 use Rattle.digraph.specs.declared.search.Mark.TheVariants.{Unvisited, OnStack, Acyclic, Cyclic}

@@ -7,8 +7,8 @@ use Rattle.std.proofs.lemmas.List.{get_or_default, get_or-map, length-map, get_o
 use Rattle.std.proofs.lemmas.List.Elements.{All-get_or}
 use Rattle.std.proofs.lemmas.List.Sums.{sum_by-set}
 use Rattle.std.proofs.lemmas.Bool.{cases_Bool, cases_lt}
-use Rattle.armus_base.specs.Relations.{ReachesCycle, IsInClosedSet}
-use Rattle.digraph.specs.Graph.{HasEdge, graph_of, TellsCycles}
+use Rattle.armus_base.specs.calls.Relations.{ReachesCycle, IsInClosedSet}
+use Rattle.digraph.specs.calls.Graph.{HasEdge, graph_of, TellsCycles}
 use Rattle.digraph.specs.inside.Rows.{IsGraph}
 use Rattle.digraph.specs.inside.Search.{AllAreMarked, IsAhead, IsSearch, is_cyclic, is_unvisited, mark_of, row_of}
 use Rattle.digraph.specs.declared.search.Mark.{Mark}

@@ -1,10 +1,10 @@
 // The walk to a cycle.
 ghost use Rattle.std.specs.Prelude.{◌≡◌, ◌^◌, ◌<◌, true, false, length, All, Contains, IfOk, IfSome, IfNone, slice_index, slice_index_or};
 ghost use Rattle.armus_base.specs.Relations.{IsWalkCycle};
-ghost use Rattle.digraph.specs.Graph.{Ascends, TellsCycles, graph_of};
+ghost use Rattle.digraph.specs.calls.Graph.{Ascends, TellsCycles, graph_of};
 ghost use Rattle.digraph.specs.inside.Rows.{IsGraph};
 ghost use Rattle.digraph.specs.inside.NextTables.{AreNext, IsStepOn};
-ghost use Rattle.digraph.specs.Cycle.{IsLeastMarked};
+ghost use Rattle.digraph.specs.calls.Cycle.{IsLeastMarked};
 
 use std::alloc::{AllocError, Global};
 

@@ -1,9 +1,10 @@
 // A directed graph to which edges are added.
 ghost use Rattle.std.specs.Prelude.{◌≡◌, ◌<◌, ℕ, [], length, replicate, All, IfOk, OnOk, OnErr, MatchBool, MatchOption};
 ghost use Rattle.armus_base.specs.Counts.{IsCount};
-ghost use Rattle.armus_base.specs.Relations.{ReachesCycle, IsWalkCycle};
-ghost use Rattle.digraph.specs.Graph.{TellsCycles, HasEdge, AddsEdge, AddsEdges, AddsSomeEdges};
-ghost use Rattle.digraph.specs.Cycle.{IsLeastSuccessor};
+ghost use Rattle.armus_base.specs.calls.Relations.{ReachesCycle};
+ghost use Rattle.armus_base.specs.Relations.{IsWalkCycle};
+ghost use Rattle.digraph.specs.calls.Graph.{TellsCycles, HasEdge, AddsEdge, AddsEdges, AddsSomeEdges};
+ghost use Rattle.digraph.specs.calls.Cycle.{IsLeastSuccessor};
 
 use crate::cycle::{successors, walk_cycle};
 use crate::rows::add_edge;
@@ -22,7 +23,7 @@ pub struct Digraph {
 
 impl Model for Digraph {
     ghost use Rattle.std.specs.Prelude.{◌≡◌, ◌<◌, List, ℕ, length};
-    ghost use Rattle.digraph.specs.Graph.{graph_of};
+    ghost use Rattle.digraph.specs.calls.Graph.{graph_of};
     ghost use Rattle.digraph.specs.inside.Rows.{IsDigraph};
 
     ghost Value = { List (List ℕ) };

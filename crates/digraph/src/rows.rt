@@ -1,6 +1,6 @@
 // The successors of each node, as ascending rows.
 ghost use Rattle.std.specs.Prelude.{◌≡◌, ◌↔◌, ◌⊎◌, ℕ, ◌+◌, ◌<◌, length, IfOk, OnOk, OnErr, MatchBool, All, Contains, if◌then◌else◌};
-ghost use Rattle.digraph.specs.Graph.{HasEdge, AddsEdge, graph_of, Ascends};
+ghost use Rattle.digraph.specs.calls.Graph.{HasEdge, AddsEdge, graph_of, Ascends};
 ghost use Rattle.digraph.specs.inside.Rows.{IsGraph, edge_count};
 
 use std::alloc::AllocError;

@@ -1,7 +1,7 @@
 // A search of each node in turn for cycles that it reaches, along a stack of nodes.
 ghost use Rattle.std.specs.Prelude.{◌≡◌, ◌^◌, ℕ, ◌<◌, ◌≤◌, List, [], length, map, All, IfOk, OnOk, IfSome, IfNone, ◌-◌, slice_index, count_by};
-ghost use Rattle.armus_base.specs.Relations.{ReachesCycle};
-ghost use Rattle.digraph.specs.Graph.{TellsCycles, HasEdge, graph_of};
+ghost use Rattle.armus_base.specs.calls.Relations.{ReachesCycle};
+ghost use Rattle.digraph.specs.calls.Graph.{TellsCycles, HasEdge, graph_of};
 ghost use Rattle.digraph.specs.inside.Rows.{IsGraph};
 ghost use Rattle.digraph.specs.inside.Search.{AllAreMarked, IsAhead, IsMarked, IsSearch, KeepsMarked, is_cyclic, is_unvisited, row_of, work};
 

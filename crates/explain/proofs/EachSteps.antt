@@ -10,7 +10,7 @@ use Rattle.armus_words.specs.Words.{Text}
 use Rattle.armus_top.specs.Programs.{IsPlanOf}
 use Rattle.armus_top.proofs.OnePlan.{checked_plan}
 use Rattle.armus_top.proofs.WholeOutputs.{plan_or_refused}
-use Rattle.explain.specs.Laws.{EachTextHasSteps}
+use Rattle.explain.specs.calls.Laws.{EachTextHasSteps}
 use Rattle.explain.specs.Outputs.{AnswersSteps}
 use Rattle.explain.proofs.EachText.{refused}
 

@@ -13,7 +13,7 @@ use Rattle.report.specs.declared.refusal.Refusal.{Refusal}
 use Rattle.report.specs.declared.refusal.Refusal.TheVariants.{Check, Length, Schedule, Syntax}
 use Rattle.accounts.proofs.LayoutExists.{layout_exists}
 use Rattle.check_refusals.specs.CheckRefusals.{check_lines}
-use Rattle.check_scenes.specs.Scenes.{IsScene, Past, about, forked_at, named_task, task_of, turns_around}
+use Rattle.check_scenes.specs.Scenes.{IsScene, Past, about, forked_at, named_task, current_task, turns_around}
 use Rattle.check_scenes.specs.declared.scene.Scene.{Scene}
 use Rattle.explained_tasks.proofs.ExplanationExists.{explanation_exists}
 use Rattle.refusals.proofs.SomeStand.{some_refusal}
@@ -21,7 +21,7 @@ use Rattle.armus_words.specs.Words.{Text}
 use Rattle.armus_top.specs.Programs.{IsFaultOf, IsPlanOf}
 use Rattle.armus_top.proofs.OnePlan.{checked_plan}
 use Rattle.armus_top.proofs.WholeOutputs.{plan_or_refused}
-use Rattle.explain.specs.Laws.{EachTextIsMet}
+use Rattle.explain.specs.calls.Laws.{EachTextIsMet}
 use Rattle.explain.specs.Outputs.{AnswersText}
 use Rattle.explain.specs.Refused.{IsRefusedWith}
 
@@ -32,8 +32,8 @@ scene_exists program fault fails =
     let past : Past = record { first = opening_state program.body; stages = found.stages; there = found.there } in (
       record {
         fault = fault;
-        task = named_task past (task_of found.stage);
-        forked = forked_at past (task_of found.stage);
+        task = named_task past (current_task found.stage);
+        forked = forked_at past (current_task found.stage);
         turns = turns_around past found.stage;
         matter = about past fault.kind found.stage;
       },

@@ -5,15 +5,15 @@ use Rattle.armus_base.specs.declared.ending.Final.{Final}
 use Rattle.armus_base.specs.Finals.{end_of, final_of, list_below}
 use Rattle.armus_base.specs.Plans.{Plan}
 use Rattle.armus_base.specs.Runs.{IsPlainRun, Place}
-use Rattle.pl_core.specs.Worlds.{places_of, state_of}
+use Rattle.pl_core.specs.calls.Worlds.{places_of, state_of}
 use Rattle.pl_plan.specs.Unfolding.{plan_of}
 use Rattle.pl_syntax.specs.Grammar.{IsText}
 use Rattle.pl_syntax.specs.declared.tree.Program.{Program}
 use Rattle.explained_tasks.specs.Explanations.{IsExplanationAt}
-use Rattle.explained_tasks.specs.RunEnds.{WaitersStay}
+use Rattle.explained_tasks.specs.calls.RunEnds.{WaitersStay}
 use Rattle.explained_tasks.specs.declared.explaining.Explanation.{Explanation}
 use Rattle.explained_tasks.proofs.RestsAtEnd.{rests_at_end}
-use Rattle.step_lines.specs.SteppedRuns.{IsSteppedRun}
+use Rattle.step_lines.specs.calls.SteppedRuns.{IsSteppedRun}
 use Rattle.step_lines.specs.declared.stepping.SteppedRun.{SteppedRun}
 use Rattle.step_lines.proofs.SerialIsPlain.{serial_is_plain}
 use Rattle.armus_words.specs.Words.{Text}

@@ -12,7 +12,7 @@ use Rattle.armus_top.specs.Headline.{EndsWith, IsCalm, Passage, no_memory, read_
 use Rattle.armus_top.specs.declared.programs.TheConstants.{MAX_TEXT_BYTES}
 use Rattle.armus_top.proofs.Ending.{not_long, not_more, rose_from, same_input}
 use Rattle.armus_top.proofs.OnePlan.{checked_plan, one_plan, plan_or_fault}
-use Rattle.explain.specs.Explained.{EndsSo, IsExplanationOf, IsRunOf, WaitsIn}
+use Rattle.explain.specs.Explained.{EndsSo, IsExplanationOf, IsEndedRunOf, WaitsIn}
 use Rattle.explain.specs.Outputs.{AnswersSteps, AnswersText, FixesStatus, FixesTextStatus, IsStatusOf, MayAnswer, MayWrite, text_limit}
 use Rattle.explain.specs.Stepped.{AreStepsOf}
 use Rattle.explain.specs.Refused.{HasSomeFault, IsRefusedWith}
@@ -33,7 +33,7 @@ ends_or_fault : (text : Text) (Holds : State → Type 0) → EndsSo text Holds �
 ends_or_fault text Holds is (why, fault) = (let (program, checked) = is.ended.plan_is in plan_or_fault text why program is.plan fault checked)
 
 -- all runs of a text end in one state
-one_state : (text : Text) (Holds : State → Type 0) (plan : Plan) (h : List Step) → IsRunOf text plan h → EndsSo text Holds → Holds (state_after h)
+one_state : (text : Text) (Holds : State → Type 0) (plan : Plan) (h : List Step) → IsEndedRunOf text plan h → EndsSo text Holds → Holds (state_after h)
 one_state text Holds plan h one is =
     let plans : is.plan ≡ plan = one_plan text is.plan plan is.ended.plan_is one.plan_is in
     let run : IsPlainRun plan is.steps = subst (λ (q : Plan). IsPlainRun q is.steps) plans is.ended.run in

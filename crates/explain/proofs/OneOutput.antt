@@ -13,7 +13,7 @@ use Rattle.check_refusals.proofs.OneRefusal.{one_refusal as one_check_refusal}
 use Rattle.armus_words.specs.Words.{Text}
 use Rattle.armus_top.proofs.OnePlan.{checked_plan, one_plan}
 use Rattle.explain.specs.Explained.{IsExplanationOf}
-use Rattle.explain.specs.Laws.{OneOutput}
+use Rattle.explain.specs.calls.Laws.{OneOutput}
 use Rattle.explain.specs.Refused.{IsRefusedWith}
 use Rattle.explain.proofs.Fixing.{explained_or_fault, refused_has}
 

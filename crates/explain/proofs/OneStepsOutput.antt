@@ -3,13 +3,14 @@ use Rattle.std.proofs.Common.{◌≡◌, ◌∙◌, ◌++◌, ℕ, List, Option,
 use Rattle.armus_base.specs.Plans.{Plan}
 use Rattle.armus_base.specs.Runs.{IsMaximal}
 use Rattle.armus_base.specs.States.{Step}
-use Rattle.step_lines.specs.SerialRuns.{IsSerialRun, IsWholeSerialRun}
+use Rattle.step_lines.specs.SerialRuns.{IsSerialRun}
+use Rattle.step_lines.specs.calls.SerialRuns.{IsWholeSerialRun}
 use Rattle.step_lines.specs.ShownSteps.{AreShown}
 use Rattle.step_lines.proofs.OneSerialRun.{one_serial_run}
 use Rattle.step_lines.proofs.OneShowing.{one_showing}
 use Rattle.armus_words.specs.Words.{Text}
 use Rattle.armus_top.proofs.OnePlan.{checked_plan, one_plan}
-use Rattle.explain.specs.Laws.{OneStepsOutput}
+use Rattle.explain.specs.calls.Laws.{OneStepsOutput}
 use Rattle.explain.specs.Stepped.{AreStepsOf}
 use Rattle.explain.proofs.Fixing.{explained_or_fault, refused_has, steps_explained}
 use Rattle.explain.proofs.OneOutput.{one_explained, one_refused}

@@ -8,7 +8,7 @@ use Rattle.armus_base.specs.declared.ending.TaskEnd.{TaskEnd}
 use Rattle.armus_base.specs.declared.ending.TaskEnd.TheVariants as ends
 use Rattle.armus_base.specs.declared.event.Event.{Event}
 use Rattle.armus_base.specs.declared.ids.TaskId.{TaskId}
-use Rattle.armus_base.specs.FinalLaws.{IsOfPlan}
+use Rattle.armus_base.specs.calls.FinalLaws.{IsOfPlan}
 use Rattle.armus_base.specs.Finals.{end_by, end_of, final_of, list_below}
 use Rattle.armus_base.specs.Places.{state_at}
 use Rattle.armus_base.specs.Plans.{Plan}
@@ -21,14 +21,14 @@ use Rattle.report.specs.Standings.{AreStandings, Stands}
 use Rattle.report.specs.declared.standing.Standing.{Standing}
 use Rattle.report.specs.declared.standing.Standing.TheVariants as way
 use Rattle.explained_tasks.specs.Explanations.{Explains, IsExplanationAt}
-use Rattle.task_sayings.specs.Facts.{FactsValue, fork_of, is_waiting, situation_by, situation_of, tasks_that}
+use Rattle.task_sayings.specs.Facts.{FactsValue, forking_of, is_waiting, situation_by, situation_of, tasks_that}
 use Rattle.task_sayings.proofs.Filters.{passed_from}
 use Rattle.explained_tasks.proofs.SomebodyWaits.{waits}
 use Rattle.explained_tasks.proofs.Starts.{that_is}
 use Rattle.explained_tasks.proofs.TasksThat.{task_below}
 use Rattle.armus_words.specs.Words.{Text}
 use Rattle.armus_top.proofs.OnePlan.{checked_plan}
-use Rattle.explain.specs.Explained.{IsRunOf, WaitsIn}
+use Rattle.explain.specs.Explained.{IsEndedRunOf, WaitsIn}
 
 -- an end that is an event comes from a published one
 blocked_is : (forked : Bool) (published refused : Option Event) (e : Event) → end_by forked published refused ≡ ends.Blocked e → published ≡ Some e
@@ -74,7 +74,7 @@ module _ (plan : Plan) (state : State) (f : FactsValue) (of_plan : IsOfPlan plan
   waiting_task (t, one) =
       let (within, on) = that_is f is_waiting t one in
       let below : t.0 < length plan.parents = subst (λ n. t.0 < n) sized within in
-      let (e, end_is) = waiting_end (IsDeadBy (final_of plan state).blocked t.0) (end_of state t.0) (slice_index_or f.standings t.0 way.Done) (fork_of f t.0)
+      let (e, end_is) = waiting_end (IsDeadBy (final_of plan state).blocked t.0) (end_of state t.0) (slice_index_or f.standings t.0 way.Done) (forking_of f t.0)
       (stands t.0 way.Done below) on in
       (t.0, (e, blocked_is (state.forked t.0) (state.published t.0) (state.refused t.0) e end_is))
 
@@ -83,7 +83,7 @@ module _ (plan : Plan) (state : State) (f : FactsValue) (of_plan : IsOfPlan plan
       let below = of_plan.published t e is in
       let end_is : end_of state t ≡ ends.Blocked e = ap (λ p. end_by (state.forked t) p (state.refused t)) is in
       let stands_so = subst (λ x. Stands (IsDeadBy (final_of plan state).blocked t) x (slice_index_or f.standings t way.Done)) end_is (stands t way.Done below) in
-      let on : is_waiting (situation_of f t) ≡ true = blocked_waits (IsDeadBy (final_of plan state).blocked t) e (slice_index_or f.standings t way.Done) (fork_of f t) stands_so in
+      let on : is_waiting (situation_of f t) ≡ true = blocked_waits (IsDeadBy (final_of plan state).blocked t) e (slice_index_or f.standings t way.Done) (forking_of f t) stands_so in
       let within : t < length f.standings = subst (λ n. t < n) (sym sized) below in
       let task : TaskId = record { 0 = t } in
       (task, passed_from (λ (u : TaskId). is_waiting (situation_of f u.0)) (list_below (λ u. record { 0 = u }) (length f.standings)) task (task_below (length f.standings) task within) on)
@@ -96,7 +96,7 @@ module _ (plan : Plan) (state : State) (f : FactsValue) (of_plan : IsOfPlan plan
       (λ on. waiting_task (both.0 (sym is.tells ∙ on)), λ one. is.tells ∙ both.1 (task_waiting one))
 
 -- somebody waits by the explanation of a run just where a task of the state in which it ends waits
-pub tells_waiting : (file : Option Text) (text : Text) (plan : Plan) (steps : List Step) (lines : List ℕ) (some : Bool) → IsRunOf text plan steps
+pub tells_waiting : (file : Option Text) (text : Text) (plan : Plan) (steps : List Step) (lines : List ℕ) (some : Bool) → IsEndedRunOf text plan steps
     → IsExplanationAt file text plan (places steps) lines some → (some ≡ true) ↔ ((t : ℕ) × WaitsIn (state_after steps) t)
 tells_waiting file text plan steps lines some ended is =
     let checked = checked_plan text plan ended.plan_is in

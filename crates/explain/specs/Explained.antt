@@ -9,7 +9,7 @@ use Rattle.armus_words.specs.Words.{Text}
 use Rattle.armus_top.specs.Programs.{IsPlanOf}
 
 -- these steps are a run of the text's plan up to its end: a plain one that is maximal
-pub record IsRunOf (text : Text) (plan : Plan) (steps : List Step) : Type 0 where
+pub record IsEndedRunOf (text : Text) (plan : Plan) (steps : List Step) : Type 0 where
   pub plan_is : IsPlanOf text plan
   pub run : IsPlainRun plan steps
   pub maximal : IsMaximal plan steps
@@ -19,7 +19,7 @@ pub record IsRunOf (text : Text) (plan : Plan) (steps : List Step) : Type 0 wher
 pub record IsExplanationOf (file : Option Text) (text : Text) (status : ℕ) (lines : Text) : Type 0 where
   pub plan : Plan
   pub steps : List Step
-  pub ended : IsRunOf text plan steps
+  pub ended : IsEndedRunOf text plan steps
   pub waits : Bool
   pub explains : IsExplanationAt file text plan (places steps) lines waits
   pub status_is : status ≡ (if waits then 1 else 0)
@@ -32,7 +32,7 @@ WaitsIn state t = (e : Event) × (state.published t ≡ Some e)
 pub record EndsSo (text : Text) (Holds : State → Type 0) : Type 0 where
   pub plan : Plan
   pub steps : List Step
-  pub ended : IsRunOf text plan steps
+  pub ended : IsEndedRunOf text plan steps
   pub holds : Holds (state_after steps)
 
 -- a task of its final state waits

@@ -1,12 +1,12 @@
 -- What a reader of the repository has to believe.
 pub mod Requests
-pub mod Requested
 pub mod Explained
 pub mod Stepped
 pub mod Refused
 pub mod Outputs
 -- What is proved of it.
-pub mod Laws
 pub mod Agreement
 -- How the program does it.
 pub mod inside
+-- Words of contracts further down, which no promise of a program needs.
+pub mod calls

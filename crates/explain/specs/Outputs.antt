@@ -8,7 +8,7 @@ use Rattle.armus_top.specs.declared.programs.TheConstants.{MAX_TEXT_BYTES}
 use Rattle.explain.specs.Explained.{IsExplanationOf, NobodyWaits, SomebodyWaits}
 use Rattle.explain.specs.Stepped.{AreStepsOf}
 use Rattle.explain.specs.Refused.{HasSomeFault, IsRefusedWith}
-use Rattle.explain.specs.Requests.{Asked, explanation, help, help_lines, nothing, steps, usage_line, version, version_line}
+use Rattle.explain.specs.Requests.{Asked, explanation, help, help_lines, nothing, steps, explain_usage_line, version, version_line}
 
 -- a whole output for this text, of the file with this name or of none, with its status: 0 or 1 with its explanation, or 3 with the lines of a refusal
 abbrev pub AnswersText : Option Text → Text → ℕ → Text → Type 0
@@ -32,7 +32,7 @@ MayWrite (explanation file) src status lines = MayAnswer file (AnswersText file)
 MayWrite (steps file) src status lines = MayAnswer file (AnswersSteps file) src status lines
 MayWrite help src status lines = (status ≡ 0) × (lines ≡ help_lines)
 MayWrite version src status lines = (status ≡ 0) × (lines ≡ version_line)
-MayWrite nothing src status lines = (status ≡ 2) × (lines ≡ usage_line)
+MayWrite nothing src status lines = (status ≡ 2) × (lines ≡ explain_usage_line)
 
 -- the most bytes of a text, where one is read
 abbrev pub text_limit : Asked → Option ℕ

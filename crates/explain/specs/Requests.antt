@@ -38,13 +38,13 @@ asked (word ∷ file ∷ []) =
 asked words = nothing
 
 -- the line of usage
-abbrev pub usage_line : Text
-usage_line = line (codes "usage: armus_explain [run|steps] [FILE]")
+abbrev pub explain_usage_line : Text
+explain_usage_line = line (codes "usage: armus_explain [run|steps] [FILE]")
 
 -- the lines of help
 abbrev pub help_lines : Text
 help_lines =
-    usage_line
+    explain_usage_line
     ++ line (codes "Reads a PL text from FILE, or from standard input where there is none, and tells")
     ++ line (codes "which of its tasks wait for ever, where, for whom, and why.")
     ++ line (codes "With steps it first shows the run in which the task with the least number that may")

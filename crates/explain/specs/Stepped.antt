@@ -8,14 +8,14 @@ use Rattle.pl_syntax.specs.declared.tree.Program.{Program}
 use Rattle.step_lines.specs.SerialRuns.{IsSerialRun}
 use Rattle.step_lines.specs.ShownSteps.{AreShown}
 use Rattle.armus_words.specs.Words.{Text}
-use Rattle.explain.specs.Explained.{IsRunOf}
+use Rattle.explain.specs.Explained.{IsEndedRunOf}
 
 -- The lines show the steps of the serial plain run of a text, of the file with this name or of none, and then explain how its tasks stand where this run has
 -- ended; and the status is 1 where by them somebody waits for ever, else 0.
 pub record AreStepsOf (file : Option Text) (text : Text) (status : ℕ) (lines : Text) : Type 0 where
   pub plan : Plan
   pub steps : List Step
-  pub ended : IsRunOf text plan steps
+  pub ended : IsEndedRunOf text plan steps
   pub serial : IsSerialRun plan steps
   pub program : Program
   pub shown : Text

@@ -4,10 +4,10 @@ ghost use Rattle.pl_plan.specs.Forks.{fork_statements};
 ghost use Rattle.pl_plan.specs.Unfolding.{plan_of};
 ghost use Rattle.pl_syntax.specs.Grammar.{IsText};
 ghost use Rattle.pl_syntax.specs.Tree.{count};
-ghost use Rattle.armus_top.specs.Headline.{passage};
+ghost use Rattle.armus_top.specs.calls.Headline.{passage};
 ghost use Rattle.armus_top.specs.declared.programs.TheConstants.{MAX_TEXT_BYTES};
 ghost use Rattle.explain.specs.inside.Ending.{AnswersSource, EndsUnanswered, IsAnswerTo};
-ghost use Rattle.explain.specs.Requested.{named};
+ghost use Rattle.explain.specs.calls.Requested.{file_bytes};
 
 use crate::answer::{Answer, AnswerEnd, Wanted};
 use crate::explaining::explain_unfolded;
@@ -34,7 +34,7 @@ fn answer_unfolded(
     requires reads { IsText places.now program.now }
     requires plan { plan_of program.now ≡ Ok unfolded.plan }
     requires forks { unfolded.forks.items ≡ fork_statements program.now }
-    ensures answers { IfOk result (IsAnswerTo wanted (named file.entry) places.now) }
+    ensures answers { IfOk result (IsAnswerTo wanted (file_bytes file.entry) places.now) }
 {
     match wanted {
         Wanted::Explanation => explain_unfolded(alloc, places, file, program, unfolded),
@@ -55,7 +55,7 @@ fn answer_program(
     requires places { places ≡ text.now }
     requires few { count program.now.body ≤ length text.now }
     requires reads { IsText text.now program.now }
-    ensures answers { IfOk result (IsAnswerTo wanted (named file.entry) text.now) }
+    ensures answers { IfOk result (IsAnswerTo wanted (file_bytes file.entry) text.now) }
 {
     match unfold(alloc, program) {
         Ok(unfolded) => answer_unfolded(alloc, wanted, &places, file, program, unfolded),
@@ -72,7 +72,7 @@ fn answer_text(
     text: &[u8],
 ) -> Result<Answer, NoMemory>
     requires short { length text.now ≤ MAX_TEXT_BYTES }
-    ensures answers { IfOk result (IsAnswerTo wanted (named file.entry) text.now) }
+    ensures answers { IfOk result (IsAnswerTo wanted (file_bytes file.entry) text.now) }
 {
     let places = TextPlaces::new(alloc, text)?;
     match parse(alloc, text) {
@@ -89,7 +89,7 @@ pub(crate) fn answer_source<S: Source>(
     file: Option<&[u8]>,
     src: &mut S,
 ) -> Result<Answer, AnswerEnd>
-    ensures answers { IfOk result (AnswersSource wanted (named file.entry) (passage S.left S.faults src.old src.new)) }
+    ensures answers { IfOk result (AnswersSource wanted (file_bytes file.entry) (passage S.left S.faults src.old src.new)) }
     ensures ends { IfErr result (EndsUnanswered (passage S.left S.faults src.old src.new)) }
 {
     match read_all(alloc, src, MAX_TEXT_BYTES) {

@@ -7,7 +7,7 @@ ghost use Rattle.pl_syntax.specs.Tree.{count};
 ghost use Rattle.armus_top.specs.declared.programs.TheConstants.{MAX_TEXT_BYTES};
 ghost use Rattle.armus_top.specs.inside.Status.{number_of_status};
 ghost use Rattle.explain.specs.Explained.{IsExplanationOf};
-ghost use Rattle.explain.specs.Requested.{named};
+ghost use Rattle.explain.specs.calls.Requested.{file_bytes};
 
 use crate::answer::Answer;
 use accounts::account_of;
@@ -33,7 +33,7 @@ pub(crate) fn explain_unfolded(
     requires reads { IsText places.now program.now }
     requires plan { plan_of program.now ≡ Ok unfolded.plan }
     requires forks { unfolded.forks.items ≡ fork_statements program.now }
-    ensures explains { IfOk result (λ a. IsExplanationOf (named file.entry) places.now (number_of_status a.status) a.lines) }
+    ensures explains { IfOk result (λ a. IsExplanationOf (file_bytes file.entry) places.now (number_of_status a.status) a.lines) }
 {
     let Unfolded { plan, forks } = unfolded;
     let ended = run_to_world(alloc, &plan)?;

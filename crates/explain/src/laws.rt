@@ -1,6 +1,6 @@
 // Laws of the outputs of a text, as contracts of functions with an empty body.
 ghost use Rattle.explain.specs.Agreement.{ExplainsAsRun};
-ghost use Rattle.explain.specs.Laws.{EachTextHasSteps, EachTextIsMet, OneOutput, OneStepsOutput};
+ghost use Rattle.explain.specs.calls.Laws.{EachTextHasSteps, EachTextIsMet, OneOutput, OneStepsOutput};
 
 /// A text has one whole output at most, with one status.
 pub fn one_output()

@@ -9,7 +9,7 @@ ghost use Rattle.refusals.specs.LengthRefusals.{length_refusal};
 ghost use Rattle.armus_top.specs.declared.programs.TheConstants.{MAX_TEXT_BYTES};
 ghost use Rattle.armus_top.specs.inside.Status.{number_of_status};
 ghost use Rattle.explain.specs.inside.Ending.{IsRefusalOf};
-ghost use Rattle.explain.specs.Requested.{named};
+ghost use Rattle.explain.specs.calls.Requested.{file_bytes};
 
 use crate::answer::Answer;
 use armus_base::{List, NoMemory};
@@ -34,7 +34,7 @@ fn refused(lines: List<u8>) -> Answer
 
 /// The refusal of a text that is too long.
 pub(crate) fn refuse_length(alloc: Global, file: Option<&[u8]>) -> Result<Answer, NoMemory>
-    ensures lines { IfOk result (λ a. a.lines ≡ length_refusal (named file.entry)) }
+    ensures lines { IfOk result (λ a. a.lines ≡ length_refusal (file_bytes file.entry)) }
     ensures status { IfOk result (λ a. number_of_status a.status ≡ 3) }
 {
     Ok(refused(length_refusal(alloc, file)?))
@@ -51,7 +51,7 @@ pub(crate) fn refuse_syntax(
     requires short { length text.now ≤ MAX_TEXT_BYTES }
     requires places { places.now ≡ text.now }
     requires fault { HasFault text.now fault }
-    ensures refusal { IfOk result (IsRefusalOf (named file.entry) text.now) }
+    ensures refusal { IfOk result (IsRefusalOf (file_bytes file.entry) text.now) }
 {
     Ok(refused(syntax_refusal(alloc, text, places, file, fault)?))
 }
@@ -69,7 +69,7 @@ fn refuse_scene(
     requires places { places ≡ text.now }
     requires reads { IsText text.now program.now }
     requires scene { IsScene program.now scene.now }
-    ensures refusal { IfOk result (IsRefusalOf (named file.entry) text.now) }
+    ensures refusal { IfOk result (IsRefusalOf (file_bytes file.entry) text.now) }
 {
     let offsets = statement_offsets(alloc, text, program)?;
     let statements = Statements {
@@ -94,7 +94,7 @@ pub(crate) fn refuse_check(
     requires few { count program.now.body ≤ length text.now }
     requires reads { IsText text.now program.now }
     requires fails { (fault : Fault) × (plan_of program.now ≡ Err fault) }
-    ensures refusal { IfOk result (IsRefusalOf (named file.entry) text.now) }
+    ensures refusal { IfOk result (IsRefusalOf (file_bytes file.entry) text.now) }
 {
     match scene_of(alloc, program)? {
         Some(scene) => refuse_scene(alloc, text, places, file, program, &scene),

@@ -1,7 +1,7 @@
 // What the words ask for.
 ghost use Rattle.std.specs.Prelude.{◌≡◌, [], ◌∷◌, map, string_bytes};
 ghost use Rattle.explain.specs.Requests.{asked, explanation, file_asked, names_file, steps, word_asked};
-ghost use Rattle.explain.specs.Requested.{requested};
+ghost use Rattle.explain.specs.calls.Requested.{requested};
 
 const RUN: &str = "run";
 

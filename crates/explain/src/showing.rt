@@ -6,7 +6,7 @@ ghost use Rattle.pl_syntax.specs.Grammar.{IsText};
 ghost use Rattle.pl_syntax.specs.Tree.{count};
 ghost use Rattle.armus_top.specs.declared.programs.TheConstants.{MAX_TEXT_BYTES};
 ghost use Rattle.armus_top.specs.inside.Status.{number_of_status};
-ghost use Rattle.explain.specs.Requested.{named};
+ghost use Rattle.explain.specs.calls.Requested.{file_bytes};
 ghost use Rattle.explain.specs.Stepped.{AreStepsOf};
 
 use crate::answer::Answer;
@@ -46,7 +46,7 @@ pub(crate) fn step_unfolded(
     requires reads { IsText places.now program.now }
     requires plan { plan_of program.now ≡ Ok unfolded.plan }
     requires forks { unfolded.forks.items ≡ fork_statements program.now }
-    ensures steps { IfOk result (λ a. AreStepsOf (named file.entry) places.now (number_of_status a.status) a.lines) }
+    ensures steps { IfOk result (λ a. AreStepsOf (file_bytes file.entry) places.now (number_of_status a.status) a.lines) }
 {
     let Unfolded { plan, forks } = unfolded;
     let known = Vec::from_slice(alloc, forks.as_slice())?;

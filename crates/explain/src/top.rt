@@ -1,11 +1,11 @@
 // The top call.
 ghost use Rattle.std.specs.Prelude.{◌≡◌, map, string_bytes};
-ghost use Rattle.armus_top.specs.Headline.{passage};
+ghost use Rattle.armus_top.specs.calls.Headline.{passage};
 ghost use Rattle.armus_top.specs.inside.Status.{number_of_status};
 ghost use Rattle.explain.specs.Outputs.{IsExplainCall};
 ghost use Rattle.explain.specs.Requests.{asked};
 ghost use Rattle.explain.specs.inside.Ending.{asked_for};
-ghost use Rattle.explain.specs.Requested.{named};
+ghost use Rattle.explain.specs.calls.Requested.{file_bytes};
 
 use crate::answer::{AnswerEnd, Wanted};
 use crate::answering::answer_source;
@@ -31,7 +31,7 @@ Status: 0 nobody waits for ever, 1 somebody does, 2 other words than these,
 
 // The bytes of a name, where there is one.
 fn name_bytes(file: Option<&str>) -> Option<&[u8]>
-    ensures { named result ≡ named file.entry }
+    ensures { file_bytes result ≡ file_bytes file.entry }
 {
     match file {
         Some(name) => Some(name.as_bytes()),
@@ -47,7 +47,7 @@ fn explain_source<S: Source, K: Sink>(
     src: &mut S,
     out: &mut K,
 ) -> ExitStatus
-    ensures call { IsExplainCall (asked_for wanted (named file.entry)) (passage S.left S.faults src.old src.new) (passage K.taken K.faults out.old out.new)
+    ensures call { IsExplainCall (asked_for wanted (file_bytes file.entry)) (passage S.left S.faults src.old src.new) (passage K.taken K.faults out.old out.new)
         (src.new ≡ src.old) (out.new ≡ out.old) (number_of_status result) }
 {
     match answer_source(alloc, wanted, name_bytes(file), src) {

@@ -11,7 +11,7 @@ use Rattle.armus_base.specs.Plans.{Plan}
 use Rattle.armus_base.specs.Runs.{Place}
 use Rattle.pl_syntax.specs.declared.tree.Program.{Program}
 use Rattle.origins.specs.Origins.{fork_origin}
-use Rattle.accounts.specs.Accounts.{IsWait, Layout, forked_by, forked_of}
+use Rattle.accounts.specs.Accounts.{HasWait, Layout, forked_by, forked_of}
 use Rattle.accounts.specs.declared.account.Forked.{Forked}
 use Rattle.accounts.specs.declared.account.Waiting.{Waiting}
 use Rattle.accounts.proofs.Forkers.{parent_is}
@@ -36,7 +36,7 @@ module _ {A B : Type 0} (part : A → Option B) where
 
 -- a task has a wait only where it is blocked on the event of the wait
 pub wait_tells :
-    (l : Layout) (p : Program) (plan : Plan) (a : ℕ → Place) (t : ℕ) (end : TaskEnd) (o : Option Waiting) (w : Waiting) → IsWait l p plan a t end o → o ≡ Some w →
+    (l : Layout) (p : Program) (plan : Plan) (a : ℕ → Place) (t : ℕ) (end : TaskEnd) (o : Option Waiting) (w : Waiting) → HasWait l p plan a t end o → o ≡ Some w →
     end ≡ Blocked w.event
 wait_tells l p plan a t (Blocked e) (Some v) w is same =
     let one : v ≡ w = cc in sym (ap Blocked (sym (ap (λ (x : Waiting). x.event) one) ∙ is.event))
@@ -47,7 +47,7 @@ wait_tells l p plan a t Unforked o w is same = absurd (cc)
 
 -- a task that is blocked has a wait with its event
 pub blocked_tells :
-    (l : Layout) (p : Program) (plan : Plan) (a : ℕ → Place) (t : ℕ) (e : Event) (o : Option Waiting) → IsWait l p plan a t (Blocked e) o →
+    (l : Layout) (p : Program) (plan : Plan) (a : ℕ → Place) (t : ℕ) (e : Event) (o : Option Waiting) → HasWait l p plan a t (Blocked e) o →
     (w : Waiting) × (o ≡ Some w) × (w.event ≡ e)
 blocked_tells l p plan a t e None is = absurd is
 blocked_tells l p plan a t e (Some w) is = (w, refl, is.event)

@@ -8,7 +8,7 @@ use Rattle.armus_base.specs.declared.ids.PhaserId.{PhaserId}
 use Rattle.armus_base.specs.declared.ids.TaskId.{TaskId}
 use Rattle.armus_base.specs.declared.status.Status.{Status}
 use Rattle.armus_base.specs.Deadlocks.{IsDeadBy, IsListedOn}
-use Rattle.armus_base.specs.FinalLaws.{AreStatuses}
+use Rattle.armus_base.specs.calls.FinalLaws.{AreStatuses}
 use Rattle.armus_base.specs.Finals.{end_of, final_of, is_awaited, is_event_of}
 use Rattle.armus_base.specs.Graphs.{WaitsFor}
 use Rattle.armus_base.specs.Places.{state_at}
@@ -23,9 +23,9 @@ use Rattle.report.proofs.CycleExists.{same_phaser}
 use Rattle.verdict.specs.Cycles.{IsDeadStep}
 use Rattle.task_sayings.specs.declared.impeders.Impeder.{Impeder}
 use Rattle.task_sayings.specs.declared.situation.Situation.{Situation}
-use Rattle.task_sayings.specs.Facts.{FactsValue, fork_of, is_deadlocked, situation_of}
-use Rattle.task_sayings.specs.Impeders.{impeders_of}
-use Rattle.explained_tasks.specs.Laws.{IsDeadAndWaitsFor}
+use Rattle.task_sayings.specs.Facts.{FactsValue, forking_of, is_deadlocked, situation_of}
+use Rattle.task_sayings.specs.Impeders.{impeders_by_facts}
+use Rattle.explained_tasks.specs.calls.Laws.{IsDeadAndWaitsFor}
 use Rattle.task_sayings.specs.Nexts.{IsNext, least_that, next_by}
 use Rattle.explained_tasks.specs.RunEnds.{AreFactsAt}
 use Rattle.explained_tasks.proofs.FitsEnds.{checked_here, dead_in_state, dead_is, impeder_here, impeders_here, of_plan_here, published_is, waiting_is}
@@ -46,7 +46,7 @@ module _ (plan : Plan) (a : ℕ → Place) (f : FactsValue) (at : AreFactsAt pla
   blocked = (final_of plan s).blocked
 
   abbrev imps : ℕ → List Impeder
-  imps t = impeders_of f s.phases t
+  imps t = impeders_by_facts f s.phases t
 
   statuses : AreStatuses plan s (is_awaited plan s) blocked
   statuses = statuses_are plan s (is_awaited plan s) (checked_here plan a f at)
@@ -67,7 +67,7 @@ module _ (plan : Plan) (a : ℕ → Place) (f : FactsValue) (at : AreFactsAt pla
       (i : Impeder) × (find (λ (k : Impeder). is_deadlocked (situation_of f k.t.0)) (imps t.0) ≡ Some i) × (i.t ≡ u)
   next_found t u dead step =
       let d = dead_is plan a f at t.0 dead in
-      let least : least_that is_deadlocked f (imps t.0) ≡ Some u = subst (λ (x : Situation). next_by f (imps t.0) (fork_of f t.0) x ≡ Some u) d.3 step in
+      let least : least_that is_deadlocked f (imps t.0) ≡ Some u = subst (λ (x : Situation). next_by f (imps t.0) (forking_of f t.0) x ≡ Some u) d.3 step in
       mapped (find (λ (k : Impeder). is_deadlocked (situation_of f k.t.0)) (imps t.0)) u least
 
   -- the next of a dead task is dead

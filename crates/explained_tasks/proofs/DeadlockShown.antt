@@ -20,15 +20,16 @@ use Rattle.explained_tasks.specs.declared.outcome.Verdict.{Verdict}
 use Rattle.explained_tasks.specs.declared.outcome.Verdict.TheVariants.{Nobody, Circle, Chain}
 use Rattle.task_sayings.specs.declared.situation.Situation.{Situation}
 use Rattle.task_sayings.specs.declared.situation.Situation.TheVariants.{Deadlocked, Held, HasEnded, NotForkedYet, NeverForked}
-use Rattle.task_sayings.specs.Facts.{FactsValue, fork_of, is_deadlocked, is_waiting, situation_of, tasks_that}
+use Rattle.task_sayings.specs.Facts.{FactsValue, forking_of, is_deadlocked, is_waiting, situation_of, tasks_that}
 use Rattle.task_sayings.specs.Groups.{each_once}
-use Rattle.explained_tasks.specs.ImpederLines.{is_task, told_of}
-use Rattle.task_sayings.specs.Impeders.{impeders_of}
-use Rattle.explained_tasks.specs.Laws.{DeadlockIsReported, DeadlockStandsFirst, IsDeadAndWaitsFor, ShownAreDead, ShowsCircle}
+use Rattle.explained_tasks.specs.ImpederLines.{is_this_impeder, told_of}
+use Rattle.task_sayings.specs.Impeders.{impeders_by_facts}
+use Rattle.explained_tasks.specs.Laws.{DeadlockIsReported}
+use Rattle.explained_tasks.specs.calls.Laws.{DeadlockStandsFirst, IsDeadAndWaitsFor, ShownAreDead, ShowsCircle}
 use Rattle.task_sayings.specs.Nexts.{IsNext, first_or, next_by, next_of}
 use Rattle.explained_tasks.specs.RunEnds.{AreFactsAt}
 use Rattle.task_sayings.specs.Sayings.{Said, impeder_said, impeder_words, same_said}
-use Rattle.explained_tasks.specs.Verdicts.{IsVerdictFrom, IsWalkTo, start_of}
+use Rattle.explained_tasks.specs.Verdicts.{IsVerdictFrom, IsWalkTo, walk_start}
 use Rattle.explained_tasks.proofs.DeadNexts.{dead_waits, deadlocked_dead, next_dead, next_found, next_is_step}
 use Rattle.task_sayings.proofs.Filters.{passed_from, passed_is}
 use Rattle.explained_tasks.proofs.FitsEnds.{all_stand, dead_is, next_of_dead}
@@ -56,14 +57,14 @@ module _ (plan : Plan) (a : ℕ → Place) (f : FactsValue) (at : AreFactsAt pla
   -- a dead task has a next
   has_next : (t : TaskId) → IsDeadTask t → next_of f s.phases t.0 ≡ None → ⊥
   has_next t dead none =
-      let some = subst (λ (x : Situation). IsSome (next_by f (impeders_of f s.phases t.0) (fork_of f t.0) x)) (sym (dead_is plan a f at t.0 dead).3) (next_of_dead plan a f at t.0 dead) in
+      let some = subst (λ (x : Situation). IsSome (next_by f (impeders_by_facts f s.phases t.0) (forking_of f t.0) x)) (sym (dead_is plan a f at t.0 dead).3) (next_of_dead plan a f at t.0 dead) in
       false≢true (subst IsSome none some)
 
   keeps : (t u : TaskId) → IsDeadTask t → IsNext f s.phases t u → IsDeadTask u
   keeps t u dead step = next_dead plan a f at t u dead step
 
   -- the walk begins with the least dead task
-  starts_dead : IsSomeDead blocked → (start : TaskId) × (start_of f ≡ Some start) × IsLeastDead blocked start
+  starts_dead : IsSomeDead blocked → (start : TaskId) × (walk_start f ≡ Some start) × IsLeastDead blocked start
   starts_dead (t, dead) =
       let within : (u : ℕ) → IsDeadBy blocked u → u < length f.standings = λ u d. (let lt = (dead_is plan a f at u d).0 in let e = all_stand plan a f at in omega arith) in
       let passes : (u : ℕ) → IsDeadBy blocked u → is_deadlocked (situation_of f u) ≡ true = λ u d. ap is_deadlocked (dead_is plan a f at u d).3 in
@@ -91,13 +92,13 @@ module _ (plan : Plan) (a : ℕ → Place) (f : FactsValue) (at : AreFactsAt pla
     shown_circle (Circle c) is = (c, refl, is)
     shown_circle (Chain held last) is = absurd (no_end held last is)
 
-  pub reported : (v : Verdict) → IsVerdictFrom f s.phases (start_of f) v → IsSomeDead blocked → (cycle : List TaskId) × (v ≡ Circle cycle) × IsReportedCycle blocked cycle
+  pub reported : (v : Verdict) → IsVerdictFrom f s.phases (walk_start f) v → IsSomeDead blocked → (cycle : List TaskId) × (v ≡ Circle cycle) × IsReportedCycle blocked cycle
   reported v is some =
       let (start, starts, least) = starts_dead some in
       let (c, same, walk) = shown_circle start least.dead v (subst (λ o. IsVerdictFrom f s.phases o v) starts is) in
       (c, same, (start, least, cycle_maps (IsNext f s.phases) IsDeadTask keeps start least.dead (IsDeadStep blocked) (next_is_step plan a f at) c walk))
 
-  pub shown_dead : (shown : List TaskId) → IsVerdictFrom f s.phases (start_of f) (Circle shown) → IsSomeDead blocked → ShowsCircle (IsDeadAndWaitsFor s) shown
+  pub shown_dead : (shown : List TaskId) → IsVerdictFrom f s.phases (walk_start f) (Circle shown) → IsSomeDead blocked → ShowsCircle (IsDeadAndWaitsFor s) shown
   shown_dead shown is some =
       let (start, starts, least) = starts_dead some in
       let walk : IsWalkCycle (IsNext f s.phases) start shown = subst (λ o. IsVerdictFrom f s.phases o (Circle shown)) starts is in
@@ -118,11 +119,11 @@ module _ (plan : Plan) (a : ℕ → Place) (f : FactsValue) (at : AreFactsAt pla
   deadlocked_words t u NeverForked same = absurd (let e : 100 ≡ 110 = ap first_byte same in omega arith)
 
   abbrev imps : ℕ → List Impeder
-  imps t = impeders_of f s.phases t
+  imps t = impeders_by_facts f s.phases t
 
   -- what is said first is said of the first of these
-  first_told : (next : Option TaskId) (is : List Impeder) (j : Impeder) → slice_get (filter (is_task next) is) 0 ≡ Some j → slice_get (told_of f next is) 0 ≡ Some (impeder_said f j)
-  first_told next is j first = by (filter (is_task next) is) first
+  first_told : (next : Option TaskId) (is : List Impeder) (j : Impeder) → slice_get (filter (is_this_impeder next) is) 0 ≡ Some j → slice_get (told_of f next is) 0 ≡ Some (impeder_said f j)
+  first_told next is j first = by (filter (is_this_impeder next) is) first
     where
       by : (xs : List Impeder) → slice_get xs 0 ≡ Some j → slice_get (each_once same_said (map (impeder_said f) (xs ++ is))) 0 ≡ Some (impeder_said f j)
       by [] e = absurd (cc)
@@ -144,8 +145,8 @@ module _ (plan : Plan) (a : ℕ → Place) (f : FactsValue) (at : AreFactsAt pla
           let (i, found, same) = next_found plan a f at (record { 0 = t }) u dead next in
           let there = find_contains (λ (k : Impeder). is_deadlocked (situation_of f k.t.0)) (imps t) i found in
           let number : i.t.0 ≡ u.0 = ap (λ (v : TaskId). v.0) same in
-          let (j, first) = some_first (filter (is_task (Some u)) (imps t)) i (passed_from (is_task (Some u)) (imps t) i there (eq-eqb i.t.0 u.0 number)) in
-          let own = (passed_is (is_task (Some u)) (imps t) j (first_contains (filter (is_task (Some u)) (imps t)) j first)).1 in
+          let (j, first) = some_first (filter (is_this_impeder (Some u)) (imps t)) i (passed_from (is_this_impeder (Some u)) (imps t) i there (eq-eqb i.t.0 u.0 number)) in
+          let own = (passed_is (is_this_impeder (Some u)) (imps t) j (first_contains (filter (is_this_impeder (Some u)) (imps t)) j first)).1 in
           let is_u : j.t.0 ≡ u.0 = eqb-true j.t.0 u.0 own in
           let also : situation_of f j.t.0 ≡ Deadlocked =
           subst (λ k. situation_of f k ≡ Deadlocked) (sym is_u) (dead_is plan a f at u.0 (next_dead plan a f at (record { 0 = t }) u dead next)).3 in (

@@ -12,9 +12,10 @@ use Rattle.accounts.specs.declared.account.Waiting.{Waiting}
 use Rattle.dep_state.proofs.DeadSets.{same_task}
 use Rattle.task_sayings.specs.declared.impeders.Impeder.{Impeder}
 use Rattle.task_sayings.specs.Facts.{FactsValue, wait_of}
-use Rattle.explained_tasks.specs.ImpederLines.{group_of, is_task, rest_of, told_of}
-use Rattle.task_sayings.specs.Impeders.{impeders_by, impeders_in, impeders_of}
-use Rattle.explained_tasks.specs.Laws.{EachImpederIsTold, IsImpededBy, NothingIsSaidTwice, named_impeders, told_in_lines}
+use Rattle.explained_tasks.specs.ImpederLines.{group_of, is_this_impeder, rest_of, told_of}
+use Rattle.task_sayings.specs.Impeders.{impeders_by, impeders_in, impeders_by_facts}
+use Rattle.explained_tasks.specs.Laws.{EachImpederIsTold, IsImpededBy, named_impeders, told_in_lines}
+use Rattle.explained_tasks.specs.calls.Laws.{NothingIsSaidTwice}
 use Rattle.task_sayings.specs.Nexts.{next_of}
 use Rattle.explained_tasks.specs.Paragraphs.{explained_tasks, shown_waiting}
 use Rattle.task_sayings.specs.Sayings.{Said, impeder_said, own_said, same_said}
@@ -255,10 +256,10 @@ module _ (n : ℕ) (phases : ℕ → Phases) where
 pub each_impeder_told : EachImpederIsTold
 each_impeder_told f phases t =
     let n = length f.standings in
-    let is = impeders_of f phases t in
+    let is = impeders_by_facts f phases t in
     let ascend = ascend_by n phases (wait_of f t) in
     let told = told_in_lines f phases t in
-    let once = are_once same_said same_said_is same_said_itself (map (impeder_said f) (filter (is_task (next_of f phases t)) is ++ is)) in (
+    let once = are_once same_said same_said_is same_said_itself (map (impeder_said f) (filter (is_this_impeder (next_of f phases t)) is ++ is)) in (
       all_distinct f is ascend told (distinct_take 3 (told_of f (next_of f phases t) is) (once_distinct (told_of f (next_of f phases t) is) once)),
       λ u. (
         λ m.

@@ -5,13 +5,13 @@ use Rattle.armus_base.specs.Finals.{final_of}
 use Rattle.armus_base.specs.Places.{state_at}
 use Rattle.armus_base.specs.Runs.{places}
 use Rattle.accounts.proofs.AccountExists.{account_exists}
-use Rattle.accounts.proofs.TextsAreNear.{text_is_checked}
+use Rattle.pl_plan.proofs.TextsAreNear.{text_is_checked}
 use Rattle.report.specs.Counts.{counts_of}
 use Rattle.report.specs.Lines.{counts_line}
 use Rattle.report.proofs.ReportExists.{report_exists}
 use Rattle.explained_tasks.specs.Explanations.{explained_by}
 use Rattle.task_sayings.specs.Facts.{facts_of}
-use Rattle.explained_tasks.specs.Laws.{ExplanationExists}
+use Rattle.explained_tasks.specs.calls.Laws.{ExplanationExists}
 use Rattle.explained_tasks.specs.RunEnds.{AreFactsAt, IsAccountOf}
 use Rattle.explained_tasks.specs.Verdicts.{somebody_waits}
 use Rattle.explained_tasks.proofs.FitsEnds.{fits_plan, waits_for_some}

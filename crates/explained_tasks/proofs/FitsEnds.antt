@@ -9,7 +9,7 @@ use Rattle.armus_base.specs.declared.event.Event.{Event}
 use Rattle.armus_base.specs.declared.ids.TaskId.{TaskId}
 use Rattle.armus_base.specs.CheckedPlans.{IsCheckedPlan}
 use Rattle.armus_base.specs.Deadlocks.{IsDeadBy, IsDeadIn}
-use Rattle.armus_base.specs.FinalLaws.{IsOfPlan}
+use Rattle.armus_base.specs.calls.FinalLaws.{IsOfPlan}
 use Rattle.armus_base.specs.Finals.{end_by, end_of, final_of, list_below}
 use Rattle.armus_base.specs.Places.{state_at}
 use Rattle.armus_base.specs.Plans.{Plan}
@@ -22,21 +22,22 @@ use Rattle.armus_base.proofs.Reachable.{reachable_is_fixed}
 use Rattle.report.specs.Standings.{Stands}
 use Rattle.report.specs.declared.standing.Standing.{Standing}
 use Rattle.report.specs.declared.standing.Standing.TheVariants.{Done, Unforked}
-use Rattle.accounts.specs.Accounts.{IsWait}
+use Rattle.accounts.specs.Accounts.{HasWait}
 use Rattle.accounts.specs.declared.account.Forked.{Forked}
 use Rattle.accounts.specs.declared.account.TaskAccount.{TaskAccount}
 use Rattle.accounts.specs.declared.account.Waiting.{Waiting}
 use Rattle.accounts.proofs.Awaiting.{event_of_plan, published_of}
-use Rattle.accounts.proofs.TextsAreNear.{text_is_checked}
+use Rattle.pl_plan.proofs.TextsAreNear.{text_is_checked}
 use Rattle.accounts.proofs.Told.{list_at}
 use Rattle.task_sayings.specs.declared.impeders.Impeder.{Impeder}
 use Rattle.task_sayings.specs.declared.situation.Situation.{Situation}
 use Rattle.task_sayings.specs.declared.situation.Situation.TheVariants.{Deadlocked, Held}
-use Rattle.task_sayings.specs.Facts.{FactsValue, fork_of, is_deadlocked, is_held, is_waiting, situation_by, situation_of, wait_of}
-use Rattle.task_sayings.specs.Impeders.{impeders_by, impeders_in, impeders_of}
+use Rattle.task_sayings.specs.Facts.{FactsValue, forking_of, is_deadlocked, stands_held, is_waiting, situation_by, situation_of, wait_of}
+use Rattle.task_sayings.specs.Impeders.{impeders_by, impeders_in, impeders_by_facts}
 use Rattle.task_sayings.specs.Nexts.{first_or, least_that, next_by}
-use Rattle.explained_tasks.specs.RunEnds.{AreFactsAt, IsAccountOf, WaitersStay}
-use Rattle.task_sayings.specs.Fitting.{FitsPlan}
+use Rattle.explained_tasks.specs.RunEnds.{AreFactsAt, IsAccountOf}
+use Rattle.explained_tasks.specs.calls.RunEnds.{WaitersStay}
+use Rattle.task_sayings.specs.calls.Fitting.{FactsFitPlan}
 use Rattle.explained_tasks.specs.inside.Fitting.{WaitForSome}
 use Rattle.explained_tasks.proofs.AccountTold.{blocked_tells, forker_before, part_of, part_there, wait_tells}
 use Rattle.explained_tasks.proofs.ImpedersAre.{impeder, impeder_there, some_found}
@@ -113,8 +114,8 @@ module _ (plan : Plan) (a : ℕ → Place) (f : FactsValue) (at : AreFactsAt pla
   pub wait_told : (t : ℕ) (e : Event) → t < n → end_of s t ≡ Blocked e → (w : Waiting) × (wait_of f t ≡ Some w) × (w.event ≡ e)
   wait_told t e lt ended =
       let d : TaskAccount = record { drawn = None; fork = None; ended = None; wait = None } in
-      let known : IsWait has.known.layout has.program plan a t (Blocked e) (slice_index_or f.account.tasks t d).wait =
-      subst (λ (end : TaskEnd). IsWait has.known.layout has.program plan a t end (slice_index_or f.account.tasks t d).wait) ended (has.known.each t d lt).wait in
+      let known : HasWait has.known.layout has.program plan a t (Blocked e) (slice_index_or f.account.tasks t d).wait =
+      subst (λ (end : TaskEnd). HasWait has.known.layout has.program plan a t end (slice_index_or f.account.tasks t d).wait) ended (has.known.each t d lt).wait in
       let (w, there, event) = blocked_tells has.known.layout has.program plan a t e (slice_index_or f.account.tasks t d).wait known in
       (w, part_of (λ (x : TaskAccount). x.wait) f.account.tasks t d (omega (arith, lt, has.known.all_told)) ∙ there, event)
 
@@ -127,7 +128,7 @@ module _ (plan : Plan) (a : ℕ → Place) (f : FactsValue) (at : AreFactsAt pla
   -- a task that is blocked is deadlocked or held
   pub blocked_waits : (t : ℕ) (e : Event) → t < n → end_of s t ≡ Blocked e → WaitsSo (IsDeadHere t) (situation_of f t)
   blocked_waits t e lt ended =
-      blocked_stands (IsDeadHere t) e (slice_index_or f.standings t Done) (fork_of f t)
+      blocked_stands (IsDeadHere t) e (slice_index_or f.standings t Done) (forking_of f t)
       (subst (λ (end : TaskEnd). Stands (IsDeadHere t) end (slice_index_or f.standings t Done)) ended (stands_here t lt))
 
   -- and a task that waits is blocked
@@ -135,10 +136,10 @@ module _ (plan : Plan) (a : ℕ → Place) (f : FactsValue) (at : AreFactsAt pla
   waiting_is t waits =
       elim (cases_lt t n) [
         | inl lt ↦
-            let (e, ended) = waiter_blocked (IsDeadHere t) (end_of s t) (slice_index_or f.standings t Done) (fork_of f t) (stands_here t lt) waits in
+            let (e, ended) = waiter_blocked (IsDeadHere t) (end_of s t) (slice_index_or f.standings t Done) (forking_of f t) (stands_here t lt) waits in
             (lt, e, ended, blocked_waits t e lt ended)
         | inr past ↦
-            absurd (let none = ap (λ x. is_waiting (situation_by x (fork_of f t))) (get_or_past f.standings t Done (omega (arith, past, all_stand))) in cc)
+            absurd (let none = ap (λ x. is_waiting (situation_by x (forking_of f t))) (get_or_past f.standings t Done (omega (arith, past, all_stand))) in cc)
       ]
 
   -- ---- the dead
@@ -157,20 +158,20 @@ module _ (plan : Plan) (a : ℕ → Place) (f : FactsValue) (at : AreFactsAt pla
 
   -- ---- nexts
 
-  pub impeders_here : (t : ℕ) (e : Event) → t < n → end_of s t ≡ Blocked e → impeders_of f s.phases t ≡ impeders_in (length f.standings) s.phases e
+  pub impeders_here : (t : ℕ) (e : Event) → t < n → end_of s t ≡ Blocked e → impeders_by_facts f s.phases t ≡ impeders_in (length f.standings) s.phases e
   impeders_here t e lt ended =
       let (w, there, event) = wait_told t e lt ended in
       ap (impeders_by (length f.standings) s.phases) there ∙ ap (impeders_in (length f.standings) s.phases) event
 
   -- who impedes the event of a task that is blocked is one of its impeders
   pub impeder_here : (t : ℕ) (e : Event) → t < n → end_of s t ≡ Blocked e → (u m : ℕ) → s.phases u e.p.0 ≡ Some m → m < e.n →
-      Contains (impeders_of f s.phases t) (impeder u m)
+      Contains (impeders_by_facts f s.phases t) (impeder u m)
   impeder_here t e lt ended u m is below =
       subst (λ xs. Contains xs (impeder u m)) (sym (impeders_here t e lt ended))
       (impeder_there (length f.standings) s.phases e u m (let l = of_plan_here.member u e.p.0 m is in omega (arith, l, all_stand)) is below)
 
   -- a dead task has a deadlocked impeder
-  dead_impeder : (t : ℕ) → IsDeadHere t → (i : Impeder) × Contains (impeders_of f s.phases t) i × (is_deadlocked (situation_of f i.t.0) ≡ true)
+  dead_impeder : (t : ℕ) → IsDeadHere t → (i : Impeder) × Contains (impeders_by_facts f s.phases t) i × (is_deadlocked (situation_of f i.t.0) ≡ true)
   dead_impeder t dead =
       let d = dead_in_state t dead in
       let within = d.deadlocked.each t d.inside in
@@ -182,14 +183,14 @@ module _ (plan : Plan) (a : ℕ → Place) (f : FactsValue) (at : AreFactsAt pla
         ap is_deadlocked by.3,
       )
 
-  pub next_of_dead : (t : ℕ) → IsDeadHere t → IsSome (least_that is_deadlocked f (impeders_of f s.phases t))
+  pub next_of_dead : (t : ℕ) → IsDeadHere t → IsSome (least_that is_deadlocked f (impeders_by_facts f s.phases t))
   next_of_dead t dead =
       let (i, there, passes) = dead_impeder t dead in
-      let (j, found) = some_found (λ (k : Impeder). is_deadlocked (situation_of f k.t.0)) (impeders_of f s.phases t) i there passes in
+      let (j, found) = some_found (λ (k : Impeder). is_deadlocked (situation_of f k.t.0)) (impeders_by_facts f s.phases t) i there passes in
       subst IsSome (sym (ap (option_map (λ (k : Impeder). k.t)) found)) refl
 
   -- a task whose event is not reached has an impeder
-  first_impeder : WaitersStay plan a → (t : ℕ) (e : Event) → t < n → end_of s t ≡ Blocked e → (imps : List Impeder) → impeders_of f s.phases t ≡ imps →
+  first_impeder : WaitersStay plan a → (t : ℕ) (e : Event) → t < n → end_of s t ≡ Blocked e → (imps : List Impeder) → impeders_by_facts f s.phases t ≡ imps →
       IsSome (option_map (λ (i : Impeder). i.t) (slice_get imps 0))
   first_impeder rest t e lt ended [] none =
       absurd (rest t e (published_is t e ended)
@@ -203,16 +204,16 @@ module _ (plan : Plan) (a : ℕ → Place) (f : FactsValue) (at : AreFactsAt pla
   pub waits_for_some : WaitersStay plan a → WaitForSome f s.phases
   waits_for_some rest t waits =
       let (lt, e, ended, so) = waiting_is t waits in
-      let imps = impeders_of f s.phases t in
+      let imps = impeders_by_facts f s.phases t in
       elim so [
-        | inl (dead, is) ↦ subst (λ (x : Situation). IsSome (next_by f imps (fork_of f t) x)) (sym is) (next_of_dead t dead)
+        | inl (dead, is) ↦ subst (λ (x : Situation). IsSome (next_by f imps (forking_of f t) x)) (sym is) (next_of_dead t dead)
         | inr (alive, is) ↦
-            subst (λ (x : Situation). IsSome (next_by f imps (fork_of f t) x)) (sym is)
-            (second_some (least_that is_held f imps) (option_map (λ (i : Impeder). i.t) (slice_get imps 0)) (first_impeder rest t e lt ended imps refl))
+            subst (λ (x : Situation). IsSome (next_by f imps (forking_of f t) x)) (sym is)
+            (second_some (least_that stands_held f imps) (option_map (λ (i : Impeder). i.t) (slice_get imps 0)) (first_impeder rest t e lt ended imps refl))
       ]
 
   -- what is known fits the plan
-  pub fits_plan : FitsPlan f plan
+  pub fits_plan : FactsFitPlan f plan
   fits_plan = record {
     sized = all_stand;
     waits = λ t w is. event_of_plan plan a checked_here reach t w.event (wait_is t w is).1;

@@ -12,7 +12,7 @@ use Rattle.armus_base.specs.declared.event.Event.{Event}
 use Rattle.armus_base.specs.declared.ids.TaskId.{TaskId}
 use Rattle.armus_base.specs.CheckedPlans.{HasFork}
 use Rattle.armus_base.specs.Deadlocks.{IsAtPhase, IsDeadBy, IsDeadIn, IsImpededWithin, IsPublishedOn}
-use Rattle.armus_base.specs.FinalLaws.{Tells}
+use Rattle.armus_base.specs.calls.FinalLaws.{Tells}
 use Rattle.armus_base.specs.Finals.{end_of, final_of}
 use Rattle.armus_base.specs.Places.{forked_at, forks, refused_at, some_before, state_at}
 use Rattle.armus_base.specs.Plans.{Action, Forks, Plan, action_at, actions, parent_of}
@@ -29,16 +29,16 @@ use Rattle.report.specs.declared.standing.Standing.TheVariants.{Done, Dead, Held
 use Rattle.accounts.specs.declared.account.Forked.{Forked}
 use Rattle.accounts.specs.declared.account.TaskAccount.{TaskAccount}
 use Rattle.accounts.proofs.Forkers.{forkers_fork}
-use Rattle.task_sayings.specs.Facts.{FactsValue, fork_of, is_deadlocked, is_unforked, is_waiting, situation_by, situation_of}
-use Rattle.task_sayings.specs.Impeders.{impeders_of}
+use Rattle.task_sayings.specs.Facts.{FactsValue, forking_of, is_deadlocked, stands_unforked, is_waiting, situation_by, situation_of}
+use Rattle.task_sayings.specs.Impeders.{impeders_by_facts}
 use Rattle.task_sayings.specs.Nexts.{IsNext, next_by, next_of}
 use Rattle.task_sayings.specs.declared.impeders.Impeder.{Impeder}
 use Rattle.task_sayings.specs.declared.situation.Situation.{Situation}
 use Rattle.task_sayings.specs.declared.situation.Situation.TheVariants.{Deadlocked, Held, HasEnded, NotForkedYet, NeverForked}
 use Rattle.explained_tasks.specs.declared.outcome.Verdict.TheVariants.{Chain}
-use Rattle.explained_tasks.specs.Laws.{ChainsEnd, ForkersAreToCome, HeldAreNotImpededByDead, IsToCome}
+use Rattle.explained_tasks.specs.calls.Laws.{ChainsEnd, ForkersAreToCome, HeldAreNotImpededByDead, IsToCome}
 use Rattle.explained_tasks.specs.RunEnds.{AreFactsAt}
-use Rattle.explained_tasks.specs.Verdicts.{IsVerdictFrom, start_of}
+use Rattle.explained_tasks.specs.Verdicts.{IsVerdictFrom, walk_start}
 use Rattle.explained_tasks.proofs.AccountTold.{forker_before, part_of}
 use Rattle.explained_tasks.proofs.DeadNexts.{deadlocked_dead, impedes, next_dead}
 use Rattle.explained_tasks.proofs.FitsEnds.{all_stand, checked_here, dead_in_state, dead_is, of_plan_here, published_is, stands_here, waiting_is, waits_for_some}
@@ -46,11 +46,11 @@ use Rattle.explained_tasks.proofs.RestsAtEnd.{rests_at_end}
 
 -- ---- how a task has ended that stands so
 
-unforked_ended : (P : Type 0) (end : TaskEnd) (s : Standing) (fork : Option Forked) → Stands P end s → is_unforked (situation_by s fork) ≡ true → end ≡ EndsUnforked
-unforked_ended P EndsDone s fork is e = absurd (let none = ap (λ x. is_unforked (situation_by x fork)) is in cc)
-unforked_ended P (Blocked v) s fork (inl (dead, is)) e = absurd (let none = ap (λ x. is_unforked (situation_by x fork)) is in cc)
-unforked_ended P (Blocked v) s fork (inr (alive, is)) e = absurd (let none = ap (λ x. is_unforked (situation_by x fork)) is in cc)
-unforked_ended P (EndsRefused v) s fork is e = absurd (let none = ap (λ x. is_unforked (situation_by x fork)) is in cc)
+unforked_ended : (P : Type 0) (end : TaskEnd) (s : Standing) (fork : Option Forked) → Stands P end s → stands_unforked (situation_by s fork) ≡ true → end ≡ EndsUnforked
+unforked_ended P EndsDone s fork is e = absurd (let none = ap (λ x. stands_unforked (situation_by x fork)) is in cc)
+unforked_ended P (Blocked v) s fork (inl (dead, is)) e = absurd (let none = ap (λ x. stands_unforked (situation_by x fork)) is in cc)
+unforked_ended P (Blocked v) s fork (inr (alive, is)) e = absurd (let none = ap (λ x. stands_unforked (situation_by x fork)) is in cc)
+unforked_ended P (EndsRefused v) s fork is e = absurd (let none = ap (λ x. stands_unforked (situation_by x fork)) is in cc)
 unforked_ended P EndsUnforked s fork is e = refl
 
 -- it has come to the end of its code, or was refused
@@ -136,14 +136,14 @@ module _ (plan : Plan) (steps : List Step) (run : IsPlainRun plan steps) (maxima
       elim (cases_lt t n) [
         | inl lt ↦ lt
         | inr past ↦
-            absurd (other (sym is ∙ ap (λ y. situation_by y (fork_of f t)) (get_or_past f.standings t Done (let e = all_stand plan a f at in omega arith))))
+            absurd (other (sym is ∙ ap (λ y. situation_by y (forking_of f t)) (get_or_past f.standings t Done (let e = all_stand plan a f at in omega arith))))
       ]
 
   -- the fork of a task that is told
-  fork_is : (t : ℕ) → t < n → (d : TaskAccount) → fork_of f t ≡ (slice_index_or f.account.tasks t d).fork
+  fork_is : (t : ℕ) → t < n → (d : TaskAccount) → forking_of f t ≡ (slice_index_or f.account.tasks t d).fork
   fork_is t lt d = part_of (λ (y : TaskAccount). y.fork) f.account.tasks t d (let e = at.account.known.all_told in omega arith)
 
-  fork_told : (t : ℕ) (o : Option Forked) → 0 < t → t < n → fork_of f t ≡ o → MatchOption o (HasFork plan t → ⊥) (λ x. HasFork plan t × (x.by.0 ≡ parent_of plan t))
+  fork_told : (t : ℕ) (o : Option Forked) → 0 < t → t < n → forking_of f t ≡ o → MatchOption o (HasFork plan t → ⊥) (λ x. HasFork plan t × (x.by.0 ≡ parent_of plan t))
   fork_told t o pos lt is =
       let d : TaskAccount = record { drawn = None; fork = None; ended = None; wait = None } in
       subst (λ (p : Option Forked). MatchOption p (HasFork plan t → ⊥) (λ x. HasFork plan t × (x.by.0 ≡ parent_of plan t))) (sym (fork_is t lt d) ∙ is)
@@ -156,12 +156,12 @@ module _ (plan : Plan) (steps : List Step) (run : IsPlainRun plan steps) (maxima
 
     unforked : s.forked t ≡ false
     unforked =
-        let ended = unforked_ended (IsDeadBy (final_of plan s).blocked t) (end_of s t) (slice_index_or f.standings t Done) (fork_of f t) (stands_here plan a f at t below)
-        (ap is_unforked yet') in
+        let ended = unforked_ended (IsDeadBy (final_of plan s).blocked t) (end_of s t) (slice_index_or f.standings t Done) (forking_of f t) (stands_here plan a f at t below)
+        (ap stands_unforked yet') in
         ap (λ (x : State). x.forked t) (sym same) ∙ told t EndsUnforked ended
 
-    some_fork : (x : Forked) × (fork_of f t ≡ Some x)
-    some_fork = yet_has_fork (slice_index_or f.standings t Done) (fork_of f t) yet'
+    some_fork : (x : Forked) × (forking_of f t ≡ Some x)
+    some_fork = yet_has_fork (slice_index_or f.standings t Done) (forking_of f t) yet'
 
     forker : ℕ
     forker = some_fork.0.by.0
@@ -181,7 +181,7 @@ module _ (plan : Plan) (steps : List Step) (run : IsPlainRun plan steps) (maxima
     not_done : situation_of f forker ≡ HasEnded → ⊥
     not_done is =
         let ((j, there), parent) = has_fork in
-        elim (has_ended (IsDeadBy (final_of plan s).blocked forker) (end_of s forker) (slice_index_or f.standings forker Done) (fork_of f forker)
+        elim (has_ended (IsDeadBy (final_of plan s).blocked forker) (end_of s forker) (slice_index_or f.standings forker Done) (forking_of f forker)
         (stands_here plan a f at forker (let lt = earlier in let l = below in omega arith)) is) [
           | inl done ↦
               let none : action_at plan (parent_of plan t) (a (parent_of plan t)).done ≡ None =
@@ -199,20 +199,20 @@ module _ (plan : Plan) (steps : List Step) (run : IsPlainRun plan steps) (maxima
         let action : action_at plan forker j ≡ Some (Forks t) = subst (λ (u : ℕ). action_at plan u j ≡ Some (Forks t)) (sym parent) there in
         elim (cases_eq forker 0) [
           | inl zero' ↦
-              let ended = unforked_ended (IsDeadBy (final_of plan s).blocked forker) (end_of s forker) (slice_index_or f.standings forker Done) (fork_of f forker)
-              (stands_here plan a f at forker lt) (ap is_unforked is) in
+              let ended = unforked_ended (IsDeadBy (final_of plan s).blocked forker) (end_of s forker) (slice_index_or f.standings forker Done) (forking_of f forker)
+              (stands_here plan a f at forker lt) (ap stands_unforked is) in
               let out : s.forked forker ≡ false = ap (λ (x : State). x.forked forker) (sym same) ∙ told forker EndsUnforked ended in
               false≢true (sym out ∙ (ap s.forked zero' ∙ first_forked plan a))
           | inr some ↦
               let pos : 0 < forker = omega arith in
-              fork_told forker None pos lt (never_has_none (slice_index_or f.standings forker Done) (fork_of f forker) is)
+              fork_told forker None pos lt (never_has_none (slice_index_or f.standings forker Done) (forking_of f forker) is)
               ((checked_here plan a f at).codes.works forker j (Forks t) pos action)
         ]
 
   pub to_come : (t u : TaskId) → situation_of f t.0 ≡ NotForkedYet → IsNext f s.phases t u → IsToCome (situation_of f u.0)
   unfolding forker
   to_come t u yet' step =
-      let next : option_map (λ (x : Forked). x.by) (fork_of f t.0) ≡ Some u = subst (λ (x : Situation). next_by f (impeders_of f s.phases t.0) (fork_of f t.0) x ≡ Some u) yet' step in
+      let next : option_map (λ (x : Forked). x.by) (forking_of f t.0) ≡ Some u = subst (λ (x : Situation). next_by f (impeders_by_facts f s.phases t.0) (forking_of f t.0) x ≡ Some u) yet' step in
       let by : Some (some_fork t.0 yet').0.by ≡ Some u = ap (option_map (λ (x : Forked). x.by)) (sym (some_fork t.0 yet').1) ∙ next in
       let is : (some_fork t.0 yet').0.by ≡ u = cc in
       subst (λ (v : TaskId). IsToCome (situation_of f v.0)) is (record { not_ended = not_done t.0 yet'; not_never = not_never t.0 yet' })
@@ -231,7 +231,7 @@ module _ (plan : Plan) (steps : List Step) (run : IsPlainRun plan steps) (maxima
   no_next t Held is none = absurd (none_some (next_of f s.phases t) none (waits t Held is refl))
   no_next t HasEnded is none = inl refl
   no_next t NotForkedYet is none =
-      absurd (let next : option_map (λ (x : Forked). x.by) (fork_of f t) ≡ None = subst (λ (x : Situation). next_by f (impeders_of f s.phases t) (fork_of f t) x ≡ None) is none in
+      absurd (let next : option_map (λ (x : Forked). x.by) (forking_of f t) ≡ None = subst (λ (x : Situation). next_by f (impeders_by_facts f s.phases t) (forking_of f t) x ≡ None) is none in
       let also = ap (option_map (λ (x : Forked). x.by)) (some_fork t is).1 in cc)
   no_next t NeverForked is none = inr refl
 
@@ -242,10 +242,10 @@ module _ (plan : Plan) (steps : List Step) (run : IsPlainRun plan steps) (maxima
       let also = (dead_is plan a f at u.0 dead).3 in
       elim end [ inl e ↦ absurd (cc) | inr e ↦ absurd (cc) ]
   before_end t u Held is step end = refl
-  before_end t u HasEnded is step end = absurd (let none = subst (λ (x : Situation). next_by f (impeders_of f s.phases t.0) (fork_of f t.0) x ≡ Some u) is step in cc)
+  before_end t u HasEnded is step end = absurd (let none = subst (λ (x : Situation). next_by f (impeders_by_facts f s.phases t.0) (forking_of f t.0) x ≡ Some u) is step in cc)
   before_end t u NotForkedYet is step end =
       let come = to_come t u is step in elim end [ inl e ↦ absurd (come.not_ended e) | inr e ↦ absurd (come.not_never e) ]
-  before_end t u NeverForked is step end = absurd (let none = subst (λ (x : Situation). next_by f (impeders_of f s.phases t.0) (fork_of f t.0) x ≡ Some u) is step in cc)
+  before_end t u NeverForked is step end = absurd (let none = subst (λ (x : Situation). next_by f (impeders_by_facts f s.phases t.0) (forking_of f t.0) x ≡ Some u) is step in cc)
 
   pub chain_ends : (start : Option TaskId) (held last : TaskId) → IsVerdictFrom f s.phases start (Chain held last) →
       (situation_of f held.0 ≡ Held) × ((situation_of f last.0 ≡ HasEnded) ⊎ (situation_of f last.0 ≡ NeverForked))
@@ -263,7 +263,7 @@ module _ (plan : Plan) (steps : List Step) (run : IsPlainRun plan steps) (maxima
 
 -- ---- the impeders of a held task
 
-module _ (plan : Plan) (a : ℕ → Place) (f : FactsValue) (at : AreFactsAt plan a f) (t : ℕ) (held : situation_of f t ≡ Held) (i : Impeder) (there : Contains (impeders_of f (state_at plan a).phases t) i)
+module _ (plan : Plan) (a : ℕ → Place) (f : FactsValue) (at : AreFactsAt plan a f) (t : ℕ) (held : situation_of f t ≡ Held) (i : Impeder) (there : Contains (impeders_by_facts f (state_at plan a).phases t) i)
     (deadlocked : situation_of f i.t.0 ≡ Deadlocked) where
   abbrev here : State
   here = state_at plan a
@@ -335,4 +335,4 @@ pub forkers_to_come : ForkersAreToCome
 forkers_to_come plan steps f t u run maximal at yet' step = to_come plan steps run maximal f at t u yet' step
 
 pub chains_end : ChainsEnd
-chains_end plan steps f held last run maximal at is = chain_ends plan steps run maximal f at (start_of f) held last is
+chains_end plan steps f held last run maximal at is = chain_ends plan steps run maximal f at (walk_start f) held last is

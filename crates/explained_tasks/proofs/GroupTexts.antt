@@ -4,7 +4,7 @@ use Rattle.std.specs.Prelude.{map}
 use Rattle.armus_base.specs.declared.ids.TaskId.{TaskId}
 use Rattle.task_sayings.specs.Sayings.{Said}
 use Rattle.explained_tasks.specs.inside.GroupTexts.{texts_in}
-use Rattle.task_sayings.specs.SayingValues.{said_by}
+use Rattle.task_sayings.specs.calls.SayingValues.{said_by}
 use Rattle.task_sayings.specs.declared.saying.Saying.{Saying}
 
 module _ (text : Said → List TaskId → List ℕ) where

@@ -14,10 +14,10 @@ use Rattle.task_sayings.specs.Groups.{each_once}
 use Rattle.explained_tasks.specs.ImpederLines.{group_line, group_of, lines_by, rest_line, rest_of, told_of}
 use Rattle.explained_tasks.specs.Paragraphs.{explained_tasks, paragraph, paragraphs, sayings_of, tasks_of}
 use Rattle.task_sayings.specs.Sayings.{Said, impeder_said, same_said}
-use Rattle.task_sayings.specs.Grouped.{IsGrouped, IsSized, Told, members_of}
+use Rattle.task_sayings.specs.calls.Grouped.{IsGrouped, IsSized, Told, members_of}
 use Rattle.explained_tasks.specs.inside.Grouped.{AreImpederGroups, AreParagraphs, impeder_told, own_told}
 use Rattle.explained_tasks.specs.inside.GroupTexts.{paragraph_text, texts_in}
-use Rattle.task_sayings.specs.SayingValues.{said_by}
+use Rattle.task_sayings.specs.calls.SayingValues.{said_by}
 use Rattle.explained_tasks.proofs.GroupTexts.{map_first, map_same, texts_are}
 use Rattle.explained_tasks.proofs.MembersAre.{members_by, own_tasks}
 

@@ -5,7 +5,7 @@ use Rattle.armus_base.specs.declared.ids.TaskId.{TaskId}
 use Rattle.task_sayings.specs.declared.impeders.Impeder.{Impeder}
 use Rattle.task_sayings.specs.Facts.{FactsValue}
 use Rattle.task_sayings.specs.Sayings.{Said, impeder_said, own_said, same_said}
-use Rattle.task_sayings.specs.Grouped.{Told, members_of}
+use Rattle.task_sayings.specs.calls.Grouped.{Told, members_of}
 use Rattle.explained_tasks.specs.inside.Grouped.{impeder_told, own_told, said_in}
 
 -- what is said of tasks that are told

@@ -13,10 +13,10 @@ use Rattle.accounts.specs.declared.account.Waiting.{Waiting}
 use Rattle.task_sayings.specs.declared.impeders.Impeder.{Impeder}
 use Rattle.task_sayings.specs.declared.situation.Situation.{Situation}
 use Rattle.task_sayings.specs.declared.situation.Situation.TheVariants.{Deadlocked, Held, HasEnded, NotForkedYet, NeverForked}
-use Rattle.task_sayings.specs.Facts.{FactsValue, fork_of, is_deadlocked, is_held, situation_of, wait_of}
-use Rattle.task_sayings.specs.Impeders.{impeder_by, impeders_by, impeders_of}
+use Rattle.task_sayings.specs.Facts.{FactsValue, forking_of, is_deadlocked, stands_held, situation_of, wait_of}
+use Rattle.task_sayings.specs.Impeders.{impeder_by, impeders_by, impeders_by_facts}
 use Rattle.task_sayings.specs.Nexts.{first_or, least_that, next_by, next_of}
-use Rattle.task_sayings.specs.Fitting.{FitsPlan}
+use Rattle.task_sayings.specs.calls.Fitting.{FactsFitPlan}
 
 -- what is found in a list is an element
 pub find_contains : {A : Type 0} (p : A → Bool) (xs : List A) (x : A) → find p xs ≡ Some x → Contains xs x
@@ -53,7 +53,7 @@ impeder_below n phases (Some w) i in' =
     let l = at.1 in
     omega arith
 
-module _ (f : FactsValue) (phases : ℕ → Phases) (plan : Plan) (fits : FitsPlan f plan) where
+module _ (f : FactsValue) (phases : ℕ → Phases) (plan : Plan) (fits : FactsFitPlan f plan) where
   -- a task that is taken of an impeder
   taken : (impeders : List Impeder) (m : ℕ) → ((i : Impeder) → Contains impeders i → i.t.0 < m) → (o : Option Impeder)
       → ((i : Impeder) → o ≡ Some i → Contains impeders i) → (u : TaskId) → option_map (λ (i : Impeder). i.t) o ≡ Some u → u.0 < m
@@ -71,19 +71,19 @@ module _ (f : FactsValue) (phases : ℕ → Phases) (plan : Plan) (fits : FitsPl
   forker (Some x) m all u is = let same : x.by ≡ u = cc in subst (λ (t : TaskId). t.0 < m) same (all x refl)
 
   by_situation : (impeders : List Impeder) → ((i : Impeder) → Contains impeders i → i.t.0 < length plan.parents) → (t : ℕ) (s : Situation) (u : TaskId)
-      → next_by f impeders (fork_of f t) s ≡ Some u → u.0 < length plan.parents
+      → next_by f impeders (forking_of f t) s ≡ Some u → u.0 < length plan.parents
   by_situation impeders all t Deadlocked u is =
       taken impeders _ all (find (λ (i : Impeder). is_deadlocked (situation_of f i.t.0)) impeders) (λ i. find_contains _ impeders i) u is
   by_situation impeders all t Held u is =
-      either (least_that is_held f impeders) (option_map (λ (i : Impeder). i.t) (slice_get impeders 0)) _
-      (λ v. taken impeders _ all (find (λ (i : Impeder). is_held (situation_of f i.t.0)) impeders) (λ i. find_contains _ impeders i) v)
+      either (least_that stands_held f impeders) (option_map (λ (i : Impeder). i.t) (slice_get impeders 0)) _
+      (λ v. taken impeders _ all (find (λ (i : Impeder). stands_held (situation_of f i.t.0)) impeders) (λ i. find_contains _ impeders i) v)
       (λ v. taken impeders _ all (slice_get impeders 0) (λ i. first_contains impeders i) v) u is
   by_situation impeders all t HasEnded u is = absurd (cc)
-  by_situation impeders all t NotForkedYet u is = forker (fork_of f t) _ (fits.forkers t) u is
+  by_situation impeders all t NotForkedYet u is = forker (forking_of f t) _ (fits.forkers t) u is
   by_situation impeders all t NeverForked u is = absurd (cc)
 
   -- the next of a task is a task of the plan
   pub next_inside : (t : ℕ) (u : TaskId) → next_of f phases t ≡ Some u → u.0 < length plan.parents
   next_inside t u is =
-      by_situation (impeders_of f phases t) (λ i in'. let l = impeder_below (length f.standings) phases (wait_of f t) i in' in let s = fits.sized in omega arith) t
+      by_situation (impeders_by_facts f phases t) (λ i in'. let l = impeder_below (length f.standings) phases (wait_of f t) i in' in let s = fits.sized in omega arith) t
       (situation_of f t) u is

@@ -16,7 +16,7 @@ use Rattle.report.specs.declared.standing.Standing.{Standing}
 use Rattle.report.proofs.OneReport.{one_standings}
 use Rattle.explained_tasks.specs.Explanations.{Explains, IsExplanation, explained_by}
 use Rattle.task_sayings.specs.Facts.{facts_of, FactsValue}
-use Rattle.explained_tasks.specs.Laws.{OneExplanation}
+use Rattle.explained_tasks.specs.calls.Laws.{OneExplanation}
 use Rattle.explained_tasks.specs.Verdicts.{somebody_waits}
 use Rattle.explained_tasks.proofs.OneVerdict.{one_verdict}
 

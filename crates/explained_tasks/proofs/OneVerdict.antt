@@ -10,7 +10,7 @@ use Rattle.explained_tasks.specs.declared.outcome.Verdict.{Verdict}
 use Rattle.explained_tasks.specs.declared.outcome.Verdict.TheVariants.{Nobody, Circle, Chain}
 use Rattle.task_sayings.specs.Facts.{FactsValue}
 use Rattle.task_sayings.specs.Nexts.{IsNext, next_of}
-use Rattle.explained_tasks.specs.Verdicts.{IsVerdict, IsVerdictFrom, IsWalkTo, start_of}
+use Rattle.explained_tasks.specs.Verdicts.{IsVerdict, IsVerdictFrom, IsWalkTo, walk_start}
 
 -- what stands at a place of a list that is put together
 at_behind : {A : Type 0} (xs ys : List A) (k : ℕ) (d : A) → get_or (xs ++ ys) (length xs + k) d ≡ get_or ys k d
@@ -132,4 +132,4 @@ module _ (f : FactsValue) (phases : ℕ → Phases) where
       ap (λ x. Chain x l) both.0 ∙ ap (λ x. Chain h' x) both.1
 
   pub one_verdict : (v w : Verdict) → IsVerdict f phases v → IsVerdict f phases w → v ≡ w
-  one_verdict v w a b = one_from (start_of f) v w a b
+  one_verdict v w a b = one_from (walk_start f) v w a b

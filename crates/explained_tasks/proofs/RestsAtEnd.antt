@@ -2,14 +2,14 @@
 use Rattle.std.proofs.Common.{◌≡◌, Some, List, sym, ◌∙◌, ap, subst, refl}
 use Rattle.armus_base.specs.declared.ending.TaskEnd.TheVariants.{Blocked}
 use Rattle.armus_base.specs.CheckedPlans.{IsCheckedPlan}
-use Rattle.armus_base.specs.FinalLaws.{Tells}
+use Rattle.armus_base.specs.calls.FinalLaws.{Tells}
 use Rattle.armus_base.specs.Finals.{end_by}
 use Rattle.armus_base.specs.Plans.{Plan}
 use Rattle.armus_base.specs.Runs.{IsLegalRun, IsMaximal, IsReachable, places, state_after}
 use Rattle.armus_base.specs.States.{IsReached, State, Step}
 use Rattle.armus_base.proofs.EndsTell.{ends_tell}
 use Rattle.armus_base.proofs.PlacesFixState.{places_fix_state}
-use Rattle.explained_tasks.specs.RunEnds.{WaitersStay}
+use Rattle.explained_tasks.specs.calls.RunEnds.{WaitersStay}
 
 pub rests_at_end : (plan : Plan) (h : List Step) → IsCheckedPlan plan → IsLegalRun plan h → IsMaximal plan h → WaitersStay plan (places h)
 rests_at_end plan h checked run maximal t e published reached =

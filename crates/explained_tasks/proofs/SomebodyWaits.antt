@@ -8,9 +8,9 @@ use Rattle.armus_base.proofs.Elements.{nothing_in_nil}
 use Rattle.explained_tasks.specs.declared.outcome.Verdict.{Verdict}
 use Rattle.explained_tasks.specs.declared.outcome.Verdict.TheVariants.{Nobody, Circle, Chain}
 use Rattle.task_sayings.specs.Facts.{FactsValue, is_deadlocked, is_waiting, situation_of, tasks_that}
-use Rattle.explained_tasks.specs.Laws.{SomebodyWaits}
+use Rattle.explained_tasks.specs.calls.Laws.{WaitingIsTold}
 use Rattle.task_sayings.specs.Nexts.{first_or}
-use Rattle.explained_tasks.specs.Verdicts.{IsVerdictFrom, somebody_waits, start_of}
+use Rattle.explained_tasks.specs.Verdicts.{IsVerdictFrom, somebody_waits, walk_start}
 use Rattle.task_sayings.proofs.Filters.{passed_from, passed_is}
 use Rattle.explained_tasks.proofs.NextInside.{first_contains}
 use Rattle.explained_tasks.proofs.Starts.{deadlocked_waits}
@@ -36,9 +36,9 @@ either : (a b : Option TaskId) (s : TaskId) → first_or a b ≡ Some s → (a �
 either None b s e = inr e
 either (Some t) b s e = inl e
 
-pub waits : SomebodyWaits
+pub waits : WaitingIsTold
 waits f phases v is = (
-  λ somebody. elim (told f phases (start_of f) v is) [
+  λ somebody. elim (told f phases (walk_start f) v is) [
     | inl (none, nobody) ↦ absurd (cc)
     | inr (s, start, yes') ↦ (
       s,
@@ -50,7 +50,7 @@ waits f phases v is = (
       ],
     )
   ],
-  λ (t, m). elim (told f phases (start_of f) v is) [
+  λ (t, m). elim (told f phases (walk_start f) v is) [
     | inl (none, nobody) ↦ absurd (has_first (tasks_that is_waiting f) t m (second_none (slice_get (tasks_that is_deadlocked f) 0) (slice_get (tasks_that is_waiting f) 0) none))
     | inr (s, start, yes') ↦ yes'
   ],

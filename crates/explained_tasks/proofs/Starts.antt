@@ -7,7 +7,7 @@ use Rattle.task_sayings.specs.declared.situation.Situation.{Situation}
 use Rattle.task_sayings.specs.declared.situation.Situation.TheVariants.{Deadlocked, Held, HasEnded, NotForkedYet, NeverForked}
 use Rattle.task_sayings.specs.Facts.{FactsValue, is_deadlocked, is_waiting, situation_of, tasks_that}
 use Rattle.task_sayings.specs.Nexts.{first_or}
-use Rattle.explained_tasks.specs.Verdicts.{start_of}
+use Rattle.explained_tasks.specs.Verdicts.{walk_start}
 use Rattle.task_sayings.proofs.Filters.{below_is, passed_is}
 use Rattle.explained_tasks.proofs.NextInside.{first_contains}
 
@@ -32,7 +32,7 @@ module _ (f : FactsValue) where
   by_first (Some t) b P one other u is = one u is
 
   -- the start waits, and is a task
-  pub start_waits : (s : TaskId) → start_of f ≡ Some s → (s.0 < length f.standings) × (is_waiting (situation_of f s.0) ≡ true)
+  pub start_waits : (s : TaskId) → walk_start f ≡ Some s → (s.0 < length f.standings) × (is_waiting (situation_of f s.0) ≡ true)
   start_waits s is =
       by_first (slice_get (tasks_that is_deadlocked f) 0) (slice_get (tasks_that is_waiting f) 0)
       (λ u. (u.0 < length f.standings) × (is_waiting (situation_of f u.0) ≡ true))

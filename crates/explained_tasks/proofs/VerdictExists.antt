@@ -17,8 +17,8 @@ use Rattle.explained_tasks.specs.declared.outcome.Verdict.{Verdict}
 use Rattle.explained_tasks.specs.declared.outcome.Verdict.TheVariants.{Nobody, Circle, Chain}
 use Rattle.task_sayings.specs.Facts.{FactsValue, is_waiting, situation_of}
 use Rattle.task_sayings.specs.Nexts.{IsNext, next_of}
-use Rattle.explained_tasks.specs.Verdicts.{IsVerdict, IsVerdictFrom, start_of}
-use Rattle.task_sayings.specs.Fitting.{FitsPlan}
+use Rattle.explained_tasks.specs.Verdicts.{IsVerdict, IsVerdictFrom, walk_start}
+use Rattle.task_sayings.specs.calls.Fitting.{FactsFitPlan}
 use Rattle.explained_tasks.specs.inside.Fitting.{WaitForSome}
 use Rattle.explained_tasks.proofs.NextInside.{next_inside}
 use Rattle.explained_tasks.proofs.Starts.{start_waits}
@@ -32,7 +32,7 @@ task t = record { 0 = t }
 none_is_none : {A : Type 0} (o : Option A) → o ≡ None → IsSome o → ⊥
 none_is_none o none some = false≢true (subst IsSome none some)
 
-module _ (f : FactsValue) (phases : ℕ → Phases) (plan : Plan) (fits : FitsPlan f plan) (wait : WaitForSome f phases) (start : TaskId) (waits : is_waiting (situation_of f start.0) ≡ true) where
+module _ (f : FactsValue) (phases : ℕ → Phases) (plan : Plan) (fits : FactsFitPlan f plan) (wait : WaitForSome f phases) (start : TaskId) (waits : is_waiting (situation_of f start.0) ≡ true) where
   abbrev n : ℕ
   n = length plan.parents
 
@@ -112,12 +112,12 @@ module _ (f : FactsValue) (phases : ℕ → Phases) (plan : Plan) (fits : FitsPl
       })
       (omega arith)
 
-module _ (f : FactsValue) (phases : ℕ → Phases) (plan : Plan) (fits : FitsPlan f plan) (wait : WaitForSome f phases) where
-  by_start : (o : Option TaskId) → start_of f ≡ o → (v : Verdict) × IsVerdictFrom f phases o v
+module _ (f : FactsValue) (phases : ℕ → Phases) (plan : Plan) (fits : FactsFitPlan f plan) (wait : WaitForSome f phases) where
+  by_start : (o : Option TaskId) → walk_start f ≡ o → (v : Verdict) × IsVerdictFrom f phases o v
   by_start None is = (Nobody, refl)
   by_start (Some s) is =
       let (lt, waits) = start_waits f s is in
       shown_from f phases plan fits wait s waits (omega (arith, lt, fits.sized))
 
   pub verdict_exists : (v : Verdict) × IsVerdict f phases v
-  verdict_exists = by_start (start_of f) refl
+  verdict_exists = by_start (walk_start f) refl

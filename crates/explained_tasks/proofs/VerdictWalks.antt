@@ -13,7 +13,7 @@ use Rattle.explained_tasks.specs.declared.outcome.Verdict.TheVariants.{Nobody, C
 use Rattle.task_sayings.specs.Facts.{FactsValue}
 use Rattle.task_sayings.specs.Nexts.{IsNext, next_of}
 use Rattle.explained_tasks.specs.Verdicts.{IsVerdictFrom}
-use Rattle.explained_tasks.specs.inside.WalkEnds.{ClosesIn, EndsIn}
+use Rattle.explained_tasks.specs.inside.WalkEnds.{ClosesIn, WalkEndsIn}
 
 -- task v
 task : ℕ → TaskId
@@ -34,7 +34,7 @@ module _ (f : FactsValue) (phases : ℕ → Phases) (start t : TaskId) (path : L
   closes (Circle shown) (at, lt, there, same) = subst (λ xs. IsWalkCycle (IsNext f phases) start xs) (sym same) (walk_done (IsNext f phases) start path t goes at lt there)
 
   -- it comes to its end
-  pub ends : (v : Verdict) → 0 < length path → next_of f phases t.0 ≡ None → EndsIn path t v → IsVerdictFrom f phases (Some start) v
+  pub ends : (v : Verdict) → 0 < length path → next_of f phases t.0 ≡ None → WalkEndsIn path t v → IsVerdictFrom f phases (Some start) v
   ends Nobody some none is = is
   ends (Circle shown) some none is = absurd is
   ends (Chain held last) some none (at, same) =

@@ -9,8 +9,8 @@ use Rattle.accounts.specs.declared.account.Waiting.{Waiting}
 use Rattle.task_sayings.specs.declared.impeders.Impeder.{Impeder}
 use Rattle.task_sayings.specs.declared.situation.Situation.{Situation}
 use Rattle.task_sayings.specs.declared.situation.Situation.TheVariants.{Deadlocked, Held, HasEnded, NeverForked, NotForkedYet}
-use Rattle.task_sayings.specs.Facts.{FactsValue, fork_of, is_waiting, situation_of, wait_of}
-use Rattle.task_sayings.specs.Impeders.{impeders_by, impeders_in, impeders_of}
+use Rattle.task_sayings.specs.Facts.{FactsValue, forking_of, is_waiting, situation_of, wait_of}
+use Rattle.task_sayings.specs.Impeders.{impeders_by, impeders_in, impeders_by_facts}
 use Rattle.task_sayings.specs.Nexts.{next_by, next_of}
 use Rattle.task_sayings.specs.Sayings.{Said, own_said, said_as, same_said}
 use Rattle.task_sayings.proofs.Filters.{passed_is}
@@ -33,21 +33,21 @@ impeders_by_event n phases (Some w) = refl
 
 module _ (f : FactsValue) (phases : ℕ → Phases) (t u : ℕ) where
   abbrev Alike : Type 0
-  Alike = (situation_of f u ≡ situation_of f t) × (impeders_of f phases u ≡ impeders_of f phases t) × (next_of f phases u ≡ next_of f phases t)
+  Alike = (situation_of f u ≡ situation_of f t) × (impeders_by_facts f phases u ≡ impeders_by_facts f phases t) × (next_of f phases u ≡ next_of f phases t)
 
   module _ (event : option_map (λ (w : Waiting). w.event) (wait_of f t) ≡ option_map (λ (w : Waiting). w.event) (wait_of f u)) where
-    impeded : impeders_of f phases u ≡ impeders_of f phases t
+    impeded : impeders_by_facts f phases u ≡ impeders_by_facts f phases t
     impeded =
         let n = length f.standings in
         impeders_by_event n phases (wait_of f u) ∙ ap (by_event n phases) (sym event) ∙ sym (impeders_by_event n phases (wait_of f t))
 
-    next_as : (s : Situation) → ((xs : List Impeder) → next_by f xs (fork_of f u) s ≡ next_by f xs (fork_of f t) s) → situation_of f t ≡ s → situation_of f u ≡ s →
+    next_as : (s : Situation) → ((xs : List Impeder) → next_by f xs (forking_of f u) s ≡ next_by f xs (forking_of f t) s) → situation_of f t ≡ s → situation_of f u ≡ s →
         next_of f phases u ≡ next_of f phases t
     next_as s same is also =
-        ap (next_by f (impeders_of f phases u) (fork_of f u)) also
-        ∙ same (impeders_of f phases u)
-        ∙ ap (λ xs. next_by f xs (fork_of f t) s) impeded
-        ∙ ap (next_by f (impeders_of f phases t) (fork_of f t)) (sym is)
+        ap (next_by f (impeders_by_facts f phases u) (forking_of f u)) also
+        ∙ same (impeders_by_facts f phases u)
+        ∙ ap (λ xs. next_by f xs (forking_of f t) s) impeded
+        ∙ ap (next_by f (impeders_by_facts f phases t) (forking_of f t)) (sym is)
 
   by_stands : (s r : Situation) → situation_of f t ≡ s → situation_of f u ≡ r → is_waiting s ≡ true → said_as f t s ≡ said_as f u r → Alike
   by_stands Deadlocked Deadlocked is also waits same =

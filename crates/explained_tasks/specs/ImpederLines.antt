@@ -7,9 +7,9 @@ use Rattle.armus_base.specs.States.{Phases}
 use Rattle.pl_syntax.specs.Printed.{line}
 use Rattle.accounts.specs.declared.account.Forked.{Forked}
 use Rattle.task_sayings.specs.declared.impeders.Impeder.{Impeder}
-use Rattle.task_sayings.specs.Facts.{FactsValue, fork_of}
+use Rattle.task_sayings.specs.Facts.{FactsValue, forking_of}
 use Rattle.task_sayings.specs.Groups.{each_once}
-use Rattle.task_sayings.specs.Impeders.{impeders_of}
+use Rattle.task_sayings.specs.Impeders.{impeders_by_facts}
 use Rattle.task_sayings.specs.Nexts.{next_of}
 use Rattle.task_sayings.specs.Places.{said_of}
 use Rattle.task_sayings.specs.Sayings.{Forking, Said, impeder_said, same_said}
@@ -22,7 +22,7 @@ is_forked_by u (Some x) = x.by.0 == u
 
 -- u is the forker of one of these tasks
 abbrev pub is_forker_of : FactsValue → List TaskId → ℕ → Bool
-is_forker_of f tasks u = list_any (λ (t : TaskId). is_forked_by u (fork_of f t.0)) tasks
+is_forker_of f tasks u = list_any (λ (t : TaskId). is_forked_by u (forking_of f t.0)) tasks
 
 -- the forkers of these tasks, in order of number
 abbrev pub forkers_of : FactsValue → List TaskId → List TaskId
@@ -63,13 +63,13 @@ rest_line [] = []
 rest_line (t ∷ rest) = line (codes "  and " ++ list_words (t ∷ rest))
 
 -- the impeder with this number
-abbrev pub is_task : Option TaskId → Impeder → Bool
-is_task None i = false
-is_task (Some t) i = i.t.0 == t.0
+abbrev pub is_this_impeder : Option TaskId → Impeder → Bool
+is_this_impeder None i = false
+is_this_impeder (Some t) i = i.t.0 == t.0
 
 -- what is said of the impeders: of the next first, and else in the order of their numbers
 abbrev pub told_of : FactsValue → Option TaskId → List Impeder → List Said
-told_of f next impeders = each_once same_said (map (impeder_said f) (filter (is_task next) impeders ++ impeders))
+told_of f next impeders = each_once same_said (map (impeder_said f) (filter (is_this_impeder next) impeders ++ impeders))
 
 -- the lines of impeders in a paragraph of so many tasks: the first three groups, and the rest
 abbrev pub lines_by : FactsValue → ℕ → Option TaskId → List Impeder → List ℕ
@@ -79,4 +79,4 @@ lines_by f n next impeders =
 
 -- the lines of the impeders of task t in its paragraph of so many tasks
 abbrev pub impeder_lines : FactsValue → (ℕ → Phases) → ℕ → ℕ → List ℕ
-impeder_lines f phases n t = lines_by f n (next_of f phases t) (impeders_of f phases t)
+impeder_lines f phases n t = lines_by f n (next_of f phases t) (impeders_by_facts f phases t)

@@ -1,48 +1,24 @@
 -- What is proved of explanations.
-use Rattle.std.specs.Prelude.{◌≡◌, ◌↔◌, ◌⊎◌, ℕ, ◌-◌, ◌<◌, Bool, true, List, ◌++◌, Contains, Ok, Option, Some, flat_map, length, slice_get, slice_index_or, take}
-use Rattle.armus_base.specs.declared.event.Event.{Event}
+use Rattle.std.specs.Prelude.{◌≡◌, ◌↔◌, ℕ, ◌<◌, true, List, ◌++◌, Contains, Some, flat_map, length, take}
 use Rattle.armus_base.specs.declared.ids.TaskId.{TaskId}
 use Rattle.armus_base.specs.Counts.{IsDistinct}
-use Rattle.armus_base.specs.Deadlocks.{IsDeadIn}
 use Rattle.armus_base.specs.Finals.{final_of}
 use Rattle.armus_base.specs.Places.{state_at}
 use Rattle.armus_base.specs.Plans.{Plan}
-use Rattle.armus_base.specs.Relations.{IsWalk}
-use Rattle.armus_base.specs.Runs.{IsLegalRun, IsMaximal, IsPlainRun, Place, places}
-use Rattle.armus_base.specs.States.{Phases, State, Step}
-use Rattle.pl_plan.specs.Unfolding.{plan_of}
-use Rattle.pl_syntax.specs.Grammar.{IsText}
-use Rattle.pl_syntax.specs.declared.tree.Program.{Program}
+use Rattle.armus_base.specs.Runs.{Place}
+use Rattle.armus_base.specs.States.{Phases}
 use Rattle.accounts.specs.declared.account.Waiting.{Waiting}
 use Rattle.report.specs.Reports.{IsReportedCycle, IsSomeDead}
-use Rattle.task_sayings.specs.declared.impeders.Impeder.{Impeder}
 use Rattle.explained_tasks.specs.declared.outcome.Verdict.{Verdict}
-use Rattle.explained_tasks.specs.declared.outcome.Verdict.TheVariants.{Chain, Circle}
-use Rattle.task_sayings.specs.declared.situation.Situation.{Situation}
-use Rattle.task_sayings.specs.declared.situation.Situation.TheVariants.{Deadlocked, HasEnded, Held, NeverForked, NotForkedYet}
-use Rattle.explained_tasks.specs.Explanations.{IsExplanationAt}
-use Rattle.task_sayings.specs.Facts.{FactsValue, is_waiting, situation_of, tasks_that, wait_of}
+use Rattle.explained_tasks.specs.declared.outcome.Verdict.TheVariants.{Circle}
+use Rattle.task_sayings.specs.Facts.{FactsValue, is_waiting, situation_of, wait_of}
 use Rattle.explained_tasks.specs.ImpederLines.{group_of, rest_of, told_of}
-use Rattle.task_sayings.specs.Impeders.{impeders_of}
-use Rattle.task_sayings.specs.Nexts.{IsNext, next_of}
+use Rattle.task_sayings.specs.Impeders.{impeders_by_facts}
+use Rattle.task_sayings.specs.Nexts.{next_of}
 use Rattle.explained_tasks.specs.Paragraphs.{explained_tasks, sayings_of, tasks_of}
 use Rattle.explained_tasks.specs.RunEnds.{AreFactsAt}
-use Rattle.task_sayings.specs.Sayings.{Said, impeder_said, own_said, same_said}
-use Rattle.explained_tasks.specs.Verdicts.{IsVerdict, somebody_waits}
-
--- ---- one explanation
-
--- there is one explanation at most of the places of a text's plan
-abbrev pub OneExplanation : Type 0
-OneExplanation =
-    (file : Option (List ℕ)) (text : List ℕ) (plan : Plan) (a : ℕ → Place) (lines other : List ℕ) (waits also : Bool) →
-    IsExplanationAt file text plan a lines waits → IsExplanationAt file text plan a other also → (lines ≡ other) × (waits ≡ also)
-
--- and the end of each maximal run of a text's plan has one
-abbrev pub ExplanationExists : Type 0
-ExplanationExists =
-    (file : Option (List ℕ)) (text : List ℕ) (p : Program) (plan : Plan) (steps : List Step) → IsText text p → plan_of p ≡ Ok plan → IsLegalRun plan steps →
-    IsMaximal plan steps → (lines : List ℕ) × (waits : Bool) × IsExplanationAt file text plan (places steps) lines waits
+use Rattle.task_sayings.specs.Sayings.{Said, own_said}
+use Rattle.explained_tasks.specs.Verdicts.{IsVerdict}
 
 -- ---- the paragraphs
 
@@ -61,22 +37,18 @@ abbrev pub WaitAlike : Type 0
 WaitAlike =
     (f : FactsValue) (phases : ℕ → Phases) (said : Said) (t u : TaskId) → Contains (tasks_of f said) t → Contains (tasks_of f said) u →
     is_waiting (situation_of f t.0) ≡ true →
-    (situation_of f u.0 ≡ situation_of f t.0) × (impeders_of f phases u.0 ≡ impeders_of f phases t.0) × (next_of f phases u.0 ≡ next_of f phases t.0)
-
--- nothing is said in two paragraphs
-abbrev pub NothingIsSaidTwice : Type 0
-NothingIsSaidTwice = (f : FactsValue) (shown : List TaskId) → IsDistinct (sayings_of f shown)
+    (situation_of f u.0 ≡ situation_of f t.0) × (impeders_by_facts f phases u.0 ≡ impeders_by_facts f phases t.0) × (next_of f phases u.0 ≡ next_of f phases t.0)
 
 -- ---- the impeders
 
 -- what the lines of groups say where the impeders of task t are told
 abbrev pub told_in_lines : FactsValue → (ℕ → Phases) → ℕ → List Said
-told_in_lines f phases t = take 3 (told_of f (next_of f phases t) (impeders_of f phases t))
+told_in_lines f phases t = take 3 (told_of f (next_of f phases t) (impeders_by_facts f phases t))
 
 -- the tasks named there: those of the groups, and those of the rest
 abbrev pub named_impeders : FactsValue → (ℕ → Phases) → ℕ → List TaskId
 named_impeders f phases t =
-    flat_map (group_of f (impeders_of f phases t)) (told_in_lines f phases t) ++ rest_of f (impeders_of f phases t) (told_in_lines f phases t)
+    flat_map (group_of f (impeders_by_facts f phases t)) (told_in_lines f phases t) ++ rest_of f (impeders_by_facts f phases t) (told_in_lines f phases t)
 
 -- task u impedes the event for which task t waits
 abbrev pub IsImpededBy : FactsValue → (ℕ → Phases) → ℕ → TaskId → Type 0
@@ -89,63 +61,9 @@ EachImpederIsTold =
     (f : FactsValue) (phases : ℕ → Phases) (t : ℕ) →
     IsDistinct (named_impeders f phases t) × ((u : TaskId) → Contains (named_impeders f phases t) u ↔ IsImpededBy f phases t u)
 
--- in the paragraph of a deadlocked task a group of deadlocked impeders stands first
-abbrev pub DeadlockStandsFirst : Type 0
-DeadlockStandsFirst =
-    (plan : Plan) (a : ℕ → Place) (f : FactsValue) (t : ℕ) → AreFactsAt plan a f → situation_of f t ≡ Deadlocked → let phases = (state_at plan a).phases in
-    (said : Said) × (slice_get (told_of f (next_of f phases t) (impeders_of f phases t)) 0 ≡ Some said)
-    × ((i : Impeder) → Contains (impeders_of f phases t) i → same_said said (impeder_said f i) ≡ true → situation_of f i.t.0 ≡ Deadlocked)
-
--- ---- the verdict
-
--- somebody waits for ever just where a task waits
-abbrev pub SomebodyWaits : Type 0
-SomebodyWaits =
-    (f : FactsValue) (phases : ℕ → Phases) (v : Verdict) → IsVerdict f phases v → (somebody_waits v ≡ true) ↔ ((t : TaskId) × Contains (tasks_that is_waiting f) t)
-
 -- where a task is dead, the verdict is a circle: the cycle of the report
 abbrev pub DeadlockIsReported : Type 0
 DeadlockIsReported =
     (plan : Plan) (a : ℕ → Place) (f : FactsValue) (v : Verdict) → AreFactsAt plan a f → IsVerdict f (state_at plan a).phases v →
     IsSomeDead (final_of plan (state_at plan a)).blocked →
     (cycle : List TaskId) × (v ≡ Circle cycle) × IsReportedCycle (final_of plan (state_at plan a)).blocked cycle
-
--- task t is dead in this state, and task u impedes the event that it awaits
-abbrev pub IsDeadAndWaitsFor : State → TaskId → TaskId → Type 0
-IsDeadAndWaitsFor s t u = IsDeadIn s t.0 × (e : Event) × (s.published t.0 ≡ Some e) × (m : ℕ) × (s.phases u.0 e.p.0 ≡ Some m) × (m < e.n)
-
--- no impeder of a held task is deadlocked
-abbrev pub HeldAreNotImpededByDead : Type 0
-HeldAreNotImpededByDead =
-    (plan : Plan) (a : ℕ → Place) (f : FactsValue) (t : ℕ) (i : Impeder) → AreFactsAt plan a f → situation_of f t ≡ Held →
-    Contains (impeders_of f (state_at plan a).phases t) i → situation_of f i.t.0 ≡ Deadlocked → ⊥
-
--- a task that stands so has not come to its end, and somebody forks it: it waits, or is not forked yet
-pub record IsToCome (s : Situation) : Type 0 where
-  pub not_ended : s ≡ HasEnded → ⊥
-  pub not_never : s ≡ NeverForked → ⊥
-
--- at the end of a maximal run who would fork a task that is not forked yet waits, or is not forked yet itself
-abbrev pub ForkersAreToCome : Type 0
-ForkersAreToCome =
-    (plan : Plan) (steps : List Step) (f : FactsValue) (t u : TaskId) → IsPlainRun plan steps → IsMaximal plan steps → AreFactsAt plan (places steps) f →
-    situation_of f t.0 ≡ NotForkedYet → IsNext f (state_at plan (places steps)).phases t u → IsToCome (situation_of f u.0)
-
--- and where the walk comes to an end, it is a held task that waits for one that has ended or is never forked
-abbrev pub ChainsEnd : Type 0
-ChainsEnd =
-    (plan : Plan) (steps : List Step) (f : FactsValue) (held last : TaskId) → IsPlainRun plan steps → IsMaximal plan steps → AreFactsAt plan (places steps) f →
-    IsVerdict f (state_at plan (places steps)).phases (Chain held last) →
-    (situation_of f held.0 ≡ Held) × ((situation_of f last.0 ≡ HasEnded) ⊎ (situation_of f last.0 ≡ NeverForked))
-
--- there are tasks, each of them stands so to the one behind it, and the last to the first
-pub record ShowsCircle (R : TaskId → TaskId → Type 0) (shown : List TaskId) : Type 0 where
-  pub some : 0 < length shown
-  pub steps : IsWalk R shown
-  pub back : (d : TaskId) → R (slice_index_or shown (length shown - 1) d) (slice_index_or shown 0 d)
-
--- where a task is dead, all shown tasks are, and each is impeded by the one behind it, the last by the first
-abbrev pub ShownAreDead : Type 0
-ShownAreDead =
-    (plan : Plan) (a : ℕ → Place) (f : FactsValue) (shown : List TaskId) → AreFactsAt plan a f → IsVerdict f (state_at plan a).phases (Circle shown) →
-    IsSomeDead (final_of plan (state_at plan a)).blocked → ShowsCircle (IsDeadAndWaitsFor (state_at plan a)) shown

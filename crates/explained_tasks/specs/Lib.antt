@@ -12,3 +12,5 @@ pub mod Explanations
 pub mod Laws
 -- How the program does it: private contracts alone cite these.
 pub mod inside
+-- Words of contracts further down, which no promise of a program needs.
+pub mod calls

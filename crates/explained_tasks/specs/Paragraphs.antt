@@ -3,7 +3,7 @@ use Rattle.std.specs.Prelude.{ℕ, List, [], ◌∷◌, ◌++◌, codes, filter,
 use Rattle.armus_base.specs.declared.ids.TaskId.{TaskId}
 use Rattle.armus_base.specs.States.{Phases}
 use Rattle.pl_syntax.specs.Printed.{line}
-use Rattle.task_sayings.specs.Facts.{FactsValue, is_unforked, is_waiting, situation_of, tasks_that}
+use Rattle.task_sayings.specs.Facts.{FactsValue, stands_unforked, is_waiting, situation_of, tasks_that}
 use Rattle.task_sayings.specs.Groups.{each_once}
 use Rattle.explained_tasks.specs.ImpederLines.{forkers_of, forking_words, impeder_lines}
 use Rattle.task_sayings.specs.Sayings.{Said, own_said, same_said}
@@ -11,7 +11,7 @@ use Rattle.task_sayings.specs.TaskLists.{by_number, list_words}
 
 -- the tasks that are not done: first those that wait, then those that were not forked
 abbrev pub explained_tasks : FactsValue → List TaskId
-explained_tasks f = tasks_that is_waiting f ++ tasks_that is_unforked f
+explained_tasks f = tasks_that is_waiting f ++ tasks_that stands_unforked f
 
 -- the shown tasks that wait
 abbrev pub shown_waiting : FactsValue → List TaskId → List TaskId

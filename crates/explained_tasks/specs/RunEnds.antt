@@ -1,12 +1,10 @@
 -- Where a run of a text's plan has ended.
-use Rattle.std.specs.Prelude.{◌≡◌, ℕ, List, Some, Ok}
-use Rattle.armus_base.specs.declared.event.Event.{Event}
+use Rattle.std.specs.Prelude.{◌≡◌, ℕ, List, Ok}
 use Rattle.armus_base.specs.Deadlocks.{IsDeadBy}
 use Rattle.armus_base.specs.Finals.{final_of}
 use Rattle.armus_base.specs.Places.{state_at}
 use Rattle.armus_base.specs.Plans.{Plan}
 use Rattle.armus_base.specs.Runs.{IsReachable, Place}
-use Rattle.armus_base.specs.States.{IsReached}
 use Rattle.pl_plan.specs.Unfolding.{plan_of}
 use Rattle.pl_syntax.specs.declared.tree.Program.{Program}
 use Rattle.accounts.specs.Accounts.{IsAccount}
@@ -19,10 +17,6 @@ pub record IsAccountOf (text : List ℕ) (plan : Plan) (a : ℕ → Place) (acco
   pub program : Program
   pub unfolds : plan_of program ≡ Ok plan
   pub known : IsAccount text program plan a account
-
--- no task that waits at these places may go on: the event that it awaits is not reached
-abbrev pub WaitersStay : Plan → (ℕ → Place) → Type 0
-WaitersStay plan a = (t : ℕ) (e : Event) → (state_at plan a).published t ≡ Some e → IsReached (state_at plan a) e → ⊥
 
 -- this is known of a run of a text's plan that has come to these places: its account, and how its tasks stand in the report
 pub record AreFactsAt (plan : Plan) (a : ℕ → Place) (f : FactsValue) : Type 0 where

@@ -9,7 +9,7 @@ use Rattle.task_sayings.specs.declared.situation.Situation.TheVariants.{HasEnded
 use Rattle.explained_tasks.specs.declared.outcome.Verdict.{Verdict}
 use Rattle.explained_tasks.specs.declared.outcome.Verdict.TheVariants.{Nobody, Circle, Chain}
 use Rattle.task_sayings.specs.Facts.{FactsValue, is_deadlocked, is_waiting, situation_of, tasks_that}
-use Rattle.task_sayings.specs.Places.{end_place, fork_place, named_task, wait_place}
+use Rattle.task_sayings.specs.Places.{end_words, fork_place, named_task, wait_place}
 
 -- a shown task that stands so: t3 (worker) at 20:7 where it waits, else its name
 abbrev pub shown_as : FactsValue → ℕ → Situation → List ℕ
@@ -40,15 +40,15 @@ circle_words f (t ∷ []) = shown_words f t.0 ++ codes " waits for itself"
 circle_words f (t ∷ u ∷ rest) = flat_map (λ (k, v). linked_words f k v) (enumerate_from 0 (t ∷ u ∷ rest)) ++ named_task f t.0
 
 -- how the last of a walk stands that does not close
-abbrev pub last_words : FactsValue → ℕ → Situation → List ℕ
-last_words f t HasEnded = codes ", which ended at " ++ end_place f t
-last_words f t _ = codes ", which is never forked"
+abbrev pub walk_end_words : FactsValue → ℕ → Situation → List ℕ
+walk_end_words f t HasEnded = codes ", which ended at " ++ end_words f t
+walk_end_words f t _ = codes ", which is never forked"
 
 -- what the verdict says
 abbrev pub verdict_words : FactsValue → Verdict → List ℕ
 verdict_words f Nobody = codes "nobody waits for ever"
 verdict_words f (Circle shown) = circle_words f shown
-verdict_words f (Chain held last) = linked_words f 0 held ++ named_task f last.0 ++ last_words f last.0 (situation_of f last.0)
+verdict_words f (Chain held last) = linked_words f 0 held ++ named_task f last.0 ++ walk_end_words f last.0 (situation_of f last.0)
 
 -- with what the verdict begins, where so many tasks are deadlocked
 abbrev pub kind_words : ℕ → List ℕ

@@ -9,8 +9,8 @@ use Rattle.task_sayings.specs.Facts.{FactsValue, is_deadlocked, is_waiting, task
 use Rattle.task_sayings.specs.Nexts.{IsNext, first_or, next_of}
 
 -- the task with which the walk begins: the least deadlocked one, or else the least that waits, which is then held
-abbrev pub start_of : FactsValue → Option TaskId
-start_of f = first_or (slice_get (tasks_that is_deadlocked f) 0) (slice_get (tasks_that is_waiting f) 0)
+abbrev pub walk_start : FactsValue → Option TaskId
+walk_start f = first_or (slice_get (tasks_that is_deadlocked f) 0) (slice_get (tasks_that is_waiting f) 0)
 
 -- The walk from a start along the nexts comes to its end, a task that has no next, by way of some tasks and, right before the end, this one.
 pub record IsWalkTo (f : FactsValue) (phases : ℕ → Phases) (start held last : TaskId) : Type 0 where
@@ -28,7 +28,7 @@ IsVerdictFrom f phases (Some start) (Chain held last) = IsWalkTo f phases start 
 
 -- the verdict: where no task waits, that nobody does, else what the walk shows
 abbrev pub IsVerdict : FactsValue → (ℕ → Phases) → Verdict → Type 0
-IsVerdict f phases v = IsVerdictFrom f phases (start_of f) v
+IsVerdict f phases v = IsVerdictFrom f phases (walk_start f) v
 
 -- the shown tasks
 abbrev pub shown_of : Verdict → List TaskId

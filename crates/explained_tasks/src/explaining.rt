@@ -3,10 +3,11 @@ ghost use Rattle.explained_tasks.specs.Explanations.{Explains, IsExplanationAt};
 ghost use Rattle.std.specs.Prelude.{◌≡◌, ◌<◌, ◌^◌, IfOk, length, option_copied};
 ghost use Rattle.armus_base.specs.Finals.{final_of};
 ghost use Rattle.task_sayings.specs.Facts.{facts_of};
-ghost use Rattle.explained_tasks.specs.RunEnds.{IsAccountOf, WaitersStay};
-ghost use Rattle.task_sayings.specs.Fitting.{FitsPlan};
+ghost use Rattle.explained_tasks.specs.RunEnds.{IsAccountOf};
+ghost use Rattle.explained_tasks.specs.calls.RunEnds.{WaitersStay};
+ghost use Rattle.task_sayings.specs.calls.Fitting.{FactsFitPlan};
 ghost use Rattle.explained_tasks.specs.inside.Fitting.{WaitForSome};
-ghost use Rattle.pl_core.specs.Worlds.{places_of, state_of};
+ghost use Rattle.pl_core.specs.calls.Worlds.{places_of, state_of};
 ghost use Rattle.explained_tasks.specs.Verdicts.{shown_of, somebody_waits};
 
 use crate::outcome::Verdict;
@@ -62,7 +63,7 @@ pub(crate) fn explain_facts(
     world: &World,
     counts: List<u8>,
 ) -> Result<Explanation, NoMemory>
-    requires fits { FitsPlan facts.now world.now.plan }
+    requires fits { FactsFitPlan facts.now world.now.plan }
     requires wait { WaitForSome facts.now (state_of world.now).phases }
     ensures { IfOk result (λ e. Explains facts.now (state_of world.now).phases counts e.lines e.has_waiting) }
 {
@@ -87,7 +88,7 @@ fn explain_outline(
     outline: Outline,
 ) -> Result<Explanation, NoMemory>
     requires few { length outline.standings < 2 ^ 32 }
-    requires fits { FitsPlan (facts_of places.now (option_copied file) account.now outline.standings) world.now.plan }
+    requires fits { FactsFitPlan (facts_of places.now (option_copied file) account.now outline.standings) world.now.plan }
     requires wait { WaitForSome (facts_of places.now (option_copied file) account.now outline.standings) (state_of world.now).phases }
     ensures { IfOk result (λ e. Explains (facts_of places.now (option_copied file.entry) account.now outline.standings) (state_of world.now).phases outline.counts e.lines e.has_waiting) }
 {

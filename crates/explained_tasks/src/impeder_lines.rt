@@ -1,15 +1,15 @@
 // The lines of the impeders of a paragraph's tasks.
-ghost use Rattle.explained_tasks.specs.ImpederLines.{forkers_of, is_forker_of, group_line, impeder_lines, lines_by, rest_line, rest_of, forking_words, is_forked_by, is_task, keeping_words};
-ghost use Rattle.task_sayings.specs.Grouped.{AddsTold, IsSized};
+ghost use Rattle.explained_tasks.specs.ImpederLines.{forkers_of, is_forker_of, group_line, impeder_lines, lines_by, rest_line, rest_of, forking_words, is_forked_by, is_this_impeder, keeping_words};
+ghost use Rattle.task_sayings.specs.calls.Grouped.{AddsTold, IsSized};
 ghost use Rattle.explained_tasks.specs.inside.Grouped.{AreImpederGroups, impeder_told, said_in};
-ghost use Rattle.task_sayings.specs.Fitting.{FitsPlan};
+ghost use Rattle.task_sayings.specs.calls.Fitting.{FactsFitPlan};
 ghost use Rattle.std.specs.Prelude.{◌≡◌, ◌++◌, ◌<◌, ◌||◌, ◌∷◌, if◌then◌else◌, [], ℕ, IfOk, OnOk, Some, false, decimal, option_map, length, slice_index_or, filter, map, not, take};
 ghost use Rattle.task_sayings.specs.Sayings.{same_said};
 ghost use Rattle.std.specs.List.{list_any};
 ghost use Rattle.explained_tasks.specs.inside.GroupTexts.{texts_in};
 ghost use Rattle.task_sayings.specs.Places.{said_of};
-ghost use Rattle.pl_core.specs.Worlds.{state_of};
-ghost use Rattle.task_sayings.specs.SayingValues.{forking_said, said_by};
+ghost use Rattle.pl_core.specs.calls.Worlds.{state_of};
+ghost use Rattle.task_sayings.specs.calls.SayingValues.{forking_said, said_by};
 
 use accounts::Forked;
 use armus_base::{NoMemory, TaskId};
@@ -87,7 +87,7 @@ fn put_forkers(
 
 // Whether an impeder is this task.
 fn is_task(task: Option<TaskId>, impeder: Impeder) -> bool
-    ensures { result ≡ is_task task impeder }
+    ensures { result ≡ is_this_impeder task impeder }
 {
     match task {
         Some(t) => impeder.t.0 == t.0,
@@ -220,7 +220,7 @@ fn impeders_at(
     task: Option<TaskId>,
     impeders: &[Impeder],
 ) -> Result<Vec<Impeder>, NoMemory>
-    ensures { IfOk result (λ v. v.items ≡ filter (is_task task) impeders.now) }
+    ensures { IfOk result (λ v. v.items ≡ filter (is_this_impeder task) impeders.now) }
 {
     let mut found = Vec::new(facts.alloc());
     for impeder in impeders {
@@ -353,7 +353,7 @@ pub(crate) fn put_impeders(
     count: usize,
     t: TaskId,
 ) -> Result<(), NoMemory>
-    requires fits { FitsPlan facts.now world.now.plan }
+    requires fits { FactsFitPlan facts.now world.now.plan }
     ensures { OnOk result (out.new.items ≡ out.old.items ++ impeder_lines facts.now (state_of world.now).phases count t.0) }
 {
     let impeders = facts.impeders(world, t)?;

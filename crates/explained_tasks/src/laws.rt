@@ -1,5 +1,6 @@
 // Laws of explanations.
-ghost use Rattle.explained_tasks.specs.Laws.{ChainsEnd, DeadlockIsReported, DeadlockStandsFirst, EachHasAParagraph, EachImpederIsTold, ExplanationExists, ForkersAreToCome, HeldAreNotImpededByDead, NothingIsSaidTwice, OneExplanation, SaysWhatIsSo, ShownAreDead, SomebodyWaits, WaitAlike};
+ghost use Rattle.explained_tasks.specs.calls.Laws.{ChainsEnd, DeadlockStandsFirst, ExplanationExists, ForkersAreToCome, HeldAreNotImpededByDead, NothingIsSaidTwice, OneExplanation, ShownAreDead, WaitingIsTold};
+ghost use Rattle.explained_tasks.specs.Laws.{DeadlockIsReported, EachHasAParagraph, EachImpederIsTold, SaysWhatIsSo, WaitAlike};
 
 /// The places of a text's plan have one explanation at most.
 pub fn one_explanation()
@@ -43,7 +44,7 @@ pub fn deadlock_stands_first()
 
 /// Somebody waits for ever just where a task waits.
 pub fn somebody_waits()
-    ensures { SomebodyWaits }
+    ensures { WaitingIsTold }
 {}
 
 /// Where a task is dead, the verdict shows the cycle of the report: its tasks are dead, and each is impeded by the one behind it, the last by the first.

@@ -1,13 +1,13 @@
 // The paragraphs of an explanation.
-ghost use Rattle.task_sayings.specs.Facts.{is_unforked, is_waiting, tasks_that};
+ghost use Rattle.task_sayings.specs.Facts.{stands_unforked, is_waiting, tasks_that};
 ghost use Rattle.explained_tasks.specs.Paragraphs.{explained_tasks, lines_of_impeders, own_lines, paragraphs, shown_waiting};
-ghost use Rattle.task_sayings.specs.Grouped.{AddsTold, IsSized};
+ghost use Rattle.task_sayings.specs.calls.Grouped.{AddsTold, IsSized};
 ghost use Rattle.explained_tasks.specs.inside.Grouped.{AreParagraphs, own_told, said_in};
 ghost use Rattle.explained_tasks.specs.inside.GroupTexts.{paragraph_text, texts_in};
 ghost use Rattle.std.specs.Prelude.{◌≡◌, ◌∷◌, ◌++◌, if◌then◌else◌, [], IfOk, OnOk, length, map};
-ghost use Rattle.task_sayings.specs.Fitting.{FitsPlan};
-ghost use Rattle.pl_core.specs.Worlds.{state_of};
-ghost use Rattle.task_sayings.specs.SayingValues.{said_by};
+ghost use Rattle.task_sayings.specs.calls.Fitting.{FactsFitPlan};
+ghost use Rattle.pl_core.specs.calls.Worlds.{state_of};
+ghost use Rattle.task_sayings.specs.calls.SayingValues.{said_by};
 
 use crate::impeder_lines::{put_forking, put_impeders};
 use armus_base::{NoMemory, TaskId};
@@ -52,7 +52,7 @@ fn put_impeders_of(
     world: &World,
     tasks: &[TaskId],
 ) -> Result<(), NoMemory>
-    requires fits { FitsPlan facts.now world.now.plan }
+    requires fits { FactsFitPlan facts.now world.now.plan }
     ensures { OnOk result (out.new.items ≡ out.old.items ++ lines_of_impeders facts.now (state_of world.now).phases tasks.now) }
 {
     match tasks {
@@ -87,7 +87,7 @@ fn waiting(facts: &Facts) -> Result<Vec<TaskId>, NoMemory>
 
 // The tasks that were not forked.
 fn unforked(facts: &Facts) -> Result<Vec<TaskId>, NoMemory>
-    ensures { IfOk result (λ v. v.items ≡ tasks_that is_unforked facts.now) }
+    ensures { IfOk result (λ v. v.items ≡ tasks_that stands_unforked facts.now) }
 {
     let mut all = Vec::new(facts.alloc());
     for t in 0..facts.count() {
@@ -148,7 +148,7 @@ fn put_paragraph(
     saying: &Saying,
     tasks: &[TaskId],
 ) -> Result<(), NoMemory>
-    requires fits { FitsPlan facts.now world.now.plan }
+    requires fits { FactsFitPlan facts.now world.now.plan }
     ensures { OnOk result (out.new.items ≡ out.old.items
         ++ (own_lines facts.now (said_by saying.now) tasks.now ++ lines_of_impeders facts.now (state_of world.now).phases tasks.now)) }
 {
@@ -164,7 +164,7 @@ fn put_grouped(
     sayings: &[Saying],
     groups: &[Vec<TaskId>],
 ) -> Result<(), NoMemory>
-    requires fits { FitsPlan facts.now world.now.plan }
+    requires fits { FactsFitPlan facts.now world.now.plan }
     requires sized { length groups.now ≡ length sayings.now }
     ensures { OnOk result (out.new.items ≡ out.old.items ++ texts_in (paragraph_text facts.now (state_of world.now).phases) sayings.now groups.now) }
 {
@@ -181,7 +181,7 @@ pub(crate) fn put_paragraphs(
     world: &World,
     shown: &[TaskId],
 ) -> Result<(), NoMemory>
-    requires fits { FitsPlan facts.now world.now.plan }
+    requires fits { FactsFitPlan facts.now world.now.plan }
     ensures { OnOk result (out.new.items ≡ out.old.items ++ paragraphs facts.now (state_of world.now).phases shown.now) }
 {
     let grouping = own_groups(facts, shown)?;

@@ -4,7 +4,7 @@ ghost use Rattle.std.specs.List.{enumerate_from};
 ghost use Rattle.explained_tasks.specs.declared.outcome.Verdict.TheVariants.{Chain};
 ghost use Rattle.task_sayings.specs.declared.situation.Situation.TheVariants.{HasEnded, NotForkedYet};
 ghost use Rattle.task_sayings.specs.Facts.{is_deadlocked, situation_of, tasks_that};
-ghost use Rattle.explained_tasks.specs.VerdictWords.{circle_words, last_words, link_as, link_words, linked_words, shown_as, shown_words, verdict_kind, verdict_line, verdict_words};
+ghost use Rattle.explained_tasks.specs.VerdictWords.{circle_words, walk_end_words, link_as, link_words, linked_words, shown_as, shown_words, verdict_kind, verdict_line, verdict_words};
 
 use crate::outcome::Verdict;
 use crate::walk::least_dead;
@@ -97,7 +97,7 @@ fn put_circle(facts: &Facts, out: &mut Vec<u8>, shown: &[TaskId]) -> Result<(), 
 
 // Appends where the last of a walk ended.
 fn put_ended_last(facts: &Facts, out: &mut Vec<u8>, t: TaskId) -> Result<(), NoMemory>
-    ensures { OnOk result (out.new.items ≡ out.old.items ++ last_words facts.now t.0 HasEnded) }
+    ensures { OnOk result (out.new.items ≡ out.old.items ++ walk_end_words facts.now t.0 HasEnded) }
 {
     put_words(out, b", which ended at ")?;
     facts.put_end_place(out, t)
@@ -110,7 +110,7 @@ fn put_last_of_walk(
     t: TaskId,
     situation: Situation,
 ) -> Result<(), NoMemory>
-    ensures { OnOk result (out.new.items ≡ out.old.items ++ last_words facts.now t.0 situation) }
+    ensures { OnOk result (out.new.items ≡ out.old.items ++ walk_end_words facts.now t.0 situation) }
 {
     match situation {
         Situation::HasEnded => put_ended_last(facts, out, t),

@@ -1,12 +1,12 @@
 // The walk along the nexts.
 ghost use Rattle.task_sayings.specs.Facts.{is_deadlocked, is_waiting, situation_of, tasks_that};
-ghost use Rattle.explained_tasks.specs.Verdicts.{IsVerdict, IsVerdictFrom, start_of};
-ghost use Rattle.task_sayings.specs.Fitting.{FitsPlan};
+ghost use Rattle.explained_tasks.specs.Verdicts.{IsVerdict, IsVerdictFrom, walk_start};
+ghost use Rattle.task_sayings.specs.calls.Fitting.{FactsFitPlan};
 ghost use Rattle.explained_tasks.specs.inside.Fitting.{WaitForSome};
 ghost use Rattle.std.specs.Prelude.{◌≡◌, ◌<◌, ℕ, Contains, IfOk, Some, true, length, slice_get, slice_index_or};
 ghost use Rattle.armus_base.specs.declared.ids.TaskId.{TaskId};
-ghost use Rattle.explained_tasks.specs.inside.WalkEnds.{ClosesIn, EndsIn};
-ghost use Rattle.pl_core.specs.Worlds.{state_of};
+ghost use Rattle.explained_tasks.specs.inside.WalkEnds.{ClosesIn, WalkEndsIn};
+ghost use Rattle.pl_core.specs.calls.Worlds.{state_of};
 
 use crate::outcome::Verdict;
 use armus_base::{List, NoMemory, TaskId};
@@ -39,7 +39,7 @@ fn circle_of(alloc: Global, path: &[TaskId], t: TaskId) -> Result<Verdict, NoMem
 // What a walk shows that comes to its end in a task, from the task before it.
 fn chain_of(path: &[TaskId], t: TaskId) -> Verdict
     requires { 0 < length path.now }
-    ensures { EndsIn path.now t result }
+    ensures { WalkEndsIn path.now t result }
 {
     Verdict::Chain(path[path.len() - 1], t)
 }
@@ -70,14 +70,14 @@ fn least_waiting(facts: &Facts) -> Option<TaskId>
 
 // The task with which the walk begins.
 fn start(facts: &Facts) -> Option<TaskId>
-    ensures { result ≡ start_of facts.now }
+    ensures { result ≡ walk_start facts.now }
 {
     first_or(least_dead(facts), least_waiting(facts))
 }
 
 // What the walk from a task that waits shows.
 fn walk_from(facts: &Facts, world: &World, start: TaskId) -> Result<Verdict, NoMemory>
-    requires fits { FitsPlan facts.now world.now.plan }
+    requires fits { FactsFitPlan facts.now world.now.plan }
     requires wait { WaitForSome facts.now (state_of world.now).phases }
     requires inside { start.0 < length world.now.plan.parents }
     requires waits { is_waiting (situation_of facts.now start.0) ≡ true }
@@ -100,7 +100,7 @@ fn walk_from(facts: &Facts, world: &World, start: TaskId) -> Result<Verdict, NoM
 
 /// The verdict.
 pub(crate) fn verdict_of(facts: &Facts, world: &World) -> Result<Verdict, NoMemory>
-    requires fits { FitsPlan facts.now world.now.plan }
+    requires fits { FactsFitPlan facts.now world.now.plan }
     requires wait { WaitForSome facts.now (state_of world.now).phases }
     ensures { IfOk result (IsVerdict facts.now (state_of world.now).phases) }
 {

@@ -9,7 +9,7 @@ use Rattle.pl_syntax.proofs.Unique.{one_tree, text_or_fault}
 use Rattle.armus_base.specs.Pieces.{times}
 use Rattle.pl_plan.specs.Unfolding.{UnfoldingState, Start, Outcome, ◌>>=◌, a_phaser, a_plain, a_loop, a_turn, visit, visits_of, make_visits, count_visit, act, add_op, assigned, with_names, with_member, unfold_task, unfold_tasks, opening_state, plan_of, with_pieces}
 use Rattle.gen_text.specs.Generated.{generated_text}
-use Rattle.gen_text.specs.Laws.{GeneratedIsAccepted, GeneratedHasNoSyntaxFault, GeneratedHasNoCheckFault}
+use Rattle.gen_text.specs.calls.Laws.{GeneratedIsAccepted, GeneratedHasNoSyntaxFault, GeneratedHasNoCheckFault}
 use Rattle.gen_text.proofs.GeneratedProgram.{pc, pb, draws, goes_on, generated_body, generated_program, is_text}
 use Rattle.gen_text.proofs.Succeeding.{Succeeds, so, and_then, Parts, Has, has_more, both}
 use Rattle.gen_text.proofs.Statements.{left}

@@ -5,10 +5,13 @@ use Rattle.std.specs.Fmt.{digits}
 use Rattle.pl_syntax.specs.declared.limits.TheConstants.{MAX_NUMBER, MAX_OPEN_BRACES}
 use Rattle.armus_base.specs.declared.offset.Offset.TheVariants.{Here}
 use Rattle.pl_syntax.specs.declared.tree.Program.{Program}
-use Rattle.pl_syntax.specs.Words.{IsName, keyword_of}
-use Rattle.pl_syntax.specs.Tree.{Tree, done, plain, fork, loop, new_task, new_phaser, reg, dereg, adv, await, height, AllHere}
+use Rattle.pl_syntax.specs.calls.Words.{IsName}
+use Rattle.pl_syntax.specs.Words.{keyword_of}
+use Rattle.pl_syntax.specs.Tree.{Tree, done, plain, fork, loop, new_task, new_phaser, reg, dereg, adv, await, height}
+use Rattle.pl_syntax.specs.calls.Tree.{AllHere}
 use Rattle.pl_syntax.specs.Grammar.{IsText}
-use Rattle.pl_syntax.specs.Printed.{indented_line, plain_text, printed_at, printed_of, TreeIsWritable}
+use Rattle.pl_syntax.specs.Printed.{indented_line, plain_text, printed_at, printed_of}
+use Rattle.pl_syntax.specs.calls.Printed.{TreeIsWritable}
 use Rattle.pl_syntax.proofs.RoundTrip.{prints_text}
 use Rattle.gen_text.specs.Generated.{generated_text}
 

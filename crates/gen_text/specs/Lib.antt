@@ -1,2 +1,3 @@
 pub mod Generated
-pub mod Laws
+-- Words of contracts further down, which no promise of a program needs.
+pub mod calls

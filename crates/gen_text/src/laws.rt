@@ -1,5 +1,5 @@
 // The laws over the generated texts: the contract of a function with an empty body.
-ghost use Rattle.gen_text.specs.Laws.{GeneratedIsAccepted, GeneratedHasNoSyntaxFault, GeneratedHasNoCheckFault};
+ghost use Rattle.gen_text.specs.calls.Laws.{GeneratedIsAccepted, GeneratedHasNoSyntaxFault, GeneratedHasNoCheckFault};
 
 /// Each generated text with fewer than `MAX_TASKS` workers is in the grammar, and its program unfolds to a plan; it has no fault of either kind.
 pub fn gen_is_accepted()

@@ -1,6 +1,6 @@
 // Orders by rows, beside a plain search at random, and beside statuses.
 ghost use Rattle.std.specs.Prelude.{All, IsTrue};
-ghost use Rattle.order_graph.specs.Orders.{IsTaskOf};
+ghost use Rattle.order_graph.specs.calls.Orders.{IsTaskOf};
 
 use crate::texts::{add_numbers, number, statuses};
 use armus_base::{NoMemory, TaskId};

@@ -6,8 +6,9 @@ use Rattle.armus_base.specs.Runs.{IsByCode, IsPlainRun, places}
 use Rattle.armus_base.specs.States.{Step}
 use Rattle.armus_base.proofs.Codes.{no_refusal}
 use Rattle.armus_base.proofs.Members.{by_code_next, plain_undropped}
-use Rattle.locked_world.specs.Journals.{GoesOnWith, JournalLeadsTo, no_step, one_more, journal_of}
-use Rattle.locked_world.specs.Laws.{EachGoesOn, JournalFixesRun, JournalLeads, LeadsIsJournal}
+use Rattle.locked_world.specs.calls.Journals.{GoesOnWith, JournalLeadsTo, no_step, one_more}
+use Rattle.locked_world.specs.Journals.{journal_of}
+use Rattle.locked_world.specs.calls.Laws.{EachGoesOn, JournalFixesRun, JournalLeads, LeadsIsJournal}
 use Rattle.locked_world.proofs.Ahead.{ahead_of_last, same_ends}
 
 in_code_plain : (x : Action) → ((aim : Aim) → x ≢ Refuses aim) → in_code x ≡ x

@@ -10,11 +10,11 @@ use Rattle.armus_base.specs.Runs.{first_place, moved, places, state_after}
 use Rattle.armus_base.specs.States.{IsLegal}
 use Rattle.armus_base.proofs.Stepping.{places_fix}
 use Rattle.pl_core.specs.declared.place.Place.{Place as KeptPlace}
-use Rattle.pl_core.specs.Moves.{IsWorldStep}
-use Rattle.pl_core.specs.Worlds.{IsOpeningWorld, WorldValue, place_from, places_at, state_of}
+use Rattle.pl_core.specs.calls.Moves.{IsWorldStep}
+use Rattle.pl_core.specs.calls.Worlds.{IsOpeningWorld, WorldValue, place_from, places_at, state_of}
 use Rattle.pl_core.proofs.Opening.{copy_is}
-use Rattle.locked_world.specs.Journals.{GoesOnWith, IsReplayOfJournal, LoggedValue, LogsStep}
-use Rattle.locked_world.specs.Laws.{ReplayedState}
+use Rattle.locked_world.specs.calls.Journals.{GoesOnWith, IsReplayOfJournal, LoggedValue, LogsStep}
+use Rattle.locked_world.specs.calls.Laws.{ReplayedState}
 use Rattle.locked_world.proofs.Journals.{journal_fixes_run, journal_leads, plain_longer}
 
 -- the opening world is the replay of the empty journal

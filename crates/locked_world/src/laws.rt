@@ -1,5 +1,5 @@
 // Laws of journals.
-ghost use Rattle.locked_world.specs.Laws.{JournalFixesRun, JournalLeads, LeadsIsJournal, EachGoesOn, ReplayedState};
+ghost use Rattle.locked_world.specs.calls.Laws.{JournalFixesRun, JournalLeads, LeadsIsJournal, EachGoesOn, ReplayedState};
 
 /// A journal leads to its run: each of its tasks, in order, makes the next action by its code, which is legal there; and tasks that do so are the journal of a plain run.
 pub fn journal_leads()

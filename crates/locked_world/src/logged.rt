@@ -1,8 +1,8 @@
 // A world beside the journal of its steps.
 ghost use Rattle.std.specs.Prelude.{◌≡◌, ◌<◌, ◌↔◌, [], IfOk, IsTrue, MatchBool, OnErr, length};
-ghost use Rattle.locked_world.specs.Journals.{IsReplayOfJournal, LogsStep};
-ghost use Rattle.pl_core.specs.Stands.{IsEnabled};
-ghost use Rattle.pl_core.specs.Worlds.{IsOpeningWorld};
+ghost use Rattle.locked_world.specs.calls.Journals.{IsReplayOfJournal, LogsStep};
+ghost use Rattle.pl_core.specs.calls.Stands.{IsEnabled};
+ghost use Rattle.pl_core.specs.calls.Worlds.{IsOpeningWorld};
 
 use crate::PlanName;
 use armus_base::{List, NoMemory, Plan, TaskId};
@@ -19,7 +19,7 @@ pub struct Logged<'p, N: PlanName> {
 }
 
 impl<'p, N: PlanName> Model for Logged<'p, N> {
-    ghost use Rattle.locked_world.specs.Journals.{LoggedValue, IsReplayOfJournal};
+    ghost use Rattle.locked_world.specs.calls.Journals.{LoggedValue, IsReplayOfJournal};
 
     ghost Value = { LoggedValue };
 

@@ -10,7 +10,7 @@ pub trait PlanName: Send + Sync {
 }
 
 impl PlanName for Brand {
-    ghost use Rattle.armus_base.specs.CheckedPlans.{first_plan};
+    ghost use Rattle.armus_base.specs.calls.CheckedPlans.{first_plan};
 
     ghost plan = { first_plan };
 }

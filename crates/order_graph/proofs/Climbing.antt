@@ -5,10 +5,10 @@ use Rattle.std.proofs.lemmas.Bool.{cases_lt}
 use Rattle.std.proofs.lemmas.List.{get_or_past}
 use Rattle.std.proofs.lemmas.List.Elements.{All-contains}
 use Rattle.armus_base.specs.declared.ids.TaskId.{TaskId}
-use Rattle.armus_base.specs.Relations.{Walk, ReachesCycle}
+use Rattle.armus_base.specs.calls.Relations.{Walk, ReachesCycle}
 use Rattle.armus_base.proofs.Elements.{nothing_in_nil}
-use Rattle.dep_state.specs.Picks.{Ascend}
-use Rattle.order_graph.specs.Orders.{OrderValue, IsEdge, IsOrder, IsTaskOf, position_of, successors_of}
+use Rattle.dep_state.specs.calls.Picks.{Ascend}
+use Rattle.order_graph.specs.calls.Orders.{OrderValue, IsEdge, IsOrder, IsTaskOf, position_of, successors_of}
 
 -- a walk along one relation is a walk along one that holds where it does
 pub walk_along : {X : Type 0} (R S : X → X → Type 0) → ((a b : X) → R a b → S a b) → (n : ℕ) (a b : X) → Walk R n a b → Walk S n a b

@@ -7,9 +7,9 @@ use Rattle.std.proofs.lemmas.List.Elements.{All-contains, Contains-append_cases,
 use Rattle.std.proofs.lemmas.List.Filters.{length-filter_both}
 use Rattle.std.proofs.lemmas.List.Kept.{AllPairs-filter}
 use Rattle.armus_base.specs.declared.ids.TaskId.{TaskId}
-use Rattle.armus_base.specs.Relations.{Walk}
+use Rattle.armus_base.specs.calls.Relations.{Walk}
 use Rattle.dep_state.proofs.DeadSets.{same_task}
-use Rattle.order_graph.specs.Orders.{OrderValue, IsEdge, IsOrder, IsTaskOf, position_of}
+use Rattle.order_graph.specs.calls.Orders.{OrderValue, IsEdge, IsOrder, IsTaskOf, position_of}
 use Rattle.order_graph.specs.inside.Distances.{IsListedIn, NeverReaches, TellDistances, TellsDistance, distance_in}
 use Rattle.order_graph.specs.inside.Mending.{IsBetween, IsMended, IsStretch, MayPrecede}
 use Rattle.order_graph.specs.inside.Rows.{AreSettled}
@@ -133,12 +133,6 @@ pub never_told :
     is_some (distance_in o goal far t) ≡ false → NeverReaches o goal t
 never_told o ok goal far tells t listed off = told_none o goal t (distance_in o goal far t) (tells_each o ok goal far tells t listed) off
 
--- and one of which a distance is told does
-pub walk_told :
-    (o : OrderValue) (ok : IsOrder o) (goal : TaskId) (far : List (Option ℕ)) → TellDistances o goal far → (t : TaskId) → IsListedIn o goal far t →
-    is_some (distance_in o goal far t) ≡ true → (n : ℕ) × Walk (IsEdge o) n t goal
-walk_told o ok goal far tells t listed on = told_some o goal t (distance_in o goal far t) (tells_each o ok goal far tells t listed) on
-
 -- one more task is put at the next position
 module _ (low : ℕ) (us : List TaskId) (t : TaskId) (positions now : List ℕ) (at after : List TaskId) (h : AreSettled low us positions now at after) where
   pub settle_more :
@@ -175,18 +169,6 @@ module _ (low : ℕ) (us : List TaskId) (t : TaskId) (positions now : List ℕ) 
             get_or-set_other after (low + length us) p t d (λ e. elim out [ inl a ↦ omega arith | inr c ↦ omega arith ]) ∙
             h.at_there p d (elim out [ inl a ↦ inl a | inr c ↦ inr (omega arith) ]);
       }
-
--- nothing was put yet
-pub settle_none : (low : ℕ) (positions : List ℕ) (at : List TaskId) → AreSettled low [] positions positions at at
-settle_none low positions at =
-    record {
-      sized = refl;
-      positions_here = λ k d lt. absurd (omega arith);
-      positions_there = λ t none. refl;
-      at_sized = refl;
-      at_here = λ k d lt. absurd (omega arith);
-      at_there = λ p d out. refl;
-    }
 
 -- of tasks no two of which are the same, none stands among those ahead of it
 pub not_ahead : (ts : List TaskId) (k : ℕ) (d : TaskId) → AllPairs (λ t u. t ≡ u → ⊥) ts → k < length ts → Contains (take k ts) (get_or ts k d) → ⊥

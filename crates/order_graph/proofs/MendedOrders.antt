@@ -5,9 +5,9 @@ use Rattle.std.proofs.lemmas.Bool.{cases_lt, cases_order}
 use Rattle.std.proofs.lemmas.List.{get_or_default}
 use Rattle.std.proofs.lemmas.List.Elements.{All-set, Contains-get_or}
 use Rattle.armus_base.specs.declared.ids.TaskId.{TaskId}
-use Rattle.dep_state.specs.Picks.{Ascend}
-use Rattle.order_graph.specs.Adding.{HasEdgeMore}
-use Rattle.order_graph.specs.Orders.{OrderValue, IsEdge, IsOrder, IsTaskOf, position_of, successors_of}
+use Rattle.dep_state.specs.calls.Picks.{Ascend}
+use Rattle.order_graph.specs.calls.Adding.{HasEdgeMore}
+use Rattle.order_graph.specs.calls.Orders.{OrderValue, IsEdge, IsOrder, IsTaskOf, position_of, successors_of}
 use Rattle.order_graph.specs.inside.Distances.{NeverReaches}
 use Rattle.order_graph.specs.inside.Mending.{IsBetween, IsMended}
 use Rattle.order_graph.specs.inside.Rows.{AreInverse, AreSettled}

@@ -6,32 +6,14 @@ use Rattle.std.proofs.lemmas.Bool.{cases_eq, cases_lt, lt-ltb, le-ltb}
 use Rattle.std.proofs.lemmas.List.{get_or_default, get_or_push, get_or_append_left, get_or-take, length_push, length-take}
 use Rattle.std.proofs.lemmas.List.Elements.{All-contains, Contains-append_left, Contains-push, Contains-push_cases}
 use Rattle.armus_base.specs.declared.ids.TaskId.{TaskId}
-use Rattle.armus_base.specs.Relations.{Walk}
-use Rattle.dep_state.specs.Picks.{Ascend}
-use Rattle.order_graph.specs.Adding.{IsNearest}
-use Rattle.order_graph.specs.Orders.{OrderValue, IsEdge, IsOrder, IsTaskOf, position_of, successors_of}
+use Rattle.armus_base.specs.calls.Relations.{Walk}
+use Rattle.dep_state.specs.calls.Picks.{Ascend}
+use Rattle.order_graph.specs.calls.Adding.{IsNearest}
+use Rattle.order_graph.specs.calls.Orders.{OrderValue, IsEdge, IsOrder, IsTaskOf, position_of, successors_of}
 use Rattle.order_graph.specs.declared.distances.Near.{Near}
 use Rattle.order_graph.specs.inside.Distances.{IsDistance, IsListedIn, IsNearestOf, NeverReaches, TellDistances, TellsDistance, distance_in}
 use Rattle.order_graph.specs.inside.Mending.{IsStretch}
 use Rattle.order_graph.proofs.Climbing.{climbs, to_task}
-
--- a task that is not nearer leaves the nearest as it was
-pub stays_nearest :
-    (o : OrderValue) (goal : TaskId) (ts : List TaskId) (near : Near) (next : TaskId) (left : ℕ) → IsNearestOf o goal ts near →
-    All (λ c. c.0 ≤ next.0) ts → IsDistance o goal next left → near.left ≤ left → IsNearestOf o goal (ts ++ next ∷ []) near
-stays_nearest o goal ts near next left is below found le =
-    record {
-      among = Contains-append_left ts (next ∷ []) near.next is.among;
-      walk = is.walk;
-      least = λ c n m w. elim (Contains-push_cases ts next c m) [
-        | inl l ↦ is.least c n l w
-        | inr e ↦
-            let d : left ≤ n = found.least n (subst (λ x. Walk (IsEdge o) n x goal) (sym e) w) in
-            let up : near.next.0 ≤ next.0 = All-contains (λ x. x.0 ≤ next.0) ts near.next below is.among in
-            let same : next.0 ≡ c.0 = ap (λ x. x.0) e in
-            elim (cases_eq near.left n) [ inl f ↦ inr (f, omega arith) | inr ne ↦ inl (omega arith) ]
-      ];
-    }
 
 -- a nearer one takes its place
 pub is_nearer :

@@ -5,8 +5,8 @@ use Rattle.std.proofs.lemmas.List.{get_or_append_left, get_or_at}
 use Rattle.armus_base.specs.declared.ids.TaskId.{TaskId}
 use Rattle.armus_base.specs.Relations.{IsWalk}
 use Rattle.armus_base.proofs.WalkCycles.{IsWalk-push}
-use Rattle.order_graph.specs.Adding.{IsNearest, IsNearestWalk}
-use Rattle.order_graph.specs.Orders.{OrderValue}
+use Rattle.order_graph.specs.calls.Adding.{IsNearest, IsNearestWalk}
+use Rattle.order_graph.specs.calls.Orders.{OrderValue}
 
 -- the tasks that were passed, and the one that stands next
 pub record IsWayTo (o : OrderValue) (start goal : TaskId) (list : List TaskId) (t : TaskId) : Type 0 where

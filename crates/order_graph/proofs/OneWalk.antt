@@ -3,9 +3,9 @@ use Rattle.std.proofs.Common.{◌≡◌, ℕ, zero, suc, ◌+◌, ◌-◌, ◌<�
 use Rattle.std.proofs.lemmas.Bool.{cases_lt}
 use Rattle.std.proofs.lemmas.List.{ext_get_or}
 use Rattle.armus_base.specs.declared.ids.TaskId.{TaskId}
-use Rattle.order_graph.specs.Adding.{IsNearest, IsNearestWalk}
-use Rattle.order_graph.specs.Orders.{OrderValue, IsOrder}
-use Rattle.order_graph.specs.Laws.{OneNearestWalk}
+use Rattle.order_graph.specs.calls.Adding.{IsNearest, IsNearestWalk}
+use Rattle.order_graph.specs.calls.Orders.{OrderValue, IsOrder}
+use Rattle.order_graph.specs.calls.Laws.{OneNearestWalk}
 use Rattle.order_graph.proofs.Climbing.{no_round}
 
 module _ (o : OrderValue) (goal : TaskId) where

@@ -5,10 +5,10 @@ use Rattle.std.proofs.lemmas.Bool.{cases_eq}
 use Rattle.std.proofs.lemmas.List.{get_or_default, set-get_or}
 use Rattle.std.proofs.lemmas.List.Elements.{All-set, Contains-get_or}
 use Rattle.armus_base.specs.declared.ids.TaskId.{TaskId}
-use Rattle.dep_state.specs.Picks.{Ascend}
+use Rattle.dep_state.specs.calls.Picks.{Ascend}
 use Rattle.dep_state.proofs.DeadSets.{same_task}
-use Rattle.order_graph.specs.Adding.{HasEdgeMore, HasNoEdge}
-use Rattle.order_graph.specs.Orders.{OrderValue, IsEdge, IsOrder, IsTaskOf, position_of, successors_of}
+use Rattle.order_graph.specs.calls.Adding.{HasEdgeMore, HasNoEdge}
+use Rattle.order_graph.specs.calls.Orders.{OrderValue, IsEdge, IsOrder, IsTaskOf, position_of, successors_of}
 use Rattle.order_graph.specs.inside.Rows.{KeepsOnly, order_of}
 use Rattle.order_graph.proofs.Climbing.{climbs, to_task}
 

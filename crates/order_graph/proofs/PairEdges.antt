@@ -5,15 +5,16 @@ use Rattle.std.proofs.lemmas.Bool.{cases_eq, cases_lt}
 use Rattle.std.proofs.lemmas.List.{ext_get_or, get_or_default, take-append-drop, take_more}
 use Rattle.std.proofs.lemmas.List.Elements.{Contains-append_left, Contains-push, Contains-push_cases}
 use Rattle.armus_base.specs.declared.ids.TaskId.{TaskId}
-use Rattle.armus_base.specs.Relations.{IsWalk, ReachesCycle, Walk}
+use Rattle.armus_base.specs.Relations.{IsWalk}
+use Rattle.armus_base.specs.calls.Relations.{ReachesCycle, Walk}
 use Rattle.armus_base.proofs.Walks.{reaches_own}
 use Rattle.dep_state.proofs.DeadSets.{same_task}
-use Rattle.order_graph.specs.Adding.{HasEdgeMore, IsNearest, IsNearestWalk}
-use Rattle.order_graph.specs.Following.{AnswersFollowing, Follows, StopsAtCycle}
+use Rattle.order_graph.specs.calls.Adding.{HasEdgeMore, IsNearest, IsNearestWalk}
+use Rattle.order_graph.specs.calls.Following.{AnswersFollowing, Follows, StopsAtCycle}
 use Rattle.order_graph.specs.declared.answers.Followed.{Followed}
 use Rattle.order_graph.specs.declared.answers.Followed.TheVariants.{Kept, Dead}
-use Rattle.order_graph.specs.Orders.{OrderValue, IsEdge, IsOrder, position_of}
-use Rattle.order_graph.specs.Waits.{Awaits, own_set}
+use Rattle.order_graph.specs.calls.Orders.{OrderValue, IsEdge, IsOrder, position_of}
+use Rattle.order_graph.specs.calls.Waits.{Awaits, own_set}
 use Rattle.order_graph.specs.declared.waits.Waits.{Waits}
 use Rattle.order_graph.specs.inside.Rows.{KeepsOnly}
 use Rattle.order_graph.specs.inside.Steps.{AddsAll, AnswersEdges, KeepsPairs, PairsBelow, StopsAt, ToWanted}
@@ -54,10 +55,6 @@ module _ (Pair : TaskId → TaskId → Type 0) where
           λ (o, w). (below a b).1 (o, λ lt. w),
         );
       }
-
--- nothing had to be added
-pub adds_none : (Adds : TaskId → TaskId → Type 0) (old : OrderValue) → ((a b : TaskId) → Adds a b → IsEdge old a b) → AddsAll Adds old old
-adds_none Adds old there = record { edges = λ a b. (λ h. inl h, λ h. elim h [ inl l ↦ l | inr r ↦ there a b r ]); stays = λ up. refl }
 
 -- nobody moves for an edge that goes up
 positions_same : (t b : TaskId) (old new : OrderValue) → HasEdgeMore t b old new → position_of old t < position_of old b → new.positions ≡ old.positions

@@ -5,25 +5,25 @@ use Rattle.std.proofs.lemmas.Bool.{cases_eq}
 use Rattle.std.proofs.lemmas.Nat.Bits.{bit_at-lt, bit_at-zero}
 use Rattle.armus_base.specs.declared.ids.TaskId.{TaskId}
 use Rattle.dep_state.proofs.DeadSets.{same_task}
-use Rattle.order_graph.specs.inside.Bits.{IsWithBit, bit_less, bit_of, tasks_by, tasks_in}
+use Rattle.order_graph.specs.inside.Bits.{IsWithBit, bit_less, bit_of, tasks_by, tasks_by_bits}
 use Rattle.order_graph.proofs.TaskBits.{by_from, by_has, by_same, in_from, in_has, in_not, in_words, not_one}
 
 pub has_task : (words : List ℕ) (t : TaskId) (r : Bool) → MatchBool r (bit_of words t.0 ≡ 1) (bit_of words t.0 ≡ 0) →
-    MatchBool r (Contains (tasks_in words) t) (Contains (tasks_in words) t → ⊥)
+    MatchBool r (Contains (tasks_by_bits words) t) (Contains (tasks_by_bits words) t → ⊥)
 has_task words t true on = in_has words t on
 has_task words t false off = in_not words t off
 
 module _ (old mid new : List ℕ) (t : TaskId) where
   -- one task more
   module _ (same : (n : ℕ) → bit_of mid n ≡ bit_of old n) (is : IsWithBit mid t.0 1 new) where
-    pub put_within : (u : TaskId) → Contains (tasks_in new) u → Contains (tasks_in old) u ⊎ (u ≡ t)
+    pub put_within : (u : TaskId) → Contains (tasks_by_bits new) u → Contains (tasks_by_bits old) u ⊎ (u ≡ t)
     put_within u m =
         elim (cases_eq u.0 t.0) [
           | inl e ↦ inr (same_task u t e)
           | inr ne ↦ inl (in_has old u (sym (same u.0) ∙ sym (is.others u.0 ne) ∙ in_from new u m))
         ]
 
-    pub put_members : (u : TaskId) → Contains (tasks_in new) u ↔ (Contains (tasks_in old) u ⊎ (u ≡ t))
+    pub put_members : (u : TaskId) → Contains (tasks_by_bits new) u ↔ (Contains (tasks_by_bits old) u ⊎ (u ≡ t))
     put_members u = (
       put_within u,
       λ h. in_has new u (elim (cases_eq u.0 t.0) [
@@ -36,7 +36,7 @@ module _ (old mid new : List ℕ) (t : TaskId) where
     )
 
   -- one task less
-  pub out_members : IsWithBit old t.0 0 new → (u : TaskId) → Contains (tasks_in new) u ↔ (Contains (tasks_in old) u × (u ≡ t → ⊥))
+  pub out_members : IsWithBit old t.0 0 new → (u : TaskId) → Contains (tasks_by_bits new) u ↔ (Contains (tasks_by_bits old) u × (u ≡ t → ⊥))
   out_members is u = (
     λ m.
         let on = in_from new u m in
@@ -48,7 +48,7 @@ module _ (old mid new : List ℕ) (t : TaskId) where
 -- only the common tasks
 pub common_members :
     (old new other : List ℕ) → ((n : ℕ) → bit_of new n ≡ min (bit_of old n) (bit_of other n)) → (u : TaskId) →
-    Contains (tasks_in new) u ↔ (Contains (tasks_in old) u × Contains (tasks_in other) u)
+    Contains (tasks_by_bits new) u ↔ (Contains (tasks_by_bits old) u × Contains (tasks_by_bits other) u)
 common_members old new other are u = (
   λ m.
       let on = in_from new u m in
@@ -62,7 +62,7 @@ common_members old new other are u = (
 module _ (words other : List ℕ) where
   -- the tasks of the first words that the others do not have
   pub less_within :
-      (u : TaskId) → Contains (tasks_by (bit_less words other) (64 * length words)) u → Contains (tasks_in words) u × (Contains (tasks_in other) u → ⊥)
+      (u : TaskId) → Contains (tasks_by (bit_less words other) (64 * length words)) u → Contains (tasks_by_bits words) u × (Contains (tasks_by_bits other) u → ⊥)
   less_within u m =
       let on = (by_from (bit_less words other) (64 * length words) u m).1 in
       let l = bit_at-lt (get_or words (u.0 / 64) 0) (u.0 % 64) in (
@@ -70,7 +70,7 @@ module _ (words other : List ℕ) where
         λ n. let off = in_from other u n in omega arith,
       )
 
-  pub less_all : (u : TaskId) → Contains (tasks_in words) u → Contains (tasks_by (bit_less words other) (64 * length words)) u ⊎ Contains (tasks_in other) u
+  pub less_all : (u : TaskId) → Contains (tasks_by_bits words) u → Contains (tasks_by (bit_less words other) (64 * length words)) u ⊎ Contains (tasks_by_bits other) u
   less_all u m =
       let on = in_from words u m in
       elim (cases_eq (bit_of other u.0) 1) [
@@ -79,9 +79,3 @@ module _ (words other : List ℕ) where
             let off : bit_of other u.0 ≡ 0 = not_one (get_or other (u.0 / 64) 0) (u.0 % 64) ne in
             inl (by_has (bit_less words other) (64 * length words) u (in_words words u.0 on) (omega arith))
       ]
-
--- where there are no others these are all
-pub less_none : (words : List ℕ) → tasks_by (bit_less words []) (64 * length words) ≡ tasks_in words
-less_none words =
-    by_same (bit_less words []) (bit_of words) (64 * length words) (λ k lt.
-    let z : bit_of [] k ≡ 0 = bit_at-zero (k % 64) in let l = bit_at-lt (get_or words (k / 64) 0) (k % 64) in omega arith)

@@ -8,8 +8,8 @@ use Rattle.std.proofs.lemmas.List.{append-nil, get_or_past}
 use Rattle.std.proofs.lemmas.Nat.Bits.{bit_at-lt, bit_at-zero}
 use Rattle.armus_base.specs.declared.ids.TaskId.{TaskId}
 use Rattle.armus_base.proofs.Below.{given_ascends, given_from, given_is}
-use Rattle.dep_state.specs.Picks.{Ascend}
-use Rattle.order_graph.specs.inside.Bits.{bit_of, task_if, tasks_by, tasks_in}
+use Rattle.dep_state.specs.calls.Picks.{Ascend}
+use Rattle.order_graph.specs.inside.Bits.{bit_of, task_if, tasks_by, tasks_by_bits}
 
 task : ℕ → TaskId
 task n = record { 0 = n }
@@ -80,22 +80,22 @@ module _ (words : List ℕ) where
   pub in_words : (n : ℕ) → bit_of words n ≡ 1 → n < 64 * length words
   in_words n on = elim (cases_lt n (64 * length words)) [ inl lt ↦ lt | inr past ↦ absurd (let off = past_words words n past in omega arith) ]
 
-  pub in_has : (u : TaskId) → bit_of words u.0 ≡ 1 → Contains (tasks_in words) u
+  pub in_has : (u : TaskId) → bit_of words u.0 ≡ 1 → Contains (tasks_by_bits words) u
   in_has u on = by_has (bit_of words) (64 * length words) u (in_words u.0 on) on
 
-  pub in_from : (u : TaskId) → Contains (tasks_in words) u → bit_of words u.0 ≡ 1
+  pub in_from : (u : TaskId) → Contains (tasks_by_bits words) u → bit_of words u.0 ≡ 1
   in_from u m = (by_from (bit_of words) (64 * length words) u m).1
 
-  pub in_not : (u : TaskId) → bit_of words u.0 ≡ 0 → Contains (tasks_in words) u → ⊥
+  pub in_not : (u : TaskId) → bit_of words u.0 ≡ 0 → Contains (tasks_by_bits words) u → ⊥
   in_not u off m = let on = in_from u m in omega arith
 
-  pub in_ascends : Ascend (tasks_in words)
+  pub in_ascends : Ascend (tasks_by_bits words)
   in_ascends = by_ascends (bit_of words) (64 * length words)
 
-  in_beyond : (m : ℕ) → tasks_by (bit_of words) (64 * length words + m) ≡ tasks_in words
+  in_beyond : (m : ℕ) → tasks_by (bit_of words) (64 * length words + m) ≡ tasks_by_bits words
   in_beyond m = by_past (bit_of words) (64 * length words) m (λ k lt. past_words words (64 * length words + k) (omega arith))
 
-pub in_same : (words other : List ℕ) → ((n : ℕ) → bit_of words n ≡ bit_of other n) → tasks_in words ≡ tasks_in other
+pub in_same : (words other : List ℕ) → ((n : ℕ) → bit_of words n ≡ bit_of other n) → tasks_by_bits words ≡ tasks_by_bits other
 in_same words other same =
     let turn : 64 * length words + 64 * length other ≡ 64 * length other + 64 * length words = omega arith in
     sym (in_beyond words (64 * length other)) ∙

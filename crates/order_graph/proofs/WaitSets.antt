@@ -8,13 +8,13 @@ use Rattle.armus_base.proofs.Elements.{nothing_in_nil}
 use Rattle.armus_base.specs.declared.ids.TaskId.{TaskId}
 use Rattle.armus_base.specs.declared.status.Status.{Status}
 use Rattle.armus_base.specs.Graphs.{WaitsFor}
-use Rattle.armus_base.specs.Statuses.{IsInOrder}
-use Rattle.dep_state.specs.Deps.{AreRelations, Deps, IsDepsOf, impeders_of}
+use Rattle.armus_base.specs.calls.Statuses.{IsInOrder}
+use Rattle.dep_state.specs.calls.Deps.{AreRelations, Deps, IsDepsOf, impeders_of}
 use Rattle.dep_state.specs.inside.Names.{named}
 use Rattle.dep_state.proofs.DeadSets.{same_task}
 use Rattle.dep_state.proofs.TaskPlaces.{stands_task, task_stands}
 use Rattle.dep_state.proofs.WaitRows.{named_inside, row_is_waits}
-use Rattle.order_graph.specs.Waits.{AreWaitsAmong, Awaits, own_set}
+use Rattle.order_graph.specs.calls.Waits.{AreWaitsAmong, Awaits, own_set}
 use Rattle.order_graph.specs.declared.waits.Waits.{Waits}
 use Rattle.order_graph.specs.inside.Gathered.{AreImpeding, AreOwnPlaces, IsImpedingAt}
 
@@ -54,10 +54,6 @@ sets_done d sets sized each =
       each = λ e lt u. rw (get_or_append_left sets ([] ∷ []) [] e (omega arith)) (each e lt u);
       last = get_or_push sets [] [] (length d.events) sized;
     }
-
--- where no task has a place yet
-pub places_none : (d : Deps) (own : List ℕ) → ((t : ℕ) → t < length own → slice_index own t ≡ length d.events) → AreOwnPlaces d 0 own
-places_none d own behind t lt = inr (record { other = λ j u l e. absurd (omega arith); behind = behind t lt })
 
 -- one task more has the place of its event
 pub places_more :

@@ -9,12 +9,6 @@ use Rattle.std.proofs.lemmas.Nat.Bits.{bit_at_and, bit_at_clear_other, bit_at_cl
 use Rattle.order_graph.specs.inside.Bits.{IsWithBit, bit_less, bit_of, tasks_by}
 use Rattle.order_graph.proofs.TaskBits.{by_more, by_past, not_one, past_words}
 
--- the test `(word >> i) & 1 == 1`
-pub says_bit : (word i : ℕ) (r : Bool) → r ≡ eqb (bit_and (word / 2 ^ i) 1) 1 → MatchBool r (bit_at word i ≡ 1) (bit_at word i ≡ 0)
-says_bit word i true e = sym (shr_and_one word i) ∙ eqb-true (bit_and (word / 2 ^ i) 1) 1 (sym e)
-says_bit word i false e =
-    not_one word i (λ on. let t : eqb (bit_and (word / 2 ^ i) 1) 1 ≡ true = eq-eqb (bit_and (word / 2 ^ i) 1) 1 (shr_and_one word i ∙ on) in absurd cc)
-
 -- the word with bit n is replaced
 module _ (words : List ℕ) (n : ℕ) (room : n / 64 < length words) where
   set_word :
@@ -46,31 +40,6 @@ module _ (words : List ℕ) (n : ℕ) (room : n / 64 < length words) where
       let old : ℕ = get_or words (n / 64) 0 in
       set_word (bit_and old (18446744073709551615 - 1 * 2 ^ (n % 64) % 18446744073709551616)) 0 (bit_at_clear_same w64 old (n % 64) (omega arith))
       (λ i lt ne. bit_at_clear_other w64 old (n % 64) (omega arith) i lt ne)
-
--- behind the words there is no bit to clear
-pub with_clear_past : (words : List ℕ) (n : ℕ) → length words ≤ n / 64 → IsWithBit words n 0 words
-with_clear_past words n past = record { sized = refl; here = past_words words n (omega arith); others = λ m ne. refl }
-
--- a word more in which no bit is 1
-pub push_zero : (words : List ℕ) (k : ℕ) → get_or (words ++ 0 ∷ []) k 0 ≡ get_or words k 0
-push_zero words k =
-    elim (cases_lt k (length words)) [
-      | inl lt ↦ get_or_append_left words (0 ∷ []) 0 k lt
-      | inr past ↦ elim (cases_eq k (length words)) [
-        | inl e ↦ get_or_push words 0 0 k (sym e) ∙ sym (get_or_past words k 0 past)
-        | inr ne ↦ get_or_past (words ++ 0 ∷ []) k 0 (let l : length (words ++ 0 ∷ []) ≡ length words + 1 = length_push words 0 in omega arith) ∙
-            sym (get_or_past words k 0 past)
-      ]
-    ]
-
--- words that are the same have the same bits
-pub same_words : (words other : List ℕ) (end : ℕ) → length words ≤ end → length other ≤ end → ((j : ℕ) → j < end → get_or words j 0 ≡ get_or other j 0) → (n : ℕ) →
-    bit_of words n ≡ bit_of other n
-same_words words other end le le' same n =
-    ap (λ w. bit_at w (n % 64)) (elim (cases_lt (n / 64) end) [
-      | inl lt ↦ same (n / 64) lt
-      | inr past ↦ get_or_past words (n / 64) 0 (omega arith) ∙ sym (get_or_past other (n / 64) 0 (omega arith))
-    ])
 
 -- words of which each was and-ed with one of others
 pub common_words : (old new other : List ℕ) → length new ≡ length old → ((j : ℕ) → j < length old → get_or new j 0 ≡ bit_and (get_or old j 0) (get_or other j 0)) → (n : ℕ) →

@@ -1,6 +1,3 @@
-pub mod Orders
-pub mod Adding
-pub mod Following
-pub mod Waits
-pub mod Laws
 pub mod inside
+-- Words of contracts further down, which no promise of a program needs.
+pub mod calls

@@ -1,7 +1,7 @@
 // How many edges lead from the tasks of a stretch to the task at its end: one pass from there down, since edges go up.
 ghost use Rattle.std.specs.Prelude.{◌≡◌, ◌<◌, ◌≤◌, ◌+◌, [], ◌∷◌, ◌++◌, List, length, vec_len, All, IfOk};
 ghost use Rattle.armus_base.specs.declared.ids.TaskId.{TaskId};
-ghost use Rattle.order_graph.specs.Orders.{OrderValue, IsEdge, IsOrder, IsTaskOf, position_of, successors_of};
+ghost use Rattle.order_graph.specs.calls.Orders.{OrderValue, IsEdge, IsOrder, IsTaskOf, position_of, successors_of};
 ghost use Rattle.order_graph.specs.inside.Distances.{TellsDistance, TellDistances, TellsNearest, IsListedIn, distance_in};
 ghost use Rattle.order_graph.specs.inside.Mending.{IsStretch};
 

@@ -1,7 +1,7 @@
 // The edges of an order are made the pairs of a relation.
 ghost use Rattle.std.specs.Prelude.{◌≡◌, ◌<◌, length, All, IfOk};
-ghost use Rattle.order_graph.specs.Orders.{IsOrder, IsTaskOf};
-ghost use Rattle.order_graph.specs.Waits.{AreWaitsAmong, Awaits, own_set};
+ghost use Rattle.order_graph.specs.calls.Orders.{IsOrder, IsTaskOf};
+ghost use Rattle.order_graph.specs.calls.Waits.{AreWaitsAmong, Awaits, own_set};
 ghost use Rattle.order_graph.specs.inside.Steps.{AnswersEdges, KeepsPairs, PairsBelow, ToWanted};
 
 use crate::{Added, Followed, Order, Row, Waits};

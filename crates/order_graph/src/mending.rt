@@ -1,7 +1,7 @@
 // A stretch of an order, put into an order in which an edge from its end to its start goes up.
 ghost use Rattle.std.specs.Prelude.{◌≡◌, ◌≤◌, All, IfOk, is_some};
 ghost use Rattle.armus_base.specs.declared.ids.TaskId.{TaskId};
-ghost use Rattle.order_graph.specs.Orders.{IsOrder, IsTaskOf, position_of};
+ghost use Rattle.order_graph.specs.calls.Orders.{IsOrder, IsTaskOf, position_of};
 ghost use Rattle.order_graph.specs.inside.Distances.{IsListedIn, NeverReaches, TellDistances, distance_in};
 ghost use Rattle.order_graph.specs.inside.Found.{TellsFound};
 ghost use Rattle.order_graph.specs.inside.Mending.{IsMended, IsStretch};

@@ -2,12 +2,12 @@
 ghost use Rattle.std.specs.Prelude.{◌≡◌, ◌≤◌, ◌<◌, ◌+◌, List, length, All, IfOk, OnErr, OnOk, MatchBool};
 ghost use Rattle.armus_base.specs.declared.ids.TaskId.{TaskId};
 ghost use Rattle.armus_base.specs.declared.status.Status.{Status};
-ghost use Rattle.armus_base.specs.Statuses.{IsInOrder};
-ghost use Rattle.dep_state.specs.Deps.{IsDepsOf};
-ghost use Rattle.order_graph.specs.Adding.{AnswersAdd, HasEdgeMore, HasNoEdge};
-ghost use Rattle.order_graph.specs.Following.{AnswersFollow, AnswersFollowing};
-ghost use Rattle.order_graph.specs.Orders.{IsEdge, IsNewOrder, IsOrder, IsTaskOf, position_of, successors_of};
-ghost use Rattle.order_graph.specs.Waits.{AreWaitsAmong, Awaits};
+ghost use Rattle.armus_base.specs.calls.Statuses.{IsInOrder};
+ghost use Rattle.dep_state.specs.calls.Deps.{IsDepsOf};
+ghost use Rattle.order_graph.specs.calls.Adding.{AnswersAdd, HasEdgeMore, HasNoEdge};
+ghost use Rattle.order_graph.specs.calls.Following.{AnswersFollow, AnswersFollowing};
+ghost use Rattle.order_graph.specs.calls.Orders.{IsEdge, IsNewOrder, IsOrder, IsTaskOf, position_of, successors_of};
+ghost use Rattle.order_graph.specs.calls.Waits.{AreWaitsAmong, Awaits};
 ghost use Rattle.order_graph.specs.inside.Distances.{NeverReaches};
 ghost use Rattle.order_graph.specs.inside.Mending.{IsMended, IsStretch};
 ghost use Rattle.order_graph.specs.inside.Rows.{KeepsOnly};
@@ -30,7 +30,7 @@ pub struct Order {
 }
 
 impl Model for Order {
-    ghost use Rattle.order_graph.specs.Orders.{OrderValue, IsOrder};
+    ghost use Rattle.order_graph.specs.calls.Orders.{OrderValue, IsOrder};
     ghost use Rattle.order_graph.specs.inside.Rows.{AreInverse, order_of};
 
     ghost Value = { OrderValue };

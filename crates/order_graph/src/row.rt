@@ -1,7 +1,7 @@
 // A set of tasks, kept as bits.
 ghost use Rattle.std.specs.Prelude.{◌≡◌, ◌↔◌, ◌⊎◌, [], Contains, IfOk, IsTrue, MatchBool, OnErr, OnOk};
 ghost use Rattle.armus_base.specs.declared.ids.TaskId.{TaskId};
-ghost use Rattle.dep_state.specs.Picks.{Ascend};
+ghost use Rattle.dep_state.specs.calls.Picks.{Ascend};
 
 use crate::words;
 use armus_base::TaskId;
@@ -17,11 +17,11 @@ pub struct Row {
 impl Model for Row {
     ghost use Rattle.std.specs.Prelude.{List, length, ◌≤◌, ◌^◌};
     ghost use Rattle.armus_base.specs.declared.ids.TaskId.{TaskId};
-    ghost use Rattle.order_graph.specs.inside.Bits.{tasks_in};
+    ghost use Rattle.order_graph.specs.inside.Bits.{tasks_by_bits};
 
     ghost Value = { List TaskId };
 
-    ghost view = { λ r. tasks_in r.words.items };
+    ghost view = { λ r. tasks_by_bits r.words.items };
 
     ghost invariant = { λ r. length r.words.items ≤ 2 ^ 26 };
 }

@@ -1,12 +1,12 @@
 // Who waits for whom, by sets of tasks that several tasks may share.
 ghost use Rattle.std.specs.Prelude.{◌≡◌, ◌↔◌, ◌<◌, List, length, map, All, Contains, IfOk};
 ghost use Rattle.armus_base.specs.Graphs.{WaitsFor};
-ghost use Rattle.armus_base.specs.Statuses.{IsInOrder};
+ghost use Rattle.armus_base.specs.calls.Statuses.{IsInOrder};
 ghost use Rattle.armus_base.specs.declared.ids.TaskId.{TaskId};
 ghost use Rattle.armus_base.specs.declared.status.Status.{Status};
-ghost use Rattle.dep_state.specs.Deps.{AreRelations, IsDepsOf};
+ghost use Rattle.dep_state.specs.calls.Deps.{AreRelations, IsDepsOf};
 ghost use Rattle.dep_state.specs.inside.Names.{named};
-ghost use Rattle.order_graph.specs.Waits.{AreWaitsAmong, Awaits};
+ghost use Rattle.order_graph.specs.calls.Waits.{AreWaitsAmong, Awaits};
 ghost use Rattle.order_graph.specs.inside.Gathered.{AreImpeding, AreOwnPlaces};
 
 use crate::Row;

@@ -1,8 +1,8 @@
 // The walk from a task to a goal by nearest successors.
 ghost use Rattle.std.specs.Prelude.{◌≢◌, ℕ, IfOk};
-ghost use Rattle.armus_base.specs.Relations.{Walk};
-ghost use Rattle.order_graph.specs.Adding.{IsNearest, IsNearestWalk};
-ghost use Rattle.order_graph.specs.Orders.{IsEdge, IsOrder, IsTaskOf};
+ghost use Rattle.armus_base.specs.calls.Relations.{Walk};
+ghost use Rattle.order_graph.specs.calls.Adding.{IsNearest, IsNearestWalk};
+ghost use Rattle.order_graph.specs.calls.Orders.{IsEdge, IsOrder, IsTaskOf};
 ghost use Rattle.order_graph.specs.inside.Distances.{IsListedFurther, IsListedIn, TellDistances};
 
 use crate::Order;

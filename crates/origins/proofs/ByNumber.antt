@@ -12,7 +12,7 @@ use Rattle.pl_syntax.specs.Tree.{Tree, count, done, fork, loop, plain}
 use Rattle.pl_plan.specs.Unfolding.{Coming, a_fork, a_loop}
 use Rattle.pl_plan.proofs.Growth.{slice_get-append, slice_get-behind}
 use Rattle.origins.specs.Origins.{statement_in, written_statements}
-use Rattle.origins.specs.inside.Tables.{body_of, coming_of, comings_of, fork_body, forked_body}
+use Rattle.origins.specs.inside.Tables.{body_of, coming_of, kept_comings, fork_body, forked_body}
 use Rattle.origins.proofs.ForkBodies.{found_inside, fork_behind, fork_here, fork_inside, loop_behind, loop_inside}
 use Rattle.origins.proofs.WrittenStatements.{count_written}
 
@@ -97,15 +97,15 @@ no_body whole statements f some are is =
 -- a statement that is kept
 module _ (rows : List (Bor Stmt)) where
   pub statement_is :
-      (n : ℕ) (row : Bor Stmt) → (n ≡ 0 → ⊥) → n ≤ length rows → row ≡ get_or rows (n - 1) row → Some (coming_of row.now) ≡ statement_in (comings_of rows) n
+      (n : ℕ) (row : Bor Stmt) → (n ≡ 0 → ⊥) → n ≤ length rows → row ≡ get_or rows (n - 1) row → Some (coming_of row.now) ≡ statement_in (kept_comings rows) n
   statement_is zero row some few is = absurd (some refl)
   statement_is (suc i) row some few is =
       let there : slice_get rows i ≡ Some row = slice_get-get_or rows i row (omega (arith, few)) ∙ ap Some (ap (λ j. get_or rows j row) (let e : i ≡ suc i - 1 = omega arith in e) ∙ sym is) in
       sym (slice_get-map (λ (r : Bor Stmt). coming_of r.now) rows i ∙ ap (option_map (λ (r : Bor Stmt). coming_of r.now)) there)
 
-  pub no_statement : (n : ℕ) → length rows < n → None ≡ statement_in (comings_of rows) n
+  pub no_statement : (n : ℕ) → length rows < n → None ≡ statement_in (kept_comings rows) n
   no_statement zero past = absurd (omega arith)
-  no_statement (suc i) past = sym (slice_get_past (comings_of rows) i (let e = length-map rows (λ (r : Bor Stmt). coming_of r.now) in omega (arith, e, past)))
+  no_statement (suc i) past = sym (slice_get_past (kept_comings rows) i (let e = length-map rows (λ (r : Bor Stmt). coming_of r.now) in omega (arith, e, past)))
 
 -- what was found, as a body or none
 pub found_body : (o : Option (Bor Body)) (z : Option Tree) → z ≡ option_map (λ (b : Bor Body). b.now) o → MatchOption o (z ≡ None) (λ b. z ≡ Some b.now)

@@ -11,7 +11,7 @@ use Rattle.armus_base.specs.declared.op.Op.{Op}
 use Rattle.armus_base.specs.declared.op.Op.TheVariants as op
 use Rattle.pl_syntax.specs.declared.tree.Program.{Program}
 use Rattle.pl_syntax.specs.Tree.{Plain, Tree, adv, await, dereg, new_phaser, new_task, reg, skip}
-use Rattle.pl_plan.specs.Folding.{drops_of}
+use Rattle.pl_plan.specs.calls.Folding.{drops_of}
 use Rattle.pl_plan.specs.Unfolding.{◌>>=◌, Coming, Start, UnfoldingState, Visit}
 use Rattle.pl_plan.specs.Unfolding.{a_fork, a_loop, a_plain, a_turn, act, act_fork, add_op, already_member, as_phaser, as_task, come_to, ended, fault_unless}
 use Rattle.pl_plan.specs.Unfolding.{has_cells, leave_below, make_visit, make_visits, member_of, not_member, opening_state, phaser, plan_of, task}
@@ -22,8 +22,8 @@ use Rattle.pl_plan.proofs.ForksKept.{starts_found}
 use Rattle.pl_plan.proofs.TasksLeave.{IsOfParts, Kept, Steps, inside, leaves_below, of_body, opening_kept, start_at, steps_more, steps_same, visits_steps}
 use Rattle.pl_plan.proofs.VisitsLeave.{Adds, adds_from, adds_more, adds_nothing, adds_op, bind_ok, code, counted, first_visit, no_visit, ok_is}
 use Rattle.origins.specs.Origins.{comes_to_op, start_of, statements_where, visits_by, comes_to_phaser, comes_to_task}
-use Rattle.origins.specs.OriginLaws.{CodesAreOfVisits, ComesFrom, IsCodeByStart, IsCodeOfVisits, MakeOps, MakesOp, OpsHaveOrigins, OriginsHaveOps, op_visits, MakersAreOfVisits, ParentsAreOfVisits, tasks_from, tasks_of_all}
-use Rattle.origins.specs.OriginLaws as law
+use Rattle.origins.specs.calls.OriginLaws.{CodesAreOfVisits, ComesFrom, IsCodeByStart, IsCodeOfVisits, MakeOps, MakesOp, OpsHaveOrigins, OriginsHaveOps, op_visits, MakersAreOfVisits, ParentsAreOfVisits, tasks_from, tasks_of_all}
+use Rattle.origins.specs.calls.OriginLaws as law
 use Rattle.origins.proofs.Growing.{Grows, below_all, below_same, drawers_in, ended_grows, makers_in, tasks_below}
 
 -- ---- what visits make

@@ -6,7 +6,7 @@ use Rattle.std.proofs.lemmas.List.{drop_all, map-append}
 use Rattle.armus_base.specs.Pieces.{times}
 use Rattle.pl_syntax.specs.declared.tree.Stmt.{Stmt}
 use Rattle.pl_syntax.specs.Tree.{Tree, count, done, fork, loop, plain}
-use Rattle.pl_syntax.specs.Bodies.{followed_by, tree_of}
+use Rattle.pl_syntax.specs.calls.Bodies.{followed_by, tree_of}
 use Rattle.pl_plan.specs.Unfolding.{Visit, a_turn, visit, visits_of}
 use Rattle.origins.specs.Origins.{last_or}
 use Rattle.origins.specs.inside.Tables.{forked_body, fork_body}
@@ -28,10 +28,6 @@ last_times (suc k) n x xs = last_append x xs (times (suc k) (x ∷ xs)) ∙ last
 numbers_times : (k : ℕ) (ms : List Visit) → numbers_of (times k ms) ≡ times k (numbers_of ms)
 numbers_times zero ms = refl
 numbers_times (suc k) ms = map-append (λ (m : Visit). m.statement) ms (times k ms) ∙ ap (λ xs. numbers_of ms ++ xs) (numbers_times k ms)
-
--- a loop without a turn
-pub last_no_turn : (before n : ℕ) (body : Tree) → n ≡ last_or before (numbers_of (visits_of n (loop zero body done)))
-last_no_turn before n body = refl
 
 -- one with turns
 pub last_turn : (k before n m : ℕ) (body : Tree) → (k ≡ 0 → ⊥) → m ≡ last_or n (numbers_of (visits_of (n + 1) body)) →

@@ -14,7 +14,7 @@ use Rattle.pl_plan.specs.Unfolding.{too_many_cells, too_many_ops, too_many_phase
 use Rattle.pl_plan.specs.Unfolding.{visit, with_member, with_members, with_new_phaser, with_new_task, with_op, with_start}
 use Rattle.pl_plan.proofs.VisitsLeave.{bind_ok, counted, first_visit, no_visit, ok_is}
 use Rattle.origins.specs.Origins.{comes_to_phaser, comes_to_task, statements_where, visits_by}
-use Rattle.origins.specs.OriginLaws.{tasks_from}
+use Rattle.origins.specs.calls.OriginLaws.{tasks_from}
 use Rattle.origins.proofs.Statements.{where_append}
 
 -- ---- one task

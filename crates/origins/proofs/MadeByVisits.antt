@@ -9,7 +9,7 @@ use Rattle.pl_syntax.specs.declared.tree.Program.{Program}
 use Rattle.pl_plan.specs.Forks.{starts_of}
 use Rattle.pl_plan.specs.Unfolding.{Coming, Start, Visit, task}
 use Rattle.origins.specs.Origins.{comes_to_phaser, comes_to_task, phaser_origin, statements_where, visits_by}
-use Rattle.origins.specs.OriginLaws.{IsOfVisit, PhasersHaveOrigins, TasksHaveOrigins, tasks_from, tasks_of_all}
+use Rattle.origins.specs.calls.OriginLaws.{IsOfVisit, PhasersHaveOrigins, TasksHaveOrigins, tasks_from, tasks_of_all}
 use Rattle.origins.proofs.CodesOfVisits.{get_cases, get_first, makers_are_of_visits, parents_are_of_visits}
 
 -- ---- elements of lists

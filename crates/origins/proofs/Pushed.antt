@@ -4,7 +4,7 @@ use Rattle.std.proofs.lemmas.List.{drop_all}
 use Rattle.armus_base.specs.Pieces.{times}
 use Rattle.pl_syntax.specs.declared.tree.Stmt.{Stmt}
 use Rattle.pl_syntax.specs.Tree.{Tree, count, done}
-use Rattle.pl_syntax.specs.Bodies.{followed_by, tree_of}
+use Rattle.pl_syntax.specs.calls.Bodies.{followed_by, tree_of}
 use Rattle.pl_plan.specs.Unfolding.{a_turn, visit, visits_of}
 use Rattle.origins.specs.Origins.{statements_where}
 use Rattle.origins.specs.inside.Tables.{makes_it}

@@ -7,7 +7,7 @@ use Rattle.std.proofs.lemmas.Nat.{div-add-mod', mod_below}
 use Rattle.armus_base.specs.Pieces.{times}
 use Rattle.pl_syntax.specs.declared.tree.Stmt.{Stmt}
 use Rattle.pl_syntax.specs.Tree.{Tree, count, done, loop}
-use Rattle.pl_syntax.specs.Bodies.{followed_by, tree_of}
+use Rattle.pl_syntax.specs.calls.Bodies.{followed_by, tree_of}
 use Rattle.pl_plan.specs.Unfolding.{a_turn, visit, visits_of}
 use Rattle.origins.specs.Origins.{comes_to_op, statements_where}
 use Rattle.origins.specs.inside.Seeking.{IsSought}

@@ -7,7 +7,7 @@ use Rattle.armus_base.specs.Pieces.{times}
 use Rattle.pl_syntax.specs.declared.tree.Stmt.{Stmt}
 use Rattle.pl_syntax.specs.declared.tree.Stmt.TheVariants as s
 use Rattle.pl_syntax.specs.Tree.{Tree, count, done, loop}
-use Rattle.pl_syntax.specs.Bodies.{followed_by, tree_of}
+use Rattle.pl_syntax.specs.calls.Bodies.{followed_by, tree_of}
 use Rattle.pl_syntax.proofs.Parts.{counts}
 use Rattle.pl_plan.specs.Unfolding.{Coming, Visit, a_loop, a_turn, visit, visits_of}
 use Rattle.origins.specs.Origins.{statements_where}

@@ -9,7 +9,8 @@ use Rattle.pl_syntax.specs.declared.tree.Program.{Program}
 use Rattle.pl_syntax.specs.Tree.{Tree}
 use Rattle.pl_plan.specs.Forks.{fork_of, fork_statements, starts_of}
 use Rattle.pl_plan.specs.Unfolding.{Coming, Start, visits_of}
-use Rattle.origins.specs.Origins.{last_statement, last_or, start_of, statements_of_all, statements_where, visits_by}
+use Rattle.origins.specs.calls.Origins.{last_statement}
+use Rattle.origins.specs.Origins.{last_or, start_of, statements_of_all, statements_where, visits_by}
 use Rattle.origins.specs.Turns.{turned_by, turned_visits}
 use Rattle.origins.specs.inside.Tables.{forked_body, visits_at, visits_by_fork}
 use Rattle.origins.proofs.BodiesStand.{StandsAt, start_stands}

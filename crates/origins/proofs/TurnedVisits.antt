@@ -11,12 +11,12 @@ use Rattle.armus_base.specs.Pieces.{times}
 use Rattle.pl_syntax.specs.declared.tree.Stmt.{Stmt}
 use Rattle.pl_syntax.specs.declared.tree.Stmt.TheVariants as s
 use Rattle.pl_syntax.specs.Tree.{Tree, count, done, fork, loop, plain}
-use Rattle.pl_syntax.specs.Bodies.{followed_by, tree_of}
+use Rattle.pl_syntax.specs.calls.Bodies.{followed_by, tree_of}
 use Rattle.pl_plan.specs.Unfolding.{Start, Visit, a_fork, a_loop, a_plain, a_turn, visit, visits_of}
 use Rattle.pl_plan.proofs.Growth.{slice_get-append, slice_get-behind}
 use Rattle.origins.specs.declared.turns.LoopTurn.{LoopTurn}
 use Rattle.origins.specs.declared.seeking.Sought.TheVariants.{Found, Left}
-use Rattle.origins.specs.OriginLaws.{TurnsAreOfVisits}
+use Rattle.origins.specs.calls.OriginLaws.{TurnsAreOfVisits}
 use Rattle.origins.specs.Origins.{comes_to_op, start_of, statements_where, visits_by}
 use Rattle.origins.specs.Turns.{TurnedVisit, alone, in_turns, making_op, turn_of, turned_by, turned_visits, turns_of, within}
 use Rattle.origins.specs.inside.Seeking.{IsInTurn, IsSought}

@@ -11,8 +11,8 @@ use Rattle.pl_syntax.specs.declared.tree.Program.{Program}
 use Rattle.pl_syntax.specs.Tree.{Plain, Tree, await, count, done, fork, loop, plain}
 use Rattle.pl_plan.specs.Unfolding.{Coming, Start, Visit, a_fork, a_loop, a_plain, a_turn, phaser, visit, visits_of}
 use Rattle.origins.specs.Origins.{op_origin, start_of, visits_by, visits_of_task, written_statements}
-use Rattle.origins.specs.OriginLaws.{AwaitsComeFromAwaits, ComesFrom, MakesOp, VisitsAreOfText, statement_of}
-use Rattle.origins.specs.OriginLaws as law
+use Rattle.origins.specs.calls.OriginLaws.{AwaitsComeFromAwaits, ComesFrom, MakesOp, VisitsAreOfText, statement_of}
+use Rattle.origins.specs.calls.OriginLaws as law
 use Rattle.origins.specs.inside.Tables.{fork_body, forked_body}
 use Rattle.origins.proofs.BodiesStand.{StandsAt, start_stands}
 use Rattle.origins.proofs.CodesOfVisits.{ops_have_origins}

@@ -3,17 +3,17 @@
 ghost use Rattle.std.specs.Prelude.{◌≡◌, ℕ, ◌+◌, ◌<◌, ◌^◌, map, None, Some, MatchOption, option_map};
 ghost use Rattle.armus_base.specs.Pieces.{times};
 ghost use Rattle.pl_syntax.specs.Tree.{count, done};
-ghost use Rattle.pl_syntax.specs.Bodies.{followed_by};
+ghost use Rattle.pl_syntax.specs.calls.Bodies.{followed_by};
 ghost use Rattle.pl_plan.specs.Unfolding.{Visit, visits_of};
 ghost use Rattle.origins.specs.Origins.{last_or, statement_in, written_statements};
-ghost use Rattle.origins.specs.inside.Tables.{body_of, coming_of, comings_of, forked_body};
+ghost use Rattle.origins.specs.inside.Tables.{body_of, coming_of, kept_comings, forked_body};
 
 use crate::statement::statements_in;
 use pl_syntax::{Body, Program, Stmt};
 
 // The statement with this number, from 1 on.
 pub(crate) fn statement_at<'p>(statements: &[&'p Stmt], n: u32) -> Option<&'p Stmt>
-    ensures { option_map (λ stmt. coming_of stmt.now) result ≡ statement_in (comings_of statements.now) n }
+    ensures { option_map (λ stmt. coming_of stmt.now) result ≡ statement_in (kept_comings statements.now) n }
 {
     if n == 0 || n as usize > statements.len() {
         return None;
@@ -37,7 +37,7 @@ pub(crate) fn body_at<'p>(
     statements: &[&'p Stmt],
     fork: u32,
 ) -> Option<&'p Body>
-    requires { comings_of statements.now ≡ written_statements program.now.body }
+    requires { kept_comings statements.now ≡ written_statements program.now.body }
     ensures { MatchOption result (forked_body program.now.body fork ≡ None) (λ b. forked_body program.now.body fork ≡ Some b.now) }
 {
     if fork == 0 {

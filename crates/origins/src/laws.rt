@@ -1,6 +1,6 @@
 // The laws of origins: each is the contract of a function with an empty body.
 
-ghost use Rattle.origins.specs.OriginLaws.{AwaitsComeFromAwaits, CodesAreOfVisits, MakersAreOfVisits, OpsHaveOrigins, OriginsHaveOps, ParentsAreOfVisits, PhasersHaveOrigins, TasksHaveOrigins, TurnsAreOfVisits, VisitsAreOfText};
+ghost use Rattle.origins.specs.calls.OriginLaws.{AwaitsComeFromAwaits, CodesAreOfVisits, MakersAreOfVisits, OpsHaveOrigins, OriginsHaveOps, ParentsAreOfVisits, PhasersHaveOrigins, TasksHaveOrigins, TurnsAreOfVisits, VisitsAreOfText};
 
 /// Each code of a program's plan is made by its task's visits, op by op, each visit the op of its statement; behind these stand the Drops of the task's end, of
 /// which it has some in PL 2 alone. So each op has its origin, which is the statement of the visit that makes it, or is one of the end and has none; and each

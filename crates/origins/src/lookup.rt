@@ -4,10 +4,11 @@ ghost use Rattle.std.specs.Prelude.{◌≡◌, ◌+◌, ◌<◌, ◌^◌, ◌++�
 ghost use Rattle.std.specs.List.{slice_get};
 ghost use Rattle.pl_syntax.specs.Tree.{count};
 ghost use Rattle.pl_plan.specs.Forks.{fork_statements};
-ghost use Rattle.origins.specs.Origins.{drawing_statement, end_origin, last_origin, op_origin, statement_in, statements_of_all, statements_where, written_statements};
-ghost use Rattle.origins.specs.OriginTables.{AreOrigins};
+ghost use Rattle.origins.specs.Origins.{drawing_statement, last_origin, op_origin, statement_in, statements_of_all, statements_where, written_statements};
+ghost use Rattle.origins.specs.calls.Origins.{end_origin};
+ghost use Rattle.origins.specs.calls.OriginTables.{AreOrigins};
 ghost use Rattle.origins.specs.Turns.{op_turns};
-ghost use Rattle.origins.specs.inside.Tables.{coming_of, comings_of, makes_it, visits_by_fork};
+ghost use Rattle.origins.specs.inside.Tables.{coming_of, kept_comings, makes_it, visits_by_fork};
 
 use crate::bodies::{body_at, last_of_body, statement_at};
 use crate::making::{Made, push_of_body};
@@ -33,18 +34,18 @@ pub struct Origins<'p> {
 }
 
 impl<'p> Model for Origins<'p> {
-    ghost use Rattle.origins.specs.OriginTables.{OriginTables};
+    ghost use Rattle.origins.specs.calls.OriginTables.{OriginTables};
 
     ghost Value = { OriginTables };
 
     ghost use Rattle.std.specs.Coded.{codes};
-    ghost use Rattle.pl_syntax.specs.Tree.{plain_code, tree_code};
+    ghost use Rattle.pl_syntax.specs.calls.Tree.{plain_code, tree_code};
 
     ghost coded = { Prim.hlevel (codes, plain_code, tree_code) };
 
-    ghost use Rattle.origins.specs.inside.Tables.{comings_of};
+    ghost use Rattle.origins.specs.inside.Tables.{kept_comings};
 
-    ghost view = { λ o. record { statements = comings_of o.statements.items; forks = o.forks.items; phasers = o.phasers.items; tasks = o.tasks.items } };
+    ghost view = { λ o. record { statements = kept_comings o.statements.items; forks = o.forks.items; phasers = o.phasers.items; tasks = o.tasks.items } };
 }
 
 // Those of the visits of a task with this fork that make such a thing.
@@ -56,7 +57,7 @@ fn push_of_task(
     out: &mut Vec<u32>,
 ) -> Result<(), NoMemory>
     requires few { count program.now.body + 1 < 2 ^ 32 }
-    requires statements { comings_of statements.now ≡ written_statements program.now.body }
+    requires statements { kept_comings statements.now ≡ written_statements program.now.body }
     ensures { OnOk result (out.new.items ≡ out.old.items ++ statements_where (makes_it made) (visits_by_fork program.now fork)) }
 {
     let Some(fork) = fork else {
@@ -77,7 +78,7 @@ fn made_by_all(
     forks: &[Option<u32>],
 ) -> Result<Vec<u32>, NoMemory>
     requires few { count program.now.body + 1 < 2 ^ 32 }
-    requires statements { comings_of statements.now ≡ written_statements program.now.body }
+    requires statements { kept_comings statements.now ≡ written_statements program.now.body }
     requires forks { forks.now ≡ fork_statements program.now }
     ensures { IfOk result (λ v. v.items ≡ statements_of_all (makes_it made) program.now) }
 {

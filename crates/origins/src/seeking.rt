@@ -3,7 +3,7 @@
 ghost use Rattle.std.specs.Prelude.{◌≡◌, ◌+◌, ◌<◌, ◌^◌, ◌∷◌, ℕ};
 ghost use Rattle.armus_base.specs.Pieces.{times};
 ghost use Rattle.pl_syntax.specs.Tree.{count, done};
-ghost use Rattle.pl_syntax.specs.Bodies.{followed_by};
+ghost use Rattle.pl_syntax.specs.calls.Bodies.{followed_by};
 ghost use Rattle.pl_plan.specs.Unfolding.{visit, a_turn, visits_of};
 ghost use Rattle.origins.specs.Origins.{comes_to_op, statements_where};
 ghost use Rattle.origins.specs.inside.Seeking.{IsSought};

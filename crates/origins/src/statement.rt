@@ -2,7 +2,7 @@
 
 ghost use Rattle.std.specs.Prelude.{◌≡◌, ◌<◌, ◌^◌};
 ghost use Rattle.pl_syntax.specs.Tree.{count, done};
-ghost use Rattle.pl_syntax.specs.Bodies.{followed_by};
+ghost use Rattle.pl_syntax.specs.calls.Bodies.{followed_by};
 
 use pl_syntax::Stmt;
 

@@ -2,9 +2,9 @@
 
 ghost use Rattle.std.specs.Prelude.{◌≡◌, ◌+◌, ◌-◌, ◌<◌, ◌^◌, ◌++◌, map, OnOk, IfOk};
 ghost use Rattle.pl_syntax.specs.Tree.{count, done};
-ghost use Rattle.pl_syntax.specs.Bodies.{followed_by};
+ghost use Rattle.pl_syntax.specs.calls.Bodies.{followed_by};
 ghost use Rattle.origins.specs.Origins.{written_statements};
-ghost use Rattle.origins.specs.inside.Tables.{comings_of};
+ghost use Rattle.origins.specs.inside.Tables.{kept_comings};
 
 use armus_base::NoMemory;
 use pl_syntax::{Body, Stmt};
@@ -13,7 +13,7 @@ use std::alloc::Global;
 // Notes a statement, and those of its body.
 #[cycle(note)]
 fn note_statement<'p>(rows: &mut Vec<&'p Stmt>, stmt: &'p Stmt) -> Result<(), NoMemory>
-    ensures { OnOk result (comings_of rows.new.items ≡ comings_of rows.old.items ++ written_statements (followed_by stmt.now done)) }
+    ensures { OnOk result (kept_comings rows.new.items ≡ kept_comings rows.old.items ++ written_statements (followed_by stmt.now done)) }
 {
     rows.push(stmt)?;
     match stmt {
@@ -26,7 +26,7 @@ fn note_statement<'p>(rows: &mut Vec<&'p Stmt>, stmt: &'p Stmt) -> Result<(), No
 // Notes the statements of a body.
 #[cycle(note)]
 fn note_body<'p>(rows: &mut Vec<&'p Stmt>, body: &'p Body) -> Result<(), NoMemory>
-    ensures { OnOk result (comings_of rows.new.items ≡ comings_of rows.old.items ++ written_statements body.now) }
+    ensures { OnOk result (kept_comings rows.new.items ≡ kept_comings rows.old.items ++ written_statements body.now) }
 {
     for stmt in body.as_slice() {
         note_statement(rows, stmt)?;
@@ -36,7 +36,7 @@ fn note_body<'p>(rows: &mut Vec<&'p Stmt>, body: &'p Body) -> Result<(), NoMemor
 
 /// The statements of a body and of the bodies in it, in the order of the text.
 pub(crate) fn statements_of<'p>(alloc: Global, body: &'p Body) -> Result<Vec<&'p Stmt>, NoMemory>
-    ensures { IfOk result (λ rows. comings_of rows.items ≡ written_statements body.now) }
+    ensures { IfOk result (λ rows. kept_comings rows.items ≡ written_statements body.now) }
 {
     let mut rows = Vec::with_capacity(alloc, body.statements() as usize)?;
     note_body(&mut rows, body)?;

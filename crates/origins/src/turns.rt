@@ -3,7 +3,7 @@
 ghost use Rattle.std.specs.Prelude.{◌≡◌, ◌+◌, ◌*◌, ◌<◌, ◌≤◌, ◌^◌, ◌++◌, MatchOption, OnOk, length};
 ghost use Rattle.std.specs.List.{slice_get};
 ghost use Rattle.pl_syntax.specs.Tree.{count, done, loop};
-ghost use Rattle.pl_syntax.specs.Bodies.{followed_by};
+ghost use Rattle.pl_syntax.specs.calls.Bodies.{followed_by};
 ghost use Rattle.origins.specs.Turns.{making_op, turned_visits, turns_of};
 ghost use Rattle.origins.specs.inside.Seeking.{IsInTurn};
 

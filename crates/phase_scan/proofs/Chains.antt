@@ -4,10 +4,10 @@ use Rattle.std.specs.Prelude.{is_some}
 use Rattle.std.proofs.lemmas.Bool.{cases_eq}
 use Rattle.armus_base.specs.Plans.{Plan}
 use Rattle.armus_base.specs.States.{Phases, State}
-use Rattle.board.specs.Views.{seen}
-use Rattle.board.specs.Seats.{AnswersPhase, IsSeat, Known}
-use Rattle.phase_scan.specs.Looks.{LoadsAlone}
-use Rattle.phase_scan.specs.Collects.{IfAsked, LoadsRow, LoadsRows}
+use Rattle.board.specs.calls.Views.{seen}
+use Rattle.board.specs.calls.Seats.{AnswersPhase, IsSeat, Known}
+use Rattle.phase_scan.specs.calls.Looks.{LoadsAlone}
+use Rattle.phase_scan.specs.calls.Collects.{IfAsked, LoadsRow, LoadsRows}
 use Rattle.phase_scan.proofs.Loads.{IsLoadOf, goes_both, goes_itself, phase_load}
 
 -- loads of words of these tasks alone

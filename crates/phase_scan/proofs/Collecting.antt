@@ -9,13 +9,13 @@ use Rattle.armus_base.specs.Places.{some_before}
 use Rattle.armus_base.specs.CheckedPlans.{IsCheckedPlan}
 use Rattle.armus_base.specs.Deadlocks.{IsListedOn}
 use Rattle.armus_base.specs.Finals.{given_below, is_awaited, is_event_of, statuses_on}
-use Rattle.armus_base.specs.Statuses.{IsInOrder}
+use Rattle.armus_base.specs.calls.Statuses.{IsInOrder}
 use Rattle.armus_base.proofs.StatusesAre.{statuses_are}
-use Rattle.board.specs.Seats.{Frame, IsOf, Known}
-use Rattle.phase_scan.specs.Collects.{CountsLoads, IsCollect, LoadsAwaits, LoadsRows}
-use Rattle.phase_scan.specs.Collecting.{HasCollected}
+use Rattle.board.specs.calls.Seats.{Frame, IsOf, Known}
+use Rattle.phase_scan.specs.calls.Collects.{CountsLoads, IsCollect, LoadsAwaits, LoadsRows}
+use Rattle.phase_scan.specs.calls.Collecting.{HasCollected}
 use Rattle.phase_scan.specs.declared.findings.Findings.{Findings}
-use Rattle.phase_scan.specs.Tables.{awaited_in_findings, event_for, is_marked, state_of_findings, status_found, statuses_of_findings}
+use Rattle.phase_scan.specs.calls.Tables.{awaited_in_findings, event_for, is_marked, state_of_findings, status_found, statuses_of_findings}
 use Rattle.phase_scan.proofs.Counting.{counts_loads}
 use Rattle.phase_scan.proofs.Farther.{IsPossible}
 use Rattle.phase_scan.proofs.Finds.{collect_finds}

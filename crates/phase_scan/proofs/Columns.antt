@@ -9,25 +9,16 @@ use Rattle.armus_base.specs.declared.event.Event.{Event}
 use Rattle.armus_base.specs.Plans.{Plan}
 use Rattle.armus_base.specs.States.{State, updated}
 use Rattle.armus_base.proofs.Steps.{updated_other, updated_same}
-use Rattle.board.specs.Views.{seen}
-use Rattle.board.specs.Seats.{AnswersPhase, IsSeat, Known}
-use Rattle.phase_scan.specs.Looks.{LoadsAlone}
-use Rattle.phase_scan.specs.Collects.{IfAsked}
-use Rattle.phase_scan.specs.Supposed.{LoadsColumn, phase_used}
+use Rattle.board.specs.calls.Views.{seen}
+use Rattle.board.specs.calls.Seats.{AnswersPhase, IsSeat, Known}
+use Rattle.phase_scan.specs.calls.Looks.{LoadsAlone}
+use Rattle.phase_scan.specs.calls.Collects.{IfAsked}
+use Rattle.phase_scan.specs.calls.Supposed.{LoadsColumn, phase_used}
 use Rattle.phase_scan.specs.declared.findings.Findings.{Findings}
-use Rattle.phase_scan.specs.Tables.{awaited_in_findings, event_for, state_of_findings}
+use Rattle.phase_scan.specs.calls.Tables.{awaited_in_findings, event_for, state_of_findings}
 use Rattle.phase_scan.specs.inside.Phases.{phase_in}
 use Rattle.phase_scan.specs.inside.Supposing.{KeepsColumn}
 use Rattle.phase_scan.proofs.Loads.{goes_both, goes_itself, phase_load}
-
--- a write sets one phase of a column
-pub column_set : (column : List (Option ℕ)) (t : ℕ) (c : Option ℕ) → t < length column → phase_in (set column t c) ≡ updated (phase_in column) t c
-column_set column t c within = fun_ext (λ u. elim (cases_eq u t) [
-  | inl e ↦
-      ap (phase_in (set column t c)) e ∙ get_or-set_same column t c None within
-      ∙ sym (updated_same (phase_in column) t u c e)
-  | inr n ↦ get_or-set_other column t u c None n ∙ sym (updated_other (phase_in column) t u c n)
-])
 
 -- a column that was written as a whole is what a read of it finds
 pub read_back : (n : ℕ) (xs ys : List (Option ℕ)) → n ≡ length xs → take n (xs ++ ys) ≡ xs

@@ -11,8 +11,8 @@ use Rattle.armus_base.specs.CheckedPlans.{IsCheckedPlan}
 use Rattle.armus_base.specs.Finals.{given_below, is_awaited, is_event_of, listed_phase, status_of}
 use Rattle.armus_base.proofs.Counts.{count_more, count_none, count_same}
 use Rattle.armus_base.proofs.Fixed.{some_before_is}
-use Rattle.board.specs.Seats.{AnswersPhase, Known}
-use Rattle.phase_scan.specs.Collects.{CountsLoads, IfAsked, IsAwaitedPhaser, IsCollect, LoadsAwaits, LoadsRow, LoadsRows}
+use Rattle.board.specs.calls.Seats.{AnswersPhase, Known}
+use Rattle.phase_scan.specs.calls.Collects.{CountsLoads, IfAsked, IsAwaitedPhaser, IsCollect, LoadsAwaits, LoadsRow, LoadsRows}
 use Rattle.phase_scan.proofs.Telling.{are, loaded_of}
 
 -- how many numbers below n pass the test

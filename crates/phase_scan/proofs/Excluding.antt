@@ -10,7 +10,7 @@ use Rattle.armus_base.specs.declared.status.Member.{Member}
 use Rattle.armus_base.specs.declared.status.Status.{Status}
 use Rattle.armus_base.specs.CheckedPlans.{IsCheckedPlan}
 use Rattle.armus_base.specs.Deadlocks.{IsListedAt}
-use Rattle.armus_base.specs.FinalLaws.{AreStatuses}
+use Rattle.armus_base.specs.calls.FinalLaws.{AreStatuses}
 use Rattle.armus_base.specs.Finals.{is_event_of, statuses_on}
 use Rattle.armus_base.specs.Places.{some_before}
 use Rattle.armus_base.specs.Plans.{Plan}
@@ -18,17 +18,10 @@ use Rattle.armus_base.specs.States.{Phases, State, updated}
 use Rattle.armus_base.proofs.Fixed.{some_before_from}
 use Rattle.armus_base.proofs.StatusesAre.{statuses_are}
 use Rattle.armus_base.proofs.Steps.{updated_other, updated_same}
-use Rattle.phase_scan.specs.OffCycle.{ImpedesSome, IsImpeded, IsOffCycle}
-use Rattle.phase_scan.specs.Tables.{is_marked, state_supposed}
+use Rattle.phase_scan.specs.calls.OffCycle.{ImpedesSome, IsImpeded, IsOffCycle}
+use Rattle.phase_scan.specs.calls.Tables.{is_marked, state_supposed}
 use Rattle.phase_scan.specs.inside.Behind.{ExcludesCycle, IsBehind, IsBehindGiven}
 use Rattle.phase_scan.specs.inside.Phases.{phase_in}
-
--- where no phase of a column is behind the event, nobody is
-pub nobody_behind : (column : List (Option ℕ)) (e : Event) → (Any (λ found. IsBehind found e) column → ⊥) → (u : ℕ) → IsBehind (phase_in column u) e → ⊥
-nobody_behind column e none u behind = elim (cases_lt u (length column)) [
-  | inl l ↦ none (u, phase_in column u, l, get_or_default column u (phase_in column u) None l, behind)
-  | inr past ↦ absurd (subst (λ o. IsBehind o e) (get_or_past column u None past) behind)
-]
 
 -- the phaser of an event on which a task was found waiting is marked, so it is one of the marks
 pub phaser_within :

@@ -5,14 +5,14 @@ use Rattle.armus_base.specs.Plans.{Plan}
 use Rattle.armus_base.specs.States.{State}
 use Rattle.armus_base.specs.Runs.{Place}
 use Rattle.armus_base.specs.Places.{published_after, state_at}
-use Rattle.armus_base.specs.Boards.{IsLawful}
-use Rattle.armus_base.specs.Seats.{IsAsFarOn, IsScanned, SeenBy}
+use Rattle.armus_base.specs.calls.Boards.{IsLawful}
+use Rattle.armus_base.specs.calls.Seats.{IsAsFarOn, IsScanned, SeenBy}
 use Rattle.armus_base.proofs.Places.{precedes_trans}
 use Rattle.board.specs.declared.mode.Mode.{Mode}
-use Rattle.board.specs.Views.{avoids, seen}
-use Rattle.board.specs.Steps.{WasSo}
-use Rattle.board.specs.Seats.{IsSeat, Known}
-use Rattle.phase_scan.specs.Looks.{LoadsAlone}
+use Rattle.board.specs.calls.Views.{avoids, seen}
+use Rattle.board.specs.calls.Steps.{WasSo}
+use Rattle.board.specs.calls.Seats.{IsSeat, Known}
+use Rattle.phase_scan.specs.calls.Looks.{LoadsAlone}
 
 -- what is as far on as what the seat of a task has seen is as far on as what a viewer has that has seen the same
 pub far_of_viewer : (plan : Plan) (own : Option ℕ) (a : ℕ → Place) (s : SeenBy) → IsAsFarOn plan own a s → IsAsFarOn plan None a s

@@ -7,11 +7,11 @@ use Rattle.armus_base.specs.declared.status.Status.{Status}
 use Rattle.armus_base.specs.Plans.{Plan}
 use Rattle.armus_base.specs.States.{Phases, State}
 use Rattle.armus_base.specs.CheckedPlans.{IsCheckedPlan}
-use Rattle.armus_base.specs.Seats.{Found, FoundIdle, FoundRefused, FoundWaiting}
-use Rattle.board.specs.Views.{seen}
-use Rattle.board.specs.Seats.{AnswersPhase, Known}
-use Rattle.phase_scan.specs.Collects.{IfAsked, IsCollect, LoadsAwaits, LoadsRow, LoadsRows, waiting_on}
-use Rattle.phase_scan.specs.Collected.{HasFinds}
+use Rattle.armus_base.specs.calls.Seats.{Found, FoundIdle, FoundRefused, FoundWaiting}
+use Rattle.board.specs.calls.Views.{seen}
+use Rattle.board.specs.calls.Seats.{AnswersPhase, Known}
+use Rattle.phase_scan.specs.calls.Collects.{IfAsked, IsCollect, LoadsAwaits, LoadsRow, LoadsRows, waiting_on}
+use Rattle.phase_scan.specs.calls.Collected.{HasFinds}
 use Rattle.phase_scan.proofs.Telling.{are, collect_goes}
 
 -- a holder of the lock that has found the first tasks

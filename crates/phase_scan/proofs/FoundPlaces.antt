@@ -6,19 +6,21 @@ use Rattle.armus_base.specs.declared.event.Event.{Event}
 use Rattle.armus_base.specs.declared.status.Status.{Status}
 use Rattle.armus_base.specs.Plans.{Plan}
 use Rattle.armus_base.specs.States.{State}
-use Rattle.armus_base.specs.Runs.{IsPrefix, Place, first_place}
-use Rattle.armus_base.specs.Places.{phases_at_place, published_after, refused_at}
+use Rattle.armus_base.specs.calls.Runs.{IsPrefix}
+use Rattle.armus_base.specs.Runs.{Place, first_place}
+use Rattle.armus_base.specs.calls.Places.{phases_at_place}
+use Rattle.armus_base.specs.Places.{published_after, refused_at}
 use Rattle.armus_base.specs.CheckedPlans.{IsCheckedPlan}
 use Rattle.armus_base.specs.Deadlocks.{IsListedOn}
-use Rattle.armus_base.specs.Decisions.{HasFound}
-use Rattle.armus_base.specs.FinalLaws.{AreStatuses}
-use Rattle.armus_base.specs.Seats.{await_word}
+use Rattle.armus_base.specs.calls.Decisions.{HasFound}
+use Rattle.armus_base.specs.calls.FinalLaws.{AreStatuses}
+use Rattle.armus_base.specs.calls.Seats.{await_word}
 use Rattle.armus_base.proofs.ReachedLater.{later_done}
-use Rattle.board.specs.Views.{avoids, seen}
-use Rattle.board.specs.Words.{found_in}
-use Rattle.board.specs.Seats.{AnswersPhase, IsSeat, Known}
-use Rattle.phase_scan.specs.Looks.{LoadsAlone}
-use Rattle.phase_scan.specs.Collects.{LoadsRows, waiting_on}
+use Rattle.board.specs.calls.Views.{avoids, seen}
+use Rattle.board.specs.calls.Words.{found_in}
+use Rattle.board.specs.calls.Seats.{AnswersPhase, IsSeat, Known}
+use Rattle.phase_scan.specs.calls.Looks.{LoadsAlone}
+use Rattle.phase_scan.specs.calls.Collects.{LoadsRows, waiting_on}
 use Rattle.phase_scan.proofs.Loads.{goes_both, phase_load, prefix_both}
 use Rattle.phase_scan.proofs.ChosenLoads.{AwaitLoad}
 use Rattle.phase_scan.proofs.Chains.{GoesAt, WaitsBelow, phase_of, row_of, rows_go}

@@ -8,12 +8,12 @@ use Rattle.armus_base.specs.States.{Phases, State, updated, with_phase}
 use Rattle.armus_base.specs.Places.{published_after, refused_at, some_before}
 use Rattle.armus_base.specs.Finals.{is_event_of}
 use Rattle.armus_base.specs.CheckedPlans.{IsCheckedPlan}
-use Rattle.armus_base.specs.Seats.{Found, await_word}
+use Rattle.armus_base.specs.calls.Seats.{Found, await_word}
 use Rattle.armus_base.proofs.Steps.{updated_other, updated_same, with_phase_other, with_phase_same}
-use Rattle.board.specs.Views.{seen}
-use Rattle.board.specs.Steps.{IsSameSeat}
-use Rattle.board.specs.Seats.{AnswersAwait, AnswersPhase, Frame, IsOf, Known}
-use Rattle.phase_scan.specs.Collects.{IfAsked, LoadsAwaits, LoadsRow, LoadsRows, waiting_on}
+use Rattle.board.specs.calls.Views.{seen}
+use Rattle.board.specs.calls.Steps.{IsSameSeat}
+use Rattle.board.specs.calls.Seats.{AnswersAwait, AnswersPhase, Frame, IsOf, Known}
+use Rattle.phase_scan.specs.calls.Collects.{IfAsked, LoadsAwaits, LoadsRow, LoadsRows, waiting_on}
 use Rattle.phase_scan.specs.inside.Nexts.{AreNexts, IsNextAsked}
 use Rattle.phase_scan.proofs.ChosenLoads.{chosen_same}
 use Rattle.phase_scan.proofs.Loads.{published_phaser}

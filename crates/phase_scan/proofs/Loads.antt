@@ -5,23 +5,25 @@ use Rattle.std.proofs.lemmas.Bool.{cases_eq}
 use Rattle.armus_base.specs.declared.event.Event.{Event}
 use Rattle.armus_base.specs.Plans.{Blocks, Plan, action_at}
 use Rattle.armus_base.specs.States.{IsReached, State}
-use Rattle.armus_base.specs.Runs.{IsPrefix, Place, Precedes, first_place}
-use Rattle.armus_base.specs.Places.{members_below, phases_after, phases_at_place, published_after}
+use Rattle.armus_base.specs.calls.Runs.{IsPrefix, Precedes}
+use Rattle.armus_base.specs.Runs.{Place, first_place}
+use Rattle.armus_base.specs.Places.{members_below, phases_after, published_after}
+use Rattle.armus_base.specs.calls.Places.{phases_at_place}
 use Rattle.armus_base.specs.CheckedPlans.{IsCheckedPlan}
-use Rattle.armus_base.specs.Boards.{IsLawful}
-use Rattle.armus_base.specs.Seats.{Found, IsAsFarOn, IsLongestPrefix, IsPlaceOf, await_word, is_not_behind, own_event, scanned_after}
+use Rattle.armus_base.specs.calls.Boards.{IsLawful}
+use Rattle.armus_base.specs.calls.Seats.{Found, IsAsFarOn, IsLongestPrefix, IsPlaceOf, await_word, is_not_behind, own_event, scanned_after}
 use Rattle.armus_base.proofs.Published.{published_after_is}
 use Rattle.armus_base.proofs.Places.{precedes_itself, precedes_trans}
 use Rattle.armus_base.proofs.LawfulPlaces.{lawful_places_are_of}
 use Rattle.armus_base.proofs.AllScannedIsReached.{all_scanned_is_reached}
 use Rattle.armus_base.proofs.BoardRuns.{lawful_is_reachable}
-use Rattle.board.specs.Views.{avoids, seen}
-use Rattle.board.specs.Words.{found_in}
-use Rattle.board.specs.Steps.{IsSameSeat, WasSo}
-use Rattle.board.specs.Seats.{AnswersAwait, AnswersPhase, IsSeat, Known, event_of}
-use Rattle.board.proofs.Ranges.{phaser_of_member}
+use Rattle.board.specs.calls.Views.{avoids, seen}
+use Rattle.board.specs.calls.Words.{found_in}
+use Rattle.board.specs.calls.Steps.{IsSameSeat, WasSo}
+use Rattle.board.specs.calls.Seats.{AnswersAwait, AnswersPhase, IsSeat, Known, event_of}
+use Rattle.armus_base.proofs.MemberPhasers.{phaser_of_member}
 use Rattle.board.proofs.Loaded.{event_stays}
-use Rattle.phase_scan.specs.Looks.{LoadsAlone, InEachLawful, ScansTo}
+use Rattle.phase_scan.specs.calls.Looks.{LoadsAlone, InEachLawful, ScansTo}
 
 pub prefix_both : (a b c : Place) → IsPrefix a b → IsPrefix b c → IsPrefix a c
 prefix_both a b c x y = precedes_trans a.done b.done c.done a.dropped b.dropped c.dropped x y
@@ -265,10 +267,6 @@ scans_on k m e t answer is at load not_behind =
     load.load.seen_now.scanned
     ∙ (λ i. scanned_after (is i) (at i) t e.p.0 answer)
     ∙ (λ i. if eq-eqb e.p.0 e.p.0 refl i && eq-eqb t t refl i && not_behind i then suc t else t)
-
--- a seat that has made no load yet
-pub scans_none : (e : Event) (k : Known) → ScansTo e (seen k.view).scanned k k
-scans_none e k = record { count = 0; up_to = omega arith; loads = refl }
 
 pub scans_to : {e : Event} {t u : ℕ} {a k : Known} → ScansTo e t a k → t ≡ u → ScansTo e u a k
 scans_to s same = record { count = s.count; up_to = s.up_to ∙ same; loads = s.loads }

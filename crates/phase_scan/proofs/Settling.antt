@@ -11,16 +11,16 @@ use Rattle.armus_base.specs.States.{Phases, State}
 use Rattle.armus_base.specs.Runs.{Place, first_place}
 use Rattle.armus_base.specs.Places.{state_at}
 use Rattle.armus_base.specs.CheckedPlans.{IsCheckedPlan}
-use Rattle.armus_base.specs.Boards.{IsLawful}
+use Rattle.armus_base.specs.calls.Boards.{IsLawful}
 use Rattle.armus_base.specs.Deadlocks.{IsDeadIn}
 use Rattle.armus_base.specs.Finals.{given_below, is_awaited, is_event_of, listed_phase, status_of, statuses_on}
-use Rattle.armus_base.specs.Seats.{IsAsFarOn, found_by}
-use Rattle.board.specs.Views.{avoids, seen}
-use Rattle.board.specs.Words.{found_in}
-use Rattle.board.specs.Seats.{IsSeat, Known}
+use Rattle.armus_base.specs.calls.Seats.{IsAsFarOn, found_by}
+use Rattle.board.specs.calls.Views.{avoids, seen}
+use Rattle.board.specs.calls.Words.{found_in}
+use Rattle.board.specs.calls.Seats.{IsSeat, Known}
 use Rattle.board.proofs.Closing.{exact_places}
-use Rattle.phase_scan.specs.Collects.{IsCollect, waiting_on}
-use Rattle.phase_scan.specs.Settled.{KnowsAll, TellsState}
+use Rattle.phase_scan.specs.calls.Collects.{IsCollect, waiting_on}
+use Rattle.phase_scan.specs.calls.Settled.{KnowsAll, TellsState}
 use Rattle.phase_scan.proofs.Loads.{goes_both}
 use Rattle.phase_scan.proofs.Farther.{possible_before}
 use Rattle.phase_scan.proofs.Keeping.{some_same}

@@ -3,12 +3,14 @@ use Rattle.std.proofs.Common.{◌≡◌, ◌≢◌, ℕ, suc, ◌<◌, ◌≤◌
 use Rattle.std.proofs.lemmas.Bool.{cases_eq}
 use Rattle.armus_base.specs.declared.event.Event.{Event}
 use Rattle.armus_base.specs.Plans.{Passes, Plan, action_at}
-use Rattle.armus_base.specs.Runs.{ArePrefixes, IsPrefix, Place, Precedes, places}
-use Rattle.armus_base.specs.Places.{done_by, kept, phases_at_place, published_after, state_at}
+use Rattle.armus_base.specs.calls.Runs.{ArePrefixes, IsPrefix, Precedes}
+use Rattle.armus_base.specs.Runs.{Place, places}
+use Rattle.armus_base.specs.Places.{done_by, kept, published_after, state_at}
+use Rattle.armus_base.specs.calls.Places.{phases_at_place}
 use Rattle.armus_base.specs.CheckedPlans.{IsCheckedPlan}
-use Rattle.armus_base.specs.Boards.{IsLawful, steps_of}
+use Rattle.armus_base.specs.calls.Boards.{IsLawful, steps_of}
 use Rattle.armus_base.specs.Deadlocks.{IsDeadIn}
-use Rattle.armus_base.specs.Seats.{Found, FoundRefused, IsLongestPrefix, IsPlaceOf, found_by}
+use Rattle.armus_base.specs.calls.Seats.{Found, FoundRefused, IsLongestPrefix, IsPlaceOf, found_by}
 use Rattle.armus_base.proofs.Fixed.{action_within, phases_forked}
 use Rattle.armus_base.proofs.Published.{published_after_is, published_passes}
 use Rattle.armus_base.proofs.Members.{plain_undropped}
@@ -16,7 +18,7 @@ use Rattle.armus_base.proofs.MaximalExists.{maximal_exists}
 use Rattle.armus_base.proofs.OneEnd.{below_maximal}
 use Rattle.armus_base.proofs.BoardRuns.{lawful_is_reachable, nobody_dead_at, plain_is_lawful}
 use Rattle.armus_base.proofs.Reachable.{dead_stays_at_reachable, reachable_is_fixed}
-use Rattle.phase_scan.specs.Collects.{waiting_on}
+use Rattle.phase_scan.specs.calls.Collects.{waiting_on}
 
 -- an await word that means waiting
 pub word_published : (o r : Option Event) (e : Event) → waiting_on (found_by o r) ≡ Some e → o ≡ Some e

@@ -5,17 +5,18 @@ use Rattle.std.specs.Prelude.{unwrap_or}
 use Rattle.armus_base.specs.declared.event.Event.{Event}
 use Rattle.armus_base.specs.declared.status.Status.{Status}
 use Rattle.armus_base.specs.CheckedPlans.{IsCheckedPlan}
-use Rattle.armus_base.specs.Places.{phases_at_place, some_before}
+use Rattle.armus_base.specs.calls.Places.{phases_at_place}
+use Rattle.armus_base.specs.Places.{some_before}
 use Rattle.armus_base.specs.States.{Phases, updated}
 use Rattle.armus_base.specs.Finals.{given_below, is_awaited, is_event_of, statuses_on}
-use Rattle.board.specs.Views.{place_in, task_of}
-use Rattle.board.specs.Steps.{own_phase}
-use Rattle.board.specs.Seats.{Frame, IsOf, IsSeat, Known}
-use Rattle.phase_scan.specs.Looks.{LoadsAlone}
-use Rattle.phase_scan.specs.Supposed.{IsSupposed, LoadsColumn, phase_used}
-use Rattle.phase_scan.specs.OffCycle.{SupposesOrExcludes}
+use Rattle.board.specs.calls.Views.{place_in, task_of}
+use Rattle.board.specs.calls.Steps.{own_phase}
+use Rattle.board.specs.calls.Seats.{Frame, IsOf, IsSeat, Known}
+use Rattle.phase_scan.specs.calls.Looks.{LoadsAlone}
+use Rattle.phase_scan.specs.calls.Supposed.{IsSupposed, LoadsColumn, phase_used}
+use Rattle.phase_scan.specs.calls.OffCycle.{SupposesOrExcludes}
 use Rattle.phase_scan.specs.declared.findings.Findings.{Findings}
-use Rattle.phase_scan.specs.Tables.{awaited_in_findings, event_for, state_of_findings, state_supposed, status_found, statuses_of_findings}
+use Rattle.phase_scan.specs.calls.Tables.{awaited_in_findings, event_for, state_of_findings, state_supposed, status_found, statuses_of_findings}
 use Rattle.phase_scan.specs.inside.Behind.{ExcludesCycle}
 use Rattle.phase_scan.specs.inside.Phases.{phase_in}
 use Rattle.phase_scan.specs.inside.Supposing.{KeepsColumn}

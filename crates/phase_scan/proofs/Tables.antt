@@ -11,10 +11,10 @@ use Rattle.armus_base.specs.declared.status.Status.{Status}
 use Rattle.armus_base.specs.Finals.{given_below, listed_phase}
 use Rattle.armus_base.specs.Places.{some_before}
 use Rattle.armus_base.specs.States.{Phases, State, with_phase}
-use Rattle.armus_base.specs.Statuses.{IsInOrder}
+use Rattle.armus_base.specs.calls.Statuses.{IsInOrder}
 use Rattle.armus_base.proofs.Steps.{with_phase_same, with_phase_other}
 use Rattle.phase_scan.specs.inside.Nexts.{IsNextAsked}
-use Rattle.phase_scan.specs.Tables.{phases_of_found, status_found}
+use Rattle.phase_scan.specs.calls.Tables.{phases_of_found, status_found}
 
 pub slice_get-set_same : {A : Type 0} (xs : List A) (k : ℕ) (v : A) → k < length xs → slice_get (set xs k v) k ≡ Some v
 slice_get-set_same [] k v l = absurd (omega arith)

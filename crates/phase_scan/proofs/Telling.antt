@@ -5,15 +5,17 @@ use Rattle.armus_base.specs.declared.event.Event.{Event}
 use Rattle.armus_base.specs.declared.status.Status.{Status}
 use Rattle.armus_base.specs.Plans.{Blocks, Plan}
 use Rattle.armus_base.specs.States.{State}
-use Rattle.armus_base.specs.Runs.{IsPrefix, Place}
-use Rattle.armus_base.specs.Places.{phases_at_place, published_after, state_at}
+use Rattle.armus_base.specs.calls.Runs.{IsPrefix}
+use Rattle.armus_base.specs.Runs.{Place}
+use Rattle.armus_base.specs.calls.Places.{phases_at_place}
+use Rattle.armus_base.specs.Places.{published_after, state_at}
 use Rattle.armus_base.specs.CheckedPlans.{IsCheckedPlan}
-use Rattle.armus_base.specs.Boards.{IsLawful}
+use Rattle.armus_base.specs.calls.Boards.{IsLawful}
 use Rattle.armus_base.specs.Deadlocks.{IsListedOn}
-use Rattle.armus_base.specs.FinalLaws.{AreStatuses}
+use Rattle.armus_base.specs.calls.FinalLaws.{AreStatuses}
 use Rattle.armus_base.specs.Finals.{is_awaited, is_event_of}
 use Rattle.armus_base.specs.Statuses.{IsAwaited}
-use Rattle.armus_base.specs.Seats.{IsAsFarOn, IsLongestPrefix, IsPlaceOf}
+use Rattle.armus_base.specs.calls.Seats.{IsAsFarOn, IsLongestPrefix, IsPlaceOf}
 use Rattle.armus_base.proofs.KeepsFar.{prefixes_both}
 use Rattle.armus_base.proofs.Fixed.{some_before_from}
 use Rattle.armus_base.proofs.FoundArePublished.{published_within}
@@ -21,12 +23,12 @@ use Rattle.armus_base.proofs.Published.{published_after_is}
 use Rattle.armus_base.proofs.StatusesAre.{statuses_are}
 use Rattle.armus_base.proofs.Tasks.{action_of_task}
 use Rattle.board.specs.declared.mode.Mode.{Mode}
-use Rattle.board.specs.Views.{avoids, seen}
-use Rattle.board.specs.Words.{found_in}
-use Rattle.board.specs.Seats.{IsSeat, Known}
-use Rattle.phase_scan.specs.Looks.{LoadsAlone, InEachLawful}
-use Rattle.phase_scan.specs.Collects.{IsCollect, waiting_on}
-use Rattle.phase_scan.specs.Collected.{HasItsPhases, IsCollected, IsKnownDeadBy, IsListedAsIn}
+use Rattle.board.specs.calls.Views.{avoids, seen}
+use Rattle.board.specs.calls.Words.{found_in}
+use Rattle.board.specs.calls.Seats.{IsSeat, Known}
+use Rattle.phase_scan.specs.calls.Looks.{LoadsAlone, InEachLawful}
+use Rattle.phase_scan.specs.calls.Collects.{IsCollect, waiting_on}
+use Rattle.phase_scan.specs.calls.Collected.{HasItsPhases, IsCollected, IsKnownDeadBy, IsListedAsIn}
 use Rattle.phase_scan.proofs.Loads.{await_load, goes_both, prefix_both, published_phaser}
 use Rattle.phase_scan.proofs.ChosenLoads.{AwaitLoad, chosen_go, chosen_of, chosen_seat}
 use Rattle.phase_scan.proofs.Farther.{IsPossible, possible_before}

@@ -1,12 +1,12 @@
 // The cells of a collect.
 ghost use Rattle.std.specs.Prelude.{◌≡◌, ◌<◌, ◌≤◌, ◌*◌, [], IfOk, length};
 ghost use Rattle.armus_base.specs.Limits.{max_cells, max_tasks};
-ghost use Rattle.armus_base.specs.Statuses.{IsInOrder};
-ghost use Rattle.board.specs.Seats.{IsOf};
-ghost use Rattle.phase_scan.specs.Looks.{LoadsAlone};
-ghost use Rattle.phase_scan.specs.OffCycle.{SupposesOrExcludes};
-ghost use Rattle.phase_scan.specs.Supposed.{IsSupposed};
-ghost use Rattle.phase_scan.specs.Collecting.{HasCollected};
+ghost use Rattle.armus_base.specs.calls.Statuses.{IsInOrder};
+ghost use Rattle.board.specs.calls.Seats.{IsOf};
+ghost use Rattle.phase_scan.specs.calls.Looks.{LoadsAlone};
+ghost use Rattle.phase_scan.specs.calls.OffCycle.{SupposesOrExcludes};
+ghost use Rattle.phase_scan.specs.calls.Supposed.{IsSupposed};
+ghost use Rattle.phase_scan.specs.calls.Collecting.{HasCollected};
 
 use crate::findings::Findings;
 use armus_base::{Event, List, NoMemory, Phase, Status};
@@ -23,11 +23,11 @@ pub struct Cells {
 }
 
 impl Model for Cells {
-    ghost use Rattle.phase_scan.specs.Collects.{Collection};
+    ghost use Rattle.phase_scan.specs.calls.Collects.{Collection};
 
     ghost Value = { Collection };
 
-    ghost use Rattle.phase_scan.specs.Buffers.{collection_of};
+    ghost use Rattle.phase_scan.specs.calls.Buffers.{collection_of};
     ghost use Rattle.phase_scan.specs.inside.Cells.{AreCells};
 
     ghost view = { collection_of };

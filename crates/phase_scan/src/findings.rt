@@ -3,9 +3,9 @@ ghost use Rattle.std.specs.Prelude.{◌≡◌, ℕ, ◌+◌, ◌<◌, ◌*◌, �
 ghost use Rattle.armus_base.specs.CheckedPlans.{IsCheckedPlan};
 ghost use Rattle.armus_base.specs.Finals.{given_below, is_event_of, listed_phase};
 ghost use Rattle.armus_base.specs.States.{updated};
-ghost use Rattle.board.specs.Seats.{IsOf};
-ghost use Rattle.board.specs.Views.{found_of};
-ghost use Rattle.phase_scan.specs.Collects.{LoadsRows, waiting_on};
+ghost use Rattle.board.specs.calls.Seats.{IsOf};
+ghost use Rattle.board.specs.calls.Views.{found_of};
+ghost use Rattle.phase_scan.specs.calls.Collects.{LoadsRows, waiting_on};
 ghost use Rattle.phase_scan.specs.inside.Nexts.{AreNexts};
 
 use crate::nexts::{fill_nexts, nexts_of};
@@ -43,8 +43,8 @@ fn waiting(seen: Seen) -> Option<Event>
 }
 
 impl Findings {
-    ghost use Rattle.phase_scan.specs.Supposed.{phase_used};
-    ghost use Rattle.phase_scan.specs.Tables.{awaited_in_findings, event_for, state_of_findings, statuses_of_findings};
+    ghost use Rattle.phase_scan.specs.calls.Supposed.{phase_used};
+    ghost use Rattle.phase_scan.specs.calls.Tables.{awaited_in_findings, event_for, state_of_findings, statuses_of_findings};
     ghost use Rattle.phase_scan.specs.inside.Filling.{HasSameEvents, KeepsAwaits, KeepsRow};
 
     /// No task was found waiting.

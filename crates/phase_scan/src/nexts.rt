@@ -1,6 +1,6 @@
 // From each phaser on the first one that is asked for, so that a walk over those looks at no others.
 ghost use Rattle.std.specs.Prelude.{◌≡◌, ◌<◌, ◌+◌, ◌^◌, IfOk, length};
-ghost use Rattle.phase_scan.specs.Tables.{is_marked};
+ghost use Rattle.phase_scan.specs.calls.Tables.{is_marked};
 ghost use Rattle.phase_scan.specs.inside.Nexts.{AreNexts, IsNextAsked, asked_with};
 
 use armus_base::{NoMemory, PhaserId};

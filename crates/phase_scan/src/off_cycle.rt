@@ -2,9 +2,9 @@
 ghost use Rattle.std.specs.Prelude.{◌≡◌, ℕ, ◌↔◌, ◌<◌, IsTrue, IfSome, Any, length};
 ghost use Rattle.armus_base.specs.Finals.{is_event_of};
 ghost use Rattle.armus_base.specs.Places.{some_before};
-ghost use Rattle.board.specs.Seats.{IsOf};
-ghost use Rattle.board.specs.Steps.{own_phase};
-ghost use Rattle.phase_scan.specs.Tables.{awaited_in_findings, event_for};
+ghost use Rattle.board.specs.calls.Seats.{IsOf};
+ghost use Rattle.board.specs.calls.Steps.{own_phase};
+ghost use Rattle.phase_scan.specs.calls.Tables.{awaited_in_findings, event_for};
 ghost use Rattle.phase_scan.specs.inside.Behind.{ExcludesCycle, IsBehind, IsBehindGiven};
 ghost use Rattle.phase_scan.specs.inside.Phases.{phase_in};
 

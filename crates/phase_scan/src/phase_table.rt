@@ -15,7 +15,7 @@ pub(crate) struct PhaseTable {
 
 impl PhaseTable {
     ghost use Rattle.armus_base.specs.States.{with_phase};
-    ghost use Rattle.phase_scan.specs.Tables.{phases_in_found};
+    ghost use Rattle.phase_scan.specs.calls.Tables.{phases_in_found};
 
     /// No task is a member of anything.
     pub(crate) fn new(alloc: Global, tasks: usize, phasers: usize) -> Result<PhaseTable, NoMemory>

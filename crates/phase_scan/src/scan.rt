@@ -1,8 +1,8 @@
 // The ascending scan.
 ghost use Rattle.std.specs.Prelude.{◌≡◌, ◌<◌, Some, true, MatchOption, IsSome};
-ghost use Rattle.armus_base.specs.Seats.{is_not_behind};
-ghost use Rattle.board.specs.Seats.{IsOf, event_of};
-ghost use Rattle.phase_scan.specs.Looks.{LoadsAlone, IsLook};
+ghost use Rattle.armus_base.specs.calls.Seats.{is_not_behind};
+ghost use Rattle.board.specs.calls.Seats.{IsOf, event_of};
+ghost use Rattle.phase_scan.specs.calls.Looks.{LoadsAlone, IsLook};
 
 use crate::Look;
 use armus_base::{Event, Phase, TaskId};

@@ -2,11 +2,11 @@
 ghost use Rattle.std.specs.Prelude.{◌≡◌, ◌+◌, ◌<◌, Some, None, IfOk, is_some, length};
 ghost use Rattle.armus_base.specs.Finals.{given_below, listed_phase};
 ghost use Rattle.armus_base.specs.States.{updated};
-ghost use Rattle.board.specs.Seats.{AnswersPhase, IsOf};
-ghost use Rattle.board.specs.Steps.{own_phase};
-ghost use Rattle.phase_scan.specs.Collects.{IfAsked};
+ghost use Rattle.board.specs.calls.Seats.{AnswersPhase, IsOf};
+ghost use Rattle.board.specs.calls.Steps.{own_phase};
+ghost use Rattle.phase_scan.specs.calls.Collects.{IfAsked};
 ghost use Rattle.phase_scan.specs.inside.Nexts.{AreNexts};
-ghost use Rattle.phase_scan.specs.Tables.{event_for};
+ghost use Rattle.phase_scan.specs.calls.Tables.{event_for};
 ghost use Rattle.phase_scan.specs.inside.Phases.{phase_in};
 ghost use Rattle.phase_scan.specs.inside.Supposing.{KeepsColumn, awaited_too, members_on, phases_with, status_supposed};
 

@@ -10,10 +10,10 @@ use Rattle.armus_base.specs.Plans.{Plan, code_of}
 use Rattle.pl_core.specs.declared.task.Task.{Task}
 use Rattle.pl_core.specs.declared.phase_table.PhaseTable.{PhaseTable}
 use Rattle.pl_core.specs.inside.Kept.{KeepsState}
-use Rattle.pl_core.specs.Tables.{world_from}
+use Rattle.pl_core.specs.calls.Tables.{world_from}
 use Rattle.pl_core.specs.Tasks.{IsAtOp, actions_before}
 use Rattle.pl_core.specs.inside.KeptTasks.{begun}
-use Rattle.pl_core.specs.Worlds.{places_of}
+use Rattle.pl_core.specs.calls.Worlds.{places_of}
 use Rattle.pl_core.proofs.OpCounts.{actions_before-suc, at_least_one, await_is_two}
 use Rattle.pl_core.proofs.Standing.{await_of_waiting, done_is, of_task, published_kept}
 

@@ -14,8 +14,8 @@ use Rattle.armus_base.proofs.Tasks.{member_within}
 use Rattle.pl_core.specs.declared.task.Task.{Task}
 use Rattle.pl_core.specs.declared.phase_table.PhaseTable.{PhaseTable}
 use Rattle.pl_core.specs.inside.Kept.{KeepsState}
-use Rattle.pl_core.specs.Tables.{world_from}
-use Rattle.pl_core.specs.Worlds.{WorldValue, action_by_code, places_of, state_of}
+use Rattle.pl_core.specs.calls.Tables.{world_from}
+use Rattle.pl_core.specs.calls.Worlds.{WorldValue, action_by_code, places_of, state_of}
 use Rattle.armus_base.specs.Runs.{IsReachable, Place}
 
 -- a phaser that is made is one of the plan

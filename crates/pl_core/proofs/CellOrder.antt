@@ -5,9 +5,9 @@ use Rattle.std.specs.List.Sorted.{IsNonDecreasingBy}
 use Rattle.std.proofs.lemmas.Bool.{cases_eq}
 use Rattle.std.proofs.lemmas.Option.{get_or_from_slice_get, slice_get-get_or, slice_get_within}
 use Rattle.pl_core.specs.declared.cell.Cell.{Cell}
-use Rattle.pl_core.specs.inside.Cells.{Ascend}
+use Rattle.pl_core.specs.inside.Cells.{CellsAscend}
 
-pub never_fall : (cs : List Cell) → Ascend cs → IsNonDecreasingBy (λ (c : Cell). c.task) cs
+pub never_fall : (cs : List Cell) → CellsAscend cs → IsNonDecreasingBy (λ (c : Cell). c.task) cs
 never_fall cs up i j d le lt =
     elim (cases_eq i j) [
       | inl same ↦ let e : (get_or cs i d).task ≡ (get_or cs j d).task = ap (λ k. (get_or cs k d).task) same in omega arith

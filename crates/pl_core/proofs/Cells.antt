@@ -5,7 +5,7 @@ use Rattle.std.proofs.lemmas.Bool.{cases_eq, cases_lt}
 use Rattle.std.proofs.lemmas.Bool.Decides.{nat_tests}
 use Rattle.std.proofs.lemmas.Option.{slice_get_within}
 use Rattle.pl_core.specs.declared.cell.Cell.{Cell}
-use Rattle.pl_core.specs.inside.Cells.{AreBelow, Ascend, IsLowerBound, StandsAt, StandsIn, phase_among, phase_at}
+use Rattle.pl_core.specs.inside.Cells.{AreBelow, CellsAscend, IsLowerBoundIn, StandsInCell, StandsIn, phase_among, phase_in_cell}
 
 pub slice_get-set_same : {A : Type 0} (xs : List A) (k : ℕ) (v : A) → k < length xs → slice_get (set xs k v) k ≡ Some v
 slice_get-set_same [] k v l = absurd (omega arith)
@@ -76,7 +76,7 @@ ascending n (x ∷ xs) zero (suc k) c d up l e f =
 ascending n (x ∷ xs) (suc j) zero c d up l e f = absurd (omega arith)
 ascending n (x ∷ xs) (suc j) (suc k) c d up l e f = ascending (suc x.task) xs j k c d up.1 (omega arith) e f
 
-pub from_ascend : (n : ℕ) (cs : List Cell) → Ascend cs → ((k : ℕ) (c : Cell) → slice_get cs k ≡ Some c → n ≤ c.task) → AscendFrom n cs
+pub from_ascend : (n : ℕ) (cs : List Cell) → CellsAscend cs → ((k : ℕ) (c : Cell) → slice_get cs k ≡ Some c → n ≤ c.task) → AscendFrom n cs
 from_ascend n [] up least = tt
 from_ascend n (c ∷ cs) up least = (
   least 0 c refl,
@@ -84,7 +84,7 @@ from_ascend n (c ∷ cs) up least = (
       (λ k d e. let less = up 0 (suc k) c d (omega arith) refl e in omega arith),
 )
 
-pub from_zero : (cs : List Cell) → Ascend cs → AscendFrom 0 cs
+pub from_zero : (cs : List Cell) → CellsAscend cs → AscendFrom 0 cs
 from_zero cs up = from_ascend 0 cs up (λ k c e. omega arith)
 
 -- the phase of a task is that in its cell
@@ -97,7 +97,7 @@ among_at n (d ∷ ds) (suc k) c up e =
     first_other d ds c.task (λ same. let later = from_first (suc d.task) ds k c up.1 e in absurd (omega arith))
     ∙ among_at (suc d.task) ds k c up.1 e
 
-pub among_stands : (cs : List Cell) (k t : ℕ) → Ascend cs → StandsAt cs k t → phase_at cs k ≡ phase_among cs t
+pub among_stands : (cs : List Cell) (k t : ℕ) → CellsAscend cs → StandsInCell cs k t → phase_in_cell cs k ≡ phase_among cs t
 among_stands cs k t up (c, e, is) =
     ap (option_and_then (λ (x : Cell). x.phase)) e ∙ sym (subst (λ u. phase_among cs u ≡ c.phase) is (among_at 0 cs k c (from_zero cs up) e))
 
@@ -120,7 +120,7 @@ stands_with_phase (c ∷ cs) t m e =
     ]
 
 -- a phase of a task is in some cell
-pub in_some_cell : (cs : List Cell) (t m : ℕ) → phase_among cs t ≡ Some m → (k : ℕ) × (k < length cs) × (phase_at cs k ≡ Some m)
+pub in_some_cell : (cs : List Cell) (t m : ℕ) → phase_among cs t ≡ Some m → (k : ℕ) × (k < length cs) × (phase_in_cell cs k ≡ Some m)
 in_some_cell [] t m e = absurd (cc)
 in_some_cell (c ∷ cs) t m e =
     elim (cases_eq c.task t) [
@@ -131,7 +131,7 @@ in_some_cell (c ∷ cs) t m e =
     ]
 
 -- a phase in a cell is that of some task
-pub of_some_task : (cs : List Cell) (k m : ℕ) → Ascend cs → phase_at cs k ≡ Some m → (t : ℕ) × (phase_among cs t ≡ Some m)
+pub of_some_task : (cs : List Cell) (k m : ℕ) → CellsAscend cs → phase_in_cell cs k ≡ Some m → (t : ℕ) × (phase_among cs t ≡ Some m)
 of_some_task cs k m up e = go (slice_get cs k) refl e
   where
     go : (o : Option Cell) → slice_get cs k ≡ o → option_and_then (λ (x : Cell). x.phase) o ≡ Some m → (t : ℕ) × (phase_among cs t ≡ Some m)
@@ -148,10 +148,10 @@ ascend_set n (x ∷ xs) zero c d up e same =
     )
 ascend_set n (x ∷ xs) (suc k) c d up e same = (up.0, ascend_set (suc x.task) xs k c d up.1 e same)
 
-pub stays_ascending : (cs : List Cell) (k : ℕ) (c d : Cell) → Ascend cs → slice_get cs k ≡ Some c → d.task ≡ c.task → Ascend (set cs k d)
+pub stays_ascending : (cs : List Cell) (k : ℕ) (c d : Cell) → CellsAscend cs → slice_get cs k ≡ Some c → d.task ≡ c.task → CellsAscend (set cs k d)
 stays_ascending cs k c d up e same = λ i j x y. ascending 0 (set cs k d) i j x y (ascend_set 0 cs k c d (from_zero cs up) e same)
 
-pub among_set_here : (cs : List Cell) (k : ℕ) (c d : Cell) → Ascend cs → slice_get cs k ≡ Some c → d.task ≡ c.task → phase_among (set cs k d) d.task ≡ d.phase
+pub among_set_here : (cs : List Cell) (k : ℕ) (c d : Cell) → CellsAscend cs → slice_get cs k ≡ Some c → d.task ≡ c.task → phase_among (set cs k d) d.task ≡ d.phase
 among_set_here cs k c d up e same =
     among_at 0 (set cs k d) k d (ascend_set 0 cs k c d (from_zero cs up) e same) (slice_get-set_same cs k d (slice_get_within cs k c e))
 
@@ -173,7 +173,7 @@ stands_set cs k c d u e same (j, (x, f, is)) =
       | inr other ↦ (j, (x, slice_get-set_other cs k j d other ∙ f, is))
     ]
 
-pub phase_at_set_other : (cs : List Cell) (k j : ℕ) (d : Cell) → j ≢ k → phase_at (set cs k d) j ≡ phase_at cs j
+pub phase_at_set_other : (cs : List Cell) (k j : ℕ) (d : Cell) → j ≢ k → phase_in_cell (set cs k d) j ≡ phase_in_cell cs j
 phase_at_set_other cs k j d n = ap (option_and_then (λ (x : Cell). x.phase)) (slice_get-set_other cs k j d n)
 
 -- one more cell behind all, without a phase
@@ -184,7 +184,7 @@ ascend_more n (c ∷ cs) d up below l = (
   ascend_more (suc c.task) cs d up.1 (λ k x e. below (suc k) x e) (let low = below 0 c refl in omega arith),
 )
 
-pub ascends_more : (cs : List Cell) (d : Cell) → Ascend cs → AreBelow d.task cs → Ascend (cs ++ d ∷ [])
+pub ascends_more : (cs : List Cell) (d : Cell) → CellsAscend cs → AreBelow d.task cs → CellsAscend (cs ++ d ∷ [])
 ascends_more cs d up below = λ i j x y. ascending 0 (cs ++ d ∷ []) i j x y (ascend_more 0 cs d (from_zero cs up) below (omega arith))
 
 pub among_more : (cs : List Cell) (d : Cell) (u : ℕ) → d.phase ≡ None → phase_among (cs ++ d ∷ []) u ≡ phase_among cs u
@@ -212,7 +212,7 @@ read_there (x ∷ xs) zero l = (x, refl)
 read_there (x ∷ xs) (suc k) l = read_there xs k (omega arith)
 
 -- cells of which the last is not that of task t
-pub below_last : (cs : List Cell) (t : ℕ) → Ascend cs → AreBelow (t + 1) cs → ((k : ℕ) → k + 1 ≡ length cs → StandsAt cs k t → ⊥) → AreBelow t cs
+pub below_last : (cs : List Cell) (t : ℕ) → CellsAscend cs → AreBelow (t + 1) cs → ((k : ℕ) → k + 1 ≡ length cs → StandsInCell cs k t → ⊥) → AreBelow t cs
 below_last cs t up below last k c e =
     elim (cases_eq (suc k) (length cs)) [
       | inl end ↦ (let low = below k c e in let other : c.task ≢ t = λ is. last k (omega arith) (c, e, is) in omega (arith, other))
@@ -223,7 +223,7 @@ below_last cs t up below last k c e =
     ]
 
 -- a task with a cell stands at its lower bound
-pub at_lower_bound : (cs : List Cell) (t at : ℕ) → Ascend cs → IsLowerBound cs t at → StandsIn cs t → StandsAt cs at t
+pub at_lower_bound : (cs : List Cell) (t at : ℕ) → CellsAscend cs → IsLowerBoundIn cs t at → StandsIn cs t → StandsInCell cs at t
 at_lower_bound cs t at up bound (k, (c, e, is)) =
     elim (cases_eq k at) [
       | inl same ↦ (c, subst (λ j. slice_get cs j ≡ Some c) same e, is)

@@ -14,15 +14,15 @@ use Rattle.pl_core.specs.declared.task.Task.{Task}
 use Rattle.pl_core.specs.declared.phase_table.PhaseTable.{PhaseTable}
 use Rattle.pl_core.specs.inside.Changes.{after_fork, after_op}
 use Rattle.pl_core.specs.inside.Effects.{HasRoomFor}
-use Rattle.pl_core.specs.Moves.{IsWorldStep, further}
+use Rattle.pl_core.specs.calls.Moves.{IsWorldStep, further}
 use Rattle.pl_core.specs.inside.Ops.{ChangesPhases, action_of, phases_moved}
 use Rattle.pl_core.specs.inside.PhaseTables.{KeepsCells, phases_in}
 use Rattle.pl_core.proofs.CellsStay.{enrols_made, enrols_registered}
 use Rattle.pl_core.specs.inside.KeptTasks.{IsKeptOf, event_in}
 use Rattle.pl_core.specs.Tasks.{actions_before}
 use Rattle.pl_core.specs.inside.Kept.{KeepsState}
-use Rattle.pl_core.specs.Tables.{kept_places, world_from}
-use Rattle.pl_core.specs.Worlds.{WorldValue, action_by_code, places_of, state_of}
+use Rattle.pl_core.specs.calls.Tables.{kept_places, world_from}
+use Rattle.pl_core.specs.calls.Worlds.{WorldValue, action_by_code, places_of, state_of}
 use Rattle.pl_core.proofs.Bounds.{child_bound, phaser_of_member, phase_fits}
 use Rattle.pl_core.proofs.Cells.{slice_get-set_same, slice_get-set_other}
 use Rattle.pl_core.proofs.OpCounts.{actions_before-suc, one_unless_await}

@@ -7,7 +7,8 @@ use Rattle.armus_base.specs.Limits.{max_ops}
 use Rattle.armus_base.specs.Plans.{Action, Aim, Blocks, Passes}
 use Rattle.armus_base.specs.States.{IsActive, IsLegal, IsMember, IsReached}
 use Rattle.armus_base.specs.Runs.{IsReachable}
-use Rattle.armus_base.specs.Places.{IsConsistent, refused_at}
+use Rattle.armus_base.specs.calls.Places.{IsConsistent}
+use Rattle.armus_base.specs.Places.{refused_at}
 use Rattle.armus_base.specs.CheckedPlans.{IsCheckedPlan}
 use Rattle.armus_base.proofs.Members.{only_passes, published_member}
 use Rattle.armus_base.proofs.NextIsLegal.{next_legal, unrefused_undropped}
@@ -16,8 +17,8 @@ use Rattle.armus_base.proofs.Reachable.{reachable_is_fixed}
 use Rattle.armus_base.proofs.Stepping.{acting_forked}
 use Rattle.pl_core.specs.declared.stand.Stand.{Stand}
 use Rattle.pl_core.specs.declared.stand.Stand.TheVariants.{Unforked, Done, Refused, Ready, Await, Waits}
-use Rattle.pl_core.specs.Stands.{IsEnabled, MayGoOn, StandsSo}
-use Rattle.pl_core.specs.Worlds.{WorldValue, action_by_code, places_of, state_of}
+use Rattle.pl_core.specs.calls.Stands.{IsEnabled, MayGoOn, StandsSo}
+use Rattle.pl_core.specs.calls.Worlds.{WorldValue, action_by_code, places_of, state_of}
 use Rattle.pl_core.proofs.Bounds.{phase_fits, phaser_of_member}
 use Rattle.pl_core.proofs.StepKinds.{awaits_block}
 

@@ -4,8 +4,8 @@ use Rattle.std.proofs.lemmas.Bool.{cases_eq, cases_lt}
 use Rattle.std.specs.Prelude.{option_and_then}
 use Rattle.pl_core.specs.declared.cell.Cell.{Cell}
 use Rattle.pl_core.specs.declared.least.Least.{Least}
-use Rattle.pl_core.specs.inside.Cells.{phase_at}
-use Rattle.pl_core.specs.inside.LeastPhases.{IsAtMost, IsLeast, IsLeastBelow}
+use Rattle.pl_core.specs.inside.Cells.{phase_in_cell}
+use Rattle.pl_core.specs.inside.LeastPhases.{IsAtMost, IsLeastCell, IsLeastBelow}
 use Rattle.pl_core.proofs.Cells.{read_there, slice_get-ahead, slice_get-end}
 
 -- two phases of one cell are one
@@ -62,21 +62,21 @@ length-more [] x = refl
 length-more (y ∷ ys) x = ap suc (length-more ys x)
 
 -- one more cell without a phase
-pub least_appended : (cs : List Cell) (d : Cell) (o : Option Least) → d.phase ≡ None → IsLeastBelow (phase_at cs) (length cs) o →
-    IsLeastBelow (phase_at (cs ++ d ∷ [])) (length (cs ++ d ∷ [])) o
+pub least_appended : (cs : List Cell) (d : Cell) (o : Option Least) → d.phase ≡ None → IsLeastBelow (phase_in_cell cs) (length cs) o →
+    IsLeastBelow (phase_in_cell (cs ++ d ∷ [])) (length (cs ++ d ∷ [])) o
 least_appended cs d o none h =
-    subst (λ n. IsLeastBelow (phase_at (cs ++ d ∷ [])) n o) (sym (length-more cs d))
-    (least_more (phase_at (cs ++ d ∷ [])) (length cs) o
+    subst (λ n. IsLeastBelow (phase_in_cell (cs ++ d ∷ [])) n o) (sym (length-more cs d))
+    (least_more (phase_in_cell (cs ++ d ∷ [])) (length cs) o
     (ap (option_and_then (λ (x : Cell). x.phase)) (slice_get-end cs d) ∙ none)
-    (least_same (phase_at cs) (phase_at (cs ++ d ∷ [])) (length cs) o
+    (least_same (phase_in_cell cs) (phase_in_cell (cs ++ d ∷ [])) (length cs) o
     (λ u l. let there = read_there cs u l in
     ap (option_and_then (λ (x : Cell). x.phase)) (slice_get-ahead cs d there.0 u there.1 ∙ sym there.1)) h))
 
-pub kept_below : (cs : List Cell) (o : Option Least) → IsLeast cs o → IsLeastBelow (phase_at cs) (length cs) o
+pub kept_below : (cs : List Cell) (o : Option Least) → IsLeastCell cs o → IsLeastBelow (phase_in_cell cs) (length cs) o
 kept_below cs None h = λ u l. h.none u refl l
 kept_below cs (Some l) h = (h.within l refl, h.there l refl, λ u m i e. h.bound l u m refl i e)
 
-pub below_kept : (cs : List Cell) (o : Option Least) → IsLeastBelow (phase_at cs) (length cs) o → IsLeast cs o
+pub below_kept : (cs : List Cell) (o : Option Least) → IsLeastBelow (phase_in_cell cs) (length cs) o → IsLeastCell cs o
 below_kept cs None h = record {
   within = λ l e. absurd (cc);
   there = λ l e. absurd (cc);
@@ -85,7 +85,7 @@ below_kept cs None h = record {
 }
 below_kept cs (Some x) h = record {
   within = λ l e. (let is : x ≡ l = (cc) in subst (λ (y : Least). y.at < length cs) is h.0);
-  there = λ l e. (let is : x ≡ l = (cc) in subst (λ (y : Least). phase_at cs y.at ≡ Some y.phase) is h.1);
+  there = λ l e. (let is : x ≡ l = (cc) in subst (λ (y : Least). phase_in_cell cs y.at ≡ Some y.phase) is h.1);
   bound = λ l u m e i f. (let is : x ≡ l = (cc) in subst (λ (y : Least). y.phase ≤ m) is (h.2 u m i f));
   none = λ u e l. absurd (cc);
 }

@@ -17,7 +17,6 @@ pub mod Below
 pub mod AtOp
 pub mod Refusing
 pub mod RefusalKept
-pub mod Ranges
 pub mod Walking
 pub mod WalkSteps
 pub mod WalkOps

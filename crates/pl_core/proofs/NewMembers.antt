@@ -58,9 +58,6 @@ admits_one rows p t old row read inside there keeps =
           subst (λ v. StandsIn (cells_at (set rows p row) v) t) (sym same) (subst (λ cs. StandsIn cs t) (sym (cells_set_same rows p row inside)) there);
     }
 
-pub admits_none : (rows : List Members) (t : ℕ) (Means : ℕ → Type 0) → ((q : ℕ) → q < length rows → Means q → ⊥) → Admits rows rows t Means
-admits_none rows t Means none = record { keeps = λ u p h. h; there = λ p l m. absurd (none p l m) }
-
 pub admits_then :
     (a b d : List Members) (t : ℕ) (M N K : ℕ → Type 0) → length b ≡ length a → Admits a b t M → Admits b d t N → ((p : ℕ) → K p → M p ⊎ N p) → Admits a d t K
 admits_then a b d t M N K sized first next either =
@@ -83,33 +80,6 @@ one_more_phaser noted k q read p (j, l, e) =
       | inr other ↦ inl (j, omega (arith, other), e)
     ]
 
--- no cell for nobody
-pub new_none : (n : ℕ) → AreNew 0 n []
-new_none n = record { sized = refl; below = λ p k c e. absurd (cc); empty = λ p t. refl }
-
 length-one_more : {A : Type 0} (xs : List A) (x : A) → length (xs ++ x ∷ []) ≡ suc (length xs)
 length-one_more [] x = refl
 length-one_more (y ∷ ys) x = ap suc (length-one_more ys x)
-
-pub new_more : (phasers n : ℕ) (rows : List Members) (row : Members) → AreNew phasers n rows → row.cells.items ≡ [] → AreNew (suc phasers) n (rows ++ row ∷ [])
-new_more phasers n rows row kept none =
-    record {
-      sized = length-one_more rows row ∙ ap suc kept.sized;
-      below = λ p. (cells_are p).0;
-      empty = λ p. (cells_are p).1;
-    }
-  where
-    of : (cs : List Cell) → cs ≡ [] → AreBelow n cs × ((t : ℕ) → phase_among cs t ≡ None)
-    of cs e = subst (λ ys. AreBelow n ys × ((t : ℕ) → phase_among ys t ≡ None)) (sym e) (λ k c f. absurd (cc), λ t. refl)
-
-    cells_are : (p : ℕ) → AreBelow n (cells_at (rows ++ row ∷ []) p) × ((t : ℕ) → phase_among (cells_at (rows ++ row ∷ []) p) t ≡ None)
-    cells_are p = go (slice_get (rows ++ row ∷ []) p) refl
-      where
-        go : (o : Option Members) → slice_get (rows ++ row ∷ []) p ≡ o → AreBelow n (cells_from o) × ((t : ℕ) → phase_among (cells_from o) t ≡ None)
-        go None e = of [] refl
-        go (Some r) e =
-            elim (slice_get-appended rows row r p e) [
-              | inl there ↦
-                  subst (λ o. AreBelow n (cells_from o) × ((t : ℕ) → phase_among (cells_from o) t ≡ None)) there (kept.below p, kept.empty p)
-              | inr last ↦ of r.cells.items (ap (λ (m : Members). m.cells.items) (sym last.1) ∙ none)
-            ]

@@ -8,7 +8,8 @@ use Rattle.std.proofs.lemmas.Option.{slice_get_within}
 use Rattle.armus_base.specs.declared.op.Op.{Op}
 use Rattle.armus_base.specs.declared.piece.Piece.{Piece}
 use Rattle.armus_base.specs.declared.piece.Piece.TheVariants.{Op as Single, Repeat}
-use Rattle.armus_base.specs.Pieces.{ops_between, times, unfolded}
+use Rattle.armus_base.specs.calls.Pieces.{ops_between, unfolded}
+use Rattle.armus_base.specs.Pieces.{times}
 use Rattle.pl_core.specs.inside.Enrolling.{Enrols, IsEnrolledBy, Notes}
 use Rattle.pl_core.proofs.Cells.{slice_get-ahead, slice_get-end, slice_get-set_other, slice_get-set_same}
 

@@ -15,13 +15,13 @@ use Rattle.armus_base.proofs.Steps.{updated_same, updated_other}
 use Rattle.pl_core.specs.declared.place.Place.{Place as PlaceValue}
 use Rattle.pl_core.specs.declared.task.Task.{Task}
 use Rattle.pl_core.specs.declared.phase_table.PhaseTable.{PhaseTable}
-use Rattle.pl_core.specs.Moves.{IsWorldStep, further}
+use Rattle.pl_core.specs.calls.Moves.{IsWorldStep, further}
 use Rattle.pl_core.specs.inside.PhaseTables.{KeepsCells, phases_in}
 use Rattle.pl_core.proofs.CellsStay.{cells_stay}
 use Rattle.pl_core.specs.inside.KeptTasks.{IsKeptOf, event_in}
 use Rattle.pl_core.specs.inside.Kept.{KeepsState}
-use Rattle.pl_core.specs.Tables.{kept_places, world_from}
-use Rattle.pl_core.specs.Worlds.{WorldValue, dropped_at, action_by_code, place_from, places_at, places_of, state_of}
+use Rattle.pl_core.specs.calls.Tables.{kept_places, world_from}
+use Rattle.pl_core.specs.calls.Worlds.{WorldValue, dropped_at, action_by_code, place_from, places_at, places_of, state_of}
 use Rattle.pl_core.proofs.Cells.{slice_get-set_same, slice_get-set_other}
 use Rattle.pl_core.proofs.Standing.{consistent, done_is, place_is, refused_false, standing_there, undropped_of}
 

@@ -20,8 +20,8 @@ use Rattle.pl_core.specs.inside.Enrolling.{HasCells}
 use Rattle.pl_core.specs.inside.PhaseTables.{phases_in}
 use Rattle.pl_core.specs.inside.KeptTasks.{IsKeptOf}
 use Rattle.pl_core.specs.inside.Kept.{KeepsState}
-use Rattle.pl_core.specs.Tables.{kept_places, world_from}
-use Rattle.pl_core.specs.Worlds.{IsOpeningWorld, WorldValue, place_from, places_at, places_of, state_of}
+use Rattle.pl_core.specs.calls.Tables.{kept_places, world_from}
+use Rattle.pl_core.specs.calls.Worlds.{IsOpeningWorld, WorldValue, place_from, places_at, places_of, state_of}
 use Rattle.pl_core.proofs.Cells.{slice_get-set_same, slice_get-set_other}
 
 -- an item of a list of copies

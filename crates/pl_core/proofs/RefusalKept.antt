@@ -15,14 +15,14 @@ use Rattle.armus_base.proofs.Steps.{updated_same, updated_other}
 use Rattle.pl_core.specs.declared.task.Task.{Task}
 use Rattle.pl_core.specs.declared.phase_table.PhaseTable.{PhaseTable}
 use Rattle.pl_core.specs.inside.Changes.{after_refusal}
-use Rattle.pl_core.specs.Moves.{LeadsOn, MakesRefusal, drops_from, refused_there}
+use Rattle.pl_core.specs.calls.Moves.{LeadsOn, MakesRefusal, drops_from, refused_there}
 use Rattle.pl_core.specs.inside.PhaseTables.{KeepsCells, phases_in}
 use Rattle.pl_core.proofs.CellsStay.{cells_stay}
-use Rattle.pl_core.specs.Stands.{IsAtAwaitOf}
+use Rattle.pl_core.specs.calls.Stands.{IsAtAwaitOf}
 use Rattle.pl_core.specs.inside.KeptTasks.{IsKeptOf, event_in}
 use Rattle.pl_core.specs.inside.Kept.{KeepsState}
-use Rattle.pl_core.specs.Tables.{kept_places, world_from}
-use Rattle.pl_core.specs.Worlds.{WorldValue, memberships, action_by_code, places_of, state_of}
+use Rattle.pl_core.specs.calls.Tables.{kept_places, world_from}
+use Rattle.pl_core.specs.calls.Worlds.{WorldValue, memberships, action_by_code, places_of, state_of}
 use Rattle.pl_core.proofs.Bounds.{phaser_of_member}
 use Rattle.pl_core.proofs.Cells.{slice_get-set_same, slice_get-set_other}
 use Rattle.pl_core.proofs.OneStep.{places_set_other, places_set_same}

@@ -10,7 +10,7 @@ use Rattle.armus_base.specs.CheckedPlans.{IsCheckedPlan}
 use Rattle.armus_base.proofs.Fixed.{kept_above, kept_below, members_below-none, members_below-suc, members_below_more, phases_forked}
 use Rattle.armus_base.proofs.Reachable.{reachable_steps}
 use Rattle.armus_base.proofs.Steps.{updated_same, updated_other}
-use Rattle.pl_core.specs.Moves.{LeadsOn, drops_from}
+use Rattle.pl_core.specs.calls.Moves.{LeadsOn, drops_from}
 
 -- what leads on from reachable places leads to reachable ones
 pub leads_reachable : (plan : Plan) → IsCheckedPlan plan → (a : ℕ → Place) (h : List Step) (b : ℕ → Place) → IsReachable plan a → LeadsOn plan a h b → IsReachable plan b

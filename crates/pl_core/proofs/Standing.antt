@@ -10,7 +10,8 @@ use Rattle.armus_base.specs.declared.offset.Offset.{Offset}
 use Rattle.armus_base.specs.declared.op.Op.TheVariants.{Await}
 use Rattle.armus_base.specs.Plans.{Plan, action_at, actions, code_of}
 use Rattle.armus_base.specs.States.{State, IsActive}
-use Rattle.armus_base.specs.Places.{IsConsistent, refused_at}
+use Rattle.armus_base.specs.calls.Places.{IsConsistent}
+use Rattle.armus_base.specs.Places.{refused_at}
 use Rattle.armus_base.proofs.Reachable.{reachable_is_fixed}
 use Rattle.armus_base.proofs.NextIsLegal.{unrefused_undropped}
 use Rattle.armus_base.proofs.Published.{published_after_is, published_undropped}
@@ -21,8 +22,8 @@ use Rattle.pl_core.specs.inside.Ops.{action_of}
 use Rattle.pl_core.specs.inside.KeptTasks.{IsKeptOf, begun, event_in}
 use Rattle.pl_core.specs.Tasks.{actions_before}
 use Rattle.pl_core.specs.inside.Kept.{KeepsState}
-use Rattle.pl_core.specs.Tables.{kept_places, world_from}
-use Rattle.pl_core.specs.Worlds.{dropped_at, action_by_code, place_from, places_at, places_of, state_of}
+use Rattle.pl_core.specs.calls.Tables.{kept_places, world_from}
+use Rattle.pl_core.specs.calls.Worlds.{dropped_at, action_by_code, place_from, places_at, places_of, state_of}
 use Rattle.pl_core.proofs.OpCounts.{action_before, blocks_is}
 
 -- the place of a task of the list

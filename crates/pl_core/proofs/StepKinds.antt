@@ -19,13 +19,13 @@ use Rattle.armus_base.proofs.Steps.{updated_same}
 use Rattle.pl_core.specs.declared.task.Task.{Task}
 use Rattle.pl_core.specs.declared.phase_table.PhaseTable.{PhaseTable}
 use Rattle.pl_core.specs.inside.Changes.{after_block, after_op}
-use Rattle.pl_core.specs.Moves.{IsWorldStep}
+use Rattle.pl_core.specs.calls.Moves.{IsWorldStep}
 use Rattle.pl_core.specs.inside.KeptTasks.{IsKeptOf, event_in}
 use Rattle.pl_core.specs.Tasks.{actions_before}
 use Rattle.pl_core.specs.inside.Kept.{KeepsState}
-use Rattle.pl_core.specs.Tables.{world_from}
-use Rattle.pl_core.specs.Stands.{IsAtAwaitOf}
-use Rattle.pl_core.specs.Worlds.{WorldValue, action_by_code, places_of, state_of}
+use Rattle.pl_core.specs.calls.Tables.{world_from}
+use Rattle.pl_core.specs.calls.Stands.{IsAtAwaitOf}
+use Rattle.pl_core.specs.calls.Worlds.{WorldValue, action_by_code, places_of, state_of}
 use Rattle.pl_core.proofs.OpCounts.{actions_before-suc, await_is_two}
 use Rattle.pl_core.proofs.Standing.{await_of_waiting, begun_none, begun_some, consistent, done_is, idle, of_task, undropped_waiting}
 use Rattle.pl_core.proofs.OneStep.{flag, stepped_set}

@@ -6,7 +6,7 @@ use Rattle.armus_base.specs.CheckedPlans.{IsCheckedPlan}
 use Rattle.armus_base.proofs.LawfulPlaces.{has_room}
 use Rattle.pl_core.specs.declared.place.Place.{Place as KeptPlace}
 use Rattle.pl_core.specs.inside.Reachable.{AreReachable}
-use Rattle.pl_core.specs.Worlds.{places_at}
+use Rattle.pl_core.specs.calls.Worlds.{places_at}
 use Rattle.pl_core.proofs.Standing.{place_is}
 
 module _ (plan : Plan) (checked : IsCheckedPlan plan) (places : List KeptPlace) (given : AreReachable plan places) (t : ℕ) (place : KeptPlace)

@@ -19,10 +19,10 @@ use Rattle.pl_core.specs.inside.Reachable.{AreReachable}
 use Rattle.pl_core.specs.inside.Enrolling.{HasCells}
 use Rattle.pl_core.specs.inside.PhaseTables.{phases_in}
 use Rattle.pl_core.specs.inside.Kept.{KeepsState}
-use Rattle.pl_core.specs.Tables.{kept_places, world_from}
+use Rattle.pl_core.specs.calls.Tables.{kept_places, world_from}
 use Rattle.pl_core.specs.inside.KeptTasks.{IsKeptOf}
 use Rattle.pl_core.specs.inside.Walks.{HasWalked, walked}
-use Rattle.pl_core.specs.Worlds.{place_from, places_at, places_of, state_of}
+use Rattle.pl_core.specs.calls.Worlds.{place_from, places_at, places_of, state_of}
 use Rattle.pl_core.proofs.Opening.{kept_first}
 use Rattle.pl_core.proofs.Walking.{walked_below, walked_from}
 

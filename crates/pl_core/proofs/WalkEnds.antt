@@ -10,8 +10,10 @@ use Rattle.armus_base.specs.declared.op.Op.{Op}
 use Rattle.armus_base.specs.declared.op.Op.TheVariants.{Make, Reg, Fork, Adv, Drop, Await}
 use Rattle.armus_base.specs.Plans.{Blocks, Passes, Plan, action_at, code_of, Aim}
 use Rattle.armus_base.specs.States.{Phases, awaited, updated}
-use Rattle.armus_base.specs.Runs.{IsAtAwait, Place}
-use Rattle.armus_base.specs.Places.{IsConsistent, done_by, forked_at, kept, phases_after, phases_at, published_after, refused_at, state_at}
+use Rattle.armus_base.specs.calls.Runs.{IsAtAwait}
+use Rattle.armus_base.specs.Runs.{Place}
+use Rattle.armus_base.specs.calls.Places.{IsConsistent}
+use Rattle.armus_base.specs.Places.{done_by, forked_at, kept, phases_after, phases_at, published_after, refused_at, state_at}
 use Rattle.armus_base.specs.CheckedPlans.{IsCheckedPlan}
 use Rattle.armus_base.proofs.Codes.{awaited_some, passes_next}
 use Rattle.armus_base.proofs.Fixed.{phases_forked}
@@ -29,9 +31,9 @@ use Rattle.pl_core.specs.inside.Stops.{IsStopOf}
 use Rattle.pl_core.specs.Tasks.{actions_before}
 use Rattle.pl_core.specs.inside.KeptTasks.{begun, event_in}
 use Rattle.pl_core.specs.inside.Walks.{AwaitsBelow, AwaitsNear, IsPlaced, HasWalked, event_of_op, walked, walking}
-use Rattle.pl_core.specs.Worlds.{dropped_at, memberships, places_at}
+use Rattle.pl_core.specs.calls.Worlds.{dropped_at, memberships, places_at}
 use Rattle.pl_core.proofs.Cells.{slice_get-set_other, slice_get-set_same}
-use Rattle.pl_core.proofs.Ranges.{phaser_of_own}
+use Rattle.armus_base.proofs.MemberPhasers.{phaser_of_member}
 use Rattle.pl_core.proofs.Standing.{action_of_op, begun_none, begun_some, place_is}
 use Rattle.pl_core.proofs.WalkOps.{given_consistent}
 use Rattle.pl_core.proofs.WalkSteps.{kept_none, own_phases_here, quiet_forked, quiet_phases, unpublished_before}
@@ -125,7 +127,7 @@ module _ (plan : Plan) (checked : IsCheckedPlan plan) (places : List KeptPlace) 
       go : (o : Option Op) → action_at plan t k ≡ option_map action_of o → AwaitsBelow table.phasers o
       go (Some (Await p off)) e =
           let w = (checked.codes.well_formed t k (Blocks (record { phaser = p.0; off = off })) e).0 in
-          let l = phaser_of_own plan checked t k p.0 w.0 w.1 in
+          let l = phaser_of_member plan checked t k p.0 w.0 w.1 in
           let c = walk.columns in
           omega arith
       go (Some (Make p)) e = tt
@@ -231,7 +233,7 @@ module _ (plan : Plan) (checked : IsCheckedPlan plan) (places : List KeptPlace) 
             (ap (λ b. phases_at plan b t) same_done
             ∙ phases_forked plan checked (done_by (walking a t k)) t (forked_upto plan checked a consistent t k t (omega arith) ∙ (stands refused).0)
             ∙ ap (phases_after plan t) (ap (λ v. v.done) (walking_own a t k) ∙ sym there ∙ done_is))
-            ∙ kept_none (phases_after plan t place.events) (length plan.makers) (phaser_of_own plan checked t place.events) q
+            ∙ kept_none (phases_after plan t place.events) (length plan.makers) (phaser_of_member plan checked t place.events) q
 
         phases_left : phases_in table' ≡ (state_at plan last).phases
         phases_left =

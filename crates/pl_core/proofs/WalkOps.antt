@@ -10,7 +10,8 @@ use Rattle.armus_base.specs.declared.op.Op.TheVariants.{Make, Reg, Fork, Adv, Dr
 use Rattle.armus_base.specs.Plans.{Advances, Blocks, Drops, Forks, Makes, Passes, Plan, Registers, action_at, code_of, Aim}
 use Rattle.armus_base.specs.States.{State, after}
 use Rattle.armus_base.specs.Runs.{Place}
-use Rattle.armus_base.specs.Places.{IsConsistent, done_by, forked_at, phases_after, state_at}
+use Rattle.armus_base.specs.calls.Places.{IsConsistent}
+use Rattle.armus_base.specs.Places.{done_by, forked_at, phases_after, state_at}
 use Rattle.armus_base.specs.CheckedPlans.{IsCheckedPlan}
 use Rattle.armus_base.proofs.Codes.{child_within, passes_next, phaser_within}
 use Rattle.armus_base.proofs.PhasesFit.{phases_fit}
@@ -27,11 +28,11 @@ use Rattle.pl_core.specs.inside.PhaseTables.{KeepsCells, phases_in}
 use Rattle.pl_core.proofs.CellsStay.{cells_stay}
 use Rattle.pl_core.specs.Tasks.{actions_before}
 use Rattle.pl_core.specs.inside.Walks.{ForksBelow, IsPlaced, HasWalked, marked_by, walking, with_forked}
-use Rattle.pl_core.specs.Worlds.{places_at}
+use Rattle.pl_core.specs.calls.Worlds.{places_at}
 use Rattle.pl_core.proofs.Cells.{slice_get-set_other, slice_get-set_same}
 use Rattle.pl_core.proofs.ChangeKinds.{phases_of_state}
 use Rattle.pl_core.proofs.OpCounts.{actions_before-suc, actions_in, await_is_two, one_unless_await}
-use Rattle.pl_core.proofs.Ranges.{phaser_of_own}
+use Rattle.armus_base.proofs.MemberPhasers.{phaser_of_member}
 use Rattle.pl_core.proofs.Standing.{action_of_op}
 use Rattle.pl_core.proofs.WalkSteps.{own_phases_here, quiet_forked, quiet_phases, stepped}
 
@@ -149,7 +150,7 @@ module _ (plan : Plan) (checked : IsCheckedPlan plan) (places : List KeptPlace) 
 
       -- the op is one that the tables have room for
       member_bound : (p m : ℕ) → phases_after plan t k p ≡ Some m → p < table.phasers
-      member_bound p m e = (let l = phaser_of_own plan checked t k p m e in let c = walk.columns in omega arith)
+      member_bound p m e = (let l = phaser_of_member plan checked t k p m e in let c = walk.columns in omega arith)
 
       own_row : (p m : ℕ) → phases_in table t p ≡ Some m → phases_after plan t k p ≡ Some m
       own_row p m e =
@@ -174,7 +175,7 @@ module _ (plan : Plan) (checked : IsCheckedPlan plan) (places : List KeptPlace) 
           go (Reg c p) i e =
               let w = checked.codes.well_formed t k (Registers c.0 p.0) e in (
                 member_bound p.0 w.3.0 w.3.1,
-                walk.cells t c.0 p.0 inside (child_within plan t c.0 w.0) (phaser_of_own plan checked t k p.0 w.3.0 w.3.1) (n, Reg c p, i, (refl, refl)),
+                walk.cells t c.0 p.0 inside (child_within plan t c.0 w.0) (phaser_of_member plan checked t k p.0 w.3.0 w.3.1) (n, Reg c p, i, (refl, refl)),
               )
           go (Fork c) i e = tt
           go (Adv p) i e =

@@ -6,7 +6,8 @@ use Rattle.armus_base.specs.declared.event.Event.{Event}
 use Rattle.armus_base.specs.Plans.{Action, Passes, Plan, Registers, action_at}
 use Rattle.armus_base.specs.States.{IsActive, IsLegal, Phases, after}
 use Rattle.armus_base.specs.Runs.{Place}
-use Rattle.armus_base.specs.Places.{IsConsistent, done_by, forked_at, forks, kept, members_below, own_step, phases_after, phases_at, published_after, refused_at, state_at}
+use Rattle.armus_base.specs.calls.Places.{IsConsistent}
+use Rattle.armus_base.specs.Places.{done_by, forked_at, forks, kept, members_below, own_step, phases_after, phases_at, published_after, refused_at, state_at}
 use Rattle.armus_base.specs.CheckedPlans.{IsCheckedPlan}
 use Rattle.armus_base.proofs.Fixed.{kept_above, kept_below, phases_forked}
 use Rattle.armus_base.proofs.NextIsLegal.{next_legal}

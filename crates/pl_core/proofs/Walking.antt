@@ -4,8 +4,10 @@ use Rattle.std.proofs.Common.{◌≡◌, ◌≢◌, ℕ, suc, ◌<◌, ◌≤◌
 use Rattle.std.specs.Prelude.{nat_lt, ◌==◌, ◌||◌, if◌then◌else◌}
 use Rattle.std.proofs.lemmas.Bool.{cases_eq, cases_lt}
 use Rattle.armus_base.specs.Plans.{Plan, action_at, parent_of}
-use Rattle.armus_base.specs.Runs.{IsAtAwait, Place, first_place}
-use Rattle.armus_base.specs.Places.{IsConsistent, done_by, forked_at, forks, some_before}
+use Rattle.armus_base.specs.calls.Runs.{IsAtAwait}
+use Rattle.armus_base.specs.Runs.{Place, first_place}
+use Rattle.armus_base.specs.calls.Places.{IsConsistent}
+use Rattle.armus_base.specs.Places.{done_by, forked_at, forks, some_before}
 use Rattle.armus_base.specs.CheckedPlans.{IsCheckedPlan}
 use Rattle.armus_base.proofs.Fixed.{root_forked}
 use Rattle.armus_base.proofs.Steps.{updated_same, updated_other}

@@ -1,6 +1,6 @@
 // The cells of one phaser: a cell for each task that is a member of it at some time.
 ghost use Rattle.std.specs.Prelude.{◌≡◌, ◌<◌, Some, length, slice_get, MatchOption, MatchBool};
-ghost use Rattle.pl_core.specs.inside.Cells.{Ascend, IsLowerBound, StandsAt, StandsIn, phase_at};
+ghost use Rattle.pl_core.specs.inside.Cells.{CellsAscend, IsLowerBoundIn, StandsInCell, StandsIn, phase_in_cell};
 
 use armus_base::Phase;
 
@@ -13,7 +13,7 @@ pub(crate) struct Cell {
 
 // Whether the cell at a place is that of task `t`.
 fn is_at(cells: &[Cell], at: usize, t: u32) -> bool
-    ensures { MatchBool result (StandsAt cells.now at t) (StandsAt cells.now at t → ⊥) }
+    ensures { MatchBool result (StandsInCell cells.now at t) (StandsInCell cells.now at t → ⊥) }
 {
     at < cells.len() && cells[at].task == t
 }
@@ -29,16 +29,16 @@ fn guess(cells: &[Cell], t: u32) -> usize {
 
 // The first place from which on no task is below `t`.
 fn first_from(cells: &[Cell], t: u32) -> usize
-    requires { Ascend cells.now }
-    ensures { IsLowerBound cells.now t result }
+    requires { CellsAscend cells.now }
+    ensures { IsLowerBoundIn cells.now t result }
 {
     cells.partition_point(|cell| cell.task < t)
 }
 
 /// The place of the cell of task `t`: one look where the cells are those of consecutive tasks, and else a binary search.
 pub(crate) fn place_of(cells: &[Cell], t: u32) -> Option<usize>
-    requires ascend { Ascend cells.now }
-    ensures { MatchOption result (StandsIn cells.now t → ⊥) (λ k. StandsAt cells.now k t) }
+    requires ascend { CellsAscend cells.now }
+    ensures { MatchOption result (StandsIn cells.now t → ⊥) (λ k. StandsInCell cells.now k t) }
 {
     let near = guess(cells, t);
     if is_at(cells, near, t) {
@@ -51,7 +51,7 @@ pub(crate) fn place_of(cells: &[Cell], t: u32) -> Option<usize>
 /// The phase in the cell at a place.
 pub(crate) fn phase_at(cells: &[Cell], at: usize) -> Option<Phase>
     requires { at < length cells.now }
-    ensures { result ≡ phase_at cells.now at }
+    ensures { result ≡ phase_in_cell cells.now at }
 {
     cells[at].phase
 }

@@ -1,6 +1,6 @@
 // Which member of a phaser is least far on.
 ghost use Rattle.std.specs.Prelude.{◌≡◌, ◌≢◌, ℕ, ◌<◌, ◌+◌, Option, Some, length, MatchBool, MatchOption};
-ghost use Rattle.pl_core.specs.inside.Cells.{phase_at};
+ghost use Rattle.pl_core.specs.inside.Cells.{phase_in_cell};
 ghost use Rattle.pl_core.specs.inside.LeastPhases.{IsAtMost, IsLeastBelow};
 
 use crate::cell::{Cell, phase_at};
@@ -32,7 +32,7 @@ fn lesser(least: Option<Least>, at: usize, phase: Option<Phase>) -> Option<Least
 
 // The least member, by a look at all cells.
 fn least_of_all(cells: &[Cell]) -> Option<Least>
-    ensures { IsLeastBelow (phase_at cells.now) (length cells.now) result }
+    ensures { IsLeastBelow (phase_in_cell cells.now) (length cells.now) result }
 {
     let mut least = None;
     for at in 0..cells.len() {
@@ -43,7 +43,7 @@ fn least_of_all(cells: &[Cell]) -> Option<Least>
 
 // The first place from `from` on whose cell has just this phase.
 fn next_with(cells: &[Cell], from: usize, phase: Phase) -> Option<usize>
-    ensures { MatchOption result (Unit {0}) (λ k. (k < length cells.now) × (phase_at cells.now k ≡ Some phase)) }
+    ensures { MatchOption result (Unit {0}) (λ k. (k < length cells.now) × (phase_in_cell cells.now k ≡ Some phase)) }
 {
     for at in from..cells.len() {
         if phase_at(cells, at) == Some(phase) {
@@ -77,8 +77,8 @@ fn is_at_most(phase: Option<Phase>, most: Phase) -> bool
 /// where the least member goes on and no cell behind it has its phase.
 pub(crate) fn least_after(cells: &[Cell], at: usize, before: Option<Least>) -> Option<Least>
     requires inside { at < length cells.now }
-    requires before { (f : ℕ → Option ℕ) × IsLeastBelow f (length cells.now) before × ((u : ℕ) → u ≢ at → f u ≡ phase_at cells.now u) }
-    ensures { IsLeastBelow (phase_at cells.now) (length cells.now) result }
+    requires before { (f : ℕ → Option ℕ) × IsLeastBelow f (length cells.now) before × ((u : ℕ) → u ≢ at → f u ≡ phase_in_cell cells.now u) }
+    ensures { IsLeastBelow (phase_in_cell cells.now) (length cells.now) result }
 {
     let phase = phase_at(cells, at);
     match before {

@@ -1,7 +1,7 @@
 // The members of one phaser.
 ghost use Rattle.std.specs.Prelude.{◌≡◌, ◌≢◌, ◌↔◌, ℕ, ◌<◌, ◌≤◌, ◌+◌, [], Some, false, length, IsTrue, OnOk};
-ghost use Rattle.pl_core.specs.inside.Cells.{AreBelow, Ascend, StandsAt, StandsIn, phase_among};
-ghost use Rattle.pl_core.specs.inside.LeastPhases.{IsLeast};
+ghost use Rattle.pl_core.specs.inside.Cells.{AreBelow, CellsAscend, StandsInCell, StandsIn, phase_among};
+ghost use Rattle.pl_core.specs.inside.LeastPhases.{IsLeastCell};
 
 use crate::cell::{Cell, phase_at, place_of};
 use crate::least::{Least, least_after};
@@ -14,14 +14,14 @@ use std::alloc::Global;
 pub(crate) struct Members {
     cells: Vec<Cell>,
     least: Option<Least>,
-    ghost ascend: { Ascend cells.items },
-    ghost least_kept: { IsLeast cells.items least },
+    ghost ascend: { CellsAscend cells.items },
+    ghost least_kept: { IsLeastCell cells.items least },
 }
 
 // Whether the last cell is that of task `t`.
 fn ends_with(cells: &[Cell], t: u32) -> bool
     ensures there { IsTrue result → StandsIn cells.now t }
-    ensures other { result ≡ false → (k : ℕ) → k + 1 ≡ length cells.now → StandsAt cells.now k t → ⊥ }
+    ensures other { result ≡ false → (k : ℕ) → k + 1 ≡ length cells.now → StandsInCell cells.now k t → ⊥ }
 {
     cells.len() > 0 && cells[cells.len() - 1].task == t
 }
@@ -78,7 +78,7 @@ impl Members {
 
     // Sets the phase in the cell of task `t`.
     fn put(&mut self, at: usize, t: u32, phase: Option<Phase>)
-        requires cell { StandsAt self.old.cells.items at t }
+        requires cell { StandsInCell self.old.cells.items at t }
         ensures here { phase_among self.new.cells.items t ≡ phase }
         ensures others { (u : ℕ) → u ≢ t → phase_among self.new.cells.items u ≡ phase_among self.old.cells.items u }
         ensures cells { (u : ℕ) → StandsIn self.old.cells.items u → StandsIn self.new.cells.items u }

@@ -9,10 +9,10 @@ ghost use Rattle.pl_core.specs.inside.PhaseTables.{KeepsCells, phases_in};
 ghost use Rattle.pl_core.specs.inside.Cursors.{AreAt, KeepsOtherCursors, op_index_of};
 ghost use Rattle.pl_core.specs.inside.Stops.{IsStopOf};
 ghost use Rattle.pl_core.specs.inside.Kept.{KeepsState};
-ghost use Rattle.pl_core.specs.Tables.{kept_places};
+ghost use Rattle.pl_core.specs.calls.Tables.{kept_places};
 ghost use Rattle.pl_core.specs.Tasks.{actions_before};
 ghost use Rattle.pl_core.specs.inside.Walks.{AwaitsBelow, AwaitsNear, ForksBelow, HasWalked, event_of_op, marked_by, walked, walking};
-ghost use Rattle.pl_core.specs.Worlds.{places_at};
+ghost use Rattle.pl_core.specs.calls.Worlds.{places_at};
 
 use crate::Place;
 use crate::effect::move_phases;

@@ -2,8 +2,8 @@
 ghost use Rattle.std.specs.Prelude.{◌≡◌, ◌<◌, IfOk, length};
 ghost use Rattle.armus_base.specs.CheckedPlans.{IsCheckedPlan};
 ghost use Rattle.armus_base.specs.Runs.{IsReachable};
-ghost use Rattle.pl_core.specs.GivenPlaces.{IsAtPlaces};
-ghost use Rattle.pl_core.specs.Worlds.{places_at, places_of, IsOpeningWorld};
+ghost use Rattle.pl_core.specs.calls.GivenPlaces.{IsAtPlaces};
+ghost use Rattle.pl_core.specs.calls.Worlds.{places_at, places_of, IsOpeningWorld};
 
 mod finishing;
 mod impeding;
@@ -33,11 +33,11 @@ pub struct World<'p> {
 }
 
 impl<'p> Model for World<'p> {
-    ghost use Rattle.pl_core.specs.Worlds.{WorldValue};
+    ghost use Rattle.pl_core.specs.calls.Worlds.{WorldValue};
 
     ghost Value = { WorldValue };
 
-    ghost use Rattle.pl_core.specs.Views.{world_of};
+    ghost use Rattle.pl_core.specs.calls.Views.{world_of};
     ghost use Rattle.pl_core.specs.inside.Invariants.{IsWorld};
 
     ghost view = { world_of };

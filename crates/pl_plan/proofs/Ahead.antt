@@ -12,7 +12,7 @@ use Rattle.pl_plan.specs.inside.Checker.{Checker, IsChecker, Keeps}
 use Rattle.pl_plan.specs.inside.CheckerSteps.{checker_act, HasNames, checker_count, checker_fork, GivesChecker}
 use Rattle.armus_base.specs.Pieces.{times}
 use Rattle.pl_plan.specs.Unfolding.{UnfoldingState, Outcome, ◌>>=◌, visits_of, make_visits, count_visit}
-use Rattle.pl_plan.specs.inside.Shows.{ShowsState, Follows, FollowsFrom}
+use Rattle.pl_plan.specs.inside.Shows.{ShowsState, WhereUnfolded, FollowsFrom}
 use Rattle.pl_plan.proofs.Simulating as simulating
 use Rattle.pl_plan.proofs.Walks.{make_visits-append, On, Failed, on_through, on_failed, simulates_ok, simulates_err, IsPlain}
 use Rattle.pl_plan.proofs.Turns.{turn, Turned}
@@ -21,15 +21,15 @@ use Rattle.pl_plan.proofs.Onward.{respell, count_keeps, count_fails, plain_on, p
 end_follows : (from to t : ℕ) (old kk : Checker) (e : PlanEnd)
     (fails : (f : CheckFault) → e ≡ ends.Check f → Failed (length old.bindings.slots) to t old.steps from old f) (r : Result (Unit {0}) PlanEnd) → r ≡ Err e →
     FollowsFrom from to t old r kk
-end_follows from to t old kk ends.NoMemory fails r is names s tree sp h = subst (λ z. Follows z (make_visits t (visits_of (from + 1) tree) s) (ShowsState names kk)) (sym is) tt
+end_follows from to t old kk ends.NoMemory fails r is names s tree sp h = subst (λ z. WhereUnfolded z (make_visits t (visits_of (from + 1) tree) s) (ShowsState names kk)) (sym is) tt
 end_follows from to t old kk (ends.Check f) fails r is names s tree sp h = subst
-    (λ z. Follows z (make_visits t (visits_of (from + 1) tree) s) (ShowsState names kk)) (sym is) (fails f refl names s tree sp h)
+    (λ z. WhereUnfolded z (make_visits t (visits_of (from + 1) tree) s) (ShowsState names kk)) (sym is) (fails f refl names s tree sp h)
 
 gave : (e : PlanEnd) (o : Outcome Checker) (k : Checker) (f : CheckFault) → GivesChecker {A = Unit {0}} (Err e) o k → e ≡ ends.Check f → o ≡ Err f
 gave e o k f g is = subst (λ z. GivesChecker {A = Unit {0}} (Err z) o k) is g
 
-went_err : (e : PlanEnd) (o : Outcome UnfoldingState) (shows : UnfoldingState → Type 0) (f : CheckFault) → Follows {A = Unit {0}} (Err e) o shows → e ≡ ends.Check f → o ≡ Err f
-went_err e o shows f g is = subst (λ z. Follows {A = Unit {0}} (Err z) o shows) is g
+went_err : (e : PlanEnd) (o : Outcome UnfoldingState) (shows : UnfoldingState → Type 0) (f : CheckFault) → WhereUnfolded {A = Unit {0}} (Err e) o shows → e ≡ ends.Check f → o ≡ Err f
+went_err e o shows f g is = subst (λ z. WhereUnfolded {A = Unit {0}} (Err z) o shows) is g
 
 module _ (from to t : ℕ) (old : Checker) (at : ℕ) (k : Checker) (old_runs : t < length old.parents) (inv : On
     (length old.bindings.slots) to t old.steps from old at k) (lt : at < to) where
@@ -112,7 +112,7 @@ module _ (from to t : ℕ) (old : Checker) (at : ℕ) (k : Checker) (old_runs : 
 
       pub ahead_loop_fails : (e : PlanEnd) (k2 kk : Checker) →
           ((names : ℕ → List ℕ) (s : UnfoldingState) (tree : Tree) → IsSpelled (length k1.bindings.slots) names k1.steps (at + 1) tree after → ShowsState names k1 s →
-          Follows {A = Unit {0}} (Err e) (make_visits t (times i (turn at tree)) s) (ShowsState names k2)) →
+          WhereUnfolded {A = Unit {0}} (Err e) (make_visits t (times i (turn at tree)) s) (ShowsState names k2)) →
           (r : Result (Unit {0}) PlanEnd) → r ≡ Err e → FollowsFrom from to t old r kk
       ahead_loop_fails e k2 kk went = end_follows from to t old kk e (λ f ef. failed_from f (loop_fails to t at k here_fits run lt list k1 visited i after steady (sym is) f
           (λ names s tree sp h. went_err e (make_visits t (times i (turn at tree)) s) (ShowsState names k2) f (went names s tree sp h) ef)))
@@ -122,15 +122,15 @@ module _ (from to t : ℕ) (old : Checker) (at : ℕ) (k : Checker) (old_runs : 
 abbrev pub TurnsGo : ℕ → ℕ → ℕ → ℕ → Checker → Result (Unit {0}) PlanEnd → Checker → Type 0
 TurnsGo at after t i old r kk =
     (names : ℕ → List ℕ) (s : UnfoldingState) (tree : Tree) → IsSpelled (length old.bindings.slots) names old.steps (at + 1) tree after → ShowsState names old s →
-    Follows r (make_visits t (times i (turn at tree)) s) (ShowsState names kk)
+    WhereUnfolded r (make_visits t (times i (turn at tree)) s) (ShowsState names kk)
 
 turns_end : (at after t i : ℕ) (old kk : Checker) (e : PlanEnd) →
     ((f : CheckFault) → e ≡ ends.Check f → (names : ℕ → List ℕ) (s : UnfoldingState) (tree : Tree) →
     IsSpelled (length old.bindings.slots) names old.steps (at + 1) tree after → ShowsState names old s → make_visits t (times i (turn at tree)) s ≡ Err f) →
     (r : Result (Unit {0}) PlanEnd) → r ≡ Err e → TurnsGo at after t i old r kk
-turns_end at after t i old kk ends.NoMemory fails r is names s tree sp h = subst (λ z. Follows z (make_visits t (times i (turn at tree)) s) (ShowsState names kk)) (sym is) tt
+turns_end at after t i old kk ends.NoMemory fails r is names s tree sp h = subst (λ z. WhereUnfolded z (make_visits t (times i (turn at tree)) s) (ShowsState names kk)) (sym is) tt
 turns_end at after t i old kk (ends.Check f) fails r is names s tree sp h = subst
-    (λ z. Follows z (make_visits t (times i (turn at tree)) s) (ShowsState names kk)) (sym is) (fails f refl names s tree sp h)
+    (λ z. WhereUnfolded z (make_visits t (times i (turn at tree)) s) (ShowsState names kk)) (sym is) (fails f refl names s tree sp h)
 
 module _ (at after t i : ℕ) (old : Checker) (j : ℕ) (k : Checker) (inv : Turned at after t i old j k) where
   pub turns_done : i ≤ j → (names : ℕ → List ℕ) (s : UnfoldingState) (tree : Tree) → IsSpelled (length old.bindings.slots) names old.steps (at + 1) tree after →
@@ -190,7 +190,7 @@ module _ (at after t i : ℕ) (old : Checker) (j : ℕ) (k : Checker) (inv : Tur
 
       pub turn_fails : (e : PlanEnd) (k2 kk : Checker) →
           ((names : ℕ → List ℕ) (s : UnfoldingState) (tree : Tree) → IsSpelled (length k1.bindings.slots) names k1.steps (at + 1) tree after → ShowsState names k1 s →
-          Follows {A = Unit {0}} (Err e) (make_visits t (visits_of (at + 1 + 1) tree) s) (ShowsState names k2)) →
+          WhereUnfolded {A = Unit {0}} (Err e) (make_visits t (visits_of (at + 1 + 1) tree) s) (ShowsState names k2)) →
           (r : Result (Unit {0}) PlanEnd) → r ≡ Err e → TurnsGo at after t i old r kk
       turn_fails e k2 kk went = turns_end at after t i old kk e (λ f ef names s tree sp h.
           let l = inv.all names s tree sp h in

@@ -9,7 +9,7 @@ use Rattle.pl_plan.specs.declared.fault.PlanEnd.TheVariants as ends
 use Rattle.pl_plan.specs.inside.Steps.{IsSpelled, IsList}
 use Rattle.pl_plan.specs.inside.Checker.{Checker, CheckerStart, IsChecker, StartFits, Keeps, with_start_things, padded, range_of}
 use Rattle.pl_plan.specs.Unfolding.{UnfoldingState, Start, Outcome, ◌>>=◌, visits_of, make_visits, unfold_task, unfold_tasks, with_names, leave, leave_below, ended}
-use Rattle.pl_plan.specs.inside.Shows.{ShowsState, MaybeStartShows, Follows}
+use Rattle.pl_plan.specs.inside.Shows.{ShowsState, MaybeStartShows, WhereUnfolded}
 use Rattle.pl_plan.specs.inside.Simulates.{Simulates, KeepsAll}
 use Rattle.pl_plan.specs.declared.fault.CheckFault.{CheckFault}
 use Rattle.pl_plan.specs.inside.CheckerSteps.{thing_of, GivesChecker, checker_leave, checker_leave_below}
@@ -75,9 +75,9 @@ kept_begun k new t f is = subst (Keeps k) (sym is) (keeps_begun k t f)
 -- a fault before the end is the fault
 pub ends_err :
     (two : Bool) (t n : ℕ) (e : PlanEnd) (o : Outcome UnfoldingState) (shows shows' : UnfoldingState → Type 0) (r : Result (Unit {0}) PlanEnd) → r ≡ Err e →
-    Follows {A = Unit {0}} (Err e) o shows → Follows r (ended two t n o) shows'
-ends_err two t n ends.NoMemory o shows shows' r is h = subst (λ z. Follows z (ended two t n o) shows') (sym is) tt
-ends_err two t n (ends.Check f) o shows shows' r is h = subst (λ z. Follows z (ended two t n o) shows') (sym is) (by two)
+    WhereUnfolded {A = Unit {0}} (Err e) o shows → WhereUnfolded r (ended two t n o) shows'
+ends_err two t n ends.NoMemory o shows shows' r is h = subst (λ z. WhereUnfolded z (ended two t n o) shows') (sym is) tt
+ends_err two t n (ends.Check f) o shows shows' r is h = subst (λ z. WhereUnfolded z (ended two t n o) shows') (sym is) (by two)
   where
     by : (two : Bool) → ended two t n o ≡ Err f
     by false = h
@@ -85,9 +85,9 @@ ends_err two t n (ends.Check f) o shows shows' r is h = subst (λ z. Follows z (
 
 -- in PL 1 a task just ends
 pub ends_plainly :
-    (two : Bool) (t n : ℕ) (o : Outcome UnfoldingState) (shows : UnfoldingState → Type 0) (r : Result (Unit {0}) PlanEnd) → two ≡ false → Follows r o shows →
-    Follows r (ended two t n o) shows
-ends_plainly two t n o shows r one h = subst (λ b. Follows r (ended b t n o) shows) (sym one) h
+    (two : Bool) (t n : ℕ) (o : Outcome UnfoldingState) (shows : UnfoldingState → Type 0) (r : Result (Unit {0}) PlanEnd) → two ≡ false → WhereUnfolded r o shows →
+    WhereUnfolded r (ended two t n o) shows
+ends_plainly two t n o shows r one h = subst (λ b. WhereUnfolded r (ended b t n o) shows) (sym one) h
 
 module _ (names : ℕ → List ℕ) (k : Checker) (s : UnfoldingState) (f : IsChecker k) (t n : ℕ) (running : t < length k.parents) where
   -- what leaving keeps
@@ -119,7 +119,7 @@ module _ (names : ℕ → List ℕ) (k : Checker) (s : UnfoldingState) (f : IsCh
 -- in PL 2 it leaves its phasers
 pub ends_by_leaving :
     (two : Bool) (names : ℕ → List ℕ) (k new : Checker) (t n : ℕ) (o : Outcome UnfoldingState) (u v : Unit {0}) → two ≡ true → IsChecker k → t < length k.parents →
-    Follows (Ok u) o (ShowsState names k) → checker_leave_below t n max_phasers k ≡ Ok new → Follows (Ok v) (ended two t n o) (ShowsState names new)
+    WhereUnfolded (Ok u) o (ShowsState names k) → checker_leave_below t n max_phasers k ≡ Ok new → WhereUnfolded (Ok v) (ended two t n o) (ShowsState names new)
 ends_by_leaving two names k new t n o u v on f running h left =
     let left_so : Simulates names (Ok new) (leave_below t n max_phasers h.0) =
     subst (λ z. Simulates names z (leave_below t n max_phasers h.0)) left (simulates_left names k h.0 f t n running h.2 max_phasers (omega arith)) in
@@ -128,13 +128,13 @@ ends_by_leaving two names k new t n o u v on f running h left =
 -- or finds no op left
 pub ends_full :
     (two : Bool) (names : ℕ → List ℕ) (k new : Checker) (t n : ℕ) (o : Outcome UnfoldingState) (u : Unit {0}) (e : PlanEnd) (r : Result (Unit {0}) PlanEnd) → r ≡ Err e →
-    two ≡ true → IsChecker k → t < length k.parents → Follows (Ok u) o (ShowsState names k) → GivesChecker {A = Unit {0}} (Err e) (checker_leave_below t n max_phasers k) new →
-    (shows : UnfoldingState → Type 0) → Follows r (ended two t n o) shows
-ends_full two names k new t n o u ends.NoMemory r is on f running h left shows = subst (λ z. Follows z (ended two t n o) shows) (sym is) tt
+    two ≡ true → IsChecker k → t < length k.parents → WhereUnfolded (Ok u) o (ShowsState names k) → GivesChecker {A = Unit {0}} (Err e) (checker_leave_below t n max_phasers k) new →
+    (shows : UnfoldingState → Type 0) → WhereUnfolded r (ended two t n o) shows
+ends_full two names k new t n o u ends.NoMemory r is on f running h left shows = subst (λ z. WhereUnfolded z (ended two t n o) shows) (sym is) tt
 ends_full two names k new t n o u (ends.Check g) r is on f running h left shows =
     let left_so : Simulates names (Err g) (leave_below t n max_phasers h.0) =
     subst (λ z. Simulates names z (leave_below t n max_phasers h.0)) left (simulates_left names k h.0 f t n running h.2 max_phasers (omega arith)) in
-    subst (λ z. Follows z (ended two t n o) shows) (sym is)
+    subst (λ z. WhereUnfolded z (ended two t n o) shows) (sym is)
     (ap (λ b. ended b t n o) on ∙ ap (λ z. z >>= leave_below t n max_phasers) h.1 ∙ left_so)
 
 -- one phaser after the other
@@ -198,11 +198,11 @@ module _ (two : Bool) where
   abbrev pub Walked : (ℕ → List ℕ) → ℕ → Result (Unit {0}) PlanEnd → Checker → ℕ → ℕ → Checker → Type 0
   Walked names t r k first after new =
       (s : UnfoldingState) (tree : Tree) → IsSpelled (length k.bindings.slots) names k.steps first tree after → ShowsState names k s →
-      Follows r (ended two t first (make_visits t (visits_of (first + 1) tree) s)) (ShowsState names new)
+      WhereUnfolded r (ended two t first (make_visits t (visits_of (first + 1) tree) s)) (ShowsState names new)
 
   busy_by : (names : ℕ → List ℕ) (k new : Checker) (s : UnfoldingState) (t first after : ℕ) (r : Result (Unit {0}) PlanEnd) (o : Option Start)
       (o' : Option CheckerStart) → MaybeStartShows names k.bindings.slots k.steps o o' → Some (first, after) ≡ range_of o' → ShowsState names k s →
-      Walked names t r (with_start_things o' k) first after new → Follows r (unfold_task two t o s) (ShowsState names new)
+      Walked names t r (with_start_things o' k) first after new → WhereUnfolded r (unfold_task two t o s) (ShowsState names new)
   busy_by names k new s t first after r None None m e h w = absurd cc
   busy_by names k new s t first after r None (Some b) m e h w = absurd m
   busy_by names k new s t first after r (Some a) None m e h w = absurd m
@@ -221,12 +221,12 @@ module _ (two : Bool) where
       } in
       let n : first + 1 ≡ a.first = ap (λ i. i + 1) p.0 ∙ sym m.first in
       let before : first ≡ a.first - 1 = omega arith in
-      subst (λ i. Follows r (ended two t i (make_visits t (visits_of a.first a.body) (with_names a.names s))) (ShowsState names new)) before
-      (subst (λ i. Follows r (ended two t first (make_visits t (visits_of i a.body) (with_names a.names s))) (ShowsState names new)) n (w (with_names a.names s) a.body sp h'))
+      subst (λ i. WhereUnfolded r (ended two t i (make_visits t (visits_of a.first a.body) (with_names a.names s))) (ShowsState names new)) before
+      (subst (λ i. WhereUnfolded r (ended two t first (make_visits t (visits_of i a.body) (with_names a.names s))) (ShowsState names new)) n (w (with_names a.names s) a.body sp h'))
 
   pub busy : (names : ℕ → List ℕ) (k k1 new : Checker) (s : UnfoldingState) (t first after : ℕ) (r : Result (Unit {0}) PlanEnd) →
       Some (first, after) ≡ range_of (slice_index_or k.starts t None) → k1 ≡ with_start_things (slice_index_or k.starts t None) k → ShowsState names k s →
-      Walked names t r k1 first after new → Follows r (unfold_task two t (slice_index_or s.starts t None) s) (ShowsState names new)
+      Walked names t r k1 first after new → WhereUnfolded r (unfold_task two t (slice_index_or s.starts t None) s) (ShowsState names new)
   busy names k k1 new s t first after r e is h w =
       busy_by names k new s t first after r (slice_index_or s.starts t None) (slice_index_or k.starts t None) (h.starts t) e h
       (subst (λ z. Walked names t r z first after new) is w)
@@ -275,11 +275,11 @@ module _ (two : Bool) where
 
       pub tasks_fail : (e : PlanEnd) (k2 kk : Checker) →
           ((names : ℕ → List ℕ) (s : UnfoldingState) → ShowsState names k s →
-          Follows {A = Unit {0}} (Err e) (unfold_task two t (slice_index_or s.starts t None) s) (ShowsState names k2)) →
+          WhereUnfolded {A = Unit {0}} (Err e) (unfold_task two t (slice_index_or s.starts t None) s) (ShowsState names k2)) →
           (r : Result (Unit {0}) PlanEnd) → r ≡ Err e → (names : ℕ → List ℕ) (s : UnfoldingState) → ShowsState names old s →
-          Follows r (unfold_tasks two max_tasks 0 s) (ShowsState names kk)
-      tasks_fail ends.NoMemory k2 kk went r is names s h = subst (λ z. Follows z (unfold_tasks two max_tasks 0 s) (ShowsState names kk)) (sym is) tt
+          WhereUnfolded r (unfold_tasks two max_tasks 0 s) (ShowsState names kk)
+      tasks_fail ends.NoMemory k2 kk went r is names s h = subst (λ z. WhereUnfolded z (unfold_tasks two max_tasks 0 s) (ShowsState names kk)) (sym is) tt
       tasks_fail (ends.Check f) k2 kk went r is names s h =
           let l = inv.all names s h in
-          subst (λ z. Follows z (unfold_tasks two max_tasks 0 s) (ShowsState names kk)) (sym is)
+          subst (λ z. WhereUnfolded z (unfold_tasks two max_tasks 0 s) (ShowsState names kk)) (sym is)
           (sym l.same ∙ left_is l.state ∙ ap (λ o. o >>= unfold_tasks two (max_tasks - (t + 1)) (t + 1)) (went names l.state l.shows))

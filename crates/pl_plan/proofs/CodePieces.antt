@@ -7,16 +7,17 @@ use Rattle.std.proofs.lemmas.List.Sums.{sum_by_more_le}
 use Rattle.armus_base.specs.declared.op.Op.{Op}
 use Rattle.armus_base.specs.declared.piece.Piece.{Piece}
 use Rattle.armus_base.specs.Limits.{max_tasks, max_ops}
-use Rattle.armus_base.specs.Pieces.{IsFolded, max_open_repeats, straight, unfolded}
+use Rattle.armus_base.specs.calls.Pieces.{IsFolded, max_open_repeats, unfolded}
+use Rattle.armus_base.specs.Pieces.{straight}
 use Rattle.armus_base.specs.Plans.{Plan}
 use Rattle.pl_syntax.specs.declared.limits.TheConstants.{MAX_OPEN_BRACES}
 use Rattle.pl_syntax.specs.declared.tree.Program.{Program}
-use Rattle.pl_syntax.specs.Printed.{TreeIsWritable}
+use Rattle.pl_syntax.specs.calls.Printed.{TreeIsWritable}
 use Rattle.pl_syntax.specs.Tree.{Tree, done, fork, height, loop, plain}
 use Rattle.pl_syntax.proofs.Writable.{text_is_writable}
 use Rattle.pl_plan.specs.Unfolding.{Start, UnfoldingState, code_pieces, opening_state, plan_of, unfold_tasks, with_pieces}
-use Rattle.pl_plan.specs.Folding.{HasBodyPieces, HasCodePieces, HasFewTurns, drops_of}
-use Rattle.pl_plan.specs.FoldingLaws.{LeftPiecesAreComputed, LeftPiecesUnfold, OneListLeft, OneListOfPieces, PiecesOfTexts, PiecesUnfoldToCode, SteadyLeavesFew}
+use Rattle.pl_plan.specs.calls.Folding.{HasBodyPieces, HasCodePieces, HasFewTurns, drops_of}
+use Rattle.pl_plan.specs.calls.FoldingLaws.{LeftPiecesAreComputed, LeftPiecesUnfold, OneListLeft, OneListOfPieces, PiecesOfTexts, PiecesUnfoldToCode, SteadyLeavesFew}
 use Rattle.pl_plan.specs.FoldedOps.{Folding, body_pieces}
 use Rattle.pl_plan.proofs.Folds.{steady_few, UnfoldTo, leaves_computed, leaves_unfold, straight_unfolds, unfolds_append, unfolds_deeper}
 use Rattle.pl_plan.proofs.TasksLeave.{IsOfParts, OfStart, end_has, end_until, start_at}

@@ -7,12 +7,13 @@ use Rattle.armus_base.proofs.RunTests.{both}
 use Rattle.armus_base.specs.declared.op.Op.{Op}
 use Rattle.armus_base.specs.declared.piece.Piece.{Piece}
 use Rattle.armus_base.specs.declared.piece.Piece.TheVariants.{Op as Single, Repeat}
-use Rattle.armus_base.specs.Pieces.{AreWhole, max_turns, straight, times, unfolded}
+use Rattle.armus_base.specs.calls.Pieces.{AreWhole, max_turns, unfolded}
+use Rattle.armus_base.specs.Pieces.{straight, times}
 use Rattle.armus_base.proofs.Unfolding.{unfolded-append, unfolded-straight}
 use Rattle.armus_base.proofs.WholeLoops.{unfolded_loop, whole-append, whole_deeper, whole_loop}
 use Rattle.pl_syntax.specs.Tree.{Tree, count, height}
 use Rattle.pl_plan.specs.FoldedOps.{Folding, folding, is_steady, is_steady_plain, loop_pieces, pieces_in, repeated, steady_pieces, then_on, turn_pieces}
-use Rattle.pl_plan.specs.Folding.{HasFewTurns, LeavesPieces, a_fork, a_turn, folded, no_op, no_piece, no_turn, nothing, op}
+use Rattle.pl_plan.specs.calls.Folding.{HasFewTurns, LeavesPieces, a_fork, a_turn, folded, no_op, no_piece, no_turn, nothing, op}
 
 -- ---- the pieces are whole loops, and unfold to the ops
 

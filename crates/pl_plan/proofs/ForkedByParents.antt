@@ -5,7 +5,7 @@ use Rattle.armus_base.specs.CheckedPlans.{HasFork}
 use Rattle.armus_base.specs.Limits.{max_tasks}
 use Rattle.armus_base.specs.Plans.{Plan, action_at, actions, parent_of}
 use Rattle.pl_syntax.specs.declared.tree.Program.{Program}
-use Rattle.pl_syntax.specs.Tree.{AreNear}
+use Rattle.pl_syntax.specs.calls.Tree.{AreNear}
 use Rattle.pl_plan.specs.Forks.{starts_in, starts_of}
 use Rattle.pl_plan.specs.Unfolding.{Outcome, Start, UnfoldingState, ◌>>=◌, opening_state, plan_of, unfold_tasks, with_pieces}
 use Rattle.pl_plan.proofs.SoundSteps.{OnState}

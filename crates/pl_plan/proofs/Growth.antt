@@ -7,7 +7,8 @@ use Rattle.std.proofs.lemmas.Bool.Decides.{nat_tests}
 use Rattle.armus_base.specs.Plans.{Action, Makes, Registers, Forks, Advances, Drops, Blocks, Passes, Refuses, Plan, action_at, actions, parent_of, number_or_zero}
 use Rattle.armus_base.specs.States.{Phases}
 use Rattle.armus_base.specs.Places.{first_phases, own_phases, own_step, phases_after, register_step, registered, registered_by}
-use Rattle.armus_base.specs.CheckedPlans.{Grows, HasTables, IsCheckedPlan, IsMemberAfter}
+use Rattle.armus_base.specs.calls.CheckedPlans.{Grows}
+use Rattle.armus_base.specs.CheckedPlans.{HasTables, IsCheckedPlan, IsMemberAfter}
 use Rattle.armus_base.proofs.Codes.{child_within}
 use Rattle.armus_base.proofs.Fixed.{first_phases_is, first_phases_unfolds, register_step_keeps}
 

@@ -9,7 +9,7 @@ use Rattle.pl_plan.specs.declared.step.Step.{Step}
 use Rattle.pl_plan.specs.declared.step.Thing.{Thing}
 use Rattle.pl_plan.specs.declared.step.Thing.TheVariants.{Nothing, Task, Phaser}
 use Rattle.pl_plan.specs.inside.Steps.{IsList}
-use Rattle.pl_plan.specs.MemberRows.{marked}
+use Rattle.pl_plan.specs.calls.MemberRows.{marked}
 use Rattle.pl_plan.specs.inside.Checker.{Checker, CheckerStart, IsThings, IsThingBelow, StartFits, IsChecker, slot_of, slotted, with_slot, with_thing, with_task, with_maker, pushed, with_membership, started, padded}
 use Rattle.pl_plan.specs.inside.CheckerSteps.{with_binding}
 use Rattle.pl_plan.proofs.Places.{at_set, at_more}

@@ -35,3 +35,4 @@ pub mod Drawn
 pub mod FoldedCodes
 pub mod ForksKept
 pub mod ForkedByParents
+pub mod TextsAreNear

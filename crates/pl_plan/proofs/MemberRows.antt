@@ -3,7 +3,7 @@ use Rattle.std.proofs.Common.{◌≡◌, ℕ, zero, suc, ◌+◌, ◌-◌, ◌<�
 use Rattle.std.specs.Prelude.{slice_index_or}
 use Rattle.std.proofs.lemmas.Bool.{cases_lt}
 use Rattle.std.proofs.lemmas.List.{length-append, length-replicate, get_or-set_same, get_or-set_other, get_or_append_left, get_or-append_right, get_or_past}
-use Rattle.pl_plan.specs.MemberRows.{lengthened, marked}
+use Rattle.pl_plan.specs.calls.MemberRows.{lengthened, marked}
 
 -- what a longer list of tests says
 pub long_at : (n q : ℕ) (row : List Bool) → slice_index_or (lengthened n row) q false ≡ slice_index_or row q false

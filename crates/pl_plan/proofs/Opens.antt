@@ -14,11 +14,11 @@ use Rattle.pl_plan.specs.inside.Steps.{IsSpelled}
 use Rattle.pl_plan.specs.inside.Checker.{Checker, CheckerStart, Counts}
 use Rattle.pl_plan.specs.inside.CheckerSteps.{thing_of}
 use Rattle.pl_plan.specs.inside.Opening.{IsOpeningChecker}
-use Rattle.pl_plan.specs.Forks.{GivesUnfolded}
-use Rattle.pl_plan.specs.Planning.{GivesOutcome}
+use Rattle.pl_plan.specs.calls.Forks.{GivesUnfolded}
+use Rattle.pl_plan.specs.calls.Planning.{GivesOutcome}
 use Rattle.pl_plan.specs.declared.planning.Unfolded.{Unfolded}
 use Rattle.pl_plan.specs.Unfolding.{UnfoldingState, Start, ◌>>=◌, opening_state, unfold_tasks, plan_of, with_pieces}
-use Rattle.pl_plan.specs.inside.Shows.{ShowsState, MaybeStartShows, StartShows, IsNumbering, Follows}
+use Rattle.pl_plan.specs.inside.Shows.{ShowsState, MaybeStartShows, StartShows, IsNumbering, WhereUnfolded}
 
 pub opens : (spelling : ℕ → List ℕ) (steps : List Step) (names : ℕ) (k : Checker) (tree : Tree) → IsOpeningChecker steps names k → IsNumbering names spelling →
     IsSpelled names spelling steps 0 tree (length steps) → ShowsState spelling k (opening_state tree)
@@ -64,14 +64,14 @@ unfolding plan_of
 plan_found program s plan e is = ap (λ o. o >>= λ s. Ok (with_pieces s)) e ∙ ap Ok (sym is)
 
 pub plan_fault : (program : Program) (e : PlanEnd) (shows : UnfoldingState → Type 0) →
-    Follows {A = Unit {0}} (Err e) (unfold_tasks program.two max_tasks 0 (opening_state program.body)) shows → (r : Result Plan PlanEnd) → r ≡ Err e →
+    WhereUnfolded {A = Unit {0}} (Err e) (unfold_tasks program.two max_tasks 0 (opening_state program.body)) shows → (r : Result Plan PlanEnd) → r ≡ Err e →
     GivesOutcome r (plan_of program)
 unfolding plan_of
 plan_fault program ends.NoMemory shows g r is = subst (λ z. GivesOutcome z (plan_of program)) (sym is) tt
 plan_fault program (ends.Check f) shows g r is = subst (λ z. GivesOutcome z (plan_of program)) (sym is) (ap (λ o. o >>= λ s. Ok (with_pieces s)) g)
 
 pub unfold_fault : (program : Program) (e : PlanEnd) (shows : UnfoldingState → Type 0) →
-    Follows {A = Unit {0}} (Err e) (unfold_tasks program.two max_tasks 0 (opening_state program.body)) shows → (r : Result Unfolded PlanEnd) → r ≡ Err e →
+    WhereUnfolded {A = Unit {0}} (Err e) (unfold_tasks program.two max_tasks 0 (opening_state program.body)) shows → (r : Result Unfolded PlanEnd) → r ≡ Err e →
     GivesUnfolded r program
 unfolding plan_of
 unfold_fault program ends.NoMemory shows g r is = subst (λ z. GivesUnfolded z program) (sym is) tt

@@ -7,16 +7,17 @@ use Rattle.std.proofs.lemmas.Option.{get_or_from_slice_get, unwrap_or-slice_get}
 use Rattle.armus_base.specs.declared.piece.Piece.{Piece}
 use Rattle.armus_base.specs.Limits.{max_tasks}
 use Rattle.armus_base.specs.Finals.{list_below}
-use Rattle.armus_base.specs.Pieces.{IsFolded, unfolded}
-use Rattle.armus_base.specs.Plans.{Plan, folded_plan, pieces_of}
+use Rattle.armus_base.specs.calls.Pieces.{IsFolded, unfolded}
+use Rattle.armus_base.specs.Plans.{Plan}
+use Rattle.armus_base.specs.calls.Plans.{folded_plan, pieces_of}
 use Rattle.armus_base.proofs.Below.{length-list_below, list_below-at}
 use Rattle.pl_syntax.specs.declared.limits.TheConstants.{MAX_OPEN_BRACES}
 use Rattle.pl_syntax.specs.declared.tree.Program.{Program}
 use Rattle.pl_syntax.specs.Tree.{height}
 use Rattle.pl_syntax.proofs.Writable.{text_is_writable}
 use Rattle.pl_plan.specs.Unfolding.{UnfoldingState, code_pieces, opening_state, pieces_at, plan_of, unfold_tasks, with_pieces}
-use Rattle.pl_plan.specs.Folding.{HasCodePieces, HasFewTurns, HasPieces, HaveCodePieces}
-use Rattle.pl_plan.specs.FoldingLaws.{PlanHasPieces, PlansOfTexts}
+use Rattle.pl_plan.specs.calls.Folding.{HasCodePieces, HasFewTurns, HasPieces, HaveCodePieces}
+use Rattle.pl_plan.specs.calls.FoldingLaws.{PlanHasPieces, PlansOfTexts}
 use Rattle.pl_plan.proofs.CodePieces.{code_folds, code_has, end_fits, has_computed, one_list, one_list_of_pieces, writable_has_few_turns}
 use Rattle.pl_plan.proofs.TasksLeave.{start_at}
 use Rattle.pl_plan.proofs.VisitsLeave.{bind_ok, code, ok_is}

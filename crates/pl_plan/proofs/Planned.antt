@@ -4,15 +4,17 @@ use Rattle.std.specs.Prelude.{slice_index_or}
 use Rattle.std.specs.Borrow.{Bor}
 use Rattle.armus_base.specs.Finals.{list_below}
 use Rattle.armus_base.specs.Limits.{max_ops, max_tasks}
-use Rattle.armus_base.specs.Pieces.{IsFolded}
+use Rattle.armus_base.specs.calls.Pieces.{IsFolded}
 use Rattle.armus_base.specs.declared.piece.Piece.{Piece}
 use Rattle.armus_base.specs.declared.ids.TaskId.{TaskId}
 use Rattle.armus_base.specs.declared.op.Op.{Op}
-use Rattle.armus_base.specs.Plans.{Plan, folded_plan}
+use Rattle.armus_base.specs.Plans.{Plan}
+use Rattle.armus_base.specs.calls.Plans.{folded_plan}
 use Rattle.armus_base.specs.CheckedPlans.{IsCheckedPlan}
 use Rattle.pl_syntax.specs.declared.tree.Program.{Program}
 use Rattle.pl_syntax.specs.declared.limits.TheConstants.{MAX_OPEN_BRACES}
-use Rattle.pl_syntax.specs.Tree.{AreNear, Tree, count, height}
+use Rattle.pl_syntax.specs.calls.Tree.{AreNear}
+use Rattle.pl_syntax.specs.Tree.{Tree, count, height}
 use Rattle.pl_plan.specs.declared.step.Step.{Step}
 use Rattle.pl_plan.specs.inside.Steps.{IsSpelled}
 use Rattle.pl_plan.specs.inside.Numbers.{spelling}
@@ -21,7 +23,7 @@ use Rattle.pl_plan.specs.inside.Checker.{Checker, CheckerStart, IsChecker, Start
 use Rattle.pl_plan.specs.inside.FoldsSteps.{AreFolded, CanBeFolded, HasTreeAt, SpellStarts, SpellsStart, pieces_by}
 use Rattle.pl_plan.specs.inside.Opening.{IsOpeningChecker}
 use Rattle.pl_plan.specs.inside.Shows.{IsNumbering, MaybeStartShows, ShowsState}
-use Rattle.pl_plan.specs.Folding.{HasFewTurns}
+use Rattle.pl_plan.specs.calls.Folding.{HasFewTurns}
 use Rattle.pl_plan.specs.Unfolding.{Start, UnfoldingState, opening_state, plan_of, unfold_tasks, with_pieces}
 use Rattle.pl_plan.proofs.CodePieces.{end_fits}
 use Rattle.pl_plan.proofs.PlanPieces.{end_folded, end_plan}

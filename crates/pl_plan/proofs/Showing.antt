@@ -15,7 +15,7 @@ use Rattle.pl_plan.specs.inside.Checker.{Checker, CheckerStart, StartFits, IsChe
 use Rattle.pl_plan.specs.inside.CheckerSteps.{with_binding, thing_of}
 use Rattle.pl_plan.specs.Unfolding.{UnfoldingState, Start, Names, Thing, assigned, with_op, with_member, with_members, with_start}
 use Rattle.pl_plan.specs.inside.Shows.{ShowsState, MaybeStartShows, AreNamed, IsNumbering}
-use Rattle.pl_plan.specs.MemberRows.{marked}
+use Rattle.pl_plan.specs.calls.MemberRows.{marked}
 use Rattle.pl_plan.proofs.MemberRows.{marked_same, marked_other}
 use Rattle.pl_plan.proofs.Places.{same_or, at_set, at_more}
 use Rattle.pl_plan.proofs.Keeping.{slotted_fits, taken_same}

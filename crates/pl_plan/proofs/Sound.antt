@@ -5,11 +5,12 @@ use Rattle.std.proofs.lemmas.Bool.{cases_lt, cases_eq, false≢true}
 use Rattle.std.proofs.lemmas.List.{length-append}
 use Rattle.armus_base.specs.Plans.{Action, Makes, Forks, Plan, action_at, actions, parent_of, maker_of}
 use Rattle.armus_base.specs.Places.{first_phases, phases_after, own_phases}
-use Rattle.armus_base.specs.CheckedPlans.{Grows, HasFork, HasTables, IsCheckedPlan, IsSoundGrowth, IsWellFormed, IsWithinLimits}
+use Rattle.armus_base.specs.calls.CheckedPlans.{Grows, IsSoundGrowth}
+use Rattle.armus_base.specs.CheckedPlans.{HasFork, HasTables, IsCheckedPlan, IsWellFormed, IsWithinLimits}
 use Rattle.armus_base.proofs.Codes.{child_within, phaser_within}
 use Rattle.armus_base.proofs.Fixed.{action_within}
 use Rattle.armus_base.proofs.PlanGrows.{plan_grows}
-use Rattle.pl_syntax.specs.Tree.{AreNear}
+use Rattle.pl_syntax.specs.calls.Tree.{AreNear}
 use Rattle.pl_plan.specs.Unfolding.{UnfoldingState, Start}
 use Rattle.pl_plan.proofs.Growth.{own_steps, register_steps, last_phases, parents_same, other_at, own_at, new_at, last_grown, first_grown, first_kept}
 

@@ -16,10 +16,12 @@ use Rattle.armus_base.specs.declared.op.Op.TheVariants as op
 use Rattle.armus_base.specs.Plans.{Action, Makes, Registers, Forks, Advances, Drops, Blocks, Passes, IsParentOf, Plan, action_at, actions, actions_of, parent_of, maker_of}
 use Rattle.armus_base.specs.States.{Phases, updated, next_phase}
 use Rattle.armus_base.specs.Places.{first_phases, phases_after, register_step, registered_by}
-use Rattle.armus_base.specs.CheckedPlans.{Grows, HasTables, IsMemberAfter, IsWellFormed, IsWithinLimits, NotBefore}
+use Rattle.armus_base.specs.calls.CheckedPlans.{Grows}
+use Rattle.armus_base.specs.CheckedPlans.{HasTables, IsMemberAfter, IsWellFormed, IsWithinLimits, NotBefore}
 use Rattle.armus_base.proofs.Fixed.{first_phases_is, register_step_keeps}
 use Rattle.armus_base.proofs.Codes.{child_later, child_within, parent_is, phaser_within}
-use Rattle.pl_syntax.specs.Tree.{Plain, new_task, new_phaser, reg, dereg, adv, await, skip, Tree, AreNear, PlainIsNear, count, done, plain, fork, loop}
+use Rattle.pl_syntax.specs.Tree.{Plain, new_task, new_phaser, reg, dereg, adv, await, skip, Tree, count, done, plain, fork, loop}
+use Rattle.pl_syntax.specs.calls.Tree.{AreNear, PlainIsNear}
 use Rattle.pl_plan.proofs.Places.{at_set, at_more}
 use Rattle.armus_base.specs.Pieces.{times}
 use Rattle.pl_plan.specs.Unfolding.{Coming, a_plain, a_fork, a_loop, a_turn, Visit, come_to, make_visit, make_visits, UnfoldingState, Start, Names, Thing, a_task, a_phaser, Outcome, ◌>>=◌, fault_unless, as_task, as_phaser, is_parent, unforked_child, member_of, task, phaser, add_op, act, act_fork, count_visit, with_op, with_member, assigned, not_member, already_member, not_drawn_here, already_forked, has_cells, too_many_cells, too_many_tasks, too_many_phasers, too_many_ops, too_many_visits, visit, visits_of, leave, leave_below, ended, with_members}

@@ -1,11 +1,12 @@
 -- What is spelled stays spelled behind more steps and with more names.
 use Rattle.std.proofs.Common.{◌≡◌, ℕ, ◌+◌, ◌<◌, ◌≤◌, List, ◌++◌, length, arith, sym, ◌∙◌}
 use Rattle.std.proofs.lemmas.List.{get_or_append_left}
-use Rattle.pl_syntax.specs.Tree.{AreNear, PlainIsNear, Tree, done, plain, fork, loop, Plain, new_task, new_phaser, reg, dereg, adv, await, skip, count}
+use Rattle.pl_syntax.specs.calls.Tree.{AreNear, PlainIsNear}
+use Rattle.pl_syntax.specs.Tree.{Tree, done, plain, fork, loop, Plain, new_task, new_phaser, reg, dereg, adv, await, skip, count}
 use Rattle.pl_plan.specs.declared.step.NameId.{NameId}
 use Rattle.pl_plan.specs.declared.step.Step.{Step}
 use Rattle.pl_plan.specs.declared.step.Step.TheVariants as a_step
-use Rattle.pl_plan.specs.Folding.{HasFewTurns}
+use Rattle.pl_plan.specs.calls.Folding.{HasFewTurns}
 use Rattle.pl_plan.specs.inside.Steps.{IsNumberOfName, IsStep, step_at, IsSpelled}
 
 -- the names below n are the same

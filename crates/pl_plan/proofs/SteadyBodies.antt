@@ -5,7 +5,7 @@ use Rattle.std.proofs.lemmas.List.{drop_more, drop_all}
 use Rattle.pl_syntax.specs.declared.tree.Stmt.{Stmt}
 use Rattle.pl_syntax.specs.declared.tree.Stmt.TheVariants as s
 use Rattle.pl_syntax.specs.Tree.{Tree, count, done}
-use Rattle.pl_syntax.specs.Bodies.{followed_by, tree_of}
+use Rattle.pl_syntax.specs.calls.Bodies.{followed_by, tree_of}
 use Rattle.pl_syntax.proofs.Parts.{counts}
 use Rattle.pl_plan.specs.FoldedOps.{is_steady}
 
@@ -38,9 +38,6 @@ pub record SteadySoFar (items : List Stmt) (i : ℕ) (body : Tree) : Type 0 wher
   pub same : is_steady (tree_of (drop i items)) ≡ is_steady body
   pub within : count (tree_of (drop i items)) ≤ count body
 
-pub steady_start : (items : List Stmt) (body : Tree) → tree_of items ≡ body → SteadySoFar items 0 body
-steady_start items body e = record { same = ap is_steady e; within = omega (arith, ap count e) }
-
 module _ (items : List Stmt) (i : ℕ) (body : Tree) (q : Stmt) (lt : i < length items) (is : q ≡ get_or items i q) (h : SteadySoFar items i body) where
   pub next_smaller : count (followed_by q done) ≤ count body
   next_smaller = omega (arith, counts items i q lt is, h.within)
@@ -53,6 +50,3 @@ module _ (items : List Stmt) (i : ℕ) (body : Tree) (q : Stmt) (lt : i < length
 
   pub unsteady_next : is_steady (followed_by q done) ≡ false → false ≡ is_steady body
   unsteady_next unsteady = sym (ap (λ a. a && is_steady (tree_of (drop (i + 1) items))) unsteady) ∙ sym (at_next items i q lt is) ∙ h.same
-
-pub steady_end : (items : List Stmt) (i : ℕ) (body : Tree) → length items ≤ i → SteadySoFar items i body → true ≡ is_steady body
-steady_end items i body le h = sym (ap (λ xs. is_steady (tree_of xs)) (drop_all i items le)) ∙ h.same

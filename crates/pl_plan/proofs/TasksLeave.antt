@@ -20,7 +20,7 @@ use Rattle.pl_plan.specs.Unfolding.{make_visit, make_visits, member_of, not_draw
 use Rattle.pl_plan.specs.Unfolding.{too_many_phasers, too_many_tasks, too_many_visits}
 use Rattle.pl_plan.specs.Unfolding.{unfold_task, unfold_tasks, unforked_child, visit, visits_of, with_member, with_members, with_names, with_new_phaser}
 use Rattle.pl_plan.specs.Unfolding.{with_new_task, with_op, with_start}
-use Rattle.pl_plan.specs.Folding.{HasBodyPieces, HasCodePieces, drops_of}
+use Rattle.pl_plan.specs.calls.Folding.{HasBodyPieces, HasCodePieces, drops_of}
 use Rattle.pl_plan.proofs.Places.{at_more, at_set}
 use Rattle.pl_plan.proofs.Tables.{one_more_op}
 use Rattle.pl_plan.proofs.Drawn.{drawn_more}

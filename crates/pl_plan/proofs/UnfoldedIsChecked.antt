@@ -6,13 +6,15 @@ use Rattle.std.proofs.lemmas.List.{get_or_past}
 use Rattle.armus_base.specs.Limits.{max_tasks}
 use Rattle.armus_base.specs.Plans.{Plan, action_at, actions, parent_of, maker_of}
 use Rattle.armus_base.specs.Places.{first_phases, phases_after}
-use Rattle.armus_base.specs.CheckedPlans.{IsCheckedPlan, first_plan}
+use Rattle.armus_base.specs.CheckedPlans.{IsCheckedPlan}
+use Rattle.armus_base.specs.calls.CheckedPlans.{first_plan}
 use Rattle.armus_base.proofs.CheckedByCodes.{checked_by_codes}
 use Rattle.armus_base.proofs.PlanGrows.{first_plan_is_checked}
 use Rattle.pl_syntax.specs.declared.tree.Program.{Program}
-use Rattle.pl_syntax.specs.Tree.{Tree, AreNear}
+use Rattle.pl_syntax.specs.Tree.{Tree}
+use Rattle.pl_syntax.specs.calls.Tree.{AreNear}
 use Rattle.pl_plan.specs.Unfolding.{UnfoldingState, Start, Outcome, ◌>>=◌, unfold_task, unfold_tasks, opening_state, plan_of, visits_of, with_names, with_pieces, make_visits}
-use Rattle.pl_plan.specs.Laws.{UnfoldedIsChecked}
+use Rattle.pl_plan.specs.calls.Laws.{UnfoldedIsChecked}
 use Rattle.pl_plan.proofs.Growth.{last_phases}
 use Rattle.pl_plan.proofs.Sound.{IsSound, IsActing, is_begun, NearStart}
 use Rattle.pl_plan.proofs.SoundSteps.{OnState, same_acts, comes_keep, end_keeps, visits_near}

@@ -10,8 +10,9 @@ use Rattle.pl_syntax.specs.Tree.{Tree, new_task, new_phaser, reg, dereg, adv, aw
 use Rattle.pl_plan.specs.declared.fault.CheckFault.{CheckFault}
 use Rattle.pl_plan.specs.Unfolding.{Coming, a_plain, a_fork, a_loop, a_turn, Visit, visits_of, UnfoldingState, Start, Outcome, ◌>>=◌, fault, is_parent, task, make_visit, make_visits, with_names, unfold_task, unfold_tasks, opening_state, plan_of, with_pieces, leave, leave_below, ended, add_op, phaser, with_member, with_members, fault_unless, too_many_ops}
 use Rattle.pl_plan.specs.Tests.{Passes, drew, first_thing, table, task_number}
-use Rattle.pl_plan.specs.Laws.{FaultIsFirst, PlanIsUnfolded}
-use Rattle.pl_plan.specs.Stages.{IsFirstCheckFault, IsNextStage, StagesLead, Unfolds, Stage, StagePasses, after_stage, all_stages, begins, with_start_names, comes, stages_below, stages_of, FailsAt, at_visit, at_end, leaves, leaves_below, ends_of, has_op_left, with_code}
+use Rattle.pl_plan.specs.calls.Laws.{FaultIsFirst, PlanIsUnfolded}
+use Rattle.pl_plan.specs.Stages.{IsFirstCheckFault, IsNextStage, StagesLead, Stage, StagePasses, after_stage, all_stages, begins, with_start_names, comes, stages_below, stages_of, FailsAt, at_visit, at_end, leaves, leaves_below, ends_of, has_op_left, with_code}
+use Rattle.pl_plan.specs.calls.Stages.{Unfolds}
 use Rattle.pl_plan.proofs.Drawn.{drawn_more}
 use Rattle.pl_plan.proofs.ByTable.{answer, first_if, first_kind, kind_none, kind_some, visit_by, passes_if}
 use Rattle.pl_plan.proofs.Places.{at_more}

@@ -21,8 +21,8 @@ use Rattle.pl_plan.specs.Unfolding.{make_visit, make_visits, member_of, not_memb
 use Rattle.pl_plan.specs.Unfolding.{too_many_visits, unforked_child}
 use Rattle.pl_plan.specs.Unfolding.{visit, visits_of, with_member, with_members, with_new_phaser, with_new_task, with_op, with_start}
 use Rattle.pl_plan.specs.FoldedOps.{is_steady, is_steady_plain, makes_op}
-use Rattle.pl_plan.specs.Folding.{LeavesPieces}
-use Rattle.pl_plan.specs.Folding as leaves
+use Rattle.pl_plan.specs.calls.Folding.{LeavesPieces}
+use Rattle.pl_plan.specs.calls.Folding as leaves
 
 pub bind_ok : {A B : Type 0} (o : Outcome A) (f : A → Outcome B) (y : B) → (o >>= f) ≡ Ok y → (x : A) × (o ≡ Ok x) × (f x ≡ Ok y)
 bind_ok (Ok x) f y e = (x, refl, e)

@@ -6,8 +6,8 @@ use Rattle.pl_syntax.specs.declared.tree.Program.{Program}
 use Rattle.pl_syntax.specs.Tree.{done}
 use Rattle.pl_plan.specs.Unfolding.{Outcome, UnfoldingState, opening_state, pieces_at, unfold_tasks, make_visits, count_visit, act, act_fork, member_of, add_op}
 use Rattle.pl_plan.specs.Unfolding.{leave, leave_below}
-use Rattle.pl_plan.specs.Folding.{HasPieces}
-use Rattle.pl_plan.specs.WorkedPieces.{HaveInOrder, HaveTheirPieces, folded_loops, other_loops}
+use Rattle.pl_plan.specs.calls.Folding.{HasPieces}
+use Rattle.pl_plan.specs.calls.WorkedPieces.{HaveInOrder, HaveTheirPieces, folded_loops, other_loops}
 use Rattle.pl_plan.proofs.CodePieces.{code_has, has_computed}
 use Rattle.pl_plan.proofs.TasksLeave.{start_at}
 use Rattle.pl_plan.proofs.VisitsLeave.{code}

@@ -4,7 +4,7 @@ use Rattle.std.specs.Prelude.{nat_le, nat_lt, sum_by}
 use Rattle.std.proofs.lemmas.Bool.Decides.{nat_tests}
 use Rattle.pl_plan.specs.Unfolding.{◌>>=◌, Outcome, UnfoldingState, fault, fault_unless}
 use Rattle.pl_plan.specs.Unfolding.{plan_of, unfold_tasks, make_visits, count_visit, act, act_fork, member_of, add_op, leave, leave_below}
-use Rattle.pl_plan.specs.WorkedPrograms.{AreWorked, LimitsHold, NoOpMore, NoPhaserMore, NoPhaserWithoutCells, NoTaskMore, NoTaskWithoutCells, NoVisitMore, worked_faults, worked_plans}
+use Rattle.pl_plan.specs.calls.WorkedPrograms.{AreWorked, LimitsHold, NoOpMore, NoPhaserMore, NoPhaserWithoutCells, NoTaskMore, NoTaskWithoutCells, NoVisitMore, worked_faults, worked_plans}
 
 pub plans_worked : AreWorked worked_plans
 unfolding plan_of unfold_tasks make_visits count_visit act act_fork member_of add_op leave leave_below

@@ -1,11 +1,8 @@
 -- With what each task of a program is forked, at the end of the unfolding, and what `unfold` answers.
-use Rattle.std.specs.Prelude.{◌≡◌, ℕ, ◌-◌, List, [], map, Option, Some, None, Result, Ok, Err}
+use Rattle.std.specs.Prelude.{ℕ, ◌-◌, List, [], map, Option, Some, None, Ok, Err}
 use Rattle.armus_base.specs.Limits.{max_tasks}
 use Rattle.pl_syntax.specs.declared.tree.Program.{Program}
-use Rattle.pl_plan.specs.declared.fault.PlanEnd.{PlanEnd}
-use Rattle.pl_plan.specs.declared.fault.PlanEnd.TheVariants as ends
-use Rattle.pl_plan.specs.declared.planning.Unfolded.{Unfolded}
-use Rattle.pl_plan.specs.Unfolding.{Outcome, Start, UnfoldingState, opening_state, plan_of, unfold_tasks}
+use Rattle.pl_plan.specs.Unfolding.{Outcome, Start, UnfoldingState, opening_state, unfold_tasks}
 
 -- the starts of a state; at a fault there are none
 abbrev pub starts_in : Outcome UnfoldingState → List (Option Start)
@@ -24,9 +21,3 @@ fork_of (Some start) = Some (start.first - 1)
 -- the forks of a program's tasks, in order of number
 abbrev pub fork_statements : Program → List (Option ℕ)
 fork_statements program = map fork_of (starts_of program)
-
--- the plan and the forks, or the first fault, unless memory ran out
-abbrev pub GivesUnfolded : Result Unfolded PlanEnd → Program → Type 0
-GivesUnfolded (Ok u) program = (plan_of program ≡ Ok u.plan) × (u.forks.items ≡ fork_statements program)
-GivesUnfolded (Err (ends.Check f)) program = plan_of program ≡ Err f
-GivesUnfolded (Err ends.NoMemory) program = Unit {0}

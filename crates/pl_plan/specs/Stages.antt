@@ -3,12 +3,10 @@
 use Rattle.std.specs.Prelude.{◌≡◌, ℕ, zero, suc, ◌+◌, ◌-◌, Bool, true, false, if◌then◌else◌, nat_lt, sum_by, List, [], ◌∷◌, ◌++◌, length, map, slice_index_or, Option, Some, None}
 use Rattle.armus_base.specs.declared.op.Op.{Op}
 use Rattle.armus_base.specs.declared.op.Op.TheVariants as op
-use Rattle.armus_base.specs.Plans.{Plan}
 use Rattle.pl_syntax.specs.declared.tree.Program.{Program}
 use Rattle.pl_syntax.specs.Tree.{new_task, new_phaser, reg, dereg, adv, await, skip}
 use Rattle.pl_plan.specs.declared.fault.CheckFault.{CheckFault}
 use Rattle.pl_plan.specs.Unfolding.{Coming, a_plain, a_fork, a_loop, a_turn, Visit, visits_of, UnfoldingState, Start, task, phaser, with_op, with_member, with_members, with_new_task, with_new_phaser, with_start, with_names, opening_state}
-use Rattle.pl_plan.specs.Folding.{HaveCodePieces}
 use Rattle.pl_plan.specs.Tests.{Passes, IsFirstFailing, first_thing, phaser_wanted, task_number}
 
 -- a stage of the unfolding: a task begins, it comes to a statement, or at its end it leaves a phaser if it is a member
@@ -99,16 +97,6 @@ abbrev pub StagesLead : Bool → List Stage → List Stage → UnfoldingState �
 StagesLead two before [] s end = s ≡ end
 StagesLead two before (v ∷ vs) s end =
     IsNextStage two before v s × StagePasses v s × StagesLead two (before ++ v ∷ []) vs (after_stage v s) end
-
--- A program unfolds to a plan: in some list of stages each is the next one and passes its tests, and they are all; the plan is that of the state
--- after them, with the pieces of its codes.
-pub record Unfolds (program : Program) (plan : Plan) : Type 0 where
-  pub stages : List Stage
-  pub end : UnfoldingState
-  pub leads : StagesLead program.two [] stages (opening_state program.body) end
-  pub all : all_stages program.two end ≡ stages
-  pub plan_is : plan ≡ record end.plan { pieces = plan.pieces }
-  pub pieces : HaveCodePieces program.two end plan.pieces
 
 -- A stage is at fault: at a visit by the first row of the table that is, with the visit's statement; at an end for want of an op, with the statement of
 -- the task's fork, and 0 for task 0.

@@ -3,7 +3,7 @@
 ghost use Rattle.std.specs.Prelude.{◌≡◌, ◌+◌, ◌<◌, ◌^◌, ◌++◌, ◌∷◌, [], length, OnOk, IfOk};
 ghost use Rattle.armus_base.specs.Offsets.{IsNear};
 ghost use Rattle.pl_syntax.specs.Tree.{count, done};
-ghost use Rattle.pl_syntax.specs.Bodies.{followed_by};
+ghost use Rattle.pl_syntax.specs.calls.Bodies.{followed_by};
 ghost use Rattle.pl_plan.specs.inside.Shows.{IsNumbering};
 ghost use Rattle.pl_plan.specs.inside.Numbers.{spelling, IsMore};
 ghost use Rattle.pl_plan.specs.inside.Flattening.{AddsSteps};

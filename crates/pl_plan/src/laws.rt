@@ -1,9 +1,9 @@
 // The laws over the definition of the unfolding: each is the contract of a function with an empty body.
-ghost use Rattle.pl_plan.specs.Laws.{UnfoldedIsChecked, FaultIsOfProgram, PlanIsUnfolded, FaultIsFirst};
-ghost use Rattle.pl_plan.specs.FoldingLaws.{OneListOfPieces, PiecesOfTexts, PiecesUnfoldToCode, PlanHasPieces, PlansOfTexts};
-ghost use Rattle.pl_plan.specs.FoldingLaws.{LeftPiecesAreComputed, LeftPiecesUnfold, OneListLeft, SteadyLeavesFew};
-ghost use Rattle.pl_plan.specs.WorkedPieces.{HaveTheirPieces, folded_loops, other_loops};
-ghost use Rattle.pl_plan.specs.WorkedPrograms.{AreWorked, LimitsHold, worked_faults, worked_plans};
+ghost use Rattle.pl_plan.specs.calls.Laws.{UnfoldedIsChecked, FaultIsOfProgram, PlanIsUnfolded, FaultIsFirst};
+ghost use Rattle.pl_plan.specs.calls.FoldingLaws.{OneListOfPieces, PiecesOfTexts, PiecesUnfoldToCode, PlanHasPieces, PlansOfTexts};
+ghost use Rattle.pl_plan.specs.calls.FoldingLaws.{LeftPiecesAreComputed, LeftPiecesUnfold, OneListLeft, SteadyLeavesFew};
+ghost use Rattle.pl_plan.specs.calls.WorkedPieces.{HaveTheirPieces, folded_loops, other_loops};
+ghost use Rattle.pl_plan.specs.calls.WorkedPrograms.{AreWorked, LimitsHold, worked_faults, worked_plans};
 
 /// The plan to which a program unfolds is a checked plan, where no await looks farther than a parsed one can.
 pub fn unfolded_is_checked()

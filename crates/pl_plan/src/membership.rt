@@ -1,7 +1,7 @@
 // On which phasers somebody is a member.
 
 ghost use Rattle.std.specs.Prelude.{◌≡◌, [], slice_index_or, false, OnOk, OnErr, IfOk};
-ghost use Rattle.pl_plan.specs.MemberRows.{lengthened, marked};
+ghost use Rattle.pl_plan.specs.calls.MemberRows.{lengthened, marked};
 
 use armus_base::PhaserId;
 use std::alloc::{AllocError, Global};

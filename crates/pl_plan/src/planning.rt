@@ -3,8 +3,8 @@
 ghost use Rattle.std.specs.Prelude.{◌≡◌, ◌<◌, ◌≤◌, ◌^◌, map, IfOk};
 ghost use Rattle.pl_syntax.specs.Tree.{count, height};
 ghost use Rattle.pl_plan.specs.Unfolding.{plan_of};
-ghost use Rattle.pl_plan.specs.Planning.{GivesOutcome};
-ghost use Rattle.pl_plan.specs.Forks.{GivesUnfolded};
+ghost use Rattle.pl_plan.specs.calls.Planning.{GivesOutcome};
+ghost use Rattle.pl_plan.specs.calls.Forks.{GivesUnfolded};
 ghost use Rattle.pl_plan.specs.inside.FoldsSteps.{AreFolded, CanBeFolded};
 ghost use Rattle.pl_plan.specs.inside.KeptForks.{kept_fork};
 

@@ -2,7 +2,7 @@
 
 ghost use Rattle.std.specs.Prelude.{◌≡◌, ◌+◌, ◌<◌, ◌≤◌, ◌^◌, length, slice_index_or, OnOk, None, ℕ, List};
 ghost use Rattle.pl_plan.specs.inside.Checker.{IsChecker, Keeps};
-ghost use Rattle.pl_plan.specs.inside.Shows.{ShowsState, Follows};
+ghost use Rattle.pl_plan.specs.inside.Shows.{ShowsState, WhereUnfolded};
 ghost use Rattle.pl_plan.specs.inside.CheckerSteps.{GivesChecker, checker_leave_below};
 ghost use Rattle.pl_plan.specs.Unfolding.{UnfoldingState, unfold_task, unfold_tasks};
 
@@ -32,7 +32,7 @@ fn unfold_task(alloc: Global, checker: &mut Checker, two: bool, t: TaskId) -> Re
     requires small { length checker.old.steps < 2 ^ 32 }
     requires task { t.0 < length checker.old.parents }
     ensures follows { (names : ℕ → List ℕ) (s : UnfoldingState) → ShowsState names checker.old s →
-        Follows result (unfold_task two t.0 (slice_index_or s.starts t.0 None) s) (ShowsState names checker.new) }
+        WhereUnfolded result (unfold_task two t.0 (slice_index_or s.starts t.0 None) s) (ShowsState names checker.new) }
     ensures keeps { OnOk result (Keeps checker.old checker.new) }
 {
     let Some((first, after)) = checker.begin(alloc, t)? else {
@@ -50,7 +50,7 @@ pub(crate) fn unfold_tasks(alloc: Global, checker: &mut Checker, two: bool) -> R
     requires fits { IsChecker checker.old }
     requires small { length checker.old.steps < 2 ^ 32 }
     ensures follows { (names : ℕ → List ℕ) (s : UnfoldingState) → ShowsState names checker.old s →
-        Follows result (unfold_tasks two MAX_TASKS 0 s) (ShowsState names checker.new) }
+        WhereUnfolded result (unfold_tasks two MAX_TASKS 0 s) (ShowsState names checker.new) }
     ensures keeps { OnOk result (Keeps checker.old checker.new) }
 {
     let mut t = 0;

@@ -9,7 +9,7 @@ use Rattle.pl_syntax.specs.declared.token.Sign.TheVariants.{CloseBrace}
 use Rattle.pl_syntax.specs.declared.tree.Program.{Program}
 use Rattle.pl_syntax.specs.declared.tree.Stmt.{Stmt}
 use Rattle.pl_syntax.specs.declared.tree.Stmt.TheVariants as s
-use Rattle.pl_syntax.specs.Bodies.{followed_by, tree_of}
+use Rattle.pl_syntax.specs.calls.Bodies.{followed_by, tree_of}
 use Rattle.pl_syntax.specs.BodyEnds.{AllEndAt, AreEnds, EndsAt, end_tokens}
 use Rattle.pl_syntax.specs.Tokens.{Token, the_end, sign}
 use Rattle.pl_syntax.specs.Tree.{Tree, count, done, plain, fork, loop}
@@ -167,14 +167,6 @@ pub record NotingEnds (items : List Stmt) (i : ℕ) (body : Tree) (rest braces :
   pub left : ends ++ ends_by (tree_of (drop i items)) rest ≡ old ++ ends_by body braces
   pub behind : drop (bodies (tree_of (drop i items))) rest ≡ drop (bodies body) braces
   pub fewer : count (tree_of (drop i items)) ≤ count body
-
-pub noting_begins :
-    (items : List Stmt) (body : Tree) (braces : List ℕ) (ends : List (Option ℕ)) → tree_of items ≡ body → NotingEnds items 0 body braces braces ends ends
-noting_begins items body braces ends e = record {
-  left = ap (λ (p : Tree). ends ++ ends_by p braces) e;
-  behind = ap (λ (p : Tree). drop (bodies p) braces) e;
-  fewer = (let c = ap count e in omega arith);
-}
 
 module _ (items : List Stmt) (i : ℕ) (body : Tree) (rest braces : List ℕ) (ends old : List (Option ℕ)) (now : NotingEnds items i body rest braces ends old) where
   pub all_noted : length items ≤ i → (ends ≡ old ++ ends_by body braces) × (rest ≡ drop (bodies body) braces)

@@ -15,7 +15,8 @@ use Rattle.pl_syntax.specs.declared.token.Token.TheVariants as t
 use Rattle.pl_syntax.specs.declared.fault.SyntaxFault.{SyntaxFault}
 use Rattle.pl_syntax.specs.declared.token.Keyword.{Keyword}
 use Rattle.pl_syntax.specs.declared.token.Sign.{Sign}
-use Rattle.pl_syntax.specs.Words.{IsNameIn, begins_with, keyword_in, has_name_form, number_of, is_digit, is_word_byte}
+use Rattle.pl_syntax.specs.calls.Words.{IsNameIn}
+use Rattle.pl_syntax.specs.Words.{begins_with, keyword_in, has_name_form, number_of, is_digit, is_word_byte}
 use Rattle.pl_syntax.specs.inside.Seen.{front_seen, token_of, HasForm}
 use Rattle.pl_syntax.specs.Tokens.{Token, the_end, sign, word, name, number, front, token_here, after_gap, placed, word_token, letters_token, digits_token, name_token, sign_token, sign_of, after_comment, is_blank}
 
@@ -87,7 +88,7 @@ cond_le true x y n p q = p
 cond_le false x y n p q = q
 
 mutual
-  gap_le : (text : List ℕ) → length (after_gap text) ≤ length text
+  pub gap_le : (text : List ℕ) → length (after_gap text) ≤ length text
   gap_le [] = omega arith
   gap_le (b ∷ bs) =
       let p : length (after_gap bs) ≤ length (b ∷ bs) = (let h = gap_le bs in omega arith) in
@@ -101,7 +102,7 @@ mutual
       let q : length (after_comment bs) ≤ length (b ∷ bs) = (let h = comment_le bs in omega arith) in
       cond_le (b == 10) _ _ _ p q
 
-progress_here : (scan : Scan) (text : List ℕ) (t : Token) (rest : List ℕ) → token_here scan text ≡ Ok (t, rest) → (t ≡ the_end → ⊥) → length rest < length text
+pub progress_here : (scan : Scan) (text : List ℕ) (t : Token) (rest : List ℕ) → token_here scan text ≡ Ok (t, rest) → (t ≡ the_end → ⊥) → length rest < length text
 progress_here scan [] t rest e f = absurd (f (sym (ok_pair (the_end, []) (t, rest) e).0))
 progress_here scan (b ∷ bs) t rest e f =
     elim (chosen (is_word_byte b) _ _ _ e) [

@@ -3,7 +3,7 @@ use Rattle.std.proofs.Common.{◌≡◌, List, [], ◌∷◌, refl, sym, ap, ◌
 use Rattle.pl_syntax.specs.declared.tree.Stmt.{Stmt}
 use Rattle.pl_syntax.specs.declared.tree.Stmt.TheVariants as s
 use Rattle.pl_syntax.specs.Tree.{Tree, done, plain, fork, loop, new_task, new_phaser, reg, dereg, adv, await, skip}
-use Rattle.pl_syntax.specs.Bodies.{followed_by, tree_of}
+use Rattle.pl_syntax.specs.calls.Bodies.{followed_by, tree_of}
 
 -- the statements of a tree
 abbrev stmts_of : Tree → List Stmt

@@ -9,7 +9,7 @@ use Rattle.pl_syntax.specs.declared.token.Sign.{Sign}
 use Rattle.pl_syntax.specs.declared.token.Sign.TheVariants.{OpenBrace}
 use Rattle.pl_syntax.specs.declared.fault.SyntaxFault.{SyntaxFault}
 use Rattle.pl_syntax.specs.Tokens.{Token, the_end, sign, word, name, number, front, place, Leads}
-use Rattle.pl_syntax.specs.inside.Reading.{◌>>=◌, sign_number, unexpected, sign_in, sign_at, name_in, name_at, number_in, number_at, maker_in, maker_at, opened_at}
+use Rattle.pl_syntax.specs.inside.Reading.{◌>>=◌, sign_number, unexpected, sign_in, sign_at, name_in, name_at, number_read, number_at, maker_in, maker_at, opened_at}
 use Rattle.pl_syntax.specs.Grammar.{opened, open_after, StaysShallow}
 use Rattle.pl_syntax.proofs.Fronts.{chosen, ok_pair}
 use Rattle.pl_syntax.proofs.Machine.{Firsts, then, Shape, a_sign, a_name, a_number, a_maker, State, at, fits, step, run, run-append}
@@ -142,14 +142,14 @@ module _ (scan : Scan) where
 
   -- ---- a number
 
-  number_in_ok : (text : List ℕ) (t : Token) (rest : List ℕ) (y : ℕ × List ℕ) → number_in scan text t rest ≡ Ok y → (t ≡ number y.0) × (rest ≡ y.1)
+  number_in_ok : (text : List ℕ) (t : Token) (rest : List ℕ) (y : ℕ × List ℕ) → number_read scan text t rest ≡ Ok y → (t ≡ number y.0) × (rest ≡ y.1)
   number_in_ok text (number x) rest y e = let h = ok_pair (x, rest) y e in (ap number h.0, h.1)
   number_in_ok text the_end rest y e = absurd cc
   number_in_ok text (sign w) rest y e = absurd cc
   number_in_ok text (word w) rest y e = absurd cc
   number_in_ok text (name w) rest y e = absurd cc
 
-  number_in_err : (text : List ℕ) (t : Token) (rest : List ℕ) (f : Fault) → number_in scan text t rest ≡ Err f → (fits a_number t ≡ false) × (f ≡ unexpected scan text)
+  number_in_err : (text : List ℕ) (t : Token) (rest : List ℕ) (f : Fault) → number_read scan text t rest ≡ Err f → (fits a_number t ≡ false) × (f ≡ unexpected scan text)
   number_in_err text (number x) rest f e = absurd cc
   number_in_err text the_end rest f e = (refl, fault_of _ f e)
   number_in_err text (sign w) rest f e = (refl, fault_of _ f e)
@@ -159,7 +159,7 @@ module _ (scan : Scan) where
   pub number_ok : (text : List ℕ) (y : ℕ × List ℕ) → number_at scan text ≡ Ok y → front scan text ≡ Ok (number y.0, y.1)
   unfolding number_at
   number_ok text y e =
-      let b = bind_ok (front scan text) (λ x. number_in scan text x.0 x.1) y e in
+      let b = bind_ok (front scan text) (λ x. number_read scan text x.0 x.1) y e in
       let p = number_in_ok text b.0.0 b.0.1 y b.2 in
       b.1 ∙ ap (λ (x : Token). Ok (x, b.0.1)) p.0 ∙ ap (λ (x : List ℕ). Ok (number y.0, x)) p.1
 
@@ -258,7 +258,7 @@ module _ (scan : Scan) where
     pub number_err : (ss : List Shape) (d : ℕ) (text : List ℕ) (f : Fault) → d ≤ MAX_OPEN_BRACES → number_at scan text ≡ Err f → Stuck scan g (a_number ∷ ss) d text f
     unfolding number_at
     number_err ss d text f le e =
-        elim (bind_err (front scan text) (λ x. number_in scan text x.0 x.1) f e) [
+        elim (bind_err (front scan text) (λ x. number_read scan text x.0 x.1) f e) [
           | inl p ↦ none_here (a_number ∷ ss) d text f le p
           | inr b ↦ (let p = number_in_err text b.0.0 b.0.1 f b.2 in misfit a_number ss d text b.0.0 b.0.1 f le b.1 p.0 p.1)
         ]

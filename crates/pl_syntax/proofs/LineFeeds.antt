@@ -12,7 +12,7 @@ use Rattle.pl_syntax.specs.Words.{begins_with, is_word_byte}
 use Rattle.pl_syntax.specs.Tokens.{Token, the_end, sign, word, number, front, Leads, after_gap, after_comment, is_blank, token_here, placed, word_token, sign_token, sign_of, word_of, after_word}
 use Rattle.pl_syntax.specs.Tree.{Tree, done, plain, fork, loop, Plain, new_task, new_phaser, reg, dereg, adv, await, skip}
 use Rattle.pl_syntax.specs.Grammar.{ReadsTokens, header, scan_of, tokens, plain_tokens, with_name, sentence}
-use Rattle.pl_syntax.specs.Laws.{LineFeedChangesNothing, NoLineIsAMark}
+use Rattle.pl_syntax.specs.calls.Laws.{LineFeedChangesNothing, NoLineIsAMark}
 use Rattle.pl_syntax.proofs.Fronts.{chosen, end_in_front, ok_pair, was_found}
 
 -- ---- the run of word bytes before a line feed

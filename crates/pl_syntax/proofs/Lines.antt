@@ -5,8 +5,9 @@ use Rattle.pl_syntax.specs.declared.limits.TheConstants.{MAX_OPEN_BRACES}
 use Rattle.pl_syntax.specs.declared.tree.Stmt.{Stmt}
 use Rattle.pl_syntax.specs.declared.tree.Stmt.TheVariants as s
 use Rattle.pl_syntax.specs.Tree.{Tree, done, height}
-use Rattle.pl_syntax.specs.Bodies.{followed_by, tree_of}
-use Rattle.pl_syntax.specs.Printed.{indented_line, printed_at, TreeIsWritable}
+use Rattle.pl_syntax.specs.calls.Bodies.{followed_by, tree_of}
+use Rattle.pl_syntax.specs.Printed.{indented_line, printed_at}
+use Rattle.pl_syntax.specs.calls.Printed.{TreeIsWritable}
 
 pub printed_first : (d : ℕ) (q : Stmt) (p : Tree) → printed_at d (followed_by q p) ≡ printed_at d (followed_by q done) ++ printed_at d p
 printed_first d (s.NewTask x) p = simp append_assoc

@@ -1,7 +1,8 @@
 -- A text's program has one list of the offsets at which its bodies end.
 use Rattle.std.proofs.Common.{◌≡◌, ℕ, List, [], ◌∷◌, Option, Some, None, ap, refl}
 use Rattle.pl_syntax.specs.declared.tree.Program.{Program}
-use Rattle.pl_syntax.specs.BodyEnds.{AllEndAt, EndsAt, HasOneListOfEnds, end_tokens}
+use Rattle.pl_syntax.specs.BodyEnds.{AllEndAt, EndsAt, end_tokens}
+use Rattle.pl_syntax.specs.calls.BodyEnds.{HasOneListOfEnds}
 use Rattle.pl_syntax.specs.Tokens.{Token, the_end}
 use Rattle.pl_syntax.proofs.OneListOfOffsets.{one_offset}
 

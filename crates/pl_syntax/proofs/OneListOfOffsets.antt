@@ -4,7 +4,8 @@ use Rattle.std.proofs.lemmas.List.{append_cancel_right}
 use Rattle.pl_syntax.specs.declared.tree.Program.{Program}
 use Rattle.pl_syntax.specs.Tokens.{Token, the_end, place}
 use Rattle.pl_syntax.specs.Grammar.{ReadsTokens, scan_of}
-use Rattle.pl_syntax.specs.StatementOffsets.{AllBeginAt, BeginAt, HasOneListOfOffsets, statement_tokens}
+use Rattle.pl_syntax.specs.StatementOffsets.{AllBeginAt, BeginAt, statement_tokens}
+use Rattle.pl_syntax.specs.calls.StatementOffsets.{HasOneListOfOffsets}
 use Rattle.pl_syntax.proofs.Beginnings.{one_rest_of_text}
 
 module _ (text : List ℕ) (p : Program) where

@@ -15,11 +15,14 @@ use Rattle.armus_base.specs.declared.offset.Offset.TheVariants.{Ahead, Back, Her
 use Rattle.pl_syntax.specs.declared.tree.Program.{Program}
 use Rattle.pl_syntax.specs.declared.token.Keyword.TheVariants as k
 use Rattle.pl_syntax.specs.declared.token.Sign.TheVariants.{Equals, OpenParen, CloseParen, Comma, Semicolon, OpenBrace, CloseBrace, Plus, Minus}
-use Rattle.pl_syntax.specs.Words.{IsName, IsNameIn, keyword_in, keyword_of, is_word_byte, is_name_byte, is_lower, is_digit, value_from, has_no_leading_zero, is_number, number_of}
+use Rattle.pl_syntax.specs.calls.Words.{IsName, IsNameIn}
+use Rattle.pl_syntax.specs.Words.{keyword_in, keyword_of, is_word_byte, is_name_byte, is_lower, is_digit, value_from, has_no_leading_zero, is_number, number_of}
 use Rattle.pl_syntax.specs.Tokens.{Token, the_end, sign, word, name, number, front, Leads, after_gap, is_blank, token_here, placed, word_token, letters_token, name_token, sign_token, sign_of, digits_token}
-use Rattle.pl_syntax.specs.Tree.{Tree, done, plain, fork, loop, Plain, new_task, new_phaser, reg, dereg, adv, await, skip, height, AllHere}
+use Rattle.pl_syntax.specs.Tree.{Tree, done, plain, fork, loop, Plain, new_task, new_phaser, reg, dereg, adv, await, skip, height}
+use Rattle.pl_syntax.specs.calls.Tree.{AllHere}
 use Rattle.pl_syntax.specs.Grammar.{tokens, plain_tokens, sentence, IsText}
-use Rattle.pl_syntax.specs.Printed.{header_text, indented_line, printed_at, printed_of, IsWritable, TreeIsWritable}
+use Rattle.pl_syntax.specs.Printed.{header_text, indented_line, printed_at, printed_of}
+use Rattle.pl_syntax.specs.calls.Printed.{IsWritable, TreeIsWritable}
 
 -- ---- blanks
 

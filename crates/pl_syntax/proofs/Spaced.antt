@@ -14,10 +14,11 @@ use Rattle.pl_syntax.specs.declared.token.Sign.{Sign}
 use Rattle.pl_syntax.specs.declared.token.Sign.TheVariants.{CloseBrace, Minus, Plus}
 use Rattle.pl_syntax.specs.Words.{begins_with, has_name_form, is_digit, is_word_byte, keyword_in, number_of}
 use Rattle.pl_syntax.specs.Tokens.{Token, the_end, sign, word, name, number, front, Leads, after_gap, after_comment, is_blank, token_here, placed, word_token, letters_token, digits_token, sign_token, sign_of, word_of, after_word, kind_no_token, kind_no_number, kind_too_long}
-use Rattle.pl_syntax.specs.Tree.{Tree, done, plain, fork, loop, Plain, new_task, new_phaser, reg, dereg, adv, await, skip, AllHere, PlainIsHere}
+use Rattle.pl_syntax.specs.Tree.{Tree, done, plain, fork, loop, Plain, new_task, new_phaser, reg, dereg, adv, await, skip}
+use Rattle.pl_syntax.specs.calls.Tree.{AllHere, PlainIsHere}
 use Rattle.pl_syntax.specs.Grammar.{ReadsTokens, header, scan_of, tokens, plain_tokens, sentence}
-use Rattle.pl_syntax.specs.Spacing.{IsGap, empty, blank, comment, left_open, IsSpelling, a_sign, a_word, IsSpaced, all_tokens, is_a_word, is_no_feed}
-use Rattle.pl_syntax.specs.Laws.{TextsAreSpaced}
+use Rattle.pl_syntax.specs.calls.Spacing.{IsGap, empty, blank, comment, left_open, IsSpelling, a_sign, a_word, IsSpaced, all_tokens, is_a_word, is_no_feed}
+use Rattle.pl_syntax.specs.calls.Laws.{TextsAreSpaced}
 use Rattle.pl_syntax.proofs.Fronts.{chosen, ok_pair, was_found}
 use Rattle.pl_syntax.proofs.LineFeeds.{is_real, tokens_append}
 use Rattle.pl_syntax.proofs.Leaves.{Leads-append}

@@ -11,9 +11,9 @@ use Rattle.pl_syntax.specs.declared.tree.Stmt.{Stmt}
 use Rattle.pl_syntax.specs.declared.tree.Stmt.TheVariants as s
 use Rattle.pl_syntax.specs.Tokens.{Token, the_end, sign, word, name, number, front, Leads}
 use Rattle.pl_syntax.specs.Tree.{Tree, done, plain, fork, loop, Plain, new_task, new_phaser, reg, dereg, adv, await, skip, height}
-use Rattle.pl_syntax.specs.Bodies.{followed_by, tree_of}
+use Rattle.pl_syntax.specs.calls.Bodies.{followed_by, tree_of}
 use Rattle.pl_syntax.specs.Grammar.{tokens, offset_tokens, plain_tokens, StaysShallow}
-use Rattle.pl_syntax.specs.inside.Reading.{unexpected, Block, sign_at, name_at, number_at, offset_at, in_parens_at, named_at, pair_at, drawn_at, drawn_stmt, drawing_at, reg_at, dereg_at, adv_at, await_at, skip_at, block_at, fork_at, loop_at, statement_in, ends_list}
+use Rattle.pl_syntax.specs.inside.Reading.{unexpected, Block, sign_at, name_at, number_at, offset_at, in_parens_at, named_at, pair_at, drawn_at, drawn_stmt, drawing_at, reg_at, dereg_at, adv_at, await_at, skip_at, block_at, fork_at, loop_at, statement_read, ends_list}
 use Rattle.pl_syntax.proofs.Fronts.{front_le}
 use Rattle.pl_syntax.proofs.Machine.{a_sign, a_name, an_offset, first_step, s_named, s_loop}
 use Rattle.pl_syntax.proofs.Begun.{firsts, run_tree, s_await, s_drawn, s_pair, s_fork}
@@ -324,7 +324,7 @@ module _ (scan : Scan) where
     -- ---- any statement
 
     pub statement_ok : (d : ℕ) (t : Token) (before text : List ℕ) (y : Stmt × List ℕ) → d ≤ MAX_OPEN_BRACES → length text < m →
-        front scan before ≡ Ok (t, text) → statement_in body scan d t before text ≡ Ok y → Took scan before (followed_by y.0 done) y.1 d
+        front scan before ≡ Ok (t, text) → statement_read body scan d t before text ≡ Ok y → Took scan before (followed_by y.0 done) y.1 d
     unfolding StmtTook
     statement_ok d (name x) before text y le lt here e = drawing_ok x d before text y le here e
     statement_ok d (word k.Reg) before text y le lt here e = reg_ok d before text y le here e
@@ -341,7 +341,7 @@ module _ (scan : Scan) where
     wrong t d before text f le here stops e = refused scan firsts [] d before f le record { token = t; rest = text; here = here; no_step = stops; fault_is = cc }
 
     pub statement_err : (d : ℕ) (t : Token) (before text : List ℕ) (f : SyntaxFault) → d ≤ MAX_OPEN_BRACES → length text < m →
-        front scan before ≡ Ok (t, text) → ends_list t ≡ false → statement_in body scan d t before text ≡ Err f → Stuck scan firsts [] d before f
+        front scan before ≡ Ok (t, text) → ends_list t ≡ false → statement_read body scan d t before text ≡ Err f → Stuck scan firsts [] d before f
     statement_err d (name x) before text f le lt here goes e = drawing_err x d before text f le here e
     statement_err d (word k.Reg) before text f le lt here goes e = reg_err d before text f le here e
     statement_err d (word k.Dereg) before text f le lt here goes e = dereg_err d before text f le here e

@@ -9,9 +9,9 @@ use Rattle.pl_syntax.specs.declared.tree.Program.{Program}
 use Rattle.pl_syntax.specs.declared.tree.Stmt.{Stmt}
 use Rattle.pl_syntax.specs.Tokens.{Token, the_end, sign, word, name, number, front, Leads}
 use Rattle.pl_syntax.specs.Tree.{Tree, done, height}
-use Rattle.pl_syntax.specs.Bodies.{followed_by, tree_of}
+use Rattle.pl_syntax.specs.calls.Bodies.{followed_by, tree_of}
 use Rattle.pl_syntax.specs.Grammar.{tokens, header, scan_of, IsText, HasFault, Begins, IsAtFault, no_token, cannot_stand}
-use Rattle.pl_syntax.specs.inside.Reading.{◌>>=◌, statement_in, sign_in, sign_at, is_pl, is_two, behind_two, behind_pl, header_at, body_at, program_at}
+use Rattle.pl_syntax.specs.inside.Reading.{◌>>=◌, statement_read, sign_in, sign_at, is_pl, is_two, behind_two, behind_pl, header_at, body_at, program_at}
 use Rattle.pl_syntax.proofs.Fronts.{chosen, ok_pair}
 use Rattle.pl_syntax.proofs.Machine.{a_sign, fits, Shape, State, at, step, run}
 use Rattle.pl_syntax.proofs.Begun.{firsts, run_tree}
@@ -30,12 +30,12 @@ ReadBody scan text p = blocks.ReadBody Tree tokens height scan text p
 body_ok : (scan : Scan) (text : List ℕ) (p : Tree) → body_at scan text ≡ Ok p → ReadBody scan text p
 body_ok scan text p e =
     whole_ok Stmt Tree tokens height tree_of firsts scan run_tree stays (λ s. followed_by s done) (λ us. refl) refl (λ s ss us. tokens_first s (tree_of ss) us)
-    (λ s ss d a b. deep_first s (tree_of ss) d a b) tokens_go statement_in (statement_ok scan) (statement_err scan) text p e
+    (λ s ss d a b. deep_first s (tree_of ss) d a b) tokens_go statement_read (statement_ok scan) (statement_err scan) text p e
 
 body_err : (scan : Scan) (text : List ℕ) (f : SyntaxFault) → body_at scan text ≡ Err f → Stuck scan firsts [] 0 text f
 body_err scan text f e =
     whole_err Stmt Tree tokens height tree_of firsts scan run_tree stays (λ s. followed_by s done) (λ us. refl) refl (λ s ss us. tokens_first s (tree_of ss) us)
-    (λ s ss d a b. deep_first s (tree_of ss) d a b) tokens_go statement_in (statement_ok scan) (statement_err scan) text f e
+    (λ s ss d a b. deep_first s (tree_of ss) d a b) tokens_go statement_read (statement_ok scan) (statement_err scan) text f e
 
 -- ---- the header
 

@@ -5,7 +5,7 @@ use Rattle.pl_syntax.specs.declared.fault.ParseEnd.{ParseEnd}
 use Rattle.pl_syntax.specs.declared.fault.ParseEnd.TheVariants as ends
 use Rattle.pl_syntax.specs.declared.tree.Program.{Program}
 use Rattle.pl_syntax.specs.Grammar.{IsText, HasFault}
-use Rattle.pl_syntax.specs.Parsing.{GivesProgram, GivesFault, Explains}
+use Rattle.pl_syntax.specs.calls.Parsing.{GivesProgram, GivesFault, IsFirstIfFault}
 use Rattle.pl_syntax.specs.inside.Reading.{Fails, program_at}
 use Rattle.pl_syntax.proofs.Texts.{program_ok, program_err}
 use Rattle.pl_syntax.proofs.Unique.{one_tree, one_fault, text_or_fault}
@@ -22,7 +22,7 @@ pub not_only : (e : ParseEnd) (text : List ℕ) (p : Program) → Fails e (progr
 not_only ends.NoMemory text p e h = tt
 not_only (ends.Syntax f) text p e h = text_or_fault text p f h (program_err text f e)
 
-pub explains : (e : ParseEnd) (text : List ℕ) → Fails e (program_at text) → Explains text e
+pub explains : (e : ParseEnd) (text : List ℕ) → Fails e (program_at text) → IsFirstIfFault text e
 explains ends.NoMemory text e = tt
 explains (ends.Syntax f) text e = program_err text f e
 

@@ -2,7 +2,7 @@
 use Rattle.std.proofs.Common.{refl, arith}
 use Rattle.pl_syntax.specs.Words.{keyword_of}
 use Rattle.pl_syntax.specs.Tokens.{front}
-use Rattle.pl_syntax.specs.Laws.{ReadsTexts}
+use Rattle.pl_syntax.specs.calls.Laws.{ReadsTexts}
 
 pub reads_texts : ReadsTexts
 unfolding front keyword_of

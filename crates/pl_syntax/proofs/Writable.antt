@@ -12,11 +12,13 @@ use Rattle.pl_syntax.specs.declared.tree.Program.{Program}
 use Rattle.pl_syntax.specs.declared.token.Keyword.{Keyword}
 use Rattle.pl_syntax.specs.declared.token.Sign.{Sign}
 use Rattle.pl_syntax.specs.declared.token.Sign.TheVariants.{CloseBrace, Minus, Plus}
-use Rattle.pl_syntax.specs.Words.{IsName, IsNameIn, is_word_byte, is_digit, keyword_in, has_name_form, has_no_leading_zero, is_number, number_of, value_from}
+use Rattle.pl_syntax.specs.calls.Words.{IsName, IsNameIn}
+use Rattle.pl_syntax.specs.Words.{is_word_byte, is_digit, keyword_in, has_name_form, has_no_leading_zero, is_number, number_of, value_from}
 use Rattle.pl_syntax.specs.Tokens.{Token, the_end, sign, word, name, number, front, after_gap, token_here, word_token, letters_token, digits_token, sign_token, sign_of, word_of, Leads}
-use Rattle.pl_syntax.specs.Tree.{Tree, done, plain, fork, loop, Plain, new_task, new_phaser, reg, dereg, adv, await, skip, AllHere, PlainIsHere}
+use Rattle.pl_syntax.specs.Tree.{Tree, done, plain, fork, loop, Plain, new_task, new_phaser, reg, dereg, adv, await, skip}
+use Rattle.pl_syntax.specs.calls.Tree.{AllHere, PlainIsHere}
 use Rattle.pl_syntax.specs.Grammar.{tokens, plain_tokens, sentence, scan_of, ReadsTokens, IsText}
-use Rattle.pl_syntax.specs.Printed.{PlainIsWritable, TreeIsWritable, IsWritable}
+use Rattle.pl_syntax.specs.calls.Printed.{PlainIsWritable, TreeIsWritable, IsWritable}
 use Rattle.pl_syntax.proofs.Fronts.{chosen, ok_pair, was_found, name_in_front}
 
 -- ---- numbers

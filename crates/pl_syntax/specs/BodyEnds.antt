@@ -1,5 +1,5 @@
 -- Where the bodies of a text end: at the braces that close them.
-use Rattle.std.specs.Prelude.{◌≡◌, ℕ, List, [], ◌∷◌, ◌++◌, Option, Some, None}
+use Rattle.std.specs.Prelude.{ℕ, List, [], ◌∷◌, ◌++◌, Option, Some, None}
 use Rattle.pl_syntax.specs.declared.token.Sign.TheVariants.{CloseBrace}
 use Rattle.pl_syntax.specs.declared.tree.Program.{Program}
 use Rattle.pl_syntax.specs.Tokens.{Token, the_end, sign}
@@ -34,7 +34,3 @@ AllEndAt text p (own ∷ more) [] = ⊥
 -- the offsets of the braces that close the bodies of the program's statements, in the order of the statements' numbers
 abbrev pub AreEnds : List ℕ → Program → List (Option ℕ) → Type 0
 AreEnds text p ends = AllEndAt text p (end_tokens p.body (the_end ∷ [])) ends
-
--- a text's program has one list of them
-abbrev pub HasOneListOfEnds : Type 0
-HasOneListOfEnds = (text : List ℕ) (p : Program) (xs ys : List (Option ℕ)) → AreEnds text p xs → AreEnds text p ys → xs ≡ ys

@@ -1,12 +1,9 @@
 -- The printed form of a program.
-use Rattle.std.specs.Prelude.{◌≡◌, Bool, true, false, ℕ, ◌+◌, ◌*◌, ◌≤◌, List, [], ◌∷◌, ◌++◌, codes, replicate, decimal}
-use Rattle.pl_syntax.specs.declared.limits.TheConstants.{MAX_NUMBER}
+use Rattle.std.specs.Prelude.{Bool, true, false, ℕ, ◌+◌, ◌*◌, List, [], ◌∷◌, ◌++◌, codes, replicate, decimal}
 use Rattle.armus_base.specs.declared.offset.Offset.{Offset}
 use Rattle.armus_base.specs.declared.offset.Offset.TheVariants.{Ahead, Back, Here}
-use Rattle.armus_base.specs.Offsets.{IsNear}
 use Rattle.pl_syntax.specs.declared.tree.Program.{Program}
-use Rattle.pl_syntax.specs.Words.{IsName}
-use Rattle.pl_syntax.specs.Tree.{Tree, done, plain, fork, loop, Plain, new_task, new_phaser, reg, dereg, adv, await, skip, AllHere}
+use Rattle.pl_syntax.specs.Tree.{Tree, done, plain, fork, loop, Plain, new_task, new_phaser, reg, dereg, adv, await, skip}
 
 -- a line: its words, and the LF that ends it
 abbrev pub line : List ℕ → List ℕ
@@ -49,27 +46,3 @@ header_text true = line (codes "pl 2;")
 -- the printed form of a program
 abbrev pub printed_of : Program → List ℕ
 printed_of p = header_text p.two ++ printed_at 0 p.body
-
--- ---- what can be printed
-
--- the names of a statement without a body have the form of names, and its offset is no greater than a number of a text
-abbrev pub PlainIsWritable : Plain → Type 0
-PlainIsWritable (new_task x) = IsName x
-PlainIsWritable (new_phaser x) = IsName x
-PlainIsWritable (reg x y) = IsName x × IsName y
-PlainIsWritable (dereg x) = IsName x
-PlainIsWritable (adv x) = IsName x
-PlainIsWritable (await x off) = IsName x × IsNear off
-PlainIsWritable skip = Unit {0}
-
--- all names have the form of names, and no number is above the greatest
-abbrev pub TreeIsWritable : Tree → Type 0
-TreeIsWritable done = Unit {0}
-TreeIsWritable (plain s rest) = PlainIsWritable s × TreeIsWritable rest
-TreeIsWritable (fork x body rest) = IsName x × TreeIsWritable body × TreeIsWritable rest
-TreeIsWritable (loop k body rest) = (k ≤ MAX_NUMBER) × TreeIsWritable body × TreeIsWritable rest
-
--- the program can be printed: in PL 1 no await looks back or ahead
-pub record IsWritable (p : Program) : Type 0 where
-  pub tree : TreeIsWritable p.body
-  pub here : p.two ≡ false → AllHere p.body

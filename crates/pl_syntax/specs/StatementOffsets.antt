@@ -33,7 +33,3 @@ AllBeginAt text p (own ∷ more) [] = ⊥
 -- the offsets of the program's statements, in the order of their numbers
 abbrev pub AreOffsets : List ℕ → Program → List ℕ → Type 0
 AreOffsets text p offsets = AllBeginAt text p (statement_tokens p.body (the_end ∷ [])) offsets
-
--- a text's program has one list of them
-abbrev pub HasOneListOfOffsets : Type 0
-HasOneListOfOffsets = (text : List ℕ) (p : Program) (xs ys : List ℕ) → AreOffsets text p xs → AreOffsets text p ys → xs ≡ ys

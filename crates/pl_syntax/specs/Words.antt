@@ -1,8 +1,8 @@
 -- The forms of words: keywords, names and numbers.
-use Rattle.std.specs.Prelude.{◌≡◌, ℕ, ◌+◌, ◌-◌, ◌*◌, ◌≤◌, ◌==◌, Bool, true, false, not, ◌||◌, ◌&&◌, nat_le, if◌then◌else◌, List, [], ◌∷◌, length, codes, Option, Some, None}
+use Rattle.std.specs.Prelude.{ℕ, ◌+◌, ◌-◌, ◌*◌, ◌==◌, Bool, false, not, ◌||◌, ◌&&◌, nat_le, if◌then◌else◌, List, [], ◌∷◌, length, codes, Option, Some, None}
 use Rattle.std.specs.List.{list_all}
 use Rattle.std.specs.Str.{bytes_eq}
-use Rattle.pl_syntax.specs.declared.limits.TheConstants.{MAX_NAME_BYTES, MAX_DIGITS, MAX_NUMBER}
+use Rattle.pl_syntax.specs.declared.limits.TheConstants.{MAX_DIGITS, MAX_NUMBER}
 use Rattle.pl_syntax.specs.declared.token.Keyword.{Keyword}
 use Rattle.pl_syntax.specs.declared.token.Keyword.TheVariants.{NewTid, NewPhaser, Fork, Reg, Dereg, Adv, Await, Loop, Skip, Clock, Async, Finish, Advance, Resume, Drop}
 use Rattle.pl_syntax.specs.declared.scan.Language.{Language}
@@ -87,16 +87,6 @@ keyword_in Clocks w = clock_keyword_of w
 abbrev pub has_name_form : List ℕ → Bool
 has_name_form [] = false
 has_name_form (b ∷ bs) = is_lower b && list_all is_name_byte (b ∷ bs)
-
--- a name of a language has that form, is no longer than a name may be, and is no keyword of the language
-pub record IsNameIn (language : Language) (w : List ℕ) : Type 0 where
-  pub form : has_name_form w ≡ true
-  pub short : length w ≤ MAX_NAME_BYTES
-  pub free : keyword_in language w ≡ None
-
--- a name of PL
-abbrev pub IsName : List ℕ → Type 0
-IsName w = IsNameIn Phasers w
 
 -- ---- numbers
 

@@ -1,7 +1,7 @@
 // Where the bodies of a text end.
 ghost use Rattle.std.specs.Prelude.{◌≡◌, ◌+◌, ◌<◌, ◌≤◌, ◌^◌, ◌∷◌, ◌++◌, [], IfOk, OnOk, drop, length, slice_get};
 ghost use Rattle.pl_syntax.specs.BodyEnds.{AreEnds};
-ghost use Rattle.pl_syntax.specs.Bodies.{followed_by};
+ghost use Rattle.pl_syntax.specs.calls.Bodies.{followed_by};
 ghost use Rattle.pl_syntax.specs.Grammar.{IsText, ReadsTokens, scan_of, sentence};
 ghost use Rattle.pl_syntax.specs.StatementOffsets.{AllBeginAt};
 ghost use Rattle.pl_syntax.specs.Tokens.{Leads, the_end};

@@ -2,7 +2,7 @@
 
 ghost use Rattle.armus_base.specs.declared.offset.Offset.TheVariants.{Ahead, Back};
 ghost use Rattle.std.specs.Prelude.{if◌then◌else◌, ◌≡◌, ◌<◌, ◌≤◌, ◌^◌, length, IfOk, IsOk};
-ghost use Rattle.pl_syntax.specs.Words.{IsNameIn};
+ghost use Rattle.pl_syntax.specs.calls.Words.{IsNameIn};
 ghost use Rattle.pl_syntax.specs.inside.Reading.{result_seen, unexpected, sign_at, name_at, number_at, maker_at, in_parens_at, named_at, pair_at, drawn_at, opened_at, far_at, offset_at, ends_list};
 ghost use Rattle.pl_syntax.specs.inside.Seen.{token_of};
 

@@ -1,8 +1,8 @@
 // What holds of the definitions of this crate: each law is the contract of a public function with an empty body.
 
-ghost use Rattle.pl_syntax.specs.BodyEnds.{HasOneListOfEnds};
-ghost use Rattle.pl_syntax.specs.StatementOffsets.{HasOneListOfOffsets};
-ghost use Rattle.pl_syntax.specs.Laws.{HasOneTree, HasOneFault, HasNotBoth, HasOneOfBoth, TreesFixBodies, PrintedIsText, TextsAreWritable, LineFeedChangesNothing, NoLineIsAMark, ReadsTexts, TextsAreSpaced};
+ghost use Rattle.pl_syntax.specs.calls.BodyEnds.{HasOneListOfEnds};
+ghost use Rattle.pl_syntax.specs.calls.StatementOffsets.{HasOneListOfOffsets};
+ghost use Rattle.pl_syntax.specs.calls.Laws.{HasOneTree, HasOneFault, HasNotBoth, HasOneOfBoth, TreesFixBodies, PrintedIsText, TextsAreWritable, LineFeedChangesNothing, NoLineIsAMark, ReadsTexts, TextsAreSpaced};
 
 /// The grammar is unambiguous: a text has at most one tree.
 pub fn text_has_one_tree()

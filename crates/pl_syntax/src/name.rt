@@ -2,7 +2,7 @@
 
 ghost use Rattle.std.specs.Prelude.{◌≡◌, IfOk};
 ghost use Rattle.pl_syntax.specs.declared.scan.Language.TheVariants.{Phasers};
-ghost use Rattle.pl_syntax.specs.Words.{IsName, IsNameIn};
+ghost use Rattle.pl_syntax.specs.calls.Words.{IsName, IsNameIn};
 
 use crate::scan::Language;
 use armus_base::NoMemory;
@@ -18,7 +18,7 @@ pub struct Name {
 
 impl Model for Name {
     ghost use Rattle.std.specs.Prelude.{List, ℕ};
-    ghost use Rattle.pl_syntax.specs.Words.{IsName};
+    ghost use Rattle.pl_syntax.specs.calls.Words.{IsName};
 
     ghost Value = { List ℕ };
 

@@ -2,11 +2,13 @@
 
 ghost use Rattle.armus_base.specs.Offsets.{IsNear};
 ghost use Rattle.std.specs.Prelude.{false, ◌≡◌, ◌+◌, ◌*◌, ◌≤◌, ◌∷◌, [], ◌++◌, replicate, decimal, codes, OnOk, IfOk};
-ghost use Rattle.pl_syntax.specs.Words.{IsName};
-ghost use Rattle.pl_syntax.specs.Tree.{done, reg, await, height, AllHere};
-ghost use Rattle.pl_syntax.specs.Bodies.{followed_by};
+ghost use Rattle.pl_syntax.specs.calls.Words.{IsName};
+ghost use Rattle.pl_syntax.specs.Tree.{done, reg, await, height};
+ghost use Rattle.pl_syntax.specs.calls.Tree.{AllHere};
+ghost use Rattle.pl_syntax.specs.calls.Bodies.{followed_by};
 ghost use Rattle.pl_syntax.specs.Grammar.{IsText};
-ghost use Rattle.pl_syntax.specs.Printed.{header_text, indented_line, offset_text, plain_text, printed_at, printed_of, TreeIsWritable};
+ghost use Rattle.pl_syntax.specs.Printed.{header_text, indented_line, offset_text, plain_text, printed_at, printed_of};
+ghost use Rattle.pl_syntax.specs.calls.Printed.{TreeIsWritable};
 
 use crate::limits::MAX_OPEN_BRACES;
 use crate::name::Name;

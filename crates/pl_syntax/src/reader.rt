@@ -2,15 +2,16 @@
 
 ghost use Rattle.std.specs.Prelude.{false, ◌≡◌, ℕ, ◌+◌, ◌<◌, ◌≤◌, ◌^◌, length, IfOk, IfErr};
 ghost use Rattle.pl_syntax.specs.declared.scan.Language.TheVariants.{Phasers};
-ghost use Rattle.pl_syntax.specs.Words.{IsNameIn};
+ghost use Rattle.pl_syntax.specs.calls.Words.{IsNameIn};
 ghost use Rattle.pl_syntax.specs.declared.tree.Program.{Program as Parsed};
-ghost use Rattle.pl_syntax.specs.Tree.{count, done, AllHere};
-ghost use Rattle.pl_syntax.specs.Bodies.{followed_by, tree_of};
+ghost use Rattle.pl_syntax.specs.Tree.{count, done};
+ghost use Rattle.pl_syntax.specs.calls.Tree.{AllHere};
+ghost use Rattle.pl_syntax.specs.calls.Bodies.{followed_by, tree_of};
 ghost use Rattle.pl_syntax.specs.inside.Seen.{token_of, HasForm};
 ghost use Rattle.pl_syntax.specs.declared.fault.SyntaxFault.{SyntaxFault as Fault};
 ghost use Rattle.pl_syntax.specs.Grammar.{IsText, HasFault};
-ghost use Rattle.pl_syntax.specs.Parsing.{GivesProgram, GivesFault, Explains};
-ghost use Rattle.pl_syntax.specs.inside.Reading.{Gives, drawing_at, reg_at, dereg_at, adv_at, await_at, skip_at, statement_in, statements_at, block_at, fork_at, loop_at, ends_list, result_seen, is_pl, is_two, header_at, body_at, program_at};
+ghost use Rattle.pl_syntax.specs.calls.Parsing.{GivesProgram, GivesFault, IsFirstIfFault};
+ghost use Rattle.pl_syntax.specs.inside.Reading.{Gives, drawing_at, reg_at, dereg_at, adv_at, await_at, skip_at, statement_read, statements_at, block_at, fork_at, loop_at, ends_list, result_seen, is_pl, is_two, header_at, body_at, program_at};
 
 use crate::expect::{
     drawn_at, ends_list, in_parens_at, name_at, named_at, number_at, offset_at, opened_at, pair_at,
@@ -195,7 +196,7 @@ fn statement_in<'a>(
     requires pl { scan.language ≡ Phasers }
     requires shallow { depth ≤ MAX_OPEN_BRACES }
     requires name { HasForm scan.language token }
-    ensures exact { (n : ℕ) → length text.now < n → Gives (λ x. (x.0, x.1.now)) result (statement_in (statements_at n scan) scan depth (token_of token.entry) before.now text.now) }
+    ensures exact { (n : ℕ) → length text.now < n → Gives (λ x. (x.0, x.1.now)) result (statement_read (statements_at n scan) scan depth (token_of token.entry) before.now text.now) }
     ensures no_longer { IfOk result (λ x. length x.1.now ≤ length text.now) }
     ensures counted { IfOk result (λ x. count (followed_by x.0 done) + length x.1.now ≤ length text.now + 1) }
 {
@@ -332,7 +333,7 @@ pub fn parse(alloc: Global, text: &[u8]) -> Result<Program, ParseEnd>
 
     // What is answered is the program of the text, or its first fault, or that memory ran out.
     ensures program { IfOk result (λ p. IsText text.now p) }
-    ensures fault { IfErr result (Explains text.now) }
+    ensures fault { IfErr result (IsFirstIfFault text.now) }
 
     // Where the text has a program, or a first fault, that is answered, unless memory ran out.
     ensures only_program { (p : Parsed) → IsText text.now p → GivesProgram result p }

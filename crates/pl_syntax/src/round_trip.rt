@@ -1,9 +1,10 @@
 // A program, printed and read again.
 
 ghost use Rattle.std.specs.Prelude.{◌≡◌, ◌≤◌, false, length};
-ghost use Rattle.pl_syntax.specs.Tree.{height, AllHere};
+ghost use Rattle.pl_syntax.specs.Tree.{height};
+ghost use Rattle.pl_syntax.specs.calls.Tree.{AllHere};
 ghost use Rattle.pl_syntax.specs.Printed.{printed_of};
-ghost use Rattle.pl_syntax.specs.Parsing.{GivesProgram};
+ghost use Rattle.pl_syntax.specs.calls.Parsing.{GivesProgram};
 
 use crate::fault::ParseEnd;
 use crate::limits::{MAX_OPEN_BRACES, MAX_PARSED_BYTES};

@@ -2,7 +2,7 @@
 
 ghost use Rattle.std.specs.Prelude.{◌≡◌, ◌<◌, ◌^◌};
 ghost use Rattle.pl_syntax.specs.Tree.{count, done};
-ghost use Rattle.pl_syntax.specs.Bodies.{followed_by, tree_of};
+ghost use Rattle.pl_syntax.specs.calls.Bodies.{followed_by, tree_of};
 
 use crate::name::Name;
 use armus_base::Offset;
@@ -43,13 +43,14 @@ pub enum Stmt {
 
 impl Model for Body {
     ghost use Rattle.std.specs.Prelude.{◌≡◌};
-    ghost use Rattle.pl_syntax.specs.Tree.{Tree, tree_code, count};
+    ghost use Rattle.pl_syntax.specs.Tree.{Tree, count};
+    ghost use Rattle.pl_syntax.specs.calls.Tree.{tree_code};
 
     ghost Value = { Tree };
 
     ghost coded = { tree_code };
 
-    ghost use Rattle.pl_syntax.specs.Bodies.{tree_of};
+    ghost use Rattle.pl_syntax.specs.calls.Bodies.{tree_of};
 
     ghost view = { λ b. tree_of b.items.items };
 

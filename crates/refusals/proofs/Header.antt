@@ -18,7 +18,7 @@ use Rattle.refusals.specs.declared.stand.Stand.{Stand}
 use Rattle.refusals.specs.declared.wanted.Wanted.TheVariants as w
 use Rattle.refusals.specs.Stands.{IsStand, StandsBehind}
 use Rattle.refusals.specs.Wanted.{IsTokenOf, IsWanted, is_wanted}
-use Rattle.refusals.specs.inside.Walking.{ComesTo, IsOutside}
+use Rattle.refusals.specs.inside.Walking.{WalkComesTo, IsOutside}
 use Rattle.refusals.proofs.Places.{NoEnd, fault_at, none_read, place_on, place_past}
 use Rattle.refusals.proofs.Walked.{no_end, runs_before}
 
@@ -372,7 +372,7 @@ module _ (text : List ℕ) (f : SyntaxFault) where
 
   -- ---- behind the header, or without one
 
-  pub comes_two : (b : HasFault text f) (body : List ℕ) → Leads one text header body → ComesTo text true body f.at b.before
+  pub comes_two : (b : HasFault text f) (body : List ℕ) → Leads one text header body → WalkComesTo text true body f.at b.before
   comes_two b body leads = elim (fault_cases text f b) [
     | inl x ↦ absurd (let q = sym x.0 ∙ two_by_header text body f b leads in cc)
     | inr x ↦
@@ -389,7 +389,7 @@ module _ (text : List ℕ) (f : SyntaxFault) where
   pub is_one : (b : HasFault text f) → ((mid : List ℕ) → Leads one text header mid → ⊥) → b.two ≡ false
   is_one b none = elim (fault_cases text f b) [ inl x ↦ x.0 | inr x ↦ (let i = x.1 in absurd (none i.mid i.header_is)) ]
 
-  pub comes_one : (b : HasFault text f) → ((mid : List ℕ) → Leads one text header mid → ⊥) → IsOutside text f → ComesTo text false text f.at b.before
+  pub comes_one : (b : HasFault text f) → ((mid : List ℕ) → Leads one text header mid → ⊥) → IsOutside text f → WalkComesTo text false text f.at b.before
   comes_one b none outside =
       let e = is_one b none in
       let i = in_one text f b e in

@@ -13,7 +13,7 @@ use Rattle.refusals.specs.declared.stand.Behind.{Behind}
 use Rattle.refusals.specs.declared.stand.Stand.{Stand}
 use Rattle.refusals.specs.declared.wanted.Wanted.{Wanted}
 use Rattle.refusals.specs.declared.wanted.Wanted.TheVariants as w
-use Rattle.refusals.specs.Laws.{HasOneStand}
+use Rattle.refusals.specs.calls.Laws.{HasOneStand}
 use Rattle.refusals.specs.Stands.{StandsBehind}
 use Rattle.refusals.specs.Wanted.{IsWanted, is_wanted}
 use Rattle.refusals.proofs.Places.{same_tokens}

@@ -1,49 +1,11 @@
 -- Places of tokens: behind each token but the end the next one stands farther on.
-use Rattle.std.proofs.Common.{◌≡◌, ℕ, ◌+◌, ◌-◌, ◌<◌, ◌≤◌, ◌==◌, ◌&&◌, Bool, true, false, cond, List, [], ◌∷◌, length, take, drop, Result, Ok, Err, refl, sym, ap, subst, ◌∙◌, arith, inl, inr}
-use Rattle.std.specs.List.{prefix_len}
-use Rattle.std.proofs.lemmas.List.{length-drop}
+use Rattle.std.proofs.Common.{◌≡◌, ℕ, ◌-◌, ◌<◌, ◌≤◌, List, [], ◌∷◌, length, Result, Ok, Err, refl, sym, ap, subst, ◌∙◌, arith, inl, inr}
 use Rattle.pl_syntax.specs.declared.fault.SyntaxFault.{SyntaxFault}
 use Rattle.pl_syntax.specs.declared.scan.Scan.{Scan}
-use Rattle.pl_syntax.specs.Words.{begins_with, is_word_byte}
-use Rattle.pl_syntax.specs.Tokens.{Token, the_end, Leads, after_comment, after_gap, front, is_blank, place, placed, sign_of, sign_token, token_here, word_token}
+use Rattle.pl_syntax.specs.Words.{is_word_byte}
+use Rattle.pl_syntax.specs.Tokens.{Token, the_end, Leads, after_gap, front, place, placed, token_here}
 use Rattle.pl_syntax.specs.Grammar.{IsAtFault, cannot_stand, no_token, too_deep}
-use Rattle.pl_syntax.proofs.Fronts.{chosen, front_le, ok_pair, was_found}
-
-cond_le : (b : Bool) (x y : List ℕ) (n : ℕ) → length x ≤ n → length y ≤ n → length (cond b x y) ≤ n
-cond_le true x y n p q = p
-cond_le false x y n p q = q
-
-mutual
-  pub gap_le : (text : List ℕ) → length (after_gap text) ≤ length text
-  gap_le [] = omega arith
-  gap_le (b ∷ bs) =
-      let p : length (after_gap bs) ≤ length (b ∷ bs) = (let h = gap_le bs in omega arith) in
-      let q : length (after_comment bs) ≤ length (b ∷ bs) = (let h = comment_le bs in omega arith) in
-      cond_le (is_blank b) _ _ _ p (cond_le (b == 47 && begins_with 47 bs) _ _ _ q (omega arith))
-
-  comment_le : (text : List ℕ) → length (after_comment text) ≤ length text
-  comment_le [] = omega arith
-  comment_le (b ∷ bs) =
-      let p : length (after_gap bs) ≤ length (b ∷ bs) = (let h = gap_le bs in omega arith) in
-      let q : length (after_comment bs) ≤ length (b ∷ bs) = (let h = comment_le bs in omega arith) in
-      cond_le (b == 10) _ _ _ p q
-
--- a token that is not the end takes a byte
-progress_here : (scan : Scan) (text : List ℕ) (t : Token) (rest : List ℕ) → token_here scan text ≡ Ok (t, rest) → (t ≡ the_end → ⊥) → length rest < length text
-progress_here scan [] t rest e f = absurd (f (sym (ok_pair (the_end, []) (t, rest) e).0))
-progress_here scan (b ∷ bs) t rest e f =
-    elim (chosen (is_word_byte b) _ _ _ e) [
-      | inl p ↦
-          let h : drop (prefix_len is_word_byte (b ∷ bs)) (b ∷ bs) ≡ rest = (was_found _ (word_token scan.language (take (prefix_len is_word_byte (b ∷ bs)) (b ∷ bs))) _ t rest p.1).1 in
-          let k : prefix_len is_word_byte (b ∷ bs) ≡ 1 + prefix_len is_word_byte bs = rw p.0 refl in
-          let l = length-drop (prefix_len is_word_byte (b ∷ bs)) (b ∷ bs) in
-          let m = ap (λ (x : List ℕ). length x) h in
-          omega arith
-      | inr p ↦
-          let h : bs ≡ rest = (was_found _ (sign_token (sign_of scan.offsets b)) bs t rest p.1).1 in
-          let m = ap (λ (x : List ℕ). length x) h in
-          omega arith
-    ]
+use Rattle.pl_syntax.proofs.Fronts.{chosen, front_le, gap_le, ok_pair, progress_here}
 
 pub place_further : (scan : Scan) (text : List ℕ) (t : Token) (rest : List ℕ) → length text ≤ scan.total → front scan text ≡ Ok (t, rest) → (t ≡ the_end → ⊥) →
     place scan text < place scan rest

@@ -9,10 +9,10 @@ use Rattle.refusals.specs.declared.stand.Behind.{Behind}
 use Rattle.refusals.specs.declared.stand.Behind.TheVariants.{Other}
 use Rattle.refusals.specs.declared.stand.Stand.{Stand}
 use Rattle.refusals.specs.declared.wanted.Wanted.{Wanted}
-use Rattle.refusals.specs.Stands.{StandsBehind, first_name}
-use Rattle.refusals.specs.inside.OpenBraces.{braces_after, first_of}
+use Rattle.refusals.specs.Stands.{StandsBehind, first_as_name}
+use Rattle.refusals.specs.inside.OpenBraces.{braces_after, first_brace}
 use Rattle.refusals.specs.inside.Shapes.{shapes_after, wanted_by}
-use Rattle.refusals.specs.inside.Walking.{ComesTo}
+use Rattle.refusals.specs.inside.Walking.{WalkComesTo}
 use Rattle.refusals.proofs.Places.{NoEnd, none_read}
 use Rattle.refusals.proofs.Walked.{Walked, no_end, runs_before, stands, walked_more, walked_none}
 
@@ -24,7 +24,7 @@ Parts text two left rest shapes braces behind before =
 -- whichever tokens stand before the place
 pub record OnTheWay (text : List ℕ) (two : Bool) (body : List ℕ) (at : ℕ) (rest : List ℕ) (shapes : List Shape) (braces : List ℕ) (behind : Behind) : Type 0 where
   pub fits : length rest ≤ length text
-  pub parts : (before : List Token) (c : ComesTo text two body at before) → Parts text two c.left rest shapes braces behind before
+  pub parts : (before : List Token) (c : WalkComesTo text two body at before) → Parts text two c.left rest shapes braces behind before
 
 NoEnd-right : (ts us : List Token) → NoEnd (ts ++ us) → NoEnd us
 NoEnd-right [] us n = n
@@ -48,26 +48,26 @@ module _ (text : List ℕ) (two : Bool) (body : List ℕ) (at : ℕ) where
     todo_no_end : (left : List ℕ) (done todo : List Token) → Walked text two left done todo rest shapes braces behind → NoEnd todo
     todo_no_end left done todo w = NoEnd-right done todo (no_end (done ++ todo) [] 0 w.whole.0 w.whole.1 w.whole.2)
 
-    token_of : (before : List Token) (c : ComesTo text two body at before) (done todo : List Token) → Walked text two c.left done todo rest shapes braces behind →
+    token_of : (before : List Token) (c : WalkComesTo text two body at before) (done todo : List Token) → Walked text two c.left done todo rest shapes braces behind →
         (place (scan_of two text) rest ≡ at → ⊥) → (t : Token) × (after : List ℕ) × (front (scan_of two text) rest ≡ Ok (t, after)) × (t ≡ the_end → ⊥)
     token_of before c done [] w far = absurd (far (ap (place (scan_of two text)) w.goes ∙ sym c.at_is))
     token_of before c done (t ∷ todo) w far = (t, w.goes.0, w.goes.1, (todo_no_end c.left done (t ∷ todo) w).0)
 
     -- before the place stands a token
-    pub next_token : ((before : List Token) × ComesTo text two body at before) → (place (scan_of two text) rest ≡ at → ⊥) →
+    pub next_token : ((before : List Token) × WalkComesTo text two body at before) → (place (scan_of two text) rest ≡ at → ⊥) →
         (t : Token) × (after : List ℕ) × (front (scan_of two text) rest ≡ Ok (t, after)) × (t ≡ the_end → ⊥)
     next_token (before, c) far = let p = on.parts before c in token_of before c p.0 p.1 p.3 far
 
     -- which is not the end
-    pub not_end : ((before : List Token) × ComesTo text two body at before) → (place (scan_of two text) rest ≡ at → ⊥) → (u : Token) (after : List ℕ) →
+    pub not_end : ((before : List Token) × WalkComesTo text two body at before) → (place (scan_of two text) rest ≡ at → ⊥) → (u : Token) (after : List ℕ) →
         front (scan_of two text) rest ≡ Ok (u, after) → u ≡ the_end → ⊥
     not_end some far u after here is =
         let n = next_token some far in
         n.3 ((ok_pair (n.0, n.1) (u, after) (sym n.2 ∙ here)).0 ∙ is)
 
-    step_on : (before : List Token) (c : ComesTo text two body at before) (done todo : List Token) → before ≡ done ++ todo → Walked text two c.left done todo rest shapes braces behind →
+    step_on : (before : List Token) (c : WalkComesTo text two body at before) (done todo : List Token) → before ≡ done ++ todo → Walked text two c.left done todo rest shapes braces behind →
         (place (scan_of two text) rest ≡ at → ⊥) → (u : Token) (after : List ℕ) → front (scan_of two text) rest ≡ Ok (u, after) →
-        Parts text two c.left after (shapes_after shapes u) (braces_after u (place (scan_of two text) rest) braces) (first_name (u ∷ [])) before
+        Parts text two c.left after (shapes_after shapes u) (braces_after u (place (scan_of two text) rest) braces) (first_as_name (u ∷ [])) before
     step_on before c done [] e w far u after here = absurd (far (ap (place (scan_of two text)) w.goes ∙ sym c.at_is))
     step_on before c done (t ∷ todo) e w far u after here =
         let same = ok_pair (t, w.goes.0) (u, after) (sym w.goes.1 ∙ here) in (
@@ -79,30 +79,30 @@ module _ (text : List ℕ) (two : Bool) (body : List ℕ) (at : ℕ) where
 
     -- behind it the walk goes on
     pub on_more : (place (scan_of two text) rest ≡ at → ⊥) → (u : Token) (after : List ℕ) → front (scan_of two text) rest ≡ Ok (u, after) →
-        OnTheWay text two body at after (shapes_after shapes u) (braces_after u (place (scan_of two text) rest) braces) (first_name (u ∷ []))
+        OnTheWay text two body at after (shapes_after shapes u) (braces_after u (place (scan_of two text) rest) braces) (first_as_name (u ∷ []))
     on_more far u after here = record {
       fits = (let f = front_le (scan_of two text) rest u after here in let g = on.fits in omega arith);
       parts = λ before c. let p = on.parts before c in step_on before c p.0 p.1 p.2 p.3 far u after here;
     }
 
     -- at the place nothing is left to be read
-    pub arrives : place (scan_of two text) rest ≡ at → (before : List Token) → ComesTo text two body at before →
+    pub arrives : place (scan_of two text) rest ≡ at → (before : List Token) → WalkComesTo text two body at before →
         StandsBehind text two before
-        (record { wanted = wanted_by two shapes (is_some (first_of (reverse braces))); behind = behind; brace = first_of (reverse braces) })
+        (record { wanted = wanted_by two shapes (is_some (first_brace (reverse braces))); behind = behind; brace = first_brace (reverse braces) })
     arrives here before c =
         let p = on.parts before c in
         let none : p.1 ≡ [] = none_read (scan_of two text) rest p.1 c.left on.fits (todo_no_end c.left p.0 p.1 p.3) p.3.goes (here ∙ c.at_is) in
         let all : before ≡ p.0 = p.2 ∙ (ap (λ x. p.0 ++ x) none ∙ append-nil p.0) in
         let w = subst (λ x. Walked text two c.left p.0 x rest shapes braces behind) none p.3 in
-        let stand : Stand = record { wanted = wanted_by two shapes (is_some (first_of (reverse braces))); behind = behind; brace = first_of (reverse braces) } in
+        let stand : Stand = record { wanted = wanted_by two shapes (is_some (first_brace (reverse braces))); behind = behind; brace = first_brace (reverse braces) } in
         subst (λ x. StandsBehind text two x stand) (sym all)
         (stands text two c.left p.0 rest shapes braces behind w (subst (λ x. (t : Token) → Begins two (x ++ t ∷ []) → Begins true (x ++ t ∷ [])) all c.only))
 
     -- the same with other names
-    pub arrives_so : place (scan_of two text) rest ≡ at → (wanted : Wanted) (brace : Option ℕ) (is_open : Bool) → brace ≡ first_of (reverse braces) → is_open ≡ is_some brace →
-        wanted ≡ wanted_by two shapes is_open → (before : List Token) → ComesTo text two body at before →
+    pub arrives_so : place (scan_of two text) rest ≡ at → (wanted : Wanted) (brace : Option ℕ) (is_open : Bool) → brace ≡ first_brace (reverse braces) → is_open ≡ is_some brace →
+        wanted ≡ wanted_by two shapes is_open → (before : List Token) → WalkComesTo text two body at before →
         StandsBehind text two before (record { wanted = wanted; behind = behind; brace = brace })
     arrives_so here wanted brace is_open b o w before c =
-        let all : wanted ≡ wanted_by two shapes (is_some (first_of (reverse braces))) = w ∙ ap (wanted_by two shapes) (o ∙ ap is_some b) in
+        let all : wanted ≡ wanted_by two shapes (is_some (first_brace (reverse braces))) = w ∙ ap (wanted_by two shapes) (o ∙ ap is_some b) in
         subst (λ x. StandsBehind text two before (record { wanted = x; behind = behind; brace = brace })) (sym all)
-        (subst (λ x. StandsBehind text two before (record { wanted = wanted_by two shapes (is_some (first_of (reverse braces))); behind = behind; brace = x })) (sym b) (arrives here before c))
+        (subst (λ x. StandsBehind text two before (record { wanted = wanted_by two shapes (is_some (first_brace (reverse braces))); behind = behind; brace = x })) (sym b) (arrives here before c))

@@ -7,7 +7,7 @@ use Rattle.text_places.specs.declared.place.TextPlace.{TextPlace}
 use Rattle.refusals.specs.declared.stand.Stand.{Stand}
 use Rattle.refusals.specs.CaretLines.{caret_lines}
 use Rattle.refusals.specs.Hints.{first_fit, hints}
-use Rattle.refusals.specs.SyntaxRefusals.{brace_note, first_line, hint_line, syntax_line, syntax_lines, syntax_notes}
+use Rattle.refusals.specs.SyntaxRefusals.{brace_note, first_line, hint_line, syntax_fault_line, syntax_lines, syntax_notes}
 use Rattle.refusals.proofs.Pieces.{three_from_none}
 
 -- the notes, where this is left of the text
@@ -19,8 +19,8 @@ pub lines_are : (file : Option (List ℕ)) (text : List ℕ) (f : SyntaxFault) (
     o2 ≡ o1 ++ caret_lines text f.at → o3 ≡ o2 ++ (brace_note placed rest s.brace ++ hint_line (first_fit (hints f.kind f.at rest s))) →
     o3 ≡ syntax_lines file text f s
 lines_are file text f s placed place rest o o1 o2 o3 e p r none a b c =
-    let first : first_line placed file place f rest s.wanted ≡ syntax_line file text f s =
+    let first : first_line placed file place f rest s.wanted ≡ syntax_fault_line file text f s =
     ap (λ x. first_line x file place f rest s.wanted) e ∙ (ap (λ x. first_line text file x f rest s.wanted) (p ∙ ap (λ x. text_place x f.at) e)
     ∙ ap (λ x. first_line text file (text_place text f.at) f x s.wanted) r) in
     let notes : notes_of placed f rest s ≡ syntax_notes text f s = ap (λ x. notes_of x f rest s) e ∙ ap (λ x. notes_of text f x s) r in
-    three_from_none o o1 o2 o3 (syntax_line file text f s) (caret_lines text f.at) (syntax_notes text f s) none (a ∙ ap (λ x. o ++ x) first) b (c ∙ ap (λ x. o2 ++ x) notes)
+    three_from_none o o1 o2 o3 (syntax_fault_line file text f s) (caret_lines text f.at) (syntax_notes text f s) none (a ∙ ap (λ x. o ++ x) first) b (c ∙ ap (λ x. o2 ++ x) notes)

@@ -11,10 +11,10 @@ use Rattle.refusals.specs.declared.stand.Behind.{Behind}
 use Rattle.refusals.specs.declared.stand.Behind.TheVariants as behind
 use Rattle.refusals.specs.declared.stand.Stand.{Stand}
 use Rattle.refusals.specs.declared.wanted.Wanted.TheVariants as w
-use Rattle.refusals.specs.Laws.{HasOneSyntaxRefusal, HasSyntaxRefusal}
-use Rattle.refusals.specs.Stands.{IsStand, StandsBehind, first_name}
+use Rattle.refusals.specs.calls.Laws.{HasOneSyntaxRefusal, HasSyntaxRefusal}
+use Rattle.refusals.specs.Stands.{IsStand, StandsBehind, first_as_name}
 use Rattle.refusals.specs.SyntaxRefusals.{syntax_lines}
-use Rattle.refusals.specs.inside.OpenBraces.{braces_after, first_of}
+use Rattle.refusals.specs.inside.OpenBraces.{braces_after, first_brace}
 use Rattle.refusals.specs.inside.Shapes.{shapes_after, wanted_by}
 use Rattle.pl_syntax.proofs.Unique.{one_fault}
 use Rattle.refusals.proofs.Header.{Only, InOne, a_pl, a_semicolon, equals_or_two, fault_cases, only_first, only_long, only_none, only_second, pl_is, two_is}
@@ -27,15 +27,15 @@ walk_all : (text : List ℕ) (two : Bool) (left : List ℕ) (done todo : List To
     ((t : Token) → Begins two ((done ++ todo) ++ t ∷ []) → Begins true ((done ++ todo) ++ t ∷ [])) → (stand : Stand) × StandsBehind text two (done ++ todo) stand
 walk_all text two left done [] rest shapes braces behind walked only =
     let none : done ++ [] ≡ done = append-nil done in (
-      record { wanted = wanted_by two shapes (is_some (first_of (reverse braces))); behind = behind; brace = first_of (reverse braces) },
-      subst (λ x. StandsBehind text two x (record { wanted = wanted_by two shapes (is_some (first_of (reverse braces))); behind = behind; brace = first_of (reverse braces) })) (sym none)
+      record { wanted = wanted_by two shapes (is_some (first_brace (reverse braces))); behind = behind; brace = first_brace (reverse braces) },
+      subst (λ x. StandsBehind text two x (record { wanted = wanted_by two shapes (is_some (first_brace (reverse braces))); behind = behind; brace = first_brace (reverse braces) })) (sym none)
           (stands text two left done rest shapes braces behind walked
           (subst (λ x. (t : Token) → Begins two (x ++ t ∷ []) → Begins true (x ++ t ∷ [])) none only)),
     )
 walk_all text two left done (t ∷ todo) rest shapes braces behind walked only =
     let goes = walked.goes in
     let all : (done ++ t ∷ []) ++ todo ≡ done ++ t ∷ todo = append_assoc done (t ∷ []) todo in
-    let found = walk_all text two left (done ++ t ∷ []) todo goes.0 (shapes_after shapes t) (braces_after t (place (scan_of two text) rest) braces) (first_name (t ∷ []))
+    let found = walk_all text two left (done ++ t ∷ []) todo goes.0 (shapes_after shapes t) (braces_after t (place (scan_of two text) rest) braces) (first_as_name (t ∷ []))
     (walked_more text two left done t todo rest shapes braces behind t goes.0 walked goes.1)
     (subst (λ x. (u : Token) → Begins two (x ++ u ∷ []) → Begins true (x ++ u ∷ [])) (sym all) only) in
     (found.0, subst (λ x. StandsBehind text two x found.0) all found.1)

@@ -15,9 +15,9 @@ use Rattle.pl_syntax.proofs.Begun.{firsts, word_firsts}
 use Rattle.refusals.specs.declared.shape.Shape.{Shape}
 use Rattle.refusals.specs.declared.shape.Shape.TheVariants as s
 use Rattle.refusals.specs.declared.wanted.Wanted.TheVariants as w
-use Rattle.refusals.specs.Wanted.{IsTokenOf, begins_statement, is_first, is_sign, is_wanted}
+use Rattle.refusals.specs.Wanted.{IsTokenOf, is_statement_keyword, is_first, is_sign, is_wanted}
 use Rattle.refusals.specs.Wanted as own
-use Rattle.refusals.specs.inside.Shapes.{ended, shapes_after, shapes_behind, shapes_on, wanted_by, wanted_next}
+use Rattle.refusals.specs.inside.Shapes.{then_semicolon, shapes_after, shapes_behind, shapes_on, wanted_by, wanted_next}
 
 -- the machine's shape
 abbrev pub shape_of : Shape → m.Shape
@@ -45,9 +45,9 @@ AreKnown (s.Sign x ∷ rest) = (is_apart x ≡ false) × AreKnown rest
 AreKnown (s.Name ∷ rest) = AreKnown rest
 AreKnown (s.Number ∷ rest) = AreKnown rest
 AreKnown (s.Maker ∷ rest) = AreKnown rest
-AreKnown (s.Offset ∷ rest) = rest ≡ ended
+AreKnown (s.Offset ∷ rest) = rest ≡ then_semicolon
 
-known_ended : (rest : List Shape) → rest ≡ ended → AreKnown rest
+known_ended : (rest : List Shape) → rest ≡ then_semicolon → AreKnown rest
 known_ended rest e = subst AreKnown (sym e) (refl, tt)
 
 known_behind : (t : Token) → AreKnown (shapes_behind t)
@@ -71,7 +71,7 @@ known_behind (word k.Advance) = tt
 known_behind (word k.Resume) = tt
 known_behind (word k.Drop) = tt
 
-known_offset : (b : Bool) (rest : List Shape) → rest ≡ ended → AreKnown (cond b (s.Number ∷ s.Sign CloseParen ∷ ended) rest)
+known_offset : (b : Bool) (rest : List Shape) → rest ≡ then_semicolon → AreKnown (cond b (s.Number ∷ s.Sign CloseParen ∷ then_semicolon) rest)
 known_offset true rest e = (refl, (refl, tt))
 known_offset false rest e = known_ended rest e
 
@@ -119,7 +119,7 @@ first_after d (word k.Advance) ss e h = absurd cc
 first_after d (word k.Resume) ss e h = absurd cc
 first_after d (word k.Drop) ss e h = absurd cc
 
-then_offset : (t : Token) (rest : List Shape) → rest ≡ ended → then an_offset t (shapes_of rest) ≡ shapes_of (shapes_on s.Offset rest t)
+then_offset : (t : Token) (rest : List Shape) → rest ≡ then_semicolon → then an_offset t (shapes_of rest) ≡ shapes_of (shapes_on s.Offset rest t)
 then_offset (sign Plus) rest e = ap (λ x. a_number ∷ a_sign CloseParen ∷ shapes_of x) e
 then_offset (sign Minus) rest e = ap (λ x. a_number ∷ a_sign CloseParen ∷ shapes_of x) e
 then_offset (sign Equals) rest e = refl
@@ -153,7 +153,7 @@ after_is (x ∷ rest) d t ss e k h =
 
 -- ---- what is wanted is what the machine takes
 
-same_number : (x : Sign) → r.sign_number x ≡ own.sign_number x
+same_number : (x : Sign) → r.sign_number x ≡ own.sign_key x
 same_number Equals = refl
 same_number OpenParen = refl
 same_number CloseParen = refl
@@ -169,7 +169,7 @@ taken true st = refl
 taken false st = refl
 
 fits_sign : (x : Sign) (t : Token) → fits (a_sign x) t ≡ is_sign x t
-fits_sign x (sign y) = ap (λ n. n == r.sign_number x) (same_number y) ∙ ap (λ n. own.sign_number y == n) (same_number x)
+fits_sign x (sign y) = ap (λ n. n == r.sign_number x) (same_number y) ∙ ap (λ n. own.sign_key y == n) (same_number x)
 fits_sign x the_end = refl
 fits_sign x (word y) = refl
 fits_sign x (name y) = refl
@@ -239,7 +239,7 @@ fits_offset false (sign Plus) of = absurd of
 fits_offset false (sign Minus) of = absurd of
 
 -- at the front of a statement
-begun_word : (d : ℕ) (x : Keyword) → is_some (begun_at d (word_firsts x)) ≡ begins_statement x
+begun_word : (d : ℕ) (x : Keyword) → is_some (begun_at d (word_firsts x)) ≡ is_statement_keyword x
 begun_word d k.NewTid = refl
 begun_word d k.NewPhaser = refl
 begun_word d k.Fork = refl
@@ -286,7 +286,7 @@ first_inside d (sign OpenBrace) = refl
 first_inside d (sign CloseBrace) = refl
 first_inside d (sign Plus) = refl
 first_inside d (sign Minus) = refl
-first_inside d (word x) = begun_word (suc d) x ∙ or_false (begins_statement x)
+first_inside d (word x) = begun_word (suc d) x ∙ or_false (is_statement_keyword x)
 first_inside d (name x) = refl
 first_inside d (number n) = refl
 

@@ -15,8 +15,8 @@ use Rattle.refusals.specs.declared.shape.Shape.{Shape}
 use Rattle.refusals.specs.declared.shape.Shape.TheVariants as s
 use Rattle.refusals.specs.declared.stand.Behind.{Behind}
 use Rattle.refusals.specs.declared.stand.Behind.TheVariants.{Other}
-use Rattle.refusals.specs.Stands.{StandsBehind, first_name, name_behind}
-use Rattle.refusals.specs.inside.OpenBraces.{AreOpen, braces_after, first_of}
+use Rattle.refusals.specs.Stands.{StandsBehind, first_as_name, last_as_name}
+use Rattle.refusals.specs.inside.OpenBraces.{AreOpenBraces, braces_after, first_brace}
 use Rattle.refusals.specs.inside.Shapes.{shapes_after, wanted_by}
 use Rattle.refusals.proofs.Places.{NoEnd}
 use Rattle.refusals.proofs.Braces.{innermost, none_open, open_less, open_more, open_on, popped, some_open}
@@ -80,8 +80,8 @@ pub record Walked (text : List ℕ) (two : Bool) (left : List ℕ) (done todo : 
   pub depth : ℕ
   pub runs : run firsts (at [] 0) done ≡ Some (at (shapes_of shapes) depth)
   pub known : AreKnown shapes
-  pub open_ : AreOpen text two done (reverse braces)
-  pub behind_is : behind ≡ name_behind done
+  pub open_ : AreOpenBraces text two done (reverse braces)
+  pub behind_is : behind ≡ last_as_name done
   pub whole : Runs (done ++ todo)
 
 -- at the beginning
@@ -98,20 +98,15 @@ walked_none text two body left before header goes whole = record {
   whole = whole;
 }
 
-abbrev is_brace : Token → Bool
-is_brace (sign OpenBrace) = true
-is_brace (sign CloseBrace) = true
-is_brace t = false
-
-first_name_is : (t : Token) (ts : List Token) → first_name (t ∷ []) ≡ first_name (t ∷ ts)
+first_name_is : (t : Token) (ts : List Token) → first_as_name (t ∷ []) ≡ first_as_name (t ∷ ts)
 first_name_is the_end ts = refl
 first_name_is (sign x) ts = refl
 first_name_is (word x) ts = refl
 first_name_is (name x) ts = refl
 first_name_is (number x) ts = refl
 
-name_more : (ts : List Token) (t : Token) → first_name (t ∷ []) ≡ name_behind (ts ++ t ∷ [])
-name_more ts t = first_name_is t (reverse ts) ∙ ap first_name (sym (reverse-append ts (t ∷ [])))
+name_more : (ts : List Token) (t : Token) → first_as_name (t ∷ []) ≡ last_as_name (ts ++ t ∷ [])
+name_more ts t = first_name_is t (reverse ts) ∙ ap first_as_name (sym (reverse-append ts (t ∷ [])))
 
 zero_close : (shapes : List Shape) (us : List m.Shape) (n : ℕ) → AreKnown shapes → step firsts (at (shapes_of shapes) zero) (sign CloseBrace) ≡ Some (at us n) → ⊥
 zero_close [] us n k e = cc
@@ -135,21 +130,21 @@ widen true ts b = b
 widen false ts b = inl b
 
 module _ (text : List ℕ) (two : Bool) where
-  close_open : (done : List Token) (braces : List ℕ) (open_ : List ℕ) → open_ ≡ reverse braces → AreOpen text two done open_ → (open_after 0 done ≡ 0 → ⊥) →
-      AreOpen text two (done ++ sign CloseBrace ∷ []) (reverse (braces_after (sign CloseBrace) 0 braces))
+  close_open : (done : List Token) (braces : List ℕ) (open_ : List ℕ) → open_ ≡ reverse braces → AreOpenBraces text two done open_ → (open_after 0 done ≡ 0 → ⊥) →
+      AreOpenBraces text two (done ++ sign CloseBrace ∷ []) (reverse (braces_after (sign CloseBrace) 0 braces))
   close_open done braces [] e a some = absurd (some (none_open text two done a))
   close_open done braces (one ∷ more) e a some =
-      subst (AreOpen text two (done ++ sign CloseBrace ∷ [])) (sym (popped braces one more (sym e))) (open_less text two done one more a)
+      subst (AreOpenBraces text two (done ++ sign CloseBrace ∷ [])) (sym (popped braces one more (sym e))) (open_less text two done one more a)
 
-  same_open : (done : List Token) (t : Token) (braces : List ℕ) → ((n : ℕ) → open_after n (t ∷ []) ≡ n) → AreOpen text two done (reverse braces) →
-      AreOpen text two (done ++ t ∷ []) (reverse braces)
+  same_open : (done : List Token) (t : Token) (braces : List ℕ) → ((n : ℕ) → open_after n (t ∷ []) ≡ n) → AreOpenBraces text two done (reverse braces) →
+      AreOpenBraces text two (done ++ t ∷ []) (reverse braces)
   same_open done t braces same a = open_on text two done (t ∷ []) (reverse braces) a same
 
-  open_step : (t : Token) (done : List Token) (braces rest : List ℕ) → AreOpen text two done (reverse braces) → ReadsTokens two text done rest →
+  open_step : (t : Token) (done : List Token) (braces rest : List ℕ) → AreOpenBraces text two done (reverse braces) → ReadsTokens two text done rest →
       (t ≡ sign CloseBrace → open_after 0 done ≡ 0 → ⊥) →
-      AreOpen text two (done ++ t ∷ []) (reverse (braces_after t (place (scan_of two text) rest) braces))
+      AreOpenBraces text two (done ++ t ∷ []) (reverse (braces_after t (place (scan_of two text) rest) braces))
   open_step (sign OpenBrace) done braces rest a r some =
-      subst (AreOpen text two (done ++ sign OpenBrace ∷ [])) (sym (reverse-append braces (place (scan_of two text) rest ∷ []))) (open_more text two done (reverse braces) rest a r)
+      subst (AreOpenBraces text two (done ++ sign OpenBrace ∷ [])) (sym (reverse-append braces (place (scan_of two text) rest ∷ []))) (open_more text two done (reverse braces) rest a r)
   open_step (sign CloseBrace) done braces rest a r some = close_open done braces (reverse braces) refl a (some refl)
   open_step (sign Equals) done braces rest a r some = same_open done _ braces (λ n. refl) a
   open_step (sign OpenParen) done braces rest a r some = same_open done _ braces (λ n. refl) a
@@ -166,7 +161,7 @@ module _ (text : List ℕ) (two : Bool) where
   -- one token more
   pub walked_more : (left : List ℕ) (done : List Token) (t : Token) (todo : List Token) (rest : List ℕ) (shapes : List Shape) (braces : List ℕ) (behind : Behind) (u : Token) (after : List ℕ) →
       Walked text two left done (t ∷ todo) rest shapes braces behind → front (scan_of two text) rest ≡ Ok (u, after) →
-      Walked text two left (done ++ u ∷ []) todo after (shapes_after shapes u) (braces_after u (place (scan_of two text) rest) braces) (first_name (u ∷ []))
+      Walked text two left (done ++ u ∷ []) todo after (shapes_after shapes u) (braces_after u (place (scan_of two text) rest) braces) (first_as_name (u ∷ []))
   walked_more left done t todo rest shapes braces behind u after w here =
       let same = ok_pair (t, w.goes.0) (u, after) (sym w.goes.1 ∙ here) in
       let (ss, d, whole) = w.whole in
@@ -213,7 +208,7 @@ module _ (text : List ℕ) (two : Bool) where
       back (Some st) is e = begins_if (done ++ t ∷ []) st (one ∙ ap (λ o. go o (λ n. run firsts n [])) is)
 
   -- whether a brace is open
-  open_number : (done : List Token) (braces : List ℕ) (d : ℕ) → AreOpen text two done braces → open_after 0 done ≡ d → is_some (first_of braces) ≡ is_some_number d
+  open_number : (done : List Token) (braces : List ℕ) (d : ℕ) → AreOpenBraces text two done braces → open_after 0 done ≡ d → is_some (first_brace braces) ≡ is_some_number d
   open_number done [] zero a e = refl
   open_number done [] (suc d) a e = absurd (let p = none_open text two done a in omega arith)
   open_number done (one ∷ more) zero a e = absurd (let p = some_open text two done one more a in omega arith)
@@ -223,17 +218,17 @@ module _ (text : List ℕ) (two : Bool) where
   pub stands : (left : List ℕ) (done : List Token) (rest : List ℕ) (shapes : List Shape) (braces : List ℕ) (behind : Behind) → Walked text two left done [] rest shapes braces behind →
       ((t : Token) → Begins two (done ++ t ∷ []) → Begins true (done ++ t ∷ [])) →
       StandsBehind text two done
-      (record { wanted = wanted_by two shapes (is_some (first_of (reverse braces))); behind = behind; brace = first_of (reverse braces) })
+      (record { wanted = wanted_by two shapes (is_some (first_brace (reverse braces))); behind = behind; brace = first_brace (reverse braces) })
   stands left done rest shapes braces behind w only =
       let deep : open_after 0 done ≡ w.depth = depth_is firsts done [] 0 (shapes_of shapes) w.depth w.runs in
       let number = open_number done (reverse braces) w.depth w.open_ deep in
       record {
         wanted = λ t.
             let steps = begun_steps done (shapes_of shapes) w.depth t w.runs in (
-              λ (b, of). sym (step_wanted two shapes w.depth (is_some (first_of (reverse braces))) t of number) ∙ steps.0 (only t b),
+              λ (b, of). sym (step_wanted two shapes w.depth (is_some (first_brace (reverse braces))) t of number) ∙ steps.0 (only t b),
               λ e.
-                  let of = token_of two shapes (is_some (first_of (reverse braces))) t w.known e in
-                  (widen two (done ++ t ∷ []) (steps.1 (step_wanted two shapes w.depth (is_some (first_of (reverse braces))) t of number ∙ e)), of),
+                  let of = token_of two shapes (is_some (first_brace (reverse braces))) t w.known e in
+                  (widen two (done ++ t ∷ []) (steps.1 (step_wanted two shapes w.depth (is_some (first_brace (reverse braces))) t of number ∙ e)), of),
             );
         behind = w.behind_is;
         brace = innermost text two done (reverse braces) w.open_;

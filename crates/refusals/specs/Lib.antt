@@ -7,7 +7,7 @@ pub mod SyntaxSentences
 pub mod Hints
 pub mod SyntaxRefusals
 pub mod LengthRefusals
--- What is proved of it.
-pub mod Laws
 -- How the program does it: private contracts alone cite these.
 pub mod inside
+-- Words of contracts further down, which no promise of a program needs.
+pub mod calls

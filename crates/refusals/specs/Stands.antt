@@ -20,17 +20,17 @@ abbrev pub kind_of_name : List ℕ → Behind
 kind_of_name x = if list_any (bytes_eq x) clock_words then ClockWord else (if bytes_eq x (codes "pl") then Header else Other)
 
 -- what the first of these tokens is as a name
-abbrev pub first_name : List Token → Behind
-first_name (name x ∷ ts) = kind_of_name x
-first_name ts = Other
+abbrev pub first_as_name : List Token → Behind
+first_as_name (name x ∷ ts) = kind_of_name x
+first_as_name ts = Other
 
 -- what the last of these tokens is as a name
-abbrev pub name_behind : List Token → Behind
-name_behind ts = first_name (reverse ts)
+abbrev pub last_as_name : List Token → Behind
+last_as_name ts = first_as_name (reverse ts)
 
 -- these tokens close each brace that they open, and no other one: behind them as many are open as before, however many
-abbrev pub IsClosed : List Token → Type 0
-IsClosed ts = (n : ℕ) → open_after n ts ≡ n
+abbrev pub IsBalanced : List Token → Type 0
+IsBalanced ts = (n : ℕ) → open_after n ts ≡ n
 
 -- byte `at` of the text is an open brace, which these tokens close no more
 pub record IsInnermost (text : List ℕ) (two : Bool) (before : List Token) (at : ℕ) : Type 0 where
@@ -38,19 +38,19 @@ pub record IsInnermost (text : List ℕ) (two : Bool) (before : List Token) (at 
   pub inner : List Token
   pub left : List ℕ
   pub splits : before ≡ ahead ++ sign OpenBrace ∷ inner
-  pub closed : IsClosed inner
+  pub closed : IsBalanced inner
   pub reads : ReadsTokens two text ahead left
   pub at_is : at ≡ place (scan_of two text) left
 
 -- the innermost brace that is open behind these tokens, if one is open
 abbrev pub HasBrace : List ℕ → Bool → List Token → Option ℕ → Type 0
-HasBrace text two before None = IsClosed before
+HasBrace text two before None = IsBalanced before
 HasBrace text two before (Some at) = IsInnermost text two before at
 
 -- what the grammar says of the place behind these tokens
 pub record StandsBehind (text : List ℕ) (two : Bool) (before : List Token) (stand : Stand) : Type 0 where
   pub wanted : IsWanted two before stand.wanted
-  pub behind : stand.behind ≡ name_behind before
+  pub behind : stand.behind ≡ last_as_name before
   pub brace : HasBrace text two before stand.brace
 
 -- what the grammar says of the place of the first fault of a text

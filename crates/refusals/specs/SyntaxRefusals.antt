@@ -22,8 +22,8 @@ first_line text file place fault rest wanted =
     line (front_words text file place ++ codes ": " ++ syntax_sentence fault.kind rest wanted ++ syntax_numbers fault)
 
 -- the same, where the grammar says this of the place
-abbrev pub syntax_line : Option (List ℕ) → List ℕ → SyntaxFault → Stand → List ℕ
-syntax_line file text fault stand = first_line text file (text_place text fault.at) fault (drop fault.at text) stand.wanted
+abbrev pub syntax_fault_line : Option (List ℕ) → List ℕ → SyntaxFault → Stand → List ℕ
+syntax_fault_line file text fault stand = first_line text file (text_place text fault.at) fault (drop fault.at text) stand.wanted
 
 -- the note on the innermost open brace, where the text has ended
 abbrev pub brace_note : List ℕ → List ℕ → Option ℕ → List ℕ
@@ -43,7 +43,7 @@ syntax_notes text fault stand =
 -- all lines, where the grammar says this of the fault's place
 abbrev pub syntax_lines : Option (List ℕ) → List ℕ → SyntaxFault → Stand → List ℕ
 syntax_lines file text fault stand =
-    syntax_line file text fault stand ++ caret_lines text fault.at ++ syntax_notes text fault stand
+    syntax_fault_line file text fault stand ++ caret_lines text fault.at ++ syntax_notes text fault stand
 
 -- the lines of a text, of a file or not, that is refused for its first syntax fault
 pub record IsSyntaxRefusal (file : Option (List ℕ)) (text : List ℕ) (fault : SyntaxFault) (lines : List ℕ) : Type 0 where

@@ -10,37 +10,37 @@ use Rattle.refusals.specs.declared.wanted.Wanted.{Wanted}
 use Rattle.refusals.specs.declared.wanted.Wanted.TheVariants as w
 
 -- a statement begins with this keyword
-abbrev pub begins_statement : Keyword → Bool
-begins_statement k.Fork = true
-begins_statement k.Reg = true
-begins_statement k.Dereg = true
-begins_statement k.Adv = true
-begins_statement k.Await = true
-begins_statement k.Loop = true
-begins_statement k.Skip = true
-begins_statement _ = false
+abbrev pub is_statement_keyword : Keyword → Bool
+is_statement_keyword k.Fork = true
+is_statement_keyword k.Reg = true
+is_statement_keyword k.Dereg = true
+is_statement_keyword k.Adv = true
+is_statement_keyword k.Await = true
+is_statement_keyword k.Loop = true
+is_statement_keyword k.Skip = true
+is_statement_keyword _ = false
 
 -- a statement begins with this token
 abbrev pub is_first : Token → Bool
 is_first (name x) = true
-is_first (word keyword) = begins_statement keyword
+is_first (word keyword) = is_statement_keyword keyword
 is_first _ = false
 
 -- a number for each sign
-abbrev pub sign_number : Sign → ℕ
-sign_number s.Equals = 0
-sign_number s.OpenParen = 1
-sign_number s.CloseParen = 2
-sign_number s.Comma = 3
-sign_number s.Semicolon = 4
-sign_number s.OpenBrace = 5
-sign_number s.CloseBrace = 6
-sign_number s.Plus = 7
-sign_number s.Minus = 8
+abbrev pub sign_key : Sign → ℕ
+sign_key s.Equals = 0
+sign_key s.OpenParen = 1
+sign_key s.CloseParen = 2
+sign_key s.Comma = 3
+sign_key s.Semicolon = 4
+sign_key s.OpenBrace = 5
+sign_key s.CloseBrace = 6
+sign_key s.Plus = 7
+sign_key s.Minus = 8
 
 -- the token is this sign
 abbrev pub is_sign : Sign → Token → Bool
-is_sign s (sign found) = sign_number found == sign_number s
+is_sign s (sign found) = sign_key found == sign_key s
 is_sign s _ = false
 
 -- the token is one of those that are wanted

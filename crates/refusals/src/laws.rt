@@ -1,5 +1,5 @@
 // Laws of refusals.
-ghost use Rattle.refusals.specs.Laws.{HasOneStand, HasOneSyntaxRefusal, HasSyntaxRefusal};
+ghost use Rattle.refusals.specs.calls.Laws.{HasOneStand, HasOneSyntaxRefusal, HasSyntaxRefusal};
 
 /// Of the place of a first fault the grammar says one thing only: which tokens may stand there, which name stands before it, and which brace is open.
 pub fn fault_has_one_stand()

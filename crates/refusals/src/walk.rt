@@ -5,10 +5,10 @@ ghost use Rattle.pl_syntax.specs.Tokens.{Token as TokenValue, Leads, front, sign
 ghost use Rattle.pl_syntax.specs.inside.Reading.{is_pl, is_two};
 ghost use Rattle.pl_syntax.specs.inside.Seen.{token_of};
 ghost use Rattle.pl_syntax.specs.declared.token.Sign.TheVariants.{Semicolon};
-ghost use Rattle.refusals.specs.Stands.{IsStand, StandsBehind, first_name};
-ghost use Rattle.refusals.specs.inside.OpenBraces.{braces_after, first_of};
+ghost use Rattle.refusals.specs.Stands.{IsStand, StandsBehind, first_as_name};
+ghost use Rattle.refusals.specs.inside.OpenBraces.{braces_after, first_brace};
 ghost use Rattle.refusals.specs.inside.Shapes.{wanted_by};
-ghost use Rattle.refusals.specs.inside.Walking.{ComesTo, IsOutside};
+ghost use Rattle.refusals.specs.inside.Walking.{WalkComesTo, IsOutside};
 
 use crate::shape::{Shape, shapes_after};
 use crate::stand::{Behind, Stand};
@@ -36,7 +36,7 @@ fn token_at(scan: Scan, text: &[u8]) -> (Token, &[u8])
 
 // Which name this token is.
 fn behind_of(token: &Token) -> Behind
-    ensures { result ≡ first_name (token_of token.now ∷ []) }
+    ensures { result ≡ first_as_name (token_of token.now ∷ []) }
 {
     match token {
         Token::Name(b"clock" | b"async" | b"finish" | b"advance" | b"resume" | b"drop") => {
@@ -63,7 +63,7 @@ fn note_brace(braces: &mut Vec<u32>, token: &Token, offset: u32) -> Result<(), N
 
 // The innermost of these open braces.
 fn innermost(braces: &Vec<u32>) -> Option<u32>
-    ensures { result ≡ first_of (reverse braces.now.items) }
+    ensures { result ≡ first_brace (reverse braces.now.items) }
 {
     braces.last().copied()
 }
@@ -106,8 +106,8 @@ fn stand_behind(
     requires short { length text.now < 2 ^ 32 }
     requires within { length body.now ≤ length text.now }
     requires header { ReadsTokens two text.now [] body.now }
-    requires comes { (before : Seq TokenValue) × ComesTo text.now two body.now at before }
-    ensures stands { IfOk result (λ s. (before : Seq TokenValue) → ComesTo text.now two body.now at before → StandsBehind text.now two before s) }
+    requires comes { (before : Seq TokenValue) × WalkComesTo text.now two body.now at before }
+    ensures stands { IfOk result (λ s. (before : Seq TokenValue) → WalkComesTo text.now two body.now at before → StandsBehind text.now two before s) }
 {
     let scan = scan_of(two, text);
     let mut rest = body;

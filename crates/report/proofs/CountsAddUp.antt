@@ -2,7 +2,8 @@
 use Rattle.std.proofs.Common.{◌≡◌, ◌+◌, Bool, cond, List, [], ◌∷◌, refl, arith}
 use Rattle.std.specs.Prelude.{count_by}
 use Rattle.std.proofs.lemmas.List.Sums.{sum_by-cons}
-use Rattle.report.specs.Counts.{is_done, is_dead, is_held, is_refused, is_unforked, CountsAddUp}
+use Rattle.report.specs.Counts.{is_done, is_dead, is_held, is_refused, is_unforked}
+use Rattle.report.specs.calls.Counts.{CountsAddUp}
 use Rattle.report.specs.declared.standing.Standing.{Standing}
 use Rattle.report.specs.declared.standing.Standing.TheVariants.{Done, Dead, Held, Refused, Unforked}
 

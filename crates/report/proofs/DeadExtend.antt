@@ -10,7 +10,8 @@ use Rattle.armus_base.specs.declared.status.Status.{Status}
 use Rattle.armus_base.specs.Deadlocks.{IsDeadBy, IsListedOn}
 use Rattle.armus_base.proofs.Below.{contains_at}
 use Rattle.armus_base.proofs.Elements.{nothing_in_nil, Contains-cons_cases, Contains-head, Contains-tail}
-use Rattle.report.specs.NamedDead.{AreSomeDead, SomeDeadExtend}
+use Rattle.report.specs.NamedDead.{AreSomeDead}
+use Rattle.report.specs.calls.NamedDead.{SomeDeadExtend}
 use Rattle.report.proofs.CycleExists.{told_task}
 use Rattle.adaptive.proofs.Deciding.{told_some}
 use Rattle.adaptive.proofs.DeadOrNot.{dead_list_exists}

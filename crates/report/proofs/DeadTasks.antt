@@ -11,7 +11,7 @@ use Rattle.report.specs.Lines.{cycle_line}
 use Rattle.report.specs.Reports.{IsLeastDead, IsSomeDead}
 use Rattle.report.specs.inside.Appending.{AppendsCycle}
 use Rattle.report.specs.inside.Merging.{IsIn}
-use Rattle.verdict.specs.Cycles.{IsCycleOf}
+use Rattle.verdict.specs.calls.Cycles.{IsCycleOf}
 use Rattle.verdict.specs.declared.found.Cycle.{Cycle}
 
 -- the task with this number

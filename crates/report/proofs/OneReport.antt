@@ -11,7 +11,8 @@ use Rattle.report.specs.Counts.{counts_of}
 use Rattle.adaptive.specs.Choice.{IsUsed, IsEdgeCount}
 use Rattle.verdict.specs.Cycles.{IsDeadStep}
 use Rattle.report.specs.Lines.{counts_line, task_lines, cycle_line, graph_line}
-use Rattle.report.specs.Reports.{IsReportedCycle, IsCycleText, IsGraphText, OneReport}
+use Rattle.report.specs.Reports.{IsReportedCycle, IsCycleText, IsGraphText}
+use Rattle.report.specs.calls.Reports.{OneReport}
 use Rattle.report.specs.Standings.{Stands, AreStandings}
 use Rattle.adaptive.specs.declared.analysis.Used.{Used}
 use Rattle.adaptive.specs.declared.analysis.Used.TheVariants.{Wfg, Sg, Grg}

@@ -22,7 +22,8 @@ use Rattle.adaptive.specs.declared.analysis.Wanted.{Wanted}
 use Rattle.adaptive.specs.declared.analysis.Wanted.TheVariants.{Auto, Wfg as WantWfg, Sg as WantSg, Grg as WantGrg}
 use Rattle.report.specs.Counts.{counts_of}
 use Rattle.report.specs.Lines.{counts_line, task_lines, graph_line}
-use Rattle.report.specs.Reports.{IsGraphText, ReportExists}
+use Rattle.report.specs.Reports.{IsGraphText}
+use Rattle.report.specs.calls.Reports.{ReportExists}
 use Rattle.report.specs.Standings.{Stands, AreStandings}
 use Rattle.report.specs.declared.standing.Standing.{Standing}
 use Rattle.report.specs.declared.standing.Standing.TheVariants.{Done, Dead, Held, Refused, Unforked}

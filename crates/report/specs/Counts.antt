@@ -1,5 +1,5 @@
 -- How many tasks stand in each way.
-use Rattle.std.specs.Prelude.{◌≡◌, ◌+◌, Bool, true, false, List, length, count_by}
+use Rattle.std.specs.Prelude.{Bool, true, false, List, length, count_by}
 use Rattle.report.specs.declared.counts.Counts.{Counts}
 use Rattle.report.specs.declared.standing.Standing.{Standing}
 use Rattle.report.specs.declared.standing.Standing.TheVariants.{Done, Dead, Held, Refused, Unforked}
@@ -40,7 +40,3 @@ counts_of all =
       refused = count_by is_refused all;
       unforked = count_by is_unforked all;
     }
-
--- the counts of the ways add up to the number of tasks
-abbrev pub CountsAddUp : Type 0
-CountsAddUp = (all : List Standing) → let c = counts_of all in c.done + c.dead + c.held + c.refused + c.unforked ≡ c.tasks

@@ -1,5 +1,5 @@
 -- Lists of dead tasks, each named once with its event.
-use Rattle.std.specs.Prelude.{◌≡◌, ◌≢◌, ℕ, List, ◌++◌, AllPairs, Contains}
+use Rattle.std.specs.Prelude.{◌≡◌, ◌≢◌, ℕ, List, AllPairs, Contains}
 use Rattle.armus_base.specs.declared.status.Dead.{Dead}
 use Rattle.armus_base.specs.declared.status.Status.{Status}
 use Rattle.armus_base.specs.Deadlocks.{IsDeadBy, IsListedOn}
@@ -13,7 +13,3 @@ pub record AreSomeDead (blocked : List Status) (named : List Dead) : Type 0 wher
 pub record AreTheDead (blocked : List Status) (named : List Dead) : Type 0 where
   pub some : AreSomeDead blocked named
   pub all : (t : ℕ) → IsDeadBy blocked t → (d : Dead) × Contains named d × (d.t.0 ≡ t)
-
--- some dead tasks are the first of a list of all
-abbrev pub SomeDeadExtend : Type 0
-SomeDeadExtend = (blocked : List Status) (named : List Dead) → AreSomeDead blocked named → (more : List Dead) × AreTheDead blocked (named ++ more)

@@ -47,11 +47,3 @@ pub record IsReport (end : Final) (wanted : Wanted) (text : List ℕ) : Type 0 w
   pub cycle : IsCycleText end.blocked cycle_text
   pub graph : IsGraphText end.blocked wanted graph_text
   pub lines : text ≡ counts_line (counts_of standings) ++ task_lines standings ++ cycle_text ++ graph_text
-
--- there is one report of a final state only
-abbrev pub OneReport : Type 0
-OneReport = (end : Final) (wanted : Wanted) (a b : List ℕ) → IsReport end wanted a → IsReport end wanted b → a ≡ b
-
--- and there is one, of every final state, whatever graph is wanted
-abbrev pub ReportExists : Type 0
-ReportExists = (end : Final) (wanted : Wanted) → (text : List ℕ) × IsReport end wanted text

@@ -1,7 +1,7 @@
 // What is true of reports, as contracts of functions with an empty body.
-ghost use Rattle.report.specs.Reports.{OneReport, ReportExists};
-ghost use Rattle.report.specs.Counts.{CountsAddUp};
-ghost use Rattle.report.specs.NamedDead.{SomeDeadExtend};
+ghost use Rattle.report.specs.calls.Reports.{OneReport, ReportExists};
+ghost use Rattle.report.specs.calls.Counts.{CountsAddUp};
+ghost use Rattle.report.specs.calls.NamedDead.{SomeDeadExtend};
 
 /// A final state has one report only.
 pub fn one_report()

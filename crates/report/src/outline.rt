@@ -1,7 +1,7 @@
 // The outline of a final state: what a report says of it without its tasks' lines and its graph.
 ghost use Rattle.std.specs.Prelude.{IfOk};
-ghost use Rattle.armus_base.specs.Statuses.{IsInOrder};
-ghost use Rattle.report.specs.Outlines.{IsOutline};
+ghost use Rattle.armus_base.specs.calls.Statuses.{IsInOrder};
+ghost use Rattle.report.specs.calls.Outlines.{IsOutline};
 
 use crate::counts::counts_of;
 use crate::lines::put_counts;

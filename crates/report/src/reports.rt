@@ -1,7 +1,7 @@
 // The report of a final state.
 ghost use Rattle.std.specs.Prelude.{◌≡◌, ◌++◌, ◌↔◌, List, ℕ, IfOk, OnOk, IsTrue};
 ghost use Rattle.armus_base.specs.DeadLists.{IsDeadList};
-ghost use Rattle.armus_base.specs.Statuses.{IsInOrder};
+ghost use Rattle.armus_base.specs.calls.Statuses.{IsInOrder};
 ghost use Rattle.report.specs.Reports.{IsReport, IsSomeDead};
 ghost use Rattle.report.specs.inside.Appending.{AppendsCycle};
 

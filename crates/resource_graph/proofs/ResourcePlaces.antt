@@ -2,20 +2,21 @@
 use Rattle.std.proofs.Common.{◌≡◌, ℕ, ◌+◌, ◌<◌, Bool, List, length, refl, sym, ap, ◌∙◌, subst, inl, inr, arith, get_or}
 use Rattle.std.specs.Prelude.{Contains, ◌↔◌}
 use Rattle.armus_base.specs.Counts.{IsCount}
-use Rattle.armus_base.specs.Relations.{IsInClosedSet}
-use Rattle.digraph.specs.Graph.{HasEdge, TellsCycles}
+use Rattle.armus_base.specs.calls.Relations.{IsInClosedSet}
+use Rattle.digraph.specs.calls.Graph.{HasEdge, TellsCycles}
 use Rattle.armus_base.proofs.Counts.{count_along}
 use Rattle.armus_base.specs.declared.ids.TaskId.{TaskId}
 use Rattle.armus_base.specs.declared.event.Event.{Event}
 use Rattle.armus_base.specs.declared.status.Status.{Status}
-use Rattle.armus_base.specs.Statuses.{Impedes, IsAwaited, IsInOrder}
+use Rattle.armus_base.specs.Statuses.{Impedes, IsAwaited}
+use Rattle.armus_base.specs.calls.Statuses.{IsInOrder}
 use Rattle.dep_state.proofs.DeadSets.{IsDead}
 use Rattle.armus_base.specs.Graphs.{Resource, task, event, ResourceEdge}
 use Rattle.dep_state.proofs.DeadSets.{one_status, dead_to_resource, resource_to_dead}
 use Rattle.dep_state.proofs.Transfer.{transfer}
-use Rattle.dep_state.specs.Deps.{Deps, IsDepsOf, impeders_of}
-use Rattle.resource_graph.specs.ResourceEdges.{ResourceEdges, IsResourceGraphOf}
-use Rattle.dep_state.specs.Picks.{IsPick}
+use Rattle.dep_state.specs.calls.Deps.{Deps, IsDepsOf, impeders_of}
+use Rattle.resource_graph.specs.calls.ResourceEdges.{ResourceEdges, IsResourceGraphOf}
+use Rattle.dep_state.specs.calls.Picks.{IsPick}
 use Rattle.armus_base.specs.DeadLists.{IsDeadList}
 use Rattle.dep_state.proofs.TaskPlaces.{element, StandsAt, impeder_inside, one_task, one_place}
 use Rattle.dep_state.proofs.EventPlaces.{EventAt, one_event, one_event_place, awaited_at, impeded_at}

@@ -3,11 +3,11 @@ ghost use Rattle.std.specs.Prelude.{◌≡◌, ◌↔◌, ◌+◌, ◌<◌, ℕ,
 ghost use Rattle.armus_base.specs.Counts.{IsCount};
 ghost use Rattle.armus_base.specs.DeadLists.{IsDeadList};
 ghost use Rattle.armus_base.specs.Graphs.{Resource, ResourceEdge};
-ghost use Rattle.armus_base.specs.Statuses.{IsInOrder};
+ghost use Rattle.armus_base.specs.calls.Statuses.{IsInOrder};
 ghost use Rattle.armus_base.specs.declared.status.Status.{Status};
-ghost use Rattle.digraph.specs.Graph.{HasEdge};
-ghost use Rattle.dep_state.specs.Deps.{Deps, IsDepsOf};
-ghost use Rattle.resource_graph.specs.ResourceEdges.{IsResourcePair, IsResourceGraphOf};
+ghost use Rattle.digraph.specs.calls.Graph.{HasEdge};
+ghost use Rattle.dep_state.specs.calls.Deps.{Deps, IsDepsOf};
+ghost use Rattle.resource_graph.specs.calls.ResourceEdges.{IsResourcePair, IsResourceGraphOf};
 
 use armus_base::{List, NoMemory, TaskId};
 use dep_state::{DepState, picked};
@@ -25,7 +25,7 @@ pub struct ResourceGraph {
 
 impl Model for ResourceGraph {
     ghost use Rattle.std.specs.Prelude.{◌≤◌, length};
-    ghost use Rattle.resource_graph.specs.ResourceEdges.{ResourceEdges};
+    ghost use Rattle.resource_graph.specs.calls.ResourceEdges.{ResourceEdges};
 
     ghost Value = { ResourceEdges };
 

@@ -1,7 +1,7 @@
 // Steps of two workers of a pool, one after the other, and what each of them finds.
 ghost use Rattle.std.specs.Prelude.{◌≡◌, ◌<◌, [], ◌∷◌, map};
 ghost use Rattle.std.specs.Option.{option_to_list};
-ghost use Rattle.slot_pool.specs.Hands.{IsOfPool, IsSameWorker};
+ghost use Rattle.slot_pool.specs.calls.PoolValues.{IsOfPool, IsSameWorker};
 
 use crate::texts::{first_word, number};
 use armus_base::{List, TaskId};
@@ -43,23 +43,23 @@ enum Found {
 
 // A worker, and the record that it has.
 #[derive(Drop)]
-struct Hand {
+struct TokenWorker {
     worker: Worker<Token>,
     held: Option<Token>,
     ghost has: { worker.view.has ≡ map (λ t. t.task.0) (option_to_list held) },
 }
 
-fn claim(pool: &Pool<Token>, hand: &mut Hand, task: TaskId) -> Found
-    requires made { IsOfPool hand.old.worker pool.now }
+fn claim(pool: &Pool<Token>, token_worker: &mut TokenWorker, task: TaskId) -> Found
+    requires made { IsOfPool token_worker.old.worker pool.now }
     requires task { task.0 < pool.now.tasks }
-    ensures same { IsSameWorker hand.old.worker hand.new.worker }
+    ensures same { IsSameWorker token_worker.old.worker token_worker.new.worker }
 {
-    if hand.held.is_some() {
+    if token_worker.held.is_some() {
         return Found::Amiss;
     }
-    match hand.worker.claim(pool, task) {
+    match token_worker.worker.claim(pool, task) {
         Claim::Got(item) => {
-            hand.held = Some(item);
+            token_worker.held = Some(item);
             Found::Got
         }
         Claim::Held { by } => Found::Held(by),
@@ -67,25 +67,25 @@ fn claim(pool: &Pool<Token>, hand: &mut Hand, task: TaskId) -> Found
     }
 }
 
-fn put(pool: &Pool<Token>, hand: &mut Hand) -> Found
-    requires made { IsOfPool hand.old.worker pool.now }
-    ensures same { IsSameWorker hand.old.worker hand.new.worker }
+fn put(pool: &Pool<Token>, token_worker: &mut TokenWorker) -> Found
+    requires made { IsOfPool token_worker.old.worker pool.now }
+    ensures same { IsSameWorker token_worker.old.worker token_worker.new.worker }
 {
-    match hand.held.take() {
+    match token_worker.held.take() {
         Some(item) => {
-            hand.worker.put(pool, item);
+            token_worker.worker.put(pool, item);
             Found::IsPut
         }
         None => Found::Amiss,
     }
 }
 
-fn place(pool: &Pool<Token>, hand: &mut Hand, task: TaskId) -> Found
-    requires made { IsOfPool hand.old.worker pool.now }
+fn place(pool: &Pool<Token>, token_worker: &mut TokenWorker, task: TaskId) -> Found
+    requires made { IsOfPool token_worker.old.worker pool.now }
     requires task { task.0 < pool.now.tasks }
-    ensures same { IsSameWorker hand.old.worker hand.new.worker }
+    ensures same { IsSameWorker token_worker.old.worker token_worker.new.worker }
 {
-    match hand.worker.place(pool, Token { task }) {
+    match token_worker.worker.place(pool, Token { task }) {
         Ok(()) => Found::Placed,
         Err(back) if back.task == task => Found::Back,
         Err(_) => Found::Amiss,
@@ -93,15 +93,15 @@ fn place(pool: &Pool<Token>, hand: &mut Hand, task: TaskId) -> Found
 }
 
 // What the worker finds at this step.
-fn step(pool: &Pool<Token>, hand: &mut Hand, call: &str, task: TaskId) -> Found
-    requires made { IsOfPool hand.old.worker pool.now }
+fn step(pool: &Pool<Token>, token_worker: &mut TokenWorker, call: &str, task: TaskId) -> Found
+    requires made { IsOfPool token_worker.old.worker pool.now }
     requires task { task.0 < pool.now.tasks }
-    ensures same { IsSameWorker hand.old.worker hand.new.worker }
+    ensures same { IsSameWorker token_worker.old.worker token_worker.new.worker }
 {
     match call {
-        "claim" => claim(pool, hand, task),
-        "place" => place(pool, hand, task),
-        _ => put(pool, hand),
+        "claim" => claim(pool, token_worker, task),
+        "place" => place(pool, token_worker, task),
+        _ => put(pool, token_worker),
     }
 }
 
@@ -120,7 +120,13 @@ fn is_told(found: Found, wanted: &str) -> bool {
 }
 
 // Whether the step, by the first worker or by the second, finds what it is to find.
-fn is_met(pool: &Pool<Token>, tasks: u32, first: &mut Hand, second: &mut Hand, text: &str) -> bool
+fn is_met(
+    pool: &Pool<Token>,
+    tasks: u32,
+    first: &mut TokenWorker,
+    second: &mut TokenWorker,
+    text: &str,
+) -> bool
     requires first { IsOfPool first.old.worker pool.now }
     requires second { IsOfPool second.old.worker pool.now }
     requires tasks { pool.now.tasks ≡ tasks }
@@ -141,7 +147,13 @@ fn is_met(pool: &Pool<Token>, tasks: u32, first: &mut Hand, second: &mut Hand, t
 }
 
 // Whether each step in turn finds what it is to find.
-fn play(pool: &Pool<Token>, tasks: u32, first: &mut Hand, second: &mut Hand, steps: &str) -> bool
+fn play(
+    pool: &Pool<Token>,
+    tasks: u32,
+    first: &mut TokenWorker,
+    second: &mut TokenWorker,
+    steps: &str,
+) -> bool
     requires first { IsOfPool first.old.worker pool.now }
     requires second { IsOfPool second.old.worker pool.now }
     requires tasks { pool.now.tasks ≡ tasks }
@@ -157,7 +169,12 @@ fn play(pool: &Pool<Token>, tasks: u32, first: &mut Hand, second: &mut Hand, ste
 }
 
 // Closes a pool of two workers that have put what they had.
-fn close(pool: Pool<Token>, alloc: Global, first: Hand, second: Hand) -> Option<List<Option<Token>>>
+fn close(
+    pool: Pool<Token>,
+    alloc: Global,
+    first: TokenWorker,
+    second: TokenWorker,
+) -> Option<List<Option<Token>>>
     requires workers { pool.workers ≡ 2 }
     requires first { IsOfPool first.worker pool × (first.worker.view.numbers ≡ 0 ∷ []) }
     requires second { IsOfPool second.worker pool × (second.worker.view.numbers ≡ 1 ∷ []) }
@@ -165,11 +182,11 @@ fn close(pool: Pool<Token>, alloc: Global, first: Hand, second: Hand) -> Option<
     if first.held.is_some() || second.held.is_some() {
         return None;
     }
-    let Hand { worker, held: _ } = first;
+    let TokenWorker { worker, held: _ } = first;
     let Ok(mut workers) = vec![in alloc; worker] else {
         return None;
     };
-    let Hand { worker, held: _ } = second;
+    let TokenWorker { worker, held: _ } = second;
     let Ok(()) = workers.push(worker) else {
         return None;
     };
@@ -182,11 +199,11 @@ fn home(entries: &[Option<Token>]) -> usize {
 }
 
 // A worker that has nothing.
-fn idle(worker: Worker<Token>) -> Hand
+fn idle(worker: Worker<Token>) -> TokenWorker
     requires { worker.view.has ≡ [] }
     ensures { result.worker ≡ worker }
 {
-    Hand { worker, held: None }
+    TokenWorker { worker, held: None }
 }
 
 // Whether the steps in a pool of two workers and so many tasks find what they are to find, and so many records are home at the end, unless a worker has one.

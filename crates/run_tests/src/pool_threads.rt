@@ -1,6 +1,6 @@
 // Two workers side by side: a record that is got is nobody else's until it is put back.
 ghost use Rattle.std.specs.Prelude.{◌≡◌, ◌<◌, [], ◌∷◌};
-ghost use Rattle.slot_pool.specs.Hands.{IsOfPool, IsSameWorker};
+ghost use Rattle.slot_pool.specs.calls.PoolValues.{IsOfPool, IsSameWorker};
 
 use armus_base::{List, TaskId};
 use slot_pool::{Claim, Named, Pool, Worker};

@@ -1,6 +1,6 @@
 // Bytes that are the row of a site, and bytes that are none.
 ghost use Rattle.std.specs.Prelude.{◌<◌, ◌^◌, length};
-ghost use Rattle.armus_base.specs.Statuses.{IsInOrder};
+ghost use Rattle.armus_base.specs.calls.Statuses.{IsInOrder};
 
 use crate::texts::{bytes_of, first_word, number, statuses_text};
 use armus_base::NoMemory;

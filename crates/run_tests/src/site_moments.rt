@@ -1,7 +1,7 @@
 // Rows of two sites that are of different moments, and a pass over three sites. A step that is not made ends as want of memory does: its test fails.
 ghost use Rattle.std.specs.Prelude.{◌≡◌, All, IfOk, OnOk, length};
 ghost use Rattle.board.specs.declared.mode.Mode.TheVariants.{Detect};
-ghost use Rattle.board.specs.Seats.{IsOf};
+ghost use Rattle.board.specs.calls.Seats.{IsOf};
 
 use crate::plans::named_plan;
 use crate::site_desk::Desk;

@@ -1,6 +1,6 @@
 // The text of a world.
 ghost use Rattle.std.specs.Prelude.{◌≡◌, ℕ, ◌<◌, true, length};
-ghost use Rattle.pl_core.specs.Stands.{IsEnabled};
+ghost use Rattle.pl_core.specs.calls.Stands.{IsEnabled};
 
 use crate::texts::{add_event, add_number, add_task, statuses_text};
 use armus_base::{Event, Final, NoMemory, Phase, PhaserId, TaskEnd, TaskId};

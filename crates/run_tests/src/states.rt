@@ -1,7 +1,7 @@
 // States after some turns, each also as the state of its places.
 ghost use Rattle.std.specs.Prelude.{◌≡◌, ◌<◌, Some, length, slice_get};
 ghost use Rattle.armus_base.specs.Runs.{IsReachable};
-ghost use Rattle.pl_core.specs.Worlds.{places_at};
+ghost use Rattle.pl_core.specs.calls.Worlds.{places_at};
 
 use crate::plans::named_plan;
 use crate::state_texts::add_world;

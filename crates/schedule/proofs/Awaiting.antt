@@ -4,7 +4,8 @@ use Rattle.std.specs.Prelude.{All, slice_get, if◌then◌else◌, option_to_lis
 use Rattle.std.specs.List.{list_any}
 use Rattle.std.proofs.lemmas.List.Elements.{All-append}
 use Rattle.armus_base.specs.declared.event.Event.{Event}
-use Rattle.armus_base.specs.CheckedPlans.{Extends, IsCheckedPlan}
+use Rattle.armus_base.specs.calls.CheckedPlans.{Extends}
+use Rattle.armus_base.specs.CheckedPlans.{IsCheckedPlan}
 use Rattle.armus_base.specs.Finals.{given_below, is_event_of}
 use Rattle.armus_base.specs.Plans.{Plan}
 use Rattle.armus_base.specs.Runs.{IsPlainRun, state_after}
@@ -17,7 +18,7 @@ use Rattle.std.proofs.Common.{eq-eqb, get_or}
 use Rattle.armus_base.proofs.Below.{given_from}
 use Rattle.schedule.proofs.Marks.{given_more, given_same}
 use Rattle.schedule.proofs.Rows.{any_given, slice_get_last}
-use Rattle.pl_core.specs.Worlds.{WorldValue, state_of}
+use Rattle.pl_core.specs.calls.Worlds.{WorldValue, state_of}
 use Rattle.schedule.specs.inside.Following.{IsAt}
 use Rattle.schedule.proofs.Following.{state_is}
 use Rattle.schedule.proofs.PassesNameTheDead.{published_phaser}

@@ -11,8 +11,8 @@ use Rattle.armus_base.proofs.Reachable.{reachable_is_fixed}
 use Rattle.armus_base.proofs.Stepping.{places_fix}
 use Rattle.pl_core.specs.declared.stand.Stand.{Stand}
 use Rattle.pl_core.specs.declared.stand.Stand.TheVariants.{Unforked, Done, Refused, Ready, Await, Waits}
-use Rattle.pl_core.specs.Stands.{StandsSo}
-use Rattle.pl_core.specs.Worlds.{WorldValue, places_of, state_of, action_by_code}
+use Rattle.pl_core.specs.calls.Stands.{StandsSo}
+use Rattle.pl_core.specs.calls.Worlds.{WorldValue, places_of, state_of, action_by_code}
 use Rattle.schedule.specs.inside.Following.{IsAt}
 
 -- the state of a world that follows a run

@@ -18,7 +18,7 @@ use Rattle.armus_base.proofs.Members.{plain_step, other_step}
 use Rattle.armus_base.proofs.Tasks.{action_of_task, done_within_code}
 use Rattle.locked_world.specs.Journals.{journal_of}
 use Rattle.locked_world.proofs.Journals.{last_goes_on}
-use Rattle.schedule.specs.Records.{JournalFitsPlan}
+use Rattle.schedule.specs.calls.Records.{JournalFitsPlan}
 use Rattle.schedule.proofs.RecordIsRead.{steps_short}
 
 -- the sum of the first n values

@@ -8,7 +8,8 @@ use Rattle.armus_base.specs.Plans.{Action, Plan}
 use Rattle.armus_base.specs.Runs.{places, state_after}
 use Rattle.armus_base.specs.States.{Step}
 use Rattle.armus_base.proofs.Tasks.{no_action}
-use Rattle.locked_world.specs.Journals.{GoesOnWith, JournalLeadsTo, no_step, one_more as one_step, journal_of}
+use Rattle.locked_world.specs.calls.Journals.{GoesOnWith, JournalLeadsTo, no_step, one_more as one_step}
+use Rattle.locked_world.specs.Journals.{journal_of}
 use Rattle.locked_world.proofs.Journals.{each_goes_on, journal_fixes_run, journal_leads}
 use Rattle.schedule.specs.declared.lines.Line.{Line}
 use Rattle.schedule.specs.declared.lines.Line.TheVariants as line
@@ -17,7 +18,7 @@ use Rattle.schedule.specs.declared.verdict.ReplayEnd.TheVariants.{Schedule, NoMe
 use Rattle.schedule.specs.Passes.{Loads}
 use Rattle.schedule.specs.Replays.{IsFault, IsOwnNextStep, LinesLead, Progress, Takes, load_without_pass, no_line, one_more, second_pass, strange_task, stuck_task, unreadable}
 use Rattle.schedule.specs.Replaying.{AreDeadIn, AreVerdicts, no_pass, one_pass}
-use Rattle.schedule.specs.Records.{JournalReplays, step_of}
+use Rattle.schedule.specs.calls.Records.{JournalReplays, step_of}
 
 -- the lines of a journal lead to its run
 pub journal_progress :

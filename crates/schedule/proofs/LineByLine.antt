@@ -6,18 +6,18 @@ use Rattle.armus_base.specs.declared.ids.TaskId.{TaskId}
 use Rattle.armus_base.specs.declared.errors.NoMemory.{NoMemory}
 use Rattle.armus_base.specs.CheckedPlans.{IsCheckedPlan}
 use Rattle.armus_base.specs.DeadLists.{IsDeadList}
-use Rattle.armus_base.specs.Finals.{statuses_of}
+use Rattle.armus_base.specs.calls.Finals.{statuses_of}
 use Rattle.armus_base.specs.Plans.{Plan, Action, action_at}
 use Rattle.armus_base.specs.Runs.{first_place, IsPlainRun, moved, places, state_after}
 use Rattle.armus_base.specs.States.{State, Step, IsLegal}
-use Rattle.armus_base.specs.Statuses.{IsInOrder}
+use Rattle.armus_base.specs.calls.Statuses.{IsInOrder}
 use Rattle.armus_base.specs.Deadlocks.{IsDeadIn}
-use Rattle.armus_base.specs.FinalLaws.{IsOfPlan}
+use Rattle.armus_base.specs.calls.FinalLaws.{IsOfPlan}
 use Rattle.armus_base.proofs.StatusesAre.{statuses_are}
 use Rattle.pl_core.specs.declared.place.Place.{Place as KeptPlace}
-use Rattle.pl_core.specs.Moves.{IsWorldStep}
-use Rattle.pl_core.specs.Stands.{IsEnabled}
-use Rattle.pl_core.specs.Worlds.{WorldValue, IsOpeningWorld, action_by_code, place_from, places_at, places_of, state_of}
+use Rattle.pl_core.specs.calls.Moves.{IsWorldStep}
+use Rattle.pl_core.specs.calls.Stands.{IsEnabled}
+use Rattle.pl_core.specs.calls.Worlds.{WorldValue, IsOpeningWorld, action_by_code, place_from, places_at, places_of, state_of}
 use Rattle.schedule.specs.declared.lines.Line.{Line}
 use Rattle.schedule.specs.declared.lines.Line.TheVariants as line
 use Rattle.schedule.specs.declared.pass.OpenPass.{OpenPass}
@@ -31,7 +31,8 @@ use Rattle.std.proofs.lemmas.List.{take_more, drop_more, length-take-le}
 use Rattle.schedule.specs.declared.replaying.LineEnd.{LineEnd}
 use Rattle.schedule.specs.declared.replaying.LineEnd.TheVariants.{Fault, NoMemory as LineWantsMemory}
 use Rattle.schedule.specs.Replays.{LinesLead, one_more, Progress, loaded, IsOwnNextStep, Takes}
-use Rattle.schedule.specs.Replaying.{AreDeadIn, AreVerdicts, one_pass, Replays}
+use Rattle.schedule.specs.Replaying.{AreDeadIn, AreVerdicts, one_pass}
+use Rattle.schedule.specs.calls.Replaying.{Replays}
 use Rattle.schedule.specs.inside.KeptReplays.{IsOpenPass, HasOpenPass, KeepsProgress, TakesLine, end_at_line}
 use Rattle.schedule.proofs.Following.{state_is}
 use Rattle.std.proofs.lemmas.Bool.{eq-eqb, ne_eqb}

@@ -8,7 +8,7 @@ use Rattle.schedule.specs.declared.lines.Line.TheVariants.{Step, Pass, Load, Unr
 use Rattle.schedule.specs.declared.lines.TheConstants.{MOST_DIGITS}
 use Rattle.schedule.specs.Lines.{AllSay, HasNoEnd, IsCut, IsFirstLine, Says, Spells, a_line, ended, more, no_line, none, unended}
 use Rattle.schedule.specs.Split.{IsSplit, at_mark, mark, more_text, no_text}
-use Rattle.schedule.specs.Laws.{BytesHaveLines, InputIsSplit}
+use Rattle.schedule.specs.calls.Laws.{BytesHaveLines, InputIsSplit}
 use Rattle.schedule.proofs.Cuts.{front_of}
 
 -- bytes are equal, or they are not

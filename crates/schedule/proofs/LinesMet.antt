@@ -17,7 +17,7 @@ use Rattle.schedule.specs.declared.lines.Line.{Line}
 use Rattle.schedule.specs.declared.lines.Line.TheVariants as line
 use Rattle.schedule.specs.Passes.{Loads, loads_of}
 use Rattle.schedule.specs.Replays.{IsFault, IsOwnNextStep, LinesLead, Progress, Takes, at_start, load_without_pass, loaded, no_line, one_more, second_pass, strange_task, stuck_task, unreadable}
-use Rattle.schedule.specs.Laws.{IsMet, LineIsMet, LinesAreMet}
+use Rattle.schedule.specs.calls.Laws.{IsMet, LineIsMet, LinesAreMet}
 use Rattle.schedule.proofs.PassesNameTheDead.{plain_next}
 
 module _ (plan : Plan) (checked : IsCheckedPlan plan) where

@@ -3,7 +3,8 @@ use Rattle.std.proofs.Common.{◌≡◌, ◌<◌, ◌≤◌, ℕ, zero, suc, Lis
 use Rattle.std.specs.Prelude.{slice_get}
 use Rattle.armus_base.specs.Plans.{Plan}
 use Rattle.armus_base.specs.States.{Step}
-use Rattle.armus_base.specs.Runs.{ArePrefixes, IsLegalRun, places}
+use Rattle.armus_base.specs.calls.Runs.{ArePrefixes}
+use Rattle.armus_base.specs.Runs.{IsLegalRun, places}
 use Rattle.armus_base.proofs.Places.{prefixes_itself, prefixes_trans, step_later}
 use Rattle.schedule.specs.Passes.{Loads}
 

@@ -8,7 +8,7 @@ use Rattle.schedule.specs.declared.lines.Line.{Line}
 use Rattle.schedule.specs.declared.lines.Line.TheVariants as line
 use Rattle.schedule.specs.Passes.{Loads}
 use Rattle.schedule.specs.Replays.{IsFault, LinesLead, Progress, Takes, at_start, load_without_pass, loaded, no_line, one_more, second_pass, strange_task, stuck_task, unreadable}
-use Rattle.schedule.specs.Laws.{NeverBoth, OneFirstFault, OneProgress}
+use Rattle.schedule.specs.calls.Laws.{NeverBoth, OneFirstFault, OneProgress}
 
 -- ---- lists with a last line
 

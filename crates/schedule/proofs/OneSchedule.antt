@@ -6,7 +6,7 @@ use Rattle.schedule.specs.declared.lines.Line.{Line}
 use Rattle.schedule.specs.declared.lines.Line.TheVariants.{Step, Pass, Load, Unreadable}
 use Rattle.schedule.specs.Lines.{AllSay, HasNoEnd, IsCut, IsFirstLine, Says, a_line, ended, more, no_line, none, unended}
 use Rattle.schedule.specs.Split.{IsSplit, at_mark, mark, more_text, no_text}
-use Rattle.schedule.specs.Laws.{OneReading, OneSplit}
+use Rattle.schedule.specs.calls.Laws.{OneReading, OneSplit}
 
 head_is : {x y : ℕ} {xs ys : List ℕ} → x ∷ xs ≡ y ∷ ys → x ≡ y
 head_is e = cc

@@ -8,7 +8,7 @@ use Rattle.std.proofs.lemmas.List.{map-append, take_all, take_more}
 use Rattle.std.proofs.lemmas.Option.{get_or_from_slice_get}
 use Rattle.armus_base.specs.declared.ids.PhaserId.{PhaserId}
 use Rattle.armus_base.specs.declared.event.Event.{Event}
-use Rattle.armus_base.specs.CheckedPlans.{Extends}
+use Rattle.armus_base.specs.calls.CheckedPlans.{Extends}
 use Rattle.armus_base.specs.Finals.{given_below, listed_phase}
 use Rattle.armus_base.specs.Plans.{Plan}
 use Rattle.armus_base.specs.Runs.{state_after}

@@ -12,7 +12,8 @@ use Rattle.schedule.specs.Lines.{AllSay, HasNoEnd, IsCut, IsFirstLine, IsSchedul
 use Rattle.schedule.specs.Split.{IsSplit, at_mark, mark, more_text}
 use Rattle.schedule.proofs.LinesExist.{first_exists, no_end_more, no_end_nil}
 use Rattle.schedule.proofs.OneSchedule.{no_end_inside}
-use Rattle.schedule.specs.Records.{AreReadable, HasNoMark, IsClosedText, IsEnded, RecordIsRead, recorded, step_line, step_lines, step_of}
+use Rattle.schedule.specs.calls.Records.{AreReadable, HasNoMark, RecordIsRead, step_of}
+use Rattle.schedule.specs.Records.{IsClosedText, IsEnded, recorded, step_line, step_lines}
 
 own : IsNumeralModel (AllDigits 10) (digits_value 10)
 own = numerals_by_value (AllDigits 10) tells_digits

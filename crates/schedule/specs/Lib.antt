@@ -7,3 +7,5 @@ pub mod Texts
 pub mod Records
 pub mod inside
 pub mod Laws
+-- Words of contracts further down, which no promise of a program needs.
+pub mod calls

@@ -1,5 +1,5 @@
 -- What a replay answers.
-use Rattle.std.specs.Prelude.{◌≡◌, ◌<◌, ◌↔◌, List, [], ◌∷◌, ◌++◌, length, AllPairs, Contains, Result, Ok, Err}
+use Rattle.std.specs.Prelude.{◌≡◌, ◌<◌, ◌↔◌, List, [], ◌∷◌, ◌++◌, length, AllPairs, Contains}
 use Rattle.armus_base.specs.declared.ids.TaskId.{TaskId}
 use Rattle.armus_base.specs.DeadLists.{IsDeadList}
 use Rattle.armus_base.specs.Deadlocks.{IsDeadIn}
@@ -9,10 +9,8 @@ use Rattle.armus_base.specs.States.{State}
 use Rattle.schedule.specs.declared.lines.Line.{Line}
 use Rattle.schedule.specs.declared.verdict.PassVerdict.{PassVerdict}
 use Rattle.schedule.specs.declared.verdict.Replayed.{Replayed}
-use Rattle.schedule.specs.declared.verdict.ReplayEnd.{ReplayEnd}
-use Rattle.schedule.specs.declared.verdict.ReplayEnd.TheVariants.{Schedule, NoMemory}
 use Rattle.schedule.specs.Passes.{Loads, statuses_found}
-use Rattle.schedule.specs.Replays.{Progress, LinesLead, IsFirstFault}
+use Rattle.schedule.specs.Replays.{Progress, LinesLead}
 
 -- each verdict names the tasks that are dead by the statuses that its pass found
 pub data AreVerdicts (plan : Plan) : List Loads → List PassVerdict → Type 0 where
@@ -32,9 +30,3 @@ pub record IsReplayed (plan : Plan) (lines : List Line) (done : Replayed) : Type
   pub verdicts : AreVerdicts plan progress.passes done.verdicts
   pub steps : done.steps ≡ length progress.run
   pub dead : AreDeadIn (state_after progress.run) done.dead
-
--- what a replay answers: that, or the first line at fault
-abbrev pub Replays : Plan → List Line → Result Replayed ReplayEnd → Type 0
-Replays plan lines (Ok done) = IsReplayed plan lines done
-Replays plan lines (Err (Schedule f)) = IsFirstFault plan lines f.line f.kind
-Replays plan lines (Err NoMemory) = Unit {0}

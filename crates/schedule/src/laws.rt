@@ -1,6 +1,6 @@
 // The laws of replays.
-ghost use Rattle.schedule.specs.Laws.{BytesHaveLines, InputIsSplit, LineIsMet, LinesAreMet, NeverBoth, OneFirstFault, OneProgress, OneReading, OneSplit, PassesNameTheDead};
-ghost use Rattle.schedule.specs.Records.{JournalFitsPlan, JournalReplays, RecordIsRead};
+ghost use Rattle.schedule.specs.calls.Laws.{BytesHaveLines, InputIsSplit, LineIsMet, LinesAreMet, NeverBoth, OneFirstFault, OneProgress, OneReading, OneSplit, PassesNameTheDead};
+ghost use Rattle.schedule.specs.calls.Records.{JournalFitsPlan, JournalReplays, RecordIsRead};
 
 /// At any interleaving of steps and loads a pass names every task that is dead at its first load, and only tasks that are dead at its last.
 pub fn passes_name_the_dead()

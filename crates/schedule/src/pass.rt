@@ -7,7 +7,7 @@ ghost use Rattle.schedule.specs.inside.OpenPasses.{EndsRow, IsMidPass, IsPassOf,
 ghost use Rattle.armus_base.specs.CheckedPlans.{IsCheckedPlan};
 ghost use Rattle.armus_base.specs.Plans.{Plan as PlanValue};
 ghost use Rattle.schedule.specs.inside.Following.{IsAt};
-ghost use Rattle.pl_core.specs.Worlds.{state_of};
+ghost use Rattle.pl_core.specs.calls.Worlds.{state_of};
 
 use armus_base::{Event, List, Member, NoMemory, Phase, PhaserId, Plan, Status, TaskId};
 use pl_core::{Stand, World};

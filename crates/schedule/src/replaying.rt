@@ -4,12 +4,13 @@ ghost use Rattle.armus_base.specs.CheckedPlans.{IsCheckedPlan};
 ghost use Rattle.armus_base.specs.DeadLists.{IsDeadList};
 ghost use Rattle.armus_base.specs.Runs.{state_after};
 ghost use Rattle.armus_base.specs.States.{Step};
-ghost use Rattle.armus_base.specs.Statuses.{IsInOrder};
+ghost use Rattle.armus_base.specs.calls.Statuses.{IsInOrder};
 ghost use Rattle.schedule.specs.inside.Following.{IsAt};
 ghost use Rattle.schedule.specs.inside.OpenPasses.{IsPassOf};
 ghost use Rattle.schedule.specs.Passes.{Loads, loads_of};
 ghost use Rattle.schedule.specs.Replays.{Progress, at_start};
-ghost use Rattle.schedule.specs.Replaying.{AreDeadIn, Replays};
+ghost use Rattle.schedule.specs.Replaying.{AreDeadIn};
+ghost use Rattle.schedule.specs.calls.Replaying.{Replays};
 ghost use Rattle.schedule.specs.inside.KeptReplays.{HasOpenPass, KeepsProgress, TakesLine, end_at_line};
 
 use crate::Line;

@@ -6,11 +6,11 @@ use Rattle.armus_base.specs.declared.status.Status.{Status}
 use Rattle.armus_base.specs.Plans.{Plan}
 use Rattle.armus_base.specs.States.{Phases, State}
 use Rattle.armus_base.specs.Finals.{given_below, status_of}
-use Rattle.board.specs.Seats.{Known}
-use Rattle.phase_scan.specs.Collects.{FindsEvent, IfAsked, LoadsChosen, LoadsRow, LoadsRows}
+use Rattle.board.specs.calls.Seats.{Known}
+use Rattle.phase_scan.specs.calls.Collects.{FindsEvent, IfAsked, LoadsChosen, LoadsRow, LoadsRows}
 use Rattle.phase_scan.proofs.Counting.{count_below, counts_below}
-use Rattle.sites.specs.Rows.{is_of_site}
-use Rattle.sites.specs.Snaps.{CountsSnap, IsSnap}
+use Rattle.sites.specs.calls.Rows.{is_of_site}
+use Rattle.sites.specs.calls.Snaps.{CountsSnap, IsSnap}
 use Rattle.sites.specs.inside.Snapping.{whole_status}
 
 chosen_loads : (chosen : ℕ → Bool) (events : ℕ → Option Event) (n : ℕ) (k m : Known) → LoadsChosen chosen events n k m → m.view.loads ≡ k.view.loads + count_below chosen n

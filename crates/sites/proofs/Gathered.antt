@@ -11,9 +11,9 @@ use Rattle.std.proofs.lemmas.List.Sums.{sum_by-cons}
 use Rattle.std.proofs.lemmas.List.Sorted.{All-permutation, Contains-permutation, IsPermutation-sym, length_permutation, sum_by-IsPermutation}
 use Rattle.armus_base.specs.declared.status.Status.{Status}
 use Rattle.armus_base.proofs.Elements.{Contains-cons_cases, Contains-head, Contains-tail, nothing_in_nil}
-use Rattle.sites.specs.Checks.{AreAll, IsFirstBad, IsSiteEnd, IsStored, part_of}
-use Rattle.sites.specs.Keeping.{held}
-use Rattle.sites.specs.Rows.{IsRowOf, is_of_site}
+use Rattle.sites.specs.calls.Checks.{AreAll, IsFirstBad, IsSiteEnd, IsStored, part_of}
+use Rattle.sites.specs.calls.Keeping.{held}
+use Rattle.sites.specs.calls.Rows.{IsRowOf, is_of_site}
 use Rattle.sites.specs.inside.Gathering.{AreGathered, HasFewInOrder, EndsAtSite, NoneBad, TakesRow}
 use Rattle.sites.specs.declared.ends.SiteEnd.{SiteEnd}
 use Rattle.sites.specs.declared.ends.SiteEnd.TheVariants.{Bad, Fault, NoMemory}
@@ -41,12 +41,6 @@ one_site sites a b t is other =
 stored_same : (sites site : ℕ) (ss rs : List Status) (o : Option (List ℕ)) → part_of sites site ss ≡ part_of sites site rs → IsStored sites site ss o → IsStored sites site rs o
 stored_same sites site ss rs None same none = sym same ∙ none
 stored_same sites site ss rs (Some row) same is = subst (λ v. IsRowOf sites site v row) same is
-
--- nothing is gathered of no sites
-pub gathered_none : (sites : ℕ) (rows : List (Option (List ℕ))) (list : List Status) → list ≡ [] → AreGathered sites rows 0 list
-gathered_none sites rows list none =
-    subst (AreGathered sites rows 0) (sym none)
-    (record { each = λ site l. absurd (omega arith); later = λ site l. refl; few = omega arith; phases = λ k d l. absurd (omega arith) })
 
 -- one site more
 pub gathered_more :

@@ -5,13 +5,14 @@ use Rattle.std.proofs.lemmas.Option.{slice_get-get_or, slice_get_within, get_or_
 use Rattle.armus_base.specs.declared.event.Event.{Event}
 use Rattle.armus_base.specs.declared.status.Status.{Status}
 use Rattle.armus_base.specs.Plans.{Blocks, Plan}
-use Rattle.armus_base.specs.Runs.{IsPrefix, Place, first_place}
+use Rattle.armus_base.specs.calls.Runs.{IsPrefix}
+use Rattle.armus_base.specs.Runs.{Place, first_place}
 use Rattle.armus_base.specs.Places.{published_after, state_at}
 use Rattle.armus_base.specs.CheckedPlans.{IsCheckedPlan}
-use Rattle.armus_base.specs.Boards.{IsLawful}
+use Rattle.armus_base.specs.calls.Boards.{IsLawful}
 use Rattle.armus_base.specs.Deadlocks.{IsAtPhase, IsDeadBy, IsDeadlockedSet, IsImpededWithin, IsListedAt, IsListedOn, IsPublishedOn}
-use Rattle.armus_base.specs.Decisions.{HasFound}
-use Rattle.armus_base.specs.Seats.{IsAsFarOn}
+use Rattle.armus_base.specs.calls.Decisions.{HasFound}
+use Rattle.armus_base.specs.calls.Seats.{IsAsFarOn}
 use Rattle.armus_base.proofs.BoardRuns.{lawful_is_reachable}
 use Rattle.armus_base.proofs.Elements.{nothing_in_nil}
 use Rattle.armus_base.proofs.Places.{precedes_trans}
@@ -19,15 +20,15 @@ use Rattle.armus_base.proofs.Published.{published_after_is}
 use Rattle.armus_base.proofs.Reachable.{collected_is_dead_at_reachable}
 use Rattle.armus_base.proofs.Tasks.{action_of_task}
 use Rattle.board.specs.declared.mode.Mode.{Mode}
-use Rattle.board.specs.Seats.{Known}
-use Rattle.board.specs.Views.{avoids, seen}
+use Rattle.board.specs.calls.Seats.{Known}
+use Rattle.board.specs.calls.Views.{avoids, seen}
 use Rattle.phase_scan.proofs.Loads.{published_phaser}
 use Rattle.phase_scan.proofs.Standing.{phases_begun_at, published_begun}
-use Rattle.sites.specs.Checks.{AreAll, IsStored, part_of}
-use Rattle.sites.specs.Keeping.{held}
-use Rattle.sites.specs.Passes.{AreBacked, IsDeadToAll}
-use Rattle.sites.specs.Rows.{IsRowOf, is_of_site}
-use Rattle.sites.specs.Snaps.{IsBacked, IsListedWhole}
+use Rattle.sites.specs.calls.Checks.{AreAll, IsStored, part_of}
+use Rattle.sites.specs.calls.Keeping.{held}
+use Rattle.sites.specs.calls.Passes.{AreBacked, IsDeadToAll}
+use Rattle.sites.specs.calls.Rows.{IsRowOf, is_of_site}
+use Rattle.sites.specs.calls.Snaps.{IsBacked, IsListedWhole}
 use Rattle.sites.proofs.Gathered.{passed_from, passed_is}
 use Rattle.sites.proofs.OneList.{one_list_of}
 

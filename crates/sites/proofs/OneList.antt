@@ -3,7 +3,7 @@ use Rattle.std.proofs.Common.{◌≡◌, ℕ, List, Some, sym, ap, ◌∙◌, ar
 use Rattle.std.specs.List.{AllByRecursion}
 use Rattle.std.proofs.lemmas.List.Elements.{recursion_from_All}
 use Rattle.armus_base.specs.declared.status.Status.{Status}
-use Rattle.sites.specs.Rows.{AreOfSite, IsRowOf}
+use Rattle.sites.specs.calls.Rows.{AreOfSite, IsRowOf}
 use Rattle.sites.specs.inside.Reading.{row_at}
 use Rattle.sites.proofs.Fields.{some_is}
 use Rattle.sites.proofs.RowFields.{FitsRow, row_again}

@@ -2,11 +2,12 @@
 use Rattle.std.proofs.Common.{◌≡◌, ℕ, false, List, Some, None, sym, ◌∙◌, subst}
 use Rattle.std.specs.Prelude.{Contains}
 use Rattle.std.proofs.lemmas.Bool.{false≢true}
-use Rattle.armus_base.specs.Boards.{IsLawful, steps_of}
+use Rattle.armus_base.specs.calls.Boards.{IsLawful, steps_of}
 use Rattle.armus_base.specs.CheckedPlans.{IsCheckedPlan}
 use Rattle.armus_base.specs.Plans.{Plan}
-use Rattle.armus_base.specs.Runs.{ArePrefixes, IsMaximal, IsPlainRun, Place, Precedes, places}
-use Rattle.armus_base.specs.Seats.{IsAsFarOn}
+use Rattle.armus_base.specs.calls.Runs.{ArePrefixes, Precedes}
+use Rattle.armus_base.specs.Runs.{IsMaximal, IsPlainRun, Place, places}
+use Rattle.armus_base.specs.calls.Seats.{IsAsFarOn}
 use Rattle.armus_base.specs.States.{Step}
 use Rattle.armus_base.proofs.BoardRuns.{plain_is_lawful}
 use Rattle.armus_base.proofs.MaximalExists.{maximal_exists}
@@ -15,10 +16,10 @@ use Rattle.armus_base.proofs.OneEnd.{below_maximal}
 use Rattle.armus_base.proofs.Places.{precedes_trans}
 use Rattle.board.specs.declared.mode.Mode.{Mode}
 use Rattle.board.specs.declared.mode.Mode.TheVariants.{Detect}
-use Rattle.board.specs.Seats.{Known}
-use Rattle.board.specs.Views.{avoids, seen}
+use Rattle.board.specs.calls.Seats.{Known}
+use Rattle.board.specs.calls.Views.{avoids, seen}
 use Rattle.phase_scan.proofs.Farther.{far_of_viewer}
-use Rattle.sites.specs.PassLaws.{AreOfOneMoment, HaveSeenLawful, HasOnlyLooked}
+use Rattle.sites.specs.calls.PassLaws.{AreOfOneMoment, HaveSeenLawful, HasOnlyLooked}
 
 -- the state that the rule names is such a one
 pub moment_lawful : (plan : Plan) (mode : Mode) (views : List Known) → AreOfOneMoment plan mode views → HaveSeenLawful plan mode views

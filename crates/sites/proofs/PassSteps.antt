@@ -7,14 +7,14 @@ use Rattle.std.proofs.lemmas.List.{length-set, map-id}
 use Rattle.std.proofs.lemmas.Option.{slice_get_within}
 use Rattle.armus_base.specs.declared.status.Status.{Status}
 use Rattle.armus_base.specs.Plans.{Plan}
-use Rattle.board.specs.Seats.{Frame, IsOf, Known}
-use Rattle.board.specs.Views.{seen}
+use Rattle.board.specs.calls.Seats.{Frame, IsOf, Known}
+use Rattle.board.specs.calls.Views.{seen}
 use Rattle.phase_scan.proofs.Tables.{slice_get-set_other, slice_get-set_same}
 use Rattle.phase_scan.proofs.Loads.{prefix_both}
-use Rattle.sites.specs.Keeping.{held}
-use Rattle.sites.specs.Passes.{AreBacked, ChangesRows, HasSnapped, HaveLookedOn, IsBackedRow}
-use Rattle.sites.specs.Rows.{IsRowOf, row_bytes}
-use Rattle.sites.specs.Snaps.{HasLookedOn, IsBacked}
+use Rattle.sites.specs.calls.Keeping.{held}
+use Rattle.sites.specs.calls.Passes.{AreBacked, ChangesRows, HasSnapped, HaveLookedOn, IsBackedRow}
+use Rattle.sites.specs.calls.Rows.{IsRowOf, row_bytes}
+use Rattle.sites.specs.calls.Snaps.{HasLookedOn, IsBacked}
 use Rattle.sites.specs.inside.Passing.{HaveSnapped, PutsSnap}
 
 pub length_map : {A B : Type 0} (f : A → B) (xs : List A) → length (map f xs) ≡ length xs

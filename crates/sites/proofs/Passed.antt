@@ -8,21 +8,21 @@ use Rattle.armus_base.specs.Plans.{Plan}
 use Rattle.armus_base.specs.Runs.{Place}
 use Rattle.armus_base.specs.Places.{published_after, state_at}
 use Rattle.armus_base.specs.CheckedPlans.{IsCheckedPlan}
-use Rattle.armus_base.specs.Boards.{IsLawful}
+use Rattle.armus_base.specs.calls.Boards.{IsLawful}
 use Rattle.armus_base.specs.Deadlocks.{IsAtPhase, IsDeadlockedSet, IsPublishedOn}
-use Rattle.armus_base.specs.Seats.{IsAsFarOn}
+use Rattle.armus_base.specs.calls.Seats.{IsAsFarOn}
 use Rattle.armus_base.proofs.FoundArePublished.{published_within}
 use Rattle.adaptive.specs.declared.analysis.Analysis.{Analysis}
 use Rattle.adaptive.specs.declared.analysis.Wanted.{Wanted}
 use Rattle.board.specs.declared.mode.Mode.{Mode}
-use Rattle.board.specs.Seats.{Frame, IsOf, Known}
-use Rattle.board.specs.Views.{avoids, seen}
+use Rattle.board.specs.calls.Seats.{Frame, IsOf, Known}
+use Rattle.board.specs.calls.Views.{avoids, seen}
 use Rattle.phase_scan.proofs.Standing.{dead_place}
-use Rattle.sites.specs.Checks.{AreAll, IsCheck, IsFirstBad}
-use Rattle.sites.specs.Keeping.{held}
-use Rattle.sites.specs.Passes.{AreBacked, HasSnapped, IsSetKnown, IsSetKnownToEach, IsSitePass}
-use Rattle.sites.specs.Rows.{AreOfSite, row_bytes}
-use Rattle.sites.specs.Snaps.{IsBacked, IsListedWhole, KnowsPlace}
+use Rattle.sites.specs.calls.Checks.{AreAll, IsCheck, IsFirstBad}
+use Rattle.sites.specs.calls.Keeping.{held}
+use Rattle.sites.specs.calls.Passes.{AreBacked, HasSnapped, IsSetKnown, IsSetKnownToEach, IsSitePass}
+use Rattle.sites.specs.calls.Rows.{AreOfSite, row_bytes}
+use Rattle.sites.specs.calls.Snaps.{IsBacked, IsListedWhole, KnowsPlace}
 use Rattle.sites.specs.inside.Passing.{HaveSnapped}
 use Rattle.sites.proofs.Merging.{at_place, merged_dead, own_listed, own_part, own_phase_listed, part_is, phase_own, set_listed}
 use Rattle.sites.proofs.PassSteps.{is_there, some_one}

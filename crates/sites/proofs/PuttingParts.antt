@@ -8,11 +8,11 @@ use Rattle.std.proofs.lemmas.List.{append-nil, flat_map_more, get_or_default, le
 use Rattle.std.proofs.lemmas.List.Elements.{All-append, All-filter, filter-append, filter_passes}
 use Rattle.std.proofs.lemmas.List.Kept.{AllPairs-filter}
 use Rattle.armus_base.specs.declared.status.Status.{Status}
-use Rattle.armus_base.specs.Statuses.{IsInOrder}
-use Rattle.sites.specs.Checks.{IsFirstBad, part_of}
-use Rattle.sites.specs.Keeping.{held}
-use Rattle.sites.specs.Parts.{HoldParts, IsPartHeld, PutsParts}
-use Rattle.sites.specs.Rows.{AreOfSite, HasNumbers, IsRowOf, is_of_site, row_bytes, status_bytes}
+use Rattle.armus_base.specs.calls.Statuses.{IsInOrder}
+use Rattle.sites.specs.calls.Checks.{IsFirstBad, part_of}
+use Rattle.sites.specs.calls.Keeping.{held}
+use Rattle.sites.specs.calls.Parts.{HoldParts, IsPartHeld, PutsParts}
+use Rattle.sites.specs.calls.Rows.{AreOfSite, HasNumbers, IsRowOf, is_of_site, row_bytes, status_bytes}
 use Rattle.sites.specs.inside.Gathering.{HasFewInOrder}
 use Rattle.sites.specs.inside.Putting.{HavePut, PutsPart}
 use Rattle.sites.proofs.PassSteps.{held_other, held_same, some_one}

@@ -8,7 +8,7 @@ use Rattle.std.proofs.lemmas.List.Elements.{All-from_recursion, recursion_from_A
 use Rattle.armus_base.specs.declared.event.Event.{Event}
 use Rattle.armus_base.specs.declared.status.Member.{Member}
 use Rattle.armus_base.specs.declared.status.Status.{Status}
-use Rattle.sites.specs.Rows.{HasNumbers, HasPhaseNumbers, phase_bytes, row_bytes, status_bytes}
+use Rattle.sites.specs.calls.Rows.{HasNumbers, HasPhaseNumbers, phase_bytes, row_bytes, status_bytes}
 use Rattle.sites.specs.inside.Reading.{◌>>=◌, front_event, items_at, front_number, phase_at, row_at, status_at}
 use Rattle.sites.proofs.Fields.{IsBytes, bind_some, number_again, number_takes, some_is, Takes, Takes-then}
 use Rattle.sites.proofs.Items.{Reads, items_again, items_take}

@@ -6,7 +6,7 @@ use Rattle.armus_base.specs.declared.status.Status.{Status}
 use Rattle.sites.specs.declared.ends.DecodeEnd.{DecodeEnd}
 use Rattle.sites.specs.declared.ends.DecodeEnd.TheVariants.{Bad, NoMemory}
 use Rattle.sites.specs.declared.snapshot.Snapshot.{Snapshot}
-use Rattle.sites.specs.Rows.{IsBadRow, IsRowOf}
+use Rattle.sites.specs.calls.Rows.{IsBadRow, IsRowOf}
 use Rattle.sites.specs.inside.Reading.{FailsToRead, MayBeStored, row_at}
 use Rattle.sites.proofs.Fields.{IsBytes, some_is}
 use Rattle.sites.proofs.OneList.{row_is_read}

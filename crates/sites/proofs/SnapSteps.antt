@@ -10,23 +10,23 @@ use Rattle.armus_base.specs.declared.status.Status.{Status}
 use Rattle.armus_base.specs.Finals.{given_below, listed_phase, status_of}
 use Rattle.armus_base.specs.Plans.{Plan}
 use Rattle.armus_base.specs.States.{Phases, State, opening, updated, with_phase}
-use Rattle.armus_base.specs.Boards.{IsLawful}
-use Rattle.armus_base.specs.Seats.{Found, IsAsFarOn}
+use Rattle.armus_base.specs.calls.Boards.{IsLawful}
+use Rattle.armus_base.specs.calls.Seats.{Found, IsAsFarOn}
 use Rattle.armus_base.proofs.Steps.{updated_other, updated_same, with_phase_other, with_phase_same}
 use Rattle.board.specs.declared.mode.Mode.{Mode}
-use Rattle.board.specs.Seats.{AnswersAwait, AnswersPhase, Frame, IsOf, Known}
-use Rattle.board.specs.Steps.{IsSameSeat, WasSo}
-use Rattle.board.specs.Views.{avoids, seen}
-use Rattle.board.specs.Words.{found_in}
-use Rattle.phase_scan.specs.Looks.{LoadsAlone}
-use Rattle.phase_scan.specs.Collects.{FindsEvent, IfAsked, LoadsChosen, LoadsRow, LoadsRows}
-use Rattle.phase_scan.specs.Tables.{event_for}
+use Rattle.board.specs.calls.Seats.{AnswersAwait, AnswersPhase, Frame, IsOf, Known}
+use Rattle.board.specs.calls.Steps.{IsSameSeat, WasSo}
+use Rattle.board.specs.calls.Views.{avoids, seen}
+use Rattle.board.specs.calls.Words.{found_in}
+use Rattle.phase_scan.specs.calls.Looks.{LoadsAlone}
+use Rattle.phase_scan.specs.calls.Collects.{FindsEvent, IfAsked, LoadsChosen, LoadsRow, LoadsRows}
+use Rattle.phase_scan.specs.calls.Tables.{event_for}
 use Rattle.phase_scan.proofs.ChosenLoads.{chosen_same}
 use Rattle.phase_scan.proofs.Keeping.{row_more, rows_more, rows_skip}
 use Rattle.phase_scan.proofs.Loads.{await_load, goes_both, phase_load}
 use Rattle.phase_scan.proofs.Tables.{given_below_same}
-use Rattle.sites.specs.Rows.{HasNumbers, HasPhaseNumbers}
-use Rattle.sites.specs.Snaps.{HasLookedOn, HasSeenLawful}
+use Rattle.sites.specs.calls.Rows.{HasNumbers, HasPhaseNumbers}
+use Rattle.sites.specs.calls.Snaps.{HasLookedOn, HasSeenLawful}
 use Rattle.phase_scan.proofs.Farther.{far_of_viewer}
 use Rattle.sites.specs.inside.Snapping.{FindsRow, FindsRows, FindsStatus, whole_status}
 

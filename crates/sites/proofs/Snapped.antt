@@ -6,17 +6,17 @@ use Rattle.std.proofs.lemmas.List.Elements.{Contains-get_or}
 use Rattle.armus_base.specs.declared.event.Event.{Event}
 use Rattle.armus_base.specs.declared.status.Status.{Status}
 use Rattle.armus_base.specs.CheckedPlans.{IsCheckedPlan}
-use Rattle.armus_base.specs.FinalLaws.{AreStatuses}
+use Rattle.armus_base.specs.calls.FinalLaws.{AreStatuses}
 use Rattle.armus_base.specs.Finals.{status_of}
 use Rattle.armus_base.specs.Plans.{Plan}
 use Rattle.armus_base.specs.Runs.{first_place}
 use Rattle.armus_base.proofs.Below.{given_few}
 use Rattle.armus_base.proofs.StatusesAre.{statuses_are}
-use Rattle.board.specs.Seats.{Frame, IsOf, Known}
-use Rattle.sites.specs.Rows.{AreOfSite, HasNumbers, is_of_site}
-use Rattle.phase_scan.specs.Collects.{LoadsChosen}
+use Rattle.board.specs.calls.Seats.{Frame, IsOf, Known}
+use Rattle.sites.specs.calls.Rows.{AreOfSite, HasNumbers, is_of_site}
+use Rattle.phase_scan.specs.calls.Collects.{LoadsChosen}
 use Rattle.phase_scan.proofs.ChosenLoads.{chosen_same, chosen_seat}
-use Rattle.sites.specs.Snaps.{IsSnap, TellsSite}
+use Rattle.sites.specs.calls.Snaps.{IsSnap, TellsSite}
 use Rattle.sites.specs.inside.Snapping.{FindsRows}
 use Rattle.phase_scan.proofs.Farther.{IsPossible}
 use Rattle.sites.proofs.TellingSites.{snap_tells, some_possible}

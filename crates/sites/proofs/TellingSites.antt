@@ -6,25 +6,26 @@ use Rattle.armus_base.specs.declared.event.Event.{Event}
 use Rattle.armus_base.specs.declared.status.Status.{Status}
 use Rattle.armus_base.specs.Plans.{Plan}
 use Rattle.armus_base.specs.Runs.{Place}
-use Rattle.armus_base.specs.Places.{phases_at_place, published_after, state_at}
+use Rattle.armus_base.specs.calls.Places.{phases_at_place}
+use Rattle.armus_base.specs.Places.{published_after, state_at}
 use Rattle.armus_base.specs.CheckedPlans.{IsCheckedPlan}
-use Rattle.armus_base.specs.Boards.{IsLawful}
+use Rattle.armus_base.specs.calls.Boards.{IsLawful}
 use Rattle.armus_base.specs.Deadlocks.{IsListedOn}
-use Rattle.armus_base.specs.FinalLaws.{AreStatuses}
-use Rattle.armus_base.specs.Seats.{IsAsFarOn}
+use Rattle.armus_base.specs.calls.FinalLaws.{AreStatuses}
+use Rattle.armus_base.specs.calls.Seats.{IsAsFarOn}
 use Rattle.armus_base.proofs.StatusesAre.{statuses_are}
-use Rattle.board.specs.Views.{avoids, seen}
-use Rattle.board.specs.Words.{found_in}
-use Rattle.board.specs.Seats.{IsSeat, Known}
-use Rattle.phase_scan.specs.Looks.{LoadsAlone}
-use Rattle.phase_scan.specs.Collects.{waiting_on}
+use Rattle.board.specs.calls.Views.{avoids, seen}
+use Rattle.board.specs.calls.Words.{found_in}
+use Rattle.board.specs.calls.Seats.{IsSeat, Known}
+use Rattle.phase_scan.specs.calls.Looks.{LoadsAlone}
+use Rattle.phase_scan.specs.calls.Collects.{waiting_on}
 use Rattle.phase_scan.proofs.Loads.{goes_both}
 use Rattle.phase_scan.proofs.Farther.{IsPossible, far_of_viewer, possible_before}
 use Rattle.phase_scan.proofs.Standing.{dead_place, phases_begun_at, published_begun, word_waits}
 use Rattle.phase_scan.proofs.ChosenLoads.{chosen_go, chosen_of}
 use Rattle.phase_scan.proofs.FoundPlaces.{Gathers, IsLoaded, all_found, all_go, at, found, listed, listed_there, phase, possible_by}
-use Rattle.sites.specs.Rows.{is_of_site}
-use Rattle.sites.specs.Snaps.{InEachPlaces, IsBacked, IsDeadToViewer, IsListedWhole, IsListedWith, IsSnap, KnowsPlace, TellsSite}
+use Rattle.sites.specs.calls.Rows.{is_of_site}
+use Rattle.sites.specs.calls.Snaps.{InEachPlaces, IsBacked, IsDeadToViewer, IsListedWhole, IsListedWith, IsSnap, KnowsPlace, TellsSite}
 
 -- a snap of a site with a task: the viewer's seat was one before
 module _ (before now : Known) (sites site : ℕ) (list : List Status) (checked : IsCheckedPlan before.view.plan) (seat : IsSeat before)

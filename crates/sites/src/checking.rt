@@ -1,9 +1,9 @@
 // A check over the rows of all sites.
 ghost use Rattle.std.specs.Prelude.{List as Seq, ◌≡◌, ◌≤◌, ◌<◌, ℕ, Err, IfErr, IfOk, IsSomeAnd, OnOk, length};
 ghost use Rattle.std.specs.declared.option.Option.{Option};
-ghost use Rattle.sites.specs.Checks.{AreAll, IsCheck, IsSiteEnd, count_after_check};
-ghost use Rattle.sites.specs.Keeping.{held};
-ghost use Rattle.sites.specs.Rows.{IsBadRow};
+ghost use Rattle.sites.specs.calls.Checks.{AreAll, IsCheck, IsSiteEnd, count_after_check};
+ghost use Rattle.sites.specs.calls.Keeping.{held};
+ghost use Rattle.sites.specs.calls.Rows.{IsBadRow};
 ghost use Rattle.sites.specs.inside.Gathering.{AreGathered, EndsAtSite, TakesRow};
 ghost use Rattle.sites.specs.declared.ends.DecodeEnd.TheVariants as decode_ends;
 

@@ -1,6 +1,6 @@
 // A row as a snapshot.
 ghost use Rattle.std.specs.Prelude.{◌≡◌, ◌≤◌, ◌<◌, true, All, IfOk, MatchBool};
-ghost use Rattle.sites.specs.Rows.{IsBadRow, IsRowOf, is_of_site};
+ghost use Rattle.sites.specs.calls.Rows.{IsBadRow, IsRowOf, is_of_site};
 ghost use Rattle.sites.specs.inside.Reading.{MayBeStored};
 ghost use Rattle.sites.specs.declared.ends.DecodeEnd.TheVariants.{Bad};
 ghost use Rattle.std.specs.Prelude.{Err};

@@ -2,8 +2,8 @@
 ghost use Rattle.std.specs.Prelude.{◌≡◌, ◌<◌, ◌^◌, ◌++◌, length, All, IfOk, OnOk};
 ghost use Rattle.std.specs.Int.{w32, to_be_bytes};
 ghost use Rattle.std.specs.List.{flat_map};
-ghost use Rattle.armus_base.specs.Statuses.{IsInOrder};
-ghost use Rattle.sites.specs.Rows.{HasNumbers, HasPhaseNumbers, phase_bytes, row_bytes, status_bytes};
+ghost use Rattle.armus_base.specs.calls.Statuses.{IsInOrder};
+ghost use Rattle.sites.specs.calls.Rows.{HasNumbers, HasPhaseNumbers, phase_bytes, row_bytes, status_bytes};
 
 use crate::Snapshot;
 use armus_base::{List, Member, NoMemory, Status};

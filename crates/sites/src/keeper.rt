@@ -1,7 +1,7 @@
 // Where sites put their rows, and where any of them gets them.
 ghost use Rattle.std.specs.Prelude.{◌≡◌, ◌<◌, ℕ, List as Seq, Some, length, IfOk, OnOk, OnErr, slice_set};
 ghost use Rattle.std.specs.declared.option.Option.{Option};
-ghost use Rattle.sites.specs.Keeping.{count_after, held};
+ghost use Rattle.sites.specs.calls.Keeping.{count_after, held};
 
 use crate::KeepEnd;
 use armus_base::List;

@@ -1,6 +1,6 @@
 // The laws: functions that do nothing, whose contracts state what is proved of the definitions.
-ghost use Rattle.sites.specs.PassLaws.{BackedRowsNameTheDead, EachMomentIsLawful, ViewersHaveOneState};
-ghost use Rattle.sites.specs.RowLaws.{HasOneList};
+ghost use Rattle.sites.specs.calls.PassLaws.{BackedRowsNameTheDead, EachMomentIsLawful, ViewersHaveOneState};
+ghost use Rattle.sites.specs.calls.RowLaws.{HasOneList};
 
 /// A row has one list of statuses: two snapshots of one site never share a row, and `decode` of what `encode` gives is the snapshot.
 pub fn one_list()

@@ -1,7 +1,7 @@
 // Keepers in memory: one that fails at the calls that it is told, and one that never fails.
 ghost use Rattle.std.specs.Prelude.{◌≡◌, ◌≤◌, ◌<◌, length, Some, None, IfOk, OnErr, OnOk, replicate, slice_set};
-ghost use Rattle.sites.specs.Keeping.{count_after, held};
-ghost use Rattle.sites.specs.MemKeepers.{IsMemCall};
+ghost use Rattle.sites.specs.calls.Keeping.{count_after, held};
+ghost use Rattle.sites.specs.calls.MemKeepers.{IsMemCall};
 
 use crate::decoding::MAX_SITES;
 use crate::{KeepEnd, Keeper};
@@ -61,7 +61,7 @@ pub struct MemKeeper {
 }
 
 impl Model for MemKeeper {
-    ghost use Rattle.sites.specs.Keeping.{MemKept};
+    ghost use Rattle.sites.specs.calls.Keeping.{MemKept};
 
     ghost Value = { MemKept };
 

@@ -1,10 +1,10 @@
 // Each site's part of statuses that are known as a whole.
 ghost use Rattle.std.specs.Prelude.{◌≡◌, ◌≤◌, ◌<◌, ◌^◌, ◌++◌, true, false, length, IfOk, OnErr, OnOk};
-ghost use Rattle.armus_base.specs.Statuses.{IsInOrder};
-ghost use Rattle.sites.specs.Checks.{part_of};
-ghost use Rattle.sites.specs.Keeping.{count_after};
-ghost use Rattle.sites.specs.Parts.{HoldParts, PutsParts};
-ghost use Rattle.sites.specs.Rows.{HasNumbers, IsRowOf, is_of_site, status_bytes};
+ghost use Rattle.armus_base.specs.calls.Statuses.{IsInOrder};
+ghost use Rattle.sites.specs.calls.Checks.{part_of};
+ghost use Rattle.sites.specs.calls.Keeping.{count_after};
+ghost use Rattle.sites.specs.calls.Parts.{HoldParts, PutsParts};
+ghost use Rattle.sites.specs.calls.Rows.{HasNumbers, IsRowOf, is_of_site, status_bytes};
 ghost use Rattle.sites.specs.inside.Putting.{PutsPart};
 
 use crate::decoding::MAX_SITES;

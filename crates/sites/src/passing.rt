@@ -1,9 +1,9 @@
 // A pass over all sites.
 ghost use Rattle.std.specs.Prelude.{◌≡◌, ◌≤◌, ◌<◌, All, IfOk, OnErr, OnOk, length, map};
-ghost use Rattle.board.specs.Seats.{IsOf, Known};
-ghost use Rattle.sites.specs.Keeping.{count_after};
-ghost use Rattle.sites.specs.Passes.{AreBacked, ChangesRows, HaveLookedOn, IsSitePass};
-ghost use Rattle.sites.specs.Snaps.{HasLookedOn, IsSnapshot};
+ghost use Rattle.board.specs.calls.Seats.{IsOf, Known};
+ghost use Rattle.sites.specs.calls.Keeping.{count_after};
+ghost use Rattle.sites.specs.calls.Passes.{AreBacked, ChangesRows, HaveLookedOn, IsSitePass};
+ghost use Rattle.sites.specs.calls.Snaps.{HasLookedOn, IsSnapshot};
 ghost use Rattle.sites.specs.inside.Passing.{HaveSnapped, PutsSnap};
 
 use crate::checking::check_rows;

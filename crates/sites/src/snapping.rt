@@ -1,12 +1,12 @@
 // One look at the tasks of a site.
 ghost use Rattle.std.specs.Prelude.{◌≡◌, ◌≤◌, ◌<◌, ◌++◌, ℕ, All, false, Some, None, IfOk, OnOk, length, option_map, option_to_list, vec_len};
 ghost use Rattle.armus_base.specs.CheckedPlans.{IsCheckedPlan};
-ghost use Rattle.board.specs.Seats.{IsOf};
-ghost use Rattle.board.specs.Views.{found_of};
-ghost use Rattle.phase_scan.specs.Collects.{FindsEvent, IfAsked, LoadsChosen, waiting_on};
-ghost use Rattle.phase_scan.specs.Tables.{event_for};
-ghost use Rattle.sites.specs.Rows.{HasNumbers, HasPhaseNumbers, is_of_site};
-ghost use Rattle.sites.specs.Snaps.{HasLookedOn, IsSnapshot};
+ghost use Rattle.board.specs.calls.Seats.{IsOf};
+ghost use Rattle.board.specs.calls.Views.{found_of};
+ghost use Rattle.phase_scan.specs.calls.Collects.{FindsEvent, IfAsked, LoadsChosen, waiting_on};
+ghost use Rattle.phase_scan.specs.calls.Tables.{event_for};
+ghost use Rattle.sites.specs.calls.Rows.{HasNumbers, HasPhaseNumbers, is_of_site};
+ghost use Rattle.sites.specs.calls.Snaps.{HasLookedOn, IsSnapshot};
 ghost use Rattle.sites.specs.inside.Snapping.{FindsRow, FindsRows, FindsStatus};
 
 use crate::Snapshot;

@@ -9,9 +9,9 @@ use Rattle.atomic_table.specs.Table.{Act, Allows, Me, State, Valid, carried_afte
 use Rattle.atomic_table.proofs.Lists.{set_here}
 use Rattle.slot_pool.specs.declared.setting.Setting.{Setting}
 use Rattle.slot_pool.specs.declared.view.View.{View}
-use Rattle.slot_pool.specs.Views.{claiming, finding, placing, trying}
+use Rattle.slot_pool.specs.calls.Views.{claiming, finding, placing, trying}
 use Rattle.slot_pool.specs.inside.Rule.{IsHad, IsPlacedIn, PoolHolds, StandsInPool, at_home, nowhere, out}
-use Rattle.slot_pool.specs.Steps.{Begun, Claimed}
+use Rattle.slot_pool.specs.calls.Steps.{Begun, Claimed}
 use Rattle.slot_pool.proofs.Members.{contains_else, contains_first, contains_none, contains_rest}
 use Rattle.slot_pool.proofs.Changing.{Renews, changed, found_within, looked, placed_renewed}
 

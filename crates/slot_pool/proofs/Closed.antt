@@ -6,7 +6,7 @@ use lib.ListN.{get_elem?}
 use Rattle.atomic_table.specs.Table.{Final, Seen, State}
 use Rattle.slot_pool.specs.declared.setting.Setting.{Setting}
 use Rattle.slot_pool.specs.declared.view.View.{View}
-use Rattle.slot_pool.specs.Closing.{AreHome}
+use Rattle.slot_pool.specs.calls.Closing.{AreHome}
 use Rattle.slot_pool.specs.inside.Rule.{IsHad, IsPlacedIn, PoolHolds, StandsInPool, at_home, nowhere, out}
 use Rattle.slot_pool.proofs.Members.{contains_first, contains_none}
 

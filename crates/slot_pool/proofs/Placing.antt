@@ -6,9 +6,9 @@ use Rattle.atomic_table.specs.Table.{Allows, State, gives, step}
 use Rattle.atomic_table.proofs.Lists.{set_here}
 use Rattle.slot_pool.specs.declared.setting.Setting.{Setting}
 use Rattle.slot_pool.specs.declared.view.View.{View}
-use Rattle.slot_pool.specs.Views.{giving}
+use Rattle.slot_pool.specs.calls.Views.{giving}
 use Rattle.slot_pool.specs.inside.Rule.{IsPlacedIn, PoolHolds, at_home, nowhere, out}
-use Rattle.slot_pool.specs.Steps.{GivenBack}
+use Rattle.slot_pool.specs.calls.Steps.{GivenBack}
 use Rattle.slot_pool.proofs.Members.{contains_else, contains_first, contains_rest}
 use Rattle.slot_pool.proofs.Changing.{Renews, changed, placed_renewed}
 

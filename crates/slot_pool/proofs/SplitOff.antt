@@ -8,10 +8,10 @@ use Rattle.slot_pool.specs.declared.setting.Setting.{Setting}
 use Rattle.slot_pool.specs.declared.view.View.{View}
 use Rattle.slot_pool.specs.inside.Parting.{left_for}
 use Rattle.slot_pool.specs.inside.Rule.{PoolHolds}
-use Rattle.slot_pool.specs.Views.{starting_view}
+use Rattle.slot_pool.specs.calls.Views.{starting_view}
 use Rattle.slot_pool.specs.inside.Views.{left_over, split_off}
 use Rattle.slot_pool.specs.inside.Workers.{IsAtWork}
-use Rattle.slot_pool.specs.Hands.{max_workers}
+use Rattle.slot_pool.specs.calls.PoolValues.{max_workers}
 use Rattle.slot_pool.proofs.Joining.{splits_off}
 use Rattle.slot_pool.proofs.Members.{contains_none}
 

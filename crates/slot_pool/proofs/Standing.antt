@@ -4,7 +4,7 @@ use Rattle.std.specs.Prelude.{Contains, drop}
 use Rattle.atomic_table.specs.Seated.{TableId}
 use Rattle.atomic_table.specs.Table.{Me, rest}
 use Rattle.slot_pool.specs.declared.view.View.{View}
-use Rattle.slot_pool.specs.Views.{claiming, finding, giving, placing, trying}
+use Rattle.slot_pool.specs.calls.Views.{claiming, finding, giving, placing, trying}
 use Rattle.slot_pool.specs.inside.Workers.{HasRoom, IsAtWork}
 use Rattle.slot_pool.proofs.Members.{contains_cases, contains_first, contains_rest}
 

@@ -1,5 +1,3 @@
-pub mod Views
-pub mod Hands
-pub mod Steps
-pub mod Closing
 pub mod inside
+-- Words of contracts further down, which no promise of a program needs.
+pub mod calls

@@ -4,7 +4,7 @@ ghost use Rattle.std.specs.Vec.{vec_capacity};
 ghost use Rattle.std.specs.Mem.Slots.{slots_items, slots_len, IsFull};
 ghost use Rattle.slot_pool.specs.inside.Gathering.{Gathers};
 ghost use Rattle.slot_pool.specs.inside.Workers.{HasRoom};
-ghost use Rattle.slot_pool.specs.Hands.{IsNumberOf, IsOfPool};
+ghost use Rattle.slot_pool.specs.calls.PoolValues.{IsNumberOf, IsOfPool};
 
 use crate::named::Named;
 use crate::plays::Joins;

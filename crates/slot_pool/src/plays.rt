@@ -10,7 +10,7 @@ pub(crate) struct Claims<R> {
 }
 
 impl<R: Named> Play<Option<R>, View> for Claims<R> {
-    ghost use Rattle.slot_pool.specs.Steps.{Claimed};
+    ghost use Rattle.slot_pool.specs.calls.Steps.{Claimed};
 
     ghost then = { Claimed R.number };
 }
@@ -19,7 +19,7 @@ impl<R: Named> Play<Option<R>, View> for Claims<R> {
 pub(crate) struct Begins;
 
 impl<R> Play<Option<R>, View> for Begins {
-    ghost use Rattle.slot_pool.specs.Steps.{Begun};
+    ghost use Rattle.slot_pool.specs.calls.Steps.{Begun};
 
     ghost then = { Begun };
 }
@@ -28,7 +28,7 @@ impl<R> Play<Option<R>, View> for Begins {
 pub(crate) struct Gives;
 
 impl<R> Play<Option<R>, View> for Gives {
-    ghost use Rattle.slot_pool.specs.Steps.{GivenBack};
+    ghost use Rattle.slot_pool.specs.calls.Steps.{GivenBack};
 
     ghost then = { GivenBack };
 }

@@ -1,7 +1,7 @@
 // The slots of a pool.
 ghost use Rattle.std.specs.Prelude.{◌≡◌, ℕ, ◌≤◌, ◌<◌, [], All, IfErr, IfOk};
-ghost use Rattle.slot_pool.specs.Closing.{AreHome};
-ghost use Rattle.slot_pool.specs.Hands.{IsNumberOf, IsOfPool, IsPlacedBy, first_workers, max_pool_tasks, max_workers};
+ghost use Rattle.slot_pool.specs.calls.Closing.{AreHome};
+ghost use Rattle.slot_pool.specs.calls.PoolValues.{IsNumberOf, IsOfPool, IsPlacedBy, first_workers, max_pool_tasks, max_workers};
 
 use crate::gathering::{gather, take_all};
 use crate::named::Named;
@@ -23,7 +23,7 @@ pub struct Pool<R: Named> {
 }
 
 impl<R: Named> Model for Pool<R> {
-    ghost use Rattle.slot_pool.specs.Hands.{PoolValue};
+    ghost use Rattle.slot_pool.specs.calls.PoolValues.{PoolValue};
 
     ghost Value = { PoolValue };
 

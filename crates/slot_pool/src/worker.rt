@@ -1,8 +1,8 @@
 // A worker of a pool.
 ghost use Rattle.std.specs.Prelude.{◌≡◌, ℕ, ◌<◌, List, [], ◌∷◌, Contains};
 ghost use Rattle.std.specs.Vec.{vec_capacity};
-ghost use Rattle.slot_pool.specs.Views.{giving};
-ghost use Rattle.slot_pool.specs.Hands.{AnswersClaim, AnswersPlace, IsOfPool, IsSameWorker, has_after, seeing};
+ghost use Rattle.slot_pool.specs.calls.Views.{giving};
+ghost use Rattle.slot_pool.specs.calls.PoolValues.{AnswersClaim, AnswersPlace, IsOfPool, IsSameWorker, has_after, seeing};
 ghost use Rattle.slot_pool.specs.inside.Workers.{HasRoom, IsAtWork, hand_of};
 
 use crate::claim::Claim;
@@ -23,9 +23,9 @@ pub struct Worker<R: Named> {
 }
 
 impl<R: Named> Model for Worker<R> {
-    ghost use Rattle.slot_pool.specs.Hands.{Hand};
+    ghost use Rattle.slot_pool.specs.calls.PoolValues.{WorkerValue};
 
-    ghost Value = { Hand };
+    ghost Value = { WorkerValue };
 
     ghost use Rattle.std.specs.Vec.{vec_capacity};
     ghost use Rattle.slot_pool.specs.inside.Workers.{HasRoom, IsAtWork, hand_of};

@@ -1,10 +1,10 @@
 -- How a bounded build ends, by places and by statuses.
 use Rattle.std.proofs.Common.{List, arith}
-use Rattle.armus_base.specs.Statuses.{IsInOrder}
+use Rattle.armus_base.specs.calls.Statuses.{IsInOrder}
 use Rattle.armus_base.specs.declared.status.Status.{Status}
-use Rattle.dep_state.specs.Deps.{Deps, IsDepsOf}
+use Rattle.dep_state.specs.calls.Deps.{Deps, IsDepsOf}
 use Rattle.dep_state.proofs.TaskPlaces.{count}
-use Rattle.state_graph.specs.BoundedEnds.{IsBoundedEnd}
+use Rattle.state_graph.specs.calls.BoundedEnds.{IsBoundedEnd}
 use Rattle.state_graph.specs.inside.Ends.{IsEndAt}
 use Rattle.state_graph.specs.declared.end.SgEnd.{SgEnd}
 use Rattle.state_graph.specs.declared.end.SgEnd.TheVariants.{Left, NoMemory}

@@ -3,9 +3,9 @@ use Rattle.std.proofs.Common.{◌≡◌, ℕ, ◌+◌, ◌*◌, ◌<◌, ◌≤�
 use Rattle.std.specs.Prelude.{Contains, ◌↔◌}
 use Rattle.std.proofs.lemmas.Bool.{cases_Bool, cases_eq, cases_lt}
 use Rattle.std.proofs.lemmas.List.{get_or_past}
-use Rattle.digraph.specs.Graph.{HasEdge}
+use Rattle.digraph.specs.calls.Graph.{HasEdge}
 use Rattle.armus_base.proofs.Elements.{Contains-cons_cases, Contains-head, Contains-tail}
-use Rattle.dep_state.specs.Deps.{Deps, IsAwaitedBy, impeders_of}
+use Rattle.dep_state.specs.calls.Deps.{Deps, IsAwaitedBy, impeders_of}
 use Rattle.state_graph.specs.inside.Growing.{AreSized, IsFirstFrom, IsGrown, IsGrowing, IsNextAt, IsPairBetween, IsPassedPair, IsPassedUpTo, IsPassing}
 
 -- one event is followed

@@ -4,12 +4,12 @@ use Rattle.std.specs.Prelude.{Contains, ◌↔◌}
 use Rattle.std.proofs.lemmas.Bool.{cases_Bool, cases_eq, cases_lt}
 use Rattle.std.proofs.lemmas.List.{get_or_default, get_or_past, get_or-replicate, length-replicate}
 use Rattle.std.proofs.lemmas.List.Elements.{Contains-get_or}
-use Rattle.digraph.specs.Graph.{HasEdge}
+use Rattle.digraph.specs.calls.Graph.{HasEdge}
 use Rattle.armus_base.specs.Counts.{IsCount}
 use Rattle.armus_base.proofs.Counts.{count_same, count_unique, count_none}
 use Rattle.armus_base.proofs.Elements.{Contains-cons_cases, Contains-head, Contains-tail, nothing_in_nil}
-use Rattle.dep_state.specs.Deps.{Deps, AreRelations, IsAwaitedBy, impeders_of}
-use Rattle.state_graph.specs.StateEdges.{IsStatePair}
+use Rattle.dep_state.specs.calls.Deps.{Deps, AreRelations, IsAwaitedBy, impeders_of}
+use Rattle.state_graph.specs.calls.StateEdges.{IsStatePair}
 use Rattle.state_graph.specs.inside.Growing.{AreSized, IsFirstFrom, IsGrown, IsGrowing, IsNextAt, IsPairBetween, IsPassedPair, IsPassedUpTo, IsPassing, IsStateCount, RowsAscend, StaysSmallBelow}
 use Rattle.digraph.proofs.AddedEdges.{no_edge}
 use Rattle.dep_state.proofs.TaskPlaces.{impeder_inside, row_some}

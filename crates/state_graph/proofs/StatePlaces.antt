@@ -4,18 +4,18 @@ use Rattle.std.specs.Prelude.{Contains, ◌↔◌}
 use Rattle.std.proofs.lemmas.List.{get_or-take, length-take-le, take_all}
 use Rattle.armus_base.specs.Counts.{IsCount}
 use Rattle.armus_base.specs.Graphs.{StateEdge, StateCount, StaysSmall}
-use Rattle.armus_base.specs.Relations.{IsInClosedSet}
-use Rattle.armus_base.specs.Statuses.{IsInOrder}
+use Rattle.armus_base.specs.calls.Relations.{IsInClosedSet}
+use Rattle.armus_base.specs.calls.Statuses.{IsInOrder}
 use Rattle.armus_base.specs.declared.event.Event.{Event}
 use Rattle.armus_base.specs.declared.status.Status.{Status}
 use Rattle.armus_base.proofs.Counts.{count_along, count_same}
-use Rattle.digraph.specs.Graph.{HasEdge}
-use Rattle.dep_state.specs.Deps.{Deps, IsDepsOf}
+use Rattle.digraph.specs.calls.Graph.{HasEdge}
+use Rattle.dep_state.specs.calls.Deps.{Deps, IsDepsOf}
 use Rattle.dep_state.proofs.DeadSets.{IsDead, dead_to_state, state_to_dead}
 use Rattle.dep_state.proofs.EventPlaces.{EventAt, one_event, one_event_place, awaited_at, impeded_at}
 use Rattle.dep_state.proofs.TaskPlaces.{element, count}
 use Rattle.dep_state.proofs.Transfer.{transfer}
-use Rattle.state_graph.specs.StateEdges.{IsStatePair}
+use Rattle.state_graph.specs.calls.StateEdges.{IsStatePair}
 use Rattle.state_graph.specs.inside.Growing.{IsStateCount, StaysSmallBelow}
 
 module _ (ss : List Status) (ok : IsInOrder ss) (d : Deps) (is : IsDepsOf ss d) where

@@ -6,17 +6,17 @@ use Rattle.std.proofs.lemmas.List.{length-append, get_or_push}
 use Rattle.armus_base.specs.Counts.{IsCount}
 use Rattle.armus_base.specs.DeadLists.{IsDeadList}
 use Rattle.armus_base.specs.Graphs.{StateEdge}
-use Rattle.armus_base.specs.Statuses.{IsInOrder}
+use Rattle.armus_base.specs.calls.Statuses.{IsInOrder}
 use Rattle.armus_base.specs.declared.event.Event.{Event}
 use Rattle.armus_base.specs.declared.ids.TaskId.{TaskId}
 use Rattle.armus_base.specs.declared.status.Status.{Status}
-use Rattle.digraph.specs.Graph.{HasEdge, TellsCycles}
-use Rattle.dep_state.specs.Deps.{Deps, IsDepsOf}
-use Rattle.dep_state.specs.Picks.{IsPick}
+use Rattle.digraph.specs.calls.Graph.{HasEdge, TellsCycles}
+use Rattle.dep_state.specs.calls.Deps.{Deps, IsDepsOf}
+use Rattle.dep_state.specs.calls.Picks.{IsPick}
 use Rattle.dep_state.proofs.Made.{left_of}
 use Rattle.dep_state.proofs.TaskPlaces.{count, dead_picked}
 use Rattle.state_graph.specs.inside.Growing.{IsAnswersAt}
-use Rattle.state_graph.specs.StateEdges.{StateEdges, IsStateGraphOf, IsStatePair}
+use Rattle.state_graph.specs.calls.StateEdges.{StateEdges, IsStateGraphOf, IsStatePair}
 use Rattle.state_graph.proofs.StatePlaces.{dead_event, edges_count}
 
 module _ (ss : List Status) (ok : IsInOrder ss) (d : Deps) (is : IsDepsOf ss d) where

@@ -2,10 +2,10 @@
 use Rattle.std.proofs.Common.{◌≡◌, ℕ, ◌+◌, ◌<◌, List, length, sym, subst, ◌⊎◌, inl, inr, arith, get_or}
 use Rattle.std.specs.Prelude.{Contains, ◌↔◌}
 use Rattle.std.proofs.lemmas.Bool.{cases_eq}
-use Rattle.digraph.specs.Graph.{HasEdge}
-use Rattle.dep_state.specs.Deps.{Deps, AreRelations, impeders_of}
+use Rattle.digraph.specs.calls.Graph.{HasEdge}
+use Rattle.dep_state.specs.calls.Deps.{Deps, AreRelations, impeders_of}
 use Rattle.dep_state.proofs.TaskPlaces.{row_some, impeder_inside}
-use Rattle.state_graph.specs.StateEdges.{IsStatePair}
+use Rattle.state_graph.specs.calls.StateEdges.{IsStatePair}
 
 -- a task impedes the event at i and awaits the event at j
 abbrev pub IsPairBy : Deps → ℕ → ℕ → Type 0

@@ -3,14 +3,14 @@ ghost use Rattle.std.specs.Prelude.{◌≡◌, ◌↔◌, ◌<◌, ℕ, List, le
 ghost use Rattle.armus_base.specs.Counts.{IsCount};
 ghost use Rattle.armus_base.specs.DeadLists.{IsDeadList};
 ghost use Rattle.armus_base.specs.Graphs.{StateEdge, StaysSmall};
-ghost use Rattle.armus_base.specs.Statuses.{IsInOrder};
+ghost use Rattle.armus_base.specs.calls.Statuses.{IsInOrder};
 ghost use Rattle.armus_base.specs.declared.event.Event.{Event};
 ghost use Rattle.armus_base.specs.declared.status.Status.{Status};
-ghost use Rattle.digraph.specs.Graph.{HasEdge};
-ghost use Rattle.dep_state.specs.Deps.{Deps, IsDepsOf};
-ghost use Rattle.state_graph.specs.StateEdges.{IsStateGraphOf, IsStatePair};
+ghost use Rattle.digraph.specs.calls.Graph.{HasEdge};
+ghost use Rattle.dep_state.specs.calls.Deps.{Deps, IsDepsOf};
+ghost use Rattle.state_graph.specs.calls.StateEdges.{IsStateGraphOf, IsStatePair};
 ghost use Rattle.state_graph.specs.inside.Growing.{IsAnswersAt};
-ghost use Rattle.state_graph.specs.BoundedEnds.{IsBoundedEnd};
+ghost use Rattle.state_graph.specs.calls.BoundedEnds.{IsBoundedEnd};
 
 use crate::end::SgEnd;
 use crate::growth::{grow, start};
@@ -32,7 +32,7 @@ pub struct StateGraph {
 
 impl Model for StateGraph {
     ghost use Rattle.std.specs.Prelude.{◌≡◌, ◌<◌, length, All};
-    ghost use Rattle.state_graph.specs.StateEdges.{StateEdges};
+    ghost use Rattle.state_graph.specs.calls.StateEdges.{StateEdges};
 
     ghost Value = { StateEdges };
 

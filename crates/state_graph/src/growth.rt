@@ -1,7 +1,7 @@
 // The state graph of the first tasks, one task after another.
 ghost use Rattle.std.specs.Prelude.{◌≡◌, ◌↔◌, ◌⊎◌, ◌∷◌, ◌+◌, ◌<◌, ◌≤◌, ℕ, List, [], length, replicate, slice_index, IfOk, OnOk, MatchResult};
-ghost use Rattle.digraph.specs.Graph.{HasEdge, graph_of};
-ghost use Rattle.dep_state.specs.Deps.{impeders_of};
+ghost use Rattle.digraph.specs.calls.Graph.{HasEdge, graph_of};
+ghost use Rattle.dep_state.specs.calls.Deps.{impeders_of};
 ghost use Rattle.state_graph.specs.inside.Growing.{AreSized, IsGrown, IsGrowing, IsPassing, IsPairBetween, IsWhole, RowsAscend, StaysSmallBelow};
 ghost use Rattle.state_graph.specs.inside.Ends.{IsEndAt};
 

@@ -1,7 +1,7 @@
 // The edges of the whole state graph, event by event.
 ghost use Rattle.std.specs.Prelude.{◌≡◌, ◌↔◌, ◌⊎◌, ◌<◌, ℕ, length, Contains, slice_index, IfOk, OnOk};
-ghost use Rattle.digraph.specs.Graph.{HasEdge};
-ghost use Rattle.dep_state.specs.Deps.{impeders_of};
+ghost use Rattle.digraph.specs.calls.Graph.{HasEdge};
+ghost use Rattle.dep_state.specs.calls.Deps.{impeders_of};
 ghost use Rattle.state_graph.specs.inside.Growing.{IsWhole};
 
 use armus_base::NoMemory;

@@ -12,10 +12,10 @@ use Rattle.armus_base.proofs.Again.{in_code_plain}
 use Rattle.armus_base.proofs.MaximalExists.{ends_or_goes}
 use Rattle.armus_base.proofs.Members.{by_code_next, plain_undropped}
 use Rattle.armus_base.proofs.Tasks.{action_of_task}
-use Rattle.pl_core.specs.Moves.{IsWorldStep}
-use Rattle.pl_core.specs.Stands.{IsEnabled}
+use Rattle.pl_core.specs.calls.Moves.{IsWorldStep}
+use Rattle.pl_core.specs.calls.Stands.{IsEnabled}
 use Rattle.pl_core.specs.Tasks.{IsAtOp}
-use Rattle.pl_core.specs.Worlds.{IsOpeningWorld, WorldValue, action_by_code, state_of}
+use Rattle.pl_core.specs.calls.Worlds.{IsOpeningWorld, WorldValue, action_by_code, state_of}
 use Rattle.pl_syntax.specs.declared.tree.Program.{Program}
 use Rattle.locked_world.specs.Journals.{journal_of}
 use Rattle.schedule.specs.Replays.{IsOwnNextStep}
@@ -25,15 +25,15 @@ use Rattle.schedule.proofs.JournalFits.{journal_fits_plan}
 use Rattle.schedule.proofs.LineByLine.{enabled_from, opening_is, step_follows}
 use Rattle.accounts.specs.Accounts.{Layout}
 use Rattle.task_sayings.specs.Places.{said_of}
-use Rattle.step_lines.specs.SerialRuns.{IsSerialRun, MayGoOn}
-use Rattle.step_lines.specs.ShownSteps.{AreLinesOf, IsLineOf, first_steps, most_shown, rest_line}
-use Rattle.step_lines.specs.StepWords.{step_line}
-use Rattle.step_lines.specs.SteppedRuns.{IsSteppedRun}
+use Rattle.step_lines.specs.SerialRuns.{IsSerialRun, TaskMayGoOn}
+use Rattle.step_lines.specs.ShownSteps.{AreLinesOf, IsLineOf, first_steps, most_shown, more_steps_line}
+use Rattle.step_lines.specs.StepWords.{shown_step_line}
+use Rattle.step_lines.specs.calls.SteppedRuns.{IsSteppedRun}
 use Rattle.step_lines.specs.declared.facts.StepFacts.{StepFacts}
 use Rattle.step_lines.specs.declared.stepping.SteppedRun.{SteppedRun}
 use Rattle.step_lines.specs.declared.stepping.Stepping.{Stepping}
-use Rattle.step_lines.specs.inside.Known.{IsKnown, layout_of}
-use Rattle.step_lines.specs.inside.SoFar.{GoesOnWith, IsSoFar, next_line}
+use Rattle.step_lines.specs.inside.Known.{AreKnownFacts, kept_layout}
+use Rattle.step_lines.specs.inside.SoFar.{HasNextLine, IsSoFar, next_line}
 
 -- ---- which steps are shown
 
@@ -55,7 +55,7 @@ shown_same e h l =
 -- ---- a world that follows a run
 
 -- a task that may go on after a run is enabled in a world at its end
-enabled_there : (w : WorldValue) (h : List Step) (t : ℕ) → IsAt w h → MayGoOn w.plan h t → IsEnabled w t
+enabled_there : (w : WorldValue) (h : List Step) (t : ℕ) → IsAt w h → TaskMayGoOn w.plan h t → IsEnabled w t
 enabled_there w h t at (x, by_code, legal) = enabled_from w.plan w h t x refl at (record { by_code = by_code; legal = legal })
 
 -- the last step of a plain run is the next by its task's code
@@ -65,15 +65,15 @@ own_next plan e h run =
     ∙ ap Some (in_code_plain e.action run.1.1)
 
 -- so after the steps before it, it may be made
-pub last_may_go_on : (plan : Plan) (e : Step) (h : List Step) → IsPlainRun plan (e ∷ h) → MayGoOn plan h e.task
+pub last_may_go_on : (plan : Plan) (e : Step) (h : List Step) → IsPlainRun plan (e ∷ h) → TaskMayGoOn plan h e.task
 last_may_go_on plan e h run = (e.action, own_next plan e h run, run.0.1.legal)
 
 -- the line of the next step is that of the step
 line_there : (l : Layout) (p : Program) (w : WorldValue) (h : List Step) (t number : ℕ) (x : Action) (old new : List ℕ) → IsAt w h
-    → action_at w.plan t (places h t).done ≡ Some x → number ≡ length h + 1 → GoesOnWith l p number w t old new
+    → action_at w.plan t (places h t).done ≡ Some x → number ≡ length h + 1 → HasNextLine l p number w t old new
     → (line : List ℕ) × IsLineOf l p w.plan h (record { task = t; action = x }) line × (new ≡ old ++ line)
 line_there l p w h t number x old new at next counted goes = (
-  step_line l p (length h + 1) (state_after h) t x goes.op,
+  shown_step_line l p (length h + 1) (state_after h) t x goes.op,
   record { op = goes.op; stands = subst (λ (a : ℕ → Place). IsAtOp (code_of w.plan t) (a t).done goes.op) at.there goes.stands; line_is = refl },
   goes.is ∙ ap (λ (line : List ℕ). old ++ line) is,
 )
@@ -81,17 +81,17 @@ line_there l p w h t number x old new at next counted goes = (
     by_code : action_by_code w t ≡ Some x
     by_code = ap (λ (a : ℕ → Place). action_at w.plan t (a t).done) at.there ∙ next
 
-    is : next_line l p number w t goes.op ≡ step_line l p (length h + 1) (state_after h) t x goes.op
+    is : next_line l p number w t goes.op ≡ shown_step_line l p (length h + 1) (state_after h) t x goes.op
     is =
-        ap (said_of (λ y. step_line l p number (state_of w) t y goes.op)) by_code
-        ∙ ap (λ n. step_line l p n (state_of w) t x goes.op) counted
-        ∙ ap (λ s. step_line l p (length h + 1) s t x goes.op) (state_is w h at)
+        ap (said_of (λ y. shown_step_line l p number (state_of w) t y goes.op)) by_code
+        ∙ ap (λ n. shown_step_line l p n (state_of w) t x goes.op) counted
+        ∙ ap (λ s. shown_step_line l p (length h + 1) s t x goes.op) (state_is w h at)
 
 -- ---- one more step
 
 module _ (l : Layout) (p : Program) (old new : Stepping) (t : ℕ) (h : List Step) (so_far : IsSoFar l p h old) (makes : IsWorldStep old.world new.world t)
     (least : (u : ℕ) → u < t → IsEnabled old.world u → ⊥) (counted : new.steps ≡ old.steps + 1)
-    (shown : old.steps < most_shown → GoesOnWith l p (old.steps + 1) old.world t old.lines.items new.lines.items)
+    (shown : old.steps < most_shown → HasNextLine l p (old.steps + 1) old.world t old.lines.items new.lines.items)
     (rest : most_shown ≤ old.steps → new.lines.items ≡ old.lines.items) where
   follows : (x : Action) × IsOwnNextStep old.world.plan h t x × IsAt new.world (record { task = t; action = x } ∷ h)
   follows = step_follows old.world.plan old.world new.world h t refl so_far.at makes
@@ -172,22 +172,22 @@ whole_there w h at quiet t forked = elim (ends_or_goes w.plan at.checked h at.ru
 ]
 
 -- a run that has come to its end
-module _ (facts : StepFacts) (known : IsKnown facts) (plan : Plan) (run : Stepping) (h : List Step)
-    (so_far : IsSoFar (layout_of facts) facts.program.now h run) (same : run.world.plan ≡ plan)
+module _ (facts : StepFacts) (known : AreKnownFacts facts) (plan : Plan) (run : Stepping) (h : List Step)
+    (so_far : IsSoFar (kept_layout facts) facts.program.now h run) (same : run.world.plan ≡ plan)
     (quiet : (t : ℕ) → t < length run.world.plan.parents → IsEnabled run.world t → ⊥) (lines : List ℕ) (end : Final)
-    (lines_are : lines ≡ run.lines.items ++ rest_line (run.steps - most_shown)) (end_is : end ≡ final_of run.world.plan (state_of run.world)) where
+    (lines_are : lines ≡ run.lines.items ++ more_steps_line (run.steps - most_shown)) (end_is : end ≡ final_of run.world.plan (state_of run.world)) where
   by_facts : IsSteppedRun facts.places.now facts.program.now run.world.plan (record { lines = lines; world = run.world; end = end })
   by_facts = record {
     steps = h;
     whole = record { serial = so_far.serial; maximal = whole_there run.world h so_far.at quiet };
     shown = record {
       reads = known.reads;
-      layout = layout_of facts;
+      layout = kept_layout facts;
       of_text = refl;
       is_layout = known.layout;
       shown = run.lines.items;
       each = so_far.lines;
-      lines_are = lines_are ∙ ap (λ n. run.lines.items ++ rest_line (n - most_shown)) so_far.counted;
+      lines_are = lines_are ∙ ap (λ n. run.lines.items ++ more_steps_line (n - most_shown)) so_far.counted;
     };
     plan_is = refl;
     there = so_far.at.there;

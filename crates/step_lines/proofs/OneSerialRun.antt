@@ -9,8 +9,8 @@ use Rattle.armus_base.specs.Runs.{HasEnded, IsMaximal, IsPlainRun, is_done, is_r
 use Rattle.armus_base.specs.States.{State, Step}
 use Rattle.armus_base.proofs.Members.{only_passes, plain_undropped}
 use Rattle.armus_base.proofs.Stepping.{acting_forked, places_fix}
-use Rattle.step_lines.specs.Laws.{FirstStepsAreSerial, OneSerialRun}
-use Rattle.step_lines.specs.SerialRuns.{IsSerialRun, MayGoOn}
+use Rattle.step_lines.specs.calls.Laws.{FirstStepsAreSerial, OneSerialRun}
+use Rattle.step_lines.specs.SerialRuns.{IsSerialRun, TaskMayGoOn}
 use Rattle.step_lines.proofs.GoingOn.{last_may_go_on, own_next}
 use Rattle.step_lines.proofs.SerialIsPlain.{serial_is_plain}
 
@@ -35,12 +35,12 @@ module _ (plan : Plan) (checked : IsCheckedPlan plan) (h : List Step) (run : IsP
   none_is_some None is some = absurd (false≢true some)
   none_is_some (Some x) is some = absurd (cc)
 
-  pub ended_stays : (t : ℕ) → HasEnded plan (state_after h) (places h t) t → MayGoOn plan h t → ⊥
+  pub ended_stays : (t : ℕ) → HasEnded plan (state_after h) (places h t) t → TaskMayGoOn plan h t → ⊥
   ended_stays t (is_done none) (x, next, legal) = absurd (let some = sym none ∙ next in cc)
   ended_stays t (is_waiting e on unreached) (x, next, legal) = unreached ((only_passes plan (state_after h) t x e legal on).1)
   ended_stays t (is_refused some left) (x, next, legal) = none_is_some ((state_after h).refused t) (unrefused t) some
 
-  pub maximal_stays : IsMaximal plan h → (t : ℕ) → MayGoOn plan h t → ⊥
+  pub maximal_stays : IsMaximal plan h → (t : ℕ) → TaskMayGoOn plan h t → ⊥
   maximal_stays maximal t (x, next, legal) = ended_stays t (maximal t (acting_forked plan (state_after h) t x legal)) (x, next, legal)
 
 -- one step is the next after a serial plain run
@@ -89,8 +89,8 @@ none_longer plan checked h run maximal (d ∷ g) other l =
       | inl same ↦ as_long plan h (d ∷ g) run other same
       | inr more ↦
           let rest : h ≡ g = none_longer plan checked h run maximal g other.0 (fewer more) in
-          let may : MayGoOn plan g d.task = last_may_go_on plan d g (serial_is_plain plan (d ∷ g) other) in
-          absurd (maximal_stays plan checked h (serial_is_plain plan h run) maximal d.task (subst (λ (f : List Step). MayGoOn plan f d.task) (sym rest) may))
+          let may : TaskMayGoOn plan g d.task = last_may_go_on plan d g (serial_is_plain plan (d ∷ g) other) in
+          absurd (maximal_stays plan checked h (serial_is_plain plan h run) maximal d.task (subst (λ (f : List Step). TaskMayGoOn plan f d.task) (sym rest) may))
     ]
   where
     fewer : length h ≢ length (d ∷ g) → length h ≤ length g

@@ -12,9 +12,9 @@ use Rattle.pl_syntax.proofs.OneListOfEnds.{one_list_of_ends}
 use Rattle.pl_syntax.proofs.OneListOfOffsets.{one_list_of_offsets}
 use Rattle.pl_syntax.proofs.Unique.{one_tree}
 use Rattle.accounts.specs.Accounts.{IsLayout, Layout}
-use Rattle.step_lines.specs.Laws.{OneShowing}
-use Rattle.step_lines.specs.ShownSteps.{AreLinesOf, IsLineOf, first_steps, most_shown, rest_line}
-use Rattle.step_lines.specs.StepWords.{step_line}
+use Rattle.step_lines.specs.calls.Laws.{OneShowing}
+use Rattle.step_lines.specs.ShownSteps.{AreLinesOf, IsLineOf, first_steps, most_shown, more_steps_line}
+use Rattle.step_lines.specs.StepWords.{shown_step_line}
 
 -- more ops have no fewer actions
 more_actions : (ops : List Op) (n m : ℕ) → n ≤ m → actions_before ops n ≤ actions_before ops m
@@ -61,7 +61,7 @@ module _ (l : Layout) (p : Program) (plan : Plan) where
   one_line : (h : List Step) (e : Step) (line other : List ℕ) → IsLineOf l p plan h e line → IsLineOf l p plan h e other → line ≡ other
   one_line h e line other a b =
       a.line_is
-      ∙ ap (step_line l p (length h + 1) (state_after h) e.task e.action)
+      ∙ ap (shown_step_line l p (length h + 1) (state_after h) e.task e.action)
       (one_op (code_of plan e.task) (places h e.task).done a.op b.op a.stands b.stands)
       ∙ sym b.line_is
 
@@ -84,5 +84,5 @@ one_showing text p q plan h lines other a b =
     let of_a : AreLinesOf a.layout p plan (first_steps most_shown h) b.shown =
     subst (λ (l : Layout). AreLinesOf l p plan (first_steps most_shown h) b.shown) layouts of_p in
     a.lines_are
-    ∙ ap (λ (shown : List ℕ). shown ++ rest_line _) (one_list a.layout p plan (first_steps most_shown h) a.shown b.shown a.each of_a)
+    ∙ ap (λ (shown : List ℕ). shown ++ more_steps_line _) (one_list a.layout p plan (first_steps most_shown h) a.shown b.shown a.each of_a)
     ∙ sym b.lines_are

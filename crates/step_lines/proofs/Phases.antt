@@ -4,7 +4,7 @@ use Rattle.armus_base.specs.CheckedPlans.{IsCheckedPlan}
 use Rattle.armus_base.specs.Plans.{Advances, Registers}
 use Rattle.armus_base.specs.Runs.{IsReachable}
 use Rattle.armus_base.specs.States.{IsActive}
-use Rattle.pl_core.specs.Worlds.{WorldValue, action_by_code, places_of, state_of}
+use Rattle.pl_core.specs.calls.Worlds.{WorldValue, action_by_code, places_of, state_of}
 use Rattle.pl_core.proofs.Bounds.{phaser_of_member}
 use Rattle.pl_core.proofs.GoingOn.{legal_when_active, phase_when_active}
 

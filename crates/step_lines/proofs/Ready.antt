@@ -6,9 +6,9 @@ use Rattle.armus_base.specs.CheckedPlans.{IsCheckedPlan}
 use Rattle.armus_base.specs.Plans.{Action, Passes, code_of}
 use Rattle.armus_base.specs.Runs.{IsReachable}
 use Rattle.armus_base.specs.States.{IsLegal}
-use Rattle.pl_core.specs.Stands.{IsBeforeOp}
+use Rattle.pl_core.specs.calls.Stands.{IsBeforeOp}
 use Rattle.pl_core.specs.Tasks.{IsAtOp}
-use Rattle.pl_core.specs.Worlds.{WorldValue, action_by_code, places_of, state_of}
+use Rattle.pl_core.specs.calls.Worlds.{WorldValue, action_by_code, places_of, state_of}
 use Rattle.pl_core.specs.inside.Ops.{action_of}
 use Rattle.pl_core.proofs.GoingOn.{legal_when_active}
 use Rattle.step_lines.specs.inside.SoFar.{IsNoAwait}

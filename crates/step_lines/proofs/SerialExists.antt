@@ -15,8 +15,9 @@ use Rattle.armus_base.proofs.NextIsLegal.{next_is_legal}
 use Rattle.armus_base.proofs.Published.{published_passes}
 use Rattle.armus_base.proofs.Stepping.{acting_forked, places_fix}
 use Rattle.armus_base.proofs.Tasks.{action_of_task, reached_or_not}
-use Rattle.step_lines.specs.Laws.{SerialRunExists}
-use Rattle.step_lines.specs.SerialRuns.{IsSerialRun, IsWholeSerialRun, MayGoOn}
+use Rattle.step_lines.specs.calls.Laws.{SerialRunExists}
+use Rattle.step_lines.specs.SerialRuns.{IsSerialRun, TaskMayGoOn}
+use Rattle.step_lines.specs.calls.SerialRuns.{IsWholeSerialRun}
 use Rattle.step_lines.proofs.GoingOn.{last_may_go_on, own_next}
 use Rattle.step_lines.proofs.SerialIsPlain.{serial_is_plain}
 
@@ -26,7 +27,7 @@ module _ (plan : Plan) (checked : IsCheckedPlan plan) (h : List Step) (run : IsP
       ap (λ s. s.refused t) ((places_fix plan checked h run.0).0) ∙ ap (refused_at plan t (places h t).done) (plain_undropped plan h run t)
 
   abbrev MayOrNot : ℕ → Type 0
-  MayOrNot t = MayGoOn plan h t ⊎ (MayGoOn plan h t → ⊥)
+  MayOrNot t = TaskMayGoOn plan h t ⊎ (TaskMayGoOn plan h t → ⊥)
 
   -- a task that waits
   waiting : (t : ℕ) → (state_after h).forked t ≡ true → (e : Event) → (state_after h).published t ≡ Some e → MayOrNot t
@@ -57,10 +58,10 @@ module _ (plan : Plan) (checked : IsCheckedPlan plan) (h : List Step) (run : IsP
   may_or_not t = by_next t (action_at plan t (places h t).done) refl
 
   abbrev Least : Type 0
-  Least = (t : ℕ) × MayGoOn plan h t × ((u : ℕ) → u < t → MayGoOn plan h u → ⊥)
+  Least = (t : ℕ) × TaskMayGoOn plan h t × ((u : ℕ) → u < t → TaskMayGoOn plan h u → ⊥)
 
   -- of the first tasks one is the least that may go on, or none may
-  least_or_none : (n : ℕ) → Least ⊎ ((t : ℕ) → t < n → MayGoOn plan h t → ⊥)
+  least_or_none : (n : ℕ) → Least ⊎ ((t : ℕ) → t < n → TaskMayGoOn plan h t → ⊥)
   least_or_none zero = inr (λ t l may. absurd (omega (arith, l)))
   least_or_none (suc n) =
       elim (least_or_none n) [
@@ -71,13 +72,13 @@ module _ (plan : Plan) (checked : IsCheckedPlan plan) (h : List Step) (run : IsP
               | inr not_last ↦ inr (λ t l may.
                   elim (cases_lt t n) [
                     | inl below ↦ none t below may
-                    | inr above ↦ let same : t ≡ n = omega (arith, l, above) in not_last (subst (MayGoOn plan h) same may)
+                    | inr above ↦ let same : t ≡ n = omega (arith, l, above) in not_last (subst (TaskMayGoOn plan h) same may)
                   ])
             ]
       ]
 
   -- where none may, the run has ended
-  pub none_is_maximal : ((t : ℕ) → t < length plan.parents → MayGoOn plan h t → ⊥) → IsMaximal plan h
+  pub none_is_maximal : ((t : ℕ) → t < length plan.parents → TaskMayGoOn plan h t → ⊥) → IsMaximal plan h
   none_is_maximal none t forked = elim (ends_or_goes plan checked h run t) [
     | inl ends ↦ ends forked
     | inr (e, more) ↦

@@ -2,8 +2,7 @@
 pub mod SerialRuns
 pub mod StepWords
 pub mod ShownSteps
-pub mod SteppedRuns
--- What is proved of it.
-pub mod Laws
 -- How the program does it: private contracts alone cite these.
 pub mod inside
+-- Words of contracts further down, which no promise of a program needs.
+pub mod calls

@@ -7,7 +7,7 @@ use Rattle.pl_core.specs.Tasks.{IsAtOp}
 use Rattle.pl_syntax.specs.declared.tree.Program.{Program}
 use Rattle.pl_syntax.specs.Grammar.{IsText}
 use Rattle.accounts.specs.Accounts.{IsLayout, Layout}
-use Rattle.step_lines.specs.StepWords.{step_line}
+use Rattle.step_lines.specs.StepWords.{shown_step_line}
 
 -- how many steps are shown at most
 abbrev pub most_shown : ℕ
@@ -17,7 +17,7 @@ most_shown = 10000
 pub record IsLineOf (l : Layout) (p : Program) (plan : Plan) (h : List Step) (e : Step) (line : List ℕ) : Type 0 where
   pub op : ℕ
   pub stands : IsAtOp (code_of plan e.task) (places h e.task).done op
-  pub line_is : line ≡ step_line l p (length h + 1) (state_after h) e.task e.action op
+  pub line_is : line ≡ shown_step_line l p (length h + 1) (state_after h) e.task e.action op
 
 -- the lines of these steps, the first one first; of the steps the last one stands first
 abbrev pub AreLinesOf : Layout → Program → Plan → List Step → List ℕ → Type 0
@@ -30,9 +30,9 @@ abbrev pub first_steps : ℕ → List Step → List Step
 first_steps n h = drop (length h - n) h
 
 -- how many more steps there were: and 12 more
-abbrev pub rest_line : ℕ → List ℕ
-rest_line zero = []
-rest_line (suc n) = codes "and " ++ decimal (suc n) ++ codes " more\n"
+abbrev pub more_steps_line : ℕ → List ℕ
+more_steps_line zero = []
+more_steps_line (suc n) = codes "and " ++ decimal (suc n) ++ codes " more\n"
 
 -- the lines that show the steps of this run of the text's plan: one for each of the first steps, and one for the rest, if there is one
 pub record AreShown (text : List ℕ) (p : Program) (plan : Plan) (h : List Step) (lines : List ℕ) : Type 0 where
@@ -42,4 +42,4 @@ pub record AreShown (text : List ℕ) (p : Program) (plan : Plan) (h : List Step
   pub is_layout : IsLayout p layout
   pub shown : List ℕ
   pub each : AreLinesOf layout p plan (first_steps most_shown h) shown
-  pub lines_are : lines ≡ shown ++ rest_line (length h - most_shown)
+  pub lines_are : lines ≡ shown ++ more_steps_line (length h - most_shown)

@@ -22,16 +22,16 @@ given_name (Some (a_plain (new_phaser x))) = x
 given_name _ = []
 
 -- the name that statement n gives, behind a number:  (worker)
-abbrev pub name_words : Program → ℕ → List ℕ
-name_words p n = codes " (" ++ given_name (statement_in (written_statements p.body) n) ++ codes ")"
+abbrev pub given_name_words : Program → ℕ → List ℕ
+given_name_words p n = codes " (" ++ given_name (statement_in (written_statements p.body) n) ++ codes ")"
 
 -- a task: t3 (worker); task 0 has no name
-abbrev pub task_words : Program → ℕ → List ℕ
-task_words p t = task_word t ++ said_of (name_words p) (task_origin p t)
+abbrev pub drawn_task_words : Program → ℕ → List ℕ
+drawn_task_words p t = task_word t ++ said_of (given_name_words p) (task_origin p t)
 
 -- a phaser: p0 (left)
-abbrev pub phaser_words : Program → ℕ → List ℕ
-phaser_words p q = codes "p" ++ decimal q ++ said_of (name_words p) (phaser_origin p q)
+abbrev pub made_phaser_words : Program → ℕ → List ℕ
+made_phaser_words p q = codes "p" ++ decimal q ++ said_of (given_name_words p) (phaser_origin p q)
 
 -- ---- where a step is made
 
@@ -54,9 +54,9 @@ whence_words l p t None = said_of (λ f. place_words l.text (end_place l f)) (fo
 -- ---- what a step changes
 
 -- with a phase, where there is one:  with phase 2
-abbrev pub with_phase : Option ℕ → List ℕ
-with_phase None = []
-with_phase (Some n) = codes " with phase " ++ decimal n
+abbrev pub with_phase_words : Option ℕ → List ℕ
+with_phase_words None = []
+with_phase_words (Some n) = codes " with phase " ++ decimal n
 
 -- from this phase to the next: phase 0 to 1
 abbrev pub phase_change : Option ℕ → List ℕ
@@ -66,15 +66,15 @@ phase_change (Some n) = codes "phase " ++ decimal n ++ codes " to " ++ decimal (
 -- the event that is waited for: waits for phase 1 of p0 (left)
 abbrev pub waits_words : Program → Option Event → List ℕ
 waits_words p None = []
-waits_words p (Some e) = codes "waits for phase " ++ decimal e.n ++ codes " of " ++ phaser_words p e.p.0
+waits_words p (Some e) = codes "waits for phase " ++ decimal e.n ++ codes " of " ++ made_phaser_words p e.p.0
 
 -- what task t changes in a state by this action
 abbrev pub change_words : Program → State → ℕ → Action → List ℕ
-change_words p s t (Makes q) = codes "makes " ++ phaser_words p q ++ with_phase (Some 0)
-change_words p s t (Registers c q) = codes "registers " ++ task_words p c ++ codes " on " ++ phaser_words p q ++ with_phase (s.phases t q)
-change_words p s t (Forks c) = codes "forks " ++ task_words p c
-change_words p s t (Advances q) = phaser_words p q ++ codes ": " ++ phase_change (s.phases t q)
-change_words p s t (Drops q) = codes "leaves " ++ phaser_words p q
+change_words p s t (Makes q) = codes "makes " ++ made_phaser_words p q ++ with_phase_words (Some 0)
+change_words p s t (Registers c q) = codes "registers " ++ drawn_task_words p c ++ codes " on " ++ made_phaser_words p q ++ with_phase_words (s.phases t q)
+change_words p s t (Forks c) = codes "forks " ++ drawn_task_words p c
+change_words p s t (Advances q) = made_phaser_words p q ++ codes ": " ++ phase_change (s.phases t q)
+change_words p s t (Drops q) = codes "leaves " ++ made_phaser_words p q
 change_words p s t (Blocks aim) = waits_words p (awaited (Some (Blocks aim)) (s.phases t))
 change_words p s t (Passes q) = codes "goes on"
 change_words p s t (Refuses aim) = []
@@ -82,6 +82,6 @@ change_words p s t (Refuses aim) = []
 -- ---- the line
 
 -- the line of a step with this number, which task t makes in a state by this action, at op i of its code: 7: t1 (other) at 7:3: adv(right): p1 (right): phase 0 to 1
-abbrev pub step_line : Layout → Program → ℕ → State → ℕ → Action → ℕ → List ℕ
-step_line l p number s t x i =
-    decimal number ++ codes ": " ++ task_words p t ++ codes " at " ++ whence_words l p t (op_origin p t i) ++ codes ": " ++ change_words p s t x ++ codes "\n"
+abbrev pub shown_step_line : Layout → Program → ℕ → State → ℕ → Action → ℕ → List ℕ
+shown_step_line l p number s t x i =
+    decimal number ++ codes ": " ++ drawn_task_words p t ++ codes " at " ++ whence_words l p t (op_origin p t i) ++ codes ": " ++ change_words p s t x ++ codes "\n"

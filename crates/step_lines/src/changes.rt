@@ -2,13 +2,13 @@
 ghost use Rattle.std.specs.Prelude.{◌≡◌, ◌++◌, ◌+◌, ◌<◌, ◌^◌, ℕ, OnOk, Some, codes, length, slice_get};
 ghost use Rattle.armus_base.specs.Plans.{code_of};
 ghost use Rattle.armus_base.specs.States.{IsActive};
-ghost use Rattle.pl_core.specs.Stands.{IsBeforeOp, IsEnabled};
+ghost use Rattle.pl_core.specs.calls.Stands.{IsBeforeOp, IsEnabled};
 ghost use Rattle.pl_core.specs.Tasks.{IsAtOp};
-ghost use Rattle.pl_core.specs.Worlds.{action_by_code, places_of, state_of};
+ghost use Rattle.pl_core.specs.calls.Worlds.{action_by_code, places_of, state_of};
 ghost use Rattle.pl_core.specs.inside.Ops.{action_of};
 ghost use Rattle.task_sayings.specs.Places.{said_of};
-ghost use Rattle.step_lines.specs.StepWords.{change_words, phase_change, phaser_words, task_words, waits_words, with_phase};
-ghost use Rattle.step_lines.specs.inside.Known.{IsKnown};
+ghost use Rattle.step_lines.specs.StepWords.{change_words, phase_change, made_phaser_words, drawn_task_words, waits_words, with_phase_words};
+ghost use Rattle.step_lines.specs.inside.Known.{AreKnownFacts};
 ghost use Rattle.step_lines.specs.inside.SoFar.{IsNoAwait};
 
 use crate::facts::StepFacts;
@@ -31,7 +31,7 @@ fn op_at(plan: &Plan, t: TaskId, i: u32) -> Option<Op>
 
 // Appends with which phase a task becomes a member.
 fn put_with_phase(alloc: Global, out: &mut Vec<u8>, phase: Option<Phase>) -> Result<(), NoMemory>
-    ensures { OnOk result (out.new.items ≡ out.old.items ++ with_phase phase) }
+    ensures { OnOk result (out.new.items ≡ out.old.items ++ with_phase_words phase) }
 {
     match phase {
         Some(n) => {
@@ -62,7 +62,7 @@ fn put_phase_change(alloc: Global, out: &mut Vec<u8>, phase: Option<Phase>) -> R
 impl<'a> StepFacts<'a> {
     // Appends the event that a task waits for.
     fn put_waits(&self, out: &mut Vec<u8>, event: Event) -> Result<(), NoMemory>
-        requires known { IsKnown self.now }
+        requires known { AreKnownFacts self.now }
         ensures { OnOk result (out.new.items ≡ out.old.items ++ waits_words self.now.program.now (Some event)) }
     {
         put_words(out, b"waits for phase ")?;
@@ -80,9 +80,9 @@ impl<'a> StepFacts<'a> {
         p: PhaserId,
         phase: Option<Phase>,
     ) -> Result<(), NoMemory>
-        requires known { IsKnown self.now }
-        ensures { OnOk result (out.new.items ≡ out.old.items ++ (codes "registers " ++ task_words self.now.program.now c.0 ++ codes " on "
-            ++ phaser_words self.now.program.now p.0 ++ with_phase phase)) }
+        requires known { AreKnownFacts self.now }
+        ensures { OnOk result (out.new.items ≡ out.old.items ++ (codes "registers " ++ drawn_task_words self.now.program.now c.0 ++ codes " on "
+            ++ made_phaser_words self.now.program.now p.0 ++ with_phase_words phase)) }
     {
         put_words(out, b"registers ")?;
         self.put_task(out, c)?;
@@ -93,9 +93,9 @@ impl<'a> StepFacts<'a> {
 
     // Appends what an `adv` changes.
     fn put_adv(&self, out: &mut Vec<u8>, p: PhaserId, phase: Option<Phase>) -> Result<(), NoMemory>
-        requires known { IsKnown self.now }
+        requires known { AreKnownFacts self.now }
         requires room { (n : ℕ) → phase ≡ Some n → n + 1 < 2 ^ 32 }
-        ensures { OnOk result (out.new.items ≡ out.old.items ++ (phaser_words self.now.program.now p.0 ++ codes ": " ++ phase_change phase)) }
+        ensures { OnOk result (out.new.items ≡ out.old.items ++ (made_phaser_words self.now.program.now p.0 ++ codes ": " ++ phase_change phase)) }
     {
         self.put_phaser(out, p)?;
         put_words(out, b": ")?;
@@ -104,8 +104,8 @@ impl<'a> StepFacts<'a> {
 
     // Appends what a `newPhaser` changes.
     fn put_make(&self, out: &mut Vec<u8>, p: PhaserId) -> Result<(), NoMemory>
-        requires known { IsKnown self.now }
-        ensures { OnOk result (out.new.items ≡ out.old.items ++ (codes "makes " ++ phaser_words self.now.program.now p.0 ++ with_phase (Some 0))) }
+        requires known { AreKnownFacts self.now }
+        ensures { OnOk result (out.new.items ≡ out.old.items ++ (codes "makes " ++ made_phaser_words self.now.program.now p.0 ++ with_phase_words (Some 0))) }
     {
         put_words(out, b"makes ")?;
         self.put_phaser(out, p)?;
@@ -114,8 +114,8 @@ impl<'a> StepFacts<'a> {
 
     // Appends what a `fork` changes.
     fn put_fork(&self, out: &mut Vec<u8>, c: TaskId) -> Result<(), NoMemory>
-        requires known { IsKnown self.now }
-        ensures { OnOk result (out.new.items ≡ out.old.items ++ (codes "forks " ++ task_words self.now.program.now c.0)) }
+        requires known { AreKnownFacts self.now }
+        ensures { OnOk result (out.new.items ≡ out.old.items ++ (codes "forks " ++ drawn_task_words self.now.program.now c.0)) }
     {
         put_words(out, b"forks ")?;
         self.put_task(out, c)
@@ -123,8 +123,8 @@ impl<'a> StepFacts<'a> {
 
     // Appends what a `dereg` changes, and a task's end.
     fn put_drop(&self, out: &mut Vec<u8>, p: PhaserId) -> Result<(), NoMemory>
-        requires known { IsKnown self.now }
-        ensures { OnOk result (out.new.items ≡ out.old.items ++ (codes "leaves " ++ phaser_words self.now.program.now p.0)) }
+        requires known { AreKnownFacts self.now }
+        ensures { OnOk result (out.new.items ≡ out.old.items ++ (codes "leaves " ++ made_phaser_words self.now.program.now p.0)) }
     {
         put_words(out, b"leaves ")?;
         self.put_phaser(out, p)
@@ -138,7 +138,7 @@ impl<'a> StepFacts<'a> {
         t: TaskId,
         op: Op,
     ) -> Result<(), NoMemory>
-        requires known { IsKnown self.now }
+        requires known { AreKnownFacts self.now }
         requires task { t.0 < length world.now.plan.parents }
         requires active { IsActive (state_of world.now) t.0 }
         requires next { action_by_code world.now t.0 ≡ Some (action_of op) }
@@ -170,7 +170,7 @@ impl<'a> StepFacts<'a> {
         t: TaskId,
         i: u32,
     ) -> Result<(), NoMemory>
-        requires known { IsKnown self.now }
+        requires known { AreKnownFacts self.now }
         requires task { t.0 < length world.now.plan.parents }
         requires ready { IsBeforeOp world.now t.0 }
         requires at { IsAtOp (code_of world.now.plan t.0) (places_of world.now t.0).done i }
@@ -191,7 +191,7 @@ impl<'a> StepFacts<'a> {
         t: TaskId,
         i: u32,
     ) -> Result<(), NoMemory>
-        requires known { IsKnown self.now }
+        requires known { AreKnownFacts self.now }
         requires task { t.0 < length world.now.plan.parents }
         requires enabled { IsEnabled world.now t.0 }
         requires at { IsAtOp (code_of world.now.plan t.0) (places_of world.now t.0).done i }

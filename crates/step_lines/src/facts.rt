@@ -4,7 +4,7 @@ ghost use Rattle.pl_plan.specs.Forks.{fork_statements};
 ghost use Rattle.pl_syntax.specs.Grammar.{IsText};
 ghost use Rattle.pl_syntax.specs.Tree.{count};
 ghost use Rattle.accounts.specs.Accounts.{brace_of, end_place, numbered, place_or_end, statement_place};
-ghost use Rattle.step_lines.specs.inside.Known.{IsKnown, layout_of};
+ghost use Rattle.step_lines.specs.inside.Known.{AreKnownFacts, kept_layout};
 
 use armus_base::{List, NoMemory};
 use origins::Origins;
@@ -67,7 +67,7 @@ impl<'a> StepFacts<'a> {
         requires few { count program.now.body + 1 < 2 ^ 32 }
         requires reads { IsText places.now program.now }
         requires forks { forks.items ≡ fork_statements program.now }
-        ensures known { IfOk result (λ facts. IsKnown facts) }
+        ensures known { IfOk result (λ facts. AreKnownFacts facts) }
         ensures text { IfOk result (λ facts. facts.places.now ≡ places.now) }
         ensures program { IfOk result (λ facts. facts.program.now ≡ program.now) }
     {
@@ -86,14 +86,14 @@ impl<'a> StepFacts<'a> {
 
     // The place of a statement.
     pub(crate) fn statement(&self, n: u32) -> TextPlace
-        ensures { result ≡ statement_place (layout_of self.now) n }
+        ensures { result ≡ statement_place (kept_layout self.now) n }
     {
         place_or_end(self.places, offset_at(self.offsets.as_slice(), n))
     }
 
     // The place at which the body of a fork ends.
     pub(crate) fn end(&self, fork: u32) -> TextPlace
-        ensures { result ≡ end_place (layout_of self.now) fork }
+        ensures { result ≡ end_place (kept_layout self.now) fork }
     {
         place_or_end(self.places, end_at(self.ends.as_slice(), fork))
     }

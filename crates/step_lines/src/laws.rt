@@ -1,5 +1,5 @@
 // Laws of serial plain runs and of their lines: each is the contract of a function with an empty body.
-ghost use Rattle.step_lines.specs.Laws.{FirstStepsAreSerial, OneSerialRun, OneShowing, SerialIsPlain, SerialRunExists, SerialRunReplays, ShowingExists};
+ghost use Rattle.step_lines.specs.calls.Laws.{FirstStepsAreSerial, OneSerialRun, OneShowing, SerialIsPlain, SerialRunExists, SerialRunReplays, ShowingExists};
 
 /// A serial plain run is a plain run, and its first steps, which are those that are shown, are a serial plain run; and each checked plan has one that has come
 /// to its end, and no other.

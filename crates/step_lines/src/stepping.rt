@@ -1,14 +1,14 @@
 // A run, step by step.
 ghost use Rattle.std.specs.Prelude.{◌≡◌, ◌∷◌, ◌+◌, ◌-◌, ◌<◌, ◌≤◌, ◌^◌, ◌++◌, ℕ, List as Seq, IfOk, OnOk, MatchOption, Ok, length, true, false};
 ghost use Rattle.armus_base.specs.States.{Step};
-ghost use Rattle.pl_core.specs.Stands.{IsEnabled};
+ghost use Rattle.pl_core.specs.calls.Stands.{IsEnabled};
 ghost use Rattle.pl_plan.specs.Forks.{fork_statements};
 ghost use Rattle.pl_syntax.specs.Grammar.{IsText};
 ghost use Rattle.pl_syntax.specs.Tree.{count};
-ghost use Rattle.step_lines.specs.ShownSteps.{most_shown, rest_line};
-ghost use Rattle.step_lines.specs.SteppedRuns.{IsSteppedRun};
-ghost use Rattle.step_lines.specs.inside.Known.{IsKnown, layout_of};
-ghost use Rattle.step_lines.specs.inside.SoFar.{GoesOnWith, IsSoFar};
+ghost use Rattle.step_lines.specs.ShownSteps.{most_shown, more_steps_line};
+ghost use Rattle.step_lines.specs.calls.SteppedRuns.{IsSteppedRun};
+ghost use Rattle.step_lines.specs.inside.Known.{AreKnownFacts, kept_layout};
+ghost use Rattle.step_lines.specs.inside.SoFar.{HasNextLine, IsSoFar};
 
 use crate::facts::StepFacts;
 use armus_base::{Final, List, NoMemory, Plan, TaskId};
@@ -54,10 +54,10 @@ fn put_line(
     t: TaskId,
     number: u32,
 ) -> Result<(), NoMemory>
-    requires known { IsKnown facts.now }
+    requires known { AreKnownFacts facts.now }
     requires task { t.0 < length world.now.plan.parents }
     requires enabled { IsEnabled world.now t.0 }
-    ensures { OnOk result (GoesOnWith (layout_of facts.now) facts.now.program.now number world.now t.0 out.old.items out.new.items) }
+    ensures { OnOk result (HasNextLine (kept_layout facts.now) facts.now.program.now number world.now t.0 out.old.items out.new.items) }
 {
     let i = world.op(t);
     put_number(facts.alloc, out, number)?;
@@ -79,10 +79,10 @@ fn show(
     t: TaskId,
     steps: u32,
 ) -> Result<(), NoMemory>
-    requires known { IsKnown facts.now }
+    requires known { AreKnownFacts facts.now }
     requires task { t.0 < length world.now.plan.parents }
     requires enabled { IsEnabled world.now t.0 }
-    ensures shown { OnOk result (steps < most_shown → GoesOnWith (layout_of facts.now) facts.now.program.now (steps + 1) world.now t.0 out.old.items out.new.items) }
+    ensures shown { OnOk result (steps < most_shown → HasNextLine (kept_layout facts.now) facts.now.program.now (steps + 1) world.now t.0 out.old.items out.new.items) }
     ensures rest { OnOk result (most_shown ≤ steps → out.new.items ≡ out.old.items) }
 {
     if steps < MOST_SHOWN {
@@ -94,7 +94,7 @@ fn show(
 
 // Appends how many more steps there were.
 fn put_rest(alloc: Global, out: &mut Vec<u8>, rest: u32) -> Result<(), NoMemory>
-    ensures { OnOk result (out.new.items ≡ out.old.items ++ rest_line rest) }
+    ensures { OnOk result (out.new.items ≡ out.old.items ++ more_steps_line rest) }
 {
     if rest == 0 {
         return Ok(());
@@ -116,11 +116,11 @@ pub(crate) struct Stepping<'p> {
 impl<'p> Stepping<'p> {
     // Makes the next step, if a task may go on.
     fn go_on(&mut self, facts: &StepFacts<'_>) -> Result<bool, NoMemory>
-        requires known { IsKnown facts.now }
+        requires known { AreKnownFacts facts.now }
         requires room { self.old.steps + 1 < 2 ^ 32 }
         ensures plan { IfOk result (λ moved. self.new.world.plan ≡ self.old.world.plan) }
-        ensures moved { IfOk result (λ moved. moved ≡ true → (h : Seq Step) → IsSoFar (layout_of facts.now) facts.now.program.now h self.old →
-            (e : Step) × IsSoFar (layout_of facts.now) facts.now.program.now (e ∷ h) self.new) }
+        ensures moved { IfOk result (λ moved. moved ≡ true → (h : Seq Step) → IsSoFar (kept_layout facts.now) facts.now.program.now h self.old →
+            (e : Step) × IsSoFar (kept_layout facts.now) facts.now.program.now (e ∷ h) self.new) }
         ensures counted { IfOk result (λ moved. moved ≡ true → self.new.steps ≡ self.old.steps + 1) }
         ensures still { IfOk result (λ moved. moved ≡ false → self.new ≡ self.old) }
         ensures quiet { IfOk result (λ moved. moved ≡ false → (t : ℕ) → t < length self.new.world.plan.parents → IsEnabled self.new.world t → ⊥) }
@@ -143,9 +143,9 @@ fn steps_of<'p>(
     facts: &StepFacts<'_>,
     plan: &'p Plan,
 ) -> Result<Stepping<'p>, NoMemory>
-    requires known { IsKnown facts.now }
+    requires known { AreKnownFacts facts.now }
     ensures plan { IfOk result (λ run. run.world.plan ≡ plan.now) }
-    ensures run { IfOk result (λ run. (h : Seq Step) × IsSoFar (layout_of facts.now) facts.now.program.now h run) }
+    ensures run { IfOk result (λ run. (h : Seq Step) × IsSoFar (kept_layout facts.now) facts.now.program.now h run) }
     ensures quiet { IfOk result (λ run. (t : ℕ) → t < length run.world.plan.parents → IsEnabled run.world t → ⊥) }
 {
     let _tasks = plan.tasks();

@@ -7,8 +7,8 @@ ghost use Rattle.text_places.specs.PlaceWords.{place_words};
 ghost use Rattle.accounts.specs.Accounts.{end_place};
 ghost use Rattle.accounts.specs.AwaitWords.{await_text};
 ghost use Rattle.task_sayings.specs.Places.{said_of};
-ghost use Rattle.step_lines.specs.StepWords.{given_name, name_words, phaser_words, statement_words, task_words, whence_words};
-ghost use Rattle.step_lines.specs.inside.Known.{IsKnown, layout_of};
+ghost use Rattle.step_lines.specs.StepWords.{given_name, given_name_words, made_phaser_words, statement_words, drawn_task_words, whence_words};
+ghost use Rattle.step_lines.specs.inside.Known.{AreKnownFacts, kept_layout};
 
 use crate::facts::StepFacts;
 use armus_base::{NoMemory, Offset, PhaserId, TaskId};
@@ -100,8 +100,8 @@ fn put_statement(alloc: Global, out: &mut Vec<u8>, stmt: Option<&Stmt>) -> Resul
 impl<'a> StepFacts<'a> {
     // Appends the name that this statement gives, behind a number.
     fn put_name(&self, out: &mut Vec<u8>, origin: Option<u32>) -> Result<(), NoMemory>
-        requires known { IsKnown self.now }
-        ensures { OnOk result (out.new.items ≡ out.old.items ++ said_of (name_words self.now.program.now) origin) }
+        requires known { AreKnownFacts self.now }
+        ensures { OnOk result (out.new.items ≡ out.old.items ++ said_of (given_name_words self.now.program.now) origin) }
     {
         match origin {
             Some(n) => {
@@ -115,8 +115,8 @@ impl<'a> StepFacts<'a> {
 
     // Appends a task.
     pub(crate) fn put_task(&self, out: &mut Vec<u8>, t: TaskId) -> Result<(), NoMemory>
-        requires known { IsKnown self.now }
-        ensures { OnOk result (out.new.items ≡ out.old.items ++ task_words self.now.program.now t.0) }
+        requires known { AreKnownFacts self.now }
+        ensures { OnOk result (out.new.items ≡ out.old.items ++ drawn_task_words self.now.program.now t.0) }
     {
         put_words(out, b"t")?;
         put_number(self.alloc, out, t.0)?;
@@ -125,8 +125,8 @@ impl<'a> StepFacts<'a> {
 
     // Appends a phaser.
     pub(crate) fn put_phaser(&self, out: &mut Vec<u8>, p: PhaserId) -> Result<(), NoMemory>
-        requires known { IsKnown self.now }
-        ensures { OnOk result (out.new.items ≡ out.old.items ++ phaser_words self.now.program.now p.0) }
+        requires known { AreKnownFacts self.now }
+        ensures { OnOk result (out.new.items ≡ out.old.items ++ made_phaser_words self.now.program.now p.0) }
     {
         put_words(out, b"p")?;
         put_number(self.alloc, out, p.0)?;
@@ -135,8 +135,8 @@ impl<'a> StepFacts<'a> {
 
     // Appends the place of a statement and what it says.
     fn put_at_statement(&self, out: &mut Vec<u8>, n: u32) -> Result<(), NoMemory>
-        requires known { IsKnown self.now }
-        ensures { OnOk result (out.new.items ≡ out.old.items ++ whence_words (layout_of self.now) self.now.program.now 0 (Some n)) }
+        requires known { AreKnownFacts self.now }
+        ensures { OnOk result (out.new.items ≡ out.old.items ++ whence_words (kept_layout self.now) self.now.program.now 0 (Some n)) }
     {
         self.places.put(self.alloc, out, self.statement(n))?;
         put_words(out, b": ")?;
@@ -145,9 +145,9 @@ impl<'a> StepFacts<'a> {
 
     // Appends the place where the code of a task ends.
     fn put_end_place(&self, out: &mut Vec<u8>, t: TaskId) -> Result<(), NoMemory>
-        requires known { IsKnown self.now }
+        requires known { AreKnownFacts self.now }
         ensures { OnOk result (out.new.items ≡ out.old.items
-            ++ said_of (λ f. place_words self.now.places.now (end_place (layout_of self.now) f)) (fork_origin self.now.program.now t.0)) }
+            ++ said_of (λ f. place_words self.now.places.now (end_place (kept_layout self.now) f)) (fork_origin self.now.program.now t.0)) }
     {
         match self.origins.fork(t) {
             Some(f) => self.places.put(self.alloc, out, self.end(f)),
@@ -157,9 +157,9 @@ impl<'a> StepFacts<'a> {
 
     // Appends where a task makes op i of its code, and at which statement.
     pub(crate) fn put_whence(&self, out: &mut Vec<u8>, t: TaskId, i: u32) -> Result<(), NoMemory>
-        requires known { IsKnown self.now }
+        requires known { AreKnownFacts self.now }
         ensures { OnOk result (out.new.items ≡ out.old.items
-            ++ whence_words (layout_of self.now) self.now.program.now t.0 (op_origin self.now.program.now t.0 i)) }
+            ++ whence_words (kept_layout self.now) self.now.program.now t.0 (op_origin self.now.program.now t.0 i)) }
     {
         match self.origins.op(self.program, t, i) {
             Some(n) => self.put_at_statement(out, n),

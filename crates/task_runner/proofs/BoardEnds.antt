@@ -3,24 +3,24 @@ use Rattle.std.proofs.Common.{◌≡◌, ℕ, true, false, List, [], ◌∷◌, 
 use Rattle.std.specs.Prelude.{All, Contains, IsSome, is_some, slice_get}
 use Rattle.std.proofs.lemmas.Bool.{false≢true}
 use Rattle.std.proofs.lemmas.Option.{slice_get_within}
-use Rattle.armus_base.specs.Boards.{Does, Entry, Frees, HasNoLock, IsLawful, Takes, holder, steps_of}
+use Rattle.armus_base.specs.calls.Boards.{Does, Entry, Frees, HasNoLock, IsLawful, Takes, holder, steps_of}
 use Rattle.armus_base.specs.Plans.{Plan, action_at}
 use Rattle.armus_base.specs.Places.{done_by, forked_at, published_after, state_at}
 use Rattle.armus_base.specs.Runs.{IsReachable, Place}
 use Rattle.armus_base.proofs.BoardRuns.{lawful_is_reachable}
 use Rattle.armus_base.proofs.Members.{plain_undropped}
 use Rattle.pl_core.specs.declared.place.Place.{Place as KeptPlace}
-use Rattle.pl_core.specs.Worlds.{places_at}
+use Rattle.pl_core.specs.calls.Worlds.{places_at}
 use Rattle.board.specs.declared.mode.Mode.TheVariants.{Detect}
-use Rattle.board.specs.Closing.{AreLastOf}
-use Rattle.board.specs.Seats.{Frame, IsOf, Known}
-use Rattle.board.specs.Views.{avoids, own_place, seen}
-use Rattle.board.specs.Words.{IsShown}
+use Rattle.board.specs.calls.Closing.{AreLastOf}
+use Rattle.board.specs.calls.Seats.{Frame, IsOf, Known}
+use Rattle.board.specs.calls.Views.{avoids, own_place, seen}
+use Rattle.board.specs.calls.Words.{IsShown}
 use Rattle.board.proofs.Seated.{event_here}
-use Rattle.phase_scan.specs.Looks.{LoadsAlone}
-use Rattle.board_rounds.specs.Turns.{EndsTurn, HasEndedTurn, Working, is_behind, is_done, is_locked_out, is_refused, standing_of}
-use Rattle.board_rounds.specs.Crews.{ArePlacesOf, IsCrew, IsSeatIn, KnowsTasks, number}
-use Rattle.task_runner.specs.DetectRuns.{AreSettledPlaces}
+use Rattle.phase_scan.specs.calls.Looks.{LoadsAlone}
+use Rattle.board_rounds.specs.calls.Turns.{EndsTurn, HasEndedTurn, Working, is_behind, is_done, is_locked_out, is_refused, standing_of}
+use Rattle.board_rounds.specs.calls.TaskSeats.{ArePlacesOf, AreTaskSeats, IsSeatIn, KnowsTasks, number}
+use Rattle.task_runner.specs.calls.DetectRuns.{AreSettledPlaces}
 use Rattle.task_runner.proofs.BoardPlaces.{at_places, stands, whose}
 
 no_holder : (entries : List Entry) → HasNoLock entries → holder entries ≡ None
@@ -29,7 +29,7 @@ no_holder (Does e ∷ entries) free = no_holder entries free
 no_holder (Takes t ∷ entries) free = absurd free
 no_holder (Frees t ∷ entries) free = absurd free
 
-module _ (f : Frame) (detects : f.mode ≡ Detect) (tasks : List Working) (crew : IsCrew f (IsSeatIn tasks))
+module _ (f : Frame) (detects : f.mode ≡ Detect) (tasks : List Working) (board_tasks : AreTaskSeats f (IsSeatIn tasks))
     (places : List KeptPlace) (are : ArePlacesOf f.plan tasks places) (before now : Known) (known : KnowsTasks f tasks before) (goes : LoadsAlone before now)
     (of : IsOf now f) (words : List ℕ) (end : AreLastOf f.plan Detect (seen now.view) words) where
   abbrev a : ℕ → Place
@@ -40,16 +40,16 @@ module _ (f : Frame) (detects : f.mode ≡ Detect) (tasks : List Working) (crew 
 
   -- each task stands where its seat stood, and is not refused
   stood : (w : Working) → Contains tasks w → a (number w) ≡ own_place w.seat.view
-  stood = stands f Detect tasks crew before now known goes of words end
+  stood = stands f Detect tasks board_tasks before now known goes of words end
 
   unrefused : (w : Working) → Contains tasks w → (own_place w.seat.view).dropped ≡ None
   unrefused w i = ap (λ (b : Place). b.dropped) (sym (stood w i)) ∙ undropped (number w)
 
   owner : (t : ℕ) → forked_at f.plan (done_by a) t ≡ true → (w : Working) × Contains tasks w × number w ≡ t
-  owner = whose f Detect tasks crew before now known goes of words end
+  owner = whose f Detect tasks board_tasks before now known goes of words end
 
   pub there : places_at f.plan places ≡ a
-  there = at_places f Detect tasks crew before now known goes of words end places are (λ w i some. absurd (false≢true (subst IsSome (unrefused w i) some)))
+  there = at_places f Detect tasks board_tasks before now known goes of words end places are (λ w i some. absurd (false≢true (subst IsSome (unrefused w i) some)))
 
   pub lawful : IsLawful false f.plan (places_at f.plan places) None
   lawful =
@@ -81,14 +81,14 @@ module _ (f : Frame) (detects : f.mode ≡ Detect) (tasks : List Working) (crew 
       (w : Working) → Contains tasks w → (since : Known) → EndsTurn since w.seat → (action_at f.plan (number w) (own_place w.seat.view).done ≡ None)
       ⊎ IsSome (published_after f.plan (number w) (own_place w.seat.view).done)
   ended w i since (is_done done) =
-      let s = crew.each w.seat (w, i, refl) in
+      let s = board_tasks.each w.seat (w, i, refl) in
       inl (ap (λ (q : Plan). action_at q (number w) (own_place w.seat.view).done) (sym s.of_board.plan) ∙ done.past)
   ended w i since (is_refused left) = absurd (false≢true (subst IsSome (unrefused w i) left.refused))
   ended w i since (is_locked_out u mode at other may held) =
-      let s = crew.each w.seat (w, i, refl) in
+      let s = board_tasks.each w.seat (w, i, refl) in
       absurd (false≢true (sym (ap avoids (s.of_board.mode ∙ detects)) ∙ mode))
   ended w i since (is_behind e published few behind found) =
-      let s = crew.each w.seat (w, i, refl) in
+      let s = board_tasks.each w.seat (w, i, refl) in
       let is : published_after f.plan (number w) (own_place w.seat.view).done ≡ Some e =
       ap (λ (q : Plan). published_after q (number w) (own_place w.seat.view).done) (sym s.of_board.plan) ∙ sym (event_here w.seat s.task s.own) ∙ published in
       inr (subst (λ o. IsSome o) (sym is) refl)

@@ -4,10 +4,11 @@ use Rattle.std.proofs.Common.{◌≡◌, ◌≢◌, ℕ, zero, suc, ◌<◌, ◌
 use Rattle.std.specs.Prelude.{All, Contains, IsSome, is_some, slice_get}
 use Rattle.std.proofs.lemmas.Bool.{cases_lt, false≢true}
 use Rattle.std.proofs.lemmas.List.{get_or_past}
-use Rattle.armus_base.specs.Boards.{IsLawful}
+use Rattle.armus_base.specs.calls.Boards.{IsLawful}
 use Rattle.armus_base.specs.CheckedPlans.{IsCheckedPlan}
 use Rattle.armus_base.specs.Plans.{Blocks, Forks, Plan, parent_of}
-use Rattle.armus_base.specs.Places.{IsConsistent, done_by, forked_at, kept, phases_at_place, published_after}
+use Rattle.armus_base.specs.calls.Places.{IsConsistent, phases_at_place}
+use Rattle.armus_base.specs.Places.{done_by, forked_at, kept, published_after}
 use Rattle.armus_base.specs.Runs.{IsReachable, Place, first_place}
 use Rattle.armus_base.proofs.BoardRuns.{lawful_is_reachable}
 use Rattle.armus_base.proofs.Codes.{child_within}
@@ -16,20 +17,20 @@ use Rattle.armus_base.proofs.Published.{published_undropped, same_place}
 use Rattle.armus_base.proofs.Reachable.{reachable_is_fixed}
 use Rattle.armus_base.proofs.RefusedHasDropped.{refused_has_dropped}
 use Rattle.pl_core.specs.declared.place.Place.{Place as KeptPlace}
-use Rattle.pl_core.specs.Worlds.{dropped_at, memberships, place_from, places_at}
+use Rattle.pl_core.specs.calls.Worlds.{dropped_at, memberships, place_from, places_at}
 use Rattle.board.specs.declared.mode.Mode.{Mode}
-use Rattle.board.specs.Closing.{AreLastOf}
-use Rattle.board.specs.Seats.{Frame, IsOf, IsSeat, Known}
-use Rattle.board.specs.Views.{avoids, own_place, seen}
+use Rattle.board.specs.calls.Closing.{AreLastOf}
+use Rattle.board.specs.calls.Seats.{Frame, IsOf, IsSeat, Known}
+use Rattle.board.specs.calls.Views.{avoids, own_place, seen}
 use Rattle.board.proofs.Closing.{some_task}
 use Rattle.board.proofs.Seated.{event_here, next_there}
-use Rattle.phase_scan.specs.Looks.{LoadsAlone}
+use Rattle.phase_scan.specs.calls.Looks.{LoadsAlone}
 use Rattle.phase_scan.proofs.Loads.{goes_itself}
-use Rattle.board_rounds.specs.Turns.{EndsTurn, HasEndedTurn, HasLeftAll, Working, is_behind, is_done, is_locked_out, is_refused, standing_of}
-use Rattle.board_rounds.specs.Crews.{ArePlacesOf, IsClosed, IsCrew, IsCrewOf, IsSeatIn, KnowsTasks, number}
+use Rattle.board_rounds.specs.calls.Turns.{EndsTurn, HasEndedTurn, HasLeftAll, Working, is_behind, is_done, is_locked_out, is_refused, standing_of}
+use Rattle.board_rounds.specs.calls.TaskSeats.{ArePlacesOf, IsClosed, AreTaskSeats, AreTaskSeatsOf, IsSeatIn, KnowsTasks, number}
 use Rattle.board_rounds.proofs.Closed.{all_exact}
 
-module _ (f : Frame) (mode : Mode) (tasks : List Working) (crew : IsCrew f (IsSeatIn tasks)) (before now : Known) (known : KnowsTasks f tasks before)
+module _ (f : Frame) (mode : Mode) (tasks : List Working) (board_tasks : AreTaskSeats f (IsSeatIn tasks)) (before now : Known) (known : KnowsTasks f tasks before)
     (goes : LoadsAlone before now) (of : IsOf now f) (words : List ℕ) (end : AreLastOf f.plan mode (seen now.view) words) where
   checked : IsCheckedPlan f.plan
   checked = subst IsCheckedPlan of.plan goes.kept.checked
@@ -92,7 +93,7 @@ module _ (f : Frame) (mode : Mode) (tasks : List Working) (crew : IsCrew f (IsSe
   has_left w i since (is_refused left) some = left
   has_left w i since (is_locked_out u mode at other may held) some = absurd (false≢true (subst IsSome (next_there w.seat.view (Blocks at.0) at.1).0 some))
   has_left w i since (is_behind e published few behind found) some =
-      let s = crew.each w.seat (w, i, refl) in
+      let s = board_tasks.each w.seat (w, i, refl) in
       let is : published_after f.plan (number w) (a (number w)).done ≡ Some e =
       ap (λ (b : Place). published_after f.plan (number w) b.done) (stands w i)
       ∙ ap (λ (q : Plan). published_after q (number w) (own_place w.seat.view).done) (sym s.of_board.plan) ∙ sym (event_here w.seat s.task s.own) ∙ published in
@@ -109,7 +110,7 @@ module _ (f : Frame) (mode : Mode) (tasks : List Working) (crew : IsCrew f (IsSe
         let dropped : (a t).dropped ≡ Some d = ap (λ (b : Place). b.dropped) place ∙ is in
         let forked = (consistent.refused t d dropped).0 in
         let gone = left w i (subst (λ o. IsSome o) (sym is) refl) in
-        let plan : w.seat.view.plan ≡ f.plan = (crew.each w.seat (w, i, refl)).of_board.plan in
+        let plan : w.seat.view.plan ≡ f.plan = (board_tasks.each w.seat (w, i, refl)).of_board.plan in
         refused_has_dropped f.plan a t d checked reach dropped
         (λ p.
         ap (λ m. kept (a t).dropped m p) (phases_forked f.plan checked (done_by a) t forked)
@@ -160,14 +161,14 @@ module _ (f : Frame) (mode : Mode) (tasks : List Working) (crew : IsCrew f (IsSe
 
 -- where all turns have ended, the places that the seats tell are lawful, and those of the board
 pub lawful_end :
-    (f : Frame) (mode : Mode) (tasks : List Working) → IsCrewOf f tasks → (view : Known) → IsSeat view → KnowsTasks f tasks view → IsOf view f → (words : List ℕ) →
+    (f : Frame) (mode : Mode) (tasks : List Working) → AreTaskSeatsOf f tasks → (view : Known) → IsSeat view → KnowsTasks f tasks view → IsOf view f → (words : List ℕ) →
     AreLastOf f.plan mode (seen view.view) words → All (λ (w : Working). HasEndedTurn w.seat) tasks → (places : List KeptPlace) → ArePlacesOf f.plan tasks places →
     (lock : Option ℕ) × IsLawful (avoids mode) f.plan (places_at f.plan places) lock
 lawful_end f mode tasks whole view seat known of words end ends places are =
     let still = goes_itself view seat in (
       end.last.lock,
-      lawful_there f mode tasks whole.crew view view known still of words end places are
+      lawful_there f mode tasks whole.board_tasks view view known still of words end places are
           (λ w i.
           let turn = subst (λ (v : Working). HasEndedTurn v.seat) i.2 (ends i.0 w i.1) in
-          has_left f mode tasks whole.crew view view known still of words end w i turn.0 turn.1),
+          has_left f mode tasks whole.board_tasks view view known still of words end w i turn.0 turn.1),
     )

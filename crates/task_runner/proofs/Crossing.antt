@@ -12,16 +12,16 @@ use Rattle.std.proofs.alloc.Global.TheSendSync as heap
 use Rattle.board.specs.contracts.board.Board as boards
 use Rattle.board.proofs.Sending.{board_sync}
 use Rattle.board_rounds.proofs.Crossing.{plan_sync, task_send, worker_cells_send}
-use Rattle.board_rounds.specs.contracts.crew.Crew as crews
+use Rattle.board_rounds.specs.contracts.board_tasks.BoardTasks as board_tasks_rows
 use Rattle.task_runner.specs.contracts.board_run.BoardRun as runs
 
 -- the tasks of a run may be handed to a thread
-pub crew_send : (a : NamedLft) → IsSend (crews.the_row a)
-crew_send a = search (sendable, crosses, task_send, worker_cells_send, heap.the_send, heap.the_sync) depth 30
+pub board_tasks_send : (a : NamedLft) → IsSend (board_tasks_rows.the_row a)
+board_tasks_send a = search (sendable, crosses, task_send, worker_cells_send, heap.the_send, heap.the_sync) depth 30
 
 -- and with what their rounds need
 pub board_run_send : (a : NamedLft) → IsSend (runs.the_row a)
-board_run_send a = search (sendable, crosses, crew_send, plan_sync, heap.the_send, heap.the_sync) depth 30
+board_run_send a = search (sendable, crosses, board_tasks_send, plan_sync, heap.the_send, heap.the_sync) depth 30
 
 pub turn_send :
     (ν : Sym) (a b c d k : NamedLft) (X Y : RattleType) (one : One X.mir) (other : One Y.mir) → IsSync X → IsSync Y →

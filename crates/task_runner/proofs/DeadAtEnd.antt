@@ -3,13 +3,14 @@ use Rattle.std.proofs.Common.{◌≡◌, ℕ, List, Option, Some, false, sym, ap
 use Rattle.armus_base.specs.declared.event.Event.{Event}
 use Rattle.armus_base.specs.declared.ending.Final.{Final}
 use Rattle.armus_base.specs.declared.status.Status.{Status}
-use Rattle.armus_base.specs.Boards.{IsLawful, steps_of}
+use Rattle.armus_base.specs.calls.Boards.{IsLawful, steps_of}
 use Rattle.armus_base.specs.CheckedPlans.{IsCheckedPlan}
 use Rattle.armus_base.specs.Deadlocks.{IsDeadBy, IsDeadIn, IsListedOn}
 use Rattle.armus_base.specs.Finals.{final_of, is_awaited}
 use Rattle.armus_base.specs.Plans.{Plan}
 use Rattle.armus_base.specs.Places.{published_after, state_at}
-use Rattle.armus_base.specs.Runs.{ArePrefixes, IsPlainRun, Place, Precedes, places, state_after}
+use Rattle.armus_base.specs.calls.Runs.{ArePrefixes, Precedes}
+use Rattle.armus_base.specs.Runs.{IsPlainRun, Place, places, state_after}
 use Rattle.armus_base.specs.States.{State, Step}
 use Rattle.armus_base.proofs.BoardRuns.{lawful_state}
 use Rattle.armus_base.proofs.DeadByStatuses.{dead_by_final, run_is_of_plan}
@@ -18,7 +19,7 @@ use Rattle.armus_base.proofs.Members.{plain_undropped}
 use Rattle.armus_base.proofs.OneEnd.{below_maximal}
 use Rattle.armus_base.proofs.Stepping.{places_fix}
 use Rattle.armus_base.proofs.StatusesAre.{statuses_are}
-use Rattle.world_runs.specs.PlainRuns.{IsPlainEnd}
+use Rattle.world_runs.specs.calls.PlainRuns.{IsPlainEnd}
 
 module _ (plan : Plan) (checked : IsCheckedPlan plan) (h : List Step) (run : IsPlainRun plan h) (end : Final) (is_end : IsPlainEnd plan end) where
   abbrev g : List Step

@@ -9,8 +9,8 @@ use Rattle.armus_base.specs.declared.op.Op.TheVariants.{Make, Reg, Fork, Adv, Dr
 use Rattle.armus_base.specs.Plans.{Plan, action_at, actions, actions_of, code_of}
 use Rattle.armus_base.proofs.Elements.{Contains-head}
 use Rattle.pl_core.proofs.Cells.{slice_get-set_other}
-use Rattle.board_rounds.specs.Turns.{Working}
-use Rattle.board_rounds.specs.Crews.{done_of, number}
+use Rattle.board_rounds.specs.calls.Turns.{Working}
+use Rattle.board_rounds.specs.calls.TaskSeats.{done_of, number}
 use Rattle.board_rounds.proofs.Between.{to_each}
 use Rattle.task_runner.specs.inside.Pooled.{AreForksMarked, AreClosedUnderForks, ContainsTask}
 
@@ -53,7 +53,7 @@ pub one_marked :
 one_marked tasks w first marks n num l before t is = elim (cases_eq t n) [
   | inl same ↦ inl (w, Contains-append_right tasks (w ∷ []) w (Contains-head w []), sym num ∙ sym same)
   | inr other ↦ elim (before t (sym (slice_get-set_other marks n t true other) ∙ is)) [
-    | inl hand ↦ inl (hand.0, Contains-append_left tasks (w ∷ []) hand.0 hand.1, hand.2)
+    | inl worker_value ↦ inl (worker_value.0, Contains-append_left tasks (w ∷ []) worker_value.0 worker_value.1, worker_value.2)
     | inr old ↦ inr old
   ]
 ]
@@ -63,8 +63,8 @@ pub whole_marked :
     (plan : Plan) (tasks : List Working) (marks : List Bool) → ((t : ℕ) → slice_get marks t ≡ Some true → ContainsTask tasks t) → slice_get marks 0 ≡ Some true →
     All (λ task. AreForksMarked (code_of plan (number task)) (done_of task) marks) tasks → AreClosedUnderForks plan tasks
 unfolding action_at actions
-whole_marked plan tasks marks hand root all =
+whole_marked plan tasks marks worker_value root all =
     record {
-      root = hand 0 root;
-      forked = λ w i j c l is. hand c (to_each (λ task. AreForksMarked (code_of plan (number task)) (done_of task) marks) tasks all w i j c l is);
+      root = worker_value 0 root;
+      forked = λ w i j c l is. worker_value c (to_each (λ task. AreForksMarked (code_of plan (number task)) (done_of task) marks) tasks all w i j c l is);
     }

@@ -7,30 +7,30 @@ use Rattle.armus_base.specs.Finals.{is_awaited, statuses_on}
 use Rattle.armus_base.specs.Places.{state_at}
 use Rattle.armus_base.specs.Plans.{Plan}
 use Rattle.armus_base.specs.Runs.{Place, first_place}
-use Rattle.armus_base.specs.Seats.{IsAsFarOn}
+use Rattle.armus_base.specs.calls.Seats.{IsAsFarOn}
 use Rattle.armus_base.specs.States.{State}
 use Rattle.armus_base.specs.declared.status.Status.{Status}
 use Rattle.armus_base.proofs.Places.{precedes_trans}
 use Rattle.pl_core.specs.declared.place.Place.{Place as KeptPlace}
-use Rattle.pl_core.specs.Worlds.{places_at}
+use Rattle.pl_core.specs.calls.Worlds.{places_at}
 use Rattle.board.specs.declared.mode.Mode.TheVariants.{Detect}
-use Rattle.board.specs.Closing.{AreAllExact, AreLastOf}
-use Rattle.board.specs.Seats.{Frame, IsOf, IsSeat, Known}
-use Rattle.board.specs.Views.{seen}
-use Rattle.phase_scan.specs.Looks.{LoadsAlone}
-use Rattle.phase_scan.specs.Settled.{KnowsAll, seen_state}
-use Rattle.board_rounds.specs.Turns.{Working}
-use Rattle.board_rounds.specs.Crews.{ArePlacesOf, IsCrew, IsSeatIn, KnowsTasks}
+use Rattle.board.specs.calls.Closing.{AreAllExact, AreLastOf}
+use Rattle.board.specs.calls.Seats.{Frame, IsOf, IsSeat, Known}
+use Rattle.board.specs.calls.Views.{seen}
+use Rattle.phase_scan.specs.calls.Looks.{LoadsAlone}
+use Rattle.phase_scan.specs.calls.Settled.{KnowsAll, seen_state}
+use Rattle.board_rounds.specs.calls.Turns.{Working}
+use Rattle.board_rounds.specs.calls.TaskSeats.{ArePlacesOf, AreTaskSeats, IsSeatIn, KnowsTasks}
 use Rattle.board_rounds.proofs.Closed.{all_exact, all_places}
-use Rattle.collector.specs.Passes.{HasDeadOf}
-use Rattle.task_runner.specs.inside.Tellers.{HasPassed, Telling}
+use Rattle.collector.specs.calls.Passes.{HasDeadOf}
+use Rattle.task_runner.specs.inside.LiveReporters.{HasPassed, Telling}
 use Rattle.task_runner.proofs.BoardEnds.{there}
 
 -- the statuses of a state, with phases on the awaited phasers
 abbrev pub statuses_in : Plan → State → List Status
 statuses_in plan s = statuses_on plan s (is_awaited plan s)
 
-module _ (f : Frame) (detects : f.mode ≡ Detect) (tasks : List Working) (crew : IsCrew f (IsSeatIn tasks))
+module _ (f : Frame) (detects : f.mode ≡ Detect) (tasks : List Working) (board_tasks : AreTaskSeats f (IsSeatIn tasks))
     (places : List KeptPlace) (are : ArePlacesOf f.plan tasks places) (before now : Known) (known : KnowsTasks f tasks before) (goes : LoadsAlone before now)
     (of : IsOf now f) (words : List ℕ) (end : AreLastOf f.plan Detect (seen now.view) words) (start : IsSeat before) (made : IsOf before f) where
   abbrev a : ℕ → Place
@@ -68,16 +68,16 @@ module _ (f : Frame) (detects : f.mode ≡ Detect) (tasks : List Working) (crew 
       ap (λ (q : Plan). state_at q (seen before.view).places) made.plan
       ∙ ap (state_at f.plan)
       (sym (all_places f.plan Detect a end.last.lock checked end.last.lawful (seen before.view) far known.closed past)
-      ∙ sym (there f detects tasks crew places are before now known goes of words end))
+      ∙ sym (there f detects tasks board_tasks places are before now known goes of words end))
 
-  module _ (teller : Telling) (passed : HasPassed before teller) where
-    found : teller.collector.statuses ≡ statuses_in f.plan (state_at f.plan (places_at f.plan places))
+  module _ (live_reporter : Telling) (passed : HasPassed before live_reporter) where
+    found : live_reporter.collector.statuses ≡ statuses_in f.plan (state_at f.plan (places_at f.plan places))
     found =
         (passed.statuses knows_all).statuses ∙ ap (λ (q : Plan). statuses_in q (seen_state before)) made.plan
         ∙ ap (statuses_in f.plan) same_state
 
-    pub named_there : IsDeadList (statuses_in f.plan (state_at f.plan (places_at f.plan places))) teller.last
-    named_there = subst (λ (list : List Status). IsDeadList list teller.last) found passed.named
+    pub named_there : IsDeadList (statuses_in f.plan (state_at f.plan (places_at f.plan places))) live_reporter.last
+    named_there = subst (λ (list : List Status). IsDeadList list live_reporter.last) found passed.named
 
-    pub dead_there : HasDeadOf (state_at f.plan (places_at f.plan places)) teller.last
-    dead_there = subst (λ (s : State). HasDeadOf s teller.last) same_state (passed.dead knows_all)
+    pub dead_there : HasDeadOf (state_at f.plan (places_at f.plan places)) live_reporter.last
+    dead_there = subst (λ (s : State). HasDeadOf s live_reporter.last) same_state (passed.dead knows_all)

@@ -1,56 +1,28 @@
 -- The tasks of a run without rounds: what a stretch of a turn makes of one, and what a viewer knows that has taken their seats in.
-use Rattle.std.proofs.Common.{◌≡◌, ℕ, ◌<◌, ◌≤◌, false, List, [], ◌∷◌, ◌++◌, Option, Some, length, map, get_or, sym, refl, ap, ◌∙◌, subst, arith, inl, inr}
+use Rattle.std.proofs.Common.{◌≡◌, ℕ, ◌<◌, false, List, [], ◌∷◌, ◌++◌, Some, length, map, get_or, sym, refl, ap, ◌∙◌, subst, arith}
 use Rattle.std.specs.Prelude.{All, Contains}
 use Rattle.std.proofs.lemmas.List.Elements.{Contains-append_right}
-use Rattle.armus_base.specs.Plans.{Action, Forks, Plan, action_at, actions, in_code}
-use Rattle.armus_base.specs.Runs.{IsByCode, Place, next_place}
-use Rattle.armus_base.specs.Seats.{seen_by_child}
+use Rattle.armus_base.specs.Plans.{Action, Forks, Plan, action_at}
+use Rattle.armus_base.specs.Runs.{Place}
+use Rattle.armus_base.specs.calls.Seats.{seen_by_child}
 use Rattle.armus_base.proofs.Elements.{Contains-head}
-use Rattle.board.specs.Views.{own_place, seen, task_of}
-use Rattle.board.specs.Seats.{Frame, IsNewSeat, Known, nothing_seen}
-use Rattle.board_rounds.specs.Turns.{Acts, AreChildSeats, Goes, IsChildSeat, LeadsByCode, Working, tasks_forked}
-use Rattle.board_rounds.specs.Crews.{HasSeatOf, IsCrew, IsCrewSeat, IsSeatIn, KnowsTasks}
+use Rattle.board.specs.calls.Views.{own_place, seen, task_of}
+use Rattle.board.specs.calls.Seats.{Frame, IsNewSeat, Known, nothing_seen}
+use Rattle.board_rounds.specs.calls.Turns.{Acts, AreChildSeats, IsChildSeat, Working, tasks_forked}
+use Rattle.board_rounds.specs.calls.TaskSeats.{HasSeatOf, AreTaskSeats, IsTaskSeat, IsSeatIn, KnowsTasks}
 use Rattle.board_rounds.specs.inside.Endings.{TakesAll}
-use Rattle.board_rounds.proofs.Between.{first_crew, from_map, in_map, seats_crew, to_each}
-use Rattle.board_rounds.proofs.Crewing.{by_code_is, child_is, has_left, step_done}
+use Rattle.board_rounds.proofs.Between.{first_task_seats, from_map, in_map, seats_of_tasks, to_each}
+use Rattle.board_rounds.proofs.TaskSeatsKept.{child_is, goes_with_seats}
 use Rattle.board_rounds.proofs.Emptying.{contains_at}
-use Rattle.board_rounds.proofs.Goings.{of_on, same_task, task_is}
+use Rattle.board_rounds.proofs.Goings.{task_is}
 use Rattle.board_rounds.proofs.Settling.{closed, taken_here, whose}
 use Rattle.task_runner.specs.inside.Pooled.{AreClosedUnderForks, IsForked, ContainsTask, IsPooled}
 
 pub all_from : {X : Type 0} (P : X → Type 0) (xs : List X) → ((x : X) → Contains xs x → P x) → All P xs
 all_from P xs each k d l = each (get_or xs k d) (contains_at xs k d l)
 
--- no step is made that the code has not
-within_next : (plan : Plan) (t k : ℕ) (o : Option ℕ) (x : Action) → IsByCode plan t k o x → k ≤ length (actions plan t) → (next_place k o x).done ≤ length (actions plan t)
-within_next plan t k o x is l = elim (step_done k o x) [
-  | inl stays ↦ omega arith
-  | inr goes ↦ (let e = goes.0 in let w = has_left plan t k (in_code x) (by_code_is plan t k o x goes.1 is) in omega arith)
-]
-
-still_within : (plan : Plan) (t : ℕ) (a : Place) (own : List Action) (b : Place) → LeadsByCode plan t a own b → a.done ≤ length (actions plan t) → b.done ≤ length (actions plan t)
-still_within plan t a [] b same l = (let e : b.done ≡ a.done = ap (λ (x : Place). x.done) same in omega arith)
-still_within plan t a (x ∷ own) b steps l =
-    still_within plan t (next_place a.done a.dropped x) own b steps.1 (within_next plan t a.done a.dropped x steps.0 l)
-
--- the seat of a task that has made steps
-goes_crew : (f : Frame) (own : List Action) (k m : Known) → IsCrewSeat f k → Goes own k m → IsCrewSeat f m
-goes_crew f own k m s goes =
-    record {
-      of_board = of_on f own k m s.of_board goes;
-      kept = goes.kept;
-      free = goes.same.holds ∙ s.free;
-      task = s.task;
-      own = goes.same.own ∙ s.own;
-      alone = λ u is. s.alone u (sym (goes.exact u) ∙ is);
-      within =
-          subst (λ t. (own_place m.view).done ≤ length (actions f.plan t)) (sym (same_task k m goes.same))
-          (still_within f.plan (task_of k.view) (own_place k.view) own (own_place m.view)
-          (subst (λ (q : Plan). LeadsByCode q (task_of k.view) (own_place k.view) own (own_place m.view)) s.of_board.plan goes.place) s.within);
-    }
-
-pub acted : (f : Frame) (own : List Action) (a b : Working) → IsPooled f a → Acts f own a b → IsCrewSeat f b.seat
-acted f own a b pooled acts = goes_crew f own a.seat b.seat pooled.seat acts.goes
+pub acted : (f : Frame) (own : List Action) (a b : Working) → IsPooled f a → Acts f own a b → IsTaskSeat f b.seat
+acted f own a b pooled acts = goes_with_seats f own a.seat b.seat pooled.seat acts.goes
 
 -- it has the seats of those that it forked, and no others
 pub forked : (f : Frame) (own : List Action) (a b : Working) → IsPooled f a → Acts f own a b → All (IsForked f) b.children
@@ -59,8 +31,8 @@ forked f own a b pooled acts =
     all_from (IsForked f) b.children (λ k i. child_is k seats i)
 
 -- the seat of a task that was just forked
-pub child_crew : (f : Frame) (k : Known) → IsForked f k → IsCrewSeat f k
-child_crew f k child =
+pub child_task_seats : (f : Frame) (k : Known) → IsForked f k → IsTaskSeat f k
+child_task_seats f k child =
     let s : IsChildSeat f child.0 k = child.1 in
     record {
       of_board = s.of_board;
@@ -73,24 +45,24 @@ child_crew f k child =
     }
 
 -- and that of task 0 on a new board
-pub root_crew : (f : Frame) (k : Known) → IsNewSeat f (Some 0) (seen_by_child 0 nothing_seen) k → IsCrewSeat f k
-root_crew f k new =
+pub root_task_seats : (f : Frame) (k : Known) → IsNewSeat f (Some 0) (seen_by_child 0 nothing_seen) k → IsTaskSeat f k
+root_task_seats f k new =
     let w : Working = record { seat = k; children = [] } in
-    (first_crew f w new).each k (w, Contains-head w [], refl)
+    (first_task_seats f w new).each k (w, Contains-head w [], refl)
 
 -- a task of the plan
-pub small : (f : Frame) (plan : Plan) (k : Known) → f.plan ≡ plan → IsCrewSeat f k → task_of k.view < length plan.parents
+pub small : (f : Frame) (plan : Plan) (k : Known) → f.plan ≡ plan → IsTaskSeat f k → task_of k.view < length plan.parents
 small f plan k same s =
     let t = task_is k s.task s.own in
     let l = (s.kept.own s.task s.own).0 in
     let p : length k.view.plan.parents ≡ length plan.parents = ap (λ (q : Plan). length q.parents) (s.of_board.plan ∙ same) in
     omega arith
 
--- tasks among which are all that one of them has forked are a crew
-pub whole_crew : (f : Frame) (tasks : List Working) → All (λ (w : Working). IsCrewSeat f w.seat) tasks → AreClosedUnderForks f.plan tasks → IsCrew f (IsSeatIn tasks)
-whole_crew f tasks all whole =
+-- tasks among which are all that one of them has forked are a board_tasks
+pub whole_task_seats : (f : Frame) (tasks : List Working) → All (λ (w : Working). IsTaskSeat f w.seat) tasks → AreClosedUnderForks f.plan tasks → AreTaskSeats f (IsSeatIn tasks)
+whole_task_seats f tasks all whole =
     record {
-      each = λ k at. subst (IsCrewSeat f) (sym at.2) (seat_of at.0 at.1);
+      each = λ k at. subst (IsTaskSeat f) (sym at.2) (seat_of at.0 at.1);
       root = has 0 whole.root;
       forked = λ k at j c l is.
           has c
@@ -98,24 +70,24 @@ whole_crew f tasks all whole =
           (subst (λ (m : Known). action_at f.plan (task_of m.view) j ≡ Some (Forks c)) at.2 is));
     }
   where
-    seat_of : (w : Working) → Contains tasks w → IsCrewSeat f w.seat
-    seat_of = to_each (λ (w : Working). IsCrewSeat f w.seat) tasks all
+    seat_of : (w : Working) → Contains tasks w → IsTaskSeat f w.seat
+    seat_of = to_each (λ (w : Working). IsTaskSeat f w.seat) tasks all
 
     has : (c : ℕ) → ContainsTask tasks c → HasSeatOf (IsSeatIn tasks) c
-    has c hand =
-        let s = seat_of hand.0 hand.1 in
-        (hand.0.seat, (hand.0, hand.1, refl), s.own ∙ ap Some (sym (task_is hand.0.seat s.task s.own) ∙ hand.2))
+    has c worker_value =
+        let s = seat_of worker_value.0 worker_value.1 in
+        (worker_value.0.seat, (worker_value.0, worker_value.1, refl), s.own ∙ ap Some (sym (task_is worker_value.0.seat s.task s.own) ∙ worker_value.2))
 
 abbrev seat_in : Working → Known
 seat_in w = w.seat
 
--- a viewer that has taken all seats of a crew in knows its tasks
+-- a viewer that has taken all seats of a board_tasks in knows its tasks
 pub knows :
-    (f : Frame) (tasks : List Working) (a b : Known) → IsCrew f (IsSeatIn tasks) → TakesAll (map seat_in tasks) a b → ((u : ℕ) → (seen a.view).exact u ≡ false) →
+    (f : Frame) (tasks : List Working) (a b : Known) → AreTaskSeats f (IsSeatIn tasks) → TakesAll (map seat_in tasks) a b → ((u : ℕ) → (seen a.view).exact u ≡ false) →
     KnowsTasks f tasks b
-knows f tasks a b crew takes unknown =
+knows f tasks a b board_tasks takes unknown =
     let seats = map seat_in tasks in
-    let all = seats_crew f tasks seats refl crew in
+    let all = seats_of_tasks f tasks seats refl board_tasks in
     record {
       closed = closed f seats a b all takes unknown;
       here = λ w i. taken_here seats a b w.seat takes (in_map seat_in tasks w i);

@@ -3,17 +3,17 @@ use Rattle.std.proofs.Common.{◌≡◌, ℕ, zero, suc, ◌<◌, Bool, true, fa
 use Rattle.std.specs.Prelude.{is_some}
 use Rattle.armus_base.specs.declared.event.Event.{Event}
 use Rattle.armus_base.specs.declared.status.Status.{Status}
-use Rattle.armus_base.specs.Boards.{IsLawful}
+use Rattle.armus_base.specs.calls.Boards.{IsLawful}
 use Rattle.armus_base.specs.Plans.{Plan}
 use Rattle.armus_base.specs.Finals.{is_awaited}
-use Rattle.armus_base.specs.Seats.{IsAsFarOn}
+use Rattle.armus_base.specs.calls.Seats.{IsAsFarOn}
 use Rattle.armus_base.specs.States.{Phases, State}
-use Rattle.board.specs.Words.{found_in}
+use Rattle.board.specs.calls.Words.{found_in}
 use Rattle.board.specs.declared.mode.Mode.{Mode}
-use Rattle.board.specs.Steps.{IsSameSeat, WasSo}
-use Rattle.board.specs.Views.{avoids, seen}
-use Rattle.board.specs.Seats.{AnswersPhase, Known}
-use Rattle.phase_scan.specs.Collects.{IfAsked, IsCollect, LoadsAwaits, LoadsRow, LoadsRows}
+use Rattle.board.specs.calls.Steps.{IsSameSeat, WasSo}
+use Rattle.board.specs.calls.Views.{avoids, seen}
+use Rattle.board.specs.calls.Seats.{AnswersPhase, Known}
+use Rattle.phase_scan.specs.calls.Collects.{IfAsked, IsCollect, LoadsAwaits, LoadsRow, LoadsRows}
 use Rattle.phase_scan.proofs.Farther.{IsPossible}
 
 -- some such state there is

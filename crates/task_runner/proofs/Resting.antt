@@ -28,9 +28,6 @@ named_right xs ys t is = (is.0, Contains-append_right xs ys is.0 is.1, is.2)
 pub named_cases : (xs ys : List Dead) (t : TaskId) → IsNamedIn (xs ++ ys) t → IsNamedIn xs t ⊎ IsNamedIn ys t
 named_cases xs ys t is = elim (Contains-append_cases xs ys is.0 is.1) [ inl here ↦ inl (is.0, here, is.2) | inr there ↦ inr (is.0, there, is.2) ]
 
-pub none_rest : (blocked : List Status) (told : List Dead) → AreSomeDead blocked told → IsRestUpTo blocked told [] 0
-none_rest blocked told some = record { some = subst (AreSomeDead blocked) (sym (append-nil told)) some; all = λ k d l. absurd (omega arith) }
-
 module _ (blocked : List Status) (dead : List TaskId) (is_dead : IsDeadList blocked dead) (told rest : List Dead) (i : ℕ) (s : Status)
     (here : s ≡ get_or blocked i s) (within : i < length blocked) (before : IsRestUpTo blocked told rest i) where
   abbrev x : Dead

@@ -9,16 +9,19 @@ use Rattle.std.proofs.lemmas.Option.{slice_get_within}
 use Rattle.armus_base.specs.declared.ending.Final.{Final}
 use Rattle.armus_base.specs.declared.event.Event.{Event}
 use Rattle.armus_base.specs.declared.status.Status.{Status}
-use Rattle.armus_base.specs.Boards.{IsLawful}
+use Rattle.armus_base.specs.calls.Boards.{IsLawful}
 use Rattle.armus_base.specs.CheckedPlans.{IsCheckedPlan}
 use Rattle.armus_base.specs.Deadlocks.{IsListedAt, IsListedOn}
-use Rattle.armus_base.specs.FinalLaws.{AreStatuses}
-use Rattle.armus_base.specs.Finals.{status_of, statuses_of}
-use Rattle.armus_base.specs.Places.{phases_at_place, published_after, state_at}
+use Rattle.armus_base.specs.calls.FinalLaws.{AreStatuses}
+use Rattle.armus_base.specs.Finals.{status_of}
+use Rattle.armus_base.specs.calls.Finals.{statuses_of}
+use Rattle.armus_base.specs.calls.Places.{phases_at_place}
+use Rattle.armus_base.specs.Places.{published_after, state_at}
 use Rattle.armus_base.specs.Plans.{Plan}
-use Rattle.armus_base.specs.Runs.{IsPrefix, Place, first_place, state_after}
-use Rattle.armus_base.specs.Seats.{IsAsFarOn, SeenBy}
-use Rattle.armus_base.specs.Statuses.{IsInOrder}
+use Rattle.armus_base.specs.calls.Runs.{IsPrefix}
+use Rattle.armus_base.specs.Runs.{Place, first_place, state_after}
+use Rattle.armus_base.specs.calls.Seats.{IsAsFarOn, SeenBy}
+use Rattle.armus_base.specs.calls.Statuses.{IsInOrder}
 use Rattle.armus_base.proofs.Below.{given_few}
 use Rattle.armus_base.proofs.BoardRuns.{opening_is_lawful, plain_is_lawful}
 use Rattle.armus_base.proofs.FoundArePublished.{published_within}
@@ -27,22 +30,22 @@ use Rattle.armus_base.proofs.Reachable.{reachable_is_fixed}
 use Rattle.armus_base.proofs.StatusesAre.{statuses_are}
 use Rattle.board.specs.declared.mode.Mode.{Mode}
 use Rattle.board.specs.declared.mode.Mode.TheVariants.{Detect}
-use Rattle.board.specs.Seats.{Frame, IsNewSeat, IsOf, Known, nothing_seen}
-use Rattle.board.specs.Views.{avoids, seen}
+use Rattle.board.specs.calls.Seats.{Frame, IsNewSeat, IsOf, Known, nothing_seen}
+use Rattle.board.specs.calls.Views.{avoids, seen}
 use Rattle.phase_scan.proofs.Standing.{phases_begun_at, published_begun}
 use Rattle.phase_scan.proofs.Loads.{prefix_both}
-use Rattle.pl_core.specs.Worlds.{places_of, state_of}
-use Rattle.sites.specs.Checks.{part_of}
-use Rattle.sites.specs.Keeping.{held}
-use Rattle.sites.specs.Parts.{HoldParts, PutsParts}
-use Rattle.sites.specs.Passes.{AreBacked, ChangesRows, HaveLookedOn}
-use Rattle.sites.specs.Rows.{IsRowOf, is_of_site}
-use Rattle.sites.specs.Snaps.{HasLookedOn, HasSeenLawful, IsBacked}
+use Rattle.pl_core.specs.calls.Worlds.{places_of, state_of}
+use Rattle.sites.specs.calls.Checks.{part_of}
+use Rattle.sites.specs.calls.Keeping.{held}
+use Rattle.sites.specs.calls.Parts.{HoldParts, PutsParts}
+use Rattle.sites.specs.calls.Passes.{AreBacked, ChangesRows, HaveLookedOn}
+use Rattle.sites.specs.calls.Rows.{IsRowOf, is_of_site}
+use Rattle.sites.specs.calls.Snaps.{HasLookedOn, HasSeenLawful, IsBacked}
 use Rattle.sites.proofs.Gathered.{passed_is}
 use Rattle.sites.proofs.PassSteps.{is_there, some_one}
-use Rattle.world_runs.specs.EndWorlds.{IsWorldEnd}
+use Rattle.world_runs.specs.calls.EndWorlds.{IsWorldEnd}
 use Rattle.world_runs.specs.declared.world_end.WorldEnd.{WorldEnd}
-use Rattle.task_runner.specs.SiteRuns.{HoldFinal, HoldRowsOfRun, IsRowOfRun}
+use Rattle.task_runner.specs.calls.SiteRuns.{HoldFinal, HoldRowsOfRun, IsRowOfRun}
 use Rattle.task_runner.specs.inside.SiteRounds.{AreWatching, IsWholeEnd}
 
 -- before the first pass no row is held

@@ -5,13 +5,13 @@ use Rattle.armus_base.specs.declared.status.Dead.{Dead}
 use Rattle.armus_base.specs.CheckedPlans.{IsCheckedPlan}
 use Rattle.armus_base.specs.Finals.{final_of, is_awaited}
 use Rattle.armus_base.specs.Plans.{Plan}
-use Rattle.armus_base.specs.Statuses.{IsInOrder}
+use Rattle.armus_base.specs.calls.Statuses.{IsInOrder}
 use Rattle.armus_base.proofs.StatusesAre.{statuses_are}
 use Rattle.report.specs.NamedDead.{AreSomeDead, AreTheDead}
-use Rattle.world_runs.specs.PlainRuns.{IsPlainEnd}
-use Rattle.task_runner.specs.DetectRuns.{AreDeadAtTheEnd, HasWritten, TellsRun, Told}
+use Rattle.world_runs.specs.calls.PlainRuns.{IsPlainEnd}
+use Rattle.task_runner.specs.calls.DetectRuns.{AreDeadAtTheEnd, HasWritten, TellsRun, SinkValue}
 use Rattle.task_runner.specs.inside.Rests.{TellsRest}
-use Rattle.task_runner.specs.inside.Tellers.{TellsMore, TellsOn}
+use Rattle.task_runner.specs.inside.LiveReporters.{TellsMore, TellsOn}
 use Rattle.task_runner.specs.declared.ran.Ran.{Ran}
 use Rattle.task_runner.specs.declared.ran.RunEnd.{RunEnd}
 use Rattle.task_runner.specs.declared.ran.RunEnd.TheVariants.{NoMemory, Write}
@@ -32,17 +32,17 @@ pub dead_at_each : (plan : Plan) (x : Final) → IsPlainEnd plan x → (named : 
 dead_at_each plan x p named some y q = subst (λ (f : Final). AreSomeDead f.blocked named) (one_value plan x y p q) some
 
 -- nothing more was told
-pub none_on : (plan : Plan) (dead : List Dead) (a n : Told) (r : Result Ran RunEnd) → r ≡ Err NoMemory → n ≡ a → AreDeadAtTheEnd plan dead → TellsOn plan dead a n r
+pub none_on : (plan : Plan) (dead : List Dead) (a n : SinkValue) (r : Result Ran RunEnd) → r ≡ Err NoMemory → n ≡ a → AreDeadAtTheEnd plan dead → TellsOn plan dead a n r
 none_on plan dead a n r is same at_end = subst (TellsOn plan dead a n) (sym is) ([], subst (AreDeadAtTheEnd plan) (sym (append-nil dead)) at_end, none_written a n same)
 
 -- an error of a pass ends the run
 pub pass_err :
-    (A : Type 0) (plan : Plan) (first second : List Dead) (a n : Told) (e : RunEnd) (r : Result Ran RunEnd) → r ≡ Err e →
+    (A : Type 0) (plan : Plan) (first second : List Dead) (a n : SinkValue) (e : RunEnd) (r : Result Ran RunEnd) → r ≡ Err e →
     TellsMore {A = A} plan first second a n (Err e) → TellsOn plan first a n r
 pass_err A plan first second a n Write r is p = subst (TellsOn plan first a n) (sym is) p
 pass_err A plan first second a n NoMemory r is p = subst (TellsOn plan first a n) (sym is) p
 
-module _ (plan : Plan) (x : Final) (is_end : IsPlainEnd plan x) (first second fresh : List Dead) (grown : second ≡ first ++ fresh) (a m n : Told)
+module _ (plan : Plan) (x : Final) (is_end : IsPlainEnd plan x) (first second fresh : List Dead) (grown : second ≡ first ++ fresh) (a m n : SinkValue)
     (written : HasWritten fresh a m) where
   abbrev all : List Dead → List Dead
   all rest = first ++ (fresh ++ rest)
@@ -66,14 +66,14 @@ module _ (plan : Plan) (x : Final) (is_end : IsPlainEnd plan x) (first second fr
 
 -- the rounds of a run, at whose beginning nobody is told
 pub run_err :
-    (A : Type 0) (plan : Plan) (first second : List Dead) (a n : Told) (e : RunEnd) (r : Result Ran RunEnd) → r ≡ Err e → first ≡ [] →
+    (A : Type 0) (plan : Plan) (first second : List Dead) (a n : SinkValue) (e : RunEnd) (r : Result Ran RunEnd) → r ≡ Err e → first ≡ [] →
     TellsMore {A = A} plan first second a n (Err e) → TellsRun plan a n r
 run_err A plan first second a n Write r is none p = subst (TellsRun plan a n) (sym is) (p.0, subst (AreDeadAtTheEnd plan) (ap (λ ds. ds ++ p.0) none) p.1, p.2)
 run_err A plan first second a n NoMemory r is none p = subst (TellsRun plan a n) (sym is) (p.0, subst (AreDeadAtTheEnd plan) (ap (λ ds. ds ++ p.0) none) p.1, p.2)
 
 -- and its end
 pub run_on :
-    (plan : Plan) (first second fresh : List Dead) (a m n : Told) (r : Result Ran RunEnd) → first ≡ [] → second ≡ first ++ fresh → HasWritten fresh a m →
+    (plan : Plan) (first second fresh : List Dead) (a m n : SinkValue) (r : Result Ran RunEnd) → first ≡ [] → second ≡ first ++ fresh → HasWritten fresh a m →
     TellsOn plan second m n r → TellsRun plan a n r
 run_on plan first second fresh a m n (Ok ran) none grown written p =
     (fresh ++ p.0, subst (AreTheDead ran.end.blocked) (ap (λ ds. ds ++ p.0) (grown ∙ ap (λ ds. ds ++ fresh) none)) p.1, written_on fresh p.0 a m n written p.2)
@@ -81,7 +81,3 @@ run_on plan first second fresh a m n (Err Write) none grown written p =
     (fresh ++ p.0, subst (AreDeadAtTheEnd plan) (ap (λ ds. ds ++ p.0) (grown ∙ ap (λ ds. ds ++ fresh) none)) p.1, failed_on fresh p.0 a m n written p.2)
 run_on plan first second fresh a m n (Err NoMemory) none grown written p =
     (fresh ++ p.0, subst (AreDeadAtTheEnd plan) (ap (λ ds. ds ++ p.0) (grown ∙ ap (λ ds. ds ++ fresh) none)) p.1, written_on fresh p.0 a m n written p.2)
-
--- nothing was told at all
-pub none_run : (plan : Plan) (a n : Told) (r : Result Ran RunEnd) → r ≡ Err NoMemory → n ≡ a → AreDeadAtTheEnd plan [] → TellsRun plan a n r
-none_run plan a n r is same at_end = subst (TellsRun plan a n) (sym is) ([], at_end, none_written a n same)

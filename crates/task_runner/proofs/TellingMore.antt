@@ -21,22 +21,22 @@ use Rattle.armus_base.proofs.Elements.{Contains-cons_cases, Contains-head, Conta
 use Rattle.armus_base.proofs.Fronts.{front_after}
 use Rattle.board.specs.declared.mode.Mode.{Mode}
 use Rattle.board.specs.declared.mode.Mode.TheVariants.{Detect}
-use Rattle.board.specs.Views.{avoids, seen}
-use Rattle.board.specs.Seats.{Frame, IsOf, IsSeat, Known}
-use Rattle.board.specs.Steps.{IsSameSeat}
+use Rattle.board.specs.calls.Views.{avoids, seen}
+use Rattle.board.specs.calls.Seats.{Frame, IsOf, IsSeat, Known}
+use Rattle.board.specs.calls.Steps.{IsSameSeat}
 use Rattle.board.proofs.Closing.{some_task}
-use Rattle.phase_scan.specs.Collects.{IsCollect}
-use Rattle.phase_scan.specs.Looks.{LoadsAlone}
-use Rattle.collector.specs.Passes.{Watch}
-use Rattle.task_runner.specs.inside.Tellers.{TellsMore, Telling, Watches}
+use Rattle.phase_scan.specs.calls.Collects.{IsCollect}
+use Rattle.phase_scan.specs.calls.Looks.{LoadsAlone}
+use Rattle.collector.specs.calls.Passes.{Watch}
+use Rattle.task_runner.specs.inside.LiveReporters.{TellsMore, Telling, Watches}
 use Rattle.task_runner.specs.declared.ran.RunEnd.{RunEnd}
 use Rattle.task_runner.specs.declared.ran.RunEnd.TheVariants.{NoMemory, Write}
-use Rattle.armus_base.specs.Boards.{IsLawful}
-use Rattle.armus_base.specs.Seats.{IsAsFarOn}
+use Rattle.armus_base.specs.calls.Boards.{IsLawful}
+use Rattle.armus_base.specs.calls.Seats.{IsAsFarOn}
 use Rattle.collector.specs.declared.verdict.Verdict.{Verdict}
-use Rattle.collector.specs.Passes.{IsVerdict, NamesToo, is_named}
+use Rattle.collector.specs.calls.Passes.{IsPassVerdict, NamesToo, was_named}
 use Rattle.report.specs.Live.{live_line, live_text}
-use Rattle.task_runner.specs.DetectRuns.{AreDeadAtTheEnd, HasFailed, HasWritten, Told}
+use Rattle.task_runner.specs.calls.DetectRuns.{AreDeadAtTheEnd, HasFailed, HasWritten, SinkValue}
 use Rattle.task_runner.proofs.DeadAtEnd.{dead_at_lawful}
 use Rattle.task_runner.proofs.Possible.{Possible, collect_possible}
 
@@ -127,11 +127,11 @@ tasks_apart (d ∷ ds) p =
     (tasks_apart ds (pairs_rest (λ (t u : TaskId). t.0 < u.0) d.t (map task ds) p))
 
 -- what the fresh ones of a verdict are
-module _ (names : List Bool) (list : List Status) (before now : Known) (v : Verdict) (verdict : IsVerdict names list before now v) where
-  fresh_named : (d : Dead) → Contains v.fresh d → Contains v.dead d.t × (is_named names d.t.0 ≡ false)
+module _ (names : List Bool) (list : List Status) (before now : Known) (v : Verdict) (verdict : IsPassVerdict names list before now v) where
+  fresh_named : (d : Dead) → Contains v.fresh d → Contains v.dead d.t × (was_named names d.t.0 ≡ false)
   fresh_named d i =
-      let r = in_filter (λ (t : TaskId). not (is_named names t.0)) v.dead d.t (subst (λ ts. Contains ts d.t) verdict.fresh (in_map task v.fresh d i)) in
-      (r.0, un_not (is_named names d.t.0) r.1)
+      let r = in_filter (λ (t : TaskId). not (was_named names t.0)) v.dead d.t (subst (λ ts. Contains ts d.t) verdict.fresh (in_map task v.fresh d i)) in
+      (r.0, un_not (was_named names d.t.0) r.1)
     where
       un_not : (b : Bool) → not b ≡ true → b ≡ false
       un_not true e = absurd (false≢true e)
@@ -141,24 +141,24 @@ module _ (names : List Bool) (list : List Status) (before now : Known) (v : Verd
   fresh_apart =
       tasks_apart v.fresh
       (subst (AllPairs (λ (t u : TaskId). t.0 < u.0)) (sym verdict.fresh)
-      (AllPairs-filter (λ (t u : TaskId). t.0 < u.0) (λ (t : TaskId). not (is_named names t.0)) v.dead verdict.dead.ascends))
+      (AllPairs-filter (λ (t u : TaskId). t.0 < u.0) (λ (t : TaskId). not (was_named names t.0)) v.dead verdict.dead.ascends))
 
-  module _ (told : List Dead) (named : (t : TaskId) → is_named names t.0 ≡ true ↔ Contains (map task told) t) where
+  module _ (told : List Dead) (named : (t : TaskId) → was_named names t.0 ≡ true ↔ Contains (map task told) t) where
     all_apart : AllPairs (λ (a b : Dead). a.t ≢ b.t) told → AllPairs (λ (a b : Dead). a.t ≢ b.t) (told ++ v.fresh)
     all_apart p =
         pairs_on (λ (a b : Dead). a.t ≢ b.t) told v.fresh p fresh_apart
         (λ a b i j e. false≢true (sym (fresh_named b j).1 ∙ (named b.t).1 (subst (λ t. Contains (map task told) t) e (in_map task told a i))))
 
     -- with them, those are told whom the collector has named
-    pub named_too : (names' : List Bool) → NamesToo v.dead names names' → (t : TaskId) → is_named names' t.0 ≡ true ↔ Contains (map task (told ++ v.fresh)) t
+    pub named_too : (names' : List Bool) → NamesToo v.dead names names' → (t : TaskId) → was_named names' t.0 ≡ true ↔ Contains (map task (told ++ v.fresh)) t
     named_too names' too t = (
       (λ is. subst (λ ts. Contains ts t) (sym (map_more task told v.fresh)) (elim ((too t).0 is) [
         | inl old ↦ Contains-append_left (map task told) (map task v.fresh) t ((named t).0 old)
-        | inr new ↦ elim (cases_Bool (is_named names t.0)) [
+        | inr new ↦ elim (cases_Bool (was_named names t.0)) [
           | inl old ↦ Contains-append_left (map task told) (map task v.fresh) t ((named t).0 old)
           | inr none ↦
               Contains-append_right (map task told) (map task v.fresh) t
-              (subst (λ ts. Contains ts t) (sym verdict.fresh) (into_filter (λ (u : TaskId). not (is_named names u.0)) v.dead t new (ap not none)))
+              (subst (λ ts. Contains ts t) (sym verdict.fresh) (into_filter (λ (u : TaskId). not (was_named names u.0)) v.dead t new (ap not none)))
         ]
       ])),
       (λ i. elim (Contains-append_cases (map task told) (map task v.fresh) t (subst (λ ts. Contains ts t) (map_more task told v.fresh) i)) [
@@ -196,7 +196,7 @@ module _ (names : List Bool) (list : List Status) (before now : Known) (v : Verd
             dead_at_lawful plan checked possible.places possible.lock lawful d.t.0 d.event is_dead on end is_end
 
 -- lines after lines
-pub written_on : (xs ys : List Dead) (a b c : Told) → HasWritten xs a b → HasWritten ys b c → HasWritten (xs ++ ys) a c
+pub written_on : (xs ys : List Dead) (a b c : SinkValue) → HasWritten xs a b → HasWritten ys b c → HasWritten (xs ++ ys) a c
 written_on xs ys a b c p q =
     record {
       lines = subst (λ text. Appends a.taken c.taken text) (sym (flat_map-append live_line xs ys))
@@ -204,7 +204,7 @@ written_on xs ys a b c p q =
       sound = q.sound ∙ p.sound;
     }
 
-pub failed_on : (xs ys : List Dead) (a b c : Told) → HasWritten xs a b → HasFailed ys b c → HasFailed (xs ++ ys) a c
+pub failed_on : (xs ys : List Dead) (a b c : SinkValue) → HasWritten xs a b → HasFailed ys b c → HasFailed (xs ++ ys) a c
 failed_on xs ys a b c p q =
     record {
       front = subst (λ text. TookFront a.taken c.taken text) (sym (flat_map-append live_line xs ys))
@@ -213,18 +213,18 @@ failed_on xs ys a b c p q =
     }
 
 -- no line at all
-pub none_written : (b n : Told) → n ≡ b → HasWritten [] b n
-none_written b n same = record { lines = subst (λ (t : Told). Appends b.taken t.taken []) (sym same) (nothing b.taken); sound = ap (λ (t : Told). t.faults) same }
+pub none_written : (b n : SinkValue) → n ≡ b → HasWritten [] b n
+none_written b n same = record { lines = subst (λ (t : SinkValue). Appends b.taken t.taken []) (sym same) (nothing b.taken); sound = ap (λ (t : SinkValue). t.faults) same }
   where
     nothing : (o : Option (List ℕ)) → Appends o o []
     nothing None = tt
     nothing (Some bytes) = sym (append-nil bytes)
 
--- a pass by a teller that watches the board
+-- a pass by a live_reporter that watches the board
 pub watches_more :
     (f : Frame) (w : Telling) (now : Known) (collector : Watch) (list : List Status) (v : Verdict) (last : List TaskId) → f.mode ≡ Detect → Watches f w → LoadsAlone w.view now →
     IsCollect f.plan list w.view now →
-    IsVerdict w.collector.names list w.view now v → NamesToo v.dead w.collector.names collector.names → collector.tasks ≡ w.collector.tasks →
+    IsPassVerdict w.collector.names list w.view now v → NamesToo v.dead w.collector.names collector.names → collector.tasks ≡ w.collector.tasks →
     collector.phasers ≡ w.collector.phasers →
     Watches f (record { collector = collector; view = now; dead = w.dead ++ v.fresh; last = last })
 watches_more f w now collector list v last detects watches goes collect verdict too tasks phasers =
@@ -251,7 +251,7 @@ watches_taken f w now watches made same kept =
 
 -- what is told after what was told
 pub told_on :
-    {A : Type 0} (plan : Plan) (first second third : List Dead) (a b c : Told) (fresh : List Dead) (r : Result A RunEnd) → second ≡ first ++ fresh → HasWritten fresh a b →
+    {A : Type 0} (plan : Plan) (first second third : List Dead) (a b c : SinkValue) (fresh : List Dead) (r : Result A RunEnd) → second ≡ first ++ fresh → HasWritten fresh a b →
     TellsMore plan second third b c r → TellsMore plan first third a c r
 told_on plan first second third a b c fresh (Ok x) e w p =
     (fresh ++ p.0, p.1 ∙ ap (λ ds. ds ++ p.0) e ∙ append_assoc first fresh p.0, written_on fresh p.0 a b c w p.2)
@@ -259,10 +259,3 @@ told_on plan first second third a b c fresh (Err Write) e w p =
     (fresh ++ p.0, subst (AreDeadAtTheEnd plan) (ap (λ ds. ds ++ p.0) e ∙ append_assoc first fresh p.0) p.1, failed_on fresh p.0 a b c w p.2)
 told_on plan first second third a b c fresh (Err NoMemory) e w p =
     (fresh ++ p.0, subst (AreDeadAtTheEnd plan) (ap (λ ds. ds ++ p.0) e ∙ append_assoc first fresh p.0) p.1, written_on fresh p.0 a b c w p.2)
-
--- an error is handed on
-pub told_err :
-    (A B : Type 0) (plan : Plan) (first second : List Dead) (a b : Told) (e : RunEnd) (r : Result B RunEnd) → r ≡ Err e →
-    TellsMore {A = A} plan first second a b (Err e) → TellsMore {A = B} plan first second a b r
-told_err A B plan first second a b Write r is p = subst (TellsMore plan first second a b) (sym is) p
-told_err A B plan first second a b NoMemory r is p = subst (TellsMore plan first second a b) (sym is) p

@@ -1,3 +1,3 @@
-pub mod DetectRuns
-pub mod SiteRuns
 pub mod inside
+-- Words of contracts further down, which no promise of a program needs.
+pub mod calls

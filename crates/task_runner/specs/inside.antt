@@ -1,5 +1,5 @@
 pub mod BoardRuns
-pub mod Tellers
+pub mod LiveReporters
 pub mod DetectRounds
 pub mod Watching
 pub mod Rests

@@ -1,6 +1,6 @@
 // The run that avoids deadlock.
 ghost use Rattle.std.specs.Prelude.{◌≡◌, ◌≤◌, false, IfOk};
-ghost use Rattle.world_runs.specs.AvoidedRuns.{IsAvoidedEnd, IsSerialEnd};
+ghost use Rattle.world_runs.specs.calls.AvoidedRuns.{IsAvoidedEnd, IsSerialEnd};
 
 use crate::RunOptions;
 use crate::avoided_board::avoid_on_board;

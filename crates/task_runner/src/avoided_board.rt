@@ -1,10 +1,10 @@
 // The run on a board that avoids deadlock.
 ghost use Rattle.std.specs.Prelude.{◌≡◌, ℕ, false, IfOk};
 ghost use Rattle.board.specs.declared.mode.Mode.TheVariants.{Avoid};
-ghost use Rattle.board.specs.Seats.{IsOf, IsSeat};
-ghost use Rattle.board.specs.Views.{seen};
-ghost use Rattle.board_rounds.specs.Crews.{HaveEnded, all_of};
-ghost use Rattle.world_runs.specs.AvoidedRuns.{IsAvoidedEnd};
+ghost use Rattle.board.specs.calls.Seats.{IsOf, IsSeat};
+ghost use Rattle.board.specs.calls.Views.{seen};
+ghost use Rattle.board_rounds.specs.calls.TaskSeats.{HaveEnded, all_of};
+ghost use Rattle.world_runs.specs.calls.AvoidedRuns.{IsAvoidedEnd};
 ghost use Rattle.task_runner.specs.inside.BoardRuns.{IsOnBoard};
 
 use crate::RunOptions;
@@ -44,9 +44,9 @@ fn end_avoided<G: Gate>(
     judging: Judging,
     gate: &G,
 ) -> Result<Final, NoMemory>
-    requires on_board { IsOnBoard board run.plan.now run.crew }
+    requires on_board { IsOnBoard board run.plan.now run.board_tasks }
     requires avoids { board.mode ≡ Avoid }
-    requires ends { HaveEnded (all_of run.crew) }
+    requires ends { HaveEnded (all_of run.board_tasks) }
     requires made { IsOf view board }
     requires kept { IsSeat view }
     requires unknown { (u : ℕ) → (seen view.view).exact u ≡ false }
@@ -55,11 +55,11 @@ fn end_avoided<G: Gate>(
     let BoardRun {
         alloc,
         plan,
-        crew,
+        board_tasks,
         ..
     } = run;
-    let places = crew.places(alloc, &board, plan)?;
-    crew.take_in(&board, &mut view);
+    let places = board_tasks.places(alloc, &board, plan)?;
+    board_tasks.take_in(&board, &mut view);
     let _ = board.close(view);
     avoided_end_from(alloc, plan, places.as_slice(), judging, gate)
 }

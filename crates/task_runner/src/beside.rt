@@ -9,7 +9,7 @@ use std::alloc::Global;
 /// Who makes a pass beside each round of a run on a board, and works on something in it.
 pub(crate) trait Beside<O> {
     ghost use Rattle.std.specs.Prelude.{Result, Ok, Err};
-    ghost use Rattle.board.specs.Seats.{Frame};
+    ghost use Rattle.board.specs.calls.Seats.{Frame};
 
     /// Why a pass ends a run early.
     type Early;

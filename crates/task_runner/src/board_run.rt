@@ -1,8 +1,8 @@
 // The rounds of a run on a board, with a pass beside each or with none.
 ghost use Rattle.std.specs.Prelude.{◌≡◌, ◌<◌, ◌⊎◌, Some, Ok, Err, true, false, IfOk, IfErr, OnOk};
-ghost use Rattle.armus_base.specs.Seats.{seen_by_child};
-ghost use Rattle.board.specs.Seats.{IsNewSeat, nothing_seen};
-ghost use Rattle.board_rounds.specs.Crews.{HaveEnded, all_of, left_to};
+ghost use Rattle.armus_base.specs.calls.Seats.{seen_by_child};
+ghost use Rattle.board.specs.calls.Seats.{IsNewSeat, nothing_seen};
+ghost use Rattle.board_rounds.specs.calls.TaskSeats.{HaveEnded, all_of, left_to};
 ghost use Rattle.task_runner.specs.inside.BoardRuns.{HasHadRound, IsOnBoard};
 
 use crate::RunOptions;
@@ -11,10 +11,10 @@ use crate::leaving::goes_on;
 use armus_base::{Gate, NoMemory, Plan};
 use avoider::Judging;
 use board::{Board, TaskSeat};
-use board_rounds::{Crew, Rounded};
+use board_rounds::{BoardTasks, Rounded};
 use std::alloc::Global;
 use std::thread::{Threads, join_mut};
-use world_runs::Pace;
+use world_runs::RoundWorkers;
 
 /// The tasks of a run on a board, and what their rounds need.
 #[derive(Drop)]
@@ -22,8 +22,8 @@ pub(crate) struct BoardRun<'p> {
     pub(crate) alloc: Global,
     pub(crate) plan: &'p Plan,
     pub(crate) options: RunOptions,
-    pub(crate) crew: Crew<'p>,
-    pace: Pace,
+    pub(crate) board_tasks: BoardTasks<'p>,
+    round_workers: RoundWorkers,
 }
 
 impl<'p> BoardRun<'p> {
@@ -38,15 +38,15 @@ impl<'p> BoardRun<'p> {
     ) -> Result<BoardRun<'p>, NoMemory>
         requires plan { board.now.plan ≡ plan.now }
         requires new { IsNewSeat board.now (Some 0) (seen_by_child 0 nothing_seen) seat }
-        ensures on_board { IfOk result (λ run. IsOnBoard board.now run.plan.now run.crew) }
+        ensures on_board { IfOk result (λ run. IsOnBoard board.now run.plan.now run.board_tasks) }
         ensures given { IfOk result (λ run. (run.plan.now ≡ plan.now) × (run.options ≡ options.now)) }
     {
         Ok(BoardRun {
             alloc,
             plan,
             options: *options,
-            crew: Crew::start(alloc, board, seat, plan, judging)?,
-            pace: Pace::new(),
+            board_tasks: BoardTasks::start(alloc, board, seat, plan, judging)?,
+            round_workers: RoundWorkers::new(),
         })
     }
 
@@ -60,11 +60,11 @@ impl<'p> BoardRun<'p> {
         beside: &mut B,
         out: &mut O,
     ) -> Result<(), B::Early>
-        requires on_board { IsOnBoard board.now self.old.plan.now self.old.crew }
+        requires on_board { IsOnBoard board.now self.old.plan.now self.old.board_tasks }
         requires fits { B.fits board.now beside.old out.old }
         ensures given { (self.new.plan ≡ self.old.plan) × (self.new.options ≡ self.old.options) }
-        ensures on_board { OnOk result (IsOnBoard board.now self.new.plan.now self.new.crew) }
-        ensures ends { OnOk result (HaveEnded (all_of self.new.crew)) }
+        ensures on_board { OnOk result (IsOnBoard board.now self.new.plan.now self.new.board_tasks) }
+        ensures ends { OnOk result (HaveEnded (all_of self.new.board_tasks)) }
         ensures fits { OnOk result (B.fits board.now beside.new out.new) }
         ensures passes { B.passes board.now beside.old out.old beside.new out.new result }
     {
@@ -81,12 +81,12 @@ impl<'p> BoardRun<'p> {
         beside: &mut B,
         out: &mut O,
     ) -> Result<bool, B::Early>
-        requires on_board { IsOnBoard board.now self.old.plan.now self.old.crew }
+        requires on_board { IsOnBoard board.now self.old.plan.now self.old.board_tasks }
         requires fits { B.fits board.now beside.old out.old }
         ensures given { (self.new.plan ≡ self.old.plan) × (self.new.options ≡ self.old.options) }
-        ensures on_board { OnOk result (IsOnBoard board.now self.new.plan.now self.new.crew) }
-        ensures further { IfOk result (λ more. more ≡ true → left_to board.now.plan self.new.crew < left_to board.now.plan self.old.crew) }
-        ensures ends { IfOk result (λ more. more ≡ false → HaveEnded (all_of self.new.crew)) }
+        ensures on_board { OnOk result (IsOnBoard board.now self.new.plan.now self.new.board_tasks) }
+        ensures further { IfOk result (λ more. more ≡ true → left_to board.now.plan self.new.board_tasks < left_to board.now.plan self.old.board_tasks) }
+        ensures ends { IfOk result (λ more. more ≡ false → HaveEnded (all_of self.new.board_tasks)) }
         ensures fits { OnOk result (B.fits board.now beside.new out.new) }
         ensures passes { OnOk result (B.passes board.now beside.old out.old beside.new out.new (Ok tt)) }
         ensures early { IfErr result (λ e. B.passes board.now beside.old out.old beside.new out.new (Err e)) }
@@ -95,7 +95,7 @@ impl<'p> BoardRun<'p> {
         passed?;
         match made {
             Ok(made) => {
-                self.pace.note(made.events);
+                self.round_workers.note(made.events);
                 Ok(self.is_followed(made, beside.is_there()))
             }
             Err(error) => Err(B::early(error)),
@@ -110,7 +110,7 @@ impl<'p> BoardRun<'p> {
         if with_pass {
             return made.events > 0;
         }
-        goes_on(made, self.crew.loads())
+        goes_on(made, self.board_tasks.loads())
     }
 
     // A round and a pass: beside the round, or after it on the same thread where there is little work.
@@ -122,22 +122,22 @@ impl<'p> BoardRun<'p> {
         beside: &mut B,
         out: &mut O,
     ) -> (Result<Rounded, NoMemory>, Result<(), B::Early>)
-        requires on_board { IsOnBoard board.now self.old.plan.now self.old.crew }
+        requires on_board { IsOnBoard board.now self.old.plan.now self.old.board_tasks }
         requires fits { B.fits board.now beside.old out.old }
         ensures given { (self.new.plan ≡ self.old.plan) × (self.new.options ≡ self.old.options) }
-        ensures round { IfOk result.0 (HasHadRound board.now self.new.plan.now self.old.crew self.new.crew) }
+        ensures round { IfOk result.0 (HasHadRound board.now self.new.plan.now self.old.board_tasks self.new.board_tasks) }
         ensures fits { OnOk result.1 (B.fits board.now beside.new out.new) }
         ensures passes { B.passes board.now beside.old out.old beside.new out.new result.1 }
     {
         let alloc = self.alloc;
-        if !beside.is_there() || !self.pace.wants_threads() {
+        if !beside.is_there() || !self.round_workers.wants_threads() {
             let made = self.round(rt, board, gate);
             return (made, beside.pass(alloc, board, gate, out));
         }
         join_mut(
             rt,
             &mut || -> Result<Rounded, NoMemory>
-                requires { IsOnBoard board.now self.now.plan.now self.now.crew }
+                requires { IsOnBoard board.now self.now.plan.now self.now.board_tasks }
             { self.round(rt, board, gate) },
             &mut || -> Result<(), B::Early>
                 requires { B.fits board.now beside.now out.now }
@@ -152,13 +152,13 @@ impl<'p> BoardRun<'p> {
         board: &Board,
         gate: &G,
     ) -> Result<Rounded, NoMemory>
-        requires on_board { IsOnBoard board.now self.old.plan.now self.old.crew }
+        requires on_board { IsOnBoard board.now self.old.plan.now self.old.board_tasks }
         ensures given { (self.new.plan ≡ self.old.plan) × (self.new.options ≡ self.old.options) }
-        ensures round { IfOk result (HasHadRound board.now self.new.plan.now self.old.crew self.new.crew) }
+        ensures round { IfOk result (HasHadRound board.now self.new.plan.now self.old.board_tasks self.new.board_tasks) }
     {
-        let workers = self.pace.workers(self.options.workers);
+        let workers = self.round_workers.workers(self.options.workers);
         let made = self
-            .crew
+            .board_tasks
             .round(rt, self.alloc, board, self.plan, workers, gate)?;
         Ok(made)
     }

@@ -1,17 +1,17 @@
 // A run on a board that detects deadlock.
 ghost use Rattle.std.specs.Prelude.{◌≡◌, ◌≤◌, ℕ, false, true, IfOk, OnOk};
 ghost use Rattle.board.specs.declared.mode.Mode.TheVariants.{Detect};
-ghost use Rattle.board.specs.Views.{seen};
-ghost use Rattle.phase_scan.specs.Looks.{LoadsAlone};
-ghost use Rattle.board_rounds.specs.Crews.{HaveEnded, all_of};
-ghost use Rattle.task_runner.specs.DetectRuns.{IsDetectRun, IsNoWrite, TellsRun, told};
+ghost use Rattle.board.specs.calls.Views.{seen};
+ghost use Rattle.phase_scan.specs.calls.Looks.{LoadsAlone};
+ghost use Rattle.board_rounds.specs.calls.TaskSeats.{HaveEnded, all_of};
+ghost use Rattle.task_runner.specs.calls.DetectRuns.{IsDetectRun, IsNoWrite, TellsRun, told};
 ghost use Rattle.task_runner.specs.inside.DetectRounds.{IsUnderWay};
-ghost use Rattle.task_runner.specs.inside.Tellers.{HasPassed, SeesOn, TellsMore, TellsOn, Watches};
+ghost use Rattle.task_runner.specs.inside.LiveReporters.{HasPassed, SeesOn, TellsMore, TellsOn, Watches};
 
 use crate::board_run::BoardRun;
+use crate::live_reporter::LiveReporter;
 use crate::nothing::Nothing;
 use crate::rest::tell_rest;
-use crate::teller::Teller;
 use crate::{Ran, RunEnd, RunOptions};
 use armus_base::{Gate, NoMemory, Plan, Sink};
 use avoider::Judging;
@@ -45,11 +45,11 @@ pub fn run_detect<R: Threads + Sync, G: Gate, K: Sink>(
     let Ok(mut run) = BoardRun::start(alloc, &board, seat, plan, options, judging) else {
         return Err(RunEnd::NoMemory);
     };
-    let Ok(mut teller) = Teller::start(alloc, &board, view, options.wanted) else {
+    let Ok(mut live_reporter) = LiveReporter::start(alloc, &board, view, options.wanted) else {
         return Err(RunEnd::NoMemory);
     };
-    go_by_rounds(&mut run, rt, &board, gate, &mut teller, out)?;
-    end_run(run, board, teller, gate, out)
+    go_by_rounds(&mut run, rt, &board, gate, &mut live_reporter, out)?;
+    end_run(run, board, live_reporter, gate, out)
 }
 
 // Rounds until all tasks have come to the end of their turns. With `live` a pass goes beside each, whose lines are written before the next round.
@@ -58,19 +58,19 @@ fn go_by_rounds<R: Threads + Sync, G: Gate, K: Sink>(
     rt: &R,
     board: &Board,
     gate: &G,
-    teller: &mut Teller,
+    live_reporter: &mut LiveReporter,
     out: &mut K,
 ) -> Result<(), RunEnd>
-    requires under_way { IsUnderWay board.now run.old.plan.now run.old.crew teller.old }
+    requires under_way { IsUnderWay board.now run.old.plan.now run.old.board_tasks live_reporter.old }
     ensures given { (run.new.plan ≡ run.old.plan) × (run.new.options ≡ run.old.options) }
-    ensures under_way { OnOk result (IsUnderWay board.now run.new.plan.now run.new.crew teller.new) }
-    ensures ends { OnOk result (HaveEnded (all_of run.new.crew)) }
-    ensures sees { SeesOn teller.old.view teller.new.view }
-    ensures told { TellsMore board.now.plan teller.old.dead teller.new.dead (told K.taken K.faults out.old) (told K.taken K.faults out.new) result }
+    ensures under_way { OnOk result (IsUnderWay board.now run.new.plan.now run.new.board_tasks live_reporter.new) }
+    ensures ends { OnOk result (HaveEnded (all_of run.new.board_tasks)) }
+    ensures sees { SeesOn live_reporter.old.view live_reporter.new.view }
+    ensures told { TellsMore board.now.plan live_reporter.old.dead live_reporter.new.dead (told K.taken K.faults out.old) (told K.taken K.faults out.new) result }
     ensures silent { run.old.options.live ≡ false → (out.new ≡ out.old) × IsNoWrite result }
 {
     if run.options.live {
-        return run.go(rt, board, gate, teller, out);
+        return run.go(rt, board, gate, live_reporter, out);
     }
     match run.go(rt, board, gate, &mut Nothing {}, out) {
         Ok(()) => Ok(()),
@@ -82,30 +82,30 @@ fn go_by_rounds<R: Threads + Sync, G: Gate, K: Sink>(
 fn end_run<G: Gate, K: Sink>(
     run: BoardRun<'_>,
     board: Board,
-    mut teller: Teller,
+    mut live_reporter: LiveReporter,
     gate: &G,
     out: &mut K,
 ) -> Result<Ran, RunEnd>
-    requires under_way { IsUnderWay board run.plan.now run.crew teller }
-    requires ends { HaveEnded (all_of run.crew) }
-    requires unknown { (u : ℕ) → (seen teller.view.view).exact u ≡ false }
+    requires under_way { IsUnderWay board run.plan.now run.board_tasks live_reporter }
+    requires ends { HaveEnded (all_of run.board_tasks) }
+    requires unknown { (u : ℕ) → (seen live_reporter.view.view).exact u ≡ false }
     ensures ran { IfOk result (IsDetectRun run.entry.plan.now) }
-    ensures told { run.entry.options.live ≡ true → TellsOn run.entry.plan.now teller.dead (told K.taken K.faults out.old) (told K.taken K.faults out.new) result }
+    ensures told { run.entry.options.live ≡ true → TellsOn run.entry.plan.now live_reporter.dead (told K.taken K.faults out.old) (told K.taken K.faults out.new) result }
     ensures silent { run.entry.options.live ≡ false → (out.new ≡ out.old) × IsNoWrite result }
 {
     let BoardRun {
         alloc,
         plan,
         options,
-        crew,
+        board_tasks,
         ..
     } = run;
-    let Ok(places) = crew.places(alloc, &board, plan) else {
+    let Ok(places) = board_tasks.places(alloc, &board, plan) else {
         return Err(RunEnd::NoMemory);
     };
-    teller.take_in(&board, crew);
-    last_pass(alloc, &board, &options, gate, &mut teller, out)?;
-    let (words, told, dead) = teller.close(board);
+    live_reporter.take_in(&board, board_tasks);
+    last_pass(alloc, &board, &options, gate, &mut live_reporter, out)?;
+    let (words, told, dead) = live_reporter.close(board);
     let Ok(end) = end_from(alloc, plan, places.as_slice(), gate) else {
         return Err(RunEnd::NoMemory);
     };
@@ -130,21 +130,21 @@ fn last_pass<G: Gate, K: Sink>(
     board: &Board,
     options: &RunOptions,
     gate: &G,
-    teller: &mut Teller,
+    live_reporter: &mut LiveReporter,
     out: &mut K,
 ) -> Result<(), RunEnd>
-    requires watches { Watches board.now teller.old }
+    requires watches { Watches board.now live_reporter.old }
     requires detects { board.now.mode ≡ Detect }
-    ensures watches { OnOk result (Watches board.now teller.new) }
-    ensures goes_on { LoadsAlone teller.old.view teller.new.view }
-    ensures passed { OnOk result (HasPassed teller.old.view teller.new) }
-    ensures told { options.now.live ≡ true → TellsMore board.now.plan teller.old.dead teller.new.dead (told K.taken K.faults out.old) (told K.taken K.faults out.new) result }
+    ensures watches { OnOk result (Watches board.now live_reporter.new) }
+    ensures goes_on { LoadsAlone live_reporter.old.view live_reporter.new.view }
+    ensures passed { OnOk result (HasPassed live_reporter.old.view live_reporter.new) }
+    ensures told { options.now.live ≡ true → TellsMore board.now.plan live_reporter.old.dead live_reporter.new.dead (told K.taken K.faults out.old) (told K.taken K.faults out.new) result }
     ensures silent { options.now.live ≡ false → (out.new ≡ out.old) × IsNoWrite result }
 {
     if options.live {
-        return teller.tell(alloc, board, gate, out);
+        return live_reporter.tell(alloc, board, gate, out);
     }
-    match teller.name(alloc, board) {
+    match live_reporter.name(alloc, board) {
         Ok(_) => Ok(()),
         Err(NoMemory) => Err(RunEnd::NoMemory),
     }

@@ -1,10 +1,10 @@
 // A run without rounds: workers claim the tasks from a pool.
 ghost use Rattle.std.specs.Prelude.{◌≡◌, ◌≤◌, [], Some, None, false, length, map, IfOk};
-ghost use Rattle.armus_base.specs.Seats.{seen_by_child};
+ghost use Rattle.armus_base.specs.calls.Seats.{seen_by_child};
 ghost use Rattle.board.specs.declared.mode.Mode.TheVariants.{Detect};
-ghost use Rattle.board.specs.Seats.{IsNewSeat, nothing_seen};
-ghost use Rattle.slot_pool.specs.Hands.{IsOfPool, IsSameWorker};
-ghost use Rattle.world_runs.specs.PlainRuns.{IsPlainEnd};
+ghost use Rattle.board.specs.calls.Seats.{IsNewSeat, nothing_seen};
+ghost use Rattle.slot_pool.specs.calls.PoolValues.{IsOfPool, IsSameWorker};
+ghost use Rattle.world_runs.specs.calls.PlainRuns.{IsPlainEnd};
 ghost use Rattle.task_runner.specs.inside.Pooled.{AreAllWorkers};
 
 use crate::RunOptions;
@@ -124,12 +124,12 @@ fn work_all<
 ) -> Result<Vec<J>, NoMemory>
     requires board { board.now ≡ J.frame }
     requires tasks { pool.now.tasks ≡ length J.frame.plan.parents }
-    requires workers { AreAllWorkers pool.now (map J.hand workers.items) }
-    ensures workers { IfOk result (λ v. AreAllWorkers pool.now (map J.hand v.items)) }
+    requires workers { AreAllWorkers pool.now (map J.worker_value workers.items) }
+    ensures workers { IfOk result (λ v. AreAllWorkers pool.now (map J.worker_value v.items)) }
 {
     let work = |worker: J| -> J
-        requires { (board.now ≡ J.frame) × (pool.now.tasks ≡ length J.frame.plan.parents) × IsOfPool (J.hand worker) pool.now × (J.hand worker).view.has ≡ [] }
-        ensures { IsSameWorker (J.hand worker) (J.hand result) × ((J.hand result).view.has ≡ []) }
+        requires { (board.now ≡ J.frame) × (pool.now.tasks ≡ length J.frame.plan.parents) × IsOfPool (J.worker_value worker) pool.now × (J.worker_value worker).view.has ≡ [] }
+        ensures { IsSameWorker (J.worker_value worker) (J.worker_value result) × ((J.worker_value result).view.has ≡ []) }
     {
         let mut worker = worker;
         worker.work(rt, alloc, board, pool, gate);

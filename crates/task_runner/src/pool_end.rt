@@ -4,12 +4,12 @@ ghost use Rattle.armus_base.specs.declared.op.Op.TheVariants.{Fork};
 ghost use Rattle.armus_base.specs.declared.ids.TaskId.{TaskId};
 ghost use Rattle.armus_base.specs.Plans.{actions_of, code_of};
 ghost use Rattle.board.specs.declared.mode.Mode.TheVariants.{Detect};
-ghost use Rattle.board.specs.Seats.{IsNewSeat, IsOf, nothing_seen};
-ghost use Rattle.board.specs.Steps.{IsSameSeat};
-ghost use Rattle.board_rounds.specs.Turns.{Working};
-ghost use Rattle.board_rounds.specs.Crews.{ArePlacesOf, IsCrewSeat, done_of, number};
+ghost use Rattle.board.specs.calls.Seats.{IsNewSeat, IsOf, nothing_seen};
+ghost use Rattle.board.specs.calls.Steps.{IsSameSeat};
+ghost use Rattle.board_rounds.specs.calls.Turns.{Working};
+ghost use Rattle.board_rounds.specs.calls.TaskSeats.{ArePlacesOf, IsTaskSeat, done_of, number};
 ghost use Rattle.board_rounds.specs.inside.Endings.{NotesPlaces, TakesAll};
-ghost use Rattle.world_runs.specs.PlainRuns.{IsPlainEnd};
+ghost use Rattle.world_runs.specs.calls.PlainRuns.{IsPlainEnd};
 ghost use Rattle.task_runner.specs.inside.Pooled.{AreForksMarked, AreClosedUnderForks, ContainsTask};
 
 use crate::board_name::BoardName;
@@ -179,7 +179,7 @@ fn take_in_all<N: BoardName>(board: &Board, view: &mut ViewSeat, tasks: Vec<Pool
     ensures made { IsOf view.new board.now }
     ensures same { IsSameSeat view.old.view view.new.view }
     ensures taken { TakesAll (map (λ (task : Working). task.seat) tasks.entry.items) view.old view.new }
-    ensures crew { All (λ (task : Working). IsCrewSeat N.board task.seat) tasks.entry.items }
+    ensures board_tasks { All (λ (task : Working). IsTaskSeat N.board task.seat) tasks.entry.items }
 {
     for task in tasks {
         view.take_in(board, task.into_seat());

@@ -1,7 +1,7 @@
 // A worker of a run without rounds.
 ghost use Rattle.std.specs.Prelude.{◌≡◌, ◌<◌, [], IfOk, IfSome, length};
-ghost use Rattle.board_rounds.specs.Crews.{number};
-ghost use Rattle.slot_pool.specs.Hands.{IsOfPool, IsSameWorker};
+ghost use Rattle.board_rounds.specs.calls.TaskSeats.{number};
+ghost use Rattle.slot_pool.specs.calls.PoolValues.{IsOfPool, IsSameWorker};
 
 use crate::board_name::BoardName;
 use crate::leaving::are_many;
@@ -35,9 +35,9 @@ pub(crate) struct PoolWorker<'p, N: BoardName> {
 
 impl<'p, N: BoardName> Model for PoolWorker<'p, N> {
     ghost use Rattle.std.specs.Prelude.{◌≡◌};
-    ghost use Rattle.slot_pool.specs.Hands.{Hand};
+    ghost use Rattle.slot_pool.specs.calls.PoolValues.{WorkerValue};
 
-    ghost Value = { Hand };
+    ghost Value = { WorkerValue };
 
     ghost view = { λ w. w.worker };
 
@@ -47,7 +47,7 @@ impl<'p, N: BoardName> Model for PoolWorker<'p, N> {
 impl<'p, N: BoardName> WorksOnPool<PooledTask<'p, N>> for PoolWorker<'p, N> {
     ghost frame = { N.board };
 
-    ghost hand = { λ worker. worker };
+    ghost worker_value = { λ worker. worker };
 
     fn work<R: Wait, C: Calls>(
         &mut self,

@@ -1,9 +1,9 @@
 // A task of a run without rounds: what workers claim from a pool.
 ghost use Rattle.std.specs.Prelude.{◌≡◌, ◌<◌, All, IfOk, IfSome, length};
 ghost use Rattle.armus_base.specs.Runs.{first_place};
-ghost use Rattle.board.specs.Views.{own_place, task_of};
-ghost use Rattle.board_rounds.specs.Crews.{IsCrewSeat, number};
-ghost use Rattle.board_rounds.specs.Turns.{standing_of};
+ghost use Rattle.board.specs.calls.Views.{own_place, task_of};
+ghost use Rattle.board_rounds.specs.calls.TaskSeats.{IsTaskSeat, number};
+ghost use Rattle.board_rounds.specs.calls.Turns.{standing_of};
 ghost use Rattle.task_runner.specs.inside.Pooled.{IsForked};
 
 use crate::board_name::BoardName;
@@ -23,7 +23,7 @@ pub(crate) struct PooledTask<'p, N: BoardName> {
 }
 
 impl<'p, N: BoardName> Model for PooledTask<'p, N> {
-    ghost use Rattle.board_rounds.specs.Turns.{Working};
+    ghost use Rattle.board_rounds.specs.calls.Turns.{Working};
 
     ghost Value = { Working };
 
@@ -35,7 +35,7 @@ impl<'p, N: BoardName> Model for PooledTask<'p, N> {
 }
 
 impl<'p, N: BoardName> Named for PooledTask<'p, N> {
-    ghost use Rattle.board.specs.Views.{task_of};
+    ghost use Rattle.board.specs.calls.Views.{task_of};
 
     ghost number = { λ task. task_of task.seat.view };
 
@@ -49,7 +49,7 @@ impl<'p, N: BoardName> PooledTask<'p, N> {
     pub(crate) fn new(alloc: Global, seat: TaskSeat, plan: &'p Plan) -> PooledTask<'p, N>
         requires plan { N.board.plan ≡ plan.now }
         requires first { own_place seat.view ≡ first_place }
-        requires seat { IsCrewSeat N.board seat }
+        requires seat { IsTaskSeat N.board seat }
         ensures seat { result.seat ≡ seat }
         ensures within { number result < length N.board.plan.parents }
     {
@@ -81,7 +81,7 @@ impl<'p, N: BoardName> PooledTask<'p, N> {
     /// Its number.
     pub(crate) fn number(&self) -> TaskId
         ensures number { result.0 ≡ number self.now }
-        ensures seat { IsCrewSeat N.board self.now.seat }
+        ensures seat { IsTaskSeat N.board self.now.seat }
     {
         self.task.id()
     }
@@ -96,7 +96,7 @@ impl<'p, N: BoardName> PooledTask<'p, N> {
     /// Its seat.
     pub(crate) fn into_seat(self) -> TaskSeat
         ensures seat { result ≡ self.entry.seat }
-        ensures crew { IsCrewSeat N.board result }
+        ensures board_tasks { IsTaskSeat N.board result }
     {
         self.task.into_seat()
     }

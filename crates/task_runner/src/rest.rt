@@ -1,8 +1,8 @@
 // The dead tasks of a final state that no pass has named.
 ghost use Rattle.std.specs.Prelude.{◌≡◌, ◌++◌, ◌⊎◌, true, false, Contains, IfOk};
-ghost use Rattle.armus_base.specs.Statuses.{IsInOrder};
+ghost use Rattle.armus_base.specs.calls.Statuses.{IsInOrder};
 ghost use Rattle.report.specs.NamedDead.{AreSomeDead, AreTheDead};
-ghost use Rattle.task_runner.specs.DetectRuns.{told, IsNoWrite};
+ghost use Rattle.task_runner.specs.calls.DetectRuns.{told, IsNoWrite};
 ghost use Rattle.task_runner.specs.inside.Rests.{TellsRest, IsNamedIn};
 
 use crate::{RunEnd, RunOptions};

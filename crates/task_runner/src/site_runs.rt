@@ -1,15 +1,15 @@
 // A run on a board whose tasks live on several sites.
 ghost use Rattle.std.specs.Prelude.{◌≡◌, ◌≤◌, ◌<◌, ℕ, List as Seq, All, None, false, IfOk, OnOk, length, replicate};
 ghost use Rattle.armus_base.specs.Limits.{max_tasks};
-ghost use Rattle.armus_base.specs.Statuses.{IsInOrder};
+ghost use Rattle.armus_base.specs.calls.Statuses.{IsInOrder};
 ghost use Rattle.board.specs.declared.mode.Mode.TheVariants.{Detect};
-ghost use Rattle.board.specs.Seats.{IsNewSeat, IsOf, IsSeat};
-ghost use Rattle.board.specs.Views.{seen};
-ghost use Rattle.board_rounds.specs.Crews.{HaveEnded, all_of};
-ghost use Rattle.sites.specs.Keeping.{count_after};
-ghost use Rattle.sites.specs.Parts.{HoldParts, PutsParts};
-ghost use Rattle.world_runs.specs.PlainRuns.{IsPlainEnd};
-ghost use Rattle.task_runner.specs.SiteRuns.{HoldFinal, HoldRowsOfRun};
+ghost use Rattle.board.specs.calls.Seats.{IsNewSeat, IsOf, IsSeat};
+ghost use Rattle.board.specs.calls.Views.{seen};
+ghost use Rattle.board_rounds.specs.calls.TaskSeats.{HaveEnded, all_of};
+ghost use Rattle.sites.specs.calls.Keeping.{count_after};
+ghost use Rattle.sites.specs.calls.Parts.{HoldParts, PutsParts};
+ghost use Rattle.world_runs.specs.calls.PlainRuns.{IsPlainEnd};
+ghost use Rattle.task_runner.specs.calls.SiteRuns.{HoldFinal, HoldRowsOfRun};
 ghost use Rattle.task_runner.specs.inside.BoardRuns.{IsOnBoard};
 ghost use Rattle.task_runner.specs.inside.SiteRounds.{IsWholeEnd};
 
@@ -87,9 +87,9 @@ fn end_of_board<G: Gate>(
     mut view: ViewSeat,
     gate: &G,
 ) -> Result<(Final, List<Status>), NoMemory>
-    requires on_board { IsOnBoard board run.plan.now run.crew }
+    requires on_board { IsOnBoard board run.plan.now run.board_tasks }
     requires detects { board.mode ≡ Detect }
-    requires ends { HaveEnded (all_of run.crew) }
+    requires ends { HaveEnded (all_of run.board_tasks) }
     requires made { IsOf view board }
     requires kept { IsSeat view }
     requires unknown { (u : ℕ) → (seen view.view).exact u ≡ false }
@@ -98,11 +98,11 @@ fn end_of_board<G: Gate>(
     let BoardRun {
         alloc,
         plan,
-        crew,
+        board_tasks,
         ..
     } = run;
-    let places = crew.places(alloc, &board, plan)?;
-    crew.take_in(&board, &mut view);
+    let places = board_tasks.places(alloc, &board, plan)?;
+    board_tasks.take_in(&board, &mut view);
     let _ = board.close(view);
     whole_end_from(alloc, plan, places.as_slice(), gate)
 }

@@ -1,6 +1,6 @@
 // Who makes passes over all sites, beside the rounds of a run.
 ghost use Rattle.std.specs.Prelude.{◌≡◌, length};
-ghost use Rattle.sites.specs.Keeping.{count_after};
+ghost use Rattle.sites.specs.calls.Keeping.{count_after};
 ghost use Rattle.task_runner.specs.inside.SiteRounds.{AreWatching};
 
 use crate::beside::Beside;
@@ -23,7 +23,7 @@ impl<K: Keeps> Beside<K> for Viewers {
     ghost use Rattle.std.specs.Prelude.{◌≡◌, Result, Ok, Err, length};
     ghost use Rattle.std.proofs.Common.{refl, subst, ap, ◌∙◌};
     ghost use Rattle.sites.specs.declared.ends.KeepEnd.TheVariants.{NoMemory};
-    ghost use Rattle.sites.specs.Keeping.{count_after};
+    ghost use Rattle.sites.specs.calls.Keeping.{count_after};
     ghost use Rattle.task_runner.specs.inside.SiteRounds.{AreWatching};
 
     type Early = KeepEnd;

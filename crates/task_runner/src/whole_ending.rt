@@ -2,7 +2,7 @@
 ghost use Rattle.std.specs.Prelude.{◌≡◌, ℕ, Some, false, IfOk, length, slice_get};
 ghost use Rattle.armus_base.specs.Runs.{IsReachable};
 ghost use Rattle.pl_core.specs.declared.place.Place.{Place as KeptPlace};
-ghost use Rattle.pl_core.specs.Worlds.{places_at};
+ghost use Rattle.pl_core.specs.calls.Worlds.{places_at};
 ghost use Rattle.task_runner.specs.inside.SiteRounds.{IsWholeEnd};
 
 use armus_base::{Final, Gate, List, NoMemory, Plan, Status};

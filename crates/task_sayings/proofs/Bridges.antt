@@ -4,7 +4,7 @@ use Rattle.std.specs.Prelude.{◌&&◌, option_map, nat_eq}
 use Rattle.std.specs.Option.{option_eq}
 use Rattle.std.specs.Str.{bytes_eq}
 use Rattle.task_sayings.specs.Sayings.{same_event, same_forking, same_phase, same_said}
-use Rattle.task_sayings.specs.SayingValues.{forking_said, said_by}
+use Rattle.task_sayings.specs.calls.SayingValues.{forking_said, said_by}
 use Rattle.task_sayings.specs.declared.saying.ForkingWords.{ForkingWords}
 use Rattle.task_sayings.specs.declared.saying.Saying.{Saying}
 use Rattle.task_sayings.specs.contracts.saying.ForkingWordsPartialEq.TheImpl.{eq-value as forking_value}

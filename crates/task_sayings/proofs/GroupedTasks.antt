@@ -7,7 +7,7 @@ use Rattle.std.proofs.lemmas.List.Elements.{filter-append}
 use Rattle.armus_base.specs.declared.ids.TaskId.{TaskId}
 use Rattle.armus_base.proofs.Elements.{Contains-head, Contains-tail}
 use Rattle.task_sayings.specs.Sayings.{Said, same_said}
-use Rattle.task_sayings.specs.Grouped.{Told, members_of}
+use Rattle.task_sayings.specs.calls.Grouped.{Told, members_of}
 use Rattle.task_sayings.proofs.EachOnce as each
 use Rattle.task_sayings.proofs.SameSaid.{same_said_is, same_said_itself}
 

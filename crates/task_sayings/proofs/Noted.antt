@@ -9,8 +9,8 @@ use Rattle.indexmap.specs.IndexSet.{insert_key}
 use Rattle.armus_base.specs.declared.ids.TaskId.{TaskId}
 use Rattle.task_sayings.specs.Groups.{each_once}
 use Rattle.task_sayings.specs.Sayings.{Said, same_said}
-use Rattle.task_sayings.specs.Grouped.{IsGrouped, Told, members_of}
-use Rattle.task_sayings.specs.SayingValues.{said_by}
+use Rattle.task_sayings.specs.calls.Grouped.{IsGrouped, Told, members_of}
+use Rattle.task_sayings.specs.calls.SayingValues.{said_by}
 use Rattle.task_sayings.specs.declared.grouping.Grouping.{Grouping}
 use Rattle.task_sayings.specs.declared.saying.Saying.{Saying}
 use Rattle.task_sayings.proofs.EachOnce as each

@@ -9,7 +9,7 @@ use Rattle.armus_base.specs.Relations.{IsWalk}
 use Rattle.armus_base.proofs.Elements.{Contains-cons_cases, Contains-head, Contains-tail, nothing_in_nil}
 use Rattle.std.proofs.lemmas.List.Elements.{Contains-append_cases}
 use Rattle.task_sayings.specs.declared.task_lists.Run.{Run}
-use Rattle.task_sayings.specs.Laws.{ItemsAreNoPairs, ItemsNameTheTasks, RunsAreApart, tasks_in}
+use Rattle.task_sayings.specs.calls.Laws.{ItemsAreNoPairs, ItemsNameTheTasks, RunsAreApart, tasks_in}
 use Rattle.task_sayings.specs.TaskLists.{items_of, runs_behind, runs_of}
 
 abbrev one : ℕ → Run

@@ -25,16 +25,16 @@ abbrev pub facts_of : List ℕ → Option (List ℕ) → Account → List Standi
 facts_of text file account standings = record { text = text; file = file; account = account; standings = standings }
 
 -- where task t was drawn, if it was
-abbrev pub drawn_of : FactsValue → ℕ → Option Drawn
-drawn_of f t = option_and_then (λ (a : TaskAccount). a.drawn) (slice_get f.account.tasks t)
+abbrev pub drawing_of : FactsValue → ℕ → Option Drawn
+drawing_of f t = option_and_then (λ (a : TaskAccount). a.drawn) (slice_get f.account.tasks t)
 
 -- the op that forks task t, if there is one
-abbrev pub fork_of : FactsValue → ℕ → Option Forked
-fork_of f t = option_and_then (λ (a : TaskAccount). a.fork) (slice_get f.account.tasks t)
+abbrev pub forking_of : FactsValue → ℕ → Option Forked
+forking_of f t = option_and_then (λ (a : TaskAccount). a.fork) (slice_get f.account.tasks t)
 
 -- where the code of task t ends, if it can be forked
-abbrev pub end_of : FactsValue → ℕ → Option Ended
-end_of f t = option_and_then (λ (a : TaskAccount). a.ended) (slice_get f.account.tasks t)
+abbrev pub ending_of : FactsValue → ℕ → Option Ended
+ending_of f t = option_and_then (λ (a : TaskAccount). a.ended) (slice_get f.account.tasks t)
 
 -- where task t waits, if it waits
 abbrev pub wait_of : FactsValue → ℕ → Option Waiting
@@ -51,7 +51,7 @@ situation_by Unforked None = NeverForked
 
 -- how task t stands
 abbrev pub situation_of : FactsValue → ℕ → Situation
-situation_of f t = situation_by (slice_index_or f.standings t Done) (fork_of f t)
+situation_of f t = situation_by (slice_index_or f.standings t Done) (forking_of f t)
 
 -- it waits: it is deadlocked or held
 abbrev pub is_waiting : Situation → Bool
@@ -60,10 +60,10 @@ is_waiting Held = true
 is_waiting _ = false
 
 -- it was not forked: it is not forked yet or never forked
-abbrev pub is_unforked : Situation → Bool
-is_unforked NotForkedYet = true
-is_unforked NeverForked = true
-is_unforked _ = false
+abbrev pub stands_unforked : Situation → Bool
+stands_unforked NotForkedYet = true
+stands_unforked NeverForked = true
+stands_unforked _ = false
 
 -- it is deadlocked
 abbrev pub is_deadlocked : Situation → Bool
@@ -71,9 +71,9 @@ is_deadlocked Deadlocked = true
 is_deadlocked _ = false
 
 -- it is held
-abbrev pub is_held : Situation → Bool
-is_held Held = true
-is_held _ = false
+abbrev pub stands_held : Situation → Bool
+stands_held Held = true
+stands_held _ = false
 
 -- the tasks that stand so, in order of number
 abbrev pub tasks_that : (Situation → Bool) → FactsValue → List TaskId

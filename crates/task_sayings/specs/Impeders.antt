@@ -22,5 +22,5 @@ impeders_by n phases None = []
 impeders_by n phases (Some w) = impeders_in n phases w.event
 
 -- the impeders of task t: those of the event that it awaits
-abbrev pub impeders_of : FactsValue → (ℕ → Phases) → ℕ → List Impeder
-impeders_of f phases t = impeders_by (length f.standings) phases (wait_of f t)
+abbrev pub impeders_by_facts : FactsValue → (ℕ → Phases) → ℕ → List Impeder
+impeders_by_facts f phases t = impeders_by (length f.standings) phases (wait_of f t)

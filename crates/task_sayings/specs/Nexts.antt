@@ -7,8 +7,8 @@ use Rattle.armus_base.specs.States.{Phases}
 use Rattle.task_sayings.specs.declared.impeders.Impeder.{Impeder}
 use Rattle.task_sayings.specs.declared.situation.Situation.{Situation}
 use Rattle.task_sayings.specs.declared.situation.Situation.TheVariants.{Deadlocked, Held, HasEnded, NotForkedYet, NeverForked}
-use Rattle.task_sayings.specs.Facts.{FactsValue, fork_of, is_deadlocked, is_held, situation_of}
-use Rattle.task_sayings.specs.Impeders.{impeders_of}
+use Rattle.task_sayings.specs.Facts.{FactsValue, forking_of, is_deadlocked, stands_held, situation_of}
+use Rattle.task_sayings.specs.Impeders.{impeders_by_facts}
 
 -- the least impeder that stands so; the list has them in order of number
 abbrev pub least_that : (Situation → Bool) → FactsValue → List Impeder → Option TaskId
@@ -23,14 +23,14 @@ first_or None other = other
 -- impeder or else its least, of a task not forked yet its forker, and nobody of others
 abbrev pub next_by : FactsValue → List Impeder → Option Forked → Situation → Option TaskId
 next_by f impeders fork Deadlocked = least_that is_deadlocked f impeders
-next_by f impeders fork Held = first_or (least_that is_held f impeders) (option_map (λ (i : Impeder). i.t) (slice_get impeders 0))
+next_by f impeders fork Held = first_or (least_that stands_held f impeders) (option_map (λ (i : Impeder). i.t) (slice_get impeders 0))
 next_by f impeders fork NotForkedYet = option_map (λ (x : Forked). x.by) fork
 next_by f impeders fork HasEnded = None
 next_by f impeders fork NeverForked = None
 
 -- the next of task t
 abbrev pub next_of : FactsValue → (ℕ → Phases) → ℕ → Option TaskId
-next_of f phases t = next_by f (impeders_of f phases t) (fork_of f t) (situation_of f t)
+next_of f phases t = next_by f (impeders_by_facts f phases t) (forking_of f t) (situation_of f t)
 
 -- u is the next of t
 abbrev pub IsNext : FactsValue → (ℕ → Phases) → TaskId → TaskId → Type 0

@@ -7,11 +7,11 @@ use Rattle.accounts.specs.declared.account.Forked.{Forked}
 use Rattle.accounts.specs.declared.account.Waiting.{Waiting}
 use Rattle.text_places.specs.PlaceWords.{front_words, place_words}
 use Rattle.text_places.specs.declared.place.TextPlace.{TextPlace}
-use Rattle.task_sayings.specs.Facts.{FactsValue, drawn_of, end_of, fork_of, wait_of}
+use Rattle.task_sayings.specs.Facts.{FactsValue, drawing_of, ending_of, forking_of, wait_of}
 
 -- a place within a line: 20:7
-abbrev pub place_in : FactsValue → TextPlace → List ℕ
-place_in f at = place_words f.text at
+abbrev pub place_in_line : FactsValue → TextPlace → List ℕ
+place_in_line f at = place_words f.text at
 
 -- a place with which a line begins: k.pl:20:7
 abbrev pub front_in : FactsValue → TextPlace → List ℕ
@@ -24,7 +24,7 @@ said_of words (Some x) = words x
 
 -- the name behind the number of a task:  (worker); task 0 has none
 abbrev pub name_words : FactsValue → ℕ → List ℕ
-name_words f t = said_of (λ (d : Drawn). codes " (" ++ d.name ++ codes ")") (drawn_of f t)
+name_words f t = said_of (λ (d : Drawn). codes " (" ++ d.name ++ codes ")") (drawing_of f t)
 
 -- a task: t3 (worker)
 abbrev pub named_task : FactsValue → ℕ → List ℕ
@@ -32,16 +32,16 @@ named_task f t = task_word t ++ name_words f t
 
 -- the place where task t waits
 abbrev pub wait_place : FactsValue → ℕ → List ℕ
-wait_place f t = said_of (λ (w : Waiting). place_in f w.at) (wait_of f t)
+wait_place f t = said_of (λ (w : Waiting). place_in_line f w.at) (wait_of f t)
 
 -- the place where task t is forked
 abbrev pub fork_place : FactsValue → ℕ → List ℕ
-fork_place f t = said_of (λ (x : Forked). place_in f x.at) (fork_of f t)
+fork_place f t = said_of (λ (x : Forked). place_in_line f x.at) (forking_of f t)
 
 -- the place where task t was drawn
 abbrev pub drawn_place : FactsValue → ℕ → List ℕ
-drawn_place f t = said_of (λ (d : Drawn). place_in f d.at) (drawn_of f t)
+drawn_place f t = said_of (λ (d : Drawn). place_in_line f d.at) (drawing_of f t)
 
 -- the place where task t ended
-abbrev pub end_place : FactsValue → ℕ → List ℕ
-end_place f t = said_of (λ (e : Ended). place_in f e.at) (end_of f t)
+abbrev pub end_words : FactsValue → ℕ → List ℕ
+end_words f t = said_of (λ (e : Ended). place_in_line f e.at) (ending_of f t)

@@ -11,8 +11,8 @@ use Rattle.text_places.specs.declared.place.TextPlace.{TextPlace}
 use Rattle.task_sayings.specs.declared.impeders.Impeder.{Impeder}
 use Rattle.task_sayings.specs.declared.situation.Situation.{Situation}
 use Rattle.task_sayings.specs.declared.situation.Situation.TheVariants.{Deadlocked, Held, HasEnded, NotForkedYet, NeverForked}
-use Rattle.task_sayings.specs.Facts.{FactsValue, drawn_of, end_of, fork_of, situation_of, wait_of}
-use Rattle.task_sayings.specs.Places.{drawn_place, end_place, fork_place, front_in, name_words, place_in, said_of, wait_place}
+use Rattle.task_sayings.specs.Facts.{FactsValue, drawing_of, ending_of, forking_of, situation_of, wait_of}
+use Rattle.task_sayings.specs.Places.{drawn_place, end_words, fork_place, front_in, name_words, place_in_line, said_of, wait_place}
 
 -- who would fork a task: the forker's name, the place of the fork where it is told, and how the forker stands
 pub record Forking : Type 0 where
@@ -42,16 +42,16 @@ awaited_words w = w.words ++ phase_words w ++ codes " waits for phase " ++ decim
 
 -- a turn of a loop: ; turn 3 of the loop at 17:5
 abbrev pub turn_words : FactsValue → Turn → List ℕ
-turn_words f u = codes "; turn " ++ decimal u.turn ++ codes " of the loop at " ++ place_in f u.at
+turn_words f u = codes "; turn " ++ decimal u.turn ++ codes " of the loop at " ++ place_in_line f u.at
 
 -- where it was forked: forked at 16:3; and a blank; nothing for task 0
 abbrev pub forked_words : FactsValue → Option Forked → List ℕ
-forked_words f fork = said_of (λ (x : Forked). codes "forked at " ++ place_in f x.at ++ codes "; ") fork
+forked_words f fork = said_of (λ (x : Forked). codes "forked at " ++ place_in_line f x.at ++ codes "; ") fork
 
 -- the phaser for which it waits: p1 made at 11:1
 abbrev pub made_words : FactsValue → Waiting → List ℕ
 made_words f w =
-    codes "p" ++ decimal w.event.p.0 ++ codes " made at " ++ said_of (λ (at : TextPlace). place_in f at) (slice_get f.account.phasers w.event.p.0)
+    codes "p" ++ decimal w.event.p.0 ++ codes " made at " ++ said_of (λ (at : TextPlace). place_in_line f at) (slice_get f.account.phasers w.event.p.0)
 
 -- the second line: forked at 16:3; p1 made at 11:1; turn 3 of the loop at 17:5
 abbrev pub second_line : FactsValue → Option Forked → Waiting → List ℕ
@@ -64,7 +64,7 @@ waiting_said f t stands =
       front = said_of (λ (w : Waiting). front_in f w.at) (wait_of f t);
       name = name_words f t;
       phase = None;
-      words = stands ++ said_of (λ (w : Waiting). awaited_words w ++ second_line f (fork_of f t) w) (wait_of f t);
+      words = stands ++ said_of (λ (w : Waiting). awaited_words w ++ second_line f (forking_of f t) w) (wait_of f t);
       event = option_map (λ (w : Waiting). w.event) (wait_of f t);
       forking = None;
     }
@@ -91,16 +91,16 @@ said_as f t Held = waiting_said f t (codes "held: ")
 said_as f t HasEnded = record { front = []; name = name_words f t; phase = None; words = []; event = None; forking = None }
 said_as f t NotForkedYet =
     record {
-      front = said_of (λ (x : Forked). front_in f x.at) (fork_of f t);
+      front = said_of (λ (x : Forked). front_in f x.at) (forking_of f t);
       name = name_words f t;
       phase = None;
       words = codes "not forked yet: ";
       event = None;
-      forking = forking_by f [] (fork_of f t);
+      forking = forking_by f [] (forking_of f t);
     }
 said_as f t NeverForked =
     record {
-      front = said_of (λ (d : Drawn). front_in f d.at) (drawn_of f t);
+      front = said_of (λ (d : Drawn). front_in f d.at) (drawing_of f t);
       name = name_words f t;
       phase = None;
       words = codes "never forked";
@@ -114,19 +114,19 @@ own_said f t = said_as f t (situation_of f t)
 
 -- the statement of a last visit, where there was one: , last statement at 13:3
 abbrev pub last_words : FactsValue → Ended → List ℕ
-last_words f e = said_of (λ (at : TextPlace). codes ", last statement at " ++ place_in f at) e.last
+last_words f e = said_of (λ (at : TextPlace). codes ", last statement at " ++ place_in_line f at) e.last
 
 -- what is said of an impeder that stands so, behind its phase
 abbrev pub impeder_words : FactsValue → ℕ → Situation → List ℕ
 impeder_words f t Deadlocked = codes "deadlocked at " ++ wait_place f t ++ codes ": " ++ said_of (λ (w : Waiting). w.words) (wait_of f t)
 impeder_words f t Held = codes "held at " ++ wait_place f t ++ codes ": " ++ said_of (λ (w : Waiting). w.words) (wait_of f t)
-impeder_words f t HasEnded = codes "ended at " ++ end_place f t ++ codes " without leaving" ++ said_of (last_words f) (end_of f t)
+impeder_words f t HasEnded = codes "ended at " ++ end_words f t ++ codes " without leaving" ++ said_of (last_words f) (ending_of f t)
 impeder_words f t NotForkedYet = codes "not forked yet: "
 impeder_words f t NeverForked = codes "never forked, drawn at " ++ drawn_place f t
 
 -- who would fork an impeder that stands so
 abbrev pub impeder_forking : FactsValue → ℕ → Situation → Option Forking
-impeder_forking f t NotForkedYet = forking_by f (codes " at " ++ fork_place f t) (fork_of f t)
+impeder_forking f t NotForkedYet = forking_by f (codes " at " ++ fork_place f t) (forking_of f t)
 impeder_forking f t _ = None
 
 -- what the line of an impeder says of it

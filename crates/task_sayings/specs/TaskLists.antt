@@ -32,12 +32,12 @@ separator n zero = []
 separator n (suc k) = if suc (suc k) == n then codes " and " else codes ", "
 
 -- items, one behind the other
-abbrev pub joined : List Run → List ℕ
-joined items = flat_map (λ (k, run). separator (length items) k ++ item_words run) (enumerate_from 0 items)
+abbrev pub joined_items : List Run → List ℕ
+joined_items items = flat_map (λ (k, run). separator (length items) k ++ item_words run) (enumerate_from 0 items)
 
 -- a list of tasks in order of number: t1, t3 and t5 to t9
 abbrev pub list_words : List TaskId → List ℕ
-list_words tasks = joined (flat_map items_of (runs_of tasks))
+list_words tasks = joined_items (flat_map items_of (runs_of tasks))
 
 -- the word for one, or the word for more
 abbrev pub by_number : ℕ → List ℕ → List ℕ → List ℕ

@@ -42,7 +42,7 @@ fn standing_at(standings: &[Standing], t: usize) -> Standing
 }
 
 impl<'a> Facts<'a> {
-    ghost use Rattle.task_sayings.specs.Facts.{drawn_of, end_of, facts_of, fork_of, situation_of, wait_of};
+    ghost use Rattle.task_sayings.specs.Facts.{drawing_of, ending_of, facts_of, forking_of, situation_of, wait_of};
     ghost use Rattle.std.specs.Prelude.{◌<◌, ◌^◌};
 
     /// What is known of a text with these places, of the file with this name if it comes from one, with this account, and whose tasks stand so.
@@ -86,7 +86,7 @@ impl<'a> Facts<'a> {
 
     // Where a task was drawn, if it was.
     pub(crate) fn drawn(&self, t: TaskId) -> Option<&Drawn>
-        ensures { option_copied result ≡ drawn_of self.now t.0 }
+        ensures { option_copied result ≡ drawing_of self.now t.0 }
     {
         match self.task(t) {
             Some(task) => task.drawn.as_ref(),
@@ -96,7 +96,7 @@ impl<'a> Facts<'a> {
 
     /// The op that forks a task, if there is one.
     pub fn fork(&self, t: TaskId) -> Option<Forked>
-        ensures { result ≡ fork_of self.now t.0 }
+        ensures { result ≡ forking_of self.now t.0 }
     {
         match self.task(t) {
             Some(task) => task.fork,
@@ -106,7 +106,7 @@ impl<'a> Facts<'a> {
 
     // Where the code of a task ends, if it can be forked.
     pub(crate) fn end(&self, t: TaskId) -> Option<Ended>
-        ensures { result ≡ end_of self.now t.0 }
+        ensures { result ≡ ending_of self.now t.0 }
     {
         match self.task(t) {
             Some(task) => task.ended,

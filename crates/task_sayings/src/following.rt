@@ -1,9 +1,9 @@
 // The next of a task.
 ghost use Rattle.std.specs.Prelude.{◌≡◌, IfOk, option_copied, option_map};
 ghost use Rattle.task_sayings.specs.declared.impeders.Impeder.{Impeder};
-ghost use Rattle.task_sayings.specs.Facts.{is_deadlocked, is_held, is_unforked, is_waiting};
+ghost use Rattle.task_sayings.specs.Facts.{is_deadlocked, stands_held, stands_unforked, is_waiting};
 ghost use Rattle.task_sayings.specs.Nexts.{first_or};
-ghost use Rattle.pl_core.specs.Worlds.{state_of};
+ghost use Rattle.pl_core.specs.calls.Worlds.{state_of};
 
 use crate::facts::Facts;
 use crate::impeders::Impeder;
@@ -24,7 +24,7 @@ pub fn is_deadlocked(situation: Situation) -> bool
 
 // Whether a task that stands so is held.
 fn is_held(situation: Situation) -> bool
-    ensures { result ≡ is_held situation }
+    ensures { result ≡ stands_held situation }
 {
     match situation {
         Situation::Held => true,
@@ -45,7 +45,7 @@ pub fn is_waiting(situation: Situation) -> bool
 
 /// Whether a task that stands so was not forked.
 pub fn is_unforked(situation: Situation) -> bool
-    ensures { result ≡ is_unforked situation }
+    ensures { result ≡ stands_unforked situation }
 {
     match situation {
         Situation::NotForkedYet => true,
@@ -75,9 +75,9 @@ fn task_in(impeder: Option<&Impeder>) -> Option<TaskId>
 }
 
 impl<'a> Facts<'a> {
-    ghost use Rattle.task_sayings.specs.Facts.{fork_of, situation_of};
+    ghost use Rattle.task_sayings.specs.Facts.{forking_of, situation_of};
     ghost use Rattle.task_sayings.specs.Nexts.{least_that, next_by, next_of};
-    ghost use Rattle.task_sayings.specs.Fitting.{FitsPlan};
+    ghost use Rattle.task_sayings.specs.calls.Fitting.{FactsFitPlan};
 
     // The least deadlocked one of these impeders.
     fn least_deadlocked(&self, impeders: &[Impeder]) -> Option<TaskId>
@@ -93,7 +93,7 @@ impl<'a> Facts<'a> {
 
     // The least held one of these impeders.
     fn least_held(&self, impeders: &[Impeder]) -> Option<TaskId>
-        ensures { result ≡ least_that is_held self.now impeders.now }
+        ensures { result ≡ least_that stands_held self.now impeders.now }
     {
         for impeder in impeders {
             if is_held(self.situation(impeder.t)) {
@@ -126,14 +126,14 @@ impl<'a> Facts<'a> {
 
     /// The next of a task that has these impeders.
     pub fn next_among(&self, impeders: &[Impeder], t: TaskId) -> Option<TaskId>
-        ensures { result ≡ next_by self.now impeders.now (fork_of self.now t.0) (situation_of self.now t.0) }
+        ensures { result ≡ next_by self.now impeders.now (forking_of self.now t.0) (situation_of self.now t.0) }
     {
         self.next_by(impeders, self.fork(t), self.situation(t))
     }
 
     /// The next of a task.
     pub fn next(&self, world: &World, t: TaskId) -> Result<Option<TaskId>, NoMemory>
-        requires fits { FitsPlan self.now world.now.plan }
+        requires fits { FactsFitPlan self.now world.now.plan }
         ensures { IfOk result (λ next. next ≡ next_of self.now (state_of world.now).phases t.0) }
     {
         let impeders = self.impeders(world, t)?;

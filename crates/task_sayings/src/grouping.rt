@@ -1,6 +1,6 @@
 // Tasks of which the same is said, together.
 ghost use Rattle.std.specs.Prelude.{◌<◌, ◌∷◌, [], IfOk, OnOk, length};
-ghost use Rattle.task_sayings.specs.SayingValues.{said_by};
+ghost use Rattle.task_sayings.specs.calls.SayingValues.{said_by};
 
 use crate::saying::Saying;
 use armus_base::{NoMemory, TaskId};
@@ -17,7 +17,7 @@ pub struct Grouping {
 }
 
 impl Grouping {
-    ghost use Rattle.task_sayings.specs.Grouped.{AddsTold, IsGrouped, IsSized, NotesSaid};
+    ghost use Rattle.task_sayings.specs.calls.Grouped.{AddsTold, IsGrouped, IsSized, NotesSaid};
 
     /// Nothing is said yet.
     pub fn new(alloc: Global) -> Grouping

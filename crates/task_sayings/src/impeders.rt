@@ -1,7 +1,7 @@
 // Who keeps a task waiting.
 ghost use Rattle.std.specs.Prelude.{◌≡◌, ◌<◌, IfOk, length};
 ghost use Rattle.task_sayings.specs.Impeders.{impeder_by, impeders_in};
-ghost use Rattle.pl_core.specs.Worlds.{state_of};
+ghost use Rattle.pl_core.specs.calls.Worlds.{state_of};
 
 use crate::facts::Facts;
 use armus_base::{Event, NoMemory, Phase, TaskId};
@@ -43,13 +43,13 @@ fn impeders_in(alloc: Global, world: &World, event: Event) -> Result<Vec<Impeder
 }
 
 impl<'a> Facts<'a> {
-    ghost use Rattle.task_sayings.specs.Impeders.{impeders_of};
-    ghost use Rattle.task_sayings.specs.Fitting.{FitsPlan};
+    ghost use Rattle.task_sayings.specs.Impeders.{impeders_by_facts};
+    ghost use Rattle.task_sayings.specs.calls.Fitting.{FactsFitPlan};
 
     /// The tasks that impede the event that a task awaits, in order of number.
     pub fn impeders(&self, world: &World, t: TaskId) -> Result<Vec<Impeder>, NoMemory>
-        requires fits { FitsPlan self.now world.now.plan }
-        ensures { IfOk result (λ all. all.items ≡ impeders_of self.now (state_of world.now).phases t.0) }
+        requires fits { FactsFitPlan self.now world.now.plan }
+        ensures { IfOk result (λ all. all.items ≡ impeders_by_facts self.now (state_of world.now).phases t.0) }
     {
         match self.wait(t) {
             Some(wait) => impeders_in(self.alloc, world, wait.event),

@@ -1,6 +1,6 @@
 // What is said of tasks.
 ghost use Rattle.std.specs.Prelude.{◌≡◌, ◌++◌, IfOk, OnOk, codes, option_copied, option_map};
-ghost use Rattle.task_sayings.specs.SayingValues.{forking_said, said_by};
+ghost use Rattle.task_sayings.specs.calls.SayingValues.{forking_said, said_by};
 ghost use Rattle.task_sayings.specs.Sayings.{awaited_words, phase_words};
 
 use crate::facts::Facts;
@@ -40,7 +40,7 @@ impl<'a> Facts<'a> {
     ghost use Rattle.accounts.specs.declared.account.Waiting.{Waiting};
     ghost use Rattle.task_sayings.specs.Facts.{situation_of, wait_of};
     ghost use Rattle.task_sayings.specs.declared.situation.Situation.TheVariants.{HasEnded, NeverForked, NotForkedYet};
-    ghost use Rattle.task_sayings.specs.Places.{name_words, place_in, said_of, wait_place};
+    ghost use Rattle.task_sayings.specs.Places.{name_words, place_in_line, said_of, wait_place};
     ghost use Rattle.text_places.specs.declared.place.TextPlace.{TextPlace};
     ghost use Rattle.task_sayings.specs.Sayings.{forked_words, forker_words, forking_by, impeder_forking, impeder_said, impeder_words, last_words, made_words, own_said, said_as, second_line, turn_words, waiting_said};
 
@@ -80,7 +80,7 @@ impl<'a> Facts<'a> {
 
     // Appends the place where a phaser was made.
     fn put_phaser_place(&self, out: &mut Vec<u8>, p: PhaserId) -> Result<(), NoMemory>
-        ensures { OnOk result (out.new.items ≡ out.old.items ++ said_of (λ (at : TextPlace). place_in self.now at) (slice_get self.now.account.phasers p.0)) }
+        ensures { OnOk result (out.new.items ≡ out.old.items ++ said_of (λ (at : TextPlace). place_in_line self.now at) (slice_get self.now.account.phasers p.0)) }
     {
         match self.account.phasers.as_slice().get(p.0 as usize) {
             Some(at) => self.put_place(out, *at),

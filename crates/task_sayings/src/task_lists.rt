@@ -1,6 +1,6 @@
 // Lists of tasks, as they are written.
 ghost use Rattle.std.specs.Prelude.{◌≡◌, ◌==◌, ◌+◌, ◌++◌, IfOk, OnOk, flat_map};
-ghost use Rattle.task_sayings.specs.TaskLists.{item_words, items_of, joined, list_words, runs_of, separator};
+ghost use Rattle.task_sayings.specs.TaskLists.{item_words, items_of, joined_items, list_words, runs_of, separator};
 
 use crate::words::{put_task, put_words};
 use armus_base::{NoMemory, TaskId};
@@ -115,7 +115,7 @@ fn put_item_at(
 
 // Appends items, one behind the other.
 fn put_items(alloc: Global, out: &mut Vec<u8>, items: &[Run]) -> Result<(), NoMemory>
-    ensures { OnOk result (out.new.items ≡ out.old.items ++ joined items.now) }
+    ensures { OnOk result (out.new.items ≡ out.old.items ++ joined_items items.now) }
 {
     for (k, item) in items.iter().enumerate() {
         put_item_at(alloc, out, items.len(), k, *item)?;

@@ -48,11 +48,11 @@ pub(crate) fn put_task(alloc: Global, out: &mut Vec<u8>, t: u32) -> Result<(), N
 }
 
 impl<'a> Facts<'a> {
-    ghost use Rattle.task_sayings.specs.Places.{drawn_place, end_place, fork_place, front_in, name_words, named_task, place_in, wait_place};
+    ghost use Rattle.task_sayings.specs.Places.{drawn_place, end_words, fork_place, front_in, name_words, named_task, place_in_line, wait_place};
 
     // Appends a place within a line.
     pub(crate) fn put_place(&self, out: &mut Vec<u8>, at: TextPlace) -> Result<(), NoMemory>
-        ensures { OnOk result (out.new.items ≡ out.old.items ++ place_in self.now at) }
+        ensures { OnOk result (out.new.items ≡ out.old.items ++ place_in_line self.now at) }
     {
         self.places.put(self.alloc, out, at)
     }
@@ -118,7 +118,7 @@ impl<'a> Facts<'a> {
 
     /// Appends the place where the code of a task ends.
     pub fn put_end_place(&self, out: &mut Vec<u8>, t: TaskId) -> Result<(), NoMemory>
-        ensures { OnOk result (out.new.items ≡ out.old.items ++ end_place self.now t.0) }
+        ensures { OnOk result (out.new.items ≡ out.old.items ++ end_words self.now t.0) }
     {
         match self.end(t) {
             Some(end) => self.put_place(out, end.at),

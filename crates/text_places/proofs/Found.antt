@@ -10,19 +10,19 @@ use Rattle.std.proofs.lemmas.Option.{get_or_from_slice_get}
 use Rattle.armus_base.proofs.Below.{length-list_below, list_below-at}
 use Rattle.text_places.specs.declared.place.TextPlace.{TextPlace}
 use Rattle.text_places.specs.declared.places.Line.{Line}
-use Rattle.text_places.specs.NamedPlaces.{moved, named_in}
+use Rattle.text_places.specs.NamedPlaces.{moved_span, named_in}
 use Rattle.text_places.specs.TextPlaces.{is_line_feed, line_at, line_before, line_begin, line_from, place_by, text_place}
-use Rattle.text_places.specs.inside.Rows.{begin_of, line_count, row_at, rows_of}
+use Rattle.text_places.specs.inside.Rows.{begin_of, line_count, line_row, line_rows}
 use Rattle.text_places.proofs.Lines.{begins, begins_ascend, further, line_ends, line_within, next_begins}
 
 -- a row of the table
-pub row_is : (text : List ℕ) (i : ℕ) (d : Line) → i < line_count text → get_or (rows_of text) i d ≡ row_at text i
-row_is text i d lt = get_or_from_slice_get (rows_of text) i (row_at text i) d (list_below-at (row_at text) (line_count text) i lt)
+pub row_is : (text : List ℕ) (i : ℕ) (d : Line) → i < line_count text → get_or (line_rows text) i d ≡ line_row text i
+row_is text i d lt = get_or_from_slice_get (line_rows text) i (line_row text i) d (list_below-at (line_row text) (line_count text) i lt)
 
 -- the rows do not fall
-pub rows_ascend : (text : List ℕ) → IsNonDecreasingBy (λ (l : Line). l.begin) (rows_of text)
+pub rows_ascend : (text : List ℕ) → IsNonDecreasingBy (λ (l : Line). l.begin) (line_rows text)
 rows_ascend text = λ i j d le lt.
-    let all = length-list_below (row_at text) (line_count text) in
+    let all = length-list_below (line_row text) (line_count text) in
     let at_i = ap (λ (l : Line). l.begin) (row_is text i d (omega arith)) in
     let at_j = ap (λ (l : Line). l.begin) (row_is text j d (omega arith)) in
     let up = begins_ascend text i j (omega arith) in
@@ -50,41 +50,41 @@ within_last text i o le is =
 
 -- where the table is parted by a byte, the line before is that of the byte
 pub stands_in :
-    (text : List ℕ) (o k : ℕ) → o ≤ length text → k ≤ length (rows_of text) →
-    IsPartitionPoint (λ (l : Line). leb l.begin o ≡ true) (λ (l : Line). leb l.begin o ≡ false) (rows_of text) k → StandsIn text o k
+    (text : List ℕ) (o k : ℕ) → o ≤ length text → k ≤ length (line_rows text) →
+    IsPartitionPoint (λ (l : Line). leb l.begin o ≡ true) (λ (l : Line). leb l.begin o ≡ false) (line_rows text) k → StandsIn text o k
 stands_in text o zero le few point = absurd never
   where
     d : Line
-    d = row_at text 0
+    d = line_row text 0
 
     never : ⊥
     never =
-        let all = length-list_below (row_at text) (line_count text) in
+        let all = length-list_below (line_row text) (line_count text) in
         let at = row_is text 0 d (omega arith) in
-        let behind = leb-false (get_or (rows_of text) 0 d).begin o (point.1 0 d (omega arith) (omega arith)) in
+        let behind = leb-false (get_or (line_rows text) 0 d).begin o (point.1 0 d (omega arith) (omega arith)) in
         let first = ap (λ (l : Line). l.begin) at in
         omega arith
 stands_in text o (suc i) le few point = record { some = omega arith; few = omega (arith, few, all); behind = behind; inside = inside }
   where
     d : Line
-    d = row_at text 0
+    d = line_row text 0
 
-    all : length (rows_of text) ≡ line_count text
-    all = length-list_below (row_at text) (line_count text)
+    all : length (line_rows text) ≡ line_count text
+    all = length-list_below (line_row text) (line_count text)
 
     same : suc i - 1 ≡ i
     same = omega arith
 
     behind : begin_of text (suc i - 1) ≤ o
     behind =
-        let yes = leb-true (get_or (rows_of text) i d).begin o (point.0 i d (omega arith) (omega arith)) in
+        let yes = leb-true (get_or (line_rows text) i d).begin o (point.0 i d (omega arith) (omega arith)) in
         let at = ap (λ (l : Line). l.begin) (row_is text i d (omega (arith, few, all))) in
         let e = ap (begin_of text) same in
         omega arith
 
     next : i + 1 < line_count text → o < begin_of text (i + 1)
     next lt =
-        let no = leb-false (get_or (rows_of text) (i + 1) d).begin o (point.1 (i + 1) d (omega arith) (omega (arith, lt, all))) in
+        let no = leb-false (get_or (line_rows text) (i + 1) d).begin o (point.1 (i + 1) d (omega arith) (omega (arith, lt, all))) in
         let at = ap (λ (l : Line). l.begin) (row_is text (i + 1) d lt) in
         omega arith
 
@@ -103,7 +103,7 @@ stands_in text o (suc i) le few point = record { some = omega arith; few = omega
 -- the place of a byte in line i
 pub placed :
     (text : List ℕ) (i o : ℕ) → i ≤ count_by is_line_feed text → begin_of text i ≤ o → o ≤ begin_of text i + length (line_from text (begin_of text i)) →
-    text_place text o ≡ place_by (row_at text i).named (i + 1) (o - begin_of text i + 1)
+    text_place text o ≡ place_by (line_row text i).named (i + 1) (o - begin_of text i + 1)
 placed text i o le behind inside =
     let b = begin_of text i in
     let begin = begins text i le in
@@ -121,18 +121,18 @@ placed text i o le behind inside =
   where
     parts :
         (start start' : ℕ) (own own' : List ℕ) (line line' column column' : ℕ) → start ≡ start' → own ≡ own' → line ≡ line' → column ≡ column' →
-        place_by (moved start (named_in own)) line column ≡ place_by (moved start' (named_in own')) line' column'
+        place_by (moved_span start (named_in own)) line column ≡ place_by (moved_span start' (named_in own')) line' column'
     parts start start' own own' line line' column column' a b c d =
-        ap (λ v. place_by (moved v (named_in own)) line column) a
-        ∙ (ap (λ v. place_by (moved start' (named_in v)) line column) b
-        ∙ (ap (λ v. place_by (moved start' (named_in own')) v column) c
-        ∙ ap (λ v. place_by (moved start' (named_in own')) line' v) d))
+        ap (λ v. place_by (moved_span v (named_in own)) line column) a
+        ∙ (ap (λ v. place_by (moved_span start' (named_in v)) line column) b
+        ∙ (ap (λ v. place_by (moved_span start' (named_in own')) v column) c
+        ∙ ap (λ v. place_by (moved_span start' (named_in own')) line' v) d))
 
 -- the place between what stands before it and what stands behind
 abbrev place_between : List ℕ → List ℕ → TextPlace
 place_between ahead rest =
     let before = take_while (λ b. not (is_line_feed b)) (reverse ahead) in
-    place_by (moved (length ahead - length before) (named_in (reverse before ++ take_while (λ b. not (is_line_feed b)) rest)))
+    place_by (moved_span (length ahead - length before) (named_in (reverse before ++ take_while (λ b. not (is_line_feed b)) rest)))
     (count_by is_line_feed ahead + 1) (length before + 1)
 
 -- behind the end of a text is its end
@@ -147,7 +147,7 @@ place_at_end text offset = elim (cases_lt offset (length text)) [
 
 -- the same by the table as it is kept
 pub parted :
-    (text : List ℕ) (rows : List Line) (o offset k : ℕ) → rows ≡ rows_of text → o ≡ min offset (length text) → k ≤ length rows →
+    (text : List ℕ) (rows : List Line) (o offset k : ℕ) → rows ≡ line_rows text → o ≡ min offset (length text) → k ≤ length rows →
     IsPartitionPoint (λ (l : Line). leb l.begin o ≡ true) (λ (l : Line). leb l.begin o ≡ false) rows k → StandsIn text o k
 parted text rows o offset k is least few point =
     stands_in text o k (omega (arith, least)) (let e = ap length is in omega (arith, few, e))
@@ -155,13 +155,13 @@ parted text rows o offset k is least few point =
 
 -- the row before, by the table as it is kept
 pub row_before :
-    (text : List ℕ) (rows : List Line) (o k : ℕ) (d : Line) → rows ≡ rows_of text → StandsIn text o k → get_or rows (k - 1) d ≡ row_at text (k - 1)
+    (text : List ℕ) (rows : List Line) (o k : ℕ) (d : Line) → rows ≡ line_rows text → StandsIn text o k → get_or rows (k - 1) d ≡ line_row text (k - 1)
 row_before text rows o k d is stands =
     ap (λ xs. get_or xs (k - 1) d) is ∙ row_is text (k - 1) d (let f = stands.few in let s = stands.some in omega arith)
 
 -- the place of a byte that stands in line k - 1
 pub placed_in :
-    (text : List ℕ) (o k : ℕ) → StandsIn text o k → text_place text o ≡ place_by (row_at text (k - 1)).named (k - 1 + 1) (o - begin_of text (k - 1) + 1)
+    (text : List ℕ) (o k : ℕ) → StandsIn text o k → text_place text o ≡ place_by (line_row text (k - 1)).named (k - 1 + 1) (o - begin_of text (k - 1) + 1)
 placed_in text o k stands =
     placed text (k - 1) o (let f = stands.few in let s = stands.some in omega arith) stands.behind stands.inside
 

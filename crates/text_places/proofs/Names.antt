@@ -6,7 +6,8 @@ use Rattle.std.specs.List.{list_all, prefix_len}
 use Rattle.std.proofs.lemmas.List.{drop-drop, length-take, take-append-drop}
 use Rattle.std.proofs.lemmas.List.Sums.{prefix_len-le-length}
 use Rattle.text_places.specs.declared.named.Span.{Span}
-use Rattle.text_places.specs.NamedPlaces.{NamesPlace, comment_of, is_gap, is_named, is_place_byte, is_trailing, max_place_bytes, moved, name_behind, name_in, named_in, span_if}
+use Rattle.text_places.specs.calls.NamedPlaces.{NamesPlace}
+use Rattle.text_places.specs.NamedPlaces.{comment_of, is_gap, is_gap_and_name, is_place_byte, is_trailing, max_place_bytes, moved_span, name_behind, name_in_comment, named_in, span_if}
 use Rattle.text_places.proofs.Comments.{IsAhead, IsComment, comment_splits}
 use Rattle.text_places.proofs.Prefixes.{Stops, prefix_is, prefix_passes}
 
@@ -75,11 +76,11 @@ name_is gap name behind some gaps one short named trails =
     let n : prefix_len is_place_byte (drop (prefix_len is_gap text) text) ≡ length name =
     ap (λ k. prefix_len is_place_byte (drop k text)) g ∙ (ap (prefix_len is_place_byte) rest ∙ prefix_is is_place_byte name behind named (name_stops behind trails)) in
     let tail : drop (length gap + length name) text ≡ behind = drop-append-add gap (name ++ behind) (length name) ∙ drop-append_seam name behind in
-    let test : is_named text (length gap) (length name) ≡ true =
+    let test : is_gap_and_name text (length gap) (length name) ≡ true =
     and_from _ _ (le-leb 1 (length gap) some) (and_from _ _ (le-leb 1 (length name) one)
     (and_from _ _ (le-leb (length name) max_place_bytes short) (ap (list_all is_trailing) tail ∙ trails))) in
-    ap (λ k. span_if (is_named text k (prefix_len is_place_byte (drop k text))) k (k + prefix_len is_place_byte (drop k text))) g
-    ∙ (ap (λ k. span_if (is_named text (length gap) k) (length gap) (length gap + k)) (ap (λ k. prefix_len is_place_byte (drop k text)) (sym g) ∙ n)
+    ap (λ k. span_if (is_gap_and_name text k (prefix_len is_place_byte (drop k text))) k (k + prefix_len is_place_byte (drop k text))) g
+    ∙ (ap (λ k. span_if (is_gap_and_name text (length gap) k) (length gap) (length gap + k)) (ap (λ k. prefix_len is_place_byte (drop k text)) (sym g) ∙ n)
     ∙ ap (λ b. span_if b (length gap) (length gap + length name)) test)
 
 -- the parts of a line that names a place, from left to right
@@ -96,9 +97,9 @@ is_found line from to names =
     let name = name_is names.gap names.name names.behind names.gapped.0 names.gapped.1 names.named.0 names.named.1 names.named.2 names.trails in
     let ahead : length line - length (comment_of line) ≡ length names.before =
     (let l = ap length splits in let c = ap length comment in let a = length-append names.before (47 ∷ 47 ∷ 64 ∷ rest) in omega arith) in
-    ap (λ k. moved k (name_in (comment_of line))) ahead
-    ∙ (ap (λ xs. moved (length names.before) (name_in xs)) comment
-    ∙ (ap (λ v. moved (length names.before) (moved 3 v)) name ∙ same_span _ _ _ _
+    ap (λ k. moved_span k (name_in_comment (comment_of line))) ahead
+    ∙ (ap (λ xs. moved_span (length names.before) (name_in_comment xs)) comment
+    ∙ (ap (λ v. moved_span (length names.before) (moved_span 3 v)) name ∙ same_span _ _ _ _
     (let f = names.from_is in omega arith) (let f = names.from_is in let t = names.to_is in omega arith)))
   where
     same_span : (a b c d : ℕ) → a ≡ c → b ≡ d → let s : Option Span = Some (record { from = a; to = b }) in let t : Option Span = Some (record { from = c; to = d }) in s ≡ t
@@ -128,7 +129,7 @@ record IsBehind (text : List ℕ) (from to : ℕ) : Type 0 where
   to_is : to ≡ length gap + length name
 
 found_behind : (text : List ℕ) (from to : ℕ) → name_behind text ≡ Some (record { from = from; to = to }) → IsBehind text from to
-found_behind text from to is = by (is_named text (prefix_len is_gap text) (prefix_len is_place_byte (drop (prefix_len is_gap text) text))) refl is
+found_behind text from to is = by (is_gap_and_name text (prefix_len is_gap text) (prefix_len is_place_byte (drop (prefix_len is_gap text) text))) refl is
   where
     g : ℕ
     g = prefix_len is_gap text
@@ -136,7 +137,7 @@ found_behind text from to is = by (is_named text (prefix_len is_gap text) (prefi
     n : ℕ
     n = prefix_len is_place_byte (drop g text)
 
-    by : (b : Bool) → is_named text g n ≡ b → span_if b g (g + n) ≡ Some (record { from = from; to = to }) → IsBehind text from to
+    by : (b : Bool) → is_gap_and_name text g n ≡ b → span_if b g (g + n) ≡ Some (record { from = from; to = to }) → IsBehind text from to
     by false test e = absurd cc
     by true test e =
         let (some, more) = and_parts (nat_le 1 g) _ test in
@@ -160,21 +161,21 @@ found_behind text from to is = by (is_named text (prefix_len is_gap text) (prefi
 
 -- a span that was moved
 moved_back :
-    (n from to : ℕ) (o : Option Span) → moved n o ≡ Some (record { from = from; to = to }) →
+    (n from to : ℕ) (o : Option Span) → moved_span n o ≡ Some (record { from = from; to = to }) →
     (a b : ℕ) × (o ≡ Some (record { from = a; to = b })) × (n + a ≡ from) × (n + b ≡ to)
 moved_back n from to None is = absurd cc
 moved_back n from to (Some s) is = let (f, t) = same_ends (n + s.from) (n + s.to) from to is in (s.from, s.to, refl, f, t)
 
 -- a comment in which a name is found has the sign
 signed :
-    (rest : List ℕ) (a b : ℕ) → name_in (47 ∷ 47 ∷ rest) ≡ Some (record { from = a; to = b }) →
-    (text : List ℕ) × (rest ≡ 64 ∷ text) × (moved 3 (name_behind text) ≡ Some (record { from = a; to = b }))
+    (rest : List ℕ) (a b : ℕ) → name_in_comment (47 ∷ 47 ∷ rest) ≡ Some (record { from = a; to = b }) →
+    (text : List ℕ) × (rest ≡ 64 ∷ text) × (moved_span 3 (name_behind text) ≡ Some (record { from = a; to = b }))
 signed [] a b is = absurd cc
 signed (x ∷ text) a b is = by (x == 64) refl is
   where
     by :
-        (test : Bool) → (x == 64) ≡ test → (if test then moved 3 (name_behind text) else None) ≡ Some (record { from = a; to = b }) →
-        (text' : List ℕ) × (x ∷ text ≡ 64 ∷ text') × (moved 3 (name_behind text') ≡ Some (record { from = a; to = b }))
+        (test : Bool) → (x == 64) ≡ test → (if test then moved_span 3 (name_behind text) else None) ≡ Some (record { from = a; to = b }) →
+        (text' : List ℕ) × (x ∷ text ≡ 64 ∷ text') × (moved_span 3 (name_behind text') ≡ Some (record { from = a; to = b }))
     by false e i = absurd cc
     by true e i = (text, (let f : x ≡ 64 = eqb-true x 64 e in ap (λ v. v ∷ text) f), i)
 
@@ -184,11 +185,11 @@ found_is line from to is = by (comment_splits line)
   where
     by : (before : List ℕ) × IsAhead line before (comment_of line) × IsComment (comment_of line) → NamesPlace line from to
     by (before, ahead, inl none) =
-        let e : named_in line ≡ None = ap (λ xs. moved (length line - length xs) (name_in xs)) none in absurd cc
+        let e : named_in line ≡ None = ap (λ xs. moved_span (length line - length xs) (name_in_comment xs)) none in absurd cc
     by (before, ahead, inr (rest, begun)) =
         let m = length line - length (comment_of line) in
-        let (a, b, found, af, bt) = moved_back m from to (name_in (comment_of line)) is in
-        let (text, sign, more) = signed rest a b (ap name_in (sym begun) ∙ found) in
+        let (a, b, found, af, bt) = moved_back m from to (name_in_comment (comment_of line)) is in
+        let (text, sign, more) = signed rest a b (ap name_in_comment (sym begun) ∙ found) in
         let (c, d, name, ca, db) = moved_back 3 a b (name_behind text) more in
         let behind = found_behind text c d name in
         let splits : line ≡ before ++ 47 ∷ 47 ∷ 64 ∷ text = ahead.splits ∙ ap (λ xs. before ++ xs) (begun ∙ ap (λ xs. 47 ∷ 47 ∷ xs) sign) in

@@ -4,7 +4,7 @@ use Rattle.std.specs.List.{take_while}
 use Rattle.text_places.specs.declared.place.TextPlace.{TextPlace}
 use Rattle.text_places.specs.declared.place.TextPlace.TheVariants.{Here, Elsewhere}
 use Rattle.text_places.specs.declared.named.Span.{Span}
-use Rattle.text_places.specs.NamedPlaces.{moved, named_in}
+use Rattle.text_places.specs.NamedPlaces.{moved_span, named_in}
 
 -- the byte that ends a line
 abbrev pub is_line_feed : ℕ → Bool
@@ -42,4 +42,4 @@ place_by (Some s) line column = Elsewhere s.from s.to
 -- where byte `offset` of a text stands; where the text has no such byte, its end
 abbrev pub text_place : List ℕ → ℕ → TextPlace
 text_place text offset =
-    place_by (moved (line_begin text offset) (named_in (line_at text offset))) (line_number text offset) (column_number text offset)
+    place_by (moved_span (line_begin text offset) (named_in (line_at text offset))) (line_number text offset) (column_number text offset)

@@ -1,7 +1,7 @@
 // The place of another program that a line names.
 ghost use Rattle.std.specs.Prelude.{◌≡◌, ◌+◌, ◌<◌, ◌≤◌, ◌^◌, None, length};
 ghost use Rattle.std.specs.List.{list_all, prefix_len};
-ghost use Rattle.text_places.specs.NamedPlaces.{comment_of, is_gap, is_named, is_place_byte, is_trailing, moved, name_behind, name_in, named_in};
+ghost use Rattle.text_places.specs.NamedPlaces.{comment_of, is_gap, is_gap_and_name, is_place_byte, is_trailing, moved_span, name_behind, name_in_comment, named_in};
 
 // Bytes of a text, from one up to another.
 #[derive(Clone, Copy)]
@@ -75,7 +75,7 @@ fn are_trailing(text: &[u8]) -> bool
 // The name behind the sign `//@`, by the place of the first byte behind it.
 fn name_behind(text: &[u8], at: u32) -> Option<Span>
     requires { at + length text.now < 2 ^ 32 }
-    ensures { result ≡ moved at (name_behind text.now) }
+    ensures { result ≡ moved_span at (name_behind text.now) }
 {
     let gap = gap_length(text);
     let name = name_length(&text[gap..]);
@@ -93,7 +93,7 @@ fn name_behind(text: &[u8], at: u32) -> Option<Span>
 // The name in a comment of which the first byte stands at this place.
 fn name_in(comment: &[u8], at: u32) -> Option<Span>
     requires { at + length comment.now < 2 ^ 32 }
-    ensures { result ≡ moved at (name_in comment.now) }
+    ensures { result ≡ moved_span at (name_in_comment comment.now) }
 {
     match comment {
         [_, _, b'@', text @ ..] => name_behind(text, at + 3),
@@ -104,7 +104,7 @@ fn name_in(comment: &[u8], at: u32) -> Option<Span>
 /// The place that a line names, of which the first byte stands at this place of the text.
 pub(crate) fn named_in(line: &[u8], at: u32) -> Option<Span>
     requires { at + length line.now < 2 ^ 32 }
-    ensures { result ≡ moved at (named_in line.now) }
+    ensures { result ≡ moved_span at (named_in line.now) }
 {
     let comment = comment_of(line);
     name_in(comment, at + (line.len() - comment.len()) as u32)

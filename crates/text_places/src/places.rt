@@ -3,9 +3,9 @@ ghost use Rattle.std.specs.Prelude.{◌≡◌, ◌+◌, ◌-◌, ◌<◌, ◌≤
 ghost use Rattle.std.specs.List.{prefix_len};
 ghost use Rattle.text_places.specs.PlaceWords.{front_words, place_words};
 ghost use Rattle.armus_base.specs.Finals.{list_below};
-ghost use Rattle.text_places.specs.NamedPlaces.{moved, named_in};
+ghost use Rattle.text_places.specs.NamedPlaces.{moved_span, named_in};
 ghost use Rattle.text_places.specs.TextPlaces.{is_line_feed, line_from, place_by, text_place};
-ghost use Rattle.text_places.specs.inside.Rows.{begin_of, line_count, row_at, rows_of};
+ghost use Rattle.text_places.specs.inside.Rows.{begin_of, line_count, line_row, line_rows};
 
 use crate::named::{Span, named_in};
 use crate::place::TextPlace;
@@ -32,13 +32,13 @@ pub struct TextPlaces<'t> {
 
 impl<'t> Model for TextPlaces<'t> {
     ghost use Rattle.std.specs.Prelude.{◌≡◌, List, ℕ, ◌<◌, ◌-◌, ◌^◌, length};
-    ghost use Rattle.text_places.specs.inside.Rows.{rows_of};
+    ghost use Rattle.text_places.specs.inside.Rows.{line_rows};
 
     ghost Value = { List ℕ };
 
     ghost view = { λ p. p.text.now };
 
-    ghost invariant = { λ p. (p.lines.items ≡ rows_of p.text.now) × (length p.text.now < 2 ^ 32 - 1) };
+    ghost invariant = { λ p. (p.lines.items ≡ line_rows p.text.now) × (length p.text.now < 2 ^ 32 - 1) };
 }
 
 // How many lines a text has.
@@ -71,7 +71,7 @@ fn line_from(text: &[u8], begin: usize) -> &[u8]
 // The lines of a text.
 fn lines_of(alloc: Global, text: &[u8]) -> Result<Vec<Line>, NoMemory>
     requires { length text.now < 2 ^ 32 - 1 }
-    ensures { IfOk result (λ lines. lines.items ≡ rows_of text.now) }
+    ensures { IfOk result (λ lines. lines.items ≡ line_rows text.now) }
 {
     let mut lines = Vec::with_capacity(alloc, line_count(text))?;
     let mut begin = 0;

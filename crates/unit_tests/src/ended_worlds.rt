@@ -1,6 +1,6 @@
 // Worlds that are run until no task may go on.
 ghost use Rattle.std.specs.Prelude.{◌≡◌, ℕ, ◌<◌, true, length};
-ghost use Rattle.pl_core.specs.Stands.{IsEnabled};
+ghost use Rattle.pl_core.specs.calls.Stands.{IsEnabled};
 
 use armus_base::TaskId;
 use pl_core::World;

@@ -1,6 +1,6 @@
 // Origins: a line for what is asked of a text, with the number of the statement. An op is told by its task and its number in the task's code.
 ghost use Rattle.std.specs.Prelude.{◌+◌, ◌<◌, ◌^◌};
-ghost use Rattle.origins.specs.OriginTables.{AreOrigins};
+ghost use Rattle.origins.specs.calls.OriginTables.{AreOrigins};
 ghost use Rattle.pl_syntax.specs.Tree.{count};
 
 use crate::plans::AVERAGING;

@@ -1,6 +1,7 @@
 // Programs and their printed forms, a line for each.
 ghost use Rattle.std.specs.Prelude.{◌≡◌, ◌≤◌, false};
-ghost use Rattle.pl_syntax.specs.Tree.{AllHere, height};
+ghost use Rattle.pl_syntax.specs.calls.Tree.{AllHere};
+ghost use Rattle.pl_syntax.specs.Tree.{height};
 
 use crate::row_texts::bytes_of;
 use pl_syntax::{

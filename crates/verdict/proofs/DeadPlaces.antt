@@ -5,10 +5,11 @@ use Rattle.std.proofs.lemmas.Bool.{cases_eq, cases_lt}
 use Rattle.std.proofs.lemmas.List.{get_or_default, get_or_past, get_or_push, length-append}
 use Rattle.armus_base.specs.DeadLists.{IsDeadList}
 use Rattle.armus_base.specs.Deadlocks.{IsDeadBy}
-use Rattle.armus_base.specs.Statuses.{Impedes, IsInOrder}
+use Rattle.armus_base.specs.Statuses.{Impedes}
+use Rattle.armus_base.specs.calls.Statuses.{IsInOrder}
 use Rattle.armus_base.specs.declared.ids.TaskId.{TaskId}
 use Rattle.armus_base.specs.declared.status.Status.{Status}
-use Rattle.dep_state.specs.Deps.{Deps, IsDepsOf, impeders_of}
+use Rattle.dep_state.specs.calls.Deps.{Deps, IsDepsOf, impeders_of}
 use Rattle.dep_state.proofs.DeadSets.{one_status, dead_by_list, dead_in_list}
 use Rattle.dep_state.proofs.EventPlaces.{awaited_at, impeded_at}
 use Rattle.dep_state.proofs.Made.{left_of}

@@ -4,12 +4,13 @@ use Rattle.std.specs.Prelude.{Any}
 use Rattle.std.proofs.lemmas.List.{get_or_default, length-append, get_or-append-add}
 use Rattle.armus_base.specs.Counts.{IsDistinct}
 use Rattle.armus_base.specs.Graphs.{WaitsFor}
-use Rattle.armus_base.specs.Statuses.{Impedes, IsInOrder}
+use Rattle.armus_base.specs.Statuses.{Impedes}
+use Rattle.armus_base.specs.calls.Statuses.{IsInOrder}
 use Rattle.armus_base.specs.declared.event.Event.{Event}
 use Rattle.armus_base.specs.declared.ids.TaskId.{TaskId}
 use Rattle.armus_base.specs.declared.status.Status.{Status}
 use Rattle.dep_state.proofs.DeadSets.{one_status}
-use Rattle.verdict.specs.Cycles.{IsCycleOf, IsCycle}
+use Rattle.verdict.specs.calls.Cycles.{IsCycleOf, IsCycle}
 use Rattle.verdict.specs.declared.found.Cycle.{Cycle}
 
 -- the right part of a list of distinct elements

@@ -7,15 +7,16 @@ use Rattle.armus_base.specs.Counts.{IsDistinct}
 use Rattle.armus_base.specs.DeadLists.{IsDeadList}
 use Rattle.armus_base.specs.Deadlocks.{IsDeadBy}
 use Rattle.armus_base.specs.Relations.{IsWalkCycle}
-use Rattle.armus_base.specs.Statuses.{IsInOrder}
+use Rattle.armus_base.specs.calls.Statuses.{IsInOrder}
 use Rattle.armus_base.specs.declared.event.Event.{Event}
 use Rattle.armus_base.specs.declared.ids.TaskId.{TaskId}
 use Rattle.armus_base.specs.declared.status.Status.{Status}
 use Rattle.armus_base.proofs.Elements.{Contains-head, Contains-tail}
-use Rattle.dep_state.specs.Deps.{Deps, IsDepsOf}
+use Rattle.dep_state.specs.calls.Deps.{Deps, IsDepsOf}
 use Rattle.dep_state.proofs.DeadSets.{Contains-from_map, dead_in_list}
 use Rattle.dep_state.proofs.TaskPlaces.{StandsAt, one_place, count, impeder_inside}
-use Rattle.verdict.specs.Cycles.{IsDeadStep, HaveEvents, IsCycleOf}
+use Rattle.verdict.specs.Cycles.{IsDeadStep}
+use Rattle.verdict.specs.calls.Cycles.{HaveEvents, IsCycleOf}
 use Rattle.verdict.specs.inside.DeadWalks.{IsFlags, IsNextDead, IsMadeOf}
 use Rattle.verdict.specs.declared.found.Cycle.{Cycle}
 use Rattle.verdict.proofs.DeadPlaces.{dead_step}

@@ -1,7 +1,7 @@
 // The test of a cycle.
 ghost use Rattle.std.specs.Prelude.{◌≡◌, ◌↔◌, ◌<◌, length, IsTrue, Any, MatchBool};
 ghost use Rattle.armus_base.specs.Statuses.{Impedes};
-ghost use Rattle.verdict.specs.Cycles.{IsNext, IsNewAt, IsLink, IsCycle};
+ghost use Rattle.verdict.specs.calls.Cycles.{IsNextPlace, IsNewAt, IsLink, IsCycle};
 
 use crate::Cycle;
 use armus_base::{Event, Status, TaskId};
@@ -37,7 +37,7 @@ fn is_impeder(list: &[Status], t: TaskId, event: Event) -> bool
 fn after(count: usize, k: usize) -> usize
     requires { k < count }
     ensures inside { result < count }
-    ensures next { IsNext count k result }
+    ensures next { IsNextPlace count k result }
 {
     if k + 1 == count { 0 } else { k + 1 }
 }

@@ -2,11 +2,11 @@
 ghost use Rattle.std.specs.Prelude.{◌≡◌, ◌^◌, ◌<◌, [], true, false, length, All, Contains, IfOk, IfSome, MatchBool, MatchOption, slice_index_or};
 ghost use Rattle.armus_base.specs.DeadLists.{IsDeadList};
 ghost use Rattle.armus_base.specs.Relations.{IsWalkCycle};
-ghost use Rattle.armus_base.specs.Statuses.{IsInOrder};
+ghost use Rattle.armus_base.specs.calls.Statuses.{IsInOrder};
 ghost use Rattle.armus_base.specs.declared.status.Status.{Status};
-ghost use Rattle.dep_state.specs.Picks.{Ascend};
+ghost use Rattle.dep_state.specs.calls.Picks.{Ascend};
 ghost use Rattle.digraph.specs.inside.NextTables.{AreNext};
-ghost use Rattle.verdict.specs.Cycles.{IsCycleOf, IsCycle};
+ghost use Rattle.verdict.specs.calls.Cycles.{IsCycleOf, IsCycle};
 ghost use Rattle.verdict.specs.inside.DeadWalks.{IsFlags, IsMadeOf, IsNextDead, GoesToNextDead, IsWalkable};
 
 use crate::Cycle;

@@ -4,18 +4,19 @@ use Rattle.std.specs.Prelude.{Contains, ◌↔◌}
 use Rattle.armus_base.specs.Counts.{IsCount}
 use Rattle.armus_base.specs.DeadLists.{IsDeadList}
 use Rattle.armus_base.specs.Graphs.{WaitsFor}
-use Rattle.armus_base.specs.Relations.{IsInClosedSet}
-use Rattle.armus_base.specs.Statuses.{Impedes, IsInOrder}
+use Rattle.armus_base.specs.calls.Relations.{IsInClosedSet}
+use Rattle.armus_base.specs.Statuses.{Impedes}
+use Rattle.armus_base.specs.calls.Statuses.{IsInOrder}
 use Rattle.armus_base.specs.declared.ids.TaskId.{TaskId}
 use Rattle.armus_base.specs.declared.status.Status.{Status}
 use Rattle.armus_base.proofs.Counts.{count_along}
-use Rattle.digraph.specs.Graph.{HasEdge, TellsCycles}
-use Rattle.dep_state.specs.Deps.{Deps, IsDepsOf, impeders_of}
-use Rattle.dep_state.specs.Picks.{IsPick}
+use Rattle.digraph.specs.calls.Graph.{HasEdge, TellsCycles}
+use Rattle.dep_state.specs.calls.Deps.{Deps, IsDepsOf, impeders_of}
+use Rattle.dep_state.specs.calls.Picks.{IsPick}
 use Rattle.dep_state.proofs.DeadSets.{IsDead, one_status, dead_to_waits, waits_to_dead}
 use Rattle.dep_state.proofs.TaskPlaces.{element, impeder_inside, StandsAt, one_task, one_place, count, dead_picked}
 use Rattle.dep_state.proofs.Transfer.{transfer}
-use Rattle.wait_graph.specs.WaitEdges.{WaitEdges, IsWaitGraphOf}
+use Rattle.wait_graph.specs.calls.WaitEdges.{WaitEdges, IsWaitGraphOf}
 
 module _ (ss : List Status) (ok : IsInOrder ss) (d : Deps) (is : IsDepsOf ss d) (g : WaitEdges) (of : IsWaitGraphOf d g) where
   sized : length d.tasks ≡ length ss

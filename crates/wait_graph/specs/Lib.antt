@@ -1,1 +1,2 @@
-pub mod WaitEdges
+-- Words of contracts further down, which no promise of a program needs.
+pub mod calls

@@ -3,11 +3,11 @@ ghost use Rattle.std.specs.Prelude.{List, IfOk};
 ghost use Rattle.armus_base.specs.Counts.{IsCount};
 ghost use Rattle.armus_base.specs.DeadLists.{IsDeadList};
 ghost use Rattle.armus_base.specs.Graphs.{WaitsFor};
-ghost use Rattle.armus_base.specs.Statuses.{IsInOrder};
+ghost use Rattle.armus_base.specs.calls.Statuses.{IsInOrder};
 ghost use Rattle.armus_base.specs.declared.ids.TaskId.{TaskId};
 ghost use Rattle.armus_base.specs.declared.status.Status.{Status};
-ghost use Rattle.dep_state.specs.Deps.{Deps, IsDepsOf};
-ghost use Rattle.wait_graph.specs.WaitEdges.{IsWaitGraphOf};
+ghost use Rattle.dep_state.specs.calls.Deps.{Deps, IsDepsOf};
+ghost use Rattle.wait_graph.specs.calls.WaitEdges.{IsWaitGraphOf};
 
 use armus_base::{List, NoMemory, TaskId};
 use dep_state::{DepState, picked};
@@ -25,7 +25,7 @@ pub struct WaitGraph {
 
 impl Model for WaitGraph {
     ghost use Rattle.std.specs.Prelude.{◌≡◌, length};
-    ghost use Rattle.wait_graph.specs.WaitEdges.{WaitEdges};
+    ghost use Rattle.wait_graph.specs.calls.WaitEdges.{WaitEdges};
 
     ghost Value = { WaitEdges };
 

@@ -11,8 +11,8 @@ use Rattle.armus_base.specs.Serial.{IsTurn, RoundBelow}
 use Rattle.armus_base.specs.States.{IsActive, Step}
 use Rattle.armus_base.proofs.Fixed.{phases_forked}
 use Rattle.pl_core.specs.declared.place.Place.{Place as KeptPlace}
-use Rattle.pl_core.specs.Stands.{IsEnabled}
-use Rattle.pl_core.specs.Worlds.{WorldValue, dropped_at, memberships, action_by_code, place_from, places_at, places_of, state_of}
+use Rattle.pl_core.specs.calls.Stands.{IsEnabled}
+use Rattle.pl_core.specs.calls.Worlds.{WorldValue, dropped_at, memberships, action_by_code, place_from, places_at, places_of, state_of}
 use Rattle.pl_core.proofs.Bounds.{phaser_of_member}
 use Rattle.pl_core.proofs.GoingOn.{legal_when_active, legal_when_reached, passes_when_waiting}
 use Rattle.pl_core.proofs.Refusing.{dropped_below}

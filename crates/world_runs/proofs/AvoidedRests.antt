@@ -1,62 +1,27 @@
 -- An avoided run goes on by rounds in order of number until nobody may go on.
 use mathlib.Core.Path.{fun_ext}
-use Rattle.std.proofs.Common.{◌≡◌, ℕ, zero, suc, Bool, true, false, None, List, [], ◌∷◌, ◌++◌, length, arith, sym, ◌∙◌, ap, subst}
-use Rattle.std.specs.Prelude.{MatchBool, Option}
+use Rattle.std.proofs.Common.{◌≡◌, ℕ, true, None, List, [], length, arith, sym, ◌∙◌, ap, subst}
+use Rattle.std.specs.Prelude.{Option}
 use Rattle.std.proofs.lemmas.Option.{slice_get_within}
-use Rattle.armus_base.specs.Avoidance.{Avoids, IsAvoidedRun}
-use Rattle.armus_base.specs.Boards.{IsLawful, steps_of}
+use Rattle.armus_base.specs.Avoidance.{IsAvoidedRun}
+use Rattle.armus_base.specs.calls.Boards.{IsLawful, steps_of}
 use Rattle.armus_base.specs.CheckedPlans.{IsCheckedPlan}
 use Rattle.armus_base.specs.Deadlocks.{NobodyDead}
 use Rattle.armus_base.specs.Finals.{final_of}
-use Rattle.armus_base.specs.Plans.{Action, Advances, Blocks, Drops, Forks, Makes, Passes, Plan, Refuses, Registers}
-use Rattle.armus_base.specs.Runs.{IsLegalRun, state_after}
-use Rattle.armus_base.specs.Serial.{GoesOn, IsDecided, IsTurn, RoundBelow}
-use Rattle.armus_base.specs.States.{State, Step}
+use Rattle.armus_base.specs.Plans.{Plan}
 use Rattle.armus_base.proofs.ForkedTasks.{forked_within}
 use Rattle.armus_base.proofs.NobodyIsDead.{avoided_legal, nobody_is_dead}
 use Rattle.armus_base.proofs.SerialFinalIsAvoided.{round_ended}
-use Rattle.armus_base.proofs.SerialIsAvoided.{publishing_leaves_nobody_dead}
+use Rattle.armus_base.proofs.SerialIsAvoided.{round_avoided}
 use Rattle.pl_core.specs.declared.place.Place.{Place as KeptPlace}
-use Rattle.pl_core.specs.GivenPlaces.{IsAtPlaces}
-use Rattle.pl_core.specs.Worlds.{WorldValue, places_at, state_of}
-use Rattle.avoider.specs.Decisions.{HasGoneOn}
-use Rattle.world_runs.specs.AvoidedRuns.{IsAvoidedEnd}
+use Rattle.pl_core.specs.calls.GivenPlaces.{IsAtPlaces}
+use Rattle.pl_core.specs.calls.Worlds.{WorldValue, places_at, state_of}
+use Rattle.avoider.specs.calls.Decisions.{HasGoneOn}
+use Rattle.world_runs.specs.calls.AvoidedRuns.{IsAvoidedEnd}
 use Rattle.world_runs.specs.declared.world_end.WorldEnd.{WorldEnd}
 use Rattle.world_runs.specs.inside.WorldRounds.{HasEndedBy}
 use Rattle.world_runs.proofs.AvoidedSteps.{leads_state}
 use Rattle.world_runs.proofs.JudgedRuns.{HasEndOf, HasRunOf, end_there}
-
--- a decided step avoids deadlock
-decided_avoids : (s : State) (t : ℕ) (x : Action) → NobodyDead s → IsDecided s t x → Avoids s t x
-decided_avoids s t (Blocks p) nobody decided = (decided.0, decided.1, publishing_leaves_nobody_dead s t decided.0 nobody decided.2)
-decided_avoids s t (Refuses p) nobody decided = decided
-decided_avoids s t (Makes p) nobody decided = tt
-decided_avoids s t (Registers c p) nobody decided = tt
-decided_avoids s t (Forks c) nobody decided = tt
-decided_avoids s t (Advances p) nobody decided = tt
-decided_avoids s t (Drops p) nobody decided = tt
-decided_avoids s t (Passes p) nobody decided = tt
-
--- so does a turn, and a round
-module _ (plan : Plan) (checked : IsCheckedPlan plan) where
-  turn_avoided : (t : ℕ) (h own : List Step) → IsAvoidedRun plan h → IsLegalRun plan (own ++ h) → GoesOn plan t h own → IsAvoidedRun plan (own ++ h)
-  turn_avoided t h [] avoided run goes_on = avoided
-  turn_avoided t h (e ∷ own) avoided run goes_on =
-      let before = turn_avoided t h own avoided run.0 goes_on.0 in
-      let s = state_after (own ++ h) in (
-        before,
-        run.1,
-        subst (λ v. Avoids s v e.action) (sym goes_on.1) (decided_avoids s t e.action (nobody_is_dead plan (own ++ h) checked before) goes_on.2),
-      )
-
-  last_turn : (k : ℕ) (r g : List Step) → IsAvoidedRun plan r → (b : Bool) → MatchBool b (IsTurn plan k r g) (g ≡ r) → IsAvoidedRun plan g
-  last_turn k r g before true turn =
-      subst (λ v. IsAvoidedRun plan v) (sym turn.there) (turn_avoided k r turn.own before (subst (λ v. IsLegalRun plan v) turn.there turn.run) turn.goes_on)
-  last_turn k r g before false same = subst (λ v. IsAvoidedRun plan v) (sym same) before
-
-  round_avoided : (k : ℕ) (h g : List Step) → IsAvoidedRun plan h → RoundBelow plan k h g → IsAvoidedRun plan g
-  round_avoided zero h g avoided round = subst (λ v. IsAvoidedRun plan v) (sym round) avoided
-  round_avoided (suc k) h g avoided round = last_turn k round.0 g (round_avoided k h round.0 avoided round.1) ((state_after h).forked k) round.2
 
 -- an avoided run leads to the world
 abbrev pub HasAvoidedRun : Plan → WorldValue → Type 0

@@ -9,11 +9,11 @@ use Rattle.armus_base.specs.Serial.{GoesOn, IsDecided}
 use Rattle.armus_base.specs.States.{IsLegal, State, Step}
 use Rattle.armus_base.proofs.Codes.{no_refusal}
 use Rattle.armus_base.proofs.Stepping.{places_fix}
-use Rattle.pl_core.specs.Moves.{LeadsOn, IsWorldStep, drops_from}
-use Rattle.pl_core.specs.Worlds.{WorldValue, places_of, state_of}
+use Rattle.pl_core.specs.calls.Moves.{LeadsOn, IsWorldStep, drops_from}
+use Rattle.pl_core.specs.calls.Worlds.{WorldValue, places_of, state_of}
 use Rattle.avoider.specs.declared.decision.Decision.{Decision}
 use Rattle.avoider.specs.declared.decision.Decision.TheVariants.{Published, Refused}
-use Rattle.avoider.specs.Decisions.{HasGoneOn, IsDecision, MakesOtherEvent}
+use Rattle.avoider.specs.calls.Decisions.{HasGoneOn, IsDecision, MakesOtherEvent}
 use Rattle.avoider.proofs.Supposing.{blocks_next}
 use Rattle.world_runs.specs.inside.AvoidedRounds.{GoesOnTo, LeadsTo}
 

@@ -4,11 +4,11 @@ use Rattle.armus_base.specs.CheckedPlans.{IsCheckedPlan}
 use Rattle.armus_base.specs.Finals.{final_of}
 use Rattle.armus_base.specs.Plans.{Plan}
 use Rattle.armus_base.specs.Runs.{IsReachable}
-use Rattle.pl_core.specs.Moves.{IsWorldStep}
-use Rattle.pl_core.specs.Stands.{IsEnabled}
-use Rattle.pl_core.specs.Worlds.{WorldValue, places_of, state_of}
-use Rattle.world_runs.specs.EndWorlds.{IsEndWorld, IsWorldEnd}
-use Rattle.world_runs.specs.PlainRuns.{IsPlainEnd}
+use Rattle.pl_core.specs.calls.Moves.{IsWorldStep}
+use Rattle.pl_core.specs.calls.Stands.{IsEnabled}
+use Rattle.pl_core.specs.calls.Worlds.{WorldValue, places_of, state_of}
+use Rattle.world_runs.specs.calls.EndWorlds.{IsEndWorld, IsWorldEnd}
+use Rattle.world_runs.specs.calls.PlainRuns.{IsPlainEnd}
 use Rattle.world_runs.specs.declared.world_end.WorldEnd.{WorldEnd}
 use Rattle.world_runs.specs.inside.Turns.{NobodyRefused}
 use Rattle.world_runs.specs.inside.WorldRounds.{HasEndedBy}

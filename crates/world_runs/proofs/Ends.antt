@@ -14,10 +14,10 @@ use Rattle.armus_base.proofs.Reachable.{reachable_is_fixed}
 use Rattle.armus_base.proofs.Steps.{updated_same, updated_other}
 use Rattle.armus_base.proofs.Tasks.{no_action}
 use Rattle.pl_core.specs.declared.place.Place.{Place as KeptPlace}
-use Rattle.pl_core.specs.Stands.{IsEnabled}
-use Rattle.pl_core.specs.Worlds.{WorldValue, dropped_at, action_by_code, place_from, places_at, places_of, state_of}
+use Rattle.pl_core.specs.calls.Stands.{IsEnabled}
+use Rattle.pl_core.specs.calls.Worlds.{WorldValue, dropped_at, action_by_code, place_from, places_at, places_of, state_of}
 use Rattle.pl_core.proofs.GoingOn.{legal_when_active, legal_when_reached, passes_when_waiting}
-use Rattle.world_runs.specs.PlainRuns.{IsPlainEnd}
+use Rattle.world_runs.specs.calls.PlainRuns.{IsPlainEnd}
 use Rattle.world_runs.specs.inside.Turns.{NobodyRefused}
 
 -- a run after which nobody is refused refuses nobody

@@ -4,7 +4,8 @@ use Rattle.std.specs.Prelude.{MatchBool}
 use Rattle.std.proofs.lemmas.Bool.{cases_eq}
 use Rattle.armus_base.specs.declared.event.Event.{Event}
 use Rattle.armus_base.specs.CheckedPlans.{IsCheckedPlan}
-use Rattle.armus_base.specs.Places.{IsConsistent, done_by, forked_at, refused_at}
+use Rattle.armus_base.specs.calls.Places.{IsConsistent}
+use Rattle.armus_base.specs.Places.{done_by, forked_at, refused_at}
 use Rattle.armus_base.specs.Plans.{Action, Advances, Blocks, Drops, Forks, Makes, Passes, Plan, Refuses, Registers}
 use Rattle.armus_base.specs.Runs.{IsReachable, state_after}
 use Rattle.armus_base.specs.Serial.{IsTurn, RoundBelow}
@@ -14,8 +15,8 @@ use Rattle.armus_base.proofs.Reachable.{reachable_is_fixed}
 use Rattle.armus_base.proofs.Steps.{updated_same, updated_other}
 use Rattle.pl_core.specs.declared.stand.Stand.{Stand}
 use Rattle.pl_core.specs.declared.stand.Stand.TheVariants.{Unforked, Done, Refused, Ready, Await, Waits}
-use Rattle.pl_core.specs.Stands.{StandsSo}
-use Rattle.pl_core.specs.Worlds.{WorldValue, places_of, state_of}
+use Rattle.pl_core.specs.calls.Stands.{StandsSo}
+use Rattle.pl_core.specs.calls.Worlds.{WorldValue, places_of, state_of}
 
 module _ (w : WorldValue) (checked : IsCheckedPlan w.plan) (reach : IsReachable w.plan (places_of w)) where
   consistent_there : IsConsistent w.plan (places_of w)

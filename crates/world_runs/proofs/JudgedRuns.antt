@@ -5,8 +5,8 @@ use Rattle.armus_base.specs.Plans.{Plan}
 use Rattle.armus_base.specs.Runs.{IsReachable}
 use Rattle.armus_base.specs.Serial.{RoundBelow}
 use Rattle.armus_base.specs.States.{Step}
-use Rattle.pl_core.specs.Worlds.{WorldValue, places_of, state_of}
-use Rattle.avoider.specs.Decisions.{HasGoneOn}
+use Rattle.pl_core.specs.calls.Worlds.{WorldValue, places_of, state_of}
+use Rattle.avoider.specs.calls.Decisions.{HasGoneOn}
 use Rattle.avoider.proofs.SamePlan.{gone_on_plan}
 use Rattle.world_runs.specs.inside.AvoidedRounds.{GoesOnTo, HasPart, HasRoundBelow, LeadsTo}
 use Rattle.world_runs.specs.inside.WorldRounds.{GoesBy, GoesByRounds, HasTurnIf, HaveTurns, IsRoundBy, begun, round, stays, steps}

@@ -8,12 +8,12 @@ use Rattle.armus_base.specs.Runs.{IsReachable}
 use Rattle.armus_base.proofs.NextIsLegal.{unrefused_undropped}
 use Rattle.armus_base.proofs.Reachable.{reachable_is_fixed}
 use Rattle.pl_core.specs.declared.place.Place.{Place}
-use Rattle.pl_core.specs.Moves.{IsWorldStep, further, refused_there}
-use Rattle.pl_core.specs.Worlds.{WorldValue, dropped_at, place_from, places_of, state_of}
+use Rattle.pl_core.specs.calls.Moves.{IsWorldStep, further, refused_there}
+use Rattle.pl_core.specs.calls.Worlds.{WorldValue, dropped_at, place_from, places_of, state_of}
 use Rattle.pl_core.proofs.Standing.{place_is}
 use Rattle.avoider.specs.declared.decision.Decision.{Decision}
 use Rattle.avoider.specs.declared.decision.Decision.TheVariants.{Published, Refused}
-use Rattle.avoider.specs.Decisions.{HasGoneOn, IsDecision}
+use Rattle.avoider.specs.calls.Decisions.{HasGoneOn, IsDecision}
 use Rattle.world_runs.specs.inside.Turns.{left_at, left_from, left_in}
 
 -- a task that has a next action has made fewer than it has

@@ -20,9 +20,9 @@ use Rattle.armus_base.proofs.Steps.{updated_same, updated_other}
 use Rattle.armus_base.proofs.Tasks.{action_of_task, reached_or_not}
 use Rattle.pl_core.specs.declared.place.Place.{Place as KeptPlace}
 use Rattle.pl_core.specs.declared.stand.Stand.TheVariants.{Unforked, Refused, Waits}
-use Rattle.pl_core.specs.Moves.{LeadsOn, IsWorldStep, drops_from, further, refused_there}
-use Rattle.pl_core.specs.Stands.{IsAtAwaitOf, IsEnabled}
-use Rattle.pl_core.specs.Worlds.{WorldValue, dropped_at, memberships, action_by_code, places_of, state_of}
+use Rattle.pl_core.specs.calls.Moves.{LeadsOn, IsWorldStep, drops_from, further, refused_there}
+use Rattle.pl_core.specs.calls.Stands.{IsAtAwaitOf, IsEnabled}
+use Rattle.pl_core.specs.calls.Worlds.{WorldValue, dropped_at, memberships, action_by_code, places_of, state_of}
 use Rattle.pl_core.proofs.GoingOn.{goes_on, legal_when_active, legal_when_reached, passes_when_waiting}
 use Rattle.pl_core.proofs.OneStep.{places_set_other, places_set_same, regular}
 use Rattle.pl_core.proofs.Refusing.{dropping, drops_lead}

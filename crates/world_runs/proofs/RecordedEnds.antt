@@ -8,11 +8,11 @@ use Rattle.armus_base.specs.Finals.{final_of}
 use Rattle.armus_base.specs.Plans.{Plan}
 use Rattle.armus_base.specs.Runs.{IsReachable}
 use Rattle.armus_base.proofs.Members.{plain_undropped}
-use Rattle.locked_world.specs.Journals.{IsReplayOfJournal, LoggedValue, LogsStep}
-use Rattle.pl_core.specs.Stands.{IsEnabled}
-use Rattle.pl_core.specs.Worlds.{WorldValue, dropped_at, places_of, state_of}
+use Rattle.locked_world.specs.calls.Journals.{IsReplayOfJournal, LoggedValue, LogsStep}
+use Rattle.pl_core.specs.calls.Stands.{IsEnabled}
+use Rattle.pl_core.specs.calls.Worlds.{WorldValue, dropped_at, places_of, state_of}
 use Rattle.pl_core.proofs.Standing.{place_is}
-use Rattle.world_runs.specs.RecordedRuns.{IsRecordedRun}
+use Rattle.world_runs.specs.calls.RecordedRuns.{IsRecordedRun}
 use Rattle.world_runs.specs.inside.Turns.{NobodyRefused}
 use Rattle.world_runs.proofs.Ends.{maximal_there, plain_end, same_state}
 

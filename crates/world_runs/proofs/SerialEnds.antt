@@ -9,10 +9,10 @@ use Rattle.armus_base.specs.Serial.{IsSerialAvoidedEnd, IsSerialAvoidedRun, Roun
 use Rattle.armus_base.specs.States.{Step}
 use Rattle.armus_base.proofs.OneSerialEnd.{one_serial_end}
 use Rattle.armus_base.proofs.SerialFinalIsAvoided.{serial_final_is_avoided}
-use Rattle.pl_core.specs.Worlds.{IsOpeningWorld, WorldValue, places_at, places_of, state_of}
+use Rattle.pl_core.specs.calls.Worlds.{IsOpeningWorld, WorldValue, places_at, places_of, state_of}
 use Rattle.pl_core.proofs.Opening.{first_places}
-use Rattle.avoider.specs.Decisions.{HasGoneOn}
-use Rattle.world_runs.specs.AvoidedRuns.{IsAvoidedEnd, IsSerialEnd}
+use Rattle.avoider.specs.calls.Decisions.{HasGoneOn}
+use Rattle.world_runs.specs.calls.AvoidedRuns.{IsAvoidedEnd, IsSerialEnd}
 use Rattle.world_runs.specs.declared.world_end.WorldEnd.{WorldEnd}
 use Rattle.world_runs.specs.inside.WorldRounds.{HasEndedBy}
 use Rattle.world_runs.proofs.AvoidedSteps.{leads_state}

@@ -7,10 +7,10 @@ use Rattle.armus_base.specs.CheckedPlans.{IsCheckedPlan}
 use Rattle.armus_base.specs.Plans.{Plan}
 use Rattle.armus_base.specs.Runs.{IsReachable, state_after}
 use Rattle.armus_base.specs.Serial.{IsSerialAvoidedRun}
-use Rattle.pl_core.specs.Stands.{IsEnabled}
-use Rattle.pl_core.specs.Worlds.{WorldValue, places_of, state_of}
+use Rattle.pl_core.specs.calls.Stands.{IsEnabled}
+use Rattle.pl_core.specs.calls.Worlds.{WorldValue, places_of, state_of}
 use Rattle.pl_core.proofs.Opening.{opening_is}
-use Rattle.world_runs.specs.AvoidedRuns.{SerialRunEnds}
+use Rattle.world_runs.specs.calls.AvoidedRuns.{SerialRunEnds}
 use Rattle.world_runs.specs.inside.AvoidedRounds.{GoesOnTo, HasPart, HasRoundBelow}
 use Rattle.world_runs.specs.inside.Turns.{left_in}
 use Rattle.world_runs.proofs.AvoidedEnds.{forked_still, leads_there, reached_by, round_begun, round_more, turn_left_out, turn_taken}

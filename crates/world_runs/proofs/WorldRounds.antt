@@ -2,8 +2,8 @@
 use Rattle.std.proofs.Common.{◌≡◌, ℕ, zero, suc, ◌<◌, ◌⊎◌, Bool, true, false, length, arith, sym, ◌∙◌, subst, refl, inl, inr}
 use Rattle.std.proofs.lemmas.Bool.{cases_eq, false≢true}
 use Rattle.armus_base.proofs.Stepping.{acting_forked}
-use Rattle.pl_core.specs.Stands.{IsEnabled}
-use Rattle.pl_core.specs.Worlds.{WorldValue, state_of}
+use Rattle.pl_core.specs.calls.Stands.{IsEnabled}
+use Rattle.pl_core.specs.calls.Worlds.{WorldValue, state_of}
 use Rattle.world_runs.specs.inside.WorldRounds.{GoesBy, HasTurnIf, HaveTurns, IsRoundBy, LeavesLess, stays, steps}
 use Rattle.world_runs.proofs.Left.{left_at_most}
 

@@ -1,5 +1,3 @@
-pub mod PlainRuns
-pub mod EndWorlds
-pub mod RecordedRuns
-pub mod AvoidedRuns
 pub mod inside
+-- Words of contracts further down, which no promise of a program needs.
+pub mod calls

@@ -1,8 +1,8 @@
 // The end of a run that avoids deadlock, from its opening and from where its tasks stand.
 ghost use Rattle.std.specs.Prelude.{◌≡◌, ℕ, Option, true, IfOk, length};
-ghost use Rattle.armus_base.specs.Boards.{IsLawful};
-ghost use Rattle.pl_core.specs.Worlds.{places_at};
-ghost use Rattle.world_runs.specs.AvoidedRuns.{IsAvoidedEnd, IsSerialEnd};
+ghost use Rattle.armus_base.specs.calls.Boards.{IsLawful};
+ghost use Rattle.pl_core.specs.calls.Worlds.{places_at};
+ghost use Rattle.world_runs.specs.calls.AvoidedRuns.{IsAvoidedEnd, IsSerialEnd};
 
 use crate::world_ending::end_by;
 use armus_base::{Final, Gate, NoMemory, Plan};

@@ -3,9 +3,9 @@ ghost use Rattle.std.specs.Prelude.{◌≡◌, ℕ, Some, false, IfOk, OnOk, len
 ghost use Rattle.armus_base.specs.CheckedPlans.{IsCheckedPlan};
 ghost use Rattle.armus_base.specs.Runs.{IsReachable};
 ghost use Rattle.pl_core.specs.declared.place.Place.{Place as KeptPlace};
-ghost use Rattle.pl_core.specs.Worlds.{places_at};
-ghost use Rattle.world_runs.specs.EndWorlds.{IsWorldEnd};
-ghost use Rattle.world_runs.specs.PlainRuns.{IsPlainEnd};
+ghost use Rattle.pl_core.specs.calls.Worlds.{places_at};
+ghost use Rattle.world_runs.specs.calls.EndWorlds.{IsWorldEnd};
+ghost use Rattle.world_runs.specs.calls.PlainRuns.{IsPlainEnd};
 
 use crate::WorldEnd;
 use crate::plain_step::PlainStep;

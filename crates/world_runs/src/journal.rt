@@ -1,11 +1,11 @@
 // The recorded run.
 ghost use Rattle.std.specs.Prelude.{◌≡◌, ◌≤◌, IfOk, false, length};
-ghost use Rattle.world_runs.specs.RecordedRuns.{IsRecordedRun};
+ghost use Rattle.world_runs.specs.calls.RecordedRuns.{IsRecordedRun};
 
 use crate::live_task::LiveTask;
 use crate::recorded_ending::finish;
 use crate::recorded_round::take_turns;
-use crate::{Pace, RunOptions};
+use crate::{RoundWorkers, RunOptions};
 use armus_base::{Final, Gate, List, NoMemory, Plan, TaskId};
 use locked_world::{LockedWorld, PlanName};
 use std::alloc::Global;
@@ -59,20 +59,20 @@ fn go_by_rounds<N: PlanName, R: Threads + Wait + Sync, G: Gate>(
 {
     let mut tasks = Vec::new(alloc);
     tasks.push(first_task(plan))?;
-    let mut pace = Pace::new();
+    let mut round_workers = RoundWorkers::new();
     for _ in 0..=u64::from(plan.ops()) * 2 {
         take_turns(
             rt,
             shared,
             gate,
-            pace.workers(workers),
+            round_workers.workers(workers),
             tasks.as_mut_slice(),
         )?;
         let made = steps_of(tasks.as_slice());
         if made == 0 {
             break;
         }
-        pace.note(made);
+        round_workers.note(made);
         let children = forked_by(alloc, plan, tasks.as_mut_slice())?;
         tasks.retain(|task| !task.is_done());
         for child in children {

@@ -2,8 +2,8 @@
 ghost use Rattle.std.specs.Prelude.{◌<◌, ℕ, true, length, OnOk};
 ghost use Rattle.armus_base.specs.CheckedPlans.{IsCheckedPlan};
 ghost use Rattle.armus_base.specs.Runs.{IsReachable};
-ghost use Rattle.pl_core.specs.Stands.{IsEnabled};
-ghost use Rattle.pl_core.specs.Worlds.{places_of};
+ghost use Rattle.pl_core.specs.calls.Stands.{IsEnabled};
+ghost use Rattle.pl_core.specs.calls.Worlds.{places_of};
 ghost use Rattle.world_runs.specs.inside.WorldRounds.{LeavesLess};
 
 use armus_base::{NoMemory, TaskId};
@@ -13,7 +13,7 @@ use std::alloc::Global;
 
 /// Who makes the next step of a task that may go on.
 pub(crate) trait NextStep {
-    ghost use Rattle.pl_core.specs.Worlds.{WorldValue};
+    ghost use Rattle.pl_core.specs.calls.Worlds.{WorldValue};
 
     // What one step of a task makes of the old world is the new one.
     ghost makes: { WorldValue → WorldValue → ℕ → Type 0 };
@@ -35,8 +35,8 @@ pub(crate) trait NextStep {
 /// An await is decided on, and every other step is that of the task's code.
 impl NextStep for Judge {
     ghost use Rattle.armus_base.specs.Deadlocks.{NobodyDead};
-    ghost use Rattle.pl_core.specs.Worlds.{state_of};
-    ghost use Rattle.avoider.specs.Decisions.{HasGoneOn};
+    ghost use Rattle.pl_core.specs.calls.Worlds.{state_of};
+    ghost use Rattle.avoider.specs.calls.Decisions.{HasGoneOn};
 
     ghost makes = { HasGoneOn };
 

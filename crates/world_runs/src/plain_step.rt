@@ -9,7 +9,7 @@ use std::alloc::Global;
 pub(crate) struct PlainStep;
 
 impl NextStep for PlainStep {
-    ghost use Rattle.pl_core.specs.Moves.{IsWorldStep};
+    ghost use Rattle.pl_core.specs.calls.Moves.{IsWorldStep};
     ghost use Rattle.world_runs.specs.inside.Turns.{NobodyRefused};
 
     ghost makes = { IsWorldStep };

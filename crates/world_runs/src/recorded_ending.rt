@@ -1,7 +1,7 @@
 // The end of a recorded run.
 ghost use Rattle.std.specs.Prelude.{◌≡◌, ℕ, ◌<◌, IfOk, false, true, length};
-ghost use Rattle.pl_core.specs.Stands.{IsEnabled};
-ghost use Rattle.world_runs.specs.RecordedRuns.{IsRecordedRun};
+ghost use Rattle.pl_core.specs.calls.Stands.{IsEnabled};
+ghost use Rattle.world_runs.specs.calls.RecordedRuns.{IsRecordedRun};
 ghost use Rattle.world_runs.specs.inside.Turns.{left_in};
 
 use armus_base::{Final, List, NoMemory, TaskId};

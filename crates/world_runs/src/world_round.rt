@@ -2,8 +2,8 @@
 ghost use Rattle.std.specs.Prelude.{◌≡◌, ◌<◌, ◌↔◌, IfOk, IsTrue, length};
 ghost use Rattle.armus_base.specs.CheckedPlans.{IsCheckedPlan};
 ghost use Rattle.armus_base.specs.Runs.{IsReachable};
-ghost use Rattle.pl_core.specs.Worlds.{places_of, state_of};
-ghost use Rattle.pl_core.specs.Stands.{IsEnabled};
+ghost use Rattle.pl_core.specs.calls.Worlds.{places_of, state_of};
+ghost use Rattle.pl_core.specs.calls.Stands.{IsEnabled};
 ghost use Rattle.world_runs.specs.inside.Turns.{TellsForked};
 ghost use Rattle.world_runs.specs.inside.WorldRounds.{HasTurnIf, IsRoundBy, IsTurnBy, LeavesLess};
 

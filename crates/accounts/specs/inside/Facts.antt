@@ -5,7 +5,7 @@ use Rattle.armus_base.specs.Runs.{Place}
 use Rattle.pl_syntax.specs.Grammar.{IsText}
 use Rattle.pl_syntax.specs.Tree.{count}
 use Rattle.pl_syntax.specs.declared.tree.Program.{Program}
-use Rattle.origins.specs.OriginTables.{AreOrigins}
+use Rattle.origins.specs.calls.OriginTables.{AreOrigins}
 use Rattle.accounts.specs.Accounts.{IsLayout, IsTaskAccount, Layout}
 use Rattle.accounts.specs.declared.account.TaskAccount.{TaskAccount}
 use Rattle.accounts.specs.declared.facts.TextFacts.{TextFacts}

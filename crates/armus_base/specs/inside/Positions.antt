@@ -5,7 +5,8 @@ use Rattle.armus_base.specs.declared.piece.Piece.{Piece}
 use Rattle.armus_base.specs.declared.piece.Piece.TheVariants.{Op as Single, Repeat}
 use Rattle.armus_base.specs.declared.cursor.frame.Frame.{Frame}
 use Rattle.armus_base.specs.declared.cursor.position.Position.{Position}
-use Rattle.armus_base.specs.Pieces.{AreNested, max_open_repeats, ops_between, times}
+use Rattle.armus_base.specs.calls.Pieces.{AreNested, max_open_repeats, ops_between}
+use Rattle.armus_base.specs.Pieces.{times}
 
 -- the Repeats that are open, the innermost first
 abbrev pub open_frames : Position → List Frame

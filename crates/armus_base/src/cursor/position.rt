@@ -1,7 +1,7 @@
 // Where a walk over pieces stands.
 ghost use Rattle.std.specs.Prelude.{◌≡◌, ◌+◌, ◌^◌, ◌<◌, ◌≤◌, List, None, length, slice_get};
 ghost use Rattle.armus_base.specs.declared.piece.Piece.{Piece as PieceValue};
-ghost use Rattle.armus_base.specs.Pieces.{max_open_repeats};
+ghost use Rattle.armus_base.specs.calls.Pieces.{max_open_repeats};
 ghost use Rattle.armus_base.specs.inside.Positions.{IsFirst, IsInside, KeepsOps, StandsAt, entered, repeat_of};
 
 use super::frame::Frame;

@@ -1,5 +1,5 @@
 // Laws of agreement.
-ghost use Rattle.armus_base.specs.AgreementLaws.{AvoidedComesAsFar, AvoidedEndsAlike, CycleIsDeadlocked, CycleIsDeadlockedIn, DeadIsFinal, DeadIsFinalAtLawful, DeadIsNeverPassed, DoneStaysDone, FinalIsAvoided, HeldHasEnd, RefusedEnds, RefusedWasDead, RefusedWasNotDone, RefusedWasStuck, RefusedWhereDead, WalkCycleWaits};
+ghost use Rattle.armus_base.specs.calls.AgreementLaws.{AvoidedComesAsFar, AvoidedEndsAlike, CycleIsDeadlocked, CycleIsDeadlockedIn, DeadIsFinal, DeadIsFinalAtLawful, DeadIsNeverPassed, DoneStaysDone, FinalIsAvoided, HeldHasEnd, RefusedEnds, RefusedWasDead, RefusedWasNotDone, RefusedWasStuck, RefusedWhereDead, WalkCycleWaits};
 
 /// Avoidance agrees with the run: where nobody is dead in the final state, it is the end of each avoided run, and of one at least; and somebody is refused at
 /// the end of an avoided run exactly where somebody is dead in the final state. The ends tell who is refused.

@@ -1,5 +1,5 @@
 // Laws of deadlock.
-ghost use Rattle.armus_base.specs.DeadlockLaws.{CollectedIsDead, CollectedIsDeadAtReachable, DeadStays, DeadStaysAtReachable, NobodyIsDead, NobodyIsDeadAtLawful, NobodyIsKnownDead, OnlyBlocksKill};
+ghost use Rattle.armus_base.specs.calls.DeadlockLaws.{CollectedIsDead, CollectedIsDeadAtReachable, DeadStays, DeadStaysAtReachable, NobodyIsDead, NobodyIsDeadAtLawful, NobodyIsKnownDead, OnlyBlocksKill};
 
 /// Only a block kills: a legal step of any other kind makes no task dead that was not dead before.
 pub fn only_blocks_kill()

@@ -1,5 +1,5 @@
 // Laws of final states as data.
-ghost use Rattle.armus_base.specs.FinalLaws.{DeadByFinal, DeadByStatuses, EndsAre, EndsTell, RunIsOfPlan, StatusesAre};
+ghost use Rattle.armus_base.specs.calls.FinalLaws.{DeadByFinal, DeadByStatuses, EndsAre, EndsTell, RunIsOfPlan, StatusesAre};
 
 /// The statuses of a state are just those of its published tasks, with just their phases, in order; and the dead by these statuses are the dead of the state.
 pub fn statuses_are_of_state()

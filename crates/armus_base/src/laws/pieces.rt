@@ -1,9 +1,9 @@
 // Laws of pieces.
 ghost use Rattle.std.specs.Prelude.{[], ◌∷◌};
 ghost use Rattle.armus_base.specs.declared.piece.Piece.TheVariants.{Op as Single};
-ghost use Rattle.armus_base.specs.PieceLaws.{FoldedStandForUnfolded, StandForUnfoldedAlone, StraightIsFolded, UnfoldedAppend};
-ghost use Rattle.armus_base.specs.PieceLaws.{UnfoldedLoop, UnfoldedStraight, WholeAppend, WholeByPlaces, WholeDeeper, WholeLoop};
-ghost use Rattle.armus_base.specs.WorkedPieces.{AreFoldedTo, ExcludesPieces, advance, in_a_loop, in_a_loop_ops, looped_by, three_deep, three_deep_ops};
+ghost use Rattle.armus_base.specs.calls.PieceLaws.{FoldedStandForUnfolded, StandForUnfoldedAlone, StraightIsFolded, UnfoldedAppend};
+ghost use Rattle.armus_base.specs.calls.PieceLaws.{UnfoldedLoop, UnfoldedStraight, WholeAppend, WholeByPlaces, WholeDeeper, WholeLoop};
+ghost use Rattle.armus_base.specs.calls.WorkedPieces.{AreFoldedTo, ExcludesPieces, advance, in_a_loop, in_a_loop_ops, looped_by, three_deep, three_deep_ops};
 
 /// Folded pieces stand for the ops that they unfold to, and for nothing else.
 pub fn folded_stand_for()

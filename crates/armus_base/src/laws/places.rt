@@ -1,5 +1,5 @@
 // Laws of places.
-ghost use Rattle.armus_base.specs.PlaceLaws.{AvoidedStepIsLawful, FreeingIsLawful, HolderIsTask, LawfulIsReachable, LawfulPlacesAreOf, OpeningIsLawful, PlainStepIsLawful, ReachableIsFixed, ReachableSteps, ReachedStaysAtReachable, RefusedHasDropped, TakersFree, TakingIsLawful};
+ghost use Rattle.armus_base.specs.calls.PlaceLaws.{AvoidedStepIsLawful, FreeingIsLawful, HolderIsTask, LawfulIsReachable, LawfulPlacesAreOf, OpeningIsLawful, PlainStepIsLawful, ReachableIsFixed, ReachableSteps, ReachedStaysAtReachable, RefusedHasDropped, TakersFree, TakingIsLawful};
 
 /// Reachable places fix the state, a legal next step leads to reachable places and to the state after it, what is reached stays reached, and a refused
 /// task that is a member of nothing has made all its drops.

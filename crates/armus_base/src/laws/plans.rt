@@ -1,5 +1,5 @@
 // Laws of plans.
-ghost use Rattle.armus_base.specs.PlanLaws.{AwaitedPhasesFit, CheckedByCodes, FirstPlanIsChecked, MakersAreTasks, PhasesFit, PhasesStayFixed, PlanGrows};
+ghost use Rattle.armus_base.specs.calls.PlanLaws.{AwaitedPhasesFit, CheckedByCodes, FirstPlanIsChecked, MakersAreTasks, PhasesFit, PhasesStayFixed, PlanGrows};
 
 /// A plan stays checked while it is unfolded: only what is new is to be looked at, and what it fixes of a task so far stays fixed.
 pub fn plan_grows()

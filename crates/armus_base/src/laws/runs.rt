@@ -1,5 +1,5 @@
 // Laws of runs.
-ghost use Rattle.armus_base.specs.RunLaws.{MaximalExists, NextIsLegal, OneEnd, OneSerialEnd, PlacesFixState, ReachedStays, ReachedStaysInRun, SamePlacesSameState, SerialFinalIsAvoided, SerialIsAvoided};
+ghost use Rattle.armus_base.specs.calls.RunLaws.{MaximalExists, NextIsLegal, OneEnd, OneSerialEnd, PlacesFixState, ReachedStays, ReachedStaysInRun, SamePlacesSameState, SerialFinalIsAvoided, SerialIsAvoided};
 
 /// The places fix the state: after each legal run of a checked plan the state is the one that its places fix, and two runs to the same places end in the same state.
 pub fn places_fix_state()

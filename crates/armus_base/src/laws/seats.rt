@@ -1,5 +1,5 @@
 // Laws of what a seat has seen.
-ghost use Rattle.armus_base.specs.SeatLaws.{AllScannedIsReached, AwaitLoadIsBefore, AwaitLoadKeepsFar, BusyIsBefore, BusyKeepsFar, EarlierIsLawful, EarlierPlaces, HolderMayHold, KnownAreLeastDead, LeastExists, LeastLawfulExists, PhaseLoadIsBefore, PhaseLoadKeepsFar, ScannedStays};
+ghost use Rattle.armus_base.specs.calls.SeatLaws.{AllScannedIsReached, AwaitLoadIsBefore, AwaitLoadKeepsFar, BusyIsBefore, BusyKeepsFar, EarlierIsLawful, EarlierPlaces, HolderMayHold, KnownAreLeastDead, LeastExists, LeastLawfulExists, PhaseLoadIsBefore, PhaseLoadKeepsFar, ScannedStays};
 
 /// The least lawful state, on a board that detects deadlock: the shorter places of two lawful states are lawful, so there is a least lawful state as
 /// far on as what a viewer has seen, and the known dead are the dead in it. The same of plain runs.

@@ -4,10 +4,10 @@ ghost use Rattle.armus_base.specs.CheckedPlans.{IsCheckedPlan};
 ghost use Rattle.armus_base.specs.Finals.{final_of};
 ghost use Rattle.armus_base.specs.Runs.{state_after};
 ghost use Rattle.armus_base.specs.Serial.{IsSerialAvoidedEnd};
-ghost use Rattle.armus_base.specs.Exclusions.{Excludes, ExcludesPlans, ExcludesUnlocked};
-ghost use Rattle.armus_base.specs.TwoTasks.{all_turns, two_tasks};
-ghost use Rattle.armus_base.specs.WorkedDecisions.{DecidesAlive, DecidesDead, WorkedLoads};
-ghost use Rattle.armus_base.specs.WorkedTexts.{EndsIn, Targets, averaging, averaging_end, averaging_schedule, awaits_ahead, awaits_ahead_end, awaits_ahead_schedule, behind_a_cycle, behind_a_cycle_end, behind_a_cycle_schedule, ended_member, ended_member_end, ended_member_schedule, looks_back, looks_back_end, looks_back_schedule, three_tasks, three_tasks_end, three_tasks_schedule, two_tasks_avoided, two_tasks_end, two_tasks_schedule, unforked_member, unforked_member_end, unforked_member_schedule};
+ghost use Rattle.armus_base.specs.calls.Exclusions.{Excludes, ExcludesPlans, ExcludesUnlocked};
+ghost use Rattle.armus_base.specs.calls.TwoTasks.{all_turns, two_tasks};
+ghost use Rattle.armus_base.specs.calls.WorkedDecisions.{DecidesAlive, DecidesDead, WorkedLoads};
+ghost use Rattle.armus_base.specs.calls.WorkedTexts.{EndsIn, Targets, averaging, averaging_end, averaging_schedule, awaits_ahead, awaits_ahead_end, awaits_ahead_schedule, behind_a_cycle, behind_a_cycle_end, behind_a_cycle_schedule, ended_member, ended_member_end, ended_member_schedule, looks_back, looks_back_end, looks_back_schedule, three_tasks, three_tasks_end, three_tasks_schedule, two_tasks_avoided, two_tasks_end, two_tasks_schedule, unforked_member, unforked_member_end, unforked_member_schedule};
 
 /// The final states of eight small kernels and their dead tasks, by the definitions: workers that average under a barrier that their parent never
 /// leaves; two tasks that wait for each other; three that each wait for the two others; a task that waits behind a cycle; one that waits for a member

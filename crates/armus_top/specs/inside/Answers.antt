@@ -3,7 +3,7 @@ use Rattle.std.specs.Prelude.{◌≡◌, ◌↔◌, ℕ, Bool, Result, Ok, Err, 
 use Rattle.clock_syntax.specs.Trees.{ClockTree}
 use Rattle.clock_syntax.specs.Grammar.{IsClockText, HasClockFault}
 use Rattle.clock_moves.specs.Unfolding.{clock_plan_of}
-use Rattle.clock_pl.specs.ClockPlanning.{as_fault}
+use Rattle.clock_pl.specs.calls.ClockPlanning.{as_fault}
 use Rattle.clock_pl.specs.ClockLines.{clock_fault_line}
 use Rattle.armus_base.specs.declared.ending.Final.{Final}
 use Rattle.adaptive.specs.declared.analysis.Wanted.{Wanted}
@@ -26,11 +26,11 @@ IsEnd IsWhy (Clock fault) = ⊥
 IsEnd IsWhy NoMemory = Unit {0}
 
 -- why a clock text has no plan: it is no clock program, or the unfolding of its program has this fault, or memory ran out
-abbrev pub IsClockEnd : Text → InputEnd → Type 0
-IsClockEnd text (Refused (refusal.Syntax fault)) = HasClockFault text fault
-IsClockEnd text (Refused why) = ⊥
-IsClockEnd text (Clock fault) = (program : ClockTree) × IsClockText text program × (clock_plan_of program ≡ Err (as_fault fault))
-IsClockEnd text NoMemory = Unit {0}
+abbrev pub IsClockInputEnd : Text → InputEnd → Type 0
+IsClockInputEnd text (Refused (refusal.Syntax fault)) = HasClockFault text fault
+IsClockInputEnd text (Refused why) = ⊥
+IsClockInputEnd text (Clock fault) = (program : ClockTree) × IsClockText text program × (clock_plan_of program ≡ Err (as_fault fault))
+IsClockInputEnd text NoMemory = Unit {0}
 
 -- why a command has no answer on this input: it refuses it, with this line, or memory ran out
 abbrev pub IsEndOf : Command → Text → InputEnd → Type 0

@@ -4,11 +4,11 @@ use Rattle.armus_base.specs.declared.errors.NoMemory.{NoMemory}
 use Rattle.armus_base.specs.declared.event.Event.{Event}
 use Rattle.armus_base.specs.Offsets.{target}
 use Rattle.armus_base.specs.Plans.{Aim, Blocks, Refuses}
-use Rattle.board.specs.Locking.{FreesLock, MayRefuse}
-use Rattle.board.specs.Seats.{Known, MakesStep, MayPublish}
-use Rattle.board.specs.Steps.{own_phase}
+use Rattle.board.specs.calls.Locking.{FreesLock, MayRefuse}
+use Rattle.board.specs.calls.Seats.{Known, MakesStep, MayPublish}
+use Rattle.board.specs.calls.Steps.{own_phase}
 use Rattle.verdict.specs.declared.found.Cycle.{Cycle}
-use Rattle.avoider.specs.OnBoard.{DropsBelow, IsPossibleByLock}
+use Rattle.avoider.specs.calls.OnBoard.{DropsBelow, IsPossibleByLock}
 use Rattle.avoider.specs.declared.decision.Decision.{Decision}
 use Rattle.avoider.specs.declared.decision.Decision.TheVariants.{Published, Refused}
 

@@ -4,12 +4,12 @@ use Rattle.armus_base.specs.declared.event.Event.{Event}
 use Rattle.armus_base.specs.declared.status.Status.{Status}
 use Rattle.armus_base.specs.Deadlocks.{WouldBeDead}
 use Rattle.armus_base.specs.Plans.{Aim}
-use Rattle.board.specs.Seats.{Known}
-use Rattle.board.specs.Views.{task_of}
+use Rattle.board.specs.calls.Seats.{Known}
+use Rattle.board.specs.calls.Views.{task_of}
 use Rattle.verdict.specs.declared.found.Cycle.{Cycle}
-use Rattle.avoider.specs.Decisions.{ExplainsDeath}
-use Rattle.order_graph.specs.Orders.{OrderValue}
-use Rattle.avoider.specs.OnBoard.{InEachByLock, Judges}
+use Rattle.avoider.specs.calls.Decisions.{ExplainsDeath}
+use Rattle.order_graph.specs.calls.Orders.{OrderValue}
+use Rattle.avoider.specs.calls.OnBoard.{InEachByLock, Judges}
 use Rattle.avoider.specs.inside.Followings.{HoldsOrOtherDead}
 
 -- What the loads of a decision on the own await with this aim tell: the cycle that explains the death of the own task, where it is dead by the statuses, and else

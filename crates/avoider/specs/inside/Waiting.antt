@@ -4,18 +4,18 @@ use Rattle.armus_base.specs.declared.event.Event.{Event}
 use Rattle.armus_base.specs.declared.ids.TaskId.{TaskId}
 use Rattle.armus_base.specs.Plans.{Plan}
 use Rattle.armus_base.specs.States.{State}
-use Rattle.pl_core.specs.HighestPhases.{IsPublishedImpeder}
+use Rattle.pl_core.specs.calls.HighestPhases.{IsPublishedImpeder}
 use Rattle.avoider.specs.declared.waiting.Places.{Places}
 
 -- this is one more than the place of the event, and 0 where there is none
-abbrev pub IsPlaceOf : List Event → Option Event → ℕ → Type 0
-IsPlaceOf events None n = n ≡ 0
-IsPlaceOf events (Some e) n = (0 < n) × (n ≤ length events) × ((d : Event) → slice_index_or events (n - 1) d ≡ e)
+abbrev pub IsPlaceOfEvent : List Event → Option Event → ℕ → Type 0
+IsPlaceOfEvent events None n = n ≡ 0
+IsPlaceOfEvent events (Some e) n = (0 < n) × (n ≤ length events) × ((d : Event) → slice_index_or events (n - 1) d ≡ e)
 
 -- the first so many tasks have the places of the events on which they are published
 pub record HavePlaces (s : State) (tasks : ℕ) (events : List Event) (own : List ℕ) : Type 0 where
   pub sized : length own ≡ tasks
-  pub each : (u : ℕ) → u < tasks → IsPlaceOf events (s.published u) (slice_index own u)
+  pub each : (u : ℕ) → u < tasks → IsPlaceOfEvent events (s.published u) (slice_index own u)
 
 -- all tasks of the plan have them, and the events are of its phasers
 pub record ArePlaces (plan : Plan) (s : State) (p : Places) : Type 0 where

@@ -2,7 +2,7 @@
 use Rattle.std.specs.Prelude.{◌≡◌, length}
 use Rattle.armus_base.specs.CheckedPlans.{IsCheckedPlan}
 use Rattle.board.specs.declared.board.Board.TheInside.{Inside}
-use Rattle.board.specs.Words.{word_count}
+use Rattle.board.specs.calls.Words.{word_count}
 
 -- its fields say what its table was told, and it has all words
 pub record IsBoard (b : Inside) : Type 0 where

@@ -1,8 +1,8 @@
 -- What only a member of a phaser does.
 use Rattle.std.specs.Prelude.{◌≡◌, ℕ, Some}
 use Rattle.armus_base.specs.Plans.{Action, Registers, Advances, Blocks}
-use Rattle.board.specs.Views.{next_action}
-use Rattle.board.specs.Seats.{Known}
+use Rattle.board.specs.calls.Views.{next_action}
+use Rattle.board.specs.calls.Seats.{Known}
 
 -- only a member of p does this
 abbrev pub IsByMember : Action → ℕ → Type 0

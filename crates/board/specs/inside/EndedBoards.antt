@@ -3,8 +3,8 @@ use Rattle.std.specs.Prelude.{◌≡◌, length}
 use Rattle.std.specs.Mem.Slots.{slots_items, slots_len, IsFull}
 use Rattle.armus_base.specs.CheckedPlans.{IsCheckedPlan}
 use Rattle.board.specs.declared.words.Words.TheInside.{Inside}
-use Rattle.board.specs.Closing.{AreLawful}
-use Rattle.board.specs.Words.{word_count}
+use Rattle.board.specs.calls.Closing.{AreLawful}
+use Rattle.board.specs.calls.Words.{word_count}
 
 -- there are all words, they are those of a lawful state, and the counts are the plan's
 pub record IsEndedBoard (w : Inside) : Type 0 where

@@ -2,9 +2,9 @@
 use Rattle.std.specs.Prelude.{◌≡◌, ℕ, Option, Some, None, []}
 use Rattle.armus_base.specs.declared.event.Event.{Event}
 use Rattle.board.specs.declared.task_seat.TaskSeat.TheInside.{Inside}
-use Rattle.board.specs.Views.{seen}
-use Rattle.board.specs.Seats.{Known, IsSeat, event_of}
-use Rattle.board.specs.Sitting.{known_of}
+use Rattle.board.specs.calls.Views.{seen}
+use Rattle.board.specs.calls.Seats.{Known, IsSeat, event_of}
+use Rattle.board.specs.calls.Sitting.{known_of}
 
 -- a seat of task t with so many tasks scanned, whose task has published this event
 pub record IsSitting (t scanned : ℕ) (awaited : Option Event) (k : Known) : Type 0 where

@@ -1,8 +1,8 @@
 -- What is true of each viewer.
 use Rattle.std.specs.Prelude.{◌≡◌, None, [], false}
 use Rattle.board.specs.declared.view_seat.ViewSeat.TheInside.{Inside}
-use Rattle.board.specs.Seats.{IsSeat}
-use Rattle.board.specs.Viewing.{known_of}
+use Rattle.board.specs.calls.Seats.{IsSeat}
+use Rattle.board.specs.calls.Viewing.{known_of}
 
 -- it is of no task, and never holds the lock
 pub record Views (s : Inside) : Type 0 where

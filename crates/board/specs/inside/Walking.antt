@@ -4,8 +4,8 @@ use Rattle.armus_base.specs.declared.event.Event.{Event}
 use Rattle.armus_base.specs.declared.op.Op.{Op}
 use Rattle.armus_base.specs.declared.op.Op.TheVariants.{Make, Reg, Fork, Adv, Drop, Await}
 use Rattle.armus_base.specs.Plans.{Plan, Action, Makes, Registers, Forks, Advances, Drops, Blocks, Passes, actions, actions_of}
-use Rattle.board.specs.Views.{own_place, task_of}
-use Rattle.board.specs.Seats.{Known, aim_at, event_of}
+use Rattle.board.specs.calls.Views.{own_place, task_of}
+use Rattle.board.specs.calls.Seats.{Known, aim_at, event_of}
 
 -- the action with which an op begins
 abbrev pub begins : Op → Action

@@ -6,13 +6,13 @@ use Rattle.armus_base.specs.declared.op.Op.TheVariants.{Await}
 use Rattle.armus_base.specs.Places.{members_below}
 use Rattle.armus_base.specs.Plans.{Aim, Action, Blocks, Drops, Refuses}
 use Rattle.armus_base.specs.States.{Phases}
-use Rattle.board.specs.Seats.{Frame, IsOf, Known, aim_at}
-use Rattle.board.specs.Steps.{own_phase}
-use Rattle.board.specs.Views.{avoids, next_action}
+use Rattle.board.specs.calls.Seats.{Frame, IsOf, Known, aim_at}
+use Rattle.board.specs.calls.Steps.{own_phase}
+use Rattle.board.specs.calls.Views.{avoids, next_action}
 use Rattle.board.specs.inside.Walking.{IsActionOfPlan, begins}
 use Rattle.board_rounds.specs.declared.deciding.Attempt.{Attempt}
 use Rattle.board_rounds.specs.declared.deciding.Attempt.TheVariants.{Begun, LockedOut, Refused}
-use Rattle.board_rounds.specs.Turns.{EndsTurn, Goes, HasLeftAll}
+use Rattle.board_rounds.specs.calls.Turns.{EndsTurn, Goes, HasLeftAll}
 
 -- the seat is one of the board, its task stands before this op, and does not hold the lock
 pub record MayBegin (board : Frame) (op : Op) (seat : Known) : Type 0 where

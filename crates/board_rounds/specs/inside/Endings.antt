@@ -1,9 +1,9 @@
 -- What is made of the tasks of a run at its end: their places, and one viewer who takes their seats in.
 use Rattle.std.specs.Prelude.{slice_get, ◌≡◌, ◌≢◌, ℕ, ◌<◌, ◌⊎◌, List, [], ◌∷◌, Some, Contains, length}
-use Rattle.board.specs.Seats.{Known, TakesIn}
+use Rattle.board.specs.calls.Seats.{Known, TakesIn}
 use Rattle.pl_core.specs.declared.place.Place.{Place as KeptPlace}
-use Rattle.board_rounds.specs.Turns.{Working, standing_of}
-use Rattle.board_rounds.specs.Crews.{number}
+use Rattle.board_rounds.specs.calls.Turns.{Working, standing_of}
+use Rattle.board_rounds.specs.calls.TaskSeats.{number}
 
 -- the viewer takes these seats in, one after the other
 abbrev pub TakesAll : List Known → Known → Known → Type 0

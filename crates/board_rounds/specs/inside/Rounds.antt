@@ -3,9 +3,9 @@ use Rattle.std.specs.Prelude.{map, flat_map, ◌≡◌, ℕ, List, [], ◌++◌,
 use Rattle.std.specs.List.Sorted.{IsPermutation}
 use Rattle.armus_base.specs.Plans.{Action, Plan}
 use Rattle.armus_base.specs.Runs.{first_place}
-use Rattle.board.specs.Views.{own_place}
-use Rattle.board.specs.Seats.{Frame, Known}
-use Rattle.board_rounds.specs.Turns.{EachActs, EachEndsTurn, Working, in_32_bits}
+use Rattle.board.specs.calls.Views.{own_place}
+use Rattle.board.specs.calls.Seats.{Frame, Known}
+use Rattle.board_rounds.specs.calls.Turns.{EachActs, EachEndsTurn, Working, in_32_bits}
 
 -- the seat of a child which one of these tasks forked
 abbrev pub IsChildIn : List Working → Known → Type 0

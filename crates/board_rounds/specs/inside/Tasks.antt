@@ -3,11 +3,11 @@ use Rattle.std.specs.Prelude.{◌≡◌, ℕ, Bool, true, false, ◌+◌, ◌<�
 use Rattle.armus_base.specs.declared.op.Op.{Op}
 use Rattle.armus_base.specs.Limits.{max_phasers}
 use Rattle.armus_base.specs.Plans.{Action, actions}
-use Rattle.board.specs.Seats.{Frame, Known, event_of}
-use Rattle.board.specs.Views.{own_place, task_of}
+use Rattle.board.specs.calls.Seats.{Frame, Known, event_of}
+use Rattle.board.specs.calls.Views.{own_place, task_of}
 use Rattle.board.specs.inside.Walking.{left_of}
 use Rattle.board_rounds.specs.declared.task.Task.TheInside.{Inside}
-use Rattle.board_rounds.specs.Turns.{Acts, HasLeftAll, Working}
+use Rattle.board_rounds.specs.calls.Turns.{Acts, HasLeftAll, Working}
 
 -- what a contract sees of a task
 abbrev pub working_of : Inside → Working

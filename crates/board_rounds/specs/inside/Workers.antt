@@ -1,6 +1,6 @@
 -- The cells of a worker.
 use Rattle.std.specs.Prelude.{◌≡◌, Bool, Some, is_some}
-use Rattle.phase_scan.specs.Collects.{Collection}
+use Rattle.phase_scan.specs.calls.Collects.{Collection}
 use Rattle.board_rounds.specs.declared.worker_cells.WorkerCells.TheInside.{Inside}
 
 -- whether a worker has cells

@@ -8,7 +8,7 @@ use Rattle.pl_plan.specs.declared.step.Thing.TheVariants as a_thing
 use Rattle.pl_plan.specs.Unfolding.{UnfoldingState}
 use Rattle.pl_plan.specs.Stages.{Stage}
 use Rattle.check_scenes.specs.Deeds as deeds
-use Rattle.check_scenes.specs.Deeds.{drew, forked, last_that, left, made, name_given, or_else, registered, statement_in}
+use Rattle.check_scenes.specs.Deeds.{did_draw, did_fork, last_that, did_leave, did_make, name_given, or_else, did_register, stage_statement}
 use Rattle.check_scenes.specs.Turns.{turn_in, visits_among}
 use Rattle.check_scenes.specs.declared.notes.Deed.{Deed}
 use Rattle.check_scenes.specs.declared.notes.LastTurn.{LastTurn}
@@ -99,21 +99,21 @@ name_by names (Some x) = names x.0
 -- a note tells of this stage
 abbrev pub MarkTells : (ℕ → List ℕ) → Option Note → Option Stage → Type 0
 MarkTells names None None = Unit {0}
-MarkTells names (Some note) (Some v) = (statement_in (Some v) ≡ note.statement) × (name_given (Some v) ≡ name_by names note.name)
+MarkTells names (Some note) (Some v) = (stage_statement (Some v) ≡ note.statement) × (name_given (Some v) ≡ name_by names note.name)
 MarkTells names None (Some v) = ⊥
 MarkTells names (Some note) None = ⊥
 
 -- the deed that is noted, and the one of the definitions
-pub data Means : Deed → deeds.Deed → Type 0 where
-  means_drew : {c : ℕ} → Means (a_deed 0 c 0) (drew c)
-  means_made : {p : ℕ} → Means (a_deed 1 p 0) (made p)
-  means_forked : {c : ℕ} → Means (a_deed 2 c 0) (forked c)
-  means_registered : {c p : ℕ} → Means (a_deed 3 c p) (registered c p)
-  means_left : {u p : ℕ} → Means (a_deed 4 u p) (left u p)
+pub data MeansDeed : Deed → deeds.Deed → Type 0 where
+  means_drew : {c : ℕ} → MeansDeed (a_deed 0 c 0) (did_draw c)
+  means_made : {p : ℕ} → MeansDeed (a_deed 1 p 0) (did_make p)
+  means_forked : {c : ℕ} → MeansDeed (a_deed 2 c 0) (did_fork c)
+  means_registered : {c p : ℕ} → MeansDeed (a_deed 3 c p) (did_register c p)
+  means_left : {u p : ℕ} → MeansDeed (a_deed 4 u p) (did_leave u p)
 
 -- the notes tell the last stage that did a thing, of these stages behind this state
-abbrev pub Tells : (ℕ → List ℕ) → UnfoldingState → List Stage → List Note → Type 0
-Tells names first stages notes = (d : Deed) (did : deeds.Deed) → Means d did → MarkTells names (last_noted d notes) (last_that did first stages)
+abbrev pub NotesTell : (ℕ → List ℕ) → UnfoldingState → List Stage → List Note → Type 0
+NotesTell names first stages notes = (d : Deed) (did : deeds.Deed) → MeansDeed d did → MarkTells names (last_noted d notes) (last_that did first stages)
 
 -- the last turns tell the turns in which task t is
 abbrev pub TurnsTold : ℕ → List Stage → List LastTurn → Type 0

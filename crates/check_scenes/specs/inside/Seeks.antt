@@ -19,8 +19,8 @@ use Rattle.check_scenes.specs.declared.seek.Place.TheVariants as p
 use Rattle.check_scenes.specs.declared.seek.Stop.{Stop}
 use Rattle.check_scenes.specs.declared.sight.Sight.{Sight}
 use Rattle.check_scenes.specs.inside.Framed.{Comes, FramesAre}
-use Rattle.check_scenes.specs.inside.Noted.{LastTurnsTell, Tells, TurnsTold, with_last_turn, with_notes}
-use Rattle.check_scenes.specs.inside.Seen.{checker_come, sight_of}
+use Rattle.check_scenes.specs.inside.Noted.{LastTurnsTell, NotesTell, TurnsTold, with_last_turn, with_notes}
+use Rattle.check_scenes.specs.inside.Seen.{visit_checked, sight_of}
 
 -- what is unfolded: a program, the bytes of its names by their numbers, and its steps
 pub record Source : Type 0 where
@@ -48,7 +48,7 @@ module _ (g : Source) where
     pub state : UnfoldingState
     pub past : IsPast stages state
     pub shown : IsShown k state
-    pub told : Tells g.names (opening_state g.program.body) stages notes
+    pub told : NotesTell g.names (opening_state g.program.body) stages notes
     pub last_turns_tell : LastTurnsTell t (length k.steps) state.visits stages last_turns
 
   -- task t began with the steps from one index on, before another
@@ -112,7 +112,7 @@ module _ (g : Source) where
     pub stage : Stage
     pub next : IsNextStage g.program.two stages stage there
     pub fails : FailsAt there stage stop.fault
-    pub told : Tells g.names (opening_state g.program.body) stages notes
+    pub told : NotesTell g.names (opening_state g.program.body) stages notes
     pub place : IsAt stop.place stop.first stop.after stages stage there last_turns
 
   -- the visits of a task passed, or one of them is at fault
@@ -173,8 +173,8 @@ HasSource two names steps k notes last_turns = (program : Program) × (program.t
 -- a coming to a step passed, or is at fault: what is then kept, noted and counted
 abbrev pub CameTo : TaskId → Item → ℕ → ℕ → Result (Option Stop) NoMemory → Checker → List Note → List LastTurn → Checker → List Note → List LastTurn → Type 0
 CameTo t item first after (Ok None) k notes last_turns new new_notes new_last_turns =
-    (checker_come t.0 item.at item.step k ≡ Ok new) × (new_notes ≡ with_notes (sight_of k t item) notes) × (new_last_turns ≡ with_last_turn (sight_of k t item) last_turns)
+    (visit_checked t.0 item.at item.step k ≡ Ok new) × (new_notes ≡ with_notes (sight_of k t item) notes) × (new_last_turns ≡ with_last_turn (sight_of k t item) last_turns)
 CameTo t item first after (Ok (Some stop)) k notes last_turns new new_notes new_last_turns =
-    (checker_come t.0 item.at item.step k ≡ Err stop.fault) × (new_notes ≡ notes) × (new_last_turns ≡ with_last_turn (sight_of k t item) last_turns)
+    (visit_checked t.0 item.at item.step k ≡ Err stop.fault) × (new_notes ≡ notes) × (new_last_turns ≡ with_last_turn (sight_of k t item) last_turns)
     × (stop.place ≡ p.Visit (sight_of k t item)) × (stop.first ≡ first) × (stop.after ≡ after)
 CameTo t item first after (Err e) k notes last_turns new new_notes new_last_turns = Unit {0}

@@ -18,16 +18,16 @@ use Rattle.check_scenes.specs.declared.sight.Sight.{Sight}
 use Rattle.check_scenes.specs.inside.Noted.{task_in}
 
 -- the first name of a step
-abbrev pub first_of : Step → Option NameId
-first_of (a_step.NewTask x) = None
-first_of (a_step.NewPhaser x) = None
-first_of (a_step.Fork x after) = Some x
-first_of (a_step.Reg x y) = Some x
-first_of (a_step.Dereg x) = Some x
-first_of (a_step.Adv x) = Some x
-first_of (a_step.Await x off) = Some x
-first_of a_step.Skip = None
-first_of (a_step.Loop k after steady) = None
+abbrev pub first_name_of : Step → Option NameId
+first_name_of (a_step.NewTask x) = None
+first_name_of (a_step.NewPhaser x) = None
+first_name_of (a_step.Fork x after) = Some x
+first_name_of (a_step.Reg x y) = Some x
+first_name_of (a_step.Dereg x) = Some x
+first_name_of (a_step.Adv x) = Some x
+first_name_of (a_step.Await x off) = Some x
+first_name_of a_step.Skip = None
+first_name_of (a_step.Loop k after steady) = None
 
 -- its second name
 abbrev pub second_of : Step → Option NameId
@@ -55,9 +55,9 @@ abbrev pub sight_of : Checker → TaskId → Item → Sight
 sight_of k t item = record {
   t = t;
   item = item;
-  x = thing_seen k (first_of item.step);
+  x = thing_seen k (first_name_of item.step);
   y = thing_seen k (second_of item.step);
-  parent = parent_seen k (thing_seen k (first_of item.step));
+  parent = parent_seen k (thing_seen k (first_name_of item.step));
   tasks = length k.parents;
   phasers = length k.makers;
 }
@@ -80,8 +80,8 @@ checker_do t n a_step.Skip k = checker_act t n a_step.Skip k
 checker_do t n (a_step.Loop i after steady) k = checker_act t n (a_step.Loop i after steady) k
 
 -- a visit
-abbrev pub checker_come : ℕ → ℕ → Step → Checker → Outcome Checker
-checker_come t at step k = checker_count (at + 1) k >>= checker_do t (at + 1) step
+abbrev pub visit_checked : ℕ → ℕ → Step → Checker → Outcome Checker
+visit_checked t at step k = checker_count (at + 1) k >>= checker_do t (at + 1) step
 
 -- what was left is what this gives, or the fault is the one that this gives, unless memory ran out
 abbrev pub VisitGives : Result (Option CheckFault) NoMemory → Outcome Checker → Checker → Type 0

@@ -151,16 +151,16 @@ enters (a_step.Await x off) at n = None
 enters a_step.Skip at n = None
 
 -- the index behind a statement with its body
-abbrev pub behind : Step → ℕ → ℕ
-behind (a_step.Loop k after steady) at = after
-behind (a_step.Fork x after) at = after
-behind (a_step.NewTask x) at = at + 1
-behind (a_step.NewPhaser x) at = at + 1
-behind (a_step.Reg x y) at = at + 1
-behind (a_step.Dereg x) at = at + 1
-behind (a_step.Adv x) at = at + 1
-behind (a_step.Await x off) at = at + 1
-behind a_step.Skip at = at + 1
+abbrev pub index_behind : Step → ℕ → ℕ
+index_behind (a_step.Loop k after steady) at = after
+index_behind (a_step.Fork x after) at = after
+index_behind (a_step.NewTask x) at = at + 1
+index_behind (a_step.NewPhaser x) at = at + 1
+index_behind (a_step.Reg x y) at = at + 1
+index_behind (a_step.Dereg x) at = at + 1
+index_behind (a_step.Adv x) at = at + 1
+index_behind (a_step.Await x off) at = at + 1
+index_behind a_step.Skip at = at + 1
 
 -- the turns of the loops around statement n, in the statements of these steps from one index on, before another
 abbrev pub AreTurns : List Step → ℕ → ℕ → List LastTurn → ℕ → ℕ → List LoopTurn → Type 0

@@ -10,7 +10,7 @@ use Rattle.clock_syntax.specs.Trees.{ClockTree}
 use Rattle.clock_moves.specs.Moves.{Standing}
 use Rattle.clock_moves.specs.Unfolding.{Current, ClockStart}
 use Rattle.indexmap.specs.IndexSet.{insert_key}
-use Rattle.pl_plan.specs.MemberRows.{marked}
+use Rattle.pl_plan.specs.calls.MemberRows.{marked}
 
 -- what is known of an activity: the clock of each name, by the name's number; rows of members and of pending clocks, by number; and the finishes that govern
 -- it, the innermost first
@@ -46,8 +46,8 @@ pub record ClockChecker : Type 0 where
 -- ---- what it means
 
 -- the names, as their bytes
-abbrev pub spelled : List (Bor (List ℕ)) → List (List ℕ)
-spelled keys = map (λ (b : Bor (List ℕ)). b.now) keys
+abbrev pub spelled_names : List (Bor (List ℕ)) → List (List ℕ)
+spelled_names keys = map (λ (b : Bor (List ℕ)). b.now) keys
 
 -- the number of a clock, if there is one
 abbrev pub clock_number : Option PhaserId → Option ℕ

@@ -15,12 +15,12 @@ use Rattle.clock_syntax.specs.Trees.{ClockPlain, ClockTree, clock, advance, resu
 use Rattle.clock_moves.specs.Moves.{Move, advances, begins, drops, ends, opens, ops_of, resumes, starts, stops}
 use Rattle.clock_moves.specs.Unfolding.{ClockComing, ClockPart, a_plain, an_async, a_finish, a_close, a_loop, a_turn, Current, as_clock, clock_of, clocks_of, coming, comings_of, innermost, not_registered, numbers_of, too_many_activities, too_many_clock_cells, too_many_clock_ops, too_many_clock_visits, too_many_clocks}
 use Rattle.pl_plan.specs.Limits.{max_visits}
-use Rattle.pl_plan.specs.MemberRows.{marked}
+use Rattle.pl_plan.specs.calls.MemberRows.{marked}
 use Rattle.pl_plan.specs.Unfolding.{Outcome, ◌>>=◌, fault_unless, has_cells, phaser, task}
 use Rattle.clock_pl.specs.declared.fault.ClockEnd.{ClockEnd}
 use Rattle.clock_pl.specs.declared.fault.ClockEnd.TheVariants as ends_by
 use Rattle.clock_pl.specs.declared.fault.ClockFault.{ClockFault}
-use Rattle.clock_pl.specs.ClockPlanning.{as_fault}
+use Rattle.clock_pl.specs.calls.ClockPlanning.{as_fault}
 use Rattle.clock_pl.specs.inside.ClockChecker.{ClockChecker, KeptKnown, KeptStart, clocks_with, current, marked_all, names_with, standing_by_rows}
 
 -- ---- moves

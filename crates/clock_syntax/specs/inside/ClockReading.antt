@@ -10,7 +10,7 @@ use Rattle.pl_syntax.specs.inside.Reading.{◌>>=◌, unexpected, sign_at, name_
 use Rattle.clock_syntax.specs.declared.tree.ClockStmt.{ClockStmt}
 use Rattle.clock_syntax.specs.declared.tree.ClockStmt.TheVariants as s
 use Rattle.clock_syntax.specs.Trees.{ClockTree}
-use Rattle.clock_syntax.specs.Bodies.{clock_tree_of}
+use Rattle.clock_syntax.specs.calls.Bodies.{clock_tree_of}
 use Rattle.clock_syntax.specs.Grammar.{clock_scan}
 
 -- what reads statements of the language of clocks

@@ -6,7 +6,7 @@ use Rattle.clock_syntax.specs.declared.tree.ClockStmt.{ClockStmt}
 use Rattle.clock_syntax.specs.declared.tree.ClockStmt.TheVariants.{Clock, Async, Finish, Advance, Resume, Drop, Loop, Skip}
 use Rattle.clock_syntax.specs.declared.tree.ClockBody.TheDeep.{deep-ClockStmt}
 use Rattle.clock_syntax.specs.Trees.{ClockTree, clock_count}
-use Rattle.clock_syntax.specs.Bodies.{clock_followed_by, clock_tree_of}
+use Rattle.clock_syntax.specs.calls.Bodies.{clock_followed_by, clock_tree_of}
 
 one : (s : ClockStmt) (rest : ClockTree) →
     (deep-ClockStmt s ≤ clock_count (clock_followed_by s rest)) × (clock_count rest ≤ clock_count (clock_followed_by s rest))

@@ -4,7 +4,7 @@ use Rattle.armus_base.specs.declared.event.Event.{Event}
 use Rattle.armus_base.specs.declared.status.Member.{Member}
 use Rattle.armus_base.specs.declared.status.Status.{Status}
 use Rattle.armus_base.specs.Statuses.{Impedes, IsAwaited}
-use Rattle.dep_state.specs.Deps.{IsEventBefore}
+use Rattle.dep_state.specs.calls.Deps.{IsEventBefore}
 
 -- the places below n of the statuses whose tasks impede the event, ascending
 pub record IsImpederRow (ss : List Status) (e : Event) (n : ℕ) (row : List ℕ) : Type 0 where

@@ -1,6 +1,6 @@
 -- Tables of the next node of each node of a walk.
 use Rattle.std.specs.Prelude.{◌≡◌, ℕ, ◌<◌, Bool, true, false, List, length, All, slice_index, slice_index_or}
-use Rattle.digraph.specs.Cycle.{IsLeastSuccessor}
+use Rattle.digraph.specs.calls.Cycle.{IsLeastSuccessor}
 
 -- the next one of each of the first n nodes, among m nodes: a step along S
 pub record AreNext (S : ℕ → ℕ → Type 0) (m n : ℕ) (next : List ℕ) : Type 0 where

@@ -2,7 +2,7 @@
 use Rattle.std.specs.Prelude.{◌≡◌, ◌^◌, ℕ, ◌<◌, List, length, All}
 use Rattle.std.specs.List.{sum_by}
 use Rattle.armus_base.specs.Counts.{IsCount}
-use Rattle.digraph.specs.Graph.{HasEdge, Ascends}
+use Rattle.digraph.specs.calls.Graph.{HasEdge, Ascends}
 
 -- what is true of a node's successors among n nodes: they ascend, and each is a node
 abbrev pub IsRow : ℕ → List ℕ → Type 0

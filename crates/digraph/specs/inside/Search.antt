@@ -1,7 +1,7 @@
 -- What a search for cycles knows, while the nodes on its stack are a walk.
 use Rattle.std.specs.Prelude.{◌-◌, ◌*◌, sum, count_by, Bool, true, false, ◌≡◌, ℕ, ◌+◌, ◌<◌, ◌≤◌, List, [], length, Contains, All, slice_index, slice_index_or}
-use Rattle.armus_base.specs.Relations.{ReachesCycle, IsInClosedSet}
-use Rattle.digraph.specs.Graph.{HasEdge}
+use Rattle.armus_base.specs.calls.Relations.{ReachesCycle, IsInClosedSet}
+use Rattle.digraph.specs.calls.Graph.{HasEdge}
 use Rattle.digraph.specs.declared.search.Mark.{Mark}
 use Rattle.digraph.specs.declared.search.Mark.TheVariants.{Unvisited, OnStack, Acyclic, Cyclic}
 

@@ -6,7 +6,7 @@ use Rattle.armus_base.specs.States.{Phases}
 use Rattle.task_sayings.specs.Facts.{FactsValue}
 use Rattle.explained_tasks.specs.Paragraphs.{lines_of_impeders, own_lines}
 use Rattle.task_sayings.specs.Sayings.{Said}
-use Rattle.task_sayings.specs.SayingValues.{said_by}
+use Rattle.task_sayings.specs.calls.SayingValues.{said_by}
 use Rattle.task_sayings.specs.declared.saying.Saying.{Saying}
 
 -- what is written of each saying with its group

@@ -2,12 +2,12 @@
 use Rattle.std.specs.Prelude.{List, ◌++◌, Option, filter, map}
 use Rattle.armus_base.specs.declared.ids.TaskId.{TaskId}
 use Rattle.task_sayings.specs.Facts.{FactsValue}
-use Rattle.explained_tasks.specs.ImpederLines.{is_task}
+use Rattle.explained_tasks.specs.ImpederLines.{is_this_impeder}
 use Rattle.explained_tasks.specs.Paragraphs.{explained_tasks, shown_waiting}
 use Rattle.task_sayings.specs.Sayings.{Said, impeder_said, own_said}
 use Rattle.task_sayings.specs.declared.grouping.Grouping.{Grouping}
 use Rattle.task_sayings.specs.declared.impeders.Impeder.{Impeder}
-use Rattle.task_sayings.specs.Grouped.{IsGrouped, Told}
+use Rattle.task_sayings.specs.calls.Grouped.{IsGrouped, Told}
 
 -- a task, and what its paragraph says of it
 abbrev pub own_told : FactsValue → TaskId → Told
@@ -29,4 +29,4 @@ AreParagraphs f shown g =
 -- the groups of these impeders, the next of the paragraph's tasks first
 abbrev pub AreImpederGroups : FactsValue → Option TaskId → List Impeder → Grouping → Type 0
 AreImpederGroups f next impeders g =
-    IsGrouped (map (impeder_said f) (filter (is_task next) impeders ++ impeders)) (map (impeder_told f) impeders) g
+    IsGrouped (map (impeder_said f) (filter (is_this_impeder next) impeders ++ impeders)) (map (impeder_told f) impeders) g

@@ -11,7 +11,7 @@ ClosesIn path t (Circle shown) = (at : ℕ) × (at < length path) × ((d : TaskI
 ClosesIn path t (Chain held last) = ⊥
 
 -- the path has come to its end, task t, and the verdict shows the task before it, and it
-abbrev pub EndsIn : List TaskId → TaskId → Verdict → Type 0
-EndsIn path t Nobody = ⊥
-EndsIn path t (Circle shown) = ⊥
-EndsIn path t (Chain held last) = ((d : TaskId) → slice_index_or path (length path - 1) d ≡ held) × (last ≡ t)
+abbrev pub WalkEndsIn : List TaskId → TaskId → Verdict → Type 0
+WalkEndsIn path t Nobody = ⊥
+WalkEndsIn path t (Circle shown) = ⊥
+WalkEndsIn path t (Chain held last) = ((d : TaskId) → slice_index_or path (length path - 1) d ≡ held) × (last ≡ t)

@@ -17,8 +17,8 @@ abbrev pub tasks_by : (ℕ → ℕ) → ℕ → List TaskId
 tasks_by bits n = given_below (λ k. task_if (bits k) k) n
 
 -- the tasks whose bits are 1
-abbrev pub tasks_in : List ℕ → List TaskId
-tasks_in words = tasks_by (bit_of words) (64 * length words)
+abbrev pub tasks_by_bits : List ℕ → List TaskId
+tasks_by_bits words = tasks_by (bit_of words) (64 * length words)
 
 -- a bit that is 1 in the first words and 0 in the others
 abbrev pub bit_less : List ℕ → List ℕ → ℕ → ℕ

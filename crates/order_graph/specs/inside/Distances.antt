@@ -1,8 +1,8 @@
 -- How many edges lead from tasks to a goal.
 use Rattle.std.specs.Prelude.{◌≡◌, ◌⊎◌, ℕ, ◌+◌, ◌-◌, ◌<◌, ◌≤◌, List, Option, None, length, Contains, All, MatchOption, slice_index_or, nat_lt, if◌then◌else◌}
 use Rattle.armus_base.specs.declared.ids.TaskId.{TaskId}
-use Rattle.armus_base.specs.Relations.{Walk}
-use Rattle.order_graph.specs.Orders.{OrderValue, IsEdge, IsTaskOf, position_of}
+use Rattle.armus_base.specs.calls.Relations.{Walk}
+use Rattle.order_graph.specs.calls.Orders.{OrderValue, IsEdge, IsTaskOf, position_of}
 use Rattle.order_graph.specs.declared.distances.Near.{Near}
 
 -- no walk leads from a task to the goal

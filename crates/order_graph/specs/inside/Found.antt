@@ -1,7 +1,7 @@
 -- What was found of an edge that goes down.
 use Rattle.armus_base.specs.declared.ids.TaskId.{TaskId}
-use Rattle.order_graph.specs.Adding.{IsNearestWalk}
-use Rattle.order_graph.specs.Orders.{OrderValue}
+use Rattle.order_graph.specs.calls.Adding.{IsNearestWalk}
+use Rattle.order_graph.specs.calls.Orders.{OrderValue}
 use Rattle.order_graph.specs.declared.mending.Found.{Found}
 use Rattle.order_graph.specs.declared.mending.Found.TheVariants.{Walk, Mended}
 use Rattle.order_graph.specs.inside.Distances.{NeverReaches}

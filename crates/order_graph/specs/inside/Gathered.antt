@@ -1,7 +1,7 @@
 -- The sets of tasks that impede events, and which set is each task's own.
 use Rattle.std.specs.Prelude.{◌≡◌, ◌↔◌, ◌⊎◌, ◌<◌, ◌+◌, ℕ, List, [], length, Contains, slice_index, slice_index_or}
 use Rattle.armus_base.specs.declared.ids.TaskId.{TaskId}
-use Rattle.dep_state.specs.Deps.{Deps, impeders_of}
+use Rattle.dep_state.specs.calls.Deps.{Deps, impeders_of}
 use Rattle.dep_state.specs.inside.Names.{named}
 
 -- the set at a place has the tasks that impede the event there

@@ -1,7 +1,7 @@
 -- A stretch of an order whose tasks are put into another order.
 use Rattle.std.specs.Prelude.{◌≡◌, ◌↔◌, ℕ, ◌+◌, ◌<◌, ◌≤◌, List, length, All, AllPairs, Contains, slice_index_or}
 use Rattle.armus_base.specs.declared.ids.TaskId.{TaskId}
-use Rattle.order_graph.specs.Orders.{OrderValue, IsEdge, IsTaskOf, position_of}
+use Rattle.order_graph.specs.calls.Orders.{OrderValue, IsEdge, IsTaskOf, position_of}
 
 -- a task of the stretch: its position lies between those of b and a
 abbrev pub IsBetween : OrderValue → TaskId → TaskId → TaskId → Type 0

@@ -1,7 +1,7 @@
 -- The memory of an order: the task at each position beside each task's position, and rows of successors.
 use Rattle.std.specs.Prelude.{◌≡◌, ◌↔◌, ◌⊎◌, ℕ, ◌+◌, ◌<◌, ◌≤◌, List, length, Contains, slice_index, slice_index_or}
 use Rattle.armus_base.specs.declared.ids.TaskId.{TaskId}
-use Rattle.order_graph.specs.Orders.{OrderValue, IsEdge}
+use Rattle.order_graph.specs.calls.Orders.{OrderValue, IsEdge}
 
 -- the order that rows and positions are
 abbrev pub order_of : List (List TaskId) → List ℕ → OrderValue

@@ -1,8 +1,8 @@
 -- What is left to be done before an order has followed a relation.
 use Rattle.std.specs.Prelude.{◌≡◌, ◌↔◌, ◌⊎◌, ℕ, ◌<◌, List, Contains}
 use Rattle.armus_base.specs.declared.ids.TaskId.{TaskId}
-use Rattle.armus_base.specs.Relations.{Walk}
-use Rattle.order_graph.specs.Orders.{OrderValue, IsEdge, position_of}
+use Rattle.armus_base.specs.calls.Relations.{Walk}
+use Rattle.order_graph.specs.calls.Orders.{OrderValue, IsEdge, position_of}
 use Rattle.order_graph.specs.declared.answers.Followed.{Followed}
 use Rattle.order_graph.specs.declared.answers.Followed.TheVariants.{Kept, Dead}
 

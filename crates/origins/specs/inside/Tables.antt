@@ -52,8 +52,8 @@ coming_of (s.Fork x body) = a_fork x body
 coming_of (s.Loop k body) = a_loop
 
 -- statements that are kept, as they are come to
-abbrev pub comings_of : List (Bor Stmt) → List Coming
-comings_of rows = map (λ (row : Bor Stmt). coming_of row.now) rows
+abbrev pub kept_comings : List (Bor Stmt) → List Coming
+kept_comings rows = map (λ (row : Bor Stmt). coming_of row.now) rows
 
 -- the body of a statement, where it is a fork
 abbrev pub body_of : Option Coming → Option Tree

@@ -2,10 +2,10 @@
 use Rattle.std.specs.Prelude.{◌≡◌, ◌≢◌, ℕ}
 use Rattle.armus_base.specs.Finals.{is_event_of}
 use Rattle.armus_base.specs.Places.{some_before}
-use Rattle.board.specs.Seats.{Known}
+use Rattle.board.specs.calls.Seats.{Known}
 use Rattle.phase_scan.specs.declared.findings.Findings.{Findings}
-use Rattle.phase_scan.specs.Collects.{LoadsAwaits, LoadsRow}
-use Rattle.phase_scan.specs.Tables.{awaited_in_findings, event_for, phases_in_found}
+use Rattle.phase_scan.specs.calls.Collects.{LoadsAwaits, LoadsRow}
+use Rattle.phase_scan.specs.calls.Tables.{awaited_in_findings, event_for, phases_in_found}
 
 -- the await words of all tasks were loaded, in order; their events are kept, and just the phasers of these are marked
 pub record KeepsAwaits (old new : Findings) (before now : Known) : Type 0 where

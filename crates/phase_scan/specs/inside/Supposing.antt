@@ -6,9 +6,9 @@ use Rattle.armus_base.specs.declared.status.Status.{Status}
 use Rattle.armus_base.specs.Finals.{given_below, listed_phase}
 use Rattle.armus_base.specs.States.{Phases, updated}
 use Rattle.phase_scan.specs.declared.findings.Findings.{Findings}
-use Rattle.board.specs.Seats.{Known}
-use Rattle.phase_scan.specs.Supposed.{LoadsColumn, phase_used}
-use Rattle.phase_scan.specs.Tables.{awaited_in_findings, event_for, state_of_findings, state_supposed, status_found}
+use Rattle.board.specs.calls.Seats.{Known}
+use Rattle.phase_scan.specs.calls.Supposed.{LoadsColumn, phase_used}
+use Rattle.phase_scan.specs.calls.Tables.{awaited_in_findings, event_for, state_of_findings, state_supposed, status_found}
 use Rattle.phase_scan.specs.inside.Phases.{phase_in}
 
 -- the phasers found awaited, and p

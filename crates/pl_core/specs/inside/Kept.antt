@@ -8,8 +8,8 @@ use Rattle.pl_core.specs.declared.phase_table.PhaseTable.{PhaseTable}
 use Rattle.pl_core.specs.inside.Enrolling.{HasCells}
 use Rattle.pl_core.specs.inside.PhaseTables.{phases_in}
 use Rattle.pl_core.specs.inside.KeptTasks.{IsKeptOf}
-use Rattle.pl_core.specs.Worlds.{places_of, state_of}
-use Rattle.pl_core.specs.Tables.{world_from}
+use Rattle.pl_core.specs.calls.Worlds.{places_of, state_of}
+use Rattle.pl_core.specs.calls.Tables.{world_from}
 
 -- what is kept is what the state says, and a legal run leads to it
 pub record KeepsState (plan : Plan) (tasks : List Task) (table : PhaseTable) : Type 0 where

@@ -2,7 +2,7 @@
 use Rattle.std.specs.Prelude.{◌≡◌, ℕ, ◌<◌, ◌≤◌, List, Option, Some, None, length}
 use Rattle.pl_core.specs.declared.cell.Cell.{Cell}
 use Rattle.pl_core.specs.declared.least.Least.{Least}
-use Rattle.pl_core.specs.inside.Cells.{phase_at}
+use Rattle.pl_core.specs.inside.Cells.{phase_in_cell}
 
 -- there is a phase, and it is at most m
 abbrev pub IsAtMost : Option ℕ → ℕ → Type 0
@@ -15,8 +15,8 @@ IsLeastBelow f k None = (u : ℕ) → u < k → f u ≡ None
 IsLeastBelow f k (Some l) = (l.at < k) × (f l.at ≡ Some l.phase) × ((u m : ℕ) → u < k → f u ≡ Some m → l.phase ≤ m)
 
 -- what is kept is a cell whose phase no other one is below, and without one none has a phase
-pub record IsLeast (cells : List Cell) (least : Option Least) : Type 0 where
+pub record IsLeastCell (cells : List Cell) (least : Option Least) : Type 0 where
   pub within : (l : Least) → least ≡ Some l → l.at < length cells
-  pub there : (l : Least) → least ≡ Some l → phase_at cells l.at ≡ Some l.phase
-  pub bound : (l : Least) (u m : ℕ) → least ≡ Some l → u < length cells → phase_at cells u ≡ Some m → l.phase ≤ m
-  pub none : (u : ℕ) → least ≡ None → u < length cells → phase_at cells u ≡ None
+  pub there : (l : Least) → least ≡ Some l → phase_in_cell cells l.at ≡ Some l.phase
+  pub bound : (l : Least) (u m : ℕ) → least ≡ Some l → u < length cells → phase_in_cell cells u ≡ Some m → l.phase ≤ m
+  pub none : (u : ℕ) → least ≡ None → u < length cells → phase_in_cell cells u ≡ None

@@ -18,7 +18,7 @@ use Rattle.pl_core.specs.inside.Enrolling.{HasCells}
 use Rattle.pl_core.specs.inside.PhaseTables.{phases_in}
 use Rattle.pl_core.specs.Tasks.{actions_before}
 use Rattle.pl_core.specs.inside.KeptTasks.{begun, event_in}
-use Rattle.pl_core.specs.Worlds.{places_at}
+use Rattle.pl_core.specs.calls.Worlds.{places_at}
 
 -- of the places a: those of the tasks below t, and no other task has made a step
 abbrev pub walked : (ℕ → Place) → ℕ → ℕ → Place

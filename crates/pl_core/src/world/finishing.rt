@@ -2,8 +2,8 @@
 ghost use Rattle.std.specs.Prelude.{◌≡◌, ℕ, ◌<◌, Some, IfOk, OnOk, length};
 ghost use Rattle.armus_base.specs.CheckedPlans.{IsCheckedPlan};
 ghost use Rattle.armus_base.specs.Runs.{IsReachable};
-ghost use Rattle.pl_core.specs.Worlds.{state_of, places_of};
-ghost use Rattle.pl_core.specs.Stands.{IsEnabled};
+ghost use Rattle.pl_core.specs.calls.Worlds.{state_of, places_of};
+ghost use Rattle.pl_core.specs.calls.Stands.{IsEnabled};
 ghost use Rattle.armus_base.specs.Finals.{end_of, final_of, list_below};
 
 use super::World;

@@ -1,9 +1,9 @@
 // Whom a task impedes, and who impedes an event.
 ghost use Rattle.std.specs.Prelude.{◌≡◌, ℕ, ◌<◌, ◌≤◌, IsTrue, MatchBool, MatchOption, length};
-ghost use Rattle.pl_core.specs.HighestPhases.{ImpedesNobody, IsPublishedImpeder};
+ghost use Rattle.pl_core.specs.calls.HighestPhases.{ImpedesNobody, IsPublishedImpeder};
 ghost use Rattle.pl_core.specs.inside.Highest.{highest_at};
 ghost use Rattle.armus_base.specs.States.{if_published};
-ghost use Rattle.pl_core.specs.Worlds.{state_of};
+ghost use Rattle.pl_core.specs.calls.Worlds.{state_of};
 
 use super::World;
 use armus_base::{Event, Phase, PhaserId, TaskId};

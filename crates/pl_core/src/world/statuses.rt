@@ -2,9 +2,10 @@
 ghost use Rattle.std.specs.Prelude.{◌≡◌, ℕ, ◌<◌, Some, IfOk, IfSome, length};
 ghost use Rattle.armus_base.specs.declared.event.Event.{Event};
 ghost use Rattle.armus_base.specs.States.{if_published};
-ghost use Rattle.pl_core.specs.Worlds.{state_of};
-ghost use Rattle.armus_base.specs.Finals.{given_below, is_awaited, listed_phase, statuses_of, statuses_on};
-ghost use Rattle.pl_core.specs.Awaiting.{awaited_statuses};
+ghost use Rattle.pl_core.specs.calls.Worlds.{state_of};
+ghost use Rattle.armus_base.specs.Finals.{given_below, is_awaited, listed_phase, statuses_on};
+ghost use Rattle.armus_base.specs.calls.Finals.{statuses_of};
+ghost use Rattle.pl_core.specs.calls.Awaiting.{awaited_statuses};
 ghost use Rattle.pl_core.specs.inside.Reading.{is_asked};
 ghost use Rattle.pl_core.specs.inside.Supposed.{with_also};
 

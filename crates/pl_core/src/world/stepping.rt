@@ -3,9 +3,9 @@ ghost use Rattle.std.specs.Prelude.{◌≡◌, ◌<◌, Some, length};
 ghost use Rattle.armus_base.specs.declared.event.Event.{Event};
 ghost use Rattle.armus_base.specs.Plans.{Forks};
 ghost use Rattle.armus_base.specs.States.{IsActive, IsReached};
-ghost use Rattle.pl_core.specs.Worlds.{state_of, action_by_code};
-ghost use Rattle.pl_core.specs.Stands.{IsAtAwaitOf, IsBeforeOp, IsEnabled};
-ghost use Rattle.pl_core.specs.Moves.{MakesRefusal, IsWorldStep};
+ghost use Rattle.pl_core.specs.calls.Worlds.{state_of, action_by_code};
+ghost use Rattle.pl_core.specs.calls.Stands.{IsAtAwaitOf, IsBeforeOp, IsEnabled};
+ghost use Rattle.pl_core.specs.calls.Moves.{MakesRefusal, IsWorldStep};
 ghost use Rattle.pl_core.specs.inside.Ops.{action_of, ChangesPhases};
 
 use super::World;

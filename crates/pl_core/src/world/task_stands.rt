@@ -7,8 +7,8 @@ ghost use Rattle.armus_base.specs.Plans.{code_of};
 ghost use Rattle.armus_base.specs.CheckedPlans.{IsCheckedPlan};
 ghost use Rattle.armus_base.specs.Runs.{IsReachable};
 ghost use Rattle.armus_base.specs.States.{event_on, IsActive, IsMember, IsReached};
-ghost use Rattle.pl_core.specs.Worlds.{state_of, places_of, action_by_code};
-ghost use Rattle.pl_core.specs.Stands.{StandsSo, IsEnabled, MayGoOn};
+ghost use Rattle.pl_core.specs.calls.Worlds.{state_of, places_of, action_by_code};
+ghost use Rattle.pl_core.specs.calls.Stands.{StandsSo, IsEnabled, MayGoOn};
 ghost use Rattle.pl_core.specs.inside.Ops.{action_of};
 ghost use Rattle.pl_core.specs.Tasks.{IsAtOp};
 

@@ -3,7 +3,7 @@ use Rattle.std.specs.Prelude.{◌≡◌, ℕ, ◌+◌, ◌-◌, ◌<◌, ◌≤�
 use Rattle.armus_base.specs.Limits.{max_tasks, max_phasers}
 use Rattle.armus_base.specs.declared.ids.TaskId.{TaskId}
 use Rattle.armus_base.specs.declared.op.Op.{Op}
-use Rattle.pl_plan.specs.MemberRows.{marked}
+use Rattle.pl_plan.specs.calls.MemberRows.{marked}
 use Rattle.pl_plan.specs.declared.step.Step.{Step}
 use Rattle.pl_plan.specs.inside.Steps.{IsList}
 use Rattle.pl_plan.specs.declared.step.Thing.{Thing}

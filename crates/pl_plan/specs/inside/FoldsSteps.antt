@@ -6,7 +6,7 @@ use Rattle.armus_base.specs.declared.op.Op.{Op}
 use Rattle.armus_base.specs.declared.piece.Piece.{Piece}
 use Rattle.armus_base.specs.Finals.{list_below}
 use Rattle.armus_base.specs.Limits.{max_ops}
-use Rattle.armus_base.specs.Pieces.{IsFolded}
+use Rattle.armus_base.specs.calls.Pieces.{IsFolded}
 use Rattle.pl_syntax.specs.Tree.{Tree}
 use Rattle.pl_plan.specs.declared.step.Step.{Step}
 use Rattle.pl_plan.specs.declared.step.Step.TheVariants as a_step

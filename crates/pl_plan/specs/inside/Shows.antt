@@ -56,19 +56,19 @@ pub record ShowsState (names : ℕ → List ℕ) (k : Checker) (s : UnfoldingSta
   pub visits : s.visits ≡ k.counts.visits
 
 -- where this is what the unfolding gives
-abbrev pub Follows : {A : Type 0} → Result A PlanEnd → Outcome UnfoldingState → (UnfoldingState → Type 0) → Type 0
-Follows (Ok r) outcome shows = (s : UnfoldingState) × (outcome ≡ Ok s) × shows s
-Follows (Err (ends.Check f)) outcome shows = outcome ≡ Err f
-Follows (Err ends.NoMemory) outcome shows = Unit {0}
+abbrev pub WhereUnfolded : {A : Type 0} → Result A PlanEnd → Outcome UnfoldingState → (UnfoldingState → Type 0) → Type 0
+WhereUnfolded (Ok r) outcome shows = (s : UnfoldingState) × (outcome ≡ Ok s) × shows s
+WhereUnfolded (Err (ends.Check f)) outcome shows = outcome ≡ Err f
+WhereUnfolded (Err ends.NoMemory) outcome shows = Unit {0}
 
 -- the steps from one index on, before another, follow the visits of the tree that they spell
 abbrev pub FollowsFrom : ℕ → ℕ → ℕ → Checker → Result (Unit {0}) PlanEnd → Checker → Type 0
 FollowsFrom from to t old r new =
     (names : ℕ → List ℕ) (s : UnfoldingState) (tree : Tree) → IsSpelled (length old.bindings.slots) names old.steps from tree to → ShowsState names old s →
-    Follows r (make_visits t (visits_of (from + 1) tree) s) (ShowsState names new)
+    WhereUnfolded r (make_visits t (visits_of (from + 1) tree) s) (ShowsState names new)
 
 -- the turns of the loop with this index follow the visits of its turns
 abbrev pub FollowsTurns : ℕ → ℕ → ℕ → ℕ → Checker → Result (Unit {0}) PlanEnd → Checker → Type 0
 FollowsTurns at after t turns old r new =
     (names : ℕ → List ℕ) (s : UnfoldingState) (tree : Tree) → IsSpelled (length old.bindings.slots) names old.steps (at + 1) tree after → ShowsState names old s →
-    Follows r (make_visits t (times turns (visit (at + 1) a_turn ∷ visits_of (at + 1 + 1) tree)) s) (ShowsState names new)
+    WhereUnfolded r (make_visits t (times turns (visit (at + 1) a_turn ∷ visits_of (at + 1 + 1) tree)) s) (ShowsState names new)

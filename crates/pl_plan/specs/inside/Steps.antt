@@ -2,7 +2,7 @@
 use Rattle.std.specs.Prelude.{◌≡◌, ℕ, ◌+◌, ◌<◌, ◌≤◌, List, slice_index_or}
 use Rattle.pl_syntax.specs.Tree.{Tree, done, plain, fork, loop, Plain, new_task, new_phaser, reg, dereg, adv, await, skip}
 use Rattle.armus_base.specs.Offsets.{IsNear}
-use Rattle.armus_base.specs.Pieces.{max_turns}
+use Rattle.armus_base.specs.calls.Pieces.{max_turns}
 use Rattle.pl_plan.specs.FoldedOps.{is_steady}
 use Rattle.pl_plan.specs.declared.step.NameId.{NameId}
 use Rattle.pl_plan.specs.declared.step.Step.{Step}

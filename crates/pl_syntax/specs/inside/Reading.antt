@@ -17,7 +17,7 @@ use Rattle.pl_syntax.specs.declared.tree.Program.{Program}
 use Rattle.pl_syntax.specs.declared.tree.Stmt.{Stmt}
 use Rattle.pl_syntax.specs.declared.tree.Stmt.TheVariants as s
 use Rattle.pl_syntax.specs.Tree.{Tree}
-use Rattle.pl_syntax.specs.Bodies.{tree_of}
+use Rattle.pl_syntax.specs.calls.Bodies.{tree_of}
 use Rattle.pl_syntax.specs.Grammar.{scan_of}
 use Rattle.pl_syntax.specs.Tokens.{Token, the_end, sign, word, name, number, front, place}
 
@@ -83,16 +83,16 @@ unfoldable pub name_at : Scan → List ℕ → Result (List ℕ × List ℕ) Syn
 name_at scan text = front scan text >>= λ x. name_in scan text x.0 x.1
 
 -- this token as a number
-abbrev pub number_in : Scan → List ℕ → Token → List ℕ → Result (ℕ × List ℕ) SyntaxFault
-number_in scan text (number n) rest = Ok (n, rest)
-number_in scan text the_end rest = Err (unexpected scan text)
-number_in scan text (sign _) rest = Err (unexpected scan text)
-number_in scan text (word _) rest = Err (unexpected scan text)
-number_in scan text (name _) rest = Err (unexpected scan text)
+abbrev pub number_read : Scan → List ℕ → Token → List ℕ → Result (ℕ × List ℕ) SyntaxFault
+number_read scan text (number n) rest = Ok (n, rest)
+number_read scan text the_end rest = Err (unexpected scan text)
+number_read scan text (sign _) rest = Err (unexpected scan text)
+number_read scan text (word _) rest = Err (unexpected scan text)
+number_read scan text (name _) rest = Err (unexpected scan text)
 
 -- a number, and what is left behind it
 unfoldable pub number_at : Scan → List ℕ → Result (ℕ × List ℕ) SyntaxFault
-number_at scan text = front scan text >>= λ x. number_in scan text x.0 x.1
+number_at scan text = front scan text >>= λ x. number_read scan text x.0 x.1
 
 -- whether a task is made, or a phaser
 abbrev pub maker_in : Scan → List ℕ → Token → List ℕ → Result (Bool × List ℕ) SyntaxFault
@@ -244,16 +244,16 @@ loop_at body scan depth text = do
   Ok (s.Loop n.0 b.0, b.1)
 
 -- the statement that this token begins; before is the text from that token on
-abbrev pub statement_in : Block → Scan → ℕ → Token → List ℕ → List ℕ → Result (Stmt × List ℕ) SyntaxFault
-statement_in body scan depth (name x) before text = drawing_at scan x text
-statement_in body scan depth (word k.Reg) before text = reg_at scan text
-statement_in body scan depth (word k.Dereg) before text = dereg_at scan text
-statement_in body scan depth (word k.Adv) before text = adv_at scan text
-statement_in body scan depth (word k.Await) before text = await_at scan text
-statement_in body scan depth (word k.Skip) before text = skip_at scan text
-statement_in body scan depth (word k.Fork) before text = fork_at body scan depth text
-statement_in body scan depth (word k.Loop) before text = loop_at body scan depth text
-statement_in body scan depth _ before text = Err (unexpected scan before)
+abbrev pub statement_read : Block → Scan → ℕ → Token → List ℕ → List ℕ → Result (Stmt × List ℕ) SyntaxFault
+statement_read body scan depth (name x) before text = drawing_at scan x text
+statement_read body scan depth (word k.Reg) before text = reg_at scan text
+statement_read body scan depth (word k.Dereg) before text = dereg_at scan text
+statement_read body scan depth (word k.Adv) before text = adv_at scan text
+statement_read body scan depth (word k.Await) before text = await_at scan text
+statement_read body scan depth (word k.Skip) before text = skip_at scan text
+statement_read body scan depth (word k.Fork) before text = fork_at body scan depth text
+statement_read body scan depth (word k.Loop) before text = loop_at body scan depth text
+statement_read body scan depth _ before text = Err (unexpected scan before)
 
 -- a list of statements ends before these tokens
 abbrev pub ends_list : Token → Bool
@@ -293,11 +293,11 @@ whole_by tree one scan text = do
 
 -- the statements of PL up to the end of a body or of the text
 abbrev pub statements_at : ℕ → Scan → Block
-statements_at n scan depth text = statements_by statement_in n scan depth text
+statements_at n scan depth text = statements_by statement_read n scan depth text
 
 -- the statements of a whole text of PL, of which this is left behind the header
 abbrev pub body_at : Scan → List ℕ → Result Tree SyntaxFault
-body_at scan text = whole_by tree_of statement_in scan text
+body_at scan text = whole_by tree_of statement_read scan text
 
 -- this token is the name `pl`
 abbrev pub is_pl : Token → Bool

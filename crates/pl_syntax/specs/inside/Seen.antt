@@ -5,7 +5,7 @@ use Rattle.pl_syntax.specs.declared.fault.SyntaxFault.{SyntaxFault}
 use Rattle.pl_syntax.specs.declared.scan.Language.{Language}
 use Rattle.pl_syntax.specs.declared.token.Token as token
 use Rattle.pl_syntax.specs.declared.token.Token.TheVariants as t
-use Rattle.pl_syntax.specs.Words.{IsNameIn}
+use Rattle.pl_syntax.specs.calls.Words.{IsNameIn}
 use Rattle.pl_syntax.specs.Tokens.{Token, the_end, sign, word, name, number, Front}
 
 -- the reader's token as a token of the language

@@ -2,17 +2,17 @@
 use Rattle.std.specs.Prelude.{ℕ, Bool, ◌-◌, List, [], ◌∷◌, ◌++◌, length, take, Option, Some, None}
 use Rattle.pl_syntax.specs.declared.token.Sign.TheVariants.{OpenBrace, CloseBrace}
 use Rattle.pl_syntax.specs.Tokens.{Token, sign}
-use Rattle.refusals.specs.Stands.{IsClosed, IsInnermost}
+use Rattle.refusals.specs.Stands.{IsBalanced, IsInnermost}
 
 -- these are the places of all braces that are open behind the tokens, the innermost one first
-abbrev pub AreOpen : List ℕ → Bool → List Token → List ℕ → Type 0
-AreOpen text two ts [] = IsClosed ts
-AreOpen text two ts (at ∷ more) = (i : IsInnermost text two ts at) × AreOpen text two i.ahead more
+abbrev pub AreOpenBraces : List ℕ → Bool → List Token → List ℕ → Type 0
+AreOpenBraces text two ts [] = IsBalanced ts
+AreOpenBraces text two ts (at ∷ more) = (i : IsInnermost text two ts at) × AreOpenBraces text two i.ahead more
 
 -- the innermost one of these
-abbrev pub first_of : List ℕ → Option ℕ
-first_of [] = None
-first_of (at ∷ more) = Some at
+abbrev pub first_brace : List ℕ → Option ℕ
+first_brace [] = None
+first_brace (at ∷ more) = Some at
 
 -- the stack behind one more token, where its last one is the innermost brace
 abbrev pub braces_after : Token → ℕ → List ℕ → List ℕ

@@ -9,23 +9,23 @@ use Rattle.refusals.specs.declared.wanted.Wanted.{Wanted}
 use Rattle.refusals.specs.declared.wanted.Wanted.TheVariants as w
 
 -- `;`
-abbrev pub ended : List Shape
-ended = s.Sign Semicolon ∷ []
+abbrev pub then_semicolon : List Shape
+then_semicolon = s.Sign Semicolon ∷ []
 
 -- `( name ) ;`
-abbrev pub named : List Shape
-named = s.Sign OpenParen ∷ s.Name ∷ s.Sign CloseParen ∷ ended
+abbrev pub then_named : List Shape
+then_named = s.Sign OpenParen ∷ s.Name ∷ s.Sign CloseParen ∷ then_semicolon
 
 -- what a statement waits for behind this first token
 abbrev pub shapes_behind : Token → List Shape
-shapes_behind (name x) = s.Sign Equals ∷ s.Maker ∷ s.Sign OpenParen ∷ s.Sign CloseParen ∷ ended
-shapes_behind (word k.Reg) = s.Sign OpenParen ∷ s.Name ∷ s.Sign Comma ∷ s.Name ∷ s.Sign CloseParen ∷ ended
-shapes_behind (word k.Dereg) = named
-shapes_behind (word k.Adv) = named
-shapes_behind (word k.Await) = s.Sign OpenParen ∷ s.Name ∷ s.Offset ∷ ended
+shapes_behind (name x) = s.Sign Equals ∷ s.Maker ∷ s.Sign OpenParen ∷ s.Sign CloseParen ∷ then_semicolon
+shapes_behind (word k.Reg) = s.Sign OpenParen ∷ s.Name ∷ s.Sign Comma ∷ s.Name ∷ s.Sign CloseParen ∷ then_semicolon
+shapes_behind (word k.Dereg) = then_named
+shapes_behind (word k.Adv) = then_named
+shapes_behind (word k.Await) = s.Sign OpenParen ∷ s.Name ∷ s.Offset ∷ then_semicolon
 shapes_behind (word k.Fork) = s.Sign OpenParen ∷ s.Name ∷ s.Sign CloseParen ∷ s.Sign OpenBrace ∷ []
 shapes_behind (word k.Loop) = s.Number ∷ s.Sign OpenBrace ∷ []
-shapes_behind (word k.Skip) = ended
+shapes_behind (word k.Skip) = then_semicolon
 shapes_behind _ = []
 
 -- + or -
@@ -36,7 +36,7 @@ is_offset_sign _ = false
 
 -- what is waited for behind a token of this shape, where these follow it
 abbrev pub shapes_on : Shape → List Shape → Token → List Shape
-shapes_on s.Offset rest t = if is_offset_sign t then s.Number ∷ s.Sign CloseParen ∷ ended else rest
+shapes_on s.Offset rest t = if is_offset_sign t then s.Number ∷ s.Sign CloseParen ∷ then_semicolon else rest
 shapes_on shape rest t = rest
 
 -- what is waited for behind one more token, where these were

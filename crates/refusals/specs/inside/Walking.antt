@@ -5,7 +5,7 @@ use Rattle.pl_syntax.specs.Tokens.{Token, Leads, place}
 use Rattle.pl_syntax.specs.Grammar.{Begins, HasFault, scan_of}
 
 -- behind these tokens of statements, which go on, stands byte `at` of the text; and what begins texts behind them begins lists of statements
-pub record ComesTo (text : List ℕ) (two : Bool) (body : List ℕ) (at : ℕ) (before : List Token) : Type 0 where
+pub record WalkComesTo (text : List ℕ) (two : Bool) (body : List ℕ) (at : ℕ) (before : List Token) : Type 0 where
   pub left : List ℕ
   pub reads : Leads (scan_of two text) body before left
   pub goes_on : (t : Token) × Begins true (before ++ t ∷ [])

@@ -3,7 +3,7 @@ use Rattle.std.specs.Prelude.{◌≡◌, List}
 use Rattle.armus_base.specs.CheckedPlans.{IsCheckedPlan}
 use Rattle.armus_base.specs.Runs.{IsPlainRun, places}
 use Rattle.armus_base.specs.States.{Step}
-use Rattle.pl_core.specs.Worlds.{WorldValue, places_of}
+use Rattle.pl_core.specs.calls.Worlds.{WorldValue, places_of}
 
 -- the world is of a checked plan, and stands where this plain run of it leads
 pub record IsAt (w : WorldValue) (h : List Step) : Type 0 where

@@ -1,9 +1,9 @@
 -- What is gathered of the first sites.
 use Rattle.std.specs.Prelude.{◌≡◌, ℕ, ◌+◌, ◌*◌, ◌^◌, ◌<◌, ◌≤◌, List, [], ◌++◌, All, AllPairs, Option, Some, None, length}
 use Rattle.armus_base.specs.declared.status.Status.{Status}
-use Rattle.sites.specs.Checks.{IsBadAt, IsStored, part_of}
-use Rattle.sites.specs.Keeping.{held}
-use Rattle.sites.specs.Rows.{IsRowOf}
+use Rattle.sites.specs.calls.Checks.{IsBadAt, IsStored, part_of}
+use Rattle.sites.specs.calls.Keeping.{held}
+use Rattle.sites.specs.calls.Rows.{IsRowOf}
 use Rattle.sites.specs.declared.ends.SiteEnd.{SiteEnd}
 use Rattle.sites.specs.declared.ends.SiteEnd.TheVariants.{Bad, Fault, NoMemory}
 

@@ -1,10 +1,10 @@
 -- What a pass over the first sites has done.
 use Rattle.std.specs.Prelude.{◌≡◌, ℕ, ◌<◌, ◌≤◌, List, Option, Some, length, slice_get, slice_set}
 use Rattle.armus_base.specs.Plans.{Plan}
-use Rattle.board.specs.Seats.{Frame, IsOf, Known}
-use Rattle.sites.specs.Keeping.{held}
-use Rattle.sites.specs.Passes.{HasSnapped}
-use Rattle.sites.specs.Snaps.{HasLookedOn}
+use Rattle.board.specs.calls.Seats.{Frame, IsOf, Known}
+use Rattle.sites.specs.calls.Keeping.{held}
+use Rattle.sites.specs.calls.Passes.{HasSnapped}
+use Rattle.sites.specs.calls.Snaps.{HasLookedOn}
 
 -- the site's viewer made a snap, and its row was put: no other row changed
 pub record PutsSnap (plan : Plan) (sites site : ℕ) (before now : Known) (old new : List (Option (List ℕ))) : Type 0 where

@@ -1,10 +1,10 @@
 -- What the first sites hold of statuses that are known as a whole.
 use Rattle.std.specs.Prelude.{◌≡◌, ℕ, ◌≤◌, ◌<◌, List, Option, Some, length, slice_set}
 use Rattle.armus_base.specs.declared.status.Status.{Status}
-use Rattle.sites.specs.Checks.{part_of}
-use Rattle.sites.specs.Keeping.{held}
-use Rattle.sites.specs.Parts.{IsPartHeld}
-use Rattle.sites.specs.Rows.{IsRowOf}
+use Rattle.sites.specs.calls.Checks.{part_of}
+use Rattle.sites.specs.calls.Keeping.{held}
+use Rattle.sites.specs.calls.Parts.{IsPartHeld}
+use Rattle.sites.specs.calls.Rows.{IsRowOf}
 
 -- a row that stores the site's part of the statuses was put: no other row changed
 pub record PutsPart (sites site : ℕ) (ss : List Status) (old new : List (Option (List ℕ))) : Type 0 where

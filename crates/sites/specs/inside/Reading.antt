@@ -4,10 +4,10 @@ use Rattle.std.specs.Int.{w32, from_be_bytes}
 use Rattle.armus_base.specs.declared.event.Event.{Event}
 use Rattle.armus_base.specs.declared.status.Member.{Member}
 use Rattle.armus_base.specs.declared.status.Status.{Status}
-use Rattle.armus_base.specs.Statuses.{IsInOrder}
+use Rattle.armus_base.specs.calls.Statuses.{IsInOrder}
 use Rattle.sites.specs.declared.ends.DecodeEnd.{DecodeEnd}
 use Rattle.sites.specs.declared.ends.DecodeEnd.TheVariants.{Bad, NoMemory}
-use Rattle.sites.specs.Rows.{is_of_site}
+use Rattle.sites.specs.calls.Rows.{is_of_site}
 
 infixl 10 ◌>>=◌
 -- one step of reading after another

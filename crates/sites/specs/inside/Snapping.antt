@@ -7,9 +7,9 @@ use Rattle.armus_base.specs.declared.status.Status.{Status}
 use Rattle.armus_base.specs.Finals.{given_below, listed_phase, status_of}
 use Rattle.armus_base.specs.Plans.{Plan}
 use Rattle.armus_base.specs.States.{Phases, State}
-use Rattle.board.specs.Seats.{Known}
-use Rattle.phase_scan.specs.Collects.{IfAsked, LoadsRow, LoadsRows}
-use Rattle.sites.specs.Rows.{HasNumbers, HasPhaseNumbers}
+use Rattle.board.specs.calls.Seats.{Known}
+use Rattle.phase_scan.specs.calls.Collects.{IfAsked, LoadsRow, LoadsRows}
+use Rattle.sites.specs.calls.Rows.{HasNumbers, HasPhaseNumbers}
 
 -- the status of task t on the event, with all its phases on so many phasers
 abbrev pub whole_status : ℕ → ℕ → Phases → Event → Status

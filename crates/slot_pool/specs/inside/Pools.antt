@@ -2,7 +2,7 @@
 use Rattle.std.specs.Prelude.{◌≡◌, ◌<◌}
 use Rattle.atomic_table.specs.Seated.{TableId}
 use Rattle.slot_pool.specs.declared.setting.Setting.{Setting}
-use Rattle.slot_pool.specs.Hands.{PoolValue}
+use Rattle.slot_pool.specs.calls.PoolValues.{PoolValue}
 
 -- what a contract sees of a pool
 abbrev pub pool_of : TableId → Setting → PoolValue

@@ -3,10 +3,10 @@ use Rattle.std.specs.Prelude.{◌≡◌, ℕ, ◌<◌, ◌≤◌, List, [], ◌�
 use Rattle.atomic_table.specs.Seated.{TableId}
 use Rattle.atomic_table.specs.Table.{Me}
 use Rattle.slot_pool.specs.declared.view.View.{View}
-use Rattle.slot_pool.specs.Hands.{Hand, max_workers}
+use Rattle.slot_pool.specs.calls.PoolValues.{WorkerValue, max_workers}
 
 -- what a contract sees of a worker
-abbrev pub hand_of : {R : Type 0} → TableId → Me R View → Hand
+abbrev pub hand_of : {R : Type 0} → TableId → Me R View → WorkerValue
 hand_of table me = record { table = table; view = me.0 }
 
 -- the worker with this number, of a pool with so many tasks, has the slots of the tasks that its view has, nothing is in them, and it knows these tasks

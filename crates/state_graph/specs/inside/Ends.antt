@@ -1,6 +1,6 @@
 -- Where a bounded build leaves off.
 use Rattle.std.specs.Prelude.{◌*◌, ◌<◌, ◌≤◌, length}
-use Rattle.dep_state.specs.Deps.{Deps}
+use Rattle.dep_state.specs.calls.Deps.{Deps}
 use Rattle.state_graph.specs.inside.Growing.{IsStateCount, StaysSmallBelow}
 use Rattle.state_graph.specs.declared.end.SgEnd.{SgEnd}
 use Rattle.state_graph.specs.declared.end.SgEnd.TheVariants.{Left, NoMemory}

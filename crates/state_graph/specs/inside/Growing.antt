@@ -1,9 +1,9 @@
 -- What a graph of events has while it grows, and when it is whole.
 use Rattle.std.specs.Prelude.{◌≡◌, ◌↔◌, ◌⊎◌, ℕ, ◌*◌, ◌+◌, ◌≤◌, ◌<◌, List, length, AllPairs, Contains, Bool, true, false, slice_index, slice_index_or}
 use Rattle.armus_base.specs.Counts.{IsCount}
-use Rattle.digraph.specs.Graph.{HasEdge}
-use Rattle.dep_state.specs.Deps.{Deps, IsAwaitedBy, impeders_of}
-use Rattle.state_graph.specs.StateEdges.{IsStatePair}
+use Rattle.digraph.specs.calls.Graph.{HasEdge}
+use Rattle.dep_state.specs.calls.Deps.{Deps, IsAwaitedBy, impeders_of}
+use Rattle.state_graph.specs.calls.StateEdges.{IsStatePair}
 
 -- the state graph over the first k tasks has n edges
 abbrev pub IsStateCount : Deps → ℕ → ℕ → Type 0

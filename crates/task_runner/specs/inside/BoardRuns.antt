@@ -1,14 +1,14 @@
 -- A run on a board, between its rounds.
 use Rattle.std.specs.Prelude.{◌≡◌, ◌<◌, false}
 use Rattle.armus_base.specs.Plans.{Plan}
-use Rattle.board.specs.Seats.{Frame}
-use Rattle.board_rounds.specs.declared.crew.Rounded.{Rounded}
-use Rattle.board_rounds.specs.Crews.{AreTasksOf, HaveEnded, Tasks, all_of, left_to}
+use Rattle.board.specs.calls.Seats.{Frame}
+use Rattle.board_rounds.specs.declared.board_tasks.Rounded.{Rounded}
+use Rattle.board_rounds.specs.calls.TaskSeats.{AreTasksOf, HaveEnded, Tasks, all_of, left_to}
 
 -- the board is of this plan, and the tasks are those of a run on it
 pub record IsOnBoard (board : Frame) (plan : Plan) (tasks : Tasks) : Type 0 where
   pub of_plan : board.plan ≡ plan
-  pub crew : AreTasksOf board tasks
+  pub board_tasks : AreTasksOf board tasks
 
 -- The tasks after a round: where an event happened in it less is left to them, and where none did, or nobody was forked, all have come to the end of their
 -- turns.

@@ -2,13 +2,13 @@
 use Rattle.std.specs.Prelude.{◌≡◌}
 use Rattle.armus_base.specs.Plans.{Plan}
 use Rattle.board.specs.declared.mode.Mode.TheVariants.{Detect}
-use Rattle.board.specs.Seats.{Frame}
-use Rattle.board_rounds.specs.Crews.{Tasks}
+use Rattle.board.specs.calls.Seats.{Frame}
+use Rattle.board_rounds.specs.calls.TaskSeats.{Tasks}
 use Rattle.task_runner.specs.inside.BoardRuns.{IsOnBoard}
-use Rattle.task_runner.specs.inside.Tellers.{Telling, Watches}
+use Rattle.task_runner.specs.inside.LiveReporters.{Telling, Watches}
 
--- the tasks are those of a run on this board of the plan, the board detects deadlock, and the teller watches it
-pub record IsUnderWay (board : Frame) (plan : Plan) (tasks : Tasks) (teller : Telling) : Type 0 where
+-- the tasks are those of a run on this board of the plan, the board detects deadlock, and the live_reporter watches it
+pub record IsUnderWay (board : Frame) (plan : Plan) (tasks : Tasks) (live_reporter : Telling) : Type 0 where
   pub on_board : IsOnBoard board plan tasks
   pub detects : board.mode ≡ Detect
-  pub watches : Watches board teller
+  pub watches : Watches board live_reporter

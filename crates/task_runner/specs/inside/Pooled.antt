@@ -1,13 +1,13 @@
 -- The tasks of a run without rounds, and the workers that take them from a pool.
 use Rattle.std.specs.Prelude.{◌≡◌, ℕ, ◌<◌, Bool, true, List, [], Some, All, Contains, slice_get}
-use Rattle.armus_base.specs.CheckedPlans.{first_plan}
+use Rattle.armus_base.specs.calls.CheckedPlans.{first_plan}
 use Rattle.armus_base.specs.declared.op.Op.{Op}
 use Rattle.armus_base.specs.Plans.{Plan, Forks, action_at, actions_of}
 use Rattle.board.specs.declared.mode.Mode.TheVariants.{Detect}
-use Rattle.board.specs.Seats.{Frame, Known}
-use Rattle.board_rounds.specs.Turns.{IsChildSeat, Working}
-use Rattle.board_rounds.specs.Crews.{IsCrewSeat, done_of, number}
-use Rattle.slot_pool.specs.Hands.{Hand, IsNumberOf, IsOfPool, PoolValue}
+use Rattle.board.specs.calls.Seats.{Frame, Known}
+use Rattle.board_rounds.specs.calls.Turns.{IsChildSeat, Working}
+use Rattle.board_rounds.specs.calls.TaskSeats.{IsTaskSeat, done_of, number}
+use Rattle.slot_pool.specs.calls.PoolValues.{WorkerValue, IsNumberOf, IsOfPool, PoolValue}
 
 -- a board of the first plan
 abbrev pub first_board : Frame
@@ -20,7 +20,7 @@ first_board =
 
 -- a task of a run on this board: its seat is one of those, and it has no child's seat
 pub record IsPooled (board : Frame) (task : Working) : Type 0 where
-  pub seat : IsCrewSeat board task.seat
+  pub seat : IsTaskSeat board task.seat
   pub no_child : task.children ≡ []
 
 -- the seat of a task that was just forked on this board
@@ -28,7 +28,7 @@ abbrev pub IsForked : Frame → Known → Type 0
 IsForked board seat = (c : ℕ) × IsChildSeat board c seat
 
 -- these are all workers of the pool, and none of them has a task
-pub record AreAllWorkers (pool : PoolValue) (workers : List Hand) : Type 0 where
+pub record AreAllWorkers (pool : PoolValue) (workers : List WorkerValue) : Type 0 where
   pub made : All (λ w. IsOfPool w pool) workers
   pub each : (k : ℕ) → k < pool.workers → IsNumberOf workers k
   pub idle : All (λ w. w.view.has ≡ []) workers

@@ -2,16 +2,16 @@
 use Rattle.std.specs.Prelude.{◌≡◌, ℕ, ◌≤◌, false, List, Option, None, All, length}
 use Rattle.armus_base.specs.declared.ending.Final.{Final}
 use Rattle.armus_base.specs.declared.status.Status.{Status}
-use Rattle.armus_base.specs.Boards.{IsLawful}
-use Rattle.armus_base.specs.Finals.{statuses_of}
+use Rattle.armus_base.specs.calls.Boards.{IsLawful}
+use Rattle.armus_base.specs.calls.Finals.{statuses_of}
 use Rattle.armus_base.specs.Limits.{max_tasks}
 use Rattle.armus_base.specs.Plans.{Plan}
 use Rattle.armus_base.specs.Runs.{Place}
-use Rattle.armus_base.specs.Statuses.{IsInOrder}
-use Rattle.board.specs.Seats.{Frame, IsOf, Known}
-use Rattle.sites.specs.Passes.{AreBacked}
-use Rattle.sites.specs.Snaps.{HasSeenLawful, IsBacked}
-use Rattle.world_runs.specs.PlainRuns.{IsPlainEnd}
+use Rattle.armus_base.specs.calls.Statuses.{IsInOrder}
+use Rattle.board.specs.calls.Seats.{Frame, IsOf, Known}
+use Rattle.sites.specs.calls.Passes.{AreBacked}
+use Rattle.sites.specs.calls.Snaps.{HasSeenLawful, IsBacked}
+use Rattle.world_runs.specs.calls.PlainRuns.{IsPlainEnd}
 
 -- The viewers of so many sites, and the rows that their keeper holds: each viewer is one of this board, and what it has seen was so in some lawful state;
 -- each row that is held stores statuses of its site that are backed by what the viewer of the site has seen.

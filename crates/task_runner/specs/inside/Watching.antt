@@ -1,6 +1,6 @@
--- How contracts see a teller.
-use Rattle.task_runner.specs.declared.teller.Teller.TheInside.{Inside}
-use Rattle.task_runner.specs.inside.Tellers.{Telling}
+-- How contracts see a live_reporter.
+use Rattle.task_runner.specs.declared.live_reporter.LiveReporter.TheInside.{Inside}
+use Rattle.task_runner.specs.inside.LiveReporters.{Telling}
 
 -- its collector, its viewer, whom it told, and whom its last pass named
 abbrev pub telling_of : Inside → Telling

@@ -1,7 +1,7 @@
 -- The table of the lines of a text.
 use Rattle.std.specs.Prelude.{ℕ, zero, suc, ◌+◌, List, length, count_by}
 use Rattle.armus_base.specs.Finals.{list_below}
-use Rattle.text_places.specs.NamedPlaces.{moved, named_in}
+use Rattle.text_places.specs.NamedPlaces.{moved_span, named_in}
 use Rattle.text_places.specs.TextPlaces.{is_line_feed, line_from}
 use Rattle.text_places.specs.declared.places.Line.{Line}
 
@@ -15,9 +15,9 @@ abbrev pub line_count : List ℕ → ℕ
 line_count text = count_by is_line_feed text + 1
 
 -- line i: where it begins, and the place that it names
-abbrev pub row_at : List ℕ → ℕ → Line
-row_at text i = record { begin = begin_of text i; named = moved (begin_of text i) (named_in (line_from text (begin_of text i))) }
+abbrev pub line_row : List ℕ → ℕ → Line
+line_row text i = record { begin = begin_of text i; named = moved_span (begin_of text i) (named_in (line_from text (begin_of text i))) }
 
 -- all lines
-abbrev pub rows_of : List ℕ → List Line
-rows_of text = list_below (row_at text) (line_count text)
+abbrev pub line_rows : List ℕ → List Line
+line_rows text = list_below (line_row text) (line_count text)

@@ -3,8 +3,8 @@ use Rattle.std.specs.Prelude.{◌≡◌, ◌↔◌, ℕ, ◌<◌, Bool, true, fa
 use Rattle.armus_base.specs.declared.event.Event.{Event}
 use Rattle.armus_base.specs.declared.ids.TaskId.{TaskId}
 use Rattle.armus_base.specs.declared.status.Status.{Status}
-use Rattle.dep_state.specs.Deps.{Deps, impeders_of}
-use Rattle.digraph.specs.Cycle.{IsLeastMarked}
+use Rattle.dep_state.specs.calls.Deps.{Deps, impeders_of}
+use Rattle.digraph.specs.calls.Cycle.{IsLeastMarked}
 
 -- the flag of each task says whether it is one of the dead
 pub record IsFlags (tasks dead : List TaskId) (n : ℕ) (flags : List Bool) : Type 0 where

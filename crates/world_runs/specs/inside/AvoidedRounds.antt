@@ -4,7 +4,7 @@ use Rattle.armus_base.specs.Plans.{Plan}
 use Rattle.armus_base.specs.Runs.{IsLegalRun, places}
 use Rattle.armus_base.specs.Serial.{GoesOn, IsTurn, RoundBelow}
 use Rattle.armus_base.specs.States.{Step}
-use Rattle.pl_core.specs.Worlds.{WorldValue, places_of}
+use Rattle.pl_core.specs.calls.Worlds.{WorldValue, places_of}
 
 -- the run leads to the world: it is legal, and its places are those of the world
 pub record LeadsTo (plan : Plan) (h : List Step) (w : WorldValue) : Type 0 where

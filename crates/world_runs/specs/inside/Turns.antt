@@ -3,7 +3,7 @@ use Rattle.std.specs.Prelude.{◌≡◌, ℕ, ◌+◌, ◌-◌, Bool, false, Lis
 use Rattle.std.proofs.Common.{suc}
 use Rattle.armus_base.specs.Plans.{Plan, actions}
 use Rattle.pl_core.specs.declared.place.Place.{Place}
-use Rattle.pl_core.specs.Worlds.{WorldValue, state_of}
+use Rattle.pl_core.specs.calls.Worlds.{WorldValue, state_of}
 
 -- no task is refused
 abbrev pub NobodyRefused : WorldValue → Type 0

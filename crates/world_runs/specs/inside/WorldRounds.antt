@@ -4,8 +4,8 @@ use Rattle.std.proofs.Common.{zero, suc}
 use Rattle.armus_base.specs.CheckedPlans.{IsCheckedPlan}
 use Rattle.armus_base.specs.Finals.{final_of}
 use Rattle.armus_base.specs.Runs.{IsReachable}
-use Rattle.pl_core.specs.Stands.{IsEnabled}
-use Rattle.pl_core.specs.Worlds.{WorldValue, places_of, state_of}
+use Rattle.pl_core.specs.calls.Stands.{IsEnabled}
+use Rattle.pl_core.specs.calls.Worlds.{WorldValue, places_of, state_of}
 use Rattle.world_runs.specs.declared.world_end.WorldEnd.{WorldEnd}
 use Rattle.world_runs.specs.inside.Turns.{left_in}
 

@@ -1,7 +1,7 @@
 use Rattle.std.proofs.Common.{◌<◌, ◌∙◌, ap, arith, length, sym}
 use Rattle.armus_base.specs.Finals.{end_of}
 use Rattle.armus_base.proofs.Below.{length-list_below}
-use Rattle.pl_core.specs.Worlds.{places_of, state_of}
+use Rattle.pl_core.specs.calls.Worlds.{places_of, state_of}
 use Rattle.accounts.specs.inside.Facts.{layout_of}
 use Rattle.accounts.proofs.Told.{list_at, told_more}
 use Rattle.accounts.proofs.accounts.task_accounts.Goals as goal

@@ -1,4 +1,4 @@
-use Rattle.pl_core.specs.Worlds.{places_of}
+use Rattle.pl_core.specs.calls.Worlds.{places_of}
 use Rattle.accounts.specs.inside.Facts.{AreTold, layout_of}
 use Rattle.accounts.proofs.accounts.task_accounts.Given as goal
 

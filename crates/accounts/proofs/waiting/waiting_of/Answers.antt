@@ -1,5 +1,5 @@
 use Rattle.std.proofs.Common.{◌∙◌, refl, sym, ap}
-use Rattle.pl_core.specs.Worlds.{places_of, state_of}
+use Rattle.pl_core.specs.calls.Worlds.{places_of, state_of}
 use Rattle.origins.specs.Origins.{statement_in}
 use Rattle.accounts.specs.Accounts.{words_of}
 use Rattle.accounts.proofs.Awaiting.{event_of_plan, waiter_is_member, waits_at_await}

@@ -1,7 +1,7 @@
 use Rattle.std.proofs.Common.{refl}
 use Rattle.std.proofs.lemmas.Result.{IfOk-weaker}
 use Rattle.adaptive.specs.inside.ByGraph.{IsAnalysisBy}
-use Rattle.adaptive.specs.Choice.{IsAnalysis}
+use Rattle.adaptive.specs.calls.Choice.{IsAnalysis}
 use Rattle.adaptive.specs.declared.analysis.Used.TheVariants.{Wfg}
 use Rattle.adaptive.specs.declared.analysis.Wanted.TheVariants.{Auto}
 use Rattle.adaptive.proofs.Choices.{by_left}

@@ -1,7 +1,7 @@
 use Rattle.std.proofs.Common.{Bool, List, refl, subst, sym}
 use Rattle.armus_base.specs.declared.ids.TaskId.{TaskId}
 use Rattle.armus_base.specs.DeadLists.{IsDeadList}
-use Rattle.dep_state.specs.Picks.{IsPick}
+use Rattle.dep_state.specs.calls.Picks.{IsPick}
 use Rattle.adaptive.proofs.RemainingDead.{remaining_are_dead}
 use Rattle.adaptive.proofs.dead.dead_of.Goals as goal
 

@@ -1,4 +1,4 @@
-use Rattle.task_runner.specs.DetectRuns.{told}
+use Rattle.task_runner.specs.calls.DetectRuns.{told}
 use Rattle.armus_top.specs.inside.Status.{number_of_status}
 use Rattle.armus_top.proofs.Ending.{finished_as}
 use Rattle.armus_top.proofs.LiveRuns.{between, reported, unreported, unwritten, wanted_memory}

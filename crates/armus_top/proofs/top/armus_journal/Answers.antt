@@ -1,6 +1,6 @@
 use Rattle.std.proofs.Common.{◌∙◌, map, string_bytes}
 use Rattle.std.specs.Prelude.{Some}
-use Rattle.armus_top.specs.Headline.{passage}
+use Rattle.armus_top.specs.calls.Headline.{passage}
 use Rattle.armus_top.specs.inside.Status.{number_of_status}
 use Rattle.armus_top.proofs.Answering.{ends_by_answer}
 use Rattle.armus_top.proofs.Ending.{served_by}

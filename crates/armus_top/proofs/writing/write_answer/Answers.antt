@@ -1,5 +1,5 @@
 use Rattle.std.proofs.Common.{arith, subst}
-use Rattle.armus_top.specs.Headline.{passage}
+use Rattle.armus_top.specs.calls.Headline.{passage}
 use Rattle.armus_top.specs.inside.Answers.{AnswersBy}
 use Rattle.armus_top.specs.inside.Status.{number_of_status}
 use Rattle.armus_top.proofs.Answering.{by_output}

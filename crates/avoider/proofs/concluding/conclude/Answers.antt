@@ -1,5 +1,5 @@
 use Rattle.std.proofs.Common.{None, Some, Ok, ap, ◌∙◌}
-use Rattle.board.specs.Seats.{aim_at}
+use Rattle.board.specs.calls.Seats.{aim_at}
 use Rattle.avoider.proofs.Decided.{free_refused}
 use Rattle.avoider.proofs.concluding.conclude.Goals as goal
 

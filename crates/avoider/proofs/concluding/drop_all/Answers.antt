@@ -1,5 +1,5 @@
 use Rattle.std.proofs.Common.{◌+◌, ◌∙◌, sym, subst}
-use Rattle.board.specs.Seats.{MakesStep, MayDrop}
+use Rattle.board.specs.calls.Seats.{MakesStep, MayDrop}
 use Rattle.armus_base.specs.Plans.{Drops}
 use Rattle.avoider.proofs.Dropping.{IsDropping, drops_none, drops_one, may_drop_it, phase_same}
 use Rattle.avoider.proofs.concluding.drop_all.Goals.{in-Some, in-None}

@@ -1,4 +1,4 @@
-use Rattle.board.specs.Seats.{aim_at}
+use Rattle.board.specs.calls.Seats.{aim_at}
 use Rattle.avoider.proofs.Conclusions.{decided, may_conclude}
 use Rattle.avoider.proofs.deciding.decide.Goals as goal
 

@@ -1,11 +1,11 @@
 use Rattle.std.proofs.Common.{◌≡◌, ap, sym, subst, List, Some}
 use Rattle.armus_base.specs.declared.status.Status.{Status}
-use Rattle.armus_base.specs.Statuses.{IsInOrder}
-use Rattle.board.specs.Seats.{aim_at}
-use Rattle.phase_scan.specs.Collects.{Collection}
-use Rattle.phase_scan.specs.Looks.{LoadsAlone}
-use Rattle.avoider.specs.Decisions.{IsOutcome}
-use Rattle.avoider.specs.OnBoard.{Judges}
+use Rattle.armus_base.specs.calls.Statuses.{IsInOrder}
+use Rattle.board.specs.calls.Seats.{aim_at}
+use Rattle.phase_scan.specs.calls.Collects.{Collection}
+use Rattle.phase_scan.specs.calls.Looks.{LoadsAlone}
+use Rattle.avoider.specs.calls.Decisions.{IsOutcome}
+use Rattle.avoider.specs.calls.OnBoard.{Judges}
 use Rattle.avoider.proofs.JudgedLists.{JudgesOrExcludes, all_loads, judged_in_order, judges_told}
 use Rattle.avoider.proofs.ToldByLoads.{judged_by, judged_off}
 use Rattle.avoider.proofs.deciding.judge.Goals as goal

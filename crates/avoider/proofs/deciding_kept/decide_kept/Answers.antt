@@ -1,4 +1,4 @@
-use Rattle.board.specs.Seats.{aim_at}
+use Rattle.board.specs.calls.Seats.{aim_at}
 use Rattle.avoider.proofs.Conclusions.{decided, holds_pairs, judged_alone, may_conclude}
 use Rattle.avoider.proofs.deciding_kept.decide_kept.Goals as goal
 

@@ -1,9 +1,9 @@
 use Rattle.std.proofs.Common.{arith, ap, subst, sym, length}
 use Rattle.std.specs.Prelude.{Contains}
 use Rattle.armus_base.specs.Plans.{Plan}
-use Rattle.armus_base.specs.Statuses.{IsInOrder}
-use Rattle.board.specs.Seats.{aim_at}
-use Rattle.avoider.specs.Decisions.{IsOutcome}
+use Rattle.armus_base.specs.calls.Statuses.{IsInOrder}
+use Rattle.board.specs.calls.Seats.{aim_at}
+use Rattle.avoider.specs.calls.Decisions.{IsOutcome}
 use Rattle.avoider.specs.inside.Followings.{HoldsOrOtherDead}
 use Rattle.avoider.proofs.JudgedLists.{judged_in_order, judged_tasks}
 use Rattle.avoider.proofs.ToldByLoads.{judged_by_order}

@@ -1,8 +1,8 @@
 use Rattle.std.proofs.Common.{ap, sym, subst, List}
 use Rattle.armus_base.specs.declared.status.Status.{Status}
-use Rattle.board.specs.Seats.{aim_at}
-use Rattle.phase_scan.specs.Collects.{Collection}
-use Rattle.avoider.specs.OnBoard.{Judges}
+use Rattle.board.specs.calls.Seats.{aim_at}
+use Rattle.phase_scan.specs.calls.Collects.{Collection}
+use Rattle.avoider.specs.calls.OnBoard.{Judges}
 use Rattle.avoider.proofs.JudgedLists.{judges_so}
 use Rattle.avoider.proofs.gathering.gather.Goals as goal
 

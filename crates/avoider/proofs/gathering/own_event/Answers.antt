@@ -1,6 +1,6 @@
 use Rattle.std.proofs.Common.{◌≡◌, ℕ, Some, None, sym, refl, ◌∙◌}
 use Rattle.armus_base.specs.Plans.{Blocks}
-use Rattle.board.specs.Seats.{aim_at}
+use Rattle.board.specs.calls.Seats.{aim_at}
 use Rattle.board.proofs.Seated.{member_next, own_phase_small}
 use Rattle.avoider.proofs.gathering.own_event.Goals as goal
 

@@ -1,6 +1,6 @@
 use Rattle.std.proofs.Common.{subst, sym}
 use Rattle.armus_base.specs.CheckedPlans.{IsCheckedPlan}
-use Rattle.pl_core.specs.Worlds.{state_of}
+use Rattle.pl_core.specs.calls.Worlds.{state_of}
 use Rattle.avoider.proofs.Followed.{pairs_if_published}
 use Rattle.avoider.proofs.SamePairs.{holds_all_phases}
 use Rattle.avoider.proofs.SamePlan.{decided_plan}

@@ -1,6 +1,6 @@
 use Rattle.std.proofs.Common.{◌∙◌, inl, subst, sym}
-use Rattle.armus_base.specs.Statuses.{IsInOrder}
-use Rattle.avoider.specs.Decisions.{supposed_statuses}
+use Rattle.armus_base.specs.calls.Statuses.{IsInOrder}
+use Rattle.avoider.specs.calls.Decisions.{supposed_statuses}
 use Rattle.avoider.proofs.Followed.{followed_alive, followed_pairs, holds_or_dead}
 use Rattle.avoider.proofs.Supposing.{supposed_in_order}
 use Rattle.avoider.proofs.kept.death_in_world.Goals as goal

@@ -2,12 +2,12 @@ use Rattle.std.proofs.Common.{◌∙◌, arith, subst, sym}
 use Rattle.std.specs.Prelude.{Contains, IfOk, List}
 use Rattle.std.proofs.lemmas.Result.{IfOk-weaker}
 use Rattle.armus_base.specs.Graphs.{WaitsFor}
-use Rattle.armus_base.specs.Statuses.{IsInOrder}
+use Rattle.armus_base.specs.calls.Statuses.{IsInOrder}
 use Rattle.armus_base.specs.declared.status.Status.{Status}
-use Rattle.order_graph.specs.Following.{AnswersFollow, AnswersFollowing}
-use Rattle.order_graph.specs.Waits.{AreWaitsAmong, Awaits}
+use Rattle.order_graph.specs.calls.Following.{AnswersFollow, AnswersFollowing}
+use Rattle.order_graph.specs.calls.Waits.{AreWaitsAmong, Awaits}
 use Rattle.order_graph.proofs.PairEdges.{follows_same}
-use Rattle.avoider.specs.Decisions.{supposed_statuses}
+use Rattle.avoider.specs.calls.Decisions.{supposed_statuses}
 use Rattle.avoider.proofs.Followed.{deps_tasks, supposed_tasks}
 use Rattle.avoider.proofs.Supposing.{supposed_in_order}
 use Rattle.avoider.proofs.kept.follow_world.Goals as goal

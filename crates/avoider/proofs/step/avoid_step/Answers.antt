@@ -1,6 +1,6 @@
 use Rattle.std.proofs.Common.{◌∙◌, subst, sym}
-use Rattle.armus_base.specs.Statuses.{IsInOrder}
-use Rattle.avoider.specs.Decisions.{IsOutcome}
+use Rattle.armus_base.specs.calls.Statuses.{IsInOrder}
+use Rattle.avoider.specs.calls.Decisions.{IsOutcome}
 use Rattle.avoider.proofs.NobodyDies.{block_kills_nobody}
 use Rattle.avoider.proofs.Supposing.{phaser_of_await, supposed_in_order}
 use Rattle.avoider.proofs.step.avoid_step.Goals as goal

@@ -1,6 +1,6 @@
 use Rattle.armus_base.specs.Deadlocks.{WouldBeDead}
-use Rattle.pl_core.specs.Worlds.{state_of}
-use Rattle.avoider.specs.Decisions.{ExplainsDeath, supposed_statuses}
+use Rattle.pl_core.specs.calls.Worlds.{state_of}
+use Rattle.avoider.specs.calls.Decisions.{ExplainsDeath, supposed_statuses}
 use Rattle.avoider.proofs.NobodyDies.{block_kills_nobody, refusal_kills_nobody}
 use Rattle.avoider.proofs.RefusedInCycle.{refused_in_cycle}
 use Rattle.avoider.proofs.Supposing.{told_by_statuses}

@@ -1,4 +1,4 @@
-use Rattle.pl_core.specs.Worlds.{state_of}
+use Rattle.pl_core.specs.calls.Worlds.{state_of}
 use Rattle.avoider.proofs.OnNoCycle.{lives_impeding_nobody, lives_reached, lives_unimpeded}
 use Rattle.avoider.proofs.step.is_on_no_cycle.Goals as goal
 

@@ -2,7 +2,7 @@ use Rattle.std.proofs.Common.{◌≡◌, ◌+◌, ◌<◌, ◌∙◌, [], ◌∷
 use Rattle.std.proofs.lemmas.List.{get_or_append_left, get_or_default, length_push}
 use Rattle.armus_base.specs.States.{State, if_published}
 use Rattle.armus_base.specs.declared.event.Event.{Event}
-use Rattle.pl_core.specs.Worlds.{state_of}
+use Rattle.pl_core.specs.calls.Worlds.{state_of}
 use Rattle.avoider.specs.inside.Waiting.{AreImpeders}
 use Rattle.avoider.proofs.WorldWaits.{sets_more}
 use Rattle.avoider.proofs.waiting.impeder_sets.Goals as goal

@@ -1,7 +1,7 @@
 use Rattle.std.proofs.Common.{◌≡◌, ℕ, ◌+◌, ◌<◌, [], get_or, length}
 use Rattle.armus_base.specs.States.{if_published}
 use Rattle.armus_base.specs.declared.event.Event.{Event}
-use Rattle.pl_core.specs.Worlds.{state_of}
+use Rattle.pl_core.specs.calls.Worlds.{state_of}
 use Rattle.avoider.specs.inside.Waiting.{AreImpeders, ArePlaces}
 use Rattle.avoider.proofs.waiting.impeder_sets.Given as goal
 

@@ -2,7 +2,7 @@ use Rattle.std.proofs.Common.{◌≡◌, ◌+◌, ap, arith, length, subst, sym}
 use Rattle.armus_base.specs.Plans.{Plan}
 use Rattle.armus_base.specs.States.{State, if_published}
 use Rattle.armus_base.specs.declared.ids.TaskId.{TaskId}
-use Rattle.pl_core.specs.Worlds.{state_of}
+use Rattle.pl_core.specs.calls.Worlds.{state_of}
 use Rattle.avoider.specs.inside.Waiting.{AreImpeders}
 use Rattle.avoider.proofs.WorldWaits.{impeders_more, impeders_skip}
 use Rattle.avoider.proofs.waiting.impeders.Goals as goal

@@ -1,7 +1,7 @@
 use Rattle.std.proofs.Common.{◌<◌, ◌≤◌, length}
 use Rattle.std.specs.Prelude.{All}
 use Rattle.armus_base.specs.States.{if_published}
-use Rattle.pl_core.specs.Worlds.{state_of}
+use Rattle.pl_core.specs.calls.Worlds.{state_of}
 use Rattle.avoider.specs.inside.Waiting.{HavePlaces}
 use Rattle.avoider.proofs.waiting.places_if.Given as goal
 

@@ -1,5 +1,5 @@
 use Rattle.armus_base.specs.States.{State, if_published}
-use Rattle.pl_core.specs.Worlds.{state_of}
+use Rattle.pl_core.specs.calls.Worlds.{state_of}
 use Rattle.avoider.proofs.Supposing.{supposed_of_plan}
 use Rattle.avoider.proofs.WorldWaits.{waits_among, waits_are}
 use Rattle.avoider.proofs.waiting.waits_if.Goals as goal

@@ -1,5 +1,5 @@
 use Rattle.std.proofs.Common.{sym, ap, ◌∙◌, arith}
-use Rattle.armus_base.specs.Seats.{FoundRefused, FoundWaiting}
+use Rattle.armus_base.specs.calls.Seats.{FoundRefused, FoundWaiting}
 use Rattle.board.proofs.Reading.{of_refused, of_waits}
 use Rattle.board.proofs.numbers.seen_of.Goals as goal
 

@@ -1,6 +1,6 @@
 use Rattle.std.proofs.Common.{[], ◌∷◌, Result, Ok, Err, OnOk, sym, subst, append-nil}
 use Rattle.board.specs.inside.Walking.{begins}
-use Rattle.board_rounds.specs.Turns.{AreChildSeats, tasks_forked, no_child}
+use Rattle.board_rounds.specs.calls.Turns.{AreChildSeats, tasks_forked, no_child}
 use Rattle.board_rounds.proofs.Goings.{goes_step}
 use Rattle.board_rounds.proofs.Halting.{no_refusal}
 use Rattle.board_rounds.proofs.Onward.{goes_begins}

@@ -1,6 +1,6 @@
 use Rattle.std.proofs.Common.{◌≡◌, ◌∙◌, [], ◌∷◌, ◌++◌, rules, ap, sym, eqb-true}
-use Rattle.armus_base.specs.Seats.{SeenBy}
-use Rattle.board_rounds.specs.Turns.{no_child, one_child}
+use Rattle.armus_base.specs.calls.Seats.{SeenBy}
+use Rattle.board_rounds.specs.calls.Turns.{no_child, one_child}
 use Rattle.board_rounds.proofs.beginning.fork.Goals as goal
 
 pub returns-clause-children : goal.returns-clause-children

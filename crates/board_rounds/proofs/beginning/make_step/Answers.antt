@@ -1,6 +1,6 @@
 use Rattle.std.proofs.Common.{[], ◌∷◌, sym, subst, append-nil}
 use Rattle.board.specs.inside.Walking.{begins}
-use Rattle.board_rounds.specs.Turns.{AreChildSeats, tasks_forked, no_child}
+use Rattle.board_rounds.specs.calls.Turns.{AreChildSeats, tasks_forked, no_child}
 use Rattle.board_rounds.proofs.beginning.make_step.Goals as goal
 
 pub returns-in-Make-clause-children : goal.returns-in-Make-clause-children

@@ -1,12 +1,12 @@
 use Rattle.std.proofs.Common.{◌≡◌, ◌∙◌, [], ◌∷◌, ap, subst, sym, length}
 use Rattle.armus_base.specs.Places.{members_below}
 use Rattle.armus_base.specs.Plans.{Blocks, Plan}
-use Rattle.board.specs.Seats.{IsSeat, Known, aim_at}
-use Rattle.board.specs.Steps.{own_phase}
-use Rattle.board.specs.Views.{avoids, next_action}
+use Rattle.board.specs.calls.Seats.{IsSeat, Known, aim_at}
+use Rattle.board.specs.calls.Steps.{own_phase}
+use Rattle.board.specs.calls.Views.{avoids, next_action}
 use Rattle.avoider.specs.declared.decision.Decision.{Decision}
-use Rattle.avoider.specs.OnBoard.{IsDecidedOnBoard}
-use Rattle.board_rounds.specs.Turns.{EndsTurn, Goes}
+use Rattle.avoider.specs.calls.OnBoard.{IsDecidedOnBoard}
+use Rattle.board_rounds.specs.calls.Turns.{EndsTurn, Goes}
 use Rattle.board_rounds.specs.inside.Attempts.{IsRefusedAt}
 use Rattle.board_rounds.proofs.Attempting.{ends_locked_out, goes_locked_out, goes_published, goes_refused}
 use Rattle.board_rounds.proofs.deciding.decide_with.Goals.{in-Published, in-Refused}

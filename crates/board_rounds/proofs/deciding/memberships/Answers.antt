@@ -1,5 +1,5 @@
 use Rattle.std.proofs.Common.{arith}
-use Rattle.board.specs.Steps.{own_phase}
+use Rattle.board.specs.calls.Steps.{own_phase}
 use Rattle.board_rounds.proofs.Leaving.{few_members}
 use Rattle.board_rounds.proofs.deciding.memberships.Goals as goal
 

@@ -1,5 +1,5 @@
 use Rattle.std.proofs.Common.{◌∙◌, subst}
-use Rattle.board.specs.Seats.{Known, TakesIn}
+use Rattle.board.specs.calls.Seats.{Known, TakesIn}
 use Rattle.board_rounds.proofs.Goings.{same_on}
 use Rattle.board_rounds.proofs.Noting.{task_taken}
 use Rattle.board_rounds.proofs.ending.take_in_all.Goals as goal

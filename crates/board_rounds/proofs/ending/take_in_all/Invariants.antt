@@ -1,7 +1,7 @@
 use Rattle.std.proofs.Common.{map}
-use Rattle.board.specs.Seats.{IsOf}
-use Rattle.board.specs.Steps.{IsSameSeat}
-use Rattle.board_rounds.specs.Turns.{Working}
+use Rattle.board.specs.calls.Seats.{IsOf}
+use Rattle.board.specs.calls.Steps.{IsSameSeat}
+use Rattle.board_rounds.specs.calls.Turns.{Working}
 use Rattle.board_rounds.specs.inside.Endings.{TakesAll}
 use Rattle.board_rounds.proofs.ending.take_in_all.Given as goal
 

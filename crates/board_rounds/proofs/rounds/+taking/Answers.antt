@@ -2,7 +2,7 @@ use denote.Exit.{no}
 use denote.Param.{param}
 use denote.Param.Send.{arg_send, param_send}
 use Rattle.std.proofs.Common.{◌<◌, ◌++◌, ◌+◌, ◌-◌, ◌*◌, ◌/◌, Ok, IfOk, map, rules, arith}
-use Rattle.board_rounds.specs.Turns.{TakesTurns}
+use Rattle.board_rounds.specs.calls.Turns.{TakesTurns}
 use Rattle.board_rounds.proofs.Crossing.{turns_send}
 use Rattle.board_rounds.proofs.Rounding.{both_each, over_both, ready_both, stopped, turns_on}
 use Rattle.board_rounds.proofs.rounds.+taking.Goals as goal

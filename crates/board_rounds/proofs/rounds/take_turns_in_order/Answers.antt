@@ -1,7 +1,7 @@
 use Rattle.std.proofs.Common.{◌≡◌, ◌∙◌, ◌+◌, ◌<◌, ap, sum_by, [], ◌∷◌, ◌++◌, IfOk, List, map, rules, add-one, length, set, suc, sym, refl, subst, arith}
 use Rattle.std.proofs.lemmas.List.{length-map}
 use Rattle.std.proofs.lemmas.List.Sums.{sum_by_push}
-use Rattle.board_rounds.specs.Turns.{Acts, EachActs, EndsTurn, MayTakeTurn, Working, in_32_bits}
+use Rattle.board_rounds.specs.calls.Turns.{Acts, EachActs, EndsTurn, MayTakeTurn, Working, in_32_bits}
 use Rattle.board_rounds.proofs.Rounding.{IsSoFar, all_each, all_end, at_rest, count_more, map_get, map_set, next_done, next_is, next_stops, stopped}
 use Rattle.board_rounds.proofs.rounds.take_turns_in_order.Goals as goal
 

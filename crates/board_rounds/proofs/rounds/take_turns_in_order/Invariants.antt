@@ -1,7 +1,7 @@
 use Rattle.std.proofs.Common.{◌≡◌, List, length, map}
 use Rattle.std.specs.Prelude.{sum_by}
 use Rattle.armus_base.specs.Plans.{Action}
-use Rattle.board_rounds.specs.Turns.{in_32_bits}
+use Rattle.board_rounds.specs.calls.Turns.{in_32_bits}
 use Rattle.board_rounds.proofs.Rounding.{IsSoFar}
 use Rattle.board_rounds.proofs.rounds.take_turns_in_order.Given as goal
 

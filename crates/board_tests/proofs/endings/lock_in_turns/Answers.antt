@@ -1,6 +1,6 @@
 use Rattle.std.proofs.Common.{◌∙◌, ap}
-use Rattle.board.specs.Seats.{Known}
-use Rattle.board.specs.Views.{next_action}
+use Rattle.board.specs.calls.Seats.{Known}
+use Rattle.board.specs.calls.Views.{next_action}
 use Rattle.board_tests.proofs.endings.lock_in_turns.Goals as goal
 
 pub takes_turns-requires-clause-root : goal.takes_turns-requires-clause-root

@@ -1,5 +1,5 @@
 use Rattle.std.proofs.Common.{All}
-use Rattle.board.specs.Seats.{IsOf}
+use Rattle.board.specs.calls.Seats.{IsOf}
 use Rattle.board_tests.proofs.endings.look_all.Given as goal
 
 abbrev pub invariant-loop-seat : goal.invariant-loop-seat

@@ -1,4 +1,4 @@
-use Rattle.board.specs.Seats.{IsOf}
+use Rattle.board.specs.calls.Seats.{IsOf}
 use Rattle.board_tests.proofs.walks.steps.Given as goal
 
 abbrev pub invariant-loop : goal.invariant-loop

@@ -1,6 +1,6 @@
 use Rattle.std.proofs.Common.{◌∙◌, ap, arith, below_more, length, sym}
 use Rattle.std.proofs.lemmas.Bool.{false≢true}
-use Rattle.pl_core.specs.Stands.{IsEnabled}
+use Rattle.pl_core.specs.calls.Stands.{IsEnabled}
 use Rattle.board_tests.proofs.world_play.final_state.Goals as goal
 
 pub loop-t-preserved : goal.loop-t-preserved

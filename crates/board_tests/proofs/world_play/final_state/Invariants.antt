@@ -1,5 +1,5 @@
 use Rattle.std.proofs.Common.{◌<◌, ℕ}
-use Rattle.pl_core.specs.Stands.{IsEnabled}
+use Rattle.pl_core.specs.calls.Stands.{IsEnabled}
 use Rattle.board_tests.proofs.world_play.final_state.Given as goal
 
 abbrev pub invariant-loop-t : goal.invariant-loop-t

@@ -1,6 +1,6 @@
 use Rattle.std.proofs.Common.{[], ◌∷◌, ◌++◌, ◌≡◌, ◌∙◌, ◌+◌, arith, ap, subst, sym}
 use Rattle.pl_plan.specs.inside.Steps.{step_at}
-use Rattle.check_scenes.specs.inside.Told.{behind, enters}
+use Rattle.check_scenes.specs.inside.Told.{index_behind, enters}
 use Rattle.check_scenes.proofs.LoopsAround.{Nears, inside_within, nears_end, nears_inside, nears_outside, nears_start, outside_further}
 use Rattle.check_scenes.proofs.around.turns_told.Goals as goal
 
@@ -36,7 +36,7 @@ loop-at-preserved-in-Some c =
 pub loop-at-smaller : goal.loop-at-smaller
 loop-at-smaller c =
     let is = ap (λ z. enters z c.loop-at.at c.args.n) (sym c.step_of-step.ensures) ∙ sym c.enters.ensures ∙ c.in_default.is in
-    let next : c.behind-at.result ≡ behind (step_at c.args.steps.now c.loop-at.at) c.loop-at.at = c.behind-at.ensures ∙ ap (λ z. behind z c.loop-at.at) c.step_of-step.ensures in
+    let next : c.behind-at.result ≡ index_behind (step_at c.args.steps.now c.loop-at.at) c.loop-at.at = c.behind-at.ensures ∙ ap (λ z. index_behind z c.loop-at.at) c.step_of-step.ensures in
     let l = outside_further c.args.steps.now c.args.last_turns.now c.args.t.0 c.args.n c.args.range.0 c.args.range.1 c.loop-at.at c.loop-at.to c.loop-at.turns c.loop-at.invariant
     c.loop-at-test.true is in
     omega (arith, l, next, c.loop-at-test.true)
@@ -44,7 +44,7 @@ loop-at-smaller c =
 pub loop-at-preserved : goal.loop-at-preserved
 loop-at-preserved c =
     let is = ap (λ z. enters z c.loop-at.at c.args.n) (sym c.step_of-step.ensures) ∙ sym c.enters.ensures ∙ c.in_default.is in
-    let next : c.behind-at.result ≡ behind (step_at c.args.steps.now c.loop-at.at) c.loop-at.at = c.behind-at.ensures ∙ ap (λ z. behind z c.loop-at.at) c.step_of-step.ensures in
+    let next : c.behind-at.result ≡ index_behind (step_at c.args.steps.now c.loop-at.at) c.loop-at.at = c.behind-at.ensures ∙ ap (λ z. index_behind z c.loop-at.at) c.step_of-step.ensures in
     subst (λ i. Nears c.args.steps.now c.args.last_turns.now c.args.t.0 c.args.n c.args.range.0 c.args.range.1 i c.loop-at.to c.loop-at.turns) (sym next)
     (nears_outside c.args.steps.now c.args.last_turns.now c.args.t.0 c.args.n c.args.range.0 c.args.range.1 c.loop-at.at c.loop-at.to c.loop-at.turns c.loop-at.invariant
     c.loop-at-test.true is)

@@ -1,6 +1,7 @@
 use Rattle.std.proofs.Common.{arith, ap, sym, subst, ◌∙◌, length}
 use Rattle.std.proofs.lemmas.List.{nil_from_length}
-use Rattle.armus_base.specs.Pieces.{IsFolded, straight}
+use Rattle.armus_base.specs.calls.Pieces.{IsFolded}
+use Rattle.armus_base.specs.Pieces.{straight}
 use Rattle.clock_pl.proofs.ClockCodes.{code_made, codes_made, next_ops, no_code}
 use Rattle.clock_pl.proofs.planning.codes_of.Goals as goal
 

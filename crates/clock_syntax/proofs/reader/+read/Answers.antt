@@ -2,7 +2,7 @@ use Rattle.std.proofs.Common.{◌≡◌, ◌+◌, ◌<◌, ◌≤◌, length, sy
 use Rattle.std.proofs.lemmas.Result.{err_from_is_err_and}
 use Rattle.clock_syntax.specs.declared.tree.ClockStmt.{ClockStmt}
 use Rattle.clock_syntax.specs.Trees.{clock_count, done}
-use Rattle.clock_syntax.specs.Bodies.{clock_followed_by, clock_tree_of}
+use Rattle.clock_syntax.specs.calls.Bodies.{clock_followed_by, clock_tree_of}
 use Rattle.pl_syntax.specs.inside.Seen.{token_of}
 use Rattle.pl_syntax.specs.inside.Reading.{ends_list}
 use Rattle.clock_syntax.specs.inside.ClockReading.{clock_statement_in}

@@ -4,7 +4,7 @@ use Rattle.pl_syntax.specs.inside.Reading.{ends_list}
 use Rattle.pl_syntax.proofs.Turns.{Turn}
 use Rattle.clock_syntax.specs.declared.tree.ClockStmt.{ClockStmt}
 use Rattle.clock_syntax.specs.Trees.{clock_count}
-use Rattle.clock_syntax.specs.Bodies.{clock_tree_of}
+use Rattle.clock_syntax.specs.calls.Bodies.{clock_tree_of}
 use Rattle.clock_syntax.specs.inside.ClockReading.{clock_statement_in}
 use Rattle.clock_syntax.proofs.reader.+read.Given as goal
 

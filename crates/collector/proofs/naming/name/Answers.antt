@@ -1,7 +1,7 @@
 use Rattle.std.proofs.Common.{◌≡◌, ◌<◌, List, arith, get_or, length, subst, vec_len}
 use Rattle.std.proofs.lemmas.List.{take_all}
 use Rattle.armus_base.specs.declared.ids.TaskId.{TaskId}
-use Rattle.collector.specs.Passes.{NamesToo}
+use Rattle.collector.specs.calls.Passes.{NamesToo}
 use Rattle.collector.proofs.Fresh.{names_more}
 use Rattle.collector.proofs.naming.name.Goals as goal
 

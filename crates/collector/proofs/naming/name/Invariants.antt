@@ -1,5 +1,5 @@
 use Rattle.std.proofs.Common.{◌≡◌, take, vec_len}
-use Rattle.collector.specs.Passes.{NamesToo}
+use Rattle.collector.specs.calls.Passes.{NamesToo}
 use Rattle.collector.proofs.naming.name.Given as goal
 
 abbrev pub invariant-loop-t : goal.invariant-loop-t

@@ -1,5 +1,5 @@
 use Rattle.std.proofs.Common.{ℕ, ◌-◌, ◌<◌, ◌≤◌, length}
-use Rattle.dep_state.specs.Deps.{rows_of}
+use Rattle.dep_state.specs.calls.Deps.{rows_of}
 use Rattle.dep_state.specs.inside.Made.{NotAfter, IsPhaseBelow, IsAdded, nth_event}
 use Rattle.dep_state.proofs.impeders.add_phase.Given as goal
 

@@ -1,6 +1,6 @@
 use Rattle.std.proofs.Common.{take}
 use Rattle.std.specs.Prelude.{Any}
-use Rattle.dep_state.specs.Deps.{rows_of}
+use Rattle.dep_state.specs.calls.Deps.{rows_of}
 use Rattle.dep_state.specs.inside.Made.{IsPhaseBelow, IsAdded, nth_event}
 use Rattle.dep_state.proofs.impeders.add_task.Given as goal
 

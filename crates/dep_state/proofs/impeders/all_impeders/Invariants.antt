@@ -1,4 +1,4 @@
-use Rattle.dep_state.specs.Deps.{rows_of}
+use Rattle.dep_state.specs.calls.Deps.{rows_of}
 use Rattle.dep_state.proofs.AddedRows.{AreRowsTo}
 use Rattle.dep_state.proofs.impeders.all_impeders.Given as goal
 

@@ -1,5 +1,5 @@
 use Rattle.std.proofs.Common.{◌≡◌, [], replicate}
-use Rattle.dep_state.specs.Deps.{rows_of}
+use Rattle.dep_state.specs.calls.Deps.{rows_of}
 use Rattle.dep_state.proofs.impeders.empty_rows.Given as goal
 
 abbrev pub invariant-loop : goal.invariant-loop

@@ -1,7 +1,7 @@
 use Rattle.std.proofs.Common.{◌≡◌, ◌<◌, [], length, arith, get_or, ◌∙◌, sym, ap}
 use Rattle.std.proofs.lemmas.List.{length-map}
 use Rattle.dep_state.specs.inside.Names.{named}
-use Rattle.dep_state.specs.Deps.{rows_of}
+use Rattle.dep_state.specs.calls.Deps.{rows_of}
 use Rattle.dep_state.proofs.NamedTasks.{rows_more}
 use Rattle.dep_state.proofs.TaskPlaces.{row_at}
 use Rattle.dep_state.proofs.names.all_names.Goals as goal

@@ -2,7 +2,7 @@ use Rattle.std.proofs.Common.{◌≡◌, ℕ, ◌<◌, true, false}
 use Rattle.std.specs.Prelude.{Contains, ◌↔◌, slice_index_or}
 use Rattle.armus_base.specs.declared.ids.TaskId.{TaskId}
 use Rattle.armus_base.specs.Finals.{given_below}
-use Rattle.dep_state.specs.Picks.{Ascend, picked_at}
+use Rattle.dep_state.specs.calls.Picks.{Ascend, picked_at}
 use Rattle.dep_state.proofs.picks.picked.Given as goal
 
 abbrev pub invariant-loop-i : goal.invariant-loop-i

@@ -1,7 +1,7 @@
 use Rattle.std.proofs.Common.{◌<◌, [], length}
 use Rattle.std.proofs.lemmas.List.{length-map}
-use Rattle.digraph.specs.Cycle.{IsLeastMarked}
-use Rattle.digraph.specs.Graph.{graph_of}
+use Rattle.digraph.specs.calls.Cycle.{IsLeastMarked}
+use Rattle.digraph.specs.calls.Graph.{graph_of}
 use Rattle.digraph.specs.inside.Search.{row_of}
 use Rattle.digraph.proofs.SearchSteps.{row_at}
 use Rattle.digraph.proofs.LeastSuccessors.{row_answers, some_answer, step_from_least}

@@ -1,5 +1,5 @@
 use Rattle.std.proofs.Common.{length}
-use Rattle.digraph.specs.Graph.{graph_of}
+use Rattle.digraph.specs.calls.Graph.{graph_of}
 use Rattle.digraph.specs.inside.NextTables.{AreNext, IsStepOn}
 use Rattle.digraph.proofs.cycle.successors.Given as goal
 

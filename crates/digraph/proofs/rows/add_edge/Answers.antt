@@ -1,7 +1,7 @@
 use Rattle.std.proofs.Common.{◌≡◌, ◌+◌, length, set, cond}
 use Rattle.std.proofs.lemmas.Result.{IfOk-weaker, on_ok_weaker, on_err_weaker}
 use Rattle.std.proofs.lemmas.List.{length-map}
-use Rattle.digraph.specs.Graph.{graph_of}
+use Rattle.digraph.specs.calls.Graph.{graph_of}
 use Rattle.digraph.specs.inside.Rows.{edge_count}
 use Rattle.digraph.proofs.RowLemmas.{old_row, old_is_row, graph_kept, graph_adds, graph_same, graph_count}
 use Rattle.digraph.proofs.rows.add_edge.Goals as goal

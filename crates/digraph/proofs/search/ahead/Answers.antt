@@ -1,6 +1,6 @@
 use Rattle.std.proofs.Common.{◌-◌, ◌<◌, length, get_or, arith, sym}
 use Rattle.std.proofs.lemmas.List.{length-map}
-use Rattle.digraph.specs.Graph.{graph_of}
+use Rattle.digraph.specs.calls.Graph.{graph_of}
 use Rattle.digraph.specs.inside.Search.{row_of}
 use Rattle.digraph.proofs.SearchSteps.{row_at, read_at, inside_row}
 use Rattle.digraph.proofs.search.ahead.Goals as goal

@@ -2,8 +2,8 @@ use Rattle.std.proofs.Common.{◌≡◌, ◌<◌, List, [], ◌∷◌, ◌++◌,
 use Rattle.std.specs.Prelude.{All}
 use Rattle.std.proofs.lemmas.List.Elements.{All-contains, Contains-push}
 use Rattle.std.proofs.lemmas.List.{get_or_append_left}
-use Rattle.armus_base.specs.Relations.{ReachesCycle}
-use Rattle.digraph.specs.Graph.{HasEdge}
+use Rattle.armus_base.specs.calls.Relations.{ReachesCycle}
+use Rattle.digraph.specs.calls.Graph.{HasEdge}
 use Rattle.digraph.specs.inside.Search.{IsSearch, IsMarked}
 use Rattle.digraph.specs.declared.search.Mark.TheVariants.{Cyclic, Unvisited}
 use Rattle.digraph.proofs.SearchLemmas.{pop_step, at_set}

@@ -1,7 +1,7 @@
 use Rattle.std.proofs.Common.{ℕ, ◌<◌, ◌≤◌, List, length, count_by}
 use Rattle.std.specs.Prelude.{All}
-use Rattle.armus_base.specs.Relations.{ReachesCycle}
-use Rattle.digraph.specs.Graph.{HasEdge}
+use Rattle.armus_base.specs.calls.Relations.{ReachesCycle}
+use Rattle.digraph.specs.calls.Graph.{HasEdge}
 use Rattle.digraph.specs.inside.Search.{IsSearch, KeepsMarked, is_unvisited}
 use Rattle.digraph.proofs.search.mark_cyclic.Given as goal
 

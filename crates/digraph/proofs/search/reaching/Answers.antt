@@ -1,6 +1,6 @@
 use Rattle.std.specs.Prelude.{◌≡◌, map}
 use Rattle.std.proofs.lemmas.Result.{IfOk-weaker}
-use Rattle.digraph.specs.Graph.{TellsCycles, graph_of}
+use Rattle.digraph.specs.calls.Graph.{TellsCycles, graph_of}
 use Rattle.digraph.specs.inside.Search.{is_cyclic}
 use Rattle.digraph.proofs.SearchSteps.{tells}
 use Rattle.digraph.proofs.search.reaching.Goals as goal

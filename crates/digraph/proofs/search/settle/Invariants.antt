@@ -1,5 +1,5 @@
 use Rattle.std.proofs.Common.{◌≡◌}
-use Rattle.digraph.specs.Graph.{graph_of}
+use Rattle.digraph.specs.calls.Graph.{graph_of}
 use Rattle.digraph.specs.inside.Search.{IsSearch, KeepsMarked, mark_of, work}
 use Rattle.digraph.specs.declared.search.Mark.TheVariants.{Unvisited}
 use Rattle.digraph.proofs.search.settle.Given as goal

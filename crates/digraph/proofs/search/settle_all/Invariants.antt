@@ -1,5 +1,5 @@
 use Rattle.std.proofs.Common.{◌≡◌, ℕ, ◌<◌, []}
-use Rattle.digraph.specs.Graph.{graph_of}
+use Rattle.digraph.specs.calls.Graph.{graph_of}
 use Rattle.digraph.specs.inside.Search.{IsSearch, mark_of}
 use Rattle.digraph.specs.declared.search.Mark.TheVariants.{Unvisited}
 use Rattle.digraph.proofs.search.settle_all.Given as goal

@@ -1,5 +1,5 @@
 use Rattle.std.proofs.Common.{◌-◌, ◌<◌, length, arith, subst, ◌∙◌, set}
-use Rattle.digraph.specs.Graph.{graph_of}
+use Rattle.digraph.specs.calls.Graph.{graph_of}
 use Rattle.digraph.specs.inside.Search.{IsSearch}
 use Rattle.digraph.specs.declared.search.Mark.TheVariants.{Unvisited}
 use Rattle.digraph.proofs.SearchSteps.{top_below, finish, look, go_on, cyclic, read_at}

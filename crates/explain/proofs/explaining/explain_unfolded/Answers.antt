@@ -1,5 +1,5 @@
 use Rattle.armus_top.specs.inside.Status.{number_of_status}
-use Rattle.explain.specs.Requested.{named}
+use Rattle.explain.specs.calls.Requested.{file_bytes}
 use Rattle.explain.proofs.EndExplained.{end_explained, waiters_stay}
 use Rattle.explain.proofs.explaining.explain_unfolded.Goals as goal
 
@@ -10,6 +10,6 @@ explanation_of-requires-clause-rest c =
 pub returns : goal.returns
 returns c = record {
   explains = end_explained c.args.places.now c.args.program.now c.args.unfolded.plan c.in_ok-ended.ended c.requires.reads c.requires.plan
-      c.in_ok-ended.ensures.end (named c.args.file) c.in_ok-explanation.explanation (number_of_status c.status_of.result) c.in_ok-explanation.ensures
+      c.in_ok-ended.ensures.end (file_bytes c.args.file) c.in_ok-explanation.explanation (number_of_status c.status_of.result) c.in_ok-explanation.ensures
       c.status_of.ensures;
 }

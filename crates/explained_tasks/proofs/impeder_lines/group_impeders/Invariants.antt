@@ -1,5 +1,5 @@
 use Rattle.std.proofs.Common.{map, take}
-use Rattle.task_sayings.specs.Grouped.{AddsTold, IsSized}
+use Rattle.task_sayings.specs.calls.Grouped.{AddsTold, IsSized}
 use Rattle.explained_tasks.specs.inside.Grouped.{impeder_told, said_in}
 use Rattle.explained_tasks.proofs.impeder_lines.group_impeders.Given as goal
 

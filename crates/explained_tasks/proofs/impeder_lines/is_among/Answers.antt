@@ -1,6 +1,6 @@
 use Rattle.std.proofs.Common.{ap, sym, ◌∙◌}
 use Rattle.task_sayings.specs.Sayings.{Said, same_said}
-use Rattle.task_sayings.specs.SayingValues.{said_by}
+use Rattle.task_sayings.specs.calls.SayingValues.{said_by}
 use Rattle.task_sayings.specs.declared.saying.Saying.{Saying}
 use Rattle.explained_tasks.proofs.GroupsAre.{any_at}
 use Rattle.explained_tasks.proofs.impeder_lines.is_among.Goals as goal

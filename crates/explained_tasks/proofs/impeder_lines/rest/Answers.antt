@@ -3,7 +3,7 @@ use Rattle.std.specs.Prelude.{if◌then◌else◌, not}
 use Rattle.std.specs.List.{list_any}
 use Rattle.task_sayings.specs.declared.impeders.Impeder.{Impeder}
 use Rattle.task_sayings.specs.Sayings.{Said, impeder_said, same_said}
-use Rattle.task_sayings.specs.SayingValues.{said_by}
+use Rattle.task_sayings.specs.calls.SayingValues.{said_by}
 use Rattle.explained_tasks.proofs.GroupsAre.{rest_more}
 use Rattle.explained_tasks.proofs.impeder_lines.rest.Goals as goal
 

@@ -3,7 +3,7 @@ use Rattle.std.proofs.lemmas.List.{map-append}
 use Rattle.armus_base.specs.declared.ids.TaskId.{TaskId}
 use Rattle.explained_tasks.specs.Paragraphs.{explained_tasks, shown_waiting}
 use Rattle.task_sayings.specs.Sayings.{Said, own_said}
-use Rattle.task_sayings.specs.Grouped.{IsGrouped}
+use Rattle.task_sayings.specs.calls.Grouped.{IsGrouped}
 use Rattle.explained_tasks.specs.inside.Grouped.{own_told, said_in}
 use Rattle.explained_tasks.proofs.MembersAre.{said_of_told}
 use Rattle.explained_tasks.proofs.paragraphs.own_groups.Goals as goal

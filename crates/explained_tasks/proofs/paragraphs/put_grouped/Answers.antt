@@ -1,5 +1,5 @@
 use Rattle.std.proofs.Common.{◌<◌, length, arith}
-use Rattle.pl_core.specs.Worlds.{state_of}
+use Rattle.pl_core.specs.calls.Worlds.{state_of}
 use Rattle.explained_tasks.specs.inside.GroupTexts.{paragraph_text}
 use Rattle.explained_tasks.proofs.GroupTexts.{grown}
 use Rattle.explained_tasks.proofs.paragraphs.put_grouped.Goals as goal

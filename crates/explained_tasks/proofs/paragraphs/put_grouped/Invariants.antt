@@ -1,5 +1,5 @@
 use Rattle.std.proofs.Common.{◌≡◌, ◌++◌, take}
-use Rattle.pl_core.specs.Worlds.{state_of}
+use Rattle.pl_core.specs.calls.Worlds.{state_of}
 use Rattle.explained_tasks.specs.inside.GroupTexts.{paragraph_text, texts_in}
 use Rattle.explained_tasks.proofs.paragraphs.put_grouped.Given as goal
 

@@ -1,6 +1,6 @@
 use Rattle.std.proofs.Common.{◌++◌, ap, sym, ◌∙◌, length}
 use Rattle.std.proofs.lemmas.Result.{on_ok_weaker}
-use Rattle.pl_core.specs.Worlds.{state_of}
+use Rattle.pl_core.specs.calls.Worlds.{state_of}
 use Rattle.explained_tasks.specs.inside.GroupTexts.{paragraph_text, texts_in}
 use Rattle.explained_tasks.proofs.GroupsAre.{paragraphs_are, sized_of}
 use Rattle.explained_tasks.proofs.paragraphs.put_paragraphs.Goals as goal

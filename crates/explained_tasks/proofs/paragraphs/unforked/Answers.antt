@@ -1,7 +1,7 @@
 use Rattle.std.proofs.Common.{◌∷◌, [], ◌++◌, ℕ, ap, ◌∙◌}
 use Rattle.std.specs.Prelude.{if◌then◌else◌}
 use Rattle.armus_base.specs.declared.ids.TaskId.{TaskId}
-use Rattle.task_sayings.specs.Facts.{is_unforked, situation_of}
+use Rattle.task_sayings.specs.Facts.{stands_unforked, situation_of}
 use Rattle.task_sayings.proofs.Filters.{below_more}
 use Rattle.explained_tasks.proofs.paragraphs.unforked.Goals as goal
 
@@ -13,6 +13,6 @@ pub loop-t-preserved : goal.loop-t-preserved
 unfolding task
 loop-t-preserved c =
     c.in_ok-push_if.ensures
-    ∙ ap (λ b. c.loop-t.all.items ++ (if b then task c.loop-t.t ∷ [] else [])) (c.is_unforked.ensures ∙ ap is_unforked c.situation.ensures)
-    ∙ ap (λ xs. xs ++ (if is_unforked (situation_of c.args.facts.now c.loop-t.t) then task c.loop-t.t ∷ [] else [])) c.loop-t.invariant
-    ∙ below_more task (λ (t : TaskId). is_unforked (situation_of c.args.facts.now t.0)) c.loop-t.t
+    ∙ ap (λ b. c.loop-t.all.items ++ (if b then task c.loop-t.t ∷ [] else [])) (c.is_unforked.ensures ∙ ap stands_unforked c.situation.ensures)
+    ∙ ap (λ xs. xs ++ (if stands_unforked (situation_of c.args.facts.now c.loop-t.t) then task c.loop-t.t ∷ [] else [])) c.loop-t.invariant
+    ∙ below_more task (λ (t : TaskId). stands_unforked (situation_of c.args.facts.now t.0)) c.loop-t.t

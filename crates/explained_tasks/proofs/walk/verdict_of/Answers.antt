@@ -1,7 +1,7 @@
 use Rattle.std.proofs.Common.{Option, Some, arith, ◌∙◌, sym, subst}
 use Rattle.std.proofs.lemmas.Result.{IfOk-weaker}
 use Rattle.armus_base.specs.declared.ids.TaskId.{TaskId}
-use Rattle.pl_core.specs.Worlds.{state_of}
+use Rattle.pl_core.specs.calls.Worlds.{state_of}
 use Rattle.explained_tasks.specs.Verdicts.{IsVerdict, IsVerdictFrom}
 use Rattle.explained_tasks.proofs.Starts.{start_waits}
 use Rattle.explained_tasks.proofs.walk.verdict_of.Goals as goal

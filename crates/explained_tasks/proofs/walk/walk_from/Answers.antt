@@ -5,10 +5,10 @@ use Rattle.std.proofs.lemmas.List.{get_or_default}
 use Rattle.std.proofs.lemmas.Result.{IfOk-weaker}
 use Rattle.armus_base.specs.declared.ids.TaskId.{TaskId}
 use Rattle.armus_base.proofs.WalkCycles.{walk_more}
-use Rattle.pl_core.specs.Worlds.{state_of}
+use Rattle.pl_core.specs.calls.Worlds.{state_of}
 use Rattle.task_sayings.specs.Nexts.{next_of}
 use Rattle.explained_tasks.specs.Verdicts.{IsVerdictFrom}
-use Rattle.explained_tasks.specs.inside.WalkEnds.{ClosesIn, EndsIn}
+use Rattle.explained_tasks.specs.inside.WalkEnds.{ClosesIn, WalkEndsIn}
 use Rattle.explained_tasks.proofs.NextInside.{next_inside}
 use Rattle.explained_tasks.proofs.VerdictWalks.{closes, ends, set_task_flags}
 use Rattle.explained_tasks.proofs.walk.walk_from.Goals as goal
@@ -36,7 +36,7 @@ returns-in-None c =
           absurd (none_some (next_of f phases c.args.start.0) (ap (λ (t : TaskId). next_of f phases t.0) (sym first) ∙ none) (c.requires.wait c.args.start.0 c.requires.waits))
     ] in
     ends f phases c.args.start c.walk.t c.walk.path.items inv.walk c.chain_of.result some none
-    (subst (λ xs. EndsIn xs c.walk.t c.chain_of.result) c.deref.ensures.value c.chain_of.ensures)
+    (subst (λ xs. WalkEndsIn xs c.walk.t c.chain_of.result) c.deref.ensures.value c.chain_of.ensures)
 
 pub walk-preserved : goal.walk-preserved
 walk-preserved c =

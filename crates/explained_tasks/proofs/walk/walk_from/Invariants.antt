@@ -1,7 +1,7 @@
 use Rattle.std.proofs.Common.{◌≡◌, ℕ, ◌<◌, length, get_or, true, false, count_by}
 use Rattle.std.specs.Prelude.{Contains, ◌↔◌, not}
 use Rattle.armus_base.proofs.WalkCycles.{IsWalkTo}
-use Rattle.pl_core.specs.Worlds.{state_of}
+use Rattle.pl_core.specs.calls.Worlds.{state_of}
 use Rattle.task_sayings.specs.Nexts.{IsNext}
 use Rattle.explained_tasks.proofs.walk.walk_from.Given as goal
 

@@ -3,8 +3,8 @@ use Rattle.std.specs.Prelude.{Contains}
 use Rattle.std.proofs.lemmas.List.{take_more, get_or_default}
 use Rattle.std.proofs.lemmas.List.Elements.{Contains-get_or}
 use Rattle.armus_base.specs.declared.ids.TaskId.{TaskId}
-use Rattle.dep_state.specs.Picks.{Ascend}
-use Rattle.order_graph.specs.Orders.{successors_of}
+use Rattle.dep_state.specs.calls.Picks.{Ascend}
+use Rattle.order_graph.specs.calls.Orders.{successors_of}
 use Rattle.order_graph.proofs.Climbing.{row_ascends}
 use Rattle.order_graph.proofs.NearestTasks.{ahead_below, tells_each}
 use Rattle.order_graph.proofs.distances.nearest.Goals as goal

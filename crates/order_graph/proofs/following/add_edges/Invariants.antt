@@ -1,5 +1,5 @@
 use Rattle.std.proofs.Common.{◌≡◌, length, take}
-use Rattle.order_graph.specs.Orders.{IsOrder}
+use Rattle.order_graph.specs.calls.Orders.{IsOrder}
 use Rattle.order_graph.specs.inside.Steps.{AddsAll, ToWanted}
 use Rattle.order_graph.proofs.following.add_edges.Given as goal
 

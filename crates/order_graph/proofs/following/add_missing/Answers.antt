@@ -1,6 +1,6 @@
 use Rattle.std.proofs.Common.{◌≡◌, ◌<◌, ◌+◌, ◌∙◌, arith, length, subst}
 use Rattle.armus_base.specs.declared.ids.TaskId.{TaskId}
-use Rattle.order_graph.specs.Waits.{Awaits}
+use Rattle.order_graph.specs.calls.Waits.{Awaits}
 use Rattle.order_graph.specs.inside.Steps.{AddsAll, PairsBelow, ToWanted}
 use Rattle.order_graph.proofs.PairEdges.{adds_both, adds_stop, own_pairs, pairs_more}
 use Rattle.order_graph.proofs.WaitSets.{own_tasks}

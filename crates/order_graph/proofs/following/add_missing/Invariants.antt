@@ -1,6 +1,6 @@
 use Rattle.std.proofs.Common.{◌≡◌, length}
-use Rattle.order_graph.specs.Orders.{IsOrder}
-use Rattle.order_graph.specs.Waits.{Awaits}
+use Rattle.order_graph.specs.calls.Orders.{IsOrder}
+use Rattle.order_graph.specs.calls.Waits.{Awaits}
 use Rattle.order_graph.specs.inside.Steps.{AddsAll, PairsBelow}
 use Rattle.order_graph.proofs.following.add_missing.Given as goal
 

@@ -3,7 +3,7 @@ use Rattle.std.specs.Prelude.{All, Contains}
 use Rattle.std.proofs.lemmas.List.Elements.{All-contains, Contains-get_or}
 use Rattle.std.proofs.lemmas.Result.{IfOk-weaker}
 use Rattle.armus_base.specs.declared.ids.TaskId.{TaskId}
-use Rattle.order_graph.specs.Orders.{IsTaskOf}
+use Rattle.order_graph.specs.calls.Orders.{IsTaskOf}
 use Rattle.order_graph.specs.inside.Steps.{AnswersEdges, ToWanted}
 use Rattle.order_graph.proofs.PairEdges.{answers_missing}
 use Rattle.order_graph.proofs.following.add_row.Goals as goal

@@ -1,6 +1,6 @@
 use Rattle.std.proofs.Common.{◌<◌, ◌∙◌, arith, length}
 use Rattle.armus_base.specs.declared.ids.TaskId.{TaskId}
-use Rattle.order_graph.specs.Waits.{Awaits}
+use Rattle.order_graph.specs.calls.Waits.{Awaits}
 use Rattle.order_graph.proofs.PairEdges.{keeps_below_all, keeps_below_more, own_pairs}
 use Rattle.order_graph.proofs.following.drop_others.Goals as goal
 

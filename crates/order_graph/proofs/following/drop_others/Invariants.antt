@@ -1,6 +1,6 @@
 use Rattle.std.proofs.Common.{◌≡◌}
-use Rattle.order_graph.specs.Orders.{IsOrder}
-use Rattle.order_graph.specs.Waits.{Awaits}
+use Rattle.order_graph.specs.calls.Orders.{IsOrder}
+use Rattle.order_graph.specs.calls.Waits.{Awaits}
 use Rattle.order_graph.proofs.PairEdges.{KeepsPairsBelow}
 use Rattle.order_graph.proofs.following.drop_others.Given as goal
 

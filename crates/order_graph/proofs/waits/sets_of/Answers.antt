@@ -2,7 +2,7 @@ use Rattle.std.proofs.Common.{◌≡◌, ◌+◌, ◌∙◌, ap, arith, length}
 use Rattle.std.specs.Prelude.{Contains, ◌↔◌}
 use Rattle.std.proofs.lemmas.List.{length_push}
 use Rattle.armus_base.specs.declared.ids.TaskId.{TaskId}
-use Rattle.dep_state.specs.Deps.{impeders_of}
+use Rattle.dep_state.specs.calls.Deps.{impeders_of}
 use Rattle.dep_state.specs.inside.Names.{named}
 use Rattle.order_graph.proofs.WaitSets.{sets_done, sets_more}
 use Rattle.order_graph.proofs.waits.sets_of.Goals as goal

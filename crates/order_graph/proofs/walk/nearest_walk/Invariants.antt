@@ -1,6 +1,6 @@
 use Rattle.std.proofs.Common.{ℕ, ◌-◌, length}
-use Rattle.armus_base.specs.Relations.{Walk}
-use Rattle.order_graph.specs.Orders.{IsEdge, position_of}
+use Rattle.armus_base.specs.calls.Relations.{Walk}
+use Rattle.order_graph.specs.calls.Orders.{IsEdge, position_of}
 use Rattle.order_graph.specs.inside.Distances.{IsListedIn}
 use Rattle.order_graph.proofs.NearestWalks.{IsWayTo}
 use Rattle.order_graph.proofs.walk.nearest_walk.Given as goal

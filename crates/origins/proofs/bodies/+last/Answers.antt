@@ -1,6 +1,6 @@
 use Rattle.std.proofs.Common.{arith, ◌∙◌, sym, ap}
 use Rattle.pl_syntax.specs.declared.tree.Stmt.{Stmt}
-use Rattle.pl_syntax.specs.Bodies.{followed_by}
+use Rattle.pl_syntax.specs.calls.Bodies.{followed_by}
 use Rattle.pl_syntax.specs.Tree.{done}
 use Rattle.pl_plan.specs.Unfolding.{visits_of}
 use Rattle.origins.specs.Origins.{last_or}

@@ -1,6 +1,6 @@
 use Rattle.std.proofs.Common.{◌≡◌, ◌+◌, ◌*◌, ◌++◌}
 use Rattle.armus_base.specs.Pieces.{times}
-use Rattle.pl_syntax.specs.Bodies.{followed_by}
+use Rattle.pl_syntax.specs.calls.Bodies.{followed_by}
 use Rattle.pl_syntax.specs.Tree.{count, done}
 use Rattle.pl_plan.specs.Unfolding.{visits_of}
 use Rattle.origins.specs.Origins.{statements_where}

@@ -1,7 +1,7 @@
 use Rattle.std.proofs.Common.{◌≡◌, ◌-◌, ◌*◌, ◌<◌, ◌≤◌, ◌∷◌, arith, ◌∙◌, sym, ap, subst}
 use Rattle.armus_base.specs.Pieces.{times}
 use Rattle.pl_syntax.specs.declared.tree.Stmt.{Stmt}
-use Rattle.pl_syntax.specs.Bodies.{followed_by}
+use Rattle.pl_syntax.specs.calls.Bodies.{followed_by}
 use Rattle.pl_syntax.specs.Tree.{done}
 use Rattle.pl_plan.specs.Unfolding.{a_turn, visit, visits_of}
 use Rattle.origins.specs.Origins.{comes_to_op, statements_where}

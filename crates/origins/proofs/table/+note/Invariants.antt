@@ -1,7 +1,7 @@
 use Rattle.std.proofs.Common.{◌+◌, ◌*◌}
 use Rattle.pl_syntax.specs.Tree.{count, done}
-use Rattle.pl_syntax.specs.Bodies.{followed_by}
-use Rattle.origins.specs.inside.Tables.{comings_of}
+use Rattle.pl_syntax.specs.calls.Bodies.{followed_by}
+use Rattle.origins.specs.inside.Tables.{kept_comings}
 use Rattle.origins.proofs.NotingStatements.{Noting}
 use Rattle.origins.proofs.table.+note.Given as goal
 
@@ -12,4 +12,4 @@ abbrev pub decreases-note_statement : goal.decreases-note_statement
 decreases-note_statement l = 2 * count (followed_by l.stmt.now done)
 
 abbrev pub invariant-note_body-loop-stmt : goal.invariant-note_body-loop-stmt
-invariant-note_body-loop-stmt l = Noting l.stmt-items l.stmt-index l.body (comings_of l.rows.items) (comings_of l.fn.rows.items)
+invariant-note_body-loop-stmt l = Noting l.stmt-items l.stmt-index l.body (kept_comings l.rows.items) (kept_comings l.fn.rows.items)

@@ -1,7 +1,7 @@
 use Rattle.std.proofs.Common.{◌++◌, ◌∙◌, refl, sym, ap, arith, append-nil}
 use Rattle.std.specs.List.{slice_get}
 use Rattle.std.proofs.lemmas.Result.{on_ok_weaker}
-use Rattle.pl_syntax.specs.Bodies.{followed_by}
+use Rattle.pl_syntax.specs.calls.Bodies.{followed_by}
 use Rattle.pl_syntax.specs.Tree.{done}
 use Rattle.origins.specs.Turns.{turns_of}
 use Rattle.origins.proofs.Statements.{at_fewer}

@@ -1,5 +1,5 @@
 use Rattle.std.proofs.Common.{◌≡◌, ◌+◌, ◌*◌}
-use Rattle.pl_syntax.specs.Bodies.{followed_by}
+use Rattle.pl_syntax.specs.calls.Bodies.{followed_by}
 use Rattle.pl_syntax.specs.Tree.{count, done}
 use Rattle.origins.proofs.TurnedVisits.{TurnsSoFar}
 use Rattle.origins.proofs.turns.+turns.Given as goal

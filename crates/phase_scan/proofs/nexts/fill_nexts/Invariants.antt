@@ -1,5 +1,5 @@
 use Rattle.std.proofs.Common.{◌≡◌, ℕ, ◌+◌, ◌≤◌, length, get_or}
-use Rattle.phase_scan.specs.Tables.{is_marked}
+use Rattle.phase_scan.specs.calls.Tables.{is_marked}
 use Rattle.phase_scan.specs.inside.Nexts.{IsNextAsked, asked_with}
 use Rattle.phase_scan.proofs.nexts.fill_nexts.Given as goal
 

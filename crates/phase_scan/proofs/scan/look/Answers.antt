@@ -1,6 +1,6 @@
 use Rattle.std.proofs.Common.{◌≡◌, suc, ◌<◌, length, sym, ap, ◌∙◌, subst, arith}
 use Rattle.armus_base.specs.Plans.{Plan}
-use Rattle.board.specs.Views.{seen}
+use Rattle.board.specs.calls.Views.{seen}
 use Rattle.phase_scan.proofs.Loads.{event_phaser, goes_next, reached_all, scans_next, scans_on, scans_to}
 use Rattle.phase_scan.proofs.scan.look.Goals as goal
 

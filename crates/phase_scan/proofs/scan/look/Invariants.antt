@@ -1,7 +1,7 @@
 use Rattle.std.proofs.Common.{◌≡◌, Some}
-use Rattle.board.specs.Views.{seen}
-use Rattle.board.specs.Seats.{IsOf, event_of}
-use Rattle.phase_scan.specs.Looks.{LoadsAlone, ScansTo}
+use Rattle.board.specs.calls.Views.{seen}
+use Rattle.board.specs.calls.Seats.{IsOf, event_of}
+use Rattle.phase_scan.specs.calls.Looks.{LoadsAlone, ScansTo}
 use Rattle.phase_scan.proofs.scan.look.Given as goal
 
 abbrev pub invariant-loop-number : goal.invariant-loop-number

@@ -1,7 +1,7 @@
 use Rattle.std.proofs.Common.{arith, ◌∙◌, sym, subst}
 use Rattle.std.proofs.lemmas.Result.{on_ok_weaker}
 use Rattle.pl_syntax.specs.Tree.{done}
-use Rattle.pl_syntax.specs.Bodies.{followed_by}
+use Rattle.pl_syntax.specs.calls.Bodies.{followed_by}
 use Rattle.pl_plan.specs.inside.Flattening.{AddsSteps}
 use Rattle.pl_plan.proofs.Adding.{flattened_more, adds_fork, adds_loop}
 use Rattle.pl_plan.proofs.flatten.+flatten.Goals as goal

@@ -1,6 +1,6 @@
 use Rattle.std.proofs.Common.{Err, length, arith, ◌∙◌, ap}
 use Rattle.std.proofs.lemmas.Result.{err_from_is_err_and}
-use Rattle.armus_base.specs.Plans.{folded_plan}
+use Rattle.armus_base.specs.calls.Plans.{folded_plan}
 use Rattle.pl_plan.specs.inside.Numbers.{spelling}
 use Rattle.pl_plan.specs.Unfolding.{opening_state}
 use Rattle.pl_plan.proofs.Opens.{unfold_fault}

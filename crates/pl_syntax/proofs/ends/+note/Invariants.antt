@@ -1,6 +1,6 @@
 use Rattle.std.proofs.Common.{◌+◌, ◌*◌}
 use Rattle.pl_syntax.specs.Tree.{count, done}
-use Rattle.pl_syntax.specs.Bodies.{followed_by}
+use Rattle.pl_syntax.specs.calls.Bodies.{followed_by}
 use Rattle.pl_syntax.proofs.EndsByBraces.{NotingEnds}
 use Rattle.pl_syntax.proofs.ends.+note.Given as goal
 

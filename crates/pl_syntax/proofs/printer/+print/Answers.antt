@@ -1,6 +1,6 @@
 use Rattle.std.proofs.Common.{◌++◌, sym, ap, ◌∙◌, arith}
 use Rattle.pl_syntax.specs.Tree.{done}
-use Rattle.pl_syntax.specs.Bodies.{followed_by}
+use Rattle.pl_syntax.specs.calls.Bodies.{followed_by}
 use Rattle.pl_syntax.specs.Printed.{printed_at}
 use Rattle.pl_syntax.proofs.Lines.{on_ok, fork_lines, named_line, starts, fits, goes, ends_text, ends_names}
 use Rattle.pl_syntax.proofs.printer.+print.Goals as goal

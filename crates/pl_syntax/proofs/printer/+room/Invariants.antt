@@ -1,7 +1,7 @@
 use Rattle.std.proofs.Common.{◌≤◌, ◌+◌, ◌-◌, ◌*◌, drop}
 use Rattle.pl_syntax.specs.declared.limits.TheConstants.{MAX_OPEN_BRACES}
 use Rattle.pl_syntax.specs.Tree.{height}
-use Rattle.pl_syntax.specs.Bodies.{tree_of}
+use Rattle.pl_syntax.specs.calls.Bodies.{tree_of}
 use Rattle.pl_syntax.proofs.printer.+room.Given as goal
 
 abbrev pub decreases-body_room : goal.decreases-body_room

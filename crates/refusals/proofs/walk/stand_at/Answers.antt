@@ -2,7 +2,7 @@ use Rattle.std.proofs.Common.{List, true, false}
 use Rattle.std.proofs.lemmas.Result.{IfOk-weaker}
 use Rattle.pl_syntax.specs.Tokens.{Token}
 use Rattle.refusals.specs.Stands.{IsStand, StandsBehind}
-use Rattle.refusals.specs.inside.Walking.{ComesTo}
+use Rattle.refusals.specs.inside.Walking.{WalkComesTo}
 use Rattle.refusals.proofs.Header.{at_fault, comes_one, comes_two, is_one, two_by_header}
 use Rattle.refusals.proofs.walk.stand_at.Goals as goal
 
@@ -23,7 +23,7 @@ returns-in-Some-behind_header c =
     let body = c.in-Some-behind_header.body.now in
     let leads = c.in-Some-behind_header.ensures.some.0 in
     record {
-      stand = IfOk-weaker c.stand_behind.result (λ s. (before : List Token) → ComesTo text true body c.args.fault.at before → StandsBehind text true before s) (IsStand text c.args.fault)
+      stand = IfOk-weaker c.stand_behind.result (λ s. (before : List Token) → WalkComesTo text true body c.args.fault.at before → StandsBehind text true before s) (IsStand text c.args.fault)
           (λ s each. at_fault text c.args.fault b true s (two_by_header text body c.args.fault b leads) (each b.before (comes_two text c.args.fault b body leads)))
           c.stand_behind.ensures.stands;
     }
@@ -34,7 +34,7 @@ returns-in-None c =
     let b = c.requires.fault in
     let none = c.in-None.ensures.none in
     record {
-      stand = IfOk-weaker c.stand_behind-in-None.result (λ s. (before : List Token) → ComesTo text false text c.args.fault.at before → StandsBehind text false before s)
+      stand = IfOk-weaker c.stand_behind-in-None.result (λ s. (before : List Token) → WalkComesTo text false text c.args.fault.at before → StandsBehind text false before s)
           (IsStand text c.args.fault)
           (λ s each. at_fault text c.args.fault b false s (is_one text c.args.fault b none)
           (each b.before (comes_one text c.args.fault b none c.in_default.ensures.outside)))

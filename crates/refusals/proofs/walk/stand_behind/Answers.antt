@@ -3,7 +3,7 @@ use Rattle.pl_syntax.specs.Grammar.{scan_of}
 use Rattle.pl_syntax.specs.Tokens.{front, place}
 use Rattle.pl_syntax.specs.inside.Seen.{token_of}
 use Rattle.pl_syntax.proofs.Fronts.{further}
-use Rattle.refusals.specs.Stands.{first_name}
+use Rattle.refusals.specs.Stands.{first_as_name}
 use Rattle.refusals.specs.inside.OpenBraces.{braces_after}
 use Rattle.refusals.proofs.Reaching.{OnTheWay, arrives_so, next_token, not_end, on_first, on_more}
 use Rattle.refusals.proofs.walk.stand_behind.Goals as goal
@@ -51,8 +51,8 @@ loop-behind-preserved c =
     let braces : c.note_brace.new.braces.items ≡ braces_after token (place (scan_of two text) rest) c.loop-behind.braces.items =
     c.in_ok-note_brace.ensures ∙ ap (λ p. braces_after token p c.loop-behind.braces.items) (c.place-in-loop-behind.ensures ∙ ap (λ s. place s rest) c.scan_of-scan.ensures) in
     subst (λ x. OnTheWay text two c.args.body.now c.args.at after c.shapes_after-shapes.result.now c.note_brace.new.braces.items x) (sym c.behind_of-behind.ensures)
-    (subst (λ x. OnTheWay text two c.args.body.now c.args.at after c.shapes_after-shapes.result.now x (first_name (token ∷ []))) (sym braces)
-    (subst (λ x. OnTheWay text two c.args.body.now c.args.at after x (braces_after token (place (scan_of two text) rest) c.loop-behind.braces.items) (first_name (token ∷ [])))
+    (subst (λ x. OnTheWay text two c.args.body.now c.args.at after c.shapes_after-shapes.result.now x (first_as_name (token ∷ []))) (sym braces)
+    (subst (λ x. OnTheWay text two c.args.body.now c.args.at after x (braces_after token (place (scan_of two text) rest) c.loop-behind.braces.items) (first_as_name (token ∷ [])))
     (sym c.shapes_after-shapes.ensures) on))
 
 pub returns : goal.returns

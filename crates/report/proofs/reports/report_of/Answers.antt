@@ -2,7 +2,7 @@ use Rattle.std.proofs.Common.{◌∙◌, ◌++◌, ap, subst, refl, length}
 use Rattle.std.specs.Prelude.{◌==◌}
 use Rattle.armus_base.specs.DeadLists.{IsDeadList}
 use Rattle.armus_base.specs.Deadlocks.{IsDeadBy}
-use Rattle.adaptive.specs.Choice.{IsAnalysis}
+use Rattle.adaptive.specs.calls.Choice.{IsAnalysis}
 use Rattle.report.specs.Counts.{counts_of}
 use Rattle.report.specs.Lines.{counts_line, task_lines, graph_line}
 use Rattle.report.specs.inside.Appending.{AppendsCycle}

@@ -1,6 +1,6 @@
 use Rattle.std.proofs.Common.{◌≡◌, ℕ, ◌+◌, ◌<◌, length}
 use Rattle.std.specs.Prelude.{◌↔◌, slice_index}
-use Rattle.digraph.specs.Graph.{HasEdge}
+use Rattle.digraph.specs.calls.Graph.{HasEdge}
 use Rattle.resource_graph.proofs.graph.add_awaits.Given as goal
 
 abbrev pub invariant-loop-k : goal.invariant-loop-k

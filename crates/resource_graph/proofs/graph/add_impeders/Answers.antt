@@ -1,6 +1,6 @@
 use Rattle.std.proofs.Common.{◌≡◌, length, arith, ◌∙◌, ap, inl, inr}
-use Rattle.digraph.specs.Graph.{HasEdge}
-use Rattle.dep_state.specs.Deps.{impeders_of}
+use Rattle.digraph.specs.calls.Graph.{HasEdge}
+use Rattle.dep_state.specs.calls.Deps.{impeders_of}
 use Rattle.digraph.proofs.AddedEdges.{later_more}
 use Rattle.resource_graph.proofs.graph.add_impeders.Goals as goal
 

@@ -1,4 +1,4 @@
-use Rattle.slot_pool.specs.Hands.{IsSameWorker}
+use Rattle.slot_pool.specs.calls.PoolValues.{IsSameWorker}
 use Rattle.run_tests.proofs.pool_steps.play.Given as goal
 
 abbrev pub invariant-loop-text : goal.invariant-loop-text

@@ -1,5 +1,5 @@
 use Rattle.std.proofs.Common.{◌≡◌, []}
-use Rattle.slot_pool.specs.Hands.{IsSameWorker}
+use Rattle.slot_pool.specs.calls.PoolValues.{IsSameWorker}
 use Rattle.run_tests.proofs.pool_threads.work.Given as goal
 
 abbrev pub invariant-loop-claim : goal.invariant-loop-claim

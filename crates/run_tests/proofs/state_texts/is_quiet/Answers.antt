@@ -1,6 +1,6 @@
 use Rattle.std.proofs.Common.{ap, arith, below_more, length}
 use Rattle.std.proofs.lemmas.Bool.{false≢true}
-use Rattle.pl_core.specs.Stands.{IsEnabled}
+use Rattle.pl_core.specs.calls.Stands.{IsEnabled}
 use Rattle.run_tests.proofs.state_texts.is_quiet.Goals as goal
 
 pub loop-t-preserved : goal.loop-t-preserved

@@ -1,7 +1,7 @@
 use Rattle.std.proofs.Common.{◌∙◌, subst, sym, IfOk}
 use Rattle.armus_base.specs.DeadLists.{IsDeadList}
-use Rattle.armus_base.specs.Statuses.{IsInOrder}
-use Rattle.pl_core.specs.Worlds.{state_of}
+use Rattle.armus_base.specs.calls.Statuses.{IsInOrder}
+use Rattle.pl_core.specs.calls.Worlds.{state_of}
 use Rattle.schedule.proofs.LineByLine.{statuses_in_order, dead_are_if}
 use Rattle.schedule.proofs.replaying.dead_in.Goals as goal
 

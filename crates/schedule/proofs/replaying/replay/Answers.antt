@@ -1,6 +1,6 @@
 use Rattle.std.proofs.Common.{sym, subst, arith, Err}
 use Rattle.schedule.specs.Replays.{at_start, no_line}
-use Rattle.schedule.specs.Replaying.{Replays}
+use Rattle.schedule.specs.calls.Replaying.{Replays}
 use Rattle.schedule.proofs.LineByLine.{run_grows, leads_more, ends_at}
 use Rattle.schedule.proofs.replaying.replay.Goals as goal
 

@@ -1,6 +1,6 @@
 use Rattle.std.proofs.Common.{subst, sym}
-use Rattle.armus_base.specs.Statuses.{IsInOrder}
-use Rattle.adaptive.specs.Choice.{IsAnalysis}
+use Rattle.armus_base.specs.calls.Statuses.{IsInOrder}
+use Rattle.adaptive.specs.calls.Choice.{IsAnalysis}
 use Rattle.sites.proofs.checking.check_rows.Goals as goal
 
 pub analyse-requires : goal.analyse-requires

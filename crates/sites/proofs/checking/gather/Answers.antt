@@ -1,6 +1,6 @@
 use Rattle.std.proofs.Common.{◌∙◌, subst}
 use Rattle.std.proofs.lemmas.Result.{err_from_is_err_and}
-use Rattle.sites.specs.Keeping.{held}
+use Rattle.sites.specs.calls.Keeping.{held}
 use Rattle.sites.specs.inside.Gathering.{EndsAtSite, TakesRow}
 use Rattle.sites.proofs.Gathered.{end_first, gathered_more, none_more}
 use Rattle.sites.proofs.checking.gather.Goals as goal

@@ -1,8 +1,8 @@
 use Rattle.std.proofs.Common.{◌≡◌, ℕ, List, Option, Some, None, refl, sym, ap}
 use Rattle.std.specs.Prelude.{IsSomeAnd, Err}
-use Rattle.sites.specs.Checks.{IsBadAt}
-use Rattle.sites.specs.Keeping.{held}
-use Rattle.sites.specs.Rows.{IsBadRow}
+use Rattle.sites.specs.calls.Checks.{IsBadAt}
+use Rattle.sites.specs.calls.Keeping.{held}
+use Rattle.sites.specs.calls.Rows.{IsBadRow}
 use Rattle.sites.proofs.checking.take_site.Goals as goal
 
 bad_at : (sites site : ℕ) (rows : List (Option (List ℕ))) (o : Option (List ℕ)) → o ≡ held rows site → IsSomeAnd o (IsBadRow sites site) → IsBadAt sites rows site

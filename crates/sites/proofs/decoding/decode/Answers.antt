@@ -1,6 +1,6 @@
 use Rattle.std.proofs.Common.{arith, subst, sym}
 use Rattle.std.proofs.lemmas.Result.{err_from_is_err_and}
-use Rattle.sites.specs.Rows.{IsRowOf}
+use Rattle.sites.specs.calls.Rows.{IsRowOf}
 use Rattle.sites.specs.inside.Reading.{MayBeStored}
 use Rattle.sites.proofs.RowsRead.{fit_is_row, unfit_is_bad, unread_is_bad}
 use Rattle.sites.proofs.decoding.decode.Goals as goal

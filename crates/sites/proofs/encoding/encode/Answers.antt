@@ -1,6 +1,6 @@
 use Rattle.std.proofs.Common.{length}
 use Rattle.std.specs.Int.{w32, to_be_bytes}
-use Rattle.sites.specs.Rows.{HasNumbers, status_bytes}
+use Rattle.sites.specs.calls.Rows.{HasNumbers, status_bytes}
 use Rattle.sites.proofs.Appending.{each_more, one_more}
 use Rattle.sites.proofs.encoding.encode.Goals as goal
 

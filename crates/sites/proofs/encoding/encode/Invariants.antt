@@ -2,7 +2,7 @@ use Rattle.std.proofs.Common.{◌≡◌, ℕ, ◌<◌, ◌++◌, get_or, length,
 use Rattle.std.specs.Int.{w32, to_be_bytes}
 use Rattle.std.specs.List.{flat_map}
 use Rattle.armus_base.specs.declared.status.Status.{Status}
-use Rattle.sites.specs.Rows.{HasNumbers, status_bytes}
+use Rattle.sites.specs.calls.Rows.{HasNumbers, status_bytes}
 use Rattle.sites.proofs.encoding.encode.Given as goal
 
 abbrev pub invariant-loop-status : goal.invariant-loop-status

@@ -1,7 +1,7 @@
 use Rattle.std.proofs.Common.{◌≡◌, ℕ, ◌<◌, ◌++◌, get_or, take}
 use Rattle.std.specs.List.{flat_map}
 use Rattle.armus_base.specs.declared.status.Member.{Member}
-use Rattle.sites.specs.Rows.{HasPhaseNumbers, phase_bytes}
+use Rattle.sites.specs.calls.Rows.{HasPhaseNumbers, phase_bytes}
 use Rattle.sites.proofs.encoding.put_phases.Given as goal
 
 abbrev pub invariant-loop-m : goal.invariant-loop-m

@@ -2,7 +2,7 @@ use Rattle.std.specs.Int.{w32, to_be_bytes}
 use Rattle.std.proofs.Common.{length, ap, ◌∙◌, ◌++◌, List}
 use Rattle.std.specs.List.{flat_map}
 use Rattle.armus_base.specs.declared.status.Member.{Member}
-use Rattle.sites.specs.Rows.{phase_bytes}
+use Rattle.sites.specs.calls.Rows.{phase_bytes}
 use Rattle.sites.proofs.Appending.{five}
 use Rattle.sites.proofs.encoding.put_status.Goals as goal
 

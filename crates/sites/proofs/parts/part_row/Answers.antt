@@ -1,7 +1,7 @@
 use Rattle.std.proofs.Common.{◌≡◌, ◌++◌, ◌∙◌, ap, length, refl, sym, subst, arith}
 use Rattle.std.specs.Int.{w32, to_be_bytes}
-use Rattle.sites.specs.Checks.{part_of}
-use Rattle.sites.specs.Rows.{IsRowOf}
+use Rattle.sites.specs.calls.Checks.{part_of}
+use Rattle.sites.specs.calls.Rows.{IsRowOf}
 use Rattle.sites.proofs.PuttingParts.{written_more, written_none, written_row}
 use Rattle.sites.proofs.parts.part_row.Goals as goal
 

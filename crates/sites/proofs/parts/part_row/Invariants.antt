@@ -1,6 +1,6 @@
 use Rattle.std.proofs.Common.{length}
 use Rattle.std.specs.Int.{w32, to_be_bytes}
-use Rattle.sites.specs.Checks.{part_of}
+use Rattle.sites.specs.calls.Checks.{part_of}
 use Rattle.sites.proofs.PuttingParts.{IsPartWritten}
 use Rattle.sites.proofs.parts.part_row.Given as goal
 

@@ -1,5 +1,5 @@
 use Rattle.std.proofs.Common.{◌≡◌, ◌∙◌, ◌<◌, sym, refl, subst, length, arith}
-use Rattle.sites.specs.Parts.{PutsParts}
+use Rattle.sites.specs.calls.Parts.{PutsParts}
 use Rattle.sites.specs.inside.Putting.{HavePut}
 use Rattle.sites.proofs.PuttingParts.{put_more, put_none, puts_parts}
 use Rattle.sites.proofs.parts.put_parts.Goals as goal

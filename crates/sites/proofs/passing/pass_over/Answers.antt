@@ -1,8 +1,8 @@
 use Rattle.std.proofs.Common.{◌≡◌, Some, length, map, refl, sym, subst}
 use Rattle.std.specs.Prelude.{slice_get}
 use Rattle.std.proofs.lemmas.List.{map-id}
-use Rattle.sites.specs.Checks.{IsSiteEnd}
-use Rattle.sites.specs.Passes.{IsSitePass}
+use Rattle.sites.specs.calls.Checks.{IsSiteEnd}
+use Rattle.sites.specs.calls.Passes.{IsSitePass}
 use Rattle.sites.specs.inside.Passing.{HaveSnapped}
 use Rattle.sites.proofs.Passed.{put_not_bad, site_passed}
 use Rattle.sites.proofs.PassSteps.{backed_after, made_of}

@@ -1,7 +1,7 @@
 use Rattle.std.proofs.Common.{◌≡◌, ◌∙◌, ◌<◌, ◌+◌, Some, sym, refl, ap, subst, length, set, get_or, arith}
 use Rattle.std.specs.Prelude.{map, slice_get}
 use Rattle.std.proofs.lemmas.List.{map-set}
-use Rattle.sites.specs.Passes.{ChangesRows, HaveLookedOn}
+use Rattle.sites.specs.calls.Passes.{ChangesRows, HaveLookedOn}
 use Rattle.sites.specs.inside.Passing.{HaveSnapped}
 use Rattle.sites.proofs.PassSteps.{looked_more, made_of, length_map, read_here, rows_more, snapped_looked, snapped_more, snapped_none, snapped_rows}
 use Rattle.sites.proofs.passing.snap_sites.Goals as goal

@@ -1,5 +1,5 @@
 use Rattle.std.proofs.Common.{arith, length, vec_len, ◌≡◌}
-use Rattle.sites.specs.Rows.{is_of_site}
+use Rattle.sites.specs.calls.Rows.{is_of_site}
 use Rattle.sites.proofs.SnapSteps.{chosen_more, looked_both, others_more}
 use Rattle.sites.proofs.snapping.load_awaits.Goals as goal
 

@@ -1,10 +1,10 @@
 use Rattle.std.proofs.Common.{◌≡◌, ℕ, false, vec_len}
 use Rattle.std.specs.Prelude.{None}
-use Rattle.board.specs.Seats.{IsOf}
-use Rattle.phase_scan.specs.Tables.{event_for}
-use Rattle.sites.specs.Rows.{is_of_site}
-use Rattle.phase_scan.specs.Collects.{LoadsChosen}
-use Rattle.sites.specs.Snaps.{HasLookedOn}
+use Rattle.board.specs.calls.Seats.{IsOf}
+use Rattle.phase_scan.specs.calls.Tables.{event_for}
+use Rattle.sites.specs.calls.Rows.{is_of_site}
+use Rattle.phase_scan.specs.calls.Collects.{LoadsChosen}
+use Rattle.sites.specs.calls.Snaps.{HasLookedOn}
 use Rattle.sites.proofs.snapping.load_awaits.Given as goal
 
 abbrev pub invariant-loop-number : goal.invariant-loop-number

@@ -1,4 +1,4 @@
-use Rattle.board.specs.Views.{found_of}
+use Rattle.board.specs.calls.Views.{found_of}
 use Rattle.sites.proofs.SnapSteps.{looked_await}
 use Rattle.sites.proofs.snapping.load_event.Goals as goal
 

@@ -1,6 +1,6 @@
 use Rattle.std.proofs.Common.{◌∙◌, ap, subst, sym, refl, inl, ◌++◌}
 use Rattle.std.specs.Prelude.{All, option_to_list}
-use Rattle.sites.specs.Rows.{HasPhaseNumbers}
+use Rattle.sites.specs.calls.Rows.{HasPhaseNumbers}
 use Rattle.std.proofs.lemmas.List.Elements.{All-append}
 use Rattle.phase_scan.proofs.Keeping.{still_of}
 use Rattle.sites.proofs.SnapSteps.{finds_more, finds_none, looked_both, looked_phase}

@@ -1,5 +1,5 @@
-use Rattle.board.specs.Seats.{IsOf}
-use Rattle.sites.specs.Snaps.{HasLookedOn}
+use Rattle.board.specs.calls.Seats.{IsOf}
+use Rattle.sites.specs.calls.Snaps.{HasLookedOn}
 use Rattle.sites.specs.inside.Snapping.{FindsRow}
 use Rattle.sites.proofs.snapping.load_row.Given as goal
 

@@ -1,5 +1,5 @@
 use Rattle.std.proofs.Common.{refl, inl, subst, length}
-use Rattle.phase_scan.specs.Tables.{event_for}
+use Rattle.phase_scan.specs.calls.Tables.{event_for}
 use Rattle.sites.specs.inside.Snapping.{FindsStatus}
 use Rattle.sites.proofs.SnapSteps.{looked_both, rows_none, rows_one_more}
 use Rattle.sites.proofs.snapping.load_rows.Goals as goal

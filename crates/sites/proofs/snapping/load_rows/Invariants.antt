@@ -1,6 +1,6 @@
-use Rattle.board.specs.Seats.{IsOf}
-use Rattle.phase_scan.specs.Tables.{event_for}
-use Rattle.sites.specs.Snaps.{HasLookedOn}
+use Rattle.board.specs.calls.Seats.{IsOf}
+use Rattle.phase_scan.specs.calls.Tables.{event_for}
+use Rattle.sites.specs.calls.Snaps.{HasLookedOn}
 use Rattle.sites.specs.inside.Snapping.{FindsRows}
 use Rattle.sites.proofs.snapping.load_rows.Given as goal
 

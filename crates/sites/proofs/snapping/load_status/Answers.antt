@@ -1,6 +1,6 @@
 use Rattle.std.proofs.Common.{refl, sym, ap, ◌∙◌, subst, Some, None, length, List}
 use Rattle.armus_base.specs.declared.status.Member.{Member}
-use Rattle.sites.specs.Rows.{HasNumbers}
+use Rattle.sites.specs.calls.Rows.{HasNumbers}
 use Rattle.sites.specs.inside.Snapping.{FindsStatus}
 use Rattle.sites.proofs.Fields.{some_is}
 use Rattle.sites.proofs.snapping.load_status.Goals as goal

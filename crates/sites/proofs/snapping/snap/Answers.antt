@@ -1,8 +1,8 @@
 use Rattle.std.proofs.Common.{◌≡◌, List, Option, length, refl, subst, sym, All}
 use Rattle.armus_base.specs.declared.event.Event.{Event}
-use Rattle.phase_scan.specs.Tables.{event_for}
-use Rattle.sites.specs.Rows.{HasNumbers}
-use Rattle.sites.specs.Snaps.{IsSnap}
+use Rattle.phase_scan.specs.calls.Tables.{event_for}
+use Rattle.sites.specs.calls.Rows.{HasNumbers}
+use Rattle.sites.specs.calls.Snaps.{IsSnap}
 use Rattle.sites.specs.inside.Snapping.{FindsRows}
 use Rattle.sites.proofs.CountingSnaps.{counts_snap}
 use Rattle.sites.proofs.Snapped.{snap_made, snap_stored, snap_told}

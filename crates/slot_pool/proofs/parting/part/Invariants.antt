@@ -3,7 +3,7 @@ use Rattle.std.specs.List.{range_with_len}
 use Rattle.std.specs.Vec.{vec_capacity, vec_len}
 use Rattle.slot_pool.specs.inside.Parting.{left_for}
 use Rattle.slot_pool.specs.inside.Workers.{HasRoom}
-use Rattle.slot_pool.specs.Views.{starting_view}
+use Rattle.slot_pool.specs.calls.Views.{starting_view}
 use Rattle.slot_pool.proofs.parting.part.Given as goal
 
 abbrev pub invariant-loop-number : goal.invariant-loop-number

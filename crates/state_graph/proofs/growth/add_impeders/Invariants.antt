@@ -1,6 +1,6 @@
 use Rattle.std.proofs.Common.{◌≡◌, ℕ, ◌≤◌, ◌<◌, length, ◌⊎◌}
 use Rattle.std.specs.Prelude.{◌↔◌, slice_index}
-use Rattle.digraph.specs.Graph.{HasEdge}
+use Rattle.digraph.specs.calls.Graph.{HasEdge}
 use Rattle.state_graph.specs.inside.Growing.{IsPairBetween}
 use Rattle.state_graph.proofs.growth.add_impeders.Given as goal
 

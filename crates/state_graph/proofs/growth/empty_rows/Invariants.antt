@@ -1,5 +1,5 @@
 use Rattle.std.proofs.Common.{◌≡◌, [], replicate}
-use Rattle.digraph.specs.Graph.{graph_of}
+use Rattle.digraph.specs.calls.Graph.{graph_of}
 use Rattle.state_graph.proofs.growth.empty_rows.Given as goal
 
 abbrev pub invariant-loop : goal.invariant-loop

@@ -1,8 +1,8 @@
 use Rattle.std.proofs.Common.{◌≡◌, ◌⊎◌, arith, get_or, length, ◌∙◌, sym, subst, ℕ}
 use Rattle.std.specs.Prelude.{◌↔◌}
 use Rattle.std.proofs.lemmas.List.{get_or_default, length-map}
-use Rattle.digraph.specs.Graph.{graph_of, HasEdge}
-use Rattle.dep_state.specs.Deps.{impeders_of}
+use Rattle.digraph.specs.calls.Graph.{graph_of, HasEdge}
+use Rattle.dep_state.specs.calls.Deps.{impeders_of}
 use Rattle.state_graph.specs.inside.Growing.{IsPairBetween, IsPassing}
 use Rattle.state_graph.proofs.FollowedEvent.{followed}
 use Rattle.state_graph.proofs.growth.follow.Goals as goal

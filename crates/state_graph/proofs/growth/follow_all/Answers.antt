@@ -2,7 +2,7 @@ use Rattle.std.proofs.Common.{◌≡◌, ◌∷◌, ◌+◌, ◌<◌, arith, ap,
 use Rattle.std.specs.Prelude.{Contains}
 use Rattle.std.proofs.lemmas.List.{drop_more, drop_all}
 use Rattle.armus_base.proofs.Elements.{Contains-head}
-use Rattle.digraph.specs.Graph.{graph_of}
+use Rattle.digraph.specs.calls.Graph.{graph_of}
 use Rattle.state_graph.specs.inside.Growing.{IsGrowing}
 use Rattle.state_graph.proofs.FollowedEvent.{due_inside, due_within}
 use Rattle.state_graph.proofs.GrowingPairs.{grown_more}

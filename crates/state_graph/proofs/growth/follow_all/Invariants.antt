@@ -1,5 +1,5 @@
 use Rattle.std.proofs.Common.{drop}
-use Rattle.digraph.specs.Graph.{graph_of}
+use Rattle.digraph.specs.calls.Graph.{graph_of}
 use Rattle.state_graph.specs.inside.Growing.{IsGrowing}
 use Rattle.state_graph.proofs.growth.follow_all.Given as goal
 

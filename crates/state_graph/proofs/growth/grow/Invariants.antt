@@ -1,5 +1,5 @@
 use Rattle.std.proofs.Common.{◌+◌}
-use Rattle.digraph.specs.Graph.{graph_of}
+use Rattle.digraph.specs.calls.Graph.{graph_of}
 use Rattle.state_graph.specs.inside.Growing.{IsGrown, RowsAscend, StaysSmallBelow}
 use Rattle.state_graph.proofs.growth.grow.Given as goal
 

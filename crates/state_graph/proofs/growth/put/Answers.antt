@@ -2,7 +2,7 @@ use Rattle.std.proofs.Common.{inl, inr, ◌∙◌, sym, ap, ◌≡◌, ◌<◌, 
 use Rattle.std.proofs.lemmas.List.Elements.{All-get_or}
 use Rattle.digraph.proofs.RowLemmas.{graph_adds}
 use Rattle.digraph.proofs.AddedEdges.{push_members}
-use Rattle.dep_state.specs.Deps.{impeders_of}
+use Rattle.dep_state.specs.calls.Deps.{impeders_of}
 use Rattle.state_graph.proofs.growth.put.Goals as goal
 
 pub returns-in_ok-push-clause-rows : goal.returns-in_ok-push-clause-rows

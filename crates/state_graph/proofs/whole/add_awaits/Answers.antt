@@ -1,6 +1,6 @@
 use Rattle.std.proofs.Common.{◌≡◌, ℕ, arith, sym, ◌∙◌, refl, get_or, inl, inr}
 use Rattle.std.proofs.lemmas.List.{take_all}
-use Rattle.digraph.specs.Graph.{HasEdge}
+use Rattle.digraph.specs.calls.Graph.{HasEdge}
 use Rattle.digraph.proofs.AddedEdges.{any_more}
 use Rattle.state_graph.proofs.whole.add_awaits.Goals as goal
 

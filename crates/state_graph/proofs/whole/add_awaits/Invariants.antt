@@ -1,6 +1,6 @@
 use Rattle.std.proofs.Common.{◌≡◌, ℕ, length, ◌⊎◌, take}
 use Rattle.std.specs.Prelude.{Contains, ◌↔◌, slice_index}
-use Rattle.digraph.specs.Graph.{HasEdge}
+use Rattle.digraph.specs.calls.Graph.{HasEdge}
 use Rattle.state_graph.proofs.whole.add_awaits.Given as goal
 
 abbrev pub invariant-loop-u : goal.invariant-loop-u

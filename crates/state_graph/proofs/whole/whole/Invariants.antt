@@ -1,6 +1,6 @@
 use Rattle.std.proofs.Common.{◌≡◌, ℕ, ◌<◌, length}
 use Rattle.std.specs.Prelude.{◌↔◌}
-use Rattle.digraph.specs.Graph.{HasEdge}
+use Rattle.digraph.specs.calls.Graph.{HasEdge}
 use Rattle.state_graph.proofs.WholePairs.{IsPairBy}
 use Rattle.state_graph.proofs.whole.whole.Given as goal
 

@@ -1,5 +1,5 @@
 use Rattle.std.proofs.Common.{◌∙◌, ◌++◌, ap, codes, decimal, sym}
-use Rattle.step_lines.specs.StepWords.{with_phase}
+use Rattle.step_lines.specs.StepWords.{with_phase_words}
 use Rattle.step_lines.proofs.Pieces.{two_pieces}
 use Rattle.step_lines.proofs.changes.put_with_phase.Goals as goal
 
@@ -7,4 +7,4 @@ pub returns-in_ok-put_number-in-Some : goal.returns-in_ok-put_number-in-Some
 returns-in_ok-put_number-in-Some c =
     two_pieces c.args.out.now.items c.put_words.new.out.items c.put_number.new.out.items (codes " with phase ") (decimal c.in-Some.n)
     c.in_ok-put_words-in-Some.ensures c.in_ok-put_number-in-Some.ensures
-    ∙ ap (λ ph. c.args.out.now.items ++ with_phase ph) (sym c.in-Some.is)
+    ∙ ap (λ ph. c.args.out.now.items ++ with_phase_words ph) (sym c.in-Some.is)

@@ -1,6 +1,6 @@
 use Rattle.std.proofs.Common.{◌≡◌, ◌∙◌, ap, arith, inl, inr, length, subst}
 use Rattle.std.proofs.lemmas.Bool.{cases_lt}
-use Rattle.pl_core.specs.Stands.{IsEnabled}
+use Rattle.pl_core.specs.calls.Stands.{IsEnabled}
 use Rattle.step_lines.proofs.stepping.least_enabled.Goals as goal
 
 pub loop-t-preserved : goal.loop-t-preserved

@@ -1,9 +1,9 @@
 use Rattle.std.proofs.Common.{◌++◌, codes, decimal}
 use Rattle.origins.specs.Origins.{op_origin}
-use Rattle.pl_core.specs.Worlds.{action_by_code, state_of}
+use Rattle.pl_core.specs.calls.Worlds.{action_by_code, state_of}
 use Rattle.task_sayings.specs.Places.{said_of}
-use Rattle.step_lines.specs.StepWords.{change_words, task_words, whence_words}
-use Rattle.step_lines.specs.inside.Known.{layout_of}
+use Rattle.step_lines.specs.StepWords.{change_words, drawn_task_words, whence_words}
+use Rattle.step_lines.specs.inside.Known.{kept_layout}
 use Rattle.step_lines.proofs.LineSaid.{as_line}
 use Rattle.step_lines.proofs.Pieces.{eight_pieces}
 use Rattle.step_lines.proofs.stepping.put_line.Goals as goal
@@ -11,11 +11,11 @@ use Rattle.step_lines.proofs.stepping.put_line.Goals as goal
 pub returns : goal.returns
 returns c =
     let p = c.args.facts.now.program.now in
-    let l = layout_of c.args.facts.now in
+    let l = kept_layout c.args.facts.now in
     let w = c.args.world.now in
     let t = c.args.t.0 in
     let i = c.op-i.result in
-    let who = task_words p t in
+    let who = drawn_task_words p t in
     let whence = whence_words l p t (op_origin p t i) in
     let change = change_words p (state_of w) t in
     record {

@@ -1,5 +1,5 @@
 use Rattle.std.proofs.Common.{◌∙◌, ◌++◌, ap}
-use Rattle.step_lines.specs.ShownSteps.{rest_line}
+use Rattle.step_lines.specs.ShownSteps.{more_steps_line}
 use Rattle.step_lines.proofs.GoingOn.{stepped_run}
 use Rattle.step_lines.proofs.stepping.step_through.Goals as goal
 
@@ -10,6 +10,6 @@ returns c =
     record {
       run = stepped_run c.in_ok-facts.facts c.in_ok-facts.ensures.known c.args.plan.now run h so_far c.in_ok-world.ensures.plan c.in_ok-world.ensures.quiet
           c.from_vec.result c.in_ok-end.end
-          (c.from_vec.ensures.items ∙ c.in_ok-put_rest.ensures ∙ ap (λ n. run.lines.items ++ rest_line n) c.saturating_sub.ensures) c.in_ok-end.ensures.end
+          (c.from_vec.ensures.items ∙ c.in_ok-put_rest.ensures ∙ ap (λ n. run.lines.items ++ more_steps_line n) c.saturating_sub.ensures) c.in_ok-end.ensures.end
           c.args.places.now c.args.program.now c.in_ok-facts.ensures.text c.in_ok-facts.ensures.program;
     }

@@ -1,5 +1,5 @@
 use Rattle.std.proofs.Common.{[], arith, refl}
-use Rattle.step_lines.specs.inside.Known.{layout_of}
+use Rattle.step_lines.specs.inside.Known.{kept_layout}
 use Rattle.step_lines.proofs.GoingOn.{few_steps, none_yet}
 use Rattle.step_lines.proofs.stepping.steps_of.Goals as goal
 
@@ -8,7 +8,7 @@ loop-run-init c = record {
   plan = c.in_ok-world.ensures.opening.plan_is;
   so_far = (
     [],
-    none_yet (layout_of c.args.facts.now) c.args.facts.now.program.now c.args.plan.now
+    none_yet (kept_layout c.args.facts.now) c.args.facts.now.program.now c.args.plan.now
         (record { world = c.in_ok-world.world; lines = c.new.result; steps = 0 }) c.tasks-tasks.ensures.checked c.in_ok-world.ensures.opening refl c.new.ensures.items,
   );
 }
@@ -16,13 +16,13 @@ loop-run-init c = record {
 pub go_on-requires-clause-room : goal.go_on-requires-clause-room
 go_on-requires-clause-room c =
     let (h, so_far) = c.loop-run.invariant.so_far in
-    let few = few_steps (layout_of c.args.facts.now) c.args.facts.now.program.now h c.loop-run.run so_far in
+    let few = few_steps (kept_layout c.args.facts.now) c.args.facts.now.program.now h c.loop-run.run so_far in
     omega (arith, few)
 
 pub loop-run-smaller : goal.loop-run-smaller
 loop-run-smaller c =
     let (h, so_far) = c.loop-run.invariant.so_far in
-    let few = few_steps (layout_of c.args.facts.now) c.args.facts.now.program.now h c.loop-run.run so_far in
+    let few = few_steps (kept_layout c.args.facts.now) c.args.facts.now.program.now h c.loop-run.run so_far in
     let more = c.in_ok-go_on.ensures.counted c.if-branch.true in
     omega (arith, few, more)
 

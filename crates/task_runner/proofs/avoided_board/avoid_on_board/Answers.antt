@@ -1,5 +1,5 @@
 use Rattle.std.proofs.Common.{ap}
-use Rattle.armus_base.specs.Seats.{SeenBy}
+use Rattle.armus_base.specs.calls.Seats.{SeenBy}
 use Rattle.task_runner.proofs.avoided_board.avoid_on_board.Goals as goal
 
 pub end_avoided-requires-clause-unknown : goal.end_avoided-requires-clause-unknown

@@ -2,26 +2,26 @@ use Rattle.std.proofs.Common.{◌≡◌, ◌++◌, ◌∙◌, List, None, Ok, Er
 use Rattle.std.specs.Prelude.{slice_get}
 use Rattle.armus_base.specs.declared.ids.TaskId.{TaskId}
 use Rattle.armus_base.specs.declared.status.Dead.{Dead}
-use Rattle.armus_base.specs.Boards.{IsLawful}
+use Rattle.armus_base.specs.calls.Boards.{IsLawful}
 use Rattle.armus_base.specs.CheckedPlans.{IsCheckedPlan}
 use Rattle.armus_base.specs.DeadLists.{IsDeadList}
 use Rattle.armus_base.specs.Plans.{Plan}
 use Rattle.armus_base.specs.Places.{state_at}
 use Rattle.armus_base.specs.Runs.{IsReachable}
-use Rattle.armus_base.specs.Statuses.{IsInOrder}
+use Rattle.armus_base.specs.calls.Statuses.{IsInOrder}
 use Rattle.armus_base.specs.declared.status.Status.{Status}
 use Rattle.pl_core.specs.declared.place.Place.{Place as KeptPlace}
-use Rattle.pl_core.specs.Worlds.{places_at}
+use Rattle.pl_core.specs.calls.Worlds.{places_at}
 use Rattle.board.specs.declared.mode.Mode.{Mode}
-use Rattle.board.specs.Closing.{AreLastOf}
-use Rattle.board.specs.Seats.{IsOf}
-use Rattle.board.specs.Views.{seen}
-use Rattle.board.specs.Words.{IsShown}
-use Rattle.collector.specs.Passes.{HasDeadOf}
-use Rattle.board_rounds.specs.Crews.{ArePlacesOf, all_of}
-use Rattle.task_runner.specs.DetectRuns.{AreDeadAtTheEnd, AreSettledPlaces, told}
+use Rattle.board.specs.calls.Closing.{AreLastOf}
+use Rattle.board.specs.calls.Seats.{IsOf}
+use Rattle.board.specs.calls.Views.{seen}
+use Rattle.board.specs.calls.Words.{IsShown}
+use Rattle.collector.specs.calls.Passes.{HasDeadOf}
+use Rattle.board_rounds.specs.calls.TaskSeats.{ArePlacesOf, all_of}
+use Rattle.task_runner.specs.calls.DetectRuns.{AreDeadAtTheEnd, AreSettledPlaces, told}
 use Rattle.task_runner.specs.inside.Rests.{TellsRest}
-use Rattle.task_runner.specs.inside.Tellers.{TellsMore}
+use Rattle.task_runner.specs.inside.LiveReporters.{TellsMore}
 use Rattle.task_runner.specs.declared.ran.RunEnd.TheVariants.{NoMemory}
 use Rattle.task_runner.proofs.BoardEnds.{lawful, plain, reachable, settled, shown}
 use Rattle.task_runner.proofs.LastPasses.{dead_there, named_there, statuses_in}
@@ -31,9 +31,9 @@ use Rattle.task_runner.proofs.detect.end_run.Goals as goal
 pub end_from-requires-clause-reachable : goal.end_from-requires-clause-reachable
 end_from-requires-clause-reachable g c κs within =
     let f = c.args.board in
-    let tasks = all_of c.args.run.crew in
+    let tasks = all_of c.args.run.board_tasks in
     let before = c.take_in.new.self.view in
-    let now = c.last_pass.new.teller.view in
+    let now = c.last_pass.new.live_reporter.view in
     let goes = c.last_pass.ensures.goes_on in
     let made = c.take_in.ensures.watches.made in
     let of : IsOf now f = record { table = goes.table ∙ made.table; plan = goes.same.plan ∙ made.plan; mode = goes.same.mode ∙ made.mode } in
@@ -43,15 +43,15 @@ end_from-requires-clause-reachable g c κs within =
     let are = subst (λ (q : Plan). ArePlacesOf q tasks places) (sym c.requires.under_way.on_board.of_plan) c.in-Ok.ensures.places in
     subst (λ (xs : List KeptPlace). IsReachable c.args.run.plan.now (places_at c.args.run.plan.now xs)) (sym c.as_slice.ensures.items)
     (subst (λ (q : Plan). IsReachable q (places_at q places)) c.requires.under_way.on_board.of_plan
-    (reachable f c.requires.under_way.detects tasks c.requires.under_way.on_board.crew.all.crew places are before now c.take_in.ensures.known goes of
+    (reachable f c.requires.under_way.detects tasks c.requires.under_way.on_board.board_tasks.all.board_tasks places are before now c.take_in.ensures.known goes of
     words last))
 
 pub end_from-requires-clause-plain : goal.end_from-requires-clause-plain
 end_from-requires-clause-plain g c κs within = λ t place is.
     let f = c.args.board in
-    let tasks = all_of c.args.run.crew in
+    let tasks = all_of c.args.run.board_tasks in
     let before = c.take_in.new.self.view in
-    let now = c.last_pass.new.teller.view in
+    let now = c.last_pass.new.live_reporter.view in
     let goes = c.last_pass.ensures.goes_on in
     let made = c.take_in.ensures.watches.made in
     let of : IsOf now f = record { table = goes.table ∙ made.table; plan = goes.same.plan ∙ made.plan; mode = goes.same.mode ∙ made.mode } in
@@ -59,22 +59,22 @@ end_from-requires-clause-plain g c κs within = λ t place is.
     let last = subst (λ (m : Mode). AreLastOf f.plan m (seen now.view) words) c.requires.under_way.detects c.close-words.ensures.words in
     let places : List KeptPlace = c.in-Ok.places in
     let are = subst (λ (q : Plan). ArePlacesOf q tasks places) (sym c.requires.under_way.on_board.of_plan) c.in-Ok.ensures.places in
-    plain f c.requires.under_way.detects tasks c.requires.under_way.on_board.crew.all.crew places are before now c.take_in.ensures.known goes of words
+    plain f c.requires.under_way.detects tasks c.requires.under_way.on_board.board_tasks.all.board_tasks places are before now c.take_in.ensures.known goes of words
     last t place (ap (λ (xs : List KeptPlace). slice_get xs t) (sym c.as_slice.ensures.items) ∙ is)
 
 pub returns-in_default-clause-told : goal.returns-in_default-clause-told
 returns-in_default-clause-told g c = λ live.
-    none_on c.args.run.plan.now c.args.teller.dead (told g.K.Sink.taken g.K.Sink.faults c.args.out.now) (told g.K.Sink.taken g.K.Sink.faults c.args.out.now) (Err NoMemory) refl refl
-    (subst (λ (q : Plan). AreDeadAtTheEnd q c.args.teller.dead) c.requires.under_way.on_board.of_plan c.requires.under_way.watches.dead)
+    none_on c.args.run.plan.now c.args.live_reporter.dead (told g.K.Sink.taken g.K.Sink.faults c.args.out.now) (told g.K.Sink.taken g.K.Sink.faults c.args.out.now) (Err NoMemory) refl refl
+    (subst (λ (q : Plan). AreDeadAtTheEnd q c.args.live_reporter.dead) c.requires.under_way.on_board.of_plan c.requires.under_way.watches.dead)
 
 pub returns-in_err-last_pass-clause-told : goal.returns-in_err-last_pass-clause-told
 returns-in_err-last_pass-clause-told g c = λ live.
     let a = told g.K.Sink.taken g.K.Sink.faults c.args.out.now in
     let m = told g.K.Sink.taken g.K.Sink.faults c.last_pass.new.out in
     let is : c.from_residual.result ≡ Err c.in_err-last_pass.field-0.0 = search rules in
-    pass_err (Unit {0}) c.args.run.plan.now c.args.teller.dead c.last_pass.new.teller.dead a m c.in_err-last_pass.field-0.0 c.from_residual.result is
-    (subst (λ (q : Plan). TellsMore {A = Unit {0}} q c.args.teller.dead c.last_pass.new.teller.dead a m (Err c.in_err-last_pass.field-0.0)) c.requires.under_way.on_board.of_plan
-    (subst (λ (ds : List Dead). TellsMore {A = Unit {0}} c.args.board.plan ds c.last_pass.new.teller.dead a m (Err c.in_err-last_pass.field-0.0))
+    pass_err (Unit {0}) c.args.run.plan.now c.args.live_reporter.dead c.last_pass.new.live_reporter.dead a m c.in_err-last_pass.field-0.0 c.from_residual.result is
+    (subst (λ (q : Plan). TellsMore {A = Unit {0}} q c.args.live_reporter.dead c.last_pass.new.live_reporter.dead a m (Err c.in_err-last_pass.field-0.0)) c.requires.under_way.on_board.of_plan
+    (subst (λ (ds : List Dead). TellsMore {A = Unit {0}} c.args.board.plan ds c.last_pass.new.live_reporter.dead a m (Err c.in_err-last_pass.field-0.0))
     c.take_in.ensures.same (c.in_err-last_pass.ensures.told live)))
 
 pub returns-in_default-end_from-clause-told : goal.returns-in_default-end_from-clause-told
@@ -82,7 +82,7 @@ returns-in_default-end_from-clause-told g c = λ live.
     let t = c.in_ok-last_pass.ensures.told live in
     let grown = t.1 ∙ ap (λ (ds : List Dead). ds ++ t.0) c.take_in.ensures.same in (
       t.0,
-      subst (AreDeadAtTheEnd c.args.run.plan.now) grown (subst (λ (q : Plan). AreDeadAtTheEnd q c.last_pass.new.teller.dead) c.requires.under_way.on_board.of_plan
+      subst (AreDeadAtTheEnd c.args.run.plan.now) grown (subst (λ (q : Plan). AreDeadAtTheEnd q c.last_pass.new.live_reporter.dead) c.requires.under_way.on_board.of_plan
           c.in_ok-last_pass.ensures.watches.dead),
       t.2,
     )
@@ -101,9 +101,9 @@ returns-in_err-tell_rest-clause-told g c = λ live.
     let t = c.in_ok-last_pass.ensures.told live in
     let grown = t.1 ∙ ap (λ (ds : List Dead). ds ++ t.0) c.take_in.ensures.same in
     let is : c.from_residual-in_err-tell_rest.result ≡ Err c.in_err-tell_rest.field-0.0 = search rules in
-    let dead : c.as_slice-3.result.now ≡ c.last_pass.new.teller.dead = search rules in
-    rest_err c.args.run.plan.now c.in-Ok-end_from.end c.in-Ok-end_from.ensures.end c.args.teller.dead c.last_pass.new.teller.dead t.0 grown a m n t.2
-    (subst (λ (q : Plan). AreDeadAtTheEnd q c.last_pass.new.teller.dead) c.requires.under_way.on_board.of_plan c.in_ok-last_pass.ensures.watches.dead)
+    let dead : c.as_slice-3.result.now ≡ c.last_pass.new.live_reporter.dead = search rules in
+    rest_err c.args.run.plan.now c.in-Ok-end_from.end c.in-Ok-end_from.ensures.end c.args.live_reporter.dead c.last_pass.new.live_reporter.dead t.0 grown a m n t.2
+    (subst (λ (q : Plan). AreDeadAtTheEnd q c.last_pass.new.live_reporter.dead) c.requires.under_way.on_board.of_plan c.in_ok-last_pass.ensures.watches.dead)
     c.in_err-tell_rest.field-0.0 c.from_residual-in_err-tell_rest.result is
     (subst (λ (ds : List Dead). TellsRest c.in-Ok-end_from.end.blocked ds m n (Err c.in_err-tell_rest.field-0.0)) dead
     (subst (λ (list : List Status). TellsRest list c.as_slice-3.result.now m n (Err c.in_err-tell_rest.field-0.0)) c.as_slice-2.ensures.items
@@ -112,9 +112,9 @@ returns-in_err-tell_rest-clause-told g c = λ live.
 pub returns-clause-ran : goal.returns-clause-ran
 returns-clause-ran g c =
     let f = c.args.board in
-    let tasks = all_of c.args.run.crew in
+    let tasks = all_of c.args.run.board_tasks in
     let before = c.take_in.new.self.view in
-    let now = c.last_pass.new.teller.view in
+    let now = c.last_pass.new.live_reporter.view in
     let goes = c.last_pass.ensures.goes_on in
     let made = c.take_in.ensures.watches.made in
     let of : IsOf now f = record { table = goes.table ∙ made.table; plan = goes.same.plan ∙ made.plan; mode = goes.same.mode ∙ made.mode } in
@@ -123,29 +123,29 @@ returns-clause-ran g c =
     let places : List KeptPlace = c.in-Ok.places in
     let are = subst (λ (q : Plan). ArePlacesOf q tasks places) (sym c.requires.under_way.on_board.of_plan) c.in-Ok.ensures.places in
     let dead = c.close-words.result.2 in
-    let is : dead ≡ c.last_pass.new.teller.last = c.close-words.ensures.last in
+    let is : dead ≡ c.last_pass.new.live_reporter.last = c.close-words.ensures.last in
     let passed = c.in_ok-last_pass.ensures.passed in
     record {
       end = c.in-Ok-end_from.ensures.end;
       one_each = c.in-Ok.ensures.places.one_each;
       lawful = subst (λ (q : Plan). IsLawful false q (places_at q places) None) c.requires.under_way.on_board.of_plan
-          (lawful f c.requires.under_way.detects tasks c.requires.under_way.on_board.crew.all.crew places are before now c.take_in.ensures.known goes of
+          (lawful f c.requires.under_way.detects tasks c.requires.under_way.on_board.board_tasks.all.board_tasks places are before now c.take_in.ensures.known goes of
           words last);
       settled = subst (λ (q : Plan). AreSettledPlaces q (places_at q places)) c.requires.under_way.on_board.of_plan
-          (settled f c.requires.under_way.detects tasks c.requires.under_way.on_board.crew.all.crew places are before now c.take_in.ensures.known goes of
+          (settled f c.requires.under_way.detects tasks c.requires.under_way.on_board.board_tasks.all.board_tasks places are before now c.take_in.ensures.known goes of
           words last c.requires.ends.each);
       of_plan = c.close-words.ensures.board.0 ∙ c.requires.under_way.on_board.of_plan;
       words = subst (λ (q : Plan). IsShown q (state_at q (places_at q places)) None words) c.requires.under_way.on_board.of_plan
-          (shown f c.requires.under_way.detects tasks c.requires.under_way.on_board.crew.all.crew places are before now c.take_in.ensures.known goes of
+          (shown f c.requires.under_way.detects tasks c.requires.under_way.on_board.board_tasks.all.board_tasks places are before now c.take_in.ensures.known goes of
           words last);
       named = subst (λ (ts : List TaskId). IsDeadList (statuses_in c.args.run.plan.now (state_at c.args.run.plan.now (places_at c.args.run.plan.now places))) ts) (sym is)
-          (subst (λ (q : Plan). IsDeadList (statuses_in q (state_at q (places_at q places))) c.last_pass.new.teller.last) c.requires.under_way.on_board.of_plan
-          (named_there f c.requires.under_way.detects tasks c.requires.under_way.on_board.crew.all.crew places are before now c.take_in.ensures.known goes of
-          words last c.take_in.ensures.watches.kept made c.last_pass.new.teller passed));
+          (subst (λ (q : Plan). IsDeadList (statuses_in q (state_at q (places_at q places))) c.last_pass.new.live_reporter.last) c.requires.under_way.on_board.of_plan
+          (named_there f c.requires.under_way.detects tasks c.requires.under_way.on_board.board_tasks.all.board_tasks places are before now c.take_in.ensures.known goes of
+          words last c.take_in.ensures.watches.kept made c.last_pass.new.live_reporter passed));
       dead = subst (λ (ts : List TaskId). HasDeadOf (state_at c.args.run.plan.now (places_at c.args.run.plan.now places)) ts) (sym is)
-          (subst (λ (q : Plan). HasDeadOf (state_at q (places_at q places)) c.last_pass.new.teller.last) c.requires.under_way.on_board.of_plan
-          (dead_there f c.requires.under_way.detects tasks c.requires.under_way.on_board.crew.all.crew places are before now c.take_in.ensures.known goes of
-          words last c.take_in.ensures.watches.kept made c.last_pass.new.teller passed));
+          (subst (λ (q : Plan). HasDeadOf (state_at q (places_at q places)) c.last_pass.new.live_reporter.last) c.requires.under_way.on_board.of_plan
+          (dead_there f c.requires.under_way.detects tasks c.requires.under_way.on_board.board_tasks.all.board_tasks places are before now c.take_in.ensures.known goes of
+          words last c.take_in.ensures.watches.kept made c.last_pass.new.live_reporter passed));
     }
 
 pub returns-clause-told : goal.returns-clause-told
@@ -155,8 +155,8 @@ returns-clause-told g c = λ live.
     let n = told g.K.Sink.taken g.K.Sink.faults c.tell_rest.new.out in
     let t = c.in_ok-last_pass.ensures.told live in
     let grown = t.1 ∙ ap (λ (ds : List Dead). ds ++ t.0) c.take_in.ensures.same in
-    let dead : c.as_slice-3.result.now ≡ c.last_pass.new.teller.dead = search rules in
-    rest_ok c.args.run.plan.now c.in-Ok-end_from.end c.in-Ok-end_from.ensures.end c.args.teller.dead c.last_pass.new.teller.dead t.0 grown a m n t.2
+    let dead : c.as_slice-3.result.now ≡ c.last_pass.new.live_reporter.dead = search rules in
+    rest_ok c.args.run.plan.now c.in-Ok-end_from.end c.in-Ok-end_from.ensures.end c.args.live_reporter.dead c.last_pass.new.live_reporter.dead t.0 grown a m n t.2
     (record { end = c.in-Ok-end_from.end; places = c.in-Ok.places; words = c.close-words.result.0; dead = c.close-words.result.2 }) refl
     (subst (λ (ds : List Dead). TellsRest c.in-Ok-end_from.end.blocked ds m n (Ok tt)) dead
     (subst (λ (list : List Status). TellsRest list c.as_slice-3.result.now m n (Ok tt)) c.as_slice-2.ensures.items (c.in_ok-tell_rest.ensures.told live)))

@@ -1,18 +1,18 @@
 use Rattle.std.proofs.Common.{◌≡◌, ◌∙◌, Err, ap, subst, rules}
 use Rattle.armus_base.specs.Plans.{Plan}
-use Rattle.armus_base.specs.Seats.{SeenBy}
-use Rattle.board.specs.Seats.{Known}
-use Rattle.board.specs.Views.{seen}
-use Rattle.task_runner.specs.DetectRuns.{told}
-use Rattle.task_runner.specs.inside.Tellers.{TellsMore, TellsOn}
+use Rattle.armus_base.specs.calls.Seats.{SeenBy}
+use Rattle.board.specs.calls.Seats.{Known}
+use Rattle.board.specs.calls.Views.{seen}
+use Rattle.task_runner.specs.calls.DetectRuns.{told}
+use Rattle.task_runner.specs.inside.LiveReporters.{TellsMore, TellsOn}
 use Rattle.world_runs.specs.declared.options.RunOptions.{RunOptions}
 use Rattle.task_runner.proofs.TellingAll.{run_err, run_on}
 use Rattle.task_runner.proofs.detect.run_detect.Goals as goal
 
 pub returns-in_err-go_by_rounds-clause-told : goal.returns-in_err-go_by_rounds-clause-told
 returns-in_err-go_by_rounds-clause-told g c = λ live.
-    let first = c.in-Ok-start-2.teller.dead in
-    let second = c.go_by_rounds.new.teller.dead in
+    let first = c.in-Ok-start-2.live_reporter.dead in
+    let second = c.go_by_rounds.new.live_reporter.dead in
     let a = told g.K.Sink.taken g.K.Sink.faults c.args.out.now in
     let n = told g.K.Sink.taken g.K.Sink.faults c.go_by_rounds.new.out in
     let is : c.from_residual.result ≡ Err c.in_err-go_by_rounds.field-0.0 = search rules in
@@ -31,5 +31,5 @@ returns-clause-told g c = λ live.
     let n = told g.K.Sink.taken g.K.Sink.faults c.end_run.new.out in
     let same : c.go_by_rounds.new.run.plan.now ≡ c.args.plan.now = search rules in
     let options : c.go_by_rounds.new.run.options ≡ c.args.options.now = c.go_by_rounds.ensures.given.1 ∙ c.in-Ok-start.ensures.given.1 in
-    run_on c.args.plan.now c.in-Ok-start-2.teller.dead c.go_by_rounds.new.teller.dead t.0 a m n c.end_run.result c.in-Ok-start-2.ensures.nobody t.1 t.2
-    (subst (λ (q : Plan). TellsOn q c.go_by_rounds.new.teller.dead m n c.end_run.result) same (c.end_run.ensures.told (ap (λ (o : RunOptions). o.live) options ∙ live)))
+    run_on c.args.plan.now c.in-Ok-start-2.live_reporter.dead c.go_by_rounds.new.live_reporter.dead t.0 a m n c.end_run.result c.in-Ok-start-2.ensures.nobody t.1 t.2
+    (subst (λ (q : Plan). TellsOn q c.go_by_rounds.new.live_reporter.dead m n c.end_run.result) same (c.end_run.ensures.told (ap (λ (o : RunOptions). o.live) options ∙ live)))

@@ -1,9 +1,9 @@
 use Rattle.std.proofs.Common.{◌≡◌, ◌∙◌, [], List, sym, subst}
 use Rattle.std.specs.Prelude.{All}
 use Rattle.board.proofs.Walking.{new_first}
-use Rattle.slot_pool.specs.Hands.{Hand, IsNumberOf, IsOfPool, first_workers}
+use Rattle.slot_pool.specs.calls.PoolValues.{WorkerValue, IsNumberOf, IsOfPool, first_workers}
 use Rattle.task_runner.specs.inside.Pooled.{AreAllWorkers}
-use Rattle.task_runner.proofs.PooledTasks.{root_crew}
+use Rattle.task_runner.proofs.PooledTasks.{root_task_seats}
 use Rattle.task_runner.proofs.PoolWorkers.{as_they_are, first_all}
 use Rattle.task_runner.proofs.pool.run_on.Goals as goal
 
@@ -11,7 +11,7 @@ pub new-first-requires-clause-first : goal.new-first-requires-clause-first
 new-first-requires-clause-first g c = new_first g.N.BoardName.board c.args.seat c.requires.seat
 
 pub new-first-requires-clause-seat : goal.new-first-requires-clause-seat
-new-first-requires-clause-seat g c = root_crew g.N.BoardName.board c.args.seat c.requires.seat
+new-first-requires-clause-seat g c = root_task_seats g.N.BoardName.board c.args.seat c.requires.seat
 
 pub work_all-requires-clause-workers : goal.work_all-requires-clause-workers
 work_all-requires-clause-workers g c κs within =
@@ -27,9 +27,9 @@ close-requires-clause-made g c =
 pub close-requires-clause-all_workers : goal.close-requires-clause-all_workers
 close-requires-clause-all_workers g c = λ k l.
     let same = sym (c.in_ok-workers-3.ensures ∙ sym (as_they_are c.in_ok-workers-2.workers.items)) in
-    subst (λ (ws : List Hand). IsNumberOf ws k) same (c.in_ok-workers-2.ensures.workers.each k l)
+    subst (λ (ws : List WorkerValue). IsNumberOf ws k) same (c.in_ok-workers-2.ensures.workers.each k l)
 
 pub close-requires-clause-nothing : goal.close-requires-clause-nothing
 close-requires-clause-nothing g c =
     let same = sym (c.in_ok-workers-3.ensures ∙ sym (as_they_are c.in_ok-workers-2.workers.items)) in
-    subst (All (λ (w : Hand). w.view.has ≡ [])) same c.in_ok-workers-2.ensures.workers.idle
+    subst (All (λ (w : WorkerValue). w.view.has ≡ [])) same c.in_ok-workers-2.ensures.workers.idle

@@ -12,16 +12,16 @@ map_vec-requires-sync-F g c κs within =
 
 pub map_vec-requires-after_bounds : goal.map_vec-requires-after_bounds
 map_vec-requires-after_bounds g c κs within = λ i x l is.
-    let fit = ready g.J.WorksOnPool.hand c.args.pool.now c.args.workers.items c.requires.workers i x l is in (c.requires.board, c.requires.tasks, fit.0, fit.1)
+    let fit = ready g.J.WorksOnPool.worker_value c.args.pool.now c.args.workers.items c.requires.workers i x l is in (c.requires.board, c.requires.tasks, fit.0, fit.1)
 
 pub returns : goal.returns
 returns g c =
-    let hand = g.J.WorksOnPool.hand in
+    let worker_value = g.J.WorksOnPool.worker_value in
     let olds = c.args.workers.items in
     let done = c.in_ok-done.done in
     let count : length done.items ≡ length olds = (let a = done.ok.0 in let b = c.args.workers.ok.0 in let e = c.in_ok-done.ensures.len in omega arith) in
     record {
       workers =
-          all_after hand c.args.pool.now olds done.items c.requires.workers count
+          all_after worker_value c.args.pool.now olds done.items c.requires.workers count
           (λ i d l. let job = (c.in_ok-done.ensures.each i d l).1 in (job.job, job.job_is, job.call.met.0, job.call.met.1));
     }

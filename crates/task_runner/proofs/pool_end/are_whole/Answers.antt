@@ -2,8 +2,8 @@ use Rattle.std.proofs.Common.{◌≡◌, ◌∙◌, ℕ, List, Bool, Some, false
 use Rattle.std.specs.Prelude.{All, replicate, slice_get}
 use Rattle.std.proofs.lemmas.List.{length-replicate}
 use Rattle.armus_base.specs.Plans.{Plan, code_of}
-use Rattle.board_rounds.specs.Turns.{Working}
-use Rattle.board_rounds.specs.Crews.{done_of, number}
+use Rattle.board_rounds.specs.calls.Turns.{Working}
+use Rattle.board_rounds.specs.calls.TaskSeats.{done_of, number}
 use Rattle.task_runner.specs.inside.Pooled.{AreForksMarked, AreClosedUnderForks, ContainsTask}
 use Rattle.task_runner.proofs.ForksInHand.{unmarked, whole_marked}
 use Rattle.task_runner.proofs.pool_end.are_whole.Goals as goal
@@ -19,15 +19,15 @@ returns g c = record { whole = all }
     first : c.in_ok-marks.marks.items ≡ replicate c.tasks.result false
     first = c.in_ok-marks.ensures.items_if_clones_equal (λ y e. e)
 
-    hand : (t : ℕ) → slice_get c.mark.new.marks.items t ≡ Some true → ContainsTask c.args.tasks.now t
-    hand t is = elim (c.mark.ensures t is) [
+    worker_value : (t : ℕ) → slice_get c.mark.new.marks.items t ≡ Some true → ContainsTask c.args.tasks.now t
+    worker_value t is = elim (c.mark.ensures t is) [
       | inl here ↦ here
       | inr old ↦ absurd (unmarked c.tasks.result t (sym (ap (λ (ms : List Bool). slice_get ms t) first) ∙ old))
     ]
 
     all : c.have_forked_marked.result ≡ true → AreClosedUnderForks c.args.plan.now c.args.tasks.now
     all whole =
-        whole_marked c.args.plan.now c.args.tasks.now c.mark.new.marks.items hand
+        whole_marked c.args.plan.now c.args.tasks.now c.mark.new.marks.items worker_value
         (subst (λ (ms : List Bool). slice_get ms 0 ≡ Some true) c.as_slice.ensures.value (c.is_marked.ensures c.if-not-is_marked.false))
         (subst (λ (ms : List Bool). All (λ (task : Working). AreForksMarked (code_of c.args.plan.now (number task)) (done_of task) ms) c.args.tasks.now) c.as_slice-2.ensures.value
         (c.have_forked_marked.ensures whole))

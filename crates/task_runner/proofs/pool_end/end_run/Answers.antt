@@ -2,12 +2,12 @@ use Rattle.std.proofs.Common.{◌∙◌, List, length, sym, ap, subst}
 use Rattle.std.specs.Prelude.{slice_get}
 use Rattle.armus_base.specs.Runs.{IsReachable}
 use Rattle.pl_core.specs.declared.place.Place.{Place as KeptPlace}
-use Rattle.pl_core.specs.Worlds.{places_at}
-use Rattle.board.specs.Closing.{AreLastOf}
-use Rattle.board.specs.Seats.{Frame, IsOf}
-use Rattle.board.specs.Views.{seen}
-use Rattle.board_rounds.specs.Turns.{Working}
-use Rattle.board_rounds.specs.Crews.{ArePlacesOf}
+use Rattle.pl_core.specs.calls.Worlds.{places_at}
+use Rattle.board.specs.calls.Closing.{AreLastOf}
+use Rattle.board.specs.calls.Seats.{Frame, IsOf}
+use Rattle.board.specs.calls.Views.{seen}
+use Rattle.board_rounds.specs.calls.Turns.{Working}
+use Rattle.board_rounds.specs.calls.TaskSeats.{ArePlacesOf}
 use Rattle.task_runner.specs.inside.Pooled.{AreClosedUnderForks}
 use Rattle.task_runner.proofs.PoolEnds.{plain_places, reachable_places}
 use Rattle.task_runner.proofs.pool_end.end_run.Goals as goal
@@ -28,7 +28,7 @@ end_from-requires-clause-reachable g c κs within =
     let last = subst (λ (b : Frame). AreLastOf b.plan b.mode (seen now.view) words) c.requires.board.0 c.close.ensures.words in
     let made = subst (IsOf c.take_in_all.new.view) c.requires.board.0 c.take_in_all.ensures.made in
     subst (λ (xs : List KeptPlace). IsReachable plan (places_at plan xs)) (sym c.as_slice-then-whole.ensures.items)
-    (reachable_places f plan c.requires.board.1 c.requires.board.2 tasks c.take_in_all.ensures.crew whole places are c.args.run.view c.take_in_all.new.view now c.requires.viewer
+    (reachable_places f plan c.requires.board.1 c.requires.board.2 tasks c.take_in_all.ensures.board_tasks whole places are c.args.run.view c.take_in_all.new.view now c.requires.viewer
     c.take_in_all.ensures.taken made c.pass.ensures.collected.goes_on words last)
 
 pub end_from-requires-clause-plain : goal.end_from-requires-clause-plain
@@ -43,5 +43,5 @@ end_from-requires-clause-plain g c κs within = λ t place is.
     let are = subst (λ (ws : List Working). ArePlacesOf plan ws places) c.as_slice.ensures.value c.in_ok-places.ensures.places in
     let last = subst (λ (b : Frame). AreLastOf b.plan b.mode (seen now.view) words) c.requires.board.0 c.close.ensures.words in
     let made = subst (IsOf c.take_in_all.new.view) c.requires.board.0 c.take_in_all.ensures.made in
-    plain_places f plan c.requires.board.1 c.requires.board.2 tasks c.take_in_all.ensures.crew whole places are c.args.run.view c.take_in_all.new.view now c.requires.viewer
+    plain_places f plan c.requires.board.1 c.requires.board.2 tasks c.take_in_all.ensures.board_tasks whole places are c.args.run.view c.take_in_all.new.view now c.requires.viewer
     c.take_in_all.ensures.taken made c.pass.ensures.collected.goes_on words last t place (ap (λ (xs : List KeptPlace). slice_get xs t) (sym c.as_slice-then-whole.ensures.items) ∙ is)

@@ -2,8 +2,8 @@ use Rattle.std.proofs.Common.{◌≡◌, ◌∙◌, ◌⊎◌, ◌∷◌, ◌++�
 use Rattle.std.specs.Prelude.{slice_get}
 use Rattle.std.specs.Vec.{vec_len}
 use Rattle.std.proofs.lemmas.List.{length-set, take_more}
-use Rattle.board_rounds.specs.Turns.{Working}
-use Rattle.board_rounds.specs.Crews.{number}
+use Rattle.board_rounds.specs.calls.Turns.{Working}
+use Rattle.board_rounds.specs.calls.TaskSeats.{number}
 use Rattle.task_runner.specs.inside.Pooled.{ContainsTask}
 use Rattle.task_runner.proofs.ForksInHand.{one_marked}
 use Rattle.task_runner.proofs.PooledTasks.{small}

@@ -1,8 +1,8 @@
 use Rattle.std.proofs.Common.{◌≡◌, ◌∙◌, List, ◌∷◌, ◌++◌, [], ◌<◌, length, get_or, set, take, sym, refl, ap, subst, arith}
 use Rattle.std.proofs.lemmas.List.{take_more}
 use Rattle.std.specs.Vec.{vec_len}
-use Rattle.board_rounds.specs.Turns.{Working}
-use Rattle.board_rounds.specs.Crews.{number}
+use Rattle.board_rounds.specs.calls.Turns.{Working}
+use Rattle.board_rounds.specs.calls.TaskSeats.{number}
 use Rattle.board_rounds.specs.inside.Endings.{NotesPlaces}
 use Rattle.board_rounds.proofs.Noting.{one_noted}
 use Rattle.task_runner.proofs.PooledTasks.{small}

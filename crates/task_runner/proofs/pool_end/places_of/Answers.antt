@@ -3,7 +3,7 @@ use Rattle.std.specs.Prelude.{replicate, slice_get}
 use Rattle.std.proofs.lemmas.List.{length-replicate}
 use Rattle.armus_base.specs.Plans.{Plan}
 use Rattle.pl_core.specs.declared.place.Place.{Place as KeptPlace}
-use Rattle.board_rounds.specs.Crews.{ArePlacesOf}
+use Rattle.board_rounds.specs.calls.TaskSeats.{ArePlacesOf}
 use Rattle.board_rounds.proofs.Noting.{all_opening, both_noted, none_noted}
 use Rattle.task_runner.proofs.pool_end.places_of.Goals as goal
 

@@ -1,5 +1,5 @@
 use Rattle.task_runner.specs.inside.Pooled.{IsForked}
-use Rattle.task_runner.proofs.PooledTasks.{child_crew, last_one}
+use Rattle.task_runner.proofs.PooledTasks.{child_task_seats, last_one}
 use Rattle.task_runner.proofs.pooled_task.last_of.Goals as goal
 
 pub new-requires-clause-first : goal.new-requires-clause-first
@@ -8,5 +8,5 @@ new-requires-clause-first g c =
 
 pub new-requires-clause-seat : goal.new-requires-clause-seat
 new-requires-clause-seat g c =
-    child_crew g.N.BoardName.board c.in-Some.seat
+    child_task_seats g.N.BoardName.board c.in-Some.seat
     (last_one (IsForked g.N.BoardName.board) c.args.seats.items c.pop.new.self.items c.in-Some.seat c.in-Some.ensures.items c.requires.forked)

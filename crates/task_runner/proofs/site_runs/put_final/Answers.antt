@@ -1,6 +1,6 @@
 use Rattle.std.proofs.Common.{sym, subst}
-use Rattle.sites.specs.Checks.{IsSiteEnd}
-use Rattle.sites.specs.Parts.{HoldParts, PutsParts}
+use Rattle.sites.specs.calls.Checks.{IsSiteEnd}
+use Rattle.sites.specs.calls.Parts.{HoldParts, PutsParts}
 use Rattle.sites.proofs.PuttingParts.{parts_not_bad}
 use Rattle.task_runner.proofs.site_runs.put_final.Goals as goal
 

@@ -1,9 +1,9 @@
 use Rattle.std.proofs.Common.{◌≡◌, ◌∙◌, None, All, ap, rules, subst}
 use Rattle.armus_base.specs.Plans.{Plan}
-use Rattle.armus_base.specs.Seats.{SeenBy}
-use Rattle.board.specs.Seats.{IsNewSeat, Known}
-use Rattle.board.specs.Views.{seen}
-use Rattle.sites.specs.Parts.{HoldParts, PutsParts}
+use Rattle.armus_base.specs.calls.Seats.{SeenBy}
+use Rattle.board.specs.calls.Seats.{IsNewSeat, Known}
+use Rattle.board.specs.calls.Views.{seen}
+use Rattle.sites.specs.calls.Parts.{HoldParts, PutsParts}
 use Rattle.task_runner.specs.inside.SiteRounds.{IsWholeEnd}
 use Rattle.task_runner.proofs.SitesWatched.{final_held, rows_of_rounds, rows_put, watching_first}
 use Rattle.task_runner.proofs.site_runs.run_sites.Goals.{In_ok-end}

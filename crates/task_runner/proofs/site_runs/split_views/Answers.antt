@@ -1,7 +1,7 @@
 use Rattle.std.proofs.Common.{◌∙◌, zero, suc, [], ◌∷◌, All, None, arith, length, length-append, subst, sym, ap}
 use Rattle.std.proofs.lemmas.List.Elements.{All-append}
-use Rattle.board.specs.Seats.{IsNewSeat, Known}
-use Rattle.board.specs.Views.{seen}
+use Rattle.board.specs.calls.Seats.{IsNewSeat, Known}
+use Rattle.board.specs.calls.Views.{seen}
 use Rattle.task_runner.proofs.site_runs.split_views.Goals as goal
 
 all_one : (P : Known → Type 0) (k : Known) → P k → All P (k ∷ [])

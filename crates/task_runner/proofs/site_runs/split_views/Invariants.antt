@@ -1,6 +1,6 @@
 use Rattle.std.proofs.Common.{◌≡◌, All, None, length}
-use Rattle.board.specs.Seats.{IsNewSeat}
-use Rattle.board.specs.Views.{seen}
+use Rattle.board.specs.calls.Seats.{IsNewSeat}
+use Rattle.board.specs.calls.Views.{seen}
 use Rattle.task_runner.proofs.site_runs.split_views.Given as goal
 
 abbrev pub invariant-loop : goal.invariant-loop

@@ -1,6 +1,6 @@
 use Rattle.std.proofs.Common.{◌≡◌, ◌∙◌, drop, length, subst, sym}
 use Rattle.std.proofs.lemmas.List.{take_at}
-use Rattle.sites.specs.Passes.{AreBacked, HaveLookedOn}
+use Rattle.sites.specs.calls.Passes.{AreBacked, HaveLookedOn}
 use Rattle.task_runner.specs.inside.SiteRounds.{AreWatching}
 use Rattle.task_runner.proofs.SitesWatched.{watching_after}
 use Rattle.task_runner.proofs.viewers.pass_over_all.Goals as goal

@@ -1,6 +1,6 @@
 use Rattle.std.proofs.Common.{◌≡◌}
 use Rattle.armus_base.specs.Finals.{given_below}
-use Rattle.pl_core.specs.Worlds.{state_of}
+use Rattle.pl_core.specs.calls.Worlds.{state_of}
 use Rattle.task_sayings.specs.Impeders.{impeder_by}
 use Rattle.task_sayings.proofs.impeders.impeders_in.Given as goal
 

@@ -1,5 +1,5 @@
 use Rattle.std.proofs.Common.{ℕ, ◌<◌}
-use Rattle.verdict.specs.Cycles.{IsLink}
+use Rattle.verdict.specs.calls.Cycles.{IsLink}
 use Rattle.verdict.proofs.check.check_cycle.Given as goal
 
 abbrev pub invariant-loop-k : goal.invariant-loop-k

@@ -1,5 +1,5 @@
 use Rattle.armus_base.specs.declared.ids.TaskId.{TaskId}
-use Rattle.verdict.specs.Cycles.{IsCycleOf}
+use Rattle.verdict.specs.calls.Cycles.{IsCycleOf}
 use Rattle.verdict.proofs.Verdicts.{dead_stands, first_dead, places_inside, cycle_of, some_dead, placed}
 use Rattle.verdict.proofs.DeadPlaces.{flag_dead, walkable}
 use Rattle.verdict.proofs.Passes.{is_cycle}

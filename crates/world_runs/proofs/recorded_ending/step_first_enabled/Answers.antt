@@ -1,8 +1,8 @@
 use Rattle.std.proofs.Common.{◌<◌, ◌∙◌, ap, arith, length, subst, sym}
 use Rattle.std.proofs.lemmas.Bool.{false≢true}
-use Rattle.locked_world.specs.Journals.{LoggedValue}
-use Rattle.pl_core.specs.Stands.{IsEnabled}
-use Rattle.pl_core.specs.Worlds.{WorldValue}
+use Rattle.locked_world.specs.calls.Journals.{LoggedValue}
+use Rattle.pl_core.specs.calls.Stands.{IsEnabled}
+use Rattle.pl_core.specs.calls.Worlds.{WorldValue}
 use Rattle.world_runs.specs.inside.Turns.{left_in}
 use Rattle.world_runs.proofs.Left.{step_leaves_less_left}
 use Rattle.world_runs.proofs.RecordedEnds.{same_if_false, step_if_true, stuck_more}

@@ -1,6 +1,6 @@
 use Rattle.std.proofs.Common.{◌≡◌, ◌<◌, ℕ, Bool, Some, length}
 use Rattle.std.specs.Prelude.{slice_get}
-use Rattle.pl_core.specs.Worlds.{state_of}
+use Rattle.pl_core.specs.calls.Worlds.{state_of}
 use Rattle.world_runs.proofs.world_round.mark_forked.Given as goal
 
 abbrev pub invariant-loop-t : goal.invariant-loop-t

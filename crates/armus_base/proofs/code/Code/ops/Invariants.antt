@@ -1,5 +1,5 @@
 use Rattle.std.proofs.Common.{◌≡◌, ◌+◌, length}
-use Rattle.armus_base.specs.Pieces.{unfolded}
+use Rattle.armus_base.specs.calls.Pieces.{unfolded}
 use Rattle.armus_base.proofs.code.Code.ops.Given as goal
 
 -- those counted and those left are all ops

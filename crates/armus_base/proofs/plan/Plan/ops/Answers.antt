@@ -1,7 +1,7 @@
 use Rattle.std.proofs.Common.{◌≡◌, ◌+◌, ◌<◌, ◌∙◌, length, map, sum_by, take, get_or, sym, ap, ap₂, subst}
 use Rattle.std.proofs.lemmas.List.{get_or-map, length-map}
 use Rattle.std.proofs.lemmas.List.Sums.{sum_by_more}
-use Rattle.armus_base.specs.Pieces.{unfolded}
+use Rattle.armus_base.specs.calls.Pieces.{unfolded}
 use Rattle.armus_base.specs.Plans.{Plan}
 use Rattle.armus_base.proofs.plan.Plan.ops.Goals as goal
 

@@ -1,10 +1,10 @@
 use Rattle.std.proofs.Common.{◌≡◌, ℕ, List, sym, ap, ◌∙◌, subst}
 use Rattle.std.specs.Mem.Slots.{slots_items}
 use Rattle.board.specs.declared.view.View.{View}
-use Rattle.board.specs.Views.{seen}
-use Rattle.board.specs.Closing.{AreLastOf}
-use Rattle.board.specs.Ended.{Ended}
-use Rattle.board.specs.Seats.{Frame}
+use Rattle.board.specs.calls.Views.{seen}
+use Rattle.board.specs.calls.Closing.{AreLastOf}
+use Rattle.board.specs.calls.Ended.{Ended}
+use Rattle.board.specs.calls.Seats.{Frame}
 use Rattle.board.proofs.Closing.{closes}
 use Rattle.board.proofs.board.Board.close.Goals as goal
 

@@ -1,7 +1,7 @@
 use Rattle.std.proofs.Common.{◌≡◌, ℕ, ◌+◌, ◌*◌, [], length, replicate, sym, ap, ap₂, ◌∙◌, subst, arith}
 use Rattle.armus_base.specs.Plans.{Plan}
 use Rattle.armus_base.specs.CheckedPlans.{IsCheckedPlan}
-use Rattle.board.specs.Words.{word_count}
+use Rattle.board.specs.calls.Words.{word_count}
 use Rattle.board.proofs.Closing.{opens_kept}
 use Rattle.board.proofs.board.Board.open.Goals as goal
 

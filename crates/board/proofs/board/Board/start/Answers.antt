@@ -1,7 +1,7 @@
 use Rattle.std.proofs.Common.{◌≡◌, None, sym, ap, ◌∙◌, subst}
 use Rattle.armus_base.specs.CheckedPlans.{IsCheckedPlan}
-use Rattle.board.specs.Seats.{IsNewSeat, Known, nothing_seen}
-use Rattle.board.specs.Steps.{viewer}
+use Rattle.board.specs.calls.Seats.{IsNewSeat, Known, nothing_seen}
+use Rattle.board.specs.calls.Steps.{viewer}
 use Rattle.board.specs.declared.view.View.{View}
 use Rattle.board.proofs.Beginning.{viewer_new}
 use Rattle.board.proofs.board.Board.start.Goals as goal

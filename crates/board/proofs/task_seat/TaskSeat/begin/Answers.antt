@@ -1,7 +1,7 @@
 use Rattle.std.proofs.Common.{sym, ap, ◌∙◌, subst, arith}
 use Rattle.armus_base.specs.CheckedPlans.{IsCheckedPlan}
 use Rattle.board.specs.declared.view.View.{View}
-use Rattle.board.specs.Seats.{Frame}
+use Rattle.board.specs.calls.Seats.{Frame}
 use Rattle.board.proofs.Forking.{watches_opening}
 use Rattle.board.proofs.Beginning.{first_new, first_sitting}
 use Rattle.board.proofs.task_seat.TaskSeat.begin.Goals as goal

@@ -2,11 +2,11 @@ use Rattle.std.proofs.Common.{ℕ, ◌<◌, length, sym, ap, ◌∙◌, subst, s
 use mathlib.Core.Option.{none}
 use Rattle.atomic_table.specs.Table.{Allows, step}
 use Rattle.armus_base.specs.Plans.{Drops}
-use Rattle.board.specs.Rule.{IsKept}
-use Rattle.board.specs.Words.{phase_index}
-use Rattle.board.specs.Views.{own_place}
-use Rattle.board.specs.Seats.{Frame, IsOf, Known, MakesStep, MayDrop, by_code, refused}
-use Rattle.board.specs.Steps.{Acted, own_phase}
+use Rattle.board.specs.calls.Rule.{IsKept}
+use Rattle.board.specs.calls.Words.{phase_index}
+use Rattle.board.specs.calls.Views.{own_place}
+use Rattle.board.specs.calls.Seats.{Frame, IsOf, Known, MakesStep, MayDrop, by_code, refused}
+use Rattle.board.specs.calls.Steps.{Acted, own_phase}
 use Rattle.board.proofs.Stores.{drop_view, drops, drops_refused}
 use Rattle.board.proofs.Seated.{acts_sitting, leaves_sitting, leaves_step, makes_step, own_small, seat_next, some_is, task_inside}
 use Rattle.board.proofs.task_seat.TaskSeat.drop_phaser.Goals as goal

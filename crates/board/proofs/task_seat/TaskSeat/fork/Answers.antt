@@ -2,12 +2,12 @@ use Rattle.std.proofs.Common.{◌≡◌, Some, sym, ap, ◌∙◌, subst, subst�
 use Rattle.atomic_table.specs.Table.{Splits}
 use Rattle.armus_base.specs.Plans.{Forks}
 use Rattle.armus_base.specs.Runs.{first_place}
-use Rattle.armus_base.specs.Seats.{seen_by_child}
+use Rattle.armus_base.specs.calls.Seats.{seen_by_child}
 use Rattle.board.specs.declared.view.View.{View}
-use Rattle.board.specs.Rule.{IsKept}
-use Rattle.board.specs.Views.{next_action, place_in, seen}
-use Rattle.board.specs.Seats.{IsNewSeat, IsOf, Known, MakesStep}
-use Rattle.board.specs.Steps.{child, next_view}
+use Rattle.board.specs.calls.Rule.{IsKept}
+use Rattle.board.specs.calls.Views.{next_action, place_in, seen}
+use Rattle.board.specs.calls.Seats.{IsNewSeat, IsOf, Known, MakesStep}
+use Rattle.board.specs.calls.Steps.{child, next_view}
 use Rattle.board.proofs.Forking.{forks, unforked}
 use Rattle.board.proofs.Seated.{acts_sitting, child_apart, child_first, child_new, child_sitting, makes_step, task_inside}
 use Rattle.board.proofs.task_seat.TaskSeat.fork.Goals as goal

@@ -1,12 +1,12 @@
 use Rattle.std.proofs.Common.{ℕ, ◌<◌, length, sym, ap, ◌∙◌, subst, subst₂, arith}
 use mathlib.Core.Option.{none}
 use Rattle.atomic_table.specs.Table.{Allows, step}
-use Rattle.armus_base.specs.Seats.{scanned_after}
+use Rattle.armus_base.specs.calls.Seats.{scanned_after}
 use Rattle.armus_base.specs.Plans.{Plan}
-use Rattle.board.specs.Rule.{IsKept}
-use Rattle.board.specs.Words.{phase_index}
-use Rattle.board.specs.Seats.{AnswersPhase, Frame, IsOf, Known}
-use Rattle.board.specs.Steps.{Looked}
+use Rattle.board.specs.calls.Rule.{IsKept}
+use Rattle.board.specs.calls.Words.{phase_index}
+use Rattle.board.specs.calls.Seats.{AnswersPhase, Frame, IsOf, Known}
+use Rattle.board.specs.calls.Steps.{Looked}
 use Rattle.board.proofs.Loading.{looks}
 use Rattle.board.proofs.Loaded.{answers_phase, few_phase, loads_sitting, looked_told}
 use Rattle.board.proofs.task_seat.TaskSeat.load_phase_word.Goals as goal

@@ -2,11 +2,11 @@ use Rattle.std.proofs.Common.{ℕ, ◌<◌, length, sym, ap, ◌∙◌, subst, s
 use mathlib.Core.Option.{none}
 use Rattle.atomic_table.specs.Table.{Allows, step}
 use Rattle.armus_base.specs.Plans.{Makes}
-use Rattle.board.specs.Rule.{IsKept}
-use Rattle.board.specs.Words.{phase_index}
-use Rattle.board.specs.Views.{next_action}
-use Rattle.board.specs.Seats.{Frame, IsOf, Known, MakesStep}
-use Rattle.board.specs.Steps.{Acted}
+use Rattle.board.specs.calls.Rule.{IsKept}
+use Rattle.board.specs.calls.Words.{phase_index}
+use Rattle.board.specs.calls.Views.{next_action}
+use Rattle.board.specs.calls.Seats.{Frame, IsOf, Known, MakesStep}
+use Rattle.board.specs.calls.Steps.{Acted}
 use Rattle.board.proofs.Stores.{makes_phaser}
 use Rattle.board.proofs.Seated.{acts_sitting, makes_step, own_small, task_inside}
 use Rattle.board.proofs.task_seat.TaskSeat.make.Goals as goal

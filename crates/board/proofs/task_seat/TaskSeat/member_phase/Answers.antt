@@ -1,7 +1,7 @@
 use Rattle.std.proofs.Common.{◌≡◌, Some, refl, sym, ◌∙◌, subst}
 use Rattle.std.specs.Option.{IsSome}
-use Rattle.board.specs.Seats.{IsSeat}
-use Rattle.board.specs.Steps.{own_phase}
+use Rattle.board.specs.calls.Seats.{IsSeat}
+use Rattle.board.specs.calls.Steps.{own_phase}
 use Rattle.board.proofs.Seated.{member_next, own_phase_small}
 use Rattle.board.proofs.task_seat.TaskSeat.member_phase.Goals as goal
 

@@ -2,10 +2,10 @@ use Rattle.std.proofs.Common.{ℕ, ◌<◌, length, sym, ap, ◌∙◌, subst, s
 use mathlib.Core.Option.{none}
 use Rattle.atomic_table.specs.Table.{Allows, step}
 use Rattle.armus_base.specs.Plans.{Plan}
-use Rattle.board.specs.Rule.{IsKept}
-use Rattle.board.specs.Words.{phase_index}
-use Rattle.board.specs.Seats.{Frame, IsOf, Known}
-use Rattle.board.specs.Steps.{Recalled, own_phase}
+use Rattle.board.specs.calls.Rule.{IsKept}
+use Rattle.board.specs.calls.Words.{phase_index}
+use Rattle.board.specs.calls.Seats.{Frame, IsOf, Known}
+use Rattle.board.specs.calls.Steps.{Recalled, own_phase}
 use Rattle.board.proofs.Loading.{recalls}
 use Rattle.board.proofs.Seated.{own_index, own_small}
 use Rattle.board.proofs.task_seat.TaskSeat.phase.Goals as goal

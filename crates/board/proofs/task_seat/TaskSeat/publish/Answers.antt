@@ -3,10 +3,10 @@ use mathlib.Core.Option.{none}
 use Rattle.atomic_table.specs.Table.{Allows, step}
 use Rattle.armus_base.specs.declared.event.Event.{Event}
 use Rattle.armus_base.specs.Plans.{Blocks}
-use Rattle.board.specs.Rule.{IsKept}
-use Rattle.board.specs.Views.{avoids, next_action, seen, task_of}
-use Rattle.board.specs.Seats.{Frame, aim_at, IsOf, Known, MakesStep, MayPublish}
-use Rattle.board.specs.Locking.{IsWithLock, Published}
+use Rattle.board.specs.calls.Rule.{IsKept}
+use Rattle.board.specs.calls.Views.{avoids, next_action, seen, task_of}
+use Rattle.board.specs.calls.Seats.{Frame, aim_at, IsOf, Known, MakesStep, MayPublish}
+use Rattle.board.specs.calls.Locking.{IsWithLock, Published}
 use Rattle.board.proofs.Acting.{next_view_is}
 use Rattle.board.proofs.Stores.{publishes}
 use Rattle.board.proofs.Seated.{blocks_sitting, makes_step, may_publish_here, own_small, target_is, task_inside}

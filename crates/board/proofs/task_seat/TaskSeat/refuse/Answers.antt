@@ -3,10 +3,10 @@ use mathlib.Core.Option.{none}
 use Rattle.atomic_table.specs.Table.{Allows, step}
 use Rattle.armus_base.specs.declared.event.Event.{Event}
 use Rattle.armus_base.specs.Plans.{Blocks, Refuses}
-use Rattle.board.specs.Rule.{IsKept}
-use Rattle.board.specs.Views.{avoids, next_action, seen, task_of}
-use Rattle.board.specs.Seats.{Frame, aim_at, IsOf, Known, MakesStep}
-use Rattle.board.specs.Locking.{IsWithLock, MayRefuse, Refused}
+use Rattle.board.specs.calls.Rule.{IsKept}
+use Rattle.board.specs.calls.Views.{avoids, next_action, seen, task_of}
+use Rattle.board.specs.calls.Seats.{Frame, aim_at, IsOf, Known, MakesStep}
+use Rattle.board.specs.calls.Locking.{IsWithLock, MayRefuse, Refused}
 use Rattle.board.proofs.Stores.{refuses}
 use Rattle.board.proofs.Seated.{own_small, target_is, task_inside}
 use Rattle.board.proofs.Holding.{may_refuse_here, refuses_sitting, refuses_step}

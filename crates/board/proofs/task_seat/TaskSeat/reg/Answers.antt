@@ -2,11 +2,11 @@ use Rattle.std.proofs.Common.{◌≡◌, ℕ, ◌+◌, ◌<◌, Some, length, sy
 use mathlib.Core.Option.{none}
 use Rattle.atomic_table.specs.Table.{Allows, step}
 use Rattle.armus_base.specs.Plans.{Registers}
-use Rattle.board.specs.Rule.{IsKept}
-use Rattle.board.specs.Words.{phase_index}
-use Rattle.board.specs.Views.{next_action}
-use Rattle.board.specs.Seats.{Frame, IsOf, Known, MakesStep}
-use Rattle.board.specs.Steps.{Acted, own_phase}
+use Rattle.board.specs.calls.Rule.{IsKept}
+use Rattle.board.specs.calls.Words.{phase_index}
+use Rattle.board.specs.calls.Views.{next_action}
+use Rattle.board.specs.calls.Seats.{Frame, IsOf, Known, MakesStep}
+use Rattle.board.specs.calls.Steps.{Acted, own_phase}
 use Rattle.board.proofs.Stores.{registers_child}
 use Rattle.board.proofs.Seated.{acts_sitting, makes_step, task_inside}
 use Rattle.board.proofs.task_seat.TaskSeat.reg.Goals as goal

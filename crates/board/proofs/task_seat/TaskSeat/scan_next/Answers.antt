@@ -2,14 +2,14 @@ use Rattle.std.proofs.Common.{◌≡◌, ℕ, suc, Bool, true, false, Option, So
 use Rattle.std.specs.Prelude.{if◌then◌else◌, ◌==◌, ◌&&◌}
 use mathlib.Core.Option.{none}
 use Rattle.atomic_table.specs.Table.{Allows, step}
-use Rattle.armus_base.specs.Seats.{is_not_behind, scanned_after}
+use Rattle.armus_base.specs.calls.Seats.{is_not_behind, scanned_after}
 use Rattle.armus_base.specs.Plans.{Plan}
-use Rattle.board.specs.Rule.{IsKept}
-use Rattle.board.specs.Words.{phase_index}
+use Rattle.board.specs.calls.Rule.{IsKept}
+use Rattle.board.specs.calls.Words.{phase_index}
 use Rattle.armus_base.specs.declared.event.Event.{Event}
-use Rattle.board.specs.Views.{seen}
-use Rattle.board.specs.Seats.{AnswersPhase, Frame, IsOf, Known, event_of}
-use Rattle.board.specs.Steps.{Looked}
+use Rattle.board.specs.calls.Views.{seen}
+use Rattle.board.specs.calls.Seats.{AnswersPhase, Frame, IsOf, Known, event_of}
+use Rattle.board.specs.calls.Steps.{Looked}
 use Rattle.board.proofs.Loading.{looks}
 use Rattle.board.proofs.Loaded.{answers_phase, few_phase, loads_sitting, looked_told}
 use Rattle.board.proofs.task_seat.TaskSeat.scan_next.Goals as goal

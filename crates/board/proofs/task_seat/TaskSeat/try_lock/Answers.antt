@@ -2,10 +2,10 @@ use Rattle.std.proofs.Common.{◌+◌, ℕ, eqb, sym, ap, ◌∙◌, subst, subs
 use mathlib.Core.Option.{none}
 use prog.Atomic.{either}
 use Rattle.atomic_table.specs.Table.{Allows, step}
-use Rattle.board.specs.Rule.{IsKept}
-use Rattle.board.specs.Views.{avoids, next_action}
-use Rattle.board.specs.Seats.{IsOf, Known}
-use Rattle.board.specs.Locking.{Tried}
+use Rattle.board.specs.calls.Rule.{IsKept}
+use Rattle.board.specs.calls.Views.{avoids, next_action}
+use Rattle.board.specs.calls.Seats.{IsOf, Known}
+use Rattle.board.specs.calls.Locking.{Tried}
 use Rattle.board.proofs.Locking.{tries}
 use Rattle.board.proofs.task_seat.TaskSeat.try_lock.Goals as goal
 

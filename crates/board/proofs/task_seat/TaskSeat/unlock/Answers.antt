@@ -1,7 +1,7 @@
 use Rattle.std.proofs.Common.{false, sym, ap, ◌∙◌, subst, subst₂, arith}
 use Rattle.std.proofs.lemmas.Bool.{false≢true}
-use Rattle.board.specs.Seats.{IsOf, Known}
-use Rattle.board.specs.Locking.{FreesLock}
+use Rattle.board.specs.calls.Seats.{IsOf, Known}
+use Rattle.board.specs.calls.Locking.{FreesLock}
 use Rattle.board.proofs.Locking.{frees}
 use Rattle.board.proofs.Holding.{frees_lock, locked_sitting}
 use Rattle.board.proofs.task_seat.TaskSeat.unlock.Goals as goal

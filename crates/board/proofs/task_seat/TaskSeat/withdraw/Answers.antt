@@ -2,10 +2,10 @@ use Rattle.std.proofs.Common.{ℕ, ◌<◌, length, sym, ap, ◌∙◌, subst, s
 use mathlib.Core.Option.{none}
 use Rattle.atomic_table.specs.Table.{Allows, step}
 use Rattle.armus_base.specs.Plans.{Passes}
-use Rattle.board.specs.Rule.{IsKept}
-use Rattle.board.specs.Views.{seen}
-use Rattle.board.specs.Seats.{Frame, IsOf, Known, MakesStep, event_of}
-use Rattle.board.specs.Steps.{Withdrawn}
+use Rattle.board.specs.calls.Rule.{IsKept}
+use Rattle.board.specs.calls.Views.{seen}
+use Rattle.board.specs.calls.Seats.{Frame, IsOf, Known, MakesStep, event_of}
+use Rattle.board.specs.calls.Steps.{Withdrawn}
 use Rattle.board.proofs.Stores.{passes}
 use Rattle.board.proofs.Seated.{event_is, makes_step, own_small, passes_sitting, task_inside}
 use Rattle.board.proofs.task_seat.TaskSeat.withdraw.Goals as goal

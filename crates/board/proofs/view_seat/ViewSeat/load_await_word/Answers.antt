@@ -1,10 +1,10 @@
 use Rattle.std.proofs.Common.{ℕ, ◌<◌, length, sym, ◌∙◌, subst, subst₂}
 use mathlib.Core.Option.{none}
 use Rattle.atomic_table.specs.Table.{Allows, step}
-use Rattle.board.specs.Rule.{IsKept}
-use Rattle.board.specs.Views.{found_of}
-use Rattle.board.specs.Seats.{AnswersAwait, Frame, IsOf, Known}
-use Rattle.board.specs.Steps.{Watched}
+use Rattle.board.specs.calls.Rule.{IsKept}
+use Rattle.board.specs.calls.Views.{found_of}
+use Rattle.board.specs.calls.Seats.{AnswersAwait, Frame, IsOf, Known}
+use Rattle.board.specs.calls.Steps.{Watched}
 use Rattle.board.proofs.Loading.{watches}
 use Rattle.board.proofs.Loaded.{answers_await, few_await, loaded_seat, watched_told}
 use Rattle.board.proofs.view_seat.ViewSeat.load_await_word.Goals as goal

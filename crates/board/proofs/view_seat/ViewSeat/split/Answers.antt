@@ -1,7 +1,7 @@
 use Rattle.std.proofs.Common.{sym, ap, ◌∙◌, subst, subst₂, arith}
 use Rattle.board.specs.declared.view.View.{View}
-use Rattle.board.specs.Views.{seen}
-use Rattle.board.specs.Seats.{IsOf, IsSeat, Known}
+use Rattle.board.specs.calls.Views.{seen}
+use Rattle.board.specs.calls.Seats.{IsOf, IsSeat, Known}
 use Rattle.board.proofs.Forking.{copies}
 use Rattle.board.proofs.view_seat.ViewSeat.split.Goals as goal
 

@@ -1,7 +1,7 @@
 use Rattle.std.proofs.Common.{◌≡◌, length, sym, ap, ◌∙◌, subst, subst₂, arith}
 use Rattle.board.specs.declared.view.View.{View}
-use Rattle.board.specs.Seats.{Frame, IsOf, Known, TakesIn}
-use Rattle.board.specs.Steps.{both}
+use Rattle.board.specs.calls.Seats.{Frame, IsOf, Known, TakesIn}
+use Rattle.board.specs.calls.Steps.{both}
 use Rattle.board.proofs.Ending.{both_spent, counts, takes_in}
 use Rattle.board.proofs.Taking.{now_is, taken, taken_seat}
 use Rattle.board.proofs.Seated.{some_is}

@@ -2,8 +2,8 @@ use Rattle.std.proofs.Common.{◌+◌, ◌<◌, length, get_or, sym, ap, ◌∙�
 use Rattle.std.specs.Mem.Slots.{slots_items}
 use Rattle.armus_base.specs.CheckedPlans.{IsCheckedPlan}
 use Rattle.armus_base.specs.Places.{state_at}
-use Rattle.board.specs.Words.{await_number, found_in}
-use Rattle.board.specs.Ended.{Ended}
+use Rattle.board.specs.calls.Words.{await_number, found_in}
+use Rattle.board.specs.calls.Ended.{Ended}
 use Rattle.board.proofs.Reading.{read_at}
 use Rattle.board.proofs.Ranges.{found_small}
 use Rattle.board.proofs.words.Words.await_of.Goals as goal

@@ -1,8 +1,8 @@
 use Rattle.std.proofs.Common.{◌≡◌, ◌+◌, ◌*◌, ◌<◌, length, get_or, sym, ap, ◌∙◌, subst}
 use Rattle.std.specs.Mem.Slots.{slots_items}
 use Rattle.armus_base.specs.Places.{state_at}
-use Rattle.board.specs.Words.{phase_index, phase_number}
-use Rattle.board.specs.Ended.{Ended}
+use Rattle.board.specs.calls.Words.{phase_index, phase_number}
+use Rattle.board.specs.calls.Ended.{Ended}
 use Rattle.board.proofs.Reading.{number_small, read_at}
 use Rattle.board.proofs.Ranges.{phases_small}
 use Rattle.board.proofs.words.Words.phase_of.Goals as goal

@@ -1,7 +1,7 @@
 use Rattle.std.proofs.Common.{◌≡◌, ◌<◌, ◌≤◌, ◌+◌, ◌∙◌, [], ◌++◌, rules, length, length-append, sym, refl, ap, subst, arith, append-nil}
-use Rattle.board.specs.Seats.{IsSeat}
+use Rattle.board.specs.calls.Seats.{IsSeat}
 use Rattle.std.specs.Prelude.{IfSome}
-use Rattle.board_rounds.specs.Turns.{CountsEvents, Working}
+use Rattle.board_rounds.specs.calls.Turns.{CountsEvents, Working}
 use Rattle.board_rounds.specs.inside.Tasks.{MakesSome}
 use Rattle.board_rounds.proofs.Counting.{counts_nothing, counts_on, counts_still, few_events, leaves_less}
 use Rattle.board_rounds.proofs.Goings.{acts_itself, acts_on, no_child_made, none_in, of_on, one_in}

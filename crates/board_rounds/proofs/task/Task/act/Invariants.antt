@@ -1,7 +1,7 @@
 use Rattle.std.proofs.Common.{◌≡◌, ◌+◌, ℕ, List, false, length}
 use Rattle.armus_base.specs.Plans.{Action}
-use Rattle.board.specs.Seats.{IsOf}
-use Rattle.board_rounds.specs.Turns.{Acts, CountsEvents}
+use Rattle.board.specs.calls.Seats.{IsOf}
+use Rattle.board_rounds.specs.calls.Turns.{Acts, CountsEvents}
 use Rattle.board_rounds.proofs.Counting.{left_to_task}
 use Rattle.board_rounds.proofs.task.Task.act.Given as goal
 

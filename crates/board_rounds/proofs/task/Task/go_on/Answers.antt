@@ -1,10 +1,10 @@
 use Rattle.std.proofs.Common.{◌≡◌, ◌+◌, ◌∙◌, [], List, Result, Ok, Err, OnErr, false, drop, sym, ap, subst, arith}
 use Rattle.armus_base.specs.declared.op.Op.{Op}
-use Rattle.board.specs.Seats.{IsOf, IsSeat, event_of}
+use Rattle.board.specs.calls.Seats.{IsOf, IsSeat, event_of}
 use Rattle.board.proofs.Walking.{IsBefore, before_next, before_of_plan, is_before, left_behind, next_left}
 use Rattle.board_rounds.specs.inside.Attempts.{BeginsOp}
 use Rattle.board_rounds.specs.inside.Tasks.{HasCome, MakesSome}
-use Rattle.board_rounds.specs.Turns.{Acts, EndsTurn, Working, is_done, is_refused}
+use Rattle.board_rounds.specs.calls.Turns.{Acts, EndsTurn, Working, is_done, is_refused}
 use Rattle.board_rounds.proofs.Goings.{acts_itself}
 use Rattle.board_rounds.proofs.Halting.{ends_done, left_free, no_event}
 use Rattle.board_rounds.proofs.Onward.{begun_come, begun_fits, begun_makes, locked_out, nothing_acts, refused_come, refused_fits, refused_makes}

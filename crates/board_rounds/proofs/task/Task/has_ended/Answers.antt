@@ -1,7 +1,7 @@
 use Rattle.std.proofs.Common.{◌∙◌, inl, inr, sym, ap, subst}
 use Rattle.std.specs.Prelude.{IsSome, is_some, not}
 use Rattle.std.proofs.lemmas.Bool.{false≢true}
-use Rattle.board_rounds.specs.Turns.{ActsNoMore, Working}
+use Rattle.board_rounds.specs.calls.Turns.{ActsNoMore, Working}
 use Rattle.board_rounds.proofs.Halting.{done_began, ends_done, no_one, true_for}
 use Rattle.board_rounds.proofs.task.Task.has_ended.Goals as goal
 

@@ -1,8 +1,8 @@
 use Rattle.std.proofs.Common.{◌∙◌, [], arith, refl, ap, subst, sym}
 use Rattle.std.specs.Prelude.{IsSome}
-use Rattle.board.specs.Seats.{event_of}
-use Rattle.board.specs.Views.{own_place}
-use Rattle.board_rounds.specs.Turns.{Acts, EndsTurn, Working}
+use Rattle.board.specs.calls.Seats.{event_of}
+use Rattle.board.specs.calls.Views.{own_place}
+use Rattle.board_rounds.specs.calls.Turns.{Acts, EndsTurn, Working}
 use Rattle.board_rounds.specs.inside.Tasks.{MakesSome}
 use Rattle.board_rounds.proofs.Goings.{acts_alone, goes_loads}
 use Rattle.board_rounds.proofs.Halting.{ends_behind}

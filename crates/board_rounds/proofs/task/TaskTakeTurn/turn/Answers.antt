@@ -1,7 +1,7 @@
 use Rattle.std.proofs.Common.{◌+◌, ◌∙◌, [], ◌++◌, rules, length-append, refl, subst, arith}
-use Rattle.board.specs.Seats.{IsSeat}
+use Rattle.board.specs.calls.Seats.{IsSeat}
 use Rattle.board_rounds.specs.declared.task.Pause.{Pause}
-use Rattle.board_rounds.specs.Turns.{PausesAt, Working}
+use Rattle.board_rounds.specs.calls.Turns.{PausesAt, Working}
 use Rattle.board_rounds.proofs.Counting.{counts_nothing, few_events, forked_some, leaves_by}
 use Rattle.board_rounds.proofs.Goings.{acts_itself, acts_on, of_on}
 use Rattle.board_rounds.proofs.Halting.{ends_since}

@@ -1,6 +1,6 @@
 use Rattle.std.proofs.Common.{◌∙◌, drop, Some, sym, ap, subst}
-use Rattle.board.specs.Seats.{Known}
-use Rattle.board.specs.Views.{next_action}
+use Rattle.board.specs.calls.Seats.{Known}
+use Rattle.board.specs.calls.Views.{next_action}
 use Rattle.board.specs.inside.Walking.{IsActionOfPlan}
 use Rattle.board.proofs.Walking.{before_next, before_of_plan, is_before, next_left}
 use Rattle.board_tests.proofs.walker.Walker.awaits.Goals as goal

@@ -1,5 +1,5 @@
 use Rattle.std.proofs.Common.{◌∙◌, drop, sym, ap, subst}
-use Rattle.board.specs.Seats.{Known}
+use Rattle.board.specs.calls.Seats.{Known}
 use Rattle.board.specs.inside.Walking.{HasLeft}
 use Rattle.board.proofs.Walking.{IsBefore, before_next, before_of_plan, is_before, left_begun, left_behind, next_left}
 use Rattle.board_tests.proofs.walker.Walker.go.Goals.{In-Some}

@@ -1,6 +1,6 @@
 use Rattle.std.proofs.Common.{◌∙◌, length, ap, arith}
 use Rattle.armus_base.specs.Plans.{Plan}
-use Rattle.board.specs.Seats.{Known, event_of}
+use Rattle.board.specs.calls.Seats.{Known, event_of}
 use Rattle.board.proofs.Walking.{left_passed, published_is}
 use Rattle.board_tests.proofs.walker.Walker.pass.Goals as goal
 

@@ -1,6 +1,6 @@
 use Rattle.std.proofs.Common.{◌≡◌, ◌∙◌}
-use Rattle.board.specs.Views.{found_of}
-use Rattle.board.specs.Words.{found_in}
+use Rattle.board.specs.calls.Views.{found_of}
+use Rattle.board.specs.calls.Words.{found_in}
 use Rattle.board.proofs.Walking.{left_loaded}
 use Rattle.board_tests.proofs.walker.WalkerLoads.load_await.Goals as goal
 

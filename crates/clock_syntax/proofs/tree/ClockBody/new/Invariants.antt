@@ -1,6 +1,6 @@
 use Rattle.std.proofs.Common.{◌≡◌, ◌+◌, drop}
 use Rattle.clock_syntax.specs.Trees.{clock_count}
-use Rattle.clock_syntax.specs.Bodies.{clock_tree_of}
+use Rattle.clock_syntax.specs.calls.Bodies.{clock_tree_of}
 use Rattle.clock_syntax.proofs.tree.ClockBody.new.Given as goal
 
 abbrev pub invariant-loop-stmt : goal.invariant-loop-stmt

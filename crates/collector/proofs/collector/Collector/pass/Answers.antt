@@ -6,7 +6,7 @@ use Rattle.armus_base.specs.declared.status.Status.{Status}
 use Rattle.armus_base.specs.DeadLists.{IsDeadList}
 use Rattle.armus_base.specs.Deadlocks.{IsListedOn}
 use Rattle.collector.specs.inside.Names.{AreFresh}
-use Rattle.collector.specs.Passes.{NamesToo, Watch}
+use Rattle.collector.specs.calls.Passes.{NamesToo, Watch}
 use Rattle.collector.proofs.Verdicts.{pass_listed, pass_settled, pass_verdict, pass_within}
 use Rattle.collector.proofs.collector.Collector.pass.Goals as goal
 

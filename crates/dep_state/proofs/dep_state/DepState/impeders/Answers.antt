@@ -2,7 +2,7 @@ use Rattle.std.proofs.Common.{◌≡◌, ◌<◌, [], length, arith, ◌∙◌, 
 use Rattle.std.specs.Prelude.{map}
 use Rattle.std.proofs.lemmas.List.{length-map, get_or-map}
 use Rattle.dep_state.specs.inside.Names.{named}
-use Rattle.dep_state.specs.Deps.{rows_of}
+use Rattle.dep_state.specs.calls.Deps.{rows_of}
 use Rattle.dep_state.proofs.NamedTasks.{named_impeders}
 use Rattle.dep_state.proofs.TaskPlaces.{row_at}
 use Rattle.dep_state.proofs.dep_state.DepState.impeders.Goals as goal

@@ -1,7 +1,7 @@
 use Rattle.std.proofs.Common.{◌≡◌, length, ap, ◌∙◌}
 use Rattle.std.proofs.lemmas.List.{length-map}
-use Rattle.dep_state.specs.Deps.{rows_of}
-use Rattle.dep_state.specs.Deps.{IsDepsOf}
+use Rattle.dep_state.specs.calls.Deps.{rows_of}
+use Rattle.dep_state.specs.calls.Deps.{IsDepsOf}
 use Rattle.dep_state.proofs.Made.{deps_of, impeders_inside}
 use Rattle.dep_state.proofs.TaskPlaces.{tasks_ascend}
 use Rattle.dep_state.proofs.WaitRows.{all_named_ascend}

@@ -2,7 +2,7 @@ use Rattle.std.proofs.Common.{◌≡◌, ◌<◌, [], length, arith, ◌∙◌, 
 use Rattle.std.proofs.lemmas.List.{length-map, get_or-map, get_or_default}
 use Rattle.armus_base.proofs.Elements.{nothing_in_nil}
 use Rattle.dep_state.specs.inside.Names.{named}
-use Rattle.dep_state.specs.Deps.{rows_of}
+use Rattle.dep_state.specs.calls.Deps.{rows_of}
 use Rattle.dep_state.proofs.TaskPlaces.{row_at, task_stands, stands_task}
 use Rattle.dep_state.proofs.WaitRows.{named_inside, row_is_waits}
 use Rattle.dep_state.proofs.dep_state.DepState.waits_for.Goals as goal

@@ -1,6 +1,6 @@
 use Rattle.std.proofs.Common.{◌≡◌, ℕ, length, ◌⊎◌, take}
 use Rattle.std.specs.Prelude.{Contains, ◌↔◌}
-use Rattle.digraph.specs.Graph.{HasEdge}
+use Rattle.digraph.specs.calls.Graph.{HasEdge}
 use Rattle.digraph.proofs.graph.Digraph.add_all.Given as goal
 
 abbrev pub invariant-loop-b : goal.invariant-loop-b

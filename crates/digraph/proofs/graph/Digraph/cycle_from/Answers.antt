@@ -1,8 +1,8 @@
 use Rattle.std.proofs.Common.{rules, ◌≡◌, ◌<◌, ◌∙◌, List, ℕ, true, false, length, get_or}
 use Rattle.std.specs.Prelude.{Bool}
 use Rattle.std.proofs.lemmas.List.{length-map}
-use Rattle.digraph.specs.Cycle.{IsLeastSuccessor}
-use Rattle.digraph.specs.Graph.{TellsCycles, graph_of}
+use Rattle.digraph.specs.calls.Cycle.{IsLeastSuccessor}
+use Rattle.digraph.specs.calls.Graph.{TellsCycles, graph_of}
 use Rattle.digraph.specs.inside.NextTables.{AreNext, IsStepOn}
 use Rattle.digraph.proofs.NextTables.{walk_by_table}
 use Rattle.digraph.proofs.SearchSteps.{read_at}

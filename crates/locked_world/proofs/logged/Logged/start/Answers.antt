@@ -1,5 +1,5 @@
 use Rattle.std.proofs.Common.{sym, subst}
-use Rattle.locked_world.specs.Journals.{IsReplayOfJournal}
+use Rattle.locked_world.specs.calls.Journals.{IsReplayOfJournal}
 use Rattle.locked_world.proofs.Logging.{opening_replayed}
 use Rattle.locked_world.proofs.logged.Logged.start.Goals as goal
 

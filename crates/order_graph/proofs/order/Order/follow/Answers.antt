@@ -1,7 +1,7 @@
 use Rattle.std.proofs.lemmas.Result.{IfOk-weaker}
 use Rattle.armus_base.specs.Graphs.{WaitsFor}
-use Rattle.order_graph.specs.Following.{AnswersFollow, AnswersFollowing}
-use Rattle.order_graph.specs.Waits.{Awaits}
+use Rattle.order_graph.specs.calls.Following.{AnswersFollow, AnswersFollowing}
+use Rattle.order_graph.specs.calls.Waits.{Awaits}
 use Rattle.order_graph.proofs.PairEdges.{follows_same}
 use Rattle.order_graph.proofs.order.Order.follow.Goals as goal
 

@@ -1,7 +1,7 @@
 use Rattle.std.proofs.Common.{arith, length}
 use Rattle.std.proofs.lemmas.Result.{IfOk-weaker}
-use Rattle.order_graph.specs.Following.{AnswersFollowing}
-use Rattle.order_graph.specs.Waits.{Awaits}
+use Rattle.order_graph.specs.calls.Following.{AnswersFollowing}
+use Rattle.order_graph.specs.calls.Waits.{Awaits}
 use Rattle.order_graph.specs.inside.Steps.{AnswersEdges, PairsBelow}
 use Rattle.order_graph.proofs.PairEdges.{answers_following}
 use Rattle.order_graph.proofs.order.Order.follow_waits.Goals as goal

@@ -3,7 +3,7 @@ use Rattle.std.specs.Prelude.{Contains, ◌↔◌}
 use Rattle.std.proofs.lemmas.List.{get_or_default, with_items_is}
 use Rattle.std.proofs.lemmas.List.Elements.{Contains-get_or}
 use Rattle.armus_base.specs.declared.ids.TaskId.{TaskId}
-use Rattle.order_graph.specs.Orders.{IsTaskOf, OrderValue, successors_of}
+use Rattle.order_graph.specs.calls.Orders.{IsTaskOf, OrderValue, successors_of}
 use Rattle.order_graph.specs.inside.Rows.{AreSettled, order_of}
 use Rattle.order_graph.proofs.OrderRows.{is_row, memory_same, on_err_holds}
 use Rattle.order_graph.proofs.MendedOrders.{inverse_now, mended_edge, mended_order}

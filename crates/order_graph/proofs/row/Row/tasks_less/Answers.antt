@@ -2,7 +2,7 @@ use Rattle.std.proofs.Common.{◌≡◌, ◌*◌, length}
 use Rattle.std.specs.Prelude.{Contains, ◌⊎◌}
 use Rattle.std.proofs.lemmas.Result.{IfOk-weaker}
 use Rattle.armus_base.specs.declared.ids.TaskId.{TaskId}
-use Rattle.order_graph.specs.inside.Bits.{bit_less, tasks_by, tasks_in}
+use Rattle.order_graph.specs.inside.Bits.{bit_less, tasks_by, tasks_by_bits}
 use Rattle.order_graph.proofs.RowBits.{less_all, less_within}
 use Rattle.order_graph.proofs.row.Row.tasks_less.Goals as goal
 
@@ -13,7 +13,7 @@ returns-clause-within c =
     let is = rw (c.deref.ensures.value, c.deref-2.ensures.value) at c.tasks_less.ensures in
     rw (← c.self.view_is, ← c.other.view_is) (
     IfOk-weaker c.tasks_less.result (λ list. list.items ≡ tasks_by (bit_less words other) (64 * length words))
-    (λ list. (u : TaskId) → Contains list.items u → Contains (tasks_in words) u × (Contains (tasks_in other) u → ⊥))
+    (λ list. (u : TaskId) → Contains list.items u → Contains (tasks_by_bits words) u × (Contains (tasks_by_bits other) u → ⊥))
     (λ list e u. rw e (less_within words other u)) is)
 
 pub returns-clause-all : goal.returns-clause-all
@@ -23,5 +23,5 @@ returns-clause-all c =
     let is = rw (c.deref.ensures.value, c.deref-2.ensures.value) at c.tasks_less.ensures in
     rw (← c.self.view_is, ← c.other.view_is) (
     IfOk-weaker c.tasks_less.result (λ list. list.items ≡ tasks_by (bit_less words other) (64 * length words))
-    (λ list. (u : TaskId) → Contains (tasks_in words) u → Contains list.items u ⊎ Contains (tasks_in other) u)
+    (λ list. (u : TaskId) → Contains (tasks_by_bits words) u → Contains list.items u ⊎ Contains (tasks_by_bits other) u)
     (λ list e u. rw e (less_all words other u)) is)

@@ -1,6 +1,6 @@
 use Rattle.std.proofs.Common.{◌∙◌, ap, sym}
-use Rattle.phase_scan.specs.Collects.{Collection, IsCollect}
-use Rattle.phase_scan.specs.Tables.{statuses_of_findings}
+use Rattle.phase_scan.specs.calls.Collects.{Collection, IsCollect}
+use Rattle.phase_scan.specs.calls.Tables.{statuses_of_findings}
 use Rattle.phase_scan.proofs.Collecting.{cells_collected, cells_in_order, marks_stay, tables_collect}
 use Rattle.phase_scan.proofs.cells.Cells.collect.Goals as goal
 

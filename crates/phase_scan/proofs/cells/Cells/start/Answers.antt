@@ -1,6 +1,6 @@
 use Rattle.std.proofs.Common.{rules, sym, ap, ◌∙◌}
 use Rattle.armus_base.specs.Finals.{is_event_of}
-use Rattle.phase_scan.specs.Tables.{awaited_in_findings, event_for, state_of_findings, status_found, statuses_of_findings}
+use Rattle.phase_scan.specs.calls.Tables.{awaited_in_findings, event_for, state_of_findings, status_found, statuses_of_findings}
 use Rattle.phase_scan.proofs.Tables.{given_below_nothing, none_before, nothing_in_order, status_none}
 use Rattle.phase_scan.proofs.cells.Cells.start.Goals as goal
 

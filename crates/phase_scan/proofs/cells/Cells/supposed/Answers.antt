@@ -2,10 +2,10 @@ use Rattle.std.proofs.Common.{◌≡◌, ◌∙◌, ap, arith, subst, true, List
 use Rattle.armus_base.specs.declared.status.Status.{Status}
 use Rattle.armus_base.specs.States.{updated}
 use Rattle.armus_base.specs.Finals.{given_below}
-use Rattle.board.specs.Steps.{own_phase}
-use Rattle.phase_scan.specs.Collects.{Collection}
-use Rattle.phase_scan.specs.Supposed.{IsSupposed}
-use Rattle.phase_scan.specs.Tables.{awaited_in_findings, state_of_findings, state_supposed, status_found}
+use Rattle.board.specs.calls.Steps.{own_phase}
+use Rattle.phase_scan.specs.calls.Collects.{Collection}
+use Rattle.phase_scan.specs.calls.Supposed.{IsSupposed}
+use Rattle.phase_scan.specs.calls.Tables.{awaited_in_findings, state_of_findings, state_supposed, status_found}
 use Rattle.phase_scan.specs.inside.Phases.{phase_in}
 use Rattle.phase_scan.proofs.Columns.{read_back}
 use Rattle.phase_scan.proofs.Supposes.{supposed_goes, supposes}

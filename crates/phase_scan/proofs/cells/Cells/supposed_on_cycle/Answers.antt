@@ -3,13 +3,13 @@ use Rattle.armus_base.specs.declared.status.Status.{Status}
 use Rattle.armus_base.specs.CheckedPlans.{IsCheckedPlan}
 use Rattle.armus_base.specs.States.{updated}
 use Rattle.armus_base.specs.Finals.{given_below}
-use Rattle.board.specs.Steps.{own_phase}
-use Rattle.phase_scan.specs.Collects.{Collection}
-use Rattle.phase_scan.specs.Looks.{LoadsAlone}
-use Rattle.phase_scan.specs.OffCycle.{SupposesOrExcludes}
-use Rattle.phase_scan.specs.Supposed.{IsSupposed}
+use Rattle.board.specs.calls.Steps.{own_phase}
+use Rattle.phase_scan.specs.calls.Collects.{Collection}
+use Rattle.phase_scan.specs.calls.Looks.{LoadsAlone}
+use Rattle.phase_scan.specs.calls.OffCycle.{SupposesOrExcludes}
+use Rattle.phase_scan.specs.calls.Supposed.{IsSupposed}
 use Rattle.phase_scan.specs.inside.Supposing.{KeepsColumn}
-use Rattle.phase_scan.specs.Tables.{awaited_in_findings, event_for, state_of_findings, state_supposed, status_found}
+use Rattle.phase_scan.specs.calls.Tables.{awaited_in_findings, event_for, state_of_findings, state_supposed, status_found}
 use Rattle.phase_scan.specs.inside.Behind.{ExcludesCycle}
 use Rattle.phase_scan.specs.inside.Phases.{phase_in}
 use Rattle.phase_scan.proofs.Columns.{read_back}

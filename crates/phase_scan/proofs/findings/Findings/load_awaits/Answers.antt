@@ -3,9 +3,9 @@ use Rattle.std.specs.Prelude.{IfSome}
 use Rattle.armus_base.specs.declared.event.Event.{Event}
 use Rattle.armus_base.specs.Finals.{is_event_of}
 use Rattle.armus_base.specs.Places.{some_before}
-use Rattle.board.specs.Views.{found_of}
-use Rattle.phase_scan.specs.Collects.{LoadsAwaits}
-use Rattle.phase_scan.specs.Tables.{awaited_in_findings, event_for}
+use Rattle.board.specs.calls.Views.{found_of}
+use Rattle.phase_scan.specs.calls.Collects.{LoadsAwaits}
+use Rattle.phase_scan.specs.calls.Tables.{awaited_in_findings, event_for}
 use Rattle.phase_scan.proofs.Keeping.{awaited_more, awaits_more, still_of, waits_within}
 use Rattle.phase_scan.proofs.findings.Findings.load_awaits.Goals as goal
 

@@ -1,9 +1,9 @@
 use Rattle.std.proofs.Common.{◌≡◌, ℕ}
 use Rattle.armus_base.specs.Finals.{is_event_of}
 use Rattle.armus_base.specs.Places.{some_before}
-use Rattle.board.specs.Seats.{IsOf}
-use Rattle.phase_scan.specs.Collects.{LoadsAwaits}
-use Rattle.phase_scan.specs.Tables.{awaited_in_findings, event_for}
+use Rattle.board.specs.calls.Seats.{IsOf}
+use Rattle.phase_scan.specs.calls.Collects.{LoadsAwaits}
+use Rattle.phase_scan.specs.calls.Tables.{awaited_in_findings, event_for}
 use Rattle.phase_scan.proofs.findings.Findings.load_awaits.Given as goal
 
 abbrev pub invariant-loop-number : goal.invariant-loop-number

@@ -1,5 +1,5 @@
 use Rattle.std.proofs.Common.{◌≡◌, length}
-use Rattle.board.specs.Seats.{IsOf}
+use Rattle.board.specs.calls.Seats.{IsOf}
 use Rattle.phase_scan.specs.inside.Supposing.{KeepsColumn}
 use Rattle.phase_scan.proofs.findings.Findings.load_column.Given as goal
 

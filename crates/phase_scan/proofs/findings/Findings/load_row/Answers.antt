@@ -1,7 +1,7 @@
 use Rattle.std.proofs.Common.{◌≡◌, ◌+◌, ◌<◌, arith, length, get_or, refl, subst, vec_len, List, ℕ}
-use Rattle.phase_scan.specs.Collects.{LoadsRow}
+use Rattle.phase_scan.specs.calls.Collects.{LoadsRow}
 use Rattle.phase_scan.specs.inside.Nexts.{IsNextAsked}
-use Rattle.phase_scan.specs.Tables.{awaited_in_findings, phases_in_found}
+use Rattle.phase_scan.specs.calls.Tables.{awaited_in_findings, phases_in_found}
 use Rattle.phase_scan.proofs.Keeping.{next_read, others_stay, row_more, row_to_next, still_of}
 use Rattle.phase_scan.proofs.findings.Findings.load_row.Goals as goal
 

@@ -1,7 +1,7 @@
 use Rattle.std.proofs.Common.{◌≡◌, ◌≢◌, ℕ, ◌<◌, ◌≤◌, ◌-◌, true}
-use Rattle.board.specs.Seats.{IsOf}
-use Rattle.phase_scan.specs.Collects.{LoadsRow}
-use Rattle.phase_scan.specs.Tables.{awaited_in_findings, phases_in_found}
+use Rattle.board.specs.calls.Seats.{IsOf}
+use Rattle.phase_scan.specs.calls.Collects.{LoadsRow}
+use Rattle.phase_scan.specs.calls.Tables.{awaited_in_findings, phases_in_found}
 use Rattle.phase_scan.proofs.findings.Findings.load_row.Given as goal
 
 abbrev pub invariant-row : goal.invariant-row

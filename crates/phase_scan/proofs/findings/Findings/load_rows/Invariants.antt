@@ -1,7 +1,7 @@
 use Rattle.std.proofs.Common.{◌≡◌}
-use Rattle.board.specs.Seats.{IsOf}
-use Rattle.phase_scan.specs.Collects.{LoadsRows}
-use Rattle.phase_scan.specs.Tables.{awaited_in_findings, state_of_findings}
+use Rattle.board.specs.calls.Seats.{IsOf}
+use Rattle.phase_scan.specs.calls.Collects.{LoadsRows}
+use Rattle.phase_scan.specs.calls.Tables.{awaited_in_findings, state_of_findings}
 use Rattle.phase_scan.proofs.findings.Findings.load_rows.Given as goal
 
 abbrev pub invariant-loop-number : goal.invariant-loop-number

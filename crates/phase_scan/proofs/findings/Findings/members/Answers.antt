@@ -1,6 +1,6 @@
 use Rattle.std.proofs.Common.{◌≡◌, ◌+◌, ◌∙◌, ap, arith}
 use Rattle.armus_base.specs.Finals.{given_below, listed_phase}
-use Rattle.phase_scan.specs.Tables.{awaited_in_findings, state_of_findings}
+use Rattle.phase_scan.specs.calls.Tables.{awaited_in_findings, state_of_findings}
 use Rattle.phase_scan.proofs.Tables.{listed_to_next}
 use Rattle.phase_scan.proofs.WithOwn.{none_more, some_more}
 use Rattle.phase_scan.proofs.findings.Findings.members.Goals.{in-Some+in_ok-push-in-Some, in-None}

@@ -1,6 +1,6 @@
 use Rattle.std.proofs.Common.{◌≡◌, ◌≤◌, ◌-◌}
 use Rattle.armus_base.specs.Finals.{given_below, listed_phase}
-use Rattle.phase_scan.specs.Tables.{awaited_in_findings, state_of_findings}
+use Rattle.phase_scan.specs.calls.Tables.{awaited_in_findings, state_of_findings}
 use Rattle.phase_scan.proofs.findings.Findings.members.Given as goal
 
 abbrev pub invariant-row : goal.invariant-row

@@ -2,9 +2,9 @@ use Rattle.std.proofs.Common.{◌≡◌, ◌<◌, ◌∙◌, ap, arith, length, 
 use Rattle.std.specs.Prelude.{IfSome, unwrap_or}
 use Rattle.std.proofs.lemmas.Bool.{cases_eq, false≢true}
 use Rattle.std.proofs.lemmas.Option.{slice_get_read}
-use Rattle.board.specs.Seats.{Known}
-use Rattle.board.specs.Steps.{own_phase}
-use Rattle.phase_scan.specs.Tables.{event_for}
+use Rattle.board.specs.calls.Seats.{Known}
+use Rattle.board.specs.calls.Steps.{own_phase}
+use Rattle.phase_scan.specs.calls.Tables.{event_for}
 use Rattle.phase_scan.specs.inside.Behind.{IsBehindGiven}
 use Rattle.phase_scan.proofs.Excluding.{phaser_within}
 use Rattle.phase_scan.proofs.findings.Findings.own_is_behind.Goals as goal

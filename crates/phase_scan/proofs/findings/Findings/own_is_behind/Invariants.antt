@@ -1,6 +1,6 @@
 use Rattle.std.proofs.Common.{◌≡◌, ◌<◌, ℕ}
-use Rattle.board.specs.Steps.{own_phase}
-use Rattle.phase_scan.specs.Tables.{event_for}
+use Rattle.board.specs.calls.Steps.{own_phase}
+use Rattle.phase_scan.specs.calls.Tables.{event_for}
 use Rattle.phase_scan.specs.inside.Behind.{IsBehindGiven}
 use Rattle.phase_scan.proofs.findings.Findings.own_is_behind.Given as goal
 

@@ -1,9 +1,9 @@
 use Rattle.std.proofs.Common.{◌≡◌, ◌+◌, ◌∙◌, ap, arith, refl, true}
 use Rattle.armus_base.specs.Finals.{given_below, listed_phase}
 use Rattle.armus_base.specs.States.{updated}
-use Rattle.board.specs.Seats.{Known}
-use Rattle.board.specs.Steps.{own_phase}
-use Rattle.phase_scan.specs.Tables.{awaited_in_findings}
+use Rattle.board.specs.calls.Seats.{Known}
+use Rattle.board.specs.calls.Steps.{own_phase}
+use Rattle.phase_scan.specs.calls.Tables.{awaited_in_findings}
 use Rattle.phase_scan.proofs.Tables.{listed_to_next}
 use Rattle.phase_scan.proofs.WithOwn.{none_more, some_more}
 use Rattle.phase_scan.proofs.findings.Findings.own_members.Goals.{in-Some+in_ok-push-in-Some, in-None}

@@ -1,8 +1,8 @@
 use Rattle.std.proofs.Common.{◌≡◌, ◌≤◌, ◌-◌, true}
 use Rattle.armus_base.specs.Finals.{given_below, listed_phase}
 use Rattle.armus_base.specs.States.{updated}
-use Rattle.board.specs.Steps.{own_phase}
-use Rattle.phase_scan.specs.Tables.{awaited_in_findings}
+use Rattle.board.specs.calls.Steps.{own_phase}
+use Rattle.phase_scan.specs.calls.Tables.{awaited_in_findings}
 use Rattle.phase_scan.proofs.findings.Findings.own_members.Given as goal
 
 abbrev pub invariant-row : goal.invariant-row

@@ -2,8 +2,8 @@ use Rattle.std.proofs.Common.{◌≡◌, ◌<◌, ◌∙◌, ap, arith, length, 
 use Rattle.std.specs.Prelude.{unwrap_or}
 use Rattle.std.proofs.lemmas.Option.{slice_get_read}
 use Rattle.armus_base.specs.States.{updated}
-use Rattle.board.specs.Steps.{own_phase}
-use Rattle.phase_scan.specs.Tables.{awaited_in_findings, event_for, state_of_findings}
+use Rattle.board.specs.calls.Steps.{own_phase}
+use Rattle.phase_scan.specs.calls.Tables.{awaited_in_findings, event_for, state_of_findings}
 use Rattle.phase_scan.specs.inside.Phases.{phase_in}
 use Rattle.phase_scan.proofs.WithOwn.{status_idle, status_other, status_own}
 use Rattle.phase_scan.proofs.findings.Findings.status_with.Goals as goal

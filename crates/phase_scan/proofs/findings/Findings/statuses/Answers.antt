@@ -1,7 +1,7 @@
 use Rattle.std.proofs.Common.{◌≡◌, ◌<◌, ◌∙◌, ap, arith, length, refl, vec_len, None}
 use Rattle.std.specs.Prelude.{unwrap_or}
 use Rattle.std.proofs.lemmas.Option.{slice_get_read}
-use Rattle.phase_scan.specs.Tables.{awaited_in_findings, event_for, state_of_findings}
+use Rattle.phase_scan.specs.calls.Tables.{awaited_in_findings, event_for, state_of_findings}
 use Rattle.phase_scan.proofs.Tables.{no_status, one_status}
 use Rattle.phase_scan.proofs.findings.Findings.statuses.Goals.{in-Some+in_ok-phases-in-Some+in_ok-push-in-Some, in-None}
 use Rattle.phase_scan.proofs.findings.Findings.statuses.Goals as goal

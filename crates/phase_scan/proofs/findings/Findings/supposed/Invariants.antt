@@ -1,8 +1,8 @@
 use Rattle.std.proofs.Common.{◌≡◌, true}
 use Rattle.armus_base.specs.Finals.{given_below}
 use Rattle.armus_base.specs.States.{updated}
-use Rattle.board.specs.Steps.{own_phase}
-use Rattle.phase_scan.specs.Tables.{awaited_in_findings, state_of_findings, state_supposed, status_found}
+use Rattle.board.specs.calls.Steps.{own_phase}
+use Rattle.phase_scan.specs.calls.Tables.{awaited_in_findings, state_of_findings, state_supposed, status_found}
 use Rattle.phase_scan.specs.inside.Phases.{phase_in}
 use Rattle.phase_scan.proofs.findings.Findings.supposed.Given as goal
 

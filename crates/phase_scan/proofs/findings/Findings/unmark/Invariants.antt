@@ -1,5 +1,5 @@
 use Rattle.std.proofs.Common.{◌≡◌, ℕ, ◌<◌, false}
-use Rattle.phase_scan.specs.Tables.{awaited_in_findings}
+use Rattle.phase_scan.specs.calls.Tables.{awaited_in_findings}
 use Rattle.phase_scan.proofs.findings.Findings.unmark.Given as goal
 
 abbrev pub invariant-loop-p : goal.invariant-loop-p

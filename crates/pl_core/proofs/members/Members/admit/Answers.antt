@@ -1,7 +1,7 @@
 use Rattle.std.proofs.Common.{◌≡◌, ◌+◌, ℕ, None, refl, length, arith, subst, sym, ap, ◌∙◌}
 use Rattle.std.specs.Prelude.{is_ok}
 use Rattle.pl_core.specs.declared.cell.Cell.{Cell}
-use Rattle.pl_core.specs.inside.Cells.{AreBelow, StandsAt, StandsIn, phase_among}
+use Rattle.pl_core.specs.inside.Cells.{AreBelow, StandsInCell, StandsIn, phase_among}
 use Rattle.pl_core.proofs.Admitted.{kept_pushed}
 use Rattle.pl_core.proofs.Cells.{among_more, below_more, slice_get-end, stands_more}
 use Rattle.pl_core.proofs.members.Members.admit.Goals as goal
@@ -9,7 +9,7 @@ use Rattle.pl_core.proofs.members.Members.admit.Goals as goal
 pub invariant_of-self : goal.invariant_of-self
 invariant_of-self c =
     let row = c.args.self.now in
-    let other = subst (λ xs. (k : ℕ) → k + 1 ≡ length xs → StandsAt xs k c.args.t → ⊥) c.deref.ensures.value (c.if-not-ends_with.ensures.other refl) in
+    let other = subst (λ xs. (k : ℕ) → k + 1 ≡ length xs → StandsInCell xs k c.args.t → ⊥) c.deref.ensures.value (c.if-not-ends_with.ensures.other refl) in
     let kept = kept_pushed row.cells.items c.args.t row.least row.ascend row.least_kept c.requires.below other (is_ok c.push.result) c.push.new.self.items c.push.ensures.items in
     record { ascend = kept.0; least_kept = kept.1 }
 

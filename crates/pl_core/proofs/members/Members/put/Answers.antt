@@ -1,7 +1,7 @@
 use Rattle.std.proofs.Common.{◌≡◌, ◌≢◌, ℕ, Option, length, set, subst, sym}
 use Rattle.std.proofs.lemmas.List.{length-set}
 use Rattle.pl_core.specs.declared.cell.Cell.{Cell}
-use Rattle.pl_core.specs.inside.Cells.{phase_at}
+use Rattle.pl_core.specs.inside.Cells.{phase_in_cell}
 use Rattle.pl_core.specs.inside.LeastPhases.{IsLeastBelow}
 use Rattle.pl_core.proofs.Cells.{among_set_here, among_set_other, phase_at_set_other, stands_set, stays_ascending}
 use Rattle.pl_core.proofs.LeastMembers.{below_kept, kept_below}
@@ -11,9 +11,9 @@ pub least_after-self-requires-clause-before : goal.least_after-self-requires-cla
 least_after-self-requires-clause-before c =
     let row = c.args.self.now in
     let d : Cell = record { task = c.args.t; phase = c.args.phase } in
-    subst (λ xs. (f : ℕ → Option ℕ) × IsLeastBelow f (length xs) row.least × ((u : ℕ) → u ≢ c.args.at → f u ≡ phase_at xs u)) (sym c.deref.ensures.value) (
-      phase_at row.cells.items,
-      subst (λ n. IsLeastBelow (phase_at row.cells.items) n row.least) (sym (length-set row.cells.items c.args.at d))
+    subst (λ xs. (f : ℕ → Option ℕ) × IsLeastBelow f (length xs) row.least × ((u : ℕ) → u ≢ c.args.at → f u ≡ phase_in_cell xs u)) (sym c.deref.ensures.value) (
+      phase_in_cell row.cells.items,
+      subst (λ n. IsLeastBelow (phase_in_cell row.cells.items) n row.least) (sym (length-set row.cells.items c.args.at d))
           (kept_below row.cells.items row.least row.least_kept),
       λ u n. sym (phase_at_set_other row.cells.items c.args.at u d n),
     )
@@ -27,7 +27,7 @@ invariant_of-self c =
       ascend = stays_ascending row.cells.items c.args.at there.0 d row.ascend there.1 (sym there.2);
       least_kept =
           below_kept (set row.cells.items c.args.at d) c.least_after-self.result
-          (subst (λ xs. IsLeastBelow (phase_at xs) (length xs) c.least_after-self.result) c.deref.ensures.value c.least_after-self.ensures);
+          (subst (λ xs. IsLeastBelow (phase_in_cell xs) (length xs) c.least_after-self.result) c.deref.ensures.value c.least_after-self.ensures);
     }
 
 pub returns-clause-here : goal.returns-clause-here

@@ -7,7 +7,7 @@ use Rattle.pl_core.specs.inside.Cursors.{op_index_of}
 use Rattle.pl_core.specs.inside.Stops.{IsStopOf}
 use Rattle.pl_core.specs.Tasks.{actions_before}
 use Rattle.pl_core.specs.inside.Walks.{HasWalked, walking}
-use Rattle.pl_core.specs.Worlds.{places_at}
+use Rattle.pl_core.specs.calls.Worlds.{places_at}
 use Rattle.pl_core.proofs.KeptCursors.{first_left, gone_on, one_less_left, op_marked}
 use Rattle.pl_core.proofs.StepKinds.{few_own_ops}
 use Rattle.pl_core.proofs.Stopping.{made_before, made_less, past_the_last, stop_at_end, stop_here, stop_later}

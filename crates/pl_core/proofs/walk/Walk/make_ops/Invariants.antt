@@ -2,7 +2,7 @@ use Rattle.std.proofs.Common.{◌≡◌, ◌≤◌, ◌+◌, ℕ, drop, length}
 use Rattle.pl_core.specs.Tasks.{actions_before}
 use Rattle.pl_core.specs.inside.Cursors.{op_index_of}
 use Rattle.pl_core.specs.inside.Walks.{HasWalked, walking}
-use Rattle.pl_core.specs.Worlds.{places_at}
+use Rattle.pl_core.specs.calls.Worlds.{places_at}
 use Rattle.armus_base.specs.Plans.{code_of}
 use Rattle.pl_core.proofs.walk.Walk.make_ops.Given as goal
 

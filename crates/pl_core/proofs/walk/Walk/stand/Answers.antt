@@ -3,7 +3,7 @@ use Rattle.std.specs.Prelude.{slice_get, ◌||◌, if◌then◌else◌}
 use Rattle.std.proofs.lemmas.Option.{slice_get_within}
 use Rattle.pl_core.specs.inside.PhaseTables.{phases_in}
 use Rattle.pl_core.specs.inside.Walks.{AwaitsBelow, AwaitsNear, HasWalked, event_of_op, walked}
-use Rattle.pl_core.specs.Worlds.{places_at}
+use Rattle.pl_core.specs.calls.Worlds.{places_at}
 use Rattle.pl_core.proofs.KeptCursors.{keeps_others, op_set_same}
 use Rattle.pl_core.proofs.WalkEnds.{awaits_below, awaits_near, walk_stands}
 use Rattle.pl_core.proofs.walk.Walk.stand.Goals as goal

@@ -2,7 +2,7 @@ use Rattle.std.proofs.Common.{◌≡◌, ◌+◌, ◌∙◌, ap, arith, length, 
 use Rattle.pl_core.specs.inside.Changes.{opening_tasks}
 use Rattle.pl_core.specs.inside.Cursors.{AreAt}
 use Rattle.pl_core.specs.inside.Walks.{HasWalked, walked}
-use Rattle.pl_core.specs.Worlds.{places_at}
+use Rattle.pl_core.specs.calls.Worlds.{places_at}
 use Rattle.pl_core.proofs.KeptCursors.{at_more, at_none}
 use Rattle.pl_core.proofs.WalkDone.{same_places, walk_done, walk_start}
 use Rattle.pl_core.proofs.walk.Walk.to_places.Goals as goal

@@ -4,7 +4,7 @@ use Rattle.armus_base.specs.Finals.{is_event_of}
 use Rattle.armus_base.specs.Places.{some_before}
 use Rattle.pl_core.specs.inside.Reading.{is_asked}
 use Rattle.pl_core.specs.inside.Supposed.{with_also}
-use Rattle.pl_core.specs.Worlds.{state_of}
+use Rattle.pl_core.specs.calls.Worlds.{state_of}
 use Rattle.pl_core.proofs.Below.{awaited_more, awaited_none}
 use Rattle.pl_core.proofs.world.World.awaited_phasers.Goals.{in-Some, in-None}
 use Rattle.pl_core.proofs.world.World.awaited_phasers.Goals as goal

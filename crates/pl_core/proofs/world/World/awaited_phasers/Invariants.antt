@@ -3,7 +3,7 @@ use Rattle.armus_base.specs.Finals.{is_event_of}
 use Rattle.armus_base.specs.Places.{some_before}
 use Rattle.pl_core.specs.inside.Reading.{is_asked}
 use Rattle.pl_core.specs.inside.Supposed.{with_also}
-use Rattle.pl_core.specs.Worlds.{state_of}
+use Rattle.pl_core.specs.calls.Worlds.{state_of}
 use Rattle.pl_core.proofs.world.World.awaited_phasers.Given as goal
 
 abbrev pub invariant-loop-t : goal.invariant-loop-t

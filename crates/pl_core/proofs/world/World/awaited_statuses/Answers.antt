@@ -2,7 +2,7 @@ use Rattle.std.proofs.Common.{◌∙◌, ap}
 use Rattle.armus_base.specs.Finals.{is_awaited, statuses_on}
 use Rattle.pl_core.specs.inside.Reading.{is_asked}
 use Rattle.pl_core.specs.inside.Supposed.{with_also}
-use Rattle.pl_core.specs.Worlds.{state_of}
+use Rattle.pl_core.specs.calls.Worlds.{state_of}
 use Rattle.pl_core.proofs.Below.{statuses_same}
 use Rattle.pl_core.proofs.world.World.awaited_statuses.Goals as goal
 

@@ -1,10 +1,10 @@
 use Rattle.std.proofs.Common.{Some, ap, arith, length, set, subst, sym, ◌<◌, ◌∙◌, ◌≡◌, ◌≤◌}
 use Rattle.std.specs.Prelude.{slice_get}
-use Rattle.pl_core.specs.Moves.{IsWorldStep}
-use Rattle.pl_core.specs.Stands.{IsAtAwaitOf}
+use Rattle.pl_core.specs.calls.Moves.{IsWorldStep}
+use Rattle.pl_core.specs.calls.Stands.{IsAtAwaitOf}
 use Rattle.pl_core.specs.inside.Kept.{KeepsState}
-use Rattle.pl_core.specs.Tables.{world_from}
-use Rattle.pl_core.specs.Worlds.{WorldValue}
+use Rattle.pl_core.specs.calls.Tables.{world_from}
+use Rattle.pl_core.specs.calls.Worlds.{WorldValue}
 use Rattle.pl_core.proofs.StepKinds.{block_stepped, events_fit_block}
 use Rattle.pl_core.proofs.HighestKept.{highest_set}
 use Rattle.pl_core.specs.inside.Highest.{highest_at}

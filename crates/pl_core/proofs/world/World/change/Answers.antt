@@ -1,11 +1,11 @@
 use Rattle.std.proofs.Common.{Some, ap, length, set, subst, sym, ◌≡◌}
 use Rattle.std.specs.Prelude.{slice_get}
 use Rattle.armus_base.specs.States.{IsActive}
-use Rattle.pl_core.specs.Moves.{IsWorldStep}
+use Rattle.pl_core.specs.calls.Moves.{IsWorldStep}
 use Rattle.pl_core.specs.inside.Ops.{action_of}
 use Rattle.pl_core.specs.inside.Kept.{KeepsState}
-use Rattle.pl_core.specs.Tables.{world_from}
-use Rattle.pl_core.specs.Worlds.{WorldValue, action_by_code, state_of}
+use Rattle.pl_core.specs.calls.Tables.{world_from}
+use Rattle.pl_core.specs.calls.Worlds.{WorldValue, action_by_code, state_of}
 use Rattle.pl_core.proofs.ChangeKinds.{change_stepped, room}
 use Rattle.pl_core.proofs.StepKinds.{events_fit, op_fits}
 use Rattle.pl_core.proofs.HighestKept.{highest_idle}

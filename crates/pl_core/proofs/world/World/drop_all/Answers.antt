@@ -1,10 +1,10 @@
 use Rattle.std.proofs.Common.{Some, ap, length, set, subst, sym, ◌≡◌}
 use Rattle.std.specs.Prelude.{slice_get}
-use Rattle.pl_core.specs.Moves.{MakesRefusal}
-use Rattle.pl_core.specs.Stands.{IsAtAwaitOf}
+use Rattle.pl_core.specs.calls.Moves.{MakesRefusal}
+use Rattle.pl_core.specs.calls.Stands.{IsAtAwaitOf}
 use Rattle.pl_core.specs.inside.Kept.{KeepsState}
-use Rattle.pl_core.specs.Tables.{world_from}
-use Rattle.pl_core.specs.Worlds.{WorldValue}
+use Rattle.pl_core.specs.calls.Tables.{world_from}
+use Rattle.pl_core.specs.calls.Worlds.{WorldValue}
 use Rattle.pl_core.proofs.RefusalKept.{refusal_kept, refusal_made}
 use Rattle.pl_core.proofs.HighestKept.{highest_refused}
 use Rattle.pl_core.proofs.KeptCursors.{stays}

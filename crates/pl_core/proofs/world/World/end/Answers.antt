@@ -2,7 +2,7 @@ use Rattle.std.proofs.Common.{◌≡◌, Some, subst, sym}
 use Rattle.std.specs.Prelude.{slice_get}
 use Rattle.armus_base.specs.declared.ending.TaskEnd.TheVariants.{Blocked, Done, Refused, Unforked}
 use Rattle.armus_base.specs.Finals.{end_of}
-use Rattle.pl_core.specs.Worlds.{WorldValue, state_of}
+use Rattle.pl_core.specs.calls.Worlds.{WorldValue, state_of}
 use Rattle.pl_core.proofs.Standing.{end_kept_blocked, end_kept_done, end_kept_refused, end_kept_unforked}
 use Rattle.pl_core.proofs.world.World.end.Goals as goal
 

@@ -1,6 +1,6 @@
 use Rattle.std.proofs.Common.{◌∙◌, ap, length}
 use Rattle.armus_base.specs.Finals.{end_of, list_below}
-use Rattle.pl_core.specs.Worlds.{state_of}
+use Rattle.pl_core.specs.calls.Worlds.{state_of}
 use Rattle.pl_core.proofs.world.World.finish.Goals as goal
 
 pub returns-clause-end : goal.returns-clause-end

@@ -3,10 +3,10 @@ use Rattle.std.specs.Prelude.{slice_get}
 use Rattle.armus_base.specs.Plans.{Forks}
 use Rattle.armus_base.specs.States.{IsActive}
 use Rattle.pl_core.specs.inside.Changes.{after_fork}
-use Rattle.pl_core.specs.Moves.{IsWorldStep}
+use Rattle.pl_core.specs.calls.Moves.{IsWorldStep}
 use Rattle.pl_core.specs.inside.Kept.{KeepsState}
-use Rattle.pl_core.specs.Tables.{world_from}
-use Rattle.pl_core.specs.Worlds.{WorldValue, action_by_code, state_of}
+use Rattle.pl_core.specs.calls.Tables.{world_from}
+use Rattle.pl_core.specs.calls.Worlds.{WorldValue, action_by_code, state_of}
 use Rattle.pl_core.proofs.Bounds.{child_bound}
 use Rattle.pl_core.proofs.ChangeKinds.{fork_stepped}
 use Rattle.pl_core.proofs.StepKinds.{events_fit, op_fits}

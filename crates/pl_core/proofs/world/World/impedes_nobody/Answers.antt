@@ -1,7 +1,7 @@
 use Rattle.std.proofs.Common.{◌≡◌, ◌≤◌, ◌∙◌, ap, arith, length, inl, inr, sym, subst, Some}
 use Rattle.std.proofs.lemmas.Bool.{cases_eq}
 use Rattle.armus_base.proofs.Steps.{updated_other, updated_same}
-use Rattle.pl_core.specs.Worlds.{WorldValue, state_of}
+use Rattle.pl_core.specs.calls.Worlds.{WorldValue, state_of}
 use Rattle.pl_core.proofs.Bounds.{phaser_of_member}
 use Rattle.pl_core.proofs.HighestKept.{checked_there, published_bound, reachable_there}
 use Rattle.pl_core.proofs.world.World.impedes_nobody.Goals as goal

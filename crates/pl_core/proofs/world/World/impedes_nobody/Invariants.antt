@@ -1,6 +1,6 @@
 use Rattle.std.proofs.Common.{◌≡◌, ◌<◌, ◌≤◌, ℕ, Some}
 use Rattle.pl_core.specs.inside.Highest.{highest_at}
-use Rattle.pl_core.specs.Worlds.{state_of}
+use Rattle.pl_core.specs.calls.Worlds.{state_of}
 use Rattle.pl_core.proofs.world.World.impedes_nobody.Given as goal
 
 abbrev pub invariant-loop-p : goal.invariant-loop-p

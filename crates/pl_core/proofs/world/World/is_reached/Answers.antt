@@ -1,6 +1,6 @@
 use Rattle.std.proofs.Common.{◌≡◌, ◌∙◌, sym, ap}
 use Rattle.pl_core.specs.inside.PhaseTables.{phases_in}
-use Rattle.pl_core.specs.Worlds.{state_of}
+use Rattle.pl_core.specs.calls.Worlds.{state_of}
 use Rattle.pl_core.proofs.world.World.is_reached.Goals as goal
 
 pub returns : goal.returns

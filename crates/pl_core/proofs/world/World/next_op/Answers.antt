@@ -4,7 +4,7 @@ use Rattle.std.proofs.lemmas.Option.{slice_get-get_or}
 use Rattle.armus_base.specs.States.{IsActive}
 use Rattle.pl_core.specs.inside.Changes.{unbegun}
 use Rattle.pl_core.specs.inside.Ops.{action_of}
-use Rattle.pl_core.specs.Worlds.{WorldValue, action_by_code, state_of}
+use Rattle.pl_core.specs.calls.Worlds.{WorldValue, action_by_code, state_of}
 use Rattle.pl_core.proofs.KeptCursors.{op_of_cursor}
 use Rattle.pl_core.proofs.Standing.{idle, next_of_idle}
 use Rattle.pl_core.proofs.world.World.next_op.Goals as goal

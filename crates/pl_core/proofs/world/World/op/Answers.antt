@@ -2,7 +2,7 @@ use Rattle.std.proofs.Common.{◌≡◌, Some, subst}
 use Rattle.std.specs.Prelude.{slice_get}
 use Rattle.armus_base.specs.Plans.{code_of}
 use Rattle.pl_core.specs.Tasks.{IsAtOp}
-use Rattle.pl_core.specs.Worlds.{WorldValue, places_of}
+use Rattle.pl_core.specs.calls.Worlds.{WorldValue, places_of}
 use Rattle.pl_core.proofs.AtOp.{at_op}
 use Rattle.pl_core.proofs.world.World.op.Goals as goal
 

@@ -1,10 +1,10 @@
 use Rattle.std.proofs.Common.{Some, ap, length, set, subst, sym, ◌≡◌}
 use Rattle.std.specs.Prelude.{slice_get}
 use Rattle.armus_base.specs.States.{IsReached}
-use Rattle.pl_core.specs.Moves.{IsWorldStep}
+use Rattle.pl_core.specs.calls.Moves.{IsWorldStep}
 use Rattle.pl_core.specs.inside.Kept.{KeepsState}
-use Rattle.pl_core.specs.Tables.{world_from}
-use Rattle.pl_core.specs.Worlds.{WorldValue, state_of}
+use Rattle.pl_core.specs.calls.Tables.{world_from}
+use Rattle.pl_core.specs.calls.Worlds.{WorldValue, state_of}
 use Rattle.pl_core.proofs.StepKinds.{events_fit_pass, op_fits, pass_stepped}
 use Rattle.pl_core.proofs.HighestKept.{highest_idle}
 use Rattle.pl_core.specs.inside.Cursors.{AreAt}

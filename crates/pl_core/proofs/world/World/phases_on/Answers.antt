@@ -1,7 +1,7 @@
 use Rattle.std.proofs.Common.{◌∙◌, ap, sym}
 use Rattle.armus_base.specs.Finals.{listed_phase}
 use Rattle.pl_core.specs.inside.Reading.{is_asked}
-use Rattle.pl_core.specs.Worlds.{state_of}
+use Rattle.pl_core.specs.calls.Worlds.{state_of}
 use Rattle.pl_core.proofs.Below.{given_below_more, given_below_none}
 use Rattle.pl_core.proofs.world.World.phases_on.Goals.{in-Some+in_ok-push-in-Some, in-None}
 use Rattle.pl_core.proofs.world.World.phases_on.Goals as goal

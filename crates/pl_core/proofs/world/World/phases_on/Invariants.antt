@@ -1,7 +1,7 @@
 use Rattle.std.proofs.Common.{◌≡◌}
 use Rattle.armus_base.specs.Finals.{given_below, listed_phase}
 use Rattle.pl_core.specs.inside.Reading.{is_asked}
-use Rattle.pl_core.specs.Worlds.{state_of}
+use Rattle.pl_core.specs.calls.Worlds.{state_of}
 use Rattle.pl_core.proofs.world.World.phases_on.Given as goal
 
 abbrev pub invariant-loop-p : goal.invariant-loop-p

@@ -1,9 +1,9 @@
 use Rattle.std.proofs.Common.{◌≡◌, ◌<◌, ℕ, Option, Some, None, length, refl, subst, sym}
 use Rattle.std.specs.Prelude.{IfSome, slice_get}
 use Rattle.armus_base.specs.declared.event.Event.{Event}
-use Rattle.pl_core.specs.Tables.{world_from}
+use Rattle.pl_core.specs.calls.Tables.{world_from}
 use Rattle.pl_core.proofs.GoingOn.{phaser_of_waiting}
-use Rattle.pl_core.specs.Worlds.{WorldValue, state_of}
+use Rattle.pl_core.specs.calls.Worlds.{WorldValue, state_of}
 use Rattle.pl_core.proofs.Standing.{published_kept, published_none}
 use Rattle.pl_core.proofs.world.World.published.Goals as goal
 

@@ -1,8 +1,8 @@
 use Rattle.std.proofs.Common.{◌≡◌, ◌∙◌, ap, arith, inl, inr, length, subst}
 use Rattle.std.proofs.lemmas.Bool.{cases_eq}
-use Rattle.pl_core.specs.HighestPhases.{IsPublishedImpeder}
+use Rattle.pl_core.specs.calls.HighestPhases.{IsPublishedImpeder}
 use Rattle.armus_base.specs.States.{if_published}
-use Rattle.pl_core.specs.Worlds.{WorldValue, state_of}
+use Rattle.pl_core.specs.calls.Worlds.{WorldValue, state_of}
 use Rattle.pl_core.proofs.Bounds.{task_of_member}
 use Rattle.pl_core.proofs.HighestKept.{checked_there, reachable_there}
 use Rattle.pl_core.proofs.world.World.published_impeder.Goals as goal

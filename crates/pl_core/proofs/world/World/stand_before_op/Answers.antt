@@ -1,7 +1,7 @@
 use Rattle.std.proofs.Common.{◌≡◌, Some, ap, ◌∙◌}
 use Rattle.armus_base.specs.Plans.{Blocks}
 use Rattle.pl_core.specs.inside.Ops.{action_of}
-use Rattle.pl_core.specs.Worlds.{action_by_code}
+use Rattle.pl_core.specs.calls.Worlds.{action_by_code}
 use Rattle.pl_core.proofs.GoingOn.{legal_when_active, phase_when_active, phaser_of_awaited}
 use Rattle.pl_core.proofs.world.World.stand_before_op.Goals as goal
 

@@ -1,9 +1,9 @@
 use Rattle.std.proofs.Common.{◌≡◌, ◌∙◌, Bool, Some, ap, refl, subst, sym, true, false}
 use Rattle.std.specs.Prelude.{not, slice_get}
 use Rattle.armus_base.specs.States.{IsActive}
-use Rattle.pl_core.specs.Tables.{world_from}
+use Rattle.pl_core.specs.calls.Tables.{world_from}
 use Rattle.pl_core.specs.inside.KeptTasks.{event_in}
-use Rattle.pl_core.specs.Worlds.{WorldValue, state_of}
+use Rattle.pl_core.specs.calls.Worlds.{WorldValue, state_of}
 use Rattle.pl_core.proofs.Standing.{active_of_kept, of_task}
 use Rattle.pl_core.proofs.world.World.stand_kept.Goals as goal
 

@@ -1,7 +1,7 @@
 use Rattle.std.proofs.Common.{◌≡◌, ◌<◌, ◌∙◌, ℕ, ap, length, subst, sym, true}
 use Rattle.armus_base.specs.Finals.{statuses_on}
 use Rattle.pl_core.specs.inside.Reading.{is_asked}
-use Rattle.pl_core.specs.Worlds.{WorldValue, state_of}
+use Rattle.pl_core.specs.calls.Worlds.{WorldValue, state_of}
 use Rattle.pl_core.proofs.Below.{asked_of_copies, statuses_same}
 use Rattle.pl_core.proofs.world.World.statuses.Goals as goal
 

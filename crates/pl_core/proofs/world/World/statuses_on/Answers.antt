@@ -3,7 +3,7 @@ use Rattle.armus_base.specs.Finals.{status_of}
 use Rattle.pl_core.specs.inside.Reading.{is_asked}
 use Rattle.armus_base.specs.Finals.{given_below, listed_phase}
 use Rattle.pl_core.specs.inside.Supposed.{with_also}
-use Rattle.pl_core.specs.Worlds.{state_of}
+use Rattle.pl_core.specs.calls.Worlds.{state_of}
 use Rattle.pl_core.proofs.Below.{given_below_more, given_below_none, phases_also, status_none, status_some}
 use Rattle.pl_core.proofs.world.World.statuses_on.Goals.{in-Some+in_ok-phases-in-Some+in_ok-push-in-Some, in-None}
 use Rattle.pl_core.proofs.world.World.statuses_on.Goals as goal

@@ -1,6 +1,6 @@
 use Rattle.std.proofs.Common.{◌≡◌, ◌≢◌, ◌∙◌, ◌∷◌, ◌++◌, [], length, sym, subst, refl}
 use Rattle.armus_base.specs.DeadLists.{IsDeadList}
-use Rattle.armus_base.specs.Statuses.{IsInOrder}
+use Rattle.armus_base.specs.calls.Statuses.{IsInOrder}
 use Rattle.schedule.specs.inside.OpenPasses.{IsPassOf}
 use Rattle.schedule.specs.Passes.{loads_of}
 use Rattle.schedule.specs.Replays.{loaded}

@@ -3,7 +3,7 @@ use prog.Atomic.{either}
 use mathlib.Core.Option.{none}
 use Rattle.atomic_table.specs.Table.{Allows, rest, step}
 use Rattle.slot_pool.specs.inside.Rule.{PoolHolds}
-use Rattle.slot_pool.specs.Steps.{Claimed}
+use Rattle.slot_pool.specs.calls.Steps.{Claimed}
 use Rattle.slot_pool.proofs.Claiming.{claims}
 use Rattle.slot_pool.proofs.worker.Worker.claim.Goals as goal
 

@@ -3,9 +3,9 @@ use Rattle.std.specs.Prelude.{Contains}
 use mathlib.Core.Option.{none}
 use Rattle.atomic_table.specs.Seated.{TableId}
 use Rattle.atomic_table.specs.Table.{Allows, rest, step}
-use Rattle.slot_pool.specs.Views.{giving}
+use Rattle.slot_pool.specs.calls.Views.{giving}
 use Rattle.slot_pool.specs.inside.Rule.{PoolHolds}
-use Rattle.slot_pool.specs.Steps.{GivenBack}
+use Rattle.slot_pool.specs.calls.Steps.{GivenBack}
 use Rattle.slot_pool.proofs.Members.{contains_first}
 use Rattle.slot_pool.proofs.Placing.{gives_home}
 use Rattle.slot_pool.proofs.Standing.{given_at_work}

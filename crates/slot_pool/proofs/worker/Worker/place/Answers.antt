@@ -4,7 +4,7 @@ use mathlib.Core.Option.{none}
 use Rattle.atomic_table.specs.Seated.{TableId}
 use Rattle.atomic_table.specs.Table.{Allows, step}
 use Rattle.slot_pool.specs.inside.Rule.{PoolHolds}
-use Rattle.slot_pool.specs.Steps.{Begun}
+use Rattle.slot_pool.specs.calls.Steps.{Begun}
 use Rattle.slot_pool.proofs.Claiming.{begins}
 use Rattle.slot_pool.proofs.Standing.{found_at_work, placing_at_work}
 use Rattle.slot_pool.proofs.worker.Worker.place.Goals as goal

@@ -1,7 +1,7 @@
 use Rattle.std.proofs.Common.{◌≡◌, ◌∙◌, ◌++◌, None, ap, subst, sym}
 use Rattle.std.specs.Prelude.{OnOk, slice_get}
 use Rattle.armus_base.specs.Plans.{Plan, code_of}
-use Rattle.pl_core.specs.Worlds.{state_of}
+use Rattle.pl_core.specs.calls.Worlds.{state_of}
 use Rattle.pl_core.proofs.Cells.{read_there}
 use Rattle.task_sayings.specs.Places.{said_of}
 use Rattle.step_lines.specs.StepWords.{change_words}

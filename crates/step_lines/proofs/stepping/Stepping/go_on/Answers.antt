@@ -1,10 +1,10 @@
 use Rattle.std.proofs.Common.{◌+◌, refl}
-use Rattle.step_lines.specs.inside.Known.{layout_of}
+use Rattle.step_lines.specs.inside.Known.{kept_layout}
 use Rattle.step_lines.proofs.GoingOn.{one_more}
 use Rattle.step_lines.proofs.stepping.Stepping.go_on.Goals as goal
 
 pub returns-in_ok-show-in-Some-clause-moved : goal.returns-in_ok-show-in-Some-clause-moved
 returns-in_ok-show-in-Some-clause-moved c = λ on h so_far.
-    one_more (layout_of c.args.facts.now) c.args.facts.now.program.now c.args.self.now
+    one_more (kept_layout c.args.facts.now) c.args.facts.now.program.now c.args.self.now
     (record { world = c.step.new.self; lines = c.show.new.out; steps = c.args.self.now.steps + 1 }) c.in-Some.t.0 h so_far c.step.ensures
     c.in-Some.ensures.2 refl c.in_ok-show-in-Some.ensures.shown c.in_ok-show-in-Some.ensures.rest

@@ -1,6 +1,6 @@
 use Rattle.std.proofs.Common.{◌≡◌}
-use Rattle.slot_pool.specs.Hands.{IsSameWorker}
-use Rattle.board_rounds.specs.Crews.{number}
+use Rattle.slot_pool.specs.calls.PoolValues.{IsSameWorker}
+use Rattle.board_rounds.specs.calls.TaskSeats.{number}
 use Rattle.task_runner.proofs.pool_worker.PoolWorker.turn.Given as goal
 
 abbrev pub invariant-loop : goal.invariant-loop

@@ -1,5 +1,5 @@
 use Rattle.std.proofs.Common.{◌≡◌, []}
-use Rattle.slot_pool.specs.Hands.{IsSameWorker}
+use Rattle.slot_pool.specs.calls.PoolValues.{IsSameWorker}
 use Rattle.task_runner.proofs.pool_worker.PoolWorkerWorksOnPoolPooledTask.work.Given as goal
 
 abbrev pub invariant-loop : goal.invariant-loop

@@ -1,8 +1,8 @@
 use Rattle.std.proofs.Common.{◌∙◌, sym, subst}
 use Rattle.std.specs.Prelude.{All}
-use Rattle.board.specs.Seats.{Frame, IsOf}
-use Rattle.board_rounds.specs.Turns.{Acts}
-use Rattle.board_rounds.specs.Crews.{IsCrewSeat}
+use Rattle.board.specs.calls.Seats.{Frame, IsOf}
+use Rattle.board_rounds.specs.calls.Turns.{Acts}
+use Rattle.board_rounds.specs.calls.TaskSeats.{IsTaskSeat}
 use Rattle.task_runner.specs.inside.Pooled.{IsForked}
 use Rattle.task_runner.proofs.PooledTasks.{acted, forked}
 use Rattle.task_runner.proofs.pooled_task.PooledTask.act.Goals as goal
@@ -25,7 +25,7 @@ invariant_of-self-2 g c =
     let a = c.in_ok-acted.ensures.acts in
     record {
       seat =
-          subst (IsCrewSeat g.N.BoardName.board) (sym c.take_children.ensures.seat)
+          subst (IsTaskSeat g.N.BoardName.board) (sym c.take_children.ensures.seat)
           (acted g.N.BoardName.board a.0 c.self.inside.task c.act.new.self c.self.invariant
           (subst (λ (f : Frame). Acts f a.0 c.self.inside.task c.act.new.self) c.requires.board a.1));
       no_child = c.take_children.ensures.none;

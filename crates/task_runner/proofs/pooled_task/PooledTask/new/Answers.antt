@@ -1,7 +1,7 @@
 use Rattle.std.proofs.Common.{◌<◌, ◌∙◌, length, sym, refl, subst}
-use Rattle.board.specs.Seats.{Known}
-use Rattle.board.specs.Views.{task_of}
-use Rattle.board_rounds.specs.Crews.{IsCrewSeat}
+use Rattle.board.specs.calls.Seats.{Known}
+use Rattle.board.specs.calls.Views.{task_of}
+use Rattle.board_rounds.specs.calls.TaskSeats.{IsTaskSeat}
 use Rattle.task_runner.proofs.PooledTasks.{small}
 use Rattle.task_runner.proofs.pooled_task.PooledTask.new.Goals as goal
 
@@ -10,7 +10,7 @@ new-requires-clause-plan g c = c.requires.seat.of_board.plan ∙ c.requires.plan
 
 pub invariant_of-result : goal.invariant_of-result
 invariant_of-result g c =
-    record { seat = subst (IsCrewSeat g.N.BoardName.board) (sym c.new.ensures.seat) c.requires.seat; no_child = c.new.ensures.no_child }
+    record { seat = subst (IsTaskSeat g.N.BoardName.board) (sym c.new.ensures.seat) c.requires.seat; no_child = c.new.ensures.no_child }
 
 pub returns-clause-within : goal.returns-clause-within
 returns-clause-within g c =

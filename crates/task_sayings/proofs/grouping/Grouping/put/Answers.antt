@@ -4,8 +4,8 @@ use Rattle.std.proofs.lemmas.List.{map-set}
 use Rattle.std.proofs.lemmas.Option.{slice_get_read}
 use Rattle.std.proofs.lemmas.List.Elements.{Contains-push}
 use Rattle.armus_base.specs.declared.ids.TaskId.{TaskId}
-use Rattle.task_sayings.specs.Grouped.{members_of}
-use Rattle.task_sayings.specs.SayingValues.{said_by}
+use Rattle.task_sayings.specs.calls.Grouped.{members_of}
+use Rattle.task_sayings.specs.calls.SayingValues.{said_by}
 use Rattle.task_sayings.proofs.Noted.{group_at, put_told}
 use Rattle.task_sayings.proofs.grouping.Grouping.put.Goals as goal
 

@@ -3,7 +3,7 @@ use Rattle.std.proofs.lemmas.List.Sorted.{IsPartitionPoint-from_clause, IsPartit
 use Rattle.std.specs.List.Sorted.{IsNonDecreasingBy}
 use Rattle.text_places.specs.TextPlaces.{place_by, text_place}
 use Rattle.text_places.specs.declared.places.Line.{Line}
-use Rattle.text_places.specs.inside.Rows.{row_at}
+use Rattle.text_places.specs.inside.Rows.{line_row}
 use Rattle.text_places.proofs.Found.{lines_fit, parted, place_at_end, placed_in, row_before, rows_ascend}
 use Rattle.text_places.proofs.places.TextPlaces.at.Goals as goal
 
@@ -43,7 +43,7 @@ place-requires-clause-behind c =
     let point = IsPartitionPoint-from_clause (λ (l : Line). leb l.begin c.min-offset.result) _ _ c.partition_point-index.ensures.partitioned
     (IsPartitionedBy-leb (λ (l : Line). l.begin) _ c.min-offset.result up) (λ a r q k. search rules) in
     let stands = parted c.self.inside.text.now _ c.min-offset.result c.args.offset _ is c.min-offset.ensures c.partition_point-index.ensures.bound point in
-    let row : c.index.result.now ≡ row_at c.self.inside.text.now (c.partition_point-index.result - 1) =
+    let row : c.index.result.now ≡ line_row c.self.inside.text.now (c.partition_point-index.result - 1) =
     c.index.ensures ∙ row_before c.self.inside.text.now _ c.min-offset.result _ _ c.self.invariant.0 stands in
     let behind = stands.behind in let begin = ap (λ (l : Line). l.begin) row in omega (arith, behind, begin)
 
@@ -54,7 +54,7 @@ returns c =
     let point = IsPartitionPoint-from_clause (λ (l : Line). leb l.begin c.min-offset.result) _ _ c.partition_point-index.ensures.partitioned
     (IsPartitionedBy-leb (λ (l : Line). l.begin) _ c.min-offset.result up) (λ a r q k. search rules) in
     let stands = parted c.self.inside.text.now _ c.min-offset.result c.args.offset _ is c.min-offset.ensures c.partition_point-index.ensures.bound point in
-    let row : c.index.result.now ≡ row_at c.self.inside.text.now (c.partition_point-index.result - 1) =
+    let row : c.index.result.now ≡ line_row c.self.inside.text.now (c.partition_point-index.result - 1) =
     c.index.ensures ∙ row_before c.self.inside.text.now _ c.min-offset.result _ _ c.self.invariant.0 stands in
     record {
       place =

@@ -1,6 +1,6 @@
 use Rattle.std.proofs.Common.{◌≡◌, length, arith, ◌∙◌, ap}
 use Rattle.std.specs.Prelude.{slice_index}
-use Rattle.dep_state.specs.Deps.{impeders_of}
+use Rattle.dep_state.specs.calls.Deps.{impeders_of}
 use Rattle.digraph.proofs.AddedEdges.{node_more}
 use Rattle.wait_graph.proofs.graph.WaitGraph.build.Goals as goal
 

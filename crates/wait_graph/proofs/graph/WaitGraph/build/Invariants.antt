@@ -1,7 +1,7 @@
 use Rattle.std.proofs.Common.{◌≡◌, ℕ, ◌<◌, length}
 use Rattle.std.specs.Prelude.{Contains, ◌↔◌, slice_index}
-use Rattle.digraph.specs.Graph.{HasEdge}
-use Rattle.dep_state.specs.Deps.{impeders_of}
+use Rattle.digraph.specs.calls.Graph.{HasEdge}
+use Rattle.dep_state.specs.calls.Deps.{impeders_of}
 use Rattle.wait_graph.proofs.graph.WaitGraph.build.Given as goal
 
 abbrev pub invariant-loop-i : goal.invariant-loop-i

@@ -1,6 +1,6 @@
 use Rattle.std.proofs.Common.{◌≤◌, List}
 use Rattle.armus_base.specs.declared.piece.Piece.{Piece}
-use Rattle.armus_base.specs.Pieces.{max_open_repeats}
+use Rattle.armus_base.specs.calls.Pieces.{max_open_repeats}
 use Rattle.armus_base.specs.inside.Positions.{KeepsOps, StandsAt}
 use Rattle.armus_base.proofs.cursor.position.Position.close.Given as goal
 

@@ -1,0 +1,6 @@
+pub mod Avoided
+pub mod Cycles
+pub mod Replayed
+pub mod OnePlan
+pub mod Printed
+pub mod LiveLines

@@ -1,9 +1,0 @@
--- What the words mean to the program: a command, or none; and which commands wait for threads.
-use Rattle.std.specs.Prelude.{◌≡◌, ◌⊎◌, ◌∷◌, List}
-use Rattle.armus_words.specs.declared.table.TheConstants.{POOL, RECORD}
-use Rattle.armus_words.specs.Words.{Text}
-pub use Rattle.armus_words.specs.Commands.{Means, OneMeaning}
-
--- the first word is `record` or `pool`, whose commands wait for threads
-abbrev pub BeginsRecordOrPool : List Text → Type 0
-BeginsRecordOrPool words = (first : Text) × (rest : List Text) × (words ≡ first ∷ rest) × ((first ≡ RECORD.now) ⊎ (first ≡ POOL.now))

@@ -1,0 +1,4 @@
+pub mod Meanings
+pub mod Headline
+pub mod Replayable
+pub mod Inputs

@@ -1,0 +1,14 @@
+-- What `record` writes is an input of `replay`.
+use Rattle.std.specs.Prelude.{◌≤◌, ℕ, length}
+use Rattle.armus_base.specs.Deadlocks.{IsDeadIn}
+use Rattle.armus_base.specs.Runs.{state_after}
+use Rattle.armus_words.specs.Words.{Text}
+use Rattle.armus_top.specs.Records.{IsRecordOf}
+use Rattle.armus_top.specs.declared.programs.TheConstants.{MAX_TEXT_BYTES}
+use Rattle.armus_top.specs.Replayable.{IsReplayable}
+
+-- so is each record of a text that is no longer than a text may be
+abbrev pub RecordsReplay : Type 0
+RecordsReplay =
+    (input : Text) (status : ℕ) (text : Text) (r : IsRecordOf input status text) → length input ≤ MAX_TEXT_BYTES →
+    IsReplayable text status (IsDeadIn (state_after r.steps))

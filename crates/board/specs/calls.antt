@@ -1,0 +1,12 @@
+pub mod Words
+pub mod Views
+pub mod Rule
+pub mod RuleLaws
+pub mod Steps
+pub mod Closing
+pub mod Seats
+pub mod Locking
+pub mod Sitting
+pub mod Viewing
+pub mod Ended
+pub mod Boarding

@@ -1,0 +1,4 @@
+pub mod Making
+pub mod ClockTests
+pub mod Laws
+pub mod WorkedClocks

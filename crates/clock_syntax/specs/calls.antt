@@ -1,0 +1,5 @@
+pub mod Trees
+pub mod Grammar
+pub mod Bodies
+pub mod Parsing
+pub mod Laws

@@ -1,0 +1,5 @@
+pub mod ProgramPoints
+pub mod ClockUnfolds
+pub mod TextNumbers
+pub mod TextLaws
+pub mod WorkedTexts

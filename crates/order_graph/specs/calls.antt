@@ -1,0 +1,5 @@
+pub mod Orders
+pub mod Adding
+pub mod Following
+pub mod Waits
+pub mod Laws

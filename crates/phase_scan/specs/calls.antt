@@ -1,0 +1,9 @@
+pub mod Looks
+pub mod Collects
+pub mod Collected
+pub mod Settled
+pub mod Collecting
+pub mod Tables
+pub mod Supposed
+pub mod OffCycle
+pub mod Buffers

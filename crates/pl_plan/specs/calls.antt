@@ -1,0 +1,9 @@
+pub mod Folding
+pub mod Stages
+pub mod Planning
+pub mod Forks
+pub mod MemberRows
+pub mod Laws
+pub mod FoldingLaws
+pub mod WorkedPieces
+pub mod WorkedPrograms

@@ -1,0 +1,9 @@
+pub mod Tree
+pub mod Words
+pub mod Printed
+pub mod Spacing
+pub mod StatementOffsets
+pub mod BodyEnds
+pub mod Bodies
+pub mod Parsing
+pub mod Laws

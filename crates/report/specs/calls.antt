@@ -1,0 +1,4 @@
+pub mod Counts
+pub mod Reports
+pub mod Outlines
+pub mod NamedDead

@@ -1,0 +1,9 @@
+pub mod Rows
+pub mod Keeping
+pub mod MemKeepers
+pub mod Snaps
+pub mod Checks
+pub mod Parts
+pub mod Passes
+pub mod RowLaws
+pub mod PassLaws

@@ -1,0 +1,4 @@
+pub mod Views
+pub mod PoolValues
+pub mod Steps
+pub mod Closing

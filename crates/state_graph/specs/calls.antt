@@ -1,0 +1,2 @@
+pub mod StateEdges
+pub mod BoundedEnds

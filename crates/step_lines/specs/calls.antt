@@ -1,0 +1,3 @@
+pub mod SerialRuns
+pub mod SteppedRuns
+pub mod Laws

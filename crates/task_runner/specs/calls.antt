@@ -1,0 +1,2 @@
+pub mod DetectRuns
+pub mod SiteRuns

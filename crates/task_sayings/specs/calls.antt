@@ -1,0 +1,4 @@
+pub mod Fitting
+pub mod SayingValues
+pub mod Grouped
+pub mod Laws

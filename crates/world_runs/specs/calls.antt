@@ -1,0 +1,4 @@
+pub mod PlainRuns
+pub mod EndWorlds
+pub mod RecordedRuns
+pub mod AvoidedRuns
