@@ -19,3 +19,4 @@ pub mod OnNoCycle
 pub mod LivesByLoads
 pub mod ToldByLoads
 pub mod WorldWaits
+pub mod Walked

@@ -2,3 +2,4 @@ pub mod Judged
 pub mod Concluded
 pub mod Followings
 pub mod Waiting
+pub mod Walks

@@ -13,6 +13,7 @@ pub mod laws;
 mod lock;
 mod step;
 mod waiting;
+mod walking;
 
 pub use deciding::decide;
 pub use deciding_kept::decide_kept;

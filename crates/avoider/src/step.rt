@@ -11,6 +11,7 @@ ghost use Rattle.avoider.specs.calls.Decisions.{IsBeforeStep, IsDecision, IsOutc
 ghost use Rattle.avoider.specs.declared.decision.Decision.TheVariants.{Published, Refused};
 
 use crate::Decision;
+use crate::walking::told_by_walks;
 use adaptive::{Wanted, dead_by};
 use armus_base::{Event, NoMemory, Status, TaskId};
 use dep_state::task_place;
@@ -22,7 +23,8 @@ use verdict::{Cycle, cycle};
 /// published, and published otherwise, and nobody is dead after. A refusal has the cycle that a report would show with the task published. No
 /// clause depends on `wanted`, which is the graph that is asked. After `NoMemory` the world is as before.
 ///
-/// Statuses are made and searched only where the task may lie on a cycle, which no look at the phasers alone excludes.
+/// Only where the task may lie on a cycle, which no look at the phasers alone excludes, walks over the published tasks are made, and statuses made and searched
+/// only where they come to no end soon.
 pub fn avoid_step(
     alloc: Global,
     world: &mut World,
@@ -39,9 +41,31 @@ pub fn avoid_step(
         world.step(t);
         return Ok(Decision::Published(event));
     }
-    let list = world.statuses_if(alloc, t, event)?;
-    let found = death_of(alloc, list.as_slice(), t, wanted)?;
+    let found = death_if(alloc, world, t, event, wanted)?;
     Ok(carry_out(world, t, event, found))
+}
+
+// The cycle of the supposed statuses where the task is dead by them: as walks tell it, and else by the statuses themselves.
+fn death_if(
+    alloc: Global,
+    world: &World,
+    t: TaskId,
+    event: Event,
+    wanted: Wanted,
+) -> Result<Option<Cycle>, NoMemory>
+    requires task { t.0 < length world.now.plan.parents }
+    requires before { IsAtAwaitOf world.now t.0 event }
+    requires nobody { NobodyDead (state_of world.now) }
+    ensures { IfOk result (IsOutcome (supposed_statuses world.now t.0 event) t.0) }
+{
+    let _ = world.stand(t);
+    match told_by_walks(alloc, world, t, event)? {
+        Some(found) => Ok(found),
+        None => {
+            let list = world.statuses_if(alloc, t, event)?;
+            death_of(alloc, list.as_slice(), t, wanted)
+        }
+    }
 }
 
 // Whether a look at the phasers shows that the task, were it published on the event, would lie on no cycle: its event is reached, or it impedes

@@ -28,7 +28,7 @@ pub(crate) struct Places {
 }
 
 // The event on which a task is published, where one task counts as published on an event.
-fn published(world: &World, u: TaskId, t: TaskId, event: Event) -> Option<Event>
+pub(crate) fn published(world: &World, u: TaskId, t: TaskId, event: Event) -> Option<Event>
     requires task { u.0 < length world.now.plan.parents }
     requires phaser { event.p.0 < length world.now.plan.makers }
     ensures event { result ≡ (if_published (state_of world.now) t.0 event).published u.0 }

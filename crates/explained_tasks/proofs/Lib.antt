@@ -9,6 +9,7 @@ pub mod GroupsAre
 pub mod SomebodyWaits
 pub mod AccountTold
 pub mod ImpedersAre
+pub mod Numbered
 pub mod FitsEnds
 pub mod RestsAtEnd
 pub mod OneVerdict

@@ -2,21 +2,15 @@
 use Rattle.std.proofs.Common.{◌≡◌, Bool, true, false, List, [], ◌∷◌, ap, refl}
 use Rattle.std.specs.Prelude.{filter, if◌then◌else◌, map}
 use Rattle.armus_base.specs.declared.ids.TaskId.{TaskId}
-use Rattle.task_sayings.specs.declared.impeders.Impeder.{Impeder}
 use Rattle.task_sayings.specs.Facts.{FactsValue}
-use Rattle.task_sayings.specs.Sayings.{Said, impeder_said, own_said, same_said}
+use Rattle.task_sayings.specs.Sayings.{Said, own_said, same_said}
 use Rattle.task_sayings.specs.calls.Grouped.{Told, members_of}
-use Rattle.explained_tasks.specs.inside.Grouped.{impeder_told, own_told, said_in}
+use Rattle.explained_tasks.specs.inside.Grouped.{own_told, said_in}
 
 -- what is said of tasks that are told
 pub said_of_told : (f : FactsValue) (xs : List TaskId) → said_in (map (own_told f) xs) ≡ map (λ (t : TaskId). own_said f t.0) xs
 said_of_told f [] = refl
 said_of_told f (x ∷ xs) = ap (λ ys. own_said f x.0 ∷ ys) (said_of_told f xs)
-
--- what is said of impeders that are told
-pub said_of_impeders : (f : FactsValue) (xs : List Impeder) → said_in (map (impeder_told f) xs) ≡ map (impeder_said f) xs
-said_of_impeders f [] = refl
-said_of_impeders f (x ∷ xs) = ap (λ ys. impeder_said f x ∷ ys) (said_of_impeders f xs)
 
 -- the members by what is told of things
 pub members_by : {A : Type 0} (told : A → Told) (said : Said) (xs : List A)

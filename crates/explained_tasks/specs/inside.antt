@@ -2,3 +2,4 @@ pub mod Fitting
 pub mod WalkEnds
 pub mod Grouped
 pub mod GroupTexts
+pub mod Numbered

@@ -1,12 +1,11 @@
 // The lines of the impeders of a paragraph's tasks.
-ghost use Rattle.explained_tasks.specs.ImpederLines.{forkers_of, is_forker_of, group_line, impeder_lines, lines_by, rest_line, rest_of, forking_words, is_forked_by, is_this_impeder, keeping_words};
-ghost use Rattle.task_sayings.specs.calls.Grouped.{AddsTold, IsSized};
-ghost use Rattle.explained_tasks.specs.inside.Grouped.{AreImpederGroups, impeder_told, said_in};
+ghost use Rattle.explained_tasks.specs.ImpederLines.{forkers_of, is_forker_of, group_line, group_of, impeder_lines, lines_by, rest_line, rest_of, told_of, forking_words, is_forked_by, is_this_impeder, keeping_words};
+ghost use Rattle.explained_tasks.specs.inside.Numbered.{AddsFirst, AreNumbers, AreWithin};
 ghost use Rattle.task_sayings.specs.calls.Fitting.{FactsFitPlan};
-ghost use Rattle.std.specs.Prelude.{◌≡◌, ◌++◌, ◌<◌, ◌||◌, ◌∷◌, if◌then◌else◌, [], ℕ, IfOk, OnOk, Some, false, decimal, option_map, length, slice_index_or, filter, map, not, take};
-ghost use Rattle.task_sayings.specs.Sayings.{same_said};
+ghost use Rattle.std.specs.Prelude.{◌≡◌, ◌++◌, ◌<◌, ◌||◌, ◌∷◌, if◌then◌else◌, [], ℕ, IfOk, OnOk, Some, false, decimal, flat_map, option_map, length, slice_index_or, filter, map, not, take};
+ghost use Rattle.task_sayings.specs.Facts.{FactsValue};
+ghost use Rattle.task_sayings.specs.Sayings.{impeder_said, same_said};
 ghost use Rattle.std.specs.List.{list_any};
-ghost use Rattle.explained_tasks.specs.inside.GroupTexts.{texts_in};
 ghost use Rattle.task_sayings.specs.Places.{said_of};
 ghost use Rattle.pl_core.specs.calls.Worlds.{state_of};
 ghost use Rattle.task_sayings.specs.calls.SayingValues.{forking_said, said_by};
@@ -16,8 +15,7 @@ use armus_base::{NoMemory, TaskId};
 use pl_core::World;
 use std::alloc::Global;
 use task_sayings::{
-    Facts, ForkingWords, Grouping, Impeder, Saying, put_by_number, put_kept, put_list, put_number,
-    put_words,
+    Facts, ForkingWords, Impeder, Saying, put_by_number, put_kept, put_list, put_number, put_words,
 };
 
 /// How many groups of impeders have a line of their own.
@@ -95,19 +93,27 @@ fn is_task(task: Option<TaskId>, impeder: Impeder) -> bool
     }
 }
 
-// Whether two sayings say the same.
-fn is_same(a: &Saying, b: &Saying) -> bool
-    ensures { result ≡ same_said (said_by a.now) (said_by b.now) }
+// Whether the same is said of two impeders, by the numbers of what is said.
+fn is_same(numbers: &[usize], a: Impeder, b: Impeder) -> bool
+    requires a { a.t.0 < length numbers.now }
+    requires b { b.t.0 < length numbers.now }
+    ensures { (f : FactsValue) → AreNumbers f numbers.now → result ≡ same_said (impeder_said f a) (impeder_said f b) }
 {
-    *a == *b
+    if a.phase != b.phase {
+        return false;
+    }
+    numbers[a.t.0 as usize] == numbers[b.t.0 as usize]
 }
 
-// Whether this is among what these say.
-fn is_among(sayings: &[Saying], saying: &Saying) -> bool
-    ensures { result ≡ list_any (λ said. same_said said (said_by saying.now)) (map said_by sayings.now) }
+// Whether the same is said of one of these impeders as of another one.
+fn is_among(numbers: &[usize], firsts: &[Impeder], impeder: Impeder) -> bool
+    requires firsts { AreWithin (length numbers.now) firsts.now }
+    requires impeder { impeder.t.0 < length numbers.now }
+    ensures { (f : FactsValue) → AreNumbers f numbers.now →
+        result ≡ list_any (λ said. same_said said (impeder_said f impeder)) (map (impeder_said f) firsts.now) }
 {
-    for s in sayings {
-        if is_same(s, saying) {
+    for first in firsts {
+        if is_same(numbers, *first, impeder) {
             return true;
         }
     }
@@ -122,26 +128,6 @@ fn push_unless(all: &mut Vec<TaskId>, t: TaskId, is_told: bool) -> Result<(), No
         all.push(t)?;
     }
     Ok(())
-}
-
-// The sayings of the groups that have a line.
-fn first_sayings(sayings: &[Saying]) -> &[Saying]
-    ensures { result.now ≡ take 3 sayings.now }
-{
-    match sayings.get(..MOST_GROUPS) {
-        Some(first) => first,
-        None => sayings,
-    }
-}
-
-// The groups that have a line.
-fn first_groups(groups: &[Vec<TaskId>]) -> &[Vec<TaskId>]
-    ensures { result.now ≡ take 3 groups.now }
-{
-    match groups.get(..MOST_GROUPS) {
-        Some(first) => first,
-        None => groups,
-    }
 }
 
 // For each task whether it is the forker of one of these.
@@ -231,72 +217,93 @@ fn impeders_at(
     Ok(found)
 }
 
-// Notes what is said of each of these impeders, and of no task so far.
-fn note_impeders(facts: &Facts, groups: &mut Grouping, impeders: &[Impeder]) -> Result<(), NoMemory>
-    ensures noted { OnOk result (AddsTold (said_in (map (impeder_told facts.now) impeders.now)) [] groups.old groups.new) }
-    ensures sized { OnOk result (IsSized groups.old → IsSized groups.new) }
+// Adds an impeder, unless there are three, or the same is said of one that is there.
+fn add_first(firsts: &mut Vec<Impeder>, numbers: &[usize], impeder: Impeder) -> Result<(), NoMemory>
+    requires firsts { AreWithin (length numbers.now) firsts.old.items }
+    requires impeder { impeder.t.0 < length numbers.now }
+    ensures firsts { AreWithin (length numbers.now) firsts.new.items }
+    ensures added { OnOk result ((f : FactsValue) → AreNumbers f numbers.now → AddsFirst f (impeder_said f impeder ∷ []) firsts.old.items firsts.new.items) }
 {
-    for impeder in impeders {
-        groups.note(facts.alloc(), facts.impeder_saying(*impeder)?)?;
+    if firsts.len() >= MOST_GROUPS {
+        return Ok(());
     }
+    if is_among(numbers, firsts, impeder) {
+        return Ok(());
+    }
+    firsts.push(impeder)?;
     Ok(())
 }
 
-// Notes what is said of each of these impeders.
-fn group_impeders(
-    facts: &Facts,
-    groups: &mut Grouping,
+// Adds of these impeders the first ones of which something else is said, up to three.
+fn add_firsts(
+    firsts: &mut Vec<Impeder>,
+    numbers: &[usize],
     impeders: &[Impeder],
 ) -> Result<(), NoMemory>
-    requires sized { IsSized groups.old }
-    ensures { OnOk result (AddsTold (said_in (map (impeder_told facts.now) impeders.now)) (map (impeder_told facts.now) impeders.now) groups.old groups.new) }
+    requires firsts { AreWithin (length numbers.now) firsts.old.items }
+    requires impeders { AreWithin (length numbers.now) impeders.now }
+    ensures firsts { AreWithin (length numbers.now) firsts.new.items }
+    ensures added { OnOk result ((f : FactsValue) → AreNumbers f numbers.now → AddsFirst f (map (impeder_said f) impeders.now) firsts.old.items firsts.new.items) }
 {
     for impeder in impeders {
-        groups.put(facts.alloc(), facts.impeder_saying(*impeder)?, impeder.t)?;
+        add_first(firsts, numbers, *impeder)?;
     }
     Ok(())
 }
 
-// The impeders of which the same is said, together, the next of the paragraph's tasks first.
-fn impeder_groups(
+// An impeder for each of the first three things that are said, of the next of the paragraph's tasks first.
+fn first_impeders(
     facts: &Facts,
+    numbers: &[usize],
     next: Option<TaskId>,
     impeders: &[Impeder],
-) -> Result<Grouping, NoMemory>
-    ensures { IfOk result (AreImpederGroups facts.now next impeders.now) }
+) -> Result<Vec<Impeder>, NoMemory>
+    requires numbers { AreNumbers facts.now numbers.now }
+    requires impeders { AreWithin (length numbers.now) impeders.now }
+    ensures within { IfOk result (λ v. AreWithin (length numbers.now) v.items) }
+    ensures told { IfOk result (λ v. map (impeder_said facts.now) v.items ≡ take 3 (told_of facts.now next impeders.now)) }
 {
-    let first = impeders_at(facts, next, impeders)?;
-    let mut groups = Grouping::new(facts.alloc());
-    note_impeders(facts, &mut groups, &first)?;
-    group_impeders(facts, &mut groups, impeders)?;
-    Ok(groups)
+    let at_next = impeders_at(facts, next, impeders)?;
+    let mut firsts = Vec::new(facts.alloc());
+    add_firsts(&mut firsts, numbers, &at_next)?;
+    add_firsts(&mut firsts, numbers, impeders)?;
+    Ok(firsts)
 }
 
-// Appends the lines of these groups, in a paragraph of so many tasks.
-fn put_groups(
+// The impeders of which the same is said as of one.
+fn group(
     facts: &Facts,
-    out: &mut Vec<u8>,
-    count: usize,
-    sayings: &[Saying],
-    groups: &[Vec<TaskId>],
-) -> Result<(), NoMemory>
-    requires sized { length groups.now ≡ length sayings.now }
-    ensures { OnOk result (out.new.items ≡ out.old.items ++ texts_in (group_line facts.now count) sayings.now groups.now) }
+    numbers: &[usize],
+    first: Impeder,
+    impeders: &[Impeder],
+) -> Result<Vec<TaskId>, NoMemory>
+    requires numbers { AreNumbers facts.now numbers.now }
+    requires first { first.t.0 < length numbers.now }
+    requires impeders { AreWithin (length numbers.now) impeders.now }
+    ensures { IfOk result (λ v. v.items ≡ group_of facts.now impeders.now (impeder_said facts.now first)) }
 {
-    for k in 0..sayings.len() {
-        put_group(facts, out, count, &sayings[k], &groups[k])?;
+    let mut all = Vec::new(facts.alloc());
+    for impeder in impeders {
+        push_unless(&mut all, impeder.t, !is_same(numbers, first, *impeder))?;
     }
-    Ok(())
+    Ok(all)
 }
 
-// The tasks of the impeders of whom none of this is said.
-fn rest(facts: &Facts, impeders: &[Impeder], sayings: &[Saying]) -> Result<Vec<TaskId>, NoMemory>
-    ensures { IfOk result (λ v. v.items ≡ rest_of facts.now impeders.now (map said_by sayings.now)) }
+// The impeders of which something else is said than of each of these.
+fn rest(
+    facts: &Facts,
+    numbers: &[usize],
+    firsts: &[Impeder],
+    impeders: &[Impeder],
+) -> Result<Vec<TaskId>, NoMemory>
+    requires numbers { AreNumbers facts.now numbers.now }
+    requires firsts { AreWithin (length numbers.now) firsts.now }
+    requires impeders { AreWithin (length numbers.now) impeders.now }
+    ensures { IfOk result (λ v. v.items ≡ rest_of facts.now impeders.now (map (impeder_said facts.now) firsts.now)) }
 {
     let mut rest = Vec::new(facts.alloc());
     for impeder in impeders {
-        let saying = facts.impeder_saying(*impeder)?;
-        push_unless(&mut rest, impeder.t, is_among(sayings, &saying))?;
+        push_unless(&mut rest, impeder.t, is_among(numbers, firsts, *impeder))?;
     }
     Ok(rest)
 }
@@ -313,50 +320,80 @@ fn put_rest(facts: &Facts, out: &mut Vec<u8>, rest: &[TaskId]) -> Result<(), NoM
     put_words(out, b"\n")
 }
 
-// Appends the lines of the first of these groups, and of the rest of these impeders.
-fn put_first_groups(
+// Appends the line of those of these impeders of which the same is said as of one, in a paragraph of so many tasks.
+fn put_group_of(
     facts: &Facts,
+    numbers: &[usize],
     out: &mut Vec<u8>,
     count: usize,
-    grouping: &Grouping,
+    first: Impeder,
     impeders: &[Impeder],
 ) -> Result<(), NoMemory>
-    requires sized { IsSized grouping.now }
-    ensures { OnOk result (out.new.items ≡ out.old.items ++ (texts_in (group_line facts.now count) (take 3 grouping.now.sayings.keys) (take 3 grouping.now.groups.items)
-        ++ rest_line (rest_of facts.now impeders.now (map said_by (take 3 grouping.now.sayings.keys))))) }
+    requires numbers { AreNumbers facts.now numbers.now }
+    requires first { first.t.0 < length numbers.now }
+    requires impeders { AreWithin (length numbers.now) impeders.now }
+    ensures { OnOk result (out.new.items ≡ out.old.items
+        ++ group_line facts.now count (impeder_said facts.now first) (group_of facts.now impeders.now (impeder_said facts.now first))) }
 {
-    let sayings = first_sayings(grouping.sayings.as_slice());
-    put_groups(facts, out, count, sayings, first_groups(&grouping.groups))?;
-    let rest = rest(facts, impeders, sayings)?;
-    put_rest(facts, out, &rest)
+    let saying = facts.impeder_saying(first)?;
+    let tasks = group(facts, numbers, first, impeders)?;
+    put_group(facts, out, count, &saying, &tasks)
+}
+
+// Appends such a line for each of some impeders.
+fn put_groups(
+    facts: &Facts,
+    numbers: &[usize],
+    out: &mut Vec<u8>,
+    count: usize,
+    firsts: &[Impeder],
+    impeders: &[Impeder],
+) -> Result<(), NoMemory>
+    requires numbers { AreNumbers facts.now numbers.now }
+    requires firsts { AreWithin (length numbers.now) firsts.now }
+    requires impeders { AreWithin (length numbers.now) impeders.now }
+    ensures { OnOk result (out.new.items ≡ out.old.items
+        ++ flat_map (λ said. group_line facts.now count said (group_of facts.now impeders.now said)) (map (impeder_said facts.now) firsts.now)) }
+{
+    for first in firsts {
+        put_group_of(facts, numbers, out, count, *first, impeders)?;
+    }
+    Ok(())
 }
 
 // Appends the lines of these impeders, in a paragraph of so many tasks.
 fn put_lines_by(
     facts: &Facts,
+    numbers: &[usize],
     out: &mut Vec<u8>,
     count: usize,
     next: Option<TaskId>,
     impeders: &[Impeder],
 ) -> Result<(), NoMemory>
+    requires numbers { AreNumbers facts.now numbers.now }
+    requires impeders { AreWithin (length numbers.now) impeders.now }
     ensures { OnOk result (out.new.items ≡ out.old.items ++ lines_by facts.now count next impeders.now) }
 {
-    let grouping = impeder_groups(facts, next, impeders)?;
-    put_first_groups(facts, out, count, &grouping, impeders)
+    let firsts = first_impeders(facts, numbers, next, impeders)?;
+    put_groups(facts, numbers, out, count, &firsts, impeders)?;
+    let rest = rest(facts, numbers, &firsts, impeders)?;
+    put_rest(facts, out, &rest)
 }
 
 /// Appends the lines of the impeders of a task in its paragraph of so many tasks.
 pub(crate) fn put_impeders(
     facts: &Facts,
+    numbers: &[usize],
     out: &mut Vec<u8>,
     world: &World,
     count: usize,
     t: TaskId,
 ) -> Result<(), NoMemory>
+    requires numbers { AreNumbers facts.now numbers.now }
     requires fits { FactsFitPlan facts.now world.now.plan }
     ensures { OnOk result (out.new.items ≡ out.old.items ++ impeder_lines facts.now (state_of world.now).phases count t.0) }
 {
     let impeders = facts.impeders(world, t)?;
     let next = facts.next_among(&impeders, t);
-    put_lines_by(facts, out, count, next, &impeders)
+    put_lines_by(facts, numbers, out, count, next, &impeders)
 }

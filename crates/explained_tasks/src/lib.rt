@@ -4,6 +4,7 @@
 mod explaining;
 mod impeder_lines;
 mod laws;
+mod numbers;
 mod outcome;
 mod paragraphs;
 mod verdict_line;

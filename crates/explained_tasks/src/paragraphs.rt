@@ -4,12 +4,14 @@ ghost use Rattle.explained_tasks.specs.Paragraphs.{explained_tasks, lines_of_imp
 ghost use Rattle.task_sayings.specs.calls.Grouped.{AddsTold, IsSized};
 ghost use Rattle.explained_tasks.specs.inside.Grouped.{AreParagraphs, own_told, said_in};
 ghost use Rattle.explained_tasks.specs.inside.GroupTexts.{paragraph_text, texts_in};
+ghost use Rattle.explained_tasks.specs.inside.Numbered.{AreNumbers};
 ghost use Rattle.std.specs.Prelude.{◌≡◌, ◌∷◌, ◌++◌, if◌then◌else◌, [], IfOk, OnOk, length, map};
 ghost use Rattle.task_sayings.specs.calls.Fitting.{FactsFitPlan};
 ghost use Rattle.pl_core.specs.calls.Worlds.{state_of};
 ghost use Rattle.task_sayings.specs.calls.SayingValues.{said_by};
 
 use crate::impeder_lines::{put_forking, put_impeders};
+use crate::numbers::numbers_of;
 use armus_base::{NoMemory, TaskId};
 use pl_core::World;
 use task_sayings::{
@@ -48,15 +50,17 @@ fn put_own_lines(
 // Appends the lines of the impeders of the first of these tasks.
 fn put_impeders_of(
     facts: &Facts,
+    numbers: &[usize],
     out: &mut Vec<u8>,
     world: &World,
     tasks: &[TaskId],
 ) -> Result<(), NoMemory>
+    requires numbers { AreNumbers facts.now numbers.now }
     requires fits { FactsFitPlan facts.now world.now.plan }
     ensures { OnOk result (out.new.items ≡ out.old.items ++ lines_of_impeders facts.now (state_of world.now).phases tasks.now) }
 {
     match tasks {
-        [t, ..] => put_impeders(facts, out, world, tasks.len(), *t),
+        [t, ..] => put_impeders(facts, numbers, out, world, tasks.len(), *t),
         [] => Ok(()),
     }
 }
@@ -143,33 +147,37 @@ fn own_groups(facts: &Facts, shown: &[TaskId]) -> Result<Grouping, NoMemory>
 // Appends the paragraph that says this of these tasks.
 fn put_paragraph(
     facts: &Facts,
+    numbers: &[usize],
     out: &mut Vec<u8>,
     world: &World,
     saying: &Saying,
     tasks: &[TaskId],
 ) -> Result<(), NoMemory>
+    requires numbers { AreNumbers facts.now numbers.now }
     requires fits { FactsFitPlan facts.now world.now.plan }
     ensures { OnOk result (out.new.items ≡ out.old.items
         ++ (own_lines facts.now (said_by saying.now) tasks.now ++ lines_of_impeders facts.now (state_of world.now).phases tasks.now)) }
 {
     put_own_lines(facts, out, saying, tasks)?;
-    put_impeders_of(facts, out, world, tasks)
+    put_impeders_of(facts, numbers, out, world, tasks)
 }
 
 // Appends the paragraphs of these groups.
 fn put_grouped(
     facts: &Facts,
+    numbers: &[usize],
     out: &mut Vec<u8>,
     world: &World,
     sayings: &[Saying],
     groups: &[Vec<TaskId>],
 ) -> Result<(), NoMemory>
+    requires numbers { AreNumbers facts.now numbers.now }
     requires fits { FactsFitPlan facts.now world.now.plan }
     requires sized { length groups.now ≡ length sayings.now }
     ensures { OnOk result (out.new.items ≡ out.old.items ++ texts_in (paragraph_text facts.now (state_of world.now).phases) sayings.now groups.now) }
 {
     for k in 0..sayings.len() {
-        put_paragraph(facts, out, world, &sayings[k], &groups[k])?;
+        put_paragraph(facts, numbers, out, world, &sayings[k], &groups[k])?;
     }
     Ok(())
 }
@@ -185,8 +193,10 @@ pub(crate) fn put_paragraphs(
     ensures { OnOk result (out.new.items ≡ out.old.items ++ paragraphs facts.now (state_of world.now).phases shown.now) }
 {
     let grouping = own_groups(facts, shown)?;
+    let numbers = numbers_of(facts)?;
     put_grouped(
         facts,
+        &numbers,
         out,
         world,
         grouping.sayings.as_slice(),

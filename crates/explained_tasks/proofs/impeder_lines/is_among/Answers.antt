@@ -1,12 +1,18 @@
-use Rattle.std.proofs.Common.{ap, sym, ◌∙◌}
-use Rattle.task_sayings.specs.Sayings.{Said, same_said}
-use Rattle.task_sayings.specs.calls.SayingValues.{said_by}
-use Rattle.task_sayings.specs.declared.saying.Saying.{Saying}
-use Rattle.explained_tasks.proofs.GroupsAre.{any_at}
+use Rattle.std.proofs.Common.{sym, ◌∙◌}
+use Rattle.task_sayings.specs.Sayings.{Said, impeder_said, same_said}
+use Rattle.task_sayings.specs.declared.impeders.Impeder.{Impeder}
+use Rattle.explained_tasks.proofs.GroupsAre.{any_at, none_more}
 use Rattle.explained_tasks.proofs.impeder_lines.is_among.Goals as goal
 
 pub returns-then-is_same : goal.returns-then-is_same
-returns-then-is_same c =
+returns-then-is_same c f are =
+    let d : Impeder = record { t = record { 0 = 0 }; phase = 0 } in
     sym
-    (any_at (λ (said : Said). same_said said (said_by c.args.saying.now)) c.args.sayings.now c.loop-s.s-index c.s-item.result c.loop-s-test.true
-    (ap (λ (s : Saying). same_said (said_by s) (said_by c.args.saying.now)) (sym c.s-item.is) ∙ sym c.is_same.ensures ∙ c.if-is_same.true))
+    (any_at (λ (said : Said). same_said said (impeder_said f c.args.impeder)) (impeder_said f) c.args.firsts.now c.loop-first.first-index d c.loop-first-test.true
+    (sym (c.is_same.ensures f are) ∙ c.if-is_same.true))
+
+pub loop-first-preserved : goal.loop-first-preserved
+loop-first-preserved c f are =
+    let d : Impeder = record { t = record { 0 = 0 }; phase = 0 } in
+    none_more (λ (said : Said). same_said said (impeder_said f c.args.impeder)) (impeder_said f) c.args.firsts.now c.loop-first.first-index d c.loop-first-test.true
+    (c.loop-first.invariant f are) (sym (c.is_same.ensures f are) ∙ c.if-is_same.false)

@@ -1,13 +1,12 @@
-use Rattle.std.proofs.Common.{◌<◌, length, arith}
-use Rattle.explained_tasks.specs.ImpederLines.{group_line}
-use Rattle.explained_tasks.proofs.GroupTexts.{grown}
+use Rattle.explained_tasks.specs.ImpederLines.{group_line, group_of}
+use Rattle.task_sayings.specs.Sayings.{impeder_said}
+use Rattle.task_sayings.specs.declared.impeders.Impeder.{Impeder}
+use Rattle.explained_tasks.proofs.Numbered.{lines_more}
 use Rattle.explained_tasks.proofs.impeder_lines.put_groups.Goals as goal
 
-pub loop-k-preserved : goal.loop-k-preserved
-loop-k-preserved c =
-    let l : c.loop-k.k < length c.args.sayings.now = omega arith in
-    let sized = c.requires.sized in
-    let m : c.loop-k.k < length c.args.groups.now = omega arith in
-    grown (group_line c.args.facts.now c.args.count) c.loop-k.k c.args.sayings.now c.args.groups.now c.index-sayings-k.result c.index-groups-k.result
-    c.deref.result.now l m c.index-sayings-k.is c.index-groups-k.is c.deref.ensures.value c.args.out.now.items c.loop-k.out.items c.put_group.new.out.items c.loop-k.invariant
-    c.in_ok-put_group.ensures
+pub loop-first-preserved : goal.loop-first-preserved
+loop-first-preserved c =
+    let f = c.args.facts.now in
+    let d : Impeder = record { t = record { 0 = 0 }; phase = 0 } in
+    lines_more (impeder_said f) (λ said. group_line f c.args.count said (group_of f c.args.impeders.now said)) c.args.firsts.now c.loop-first.first-index d
+    c.args.out.now.items c.loop-first.out.items c.put_group_of.new.out.items c.loop-first-test.true c.loop-first.invariant c.in_ok-put_group_of.ensures
