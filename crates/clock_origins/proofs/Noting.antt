@@ -1,0 +1,147 @@
+-- What is noted of comings, one after the other.
+use Rattle.std.proofs.Common.{◌≡◌, ℕ, zero, suc, ◌+◌, ◌<◌, ◌≤◌, List, [], ◌∷◌, ◌++◌, length, drop, get_or, sym, ap, ◌∙◌, arith, append_assoc, append-nil}
+use Rattle.std.specs.Prelude.{Err, Ok, OnOk, Result}
+use Rattle.std.proofs.lemmas.Grind.{flat_map-append}
+use Rattle.std.proofs.lemmas.List.{drop_all, drop_more}
+use Rattle.armus_base.specs.Pieces.{times}
+use Rattle.clock_syntax.specs.declared.tree.ClockStmt.{ClockStmt}
+use Rattle.clock_syntax.specs.declared.tree.ClockStmt.TheVariants as s
+use Rattle.clock_syntax.specs.Trees.{ClockTree, advance, clock, clock_count, done, resume, skip}
+use Rattle.clock_syntax.specs.Trees.{drop as dropped}
+use Rattle.clock_syntax.specs.calls.Bodies.{clock_followed_by, clock_tree_of}
+use Rattle.clock_syntax.proofs.ClockParts.{clock_counts}
+use Rattle.clock_moves.specs.Unfolding.{ClockComing, a_close, a_finish, a_loop, a_plain, a_turn, an_async, coming, comings_of}
+use Rattle.clock_origins.specs.ClockOrigins.{Begun, MadeThing, begun_at, begun_in, thing_at, things_in, wait_at, waits_in}
+use Rattle.clock_origins.specs.inside.Notes.{NotesValue, noted, noted_all}
+
+same_notes :
+    (a a' : List Begun) (b b' : List MadeThing) (c c' : List ℕ) → a ≡ a' → b ≡ b' → c ≡ c' →
+    let k : NotesValue = record { begun = a; things = b; waits = c } in let l : NotesValue = record { begun = a'; things = b'; waits = c' } in k ≡ l
+same_notes a a' b b' c c' x y z = cc
+
+-- ---- lists of comings
+
+pub noted_all-append : (ms ns : List ClockComing) (k : NotesValue) → noted_all (ms ++ ns) k ≡ noted_all ns (noted_all ms k)
+noted_all-append ms ns k =
+    same_notes (k.begun ++ begun_in (ms ++ ns)) ((k.begun ++ begun_in ms) ++ begun_in ns) (k.things ++ things_in (ms ++ ns)) ((k.things ++ things_in ms) ++ things_in ns)
+    (k.waits ++ waits_in (ms ++ ns)) ((k.waits ++ waits_in ms) ++ waits_in ns)
+    (ap (λ z. k.begun ++ z) (flat_map-append (λ (m : ClockComing). begun_at m.statement m.part) ms ns) ∙ sym (append_assoc k.begun (begun_in ms) (begun_in ns)))
+    (ap (λ z. k.things ++ z) (flat_map-append (λ (m : ClockComing). thing_at m.statement m.part) ms ns) ∙ sym (append_assoc k.things (things_in ms) (things_in ns)))
+    (ap (λ z. k.waits ++ z) (flat_map-append (λ (m : ClockComing). wait_at m.statement m.part) ms ns) ∙ sym (append_assoc k.waits (waits_in ms) (waits_in ns)))
+
+pub noted_none : (k : NotesValue) → noted_all [] k ≡ k
+noted_none k =
+    same_notes (k.begun ++ []) k.begun (k.things ++ []) k.things (k.waits ++ []) k.waits (append-nil k.begun) (append-nil k.things) (append-nil k.waits)
+
+pub noted_one : (m : ClockComing) (k : NotesValue) → noted_all (m ∷ []) k ≡ noted m k
+noted_one m k =
+    same_notes (k.begun ++ begun_in (m ∷ [])) (k.begun ++ begun_at m.statement m.part) (k.things ++ things_in (m ∷ [])) (k.things ++ thing_at m.statement m.part)
+    (k.waits ++ waits_in (m ∷ [])) (k.waits ++ wait_at m.statement m.part) (ap (λ z. k.begun ++ z) (append-nil (begun_at m.statement m.part)))
+    (ap (λ z. k.things ++ z) (append-nil (thing_at m.statement m.part))) (ap (λ z. k.waits ++ z) (append-nil (wait_at m.statement m.part)))
+
+-- ---- one statement
+
+-- an async, where what it does is known
+pub noted_async : {A B : Type 0} (r : Result A B) (n : ℕ) (xs : List (List ℕ)) (body : ClockTree) (stmt : ClockStmt) (old new : NotesValue) →
+    stmt ≡ s.Async xs body → OnOk r ((ys : List (List ℕ)) → new ≡ noted (coming n (an_async ys body)) old) →
+    OnOk r (new ≡ noted_all (comings_of n (clock_followed_by stmt done)) old)
+noted_async (Err e) n xs body stmt old new is made = made
+noted_async (Ok x) n xs body stmt old new is made =
+    made xs ∙ sym (noted_one (coming n (an_async xs body)) old) ∙ ap (λ z. noted_all (comings_of n (clock_followed_by z done)) old) (sym is)
+
+-- a finish: its beginning, its body and its end
+pub noted_finish : (n : ℕ) (body : ClockTree) (k : NotesValue) →
+    noted (coming n a_close) (noted_all (comings_of (n + 1) body) (noted (coming n a_finish) k)) ≡ noted_all (comings_of n (clock_followed_by (s.Finish body) done)) k
+noted_finish n body k =
+    sym (noted_all-append (coming n a_finish ∷ []) (comings_of (n + 1) body ++ coming n a_close ∷ []) k
+    ∙ ap (noted_all (comings_of (n + 1) body ++ coming n a_close ∷ [])) (noted_one (coming n a_finish) k)
+    ∙ noted_all-append (comings_of (n + 1) body) (coming n a_close ∷ []) (noted (coming n a_finish) k)
+    ∙ noted_one (coming n a_close) (noted_all (comings_of (n + 1) body) (noted (coming n a_finish) k)))
+
+-- a loop: its turns
+pub noted_loop : (n turns : ℕ) (body : ClockTree) (k : NotesValue) →
+    noted_all (times turns (coming n a_turn ∷ comings_of (n + 1) body)) k ≡ noted_all (comings_of n (clock_followed_by (s.Loop turns body) done)) k
+noted_loop n turns body k = ap (λ ms. noted_all ms k) (sym (append-nil (times turns (coming n a_turn ∷ comings_of (n + 1) body))))
+
+-- ---- turns
+
+times_more : (i : ℕ) (xs : List ClockComing) → times i xs ++ xs ≡ times (suc i) xs
+times_more zero xs = sym (append-nil xs)
+times_more (suc i) xs = append_assoc xs (times i xs) xs ∙ ap (λ z. xs ++ z) (times_more i xs)
+
+module _ (n : ℕ) (body : ClockTree) (old : NotesValue) where
+  abbrev pub TurnsNoted : ℕ → NotesValue → Type 0
+  TurnsNoted i out = out ≡ noted_all (times i (coming n a_turn ∷ comings_of (n + 1) body)) old
+
+  pub no_turn : TurnsNoted 0 old
+  no_turn = sym (noted_none old)
+
+  pub turn_noted : (i : ℕ) (out next : NotesValue) → TurnsNoted i out → next ≡ noted_all (comings_of (n + 1) body) out → TurnsNoted (i + 1) next
+  turn_noted i out next so e =
+      let turn = coming n a_turn ∷ comings_of (n + 1) body in
+      e ∙ ap (noted_all (comings_of (n + 1) body)) so
+      ∙ sym (noted_all-append (times i turn) turn old)
+      ∙ ap (λ ms. noted_all ms old) (times_more i turn)
+      ∙ ap (λ m. noted_all (times m turn) old) (let q : suc i ≡ i + 1 = omega arith in q)
+
+-- ---- bodies
+
+first_comings : (q : ClockStmt) (n : ℕ) (t : ClockTree) →
+    comings_of n (clock_followed_by q t) ≡ comings_of n (clock_followed_by q done) ++ comings_of (n + clock_count (clock_followed_by q done)) t
+first_comings (s.Clock x) n t = ap (λ m. coming n (a_plain (clock x)) ∷ comings_of m t) (let e : n + 1 ≡ n + (0 + 1) = omega arith in e)
+first_comings (s.Advance x) n t = ap (λ m. coming n (a_plain (advance x)) ∷ comings_of m t) (let e : n + 1 ≡ n + (0 + 1) = omega arith in e)
+first_comings (s.Resume x) n t = ap (λ m. coming n (a_plain (resume x)) ∷ comings_of m t) (let e : n + 1 ≡ n + (0 + 1) = omega arith in e)
+first_comings (s.Drop x) n t = ap (λ m. coming n (a_plain (dropped x)) ∷ comings_of m t) (let e : n + 1 ≡ n + (0 + 1) = omega arith in e)
+first_comings s.Skip n t = ap (λ m. coming n (a_plain skip) ∷ comings_of m t) (let e : n + 1 ≡ n + (0 + 1) = omega arith in e)
+first_comings (s.Async xs body) n t =
+    ap (λ m. coming n (an_async xs body) ∷ comings_of m t) (let e : n + 1 + clock_count body ≡ n + (clock_count body + 0 + 1) = omega arith in e)
+first_comings (s.Finish body) n t =
+    ap (λ m. coming n a_finish ∷ (comings_of (n + 1) body ++ (coming n a_close ∷ comings_of m t)))
+    (let e : n + 1 + clock_count body ≡ n + (clock_count body + 0 + 1) = omega arith in e)
+    ∙ ap (λ z. coming n a_finish ∷ z) (sym (append_assoc (comings_of (n + 1) body) (coming n a_close ∷ []) (comings_of (n + (clock_count body + 0 + 1)) t)))
+first_comings (s.Loop k body) n t =
+    ap (λ m. coming n a_loop ∷ (times k (coming n a_turn ∷ comings_of (n + 1) body) ++ comings_of m t))
+    (let e : n + 1 + clock_count body ≡ n + (clock_count body + 0 + 1) = omega arith in e)
+    ∙ ap (λ z. coming n a_loop ∷ (z ++ comings_of (n + (clock_count body + 0 + 1)) t)) (sym (append-nil (times k (coming n a_turn ∷ comings_of (n + 1) body))))
+
+-- what is noted so far, and what the statements from the j-th on do, is what the body does; and the statements left have numbers of 32 bits
+pub record NotedSoFar (items : List ClockStmt) (j : ℕ) (body : ClockTree) (n at : ℕ) (old out : NotesValue) : Type 0 where
+  pub from : n ≤ at
+  pub numbers : at + clock_count (clock_tree_of (drop j items)) ≡ n + clock_count body
+  pub so_far : noted_all (comings_of at (clock_tree_of (drop j items))) out ≡ noted_all (comings_of n body) old
+
+pub noted_start : (items : List ClockStmt) (body : ClockTree) (n : ℕ) (old : NotesValue) → clock_tree_of items ≡ body → NotedSoFar items 0 body n n old old
+noted_start items body n old e = record { from = omega arith; numbers = ap (λ b. n + clock_count b) e; so_far = ap (λ b. noted_all (comings_of n b) old) e }
+
+module _ (items : List ClockStmt) (j : ℕ) (body : ClockTree) (n at : ℕ) (old out : NotesValue) (q : ClockStmt) (lt : j < length items) (is : q ≡ get_or items j q)
+    (h : NotedSoFar items j body n at old out) where
+  pub noted_within : at + clock_count (clock_followed_by q done) ≤ n + clock_count body
+  noted_within = omega (arith, h.numbers, clock_counts items j q lt is)
+
+  pub noted_fewer : clock_count (clock_followed_by q done) ≤ clock_count body
+  noted_fewer = omega (arith, h.from, h.numbers, clock_counts items j q lt is)
+
+  next_comings : comings_of at (clock_tree_of (drop j items)) ≡
+      comings_of at (clock_followed_by q done) ++ comings_of (at + clock_count (clock_followed_by q done)) (clock_tree_of (drop (j + 1) items))
+  next_comings =
+      ap (λ ts. comings_of at (clock_tree_of ts)) (drop_more items j q lt ∙ ap (λ z. z ∷ drop (j + 1) items) (sym is))
+      ∙ first_comings q at (clock_tree_of (drop (j + 1) items))
+
+  pub noted_next : (many : ℕ) → many ≡ clock_count (clock_followed_by q done) → (next : NotesValue) → next ≡ noted_all (comings_of at (clock_followed_by q done)) out →
+      NotedSoFar items (j + 1) body n (at + many) old next
+  noted_next many all next e =
+      let behind = comings_of (at + clock_count (clock_followed_by q done)) (clock_tree_of (drop (j + 1) items)) in
+      record {
+        from = (let f = h.from in omega arith);
+        numbers = omega (arith, h.numbers, clock_counts items j q lt is, all);
+        so_far = ap (λ m. noted_all (comings_of (at + m) (clock_tree_of (drop (j + 1) items))) next) all
+            ∙ ap (noted_all behind) e
+            ∙ sym (noted_all-append (comings_of at (clock_followed_by q done)) behind out)
+            ∙ ap (λ ms. noted_all ms out) (sym next_comings)
+            ∙ h.so_far;
+      }
+
+pub noted_end : (items : List ClockStmt) (j : ℕ) (body : ClockTree) (n at : ℕ) (old out : NotesValue) → length items ≤ j → NotedSoFar items j body n at old out →
+    out ≡ noted_all (comings_of n body) old
+noted_end items j body n at old out le h =
+    sym (noted_none out) ∙ ap (λ (ts : List ClockStmt). noted_all (comings_of at (clock_tree_of ts)) out) (sym (drop_all j items le)) ∙ h.so_far

@@ -1,0 +1,95 @@
+-- What the first ops of a code have left, op by op; and at which op of its code a task stands.
+use Rattle.std.proofs.Common.{◌≡◌, ℕ, zero, suc, ◌+◌, ◌<◌, ◌≤◌, Bool, cond, if◌then◌else◌, List, [], ◌∷◌, ◌++◌, length, take, drop, arith, refl, sym, ap, ◌∙◌, inl, inr}
+use Rattle.std.specs.Prelude.{count_by, get_or}
+use Rattle.std.proofs.lemmas.Bool.{cases_lt}
+use Rattle.std.proofs.lemmas.List.{drop_more, length-drop, take_more}
+use Rattle.std.proofs.lemmas.List.Sums.{sum_by-append}
+use Rattle.armus_base.specs.declared.op.Op.{Op}
+use Rattle.armus_base.specs.declared.op.Op.TheVariants as op
+use Rattle.pl_core.specs.Tasks.{IsAtOp, actions_before}
+use Rattle.clock_sayings.specs.ClockFacts.{is_await, pending_after, pending_by}
+
+-- more ops have no fewer actions
+more_actions : (ops : List Op) (n m : ℕ) → n ≤ m → actions_before ops n ≤ actions_before ops m
+more_actions ops zero m le = omega arith
+more_actions [] (suc n) zero le = omega arith
+more_actions [] (suc n) (suc m) le = omega arith
+more_actions (o ∷ ops) (suc n) zero le = absurd (omega arith)
+more_actions (op.Make p ∷ ops) (suc n) (suc m) le = let h = more_actions ops n m (omega arith) in omega arith
+more_actions (op.Reg c p ∷ ops) (suc n) (suc m) le = let h = more_actions ops n m (omega arith) in omega arith
+more_actions (op.Fork c ∷ ops) (suc n) (suc m) le = let h = more_actions ops n m (omega arith) in omega arith
+more_actions (op.Adv p ∷ ops) (suc n) (suc m) le = let h = more_actions ops n m (omega arith) in omega arith
+more_actions (op.Drop p ∷ ops) (suc n) (suc m) le = let h = more_actions ops n m (omega arith) in omega arith
+more_actions (op.Await p off ∷ ops) (suc n) (suc m) le = let h = more_actions ops n m (omega arith) in omega arith
+
+-- no task is at two ops
+not_below : (ops : List Op) (k n m : ℕ) → IsAtOp ops k n → IsAtOp ops k m → n < m → ⊥
+not_below ops k n m a b lt =
+    let below = a.below (omega (arith, b.within)) in
+    let more = more_actions ops (n + 1) m (omega arith) in
+    omega (arith, b.from)
+
+pub one_op : (ops : List Op) (k n m : ℕ) → IsAtOp ops k n → IsAtOp ops k m → n ≡ m
+one_op ops k n m a b =
+    elim (cases_lt n m) [
+      | inl l ↦ absurd (not_below ops k n m a b l)
+      | inr l ↦ elim (cases_lt m n) [ inl l' ↦ absurd (not_below ops k m n b a l') | inr l' ↦ omega arith ]
+    ]
+
+count_by-append : (xs ys : List Op) → count_by is_await (xs ++ ys) ≡ count_by is_await xs + count_by is_await ys
+count_by-append xs ys = sum_by-append (λ x. cond (is_await x) 1 0) xs ys
+
+-- the first i of these ops are gone through, and those are left
+pub record Passing (ops : List Op) (i waits : ℕ) (pending : List Bool) (left : List Op) : Type 0 where
+  pub few : waits ≤ i
+  pub left_is : left ≡ drop i ops
+  pub waits_are : waits ≡ count_by is_await (take i ops)
+  pub pending_is : pending ≡ pending_after [] (take i ops)
+
+pub passing_first : (ops left : List Op) (pending : List Bool) → left ≡ ops → pending ≡ [] → Passing ops 0 0 pending left
+passing_first ops left pending e p = record { few = omega arith; left_is = e; waits_are = refl; pending_is = p }
+
+after-append : (row : List Bool) (xs : List Op) (x : Op) → pending_after row (xs ++ x ∷ []) ≡ pending_by x (pending_after row xs)
+after-append row [] x = refl
+after-append row (y ∷ xs) x = after-append (pending_by y row) xs x
+
+one_more : (x : Op) → count_by is_await (x ∷ []) ≡ (if is_await x then 1 else 0)
+one_more (op.Make p) = refl
+one_more (op.Reg c p) = refl
+one_more (op.Fork c) = refl
+one_more (op.Adv p) = refl
+one_more (op.Drop p) = refl
+one_more (op.Await p off) = refl
+
+at_most_one : (x : Op) → (if is_await x then 1 else 0) ≤ 1
+at_most_one (op.Make p) = omega arith
+at_most_one (op.Reg c p) = omega arith
+at_most_one (op.Fork c) = omega arith
+at_most_one (op.Adv p) = omega arith
+at_most_one (op.Drop p) = omega arith
+at_most_one (op.Await p off) = omega arith
+
+heads : (x y : Op) (xs ys : List Op) → x ∷ xs ≡ y ∷ ys → x ≡ y
+heads x y xs ys e = cc
+
+tails : (x y : Op) (xs ys : List Op) → x ∷ xs ≡ y ∷ ys → xs ≡ ys
+tails x y xs ys e = cc
+
+module _ (ops : List Op) (i waits : ℕ) (pending : List Bool) (left : List Op) (h : Passing ops i waits pending left) (within : i < length ops) where
+  -- there is an op
+  pub passing_some : left ≡ [] → ⊥
+  passing_some none = let some = sym none ∙ h.left_is in let many = ap length some ∙ length-drop i ops in omega (arith, within)
+
+  -- one op more
+  pub passing_next : (x : Op) (rest : List Op) (count more : ℕ) (next : List Bool) → left ≡ x ∷ rest → count ≡ (if is_await x then 1 else 0) → more ≡ waits + count →
+      next ≡ pending_by x pending → Passing ops (i + 1) more next rest
+  passing_next x rest count more next is many sum marked =
+      let splits : x ∷ rest ≡ get_or ops i x ∷ drop (i + 1) ops = sym is ∙ h.left_is ∙ drop_more ops i x within in
+      let here : get_or ops i x ≡ x = sym (heads x (get_or ops i x) rest (drop (i + 1) ops) splits) in
+      let taken : take (i + 1) ops ≡ take i ops ++ x ∷ [] = take_more ops i x within ∙ ap (λ z. take i ops ++ z ∷ []) here in
+      record {
+        few = (let f = h.few in let one = at_most_one x in omega (arith, many, sum));
+        left_is = tails x (get_or ops i x) rest (drop (i + 1) ops) splits;
+        waits_are = (let counted = ap (count_by is_await) taken ∙ count_by-append (take i ops) (x ∷ []) in let own = one_more x in omega (arith, counted, own, many, sum, h.waits_are));
+        pending_is = marked ∙ ap (pending_by x) h.pending_is ∙ sym (ap (pending_after []) taken ∙ after-append [] (take i ops) x);
+      }

@@ -1,0 +1,61 @@
+-- Words for the places, the activities, and the clocks and finishes of a clock text.
+use Rattle.std.specs.Prelude.{ℕ, zero, suc, ◌-◌, ◌==◌, if◌then◌else◌, List, [], ◌++◌, Option, Some, None, codes, decimal, length, slice_get}
+use Rattle.text_places.specs.TextPlaces.{text_place}
+use Rattle.text_places.specs.PlaceWords.{front_words, place_words}
+use Rattle.text_places.specs.declared.place.TextPlace.{TextPlace}
+use Rattle.clock_origins.specs.ClockOrigins.{Begun}
+use Rattle.clock_sayings.specs.ClockFacts.{ClockFacts, ClockWait}
+
+-- ---- places
+
+-- the offset of statement n, and that of the end of the text where there is no such statement
+abbrev pub offset_or_end : List ℕ → Option ℕ → ℕ
+offset_or_end text None = length text
+offset_or_end text (Some offset) = offset
+
+abbrev pub offset_of : List ℕ → List ℕ → ℕ → ℕ
+offset_of text offsets zero = length text
+offset_of text offsets (suc i) = offset_or_end text (slice_get offsets i)
+
+-- the place of statement n
+abbrev pub statement_place : ClockFacts → ℕ → TextPlace
+statement_place f n = text_place f.text (offset_of f.text f.offsets n)
+
+-- the place within a line
+abbrev pub place_in : ClockFacts → ℕ → List ℕ
+place_in f n = place_words f.text (statement_place f n)
+
+-- the place with which a line begins, of a statement or else of none
+abbrev pub front_of : ClockFacts → Option ℕ → List ℕ
+front_of f None = []
+front_of f (Some n) = front_words f.text f.file (statement_place f n) ++ codes ": "
+
+-- ---- activities
+
+-- where an activity is started by an async, the number of its statement given
+abbrev pub async_words : ClockFacts → ℕ → List ℕ
+async_words f n = if n == 0 then [] else codes " (async at " ++ place_in f n ++ codes ")"
+
+-- where it is started, if there is such an activity
+abbrev pub started_words : ClockFacts → Option Begun → List ℕ
+started_words f None = []
+started_words f (Some b) = async_words f (b.first - 1)
+
+-- activity 1 (async at 3:5)
+abbrev pub activity_words : ClockFacts → ℕ → List ℕ
+activity_words f t = codes "activity " ++ decimal t ++ started_words f (slice_get f.begun t)
+
+-- ---- where an activity waits
+
+-- the statement at which it waits, if there is such an activity
+abbrev pub statement_in : Option ClockWait → Option ℕ
+statement_in None = None
+statement_in (Some w) = w.statement
+
+abbrev pub waits_at : ClockFacts → ℕ → Option ℕ
+waits_at f t = statement_in (slice_get f.waits t)
+
+-- : it waits at 5:5
+abbrev pub standing_words : ClockFacts → Option ℕ → List ℕ
+standing_words f None = []
+standing_words f (Some n) = codes ": it waits at " ++ place_in f n

@@ -1,0 +1,17 @@
+//! What is said of a clock text: which of its activities wait for ever, where, for whom and why, or why it is refused.
+#![tactic(auto)]
+
+mod counts;
+mod explaining;
+mod facts;
+mod laws;
+mod missing;
+mod paragraphs;
+mod pending;
+mod refusing;
+mod waits;
+mod words;
+
+pub use explaining::{ClockExplanation, clock_explanation_of};
+pub use laws::one_clock_explanation;
+pub use refusing::{clock_fault_refusal, clock_syntax_refusal};
