@@ -11,11 +11,11 @@ use Rattle.std.proofs.Crossing.{crosses}
 use Rattle.std.proofs.alloc.Global.TheSendSync as heap
 use Rattle.std.specs.contracts.alloc.Global as global
 use Rattle.armus_base.specs.contracts.plan.Plan as plans
-use Rattle.board.specs.contracts.board.Board as boards
 use Rattle.board.proofs.Sending.{board_sync, task_seat_send}
 use Rattle.armus_base.proofs.plan.Plan.TheSendSync as plan_crosses
 use Rattle.avoider.proofs.Sending.{judge_send}
 use Rattle.phase_scan.proofs.Sending.{cells_send}
+use Rattle.board_rounds.specs.contracts.round_setting.RoundSetting as settings
 use Rattle.board_rounds.specs.contracts.task.Task as tasks
 use Rattle.board_rounds.specs.contracts.worker_cells.WorkerCells as rooms
 
@@ -34,10 +34,15 @@ global_sync = search (sendable, crosses, heap.the_send, heap.the_sync) depth 30
 pub worker_cells_send : IsSend rooms.the_row
 worker_cells_send = search (sendable, crosses, cells_send, judge_send) depth 30 fits 20000
 
+-- threads may share what a round needs
+pub setting_sync : (a : NamedLft) (X Y : RattleType) → IsSync X → IsSync Y → IsSync (settings.the_row a X Y)
+setting_sync a X Y x y = search (sendable, crosses, global_sync, board_sync) depth 30
+
 pub turns_send :
-    (ν : Sym) (a b c h i j k : NamedLft) (X Y Z : RattleType) (one : One X.mir) (other : One Y.mir) (third : One Z.mir) → IsSync X → IsSync Y → IsSend Z →
+    (ν : Sym) (a b i j k : NamedLft) (X Y Z : RattleType) (third : One Z.mir) → IsSync X → IsSync Y → IsSend Z →
     IsSend (TupleAt ν
-    ((shr_ref_field a X one).row ∷ (shr_ref_field b global.the_row tt).row ∷ (shr_ref_field c boards.the_row tt).row
-    ∷ (shr_ref_field h Y other).row ∷ (shr_ref_field i u8-field.row tt).row ∷ (mut_slice_field j rooms.the_row tt).row
+    ((shr_ref_field a (settings.the_row b X Y) tt).row ∷ (shr_ref_field i u8-field.row tt).row ∷ (mut_slice_field j rooms.the_row tt).row
     ∷ (mut_slice_field k Z third).row ∷ []))
-turns_send ν a b c h i j k X Y Z one other third x y z = search (sendable, global_sync, board_sync, worker_cells_send) depth 30
+turns_send ν a b i j k X Y Z third x y z =
+    let shared : IsSync (settings.the_row b X Y) = setting_sync b X Y x y in
+    search (sendable, worker_cells_send) depth 30

@@ -20,7 +20,7 @@ use Rattle.board.specs.calls.Steps.{WasSo}
 use Rattle.board.specs.inside.Walking.{HasLeft, begins, left_of}
 use Rattle.board.proofs.Walking.{left_at_first}
 use Rattle.phase_scan.specs.calls.Looks.{FindsBehind, LoadsAlone}
-use Rattle.board_rounds.specs.calls.Turns.{EndsTurn, IsDone, IsSeenBehind, is_behind, is_done, is_locked_out, is_refused}
+use Rattle.board_rounds.specs.calls.Turns.{EndsTurn, EndsTurnWithin, IsDone, IsSeenBehind, is_behind, is_done, is_locked_out, is_refused}
 use Rattle.board_rounds.specs.inside.Tasks.{AreLeft}
 use Rattle.board_rounds.proofs.Goings.{own_stays, same_task}
 
@@ -97,6 +97,10 @@ ends_since a b m more (is_behind e published few behind found) =
     (record { between = found.between; since = (let l = found.since in omega arith); task = found.task; phase = found.phase; found = found.found })
 ends_since a b m more (is_locked_out u mode at other may held) =
     is_locked_out u mode at other may (record { between = held.between; since = (let l = held.since in omega arith); found = held.found })
+
+pub ends_since_within : (bound loads : ℕ) (a b m : Known) → a.view.loads ≤ b.view.loads → EndsTurnWithin bound loads b m → EndsTurnWithin bound loads a m
+ends_since_within bound loads a b m more (inl ends) = inl (ends_since a b m more ends)
+ends_since_within bound loads a b m more (inr cut) = inr cut
 
 -- a list that has no first has nothing
 pub none_left : {A : Type 0} (xs : List A) → slice_get xs 0 ≡ None → xs ≡ []

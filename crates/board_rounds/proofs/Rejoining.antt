@@ -78,11 +78,12 @@ zeros [] = refl
 zeros (w ∷ ws) = (let r = zeros ws in let s = sum_by-cons (length {A = Action}) (no_steps w) (map no_steps ws) in omega arith)
 
 -- whose task acts no more has ended its turn
-ends_now : (seat : Known) → ActsNoMore seat → HasEndedTurn seat
-ends_now seat (inl done) = (seat, is_done done)
-ends_now seat (inr left) = (seat, is_refused left)
+ends_now : (bound : ℕ) (seat : Known) → ActsNoMore seat → HasEndedTurn bound seat
+ends_now bound seat (inl done) = (seat, 0, inl (is_done done))
+ends_now bound seat (inr left) = (seat, 0, inl (is_refused left))
 
-module _ (f : Frame) (live ended new : List Working) (made : ℕ) (tasks : AreTasksOf f (record { live = live; ended = ended })) (round : MakesRound f live new made) where
+module _ (bound : ℕ) (f : Frame) (live ended new : List Working) (made : ℕ) (tasks : AreTasksOf f (record { live = live; ended = ended }))
+    (round : MakesRound bound f live new made) where
   abbrev olds : List Working
   olds = live ++ ended
 
@@ -162,14 +163,14 @@ module _ (f : Frame) (live ended new : List Working) (made : ℕ) (tasks : AreTa
   pub round_further : 0 < made → sum_by progress_of olds < sum_by progress_of (new ++ ended)
   round_further l = (let e = events in let m = all_further each (omega arith) in let n = next_steps in omega arith)
 
-  pub round_quiet : made ≡ 0 → All (λ (w : Working). HasEndedTurn w.seat) (new ++ ended)
+  pub round_quiet : made ≡ 0 → All (λ (w : Working). HasEndedTurn bound w.seat) (new ++ ended)
   round_quiet z =
-      let ends : All (λ (w : Working). HasEndedTurn w.seat) turned =
-      All-append (λ (w : Working). HasEndedTurn w.seat) round.turned ended (each_ended round.ends)
-      (all_from (λ (w : Working). HasEndedTurn w.seat) ended (λ w i. ends_now w.seat (to_each (λ (v : Working). ActsNoMore v.seat) ended tasks.ended w i))) in
-      all_from (λ (w : Working). HasEndedTurn w.seat) (new ++ ended)
+      let ends : All (λ (w : Working). HasEndedTurn bound w.seat) turned =
+      All-append (λ (w : Working). HasEndedTurn bound w.seat) round.turned ended (each_ended round.ends)
+      (all_from (λ (w : Working). HasEndedTurn bound w.seat) ended (λ w i. ends_now bound w.seat (to_each (λ (v : Working). ActsNoMore v.seat) ended tasks.ended w i))) in
+      all_from (λ (w : Working). HasEndedTurn bound w.seat) (new ++ ended)
       (λ w i.
-      then_ends f owns olds turned each whole.board_tasks whole.no_child (let e = events in omega (arith, z)) ends w.seat
+      then_ends f owns olds turned each whole.board_tasks whole.no_child bound (let e = events in omega (arith, z)) ends w.seat
       (w, Contains-permutation (new ++ ended) next w (IsPermutation-sym next (new ++ ended) moved) i, refl))
 
 -- what a round asks of the tasks that live
@@ -208,36 +209,36 @@ module _ (f : Frame) (tasks : Tasks) (are : AreTasksOf f tasks) where
 
 -- and once the tasks that have done their code are among the ended ones
 pub whole_round :
-    (f : Frame) (plan : Plan) (before now : Tasks) (new : List Working) (made : ℕ) → f.plan ≡ plan → AreTasksOf f before → MakesRound f before.live new made →
+    (bound : ℕ) (f : Frame) (plan : Plan) (before now : Tasks) (new : List Working) (made : ℕ) → f.plan ≡ plan → AreTasksOf f before → MakesRound bound f before.live new made →
     IsPermutation (new ++ before.ended) (all_of now) → All (λ (w : Working). ActsNoMore w.seat) now.ended →
-    AreTasksOf f now × (0 < made → left_to plan now < left_to plan before) × (made ≡ 0 → All (λ (w : Working). HasEndedTurn w.seat) (all_of now))
-whole_round f plan before now new made same tasks round moved done =
+    AreTasksOf f now × (0 < made → left_to plan now < left_to plan before) × (made ≡ 0 → All (λ (w : Working). HasEndedTurn bound w.seat) (all_of now))
+whole_round bound f plan before now new made same tasks round moved done =
     let middle = new ++ before.ended in
-    let whole = shuffled f middle (all_of now) moved (after_round f before.live before.ended new made tasks round) in (
+    let whole = shuffled f middle (all_of now) moved (after_round bound f before.live before.ended new made tasks round) in (
       record { all = whole; ended = done },
       (λ l.
-          let more = round_further f before.live before.ended new made tasks round l in
+          let more = round_further bound f before.live before.ended new made tasks round l in
           let e = sum_by-IsPermutation progress_of middle (all_of now) moved in
-          let bound = within_all f (is_checked f before.live before.ended new made tasks round) (all_of now) whole in
+          let most = within_all f (is_checked bound f before.live before.ended new made tasks round) (all_of now) whole in
           let s : all_steps f.plan ≡ all_steps plan = ap all_steps same in
           omega arith),
-      (λ z. All-permutation (λ (w : Working). HasEndedTurn w.seat) middle (all_of now) moved (round_quiet f before.live before.ended new made tasks round z)),
+      (λ z. All-permutation (λ (w : Working). HasEndedTurn bound w.seat) middle (all_of now) moved (round_quiet bound f before.live before.ended new made tasks round z)),
     )
 
 -- whose turn has ended has ended it without the seats of its children
-pub emptied_end : (ws : List Working) → All (λ (w : Working). HasEndedTurn w.seat) ws → All (λ (w : Working). HasEndedTurn w.seat) (map emptied ws)
-emptied_end [] all k d l = absurd (omega arith)
-emptied_end (w ∷ ws) all zero d l = all 0 w (omega arith)
-emptied_end (w ∷ ws) all (suc k) d l = emptied_end ws (λ j e m. all (suc j) e (omega arith)) k d (omega arith)
+pub emptied_end : (bound : ℕ) (ws : List Working) → All (λ (w : Working). HasEndedTurn bound w.seat) ws → All (λ (w : Working). HasEndedTurn bound w.seat) (map emptied ws)
+emptied_end bound [] all k d l = absurd (omega arith)
+emptied_end bound (w ∷ ws) all zero d l = all 0 w (omega arith)
+emptied_end bound (w ∷ ws) all (suc k) d l = emptied_end bound ws (λ j e m. all (suc j) e (omega arith)) k d (omega arith)
 
 -- where nobody was forked, all have come to the end of their turns
 pub whole_still :
-    (f : Frame) (before now : Tasks) (new : List Working) → AreTasksOf f before → All (λ (w : Working). HasEndedTurn w.seat) new →
-    IsPermutation (new ++ before.ended) (all_of now) → All (λ (w : Working). HasEndedTurn w.seat) (all_of now)
-whole_still f before now new tasks ends moved =
-    All-permutation (λ (w : Working). HasEndedTurn w.seat) (new ++ before.ended) (all_of now) moved
-    (All-append (λ (w : Working). HasEndedTurn w.seat) new before.ended ends
-    (all_from (λ (w : Working). HasEndedTurn w.seat) before.ended (λ w i. ends_now w.seat (to_each (λ (v : Working). ActsNoMore v.seat) before.ended tasks.ended w i))))
+    (bound : ℕ) (f : Frame) (before now : Tasks) (new : List Working) → AreTasksOf f before → All (λ (w : Working). HasEndedTurn bound w.seat) new →
+    IsPermutation (new ++ before.ended) (all_of now) → All (λ (w : Working). HasEndedTurn bound w.seat) (all_of now)
+whole_still bound f before now new tasks ends moved =
+    All-permutation (λ (w : Working). HasEndedTurn bound w.seat) (new ++ before.ended) (all_of now) moved
+    (All-append (λ (w : Working). HasEndedTurn bound w.seat) new before.ended ends
+    (all_from (λ (w : Working). HasEndedTurn bound w.seat) before.ended (λ w i. ends_now bound w.seat (to_each (λ (v : Working). ActsNoMore v.seat) before.ended tasks.ended w i))))
 
 -- task 0 alone
 pub first_tasks : (f : Frame) (w : Working) → IsNewSeat f (Some 0) (seen_by_child 0 nothing_seen) w.seat → w.children ≡ [] → AreTasksOf f (record { live = w ∷ []; ended = [] })

@@ -4,7 +4,7 @@ use Rattle.std.proofs.lemmas.List.{map-append, map-id}
 use Rattle.std.proofs.lemmas.List.Sums.{sum_by-append}
 use Rattle.armus_base.specs.Plans.{Action}
 use Rattle.board.specs.calls.Seats.{Frame}
-use Rattle.board_rounds.specs.calls.Turns.{Acts, EachActs, EachEndsTurn, EndsTurn, HasEndedTurn, MayTakeTurn, TakesTurns, in_32_bits, Working, no_task, no_turn, one_task, one_turn}
+use Rattle.board_rounds.specs.calls.Turns.{Acts, EachActs, EachEndsTurn, EndsTurnWithin, HasEndedTurn, MayTakeTurn, TakesTurns, in_32_bits, Working, no_task, no_turn, one_task, one_turn}
 use Rattle.board_rounds.proofs.Goings.{acts_itself}
 
 -- what is read and written in a list, through a function
@@ -19,11 +19,11 @@ map_set f (x ∷ xs) zero v = refl
 map_set f (x ∷ xs) (suc n) v = ap (λ ys. f x ∷ ys) (map_set f xs n v)
 
 -- the first n tasks have made their own steps and ended their turns, and the others have made none
-pub data IsSoFar (f : Frame) : ℕ → List (List Action) → List Working → List Working → Type 0 where
-  at_rest : {rest : List Working} → IsSoFar f 0 [] rest rest
+pub data IsSoFar (bound : ℕ) (f : Frame) : ℕ → List (List Action) → List Working → List Working → Type 0 where
+  at_rest : {rest : List Working} → IsSoFar bound f 0 [] rest rest
   one_done :
-      {n : ℕ} {own : List Action} {owns : List (List Action)} {a b : Working} {olds news : List Working} → Acts f own a b → EndsTurn a.seat b.seat → IsSoFar f n owns olds news →
-      IsSoFar f (suc n) (own ∷ owns) (a ∷ olds) (b ∷ news)
+      {n loads : ℕ} {own : List Action} {owns : List (List Action)} {a b : Working} {olds news : List Working} → Acts f own a b → EndsTurnWithin bound loads a.seat b.seat →
+      IsSoFar bound f n owns olds news → IsSoFar bound f (suc n) (own ∷ owns) (a ∷ olds) (b ∷ news)
 
 -- what is true of each of a list is true of the first, and of each of the others
 all_first : (P : Working → Type 0) (w : Working) (rest : List Working) → All P (w ∷ rest) → P w
@@ -45,21 +45,23 @@ first_is P d (w ∷ rest) all l = all_first P w rest all
 
 -- what was true of all is true of the next
 pub next_is :
-    {f : Frame} {n : ℕ} {owns : List (List Action)} {olds news : List Working} (P : Working → Type 0) (d : Working) → IsSoFar f n owns olds news → All P olds → n < length news → P (get_or news n d)
+    {bound : ℕ} {f : Frame} {n : ℕ} {owns : List (List Action)} {olds news : List Working} (P : Working → Type 0) (d : Working) → IsSoFar bound f n owns olds news → All P olds → n < length news → P (get_or news n d)
 next_is P d at_rest all l = first_is P d _ all l
 next_is P d (one_done acts ends p) all l = next_is P d p (all_rest P _ _ all) (omega arith)
 
 first_done :
-    (f : Frame) (own : List Action) (d w : Working) (rest : List Working) → 0 < length rest → Acts f own (get_or rest 0 d) w → EndsTurn (get_or rest 0 d).seat w.seat → IsSoFar f 1 (own ∷ []) rest (set rest 0 w)
-first_done f own d w [] l acts ends = absurd (omega arith)
-first_done f own d w (b ∷ rest) l acts ends = one_done acts ends at_rest
+    (bound loads : ℕ) (f : Frame) (own : List Action) (d w : Working) (rest : List Working) → 0 < length rest → Acts f own (get_or rest 0 d) w →
+    EndsTurnWithin bound loads (get_or rest 0 d).seat w.seat → IsSoFar bound f 1 (own ∷ []) rest (set rest 0 w)
+first_done bound loads f own d w [] l acts ends = absurd (omega arith)
+first_done bound loads f own d w (b ∷ rest) l acts ends = one_done {loads = loads} acts ends at_rest
 
 -- the next has had its turn
 pub next_done :
-    {f : Frame} {n : ℕ} {owns : List (List Action)} {olds news : List Working} (own : List Action) (d w : Working) → IsSoFar f n owns olds news → n < length news →
-    Acts f own (get_or news n d) w → EndsTurn (get_or news n d).seat w.seat → IsSoFar f (suc n) (owns ++ own ∷ []) olds (set news n w)
-next_done own d w at_rest l acts ends = first_done _ own d w _ l acts ends
-next_done own d w (one_done acts' ends' p) l acts ends = one_done acts' ends' (next_done own d w p (omega arith) acts ends)
+    {bound : ℕ} {f : Frame} {n : ℕ} {owns : List (List Action)} {olds news : List Working} (loads : ℕ) (own : List Action) (d w : Working) →
+    IsSoFar bound f n owns olds news → n < length news → Acts f own (get_or news n d) w → EndsTurnWithin bound loads (get_or news n d).seat w.seat →
+    IsSoFar bound f (suc n) (owns ++ own ∷ []) olds (set news n w)
+next_done {bound = bound} loads own d w at_rest l acts ends = first_done bound loads _ own d w _ l acts ends
+next_done loads own d w (one_done {loads = loads'} acts' ends' p) l acts ends = one_done {loads = loads'} acts' ends' (next_done loads own d w p (omega arith) acts ends)
 
 pub rest_each : (f : Frame) (rest : List Working) → All (MayTakeTurn f) rest → EachActs f (map (λ w. []) rest) rest rest
 rest_each f [] all = no_task
@@ -73,7 +75,7 @@ first_stops f own d w (b ∷ rest) all l acts = (own ∷ map (λ w. []) rest, on
 
 -- the next has made some steps, and no other acts then
 pub next_stops :
-    {f : Frame} {n : ℕ} {owns : List (List Action)} {olds news : List Working} (own : List Action) (d w : Working) → IsSoFar f n owns olds news → All (MayTakeTurn f) olds → n < length news →
+    {bound : ℕ} {f : Frame} {n : ℕ} {owns : List (List Action)} {olds news : List Working} (own : List Action) (d w : Working) → IsSoFar bound f n owns olds news → All (MayTakeTurn f) olds → n < length news →
     Acts f own (get_or news n d) w → (owns' : List (List Action)) × EachActs f owns' olds (set news n w)
 next_stops own d w at_rest all l acts = first_stops _ own d w _ all l acts
 next_stops own d w (one_done {own = own'} acts' ends' p) all l acts =
@@ -84,24 +86,26 @@ none_each : (f : Frame) (rest : List Working) → 0 ≡ length rest → EachActs
 none_each f [] e = no_task
 none_each f (w ∷ rest) e = absurd (omega arith)
 
-none_end : (rest : List Working) → 0 ≡ length rest → EachEndsTurn rest rest
-none_end [] e = no_turn
-none_end (w ∷ rest) e = absurd (omega arith)
+none_end : (bound : ℕ) (rest : List Working) → 0 ≡ length rest → EachEndsTurn bound rest rest
+none_end bound [] e = no_turn
+none_end bound (w ∷ rest) e = absurd (omega arith)
 
 -- all have had their turns
-pub all_each : {f : Frame} {n : ℕ} {owns : List (List Action)} {olds news : List Working} → IsSoFar f n owns olds news → n ≡ length news → EachActs f owns olds news
+pub all_each : {bound : ℕ} {f : Frame} {n : ℕ} {owns : List (List Action)} {olds news : List Working} → IsSoFar bound f n owns olds news → n ≡ length news → EachActs f owns olds news
 all_each at_rest e = none_each _ _ e
 all_each (one_done acts ends p) e = one_task acts (all_each p (omega arith))
 
-pub all_end : {f : Frame} {n : ℕ} {owns : List (List Action)} {olds news : List Working} → IsSoFar f n owns olds news → n ≡ length news → EachEndsTurn olds news
-all_end at_rest e = none_end _ e
-all_end (one_done acts ends p) e = one_turn ends (all_end p (omega arith))
+pub all_end :
+    {bound : ℕ} {f : Frame} {n : ℕ} {owns : List (List Action)} {olds news : List Working} → IsSoFar bound f n owns olds news → n ≡ length news → EachEndsTurn bound olds news
+all_end {bound = bound} at_rest e = none_end bound _ e
+all_end (one_done {loads = loads} acts ends p) e = one_turn {loads = loads} ends (all_end p (omega arith))
 
 -- memory ran out
 pub stopped :
-    {E : Type 0} (f : Frame) (olds news : List Working) (r : Result ℕ E) → IfOk r (λ n. ⊥) → (owns : List (List Action)) × EachActs f owns olds news → TakesTurns f olds news r
-stopped f olds news (Ok n) bad p = absurd bad
-stopped f olds news (Err e) bad p = record { owns = p.0; each = p.1; events = tt; ends = tt }
+    {E : Type 0} (bound : ℕ) (f : Frame) (olds news : List Working) (r : Result ℕ E) → IfOk r (λ n. ⊥) → (owns : List (List Action)) × EachActs f owns olds news →
+    TakesTurns bound f olds news r
+stopped bound f olds news (Ok n) bad p = absurd bad
+stopped bound f olds news (Err e) bad p = record { owns = p.0; each = p.1; events = tt; ends = tt }
 
 -- no task has the lock then
 pub each_free : {f : Frame} {owns : List (List Action)} {olds news : List Working} → EachActs f owns olds news → All (MayTakeTurn f) olds → All (λ (w : Working). w.seat.view.holds ≡ false) news
@@ -116,14 +120,15 @@ pub each_on :
 each_on owns' olds' news' no_task q = q
 each_on owns' olds' news' (one_task acts p) q = one_task acts (each_on owns' olds' news' p q)
 
-ends_on : {olds news olds' news' : List Working} → EachEndsTurn olds news → EachEndsTurn olds' news' → EachEndsTurn (olds ++ olds') (news ++ news')
+ends_on : {bound : ℕ} {olds news olds' news' : List Working} → EachEndsTurn bound olds news → EachEndsTurn bound olds' news' → EachEndsTurn bound (olds ++ olds') (news ++ news')
 ends_on no_turn q = q
-ends_on (one_turn ends p) q = one_turn ends (ends_on p q)
+ends_on (one_turn {loads = loads} ends p) q = one_turn {loads = loads} ends (ends_on p q)
 
 -- of each task a turn has ended then
-pub each_ended : {olds news : List Working} → EachEndsTurn olds news → All (λ (w : Working). HasEndedTurn w.seat) news
-each_ended no_turn = all_none (λ (w : Working). HasEndedTurn w.seat)
-each_ended (one_turn {before = before} ends p) = all_more (λ (w : Working). HasEndedTurn w.seat) _ _ (before.seat, ends) (each_ended p)
+pub each_ended : {bound : ℕ} {olds news : List Working} → EachEndsTurn bound olds news → All (λ (w : Working). HasEndedTurn bound w.seat) news
+each_ended {bound = bound} no_turn = all_none (λ (w : Working). HasEndedTurn bound w.seat)
+each_ended {bound = bound} (one_turn {loads = loads} {before = before} ends p) =
+    all_more (λ (w : Working). HasEndedTurn bound w.seat) _ _ (before.seat, loads, ends) (each_ended p)
 
 -- two counts that stand still at their end add up to one that does
 pub counts_add : (a b : ℕ) → in_32_bits (in_32_bits a + in_32_bits b) ≡ in_32_bits (a + b)
@@ -133,11 +138,11 @@ pub count_more : (a k : ℕ) → in_32_bits (in_32_bits a + k) ≡ in_32_bits (a
 count_more a k = omega arith
 
 pub turns_on :
-    {E : Type 0} (f : Frame) (olds news olds' news' : List Working) (x y : Result ℕ E) (m n k : ℕ) → x ≡ Ok m → y ≡ Ok n → k ≡ in_32_bits (m + n) →
-    TakesTurns f olds news x → TakesTurns f olds' news' y → TakesTurns {E = E} f (olds ++ olds') (news ++ news') (Ok k)
-turns_on f olds news olds' news' x y m n k xs ys ks p' q' =
-    let p = subst (TakesTurns f olds news) xs p' in
-    let q = subst (TakesTurns f olds' news') ys q' in
+    {E : Type 0} (bound : ℕ) (f : Frame) (olds news olds' news' : List Working) (x y : Result ℕ E) (m n k : ℕ) → x ≡ Ok m → y ≡ Ok n → k ≡ in_32_bits (m + n) →
+    TakesTurns bound f olds news x → TakesTurns bound f olds' news' y → TakesTurns {E = E} bound f (olds ++ olds') (news ++ news') (Ok k)
+turns_on bound f olds news olds' news' x y m n k xs ys ks p' q' =
+    let p = subst (TakesTurns bound f olds news) xs p' in
+    let q = subst (TakesTurns bound f olds' news') ys q' in
     record {
       owns = p.owns ++ q.owns;
       each = each_on q.owns olds' news' p.each q.each;
@@ -148,22 +153,22 @@ turns_on f olds news olds' news' x y m n k xs ys ks p' q' =
     }
 
 pub both_each :
-    {E : Type 0} (f : Frame) (olds news olds' news' : List Working) (x y : Result ℕ E) → TakesTurns f olds news x → TakesTurns f olds' news' y →
+    {E : Type 0} (bound : ℕ) (f : Frame) (olds news olds' news' : List Working) (x y : Result ℕ E) → TakesTurns bound f olds news x → TakesTurns bound f olds' news' y →
     (owns : List (List Action)) × EachActs f owns (olds ++ olds') (news ++ news')
-both_each f olds news olds' news' x y p q = (p.owns ++ q.owns, each_on q.owns olds' news' p.each q.each)
+both_each bound f olds news olds' news' x y p q = (p.owns ++ q.owns, each_on q.owns olds' news' p.each q.each)
 
 -- the same through a function
 pub over_both :
-    {T E : Type 0} (f : Frame) (w : T → Working) (ts a b x y : List T) (r : Result ℕ E) → ts ≡ a ++ b → TakesTurns f (map w a ++ map w b) (map w x ++ map w y) r →
-    TakesTurns f (map w ts) (map w (x ++ y)) r
-over_both f w ts a b x y r whole turns =
-    subst (λ (ws : List Working). TakesTurns f ws (map w (x ++ y)) r) (sym (ap (map w) whole ∙ map-append w a b))
-    (subst (λ (ws : List Working). TakesTurns f (map w a ++ map w b) ws r) (sym (map-append w x y)) turns)
+    {T E : Type 0} (bound : ℕ) (f : Frame) (w : T → Working) (ts a b x y : List T) (r : Result ℕ E) → ts ≡ a ++ b → TakesTurns bound f (map w a ++ map w b) (map w x ++ map w y) r →
+    TakesTurns bound f (map w ts) (map w (x ++ y)) r
+over_both bound f w ts a b x y r whole turns =
+    subst (λ (ws : List Working). TakesTurns bound f ws (map w (x ++ y)) r) (sym (ap (map w) whole ∙ map-append w a b))
+    (subst (λ (ws : List Working). TakesTurns bound f (map w a ++ map w b) ws r) (sym (map-append w x y)) turns)
 
 -- and where the function changes nothing
-pub of_itself : {E : Type 0} (f : Frame) (olds news : List Working) (r : Result ℕ E) → TakesTurns f (map (λ w. w) olds) (map (λ w. w) news) r → TakesTurns f olds news r
-of_itself f olds news r turns =
-    subst (λ (ws : List Working). TakesTurns f ws news r) (map-id olds) (subst (λ (ws : List Working). TakesTurns f (map (λ w. w) olds) ws r) (map-id news) turns)
+pub of_itself : {E : Type 0} (bound : ℕ) (f : Frame) (olds news : List Working) (r : Result ℕ E) → TakesTurns bound f (map (λ w. w) olds) (map (λ w. w) news) r → TakesTurns bound f olds news r
+of_itself bound f olds news r turns =
+    subst (λ (ws : List Working). TakesTurns bound f ws news r) (map-id olds) (subst (λ (ws : List Working). TakesTurns bound f (map (λ w. w) olds) ws r) (map-id news) turns)
 
 pub ready_itself : (f : Frame) (ws : List Working) → All (MayTakeTurn f) ws → All (MayTakeTurn f) (map (λ w. w) ws)
 ready_itself f ws all = subst (λ (vs : List Working). All (MayTakeTurn f) vs) (sym (map-id ws)) all

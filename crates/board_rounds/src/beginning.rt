@@ -14,8 +14,8 @@ use armus_base::{NoMemory, Offset, Op, PhaserId, TaskId};
 use board::{Board, Mode, TaskSeat};
 use std::alloc::Global;
 
-// The phaser and the offset of an await on which is to be decided before it is published, as on each one of a board that avoids deadlock.
-fn await_to_decide(op: Op, board: &Board) -> Option<(PhaserId, Offset)>
+/// The phaser and the offset of an await on which is to be decided before it is published, as on each one of a board that avoids deadlock.
+pub(crate) fn await_to_decide(op: Op, board: &Board) -> Option<(PhaserId, Offset)>
     ensures awaits { IfSome result (λ r. (op ≡ Await r.0 r.1) × (avoids board.now.mode ≡ true)) }
     ensures none { result ≡ None → (p : PhaserId) (off : Offset) → op ≡ Await p off → avoids board.now.mode ≡ false }
 {

@@ -10,10 +10,10 @@ ghost use Rattle.board_rounds.specs.calls.Turns.{ActsNoMore, HasEndedTurn, MayTa
 ghost use Rattle.board_rounds.specs.calls.TaskSeats.{ArePlacesOf, AreTasksOf, HaveEnded, KnowsTasks, all_of, left_to};
 ghost use Rattle.board_rounds.specs.inside.Rounds.{IsAtStart, IsChildIn, MakesRound, emptied, fresh, fresh_of};
 
-use crate::Task;
 use crate::ending::{note_places, take_in_all};
 use crate::rounds::take_turns;
 use crate::worker_cells::{WorkerCells, provide};
+use crate::{RoundSetting, Task};
 use armus_base::{Gate, List, NoMemory, Plan};
 use avoider::Judging;
 use board::{Board, TaskSeat, ViewSeat};
@@ -82,29 +82,26 @@ impl<'p> BoardTasks<'p> {
         self.live.len()
     }
 
-    /// One round: each task that lives has one turn, by so many workers. What a worker judges by is kept from its first round on. After it the children whom
-    /// they forked live too. Where nobody was forked, each task has come to the end of its turn.
+    /// One round: each task that lives has one turn, by so many workers. What a worker judges by is kept from its first round on, and the words that it loads
+    /// are counted. After the round the children whom they forked live too. Where nobody was forked, each task has come to the end of its turn.
     pub fn round<R: Threads + Sync, G: Gate>(
         &mut self,
-        rt: &R,
-        alloc: Global,
-        board: &Board,
+        setting: &RoundSetting<'_, R, G>,
         plan: &'p Plan,
         workers: u8,
-        gate: &G,
     ) -> Result<Rounded, NoMemory>
-        requires plan { board.now.plan ≡ plan.now }
-        requires tasks { AreTasksOf board.now self.old }
-        ensures tasks { OnOk result (AreTasksOf board.now self.new) }
+        requires plan { setting.now.board.now.plan ≡ plan.now }
+        requires tasks { AreTasksOf setting.now.board.now self.old }
+        ensures tasks { OnOk result (AreTasksOf setting.now.board.now self.new) }
         ensures further { IfOk result (λ made. 0 < made.events → left_to plan.now self.new < left_to plan.now self.old) }
-        ensures quiet { IfOk result (λ made. made.events ≡ 0 → HaveEnded (all_of self.new)) }
-        ensures still { IfOk result (λ made. made.forked ≡ false → HaveEnded (all_of self.new)) }
+        ensures quiet { IfOk result (λ made. made.events ≡ 0 → HaveEnded setting.now.bound (all_of self.new)) }
+        ensures still { IfOk result (λ made. made.forked ≡ false → HaveEnded setting.now.bound (all_of self.new)) }
     {
         provide(&mut self.cells, workers, self.judging)?;
         let cells = self.cells.as_mut_slice();
         let live = &mut self.live;
-        let made = go_round(rt, alloc, board, plan, workers, gate, cells, live)?;
-        retire(alloc, &mut self.live, &mut self.ended)?;
+        let made = go_round(setting, plan, workers, cells, live)?;
+        retire(setting.alloc, &mut self.live, &mut self.ended)?;
         Ok(made)
     }
 
@@ -152,26 +149,23 @@ impl<'p> BoardTasks<'p> {
 
 // One turn of each of these tasks, after which the children whom they forked are tasks among them, in order of number.
 fn go_round<'p, R: Threads + Sync, G: Gate>(
-    rt: &R,
-    alloc: Global,
-    board: &Board,
+    setting: &RoundSetting<'_, R, G>,
     plan: &'p Plan,
     workers: u8,
-    gate: &G,
     cells: &mut [WorkerCells],
     tasks: &mut Vec<Task<'p>>,
 ) -> Result<Rounded, NoMemory>
-    requires plan { board.now.plan ≡ plan.now }
-    requires ready { All (MayTakeTurn board.now) tasks.old.items }
+    requires plan { setting.now.board.now.plan ≡ plan.now }
+    requires ready { All (MayTakeTurn setting.now.board.now) tasks.old.items }
     requires no_child { All (λ task. task.children ≡ []) tasks.old.items }
     requires enough { workers ≤ length cells.old }
     requires cells { 1 ≤ length cells.old }
-    ensures round { IfOk result (λ made. MakesRound board.now tasks.old.items tasks.new.items made.events) }
-    ensures still { IfOk result (λ made. made.forked ≡ false → All (λ task. HasEndedTurn task.seat) tasks.new.items) }
+    ensures round { IfOk result (λ made. MakesRound setting.now.bound setting.now.board.now tasks.old.items tasks.new.items made.events) }
+    ensures still { IfOk result (λ made. made.forked ≡ false → All (λ task. HasEndedTurn setting.now.bound task.seat) tasks.new.items) }
 {
     let turned = tasks.as_mut_slice();
-    let events = take_turns(rt, &alloc, board, gate, workers, cells, turned)?;
-    let forked = take_on(alloc, plan, tasks)?;
+    let events = take_turns(setting, workers, cells, turned)?;
+    let forked = take_on(setting.alloc, plan, tasks)?;
     Ok(Rounded { events, forked })
 }
 

@@ -40,10 +40,10 @@ pub(crate) fn try_to_decide(
     ensures undecided { OnErr result (Goes [] seat.old seat.new) }
 {
     let _ = seat.id();
-    let (mut own, mut judge) = cells.take(alloc, board)?;
-    let tried = decide_with(seat, alloc, board, p, off, &mut own, &mut judge);
-    cells.note_loads(loads_of(&tried, &own));
-    cells.keep(board, own, judge);
+    let mut own = cells.take(alloc, board)?;
+    let tried = decide_with(seat, alloc, board, p, off, &mut own);
+    cells.note_loads(loads_of(&tried, &own.0));
+    cells.keep(board, own.0, own.1);
     tried
 }
 
@@ -62,15 +62,14 @@ fn decide_with(
     board: &Board,
     p: PhaserId,
     off: Offset,
-    cells: &mut Cells,
-    judge: &mut Judge,
+    own: &mut (Cells, Judge),
 ) -> Result<Attempt, NoMemory>
     requires ready { MayDecide board.now (aim_at p.0 off) seat.old }
-    requires tasks { cells.old.tasks ≡ length board.now.plan.parents }
-    requires phasers { cells.old.phasers ≡ length board.now.plan.makers }
+    requires tasks { own.old.0.tasks ≡ length board.now.plan.parents }
+    requires phasers { own.old.0.phasers ≡ length board.now.plan.makers }
     ensures attempt { IfOk result (IsAttempt (aim_at p.0 off) seat.old seat.new) }
     ensures undecided { OnErr result (Goes [] seat.old seat.new) }
-    ensures room { HasSameRoom cells.old cells.new }
+    ensures room { HasSameRoom own.old.0 own.new.0 }
 {
     let _ = seat.id();
     let phasers = memberships(seat, board);
@@ -78,6 +77,7 @@ fn decide_with(
         Err(_) => return Ok(Attempt::LockedOut),
         Ok(()) => {}
     }
+    let (cells, judge) = own;
     match judge.decide(alloc, seat, board, p, off, cells)? {
         Decision::Published(_) => Ok(Attempt::Begun),
         Decision::Refused(_) => Ok(Attempt::Refused(phasers)),

@@ -6,6 +6,7 @@ mod board_tasks;
 mod calling;
 mod deciding;
 mod ending;
+mod round_setting;
 mod rounds;
 mod taking_turns;
 mod task;
@@ -13,6 +14,7 @@ mod worker_cells;
 
 pub use board_tasks::{BoardTasks, Rounded};
 pub use calling::Calls;
+pub use round_setting::RoundSetting;
 pub use rounds::round;
 pub use task::{Acted, Pause, Task};
 pub use worker_cells::WorkerCells;

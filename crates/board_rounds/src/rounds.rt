@@ -1,12 +1,12 @@
 // A round of turns by several workers.
 ghost use Rattle.std.specs.Thread.{IsSync};
-ghost use Rattle.std.specs.Prelude.{◌≡◌, ◌≤◌, All, false, length, map};
+ghost use Rattle.std.specs.Prelude.{◌≡◌, ◌≤◌, ◌-◌, ◌^◌, All, false, length, map};
 ghost use Rattle.board_rounds.specs.calls.Turns.{MayTakeTurn, TakesTurns};
 
-use crate::Task;
 use crate::calling::Calls;
 use crate::taking_turns::TakeTurn;
 use crate::worker_cells::{WorkerCells, provide};
+use crate::{RoundSetting, Task};
 use adaptive::Wanted;
 use armus_base::{Gate, NoMemory, Plan};
 use avoider::Judging;
@@ -29,14 +29,22 @@ pub fn round<R: Threads + Sync, G: Gate>(
 ) -> Result<u32, NoMemory>
     requires ready { All (MayTakeTurn board.now) tasks.old }
     requires plan { board.now.plan ≡ plan.now }
-    ensures turns { TakesTurns board.now tasks.old tasks.new result }
+    ensures turns { TakesTurns (2 ^ 64 - 1) board.now tasks.old tasks.new result }
     ensures free { All (λ task. task.seat.view.holds ≡ false) tasks.new }
 {
     let _ = plan;
     let mut cells = Vec::new(alloc);
     provide(&mut cells, workers, Judging::Graph(wanted))?;
     let cells = cells.as_mut_slice();
-    take_turns(rt, &alloc, board, gate, workers, cells, tasks)
+    let bound = u64::MAX;
+    let setting = RoundSetting {
+        rt,
+        alloc,
+        board,
+        gate,
+        bound,
+    };
+    take_turns(&setting, workers, cells, tasks)
 }
 
 /// One turn of each of these tasks. With several workers the list is split into halves, which take their turns side by side, each with half of the
@@ -44,56 +52,58 @@ pub fn round<R: Threads + Sync, G: Gate>(
 /// value, what the tasks are afterwards is not known.
 #[cycle(taking)]
 pub(crate) fn take_turns<T: TakeTurn + Send, R: Threads + Sync, C: Calls + Sync>(
-    rt: &R,
-    alloc: &Global,
-    board: &Board,
-    gate: &C,
+    setting: &RoundSetting<'_, R, C>,
     workers: u8,
     cells: &mut [WorkerCells],
     tasks: &mut [T],
 ) -> Result<u32, NoMemory>
-    requires ready { All (MayTakeTurn board.now) (map T.working tasks.old) }
+    requires ready { All (MayTakeTurn setting.now.board.now) (map T.working tasks.old) }
     requires enough { workers ≤ length cells.old }
     requires cells { 1 ≤ length cells.old }
-    ensures turns { TakesTurns board.now (map T.working tasks.old) (map T.working tasks.new) result }
+    ensures turns { TakesTurns setting.now.bound setting.now.board.now (map T.working tasks.old) (map T.working tasks.new) result }
 {
     if workers < 2 || tasks.len() < 2 {
-        take_turns_in_order(*alloc, board, gate, &mut cells[0], tasks)
+        let alloc = setting.alloc;
+        take_turns_in_order(
+            alloc,
+            setting.board,
+            &mut cells[0],
+            setting.bound,
+            setting.gate,
+            tasks,
+        )
     } else {
-        take_turns_in_halves(rt, alloc, board, gate, workers, cells, tasks)
+        take_turns_in_halves(setting, workers, cells, tasks)
     }
 }
 
 // One turn of each of these tasks, of which there are several, by several workers: one half beside the other.
 #[cycle(taking)]
 fn take_turns_in_halves<T: TakeTurn + Send, R: Threads + Sync, C: Calls + Sync>(
-    rt: &R,
-    alloc: &Global,
-    board: &Board,
-    gate: &C,
+    setting: &RoundSetting<'_, R, C>,
     workers: u8,
     cells: &mut [WorkerCells],
     tasks: &mut [T],
 ) -> Result<u32, NoMemory>
-    requires ready { All (MayTakeTurn board.now) (map T.working tasks.old) }
+    requires ready { All (MayTakeTurn setting.now.board.now) (map T.working tasks.old) }
     requires enough { workers ≤ length cells.old }
     requires several { 2 ≤ workers }
-    ensures turns { TakesTurns board.now (map T.working tasks.old) (map T.working tasks.new) result }
+    ensures turns { TakesTurns setting.now.bound setting.now.board.now (map T.working tasks.old) (map T.working tasks.new) result }
 {
     let few = workers / 2;
     let rest = workers - few;
     let (front_cells, back_cells) = cells.split_at_mut(few as usize);
     let (front, back) = tasks.split_at_mut(tasks.len() / 2);
     let (first, second) = join_mut(
-        rt,
+        setting.rt,
         &mut || -> Result<u32, NoMemory>
-            requires { IsSync R.row × All (MayTakeTurn board.now) (map T.working front.now) × (few ≤ length front_cells.now) × (1 ≤ length front_cells.now) }
-            ensures { TakesTurns board.entry.now (map T.working front.entry.now) (map T.working front.exit.now) result }
-        { take_turns(rt, alloc, board, gate, few, front_cells, front) },
+            requires { IsSync R.row × All (MayTakeTurn setting.now.board.now) (map T.working front.now) × (few ≤ length front_cells.now) × (1 ≤ length front_cells.now) }
+            ensures { TakesTurns setting.entry.now.bound setting.entry.now.board.now (map T.working front.entry.now) (map T.working front.exit.now) result }
+        { take_turns(setting, few, front_cells, front) },
         &mut || -> Result<u32, NoMemory>
-            requires { IsSync R.row × All (MayTakeTurn board.now) (map T.working back.now) × (rest ≤ length back_cells.now) × (1 ≤ length back_cells.now) }
-            ensures { TakesTurns board.entry.now (map T.working back.entry.now) (map T.working back.exit.now) result }
-        { take_turns(rt, alloc, board, gate, rest, back_cells, back) },
+            requires { IsSync R.row × All (MayTakeTurn setting.now.board.now) (map T.working back.now) × (rest ≤ length back_cells.now) × (1 ≤ length back_cells.now) }
+            ensures { TakesTurns setting.entry.now.bound setting.entry.now.board.now (map T.working back.entry.now) (map T.working back.exit.now) result }
+        { take_turns(setting, rest, back_cells, back) },
     );
     Ok(first?.saturating_add(second?))
 }
@@ -102,16 +112,17 @@ fn take_turns_in_halves<T: TakeTurn + Send, R: Threads + Sync, C: Calls + Sync>(
 fn take_turns_in_order<T: TakeTurn, C: Calls>(
     alloc: Global,
     board: &Board,
-    gate: &C,
     cells: &mut WorkerCells,
+    bound: u64,
+    gate: &C,
     tasks: &mut [T],
 ) -> Result<u32, NoMemory>
     requires ready { All (MayTakeTurn board.now) (map T.working tasks.old) }
-    ensures turns { TakesTurns board.now (map T.working tasks.old) (map T.working tasks.new) result }
+    ensures turns { TakesTurns bound board.now (map T.working tasks.old) (map T.working tasks.new) result }
 {
     let mut made = 0u32;
     for task in tasks.iter_mut() {
-        made = made.saturating_add(task.turn(alloc, board, cells, gate)?);
+        made = made.saturating_add(task.turn(alloc, board, cells, bound, gate)?);
     }
     Ok(made)
 }

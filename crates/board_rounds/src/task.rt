@@ -1,13 +1,13 @@
 // A task of a run: its seat, how far it has come, and the seats of the children that it forked.
-ghost use Rattle.std.specs.Prelude.{◌≡◌, ◌↔◌, ◌+◌, ◌++◌, ◌≤◌, ◌<◌, ◌^◌, ℕ, [], ◌∷◌, List, Some, None, false, IfOk, IfSome, IsSome, IsTrue, OnOk, OnErr, length};
+ghost use Rattle.std.specs.Prelude.{◌≡◌, ◌↔◌, ◌+◌, ◌++◌, ◌≤◌, ◌<◌, ◌^◌, ℕ, [], ◌∷◌, List, Some, None, true, false, IfOk, IfSome, IsSome, IsTrue, OnOk, OnErr, length};
 ghost use Rattle.armus_base.specs.Plans.{Action};
 ghost use Rattle.armus_base.specs.Runs.{first_place};
 ghost use Rattle.board.specs.calls.Views.{own_place};
 ghost use Rattle.board.specs.calls.Seats.{IsOf, event_of};
-ghost use Rattle.board_rounds.specs.calls.Turns.{Acts, ActsNoMore, CountsEvents, EndsTurn, PausesAt, standing_of};
+ghost use Rattle.board_rounds.specs.calls.Turns.{Acts, ActsNoMore, CountsEvents, EndsTurn, EndsTurnWithin, StandsAtAwait, PausesAt, standing_of};
 ghost use Rattle.board_rounds.specs.inside.Tasks.{MakesSome};
 
-use crate::beginning::begin;
+use crate::beginning::{await_to_decide, begin};
 use crate::calling::Calls;
 use crate::deciding::Attempt;
 use crate::taking_turns::TakeTurn;
@@ -127,26 +127,28 @@ impl<'p> Task<'p> {
     }
 
     /// A stretch of its turn: it acts until it has forked a task, or until its turn is over, as it is done, or is published and finds a member behind, or is
-    /// refused, or finds the lock taken. It answers how many events happened, and which of the two it was. The gate is called before each op that it tries.
-    /// After `NoMemory` it stands where its own steps brought it, and has forked nobody.
+    /// refused, or finds the lock taken; once more words than the bound were loaded with these cells, its turn is over at the next await. It answers how many
+    /// events happened, and which of the two it was. The gate is called before each op that it tries. After `NoMemory` it stands where its own steps brought
+    /// it, and has forked nobody.
     pub fn act<C: Calls>(
         &mut self,
         alloc: Global,
         board: &Board,
         cells: &mut WorkerCells,
+        bound: u64,
         gate: &C,
     ) -> Result<Acted, NoMemory>
         requires made { IsOf self.old.seat board.now }
         requires free { self.old.seat.view.holds ≡ false }
         ensures acts { (own : List Action) × Acts board.now own self.old self.new × IfOk result (λ acted. acted.events ≡ length own) }
         ensures few { (n : ℕ) → CountsEvents n self.old → IfOk result (λ acted. CountsEvents (n + acted.events) self.new) }
-        ensures pause { IfOk result (λ acted. PausesAt acted.pause self.old self.new) }
+        ensures pause { IfOk result (λ acted. PausesAt bound cells.new.loads acted.pause self.old self.new) }
         ensures nobody { OnErr result (self.new.children ≡ self.old.children) }
     {
         let _ = self.seat.id();
         let had = self.children.len();
         let mut events = 0;
-        'act: while let Some(more) = self.go_on(alloc, board, cells, gate)? {
+        'act: while let Some(more) = self.go_on(alloc, board, cells, bound, gate)? {
             events += more;
             if self.children.len() > had {
                 let pause = Pause::Forked;
@@ -163,16 +165,20 @@ impl<'p> Task<'p> {
         alloc: Global,
         board: &Board,
         cells: &mut WorkerCells,
+        bound: u64,
         gate: &C,
     ) -> Result<Option<u32>, NoMemory>
         requires made { IsOf self.old.seat board.now }
         requires free { self.old.seat.view.holds ≡ false }
         ensures some { IfOk result (λ o. IfSome o (λ n. MakesSome board.now n self.old self.new)) }
-        ensures none { IfOk result (λ o. o ≡ None → Acts board.now [] self.old self.new × EndsTurn self.old.seat self.new.seat) }
+        ensures none { IfOk result (λ o. o ≡ None → Acts board.now [] self.old self.new × EndsTurnWithin bound cells.new.loads self.old.seat self.new.seat) }
         ensures err { OnErr result (Acts board.now [] self.old self.new) }
     {
         let t = self.seat.id();
         if self.refused {
+            return Ok(None);
+        }
+        if self.is_cut_short(board, cells, bound) {
             return Ok(None);
         }
         if self.seat.event().is_some() {
@@ -195,6 +201,39 @@ impl<'p> Task<'p> {
                 self.refused = true;
                 Ok(Some(drops + 1))
             }
+        }
+    }
+
+    // Whether its turn is over though it may go on: more words than the bound were loaded with these cells, and it is at an await.
+    fn is_cut_short(&self, board: &Board, cells: &WorkerCells, bound: u64) -> bool
+        requires made { IsOf self.now.seat board.now }
+        requires free { self.now.seat.view.holds ≡ false }
+        requires unrefused { (own_place self.now.seat.view).dropped ≡ None }
+        ensures { result ≡ true → bound < cells.now.loads × cells.now.loads < 2 ^ 64 × StandsAtAwait self.now.seat }
+    {
+        if cells.loads() <= bound {
+            return false;
+        }
+        self.is_at_await(board)
+    }
+
+    // Whether it is published or, where deadlock is avoided, stands before an await that it has not published.
+    fn is_at_await(&self, board: &Board) -> bool
+        requires made { IsOf self.now.seat board.now }
+        requires free { self.now.seat.view.holds ≡ false }
+        requires unrefused { (own_place self.now.seat.view).dropped ≡ None }
+        ensures { result ≡ true → StandsAtAwait self.now.seat }
+    {
+        let _ = self.seat.id();
+        if self.seat.event().is_some() {
+            return true;
+        }
+        let Some(next) = self.cursor.peek() else {
+            return false;
+        };
+        match await_to_decide(next, board) {
+            Some(_) => true,
+            None => false,
         }
     }
 
@@ -227,12 +266,13 @@ impl<'p> TakeTurn for Task<'p> {
         alloc: Global,
         board: &Board,
         cells: &mut WorkerCells,
+        bound: u64,
         gate: &C,
     ) -> Result<u32, NoMemory> {
         let _ = self.seat.id();
         let mut made = 0;
         'turn: loop {
-            let acted = self.act(alloc, board, cells, gate)?;
+            let acted = self.act(alloc, board, cells, bound, gate)?;
             made += acted.events;
             match acted.pause {
                 Pause::TurnOver => return Ok(made),

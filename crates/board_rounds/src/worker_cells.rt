@@ -1,5 +1,5 @@
 // The cells of a worker, and its judge.
-ghost use Rattle.std.specs.Prelude.{◌≡◌, ◌≤◌, IfOk, OnOk, length};
+ghost use Rattle.std.specs.Prelude.{◌≡◌, ◌≤◌, ◌+◌, ◌-◌, ◌^◌, IfOk, OnOk, length, min};
 
 use armus_base::NoMemory;
 use avoider::{Judge, Judging};
@@ -22,12 +22,12 @@ pub struct WorkerCells {
 }
 
 impl Model for WorkerCells {
-    ghost use Rattle.std.specs.Prelude.{Bool};
-    ghost use Rattle.board_rounds.specs.inside.Workers.{Fit, holds_cells};
+    ghost use Rattle.board_rounds.specs.calls.Turns.{Worker};
+    ghost use Rattle.board_rounds.specs.inside.Workers.{Fit, worker_of};
 
-    ghost Value = { Bool };
+    ghost Value = { Worker };
 
-    ghost view = { holds_cells };
+    ghost view = { worker_of };
 
     ghost invariant = { Fit };
 }
@@ -47,13 +47,15 @@ impl WorkerCells {
 
     /// How many words were loaded for the awaits that were begun with these cells, as a board is defined, up to 2^64 - 1: for each that was published one of
     /// each task, and for each on which was decided those of its collect.
-    pub fn loads(&self) -> u64 {
+    pub fn loads(&self) -> u64
+        ensures { result ≡ self.now.loads }
+    {
         self.loads
     }
 
     /// So many words more were loaded.
     pub(crate) fn note_loads(&mut self, loads: u64)
-        ensures same { self.new ≡ self.old }
+        ensures { self.new.loads ≡ min (self.old.loads + loads) (2 ^ 64 - 1) }
     {
         self.loads = self.loads.saturating_add(loads);
     }
@@ -62,6 +64,7 @@ impl WorkerCells {
     pub(crate) fn take(&mut self, alloc: Global, board: &Board) -> Result<(Cells, Judge), NoMemory>
         ensures tasks { IfOk result (λ own. own.0.tasks ≡ length board.now.plan.parents) }
         ensures phasers { IfOk result (λ own. own.0.phasers ≡ length board.now.plan.makers) }
+        ensures loads { self.new.loads ≡ self.old.loads }
     {
         let tasks = board.tasks();
         let phasers = board.phasers();
@@ -78,6 +81,7 @@ impl WorkerCells {
     pub(crate) fn keep(&mut self, board: &Board, cells: Cells, judge: Judge)
         requires tasks { cells.tasks ≡ length board.now.plan.parents }
         requires phasers { cells.phasers ≡ length board.now.plan.makers }
+        ensures loads { self.new.loads ≡ self.old.loads }
     {
         self.tasks = board.tasks();
         self.phasers = board.phasers();

@@ -11,7 +11,7 @@ use Rattle.clock_syntax.specs.Trees.{drop as dropped}
 use Rattle.clock_syntax.specs.calls.Bodies.{clock_followed_by, clock_tree_of}
 use Rattle.clock_syntax.proofs.ClockParts.{clock_counts}
 use Rattle.clock_moves.specs.Unfolding.{ClockComing, a_close, a_finish, a_loop, a_plain, a_turn, an_async, coming, comings_of}
-use Rattle.clock_origins.specs.ClockOrigins.{Begun, MadeThing, begun_at, begun_in, thing_at, things_in, wait_at, waits_in}
+use Rattle.clock_origins.specs.ClockOrigins.{Begun, MadeThing, begun_at, begun_in, made_thing_at, things_in, wait_at, waits_in}
 use Rattle.clock_origins.specs.inside.Notes.{NotesValue, noted, noted_all}
 
 same_notes :
@@ -26,7 +26,7 @@ noted_all-append ms ns k =
     same_notes (k.begun ++ begun_in (ms ++ ns)) ((k.begun ++ begun_in ms) ++ begun_in ns) (k.things ++ things_in (ms ++ ns)) ((k.things ++ things_in ms) ++ things_in ns)
     (k.waits ++ waits_in (ms ++ ns)) ((k.waits ++ waits_in ms) ++ waits_in ns)
     (ap (λ z. k.begun ++ z) (flat_map-append (λ (m : ClockComing). begun_at m.statement m.part) ms ns) ∙ sym (append_assoc k.begun (begun_in ms) (begun_in ns)))
-    (ap (λ z. k.things ++ z) (flat_map-append (λ (m : ClockComing). thing_at m.statement m.part) ms ns) ∙ sym (append_assoc k.things (things_in ms) (things_in ns)))
+    (ap (λ z. k.things ++ z) (flat_map-append (λ (m : ClockComing). made_thing_at m.statement m.part) ms ns) ∙ sym (append_assoc k.things (things_in ms) (things_in ns)))
     (ap (λ z. k.waits ++ z) (flat_map-append (λ (m : ClockComing). wait_at m.statement m.part) ms ns) ∙ sym (append_assoc k.waits (waits_in ms) (waits_in ns)))
 
 pub noted_none : (k : NotesValue) → noted_all [] k ≡ k
@@ -35,9 +35,9 @@ noted_none k =
 
 pub noted_one : (m : ClockComing) (k : NotesValue) → noted_all (m ∷ []) k ≡ noted m k
 noted_one m k =
-    same_notes (k.begun ++ begun_in (m ∷ [])) (k.begun ++ begun_at m.statement m.part) (k.things ++ things_in (m ∷ [])) (k.things ++ thing_at m.statement m.part)
+    same_notes (k.begun ++ begun_in (m ∷ [])) (k.begun ++ begun_at m.statement m.part) (k.things ++ things_in (m ∷ [])) (k.things ++ made_thing_at m.statement m.part)
     (k.waits ++ waits_in (m ∷ [])) (k.waits ++ wait_at m.statement m.part) (ap (λ z. k.begun ++ z) (append-nil (begun_at m.statement m.part)))
-    (ap (λ z. k.things ++ z) (append-nil (thing_at m.statement m.part))) (ap (λ z. k.waits ++ z) (append-nil (wait_at m.statement m.part)))
+    (ap (λ z. k.things ++ z) (append-nil (made_thing_at m.statement m.part))) (ap (λ z. k.waits ++ z) (append-nil (wait_at m.statement m.part)))
 
 -- ---- one statement
 

@@ -17,7 +17,7 @@ use Rattle.clock_text.specs.calls.ClockUnfolds.{GoesToEnd, UnfoldsFrom, after_pa
 use Rattle.clock_text.specs.calls.ProgramPoints.{ProgramPoint, behind, first_point}
 use Rattle.clock_text.proofs.PointComings.{comings_at, first_left, none_left, whole_body}
 use Rattle.clock_text.proofs.UnfoldsByPoints.{unfolding_is_unfolded}
-use Rattle.clock_origins.specs.ClockOrigins.{Begun, MadeThing, all_begun, begun_at, begun_by, begun_in, comings_by, thing_at, things_in, waits_in}
+use Rattle.clock_origins.specs.ClockOrigins.{Begun, MadeThing, all_begun, begun_at, begun_by, begun_in, comings_by, made_thing_at, things_in, waits_in}
 use Rattle.clock_origins.specs.calls.Values.{AreOriginsOf}
 
 -- ---- what comings add
@@ -31,7 +31,7 @@ record Adds (u w : ClockUnfolding) (ms : List ClockComing) : Type 0 where
 adds_both : (u v w : ClockUnfolding) (ms ns : List ClockComing) → Adds u v ms → Adds v w ns → Adds u w (ms ++ ns)
 adds_both u v w ms ns a b =
     let begins : begun_in (ms ++ ns) ≡ begun_in ms ++ begun_in ns = flat_map-append (λ (m : ClockComing). begun_at m.statement m.part) ms ns in
-    let makes : things_in (ms ++ ns) ≡ things_in ms ++ things_in ns = flat_map-append (λ (m : ClockComing). thing_at m.statement m.part) ms ns in
+    let makes : things_in (ms ++ ns) ≡ things_in ms ++ things_in ns = flat_map-append (λ (m : ClockComing). made_thing_at m.statement m.part) ms ns in
     record {
       begun = b.begun ∙ ap (λ z. z ++ begun_in ns) a.begun ∙ append_assoc (all_begun u) (begun_in ms) (begun_in ns) ∙ ap (λ z. all_begun u ++ z) (sym begins);
       parents = omega (arith, a.parents, b.parents, ap length begins, length-append (begun_in ms) (begun_in ns));
@@ -40,10 +40,10 @@ adds_both u v w ms ns a b =
 
 -- a part that starts nobody and makes nothing
 quiet : (u w : ClockUnfolding) (m : ClockComing) → w.starts ≡ u.starts → length w.parents ≡ length u.parents → length w.makers ≡ length u.makers →
-    begun_at m.statement m.part ≡ [] → thing_at m.statement m.part ≡ [] → Adds u w (m ∷ [])
+    begun_at m.statement m.part ≡ [] → made_thing_at m.statement m.part ≡ [] → Adds u w (m ∷ [])
 quiet u w m starts parents makers none nothing =
     let nobody : begun_in (m ∷ []) ≡ [] = append-nil (begun_at m.statement m.part) ∙ none in
-    let no_thing : things_in (m ∷ []) ≡ [] = append-nil (thing_at m.statement m.part) ∙ nothing in
+    let no_thing : things_in (m ∷ []) ≡ [] = append-nil (made_thing_at m.statement m.part) ∙ nothing in
     record {
       begun = ap (map begun_by) starts ∙ sym (append-nil (all_begun u)) ∙ ap (λ z. all_begun u ++ z) (sym nobody);
       parents = omega (arith, parents, ap length nobody);

@@ -23,10 +23,10 @@ begun_at n (an_async xs body) = record { first = n + 1; body = body } ∷ []
 begun_at n part = []
 
 -- the clock or finish that is made there
-abbrev pub thing_at : ℕ → ClockPart → List MadeThing
-thing_at n (a_plain (clock x)) = record { statement = n; name = Some x } ∷ []
-thing_at n a_finish = record { statement = n; name = None } ∷ []
-thing_at n part = []
+abbrev pub made_thing_at : ℕ → ClockPart → List MadeThing
+made_thing_at n (a_plain (clock x)) = record { statement = n; name = Some x } ∷ []
+made_thing_at n a_finish = record { statement = n; name = None } ∷ []
+made_thing_at n part = []
 
 -- statement n, where one waits there: an advance, or the end of a finish
 abbrev pub wait_at : ℕ → ClockPart → List ℕ
@@ -46,7 +46,7 @@ begun_in ms = flat_map (λ (m : ClockComing). begun_at m.statement m.part) ms
 
 -- the clocks and finishes that are made there, in order
 abbrev pub things_in : List ClockComing → List MadeThing
-things_in ms = flat_map (λ (m : ClockComing). thing_at m.statement m.part) ms
+things_in ms = flat_map (λ (m : ClockComing). made_thing_at m.statement m.part) ms
 
 -- the statements at which one waits there, in order
 abbrev pub waits_in : List ClockComing → List ℕ

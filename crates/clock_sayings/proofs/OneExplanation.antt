@@ -14,7 +14,7 @@ use Rattle.clock_syntax.specs.Trees.{ClockTree}
 use Rattle.clock_moves.specs.Unfolding.{ClockUnfolding}
 use Rattle.clock_origins.specs.ClockOffsets.{clock_offsets}
 use Rattle.clock_origins.specs.ClockOrigins.{Begun, MadeThing, all_begun, all_things, all_waits}
-use Rattle.clock_sayings.specs.ClockExplanations.{clock_lines, somebody_waits}
+use Rattle.clock_sayings.specs.ClockExplanations.{clock_lines, some_activity_waits}
 use Rattle.clock_sayings.specs.ClockFacts.{AreClockFacts, ClockFacts, ClockWait, IsWaitBy, is_await, pending_after}
 use Rattle.clock_sayings.specs.calls.Laws.{ClockExplanationExists, OneClockExplanation}
 use Rattle.clock_sayings.proofs.Told.{AreTold, one_list, told_all, told_more, told_none}
@@ -40,7 +40,7 @@ pub one_clock_explanation : OneClockExplanation
 one_clock_explanation file text p u plan a lines others waits other x y =
     let same = one_facts file text p u plan a x.facts y.facts x.are_facts y.are_facts in (
       x.lines_are ∙ ap clock_lines same ∙ sym y.lines_are,
-      x.waits_are ∙ ap (λ (f : ClockFacts). somebody_waits f.ends) same ∙ sym y.waits_are,
+      x.waits_are ∙ ap (λ (f : ClockFacts). some_activity_waits f.ends) same ∙ sym y.waits_are,
     )
 
 -- ---- some
@@ -77,7 +77,7 @@ clock_explanation_exists file text p u plan a =
       waits = ws;
     } in (
       clock_lines facts,
-      somebody_waits facts.ends,
+      some_activity_waits facts.ends,
       record {
         facts = facts;
         are_facts = record {

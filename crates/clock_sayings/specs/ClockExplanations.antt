@@ -13,7 +13,7 @@ use Rattle.clock_syntax.specs.Trees.{ClockTree}
 use Rattle.clock_moves.specs.Unfolding.{ClockUnfolding}
 use Rattle.clock_origins.specs.ClockOrigins.{Begun, MadeThing}
 use Rattle.clock_sayings.specs.ClockFacts.{AreClockFacts, ClockFacts, ClockWait}
-use Rattle.clock_sayings.specs.ClockWords.{activity_words, front_of, place_in, standing_words, waits_at}
+use Rattle.clock_sayings.specs.ClockWords.{activity_words, front_of, statement_place_words, standing_words, waits_at}
 
 -- ---- how activities stand
 
@@ -23,9 +23,9 @@ is_ended Done = true
 is_ended end = false
 
 -- it waits
-abbrev pub is_waiting : TaskEnd → Bool
-is_waiting (Blocked e) = true
-is_waiting end = false
+abbrev pub waits_there : TaskEnd → Bool
+waits_there (Blocked e) = true
+waits_there end = false
 
 -- it is not started
 abbrev pub is_unstarted : TaskEnd → Bool
@@ -38,11 +38,11 @@ ended_counts ends = codes "activities " ++ decimal (length ends) ++ codes " ende
 
 -- and behind it in the same line, waiting 2 unstarted 1
 abbrev pub waiting_counts : List TaskEnd → List ℕ
-waiting_counts ends = line (codes " waiting " ++ decimal (count_by is_waiting ends) ++ codes " unstarted " ++ decimal (count_by is_unstarted ends))
+waiting_counts ends = line (codes " waiting " ++ decimal (count_by waits_there ends) ++ codes " unstarted " ++ decimal (count_by is_unstarted ends))
 
 -- some activity waits
-abbrev pub somebody_waits : List TaskEnd → Bool
-somebody_waits ends = list_any is_waiting ends
+abbrev pub some_activity_waits : List TaskEnd → Bool
+some_activity_waits ends = list_any waits_there ends
 
 -- the line that says that none does
 abbrev pub nobody_line : Bool → List ℕ
@@ -64,6 +64,7 @@ abbrev pub missing_words : Option (List ℕ) → List ℕ → List ℕ
 missing_words (Some x) activity = codes "  the signal of " ++ activity ++ codes " is missing"
 missing_words None activity = codes "  " ++ activity ++ codes " has not ended"
 
+-- the line of activity u, which keeps one from going on at a clock of this name, or at the end of a finish: and where it waits itself
 abbrev pub missing_line : ClockFacts → Option (List ℕ) → ℕ → List ℕ
 missing_line f name u = line (missing_words name (activity_words f u) ++ standing_words f (waits_at f u))
 
@@ -71,6 +72,7 @@ missing_line f name u = line (missing_words name (activity_words f u) ++ standin
 abbrev pub line_if_missing : ClockFacts → Event → Option (List ℕ) → Status → List ℕ
 line_if_missing f e name s = if is_missing e s then missing_line f name s.t.0 else []
 
+-- the lines of all activities that wait and keep the event from being reached, in order
 abbrev pub missing_lines : ClockFacts → Event → Option (List ℕ) → List ℕ
 missing_lines f e name = flat_map (line_if_missing f e name) f.blocked
 
@@ -82,14 +84,15 @@ lines_below l zero = []
 lines_below l (suc n) = lines_below l n ++ l n
 
 -- clock c made at 1:1
-abbrev pub clock_words : ClockFacts → List ℕ → ℕ → List ℕ
-clock_words f x n = codes "clock " ++ x ++ codes " made at " ++ place_in f n
+abbrev pub made_clock_words : ClockFacts → List ℕ → ℕ → List ℕ
+made_clock_words f x n = codes "clock " ++ x ++ codes " made at " ++ statement_place_words f n
 
 -- a clock of this name, made at statement n, that is pending; a finish has no such line
 abbrev pub pending_named : ClockFacts → Option (List ℕ) → ℕ → List ℕ
 pending_named f None n = []
-pending_named f (Some x) n = line (codes "  resume left " ++ clock_words f x n ++ codes " pending")
+pending_named f (Some x) n = line (codes "  resume left " ++ made_clock_words f x n ++ codes " pending")
 
+-- the line of this clock, if there is such a clock
 abbrev pub pending_line : ClockFacts → Option MadeThing → List ℕ
 pending_line f None = []
 pending_line f (Some thing) = pending_named f thing.name thing.statement
@@ -103,6 +106,7 @@ pending_in (Some w) = w.pending
 abbrev pub line_if_pending : ClockFacts → Event → List Bool → ℕ → List ℕ
 line_if_pending f e row p = if slice_index_or row p false && not (p == e.p.0) then pending_line f (slice_get f.things p) else []
 
+-- the lines of all that is pending where activity t waits, in order
 abbrev pub pending_lines : ClockFacts → Event → ℕ → List ℕ
 pending_lines f e t = lines_below (line_if_pending f e (pending_in (slice_get f.waits t))) (length f.things)
 
@@ -110,8 +114,8 @@ pending_lines f e t = lines_below (line_if_pending f e (pending_in (slice_get f.
 
 -- for what one waits: at its advance for phase 1 of clock c made at 1:1, or at the end of the finish at 2:1
 abbrev pub wait_words : ClockFacts → Event → Option (List ℕ) → ℕ → List ℕ
-wait_words f e (Some x) n = codes " waits at its advance for phase " ++ decimal e.n ++ codes " of " ++ clock_words f x n
-wait_words f e None n = codes " waits at the end of the finish at " ++ place_in f n
+wait_words f e (Some x) n = codes " waits at its advance for phase " ++ decimal e.n ++ codes " of " ++ made_clock_words f x n
+wait_words f e None n = codes " waits at the end of the finish at " ++ statement_place_words f n
 
 -- the paragraph of activity t, which waits for the event of this clock or finish
 abbrev pub waiting_paragraph : ClockFacts → ℕ → Event → MadeThing → List ℕ
@@ -135,25 +139,25 @@ abbrev pub unstarted_line : ClockFacts → ℕ → List ℕ
 unstarted_line f t = line (front_of f (started_at (slice_get f.begun t)) ++ activity_words f t ++ codes " is not started")
 
 -- what is said of activity t, which has ended so
-abbrev pub paragraph : ClockFacts → ℕ → TaskEnd → List ℕ
-paragraph f t (Blocked e) = paragraph_of_thing f t e (slice_get f.things e.p.0)
-paragraph f t Unforked = unstarted_line f t
-paragraph f t Done = []
-paragraph f t (Refused e) = []
+abbrev pub activity_paragraph : ClockFacts → ℕ → TaskEnd → List ℕ
+activity_paragraph f t (Blocked e) = paragraph_of_thing f t e (slice_get f.things e.p.0)
+activity_paragraph f t Unforked = unstarted_line f t
+activity_paragraph f t Done = []
+activity_paragraph f t (Refused e) = []
 
 -- the same by its number; none where there is no such activity
 abbrev pub paragraph_at : ClockFacts → ℕ → List ℕ
-paragraph_at f t = paragraph f t (slice_index_or f.ends t Done)
+paragraph_at f t = activity_paragraph f t (slice_index_or f.ends t Done)
 
 -- ---- the explanation
 
 -- all lines
 abbrev pub clock_lines : ClockFacts → List ℕ
-clock_lines f = ended_counts f.ends ++ waiting_counts f.ends ++ nobody_line (somebody_waits f.ends) ++ lines_below (paragraph_at f) (length f.ends)
+clock_lines f = ended_counts f.ends ++ waiting_counts f.ends ++ nobody_line (some_activity_waits f.ends) ++ lines_below (paragraph_at f) (length f.ends)
 
 -- the lines explain how the activities of a text, of the file with this name or of none, stand at these places of the plan of its program's unfolding
-pub record ExplainsClocks (file : Option (List ℕ)) (text : List ℕ) (p : ClockTree) (u : ClockUnfolding) (plan : Plan) (a : ℕ → Place) (lines : List ℕ) (waits : Bool) : Type 0 where
+pub record ExplainsActivities (file : Option (List ℕ)) (text : List ℕ) (p : ClockTree) (u : ClockUnfolding) (plan : Plan) (a : ℕ → Place) (lines : List ℕ) (waits : Bool) : Type 0 where
   pub facts : ClockFacts
   pub are_facts : AreClockFacts file text p u plan a facts
   pub lines_are : lines ≡ clock_lines facts
-  pub waits_are : waits ≡ somebody_waits facts.ends
+  pub waits_are : waits ≡ some_activity_waits facts.ends

@@ -13,28 +13,29 @@ abbrev pub offset_or_end : List ℕ → Option ℕ → ℕ
 offset_or_end text None = length text
 offset_or_end text (Some offset) = offset
 
+-- the offset of statement n, counted from 1; for 0 the end of the text
 abbrev pub offset_of : List ℕ → List ℕ → ℕ → ℕ
 offset_of text offsets zero = length text
 offset_of text offsets (suc i) = offset_or_end text (slice_get offsets i)
 
 -- the place of statement n
-abbrev pub statement_place : ClockFacts → ℕ → TextPlace
-statement_place f n = text_place f.text (offset_of f.text f.offsets n)
+abbrev pub clock_statement_place : ClockFacts → ℕ → TextPlace
+clock_statement_place f n = text_place f.text (offset_of f.text f.offsets n)
 
 -- the place within a line
-abbrev pub place_in : ClockFacts → ℕ → List ℕ
-place_in f n = place_words f.text (statement_place f n)
+abbrev pub statement_place_words : ClockFacts → ℕ → List ℕ
+statement_place_words f n = place_words f.text (clock_statement_place f n)
 
 -- the place with which a line begins, of a statement or else of none
 abbrev pub front_of : ClockFacts → Option ℕ → List ℕ
 front_of f None = []
-front_of f (Some n) = front_words f.text f.file (statement_place f n) ++ codes ": "
+front_of f (Some n) = front_words f.text f.file (clock_statement_place f n) ++ codes ": "
 
 -- ---- activities
 
 -- where an activity is started by an async, the number of its statement given
 abbrev pub async_words : ClockFacts → ℕ → List ℕ
-async_words f n = if n == 0 then [] else codes " (async at " ++ place_in f n ++ codes ")"
+async_words f n = if n == 0 then [] else codes " (async at " ++ statement_place_words f n ++ codes ")"
 
 -- where it is started, if there is such an activity
 abbrev pub started_words : ClockFacts → Option Begun → List ℕ
@@ -48,14 +49,15 @@ activity_words f t = codes "activity " ++ decimal t ++ started_words f (slice_ge
 -- ---- where an activity waits
 
 -- the statement at which it waits, if there is such an activity
-abbrev pub statement_in : Option ClockWait → Option ℕ
-statement_in None = None
-statement_in (Some w) = w.statement
+abbrev pub wait_statement : Option ClockWait → Option ℕ
+wait_statement None = None
+wait_statement (Some w) = w.statement
 
+-- the statement at which activity t waits
 abbrev pub waits_at : ClockFacts → ℕ → Option ℕ
-waits_at f t = statement_in (slice_get f.waits t)
+waits_at f t = wait_statement (slice_get f.waits t)
 
 -- : it waits at 5:5
 abbrev pub standing_words : ClockFacts → Option ℕ → List ℕ
 standing_words f None = []
-standing_words f (Some n) = codes ": it waits at " ++ place_in f n
+standing_words f (Some n) = codes ": it waits at " ++ statement_place_words f n

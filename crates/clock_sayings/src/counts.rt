@@ -1,6 +1,6 @@
 // How activities stand.
 ghost use Rattle.std.specs.Prelude.{◌≡◌, ◌++◌, OnOk, count_by};
-ghost use Rattle.clock_sayings.specs.ClockExplanations.{ended_counts, is_ended, is_unstarted, is_waiting, nobody_line, somebody_waits, waiting_counts};
+ghost use Rattle.clock_sayings.specs.ClockExplanations.{ended_counts, is_ended, is_unstarted, waits_there, nobody_line, some_activity_waits, waiting_counts};
 
 use crate::words::{put_number, put_words};
 use armus_base::{NoMemory, TaskEnd};
@@ -17,7 +17,7 @@ fn count_ended(ends: &[TaskEnd]) -> usize
 
 // How many wait.
 fn count_waiting(ends: &[TaskEnd]) -> usize
-    ensures { result ≡ count_by is_waiting ends.now }
+    ensures { result ≡ count_by waits_there ends.now }
 {
     ends.iter()
         .filter(|end| matches!(end, TaskEnd::Blocked(_)))
@@ -65,7 +65,7 @@ pub(crate) fn put_counts(alloc: Global, out: &mut Vec<u8>, ends: &[TaskEnd]) -> 
 
 // Whether some activity waits.
 pub(crate) fn somebody_waits(ends: &[TaskEnd]) -> bool
-    ensures { result ≡ somebody_waits ends.now }
+    ensures { result ≡ some_activity_waits ends.now }
 {
     ends.iter().any(|end| matches!(end, TaskEnd::Blocked(_)))
 }

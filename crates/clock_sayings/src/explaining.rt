@@ -8,7 +8,7 @@ ghost use Rattle.clock_moves.specs.Unfolding.{ClockUnfolding, clock_unfolded};
 ghost use Rattle.clock_origins.specs.ClockOffsets.{clock_offsets};
 ghost use Rattle.clock_origins.specs.calls.Values.{AreOriginsOf};
 ghost use Rattle.clock_sayings.specs.ClockFacts.{ClockFacts};
-ghost use Rattle.clock_sayings.specs.ClockExplanations.{ExplainsClocks, clock_lines, somebody_waits};
+ghost use Rattle.clock_sayings.specs.ClockExplanations.{ExplainsActivities, clock_lines, some_activity_waits};
 
 use crate::counts::{put_counts, put_nobody, somebody_waits};
 use crate::facts::{Facts, Layout, Wait};
@@ -32,7 +32,7 @@ pub struct ClockExplanation {
 // Explains what is known.
 fn explain_facts(facts: &Facts<'_>) -> Result<ClockExplanation, NoMemory>
     ensures lines { IfOk result (λ e. e.lines ≡ clock_lines facts.now) }
-    ensures waits { IfOk result (λ e. e.has_waiting ≡ somebody_waits facts.now.ends) }
+    ensures waits { IfOk result (λ e. e.has_waiting ≡ some_activity_waits facts.now.ends) }
 {
     let ends = facts.end.ends.as_slice();
     let somebody = somebody_waits(ends);
@@ -83,7 +83,7 @@ fn explain_waits(
       ends = end.now.ends;
       blocked = end.now.blocked;
       waits = waits.items;
-    } → (e.lines ≡ clock_lines f) × (e.has_waiting ≡ somebody_waits f.ends)) }
+    } → (e.lines ≡ clock_lines f) × (e.has_waiting ≡ some_activity_waits f.ends)) }
 {
     let facts = Facts::new(alloc, places, file, layout, end, waits);
     let explanation = explain_facts(&facts)?;
@@ -106,7 +106,7 @@ pub fn clock_explanation_of(
     requires unfolds { (u : ClockUnfolding) × (clock_unfolded program.now.body ≡ Ok u) }
     requires end { end.now ≡ final_of world.now.plan (state_of world.now) }
     ensures { IfOk result (λ e. (u : ClockUnfolding) → clock_unfolded program.now.body ≡ Ok u →
-        ExplainsClocks (option_copied file.entry) places.now program.now.body u world.now.plan (places_of world.now) e.lines e.has_waiting) }
+        ExplainsActivities (option_copied file.entry) places.now program.now.body u world.now.plan (places_of world.now) e.lines e.has_waiting) }
 {
     let _plan = world.plan();
     let layout = layout_of(alloc, places.text(), program)?;

@@ -1,7 +1,7 @@
 // What is said of each activity.
 ghost use Rattle.std.specs.Prelude.{◌≡◌, ◌++◌, OnOk, length, option_copied, option_map, slice_index_or};
 ghost use Rattle.armus_base.specs.declared.ending.TaskEnd.TheVariants.{Done};
-ghost use Rattle.clock_sayings.specs.ClockExplanations.{lines_below, paragraph, paragraph_at, paragraph_of_thing, started_at, unstarted_line, wait_words, waiting_paragraph};
+ghost use Rattle.clock_sayings.specs.ClockExplanations.{lines_below, activity_paragraph, paragraph_at, paragraph_of_thing, started_at, unstarted_line, wait_words, waiting_paragraph};
 
 use crate::facts::Facts;
 use crate::words::{put_number, put_words};
@@ -89,7 +89,7 @@ impl<'a> Facts<'a> {
 
     // Appends what is said of activity `t`, which has ended so.
     fn put_paragraph(&self, out: &mut Vec<u8>, t: u32, end: TaskEnd) -> Result<(), NoMemory>
-        ensures { OnOk result (out.new.items ≡ out.old.items ++ paragraph self.now t end) }
+        ensures { OnOk result (out.new.items ≡ out.old.items ++ activity_paragraph self.now t end) }
     {
         match end {
             TaskEnd::Blocked(event) => {

@@ -1,7 +1,7 @@
 // Words for places and activities, and for clocks.
 ghost use Rattle.std.specs.Prelude.{◌≡◌, ◌++◌, ℕ, List, OnOk, decimal, length, option_copied};
-ghost use Rattle.clock_sayings.specs.ClockWords.{activity_words, async_words, front_of, offset_of, place_in, standing_words, started_words, statement_place};
-ghost use Rattle.clock_sayings.specs.ClockExplanations.{clock_words};
+ghost use Rattle.clock_sayings.specs.ClockWords.{activity_words, async_words, front_of, offset_of, statement_place_words, standing_words, started_words, clock_statement_place};
+ghost use Rattle.clock_sayings.specs.ClockExplanations.{made_clock_words};
 
 use crate::facts::Facts;
 use armus_base::NoMemory;
@@ -42,7 +42,7 @@ pub(crate) fn offset_of(offsets: &[u32], end: u32, n: u32) -> u32
 impl<'a> Facts<'a> {
     // The place of statement `n`.
     fn statement(&self, n: u32) -> TextPlace
-        ensures { result ≡ statement_place self.now n }
+        ensures { result ≡ clock_statement_place self.now n }
     {
         let end = self.places.text().len() as u32;
         self.places
@@ -51,7 +51,7 @@ impl<'a> Facts<'a> {
 
     // Appends the place of statement `n` within a line.
     pub(crate) fn put_place(&self, out: &mut Vec<u8>, n: u32) -> Result<(), NoMemory>
-        ensures { OnOk result (out.new.items ≡ out.old.items ++ place_in self.now n) }
+        ensures { OnOk result (out.new.items ≡ out.old.items ++ statement_place_words self.now n) }
     {
         self.places.put(self.alloc, out, self.statement(n))
     }
@@ -112,7 +112,7 @@ impl<'a> Facts<'a> {
 
     // Appends a clock of this name, made at statement `n`.
     pub(crate) fn put_clock(&self, out: &mut Vec<u8>, x: &[u8], n: u32) -> Result<(), NoMemory>
-        ensures { OnOk result (out.new.items ≡ out.old.items ++ clock_words self.now x.now n) }
+        ensures { OnOk result (out.new.items ≡ out.old.items ++ made_clock_words self.now x.now n) }
     {
         put_words(out, b"clock ")?;
         put_words(out, x)?;

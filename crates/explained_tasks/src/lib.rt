@@ -17,3 +17,4 @@ pub use laws::{
     says_what_is_so, somebody_waits, walks_end,
 };
 pub use outcome::Verdict;
+pub use paragraphs::put_paragraphs;

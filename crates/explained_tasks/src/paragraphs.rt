@@ -183,7 +183,7 @@ fn put_grouped(
 }
 
 /// Appends all paragraphs, where these tasks are shown.
-pub(crate) fn put_paragraphs(
+pub fn put_paragraphs(
     facts: &Facts,
     out: &mut Vec<u8>,
     world: &World,

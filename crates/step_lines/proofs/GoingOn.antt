@@ -32,7 +32,7 @@ use Rattle.step_lines.specs.calls.SteppedRuns.{IsSteppedRun}
 use Rattle.step_lines.specs.declared.facts.StepFacts.{StepFacts}
 use Rattle.step_lines.specs.declared.stepping.SteppedRun.{SteppedRun}
 use Rattle.step_lines.specs.declared.stepping.Stepping.{Stepping}
-use Rattle.step_lines.specs.inside.Known.{AreKnownFacts, kept_layout}
+use Rattle.step_lines.specs.calls.Known.{AreKnownFacts, kept_layout}
 use Rattle.step_lines.specs.inside.SoFar.{HasNextLine, IsSoFar, next_line}
 
 -- ---- which steps are shown

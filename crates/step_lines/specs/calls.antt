@@ -1,3 +1,4 @@
+pub mod Known
 pub mod SerialRuns
 pub mod SteppedRuns
 pub mod Laws

@@ -8,7 +8,7 @@ ghost use Rattle.pl_core.specs.calls.Worlds.{action_by_code, places_of, state_of
 ghost use Rattle.pl_core.specs.inside.Ops.{action_of};
 ghost use Rattle.task_sayings.specs.Places.{said_of};
 ghost use Rattle.step_lines.specs.StepWords.{change_words, phase_change, made_phaser_words, drawn_task_words, waits_words, with_phase_words};
-ghost use Rattle.step_lines.specs.inside.Known.{AreKnownFacts};
+ghost use Rattle.step_lines.specs.calls.Known.{AreKnownFacts};
 ghost use Rattle.step_lines.specs.inside.SoFar.{IsNoAwait};
 
 use crate::facts::StepFacts;

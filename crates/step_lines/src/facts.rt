@@ -4,7 +4,7 @@ ghost use Rattle.pl_plan.specs.Forks.{fork_statements};
 ghost use Rattle.pl_syntax.specs.Grammar.{IsText};
 ghost use Rattle.pl_syntax.specs.Tree.{count};
 ghost use Rattle.accounts.specs.Accounts.{brace_of, end_place, numbered, place_or_end, statement_place};
-ghost use Rattle.step_lines.specs.inside.Known.{AreKnownFacts, kept_layout};
+ghost use Rattle.step_lines.specs.calls.Known.{AreKnownFacts, kept_layout};
 
 use armus_base::{List, NoMemory};
 use origins::Origins;
@@ -14,13 +14,19 @@ use text_places::{TextPlace, TextPlaces};
 
 /// What is known from a text alone: where its statements and the bodies of these stand, and from which of them tasks, phasers and ops come.
 #[derive(Drop)]
-pub(crate) struct StepFacts<'a> {
-    pub(crate) alloc: Global,
-    pub(crate) places: &'a TextPlaces<'a>,
-    pub(crate) program: &'a Program,
-    pub(crate) origins: Origins<'a>,
-    pub(crate) offsets: List<u32>,
-    pub(crate) ends: List<Option<u32>>,
+pub struct StepFacts<'a> {
+    /// The allocator.
+    pub alloc: Global,
+    /// The places of the text.
+    pub places: &'a TextPlaces<'a>,
+    /// Its program.
+    pub program: &'a Program,
+    /// From which statements ops, phasers and tasks come.
+    pub origins: Origins<'a>,
+    /// The offset of each statement, in order of number.
+    pub offsets: List<u32>,
+    /// The offset of the brace that closes the body of each statement, in order of number.
+    pub ends: List<Option<u32>>,
 }
 
 // The place of this byte of the text, and the end of the text where there is none.
@@ -57,8 +63,8 @@ fn end_at(ends: &[Option<u32>], n: u32) -> Option<u32>
 }
 
 impl<'a> StepFacts<'a> {
-    // What is known of this text and its program, by the forks that `unfold` answers.
-    pub(crate) fn new(
+    /// What is known of this text and its program, by the forks that `unfold` answers.
+    pub fn new(
         alloc: Global,
         places: &'a TextPlaces<'a>,
         program: &'a Program,
@@ -84,8 +90,8 @@ impl<'a> StepFacts<'a> {
         })
     }
 
-    // The place of a statement.
-    pub(crate) fn statement(&self, n: u32) -> TextPlace
+    /// The place of a statement; the end of the text where it has none of this number.
+    pub fn statement(&self, n: u32) -> TextPlace
         ensures { result ≡ statement_place (kept_layout self.now) n }
     {
         place_or_end(self.places, offset_at(self.offsets.as_slice(), n))

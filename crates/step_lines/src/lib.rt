@@ -7,5 +7,7 @@ mod laws;
 mod stepping;
 mod words;
 
+pub use facts::StepFacts;
 pub use laws::{one_serial_run, one_showing, serial_run_replays};
 pub use stepping::{MOST_SHOWN, SteppedRun, step_through};
+pub use words::put_statement;

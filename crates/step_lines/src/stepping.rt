@@ -7,7 +7,7 @@ ghost use Rattle.pl_syntax.specs.Grammar.{IsText};
 ghost use Rattle.pl_syntax.specs.Tree.{count};
 ghost use Rattle.step_lines.specs.ShownSteps.{most_shown, more_steps_line};
 ghost use Rattle.step_lines.specs.calls.SteppedRuns.{IsSteppedRun};
-ghost use Rattle.step_lines.specs.inside.Known.{AreKnownFacts, kept_layout};
+ghost use Rattle.step_lines.specs.calls.Known.{AreKnownFacts, kept_layout};
 ghost use Rattle.step_lines.specs.inside.SoFar.{HasNextLine, IsSoFar};
 
 use crate::facts::StepFacts;

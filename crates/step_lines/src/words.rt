@@ -8,7 +8,7 @@ ghost use Rattle.accounts.specs.Accounts.{end_place};
 ghost use Rattle.accounts.specs.AwaitWords.{await_text};
 ghost use Rattle.task_sayings.specs.Places.{said_of};
 ghost use Rattle.step_lines.specs.StepWords.{given_name, given_name_words, made_phaser_words, statement_words, drawn_task_words, whence_words};
-ghost use Rattle.step_lines.specs.inside.Known.{AreKnownFacts, kept_layout};
+ghost use Rattle.step_lines.specs.calls.Known.{AreKnownFacts, kept_layout};
 
 use crate::facts::StepFacts;
 use armus_base::{NoMemory, Offset, PhaserId, TaskId};
@@ -82,8 +82,8 @@ fn put_await(alloc: Global, out: &mut Vec<u8>, x: &Name, off: Offset) -> Result<
     put_words(out, b")")
 }
 
-// Appends a statement that makes an op, without its semicolon and its body.
-fn put_statement(alloc: Global, out: &mut Vec<u8>, stmt: Option<&Stmt>) -> Result<(), NoMemory>
+/// Appends a statement that makes an op, without its semicolon and its body.
+pub fn put_statement(alloc: Global, out: &mut Vec<u8>, stmt: Option<&Stmt>) -> Result<(), NoMemory>
     ensures { OnOk result (out.new.items ≡ out.old.items ++ statement_words (option_map (λ s. coming_of s.now) stmt.entry)) }
 {
     match stmt {
@@ -113,8 +113,8 @@ impl<'a> StepFacts<'a> {
         }
     }
 
-    // Appends a task.
-    pub(crate) fn put_task(&self, out: &mut Vec<u8>, t: TaskId) -> Result<(), NoMemory>
+    /// Appends a task with its name: `t3 (worker)`.
+    pub fn put_task(&self, out: &mut Vec<u8>, t: TaskId) -> Result<(), NoMemory>
         requires known { AreKnownFacts self.now }
         ensures { OnOk result (out.new.items ≡ out.old.items ++ drawn_task_words self.now.program.now t.0) }
     {

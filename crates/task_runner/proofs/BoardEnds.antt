@@ -13,12 +13,12 @@ use Rattle.pl_core.specs.declared.place.Place.{Place as KeptPlace}
 use Rattle.pl_core.specs.calls.Worlds.{places_at}
 use Rattle.board.specs.declared.mode.Mode.TheVariants.{Detect}
 use Rattle.board.specs.calls.Closing.{AreLastOf}
-use Rattle.board.specs.calls.Seats.{Frame, IsOf, Known}
+use Rattle.board.specs.calls.Seats.{Frame, IsOf, Known, event_of}
 use Rattle.board.specs.calls.Views.{avoids, own_place, seen}
 use Rattle.board.specs.calls.Words.{IsShown}
 use Rattle.board.proofs.Seated.{event_here}
 use Rattle.phase_scan.specs.calls.Looks.{LoadsAlone}
-use Rattle.board_rounds.specs.calls.Turns.{EndsTurn, HasEndedTurn, Working, is_behind, is_done, is_locked_out, is_refused, standing_of}
+use Rattle.board_rounds.specs.calls.Turns.{EndsTurn, EndsTurnWithin, HasEndedTurn, StandsAtAwait, Working, is_behind, is_done, is_locked_out, is_refused, standing_of}
 use Rattle.board_rounds.specs.calls.TaskSeats.{ArePlacesOf, AreTaskSeats, IsSeatIn, KnowsTasks, number}
 use Rattle.task_runner.specs.calls.DetectRuns.{AreSettledPlaces}
 use Rattle.task_runner.proofs.BoardPlaces.{at_places, stands, whose}
@@ -93,17 +93,35 @@ module _ (f : Frame) (detects : f.mode ≡ Detect) (tasks : List Working) (board
       ap (λ (q : Plan). published_after q (number w) (own_place w.seat.view).done) (sym s.of_board.plan) ∙ sym (event_here w.seat s.task s.own) ∙ published in
       inr (subst (λ o. IsSome o) (sym is) refl)
 
+  at_await :
+      (w : Working) → Contains tasks w → StandsAtAwait w.seat → (action_at f.plan (number w) (own_place w.seat.view).done ≡ None)
+      ⊎ IsSome (published_after f.plan (number w) (own_place w.seat.view).done)
+  at_await w i (inl published) =
+      let s = board_tasks.each w.seat (w, i, refl) in
+      let is : published_after f.plan (number w) (own_place w.seat.view).done ≡ event_of w.seat =
+      ap (λ (q : Plan). published_after q (number w) (own_place w.seat.view).done) (sym s.of_board.plan) ∙ sym (event_here w.seat s.task s.own) in
+      inr (subst (λ o. IsSome o) (sym is) published)
+  at_await w i (inr before) =
+      let s = board_tasks.each w.seat (w, i, refl) in
+      absurd (false≢true (sym (ap avoids (s.of_board.mode ∙ detects)) ∙ before.0))
+
+  ended_within :
+      (w : Working) → Contains tasks w → (bound loads : ℕ) (since : Known) → EndsTurnWithin bound loads since w.seat →
+      (action_at f.plan (number w) (own_place w.seat.view).done ≡ None) ⊎ IsSome (published_after f.plan (number w) (own_place w.seat.view).done)
+  ended_within w i bound loads since (inl ends) = ended w i since ends
+  ended_within w i bound loads since (inr cut) = at_await w i cut.2
+
   -- where all of them have come to the end of their turns
-  pub settled : All (λ (w : Working). HasEndedTurn w.seat) tasks → AreSettledPlaces f.plan (places_at f.plan places)
-  settled ends =
+  pub settled : (bound : ℕ) → All (λ (w : Working). HasEndedTurn bound w.seat) tasks → AreSettledPlaces f.plan (places_at f.plan places)
+  settled bound ends =
       subst (AreSettledPlaces f.plan) (sym there)
       (λ t forked.
       let r = owner t forked in
       let place : own_place r.0.seat.view ≡ a t = sym (stood r.0 r.1) ∙ ap a r.2 in
       let turn = all_each tasks ends r.0 r.1 in
-      let e = ended r.0 r.1 turn.0 turn.1 in
+      let e = ended_within r.0 r.1 bound turn.1 turn.0 turn.2 in
       subst (λ u. (action_at f.plan u (a t).done ≡ None) ⊎ IsSome (published_after f.plan u (a t).done)) r.2
       (subst (λ (b : Place). (action_at f.plan (number r.0) b.done ≡ None) ⊎ IsSome (published_after f.plan (number r.0) b.done)) place e))
     where
-      all_each : (ws : List Working) → All (λ (w : Working). HasEndedTurn w.seat) ws → (w : Working) → Contains ws w → HasEndedTurn w.seat
-      all_each ws all w i = subst (λ (v : Working). HasEndedTurn v.seat) i.2 (all i.0 w i.1)
+      all_each : (ws : List Working) → All (λ (w : Working). HasEndedTurn bound w.seat) ws → (w : Working) → Contains ws w → HasEndedTurn bound w.seat
+      all_each ws all w i = subst (λ (v : Working). HasEndedTurn bound v.seat) i.2 (all i.0 w i.1)

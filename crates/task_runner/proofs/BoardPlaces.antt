@@ -4,6 +4,7 @@ use Rattle.std.proofs.Common.{◌≡◌, ◌≢◌, ℕ, zero, suc, ◌<◌, ◌
 use Rattle.std.specs.Prelude.{All, Contains, IsSome, is_some, slice_get}
 use Rattle.std.proofs.lemmas.Bool.{cases_lt, false≢true}
 use Rattle.std.proofs.lemmas.List.{get_or_past}
+use Rattle.armus_base.specs.declared.event.Event.{Event}
 use Rattle.armus_base.specs.calls.Boards.{IsLawful}
 use Rattle.armus_base.specs.CheckedPlans.{IsCheckedPlan}
 use Rattle.armus_base.specs.Plans.{Blocks, Forks, Plan, parent_of}
@@ -20,13 +21,14 @@ use Rattle.pl_core.specs.declared.place.Place.{Place as KeptPlace}
 use Rattle.pl_core.specs.calls.Worlds.{dropped_at, memberships, place_from, places_at}
 use Rattle.board.specs.declared.mode.Mode.{Mode}
 use Rattle.board.specs.calls.Closing.{AreLastOf}
-use Rattle.board.specs.calls.Seats.{Frame, IsOf, IsSeat, Known}
+use Rattle.board.specs.calls.Seats.{Frame, IsOf, IsSeat, Known, event_of}
 use Rattle.board.specs.calls.Views.{avoids, own_place, seen}
 use Rattle.board.proofs.Closing.{some_task}
 use Rattle.board.proofs.Seated.{event_here, next_there}
+use Rattle.board.proofs.Walking.{published_is}
 use Rattle.phase_scan.specs.calls.Looks.{LoadsAlone}
 use Rattle.phase_scan.proofs.Loads.{goes_itself}
-use Rattle.board_rounds.specs.calls.Turns.{EndsTurn, HasEndedTurn, HasLeftAll, Working, is_behind, is_done, is_locked_out, is_refused, standing_of}
+use Rattle.board_rounds.specs.calls.Turns.{EndsTurn, EndsTurnWithin, HasEndedTurn, HasLeftAll, StandsAtAwait, Working, is_behind, is_done, is_locked_out, is_refused, standing_of}
 use Rattle.board_rounds.specs.calls.TaskSeats.{ArePlacesOf, IsClosed, AreTaskSeats, AreTaskSeatsOf, IsSeatIn, KnowsTasks, number}
 use Rattle.board_rounds.proofs.Closed.{all_exact}
 
@@ -87,18 +89,31 @@ module _ (f : Frame) (mode : Mode) (tasks : List Working) (board_tasks : AreTask
       undropped None e = e
       undropped (Some q) e = (let w = whose t (consistent.refused t q e).0 in absurd (none w.0 w.1 w.2))
 
-  -- a task whose turn has ended, and that is refused, is a member of nothing
-  pub has_left : (w : Working) → Contains tasks w → (since : Known) → EndsTurn since w.seat → IsSome (own_place w.seat.view).dropped → HasLeftAll w.seat
-  has_left w i since (is_done done) some = absurd (false≢true (subst IsSome done.unrefused some))
-  has_left w i since (is_refused left) some = left
-  has_left w i since (is_locked_out u mode at other may held) some = absurd (false≢true (subst IsSome (next_there w.seat.view (Blocks at.0) at.1).0 some))
-  has_left w i since (is_behind e published few behind found) some =
+  -- whose event is published is not refused
+  unrefused_there : (w : Working) → Contains tasks w → (e : Event) → event_of w.seat ≡ Some e → (own_place w.seat.view).dropped ≡ None
+  unrefused_there w i e published =
       let s = board_tasks.each w.seat (w, i, refl) in
       let is : published_after f.plan (number w) (a (number w)).done ≡ Some e =
       ap (λ (b : Place). published_after f.plan (number w) b.done) (stands w i)
       ∙ ap (λ (q : Plan). published_after q (number w) (own_place w.seat.view).done) (sym s.of_board.plan) ∙ sym (event_here w.seat s.task s.own) ∙ published in
-      let none : (own_place w.seat.view).dropped ≡ None = ap (λ (b : Place). b.dropped) (sym (stands w i)) ∙ published_undropped f.plan a consistent (number w) e is in
-      absurd (false≢true (subst IsSome none some))
+      ap (λ (b : Place). b.dropped) (sym (stands w i)) ∙ published_undropped f.plan a consistent (number w) e is
+
+  unrefused_at_await : (w : Working) → Contains tasks w → StandsAtAwait w.seat → (own_place w.seat.view).dropped ≡ None
+  unrefused_at_await w i (inl published) = (let e = published_is (event_of w.seat) published in unrefused_there w i e.0 e.1)
+  unrefused_at_await w i (inr before) = (next_there w.seat.view (Blocks before.1.0) before.1.1).0
+
+  -- a task whose turn has ended, and that is refused, is a member of nothing
+  has_left : (w : Working) → Contains tasks w → (since : Known) → EndsTurn since w.seat → IsSome (own_place w.seat.view).dropped → HasLeftAll w.seat
+  has_left w i since (is_done done) some = absurd (false≢true (subst IsSome done.unrefused some))
+  has_left w i since (is_refused left) some = left
+  has_left w i since (is_locked_out u mode at other may held) some = absurd (false≢true (subst IsSome (next_there w.seat.view (Blocks at.0) at.1).0 some))
+  has_left w i since (is_behind e published few behind found) some = absurd (false≢true (subst IsSome (unrefused_there w i e published) some))
+
+  pub has_left_within :
+      (w : Working) → Contains tasks w → (bound loads : ℕ) (since : Known) → EndsTurnWithin bound loads since w.seat → IsSome (own_place w.seat.view).dropped →
+      HasLeftAll w.seat
+  has_left_within w i bound loads since (inl ends) some = has_left w i since ends some
+  has_left_within w i bound loads since (inr cut) some = absurd (false≢true (subst IsSome (unrefused_at_await w i cut.2) some))
 
   -- where refused tasks are members of nothing, the places that the seats tell are those of the board
   module _ (places : List KeptPlace) (are : ArePlacesOf f.plan tasks places)
@@ -162,13 +177,14 @@ module _ (f : Frame) (mode : Mode) (tasks : List Working) (board_tasks : AreTask
 -- where all turns have ended, the places that the seats tell are lawful, and those of the board
 pub lawful_end :
     (f : Frame) (mode : Mode) (tasks : List Working) → AreTaskSeatsOf f tasks → (view : Known) → IsSeat view → KnowsTasks f tasks view → IsOf view f → (words : List ℕ) →
-    AreLastOf f.plan mode (seen view.view) words → All (λ (w : Working). HasEndedTurn w.seat) tasks → (places : List KeptPlace) → ArePlacesOf f.plan tasks places →
+    AreLastOf f.plan mode (seen view.view) words → (bound : ℕ) → All (λ (w : Working). HasEndedTurn bound w.seat) tasks → (places : List KeptPlace) →
+    ArePlacesOf f.plan tasks places →
     (lock : Option ℕ) × IsLawful (avoids mode) f.plan (places_at f.plan places) lock
-lawful_end f mode tasks whole view seat known of words end ends places are =
+lawful_end f mode tasks whole view seat known of words end bound ends places are =
     let still = goes_itself view seat in (
       end.last.lock,
       lawful_there f mode tasks whole.board_tasks view view known still of words end places are
           (λ w i.
-          let turn = subst (λ (v : Working). HasEndedTurn v.seat) i.2 (ends i.0 w i.1) in
-          has_left f mode tasks whole.board_tasks view view known still of words end w i turn.0 turn.1),
+          let turn = subst (λ (v : Working). HasEndedTurn bound v.seat) i.2 (ends i.0 w i.1) in
+          has_left_within f mode tasks whole.board_tasks view view known still of words end w i bound turn.1 turn.0 turn.2),
     )

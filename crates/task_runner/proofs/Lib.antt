@@ -4,6 +4,7 @@ pub mod TellingMore
 pub mod Resting
 pub mod Crossing
 pub mod BoardPlaces
+pub mod EndedBelow
 pub mod BoardEnds
 pub mod LastPasses
 pub mod TellingAll

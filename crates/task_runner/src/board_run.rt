@@ -1,17 +1,17 @@
 // The rounds of a run on a board, with a pass beside each or with none.
-ghost use Rattle.std.specs.Prelude.{◌≡◌, ◌<◌, ◌⊎◌, Some, Ok, Err, true, false, IfOk, IfErr, OnOk};
+ghost use Rattle.std.specs.Prelude.{◌≡◌, ◌≤◌, ◌<◌, ◌⊎◌, Some, Ok, Err, true, false, IfOk, IfErr, OnOk};
 ghost use Rattle.armus_base.specs.calls.Seats.{seen_by_child};
 ghost use Rattle.board.specs.calls.Seats.{IsNewSeat, nothing_seen};
 ghost use Rattle.board_rounds.specs.calls.TaskSeats.{HaveEnded, all_of, left_to};
-ghost use Rattle.task_runner.specs.inside.BoardRuns.{HasHadRound, IsOnBoard};
+ghost use Rattle.task_runner.specs.inside.BoardRuns.{HasHadRound, IsOnBoard, many_loads};
 
 use crate::RunOptions;
 use crate::beside::Beside;
-use crate::leaving::goes_on;
+use crate::leaving::{bound_on_loads, goes_on};
 use armus_base::{Gate, NoMemory, Plan};
 use avoider::Judging;
 use board::{Board, TaskSeat};
-use board_rounds::{BoardTasks, Rounded};
+use board_rounds::{BoardTasks, RoundSetting, Rounded};
 use std::alloc::Global;
 use std::thread::{Threads, join_mut};
 use world_runs::RoundWorkers;
@@ -64,7 +64,7 @@ impl<'p> BoardRun<'p> {
         requires fits { B.fits board.now beside.old out.old }
         ensures given { (self.new.plan ≡ self.old.plan) × (self.new.options ≡ self.old.options) }
         ensures on_board { OnOk result (IsOnBoard board.now self.new.plan.now self.new.board_tasks) }
-        ensures ends { OnOk result (HaveEnded (all_of self.new.board_tasks)) }
+        ensures ends { OnOk result (HaveEnded many_loads (all_of self.new.board_tasks)) }
         ensures fits { OnOk result (B.fits board.now beside.new out.new) }
         ensures passes { B.passes board.now beside.old out.old beside.new out.new result }
     {
@@ -86,7 +86,7 @@ impl<'p> BoardRun<'p> {
         ensures given { (self.new.plan ≡ self.old.plan) × (self.new.options ≡ self.old.options) }
         ensures on_board { OnOk result (IsOnBoard board.now self.new.plan.now self.new.board_tasks) }
         ensures further { IfOk result (λ more. more ≡ true → left_to board.now.plan self.new.board_tasks < left_to board.now.plan self.old.board_tasks) }
-        ensures ends { IfOk result (λ more. more ≡ false → HaveEnded (all_of self.new.board_tasks)) }
+        ensures ends { IfOk result (λ more. more ≡ false → HaveEnded many_loads (all_of self.new.board_tasks)) }
         ensures fits { OnOk result (B.fits board.now beside.new out.new) }
         ensures passes { OnOk result (B.passes board.now beside.old out.old beside.new out.new (Ok tt)) }
         ensures early { IfErr result (λ e. B.passes board.now beside.old out.old beside.new out.new (Err e)) }
@@ -131,35 +131,43 @@ impl<'p> BoardRun<'p> {
     {
         let alloc = self.alloc;
         if !beside.is_there() || !self.round_workers.wants_threads() {
-            let made = self.round(rt, board, gate);
+            let bound = bound_on_loads(beside.is_there());
+            let made = self.round(rt, board, gate, bound);
             return (made, beside.pass(alloc, board, gate, out));
         }
         join_mut(
             rt,
             &mut || -> Result<Rounded, NoMemory>
                 requires { IsOnBoard board.now self.now.plan.now self.now.board_tasks }
-            { self.round(rt, board, gate) },
+            { self.round(rt, board, gate, u64::MAX) },
             &mut || -> Result<(), B::Early>
                 requires { B.fits board.now beside.now out.now }
             { beside.pass(alloc, board, gate, out) },
         )
     }
 
-    // One round.
+    // One round, in which a worker that has loaded more words than the bound cuts turns short.
     fn round<R: Threads + Sync, G: Gate>(
         &mut self,
         rt: &R,
         board: &Board,
         gate: &G,
+        bound: u64,
     ) -> Result<Rounded, NoMemory>
+        requires bound { many_loads ≤ bound }
         requires on_board { IsOnBoard board.now self.old.plan.now self.old.board_tasks }
         ensures given { (self.new.plan ≡ self.old.plan) × (self.new.options ≡ self.old.options) }
         ensures round { IfOk result (HasHadRound board.now self.new.plan.now self.old.board_tasks self.new.board_tasks) }
     {
         let workers = self.round_workers.workers(self.options.workers);
-        let made = self
-            .board_tasks
-            .round(rt, self.alloc, board, self.plan, workers, gate)?;
+        let setting = RoundSetting {
+            rt,
+            alloc: self.alloc,
+            board,
+            gate,
+            bound,
+        };
+        let made = self.board_tasks.round(&setting, self.plan, workers)?;
         Ok(made)
     }
 }

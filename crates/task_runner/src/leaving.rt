@@ -1,14 +1,26 @@
 // When a run leaves its board.
-ghost use Rattle.std.specs.Prelude.{◌≡◌, ◌<◌, ◌⊎◌, true, false};
+ghost use Rattle.std.specs.Prelude.{◌≡◌, ◌≤◌, ◌<◌, ◌⊎◌, true, false};
+ghost use Rattle.task_runner.specs.inside.BoardRuns.{many_loads};
 
 use board_rounds::Rounded;
 
-// how many words the awaits of a run may load on a board, before the run leaves it
-const MANY_LOADS: u64 = 1 << 24;
+/// How many words the awaits of a run may load on a board, before the run leaves it.
+pub(crate) const MANY_LOADS: u64 = 1 << 24;
 
 /// Whether the awaits of a run have loaded so many words that the board costs more than it gives.
 pub(crate) fn are_many(loads: u64) -> bool {
     loads > MANY_LOADS
+}
+
+/// How many words a worker may load for awaits before it cuts turns short: any number where there is a pass beside the rounds, for which the run stays on its
+/// board.
+pub(crate) fn bound_on_loads(with_pass: bool) -> u64
+    ensures { many_loads ≤ result }
+{
+    if with_pass {
+        return u64::MAX;
+    }
+    MANY_LOADS
 }
 
 /// Whether another round on the board is to come after this one, where the awaits so far have loaded so many words. None comes after a round without an event

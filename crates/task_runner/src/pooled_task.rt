@@ -7,6 +7,7 @@ ghost use Rattle.board_rounds.specs.calls.Turns.{standing_of};
 ghost use Rattle.task_runner.specs.inside.Pooled.{IsForked};
 
 use crate::board_name::BoardName;
+use crate::leaving::MANY_LOADS;
 use armus_base::{NoMemory, Plan, TaskId};
 use board::{Board, TaskSeat};
 use board_rounds::{Acted, Calls, Task, WorkerCells};
@@ -59,7 +60,7 @@ impl<'p, N: BoardName> PooledTask<'p, N> {
         }
     }
 
-    /// A stretch of its turn; answers what it was, and the task that it forked. After `NoMemory` it stands where its own steps brought it.
+    /// A stretch of its turn, which is cut short where its worker has loaded too much; answers what it was, and the task that it forked. After `NoMemory` it stands where its own steps brought it.
     pub(crate) fn act<C: Calls>(
         &mut self,
         alloc: Global,
@@ -73,7 +74,7 @@ impl<'p, N: BoardName> PooledTask<'p, N> {
         ensures same { number self.new ≡ number self.old }
         ensures child { IfOk result (λ r. IfSome r.1 (λ child. number child < length N.board.plan.parents)) }
     {
-        let acted = self.task.act(alloc, board, cells, gate)?;
+        let acted = self.task.act(alloc, board, cells, MANY_LOADS, gate)?;
         let seats = self.task.take_children(alloc).into_vec();
         Ok((acted, last_of(alloc, seats, plan)))
     }

@@ -71,11 +71,13 @@ waiting_said f t stands =
 
 -- ---- a task that was not forked
 
--- how a forker stands: deadlocked at 5:1, held at 5:1, or not forked yet
+-- how a forker stands: deadlocked at 5:1, held at 5:1, refused (one that has ended without its fork was), or not forked yet
 abbrev pub forker_words : FactsValue → ℕ → Situation → List ℕ
 forker_words f t Deadlocked = codes "deadlocked at " ++ wait_place f t
 forker_words f t Held = codes "held at " ++ wait_place f t
-forker_words f t _ = codes "not forked yet"
+forker_words f t HasEnded = codes "refused"
+forker_words f t NotForkedYet = codes "not forked yet"
+forker_words f t NeverForked = codes "not forked yet"
 
 -- who would fork a task, with these words for the place
 abbrev pub forking_by : FactsValue → List ℕ → Option Forked → Option Forking

@@ -18,5 +18,5 @@ pub use grouping::Grouping;
 pub use impeders::Impeder;
 pub use saying::{ForkingWords, Saying};
 pub use situation::Situation;
-pub use task_lists::{Run, put_list};
+pub use task_lists::{Run, put_list, separator};
 pub use words::{put_by_number, put_kept, put_number, put_words};

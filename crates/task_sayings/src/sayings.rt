@@ -160,7 +160,8 @@ impl<'a> Facts<'a> {
         match situation {
             Situation::Deadlocked => self.put_waiting_at(out, t, b"deadlocked at "),
             Situation::Held => self.put_waiting_at(out, t, b"held at "),
-            _ => put_words(out, b"not forked yet"),
+            Situation::HasEnded => put_words(out, b"refused"),
+            Situation::NotForkedYet | Situation::NeverForked => put_words(out, b"not forked yet"),
         }
     }
 

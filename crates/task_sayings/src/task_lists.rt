@@ -86,8 +86,8 @@ fn put_item(alloc: Global, out: &mut Vec<u8>, run: Run) -> Result<(), NoMemory>
     put_task(alloc, out, run.to)
 }
 
-// What stands before item k of n.
-fn separator(n: usize, k: usize) -> &'static [u8]
+/// What stands before item k of n: nothing before the first, ` and ` before the last, and else a comma and a blank.
+pub fn separator(n: usize, k: usize) -> &'static [u8]
     ensures { result.now ≡ separator n k }
 {
     if k == 0 {

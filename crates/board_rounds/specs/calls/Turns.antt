@@ -127,14 +127,28 @@ pub data EndsTurn (before now : Known) : Type 0 where
       (u : ℕ) → avoids now.view.mode ≡ true → IsBeforeAwait now → u ≢ task_of now.view →
       MayHold now.view.plan u ((seen now.view).places u) → FoundHeldSince u before now → EndsTurn before now
 
--- the seat stands where some turn of it has ended
-abbrev pub HasEndedTurn : Known → Type 0
-HasEndedTurn now = (before : Known) × EndsTurn before now
+-- the seat's task is published or, where deadlock is avoided, stands before an await that it has not published
+abbrev pub StandsAtAwait : Known → Type 0
+StandsAtAwait seat = IsSome (event_of seat) ⊎ (avoids seat.view.mode ≡ true × IsBeforeAwait seat)
 
--- Why a task acts no further: it has forked a task, whose seat is new among its children's; or its turn is over, and it has forked nobody.
-abbrev pub PausesAt : Pause → Working → Working → Type 0
-PausesAt Forked before now = (seat : Known) × now.children ≡ before.children ++ seat ∷ []
-PausesAt TurnOver before now = EndsTurn before.seat now.seat × now.children ≡ before.children
+-- a worker: how many words were loaded for the awaits that its tasks began, counted in 64 bits
+pub record Worker : Type 0 where
+  pub loads : ℕ
+
+-- How a turn ends by a worker for whose loads a bound is set: as any turn does or, where there are more of them, at an await at which its task has neither
+-- looked nor tried for the lock. A count of 64 bits is never above the greatest one.
+abbrev pub EndsTurnWithin : ℕ → ℕ → Known → Known → Type 0
+EndsTurnWithin bound loads before now = EndsTurn before now ⊎ (bound < loads × loads < 2 ^ 64 × StandsAtAwait now)
+
+-- the seat stands where some turn of it has ended, by some worker with this bound
+abbrev pub HasEndedTurn : ℕ → Known → Type 0
+HasEndedTurn bound now = (before : Known) × (loads : ℕ) × EndsTurnWithin bound loads before now
+
+-- Why a task acts no further: it has forked a task, whose seat is new among its children's; or its turn is over, by a worker with this bound and so many
+-- loads, and it has forked nobody.
+abbrev pub PausesAt : ℕ → ℕ → Pause → Working → Working → Type 0
+PausesAt bound loads Forked before now = (seat : Known) × now.children ≡ before.children ++ seat ∷ []
+PausesAt bound loads TurnOver before now = EndsTurnWithin bound loads before.seat now.seat × now.children ≡ before.children
 
 -- a task of this board whose turn may come: its seat does not hold the lock
 pub record MayTakeTurn (board : Frame) (task : Working) : Type 0 where
@@ -149,20 +163,21 @@ pub data EachActs (board : Frame) : List (List Action) → List Working → List
       {own : List Action} {owns : List (List Action)} {before now : Working} {befores nows : List Working} →
       Acts board own before now → EachActs board owns befores nows → EachActs board (own ∷ owns) (before ∷ befores) (now ∷ nows)
 
--- each task has come to the end of its turn
-pub data EachEndsTurn : List Working → List Working → Type 0 where
-  no_turn : EachEndsTurn [] []
+-- each task has come to the end of its turn, by a worker with this bound
+pub data EachEndsTurn (bound : ℕ) : List Working → List Working → Type 0 where
+  no_turn : EachEndsTurn bound [] []
   one_turn :
-      {before now : Working} {befores nows : List Working} → EndsTurn before.seat now.seat → EachEndsTurn befores nows →
-      EachEndsTurn (before ∷ befores) (now ∷ nows)
+      {loads : ℕ} {before now : Working} {befores nows : List Working} → EndsTurnWithin bound loads before.seat now.seat → EachEndsTurn bound befores nows →
+      EachEndsTurn bound (before ∷ befores) (now ∷ nows)
 
 -- a count of 32 bits: so many, or the greatest number of 32 bits, at which it stands still
 abbrev pub in_32_bits : ℕ → ℕ
 in_32_bits n = min n (2 ^ 32 - 1)
 
--- Each task has made its own steps. Where memory lasted, each has come to the end of its turn, and all their steps are counted, in 32 bits.
-pub record TakesTurns {E : Type 0} (board : Frame) (befores nows : List Working) (counted : Result ℕ E) : Type 0 where
+-- Each task has made its own steps. Where memory lasted, each has come to the end of its turn, by a worker with this bound, and all their steps are counted,
+-- in 32 bits.
+pub record TakesTurns {E : Type 0} (bound : ℕ) (board : Frame) (befores nows : List Working) (counted : Result ℕ E) : Type 0 where
   pub owns : List (List Action)
   pub each : EachActs board owns befores nows
   pub events : IfOk counted (λ n. n ≡ in_32_bits (sum_by length owns))
-  pub ends : OnOk counted (EachEndsTurn befores nows)
+  pub ends : OnOk counted (EachEndsTurn bound befores nows)

@@ -27,12 +27,12 @@ fresh seat = record { seat = seat; children = [] }
 abbrev pub fresh_of : Working → List Working
 fresh_of task = map fresh task.children
 
--- A round of turns of these tasks: each has made its own steps, so many in all, and has come to the end of its turn; then the children whom they forked
--- stand among them.
-pub record MakesRound (board : Frame) (before now : List Working) (made : ℕ) : Type 0 where
+-- A round of turns of these tasks: each has made its own steps, so many in all, and has come to the end of its turn, by a worker with this bound; then the
+-- children whom they forked stand among them.
+pub record MakesRound (bound : ℕ) (board : Frame) (before now : List Working) (made : ℕ) : Type 0 where
   pub owns : List (List Action)
   pub turned : List Working
   pub each : EachActs board owns before turned
   pub events : made ≡ in_32_bits (sum_by length owns)
-  pub ends : EachEndsTurn before turned
+  pub ends : EachEndsTurn bound before turned
   pub joined : IsPermutation (map emptied turned ++ flat_map fresh_of turned) now

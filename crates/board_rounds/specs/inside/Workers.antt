@@ -1,12 +1,13 @@
--- The cells of a worker.
-use Rattle.std.specs.Prelude.{◌≡◌, Bool, Some, is_some}
+-- The cells of a worker, and what it has loaded.
+use Rattle.std.specs.Prelude.{◌≡◌, Some}
 use Rattle.phase_scan.specs.calls.Collects.{Collection}
 use Rattle.board_rounds.specs.declared.worker_cells.WorkerCells.TheInside.{Inside}
+use Rattle.board_rounds.specs.calls.Turns.{Worker}
 
--- whether a worker has cells
-abbrev pub holds_cells : Inside → Bool
-holds_cells worker = is_some worker.cells
+-- what a contract sees of a worker
+abbrev pub worker_of : Inside → Worker
+worker_of worker = record { loads = worker.loads }
 
--- they are for so many tasks and phasers
+-- its cells are for so many tasks and phasers
 abbrev pub Fit : Inside → Type 0
 Fit worker = (cells : Collection) → worker.cells ≡ Some cells → (cells.tasks ≡ worker.tasks) × (cells.phasers ≡ worker.phasers)

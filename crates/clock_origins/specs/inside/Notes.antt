@@ -1,7 +1,7 @@
 -- What is noted of the comings of one activity.
 use Rattle.std.specs.Prelude.{ℕ, List, ◌++◌}
 use Rattle.clock_moves.specs.Unfolding.{ClockComing}
-use Rattle.clock_origins.specs.ClockOrigins.{Begun, MadeThing, begun_at, begun_in, thing_at, things_in, wait_at, waits_in}
+use Rattle.clock_origins.specs.ClockOrigins.{Begun, MadeThing, begun_at, begun_in, made_thing_at, things_in, wait_at, waits_in}
 
 -- activities, clocks and finishes, and waits
 pub record NotesValue : Type 0 where
@@ -13,7 +13,7 @@ pub record NotesValue : Type 0 where
 abbrev pub noted : ClockComing → NotesValue → NotesValue
 noted m k = record {
   begun = k.begun ++ begun_at m.statement m.part;
-  things = k.things ++ thing_at m.statement m.part;
+  things = k.things ++ made_thing_at m.statement m.part;
   waits = k.waits ++ wait_at m.statement m.part;
 }
 

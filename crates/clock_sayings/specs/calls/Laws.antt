@@ -4,16 +4,16 @@ use Rattle.armus_base.specs.Plans.{Plan}
 use Rattle.armus_base.specs.Runs.{Place}
 use Rattle.clock_syntax.specs.Trees.{ClockTree}
 use Rattle.clock_moves.specs.Unfolding.{ClockUnfolding}
-use Rattle.clock_sayings.specs.ClockExplanations.{ExplainsClocks}
+use Rattle.clock_sayings.specs.ClockExplanations.{ExplainsActivities}
 
 -- the places of a plan have one explanation at most
 abbrev pub OneClockExplanation : Type 0
 OneClockExplanation =
     (file : Option (List ℕ)) (text : List ℕ) (p : ClockTree) (u : ClockUnfolding) (plan : Plan) (a : ℕ → Place) (lines others : List ℕ) (waits other : Bool) →
-    ExplainsClocks file text p u plan a lines waits → ExplainsClocks file text p u plan a others other → (lines ≡ others) × (waits ≡ other)
+    ExplainsActivities file text p u plan a lines waits → ExplainsActivities file text p u plan a others other → (lines ≡ others) × (waits ≡ other)
 
 -- and they have one
 abbrev pub ClockExplanationExists : Type 0
 ClockExplanationExists =
     (file : Option (List ℕ)) (text : List ℕ) (p : ClockTree) (u : ClockUnfolding) (plan : Plan) (a : ℕ → Place) →
-    (lines : List ℕ) × (waits : Bool) × ExplainsClocks file text p u plan a lines waits
+    (lines : List ℕ) × (waits : Bool) × ExplainsActivities file text p u plan a lines waits

@@ -1,7 +1,7 @@
 use Rattle.std.proofs.Common.{◌≡◌, ◌∙◌, ◌+◌, ◌<◌, ap, sum_by, [], ◌∷◌, ◌++◌, IfOk, List, map, rules, add-one, length, set, suc, sym, refl, subst, arith}
 use Rattle.std.proofs.lemmas.List.{length-map}
 use Rattle.std.proofs.lemmas.List.Sums.{sum_by_push}
-use Rattle.board_rounds.specs.calls.Turns.{Acts, EachActs, EndsTurn, MayTakeTurn, Working, in_32_bits}
+use Rattle.board_rounds.specs.calls.Turns.{Acts, EachActs, EndsTurnWithin, MayTakeTurn, Working, in_32_bits}
 use Rattle.board_rounds.proofs.Rounding.{IsSoFar, all_each, all_end, at_rest, count_more, map_get, map_set, next_done, next_is, next_stops, stopped}
 use Rattle.board_rounds.proofs.rounds.take_turns_in_order.Goals as goal
 
@@ -29,7 +29,7 @@ returns-in_err-turn g c =
     let stops = next_stops acts.0 (working d) (working c.turn.new.self) c.loop-task.invariant.so_far c.requires.ready less now in
     record {
       turns =
-          stopped f (map working c.args.tasks.now) (map working (set c.loop-task.tasks n c.turn.new.self)) c.from_residual.result bad
+          stopped c.args.bound f (map working c.args.tasks.now) (map working (set c.loop-task.tasks n c.turn.new.self)) c.from_residual.result bad
           (stops.0, subst (λ (ws : List Working). EachActs f stops.0 (map working c.args.tasks.now) ws) (sym (map_set working c.loop-task.tasks n c.turn.new.self)) stops.1);
     }
 
@@ -46,10 +46,10 @@ loop-task-preserved g c =
     record {
       owns = i.owns ++ acts.0 ∷ [];
       so_far =
-          subst (λ k. IsSoFar f k (i.owns ++ acts.0 ∷ []) (map working c.args.tasks.now) (map working (set c.loop-task.tasks n c.turn.new.self))) (sym (add-one n))
-          (subst (λ (ws : List Working). IsSoFar f (suc n) (i.owns ++ acts.0 ∷ []) (map working c.args.tasks.now) ws) (sym (map_set working c.loop-task.tasks n c.turn.new.self))
-          (next_done acts.0 (working d) (working c.turn.new.self) i.so_far less now
-          (subst (λ (w : Working). EndsTurn w.seat (working c.turn.new.self).seat) (sym (map_get working c.loop-task.tasks n d)) c.in_ok-turn.ensures.ends)));
+          subst (λ k. IsSoFar c.args.bound f k (i.owns ++ acts.0 ∷ []) (map working c.args.tasks.now) (map working (set c.loop-task.tasks n c.turn.new.self))) (sym (add-one n))
+          (subst (λ (ws : List Working). IsSoFar c.args.bound f (suc n) (i.owns ++ acts.0 ∷ []) (map working c.args.tasks.now) ws) (sym (map_set working c.loop-task.tasks n c.turn.new.self))
+          (next_done c.turn.new.cells.loads acts.0 (working d) (working c.turn.new.self) i.so_far less now
+          (subst (λ (w : Working). EndsTurnWithin c.args.bound c.turn.new.cells.loads w.seat (working c.turn.new.self).seat) (sym (map_get working c.loop-task.tasks n d)) c.in_ok-turn.ensures.ends)));
       events =
           c.saturating_add-made.ensures ∙ ap (λ a. in_32_bits (a + c.in_ok-turn.field-0)) i.events ∙ count_more (sum_by length i.owns) c.in_ok-turn.field-0
           ∙ ap (λ k. in_32_bits (sum_by length i.owns + k)) acts.2 ∙ ap in_32_bits (sym (sum_by_push length i.owns acts.0));

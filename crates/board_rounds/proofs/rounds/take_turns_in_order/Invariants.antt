@@ -8,6 +8,6 @@ use Rattle.board_rounds.proofs.rounds.take_turns_in_order.Given as goal
 abbrev pub invariant-loop-task : goal.invariant-loop-task
 invariant-loop-task g l = record {
   owns : List (List Action);
-  so_far : IsSoFar l.board l.task-index owns (map g.T.TakeTurn.working l.initial.tasks) (map g.T.TakeTurn.working l.tasks);
+  so_far : IsSoFar l.bound l.board l.task-index owns (map g.T.TakeTurn.working l.initial.tasks) (map g.T.TakeTurn.working l.tasks);
   events : l.made ≡ in_32_bits (sum_by length owns);
 }

@@ -1,5 +1,5 @@
 use Rattle.std.proofs.Common.{[], arith, refl}
-use Rattle.step_lines.specs.inside.Known.{kept_layout}
+use Rattle.step_lines.specs.calls.Known.{kept_layout}
 use Rattle.step_lines.proofs.GoingOn.{few_steps, none_yet}
 use Rattle.step_lines.proofs.stepping.steps_of.Goals as goal
 

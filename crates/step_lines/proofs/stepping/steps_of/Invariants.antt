@@ -1,7 +1,7 @@
 use Rattle.std.proofs.Common.{◌≡◌, ◌+◌, ◌-◌, ◌*◌, List}
 use Rattle.armus_base.specs.Limits.{max_ops}
 use Rattle.armus_base.specs.States.{Step}
-use Rattle.step_lines.specs.inside.Known.{kept_layout}
+use Rattle.step_lines.specs.calls.Known.{kept_layout}
 use Rattle.step_lines.specs.inside.SoFar.{IsSoFar}
 use Rattle.step_lines.proofs.stepping.steps_of.Given as goal
 

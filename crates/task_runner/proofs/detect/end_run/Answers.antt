@@ -23,6 +23,7 @@ use Rattle.task_runner.specs.calls.DetectRuns.{AreDeadAtTheEnd, AreSettledPlaces
 use Rattle.task_runner.specs.inside.Rests.{TellsRest}
 use Rattle.task_runner.specs.inside.LiveReporters.{TellsMore}
 use Rattle.task_runner.specs.declared.ran.RunEnd.TheVariants.{NoMemory}
+use Rattle.task_runner.specs.inside.BoardRuns.{many_loads}
 use Rattle.task_runner.proofs.BoardEnds.{lawful, plain, reachable, settled, shown}
 use Rattle.task_runner.proofs.LastPasses.{dead_there, named_there, statuses_in}
 use Rattle.task_runner.proofs.TellingAll.{blocked_in_order, none_on, pass_err, rest_err, rest_ok}
@@ -133,7 +134,7 @@ returns-clause-ran g c =
           words last);
       settled = subst (λ (q : Plan). AreSettledPlaces q (places_at q places)) c.requires.under_way.on_board.of_plan
           (settled f c.requires.under_way.detects tasks c.requires.under_way.on_board.board_tasks.all.board_tasks places are before now c.take_in.ensures.known goes of
-          words last c.requires.ends.each);
+          words last many_loads c.requires.ends.each);
       of_plan = c.close-words.ensures.board.0 ∙ c.requires.under_way.on_board.of_plan;
       words = subst (λ (q : Plan). IsShown q (state_at q (places_at q places)) None words) c.requires.under_way.on_board.of_plan
           (shown f c.requires.under_way.detects tasks c.requires.under_way.on_board.board_tasks.all.board_tasks places are before now c.take_in.ensures.known goes of

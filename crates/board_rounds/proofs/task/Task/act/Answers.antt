@@ -5,7 +5,7 @@ use Rattle.board_rounds.specs.calls.Turns.{CountsEvents, Working}
 use Rattle.board_rounds.specs.inside.Tasks.{MakesSome}
 use Rattle.board_rounds.proofs.Counting.{counts_nothing, counts_on, counts_still, few_events, leaves_less}
 use Rattle.board_rounds.proofs.Goings.{acts_itself, acts_on, no_child_made, none_in, of_on, one_in}
-use Rattle.board_rounds.proofs.Halting.{ends_since}
+use Rattle.board_rounds.proofs.Halting.{ends_since_within}
 use Rattle.board_rounds.proofs.task.Task.act.Goals as goal
 
 pub act-init : goal.act-init
@@ -112,4 +112,4 @@ pub returns-clause-pause : goal.returns-clause-pause
 returns-clause-pause g c =
     let i = c.act.invariant in
     let none = c.in_ok-more.ensures.none c.in_default.is in
-    (ends_since c.args.self.now.seat c.act.self.seat c.go_on.new.self.seat i.acts.goes.loads none.1, no_child_made c.args.board.now c.act.self c.go_on.new.self none.0 ∙ i.nobody)
+    (ends_since_within c.args.bound c.go_on.new.cells.loads c.args.self.now.seat c.act.self.seat c.go_on.new.self.seat i.acts.goes.loads none.1, no_child_made c.args.board.now c.act.self c.go_on.new.self none.0 ∙ i.nobody)

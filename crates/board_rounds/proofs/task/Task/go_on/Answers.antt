@@ -1,4 +1,4 @@
-use Rattle.std.proofs.Common.{◌≡◌, ◌+◌, ◌∙◌, [], List, Result, Ok, Err, OnErr, false, drop, sym, ap, subst, arith}
+use Rattle.std.proofs.Common.{◌≡◌, ◌+◌, ◌∙◌, [], inl, inr, List, Result, Ok, Err, OnErr, false, drop, sym, ap, subst, arith}
 use Rattle.armus_base.specs.declared.op.Op.{Op}
 use Rattle.board.specs.calls.Seats.{IsOf, IsSeat, event_of}
 use Rattle.board.proofs.Walking.{IsBefore, before_next, before_of_plan, is_before, left_behind, next_left}
@@ -16,8 +16,8 @@ returns-in_default-clause-none g c = λ _.
     let idle = sym c.event.ensures ∙ no_event _ (sym c.is_some.ensures ∙ c.if-is_some.false) in
     let past = sym c.peek.ensures.next ∙ c.in_default.is in (
       acts_itself c.args.board.now c.args.self.now (subst (λ (w : Working). IsSeat w.seat) c.self.view_is c.id-t.ensures.seat),
-      subst (λ (w : Working). EndsTurn w.seat w.seat) c.self.view_is (is_done (ends_done c.self.inside.cursor c.self.inside.seat
-          (c.self.invariant.come.ops_are c.if-self.false) idle past)),
+      inl (subst (λ (w : Working). EndsTurn w.seat w.seat) c.self.view_is (is_done (ends_done c.self.inside.cursor c.self.inside.seat
+          (c.self.invariant.come.ops_are c.if-self.false) idle past))),
     )
 
 -- the seat does not hold the lock
@@ -67,8 +67,9 @@ returns-in-LockedOut-clause-none g c = λ _.
     let tried = subst (λ a. BeginsOp c.in-Some.op c.self.inside.seat c.begin.new.seat a) c.in-LockedOut.is c.in_ok-begin.ensures.begins in
     let r = locked_out c.args.board.now c.self.inside.cursor c.self.inside.events c.self.inside.seat c.begin.new.seat c.self.inside.children.items
     c.begin.new.children.items c.in-Some.op _ (come g at) (before g at) new.0 new.1 new.2 tried in
-    subst (λ (w : Working). Acts c.args.board.now [] w (record { seat = c.begin.new.seat; children = c.begin.new.children.items }) × EndsTurn w.seat c.begin.new.seat)
-    c.self.view_is r.0
+    let both = subst (λ (w : Working). Acts c.args.board.now [] w (record { seat = c.begin.new.seat; children = c.begin.new.children.items }) × EndsTurn w.seat c.begin.new.seat)
+    c.self.view_is r.0 in
+    (both.0, inl both.1)
 
 pub overflow_add-self : goal.overflow_add-self
 overflow_add-self g c =
@@ -143,5 +144,14 @@ returns-in-Refused-clause-some g c =
 pub returns-then-self-clause-none : goal.returns-then-self-clause-none
 returns-then-self-clause-none g c = λ _. (
   acts_itself c.args.board.now c.args.self.now (subst (λ (w : Working). IsSeat w.seat) c.self.view_is c.id-t.ensures.seat),
-  subst (λ (w : Working). EndsTurn w.seat w.seat) c.self.view_is (is_refused (c.self.invariant.come.gone c.if-self.true)),
+  inl (subst (λ (w : Working). EndsTurn w.seat w.seat) c.self.view_is (is_refused (c.self.invariant.come.gone c.if-self.true))),
 )
+
+pub returns-then-is_cut_short-clause-none : goal.returns-then-is_cut_short-clause-none
+returns-then-is_cut_short-clause-none g c = λ _. (
+  acts_itself c.args.board.now c.args.self.now (subst (λ (w : Working). IsSeat w.seat) c.self.view_is c.id-t.ensures.seat),
+  inr (c.is_cut_short.ensures c.if-is_cut_short.true),
+)
+
+pub returns-then-is_some-clause-none : goal.returns-then-is_some-clause-none
+returns-then-is_some-clause-none g c = λ none. (let p = c.pass.ensures.none none in (p.0, inl p.1))

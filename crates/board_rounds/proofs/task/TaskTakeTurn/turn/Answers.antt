@@ -4,7 +4,7 @@ use Rattle.board_rounds.specs.declared.task.Pause.{Pause}
 use Rattle.board_rounds.specs.calls.Turns.{PausesAt, Working}
 use Rattle.board_rounds.proofs.Counting.{counts_nothing, few_events, forked_some, leaves_by}
 use Rattle.board_rounds.proofs.Goings.{acts_itself, acts_on, of_on}
-use Rattle.board_rounds.proofs.Halting.{ends_since}
+use Rattle.board_rounds.proofs.Halting.{ends_since_within}
 use Rattle.board_rounds.proofs.task.TaskTakeTurn.turn.Goals as goal
 
 pub turn-init : goal.turn-init
@@ -37,7 +37,7 @@ overflow_add-made g c =
 pub turn-smaller : goal.turn-smaller
 turn-smaller g c =
     let a = c.in_ok-acted.ensures.acts in
-    let forked = subst (λ (p : Pause). PausesAt p c.turn.self c.act.new.self) c.in-Forked.is c.in_ok-acted.ensures.pause in
+    let forked = subst (λ (p : Pause). PausesAt c.args.bound c.act.new.cells.loads p c.turn.self c.act.new.self) c.in-Forked.is c.in_ok-acted.ensures.pause in
     leaves_by c.args.board.now a.0 c.turn.self c.act.new.self a.1 (forked_some c.args.board.now a.0 c.turn.self c.act.new.self forked.0 a.1 forked.1)
 
 pub turn-preserved : goal.turn-preserved
@@ -70,5 +70,5 @@ returns-in-TurnOver-clause-few g c =
 
 pub returns-in-TurnOver-clause-ends : goal.returns-in-TurnOver-clause-ends
 returns-in-TurnOver-clause-ends g c =
-    let over = subst (λ (p : Pause). PausesAt p c.turn.self c.act.new.self) c.in-TurnOver.is c.in_ok-acted.ensures.pause in
-    ends_since c.args.self.now.seat c.turn.self.seat c.act.new.self.seat c.turn.invariant.acts.goes.loads over.0
+    let over = subst (λ (p : Pause). PausesAt c.args.bound c.act.new.cells.loads p c.turn.self c.act.new.self) c.in-TurnOver.is c.in_ok-acted.ensures.pause in
+    ends_since_within c.args.bound c.act.new.cells.loads c.args.self.now.seat c.turn.self.seat c.act.new.self.seat c.turn.invariant.acts.goes.loads over.0

@@ -1,5 +1,5 @@
 use Rattle.std.proofs.Common.{◌+◌, refl}
-use Rattle.step_lines.specs.inside.Known.{kept_layout}
+use Rattle.step_lines.specs.calls.Known.{kept_layout}
 use Rattle.step_lines.proofs.GoingOn.{one_more}
 use Rattle.step_lines.proofs.stepping.Stepping.go_on.Goals as goal
 

@@ -1,0 +1,11 @@
+pub mod Pieces
+pub mod Circles
+pub mod OpsKept
+pub mod Refusing
+pub mod Deciding
+pub mod Turning
+pub mod Rounds
+pub mod StaysTold
+pub mod Explained
+pub mod OneAvoided
+pub mod AvoidedExists

@@ -1,0 +1,51 @@
+use Rattle.std.proofs.Common.{◌≡◌, ◌∙◌, ◌++◌, ◌<◌, ℕ, List, Option, ap, inl, inr, refl, subst, sym}
+use Rattle.std.specs.Prelude.{All, length, option_copied}
+use Rattle.armus_base.specs.declared.event.Event.{Event}
+use Rattle.armus_base.specs.declared.ids.TaskId.{TaskId}
+use Rattle.armus_base.specs.Plans.{Plan}
+use Rattle.avoider.specs.calls.Decisions.{IsDecision, IsRefused}
+use Rattle.avoider.specs.declared.decision.Decision.{Decision}
+use Rattle.avoider.proofs.Supposing.{phaser_of_await}
+use Rattle.pl_core.specs.calls.Worlds.{state_of}
+use Rattle.step_lines.specs.calls.Known.{kept_layout}
+use Rattle.refused_awaits.specs.RefusalWords.{refusal_by}
+use Rattle.refused_awaits.proofs.Deciding.{cycle_within}
+use Rattle.refused_awaits.proofs.avoiding.Avoiding.decide.Goals as goal
+
+pub pending_of-requires-clause-phaser : goal.pending_of-requires-clause-phaser
+pending_of-requires-clause-phaser c =
+    phaser_of_await c.args.self.now.world c.stand.ensures.checked c.stand.ensures.reachable c.args.t.0 c.args.event c.requires.at
+
+pub put_refusal-requires-clause-tasks : goal.put_refusal-requires-clause-tasks
+put_refusal-requires-clause-tasks c =
+    let old = c.args.self.now.world in
+    let is : IsRefused old c.step.new.world c.args.t.0 c.in-Refused.cycle =
+    subst (λ (d : Decision). IsDecision old c.step.new.world c.args.t.0 d) c.in-Refused.is c.in_ok-step.ensures.decision in
+    let there : All (λ (u : TaskId). u.0 < length old.plan.parents) c.as_slice.result.now =
+    subst (λ (xs : List TaskId). All (λ (u : TaskId). u.0 < length old.plan.parents) xs) (sym c.as_slice.ensures.items)
+    (cycle_within old c.args.t.0 is.event c.in-Refused.cycle is.cycle) in
+    subst (λ (q : Plan). All (λ (u : TaskId). u.0 < length q.parents) c.as_slice.result.now) (sym is.refusal.plan) there
+
+pub returns-clause-decided : goal.returns-clause-decided
+returns-clause-decided c =
+    let old = c.args.self.now.world in
+    let t = c.args.t.0 in
+    let e = c.args.event in
+    let file = option_copied c.args.teller.now.file in
+    let l = kept_layout c.args.teller.now.facts in
+    let p = c.args.teller.now.facts.program.now in
+    let out = c.args.self.now.refusals.items in
+    let pending = c.in_ok-pending.pending in
+    let known = c.in_ok-pending.ensures in
+    let is : IsRefused old c.step.new.world t c.in-Refused.cycle =
+    subst (λ (d : Decision). IsDecision old c.step.new.world t d) c.in-Refused.is c.in_ok-step.ensures.decision in
+    inr (
+      c.in-Refused.cycle,
+      is,
+      λ ops stand.
+          c.in_ok-put_refusal-in-Refused.ensures ops stand
+          ∙ ap (λ (d : Event). out ++ refusal_by file l p t d pending.phase ops c.as_slice.result.now pending.members.items) known.event
+          ∙ ap (λ (o : Option ℕ). out ++ refusal_by file l p t e o ops c.as_slice.result.now pending.members.items) known.phase
+          ∙ ap (λ (cycle : List TaskId). out ++ refusal_by file l p t e ((state_of old).phases t e.p.0) ops cycle pending.members.items) c.as_slice.ensures.items
+          ∙ ap (λ (left : List ℕ). out ++ refusal_by file l p t e ((state_of old).phases t e.p.0) ops c.in-Refused.cycle.tasks left) known.members,
+    )

@@ -1,0 +1,15 @@
+use Rattle.std.proofs.Common.{◌≡◌, ◌<◌, ℕ, false}
+use Rattle.std.specs.Prelude.{option_copied}
+use Rattle.pl_core.specs.calls.Stands.{IsEnabled}
+use Rattle.step_lines.specs.calls.Known.{kept_layout}
+use Rattle.world_runs.specs.inside.WorldRounds.{LeavesLess}
+use Rattle.refused_awaits.specs.inside.SoFar.{NobodyDeadIn, RoundTo}
+use Rattle.refused_awaits.proofs.avoiding.Avoiding.turns.Given as goal
+
+abbrev pub invariant-loop-t : goal.invariant-loop-t
+invariant-loop-t l =
+    record {
+      left : LeavesLess NobodyDeadIn l.initial.self.world l.self.world l.moved;
+      round : RoundTo (option_copied l.teller.file) (kept_layout l.teller.facts) l.teller.facts.program.now l.t l.initial.self l.self l.moved;
+      quiet : l.moved ≡ false → (u : ℕ) → u < l.t → IsEnabled l.self.world u → ⊥;
+    }

@@ -1,0 +1,18 @@
+use Rattle.std.proofs.Common.{◌≡◌, length}
+use Rattle.std.specs.Prelude.{option_copied}
+use Rattle.step_lines.specs.calls.Known.{kept_layout}
+use Rattle.world_runs.specs.inside.Turns.{left_in}
+use Rattle.refused_awaits.specs.inside.SoFar.{NobodyDeadIn}
+use Rattle.refused_awaits.proofs.Rounds.{HasCome}
+use Rattle.refused_awaits.proofs.avoiding.avoided_to_end.Given as goal
+
+abbrev pub invariant-rounds : goal.invariant-rounds
+invariant-rounds l =
+    record {
+      nobody : NobodyDeadIn l.run.world;
+      forked : length l.forked.items ≡ length l.plan.parents;
+      come : HasCome (option_copied l.teller.file) (kept_layout l.teller.facts) l.teller.facts.program.now l.plan l.run;
+    }
+
+abbrev pub decreases-rounds : goal.decreases-rounds
+decreases-rounds l = left_in l.run.world

@@ -1,0 +1,22 @@
+use Rattle.std.proofs.Common.{◌≡◌, ◌∙◌, ◌++◌, ap, codes}
+use Rattle.armus_base.specs.Plans.{code_of}
+use Rattle.origins.specs.Origins.{op_origin}
+use Rattle.pl_core.specs.calls.Worlds.{places_of}
+use Rattle.task_sayings.specs.Places.{said_of}
+use Rattle.step_lines.specs.StepWords.{drawn_task_words}
+use Rattle.step_lines.specs.calls.Known.{kept_layout}
+use Rattle.step_lines.proofs.OneShowing.{one_op}
+use Rattle.refused_awaits.specs.RefusalWords.{place_of}
+use Rattle.refused_awaits.proofs.Pieces.{three_pieces}
+use Rattle.refused_awaits.proofs.refusal.put_member.Goals as goal
+
+pub returns : goal.returns
+returns c = λ ops stand.
+    let p = c.args.facts.now.program.now in
+    let l = kept_layout c.args.facts.now in
+    let w = c.args.world.now in
+    let t = c.args.t.0 in
+    let same : c.op-i.result ≡ ops t = one_op (code_of w.plan t) (places_of w t).done c.op-i.result (ops t) c.op-i.ensures.op (stand t) in
+    three_pieces c.args.out.now.items c.put_task.new.out.items c.put_words.new.out.items c.put_place.new.out.items (drawn_task_words p t) (codes " at ")
+    (said_of (place_of l) c.op-n.result) c.in_ok-put_task.ensures c.in_ok-put_words.ensures c.in_ok-put_place.ensures
+    ∙ ap (λ n. c.args.out.now.items ++ (drawn_task_words p t ++ codes " at " ++ said_of (place_of l) n)) (c.op-n.ensures ∙ ap (op_origin p t) same)

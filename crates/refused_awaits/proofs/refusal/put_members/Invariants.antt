@@ -1,0 +1,11 @@
+use Rattle.std.proofs.Common.{◌≡◌, ◌++◌, ℕ}
+use Rattle.task_sayings.proofs.Texts.{first_texts}
+use Rattle.step_lines.specs.calls.Known.{kept_layout}
+use Rattle.refused_awaits.specs.RefusalWords.{avoided_link_words, member_words}
+use Rattle.refused_awaits.specs.inside.SoFar.{StandAt}
+use Rattle.refused_awaits.proofs.refusal.put_members.Given as goal
+
+abbrev pub invariant-loop-k : goal.invariant-loop-k
+invariant-loop-k l =
+    (ops : ℕ → ℕ) → StandAt l.world ops →
+    l.out.items ≡ l.initial.out.items ++ first_texts (λ k v. member_words (kept_layout l.facts) l.facts.program.now ops v.0 ++ avoided_link_words k) l.k l.cycle

@@ -1,0 +1,2 @@
+pub mod AvoidedRuns
+pub mod Laws

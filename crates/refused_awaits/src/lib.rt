@@ -1,0 +1,11 @@
+//! The serial avoided run of a text's plan, with a paragraph for each await that is refused: who, where, and the deadlock that the await would have closed.
+#![tactic(auto)]
+
+mod avoiding;
+mod explaining;
+mod laws;
+mod refusal;
+
+pub use avoiding::{AvoidedRun, avoid_through};
+pub use explaining::{AvoidedExplanation, avoided_explanation_of};
+pub use laws::one_avoided_explanation;
