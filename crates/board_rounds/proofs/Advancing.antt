@@ -1,5 +1,5 @@
 -- A round brings tasks further, and how far all may come.
-use Rattle.std.proofs.Common.{◌≡◌, ℕ, zero, suc, ◌<◌, ◌≤◌, ◌+◌, List, [], ◌∷◌, Option, Some, None, length, map, sym, refl, ap, ◌∙◌, subst, arith, inl, inr, ◌⊎◌}
+use Rattle.std.proofs.Common.{◌≡◌, ℕ, suc, ◌<◌, ◌≤◌, ◌+◌, List, [], ◌∷◌, Option, Some, None, length, map, sym, refl, ap, ◌∙◌, subst, arith, inl, inr, ◌⊎◌}
 use Rattle.std.specs.Prelude.{Contains, IsSome, is_some, sum_by, if◌then◌else◌}
 use Rattle.std.proofs.lemmas.Bool.{cases_lt}
 use Rattle.std.proofs.lemmas.List.Sums.{sum_by-cons}
@@ -10,7 +10,7 @@ use Rattle.armus_base.proofs.Elements.{Contains-head, Contains-tail}
 use Rattle.board.specs.calls.Views.{own_place, task_of}
 use Rattle.board.specs.calls.Seats.{Frame}
 use Rattle.board_rounds.specs.calls.Turns.{Acts, EachActs, LeadsByCode, Working, no_task, one_task}
-use Rattle.board_rounds.specs.calls.TaskSeats.{AreTaskSeatsOf, all_steps, number, progress_of, sum_below}
+use Rattle.board_rounds.specs.calls.TaskSeats.{AreTaskSeatsOf, all_steps, number, progress_of}
 use Rattle.board_rounds.specs.inside.Rounds.{emptied}
 use Rattle.board_rounds.proofs.Apart.{differ_sum, sum_over}
 use Rattle.board_rounds.proofs.Between.{from_map}

@@ -1,5 +1,5 @@
 -- What an attempt to decide on an await makes of a seat.
-use Rattle.std.proofs.Common.{◌≡◌, ◌≢◌, ℕ, ◌+◌, true, false, List, [], ◌∷◌, Option, Some, None, length, sym, ap, ◌∙◌, subst, arith, inl, inr}
+use Rattle.std.proofs.Common.{◌≡◌, ◌≢◌, ℕ, ◌+◌, ◌≤◌, true, false, List, [], ◌∷◌, Option, Some, None, Result, Ok, Err, IfOk, OnErr, length, sym, ap, ◌∙◌, subst, arith, inl, inr}
 use Rattle.std.proofs.lemmas.Bool.{cases_eq}
 use Rattle.armus_base.specs.declared.event.Event.{Event}
 use Rattle.armus_base.specs.declared.status.Status.{Status}
@@ -23,8 +23,9 @@ use Rattle.phase_scan.proofs.Loads.{goes_both, longest_later}
 use Rattle.phase_scan.proofs.Supposes.{own_phase_stays}
 use Rattle.verdict.specs.declared.found.Cycle.{Cycle}
 use Rattle.avoider.specs.calls.OnBoard.{HasPublished, HasRefused, IsUndecided, Judges}
+use Rattle.board_rounds.specs.declared.deciding.Attempt.{Attempt}
 use Rattle.board_rounds.specs.calls.Turns.{EndsTurn, Goes, LeadsByCode, is_locked_out}
-use Rattle.board_rounds.specs.inside.Attempts.{IsRefusedAt, drops_below}
+use Rattle.board_rounds.specs.inside.Attempts.{IsRefusedAt, drops_below, loads_at_least}
 use Rattle.board_rounds.proofs.Goings.{goes_loads, goes_made, goes_on, goes_step, goes_then, next_still, own_stays, same_task, stepped_place, task_is}
 use Rattle.board_rounds.proofs.Leaving.{drops_go, has_left_all}
 
@@ -66,6 +67,25 @@ next_locked a b o taken next = ap next_action taken.view ∙ next
 own_locked : (a b : Known) (t : ℕ) → TakesLock a b → a.view.own ≡ Some t → b.view.own ≡ Some t
 own_locked a b t taken own = ap (λ (v : View). v.own) taken.view ∙ own
 
+-- a decision loads the await word of each task at least
+judged_loads :
+    (list supposed : List Status) (aim : Aim) (event : Event) (before now : Known) → Judges list aim event supposed before now →
+    before.view.loads + length before.view.plan.parents ≤ now.view.loads
+judged_loads list supposed aim event before now j =
+    let s = j.adds in
+    let more = column_goes s.found.published event.p.0 before.view.plan s.column (length before.view.plan.parents) j.between now j.collected.goes_on.same.plan (omega arith) j.collected.goes_on.kept s.loads in
+    at_least before.view.loads j.between.view.loads now.view.loads (length before.view.plan.parents) _ j.collected.loads.loads more.goes.loads
+  where
+    at_least : (k b m t q : ℕ) → b ≡ k + (t + q) → b ≤ m → k + t ≤ m
+    at_least k b m t q is l = omega arith
+
+-- an attempt makes at least so many loads
+pub attempt_loads :
+    {E : Type 0} (plan : Plan) (tried : Result Attempt E) (n : ℕ) (a b : Known) → IfOk tried (λ t. n ≡ loads_at_least plan t) → OnErr tried (n ≡ 0) →
+    IfOk tried (λ t. a.view.loads + loads_at_least plan t ≤ b.view.loads) → OnErr tried (Goes [] a b) → a.view.loads + n ≤ b.view.loads
+attempt_loads plan (Ok t) n a b one none least goes = omega arith
+attempt_loads plan (Err e) n a b one none least goes = (let l = goes.loads in omega arith)
+
 module _ (a b now : Known) (t : ℕ) (aim : Aim) (own : a.view.own ≡ Some t) (free : a.view.holds ≡ false) (next : next_action a.view ≡ Some (Blocks aim)) (taken : TakesLock a b) where
   own_b : b.view.own ≡ Some t
   own_b = own_locked a b t taken own
@@ -80,6 +100,15 @@ module _ (a b now : Known) (t : ℕ) (aim : Aim) (own : a.view.own ≡ Some t) (
       let loads = judged_goes list h.supposed aim event b h.store h.judges in
       goes_locked a b h.stored now (Blocks aim ∷ []) free taken
       (goes_then b h.store h.stored t (Blocks aim) own_b taken.kept loads (goes_step h.store h.stored (Blocks aim) (next_then h.store loads) (λ q e. cc) h.step)) h.freed
+
+  pub loads_published : (list : List Status) (event : Event) → HasPublished list aim event b now → a.view.loads + length a.view.plan.parents ≤ now.view.loads
+  loads_published list event h =
+      (let j = judged_loads list h.supposed aim event b h.store h.judges in
+      let first = ap (λ (v : View). v.loads) taken.view in
+      let plan = ap (λ (v : View). length v.plan.parents) taken.view in
+      let s = h.step.loads in
+      let last = ap (λ (v : View). v.loads) h.freed.view in
+      omega arith)
 
   -- nothing was decided
   pub goes_undecided : IsUndecided b now → Goes [] a now
@@ -96,6 +125,15 @@ module _ (a b now : Known) (t : ℕ) (aim : Aim) (own : a.view.own ≡ Some t) (
 
     there : ((own_place h.store.view).dropped ≡ None) × (action_at h.store.view.plan (task_of h.store.view) (own_place h.store.view).done ≡ Some (Blocks aim))
     there = next_there h.store.view (Blocks aim) (next_then h.store loads)
+
+    judging : a.view.loads + length a.view.plan.parents ≤ h.leaves.free.view.loads
+    judging =
+        (let j = judged_loads list h.supposed aim h.event b h.store h.judges in
+        let first = ap (λ (v : View). v.loads) taken.view in
+        let plan = ap (λ (v : View). length v.plan.parents) taken.view in
+        let s = h.leaves.step.loads in
+        let last = ap (λ (v : View). v.loads) h.leaves.freed.view in
+        omega arith)
 
     refuses : Goes (Refuses aim ∷ []) a h.leaves.free
     refuses =
@@ -140,6 +178,9 @@ module _ (a b now : Known) (t : ℕ) (aim : Aim) (own : a.view.own ≡ Some t) (
 
     task_then : task_of now.view ≡ task_of h.store.view
     task_then = same_task h.leaves.free now dropping.0.same ∙ ap task_of h.leaves.freed.view ∙ same_task h.store h.leaves.stored h.leaves.step.same
+
+    pub loads_refused : a.view.loads + length a.view.plan.parents ≤ now.view.loads
+    loads_refused = (let j = judging in let d = dropping.0.loads in omega arith)
 
     pub goes_refused : (drops : ℕ) → drops ≡ members_below (own_phase a.view) (length a.view.plan.makers) → IsRefusedAt aim drops a now
     goes_refused drops counted =

@@ -134,9 +134,10 @@ module _ (f : Frame) (owns : List (List Action)) (olds news : List Working) (eac
   then_none = all_from (λ (w : Working). w.children ≡ []) next (none_left news)
 
   -- without an event each task has come to the end of its turn
-  pub then_ends : (bound : ℕ) → 0 ≡ sum_by length owns → All (λ (w : Working). HasEndedTurn bound w.seat) news → (k : Known) → IsSeatIn next k → HasEndedTurn bound k
-  then_ends bound still ends k at = elim (taken_from news k at) [
-    | inl seat ↦ subst (HasEndedTurn bound) (sym seat.2) (to_each (λ (w : Working). HasEndedTurn bound w.seat) news ends seat.0 seat.1)
+  pub then_ends :
+      (bound loads : ℕ) → 0 ≡ sum_by length owns → All (λ (w : Working). HasEndedTurn bound loads w.seat) news → (k : Known) → IsSeatIn next k → HasEndedTurn bound loads k
+  then_ends bound loads still ends k at = elim (taken_from news k at) [
+    | inl seat ↦ subst (HasEndedTurn bound loads) (sym seat.2) (to_each (λ (w : Working). HasEndedTurn bound loads w.seat) news ends seat.0 seat.1)
     | inr child ↦ absurd (nothing_in_nil k (subst (λ ks. Contains ks k) (quiet each still each_none child.0 child.1) child.2))
   ]
 

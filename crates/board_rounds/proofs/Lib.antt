@@ -1,5 +1,6 @@
 pub mod Goings
 pub mod Halting
+pub mod LookLoads
 pub mod Rounding
 pub mod Crossing
 pub mod Closed

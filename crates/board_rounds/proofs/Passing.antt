@@ -22,6 +22,10 @@ has_left t w none = by_flag t.refused refl
     by_flag true e = absurd (false≢true (subst IsSome none (w.come.gone e).refused))
     by_flag false e = (e, w.come.ops_are e)
 
+-- a pass makes no load
+pub pass_loads : (k m n : Known) → IsSome (event_of k) → LoadsAlone k m → MakesPass m n → n.view.loads ≡ m.view.loads
+pass_loads k m n event goes pass = (let e = published_is (event_of k) event in (pass e.0 (goes.event ∙ e.1)).loads)
+
 module _ (f : Frame) (t : Inside) (m n : Known) (own : ℕ) (w : IsWorking t) (free : t.seat.view.holds ≡ false) (none : (own_place t.seat.view).dropped ≡ None)
     (own_is : t.seat.view.own ≡ Some own) (seat : IsSeat t.seat) (event : IsSome (event_of t.seat)) (goes : LoadsAlone t.seat m) (pass : MakesPass m n) where
   pub record Passed : Type 0 where

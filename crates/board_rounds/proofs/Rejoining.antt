@@ -4,21 +4,21 @@ use Rattle.std.specs.Prelude.{All, Contains, sum_by}
 use Rattle.std.specs.List.{flat_map}
 use Rattle.std.specs.List.Sorted.{IsPermutation}
 use Rattle.std.proofs.lemmas.List.Elements.{All-append, Contains-append_left, Contains-append_right}
-use Rattle.std.proofs.lemmas.List.Sorted.{All-permutation, Contains-permutation, IsPermutation-append_comm, IsPermutation-append_left, IsPermutation-append_right, IsPermutation-middle, IsPermutation-push_more, IsPermutation-refl, IsPermutation-sym, IsPermutation-to_front, IsPermutation-trans, sum_by-IsPermutation}
+use Rattle.std.proofs.lemmas.List.Sorted.{All-permutation, Contains-permutation, IsPermutation-append_comm, IsPermutation-append_left, IsPermutation-append_right, IsPermutation-middle, IsPermutation-push_more, IsPermutation-sym, IsPermutation-to_front, IsPermutation-trans, sum_by-IsPermutation}
 use Rattle.std.proofs.lemmas.List.Sums.{sum_by-append, sum_by-cons}
 use Rattle.armus_base.specs.Plans.{Action, Plan}
 use Rattle.armus_base.specs.CheckedPlans.{IsCheckedPlan}
 use Rattle.armus_base.specs.calls.Seats.{seen_by_child}
 use Rattle.armus_base.proofs.Elements.{Contains-cons_cases, nothing_in_nil}
 use Rattle.board.specs.calls.Seats.{Frame, IsNewSeat, IsOf, Known, nothing_seen}
-use Rattle.board_rounds.specs.calls.Turns.{ActsNoMore, EachActs, HasEndedTurn, MayTakeTurn, Working, is_done, is_refused, in_32_bits}
+use Rattle.board_rounds.specs.calls.Turns.{ActsNoMore, EachActs, HasEndedTurn, MayTakeTurn, Working, in_32_bits, is_done, is_refused, loads_between, loads_of}
 use Rattle.board_rounds.specs.calls.TaskSeats.{AreTasksOf, AreTaskSeatsOf, Tasks, all_of, all_steps, left_to, number, progress_of}
 use Rattle.board_rounds.specs.inside.Rounds.{MakesRound, emptied, fresh_of}
 use Rattle.board_rounds.proofs.Advancing.{all_further, emptied_steps, within_all}
 use Rattle.board_rounds.proofs.Apart.{IsFamily, family_after}
 use Rattle.board_rounds.proofs.Between.{all_from, task_seats_ready, first_task_seats, then_task_seats, then_ends, then_none, to_each}
 use Rattle.board_rounds.proofs.Goings.{task_is}
-use Rattle.board_rounds.proofs.Rounding.{each_ended, each_on, rest_each}
+use Rattle.board_rounds.proofs.Rounding.{each_ended, each_on, loads_in, rest_each}
 use Rattle.board_rounds.proofs.Shuffling.{differ_once, once_differ, shuffled}
 
 pub all_push : (P : Working → Type 0) (ws : List Working) (w : Working) → All P ws → P w → All P (ws ++ w ∷ [])
@@ -78,9 +78,18 @@ zeros [] = refl
 zeros (w ∷ ws) = (let r = zeros ws in let s = sum_by-cons (length {A = Action}) (no_steps w) (map no_steps ws) in omega arith)
 
 -- whose task acts no more has ended its turn
-ends_now : (bound : ℕ) (seat : Known) → ActsNoMore seat → HasEndedTurn bound seat
-ends_now bound seat (inl done) = (seat, 0, inl (is_done done))
-ends_now bound seat (inr left) = (seat, 0, inl (is_refused left))
+ends_now : (bound loads : ℕ) (seat : Known) → ActsNoMore seat → HasEndedTurn bound loads seat
+ends_now bound loads seat (inl done) = (seat, inl (is_done done))
+ends_now bound loads seat (inr left) = (seat, inl (is_refused left))
+
+-- taking the children's seats out makes no load
+pub emptied_loads : (ws : List Working) → loads_of (map emptied ws) ≡ loads_of ws
+emptied_loads [] = refl
+emptied_loads (w ∷ ws) =
+    let x = sum_by-cons loads_in (emptied w) (map emptied ws) in
+    let y = sum_by-cons loads_in w ws in
+    let r = emptied_loads ws in
+    omega arith
 
 module _ (bound : ℕ) (f : Frame) (live ended new : List Working) (made : ℕ) (tasks : AreTasksOf f (record { live = live; ended = ended }))
     (round : MakesRound bound f live new made) where
@@ -163,14 +172,27 @@ module _ (bound : ℕ) (f : Frame) (live ended new : List Working) (made : ℕ) 
   pub round_further : 0 < made → sum_by progress_of olds < sum_by progress_of (new ++ ended)
   round_further l = (let e = events in let m = all_further each (omega arith) in let n = next_steps in omega arith)
 
-  pub round_quiet : made ≡ 0 → All (λ (w : Working). HasEndedTurn bound w.seat) (new ++ ended)
+  abbrev loads : ℕ
+  loads = loads_between olds (new ++ ended)
+
+  -- the loads of the turns are among those of the round
+  turns_made : loads_between live round.turned ≤ loads
+  turns_made =
+      (let p = sum_by-IsPermutation loads_in next (new ++ ended) moved in
+      let s = sum_by-append loads_in (map emptied turned) (flat_map fresh_of turned) in
+      let e = emptied_loads turned in
+      let t = sum_by-append loads_in round.turned ended in
+      let o = sum_by-append loads_in live ended in
+      omega arith)
+
+  pub round_quiet : made ≡ 0 → All (λ (w : Working). HasEndedTurn bound loads w.seat) (new ++ ended)
   round_quiet z =
-      let ends : All (λ (w : Working). HasEndedTurn bound w.seat) turned =
-      All-append (λ (w : Working). HasEndedTurn bound w.seat) round.turned ended (each_ended round.ends)
-      (all_from (λ (w : Working). HasEndedTurn bound w.seat) ended (λ w i. ends_now bound w.seat (to_each (λ (v : Working). ActsNoMore v.seat) ended tasks.ended w i))) in
-      all_from (λ (w : Working). HasEndedTurn bound w.seat) (new ++ ended)
+      let ends : All (λ (w : Working). HasEndedTurn bound loads w.seat) turned =
+      All-append (λ (w : Working). HasEndedTurn bound loads w.seat) round.turned ended (each_ended loads turns_made round.ends)
+      (all_from (λ (w : Working). HasEndedTurn bound loads w.seat) ended (λ w i. ends_now bound loads w.seat (to_each (λ (v : Working). ActsNoMore v.seat) ended tasks.ended w i))) in
+      all_from (λ (w : Working). HasEndedTurn bound loads w.seat) (new ++ ended)
       (λ w i.
-      then_ends f owns olds turned each whole.board_tasks whole.no_child bound (let e = events in omega (arith, z)) ends w.seat
+      then_ends f owns olds turned each whole.board_tasks whole.no_child bound loads (let e = events in omega (arith, z)) ends w.seat
       (w, Contains-permutation (new ++ ended) next w (IsPermutation-sym next (new ++ ended) moved) i, refl))
 
 -- what a round asks of the tasks that live
@@ -211,7 +233,8 @@ module _ (f : Frame) (tasks : Tasks) (are : AreTasksOf f tasks) where
 pub whole_round :
     (bound : ℕ) (f : Frame) (plan : Plan) (before now : Tasks) (new : List Working) (made : ℕ) → f.plan ≡ plan → AreTasksOf f before → MakesRound bound f before.live new made →
     IsPermutation (new ++ before.ended) (all_of now) → All (λ (w : Working). ActsNoMore w.seat) now.ended →
-    AreTasksOf f now × (0 < made → left_to plan now < left_to plan before) × (made ≡ 0 → All (λ (w : Working). HasEndedTurn bound w.seat) (all_of now))
+    AreTasksOf f now × (0 < made → left_to plan now < left_to plan before)
+    × (made ≡ 0 → All (λ (w : Working). HasEndedTurn bound (loads_between (all_of before) (all_of now)) w.seat) (all_of now))
 whole_round bound f plan before now new made same tasks round moved done =
     let middle = new ++ before.ended in
     let whole = shuffled f middle (all_of now) moved (after_round bound f before.live before.ended new made tasks round) in (
@@ -222,23 +245,37 @@ whole_round bound f plan before now new made same tasks round moved done =
           let most = within_all f (is_checked bound f before.live before.ended new made tasks round) (all_of now) whole in
           let s : all_steps f.plan ≡ all_steps plan = ap all_steps same in
           omega arith),
-      (λ z. All-permutation (λ (w : Working). HasEndedTurn bound w.seat) middle (all_of now) moved (round_quiet bound f before.live before.ended new made tasks round z)),
+      (λ z.
+          let p = sum_by-IsPermutation loads_in middle (all_of now) moved in
+          let same : loads_between (all_of before) middle ≡ loads_between (all_of before) (all_of now) = omega arith in
+          subst (λ loads. All (λ (w : Working). HasEndedTurn bound loads w.seat) (all_of now)) same
+          (All-permutation (λ (w : Working). HasEndedTurn bound (loads_between (all_of before) middle) w.seat) middle (all_of now) moved
+          (round_quiet bound f before.live before.ended new made tasks round z))),
     )
 
 -- whose turn has ended has ended it without the seats of its children
-pub emptied_end : (bound : ℕ) (ws : List Working) → All (λ (w : Working). HasEndedTurn bound w.seat) ws → All (λ (w : Working). HasEndedTurn bound w.seat) (map emptied ws)
-emptied_end bound [] all k d l = absurd (omega arith)
-emptied_end bound (w ∷ ws) all zero d l = all 0 w (omega arith)
-emptied_end bound (w ∷ ws) all (suc k) d l = emptied_end bound ws (λ j e m. all (suc j) e (omega arith)) k d (omega arith)
+pub emptied_end :
+    (bound loads : ℕ) (ws : List Working) → All (λ (w : Working). HasEndedTurn bound loads w.seat) ws → All (λ (w : Working). HasEndedTurn bound loads w.seat) (map emptied ws)
+emptied_end bound loads [] all k d l = absurd (omega arith)
+emptied_end bound loads (w ∷ ws) all zero d l = all 0 w (omega arith)
+emptied_end bound loads (w ∷ ws) all (suc k) d l = emptied_end bound loads ws (λ j e m. all (suc j) e (omega arith)) k d (omega arith)
 
 -- where nobody was forked, all have come to the end of their turns
 pub whole_still :
-    (bound : ℕ) (f : Frame) (before now : Tasks) (new : List Working) → AreTasksOf f before → All (λ (w : Working). HasEndedTurn bound w.seat) new →
-    IsPermutation (new ++ before.ended) (all_of now) → All (λ (w : Working). HasEndedTurn bound w.seat) (all_of now)
+    (bound : ℕ) (f : Frame) (before now : Tasks) (new : List Working) → AreTasksOf f before →
+    All (λ (w : Working). HasEndedTurn bound (loads_between before.live new) w.seat) new → IsPermutation (new ++ before.ended) (all_of now) →
+    All (λ (w : Working). HasEndedTurn bound (loads_between (all_of before) (all_of now)) w.seat) (all_of now)
 whole_still bound f before now new tasks ends moved =
-    All-permutation (λ (w : Working). HasEndedTurn bound w.seat) (new ++ before.ended) (all_of now) moved
-    (All-append (λ (w : Working). HasEndedTurn bound w.seat) new before.ended ends
-    (all_from (λ (w : Working). HasEndedTurn bound w.seat) before.ended (λ w i. ends_now bound w.seat (to_each (λ (v : Working). ActsNoMore v.seat) before.ended tasks.ended w i))))
+    let p = sum_by-IsPermutation loads_in (new ++ before.ended) (all_of now) moved in
+    let n = sum_by-append loads_in new before.ended in
+    let o = sum_by-append loads_in before.live before.ended in
+    let same : loads_between before.live new ≡ loads_between (all_of before) (all_of now) = omega arith in
+    let loads = loads_between (all_of before) (all_of now) in
+    All-permutation (λ (w : Working). HasEndedTurn bound loads w.seat) (new ++ before.ended) (all_of now) moved
+    (All-append (λ (w : Working). HasEndedTurn bound loads w.seat) new before.ended
+    (subst (λ k. All (λ (w : Working). HasEndedTurn bound k w.seat) new) same ends)
+    (all_from (λ (w : Working). HasEndedTurn bound loads w.seat) before.ended
+    (λ w i. ends_now bound loads w.seat (to_each (λ (v : Working). ActsNoMore v.seat) before.ended tasks.ended w i))))
 
 -- task 0 alone
 pub first_tasks : (f : Frame) (w : Working) → IsNewSeat f (Some 0) (seen_by_child 0 nothing_seen) w.seat → w.children ≡ [] → AreTasksOf f (record { live = w ∷ []; ended = [] })

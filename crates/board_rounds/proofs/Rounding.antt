@@ -1,10 +1,11 @@
 -- Turns one after the other, and side by side.
-use Rattle.std.proofs.Common.{◌≡◌, ℕ, zero, suc, ◌+◌, ◌<◌, List, [], ◌∷◌, ◌++◌, Result, Ok, Err, IfOk, All, length, map, set, get_or, refl, ap, sym, subst, arith, false, ◌∙◌, sum_by}
+use Rattle.std.proofs.Common.{◌≡◌, ℕ, zero, suc, ◌+◌, ◌<◌, ◌≤◌, List, [], ◌∷◌, ◌++◌, Result, Ok, Err, IfOk, All, length, map, set, get_or, refl, ap, sym, subst, arith, false, inl, inr, ◌∙◌, sum_by}
 use Rattle.std.proofs.lemmas.List.{map-append, map-id}
-use Rattle.std.proofs.lemmas.List.Sums.{sum_by-append}
+use Rattle.std.proofs.lemmas.List.Elements.{All-append}
+use Rattle.std.proofs.lemmas.List.Sums.{sum_by-append, sum_by-cons}
 use Rattle.armus_base.specs.Plans.{Action}
-use Rattle.board.specs.calls.Seats.{Frame}
-use Rattle.board_rounds.specs.calls.Turns.{Acts, EachActs, EachEndsTurn, EndsTurnWithin, HasEndedTurn, MayTakeTurn, TakesTurns, in_32_bits, Working, no_task, no_turn, one_task, one_turn}
+use Rattle.board.specs.calls.Seats.{Frame, Known}
+use Rattle.board_rounds.specs.calls.Turns.{Acts, EachActs, EachEndsTurn, EndsTurnWithin, HasEndedTurn, MayTakeTurn, TakesInOrder, TakesTurns, Working, by_one_worker, by_several, in_32_bits, in_64_bits, loads_between, loads_of, no_task, no_turn, one_task, one_turn}
 use Rattle.board_rounds.proofs.Goings.{acts_itself}
 
 -- what is read and written in a list, through a function
@@ -18,12 +19,14 @@ map_set f [] n v = refl
 map_set f (x ∷ xs) zero v = refl
 map_set f (x ∷ xs) (suc n) v = ap (λ ys. f x ∷ ys) (map_set f xs n v)
 
--- the first n tasks have made their own steps and ended their turns, and the others have made none
-pub data IsSoFar (bound : ℕ) (f : Frame) : ℕ → List (List Action) → List Working → List Working → Type 0 where
-  at_rest : {rest : List Working} → IsSoFar bound f 0 [] rest rest
+-- the first n tasks have made their own steps and ended their turns, where so many loads were made before them and so many are made now, and the others have
+-- made none
+pub data IsSoFar (bound : ℕ) (f : Frame) : ℕ → ℕ → ℕ → List (List Action) → List Working → List Working → Type 0 where
+  at_rest : {loads : ℕ} {rest : List Working} → IsSoFar bound f 0 loads loads [] rest rest
   one_done :
-      {n loads : ℕ} {own : List Action} {owns : List (List Action)} {a b : Working} {olds news : List Working} → Acts f own a b → EndsTurnWithin bound loads a.seat b.seat →
-      IsSoFar bound f n owns olds news → IsSoFar bound f (suc n) (own ∷ owns) (a ∷ olds) (b ∷ news)
+      {n loads total : ℕ} {own : List Action} {owns : List (List Action)} {a b : Working} {olds news : List Working} (made : ℕ) → Acts f own a b →
+      b.seat.view.loads ≡ a.seat.view.loads + made → EndsTurnWithin bound (loads + made) a.seat b.seat → IsSoFar bound f n (loads + made) total owns olds news →
+      IsSoFar bound f (suc n) loads total (own ∷ owns) (a ∷ olds) (b ∷ news)
 
 -- what is true of each of a list is true of the first, and of each of the others
 all_first : (P : Working → Type 0) (w : Working) (rest : List Working) → All P (w ∷ rest) → P w
@@ -45,23 +48,27 @@ first_is P d (w ∷ rest) all l = all_first P w rest all
 
 -- what was true of all is true of the next
 pub next_is :
-    {bound : ℕ} {f : Frame} {n : ℕ} {owns : List (List Action)} {olds news : List Working} (P : Working → Type 0) (d : Working) → IsSoFar bound f n owns olds news → All P olds → n < length news → P (get_or news n d)
+    {bound : ℕ} {f : Frame} {n loads total : ℕ} {owns : List (List Action)} {olds news : List Working} (P : Working → Type 0) (d : Working) →
+    IsSoFar bound f n loads total owns olds news → All P olds → n < length news → P (get_or news n d)
 next_is P d at_rest all l = first_is P d _ all l
-next_is P d (one_done acts ends p) all l = next_is P d p (all_rest P _ _ all) (omega arith)
+next_is P d (one_done made acts more ends p) all l = next_is P d p (all_rest P _ _ all) (omega arith)
 
 first_done :
-    (bound loads : ℕ) (f : Frame) (own : List Action) (d w : Working) (rest : List Working) → 0 < length rest → Acts f own (get_or rest 0 d) w →
-    EndsTurnWithin bound loads (get_or rest 0 d).seat w.seat → IsSoFar bound f 1 (own ∷ []) rest (set rest 0 w)
-first_done bound loads f own d w [] l acts ends = absurd (omega arith)
-first_done bound loads f own d w (b ∷ rest) l acts ends = one_done {loads = loads} acts ends at_rest
+    (bound loads made : ℕ) (f : Frame) (own : List Action) (d w : Working) (rest : List Working) → 0 < length rest → Acts f own (get_or rest 0 d) w →
+    w.seat.view.loads ≡ (get_or rest 0 d).seat.view.loads + made → EndsTurnWithin bound (loads + made) (get_or rest 0 d).seat w.seat →
+    IsSoFar bound f 1 loads (loads + made) (own ∷ []) rest (set rest 0 w)
+first_done bound loads made f own d w [] l acts more ends = absurd (omega arith)
+first_done bound loads made f own d w (b ∷ rest) l acts more ends = one_done made acts more ends at_rest
 
 -- the next has had its turn
 pub next_done :
-    {bound : ℕ} {f : Frame} {n : ℕ} {owns : List (List Action)} {olds news : List Working} (loads : ℕ) (own : List Action) (d w : Working) →
-    IsSoFar bound f n owns olds news → n < length news → Acts f own (get_or news n d) w → EndsTurnWithin bound loads (get_or news n d).seat w.seat →
-    IsSoFar bound f (suc n) (owns ++ own ∷ []) olds (set news n w)
-next_done {bound = bound} loads own d w at_rest l acts ends = first_done bound loads _ own d w _ l acts ends
-next_done loads own d w (one_done {loads = loads'} acts' ends' p) l acts ends = one_done {loads = loads'} acts' ends' (next_done loads own d w p (omega arith) acts ends)
+    {bound : ℕ} {f : Frame} {n loads total : ℕ} {owns : List (List Action)} {olds news : List Working} (made : ℕ) (own : List Action) (d w : Working) →
+    IsSoFar bound f n loads total owns olds news → n < length news → Acts f own (get_or news n d) w →
+    w.seat.view.loads ≡ (get_or news n d).seat.view.loads + made → EndsTurnWithin bound (total + made) (get_or news n d).seat w.seat →
+    IsSoFar bound f (suc n) loads (total + made) (owns ++ own ∷ []) olds (set news n w)
+next_done {bound = bound} {loads = loads} made own d w at_rest l acts more ends = first_done bound loads made _ own d w _ l acts more ends
+next_done made own d w (one_done made' acts' more' ends' p) l acts more ends =
+    one_done made' acts' more' ends' (next_done made own d w p (omega arith) acts more ends)
 
 pub rest_each : (f : Frame) (rest : List Working) → All (MayTakeTurn f) rest → EachActs f (map (λ w. []) rest) rest rest
 rest_each f [] all = no_task
@@ -75,10 +82,10 @@ first_stops f own d w (b ∷ rest) all l acts = (own ∷ map (λ w. []) rest, on
 
 -- the next has made some steps, and no other acts then
 pub next_stops :
-    {bound : ℕ} {f : Frame} {n : ℕ} {owns : List (List Action)} {olds news : List Working} (own : List Action) (d w : Working) → IsSoFar bound f n owns olds news → All (MayTakeTurn f) olds → n < length news →
-    Acts f own (get_or news n d) w → (owns' : List (List Action)) × EachActs f owns' olds (set news n w)
+    {bound : ℕ} {f : Frame} {n loads total : ℕ} {owns : List (List Action)} {olds news : List Working} (own : List Action) (d w : Working) →
+    IsSoFar bound f n loads total owns olds news → All (MayTakeTurn f) olds → n < length news → Acts f own (get_or news n d) w → (owns' : List (List Action)) × EachActs f owns' olds (set news n w)
 next_stops own d w at_rest all l acts = first_stops _ own d w _ all l acts
-next_stops own d w (one_done {own = own'} acts' ends' p) all l acts =
+next_stops own d w (one_done {own = own'} made' acts' more' ends' p) all l acts =
     let r = next_stops own d w p (all_rest (MayTakeTurn _) _ _ all) (omega arith) acts in
     (own' ∷ r.0, one_task acts' r.1)
 
@@ -86,19 +93,30 @@ none_each : (f : Frame) (rest : List Working) → 0 ≡ length rest → EachActs
 none_each f [] e = no_task
 none_each f (w ∷ rest) e = absurd (omega arith)
 
-none_end : (bound : ℕ) (rest : List Working) → 0 ≡ length rest → EachEndsTurn bound rest rest
-none_end bound [] e = no_turn
-none_end bound (w ∷ rest) e = absurd (omega arith)
+none_end : (bound loads : ℕ) (rest : List Working) → 0 ≡ length rest → TakesInOrder bound loads rest rest
+none_end bound loads [] e = no_turn
+none_end bound loads (w ∷ rest) e = absurd (omega arith)
 
 -- all have had their turns
-pub all_each : {bound : ℕ} {f : Frame} {n : ℕ} {owns : List (List Action)} {olds news : List Working} → IsSoFar bound f n owns olds news → n ≡ length news → EachActs f owns olds news
+pub all_each :
+    {bound : ℕ} {f : Frame} {n loads total : ℕ} {owns : List (List Action)} {olds news : List Working} → IsSoFar bound f n loads total owns olds news →
+    n ≡ length news → EachActs f owns olds news
 all_each at_rest e = none_each _ _ e
-all_each (one_done acts ends p) e = one_task acts (all_each p (omega arith))
+all_each (one_done made acts more ends p) e = one_task acts (all_each p (omega arith))
 
 pub all_end :
-    {bound : ℕ} {f : Frame} {n : ℕ} {owns : List (List Action)} {olds news : List Working} → IsSoFar bound f n owns olds news → n ≡ length news → EachEndsTurn bound olds news
-all_end {bound = bound} at_rest e = none_end bound _ e
-all_end (one_done {loads = loads} acts ends p) e = one_turn {loads = loads} ends (all_end p (omega arith))
+    {bound : ℕ} {f : Frame} {n loads total : ℕ} {owns : List (List Action)} {olds news : List Working} → IsSoFar bound f n loads total owns olds news →
+    n ≡ length news → TakesInOrder bound loads olds news
+all_end {bound = bound} {loads = loads} at_rest e = none_end bound loads _ e
+all_end (one_done made acts more ends p) e = one_turn made more ends (all_end p (omega arith))
+
+-- a bound on what the worker has counted, beginning with what it had counted before, is one on the loads that were made since
+pub ends_by_made :
+    (bound most start total made was counted : ℕ) (before now : Known) → most ≡ in_64_bits (start + bound) → was ≤ start + total →
+    before.view.loads + counted ≤ now.view.loads + was → now.view.loads ≡ before.view.loads + made → EndsTurnWithin most counted before now →
+    EndsTurnWithin bound (total + made) before now
+ends_by_made bound most start total made was counted before now is had counts more (inl ends) = inl ends
+ends_by_made bound most start total made was counted before now is had counts more (inr cut) = inr ((let many = cut.0 in omega arith), cut.1)
 
 -- memory ran out
 pub stopped :
@@ -120,15 +138,57 @@ pub each_on :
 each_on owns' olds' news' no_task q = q
 each_on owns' olds' news' (one_task acts p) q = one_task acts (each_on owns' olds' news' p q)
 
-ends_on : {bound : ℕ} {olds news olds' news' : List Working} → EachEndsTurn bound olds news → EachEndsTurn bound olds' news' → EachEndsTurn bound (olds ++ olds') (news ++ news')
-ends_on no_turn q = q
-ends_on (one_turn {loads = loads} ends p) q = one_turn {loads = loads} ends (ends_on p q)
+-- whose turn has ended has ended it where more loads were made
+pub ended_more : (bound less more : ℕ) (seat : Known) → less ≤ more → HasEndedTurn bound less seat → HasEndedTurn bound more seat
+ended_more bound less more seat l (before, ends) = (before, by_end ends)
+  where
+    by_end : EndsTurnWithin bound less before seat → EndsTurnWithin bound more before seat
+    by_end (inl ends) = inl ends
+    by_end (inr cut) = inr ((let many = cut.0 in omega arith), cut.1)
+
+abbrev pub loads_in : Working → ℕ
+loads_in w = w.seat.view.loads
+
+-- no load is lost
+order_grows : {bound loads : ℕ} {olds news : List Working} → TakesInOrder bound loads olds news → loads_of olds ≤ loads_of news
+order_grows no_turn = omega arith
+order_grows (one_turn {before = before} {now = now} {befores = befores} {nows = nows} made more ends p) =
+    let x = sum_by-cons loads_in before befores in
+    let y = sum_by-cons loads_in now nows in
+    let r = order_grows p in
+    omega arith
+
+turns_grow : {bound : ℕ} {olds news : List Working} → EachEndsTurn bound olds news → loads_of olds ≤ loads_of news
+turns_grow (by_one_worker p) = order_grows p
+turns_grow (by_several {front = a} {behind = b} {front_now = x} {behind_now = y} p q) =
+    let s = sum_by-append loads_in a b in
+    let t = sum_by-append loads_in x y in
+    let l = turns_grow p in
+    let r = turns_grow q in
+    omega arith
 
 -- of each task a turn has ended then
-pub each_ended : {bound : ℕ} {olds news : List Working} → EachEndsTurn bound olds news → All (λ (w : Working). HasEndedTurn bound w.seat) news
-each_ended {bound = bound} no_turn = all_none (λ (w : Working). HasEndedTurn bound w.seat)
-each_ended {bound = bound} (one_turn {loads = loads} {before = before} ends p) =
-    all_more (λ (w : Working). HasEndedTurn bound w.seat) _ _ (before.seat, loads, ends) (each_ended p)
+order_ended :
+    {bound loads : ℕ} {olds news : List Working} (total : ℕ) → loads + loads_between olds news ≤ total → TakesInOrder bound loads olds news →
+    All (λ (w : Working). HasEndedTurn bound total w.seat) news
+order_ended {bound = bound} total l no_turn = all_none (λ (w : Working). HasEndedTurn bound total w.seat)
+order_ended {bound = bound} {loads = loads} total l (one_turn {before = before} {now = now} {befores = befores} {nows = nows} made more ends p) =
+    let x = sum_by-cons loads_in before befores in
+    let y = sum_by-cons loads_in now nows in
+    let r = order_grows p in
+    all_more (λ (w : Working). HasEndedTurn bound total w.seat) now nows (ended_more bound (loads + made) total now.seat (omega arith) (before.seat, ends))
+    (order_ended total (omega arith) p)
+
+pub each_ended :
+    {bound : ℕ} {olds news : List Working} (total : ℕ) → loads_between olds news ≤ total → EachEndsTurn bound olds news →
+    All (λ (w : Working). HasEndedTurn bound total w.seat) news
+each_ended total l (by_one_worker p) = order_ended total (omega arith) p
+each_ended {bound = bound} total l (by_several {front = a} {behind = b} {front_now = x} {behind_now = y} p q) =
+    let s = sum_by-append loads_in a b in
+    let t = sum_by-append loads_in x y in
+    let g = turns_grow p in
+    let h = turns_grow q in
+    All-append (λ (w : Working). HasEndedTurn bound total w.seat) x y (each_ended total (omega arith) p) (each_ended total (omega arith) q)
 
 -- two counts that stand still at their end add up to one that does
 pub counts_add : (a b : ℕ) → in_32_bits (in_32_bits a + in_32_bits b) ≡ in_32_bits (a + b)
@@ -149,7 +209,7 @@ turns_on bound f olds news olds' news' x y m n k xs ys ks p' q' =
       events =
           ks ∙ ap (λ a. in_32_bits (a + n)) p.events ∙ ap (λ b. in_32_bits (in_32_bits (sum_by length p.owns) + b)) q.events
           ∙ counts_add (sum_by length p.owns) (sum_by length q.owns) ∙ ap in_32_bits (sym (sum_by-append length p.owns q.owns));
-      ends = ends_on p.ends q.ends;
+      ends = by_several p.ends q.ends;
     }
 
 pub both_each :

@@ -6,7 +6,7 @@ ghost use Rattle.board.specs.calls.Views.{avoids, next_action};
 ghost use Rattle.board.specs.calls.Seats.{Known, IsOf, MakesStep};
 ghost use Rattle.board.specs.inside.Walking.{begins};
 ghost use Rattle.board_rounds.specs.inside.Attempts.{BeginsOp, MayBegin};
-ghost use Rattle.board_rounds.specs.calls.Turns.{AreChildSeats, Goes, tasks_forked};
+ghost use Rattle.board_rounds.specs.calls.Turns.{AreChildSeats, CountsLoadsOf, Goes, tasks_forked};
 
 use crate::deciding::{Attempt, try_to_decide};
 use crate::worker_cells::WorkerCells;
@@ -100,12 +100,13 @@ pub(crate) fn begin(
     ensures children { OnOk result ((new : List Known) × (children.new.items ≡ children.old.items ++ new) × AreChildSeats board.now (tasks_forked (begins op ∷ [])) new) }
     ensures same { OnErr result (Goes [] seat.old seat.new) }
     ensures same_children { OnErr result (children.new.items ≡ children.old.items) }
+    ensures counted { CountsLoadsOf seat.old seat.new cells.old cells.new }
 {
     let _ = seat.id();
     match await_to_decide(op, board) {
         Some((p, off)) => try_to_decide(seat, alloc, board, p, off, cells),
         None => {
-            cells.note_loads(loads_of(op, board));
+            cells.note_await(loads_of(op, board));
             make_step(seat, children, alloc, board, op)?;
             Ok(Attempt::Begun)
         }

@@ -6,7 +6,7 @@ ghost use Rattle.armus_base.specs.calls.Seats.{seen_by_child};
 ghost use Rattle.board.specs.calls.Seats.{IsNewSeat, IsOf, IsSeat, Known, nothing_seen};
 ghost use Rattle.board.specs.calls.Steps.{IsSameSeat};
 ghost use Rattle.board.specs.calls.Views.{own_place, seen};
-ghost use Rattle.board_rounds.specs.calls.Turns.{ActsNoMore, HasEndedTurn, MayTakeTurn, Working};
+ghost use Rattle.board_rounds.specs.calls.Turns.{ActsNoMore, HasEndedTurn, MayTakeTurn, Working, loads_between};
 ghost use Rattle.board_rounds.specs.calls.TaskSeats.{ArePlacesOf, AreTasksOf, HaveEnded, KnowsTasks, all_of, left_to};
 ghost use Rattle.board_rounds.specs.inside.Rounds.{IsAtStart, IsChildIn, MakesRound, emptied, fresh, fresh_of};
 
@@ -82,8 +82,9 @@ impl<'p> BoardTasks<'p> {
         self.live.len()
     }
 
-    /// One round: each task that lives has one turn, by so many workers. What a worker judges by is kept from its first round on, and the words that it loads
-    /// are counted. After the round the children whom they forked live too. Where nobody was forked, each task has come to the end of its turn.
+    /// One round: each task that lives has one turn, by so many workers. What a worker judges by is kept from its first round on. After the round the children
+    /// whom they forked live too. Where nobody was forked, each task stands at the end of a turn; a turn may be cut short only where the tasks have made more
+    /// loads in the round than the bound.
     pub fn round<R: Threads + Sync, G: Gate>(
         &mut self,
         setting: &RoundSetting<'_, R, G>,
@@ -94,8 +95,8 @@ impl<'p> BoardTasks<'p> {
         requires tasks { AreTasksOf setting.now.board.now self.old }
         ensures tasks { OnOk result (AreTasksOf setting.now.board.now self.new) }
         ensures further { IfOk result (λ made. 0 < made.events → left_to plan.now self.new < left_to plan.now self.old) }
-        ensures quiet { IfOk result (λ made. made.events ≡ 0 → HaveEnded setting.now.bound (all_of self.new)) }
-        ensures still { IfOk result (λ made. made.forked ≡ false → HaveEnded setting.now.bound (all_of self.new)) }
+        ensures quiet { IfOk result (λ made. made.events ≡ 0 → HaveEnded setting.now.bound (loads_between (all_of self.old) (all_of self.new)) (all_of self.new)) }
+        ensures still { IfOk result (λ made. made.forked ≡ false → HaveEnded setting.now.bound (loads_between (all_of self.old) (all_of self.new)) (all_of self.new)) }
     {
         provide(&mut self.cells, workers, self.judging)?;
         let cells = self.cells.as_mut_slice();
@@ -105,12 +106,12 @@ impl<'p> BoardTasks<'p> {
         Ok(made)
     }
 
-    /// How many words the awaits so far have loaded, as a board is defined, up to 2^64 - 1: for each that was published one of each task, and for each on
-    /// which was decided those of its collect.
+    /// How many words the awaits so far load, as a board is defined, up to 2^64 - 1: each that was published one of each task, and each on which was decided
+    /// those of its collect.
     pub fn loads(&self) -> u64 {
         let mut loads = 0u64;
         for cells in self.cells.as_slice() {
-            loads = loads.saturating_add(cells.loads());
+            loads = loads.saturating_add(cells.loads_for_awaits());
         }
         loads
     }
@@ -161,7 +162,7 @@ fn go_round<'p, R: Threads + Sync, G: Gate>(
     requires enough { workers ≤ length cells.old }
     requires cells { 1 ≤ length cells.old }
     ensures round { IfOk result (λ made. MakesRound setting.now.bound setting.now.board.now tasks.old.items tasks.new.items made.events) }
-    ensures still { IfOk result (λ made. made.forked ≡ false → All (λ task. HasEndedTurn setting.now.bound task.seat) tasks.new.items) }
+    ensures still { IfOk result (λ made. made.forked ≡ false → All (λ task. HasEndedTurn setting.now.bound (loads_between tasks.old.items tasks.new.items) task.seat) tasks.new.items) }
 {
     let turned = tasks.as_mut_slice();
     let events = take_turns(setting, workers, cells, turned)?;

@@ -5,8 +5,8 @@ ghost use Rattle.armus_base.specs.Places.{members_below};
 ghost use Rattle.board.specs.calls.Seats.{IsOf, aim_at};
 ghost use Rattle.avoider.specs.calls.OnBoard.{HasSameRoom};
 ghost use Rattle.board.specs.calls.Steps.{own_phase};
-ghost use Rattle.board_rounds.specs.inside.Attempts.{IsAttempt, MayDecide};
-ghost use Rattle.board_rounds.specs.calls.Turns.{Goes};
+ghost use Rattle.board_rounds.specs.inside.Attempts.{IsAttempt, MayDecide, loads_at_least};
+ghost use Rattle.board_rounds.specs.calls.Turns.{CountsLoadsOf, Goes};
 
 use crate::worker_cells::WorkerCells;
 use armus_base::{NoMemory, Offset, PhaserId};
@@ -38,11 +38,13 @@ pub(crate) fn try_to_decide(
     requires ready { MayDecide board.now (aim_at p.0 off) seat.old }
     ensures attempt { IfOk result (IsAttempt (aim_at p.0 off) seat.old seat.new) }
     ensures undecided { OnErr result (Goes [] seat.old seat.new) }
+    ensures counted { CountsLoadsOf seat.old seat.new cells.old cells.new }
 {
     let _ = seat.id();
     let mut own = cells.take(alloc, board)?;
     let tried = decide_with(seat, alloc, board, p, off, &mut own);
-    cells.note_loads(loads_of(&tried, &own.0));
+    cells.note_await(loads_of(&tried, &own.0));
+    cells.note_loads(least_loads(&tried, board));
     cells.keep(board, own.0, own.1);
     tried
 }
@@ -52,6 +54,18 @@ fn loads_of(tried: &Result<Attempt, NoMemory>, cells: &Cells) -> u64 {
     match tried {
         Ok(Attempt::LockedOut) => 1,
         _ => cells.loads(),
+    }
+}
+
+// How many words it loaded at least: one where the lock was taken, and else the await word of each task.
+fn least_loads(tried: &Result<Attempt, NoMemory>, board: &Board) -> u64
+    ensures one { IfOk tried.now (λ tried. result ≡ loads_at_least board.now.plan tried) }
+    ensures none { OnErr tried.now (result ≡ 0) }
+{
+    match tried {
+        Ok(Attempt::LockedOut) => 1,
+        Ok(_) => u64::from(board.tasks()),
+        Err(_) => 0,
     }
 }
 
@@ -69,6 +83,7 @@ fn decide_with(
     requires phasers { own.old.0.phasers ≡ length board.now.plan.makers }
     ensures attempt { IfOk result (IsAttempt (aim_at p.0 off) seat.old seat.new) }
     ensures undecided { OnErr result (Goes [] seat.old seat.new) }
+    ensures loads { IfOk result (λ tried. seat.old.view.loads + loads_at_least board.now.plan tried ≤ seat.new.view.loads) }
     ensures room { HasSameRoom own.old.0 own.new.0 }
 {
     let _ = seat.id();

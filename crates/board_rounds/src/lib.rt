@@ -6,6 +6,7 @@ mod board_tasks;
 mod calling;
 mod deciding;
 mod ending;
+mod looking;
 mod round_setting;
 mod rounds;
 mod taking_turns;

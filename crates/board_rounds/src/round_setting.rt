@@ -13,7 +13,7 @@ pub struct RoundSetting<'r, R, C> {
     pub board: &'r Board,
     /// What is called before each op.
     pub gate: &'r C,
-    /// How many words a worker may load for awaits, in this round and those before; one that has loaded more lets each further task act up to its next await
-    /// at the latest. No worker has loaded more than 2^64 - 1.
+    /// How many loads the tasks of a worker may make in this round; once they have made more, the worker lets each task act up to its next await at the
+    /// latest. With 2^64 - 1 no turn is cut short.
     pub bound: u64,
 }

@@ -108,7 +108,7 @@ fn take_turns_in_halves<T: TakeTurn + Send, R: Threads + Sync, C: Calls + Sync>(
     Ok(first?.saturating_add(second?))
 }
 
-// One turn of each of these tasks, in order.
+// One turn of each of these tasks, in order, by one worker; once they have made more loads than the bound, turns are cut short.
 fn take_turns_in_order<T: TakeTurn, C: Calls>(
     alloc: Global,
     board: &Board,
@@ -120,9 +120,10 @@ fn take_turns_in_order<T: TakeTurn, C: Calls>(
     requires ready { All (MayTakeTurn board.now) (map T.working tasks.old) }
     ensures turns { TakesTurns bound board.now (map T.working tasks.old) (map T.working tasks.new) result }
 {
+    let most = cells.loads().saturating_add(bound);
     let mut made = 0u32;
     for task in tasks.iter_mut() {
-        made = made.saturating_add(task.turn(alloc, board, cells, bound, gate)?);
+        made = made.saturating_add(task.turn(alloc, board, cells, most, gate)?);
     }
     Ok(made)
 }

@@ -2,7 +2,7 @@
 ghost use Rattle.std.specs.Prelude.{◌≡◌, ◌≤◌, List, false, IfOk, OnOk, length};
 ghost use Rattle.armus_base.specs.Plans.{Action};
 ghost use Rattle.board.specs.calls.Seats.{IsOf};
-ghost use Rattle.board_rounds.specs.calls.Turns.{Acts, EndsTurnWithin, max_events};
+ghost use Rattle.board_rounds.specs.calls.Turns.{Acts, CountsLoadsOf, EndsTurnWithin, max_events};
 
 use crate::calling::Calls;
 use crate::worker_cells::WorkerCells;
@@ -18,8 +18,8 @@ pub(crate) trait TakeTurn {
     // The task as contracts see it.
     ghost working: { Self → Working };
 
-    /// Its turn: it acts until it is done, or is published and finds a member behind, or is refused, or finds the lock taken; once more words than the bound
-    /// were loaded with these cells, until the next await at the latest. It answers how many events happened. The gate is called before each op that it tries.
+    /// Its turn: it acts until it is done, or is published and finds a member behind, or is refused, or finds the lock taken; once more loads than the bound
+    /// were counted with these cells, until the next await at the latest. It answers how many events happened. The gate is called before each op that it tries.
     fn turn<C: Calls>(
         &mut self,
         alloc: Global,
@@ -32,5 +32,6 @@ pub(crate) trait TakeTurn {
         requires free { (working self.old).seat.view.holds ≡ false }
         ensures acts { (own : List Action) × Acts board.now own (working self.old) (working self.new) × IfOk result (λ n. n ≡ length own) }
         ensures few { IfOk result (λ n. n ≤ max_events) }
+        ensures counted { CountsLoadsOf (working self.old).seat (working self.new).seat cells.old cells.new }
         ensures ends { OnOk result (EndsTurnWithin bound cells.new.loads (working self.old).seat (working self.new).seat) };
 }

@@ -1,20 +1,21 @@
 // A task of a run: its seat, how far it has come, and the seats of the children that it forked.
-ghost use Rattle.std.specs.Prelude.{◌≡◌, ◌↔◌, ◌+◌, ◌++◌, ◌≤◌, ◌<◌, ◌^◌, ℕ, [], ◌∷◌, List, Some, None, true, false, IfOk, IfSome, IsSome, IsTrue, OnOk, OnErr, length};
+ghost use Rattle.std.specs.Prelude.{◌≡◌, ◌↔◌, ◌+◌, ◌++◌, ◌≤◌, ◌<◌, ℕ, [], ◌∷◌, List, Some, None, true, false, IfOk, IfSome, IsSome, IsTrue, OnOk, OnErr, length};
 ghost use Rattle.armus_base.specs.Plans.{Action};
 ghost use Rattle.armus_base.specs.Runs.{first_place};
 ghost use Rattle.board.specs.calls.Views.{own_place};
 ghost use Rattle.board.specs.calls.Seats.{IsOf, event_of};
-ghost use Rattle.board_rounds.specs.calls.Turns.{Acts, ActsNoMore, CountsEvents, EndsTurn, EndsTurnWithin, StandsAtAwait, PausesAt, standing_of};
+ghost use Rattle.board_rounds.specs.calls.Turns.{Acts, ActsNoMore, CountsEvents, CountsLoadsOf, EndsTurn, EndsTurnWithin, PausesAt, StandsAtAwait, in_64_bits, standing_of};
 ghost use Rattle.board_rounds.specs.inside.Tasks.{MakesSome};
 
 use crate::beginning::{await_to_decide, begin};
 use crate::calling::Calls;
 use crate::deciding::Attempt;
+use crate::looking::look_by;
 use crate::taking_turns::TakeTurn;
 use crate::worker_cells::WorkerCells;
 use armus_base::{Cursor, List, NoMemory, Plan, Point, TaskId};
 use board::{Board, TaskSeat};
-use phase_scan::{Look, look};
+use phase_scan::Look;
 use pl_core::Place;
 use std::alloc::Global;
 use std::marker::Model;
@@ -127,7 +128,7 @@ impl<'p> Task<'p> {
     }
 
     /// A stretch of its turn: it acts until it has forked a task, or until its turn is over, as it is done, or is published and finds a member behind, or is
-    /// refused, or finds the lock taken; once more words than the bound were loaded with these cells, its turn is over at the next await. It answers how many
+    /// refused, or finds the lock taken; once more loads than the bound were counted with these cells, its turn is over at the next await. It answers how many
     /// events happened, and which of the two it was. The gate is called before each op that it tries. After `NoMemory` it stands where its own steps brought
     /// it, and has forked nobody.
     pub fn act<C: Calls>(
@@ -144,6 +145,7 @@ impl<'p> Task<'p> {
         ensures few { (n : ℕ) → CountsEvents n self.old → IfOk result (λ acted. CountsEvents (n + acted.events) self.new) }
         ensures pause { IfOk result (λ acted. PausesAt bound cells.new.loads acted.pause self.old self.new) }
         ensures nobody { OnErr result (self.new.children ≡ self.old.children) }
+        ensures counted { CountsLoadsOf self.old.seat self.new.seat cells.old cells.new }
     {
         let _ = self.seat.id();
         let had = self.children.len();
@@ -173,6 +175,7 @@ impl<'p> Task<'p> {
         ensures some { IfOk result (λ o. IfSome o (λ n. MakesSome board.now n self.old self.new)) }
         ensures none { IfOk result (λ o. o ≡ None → Acts board.now [] self.old self.new × EndsTurnWithin bound cells.new.loads self.old.seat self.new.seat) }
         ensures err { OnErr result (Acts board.now [] self.old self.new) }
+        ensures counted { CountsLoadsOf self.old.seat self.new.seat cells.old cells.new }
     {
         let t = self.seat.id();
         if self.refused {
@@ -182,7 +185,7 @@ impl<'p> Task<'p> {
             return Ok(None);
         }
         if self.seat.event().is_some() {
-            return Ok(self.pass(board));
+            return Ok(self.pass(board, cells));
         }
         let Some(op) = self.cursor.peek() else {
             return Ok(None);
@@ -204,12 +207,12 @@ impl<'p> Task<'p> {
         }
     }
 
-    // Whether its turn is over though it may go on: more words than the bound were loaded with these cells, and it is at an await.
+    // Whether its turn is over though it may go on: more loads than the bound were counted with these cells, and it is at an await.
     fn is_cut_short(&self, board: &Board, cells: &WorkerCells, bound: u64) -> bool
         requires made { IsOf self.now.seat board.now }
         requires free { self.now.seat.view.holds ≡ false }
         requires unrefused { (own_place self.now.seat.view).dropped ≡ None }
-        ensures { result ≡ true → bound < cells.now.loads × cells.now.loads < 2 ^ 64 × StandsAtAwait self.now.seat }
+        ensures { result ≡ true → bound < in_64_bits cells.now.loads × StandsAtAwait self.now.seat }
     {
         if cells.loads() <= bound {
             return false;
@@ -238,16 +241,17 @@ impl<'p> Task<'p> {
     }
 
     // Passes the await on which it is published, if its event is reached; answers how many events happened.
-    fn pass(&mut self, board: &Board) -> Option<u32>
+    fn pass(&mut self, board: &Board, cells: &mut WorkerCells) -> Option<u32>
         requires made { IsOf self.old.seat board.now }
         requires free { self.old.seat.view.holds ≡ false }
         requires unrefused { (own_place self.old.seat.view).dropped ≡ None }
         requires event { IsSome (event_of self.old.seat) }
         ensures some { IfSome result (λ n. MakesSome board.now n self.old self.new) }
         ensures none { result ≡ None → Acts board.now [] self.old self.new × EndsTurn self.old.seat self.new.seat }
+        ensures counted { CountsLoadsOf self.old.seat self.new.seat cells.old cells.new }
     {
         let _ = self.seat.id();
-        match look(&mut self.seat, board) {
+        match look_by(&mut self.seat, board, cells) {
             Look::Behind { t: _, phase: _ } => None,
             Look::Reached => {
                 self.seat.withdraw(board);

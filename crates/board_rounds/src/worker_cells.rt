@@ -1,5 +1,6 @@
 // The cells of a worker, and its judge.
-ghost use Rattle.std.specs.Prelude.{◌≡◌, ◌≤◌, ◌+◌, ◌-◌, ◌^◌, IfOk, OnOk, length, min};
+ghost use Rattle.std.specs.Prelude.{◌≡◌, ◌≤◌, ◌+◌, IfOk, OnOk, length};
+ghost use Rattle.board_rounds.specs.calls.Turns.{in_64_bits};
 
 use armus_base::NoMemory;
 use avoider::{Judge, Judging};
@@ -17,7 +18,9 @@ pub struct WorkerCells {
     cells: Option<Cells>,
     judging: Judging,
     judge: Judge,
-    // how many words were loaded for the awaits that were begun with these
+    // how many words the awaits that were begun with these load, as a board is defined
+    loads_for_awaits: u64,
+    // how many of these loads were made for sure
     loads: u64,
 }
 
@@ -41,21 +44,35 @@ impl WorkerCells {
             cells: None,
             judging,
             judge: Judge::new(judging),
+            loads_for_awaits: 0,
             loads: 0,
         }
     }
 
-    /// How many words were loaded for the awaits that were begun with these cells, as a board is defined, up to 2^64 - 1: for each that was published one of
-    /// each task, and for each on which was decided those of its collect.
-    pub fn loads(&self) -> u64
+    /// How many words the awaits that were begun with these cells load, as a board is defined, up to 2^64 - 1: each that was published one of each task, and
+    /// each on which was decided those of its collect.
+    pub fn loads_for_awaits(&self) -> u64 {
+        self.loads_for_awaits
+    }
+
+    /// An await was begun, which loads so many words.
+    pub(crate) fn note_await(&mut self, loads: u64)
+        ensures { self.new.loads ≡ self.old.loads }
+    {
+        self.loads_for_awaits = self.loads_for_awaits.saturating_add(loads);
+    }
+
+    /// How many loads the seats of the tasks have made that acted with these cells, up to 2^64 - 1: those of their looks and of their tries for the lock, and
+    /// of each collect those of the await words.
+    pub(crate) fn loads(&self) -> u64
         ensures { result ≡ self.now.loads }
     {
         self.loads
     }
 
-    /// So many words more were loaded.
+    /// A seat has made so many loads more.
     pub(crate) fn note_loads(&mut self, loads: u64)
-        ensures { self.new.loads ≡ min (self.old.loads + loads) (2 ^ 64 - 1) }
+        ensures { self.new.loads ≡ in_64_bits (self.old.loads + loads) }
     {
         self.loads = self.loads.saturating_add(loads);
     }

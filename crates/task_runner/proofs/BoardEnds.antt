@@ -109,19 +109,19 @@ module _ (f : Frame) (detects : f.mode ≡ Detect) (tasks : List Working) (board
       (w : Working) → Contains tasks w → (bound loads : ℕ) (since : Known) → EndsTurnWithin bound loads since w.seat →
       (action_at f.plan (number w) (own_place w.seat.view).done ≡ None) ⊎ IsSome (published_after f.plan (number w) (own_place w.seat.view).done)
   ended_within w i bound loads since (inl ends) = ended w i since ends
-  ended_within w i bound loads since (inr cut) = at_await w i cut.2
+  ended_within w i bound loads since (inr cut) = at_await w i cut.1
 
   -- where all of them have come to the end of their turns
-  pub settled : (bound : ℕ) → All (λ (w : Working). HasEndedTurn bound w.seat) tasks → AreSettledPlaces f.plan (places_at f.plan places)
-  settled bound ends =
+  pub settled : (bound loads : ℕ) → All (λ (w : Working). HasEndedTurn bound loads w.seat) tasks → AreSettledPlaces f.plan (places_at f.plan places)
+  settled bound loads ends =
       subst (AreSettledPlaces f.plan) (sym there)
       (λ t forked.
       let r = owner t forked in
       let place : own_place r.0.seat.view ≡ a t = sym (stood r.0 r.1) ∙ ap a r.2 in
       let turn = all_each tasks ends r.0 r.1 in
-      let e = ended_within r.0 r.1 bound turn.1 turn.0 turn.2 in
+      let e = ended_within r.0 r.1 bound loads turn.0 turn.1 in
       subst (λ u. (action_at f.plan u (a t).done ≡ None) ⊎ IsSome (published_after f.plan u (a t).done)) r.2
       (subst (λ (b : Place). (action_at f.plan (number r.0) b.done ≡ None) ⊎ IsSome (published_after f.plan (number r.0) b.done)) place e))
     where
-      all_each : (ws : List Working) → All (λ (w : Working). HasEndedTurn bound w.seat) ws → (w : Working) → Contains ws w → HasEndedTurn bound w.seat
-      all_each ws all w i = subst (λ (v : Working). HasEndedTurn bound v.seat) i.2 (all i.0 w i.1)
+      all_each : (ws : List Working) → All (λ (w : Working). HasEndedTurn bound loads w.seat) ws → (w : Working) → Contains ws w → HasEndedTurn bound loads w.seat
+      all_each ws all w i = subst (λ (v : Working). HasEndedTurn bound loads v.seat) i.2 (all i.0 w i.1)

@@ -113,7 +113,7 @@ module _ (f : Frame) (mode : Mode) (tasks : List Working) (board_tasks : AreTask
       (w : Working) → Contains tasks w → (bound loads : ℕ) (since : Known) → EndsTurnWithin bound loads since w.seat → IsSome (own_place w.seat.view).dropped →
       HasLeftAll w.seat
   has_left_within w i bound loads since (inl ends) some = has_left w i since ends some
-  has_left_within w i bound loads since (inr cut) some = absurd (false≢true (subst IsSome (unrefused_at_await w i cut.2) some))
+  has_left_within w i bound loads since (inr cut) some = absurd (false≢true (subst IsSome (unrefused_at_await w i cut.1) some))
 
   -- where refused tasks are members of nothing, the places that the seats tell are those of the board
   module _ (places : List KeptPlace) (are : ArePlacesOf f.plan tasks places)
@@ -177,14 +177,14 @@ module _ (f : Frame) (mode : Mode) (tasks : List Working) (board_tasks : AreTask
 -- where all turns have ended, the places that the seats tell are lawful, and those of the board
 pub lawful_end :
     (f : Frame) (mode : Mode) (tasks : List Working) → AreTaskSeatsOf f tasks → (view : Known) → IsSeat view → KnowsTasks f tasks view → IsOf view f → (words : List ℕ) →
-    AreLastOf f.plan mode (seen view.view) words → (bound : ℕ) → All (λ (w : Working). HasEndedTurn bound w.seat) tasks → (places : List KeptPlace) →
+    AreLastOf f.plan mode (seen view.view) words → (bound loads : ℕ) → All (λ (w : Working). HasEndedTurn bound loads w.seat) tasks → (places : List KeptPlace) →
     ArePlacesOf f.plan tasks places →
     (lock : Option ℕ) × IsLawful (avoids mode) f.plan (places_at f.plan places) lock
-lawful_end f mode tasks whole view seat known of words end bound ends places are =
+lawful_end f mode tasks whole view seat known of words end bound loads ends places are =
     let still = goes_itself view seat in (
       end.last.lock,
       lawful_there f mode tasks whole.board_tasks view view known still of words end places are
           (λ w i.
-          let turn = subst (λ (v : Working). HasEndedTurn bound v.seat) i.2 (ends i.0 w i.1) in
-          has_left_within f mode tasks whole.board_tasks view view known still of words end w i bound turn.1 turn.0 turn.2),
+          let turn = subst (λ (v : Working). HasEndedTurn bound loads v.seat) i.2 (ends i.0 w i.1) in
+          has_left_within f mode tasks whole.board_tasks view view known still of words end w i bound loads turn.0 turn.1),
     )

@@ -3,9 +3,8 @@ ghost use Rattle.std.specs.Prelude.{◌≡◌, ℕ, false, IfOk};
 ghost use Rattle.board.specs.declared.mode.Mode.TheVariants.{Avoid};
 ghost use Rattle.board.specs.calls.Seats.{IsOf, IsSeat};
 ghost use Rattle.board.specs.calls.Views.{seen};
-ghost use Rattle.board_rounds.specs.calls.TaskSeats.{HaveEnded, all_of};
 ghost use Rattle.world_runs.specs.calls.AvoidedRuns.{IsAvoidedEnd};
-ghost use Rattle.task_runner.specs.inside.BoardRuns.{IsOnBoard, many_loads};
+ghost use Rattle.task_runner.specs.inside.BoardRuns.{HaveAllEnded, IsOnBoard};
 
 use crate::RunOptions;
 use crate::board_run::BoardRun;
@@ -46,7 +45,7 @@ fn end_avoided<G: Gate>(
 ) -> Result<Final, NoMemory>
     requires on_board { IsOnBoard board run.plan.now run.board_tasks }
     requires avoids { board.mode ≡ Avoid }
-    requires ends { HaveEnded many_loads (all_of run.board_tasks) }
+    requires ends { HaveAllEnded board run.board_tasks }
     requires made { IsOf view board }
     requires kept { IsSeat view }
     requires unknown { (u : ℕ) → (seen view.view).exact u ≡ false }

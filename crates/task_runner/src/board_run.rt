@@ -2,8 +2,8 @@
 ghost use Rattle.std.specs.Prelude.{◌≡◌, ◌≤◌, ◌<◌, ◌⊎◌, Some, Ok, Err, true, false, IfOk, IfErr, OnOk};
 ghost use Rattle.armus_base.specs.calls.Seats.{seen_by_child};
 ghost use Rattle.board.specs.calls.Seats.{IsNewSeat, nothing_seen};
-ghost use Rattle.board_rounds.specs.calls.TaskSeats.{HaveEnded, all_of, left_to};
-ghost use Rattle.task_runner.specs.inside.BoardRuns.{HasHadRound, IsOnBoard, many_loads};
+ghost use Rattle.board_rounds.specs.calls.TaskSeats.{left_to};
+ghost use Rattle.task_runner.specs.inside.BoardRuns.{HasHadRound, HaveAllEnded, IsOnBoard, bound_on};
 
 use crate::RunOptions;
 use crate::beside::Beside;
@@ -64,7 +64,7 @@ impl<'p> BoardRun<'p> {
         requires fits { B.fits board.now beside.old out.old }
         ensures given { (self.new.plan ≡ self.old.plan) × (self.new.options ≡ self.old.options) }
         ensures on_board { OnOk result (IsOnBoard board.now self.new.plan.now self.new.board_tasks) }
-        ensures ends { OnOk result (HaveEnded many_loads (all_of self.new.board_tasks)) }
+        ensures ends { OnOk result (HaveAllEnded board.now self.new.board_tasks) }
         ensures fits { OnOk result (B.fits board.now beside.new out.new) }
         ensures passes { B.passes board.now beside.old out.old beside.new out.new result }
     {
@@ -86,7 +86,7 @@ impl<'p> BoardRun<'p> {
         ensures given { (self.new.plan ≡ self.old.plan) × (self.new.options ≡ self.old.options) }
         ensures on_board { OnOk result (IsOnBoard board.now self.new.plan.now self.new.board_tasks) }
         ensures further { IfOk result (λ more. more ≡ true → left_to board.now.plan self.new.board_tasks < left_to board.now.plan self.old.board_tasks) }
-        ensures ends { IfOk result (λ more. more ≡ false → HaveEnded many_loads (all_of self.new.board_tasks)) }
+        ensures ends { IfOk result (λ more. more ≡ false → HaveAllEnded board.now self.new.board_tasks) }
         ensures fits { OnOk result (B.fits board.now beside.new out.new) }
         ensures passes { OnOk result (B.passes board.now beside.old out.old beside.new out.new (Ok tt)) }
         ensures early { IfErr result (λ e. B.passes board.now beside.old out.old beside.new out.new (Err e)) }
@@ -131,7 +131,7 @@ impl<'p> BoardRun<'p> {
     {
         let alloc = self.alloc;
         if !beside.is_there() || !self.round_workers.wants_threads() {
-            let bound = bound_on_loads(beside.is_there());
+            let bound = bound_on_loads(board, beside.is_there());
             let made = self.round(rt, board, gate, bound);
             return (made, beside.pass(alloc, board, gate, out));
         }
@@ -139,14 +139,14 @@ impl<'p> BoardRun<'p> {
             rt,
             &mut || -> Result<Rounded, NoMemory>
                 requires { IsOnBoard board.now self.now.plan.now self.now.board_tasks }
-            { self.round(rt, board, gate, u64::MAX) },
+            { self.round(rt, board, gate, bound_on_loads(board, true)) },
             &mut || -> Result<(), B::Early>
                 requires { B.fits board.now beside.now out.now }
             { beside.pass(alloc, board, gate, out) },
         )
     }
 
-    // One round, in which a worker that has loaded more words than the bound cuts turns short.
+    // One round, in which a worker whose tasks have made more loads than the bound cuts turns short.
     fn round<R: Threads + Sync, G: Gate>(
         &mut self,
         rt: &R,
@@ -154,7 +154,7 @@ impl<'p> BoardRun<'p> {
         gate: &G,
         bound: u64,
     ) -> Result<Rounded, NoMemory>
-        requires bound { many_loads ≤ bound }
+        requires bound { bound_on board.now ≤ bound }
         requires on_board { IsOnBoard board.now self.old.plan.now self.old.board_tasks }
         ensures given { (self.new.plan ≡ self.old.plan) × (self.new.options ≡ self.old.options) }
         ensures round { IfOk result (HasHadRound board.now self.new.plan.now self.old.board_tasks self.new.board_tasks) }

@@ -3,9 +3,8 @@ ghost use Rattle.std.specs.Prelude.{◌≡◌, ◌≤◌, ℕ, false, true, IfOk
 ghost use Rattle.board.specs.declared.mode.Mode.TheVariants.{Detect};
 ghost use Rattle.board.specs.calls.Views.{seen};
 ghost use Rattle.phase_scan.specs.calls.Looks.{LoadsAlone};
-ghost use Rattle.board_rounds.specs.calls.TaskSeats.{HaveEnded, all_of};
 ghost use Rattle.task_runner.specs.calls.DetectRuns.{IsDetectRun, IsNoWrite, TellsRun, told};
-ghost use Rattle.task_runner.specs.inside.BoardRuns.{many_loads};
+ghost use Rattle.task_runner.specs.inside.BoardRuns.{HaveAllEnded};
 ghost use Rattle.task_runner.specs.inside.DetectRounds.{IsUnderWay};
 ghost use Rattle.task_runner.specs.inside.LiveReporters.{HasPassed, SeesOn, TellsMore, TellsOn, Watches};
 
@@ -65,7 +64,7 @@ fn go_by_rounds<R: Threads + Sync, G: Gate, K: Sink>(
     requires under_way { IsUnderWay board.now run.old.plan.now run.old.board_tasks live_reporter.old }
     ensures given { (run.new.plan ≡ run.old.plan) × (run.new.options ≡ run.old.options) }
     ensures under_way { OnOk result (IsUnderWay board.now run.new.plan.now run.new.board_tasks live_reporter.new) }
-    ensures ends { OnOk result (HaveEnded many_loads (all_of run.new.board_tasks)) }
+    ensures ends { OnOk result (HaveAllEnded board.now run.new.board_tasks) }
     ensures sees { SeesOn live_reporter.old.view live_reporter.new.view }
     ensures told { TellsMore board.now.plan live_reporter.old.dead live_reporter.new.dead (told K.taken K.faults out.old) (told K.taken K.faults out.new) result }
     ensures silent { run.old.options.live ≡ false → (out.new ≡ out.old) × IsNoWrite result }
@@ -88,7 +87,7 @@ fn end_run<G: Gate, K: Sink>(
     out: &mut K,
 ) -> Result<Ran, RunEnd>
     requires under_way { IsUnderWay board run.plan.now run.board_tasks live_reporter }
-    requires ends { HaveEnded many_loads (all_of run.board_tasks) }
+    requires ends { HaveAllEnded board run.board_tasks }
     requires unknown { (u : ℕ) → (seen live_reporter.view.view).exact u ≡ false }
     ensures ran { IfOk result (IsDetectRun run.entry.plan.now) }
     ensures told { run.entry.options.live ≡ true → TellsOn run.entry.plan.now live_reporter.dead (told K.taken K.faults out.old) (told K.taken K.faults out.new) result }

@@ -1,7 +1,8 @@
 // When a run leaves its board.
 ghost use Rattle.std.specs.Prelude.{◌≡◌, ◌≤◌, ◌<◌, ◌⊎◌, true, false};
-ghost use Rattle.task_runner.specs.inside.BoardRuns.{many_loads};
+ghost use Rattle.task_runner.specs.inside.BoardRuns.{bound_on};
 
+use board::{Board, Mode};
 use board_rounds::Rounded;
 
 /// How many words the awaits of a run may load on a board, before the run leaves it.
@@ -12,15 +13,18 @@ pub(crate) fn are_many(loads: u64) -> bool {
     loads > MANY_LOADS
 }
 
-/// How many words a worker may load for awaits before it cuts turns short: any number where there is a pass beside the rounds, for which the run stays on its
-/// board.
-pub(crate) fn bound_on_loads(with_pass: bool) -> u64
-    ensures { many_loads ≤ result }
+/// How many loads the tasks of a worker may make in a round before it cuts turns short: any number where there is a pass beside the rounds, for which the run
+/// stays on its board; and fewer where deadlock is avoided, since of a decision the await words alone are counted.
+pub(crate) fn bound_on_loads(board: &Board, with_pass: bool) -> u64
+    ensures { bound_on board.now ≤ result }
 {
     if with_pass {
         return u64::MAX;
     }
-    MANY_LOADS
+    match board.mode() {
+        Mode::Avoid => MANY_LOADS / (u64::from(board.phasers()) + 1),
+        Mode::Detect => MANY_LOADS,
+    }
 }
 
 /// Whether another round on the board is to come after this one, where the awaits so far have loaded so many words. None comes after a round without an event

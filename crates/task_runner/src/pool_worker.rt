@@ -118,7 +118,7 @@ impl<'p, N: BoardName> PoolWorker<'p, N> {
 
     // Whether the board costs too much: the awaits of all workers, if each has loaded as many words as this one.
     fn costs_too_much(&self) -> bool {
-        are_many(self.cells.loads().saturating_mul(self.workers))
+        are_many(self.cells.loads_for_awaits().saturating_mul(self.workers))
     }
 
     // Visits each task, in order of number.

@@ -5,12 +5,11 @@ ghost use Rattle.armus_base.specs.calls.Statuses.{IsInOrder};
 ghost use Rattle.board.specs.declared.mode.Mode.TheVariants.{Detect};
 ghost use Rattle.board.specs.calls.Seats.{IsNewSeat, IsOf, IsSeat};
 ghost use Rattle.board.specs.calls.Views.{seen};
-ghost use Rattle.board_rounds.specs.calls.TaskSeats.{HaveEnded, all_of};
 ghost use Rattle.sites.specs.calls.Keeping.{count_after};
 ghost use Rattle.sites.specs.calls.Parts.{HoldParts, PutsParts};
 ghost use Rattle.world_runs.specs.calls.PlainRuns.{IsPlainEnd};
 ghost use Rattle.task_runner.specs.calls.SiteRuns.{HoldFinal, HoldRowsOfRun};
-ghost use Rattle.task_runner.specs.inside.BoardRuns.{IsOnBoard, many_loads};
+ghost use Rattle.task_runner.specs.inside.BoardRuns.{HaveAllEnded, IsOnBoard};
 ghost use Rattle.task_runner.specs.inside.SiteRounds.{IsWholeEnd};
 
 use crate::RunOptions;
@@ -89,7 +88,7 @@ fn end_of_board<G: Gate>(
 ) -> Result<(Final, List<Status>), NoMemory>
     requires on_board { IsOnBoard board run.plan.now run.board_tasks }
     requires detects { board.mode ≡ Detect }
-    requires ends { HaveEnded many_loads (all_of run.board_tasks) }
+    requires ends { HaveAllEnded board run.board_tasks }
     requires made { IsOf view board }
     requires kept { IsSeat view }
     requires unknown { (u : ℕ) → (seen view.view).exact u ≡ false }

@@ -93,9 +93,9 @@ pub record AreTasksOf (board : Frame) (tasks : Tasks) : Type 0 where
   pub all : AreTaskSeatsOf board (all_of tasks)
   pub ended : All (λ task. ActsNoMore task.seat) tasks.ended
 
--- each of these tasks has come to the end of its turn, by a worker with this bound
-pub record HaveEnded (bound : ℕ) (tasks : List Working) : Type 0 where
-  pub each : All (λ task. HasEndedTurn bound task.seat) tasks
+-- each of these tasks stands at the end of a turn, perhaps of an earlier round, with this bound on so many loads
+pub record HaveEnded (bound loads : ℕ) (tasks : List Working) : Type 0 where
+  pub each : All (λ task. HasEndedTurn bound loads task.seat) tasks
 
 -- how much is left to these tasks of a plan
 abbrev pub left_to : Plan → Tasks → ℕ

@@ -131,21 +131,29 @@ pub data EndsTurn (before now : Known) : Type 0 where
 abbrev pub StandsAtAwait : Known → Type 0
 StandsAtAwait seat = IsSome (event_of seat) ⊎ (avoids seat.view.mode ≡ true × IsBeforeAwait seat)
 
--- a worker: how many words were loaded for the awaits that its tasks began, counted in 64 bits
+-- a count of 64 bits: so many, or the greatest number of 64 bits, at which it stands still
+abbrev pub in_64_bits : ℕ → ℕ
+in_64_bits n = min n (2 ^ 64 - 1)
+
+-- a worker: how many loads were counted with its cells, in 64 bits
 pub record Worker : Type 0 where
   pub loads : ℕ
 
--- How a turn ends by a worker for whose loads a bound is set: as any turn does or, where there are more of them, at an await at which its task has neither
--- looked nor tried for the lock. A count of 64 bits is never above the greatest one.
+-- While the seat went from the first to the second, the worker has counted no more loads than the seat has made.
+abbrev pub CountsLoadsOf : Known → Known → Worker → Worker → Type 0
+CountsLoadsOf before now old new = before.view.loads + new.loads ≤ now.view.loads + old.loads
+
+-- How a turn ends where so many loads were made, and a bound is set: as any turn does or, where there are more of them, at an await, whether its task has looked
+-- there or not. A count of 64 bits is never above the greatest one.
 abbrev pub EndsTurnWithin : ℕ → ℕ → Known → Known → Type 0
-EndsTurnWithin bound loads before now = EndsTurn before now ⊎ (bound < loads × loads < 2 ^ 64 × StandsAtAwait now)
+EndsTurnWithin bound loads before now = EndsTurn before now ⊎ (bound < in_64_bits loads × StandsAtAwait now)
 
--- the seat stands where some turn of it has ended, by some worker with this bound
-abbrev pub HasEndedTurn : ℕ → Known → Type 0
-HasEndedTurn bound now = (before : Known) × (loads : ℕ) × EndsTurnWithin bound loads before now
+-- the seat stands where some turn of it has ended, perhaps of an earlier round, with this bound on so many loads
+abbrev pub HasEndedTurn : ℕ → ℕ → Known → Type 0
+HasEndedTurn bound loads now = (before : Known) × EndsTurnWithin bound loads before now
 
--- Why a task acts no further: it has forked a task, whose seat is new among its children's; or its turn is over, by a worker with this bound and so many
--- loads, and it has forked nobody.
+-- Why a task acts no further: it has forked a task, whose seat is new among its children's; or its turn is over, with this bound on so many loads, and it has
+-- forked nobody.
 abbrev pub PausesAt : ℕ → ℕ → Pause → Working → Working → Type 0
 PausesAt bound loads Forked before now = (seat : Known) × now.children ≡ before.children ++ seat ∷ []
 PausesAt bound loads TurnOver before now = EndsTurnWithin bound loads before.seat now.seat × now.children ≡ before.children
@@ -163,19 +171,37 @@ pub data EachActs (board : Frame) : List (List Action) → List Working → List
       {own : List Action} {owns : List (List Action)} {before now : Working} {befores nows : List Working} →
       Acts board own before now → EachActs board owns befores nows → EachActs board (own ∷ owns) (before ∷ befores) (now ∷ nows)
 
--- each task has come to the end of its turn, by a worker with this bound
-pub data EachEndsTurn (bound : ℕ) : List Working → List Working → Type 0 where
-  no_turn : EachEndsTurn bound [] []
+-- how many loads these tasks have made
+abbrev pub loads_of : List Working → ℕ
+loads_of tasks = sum_by (λ task. task.seat.view.loads) tasks
+
+-- how many loads they have made since
+abbrev pub loads_between : List Working → List Working → ℕ
+loads_between before now = loads_of now - loads_of before
+
+-- One worker takes these turns, one after the other, and its tasks have made so many loads before them in this round. Each comes to its end, with this bound
+-- on the loads up to there.
+pub data TakesInOrder (bound : ℕ) : ℕ → List Working → List Working → Type 0 where
+  no_turn : {loads : ℕ} → TakesInOrder bound loads [] []
   one_turn :
-      {loads : ℕ} {before now : Working} {befores nows : List Working} → EndsTurnWithin bound loads before.seat now.seat → EachEndsTurn bound befores nows →
-      EachEndsTurn bound (before ∷ befores) (now ∷ nows)
+      {loads : ℕ} {before now : Working} {befores nows : List Working} (made : ℕ) → now.seat.view.loads ≡ before.seat.view.loads + made →
+      EndsTurnWithin bound (loads + made) before.seat now.seat → TakesInOrder bound (loads + made) befores nows →
+      TakesInOrder bound loads (before ∷ befores) (now ∷ nows)
+
+-- Each task has come to the end of its turn: one worker has taken all these turns in a round with this bound, or some workers those of the tasks in front,
+-- and others those of the tasks behind.
+pub data EachEndsTurn (bound : ℕ) : List Working → List Working → Type 0 where
+  by_one_worker : {befores nows : List Working} → TakesInOrder bound 0 befores nows → EachEndsTurn bound befores nows
+  by_several :
+      {front behind front_now behind_now : List Working} → EachEndsTurn bound front front_now → EachEndsTurn bound behind behind_now →
+      EachEndsTurn bound (front ++ behind) (front_now ++ behind_now)
 
 -- a count of 32 bits: so many, or the greatest number of 32 bits, at which it stands still
 abbrev pub in_32_bits : ℕ → ℕ
 in_32_bits n = min n (2 ^ 32 - 1)
 
--- Each task has made its own steps. Where memory lasted, each has come to the end of its turn, by a worker with this bound, and all their steps are counted,
--- in 32 bits.
+-- Each task has made its own steps. Where memory lasted, each has come to the end of its turn, cut short only where the tasks of its worker have made more
+-- loads in this round than the bound, and all their steps are counted, in 32 bits.
 pub record TakesTurns {E : Type 0} (bound : ℕ) (board : Frame) (befores nows : List Working) (counted : Result ℕ E) : Type 0 where
   pub owns : List (List Action)
   pub each : EachActs board owns befores nows

@@ -4,7 +4,7 @@ use Rattle.std.proofs.Common.{zero, suc}
 use Rattle.armus_base.specs.declared.op.Op.{Op}
 use Rattle.armus_base.specs.declared.op.Op.TheVariants.{Await}
 use Rattle.armus_base.specs.Places.{members_below}
-use Rattle.armus_base.specs.Plans.{Aim, Action, Blocks, Drops, Refuses}
+use Rattle.armus_base.specs.Plans.{Aim, Action, Blocks, Drops, Plan, Refuses}
 use Rattle.armus_base.specs.States.{Phases}
 use Rattle.board.specs.calls.Seats.{Frame, IsOf, Known, aim_at}
 use Rattle.board.specs.calls.Steps.{own_phase}
@@ -45,6 +45,12 @@ abbrev pub IsAttempt : Aim → Known → Known → Attempt → Type 0
 IsAttempt aim before now LockedOut = Goes [] before now × EndsTurn before now
 IsAttempt aim before now Begun = Goes (Blocks aim ∷ []) before now
 IsAttempt aim before now (Refused drops) = IsRefusedAt aim drops before now
+
+-- how many loads an attempt makes at least: one try that finds the lock taken, or those of the await words of a collect
+abbrev pub loads_at_least : Plan → Attempt → ℕ
+loads_at_least plan LockedOut = 1
+loads_at_least plan Begun = length plan.parents
+loads_at_least plan (Refused drops) = length plan.parents
 
 -- what came of an op that was to begin: the same of an await, and every other one has begun
 abbrev pub BeginsOp : Op → Known → Known → Attempt → Type 0

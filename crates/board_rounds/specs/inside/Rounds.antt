@@ -27,8 +27,8 @@ fresh seat = record { seat = seat; children = [] }
 abbrev pub fresh_of : Working → List Working
 fresh_of task = map fresh task.children
 
--- A round of turns of these tasks: each has made its own steps, so many in all, and has come to the end of its turn, by a worker with this bound; then the
--- children whom they forked stand among them.
+-- A round of turns of these tasks: each has made its own steps, so many in all, and has come to the end of its turn, with this bound on the loads of its
+-- worker; then the children whom they forked stand among them.
 pub record MakesRound (bound : ℕ) (board : Frame) (before now : List Working) (made : ℕ) : Type 0 where
   pub owns : List (List Action)
   pub turned : List Working

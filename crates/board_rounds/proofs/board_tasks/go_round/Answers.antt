@@ -1,13 +1,13 @@
-use Rattle.std.proofs.Common.{◌≡◌, ◌++◌, List, [], All, length, drop, map, Ok, ap, sym, subst, rules, ◌∙◌}
+use Rattle.std.proofs.Common.{◌≡◌, ◌≤◌, ◌++◌, List, [], All, length, drop, map, Ok, ap, sym, subst, rules, arith, ◌∙◌}
 use Rattle.std.specs.List.{flat_map}
 use Rattle.std.specs.List.Sorted.{IsPermutation}
 use Rattle.armus_base.specs.Plans.{Plan}
-use Rattle.board_rounds.specs.calls.Turns.{EachActs, EachEndsTurn, HasEndedTurn, MayTakeTurn, Working}
+use Rattle.board_rounds.specs.calls.Turns.{EachActs, EachEndsTurn, HasEndedTurn, MayTakeTurn, Working, loads_between, loads_of}
 use Rattle.board_rounds.specs.inside.Rounds.{IsAtStart, IsChildIn, emptied, fresh_of}
 use Rattle.board_rounds.proofs.Between.{take_front, to_each}
 use Rattle.board_rounds.proofs.TaskSeatsKept.{starts}
 use Rattle.board_rounds.proofs.Rounding.{each_ended, of_itself, ready_itself}
-use Rattle.board_rounds.proofs.Rejoining.{emptied_end}
+use Rattle.board_rounds.proofs.Rejoining.{emptied_end, emptied_loads}
 use Rattle.board_rounds.proofs.board_tasks.go_round.Goals as goal
 
 pub take_on-requires : goal.take_on-requires
@@ -37,8 +37,13 @@ returns g c =
             subst (λ (ws : List Working). IsPermutation (map emptied ws ++ flat_map fresh_of ws) c.take_on.new.tasks.items) whole c.in_ok-forked.ensures.joined;
       };
       still = λ none.
-          subst (λ (ws : List Working). All (λ (w : Working). HasEndedTurn c.args.setting.now.bound w.seat) ws) (sym (c.in_ok-forked.ensures.none none ∙ ap (map emptied) whole))
-          (emptied_end c.args.setting.now.bound c.take_turns.new.tasks (each_ended turns.ends));
+          let bound = c.args.setting.now.bound in
+          let loads = loads_between c.args.tasks.now.items c.take_on.new.tasks.items in
+          let same = c.in_ok-forked.ensures.none none ∙ ap (map emptied) whole in
+          let few : loads_between c.as_mut_slice-turned.result.now c.take_turns.new.tasks ≤ loads =
+          (let a = ap loads_of c.as_mut_slice-turned.ensures.value in let b = ap loads_of same in let e = emptied_loads c.take_turns.new.tasks in omega arith) in
+          subst (λ (ws : List Working). All (λ (w : Working). HasEndedTurn bound loads w.seat) ws) (sym same)
+          (emptied_end bound loads c.take_turns.new.tasks (each_ended loads few turns.ends));
     }
 
 pub take_turns-requires-clause-ready : goal.take_turns-requires-clause-ready

@@ -1,4 +1,4 @@
-use Rattle.std.proofs.Common.{◌≡◌, ◌∙◌, [], ◌∷◌, ap, subst, sym, length}
+use Rattle.std.proofs.Common.{◌≡◌, ◌∙◌, [], ◌∷◌, ap, arith, subst, sym, length}
 use Rattle.armus_base.specs.Places.{members_below}
 use Rattle.armus_base.specs.Plans.{Blocks, Plan}
 use Rattle.board.specs.calls.Seats.{IsSeat, Known, aim_at}
@@ -8,7 +8,7 @@ use Rattle.avoider.specs.declared.decision.Decision.{Decision}
 use Rattle.avoider.specs.calls.OnBoard.{IsDecidedOnBoard}
 use Rattle.board_rounds.specs.calls.Turns.{EndsTurn, Goes}
 use Rattle.board_rounds.specs.inside.Attempts.{IsRefusedAt}
-use Rattle.board_rounds.proofs.Attempting.{ends_locked_out, goes_locked_out, goes_published, goes_refused}
+use Rattle.board_rounds.proofs.Attempting.{ends_locked_out, goes_locked_out, goes_published, goes_refused, loads_published, loads_refused}
 use Rattle.board_rounds.proofs.deciding.decide_with.Goals.{in-Published, in-Refused}
 use Rattle.board_rounds.proofs.deciding.decide_with.Goals as goal
 
@@ -50,4 +50,29 @@ returns-clause-attempt c =
           own free next c.in-Ok.ensures.taken _ _ (told _ w.in-Refused.is) c.memberships-phasers.result
           (c.memberships-phasers.ensures.counted ∙ ap (λ (q : Plan). members_below (own_phase c.args.seat.now.view) (length q.makers)) (sym c.requires.ready.made.plan)
           ∙ ap (λ (k : Known). members_below (own_phase k.view) (length k.view.plan.makers)) (sym same))))
+    ]
+
+pub returns-in-Err-clause-loads : goal.returns-in-Err-clause-loads
+returns-in-Err-clause-loads c =
+    (let same = ap (λ (k : Known). k.view.loads) c.memberships-phasers.ensures.seat in let one = c.in-Err.ensures.busy.meets.loads in omega arith)
+
+pub returns-clause-loads : goal.returns-clause-loads
+returns-clause-loads c =
+    let first = c.memberships-phasers.new.seat in
+    let now = c.decide.new.seat in
+    let same = c.memberships-phasers.ensures.seat in
+    let own = ap (λ (k : Known). k.view.own) same ∙ c.id.ensures.task in
+    let free = ap (λ (k : Known). k.view.holds) same ∙ c.requires.ready.unlocked in
+    let next = ap (λ (k : Known). next_action k.view) same ∙ c.requires.ready.next in
+    let loads = ap (λ (k : Known). k.view.loads) same in
+    let tasks = ap (λ (k : Known). length k.view.plan.parents) same ∙ ap (λ (q : Plan). length q.parents) c.requires.ready.made.plan in
+    let told : (d : Decision) → c.in_ok-decide.field-0 ≡ d → IsDecidedOnBoard c.decide.new.cells.statuses (aim_at c.args.p.0 c.args.off) c.try_take.new.seat now d =
+    λ d is. subst (λ e. IsDecidedOnBoard c.decide.new.cells.statuses (aim_at c.args.p.0 c.args.off) c.try_take.new.seat now e) is c.in_ok-decide.ensures.decision in
+    elim c.match-branch-2.branch [
+      | in-Published w ↦
+          rw w.result-is
+          (let l = loads_published first c.try_take.new.seat now c.id.result.0 (aim_at c.args.p.0 c.args.off) own free next c.in-Ok.ensures.taken _ _ (told _ w.in-Published.is) in omega arith)
+      | in-Refused w ↦
+          rw w.result-is
+          (let l = loads_refused first c.try_take.new.seat now c.id.result.0 (aim_at c.args.p.0 c.args.off) own free next c.in-Ok.ensures.taken _ _ (told _ w.in-Refused.is) in omega arith)
     ]

@@ -7,8 +7,9 @@ use Rattle.board.specs.declared.mode.Mode.{Mode}
 use Rattle.board.specs.declared.mode.Mode.TheVariants.{Avoid}
 use Rattle.board.specs.calls.Closing.{AreLastOf}
 use Rattle.board.specs.calls.Views.{seen}
+use Rattle.board_rounds.specs.calls.Turns.{loads_of}
 use Rattle.board_rounds.specs.calls.TaskSeats.{ArePlacesOf, all_of}
-use Rattle.task_runner.specs.inside.BoardRuns.{many_loads}
+use Rattle.task_runner.specs.inside.BoardRuns.{bound_on}
 use Rattle.task_runner.proofs.BoardPlaces.{lawful_end}
 use Rattle.task_runner.proofs.avoided_board.end_avoided.Goals as goal
 
@@ -25,7 +26,7 @@ avoided_end_from-requires-clause-lawful g c κs within =
     let places : List KeptPlace = c.in_ok-places.places in
     let are = subst (λ (q : Plan). ArePlacesOf q tasks places) (sym c.requires.on_board.of_plan) c.in_ok-places.ensures.places in
     let end = lawful_end f Avoid tasks c.requires.on_board.board_tasks.all view (c.take_in.ensures.kept c.requires.kept) c.take_in.ensures.known c.take_in.ensures.made words
-    last many_loads c.requires.ends.each places are in (
+    last (bound_on f) (loads_of tasks) c.requires.ends.each places are in (
       end.0,
       subst (λ (xs : List KeptPlace). IsLawful true c.args.run.plan.now (places_at c.args.run.plan.now xs) end.0) (sym c.as_slice.ensures.items)
           (subst (λ (q : Plan). IsLawful true q (places_at q places) end.0) c.requires.on_board.of_plan end.1),

@@ -18,12 +18,14 @@ use Rattle.board.specs.calls.Seats.{IsOf}
 use Rattle.board.specs.calls.Views.{seen}
 use Rattle.board.specs.calls.Words.{IsShown}
 use Rattle.collector.specs.calls.Passes.{HasDeadOf}
+use Rattle.report.specs.NamedDead.{AreSomeDead}
+use Rattle.board_rounds.specs.calls.Turns.{loads_of}
 use Rattle.board_rounds.specs.calls.TaskSeats.{ArePlacesOf, all_of}
 use Rattle.task_runner.specs.calls.DetectRuns.{AreDeadAtTheEnd, AreSettledPlaces, told}
 use Rattle.task_runner.specs.inside.Rests.{TellsRest}
 use Rattle.task_runner.specs.inside.LiveReporters.{TellsMore}
 use Rattle.task_runner.specs.declared.ran.RunEnd.TheVariants.{NoMemory}
-use Rattle.task_runner.specs.inside.BoardRuns.{many_loads}
+use Rattle.task_runner.specs.inside.BoardRuns.{bound_on}
 use Rattle.task_runner.proofs.BoardEnds.{lawful, plain, reachable, settled, shown}
 use Rattle.task_runner.proofs.LastPasses.{dead_there, named_there, statuses_in}
 use Rattle.task_runner.proofs.TellingAll.{blocked_in_order, none_on, pass_err, rest_err, rest_ok}
@@ -94,6 +96,15 @@ tell_rest-requires-clause-in_order g c κs within =
     let checked = subst IsCheckedPlan (watches.made.plan ∙ c.requires.under_way.on_board.of_plan) watches.kept.checked in
     subst IsInOrder (sym c.as_slice-2.ensures.items) (blocked_in_order c.args.run.plan.now c.in-Ok-end_from.end checked c.in-Ok-end_from.ensures.end)
 
+pub tell_rest-requires-clause-some : goal.tell_rest-requires-clause-some
+tell_rest-requires-clause-some g c κs within =
+    let named : AreDeadAtTheEnd c.args.run.plan.now c.last_pass.new.live_reporter.dead =
+    subst (λ (q : Plan). AreDeadAtTheEnd q c.last_pass.new.live_reporter.dead) c.requires.under_way.on_board.of_plan c.in_ok-last_pass.ensures.watches.dead in
+    let dead : c.as_slice-3.result.now ≡ c.last_pass.new.live_reporter.dead = search rules in
+    subst (AreSomeDead c.as_slice-2.result.now) (sym dead)
+    (subst (λ (list : List Status). AreSomeDead list c.last_pass.new.live_reporter.dead) (sym c.as_slice-2.ensures.items)
+    (named c.in-Ok-end_from.end c.in-Ok-end_from.ensures.end))
+
 pub returns-in_err-tell_rest-clause-told : goal.returns-in_err-tell_rest-clause-told
 returns-in_err-tell_rest-clause-told g c = λ live.
     let a = told g.K.Sink.taken g.K.Sink.faults c.args.out.now in
@@ -134,7 +145,7 @@ returns-clause-ran g c =
           words last);
       settled = subst (λ (q : Plan). AreSettledPlaces q (places_at q places)) c.requires.under_way.on_board.of_plan
           (settled f c.requires.under_way.detects tasks c.requires.under_way.on_board.board_tasks.all.board_tasks places are before now c.take_in.ensures.known goes of
-          words last many_loads c.requires.ends.each);
+          words last (bound_on c.args.board) (loads_of tasks) c.requires.ends.each);
       of_plan = c.close-words.ensures.board.0 ∙ c.requires.under_way.on_board.of_plan;
       words = subst (λ (q : Plan). IsShown q (state_at q (places_at q places)) None words) c.requires.under_way.on_board.of_plan
           (shown f c.requires.under_way.detects tasks c.requires.under_way.on_board.board_tasks.all.board_tasks places are before now c.take_in.ensures.known goes of

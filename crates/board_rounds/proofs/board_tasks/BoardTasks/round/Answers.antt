@@ -1,5 +1,6 @@
 use Rattle.std.proofs.Common.{◌<◌, sym, subst}
-use Rattle.board_rounds.specs.calls.TaskSeats.{AreTasksOf, Tasks, left_to}
+use Rattle.board_rounds.specs.calls.TaskSeats.{AreTasksOf, HaveEnded, Tasks, all_of, left_to}
+use Rattle.board_rounds.specs.calls.Turns.{loads_between}
 use Rattle.board_rounds.proofs.Rejoining.{live_none, live_ready, whole_round, whole_still}
 use Rattle.board_rounds.proofs.board_tasks.BoardTasks.round.Goals as goal
 
@@ -14,8 +15,14 @@ returns g c =
     record {
       tasks = r.0;
       further = λ l. subst (λ (w : Tasks). left_to c.args.plan.now now < left_to c.args.plan.now w) c.self.view_is (r.1 l);
-      quiet = λ z. record { each = r.2 z };
-      still = λ none. record { each = whole_still c.args.setting.now.bound c.args.setting.now.board.now before now c.go_round.new.tasks.items tasks (c.in_ok-made.ensures.still none) c.in_ok-retire.ensures.same };
+      quiet = λ z.
+          subst (λ (w : Tasks). HaveEnded c.args.setting.now.bound (loads_between (all_of w) (all_of now)) (all_of now)) c.self.view_is (record { each = r.2 z });
+      still = λ none.
+          subst (λ (w : Tasks). HaveEnded c.args.setting.now.bound (loads_between (all_of w) (all_of now)) (all_of now)) c.self.view_is (record {
+            each =
+                whole_still c.args.setting.now.bound c.args.setting.now.board.now before now c.go_round.new.tasks.items tasks (c.in_ok-made.ensures.still none)
+                c.in_ok-retire.ensures.same;
+          });
     }
 
 pub go_round-requires-clause-ready : goal.go_round-requires-clause-ready

@@ -19,6 +19,7 @@ act-init g c =
       counts = λ n h. subst (λ k. CountsEvents k w) (let z : n ≡ n + 0 = omega arith in z) h;
       nobody = refl;
       had = (let v = c.len-had.ensures in let l = ap (λ (x : Working). length x.children) c.self.view_is in omega arith);
+      loads = omega arith;
     }
 
 pub returns-in_err-more-clause-acts : goal.returns-in_err-more-clause-acts
@@ -92,6 +93,7 @@ act-preserved g c =
           let n = c.len.ensures in let t = c.if-len-had.false in let h = i.had in omega arith) in
           grown ∙ ap (λ ks. c.args.self.now.children ++ ks) (none_in m.acts.new few) ∙ append-nil c.args.self.now.children);
       had = i.had;
+      loads = (let was = i.loads in let more = c.go_on.ensures.counted in omega arith);
     }
 
 pub returns-clause-acts : goal.returns-clause-acts
@@ -113,3 +115,12 @@ returns-clause-pause g c =
     let i = c.act.invariant in
     let none = c.in_ok-more.ensures.none c.in_default.is in
     (ends_since_within c.args.bound c.go_on.new.cells.loads c.args.self.now.seat c.act.self.seat c.go_on.new.self.seat i.acts.goes.loads none.1, no_child_made c.args.board.now c.act.self c.go_on.new.self none.0 ∙ i.nobody)
+
+pub returns-in_err-more-clause-counted : goal.returns-in_err-more-clause-counted
+returns-in_err-more-clause-counted g c = (let was = c.act.invariant.loads in let more = c.go_on.ensures.counted in omega arith)
+
+pub returns-then-len-had-clause-counted : goal.returns-then-len-had-clause-counted
+returns-then-len-had-clause-counted g c = (let was = c.act.invariant.loads in let more = c.go_on.ensures.counted in omega arith)
+
+pub returns-clause-counted : goal.returns-clause-counted
+returns-clause-counted g c = (let was = c.act.invariant.loads in let more = c.go_on.ensures.counted in omega arith)

@@ -1,4 +1,4 @@
-use Rattle.std.proofs.Common.{◌≡◌, ◌∙◌, true, Some, drop, inl, inr, sym, ap, subst}
+use Rattle.std.proofs.Common.{◌≡◌, ◌∙◌, Some, drop, inl, inr, sym, ap, subst}
 use Rattle.std.specs.Prelude.{IsSome}
 use Rattle.armus_base.specs.Plans.{Blocks}
 use Rattle.board.specs.calls.Seats.{IsOf, aim_at, event_of}

@@ -16,6 +16,7 @@ turn-init g c =
       free = c.requires.free;
       counted = refl;
       counts = counts_nothing w;
+      loads = omega arith;
     }
 
 pub returns-in_err-acted-clause-acts : goal.returns-in_err-acted-clause-acts
@@ -50,6 +51,7 @@ turn-preserved g c =
       free = a.1.goes.same.holds ∙ i.free;
       counted = (let l = length-append i.own a.0 in let m = i.counted in let n = a.2 in omega arith);
       counts = c.in_ok-acted.ensures.few c.turn.made i.counts;
+      loads = (let was = i.loads in let more = c.act.ensures.counted in omega arith);
     }
 
 pub returns-in-TurnOver-clause-acts : goal.returns-in-TurnOver-clause-acts
@@ -72,3 +74,9 @@ pub returns-in-TurnOver-clause-ends : goal.returns-in-TurnOver-clause-ends
 returns-in-TurnOver-clause-ends g c =
     let over = subst (λ (p : Pause). PausesAt c.args.bound c.act.new.cells.loads p c.turn.self c.act.new.self) c.in-TurnOver.is c.in_ok-acted.ensures.pause in
     ends_since_within c.args.bound c.act.new.cells.loads c.args.self.now.seat c.turn.self.seat c.act.new.self.seat c.turn.invariant.acts.goes.loads over.0
+
+pub returns-in_err-acted-clause-counted : goal.returns-in_err-acted-clause-counted
+returns-in_err-acted-clause-counted g c = (let was = c.turn.invariant.loads in let more = c.act.ensures.counted in omega arith)
+
+pub returns-in-TurnOver-clause-counted : goal.returns-in-TurnOver-clause-counted
+returns-in-TurnOver-clause-counted g c = (let was = c.turn.invariant.loads in let more = c.act.ensures.counted in omega arith)
