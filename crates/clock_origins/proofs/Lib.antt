@@ -1,5 +1,9 @@
 -- Why the functions do what their contracts say.
 pub mod Noting
+pub mod NotingOps
 pub mod Keywords
 pub mod Walked
+pub mod MovesOf
+pub mod NotedMoves
+pub mod AllOrigins
 pub mod OffsetsMany

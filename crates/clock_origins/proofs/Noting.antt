@@ -11,7 +11,8 @@ use Rattle.clock_syntax.specs.Trees.{drop as dropped}
 use Rattle.clock_syntax.specs.calls.Bodies.{clock_followed_by, clock_tree_of}
 use Rattle.clock_syntax.proofs.ClockParts.{clock_counts}
 use Rattle.clock_moves.specs.Unfolding.{ClockComing, a_close, a_finish, a_loop, a_plain, a_turn, an_async, coming, comings_of}
-use Rattle.clock_origins.specs.ClockOrigins.{Begun, MadeThing, begun_at, begun_in, made_thing_at, things_in, wait_at, waits_in}
+use Rattle.clock_origins.specs.ClockOrigins.{Begun, MadeThing, made_thing_at, things_in, wait_at, waits_in}
+use Rattle.clock_origins.specs.calls.Begun.{begun_at, begun_in}
 use Rattle.clock_origins.specs.inside.Notes.{NotesValue, noted, noted_all}
 
 same_notes :
@@ -65,7 +66,7 @@ noted_loop n turns body k = ap (λ ms. noted_all ms k) (sym (append-nil (times t
 
 -- ---- turns
 
-times_more : (i : ℕ) (xs : List ClockComing) → times i xs ++ xs ≡ times (suc i) xs
+pub times_more : (i : ℕ) (xs : List ClockComing) → times i xs ++ xs ≡ times (suc i) xs
 times_more zero xs = sym (append-nil xs)
 times_more (suc i) xs = append_assoc xs (times i xs) xs ∙ ap (λ z. xs ++ z) (times_more i xs)
 
@@ -104,6 +105,14 @@ first_comings (s.Loop k body) n t =
     (let e : n + 1 + clock_count body ≡ n + (clock_count body + 0 + 1) = omega arith in e)
     ∙ ap (λ z. coming n a_loop ∷ (z ++ comings_of (n + (clock_count body + 0 + 1)) t)) (sym (append-nil (times k (coming n a_turn ∷ comings_of (n + 1) body))))
 
+-- the comings from the j-th statement on
+pub next_comings_of : (items : List ClockStmt) (j at : ℕ) (q : ClockStmt) → j < length items → q ≡ get_or items j q →
+    comings_of at (clock_tree_of (drop j items))
+    ≡ comings_of at (clock_followed_by q done) ++ comings_of (at + clock_count (clock_followed_by q done)) (clock_tree_of (drop (j + 1) items))
+next_comings_of items j at q lt is =
+    ap (λ ts. comings_of at (clock_tree_of ts)) (drop_more items j q lt ∙ ap (λ z. z ∷ drop (j + 1) items) (sym is))
+    ∙ first_comings q at (clock_tree_of (drop (j + 1) items))
+
 -- what is noted so far, and what the statements from the j-th on do, is what the body does; and the statements left have numbers of 32 bits
 pub record NotedSoFar (items : List ClockStmt) (j : ℕ) (body : ClockTree) (n at : ℕ) (old out : NotesValue) : Type 0 where
   pub from : n ≤ at
@@ -121,12 +130,6 @@ module _ (items : List ClockStmt) (j : ℕ) (body : ClockTree) (n at : ℕ) (old
   pub noted_fewer : clock_count (clock_followed_by q done) ≤ clock_count body
   noted_fewer = omega (arith, h.from, h.numbers, clock_counts items j q lt is)
 
-  next_comings : comings_of at (clock_tree_of (drop j items)) ≡
-      comings_of at (clock_followed_by q done) ++ comings_of (at + clock_count (clock_followed_by q done)) (clock_tree_of (drop (j + 1) items))
-  next_comings =
-      ap (λ ts. comings_of at (clock_tree_of ts)) (drop_more items j q lt ∙ ap (λ z. z ∷ drop (j + 1) items) (sym is))
-      ∙ first_comings q at (clock_tree_of (drop (j + 1) items))
-
   pub noted_next : (many : ℕ) → many ≡ clock_count (clock_followed_by q done) → (next : NotesValue) → next ≡ noted_all (comings_of at (clock_followed_by q done)) out →
       NotedSoFar items (j + 1) body n (at + many) old next
   noted_next many all next e =
@@ -137,7 +140,7 @@ module _ (items : List ClockStmt) (j : ℕ) (body : ClockTree) (n at : ℕ) (old
         so_far = ap (λ m. noted_all (comings_of (at + m) (clock_tree_of (drop (j + 1) items))) next) all
             ∙ ap (noted_all behind) e
             ∙ sym (noted_all-append (comings_of at (clock_followed_by q done)) behind out)
-            ∙ ap (λ ms. noted_all ms out) (sym next_comings)
+            ∙ ap (λ ms. noted_all ms out) (sym (next_comings_of items j at q lt is))
             ∙ h.so_far;
       }
 

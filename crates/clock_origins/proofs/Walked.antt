@@ -17,7 +17,8 @@ use Rattle.clock_text.specs.calls.ClockUnfolds.{GoesToEnd, UnfoldsFrom, after_pa
 use Rattle.clock_text.specs.calls.ProgramPoints.{ProgramPoint, behind, first_point}
 use Rattle.clock_text.proofs.PointComings.{comings_at, first_left, none_left, whole_body}
 use Rattle.clock_text.proofs.UnfoldsByPoints.{unfolding_is_unfolded}
-use Rattle.clock_origins.specs.ClockOrigins.{Begun, MadeThing, all_begun, begun_at, begun_by, begun_in, comings_by, made_thing_at, things_in, waits_in}
+use Rattle.clock_origins.specs.ClockOrigins.{Begun, MadeThing, all_begun, all_things, begun_by, comings_by, made_thing_at, things_in, waits_in}
+use Rattle.clock_origins.specs.calls.Begun.{begun_at, begun_in}
 use Rattle.clock_origins.specs.calls.Values.{AreOriginsOf}
 
 -- ---- what comings add
@@ -196,7 +197,7 @@ walked_next u t begun next things more waits others b h is next_is more_is other
 -- ---- limits
 
 -- a program with an unfolding has a plan, whose limits bound it
-plan_is : (p : ClockTree) (u : ClockUnfolding) → clock_unfolded p ≡ Ok u → clock_plan_of p ≡ Ok (plan_of_moves u)
+pub plan_is : (p : ClockTree) (u : ClockUnfolding) → clock_unfolded p ≡ Ok u → clock_plan_of p ≡ Ok (plan_of_moves u)
 unfolding clock_plan_of
 plan_is p u is = ap (λ o. o >>= λ s. Ok (plan_of_moves s)) is
 
@@ -233,6 +234,16 @@ walked_end u t begun things waits h le = end h.so_far h.goes h.begun_are
       waits = h.waits_are ∙ ap (map (λ b. waits_in (comings_by b))) (all ∙ are);
     }
     end v (one_more start path goes rest) are =
+        absurd (let within = some_within v.starts t start path in let many = ap length are ∙ length-map v.starts begun_by in omega (arith, le))
+
+-- and there are as many clocks and finishes as makers
+pub walked_made : (u : ClockUnfolding) (t : ℕ) (begun : List Begun) (things : List MadeThing) (waits : List (List ℕ)) → Walked u t begun things waits → length begun ≤ t →
+    length (all_things u) ≡ length u.makers
+walked_made u t begun things waits h le = ap length (sym (walked_end u t begun things waits h le).things) ∙ end h.so_far h.goes h.begun_are h.makers_many
+  where
+    end : (v : ClockUnfolding) → UnfoldsFrom t v u → begun ≡ all_begun v → length v.makers ≡ length things → length things ≡ length u.makers
+    end v (no_more none) are makers = sym makers
+    end v (one_more start path goes rest) are makers =
         absurd (let within = some_within v.starts t start path in let many = ap length are ∙ length-map v.starts begun_by in omega (arith, le))
 
 -- a program has one unfolding

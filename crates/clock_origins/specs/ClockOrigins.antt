@@ -1,9 +1,9 @@
 -- From which statements of a clock text its activities, its clocks and its finishes come, and at which statements an activity waits.
 -- Statements are told by their numbers, from 1 in the order in which they stand in the text.
-use Rattle.std.specs.Prelude.{ℕ, ◌+◌, List, [], ◌∷◌, map, Option, Some, None}
+use Rattle.std.specs.Prelude.{ℕ, List, [], ◌∷◌, map, Option, Some, None}
 use Rattle.std.specs.List.{flat_map}
 use Rattle.clock_syntax.specs.Trees.{ClockTree, advance, clock}
-use Rattle.clock_moves.specs.Unfolding.{ClockComing, ClockPart, ClockStart, ClockUnfolding, a_close, a_finish, a_plain, an_async, comings_of}
+use Rattle.clock_moves.specs.Unfolding.{ClockComing, ClockPart, ClockStart, ClockUnfolding, a_close, a_finish, a_plain, comings_of}
 
 -- an activity as it is started: the number of the first statement of its body, and the body
 pub record Begun : Type 0 where
@@ -16,11 +16,6 @@ pub record MadeThing : Type 0 where
   pub name : Option (List ℕ)
 
 -- ---- what a coming does
-
--- the activity that is started where statement n is come to
-abbrev pub begun_at : ℕ → ClockPart → List Begun
-begun_at n (an_async xs body) = record { first = n + 1; body = body } ∷ []
-begun_at n part = []
 
 -- the clock or finish that is made there
 abbrev pub made_thing_at : ℕ → ClockPart → List MadeThing
@@ -39,10 +34,6 @@ wait_at n part = []
 -- what an activity comes to that is started so
 abbrev pub comings_by : Begun → List ClockComing
 comings_by b = comings_of b.first b.body
-
--- the activities that are started there, in order
-abbrev pub begun_in : List ClockComing → List Begun
-begun_in ms = flat_map (λ (m : ClockComing). begun_at m.statement m.part) ms
 
 -- the clocks and finishes that are made there, in order
 abbrev pub things_in : List ClockComing → List MadeThing

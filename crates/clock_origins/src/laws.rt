@@ -1,7 +1,15 @@
 // The laws of origins of clock programs: each is the contract of a function with an empty body.
-ghost use Rattle.clock_origins.specs.calls.Laws.{StatementsHaveOffsets};
+ghost use Rattle.clock_origins.specs.calls.Laws.{MovesComeFromStatements, OpsHaveStatements, StatementsHaveOffsets, TasksAndPhasersHaveStatements};
 
 /// The text of a clock program has an offset for each of its statements.
 pub fn statements_have_offsets()
     ensures { StatementsHaveOffsets }
+{}
+
+/// Each activity, clock and finish of a clock program is a task or a phaser of its plan, each op has an origin, and each move of an activity is one of the
+/// kind of the statement from which it comes.
+pub fn ops_have_statements()
+    ensures moves { MovesComeFromStatements }
+    ensures ops { OpsHaveStatements }
+    ensures all { TasksAndPhasersHaveStatements }
 {}

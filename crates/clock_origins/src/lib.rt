@@ -1,13 +1,17 @@
-//! From which statements of a clock text its activities, its clocks and its finishes come, where each activity waits, and where statements begin.
+//! From which statements of a clock text its activities, its clocks, its finishes and its ops come, where each activity waits, and where statements begin.
 #![tactic(auto)]
 
 mod laws;
 mod notes;
 mod offsets;
+mod op_notes;
+mod op_walk;
+mod ops;
 mod origins;
 mod walk;
 
-pub use laws::statements_have_offsets;
+pub use laws::{ops_have_statements, statements_have_offsets};
 pub use notes::{ClockBegun, ClockThing};
 pub use offsets::clock_offsets;
+pub use ops::op_origins;
 pub use origins::ClockOrigins;

@@ -2,4 +2,9 @@
 pub mod PassedOps
 pub mod Lines
 pub mod Told
+pub mod PendingRows
+pub mod KnownTexts
 pub mod OneExplanation
+pub mod MembersWait
+pub mod Named
+pub mod WhatIsSaid

@@ -13,7 +13,7 @@ use Rattle.armus_base.specs.declared.ending.TaskEnd.{TaskEnd}
 use Rattle.armus_base.specs.declared.ending.TaskEnd.TheVariants.{Blocked, Done, Refused, Unforked}
 use Rattle.armus_base.specs.declared.op.Op.{Op}
 use Rattle.armus_base.proofs.Below.{list_below-at}
-use Rattle.clock_sayings.specs.ClockFacts.{AreWaitsAt, ClockWait, IsWaitBy, is_await, pending_after}
+use Rattle.clock_sayings.specs.ClockFacts.{AreWaitsAt, ClockWait, IsWaitBy, is_await, is_pending}
 use Rattle.clock_sayings.proofs.PassedOps.{one_op}
 
 -- what f gives for a number
@@ -22,7 +22,7 @@ list_at f n t xs d is lt = ap (λ ys. slice_index_or ys t d) is ∙ get_or_from_
 
 module _ (waits : List (List ℕ)) (plan : Plan) (a : ℕ → Place) where
   abbrev pub IsWait : ℕ → ClockWait → Type 0
-  IsWait t w = IsWaitBy (code_of plan t) (slice_index_or waits t []) (a t).done (end_of (state_at plan a) t) w
+  IsWait t w = IsWaitBy (code_of plan t) (slice_index_or waits t []) (length plan.makers) (a t).done (end_of (state_at plan a) t) w
 
   -- the first n activities wait so
   pub record AreTold (n : ℕ) (ws : List ClockWait) : Type 0 where
@@ -59,19 +59,19 @@ module _ (waits : List (List ℕ)) (plan : Plan) (a : ℕ → Place) where
       let w : ClockWait = record { statement = s; pending = p } in let v : ClockWait = record { statement = s'; pending = p' } in w ≡ v
   same_wait s s' p p' x y = cc
 
-  one_wait : (code : List Op) (own : List ℕ) (done : ℕ) (end : TaskEnd) (w v : ClockWait) → IsWaitBy code own done end w → IsWaitBy code own done end v → w ≡ v
-  one_wait code own done (Blocked e) w v x y =
+  one_wait : (code : List Op) (own : List ℕ) (clocks done : ℕ) (end : TaskEnd) (w v : ClockWait) → IsWaitBy code own clocks done end w → IsWaitBy code own clocks done end v → w ≡ v
+  one_wait code own clocks done (Blocked e) w v x y =
       let ops = one_op code done x.op y.op x.stands y.stands in
       same_wait w.statement v.statement w.pending v.pending
       (x.statement_is ∙ ap (λ k. slice_get own (count_by is_await (take k code))) ops ∙ sym y.statement_is)
-      (x.pending_is ∙ ap (λ k. pending_after [] (take k code)) ops ∙ sym y.pending_is)
-  one_wait code own done Done w v x y = same_wait w.statement v.statement w.pending v.pending (x.0 ∙ sym y.0) (x.1 ∙ sym y.1)
-  one_wait code own done (Refused e) w v x y = same_wait w.statement v.statement w.pending v.pending (x.0 ∙ sym y.0) (x.1 ∙ sym y.1)
-  one_wait code own done Unforked w v x y = same_wait w.statement v.statement w.pending v.pending (x.0 ∙ sym y.0) (x.1 ∙ sym y.1)
+      (x.pending_is ∙ ap (λ k. list_below (is_pending (take k code)) clocks) ops ∙ sym y.pending_is)
+  one_wait code own clocks done Done w v x y = same_wait w.statement v.statement w.pending v.pending (x.0 ∙ sym y.0) (x.1 ∙ sym y.1)
+  one_wait code own clocks done (Refused e) w v x y = same_wait w.statement v.statement w.pending v.pending (x.0 ∙ sym y.0) (x.1 ∙ sym y.1)
+  one_wait code own clocks done Unforked w v x y = same_wait w.statement v.statement w.pending v.pending (x.0 ∙ sym y.0) (x.1 ∙ sym y.1)
 
   pub one_list : (ws vs : List ClockWait) → AreWaitsAt waits plan a ws → AreWaitsAt waits plan a vs → ws ≡ vs
   one_list ws vs x y =
       same_lists ws vs (x.all ∙ sym y.all) (λ t d lt.
       let within : t < length plan.parents = omega (arith, x.all, lt) in
-      one_wait (code_of plan t) (slice_index_or waits t []) (a t).done (end_of (state_at plan a) t) (slice_index_or ws t d) (slice_index_or vs t d)
+      one_wait (code_of plan t) (slice_index_or waits t []) (length plan.makers) (a t).done (end_of (state_at plan a) t) (slice_index_or ws t d) (slice_index_or vs t d)
       (x.each t d within) (y.each t d within))

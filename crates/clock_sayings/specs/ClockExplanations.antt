@@ -1,5 +1,5 @@
 -- The explanation of a clock text: who waits in it for ever, where, for whom and why.
-use Rattle.std.specs.Prelude.{◌≡◌, ℕ, zero, suc, ◌-◌, ◌==◌, ◌&&◌, Bool, true, false, not, if◌then◌else◌, List, [], ◌++◌, Option, Some, None, codes, count_by, decimal, length, nat_lt, slice_get, slice_index_or}
+use Rattle.std.specs.Prelude.{◌≡◌, ℕ, zero, suc, ◌-◌, ◌==◌, ◌&&◌, Bool, true, false, not, if◌then◌else◌, List, [], ◌++◌, Option, Some, None, Ok, codes, count_by, decimal, length, nat_lt, slice_get, slice_index_or}
 use Rattle.std.specs.List.{flat_map, list_any}
 use Rattle.armus_base.specs.declared.ending.TaskEnd.{TaskEnd}
 use Rattle.armus_base.specs.declared.ending.TaskEnd.TheVariants.{Blocked, Done, Refused, Unforked}
@@ -9,11 +9,12 @@ use Rattle.armus_base.specs.declared.status.Status.{Status}
 use Rattle.armus_base.specs.Plans.{Plan}
 use Rattle.armus_base.specs.Runs.{Place}
 use Rattle.pl_syntax.specs.Printed.{line}
+use Rattle.clock_syntax.specs.Grammar.{IsClockText}
 use Rattle.clock_syntax.specs.Trees.{ClockTree}
-use Rattle.clock_moves.specs.Unfolding.{ClockUnfolding}
+use Rattle.clock_moves.specs.Unfolding.{ClockUnfolding, clock_unfolded, plan_of_moves}
 use Rattle.clock_origins.specs.ClockOrigins.{Begun, MadeThing}
-use Rattle.clock_sayings.specs.ClockFacts.{AreClockFacts, ClockFacts, ClockWait}
-use Rattle.clock_sayings.specs.ClockWords.{activity_words, front_of, statement_place_words, standing_words, waits_at}
+use Rattle.clock_sayings.specs.ClockFacts.{AreClockFacts, ClockFacts, ClockWait, TextFacts}
+use Rattle.clock_sayings.specs.ClockWords.{activity_words, front_of, made_clock_words, made_finish_words, standing_words, waits_at}
 
 -- ---- how activities stand
 
@@ -66,7 +67,7 @@ missing_words None activity = codes "  " ++ activity ++ codes " has not ended"
 
 -- the line of activity u, which keeps one from going on at a clock of this name, or at the end of a finish: and where it waits itself
 abbrev pub missing_line : ClockFacts → Option (List ℕ) → ℕ → List ℕ
-missing_line f name u = line (missing_words name (activity_words f u) ++ standing_words f (waits_at f u))
+missing_line f name u = line (missing_words name (activity_words f.of_text u) ++ standing_words f.of_text (waits_at f u))
 
 -- the line of this status, where its activity keeps the event from being reached
 abbrev pub line_if_missing : ClockFacts → Event → Option (List ℕ) → Status → List ℕ
@@ -83,44 +84,40 @@ abbrev pub lines_below : (ℕ → List ℕ) → ℕ → List ℕ
 lines_below l zero = []
 lines_below l (suc n) = lines_below l n ++ l n
 
--- clock c made at 1:1
-abbrev pub made_clock_words : ClockFacts → List ℕ → ℕ → List ℕ
-made_clock_words f x n = codes "clock " ++ x ++ codes " made at " ++ statement_place_words f n
-
 -- a clock of this name, made at statement n, that is pending; a finish has no such line
-abbrev pub pending_named : ClockFacts → Option (List ℕ) → ℕ → List ℕ
+abbrev pub pending_named : TextFacts → Option (List ℕ) → ℕ → List ℕ
 pending_named f None n = []
 pending_named f (Some x) n = line (codes "  resume left " ++ made_clock_words f x n ++ codes " pending")
 
 -- the line of this clock, if there is such a clock
-abbrev pub pending_line : ClockFacts → Option MadeThing → List ℕ
+abbrev pub pending_line : TextFacts → Option MadeThing → List ℕ
 pending_line f None = []
 pending_line f (Some thing) = pending_named f thing.name thing.statement
 
--- the rows of what is pending where an activity waits, if there is such an activity
+-- what is pending where an activity waits, if there is such an activity
 abbrev pub pending_in : Option ClockWait → List Bool
 pending_in None = []
 pending_in (Some w) = w.pending
 
 -- the line of p, where it is pending and not what is waited for
 abbrev pub line_if_pending : ClockFacts → Event → List Bool → ℕ → List ℕ
-line_if_pending f e row p = if slice_index_or row p false && not (p == e.p.0) then pending_line f (slice_get f.things p) else []
+line_if_pending f e row p = if slice_index_or row p false && not (p == e.p.0) then pending_line f.of_text (slice_get f.of_text.things p) else []
 
 -- the lines of all that is pending where activity t waits, in order
 abbrev pub pending_lines : ClockFacts → Event → ℕ → List ℕ
-pending_lines f e t = lines_below (line_if_pending f e (pending_in (slice_get f.waits t))) (length f.things)
+pending_lines f e t = lines_below (line_if_pending f e (pending_in (slice_get f.waits t))) (length f.of_text.things)
 
 -- ---- paragraphs
 
 -- for what one waits: at its advance for phase 1 of clock c made at 1:1, or at the end of the finish at 2:1
-abbrev pub wait_words : ClockFacts → Event → Option (List ℕ) → ℕ → List ℕ
+abbrev pub wait_words : TextFacts → Event → Option (List ℕ) → ℕ → List ℕ
 wait_words f e (Some x) n = codes " waits at its advance for phase " ++ decimal e.n ++ codes " of " ++ made_clock_words f x n
-wait_words f e None n = codes " waits at the end of the finish at " ++ statement_place_words f n
+wait_words f e None n = codes " waits at the end of " ++ made_finish_words f n
 
 -- the paragraph of activity t, which waits for the event of this clock or finish
 abbrev pub waiting_paragraph : ClockFacts → ℕ → Event → MadeThing → List ℕ
 waiting_paragraph f t e thing =
-    line (front_of f (waits_at f t) ++ activity_words f t ++ wait_words f e thing.name thing.statement)
+    line (front_of f.of_text (waits_at f t) ++ activity_words f.of_text t ++ wait_words f.of_text e thing.name thing.statement)
     ++ missing_lines f e thing.name
     ++ pending_lines f e t
 
@@ -135,13 +132,13 @@ started_at None = None
 started_at (Some b) = Some (b.first - 1)
 
 -- the line of an activity that is not started
-abbrev pub unstarted_line : ClockFacts → ℕ → List ℕ
+abbrev pub unstarted_line : TextFacts → ℕ → List ℕ
 unstarted_line f t = line (front_of f (started_at (slice_get f.begun t)) ++ activity_words f t ++ codes " is not started")
 
 -- what is said of activity t, which has ended so
 abbrev pub activity_paragraph : ClockFacts → ℕ → TaskEnd → List ℕ
-activity_paragraph f t (Blocked e) = paragraph_of_thing f t e (slice_get f.things e.p.0)
-activity_paragraph f t Unforked = unstarted_line f t
+activity_paragraph f t (Blocked e) = paragraph_of_thing f t e (slice_get f.of_text.things e.p.0)
+activity_paragraph f t Unforked = unstarted_line f.of_text t
 activity_paragraph f t Done = []
 activity_paragraph f t (Refused e) = []
 
@@ -157,6 +154,9 @@ clock_lines f = ended_counts f.ends ++ waiting_counts f.ends ++ nobody_line (som
 
 -- the lines explain how the activities of a text, of the file with this name or of none, stand at these places of the plan of its program's unfolding
 pub record ExplainsActivities (file : Option (List ℕ)) (text : List ℕ) (p : ClockTree) (u : ClockUnfolding) (plan : Plan) (a : ℕ → Place) (lines : List ℕ) (waits : Bool) : Type 0 where
+  pub reads : IsClockText text p
+  pub unfolds : clock_unfolded p ≡ Ok u
+  pub plan_is : plan ≡ plan_of_moves u
   pub facts : ClockFacts
   pub are_facts : AreClockFacts file text p u plan a facts
   pub lines_are : lines ≡ clock_lines facts

@@ -8,6 +8,7 @@ use Rattle.text_places.specs.TextPlaces.{text_place}
 use Rattle.text_places.specs.PlaceWords.{front_words}
 use Rattle.refusals.specs.CaretLines.{caret_lines}
 use Rattle.refusals.specs.SyntaxRefusals.{syntax_numbers}
+use Rattle.clock_moves.specs.Unfolding.{listed_twice, not_registered, still_pending, too_many_activities, too_many_clock_cells, too_many_clock_ops, too_many_clocks, unknown_clock}
 use Rattle.clock_sayings.specs.ClockWords.{offset_of}
 
 -- what is wrong, by the kind of a syntax fault
@@ -22,14 +23,14 @@ syntax_words kind =
 -- what is wrong, by the kind of a clock fault
 abbrev pub fault_words : ℕ → List ℕ
 fault_words kind =
-    if kind == 1 then codes "a name here stands for no clock"
-    else (if kind == 2 then codes "the activity is not registered on a clock that is named here"
-    else (if kind == 3 then codes "a name stands twice in this list"
-    else (if kind == 4 then codes "a clock that is named here is pending: the activity has signalled on it, and not advanced since"
-    else (if kind == 5 then codes "4096 activities are there already: no more may be"
-    else (if kind == 6 then codes "1024 clocks and finishes are there already: no more may be"
-    else (if kind == 7 then codes "the activities times one more than the clocks and finishes may be at most 1048576"
-    else (if kind == 8 then codes "1048576 ops are there already: no more may be"
+    if kind == unknown_clock then codes "a name here stands for no clock"
+    else (if kind == not_registered then codes "the activity is not registered on a clock that is named here"
+    else (if kind == listed_twice then codes "a name stands twice in this list"
+    else (if kind == still_pending then codes "a clock that is named here is pending: the activity has signalled on it, and not advanced since"
+    else (if kind == too_many_activities then codes "4096 activities are there already: no more may be"
+    else (if kind == too_many_clocks then codes "1024 clocks and finishes are there already: no more may be"
+    else (if kind == too_many_clock_cells then codes "the activities times one more than the clocks and finishes may be at most 1048576"
+    else (if kind == too_many_clock_ops then codes "1048576 ops are there already: no more may be"
     else codes "4194304 visits were made already: no more may be")))))))
 
 -- the line of what is wrong at a byte, and the line of the text with a caret; where the text has no such byte, of its end
@@ -40,7 +41,7 @@ fault_lines file text at words = line (front_words text file (text_place text at
 abbrev pub clock_syntax_lines : Option (List ℕ) → List ℕ → SyntaxFault → List ℕ
 clock_syntax_lines file text fault = fault_lines file text fault.at (syntax_words fault.kind ++ syntax_numbers fault)
 
--- the numbers of a clock fault, as `armus clock` writes them
+-- the kind of a clock fault and its statement, by their numbers:  (clock 1, statement 2)
 abbrev pub clock_numbers : CheckFault → List ℕ
 clock_numbers fault = codes " (clock " ++ decimal fault.kind ++ codes ", statement " ++ decimal fault.statement ++ codes ")"
 

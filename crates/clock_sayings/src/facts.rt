@@ -1,49 +1,55 @@
 // What an explanation of a clock text is made of.
-ghost use Rattle.std.specs.Prelude.{◌≡◌, ◌<◌, ◌^◌, length, option_copied, slice_get};
+ghost use Rattle.std.specs.Prelude.{◌≡◌, ◌<◌, ◌^◌, length, slice_get};
 
-use armus_base::{Final, List, PhaserId};
-use clock_origins::{ClockBegun, ClockOrigins, ClockThing};
+use crate::text_facts::ClockTextFacts;
+use armus_base::{Final, PhaserId};
 use pl_plan::Membership;
-use std::alloc::Global;
 use std::marker::Model;
-use text_places::TextPlaces;
 
-// Where an activity waits: the statement; and which clocks and finishes are pending there.
+// Where an activity waits: the statement; and which of so many clocks and finishes are pending there.
 #[derive(Drop)]
 pub(crate) struct Wait {
     pub(crate) statement: Option<u32>,
     pub(crate) pending: Membership,
+    pub(crate) clocks: u32,
 }
 
 impl Model for Wait {
+    ghost use Rattle.std.specs.Prelude.{slice_index_or, false};
+    ghost use Rattle.armus_base.specs.Finals.{list_below};
     ghost use Rattle.clock_sayings.specs.ClockFacts.{ClockWait};
 
     ghost Value = { ClockWait };
 
-    ghost view = { λ w. record { statement = w.statement; pending = w.pending } };
+    ghost view = { λ w. record { statement = w.statement; pending = list_below (λ p. slice_index_or w.pending p false) w.clocks } };
 }
 
-// Where the statements of a clock text begin, and what comes from them.
-#[derive(Drop)]
-pub(crate) struct Layout<'p> {
-    pub(crate) offsets: List<u32>,
-    pub(crate) origins: ClockOrigins<'p>,
+impl Wait {
+    ghost use Rattle.std.specs.Prelude.{slice_index_or, false};
+
+    // Whether `p` is pending there.
+    fn is_pending(&self, p: PhaserId) -> bool
+        ensures { result ≡ slice_index_or self.now.pending p.0 false }
+    {
+        if p.0 < self.clocks {
+            self.pending.is_of(p)
+        } else {
+            false
+        }
+    }
 }
 
-// What is known where a run of a clock text has ended: the text, the name of its file, the offsets and origins of its statements, how its activities have
-// ended, the statuses of those that wait, and where each waits.
+// What is known where a run of a clock text has ended: of the text alone, how its activities have ended, the statuses of those that wait, and where each
+// waits.
 #[derive(Drop)]
 pub(crate) struct Facts<'a> {
-    pub(crate) alloc: Global,
-    pub(crate) places: &'a TextPlaces<'a>,
-    pub(crate) file: Option<&'a [u8]>,
-    pub(crate) layout: &'a Layout<'a>,
+    pub(crate) of_text: &'a ClockTextFacts<'a>,
     pub(crate) end: &'a Final,
     pub(crate) waits: Vec<Wait>,
 }
 
 impl<'a> Model for Facts<'a> {
-    ghost use Rattle.std.specs.Prelude.{◌<◌, ◌^◌, length, option_copied};
+    ghost use Rattle.std.specs.Prelude.{◌<◌, ◌^◌, length};
     ghost use Rattle.std.specs.Coded.{codes};
     ghost use Rattle.clock_syntax.specs.calls.Trees.{clock_tree_code};
     ghost use Rattle.clock_sayings.specs.ClockFacts.{ClockFacts};
@@ -52,16 +58,7 @@ impl<'a> Model for Facts<'a> {
 
     ghost coded = { Prim.hlevel (codes, clock_tree_code) };
 
-    ghost view = { λ f. record {
-      text = f.places.now;
-      file = option_copied f.file;
-      offsets = f.layout.now.offsets;
-      begun = f.layout.now.origins.begun;
-      things = f.layout.now.origins.things;
-      ends = f.end.now.ends;
-      blocked = f.end.now.blocked;
-      waits = f.waits.items;
-    } };
+    ghost view = { λ f. record { of_text = f.of_text.now; ends = f.end.now.ends; blocked = f.end.now.blocked; waits = f.waits.items } };
 
     ghost invariant = { λ f. length f.end.now.ends < 2 ^ 32 };
 }
@@ -71,33 +68,17 @@ impl<'a> Facts<'a> {
     ghost use Rattle.clock_sayings.specs.ClockExplanations.{pending_in};
     ghost use Rattle.std.specs.Prelude.{slice_index_or, false};
 
-    // What is known of a text with these places, of the file with this name if it comes from one, with this layout, where a run has ended so and its
-    // activities wait so.
+    // What is known of this text where a run has ended so and its activities wait so.
     pub(crate) fn new(
-        alloc: Global,
-        places: &'a TextPlaces<'a>,
-        file: Option<&'a [u8]>,
-        layout: &'a Layout<'a>,
+        of_text: &'a ClockTextFacts<'a>,
         end: &'a Final,
         waits: Vec<Wait>,
     ) -> Facts<'a>
         requires few { length end.now.ends < 2 ^ 32 }
-        ensures { result ≡ record {
-          text = places.now;
-          file = option_copied file.entry;
-          offsets = layout.now.offsets;
-          begun = layout.now.origins.begun;
-          things = layout.now.origins.things;
-          ends = end.now.ends;
-          blocked = end.now.blocked;
-          waits = waits.items;
-        } }
+        ensures { result ≡ record { of_text = of_text.now; ends = end.now.ends; blocked = end.now.blocked; waits = waits.items } }
     {
         Facts {
-            alloc,
-            places,
-            file,
-            layout,
+            of_text,
             end,
             waits,
         }
@@ -108,20 +89,6 @@ impl<'a> Facts<'a> {
         ensures { result ≡ length self.now.ends }
     {
         self.end.ends.as_slice().len() as u32
-    }
-
-    // An activity.
-    pub(crate) fn begun(&self, t: u32) -> Option<&ClockBegun<'a>>
-        ensures { option_copied result ≡ slice_get self.now.begun t }
-    {
-        self.layout.origins.begun(t)
-    }
-
-    // A clock or finish.
-    pub(crate) fn thing(&self, p: u32) -> Option<&ClockThing<'a>>
-        ensures { option_copied result ≡ slice_get self.now.things p }
-    {
-        self.layout.origins.thing(p)
     }
 
     // The statement at which an activity waits.
@@ -139,7 +106,7 @@ impl<'a> Facts<'a> {
         ensures { result ≡ slice_index_or (pending_in (slice_get self.now.waits t)) p.0 false }
     {
         match self.waits.get(t as usize) {
-            Some(wait) => wait.pending.is_of(p),
+            Some(wait) => wait.is_pending(p),
             None => false,
         }
     }

@@ -9,9 +9,11 @@ mod missing;
 mod paragraphs;
 mod pending;
 mod refusing;
+mod text_facts;
 mod waits;
 mod words;
 
 pub use explaining::{ClockExplanation, clock_explanation_of};
-pub use laws::one_clock_explanation;
+pub use laws::{one_clock_explanation, those_behind_are_named};
 pub use refusing::{clock_fault_refusal, clock_syntax_refusal};
+pub use text_facts::{ClockLayout, ClockTextFacts};

@@ -1,9 +1,10 @@
 // Whose signal is missing, and who has not ended.
-ghost use Rattle.std.specs.Prelude.{◌≡◌, ◌++◌, OnOk, option_map};
+ghost use Rattle.std.specs.Prelude.{◌≡◌, ◌++◌, OnOk, codes, option_map};
 ghost use Rattle.clock_sayings.specs.ClockExplanations.{is_below, is_missing, line_if_missing, missing_line, missing_lines, missing_words};
 ghost use Rattle.clock_sayings.specs.ClockWords.{activity_words};
 
 use crate::facts::Facts;
+use crate::text_facts::ClockTextFacts;
 use crate::words::put_words;
 use armus_base::{Event, Member, NoMemory, Status};
 
@@ -21,22 +22,29 @@ fn is_missing(event: Event, status: &Status) -> bool
     status.phases.as_slice().iter().any(|m| is_below(event, *m))
 }
 
+impl<'a> ClockTextFacts<'a> {
+    // Appends an activity that has not ended.
+    fn put_not_ended(&self, out: &mut Vec<u8>, u: u32) -> Result<(), NoMemory>
+        ensures { OnOk result (out.new.items ≡ out.old.items ++ (codes "  " ++ activity_words self.now u ++ codes " has not ended")) }
+    {
+        put_words(out, b"  ")?;
+        self.put_activity(out, u)?;
+        put_words(out, b" has not ended")
+    }
+}
+
 impl<'a> Facts<'a> {
     // Appends an activity whose signal on a clock of this name is missing, or that has not ended.
     fn put_missing(&self, out: &mut Vec<u8>, name: Option<&[u8]>, u: u32) -> Result<(), NoMemory>
-        ensures { OnOk result (out.new.items ≡ out.old.items ++ missing_words (option_map (λ x. x.now) name.entry) (activity_words self.now u)) }
+        ensures { OnOk result (out.new.items ≡ out.old.items ++ missing_words (option_map (λ x. x.now) name.entry) (activity_words self.now.of_text u)) }
     {
         match name {
             Some(_) => {
                 put_words(out, b"  the signal of ")?;
-                self.put_activity(out, u)?;
+                self.of_text.put_activity(out, u)?;
                 put_words(out, b" is missing")
             }
-            None => {
-                put_words(out, b"  ")?;
-                self.put_activity(out, u)?;
-                put_words(out, b" has not ended")
-            }
+            None => self.of_text.put_not_ended(out, u),
         }
     }
 
@@ -50,7 +58,7 @@ impl<'a> Facts<'a> {
         ensures { OnOk result (out.new.items ≡ out.old.items ++ missing_line self.now (option_map (λ x. x.now) name.entry) u) }
     {
         self.put_missing(out, name, u)?;
-        self.put_standing(out, self.waits_at(u))?;
+        self.of_text.put_standing(out, self.waits_at(u))?;
         put_words(out, b"\n")
     }
 

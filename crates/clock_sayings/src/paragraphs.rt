@@ -4,6 +4,7 @@ ghost use Rattle.armus_base.specs.declared.ending.TaskEnd.TheVariants.{Done};
 ghost use Rattle.clock_sayings.specs.ClockExplanations.{lines_below, activity_paragraph, paragraph_at, paragraph_of_thing, started_at, unstarted_line, wait_words, waiting_paragraph};
 
 use crate::facts::Facts;
+use crate::text_facts::ClockTextFacts;
 use crate::words::{put_number, put_words};
 use armus_base::{Event, NoMemory, TaskEnd};
 use clock_origins::{ClockBegun, ClockThing};
@@ -18,7 +19,7 @@ fn started_at(begun: Option<&ClockBegun<'_>>) -> Option<u32>
     }
 }
 
-impl<'a> Facts<'a> {
+impl<'a> ClockTextFacts<'a> {
     // Appends for what one waits: a clock of this name, or a finish, made at statement `n`.
     fn put_wait(
         &self,
@@ -37,12 +38,24 @@ impl<'a> Facts<'a> {
                 self.put_clock(out, x, n)
             }
             None => {
-                put_words(out, b" waits at the end of the finish at ")?;
-                self.put_place(out, n)
+                put_words(out, b" waits at the end of ")?;
+                self.put_finish(out, n)
             }
         }
     }
 
+    // Appends the line of an activity that is not started.
+    fn put_unstarted(&self, out: &mut Vec<u8>, t: u32) -> Result<(), NoMemory>
+        ensures { OnOk result (out.new.items ≡ out.old.items ++ unstarted_line self.now t) }
+    {
+        self.put_front(out, started_at(self.begun(t)))?;
+        self.put_activity(out, t)?;
+        put_words(out, b" is not started")?;
+        put_words(out, b"\n")
+    }
+}
+
+impl<'a> Facts<'a> {
     // Appends the paragraph of activity `t`, which waits for the event of this clock or finish.
     fn put_waiting(
         &self,
@@ -53,9 +66,10 @@ impl<'a> Facts<'a> {
     ) -> Result<(), NoMemory>
         ensures { OnOk result (out.new.items ≡ out.old.items ++ waiting_paragraph self.now t event thing.now) }
     {
-        self.put_front(out, self.waits_at(t))?;
-        self.put_activity(out, t)?;
-        self.put_wait(out, event, thing.name(), thing.statement())?;
+        self.of_text.put_front(out, self.waits_at(t))?;
+        self.of_text.put_activity(out, t)?;
+        self.of_text
+            .put_wait(out, event, thing.name(), thing.statement())?;
         put_words(out, b"\n")?;
         self.put_missing_lines(out, event, thing.name())?;
         self.put_pending_lines(out, event, t)
@@ -77,25 +91,15 @@ impl<'a> Facts<'a> {
         }
     }
 
-    // Appends the line of an activity that is not started.
-    fn put_unstarted(&self, out: &mut Vec<u8>, t: u32) -> Result<(), NoMemory>
-        ensures { OnOk result (out.new.items ≡ out.old.items ++ unstarted_line self.now t) }
-    {
-        self.put_front(out, started_at(self.begun(t)))?;
-        self.put_activity(out, t)?;
-        put_words(out, b" is not started")?;
-        put_words(out, b"\n")
-    }
-
     // Appends what is said of activity `t`, which has ended so.
     fn put_paragraph(&self, out: &mut Vec<u8>, t: u32, end: TaskEnd) -> Result<(), NoMemory>
         ensures { OnOk result (out.new.items ≡ out.old.items ++ activity_paragraph self.now t end) }
     {
         match end {
             TaskEnd::Blocked(event) => {
-                self.put_waiting_for(out, t, event, self.thing(event.p.0))
+                self.put_waiting_for(out, t, event, self.of_text.thing(event.p.0))
             }
-            TaskEnd::Unforked => self.put_unstarted(out, t),
+            TaskEnd::Unforked => self.of_text.put_unstarted(out, t),
             TaskEnd::Done | TaskEnd::Refused(_) => Ok(()),
         }
     }

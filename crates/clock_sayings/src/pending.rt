@@ -3,11 +3,12 @@ ghost use Rattle.std.specs.Prelude.{◌≡◌, ◌++◌, OnOk, length, option_co
 ghost use Rattle.clock_sayings.specs.ClockExplanations.{line_if_pending, lines_below, pending_in, pending_line, pending_lines, pending_named};
 
 use crate::facts::Facts;
+use crate::text_facts::ClockTextFacts;
 use crate::words::put_words;
 use armus_base::{Event, NoMemory, PhaserId};
 use clock_origins::ClockThing;
 
-impl<'a> Facts<'a> {
+impl<'a> ClockTextFacts<'a> {
     // Appends the line of a clock of this name, made at statement `n`.
     fn put_pending_named(
         &self,
@@ -35,7 +36,9 @@ impl<'a> Facts<'a> {
             None => Ok(()),
         }
     }
+}
 
+impl<'a> Facts<'a> {
     // Appends the line of `p`, where it is pending and not what activity `t` waits for.
     fn put_if_pending(
         &self,
@@ -47,7 +50,7 @@ impl<'a> Facts<'a> {
         ensures { OnOk result (out.new.items ≡ out.old.items ++ line_if_pending self.now event (pending_in (slice_get self.now.waits t)) p.0) }
     {
         if self.is_pending(t, p) && p != event.p {
-            self.put_pending(out, self.thing(p.0))
+            self.of_text.put_pending(out, self.of_text.thing(p.0))
         } else {
             Ok(())
         }
@@ -62,7 +65,7 @@ impl<'a> Facts<'a> {
     ) -> Result<(), NoMemory>
         ensures { OnOk result (out.new.items ≡ out.old.items ++ pending_lines self.now event t) }
     {
-        for p in 0..self.layout.origins.things() {
+        for p in 0..self.of_text.things() {
             self.put_if_pending(out, event, t, PhaserId(p))?;
         }
         Ok(())

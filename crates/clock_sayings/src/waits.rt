@@ -1,9 +1,10 @@
 // Where activities wait.
-ghost use Rattle.std.specs.Prelude.{◌≡◌, ◌<◌, ◌≤◌, IfOk, OnOk, [], count_by, if◌then◌else◌, length, slice_index_or, take};
+ghost use Rattle.std.specs.Prelude.{◌≡◌, ◌<◌, ◌≤◌, ℕ, false, IfOk, OnOk, [], count_by, if◌then◌else◌, length, slice_index_or, take};
 ghost use Rattle.armus_base.specs.Finals.{end_of, list_below};
 ghost use Rattle.armus_base.specs.Plans.{code_of};
 ghost use Rattle.pl_core.specs.calls.Worlds.{places_of, state_of};
-ghost use Rattle.clock_sayings.specs.ClockFacts.{AreWaitsAt, IsWaitBy, IsWaitOf, is_await, pending_after, pending_by};
+ghost use Rattle.clock_sayings.specs.ClockFacts.{AreWaitsAt, IsWaitBy, IsWaitOf, is_await, is_pending};
+ghost use Rattle.clock_sayings.specs.inside.Passing.{pending_by};
 
 use crate::facts::Wait;
 use armus_base::{NoMemory, Op, TaskEnd, TaskId};
@@ -50,7 +51,7 @@ fn ops_passed(alloc: Global, world: &World<'_>, t: TaskId, count: u32) -> Result
     requires task { t.0 < length world.now.plan.parents }
     requires within { count ≤ length (code_of world.now.plan t.0) }
     ensures waits { IfOk result (λ p. p.waits ≡ count_by is_await (take count (code_of world.now.plan t.0))) }
-    ensures pending { IfOk result (λ p. p.pending ≡ pending_after [] (take count (code_of world.now.plan t.0))) }
+    ensures pending { IfOk result (λ p. (q : ℕ) → slice_index_or p.pending q false ≡ is_pending (take count (code_of world.now.plan t.0)) q) }
 {
     let mut waits = 0;
     let mut pending = Membership::new(alloc);
@@ -73,12 +74,13 @@ fn wait_of(
     t: TaskId,
 ) -> Result<Wait, NoMemory>
     requires task { t.0 < length world.now.plan.parents }
-    ensures { IfOk result (IsWaitOf (code_of world.now.plan t.0) (slice_index_or origins.now.waits t.0 []) (places_of world.now t.0).done) }
+    ensures { IfOk result (IsWaitOf (code_of world.now.plan t.0) (slice_index_or origins.now.waits t.0 []) (length world.now.plan.makers) (places_of world.now t.0).done) }
 {
     let Passed { waits, pending } = ops_passed(alloc, world, t, world.op(t))?;
     Ok(Wait {
         statement: origins.wait(t.0, waits),
         pending,
+        clocks: world.plan().phasers(),
     })
 }
 
@@ -91,13 +93,14 @@ fn wait_by(
     end: TaskEnd,
 ) -> Result<Wait, NoMemory>
     requires task { t.0 < length world.now.plan.parents }
-    ensures { IfOk result (IsWaitBy (code_of world.now.plan t.0) (slice_index_or origins.now.waits t.0 []) (places_of world.now t.0).done end) }
+    ensures { IfOk result (IsWaitBy (code_of world.now.plan t.0) (slice_index_or origins.now.waits t.0 []) (length world.now.plan.makers) (places_of world.now t.0).done end) }
 {
     match end {
         TaskEnd::Blocked(_) => wait_of(alloc, origins, world, t),
         TaskEnd::Done | TaskEnd::Refused(_) | TaskEnd::Unforked => Ok(Wait {
             statement: None,
             pending: Membership::new(alloc),
+            clocks: 0,
         }),
     }
 }

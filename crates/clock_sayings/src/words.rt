@@ -1,9 +1,8 @@
 // Words for places and activities, and for clocks.
 ghost use Rattle.std.specs.Prelude.{◌≡◌, ◌++◌, ℕ, List, OnOk, decimal, length, option_copied};
-ghost use Rattle.clock_sayings.specs.ClockWords.{activity_words, async_words, front_of, offset_of, statement_place_words, standing_words, started_words, clock_statement_place};
-ghost use Rattle.clock_sayings.specs.ClockExplanations.{made_clock_words};
+ghost use Rattle.clock_sayings.specs.ClockWords.{activity_words, async_words, front_of, made_clock_words, made_finish_words, offset_of, statement_place_words, standing_words, started_words, clock_statement_place};
 
-use crate::facts::Facts;
+use crate::text_facts::ClockTextFacts;
 use armus_base::NoMemory;
 use clock_origins::ClockBegun;
 use std::alloc::Global;
@@ -39,7 +38,7 @@ pub(crate) fn offset_of(offsets: &[u32], end: u32, n: u32) -> u32
     }
 }
 
-impl<'a> Facts<'a> {
+impl<'a> ClockTextFacts<'a> {
     // The place of statement `n`.
     fn statement(&self, n: u32) -> TextPlace
         ensures { result ≡ clock_statement_place self.now n }
@@ -49,8 +48,8 @@ impl<'a> Facts<'a> {
             .at(offset_of(self.layout.offsets.as_slice(), end, n))
     }
 
-    // Appends the place of statement `n` within a line.
-    pub(crate) fn put_place(&self, out: &mut Vec<u8>, n: u32) -> Result<(), NoMemory>
+    /// Appends the place of statement `n` within a line.
+    pub fn put_place(&self, out: &mut Vec<u8>, n: u32) -> Result<(), NoMemory>
         ensures { OnOk result (out.new.items ≡ out.old.items ++ statement_place_words self.now n) }
     {
         self.places.put(self.alloc, out, self.statement(n))
@@ -90,8 +89,8 @@ impl<'a> Facts<'a> {
         }
     }
 
-    // Appends an activity.
-    pub(crate) fn put_activity(&self, out: &mut Vec<u8>, t: u32) -> Result<(), NoMemory>
+    /// Appends an activity: `activity 1 (async at 3:5)`.
+    pub fn put_activity(&self, out: &mut Vec<u8>, t: u32) -> Result<(), NoMemory>
         ensures { OnOk result (out.new.items ≡ out.old.items ++ activity_words self.now t) }
     {
         put_words(out, b"activity ")?;
@@ -110,13 +109,21 @@ impl<'a> Facts<'a> {
         self.put_place(out, n)
     }
 
-    // Appends a clock of this name, made at statement `n`.
-    pub(crate) fn put_clock(&self, out: &mut Vec<u8>, x: &[u8], n: u32) -> Result<(), NoMemory>
+    /// Appends a clock of this name, made at statement `n`: `clock c made at 1:1`.
+    pub fn put_clock(&self, out: &mut Vec<u8>, x: &[u8], n: u32) -> Result<(), NoMemory>
         ensures { OnOk result (out.new.items ≡ out.old.items ++ made_clock_words self.now x.now n) }
     {
         put_words(out, b"clock ")?;
         put_words(out, x)?;
         put_words(out, b" made at ")?;
+        self.put_place(out, n)
+    }
+
+    /// Appends the finish of statement `n`: `the finish at 2:1`.
+    pub fn put_finish(&self, out: &mut Vec<u8>, n: u32) -> Result<(), NoMemory>
+        ensures { OnOk result (out.new.items ≡ out.old.items ++ made_finish_words self.now n) }
+    {
+        put_words(out, b"the finish at ")?;
         self.put_place(out, n)
     }
 }

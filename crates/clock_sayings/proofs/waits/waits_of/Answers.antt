@@ -21,5 +21,5 @@ loop-t-preserved c =
     let within : c.loop-t.t < length c.args.world.now.plan.parents = omega (arith, c.loop-t-test.true, same) in
     let end = list_at (end_of (state_of c.args.world.now)) (length c.args.world.now.plan.parents) c.loop-t.t c.args.ends.now _ c.requires.ends within in
     told_more c.args.origins.now.waits c.args.world.now.plan (places_of c.args.world.now) c.loop-t.t c.loop-t.all.items
-    c.push.new.self.items c.in_ok-wait_by.field-0 c.loop-t.invariant c.in_ok-push.ensures.items (subst (λ x. IsWaitBy (code_of c.args.world.now.plan c.loop-t.t) (slice_index_or c.args.origins.now.waits c.loop-t.t []) (places_of c.args.world.now c.loop-t.t).done x
+    c.push.new.self.items c.in_ok-wait_by.field-0 c.loop-t.invariant c.in_ok-push.ensures.items (subst (λ x. IsWaitBy (code_of c.args.world.now.plan c.loop-t.t) (slice_index_or c.args.origins.now.waits c.loop-t.t []) (length c.args.world.now.plan.makers) (places_of c.args.world.now c.loop-t.t).done x
     c.in_ok-wait_by.field-0) end c.in_ok-wait_by.ensures)
