@@ -15,6 +15,7 @@ use Rattle.armus_base.specs.Runs.{IsByCode, IsLegalRun, IsNextStep, places, stat
 use Rattle.armus_base.specs.States.{State, Step, awaited, if_published, updated}
 use Rattle.armus_base.proofs.DeadByStatuses.{dead_by_final, run_is_of_plan}
 use Rattle.armus_base.proofs.NobodyIsDead.{avoided_legal}
+use Rattle.armus_base.proofs.SerialIsAvoided.{serial_is_avoided}
 use Rattle.pl_core.specs.calls.Awaiting.{awaited_statuses}
 use Rattle.pl_syntax.specs.declared.tree.Program.{Program}
 use Rattle.accounts.specs.Accounts.{Layout}
@@ -31,6 +32,7 @@ use Rattle.refused_awaits.specs.RefusalWords.{refusal_words}
 use Rattle.refused_awaits.specs.Refusals.{AreRefusals, IsRefusalText, IsTold}
 use Rattle.refused_awaits.specs.calls.Laws.{AvoidedExplanationExists}
 use Rattle.refused_awaits.proofs.OpsKept.{at_op, op_at}
+use Rattle.refused_awaits.proofs.Releasing.{released_exist}
 
 -- where a task is dead there is a cycle
 a_cycle : (blocked : List Status) → IsSomeDead blocked → (cycle : List TaskId) × IsReportedCycle blocked cycle
@@ -64,9 +66,20 @@ module _ (file : Option (List ℕ)) (l : Layout) (p : Program) (plan : Plan) (ch
   a_text : (h : List Step) → IsLegalRun plan h → (t : ℕ) (x : Action) → IsNextStep plan h (record { task = t; action = x }) → Avoids (state_after h) t x
       → (text : List ℕ) × IsTold file l p plan h t x text
   a_text h run t (Refuses aim) next (e, awaits, dead) =
-      let (cycle, is) = a_cycle (awaited_statuses plan (if_published (state_after h) t e)) (dead_there plan checked h run t aim next e awaits dead) in (
-        refusal_words file l p plan (state_after h) t e (op_at plan (places h)) cycle,
-        record { ops = op_at plan (places h); stand = at_op plan (places h); event = e; awaits = awaits; cycle = cycle; closes = is; text_is = refl },
+      let (cycle, is) = a_cycle (awaited_statuses plan (if_published (state_after h) t e)) (dead_there plan checked h run t aim next e awaits dead) in
+      let (released, go_on) = released_exist plan (state_after h) t (run_is_of_plan plan h checked run) in (
+        refusal_words file l p plan (state_after h) t e (op_at plan (places h)) cycle released,
+        record {
+          ops = op_at plan (places h);
+          stand = at_op plan (places h);
+          event = e;
+          awaits = awaits;
+          cycle = cycle;
+          closes = is;
+          released = released;
+          go_on = go_on;
+          text_is = refl;
+        },
       )
   a_text h run t (Makes q) next avoids = ([], refl)
   a_text h run t (Registers c q) next avoids = ([], refl)
@@ -84,8 +97,9 @@ module _ (file : Option (List ℕ)) (l : Layout) (p : Program) (plan : Plan) (ch
       (before ++ own, (before, own, are, is, refl))
 
 pub avoided_explanation_exists : AvoidedExplanationExists
-avoided_explanation_exists file text p plan steps is unfolds run =
+avoided_explanation_exists file text p plan steps is unfolds ended =
     let checked = text_is_checked text p plan is unfolds in
+    let run = serial_is_avoided plan steps checked ended.0 in
     let (layout, of_text, is_layout) = layout_exists text p is in
     let (refusals, each) = texts file layout p plan checked steps run in
     let reach = leads_there plan steps (avoided_legal plan steps run) in
@@ -95,6 +109,7 @@ avoided_explanation_exists file text p plan steps is unfolds run =
       avoided_words (facts_of text file account reports.standings) s.phases refusals,
       somebody_stays reports.standings,
       record {
+        ended = ended;
         program = p;
         refusals = refusals;
         are_refusals = record { reads = is; layout = layout; of_text = of_text; is_layout = is_layout; each = each };

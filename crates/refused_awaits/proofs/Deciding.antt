@@ -30,6 +30,7 @@ use Rattle.avoider.specs.calls.Decisions.{ExplainsDeath, HasGoneOn, IsPublished,
 use Rattle.avoider.proofs.Supposing.{blocks_next}
 use Rattle.world_runs.specs.inside.AvoidedRounds.{LeadsTo}
 use Rattle.world_runs.proofs.AvoidedSteps.{leads_run, leads_state, refusal_goes_on}
+use Rattle.refused_awaits.specs.Released.{AreReleased, when_left}
 use Rattle.refused_awaits.specs.RefusalWords.{refusal_words}
 use Rattle.refused_awaits.specs.Refusals.{AreRefusals, IsRefusalText}
 use Rattle.refused_awaits.specs.declared.avoiding.Avoiding.{Avoiding}
@@ -106,9 +107,10 @@ module _ (file : Option (List ℕ)) (l : Layout) (p : Program) (old new : Avoidi
         goes_by_step is.step (subst (λ x. IsDecided (state_of old.world) t x) (sym block) (d, next.2, is.alive)) same
 
     -- an await that is refused
-    module _ (c : Cycle) (is : IsRefused old.world new.world t c)
+    module _ (c : Cycle) (is : IsRefused old.world new.world t c) (released : List TaskId)
+        (go_on : AreReleased (state_of old.world) (when_left (state_of old.world) t) released)
         (text : (ops : ℕ → ℕ) → StandAt new.world ops →
-        new.refusals.items ≡ old.refusals.items ++ refusal_words file l p plan (state_of old.world) t e ops c.tasks) where
+        new.refusals.items ≡ old.refusals.items ++ refusal_words file l p plan (state_of old.world) t e ops c.tasks released) where
       aim_is : (blocks_next old.world t e at).0 ≡ is.refusal.aim
       aim_is =
           let next = blocks_next old.world t e at in
@@ -132,7 +134,7 @@ module _ (file : Option (List ℕ)) (l : Layout) (p : Program) (old new : Avoidi
       decided = (e, awaits, subst (λ (d : Event). WouldBeDead (state_of old.world) t d) event_is is.dead)
 
       own_text : List Step → List ℕ
-      own_text h = refusal_words file l p plan (state_after h) t e (op_at plan (places h)) c.tasks
+      own_text h = refusal_words file l p plan (state_after h) t e (op_at plan (places h)) c.tasks released
 
       is_text : (h : List Step) → AreRefusalsSoFar file l p h old → IsRefusalText file l p plan h t is.refusal.aim (own_text h)
       unfolding own_text
@@ -143,6 +145,8 @@ module _ (file : Option (List ℕ)) (l : Layout) (p : Program) (old new : Avoidi
         awaits = subst (λ (s : State). awaited (Some (Blocks is.refusal.aim)) (s.phases t) ≡ Some e) (sym (state_is h so_far)) awaits;
         cycle = c.tasks;
         closes = subst (λ (s : State). IsReportedCycle (awaited_statuses plan (if_published s t e)) c.tasks) (sym (state_is h so_far)) closes;
+        released = released;
+        go_on = subst (λ (s : State). AreReleased s (when_left s t) released) (sym (state_is h so_far)) go_on;
         text_is = refl;
       }
 
@@ -152,7 +156,7 @@ module _ (file : Option (List ℕ)) (l : Layout) (p : Program) (old new : Avoidi
           let here : StandAt old.world (op_at plan (places h)) =
           subst (λ (a : ℕ → Place). (u : ℕ) → IsAtOp (code_of plan u) (a u).done (op_at plan (places h) u)) so_far.leads.there (at_op plan (places h)) in
           text (op_at plan (places h)) (stand_still old.world new.world t is.refusal (op_at plan (places h)) here)
-          ∙ ap (λ (s : State). old.refusals.items ++ refusal_words file l p plan s t e (op_at plan (places h)) c.tasks) (sym (state_is h so_far))
+          ∙ ap (λ (s : State). old.refusals.items ++ refusal_words file l p plan s t e (op_at plan (places h)) c.tasks released) (sym (state_is h so_far))
 
       by_refusing : RoundsGoTo file l p t old new true
       by_refusing h so_far =
@@ -176,7 +180,7 @@ module _ (file : Option (List ℕ)) (l : Layout) (p : Program) (old new : Avoidi
     pub goes_by_decision : HasDecided file l p old new t e → RoundsGoTo file l p t old new true
     goes_by_decision decided = elim decided [
       | inl one ↦ by_publishing one.0 one.1 one.2
-      | inr one ↦ by_refusing one.0 one.1 one.2
+      | inr one ↦ by_refusing one.0 one.1 one.2 one.3 one.4
     ]
 
     pub gone_on : HasDecided file l p old new t e → HasGoneOn old.world new.world t

@@ -43,6 +43,7 @@ module _ (file : Option (List ℕ)) (text : List ℕ) (p : Program) (plan : Plan
       let by_state : AreStandings (IsDeadBy (final_of plan (state_of r.world)).blocked) (final_of plan (state_of r.world)).ends is.standings =
       subst (λ (q : Plan). AreStandings (IsDeadBy (final_of q (state_of r.world)).blocked) (final_of q (state_of r.world)).ends is.standings) run.plan_is is.stand in
       record {
+        ended = run.ended;
         program = p;
         refusals = r.refusals;
         are_refusals = run.told;

@@ -1,6 +1,8 @@
 pub mod Pieces
 pub mod Circles
 pub mod OpsKept
+pub mod Those
+pub mod Releasing
 pub mod Refusing
 pub mod Deciding
 pub mod Turning
@@ -9,3 +11,6 @@ pub mod StaysTold
 pub mod Explained
 pub mod OneAvoided
 pub mod AvoidedExists
+pub mod RefusedOnce
+pub mod RefusalTexts
+pub mod ToldOnce

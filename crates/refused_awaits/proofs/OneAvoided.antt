@@ -17,6 +17,7 @@ use Rattle.pl_syntax.proofs.Unique.{one_tree}
 use Rattle.accounts.specs.Accounts.{IsAccount, IsLayout, Layout}
 use Rattle.accounts.specs.declared.account.Account.{Account}
 use Rattle.accounts.proofs.OneAccount.{one_account}
+use Rattle.dep_state.proofs.SameDeadLists.{same_ascending}
 use Rattle.report.specs.Reports.{IsReportedCycle}
 use Rattle.report.specs.declared.standing.Standing.{Standing}
 use Rattle.report.proofs.OneReport.{one_standings}
@@ -52,10 +53,14 @@ module _ (file : Option (List ℕ)) (l : Layout) (p : Program) (plan : Plan) whe
       let closes : IsReportedCycle (awaited_statuses plan (if_published (state_after h) t b.event)) a.cycle =
       subst (λ (e : Event). IsReportedCycle (awaited_statuses plan (if_published (state_after h) t e)) a.cycle) events a.closes in
       let cycles : a.cycle ≡ b.cycle = one_reported (awaited_statuses plan (if_published (state_after h) t b.event)) a.cycle b.cycle closes b.closes in
+      let released : a.released ≡ b.released =
+      same_ascending a.released b.released a.go_on.ascends b.go_on.ascends
+      (λ u. (λ m. (b.go_on.exact u).1 ((a.go_on.exact u).0 m), λ m. (a.go_on.exact u).1 ((b.go_on.exact u).0 m))) in
       a.text_is
-      ∙ ap (λ (e : Event). refusal_words file l p plan (state_after h) t e a.ops a.cycle) events
-      ∙ ap (λ (o : ℕ → ℕ). refusal_words file l p plan (state_after h) t b.event o a.cycle) ops
-      ∙ ap (λ (c : List TaskId). refusal_words file l p plan (state_after h) t b.event b.ops c) cycles
+      ∙ ap (λ (e : Event). refusal_words file l p plan (state_after h) t e a.ops a.cycle a.released) events
+      ∙ ap (λ (o : ℕ → ℕ). refusal_words file l p plan (state_after h) t b.event o a.cycle a.released) ops
+      ∙ ap (λ (c : List TaskId). refusal_words file l p plan (state_after h) t b.event b.ops c a.released) cycles
+      ∙ ap (λ (us : List TaskId). refusal_words file l p plan (state_after h) t b.event b.ops b.cycle us) released
       ∙ sym b.text_is
 
   one_told : (h : List Step) (t : ℕ) (x : Action) (text other : List ℕ) → IsTold file l p plan h t x text → IsTold file l p plan h t x other → text ≡ other

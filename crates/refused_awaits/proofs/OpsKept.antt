@@ -1,5 +1,5 @@
 -- Where tasks stand in their codes: each at an op, and after a refusal at the same.
-use Rattle.std.proofs.Common.{◌≡◌, ◌∙◌, ℕ, ap, inl, inr, set, subst, sym}
+use Rattle.std.proofs.Common.{◌≡◌, ◌≢◌, ◌∙◌, ℕ, ap, inl, inr, set, subst, sym}
 use Rattle.std.proofs.lemmas.Bool.{cases_eq}
 use Rattle.std.proofs.lemmas.Option.{slice_get_within}
 use Rattle.armus_base.specs.Plans.{Plan, code_of}
@@ -21,8 +21,15 @@ unfolding op_at
 at_op plan a u = (at_some_op (code_of plan u) (a u).done).1
 
 module _ (old new : WorldValue) (t : ℕ) (r : MakesRefusal old new t) where
-  -- a refusal makes no action of a code
-  same_done : (u : ℕ) → (places_of new u).done ≡ (places_of old u).done
+  -- a refusal moves no other task
+  pub same_place : (u : ℕ) → u ≢ t → places_of new u ≡ places_of old u
+  same_place u other =
+      ap (λ q. places_at q new.places u) r.plan
+      ∙ ap (λ ps. places_at old.plan ps u) r.places.changed
+      ∙ places_set_other old.plan old.places t u (refused_there r.places.place) other
+
+  -- and makes no action of a code
+  pub same_done : (u : ℕ) → (places_of new u).done ≡ (places_of old u).done
   same_done u =
       ap (λ q. (places_at q new.places u).done) r.plan
       ∙ ap (λ ps. (places_at old.plan ps u).done) r.places.changed

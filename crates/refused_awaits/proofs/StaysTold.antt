@@ -31,16 +31,18 @@ module _ (standings : List Standing) where
   abbrev pub standing : ℕ → Standing
   standing t = slice_index_or standings t Done
 
-  task_with : (test : Standing → Bool) (t : TaskId) → Contains (tasks_with test standings) t → (t.0 < length standings) × (test (standing t.0) ≡ true)
+  pub task_with : (test : Standing → Bool) (t : TaskId) → Contains (tasks_with test standings) t → (t.0 < length standings) × (test (standing t.0) ≡ true)
   task_with test t m =
       let passed = passed_is (λ (u : TaskId). test (standing u.0)) (list_below (λ u. record { 0 = u }) (length standings)) t m in
       let at = below_is (λ (u : ℕ). record { 0 = u }) (length standings) t passed.0 in
       (subst (λ k. k < length standings) (ap (λ (u : TaskId). u.0) at.2) at.1, passed.1)
 
+  pub task_has : (test : Standing → Bool) (t : TaskId) → t.0 < length standings → test (standing t.0) ≡ true → Contains (tasks_with test standings) t
+  task_has test t lt on =
+      passed_from (λ (v : TaskId). test (standing v.0)) (list_below (λ v. record { 0 = v }) (length standings)) t (task_below (length standings) t lt) on
+
   with_task : (test : Standing → Bool) (t : ℕ) → t < length standings → test (standing t) ≡ true → (u : TaskId) × Contains (tasks_with test standings) u
-  with_task test t lt on =
-      let u : TaskId = record { 0 = t } in
-      (u, passed_from (λ (v : TaskId). test (standing v.0)) (list_below (λ v. record { 0 = v }) (length standings)) u (task_below (length standings) u lt) on)
+  with_task test t lt on = let u : TaskId = record { 0 = t } in (u, task_has test u lt on)
 
   -- a task stands so
   abbrev pub StandsSo : Type 0

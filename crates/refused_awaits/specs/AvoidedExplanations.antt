@@ -5,6 +5,7 @@ use Rattle.armus_base.specs.Finals.{final_of}
 use Rattle.armus_base.specs.Places.{state_at}
 use Rattle.armus_base.specs.Plans.{Plan}
 use Rattle.armus_base.specs.Runs.{places}
+use Rattle.armus_base.specs.Serial.{IsSerialAvoidedEnd}
 use Rattle.armus_base.specs.States.{Step}
 use Rattle.pl_syntax.specs.Grammar.{IsText}
 use Rattle.pl_syntax.specs.declared.tree.Program.{Program}
@@ -25,9 +26,10 @@ pub record AreRefusalsOf (file : Option (List ℕ)) (text : List ℕ) (p : Progr
   pub is_layout : IsLayout p layout
   pub each : AreRefusals file layout p plan steps refusals
 
--- The lines explain this run of the plan of a text, of the file with this name or of none, which has ended: its refusals, and how its tasks stand at its end;
--- and they tell whether somebody was refused or waits for ever.
+-- The lines explain this serial avoided run of the plan of a text, of the file with this name or of none, which has ended: its refusals, and how its tasks stand
+-- at its end; and they tell whether somebody was refused or waits for ever.
 pub record IsAvoidedExplanation (file : Option (List ℕ)) (text : List ℕ) (plan : Plan) (steps : List Step) (lines : List ℕ) (stays : Bool) : Type 0 where
+  pub ended : IsSerialAvoidedEnd plan steps
   pub program : Program
   pub refusals : List ℕ
   pub are_refusals : AreRefusalsOf file text program plan steps refusals

@@ -52,7 +52,8 @@ has_some (t ∷ rest) = true
 abbrev pub somebody_stays : List Standing → Bool
 somebody_stays standings = has_some (tasks_with was_refused standings ++ tasks_with waits_at_the_end standings)
 
--- the whole: how many tasks stand in each way, who was refused, who waits for ever, the paragraphs of the refusals, and those of the tasks that are not done
+-- the whole: how many tasks stand in each way, who was refused, who waits for ever, the paragraphs of the refusals, and those of the tasks that wait or are not
+-- forked
 abbrev pub avoided_words : FactsValue → (ℕ → Phases) → List ℕ → List ℕ
 avoided_words f phases refusals =
     counts_line (counts_of f.standings) ++ refused_line (tasks_with was_refused f.standings) ++ waiting_line (tasks_with waits_at_the_end f.standings) ++ refusals

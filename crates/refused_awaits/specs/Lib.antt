@@ -1,4 +1,5 @@
 -- What a reader of the repository has to believe.
+pub mod Released
 pub mod RefusalWords
 pub mod Refusals
 pub mod AvoidedWords

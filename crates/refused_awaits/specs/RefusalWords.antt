@@ -1,4 +1,4 @@
--- The words of a refusal: who was refused and where, the deadlock that the await would have closed, and what the task left.
+-- The words of a refusal: who was refused and where, the deadlock that the await would have closed, what the task left, and who may go on thereby.
 use Rattle.std.specs.Prelude.{ℕ, zero, List, [], ◌∷◌, ◌++◌, ◌==◌, Option, Some, None, codes, decimal, flat_map, if◌then◌else◌, length, option_map}
 use Rattle.std.proofs.Common.{suc}
 use Rattle.std.specs.List.{enumerate_from}
@@ -15,7 +15,7 @@ use Rattle.origins.specs.declared.turns.LoopTurn.{LoopTurn}
 use Rattle.text_places.specs.PlaceWords.{front_words, place_words}
 use Rattle.accounts.specs.Accounts.{Layout, statement_place}
 use Rattle.task_sayings.specs.Places.{said_of}
-use Rattle.task_sayings.specs.TaskLists.{separator}
+use Rattle.task_sayings.specs.TaskLists.{list_words, separator}
 use Rattle.step_lines.specs.StepWords.{statement_words, drawn_task_words}
 
 -- the place of statement n
@@ -82,9 +82,16 @@ left_phasers phases n = given_below (λ q. option_map (λ m. q) (phases q)) n
 abbrev pub phaser_list : List ℕ → List ℕ
 phaser_list qs = flat_map (λ (k, q). separator (length qs) k ++ codes "p" ++ decimal q) (enumerate_from 0 qs)
 
+-- ---- who may go on
+
+-- the tasks that are released by this: t0 and t2 to t4 may go on
+abbrev pub going_on_words : List TaskId → List ℕ
+going_on_words [] = codes "no further task may go on"
+going_on_words (t ∷ rest) = list_words (t ∷ rest) ++ codes " may go on"
+
 -- ---- the paragraph
 
--- the paragraph of task t, of which an await of this event was refused, with this own phase, where tasks stand at these ops of their codes, the await would have
+-- all lines but the last one of the paragraph of task t, of which an await of this event was refused, with this own phase, where tasks stand at these ops of their codes, the await would have
 -- closed this deadlock, and the task left these phasers
 abbrev pub refusal_by : Option (List ℕ) → Layout → Program → ℕ → Event → Option ℕ → (ℕ → ℕ) → List TaskId → List ℕ → List ℕ
 refusal_by file l p t e own ops cycle left =
@@ -93,7 +100,8 @@ refusal_by file l p t e own ops cycle left =
     ++ line (codes "  deadlock: " ++ avoided_circle_words l p ops cycle)
     ++ line (codes "  it left " ++ phaser_list left)
 
--- the same where its await was refused in this state
-abbrev pub refusal_words : Option (List ℕ) → Layout → Program → Plan → State → ℕ → Event → (ℕ → ℕ) → List TaskId → List ℕ
-refusal_words file l p plan s t e ops cycle =
+-- the whole paragraph where its await was refused in this state, and these tasks are released by this
+abbrev pub refusal_words : Option (List ℕ) → Layout → Program → Plan → State → ℕ → Event → (ℕ → ℕ) → List TaskId → List TaskId → List ℕ
+refusal_words file l p plan s t e ops cycle released =
     refusal_by file l p t e (s.phases t e.p.0) ops cycle (left_phasers (s.phases t) (length plan.makers))
+    ++ line (codes "  thereby " ++ going_on_words released)

@@ -2,26 +2,30 @@
 use Rattle.std.specs.Prelude.{◌≡◌, ℕ, List, [], ◌∷◌, ◌++◌, Option, Some}
 use Rattle.armus_base.specs.declared.event.Event.{Event}
 use Rattle.armus_base.specs.declared.ids.TaskId.{TaskId}
+use Rattle.armus_base.specs.Finals.{final_of}
 use Rattle.armus_base.specs.Plans.{Action, Advances, Aim, Blocks, Drops, Forks, Makes, Passes, Plan, Refuses, Registers, code_of}
 use Rattle.armus_base.specs.Runs.{places, state_after}
 use Rattle.armus_base.specs.States.{Step, awaited, if_published}
 use Rattle.pl_core.specs.Tasks.{IsAtOp}
-use Rattle.pl_core.specs.calls.Awaiting.{awaited_statuses}
 use Rattle.pl_syntax.specs.declared.tree.Program.{Program}
 use Rattle.accounts.specs.Accounts.{Layout}
 use Rattle.report.specs.Reports.{IsReportedCycle}
+use Rattle.refused_awaits.specs.Released.{AreReleased, when_left}
 use Rattle.refused_awaits.specs.RefusalWords.{refusal_words}
 
 -- The paragraph of the refusal that task t makes after the steps h, of an await with this aim: in the state of this decision each task stands at an op of its
--- code; the deadlock is the one that a report would name in this state, were the task published on the event.
+-- code; the deadlock is the one that a report would name in this state, were the task published on the event; and those are released whose events are reached
+-- once the task has left its phasers.
 pub record IsRefusalText (file : Option (List ℕ)) (l : Layout) (p : Program) (plan : Plan) (h : List Step) (t : ℕ) (aim : Aim) (text : List ℕ) : Type 0 where
   pub ops : ℕ → ℕ
   pub stand : (u : ℕ) → IsAtOp (code_of plan u) (places h u).done (ops u)
   pub event : Event
   pub awaits : awaited (Some (Blocks aim)) ((state_after h).phases t) ≡ Some event
   pub cycle : List TaskId
-  pub closes : IsReportedCycle (awaited_statuses plan (if_published (state_after h) t event)) cycle
-  pub text_is : text ≡ refusal_words file l p plan (state_after h) t event ops cycle
+  pub closes : IsReportedCycle (final_of plan (if_published (state_after h) t event)).blocked cycle
+  pub released : List TaskId
+  pub go_on : AreReleased (state_after h) (when_left (state_after h) t) released
+  pub text_is : text ≡ refusal_words file l p plan (state_after h) t event ops cycle released
 
 -- what is told of a step that task t makes after the steps h: of a refusal its paragraph, and nothing of others
 abbrev pub IsTold : Option (List ℕ) → Layout → Program → Plan → List Step → ℕ → Action → List ℕ → Type 0

@@ -12,7 +12,7 @@ ghost use Rattle.world_runs.specs.inside.WorldRounds.{LeavesLess};
 ghost use Rattle.refused_awaits.specs.calls.AvoidedRuns.{IsRunWithRefusals};
 ghost use Rattle.refused_awaits.specs.inside.SoFar.{RoundsGoTo, HasDecided, HasEndedSo, HasTurn, NobodyDeadIn, RoundTo};
 
-use crate::refusal::{pending_of, put_refusal};
+use crate::refusal::{pending_of, put_freed, put_refusal};
 use armus_base::{Event, Final, List, NoMemory, Plan, TaskId};
 use avoider::{Decision, Judge, Judging};
 use pl_core::{Stand, World};
@@ -72,6 +72,7 @@ impl<'p> Avoiding<'p> {
                     &pending,
                     cycle.tasks.as_slice(),
                 )?;
+                put_freed(alloc, &mut self.refusals, &self.world, &pending.phases)?;
                 Ok(())
             }
         }
@@ -207,7 +208,7 @@ fn avoided_to_end<'p>(
 /// Makes the serial avoided run of the plan of the text of this program, which comes from a file with this name, or from none: in rounds each task that was
 /// forked before acts, in order of number, until it is done, waits, or is refused. `places` are those of the text, and `forks` the statements that fork its
 /// tasks, as `unfold` of pl_plan answers them. The only error is want of memory. For each await that is decided it takes the time of `avoid_step_kept` and of a
-/// look at each phaser, and for each refusal time that is linear in the text times the tasks of the deadlock.
+/// look at each phaser, and for each refusal a look at each task, and time that is linear in the text times the tasks of the deadlock.
 pub fn avoid_through<'p>(
     alloc: Global,
     places: &TextPlaces<'_>,

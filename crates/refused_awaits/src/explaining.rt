@@ -1,5 +1,5 @@
 // The explanation of a run that avoids deadlock.
-ghost use Rattle.std.specs.Prelude.{◌≡◌, ◌∷◌, ◌++◌, ◌<◌, ◌^◌, [], IfOk, OnOk, if◌then◌else◌, length, option_copied, slice_index_or};
+ghost use Rattle.std.specs.Prelude.{◌≡◌, ◌++◌, ◌<◌, ◌^◌, IfOk, OnOk, length, option_copied, slice_index_or};
 ghost use Rattle.armus_base.specs.Finals.{final_of};
 ghost use Rattle.pl_core.specs.calls.Worlds.{places_of, state_of};
 ghost use Rattle.report.specs.Counts.{counts_of};
@@ -12,6 +12,7 @@ ghost use Rattle.report.specs.declared.standing.Standing.TheVariants.{Done};
 ghost use Rattle.refused_awaits.specs.AvoidedWords.{avoided_words, has_some, was_refused, waits_at_the_end, refused_line, somebody_stays, tasks_with, waiting_line};
 
 use crate::avoiding::AvoidedRun;
+use crate::listing::push_if;
 use accounts::Account;
 use armus_base::{List, NoMemory, TaskId};
 use explained_tasks::put_paragraphs;
@@ -57,16 +58,6 @@ fn standing_at(standings: &[Standing], t: usize) -> Standing
         Some(standing) => *standing,
         None => Standing::Done,
     }
-}
-
-// Appends a task, if it passes a test.
-fn push_if(all: &mut Vec<TaskId>, t: TaskId, passes: bool) -> Result<(), NoMemory>
-    ensures { OnOk result (all.new.items ≡ all.old.items ++ (if passes then t ∷ [] else [])) }
-{
-    if passes {
-        all.push(t)?;
-    }
-    Ok(())
 }
 
 // The tasks that were refused.

@@ -4,8 +4,9 @@
 mod avoiding;
 mod explaining;
 mod laws;
+mod listing;
 mod refusal;
 
 pub use avoiding::{AvoidedRun, avoid_through};
 pub use explaining::{AvoidedExplanation, avoided_explanation_of};
-pub use laws::one_avoided_explanation;
+pub use laws::{each_is_told_once, one_avoided_explanation};

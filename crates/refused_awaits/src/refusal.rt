@@ -1,8 +1,8 @@
 // The words of a refusal.
-ghost use Rattle.std.specs.Prelude.{◌≡◌, ◌++◌, ◌<◌, ℕ, All, IfOk, OnOk, codes, decimal, flat_map, length, option_copied};
+ghost use Rattle.std.specs.Prelude.{◌≡◌, ◌++◌, ◌<◌, ◌↔◌, ℕ, All, IfOk, IfSome, IsTrue, List, OnOk, codes, decimal, flat_map, length, option_copied};
 ghost use Rattle.std.specs.List.{enumerate_from};
 ghost use Rattle.armus_base.specs.Plans.{code_of};
-ghost use Rattle.armus_base.specs.Finals.{given_below};
+ghost use Rattle.armus_base.specs.Finals.{given_below, list_below};
 ghost use Rattle.origins.specs.Origins.{op_origin, phaser_origin, statement_in, written_statements};
 ghost use Rattle.origins.specs.Turns.{op_turns};
 ghost use Rattle.pl_core.specs.Tasks.{IsAtOp};
@@ -14,15 +14,17 @@ ghost use Rattle.task_sayings.specs.Places.{said_of};
 ghost use Rattle.task_sayings.specs.TaskLists.{separator};
 ghost use Rattle.step_lines.specs.StepWords.{statement_words};
 ghost use Rattle.step_lines.specs.calls.Known.{AreKnownFacts, kept_layout};
-ghost use Rattle.refused_awaits.specs.RefusalWords.{avoided_circle_words, event_words, refused_forked_words, avoided_link_words, member_words, left_phasers, refused_phase_words, phaser_list, place_of, refusal_by, refused_words, refused_turn_words, refused_whence_words};
+ghost use Rattle.refused_awaits.specs.RefusalWords.{avoided_circle_words, event_words, refused_forked_words, avoided_link_words, member_words, left_phasers, refused_phase_words, phaser_list, going_on_words, place_of, refusal_by, refused_words, refused_turn_words, refused_whence_words};
+ghost use Rattle.refused_awaits.specs.inside.Freed.{AreThoseBelow, IsFreed, StoodBelow};
 ghost use Rattle.refused_awaits.specs.inside.SoFar.{StandAt};
 
+use crate::listing::push_if;
 use armus_base::{Event, NoMemory, Phase, PhaserId, TaskId};
 use origins::LoopTurn;
-use pl_core::World;
+use pl_core::{Stand, World};
 use std::alloc::Global;
 use step_lines::{StepFacts, put_statement};
-use task_sayings::{put_number, put_words, separator};
+use task_sayings::{put_list, put_number, put_words, separator};
 
 /// An await of a task, as it stands when it is decided on.
 #[derive(Drop)]
@@ -33,6 +35,8 @@ pub(crate) struct Pending {
     pub(crate) phase: Option<Phase>,
     /// The phasers on which its task is a member.
     pub(crate) members: Vec<u32>,
+    /// The own phase of its task on each phaser, in order of number; nothing where it is no member.
+    pub(crate) phases: Vec<Option<Phase>>,
 }
 
 // The phasers on which a task is a member, in order of number.
@@ -50,6 +54,18 @@ fn members_of(alloc: Global, world: &World<'_>, t: TaskId) -> Result<Vec<u32>, N
     Ok(members)
 }
 
+// The phase of a task on each phaser, in order of number.
+fn phases_of(alloc: Global, world: &World<'_>, t: TaskId) -> Result<Vec<Option<Phase>>, NoMemory>
+    requires task { t.0 < length world.now.plan.parents }
+    ensures { IfOk result (λ v. v.items ≡ list_below ((state_of world.now).phases t.0) (length world.now.plan.makers)) }
+{
+    let mut phases = Vec::new(alloc);
+    for p in 0..world.plan().phasers() {
+        phases.push(world.phase(PhaserId(p), t))?;
+    }
+    Ok(phases)
+}
+
 /// The await of this event at which a task stands.
 pub(crate) fn pending_of(
     alloc: Global,
@@ -62,12 +78,15 @@ pub(crate) fn pending_of(
     ensures event { IfOk result (λ a. a.event ≡ event) }
     ensures phase { IfOk result (λ a. a.phase ≡ (state_of world.now).phases t.0 event.p.0) }
     ensures members { IfOk result (λ a. a.members.items ≡ left_phasers ((state_of world.now).phases t.0) (length world.now.plan.makers)) }
+    ensures phases { IfOk result (λ a. a.phases.items ≡ list_below ((state_of world.now).phases t.0) (length world.now.plan.makers)) }
 {
     let members = members_of(alloc, world, t)?;
+    let phases = phases_of(alloc, world, t)?;
     Ok(Pending {
         event,
         phase: world.phase(event.p, t),
         members,
+        phases,
     })
 }
 
@@ -374,7 +393,86 @@ fn put_left(alloc: Global, out: &mut Vec<u8>, phasers: &[u32]) -> Result<(), NoM
     put_words(out, b"\n")
 }
 
-/// Appends the paragraph of a task whose await, which stood so when it was decided on, was refused, since it would have closed this deadlock.
+// The event for which a task waits, if it waits.
+fn awaited_by(world: &World<'_>, u: TaskId) -> Option<Event>
+    requires task { u.0 < length world.now.plan.parents }
+    ensures event { result ≡ (state_of world.now).published u.0 }
+    ensures phaser { IfSome result (λ e. e.p.0 < length world.now.plan.makers) }
+{
+    match world.stand(u) {
+        Stand::Waits(event) => Some(event),
+        _ => None,
+    }
+}
+
+// Whether a task with these phases stood below an event.
+fn stood_below(phases: &[Option<Phase>], event: Event) -> bool
+    ensures { IsTrue result ↔ StoodBelow phases.now event.p.0 event.n }
+{
+    match phases.get(event.p.0 as usize) {
+        Some(Some(phase)) => *phase < event.n,
+        _ => false,
+    }
+}
+
+// Whether a task waits on an event that is reached, and below which a task with these phases stood.
+fn is_freed(world: &World<'_>, phases: &[Option<Phase>], u: TaskId) -> bool
+    requires task { u.0 < length world.now.plan.parents }
+    ensures { IsTrue result ↔ IsFreed world.now phases.now u.0 }
+{
+    match awaited_by(world, u) {
+        Some(event) => stood_below(phases, event) && world.is_reached(event),
+        None => false,
+    }
+}
+
+// The tasks that may go on where a task with these phases has left its phasers.
+fn freed(
+    alloc: Global,
+    world: &World<'_>,
+    phases: &[Option<Phase>],
+) -> Result<Vec<TaskId>, NoMemory>
+    ensures { IfOk result (λ v. AreThoseBelow (IsFreed world.now phases.now) (length world.now.plan.parents) v.items) }
+{
+    let mut all = Vec::new(alloc);
+    for u in 0..world.plan().tasks() {
+        let passes = is_freed(world, phases, TaskId(u));
+        push_if(&mut all, TaskId(u), passes)?;
+    }
+    Ok(all)
+}
+
+// Appends these tasks, which may go on.
+fn put_going_on(alloc: Global, out: &mut Vec<u8>, tasks: &[TaskId]) -> Result<(), NoMemory>
+    ensures { OnOk result (out.new.items ≡ out.old.items ++ going_on_words tasks.now) }
+{
+    match tasks {
+        [] => put_words(out, b"no further task may go on"),
+        [_, ..] => {
+            put_list(alloc, out, tasks)?;
+            put_words(out, b" may go on")
+        }
+    }
+}
+
+/// Appends the line of the tasks that may go on where a task with these phases has left its phasers.
+pub(crate) fn put_freed(
+    alloc: Global,
+    out: &mut Vec<u8>,
+    world: &World<'_>,
+    phases: &[Option<Phase>],
+) -> Result<(), NoMemory>
+    ensures { OnOk result ((tasks : List TaskId) × AreThoseBelow (IsFreed world.now phases.now) (length world.now.plan.parents) tasks
+        × (out.new.items ≡ out.old.items ++ line (codes "  thereby " ++ going_on_words tasks))) }
+{
+    let tasks = freed(alloc, world, phases)?;
+    put_words(out, b"  thereby ")?;
+    put_going_on(alloc, out, &tasks)?;
+    put_words(out, b"\n")?;
+    Ok(())
+}
+
+/// Appends the paragraph but for its last line of a task whose await, which stood so when it was decided on, was refused, since it would have closed this deadlock.
 pub(crate) fn put_refusal(
     facts: &StepFacts<'_>,
     file: Option<&[u8]>,

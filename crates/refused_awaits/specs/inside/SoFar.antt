@@ -1,6 +1,7 @@
 -- A run that avoids deadlock, as far as it has come, and how it goes on.
 use Rattle.std.specs.Prelude.{◌≡◌, ◌⊎◌, ℕ, Bool, false, List, [], ◌++◌, MatchBool, Option}
 use Rattle.armus_base.specs.declared.event.Event.{Event}
+use Rattle.armus_base.specs.declared.ids.TaskId.{TaskId}
 use Rattle.armus_base.specs.Deadlocks.{NobodyDead}
 use Rattle.armus_base.specs.Plans.{Plan, code_of}
 use Rattle.armus_base.specs.Serial.{GoesOn, IsSerialAvoidedEnd, RoundBelow}
@@ -14,6 +15,7 @@ use Rattle.verdict.specs.declared.found.Cycle.{Cycle}
 use Rattle.avoider.specs.calls.Decisions.{IsDecision}
 use Rattle.avoider.specs.declared.decision.Decision.TheVariants.{Published, Refused}
 use Rattle.world_runs.specs.inside.AvoidedRounds.{LeadsTo}
+use Rattle.refused_awaits.specs.Released.{AreReleased, when_left}
 use Rattle.refused_awaits.specs.RefusalWords.{refusal_words}
 use Rattle.refused_awaits.specs.Refusals.{AreRefusals}
 use Rattle.refused_awaits.specs.declared.avoiding.Avoiding.{Avoiding}
@@ -22,13 +24,15 @@ use Rattle.refused_awaits.specs.declared.avoiding.Avoiding.{Avoiding}
 abbrev pub StandAt : WorldValue → (ℕ → ℕ) → Type 0
 StandAt w ops = (u : ℕ) → IsAtOp (code_of w.plan u) (places_of w u).done (ops u)
 
--- What was decided on the await of this event at which task t stood, and what is kept of it: of a refusal its paragraph, where tasks stand at their ops as they did.
+-- What was decided on the await of this event at which task t stood, and what is kept of it: of a refusal its paragraph, where tasks stand at their ops as they
+-- did, with the tasks that are released by it.
 abbrev pub HasDecided : Option (List ℕ) → Layout → Program → Avoiding → Avoiding → ℕ → Event → Type 0
 HasDecided file l p old new t e =
     ((d : Event) × IsDecision old.world new.world t (Published d) × (new.refusals.items ≡ old.refusals.items))
-    ⊎ ((c : Cycle) × IsDecision old.world new.world t (Refused c)
+    ⊎ ((c : Cycle) × IsDecision old.world new.world t (Refused c) × (released : List TaskId)
+    × AreReleased (state_of old.world) (when_left (state_of old.world) t) released
     × ((ops : ℕ → ℕ) → StandAt new.world ops →
-    new.refusals.items ≡ old.refusals.items ++ refusal_words file l p old.world.plan (state_of old.world) t e ops c.tasks))
+    new.refusals.items ≡ old.refusals.items ++ refusal_words file l p old.world.plan (state_of old.world) t e ops c.tasks released))
 
 -- nobody is dead in the world
 abbrev pub NobodyDeadIn : WorldValue → Type 0

@@ -1,15 +1,19 @@
-use Rattle.std.proofs.Common.{◌≡◌, ◌∙◌, ◌++◌, ◌<◌, ℕ, List, Option, ap, inl, inr, refl, subst, sym}
-use Rattle.std.specs.Prelude.{All, length, option_copied}
+use Rattle.std.proofs.Common.{◌≡◌, ◌∙◌, ◌++◌, ◌<◌, ℕ, List, Option, ap, codes, inl, inr, length, refl, subst, sym}
+use Rattle.std.specs.Prelude.{All, option_copied}
 use Rattle.armus_base.specs.declared.event.Event.{Event}
 use Rattle.armus_base.specs.declared.ids.TaskId.{TaskId}
 use Rattle.armus_base.specs.Plans.{Plan}
 use Rattle.avoider.specs.calls.Decisions.{IsDecision, IsRefused}
 use Rattle.avoider.specs.declared.decision.Decision.{Decision}
-use Rattle.avoider.proofs.Supposing.{phaser_of_await}
+use Rattle.avoider.proofs.Supposing.{of_plan, phaser_of_await}
 use Rattle.pl_core.specs.calls.Worlds.{state_of}
+use Rattle.pl_syntax.specs.Printed.{line}
 use Rattle.step_lines.specs.calls.Known.{kept_layout}
-use Rattle.refused_awaits.specs.RefusalWords.{refusal_by}
+use Rattle.step_lines.proofs.Pieces.{two_pieces}
+use Rattle.refused_awaits.specs.RefusalWords.{going_on_words, left_phasers, refusal_by}
+use Rattle.refused_awaits.specs.inside.Freed.{AreThoseBelow, IsFreed}
 use Rattle.refused_awaits.proofs.Deciding.{cycle_within}
+use Rattle.refused_awaits.proofs.Releasing.{released_are}
 use Rattle.refused_awaits.proofs.avoiding.Avoiding.decide.Goals as goal
 
 pub pending_of-requires-clause-phaser : goal.pending_of-requires-clause-phaser
@@ -29,23 +33,34 @@ put_refusal-requires-clause-tasks c =
 pub returns-clause-decided : goal.returns-clause-decided
 returns-clause-decided c =
     let old = c.args.self.now.world in
+    let new = c.step.new.world in
     let t = c.args.t.0 in
     let e = c.args.event in
     let file = option_copied c.args.teller.now.file in
     let l = kept_layout c.args.teller.now.facts in
     let p = c.args.teller.now.facts.program.now in
     let out = c.args.self.now.refusals.items in
+    let mid = c.put_refusal.new.out.items in
     let pending = c.in_ok-pending.pending in
     let known = c.in_ok-pending.ensures in
-    let is : IsRefused old c.step.new.world t c.in-Refused.cycle =
-    subst (λ (d : Decision). IsDecision old c.step.new.world t d) c.in-Refused.is c.in_ok-step.ensures.decision in
+    let cycle = c.in-Refused.cycle in
+    let own = (state_of old).phases t e.p.0 in
+    let left = left_phasers ((state_of old).phases t) (length old.plan.makers) in
+    let is : IsRefused old new t cycle = subst (λ (d : Decision). IsDecision old new t d) c.in-Refused.is c.in_ok-step.ensures.decision in
+    let freed = c.in_ok-put_freed-in-Refused.ensures in
+    let those : AreThoseBelow (IsFreed new pending.phases.items) (length new.plan.parents) freed.0 =
+    subst (λ (xs : List (Option ℕ)). AreThoseBelow (IsFreed new xs) (length new.plan.parents) freed.0) c.deref.ensures.value freed.1 in
     inr (
-      c.in-Refused.cycle,
+      cycle,
       is,
+      freed.0,
+      released_are old new t is.refusal (of_plan old c.stand.ensures.checked c.stand.ensures.reachable) pending.phases.items known.phases freed.0 those,
       λ ops stand.
-          c.in_ok-put_refusal-in-Refused.ensures ops stand
+          two_pieces out mid c.put_freed.new.out.items (refusal_by file l p t e own ops cycle.tasks left) (line (codes "  thereby " ++ going_on_words freed.0))
+          (c.in_ok-put_refusal-in-Refused.ensures ops stand
           ∙ ap (λ (d : Event). out ++ refusal_by file l p t d pending.phase ops c.as_slice.result.now pending.members.items) known.event
           ∙ ap (λ (o : Option ℕ). out ++ refusal_by file l p t e o ops c.as_slice.result.now pending.members.items) known.phase
-          ∙ ap (λ (cycle : List TaskId). out ++ refusal_by file l p t e ((state_of old).phases t e.p.0) ops cycle pending.members.items) c.as_slice.ensures.items
-          ∙ ap (λ (left : List ℕ). out ++ refusal_by file l p t e ((state_of old).phases t e.p.0) ops c.in-Refused.cycle.tasks left) known.members,
+          ∙ ap (λ (us : List TaskId). out ++ refusal_by file l p t e own ops us pending.members.items) c.as_slice.ensures.items
+          ∙ ap (λ (qs : List ℕ). out ++ refusal_by file l p t e own ops cycle.tasks qs) known.members)
+          freed.2,
     )
