@@ -38,16 +38,16 @@ use Rattle.step_lines.specs.inside.SoFar.{HasNextLine, IsSoFar, next_line}
 -- ---- which steps are shown
 
 -- one more of those that are shown
-shown_more : (e : Step) (h : List Step) → length h < most_shown → first_steps most_shown (e ∷ h) ≡ e ∷ h
+pub shown_more : (e : Step) (h : List Step) → length h < most_shown → first_steps most_shown (e ∷ h) ≡ e ∷ h
 shown_more e h l =
     let none : length (e ∷ h) - most_shown ≡ 0 = let one : length (e ∷ h) ≡ suc (length h) = refl in omega (arith, l, one) in
     ap (λ n. drop n (e ∷ h)) none
 
-shown_all : (h : List Step) → length h < most_shown → first_steps most_shown h ≡ h
+pub shown_all : (h : List Step) → length h < most_shown → first_steps most_shown h ≡ h
 shown_all h l = let none : length h - most_shown ≡ 0 = omega (arith, l) in ap (λ n. drop n h) none
 
 -- one more that is not shown
-shown_same : (e : Step) (h : List Step) → most_shown ≤ length h → first_steps most_shown (e ∷ h) ≡ first_steps most_shown h
+pub shown_same : (e : Step) (h : List Step) → most_shown ≤ length h → first_steps most_shown (e ∷ h) ≡ first_steps most_shown h
 shown_same e h l =
     let more : length (e ∷ h) - most_shown ≡ suc (length h - most_shown) = let one : length (e ∷ h) ≡ suc (length h) = refl in omega (arith, l, one) in
     ap (λ n. drop n (e ∷ h)) more
@@ -55,7 +55,7 @@ shown_same e h l =
 -- ---- a world that follows a run
 
 -- a task that may go on after a run is enabled in a world at its end
-enabled_there : (w : WorldValue) (h : List Step) (t : ℕ) → IsAt w h → TaskMayGoOn w.plan h t → IsEnabled w t
+pub enabled_there : (w : WorldValue) (h : List Step) (t : ℕ) → IsAt w h → TaskMayGoOn w.plan h t → IsEnabled w t
 enabled_there w h t at (x, by_code, legal) = enabled_from w.plan w h t x refl at (record { by_code = by_code; legal = legal })
 
 -- the last step of a plain run is the next by its task's code
@@ -148,7 +148,7 @@ pub none_yet : (l : Layout) (p : Program) (plan : Plan) (s : Stepping) → IsChe
     → IsSoFar l p [] s
 none_yet l p plan s checked opens none empty = record { at = opening_is plan s.world checked opens; serial = tt; counted = none; lines = empty }
 
-journal_length : (h : List Step) → length (journal_of h) ≡ length h
+pub journal_length : (h : List Step) → length (journal_of h) ≡ length h
 journal_length [] = refl
 journal_length (e ∷ h) =
     let more = length-append (journal_of h) (record { 0 = e.task } ∷ []) in

@@ -17,8 +17,8 @@ use pl_core::{Stand, World};
 use std::alloc::Global;
 use task_sayings::{put_number, put_words};
 
-// The op of a task's code at this index.
-fn op_at(plan: &Plan, t: TaskId, i: u32) -> Option<Op>
+/// The op of a task's code at this index: none where it has no such op. The time is linear in the index.
+pub fn op_at(plan: &Plan, t: TaskId, i: u32) -> Option<Op>
     requires task { t.0 < length plan.now.parents }
     ensures { result ≡ slice_get (code_of plan.now t.0) i }
 {
@@ -29,8 +29,12 @@ fn op_at(plan: &Plan, t: TaskId, i: u32) -> Option<Op>
     cursor.peek()
 }
 
-// Appends with which phase a task becomes a member.
-fn put_with_phase(alloc: Global, out: &mut Vec<u8>, phase: Option<Phase>) -> Result<(), NoMemory>
+/// Appends with which phase a task becomes a member: ` with phase 2`.
+pub fn put_with_phase(
+    alloc: Global,
+    out: &mut Vec<u8>,
+    phase: Option<Phase>,
+) -> Result<(), NoMemory>
     ensures { OnOk result (out.new.items ≡ out.old.items ++ with_phase_words phase) }
 {
     match phase {
@@ -43,8 +47,12 @@ fn put_with_phase(alloc: Global, out: &mut Vec<u8>, phase: Option<Phase>) -> Res
     }
 }
 
-// Appends from which phase a task goes on to which.
-fn put_phase_change(alloc: Global, out: &mut Vec<u8>, phase: Option<Phase>) -> Result<(), NoMemory>
+/// Appends from which phase a task goes on to which: `phase 0 to 1`.
+pub fn put_phase_change(
+    alloc: Global,
+    out: &mut Vec<u8>,
+    phase: Option<Phase>,
+) -> Result<(), NoMemory>
     requires room { (n : ℕ) → phase ≡ Some n → n + 1 < 2 ^ 32 }
     ensures { OnOk result (out.new.items ≡ out.old.items ++ phase_change phase) }
 {

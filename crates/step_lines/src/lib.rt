@@ -7,7 +7,8 @@ mod laws;
 mod stepping;
 mod words;
 
+pub use changes::{op_at, put_phase_change, put_with_phase};
 pub use facts::StepFacts;
 pub use laws::{one_serial_run, one_showing, serial_run_replays};
-pub use stepping::{MOST_SHOWN, SteppedRun, step_through};
+pub use stepping::{MOST_SHOWN, SteppedRun, least_enabled, put_rest, step_through};
 pub use words::put_statement;

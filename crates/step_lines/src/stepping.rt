@@ -32,8 +32,8 @@ pub struct SteppedRun<'p> {
     pub end: Final,
 }
 
-// The task with the least number that may go on.
-fn least_enabled(world: &World<'_>) -> Option<TaskId>
+/// The task with the least number that may go on: none where no task may.
+pub fn least_enabled(world: &World<'_>) -> Option<TaskId>
     ensures { MatchOption result
         ((t : ℕ) → t < length world.now.plan.parents → IsEnabled world.now t → ⊥)
         (λ t. (t.0 < length world.now.plan.parents) × IsEnabled world.now t.0 × ((u : ℕ) → u < t.0 → IsEnabled world.now u → ⊥)) }
@@ -92,8 +92,8 @@ fn show(
     }
 }
 
-// Appends how many more steps there were.
-fn put_rest(alloc: Global, out: &mut Vec<u8>, rest: u32) -> Result<(), NoMemory>
+/// Appends the line that tells how many more steps there were; nothing where there were none.
+pub fn put_rest(alloc: Global, out: &mut Vec<u8>, rest: u32) -> Result<(), NoMemory>
     ensures { OnOk result (out.new.items ≡ out.old.items ++ more_steps_line rest) }
 {
     if rest == 0 {

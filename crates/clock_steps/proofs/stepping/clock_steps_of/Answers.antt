@@ -1,0 +1,31 @@
+use Rattle.std.proofs.Common.{[], arith, refl}
+use Rattle.clock_steps.specs.calls.Known.{known_ops}
+use Rattle.clock_steps.proofs.ClockGoingOn.{few_steps, none_yet}
+use Rattle.clock_steps.proofs.stepping.clock_steps_of.Goals as goal
+
+pub loop-run-init : goal.loop-run-init
+loop-run-init c = record {
+  plan = c.in_ok-world.ensures.opening.plan_is;
+  so_far = (
+    [],
+    none_yet (known_ops c.args.facts.now) c.args.plan.now (record { world = c.in_ok-world.world; lines = c.new.result; steps = 0 })
+        c.tasks-tasks.ensures.checked c.in_ok-world.ensures.opening refl c.new.ensures.items,
+  );
+}
+
+pub go_on-requires : goal.go_on-requires
+go_on-requires c = record {
+  room = (let (h, so_far) = c.loop-run.invariant.so_far in
+      let few = few_steps (known_ops c.args.facts.now) h c.loop-run.run so_far in
+      omega (arith, few));
+}
+
+pub loop-run-smaller : goal.loop-run-smaller
+loop-run-smaller c =
+    let (h, so_far) = c.loop-run.invariant.so_far in
+    let few = few_steps (known_ops c.args.facts.now) h c.loop-run.run so_far in
+    let more = c.in_ok-go_on.ensures.counted c.if-branch.true in
+    omega (arith, few, more)
+
+pub returns-clause-quiet : goal.returns-clause-quiet
+returns-clause-quiet c = c.in_ok-go_on.ensures.quiet c.if-branch.false
