@@ -6,10 +6,11 @@ use explain::explain;
 use std::alloc::Global;
 use std::test::Fail;
 
-// First the empty text; two tasks that wait for each other; one that waits for a task that has ended; a text in which nobody waits; one with a syntax fault, of
-// a file whose name is `run`; and one with a check fault. Then steps: of the two tasks that wait for each other, of a text of PL 2, of the empty text, and of one with
-// a syntax fault, of a file whose name is `steps`. Then words that read nothing: those of help and of the version, and those of none. Then a source and
-// a sink that fail, and a text that is too long, of no file and of one.
+// First the empty text; two tasks that wait for each other; one that waits for a task that has ended; a text in which nobody waits; one with a syntax fault,
+// of a file whose name is `run`; and one with a check fault. Then steps: of the two tasks that wait for each other, of a text of PL 2, of the empty text,
+// and of one with a syntax fault, of a file whose name is `steps`. Then texts of clocks: three whose language the name of the file or the first token tells,
+// and three that are read as such by their word. Then two of which the run that avoids deadlock is asked for. Then words that read nothing: those of help
+// and of the version, and those of none. Then a source and a sink that fail, and a text that is too long, of no file and of one.
 const ROWS: &str = "\
 $$0$0$tasks 1 done 1 dead 0 held 0 refused 0 unforked 0~nobody waits for ever~$0\n\
 opposite_order.pl$left = newPhaser();~right = newPhaser();~other = newTid();~reg(other, left);~reg(other, right);~fork(other) {~  adv(right);~  await(right);~  adv(left);~  await(left);~}~adv(left);~await(left);~adv(right);~await(right);~$0$0$tasks 2 done 0 dead 2 held 0 refused 0 unforked 0~deadlock: t0 at 13:1 waits for t1 (other) at 8:3, which waits for t0~opposite_order.pl:13:1: t0 is deadlocked: await(left) waits for phase 1 of p0~  p0 made at 1:1~  t1 (other) keeps it waiting with phase 0, deadlocked at 8:3: await(right)~opposite_order.pl:8:3: t1 (other) is deadlocked: await(right) waits for phase 1 of p1~  forked at 6:1; p1 made at 2:1~  t0 keeps it waiting with phase 0, deadlocked at 13:1: await(left)~$1\n\
@@ -21,14 +22,22 @@ steps opposite_order.pl$left = newPhaser();~right = newPhaser();~other = newTid(
 steps$pl 2; p = newPhaser();~t = newTid(); reg(t, p); fork(t) { adv(p); }~loop 2 { adv(p); await(p - 1); }~$0$0$1: t0 at 1:7: p = newPhaser(): makes p0 (p) with phase 0~2: t0 at 2:15: reg(t, p): registers t1 (t) on p0 (p) with phase 0~3: t0 at 2:26: fork(t): forks t1 (t)~4: t0 at 3:10: adv(p): p0 (p): phase 0 to 1~5: t0 at 3:18: await(p - 1): waits for phase 0 of p0 (p)~6: t0 at 3:18: await(p - 1): goes on~7: t0 at 3:10: adv(p): p0 (p): phase 1 to 2~8: t0 at 3:18: await(p - 1): waits for phase 1 of p0 (p)~9: t1 (t) at 2:36: adv(p): p0 (p): phase 0 to 1~10: t0 at 3:18: await(p - 1): goes on~11: t0 at 4:1: end: leaves p0 (p)~12: t1 (t) at 2:44: end: leaves p0 (p)~tasks 2 done 2 dead 0 held 0 refused 0 unforked 0~nobody waits for ever~$0\n\
 steps$$0$0$tasks 1 done 1 dead 0 held 0 refused 0 unforked 0~nobody waits for ever~$0\n\
 steps steps$b = newPhaser()~adv(b);~$0$0$steps:2:1: ';' is wanted here, not 'adv' (syntax 2, byte 16)~    adv(b);~    ^~$3\n\
---help$skip;~$1$0$usage: armus_explain [run|steps] [FILE]~Reads a PL text from FILE, or from standard input where there is none, and tells~which of its tasks wait for ever, where, for whom, and why.~With steps it first shows the run in which the task with the least number that may~go on makes the next step: a line for each step, and at most 10000 of them.~A text that is refused gets the place of its first fault and what is wrong there.~Status: 0 nobody waits for ever, 1 somebody does, 2 other words than these,~3 the text is refused, 4 it cannot be read, 5 it cannot be written, 6 no memory.~$0\n\
+steps k.clock$skip;~$0$0$activities 1 ended 1 waiting 0 unstarted 0~nobody waits for ever~$0\n\
+steps$drop(c);~$0$0$1:1: a name here stands for no clock (clock 1, statement 1)~    drop(c);~    ^~$3\n\
+steps k.clock.pl$drop = newPhaser();~$0$0$1: t0 at 1:1: drop = newPhaser(): makes p0 (drop) with phase 0~tasks 1 done 1 dead 0 held 0 refused 0 unforked 0~nobody waits for ever~$0\n\
+clock k.clock$clock c;~finish {~  async(c) {~    resume(c);~    advance(c);~    advance(c);~  }~  resume(c);~}~advance(c);~drop(c);~$0$0$activities 2 ended 0 waiting 2 unstarted 0~k.clock:2:1: activity 0 waits at the end of the finish at 2:1~  activity 1 (async at 3:3) has not ended: it waits at 6:5~  resume left clock c made at 1:1 pending~k.clock:6:5: activity 1 (async at 3:3) waits at its advance for phase 2 of clock c made at 1:1~  the signal of activity 0 is missing: it waits at 2:1~$1\n\
+clock clock$finish { }~drop~$0$0$clock:3:1: this token cannot stand here (syntax 2, byte 16)~$3\n\
+clock$skip;~$0$0$activities 1 ended 1 waiting 0 unstarted 0~nobody waits for ever~$0\n\
+avoid$skip;~$0$0$tasks 1 done 1 dead 0 held 0 refused 0 unforked 0~nobody was refused~nobody waits for ever~$0\n\
+avoid avoid$b = newPhaser()~adv(b);~$0$0$avoid:2:1: ';' is wanted here, not 'adv' (syntax 2, byte 16)~    adv(b);~    ^~$3\n\
+--help$skip;~$1$0$usage: armus_explain [run|steps|avoid|clock] [FILE]~Reads a PL text from FILE, or from standard input where there is none, and tells~which of its tasks wait for ever, where, for whom, and why.~With steps it first shows the run in which the task with the least number that may~go on makes the next step: a line for each step, and at most 10000 of them. A text~that begins with a word of clocks, or whose FILE ends with .clock, is one of clocks.~With avoid it tells which tasks are refused in the run that avoids deadlock, where,~and which deadlock each of them would have closed.~With clock it reads a clock text, and tells the same of its activities.~A text that is refused gets the place of its first fault and what is wrong there.~Status: 0 nobody waits for ever, 1 somebody does or is refused, 2 other words,~3 the text is refused, 4 it cannot be read, 5 it cannot be written, 6 no memory.~$0\n\
 --version$skip;~$1$0$armus_explain 1.0.0~$0\n\
-run --help$skip;~$1$0$usage: armus_explain [run|steps] [FILE]~$2\n\
-steps -x$skip;~$1$0$usage: armus_explain [run|steps] [FILE]~$2\n\
-steps k.pl k.pl$skip;~$1$0$usage: armus_explain [run|steps] [FILE]~$2\n\
--x$skip;~$1$0$usage: armus_explain [run|steps] [FILE]~$2\n\
-explain k.pl$skip;~$1$0$usage: armus_explain [run|steps] [FILE]~$2\n\
-run k.pl k.pl$skip;~$1$0$usage: armus_explain [run|steps] [FILE]~$2\n\
+run --help$skip;~$1$0$usage: armus_explain [run|steps|avoid|clock] [FILE]~$2\n\
+steps -x$skip;~$1$0$usage: armus_explain [run|steps|avoid|clock] [FILE]~$2\n\
+steps k.pl k.pl$skip;~$1$0$usage: armus_explain [run|steps|avoid|clock] [FILE]~$2\n\
+-x$skip;~$1$0$usage: armus_explain [run|steps|avoid|clock] [FILE]~$2\n\
+explain k.pl$skip;~$1$0$usage: armus_explain [run|steps|avoid|clock] [FILE]~$2\n\
+run k.pl k.pl$skip;~$1$0$usage: armus_explain [run|steps|avoid|clock] [FILE]~$2\n\
 k.pl$skip;~$1$0$$4\n\
 $skip;~$0$2$tasks 1 done 1 d$5\n\
 $#1048577# $0$0$the text has more than 1048576 bytes (length)~$3\n\

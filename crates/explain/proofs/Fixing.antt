@@ -1,22 +1,32 @@
 -- What is asked for and what the source gives fix the status.
 use Rattle.std.proofs.Common.{◌≡◌, ℕ, Bool, true, false, List, Option, arith, inl, inr, refl, subst, sym}
 use Rattle.std.specs.Prelude.{◌↔◌, Some, if◌then◌else◌}
+use Rattle.std.proofs.lemmas.Bool.{false≢true}
 use Rattle.armus_base.specs.Plans.{Plan}
 use Rattle.armus_base.specs.Runs.{IsMaximal, IsPlainRun, state_after}
+use Rattle.armus_base.specs.Serial.{IsSerialAvoidedEnd}
 use Rattle.armus_base.specs.States.{State, Step}
 use Rattle.armus_base.proofs.OneEnd.{one_end}
+use Rattle.armus_base.proofs.OneSerialEnd.{one_serial_end}
 use Rattle.pl_plan.proofs.Unfolds.{fault_is_first}
 use Rattle.report.specs.declared.refusal.Refusal.TheVariants.{Check, Syntax}
 use Rattle.armus_words.specs.Words.{Text}
+use Rattle.armus_top.specs.Programs.{IsPlanOf}
 use Rattle.armus_top.specs.Headline.{EndsWith, IsCalm, Passage, no_memory, read_fault, whole, write_fault}
 use Rattle.armus_top.specs.declared.programs.TheConstants.{MAX_TEXT_BYTES}
 use Rattle.armus_top.proofs.Ending.{not_long, not_more, rose_from, same_input}
 use Rattle.armus_top.proofs.OnePlan.{checked_plan, one_plan, plan_or_fault}
 use Rattle.explain.specs.Explained.{EndsSo, IsExplanationOf, IsEndedRunOf, WaitsIn}
-use Rattle.explain.specs.Outputs.{AnswersSteps, AnswersText, FixesStatus, FixesTextStatus, IsStatusOf, MayAnswer, MayWrite, text_limit}
+use Rattle.explain.specs.Outputs.{AnswersAvoided, AnswersSteps, AnswersStepsIn, AnswersStepsOf, AnswersText, FixesStatus, FixesTextStatus, IsAvoidedStatusOf, IsStatusIn, IsStatusOf, MayAnswer, MayWrite, text_limit}
+use Rattle.explain.specs.ClockExplained.{AnswersClock, IsClockStatusOf}
 use Rattle.explain.specs.Stepped.{AreStepsOf}
+use Rattle.explain.specs.Avoided.{AvoidsSo, IsAvoidedOf, SomeStays}
 use Rattle.explain.specs.Refused.{HasSomeFault, IsRefusedWith}
-use Rattle.explain.specs.Requests.{Asked, explanation, help, nothing, steps, version}
+use Rattle.explain.specs.Requests.{Asked, avoided, clocks, explanation, help, nothing, steps, version}
+use Rattle.explain.proofs.Staying.{tells_staying}
+use Rattle.explain.specs.Languages.{is_of_clocks}
+use Rattle.explain.proofs.ClockOutputs.{status_of_clocks}
+use Rattle.explain.proofs.ClockSteps.{status_of_clock_steps}
 use Rattle.explain.proofs.Waiting.{tells_waiting}
 
 -- a text that is refused with some lines has a fault
@@ -87,6 +97,64 @@ module _ (file : Option Text) (text : Text) (number : ℕ) (lines : Text) where
   status_of_text (inl is) = explained_status is is.waits is.status_is (tells_waiting file text is.plan is.steps lines is.waits is.ended is.explains)
   status_of_text (inr (three, refused)) = refused_status three refused
 
+-- ---- the run that avoids deadlock
+
+-- a text that is explained so has no fault
+pub avoided_or_fault : (text : Text) (Holds : State → Type 0) → AvoidsSo text Holds → HasSomeFault text → ⊥
+avoided_or_fault text Holds is (why, fault) = (let (program, checked) = is.plan_is in plan_or_fault text why program is.plan fault checked)
+
+-- its serial avoided run ends in one state
+one_avoided_state : (text : Text) (Holds : State → Type 0) (plan : Plan) (h : List Step) → IsPlanOf text plan → IsSerialAvoidedEnd plan h → AvoidsSo text Holds
+    → Holds (state_after h)
+one_avoided_state text Holds plan h plan_is ended is =
+    let plans : is.plan ≡ plan = one_plan text is.plan plan is.plan_is plan_is in
+    let own : IsSerialAvoidedEnd plan is.steps = subst (λ (q : Plan). IsSerialAvoidedEnd q is.steps) plans is.ended in
+    let same = one_serial_end plan is.steps h (checked_plan text plan plan_is) own ended in
+    subst (λ (g : List Step). Holds (state_after g)) same is.holds
+
+module _ (file : Option Text) (text : Text) (number : ℕ) (lines : Text) where
+  abbrev here : (is : IsAvoidedOf file text number lines) → (Holds : State → Type 0) → Holds (state_after is.steps) → AvoidsSo text Holds
+  here is Holds holds = record { plan = is.plan; plan_is = is.plan_is; steps = is.steps; ended = is.ended; holds = holds }
+
+  avoided_status : (is : IsAvoidedOf file text number lines) → (stays : Bool) → number ≡ (if stays then 1 else 0)
+      → ((stays ≡ true) ↔ SomeStays (state_after is.steps)) → IsAvoidedStatusOf text number
+  avoided_status is true one tells = record {
+    refused = (
+      λ three. absurd (omega (arith, one, three)),
+      λ fault. absurd (avoided_or_fault text SomeStays (here is SomeStays (tells.0 refl)) fault),
+    );
+    somebody = (λ _. here is SomeStays (tells.0 refl), λ _. one);
+    nobody = (
+      λ zero. absurd (omega (arith, one, zero)),
+      λ none. absurd (one_avoided_state text (λ state. SomeStays state → ⊥) is.plan is.steps is.plan_is is.ended none (tells.0 refl)),
+    );
+  }
+  avoided_status is false zero tells =
+      let nobody : SomeStays (state_after is.steps) → ⊥ = λ some. false≢true (tells.1 some) in
+      record {
+        refused = (
+          λ three. absurd (omega (arith, zero, three)),
+          λ fault. absurd (avoided_or_fault text (λ state. SomeStays state → ⊥) (here is (λ state. SomeStays state → ⊥) nobody) fault),
+        );
+        somebody = (
+          λ one. absurd (omega (arith, one, zero)),
+          λ some. absurd (nobody (one_avoided_state text SomeStays is.plan is.steps is.plan_is is.ended some)),
+        );
+        nobody = (λ _. here is (λ state. SomeStays state → ⊥) nobody, λ _. zero);
+      }
+
+  status_of_avoided : AnswersAvoided file text number lines → IsAvoidedStatusOf text number
+  status_of_avoided (inl is) = avoided_status is is.stays is.status_is (tells_staying file text is.plan is.steps lines is.stays is.plan_is is.ended is.explains)
+  status_of_avoided (inr (three, refused)) =
+      let fault = refused_has file text lines refused in
+      record {
+        refused = (λ _. fault, λ _. three);
+        somebody = (λ one. absurd (omega (arith, one, three)), λ some. absurd (avoided_or_fault text _ some fault));
+        nobody = (λ zero. absurd (omega (arith, zero, three)), λ none. absurd (avoided_or_fault text _ none fault));
+      }
+
+-- ---- steps
+
 -- steps end with an explanation
 pub steps_explained : (file : Option Text) (text : Text) (status : ℕ) (lines : Text) → (is : AreStepsOf file text status lines)
     → IsExplanationOf file text status is.explanation
@@ -104,24 +172,35 @@ status_of_steps : (file : Option Text) (text : Text) (number : ℕ) (lines : Tex
 status_of_steps file text number lines (inl is) = status_of_text file text number is.explanation (inl (steps_explained file text number lines is))
 status_of_steps file text number lines (inr refused) = status_of_text file text number lines (inr refused)
 
+-- in either language
+status_in : (of_clocks : Bool) (file : Option Text) (text : Text) (number : ℕ) (lines : Text) → AnswersStepsIn of_clocks file text number lines
+    → IsStatusIn of_clocks text number
+status_in true file text number lines is = status_of_clock_steps file text number lines is
+status_in false file text number lines is = status_of_steps file text number lines is
+
 module _ (src : Passage) where
   -- a text that is answered with a status fixes this
-  text_fixed : (file : Option Text) (Answers : Text → ℕ → Text → Type 0) (number : ℕ) (lines : Text)
-      → ((text : Text) → Answers text number lines → IsStatusOf text number) → MayAnswer file Answers src number lines → FixesTextStatus src number
-  text_fixed file Answers number lines tells (inl (read, has, is)) = (
-    λ text offers. subst (λ (t : Text). IsStatusOf t number) (sym (same_input (Some MAX_TEXT_BYTES) src text read offers has)) (tells read is),
+  text_fixed : (file : Option Text) (Answers : Text → ℕ → Text → Type 0) (IsStatus : Text → ℕ → Type 0) (number : ℕ) (lines : Text)
+      → ((text : Text) → Answers text number lines → IsStatus text number) → MayAnswer file Answers src number lines → FixesTextStatus IsStatus src number
+  text_fixed file Answers IsStatus number lines tells (inl (read, has, is)) = (
+    λ text offers. subst (λ (t : Text). IsStatus t number) (sym (same_input (Some MAX_TEXT_BYTES) src text read offers has)) (tells read is),
     λ more. absurd (not_long (Some MAX_TEXT_BYTES) src read more has),
   )
-  text_fixed file Answers number lines tells (inr (much, three, line)) = (
+  text_fixed file Answers IsStatus number lines tells (inr (much, three, line)) = (
     λ text offers. absurd (not_more (Some MAX_TEXT_BYTES) src text offers much),
     λ more. three,
   )
 
   fixed : (asked : Asked) (number : ℕ) (lines : Text) → MayWrite asked src number lines → FixesStatus asked src number
   fixed (explanation file) number lines may =
-      text_fixed file (AnswersText file) number lines (λ text is. status_of_text file text number lines is) may
+      text_fixed file (AnswersText file) IsStatusOf number lines (λ text is. status_of_text file text number lines is) may
   fixed (steps file) number lines may =
-      text_fixed file (AnswersSteps file) number lines (λ text is. status_of_steps file text number lines is) may
+      text_fixed file (AnswersStepsOf file) (λ text. IsStatusIn (is_of_clocks file text) text) number lines
+      (λ text is. status_in (is_of_clocks file text) file text number lines is) may
+  fixed (avoided file) number lines may =
+      text_fixed file (AnswersAvoided file) IsAvoidedStatusOf number lines (λ text is. status_of_avoided file text number lines is) may
+  fixed (clocks file) number lines may =
+      text_fixed file (AnswersClock file) IsClockStatusOf number lines (λ text is. status_of_clocks file text number lines is) may
   fixed help number lines is = is.0
   fixed version number lines is = is.0
   fixed nothing number lines is = is.0

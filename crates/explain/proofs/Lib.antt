@@ -1,6 +1,10 @@
 pub mod EndExplained
 pub mod EndStepped
 pub mod Waiting
+pub mod ClockEnds
+pub mod ClockOutputs
+pub mod EndClockStepped
+pub mod ClockSteps
 pub mod Fixing
 pub mod CallEnds
 pub mod OneOutput
@@ -9,3 +13,6 @@ pub mod Agreement
 pub mod SourceAnswers
 pub mod OneStepsOutput
 pub mod EachSteps
+pub mod Staying
+pub mod EndAvoided
+pub mod OneAvoidedOutput

@@ -17,7 +17,7 @@ use Rattle.explain.specs.calls.Laws.{OneOutput}
 use Rattle.explain.specs.Refused.{IsRefusedWith}
 use Rattle.explain.proofs.Fixing.{explained_or_fault, refused_has}
 
-one_status : (x y : Bool) (status other : ℕ) → status ≡ (if x then 1 else 0) → other ≡ (if y then 1 else 0) → x ≡ y → status ≡ other
+pub one_status : (x y : Bool) (status other : ℕ) → status ≡ (if x then 1 else 0) → other ≡ (if y then 1 else 0) → x ≡ y → status ≡ other
 one_status x y status other is are same = is ∙ ap (λ (w : Bool). if w then 1 else 0) same ∙ sym are
 
 pub one_explained : (file : Option Text) (text : Text) (status other : ℕ) (lines others : Text) → IsExplanationOf file text status lines

@@ -1,5 +1,5 @@
 -- A text has one output with the steps of its run, with one status.
-use Rattle.std.proofs.Common.{◌≡◌, ◌∙◌, ◌++◌, ℕ, List, Option, ap, inl, inr, subst, sym}
+use Rattle.std.proofs.Common.{◌≡◌, ◌∙◌, ◌++◌, ℕ, Bool, true, false, List, Option, ap, inl, inr, subst, sym}
 use Rattle.armus_base.specs.Plans.{Plan}
 use Rattle.armus_base.specs.Runs.{IsMaximal}
 use Rattle.armus_base.specs.States.{Step}
@@ -11,7 +11,10 @@ use Rattle.step_lines.proofs.OneShowing.{one_showing}
 use Rattle.armus_words.specs.Words.{Text}
 use Rattle.armus_top.proofs.OnePlan.{checked_plan, one_plan}
 use Rattle.explain.specs.calls.Laws.{OneStepsOutput}
+use Rattle.explain.specs.Languages.{is_of_clocks}
+use Rattle.explain.specs.Outputs.{AnswersSteps, AnswersStepsIn}
 use Rattle.explain.specs.Stepped.{AreStepsOf}
+use Rattle.explain.proofs.ClockSteps.{one_clock_steps}
 use Rattle.explain.proofs.Fixing.{explained_or_fault, refused_has, steps_explained}
 use Rattle.explain.proofs.OneOutput.{one_explained, one_refused}
 
@@ -36,10 +39,19 @@ one_stepped file text status other lines others a b =
           ∙ sym b.lines_are,
     )
 
-pub one_steps_output : OneStepsOutput
-one_steps_output file text status other lines others (inl a) (inl b) = one_stepped file text status other lines others a b
-one_steps_output file text status other lines others (inl a) (inr (three, b)) =
+one_pl_steps : (file : Option Text) (text : Text) (status other : ℕ) (lines others : Text) → AnswersSteps file text status lines → AnswersSteps file text other others
+    → (status ≡ other) × (lines ≡ others)
+one_pl_steps file text status other lines others (inl a) (inl b) = one_stepped file text status other lines others a b
+one_pl_steps file text status other lines others (inl a) (inr (three, b)) =
     absurd (explained_or_fault file text status a.explanation (steps_explained file text status lines a) (refused_has file text others b))
-one_steps_output file text status other lines others (inr (three, a)) (inl b) =
+one_pl_steps file text status other lines others (inr (three, a)) (inl b) =
     absurd (explained_or_fault file text other b.explanation (steps_explained file text other others b) (refused_has file text lines a))
-one_steps_output file text status other lines others (inr (three, a)) (inr (too, b)) = (three ∙ sym too, one_refused file text lines others a b)
+one_pl_steps file text status other lines others (inr (three, a)) (inr (too, b)) = (three ∙ sym too, one_refused file text lines others a b)
+
+one_in : (of_clocks : Bool) (file : Option Text) (text : Text) (status other : ℕ) (lines others : Text) → AnswersStepsIn of_clocks file text status lines
+    → AnswersStepsIn of_clocks file text other others → (status ≡ other) × (lines ≡ others)
+one_in true = one_clock_steps
+one_in false = one_pl_steps
+
+pub one_steps_output : OneStepsOutput
+one_steps_output file text = one_in (is_of_clocks file text) file text

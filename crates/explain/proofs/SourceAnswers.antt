@@ -1,5 +1,5 @@
 -- From an explanation, steps or a refusal to the output that is wanted.
-use Rattle.std.proofs.Common.{◌≡◌, ℕ, Option, Some, inl, inr, subst, sym}
+use Rattle.std.proofs.Common.{◌≡◌, ℕ, Bool, true, false, Option, Some, inl, inr, subst, sym}
 use Rattle.std.specs.Prelude.{Err, IfOk, Ok, Result}
 use Rattle.armus_base.specs.declared.errors.NoMemory.{NoMemory}
 use Rattle.refusals.specs.LengthRefusals.{length_refusal}
@@ -9,39 +9,114 @@ use Rattle.armus_top.specs.declared.programs.TheConstants.{MAX_TEXT_BYTES}
 use Rattle.armus_top.specs.inside.Status.{number_of_status}
 use Rattle.explain.specs.declared.answer.Answer.{Answer}
 use Rattle.explain.specs.declared.answer.Wanted.{Wanted}
-use Rattle.explain.specs.declared.answer.Wanted.TheVariants.{Explanation, Steps}
+use Rattle.explain.specs.declared.answer.Wanted.TheVariants.{Avoided, Clocks, Explanation, Steps}
+use Rattle.explain.specs.declared.answer.ClockWanted as clocks
+use Rattle.explain.specs.declared.answer.ClockWanted.TheVariants as c
+use Rattle.explain.specs.declared.answer.PlWanted as pl
+use Rattle.explain.specs.declared.answer.PlWanted.TheVariants as p
+use Rattle.explain.specs.ClockExplained.{IsClockExplanationOf, IsClockRefusedWith}
+use Rattle.explain.specs.ClockStepped.{AreClockStepsOf}
+use Rattle.explain.specs.Languages.{is_of_clocks}
+use Rattle.explain.specs.Outputs.{AnswersStepsIn}
 use Rattle.explain.specs.Explained.{IsExplanationOf}
+use Rattle.explain.specs.Avoided.{IsAvoidedOf}
 use Rattle.explain.specs.Stepped.{AreStepsOf}
-use Rattle.explain.specs.inside.Ending.{AnswersSource, IsAnswerTo, IsRefusalOf}
+use Rattle.explain.specs.inside.Ending.{AnswersSource, IsAnswerTo, IsClockAnswerTo, IsClockRefusalOf, IsPlAnswerTo, IsRefusalOf}
 
-module _ (wanted : Wanted) (file : Option Text) (text : Text) where
-  refused_so : (own : Wanted) (a : Answer) → IsRefusalOf file text a → IsAnswerTo own file text a
-  refused_so Explanation a is = inr is
-  refused_so Steps a is = inr is
+module _ (wanted : pl.PlWanted) (file : Option Text) (text : Text) where
+  refused_so : (own : pl.PlWanted) (a : Answer) → IsRefusalOf file text a → IsPlAnswerTo own file text a
+  refused_so p.Explanation a is = inr is
+  refused_so p.Steps a is = inr is
+  refused_so p.Avoided a is = inr is
 
-  -- a refusal is an output, whatever is wanted
-  pub refusal_answers : (r : Result Answer NoMemory) → IfOk r (IsRefusalOf file text) → IfOk r (IsAnswerTo wanted file text)
+  -- a refusal is an output, whatever is wanted of a text of PL
+  pub refusal_answers : (r : Result Answer NoMemory) → IfOk r (IsRefusalOf file text) → IfOk r (IsPlAnswerTo wanted file text)
   refusal_answers (Ok a) is = refused_so wanted a is
   refusal_answers (Err e) is = is
 
-  pub explanation_answers : (r : Result Answer NoMemory) → wanted ≡ Explanation
-      → IfOk r (λ a. IsExplanationOf file text (number_of_status a.status) a.lines) → IfOk r (IsAnswerTo wanted file text)
-  explanation_answers (Ok a) wanted_is is = subst (λ (w : Wanted). IsAnswerTo w file text a) (sym wanted_is) (inl is)
+  pub explanation_answers : (r : Result Answer NoMemory) → wanted ≡ p.Explanation
+      → IfOk r (λ a. IsExplanationOf file text (number_of_status a.status) a.lines) → IfOk r (IsPlAnswerTo wanted file text)
+  explanation_answers (Ok a) wanted_is is = subst (λ (w : pl.PlWanted). IsPlAnswerTo w file text a) (sym wanted_is) (inl is)
   explanation_answers (Err e) wanted_is is = is
 
-  pub steps_answer : (r : Result Answer NoMemory) → wanted ≡ Steps → IfOk r (λ a. AreStepsOf file text (number_of_status a.status) a.lines)
-      → IfOk r (IsAnswerTo wanted file text)
-  steps_answer (Ok a) wanted_is is = subst (λ (w : Wanted). IsAnswerTo w file text a) (sym wanted_is) (inl is)
+  pub steps_answer : (r : Result Answer NoMemory) → wanted ≡ p.Steps → IfOk r (λ a. AreStepsOf file text (number_of_status a.status) a.lines)
+      → IfOk r (IsPlAnswerTo wanted file text)
+  steps_answer (Ok a) wanted_is is = subst (λ (w : pl.PlWanted). IsPlAnswerTo w file text a) (sym wanted_is) (inl is)
   steps_answer (Err e) wanted_is is = is
+
+  pub avoided_answers : (r : Result Answer NoMemory) → wanted ≡ p.Avoided → IfOk r (λ a. IsAvoidedOf file text (number_of_status a.status) a.lines)
+      → IfOk r (IsPlAnswerTo wanted file text)
+  avoided_answers (Ok a) wanted_is is = subst (λ (w : pl.PlWanted). IsPlAnswerTo w file text a) (sym wanted_is) (inl is)
+  avoided_answers (Err e) wanted_is is = is
+
+module _ (wanted : clocks.ClockWanted) (file : Option Text) (text : Text) where
+  clock_refused_so : (own : clocks.ClockWanted) (a : Answer) → number_of_status a.status ≡ 3 → IsClockRefusedWith file text a.lines → IsClockAnswerTo own file text a
+  clock_refused_so c.Explanation a three is = inr (three, is)
+  clock_refused_so c.Steps a three is = inr (three, is)
+
+  -- a refusal is an output, whatever is wanted of a clock text
+  pub clock_refusal_answers : (a : Answer) → number_of_status a.status ≡ 3 → IsClockRefusedWith file text a.lines → IsClockAnswerTo wanted file text a
+  clock_refusal_answers a three is = clock_refused_so wanted a three is
+
+  -- and so is what refuses it, if memory suffices
+  pub clock_refusals_answer : (r : Result Answer NoMemory) → IfOk r (IsClockRefusalOf file text) → IfOk r (IsClockAnswerTo wanted file text)
+  clock_refusals_answer (Ok a) (three, is) = clock_refused_so wanted a three is
+  clock_refusals_answer (Err e) is = is
+
+  pub clock_explanation_answers : (r : Result Answer NoMemory) → wanted ≡ c.Explanation
+      → IfOk r (λ a. IsClockExplanationOf file text (number_of_status a.status) a.lines) → IfOk r (IsClockAnswerTo wanted file text)
+  clock_explanation_answers (Ok a) wanted_is is = subst (λ (w : clocks.ClockWanted). IsClockAnswerTo w file text a) (sym wanted_is) (inl is)
+  clock_explanation_answers (Err e) wanted_is is = is
+
+  pub clock_steps_answer : (r : Result Answer NoMemory) → wanted ≡ c.Steps → IfOk r (λ a. AreClockStepsOf file text (number_of_status a.status) a.lines)
+      → IfOk r (IsClockAnswerTo wanted file text)
+  clock_steps_answer (Ok a) wanted_is is = subst (λ (w : clocks.ClockWanted). IsClockAnswerTo w file text a) (sym wanted_is) (inl is)
+  clock_steps_answer (Err e) wanted_is is = is
+
+module _ (wanted : Wanted) (file : Option Text) (text : Text) where
+  pub text_is_explained : (r : Result Answer NoMemory) → wanted ≡ Explanation → IfOk r (IsPlAnswerTo p.Explanation file text) → IfOk r (IsAnswerTo wanted file text)
+  text_is_explained (Ok a) wanted_is is = subst (λ (w : Wanted). IsAnswerTo w file text a) (sym wanted_is) is
+  text_is_explained (Err e) wanted_is is = is
+
+  steps_in : (of_clocks : Bool) (a : Answer) → is_of_clocks file text ≡ of_clocks
+      → AnswersStepsIn of_clocks file text (number_of_status a.status) a.lines → wanted ≡ Steps → IsAnswerTo wanted file text a
+  steps_in of_clocks a language is wanted_is =
+      let own : AnswersStepsIn (is_of_clocks file text) file text (number_of_status a.status) a.lines =
+      subst (λ (b : Bool). AnswersStepsIn b file text (number_of_status a.status) a.lines) (sym language) is in
+      subst (λ (w : Wanted). IsAnswerTo w file text a) (sym wanted_is) own
+
+  pub text_has_steps : (r : Result Answer NoMemory) → wanted ≡ Steps → is_of_clocks file text ≡ false → IfOk r (IsPlAnswerTo p.Steps file text)
+      → IfOk r (IsAnswerTo wanted file text)
+  text_has_steps (Ok a) wanted_is language is = steps_in false a language is wanted_is
+  text_has_steps (Err e) wanted_is language is = is
+
+  pub clock_text_has_steps : (r : Result Answer NoMemory) → wanted ≡ Steps → is_of_clocks file text ≡ true → IfOk r (IsClockAnswerTo c.Steps file text)
+      → IfOk r (IsAnswerTo wanted file text)
+  clock_text_has_steps (Ok a) wanted_is language is = steps_in true a language is wanted_is
+  clock_text_has_steps (Err e) wanted_is language is = is
+
+  pub text_is_avoided : (r : Result Answer NoMemory) → wanted ≡ Avoided → IfOk r (IsPlAnswerTo p.Avoided file text) → IfOk r (IsAnswerTo wanted file text)
+  text_is_avoided (Ok a) wanted_is is = subst (λ (w : Wanted). IsAnswerTo w file text a) (sym wanted_is) is
+  text_is_avoided (Err e) wanted_is is = is
+
+  -- what is told of a clock text, where that is wanted
+  pub clocks_answer : (r : Result Answer NoMemory) → wanted ≡ Clocks → IfOk r (IsClockAnswerTo c.Explanation file text)
+      → IfOk r (IsAnswerTo wanted file text)
+  clocks_answer (Ok a) wanted_is is = subst (λ (w : Wanted). IsAnswerTo w file text a) (sym wanted_is) is
+  clocks_answer (Err e) wanted_is is = is
 
 -- an output for the text that was read is one for the source
 pub text_answers : (wanted : Wanted) (file : Option Text) (src : Passage) (text : Text) (answer : Answer) → HasInput (Some MAX_TEXT_BYTES) src text
     → IsAnswerTo wanted file text answer → IsSound src → AnswersSource wanted file src answer
 text_answers Explanation file src text answer has is still = (inl (text, has, is), still)
 text_answers Steps file src text answer has is still = (inl (text, has, is), still)
+text_answers Avoided file src text answer has is still = (inl (text, has, is), still)
+text_answers Clocks file src text answer has is still = (inl (text, has, is), still)
 
 -- and so is the refusal of too long a text
 pub length_answers : (wanted : Wanted) (file : Option Text) (src : Passage) (answer : Answer) → GaveTooMuch (Some MAX_TEXT_BYTES) src
     → number_of_status answer.status ≡ 3 → answer.lines ≡ length_refusal file → IsSound src → AnswersSource wanted file src answer
 length_answers Explanation file src answer much three lines still = (inr (much, three, lines), still)
 length_answers Steps file src answer much three lines still = (inr (much, three, lines), still)
+length_answers Avoided file src answer much three lines still = (inr (much, three, lines), still)
+length_answers Clocks file src answer much three lines still = (inr (much, three, lines), still)

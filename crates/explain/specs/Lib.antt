@@ -2,7 +2,11 @@
 pub mod Requests
 pub mod Explained
 pub mod Stepped
+pub mod Avoided
 pub mod Refused
+pub mod ClockExplained
+pub mod ClockStepped
+pub mod Languages
 pub mod Outputs
 -- What is proved of it.
 pub mod Agreement

@@ -1,14 +1,18 @@
 -- What a call of the program that explains texts leaves.
-use Rattle.std.specs.Prelude.{◌≡◌, ◌⊎◌, ◌↔◌, ℕ, false, Some, Option, None}
+use Rattle.std.specs.Prelude.{◌≡◌, ◌⊎◌, ◌↔◌, ℕ, Bool, true, false, Some, Option, None}
 use Rattle.std.specs.Io.KnownBytes.{Keeps}
 use Rattle.refusals.specs.LengthRefusals.{length_refusal}
 use Rattle.armus_words.specs.Words.{Text}
 use Rattle.armus_top.specs.Headline.{EndsWith, GaveTooMuch, HasInput, IsCalm, Offers, OffersTooMuch, Passage}
 use Rattle.armus_top.specs.declared.programs.TheConstants.{MAX_TEXT_BYTES}
+use Rattle.explain.specs.ClockExplained.{AnswersClock, IsClockStatusOf}
+use Rattle.explain.specs.ClockStepped.{AnswersClockSteps}
+use Rattle.explain.specs.Languages.{is_of_clocks}
 use Rattle.explain.specs.Explained.{IsExplanationOf, NobodyWaits, SomebodyWaits}
 use Rattle.explain.specs.Stepped.{AreStepsOf}
+use Rattle.explain.specs.Avoided.{IsAvoidedOf, NobodyStays, SomebodyStays}
 use Rattle.explain.specs.Refused.{HasSomeFault, IsRefusedWith}
-use Rattle.explain.specs.Requests.{Asked, explanation, help, help_lines, nothing, steps, explain_usage_line, version, version_line}
+use Rattle.explain.specs.Requests.{Asked, avoided, clocks, explain_usage_line, explanation, help, help_lines, nothing, steps, version, version_line}
 
 -- a whole output for this text, of the file with this name or of none, with its status: 0 or 1 with its explanation, or 3 with the lines of a refusal
 abbrev pub AnswersText : Option Text → Text → ℕ → Text → Type 0
@@ -18,6 +22,19 @@ AnswersText file text status lines = IsExplanationOf file text status lines ⊎ 
 abbrev pub AnswersSteps : Option Text → Text → ℕ → Text → Type 0
 AnswersSteps file text status lines = AreStepsOf file text status lines ⊎ ((status ≡ 3) × IsRefusedWith file text lines)
 
+-- the same for a text that is one of clocks, or is not
+abbrev pub AnswersStepsIn : (of_clocks : Bool) → Option Text → Text → ℕ → Text → Type 0
+AnswersStepsIn true file text status lines = AnswersClockSteps file text status lines
+AnswersStepsIn false file text status lines = AnswersSteps file text status lines
+
+-- the same for a text of either language
+abbrev pub AnswersStepsOf : Option Text → Text → ℕ → Text → Type 0
+AnswersStepsOf file text = AnswersStepsIn (is_of_clocks file text) file text
+
+-- the same where its run that avoids deadlock is wanted: 0 or 1 with the explanation of this run, or 3 with the lines of a refusal
+abbrev pub AnswersAvoided : Option Text → Text → ℕ → Text → Type 0
+AnswersAvoided file text status lines = IsAvoidedOf file text status lines ⊎ ((status ≡ 3) × IsRefusedWith file text lines)
+
 -- what may be written where a text is read that is answered so: the output of the text that the source has given, or, where it gives more than a text may have, 3
 -- with one line
 abbrev pub MayAnswer : Option Text → (Text → ℕ → Text → Type 0) → Passage → ℕ → Text → Type 0
@@ -25,11 +42,13 @@ MayAnswer file Answers src status lines =
     ((text : Text) × HasInput (Some MAX_TEXT_BYTES) src text × Answers text status lines)
     ⊎ (GaveTooMuch (Some MAX_TEXT_BYTES) src × (status ≡ 3) × (lines ≡ length_refusal file))
 
--- What may be written, with which status, where this is asked for. For an explanation and for steps: such an output. The lines of help and of the version with 0,
--- and the line of usage with 2.
+-- What may be written, with which status, where this is asked for. For an explanation, for steps, for the run that avoids deadlock, and for a clock text: such an
+-- output. The lines of help and of the version with 0, and the line of usage with 2.
 abbrev pub MayWrite : Asked → Passage → ℕ → Text → Type 0
 MayWrite (explanation file) src status lines = MayAnswer file (AnswersText file) src status lines
-MayWrite (steps file) src status lines = MayAnswer file (AnswersSteps file) src status lines
+MayWrite (steps file) src status lines = MayAnswer file (AnswersStepsOf file) src status lines
+MayWrite (avoided file) src status lines = MayAnswer file (AnswersAvoided file) src status lines
+MayWrite (clocks file) src status lines = MayAnswer file (AnswersClock file) src status lines
 MayWrite help src status lines = (status ≡ 0) × (lines ≡ help_lines)
 MayWrite version src status lines = (status ≡ 0) × (lines ≡ version_line)
 MayWrite nothing src status lines = (status ≡ 2) × (lines ≡ explain_usage_line)
@@ -38,6 +57,8 @@ MayWrite nothing src status lines = (status ≡ 2) × (lines ≡ explain_usage_l
 abbrev pub text_limit : Asked → Option ℕ
 text_limit (explanation file) = Some MAX_TEXT_BYTES
 text_limit (steps file) = Some MAX_TEXT_BYTES
+text_limit (avoided file) = Some MAX_TEXT_BYTES
+text_limit (clocks file) = Some MAX_TEXT_BYTES
 text_limit asked = None
 
 -- the status of a text that is not too long: 3 exactly where it is refused, 1 exactly where a task of its final state waits, and 0 exactly where none does
@@ -46,15 +67,29 @@ pub record IsStatusOf (text : Text) (number : ℕ) : Type 0 where
   pub somebody : (number ≡ 1) ↔ SomebodyWaits text
   pub nobody : (number ≡ 0) ↔ NobodyWaits text
 
--- where the source tells its bytes, these fix the status of what is told of them as a text
-abbrev pub FixesTextStatus : Passage → ℕ → Type 0
-FixesTextStatus src number =
-    ((text : Text) → Offers (Some MAX_TEXT_BYTES) src text → IsStatusOf text number) × (OffersTooMuch (Some MAX_TEXT_BYTES) src → number ≡ 3)
+-- the status where its run that avoids deadlock is explained: 3 exactly where it is refused, 1 exactly where in the state in which this run ends a task was refused
+-- or waits, and 0 exactly where none was or does
+pub record IsAvoidedStatusOf (text : Text) (number : ℕ) : Type 0 where
+  pub refused : (number ≡ 3) ↔ HasSomeFault text
+  pub somebody : (number ≡ 1) ↔ SomebodyStays text
+  pub nobody : (number ≡ 0) ↔ NobodyStays text
+
+-- the status where its steps are shown, of a text that is one of clocks, or is not
+abbrev pub IsStatusIn : (of_clocks : Bool) → Text → ℕ → Type 0
+IsStatusIn true text number = IsClockStatusOf text number
+IsStatusIn false text number = IsStatusOf text number
+
+-- where the source tells its bytes, these fix the status of what is told of them as a text, by what it is for a text
+abbrev pub FixesTextStatus : (Text → ℕ → Type 0) → Passage → ℕ → Type 0
+FixesTextStatus IsStatus src number =
+    ((text : Text) → Offers (Some MAX_TEXT_BYTES) src text → IsStatus text number) × (OffersTooMuch (Some MAX_TEXT_BYTES) src → number ≡ 3)
 
 -- where this is asked for, and the source tells its bytes, these fix the status
 abbrev pub FixesStatus : Asked → Passage → ℕ → Type 0
-FixesStatus (explanation file) src number = FixesTextStatus src number
-FixesStatus (steps file) src number = FixesTextStatus src number
+FixesStatus (explanation file) src number = FixesTextStatus IsStatusOf src number
+FixesStatus (steps file) src number = FixesTextStatus (λ text. IsStatusIn (is_of_clocks file text) text) src number
+FixesStatus (avoided file) src number = FixesTextStatus IsAvoidedStatusOf src number
+FixesStatus (clocks file) src number = FixesTextStatus IsClockStatusOf src number
 FixesStatus help src number = number ≡ 0
 FixesStatus version src number = number ≡ 0
 FixesStatus nothing src number = number ≡ 2

@@ -18,6 +18,30 @@ pub(crate) enum Wanted {
     Explanation,
     /// The steps of its run, and then its explanation.
     Steps,
+    /// The explanation of its run that avoids deadlock.
+    Avoided,
+    /// The explanation of a clock text.
+    Clocks,
+}
+
+/// Which output is wanted of a text of PL.
+#[derive(Clone, Copy, Debug, PartialEq, Eq)]
+pub(crate) enum PlWanted {
+    /// Its explanation.
+    Explanation,
+    /// The steps of its run, and then its explanation.
+    Steps,
+    /// The explanation of its run that avoids deadlock.
+    Avoided,
+}
+
+/// Which output is wanted of a clock text.
+#[derive(Clone, Copy, Debug, PartialEq, Eq)]
+pub(crate) enum ClockWanted {
+    /// Its explanation.
+    Explanation,
+    /// The steps of its run, and then its explanation.
+    Steps,
 }
 
 /// Why there is no output.

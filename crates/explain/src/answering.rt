@@ -6,11 +6,14 @@ ghost use Rattle.pl_syntax.specs.Grammar.{IsText};
 ghost use Rattle.pl_syntax.specs.Tree.{count};
 ghost use Rattle.armus_top.specs.calls.Headline.{passage};
 ghost use Rattle.armus_top.specs.declared.programs.TheConstants.{MAX_TEXT_BYTES};
-ghost use Rattle.explain.specs.inside.Ending.{AnswersSource, EndsUnanswered, IsAnswerTo};
+ghost use Rattle.explain.specs.inside.Ending.{AnswersSource, EndsUnanswered, IsAnswerTo, IsPlAnswerTo};
 ghost use Rattle.explain.specs.calls.Requested.{file_bytes};
 
-use crate::answer::{Answer, AnswerEnd, Wanted};
+use crate::answer::{Answer, AnswerEnd, ClockWanted, PlWanted, Wanted};
+use crate::avoiding::avoid_unfolded;
+use crate::clocks::answer_clocks;
 use crate::explaining::explain_unfolded;
+use crate::language::is_of_clocks;
 use crate::refusing::{refuse_check, refuse_length, refuse_syntax};
 use crate::showing::step_unfolded;
 use armus_base::{NoMemory, ReadEnd, Source, read_all};
@@ -23,7 +26,7 @@ use text_places::TextPlaces;
 // The whole output for the text of this program, which unfolds to this plan.
 fn answer_unfolded(
     alloc: Global,
-    wanted: Wanted,
+    wanted: PlWanted,
     places: &TextPlaces,
     file: Option<&[u8]>,
     program: &Program,
@@ -34,18 +37,19 @@ fn answer_unfolded(
     requires reads { IsText places.now program.now }
     requires plan { plan_of program.now ≡ Ok unfolded.plan }
     requires forks { unfolded.forks.items ≡ fork_statements program.now }
-    ensures answers { IfOk result (IsAnswerTo wanted (file_bytes file.entry) places.now) }
+    ensures answers { IfOk result (IsPlAnswerTo wanted (file_bytes file.entry) places.now) }
 {
     match wanted {
-        Wanted::Explanation => explain_unfolded(alloc, places, file, program, unfolded),
-        Wanted::Steps => step_unfolded(alloc, places, file, program, unfolded),
+        PlWanted::Explanation => explain_unfolded(alloc, places, file, program, unfolded),
+        PlWanted::Steps => step_unfolded(alloc, places, file, program, unfolded),
+        PlWanted::Avoided => avoid_unfolded(alloc, places, file, program, unfolded),
     }
 }
 
 // The whole output for the text of this program.
 fn answer_program(
     alloc: Global,
-    wanted: Wanted,
+    wanted: PlWanted,
     text: &[u8],
     places: TextPlaces,
     file: Option<&[u8]>,
@@ -55,12 +59,30 @@ fn answer_program(
     requires places { places ≡ text.now }
     requires few { count program.now.body ≤ length text.now }
     requires reads { IsText text.now program.now }
-    ensures answers { IfOk result (IsAnswerTo wanted (file_bytes file.entry) text.now) }
+    ensures answers { IfOk result (IsPlAnswerTo wanted (file_bytes file.entry) text.now) }
 {
     match unfold(alloc, program) {
         Ok(unfolded) => answer_unfolded(alloc, wanted, &places, file, program, unfolded),
         Err(PlanEnd::Check(_)) => refuse_check(alloc, text, places, file, program),
         Err(PlanEnd::NoMemory) => Err(NoMemory),
+    }
+}
+
+// The whole output for a text of PL.
+fn answer_pl(
+    alloc: Global,
+    wanted: PlWanted,
+    file: Option<&[u8]>,
+    text: &[u8],
+) -> Result<Answer, NoMemory>
+    requires short { length text.now ≤ MAX_TEXT_BYTES }
+    ensures answers { IfOk result (IsPlAnswerTo wanted (file_bytes file.entry) text.now) }
+{
+    let places = TextPlaces::new(alloc, text)?;
+    match parse(alloc, text) {
+        Ok(program) => answer_program(alloc, wanted, text, places, file, &program),
+        Err(ParseEnd::Syntax(fault)) => refuse_syntax(alloc, text, &places, file, fault),
+        Err(ParseEnd::NoMemory) => Err(NoMemory),
     }
 }
 
@@ -74,11 +96,17 @@ fn answer_text(
     requires short { length text.now ≤ MAX_TEXT_BYTES }
     ensures answers { IfOk result (IsAnswerTo wanted (file_bytes file.entry) text.now) }
 {
-    let places = TextPlaces::new(alloc, text)?;
-    match parse(alloc, text) {
-        Ok(program) => answer_program(alloc, wanted, text, places, file, &program),
-        Err(ParseEnd::Syntax(fault)) => refuse_syntax(alloc, text, &places, file, fault),
-        Err(ParseEnd::NoMemory) => Err(NoMemory),
+    match wanted {
+        Wanted::Explanation => answer_pl(alloc, PlWanted::Explanation, file, text),
+        Wanted::Steps => {
+            if is_of_clocks(file, text) {
+                answer_clocks(alloc, ClockWanted::Steps, file, text)
+            } else {
+                answer_pl(alloc, PlWanted::Steps, file, text)
+            }
+        }
+        Wanted::Avoided => answer_pl(alloc, PlWanted::Avoided, file, text),
+        Wanted::Clocks => answer_clocks(alloc, ClockWanted::Explanation, file, text),
     }
 }
 

@@ -3,7 +3,10 @@
 
 mod answer;
 mod answering;
+mod avoiding;
+mod clocks;
 mod explaining;
+mod language;
 mod laws;
 mod refusing;
 mod request;
@@ -11,7 +14,8 @@ mod showing;
 mod top;
 
 pub use laws::{
-    each_text_has_steps, each_text_is_met, explains_as_run, one_output, one_steps_output,
+    each_clock_text_is_met, each_text_has_steps, each_text_is_met, explains_as_run,
+    one_avoided_output, one_clock_output, one_output, one_steps_output,
 };
 pub use request::{Request, request_of};
 pub use top::explain;

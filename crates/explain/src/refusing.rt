@@ -21,8 +21,8 @@ use refusals::{length_refusal, syntax_refusal};
 use std::alloc::Global;
 use text_places::TextPlaces;
 
-// A refusal with these lines.
-fn refused(lines: List<u8>) -> Answer
+/// A refusal with these lines.
+pub(crate) fn refused(lines: List<u8>) -> Answer
     ensures lines { result.lines ≡ lines }
     ensures status { number_of_status result.status ≡ 3 }
 {

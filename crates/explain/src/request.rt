@@ -1,11 +1,15 @@
 // What the words ask for.
 ghost use Rattle.std.specs.Prelude.{◌≡◌, [], ◌∷◌, map, string_bytes};
-ghost use Rattle.explain.specs.Requests.{asked, explanation, file_asked, names_file, steps, word_asked};
+ghost use Rattle.explain.specs.Requests.{asked, avoided, clocks, explanation, file_asked, names_file, steps, word_asked};
 ghost use Rattle.explain.specs.calls.Requested.{requested};
 
 const RUN: &str = "run";
 
 const STEPS: &str = "steps";
+
+const AVOID: &str = "avoid";
+
+const CLOCK: &str = "clock";
 
 const HELP: &str = "--help";
 
@@ -18,6 +22,10 @@ pub enum Request<'w> {
     Explain(Option<&'w str>),
     /// To show its run step by step, and to explain it, likewise.
     Steps(Option<&'w str>),
+    /// To explain its run that avoids deadlock, likewise.
+    Avoid(Option<&'w str>),
+    /// To explain a clock text, likewise.
+    Clocks(Option<&'w str>),
     /// The lines of help.
     Help,
     /// The line of the version.
@@ -58,6 +66,28 @@ fn steps_or_usage(word: &str) -> Request<'_>
     }
 }
 
+// What a word asks for that can only be the name of a file of which the run that avoids deadlock is asked for.
+fn avoid_or_usage(word: &str) -> Request<'_>
+    ensures { requested result ≡ file_asked avoided word.now }
+{
+    if names_file(word) {
+        Request::Avoid(Some(word))
+    } else {
+        Request::Usage
+    }
+}
+
+// What a word asks for that can only be the name of a file with a clock text.
+fn clocks_or_usage(word: &str) -> Request<'_>
+    ensures { requested result ≡ file_asked clocks word.now }
+{
+    if names_file(word) {
+        Request::Clocks(Some(word))
+    } else {
+        Request::Usage
+    }
+}
+
 // What one word asks for.
 fn word_request(word: &str) -> Request<'_>
     ensures { requested result ≡ word_asked word.now }
@@ -67,6 +97,12 @@ fn word_request(word: &str) -> Request<'_>
     }
     if word == STEPS {
         return Request::Steps(None);
+    }
+    if word == AVOID {
+        return Request::Avoid(None);
+    }
+    if word == CLOCK {
+        return Request::Clocks(None);
     }
     if word == HELP {
         return Request::Help;
@@ -85,7 +121,12 @@ fn words_request<'w>(word: &'w str, file: &'w str) -> Request<'w>
         return file_or_usage(file);
     }
     if word == STEPS {
-        steps_or_usage(file)
+        return steps_or_usage(file);
+    }
+    if word == AVOID {
+        avoid_or_usage(file)
+    } else if word == CLOCK {
+        clocks_or_usage(file)
     } else {
         Request::Usage
     }

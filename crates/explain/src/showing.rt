@@ -13,23 +13,27 @@ use crate::answer::Answer;
 use accounts::account_of;
 use armus_base::{List, NoMemory};
 use armus_top::status_of;
-use explained_tasks::{Explanation, explanation_of};
+use explained_tasks::explanation_of;
 use pl_plan::Unfolded;
 use pl_syntax::Program;
 use std::alloc::Global;
 use step_lines::step_through;
 use text_places::TextPlaces;
 
-// The lines of steps, and behind them an explanation.
-fn with_steps(steps: List<u8>, explanation: Explanation) -> Result<Answer, NoMemory>
-    ensures lines { IfOk result (λ a. a.lines ≡ steps ++ explanation.lines) }
-    ensures status { IfOk result (λ a. number_of_status a.status ≡ (if explanation.has_waiting then 1 else 0)) }
+/// The lines of steps, and behind them those of an explanation, by which somebody waits or nobody does.
+pub(crate) fn with_steps(
+    steps: List<u8>,
+    explanation: &List<u8>,
+    has_waiting: bool,
+) -> Result<Answer, NoMemory>
+    ensures lines { IfOk result (λ a. a.lines ≡ steps ++ explanation.now) }
+    ensures status { IfOk result (λ a. number_of_status a.status ≡ (if has_waiting then 1 else 0)) }
 {
     let mut lines = steps.into_vec();
-    lines.extend_from_slice(explanation.lines.as_slice())?;
+    lines.extend_from_slice(explanation.as_slice())?;
     Ok(Answer {
         lines: List::from_vec(lines),
-        status: status_of(explanation.has_waiting),
+        status: status_of(has_waiting),
     })
 }
 
@@ -60,6 +64,6 @@ pub(crate) fn step_unfolded(
         ran.end.ends.as_slice(),
     )?;
     let explanation = explanation_of(alloc, places, file, &account, &ran.world, &ran.end)?;
-    let answer = with_steps(ran.lines, explanation)?;
+    let answer = with_steps(ran.lines, &explanation.lines, explanation.has_waiting)?;
     Ok(answer)
 }

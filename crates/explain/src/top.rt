@@ -14,18 +14,22 @@ use armus_base::{Sink, Source};
 use armus_top::{ExitStatus, finish};
 use std::alloc::Global;
 
-const USAGE: &str = "usage: armus_explain [run|steps] [FILE]\n";
+const USAGE: &str = "usage: armus_explain [run|steps|avoid|clock] [FILE]\n";
 
 const VERSION: &str = "armus_explain 1.0.0\n";
 
 const HELP: &str = "\
-usage: armus_explain [run|steps] [FILE]
+usage: armus_explain [run|steps|avoid|clock] [FILE]
 Reads a PL text from FILE, or from standard input where there is none, and tells
 which of its tasks wait for ever, where, for whom, and why.
 With steps it first shows the run in which the task with the least number that may
-go on makes the next step: a line for each step, and at most 10000 of them.
+go on makes the next step: a line for each step, and at most 10000 of them. A text
+that begins with a word of clocks, or whose FILE ends with .clock, is one of clocks.
+With avoid it tells which tasks are refused in the run that avoids deadlock, where,
+and which deadlock each of them would have closed.
+With clock it reads a clock text, and tells the same of its activities.
 A text that is refused gets the place of its first fault and what is wrong there.
-Status: 0 nobody waits for ever, 1 somebody does, 2 other words than these,
+Status: 0 nobody waits for ever, 1 somebody does or is refused, 2 other words,
 3 the text is refused, 4 it cannot be read, 5 it cannot be written, 6 no memory.
 ";
 
@@ -61,10 +65,12 @@ fn explain_source<S: Source, K: Sink>(
 ///
 /// Where the words ask for an explanation, it reads a text of at most `MAX_TEXT_BYTES` bytes from `src`, which is the file that the words name, or else
 /// standard input. It runs the text's plan to its end, writes the explanation of how its tasks stand there to `out`, and answers 0 where no task waits and 1
-/// where one does. Where they ask for steps, it writes a line for each of the first steps of the serial plain run before. Of a text that is refused, or too
-/// long, it writes why and where, and answers 3. It writes the lines of help or of the version and answers
-/// 0, where the words ask for them, and for all other words the line of usage, and answers 2; nothing is read then. It answers 4 and 5 where the source or the
-/// sink failed, and 6 for want of memory; after 4 and 6 nothing was written, and after 5 at most first bytes were.
+/// where one does. Where they ask for steps, it writes a line for each of the first steps of the serial plain run before; such a text may be one of clocks.
+/// Where they ask for the run that avoids deadlock, it explains each refusal of it, and answers 1 also where somebody was refused. Where they ask for clocks,
+/// the text is one of clocks, and it explains how its activities stand. Of a text that is refused, or too long, it writes why and where, and answers 3. It
+/// writes the lines of help or of the version and answers 0, where the words ask for them, and for all other words the line of usage, and answers 2; nothing
+/// is read then. It answers 4 and 5 where the source or the sink failed, and 6 for want of memory; after 4 and 6 nothing was written, and after 5 at most
+/// first bytes were.
 pub fn explain<S: Source, K: Sink>(alloc: Global, words: &[String], src: &mut S, out: &mut K) -> u8
     ensures call { IsExplainCall (asked (map string_bytes words.now)) (passage S.left S.faults src.old src.new) (passage K.taken K.faults out.old out.new)
         (src.new ≡ src.old) (out.new ≡ out.old) result }
@@ -74,6 +80,8 @@ pub fn explain<S: Source, K: Sink>(alloc: Global, words: &[String], src: &mut S,
             explain_source(alloc, Wanted::Explanation, file, src, out).code()
         }
         Request::Steps(file) => explain_source(alloc, Wanted::Steps, file, src, out).code(),
+        Request::Avoid(file) => explain_source(alloc, Wanted::Avoided, file, src, out).code(),
+        Request::Clocks(file) => explain_source(alloc, Wanted::Clocks, file, src, out).code(),
         Request::Help => finish(out, HELP.as_bytes(), ExitStatus::NoDeadlock).code(),
         Request::Version => finish(out, VERSION.as_bytes(), ExitStatus::NoDeadlock).code(),
         Request::Usage => finish(out, USAGE.as_bytes(), ExitStatus::Usage).code(),

@@ -8,24 +8,49 @@ use Rattle.explain.specs.declared.answer.Answer.{Answer}
 use Rattle.explain.specs.declared.answer.AnswerEnd.{AnswerEnd}
 use Rattle.explain.specs.declared.answer.AnswerEnd.TheVariants.{Fault, NoMemory}
 use Rattle.explain.specs.declared.answer.Wanted.{Wanted}
-use Rattle.explain.specs.declared.answer.Wanted.TheVariants.{Explanation, Steps}
-use Rattle.explain.specs.Outputs.{AnswersSteps, AnswersText, MayWrite}
+use Rattle.explain.specs.declared.answer.Wanted.TheVariants.{Avoided, Clocks, Explanation, Steps}
+use Rattle.explain.specs.declared.answer.ClockWanted as clocks_wanted
+use Rattle.explain.specs.declared.answer.ClockWanted.TheVariants as c
+use Rattle.explain.specs.declared.answer.PlWanted as pl
+use Rattle.explain.specs.declared.answer.PlWanted.TheVariants as p
+use Rattle.explain.specs.Outputs.{AnswersAvoided, AnswersSteps, AnswersStepsOf, AnswersText, MayWrite}
 use Rattle.explain.specs.Refused.{IsRefusedWith}
-use Rattle.explain.specs.Requests.{Asked, explanation, steps}
+use Rattle.explain.specs.Requests.{Asked, avoided, clocks, explanation, steps}
+use Rattle.explain.specs.ClockExplained.{AnswersClock, IsClockRefusedWith}
+use Rattle.explain.specs.ClockStepped.{AnswersClockSteps}
 
 -- it is a refusal of this text
 abbrev pub IsRefusalOf : Option Text → Text → Answer → Type 0
 IsRefusalOf file text answer = (number_of_status answer.status ≡ 3) × IsRefusedWith file text answer.lines
 
+-- it is a whole output for this text of PL, of which this is wanted
+abbrev pub IsPlAnswerTo : pl.PlWanted → Option Text → Text → Answer → Type 0
+IsPlAnswerTo p.Explanation file text answer = AnswersText file text (number_of_status answer.status) answer.lines
+IsPlAnswerTo p.Steps file text answer = AnswersSteps file text (number_of_status answer.status) answer.lines
+IsPlAnswerTo p.Avoided file text answer = AnswersAvoided file text (number_of_status answer.status) answer.lines
+
+-- it is a refusal of this clock text
+abbrev pub IsClockRefusalOf : Option Text → Text → Answer → Type 0
+IsClockRefusalOf file text answer = (number_of_status answer.status ≡ 3) × IsClockRefusedWith file text answer.lines
+
+-- it is a whole output for this clock text, of which this is wanted
+abbrev pub IsClockAnswerTo : clocks_wanted.ClockWanted → Option Text → Text → Answer → Type 0
+IsClockAnswerTo c.Explanation file text answer = AnswersClock file text (number_of_status answer.status) answer.lines
+IsClockAnswerTo c.Steps file text answer = AnswersClockSteps file text (number_of_status answer.status) answer.lines
+
 -- it is a whole output for this text, of which this is wanted
 abbrev pub IsAnswerTo : Wanted → Option Text → Text → Answer → Type 0
 IsAnswerTo Explanation file text answer = AnswersText file text (number_of_status answer.status) answer.lines
-IsAnswerTo Steps file text answer = AnswersSteps file text (number_of_status answer.status) answer.lines
+IsAnswerTo Steps file text answer = AnswersStepsOf file text (number_of_status answer.status) answer.lines
+IsAnswerTo Avoided file text answer = AnswersAvoided file text (number_of_status answer.status) answer.lines
+IsAnswerTo Clocks file text answer = AnswersClock file text (number_of_status answer.status) answer.lines
 
 -- what is asked for where this is wanted of a text
 abbrev pub asked_for : Wanted → Option Text → Asked
 asked_for Explanation file = explanation file
 asked_for Steps file = steps file
+asked_for Avoided file = avoided file
+asked_for Clocks file = clocks file
 
 -- it is a whole output for what the source gave, which did not fail
 abbrev pub AnswersSource : Wanted → Option Text → Passage → Answer → Type 0

@@ -1,0 +1,197 @@
+-- Where the runs of a clock text end, and what is explained there.
+use Rattle.std.proofs.Common.{◌≡◌, ◌∙◌, ℕ, zero, suc, ◌<◌, Bool, true, false, List, [], ◌∷◌, ◌++◌, Option, Some, None, length, ap, arith, inl, inr, refl, subst, sym}
+use Rattle.std.specs.Prelude.{◌↔◌, ◌⊎◌, ◌||◌, Err, Ok, if◌then◌else◌}
+use Rattle.std.specs.List.{list_any}
+use Rattle.std.proofs.lemmas.Bool.{cases_eq}
+use mathlib.Core.Path.{fun_ext}
+use Rattle.armus_base.specs.CheckedPlans.{IsCheckedPlan}
+use Rattle.armus_base.specs.calls.FinalLaws.{IsOfPlan}
+use Rattle.armus_base.specs.declared.ending.Final.{Final}
+use Rattle.armus_base.specs.declared.ending.TaskEnd.{TaskEnd}
+use Rattle.armus_base.specs.declared.ending.TaskEnd.TheVariants as ends
+use Rattle.armus_base.specs.declared.event.Event.{Event}
+use Rattle.armus_base.specs.Finals.{end_by, end_of, final_of, list_below}
+use Rattle.armus_base.specs.Places.{state_at}
+use Rattle.armus_base.specs.Plans.{Plan}
+use Rattle.armus_base.specs.Runs.{IsMaximal, IsPlainRun, Place, places, state_after}
+use Rattle.armus_base.specs.States.{State, Step}
+use Rattle.armus_base.proofs.DeadByStatuses.{run_is_of_plan}
+use Rattle.armus_base.proofs.OneEnd.{one_end}
+use Rattle.armus_base.proofs.Stepping.{places_fix}
+use Rattle.pl_core.specs.calls.Worlds.{places_of, state_of}
+use Rattle.pl_plan.proofs.VisitsLeave.{bind_ok, ok_is}
+use Rattle.pl_plan.specs.Unfolding.{Outcome, ◌>>=◌}
+use Rattle.pl_plan.specs.declared.fault.CheckFault.{CheckFault}
+use Rattle.clock_syntax.specs.Grammar.{IsClockText}
+use Rattle.clock_syntax.specs.Trees.{ClockTree}
+use Rattle.clock_syntax.proofs.ClockUnique.{not_both_clocks, one_clock_tree}
+use Rattle.clock_moves.specs.Unfolding.{ClockUnfolding, clock_plan_of, clock_unfolded, plan_of_moves}
+use Rattle.clock_moves.proofs.ClockPlanIsChecked.{clock_plan_is_checked}
+use Rattle.clock_text.proofs.TextEndsTold.{text_ends_are_told}
+use Rattle.clock_origins.proofs.Walked.{same_unfolding}
+use Rattle.clock_sayings.specs.ClockExplanations.{ExplainsActivities, waits_there, some_activity_waits}
+use Rattle.clock_sayings.specs.declared.explaining.ClockExplanation.{ClockExplanation}
+use Rattle.world_runs.specs.calls.EndWorlds.{IsWorldEnd}
+use Rattle.world_runs.specs.declared.world_end.WorldEnd.{WorldEnd}
+use Rattle.armus_words.specs.Words.{Text}
+use Rattle.explain.specs.ClockExplained.{ClockEndsSo, HasSomeClockFault, IsClockExplanationOf, IsClockRunOf}
+use Rattle.explain.specs.Explained.{WaitsIn}
+
+-- ---- plans
+
+-- a program with a plan has an unfolding, whose plan it is
+pub unfolding_of : (program : ClockTree) (plan : Plan) → clock_plan_of program ≡ Ok plan → (u : ClockUnfolding) × (clock_unfolded program ≡ Ok u) × (plan_of_moves u ≡ plan)
+unfolding clock_plan_of
+unfolding_of program plan e =
+    let parts = bind_ok (clock_unfolded program) (λ s. Ok (plan_of_moves s)) plan e in (parts.0, parts.1, ok_is _ _ parts.2)
+
+fails_in : (o : Outcome ClockUnfolding) (fault : CheckFault) → (o >>= λ s. Ok (plan_of_moves s)) ≡ Err fault → o ≡ Err fault
+fails_in (Ok u) fault e = absurd (cc)
+fails_in (Err f) fault e = (let same : ◌≡◌ {A = Outcome Plan} (Err f) (Err fault) = e in cc)
+
+-- and one whose plan has a fault has an unfolding with this fault
+pub fails_so : (program : ClockTree) (fault : CheckFault) → clock_plan_of program ≡ Err fault → clock_unfolded program ≡ Err fault
+unfolding clock_plan_of
+fails_so program fault e = fails_in (clock_unfolded program) fault e
+
+plan_is : (program : ClockTree) (u : ClockUnfolding) → clock_unfolded program ≡ Ok u → clock_plan_of program ≡ Ok (plan_of_moves u)
+unfolding clock_plan_of
+plan_is program u is = ap (λ o. o >>= λ s. Ok (plan_of_moves s)) is
+
+pub checked_moves : (program : ClockTree) (u : ClockUnfolding) → clock_unfolded program ≡ Ok u → IsCheckedPlan (plan_of_moves u)
+checked_moves program u is = clock_plan_is_checked program (plan_of_moves u) (plan_is program u is)
+
+-- ---- runs
+
+pub clock_run : (text : Text) (program : ClockTree) (u : ClockUnfolding) (steps : List Step) → IsClockText text program → clock_unfolded program ≡ Ok u →
+    IsPlainRun (plan_of_moves u) steps → IsMaximal (plan_of_moves u) steps → IsClockRunOf text program u steps
+clock_run text program u steps reads is run maximal = record {
+  reads = reads;
+  unfolds = is;
+  run = run;
+  maximal = maximal;
+  told = text_ends_are_told program u (state_after steps) is (record { steps = steps; run = run; maximal = maximal; there = refl });
+}
+
+-- two runs of a text are runs of one unfolding, and end at the same places in the same state
+pub record EndAlike (p q : ClockTree) (u v : ClockUnfolding) (g h : List Step) : Type 0 where
+  pub programs : p ≡ q
+  pub unfoldings : u ≡ v
+  pub ends : ((t : ℕ) → places g t ≡ places h t) × (state_after g ≡ state_after h)
+
+pub end_alike : (text : Text) (p q : ClockTree) (u v : ClockUnfolding) (g h : List Step) → IsClockRunOf text p u g → IsClockRunOf text q v h → EndAlike p q u v g h
+end_alike text p q u v g h a b =
+    let programs : p ≡ q = one_clock_tree text p q a.reads b.reads in
+    let opens : clock_unfolded q ≡ Ok u = subst (λ r. clock_unfolded r ≡ Ok u) programs a.unfolds in
+    let unfoldings : u ≡ v = same_unfolding q u v opens b.unfolds in
+    let run : IsPlainRun (plan_of_moves v) g = subst (λ w. IsPlainRun (plan_of_moves w) g) unfoldings a.run in
+    let maximal : IsMaximal (plan_of_moves v) g = subst (λ w. IsMaximal (plan_of_moves w) g) unfoldings a.maximal in
+    let ends = one_end (plan_of_moves v) g h (checked_moves q v b.unfolds) run b.run maximal b.maximal in
+    record { programs = programs; unfoldings = unfoldings; ends = (ends.0, ends.1) }
+
+-- a text that has a run has no fault
+pub run_or_fault : (text : Text) (p : ClockTree) (u : ClockUnfolding) (h : List Step) → IsClockRunOf text p u h → HasSomeClockFault text → ⊥
+run_or_fault text p u h run (inl (fault, has)) = not_both_clocks text p fault run.reads has
+run_or_fault text p u h run (inr (q, fault, reads, fails)) =
+    let same : q ≡ p = one_clock_tree text q p reads run.reads in
+    let both : clock_unfolded p ≡ Err fault = subst (λ r. clock_unfolded r ≡ Err fault) same fails in
+    let opens : clock_unfolded p ≡ Ok u = run.unfolds in absurd (cc)
+
+-- ---- what is explained
+
+pub clock_end_explained :
+    (file : Option Text) (text : Text) (p : ClockTree) (plan : Plan) (e : WorldEnd) (x : ClockExplanation) (status : ℕ) → IsClockText text p → clock_plan_of p ≡ Ok plan →
+    IsWorldEnd plan e →
+    ((u : ClockUnfolding) → clock_unfolded p ≡ Ok u → ExplainsActivities file text p u e.world.plan (places_of e.world) x.lines x.has_waiting) →
+    status ≡ (if x.has_waiting then 1 else 0) → IsClockExplanationOf file text status x.lines
+clock_end_explained file text p plan e x status reads unfolds ended explains status_is =
+    let (u, opens, same) = unfolding_of p plan unfolds in
+    let w = ended.world in
+    let run : IsPlainRun (plan_of_moves u) w.steps = subst (λ q. IsPlainRun q w.steps) (sym same) w.run in
+    let maximal : IsMaximal (plan_of_moves u) w.steps = subst (λ q. IsMaximal q w.steps) (sym same) w.maximal in
+    let by_plan : ExplainsActivities file text p u (plan_of_moves u) (places_of e.world) x.lines x.has_waiting =
+    subst (λ q. ExplainsActivities file text p u q (places_of e.world) x.lines x.has_waiting) (w.plan_is ∙ sym same) (explains u opens) in
+    record {
+      program = p;
+      unfolded = u;
+      steps = w.steps;
+      ended = clock_run text p u w.steps reads opens run maximal;
+      waits = x.has_waiting;
+      explains = subst (λ (a : ℕ → Place). ExplainsActivities file text p u (plan_of_moves u) a x.lines x.has_waiting) (sym (fun_ext w.there)) by_plan;
+      status_is = status_is;
+    }
+
+-- ---- who waits
+
+or_true : (a b : Bool) → (a || b) ≡ true → (a ≡ true) ⊎ (b ≡ true)
+or_true true b e = inl refl
+or_true false b e = inr e
+
+or_right : (a b : Bool) → b ≡ true → (a || b) ≡ true
+or_right true b e = refl
+or_right false b e = e
+
+or_left : (a b : Bool) → a ≡ true → (a || b) ≡ true
+or_left true b e = refl
+or_left false b e = absurd cc
+
+any_last : (xs : List TaskEnd) (x : TaskEnd) → waits_there x ≡ true → list_any waits_there (xs ++ x ∷ []) ≡ true
+any_last [] x e = or_left (waits_there x) false e
+any_last (y ∷ xs) x e = or_right (waits_there y) (list_any waits_there (xs ++ x ∷ [])) (any_last xs x e)
+
+any_before : (xs : List TaskEnd) (x : TaskEnd) → list_any waits_there xs ≡ true → list_any waits_there (xs ++ x ∷ []) ≡ true
+any_before [] x e = absurd cc
+any_before (y ∷ xs) x e =
+    elim (or_true (waits_there y) (list_any waits_there xs) e) [
+      | inl here ↦ or_left (waits_there y) (list_any waits_there (xs ++ x ∷ [])) here
+      | inr later ↦ or_right (waits_there y) (list_any waits_there (xs ++ x ∷ [])) (any_before xs x later)
+    ]
+
+any_or_last : (xs : List TaskEnd) (x : TaskEnd) → list_any waits_there (xs ++ x ∷ []) ≡ true → (list_any waits_there xs ≡ true) ⊎ (waits_there x ≡ true)
+any_or_last [] x e = elim (or_true (waits_there x) false e) [ inl here ↦ inr here | inr none ↦ absurd cc ]
+any_or_last (y ∷ xs) x e =
+    elim (or_true (waits_there y) (list_any waits_there (xs ++ x ∷ [])) e) [
+      | inl here ↦ inl (or_left (waits_there y) (list_any waits_there xs) here)
+      | inr later ↦ elim (any_or_last xs x later) [
+        | inl before ↦ inl (or_right (waits_there y) (list_any waits_there xs) before)
+        | inr last ↦ inr last
+      ]
+    ]
+
+some_below : (f : ℕ → TaskEnd) (n : ℕ) → list_any waits_there (list_below f n) ≡ true → (t : ℕ) × (waits_there (f t) ≡ true)
+some_below f zero e = absurd cc
+some_below f (suc n) e =
+    elim (any_or_last (list_below f n) (f n) e) [ inl before ↦ some_below f n before | inr last ↦ (n, last) ]
+
+below_some : (f : ℕ → TaskEnd) (n t : ℕ) → t < n → waits_there (f t) ≡ true → list_any waits_there (list_below f n) ≡ true
+below_some f zero t lt e = absurd (omega arith)
+below_some f (suc n) t lt e =
+    elim (cases_eq t n) [
+      | inl same ↦ any_last (list_below f n) (f n) (subst (λ k. waits_there (f k) ≡ true) same e)
+      | inr other ↦ any_before (list_below f n) (f n) (below_some f n t (omega arith) e)
+    ]
+
+published_end : (forked : Bool) (published refused : Option Event) → waits_there (end_by forked published refused) ≡ true → (e : Event) × (published ≡ Some e)
+published_end forked (Some e) refused on = (e, refl)
+published_end forked None (Some e) on = absurd cc
+published_end true None None on = absurd cc
+published_end false None None on = absurd cc
+
+pub clocks_tell_waiting :
+    (file : Option Text) (text : Text) (p : ClockTree) (u : ClockUnfolding) (steps : List Step) (lines : List ℕ) (some : Bool) → IsClockRunOf text p u steps →
+    ExplainsActivities file text p u (plan_of_moves u) (places steps) lines some → (some ≡ true) ↔ ((t : ℕ) × WaitsIn (state_after steps) t)
+clocks_tell_waiting file text p u steps lines some ended is =
+    let plan = plan_of_moves u in
+    let checked = checked_moves p u ended.unfolds in
+    let fixed : state_after steps ≡ state_at plan (places steps) = (places_fix plan checked steps ended.run.0).0 in
+    let of_plan : IsOfPlan plan (state_after steps) = run_is_of_plan plan steps checked ended.run.0 in
+    let told : some ≡ list_any waits_there (list_below (end_of (state_after steps)) (length plan.parents)) =
+    is.waits_are ∙ ap (list_any waits_there) (is.are_facts.ends_are ∙ ap (λ s. list_below (end_of s) (length plan.parents)) (sym fixed)) in (
+      λ on.
+          let (t, waits) = some_below (end_of (state_after steps)) (length plan.parents) (sym told ∙ on) in
+          (t, published_end ((state_after steps).forked t) ((state_after steps).published t) ((state_after steps).refused t) waits),
+      λ one.
+          let (t, (e, published)) = one in
+          told ∙ below_some (end_of (state_after steps)) (length plan.parents) t (of_plan.published t e published)
+          (ap (λ x. waits_there (end_by ((state_after steps).forked t) x ((state_after steps).refused t))) published),
+    )

@@ -1,0 +1,164 @@
+-- A clock text has one output, and the output fixes its status.
+use Rattle.std.proofs.Common.{◌≡◌, ◌∙◌, ℕ, Bool, true, false, List, Option, ap, arith, inl, inr, refl, subst, sym}
+use Rattle.std.specs.Prelude.{◌↔◌, Err, Ok, Result, if◌then◌else◌}
+use mathlib.Core.Path.{fun_ext}
+use Rattle.armus_base.specs.Plans.{Plan}
+use Rattle.armus_base.specs.Runs.{Place, places, state_after}
+use Rattle.armus_base.specs.States.{State, Step}
+use Rattle.armus_base.proofs.MaximalExists.{maximal_exists}
+use Rattle.pl_plan.specs.Unfolding.{Outcome}
+use Rattle.pl_plan.specs.declared.fault.CheckFault.{CheckFault}
+use Rattle.pl_syntax.specs.declared.fault.SyntaxFault.{SyntaxFault}
+use Rattle.clock_syntax.specs.Grammar.{IsClockText}
+use Rattle.clock_syntax.specs.Trees.{ClockTree}
+use Rattle.clock_syntax.proofs.ClockTexts.{clock_tree_or_fault}
+use Rattle.clock_syntax.proofs.ClockUnique.{not_both_clocks, one_clock_fault, one_clock_tree}
+use Rattle.clock_moves.specs.Unfolding.{ClockUnfolding, clock_unfolded, plan_of_moves}
+use Rattle.clock_origins.specs.ClockOffsets.{clock_offsets}
+use Rattle.clock_sayings.specs.ClockExplanations.{ExplainsActivities}
+use Rattle.clock_sayings.specs.ClockRefusals.{clock_fault_lines, clock_syntax_lines}
+use Rattle.clock_sayings.proofs.OneExplanation.{clock_explanation_exists, one_clock_explanation}
+use Rattle.armus_words.specs.Words.{Text}
+use Rattle.explain.specs.ClockExplained.{AnswersClock, ClockEndsSo, HasSomeClockFault, IsClockExplanationOf, IsClockRefusedWith, IsClockRunOf, IsClockStatusOf}
+use Rattle.explain.specs.Explained.{WaitsIn}
+use Rattle.explain.specs.calls.Laws.{EachClockTextIsMet, OneClockOutput}
+use Rattle.explain.proofs.ClockEnds.{checked_moves, clock_run, clocks_tell_waiting, end_alike, run_or_fault}
+
+-- ---- refusals
+
+has_fault : (file : Option Text) (text lines : Text) → IsClockRefusedWith file text lines → HasSomeClockFault text
+has_fault file text lines (inl (fault, has, is)) = inl (fault, has)
+has_fault file text lines (inr (p, fault, reads, fails, is)) = inr (p, fault, reads, fails)
+
+same_fault : (p : ClockTree) (f g : CheckFault) → clock_unfolded p ≡ Err f → clock_unfolded p ≡ Err g → f ≡ g
+same_fault p f g a b = (let both : ◌≡◌ {A = Outcome ClockUnfolding} (Err f) (Err g) = sym a ∙ b in cc)
+
+pub one_clock_refused : (file : Option Text) (text lines others : Text) → IsClockRefusedWith file text lines → IsClockRefusedWith file text others → lines ≡ others
+one_clock_refused file text lines others (inl (f, a, is)) (inl (g, b, are)) = is ∙ ap (clock_syntax_lines file text) (one_clock_fault text f g a b) ∙ sym are
+one_clock_refused file text lines others (inl (f, a, is)) (inr (q, g, reads, fails, are)) = absurd (not_both_clocks text q f reads a)
+one_clock_refused file text lines others (inr (p, f, reads, fails, is)) (inl (g, b, are)) = absurd (not_both_clocks text p g reads b)
+one_clock_refused file text lines others (inr (p, f, reads, fails, is)) (inr (q, g, read, failed, are)) =
+    let same : p ≡ q = one_clock_tree text p q reads read in
+    let fault : f ≡ g = same_fault q f g (subst (λ r. clock_unfolded r ≡ Err f) same fails) failed in
+    is ∙ ap (λ r. clock_fault_lines file text (clock_offsets text r) f) same ∙ ap (clock_fault_lines file text (clock_offsets text q)) fault ∙ sym are
+
+-- ---- one output
+
+one_status : (x y : Bool) (status other : ℕ) → status ≡ (if x then 1 else 0) → other ≡ (if y then 1 else 0) → x ≡ y → status ≡ other
+one_status x y status other is are same = is ∙ ap (λ (w : Bool). if w then 1 else 0) same ∙ sym are
+
+pub one_clock_explained : (file : Option Text) (text : Text) (status other : ℕ) (lines others : Text) → IsClockExplanationOf file text status lines
+    → IsClockExplanationOf file text other others → (status ≡ other) × (lines ≡ others)
+one_clock_explained file text status other lines others a b =
+    let alike = end_alike text b.program a.program b.unfolded a.unfolded b.steps a.steps b.ended a.ended in
+    let of_program : ExplainsActivities file text a.program b.unfolded (plan_of_moves b.unfolded) (places b.steps) others b.waits =
+    subst (λ p. ExplainsActivities file text p b.unfolded (plan_of_moves b.unfolded) (places b.steps) others b.waits) alike.programs b.explains in
+    let of_plan : ExplainsActivities file text a.program a.unfolded (plan_of_moves a.unfolded) (places b.steps) others b.waits =
+    subst (λ u. ExplainsActivities file text a.program u (plan_of_moves u) (places b.steps) others b.waits) alike.unfoldings of_program in
+    let of_places : ExplainsActivities file text a.program a.unfolded (plan_of_moves a.unfolded) (places a.steps) others b.waits =
+    subst (λ (at : ℕ → Place). ExplainsActivities file text a.program a.unfolded (plan_of_moves a.unfolded) at others b.waits) (fun_ext alike.ends.0) of_plan in
+    let same = one_clock_explanation file text a.program a.unfolded (plan_of_moves a.unfolded) (places a.steps) lines others a.waits b.waits a.explains of_places in (
+      one_status a.waits b.waits status other a.status_is b.status_is same.1,
+      same.0,
+    )
+
+pub clock_explained_or_refused : (file : Option Text) (text : Text) (status : ℕ) (lines others : Text) → IsClockExplanationOf file text status lines → IsClockRefusedWith file text others → ⊥
+clock_explained_or_refused file text status lines others is refused =
+    run_or_fault text is.program is.unfolded is.steps is.ended (has_fault file text others refused)
+
+pub one_clock_output : OneClockOutput
+one_clock_output file text status other lines others (inl a) (inl b) = one_clock_explained file text status other lines others a b
+one_clock_output file text status other lines others (inl a) (inr (three, b)) = absurd (clock_explained_or_refused file text status lines others a b)
+one_clock_output file text status other lines others (inr (three, a)) (inl b) = absurd (clock_explained_or_refused file text other others lines b a)
+one_clock_output file text status other lines others (inr (three, a)) (inr (too, b)) = (three ∙ sym too, one_clock_refused file text lines others a b)
+
+-- ---- each text
+
+module _ (file : Option Text) (text : Text) where
+  met_by : (p : ClockTree) → IsClockText text p → (r : Outcome ClockUnfolding) → clock_unfolded p ≡ r → (status : ℕ) × (lines : Text) × AnswersClock file text status lines
+  met_by p reads (Err fault) fails =
+      (3, clock_fault_lines file text (clock_offsets text p) fault, inr (refl, inr (p, fault, reads, fails, refl)))
+  met_by p reads (Ok u) is =
+      let (steps, run, maximal) = maximal_exists (plan_of_moves u) (checked_moves p u is) in
+      let (lines, waits, explains) = clock_explanation_exists file text p u (plan_of_moves u) (places steps) reads is refl in (
+        (if waits then 1 else 0),
+        lines,
+        inl (record {
+          program = p;
+          unfolded = u;
+          steps = steps;
+          ended = clock_run text p u steps reads is run maximal;
+          waits = waits;
+          explains = explains;
+          status_is = refl;
+        }),
+      )
+
+pub each_clock_text_is_met : EachClockTextIsMet
+each_clock_text_is_met file text =
+    elim (clock_tree_or_fault text) [
+      | inl one ↦ let (p, reads) = one in met_by file text p reads (clock_unfolded p) refl
+      | inr one ↦ let (fault, has) = one in (3, clock_syntax_lines file text fault, inr (refl, inl (fault, has, refl)))
+    ]
+
+-- ---- the status
+
+-- what holds of the final state of one run of a text holds of that of another one
+one_state : (text : Text) (Holds : State → Type 0) (p : ClockTree) (u : ClockUnfolding) (h : List Step) → IsClockRunOf text p u h → ClockEndsSo text Holds → Holds (state_after h)
+one_state text Holds p u h run is =
+    subst Holds (end_alike text is.program p is.unfolded u is.steps h is.ended run).ends.1 is.holds
+
+module _ (file : Option Text) (text : Text) (number : ℕ) (lines : Text) where
+  explained_status : (is : IsClockExplanationOf file text number lines) → (waits : Bool) → number ≡ (if waits then 1 else 0)
+      → ((waits ≡ true) ↔ ((t : ℕ) × WaitsIn (state_after is.steps) t)) → IsClockStatusOf text number
+  explained_status is true one tells = record {
+    refused = (λ three. absurd (omega (arith, one, three)), λ fault. absurd (run_or_fault text is.program is.unfolded is.steps is.ended fault));
+    somebody = (
+      λ _. record { program = is.program; unfolded = is.unfolded; steps = is.steps; ended = is.ended; holds = tells.0 refl },
+      λ _. one,
+    );
+    nobody = (
+      λ zero. absurd (omega (arith, one, zero)),
+      λ none.
+          absurd (let nobody = one_state text (λ state. (t : ℕ) → WaitsIn state t → ⊥) is.program is.unfolded is.steps is.ended none in
+          let (t, waits) = tells.0 refl in nobody t waits),
+    );
+  }
+  explained_status is false zero tells = record {
+    refused = (λ three. absurd (omega (arith, zero, three)), λ fault. absurd (run_or_fault text is.program is.unfolded is.steps is.ended fault));
+    somebody = (
+      λ one. absurd (omega (arith, one, zero)),
+      λ some.
+          absurd (let one = tells.1 (one_state text (λ state. (t : ℕ) × WaitsIn state t) is.program is.unfolded is.steps is.ended some) in cc),
+    );
+    nobody = (
+      λ _. record {
+        program = is.program;
+        unfolded = is.unfolded;
+        steps = is.steps;
+        ended = is.ended;
+        holds = λ t waits. absurd (let one = tells.1 (t, waits) in cc);
+      },
+      λ _. zero,
+    );
+  }
+
+  refused_status : number ≡ 3 → IsClockRefusedWith file text lines → IsClockStatusOf text number
+  refused_status three refused =
+      let fault = has_fault file text lines refused in
+      record {
+        refused = (λ _. fault, λ _. three);
+        somebody = (
+          λ one. absurd (omega (arith, one, three)),
+          λ some. absurd (run_or_fault text some.program some.unfolded some.steps some.ended fault),
+        );
+        nobody = (
+          λ zero. absurd (omega (arith, zero, three)),
+          λ none. absurd (run_or_fault text none.program none.unfolded none.steps none.ended fault),
+        );
+      }
+
+  pub status_of_clocks : AnswersClock file text number lines → IsClockStatusOf text number
+  status_of_clocks (inl is) =
+      explained_status is is.waits is.status_is (clocks_tell_waiting file text is.program is.unfolded is.steps lines is.waits is.ended is.explains)
+  status_of_clocks (inr (three, refused)) = refused_status three refused

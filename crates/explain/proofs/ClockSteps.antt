@@ -1,0 +1,118 @@
+-- A clock text has one output with the steps of its run, and the output fixes its status.
+use Rattle.std.proofs.Common.{◌≡◌, ◌∙◌, ◌++◌, ℕ, List, Option, ap, inl, inr, refl, subst, sym}
+use Rattle.std.specs.Prelude.{Err, Ok, if◌then◌else◌}
+use Rattle.armus_base.specs.Runs.{IsMaximal, places}
+use Rattle.armus_base.specs.States.{Step}
+use Rattle.pl_plan.specs.Unfolding.{Outcome}
+use Rattle.clock_syntax.specs.Grammar.{IsClockText}
+use Rattle.clock_syntax.specs.Trees.{ClockTree}
+use Rattle.clock_syntax.proofs.ClockTexts.{clock_tree_or_fault}
+use Rattle.clock_moves.specs.Unfolding.{ClockUnfolding, clock_unfolded, plan_of_moves}
+use Rattle.clock_origins.specs.ClockOffsets.{clock_offsets}
+use Rattle.clock_sayings.specs.ClockRefusals.{clock_fault_lines, clock_syntax_lines}
+use Rattle.clock_sayings.proofs.OneExplanation.{clock_explanation_exists}
+use Rattle.step_lines.specs.SerialRuns.{IsSerialRun}
+use Rattle.step_lines.specs.calls.SerialRuns.{IsWholeSerialRun}
+use Rattle.step_lines.proofs.OneSerialRun.{one_serial_run}
+use Rattle.step_lines.proofs.SerialExists.{serial_run_exists}
+use Rattle.step_lines.proofs.SerialIsPlain.{serial_is_plain}
+use Rattle.clock_steps.specs.ShownClockSteps.{AreClockShown}
+use Rattle.clock_steps.proofs.OneClockShowing.{clock_showing_exists, one_clock_showing}
+use Rattle.armus_words.specs.Words.{Text}
+use Rattle.explain.specs.ClockExplained.{IsClockExplanationOf, IsClockStatusOf}
+use Rattle.explain.specs.ClockStepped.{AnswersClockSteps, AreClockStepsOf}
+use Rattle.explain.proofs.ClockEnds.{checked_moves, clock_run, end_alike}
+use Rattle.explain.proofs.ClockOutputs.{one_clock_explained, one_clock_refused, clock_explained_or_refused, status_of_clocks}
+
+-- the steps end with an explanation
+clock_steps_end : (file : Option Text) (text : Text) (status : ℕ) (lines : Text) → (is : AreClockStepsOf file text status lines)
+    → IsClockExplanationOf file text status is.explanation
+clock_steps_end file text status lines is = record {
+  program = is.program;
+  unfolded = is.unfolded;
+  steps = is.steps;
+  ended = is.ended;
+  waits = is.waits;
+  explains = is.explains;
+  status_is = is.status_is;
+}
+
+-- ---- one output
+
+one_clock_stepped : (file : Option Text) (text : Text) (status other : ℕ) (lines others : Text) → AreClockStepsOf file text status lines
+    → AreClockStepsOf file text other others → (status ≡ other) × (lines ≡ others)
+one_clock_stepped file text status other lines others a b =
+    let alike = end_alike text b.program a.program b.unfolded a.unfolded b.steps a.steps b.ended a.ended in
+    let serial : IsSerialRun (plan_of_moves a.unfolded) b.steps = subst (λ u. IsSerialRun (plan_of_moves u) b.steps) alike.unfoldings b.serial in
+    let maximal : IsMaximal (plan_of_moves a.unfolded) b.steps = subst (λ u. IsMaximal (plan_of_moves u) b.steps) alike.unfoldings b.ended.maximal in
+    let whole : IsWholeSerialRun (plan_of_moves a.unfolded) b.steps = record { serial = serial; maximal = maximal } in
+    let own : IsWholeSerialRun (plan_of_moves a.unfolded) a.steps = record { serial = a.serial; maximal = a.ended.maximal } in
+    let steps : b.steps ≡ a.steps =
+    one_serial_run (plan_of_moves a.unfolded) b.steps a.steps (checked_moves a.program a.unfolded a.ended.unfolds) whole own in
+    let of_program : AreClockShown text a.program b.unfolded (plan_of_moves b.unfolded) b.steps b.shown =
+    subst (λ (p : ClockTree). AreClockShown text p b.unfolded (plan_of_moves b.unfolded) b.steps b.shown) alike.programs b.are_shown in
+    let of_plan : AreClockShown text a.program a.unfolded (plan_of_moves a.unfolded) b.steps b.shown =
+    subst (λ (u : ClockUnfolding). AreClockShown text a.program u (plan_of_moves u) b.steps b.shown) alike.unfoldings of_program in
+    let of_steps : AreClockShown text a.program a.unfolded (plan_of_moves a.unfolded) a.steps b.shown =
+    subst (λ (h : List Step). AreClockShown text a.program a.unfolded (plan_of_moves a.unfolded) h b.shown) steps of_plan in
+    let shown : b.shown ≡ a.shown = one_clock_showing text a.program a.unfolded (plan_of_moves a.unfolded) a.steps b.shown a.shown of_steps a.are_shown in
+    let same = one_clock_explained file text status other a.explanation b.explanation (clock_steps_end file text status lines a)
+    (clock_steps_end file text other others b) in (
+      same.0,
+      a.lines_are
+          ∙ ap (λ (s : Text). s ++ a.explanation) (sym shown)
+          ∙ ap (λ (x : Text). b.shown ++ x) same.1
+          ∙ sym b.lines_are,
+    )
+
+pub one_clock_steps : (file : Option Text) (text : Text) (status other : ℕ) (lines others : Text) → AnswersClockSteps file text status lines
+    → AnswersClockSteps file text other others → (status ≡ other) × (lines ≡ others)
+one_clock_steps file text status other lines others (inl a) (inl b) = one_clock_stepped file text status other lines others a b
+one_clock_steps file text status other lines others (inl a) (inr (three, b)) =
+    absurd (clock_explained_or_refused file text status a.explanation others (clock_steps_end file text status lines a) b)
+one_clock_steps file text status other lines others (inr (three, a)) (inl b) =
+    absurd (clock_explained_or_refused file text other b.explanation lines (clock_steps_end file text other others b) a)
+one_clock_steps file text status other lines others (inr (three, a)) (inr (too, b)) = (three ∙ sym too, one_clock_refused file text lines others a b)
+
+-- ---- each text
+
+module _ (file : Option Text) (text : Text) where
+  stepped_by : (p : ClockTree) → IsClockText text p → (r : Outcome ClockUnfolding) → clock_unfolded p ≡ r
+      → (status : ℕ) × (lines : Text) × AnswersClockSteps file text status lines
+  stepped_by p reads (Err fault) fails =
+      (3, clock_fault_lines file text (clock_offsets text p) fault, inr (refl, inr (p, fault, reads, fails, refl)))
+  stepped_by p reads (Ok u) is =
+      let (steps, whole) = serial_run_exists (plan_of_moves u) (checked_moves p u is) in
+      let run = serial_is_plain (plan_of_moves u) steps whole.serial in
+      let (shown, are_shown) = clock_showing_exists text p u (plan_of_moves u) steps in
+      let (lines, waits, explains) = clock_explanation_exists file text p u (plan_of_moves u) (places steps) reads is refl in (
+        (if waits then 1 else 0),
+        shown ++ lines,
+        inl (record {
+          program = p;
+          unfolded = u;
+          steps = steps;
+          ended = clock_run text p u steps reads is run whole.maximal;
+          serial = whole.serial;
+          shown = shown;
+          are_shown = are_shown;
+          explanation = lines;
+          waits = waits;
+          explains = explains;
+          status_is = refl;
+          lines_are = refl;
+        }),
+      )
+
+  pub each_clock_text_has_steps : (status : ℕ) × (lines : Text) × AnswersClockSteps file text status lines
+  each_clock_text_has_steps =
+      elim (clock_tree_or_fault text) [
+        | inl one ↦ let (p, reads) = one in stepped_by p reads (clock_unfolded p) refl
+        | inr one ↦ let (fault, has) = one in (3, clock_syntax_lines file text fault, inr (refl, inl (fault, has, refl)))
+      ]
+
+  -- ---- the status
+
+  pub status_of_clock_steps : (number : ℕ) (lines : Text) → AnswersClockSteps file text number lines → IsClockStatusOf text number
+  status_of_clock_steps number lines (inl is) = status_of_clocks file text number is.explanation (inl (clock_steps_end file text number lines is))
+  status_of_clock_steps number lines (inr refused) = status_of_clocks file text number lines (inr refused)

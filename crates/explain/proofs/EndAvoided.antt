@@ -1,0 +1,29 @@
+-- The end of a run that avoids deadlock is explained.
+use Rattle.std.proofs.Common.{◌≡◌, ℕ, Option}
+use Rattle.std.specs.Prelude.{Ok, if◌then◌else◌}
+use Rattle.armus_base.specs.Plans.{Plan}
+use Rattle.accounts.specs.declared.account.Account.{Account}
+use Rattle.pl_core.specs.calls.Worlds.{places_of}
+use Rattle.pl_plan.specs.Unfolding.{plan_of}
+use Rattle.pl_syntax.specs.Grammar.{IsText}
+use Rattle.pl_syntax.specs.declared.tree.Program.{Program}
+use Rattle.explained_tasks.specs.RunEnds.{IsAccountOf}
+use Rattle.refused_awaits.specs.calls.AvoidedRuns.{IsRunWithRefusals, IsExplainedRun}
+use Rattle.refused_awaits.specs.declared.avoiding.AvoidedRun.{AvoidedRun}
+use Rattle.refused_awaits.specs.declared.explaining.AvoidedExplanation.{AvoidedExplanation}
+use Rattle.refused_awaits.proofs.Explained.{avoided_explained}
+use Rattle.armus_words.specs.Words.{Text}
+use Rattle.explain.specs.Avoided.{IsAvoidedOf}
+
+pub end_avoided : (file : Option Text) (text : Text) (p : Program) (plan : Plan) (r : AvoidedRun) (run : IsRunWithRefusals file text p plan r) → IsText text p
+    → plan_of p ≡ Ok plan → (account : Account) (x : AvoidedExplanation) (status : ℕ) → IsAccountOf text r.world.plan (places_of r.world) account
+    → IsExplainedRun file text account r x → status ≡ (if x.somebody_stays then 1 else 0) → IsAvoidedOf file text status x.lines
+end_avoided file text p plan r run reads unfolds account x status is_account is status_is = record {
+  plan = plan;
+  plan_is = (p, record { reads = reads; unfolds = unfolds });
+  steps = run.steps;
+  ended = run.ended;
+  stays = x.somebody_stays;
+  explains = avoided_explained file text p plan r run account x is_account is;
+  status_is = status_is;
+}

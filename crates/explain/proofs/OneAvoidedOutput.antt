@@ -1,0 +1,72 @@
+-- A text has one output with the explanation of its run that avoids deadlock, with one status; and it has one.
+use Rattle.std.proofs.Common.{◌≡◌, ◌∙◌, ℕ, Bool, List, Option, ap, inl, inr, refl, subst, sym}
+use Rattle.std.specs.Prelude.{if◌then◌else◌}
+use Rattle.armus_base.specs.Plans.{Plan}
+use Rattle.armus_base.specs.Serial.{IsSerialAvoidedEnd}
+use Rattle.armus_base.specs.States.{Step}
+use Rattle.armus_base.proofs.OneSerialEnd.{one_serial_end}
+use Rattle.world_runs.proofs.SerialExists.{serial_run_ends}
+use Rattle.refused_awaits.specs.AvoidedExplanations.{IsAvoidedExplanation}
+use Rattle.refused_awaits.proofs.AvoidedExists.{avoided_explanation_exists}
+use Rattle.refused_awaits.proofs.OneAvoided.{one_avoided_explanation}
+use Rattle.armus_words.specs.Words.{Text}
+use Rattle.armus_top.specs.Programs.{IsPlanOf}
+use Rattle.armus_top.proofs.OnePlan.{checked_plan, one_plan}
+use Rattle.armus_top.proofs.WholeOutputs.{plan_or_refused}
+use Rattle.explain.specs.Avoided.{AvoidsSo, IsAvoidedOf}
+use Rattle.explain.specs.Outputs.{AnswersAvoided}
+use Rattle.explain.specs.Refused.{IsRefusedWith}
+use Rattle.explain.specs.calls.Laws.{EachTextIsAvoided, OneAvoidedOutput}
+use Rattle.explain.proofs.EachText.{refused}
+use Rattle.explain.proofs.Fixing.{avoided_or_fault, refused_has}
+use Rattle.explain.proofs.OneOutput.{one_refused, one_status}
+
+module _ (file : Option Text) (text : Text) where
+  one_avoided : (status other : ℕ) (lines others : Text) → IsAvoidedOf file text status lines → IsAvoidedOf file text other others
+      → (status ≡ other) × (lines ≡ others)
+  one_avoided status other lines others a b =
+      let plans : b.plan ≡ a.plan = one_plan text b.plan a.plan b.plan_is a.plan_is in
+      let ended : IsSerialAvoidedEnd a.plan b.steps = subst (λ (q : Plan). IsSerialAvoidedEnd q b.steps) plans b.ended in
+      let steps : b.steps ≡ a.steps = one_serial_end a.plan b.steps a.steps (checked_plan text a.plan a.plan_is) ended a.ended in
+      let by_plan : IsAvoidedExplanation file text a.plan b.steps others b.stays =
+      subst (λ (q : Plan). IsAvoidedExplanation file text q b.steps others b.stays) plans b.explains in
+      let by_steps : IsAvoidedExplanation file text a.plan a.steps others b.stays =
+      subst (λ (h : List Step). IsAvoidedExplanation file text a.plan h others b.stays) steps by_plan in
+      let same = one_avoided_explanation file text a.plan a.steps lines others a.stays b.stays a.explains by_steps in
+      (one_status a.stays b.stays status other a.status_is b.status_is same.1, same.0)
+
+  no_fault : (status : ℕ) (lines others : Text) → IsAvoidedOf file text status lines → IsRefusedWith file text others → ⊥
+  no_fault status lines others is refused =
+      avoided_or_fault text (λ state. Unit {0})
+      (record { plan = is.plan; plan_is = is.plan_is; steps = is.steps; ended = is.ended; holds = tt }) (refused_has file text others refused)
+
+  avoided : (plan : Plan) → IsPlanOf text plan → (status : ℕ) × (lines : Text) × AnswersAvoided file text status lines
+  avoided plan (program, is) =
+      let checked = checked_plan text plan (program, is) in
+      let (state, final) = serial_run_ends plan checked in
+      let (lines, stays, explains) = avoided_explanation_exists file text program plan final.steps is.reads is.unfolds final.ended in (
+        (if stays then 1 else 0),
+        lines,
+        inl (record {
+          plan = plan;
+          plan_is = (program, is);
+          steps = final.steps;
+          ended = final.ended;
+          stays = stays;
+          explains = explains;
+          status_is = refl;
+        }),
+      )
+
+pub one_avoided_output : OneAvoidedOutput
+one_avoided_output file text status other lines others (inl a) (inl b) = one_avoided file text status other lines others a b
+one_avoided_output file text status other lines others (inl a) (inr (three, b)) = absurd (no_fault file text status lines others a b)
+one_avoided_output file text status other lines others (inr (three, a)) (inl b) = absurd (no_fault file text other others lines b a)
+one_avoided_output file text status other lines others (inr (three, a)) (inr (too, b)) = (three ∙ sym too, one_refused file text lines others a b)
+
+pub each_text_is_avoided : EachTextIsAvoided
+each_text_is_avoided file text =
+    elim (plan_or_refused text) [
+      | inl one ↦ let (plan, is) = one in avoided file text plan is
+      | inr one ↦ let (why, is) = one in let (lines, refuses) = refused file text why is in (3, lines, inr (refl, refuses))
+    ]

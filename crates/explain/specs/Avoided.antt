@@ -1,0 +1,46 @@
+-- What is written where the run of a text that avoids deadlock is explained.
+use Rattle.std.specs.Prelude.{◌≡◌, ◌⊎◌, ℕ, Bool, if◌then◌else◌, List, Option, Some}
+use Rattle.armus_base.specs.declared.event.Event.{Event}
+use Rattle.armus_base.specs.Plans.{Plan}
+use Rattle.armus_base.specs.Runs.{state_after}
+use Rattle.armus_base.specs.Serial.{IsSerialAvoidedEnd}
+use Rattle.armus_base.specs.States.{State, Step}
+use Rattle.armus_words.specs.Words.{Text}
+use Rattle.armus_top.specs.Programs.{IsPlanOf}
+use Rattle.explain.specs.Explained.{WaitsIn}
+use Rattle.refused_awaits.specs.AvoidedExplanations.{IsAvoidedExplanation}
+
+-- The lines explain the serial avoided run of a text, of the file with this name or of none: its refusals, and how its tasks stand where it has ended; and the
+-- status is 1 where by them somebody was refused or waits for ever, else 0.
+pub record IsAvoidedOf (file : Option Text) (text : Text) (status : ℕ) (lines : Text) : Type 0 where
+  pub plan : Plan
+  pub plan_is : IsPlanOf text plan
+  pub steps : List Step
+  pub ended : IsSerialAvoidedEnd plan steps
+  pub stays : Bool
+  pub explains : IsAvoidedExplanation file text plan steps lines stays
+  pub status_is : status ≡ (if stays then 1 else 0)
+
+-- task t was refused in the state
+abbrev pub IsRefusedIn : State → ℕ → Type 0
+IsRefusedIn state t = (e : Event) × (state.refused t ≡ Some e)
+
+-- a task was refused in the state, or waits in it
+abbrev pub SomeStays : State → Type 0
+SomeStays state = (t : ℕ) × (WaitsIn state t ⊎ IsRefusedIn state t)
+
+-- the text is not refused, and this holds of the state in which its serial avoided run ends
+pub record AvoidsSo (text : Text) (Holds : State → Type 0) : Type 0 where
+  pub plan : Plan
+  pub plan_is : IsPlanOf text plan
+  pub steps : List Step
+  pub ended : IsSerialAvoidedEnd plan steps
+  pub holds : Holds (state_after steps)
+
+-- a task of this state was refused or waits
+abbrev pub SomebodyStays : Text → Type 0
+SomebodyStays text = AvoidsSo text SomeStays
+
+-- no task of this state was refused or waits
+abbrev pub NobodyStays : Text → Type 0
+NobodyStays text = AvoidsSo text (λ state. SomeStays state → ⊥)

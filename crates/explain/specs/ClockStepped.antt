@@ -1,0 +1,32 @@
+-- What is written where the steps of a clock text's run are shown.
+use Rattle.std.specs.Prelude.{◌≡◌, ◌⊎◌, ◌++◌, ℕ, Bool, if◌then◌else◌, List, Option}
+use Rattle.armus_base.specs.Runs.{places}
+use Rattle.armus_base.specs.States.{Step}
+use Rattle.clock_syntax.specs.Trees.{ClockTree}
+use Rattle.clock_moves.specs.Unfolding.{ClockUnfolding, plan_of_moves}
+use Rattle.clock_sayings.specs.ClockExplanations.{ExplainsActivities}
+use Rattle.step_lines.specs.SerialRuns.{IsSerialRun}
+use Rattle.clock_steps.specs.ShownClockSteps.{AreClockShown}
+use Rattle.armus_words.specs.Words.{Text}
+use Rattle.explain.specs.ClockExplained.{IsClockRefusedWith, IsClockRunOf}
+
+-- The lines show the steps of the serial plain run of a clock text, of the file with this name or of none, and then explain how its activities stand where this
+-- run has ended; and the status is 1 where one of them waits, else 0.
+pub record AreClockStepsOf (file : Option Text) (text : Text) (status : ℕ) (lines : Text) : Type 0 where
+  pub program : ClockTree
+  pub unfolded : ClockUnfolding
+  pub steps : List Step
+  pub ended : IsClockRunOf text program unfolded steps
+  pub serial : IsSerialRun (plan_of_moves unfolded) steps
+  pub shown : Text
+  pub are_shown : AreClockShown text program unfolded (plan_of_moves unfolded) steps shown
+  pub explanation : Text
+  pub waits : Bool
+  pub explains : ExplainsActivities file text program unfolded (plan_of_moves unfolded) (places steps) explanation waits
+  pub status_is : status ≡ (if waits then 1 else 0)
+  pub lines_are : lines ≡ shown ++ explanation
+
+-- a whole output with the steps of this clock text, of the file with this name or of none: 0 or 1 with them and with its explanation, or 3 with the lines of a
+-- refusal
+abbrev pub AnswersClockSteps : Option Text → Text → ℕ → Text → Type 0
+AnswersClockSteps file text status lines = AreClockStepsOf file text status lines ⊎ ((status ≡ 3) × IsClockRefusedWith file text lines)
