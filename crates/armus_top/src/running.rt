@@ -6,7 +6,7 @@ ghost use Rattle.armus_top.specs.calls.Headline.{passage};
 ghost use Rattle.armus_top.specs.inside.Serving.{MayHaveSites, MayWork};
 ghost use Rattle.armus_top.specs.inside.Status.{number_of_status};
 ghost use Rattle.armus_top.specs.inside.Writing.{LeavesOutput};
-ghost use Rattle.armus_words.specs.declared.table.TheConstants.{MAX_SITES};
+ghost use Rattle.armus_base.specs.calls.Limits.{max_sites};
 ghost use Rattle.world_runs.specs.calls.PlainRuns.{IsPlainEnd};
 
 use crate::output::{Output, reported};
@@ -31,7 +31,7 @@ fn end_with_sites<R: Threads + Sync, G: Gate>(
     requires workers { MayWork options.now.workers }
     requires quiet { options.now.live ≡ false }
     requires some { 1 ≤ sites }
-    requires few { sites ≤ MAX_SITES }
+    requires few { sites ≤ max_sites }
     ensures end { IfOk result (λ end. IsPlainEnd plan.now end) }
 {
     let mut keeper = SafeKeeper::new(alloc, u32::from(sites))?;

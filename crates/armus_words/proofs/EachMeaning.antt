@@ -6,6 +6,7 @@ use Rattle.std.specs.Char.{digit_value}
 use Rattle.std.specs.Str.Parse.{AllDigits, IsNumeral, digits_value}
 use Rattle.std.proofs.lemmas.Bool.{cases_lt}
 use Rattle.std.proofs.lemmas.Slice.Eq.{bytes_eq-Decides}
+use Rattle.armus_base.specs.declared.run_limits.TheConstants.{MAX_SITES, MAX_WORKERS}
 use Rattle.armus_words.specs.Words.{Text, Use, AreWords, has_value_alone}
 use Rattle.armus_words.specs.Commands.{AreWorkers, Given, IsCommand, IsGenerated, IsRunKind, IsWantedGraph, IsNumber, Means, Reads, first_of, given_by, graph_word}
 use Rattle.armus_words.specs.calls.Commands.{EachMeaning}
@@ -18,7 +19,7 @@ use Rattle.armus_words.specs.declared.command.Command.{Command}
 use Rattle.armus_words.specs.declared.command.Command.TheVariants.{Check, Run, Avoid, Record, Replay, Gen, Clock, Pool}
 use Rattle.armus_words.specs.declared.command.RunKind.{RunKind}
 use Rattle.armus_words.specs.declared.command.RunKind.TheVariants as kinds
-use Rattle.armus_words.specs.declared.table.TheConstants.{DEFAULT_WORKERS, MAX_GENERATED, MAX_SITES, MAX_WORKERS}
+use Rattle.armus_words.specs.declared.table.TheConstants.{DEFAULT_WORKERS, MAX_GENERATED}
 use Rattle.armus_words.proofs.FormLemmas.{form_fits, form_from}
 use Rattle.armus_words.proofs.Meaning.{Begins, SameForm, avoid, begins_with, clock, generate, pool, record_run, run, same_form}
 

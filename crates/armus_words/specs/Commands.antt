@@ -1,6 +1,7 @@
 -- The command that words mean.
 use Rattle.std.specs.Prelude.{◌≡◌, ◌≤◌, ℕ, Bool, true, false, List, Option, Some, None, codes}
 use Rattle.std.specs.Str.Parse.{IsNumeral, digits_value}
+use Rattle.armus_base.specs.declared.run_limits.TheConstants.{MAX_SITES, MAX_WORKERS}
 use Rattle.armus_words.specs.Words.{Text, Use, AreWords, is_used, value_of}
 use Rattle.armus_words.specs.declared.table.FirstWord.{FirstWord}
 use Rattle.armus_words.specs.declared.table.FirstWord.TheVariants as first
@@ -11,7 +12,7 @@ use Rattle.armus_words.specs.declared.command.Command.{Command}
 use Rattle.armus_words.specs.declared.command.Command.TheVariants.{Check, Run, Avoid, Record, Replay, Gen, Clock, Pool}
 use Rattle.armus_words.specs.declared.command.RunKind.{RunKind}
 use Rattle.armus_words.specs.declared.command.RunKind.TheVariants.{Plain, Live, Sites}
-use Rattle.armus_words.specs.declared.table.TheConstants.{MAX_WORKERS, DEFAULT_WORKERS, MAX_GENERATED, MAX_SITES}
+use Rattle.armus_words.specs.declared.table.TheConstants.{DEFAULT_WORKERS, MAX_GENERATED}
 
 -- the first word of a command
 abbrev pub first_of : Command → FirstWord

@@ -12,4 +12,4 @@ mod values;
 pub use command::{Command, Graph, RunKind};
 pub use laws::{words_have_a_meaning, words_mean_one_command};
 pub use reading::command_in;
-pub use table::{DEFAULT_WORKERS, MAX_GENERATED, MAX_SITES, MAX_WORKERS, POOL, RECORD};
+pub use table::{DEFAULT_WORKERS, MAX_GENERATED, POOL, RECORD};

@@ -2,17 +2,11 @@
 ghost use Rattle.std.specs.Prelude.{◌≡◌};
 ghost use Rattle.armus_words.specs.Words.{first_word, has_value_alone, name_of, wants_value};
 
-/// The most workers of a run.
-pub const MAX_WORKERS: u8 = 64;
-
 /// The workers of a run where the words name no number.
 pub const DEFAULT_WORKERS: u8 = 4;
 
 /// The most workers in a generated text.
 pub const MAX_GENERATED: u16 = 1000;
-
-/// The most sites of a run.
-pub const MAX_SITES: u8 = 8;
 
 /// The most bytes of a value.
 pub const MAX_VALUE_BYTES: usize = 16;

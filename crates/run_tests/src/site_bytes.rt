@@ -3,8 +3,8 @@ ghost use Rattle.std.specs.Prelude.{◌<◌, ◌^◌, length};
 ghost use Rattle.armus_base.specs.calls.Statuses.{IsInOrder};
 
 use crate::texts::{bytes_of, first_word, number, statuses_text};
-use armus_base::NoMemory;
-use sites::{DecodeEnd, MAX_SITES, Snapshot, decode, encode};
+use armus_base::{MAX_SITES, NoMemory};
+use sites::{DecodeEnd, Snapshot, decode, encode};
 use std::alloc::Global;
 use std::test::Fail;
 

@@ -1,6 +1,6 @@
 // A keeper, and the text of what its calls have answered.
 ghost use Rattle.std.specs.Prelude.{◌≡◌, ◌≤◌, ◌<◌, length};
-ghost use Rattle.sites.specs.declared.decoding.TheConstants.{MAX_SITES};
+ghost use Rattle.armus_base.specs.calls.Limits.{max_sites};
 
 use crate::texts::{add_number, add_task, bytes_of, bytes_text, first_word, number};
 use adaptive::{Analysis, Used, Wanted};
@@ -15,7 +15,7 @@ pub(crate) struct Desk<K: Keeper> {
     sites: u32,
     told: String,
     ghost kept: { length (K.rows keeper) ≡ sites },
-    ghost few: { 1 ≤ sites × sites ≤ MAX_SITES },
+    ghost few: { 1 ≤ sites × sites ≤ max_sites },
 }
 
 // A call of `put`.
@@ -69,7 +69,7 @@ impl<K: Keeper> Desk<K> {
     /// A keeper of so many sites that has told nothing.
     pub(crate) fn new(alloc: Global, keeper: K, sites: u32) -> Desk<K>
         requires kept { length (K.rows keeper) ≡ sites }
-        requires few { 1 ≤ sites × sites ≤ MAX_SITES }
+        requires few { 1 ≤ sites × sites ≤ max_sites }
     {
         Desk {
             keeper,

@@ -3,8 +3,8 @@ ghost use Rattle.std.specs.Prelude.{◌≤◌};
 
 use crate::site_desk::Desk;
 use crate::texts::{first_word, number};
-use armus_base::{List, NoMemory};
-use sites::{Keeper, MAX_SITES, MemKeeper, SafeKeeper};
+use armus_base::{List, MAX_SITES, NoMemory};
+use sites::{Keeper, MemKeeper, SafeKeeper};
 use std::alloc::Global;
 use std::test::Fail;
 

@@ -11,6 +11,7 @@ use Rattle.std.proofs.lemmas.List.Sums.{sum_by-cons}
 use Rattle.std.proofs.lemmas.List.Sorted.{All-permutation, Contains-permutation, IsPermutation-sym, length_permutation, sum_by-IsPermutation}
 use Rattle.armus_base.specs.declared.status.Status.{Status}
 use Rattle.armus_base.proofs.Elements.{Contains-cons_cases, Contains-head, Contains-tail, nothing_in_nil}
+use Rattle.armus_base.specs.calls.Limits.{max_sites}
 use Rattle.sites.specs.calls.Checks.{AreAll, IsFirstBad, IsSiteEnd, IsStored, part_of}
 use Rattle.sites.specs.calls.Keeping.{held}
 use Rattle.sites.specs.calls.Rows.{IsRowOf, is_of_site}
@@ -248,7 +249,8 @@ stored_ascends sites site ss (Some row) is = λ i j d lt l. is.stored.in_order.t
 
 -- gathered statuses, sorted by task, are all
 pub sorted_are_all :
-    (sites : ℕ) (rows : List (Option (List ℕ))) (list now : List Status) → 1 ≤ sites → sites ≤ 8 → AreGathered sites rows sites list → IsPermutation list now →
+    (sites : ℕ) (rows : List (Option (List ℕ))) (list now : List Status) → 1 ≤ sites → sites ≤ max_sites → AreGathered sites rows sites list →
+    IsPermutation list now →
     IsNonDecreasingBy (λ s. s.t.0) now → AreAll sites rows now
 sorted_are_all sites rows list now some few gathered moved sorted =
     record {

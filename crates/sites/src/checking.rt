@@ -7,11 +7,11 @@ ghost use Rattle.sites.specs.calls.Rows.{IsBadRow};
 ghost use Rattle.sites.specs.inside.Gathering.{AreGathered, EndsAtSite, TakesRow};
 ghost use Rattle.sites.specs.declared.ends.DecodeEnd.TheVariants as decode_ends;
 
-use crate::decoding::{MAX_SITES, decode};
+use crate::decoding::decode;
 use crate::keeper::Keeps;
 use crate::{DecodeEnd, KeepEnd, Keeper, SiteEnd};
 use adaptive::{Analysis, Wanted, analyse};
-use armus_base::{List, NoMemory, Status};
+use armus_base::{List, MAX_SITES, NoMemory, Status};
 use std::alloc::Global;
 
 // Appends the statuses that a row of the site stores.

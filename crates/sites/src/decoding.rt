@@ -7,12 +7,9 @@ ghost use Rattle.std.specs.Prelude.{Err};
 
 use crate::reading::row_of;
 use crate::{DecodeEnd, Snapshot};
-use armus_base::{List, Status};
+use armus_base::{List, MAX_SITES, Status};
 use dep_state::is_in_order;
 use std::alloc::Global;
-
-/// The most sites.
-pub const MAX_SITES: u32 = 8;
 
 // one more than the largest number of statuses that a row may have
 const MOST_STATUSES: usize = 1 << 28;

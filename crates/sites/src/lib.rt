@@ -15,7 +15,7 @@ mod snapping;
 mod snapshot;
 
 pub use checking::check_sites;
-pub use decoding::{MAX_SITES, decode};
+pub use decoding::decode;
 pub use encoding::encode;
 pub use ends::{DecodeEnd, KeepEnd, SiteEnd};
 pub use keeper::{Keeper, Keeps};

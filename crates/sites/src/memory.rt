@@ -3,9 +3,8 @@ ghost use Rattle.std.specs.Prelude.{◌≡◌, ◌≤◌, ◌<◌, length, Some,
 ghost use Rattle.sites.specs.calls.Keeping.{count_after, held};
 ghost use Rattle.sites.specs.calls.MemKeepers.{IsMemCall};
 
-use crate::decoding::MAX_SITES;
 use crate::{KeepEnd, Keeper};
-use armus_base::{List, NoMemory};
+use armus_base::{List, MAX_SITES, NoMemory};
 use std::alloc::Global;
 use std::marker::Model;
 

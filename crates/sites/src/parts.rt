@@ -7,10 +7,9 @@ ghost use Rattle.sites.specs.calls.Parts.{HoldParts, PutsParts};
 ghost use Rattle.sites.specs.calls.Rows.{HasNumbers, IsRowOf, is_of_site, status_bytes};
 ghost use Rattle.sites.specs.inside.Putting.{PutsPart};
 
-use crate::decoding::MAX_SITES;
 use crate::encoding::{put_number, put_status};
 use crate::{KeepEnd, Keeper};
-use armus_base::{List, NoMemory, Status};
+use armus_base::{List, MAX_SITES, NoMemory, Status};
 use std::alloc::Global;
 
 // How many of the statuses are of the site.

@@ -7,13 +7,12 @@ ghost use Rattle.sites.specs.calls.Snaps.{HasLookedOn, IsSnapshot};
 ghost use Rattle.sites.specs.inside.Passing.{HaveSnapped, PutsSnap};
 
 use crate::checking::check_rows;
-use crate::decoding::MAX_SITES;
 use crate::encoding::encode;
 use crate::keeper::Keeps;
 use crate::snapping::snap;
 use crate::{KeepEnd, Keeper, SiteEnd, Snapshot};
 use adaptive::{Analysis, Wanted};
-use armus_base::NoMemory;
+use armus_base::{MAX_SITES, NoMemory};
 use board::{Board, ViewSeat};
 use std::alloc::Global;
 

@@ -4,6 +4,7 @@ use Rattle.std.specs.Prelude.{Contains, drop, take, if◌then◌else◌}
 use Rattle.std.specs.List.{range_with_len}
 use Rattle.std.proofs.lemmas.List.FromFn.{length-range_with_len, get_or-range_with_len}
 use Rattle.atomic_table.specs.Table.{Me, Splits}
+use Rattle.armus_base.specs.calls.Limits.{max_workers}
 use Rattle.slot_pool.specs.declared.setting.Setting.{Setting}
 use Rattle.slot_pool.specs.declared.view.View.{View}
 use Rattle.slot_pool.specs.inside.Parting.{left_for}
@@ -11,7 +12,6 @@ use Rattle.slot_pool.specs.inside.Rule.{PoolHolds}
 use Rattle.slot_pool.specs.calls.Views.{starting_view}
 use Rattle.slot_pool.specs.inside.Views.{left_over, split_off}
 use Rattle.slot_pool.specs.inside.Workers.{IsAtWork}
-use Rattle.slot_pool.specs.calls.PoolValues.{max_workers}
 use Rattle.slot_pool.proofs.Joining.{splits_off}
 use Rattle.slot_pool.proofs.Members.{contains_none}
 

@@ -1,7 +1,8 @@
 // The workers part.
 ghost use Rattle.std.specs.Prelude.{◌≡◌, ◌≤◌, ◌<◌, []};
 ghost use Rattle.std.specs.Vec.{vec_capacity};
-ghost use Rattle.slot_pool.specs.calls.PoolValues.{first_workers, max_workers};
+ghost use Rattle.armus_base.specs.calls.Limits.{max_workers};
+ghost use Rattle.slot_pool.specs.calls.PoolValues.{first_workers};
 ghost use Rattle.slot_pool.specs.inside.Views.{opening_view};
 ghost use Rattle.slot_pool.specs.inside.Workers.{HasRoom};
 

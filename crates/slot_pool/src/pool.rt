@@ -1,7 +1,9 @@
 // The slots of a pool.
 ghost use Rattle.std.specs.Prelude.{◌≡◌, ℕ, ◌≤◌, ◌<◌, [], All, IfErr, IfOk};
+ghost use Rattle.armus_base.specs.calls.Limits.{max_workers};
+ghost use Rattle.armus_base.specs.Limits.{max_tasks};
 ghost use Rattle.slot_pool.specs.calls.Closing.{AreHome};
-ghost use Rattle.slot_pool.specs.calls.PoolValues.{IsNumberOf, IsOfPool, IsPlacedBy, first_workers, max_pool_tasks, max_workers};
+ghost use Rattle.slot_pool.specs.calls.PoolValues.{IsNumberOf, IsOfPool, IsPlacedBy, first_workers};
 
 use crate::gathering::{gather, take_all};
 use crate::named::Named;
@@ -43,7 +45,7 @@ impl<R: Named> Pool<R> {
         workers: u32,
         first: R,
     ) -> Result<(Pool<R>, List<Worker<R>>), NoRoom<R>>
-        requires tasks { (1 ≤ tasks) × (tasks ≤ max_pool_tasks) }
+        requires tasks { (1 ≤ tasks) × (tasks ≤ max_tasks) }
         requires workers { (1 ≤ workers) × (workers ≤ max_workers) }
         requires first { R.number first ≡ 0 }
         ensures pool { IfOk result (λ r. (r.0.tasks ≡ tasks) × (r.0.workers ≡ workers)) }

@@ -1,5 +1,6 @@
 // The run that avoids deadlock.
 ghost use Rattle.std.specs.Prelude.{◌≡◌, ◌≤◌, false, IfOk};
+ghost use Rattle.armus_base.specs.calls.Limits.{max_workers};
 ghost use Rattle.world_runs.specs.calls.AvoidedRuns.{IsAvoidedEnd, IsSerialEnd};
 
 use crate::RunOptions;
@@ -21,7 +22,7 @@ pub fn run_avoid<R: Threads + Sync, G: Gate>(
     options: &RunOptions,
     gate: &G,
 ) -> Result<Final, NoMemory>
-    requires workers { 1 ≤ options.now.workers × options.now.workers ≤ 64 }
+    requires workers { 1 ≤ options.now.workers × options.now.workers ≤ max_workers }
     requires quiet { options.now.live ≡ false }
     ensures end { IfOk result (λ end. IsAvoidedEnd plan.now end) }
     ensures serial { options.now.workers ≡ 1 → IfOk result (λ end. IsSerialEnd plan.now end) }
@@ -39,7 +40,7 @@ pub fn run_avoid_kept<R: Threads + Sync, G: Gate>(
     options: &RunOptions,
     gate: &G,
 ) -> Result<Final, NoMemory>
-    requires workers { 1 ≤ options.now.workers × options.now.workers ≤ 64 }
+    requires workers { 1 ≤ options.now.workers × options.now.workers ≤ max_workers }
     requires quiet { options.now.live ≡ false }
     ensures end { IfOk result (λ end. IsAvoidedEnd plan.now end) }
     ensures serial { options.now.workers ≡ 1 → IfOk result (λ end. IsSerialEnd plan.now end) }

@@ -1,5 +1,6 @@
 // A run on a board that detects deadlock.
 ghost use Rattle.std.specs.Prelude.{◌≡◌, ◌≤◌, ℕ, false, true, IfOk, OnOk};
+ghost use Rattle.armus_base.specs.calls.Limits.{max_workers};
 ghost use Rattle.board.specs.declared.mode.Mode.TheVariants.{Detect};
 ghost use Rattle.board.specs.calls.Views.{seen};
 ghost use Rattle.phase_scan.specs.calls.Looks.{LoadsAlone};
@@ -33,7 +34,7 @@ pub fn run_detect<R: Threads + Sync, G: Gate, K: Sink>(
     gate: &G,
     out: &mut K,
 ) -> Result<Ran, RunEnd>
-    requires workers { 1 ≤ options.now.workers × options.now.workers ≤ 64 }
+    requires workers { 1 ≤ options.now.workers × options.now.workers ≤ max_workers }
     ensures ran { IfOk result (IsDetectRun plan.now) }
     ensures told { options.now.live ≡ true → TellsRun plan.now (told K.taken K.faults out.old) (told K.taken K.faults out.new) result }
     ensures silent { options.now.live ≡ false → (out.new ≡ out.old) × IsNoWrite result }

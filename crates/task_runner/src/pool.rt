@@ -1,6 +1,7 @@
 // A run without rounds: workers claim the tasks from a pool.
 ghost use Rattle.std.specs.Prelude.{◌≡◌, ◌≤◌, [], Some, None, false, length, map, IfOk};
 ghost use Rattle.armus_base.specs.calls.Seats.{seen_by_child};
+ghost use Rattle.armus_base.specs.calls.Limits.{max_workers};
 ghost use Rattle.board.specs.declared.mode.Mode.TheVariants.{Detect};
 ghost use Rattle.board.specs.calls.Seats.{IsNewSeat, nothing_seen};
 ghost use Rattle.slot_pool.specs.calls.PoolValues.{IsOfPool, IsSameWorker};
@@ -36,7 +37,7 @@ pub fn run_pool<R: Threads + Wait + Sync, G: Gate>(
     options: &RunOptions,
     gate: &G,
 ) -> Result<Final, NoMemory>
-    requires workers { 1 ≤ options.now.workers × options.now.workers ≤ 64 }
+    requires workers { 1 ≤ options.now.workers × options.now.workers ≤ max_workers }
     requires quiet { options.now.live ≡ false }
     ensures end { IfOk result (λ end. IsPlainEnd plan.now end) }
 {
@@ -68,7 +69,7 @@ fn run_on<N: BoardName + Send, R: Threads + Wait + Sync, G: Gate>(
     seat: TaskSeat,
     gate: &G,
 ) -> Result<Final, NoMemory>
-    requires workers { 1 ≤ run.options.workers × run.options.workers ≤ 64 }
+    requires workers { 1 ≤ run.options.workers × run.options.workers ≤ max_workers }
     requires board { (run.board ≡ N.board) × (N.board.plan ≡ run.plan.now) × (N.board.mode ≡ Detect) }
     requires seat { IsNewSeat N.board (Some 0) (seen_by_child 0 nothing_seen) seat }
     requires viewer { IsNewSeat N.board None nothing_seen run.view }

@@ -2,6 +2,7 @@
 ghost use Rattle.std.specs.Prelude.{◌≡◌, ◌≤◌, ◌<◌, ℕ, List as Seq, All, None, false, IfOk, OnOk, length, replicate};
 ghost use Rattle.armus_base.specs.Limits.{max_tasks};
 ghost use Rattle.armus_base.specs.calls.Statuses.{IsInOrder};
+ghost use Rattle.armus_base.specs.calls.Limits.{max_workers, max_sites};
 ghost use Rattle.board.specs.declared.mode.Mode.TheVariants.{Detect};
 ghost use Rattle.board.specs.calls.Seats.{IsNewSeat, IsOf, IsSeat};
 ghost use Rattle.board.specs.calls.Views.{seen};
@@ -20,7 +21,7 @@ use adaptive::{Analysis, Wanted};
 use armus_base::{Final, Gate, List, NoMemory, Plan, Status};
 use avoider::Judging;
 use board::{Board, Mode, ViewSeat};
-use sites::{KeepEnd, Keeper, MAX_SITES, SiteEnd, check_sites, put_parts};
+use sites::{KeepEnd, Keeper, SiteEnd, check_sites, put_parts};
 use std::alloc::Global;
 use std::thread::Threads;
 
@@ -39,9 +40,9 @@ pub fn run_sites<R: Threads + Sync, G: Gate, K: Keeper>(
     keeper: &mut K,
     gate: &G,
 ) -> Result<Final, KeepEnd>
-    requires workers { 1 ≤ options.now.workers × options.now.workers ≤ 64 }
+    requires workers { 1 ≤ options.now.workers × options.now.workers ≤ max_workers }
     requires quiet { options.now.live ≡ false }
-    requires sites { 1 ≤ sites × sites ≤ MAX_SITES }
+    requires sites { 1 ≤ sites × sites ≤ max_sites }
     requires empty { K.rows keeper.old ≡ replicate sites None }
     ensures end { IfOk result (λ end. IsPlainEnd plan.now end) }
     ensures parts { IfOk result (HoldFinal plan.now sites (K.rows keeper.new)) }
@@ -114,7 +115,7 @@ fn put_final<K: Keeper>(
     sites: u32,
     wanted: Wanted,
 ) -> Result<Analysis, KeepEnd>
-    requires sites { 1 ≤ sites × sites ≤ MAX_SITES }
+    requires sites { 1 ≤ sites × sites ≤ max_sites }
     requires kept { length (K.rows keeper.old) ≡ sites }
     requires in_order { IsInOrder statuses.now }
     requires few { length statuses.now ≤ max_tasks }

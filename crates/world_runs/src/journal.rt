@@ -1,5 +1,6 @@
 // The recorded run.
 ghost use Rattle.std.specs.Prelude.{◌≡◌, ◌≤◌, IfOk, false, length};
+ghost use Rattle.armus_base.specs.calls.Limits.{max_workers};
 ghost use Rattle.world_runs.specs.calls.RecordedRuns.{IsRecordedRun};
 
 use crate::live_task::LiveTask;
@@ -23,7 +24,7 @@ pub fn run_journal<R: Threads + Wait + Sync, G: Gate>(
     options: &RunOptions,
     gate: &G,
 ) -> Result<(Final, List<TaskId>), NoMemory>
-    requires workers { 1 ≤ options.now.workers × options.now.workers ≤ 64 }
+    requires workers { 1 ≤ options.now.workers × options.now.workers ≤ max_workers }
     requires not_live { options.now.live ≡ false }
     ensures recorded { IfOk result (λ run. IsRecordedRun plan.now run.0 run.1) }
 {

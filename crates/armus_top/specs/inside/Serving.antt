@@ -4,17 +4,17 @@ use Rattle.armus_words.specs.declared.command.Command.{Command}
 use Rattle.armus_words.specs.declared.command.Command.TheVariants.{Check, Run, Avoid, Record, Replay, Gen, Clock, Pool}
 use Rattle.armus_words.specs.declared.command.RunKind.{RunKind}
 use Rattle.armus_words.specs.declared.command.RunKind.TheVariants.{Plain, Live, Sites}
-use Rattle.armus_words.specs.declared.table.TheConstants.{MAX_SITES, MAX_WORKERS}
+use Rattle.armus_base.specs.calls.Limits.{max_sites, max_workers}
 
 -- a number of workers that a run may have
 abbrev pub MayWork : ℕ → Type 0
-MayWork workers = (1 ≤ workers) × (workers ≤ MAX_WORKERS)
+MayWork workers = (1 ≤ workers) × (workers ≤ max_workers)
 
 -- a number of sites that a run may have, where it has sites
 abbrev pub MayHaveSites : RunKind → Type 0
 MayHaveSites Plain = Unit {0}
 MayHaveSites Live = Unit {0}
-MayHaveSites (Sites sites) = (1 ≤ sites) × (sites ≤ MAX_SITES)
+MayHaveSites (Sites sites) = (1 ≤ sites) × (sites ≤ max_sites)
 
 -- the command waits for no thread, and a run of it may have its workers and its sites
 abbrev pub WaitsForNoThread : Command → Type 0

@@ -7,14 +7,6 @@ use Rattle.slot_pool.specs.declared.claim.Claim.TheVariants.{Got, Held, Empty}
 use Rattle.slot_pool.specs.declared.view.View.{View}
 use Rattle.slot_pool.specs.calls.Views.{claiming, finding, starting_view, giving, placing, trying}
 
--- the most tasks of a pool
-abbrev pub max_pool_tasks : ℕ
-max_pool_tasks = 4096
-
--- the most workers of a pool
-abbrev pub max_workers : ℕ
-max_workers = 64
-
 -- which pool it is, and how many tasks and workers it has
 pub record PoolValue : Type 0 where
   pub table : TableId

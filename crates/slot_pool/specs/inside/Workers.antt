@@ -2,8 +2,9 @@
 use Rattle.std.specs.Prelude.{◌≡◌, ℕ, ◌<◌, ◌≤◌, List, [], ◌∷◌, Option, None, Contains, map}
 use Rattle.atomic_table.specs.Seated.{TableId}
 use Rattle.atomic_table.specs.Table.{Me}
+use Rattle.armus_base.specs.calls.Limits.{max_workers}
 use Rattle.slot_pool.specs.declared.view.View.{View}
-use Rattle.slot_pool.specs.calls.PoolValues.{WorkerValue, max_workers}
+use Rattle.slot_pool.specs.calls.PoolValues.{WorkerValue}
 
 -- what a contract sees of a worker
 abbrev pub hand_of : {R : Type 0} → TableId → Me R View → WorkerValue

@@ -8,6 +8,7 @@ use Rattle.armus_base.specs.Limits.{max_tasks}
 use Rattle.armus_base.specs.Plans.{Plan}
 use Rattle.armus_base.specs.Runs.{Place}
 use Rattle.armus_base.specs.calls.Statuses.{IsInOrder}
+use Rattle.armus_base.specs.calls.Limits.{max_sites}
 use Rattle.board.specs.calls.Seats.{Frame, IsOf, Known}
 use Rattle.sites.specs.calls.Passes.{AreBacked}
 use Rattle.sites.specs.calls.Snaps.{HasSeenLawful, IsBacked}
@@ -19,7 +20,7 @@ pub record AreWatching (board : Frame) (sites : ℕ) (views : List Known) (rows 
   pub made : All (λ k. IsOf k board) views
   pub lawful : All HasSeenLawful views
   pub some : 1 ≤ sites
-  pub few : sites ≤ 8
+  pub few : sites ≤ max_sites
   pub count : length views ≡ sites
   pub kept : length rows ≡ sites
   pub backed : AreBacked board.plan rows views
